@@ -1,17 +1,15 @@
 -- What calls of the families answer to a CPU that has no work in hand.
-use Rattle.std.proofs.Common.{◌≡◌, ◌≢◌, ℕ, ◌<◌, ◌≤◌, ◌⊎◌, inl, inr, ◌&&◌, Bool, true, false, None, Result, Ok, Err, IfOk, IfErr, refl, sym, ap, subst, arith}
+use Rattle.std.proofs.Common.{◌≡◌, ◌≢◌, ℕ, ◌≤◌, ◌⊎◌, inl, inr, ◌&&◌, Bool, true, false, None, Result, Ok, Err, IfOk, IfErr, refl, sym, subst, arith}
 use Rattle.std.proofs.lemmas.Bool.{cases_eq}
 use Rattle.smp_mask.specs.Mask.{has}
 use Rattle.smp_mask.specs.declared.error.SmpError.{SmpError}
 use Rattle.smp_mask.specs.declared.error.SmpError.TheVariants as error
-use Rattle.smp_words.specs.Size.{cpus}
 use Rattle.smp_calls.specs.Families.{RefusesUser}
 use Rattle.smp_calls.specs.Rounds.{Picks}
 use Rattle.smp_calls.specs.Targets.{IsAny, HasNone}
 use Rattle.smp_machine.specs.Calls.{RefusedInHand}
 use Rattle.smp_machine.specs.Place.{PlaceValue}
 use Rattle.smp_run.specs.Answers.{answer_of, call_refusal, IsAnyAnswer, IsCpus, IsDone, IsRefusedOr}
-use Rattle.smp_run.specs.declared.answer.Answer.{Answer}
 use Rattle.smp_run.specs.declared.answer.Answer.TheVariants.{Done, Cpu, Cpus, Refused}
 use Rattle.smp_run.proofs.Picking.{picked}
 

@@ -1,14 +1,16 @@
 -- What is answered once one CPU more is joined.
-use Rattle.std.proofs.Common.{◌≡◌, ◌≢◌, ℕ, suc, ◌+◌, ◌<◌, true, false, Option, Some, None, IfSome, MatchOption, List, [], ◌∷◌, ◌++◌, length}
-use Rattle.std.proofs.Common.{slice_index_or, inl, inr, sym, ap, subst, ◌∙◌, arith}
+use Rattle.std.proofs.Common.{◌≡◌, ◌≢◌, ℕ, suc, ◌+◌, ◌<◌, ◌≤◌, Bool, true, false, Option, Some, None, IfSome, MatchOption, List, [], ◌∷◌, ◌++◌, length}
+use Rattle.std.proofs.Common.{slice_index_or, inl, inr, refl, sym, subst, ◌∙◌, arith}
 use Rattle.std.proofs.lemmas.List.{length-append}
-use Rattle.std.proofs.lemmas.Bool.{cases_eq}
+use Rattle.std.proofs.lemmas.Bool.{cases_eq, cases_lt}
 use Rattle.smp_mask.specs.Mask.{has}
 use Rattle.smp_machine.specs.Place.{MachineValue, PlaceValue}
 use Rattle.smp_script.specs.declared.directive.Directive.{Directive}
+use Rattle.smp_script.specs.declared.directive.Directive.TheVariants.{Start, Step, Show, Do}
 use Rattle.smp_run.specs.declared.answer.Answer.{Answer}
 use Rattle.smp_run.specs.Answers.{IsLineAnswer, Answered, Gathers, IsJoined, cpu_of}
-use Rattle.smp_run.specs.Driven.{AreJoined}
+use Rattle.smp_run.specs.Driven.{AreJoined, HasRun}
+use Rattle.smp_run.specs.Made.{AreMakings, IsLineMade, Making}
 use Rattle.smp_run.specs.Seats.{IsSeated, keys_at}
 
 -- a CPU that is not online has no lines
@@ -72,8 +74,84 @@ joined_kept m promised n p_number number lines p_lines old own new o l p e kept 
     (subst (λ (x : ℕ). Gathers (λ c. c ≡ x) lines own new (length lines)) (e ∙ p) gathered)
     (subst (λ (x : ℕ). Gathers (λ c. c ≢ x) lines old new (length lines)) (e ∙ p) others)
 
--- the first of some CPUs is one of their machine
-pub first_at : (m : MachineValue) (last : Option PlaceValue) (next result : PlaceValue) → IfSome last (λ c. IsSeated m c) → IsSeated m next
-    → MatchOption last (result ≡ next) (λ c. result ≡ c) → IsSeated m result
-first_at m None next result here seated is = subst (λ (c : PlaceValue). IsSeated m c) (sym is) seated
-first_at m (Some cpu) next result here seated is = subst (λ (c : PlaceValue). IsSeated m c) (sym is) here
+-- a line with another answer, where it is not this CPU's own
+line_gathered : (m : MachineValue) (this : ℕ) (line : Directive) (a b : Answer) (makings : List Making) → (cpu_of line ≡ this → b ≡ a)
+    → IsLineMade m this line a makings → IsLineMade m this line b makings
+line_gathered m this (Do cpu count request) a b makings same made =
+    ((λ own. subst (λ (x : Answer). AreMakings m this request count x makings) (sym (same own)) (made.0 own)), made.1)
+line_gathered m this (Start cpu command) a b makings same made = made
+line_gathered m this (Step cpu count) a b makings same made = made
+line_gathered m this Show a b makings same made = made
+
+-- a CPU's answers, put among those of others
+run_gathered : (m : MachineValue) (lines : List Directive) (from to : List Answer) (p : PlaceValue)
+    → Gathers (λ c. c ≡ p.calls.number) lines from to (length lines) → HasRun m lines from p → HasRun m lines to p
+run_gathered m lines from to p gathered run = let played = run.played in record {
+  sent = run.sent;
+  waited = run.waited;
+  played = record {
+    made = played.made;
+    lines_are = record {
+      sized = played.lines_are.sized;
+      each = λ i l a x below. line_gathered m p.calls.number (slice_index_or lines i l) (slice_index_or from i a) (slice_index_or to i a)
+          (slice_index_or played.made i x) (gathered i l a below) (played.lines_are.each i l a x below);
+    };
+    stops = played.stops;
+  };
+}
+
+-- of the CPUs below n, once all of them have begun, the lowest that is online, or none
+abbrev pub Lowest : MachineValue → List Directive → ℕ → Bool → List Answer → Option PlaceValue → Type 0
+Lowest m lines n all answers None = all ≡ true → (c : ℕ) → c < n → has m.calls.online c ≡ false
+Lowest m lines n all answers (Some p) = IsSeated m p × (p.calls.number < n) × HasRun m lines answers p
+    × (all ≡ true → (c : ℕ) → has m.calls.online c ≡ true → p.calls.number ≤ c)
+
+-- one CPU more is back
+pub lowest_more : (m : MachineValue) (lines : List Directive) (n : ℕ) (all : Bool) (old own new : List Answer) (last : Option PlaceValue)
+    (next result : PlaceValue) → IsSeated m next → next.calls.number ≡ n → HasRun m lines own next → Gathers (λ c. c ≡ n) lines own new (length lines)
+    → Gathers (λ c. c ≢ n) lines old new (length lines) → Lowest m lines n all old last → MatchOption last (result ≡ next) (λ c. result ≡ c)
+    → Lowest m lines (n + 1) all new (Some result)
+lowest_more m lines n all old own new None next result seated number run gathered others was is =
+    subst (λ (p : PlaceValue). Lowest m lines (n + 1) all new (Some p)) (sym is) (
+      seated,
+      omega (arith, number),
+      run_gathered m lines own new next (subst (λ (x : ℕ). Gathers (λ c. c ≡ x) lines own new (length lines)) (sym number) gathered) run,
+      λ begun c on. elim (cases_lt c n) [
+        | inl low ↦ absurd (cc (on, was begun c low))
+        | inr high ↦ omega (arith, high, number)
+      ],
+    )
+lowest_more m lines n all old own new (Some p) next result seated number run gathered others was is =
+    subst (λ (x : PlaceValue). Lowest m lines (n + 1) all new (Some x)) (sym is) (
+      was.0,
+      (let less = was.1 in omega (arith, less)),
+      run_gathered m lines old new p (λ i l a below mine. others i l a below (λ e. let less = was.1 in omega (arith, less, mine, e))) was.2,
+      was.3,
+    )
+
+-- one that is not online
+pub lowest_none : (m : MachineValue) (lines : List Directive) (n : ℕ) (all : Bool) (answers : List Answer) (last : Option PlaceValue)
+    → has m.calls.online n ≡ false → Lowest m lines n all answers last → Lowest m lines (n + 1) all answers last
+lowest_none m lines n all answers None off was = λ begun c below. elim (cases_eq c n) [
+  | inl e ↦ subst (λ (x : ℕ). has m.calls.online x ≡ false) (sym e) off
+  | inr other ↦ was begun c (omega (arith, below, other))
+]
+lowest_none m lines n all answers (Some p) off was = (was.0, (let less = was.1 in omega (arith, less)), was.2, was.3)
+
+-- one that has not begun
+pub lowest_left : (m : MachineValue) (lines : List Directive) (n : ℕ) (all : Bool) (answers : List Answer) (last : Option PlaceValue)
+    → Lowest m lines n all answers last → Lowest m lines (n + 1) false answers last
+lowest_left m lines n all answers None was = λ no. absurd (cc no)
+lowest_left m lines n all answers (Some p) was = (was.0, (let less = was.1 in omega (arith, less)), was.2, λ no. absurd (cc no))
+
+-- all are back
+pub all_joined : (m : MachineValue) (lines : List Directive) (n : ℕ) (answers : List Answer) (last : Option PlaceValue)
+    → Answered m.calls.online (keys_at m) (IsJoined m.calls.online n) lines answers → Lowest m lines n true answers last
+    → IfSome last (λ p. AreJoined m lines n p answers)
+all_joined m lines n answers None answered was = tt
+all_joined m lines n answers (Some p) answered was = record {
+  seated = was.0;
+  least = record { passing = was.0.online; least = was.3 refl };
+  run = was.2;
+  answered = answered;
+}

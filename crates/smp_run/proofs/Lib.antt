@@ -12,7 +12,13 @@ mod Readings
 mod Staying
 mod Calling
 mod Refusals
+-- what calls send, and which stops they make
+mod Sending
+mod Making
+mod Waiting
 -- lines of a run
 mod Lines
+-- what a CPU has done in a run
+mod Running
 -- how a run ends
 mod Endings

@@ -8,25 +8,34 @@ use Rattle.smp_labels.specs.Entries.{entry_word, entry_at}
 use Rattle.smp_labels.specs.Keys.{is_on}
 use Rattle.smp_labels.specs.Kinds.{kind_of, kind_word}
 use Rattle.smp_labels.specs.Labels.{Labels, AreLabels}
-use Rattle.smp_labels.specs.Law.{Table, site_word}
+use Rattle.smp_labels.specs.Law.{site_word}
 use Rattle.smp_labels.specs.declared.entries.Entry.{Entry}
 use Rattle.smp_labels.specs.declared.kinds.SiteKind.{SiteKind}
 use Rattle.smp_labels.specs.declared.kinds.SiteKind.TheVariants.{Nop, Jmp}
 use Rattle.smp_labels.proofs.Lawful.{entry_at-word}
+use Rattle.smp_machine.specs.Counts.{reads_all}
 use Rattle.smp_machine.specs.Place.{MachineValue, PlaceValue}
 use Rattle.smp_multi.specs.Cpu.{CpuValue}
-use Rattle.smp_multi.specs.Names.{Reading, ReadKey, ReadSite}
-use Rattle.smp_multi.specs.Reads.{ReadsOneTable, jumps}
+use Rattle.smp_multi.specs.Names.{Reading}
+use Rattle.smp_multi.specs.Reads.{ReadsOneTable, jumps, reads}
 use Rattle.smp_stop_steps.specs.Labels.{Agrees}
 use Rattle.smp_run.specs.Readings.{HasRead, HaveKinds, ReadsMore, key_reading, site_reading, keys_read, sites_read}
 use Rattle.smp_run.specs.Seats.{IsSeated}
 use Rattle.smp_run.specs.Text.{numbered}
 use Rattle.smp_run.proofs.Numbering.{numbered_one}
 
+-- with these readings
+abbrev with_readings : List Reading → CpuValue → CpuValue
+with_readings rs c = record c { part = record (c.part) { readings = rs } }
+
 -- nothing yet
 pub none_read : {X : Type 0} (f : ℕ → X → List Reading) (m : MachineValue) (p : PlaceValue) → IsSeated m p → HasRead m p p (numbered f 0 [])
 unfolding numbered
-none_read f m p seated = record { seated = seated; calls_are = refl; setting_is = refl; readings_are = sym (append-nil p.stops.part.readings) }
+none_read f m p seated = record {
+  seated = seated;
+  calls_are = refl;
+  stops_are = ap (λ (rs : List Reading). with_readings rs p.stops) (sym (append-nil p.stops.part.readings));
+}
 
 -- one item more
 pub more_read : {X : Type 0} (f : ℕ → X → List Reading) (m : MachineValue) (old mid new : PlaceValue) (xs : List X) (x : X) (n : ℕ) (reading : Reading)
@@ -38,9 +47,9 @@ more_read f m old mid new xs x n reading long one was more =
     record {
       seated = more.seated;
       calls_are = more.calls_are ∙ was.calls_are;
-      setting_is = ap (λ (c : CpuValue). c.setting) more.stops_are ∙ was.setting_is;
-      readings_are = ap (λ (c : CpuValue). c.part.readings) more.stops_are ∙ ap (λ t. t ++ reading ∷ []) was.readings_are
-          ∙ append_assoc old.stops.part.readings (numbered f 0 xs) (reading ∷ []) ∙ ap (λ t. old.stops.part.readings ++ t) (sym all);
+      stops_are = more.stops_are ∙ (ap (λ (c : CpuValue). reads reading c) was.stops_are
+          ∙ ap (λ (rs : List Reading). with_readings rs old.stops)
+          (append_assoc old.stops.part.readings (numbered f 0 xs) (reading ∷ []) ∙ ap (λ t. old.stops.part.readings ++ t) (sym all)));
     }
 
 -- the labels are still those of the machine
@@ -119,4 +128,13 @@ kinds_read labels keys sites c front known same keys_sized sites_sized readings 
       let kind = kind_of (slice_index_or keys entry.key b) entry.branch in
       let told : t.site i ≡ kind_word kind = word ∙ ap (λ (x : Bool). kind_word (kind_of x entry.branch)) key_said in
       same_kind (slice_index_or sites i s) kind (sym site_said ∙ ap (λ (w : ℕ). is_on w) told ∙ word_jumps kind);
+}
+
+-- the keys, and then the sites
+pub both_read : (m : MachineValue) (old mid new : PlaceValue) (xs ys : List Reading) → HasRead m old mid xs → HasRead m mid new ys → HasRead m old new (xs ++ ys)
+both_read m old mid new xs ys f l = record {
+  seated = l.seated;
+  calls_are = l.calls_are ∙ f.calls_are;
+  stops_are = l.stops_are ∙ (ap (λ (c : CpuValue). reads_all ys c) f.stops_are
+      ∙ ap (λ (rs : List Reading). with_readings rs old.stops) (append_assoc old.stops.part.readings xs ys));
 }

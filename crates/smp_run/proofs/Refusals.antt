@@ -1,6 +1,6 @@
 -- What calls of the machine answer, and why they are refused, to a CPU that has no work in hand.
-use Rattle.std.proofs.Common.{◌≡◌, ◌≢◌, ℕ, ℤ, ◌<◌, ◌≤◌, ◌⊎◌, inl, inr, ◌==◌, ◌&&◌, Bool, true, false, nat_lt, None, Some, Result, Ok, Err, IfOk, IfErr}
-use Rattle.std.proofs.Common.{refl, sym, subst, ◌∙◌, ap}
+use Rattle.std.proofs.Common.{◌≡◌, ◌≢◌, ℕ, ℤ, ◌<◌, inl, inr, ◌==◌, Bool, true, false, nat_lt, None, Result, Ok, Err, IfOk, IfErr}
+use Rattle.std.proofs.Common.{refl, subst}
 use Rattle.std.proofs.Math.Bool.{and-false}
 use Rattle.std.proofs.lemmas.Bool.{eq-eqb, ne_eqb, lt-ltb, le-ltb}
 use Rattle.smp_mask.specs.Mask.{has}

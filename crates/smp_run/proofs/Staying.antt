@@ -1,5 +1,5 @@
 -- A CPU of a machine stays there, with no work in hand, whatever it calls.
-use Rattle.std.proofs.Common.{◌≡◌, ℕ, ℤ, Bool, true, false, None, inl, inr, Result, Ok, Err, IfOk, IfErr, refl, sym, ap, subst, ◌∙◌}
+use Rattle.std.proofs.Common.{◌≡◌, ◌⊎◌, ℕ, ℤ, Bool, true, false, None, inl, inr, Result, Ok, Err, IfOk, IfErr, [], refl, sym, ap, subst, ◌∙◌}
 use Rattle.smp_mask.specs.Mask.{has}
 use Rattle.smp_mask.specs.declared.error.SmpError.{SmpError}
 use Rattle.smp_mask.specs.declared.error.SmpError.TheVariants as error
@@ -13,11 +13,13 @@ use Rattle.smp_machine.specs.Counts.{CountsOr}
 use Rattle.smp_machine.specs.Keys.{Sets}
 use Rattle.smp_machine.specs.Own.{Own}
 use Rattle.smp_machine.specs.Passes.{PassesValue}
-use Rattle.smp_machine.specs.Place.{MachineValue, PlaceValue, IsAt}
+use Rattle.smp_machine.specs.Place.{MachineValue, PlaceValue}
 use Rattle.smp_machine.specs.Stops.{HasStopped, RefusedStill}
 use Rattle.smp_machine.specs.Works.{Works}
 use Rattle.smp_machine.proofs.Works.{at_still}
 use Rattle.smp_run.specs.Seats.{IsSeated, IsStill}
+use Rattle.smp_run.specs.Sent.{HasSent}
+use Rattle.smp_run.proofs.Sending.{sent_none}
 
 -- nothing has changed
 pub still_same : (m : MachineValue) (old new : PlaceValue) → new ≡ old → IsSeated m old → IsStill m old new
@@ -56,42 +58,86 @@ module _ {H F : Type 0} (hears : H → Heard → H → Type 0) (runs : F → Cal
         number_is = number;
       }
 
+  -- a stretch of work after which it is in no stop, or nothing at all
+  abbrev pub Quiet : PlaceValue → H → F → PlaceValue → H → F → Type 0
+  Quiet old h f new h' f' = ((own : Own) × Works hears runs old h f new h' f' own × (new.stops.inside ≡ None)) ⊎ (new ≡ old)
+
+  pub still_quiet : (m : MachineValue) (old new : PlaceValue) (h h' : H) (f f' : F) → Quiet old h f new h' f' → IsSeated m old → IsStill m old new
+  still_quiet m old new h h' f f' (inl (own, w, outside)) seated = still_worked m old new h h' f f' own w outside seated
+  still_quiet m old new h h' f f' (inr same) seated = still_same m old new same seated
+
+  pub sent_worked : (old new : PlaceValue) (h h' : H) (f f' : F) (own : Own) → Works hears runs old h f new h' f' own → HasSent [] old new
+  sent_worked old new h h' f f' own w = sent_none old new (ap (λ (x : CallCpuValue). x.part.sent) w.calls_kept)
+
+  sent_quiet : (old new : PlaceValue) (h h' : H) (f f' : F) → Quiet old h f new h' f' → HasSent [] old new
+  sent_quiet old new h h' f f' (inl (own, w, outside)) = sent_worked old new h h' f f' own w
+  sent_quiet old new h h' f f' (inr same) = sent_none old new (ap (λ (x : PlaceValue). x.calls.part.sent) same)
+
   -- a stop
+  pub quiet_stopped : (long : Bool) (P : Work → Type 0) (old new : PlaceValue) (h h' : H) (f f' : F) (made : Result ℤ SmpError)
+      → IfOk made (λ v. (work : Work) × P work × HasStopped hears runs long work old h f new h' f' v)
+      → IfErr made (λ _. RefusedStill old h f new h' f') → Quiet old h f new h' f'
+  quiet_stopped long P old new h h' f f' (Ok v) ok err = inl (_, ok.2.works, ok.2.outside)
+  quiet_stopped long P old new h h' f f' (Err e) ok err = inr err.kept
+
   pub still_stopped : (m : MachineValue) (long : Bool) (P : Work → Type 0) (old new : PlaceValue) (h h' : H) (f f' : F) (made : Result ℤ SmpError)
       → IfOk made (λ v. (work : Work) × P work × HasStopped hears runs long work old h f new h' f' v)
       → IfErr made (λ _. RefusedStill old h f new h' f') → IsSeated m old → IsStill m old new
-  still_stopped m long P old new h h' f f' (Ok v) ok err seated = still_worked m old new h h' f f' _ ok.2.works ok.2.outside seated
-  still_stopped m long P old new h h' f f' (Err e) ok err seated = still_same m old new err.kept seated
+  still_stopped m long P old new h h' f f' made ok err seated =
+      still_quiet m old new h h' f f' (quiet_stopped long P old new h h' f f' made ok err) seated
+
+  pub sent_stopped : (long : Bool) (P : Work → Type 0) (old new : PlaceValue) (h h' : H) (f f' : F) (made : Result ℤ SmpError)
+      → IfOk made (λ v. (work : Work) × P work × HasStopped hears runs long work old h f new h' f' v)
+      → IfErr made (λ _. RefusedStill old h f new h' f') → HasSent [] old new
+  sent_stopped long P old new h h' f f' made ok err = sent_quiet old new h h' f f' (quiet_stopped long P old new h h' f f' made ok err)
 
   -- a key that is set
+  pub quiet_set : (t : TableValue) (k : ℕ) (on : Bool) (old new : PlaceValue) (h h' : H) (f f' : F) (made : Result Bool SmpError)
+      → IfOk made (λ turned. Sets hears runs t k on old h f new h' f' turned) → IfOk made (λ _. new.stops.inside ≡ None)
+      → IfErr made (λ _. RefusedStill old h f new h' f') → Quiet old h f new h' f'
+  quiet_set t k on old new h h' f f' (Ok false) sets outside err = inl (_, sets, outside)
+  quiet_set t k on old new h h' f f' (Ok true) sets outside err = inl (_, sets.2.1.works, outside)
+  quiet_set t k on old new h h' f f' (Err e) sets outside err = inr err.kept
+
   pub still_set : (m : MachineValue) (t : TableValue) (k : ℕ) (on : Bool) (old new : PlaceValue) (h h' : H) (f f' : F) (made : Result Bool SmpError)
       → IfOk made (λ turned. Sets hears runs t k on old h f new h' f' turned) → IfOk made (λ _. new.stops.inside ≡ None)
       → IfErr made (λ _. RefusedStill old h f new h' f') → IsSeated m old → IsStill m old new
-  still_set m t k on old new h h' f f' (Ok false) sets outside err seated = still_worked m old new h h' f f' _ sets outside seated
-  still_set m t k on old new h h' f f' (Ok true) sets outside err seated = still_worked m old new h h' f f' _ sets.2.1.works outside seated
-  still_set m t k on old new h h' f f' (Err e) sets outside err seated = still_same m old new err.kept seated
+  still_set m t k on old new h h' f f' made sets outside err seated =
+      still_quiet m old new h h' f f' (quiet_set t k on old new h h' f f' made sets outside err) seated
+
+  pub sent_set : (t : TableValue) (k : ℕ) (on : Bool) (old new : PlaceValue) (h h' : H) (f f' : F) (made : Result Bool SmpError)
+      → IfOk made (λ turned. Sets hears runs t k on old h f new h' f' turned) → IfOk made (λ _. new.stops.inside ≡ None)
+      → IfErr made (λ _. RefusedStill old h f new h' f') → HasSent [] old new
+  sent_set t k on old new h h' f f' made sets outside err = sent_quiet old new h h' f f' (quiet_set t k on old new h h' f f' made sets outside err)
 
   -- a key that is counted
+  pub quiet_counted : (t : TableValue) (k : ℕ) (up : Bool) (old new : PlaceValue) (h h' : H) (f f' : F) (made : Result Bool SmpError)
+      → CountsOr hears runs t k up old h f new h' f' made → Quiet old h f new h' f'
+  quiet_counted t k up old new h h' f f' (Ok false) c = inl (_, c.1.works, c.1.outside)
+  quiet_counted t k up old new h h' f f' (Ok true) c = inl (_, c.1.patches.stopped.works, c.1.patches.stopped.outside)
+  quiet_counted t k up old new h h' f f' (Err (error.KeyRange e)) (may, (is, inl edge)) = inl (_, edge.works, edge.outside)
+  quiet_counted t k up old new h h' f f' (Err (error.KeyRange e)) (may, (is, inr patched)) =
+      inl (_, patched.2.patches.stopped.works, patched.2.patches.stopped.outside)
+  quiet_counted t k up old new h h' f f' (Err error.BadArgument) c = inr c.1.kept
+  quiet_counted t k up old new h h' f f' (Err error.NoStopper) c = absurd c.1
+  quiet_counted t k up old new h h' f f' (Err error.NoCpu) c = absurd c.1
+  quiet_counted t k up old new h h' f f' (Err error.Busy) c = absurd c.1
+  quiet_counted t k up old new h h' f f' (Err error.Contended) c = absurd c.1
+  quiet_counted t k up old new h h' f f' (Err error.NoMemory) c = absurd c.1
+  quiet_counted t k up old new h h' f f' (Err error.Stale) c = absurd c.1
+  quiet_counted t k up old new h h' f f' (Err error.SlotBusy) c = absurd c.1
+  quiet_counted t k up old new h h' f f' (Err (error.BadScript n cause)) c = absurd c.1
+  quiet_counted t k up old new h h' f f' (Err error.IdleStep) c = absurd c.1
+  quiet_counted t k up old new h h' f f' (Err (error.BadMask n)) c = absurd c.1
+  quiet_counted t k up old new h h' f f' (Err (error.StreamFailed n)) c = absurd c.1
+
   pub still_counted : (m : MachineValue) (t : TableValue) (k : ℕ) (up : Bool) (old new : PlaceValue) (h h' : H) (f f' : F) (made : Result Bool SmpError)
       → CountsOr hears runs t k up old h f new h' f' made → IsSeated m old → IsStill m old new
-  still_counted m t k up old new h h' f f' (Ok false) c seated = still_worked m old new h h' f f' _ c.1.works c.1.outside seated
-  still_counted m t k up old new h h' f f' (Ok true) c seated = still_worked m old new h h' f f' _ c.1.patches.stopped.works c.1.patches.stopped.outside seated
-  still_counted m t k up old new h h' f f' (Err (error.KeyRange e)) (may, (is, inl edge)) seated =
-      still_worked m old new h h' f f' _ edge.works edge.outside seated
-  still_counted m t k up old new h h' f f' (Err (error.KeyRange e)) (may, (is, inr patched)) seated =
-      still_worked m old new h h' f f' _ patched.2.patches.stopped.works patched.2.patches.stopped.outside seated
-  still_counted m t k up old new h h' f f' (Err error.BadArgument) c seated = still_same m old new c.1.kept seated
-  still_counted m t k up old new h h' f f' (Err error.NoStopper) c seated = absurd c.1
-  still_counted m t k up old new h h' f f' (Err error.NoCpu) c seated = absurd c.1
-  still_counted m t k up old new h h' f f' (Err error.Busy) c seated = absurd c.1
-  still_counted m t k up old new h h' f f' (Err error.Contended) c seated = absurd c.1
-  still_counted m t k up old new h h' f f' (Err error.NoMemory) c seated = absurd c.1
-  still_counted m t k up old new h h' f f' (Err error.Stale) c seated = absurd c.1
-  still_counted m t k up old new h h' f f' (Err error.SlotBusy) c seated = absurd c.1
-  still_counted m t k up old new h h' f f' (Err (error.BadScript n cause)) c seated = absurd c.1
-  still_counted m t k up old new h h' f f' (Err error.IdleStep) c seated = absurd c.1
-  still_counted m t k up old new h h' f f' (Err (error.BadMask n)) c seated = absurd c.1
-  still_counted m t k up old new h h' f f' (Err (error.StreamFailed n)) c seated = absurd c.1
+  still_counted m t k up old new h h' f f' made c seated = still_quiet m old new h h' f f' (quiet_counted t k up old new h h' f f' made c) seated
+
+  pub sent_counted : (t : TableValue) (k : ℕ) (up : Bool) (old new : PlaceValue) (h h' : H) (f f' : F) (made : Result Bool SmpError)
+      → CountsOr hears runs t k up old h f new h' f' made → HasSent [] old new
+  sent_counted t k up old new h h' f f' made c = sent_quiet old new h h' f f' (quiet_counted t k up old new h h' f f' made c)
 
   -- the same, part by part
   pub seated_worked : (m : MachineValue) (old new : PlaceValue) (h h' : H) (f f' : F) (own : Own) → Works hears runs old h f new h' f' own

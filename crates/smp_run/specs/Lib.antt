@@ -1,7 +1,11 @@
 -- what lines answer
 pub mod Answers
+-- which calls they ask for
+pub mod Sent
 -- a CPU between two lines
 pub mod Seats
+-- which stops its lines ask for
+pub mod Made
 pub mod Players
 -- what threads are given and give back
 pub mod Driven

@@ -1,9 +1,10 @@
 -- What a CPU reads of the labels at the end of a run.
-use Rattle.std.specs.Prelude.{◌≡◌, ℕ, ◌<◌, Bool, List, [], ◌∷◌, ◌++◌, length, slice_index_or}
+use Rattle.std.specs.Prelude.{◌≡◌, ℕ, ◌<◌, Bool, List, [], ◌∷◌, length, slice_index_or}
 use Rattle.smp_labels.specs.Kinds.{kind_of}
 use Rattle.smp_labels.specs.Labels.{Labels}
 use Rattle.smp_labels.specs.declared.entries.Entry.{Entry}
 use Rattle.smp_labels.specs.declared.kinds.SiteKind.{SiteKind}
+use Rattle.smp_machine.specs.Counts.{reads_all}
 use Rattle.smp_machine.specs.Place.{MachineValue, PlaceValue}
 use Rattle.smp_multi.specs.Names.{Reading, ReadKey, ReadSite}
 use Rattle.smp_multi.specs.Reads.{ReadsOneTable, jumps, reads}
@@ -23,12 +24,11 @@ key_reading k on = ReadKey k on ∷ []
 abbrev pub site_reading : ℕ → SiteKind → List Reading
 site_reading i kind = ReadSite i (jumps kind) ∷ []
 
--- it has read this since
+-- it has read this since, and done nothing else
 pub record HasRead (m : MachineValue) (old new : PlaceValue) (readings : List Reading) : Type 0 where
   pub seated : IsSeated m new
   pub calls_are : new.calls ≡ old.calls
-  pub setting_is : new.stops.setting ≡ old.stops.setting
-  pub readings_are : new.stops.part.readings ≡ old.stops.part.readings ++ readings
+  pub stops_are : new.stops ≡ reads_all readings old.stops
 
 -- these keys, and these sites, each from number 0 on
 abbrev pub keys_read : List Bool → List Reading

@@ -1,13 +1,16 @@
 -- A run as a whole, and what a call of `run_script` reads and writes.
-use Rattle.std.specs.Prelude.{◌≡◌, ℕ, ◌<◌, Bool, true, false, List, [], ◌++◌, length, slice_index_or, Option, Some, None, Result, Ok, Err}
+use Rattle.std.specs.Prelude.{◌≡◌, ℕ, ◌<◌, ◌%◌, ◌^◌, ◌==◌, Bool, true, false, List, [], ◌++◌, filter, length, slice_index_or, Option, Some, None, Result, Ok, Err}
 use Rattle.std.specs.Io.KnownBytes.{Appends}
 use Rattle.smp_mask.specs.declared.error.SmpError.{SmpError}
 use Rattle.smp_mask.specs.declared.error.SmpError.TheVariants as errors
 use Rattle.smp_mask.specs.declared.error.Side.TheVariants as sides
 use Rattle.smp_labels.specs.Labels.{Labels}
 use Rattle.smp_labels.specs.declared.kinds.SiteKind.{SiteKind}
-use Rattle.smp_queue.specs.Audit.{Audited, IfDrained, AreEqual}
-use Rattle.smp_queue.specs.Cpu.{TableValue, CpuValue}
+use Rattle.smp_machine.specs.Place.{MachineValue, PlaceValue}
+use Rattle.smp_mask.specs.Mask.{has, IsLeast}
+use Rattle.smp_multi.specs.Names.{Reading}
+use Rattle.smp_queue.specs.Audit.{Audited, IfDrained, AreEqual, tally_at}
+use Rattle.smp_queue.specs.declared.audit.Tally.{Tally}
 use Rattle.smp_queue.specs.declared.audit.Audit.{Audit}
 use Rattle.smp_queue.specs.declared.audit.Audit.TheVariants as audit
 use Rattle.smp_script.specs.Faults.{Fault}
@@ -17,8 +20,11 @@ use Rattle.smp_script.specs.declared.outcome.Outcome.{Outcome}
 use Rattle.smp_script.specs.declared.outcome.Outcome.TheVariants.{Done, Left}
 use Rattle.smp_script.specs.Script.{Script, first_line, script_of}
 use Rattle.smp_script.specs.Streams.{Gave, TookFront}
+use Rattle.smp_words.specs.Size.{cpus}
 use Rattle.smp_run.specs.Answers.{IsLineAnswer}
-use Rattle.smp_run.specs.Readings.{HaveKinds}
+use Rattle.smp_run.specs.Driven.{HasRun}
+use Rattle.smp_run.specs.Readings.{HaveKinds, keys_read, sites_read}
+use Rattle.smp_run.specs.Sent.{script_calls}
 use Rattle.smp_run.specs.Text.{ending_text, line_text, numbered}
 use Rattle.smp_run.specs.declared.answer.Answer.{Answer}
 
@@ -31,20 +37,31 @@ pub record AreAnswers (online keys : ℕ) (lines : List Directive) (answers : Li
   pub sized : length answers ≡ length lines
   pub each : (i : ℕ) (l : Directive) (a : Answer) → i < length lines → IsLineAnswer online keys (slice_index_or lines i l) (slice_index_or answers i a)
 
+-- the calls that a tally has from this CPU to each other are those that its lines ask for
+abbrev pub HasAsked : ℕ → ℕ → List Directive → Tally → Type 0
+HasAsked online this lines t = (to : ℕ) → to < cpus
+    → tally_at t.queued this to ≡ length (filter (λ s. s.to == to) (script_calls online this lines)) % 2 ^ 64
+
 -- What a run prints: a line for each, in order, with its answer, of which the first is of this number; then, where the
 -- audit is Drained, each pair of CPUs with as many calls run as queued; the keys and the sites; and how the audit ended.
+-- The audit is by the lowest CPU online, which has made its lines and then read the keys and the sites.
 pub record Prints (nr online : ℕ) (labels : Labels) (first : ℕ) (lines : List Directive) (text : List ℕ) (left : Bool) : Type 0 where
   pub answers : List Answer
   pub answered : AreAnswers online labels.keys lines answers
   pub keys : List Bool
   pub sites : List SiteKind
   pub kinds : HaveKinds labels keys sites
-  pub table : TableValue
-  pub last : CpuValue
+  pub machine : MachineValue
+  pub last : PlaceValue
   pub ending : Audit
-  pub sizes : (table.nr ≡ nr) × (table.online ≡ online)
-  pub audited : Audited table last ending
+  pub sizes : (machine.calls.nr ≡ nr) × (machine.calls.online ≡ online)
+  pub lowest : IsLeast (λ c. has online c) last.calls.number
+  pub run : HasRun machine lines answers last
+  pub before : List Reading
+  pub read : last.stops.part.readings ≡ before ++ (keys_read keys ++ sites_read sites)
+  pub audited : Audited machine.calls last.calls ending
   pub equal : IfDrained ending AreEqual
+  pub asked : IfDrained ending (HasAsked online last.calls.number lines)
   pub left_is : left ≡ is_left ending
   pub text_is : text ≡ numbered line_text first answers ++ ending_text online keys sites ending
 

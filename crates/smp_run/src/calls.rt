@@ -1,13 +1,15 @@
 //! What a CPU calls, and what is answered.
 
-ghost use Rattle.std.specs.Prelude.{◌≡◌, ◌≤◌, ◌&&◌, true, false, IfSome};
+ghost use Rattle.std.specs.Prelude.{◌≡◌, ◌≤◌, ◌&&◌, true, false, [], IfSome, MatchOption};
 ghost use Rattle.smp_mask.specs.declared.error.Edge.TheVariants.{Full, Zero};
 ghost use Rattle.smp_calls.specs.Targets.{is_target};
 ghost use Rattle.smp_script.specs.Spelling.{RequestFits};
 ghost use Rattle.smp_run.specs.Answers.{IsAnswer, IsAnyAnswer, IsCount, IsCpus, IsDone, IsNumber, IsRefusedOr, IsTruth};
 ghost use Rattle.smp_run.specs.Answers.{answer_of, call_refusal, key_refusal, one_refusal, two_refusal, says as says_of};
 ghost use Rattle.smp_run.specs.Players.{IsSame};
+ghost use Rattle.smp_run.specs.Made.{HasMade, Makes};
 ghost use Rattle.smp_run.specs.Seats.{keys_at};
+ghost use Rattle.smp_run.specs.Sent.{HasSent, request_calls};
 
 use crate::answer::Answer;
 use crate::pace::Pace;
@@ -74,18 +76,22 @@ fn turned_or(made: Result<bool, SmpError>) -> Answer
 
 impl<'a, P: Pace> Player<'a, P> {
     /// A poll of the machine: the CPU handles its own interrupt, and takes part in a stop that calls it.
-    #[tactic(auto, using(crate::proofs::Staying::seated_worked, crate::proofs::Staying::number_worked))]
+    #[tactic(auto, using(crate::proofs::Staying::seated_worked, crate::proofs::Staying::number_worked, crate::proofs::Staying::sent_worked, crate::proofs::Making::made_polled, crate::proofs::Waiting::waited_worked))]
     pub(crate) fn poll<R: Wait>(&mut self, rt: &R)
-        ensures { IsSame self.old self.new }
+        ensures same { IsSame self.old self.new }
+        ensures sent { HasSent [] self.old.cpu self.new.cpu }
+        ensures stops { HasMade [] self.old.cpu self.new.cpu }
     {
         self.machine
             .poll(rt, &mut self.cpu, &mut self.functions, &mut self.echo);
     }
 
-    #[tactic(auto, using(crate::proofs::Staying::seated_called, crate::proofs::Calling::single_answered))]
+    #[tactic(auto, using(crate::proofs::Staying::seated_called, crate::proofs::Calling::single_answered, crate::proofs::Making::made_called))]
     fn single<R: Wait>(&mut self, rt: &R, wait: bool, dst: u32, func: u16, info: u64) -> Answer
         ensures same { IsSame self.old self.new }
         ensures answer { IsRefusedOr (call_refusal self.old.machine.now.calls.online dst) IsDone result }
+        ensures sent { HasSent (request_calls self.old.machine.now.calls.online self.old.cpu.calls.number (Request.Single wait dst func info)) self.old.cpu self.new.cpu }
+        ensures stops { HasMade [] self.old.cpu self.new.cpu }
     {
         let (cpu, functions) = (&mut self.cpu, &mut self.functions);
         let made = self
@@ -95,7 +101,7 @@ impl<'a, P: Pace> Player<'a, P> {
     }
 
     /// One call by a record of the user; none where the record is busy.
-    #[tactic(auto, using(crate::proofs::Staying::seated_called, crate::proofs::Calling::call_made, crate::proofs::Calling::user_refused))]
+    #[tactic(auto, using(crate::proofs::Staying::seated_called, crate::proofs::Calling::call_made, crate::proofs::Calling::user_refused, crate::proofs::Sending::user_sent, crate::proofs::Sending::sent_none, crate::proofs::Making::made_called))]
     fn try_user<R: Wait>(
         &mut self,
         rt: &R,
@@ -107,6 +113,9 @@ impl<'a, P: Pace> Player<'a, P> {
         requires { u ≤ 1 }
         ensures same { IsSame self.old self.new }
         ensures answer { IfSome result (IsRefusedOr (call_refusal self.old.machine.now.calls.online dst) IsDone) }
+        ensures sent { MatchOption result (HasSent [] self.old.cpu self.new.cpu)
+            (λ _. HasSent (request_calls self.old.machine.now.calls.online self.old.cpu.calls.number (Request.User u dst func info)) self.old.cpu self.new.cpu) }
+        ensures stops { HasMade [] self.old.cpu self.new.cpu }
     {
         let (cpu, functions) = (&mut self.cpu, &mut self.functions);
         match self
@@ -124,6 +133,8 @@ impl<'a, P: Pace> Player<'a, P> {
         requires { u ≤ 1 }
         ensures same { IsSame self.old self.new }
         ensures answer { IsRefusedOr (call_refusal self.old.machine.now.calls.online dst) IsDone result }
+        ensures sent { HasSent (request_calls self.old.machine.now.calls.online self.old.cpu.calls.number (Request.User u dst func info)) self.old.cpu self.new.cpu }
+        ensures stops { HasMade [] self.old.cpu self.new.cpu }
     {
         let backoff = Backoff::new();
         for _ in rt.forever() {
@@ -136,11 +147,14 @@ impl<'a, P: Pace> Player<'a, P> {
         unreachable!()
     }
 
-    #[tactic(auto, using(crate::proofs::Staying::seated_called, crate::proofs::Calling::any_answered))]
+    #[tactic(auto, using(crate::proofs::Staying::seated_called, crate::proofs::Calling::any_answered, crate::proofs::Making::made_called))]
     fn any<R: Wait>(&mut self, rt: &R, wait: bool, mask: CpuMask, func: u16, info: u64) -> Answer
         ensures same { IsSame self.old self.new }
         ensures answer { IsAnyAnswer mask self.old.machine.now.calls.online self.old.cpu.calls.number result }
+        ensures sent { HasSent (request_calls self.old.machine.now.calls.online self.old.cpu.calls.number (Request.Any wait mask func info)) self.old.cpu self.new.cpu }
+        ensures stops { HasMade [] self.old.cpu self.new.cpu }
     {
+        let _online = self.machine.online();
         let (cpu, functions) = (&mut self.cpu, &mut self.functions);
         let made = self
             .machine
@@ -148,10 +162,12 @@ impl<'a, P: Pace> Player<'a, P> {
         cpu_or(made)
     }
 
-    #[tactic(auto, using(crate::proofs::Staying::seated_called, crate::proofs::Calling::many_answered))]
+    #[tactic(auto, using(crate::proofs::Staying::seated_called, crate::proofs::Calling::many_answered, crate::proofs::Making::made_called))]
     fn many<R: Wait>(&mut self, rt: &R, wait: bool, mask: CpuMask, func: u16, info: u64) -> Answer
         ensures same { IsSame self.old self.new }
         ensures answer { IsCpus (is_target mask self.old.machine.now.calls.online self.old.cpu.calls.number false) result }
+        ensures sent { HasSent (request_calls self.old.machine.now.calls.online self.old.cpu.calls.number (Request.Many wait mask func info)) self.old.cpu self.new.cpu }
+        ensures stops { HasMade [] self.old.cpu self.new.cpu }
     {
         let (cpu, functions) = (&mut self.cpu, &mut self.functions);
         let made = self
@@ -160,7 +176,7 @@ impl<'a, P: Pace> Player<'a, P> {
         cpus_or(made)
     }
 
-    #[tactic(auto, using(crate::proofs::Staying::seated_called, crate::proofs::Calling::cond_answered))]
+    #[tactic(auto, using(crate::proofs::Staying::seated_called, crate::proofs::Calling::cond_answered, crate::proofs::Making::made_called))]
     fn cond<R: Wait>(
         &mut self,
         rt: &R,
@@ -172,6 +188,8 @@ impl<'a, P: Pace> Player<'a, P> {
     ) -> Answer
         ensures same { IsSame self.old self.new }
         ensures answer { IsCpus (λ c. is_target mask self.old.machine.now.calls.online self.old.cpu.calls.number true c && says_of which c) result }
+        ensures sent { HasSent (request_calls self.old.machine.now.calls.online self.old.cpu.calls.number (Request.Cond which wait mask func info)) self.old.cpu self.new.cpu }
+        ensures stops { HasMade [] self.old.cpu self.new.cpu }
     {
         let asked = |cpu: u32, _info: u64| -> bool
             ensures { result ≡ says_of which cpu }
@@ -183,10 +201,12 @@ impl<'a, P: Pace> Player<'a, P> {
         cpus_or(made)
     }
 
-    #[tactic(auto, using(crate::proofs::Staying::still_stopped, crate::proofs::Refusals::one_answered))]
+    #[tactic(auto, using(crate::proofs::Staying::still_stopped, crate::proofs::Refusals::one_answered, crate::proofs::Waiting::waited_stopped))]
     fn one<R: Wait>(&mut self, rt: &R, dst: u32, func: u16, arg: u64) -> Answer
         ensures same { IsSame self.old self.new }
         ensures answer { IsRefusedOr (one_refusal self.old.machine.now.calls.online dst) IsNumber result }
+        ensures sent { HasSent [] self.old.cpu self.new.cpu }
+        ensures made { Makes self.old.machine.now.stops (Request.One dst func arg) result self.old.cpu self.new.cpu }
     {
         let _online = self.machine.online();
         let (cpu, functions, echo) = (&mut self.cpu, &mut self.functions, &mut self.echo);
@@ -196,10 +216,12 @@ impl<'a, P: Pace> Player<'a, P> {
         number_or(made)
     }
 
-    #[tactic(auto, using(crate::proofs::Staying::still_stopped, crate::proofs::Refusals::two_answered))]
+    #[tactic(auto, using(crate::proofs::Staying::still_stopped, crate::proofs::Refusals::two_answered, crate::proofs::Waiting::waited_stopped))]
     fn two<R: Wait>(&mut self, rt: &R, a: u32, b: u32, func: u16, arg: u64) -> Answer
         ensures same { IsSame self.old self.new }
         ensures answer { IsRefusedOr (two_refusal self.old.machine.now.calls.online a b) IsNumber result }
+        ensures sent { HasSent [] self.old.cpu self.new.cpu }
+        ensures made { Makes self.old.machine.now.stops (Request.Two a b func arg) result self.old.cpu self.new.cpu }
     {
         let _online = self.machine.online();
         let (cpu, functions, echo) = (&mut self.cpu, &mut self.functions, &mut self.echo);
@@ -209,10 +231,12 @@ impl<'a, P: Pace> Player<'a, P> {
         number_or(made)
     }
 
-    #[tactic(auto, using(crate::proofs::Staying::still_stopped, crate::proofs::Refusals::all_answered))]
+    #[tactic(auto, using(crate::proofs::Staying::still_stopped, crate::proofs::Refusals::all_answered, crate::proofs::Waiting::waited_stopped))]
     fn stop_all<R: Wait>(&mut self, rt: &R, active: Option<CpuMask>, func: u16, arg: u64) -> Answer
         ensures same { IsSame self.old self.new }
         ensures answer { IsNumber result }
+        ensures sent { HasSent [] self.old.cpu self.new.cpu }
+        ensures made { Makes self.old.machine.now.stops (Request.Machine active func arg) result self.old.cpu self.new.cpu }
     {
         let (cpu, functions, echo) = (&mut self.cpu, &mut self.functions, &mut self.echo);
         let made = self
@@ -221,30 +245,36 @@ impl<'a, P: Pace> Player<'a, P> {
         number_or(made)
     }
 
-    #[tactic(auto, using(crate::proofs::Staying::still_set, crate::proofs::Refusals::set_answered))]
+    #[tactic(auto, using(crate::proofs::Staying::still_set, crate::proofs::Refusals::set_answered, crate::proofs::Waiting::waited_set))]
     fn set<R: Wait>(&mut self, rt: &R, k: u32, on: bool) -> Answer
         ensures same { IsSame self.old self.new }
         ensures answer { IsRefusedOr (key_refusal (keys_at self.old.machine.now) k) IsTruth result }
+        ensures sent { HasSent [] self.old.cpu self.new.cpu }
+        ensures made { Makes self.old.machine.now.stops (Request.Set k on) result self.old.cpu self.new.cpu }
     {
         let (cpu, functions, echo) = (&mut self.cpu, &mut self.functions, &mut self.echo);
         let made = self.machine.set_key(rt, cpu, functions, echo, k, on);
         turned_or(made)
     }
 
-    #[tactic(auto, using(crate::proofs::Staying::still_counted, crate::proofs::Refusals::counted))]
+    #[tactic(auto, using(crate::proofs::Staying::still_counted, crate::proofs::Refusals::counted, crate::proofs::Waiting::waited_counted))]
     fn inc<R: Wait>(&mut self, rt: &R, k: u32) -> Answer
         ensures same { IsSame self.old self.new }
         ensures answer { IsRefusedOr (key_refusal (keys_at self.old.machine.now) k) (IsCount Full) result }
+        ensures sent { HasSent [] self.old.cpu self.new.cpu }
+        ensures made { Makes self.old.machine.now.stops (Request.Inc k) result self.old.cpu self.new.cpu }
     {
         let (cpu, functions, echo) = (&mut self.cpu, &mut self.functions, &mut self.echo);
         let made = self.machine.key_inc(rt, cpu, functions, echo, k);
         turned_or(made)
     }
 
-    #[tactic(auto, using(crate::proofs::Staying::still_counted, crate::proofs::Refusals::counted))]
+    #[tactic(auto, using(crate::proofs::Staying::still_counted, crate::proofs::Refusals::counted, crate::proofs::Waiting::waited_counted))]
     fn dec<R: Wait>(&mut self, rt: &R, k: u32) -> Answer
         ensures same { IsSame self.old self.new }
         ensures answer { IsRefusedOr (key_refusal (keys_at self.old.machine.now) k) (IsCount Zero) result }
+        ensures sent { HasSent [] self.old.cpu self.new.cpu }
+        ensures made { Makes self.old.machine.now.stops (Request.Dec k) result self.old.cpu self.new.cpu }
     {
         let (cpu, functions, echo) = (&mut self.cpu, &mut self.functions, &mut self.echo);
         let made = self.machine.key_dec(rt, cpu, functions, echo, k);
@@ -256,6 +286,8 @@ impl<'a, P: Pace> Player<'a, P> {
         requires { RequestFits request }
         ensures same { IsSame self.old self.new }
         ensures answer { IsAnswer self.old.machine.now.calls.online (keys_at self.old.machine.now) self.old.cpu.calls.number request result }
+        ensures sent { HasSent (request_calls self.old.machine.now.calls.online self.old.cpu.calls.number request) self.old.cpu self.new.cpu }
+        ensures made { Makes self.old.machine.now.stops request result self.old.cpu self.new.cpu }
     {
         match request {
             Request::Single(wait, dst, func, info) => self.single(rt, wait, dst, func, info),

@@ -2,7 +2,7 @@
 
 ghost use Rattle.std.specs.Prelude.{◌≡◌, ◌≢◌, ℕ, ◌≤◌, length, vec_len, vec_capacity, IfSome, IfOk, MatchOption};
 ghost use Rattle.smp_run.specs.Answers.{Gathers, cpu_of};
-ghost use Rattle.smp_run.specs.Driven.{AreJoined, IsReady, IsSeat, AreSeats};
+ghost use Rattle.smp_run.specs.Driven.{AreJoined, IsNew, IsSeat, AreSeats};
 ghost use Rattle.smp_run.specs.Seats.{AreLines};
 ghost use Rattle.smp_run.specs.Tasks.{IsStarted, AreStarted};
 
@@ -133,7 +133,7 @@ impl<'e, R: Wait + Threads + Sync, P: Pace + Sync> Run<'e, R, P> {
     /// Starts the thread of a seat. None where it can't be started.
     fn start<'s>(&self, scope: &Scope<'s, &'e ()>, seat: Seat) -> Option<Thread<'e>>
         requires lawful { AreLines self.now.machine.now.calls.online self.now.lines.now }
-        requires ready { IsReady self.now.machine.now self.now.lines.now seat }
+        requires new { IsNew self.now.machine.now self.now.lines.now seat }
         ensures { IfSome result (λ h. (h.promise.machine.now ≡ self.now.machine.now) × (h.promise.lines.now ≡ self.now.lines.now)
             × (h.promise.number ≡ seat.cpu.calls.number)) }
     {
@@ -157,7 +157,7 @@ impl<'e, R: Wait + Threads + Sync, P: Pace + Sync> Run<'e, R, P> {
         seat: Option<Seat>,
     ) -> Option<Option<Thread<'e>>>
         requires lawful { AreLines self.now.machine.now.calls.online self.now.lines.now }
-        requires ready { IfSome seat (λ s. IsReady self.now.machine.now self.now.lines.now s) }
+        requires new { IfSome seat (λ s. IsNew self.now.machine.now self.now.lines.now s) }
         ensures { IfSome result (λ h. (cpu : ℕ) → IsSeat self.now.machine.now self.now.lines.now cpu seat
             → IsStarted self.now.machine.now self.now.lines.now cpu h) }
     {

@@ -23,6 +23,7 @@ mod script;
 mod text;
 
 pub use answer::Answer;
+pub use driver::{Seat, play};
 pub use pace::{FreePace, Pace};
 pub use run::{Ran, run_lines};
 pub use script::run_script;

@@ -1,6 +1,6 @@
 //! What a CPU reads of the labels at the end of a run.
 
-ghost use Rattle.std.specs.Prelude.{◌≡◌, ◌<◌, length, IfOk};
+ghost use Rattle.std.specs.Prelude.{◌≡◌, ◌++◌, ◌<◌, length, IfOk};
 ghost use Rattle.smp_multi.specs.Names.{ReadKey, ReadSite};
 ghost use Rattle.smp_multi.specs.Reads.{ReadsOneTable, jumps};
 ghost use Rattle.smp_run.specs.Readings.{HasRead, HaveKinds, ReadsMore, keys_read, sites_read};
@@ -94,7 +94,7 @@ pub(crate) fn read_labels(
 ) -> Result<LabelReadings, AllocError>
     requires seated { IsSeated machine.now me.old }
     requires labels { machine.now.stops.setting.labels ≡ labels.now }
-    ensures seated { IfOk result (λ _. IsSeated machine.now me.new) }
+    ensures read { IfOk result (λ r. HasRead machine.now me.old me.new (keys_read r.keys.items ++ sites_read r.sites.items)) }
     ensures kinds { IfOk result (λ r. HaveKinds labels.now r.keys.items r.sites.items) }
 {
     // Each entry's key is one of the keys.

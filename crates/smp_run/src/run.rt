@@ -33,6 +33,7 @@ pub struct Ran {
 }
 
 /// A seat for this CPU, where it is online, with room for the answer of each line.
+#[tactic(auto, using(crate::proofs::Running::is_new, crate::proofs::Waiting::waited_fresh))]
 fn seat_one(
     alloc: Global,
     machine: &Machine<Global>,

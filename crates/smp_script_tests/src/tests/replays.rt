@@ -1,4 +1,4 @@
-mod devices;
+pub mod devices;
 mod further;
 mod scripts;
 mod worked;

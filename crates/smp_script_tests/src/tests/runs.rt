@@ -1,8 +1,13 @@
 mod paces;
 
-use crate::tests::runs::paces::{Counts, Meets, Stays};
-use smp_mask::{Cause, SmpError};
+use crate::tests::replays::devices::{Narrow, Slow};
+use crate::tests::runs::paces::{Counts, Finds, Lets, Meets, Stays};
+use smp_labels::LabelMap;
+use smp_machine::Machine;
+use smp_mask::{Cause, Side, SmpError};
 use smp_run::*;
+use smp_script::directive::Directive;
+use smp_script::request::Request;
 use smp_script::{Outcome, Watched};
 use std::alloc::Global;
 use std::sync::Wait;
@@ -119,6 +124,149 @@ fn two_handlers_at_once(rt: HostRuntime) {
     assert!(rt; pace.have_met());
 }
 
+#[test]
+fn a_call_is_run_and_counted(rt: HostRuntime) {
+    let script: &[u8] = b"smp 1 run\ncpus 2 0-1\ndo 0 1 async 1 7 9\n";
+    let print: &[u8] = b"3 ok\ntally 0 1 1 1\ntally 1 0 0 0\ndrained\n";
+    let (answer, written) = run(&rt, rt.alloc(), script, &FreePace);
+    assert_eq!(rt; answer, Ok(Outcome::Done));
+    assert_eq!(rt; written.as_slice(), print);
+}
+
+// A line that waits for its calls ends after their functions, however slow these are: the next line finds their marks.
+#[test]
+fn waited_calls_have_ended(rt: HostRuntime) {
+    let cases: [(&[u8], u64); 4] = [
+        (
+            b"smp 1 run\ncpus 3 0-2\ndo 0 1 sync 1 1 0\ndo 0 1 sync 0 2 0\n",
+            1,
+        ),
+        (
+            b"smp 1 run\ncpus 3 0-2\ndo 0 1 any wait 1-2 1 0\ndo 0 1 sync 0 2 0\n",
+            1,
+        ),
+        (
+            b"smp 1 run\ncpus 3 0-2\ndo 0 1 many wait 0-2 1 0\ndo 0 1 sync 0 2 0\n",
+            2,
+        ),
+        (
+            b"smp 1 run\ncpus 3 0-2\ndo 0 1 cond all wait 1-2 1 0\ndo 0 1 sync 0 2 0\n",
+            2,
+        ),
+    ];
+    for (script, marks) in cases {
+        let pace = Finds::new();
+        let (answer, _written) = run(&rt, rt.alloc(), script, &pace);
+        assert_eq!(rt; answer, Ok(Outcome::Done));
+        assert_eq!(rt; pace.found(), marks);
+    }
+}
+
+// CPU 1 is in a function until CPU 0 has made all its calls: so `user 1` does not wait for the record of `user 0`.
+#[test]
+fn the_records_of_the_user_are_two(rt: HostRuntime) {
+    let script: &[u8] =
+        b"smp 1 run\ncpus 2 0-1\ndo 0 1 async 1 1 0\ndo 0 1 user 0 1 3 0\ndo 0 1 user 1 1 3 0\ndo 0 1 sync 0 2 0\n";
+    let print: &[u8] = b"3 ok\n4 ok\n5 ok\n6 ok\ntally 0 1 3 3\ntally 1 0 0 0\ndrained\n";
+    let pace = Lets::new();
+    let (answer, written) = run(&rt, rt.alloc(), script, &pace);
+    assert_eq!(rt; answer, Ok(Outcome::Done));
+    assert_eq!(rt; written.as_slice(), print);
+    assert!(rt; pace.was_let());
+}
+
+// The record of `user 0` is busy until CPU 0 has run function 2: so CPU 0 polls while it waits for the record.
+#[test]
+fn a_cpu_polls_for_a_busy_record(rt: HostRuntime) {
+    let script: &[u8] =
+        b"smp 1 run\ncpus 3 0-2\ndo 0 1 async 1 1 0\ndo 0 2 user 0 1 3 0\ndo 2 1 async 0 2 0\n";
+    let pace = Lets::new();
+    let (answer, _written) = run(&rt, rt.alloc(), script, &pace);
+    assert_eq!(rt; answer, Ok(Outcome::Done));
+    assert!(rt; pace.was_let());
+}
+
+const SHORT: &[u8] = b"smp 1 run\ncpus 2 0-1\nlabels 1 0:0\ndo 0 2 sync 1 7 9\ndo 0 1 set 0 on\n";
+
+const SHORT_PRINT: &[u8] =
+    b"4 ok\n5 true\ntally 0 1 2 2\ntally 1 0 0 0\nkey 0 on\nsite 0 JMP\ndrained\n";
+
+#[test]
+fn each_read_of_a_run_fails_in_turn(rt: HostRuntime) {
+    // a read for each byte, and one that finds the end
+    let reads = SHORT.len() as u32 + 1;
+    for fails_at in 0..=reads {
+        let slow = Slow {
+            left: SHORT,
+            reads: 0,
+            fails_at,
+        };
+        let mut reader = Watched::new(slow);
+        let mut writer = Watched::new(Vec::new(rt.alloc()));
+        let answer = run_script(&rt, rt.alloc(), &mut reader, &mut writer, &FreePace);
+        let written = writer.into_inner();
+        if fails_at < reads {
+            assert!(rt; reader.failed());
+            assert_eq!(rt; answer, Err(SmpError::StreamFailed(Side::Read)));
+            assert!(rt; written.is_empty());
+        } else {
+            assert!(rt; !reader.failed());
+            assert_eq!(rt; answer, Ok(Outcome::Done));
+            assert_eq!(rt; written.as_slice(), SHORT_PRINT);
+        }
+    }
+}
+
+#[test]
+fn each_write_of_a_run_fails_in_turn(rt: HostRuntime) {
+    // a write for each byte, and a flush
+    let calls = SHORT_PRINT.len() + 1;
+    for fails_at in 0..=calls {
+        let narrow = Narrow {
+            taken: Vec::new(rt.alloc()),
+            writes: 0,
+            fails_at,
+        };
+        let mut reader = Watched::new(SHORT);
+        let mut writer = Watched::new(narrow);
+        let answer = run_script(&rt, rt.alloc(), &mut reader, &mut writer, &FreePace);
+        let failed = writer.failed();
+        let written = writer.into_inner().taken;
+        if fails_at < calls {
+            assert!(rt; failed);
+            assert_eq!(rt; answer, Err(SmpError::StreamFailed(Side::Write)));
+            assert_eq!(rt; written.len(), fails_at);
+            assert!(rt; SHORT_PRINT.starts_with(written.as_slice()));
+        } else {
+            assert!(rt; !failed);
+            assert_eq!(rt; answer, Ok(Outcome::Done));
+            assert_eq!(rt; written.as_slice(), SHORT_PRINT);
+        }
+    }
+}
+
+// One CPU makes its own lines, and leaves the answers of others as they were.
+#[test]
+fn a_cpu_plays_its_lines(rt: HostRuntime) -> Result<(), Fail> {
+    let alloc = rt.alloc();
+    let none = LabelMap::empty();
+    let (machine, mut boot) = Machine::new(alloc, 1, "0".parse()?, &none)?;
+    let cpu = boot.cpu(0)?;
+    let lines = [
+        Directive::Do(0, 3, Request::Single(true, 0, 1, 0)),
+        Directive::Do(0, 2, Request::Machine(None, 1, 7)),
+        Directive::Do(0, 1, Request::One(1, 1, 7)),
+    ];
+    let answers = Vec::from_elem(alloc, Answer::Done, 3)?;
+    let pace = Counts::new();
+    let seat = play(&rt, &machine, &lines, &pace, Seat { cpu, answers });
+    assert_eq!(rt; seat.answers[0], Answer::Done);
+    assert_eq!(rt; seat.answers[1], Answer::Number(7));
+    assert_eq!(rt; seat.answers[2], Answer::Refused(SmpError::NoStopper));
+    assert_eq!(rt; pace.calls(), 3);
+    Ok(())
+}
+
 // A CPU that does not poll at the end leaves what is queued for it; the labels are told all the same.
 #[test]
 fn a_cpu_that_does_not_poll(rt: HostRuntime) {
@@ -163,11 +311,19 @@ fn the_last_repetition_is_told(rt: HostRuntime) {
 
 #[test]
 fn scripts_that_are_not_lawful(rt: HostRuntime) {
-    let cases: [(&[u8], u32, Cause); 4] = [
+    let cases: [(&[u8], u32, Cause); 8] = [
+        (b"", 1, Cause::Cut),
+        (b"smp 1 run", 1, Cause::Cut),
+        (b"smp 1 run\n", 2, Cause::Cut),
         (b"smp 1 replay\ncpus 1 0\n", 1, Cause::Word),
         (b"smp 1 run\ncpus 2 0\ndo 1 1 sync 0 1 0\n", 3, Cause::Range),
         (
             b"smp 1 run\ncpus 2 0-1\ndo 0 1 set 0 on\ndo 1 1 inc 0\n",
+            4,
+            Cause::SharedKey,
+        ),
+        (
+            b"smp 1 run\ncpus 2 0-1\ndo 0 1 set 0 on\ndo 1 1 set 0 off\n",
             4,
             Cause::SharedKey,
         ),

@@ -1,9 +1,12 @@
-use Rattle.std.proofs.Common.{◌≡◌, ℕ, length, [], ◌∷◌, ◌++◌, ◌∙◌, arith, subst, sym, ap}
+use Rattle.std.proofs.Common.{◌≡◌, ◌≢◌, ℕ, false, Some, List, length, [], ◌∷◌, ◌++◌, ◌∙◌, vec_items, arith, subst, sym}
 use Rattle.smp_machine.specs.Place.{MachineValue}
+use Rattle.smp_script.specs.declared.directive.Directive.{Directive}
 use Rattle.smp_run.specs.Tasks.{IsStarted}
-use Rattle.smp_run.specs.Answers.{Answered, IsJoined}
+use Rattle.smp_run.specs.Answers.{Answered, Gathers, IsJoined}
+use Rattle.smp_run.specs.Driven.{HasRun}
+use Rattle.smp_run.specs.declared.answer.Answer.{Answer}
 use Rattle.smp_run.specs.Seats.{IsSeated, keys_at}
-use Rattle.smp_run.proofs.Joining.{joined_none, joined_kept, first_of, rest_of, one_more, first_at}
+use Rattle.smp_run.proofs.Joining.{Lowest, joined_none, joined_kept, lowest_more, lowest_none, lowest_left, first_of, rest_of, one_more}
 use Rattle.smp_run.proofs.launch.join_all.Goals as goal
 
 pub loop-handle-preserved-in-Some-join : goal.loop-handle-preserved-in-Some-join
@@ -14,7 +17,13 @@ loop-handle-preserved-in-Some-join g c =
     let here = first_of (IsStarted m lines) _ _ c.in-Some.handle done _ _ step.0 step.1 was.1 in
     let promise = c.in-Some-handle.handle.promise in
     let told_machine = promise.machine.now in let told_lines = promise.lines.now in let number = promise.number in
-    let told = subst (λ x. IsStarted m lines done x) c.in-Some-handle.is here in let kept = c.in-Some-join.ensures in (
+    let told = subst (λ x. IsStarted m lines done x) c.in-Some-handle.is here in let kept = c.in-Some-join.ensures in
+    let seat = c.in-Some-join.seat.cpu in
+    let own : c.number.result ≡ done = c.number.ensures.number.0 ∙ (kept.1 ∙ told.2) in
+    let run : HasRun m lines c.as_slice.result.now seat =
+    subst (λ (xs : List Answer). HasRun m lines xs seat) (sym c.as_slice.ensures.value)
+    (subst (λ (x : List Directive). HasRun m x (vec_items c.in-Some-join.seat.answers) seat) told.1
+    (subst (λ (x : MachineValue). HasRun x told_lines (vec_items c.in-Some-join.seat.answers) seat) told.0 kept.3)) in (
       omega (arith, grown, was.0, step.1),
       rest_of (IsStarted m lines) _ _ c.in-Some.handle done _ _ _ grown step.0 step.1 was.1,
       c.gather.ensures.sized,
@@ -23,8 +32,13 @@ loop-handle-preserved-in-Some-join g c =
           told.1 told.2 (c.number.ensures.number.0 ∙ kept.1)
           (subst (λ xs. Answered told_machine.calls.online (keys_at told_machine) (λ c. c ≡ number) told_lines xs) (sym c.as_slice.ensures.value) kept.2)
           c.gather.ensures.sized (was.3 all) c.gather.ensures.own c.gather.ensures.others)),
-      first_at m c.loop-handle.last c.in-Some-join.seat.cpu c.first_of.result was.4
-          (subst (λ (x : MachineValue). IsSeated x c.in-Some-join.seat.cpu) told.0 kept.0) c.first_of.ensures,
+      subst (λ (n : ℕ). Lowest m lines n c.loop-handle.all c.gather.new.answers (Some c.first_of.result)) (sym grown)
+          (lowest_more m lines done c.loop-handle.all c.loop-handle.answers c.as_slice.result.now c.gather.new.answers c.loop-handle.last seat
+          c.first_of.result
+          (subst (λ (x : MachineValue). IsSeated x seat) told.0 kept.0) (kept.1 ∙ told.2) run
+          (subst (λ (x : ℕ). Gathers (λ c'. c' ≡ x) lines c.as_slice.result.now c.gather.new.answers (length lines)) own c.gather.ensures.own)
+          (subst (λ (x : ℕ). Gathers (λ c'. c' ≢ x) lines c.loop-handle.answers c.gather.new.answers (length lines)) own c.gather.ensures.others)
+          was.4 c.first_of.ensures),
     )
 
 pub loop-handle-preserved-in-None-join : goal.loop-handle-preserved-in-None-join
@@ -37,7 +51,8 @@ loop-handle-preserved-in-None-join g c =
       was.2,
       (λ no. absurd {A = Answered online (keys_at m) (IsJoined online (length (c.loop-handle.yielded ++ c.in-Some.handle ∷ []))) lines c.loop-handle.answers}
           (cc no)),
-      was.4,
+      subst (λ (n : ℕ). Lowest m lines n false c.loop-handle.answers c.loop-handle.last) (sym grown)
+          (lowest_left m lines done c.loop-handle.all c.loop-handle.answers c.loop-handle.last was.4),
     )
 
 pub loop-handle-preserved : goal.loop-handle-preserved
@@ -51,5 +66,7 @@ loop-handle-preserved g c =
       was.2,
       (λ all. subst (λ (n : ℕ). Answered online (keys_at m) (IsJoined online n) lines c.loop-handle.answers) (sym grown)
           (joined_none online (keys_at m) done lines c.loop-handle.answers (subst (λ x. IsStarted m lines done x) c.in-None-handle.is here) (was.3 all))),
-      was.4,
+      subst (λ (n : ℕ). Lowest m lines n c.loop-handle.all c.loop-handle.answers c.loop-handle.last) (sym grown)
+          (lowest_none m lines done c.loop-handle.all c.loop-handle.answers c.loop-handle.last
+          (subst (λ x. IsStarted m lines done x) c.in-None-handle.is here) was.4),
     )

@@ -1,8 +1,9 @@
-use Rattle.std.proofs.Common.{◌≡◌, ℕ, ◌+◌, ◌<◌, true, vec_len, IfSome, length, slice_index_or}
+use Rattle.std.proofs.Common.{◌≡◌, ℕ, ◌+◌, ◌<◌, true, vec_len, length, slice_index_or}
 use Rattle.std.specs.Vec.Iter.{into_iter_items, into_iter_len}
 use Rattle.smp_run.specs.Tasks.{IsStarted}
 use Rattle.smp_run.specs.Answers.{Answered, IsJoined}
-use Rattle.smp_run.specs.Seats.{IsSeated, keys_at}
+use Rattle.smp_run.specs.Seats.{keys_at}
+use Rattle.smp_run.proofs.Joining.{Lowest}
 use Rattle.smp_run.proofs.launch.join_all.Given as goal
 
 abbrev pub invariant-loop-handle : goal.invariant-loop-handle
@@ -12,4 +13,4 @@ invariant-loop-handle g l =
     × ((k : ℕ) (d : _) → k < into_iter_len rest → IsStarted l.machine l.lines (done + k) (slice_index_or (into_iter_items rest) k d))
     × (length l.answers ≡ length l.lines)
     × (l.all ≡ true → Answered l.machine.calls.online (keys_at l.machine) (IsJoined l.machine.calls.online done) l.lines l.answers)
-    × IfSome l.last (λ cpu. IsSeated l.machine cpu)
+    × Lowest l.machine l.lines done l.all l.answers l.last

@@ -1,4 +1,4 @@
-use Rattle.std.proofs.Common.{◌≡◌, ◌++◌, ◌∷◌, [], ℕ, length, ◌+◌, refl, ap, ◌∙◌}
+use Rattle.std.proofs.Common.{◌≡◌, ◌++◌, ◌∷◌, [], ℕ, ◌+◌, refl, ap, ◌∙◌}
 use Rattle.smp_multi.specs.Names.{ReadKey}
 use Rattle.smp_run.specs.Readings.{HasRead, key_reading, keys_read}
 use Rattle.smp_run.proofs.Joining.{one_more}

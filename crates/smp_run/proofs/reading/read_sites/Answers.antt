@@ -1,4 +1,4 @@
-use Rattle.std.proofs.Common.{◌≡◌, ◌++◌, ◌∷◌, [], ℕ, length, ◌+◌, refl, ap, ◌∙◌}
+use Rattle.std.proofs.Common.{◌≡◌, ◌++◌, ◌∷◌, [], ℕ, ◌+◌, refl, ap, ◌∙◌}
 use Rattle.smp_multi.specs.Names.{ReadSite}
 use Rattle.smp_multi.specs.Reads.{jumps}
 use Rattle.smp_run.specs.Readings.{HasRead, site_reading, sites_read}

@@ -57,6 +57,95 @@ impl Pace for Meets {
     }
 }
 
+/// How long a slow function takes.
+const SLOW: u32 = 1_000_000;
+
+/// Function 1 is slow on CPUs other than 0, and leaves a mark there; function 2 looks for the marks.
+#[derive(Drop)]
+pub struct Finds {
+    marks: AtomicU64,
+    found: AtomicU64,
+}
+
+impl Finds {
+    pub fn new() -> Finds {
+        Finds {
+            marks: AtomicU64::new(0),
+            found: AtomicU64::new(0),
+        }
+    }
+
+    /// How many marks function 2 has found.
+    pub fn found(&self) -> u64 {
+        self.found.load(Ordering::SeqCst)
+    }
+}
+
+impl Pace for Finds {
+    fn entered(&self, cpu: u32, _src: u32, func: u16, _info: u64) {
+        if func == 1 && cpu != 0 {
+            for _ in 0..SLOW {
+                self.found.load(Ordering::SeqCst);
+            }
+            self.marks.fetch_add(1, Ordering::SeqCst);
+        }
+        if func == 2 {
+            self.found
+                .store(self.marks.load(Ordering::SeqCst), Ordering::SeqCst);
+        }
+    }
+
+    fn polls(&self, _cpu: u32) -> bool {
+        true
+    }
+}
+
+/// Function 1 waits until function 2 has run.
+#[derive(Drop)]
+pub struct Lets {
+    ran: AtomicU64,
+    /// How often function 1 gave up.
+    late: AtomicU64,
+}
+
+impl Lets {
+    pub fn new() -> Lets {
+        Lets {
+            ran: AtomicU64::new(0),
+            late: AtomicU64::new(0),
+        }
+    }
+
+    /// Whether function 2 has run, and function 1 has not given up.
+    pub fn was_let(&self) -> bool {
+        self.ran.load(Ordering::SeqCst) == 1 && self.late.load(Ordering::SeqCst) == 0
+    }
+
+    fn wait(&self) {
+        for _ in 0..TURNS {
+            if self.ran.load(Ordering::SeqCst) == 1 {
+                return;
+            }
+        }
+        self.late.fetch_add(1, Ordering::SeqCst);
+    }
+}
+
+impl Pace for Lets {
+    fn entered(&self, _cpu: u32, _src: u32, func: u16, _info: u64) {
+        if func == 1 {
+            self.wait();
+        }
+        if func == 2 {
+            self.ran.store(1, Ordering::SeqCst);
+        }
+    }
+
+    fn polls(&self, _cpu: u32) -> bool {
+        true
+    }
+}
+
 /// One CPU does not poll at the end.
 #[derive(Clone, Copy)]
 pub struct Stays(pub u32);

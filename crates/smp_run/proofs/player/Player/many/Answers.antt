@@ -1,6 +1,9 @@
-use Rattle.std.proofs.Common.{false}
+use Rattle.std.proofs.Common.{None, false}
+use Rattle.smp_mask.specs.Mask.{members}
 use Rattle.smp_calls.specs.Targets.{is_target}
 use Rattle.smp_run.proofs.Calling.{many_answered}
+use Rattle.smp_run.proofs.Sending.{many_sent}
+use Rattle.smp_run.proofs.Waiting.{waited_many}
 use Rattle.smp_run.proofs.player.Player.many.Goals as goal
 
 pub returns-clause-answer : goal.returns-clause-answer
@@ -9,3 +12,15 @@ returns-clause-answer g c =
     rw c.cpus_or.ensures (many_answered (is_target c.args.mask me.machine.now.calls.online me.cpu.calls.number false) me.cpu call.new.me _ _ call.result
     me.own.free
     call.ensures.targets call.ensures.refused)
+
+pub returns-clause-sent : goal.returns-clause-sent
+returns-clause-sent g c =
+    let me = c.args.self.now in let call = c.call_many-made in
+    many_sent _ me.machine.now.calls.online c.args.mask c.args.func c.args.info c.args.wait me.cpu call.new.me _ _ call.result me.own.free
+    call.ensures.targets call.ensures.calls call.ensures.refused
+
+pub invariant_of-self-clause-waited : goal.invariant_of-self-clause-waited
+invariant_of-self-clause-waited g c =
+    let me = c.args.self.now in let call = c.call_many-made in
+    waited_many _ members c.args.func c.args.info (λ called. None) c.args.wait me.cpu call.new.me _ _ call.result me.own.free call.ensures.calls
+    call.ensures.refused me.waited

@@ -1,5 +1,7 @@
-use Rattle.std.proofs.Common.{sym, ◌∙◌}
+use Rattle.std.proofs.Common.{false, sym, ◌∙◌}
 use Rattle.smp_run.proofs.Refusals.{one_answered}
+use Rattle.smp_run.proofs.Staying.{sent_stopped}
+use Rattle.smp_run.proofs.Making.{makes_stop}
 use Rattle.smp_run.proofs.player.Player.one.Goals as goal
 
 pub returns-clause-answer : goal.returns-clause-answer
@@ -8,3 +10,12 @@ returns-clause-answer g c =
     rw c.number_or.ensures (one_answered me.machine.now.stops me.cpu c.args.dst me.machine.now.calls.online call.result
     (sym c.online-online.ensures.stops ∙ c.online-online.ensures.calls) me.own.free
     call.ensures.online call.ensures.err)
+
+pub returns-clause-sent : goal.returns-clause-sent
+returns-clause-sent g c =
+    let call = c.stop_one-made in sent_stopped _ _ false _ c.args.self.now.cpu call.new.me _ _ _ _ call.result call.ensures.ok call.ensures.kept
+
+pub returns-clause-made : goal.returns-clause-made
+returns-clause-made g c =
+    let call = c.stop_one-made in
+    rw c.number_or.ensures (makes_stop _ _ false _ c.args.self.now.cpu call.new.me _ _ _ _ call.result call.ensures.ok call.ensures.kept)
