@@ -59,7 +59,19 @@ pub record Sees (a : CallState) (control : ℕ → ControlValue) (v : Known) : T
 
 -- a CPU that has done nothing yet
 abbrev pub fresh : Setting → ℕ → Known
-fresh k me = record { setting = k; number = me; stage = None; drain = no_drain; part = part_of no_calls me; tried = 0; heads = []; log = []; steps = 0; sent_at = 0; asked_at = 0 }
+fresh k me = record {
+  setting = k;
+  number = me;
+  stage = None;
+  drain = no_drain;
+  part = part_of no_calls me;
+  tried = 0;
+  heads = [];
+  log = [];
+  steps = 0;
+  sent_at = 0;
+  asked_at = 0;
+}
 
 -- what follows a step of a post, as the step tells it
 

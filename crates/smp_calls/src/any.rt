@@ -47,7 +47,8 @@ pub fn call_any<A: Allocator, R: Wait, H: Handler>(
     ensures any { IfOk result (λ cpu. IsAny mask table.now.online me.old.number cpu) }
     ensures queued { IfOk result (λ cpu. cpu ≢ me.old.number → CallsOne H.leads me.old handler.old me.new handler.new cpu func info wait) }
     ensures here { IfOk result (λ cpu. cpu ≡ me.old.number → CallsHere H.leads me.old handler.old me.new handler.new func info wait) }
-    ensures at_once { IfOk result (λ cpu. wait ≡ true → cpu ≡ me.old.number → (me.new ≡ me.old) × H.leads handler.old (heard me.old.number func info) handler.new) }
+    ensures at_once { IfOk result (λ cpu. wait ≡ true → cpu ≡ me.old.number → (me.new ≡ me.old)
+        × H.leads handler.old (heard me.old.number func info) handler.new) }
     ensures refused { IfErr result (λ e. (e ≡ SmpError.NoCpu) × HasNone mask table.now.online me.old.number × (me.new ≡ me.old) × (handler.new ≡ handler.old)) }
     ensures ended { IfOk result (λ cpu. wait ≡ true → cpu ≢ me.old.number →
         HaveEnded me.new (λ _. call_by me.old.number (single_record_in true) Class.Sync func info) (cpu ∷ [])) }

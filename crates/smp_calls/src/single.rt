@@ -104,7 +104,8 @@ pub fn call_single<A: Allocator, R: Wait, H: Handler>(
     ensures queued { IfOk result (λ _. dst ≢ me.old.number → (has table.now.online dst ≡ true)
         × CallsOne H.leads me.old handler.old me.new handler.new dst func info wait) }
     ensures here { IfOk result (λ _. dst ≡ me.old.number → CallsHere H.leads me.old handler.old me.new handler.new func info wait) }
-    ensures at_once { IfOk result (λ _. wait ≡ true → dst ≡ me.old.number → (me.new ≡ me.old) × H.leads handler.old (heard me.old.number func info) handler.new) }
+    ensures at_once { IfOk result (λ _. wait ≡ true → dst ≡ me.old.number → (me.new ≡ me.old)
+        × H.leads handler.old (heard me.old.number func info) handler.new) }
     ensures stays { IfErr result (λ _. wait ≡ true → (me.new ≡ me.old) × (handler.new ≡ handler.old)) }
     ensures freed { IfOk result (λ _. wait ≡ false → dst ≡ me.old.number → confirmed_at me.new 1 ≡ true) }
     ensures waits { IfErr result (λ _. wait ≡ false → confirmed_at me.new 1 ≡ true) }

@@ -6,7 +6,8 @@ use Rattle.smp_words.specs.Access.{word_of}
 use Rattle.smp_call_steps.specs.{CallState, CountedCall, DrainValue, record_at, first_on, handle_outcome, drain_after, IsPlaced, AllPlaced}
 use Rattle.smp_call_steps.specs.{nexts_in, last_batch, orders, running_call, ControlValue, access_of, FitsStage, Share, share_of, HandleStands, held_of, Part}
 use Rattle.smp_call_steps.specs.{part_confirmed, part_after, told_stage, told_post, told_handle, known_told, known_taking, stage_after}
-use Rattle.smp_call_steps.specs.{drain_then, tried_after, heads_after, log_after, steps_after, sent_after, MayStep, known_access, Lives, GoesOn, handling, goes_known}
+use Rattle.smp_call_steps.specs.{drain_then, tried_after, heads_after, log_after, steps_after, sent_after, MayStep, known_access}
+use Rattle.smp_call_steps.specs.{Lives, GoesOn, handling, goes_known}
 use Rattle.smp_call_steps.specs.{taken_known, ended_call, Call, Word, Head, Hand, Flags, Func, Info, Next, Access, Act, Posting, PostStage, Walk}
 use Rattle.smp_call_steps.specs.{HandleStage, Stage, Post, Handle}
 use Rattle.smp_words.proofs.Links.{HasIndex}

@@ -1,9 +1,12 @@
 -- A step's log is what it has sent.
-use Rattle.std.proofs.Common.{◌≡◌, ℕ, ◌%◌, ◌≤◌, ◌==◌, nat_lt, Bool, true, false, cond, Option, Some, None, List, [], ◌∷◌, length, sym, ap, ◌∙◌, subst, refl, arith}
+use Rattle.std.proofs.Common.{◌≡◌, ℕ, ◌%◌, ◌≤◌, ◌==◌, nat_lt, Bool, true, false, cond, Option, Some, None, List, [], ◌∷◌, length}
+use Rattle.std.proofs.Common.{sym, ap, ◌∙◌, subst, refl, arith}
 use Rattle.smp_words.specs.Access.{act_of, word_of, seen_of}
 use Rattle.smp_call_steps.specs.{CallState, Holding, Running, CountedCall, SyncCall, AsyncCall, confirms, locked, releases, unlocks, begins_sync}
-use Rattle.smp_call_steps.specs.{begins_async, counts, links, held_told, flags_told, hand_told, appended, told, Sees, MayStep, known_access, known_tells, log_after, sent_after}
-use Rattle.smp_call_steps.specs.{SendsNothing, SendsCall, Sends, log_with, sent_with, LogsTell, ControlValue, Call, Word, Head, Intr, Hand, Queued, Ran, Flags, Func}
+use Rattle.smp_call_steps.specs.{begins_async, counts, links, held_told, flags_told, hand_told, appended, told, Sees, MayStep, known_access}
+use Rattle.smp_call_steps.specs.{known_tells, log_after, sent_after}
+use Rattle.smp_call_steps.specs.{SendsNothing, SendsCall, Sends, log_with, sent_with, LogsTell, ControlValue, Call, Word, Head, Intr, Hand, Queued, Ran}
+use Rattle.smp_call_steps.specs.{Flags, Func}
 use Rattle.smp_call_steps.specs.{Info, Next, Act, Stage, Post, Handle, Logged}
 use Rattle.smp_call_steps.specs.Shows.{Shows}
 use Rattle.smp_call_steps.proofs.Knows.Restages.{aims_held}

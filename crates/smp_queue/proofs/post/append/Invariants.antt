@@ -4,4 +4,5 @@ use Rattle.smp_queue.proofs.Posts.Appends.{Tries}
 use Rattle.smp_queue.proofs.post.append.Given as goal
 
 abbrev pub invariant-loop-lost : goal.invariant-loop-lost
-invariant-loop-lost l = (found : Found) × Tries l.words.shared.now.table_id l.fn.seat l.seat l.posting l.head found × (times_lost found ≡ l._lost) × (l._lost ≤ l.tries)
+invariant-loop-lost l = (found : Found) × Tries l.words.shared.now.table_id l.fn.seat l.seat l.posting l.head found
+    × (times_lost found ≡ l._lost) × (l._lost ≤ l.tries)
