@@ -278,6 +278,7 @@ fn each_growth_may_be_refused(rt: HostRuntime) -> Result<(), Fail> {
             }
             Err(error) => assert_eq!(rt; error, SmpError::NoMemory, "{size} bytes"),
         }
+        assert_eq!(rt; heap.used(), 0, "{size} bytes");
     }
     assert!(rt; false, "no heap was large enough");
     Ok(())

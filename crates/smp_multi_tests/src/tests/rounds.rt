@@ -32,16 +32,21 @@ const END_ALONE: [Line; 6] = [
     (0, Poll(Ok(None))),
     (0, Finish(Ok(()))),
     (0, Finish(Err(BAD))),
-    (0, Poll(Ok(Some(-7)))),
-    (0, Called(1, (0, 1, 0))),
+    (0, Poll(Ok(Some(7)))),
+    (0, Called(1, (0, 9, 5))),
 ];
 
 #[test]
 fn a_cpu_stops_alone(rt: HostRuntime) -> Result<(), Fail> {
+    let work = Work {
+        func: 9,
+        arg: 5,
+        ..multi("0", "0")?
+    };
     let parts: [&[Line]; 8] = [
-        &[(0, Answer(-7))],
+        &[(0, Answer(7))],
         &OUTSIDE,
-        &opening(multi("0", "0")?),
+        &opening(work),
         &turn_alone(Turn::Moved(1), true),
         &turn_alone(Turn::Moved(2), false),
         &turn_alone(Turn::Ran, false),
@@ -56,12 +61,13 @@ fn a_cpu_stops_alone(rt: HostRuntime) -> Result<(), Fail> {
 #[test]
 fn a_stop_of_one_cpu_has_no_turns(rt: HostRuntime) -> Result<(), Fail> {
     let lines = [
+        (0, Answer(-7)),
         (0, Gate(true)),
         (0, Begin(one(0, 1, 0)?, Ok(()))),
         (0, Enter(0, Ok(Kind::One))),
         (0, Advance(Err(BAD))),
         (0, Finish(Err(BAD))),
-        (0, Run(Ok(9))),
+        (0, Run(Ok(-7))),
     ];
     assert_eq!(rt; play_stops(rt.alloc(), 1, &[&lines])?, None);
     Ok(())
