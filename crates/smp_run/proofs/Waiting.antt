@@ -69,7 +69,7 @@ waits_more old new call queued wait number sent confirmed class was = record {
       ap (λ (l : List Sending). is_waited false id l) sent ∙ (waited_then false id old.calls.part.sent (sendings call queued)
       ∙ waited_queued call wait id queued class (is_waited false id old.calls.part.sent)) in
       confirmed k low ∙ confirmed_if (is_used call id queued) wait (is_waited false id old.calls.part.sent) (confirmed_at old.calls k) (sym e ∙ all)
-          (was.each k low);
+      (was.each k low);
 }
 
 -- none was, and no record is confirmed no more
@@ -190,8 +190,8 @@ module _ {H : Type 0} (leads : H → Heard → H → Type 0) where
       waits_more old new call queued wait (c.later.number_is ∙ c.first.number_is)
       (c.later.sent_is ∙ (append-nil c.middle.part.sent ∙ c.first.sent_is))
       (λ k low. let used = is_used call (record_of old.calls.number k) queued in
-          c.later.confirmed_are k low ∙ (ap (λ (b : Bool). (wait && used) || b) (c.first.confirmed_are k low)
-          ∙ both_confirmed wait used (confirmed_at old.calls k)))
+      c.later.confirmed_are k low ∙ (ap (λ (b : Bool). (wait && used) || b) (c.first.confirmed_are k low)
+      ∙ both_confirmed wait used (confirmed_at old.calls k)))
       class was
 
   pub waited_many : (to : ℕ → List ℕ) (func info : ℕ) (here : ℕ → Option Heard) (wait : Bool) (old new : PlaceValue) (h h' : H) (made : Result ℕ SmpError)
