@@ -72,7 +72,7 @@ waits_more old new call queued wait number sent confirmed class was = record {
       (was.each k low);
 }
 
--- none was, and no record is confirmed no more
+-- no call was queued, and each record that was confirmed still is
 waits_same : (old new : PlaceValue) → new.calls.number ≡ old.calls.number → new.calls.part.sent ≡ old.calls.part.sent
     → ((k : ℕ) → k < records_of_one → confirmed_at old.calls k ≡ true → confirmed_at new.calls k ≡ true) → HasWaited old → HasWaited new
 waits_same old new number sent confirmed was = record {

@@ -1,5 +1,7 @@
 use super::*;
 use smp_mask::Cause;
+use std::fmt::Display;
+use std::sync::atomic::{AtomicU64, Ordering};
 use std::test::*;
 
 /// How a script of memory ends, and what it writes.
@@ -85,6 +87,34 @@ fn statuses_of_refusals(rt: HostRuntime) {
         assert_eq!(rt; status_of(Err(Refusal::Failed(error))), 1);
     }
     assert_eq!(rt; status_of(Err(Refusal::Usage)), 2);
+}
+
+/// Counts the lines that it is told.
+#[derive(Drop)]
+struct Told {
+    lines: AtomicU64,
+}
+
+impl Eprint for Told {
+    fn eprint<D: Display + Drop>(&self, _value: D) -> io::Result<()> {
+        Ok(())
+    }
+
+    fn eprintln<D: Display + Drop>(&self, _value: D) -> io::Result<()> {
+        self.lines.fetch_add(1, Ordering::SeqCst);
+        Ok(())
+    }
+}
+
+#[test]
+fn each_refusal_is_told_in_a_line(rt: HostRuntime) {
+    for refusal in [Refusal::Usage, Refusal::Failed(SmpError::NoMemory)] {
+        let told = Told {
+            lines: AtomicU64::new(0),
+        };
+        assert!(rt; tell(&told, refusal).is_ok());
+        assert_eq!(rt; told.lines.load(Ordering::SeqCst), 1);
+    }
 }
 
 #[test]
