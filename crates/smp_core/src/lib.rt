@@ -5,6 +5,16 @@
 //!   that keeps many states.
 //! - `events`: A list of events, one after the other.
 //! - `laws`: What every order of steps leaves of a core.
+//!
+//! One thread owns a core, so no call waits and nobody polls: who calls `step` chooses which CPU is next.
+//!
+//! | Call of a [`Core`] | What it does | What it answers |
+//! |---|---|---|
+//! | `start` | puts a CPU at the beginning of a command, by no step | E1, E2, or the command's own refusal |
+//! | `step` | makes one atomic step of a CPU's command | what was seen of it, or E10 |
+//! | `turn`, `replay` | makes one event, or a list of them | what was seen, up to the first refusal |
+//! | `word`, `queue`, `place`, `tally`, `phase` | nothing | a word, a queue, the place of a record, two counts, a phase |
+//! | `copy`, `is_same` | nothing | the same core once more, or whether two are the same |
 #![tactic(auto)]
 
 pub mod events;

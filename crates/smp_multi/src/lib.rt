@@ -22,7 +22,20 @@
 //! the table, and `StopBoot::cpu` takes the one `StopBoot` by `&mut`. All but the last two take the `StopCpu` of who calls
 //! by `&mut`, so that `-` is of two CPUs: one makes a single call at a time.
 //!
-//! At which step a call takes effect, whether it may wait and who must poll stands at each call.
+//! No call waits. What its CPU or another has to do for the stop to go on is in the third column.
+//!
+//! | Call | Where it takes effect | Who polls for it | In the kernel |
+//! |---|---|---|---|
+//! | `try_gate` | the compare-exchange of the gate | the caller, at false | `mutex_lock(&stop_cpus_mutex)` |
+//! | `open_gate` | the store of the gate | nobody | `mutex_unlock(&stop_cpus_mutex)` |
+//! | `begin` | the store of the roll | its CPUs by `enter`, the source by `poll_done` | `queue_stop_cpus_work` |
+//! | `enter` | the fetch_and of the roll | nobody | `cpu_stopper_thread` |
+//! | `run_one` | the fetch_sub of the count | nobody | `cpu_stopper_thread` |
+//! | `advance` | the load of the phase, and the fetch_sub that acknowledges it | each CPU of the mask, until it has left | `multi_cpu_stop` |
+//! | `finish` | the fetch_sub of the count | nobody | `cpu_stop_signal_done` |
+//! | `poll_done` | the load of the result | the source, until it is Some | `wait_for_completion` |
+//! | `read_key`, `read_site` | the load | nobody | `static_key_enabled`, `arch_static_branch` |
+//! | `try_key` | the compare-exchange of the count | the caller, at `Lost` | `static_key_slow_inc_cpuslocked`, `static_key_slow_try_dec` |
 #![tactic(auto)]
 
 mod begin;
