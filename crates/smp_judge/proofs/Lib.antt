@@ -1,0 +1,5 @@
+pub mod Lists
+pub mod Least
+pub mod Made
+pub mod Counts
+pub mod Judging

@@ -1,0 +1,11 @@
+pub mod Calls
+pub mod Cpu
+pub mod Judged
+pub mod Labels
+pub mod Opened
+pub mod Places
+pub mod Reading
+pub mod State
+pub mod Step
+pub mod Stop
+pub mod Stops
