@@ -6,7 +6,7 @@
 //! - `events`: A list of events, one after the other.
 //! - `laws`: What every order of steps leaves of a core.
 //!
-//! One thread owns a core, so no call waits and nobody polls: who calls `step` chooses which CPU is next.
+//! One thread owns a core, so no call waits and nobody polls: the caller of `step` chooses which CPU is next.
 //!
 //! | Call of a [`Core`] | What it does | What it answers |
 //! |---|---|---|

@@ -127,6 +127,6 @@ pub struct Known {
     pub source: Source,
     pub part: Part,
     /// The answer that it carries from its acknowledgement of `RUN` to its completion, else 0. No word has it, and no step
-    /// tells it: who acknowledges puts it.
+    /// tells it: the acknowledgement puts it.
     pub carried: u64,
 }
