@@ -122,8 +122,9 @@ where
 
 impl<A: Allocator> CallTable<A> {
     /// A table of `nr` CPUs with no calls, and those of its CPUs that are online, each to be handed out once. Each CPU has done
-    /// nothing, and one that is not online never will. In whatever words show calls of such CPUs, all queues are empty, no CPU
-    /// has a call to run, and all records are free.
+    /// nothing, and one that is not online never will. Wherever all CPUs have done nothing, all queues are empty, no CPU has a
+    /// call to run, and all records are free: that is a law of every table (clause `empty`), and says nothing of this one alone.
+    ///
     /// E4 (`SmpError::BadArgument`) where `nr` is not 1 to `NR_CPUS`, no CPU is online, or one that is online is not below
     /// `nr`; E6 (`SmpError::NoMemory`) where a growth is refused. It takes effect at no step, since no thread shares the table yet, and does not wait.
     pub fn new(alloc: A, nr: u32, online: CpuMask) -> Result<(CallTable<A>, Boot<A>), SmpError>
@@ -313,8 +314,8 @@ impl<A: Allocator> CallTable<A> {
         Ok(first)
     }
 
-    /// Runs a function on this CPU itself, with no queue, and notes it in the CPU's log: this direct call is made after so
-    /// many steps of the CPU, and after so many takes of its interrupt word.
+    /// Runs a function on this CPU itself, with no queue, and notes it in the CPU's log. The entry has the number of steps
+    /// that the CPU has made by then, and the number of takes of its interrupt word.
     ///
     /// It takes effect at its one step, a load of a word of its own by which it is noted; it does not wait, and nobody must
     /// poll.
