@@ -44,7 +44,7 @@ fn repeat<R: Clock + Eprint>(
     }
 }
 
-/// Seats the target and so many sources, and repeats rounds.
+/// Seats the target and this number of sources, and repeats rounds.
 fn measure<R: Clock + Eprint>(
     room: &mut Room,
     alloc: Global,
@@ -64,7 +64,7 @@ fn measure<R: Clock + Eprint>(
     Ok(())
 }
 
-/// Posts from so many sources, each by each of these of its records.
+/// Posts from this number of sources, each by each of these of its records.
 pub fn run<R: Clock + Eprint>(
     alloc: Global,
     count: u32,

@@ -85,7 +85,7 @@ impl<'a, R: Clock + Eprint> Meter<'a, R> {
         Ok(())
     }
 
-    /// Notes a batch of so many operations that ends now: whether the workload goes on.
+    /// Notes a batch of this number of operations that ends now. Returns whether the workload goes on.
     fn note(&mut self, operations: u32) -> Result<bool, BenchError> {
         let now = Instant::now(self.rt)?;
         if operations > 0 {
@@ -103,7 +103,7 @@ impl<'a, R: Clock + Eprint> Meter<'a, R> {
         })
     }
 
-    /// A batch of so many operations ends now: whether the workload goes on. Where the clock, memory or standard
+    /// A batch of this number of operations ends now. Returns whether the workload goes on. Where the clock, memory or standard
     /// error fails it does not, and `close` tells so.
     pub fn lap(&mut self, operations: u32) -> bool {
         match self.note(operations) {

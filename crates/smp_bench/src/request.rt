@@ -15,7 +15,7 @@ const MOST_THREADS: u32 = 7;
 /// How long a workload goes on.
 #[derive(Clone, Copy, Debug, PartialEq, Eq)]
 pub enum Limit {
-    /// At least so many operations, and not a whole batch more.
+    /// At least this number of operations, and less than a whole batch more.
     Operations(u32),
     Milliseconds(u32),
 }

@@ -3,7 +3,7 @@
 ghost use Rattle.std.specs.Prelude.{◌≡◌, ◌<◌, ◌≤◌, ◌/◌, ◌*◌, ◌^◌, length, slice_index, IsSorted, IsPermutation};
 ghost use Rattle.std.specs.Ordering.{nat_cmp};
 
-/// Tenths of a nanosecond that one operation took, rounded down, in a batch of so many. A batch of more than 58 years
+/// Tenths of a nanosecond that one operation took, rounded down, in a batch of this number. A batch of more than 58 years
 /// counts as one of these.
 pub fn tenths_of_one(nanos: u64, operations: u32) -> u64
     requires { 0 < operations }

@@ -77,7 +77,7 @@ fn answer<R: Wait>(rt: &R, stand: &mut Stand, progress: &Progress, until: Until)
     unreachable!()
 }
 
-/// Counts the key up and down: so often, or until the first thread is through.
+/// Counts the key up and down this number of times, or until the first thread is through.
 fn count<R: Wait>(rt: &R, stand: &mut Stand, progress: &Progress, limit: Limit) {
     if let Some(batches) = batches_of(limit) {
         for _ in 0..batches {
@@ -178,7 +178,7 @@ fn run_threads<'a, R: Wait + Threads + Clock + Eprint + Sync>(
     }
 }
 
-/// The CPUs from 0 on, so many.
+/// This number of CPUs, from 0 on.
 fn first_cpus(count: u32) -> Result<CpuMask, BenchError> {
     let mut mask = CpuMask::empty();
     for number in 0..count {

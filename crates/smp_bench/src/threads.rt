@@ -54,7 +54,7 @@ fn answer<R: Wait>(rt: &R, mut seat: Seat, progress: &Progress) {
     unreachable!()
 }
 
-/// Calls CPU 0 without wait, so often or until it is told to stop.
+/// Calls CPU 0 without wait, this number of times or until it is told to stop.
 fn call_zero<R: Wait>(rt: &R, mut seat: Seat, progress: &Progress, times: u64) {
     if !progress.start.wait(rt) {
         return;
@@ -101,7 +101,7 @@ fn call_and_wait<R: Wait + Clock + Eprint>(
     unreachable!()
 }
 
-/// Handles the calls of so many sources until all have made their last. Tells them to stop where the meter says
+/// Handles the calls of this number of sources until all have made their last. Tells them to stop where the meter says
 /// that it is enough.
 fn handle_all<R: Wait + Clock + Eprint>(
     rt: &R,

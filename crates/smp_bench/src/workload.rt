@@ -5,7 +5,7 @@
 pub enum Workload {
     /// One thread posts one call, sends and handles it. An operation is one call.
     PostOne,
-    /// The same with eight calls to one handling: four sources with two records each.
+    /// A post and its handling with eight calls to one handling: four sources with two records each.
     PostEight,
     /// A call with wait between two threads that poll.
     RoundTrip,
@@ -21,7 +21,7 @@ pub enum Workload {
     SetKey,
     /// A key that is on is counted up and down in turn, outside any stop, by one thread. An operation is one change.
     CountOne,
-    /// The same by all threads, each for itself. An operation is a change by the first of them.
+    /// A key that is on is counted up and down by all threads, each for itself. An operation is a change by the first of them.
     CountAll,
     /// A CPU polls, and finds neither an interrupt nor a work.
     Idle,
@@ -58,7 +58,7 @@ impl Workload {
         }
     }
 
-    /// How many threads it has, where so many are asked for.
+    /// How many threads it has, where this number is asked for.
     pub fn threads(self, asked: u32) -> u32 {
         match self {
             Workload::PostOne | Workload::PostEight | Workload::CountOne | Workload::Idle => 1,

@@ -34,7 +34,7 @@ impl Drain {
         Drain { calls: 0 }
     }
 
-    /// The same once more.
+    /// A duplicate of this count.
     pub fn copy(&self) -> Self
         ensures { result ≡ self.now }
     {

@@ -51,7 +51,7 @@ pub enum Running {
     Nothing,
     /// A SYNC call, whose record is locked until it ends.
     SyncCall(Call),
-    /// The same, once its function has run and it is counted.
+    /// A SYNC call whose function has run, and which is counted.
     CountedCall(Call),
     /// An ASYNC call, whose record is free.
     AsyncCall(Call),

@@ -125,25 +125,27 @@ pub fn records_stay()
     ensures { OfEachStep KeepsRecords }
 {}
 
-/// Each step of a CPU does one of these of functions. It begins the call at the front of its batch, where none runs, and
-/// says `call S F I` with its source, function and info; the record is locked then where the call is SYNC, and free where
-/// it is ASYNC. It counts a SYNC call that has run. It ends its call, a SYNC one only once that is counted. Or nothing: and
-/// no other step says so.
+/// Each step of a CPU does at most one of these to a function, and no other step says so:
+/// - It begins the call at the front of its batch, where none runs. It says `call S F I`, with the call's source, function
+///   and info. The record is then locked where the call is SYNC, and free where it is ASYNC.
+/// - It counts a SYNC call that has run.
+/// - It ends its call, a SYNC one only once that is counted.
 pub fn functions_run_once()
     ensures { OfEachStep KeepsFunctions }
 {}
 
-/// A step that queues a call says whether that queue was empty, `owed` or `queued`, and no other step says either; and
-/// what the other notes say holds: of `busy`, `locked`, `done`, `nocpu` and `contended` where the record is, of `sent` that
-/// the interrupt is pending and no longer owed, and of `idle` and `handled` that nothing is left to run, with the number of
-/// calls of the batch.
+/// A step that queues a call says whether that queue was empty, by `owed` or `queued`. No other step says either.
+///
+/// What the other notes say holds. `busy`, `locked`, `done`, `nocpu` and `contended` say where the record is. `sent` says
+/// that the interrupt is pending and no longer owed. `idle` and `handled` say that nothing is left to run, and `handled`
+/// how many calls the batch had.
 pub fn notes_hold()
     ensures queues { OfEachStep KeepsQueues }
     ensures says { OfEachStep NoteHolds }
 {}
 
-/// A CPU that has found a number in a head, by its load or by an exchange that it has lost, links its record to it next,
-/// and then exchanges the head where that is this number still; after a lost exchange it may count its call back instead.
+/// A CPU that has found a number in a head, by its load or by a lost exchange, links its record to that number next. Then
+/// it exchanges the head, where that is still this number. After a lost exchange it may count its call back instead.
 /// So an exchange is lost only where another CPU has changed the head since.
 pub fn tries_go_on()
     ensures { OfEachStep TriesGoOn }

@@ -17,3 +17,5 @@ pub mod Passes
 -- a call to many, out of its parts
 pub mod Parts
 pub mod Ended
+-- each CPU of a mask is called, or all are
+pub mod Names

@@ -1,14 +1,16 @@
--- Handling twice is handling once, with the turns of both.
-use Rattle.std.proofs.Common.{arith, ◌≡◌, Bool, true, false, Option, Some, None, List, [], ◌∷◌, ◌++◌, append_assoc, refl, sym, ap, ◌∙◌, subst}
+-- Handling twice is handling once, with the turns of both; and how often a CPU handles that waits.
+use Rattle.std.proofs.Common.{arith, ◌≡◌, ℕ, ◌+◌, length, length-append, Bool, true, false, Option, Some, None, List, [], ◌∷◌, ◌++◌, append_assoc, refl, sym, ap, ◌∙◌, subst}
 use Rattle.std.specs.List.{FoldsTo}
 use Rattle.std.proofs.lemmas.List.{append-nil}
 use Rattle.smp_call_steps.specs.Order.{order}
 use Rattle.smp_call_steps.specs.Histories.{orders}
 use Rattle.smp_words.specs.declared.call.Call.{Call}
-use Rattle.smp_queue.specs.Cpu.{CpuValue}
+use Rattle.smp_queue.specs.Cpu.{CpuValue, confirmed_at, confirms}
+use Rattle.smp_queue.specs.Cpu.{looks as looked}
 use Rattle.smp_queue.specs.Handling.{Grows, asks, drains}
 use Rattle.smp_queue.specs.declared.handler.Heard.{Heard}
 use Rattle.smp_calls.specs.Handles.{looks, batches, Handles}
+use Rattle.smp_calls.specs.Families.{Awaits}
 
 looks-append : (ts us : List (Option (List Call))) → looks (ts ++ us) ≡ looks ts ++ looks us
 looks-append [] us = refl
@@ -31,6 +33,16 @@ folds-append R (x ∷ xs) ys p q r e f = (e.0, e.1, folds-append R xs ys e.0 q r
 -- a list that has grown twice
 grown : {A : Type 0} (xs ys zs us vs : List A) → ys ≡ xs ++ us → zs ≡ ys ++ vs → zs ≡ xs ++ (us ++ vs)
 grown xs ys zs us vs e f = f ∙ (ap (λ (ws : List _). ws ++ vs) e ∙ append_assoc xs us vs)
+
+-- to handle is to take the interrupt word once, by no step outside of it
+pub handled_once : (interrupted : Bool) (old new : CpuValue) → (interrupted ≡ true → (batch : List Call) × (new ≡ drains batch (asks true old)))
+    → (interrupted ≡ false → new ≡ asks false old) → (new.steps ≡ old.steps) × (length new.part.asked ≡ length old.part.asked + 1)
+handled_once true old new asked idle =
+    let t = asked refl in
+    (ap (λ (c : CpuValue). c.steps) t.1, ap (λ (c : CpuValue). length c.part.asked) t.1 ∙ length-append old.part.asked (true ∷ []))
+handled_once false old new asked idle =
+    let e = idle refl in
+    (ap (λ (c : CpuValue). c.steps) e, ap (λ (c : CpuValue). length c.part.asked) e ∙ length-append old.part.asked (false ∷ []))
 
 module _ {H : Type 0} (leads : H → Heard → H → Type 0) where
   -- no look at all, whatever else the CPU has done
@@ -66,3 +78,36 @@ module _ {H : Type 0} (leads : H → Heard → H → Type 0) where
     ran_is = ap (λ (xs : List Call). c.part.ran ++ xs) (sym (append-nil (order batch)));
     grows = subst (λ (xs : List Call). Grows leads h xs i) (sym (append-nil (order batch))) grown;
   }
+
+-- a CPU that waits for its record: it has handled once after each look; where the record was seen confirmed, it has done nothing yet
+pub record Waiting {H : Type 0} (k : ℕ) (old : CpuValue) (before : H) (now : CpuValue) (here : H) : Type 0 where
+  pub turns : now.steps + length old.part.asked ≡ old.steps + length now.part.asked
+  pub not_yet : confirmed_at old k ≡ true → (now ≡ old) × (here ≡ before)
+
+pub waiting_first : {H : Type 0} (k : ℕ) (c : CpuValue) (h : H) → Waiting k c h c h
+waiting_first k c h = record { turns = refl; not_yet = λ _. (refl, refl) }
+
+-- after a look that found it locked, and one turn of handling
+pub waiting_more : {H : Type 0} (k : ℕ) (old now after next : CpuValue) (before here last : H) → Waiting k old before now here
+    → (confirmed_at now k ≡ true → ⊥) → after ≡ looked now → (next.steps ≡ after.steps) × (length next.part.asked ≡ length after.part.asked + 1)
+    → Waiting k old before next last
+waiting_more k old now after next before here last w locked e once =
+    let steps : next.steps ≡ now.steps + 1 = once.0 ∙ ap (λ (c : CpuValue). c.steps) e in
+    let asked : length next.part.asked ≡ length now.part.asked + 1 = once.1 ∙ ap (λ (c : CpuValue). length c.part.asked + 1) e in
+    let t = w.turns in
+    record {
+      turns = omega arith;
+      not_yet = λ conf. absurd (locked (ap (λ (c : CpuValue). confirmed_at c k) (w.not_yet conf).0 ∙ conf));
+    }
+
+-- after a look that found it free
+pub waiting_ended : {H : Type 0} (k : ℕ) (old now next : CpuValue) (before here : H) → Waiting k old before now here → next ≡ looked (confirms k now)
+    → Awaits k old before next here
+waiting_ended k old now next before here w e =
+    let steps : next.steps ≡ now.steps + 1 = ap (λ (c : CpuValue). c.steps) e in
+    let asked : length next.part.asked ≡ length now.part.asked = ap (λ (c : CpuValue). length c.part.asked) e in
+    let t = w.turns in
+    record {
+      turns = omega arith;
+      at_once = λ conf. (e ∙ ap (λ (c : CpuValue). looked (confirms k c)) (w.not_yet conf).0, (w.not_yet conf).1);
+    }

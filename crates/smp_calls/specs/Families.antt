@@ -92,10 +92,18 @@ CallsOne leads old before new after dst func info wait = CallsBy leads old befor
 abbrev pub QueuesNone : {H : Type 0} → (H → Heard → H → Type 0) → CpuValue → H → CpuValue → H → Bool → Type 0
 QueuesNone leads old before new after wait = Leaves leads old before new after [] [] (owes_at old) (λ k. (not wait && k == 1) || confirmed_at old k)
 
--- the same, and then its function on the CPU itself: that is all that it does after it has waited
+-- a CPU has looked at the flags of its record k, and has handled once after each look but the last; where the record was seen
+-- confirmed before, that was one look, and it has handled nothing
+pub record Awaits {H : Type 0} (k : ℕ) (old : CpuValue) (before : H) (new : CpuValue) (after : H) : Type 0 where
+  pub turns : new.steps + length old.part.asked ≡ old.steps + (1 + length new.part.asked)
+  pub at_once : confirmed_at old k ≡ true → (new ≡ looks (confirms k old)) × (after ≡ before)
+
+-- the same, and then its function on the CPU itself: that is all that it does after it has waited, and without wait it has
+-- handled only while its async record was busy
 abbrev pub CallsHere : {H : Type 0} → (H → Heard → H → Type 0) → CpuValue → H → CpuValue → H → ℕ → ℕ → Bool → Type 0
 CallsHere {H = H} leads old before new after func info wait =
-    (called : H) × QueuesNone leads old before new called wait × leads called (heard old.number func info) after
+    (called : H) × QueuesNone leads old before new called wait × leads called (heard old.number func info) after ×
+    (wait ≡ false → Awaits 1 old before new called)
 
 -- a call by a record of the user, on the CPU itself: the record was seen confirmed by one step, and nothing else was done
 abbrev pub CallsUserHere : {H : Type 0} → (H → Heard → H → Type 0) → CpuValue → H → CpuValue → H → ℕ → ℕ → ℕ → Type 0

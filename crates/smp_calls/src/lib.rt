@@ -18,6 +18,7 @@ mod any;
 mod caller;
 mod each;
 pub mod laws;
+mod linux_names;
 mod many;
 mod queue;
 mod records;

@@ -6,7 +6,7 @@ ghost use Rattle.smp_queue.specs.Cpu.{confirmed_at};
 ghost use Rattle.smp_queue.specs.Handling.{heard};
 ghost use Rattle.smp_calls.specs.Records.{call_by, single_record as single_record_in};
 ghost use Rattle.smp_calls.specs.Ended.{HaveEnded};
-ghost use Rattle.smp_calls.specs.Families.{IsSized, CallsOne, CallsHere, QueuesNone};
+ghost use Rattle.smp_calls.specs.Families.{IsSized, Awaits, CallsOne, CallsHere, QueuesNone};
 
 use crate::queue::{Job, queue_and_send};
 use crate::records::{ASYNC_RECORD, class_for, single_record};
@@ -29,6 +29,7 @@ fn free_async<A: Allocator, R: Wait, H: Handler>(
     requires sized { IsSized me.old }
     ensures none { QueuesNone H.leads me.old handler.old me.new handler.new wait }
     ensures waited { wait ≡ true → (me.new ≡ me.old) × (handler.new ≡ handler.old) }
+    ensures turns { wait ≡ false → Awaits 1 me.old handler.old me.new handler.new }
 {
     if !wait {
         wait_for(table, rt, me, handler, ASYNC_RECORD);
@@ -84,7 +85,8 @@ fn call_there<A: Allocator, R: Wait, H: Handler>(
 ///
 /// The function runs on the CPU `dst`, with this CPU as its source. With `wait` the call returns once it has run
 /// there. Without, it uses the async record, for whose last call it first waits, whatever `dst` is. On this CPU
-/// it runs at once, with `wait` before any step, and nothing is queued. While it waits, the CPU handles its own interrupts.
+/// it runs at once, with `wait` before any step, and nothing is queued. While it waits, the CPU handles its own interrupts,
+/// once after each look that finds the record locked. After its function has run here, it does nothing more.
 ///
 /// A call to another CPU is queued at the compare-exchange that wins in its post. It may wait, for the record's last
 /// call and with `wait` for its own; the targets of the calls that it waits for must poll.
@@ -108,7 +110,7 @@ pub fn call_single<A: Allocator, R: Wait, H: Handler>(
         × H.leads handler.old (heard me.old.number func info) handler.new) }
     ensures stays { IfErr result (λ _. wait ≡ true → (me.new ≡ me.old) × (handler.new ≡ handler.old)) }
     ensures freed { IfOk result (λ _. wait ≡ false → dst ≡ me.old.number → confirmed_at me.new 1 ≡ true) }
-    ensures waits { IfErr result (λ _. wait ≡ false → confirmed_at me.new 1 ≡ true) }
+    ensures waits { IfErr result (λ _. wait ≡ false → (confirmed_at me.new 1 ≡ true) × Awaits 1 me.old handler.old me.new handler.new) }
     ensures refused { IfErr result (λ e. (e ≡ SmpError.NoCpu) × (dst ≢ me.old.number) × (has table.now.online dst ≡ false)
         × QueuesNone H.leads me.old handler.old me.new handler.new wait) }
     ensures ended { IfOk result (λ _. wait ≡ true → dst ≢ me.old.number →

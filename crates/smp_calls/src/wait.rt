@@ -1,9 +1,9 @@
 //! Waiting for a record: the CPU handles its own interrupts meanwhile.
 
-ghost use Rattle.std.specs.Prelude.{◌≡◌, ◌≢◌, ◌<◌, ◌==◌, ◌||◌, None, [], true, false, if◌then◌else◌};
+ghost use Rattle.std.specs.Prelude.{◌≡◌, ◌≢◌, ◌+◌, ◌<◌, ◌==◌, ◌||◌, None, [], true, false, if◌then◌else◌, length};
 ghost use Rattle.smp_call_steps.specs.Start.{has_record};
 ghost use Rattle.smp_queue.specs.Cpu.{confirmed_at, confirms, looks};
-ghost use Rattle.smp_calls.specs.Families.{IsSized, Leaves, owes_at};
+ghost use Rattle.smp_calls.specs.Families.{IsSized, Leaves, Awaits, owes_at};
 
 use crossbeam_utils::Backoff;
 use smp_queue::{CallCpu, CallTable, Handler};
@@ -31,13 +31,14 @@ fn handle_own<A: Allocator, R: Wait, H: Handler>(
     handler: &mut H,
 )
     requires { me.old.table ≡ table.now.table }
-    ensures { Leaves H.leads me.old handler.old me.new handler.new [] [] (owes_at me.old) (confirmed_at me.old) }
+    ensures left { Leaves H.leads me.old handler.old me.new handler.new [] [] (owes_at me.old) (confirmed_at me.old) }
+    ensures once { (me.new.steps ≡ me.old.steps) × (length me.new.part.asked ≡ length me.old.part.asked + 1) }
 {
     table.handle(me, handler);
 }
 
-/// Waits until the record is unlocked, and handles the CPU's own interrupts meanwhile
-/// (`kernel/smp.c: csd_lock_wait`, with interrupts on).
+/// Waits until the record is unlocked, and handles the CPU's own interrupts meanwhile, once after each look at the record that
+/// finds it locked (`kernel/smp.c: csd_lock_wait`, with interrupts on).
 pub(crate) fn wait_for<A: Allocator, R: Wait, H: Handler>(
     table: &CallTable<A>,
     rt: &R,
@@ -48,7 +49,8 @@ pub(crate) fn wait_for<A: Allocator, R: Wait, H: Handler>(
     requires table { me.old.table ≡ table.now.table }
     requires sized { IsSized me.old }
     requires record { has_record table.now.nr k ≡ true }
-    ensures { Leaves H.leads me.old handler.old me.new handler.new [] [] (owes_at me.old) (λ j. j == k || confirmed_at me.old j) }
+    ensures left { Leaves H.leads me.old handler.old me.new handler.new [] [] (owes_at me.old) (λ j. j == k || confirmed_at me.old j) }
+    ensures turns { Awaits k me.old handler.old me.new handler.new }
 {
     let backoff = Backoff::new();
     for _ in rt.forever() {

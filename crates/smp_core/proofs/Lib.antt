@@ -5,6 +5,7 @@ pub mod Halves
 pub mod Saying
 -- what a step changes of a core, and what it keeps
 pub mod Kept
+pub mod Offline
 pub mod Whole
 -- a list of events
 pub mod Replays

@@ -23,6 +23,7 @@ use Rattle.smp_core.specs.Machine.{Stepped, call_step, found_at, seen_at, step_a
 use Rattle.smp_core.specs.Start.{refusal_of, started}
 use Rattle.smp_core.specs.Value.{CoreValue}
 use Rattle.smp_core.specs.Whole.{IsWhole, KeepsLaws}
+use Rattle.smp_core.proofs.Offline.{leaves_offline, start_apart, step_apart}
 use Rattle.smp_core.proofs.Starts.{may_start, start_below, started_nr, started_online, started_shown}
 
 module _ (core : CoreValue) (cpu : ℕ) (w : IsWhole core) where
@@ -43,6 +44,7 @@ module _ (core : CoreValue) (cpu : ℕ) (w : IsWhole core) where
           };
           stops_nr = w.sound.stops_nr;
           stops_online = w.sound.stops_online;
+          apart = step_apart core.online core.words core.controls cpu table.controls_sized w.sound.apart stage table.words_sized e;
         };
         stops = w.stops;
       }
@@ -54,6 +56,7 @@ module _ (core : CoreValue) (cpu : ℕ) (w : IsWhole core) where
       table = w.sound.table;
       stops_nr = w.sound.stops_nr;
       stops_online = w.sound.stops_online;
+      apart = w.sound.apart;
     };
     stops = made_sound core.stops w.stops cpu stage (stop_seen_at core.stops cpu stage) _ _
         record { at_stage = e; is_table = refl; is_controls = refl; is_seen = refl };
@@ -91,6 +94,8 @@ module _ (core : CoreValue) (cpu : ℕ) (w : IsWhole core) where
           };
           stops_nr = started_nr core.stops cpu c ∙ w.sound.stops_nr;
           stops_online = started_online core.stops cpu c ∙ w.sound.stops_online;
+          apart = start_apart core.online core.words core.controls cpu table.controls_sized w.sound.apart core.nr c low m.is_online m.is_allowed
+              (started_shown w.sound.apart.calls core cpu c w.sound.limits table.controls_sized allowed fits w.sound.apart.shown);
         };
         stops = started_sound core.stops w.stops cpu low m.is_stop_outside below online c fits m.is_stop_allowed;
       }
@@ -102,6 +107,7 @@ whole_keeps core w =
     record {
       calls = w.sound.table.calls;
       shows_calls = w.sound.table.shown;
+      offline = leaves_offline core.online core.words core.controls w.sound.apart;
       stops = p;
       shows_stops = shown;
       stop_laws = keeps_laws _ p (stop_number core.stops.table) shown.seat shown.source shown.shows;

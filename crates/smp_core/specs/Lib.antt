@@ -1,6 +1,7 @@
 -- a core
 pub mod Value
 pub mod Sound
+pub mod Offline
 pub mod New
 -- its commands and its steps
 pub mod Start

@@ -6,6 +6,7 @@ ghost use Rattle.smp_script.specs.Watched.{failed_of};
 
 use crate::kind::Kind;
 use smp_explore::Unwatched;
+use smp_judge::judge_trace;
 use smp_mask::SmpError;
 use smp_replay::replay_script;
 use smp_report::explore_script;
@@ -39,6 +40,7 @@ fn take<T: Threads + Wait + Sync>(
         Kind::Run => run_script(threads, alloc, reader, writer, &FreePace).err(),
         Kind::Lanes => show_lanes(alloc, reader, writer).err(),
         Kind::Explore(task) => explore_script(alloc, task, reader, writer, &mut Unwatched).err(),
+        Kind::Judge => judge_trace(alloc, reader, writer).err(),
     }
 }
 

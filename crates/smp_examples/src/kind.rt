@@ -34,17 +34,20 @@ pub enum Kind {
     Lanes,
     /// By `smp explore`, `smp sample` or `smp script`.
     Explore(Task),
+    /// By `smp judge`.
+    Judge,
 }
 
 /// How an example is taken, by its word and the line's end: `None` where the word is none of these.
 pub fn kind_of(word: &[u8]) -> Option<Kind> {
-    let kinds: [(&[u8], Kind); 6] = [
+    let kinds: [(&[u8], Kind); 7] = [
         (b"replay\n".as_slice(), Kind::Replay),
         (b"run\n".as_slice(), Kind::Run),
         (b"lanes\n".as_slice(), Kind::Lanes),
         (b"explore\n".as_slice(), Kind::Explore(ALL)),
         (b"sample\n".as_slice(), Kind::Explore(SAMPLED)),
         (b"script\n".as_slice(), Kind::Explore(WRITTEN)),
+        (b"judge\n".as_slice(), Kind::Judge),
     ];
     for (name, kind) in kinds {
         if word == name {

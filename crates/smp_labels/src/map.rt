@@ -109,7 +109,7 @@ impl LabelMap {
             && are_same_entries(self.entries.as_slice(), other.entries.as_slice())
     }
 
-    /// The same map once more.
+    /// A duplicate of this map.
     pub fn copy(&self) -> LabelMap
         ensures { result ≡ self.now }
     {

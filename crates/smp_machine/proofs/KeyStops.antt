@@ -1,25 +1,29 @@
 -- A patch by its source, out of its parts.
-use Rattle.std.proofs.Common.{◌≡◌, ◌≢◌, ℕ, ℤ, Bool, true, false, Option, Some, None, [], ◌∷◌, ◌==◌, ◌&&◌, cond}
+use Rattle.std.proofs.Common.{◌≡◌, ◌≢◌, ℕ, ℤ, Bool, true, false, Option, Some, None, List, [], ◌∷◌, ◌++◌, ◌==◌, ◌&&◌, cond, append_assoc}
 use Rattle.std.proofs.Common.{refl, sym, ap, ◌∙◌, subst, eq-eqb}
-use Rattle.smp_labels.specs.Keys.{change_of, change_word}
+use Rattle.smp_labels.specs.Keys.{change_of, change_word, is_on}
 use Rattle.smp_mask.specs.Mask.{members}
 use Rattle.smp_queue.specs.declared.handler.Heard.{Heard}
 use Rattle.smp_stop_steps.specs.Labels.{reading_of, state_left}
 use Rattle.smp_stop_steps.specs.Tells.{first_readings, is_patch}
-use Rattle.smp_multi.specs.Cpu.{TableValue, CpuValue, Inside, gated, begins}
-use Rattle.smp_multi.specs.Names.{Work, One, Patch, ReadKey, Reading}
-use Rattle.smp_multi.specs.Reads.{reads}
+use Rattle.smp_multi.specs.Cpu.{TableValue, CpuValue, Inside, begins}
+use Rattle.smp_multi.specs.Cpu.{gives_gate}
+use Rattle.smp_multi.specs.Names.{OwnMove}
+use Rattle.smp_stop_steps.specs.declared.known.OwnMove.TheVariants.{Took, Gave, Began, Collected, Found}
+use Rattle.smp_machine.specs.Moves.{patch_after}
+use Rattle.smp_multi.specs.Names.{Work, One, Patch, ReadKey}
+use Rattle.smp_multi.specs.Nudges.{loads_count}
 use Rattle.smp_multi.specs.declared.func.Called.{Called}
 use Rattle.smp_machine.specs.declared.work_queue.Item.{Item}
-use Rattle.smp_machine.specs.Keys.{state_of}
-use Rattle.smp_machine.specs.Own.{Own, own_of, with_gate, with_begun, with_collected, with_put}
+use Rattle.smp_machine.specs.Keys.{state_of, IsPatchOf, KeyStands, TurnsKey}
+use Rattle.smp_machine.specs.Own.{Own, own_of, with_gate, with_begun, with_collected, with_moves, with_put}
 use Rattle.smp_machine.specs.Place.{PlaceValue}
-use Rattle.smp_machine.specs.Stops.{item, with_queued, with_stop, AreShown, HasCollected, HasStopped}
+use Rattle.smp_machine.specs.Stops.{item, with_stop, AreShown, HasCollected, HasStopped}
 use Rattle.smp_machine.specs.Takes.{EntersFront}
 use Rattle.smp_machine.specs.Works.{Works, ReadsAnew}
 use Rattle.smp_machine.proofs.Served.{later_still}
-use Rattle.smp_machine.proofs.Works.{works_still, works_as, works_both}
-use Rattle.smp_machine.proofs.Stopping.{works_begin, works_gate, last_open, shown_at}
+use Rattle.smp_machine.proofs.Works.{works_as, works_both}
+use Rattle.smp_machine.proofs.Stopping.{works_step, works_begin, works_give, told_more, moves_of_four, last_open, shown_at}
 
 some_same : {A : Type 0} {a b : A} → Some a ≡ Some b → a ≡ b
 some_same e = cc
@@ -50,74 +54,102 @@ readings_are n work on kind arg =
     ∙ (ap (λ b. cond b (reading_of work.func (state_left (change_of work.arg))) []) (eq-eqb n n refl)
     ∙ (ap (λ (a : ℕ). reading_of work.func (state_left (change_of a))) arg ∙ state_read work.func on))
 
--- who holds the gate takes it by doing nothing
-at_gate : (o : Own) → o.gate ≡ true → with_gate true o ≡ o
-at_gate o held = λ i. record o { gate = sym held i }
+-- moves before others
+moves_before : (l before first rest : List OwnMove) → (l ++ before) ++ (first ++ rest) ≡ l ++ ((before ++ first) ++ rest)
+moves_before l before first rest = append_assoc l before (first ++ rest) ∙ ap (λ (x : List OwnMove). l ++ x) (sym (append_assoc before first rest))
 
 module _ {H F : Type 0} (hears : H → Heard → H → Type 0) (runs : F → Called → F → Type 0) where
   -- a patch by who holds the gate
   pub patch_stopped : {old m₁ m₂ m₃ m₄ new : PlaceValue} {h h₂ h₃ h₄ : H} {f f₂ f₃ f₄ : F} (work : Work) (u v : ℤ) → u ≡ v
-      → old.stops.part.holds ≡ true → m₁ ≡ record old { stops = begins work old.stops }
+      → m₁ ≡ record old { stops = begins work old.stops }
       → Works hears runs m₁ h f m₂ h₂ f₂ (with_put (item m₁.stops.number work) (members work.mask) (own_of m₁))
       → AreShown m₁.stops.number (members work.mask) m₂.passes.put → Works hears runs m₂ h₂ f₂ m₃ h₃ f₃ (own_of m₂)
-      → HasCollected hears runs m₃ h₃ f₃ m₄ h₄ f₄ v → new ≡ record m₄ { stops = gated false m₄.stops }
-      → HasStopped hears runs true work old h f new h₄ f₄ u
-  patch_stopped {old} {m₁} {m₂} {m₃} {m₄} {new} {h} {h₂} {h₃} {h₄} {f} {f₂} {f₃} {f₄} work u v same held e a shown b c g =
+      → HasCollected hears runs m₃ h₃ f₃ m₄ h₄ f₄ v → new ≡ record m₄ { stops = gives_gate m₄.stops }
+      → HasStopped hears runs (patch_after []) work old h f new h₄ f₄ u
+  patch_stopped {old} {m₁} {m₂} {m₃} {m₄} {new} {h} {h₂} {h₃} {h₄} {f} {f₂} {f₃} {f₄} work u v same e a shown b c g =
       let x : Item = item old.stops.number work in
-      let put = λ (o : Own). with_put x (members work.mask) (with_begun work o) in
+      let put = λ (o : Own). with_put x (members work.mask) (with_moves (Began work ∷ []) (with_begun work o)) in
+      let got = λ (o : Own). with_moves (Collected c.word ∷ []) (with_collected c.word o) in
+      let gave = λ (o : Own). with_moves (Gave ∷ []) (with_gate false o) in
+      let left = with_stop (patch_after []) old.stops.number work c.word (own_of old) in
       let number : m₁.stops.number ≡ old.stops.number = ap (λ (p : PlaceValue). p.stops.number) e in
-      let two = works_both hears runs (with_begun work) (with_put x (members work.mask)) (works_begin hears runs old m₁ h f work e)
+      let two = works_both hears runs (λ (o : Own). with_moves (Began work ∷ []) (with_begun work o)) (with_put x (members work.mask))
+      (works_begin hears runs old m₁ h f work e)
       (subst (λ (n : ℕ). Works hears runs m₁ h f m₂ h₂ f₂ (with_put (item n work) (members work.mask) (own_of m₁))) number a) in
       let three = works_both hears runs put (λ o. o) two b in
-      let four = works_both hears runs put (with_collected c.word) three c.works in record {
+      let four = works_both hears runs put got three c.works in record {
         word = c.word;
         answer_is = same ∙ c.answer_is;
-        gate = (
-          m₄,
-          works_as hears runs (with_collected c.word (with_queued old.stops.number work (own_of old)))
-              (ap (λ (o : Own). with_collected c.word (put o)) (sym (at_gate (own_of old) held))) four,
-          g,
-        );
-        works = works_both hears runs (λ (o : Own). with_collected c.word (put o)) (with_gate false) four (works_gate hears runs m₄ new h₄ f₄ false g);
+        works = works_as hears runs left
+            (λ i. record left { moves = moves_of_four (own_of old).moves (Began work ∷ []) (Collected c.word) Gave i })
+            (works_both hears runs (λ (o : Own). got (put o)) gave four (works_give hears runs m₄ new h₄ f₄ g));
         result = last_open g c.result;
         shown = shown_at number refl (sym (ap (λ (p : PlaceValue). p.passes.put) g
             ∙ (ap (λ (o : Own). o.put) c.works.own_is ∙ ap (λ (o : Own). o.put) b.own_is))) shown;
         outside = ap (λ (p : PlaceValue). p.stops.inside) g ∙ c.outside;
       }
 
-  pub works_read : (p new : PlaceValue) (h : H) (f : F) (r : Reading) → new ≡ record p { stops = reads r p.stops }
-      → Works hears runs p h f new h f (own_of p)
-  works_read p new h f r e =
-      subst (λ (x : PlaceValue). Works hears runs p h f x h f (own_of p)) (sym e)
-      (works_still hears runs p (record p { stops = reads r p.stops }) h f refl
-      (later_still p.stops (reads r p.stops) refl refl refl refl refl refl) refl refl refl refl refl refl)
+  -- a load of a key's count
+  pub works_found : (p new : PlaceValue) (h : H) (f : F) (k count : ℕ) → new ≡ record p { stops = loads_count k count p.stops }
+      → Works hears runs p h f new h f (with_moves (Found k count ∷ []) (own_of p))
+  works_found p new h f k count e =
+      let s = loads_count k count p.stops in
+      works_step hears runs p new h f s (with_moves (Found k count ∷ []) (own_of p)) e
+      (later_still p.stops s refl refl refl refl refl refl (Found k count ∷ [], refl)) refl refl refl
+      (λ i. record (own_of p) { moves = told_more p.stops.moves (Found k count ∷ []) i })
 
-  -- a long stop after a stretch in which at most the gate was taken
-  pub stopped_after : {old m new : PlaceValue} {h h₁ h' : H} {f f₁ f' : F} (g : Own → Own) (work : Work) (v : ℤ)
-      → ((o : Own) → with_gate false (g o) ≡ with_gate false o) → Works hears runs old h f m h₁ f₁ (g (own_of old))
-      → HasStopped hears runs true work m h₁ f₁ new h' f' v → HasStopped hears runs true work old h f new h' f' v
-  stopped_after {old} {m} {new} {h} {h₁} {h'} {f} {f₁} {f'} g work v same a s = record {
-    word = s.word;
-    answer_is = s.answer_is;
-    gate = (
-      s.gate.0,
-      works_as hears runs (with_collected s.word (with_queued old.stops.number work (own_of old)))
-          (ap (λ (o : Own). with_collected s.word (with_queued old.stops.number work o)) (same (own_of old)))
-          (works_both hears runs g (λ (o : Own). with_collected s.word (with_queued old.stops.number work o)) a
-          (subst (λ (n : ℕ). Works hears runs m h₁ f₁ s.gate.0 h' f' (with_collected s.word (with_queued n work (own_of m)))) a.number_is s.gate.1)),
-      s.gate.2,
-    );
-    works = works_as hears runs (with_stop old.stops.number work s.word (own_of old)) (ap (with_stop old.stops.number work s.word) (same (own_of old)))
-        (works_both hears runs g (with_stop old.stops.number work s.word) a
-        (subst (λ (n : ℕ). Works hears runs m h₁ f₁ new h' f' (with_stop n work s.word (own_of m))) a.number_is s.works));
-    result = s.result;
-    shown = shown_at a.number_is refl refl s.shown;
-    outside = s.outside;
+  -- a patch after a stretch with these moves, in which at most the gate was taken
+  pub stopped_after : {old m new : PlaceValue} {h h₁ h' : H} {f f₁ f' : F} (held : Bool) (before first : List OwnMove) (work : Work) (v : ℤ)
+      → Works hears runs old h f m h₁ f₁ (with_moves before (with_gate held (own_of old)))
+      → HasStopped hears runs (patch_after first) work m h₁ f₁ new h' f' v
+      → HasStopped hears runs (patch_after (before ++ first)) work old h f new h' f' v
+  stopped_after {old} {m} {new} {h} {h₁} {h'} {f} {f₁} {f'} held before first work v a s =
+      let left = with_stop (patch_after (before ++ first)) old.stops.number work s.word (own_of old) in record {
+        word = s.word;
+        answer_is = s.answer_is;
+        works = works_as hears runs left
+            (λ i. record left { moves = moves_before (own_of old).moves before first (Began work ∷ Collected s.word ∷ Gave ∷ []) i })
+            (works_both hears runs (λ (o : Own). with_moves before (with_gate held o)) (with_stop (patch_after first) old.stops.number work s.word) a
+            (subst (λ (n : ℕ). Works hears runs m h₁ f₁ new h' f' (with_stop (patch_after first) n work s.word (own_of m))) a.number_is s.works));
+        result = s.result;
+        shown = shown_at a.number_is refl refl s.shown;
+        outside = s.outside;
+      }
+
+  -- the gate was taken, and the key read
+  pub read_at_gate : {old m₁ m₂ : PlaceValue} {h h₁ : H} {f f₁ : F} (k count : ℕ)
+      → Works hears runs old h f m₁ h₁ f₁ (with_moves (Took ∷ []) (with_gate true (own_of old))) → m₂ ≡ record m₁ { stops = loads_count k count m₁.stops }
+      → Works hears runs old h f m₂ h₁ f₁ (with_moves (Took ∷ Found k count ∷ []) (with_gate true (own_of old)))
+  read_at_gate {old} {m₁} {m₂} {h} {h₁} {f} {f₁} k count a e =
+      works_as hears runs (with_moves (Took ∷ Found k count ∷ []) (with_gate true (own_of old)))
+      (λ i. record (with_gate true (own_of old)) { moves = append_assoc (own_of old).moves (Took ∷ []) (Found k count ∷ []) i })
+      (works_both hears runs (λ (o : Own). with_moves (Took ∷ []) (with_gate true o)) (with_moves (Found k count ∷ [])) a
+      (works_found m₁ m₂ h₁ f₁ k count e))
+
+  -- it is so, and the gate is given up
+  pub stands_so : {old m₁ new : PlaceValue} {h h₁ : H} {f f₁ : F} (k count : ℕ) (on : Bool) → is_on count ≡ on
+      → Works hears runs old h f m₁ h₁ f₁ (with_moves (Took ∷ []) (with_gate true (own_of old)))
+      → new ≡ record m₁ { stops = gives_gate (loads_count k count m₁.stops) } → KeyStands hears runs k on old h f new h₁ f₁
+  stands_so {old} {m₁} {new} {h} {h₁} {f} {f₁} k count on same a e =
+      let m₂ : PlaceValue = record m₁ { stops = loads_count k count m₁.stops } in record {
+        count = count;
+        same = same;
+        works = works_as hears runs (with_moves (Took ∷ Found k count ∷ Gave ∷ []) (with_gate false (own_of old)))
+            (λ i. record (with_gate false (own_of old)) { moves = append_assoc (own_of old).moves (Took ∷ Found k count ∷ []) (Gave ∷ []) i })
+            (works_both hears runs (λ (o : Own). with_moves (Took ∷ Found k count ∷ []) (with_gate true o))
+            (λ (o : Own). with_moves (Gave ∷ []) (with_gate false o)) (read_at_gate k count a refl) (works_give hears runs m₂ new h₁ f₁ e));
+      }
+
+  -- it is not, and is turned by a patch
+  pub turns_key : {old m₁ m₂ new : PlaceValue} {h h₁ h' : H} {f f₁ f' : F} (t : TableValue) (k count : ℕ) (on : Bool) (work : Work) (v : ℤ)
+      → is_on count ≢ on → IsPatchOf t k (state_of on) work
+      → Works hears runs old h f m₁ h₁ f₁ (with_moves (Took ∷ []) (with_gate true (own_of old))) → m₂ ≡ record m₁ { stops = loads_count k count m₁.stops }
+      → HasStopped hears runs (patch_after []) work m₂ h₁ f₁ new h' f' v → TurnsKey hears runs t k on old h f new h' f'
+  turns_key t k count on work v other patch a e s = record {
+    work = work;
+    patch = patch;
+    count = count;
+    other = other;
+    answer = v;
+    stopped = stopped_after true (Took ∷ Found k count ∷ []) [] work v (read_at_gate k count a e) s;
   }
-
-  -- the gate was taken, and the key read, before
-  pub stopped_at_gate : {old m₁ m₂ new : PlaceValue} {h h₁ h' : H} {f f₁ f' : F} (work : Work) (v : ℤ) (r : Reading)
-      → Works hears runs old h f m₁ h₁ f₁ (with_gate true (own_of old)) → m₂ ≡ record m₁ { stops = reads r m₁.stops }
-      → HasStopped hears runs true work m₂ h₁ f₁ new h' f' v → HasStopped hears runs true work old h f new h' f' v
-  stopped_at_gate {old} {m₁} {m₂} {new} {h} {h₁} {h'} {f} {f₁} {f'} work v r a e s =
-      stopped_after (with_gate true) work v (λ o. refl) (works_both hears runs (with_gate true) (λ o. o) a (works_read m₁ m₂ h₁ f₁ r e)) s

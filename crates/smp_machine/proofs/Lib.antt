@@ -26,3 +26,11 @@ pub mod KeyCounts
 pub mod ReadLaws
 -- what the definitions of stops, polls and queues come to
 pub mod StopLaws
+-- when a CPU takes the gate and gives it up
+pub mod GateLaws
+-- calls by Linux's names
+pub mod Names
+-- threads of CPUs, one after another
+pub mod Crews
+-- a CPU stays at its machine, whatever it calls
+pub mod Seats

@@ -23,59 +23,70 @@ use Rattle.smp_machine.specs.Takes.{TakesFront, EntersFront, TakesNext}
 
 -- ---- a CPU at a later time
 
-beginning_still : {A : Type 0} (old new : List A) → new ≡ old → IsBeginning old new
+pub beginning_still : {A : Type 0} (old new : List A) → new ≡ old → IsBeginning old new
 beginning_still old new e = ([], e ∙ sym (append-nil old))
+
+pub beginning_same : {A : Type 0} (l : List A) → IsBeginning l l
+beginning_same l = beginning_still l l refl
 
 beginning_then : {A : Type 0} (old mid new : List A) → IsBeginning old mid → IsBeginning mid new → IsBeginning old new
 beginning_then {A} old mid new a b = (a.0 ++ b.0, b.1 ∙ (ap (λ (l : List A). l ++ b.0) a.1 ∙ append_assoc old a.0 b.0))
 
 pub later_still : (old new : StopCpuValue) → new.table ≡ old.table → new.setting ≡ old.setting → new.number ≡ old.number
-    → new.part.begun ≡ old.part.begun → new.part.collected ≡ old.part.collected → new.part.calls ≡ old.part.calls → IsLater old new
-later_still old new table setting number begun collected calls = record {
+    → new.part.begun ≡ old.part.begun → new.part.collected ≡ old.part.collected → new.part.calls ≡ old.part.calls
+    → IsBeginning old.moves new.moves → IsLater old new
+later_still old new table setting number begun collected calls moves = record {
   table_is = table;
   setting_is = setting;
   number_is = number;
   begun = beginning_still old.part.begun new.part.begun begun;
   collected = beginning_still old.part.collected new.part.collected collected;
   calls = beginning_still old.part.calls new.part.calls calls;
+  moves = moves;
 }
 
 pub later_same : (c : StopCpuValue) → IsLater c c
-later_same c = later_still c c refl refl refl refl refl refl
+later_same c = later_still c c refl refl refl refl refl refl (beginning_same c.moves)
 
 -- one stop more is begun, or collected
 pub later_begun : (old new : StopCpuValue) (more : List Work) → new.table ≡ old.table → new.setting ≡ old.setting → new.number ≡ old.number
-    → new.part.begun ≡ old.part.begun ++ more → new.part.collected ≡ old.part.collected → new.part.calls ≡ old.part.calls → IsLater old new
-later_begun old new more table setting number begun collected calls = record {
+    → new.part.begun ≡ old.part.begun ++ more → new.part.collected ≡ old.part.collected → new.part.calls ≡ old.part.calls
+    → IsBeginning old.moves new.moves → IsLater old new
+later_begun old new more table setting number begun collected calls moves = record {
   table_is = table;
   setting_is = setting;
   number_is = number;
   begun = (more, begun);
   collected = beginning_still old.part.collected new.part.collected collected;
   calls = beginning_still old.part.calls new.part.calls calls;
+  moves = moves;
 }
 
 pub later_collected : (old new : StopCpuValue) (more : List ℕ) → new.table ≡ old.table → new.setting ≡ old.setting → new.number ≡ old.number
-    → new.part.begun ≡ old.part.begun → new.part.collected ≡ old.part.collected ++ more → new.part.calls ≡ old.part.calls → IsLater old new
-later_collected old new more table setting number begun collected calls = record {
+    → new.part.begun ≡ old.part.begun → new.part.collected ≡ old.part.collected ++ more → new.part.calls ≡ old.part.calls
+    → IsBeginning old.moves new.moves → IsLater old new
+later_collected old new more table setting number begun collected calls moves = record {
   table_is = table;
   setting_is = setting;
   number_is = number;
   begun = beginning_still old.part.begun new.part.begun begun;
   collected = (more, collected);
   calls = beginning_still old.part.calls new.part.calls calls;
+  moves = moves;
 }
 
 -- stop functions were called
 pub later_called : (old new : StopCpuValue) (more : List StopCall) → new.table ≡ old.table → new.setting ≡ old.setting → new.number ≡ old.number
-    → new.part.begun ≡ old.part.begun → new.part.collected ≡ old.part.collected → new.part.calls ≡ old.part.calls ++ more → IsLater old new
-later_called old new more table setting number begun collected calls = record {
+    → new.part.begun ≡ old.part.begun → new.part.collected ≡ old.part.collected → new.part.calls ≡ old.part.calls ++ more
+    → IsBeginning old.moves new.moves → IsLater old new
+later_called old new more table setting number begun collected calls moves = record {
   table_is = table;
   setting_is = setting;
   number_is = number;
   begun = beginning_still old.part.begun new.part.begun begun;
   collected = beginning_still old.part.collected new.part.collected collected;
   calls = (more, calls);
+  moves = moves;
 }
 
 pub later_then : (old mid new : StopCpuValue) → IsLater old mid → IsLater mid new → IsLater old new
@@ -86,6 +97,7 @@ later_then old mid new a b = record {
   begun = beginning_then old.part.begun mid.part.begun new.part.begun a.begun b.begun;
   collected = beginning_then old.part.collected mid.part.collected new.part.collected a.collected b.collected;
   calls = beginning_then old.part.calls mid.part.calls new.part.calls a.calls b.calls;
+  moves = beginning_then old.moves mid.moves new.moves a.moves b.moves;
 }
 
 -- ---- how many stops it has been in

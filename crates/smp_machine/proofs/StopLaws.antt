@@ -1,5 +1,5 @@
 -- What the definitions of stops, polls and queues come to.
-use Rattle.std.proofs.Common.{◌≡◌, ◌↔◌, ◌⊎◌, inl, inr, ℕ, zero, suc, ◌<◌, ◌==◌, ◌&&◌, ◌||◌, nat_lt, Bool, true, false, if◌then◌else◌, Option}
+use Rattle.std.proofs.Common.{◌≡◌, ◌↔◌, ◌⊎◌, inl, inr, ℕ, zero, suc, ◌<◌, ◌==◌, ◌&&◌, ◌||◌, nat_lt, Bool, true, false, if◌then◌else◌, Option, Some, None}
 use Rattle.std.proofs.Common.{List, [], ◌∷◌, ◌++◌, length, filter, slice_index_or, length-set, append_assoc, arith, refl, sym, ap, ◌∙◌, subst}
 use Rattle.std.proofs.Common.{eqb-true, eq-eqb, ne_eqb, lt-ltb}
 use Rattle.std.proofs.lemmas.Bool.{cases_eq}
@@ -10,14 +10,15 @@ use Rattle.smp_mask.specs.declared.mask.TheConstants.{NR_CPUS}
 use Rattle.smp_queue.specs.Cpu.{CpuValue as CallCpuValue}
 use Rattle.smp_queue.specs.declared.handler.Heard.{Heard}
 use Rattle.smp_multi.specs.Names.{Work}
-use Rattle.smp_multi.specs.Cpu.{TableValue}
+use Rattle.smp_multi.specs.Cpu.{TableValue, CpuValue as StopCpuValue}
 use Rattle.smp_multi.specs.declared.func.Called.{Called}
 use Rattle.smp_machine.specs.declared.work_queue.Item.{Item}
 use Rattle.smp_machine.specs.declared.work_queue.Knows.TheVariants.{Takes, Puts}
-use Rattle.smp_machine.specs.StopLaws.{IsOfOne, IsOfTwo, IsOfAll, WorksAreOfTheirCpus, StopsAreMadeOnce, PollsSendNothing, QueuesKeepOrder}
+use Rattle.smp_machine.specs.StopLaws.{IsOfOne, IsOfTwo, IsOfAll, IsFirstAlone, WorksAreOfTheirCpus}
+use Rattle.smp_machine.specs.StopLaws.{StopsAreMadeOnce, PollsSendNothing, QueuesKeepOrder, WorksAreTaken}
 use Rattle.smp_machine.specs.Own.{Own, put_one, put_all}
-use Rattle.smp_machine.specs.Passes.{put_to}
-use Rattle.smp_machine.specs.Stops.{item, IsOneWork, IsTwoWork, IsMachineWork}
+use Rattle.smp_machine.specs.Passes.{PassesValue, put_to}
+use Rattle.smp_machine.specs.Stops.{item, IsActive, IsOneWork, IsTwoWork, IsMachineWork}
 use Rattle.smp_machine.specs.WorkQueue.{items_by}
 use Rattle.smp_machine.proofs.Stopping.{put_all-append}
 
@@ -41,24 +42,46 @@ among : (c a b : ℕ) → (c ≡ a) ⊎ (c ≡ b) → (c == a || c == b) ≡ tru
 among c a b (inl e) = ap (λ (t : Bool). t || c == b) (eq-eqb c a e)
 among c a b (inr e) = ap (λ (t : Bool). c == a || t) (eq-eqb c b e) ∙ or_right (c == a)
 
-one_is : (dst func arg : ℕ) (work : Work) → IsOneWork dst func arg work → IsOfOne dst work
+one_is : (dst func arg : ℕ) (work : Work) → IsOneWork dst func arg work → IsOfOne dst func arg work
 one_is dst func arg work w = record {
   kind = w.kind;
   mask = λ c. member_is work.mask c (c == dst) (c ≡ dst) (w.mask c) (eqb-true c dst) (eq-eqb c dst);
   active = λ c. member_is work.active c (c == dst) (c ≡ dst) (ap (λ (m : ℕ). has m c) w.active ∙ w.mask c) (eqb-true c dst) (eq-eqb c dst);
+  calls = (w.func_is, w.arg_is);
 }
 
-two_is : (a b func arg : ℕ) (work : Work) → IsTwoWork a b func arg work → IsOfTwo a b work
+two_is : (a b func arg : ℕ) (work : Work) → IsTwoWork a b func arg work → IsOfTwo a b func arg work
 two_is a b func arg work w = record {
   kind = w.kind;
   mask = λ c. member_is work.mask c (c == a || c == b) ((c ≡ a) ⊎ (c ≡ b)) (w.mask c) (either c a b) (among c a b);
   active = λ c. member_is work.active c (c == a) (c ≡ a) (w.active c) (eqb-true c a) (eq-eqb c a);
+  calls = (w.func_is, w.arg_is);
 }
 
-all_is : (t : TableValue) (func arg : ℕ) (active : Option ℕ) (work : Work) → IsMachineWork t func arg active work → IsOfAll t work
+first_of : (online mask : ℕ) (active : Option ℕ) → active ≡ None → IsActive online active mask → IsFirstAlone online mask
+first_of online mask None e a = record {
+  first = a.0;
+  online_is = a.1.passing;
+  least = λ c h. a.1.least c h;
+  alone = λ c. member_is mask c (c == a.0) (c ≡ a.0) (a.2 c) (eqb-true c a.0) (eq-eqb c a.0);
+}
+first_of online mask (Some named) e a = absurd cc
+
+named_of : (online mask named : ℕ) (active : Option ℕ) → active ≡ Some named → IsActive online active mask → (c : ℕ)
+    → (has mask c ≡ true) ↔ (has named c ≡ true)
+named_of online mask named None e a c = absurd cc
+named_of online mask named (Some other) e a c =
+    let is : mask ≡ named = a ∙ (let s : other ≡ named = cc in s) in
+    ((λ h. sym (ap (λ (m : ℕ). has m c) is) ∙ h), λ h. ap (λ (m : ℕ). has m c) is ∙ h)
+
+all_is : (t : TableValue) (func arg : ℕ) (active : Option ℕ) (work : Work) → IsMachineWork t func arg active work
+    → IsOfAll t func arg active work
 all_is t func arg active work w = record {
   kind = w.kind;
   mask = λ c. ((λ h. sym (ap (λ (m : ℕ). has m c) w.mask) ∙ h), λ h. ap (λ (m : ℕ). has m c) w.mask ∙ h);
+  first = λ e. first_of t.setting.online work.active active e w.active_is;
+  named = λ mask e. named_of t.setting.online work.active mask active e w.active_is;
+  calls = (w.func_is, w.arg_is);
 }
 
 pub works_are : WorksAreOfTheirCpus
@@ -135,7 +158,7 @@ below x false c low = refl
 
 module _ {H F : Type 0} (hears : H → Heard → H → Type 0) (runs : F → Called → F → Type 0) where
   pub stops_once : StopsAreMadeOnce hears runs
-  stops_once long work old new h h' f f' answer s = record {
+  stops_once moves work old new h h' f f' answer s = record {
     begun = ap (λ (o : Own). o.begun) s.works.own_is;
     word = s.word;
     collected = ap (λ (o : Own). o.collected) s.works.own_is;
@@ -164,3 +187,12 @@ keep_order items taken put views source next at to rule takes puts =
     let own = rule.each at (Takes next taken) takes in
     let its = rule.each to (Puts source put) puts in
     its.2 ∙ (ap (λ (l : List Item). items_by source (l ++ items)) (sym own.2) ∙ items_filter source (taken ++ items))
+
+pub are_taken : WorksAreTaken
+are_taken = record {
+  taken = λ old new x t. ap (λ (p : PassesValue). p.taken) t.0;
+  known = λ old new x t. let k = t.1.1 in (k.items, k.views, t.1.0, k.port, k.in_order, k.at);
+  entered = λ t old new x slot e.
+      let r = e.1.1 in
+      (record { slot = slot; work = r.work; acked = 0 }, ap (λ (c : StopCpuValue). c.inside) r.is, e.0, r.member);
+}

@@ -1,60 +1,109 @@
 -- A stop, out of its parts.
 use Rattle.std.proofs.Common.{◌≡◌, ℕ, ℤ, Bool, true, false, true≢false, ◌||◌}
 use Rattle.std.proofs.Common.{List, [], ◌∷◌, ◌++◌, slice_index_or}
-use Rattle.std.proofs.Common.{inl, inr, refl, sym, ap, ◌∙◌, subst}
+use Rattle.std.proofs.Common.{inl, inr, refl, sym, ap, ◌∙◌, subst, append_assoc}
 use Rattle.std.proofs.lemmas.Bool.{cases_eq, ne_eqb}
-use Rattle.std.proofs.lemmas.List.{get_or-set_other}
+use Rattle.std.proofs.lemmas.List.{append-nil, get_or-set_other}
+use Rattle.std.proofs.lemmas.List.Elements.{filter-append}
 use Rattle.smp_mask.specs.Mask.{members}
 use Rattle.smp_queue.specs.declared.handler.Heard.{Heard}
 use Rattle.smp_calls.specs.Queued.{is_in}
 use Rattle.smp_calls.proofs.Round.{is_in-append}
-use Rattle.smp_multi.specs.Cpu.{CpuValue, gated, begins, collects}
-use Rattle.smp_multi.specs.Names.{Work}
+use Rattle.smp_multi.specs.Cpu.{CpuValue, begins, collects, takes_gate, gives_gate, misses_gate, looks_in_vain}
+use Rattle.smp_stop_steps.specs.declared.known.OwnMove.TheVariants.{Busy, Took, Gave, Began, NotDone, Collected}
+use Rattle.smp_machine.specs.Moves.{told, tells, short_stop, long_stop, stop_moves}
+use Rattle.smp_multi.specs.Names.{OwnMove, Work}
 use Rattle.smp_multi.specs.Polls.{IsLastResult}
 use Rattle.smp_multi.specs.declared.func.Called.{Called}
 use Rattle.smp_machine.specs.declared.work_queue.Item.{Item}
 use Rattle.smp_machine.specs.declared.work_queue.Knows.TheVariants.{Puts}
 use Rattle.smp_machine.specs.WorkQueue.{IsKnown}
-use Rattle.smp_machine.specs.Own.{Own, own_of, with_gate, with_begun, with_put, with_collected, put_one, put_all}
+use Rattle.smp_machine.specs.Own.{Own, own_of, with_gate, with_begun, with_put, with_collected, with_moves, put_one, put_all}
+use Rattle.smp_machine.specs.Served.{IsLater}
 use Rattle.smp_machine.specs.Passes.{puts}
 use Rattle.smp_machine.specs.Place.{PlaceValue}
-use Rattle.smp_machine.specs.Stops.{item, with_queued, AreShown, HasCollected, HasStopped}
+use Rattle.smp_machine.specs.Stops.{item, with_queued, with_stop, AreShown, HasCollected, HasStopped}
 use Rattle.smp_machine.specs.Works.{Works}
 use Rattle.smp_machine.proofs.Served.{later_still, later_same, later_begun, later_collected}
 use Rattle.smp_machine.proofs.Works.{works_still, works_as, works_both}
+
+-- ---- a list of moves
+
+pub told_more : (old more : List OwnMove) → told (old ++ more) ≡ told old ++ told more
+told_more old more = filter-append tells old more
+
+-- of moves that tell nothing
+told_same : (old more : List OwnMove) → told more ≡ [] → told (old ++ more) ≡ told old
+told_same old more none = told_more old more ∙ (ap (λ (l : List OwnMove). told old ++ l) none ∙ append-nil (told old))
+
+pub moves_of_four : (l xs : List OwnMove) (a b : OwnMove) → ((l ++ xs) ++ a ∷ []) ++ b ∷ [] ≡ l ++ (xs ++ a ∷ b ∷ [])
+moves_of_four l xs a b = append_assoc (l ++ xs) (a ∷ []) (b ∷ []) ∙ append_assoc l xs (a ∷ b ∷ [])
+
+-- ---- a stop and its parts
 
 pub put_all-append : (x : Item) (xs ys : List ℕ) (put : List (List Item)) → put_all x (xs ++ ys) put ≡ put_all x ys (put_all x xs put)
 put_all-append x [] ys put = refl
 put_all-append x (cpu ∷ xs) ys put = put_all-append x xs ys (put_one x cpu put)
 
 module _ {H F : Type 0} (hears : H → Heard → H → Type 0) (runs : F → Called → F → Type 0) where
-  -- one step of the own stop
-  pub works_gate : (p new : PlaceValue) (h : H) (f : F) (b : Bool) → new ≡ record p { stops = gated b p.stops }
-      → Works hears runs p h f new h f (with_gate b (own_of p))
-  works_gate p new h f b e =
-      subst (λ (x : PlaceValue). Works hears runs p h f x h f (with_gate b (own_of p))) (sym e)
-      (works_still hears runs p (record p { stops = gated b p.stops }) h f refl
-      (later_still p.stops (gated b p.stops) refl refl refl refl refl refl) refl refl refl refl refl refl)
+  -- one step of the own stop: what it makes of the own part is this
+  pub works_step : (p new : PlaceValue) (h : H) (f : F) (s : CpuValue) (own : Own) → new ≡ record p { stops = s } → IsLater p.stops s
+      → s.part.calls ≡ p.stops.part.calls → s.part.answers ≡ p.stops.part.answers → s.inside ≡ p.stops.inside
+      → own_of (record p { stops = s }) ≡ own → Works hears runs p h f new h f own
+  works_step p new h f s own e later calls answers inside is =
+      subst (λ (x : PlaceValue). Works hears runs p h f x h f own) (sym e)
+      (works_as hears runs own is (works_still hears runs p (record p { stops = s }) h f refl later calls answers inside refl refl refl))
+
+  pub works_take : (p new : PlaceValue) (h : H) (f : F) → new ≡ record p { stops = takes_gate p.stops }
+      → Works hears runs p h f new h f (with_moves (Took ∷ []) (with_gate true (own_of p)))
+  works_take p new h f e =
+      let s = takes_gate p.stops in
+      works_step p new h f s (with_moves (Took ∷ []) (with_gate true (own_of p))) e
+      (later_still p.stops s refl refl refl refl refl refl (Took ∷ [], refl)) refl refl refl
+      (λ i. record (with_gate true (own_of p)) { moves = told_more p.stops.moves (Took ∷ []) i })
+
+  -- a try of the gate, or a look at done, in vain
+  pub works_missed : (p new : PlaceValue) (h : H) (f : F) → new ≡ record p { stops = misses_gate p.stops } → Works hears runs p h f new h f (own_of p)
+  works_missed p new h f e =
+      let s = misses_gate p.stops in
+      works_step p new h f s (own_of p) e (later_still p.stops s refl refl refl refl refl refl (Busy ∷ [], refl)) refl refl refl
+      (λ i. record (own_of p) { moves = told_same p.stops.moves (Busy ∷ []) refl i })
+
+  pub works_looked : (p new : PlaceValue) (h : H) (f : F) → new ≡ record p { stops = looks_in_vain p.stops } → Works hears runs p h f new h f (own_of p)
+  works_looked p new h f e =
+      let s = looks_in_vain p.stops in
+      works_step p new h f s (own_of p) e (later_still p.stops s refl refl refl refl refl refl (NotDone ∷ [], refl)) refl refl refl
+      (λ i. record (own_of p) { moves = told_same p.stops.moves (NotDone ∷ []) refl i })
+
+  pub works_give : (p new : PlaceValue) (h : H) (f : F) → new ≡ record p { stops = gives_gate p.stops }
+      → Works hears runs p h f new h f (with_moves (Gave ∷ []) (with_gate false (own_of p)))
+  works_give p new h f e =
+      let s = gives_gate p.stops in
+      works_step p new h f s (with_moves (Gave ∷ []) (with_gate false (own_of p))) e
+      (later_still p.stops s refl refl refl refl refl refl (Gave ∷ [], refl)) refl refl refl
+      (λ i. record (with_gate false (own_of p)) { moves = told_more p.stops.moves (Gave ∷ []) i })
 
   pub works_begin : (p new : PlaceValue) (h : H) (f : F) (work : Work) → new ≡ record p { stops = begins work p.stops }
-      → Works hears runs p h f new h f (with_begun work (own_of p))
+      → Works hears runs p h f new h f (with_moves (Began work ∷ []) (with_begun work (own_of p)))
   works_begin p new h f work e =
-      subst (λ (x : PlaceValue). Works hears runs p h f x h f (with_begun work (own_of p))) (sym e)
-      (works_still hears runs p (record p { stops = begins work p.stops }) h f refl
-      (later_begun p.stops (begins work p.stops) (work ∷ []) refl refl refl refl refl refl) refl refl refl refl refl refl)
+      let s = begins work p.stops in
+      works_step p new h f s (with_moves (Began work ∷ []) (with_begun work (own_of p))) e
+      (later_begun p.stops s (work ∷ []) refl refl refl refl refl refl (Began work ∷ [], refl)) refl refl refl
+      (λ i. record (with_begun work (own_of p)) { moves = told_more p.stops.moves (Began work ∷ []) i })
+
+  pub works_collect : (p new : PlaceValue) (h : H) (f : F) (word : ℕ) → new ≡ record p { stops = collects word p.stops }
+      → Works hears runs p h f new h f (with_moves (Collected word ∷ []) (with_collected word (own_of p)))
+  works_collect p new h f word e =
+      let s = collects word p.stops in
+      works_step p new h f s (with_moves (Collected word ∷ []) (with_collected word (own_of p))) e
+      (later_collected p.stops s (word ∷ []) refl refl refl refl refl refl (Collected word ∷ [], refl)) refl refl refl
+      (λ i. record (with_collected word (own_of p)) { moves = told_more p.stops.moves (Collected word ∷ []) i })
 
   pub works_put : (p new : PlaceValue) (h : H) (f : F) (cpu : ℕ) (x : Item) → new ≡ record p { passes = puts cpu x p.passes }
       → Works hears runs p h f new h f (with_put x (cpu ∷ []) (own_of p))
   works_put p new h f cpu x e =
       subst (λ (y : PlaceValue). Works hears runs p h f y h f (with_put x (cpu ∷ []) (own_of p))) (sym e)
       (works_still hears runs p (record p { passes = puts cpu x p.passes }) h f refl (later_same p.stops) refl refl refl refl refl refl)
-
-  pub works_collect : (p new : PlaceValue) (h : H) (f : F) (word : ℕ) → new ≡ record p { stops = collects word p.stops }
-      → Works hears runs p h f new h f (with_collected word (own_of p))
-  works_collect p new h f word e =
-      subst (λ (x : PlaceValue). Works hears runs p h f x h f (with_collected word (own_of p))) (sym e)
-      (works_still hears runs p (record p { stops = collects word p.stops }) h f refl
-      (later_collected p.stops (collects word p.stops) (word ∷ []) refl refl refl refl refl refl) refl refl refl refl refl refl)
 
   -- after a stretch in which the CPU has made none
   pub works_after : {old mid new : PlaceValue} {h h₁ h₂ : H} {f f₁ f₂ : F} (g : Own → Own) → Works hears runs old h f mid h₁ f₁ (own_of old)
@@ -79,19 +128,25 @@ module _ {H F : Type 0} (hears : H → Heard → H → Type 0) (runs : F → Cal
 
   -- a stop until its works are queued
   pub stop_queued : {old m₁ m₂ m₃ : PlaceValue} {h h₁ h₃ : H} {f f₁ f₃ : F} (work : Work)
-      → Works hears runs old h f m₁ h₁ f₁ (with_gate true (own_of old))
+      → Works hears runs old h f m₁ h₁ f₁ (with_moves (Took ∷ []) (with_gate true (own_of old)))
       → m₂ ≡ record m₁ { stops = begins work m₁.stops }
       → Works hears runs m₂ h₁ f₁ m₃ h₃ f₃ (with_put (item m₂.stops.number work) (members work.mask) (own_of m₂))
       → Works hears runs old h f m₃ h₃ f₃ (with_queued old.stops.number work (own_of old))
   stop_queued {old} {m₁} {m₂} {m₃} {h} {h₁} {h₃} {f} {f₁} {f₃} work a e b =
       let number : m₂.stops.number ≡ old.stops.number = ap (λ (p : PlaceValue). p.stops.number) e ∙ a.number_is in
-      let two = works_both hears runs (with_gate true) (with_begun work) a (works_begin m₁ m₂ h₁ f₁ work e) in
-      works_both hears runs (λ o. with_begun work (with_gate true o)) (with_put (item old.stops.number work) (members work.mask)) two
-      (subst (λ (n : ℕ). Works hears runs m₂ h₁ f₁ m₃ h₃ f₃ (with_put (item n work) (members work.mask) (own_of m₂))) number b)
+      let took = λ (o : Own). with_moves (Took ∷ []) (with_gate true o) in
+      let began = λ (o : Own). with_moves (Began work ∷ []) (with_begun work o) in
+      let two = works_both hears runs took began a (works_begin m₁ m₂ h₁ f₁ work e) in
+      works_as hears runs (with_queued old.stops.number work (own_of old))
+      (λ i. record (with_queued old.stops.number work (own_of old)) {
+        moves = append_assoc (own_of old).moves (Took ∷ []) (Began work ∷ []) i;
+      })
+      (works_both hears runs (λ o. began (took o)) (with_put (item old.stops.number work) (members work.mask)) two
+      (subst (λ (n : ℕ). Works hears runs m₂ h₁ f₁ m₃ h₃ f₃ (with_put (item n work) (members work.mask) (own_of m₂))) number b))
 
--- a result stays the last one, with the gate or without
-last_gated : (b : Bool) (c : CpuValue) (word : ℕ) → IsLastResult c word → IsLastResult (gated b c) word
-last_gated b c word r = record {
+-- a result stays the last one once the gate is given up
+last_given : (c : CpuValue) (word : ℕ) → IsLastResult c word → IsLastResult (gives_gate c) word
+last_given c word r = record {
   work = r.work;
   answer = r.answer;
   works = r.works;
@@ -113,8 +168,8 @@ last_gated b c word r = record {
   };
 }
 
-pub last_open : {p new : PlaceValue} {word : ℕ} → new ≡ record p { stops = gated false p.stops } → IsLastResult p.stops word → IsLastResult new.stops word
-last_open {p} {new} {word} e r = subst (λ (q : PlaceValue). IsLastResult q.stops word) (sym e) (last_gated false p.stops word r)
+pub last_open : {p new : PlaceValue} {word : ℕ} → new ≡ record p { stops = gives_gate p.stops } → IsLastResult p.stops word → IsLastResult new.stops word
+last_open {p} {new} {word} e r = subst (λ (q : PlaceValue). IsLastResult q.stops word) (sym e) (last_given p.stops word r)
 
 -- the law of the queues, over those that were put to
 or_left : (b : Bool) → (b || (false || false)) ≡ true → b ≡ true
@@ -146,14 +201,18 @@ module _ {H F : Type 0} (hears : H → Heard → H → Type 0) (runs : F → Cal
       → n ≡ old.stops.number
       → Works hears runs old h f m₃ h₃ f₃ (with_queued old.stops.number work (own_of old))
       → AreShown n (members work.mask) m₃.passes.put → HasCollected hears runs m₃ h₃ f₃ m₄ h₄ f₄ v
-      → new ≡ record m₄ { stops = gated false m₄.stops } → HasStopped hears runs true work old h f new h₄ f₄ u
+      → new ≡ record m₄ { stops = gives_gate m₄.stops } → HasStopped hears runs long_stop work old h f new h₄ f₄ u
   stop_long {old} {m₃} {m₄} {new} {n} {h} {h₃} {h₄} {f} {f₃} {f₄} work u v same number a shown c e =
       let put = with_queued old.stops.number work in
-      let three = works_both hears runs put (with_collected c.word) a c.works in record {
+      let got = λ (o : Own). with_moves (Collected c.word ∷ []) (with_collected c.word o) in
+      let gave = λ (o : Own). with_moves (Gave ∷ []) (with_gate false o) in
+      let left = with_stop long_stop old.stops.number work c.word (own_of old) in
+      let three = works_both hears runs put got a c.works in record {
         word = c.word;
         answer_is = same ∙ c.answer_is;
-        gate = (m₄, three, e);
-        works = works_both hears runs (λ (o : Own). with_collected c.word (put o)) (with_gate false) three (works_gate hears runs m₄ new h₄ f₄ false e);
+        works = works_as hears runs left
+            (λ i. record left { moves = moves_of_four (own_of old).moves (Took ∷ Began work ∷ []) (Collected c.word) Gave i })
+            (works_both hears runs (λ (o : Own). got (put o)) gave three (works_give hears runs m₄ new h₄ f₄ e));
         result = last_open e c.result;
         shown = shown_at number refl (sym (ap (λ (p : PlaceValue). p.passes.put) e ∙ ap (λ (o : Own). o.put) c.works.own_is)) shown;
         outside = ap (λ (p : PlaceValue). p.stops.inside) e ∙ c.outside;
@@ -163,15 +222,19 @@ module _ {H F : Type 0} (hears : H → Heard → H → Type 0) (runs : F → Cal
   pub stop_short : {old m₃ m₄ new : PlaceValue} {n : ℕ} {h h₃ h₅ : H} {f f₃ f₅ : F} (work : Work) (u v : ℤ) → u ≡ v
       → n ≡ old.stops.number
       → Works hears runs old h f m₃ h₃ f₃ (with_queued old.stops.number work (own_of old))
-      → AreShown n (members work.mask) m₃.passes.put → m₄ ≡ record m₃ { stops = gated false m₃.stops }
-      → HasCollected hears runs m₄ h₃ f₃ new h₅ f₅ v → HasStopped hears runs false work old h f new h₅ f₅ u
+      → AreShown n (members work.mask) m₃.passes.put → m₄ ≡ record m₃ { stops = gives_gate m₃.stops }
+      → HasCollected hears runs m₄ h₃ f₃ new h₅ f₅ v → HasStopped hears runs short_stop work old h f new h₅ f₅ u
   stop_short {old} {m₃} {m₄} {new} {n} {h} {h₃} {h₅} {f} {f₃} {f₅} work u v same number a shown e c =
       let put = with_queued old.stops.number work in
-      let three = works_both hears runs put (with_gate false) a (works_gate hears runs m₃ m₄ h₃ f₃ false e) in record {
+      let gave = λ (o : Own). with_moves (Gave ∷ []) (with_gate false o) in
+      let got = λ (o : Own). with_moves (Collected c.word ∷ []) (with_collected c.word o) in
+      let left = with_stop short_stop old.stops.number work c.word (own_of old) in
+      let three = works_both hears runs put gave a (works_give hears runs m₃ m₄ h₃ f₃ e) in record {
         word = c.word;
         answer_is = same ∙ c.answer_is;
-        gate = (m₃, h₃, f₃, a, subst (λ (p : PlaceValue). Works hears runs p h₃ f₃ new h₅ f₅ (with_collected c.word (own_of p))) e c.works);
-        works = works_both hears runs (λ (o : Own). with_gate false (put o)) (with_collected c.word) three c.works;
+        works = works_as hears runs left
+            (λ i. record left { moves = moves_of_four (own_of old).moves (Took ∷ Began work ∷ []) Gave (Collected c.word) i })
+            (works_both hears runs (λ (o : Own). gave (put o)) got three c.works);
         result = c.result;
         shown = shown_at number refl (sym (ap (λ (o : Own). o.put) c.works.own_is ∙ ap (λ (p : PlaceValue). p.passes.put) e)) shown;
         outside = c.outside;
@@ -179,12 +242,13 @@ module _ {H F : Type 0} (hears : H → Heard → H → Type 0) (runs : F → Cal
 
   -- the same, long or not
   pub stop_as : {old new : PlaceValue} {h h' : H} {f f' : F} {work : Work} {v : ℤ} {long is_long : Bool} → is_long ≡ long
-      → HasStopped hears runs long work old h f new h' f' v → HasStopped hears runs is_long work old h f new h' f' v
-  stop_as {old} {new} {h} {h'} {f} {f'} {work} {v} e = subst (λ (b : Bool). HasStopped hears runs b work old h f new h' f' v) (sym e)
+      → HasStopped hears runs (stop_moves long) work old h f new h' f' v → HasStopped hears runs (stop_moves is_long) work old h f new h' f' v
+  stop_as {old} {new} {h} {h'} {f} {f'} {work} {v} e =
+      subst (λ (b : Bool). HasStopped hears runs (stop_moves b) work old h f new h' f' v) (sym e)
 
   -- the same stop, as callers see its CPU and its answer
-  pub stop_seen : {old seen new : PlaceValue} {h h' : H} {f f' : F} {long : Bool} {work : Work} (u v : ℤ) → old ≡ seen → u ≡ v
-      → HasStopped hears runs long work old h f new h' f' v → HasStopped hears runs long work seen h f new h' f' u
-  stop_seen {old} {seen} {new} {h} {h'} {f} {f'} {long} {work} u v e same s =
-      subst (λ (p : PlaceValue). HasStopped hears runs long work p h f new h' f' u) e
-      (subst (λ (x : ℤ). HasStopped hears runs long work old h f new h' f' x) (sym same) s)
+  pub stop_seen : {old seen new : PlaceValue} {h h' : H} {f f' : F} {moves : Work → ℕ → List OwnMove} {work : Work} (u v : ℤ)
+      → old ≡ seen → u ≡ v → HasStopped hears runs moves work old h f new h' f' v → HasStopped hears runs moves work seen h f new h' f' u
+  stop_seen {old} {seen} {new} {h} {h'} {f} {f'} {moves} {work} u v e same s =
+      subst (λ (p : PlaceValue). HasStopped hears runs moves work p h f new h' f' u) e
+      (subst (λ (x : ℤ). HasStopped hears runs moves work old h f new h' f' x) (sym same) s)

@@ -30,7 +30,7 @@ use Rattle.smp_machine.specs.Place.{PlaceValue, HasNotLeft}
 use Rattle.smp_machine.specs.Works.{handled_calls, stop_call, turned, HasRun, Works, Hears, LooksOnce, LooksIfOn, StopMoves, GoesRound}
 use Rattle.smp_machine.specs.Served.{KeepsVisits}
 use Rattle.smp_machine.specs.Works.{completed, StaysIn, TurnsStop}
-use Rattle.smp_machine.proofs.Served.{later_called, keeps_still, keeps_inside, keeps_answer, serves_none}
+use Rattle.smp_machine.proofs.Served.{beginning_still, later_called, keeps_still, keeps_inside, keeps_answer, serves_none}
 
 module _ {H : Type 0} (hears : H → Heard → H → Type 0) where
   -- one look, by what `handle` answers
@@ -84,7 +84,8 @@ works_turn hears leads {old} {mid} {new} {h} {h'} {f} {f'} l calls passes s =
       queues_are = ap (λ (x : PassesValue). x.queues) passed;
       passes_number = ap (λ (x : PassesValue). x.number) passed;
       later = later_called old.stops new.stops (map stop_call k.ran) table setting number (ap (λ (x : StopCpuValue). x.part.begun) k.kept)
-          (ap (λ (x : StopCpuValue). x.part.collected) k.kept) k.calls_are;
+          (ap (λ (x : StopCpuValue). x.part.collected) k.kept) k.calls_are
+          (beginning_still old.stops.moves new.stops.moves (ap (λ (x : StopCpuValue). x.moves) k.kept));
       serves = serves_none old new (ap (λ (x : PassesValue). x.taken) passed) k.keeps;
       own_is = λ i. own_of (record { calls = new.calls; stops = k.kept i; passes = passed i });
     }

@@ -6,6 +6,16 @@ pub mod Passes
 pub mod Place
 -- what a family of calls leaves of its CPU
 pub mod Calls
+-- its own moves at the gate, at its stop and at keys
+pub mod Moves
+-- what each family answers
+pub mod Answers
+-- a CPU with its machine, its handler and its stop function
+pub mod Seats
+-- what CPUs have done, each on a thread of its own
+pub mod Crews
+-- their threads
+pub mod Threads
 -- what only a CPU's own stop calls change
 pub mod Own
 -- what became of the works that it has taken
@@ -26,3 +36,5 @@ pub mod Counts
 pub mod ReadLaws
 -- what these definitions come to
 pub mod StopLaws
+-- when a CPU takes the gate and gives it up
+pub mod GateLaws

@@ -2,10 +2,13 @@
 use Rattle.std.specs.Prelude.{ℕ, Bool, Option, Some, None, List, [], ◌∷◌, ◌++◌, slice_index_or, slice_set}
 use Rattle.smp_multi.specs.Names.{Work, Moved}
 use Rattle.smp_machine.specs.declared.work_queue.Item.{Item}
+use Rattle.smp_multi.specs.Names.{OwnMove}
+use Rattle.smp_machine.specs.Moves.{told}
 use Rattle.smp_machine.specs.Place.{PlaceValue}
 
 -- whether it holds the gate, the work of its stop that is not collected, the stops that it has begun, the results that it
--- has collected, by how much it has nudged each key, and what it has put into the queues
+-- has collected, by how much it has nudged each key, what it has put into the queues, and those of its own moves that tell
+-- more than that it waits
 pub record Own : Type 0 where
   pub gate : Bool
   pub pending : Option Work
@@ -13,6 +16,7 @@ pub record Own : Type 0 where
   pub collected : List ℕ
   pub nudged : List Moved
   pub put : List (List Item)
+  pub moves : List OwnMove
 
 abbrev pub own_of : PlaceValue → Own
 own_of p = record {
@@ -22,11 +26,16 @@ own_of p = record {
   collected = p.stops.part.collected;
   nudged = p.stops.part.nudged;
   put = p.passes.put;
+  moves = told p.stops.moves;
 }
 
 -- with the gate or without
 abbrev pub with_gate : Bool → Own → Own
 with_gate b o = record o { gate = b }
+
+-- with these moves
+abbrev pub with_moves : List OwnMove → Own → Own
+with_moves more o = record o { moves = o.moves ++ more }
 
 -- with a stop begun
 abbrev pub with_begun : Work → Own → Own

@@ -38,7 +38,7 @@ pub record FindsStale (c : StopCpuValue) (source : ℕ) : Type 0 where
 abbrev pub IsBeginning : {A : Type 0} → List A → List A → Type 0
 IsBeginning {A} old new = (more : List A) × (new ≡ old ++ more)
 
--- a CPU at a later time: what it has begun, collected and called is still there
+-- a CPU at a later time: what it has begun, collected, called and done at the gate, at its own stop and at keys is still there
 pub record IsLater (old new : StopCpuValue) : Type 0 where
   pub table_is : new.table ≡ old.table
   pub setting_is : new.setting ≡ old.setting
@@ -46,6 +46,7 @@ pub record IsLater (old new : StopCpuValue) : Type 0 where
   pub begun : IsBeginning old.part.begun new.part.begun
   pub collected : IsBeginning old.part.collected new.part.collected
   pub calls : IsBeginning old.part.calls new.part.calls
+  pub moves : IsBeginning old.moves new.moves
 
 -- between two times of a CPU a work of this source was stale
 pub record WasStale (old new : StopCpuValue) (source : ℕ) : Type 0 where

@@ -1,5 +1,5 @@
 -- What the definitions of stops, polls and queues come to, in words that do not use them.
-use Rattle.std.specs.Prelude.{filter, ◌≡◌, ◌⊎◌, ◌↔◌, ℕ, ℤ, ◌<◌, ◌==◌, Bool, true, if◌then◌else◌, Option, List, [], ◌∷◌, ◌++◌, length}
+use Rattle.std.specs.Prelude.{filter, ◌≡◌, ◌⊎◌, ◌↔◌, ℕ, ℤ, ◌<◌, ◌==◌, true, if◌then◌else◌, Option, Some, None, ◌≤◌, List, [], ◌∷◌, ◌++◌, length}
 use mathlib.Core.Option.{some}
 use lib.ListN.{get_elem?}
 use Rattle.smp_mask.specs.Mask.{has}
@@ -7,41 +7,55 @@ use Rattle.smp_words.specs.Size.{cpus}
 use Rattle.smp_queue.specs.Cpu.{CpuValue as CallCpuValue}
 use Rattle.smp_queue.specs.declared.handler.Heard.{Heard}
 use Rattle.smp_multi.specs.Answers.{answer_in}
-use Rattle.smp_multi.specs.Cpu.{TableValue}
-use Rattle.smp_multi.specs.Names.{Work, One, Multi}
+use Rattle.smp_multi.specs.Cpu.{TableValue, CpuValue as StopCpuValue, Inside}
+use Rattle.smp_multi.specs.Names.{OwnMove, Work, One, Multi}
 use Rattle.smp_multi.specs.declared.func.Called.{Called}
 use Rattle.smp_machine.specs.declared.work_queue.Item.{Item}
 use Rattle.smp_machine.specs.declared.work_queue.Knows.{Knows}
 use Rattle.smp_machine.specs.declared.work_queue.Knows.TheVariants.{Takes, Puts}
 use Rattle.smp_machine.specs.Own.{Own}
-use Rattle.smp_machine.specs.Passes.{put_to}
+use Rattle.smp_machine.specs.Passes.{PassesValue, put_to}
 use Rattle.smp_machine.specs.Place.{PlaceValue}
 use Rattle.smp_machine.specs.Stops.{item, HasStopped, IsOneWork, IsTwoWork, IsMachineWork}
+use Rattle.smp_machine.specs.Takes.{TakesFront, EntersFront}
 use Rattle.smp_machine.specs.WorkQueue.{IsInOrder}
 use Rattle.smp_machine.specs.Works.{Works}
 
 -- a stop of one CPU is of that CPU alone, which is active, and no rendezvous
-pub record IsOfOne (dst : ℕ) (work : Work) : Type 0 where
+pub record IsOfOne (dst func arg : ℕ) (work : Work) : Type 0 where
   pub kind : work.kind ≡ One
   pub mask : (c : ℕ) → (has work.mask c ≡ true) ↔ (c ≡ dst)
   pub active : (c : ℕ) → (has work.active c ≡ true) ↔ (c ≡ dst)
+  pub calls : (work.func ≡ func) × (work.arg ≡ arg)
 
 -- a stop of two is a rendezvous of these two, and the first alone is active
-pub record IsOfTwo (a b : ℕ) (work : Work) : Type 0 where
+pub record IsOfTwo (a b func arg : ℕ) (work : Work) : Type 0 where
   pub kind : work.kind ≡ Multi
   pub mask : (c : ℕ) → (has work.mask c ≡ true) ↔ ((c ≡ a) ⊎ (c ≡ b))
   pub active : (c : ℕ) → (has work.active c ≡ true) ↔ (c ≡ a)
+  pub calls : (work.func ≡ func) × (work.arg ≡ arg)
 
--- a stop of the machine is a rendezvous of all CPUs that are online
-pub record IsOfAll (t : TableValue) (work : Work) : Type 0 where
+-- this CPU alone of these is in a mask: the first of them
+pub record IsFirstAlone (online mask : ℕ) : Type 0 where
+  pub first : ℕ
+  pub online_is : has online first ≡ true
+  pub least : (c : ℕ) → has online c ≡ true → first ≤ c
+  pub alone : (c : ℕ) → (has mask c ≡ true) ↔ (c ≡ first)
+
+-- a stop of the machine is a rendezvous of all CPUs that are online; active are those that are named, or the first that is online
+pub record IsOfAll (t : TableValue) (func arg : ℕ) (active : Option ℕ) (work : Work) : Type 0 where
   pub kind : work.kind ≡ Multi
   pub mask : (c : ℕ) → (has work.mask c ≡ true) ↔ (has t.setting.online c ≡ true)
+  pub first : active ≡ None → IsFirstAlone t.setting.online work.active
+  pub named : (these : ℕ) → active ≡ Some these → (c : ℕ) → (has work.active c ≡ true) ↔ (has these c ≡ true)
+  pub calls : (work.func ≡ func) × (work.arg ≡ arg)
 
 -- the works of the three stops
 pub record WorksAreOfTheirCpus : Type 0 where
-  pub one : (dst func arg : ℕ) (work : Work) → IsOneWork dst func arg work → IsOfOne dst work
-  pub two : (a b func arg : ℕ) (work : Work) → IsTwoWork a b func arg work → IsOfTwo a b work
-  pub all : (t : TableValue) (func arg : ℕ) (active : Option ℕ) (work : Work) → IsMachineWork t func arg active work → IsOfAll t work
+  pub one : (dst func arg : ℕ) (work : Work) → IsOneWork dst func arg work → IsOfOne dst func arg work
+  pub two : (a b func arg : ℕ) (work : Work) → IsTwoWork a b func arg work → IsOfTwo a b func arg work
+  pub all : (t : TableValue) (func arg : ℕ) (active : Option ℕ) (work : Work) → IsMachineWork t func arg active work
+      → IsOfAll t func arg active work
 
 -- a stop has begun one work, and collected its result, which is its answer; it has put the work once into the queue of each
 -- CPU of its mask, and nothing else anywhere
@@ -55,8 +69,8 @@ pub record StopsOnce (work : Work) (old new : PlaceValue) (answer : ℤ) : Type 
 
 -- each stop does so
 abbrev pub StopsAreMadeOnce : {H F : Type 0} → (H → Heard → H → Type 0) → (F → Called → F → Type 0) → Type 0
-StopsAreMadeOnce {H} {F} hears runs = (long : Bool) (work : Work) (old new : PlaceValue) (h h' : H) (f f' : F) (answer : ℤ)
-    → HasStopped hears runs long work old h f new h' f' answer → StopsOnce work old new answer
+StopsAreMadeOnce {H} {F} hears runs = (moves : Work → ℕ → List OwnMove) (work : Work) (old new : PlaceValue) (h h' : H) (f f' : F) (answer : ℤ)
+    → HasStopped hears runs moves work old h f new h' f' answer → StopsOnce work old new answer
 
 -- a CPU has sent no call, and owes, has confirmed and has logged what it had
 pub record SendsNothing (old new : CallCpuValue) : Type 0 where
@@ -76,3 +90,12 @@ abbrev pub QueuesKeepOrder : Type 0
 QueuesKeepOrder = (items taken put : List Item) (views : List Knows) (source next at to : ℕ) → IsInOrder items views
     → get_elem? views at ≡ some (Takes next taken) → get_elem? views to ≡ some (Puts source put)
     → put ≡ filter (λ x. x.slot == source) (taken ++ items)
+
+-- what is taken comes behind what was taken before; the taker knows it of a queue that keeps its rule; and it enters the stop of
+-- the source by whom the work was put, which is for it
+pub record WorksAreTaken : Type 0 where
+  pub taken : (old new : PassesValue) (x : Item) → TakesFront old new (Some x) → new.taken ≡ old.taken ++ x ∷ []
+  pub known : (old new : PassesValue) (x : Item) → TakesFront old new (Some x)
+      → (items : List Item) × (views : List Knows) × (next at : ℕ) × IsInOrder items views × (get_elem? views at ≡ some (Takes next new.taken))
+  pub entered : (t : TableValue) (old new : StopCpuValue) (x : Item) (slot : ℕ) → EntersFront t old new (Some x) (Some slot)
+      → (stop : Inside) × (new.inside ≡ Some stop) × (stop.slot ≡ x.slot) × (has stop.work.mask old.number ≡ true)

@@ -1,6 +1,6 @@
 -- What a stop call makes of its CPU.
 use Rattle.std.specs.Prelude.{◌≡◌, ◌≢◌, ◌⊎◌, ℕ, ℤ, ◌==◌, ◌||◌, Bool, true, false, Option, Some, None}
-use Rattle.std.specs.Prelude.{List, [], length, slice_index_or}
+use Rattle.std.specs.Prelude.{List, [], ◌∷◌, length, slice_index_or}
 use Rattle.smp_mask.specs.Mask.{has, members, IsLeast}
 use Rattle.smp_mask.specs.declared.error.SmpError.{SmpError}
 use Rattle.smp_mask.specs.declared.error.SmpError.TheVariants as error
@@ -10,14 +10,16 @@ use Rattle.smp_stop_steps.specs.Starts.{begin_refusal}
 use Rattle.smp_stop_steps.specs.declared.start.Terms.{Terms}
 use Rattle.smp_multi.specs.Names.{Work, One, Multi}
 use Rattle.smp_multi.specs.Answers.{answer_in}
-use Rattle.smp_multi.specs.Cpu.{TableValue, gated}
+use Rattle.smp_multi.specs.Cpu.{TableValue}
 use Rattle.smp_multi.specs.Polls.{IsLastResult}
 use Rattle.smp_multi.specs.declared.func.Called.{Called}
 use Rattle.smp_machine.specs.declared.work_queue.Item.{Item}
 use Rattle.smp_machine.specs.declared.work_queue.Knows.TheVariants.{Puts}
 use Rattle.smp_machine.specs.WorkQueue.{IsKnown}
 use Rattle.smp_machine.specs.Place.{PlaceValue}
-use Rattle.smp_machine.specs.Own.{Own, own_of, with_gate, with_begun, with_put, with_collected}
+use Rattle.smp_multi.specs.Names.{OwnMove}
+use Rattle.smp_stop_steps.specs.declared.known.OwnMove.TheVariants.{Took, Began, Collected}
+use Rattle.smp_machine.specs.Own.{Own, own_of, with_gate, with_begun, with_put, with_collected, with_moves}
 use Rattle.smp_machine.specs.Works.{Works}
 
 -- what a refusal of begin depends on, at a CPU that holds the gate
@@ -38,10 +40,11 @@ MayBegin t work = begin_refusal (terms_at_gate t) work false ≡ None
 abbrev pub item : ℕ → Work → Item
 item source work = record { slot = source; work = work }
 
--- a stop of this work was begun, queued once for each CPU of its mask, and collected with this result word; the gate is
--- not the CPU's
-abbrev pub with_stop : ℕ → Work → ℕ → Own → Own
-with_stop source work word o = with_gate false (with_collected word (with_put (item source work) (members work.mask) (with_begun work o)))
+-- a stop of this work was begun, queued once for each CPU of its mask, and collected with this result word, by these moves; the
+-- gate is not the CPU's
+abbrev pub with_stop : (Work → ℕ → List OwnMove) → ℕ → Work → ℕ → Own → Own
+with_stop moves source work word o =
+    with_moves (moves work word) (with_gate false (with_collected word (with_put (item source work) (members work.mask) (with_begun work o))))
 
 -- the law of the queues: what this source has put into each of these queues are its items of all that were taken there,
 -- and then those that are there, in order
@@ -53,36 +56,22 @@ pub record HasCollected {H F : Type 0} (hears : H → Heard → H → Type 0) (r
     (new : PlaceValue) (h' : H) (f' : F) (answer : ℤ) : Type 0 where
   pub word : ℕ
   pub answer_is : answer ≡ answer_in word
-  pub works : Works hears runs old h f new h' f' (with_collected word (own_of old))
+  pub works : Works hears runs old h f new h' f' (with_moves (Collected word ∷ []) (with_collected word (own_of old)))
   pub result : IsLastResult new.stops word
   pub outside : new.stops.inside ≡ None
 
 -- the gate was taken, and a stop of this work begun, and queued once for each CPU of its mask
 abbrev pub with_queued : ℕ → Work → Own → Own
-with_queued source work o = with_put (item source work) (members work.mask) (with_begun work (with_gate true o))
+with_queued source work o = with_moves (Took ∷ Began work ∷ []) (with_put (item source work) (members work.mask) (with_begun work (with_gate true o)))
 
--- a CPU that gives the gate up
-abbrev pub gives_gate : PlaceValue → PlaceValue
-gives_gate p = record p { stops = gated false p.stops }
-
--- some value held the gate: for a long stop with its result collected, for any other with its works queued. The other parts
--- of a stop give such a value too, so this says nothing of when the gate was given up
-abbrev pub HoldsGate : {H F : Type 0} → (H → Heard → H → Type 0) → (F → Called → F → Type 0) → Bool → Work → ℕ → PlaceValue → H → F
-    → PlaceValue → H → F → Type 0
-HoldsGate hears runs true work word old h f new h' f' = (holder : PlaceValue)
-    × Works hears runs old h f holder h' f' (with_collected word (with_queued old.stops.number work (own_of old))) × (new ≡ gives_gate holder)
-HoldsGate {H} {F} hears runs false work word old h f new h' f' = (holder : PlaceValue) × (heard : H) × (called : F)
-    × Works hears runs old h f holder heard called (with_queued old.stops.number work (own_of old))
-    × Works hears runs (gives_gate holder) heard called new h' f' (with_collected word (own_of (gives_gate holder)))
-
--- a CPU that was in no stop has made a stop of this work, with this answer, and is in none. Its works were queued once for
--- each CPU of the mask
-pub record HasStopped {H F : Type 0} (hears : H → Heard → H → Type 0) (runs : F → Called → F → Type 0) (long : Bool) (work : Work)
+-- a CPU that was in no stop has made a stop of this work by these moves, with this answer, and is in none. Its works were queued
+-- once for each CPU of the mask
+pub record HasStopped {H F : Type 0} (hears : H → Heard → H → Type 0) (runs : F → Called → F → Type 0)
+    (moves : Work → ℕ → List OwnMove) (work : Work)
     (old : PlaceValue) (h : H) (f : F) (new : PlaceValue) (h' : H) (f' : F) (answer : ℤ) : Type 0 where
   pub word : ℕ
   pub answer_is : answer ≡ answer_in word
-  pub gate : HoldsGate hears runs long work word old h f new h' f'
-  pub works : Works hears runs old h f new h' f' (with_stop old.stops.number work word (own_of old))
+  pub works : Works hears runs old h f new h' f' (with_stop moves old.stops.number work word (own_of old))
   pub result : IsLastResult new.stops word
   pub shown : AreShown old.stops.number (members work.mask) new.passes.put
   pub outside : new.stops.inside ≡ None

@@ -3,16 +3,9 @@
 //! Each refuses with E4 where a work is in hand, and else lends the CPU, with its interrupts on, to the page that handles
 //! ([`crate::hearing`]). A CPU that waits in a family takes no part in a stop (Linux has preemption off there).
 
-ghost use Rattle.std.specs.Prelude.{◌≡◌, ◌≢◌, ◌⊎◌, ◌<◌, ℕ, true, false, None, Some, [], ◌∷◌, if◌then◌else◌, IfOk, IfErr};
-ghost use Rattle.smp_mask.specs.Mask.{has, members};
+ghost use Rattle.std.specs.Prelude.{◌<◌, ℕ};
 ghost use Rattle.smp_words.specs.Size.{cpus};
-ghost use Rattle.smp_queue.specs.Handling.{heard};
-ghost use Rattle.smp_calls.specs.Ended.{HaveEnded};
-ghost use Rattle.smp_calls.specs.Families.{CallsOne, CallsBy, CallsHere, CallsUserHere, CallsMany, QueuesNone, RefusesUser, HandlesNone};
-ghost use Rattle.smp_calls.specs.Records.{call_by, many_call, single_record, user_record, class_for};
-ghost use Rattle.smp_calls.specs.Rounds.{Picks};
-ghost use Rattle.smp_calls.specs.Targets.{IsAny, HasNone, is_target, remote};
-ghost use Rattle.smp_machine.specs.Calls.{KeepsStops, RefusedInHand};
+ghost use Rattle.smp_machine.specs.Answers.{SingleAnswers, AsyncAnswers, AnyAnswers, ManyAnswers, CondAnswers};
 ghost use Rattle.smp_machine.specs.Place.{IsAt};
 
 use crate::cpu::Cpu;
@@ -20,7 +13,6 @@ use crate::hearing::{any, each, many, single, single_async};
 use crate::machine::Machine;
 use smp_mask::{CpuMask, SmpError};
 use smp_queue::Handler;
-use smp_words::call::Class;
 use std::alloc::Allocator;
 use std::sync::Wait;
 
@@ -43,16 +35,7 @@ impl<A: Allocator> Machine<A> {
         wait: bool,
     ) -> Result<(), SmpError>
         requires at { IsAt self.now me.old }
-        ensures free { IfOk result (λ _. me.old.stops.inside ≡ None) }
-        ensures queued { IfOk result (λ _. dst ≢ me.old.calls.number → (has self.now.calls.online dst ≡ true)
-            × CallsOne H.leads me.old.calls handler.old me.new.calls handler.new dst func info wait) }
-        ensures here { IfOk result (λ _. dst ≡ me.old.calls.number → CallsHere H.leads me.old.calls handler.old me.new.calls handler.new func info wait) }
-        ensures refused { IfErr result (λ e. RefusedInHand e me.old handler.old me.new handler.new
-            ⊎ ((me.old.stops.inside ≡ None) × (e ≡ SmpError.NoCpu) × (dst ≢ me.old.calls.number) × (has self.now.calls.online dst ≡ false)
-            × QueuesNone H.leads me.old.calls handler.old me.new.calls handler.new wait)) }
-        ensures ended { IfOk result (λ _. wait ≡ true → dst ≢ me.old.calls.number →
-            HaveEnded me.new.calls (λ _. call_by me.old.calls.number (single_record true) Class.Sync func info) (dst ∷ [])) }
-        ensures kept { KeepsStops me.old me.new }
+        ensures { SingleAnswers H.leads self.now me.old handler.old me.new handler.new dst func info wait result }
     {
         if me.place.in_hand() {
             return Err(SmpError::BadArgument);
@@ -79,17 +62,7 @@ impl<A: Allocator> Machine<A> {
         info: u64,
     ) -> Result<(), SmpError>
         requires at { IsAt self.now me.old }
-        ensures free { IfOk result (λ _. me.old.stops.inside ≡ None) }
-        ensures record { IfOk result (λ _. u < 2) }
-        ensures queued { IfOk result (λ _. dst ≢ me.old.calls.number → (has self.now.calls.online dst ≡ true)
-            × CallsBy H.leads me.old.calls handler.old me.new.calls handler.new (user_record u) Class.Async dst func info false) }
-        ensures here { IfOk result (λ _. dst ≡ me.old.calls.number → CallsUserHere H.leads me.old.calls handler.old me.new.calls handler.new u func info) }
-        ensures still { HandlesNone me.old.calls me.new.calls }
-        ensures untouched { IfOk result (λ _. dst ≢ me.old.calls.number → handler.new ≡ handler.old) }
-        ensures called { IfOk result (λ _. dst ≡ me.old.calls.number → H.leads handler.old (heard me.old.calls.number func info) handler.new) }
-        ensures refused { IfErr result (λ e. RefusedInHand e me.old handler.old me.new handler.new
-            ⊎ ((me.old.stops.inside ≡ None) × RefusesUser self.now.calls.online me.old.calls me.new.calls u dst e × (handler.new ≡ handler.old))) }
-        ensures kept { KeepsStops me.old me.new }
+        ensures { AsyncAnswers H.leads self.now me.old handler.old me.new handler.new u dst func info result }
     {
         if me.place.in_hand() {
             return Err(SmpError::BadArgument);
@@ -116,17 +89,7 @@ impl<A: Allocator> Machine<A> {
         wait: bool,
     ) -> Result<u32, SmpError>
         requires at { IsAt self.now me.old }
-        ensures free { IfOk result (λ _. me.old.stops.inside ≡ None) }
-        ensures any { IfOk result (λ cpu. IsAny mask self.now.calls.online me.old.calls.number cpu) }
-        ensures queued { IfOk result (λ cpu. cpu ≢ me.old.calls.number →
-            CallsOne H.leads me.old.calls handler.old me.new.calls handler.new cpu func info wait) }
-        ensures here { IfOk result (λ cpu. cpu ≡ me.old.calls.number → CallsHere H.leads me.old.calls handler.old me.new.calls handler.new func info wait) }
-        ensures refused { IfErr result (λ e. RefusedInHand e me.old handler.old me.new handler.new
-            ⊎ ((me.old.stops.inside ≡ None) × (e ≡ SmpError.NoCpu) × HasNone mask self.now.calls.online me.old.calls.number
-            × (me.new.calls ≡ me.old.calls) × (handler.new ≡ handler.old))) }
-        ensures ended { IfOk result (λ cpu. wait ≡ true → cpu ≢ me.old.calls.number →
-            HaveEnded me.new.calls (λ _. call_by me.old.calls.number (single_record true) Class.Sync func info) (cpu ∷ [])) }
-        ensures kept { KeepsStops me.old me.new }
+        ensures { AnyAnswers H.leads self.now me.old handler.old me.new handler.new mask func info wait result }
     {
         if me.place.in_hand() {
             return Err(SmpError::BadArgument);
@@ -153,13 +116,7 @@ impl<A: Allocator> Machine<A> {
         wait: bool,
     ) -> Result<CpuMask, SmpError>
         requires at { IsAt self.now me.old }
-        ensures free { IfOk result (λ _. me.old.stops.inside ≡ None) }
-        ensures targets { IfOk result (λ called. (c : ℕ) → has called c ≡ is_target mask self.now.calls.online me.old.calls.number false c) }
-        ensures calls { IfOk result (λ called.
-            CallsMany H.leads me.old.calls handler.old me.new.calls handler.new (members called) (class_for wait) func info None wait) }
-        ensures ended { IfOk result (λ called. wait ≡ true → HaveEnded me.new.calls (many_call me.old.calls.number Class.Sync func info) (members called)) }
-        ensures refused { IfErr result (λ e. RefusedInHand e me.old handler.old me.new handler.new) }
-        ensures kept { KeepsStops me.old me.new }
+        ensures { ManyAnswers H.leads self.now me.old handler.old me.new handler.new mask func info wait result }
     {
         if me.place.in_hand() {
             return Err(SmpError::BadArgument);
@@ -188,16 +145,7 @@ impl<A: Allocator> Machine<A> {
     ) -> Result<CpuMask, SmpError>
         requires at { IsAt self.now me.old }
         requires condition { (c : ℕ) → c < cpus → C.pre cond.now c info }
-        ensures free { IfOk result (λ _. me.old.stops.inside ≡ None) }
-        ensures picks { IfOk result (λ called. Picks (λ c answer. C.post cond.now c info answer)
-            (is_target mask self.now.calls.online me.old.calls.number true) called) }
-        ensures calls { IfOk result (λ called.
-            CallsMany H.leads me.old.calls handler.old me.new.calls handler.new (remote me.old.calls.number called) (class_for wait)
-            func info (if has called me.old.calls.number then Some (heard me.old.calls.number func info) else None) wait) }
-        ensures ended { IfOk result (λ called. wait ≡ true →
-            HaveEnded me.new.calls (many_call me.old.calls.number Class.Sync func info) (remote me.old.calls.number called)) }
-        ensures refused { IfErr result (λ e. RefusedInHand e me.old handler.old me.new handler.new) }
-        ensures kept { KeepsStops me.old me.new }
+        ensures { CondAnswers H.leads self.now me.old handler.old me.new handler.new (λ c answer. C.post cond.now c info answer) mask func info wait result }
     {
         if me.place.in_hand() {
             return Err(SmpError::BadArgument);

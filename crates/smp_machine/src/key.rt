@@ -1,12 +1,14 @@
 //! A key is changed: by a patch of this CPU, for whose end it waits without taking part in any other stop.
 
-ghost use Rattle.std.specs.Prelude.{◌≡◌, ◌≢◌, ◌<◌, ℤ, Bool, true, false, None, Some};
+ghost use Rattle.std.specs.Prelude.{◌≡◌, ◌≢◌, ◌<◌, ℕ, true, false, None, Some, []};
+ghost use Rattle.smp_labels.specs.Keys.{is_on};
 ghost use Rattle.smp_stop_steps.specs.Tells.{first_readings};
-ghost use Rattle.smp_multi.specs.Cpu.{gated};
+ghost use Rattle.smp_multi.specs.Cpu.{gives_gate};
+ghost use Rattle.smp_machine.specs.Moves.{patch_after};
 ghost use Rattle.smp_multi.specs.Names.{ReadKey};
-ghost use Rattle.smp_multi.specs.Reads.{reads};
-ghost use Rattle.smp_machine.specs.Keys.{IsPatchOf, Reads, state_of};
-ghost use Rattle.smp_machine.specs.Own.{own_of, with_gate};
+ghost use Rattle.smp_multi.specs.Nudges.{loads_count};
+ghost use Rattle.smp_machine.specs.Keys.{IsPatchOf, Reads, Sets, state_of};
+ghost use Rattle.smp_machine.specs.Own.{own_of};
 ghost use Rattle.smp_machine.specs.Passes.{LastIsOwn};
 ghost use Rattle.smp_machine.specs.Place.{IsAt};
 ghost use Rattle.smp_machine.specs.Stops.{MayBegin, HasCollected, HasStopped};
@@ -124,7 +126,7 @@ pub(crate) fn patch<A: Allocator, R: Wait, H: Handler, F: StopFunc>(
     requires collected { me.old.stops.pending ≡ None }
     requires several { work.now.kind ≢ Kind.One }
     requires work { MayBegin machine.now.stops work.now }
-    ensures stopped { HasStopped H.leads F.leads true work.now me.old handler.old run.old me.new handler.new run.new result }
+    ensures stopped { HasStopped H.leads F.leads (patch_after []) work.now me.old handler.old run.old me.new handler.new run.new result }
     ensures read { me.new.stops.part.readings ≡ first_readings me.old.stops.number me.old.stops.number work.now }
     ensures last { LastIsOwn me.old.passes me.new.passes }
 {
@@ -141,7 +143,7 @@ fn read<A: Allocator>(machine: &Machine<A>, me: &mut Place<A>, k: u32) -> bool
     requires at { IsAt machine.now me.old }
     requires outside { me.old.stops.inside ≡ None }
     requires key { k < machine.now.stops.setting.labels.keys }
-    ensures { me.new ≡ record me.old { stops = reads (ReadKey k result) me.old.stops } }
+    ensures { (count : ℕ) × (is_on count ≡ result) × (me.new ≡ record me.old { stops = loads_count k count me.old.stops }) }
 {
     // Interrupts are on outside a stop.
     let _on = me.stops.interrupts_on();
@@ -157,8 +159,9 @@ fn stands<A: Allocator>(machine: &Machine<A>, me: &mut Place<A>, k: u32, on: boo
     requires outside { me.old.stops.inside ≡ None }
     requires gate { me.old.stops.part.holds ≡ true }
     requires key { k < machine.now.stops.setting.labels.keys }
-    ensures yes { result ≡ true → me.new ≡ record me.old { stops = gated false (reads (ReadKey k on) me.old.stops) } }
-    ensures no { result ≡ false → (now : Bool) × (me.new ≡ record me.old { stops = reads (ReadKey k now) me.old.stops }) }
+    ensures yes { result ≡ true → (count : ℕ) × (is_on count ≡ on)
+        × (me.new ≡ record me.old { stops = gives_gate (loads_count k count me.old.stops) }) }
+    ensures no { result ≡ false → (count : ℕ) × (is_on count ≢ on) × (me.new ≡ record me.old { stops = loads_count k count me.old.stops }) }
 {
     if read(machine, me, k) != on {
         return false;
@@ -184,8 +187,7 @@ pub(crate) fn set<A: Allocator, R: Wait, H: Handler, F: StopFunc>(
     requires key { k < machine.now.stops.setting.labels.keys }
     requires patch { IsPatchOf machine.now.stops k (state_of on) work.now }
     requires work { MayBegin machine.now.stops work.now }
-    ensures without { result ≡ false → Works H.leads F.leads me.old handler.old run.old me.new handler.new run.new (with_gate false (own_of me.old)) }
-    ensures stopped { result ≡ true → (v : ℤ) × HasStopped H.leads F.leads true work.now me.old handler.old run.old me.new handler.new run.new v }
+    ensures sets { Sets H.leads F.leads machine.now.stops k on me.old handler.old run.old me.new handler.new run.new result }
     ensures read { Reads me.new.stops (ReadKey k on) }
     ensures last { result ≡ true → LastIsOwn me.old.passes me.new.passes }
     ensures outside { me.new.stops.inside ≡ None }

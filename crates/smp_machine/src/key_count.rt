@@ -1,8 +1,9 @@
 //! A key's count goes up or down by one: by a nudge where the key stays on, else by a patch.
 
-ghost use Rattle.std.specs.Prelude.{◌≡◌, ◌<◌, None, true, false};
+ghost use Rattle.std.specs.Prelude.{◌≡◌, ◌<◌, None, true, false, [], ◌∷◌};
 ghost use Rattle.smp_multi.specs.Nudges.{NudgeAnswers};
-ghost use Rattle.smp_machine.specs.Counts.{step_of, Nudges, Patches, Counts};
+ghost use Rattle.smp_machine.specs.Counts.{step_of, Nudges, Patches, Counts, CountsFrom};
+ghost use Rattle.smp_stop_steps.specs.declared.known.OwnMove.TheVariants.{Took};
 ghost use Rattle.smp_machine.specs.Place.{IsAt};
 
 use crate::key::patch;
@@ -139,7 +140,7 @@ fn count_at_gate<A: Allocator, R: Wait, H: Handler, F: StopFunc>(
     requires gate { me.old.stops.part.holds ≡ true }
     requires collected { me.old.stops.pending ≡ None }
     requires key { k < machine.now.stops.setting.labels.keys }
-    ensures { Counts H.leads F.leads machine.now.stops k up me.old handler.old run.old me.new handler.new run.new result }
+    ensures { CountsFrom H.leads F.leads [] machine.now.stops k up me.old handler.old run.old me.new handler.new run.new result }
 {
     match nudge(machine, rt, me, k, up) {
         Ok(true) => {
@@ -170,7 +171,7 @@ fn count_by_gate<A: Allocator, R: Wait, H: Handler, F: StopFunc>(
     requires outside { me.old.stops.inside ≡ None }
     requires collected { me.old.stops.pending ≡ None }
     requires key { k < machine.now.stops.setting.labels.keys }
-    ensures { Counts H.leads F.leads machine.now.stops k up me.old handler.old run.old me.new handler.new run.new result }
+    ensures { CountsFrom H.leads F.leads (Took ∷ []) machine.now.stops k up me.old handler.old run.old me.new handler.new run.new result }
 {
     take_gate(machine, rt, me, handler, run);
     count_at_gate(machine, rt, me, handler, run, k, up)

@@ -1,9 +1,11 @@
 //! What holds of running threads, at any time, of each CPU's value.
 
-ghost use Rattle.std.specs.Prelude.{◌≡◌, true, None};
+ghost use Rattle.std.specs.Prelude.{◌≡◌, true, None, length};
+ghost use Rattle.smp_words.specs.Size.{cpus};
 ghost use Rattle.smp_queue.specs.Laws.{IsShown as CallsAreShown};
 ghost use Rattle.smp_multi.specs.Laws.{IsShown as StopsAreShown};
-ghost use Rattle.smp_machine.specs.StopLaws.{WorksAreOfTheirCpus, StopsAreMadeOnce, PollsSendNothing, QueuesKeepOrder};
+ghost use Rattle.smp_machine.specs.GateLaws.{GateIsHeld};
+ghost use Rattle.smp_machine.specs.StopLaws.{WorksAreOfTheirCpus, StopsAreMadeOnce, PollsSendNothing, QueuesKeepOrder, WorksAreTaken};
 ghost use Rattle.smp_machine.specs.ReadLaws.{KindsFollowKeys};
 
 use crate::cpu::Cpu;
@@ -13,11 +15,14 @@ use smp_queue::Handler;
 use std::alloc::Allocator;
 
 /// Whatever the threads of other CPUs do: this CPU's value is its part of calls that words of the call table show, and of
-/// stops that words of the stop table show, which keep all laws of the two halves. It makes no step.
+/// stops that words of the stop table show, which keep all laws of the two halves. It has a list of what it has put for each
+/// queue that there can be. It makes no step.
 pub fn is_shown<A: Allocator>(machine: &Machine<A>, cpu: &Cpu<A>)
     ensures calls { CallsAreShown cpu.now.calls }
     ensures stops { StopsAreShown cpu.now.stops }
+    ensures queues { length cpu.now.passes.put ≡ cpus }
 {
+    cpu.place.passes.has_all_queues();
     cpu.place.calls.is_shown();
     smp_multi::laws::is_shown(&machine.stops, &cpu.place.stops);
 }
@@ -47,13 +52,27 @@ pub fn stops_are_made_once<H: Handler, F: StopFunc>()
     ensures { StopsAreMadeOnce H.leads F.leads }
 {}
 
+/// When the gate is taken and given up, read off the list of the CPU's own moves (`kernel/stop_machine.c: stop_cpus_mutex`).
+/// `stop_one` and `stop_two` give it up once they have begun, and collect after; `stop_machine` and each patch hold it from
+/// before they begin until their result is collected. `set_key` reads the key while it holds the gate. `key_inc` and `key_dec`
+/// take it only after a look that has found the key about to turn, and look again before they patch.
+pub fn gate_is_held<H: Handler, F: StopFunc>()
+    ensures { GateIsHeld H.leads F.leads }
+{}
+
 /// A CPU that polls, or waits for the gate or for a stop, sends no call.
 pub fn polls_send_nothing<H: Handler, F: StopFunc>()
     ensures { PollsSendNothing H.leads F.leads }
 {}
 
-/// Whatever threads put into a stopper queue and take from it: of each source what was taken, and then what is still
-/// there, is what that source has put, in order.
+/// Whatever threads put into a stopper queue and take from it, each source finds its works in order. What was taken of
+/// them, and then what is still there, is what that source has put.
 pub fn queues_keep_order()
     ensures { QueuesKeepOrder }
+{}
+
+/// A CPU takes the works of its queue one behind the other, from a queue that keeps its rule, and enters the stop of the source
+/// by whom the work was put (`kernel/stop_machine.c: cpu_stopper_thread`).
+pub fn works_are_taken()
+    ensures { WorksAreTaken }
 {}

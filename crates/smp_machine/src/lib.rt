@@ -16,12 +16,18 @@
 //! Each call but `turn`, `poll` and the readings refuses with E4 (`SmpError::BadArgument`) where a work is in hand. A CPU that
 //! waits in a call of the first three rows handles its interrupts, and takes part in no stop. One that waits in a stop
 //! polls.
+//!
+//! A [`Seat`] holds a CPU with its machine, its runtime, its handler and its stop function, and has each call as a method,
+//! also by the names `on_each_cpu`, `on_each_cpu_mask`, `smp_call_function` and `kick_all_cpus_sync`. [`run_cpus`] runs each
+//! CPU on a thread of its own, and gives all of them back.
 #![tactic(auto)]
 
 mod boot;
 mod calls;
 mod cpu;
+mod crew;
 mod hearing;
+mod idle;
 mod key;
 mod key_calls;
 mod key_count;
@@ -32,14 +38,25 @@ mod open;
 mod place;
 mod poll;
 mod read;
+mod seat;
+mod seat_calls;
+mod seat_keys;
+mod seat_names;
+mod seat_polls;
+mod seat_stops;
 mod stop;
 mod stop_calls;
 mod stop_work;
 mod stoppers;
 mod take;
+mod threads;
 mod turn;
 mod work_queue;
 
 pub use boot::MachineBoot;
 pub use cpu::Cpu;
+pub use crew::{Crew, Played};
+pub use idle::{NoStop, Silent};
 pub use machine::Machine;
+pub use seat::Seat;
+pub use threads::run_cpus;

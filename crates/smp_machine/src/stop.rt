@@ -5,12 +5,15 @@ ghost use Rattle.std.specs.Prelude.{◌≡◌, ◌≢◌, ◌<◌, ℕ, true, fa
 ghost use Rattle.smp_mask.specs.Mask.{members};
 ghost use Rattle.smp_words.specs.Size.{cpus};
 ghost use Rattle.smp_multi.specs.Answers.{answer_in};
-ghost use Rattle.smp_multi.specs.Cpu.{gated, begins, collects};
+ghost use Rattle.smp_multi.specs.Cpu.{begins, collects};
+ghost use Rattle.smp_multi.specs.Cpu.{takes_gate, gives_gate, misses_gate, looks_in_vain};
+ghost use Rattle.smp_stop_steps.specs.declared.known.OwnMove.TheVariants.{Took};
+ghost use Rattle.smp_machine.specs.Moves.{stop_moves};
 ghost use Rattle.smp_multi.specs.Polls.{IsLastResult};
 ghost use Rattle.smp_machine.specs.declared.work_queue.Knows.TheVariants.{Puts};
 ghost use Rattle.smp_machine.specs.Passes.{puts};
 ghost use Rattle.smp_machine.specs.Place.{IsAt};
-ghost use Rattle.smp_machine.specs.Own.{own_of, with_gate, with_put};
+ghost use Rattle.smp_machine.specs.Own.{own_of, with_gate, with_moves, with_put};
 ghost use Rattle.smp_machine.specs.Stops.{MayBegin, item, AreShown, HasCollected, HasStopped};
 ghost use Rattle.smp_machine.specs.WorkQueue.{IsKnown};
 ghost use Rattle.smp_machine.specs.Works.{Works};
@@ -30,8 +33,8 @@ use std::sync::Wait;
 /// Takes the gate, if it is free.
 fn try_gate<A: Allocator>(machine: &Machine<A>, me: &mut Place<A>) -> bool
     requires at { IsAt machine.now me.old }
-    ensures taken { result ≡ true → me.new ≡ record me.old { stops = gated true me.old.stops } }
-    ensures held { result ≡ false → me.new ≡ me.old }
+    ensures taken { result ≡ true → me.new ≡ record me.old { stops = takes_gate me.old.stops } }
+    ensures held { result ≡ false → me.new ≡ record me.old { stops = misses_gate me.old.stops } }
 {
     machine.stops.try_gate(&mut me.stops)
 }
@@ -46,7 +49,8 @@ pub(crate) fn take_gate<A: Allocator, R: Wait, H: Handler, F: StopFunc>(
 )
     requires at { IsAt machine.now me.old }
     requires outside { me.old.stops.inside ≡ None }
-    ensures works { Works H.leads F.leads me.old handler.old run.old me.new handler.new run.new (with_gate true (own_of me.old)) }
+    ensures works { Works H.leads F.leads me.old handler.old run.old me.new handler.new run.new
+        (with_moves (Took ∷ []) (with_gate true (own_of me.old))) }
     ensures outside { me.new.stops.inside ≡ None }
 {
     let backoff = Backoff::new();
@@ -64,7 +68,7 @@ pub(crate) fn take_gate<A: Allocator, R: Wait, H: Handler, F: StopFunc>(
 pub(crate) fn give_gate<A: Allocator>(machine: &Machine<A>, me: &mut Place<A>)
     requires at { IsAt machine.now me.old }
     requires gate { me.old.stops.part.holds ≡ true }
-    ensures { me.new ≡ record me.old { stops = gated false me.old.stops } }
+    ensures { me.new ≡ record me.old { stops = gives_gate me.old.stops } }
 {
     match machine.stops.open_gate(&mut me.stops) {
         Ok(()) => {}
@@ -96,6 +100,7 @@ fn try_put<A: Allocator, R: Wait>(
 ) -> bool
     requires at { IsAt machine.now me.old }
     requires within { cpu < cpus }
+    requires gate { me.old.stops.part.holds ≡ true }
     requires open { me.old.stops.pending ≡ Some work.now }
     ensures put { result ≡ true → me.new ≡ record me.old { passes = puts cpu (item me.old.stops.number work.now) me.old.passes } }
     ensures shown { result ≡ true → IsKnown (Puts me.old.stops.number (slice_index_or me.new.passes.put cpu [])) }
@@ -103,7 +108,7 @@ fn try_put<A: Allocator, R: Wait>(
 {
     let slot = me.number();
     let item = Item { slot, work: *work };
-    machine.queues.put(rt, &mut me.passes, cpu, item)
+    machine.queues.put(rt, &mut me.passes, &me.stops, cpu, item)
 }
 
 /// Puts the work into this CPU's queue (`cpu_stop_queue_work`). Where that is full, takes a turn and tries again.
@@ -119,6 +124,7 @@ fn put<A: Allocator, R: Wait, H: Handler, F: StopFunc>(
     requires at { IsAt machine.now me.old }
     requires outside { me.old.stops.inside ≡ None }
     requires within { cpu < cpus }
+    requires gate { me.old.stops.part.holds ≡ true }
     requires open { me.old.stops.pending ≡ Some work.now }
     ensures works { Works H.leads F.leads me.old handler.old run.old me.new handler.new run.new
         (with_put (item me.old.stops.number work.now) (cpu ∷ []) (own_of me.old)) }
@@ -147,6 +153,7 @@ pub(crate) fn put_to_all<A: Allocator, R: Wait, H: Handler, F: StopFunc>(
 )
     requires at { IsAt machine.now me.old }
     requires outside { me.old.stops.inside ≡ None }
+    requires gate { me.old.stops.part.holds ≡ true }
     requires open { me.old.stops.pending ≡ Some work.now }
     ensures works { Works H.leads F.leads me.old handler.old run.old me.new handler.new run.new
         (with_put (item me.old.stops.number work.now) (members work.now.mask) (own_of me.old)) }
@@ -163,7 +170,7 @@ pub(crate) fn put_to_all<A: Allocator, R: Wait, H: Handler, F: StopFunc>(
 pub(crate) fn look_done<A: Allocator>(machine: &Machine<A>, me: &mut Place<A>) -> Option<i32>
     requires at { IsAt machine.now me.old }
     requires begun { me.old.stops.pending ≢ None }
-    ensures { MatchOption result (me.new ≡ me.old) (λ v. (word : ℕ) × (v ≡ answer_in word)
+    ensures { MatchOption result (me.new ≡ record me.old { stops = looks_in_vain me.old.stops }) (λ v. (word : ℕ) × (v ≡ answer_in word)
         × (me.new ≡ record me.old { stops = collects word me.old.stops }) × IsLastResult me.new.stops word) }
 {
     match machine.stops.poll_done(&mut me.stops) {
@@ -213,7 +220,7 @@ pub(crate) fn stop<A: Allocator, R: Wait, H: Handler, F: StopFunc>(
     requires outside { me.old.stops.inside ≡ None }
     requires collected { me.old.stops.pending ≡ None }
     requires work { MayBegin machine.now.stops work.now }
-    ensures { HasStopped H.leads F.leads long work.now me.old handler.old run.old me.new handler.new run.new result }
+    ensures { HasStopped H.leads F.leads (stop_moves long) work.now me.old handler.old run.old me.new handler.new run.new result }
 {
     take_gate(machine, rt, me, handler, run);
     begin(machine, me, work);

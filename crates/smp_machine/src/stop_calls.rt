@@ -5,6 +5,7 @@
 
 ghost use Rattle.std.specs.Prelude.{◌≡◌, ◌≢◌, true, false, None, IfOk, IfErr};
 ghost use Rattle.smp_mask.specs.Mask.{has};
+ghost use Rattle.smp_machine.specs.Moves.{short_stop, long_stop};
 ghost use Rattle.smp_machine.specs.Place.{IsAt};
 ghost use Rattle.smp_machine.specs.Stops.{HasStopped, IsOneWork, IsTwoWork, IsMachineWork, RefusedStill, RefusesOne, RefusesTwo};
 
@@ -40,7 +41,7 @@ impl<A: Allocator> Machine<A> {
         ensures free { IfOk result (λ _. me.old.stops.inside ≡ None) }
         ensures online { IfOk result (λ _. has self.now.stops.setting.online dst ≡ true) }
         ensures ok { IfOk result (λ v. (work : Work) × IsOneWork dst func arg work
-            × HasStopped H.leads F.leads false work me.old handler.old run.old me.new handler.new run.new v) }
+            × HasStopped H.leads F.leads short_stop work me.old handler.old run.old me.new handler.new run.new v) }
         ensures err { IfErr result (λ e. RefusesOne self.now.stops me.old dst e) }
         ensures kept { IfErr result (λ _. RefusedStill me.old handler.old run.old me.new handler.new run.new) }
     {
@@ -76,7 +77,7 @@ impl<A: Allocator> Machine<A> {
         ensures free { IfOk result (λ _. me.old.stops.inside ≡ None) }
         ensures online { IfOk result (λ _. (a ≢ b) × (has self.now.stops.setting.online a ≡ true) × (has self.now.stops.setting.online b ≡ true)) }
         ensures ok { IfOk result (λ v. (work : Work) × IsTwoWork a b func arg work
-            × HasStopped H.leads F.leads false work me.old handler.old run.old me.new handler.new run.new v) }
+            × HasStopped H.leads F.leads short_stop work me.old handler.old run.old me.new handler.new run.new v) }
         ensures err { IfErr result (λ e. RefusesTwo self.now.stops me.old a b e) }
         ensures kept { IfErr result (λ _. RefusedStill me.old handler.old run.old me.new handler.new run.new) }
     {
@@ -113,7 +114,7 @@ impl<A: Allocator> Machine<A> {
         requires at { IsAt self.now me.old }
         ensures free { IfOk result (λ _. me.old.stops.inside ≡ None) }
         ensures ok { IfOk result (λ v. (work : Work) × IsMachineWork self.now.stops func arg active work
-            × HasStopped H.leads F.leads true work me.old handler.old run.old me.new handler.new run.new v) }
+            × HasStopped H.leads F.leads long_stop work me.old handler.old run.old me.new handler.new run.new v) }
         ensures err { IfErr result (λ e. (e ≡ SmpError.BadArgument) × (me.old.stops.inside ≢ None)) }
         ensures kept { IfErr result (λ _. RefusedStill me.old handler.old run.old me.new handler.new run.new) }
     {

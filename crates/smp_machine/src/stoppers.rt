@@ -1,11 +1,12 @@
 //! The stopper queues of all CPUs, and what one CPU holds of them: a pass of each, by which it puts, and one of its own,
 //! by which it takes.
 
-ghost use Rattle.std.specs.Prelude.{◌≡◌, ◌<◌, true, false, MatchOption};
+ghost use Rattle.std.specs.Prelude.{◌≡◌, ◌<◌, true, false, MatchOption, Some, length};
 ghost use Rattle.smp_words.specs.Size.{cpus};
 ghost use Rattle.smp_machine.specs.Passes.{AreHeld, passes_of, puts, takes, PutIsShown, TakenIsShown};
 
 use crate::work_queue::{Item, Put, Take, WorkPass, WorkQueue};
+use smp_multi::StopCpu;
 use std::alloc::Allocator;
 use std::marker::Model;
 use std::sync::Wait;
@@ -55,18 +56,37 @@ impl<A: Allocator> Passes<A> {
     {
         Passes { number, to, own }
     }
+
+    /// There is a list of what was put for each queue that there can be. It makes no step.
+    pub(crate) fn has_all_queues(&self)
+        ensures { length self.now.put ≡ cpus }
+    {
+        let _number = self.number;
+    }
 }
 
 impl<A: Allocator> Stoppers<A> {
-    /// Puts an item into this CPU's queue (`cpu_stop_queue_work`), at the compare-exchange of its tail; false where it
-    /// was full. It may wait while another CPU is between two steps of a call on the same queue.
-    pub(crate) fn put<R: Wait>(&self, rt: &R, me: &mut Passes<A>, cpu: u32, item: Item) -> bool
+    /// Puts the work of the own stop, which is open, into this CPU's queue (`cpu_stop_queue_work`), by who holds the gate, at
+    /// the compare-exchange of its tail; false where it was full. It may wait while another CPU is between two steps of a call on the same
+    /// queue. A CPU that takes a work before its slot is open drops it as stale, so no other way leads into a queue.
+    pub(crate) fn put<R: Wait>(
+        &self,
+        rt: &R,
+        me: &mut Passes<A>,
+        stops: &StopCpu,
+        cpu: u32,
+        item: Item,
+    ) -> bool
         requires queues { me.old.queues ≡ self.now }
         requires own { item.slot ≡ me.old.number }
+        requires same { stops.now.number ≡ me.old.number }
+        requires gate { stops.now.part.holds ≡ true }
+        requires open { stops.now.pending ≡ Some item.work }
         requires within { cpu < cpus }
         ensures put { result ≡ true → (me.new ≡ puts cpu item me.old) × PutIsShown me.new cpu }
         ensures full { result ≡ false → me.new ≡ me.old }
     {
+        let _ = stops;
         let pass = &mut me.to[cpu as usize];
         self.queues[cpu as usize]
             .push_as::<Put, R>(rt, pass, item)

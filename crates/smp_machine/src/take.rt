@@ -29,7 +29,7 @@ pub(crate) fn take_next<A: Allocator, R: Wait>(
     }
 }
 
-/// The same where no work is in hand, and nothing where one is: whether one is then.
+/// Takes the next work unless one is in hand. Returns whether one is in hand afterwards.
 pub(crate) fn take_work<A: Allocator, R: Wait>(
     machine: &Machine<A>,
     rt: &R,

@@ -4,7 +4,8 @@ use Rattle.std.proofs.Common.{sym, subst, refl, ap, ◌∙◌, arith, ne_eqb}
 use Rattle.atomic_table.specs.Seated.{TableId}
 use Rattle.smp_mask.specs.Mask.{has}
 use Rattle.smp_stop_steps.specs.Callings.{with_answer}
-use Rattle.smp_stop_steps.specs.Known.{Lives, Moment, carrying}
+use Rattle.smp_stop_steps.specs.Known.{carrying}
+use Rattle.smp_multi.specs.Lives.{Lives, Moment}
 use Rattle.smp_stop_steps.specs.KnownAfter.{looked_known, looked_to}
 use Rattle.smp_stop_steps.specs.Sits.{OwnsIf}
 use Rattle.smp_stop_steps.specs.Starts.{answer_word}

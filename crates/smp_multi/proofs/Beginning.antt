@@ -13,7 +13,7 @@ use Rattle.smp_multi.specs.Names.{Work, Slot, Field, Store, Drafts, Known}
 use Rattle.smp_multi.specs.Names.{Kind as KindOf}
 use Rattle.smp_multi.specs.Names.field
 use Rattle.smp_multi.specs.Begins.{Begins, draft_at, begun}
-use Rattle.smp_multi.specs.Seat.{SeatValue, Ready}
+use Rattle.smp_multi.specs.Seat.{SeatValue, Ready, FitsWord}
 use Rattle.smp_multi.proofs.Cells.{slot_cell}
 
 module _ (t : TableId) (d : SeatValue) (number : ℕ) (w : Work) where
@@ -29,9 +29,24 @@ module _ (t : TableId) (d : SeatValue) (number : ℕ) (w : Work) where
             is_access = ap (λ n. Store (Slot n field.Kind) (begun_value cpus w field.Kind)) b.number_is ∙ ap (Store (Slot number field.Kind)) (sym e);
           };
       cell = slot_cell number field.Kind b.below;
+      fits = tt;
     };
     apart = tt;
   }
+
+  -- a result word begins with 0
+  draft_fits : (f : Field) (x : ℕ) → x ≡ begun_value cpus w f → FitsWord (Slot number f) x
+  draft_fits field.Kind x e = tt
+  draft_fits field.Mask x e = tt
+  draft_fits field.Active x e = tt
+  draft_fits field.Func x e = tt
+  draft_fits field.Arg x e = tt
+  draft_fits field.Result x e = omega (arith, e)
+  draft_fits field.Todo x e = tt
+  draft_fits field.Done x e = tt
+  draft_fits field.Ack x e = tt
+  draft_fits field.State x e = tt
+  draft_fits field.Roll x e = tt
 
   more : (f : Field) → Begins t d number w (order f) → order f < 10 → order f ≢ 0 → draft_at (order f) w ≡ Drafts (told_work (order f) w) (order f) → (x : ℕ)
       → x ≡ begun_value cpus w f → Ready t d (Store (Slot number f) x)
@@ -46,6 +61,7 @@ module _ (t : TableId) (d : SeatValue) (number : ℕ) (w : Work) where
             is_access = ap (λ n. Store (Slot n f) (begun_value cpus w f)) b.number_is ∙ ap (Store (Slot number f)) (sym e);
           };
       cell = slot_cell number f b.below;
+      fits = draft_fits f x e;
     };
     apart = tt;
   }
@@ -76,6 +92,7 @@ module _ (t : TableId) (d : SeatValue) (number : ℕ) (w : Work) where
                 ∙ ap (Store (Slot number field.Roll)) (sym e);
           };
       cell = slot_cell number field.Roll b.below;
+      fits = tt;
     };
     apart = tt;
   }

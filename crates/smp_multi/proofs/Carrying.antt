@@ -1,17 +1,16 @@
 -- The answer that a CPU carries: no step asks for it or changes it.
 use Rattle.std.proofs.Common.{◌≡◌, ℕ, Bool, true, false, cond, Option, Some, None, [], refl}
-use Rattle.smp_labels.specs.Keys.{is_on}
 use Rattle.smp_mask.specs.Mask.{has}
-use Rattle.smp_stop_steps.specs.Known.{Lives, Moment, Sees, carrying, setup_in}
+use Rattle.smp_stop_steps.specs.Known.{Sees, carrying, setup_in}
+use Rattle.smp_multi.specs.Lives.{Lives, Moment}
 use Rattle.smp_stop_steps.specs.KnownAfter.{acked_by, called_by, completed_by, drafted_known, is_drafting, is_patching, key_loaded_by}
-use Rattle.smp_stop_steps.specs.KnownAfter.{known_entering, known_told, member_stored, opened_by, raised_by, reads_more}
+use Rattle.smp_stop_steps.specs.KnownAfter.{known_entering, known_told, key_read_known, member_stored, opened_by, raised_by}
 use Rattle.smp_stop_steps.specs.Moves.{Can, May, Move, access_in, TakeGate, OpenGate, Draft, DraftMore, Open, Enter, Look, Acknowledge, AcknowledgePatch}
 use Rattle.smp_stop_steps.specs.Moves.{Refill, Raise, Give, Count, CountGiven, Close, LookDone, Collect, ReadKey, ReadSite, Nudge, BeginPatch, Alter}
 use Rattle.smp_stop_steps.specs.Moves.{LoadArg, LoadField, LoadEntry}
 use Rattle.smp_stop_steps.specs.State.{StopState}
 use Rattle.smp_stop_steps.specs.Stop.{Inside}
 use Rattle.smp_stop_steps.specs.Tells.{may_call, plan_at}
-use Rattle.smp_stop_steps.specs.declared.known.Reading.TheVariants as reading
 use Rattle.smp_multi.specs.Names.{Word, Gate, Slot, Key, Entry, Site, Access, Field, Work, Seat, Free, In, Gives, Alters, Closes, Rests}
 use Rattle.smp_multi.specs.Names.{Source, Shut, Drafts, Owns, Collects, Known, Calls}
 use Rattle.smp_multi.specs.Names.act
@@ -55,7 +54,16 @@ module _ (x : ℕ) (v : Known) where
 
   pub lives_with : Lives v → Lives (carrying x v)
   lives_with l =
-      record { stops = l.stops; at = l.at; seat = l.seat; source = l.source; shown = l.shown; sees = sees_with l.stops l.seat l.source l.sees }
+      record {
+        stops = l.stops;
+        at = l.at;
+        seat = l.seat;
+        source = l.source;
+        shown = l.shown;
+        sees = sees_with l.stops l.seat l.source l.sees;
+        within = l.within;
+        online = l.online;
+      }
 
   abbrev pub moment_with : (w : Word) (n : ℕ) → Moment v w n → Moment (carrying x v) w n
   moment_with w n m = record {
@@ -65,6 +73,8 @@ module _ (x : ℕ) (v : Known) where
     source = m.source;
     shown = m.shown;
     sees = sees_with m.stops m.seat m.source m.sees;
+    within = m.within;
+    online = m.online;
     number_is = m.number_is;
   }
 
@@ -85,7 +95,7 @@ module _ (x : ℕ) where
   key_with : (k n : ℕ) (y : Seat) (v : Known) → carrying x (key_loaded_by k n y v) ≡ key_loaded_by k n y (carrying x v)
   key_with k n Free v = refl
   key_with k n (In s w a l t) v = with_cond (is_patching a l w)
-      (record v { seat = Alters s w n [] (plan_at (setup_in v.setting) w n) }) (reads_more (reading.ReadKey k (is_on n)) v)
+      (record v { seat = Alters s w n [] (plan_at (setup_in v.setting) w n) }) (key_read_known k n v)
   key_with k n (Gives s w a z) v = refl
   key_with k n (Alters s w count made rest) v = refl
   key_with k n (Closes s) v = refl

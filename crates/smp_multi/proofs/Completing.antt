@@ -1,6 +1,7 @@
 -- The steps of a completion: the answer, the count, and done by the last of all.
 use Rattle.std.proofs.Common.{◌≡◌, ◌≢◌, ℕ, ◌==◌, Bool, true, false, cond, sym, refl, ap, ◌∙◌, ne_eqb, eq-eqb, eqb-true}
 use Rattle.atomic_table.specs.Seated.{TableId}
+use Rattle.smp_stop_steps.specs.AnswerWords.{IsI32Word}
 use Rattle.smp_stop_steps.specs.Known.{carrying}
 use Rattle.smp_stop_steps.specs.KnownAfter.{completed_by, completed_with, is_drafting, slot_stored, drafted_known, given_by, member_stored}
 use Rattle.smp_stop_steps.specs.Moves.{Give, Count, CountGiven, Close}
@@ -12,12 +13,13 @@ use Rattle.smp_multi.specs.Seat.{SeatValue, Able, Ready}
 use Rattle.smp_multi.proofs.Cells.{slot_cell}
 
 module _ (t : TableId) (d : SeatValue) (slot acked : ℕ) where
-  pub able_give : (x : ℕ) → AtEnd t d slot acked → d.known.part.calling ≢ Idle → x ≢ 0 → Able t d (Store (Slot slot field.Result) x)
-  able_give x a calls some = record {
+  pub able_give : (x : ℕ) → AtEnd t d slot acked → d.known.part.calling ≢ Idle → x ≢ 0 → IsI32Word x → Able t d (Store (Slot slot field.Result) x)
+  able_give x a calls some fits = record {
     table_is = a.table_is;
     sized = a.sized;
     can = record { move = Give slot (work_in d.known.seat) acked acked x; may = (a.seat_is, a.through, some, a.idle, calls); is_access = refl };
     cell = slot_cell slot field.Result a.low;
+    fits = fits;
   }
 
   pub known_give : (x : ℕ) → AtEnd t d slot acked → x ≢ 0 → slot_stored field.Result x d.known ≡ given slot acked x d.known
@@ -53,6 +55,7 @@ module _ (t : TableId) (d : SeatValue) (slot acked : ℕ) where
             sized = a.sized;
             can = record { move = Count slot w acked acked; may = (is, a.through, a.low, a.calls); is_access = refl };
             cell = slot_cell slot field.Todo a.low;
+            fits = tt;
           }
       go false is =
           record {
@@ -60,6 +63,7 @@ module _ (t : TableId) (d : SeatValue) (slot acked : ℕ) where
             sized = a.sized;
             can = record { move = CountGiven slot w acked x; may = (is, a.low); is_access = refl };
             cell = slot_cell slot field.Todo a.low;
+            fits = tt;
           }
 
   pub known_count : (x found : ℕ) (w : Work) → AtGiven t d slot acked x w
@@ -89,6 +93,7 @@ module _ (t : TableId) (d : SeatValue) (slot found : ℕ) (a : AtClose t d slot 
       sized = a.sized;
       can = record { move = Close slot; may = (a.seat_is ∙ ap (λ b. cond b (Closes slot) Free) (eq-eqb found 1 one), a.idle); is_access = refl };
       cell = slot_cell slot field.Done a.low;
+      fits = tt;
     };
     apart = tt;
   }

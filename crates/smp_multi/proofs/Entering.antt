@@ -5,7 +5,8 @@ use Rattle.atomic_table.specs.Seated.{TableId}
 use Rattle.smp_mask.specs.Mask.{has}
 use Rattle.smp_words.specs.Kinds.{kind_at}
 use Rattle.smp_words.specs.Size.{cpus}
-use Rattle.smp_stop_steps.specs.Known.{Moment, setup_in, told_source}
+use Rattle.smp_stop_steps.specs.Known.{setup_in, told_source}
+use Rattle.smp_multi.specs.Lives.{Moment}
 use Rattle.smp_stop_steps.specs.Moves.{Enter, LoadField, IsPlain}
 use Rattle.smp_stop_steps.specs.Slots.{IsWritten, SlotShows}
 use Rattle.smp_stop_steps.specs.Sources.{SourceShows}
@@ -33,6 +34,7 @@ ready_roll t d number slot x f low e = record {
               ∙ ap (And (Slot slot field.Roll)) (sym e);
         };
     cell = slot_cell slot field.Roll low;
+    fits = tt;
   };
   apart = tt;
 }
@@ -76,6 +78,7 @@ ready_plain t d slot w f h plain = record {
         sized = h.sized;
         can = record { move = LoadField slot w 0 0 f; may = (plain, h.seat_is); is_access = refl };
         cell = slot_cell slot f h.low;
+        fits = tt;
       };
   apart = tt;
 }

@@ -1,7 +1,8 @@
 -- The steps at the gate.
 use Rattle.std.proofs.Common.{◌≡◌, ◌≢◌, ℕ, ◌+◌, true, Option, Some, None, sym, refl, ap, ◌∙◌, arith}
 use Rattle.atomic_table.specs.Seated.{TableId}
-use Rattle.smp_stop_steps.specs.Known.{Moment, holds_it}
+use Rattle.smp_stop_steps.specs.Known.{holds_it}
+use Rattle.smp_multi.specs.Lives.{Moment}
 use Rattle.smp_stop_steps.specs.Moves.{TakeGate, OpenGate}
 use Rattle.smp_stop_steps.specs.Shows.{gate_word}
 use Rattle.smp_multi.specs.Names.{Gate, Store, Exchange, Known}
@@ -17,13 +18,20 @@ module _ (t : TableId) (d : SeatValue) (number : ℕ) (s : IsSeated t d number) 
       sized = s.sized;
       can = record { move = TakeGate; may = tt; is_access = ap (λ n. Exchange Gate 0 (n + 1)) s.number_is ∙ ap (Exchange Gate 0) (sym e) };
       cell = gate_cell;
+      fits = tt;
     };
     apart = tt;
   }
 
   pub ready_leave : d.known.part.holds ≡ true → Ready t d (Store Gate 0)
   ready_leave holds = record {
-    able = record { table_is = s.table_is; sized = s.sized; can = record { move = OpenGate; may = (holds, s.idle); is_access = refl }; cell = gate_cell };
+    able = record {
+      table_is = s.table_is;
+      sized = s.sized;
+      can = record { move = OpenGate; may = (holds, s.idle); is_access = refl };
+      cell = gate_cell;
+      fits = tt;
+    };
     apart = tt;
   }
 

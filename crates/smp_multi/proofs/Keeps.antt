@@ -11,7 +11,10 @@ use Rattle.smp_words.specs.Access.{word_of, at_after, seen_of, one_less, put_if}
 use Rattle.smp_words.specs.Put.{put, put_word}
 use Rattle.smp_words.specs.Size.{cpus}
 use Rattle.smp_words.proofs.Puts.{put_same, put_other}
-use Rattle.smp_stop_steps.specs.Known.{Sees, GoesOn, fresh, setup_in, Lives}
+use Rattle.smp_stop_steps.specs.Known.{Sees, GoesOn, fresh, setup_in}
+use Rattle.smp_multi.specs.Lives.{Lives, StaysWithin}
+use Rattle.smp_mask.specs.Mask.{has}
+use Rattle.smp_stop_steps.specs.AnswerWords.{IsI32Word, AreI32Words}
 use Rattle.smp_stop_steps.specs.KnownAfter.{known_told, known_entering}
 use Rattle.smp_stop_steps.specs.Moves.{Can, entering}
 use Rattle.smp_stop_steps.specs.State.{StopState}
@@ -24,7 +27,7 @@ use Rattle.smp_multi.specs.Names.act
 use Rattle.smp_multi.specs.Cells.{cells, cell_of, number_in}
 use Rattle.smp_multi.specs.Rule.{Ruled, SeatKnows, known, after, seat_made}
 use Rattle.smp_multi.specs.Plays.{AfterLoad, AfterStore, AfterExchange, AfterSubtract, AfterMask, loaded, stored, exchanged, subtracted, masked}
-use Rattle.smp_multi.specs.Seat.{IsCpuSeat}
+use Rattle.smp_multi.specs.Seat.{FitsWord, IsCpuSeat, IsNoResult}
 use Rattle.smp_multi.proofs.Cells.{one_cell, number_here, stored_here}
 
 at_snoc : {A : Type 0} (l : List A) (a b : A) (j : ℕ) → get_elem? (l ++ a ∷ []) j ≡ some b → (get_elem? l j ≡ some b) ⊎ ((j ≡ length l) × (a ≡ b))
@@ -137,14 +140,69 @@ module _ (p : StopState) (at : Word → ℕ) (seat : ℕ → Seat) (source : ℕ
       → Goes (put_word at w (bit_and (at w) x)) (known_entering (entering p w) v act.And w (Some (at w)) (Some (bit_and (at w) x)))
   and_step w x can = moves (And w x) can
 
-lives_on : (k : Setting) (p : StopState) (seat : ℕ → Seat) (source : ℕ → Source) (me : ℕ) (at : Word → ℕ) (w : Known) → GoesOn k p seat source me at w → Lives w
-lives_on k p seat source me at w g = record {
+-- result words after a store that fits
+put_fits : (at : Word → ℕ) (w : Word) (x : ℕ) → AreI32Words at → FitsWord w x → AreI32Words (put_word at w x)
+put_fits at (Slot t field.Kind) x h f s = h s
+put_fits at (Slot t field.Mask) x h f s = h s
+put_fits at (Slot t field.Active) x h f s = h s
+put_fits at (Slot t field.Func) x h f s = h s
+put_fits at (Slot t field.Arg) x h f s = h s
+put_fits at (Slot t field.State) x h f s = h s
+put_fits at (Slot t field.Ack) x h f s = h s
+put_fits at (Slot t field.Roll) x h f s = h s
+put_fits at (Slot t field.Todo) x h f s = h s
+put_fits at (Slot t field.Result) x h f s = elim (s == t) as (λ b. IsI32Word (cond b x (at (Slot s field.Result)))) [ true ↦ f | false ↦ h s ]
+put_fits at (Slot t field.Done) x h f s = h s
+put_fits at Gate x h f s = h s
+put_fits at (Key k) x h f s = h s
+put_fits at (Entry i) x h f s = h s
+put_fits at (Site i) x h f s = h s
+put_fits at _ x h f s = h s
+
+no_result : (w : Word) (x : ℕ) → IsNoResult w → FitsWord w x
+no_result (Slot t field.Kind) x f = tt
+no_result (Slot t field.Mask) x f = tt
+no_result (Slot t field.Active) x f = tt
+no_result (Slot t field.Func) x f = tt
+no_result (Slot t field.Arg) x f = tt
+no_result (Slot t field.State) x f = tt
+no_result (Slot t field.Ack) x f = tt
+no_result (Slot t field.Roll) x f = tt
+no_result (Slot t field.Todo) x f = tt
+no_result (Slot t field.Result) x f = absurd f
+no_result (Slot t field.Done) x f = tt
+no_result Gate x f = tt
+no_result (Key k) x f = tt
+no_result (Entry i) x f = tt
+no_result (Site i) x f = tt
+no_result _ x f = tt
+
+put_if_fits : (at : Word → ℕ) (w : Word) (x : ℕ) (b : Bool) → AreI32Words at → IsNoResult w → AreI32Words (put_if put_word at w (cond b (Some x) None))
+put_if_fits at w x true h f = put_fits at w x h (no_result w x f)
+put_if_fits at w x false h f = h
+
+-- what stays with a step of an online CPU
+within_on : (k : Setting) (p : StopState) (at : Word → ℕ) (seat : ℕ → Seat) (source : ℕ → Source) (me : ℕ) (at' : Word → ℕ) (w : Known)
+    → has k.online me ≡ true → me < cpus → StaysWithin k p at seat source → AreI32Words at' → (g : GoesOn k p seat source me at' w)
+    → StaysWithin k g.stops at' g.seats g.sources
+within_on k p at seat source me at' w on low h fits g = record {
+  results = fits;
+  offline = λ c l off. g.others (fresh k c) (λ (same : c ≡ me). let bad : true ≡ false = sym on ∙ (sym (ap (has k.online) same) ∙ off) in cc)
+      (h.offline c l off);
+  beyond = λ c l. let s = g.still c (λ (same : c ≡ me). let e = same in omega arith) in let b = h.beyond c l in (s.0 ∙ b.0, s.1 ∙ b.1);
+}
+
+lives_on : (k : Setting) (p : StopState) (at : Word → ℕ) (seat : ℕ → Seat) (source : ℕ → Source) (me : ℕ) (at' : Word → ℕ) (w : Known)
+    → has k.online me ≡ true → me < cpus → StaysWithin k p at seat source → AreI32Words at' → GoesOn k p seat source me at' w → Lives w
+lives_on k p at seat source me at' w on low h fits g = record {
   stops = g.stops;
-  at = at;
+  at = at';
   seat = g.seats;
   source = g.sources;
-  shown = subst (λ j. StopShows (setup_in j) g.stops at g.seats g.sources) (sym g.setting_is) g.shown;
+  shown = subst (λ j. StopShows (setup_in j) g.stops at' g.seats g.sources) (sym g.setting_is) g.shown;
   sees = g.mine;
+  within = subst (λ j. StaysWithin j g.stops at' g.seats g.sources) (sym g.setting_is) (within_on k p at seat source me at' w on low h fits g);
+  online = ap (λ (j : Setting). has j.online w.number) g.setting_is ∙ (ap (has k.online) g.number_is ∙ on);
 }
 
 module _ {S : Type 0} (k : Setting) where
@@ -184,12 +242,14 @@ module _ {S : Type 0} (k : Setting) where
             (omega arith, put_same r.place n (length (set s.views id (Maker (n + 1) k))) ∙ sym t.0, refl, r.absent n (let a = mine.0 in omega arith) low))
             (at_snoc (set s.views id (Maker (n + 1) k)) (Cpu (fresh k n)) u j e);
         absent = λ c l within. r.absent c (let a = mine.0 in omega arith) within;
+        within = r.within;
       }
 
   -- a seat's CPU makes a step of the machine
   lifts : (s : State S SeatView) (r : Ruled k s) (id i n : ℕ) (v w : Known) (carried : List (ℕ × S)) → get_elem? s.views id ≡ some (Cpu v)
-      → GoesOn k r.stops r.seat r.source v.number (number_in (set s.words i n)) w → Ruled k (stepped s i n id carried (Cpu w) keeps)
-  lifts s r id i n v w carried at g = record {
+      → (g : GoesOn k r.stops r.seat r.source v.number (number_in (set s.words i n)) w)
+      → StaysWithin k g.stops (number_in (set s.words i n)) g.seats g.sources → Ruled k (stepped s i n id carried (Cpu w) keeps)
+  lifts s r id i n v w carried at g within' = record {
     stops = g.stops;
     seat = g.seats;
     source = g.sources;
@@ -202,6 +262,7 @@ module _ {S : Type 0} (k : Setting) where
         (subst (λ m. m < r.next) (sym g.number_is) mine.0, ap r.place g.number_is ∙ (mine.1 ∙ sym t.0), g.setting_is, g.mine))
         (λ (t : (j ≢ id) × (get_elem? s.views j ≡ some u)). other j u t.0 (r.each_seat j u t.1)) (at_set s.views id j (Cpu w) u e);
     absent = λ c l within. g.others (fresh k c) (λ e. let a = mine.0 in let b = e in omega arith) (r.absent c l within);
+    within = within';
   }
     where
       mine : SeatKnows k r.stops r.seat r.source r.place r.next id (Cpu v)
@@ -212,47 +273,64 @@ module _ {S : Type 0} (k : Setting) where
       other j (Maker m l) n h = h
       other j (Cpu u) n h = (h.0, h.1, h.2, g.others u (λ e. n (sym h.1 ∙ (ap r.place e ∙ mine.1))) h.3)
 
-  module _ (slots id : ℕ) (me : Me S SeatView) (is : IsCpuSeat me.0) where
+  module _ (slots id : ℕ) (me : Me S SeatView) (is : me.0 ≡ Cpu (known me.0)) (online : has (known me.0).setting.online (known me.0).number ≡ true) where
     abbrev v : Known
     v = known me.0
 
     steps : (i : ℕ) (f : ℕ → ℕ) (then : ℕ → Me S SeatView → Type 0) →
         ((p : StopState) (seat : ℕ → Seat) (source : ℕ → Source) (words : List ℕ) → StopShows (setup_in (known me.0).setting) p (number_in words) seat source
-        → length words ≡ cells → Sees p seat source (known me.0) →
+        → length words ≡ cells → Sees p seat source (known me.0) → StaysWithin (known me.0).setting p (number_in words) seat source →
         (w : Known) × GoesOn (known me.0).setting p seat source (known me.0).number (number_in (set words i (f (get_or words i 0)))) w
-        × then (get_or words i 0) (Cpu w, me.1)) →
+        × AreI32Words (number_in (set words i (f (get_or words i 0)))) × then (get_or words i 0) (Cpu w, me.1)) →
         Allows (Ruled k) slots id me i f (λ n m. Lives (known m.0) × then n m)
     steps i f then go s r sized at fits =
         let at' : get_elem? s.views id ≡ some (Cpu v) = at ∙ ap some is in
         let mine : SeatKnows k r.stops r.seat r.source r.place r.next id (Cpu v) = r.each_seat id (Cpu v) at' in
         let set_k : v.setting ≡ k = mine.2 in
+        let here = subst (λ j. StaysWithin j r.stops (number_in s.words) r.seat r.source) (sym set_k) r.within in
         let t = go r.stops r.seat r.source s.words (subst (λ j. StopShows (setup_in j) r.stops (number_in s.words) r.seat r.source) (sym set_k) r.shown)
-        r.wide mine.3 in
-        let lives : Lives t.0 = lives_on v.setting r.stops r.seat r.source v.number (number_in (set s.words i (f (get_or s.words i 0)))) t.0 t.1 in
-        let g = subst (λ j. GoesOn j r.stops r.seat r.source v.number (number_in (set s.words i (f (get_or s.words i 0)))) t.0) set_k t.1 in
-        (Cpu t.0, keeps, tt, lifts s r id i (f (get_or s.words i 0)) v t.0 me.1 at' g, (lives, t.2))
+        r.wide mine.3 here in
+        let next = number_in (set s.words i (f (get_or s.words i 0))) in
+        let low = mine.3.below in
+        let lives : Lives t.0 = lives_on v.setting r.stops (number_in s.words) r.seat r.source v.number next t.0 online low here t.2 t.1 in
+        let g = subst (λ j. GoesOn j r.stops r.seat r.source v.number next t.0) set_k t.1 in
+        let on = subst (λ (j : Setting). has j.online v.number ≡ true) set_k online in
+        let within' = within_on k r.stops (number_in s.words) r.seat r.source v.number next t.0 on low r.within t.2 g in
+        (Cpu t.0, keeps, tt, lifts s r id i (f (get_or s.words i 0)) v t.0 me.1 at' g within', (lives, t.3))
 
     pub load_allowed : (w : Word) (i : ℕ) → cell_of w ≡ Some i → Can (known me.0) (Load w)
         → Allows (Ruled k) slots id me i (λ n. n) (loaded (step slots i 0 0 none) me)
-    load_allowed w i e can = steps i (λ n. n) (AfterLoad (step slots i 0 0 none) me) (λ p seat source words shown wide sees.
+    load_allowed w i e can = steps i (λ n. n) (AfterLoad (step slots i 0 0 none) me) (λ p seat source words shown wide sees within.
         let here : number_in words w ≡ get_or words i 0 = number_here words w i e in (
           known_told v act.Load w (Some (get_or words i 0)) None,
           subst (λ (x : List ℕ). GoesOn v.setting p seat source v.number (number_in x) (known_told v act.Load w (Some (get_or words i 0)) None))
               (sym (set-get_or words i 0))
               (subst (λ n. GoesOn v.setting p seat source v.number (number_in words) (known_told v act.Load w (Some n) None)) here
               (load_step p (number_in words) seat source v shown sees w can)),
+          subst (λ (x : List ℕ). AreI32Words (number_in x)) (sym (set-get_or words i 0)) within.results,
           λ u f. (
-            record { stops = p; at = number_in words; seat = seat; source = source; shown = shown; sees = sees; number_is = sym (number_here words u i f) },
+            record {
+              stops = p;
+              at = number_in words;
+              seat = seat;
+              source = source;
+              shown = shown;
+              sees = sees;
+              within = within;
+              online = online;
+              number_is = sym (number_here words u i f);
+            },
             ap (λ (x : Word). Cpu (known_told v act.Load x (Some (get_or words i 0)) None)) (one_cell w u i e f),
           ),
         ))
 
-    pub store_allowed : (w : Word) (i x : ℕ) → cell_of w ≡ Some i → Can (known me.0) (Store w x)
+    pub store_allowed : (w : Word) (i x : ℕ) → cell_of w ≡ Some i → Can (known me.0) (Store w x) → FitsWord w x
         → Allows (Ruled k) slots id me i (λ _. x) (λ _. stored (step slots i x 0 none) me x)
-    store_allowed w i x e can = steps i (λ _. x) (λ _. AfterStore (step slots i x 0 none) me x) (λ p seat source words shown wide sees. (
+    store_allowed w i x e can fits = steps i (λ _. x) (λ _. AfterStore (step slots i x 0 none) me x) (λ p seat source words shown wide sees within. (
       known_told v act.Store w None (Some x),
       subst (λ (at : Word → ℕ). GoesOn v.setting p seat source v.number at (known_told v act.Store w None (Some x))) (sym (stored_here words w i x wide e))
           (store_step p (number_in words) seat source v shown sees w x can),
+      subst AreI32Words (sym (stored_here words w i x wide e)) (put_fits (number_in words) w x within.results fits),
       λ u f. ap (λ (y : Word). Cpu (known_told v act.Store y None (Some x))) (one_cell w u i e f),
     ))
 
@@ -261,10 +339,10 @@ module _ {S : Type 0} (k : Setting) where
     exchanged_words words w i n x true l e is = stored_here words w i x l e
     exchanged_words words w i n x false l e is = ap number_in (ap (set words i) is ∙ set-get_or words i 0)
 
-    pub exchange_allowed : (w : Word) (i old new : ℕ) → cell_of w ≡ Some i → Can (known me.0) (Exchange w old new) →
+    pub exchange_allowed : (w : Word) (i old new : ℕ) → cell_of w ≡ Some i → Can (known me.0) (Exchange w old new) → IsNoResult w →
         Allows (Ruled k) slots id me i (λ n. either (n == old) new n) (exchanged (step slots i old new none) me)
-    exchange_allowed w i old new e can = steps i (λ n. either (n == old) new n) (AfterExchange (step slots i old new none) me)
-        (λ p seat source words shown wide sees.
+    exchange_allowed w i old new e can none_of = steps i (λ n. either (n == old) new n) (AfterExchange (step slots i old new none) me)
+        (λ p seat source words shown wide sees within.
         let n = get_or words i 0 in
         let here : number_in words w ≡ n = number_here words w i e in
         let same : (put_if put_word (number_in words) w (cond (number_in words w == old) (Some new) None)) ≡ number_in (set words i (either (n == old) new n)) =
@@ -274,15 +352,27 @@ module _ {S : Type 0} (k : Setting) where
               (subst (λ k. GoesOn v.setting p seat source v.number (put_if put_word (number_in words) w (cond (number_in words w == old) (Some new) None))
               (known_told v act.Cas w (Some k) (cond (k == old) (Some new) None))) here
               (exchange_step p (number_in words) seat source v shown sees w old new can)),
+          subst AreI32Words same (put_if_fits (number_in words) w new (number_in words w == old) within.results none_of),
           λ u f. (
-            record { stops = p; at = number_in words; seat = seat; source = source; shown = shown; sees = sees; number_is = sym (number_here words u i f) },
+            record {
+              stops = p;
+              at = number_in words;
+              seat = seat;
+              source = source;
+              shown = shown;
+              sees = sees;
+              within = within;
+              online = online;
+              number_is = sym (number_here words u i f);
+            },
             ap (λ (x : Word). Cpu (known_told v act.Cas x (Some n) (cond (n == old) (Some new) None))) (one_cell w u i e f),
           ),
         ))
 
-    pub sub_allowed : (w : Word) (i : ℕ) → cell_of w ≡ Some i → Can (known me.0) (Sub w)
+    pub sub_allowed : (w : Word) (i : ℕ) → cell_of w ≡ Some i → Can (known me.0) (Sub w) → IsNoResult w
         → Allows (Ruled k) slots id me i (λ n. (n + (2 ^ 64 - 1)) % 2 ^ 64) (subtracted (step slots i 1 0 none) me)
-    sub_allowed w i e can = steps i (λ n. (n + (2 ^ 64 - 1)) % 2 ^ 64) (AfterSubtract (step slots i 1 0 none) me) (λ p seat source words shown wide sees.
+    sub_allowed w i e can none_of = steps i (λ n. (n + (2 ^ 64 - 1)) % 2 ^ 64) (AfterSubtract (step slots i 1 0 none) me)
+        (λ p seat source words shown wide sees within.
         let n = get_or words i 0 in
         let here : number_in words w ≡ n = number_here words w i e in (
           known_told v act.Sub w (Some n) (Some (one_less n)),
@@ -290,15 +380,27 @@ module _ {S : Type 0} (k : Setting) where
               (sym (stored_here words w i (one_less n) wide e))
               (subst (λ m. GoesOn v.setting p seat source v.number (put_word (number_in words) w (one_less m))
               (known_told v act.Sub w (Some m) (Some (one_less m)))) here (sub_step p (number_in words) seat source v shown sees w can)),
+          subst AreI32Words (sym (stored_here words w i (one_less n) wide e))
+              (put_fits (number_in words) w (one_less n) within.results (no_result w (one_less n) none_of)),
           λ u f. (
-            record { stops = p; at = number_in words; seat = seat; source = source; shown = shown; sees = sees; number_is = sym (number_here words u i f) },
+            record {
+              stops = p;
+              at = number_in words;
+              seat = seat;
+              source = source;
+              shown = shown;
+              sees = sees;
+              within = within;
+              online = online;
+              number_is = sym (number_here words u i f);
+            },
             ap (λ (y : Word). Cpu (known_told v act.Sub y (Some n) (Some (one_less n)))) (one_cell w u i e f),
           ),
         ))
 
-    pub and_allowed : (w : Word) (i x : ℕ) → cell_of w ≡ Some i → Can (known me.0) (And w x)
+    pub and_allowed : (w : Word) (i x : ℕ) → cell_of w ≡ Some i → Can (known me.0) (And w x) → IsNoResult w
         → Allows (Ruled k) slots id me i (λ n. bit_and n x) (masked (step slots i x 0 none) me)
-    and_allowed w i x e can = steps i (λ n. bit_and n x) (AfterMask (step slots i x 0 none) me) (λ p seat source words shown wide sees.
+    and_allowed w i x e can none_of = steps i (λ n. bit_and n x) (AfterMask (step slots i x 0 none) me) (λ p seat source words shown wide sees within.
         let n = get_or words i 0 in
         let here : number_in words w ≡ n = number_here words w i e in (
           known_entering (entering p w) v act.And w (Some n) (Some (bit_and n x)),
@@ -307,11 +409,27 @@ module _ {S : Type 0} (k : Setting) where
               (subst (λ m. GoesOn v.setting p seat source v.number (put_word (number_in words) w (bit_and m x))
               (known_entering (entering p w) v act.And w (Some m) (Some (bit_and m x)))) here
               (and_step p (number_in words) seat source v shown sees w x can)),
+          subst AreI32Words (sym (stored_here words w i (bit_and n x) wide e))
+              (put_fits (number_in words) w (bit_and n x) within.results (no_result w (bit_and n x) none_of)),
           λ u f. (
-            record { stops = p; at = number_in words; seat = seat; source = source; shown = shown; sees = sees; number_is = sym (number_here words u i f) },
+            record {
+              stops = p;
+              at = number_in words;
+              seat = seat;
+              source = source;
+              shown = shown;
+              sees = sees;
+              within = within;
+              online = online;
+              number_is = sym (number_here words u i f);
+            },
             ap (λ (y : Word). Cpu (known_entering (entering p y) v act.And y (Some n) (Some (bit_and n x)))) (one_cell w u i e f),
           ),
         ))
 
 pub can_same : (v u : Known) (access : Access) → v ≡ u → Can u access → Can v access
 can_same v u access e can = subst (λ (x : Known). Can x access) (sym e) can
+
+-- the seat of an online CPU after a step
+pub seat_on : (s : SeatView) (w : Known) (carried : ℕ) → s ≡ Cpu w → Lives (known s) → IsI32Word carried → IsCpuSeat s carried
+seat_on s w carried is lives fits = record { is = is ∙ sym (ap (λ (x : SeatView). Cpu (known x)) is); online = lives.online; fits = fits }

@@ -1,11 +1,12 @@
 -- What a CPU keeps between two calls, and what a call leaves of its value.
-use Rattle.std.proofs.Common.{◌≡◌, ℕ, ℤ, Ok, ◌+◌, ◌<◌, ◌^◌, nat_lt, Bool, true, false, cond, Option, Some, None, List, [], ◌∷◌, ◌++◌, length, inl, inr}
+use Rattle.std.proofs.Common.{◌≡◌, ℕ, ℤ, Ok, ◌+◌, ◌<◌, ◌%◌, ◌^◌, nat_lt, Bool, true, false, cond, Option, Some, None, List, [], ◌∷◌, ◌++◌, length, inl, inr}
 use Rattle.std.proofs.Common.{sym, subst, refl, ap, ◌∙◌, arith, eq-eqb}
 use Rattle.atomic_table.specs.Seated.{TableId}
 use Rattle.smp_mask.specs.Mask.{has}
 use Rattle.smp_words.specs.Size.{cpus}
 use Rattle.smp_stop_steps.specs.Callings.{IsCalling, with_answer}
-use Rattle.smp_stop_steps.specs.Known.{carrying, setup_in, told_source, told_calling, Lives}
+use Rattle.smp_stop_steps.specs.Known.{carrying, setup_in, told_source, told_calling}
+use Rattle.smp_multi.specs.Lives.{Lives}
 use Rattle.smp_stop_steps.specs.KnownAfter.{completed_with, is_drafting}
 use Rattle.smp_stop_steps.specs.Laws.{IsResult}
 use Rattle.smp_stop_steps.specs.Past.{Past, AllPast, works_of, results_of, answers_of, answer_now}
@@ -14,7 +15,10 @@ use Rattle.smp_stop_steps.specs.Sits.{SitsAtRest, OwnsIf}
 use Rattle.smp_stop_steps.specs.Slots.{IsPhaseOf}
 use Rattle.smp_stop_steps.specs.Sources.{IsWork, SourceShows}
 use Rattle.smp_stop_steps.specs.Stages.{stop_outside}
+use Rattle.std.specs.Int.{cast_signed, w32}
 use Rattle.std.proofs.lemmas.Bool.{and_parts, ltb-true}
+use Rattle.std.proofs.lemmas.Int.{of_z-to_z}
+use Rattle.smp_stop_steps.specs.AnswerWords.{IsI32Word}
 use Rattle.std.proofs.lemmas.List.{append-nil}
 use Rattle.smp_stop_steps.specs.Starts.{begin_refusal, has_slot, answer_word}
 use Rattle.smp_stop_steps.specs.State.{Setup}
@@ -29,7 +33,7 @@ use Rattle.smp_stop_steps.proofs.State.Phases.{is_open_inside, keeps_inside}
 use Rattle.smp_stop_steps.proofs.TheMachine.Starting.{begins_work}
 use Rattle.smp_multi.specs.Names.{Field, Work, Kind, One, Slot, Seat, Free, In, Rests, Source, Shut, Drafts, Owns, Collects, Known, Part, Setting, Duty}
 use Rattle.smp_multi.specs.Names.{Calling, Idle, Calls, Carries}
-use Rattle.smp_multi.specs.Answers.{Enters, RunAnswers, PollAnswers, answer_in}
+use Rattle.smp_multi.specs.Answers.{Enters, RunAnswers, PollAnswers, IsWholeWord, answer_in}
 use Rattle.smp_multi.specs.Begins.{Begins}
 use Rattle.smp_multi.specs.Cells.{cells}
 use Rattle.smp_multi.specs.Cpu.{TableValue, CallsNone, IsKept, call_with, calls_with, part_with, cpu_of, inside_of, is_in, enters, runs}
@@ -328,11 +332,19 @@ run_answers {F} leads d e number visit holds is_open before after v kept one tab
       subst (λ (x : Work). leads before (called d.known.number x.func x.arg v) after) work heard,
     )
 
+-- the word of a result is that of its i32
+whole_word : (v : ℤ) (word : ℕ) → v ≡ answer_in word → IsI32Word word → IsWholeWord v word
+whole_word v word is fits =
+    let uncut : word % 2 ^ 32 ≡ word = omega (arith, fits) in
+    let same : v ≡ cast_signed w32 word = is ∙ ap (cast_signed w32) uncut in
+    let back : answer_word v ≡ word = ap answer_word same ∙ of_z-to_z w32 word fits in
+    (sym back, (λ z. sym back ∙ ap answer_word z, λ z. same ∙ ap (cast_signed w32) z))
+
 -- a CPU that has collected: its stop was open, and the result is the last
 pub poll_answers : (d e f : SeatValue) (number : ℕ) (visit : Option Visit) (holds : Bool) (word : ℕ) (v : ℤ) → IsKept d.known number visit holds true
-    → e.known ≡ looked true d.known → f.table ≡ d.table → f.known ≡ collected word e.known → Lives f.known → v ≡ answer_in word →
+    → e.known ≡ looked true d.known → f.table ≡ d.table → f.known ≡ collected word e.known → Lives f.known → v ≡ answer_in word → IsI32Word word →
     PollAnswers (cpu_of d) (cpu_of f) (Ok (Some v))
-poll_answers d e f number visit holds word v kept one table two lives is =
+poll_answers d e f number visit holds word v kept one table two lives is fits =
     let all = two ∙ ap (collected word) one in (
       (λ (none : pending_of d.known.source ≡ None). let some : pending_of d.known.source ≡ Some kept.owns.0 = ap pending_of kept.owns.1 in
           let bad : None ≡ Some kept.owns.0 = sym none ∙ some in cc),
@@ -342,5 +354,6 @@ poll_answers d e f number visit holds word v kept one table two lives is =
         collected_view d e f word one table two,
         last_result f d.known.part.collected word lives (ap (λ (z : Known). z.source) all)
             (ap (λ (z : Known). z.part.collected) all),
+        whole_word v word is fits,
       ),
     )

@@ -7,14 +7,14 @@ use Rattle.smp_labels.specs.declared.words.TheConstants.{MOST_KEYS}
 use Rattle.smp_mask.specs.Mask.{has}
 use Rattle.smp_mask.specs.declared.error.SmpError.{SmpError}
 use Rattle.smp_mask.specs.declared.error.SmpError.TheVariants as error
-use Rattle.smp_stop_steps.specs.Known.{Lives, Moment}
+use Rattle.smp_multi.specs.Lives.{Lives, Moment}
 use Rattle.smp_stop_steps.specs.Moves.{Nudge as NudgeKey}
 use Rattle.smp_stop_steps.specs.Seats.{irq_of}
 use Rattle.smp_stop_steps.specs.Sits.{IsNudge}
 use Rattle.smp_stop_steps.specs.Stages.{nudge_of}
 use Rattle.smp_multi.specs.Names.{Key, Exchange, Known}
 use Rattle.smp_multi.specs.Cpu.{cpu_of}
-use Rattle.smp_multi.specs.Nudges.{LoadsCount, NudgeAnswers, NudgeKnown, StaysOn, loads_known, nudged_known}
+use Rattle.smp_multi.specs.Nudges.{LoadsCount, NudgeAnswers, NudgeKnown, StaysOn, loads_known, lost_known, nudged_known}
 use Rattle.smp_multi.specs.Reads.{MayRead}
 use Rattle.smp_multi.specs.Seat.{SeatValue, Ready}
 use Rattle.smp_multi.specs.declared.nudge.Nudge.{Nudge}
@@ -31,6 +31,7 @@ ready_nudge t d m k count next low nudge = record {
     sized = m.sized;
     can = record { move = NudgeKey k count next; may = (m.irq, m.online, low, nudge); is_access = refl };
     cell = key_cell k low;
+    fits = tt;
   };
   apart = tt;
 }
@@ -87,7 +88,7 @@ module _ (d e : SeatValue) (k : ℕ) (up : Bool) (table : e.table ≡ d.table) (
       (n, loads n h.1 (lives_at _ (Key k) n h.3), h.2, finds_count (loaded d k n) k n free h.3, same_view (nudged_known up k (loads_known k n d.known)) h.4)
   nudge_answers (Ok Lost) h =
       let n = h.0 in
-      (n, h.1, loads n h.2 (lives_at _ (Key k) h.1 h.4), h.3, finds_count (loaded d k n) k h.1 free h.4, h.5, same_view (loads_known k n d.known) h.6)
+      (n, h.1, loads n h.2 (lives_at _ (Key k) h.1 h.4), h.3, finds_count (loaded d k n) k h.1 free h.4, h.5, same_view (lost_known k (loads_known k n d.known)) h.6)
   nudge_answers (Ok Stop) h = let n = h.0 in let w = loads_known k n d.known in (n, loads n h.1 (lives_as w h.3), h.2, same_view w h.3)
   nudge_answers (Err (error.KeyRange x)) h = let n = h.0 in let w = loads_known k n d.known in (n, loads n h.1 (lives_as w h.4), h.2, h.3, same_view w h.4)
   nudge_answers (Err _) h = absurd h

@@ -7,7 +7,7 @@ use Rattle.std.proofs.lemmas.List.{append-nil, drop_all, get_or_past, take-appen
 use Rattle.std.specs.List.{AllByRecursion}
 use Rattle.atomic_table.specs.Seated.{TableId}
 use Rattle.smp_labels.specs.Entries.{entry_word, entry_at, IsEntryWord}
-use Rattle.smp_labels.specs.Keys.{is_on}
+use Rattle.smp_labels.specs.Keys.{count_after, is_on}
 use Rattle.smp_labels.specs.Kinds.{kind_of, kind_word, xor}
 use Rattle.smp_labels.specs.Law.{Table}
 use Rattle.smp_labels.specs.Plans.{patch_of, plan_of, site_change, site_changes}
@@ -19,10 +19,13 @@ use Rattle.smp_labels.proofs.Patched.{plan_key_first}
 use Rattle.smp_labels.proofs.Stores.{entries_kept}
 use Rattle.smp_mask.specs.Mask.{has}
 use Rattle.smp_words.specs.Size.{cpus}
-use Rattle.smp_stop_steps.specs.Known.{Lives, Moment, carrying, setup_in}
+use Rattle.smp_stop_steps.specs.Known.{carrying, setup_in}
+use Rattle.smp_multi.specs.Lives.{Lives, Moment}
 use Rattle.smp_stop_steps.specs.KnownAfter.{acked_by, called_by, counted, is_drafting, key_loaded_by, known_told, looked_known, looked_to}
-use Rattle.smp_stop_steps.specs.KnownAfter.{raised_by, reads_more}
-use Rattle.smp_stop_steps.specs.Labels.{Change, LabelsShow, Patching, Patches, Whole, count_set, patch_answer}
+use Rattle.smp_stop_steps.specs.KnownAfter.{key_read_known, raised_by}
+use Rattle.smp_stop_steps.specs.Names.{change_of}
+use Rattle.smp_stop_steps.specs.AnswerWords.{IsI32Word}
+use Rattle.smp_stop_steps.specs.Labels.{Change, LabelsShow, Patching, Patches, Whole, answer_for, count_set, patch_answer}
 use Rattle.smp_stop_steps.specs.Moves.{Alter, AcknowledgePatch, BeginPatch, LoadEntry}
 use Rattle.smp_stop_steps.specs.Seats.{Stands}
 use Rattle.smp_stop_steps.specs.Sits.{IsLoaded}
@@ -35,14 +38,14 @@ use Rattle.smp_stop_steps.proofs.Promises.Functions.{runs_alone}
 use Rattle.smp_stop_steps.proofs.State.Phases.{is_open_inside}
 use Rattle.smp_multi.specs.Names.{Work, Kind, Patch, Slot, Key, Entry, Field, Load, Store, Sub, Seat, Duty, Rests, Fills, Known}
 use Rattle.smp_multi.specs.Names.{Free, In, Gives, Alters, Closes}
-use Rattle.smp_multi.specs.Names.{Moved, Calls, Carries, ReadKey}
+use Rattle.smp_multi.specs.Names.{Moved, Calls, Carries}
 use Rattle.smp_multi.specs.Names.act
 use Rattle.smp_multi.specs.Names.field
 use Rattle.smp_multi.specs.Cells.{cells, HasCell}
 use Rattle.smp_multi.specs.Patches.{AtPatch, IsInPatch, begins_with, count_in, entries_in, made_in, moved_with, rest_in, stored_all, stored_to}
 use Rattle.smp_multi.specs.Places.{work_in}
 use Rattle.smp_multi.specs.Rounds.{AloneWhile, AtRun, AtTurn}
-use Rattle.smp_multi.specs.Seat.{SeatValue, Able, Ready}
+use Rattle.smp_multi.specs.Seat.{SeatValue, Able, Ready, FitsWord}
 use Rattle.smp_multi.specs.Turns.{HasRun, patched_by, patched_with}
 use Rattle.smp_multi.specs.declared.func.Called.{Called}
 use Rattle.smp_multi.proofs.Cells.{slot_cell, key_cell, entry_cell, site_cell}
@@ -67,6 +70,11 @@ entry_form (Patches c w count made rest) t h i low = subst IsEntryWord (sym (ap 
 
 pub entry_found : (v : Known) (i n : ℕ) → i < MOST_SITES → Moment v (Entry i) n → IsEntryWord n
 entry_found v i n low m = subst IsEntryWord (sym m.number_is) (entry_form m.stops.now.patching _ m.shown.present.labels i low)
+
+-- a label is no result
+label_fits : (x : Place) (n : ℕ) → FitsWord (label_word x) n
+label_fits (place.Key k) n = tt
+label_fits (place.Site i) n = tt
 
 -- there are no more entries than sites
 pub few_entries : (v : Known) → Lives v → length (entries_in v) ≤ MOST_SITES
@@ -94,6 +102,7 @@ module _ (t : TableId) (d : SeatValue) (v : Visit) (a : AtRun t d v Patch) where
         is_access = ap (λ n. Load (Key n)) (sym is);
       };
       cell = key_cell k low;
+      fits = tt;
     };
     apart = tt;
   }
@@ -117,7 +126,7 @@ module _ (t : TableId) (d : SeatValue) (v : Visit) (a : AtRun t d v Patch) where
   begin_known k found =
       let next = record (d.known) { seat = Alters v.slot work found [] (plan_at (setup_in d.known.setting) work found) } in
       ap (λ (y : Seat). key_loaded_by k found y d.known) is_at_run
-      ∙ (ap (λ (x : Kind). cond (is_patch x) next (reads_more (ReadKey k (is_on found)) d.known)) is_patch_work
+      ∙ (ap (λ (x : Kind). cond (is_patch x) next (key_read_known k found d.known)) is_patch_work
       ∙ sym (ap (λ (y : Seat). begins_with found y d.known) is_at_run))
 
   pub at_patch : (e : SeatValue) (found : ℕ) → e.table ≡ t → e.known ≡ begins_with found d.known.seat d.known → work.func < MOST_KEYS → AtPatch t e v
@@ -157,6 +166,7 @@ ready_entry t d i table sized inside low =
         sized = sized;
         can = record { move = LoadEntry inside.0 (work_in x) (count_in x) (made_in x) (rest_in x) i; may = inside.1; is_access = refl };
         cell = entry_cell i low;
+        fits = tt;
       };
       apart = tt;
     }
@@ -323,6 +333,7 @@ module _ (t : TableId) (d : SeatValue) (v : Visit) (a : AtPatch t d v) (fresh : 
           is_access = refl;
         };
         cell = has_cell change.0 change.1 refl;
+        fits = label_fits change.0 change.1;
       }
     where
       few : length entries ≤ MOST_SITES
@@ -380,6 +391,14 @@ module _ (t : TableId) (d : SeatValue) (v : Visit) (a : AtPatch t d v) (fresh : 
 
 -- the acknowledgement
 
+-- a patch answers 0 or 1
+pub patch_answer_fits : (w : Work) (count : ℕ) → IsI32Word (patch_answer w count)
+patch_answer_fits w count = go (count_after (change_of w.arg) count)
+  where
+    go : (o : Option ℕ) → IsI32Word (answer_for o)
+    go None = omega arith
+    go (Some n) = omega arith
+
 pub able_acknowledge_patch : (t : TableId) (d : SeatValue) (v : Visit) → AtPatch t d v → rest_in d.known.seat ≡ [] → Able t d (Sub (Slot v.slot field.Ack))
 able_acknowledge_patch t d v a none =
     let w = work_in d.known.seat in
@@ -390,6 +409,7 @@ able_acknowledge_patch t d v a none =
       sized = a.sized;
       can = record { move = AcknowledgePatch v.slot w count made; may = a.seat_is ∙ ap (Alters v.slot w count made) none; is_access = refl };
       cell = slot_cell v.slot field.Ack a.low;
+      fits = tt;
     }
 
 -- where the CPU is once it has acknowledged RUN

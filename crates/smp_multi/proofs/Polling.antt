@@ -1,11 +1,14 @@
 -- The looks of a source, and the result that it collects.
-use Rattle.std.proofs.Common.{◌≡◌, ℕ, ◌==◌, not, Bool, true, false, cond, Option, Some, None, Ok, sym, refl, ap, subst, ◌∙◌, eqb-true}
+use Rattle.std.proofs.Common.{◌≡◌, ℕ, ◌==◌, not, Bool, true, false, cond, Option, Some, None, Ok, [], ◌∷◌, ◌++◌, sym, refl, ap, subst, ◌∙◌, eqb-true}
 use Rattle.atomic_table.specs.Seated.{TableId}
-use Rattle.smp_stop_steps.specs.Known.{Moment}
-use Rattle.smp_stop_steps.specs.KnownAfter.{done_by}
+use Rattle.smp_stop_steps.specs.AnswerWords.{IsI32Word}
+use Rattle.smp_stop_steps.specs.Known.{noting}
+use Rattle.smp_multi.specs.Lives.{Moment}
+use Rattle.smp_stop_steps.specs.KnownAfter.{done_by, done_known}
 use Rattle.smp_stop_steps.specs.declared.stage.Visit.{Visit}
 use Rattle.smp_stop_steps.specs.Moves.{LookDone, Collect}
-use Rattle.smp_multi.specs.Names.{Slot, Load, Source, Owns, Collects}
+use Rattle.smp_multi.specs.Names.{Slot, Known, Load, Source, Owns, Collects}
+use Rattle.smp_multi.specs.Names.own
 use Rattle.smp_multi.specs.Names.field
 use Rattle.smp_multi.specs.Answers.{PollAnswers}
 use Rattle.smp_multi.specs.Cpu.{IsKept, cpu_of}
@@ -24,6 +27,7 @@ module _ (t : TableId) (d : SeatValue) (number : ℕ) where
       sized = a.sized;
       can = record { move = LookDone (own_work d.known.source); may = a.owns; is_access = ap (λ n. Load (Slot n field.Done)) a.number_is };
       cell = slot_cell number field.Done a.below;
+      fits = tt;
     };
     apart = tt;
   }
@@ -35,17 +39,25 @@ module _ (t : TableId) (d : SeatValue) (number : ℕ) where
       sized = a.sized;
       can = record { move = Collect (own_work d.known.source); may = a.collects; is_access = ap (λ n. Load (Slot n field.Result)) a.number_is };
       cell = slot_cell number field.Result a.below;
+      fits = tt;
     };
     apart = tt;
   }
 
+  abbrev told : Bool → Source → Known
+  told c y = record (d.known) { source = y; moves = cond c (d.known.moves ++ own.NotDone ∷ []) d.known.moves }
+
   pub known_done : (found : ℕ) → IsOwner t d number → (b : Bool) → b ≡ not (found == 0)
-      → record (d.known) { source = done_by found d.known.source } ≡ looked b d.known
-  known_done found a b e = ap (λ (y : Source). record (d.known) { source = done_by found y }) a.owns ∙ (go (found == 0) ∙ ap (λ c. looked c d.known) (sym e))
+      → done_known found d.known ≡ looked b d.known
+  known_done found a b e = ap (λ (y : Source). told (found == 0) (done_by found y)) a.owns ∙ (go (found == 0) ∙ ap (λ c. looked c d.known) (sym e))
     where
-      go : (c : Bool) → record (d.known) { source = cond c (Owns (own_work d.known.source)) (Collects (own_work d.known.source)) } ≡ looked (not c) d.known
+      go : (c : Bool) → told c (cond c (Owns (own_work d.known.source)) (Collects (own_work d.known.source))) ≡ looked (not c) d.known
       go true = refl
       go false = refl
+
+-- a result has the bits of an i32
+pub result_fits : (v : Known) (s n : ℕ) → Moment v (Slot s field.Result) n → IsI32Word n
+result_fits v s n m = subst IsI32Word (sym m.number_is) (m.within.results s)
 
 -- a CPU that has found done not set
 pub poll_none : (d e : SeatValue) (number : ℕ) (visit : Option Visit) (holds : Bool) (n : ℕ) (b : Bool) → IsKept d.known number visit holds true
@@ -53,9 +65,10 @@ pub poll_none : (d e : SeatValue) (number : ℕ) (visit : Option Visit) (holds :
     PollAnswers (cpu_of d) (cpu_of e) (Ok None)
 poll_none d e number visit holds n b kept table same m is none =
     let w = kept.owns.0 in
-    let owned : looked false d.known ≡ d.known = ap (λ y. record (d.known) { source = Owns (own_work y) }) kept.owns.1
-    ∙ sym (ap (λ y. record (d.known) { source = y }) kept.owns.1) in
-    let known : e.known ≡ d.known = same ∙ (ap (λ c. looked c d.known) none ∙ owned) in
+    let vain : Known = noting own.NotDone d.known in
+    let owned : looked false d.known ≡ vain = ap (λ y. record vain { source = Owns (own_work y) }) kept.owns.1
+    ∙ sym (ap (λ y. record vain { source = y }) kept.owns.1) in
+    let known : e.known ≡ vain = same ∙ (ap (λ c. looked c d.known) none ∙ owned) in
     let found : Finds (cpu_of d) (Slot number field.Done) n = finds d (Slot number field.Done) n (rests_ungiven visit d.known.seat kept.rests) m in (
       (λ (closed : pending_of d.known.source ≡ None). let some : pending_of d.known.source ≡ Some w = ap pending_of kept.owns.1 in
           let bad : None ≡ Some w = sym closed ∙ some in cc),

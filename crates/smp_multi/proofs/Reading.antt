@@ -2,32 +2,46 @@
 use Rattle.std.specs.List.{AllByRecursion}
 use Rattle.std.proofs.Common.{◌≡◌, ℕ, ◌<◌, Bool, true, Ok, length, sym, subst, refl, ap, ◌∙◌}
 use Rattle.atomic_table.specs.Seated.{TableId}
-use Rattle.smp_labels.specs.Keys.{IsKeyWord}
+use Rattle.smp_labels.specs.Keys.{IsKeyWord, is_on}
 use Rattle.smp_labels.specs.declared.kinds.SiteKind.{SiteKind}
 use Rattle.smp_labels.specs.declared.words.TheConstants.{MOST_KEYS, MOST_SITES}
 use Rattle.smp_mask.specs.Mask.{has}
-use Rattle.smp_stop_steps.specs.Known.{Lives, Moment, setup_in}
+use Rattle.smp_stop_steps.specs.Known.{setup_in}
+use Rattle.smp_multi.specs.Lives.{Lives, Moment}
 use Rattle.smp_stop_steps.specs.KnownAfter.{reads_more}
 use Rattle.smp_stop_steps.specs.Labels.{Agrees, labels_in}
 use Rattle.smp_stop_steps.specs.Moves.{ReadKey as LoadKey, ReadSite as LoadSite}
 use Rattle.smp_stop_steps.specs.Seats.{irq_of}
 use Rattle.smp_stop_steps.proofs.State.Patched.{lawful_when_on}
-use Rattle.smp_multi.specs.Names.{Key, Site, Load, Known, Reading, ReadKey, ReadSite}
+use Rattle.smp_multi.specs.Names.{Key, Site, Load, Known, Reading, ReadSite}
 use Rattle.smp_multi.specs.Cpu.{cpu_of}
-use Rattle.smp_multi.specs.Reads.{MayRead, ReadsOneTable, KeyAnswers, SiteAnswers, jumps, reads}
+use Rattle.smp_multi.specs.Reads.{MayRead, ReadsOneTable, KeyAnswers, SiteAnswers, jumps, loads_known, reads}
 use Rattle.smp_multi.specs.Seat.{SeatValue, Ready}
 use Rattle.smp_multi.proofs.Cells.{key_cell, site_cell}
+use Rattle.smp_multi.proofs.Showing.{HasNotGiven, finds_count}
 
 module _ (t : TableId) (d : SeatValue) (m : MayRead t d) where
   pub ready_key : (k : ℕ) → k < MOST_KEYS → Ready t d (Load (Key k))
   ready_key k low = record {
-    able = record { table_is = m.table_is; sized = m.sized; can = record { move = LoadKey k; may = m.irq; is_access = refl }; cell = key_cell k low };
+    able = record {
+      table_is = m.table_is;
+      sized = m.sized;
+      can = record { move = LoadKey k; may = m.irq; is_access = refl };
+      cell = key_cell k low;
+      fits = tt;
+    };
     apart = tt;
   }
 
   pub ready_site : (i : ℕ) → i < MOST_SITES → Ready t d (Load (Site i))
   ready_site i low = record {
-    able = record { table_is = m.table_is; sized = m.sized; can = record { move = LoadSite i; may = m.irq; is_access = refl }; cell = site_cell i low };
+    able = record {
+      table_is = m.table_is;
+      sized = m.sized;
+      can = record { move = LoadSite i; may = m.irq; is_access = refl };
+      cell = site_cell i low;
+      fits = tt;
+    };
     apart = tt;
   }
 
@@ -59,11 +73,15 @@ module _ (d e : SeatValue) (r : Reading) (table : e.table ≡ d.table) (same : e
   pub read_table : ReadsOneTable (cpu_of e)
   read_table = reads_table e lives (ap (λ (v : Known). has v.setting.online v.number) same ∙ online) (ap (λ (v : Known). irq_of v.seat) same ∙ on)
 
-pub key_answers : (d e : SeatValue) (k : ℕ) (b : Bool) → e.table ≡ d.table → e.known ≡ reads_more (ReadKey k b) d.known → Lives e.known
-    → has d.known.setting.online d.known.number ≡ true → irq_of d.known.seat ≡ true → k < d.known.setting.labels.keys
+pub key_answers : (d e : SeatValue) (k count : ℕ) (b : Bool) → e.table ≡ d.table → Moment d.known (Key k) count → b ≡ is_on count
+    → e.known ≡ loads_known k count d.known → Lives e.known
+    → has d.known.setting.online d.known.number ≡ true → irq_of d.known.seat ≡ true → k < d.known.setting.labels.keys → HasNotGiven d.known.seat
     → KeyAnswers k (cpu_of d) (cpu_of e) (Ok b)
-key_answers d e k b table same lives online on low =
-    ((low, on), read_view d e (ReadKey k b) table same lives online on, read_table d e (ReadKey k b) table same lives online on)
+key_answers d e k count b table m found same lives online on low free = (
+  (low, on),
+  (count, finds_count d k count free m, found, λ i. cpu_of (record { table = table i; known = same i })),
+  reads_table e lives (ap (λ (v : Known). has v.setting.online v.number) same ∙ online) (ap (λ (v : Known). irq_of v.seat) same ∙ on),
+)
 
 pub site_answers : (d e : SeatValue) (i : ℕ) (kind : SiteKind) → e.table ≡ d.table → e.known ≡ reads_more (ReadSite i (jumps kind)) d.known
     → Lives e.known

@@ -1,7 +1,8 @@
 -- The steps round the function of a stop of one CPU.
 use Rattle.std.proofs.Common.{◌≡◌, ◌≢◌, ℕ, ◌<◌, ◌^◌, ◌||◌, true, false, cond, inr, sym, subst, refl, ap, ◌∙◌}
 use Rattle.atomic_table.specs.Seated.{TableId}
-use Rattle.smp_stop_steps.specs.Known.{Moment, setup_in}
+use Rattle.smp_stop_steps.specs.Known.{setup_in}
+use Rattle.smp_multi.specs.Lives.{Moment}
 use Rattle.smp_stop_steps.specs.KnownAfter.{called_by, is_drafting}
 use Rattle.smp_stop_steps.specs.Moves.{LoadArg, LoadField, IsPlain}
 use Rattle.smp_stop_steps.specs.Tells.{is_one}
@@ -60,6 +61,7 @@ module _ (t : TableId) (d : SeatValue) (slot : ℕ) where
           sized = a.sized;
           can = record { move = LoadArg slot (work_in d.known.seat) 0 0; may = a.seat_is; is_access = refl };
           cell = slot_cell slot field.Arg a.low;
+          fits = tt;
         };
     apart = tt;
   }
@@ -82,6 +84,7 @@ module _ (t : TableId) (d : SeatValue) (slot : ℕ) where
           sized = a.sized;
           can = record { move = LoadField slot (work_in d.known.seat) 0 0 f; may = (plain, a.seat_is); is_access = refl };
           cell = slot_cell slot f a.low;
+          fits = tt;
         };
     apart = tt;
   }

@@ -1,6 +1,6 @@
 -- The CPUs of a table, as they are seated one after the other.
 use Rattle.std.proofs.Common.{◌≡◌, ℕ, ◌+◌, ◌<◌, ◌≤◌, Bool, true, false, cond, Option, Some, None, List, [], ◌∷◌, ◌++◌, length, length-append}
-use Rattle.std.proofs.Common.{get_or, map, sym, refl, ap, ◌∙◌, subst, inl, inr, arith}
+use Rattle.std.proofs.Common.{get_or, map, option_map, sym, refl, ap, ◌∙◌, subst, inl, inr, arith}
 use Rattle.std.specs.Prelude.{IfSome, is_some}
 use Rattle.std.proofs.lemmas.List.{get_or_push, get_or_append_left, get_or_default}
 use Rattle.std.proofs.lemmas.Bool.{cases_eq}
@@ -11,7 +11,10 @@ use Rattle.smp_words.specs.Limits.{AreLimits}
 use Rattle.smp_words.specs.Size.{cpus}
 use Rattle.smp_multi.specs.Cells.{cells}
 use Rattle.smp_multi.specs.Cpu.{CpuValue, fresh_cpu, AreWaiting}
+use Rattle.smp_multi.specs.Lives.{Lives}
 use Rattle.smp_multi.specs.Names.{Setting, SeatView, Maker}
+use Rattle.smp_multi.specs.Seat.{SeatValue, fresh_seat}
+use Rattle.smp_stop_steps.specs.Known.{fresh}
 
 -- the CPUs below n have a seat, and of these the ones online are kept
 pub record AreSeated (table maker_table : TableId) (maker : SeatView) (k : Setting) (n : ℕ) (waiting : List (Option CpuValue)) : Type 0 where
@@ -37,6 +40,27 @@ seats_more table maker_table maker_table' maker maker' k n waiting waiting' x s 
         | inr ne ↦ get_or_append_left waiting (x ∷ []) None cpu (omega arith) ∙ s.each cpu (omega arith)
       ];
     })
+
+-- the seat of the next CPU, where it is online
+module _ (b : Bool) (table : TableId) (k : Setting) (n : ℕ) (on : b ≡ has k.online n) (seat : Option SeatValue)
+    (is : seat ≡ cond b (Some (fresh_seat table k n)) None) where
+  pub seat_lives : (has k.online n ≡ true → Lives (fresh k n))
+      → IfSome seat (λ s. (s.known ≡ fresh s.known.setting n) × (has s.known.setting.online n ≡ true) × Lives s.known)
+  seat_lives lives =
+      subst (λ o. IfSome o (λ s. (s.known ≡ fresh s.known.setting n) × (has s.known.setting.online n ≡ true) × Lives s.known)) (sym is) (go b on)
+    where
+      go : (c : Bool) → c ≡ has k.online n → IfSome (cond c (Some (fresh_seat table k n)) None)
+          (λ s. (s.known ≡ fresh s.known.setting n) × (has s.known.setting.online n ≡ true) × Lives s.known)
+      go true e = (refl, sym e, lives (sym e))
+      go false e = tt
+
+  pub seat_kept : option_map (λ s. fresh_cpu s.table s.known.setting n) seat ≡ cond (has k.online n) (Some (fresh_cpu table k n)) None
+  seat_kept = ap (option_map (λ (s : SeatValue). fresh_cpu s.table s.known.setting n)) is ∙ go b on
+    where
+      go : (c : Bool) → c ≡ has k.online n → option_map (λ s. fresh_cpu s.table s.known.setting n) (cond c (Some (fresh_seat table k n)) None)
+          ≡ cond (has k.online n) (Some (fresh_cpu table k n)) None
+      go true e = subst (λ d. Some (fresh_cpu table k n) ≡ cond d (Some (fresh_cpu table k n)) None) e refl
+      go false e = subst (λ d. None ≡ cond d (Some (fresh_cpu table k n)) None) e refl
 
 -- once all are seated, all that are online wait fresh
 pub seats_wait : (table maker_table : TableId) (maker : SeatView) (nr : ℕ) (k : Setting) (n : ℕ) (waiting : List (Option CpuValue)) → AreLimits nr k.online

@@ -1,8 +1,11 @@
 -- What a CPU knows is its part of stops that keep all laws.
-use Rattle.std.proofs.Common.{ℕ, refl, ◌≡◌, Option, Some, None, List, subst, sym, ap, ◌∙◌}
+use Rattle.std.proofs.Common.{ℕ, refl, ◌≡◌, ◌≢◌, ◌<◌, true, false, Option, Some, None, List, subst, sym, ap, ◌∙◌}
+use Rattle.smp_mask.specs.Mask.{has}
+use Rattle.smp_words.specs.Size.{cpus}
 use Rattle.smp_words.specs.Put.{put}
-use Rattle.smp_words.proofs.Puts.{put_all, put_same}
-use Rattle.smp_stop_steps.specs.Known.{setup_in, Lives, Moment, Sees, told_calling, told_source}
+use Rattle.smp_words.proofs.Puts.{put_all, put_same, put_other}
+use Rattle.smp_stop_steps.specs.Known.{fresh, setup_in, Sees, told_calling, told_source}
+use Rattle.smp_multi.specs.Lives.{Lives, Moment, StaysWithin}
 use Rattle.smp_stop_steps.proofs.Promises.StopLaws.{keeps_laws}
 use Rattle.smp_multi.specs.Cpu.{cpu_of, inside_of, part_with}
 use Rattle.smp_multi.specs.Laws.{Finds, FindsCount, IsShown, IsInside, IsPending}
@@ -113,6 +116,34 @@ module _ (d : SeatValue) (l : Lives d.known) (y : ℕ) (calls : List StopCall) w
     };
   }
 
+  -- CPUs that are not online are others
+  offline_with : (cpu : ℕ) → cpu < cpus → has d.known.setting.online cpu ≡ false
+      → Sees (stops_with y calls me l.stops) l.seat l.source (fresh d.known.setting cpu)
+  offline_with cpu low off =
+      let s = l.within.offline cpu low off in
+      let part = s.part_is in
+      let other : cpu ≢ me = λ same. let bad : true ≡ false = sym l.online ∙ (ap (has d.known.setting.online) (sym same) ∙ off) in cc in
+      record {
+        below = s.below;
+        seat_is = s.seat_is;
+        source_is = s.source_is;
+        is_begun = s.is_begun;
+        part_is = record {
+          holds = part.holds;
+          begun = part.begun;
+          collected = part.collected;
+          answers = part.answers;
+          looks = part.looks;
+          calling = ap told_calling (put_other l.stops.calling me (with_answer y (l.stops.calling me)) cpu other) ∙ part.calling;
+          readings = part.readings;
+          nudged = part.nudged;
+          patched = part.patched;
+        };
+      }
+
+  pub within_with : StaysWithin d.known.setting (stops_with y calls me l.stops) l.at l.seat l.source
+  within_with = record { results = l.within.results; offline = offline_with; beyond = l.within.beyond }
+
   pub calling_with : put l.stops.calling me (with_answer y (l.stops.calling me)) me ≡ with_answer y d.known.part.calling
   calling_with = put_same l.stops.calling me (with_answer y (l.stops.calling me))
       ∙ (sym (with_told y (l.stops.calling me)) ∙ ap (with_answer y) l.sees.part_is.calling)
@@ -130,6 +161,7 @@ is_shown d l free =
       source = l.source;
       shown = shown;
       laws = keeps_laws (setup_in d.known.setting) (stops_with answer calls me l.stops) l.at l.seat l.source shown;
+      within = within_with d l answer calls;
       known = d.known;
       sees = sees_with d l answer calls;
       view = refl;
@@ -143,7 +175,16 @@ is_shown d l free =
 
 -- what is in a word at a moment
 abbrev pub lives_at : (v : Known) (word : Word) (n : ℕ) → Moment v word n → Lives v
-lives_at v word n m = record { stops = m.stops; at = m.at; seat = m.seat; source = m.source; shown = m.shown; sees = m.sees }
+lives_at v word n m = record {
+  stops = m.stops;
+  at = m.at;
+  seat = m.seat;
+  source = m.source;
+  shown = m.shown;
+  sees = m.sees;
+  within = m.within;
+  online = m.online;
+}
 
 pub finds : (d : SeatValue) (word : Word) (n : ℕ) → HasNotGiven d.known.seat → Moment d.known word n → Finds (cpu_of d) word n
 finds d word n free m = record {

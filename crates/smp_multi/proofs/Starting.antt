@@ -14,7 +14,10 @@ use Rattle.smp_words.specs.Limits.{AreLimits}
 use Rattle.smp_words.specs.Size.{cpus}
 use Rattle.smp_words.specs.declared.size.TheConstants.{NR_CPUS, SLOT_WORDS}
 use Rattle.smp_words.proofs.Zeros.{zero_at, get_or-same}
-use Rattle.smp_stop_steps.specs.Known.{setup_in, fresh, Lives}
+use Rattle.smp_stop_steps.specs.Known.{setup_in, fresh}
+use Rattle.smp_mask.specs.Mask.{has}
+use Rattle.smp_stop_steps.specs.AnswerWords.{AreI32Words}
+use Rattle.smp_multi.specs.Lives.{Lives, StaysWithin}
 use Rattle.smp_stop_steps.specs.Labels.{labels_in}
 use Rattle.smp_stop_steps.specs.Shows.{StopShows}
 use Rattle.smp_stop_steps.specs.Stages.{stop_outside}
@@ -103,6 +106,9 @@ module _ (zeros entries sites : List ℕ) (all : (i : ℕ) → get_or zeros i 0 
       (no_stops_shown (setup_in k) (stop_number t) shown.shows.setup refl (λ s. zero_at SLOT_WORDS (slot_cell s field.Roll)) shown.shows.present.entries lawful
       (λ j. get_or-same 0 MOST_KEYS j))
 
+  results_zero : AreI32Words (number_in ((zeros ++ entries) ++ sites))
+  results_zero s = let zero_ = word_same (Slot s field.Result) ∙ zero_at SLOT_WORDS (slot_cell s field.Result) in omega (arith, zero_)
+
 -- what the table is made of
 pub record AreLaid (k : Setting) (nr : ℕ) (entries sites : List ℕ) : Type 0 where
   pub limits : AreLimits nr k.online
@@ -139,15 +145,32 @@ shows_none k nr entries sites a =
     let ne = a.entries_sized in
     laid_shown zeros entries sites (get_or-same {A = ℕ} 0 FIRST_ENTRY) n0 ne a.sites_sized (omega arith) k nr a.limits a.labels a.entries_are a.lawful
 
+-- its result words are 0, and nobody has done anything
+pub nothing_done : (k : Setting) (nr : ℕ) (entries sites : List ℕ) → AreLaid k nr entries sites
+    → StaysWithin k no_stops (number_in ((replicate FIRST_ENTRY 0 ++ entries) ++ sites)) (λ _. Free) (λ _. Shut)
+nothing_done k nr entries sites a =
+    let zeros : List ℕ = replicate FIRST_ENTRY 0 in
+    let n0 : length zeros ≡ FIRST_ENTRY = length-replicate {A = ℕ} FIRST_ENTRY 0 in
+    let n1 = length-append zeros entries in
+    let ne = a.entries_sized in
+    record {
+      results = results_zero zeros entries sites (get_or-same {A = ℕ} 0 FIRST_ENTRY) n0 ne a.sites_sized (omega arith);
+      offline = λ cpu low off. fresh_sees k cpu low;
+      beyond = λ c l. (refl, refl);
+    }
+
 -- each CPU that has done nothing knows its part
-pub lives_fresh : (k : Setting) (nr : ℕ) (entries sites : List ℕ) → AreLaid k nr entries sites → (cpu : ℕ) → cpu < cpus → Lives (fresh k cpu)
-lives_fresh k nr entries sites a cpu low = record {
+pub lives_fresh : (k : Setting) (nr : ℕ) (entries sites : List ℕ) → AreLaid k nr entries sites → (cpu : ℕ) → cpu < cpus → has k.online cpu ≡ true
+    → Lives (fresh k cpu)
+lives_fresh k nr entries sites a cpu low on = record {
   stops = no_stops;
   at = number_in ((replicate FIRST_ENTRY 0 ++ entries) ++ sites);
   seat = λ _. Free;
   source = λ _. Shut;
   shown = shows_none k nr entries sites a;
   sees = fresh_sees k cpu low;
+  within = nothing_done k nr entries sites a;
+  online = on;
 }
 
 pub starts : {S : Type 0} (k : Setting) (nr : ℕ) (entries sites : List ℕ) → AreLaid k nr entries sites
@@ -169,6 +192,7 @@ starts {S} k nr entries sites a =
       shown = shows_none k nr entries sites a;
       each_seat = each;
       absent = λ cpu l low. fresh_sees k cpu low;
+      within = nothing_done k nr entries sites a;
     }
   where
     each : (id : ℕ) (v : SeatView) → get_elem? (Maker 0 k ∷ []) id ≡ some v → SeatKnows k no_stops (λ _. Free) (λ _. Shut) (λ _. 0) 0 id v

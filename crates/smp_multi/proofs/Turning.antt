@@ -7,7 +7,8 @@ use Rattle.smp_words.proofs.Puts.{at_test}
 use Rattle.smp_words.specs.Size.{cpus}
 use Rattle.smp_stop_steps.specs.Callings.{HasCalled}
 use Rattle.smp_stop_steps.specs.Counts.{mask_weight}
-use Rattle.smp_stop_steps.specs.Known.{Moment, setup_in}
+use Rattle.smp_stop_steps.specs.Known.{setup_in}
+use Rattle.smp_multi.specs.Lives.{Moment}
 use Rattle.smp_stop_steps.specs.KnownAfter.{acked_by, called_by, drafted_known, is_drafting, looked_known, looked_to, member_stored, raised_by}
 use Rattle.smp_stop_steps.specs.KnownAfter.{ran_since, read_since}
 use Rattle.smp_stop_steps.specs.KnownAfter.{refilled_by, slot_stored}
@@ -125,6 +126,7 @@ module _ (t : TableId) (d : SeatValue) (v : Visit) where
       sized = a.sized;
       can = record { move = Look v.slot work v.acked v.acked; may = (a.seat_is, more); is_access = refl };
       cell = slot_cell v.slot field.State a.low;
+      fits = tt;
     };
     apart = tt;
   }
@@ -144,6 +146,7 @@ module _ (t : TableId) (d : SeatValue) (v : Visit) where
             is_access = refl;
           };
           cell = slot_cell v.slot field.Ack a.low;
+          fits = tt;
         };
         apart = none;
       }
@@ -159,6 +162,7 @@ module _ (t : TableId) (d : SeatValue) (v : Visit) where
         is_access = ap (Store (Slot v.slot field.Ack)) (ap (mask_weight cpus) (sym a.loaded.mask) ∙ sym e);
       };
       cell = slot_cell v.slot field.Ack a.low;
+      fits = tt;
     };
     apart = tt;
   }
@@ -174,6 +178,7 @@ module _ (t : TableId) (d : SeatValue) (v : Visit) where
         is_access = ap (Store (Slot v.slot field.State)) (sym e);
       };
       cell = slot_cell v.slot field.State a.low;
+      fits = tt;
     };
     apart = tt;
   }
@@ -185,6 +190,7 @@ module _ (t : TableId) (d : SeatValue) (v : Visit) where
       sized = a.at.sized;
       can = record { move = LoadField v.slot work v.acked RUN field.Func; may = (tt, a.at.seat_is); is_access = refl };
       cell = slot_cell v.slot field.Func a.at.low;
+      fits = tt;
     };
     apart = tt;
   }
@@ -196,6 +202,7 @@ module _ (t : TableId) (d : SeatValue) (v : Visit) where
       sized = a.at.sized;
       can = record { move = LoadArg v.slot work v.acked RUN; may = a.at.seat_is; is_access = refl };
       cell = slot_cell v.slot field.Arg a.at.low;
+      fits = tt;
     };
     apart = tt;
   }
@@ -214,6 +221,7 @@ module _ (t : TableId) (d : SeatValue) (v : Visit) where
       is_access = refl;
     };
     cell = slot_cell v.slot field.Ack a.at.low;
+    fits = tt;
   }
 
 -- where the CPU is after each access

@@ -1,6 +1,6 @@
 -- What each call answers, and what it leaves of its CPU.
 use Rattle.std.specs.Int.{cast_signed, w32}
-use Rattle.std.specs.Prelude.{◌≡◌, ◌≢◌, ◌⊎◌, ℕ, ℤ, ◌%◌, ◌^◌, true, false, Option, Some, None, Result, Ok, Err}
+use Rattle.std.specs.Prelude.{◌≡◌, ◌≢◌, ◌⊎◌, ◌↔◌, ℕ, ℤ, pos, ◌%◌, ◌^◌, true, false, Option, Some, None, Result, Ok, Err}
 use Rattle.smp_mask.specs.Mask.{has}
 use Rattle.smp_mask.specs.declared.error.SmpError.{SmpError}
 use Rattle.smp_mask.specs.declared.error.SmpError.TheVariants as error
@@ -11,7 +11,7 @@ use Rattle.smp_multi.specs.Laws.{Finds, FindsNoCall}
 use Rattle.smp_multi.specs.Names.{Slot, Work, Kind, One, StopCall}
 use Rattle.smp_multi.specs.Names.field
 use Rattle.smp_multi.specs.declared.func.Called.{Called}
-use Rattle.smp_multi.specs.Cpu.{TableValue, CpuValue, Inside, call_with, begins, enters, runs, answers, collects, terms_of, is_pending}
+use Rattle.smp_multi.specs.Cpu.{TableValue, CpuValue, Inside, call_with, begins, enters, runs, answers, collects, looks_in_vain, terms_of, is_pending}
 use Rattle.smp_multi.specs.Polls.{IsLastResult}
 use Rattle.smp_multi.specs.Running.{called}
 
@@ -57,9 +57,14 @@ RunAnswers leads old new before after (Err _) = ⊥
 abbrev pub answer_in : ℕ → ℤ
 answer_in word = cast_signed w32 (word % 2 ^ 32)
 
--- poll_done: None where done was not set; at Some the stop is collected, with its result
+-- the word is that of the i32 itself, with nothing cut: it is 0 just where the i32 is
+abbrev pub IsWholeWord : ℤ → ℕ → Type 0
+IsWholeWord v word = (word ≡ answer_word v) × (v ≡ pos 0 ↔ word ≡ 0)
+
+-- poll_done: None where the one look at done found it not set; at Some the stop is collected, with its result
 abbrev pub PollAnswers : CpuValue → CpuValue → Result (Option ℤ) SmpError → Type 0
-PollAnswers old new (Ok None) = (old.pending ≢ None) × (new ≡ old) × Finds old (Slot old.number field.Done) 0
-PollAnswers old new (Ok (Some v)) = (old.pending ≢ None) × ((word : ℕ) × (v ≡ answer_in word) × (new ≡ collects word old) × IsLastResult new word)
+PollAnswers old new (Ok None) = (old.pending ≢ None) × (new ≡ looks_in_vain old) × Finds old (Slot old.number field.Done) 0
+PollAnswers old new (Ok (Some v)) = (old.pending ≢ None)
+    × ((word : ℕ) × (v ≡ answer_in word) × (new ≡ collects word old) × IsLastResult new word × IsWholeWord v word)
 PollAnswers old new (Err error.BadArgument) = (old.pending ≡ None) × (new ≡ old)
 PollAnswers old new (Err _) = ⊥

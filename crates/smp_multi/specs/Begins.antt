@@ -2,9 +2,10 @@
 use Rattle.std.specs.Prelude.{◌≡◌, ℕ, ◌<◌, ◌==◌, true, cond, [], ◌∷◌, ◌++◌}
 use Rattle.atomic_table.specs.Seated.{TableId}
 use Rattle.smp_words.specs.Size.{cpus}
-use Rattle.smp_stop_steps.specs.Known.{setup_in, told_work}
+use Rattle.smp_stop_steps.specs.Known.{setup_in, noting, told_work}
 use Rattle.smp_stop_steps.specs.Sources.{IsWork}
 use Rattle.smp_multi.specs.Names.{Work, Source, Shut, Drafts, Owns, Known}
+use Rattle.smp_multi.specs.Names.own
 use Rattle.smp_multi.specs.Cells.{cells}
 use Rattle.smp_multi.specs.Seat.{SeatValue}
 
@@ -24,4 +25,4 @@ pub record Begins (table : TableId) (seat : SeatValue) (number : ℕ) (work : Wo
 
 -- it has begun a stop of this work
 abbrev pub begun : Work → Known → Known
-begun w v = record v { source = Owns w; part = record (v.part) { begun = v.part.begun ++ w ∷ [] } }
+begun w v = noting (own.Began w) (record v { source = Owns w; part = record (v.part) { begun = v.part.begun ++ w ∷ [] } })

@@ -4,7 +4,8 @@ use Rattle.std.specs.Prelude.{IfSome, slice_index_or, slice_set}
 use Rattle.atomic_table.specs.Seated.{TableId}
 use Rattle.smp_mask.specs.Mask.{has}
 use Rattle.smp_words.specs.Size.{cpus}
-use Rattle.smp_stop_steps.specs.Known.{fresh, Lives}
+use Rattle.smp_stop_steps.specs.Known.{fresh}
+use Rattle.smp_multi.specs.Lives.{Lives}
 use Rattle.smp_stop_steps.specs.Callings.{with_answer}
 use Rattle.smp_stop_steps.specs.Seats.{irq_of}
 use Rattle.smp_stop_steps.specs.Sits.{SitsAtRest, OwnsIf}
@@ -12,7 +13,8 @@ use Rattle.smp_stop_steps.specs.Tells.{calls_at_run}
 use Rattle.smp_stop_steps.specs.declared.phase.TheConstants.{DISABLE_IRQ}
 use Rattle.smp_stop_steps.specs.declared.stage.Visit.{Visit}
 use Rattle.smp_stop_steps.specs.declared.start.Terms.{Terms}
-use Rattle.smp_multi.specs.Names.{Work, Seat, In, Gives, Alters, Known, Part, Setting, StopCall, Calling, Idle, Carries}
+use Rattle.smp_multi.specs.Names.{Work, Seat, In, Gives, Alters, Known, OwnMove, Part, Setting, StopCall, Calling, Idle, Carries}
+use Rattle.smp_multi.specs.Names.own
 use Rattle.smp_multi.specs.Places.{pending_of, work_in}
 use Rattle.smp_multi.specs.Seat.{SeatValue}
 
@@ -29,7 +31,8 @@ pub record Inside : Type 0 where
   pub acked : ℕ
 
 -- a CPU between two calls: its table, its number, the work of its own stop that is not collected, the stop that it is
--- in, whether its interrupts are on, and its own part of all stops
+-- in, whether its interrupts are on, its own part of all stops, and its steps at the gate, at its own stop and at keys, in
+-- the order in which it has made them
 pub record CpuValue : Type 0 where
   pub table : TableId
   pub setting : Setting
@@ -38,6 +41,7 @@ pub record CpuValue : Type 0 where
   pub inside : Option Inside
   pub irq : Bool
   pub part : Part
+  pub moves : List OwnMove
 
 abbrev pub inside_of : Seat → Option Inside
 inside_of (In s w a l t) = Some (record { slot = s; work = w; acked = a })
@@ -79,6 +83,7 @@ cpu_of d = record {
   inside = inside_of d.known.seat;
   irq = irq_of d.known.seat;
   part = part_with d.known.carried d.known;
+  moves = d.known.moves;
 }
 
 -- a CPU that has done nothing
@@ -118,9 +123,23 @@ pub record IsKept (v : Known) (number : ℕ) (visit : Option Visit) (holds is_op
 abbrev pub gated : Bool → CpuValue → CpuValue
 gated b c = record c { part = record (c.part) { holds = b } }
 
+-- one that has made one more step of its own
+abbrev pub moves_on : OwnMove → CpuValue → CpuValue
+moves_on m c = record c { moves = c.moves ++ m ∷ [] }
+
+-- one that has taken the gate, at one exchange; that has given it up, at one store; that has tried it once, and lost
+abbrev pub takes_gate : CpuValue → CpuValue
+takes_gate c = moves_on own.Took (gated true c)
+
+abbrev pub gives_gate : CpuValue → CpuValue
+gives_gate c = moves_on own.Gave (gated false c)
+
+abbrev pub misses_gate : CpuValue → CpuValue
+misses_gate c = moves_on own.Busy c
+
 -- one that has begun a stop of this work
 abbrev pub begins : Work → CpuValue → CpuValue
-begins w c = record c { pending = Some w; part = record (c.part) { begun = c.part.begun ++ w ∷ [] } }
+begins w c = moves_on (own.Began w) (record c { pending = Some w; part = record (c.part) { begun = c.part.begun ++ w ∷ [] } })
 
 -- one that has entered the stop of this slot, which is this work
 abbrev pub enters : ℕ → Work → CpuValue → CpuValue
@@ -140,7 +159,11 @@ answers slot x c = record c {
 
 -- one that has collected this result
 abbrev pub collects : ℕ → CpuValue → CpuValue
-collects x c = record c { pending = None; part = record (c.part) { collected = c.part.collected ++ x ∷ [] } }
+collects x c = moves_on (own.Collected x) (record c { pending = None; part = record (c.part) { collected = c.part.collected ++ x ∷ [] } })
+
+-- one that has looked at done once, and has found it not set
+abbrev pub looks_in_vain : CpuValue → CpuValue
+looks_in_vain c = moves_on own.NotDone c
 
 -- what a refusal depends on
 abbrev pub terms_of : TableValue → CpuValue → Terms

@@ -10,6 +10,7 @@ use Rattle.smp_stop_steps.specs.declared.phase.TheConstants.{DISABLE_IRQ, RUN}
 use Rattle.smp_multi.specs.Names.{Word, Gate, Slot, Key, Work, Seat, In, Alters, Source, Known}
 use Rattle.smp_multi.specs.Names.field
 use Rattle.smp_multi.specs.Cpu.{CpuValue, Inside, cpu_of}
+use Rattle.smp_multi.specs.Lives.{StaysWithin}
 use Rattle.smp_multi.specs.Rounds.{AloneWhile}
 
 -- the CPU is in this stop, which has this work, and this is the last phase that it has acknowledged
@@ -24,7 +25,8 @@ IsPending stop (Some w) = (stop.is_open ≡ true) × (stop.work ≡ w)
 
 -- some words of the table show stops that keep all laws, and this value is what a CPU knows that knows its part of them:
 -- it is in the stop that the value has, its interrupts are on or off and its own stop is pending as the value says, it has
--- made the value's calls of stop functions, and carries the answer of the last one, which no words tell
+-- made the value's calls of stop functions, and carries the answer of the last one, which no words tell. CPUs that are not
+-- online have done nothing
 pub record IsShown (c : CpuValue) : Type 0 where
   pub stops : StopState
   pub at : Word → ℕ
@@ -32,6 +34,7 @@ pub record IsShown (c : CpuValue) : Type 0 where
   pub source : ℕ → Source
   pub shown : StopShows (setup_in c.setting) stops at seat source
   pub laws : KeepsStopLaws (setup_in c.setting) stops at
+  pub within : StaysWithin c.setting stops at seat source
   pub known : Known
   pub sees : Sees stops seat source known
   pub view : c ≡ cpu_of (record { table = c.table; known = known })

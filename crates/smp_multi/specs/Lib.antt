@@ -2,7 +2,8 @@
 pub mod Names
 -- where words lie
 pub mod Cells
--- the rule, and what each kind of access tells
+-- the rule, what a CPU knows by it, and what each kind of access tells
+pub mod Lives
 pub mod Rule
 pub mod Plays
 -- a CPU at the table, between two steps

@@ -16,6 +16,8 @@ pub use Rattle.smp_stop_steps.specs.declared.known.Turn.TheVariants.{Rests, Fill
 pub use Rattle.smp_stop_steps.specs.declared.known.Source.{Source}
 pub use Rattle.smp_stop_steps.specs.declared.known.Source.TheVariants.{Shut, Drafts, Owns, Collects}
 pub use Rattle.smp_stop_steps.specs.declared.known.Known.{Known}
+pub use Rattle.smp_stop_steps.specs.declared.known.OwnMove.{OwnMove}
+pub use Rattle.smp_stop_steps.specs.declared.known.OwnMove.TheVariants as own
 pub use Rattle.smp_stop_steps.specs.declared.known.Part.{Part}
 pub use Rattle.smp_stop_steps.specs.declared.known.Setting.{Setting}
 pub use Rattle.smp_stop_steps.specs.declared.known.Reading.{Reading}

@@ -1,17 +1,18 @@
 -- A nudge of a key's count: what its load finds, and what it leaves of its CPU.
 use Rattle.std.specs.Prelude.{◌≡◌, ◌≢◌, ℕ, ◌+◌, Bool, if◌then◌else◌, Result, Ok, Err, slice_index_or, slice_set}
-use Rattle.smp_labels.specs.Keys.{is_on}
 use Rattle.smp_mask.specs.declared.error.Edge.{Edge}
 use Rattle.smp_mask.specs.declared.error.Edge.TheVariants.{Full, Zero}
 use Rattle.smp_mask.specs.declared.error.SmpError.{SmpError}
 use Rattle.smp_mask.specs.declared.error.SmpError.TheVariants as error
-use Rattle.smp_stop_steps.specs.Known.{Moment}
-use Rattle.smp_stop_steps.specs.KnownAfter.{reads_more}
+use Rattle.smp_stop_steps.specs.Known.{noting}
+use Rattle.smp_multi.specs.Lives.{Moment}
 use Rattle.smp_stop_steps.specs.State.{unmoved}
-use Rattle.smp_multi.specs.Names.{Key, Known, Part, Moved, ReadKey}
-use Rattle.smp_multi.specs.Cpu.{CpuValue}
+use Rattle.smp_multi.specs.Names.{Key, Known, Part, Moved}
+use Rattle.smp_multi.specs.Names.own
+use Rattle.smp_multi.specs.Cpu.{CpuValue, moves_on}
 use Rattle.smp_multi.specs.Laws.{FindsCount}
-use Rattle.smp_multi.specs.Reads.{HasKey, ReadsOneTable, reads}
+use Rattle.smp_multi.specs.Reads.{HasKey, ReadsOneTable}
+pub use Rattle.smp_multi.specs.Reads.{loads_known, loads_count}
 use Rattle.smp_multi.specs.declared.nudge.Nudge.{Nudge}
 use Rattle.smp_multi.specs.declared.nudge.Nudge.TheVariants.{Done, Lost, Stop}
 
@@ -36,19 +37,19 @@ moved_more up m = if up then record m { up = m.up + 1 } else record m { down = m
 abbrev pub nudge_more : Bool → ℕ → Part → Part
 nudge_more up k part = record part { nudged = slice_set part.nudged k (moved_more up (slice_index_or part.nudged k unmoved)) }
 
--- a CPU that has loaded this count, which is a reading
-abbrev pub loads_known : ℕ → ℕ → Known → Known
-loads_known k count v = reads_more (ReadKey k (is_on count)) v
-
-abbrev pub loads_count : ℕ → ℕ → CpuValue → CpuValue
-loads_count k count c = reads (ReadKey k (is_on count)) c
-
--- and one that has moved it
+-- a CPU that has moved a count by one
 abbrev pub nudged_known : Bool → ℕ → Known → Known
 nudged_known up k v = record v { part = nudge_more up k v.part }
 
 abbrev pub nudged : Bool → ℕ → CpuValue → CpuValue
 nudged up k c = record c { part = nudge_more up k c.part }
+
+-- one whose exchange of a key has found another count
+abbrev pub lost_known : ℕ → Known → Known
+lost_known k v = noting (own.Lost k) v
+
+abbrev pub loses_key : ℕ → CpuValue → CpuValue
+loses_key k c = moves_on (own.Lost k) c
 
 -- what a nudge does, as its CPU knows it: it loads a count, and where that stays on it exchanges it, unless another has
 -- changed it meanwhile
@@ -56,7 +57,7 @@ abbrev pub NudgeKnown : ℕ → Bool → Known → Known → Result Nudge SmpErr
 NudgeKnown k up old new (Ok Done) = (count : ℕ) × Moment old (Key k) count × StaysOn up count × Moment (loads_known k count old) (Key k) count
     × (new ≡ nudged_known up k (loads_known k count old))
 NudgeKnown k up old new (Ok Lost) = (count other : ℕ) × Moment old (Key k) count × StaysOn up count × Moment (loads_known k count old) (Key k) other
-    × (other ≢ count) × (new ≡ loads_known k count old)
+    × (other ≢ count) × (new ≡ lost_known k (loads_known k count old))
 NudgeKnown k up old new (Ok Stop) = (count : ℕ) × Moment old (Key k) count × (count ≡ turn_at up) × (new ≡ loads_known k count old)
 NudgeKnown k up old new (Err (error.KeyRange e)) = (count : ℕ) × Moment old (Key k) count × (count ≡ edge_at up) × (e ≡ end_of up) × (new ≡ loads_known k
     count old)
@@ -74,7 +75,7 @@ abbrev pub NudgeAnswers : ℕ → Bool → CpuValue → CpuValue → Result Nudg
 NudgeAnswers k up old new (Ok Done) = (count : ℕ) × LoadsCount old k count × StaysOn up count × FindsCount (loads_count k count old) k count
     × (new ≡ nudged up k (loads_count k count old))
 NudgeAnswers k up old new (Ok Lost) = (count other : ℕ) × LoadsCount old k count × StaysOn up count × FindsCount (loads_count k count old) k other
-    × (other ≢ count) × (new ≡ loads_count k count old)
+    × (other ≢ count) × (new ≡ loses_key k (loads_count k count old))
 NudgeAnswers k up old new (Ok Stop) = (count : ℕ) × LoadsCount old k count × (count ≡ turn_at up) × (new ≡ loads_count k count old)
 NudgeAnswers k up old new (Err (error.KeyRange e)) = (count : ℕ) × LoadsCount old k count × (count ≡ edge_at up) × (e ≡ end_of up) × (new ≡ loads_count k
     count old)

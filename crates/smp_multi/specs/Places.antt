@@ -3,10 +3,12 @@ use Rattle.std.specs.Prelude.{◌≡◌, ℕ, ◌<◌, Bool, true, false, Option
 use Rattle.atomic_table.specs.Seated.{TableId}
 use Rattle.smp_mask.specs.Mask.{has}
 use Rattle.smp_words.specs.Size.{cpus}
+use Rattle.smp_stop_steps.specs.Known.{noting}
 use Rattle.smp_stop_steps.specs.KnownAfter.{is_drafting, no_work}
 use Rattle.smp_stop_steps.specs.Sits.{IsLoaded}
 use Rattle.smp_stop_steps.specs.declared.stage.Visit.{Visit}
 use Rattle.smp_multi.specs.Names.{Work, Seat, Free, In, Gives, Alters, Rests, Source, Owns, Collects, Known}
+use Rattle.smp_multi.specs.Names.own
 use Rattle.smp_multi.specs.Cells.{cells}
 use Rattle.smp_multi.specs.Seat.{SeatValue}
 
@@ -26,6 +28,14 @@ pub record IsFree (table : TableId) (seat : SeatValue) (number : ℕ) : Type 0 w
 -- a CPU that holds the gate or not
 abbrev pub holding : Bool → Known → Known
 holding b v = record v { part = record (v.part) { holds = b } }
+
+-- one that has tried the gate, and has taken it or not; and one that has given it up
+abbrev pub tried : Bool → Known → Known
+tried true v = noting own.Took (holding true v)
+tried false v = noting own.Busy v
+
+abbrev pub given_up : Known → Known
+given_up v = noting own.Gave (holding false v)
 
 -- one that is in the stop of this slot, which is this work
 abbrev pub entered : ℕ → Work → Known → Known

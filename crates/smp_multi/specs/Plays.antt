@@ -3,7 +3,7 @@ use Rattle.std.specs.Int.Bits.{bit_and}
 use Rattle.std.specs.Prelude.{◌≡◌, ℕ, ◌==◌, if◌then◌else◌, Some, None}
 use Rattle.atomic_table.specs.Table.{Me, Step}
 use Rattle.smp_words.specs.Access.{one_less}
-use Rattle.smp_stop_steps.specs.Known.{Moment, Lives}
+use Rattle.smp_multi.specs.Lives.{Moment, Lives}
 use Rattle.smp_stop_steps.specs.KnownAfter.{known_told, known_entering}
 use Rattle.smp_stop_steps.specs.Moves.{entering}
 use Rattle.smp_multi.specs.Names.{Word, SeatView, Cpu}

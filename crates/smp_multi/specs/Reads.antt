@@ -10,11 +10,15 @@ use Rattle.smp_labels.specs.declared.kinds.SiteKind.TheVariants.{Nop, Jmp}
 use Rattle.smp_mask.specs.Mask.{has}
 use Rattle.smp_mask.specs.declared.error.SmpError.{SmpError}
 use Rattle.smp_mask.specs.declared.error.SmpError.TheVariants as error
+use Rattle.smp_labels.specs.Keys.{is_on}
+use Rattle.smp_stop_steps.specs.KnownAfter.{key_read_known}
 use Rattle.smp_stop_steps.specs.Labels.{Agrees}
 use Rattle.smp_stop_steps.specs.Seats.{irq_of}
-use Rattle.smp_multi.specs.Names.{Reading, ReadKey, ReadSite}
+use Rattle.smp_multi.specs.Names.{Known, Reading, ReadKey, ReadSite}
+use Rattle.smp_multi.specs.Names.own
 use Rattle.smp_multi.specs.Cells.{cells}
-use Rattle.smp_multi.specs.Cpu.{CpuValue}
+use Rattle.smp_multi.specs.Cpu.{CpuValue, moves_on}
+use Rattle.smp_multi.specs.Laws.{FindsCount}
 use Rattle.smp_multi.specs.Seat.{SeatValue}
 
 -- an online CPU with its interrupts on
@@ -27,6 +31,13 @@ pub record MayRead (table : TableId) (seat : SeatValue) : Type 0 where
 -- a CPU that has read this
 abbrev pub reads : Reading → CpuValue → CpuValue
 reads r c = record c { part = record (c.part) { readings = c.part.readings ++ r ∷ [] } }
+
+-- a CPU that has loaded this count of a key, which is a reading, and one of its own steps
+abbrev pub loads_known : ℕ → ℕ → Known → Known
+loads_known k count v = key_read_known k count v
+
+abbrev pub loads_count : ℕ → ℕ → CpuValue → CpuValue
+loads_count k count c = moves_on (own.Found k count) (reads (ReadKey k (is_on count)) c)
 
 -- whether a site of this kind jumps
 abbrev pub jumps : SiteKind → Bool
@@ -48,9 +59,9 @@ pub record ReadsOneTable (c : CpuValue) : Type 0 where
   pub entries : AreEntriesOf (map entry_word c.setting.labels.entries) labels
   pub agrees : AllByRecursion (Agrees labels) c.part.readings
 
--- read_key
+-- read_key: its one load has found a count by which the key is on or off
 abbrev pub KeyAnswers : ℕ → CpuValue → CpuValue → Result Bool SmpError → Type 0
-KeyAnswers k old new (Ok on) = HasKey old k × (new ≡ reads (ReadKey k on) old) × ReadsOneTable new
+KeyAnswers k old new (Ok on) = HasKey old k × ((count : ℕ) × FindsCount old k count × (on ≡ is_on count) × (new ≡ loads_count k count old)) × ReadsOneTable new
 KeyAnswers k old new (Err error.BadArgument) = (¬ (HasKey old k)) × (new ≡ old)
 KeyAnswers k old new (Err _) = ⊥
 

@@ -9,6 +9,7 @@ use Rattle.smp_stop_steps.specs.Shows.{StopShows}
 use Rattle.smp_stop_steps.specs.State.{StopState}
 use Rattle.smp_multi.specs.Names.{Seat, Source, Known, Setting, SeatView, Maker, Cpu}
 use Rattle.smp_multi.specs.Cells.{cells, number_in}
+use Rattle.smp_multi.specs.Lives.{StaysWithin}
 
 -- what a seat's CPU knows
 abbrev pub known : SeatView → Known
@@ -35,7 +36,7 @@ abbrev pub SeatKnows : Setting → StopState → (ℕ → Seat) → (ℕ → Sou
 SeatKnows k p seat source place next id (Maker n j) = (n ≡ next) × (id ≡ 0) × (j ≡ k)
 SeatKnows k p seat source place next id (Cpu v) = (v.number < next) × (place v.number ≡ id) × (v.setting ≡ k) × Sees p seat source v
 
--- the words show some stops; each seat knows its part; CPUs with no seat have done nothing
+-- the words show some stops; each seat knows its part; CPUs with no seat, and CPUs that are not online, have done nothing
 pub record Ruled {S : Type 0} (k : Setting) (s : State S SeatView) : Type 0 where
   pub stops : StopState
   pub seat : ℕ → Seat
@@ -46,3 +47,4 @@ pub record Ruled {S : Type 0} (k : Setting) (s : State S SeatView) : Type 0 wher
   pub shown : StopShows (setup_in k) stops (number_in s.words) seat source
   pub each_seat : (id : ℕ) (v : SeatView) → get_elem? s.views id ≡ some v → SeatKnows k stops seat source place next id v
   pub absent : (cpu : ℕ) → next ≤ cpu → cpu < cpus → Sees stops seat source (fresh k cpu)
+  pub within : StaysWithin k stops (number_in s.words) seat source

@@ -1,11 +1,15 @@
 -- A CPU at the table: its table and what it knows, and which accesses it may make.
-use Rattle.std.specs.Prelude.{◌≡◌, false}
+use Rattle.std.specs.Prelude.{◌≡◌, ℕ, true, false}
 use Rattle.atomic_table.specs.Seated.{TableId}
 use Rattle.smp_mask.specs.Mask.{has}
 use Rattle.smp_words.specs.Access.{word_of}
+use Rattle.smp_stop_steps.specs.AnswerWords.{IsI32Word}
+use Rattle.smp_stop_steps.specs.Known.{fresh}
 use Rattle.smp_stop_steps.specs.Moves.{Can, Move, Acknowledge, AcknowledgePatch, Alter, Give, Count, CountGiven}
 use Rattle.smp_stop_steps.specs.declared.phase.TheConstants.{DISABLE_IRQ}
-use Rattle.smp_multi.specs.Names.{Access, Known, SeatView, Cpu}
+use Rattle.smp_multi.specs.Names.{Access, Load, Store, Exchange, Sub, And, Known, SeatView, Setting, Cpu, Word, Slot}
+use Rattle.smp_multi.specs.Names.field
+use Rattle.smp_words.specs.declared.access.Access.TheVariants.{Swap}
 use Rattle.smp_multi.specs.Cells.{cells, HasCell}
 use Rattle.smp_multi.specs.Rule.{known}
 
@@ -14,9 +18,33 @@ pub record SeatValue : Type 0 where
   pub table : TableId
   pub known : Known
 
--- the seat of a CPU
-abbrev pub IsCpuSeat : SeatView → Type 0
-IsCpuSeat v = v ≡ Cpu (known v)
+-- the seat of a CPU that has done nothing
+abbrev pub fresh_seat : TableId → Setting → ℕ → SeatValue
+fresh_seat table k n = record { table = table; known = fresh k n }
+
+-- the seat of an online CPU, with the answer that it carries
+pub record IsCpuSeat (v : SeatView) (carried : ℕ) : Type 0 where
+  pub is : v ≡ Cpu (known v)
+  pub online : has (known v).setting.online (known v).number ≡ true
+  pub fits : IsI32Word carried
+
+-- what is put into a result word has the bits of an i32
+abbrev pub FitsWord : Word → ℕ → Type 0
+FitsWord (Slot s field.Result) x = IsI32Word x
+FitsWord _ x = Unit {0}
+
+abbrev pub IsNoResult : Word → Type 0
+IsNoResult (Slot s field.Result) = ⊥
+IsNoResult _ = Unit {0}
+
+-- so does an access; a result word is loaded and stored to, and nothing else
+abbrev pub Fits : Access → Type 0
+Fits (Load word) = Unit {0}
+Fits (Store word x) = FitsWord word x
+Fits (Swap word x) = IsNoResult word
+Fits (Exchange word old new) = IsNoResult word
+Fits (Sub word) = IsNoResult word
+Fits (And word x) = IsNoResult word
 
 -- a step by which no call of a stop function ends, no patch is made and no stop is completed: any but the acknowledgement
 -- of RUN by an active CPU, a store of a patch, and the store of an answer and the count of who has completed
@@ -35,6 +63,7 @@ pub record Able (table : TableId) (seat : SeatValue) (access : Access) : Type 0 
   pub sized : table.words ≡ cells
   pub can : Can seat.known access
   pub cell : HasCell (word_of access)
+  pub fits : Fits access
 
 -- the same of one that is apart from runs
 pub record Ready (table : TableId) (seat : SeatValue) (access : Access) : Type 0 where

@@ -3,7 +3,8 @@
 ghost use Rattle.std.specs.Prelude.{◌≡◌, ◌<◌, true, None};
 ghost use Rattle.smp_mask.specs.Mask.{has};
 ghost use Rattle.smp_words.specs.Size.{cpus};
-ghost use Rattle.smp_stop_steps.specs.Known.{fresh, Lives};
+ghost use Rattle.smp_stop_steps.specs.Known.{fresh};
+ghost use Rattle.smp_multi.specs.Lives.{Lives};
 ghost use Rattle.smp_multi.specs.Cpu.{fresh_cpu, is_in};
 
 use crate::seat::CpuSeat;
@@ -12,8 +13,9 @@ use smp_stop_steps::stage::Visit;
 use std::marker::Model;
 
 /// One CPU between two calls, seen as its table, its number, its own stop that is not collected, the stop that it is
-/// in, whether its interrupts are on, and its own part of all stops: what it has begun, collected, answered, looked at,
-/// called and read. Only calls with this value change that part. It may move to another thread.
+/// in, whether its interrupts are on, its own part of all stops (what it has begun, collected, answered, looked at, called
+/// and read), and its steps at the gate, at its own stop and at keys, in order. Only calls with this value change these two.
+/// It may move to another thread.
 #[derive(Drop)]
 pub struct StopCpu {
     pub(crate) seat: CpuSeat,

@@ -1,9 +1,9 @@
 //! The gate that orders all stops (`stop_cpus_mutex`).
 
-ghost use Rattle.std.specs.Prelude.{◌≡◌, ℕ, ◌==◌, true, false, if◌then◌else◌};
-ghost use Rattle.smp_stop_steps.specs.Known.{Lives, Moment};
+ghost use Rattle.std.specs.Prelude.{◌≡◌, ℕ, ◌==◌, true, false};
+ghost use Rattle.smp_multi.specs.Lives.{Lives, Moment};
 ghost use Rattle.smp_multi.specs.Names.{Gate};
-ghost use Rattle.smp_multi.specs.Places.{IsSeated, holding};
+ghost use Rattle.smp_multi.specs.Places.{IsSeated, given_up, tried};
 
 use crate::rule::Words;
 use crate::seat::{CpuSeat, exchange, store};
@@ -14,7 +14,7 @@ pub(crate) fn take_gate(words: &Words, seat: &mut CpuSeat, number: u32) -> bool
     requires { IsSeated words.now.table_id seat.old number }
     ensures table { seat.new.table ≡ words.now.table_id }
     ensures lives { Lives seat.new.known }
-    ensures known { seat.new.known ≡ if result then holding true seat.old.known else seat.old.known }
+    ensures known { seat.new.known ≡ tried result seat.old.known }
     ensures held { seat.old.known.part.holds ≡ true → result ≡ false }
     ensures then { (found : ℕ) × Moment seat.old.known Gate found × (result ≡ (found == 0)) }
 {
@@ -28,7 +28,7 @@ pub(crate) fn leave_gate(words: &Words, seat: &mut CpuSeat, number: u32)
     requires held { seat.old.known.part.holds ≡ true }
     ensures table { seat.new.table ≡ words.now.table_id }
     ensures lives { Lives seat.new.known }
-    ensures known { seat.new.known ≡ holding false seat.old.known }
+    ensures known { seat.new.known ≡ given_up seat.old.known }
 {
     let _ = number;
     store(words, seat, Word::Gate, 0);

@@ -25,8 +25,8 @@ pub fn functions_run_alone()
 {}
 
 /// The label law: while no CPU is between the first and the last store of a patch, the label table is lawful, whatever CPUs
-/// have their interrupts on. Who patches is the first online CPU, active in its patch stop at `RUN`, and every online CPU
-/// has its interrupts off.
+/// have their interrupts on. The CPU that patches is the first online one, active in its patch stop at `RUN`. Meanwhile
+/// every online CPU has its interrupts off.
 pub fn labels_are_lawful<A: Allocator>(table: &StopTable<A>, cpu: &StopCpu)
     ensures { LabelsAreLawful cpu.now }
 {

@@ -3,12 +3,12 @@
 
 ghost use Rattle.std.specs.Prelude.{◌≡◌, ℕ, ◌<◌, ◌==◌, if◌then◌else◌};
 ghost use Rattle.smp_labels.specs.declared.words.TheConstants.{MOST_KEYS};
-ghost use Rattle.smp_stop_steps.specs.Known.{Lives, Moment};
+ghost use Rattle.smp_multi.specs.Lives.{Lives, Moment};
 ghost use Rattle.smp_stop_steps.specs.KnownAfter.{counted};
 ghost use Rattle.smp_stop_steps.specs.Sits.{IsNudge};
 ghost use Rattle.smp_stop_steps.specs.Stages.{nudge_of};
 ghost use Rattle.smp_multi.specs.Names.{Key};
-ghost use Rattle.smp_multi.specs.Nudges.{NudgeKnown};
+ghost use Rattle.smp_multi.specs.Nudges.{NudgeKnown, lost_known};
 ghost use Rattle.smp_multi.specs.Reads.{MayRead};
 
 use crate::read::load_count;
@@ -47,7 +47,7 @@ fn exchange_count(words: &Words, seat: &mut CpuSeat, k: u32, count: u64, next: u
       part = record (seat.old.known.part) {
         nudged = counted seat.old.known.part.nudged k count next;
       };
-    } else seat.old.known }
+    } else lost_known k seat.old.known }
     ensures then { (found : ℕ) × Moment seat.old.known (Key k) found × (result ≡ (found == count)) }
 {
     exchange(words, seat, Word::Key(k), count, next) == count

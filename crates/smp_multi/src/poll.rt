@@ -1,7 +1,8 @@
 //! A source looks for the end of its stop, and collects its result (`wait_for_completion`).
 
 ghost use Rattle.std.specs.Prelude.{◌≡◌, ℕ, ◌==◌, not};
-ghost use Rattle.smp_stop_steps.specs.Known.{Lives, Moment};
+ghost use Rattle.smp_multi.specs.Lives.{Lives, Moment};
+ghost use Rattle.smp_stop_steps.specs.AnswerWords.{IsI32Word};
 ghost use Rattle.smp_multi.specs.Names.{Slot};
 ghost use Rattle.smp_multi.specs.Names.field;
 ghost use Rattle.smp_multi.specs.Polls.{IsOwner, HasFound, looked, collected};
@@ -28,6 +29,7 @@ pub(crate) fn collect(words: &Words, seat: &mut CpuSeat, number: u32) -> u64
     ensures table { seat.new.table ≡ words.now.table_id }
     ensures lives { Lives seat.new.known }
     ensures known { seat.new.known ≡ collected result seat.old.known }
+    ensures fits { IsI32Word result }
 {
     load(words, seat, Word::Slot(number, Field::Result))
 }

@@ -1,13 +1,13 @@
 //! A CPU with its interrupts on reads keys and sites.
 
-ghost use Rattle.std.specs.Prelude.{◌≡◌, ◌<◌};
+ghost use Rattle.std.specs.Prelude.{◌≡◌, ℕ, ◌<◌};
 ghost use Rattle.smp_labels.specs.declared.words.TheConstants.{MOST_KEYS, MOST_SITES};
 ghost use Rattle.smp_labels.specs.Keys.{is_on as is_word_on};
 ghost use Rattle.smp_labels.specs.Keys.{IsKeyWord};
-ghost use Rattle.smp_stop_steps.specs.Known.{Lives, Moment};
+ghost use Rattle.smp_multi.specs.Lives.{Lives, Moment};
 ghost use Rattle.smp_stop_steps.specs.KnownAfter.{reads_more};
-ghost use Rattle.smp_multi.specs.Names.{Key, ReadKey, ReadSite};
-ghost use Rattle.smp_multi.specs.Reads.{MayRead, jumps};
+ghost use Rattle.smp_multi.specs.Names.{Key, ReadSite};
+ghost use Rattle.smp_multi.specs.Reads.{MayRead, jumps, loads_known};
 
 use crate::rule::Words;
 use crate::seat::{CpuSeat, load};
@@ -20,7 +20,7 @@ pub(crate) fn load_count(words: &Words, seat: &mut CpuSeat, k: u32) -> u64
     requires low { k < MOST_KEYS }
     ensures table { seat.new.table ≡ words.now.table_id }
     ensures lives { Lives seat.new.known }
-    ensures known { seat.new.known ≡ reads_more (ReadKey k (is_word_on result)) seat.old.known }
+    ensures known { seat.new.known ≡ loads_known k result seat.old.known }
     ensures then { Moment seat.old.known (Key k) result }
     ensures word { IsKeyWord result }
 {
@@ -33,7 +33,7 @@ pub(crate) fn read_key(words: &Words, seat: &mut CpuSeat, k: u32) -> bool
     requires low { k < MOST_KEYS }
     ensures table { seat.new.table ≡ words.now.table_id }
     ensures lives { Lives seat.new.known }
-    ensures known { seat.new.known ≡ reads_more (ReadKey k result) seat.old.known }
+    ensures known { (count : ℕ) × Moment seat.old.known (Key k) count × (result ≡ is_word_on count) × (seat.new.known ≡ loads_known k count seat.old.known) }
 {
     is_on(load_count(words, seat, k))
 }

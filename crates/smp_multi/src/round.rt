@@ -3,7 +3,7 @@
 
 ghost use Rattle.std.specs.Prelude.{◌≡◌, ◌≢◌, ◌⊎◌, ◌+◌, ◌≤◌, ◌==◌, false, if◌then◌else◌};
 ghost use Rattle.smp_mask.specs.Mask.{has};
-ghost use Rattle.smp_stop_steps.specs.Known.{Lives};
+ghost use Rattle.smp_multi.specs.Lives.{Lives};
 ghost use Rattle.smp_stop_steps.specs.KnownAfter.{acked_by, looked_known, raised_by};
 ghost use Rattle.smp_stop_steps.specs.Stages.{visit_acked};
 ghost use Rattle.smp_multi.specs.Names.{Rests, Fills};
@@ -58,7 +58,7 @@ fn raise(words: &Words, seat: &mut CpuSeat, visit: Visit)
     store(words, seat, Word::Slot(visit.slot, Field::State), next);
 }
 
-/// Who has found 1 in the count stores the next phase.
+/// A CPU whose decrement found 1 was the last to acknowledge. It stores the next phase.
 pub(crate) fn pass(words: &Words, seat: &mut CpuSeat, visit: Visit, found: u64)
     requires at { AtTurn words.now.table_id seat.old visit visit.acked (if found == 1 then Fills else Rests) }
     requires lives { Lives seat.old.known }

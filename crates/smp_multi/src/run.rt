@@ -1,7 +1,8 @@
 //! A CPU runs the function of a stop of one CPU, and completes (`cpu_stopper_thread`).
 
 ghost use Rattle.std.specs.Prelude.{◌≡◌};
-ghost use Rattle.smp_stop_steps.specs.Known.{Lives, carrying};
+ghost use Rattle.smp_stop_steps.specs.Known.{carrying};
+ghost use Rattle.smp_multi.specs.Lives.{Lives};
 ghost use Rattle.smp_stop_steps.specs.KnownAfter.{completed_with};
 ghost use Rattle.smp_stop_steps.specs.Starts.{answer_word};
 ghost use Rattle.smp_multi.specs.Places.{work_in};

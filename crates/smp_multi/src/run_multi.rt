@@ -1,7 +1,7 @@
 //! A CPU runs the function of a Multi stop, and acknowledges `RUN` (`multi_cpu_stop`).
 
 ghost use Rattle.std.specs.Prelude.{◌≡◌, ℤ, false};
-ghost use Rattle.smp_stop_steps.specs.Known.{Lives};
+ghost use Rattle.smp_multi.specs.Lives.{Lives};
 ghost use Rattle.smp_stop_steps.specs.Stages.{visit_acked};
 ghost use Rattle.smp_multi.specs.Names.{Multi, Rests};
 ghost use Rattle.smp_multi.specs.Rounds.{AtRun, AtTurn, passed_by};

@@ -19,15 +19,16 @@
 //! The source's stores into its slot wait until all CPUs of its last stop have completed. The last CPU to acknowledge a
 //! phase is alone until it stores the next one. While a patch runs, every online CPU has interrupts off.
 
-ghost use Rattle.std.specs.Prelude.{◌≡◌, ◌≢◌, ◌⊎◌, ◌↔◌, ℕ, ◌<◌, ◌≤◌, true, false, if◌then◌else◌, IfOk, IfErr, OnOk, IsErrOf};
+ghost use Rattle.std.specs.Prelude.{◌≡◌, ◌≢◌, ◌⊎◌, ◌↔◌, ℕ, ◌<◌, ◌≤◌, true, false, if◌then◌else◌, IfOk, IfErr, IfSome, OnOk, IsErrOf, option_map};
 ghost use Rattle.smp_labels.specs.declared.words.TheConstants.{MOST_KEYS};
 ghost use Rattle.smp_mask.specs.Mask.{has};
 ghost use Rattle.smp_words.specs.Limits.{AreLimits};
 ghost use Rattle.smp_words.specs.Size.{cpus};
-ghost use Rattle.smp_stop_steps.specs.Known.{fresh, Lives};
+ghost use Rattle.smp_stop_steps.specs.Known.{fresh};
+ghost use Rattle.smp_multi.specs.Lives.{Lives};
 ghost use Rattle.smp_multi.specs.Advance.{AdvanceAnswers, FinishAnswers};
 ghost use Rattle.smp_multi.specs.Answers.{BeginAnswers, Enters, IsStale, RunAnswers, PollAnswers};
-ghost use Rattle.smp_multi.specs.Cpu.{IsAt, IsFull, fresh_cpu, gated};
+ghost use Rattle.smp_multi.specs.Cpu.{IsAt, IsFull, fresh_cpu, gives_gate, misses_gate, takes_gate};
 ghost use Rattle.smp_multi.specs.Laws.{FindsHeld};
 ghost use Rattle.smp_multi.specs.Nudges.{NudgeAnswers};
 ghost use Rattle.smp_multi.specs.Reads.{KeyAnswers, SiteAnswers};
@@ -72,18 +73,15 @@ impl<A: Allocator> Model for StopTable<A> {
     ghost invariant = { λ t. IsTable t.owner.shared.table_id t.owner.shared.key t.nr t.setting };
 }
 
-/// The CPU of a seat, where it is online.
-fn cpu_if(is_online: bool, seat: CpuSeat, number: u32) -> Option<StopCpu>
-    requires fresh { seat.known ≡ fresh seat.known.setting number }
+/// The CPU of a seat, if there is one.
+fn cpu_if(seat: Option<CpuSeat>, number: u32) -> Option<StopCpu>
+    requires fresh { IfSome seat (λ s. (s.known ≡ fresh s.known.setting number) × (has s.known.setting.online number ≡ true) × Lives s.known) }
     requires below { number < cpus }
-    requires online { is_online ≡ has seat.known.setting.online number }
-    requires lives { Lives seat.known }
-    ensures { result ≡ if is_online then Some (fresh_cpu seat.table seat.known.setting number) else None }
+    ensures { result ≡ option_map (λ s. fresh_cpu s.table s.known.setting number) seat }
 {
-    if is_online {
-        Some(StopCpu::new(seat, number))
-    } else {
-        None
+    match seat {
+        Some(seat) => Some(StopCpu::new(seat, number)),
+        None => None,
     }
 }
 
@@ -102,8 +100,9 @@ where
     let (owner, mut maker) = lay(alloc, nr, &setting)?;
     let online = setting.online;
     for number in 0..NR_CPUS {
-        let seat = next_seat(&owner.shared, &mut maker, number);
-        waiting.push(cpu_if(online.contains(number), seat, number))?;
+        let is_online = online.contains(number);
+        let seat = next_seat(&owner.shared, &mut maker, number, is_online);
+        waiting.push(cpu_if(seat, number))?;
     }
     let table = StopTable { owner, nr, setting };
     let boot = StopBoot {
@@ -161,11 +160,11 @@ impl<A: Allocator> StopTable<A> {
         self.setting.labels.keys()
     }
 
-    /// Takes the gate (`stop_cpus_mutex`), at a compare-exchange; false where that has found a holder, who may be this
+    /// Takes the gate (`stop_cpus_mutex`), at one compare-exchange; false where that has found a holder, who may be this
     /// CPU. It does not wait.
     pub fn try_gate(&self, me: &mut StopCpu) -> bool
         requires { IsAt self.now me.old }
-        ensures taken { me.new ≡ if result then gated true me.old else me.old }
+        ensures taken { me.new ≡ if result then takes_gate me.old else misses_gate me.old }
         ensures held { me.old.part.holds ≡ true → result ≡ false }
         ensures busy { result ≡ false → FindsHeld me.old }
     {
@@ -177,7 +176,7 @@ impl<A: Allocator> StopTable<A> {
     /// Gives the gate up, at a store. E4 where this CPU does not hold it, which makes no step. It does not wait.
     pub fn open_gate(&self, me: &mut StopCpu) -> Result<(), SmpError>
         requires { IsAt self.now me.old }
-        ensures ok { IfOk result (λ _. (me.old.part.holds ≡ true) × (me.new ≡ gated false me.old)) }
+        ensures ok { IfOk result (λ _. (me.old.part.holds ≡ true) × (me.new ≡ gives_gate me.old)) }
         ensures err { IfErr result (λ e. (e ≡ SmpError.BadArgument) × (me.old.part.holds ≡ false) × (me.new ≡ me.old)) }
     {
         if !me.holds {
@@ -188,11 +187,16 @@ impl<A: Allocator> StopTable<A> {
         Ok(())
     }
 
-    /// Opens the slot of this CPU for a stop of this work, at the last of eleven stores, that of the roll. E8 where its
-    /// stop is not collected yet. Then E4: it does not hold the gate; the mask is empty; a stop of kind One has another
-    /// number of CPUs; a patch has a mask other than those online, an active mask other than the first of them, a
-    /// `func` that is no key of the table, or an `arg` that is no change. Then E3 where a CPU of the mask is not online.
-    /// A refusal makes no step. It does not wait; the source polls by `poll_done`, and each CPU of the mask by `enter`.
+    /// Opens the slot of this CPU for a stop of this work, at the last of eleven stores, that of the roll
+    /// (`kernel/stop_machine.c: stop_cpus`). It does not wait; the source polls by `poll_done`, and each CPU of the mask by
+    /// `enter`.
+    ///
+    /// Refusals, in this order, none of which makes a step:
+    /// - E8 (`SmpError::SlotBusy`) where this CPU's stop is not collected yet.
+    /// - E4 (`SmpError::BadArgument`) where the CPU does not hold the gate, the mask is empty, or a stop of kind One has
+    ///   another number of CPUs than one. E4 also for a patch that has another mask than the CPUs online, another active
+    ///   mask than the first of them, a `func` that is no key of the table, or an `arg` that is no change.
+    /// - E3 (`SmpError::NoStopper`) where a CPU of the mask is not online.
     pub fn begin(&self, me: &mut StopCpu, work: Work) -> Result<(), SmpError>
         requires { IsAt self.now me.old }
         ensures { BeginAnswers self.now me.old me.new work result }
@@ -255,13 +259,18 @@ impl<A: Allocator> StopTable<A> {
         Ok(answer)
     }
 
-    /// One turn of the stop of several CPUs that this CPU has entered, at the load of its phase: Same where that is no new
-    /// one; else the turn ends in the fetch_sub that acknowledges it, after which the last of all stores the next phase. At
-    /// `RUN` an active CPU first calls the function, or makes the patch of a patch stop, with its interrupts off, while every
-    /// CPU of the mask has acknowledged `DISABLE_IRQ`: the patch loads the key, then the entries where the key turns on or
-    /// off, and stores the key and then its sites, ascending; its answer is 1 where the count stands at the end of its range,
-    /// so that nothing changes, else 0. E4 where the CPU is in no such stop or has left it, which makes no step. It does not
+    /// One turn of the stop of several CPUs that this CPU has entered (`kernel/stop_machine.c: multi_cpu_stop`). It does not
     /// wait; each CPU of the mask polls until it has left.
+    ///
+    /// It takes effect at the load of the phase: `Same` where that is no new one. Else the turn ends in the fetch_sub that
+    /// acknowledges the phase, after which the last of all CPUs stores the next one.
+    ///
+    /// At `RUN` an active CPU first calls the function, or makes the patch of a patch stop. Its interrupts are off, and every
+    /// CPU of the mask has acknowledged `DISABLE_IRQ`. A patch loads the key, and the entries where the key turns on or off.
+    /// Then it stores the key and its sites, ascending. Its answer is 1 where the count is at the end of its range, so that
+    /// nothing changes, else 0.
+    ///
+    /// E4 (`SmpError::BadArgument`) where the CPU is in no such stop or has left it, which makes no step.
     pub fn advance<F: StopFunc>(&self, me: &mut StopCpu, func: &mut F) -> Result<Turn, SmpError>
         requires { IsAt self.now me.old }
         ensures { AdvanceAnswers F.leads me.old me.new func.old func.new result }
@@ -294,7 +303,7 @@ impl<A: Allocator> StopTable<A> {
         Ok(())
     }
 
-    /// Whether all CPUs of this CPU's own stop have completed: None where its load of done found 0; Some, with the
+    /// Whether all CPUs of this CPU's own stop have completed: None where its one load of done found 0; Some, with the
     /// result, closes the slot, at the load of the result. E4 where no stop of this CPU is open, which makes no step.
     /// It does not wait.
     pub fn poll_done(&self, me: &mut StopCpu) -> Result<Option<i32>, SmpError>
@@ -339,11 +348,14 @@ impl<A: Allocator> StopTable<A> {
     }
 
     /// Moves the count of a key by one, where the key stays on: up as the loop of `kernel/jump_label.c:
-    /// static_key_slow_inc_cpuslocked`, down as `static_key_slow_try_dec`. E4 where the table has no such key, or this CPU
-    /// has its interrupts off, which makes no step. Else it loads the count, which is a reading of the key: at this load it
-    /// is E13 where that is 65,535 and is to go up, or 0 and is to go down, and `Stop` where the key would turn on (up from
-    /// 0) or off (down from 1), which takes a stop. Else one compare-exchange: at it `Done` where it has put the next count,
-    /// or `Lost` where it has found another. It does not wait; after `Lost` the caller may try again.
+    /// static_key_slow_inc_cpuslocked`, down as `static_key_slow_try_dec`. It does not wait; after `Lost` the caller may try
+    /// again.
+    ///
+    /// E4 (`SmpError::BadArgument`) where the table has no such key, or this CPU has its interrupts off, which makes no step.
+    /// Else it loads the count, which is a reading of the key. At this load it is E13 (`SmpError::KeyRange`) where the count
+    /// is 65,535 and is to go up, or 0 and is to go down. `Stop` where the key would turn on (up from 0) or off (down from
+    /// 1), which takes a stop. Else one compare-exchange: `Done` where it has put the next count, or `Lost` where it has
+    /// found another.
     pub fn try_key(&self, me: &mut StopCpu, k: u32, up: bool) -> Result<Nudge, SmpError>
         requires { IsAt self.now me.old }
         ensures { NudgeAnswers k up me.old me.new result }

@@ -2,7 +2,7 @@
 
 ghost use Rattle.std.specs.Prelude.{◌≡◌, ◌≢◌, ◌<◌, ◌==◌, ◌&&◌};
 ghost use Rattle.smp_mask.specs.Mask.{has};
-ghost use Rattle.smp_stop_steps.specs.Known.{Lives};
+ghost use Rattle.smp_multi.specs.Lives.{Lives};
 ghost use Rattle.smp_multi.specs.Names.{One, Rests};
 ghost use Rattle.smp_multi.specs.Rounds.{AtTurn};
 ghost use Rattle.smp_multi.specs.Turns.{TurnAnswers};

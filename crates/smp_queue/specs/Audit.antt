@@ -10,6 +10,7 @@ use Rattle.smp_call_steps.specs.Stages.{ControlValue}
 use Rattle.smp_queue.specs.Names.{Word, Head, Hand, Queued, Ran, Flags, Known, Setting, Left, Tally, Audit}
 use Rattle.smp_queue.specs.Names.audit
 use Rattle.smp_queue.specs.Cells.{number_in}
+use Rattle.smp_queue.specs.Rule.{IsQuiet}
 use Rattle.smp_queue.specs.Cpu.{TableValue, CpuValue, cpu_in, setting_of}
 
 -- how many numbers below n pass a test
@@ -65,9 +66,11 @@ pub record Closes (k : Setting) (v : Known) (words : List ℕ) : Type 0 where
   pub below : v.number < k.nr
   pub absent : (cpu : ℕ) → k.nr ≤ cpu → Sees calls controls (fresh k cpu)
   pub offline : (cpu : ℕ) → has k.online cpu ≡ false → Sees calls controls (fresh k cpu)
+  pub quiet : (cpu : ℕ) → has k.online cpu ≡ false → IsQuiet (number_in words) cpu
 
 -- these words show some calls of the CPUs of this table, of which this value is one CPU's part; CPUs that the table does
--- not have, and those that are not online, have done nothing
+-- not have, and those that are not online, have done nothing, and the words of those that are not online show no queue and
+-- no interrupt
 pub record ClosesWith (t : TableValue) (last : CpuValue) (words : List ℕ) : Type 0 where
   pub calls : CallState
   pub controls : ℕ → ControlValue
@@ -77,6 +80,7 @@ pub record ClosesWith (t : TableValue) (last : CpuValue) (words : List ℕ) : Ty
   pub within : t.nr ≤ cpus
   pub absent : (cpu : ℕ) → t.nr ≤ cpu → Sees calls controls (fresh (setting_of t) cpu)
   pub offline : (cpu : ℕ) → has t.online cpu ≡ false → Sees calls controls (fresh (setting_of t) cpu)
+  pub quiet : (cpu : ℕ) → has t.online cpu ≡ false → IsQuiet (number_in words) cpu
 
 -- all calls have run: what a source has sent to a CPU is what that has taken, in order, and it has run that in drain order
 pub record HaveRun (a : CallState) : Type 0 where

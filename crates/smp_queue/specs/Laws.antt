@@ -1,8 +1,8 @@
 -- What a CPU's value says of running threads.
-use Rattle.std.specs.Prelude.{◌≡◌, ℕ, ◌<◌, ◌≤◌, true, false, None, slice_index_or}
+use Rattle.std.specs.Prelude.{◌≡◌, ℕ, ◌<◌, ◌≤◌, ◌⊎◌, true, false, None, [], slice_index_or}
 use Rattle.std.specs.List.{AllByRecursion}
 use Rattle.smp_mask.specs.Mask.{has}
-use Rattle.smp_words.specs.Size.{owner, records}
+use Rattle.smp_words.specs.Size.{cpus, owner, records}
 use Rattle.smp_call_steps.specs.Calls.{CallState, no_calls}
 use Rattle.smp_call_steps.specs.Counts.{ConfirmedCallsRan}
 use Rattle.smp_call_steps.specs.HaveRun.{ConfirmedSyncCallsEnded, HasRunAt}
@@ -23,8 +23,18 @@ HaveRunFor a c = AllByRecursion
 abbrev pub AreFreeFor : CallState → CpuValue → Type 0
 AreFreeFor a c = (id : ℕ) → owner id ≡ c.number → id < records → slice_index_or c.part.confirmed id false ≡ true → a.place id ≡ place.Free
 
+-- a CPU has no call in its queue and no interrupt pending
+abbrev pub HasNothingToTake : CallState → ℕ → Type 0
+HasNothingToTake a cpu = (a.queue cpu ≡ []) × (a.pending cpu ≡ false)
+
+-- a CPU's queue is empty, or it has an interrupt pending or accepted, or a CPU that is online owes it one
+abbrev pub IsSeenTo : ℕ → CallState → ℕ → Type 0
+IsSeenTo online a cpu = (a.queue cpu ≡ []) ⊎ ((a.pending cpu ≡ true) ⊎ ((a.accepted cpu ≡ true)
+    ⊎ ((source : ℕ) × (has online source ≡ true) × (a.owes source cpu ≡ true))))
+
 -- Some words show calls that keep all laws, of which this value is one CPU's part, outside a command. The CPU is one of
--- its table and online, and the CPUs that its table does not have, or that are not online, have done nothing. Calls by
+-- its table and online, and the CPUs that its table does not have, or that are not online, have done nothing. Those that are
+-- not online have nothing to take, and a CPU that has a queue is seen to by its interrupt, or by one that is online. Calls by
 -- confirmed records have run, those of all CPUs and those of this one.
 pub record IsShown (c : CpuValue) : Type 0 where
   pub calls : CallState
@@ -35,6 +45,8 @@ pub record IsShown (c : CpuValue) : Type 0 where
   pub online : has c.setting.online c.number ≡ true
   pub absent : (cpu : ℕ) → c.setting.nr ≤ cpu → part_of calls cpu ≡ part_of no_calls cpu
   pub offline : (cpu : ℕ) → has c.setting.online cpu ≡ false → part_of calls cpu ≡ part_of no_calls cpu
+  pub quiet : (cpu : ℕ) → has c.setting.online cpu ≡ false → HasNothingToTake calls cpu
+  pub seen_to : (cpu : ℕ) → cpu < cpus → IsSeenTo c.setting.online calls cpu
   pub outside : told_stage (controls c.number).stage ≡ None
   pub are_free : AreFreeFor calls c
   pub confirmed_ran : ConfirmedCallsRan calls

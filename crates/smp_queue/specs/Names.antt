@@ -25,7 +25,7 @@ pub use Rattle.smp_call_steps.specs.declared.stage.Stage.{Stage}
 pub use Rattle.smp_call_steps.specs.declared.stage.Stage.TheVariants.{Send, Done, Post, Handle}
 pub use Rattle.smp_queue.specs.declared.handler.Heard.{Heard}
 pub use Rattle.smp_queue.specs.declared.seat_view.SeatView.{SeatView}
-pub use Rattle.smp_queue.specs.declared.seat_view.SeatView.TheVariants.{Maker, Cpu}
+pub use Rattle.smp_queue.specs.declared.seat_view.SeatView.TheVariants.{Maker, New, Cpu}
 pub use Rattle.smp_queue.specs.declared.audit.Left.{Left}
 pub use Rattle.smp_queue.specs.declared.audit.Tally.{Tally}
 pub use Rattle.smp_queue.specs.declared.audit.Audit.{Audit}

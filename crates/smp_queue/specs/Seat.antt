@@ -1,18 +1,18 @@
 -- A CPU at the table: its table and what it knows, and which accesses it may make.
-use Rattle.std.specs.Prelude.{◌≡◌, ℕ, ◌%◌, ◌^◌, ◌<◌, Some, None, length}
+use Rattle.std.specs.Prelude.{◌≡◌, ℕ, ◌%◌, ◌^◌, ◌<◌, true, Some, None, length}
 use Rattle.atomic_table.specs.Seated.{TableId}
+use Rattle.smp_mask.specs.Mask.{has}
 use Rattle.smp_words.specs.Access.{word_of}
 use Rattle.smp_words.specs.Size.{cpus, records, owner}
 use Rattle.smp_call_steps.specs.Places.{IsCall}
 use Rattle.smp_call_steps.specs.Histories.{sent_to}
 use Rattle.smp_call_steps.specs.Stands.{posted}
 use Rattle.smp_call_steps.specs.Known.{MayStep, known_access, posting_of, known_told, Lives, Moment}
-use Rattle.smp_queue.specs.Names.{Word, Access, Store, Known, Posting, HandleStage, Stage, Post, Handle, SeatView, Cpu}
+use Rattle.smp_queue.specs.Names.{Word, Access, Store, Known, Posting, HandleStage, Stage, Post, Handle, SeatView, Maker, Head, Intr, Swap, Exchange, Setting}
 use Rattle.smp_queue.specs.Names.post
 use Rattle.smp_queue.specs.Names.act
 use Rattle.smp_queue.specs.Names.handle
 use Rattle.smp_queue.specs.Cells.{cells, HasCell}
-use Rattle.smp_queue.specs.Rule.{known}
 
 -- the table that a CPU sits at, and what it knows
 pub record SeatValue : Type 0 where
@@ -21,7 +21,8 @@ pub record SeatValue : Type 0 where
 
 -- the seat of a CPU
 abbrev pub IsCpuSeat : SeatView → Type 0
-IsCpuSeat v = v ≡ Cpu (known v)
+IsCpuSeat (Maker n k) = ⊥
+IsCpuSeat _ = Unit {0}
 
 -- a CPU that knows this may make this access
 pub record MayAccess (v : Known) (access : Access) : Type 0 where
@@ -38,12 +39,23 @@ IsApartFromCalls (Handle (handle.BeginAsync call next)) = ⊥
 IsApartFromCalls (Handle (handle.CountAsync call next)) = ⊥
 IsApartFromCalls _ = Unit {0}
 
+-- the head that an access changes is that of a CPU that is online in this table, or the own; the same of an interrupt word
+abbrev pub Reaches : Setting → Known → Access → Type 0
+Reaches k v (Store (Head to) n) = ⊥
+Reaches k v (Store (Intr to) n) = has k.online to ≡ true
+Reaches k v (Exchange (Head to) old n) = has k.online to ≡ true
+Reaches k v (Exchange (Intr to) old n) = ⊥
+Reaches k v (Swap (Head cpu) n) = cpu ≡ v.number
+Reaches k v (Swap (Intr cpu) n) = cpu ≡ v.number
+Reaches k v _ = Unit {0}
+
 -- a CPU may make this access at this table, which begins, counts and ends no call
-pub record Ready (table : TableId) (seat : SeatValue) (access : Access) : Type 0 where
+pub record Ready (table : TableId) (key : Setting) (seat : SeatValue) (access : Access) : Type 0 where
   pub table_is : seat.table ≡ table
   pub sized : table.words ≡ cells
   pub can : MayAccess seat.known access
   pub apart : IsApartFromCalls can.stage
+  pub reaches : Reaches key seat.known access
   pub cell : HasCell (word_of access)
 
 -- a load of this word that found this number, at a moment of which the CPU knew: what it knows then

@@ -5,6 +5,7 @@
 
 ghost use Rattle.std.specs.Prelude.{◌≡◌, ◌≢◌, ◌+◌, ◌*◌, ◌<◌, ◌%◌, ◌^◌, ◌==◌, true, length, if◌then◌else◌, IfSome, IfNone, Some, None};
 ghost use Rattle.smp_words.specs.Size.{records};
+ghost use Rattle.smp_mask.specs.Mask.{has};
 ghost use Rattle.smp_call_steps.specs.Stands.{posted};
 ghost use Rattle.smp_call_steps.specs.Known.{confirmed_known, queued_known, outside_known, looked_known, lost_one, stepped, is_confirmed, standing, Lives};
 ghost use Rattle.smp_call_steps.specs.declared.post.PostStage.TheVariants as post;
@@ -72,6 +73,7 @@ pub(crate) fn count_and_look(
 /// queued where that is the same.
 pub(crate) fn link(words: Words, seat: &mut CpuSeat, posting: &Posting, link: u64) -> u64
     requires mine { IsMine words.shared.now.table_id seat.old posting.now }
+    requires online { has words.shared.now.key.online posting.now.to ≡ true }
     requires stage { seat.old.known.stage ≡ Some (Post (counted posting.now) post.LoadHead) }
     ensures table { seat.new.table ≡ words.entry.shared.now.table_id }
     ensures lives { Lives seat.new.known }
@@ -112,6 +114,7 @@ pub(crate) fn append(
     tries: u32,
 ) -> Option<bool>
     requires mine { IsMine words.shared.now.table_id seat.old posting.now }
+    requires online { has words.shared.now.key.online posting.now.to ≡ true }
     requires counting { IsCounting seat.old.known posting.now number queued }
     ensures table { seat.new.table ≡ words.entry.shared.now.table_id }
     ensures lives { Lives seat.new.known }
@@ -141,6 +144,7 @@ pub(crate) fn append_until_won<R: Wait>(
     queued: u64,
 ) -> bool
     requires mine { IsMine words.shared.now.table_id seat.old posting.now }
+    requires online { has words.shared.now.key.online posting.now.to ≡ true }
     requires counting { IsCounting seat.old.known posting.now number queued }
     ensures table { seat.new.table ≡ words.entry.shared.now.table_id }
     ensures lives { Lives seat.new.known }

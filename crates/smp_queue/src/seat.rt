@@ -46,7 +46,7 @@ impl Model for CpuSeat {
 
 impl CpuSeat {
     /// What the CPU knows is its part of calls that some words show, in which CPUs that the table does not have, or that
-    /// are not online, have done nothing.
+    /// are not online, have done nothing. Nothing is queued or pending for those that are not online.
     pub(crate) fn is_shown(&self)
         ensures { Sits self.now.known }
     {
@@ -132,7 +132,7 @@ pub(crate) fn close<A: Allocator>(owner: Owner<A>, seat: CpuSeat) -> Closed<(), 
 /// Loads a word.
 #[inline(always)]
 pub(crate) fn load(words: Words, seat: &mut CpuSeat, word: Word) -> u64
-    requires { Ready words.shared.now.table_id seat.old (access.Load word) }
+    requires { Ready words.shared.now.table_id words.shared.now.key seat.old (access.Load word) }
     ensures { Loads words.entry.shared.now.table_id seat.old seat.new word result }
 {
     words.load::<Loaded>(&mut seat.raw, cell(word))
@@ -141,7 +141,7 @@ pub(crate) fn load(words: Words, seat: &mut CpuSeat, word: Word) -> u64
 /// Notes a direct call in the CPU's log. What a CPU knows changes at a step alone: this one is a load of a word of its own,
 /// of which nothing is told.
 pub(crate) fn note_call(words: Words, seat: &mut CpuSeat, word: Word)
-    requires { Ready words.shared.now.table_id seat.old (access.Load word) }
+    requires { Ready words.shared.now.table_id words.shared.now.key seat.old (access.Load word) }
     ensures table { seat.new.table ≡ words.entry.shared.now.table_id }
     ensures known { seat.new.known ≡ noted_known seat.old.known }
 {
@@ -151,7 +151,7 @@ pub(crate) fn note_call(words: Words, seat: &mut CpuSeat, word: Word)
 /// Stores a number in a word.
 #[inline(always)]
 pub(crate) fn store(words: Words, seat: &mut CpuSeat, word: Word, number: u64)
-    requires { Ready words.shared.now.table_id seat.old (access.Store word number) }
+    requires { Ready words.shared.now.table_id words.shared.now.key seat.old (access.Store word number) }
     ensures table { seat.new.table ≡ words.entry.shared.now.table_id }
     ensures lives { Lives seat.new.known }
     ensures known { seat.new.known ≡ known_told seat.old.known act.Store word None (Some number) }
@@ -168,7 +168,7 @@ pub(crate) fn exchange(
     expected: u64,
     number: u64,
 ) -> u64
-    requires { Ready words.shared.now.table_id seat.old (access.Exchange word expected number) }
+    requires { Ready words.shared.now.table_id words.shared.now.key seat.old (access.Exchange word expected number) }
     ensures table { seat.new.table ≡ words.entry.shared.now.table_id }
     ensures lives { Lives seat.new.known }
     ensures known { seat.new.known ≡ known_told seat.old.known act.Cas word (Some result) (if result == expected then Some number else None) }
@@ -179,7 +179,7 @@ pub(crate) fn exchange(
 /// Puts a number in a word, and answers what was found. A swap of the own head takes the queue of that moment.
 #[inline(always)]
 pub(crate) fn swap(words: Words, seat: &mut CpuSeat, word: Word, number: u64) -> u64
-    requires { Ready words.shared.now.table_id seat.old (access.Swap word number) }
+    requires { Ready words.shared.now.table_id words.shared.now.key seat.old (access.Swap word number) }
     ensures table { seat.new.table ≡ words.entry.shared.now.table_id }
     ensures lives { Lives seat.new.known }
     ensures known { (t : Moment seat.old.known word result) × (seat.new.known ≡ known_taking

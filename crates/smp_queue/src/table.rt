@@ -122,8 +122,9 @@ where
 
 impl<A: Allocator> CallTable<A> {
     /// A table of `nr` CPUs with no calls, and those of its CPUs that are online, each to be handed out once. Each CPU has done
-    /// nothing, and one that is not online never will. Wherever all CPUs have done nothing, all queues are empty, no CPU has a
-    /// call to run, and all records are free: that is a law of every table (clause `empty`), and says nothing of this one alone.
+    /// nothing, and one that is not online never will. Until one of its CPUs makes a step, all words of the table are 0, so that
+    /// no interrupt is pending, all queues are empty, and all records are free (clause `empty`): the table's rule says so at any
+    /// time, and can't be met by words that are made otherwise.
     ///
     /// E4 (`SmpError::BadArgument`) where `nr` is not 1 to `NR_CPUS`, no CPU is online, or one that is online is not below
     /// `nr`; E6 (`SmpError::NoMemory`) where a growth is refused. It takes effect at no step, since no thread shares the table yet, and does not wait.
@@ -250,10 +251,14 @@ impl<A: Allocator> CallTable<A> {
 
     /// Queues one call by the CPU's record `k`, and answers whether an interrupt is owed, since the queue was
     /// empty; queued at the compare-exchange (`kernel/smp.c: generic_exec_single`). `tries` counts
-    /// compare-exchanges, each of which expects the number that was found in the head last. E4 (`SmpError::BadArgument`)
-    /// where `k` is no record, `tries` is 0, `to` is the own CPU or the record may not carry such a call; then E2
-    /// (`SmpError::Busy`) where the record is locked; then E1 (`SmpError::NoCpu`) where `to` is not online; then E5
-    /// (`SmpError::Contended`) where the tries are used up: then nothing is queued, and the record is free again.
+    /// compare-exchanges, each of which expects the number that was found in the head last.
+    ///
+    /// Refusals, in this order:
+    /// - E4 (`SmpError::BadArgument`) where `k` is no record, `tries` is 0, `to` is this CPU itself, or the record may not
+    ///   carry such a call.
+    /// - E2 (`SmpError::Busy`) where the record is locked.
+    /// - E1 (`SmpError::NoCpu`) where `to` is not online.
+    /// - E5 (`SmpError::Contended`) where the tries are used up. Then nothing is queued, and the record is free again.
     ///
     /// The call is queued at the compare-exchange that wins; it makes no more than `tries` of these and does not wait,
     /// and `to` must poll for the call to run.

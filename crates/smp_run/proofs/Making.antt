@@ -13,6 +13,9 @@ use Rattle.smp_multi.specs.declared.func.Called.{Called}
 use Rattle.smp_machine.specs.Calls.{KeepsStops}
 use Rattle.smp_machine.specs.Counts.{CountsOr, PatchesByOne, step_of}
 use Rattle.smp_machine.specs.Keys.{IsPatchOf, Sets}
+use Rattle.smp_multi.specs.Names.{OwnMove}
+use Rattle.smp_stop_steps.specs.declared.known.OwnMove.TheVariants.{Took, Found}
+use Rattle.smp_machine.specs.Moves.{patch_after}
 use Rattle.smp_machine.specs.Own.{Own, own_of}
 use Rattle.smp_machine.specs.Place.{MachineValue, PlaceValue}
 use Rattle.smp_machine.specs.Stops.{HasStopped, RefusedStill}
@@ -65,41 +68,44 @@ module _ {H F : Type 0} (hears : H → Heard → H → Type 0) (runs : F → Cal
   made_polled old new h h' f f' w = made_worked old new h h' f f' (own_of old) w refl refl
 
   -- a stop
-  made_stop : (long : Bool) (work : Work) (old new : PlaceValue) (h h' : H) (f f' : F) (answer : ℤ)
-      → (s : HasStopped hears runs long work old h f new h' f' answer) → HasMade (record { work = work; word = s.word } ∷ []) old new
-  made_stop long work old new h h' f f' answer s = record {
+  made_stop : (moves : Work → ℕ → List OwnMove) (work : Work) (old new : PlaceValue) (h h' : H) (f f' : F) (answer : ℤ)
+      → (s : HasStopped hears runs moves work old h f new h' f' answer) → HasMade (record { work = work; word = s.word } ∷ []) old new
+  made_stop moves work old new h h' f f' answer s = record {
     begun = ap (λ (o : Own). o.begun) s.works.own_is;
     collected = ap (λ (o : Own). o.collected) s.works.own_is;
   }
 
-  pub makes_stop : (long : Bool) (P : Work → Type 0) (old new : PlaceValue) (h h' : H) (f f' : F) (made : Result ℤ SmpError)
-      → IfOk made (λ v. (work : Work) × P work × HasStopped hears runs long work old h f new h' f' v)
+  pub makes_stop : (moves : Work → ℕ → List OwnMove) (P : Work → Type 0) (old new : PlaceValue) (h h' : H) (f f' : F) (made : Result ℤ SmpError)
+      → IfOk made (λ v. (work : Work) × P work × HasStopped hears runs moves work old h f new h' f' v)
       → IfErr made (λ _. RefusedStill old h f new h' f')
       → (stops : List Stop) × IsStopOf P (answer_of Number made) stops × HasMade stops old new
-  makes_stop long P old new h h' f f' (Ok v) ok err =
+  makes_stop moves P old new h h' f f' (Ok v) ok err =
       let s = ok.2 in let stop : Stop = record { work = ok.0; word = s.word } in
-      (stop ∷ [], record { stop = stop; fits = ok.1; says = s.answer_is; stops_are = refl }, made_stop long ok.0 old new h h' f f' v s)
-  makes_stop long P old new h h' f f' (Err e) ok err = ([], refl, made_same old new err.kept)
+      (stop ∷ [], record { stop = stop; fits = ok.1; says = s.answer_is; stops_are = refl }, made_stop moves ok.0 old new h h' f f' v s)
+  makes_stop moves P old new h h' f f' (Err e) ok err = ([], refl, made_same old new err.kept)
 
   -- a key that is set
   pub makes_set : (t : TableValue) (k : ℕ) (on : Bool) (old new : PlaceValue) (h h' : H) (f f' : F) (made : Result Bool SmpError)
       → IfOk made (λ turned. Sets hears runs t k on old h f new h' f' turned) → IfErr made (λ _. RefusedStill old h f new h' f')
       → Makes t (Set k on) (answer_of Turned made) old new
-  makes_set t k on old new h h' f f' (Ok false) sets err = ([], refl, made_polled old new h h' f f' sets)
+  makes_set t k on old new h h' f f' (Ok false) sets err = ([], refl, made_worked old new h h' f f' _ sets.works refl refl)
   makes_set t k on old new h h' f f' (Ok true) sets err =
-      let s = sets.2.1 in let stop : Stop = record { work = sets.0; word = s.word } in
-      (stop ∷ [], record { stop = stop; fits = sets.1; says = tt; stops_are = refl }, made_stop true sets.0 old new h h' f f' sets.2.0 s)
+      let s = sets.stopped in let stop : Stop = record { work = sets.work; word = s.word } in (
+        stop ∷ [],
+        record { stop = stop; fits = sets.patch; says = tt; stops_are = refl },
+        made_stop (patch_after (Took ∷ Found k sets.count ∷ [])) sets.work old new h h' f f' sets.answer s,
+      )
   makes_set t k on old new h h' f f' (Err e) sets err = ([], refl, made_same old new err.kept)
 
   -- a patch by one
-  patch_made : (t : TableValue) (k : ℕ) (up : Bool) (Says : ℤ → Type 0) (old new : PlaceValue) (h h' : H) (f f' : F) (answer : ℤ)
-      → Says answer → PatchesByOne hears runs t k up old h f new h' f' answer
+  patch_made : (t : TableValue) (k : ℕ) (up : Bool) (Says : ℤ → Type 0) (first : List OwnMove) (old new : PlaceValue) (h h' : H) (f f' : F) (answer : ℤ)
+      → Says answer → PatchesByOne hears runs t k up first old h f new h' f' answer
       → (stops : List Stop) × IsOneStop (IsPatchOf t k (step_of up)) Says stops × HasMade stops old new
-  patch_made t k up Says old new h h' f f' answer says p =
+  patch_made t k up Says first old new h h' f f' answer says p =
       let s = p.stopped in let stop : Stop = record { work = p.work; word = s.word } in (
         stop ∷ [],
         record { stop = stop; fits = p.patch; says = subst Says s.answer_is says; stops_are = refl },
-        made_stop true p.work old new h h' f f' answer s,
+        made_stop (patch_after first) p.work old new h h' f f' answer s,
       )
 
   -- a key that is counted
@@ -107,10 +113,10 @@ module _ {H F : Type 0} (hears : H → Heard → H → Type 0) (runs : F → Cal
       → CountsOr hears runs t k up old h f new h' f' made
       → (stops : List Stop) × IsStopOfCount (IsPatchOf t k (step_of up)) (answer_of Turned made) stops × HasMade stops old new
   makes_count t k up old new h h' f f' (Ok false) c = ([], refl, made_worked old new h h' f f' _ c.1.works refl refl)
-  makes_count t k up old new h h' f f' (Ok true) c = patch_made t k up (λ x. x ≡ pos 0) old new h h' f f' (pos 0) refl c.1.patches
+  makes_count t k up old new h h' f f' (Ok true) c = patch_made t k up (λ x. x ≡ pos 0) c.1.moves old new h h' f f' (pos 0) refl c.1.patches
   makes_count t k up old new h h' f f' (Err (error.KeyRange e)) (may, (is, inl edge)) = ([], inl refl, made_worked old new h h' f f' _ edge.works refl refl)
   makes_count t k up old new h h' f f' (Err (error.KeyRange e)) (may, (is, inr patched)) =
-      let p = patch_made t k up (λ x. x ≢ pos 0) old new h h' f f' patched.0 patched.1 patched.2.patches in (p.0, inr p.1, p.2)
+      let p = patch_made t k up (λ x. x ≢ pos 0) patched.2.moves old new h h' f f' patched.0 patched.1 patched.2.patches in (p.0, inr p.1, p.2)
   makes_count t k up old new h h' f f' (Err error.BadArgument) c = ([], refl, made_same old new c.1.kept)
   makes_count t k up old new h h' f f' (Err error.NoStopper) c = absurd c.1
   makes_count t k up old new h h' f f' (Err error.NoCpu) c = absurd c.1

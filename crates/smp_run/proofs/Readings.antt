@@ -1,6 +1,6 @@
 -- What a CPU has read of the labels, one reading after the other, and why it is lawful.
-use Rattle.std.proofs.Common.{◌≡◌, ℕ, zero, suc, ◌+◌, ◌<◌, ◌≤◌, Bool, Option, Some, List, [], ◌∷◌, ◌++◌, length, slice_index_or, map, refl, sym, ap, subst, ◌∙◌}
-use Rattle.std.proofs.Common.{append_assoc, append-nil, arith}
+use Rattle.std.proofs.Common.{◌≡◌, ℕ, zero, suc, ◌+◌, ◌<◌, ◌≤◌, Bool, true, Option, Some, List, [], ◌∷◌, ◌++◌, length, slice_index_or, map, refl, sym, ap, subst, ◌∙◌}
+use Rattle.std.proofs.Common.{Ok, append_assoc, append-nil, arith}
 use Rattle.std.proofs.lemmas.List.{get_or-map, length-map}
 use Rattle.std.proofs.lemmas.List.Elements.{All-get_or}
 use Rattle.std.specs.List.{AllByRecursion}
@@ -13,20 +13,82 @@ use Rattle.smp_labels.specs.declared.entries.Entry.{Entry}
 use Rattle.smp_labels.specs.declared.kinds.SiteKind.{SiteKind}
 use Rattle.smp_labels.specs.declared.kinds.SiteKind.TheVariants.{Nop, Jmp}
 use Rattle.smp_labels.proofs.Lawful.{entry_at-word}
-use Rattle.smp_machine.specs.Counts.{reads_all}
+use Rattle.smp_mask.specs.Mask.{has}
+use Rattle.smp_machine.specs.Passes.{PassesValue}
 use Rattle.smp_machine.specs.Place.{MachineValue, PlaceValue}
 use Rattle.smp_multi.specs.Cpu.{CpuValue}
-use Rattle.smp_multi.specs.Names.{Reading}
-use Rattle.smp_multi.specs.Reads.{ReadsOneTable, jumps, reads}
+use Rattle.smp_multi.specs.Names.{OwnMove, Reading, ReadKey, ReadSite}
+use Rattle.smp_multi.specs.Reads.{KeyAnswers, SiteAnswers, ReadsOneTable, jumps, reads}
+use Rattle.smp_queue.specs.Cpu.{CpuValue as CallCpuValue}
 use Rattle.smp_stop_steps.specs.Labels.{Agrees}
-use Rattle.smp_run.specs.Readings.{HasRead, HaveKinds, ReadsMore, key_reading, site_reading, keys_read, sites_read}
+use Rattle.smp_stop_steps.specs.declared.known.OwnMove.TheVariants.{Found}
+use Rattle.smp_run.specs.Readings.{HasRead, HaveKinds, IsLook, ReadsMore, reads_by, key_reading, site_reading, keys_read, sites_read}
 use Rattle.smp_run.specs.Seats.{IsSeated}
 use Rattle.smp_run.specs.Text.{numbered}
 use Rattle.smp_run.proofs.Numbering.{numbered_one}
 
--- with these readings
-abbrev with_readings : List Reading → CpuValue → CpuValue
-with_readings rs c = record c { part = record (c.part) { readings = rs } }
+-- ---- one reading after the other
+
+looks_join : (xs ys : List OwnMove) → AllByRecursion IsLook xs → AllByRecursion IsLook ys → AllByRecursion IsLook (xs ++ ys)
+looks_join [] ys a b = b
+looks_join (x ∷ xs) ys a b = (a.0, looks_join xs ys a.1 b)
+
+reads_none : (c : CpuValue) → c ≡ reads_by [] [] c
+reads_none c = λ i. record c { part = record (c.part) { readings = sym (append-nil c.part.readings) i }; moves = sym (append-nil c.moves) i }
+
+reads_then : (xs ys : List OwnMove) (rs ss : List Reading) (c : CpuValue) → reads_by ys ss (reads_by xs rs c) ≡ reads_by (xs ++ ys) (rs ++ ss) c
+reads_then xs ys rs ss c = λ i. record c {
+  part = record (c.part) { readings = append_assoc c.part.readings rs ss i };
+  moves = append_assoc c.moves xs ys i;
+}
+
+-- a reading leaves the CPU where it is
+seated_reads : (m : MachineValue) (old new : PlaceValue) (looks : List OwnMove) (reading : Reading) → new.calls ≡ old.calls → new.passes ≡ old.passes
+    → new.stops ≡ reads_by looks (reading ∷ []) old.stops → IsSeated m old → IsSeated m new
+seated_reads m old new looks reading calls passes stops seated = record {
+  at = record {
+    calls = ap (λ (c : CallCpuValue). c.table) calls ∙ seated.at.calls;
+    stops = record {
+      table = ap (λ (c : CpuValue). c.table) stops ∙ seated.at.stops.table;
+      setting = ap (λ (c : CpuValue). c.setting) stops ∙ seated.at.stops.setting;
+    };
+    queues = ap (λ (p : PassesValue). p.queues) passes ∙ seated.at.queues;
+  };
+  free = ap (λ (c : CpuValue). c.inside) stops ∙ seated.free;
+  online = subst (λ (n : ℕ). has m.calls.online n ≡ true) (sym (ap (λ (c : CallCpuValue). c.number) calls)) seated.online;
+}
+
+-- a key was read, or a site
+pub key_more : (m : MachineValue) (old new : PlaceValue) (k : ℕ) (on : Bool) → IsSeated m old → KeyAnswers k old.stops new.stops (Ok on)
+    → new.calls ≡ old.calls → new.passes ≡ old.passes → ReadsMore m (ReadKey k on) old new
+key_more m old new k on seated a calls passes =
+    let count : ℕ = a.1.0 in
+    let looks : List OwnMove = Found k count ∷ [] in
+    let stops : new.stops ≡ reads_by looks (ReadKey k on ∷ []) old.stops =
+    a.1.3 ∙ ap (λ (b : Bool). reads_by looks (ReadKey k b ∷ []) old.stops) (sym a.1.2) in
+    record {
+      seated = seated_reads m old new looks (ReadKey k on) calls passes stops seated;
+      calls_are = calls;
+      looks = looks;
+      are_looks = (tt, tt);
+      stops_are = stops;
+      one_table = a.2;
+    }
+
+pub site_more : (m : MachineValue) (old new : PlaceValue) (i : ℕ) (kind : SiteKind) → IsSeated m old → SiteAnswers i old.stops new.stops (Ok kind)
+    → new.calls ≡ old.calls → new.passes ≡ old.passes → ReadsMore m (ReadSite i (jumps kind)) old new
+site_more m old new i kind seated a calls passes =
+    let reading : Reading = ReadSite i (jumps kind) in
+    let stops : new.stops ≡ reads_by [] (reading ∷ []) old.stops =
+    a.1 ∙ (λ x. record (reads reading old.stops) { moves = sym (append-nil old.stops.moves) x }) in
+    record {
+      seated = seated_reads m old new [] reading calls passes stops seated;
+      calls_are = calls;
+      looks = [];
+      are_looks = tt;
+      stops_are = stops;
+      one_table = a.2;
+    }
 
 -- nothing yet
 pub none_read : {X : Type 0} (f : ℕ → X → List Reading) (m : MachineValue) (p : PlaceValue) → IsSeated m p → HasRead m p p (numbered f 0 [])
@@ -34,7 +96,9 @@ unfolding numbered
 none_read f m p seated = record {
   seated = seated;
   calls_are = refl;
-  stops_are = ap (λ (rs : List Reading). with_readings rs p.stops) (sym (append-nil p.stops.part.readings));
+  looks = [];
+  are_looks = tt;
+  stops_are = reads_none p.stops;
 }
 
 -- one item more
@@ -47,9 +111,11 @@ more_read f m old mid new xs x n reading long one was more =
     record {
       seated = more.seated;
       calls_are = more.calls_are ∙ was.calls_are;
-      stops_are = more.stops_are ∙ (ap (λ (c : CpuValue). reads reading c) was.stops_are
-          ∙ ap (λ (rs : List Reading). with_readings rs old.stops)
-          (append_assoc old.stops.part.readings (numbered f 0 xs) (reading ∷ []) ∙ ap (λ t. old.stops.part.readings ++ t) (sym all)));
+      looks = was.looks ++ more.looks;
+      are_looks = looks_join was.looks more.looks was.are_looks more.are_looks;
+      stops_are = more.stops_are ∙ (ap (λ (c : CpuValue). reads_by more.looks (reading ∷ []) c) was.stops_are
+          ∙ (reads_then was.looks more.looks (numbered f 0 xs) (reading ∷ []) old.stops
+          ∙ ap (λ (rs : List Reading). reads_by (was.looks ++ more.looks) rs old.stops) (sym all)));
     }
 
 -- the labels are still those of the machine
@@ -135,6 +201,7 @@ pub both_read : (m : MachineValue) (old mid new : PlaceValue) (xs ys : List Read
 both_read m old mid new xs ys f l = record {
   seated = l.seated;
   calls_are = l.calls_are ∙ f.calls_are;
-  stops_are = l.stops_are ∙ (ap (λ (c : CpuValue). reads_all ys c) f.stops_are
-      ∙ ap (λ (rs : List Reading). with_readings rs old.stops) (append_assoc old.stops.part.readings xs ys));
+  looks = f.looks ++ l.looks;
+  are_looks = looks_join f.looks l.looks f.are_looks l.are_looks;
+  stops_are = l.stops_are ∙ (ap (λ (c : CpuValue). reads_by l.looks ys c) f.stops_are ∙ reads_then f.looks l.looks xs ys old.stops);
 }

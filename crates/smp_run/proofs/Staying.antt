@@ -1,5 +1,5 @@
 -- A CPU of a machine stays there, with no work in hand, whatever it calls.
-use Rattle.std.proofs.Common.{◌≡◌, ◌⊎◌, ℕ, ℤ, Bool, true, false, None, inl, inr, Result, Ok, Err, IfOk, IfErr, [], refl, sym, ap, subst, ◌∙◌}
+use Rattle.std.proofs.Common.{◌≡◌, ◌⊎◌, ℕ, ℤ, Bool, true, false, None, inl, inr, Result, Ok, Err, IfOk, IfErr, List, [], refl, sym, ap, subst, ◌∙◌}
 use Rattle.smp_mask.specs.Mask.{has}
 use Rattle.smp_mask.specs.declared.error.SmpError.{SmpError}
 use Rattle.smp_mask.specs.declared.error.SmpError.TheVariants as error
@@ -11,6 +11,7 @@ use Rattle.smp_multi.specs.declared.func.Called.{Called}
 use Rattle.smp_machine.specs.Calls.{KeepsStops}
 use Rattle.smp_machine.specs.Counts.{CountsOr}
 use Rattle.smp_machine.specs.Keys.{Sets}
+use Rattle.smp_multi.specs.Names.{OwnMove}
 use Rattle.smp_machine.specs.Own.{Own}
 use Rattle.smp_machine.specs.Passes.{PassesValue}
 use Rattle.smp_machine.specs.Place.{MachineValue, PlaceValue}
@@ -74,29 +75,30 @@ module _ {H F : Type 0} (hears : H → Heard → H → Type 0) (runs : F → Cal
   sent_quiet old new h h' f f' (inr same) = sent_none old new (ap (λ (x : PlaceValue). x.calls.part.sent) same)
 
   -- a stop
-  pub quiet_stopped : (long : Bool) (P : Work → Type 0) (old new : PlaceValue) (h h' : H) (f f' : F) (made : Result ℤ SmpError)
-      → IfOk made (λ v. (work : Work) × P work × HasStopped hears runs long work old h f new h' f' v)
+  pub quiet_stopped : (moves : Work → ℕ → List OwnMove) (P : Work → Type 0) (old new : PlaceValue) (h h' : H) (f f' : F) (made : Result ℤ SmpError)
+      → IfOk made (λ v. (work : Work) × P work × HasStopped hears runs moves work old h f new h' f' v)
       → IfErr made (λ _. RefusedStill old h f new h' f') → Quiet old h f new h' f'
-  quiet_stopped long P old new h h' f f' (Ok v) ok err = inl (_, ok.2.works, ok.2.outside)
-  quiet_stopped long P old new h h' f f' (Err e) ok err = inr err.kept
+  quiet_stopped moves P old new h h' f f' (Ok v) ok err = inl (_, ok.2.works, ok.2.outside)
+  quiet_stopped moves P old new h h' f f' (Err e) ok err = inr err.kept
 
-  pub still_stopped : (m : MachineValue) (long : Bool) (P : Work → Type 0) (old new : PlaceValue) (h h' : H) (f f' : F) (made : Result ℤ SmpError)
-      → IfOk made (λ v. (work : Work) × P work × HasStopped hears runs long work old h f new h' f' v)
+  pub still_stopped : (m : MachineValue) (moves : Work → ℕ → List OwnMove) (P : Work → Type 0) (old new : PlaceValue) (h h' : H) (f f' : F)
+      (made : Result ℤ SmpError)
+      → IfOk made (λ v. (work : Work) × P work × HasStopped hears runs moves work old h f new h' f' v)
       → IfErr made (λ _. RefusedStill old h f new h' f') → IsSeated m old → IsStill m old new
-  still_stopped m long P old new h h' f f' made ok err seated =
-      still_quiet m old new h h' f f' (quiet_stopped long P old new h h' f f' made ok err) seated
+  still_stopped m moves P old new h h' f f' made ok err seated =
+      still_quiet m old new h h' f f' (quiet_stopped moves P old new h h' f f' made ok err) seated
 
-  pub sent_stopped : (long : Bool) (P : Work → Type 0) (old new : PlaceValue) (h h' : H) (f f' : F) (made : Result ℤ SmpError)
-      → IfOk made (λ v. (work : Work) × P work × HasStopped hears runs long work old h f new h' f' v)
+  pub sent_stopped : (moves : Work → ℕ → List OwnMove) (P : Work → Type 0) (old new : PlaceValue) (h h' : H) (f f' : F) (made : Result ℤ SmpError)
+      → IfOk made (λ v. (work : Work) × P work × HasStopped hears runs moves work old h f new h' f' v)
       → IfErr made (λ _. RefusedStill old h f new h' f') → HasSent [] old new
-  sent_stopped long P old new h h' f f' made ok err = sent_quiet old new h h' f f' (quiet_stopped long P old new h h' f f' made ok err)
+  sent_stopped moves P old new h h' f f' made ok err = sent_quiet old new h h' f f' (quiet_stopped moves P old new h h' f f' made ok err)
 
   -- a key that is set
   pub quiet_set : (t : TableValue) (k : ℕ) (on : Bool) (old new : PlaceValue) (h h' : H) (f f' : F) (made : Result Bool SmpError)
       → IfOk made (λ turned. Sets hears runs t k on old h f new h' f' turned) → IfOk made (λ _. new.stops.inside ≡ None)
       → IfErr made (λ _. RefusedStill old h f new h' f') → Quiet old h f new h' f'
-  quiet_set t k on old new h h' f f' (Ok false) sets outside err = inl (_, sets, outside)
-  quiet_set t k on old new h h' f f' (Ok true) sets outside err = inl (_, sets.2.1.works, outside)
+  quiet_set t k on old new h h' f f' (Ok false) sets outside err = inl (_, sets.works, outside)
+  quiet_set t k on old new h h' f f' (Ok true) sets outside err = inl (_, sets.stopped.works, outside)
   quiet_set t k on old new h h' f f' (Err e) sets outside err = inr err.kept
 
   pub still_set : (m : MachineValue) (t : TableValue) (k : ℕ) (on : Bool) (old new : PlaceValue) (h h' : H) (f f' : F) (made : Result Bool SmpError)

@@ -23,6 +23,7 @@ use Rattle.smp_multi.specs.declared.func.Called.{Called}
 use Rattle.smp_machine.specs.Calls.{RefusedInHand}
 use Rattle.smp_machine.specs.Counts.{CountsOr}
 use Rattle.smp_machine.specs.Keys.{Sets}
+use Rattle.smp_multi.specs.Names.{OwnMove}
 use Rattle.smp_machine.specs.Own.{Own}
 use Rattle.smp_machine.specs.Place.{MachineValue, PlaceValue, fresh_place}
 use Rattle.smp_machine.specs.Stops.{HasStopped, RefusedStill}
@@ -212,11 +213,11 @@ module _ {H F : Type 0} (hears : H → Heard → H → Type 0) (runs : F → Cal
   waited_quiet old new h h' f f' (inl (own, w, outside)) was = waited_worked old new h h' f f' own w was
   waited_quiet old new h h' f f' (inr same) was = subst (λ (p : PlaceValue). HasWaited p) (sym same) was
 
-  pub waited_stopped : (long : Bool) (P : Work → Type 0) (old new : PlaceValue) (h h' : H) (f f' : F) (made : Result ℤ SmpError)
-      → IfOk made (λ v. (work : Work) × P work × HasStopped hears runs long work old h f new h' f' v)
+  pub waited_stopped : (moves : Work → ℕ → List OwnMove) (P : Work → Type 0) (old new : PlaceValue) (h h' : H) (f f' : F) (made : Result ℤ SmpError)
+      → IfOk made (λ v. (work : Work) × P work × HasStopped hears runs moves work old h f new h' f' v)
       → IfErr made (λ _. RefusedStill old h f new h' f') → HasWaited old → HasWaited new
-  waited_stopped long P old new h h' f f' made ok err was =
-      waited_quiet old new h h' f f' (quiet_stopped hears runs long P old new h h' f f' made ok err) was
+  waited_stopped moves P old new h h' f f' made ok err was =
+      waited_quiet old new h h' f f' (quiet_stopped hears runs moves P old new h h' f f' made ok err) was
 
   pub waited_set : (t : TableValue) (k : ℕ) (on : Bool) (old new : PlaceValue) (h h' : H) (f f' : F) (made : Result Bool SmpError)
       → IfOk made (λ turned. Sets hears runs t k on old h f new h' f' turned) → IfOk made (λ _. new.stops.inside ≡ None)

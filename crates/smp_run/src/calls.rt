@@ -128,7 +128,7 @@ impl<'a, P: Pace> Player<'a, P> {
         }
     }
 
-    /// The same, repeated after a poll while the record is busy.
+    /// A call by record `u` of the user, tried again after a poll while the record is busy.
     fn user<R: Wait>(&mut self, rt: &R, u: u32, dst: u32, func: u16, info: u64) -> Answer
         requires { u ≤ 1 }
         ensures same { IsSame self.old self.new }

@@ -28,7 +28,7 @@ pub struct Seat {
 }
 
 impl<'a, P: Pace> Player<'a, P> {
-    /// What a request asks for, so often: the last answer.
+    /// Makes what a request asks for, this number of times. Returns the last answer.
     fn repeat<R: Wait>(&mut self, rt: &R, count: u32, request: &Request) -> Answer
         requires count { 1 ≤ count }
         requires fits { RequestFits request.now }

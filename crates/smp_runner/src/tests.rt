@@ -1,7 +1,8 @@
 use super::*;
 use smp_mask::Cause;
+use std::cell::RefCell;
 use std::fmt::Display;
-use std::sync::atomic::{AtomicU64, Ordering};
+use std::io::{Error, ErrorKind};
 use std::test::*;
 
 /// How a script of memory ends, and what it writes.
@@ -89,31 +90,58 @@ fn statuses_of_refusals(rt: HostRuntime) {
     assert_eq!(rt; status_of(Err(Refusal::Usage)), 2);
 }
 
-/// Counts the lines that it is told.
+/// Keeps what it is told.
 #[derive(Drop)]
 struct Told {
-    lines: AtomicU64,
+    text: RefCell<String<Global>>,
 }
 
 impl Eprint for Told {
-    fn eprint<D: Display + Drop>(&self, _value: D) -> io::Result<()> {
-        Ok(())
+    fn eprint<D: Display + Drop>(&self, value: D) -> io::Result<()> {
+        let Ok(mut text) = self.text.try_borrow_mut() else {
+            return Err(Error::from(ErrorKind::Other));
+        };
+        match write!(text, "{value}") {
+            Ok(()) => Ok(()),
+            Err(_) => Err(Error::from(ErrorKind::Other)),
+        }
     }
 
-    fn eprintln<D: Display + Drop>(&self, _value: D) -> io::Result<()> {
-        self.lines.fetch_add(1, Ordering::SeqCst);
-        Ok(())
+    fn eprintln<D: Display + Drop>(&self, value: D) -> io::Result<()> {
+        self.eprint(format_args!("{value}\n"))
     }
 }
 
 #[test]
 fn each_refusal_is_told_in_a_line(rt: HostRuntime) {
-    for refusal in [Refusal::Usage, Refusal::Failed(SmpError::NoMemory)] {
+    let line = 7;
+    let cause = Cause::SharedKey;
+    let cases = [
+        (Refusal::Usage, "usage: smp_runner replay|run [FILE]\n"),
+        (
+            Refusal::Failed(SmpError::NoMemory),
+            "smp_runner: E6 no memory\n",
+        ),
+        (
+            Refusal::Failed(SmpError::StreamFailed(Side::Read)),
+            "smp_runner: E12 read failed\n",
+        ),
+        (
+            Refusal::Failed(SmpError::StreamFailed(Side::Write)),
+            "smp_runner: E12 write failed\n",
+        ),
+        (
+            Refusal::Failed(SmpError::BadScript { line, cause }),
+            "smp_runner: E9 line 7 SharedKey\n",
+        ),
+    ];
+    for (refusal, wanted) in cases {
         let told = Told {
-            lines: AtomicU64::new(0),
+            text: RefCell::new(String::new(rt.alloc())),
         };
         assert!(rt; tell(&told, refusal).is_ok());
-        assert_eq!(rt; told.lines.load(Ordering::SeqCst), 1);
+        let Told { text } = told;
+        assert_eq!(rt; text.into_inner().as_str(), wanted);
     }
 }
 

@@ -19,16 +19,16 @@ use smp_words::Command;
 /// The most steps that one line may ask for.
 const MAX_STEPS: u32 = 10_000;
 
-/// What a line of a script asks for: of a replay all but the last, of a run the last.
+/// What a line of a script asks for. A replay has all but the last of these, a run the last alone.
 #[derive(Clone, Copy, Debug, PartialEq, Eq)]
 pub enum Directive {
     /// The CPU begins a command: one event.
     Start(u32, Command),
-    /// The CPU makes so many steps of its command, each of them an event.
+    /// The CPU makes this number of steps of its command, each of them an event.
     Step(u32, u32),
     /// The queues, the locked records and the phases are printed: no event.
     Show,
-    /// The CPU, which is online, makes a call so many times: no event.
+    /// The CPU, which is online, makes a call this number of times: no event.
     Do(u32, u32, Request),
 }
 

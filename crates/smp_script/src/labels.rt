@@ -123,7 +123,7 @@ pub fn split_items<A: Allocator>(alloc: A, text: &[u8]) -> Result<Vec<&[u8], A>,
     parts(alloc, text, b',')
 }
 
-/// The labels of so many keys and these items. A wrong item is told before all else, then what is wrong with
+/// The labels of this number of keys and these items. A wrong item is told before all else, then what is wrong with
 /// the number of keys, and then of any item first a key that is no number.
 #[tactic(auto, using(crate::proofs::Reader::Items::all_map), unfolding(crate::specs::Labels::labels_in))]
 pub fn read_labels(keys: &[u8], items: &[&[u8]]) -> Result<LabelMap, Cause>

@@ -24,7 +24,7 @@ pub enum Form {
     Signed,
     /// A list of CPUs below this number, or `-`.
     CpuList(u32),
-    /// The same of the CPUs that are online: the last field of its line.
+    /// A list of the CPUs that are online, below this number: the last field of its line.
     Online(u32),
     /// The items of the labels: the last field of its line.
     Items,

@@ -1,5 +1,5 @@
 -- What a CPU knows of the stops: where it is with them, as far as its steps have told, and its own part of their state.
-use Rattle.std.specs.Prelude.{◌≡◌, ◌≢◌, ◌⊎◌, ℕ, ◌<◌, nat_lt, Bool, false, ◌==◌, cond, Option, Some, None, List, [], length, replicate, slice_index_or}
+use Rattle.std.specs.Prelude.{◌≡◌, ◌≢◌, ◌⊎◌, ℕ, ◌<◌, nat_lt, Bool, false, ◌==◌, cond, Option, Some, None, List, [], ◌∷◌, ◌++◌, length, replicate, slice_index_or}
 use Rattle.smp_stop_steps.specs.Callings.{with_answer}
 use Rattle.smp_stop_steps.specs.Names.{MOST_KEYS, cpus, put, One, Seen, Work, Word, Slot}
 use Rattle.smp_stop_steps.specs.Seats.{Seat, Free}
@@ -11,6 +11,7 @@ use Rattle.smp_stop_steps.specs.Tells.{tells}
 use Rattle.smp_stop_steps.specs.Value.{setup_of}
 use Rattle.smp_stop_steps.specs.Names.field
 pub use Rattle.smp_stop_steps.specs.declared.known.Known.{Known}
+pub use Rattle.smp_stop_steps.specs.declared.known.OwnMove.{OwnMove}
 pub use Rattle.smp_stop_steps.specs.declared.known.Part.{Part}
 pub use Rattle.smp_stop_steps.specs.declared.known.Setting.{Setting}
 
@@ -115,30 +116,15 @@ no_part = record {
 }
 
 abbrev pub fresh : Setting → ℕ → Known
-fresh k me = record { setting = k; number = me; seat = Free; source = Shut; part = no_part; carried = 0 }
+fresh k me = record { setting = k; number = me; seat = Free; source = Shut; part = no_part; carried = 0; moves = [] }
 
 -- with this answer, which it carries from now on
 abbrev pub carrying : ℕ → Known → Known
 carrying x v = record v { carried = x }
 
--- some words show some stops, of which a CPU that knows v knows its part
-pub record Lives (v : Known) : Type 0 where
-  pub stops : StopState
-  pub at : Word → ℕ
-  pub seat : ℕ → Seat
-  pub source : ℕ → Source
-  pub shown : StopShows (setup_in v.setting) stops at seat source
-  pub sees : Sees stops seat source v
-
--- the same, where this number is in the word
-pub record Moment (v : Known) (word : Word) (number : ℕ) : Type 0 where
-  pub stops : StopState
-  pub at : Word → ℕ
-  pub seat : ℕ → Seat
-  pub source : ℕ → Source
-  pub shown : StopShows (setup_in v.setting) stops at seat source
-  pub sees : Sees stops seat source v
-  pub number_is : number ≡ at word
+-- with one more step of its own
+abbrev pub noting : OwnMove → Known → Known
+noting m v = record v { moves = v.moves ++ m ∷ [] }
 
 -- the same stops; where the step stores an answer, with that answer of this CPU's function, which no step tells before
 abbrev pub AreAlike : ℕ → Seen → StopState → StopState → Type 0
@@ -151,7 +137,8 @@ pub record AreTold (u : Setup) (me : ℕ) (p p' : StopState) (seen : Seen) : Typ
   pub alike : AreAlike me seen p before
   pub told : p' ≡ tells u before seen 0
 
--- the stops go on by a step of this CPU, after which it knows w: what each other CPU knows of them stays true
+-- the stops go on by a step of this CPU, after which it knows w: each other CPU stays where it was, and what it knows of them
+-- stays true
 pub record GoesOn (k : Setting) (p : StopState) (seat : ℕ → Seat) (source : ℕ → Source) (me : ℕ) (at : Word → ℕ) (w : Known) : Type 0 where
   pub stops : StopState
   pub seats : ℕ → Seat
@@ -161,6 +148,7 @@ pub record GoesOn (k : Setting) (p : StopState) (seat : ℕ → Seat) (source : 
   pub number_is : w.number ≡ me
   pub setting_is : w.setting ≡ k
   pub others : (o : Known) → o.number ≢ me → Sees p seat source o → Sees stops seats sources o
+  pub still : (c : ℕ) → c ≢ me → (seats c ≡ seat c) × (sources c ≡ source c)
 
 -- the same by this step, which tells just the stops that it goes on to
 pub record GoesOnBy (k : Setting) (p : StopState) (seat : ℕ → Seat) (source : ℕ → Source) (me : ℕ) (at : Word → ℕ) (w : Known) (seen : Seen) : Type 0 where

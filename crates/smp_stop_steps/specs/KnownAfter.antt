@@ -1,8 +1,8 @@
 -- What a CPU knows after a step of its own, as the step tells it.
-use Rattle.std.specs.Prelude.{ℕ, ◌+◌, Bool, true, false, ◌==◌, ◌&&◌, ◌||◌, not, cond, Option, Some, List, [], ◌∷◌, ◌++◌, slice_index_or, slice_set}
+use Rattle.std.specs.Prelude.{ℕ, ◌+◌, Bool, true, false, ◌==◌, ◌&&◌, ◌||◌, not, cond, Option, Some, None, List, [], ◌∷◌, ◌++◌, slice_index_or, slice_set}
 use Rattle.smp_stop_steps.specs.Names.{has, is_on, Act, Field, One, Work, Word, Gate, Slot, Key, Site, DISABLE_IRQ, RUN, EXIT, OVER}
 use Rattle.smp_stop_steps.specs.KeyCounts.{moves}
-use Rattle.smp_stop_steps.specs.Known.{Known, Part, setup_in}
+use Rattle.smp_stop_steps.specs.Known.{Known, Part, setup_in, noting}
 use Rattle.smp_stop_steps.specs.Labels.{Reading, ReadKey, ReadSite}
 use Rattle.smp_stop_steps.specs.Seats.{Seat, Free, In, Gives, Alters, Closes, Rests, Fills, Sets}
 use Rattle.smp_stop_steps.specs.Stop.{Inside}
@@ -11,11 +11,15 @@ use Rattle.smp_stop_steps.specs.State.{Moved, unmoved, Carries, Calls, Idle}
 use Rattle.smp_stop_steps.specs.Tells.{carried_call, may_call, drafted, first_readings, is_one, is_patch, calls_at_run, plan_at}
 use Rattle.smp_stop_steps.specs.Names.act
 use Rattle.smp_stop_steps.specs.Names.field
+use Rattle.smp_stop_steps.specs.declared.known.OwnMove.TheVariants as own
+
+-- with its moves: what each step at the gate, at its own stop and at keys tells is one more of them, and no other is
 
 -- of the gate
 abbrev pub gate_known : Act → Option ℕ → Known → Known
-gate_known act.Cas (Some n) v = record v { part = record (v.part) { holds = true } }
-gate_known act.Store put v = record v { part = record (v.part) { holds = false } }
+gate_known act.Cas (Some n) v = noting own.Took (record v { part = record (v.part) { holds = true } })
+gate_known act.Cas None v = noting own.Busy v
+gate_known act.Store put v = noting own.Gave (record v { part = record (v.part) { holds = false } })
 gate_known _ put v = v
 
 -- of its own slot, before its stop is open
@@ -41,7 +45,7 @@ drafted_known f n v = record v { source = drafts_more f n v.source }
 
 -- the stop is open
 abbrev pub opened_by : Source → Known → Known
-opened_by (Drafts w k) v = record v { source = Owns w; part = record (v.part) { begun = v.part.begun ++ w ∷ [] } }
+opened_by (Drafts w k) v = noting (own.Began w) (record v { source = Owns w; part = record (v.part) { begun = v.part.begun ++ w ∷ [] } })
 opened_by y v = v
 
 -- of a stop that it is in
@@ -124,8 +128,12 @@ abbrev pub done_by : ℕ → Source → Source
 done_by found (Owns w) = cond (found == 0) (Owns w) (Collects w)
 done_by found y = y
 
+-- a look at done that finds it set is told by the state of its source
+abbrev pub done_known : ℕ → Known → Known
+done_known found v = record v { source = done_by found v.source; moves = cond (found == 0) (v.moves ++ own.NotDone ∷ []) v.moves }
+
 abbrev pub collected_known : ℕ → Known → Known
-collected_known n v = record v { source = Shut; part = record (v.part) { collected = v.part.collected ++ n ∷ [] } }
+collected_known n v = noting (own.Collected n) (record v { source = Shut; part = record (v.part) { collected = v.part.collected ++ n ∷ [] } })
 
 -- a step on a slot; one that enters learns this work
 abbrev pub slot_known : Work → Known → ℕ → Act → Field → Option ℕ → Option ℕ → Known
@@ -133,7 +141,7 @@ slot_known w v s act.Store f found (Some n) = slot_stored f n v
 slot_known w v s act.And field.Roll (Some found) put = cond (has found v.number) (record v { seat = In s w 0 0 Rests }) v
 slot_known w v s act.Load field.State (Some found) put = looked_known found v
 slot_known w v s act.Load field.Arg (Some found) put = called_by found v.seat v
-slot_known w v s act.Load field.Done (Some found) put = record v { source = done_by found v.source }
+slot_known w v s act.Load field.Done (Some found) put = done_known found v
 slot_known w v s act.Load field.Result (Some found) put = collected_known found v
 slot_known w v s act.Sub field.Ack (Some found) put = acked_by found v.seat v
 slot_known w v s act.Sub field.Todo (Some found) put = completed_by found v.seat v
@@ -148,10 +156,14 @@ reads_more r v = record v { part = record (v.part) { readings = v.part.readings 
 abbrev pub is_patching : ℕ → ℕ → Work → Bool
 is_patching a l w = (a == DISABLE_IRQ && l == RUN) && is_patch w.kind
 
+-- a key is read, with this count
+abbrev pub key_read_known : ℕ → ℕ → Known → Known
+key_read_known k found v = noting (own.Found k found) (reads_more (ReadKey k (is_on found)) v)
+
 abbrev pub key_loaded_by : ℕ → ℕ → Seat → Known → Known
 key_loaded_by k found (In s w a l t) v =
-    cond (is_patching a l w) (record v { seat = Alters s w found [] (plan_at (setup_in v.setting) w found) }) (reads_more (ReadKey k (is_on found)) v)
-key_loaded_by k found x v = reads_more (ReadKey k (is_on found)) v
+    cond (is_patching a l w) (record v { seat = Alters s w found [] (plan_at (setup_in v.setting) w found) }) (key_read_known k found v)
+key_loaded_by k found x v = key_read_known k found v
 
 abbrev pub altered_by : Seat → Seat
 altered_by (Alters s w count made (change ∷ rest)) = Alters s w count (made ++ change ∷ []) rest
@@ -172,6 +184,7 @@ abbrev pub key_known : Act → ℕ → Option ℕ → Option ℕ → Known → K
 key_known act.Load k (Some found) put v = key_loaded_by k found v.seat v
 key_known act.Store k found (Some n) v = key_stored_by k n v
 key_known act.Cas k (Some found) (Some n) v = record v { part = record (v.part) { nudged = counted v.part.nudged k found n } }
+key_known act.Cas k (Some found) None v = noting (own.Lost k) v
 key_known _ k found put v = v
 
 abbrev pub site_known : Act → ℕ → Option ℕ → Known → Known

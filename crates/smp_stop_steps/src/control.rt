@@ -504,7 +504,7 @@ impl StopControl {
         }
     }
 
-    /// The store of the patch that is made after so many.
+    /// The store of the patch that is made after this number of them.
     pub fn change(&self, made: u32) -> (Place, u64)
         requires { made < length self.now.changes }
         ensures { result ≡ change_at self.now.changes made }

@@ -52,7 +52,7 @@ pub enum Seat {
 pub enum Source {
     /// Its slot is closed.
     Shut,
-    /// It holds the gate, and has stored so many fields of this work.
+    /// It holds the gate, and has stored this number of fields of this work.
     Drafts { work: Work, stored: u32 },
     /// Its stop is open.
     Owns { work: Work },
@@ -87,6 +87,26 @@ pub enum Calling {
 pub struct Moved {
     pub up: u64,
     pub down: u64,
+}
+
+/// A step of a CPU at the gate, at its own stop, or at a key: what the access has told.
+pub enum OwnMove {
+    /// It has tried the gate, and has found a holder.
+    Busy,
+    /// It has taken the gate.
+    Took,
+    /// It has given the gate up.
+    Gave,
+    /// It has opened its own slot for a stop of this work.
+    Began { work: Work },
+    /// It has looked at done of its own stop, and has found it not set.
+    NotDone,
+    /// It has collected the result of its own stop.
+    Collected { result: u64 },
+    /// It has loaded a key with its interrupts on, and has found this count.
+    Found { key: u32, count: u64 },
+    /// Its exchange of a key has found another count.
+    Lost { key: u32 },
 }
 
 /// What a table is made with.
@@ -129,4 +149,6 @@ pub struct Known {
     /// The answer that it carries from its acknowledgement of `RUN` to its completion, else 0. No word has it, and no step
     /// tells it: the acknowledgement puts it.
     pub carried: u64,
+    /// Its steps at the gate, at its own stop and at keys, in the order in which it has made them.
+    pub moves: LinkedList<OwnMove>,
 }

@@ -47,10 +47,10 @@ pub fn function_law()
 
 ghost use Rattle.smp_stop_steps.specs.Functions.{FunctionsRun, FunctionsRunOnce, AnswersMayBeReplaced};
 
-/// A stop function runs only on a CPU that is in a stop whose work has it and its argument: of a stop of kind One, or on an
-/// active CPU of a Multi stop, which has looked at `RUN` and not acknowledged it, while every CPU of the mask has
-/// acknowledged disabled interrupts. It runs from the step that says so to the acknowledgement, or the completion, that
-/// carries its answer.
+/// A stop function runs only on a CPU that is in a stop whose work has it and its argument. The stop is of kind One, or the
+/// CPU is active in a Multi stop, has looked at `RUN` and has not acknowledged it. In a Multi stop every CPU of the mask has
+/// then acknowledged disabled interrupts. The function runs from the step that says so to the acknowledgement, or the
+/// completion, that carries its answer.
 pub fn functions_run()
     ensures { FunctionsRun }
 {}
@@ -71,13 +71,18 @@ pub fn answers_may_be_replaced()
 
 ghost use Rattle.smp_stop_steps.specs.Notes.{NotesFit};
 
-/// What the note of each step says of the state, and that no other step changes it so: `gate` and `open`, who holds the
-/// gate; `begun`, the stop that is open, and its work; `entered`, the stop that the CPU is in; `same`, that it has
-/// acknowledged the phase that it looks at; `moved P`, `ran` and `left`, the phase that it has acknowledged, whether it is
-/// active there, and that its interrupts go on; `run F A`, the function that it has called; `finished`, that it is in no
-/// stop; `result V`, what it has collected, as an `i32`; `on`, `off`, `NOP` and `JMP`, what it has read; `done`, a count that
-/// it has moved by one. A step with no note acknowledges no phase and leaves no stop, but that of the last to do so, which
-/// says it once the next phase, or done, is stored.
+/// What the note of each step says of the state, and that no other step changes it so:
+/// - `gate` and `open`: which CPU holds the gate.
+/// - `begun`: the stop that is open, and its work. `entered`: the stop that the CPU is in.
+/// - `same`: the CPU has acknowledged the phase that it looks at.
+/// - `moved P`, `ran` and `left`: the phase that it has acknowledged, whether it is active there, and that its interrupts
+///   go on.
+/// - `run F A`: the function that it has called. `finished`: it is in no stop.
+/// - `result V`: what it has collected, as an `i32`.
+/// - `on`, `off`, `NOP` and `JMP`: what it has read. `done`: it has moved a count by one.
+///
+/// A step with no note acknowledges no phase and leaves no stop. The last CPU to do so is the exception: it says so once
+/// the next phase, or done, is stored.
 pub fn notes_fit()
     ensures { NotesFit }
 {}
@@ -102,14 +107,15 @@ pub fn last_stores_done()
 
 ghost use Rattle.smp_stop_steps.specs.Premises.{StepsArePremised};
 
-/// What holds before each step: a stop is opened by its source, with the gate, while none of its own is open; a CPU of the
-/// mask enters once, from no stop; it acknowledges a phase that it has looked at and that is new to it; the phase is raised
-/// by one, by the one that has refilled the count, once all have acknowledged it; a CPU completes when it is through all
-/// phases, the last stores done, and the source collects once all have completed. So the slot of an open stop is stored to
-/// by CPUs in it and by the last to complete alone, and that of a stop that is not open by its source; only the fetch_and
-/// of a roll may be any CPU's.
-/// A key or a site is loaded with interrupts on, or in the function of a patch; an entry is loaded, and a key or a site
-/// stored to, in such a function alone; and a count is exchanged with interrupts on.
+/// What holds before each step:
+/// - A stop is opened by its source, with the gate, while none of its own is open.
+/// - A CPU of the mask enters once, from no stop. It acknowledges a phase that it has looked at and that is new to it.
+/// - The phase is raised by one, once all have acknowledged it, by the CPU that has refilled the count.
+/// - A CPU completes when it is through all phases. The last one stores done. The source collects once all have completed.
+/// - So the slot of an open stop is stored to by CPUs in it and by the last to complete alone. That of a stop that is not
+///   open is stored to by its source. Only the fetch_and of a roll may be any CPU's.
+/// - A key or a site is loaded with interrupts on, or in the function of a patch. An entry is loaded in such a function
+///   alone, and so is each store to a key or a site. A count is exchanged with interrupts on.
 pub fn steps_are_premised()
     ensures { StepsArePremised }
 {}
@@ -187,21 +193,23 @@ pub fn own_patches_are_read()
 
 ghost use Rattle.smp_stop_steps.specs.Refusals.{RefusalsAreOfTheState};
 
-/// Each refusal of a command by a CPU outside a command is that of the stops that the half shows. Of an enter, E7 exactly
-/// where the CPU is in a stop, or there is no such slot; of a handle, a reading and a nudge, E4 exactly where its interrupts
-/// are off, or there is no such key or site; of a turn, a run and a finish, by the stop that it is in and whether it has left
-/// it; of a poll by its own stop, and of who gives up the gate by its holder; of a begin, E8 where its own stop is open, else
-/// E4 where it does not hold the gate or the work is none, else E3 where some CPU of the mask is not online.
+/// Each refusal of a command by a CPU outside a command is that of the stops that the half shows:
+/// - An enter is refused by E7 exactly where the CPU is in a stop, or there is no such slot.
+/// - A handle, a reading and a nudge are refused by E4 exactly where its interrupts are off, or there is no such key or site.
+/// - A turn, a run and a finish go by the stop that it is in, and whether it has left it. A poll goes by its own stop, and
+///   giving up the gate by the gate's holder.
+/// - A begin is refused by E8 where its own stop is open. Else it is E4 where it does not hold the gate or the work is none,
+///   and else E3 where some CPU of the mask is not online.
 pub fn refusals_are_of_the_state()
     ensures { RefusalsAreOfTheState }
 {}
 
 ghost use Rattle.smp_stop_steps.specs.Members.{BeginsByMembers};
 
-/// A begin is refused by the members of its masks and by its numbers. E8 where the own stop is open. Then E4 where the gate
-/// is not held, the mask is empty, a stop of kind One has another number of CPUs than one, or a patch is none: its mask is
-/// that of all CPUs online, its active mask has the least of them alone, its `func` is a key, and its `arg` is below 4. Then
-/// E3 where a CPU of the mask is not online. Else it is not refused.
+/// A begin is refused by the members of its masks and by its numbers. E8 where the CPU's own stop is open. Then E4 where the
+/// gate is not held, the mask is empty, a stop of kind One has another number of CPUs than one, or a patch is none. A patch
+/// has the mask of all CPUs online, an active mask of the least of them alone, a key as its `func`, and an `arg` below 4.
+/// Then E3 where a CPU of the mask is not online. Else it is not refused.
 pub fn begins_by_members()
     ensures { BeginsByMembers }
 {}
@@ -220,9 +228,9 @@ pub fn nothing_is_known()
     ensures { NothingIsKnown }
 {}
 
-/// Each kind of step that a CPU may make, by what it knows of the stops, goes on to stops that the words show, of which
-/// it knows its part as the step has told it, and every other CPU what it knew. These stops are just those that the step
-/// tells, of the stops before it; the store of an answer puts that answer for the function's. For words that threads share.
+/// For words that threads share: each kind of step that a CPU may make, by what it knows of the stops, goes on to stops that
+/// the words show. The CPU knows its part of these as the step has told it, and every other CPU what it knew. These stops
+/// are just those that the step tells, of the stops before it. The store of an answer puts that answer for the function's.
 pub fn moves_are_known()
     ensures { MovesAreKnown }
 {}

@@ -123,7 +123,7 @@ impl<A: Allocator> Stops<A> {
         })
     }
 
-    /// The same once more.
+    /// A duplicate of this half.
     pub fn copy(&self, alloc: A) -> Result<Self, AllocError>
     where
         A: Copy,

@@ -64,7 +64,7 @@ pub enum RoundStage {
     LoadKey { key: u16, change: Change },
     /// Load the entry of this site; `word` is the key's new count.
     LoadEntry { key: u16, word: u64, site: u32 },
-    /// Make the next store of the patch: so many are made.
+    /// Make the next store of the patch, after this number of them.
     StoreChange { made: u32 },
     /// Take 1 from the count of acknowledgements (`ack_state`).
     Acknowledge { answer: u64, ran: bool },

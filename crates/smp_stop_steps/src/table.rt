@@ -82,7 +82,7 @@ impl<A: Allocator> StopTable<A> {
         })
     }
 
-    /// The same once more.
+    /// A duplicate of this table.
     pub fn copy(&self, alloc: A) -> Result<Self, AllocError>
         ensures { IfOk result (λ copy. copy ≡ self.now) }
     {

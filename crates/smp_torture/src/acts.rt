@@ -20,7 +20,7 @@ const SITES: u32 = 2 * KEYS;
 /// How often a call by a record of the user is tried.
 const TRIES: u32 = 100_000_000;
 
-/// A CPU sleeps less than so many microseconds.
+/// A CPU sleeps less than this number of microseconds.
 const MOST_SLEEP: u32 = 100;
 
 /// Whether a site jumps while its key is off.

@@ -10,7 +10,7 @@ use rand_core::Rng;
 use rand_pcg::Pcg32;
 use smp_mask::CpuMask;
 
-/// What a CPU chooses at random, among so many CPUs.
+/// What a CPU chooses at random, among this number of CPUs.
 #[derive(Drop)]
 pub struct Choice {
     random: Pcg32,
@@ -42,7 +42,7 @@ impl Choice {
         self.random.next_u32() % 2 == 0
     }
 
-    /// One of so many numbers from 0 on.
+    /// One of this number of numbers, from 0 on.
     pub fn below(&mut self, count: u32) -> u32
         requires { 0 < count }
         ensures { result < count }

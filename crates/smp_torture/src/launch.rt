@@ -158,7 +158,7 @@ fn run_all<'s, 'e, R: Wait + Threads + Clock + Eprint + Sync>(
     Some(Ended { last, reports })
 }
 
-/// The same in a scope of its own.
+/// Runs the plan in a scope of threads of its own. None where a thread can't be started, or memory ran out.
 fn run_scope<'e, R: Wait + Threads + Clock + Eprint + Sync>(
     rt: &'e R,
     alloc: Global,

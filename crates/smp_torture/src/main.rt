@@ -41,7 +41,7 @@ use std::thread::Threads;
 use std::time::{Clock, Instant};
 use std::{env, io};
 
-/// The CPUs from 0 on, so many.
+/// This number of CPUs, from 0 on.
 fn first_cpus(count: u32) -> Result<CpuMask, TortureError> {
     let mut mask = CpuMask::empty();
     for number in 0..count {
@@ -50,7 +50,7 @@ fn first_cpus(count: u32) -> Result<CpuMask, TortureError> {
     Ok(mask)
 }
 
-/// A new machine of so many CPUs, all of them online, and its CPUs.
+/// A new machine of this number of CPUs, all of them online, and its CPUs.
 fn machine_of(
     alloc: Global,
     threads: u32,

@@ -7,7 +7,7 @@ use std::alloc::{AllocError, Allocator};
 
 /// What can be made once more, and compared in all of it.
 pub trait Same {
-    /// The same once more.
+    /// A duplicate of this value.
     fn copy(&self) -> Self
         ensures { result ≡ self.now };
 

@@ -232,7 +232,7 @@ fn calls_between_threads_of_a_wide_table_all_run(rt: HostRuntime) -> Result<(), 
     Ok(())
 }
 
-/// From each CPU to the other so many calls were queued and ran, and nothing is left.
+/// This number of calls were queued and ran from each CPU to the other, and nothing is left.
 fn all_have_run(rt: &impl Abort, audit: &Audit, calls: &[(usize, usize, u64)]) {
     match audit {
         Audit::Drained(tally) => {

@@ -45,7 +45,7 @@ pub enum Act {
     AwaitWork,
     Turn(Turn),
     Poll,
-    /// It makes turns in which nothing goes on, until it has heard so many calls.
+    /// It makes turns in which nothing goes on, until it has heard this number of calls.
     Hears(u32),
     Key(u32, Result<bool, SmpError>),
     Site(u32, Result<SiteKind, SmpError>),
@@ -53,9 +53,9 @@ pub enum Act {
     Reads(u32, bool),
     /// The key and its two sites, read twice, are those of one lawful table.
     Agrees(u32),
-    /// It has heard so many calls, the last of them this.
+    /// The number of calls that it has heard, and the last of them.
     Heard(u32, (u32, u16, u64)),
-    /// Its stop function was called so often.
+    /// The number of times that its stop function was called.
     Calls(u32),
     /// Stop functions have run so since the last question: see [`Hall::runs`].
     Runs(u64),
@@ -84,7 +84,7 @@ impl Act {
         }
     }
 
-    /// The same of calls.
+    /// Whether a call is answered as the line says.
     fn calls<R: Wait>(&self, rt: &R, me: &mut Member) -> bool {
         match *self {
             Act::Single(dst, wait, answer) => me.single(rt, dst, wait) == answer,
@@ -99,7 +99,7 @@ impl Act {
         }
     }
 
-    /// The same of a CPU's part in stops.
+    /// Whether the CPU takes part in stops as the line says.
     fn serves<R: Wait>(&self, rt: &R, me: &mut Member) -> bool {
         match *self {
             Act::TakeWork(has_one) => me.take_work(rt) == has_one,
@@ -114,7 +114,7 @@ impl Act {
         }
     }
 
-    /// The same of what is read.
+    /// Whether what the CPU reads is as the line says.
     fn is_seen(&self, me: &mut Member) -> bool {
         match *self {
             Act::Key(k, answer) => me.read_key(k) == answer,
@@ -188,11 +188,11 @@ fn all_go<R: Wait>(rt: &R, me: &mut Member, acts: &[Act]) -> bool {
 #[derive(Copy, Clone)]
 pub enum Often {
     Times(u32),
-    /// Until the flag was raised so often.
+    /// Until the flag was raised this number of times.
     Until(u64),
 }
 
-/// Plays a part until the flag was raised so often. Whether all goes so.
+/// Plays a part until the flag was raised this number of times. Whether all goes so.
 fn play_until<R: Wait>(rt: &R, me: &mut Member, flag: u64, acts: &[Act]) -> bool {
     let backoff = Backoff::new();
     for _ in 0..TRIES {

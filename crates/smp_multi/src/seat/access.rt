@@ -2,19 +2,22 @@
 //! private here. Steps that store an answer or a label are made by `store_any`; steps that end a stop function, a patch or
 //! a stop by `subtract_with`, which also puts the answer that the CPU carries. Only the pages beside this one see these two.
 
-ghost use Rattle.std.specs.Prelude.{◌≡◌, ℕ, ◌+◌, ◌<◌, ◌==◌, if◌then◌else◌, IfOk, Some, None};
+ghost use Rattle.std.specs.Prelude.{◌≡◌, ℕ, ◌+◌, ◌<◌, ◌==◌, true, if◌then◌else◌, IfOk, Some, None};
 ghost use Rattle.std.specs.Int.Bits.{bit_and};
+ghost use Rattle.smp_mask.specs.Mask.{has};
 ghost use Rattle.smp_words.specs.Limits.{AreLimits};
 ghost use Rattle.smp_words.specs.Size.{cpus};
 ghost use Rattle.smp_words.specs.Access.{one_less};
 ghost use Rattle.smp_words.specs.declared.access.Access.TheVariants as access;
 ghost use Rattle.smp_words.specs.declared.seen.Act.TheVariants as act;
-ghost use Rattle.smp_stop_steps.specs.Known.{carrying, fresh, Moment, Lives};
+ghost use Rattle.smp_stop_steps.specs.Known.{carrying, fresh};
+ghost use Rattle.smp_multi.specs.Lives.{Moment, Lives};
 ghost use Rattle.smp_stop_steps.specs.KnownAfter.{known_told, known_entering};
 ghost use Rattle.smp_stop_steps.specs.Moves.{entering};
 ghost use Rattle.smp_multi.specs.declared.seat_view.SeatView.TheVariants.{Maker};
 ghost use Rattle.smp_multi.specs.Cells.{cells};
-ghost use Rattle.smp_multi.specs.Seat.{SeatValue, Able, Ready};
+ghost use Rattle.smp_stop_steps.specs.AnswerWords.{IsI32Word};
+ghost use Rattle.smp_multi.specs.Seat.{SeatValue, Able, Ready, fresh_seat};
 ghost use Rattle.smp_multi.specs.Plays.{loaded, stored, exchanged, subtracted, masked};
 
 use crate::cell::{FIRST_ENTRY, cell};
@@ -30,7 +33,7 @@ use std::marker::Model;
 #[derive(Drop)]
 pub struct CpuSeat {
     raw: RawSeat,
-    /// The answer with which the CPU is to complete the stop that it is in, 0 where it carries none.
+    /// The answer with which the CPU is to complete the stop that it is in, 0 where it carries none: the word of an i32.
     carried: u64,
 }
 
@@ -44,13 +47,14 @@ impl Model for CpuSeat {
 
     ghost view = { λ c. record { table = c.raw.table_id; known = carrying c.carried (known c.raw.me.0) } };
 
-    ghost invariant = { λ c. IsCpuSeat c.raw.me.0 };
+    ghost invariant = { λ c. IsCpuSeat c.raw.me.0 c.carried };
 }
 
 impl CpuSeat {
     /// The answer that the CPU carries.
     pub(super) fn carried(&self) -> u64
-        ensures { result ≡ self.now.known.carried }
+        ensures value { result ≡ self.now.known.carried }
+        ensures fits { IsI32Word result }
     {
         self.carried
     }
@@ -105,7 +109,7 @@ where
     requires { AreLimits nr setting.now.online }
     ensures made { IfOk result (λ t. (t.0.shared.table_id.words ≡ cells) × (t.0.shared.table_id.slots ≡ 0) × (t.0.shared.key ≡ setting.now)
         × (t.1.raw.table_id ≡ t.0.shared.table_id) × (t.1.raw.me.0 ≡ Maker 0 setting.now)) }
-    ensures lives { IfOk result (λ _. (cpu : ℕ) → cpu < cpus → Lives (fresh setting.now cpu)) }
+    ensures lives { IfOk result (λ _. (cpu : ℕ) → cpu < cpus → has setting.now.online cpu ≡ true → Lives (fresh setting.now cpu)) }
 {
     let labels = setting.labels.words();
     let mut words = Vec::from_elem(alloc, 0u64, FIRST_ENTRY)?;
@@ -115,15 +119,25 @@ where
     Ok((table, SeatMaker { raw }))
 }
 
-/// A seat for the next CPU.
-pub(crate) fn next_seat(words: &Words, maker: &mut SeatMaker, n: u32) -> CpuSeat
+/// A seat for the next CPU, where it is online: no step is made by the seat of one that is not.
+pub(crate) fn next_seat(
+    words: &Words,
+    maker: &mut SeatMaker,
+    n: u32,
+    is_online: bool,
+) -> Option<CpuSeat>
     requires table { (maker.old.raw.table_id ≡ words.now.table_id) × (words.now.table_id.words ≡ cells) }
     requires next { (maker.old.raw.me.0 ≡ Maker n words.now.key) × (n < cpus) }
+    requires online { is_online ≡ has words.now.key.online n }
     ensures maker { (maker.new.raw.table_id ≡ words.now.table_id) × (maker.new.raw.me.0 ≡ Maker (n + 1) words.now.key) }
-    ensures seat { (result.table ≡ words.now.table_id) × (result.known ≡ fresh words.now.key n) }
+    ensures seat { result ≡ if is_online then Some (fresh_seat words.now.table_id words.now.key n) else None }
 {
     let raw = words.split_seat::<NextSeat>(&mut maker.raw);
-    CpuSeat { raw, carried: 0 }
+    if is_online {
+        Some(CpuSeat { raw, carried: 0 })
+    } else {
+        None
+    }
 }
 
 /// Loads a word.
@@ -182,7 +196,8 @@ pub(crate) fn exchange(
 /// this answer.
 #[inline(always)]
 pub(super) fn subtract_with(words: &Words, seat: &mut CpuSeat, word: Word, answer: u64) -> u64
-    requires { Able words.now.table_id seat.old (access.Sub word) }
+    requires able { Able words.now.table_id seat.old (access.Sub word) }
+    requires fits { IsI32Word answer }
     ensures table { seat.new.table ≡ words.now.table_id }
     ensures lives { Lives seat.new.known }
     ensures known { seat.new.known ≡ known_told (carrying answer seat.old.known) act.Sub word (Some result) (Some (one_less result)) }

@@ -2,7 +2,8 @@
 //! them. No other page can make them.
 
 ghost use Rattle.std.specs.Prelude.{◌≡◌, []};
-ghost use Rattle.smp_stop_steps.specs.Known.{Lives, carrying};
+ghost use Rattle.smp_stop_steps.specs.Known.{carrying};
+ghost use Rattle.smp_multi.specs.Lives.{Lives};
 ghost use Rattle.smp_stop_steps.specs.KnownAfter.{acked_by};
 ghost use Rattle.smp_stop_steps.specs.Labels.{patch_answer};
 ghost use Rattle.smp_stop_steps.specs.Stages.{label_word};

@@ -6,9 +6,11 @@
 //! carries. No other page can make these steps: the accesses that make them are private to the pages of the seat.
 
 ghost use Rattle.std.specs.Prelude.{◌≡◌, ◌≢◌};
-ghost use Rattle.smp_stop_steps.specs.Known.{Lives, carrying};
+ghost use Rattle.smp_stop_steps.specs.Known.{carrying};
+ghost use Rattle.smp_multi.specs.Lives.{Lives};
 ghost use Rattle.smp_stop_steps.specs.KnownAfter.{acked_by, completed_with};
 ghost use Rattle.smp_stop_steps.specs.Starts.{answer_word as word_of_answer};
+ghost use Rattle.smp_stop_steps.specs.AnswerWords.{IsI32Word};
 ghost use Rattle.smp_multi.specs.Completes.{AtClose, AtEnd, AtGiven, given};
 ghost use Rattle.smp_multi.specs.Names.{Idle, Multi, One};
 ghost use Rattle.smp_multi.specs.Places.{work_in};
@@ -23,6 +25,14 @@ use smp_stop_steps::stage::Visit;
 use smp_stop_steps::start::answer_word;
 use smp_words::field::Field;
 use smp_words::word::Word;
+
+/// The word of an answer.
+fn word_of(answer: i32) -> u64
+    ensures value { result ≡ word_of_answer answer }
+    ensures fits { IsI32Word result }
+{
+    answer_word(answer)
+}
 
 /// A CPU has entered a stop of one CPU: loads the function and its argument.
 fn begin_one(words: &Words, seat: &mut CpuSeat, slot: u32) -> (u16, u64)
@@ -39,6 +49,7 @@ fn begin_one(words: &Words, seat: &mut CpuSeat, slot: u32) -> (u16, u64)
 /// Stores an answer; 0 is not stored. `acked` is the last phase that the CPU has acknowledged.
 fn give(words: &Words, seat: &mut CpuSeat, slot: u32, acked: u32, answer: u64)
     requires at { AtEnd words.now.table_id seat.old slot acked }
+    requires fits { IsI32Word answer }
     requires calls { answer ≢ 0 → seat.old.known.part.calling ≢ Idle }
     requires one { (work_in seat.old.known.seat).kind ≡ One → seat.old.known.part.calling ≢ Idle }
     ensures at { AtGiven words.now.table_id seat.new slot acked answer (work_in seat.old.known.seat) }
@@ -54,6 +65,7 @@ fn give(words: &Words, seat: &mut CpuSeat, slot: u32, acked: u32, answer: u64)
 /// found in the count.
 fn complete(words: &Words, seat: &mut CpuSeat, slot: u32, acked: u32, answer: u64) -> u64
     requires at { AtEnd words.now.table_id seat.old slot acked }
+    requires fits { IsI32Word answer }
     requires calls { answer ≢ 0 → seat.old.known.part.calling ≢ Idle }
     requires one { (work_in seat.old.known.seat).kind ≡ One → seat.old.known.part.calling ≢ Idle }
     ensures at { AtClose words.now.table_id seat.new slot result }
@@ -83,7 +95,7 @@ pub(crate) fn run_one<F: StopFunc>(
 {
     let (number_of_func, arg) = begin_one(words, seat, slot);
     let answer = func.run(number, number_of_func, arg);
-    let found = complete(words, seat, slot, 0, answer_word(answer));
+    let found = complete(words, seat, slot, 0, word_of(answer));
     (found, answer)
 }
 
@@ -106,6 +118,7 @@ fn begin_run(words: &Words, seat: &mut CpuSeat, visit: Visit) -> (u16, u64)
 /// found in the count.
 fn end_run(words: &Words, seat: &mut CpuSeat, visit: Visit, answer: u64) -> u64
     requires at { AtRun words.now.table_id seat.old visit Multi }
+    requires fits { IsI32Word answer }
     requires calls { seat.old.known.part.calling ≢ Idle }
     requires alone { AloneWhile seat.old.known visit.slot }
     ensures table { seat.new.table ≡ words.now.table_id }
@@ -133,7 +146,7 @@ pub(crate) fn run_multi<F: StopFunc>(
 {
     let (function, arg) = begin_run(words, seat, visit);
     let answer = func.run(number, function, arg);
-    let found = end_run(words, seat, visit, answer_word(answer));
+    let found = end_run(words, seat, visit, word_of(answer));
     (found, answer)
 }
 

@@ -31,7 +31,7 @@ pub enum Act {
     Count(u64),
     /// From here on functions answer this.
     Answer(i32),
-    /// Functions were called so often since then, the last time by this.
+    /// The number of calls of functions since then, and the last of them.
     Called(u32, (u32, u16, u64)),
 }
 
@@ -51,7 +51,7 @@ impl Act {
         }
     }
 
-    /// The same of what is read.
+    /// Whether what the CPU reads is as the line says.
     fn is_seen(&self, cpu: &mut Driver, func: &mut Answerer) -> bool {
         match *self {
             Act::ReadKey(k, answer) => cpu.read_key(k) == answer,
@@ -87,7 +87,7 @@ fn first_fault(drivers: &mut [Driver], parts: &[&[Line]]) -> Option<(usize, usiz
     None
 }
 
-/// Plays the parts of a case, one after the other, on so many CPUs of a new table: the part and the index there of the
+/// Plays the parts of a case, one after the other, on this number of CPUs of a new table: the part and the index there of the
 /// first line that goes another way. Functions answer 9.
 pub fn play(
     alloc: Global,

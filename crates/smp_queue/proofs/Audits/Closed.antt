@@ -12,18 +12,32 @@ use Rattle.smp_call_steps.specs.Known.{told_stage}
 use Rattle.smp_call_steps.specs.Parts.{part_of}
 use Rattle.smp_queue.specs.{Hand, Queued, Ran, Flags, Known, Part, Setting, SeatView, Left, Closes, ClosesWith, AuditAnswers, HaveRun, IfDrained}
 use Rattle.smp_queue.specs.{AreEqual, HasRowsOf, HasZerosFrom, has_lock, has_hand, left_in, nothing_left, number_in, TableValue, CpuValue, setting_of, cpu_of}
-use Rattle.smp_queue.specs.{SeatValue, Ruled}
-use Rattle.smp_queue.specs.Names.{Cpu, Audit}
+use Rattle.smp_queue.specs.{SeatValue, Ruled, known, IsCpuSeat}
+use Rattle.smp_queue.specs.Names.{Audit}
+use Rattle.smp_queue.proofs.TheRule.Keeps.{knows_as}
 use Rattle.smp_call_steps.proofs.State.Drained.{Still, still_queued, still_ran, equal_tallies, all_ran, all_sent}
 use Rattle.smp_queue.proofs.Audits.Auditing.{count_none}
 use Rattle.smp_queue.proofs.TheRule.Cells.{no_hand, no_flags}
 use Rattle.smp_queue.specs.audit
 
 -- its words show some calls, of which the seat knows its part
-pub closes : {S : Type 0} (k : Setting) (s : State S SeatView) (r : Ruled k s) (id : ℕ) (v : Known) → get_elem? s.views id ≡ some (Cpu v) → Closes k v s.words
-closes k s r id v at =
-    let sits = r.each_seat id (Cpu v) at in
-    search (sits, arith)
+pub closes : {S : Type 0} (k : Setting) (s : State S SeatView) (r : Ruled k s) (id : ℕ) (u : SeatView) → IsCpuSeat u → get_elem? s.views id ≡ some u
+    → Closes k (known u) s.words
+closes k s r id u is at =
+    let m = knows_as k r.calls r.controls r.seat r.next id u is (r.each_seat id u at) in
+    let few = r.few in
+    let low = m.0 in
+    record {
+      calls = r.calls;
+      controls = r.controls;
+      shown = r.shown;
+      sees = m.3;
+      setting_is = m.2;
+      below = omega arith;
+      absent = λ cpu far. r.absent cpu (λ _. omega arith);
+      offline = λ cpu off. r.absent cpu (λ on. absurd (true≢false (sym on ∙ off)));
+      quiet = r.quiet;
+    }
 
 no_lock : (n : ℕ) → (n % 2 == 1) ≡ false → n % 2 ≢ 1
 no_lock n e f = true≢false (sym (eq-eqb (n % 2) 1 f) ∙ e)

@@ -1,16 +1,23 @@
 -- What a CPU knows is its part of calls that keep all laws.
-use Rattle.std.proofs.Common.{◌≡◌, ℕ, zero, suc, Bool, true, false, None, get_or, sym, subst, ◌∙◌}
+use Rattle.std.proofs.Common.{◌≡◌, ℕ, zero, suc, ◌<◌, ◌⊎◌, Bool, true, false, None, List, [], ◌∷◌, get_or, sym, refl, ap, subst, ◌∙◌, inl, inr, true≢false, arith}
 use Rattle.std.specs.List.{AllByRecursion}
-use Rattle.smp_words.specs.Size.{records}
+use Rattle.smp_words.specs.Size.{cpus, records}
+use Rattle.smp_call_steps.specs.Calls.{CallState, no_calls}
+use Rattle.smp_call_steps.specs.Shows.{Shows}
+use Rattle.smp_call_steps.specs.Stages.{ControlValue}
+use Rattle.smp_call_steps.specs.Words.{IsEmpty, IsNoticed, is_pending, is_accepted, is_owed, nexts_in}
+use Rattle.smp_queue.proofs.Empty.{not_pending}
 use Rattle.smp_call_steps.specs.HaveRun.{HasRunAt}
 use Rattle.smp_mask.specs.Mask.{has}
 use Rattle.smp_call_steps.specs.Known.{Lives}
-use Rattle.smp_call_steps.specs.Parts.{row}
+use Rattle.smp_call_steps.specs.Parts.{row, part_of}
 use Rattle.smp_call_steps.proofs.Basics.Alls.{every}
+use Rattle.smp_call_steps.proofs.Basics.Rows.{row-at}
+use Rattle.smp_call_steps.proofs.State.Batches.{no_chain}
 use Rattle.smp_call_steps.proofs.Knows.Restages.{free_outside}
 use Rattle.smp_call_steps.proofs.State.Counts.{confirmed_calls_ran}
 use Rattle.smp_call_steps.proofs.State.HaveRun.{confirmed_sync_calls_ended, confirmed_calls_have_run}
-use Rattle.smp_queue.specs.{Part, cpu_of, SeatValue, Sits, HaveRunFor, IsShown}
+use Rattle.smp_queue.specs.{Call, Word, Head, Part, cpu_of, SeatValue, Sits, HaveRunFor, IsQuiet, HasNothingToTake, IsSeenTo, IsShown}
 
 row-true : (n i : ℕ) (f : ℕ → Bool) → get_or (row n f) i false ≡ true → f i ≡ true
 unfolding row
@@ -29,6 +36,34 @@ have_run d l =
     (l.calls.sent d.known.number)
     (confirmed_calls_have_run l.calls l.at l.controls l.shown d.known.number))
 
+-- where the head is nil and the interrupt word 0, the queue is empty and nothing is pending
+nothing_to_take : {a : CallState} {at : Word → ℕ} {control : ℕ → ControlValue} → Shows a at control → (cpu : ℕ) → IsQuiet at cpu → HasNothingToTake a cpu
+nothing_to_take {a} {at} {control} s cpu q = (
+  no_chain (nexts_in at) (at (Head cpu)) (a.queue cpu) q.0 (s.chained.chain cpu),
+  not_pending (a.pending cpu) (sym q.1 ∙ s.noticed.words cpu),
+)
+
+empty_is : (calls : List Call) → IsEmpty calls → calls ≡ []
+empty_is [] e = refl
+empty_is (call ∷ rest) e = absurd e
+
+-- a CPU that is not online owes no interrupt
+owes_none : (a : CallState) (source cpu : ℕ) → cpu < cpus → part_of a source ≡ part_of no_calls source → a.owes source cpu ≡ true → ⊥
+owes_none a source cpu small same e = true≢false (sym (row-at cpus cpu (a.owes source) false small ∙ e)
+    ∙ (ap (λ (p : Part). get_or p.owes cpu false) same ∙ row-at cpus cpu (λ _. false) false small))
+
+seen_to_in : (d : SeatValue) (s : Sits d.known) (cpu : ℕ) → cpu < cpus
+    → IsEmpty (s.lives.calls.queue cpu) ⊎ IsNoticed s.lives.calls.pending s.lives.calls.accepted s.lives.calls.owes cpu
+    → IsSeenTo d.known.setting.online s.lives.calls cpu
+seen_to_in d s cpu small (inl e) = inl (empty_is (s.lives.calls.queue cpu) e)
+seen_to_in d s cpu small (inr (is_pending e)) = inr (inl e)
+seen_to_in d s cpu small (inr (is_accepted e)) = inr (inr (inl e))
+seen_to_in d s cpu small (inr (is_owed source e)) = inr (inr (inr (source, owed_online (has d.known.setting.online source) refl, e)))
+  where
+    owed_online : (b : Bool) → has d.known.setting.online source ≡ b → has d.known.setting.online source ≡ true
+    owed_online true f = f
+    owed_online false f = absurd (let sees = s.offline source f in owes_none s.lives.calls source cpu small sees.part e)
+
 pub is_shown : (d : SeatValue) → Sits d.known → has d.known.setting.online d.known.number ≡ true → d.known.stage ≡ None → IsShown (cpu_of d)
 is_shown d s o e = let l = s.lives in record {
   calls = l.calls;
@@ -39,6 +74,8 @@ is_shown d s o e = let l = s.lives in record {
   online = o;
   absent = λ cpu far. let sees = s.absent cpu far in sees.part;
   offline = λ cpu off. let sees = s.offline cpu off in sees.part;
+  quiet = λ cpu off. nothing_to_take l.shown cpu (s.quiet cpu off);
+  seen_to = λ cpu small. seen_to_in d s cpu small (l.shown.noticed.noticed cpu);
   outside = l.sees.stage ∙ e;
   are_free = λ id own small conf. free_outside l.shown l.sees id own small e conf;
   confirmed_ran = confirmed_calls_ran l.shown;

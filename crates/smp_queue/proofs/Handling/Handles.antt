@@ -1,11 +1,18 @@
 -- A CPU inside handle: when it may make its next step, and where it stands after it.
-use Rattle.std.proofs.Common.{arith, ◌≡◌, Some, ap, ◌∙◌}
+use Rattle.std.proofs.Common.{arith, ◌≡◌, Some, refl, ap, ◌∙◌, subst}
 use Rattle.atomic_table.specs.Seated.{TableId}
 use Rattle.smp_words.specs.Access.{word_of}
 use Rattle.smp_call_steps.specs.Known.{known_access, Lives}
 use Rattle.smp_call_steps.proofs.Knows.Handling.{lives_aims, lives_in_table}
-use Rattle.smp_queue.specs.{Access, Known, HandleStage, Handle, cells, HasCell, SeatValue, MayAccess, Ready, InHandle, IsApartFromCalls}
+use Rattle.smp_queue.specs.{Access, Known, HandleStage, Handle, Setting, cells, HasCell, SeatValue, MayAccess, Ready, Reaches, InHandle, IsApartFromCalls}
+use Rattle.smp_queue.specs.handle
 use Rattle.smp_queue.proofs.TheRule.Cells.{has_cell_of}
+
+-- inside handle a CPU takes its own words alone
+handle_reaches : (k : Setting) (v : Known) (stage : HandleStage) → Reaches k v (known_access v (Handle stage))
+handle_reaches k v handle.Accept = refl
+handle_reaches k v handle.Take = refl
+handle_reaches k v _ = tt
 
 module _ {t : TableId} {d : SeatValue} {stage : HandleStage} (h : InHandle t d stage) where
   pub in_handle_can : (access : Access) → known_access d.known (Handle stage) ≡ access → MayAccess d.known access
@@ -14,14 +21,18 @@ module _ {t : TableId} {d : SeatValue} {stage : HandleStage} (h : InHandle t d s
   pub in_handle_cell : (access : Access) → known_access d.known (Handle stage) ≡ access → HasCell (word_of access)
   in_handle_cell access is = search (has_cell_of, lives_in_table, arith)
 
+  pub in_handle_reaches : (k : Setting) (access : Access) → known_access d.known (Handle stage) ≡ access → Reaches k d.known access
+  in_handle_reaches k access is = subst (λ (x : Access). Reaches k d.known x) is (handle_reaches k d.known stage)
+
   -- a step that begins, counts and ends no call
-  pub in_handle_ready : (access : Access) → IsApartFromCalls (Handle stage) → known_access d.known (Handle stage) ≡ access → Ready t d access
-  in_handle_ready access apart is =
+  pub in_handle_ready : {k : Setting} (access : Access) → IsApartFromCalls (Handle stage) → known_access d.known (Handle stage) ≡ access → Ready t k d access
+  in_handle_ready {k} access apart is =
       record {
         table_is = h.table_is;
         sized = h.sized;
         can = record { stage = Handle stage; aims = lives_aims h.lives stage h.stage_is; is_access = is };
         apart = apart;
+        reaches = in_handle_reaches k access is;
         cell = in_handle_cell access is;
       }
 

@@ -1,12 +1,13 @@
 -- When a CPU may make the steps of a post, of a send and of a question for a record.
-use Rattle.std.proofs.Common.{◌≡◌, ℕ, ◌<◌, None, refl, subst, arith}
+use Rattle.std.proofs.Common.{◌≡◌, ℕ, ◌<◌, true, None, refl, subst, arith}
 use Rattle.atomic_table.specs.Seated.{TableId}
 use Rattle.smp_words.specs.Size.{cpus}
 use Rattle.smp_words.specs.Access.{word_of}
 use Rattle.smp_call_steps.specs.Stands.{PostGoes}
 use Rattle.smp_call_steps.specs.Known.{IsLockable, told_post, known_access, posting_of}
 use Rattle.smp_words.proofs.Links.{IsInTable}
-use Rattle.smp_queue.specs.{Flags, Access, Load, Known, Posting, PostStage, Done, Post, SeatValue, Ready, OwnsRecord, IsMine, counted, HasCell}
+use Rattle.smp_mask.specs.Mask.{has}
+use Rattle.smp_queue.specs.{Flags, Setting, Reaches, Access, Load, Known, Posting, PostStage, Done, Post, SeatValue, Ready, OwnsRecord, IsMine, counted, HasCell}
 use Rattle.smp_queue.proofs.TheRule.Cells.{has_cell}
 use Rattle.smp_queue.specs.post
 
@@ -19,12 +20,13 @@ pub mine_moved : (t : TableId) (d d' : SeatValue) (p : Posting) (v : Known) → 
     → IsMine t d' p
 mine_moved t d d' p v m table known same = record { at = at_moved t d d' p.id v m.at table known same; is_call = m.is_call; to_in_range = m.to_in_range }
 
-pub ready_done : (t : TableId) (d : SeatValue) (id : ℕ) → OwnsRecord t d id → d.known.stage ≡ None → Ready t d (Load (Flags id))
-ready_done t d id a out = record {
+pub ready_done : (t : TableId) (k : Setting) (d : SeatValue) (id : ℕ) → OwnsRecord t d id → d.known.stage ≡ None → Ready t k d (Load (Flags id))
+ready_done t k d id a out = record {
   table_is = a.table_is;
   sized = a.sized;
   can = record { stage = Done id; aims = (out, a.owned, a.in_range); is_access = refl };
   apart = tt;
+  reaches = tt;
   cell = has_cell (Flags id) a.in_range;
 }
 
@@ -41,10 +43,20 @@ goes : (p : Posting) (st : PostStage) → p.to < cpus → PostGoes (counted p) s
 goes p post.LoadFlags l = λ _. l
 goes p _ l = l
 
+-- a compare-exchange is of the head of a CPU that is online
+abbrev pub ExchangesOnline : Setting → Posting → PostStage → Type 0
+ExchangesOnline k p (post.Exchange link tries) = has k.online p.to ≡ true
+ExchangesOnline k p _ = Unit {0}
+
+post_reaches : (k : Setting) (v : Known) (p : Posting) (st : PostStage) → ExchangesOnline k p st → Reaches k v (known_access v (Post (counted p) st))
+post_reaches k v p (post.Exchange link tries) on = on
+post_reaches k v p _ on = tt
+
 -- a step of a post, of the call as it will be once all is told of it
-pub ready_post : (t : TableId) (d : SeatValue) (p : Posting) (st : PostStage) (access : Access) → IsMine t d p → told_post (counted p) st ≡ d.known.stage
-    → IsLockable d.known p.id st → known_access d.known (Post (counted p) st) ≡ access → Ready t d access
-ready_post t d p st access m told ready same = record {
+pub ready_post : {k : Setting} (t : TableId) (d : SeatValue) (p : Posting) (st : PostStage) (access : Access) → IsMine t d p
+    → told_post (counted p) st ≡ d.known.stage → IsLockable d.known p.id st → known_access d.known (Post (counted p) st) ≡ access
+    → ExchangesOnline k p st → Ready t k d access
+ready_post {k} t d p st access m told ready same on = record {
   table_is = m.at.table_is;
   sized = m.at.sized;
   can = record {
@@ -53,5 +65,6 @@ ready_post t d p st access m told ready same = record {
     is_access = same;
   };
   apart = tt;
+  reaches = subst (λ (x : Access). Reaches k d.known x) same (post_reaches k d.known p st on);
   cell = subst (λ (x : Access). HasCell (word_of x)) same (has_cell (word_of (known_access d.known (Post (counted p) st))) (post_in_table t d p st m));
 }

@@ -6,10 +6,10 @@ use lib.ListN.{get_elem?, length-replicate}
 use lib.Seq.{set-get_or}
 use prog.Atomic.{either}
 use Rattle.atomic_table.specs.Table.{State, Me, step, keeps, stepped, Allows, Splits, opening}
-use Rattle.atomic_table.proofs.Lists.{at_set}
+use Rattle.atomic_table.proofs.Lists.{at_set, set_here, set_else, at_longer}
 use Rattle.std.proofs.lemmas.Bool.{cases_eq}
 use Rattle.smp_mask.specs.Mask.{has}
-use Rattle.smp_words.proofs.Puts.{put_same, put_other}
+use Rattle.smp_words.proofs.Puts.{put_same, put_other, test_else}
 use Rattle.smp_words.specs.Access.{put_if, seen_of}
 use Rattle.smp_words.specs.Put.{put, put_word}
 use Rattle.smp_call_steps.specs.Calls.{CallState, no_calls}
@@ -20,11 +20,11 @@ use Rattle.smp_call_steps.specs.Known.{Sees, fresh, known_told, known_taking, no
 use Rattle.smp_call_steps.proofs.Knows.OneStep.{known_step}
 use Rattle.smp_call_steps.proofs.Machine.Starts.{zeros_shown}
 use Rattle.smp_words.proofs.Zeros.{zero_at}
-use Rattle.smp_queue.specs.{Call, Word, Head, Intr, Access, Load, Store, Swap, Exchange, Known, Setting, SeatView, Maker, cells, cell_of, number_in, Ruled}
+use Rattle.smp_queue.specs.{Call, Word, Head, Intr, Access, Load, Store, Swap, Exchange, Known, Setting, SeatView, Maker, New, cells, cell_of, number_in, Ruled}
 use Rattle.smp_queue.specs.{next_from, next_online}
 use Rattle.smp_queue.specs.{SeatKnows, Sits, known, after, seat_made, AfterLoad, AfterNote, AfterStore, AfterExchange, AfterSwap}
 use Rattle.smp_queue.specs.{loaded, noted, stored, exchanged, swapped}
-use Rattle.smp_queue.specs.{IsCpuSeat, MayAccess}
+use Rattle.smp_queue.specs.{IsCpuSeat, MayAccess, Reaches, HasBegun, NoneHasBegun, IsQuiet}
 use Rattle.smp_queue.specs.Names.{Cpu}
 use Rattle.smp_queue.proofs.TheRule.Cells.{one_cell, number_here, stored_here}
 use Rattle.smp_queue.specs.act
@@ -70,6 +70,27 @@ exchange_step a at control v w old new can shown sees =
     (exchange_else (a.queue v.number) v w (at w) (cond (at w == old) (Some new) None))
     (known_step shown sees can.stage can.aims (Exchange w old new) can.is_access)
 
+maker_else : {m : ℕ} {k : Setting} {w : Known} → Maker m k ≡ Cpu w → ⊥
+maker_else e = cc
+
+at_below : {A : Type 0} (l : List A) (i : ℕ) (a : A) → get_elem? l i ≡ some a → i < length l
+at_below [] i a e = absurd (some-ne-none a (sym e))
+at_below (x ∷ xs) zero a e = omega arith
+at_below (x ∷ xs) (suc i) a e = let below = at_below xs i a e in omega arith
+
+-- a store leaves the head and the interrupt word of a CPU as they were, unless it is in one of them
+quiet_put : (at : Word → ℕ) (w : Word) (x cpu : ℕ) → w ≢ Head cpu → w ≢ Intr cpu → IsQuiet at cpu → IsQuiet (put_word at w x) cpu
+quiet_put at (Head to) x cpu h i q = (test_else cpu to x (at (Head cpu)) (λ e. h (ap (λ (n : ℕ). Head n) (sym e))) ∙ q.0, q.1)
+quiet_put at (Intr to) x cpu h i q = (q.0, test_else cpu to x (at (Intr cpu)) (λ e. i (ap (λ (n : ℕ). Intr n) (sym e))) ∙ q.1)
+quiet_put at _ x cpu h i q = q
+
+-- what the seat of a CPU knows, whether it has made a step or not
+pub knows_as : (k : Setting) (a : CallState) (control : ℕ → ControlValue) (seat : ℕ → ℕ) (next id : ℕ) (u : SeatView) → IsCpuSeat u
+    → SeatKnows k a control seat next id u → SeatKnows k a control seat next id (Cpu (known u))
+knows_as k a control seat next id (Maker m l) is h = absurd is
+knows_as k a control seat next id (New m l) is h = h
+knows_as k a control seat next id (Cpu v) is h = h
+
 module _ {S : Type 0} (k : Setting) where
   pub starts : Ruled {S = S} k (opening (replicate cells 0) [] (Maker 0 k))
   starts = record {
@@ -82,6 +103,8 @@ module _ {S : Type 0} (k : Setting) where
     shown = zeros_shown (number_in (replicate cells 0)) (λ _. outside) (λ w. zero_at cells (cell_of w)) (λ _. refl);
     each_seat = each;
     absent = λ _ _. record { stage = refl; drain = refl; part = refl };
+    unused = λ _ w. zero_at cells (cell_of w);
+    quiet = λ cpu _. (zero_at cells (cell_of (Head cpu)), zero_at cells (cell_of (Intr cpu)));
   }
     where
       each : (id : ℕ) (v : SeatView) → get_elem? (Maker 0 k ∷ []) id ≡ some v → SeatKnows k no_calls (λ _. outside) (λ _. 0) 0 id v
@@ -92,7 +115,7 @@ module _ {S : Type 0} (k : Setting) where
       → Splits {S = S} (Ruled k) id v (after v) (seat_made v)
   splits id m n v is next above low online s r at =
       subst (λ v. Ruled {S = S} k record { words = s.words; homes = s.homes; views = set s.views id (after v) ++ seat_made v ∷ [] }) (sym is)
-      (subst (λ x. Ruled {S = S} k record { words = s.words; homes = s.homes; views = set s.views id (Maker (x + 1) k) ++ Cpu (fresh k x) ∷ [] })
+      (subst (λ x. Ruled {S = S} k record { words = s.words; homes = s.homes; views = set s.views id (Maker (x + 1) k) ++ New x k ∷ [] })
       (sym next) made)
     where
       mine : (m ≡ r.next) × (id ≡ 0) × (k ≡ k)
@@ -104,10 +127,20 @@ module _ {S : Type 0} (k : Setting) where
       old : (j : ℕ) (u : SeatView) → j ≢ id → get_elem? s.views j ≡ some u → SeatKnows k r.calls r.controls r.seat r.next j u
           → SeatKnows k r.calls r.controls (put r.seat n (length (set s.views id (Maker (n + 1) k)))) (n + 1) j u
       old j (Maker i l) other e h = absurd (other (h.1 ∙ sym mine.1))
+      old j (New w l) other e h = let a = h.0 in let b = mine.0 in
+          (omega arith, put_other r.seat n (length (set s.views id (Maker (n + 1) k))) w (λ same. let c = same in omega arith) ∙ h.1, h.2, h.3, h.4)
       old j (Cpu w) other e h = let a = h.0 in let b = mine.0 in
           (omega arith, put_other r.seat n (length (set s.views id (Maker (n + 1) k))) w.number (λ same. let c = same in omega arith) ∙ h.1, h.2, h.3, h.4)
 
-      made : Ruled {S = S} k record { words = s.words; homes = s.homes; views = set s.views id (Maker (n + 1) k) ++ Cpu (fresh k n) ∷ [] }
+      -- a seat of a CPU that has made a step is still there
+      begun : (j : ℕ) (u : SeatView) → get_elem? s.views j ≡ some u → HasBegun u
+          → get_elem? (set s.views id (Maker (n + 1) k) ++ New n k ∷ []) j ≡ some u
+      begun j (Maker i l) e h = absurd h
+      begun j (New i l) e h = absurd h
+      begun j (Cpu w) e h = at_longer (set s.views id (Maker (n + 1) k)) (New n k ∷ []) j (Cpu w)
+          (set_else s.views id j (Maker (n + 1) k) (λ same. maker_else (some-injective (Maker m k) (Cpu w) (sym (at ∙ ap some is) ∙ (ap (get_elem? s.views) (sym same) ∙ e)))) ∙ e)
+
+      made : Ruled {S = S} k record { words = s.words; homes = s.homes; views = set s.views id (Maker (n + 1) k) ++ New n k ∷ [] }
       made = record {
         calls = r.calls;
         controls = r.controls;
@@ -122,7 +155,7 @@ module _ {S : Type 0} (k : Setting) where
             subst (SeatKnows k r.calls r.controls (put r.seat n (length (set s.views id (Maker (n + 1) k)))) (n + 1) j) t.1
             (refl, t.0 ∙ mine.1, refl))
             (λ (t : (j ≢ id) × (get_elem? s.views j ≡ some u)). old j u t.0 t.1 (r.each_seat j u t.1)) (at_set s.views id j (Maker (n + 1) k) u t))
-            (λ (t : (j ≡ length (set s.views id (Maker (n + 1) k))) × (Cpu (fresh k n) ≡ u)).
+            (λ (t : (j ≡ length (set s.views id (Maker (n + 1) k))) × (New n k ≡ u)).
             subst (SeatKnows k r.calls r.controls (put r.seat n (length (set s.views id (Maker (n + 1) k)))) (n + 1) j) t.1 (
               omega arith,
               put_same r.seat n (length (set s.views id (Maker (n + 1) k))) ∙ sym t.0,
@@ -130,8 +163,10 @@ module _ {S : Type 0} (k : Setting) where
               r.absent n (λ _. (let a = mine.0 in omega arith)),
               online,
             ))
-            (at_snoc (set s.views id (Maker (n + 1) k)) (Cpu (fresh k n)) u j e);
+            (at_snoc (set s.views id (Maker (n + 1) k)) (New n k) u j e);
         absent = λ c l. r.absent c (λ on. (let a = mine.0 in let b = l on in omega arith));
+        unused = λ none. r.unused (λ j u e h. none j u (begun j u e h) h);
+        quiet = r.quiet;
       }
 
   -- a CPU that has a seat sits among the CPUs of the table
@@ -147,22 +182,28 @@ module _ {S : Type 0} (k : Setting) where
         absent = λ cpu l. subst (λ (j : Setting). Sees r.calls r.controls (fresh j cpu)) (sym m.2) (r.absent cpu (λ _. omega arith));
         offline = λ cpu off. subst (λ (j : Setting). Sees r.calls r.controls (fresh j cpu)) (sym m.2)
             (r.absent cpu (λ on. absurd (true≢false (sym on ∙ (ap (λ (j : Setting). has j.online cpu) (sym m.2) ∙ off)))));
+        quiet = λ cpu off. r.quiet cpu (ap (λ (j : Setting). has j.online cpu) (sym m.2) ∙ off);
       }
 
   -- a seat's CPU makes a step of the machine: it has its seat still, and the rule is kept
-  lifts : (s : State S SeatView) (r : Ruled k s) (id i n : ℕ) (v w : Known) (carried : List (ℕ × S)) → get_elem? s.views id ≡ some (Cpu v)
-      → w.setting ≡ v.setting → GoesOn r.calls r.controls v.number (number_in (set s.words i n)) w
+  lifts : (s : State S SeatView) (r : Ruled k s) (id i n : ℕ) (u : SeatView) (w : Known) (carried : List (ℕ × S)) → get_elem? s.views id ≡ some u
+      → IsCpuSeat u → w.setting ≡ (known u).setting → GoesOn r.calls r.controls (known u).number (number_in (set s.words i n)) w
+      → ((cpu : ℕ) → has k.online cpu ≡ false → IsQuiet (number_in (set s.words i n)) cpu)
       → Ruled k (stepped s i n id carried (Cpu w) keeps) × Sits w
-  lifts s r id i n v w carried at same g = (ruled, sits (stepped s i n id carried (Cpu w) keeps) ruled id w its)
+  lifts s r id i n x w carried at is same g quiet = (ruled, sits (stepped s i n id carried (Cpu w) keeps) ruled id w its)
     where
-      mine : SeatKnows k r.calls r.controls r.seat r.next id (Cpu v)
-      mine = r.each_seat id (Cpu v) at
+      v : Known
+      v = known x
+
+      mine : SeatKnows k r.calls r.controls r.seat r.next id (Cpu (known x))
+      mine = knows_as k r.calls r.controls r.seat r.next id x is (r.each_seat id x at)
 
       its : SeatKnows k g.calls g.controls r.seat r.next id (Cpu w)
       its = (subst (λ m. m < r.next) (sym g.number_is) mine.0, ap r.seat g.number_is ∙ mine.1, same ∙ mine.2, g.mine, ap (has k.online) g.number_is ∙ mine.4)
 
       other : (j : ℕ) (u : SeatView) → j ≢ id → SeatKnows k r.calls r.controls r.seat r.next j u → SeatKnows k g.calls g.controls r.seat r.next j u
       other j (Maker m l) n h = h
+      other j (New m l) n h = (h.0, h.1, h.2, g.others (fresh l m) (λ e. n (sym h.1 ∙ (ap r.seat e ∙ mine.1))) h.3, h.4)
       other j (Cpu u) n h = (h.0, h.1, h.2, g.others u (λ e. n (sym h.1 ∙ (ap r.seat e ∙ mine.1))) h.3, h.4)
 
       ruled : Ruled k (stepped s i n id carried (Cpu w) keeps)
@@ -180,6 +221,8 @@ module _ {S : Type 0} (k : Setting) where
             (λ (t : (j ≢ id) × (get_elem? s.views j ≡ some u)). other j u t.0 (r.each_seat j u t.1)) (at_set s.views id j (Cpu w) u e);
         absent = λ c l. g.others (fresh k c) (λ e. let a = mine.0 in let b = e in
             let far = l (ap (has k.online) e ∙ mine.4) in omega arith) (r.absent c l);
+        unused = λ none. absurd (none id (Cpu w) (set_here s.views id (Cpu w) (at_below s.views id x at)) tt);
+        quiet = quiet;
       }
 
   module _ (slots id : ℕ) (me : Me S SeatView) (is : IsCpuSeat me.0) where
@@ -190,13 +233,38 @@ module _ {S : Type 0} (k : Setting) where
         ((a : CallState) (control : ℕ → ControlValue) (words : List ℕ) → Shows a (number_in words) control → length words ≡ cells → Sees a control (known me.0)
         → (w : Known) × (w.setting ≡ (known me.0).setting) × GoesOn a control (known me.0).number (number_in (set words i (f (get_or words i 0)))) w
         × then (get_or words i 0) (Cpu w, me.1)) →
+        ((words : List ℕ) → length words ≡ cells → (cpu : ℕ) → has k.online cpu ≡ false → has k.online (known me.0).number ≡ true
+        → IsQuiet (number_in words) cpu → IsQuiet (number_in (set words i (f (get_or words i 0)))) cpu) →
         Allows (Ruled k) slots id me i f (λ n m. Sits (known m.0) × then n m)
-    steps i f then go s r sized at fits =
-        let at' : get_elem? s.views id ≡ some (Cpu v) = at ∙ ap some is in
-        let mine : SeatKnows k r.calls r.controls r.seat r.next id (Cpu v) = r.each_seat id (Cpu v) at' in
+    steps i f then go quiet s r sized at fits =
+        let mine = knows_as k r.calls r.controls r.seat r.next id me.0 is (r.each_seat id me.0 at) in
         let t = go r.calls r.controls s.words r.shown r.wide mine.3 in
-        let on = lifts s r id i (f (get_or s.words i 0)) v t.0 me.1 at' t.1 t.2 in
+        let on = lifts s r id i (f (get_or s.words i 0)) me.0 t.0 me.1 at is t.1 t.2 (λ cpu off. quiet s.words r.wide cpu off mine.4 (r.quiet cpu off)) in
         (Cpu t.0, keeps, tt, on.0, (on.1, t.3))
+
+    -- a load leaves all words
+    unmoved : (i : ℕ) (words : List ℕ) → length words ≡ cells → (cpu : ℕ) → has k.online cpu ≡ false → has k.online (known me.0).number ≡ true
+        → IsQuiet (number_in words) cpu → IsQuiet (number_in (set words i (get_or words i 0))) cpu
+    unmoved i words wide cpu off on q = subst (λ (x : List ℕ). IsQuiet (number_in x) cpu) (sym (set-get_or words i 0)) q
+
+    -- a store that reaches no CPU that is not online leaves their words
+    stores_apart : (w : Word) (x cpu : ℕ) → Reaches k (known me.0) (Store w x) → has k.online cpu ≡ false → (at : Word → ℕ) → IsQuiet at cpu
+        → IsQuiet (put_word at w x) cpu
+    stores_apart w x cpu reach off at q = quiet_put at w x cpu (λ e. subst (λ (u : Word). Reaches k (known me.0) (Store u x)) e reach)
+        (λ e. true≢false (sym (subst (λ (u : Word). Reaches k (known me.0) (Store u x)) e reach) ∙ off)) q
+
+    exchanges_apart : (w : Word) (old x cpu : ℕ) → Reaches k (known me.0) (Exchange w old x) → has k.online cpu ≡ false → (at : Word → ℕ) (b : Bool)
+        → IsQuiet at cpu → IsQuiet (put_if put_word at w (cond b (Some x) None)) cpu
+    exchanges_apart w old x cpu reach off at true q = quiet_put at w x cpu
+        (λ e. true≢false (sym (subst (λ (u : Word). Reaches k (known me.0) (Exchange u old x)) e reach) ∙ off))
+        (λ e. subst (λ (u : Word). Reaches k (known me.0) (Exchange u old x)) e reach) q
+    exchanges_apart w old x cpu reach off at false q = q
+
+    swaps_apart : (w : Word) (x cpu : ℕ) → Reaches k (known me.0) (Swap w x) → has k.online cpu ≡ false → has k.online (known me.0).number ≡ true
+        → (at : Word → ℕ) → IsQuiet at cpu → IsQuiet (put_word at w x) cpu
+    swaps_apart w x cpu reach off on at q = quiet_put at w x cpu
+        (λ e. true≢false (sym on ∙ (ap (has k.online) (sym (subst (λ (u : Word). Reaches k (known me.0) (Swap u x)) e reach)) ∙ off)))
+        (λ e. true≢false (sym on ∙ (ap (has k.online) (sym (subst (λ (u : Word). Reaches k (known me.0) (Swap u x)) e reach)) ∙ off))) q
 
     pub load_allowed : (w : Word) (i : ℕ) → cell_of w ≡ Some i → MayAccess (known me.0) (Load w)
         → Allows (Ruled k) slots id me i (λ n. n) (loaded (step slots i 0 0 none) me)
@@ -214,7 +282,7 @@ module _ {S : Type 0} (k : Setting) where
             },
             ap (λ (x : Word). Cpu (known_told v act.Load x (Some (get_or words i 0)) None)) (one_cell w u i e f),
           ),
-        ))
+        )) (unmoved i)
 
     -- a load of which nothing is told: the calls stay, and the CPU's part of them
     pub note_allowed : (i : ℕ) → Allows (Ruled k) slots id me i (λ n. n) (noted (step slots i 0 0 none) me)
@@ -233,26 +301,28 @@ module _ {S : Type 0} (k : Setting) where
             others = λ o other s. s;
           },
       refl,
-    ))
+    )) (unmoved i)
 
-    pub store_allowed : (w : Word) (i x : ℕ) → cell_of w ≡ Some i → MayAccess (known me.0) (Store w x)
+    pub store_allowed : (w : Word) (i x : ℕ) → cell_of w ≡ Some i → MayAccess (known me.0) (Store w x) → Reaches k (known me.0) (Store w x)
         → Allows (Ruled k) slots id me i (λ _. x) (λ _. stored (step slots i x 0 none) me x)
-    store_allowed w i x e can = steps i (λ _. x) (λ _. AfterStore (step slots i x 0 none) me x) (λ a control words shown wide sees. (
+    store_allowed w i x e can reach = steps i (λ _. x) (λ _. AfterStore (step slots i x 0 none) me x) (λ a control words shown wide sees. (
       known_told v act.Store w None (Some x),
       refl,
       subst (λ (at : Word → ℕ). GoesOn a control v.number at (known_told v act.Store w None (Some x))) (sym (stored_here words w i x wide e))
           (store_step a (number_in words) control v w x can shown sees),
       λ u f. ap (λ (y : Word). Cpu (known_told v act.Store y None (Some x))) (one_cell w u i e f),
-    ))
+    )) (λ words wide cpu off on q. subst (λ (at : Word → ℕ). IsQuiet at cpu) (sym (stored_here words w i x wide e))
+        (stores_apart w x cpu reach off (number_in words) q))
 
     exchanged_words : (words : List ℕ) (w : Word) (i n x : ℕ) (b : Bool) → length words ≡ cells → cell_of w ≡ Some i → n ≡ get_or words i 0
         → number_in (set words i (either b x n)) ≡ put_if put_word (number_in words) w (cond b (Some x) None)
     exchanged_words words w i n x true l e is = stored_here words w i x l e
     exchanged_words words w i n x false l e is = ap number_in (ap (set words i) is ∙ set-get_or words i 0)
 
-    pub exchange_allowed : (w : Word) (i old new : ℕ) → cell_of w ≡ Some i → MayAccess (known me.0) (Exchange w old new) →
+    pub exchange_allowed : (w : Word) (i old new : ℕ) → cell_of w ≡ Some i → MayAccess (known me.0) (Exchange w old new)
+        → Reaches k (known me.0) (Exchange w old new) →
         Allows (Ruled k) slots id me i (λ n. either (n == old) new n) (exchanged (step slots i old new none) me)
-    exchange_allowed w i old new e can = steps i (λ n. either (n == old) new n) (AfterExchange (step slots i old new none) me)
+    exchange_allowed w i old new e can reach = steps i (λ n. either (n == old) new n) (AfterExchange (step slots i old new none) me)
         (λ a control words shown wide sees.
         let n = get_or words i 0 in
         let here : number_in words w ≡ n = number_here words w i e in
@@ -265,11 +335,13 @@ module _ {S : Type 0} (k : Setting) where
               (known_told v act.Cas w (Some k) (cond (k == old) (Some new) None))) here
               (exchange_step a (number_in words) control v w old new can shown sees)),
           λ u f. ap (λ (x : Word). Cpu (known_told v act.Cas x (Some n) (cond (n == old) (Some new) None))) (one_cell w u i e f),
-        ))
+        )) (λ words wide cpu off on q. let n = get_or words i 0 in
+        subst (λ (at : Word → ℕ). IsQuiet at cpu) (sym (exchanged_words words w i n new (n == old) wide e refl))
+        (exchanges_apart w old new cpu reach off (number_in words) (n == old) q))
 
-    pub swap_allowed : (w : Word) (i x : ℕ) → cell_of w ≡ Some i → MayAccess (known me.0) (Swap w x)
+    pub swap_allowed : (w : Word) (i x : ℕ) → cell_of w ≡ Some i → MayAccess (known me.0) (Swap w x) → Reaches k (known me.0) (Swap w x)
         → Allows (Ruled k) slots id me i (λ _. x) (swapped (step slots i x 0 none) me)
-    swap_allowed w i x e can = steps i (λ _. x) (AfterSwap (step slots i x 0 none) me) (λ a control words shown wide sees.
+    swap_allowed w i x e can reach = steps i (λ _. x) (AfterSwap (step slots i x 0 none) me) (λ a control words shown wide sees.
         let here : number_in words w ≡ get_or words i 0 = number_here words w i e in
         let q = a.queue v.number in (
           known_taking q v act.Swap w (Some (get_or words i 0)) (Some x),
@@ -285,13 +357,17 @@ module _ {S : Type 0} (k : Setting) where
             },
             ap (λ (y : Word). Cpu (known_taking q v act.Swap y (Some (get_or words i 0)) (Some x))) (one_cell w u i e f),
           ),
-        ))
+        )) (λ words wide cpu off on q. subst (λ (at : Word → ℕ). IsQuiet at cpu) (sym (stored_here words w i x wide e))
+        (swaps_apart w x cpu reach off on (number_in words) q))
 
 pub is_of : (m : SeatView) (w : Known) → m ≡ Cpu w → IsCpuSeat m
-is_of m w e = e ∙ ap (λ (v : Known). Cpu v) (sym (ap known e))
+is_of m w e = subst (λ (x : SeatView). IsCpuSeat x) (sym e) tt
 
 pub can_same : (v u : Known) (access : Access) → v ≡ u → MayAccess u access → MayAccess v access
 can_same v u access e can = subst (λ (x : Known). MayAccess x access) (sym e) can
+
+pub reach_same : (k : Setting) (v u : Known) (access : Access) → v ≡ u → Reaches k u access → Reaches k v access
+reach_same k v u access e reach = subst (λ (x : Known). Reaches k x access) (sym e) reach
 
 -- a CPU that has done nothing has its part of no calls
 fresh_sits : (k : Setting) (n : ℕ) → n < k.nr → has k.online n ≡ true → Sits (fresh k n)
@@ -308,10 +384,11 @@ fresh_sits k n low online =
       online = online;
       absent = λ _ _. record { stage = refl; drain = refl; part = refl };
       offline = λ _ _. record { stage = refl; drain = refl; part = refl };
+      quiet = λ _ _. (refl, refl);
     }
 
-pub fresh_seat_is : (m : SeatView) (k : Setting) (n : ℕ) → n < k.nr → has k.online n ≡ true → m ≡ Cpu (fresh k n) → IsCpuSeat m × Sits (known m)
-fresh_seat_is m k n low online e = (is_of m (fresh k n) e, subst (λ (x : SeatView). Sits (known x)) (sym e) (fresh_sits k n low online))
+pub fresh_seat_is : (m : SeatView) (k : Setting) (n : ℕ) → n < k.nr → has k.online n ≡ true → m ≡ New n k → IsCpuSeat m × Sits (known m)
+fresh_seat_is m k n low online e = (subst (λ (x : SeatView). IsCpuSeat x) (sym e) tt, subst (λ (x : SeatView). Sits (known x)) (sym e) (fresh_sits k n low online))
 
 -- of the numbers from n on, none below m in the mask, the next in it is m
 pub next_is : (tries mask n m : ℕ) → n ≤ m → m < n + tries → has mask m ≡ true → ((cpu : ℕ) → n ≤ cpu → cpu < m → has mask cpu ≡ false)

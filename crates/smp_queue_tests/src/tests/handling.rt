@@ -298,7 +298,7 @@ fn post_at_last(cpu: &mut Driver, k: u32, to: u32, counter: &mut Counter) -> boo
     false
 }
 
-/// Handles its own interrupts until it has heard so many calls; true where it has.
+/// Handles its own interrupts until it has heard this number of calls. True where it has.
 fn handle_until(cpu: &mut Driver, counter: &mut Counter, calls: u64) -> bool {
     let backoff = Backoff::new();
     for _ in 0..TURNS {
@@ -335,7 +335,7 @@ fn post_round(cpu: &mut Driver, counter: &mut Counter, cpus: &[u32]) -> Option<u
     Some(posted)
 }
 
-/// Posts so many calls to each other CPU of these while it handles those that they post to it.
+/// Posts this number of calls to each other CPU of these while it handles those that they post to it.
 fn post_to_all(mut cpu: Driver, cpus: &[u32], calls: u32, right: &AtomicU64) {
     let mut counter = Counter { calls: 0 };
     let mut due = 0u64;
@@ -364,7 +364,7 @@ fn post_in_threads<R: Wait + Threads>(
     });
 }
 
-/// The tally where each CPU of these has queued so many calls for each other of them, and all have run.
+/// The tally where each CPU of these has queued this number of calls for each other of them, and all have run.
 fn all_pairs(cpus: &[u32], calls: u64) -> Tally {
     let mut tally = Tally {
         queued: [[0; NR_CPUS as usize]; NR_CPUS as usize],

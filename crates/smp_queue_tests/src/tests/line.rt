@@ -8,7 +8,7 @@ pub type Line = (usize, Act);
 
 #[derive(Copy, Clone)]
 pub enum Act {
-    /// It posts a call by this record to this CPU, of this class, with so many tries.
+    /// It posts a call by this record to this CPU, of this class, with this number of tries.
     Post(u32, u32, Class, u32, Result<bool, SmpError>),
     /// It posts a call of this function by one try.
     Call(u32, u32, Class, u16, Result<bool, SmpError>),
@@ -18,7 +18,7 @@ pub enum Act {
     Done(u32, Result<bool, SmpError>),
     Send(u32, Result<(), SmpError>),
     Handle(Handled),
-    /// So many calls for this CPU it has queued, and so many from it it has run.
+    /// The number of calls that it has queued for this CPU, and the number from this CPU that it has run.
     Tally(u32, (u64, u64)),
 }
 

@@ -6,17 +6,18 @@ use Rattle.smp_words.proofs.Puts.{at_test, put_same, put_other}
 use Rattle.smp_stop_steps.specs.{has, is_on, Place, MOST_KEYS, word_of, at_after, seen_of, put, put_word, moves, moved_by, Change, Patches, Reading, ReadKey}
 use Rattle.smp_stop_steps.specs.{ReadSite, count_set, Seat, Free, In, Gives, Alters, Closes, Turn, Rests, irq_of, StopShows, IsNudge, Source, store_of, Setup}
 use Rattle.smp_stop_steps.specs.{StopState, Moved, unmoved, told, is_patch, is_at_run, reads, key_loaded, key_patched, patched_more, patch_begun, plan_at}
-use Rattle.smp_stop_steps.specs.{Sees, GoesOnBy, Act, AreFirst, setup_in, reads_more, key_loaded_by, key_known, counted, known_entering, Patch, Work}
+use Rattle.smp_stop_steps.specs.{Sees, GoesOnBy, Act, AreFirst, setup_in, reads_more, key_loaded_by, key_known, key_read_known, counted, known_entering, Patch, Work}
 use Rattle.smp_stop_steps.specs.{Word, Key, Site}
 use Rattle.smp_stop_steps.specs.State.{Present}
 use Rattle.smp_stop_steps.specs.Known.{Known}
 use Rattle.smp_stop_steps.specs.Moves.{entering}
 use Rattle.smp_stop_steps.proofs.Knows.KnownRounds.{stands, reads_now}
 use Rattle.smp_stop_steps.proofs.Knows.KnownSources.{still}
-use Rattle.smp_stop_steps.proofs.Knows.Parts.{Leaves, first_put, goes_seat, goes_still, seen_by, told_so}
+use Rattle.smp_stop_steps.proofs.Knows.Parts.{Leaves, first_put, goes_seat, goes_still, noted, seen_by, told_so}
 use Rattle.smp_stop_steps.proofs.Steps.Patching.{key_read, site_read, key_loaded_first, key_stored, site_stored, key_exchanged}
 use Rattle.smp_stop_steps.specs.place
 use Rattle.smp_stop_steps.specs.act
+use Rattle.smp_stop_steps.specs.declared.known.OwnMove.TheVariants as own
 
 -- where interrupts are on, a CPU does not stand at the function
 not_at_run : (s : ℕ) (w : Work) (a l : ℕ) (t : Turn) → irq_of (In s w a l t) ≡ true → (a == 2 && l == 3) ≡ false
@@ -56,7 +57,7 @@ module _ (p : StopState) (at : Word → ℕ) (seat : ℕ → Seat) (source : ℕ
   -- where interrupts are on, a load of a key is a reading
   key_plain : (k found : ℕ) (x : Seat) → v.seat ≡ x → irq_of x ≡ true →
       (key_loaded u p.now v.number k found (p.now.inside v.number) ≡ reads p.now v.number (ReadKey k (is_on found))) × (key_loaded_by k found x v ≡
-      reads_more (ReadKey k (is_on found)) v)
+      key_read_known k found v)
   key_plain k found Free e on = (ap (λ i. key_loaded u p.now v.number k found i) (stands p at seat source v h sees Free e), refl)
   key_plain k found (In s w a l t) e on =
       let calm = not_at_run s w a l t on in
@@ -76,11 +77,13 @@ module _ (p : StopState) (at : Word → ℕ) (seat : ℕ → Seat) (source : ℕ
       let r = ReadKey k (is_on found) in
       let plain = key_plain k found v.seat refl on in
       let p' = record p { now = reads p.now v.number r } in
+      let part = record (v.part) { readings = v.part.readings ++ r ∷ [] } in
       subst (λ q. Loads (Key k) q) (sym plain.1)
-      (goes_still p seat source v sees p' at (record (v.part) { readings = v.part.readings ++ r ∷ [] })
+      (noted p seat source v sees at (record v { part = part }) (v.moves ++ own.Found k found ∷ [])
+      (goes_still p seat source v sees p' at part
       (told_so u v.number p p' act.Load (Key k) (Some found) None (ap (λ (n : Present). record p { now = n }) plain.0))
       (subst (λ n. StopShows u (record p { now = n }) at seat source) plain.0 (key_read u p at seat source h v.number k 0 (irq_on on)))
-      (reads_leaves r))
+      (reads_leaves r)))
 
   pub read_site : (i : ℕ) → Loads (Site i) (reads_more (ReadSite i (is_on (at (Site i)))) v)
   read_site i =
@@ -96,7 +99,7 @@ module _ (p : StopState) (at : Word → ℕ) (seat : ℕ → Seat) (source : ℕ
     where
       go : (b : Bool) → (at (Key k) == found) ≡ b → let set = cond b (Some new) None in
           Goes act.Cas (Key k) (Some (at (Key k))) set (put_if put_word at (Key k) set) (key_known act.Cas k (Some (at (Key k))) set v)
-      go false e = still p at seat source v h sees act.Cas (Key k) (Some (at (Key k))) None refl
+      go false e = noted p seat source v sees at v (v.moves ++ own.Lost k ∷ []) (still p at seat source v h sees act.Cas (Key k) (Some (at (Key k))) None refl)
       go true e =
           let was : at (Key k) ≡ found = eqb-true (at (Key k)) found e in
           let parts = sees.part_is in
@@ -123,7 +126,7 @@ module _ (p : StopState) (at : Word → ℕ) (seat : ℕ → Seat) (source : ℕ
       let plain : key_loaded u p.now v.number w.func found (p.now.inside v.number) ≡ patch =
       search arith in
       let known : key_loaded_by w.func found v.seat v ≡ record v { seat = next } =
-      ap (λ x. key_loaded_by w.func found x v) is ∙ ap (λ k. cond (is_patch k) (record v { seat = next }) (reads_more r v)) kind in
+      ap (λ x. key_loaded_by w.func found x v) is ∙ ap (λ k. cond (is_patch k) (record v { seat = next }) (key_read_known w.func found v)) kind in
       let p' = record p { now = patch } in
       let shown' = goes_seat p seat source v sees p' at next v.part
       (told_so u v.number p p' act.Load (Key w.func) (Some found) None (ap (λ (n : Present). record p { now = n }) plain)) (subst (λ n. StopShows u (record p { now = n }) at (put seat

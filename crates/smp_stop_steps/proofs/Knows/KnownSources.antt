@@ -6,12 +6,13 @@ use Rattle.smp_words.proofs.Puts.{put_all, put_same, put_other}
 use Rattle.smp_stop_steps.specs.{put, put_word, cpus, Seat, StopShows, DoneShows, begun_value, order, Source, Shut, Drafts, Owns, Collects, SourceShows}
 use Rattle.smp_stop_steps.specs.{DraftShows, IsDrafted, IsWork, Setup, StopState, Standing, Ending, told, drafted, drafts, opens, stored_open, stored_shut}
 use Rattle.smp_stop_steps.specs.{Sees, GoesOnBy, Act, IsBegun, told_source, told_work, holds_it, setup_in, is_drafting, drafted_known, draft_known, opened_by}
-use Rattle.smp_stop_steps.specs.{slot_stored, gate_known, done_by, collected_known, Field, One, Work, Word, Gate, Slot}
+use Rattle.smp_stop_steps.specs.{slot_stored, gate_known, done_by, done_known, collected_known, Field, One, Work, Word, Gate, Slot}
 use Rattle.smp_stop_steps.specs.Known.{Known}
-use Rattle.smp_stop_steps.proofs.Knows.Parts.{Leaves, goes, goes_source, goes_still, seen_by, told_so}
+use Rattle.smp_stop_steps.proofs.Knows.Parts.{Leaves, goes, goes_source, goes_still, noted, seen_by, told_so}
 use Rattle.smp_stop_steps.proofs.Steps.Sources.{gate_taken, gate_opened, field_stored, roll_stored, done_loaded, result_loaded, kind_back, work_ext}
 use Rattle.smp_stop_steps.specs.act
 use Rattle.smp_stop_steps.specs.field
+use Rattle.smp_stop_steps.specs.declared.known.OwnMove.TheVariants as own
 
 pub holder : (g : Option ℕ) (me : ℕ) → holds_it g me ≡ true → g ≡ Some me
 holder g me e = search (eqb-true, arith)
@@ -109,21 +110,25 @@ module _ (p : StopState) (at : Word → ℕ) (seat : ℕ → Seat) (source : ℕ
     where
       go : (b : Bool) → (at Gate == 0) ≡ b → let new = cond b (Some (v.number + 1)) None in
           Goes act.Cas Gate (Some (at Gate)) new (put_if put_word at Gate new) (gate_known act.Cas new v)
-      go false e = still act.Cas Gate (Some (at Gate)) None refl
+      go false e = noted p seat source v sees at v (v.moves ++ own.Busy ∷ []) (still act.Cas Gate (Some (at Gate)) None refl)
       go true e =
           let p' = record p { gate = Some v.number } in
-          goes_still p seat source v sees p' (put_word at Gate (v.number + 1)) (record (v.part) { holds = true })
+          let part = record (v.part) { holds = true } in
+          noted p seat source v sees (put_word at Gate (v.number + 1)) (record v { part = part }) (v.moves ++ own.Took ∷ [])
+          (goes_still p seat source v sees p' (put_word at Gate (v.number + 1)) part
           (told_so u v.number p p' act.Cas Gate (Some (at Gate)) (Some (v.number + 1)) refl)
           (gate_taken u p at seat source h v.number 0 (eqb-true (at Gate) 0 e))
-          (search (holds_alone, eq-eqb, ne_eqb, arith))
+          (search (holds_alone, eq-eqb, ne_eqb, arith)))
 
-  pub open_gate : v.part.holds ≡ true → is_drafting v.source ≡ false → Stores Gate 0 (record v { part = record (v.part) { holds = false } })
+  pub open_gate : v.part.holds ≡ true → is_drafting v.source ≡ false → Stores Gate 0 (gate_known act.Store (Some 0) v)
   open_gate holds idle =
       let mine : p.gate ≡ Some v.number = holder p.gate v.number (sees.part_is.holds ∙ holds) in
       let p' = record p { gate = None } in
-      goes_still p seat source v sees p' (put_word at Gate 0) (record (v.part) { holds = false }) (told_so u v.number p p' act.Store Gate None (Some 0) refl)
+      let part = record (v.part) { holds = false } in
+      noted p seat source v sees (put_word at Gate 0) (record v { part = part }) (v.moves ++ own.Gave ∷ [])
+      (goes_still p seat source v sees p' (put_word at Gate 0) part (told_so u v.number p p' act.Store Gate None (Some 0) refl)
       (gate_opened u p at seat source h v.number 0 mine (not_draft (source v.number) v.source sees.source_is idle))
-      (holds_alone None false refl (λ c ne. sym (ap (λ g. holds_it g c) mine ∙ ne_eqb v.number c (λ same. ne (sym same)))))
+      (holds_alone None false refl (λ c ne. sym (ap (λ g. holds_it g c) mine ∙ ne_eqb v.number c (λ same. ne (sym same))))))
 
   -- begin
 
@@ -189,7 +194,8 @@ module _ (p : StopState) (at : Word → ℕ) (seat : ℕ → Seat) (source : ℕ
       let plain : told u p v.number act.Store (Slot v.number field.Roll) None (Some work.mask) 0 ≡ opens p v.number =
       ap (λ b. cond b (stored_open p v.number v.number field.Roll work.mask) (stored_shut p v.number field.Roll work.mask)) d.shut in
       let begun = p.begun v.number ++ (p.now.stop v.number).work ∷ [] in
-      let shown' = goes_source p seat source v sees (opens p v.number) at' (Owns work) (Owns work) (record (v.part) { begun = v.part.begun ++ work ∷ [] })
+      let part = record (v.part) { begun = v.part.begun ++ work ∷ [] } in
+      let opened = goes_source p seat source v sees (opens p v.number) at' (Owns work) (Owns work) part
       (told_so u v.number p (opens p v.number) act.Store (Slot v.number field.Roll) None (Some work.mask) plain) (subst (λ q. StopShows u q at' seat (put source v.number (Owns work))) plain (roll_stored u p at seat source h v.number work 0 is)) (search (
         put_same,
         same,
@@ -197,19 +203,25 @@ module _ (p : StopState) (at : Word → ℕ) (seat : ℕ → Seat) (source : ℕ
         arith,
       )) refl tt
       in
+      let shown' = noted p seat source v sees at' (record v { source = Owns work; part = part }) (v.moves ++ own.Began work ∷ []) opened in
       search (e, shown', arith)
 
   -- the end of its stop
 
-  pub look_done : (w : Work) → v.source ≡ Owns w → Loads (Slot v.number field.Done) (record v { source = done_by (at (Slot v.number field.Done)) v.source })
-  look_done w is = subst (λ o. Loads (Slot v.number field.Done) (record v { source = done_by (at (Slot v.number field.Done)) o })) (sym is) (search (go, arith))
+  abbrev looked : Bool → Source → Known
+  looked b y = record v { source = y; moves = cond b (v.moves ++ own.NotDone ∷ []) v.moves }
+
+  pub look_done : (w : Work) → v.source ≡ Owns w → Loads (Slot v.number field.Done) (done_known (at (Slot v.number field.Done)) v)
+  look_done w is = subst (λ o. Loads (Slot v.number field.Done) (looked (at (Slot v.number field.Done) == 0) (done_by (at (Slot v.number field.Done)) o))) (sym is)
+      (search (go, arith))
     where
       there : source v.number ≡ Owns w
       there = is_owns (source v.number) w (sees.source_is ∙ is)
 
-      go : (b : Bool) → (at (Slot v.number field.Done) == 0) ≡ b → Loads (Slot v.number field.Done) (record v { source = cond b (Owns w) (Collects w) })
-      go true e = subst (λ o. Loads (Slot v.number field.Done) (record v { source = o })) is
-          (still act.Load (Slot v.number field.Done) (Some (at (Slot v.number field.Done))) None refl)
+      go : (b : Bool) → (at (Slot v.number field.Done) == 0) ≡ b → Loads (Slot v.number field.Done) (looked b (cond b (Owns w) (Collects w)))
+      go true e = subst (λ o. Loads (Slot v.number field.Done) (looked true o)) is
+          (noted p seat source v sees at v (v.moves ++ own.NotDone ∷ [])
+          (still act.Load (Slot v.number field.Done) (Some (at (Slot v.number field.Done))) None refl))
       go false e =
           let one : at (Slot v.number field.Done) ≡ 1 =
           search (done_is, h.present.slots, arith) in
@@ -222,6 +234,8 @@ module _ (p : StopState) (at : Word → ℕ) (seat : ℕ → Seat) (source : ℕ
       let found = at (Slot v.number field.Result) in
       let there = is_collects (source v.number) w (sees.source_is ∙ is) in
       let p' = told u p v.number act.Load (Slot v.number field.Result) (Some found) None 0 in
-      goes_source p seat source v sees p' at Shut Shut (record (v.part) { collected = v.part.collected ++ found ∷ [] })
+      let part = record (v.part) { collected = v.part.collected ++ found ∷ [] } in
+      noted p seat source v sees at (record v { source = Shut; part = part }) (v.moves ++ own.Collected found ∷ [])
+      (goes_source p seat source v sees p' at Shut Shut part
       (told_so u v.number p p' act.Load (Slot v.number field.Result) (Some found) None refl) (result_loaded u p at seat source h v.number w 0 there)
-      (search (put_same, put_other, arith)) refl tt
+      (search (put_same, put_other, arith)) refl tt)

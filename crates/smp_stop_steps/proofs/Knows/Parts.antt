@@ -5,7 +5,7 @@ use Rattle.smp_words.proofs.Puts.{at_test, put_same, put_other}
 use Rattle.smp_words.proofs.Zeros.{get_or-same}
 use Rattle.smp_stop_steps.specs.{put, cpus, Word, Part, Setting, fresh, columns_of, AreFirst, AreTold, Columns, IsPart, Sees, GoesOnBy, IsBegun, Act, Seen, Setup, told, told_source, setup_in, Seat}
 use Rattle.smp_stop_steps.specs.{Free, StopShows, Source, Shut, StopState, no_stops}
-use Rattle.smp_stop_steps.specs.Known.{Known}
+use Rattle.smp_stop_steps.specs.Known.{Known, OwnMove}
 
 -- the list of a function's first values, with one changed
 pub first_put : {A : Type 0} (n : ℕ) (f : ℕ → A) (d : A) (list : List A) (i : ℕ) (x : A) → AreFirst n f d list → i < n → AreFirst n (put f i x) d (set list
@@ -40,6 +40,26 @@ module _ (p : StopState) (seat : ℕ → Seat) (source : ℕ → Source) (v : Kn
   abbrev Told : StopState → Seen → Type 0
   Told p' seen = AreTold (setup_in v.setting) v.number p p' seen
 
+  -- no other knows a CPU's own moves
+  pub noted : {seen : Seen} (at' : Word → ℕ) (w : Known) (moves : List OwnMove) → By seen at' w → By seen at' (record w { moves = moves })
+  noted {seen} at' w moves g =
+      let s = g.goes.mine in
+      record {
+        goes =
+            record {
+              stops = g.goes.stops;
+              seats = g.goes.seats;
+              sources = g.goes.sources;
+              shown = g.goes.shown;
+              mine = record { below = s.below; seat_is = s.seat_is; source_is = s.source_is; is_begun = s.is_begun; part_is = s.part_is };
+              number_is = g.goes.number_is;
+              setting_is = g.goes.setting_is;
+              others = g.goes.others;
+              still = g.goes.still;
+            };
+        told = g.told;
+      }
+
   -- a step, after which this CPU is at this seat and source and has this part
   pub goes : {seen : Seen} (p' : StopState) (at' : Word → ℕ) (seat' : ℕ → Seat) (source' : ℕ → Source) (x : Seat) (y : Source) (part : Part) →
       Told p' seen → StopShows (setup_in v.setting) p' at' seat' source' → Leaves v.number p p' part →
@@ -63,6 +83,7 @@ module _ (p : StopState) (seat : ℕ → Seat) (source : ℕ → Source) (v : Kn
             is_begun = subst IsBegun (sym (sources o.number ne)) s.is_begun;
             part_is = subst (λ (c : Columns). IsPart c o.part) (sym (leaves.others o.number ne)) s.part_is;
           };
+          still = λ c ne. (seats c ne, sources c ne);
         };
     told = is;
   }

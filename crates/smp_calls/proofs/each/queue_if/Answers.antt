@@ -22,4 +22,4 @@ queue-requires-clause-lawful g c = search (lawful_online, arith)
 pub returns : goal.returns
 returns g c =
     queues_one g.H.Handler.leads c.many_record-k.result c.args.to c.args.job.class c.args.job.func c.args.job.info c.args.asked c.queue.result
-    c.queue.ensures.0 c.if-not-asked.false c.many_record-k.ensures (search rules) c.requires.sized c.wait_for.ensures c.queue.ensures.1
+    c.queue.ensures.0 c.if-not-asked.false c.many_record-k.ensures (search rules) c.requires.sized c.wait_for.ensures.left c.queue.ensures.1

@@ -27,7 +27,7 @@ loop-cpu-preserved g c =
     let next = c.in-Some.ensures.steps in (
       a.0 ++ c.in-Some.cpu ∷ [],
       passed_more c.args.called c.loop-cpu.cpu-iterator c.next.new.self c.in-Some.cpu a.0 a.1 next.0,
-      waits_more g.H.Handler.leads c.many_record.result c.in-Some.cpu a.0 c.many_record.ensures (search rules) a.2 c.wait_for.ensures,
+      waits_more g.H.Handler.leads c.many_record.result c.in-Some.cpu a.0 c.many_record.ensures (search rules) a.2 c.wait_for.ensures.left,
     )
 
 pub returns : goal.returns

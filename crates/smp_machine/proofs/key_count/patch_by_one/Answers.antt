@@ -1,9 +1,10 @@
-use Rattle.std.proofs.Common.{◌≡◌, ℤ, pos, true, SFits, w32, rules, sym, ap, ◌∙◌, subst}
+use Rattle.std.proofs.Common.{◌≡◌, ℤ, pos, [], SFits, w32, rules, sym, ap, ◌∙◌, subst}
 use Rattle.std.proofs.lemmas.Int.{to_z-of_z}
 use Rattle.smp_labels.specs.Keys.{edge_of}
 use Rattle.smp_labels.specs.declared.keys.Change.{Change}
 use Rattle.smp_machine.specs.Counts.{step_of}
 use Rattle.smp_machine.specs.Keys.{IsPatchOf}
+use Rattle.smp_machine.specs.Moves.{patch_after}
 use Rattle.smp_machine.specs.Place.{MachineValue}
 use Rattle.smp_machine.specs.Stops.{HasStopped}
 use Rattle.smp_machine.proofs.KeyCounts.{edge_is}
@@ -19,7 +20,7 @@ returns-then-answer-eq0 g c =
       work = work;
       patch = subst (λ (m : MachineValue). IsPatchOf m.stops c.args.k (step_of c.args.up) work) c.machine.view_is
           (subst (λ (x : Change). IsPatchOf c.machine.inside.stops c.args.k x work) c.step-change.ensures c.patch_work-work.ensures.patch);
-      stopped = subst (λ (v : ℤ). HasStopped g.H.Handler.leads g.F.StopFunc.leads true work c.args.me.now c.args.handler.now c.args.run.now
+      stopped = subst (λ (v : ℤ). HasStopped g.H.Handler.leads g.F.StopFunc.leads (patch_after []) work c.args.me.now c.args.handler.now c.args.run.now
           c.patch-answer.new.me c.patch-answer.new.handler c.patch-answer.new.run v) zero c.patch-answer.ensures.stopped;
       last = c.patch-answer.ensures.last;
     }

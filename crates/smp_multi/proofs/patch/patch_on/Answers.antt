@@ -1,7 +1,7 @@
 use Rattle.std.proofs.Common.{◌≡◌, ◌+◌, ap, arith, subst, ◌∙◌}
 use Rattle.smp_labels.specs.Keys.{count_after}
 use Rattle.smp_labels.specs.declared.keys.Change.{Change}
-use Rattle.smp_stop_steps.specs.Known.{Moment}
+use Rattle.smp_multi.specs.Lives.{Moment}
 use Rattle.smp_stop_steps.specs.Labels.{answer_for, patch_answer}
 use Rattle.smp_stop_steps.specs.declared.stage.Visit.{Visit}
 use Rattle.smp_multi.specs.Names.{Key, Known}

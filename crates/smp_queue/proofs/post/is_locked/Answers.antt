@@ -5,7 +5,7 @@ use Rattle.smp_queue.proofs.Posts.Ready.{ready_done}
 use Rattle.smp_queue.proofs.post.is_locked.Goals as goal
 
 pub load-requires : goal.load-requires
-load-requires c = ready_done _ _ c.args.id c.requires.at c.requires.outside
+load-requires c = ready_done _ _ _ c.args.id c.requires.at c.requires.outside
 
 pub returns-clause-known : goal.returns-clause-known
 returns-clause-known c = c.load.ensures.known ∙ loaded_known c.args.seat.now.known c.args.id c.load.result c.requires.outside

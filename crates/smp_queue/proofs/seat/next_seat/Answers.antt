@@ -1,7 +1,6 @@
 use Rattle.std.proofs.Common.{arith, ap, ◌∙◌}
-use Rattle.smp_call_steps.specs.Known.{fresh}
 use Rattle.smp_queue.specs.{seat_made}
-use Rattle.smp_queue.specs.Names.{Cpu}
+use Rattle.smp_queue.specs.Names.{New}
 use Rattle.smp_queue.proofs.TheRule.Keeps.{splits, fresh_seat_is}
 use Rattle.smp_queue.proofs.TheRule.Seating.{come_next}
 use Rattle.smp_queue.proofs.seat.next_seat.Goals as goal
@@ -18,7 +17,7 @@ invariant_of-result c =
     let come = c.requires.come in
     let number = c.requires.number in
     fresh_seat_is _ _ c.args.n number.0 number.2 ((λ i. (c.split_seat-raw.ensures.4 i).0) ∙ (ap seat_made come.1
-    ∙ ap (λ n. Cpu (fresh c.args.words.shared.now.key n)) (come_next c.args.words.shared.now.key come number.1 number.2)))
+    ∙ ap (λ n. New n c.args.words.shared.now.key) (come_next c.args.words.shared.now.key come number.1 number.2)))
 
 pub returns-clause-maker : goal.returns-clause-maker
 returns-clause-maker c =

@@ -8,6 +8,7 @@ use Rattle.smp_core.specs.Start.{refusal_of}
 use Rattle.smp_call_steps.specs.Start.{first_stage, control_at}
 use Rattle.smp_core.specs.Value.{CoreValue}
 use Rattle.smp_call_steps.specs.Value.{ValuesShow, control_of, outside}
+use Rattle.smp_core.proofs.Offline.{start_apart}
 use Rattle.smp_core.proofs.Starts.{may_start, started_shown, started_nr, started_online, start_below}
 use Rattle.smp_call_steps.proofs.Machine.Starts.{names_record}
 use Rattle.smp_core.proofs.Insides.{started_inside}
@@ -83,6 +84,13 @@ invariant_of-self g c =
       };
       stops_nr = rw c.start.ensures.started (started_nr c.self.inside.stops c.args.cpu c.args.command ∙ c.self.invariant.stops_nr);
       stops_online = rw c.start.ensures.started (started_online c.self.inside.stops c.args.cpu c.args.command ∙ c.self.invariant.stops_online);
+      apart =
+          let m = may_start (before g c.before) c.args.cpu c.args.command (allowed g c.before) in
+          let low = start_below (before g c.before) c.args.cpu c.args.command c.self.invariant.limits (allowed g c.before) in
+          rw (begun g c.before) (start_apart c.self.inside.online c.self.inside.words.items c.self.inside.controls.items c.args.cpu
+          c.self.invariant.table.controls_sized c.self.invariant.apart c.self.inside.nr c.args.command low m.is_online m.is_allowed
+          (started_shown c.self.invariant.apart.calls (before g c.before) c.args.cpu c.args.command c.self.invariant.limits
+          c.self.invariant.table.controls_sized (allowed g c.before) (fits g c.before) c.self.invariant.apart.shown));
     }
 
 pub returns-clause-told : goal.returns-clause-told

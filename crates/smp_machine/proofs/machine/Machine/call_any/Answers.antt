@@ -1,12 +1,17 @@
-use Rattle.std.proofs.Common.{ℕ, ◌≡◌, ◌≢◌, true, IfOk, [], ◌∷◌, ap, subst}
-use Rattle.smp_words.specs.declared.call.Class.TheVariants.{Sync}
-use Rattle.smp_calls.specs.Ended.{HaveEnded}
-use Rattle.smp_calls.specs.Records.{call_by, single_record}
+use Rattle.std.proofs.Common.{rules, subst}
+use Rattle.smp_machine.specs.Answers.{AnyAnswers}
 use Rattle.smp_machine.specs.Place.{PlaceValue}
 use Rattle.smp_machine.proofs.machine.Machine.call_any.Goals as goal
 
-pub returns-clause-ended : goal.returns-clause-ended
-returns-clause-ended g c =
-    subst (λ (n : ℕ). IfOk c.any.result (λ cpu. c.args.wait ≡ true → cpu ≢ n →
-    HaveEnded c.any.new.me.calls (λ _. call_by n (single_record true) Sync c.args.func c.args.info) (cpu ∷ [])))
-    (ap (λ (p : PlaceValue). p.calls.number) c.me.view_is) c.any.ensures.ended
+pub returns : goal.returns
+returns g c =
+    subst (λ (p : PlaceValue). AnyAnswers g.H.Handler.leads c.args.self.now p c.args.handler.now c.any.new.me c.any.new.handler c.args.mask c.args.func c.args.info c.args.wait
+    c.any.result) c.me.view_is (record {
+      free = search rules;
+      any = c.any.ensures.any;
+      queued = c.any.ensures.queued;
+      here = c.any.ensures.here;
+      refused = search rules;
+      ended = c.any.ensures.ended;
+      kept = c.any.ensures.kept;
+    })

@@ -1,12 +1,16 @@
-use Rattle.std.proofs.Common.{ℕ, ◌≡◌, true, ap, subst}
-use Rattle.smp_mask.specs.Mask.{members}
-use Rattle.smp_words.specs.declared.call.Class.TheVariants.{Sync}
-use Rattle.smp_calls.specs.Ended.{HaveEnded}
-use Rattle.smp_calls.specs.Records.{many_call}
+use Rattle.std.proofs.Common.{rules, subst, Ok}
+use Rattle.smp_machine.specs.Answers.{ManyAnswers}
 use Rattle.smp_machine.specs.Place.{PlaceValue}
 use Rattle.smp_machine.proofs.machine.Machine.call_many.Goals as goal
 
-pub returns-clause-ended : goal.returns-clause-ended
-returns-clause-ended g c =
-    subst (λ (n : ℕ). c.args.wait ≡ true → HaveEnded c.many.new.me.calls (many_call n Sync c.args.func c.args.info) (members c.many.result))
-    (ap (λ (p : PlaceValue). p.calls.number) c.me.view_is) c.many.ensures.ended
+pub returns : goal.returns
+returns g c =
+    subst (λ (p : PlaceValue). ManyAnswers g.H.Handler.leads c.args.self.now p c.args.handler.now c.many.new.me c.many.new.handler c.args.mask c.args.func c.args.info c.args.wait
+    (Ok c.many.result)) c.me.view_is (record {
+      free = search rules;
+      targets = c.many.ensures.targets;
+      calls = c.many.ensures.calls;
+      ended = c.many.ensures.ended;
+      refused = tt;
+      kept = c.many.ensures.kept;
+    })

@@ -1,12 +1,16 @@
-use Rattle.std.proofs.Common.{ℕ, ◌≡◌, ◌≢◌, true, IfOk, [], ◌∷◌, ap, subst}
-use Rattle.smp_words.specs.declared.call.Class.TheVariants.{Sync}
-use Rattle.smp_calls.specs.Ended.{HaveEnded}
-use Rattle.smp_calls.specs.Records.{call_by, single_record}
+use Rattle.std.proofs.Common.{rules, subst}
+use Rattle.smp_machine.specs.Answers.{SingleAnswers}
 use Rattle.smp_machine.specs.Place.{PlaceValue}
 use Rattle.smp_machine.proofs.machine.Machine.call_single.Goals as goal
 
-pub returns-clause-ended : goal.returns-clause-ended
-returns-clause-ended g c =
-    subst (λ (n : ℕ). IfOk c.single.result (λ _. c.args.wait ≡ true → c.args.dst ≢ n →
-    HaveEnded c.single.new.me.calls (λ _. call_by n (single_record true) Sync c.args.func c.args.info) (c.args.dst ∷ [])))
-    (ap (λ (p : PlaceValue). p.calls.number) c.me.view_is) c.single.ensures.ended
+pub returns : goal.returns
+returns g c =
+    subst (λ (p : PlaceValue). SingleAnswers g.H.Handler.leads c.args.self.now p c.args.handler.now c.single.new.me c.single.new.handler c.args.dst c.args.func c.args.info c.args.wait
+    c.single.result) c.me.view_is (record {
+      free = search rules;
+      queued = c.single.ensures.queued;
+      here = c.single.ensures.here;
+      refused = search rules;
+      ended = c.single.ensures.ended;
+      kept = c.single.ensures.kept;
+    })

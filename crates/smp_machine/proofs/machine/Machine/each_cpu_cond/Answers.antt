@@ -1,12 +1,16 @@
-use Rattle.std.proofs.Common.{ℕ, ◌≡◌, true, ap, subst}
-use Rattle.smp_words.specs.declared.call.Class.TheVariants.{Sync}
-use Rattle.smp_calls.specs.Ended.{HaveEnded}
-use Rattle.smp_calls.specs.Records.{many_call}
-use Rattle.smp_calls.specs.Targets.{remote}
+use Rattle.std.proofs.Common.{rules, subst, Ok, Bool, ℕ}
+use Rattle.smp_machine.specs.Answers.{CondAnswers}
 use Rattle.smp_machine.specs.Place.{PlaceValue}
 use Rattle.smp_machine.proofs.machine.Machine.each_cpu_cond.Goals as goal
 
-pub returns-clause-ended : goal.returns-clause-ended
-returns-clause-ended g c =
-    subst (λ (n : ℕ). c.args.wait ≡ true → HaveEnded c.each.new.me.calls (many_call n Sync c.args.func c.args.info) (remote n c.each.result))
-    (ap (λ (p : PlaceValue). p.calls.number) c.me.view_is) c.each.ensures.ended
+pub returns : goal.returns
+returns g c =
+    subst (λ (p : PlaceValue). CondAnswers g.H.Handler.leads c.args.self.now p c.args.handler.now c.each.new.me c.each.new.handler (λ (x : ℕ) (answer : Bool). g.C.Fn.post c.args.cond.now (x, (c.args.info, tt)) answer) c.args.mask c.args.func c.args.info c.args.wait
+    (Ok c.each.result)) c.me.view_is (record {
+      free = search rules;
+      picks = c.each.ensures.picks;
+      calls = c.each.ensures.calls;
+      ended = c.each.ensures.ended;
+      refused = tt;
+      kept = c.each.ensures.kept;
+    })

@@ -31,8 +31,8 @@ answer_read law setting mid new k i on (Err x) same read a = tt
 setting_kept : {H F : Type 0} (hears : H → Heard → H → Type 0) (runs : F → Called → F → Type 0) (t : TableValue) (k : ℕ) (on : Bool) (p : PlaceValue) (h : H)
     (f : F)
     (new : PlaceValue) (h' : H) (f' : F) (turned : Bool) → Sets hears runs t k on p h f new h' f' turned → new.stops.setting ≡ p.stops.setting
-setting_kept hears runs t k on p h f new h' f' false s = s.setting_is
-setting_kept hears runs t k on p h f new h' f' true s = s.2.1.works.setting_is
+setting_kept hears runs t k on p h f new h' f' false s = s.works.setting_is
+setting_kept hears runs t k on p h f new h' f' true s = s.stopped.works.setting_is
 
 pub returns-in-Ok : goal.returns-in-Ok
 returns-in-Ok g c =

@@ -1,5 +1,6 @@
 use Rattle.std.proofs.Common.{arith, ap, subst, ◌∙◌, ◌≡◌, Some, bit_and}
-use Rattle.smp_stop_steps.specs.Known.{Moment, carrying}
+use Rattle.smp_stop_steps.specs.Known.{carrying}
+use Rattle.smp_multi.specs.Lives.{Moment}
 use Rattle.smp_stop_steps.specs.KnownAfter.{known_entering}
 use Rattle.smp_stop_steps.specs.Moves.{entering}
 use Rattle.smp_multi.specs.Names.{Known, SeatView}
@@ -7,7 +8,7 @@ use Rattle.smp_multi.specs.Names.act
 use Rattle.smp_multi.specs.Rule.{known}
 use Rattle.smp_multi.proofs.Carrying.{and_with, can_bare, lives_with, moment_with}
 use Rattle.smp_multi.proofs.Cells.{cell_below}
-use Rattle.smp_multi.proofs.Keeps.{and_allowed, can_same}
+use Rattle.smp_multi.proofs.Keeps.{and_allowed, can_same, seat_on}
 use Rattle.smp_multi.proofs.seat.access.mask.Goals as goal
 
 pub cell-requires : goal.cell-requires
@@ -17,9 +18,12 @@ pub fetch_and-requires : goal.fetch_and-requires
 fetch_and-requires c = let r = c.requires.able in let low = cell_below c.args.word c.cell.result c.cell.ensures in let w = r.sized in (
   ap (λ d. d.table) c.seat.view_is ∙ r.table_is,
   omega arith,
-  and_allowed _ _ _ _ c.seat.invariant c.args.word c.cell.result c.args.number c.cell.ensures
-      (can_bare c.seat.inside.carried (known c.seat.inside.raw.me.0) _ (can_same _ _ _ (ap (λ d. d.known) c.seat.view_is) r.can)),
+  and_allowed _ _ _ _ c.seat.invariant.is c.seat.invariant.online c.args.word c.cell.result c.args.number c.cell.ensures
+      (can_bare c.seat.inside.carried (known c.seat.inside.raw.me.0) _ (can_same _ _ _ (ap (λ d. d.known) c.seat.view_is) r.can)) c.requires.able.fits,
 )
+
+pub invariant_of-seat : goal.invariant_of-seat
+invariant_of-seat c = seat_on _ _ _ (c.fetch_and.ensures.2.1 c.args.word c.cell.ensures).1 c.fetch_and.ensures.2.0 c.seat.invariant.fits
 
 pub returns-clause-lives : goal.returns-clause-lives
 returns-clause-lives c = lives_with c.seat.inside.carried (known c.fetch_and.new.seat.me.0) c.fetch_and.ensures.2.0

@@ -6,7 +6,7 @@ use Rattle.smp_multi.specs.Names.act
 use Rattle.smp_multi.specs.Rule.{known}
 use Rattle.smp_multi.proofs.Carrying.{can_bare, lives_with, store_with}
 use Rattle.smp_multi.proofs.Cells.{cell_below}
-use Rattle.smp_multi.proofs.Keeps.{store_allowed, can_same}
+use Rattle.smp_multi.proofs.Keeps.{store_allowed, can_same, seat_on}
 use Rattle.smp_multi.proofs.seat.access.store_any.Goals as goal
 
 pub cell-requires : goal.cell-requires
@@ -16,9 +16,12 @@ pub store-requires : goal.store-requires
 store-requires c = let r = c.requires in let low = cell_below c.args.word c.cell.result c.cell.ensures in let w = r.sized in (
   ap (λ d. d.table) c.seat.view_is ∙ r.table_is,
   omega arith,
-  store_allowed _ _ _ _ c.seat.invariant c.args.word c.cell.result c.args.number c.cell.ensures
-      (can_bare c.seat.inside.carried (known c.seat.inside.raw.me.0) _ (can_same _ _ _ (ap (λ d. d.known) c.seat.view_is) r.can)),
+  store_allowed _ _ _ _ c.seat.invariant.is c.seat.invariant.online c.args.word c.cell.result c.args.number c.cell.ensures
+      (can_bare c.seat.inside.carried (known c.seat.inside.raw.me.0) _ (can_same _ _ _ (ap (λ d. d.known) c.seat.view_is) r.can)) c.requires.fits,
 )
+
+pub invariant_of-seat : goal.invariant_of-seat
+invariant_of-seat c = seat_on _ _ _ (c.store.ensures.2.1 c.args.word c.cell.ensures) c.store.ensures.2.0 c.seat.invariant.fits
 
 pub returns-clause-lives : goal.returns-clause-lives
 returns-clause-lives c = lives_with c.seat.inside.carried (known c.store.new.seat.me.0) c.store.ensures.2.0

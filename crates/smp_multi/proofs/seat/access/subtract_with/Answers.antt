@@ -7,19 +7,22 @@ use Rattle.smp_multi.specs.Names.act
 use Rattle.smp_multi.specs.Rule.{known}
 use Rattle.smp_multi.proofs.Carrying.{can_bare, lives_with, sub_with}
 use Rattle.smp_multi.proofs.Cells.{cell_below}
-use Rattle.smp_multi.proofs.Keeps.{sub_allowed, can_same}
+use Rattle.smp_multi.proofs.Keeps.{sub_allowed, can_same, seat_on}
 use Rattle.smp_multi.proofs.seat.access.subtract_with.Goals as goal
 
 pub cell-requires : goal.cell-requires
-cell-requires c = c.requires.cell
+cell-requires c = c.requires.able.cell
 
 pub fetch_sub-found-requires : goal.fetch_sub-found-requires
-fetch_sub-found-requires c = let r = c.requires in let low = cell_below c.args.word c.cell.result c.cell.ensures in let w = r.sized in (
+fetch_sub-found-requires c = let r = c.requires.able in let low = cell_below c.args.word c.cell.result c.cell.ensures in let w = r.sized in (
   ap (λ d. d.table) c.seat.view_is ∙ r.table_is,
   omega arith,
-  sub_allowed _ _ _ _ c.seat.invariant c.args.word c.cell.result c.cell.ensures
-      (can_bare c.seat.inside.carried (known c.seat.inside.raw.me.0) _ (can_same _ _ _ (ap (λ d. d.known) c.seat.view_is) r.can)),
+  sub_allowed _ _ _ _ c.seat.invariant.is c.seat.invariant.online c.args.word c.cell.result c.cell.ensures
+      (can_bare c.seat.inside.carried (known c.seat.inside.raw.me.0) _ (can_same _ _ _ (ap (λ d. d.known) c.seat.view_is) r.can)) c.requires.able.fits,
 )
+
+pub invariant_of-seat : goal.invariant_of-seat
+invariant_of-seat c = seat_on _ _ _ (c.fetch_sub-found.ensures.2.1 c.args.word c.cell.ensures).1 c.fetch_sub-found.ensures.2.0 c.requires.fits
 
 pub returns-clause-lives : goal.returns-clause-lives
 returns-clause-lives c = lives_with c.args.answer (known c.fetch_sub-found.new.seat.me.0) c.fetch_sub-found.ensures.2.0

@@ -31,4 +31,4 @@ returns g c =
     subst (λ (z : ℤ). PollAnswers c.args.me.now (cpu_of e) (Ok (Some z))) (sym (to_z-of_z w32 c.cast_signed.result small))
     (subst (λ (m : CpuValue). PollAnswers m (cpu_of e) (Ok (Some c.cast_signed.result))) c.me.view_is
     (poll_answers d c.is_done.new.seat e c.me.inside.number c.me.inside.visit c.me.inside.holds c.collect-word.result c.cast_signed.result kept found table
-    c.collect-word.ensures.known c.collect-word.ensures.lives c.cast_signed.ensures))
+    c.collect-word.ensures.known c.collect-word.ensures.lives c.cast_signed.ensures c.collect-word.ensures.fits))

@@ -4,6 +4,7 @@ use Rattle.smp_multi.specs.Names.{Setting}
 use Rattle.smp_multi.specs.Cpu.{CpuValue, TableValue, cpu_of}
 use Rattle.smp_multi.specs.Reads.{KeyAnswers}
 use Rattle.smp_multi.proofs.Reading.{key_answers}
+use Rattle.smp_multi.proofs.Showing.{rests_ungiven}
 use Rattle.smp_multi.proofs.table.StopTable.read_key.Goals as goal
 
 pub returns : goal.returns
@@ -18,4 +19,5 @@ returns g c =
     let on = ap (λ (m : CpuValue). m.irq) c.me.view_is ∙ (sym c.interrupts_on.ensures.value ∙ c.if-not-interrupts_on.false) in
     let low = subst (λ (s : Setting). c.args.k < s.labels.keys) (sym setting) (subst (λ n. c.args.k < n) c.keys.ensures.value c.if-k-keys.false) in
     subst (λ (m : CpuValue). KeyAnswers c.args.k m (cpu_of e) (Ok c.read_key.result)) c.me.view_is
-    (key_answers d e c.args.k c.read_key.result table c.read_key.ensures.known c.read_key.ensures.lives online on low)
+    (let found = c.read_key.ensures.known in
+    key_answers d e c.args.k found.0 c.read_key.result table found.1 found.2 found.3 c.read_key.ensures.lives online on low (rests_ungiven _ _ kept.rests))

@@ -1,8 +1,8 @@
 use Rattle.std.proofs.Common.{arith, ap, ◌∙◌}
 use Rattle.smp_queue.specs.{Store}
 use Rattle.smp_queue.proofs.TheRule.Cells.{cell_below}
-use Rattle.smp_queue.proofs.TheRule.Keeps.{store_allowed, can_same}
-use Rattle.smp_queue.proofs.Handling.Handles.{in_handle_can, in_handle_cell}
+use Rattle.smp_queue.proofs.TheRule.Keeps.{store_allowed, can_same, reach_same}
+use Rattle.smp_queue.proofs.Handling.Handles.{in_handle_can, in_handle_cell, in_handle_reaches}
 use Rattle.smp_queue.proofs.seat.call_steps.store_step.Goals as goal
 
 pub cell-requires : goal.cell-requires
@@ -13,5 +13,6 @@ store-requires c = let r = c.requires in let low = cell_below c.args.word c.cell
   ap (λ d. d.table) c.seat.view_is ∙ r.at.table_is,
   omega arith,
   store_allowed _ _ _ _ c.seat.invariant.0 c.args.word c.cell.result c.args.number c.cell.ensures
-      (can_same _ _ _ (ap (λ d. d.known) c.seat.view_is) (in_handle_can r.at (Store c.args.word c.args.number) r.is_access)),
+      (can_same _ _ _ (ap (λ d. d.known) c.seat.view_is) (in_handle_can r.at (Store c.args.word c.args.number) r.is_access))
+      (reach_same c.args.words.shared.now.key _ _ (Store c.args.word c.args.number) (ap (λ d. d.known) c.seat.view_is) (in_handle_reaches r.at c.args.words.shared.now.key (Store c.args.word c.args.number) r.is_access)),
 )

@@ -15,5 +15,6 @@ note_call-requires g c =
       sized = o.sized;
       can = record { stage = Done c.record_of-own.result; aims = (c.me.invariant.outside, o.owned, o.in_range); is_access = refl };
       apart = tt;
+      reaches = tt;
       cell = has_cell (Flags c.record_of-own.result) o.in_range;
     }

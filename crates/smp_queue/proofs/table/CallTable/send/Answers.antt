@@ -1,4 +1,5 @@
 use Rattle.std.proofs.Common.{◌<◌, sym, refl, ap, ◌∙◌, arith}
+use Rattle.smp_mask.specs.Mask.{has}
 use Rattle.smp_words.specs.Size.{cpus}
 use Rattle.smp_call_steps.proofs.Machine.Starts.{online_below}
 use Rattle.smp_queue.specs.{Intr, Send}
@@ -17,5 +18,6 @@ store-requires g c =
       sized = ap (λ t. t.words) c.words.ensures.table ∙ c.self.invariant.sized;
       can = record { stage = Send c.args.to; aims = (m.outside, to, omega arith); is_access = refl };
       apart = tt;
+      reaches = ap (λ k. has k.online c.args.to) (c.words.ensures.key ∙ c.self.invariant.key_is) ∙ (sym c.contains.ensures.member ∙ c.if-not-contains.false);
       cell = has_cell (Intr c.args.to) to;
     }

@@ -1,5 +1,6 @@
 use Rattle.std.proofs.Common.{false, sym, ◌∙◌}
 use Rattle.smp_run.proofs.Refusals.{two_answered}
+use Rattle.smp_machine.specs.Moves.{short_stop}
 use Rattle.smp_run.proofs.Staying.{sent_stopped}
 use Rattle.smp_run.proofs.Making.{makes_stop}
 use Rattle.smp_run.proofs.player.Player.two.Goals as goal
@@ -13,9 +14,9 @@ returns-clause-answer g c =
 
 pub returns-clause-sent : goal.returns-clause-sent
 returns-clause-sent g c =
-    let call = c.stop_two-made in sent_stopped _ _ false _ c.args.self.now.cpu call.new.me _ _ _ _ call.result call.ensures.ok call.ensures.kept
+    let call = c.stop_two-made in sent_stopped _ _ short_stop _ c.args.self.now.cpu call.new.me _ _ _ _ call.result call.ensures.ok call.ensures.kept
 
 pub returns-clause-made : goal.returns-clause-made
 returns-clause-made g c =
     let call = c.stop_two-made in
-    rw c.number_or.ensures (makes_stop _ _ false _ c.args.self.now.cpu call.new.me _ _ _ _ call.result call.ensures.ok call.ensures.kept)
+    rw c.number_or.ensures (makes_stop _ _ short_stop _ c.args.self.now.cpu call.new.me _ _ _ _ call.result call.ensures.ok call.ensures.kept)

@@ -1,0 +1,5 @@
+pub mod Least
+pub mod Lists
+pub mod Made
+pub mod Masks
+pub mod Opened

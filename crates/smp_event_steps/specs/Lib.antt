@@ -1,0 +1,11 @@
+pub mod Calls
+pub mod Cpu
+pub mod Ending
+pub mod Labels
+pub mod Opened
+pub mod Places
+pub mod Runs
+pub mod State
+pub mod Step
+pub mod Stop
+pub mod Stops

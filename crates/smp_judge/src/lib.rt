@@ -1,0 +1,24 @@
+//! A judge of events: whether some run of the model has the events that a trace tells, and else the first that none has and
+//! which law it breaks.
+//!
+//! - `trace`: A trace from a reader, and its verdict to a writer.
+//! - `verdict`: The verdict on a text; `text`, `words`: what is printed of it.
+//! - `head`, `spot`: The head of a trace, and where it is read to.
+//! - `body`, `reading`: The lines behind it, and the event that each tells.
+//! - `laws`: What the verdict means.
+//! - `halted`: Why a trace was not judged to its end.
+#![tactic(auto)]
+
+pub mod body;
+pub mod halted;
+mod head;
+pub mod laws;
+mod reading;
+mod spot;
+pub mod text;
+pub mod trace;
+pub mod verdict;
+mod words;
+
+pub use trace::{Ruling, judge_trace};
+pub use verdict::{Verdict, judge};

@@ -1,0 +1,6 @@
+-- CPUs at the end of a program
+pub mod Ending
+-- the other CPUs that are online
+pub mod Others
+-- a key and one of its sites
+pub mod Looking
