@@ -16,7 +16,7 @@ look_is law old mid new site on kind k s e at key =
     let same : new.setting ≡ old.setting = later ∙ ap (λ (c : CpuValue). c.setting) k.1.3 in
     let all : new.part.readings ≡ (before ++ key_on ∷ []) ++ jump ∷ [] =
     ap (λ (c : CpuValue). c.part.readings) s.1 ∙ ap (λ (c : CpuValue). c.part.readings ++ jump ∷ []) k.1.3
-        ∙ ap (λ (b : Bool). (before ++ ReadKey 0 b ∷ []) ++ jump ∷ []) (sym k.1.2) in
+    ∙ ap (λ (b : Bool). (before ++ ReadKey 0 b ∷ []) ++ jump ∷ []) (sym k.1.2) in
     law new 0 site on (jumps kind) e s.2 (before, jump ∷ [], all ∙ append_assoc before (key_on ∷ []) (jump ∷ [])) (before ++ key_on ∷ [], [], all)
     (subst (λ (x : Setting). site < length x.labels.entries) (sym later) s.0.0)
     (subst (λ (x : Setting). e ≡ slice_index_or x.labels.entries site e) (sym same) at) key
