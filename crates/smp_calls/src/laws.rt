@@ -1,11 +1,15 @@
-//! The numbers of a CPU's records, and the classes of its calls. These functions do nothing.
+//! The numbers of a CPU's records, the classes of its calls, and what a call on the CPU itself is. These functions do nothing.
 
-ghost use Rattle.std.specs.Prelude.{◌≡◌, ℕ, true, false, [], ◌∷◌};
+ghost use Rattle.std.specs.Prelude.{◌≡◌, ◌≢◌, ℕ, ◌+◌, ◌<◌, Bool, true, false, [], ◌∷◌};
 ghost use Rattle.smp_call_steps.specs.declared.known.Logged.TheVariants as logged;
+ghost use Rattle.smp_queue.specs.Cpu.{CpuValue, confirmed_at, looks};
+ghost use Rattle.smp_calls.specs.Families.{IsSized, CallsHere, CallsUserHere, RefusesUser};
 ghost use Rattle.smp_calls.specs.Queued.{calls_and_interrupts};
 ghost use Rattle.smp_calls.specs.Records.{AreApart, class_for};
 
 use crate::records::{ASYNC_RECORD, SYNC_RECORD, USER_RECORDS};
+use smp_mask::SmpError;
+use smp_queue::Handler;
 use smp_words::call::Class;
 
 /// Record 0 is for a call to one CPU that is waited for, and record 1 for one that is not. The user has two records.
@@ -24,4 +28,21 @@ pub fn interrupts_come_last()
 /// A call that is waited for is SYNC, to one CPU and to many, and one that is not waited for is ASYNC.
 pub fn classes()
     ensures { (class_for true ≡ Class.Sync) × (class_for false ≡ Class.Async) }
+{}
+
+/// A call on the CPU itself runs the function there, with this CPU as its source.
+pub fn own_calls<H: Handler>()
+    ensures { (old new : CpuValue) (before after : H) (func info : ℕ) (wait : Bool) → CallsHere H.leads old before new after func info wait →
+        (called : H) × H.leads called (record { src = old.number; func = func; info = info }) after }
+{}
+
+/// A call on the CPU itself by a record of the user runs the function at once, with this CPU as its source. One look has found
+/// the record free; a record that is not free is refused there too.
+pub fn own_calls_by_users<H: Handler>()
+    ensures heard { (old new : CpuValue) (before after : H) (u func info : ℕ) → CallsUserHere H.leads old before new after u func info →
+        H.leads before (record { src = old.number; func = func; info = info }) after }
+    ensures free { (old new : CpuValue) (before after : H) (u func info : ℕ) → IsSized old → u < 2 →
+        CallsUserHere H.leads old before new after u func info → (new.steps ≡ old.steps + 1) × (confirmed_at new (10 + u) ≡ true) }
+    ensures busy { (online u : ℕ) (old : CpuValue) → u < 2 → confirmed_at old (10 + u) ≢ true →
+        RefusesUser online old (looks old) u old.number SmpError.Busy }
 {}
