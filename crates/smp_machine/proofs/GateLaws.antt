@@ -1,12 +1,12 @@
 -- When a CPU takes the gate and gives it up, move by move.
 use Rattle.std.specs.List.{AllByRecursion}
-use Rattle.std.proofs.Common.{◌≡◌, ◌⊎◌, inl, inr, ℕ, ℤ, Bool, true, false, List, [], ◌∷◌, ◌++◌, append_assoc, refl, sym, ap, ◌∙◌}
+use Rattle.std.proofs.Common.{◌≡◌, ◌⊎◌, inl, inr, ℕ, Bool, true, false, List, [], ◌∷◌, ◌++◌, append_assoc, refl, sym, ap, ◌∙◌}
 use Rattle.std.proofs.lemmas.List.{append-nil, append_cancel_left}
 use Rattle.std.proofs.lemmas.List.Elements.{filter-append}
 use Rattle.smp_queue.specs.declared.handler.Heard.{Heard}
 use Rattle.smp_multi.specs.Names.{Work, OwnMove}
 use Rattle.smp_multi.specs.declared.func.Called.{Called}
-use Rattle.smp_stop_steps.specs.declared.known.OwnMove.TheVariants.{Took, Gave, Began, Collected, Found, Lost}
+use Rattle.smp_stop_steps.specs.declared.known.OwnMove.TheVariants.{Took, Gave, Began, Collected, Found}
 use Rattle.smp_machine.specs.GateLaws.{HasDone, IsTryOf, EndAt, turning, last_one, HasLooked, HasLookedAgain, HasTurned, GateIsHeld}
 use Rattle.smp_machine.specs.Moves.{told, tells, lost_tries, Looks, LooksUpTo, gave_if}
 use Rattle.smp_machine.specs.Own.{Own}

@@ -6,6 +6,7 @@ use Rattle.smp_mask.specs.Mask.{members}
 use Rattle.smp_queue.specs.declared.handler.Heard.{Heard}
 use Rattle.smp_stop_steps.specs.Labels.{reading_of, state_left}
 use Rattle.smp_stop_steps.specs.Tells.{first_readings, is_patch}
+use Rattle.smp_multi.specs.Answers.{IsWholeWord}
 use Rattle.smp_multi.specs.Cpu.{TableValue, CpuValue, Inside, begins}
 use Rattle.smp_multi.specs.Cpu.{gives_gate}
 use Rattle.smp_multi.specs.Names.{OwnMove}
@@ -80,6 +81,7 @@ module _ {H F : Type 0} (hears : H → Heard → H → Type 0) (runs : F → Cal
       let four = works_both hears runs put got three c.works in record {
         word = c.word;
         answer_is = same ∙ c.answer_is;
+        whole = subst (λ (z : ℤ). IsWholeWord z c.word) (sym same) c.whole;
         works = works_as hears runs left
             (λ i. record left { moves = moves_of_four (own_of old).moves (Began work ∷ []) (Collected c.word) Gave i })
             (works_both hears runs (λ (o : Own). got (put o)) gave four (works_give hears runs m₄ new h₄ f₄ g));
@@ -95,7 +97,7 @@ module _ {H F : Type 0} (hears : H → Heard → H → Type 0) (runs : F → Cal
   works_found p new h f k count e =
       let s = loads_count k count p.stops in
       works_step hears runs p new h f s (with_moves (Found k count ∷ []) (own_of p)) e
-      (later_still p.stops s refl refl refl refl refl refl (Found k count ∷ [], refl)) refl refl refl
+      (later_still p.stops s refl refl refl refl refl refl (Found k count ∷ [], refl)) refl refl refl refl
       (λ i. record (own_of p) { moves = told_more p.stops.moves (Found k count ∷ []) i })
 
   -- a patch after a stretch with these moves, in which at most the gate was taken
@@ -107,6 +109,7 @@ module _ {H F : Type 0} (hears : H → Heard → H → Type 0) (runs : F → Cal
       let left = with_stop (patch_after (before ++ first)) old.stops.number work s.word (own_of old) in record {
         word = s.word;
         answer_is = s.answer_is;
+        whole = s.whole;
         works = works_as hears runs left
             (λ i. record left { moves = moves_before (own_of old).moves before first (Began work ∷ Collected s.word ∷ Gave ∷ []) i })
             (works_both hears runs (λ (o : Own). with_moves before (with_gate held o)) (with_stop (patch_after first) old.stops.number work s.word) a

@@ -1,5 +1,5 @@
 -- A CPU goes on with a work until it is completed.
-use Rattle.std.proofs.Common.{◌≡◌, ◌≢◌, ℕ, Bool, Option, Some, None, List, [], ◌∷◌, ◌++◌, append_assoc, refl, sym, ap, ◌∙◌, subst}
+use Rattle.std.proofs.Common.{◌≡◌, ◌≢◌, ℕ, Bool, Option, Some, None, List, [], ◌∷◌, ◌++◌, append_assoc, inl, inr, refl, sym, ap, ◌∙◌, subst}
 use Rattle.smp_queue.specs.declared.handler.Heard.{Heard}
 use Rattle.smp_calls.specs.Handles.{looks}
 use Rattle.smp_multi.specs.Cpu.{CpuValue as StopCpuValue, Inside}
@@ -37,20 +37,25 @@ front_queues old new None t = (ap (λ (p : PassesValue). p.queues) t, ap (λ (p 
 front_queues old new (Some x) t =
     (ap (λ (p : PassesValue). p.queues) t.0, ap (λ (p : PassesValue). p.number) t.0, ap (λ (p : PassesValue). p.put) t.0)
 
--- to enter a stop changes nothing but where the CPU is
+-- a CPU of which nothing has changed but where it is, and its attempts to enter a stop
+abbrev tried : StopCpuValue → StopCpuValue → StopCpuValue
+tried old new = record old { inside = new.inside; attempts = new.attempts }
+
+-- to take the front of the queue changes no more
 front_inside : (m : MachineValue) (old new : StopCpuValue) (front : Option Item) (slot : Option ℕ) → EntersFront m.stops old new front slot
-    → new ≡ record old { inside = new.inside }
-front_inside m old new None None e = subst (λ (x : StopCpuValue). x ≡ record old { inside = x.inside }) (sym e) refl
-front_inside m old new (Some x) None e = subst (λ (y : StopCpuValue). y ≡ record old { inside = y.inside }) (sym e.0) refl
+    → new ≡ tried old new
+front_inside m old new None None e = subst (λ (y : StopCpuValue). y ≡ tried old y) (sym e) refl
+front_inside m old new (Some x) None (inl e) = subst (λ (y : StopCpuValue). y ≡ tried old y) (sym e.is) refl
+front_inside m old new (Some x) None (inr e) = subst (λ (y : StopCpuValue). y ≡ tried old y) (sym e.0) refl
 front_inside m old new None (Some slot) e = absurd e
-front_inside m old new (Some x) (Some slot) e = subst (λ (y : StopCpuValue). y ≡ record old { inside = y.inside }) (sym e.1.1.is) refl
+front_inside m old new (Some x) (Some slot) e = subst (λ (y : StopCpuValue). y ≡ tried old y) (sym e.1.1.is) refl
 
 -- to take and to enter changes nothing that only a CPU's own stop calls change
 next_own : (m : MachineValue) (old new : PlaceValue) (slot : Option ℕ) → TakesNext m old new slot → own_of new ≡ own_of old
 next_own m old new slot t =
     let p = front_queues old.passes new.passes t.front t.passes_are in
     let e = front_inside m old.stops new.stops t.front slot t.stops_are in
-    λ i. own_of (record { calls = old.calls; stops = record (e i) { inside = None }; passes = record (old.passes) { put = p.2 i } })
+    λ i. own_of (record { calls = old.calls; stops = record (e i) { inside = None; attempts = [] }; passes = record (old.passes) { put = p.2 i } })
 
 module _ {H F : Type 0} (hears : H → Heard → H → Type 0) (leads : F → Called → F → Type 0) where
   pub going_none : (p : PlaceValue) (h : H) (f : F) → p.stops.inside ≢ None → Going hears leads p h f p h f

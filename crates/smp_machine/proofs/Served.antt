@@ -1,8 +1,9 @@
 -- Works that a CPU has taken were served.
-use Rattle.std.proofs.Common.{◌≡◌, inl, inr, ℕ, ◌+◌, ◌<◌, ◌==◌, ◌&&◌, Bool, true, false, true≢false}
+use Rattle.std.proofs.Common.{◌≡◌, inl, inr, ℕ, ◌+◌, ◌<◌, ◌==◌, ◌&&◌, Bool, true, false}
 use Rattle.std.proofs.Common.{Option, Some, None, Result, Ok, Err, IfOk, IfErr, List}
 use Rattle.std.proofs.Common.{[], ◌∷◌, ◌++◌, length, map, slice_index_or, slice_set, length-set, append_assoc}
 use Rattle.std.proofs.Common.{arith, refl, sym, ap, ◌∙◌, subst, ne_eqb, eq-eqb}
+use Rattle.std.specs.List.{AllByRecursion}
 use Rattle.std.proofs.lemmas.Bool.{cases_eq}
 use Rattle.std.proofs.lemmas.Bool.Decides.{nat_tests}
 use Rattle.std.proofs.lemmas.List.{append-nil, map-append, length-append, get_or-set_same, get_or-set_other}
@@ -12,14 +13,15 @@ use Rattle.smp_mask.specs.declared.error.SmpError.TheVariants as error
 use Rattle.smp_queue.specs.Cpu.{CpuValue as CallCpuValue}
 use Rattle.smp_words.specs.Limits.{AreLimits}
 use Rattle.smp_stop_steps.specs.Starts.{has_slot}
-use Rattle.smp_multi.specs.Answers.{IsStale, Enters}
+use Rattle.smp_multi.specs.Answers.{RefusesEntry, Enters}
 use Rattle.smp_multi.specs.Cpu.{TableValue as StopTableValue, CpuValue as StopCpuValue, Inside}
-use Rattle.smp_multi.specs.Names.{Work, Setting, StopCall, Kind}
+use Rattle.smp_multi.specs.Names.{Attempt, Work, Setting, StopCall, Kind}
 use Rattle.smp_machine.specs.declared.work_queue.Item.{Item}
 use Rattle.smp_machine.specs.Passes.{PassesValue, LastIsOwn, takes, TakenIsShown}
 use Rattle.smp_machine.specs.Place.{MachineValue, PlaceValue, IsMachine, HasNotLeft}
-use Rattle.smp_machine.specs.Served.{Service, one_if, in_hand, visits, entries, FindsStale, IsBeginning, IsLater, AreStale, KeepsVisits, Serves}
-use Rattle.smp_machine.specs.Takes.{TakesFront, EntersFront, TakesNext}
+use Rattle.smp_machine.specs.Served.{Entered, Missed, Unseen, Service, is_entered, one_if, in_hand, visits, entries, attempts_as, attempts_for}
+use Rattle.smp_machine.specs.Served.{IsBeginning, IsLater, IsLookedAt, KeepsVisits, Serves}
+use Rattle.smp_machine.specs.Takes.{Drops, TakesFront, EntersFront, TakesNext}
 
 -- ---- a CPU at a later time
 
@@ -164,44 +166,39 @@ entries-append : (source : ℕ) (xs ys : List Service) → entries source (xs ++
 entries-append source [] ys = omega arith
 entries-append source (x ∷ xs) ys =
     let rest = entries-append source xs ys in
-    let here : ℕ = one_if (x.entered && x.item.slot == source) in
+    let here : ℕ = one_if (is_entered x.fate && x.item.slot == source) in
     ap (λ (n : ℕ). here + n) rest ∙ (let e : here + (entries source xs + entries source ys) ≡ (here + entries source xs) + entries source ys = omega arith in e)
 
-stale_append : (old new : StopCpuValue) (xs ys : List Service) → AreStale old new xs → AreStale old new ys → AreStale old new (xs ++ ys)
-stale_append old new [] ys a b = b
-stale_append old new (x ∷ xs) ys a b = (a.0, stale_append old new xs ys a.1 b)
+attempts_append : (xs ys : List Service) → attempts_for (xs ++ ys) ≡ attempts_for xs ++ attempts_for ys
+attempts_append [] ys = refl
+attempts_append (x ∷ xs) ys =
+    let here : List Attempt = attempts_as x.item.slot x.fate in
+    ap (λ (l : List Attempt). here ++ l) (attempts_append xs ys) ∙ sym (append_assoc here (attempts_for xs) (attempts_for ys))
 
-stale_earlier : (old mid new : StopCpuValue) (xs : List Service) → IsLater mid new → AreStale old mid xs → AreStale old new xs
-stale_earlier old mid new [] later s = s
-stale_earlier old mid new (x ∷ xs) later s = (
-  (λ out. let w = s.0 out in record { at = w.at; finds = w.finds; after = w.after; before = later_then w.at mid new w.before later }),
-  stale_earlier old mid new xs later s.1,
-)
-
-stale_later : (old mid new : StopCpuValue) (xs : List Service) → IsLater old mid → AreStale mid new xs → AreStale old new xs
-stale_later old mid new [] later s = s
-stale_later old mid new (x ∷ xs) later s = (
-  (λ out. let w = s.0 out in record { at = w.at; finds = w.finds; after = later_then old mid w.at later w.after; before = w.before }),
-  stale_later old mid new xs later s.1,
-)
+looked_append : (online : ℕ) (xs ys : List Service) → AllByRecursion (IsLookedAt online) xs → AllByRecursion (IsLookedAt online) ys
+    → AllByRecursion (IsLookedAt online) (xs ++ ys)
+looked_append online [] ys a b = b
+looked_append online (x ∷ xs) ys a b = (a.0, looked_append online xs ys a.1 b)
 
 -- none was taken
-pub serves_none : (old new : PlaceValue) → new.passes.taken ≡ old.passes.taken → KeepsVisits old.stops new.stops → Serves old new
-serves_none old new taken keeps = record {
+pub serves_none : (old new : PlaceValue) → new.passes.taken ≡ old.passes.taken → new.stops.attempts ≡ old.stops.attempts
+    → KeepsVisits old.stops new.stops → Serves old new
+serves_none old new taken attempts keeps = record {
   served = [];
   taken_are = taken ∙ sym (append-nil old.passes.taken);
   sized = keeps.sized;
   visits_are = λ source low. let same = keeps.visits_are source low in omega arith;
-  stale = tt;
+  attempts_are = attempts ∙ sym (append-nil old.stops.attempts);
+  looked_at = tt;
 }
 
 pub serves_still : (old new : PlaceValue) → new.passes.taken ≡ old.passes.taken → new.stops.part.answers ≡ old.stops.part.answers
-    → new.stops.inside ≡ old.stops.inside → Serves old new
-serves_still old new taken answers inside = serves_none old new taken (keeps_still old.stops new.stops answers inside)
+    → new.stops.inside ≡ old.stops.inside → new.stops.attempts ≡ old.stops.attempts → Serves old new
+serves_still old new taken answers inside attempts = serves_none old new taken attempts (keeps_still old.stops new.stops answers inside)
 
 -- one stretch after another
-pub serves_then : (old mid new : PlaceValue) → IsLater old.stops mid.stops → IsLater mid.stops new.stops → Serves old mid → Serves mid new → Serves old new
-serves_then old mid new first second a b = record {
+pub serves_then : (old mid new : PlaceValue) → mid.stops.setting ≡ old.stops.setting → Serves old mid → Serves mid new → Serves old new
+serves_then old mid new setting a b = record {
   served = a.served ++ b.served;
   taken_are = b.taken_are ∙ (ap (λ (l : List Item). l ++ map (λ (s : Service). s.item) b.served) a.taken_are
       ∙ (append_assoc old.passes.taken (map (λ (s : Service). s.item) a.served) (map (λ (s : Service). s.item) b.served)
@@ -212,8 +209,11 @@ serves_then old mid new first second a b = record {
       let two = b.visits_are source (subst (λ (n : ℕ). source < n) (sym a.sized) low) in
       let both = entries-append source a.served b.served in
       omega arith;
-  stale = stale_append old.stops new.stops a.served b.served (stale_earlier old.stops mid.stops new.stops a.served second a.stale)
-      (stale_later old.stops mid.stops new.stops b.served first b.stale);
+  attempts_are = b.attempts_are ∙ (ap (λ (l : List Attempt). l ++ attempts_for b.served) a.attempts_are
+      ∙ (append_assoc old.stops.attempts (attempts_for a.served) (attempts_for b.served)
+      ∙ ap (λ (l : List Attempt). old.stops.attempts ++ l) (sym (attempts_append a.served b.served))));
+  looked_at = looked_append old.stops.setting.online a.served b.served a.looked_at
+      (subst (λ (k : Setting). AllByRecursion (IsLookedAt k.online) b.served) setting b.looked_at);
 }
 
 -- the front of the own queue was taken
@@ -221,28 +221,32 @@ serves_front : (t : StopTableValue) (old new : PlaceValue) (front : Option Item)
     → EntersFront t old.stops new.stops front slot → Serves old new
 serves_front t old new None None took e =
     serves_still old new (ap (λ (p : PassesValue). p.taken) took) (ap (λ (c : StopCpuValue). c.part.answers) e) (ap (λ (c : StopCpuValue). c.inside) e)
+    (ap (λ (c : StopCpuValue). c.attempts) e)
 serves_front t old new None (Some slot) took e = absurd e
-serves_front t old new (Some x) None took e =
-    let keeps = keeps_still old.stops new.stops (ap (λ (c : StopCpuValue). c.part.answers) e.0) (ap (λ (c : StopCpuValue). c.inside) e.0) in
+serves_front t old new (Some x) None took (inl e) =
+    let keeps = keeps_still old.stops new.stops (ap (λ (c : StopCpuValue). c.part.answers) e.is) (ap (λ (c : StopCpuValue). c.inside) e.is) in
     record {
-      served = record { item = x; entered = false } ∷ [];
+      served = record { item = x; fate = Missed } ∷ [];
       taken_are = ap (λ (p : PassesValue). p.taken) took.0;
       sized = keeps.sized;
       visits_are = λ source low. let same = keeps.visits_are source low in omega arith;
-      stale = (
-        (λ _. record {
-          at = old.stops;
-          finds = e.1;
-          after = later_same old.stops;
-          before = subst (λ (c : StopCpuValue). IsLater old.stops c) (sym e.0) (later_same old.stops);
-        }),
-        tt,
-      );
+      attempts_are = ap (λ (c : StopCpuValue). c.attempts) e.is;
+      looked_at = ((λ unseen. absurd (let bad : Missed ≡ Unseen = unseen in cc)), tt);
+    }
+serves_front t old new (Some x) None took (inr e) =
+    let keeps = keeps_still old.stops new.stops (ap (λ (c : StopCpuValue). c.part.answers) e.0) (ap (λ (c : StopCpuValue). c.inside) e.0) in
+    record {
+      served = record { item = x; fate = Unseen } ∷ [];
+      taken_are = ap (λ (p : PassesValue). p.taken) took.0;
+      sized = keeps.sized;
+      visits_are = λ source low. let same = keeps.visits_are source low in omega arith;
+      attempts_are = ap (λ (c : StopCpuValue). c.attempts) e.0 ∙ sym (append-nil old.stops.attempts);
+      looked_at = ((λ _. e.1), tt);
     }
 serves_front t old new (Some x) (Some slot) took e =
     let r = e.1.1 in
     record {
-      served = record { item = x; entered = true } ∷ [];
+      served = record { item = x; fate = Entered } ∷ [];
       taken_are = ap (λ (p : PassesValue). p.taken) took.0;
       sized = ap (λ (c : StopCpuValue). length c.part.answers) r.is;
       visits_are = λ source low.
@@ -252,7 +256,9 @@ serves_front t old new (Some x) (Some slot) took e =
           λ i. length (slice_index_or old.stops.part.answers source []) + in_hand source (r.outside i) in
           let same : one_if (slot == source) ≡ one_if (x.slot == source) = ap (λ (n : ℕ). one_if (n == source)) e.0 in
           omega arith;
-      stale = ((λ out. absurd (true≢false out)), tt);
+      attempts_are = ap (λ (c : StopCpuValue). c.attempts) r.is
+          ∙ ap (λ (s : ℕ). old.stops.attempts ++ record { slot = s; entered = true } ∷ []) e.0;
+      looked_at = ((λ unseen. absurd (let bad : Entered ≡ Unseen = unseen in cc)), tt);
     }
 
 pub serves_next : (m : MachineValue) (old new : PlaceValue) (slot : Option ℕ) → TakesNext m old new slot → Serves old new
@@ -302,14 +308,14 @@ not_online nr online source limits none true is =
     let within = limits.within in
     absurd (grind (arith, nat_tests))
 
-pub finds_stale : (t : StopTableValue) (source : ℕ) (c : StopCpuValue) → AreLimits t.nr t.setting.online → c.setting ≡ t.setting → c.inside ≡ None
-    → IsStale t source c → FindsStale c source
-finds_stale t source c limits setting outside (inl inside) = absurd (inside outside)
-finds_stale t source c limits setting outside (inr (inl none)) = record {
-  outside = outside;
-  stale = inl (ap (λ (x : Setting). has x.online source) setting ∙ not_online t.nr t.setting.online source limits none (has t.setting.online source) refl);
-}
-finds_stale t source c limits setting outside (inr (inr no_call)) = record { outside = outside; stale = inr no_call }
+pub drops : (t : StopTableValue) (source : ℕ) (old new : StopCpuValue) → AreLimits t.nr t.setting.online → old.setting ≡ t.setting → old.inside ≡ None
+    → RefusesEntry t source old new → Drops t source old new
+drops t source old new limits setting outside (inl (inl inside, same)) = absurd (inside outside)
+drops t source old new limits setting outside (inl (inr none, same)) = inr (
+  same,
+  ap (λ (x : Setting). has x.online source) setting ∙ not_online t.nr t.setting.online source limits none (has t.setting.online source) refl,
+)
+drops t source old new limits setting outside (inr looked) = inl looked
 
 -- the limits of a machine are those of its stops
 pub stop_limits : (m : MachineValue) → IsMachine m → AreLimits m.stops.nr m.stops.setting.online
@@ -323,19 +329,24 @@ module _ (m : MachineValue) (calls : CallCpuValue) (old new : StopCpuValue) (bef
       → TakesNext m (record { calls = calls; stops = old; passes = before }) (record { calls = calls; stops = new; passes = after }) (Some x.slot)
   next_entered kind e = record { calls_are = refl; front = Some x; passes_are = (took, shown); stops_are = (refl, (kind, e)) }
 
-  pub next_stale : IsMachine m → old.setting ≡ m.stops.setting → old.inside ≡ None → new ≡ old → IsStale m.stops x.slot old
+  pub next_stale : IsMachine m → old.setting ≡ m.stops.setting → old.inside ≡ None → RefusesEntry m.stops x.slot old new
       → TakesNext m (record { calls = calls; stops = old; passes = before }) (record { calls = calls; stops = new; passes = after }) None
-  next_stale is setting outside same stale = record {
+  next_stale is setting outside stale = record {
     calls_are = refl;
     front = Some x;
     passes_are = (took, shown);
-    stops_are = (same, finds_stale m.stops x.slot old (stop_limits m is) setting outside stale);
+    stops_are = drops m.stops x.slot old new (stop_limits m is) setting outside stale;
   }
 
 -- it is still between two turns, with its number
 pub entered_still : (t : StopTableValue) (slot : ℕ) (old new : StopCpuValue) (r : Result Kind SmpError) → IfOk r (λ kind. Enters t slot old new kind)
-    → IfErr r (λ e. (e ≡ error.Stale) × (new ≡ old) × IsStale t slot old) → HasNotLeft old.inside → (new.number ≡ old.number) × HasNotLeft new.inside
+    → IfErr r (λ e. (e ≡ error.Stale) × RefusesEntry t slot old new) → HasNotLeft old.inside → (new.number ≡ old.number) × HasNotLeft new.inside
 entered_still t slot old new (Ok kind) ok err not_left =
     (ap (λ (c : StopCpuValue). c.number) ok.is, subst (λ (c : StopCpuValue). HasNotLeft c.inside) (sym ok.is) (λ e. omega arith))
-entered_still t slot old new (Err e) ok err not_left =
-    (ap (λ (c : StopCpuValue). c.number) err.1, subst (λ (c : StopCpuValue). HasNotLeft c.inside) (sym err.1) not_left)
+entered_still t slot old new (Err e) ok err not_left = still err.1
+  where
+    still : RefusesEntry t slot old new → (new.number ≡ old.number) × HasNotLeft new.inside
+    still (inl stays) =
+        (ap (λ (c : StopCpuValue). c.number) stays.1, subst (λ (c : StopCpuValue). HasNotLeft c.inside) (sym stays.1) not_left)
+    still (inr looked) =
+        (ap (λ (c : StopCpuValue). c.number) looked.is, subst (λ (c : StopCpuValue). HasNotLeft c.inside) (sym looked.is) not_left)

@@ -1,25 +1,30 @@
 -- What the definitions of stops, polls and queues come to.
-use Rattle.std.proofs.Common.{◌≡◌, ◌↔◌, ◌⊎◌, inl, inr, ℕ, zero, suc, ◌<◌, ◌==◌, ◌&&◌, ◌||◌, nat_lt, Bool, true, false, if◌then◌else◌, Option, Some, None}
+use Rattle.std.proofs.Common.{◌≡◌, ◌↔◌, ◌⊎◌, inl, inr, ℕ, ℤ, zero, suc, ◌<◌, ◌==◌, ◌&&◌, ◌||◌, nat_lt, Bool, true, false, if◌then◌else◌, Option, Some, None}
 use Rattle.std.proofs.Common.{List, [], ◌∷◌, ◌++◌, length, filter, slice_index_or, length-set, append_assoc, arith, refl, sym, ap, ◌∙◌, subst}
 use Rattle.std.proofs.Common.{eqb-true, eq-eqb, ne_eqb, lt-ltb}
 use Rattle.std.proofs.lemmas.Bool.{cases_eq}
 use Rattle.std.proofs.lemmas.Bool.Decides.{nat_tests}
-use Rattle.std.proofs.lemmas.List.{append-nil, get_or-set_same, get_or-set_other}
+use Rattle.std.proofs.lemmas.List.{append-nil, get_or-set_same, get_or-set_other, same_from_push}
 use Rattle.smp_mask.specs.Mask.{has, members_below}
 use Rattle.smp_mask.specs.declared.mask.TheConstants.{NR_CPUS}
 use Rattle.smp_queue.specs.Cpu.{CpuValue as CallCpuValue}
 use Rattle.smp_queue.specs.declared.handler.Heard.{Heard}
-use Rattle.smp_multi.specs.Names.{Work}
+use Rattle.smp_stop_steps.specs.Starts.{answer_word}
+use Rattle.smp_multi.specs.Answers.{answer_in}
+use Rattle.smp_multi.specs.Names.{OwnMove, Work}
 use Rattle.smp_multi.specs.Cpu.{TableValue, CpuValue as StopCpuValue}
+use Rattle.smp_multi.specs.Polls.{AgreesWithOwn}
 use Rattle.smp_multi.specs.declared.func.Called.{Called}
 use Rattle.smp_machine.specs.declared.work_queue.Item.{Item}
 use Rattle.smp_machine.specs.declared.work_queue.Knows.TheVariants.{Takes, Puts}
 use Rattle.smp_machine.specs.StopLaws.{IsOfOne, IsOfTwo, IsOfAll, IsFirstAlone, WorksAreOfTheirCpus}
-use Rattle.smp_machine.specs.StopLaws.{StopsAreMadeOnce, PollsSendNothing, QueuesKeepOrder, WorksAreTaken}
+use Rattle.smp_machine.specs.StopLaws.{StopsAgreeWithOwn, StopsAreMadeOnce, PollsSendNothing, QueuesKeepOrder, WorksAreTaken}
 use Rattle.smp_machine.specs.Own.{Own, put_one, put_all}
 use Rattle.smp_machine.specs.Passes.{PassesValue, put_to}
-use Rattle.smp_machine.specs.Stops.{item, IsActive, IsOneWork, IsTwoWork, IsMachineWork}
+use Rattle.smp_machine.specs.Place.{PlaceValue}
+use Rattle.smp_machine.specs.Stops.{item, HasStopped, IsActive, IsOneWork, IsTwoWork, IsMachineWork}
 use Rattle.smp_machine.specs.WorkQueue.{items_by}
+use Rattle.smp_multi.proofs.Kept.{own_answers_agree}
 use Rattle.smp_machine.proofs.Stopping.{put_all-append}
 
 -- ---- works
@@ -168,6 +173,32 @@ module _ {H F : Type 0} (hears : H → Heard → H → Type 0) (runs : F → Cal
         ap (λ (o : Own). slice_index_or o.put c []) s.works.own_is
         ∙ (put_members x work.mask c NR_CPUS old.passes.put sized
         ∙ ap (λ (l : List Item). put_to old.passes c ++ l) (below x (has work.mask c) c low));
+  }
+
+  -- the result of the own stop that stops its caller too
+  agrees : (moves : Work → ℕ → List OwnMove) (work : Work) (old new : PlaceValue) (h h' : H) (f f' : F) (answer : ℤ)
+      → (s : HasStopped hears runs moves work old h f new h' f' answer) → has work.mask old.stops.number ≡ true
+      → AgreesWithOwn new.stops work.mask s.word
+  agrees moves work old new h h' f f' answer s of =
+      let l = s.result in
+      let number : new.stops.number ≡ old.stops.number = s.works.number_is in
+      let begun : l.works ++ l.work ∷ [] ≡ old.stops.part.begun ++ work ∷ [] = sym l.begun ∙ ap (λ (o : Own). o.begun) s.works.own_is in
+      let same : l.work ≡ work = (same_from_push l.works old.stops.part.begun l.work work begun).1 in
+      let mine : has l.work.mask new.stops.number ≡ true = (λ i. has (same i).mask (number i)) ∙ of in
+      subst (λ (w : Work). AgreesWithOwn new.stops w.mask s.word) same (own_answers_agree new.stops s.word l mine)
+
+  pub agree_with_own : StopsAgreeWithOwn hears runs
+  agree_with_own = record {
+    agrees = λ moves work old new h h' f f' answer s of.
+        let a = agrees moves work old new h h' f f' answer s of in
+        (a.own, a.answered, λ some zero_. a.some some (s.whole.0 ∙ ap answer_word zero_));
+    alone = λ moves work old new h h' f f' answer dst func arg one self s.
+        let number : new.stops.number ≡ old.stops.number = s.works.number_is in
+        let of : has work.mask old.stops.number ≡ true = one.mask old.stops.number ∙ eq-eqb old.stops.number dst (sym self) in
+        let a = agrees moves work old new h h' f f' answer s of in
+        let only : (cpu : ℕ) → has work.mask cpu ≡ true → cpu ≡ new.stops.number =
+        λ cpu there. eqb-true cpu dst (sym (one.mask cpu) ∙ there) ∙ (self ∙ sym number) in
+        (a.own, a.answered, s.answer_is ∙ ap answer_in (a.alone only));
   }
 
   pub send_nothing : PollsSendNothing hears runs

@@ -9,6 +9,7 @@ use Rattle.smp_mask.specs.Mask.{members}
 use Rattle.smp_queue.specs.declared.handler.Heard.{Heard}
 use Rattle.smp_calls.specs.Queued.{is_in}
 use Rattle.smp_calls.proofs.Round.{is_in-append}
+use Rattle.smp_multi.specs.Answers.{IsWholeWord}
 use Rattle.smp_multi.specs.Cpu.{CpuValue, begins, collects, takes_gate, gives_gate, misses_gate, looks_in_vain}
 use Rattle.smp_stop_steps.specs.declared.known.OwnMove.TheVariants.{Busy, Took, Gave, Began, NotDone, Collected}
 use Rattle.smp_machine.specs.Moves.{told, tells, short_stop, long_stop, stop_moves}
@@ -49,30 +50,30 @@ module _ {H F : Type 0} (hears : H → Heard → H → Type 0) (runs : F → Cal
   -- one step of the own stop: what it makes of the own part is this
   pub works_step : (p new : PlaceValue) (h : H) (f : F) (s : CpuValue) (own : Own) → new ≡ record p { stops = s } → IsLater p.stops s
       → s.part.calls ≡ p.stops.part.calls → s.part.answers ≡ p.stops.part.answers → s.inside ≡ p.stops.inside
-      → own_of (record p { stops = s }) ≡ own → Works hears runs p h f new h f own
-  works_step p new h f s own e later calls answers inside is =
+      → s.attempts ≡ p.stops.attempts → own_of (record p { stops = s }) ≡ own → Works hears runs p h f new h f own
+  works_step p new h f s own e later calls answers inside attempts is =
       subst (λ (x : PlaceValue). Works hears runs p h f x h f own) (sym e)
-      (works_as hears runs own is (works_still hears runs p (record p { stops = s }) h f refl later calls answers inside refl refl refl))
+      (works_as hears runs own is (works_still hears runs p (record p { stops = s }) h f refl later calls answers inside attempts refl refl refl))
 
   pub works_take : (p new : PlaceValue) (h : H) (f : F) → new ≡ record p { stops = takes_gate p.stops }
       → Works hears runs p h f new h f (with_moves (Took ∷ []) (with_gate true (own_of p)))
   works_take p new h f e =
       let s = takes_gate p.stops in
       works_step p new h f s (with_moves (Took ∷ []) (with_gate true (own_of p))) e
-      (later_still p.stops s refl refl refl refl refl refl (Took ∷ [], refl)) refl refl refl
+      (later_still p.stops s refl refl refl refl refl refl (Took ∷ [], refl)) refl refl refl refl
       (λ i. record (with_gate true (own_of p)) { moves = told_more p.stops.moves (Took ∷ []) i })
 
   -- a try of the gate, or a look at done, in vain
   pub works_missed : (p new : PlaceValue) (h : H) (f : F) → new ≡ record p { stops = misses_gate p.stops } → Works hears runs p h f new h f (own_of p)
   works_missed p new h f e =
       let s = misses_gate p.stops in
-      works_step p new h f s (own_of p) e (later_still p.stops s refl refl refl refl refl refl (Busy ∷ [], refl)) refl refl refl
+      works_step p new h f s (own_of p) e (later_still p.stops s refl refl refl refl refl refl (Busy ∷ [], refl)) refl refl refl refl
       (λ i. record (own_of p) { moves = told_same p.stops.moves (Busy ∷ []) refl i })
 
   pub works_looked : (p new : PlaceValue) (h : H) (f : F) → new ≡ record p { stops = looks_in_vain p.stops } → Works hears runs p h f new h f (own_of p)
   works_looked p new h f e =
       let s = looks_in_vain p.stops in
-      works_step p new h f s (own_of p) e (later_still p.stops s refl refl refl refl refl refl (NotDone ∷ [], refl)) refl refl refl
+      works_step p new h f s (own_of p) e (later_still p.stops s refl refl refl refl refl refl (NotDone ∷ [], refl)) refl refl refl refl
       (λ i. record (own_of p) { moves = told_same p.stops.moves (NotDone ∷ []) refl i })
 
   pub works_give : (p new : PlaceValue) (h : H) (f : F) → new ≡ record p { stops = gives_gate p.stops }
@@ -80,7 +81,7 @@ module _ {H F : Type 0} (hears : H → Heard → H → Type 0) (runs : F → Cal
   works_give p new h f e =
       let s = gives_gate p.stops in
       works_step p new h f s (with_moves (Gave ∷ []) (with_gate false (own_of p))) e
-      (later_still p.stops s refl refl refl refl refl refl (Gave ∷ [], refl)) refl refl refl
+      (later_still p.stops s refl refl refl refl refl refl (Gave ∷ [], refl)) refl refl refl refl
       (λ i. record (with_gate false (own_of p)) { moves = told_more p.stops.moves (Gave ∷ []) i })
 
   pub works_begin : (p new : PlaceValue) (h : H) (f : F) (work : Work) → new ≡ record p { stops = begins work p.stops }
@@ -88,7 +89,7 @@ module _ {H F : Type 0} (hears : H → Heard → H → Type 0) (runs : F → Cal
   works_begin p new h f work e =
       let s = begins work p.stops in
       works_step p new h f s (with_moves (Began work ∷ []) (with_begun work (own_of p))) e
-      (later_begun p.stops s (work ∷ []) refl refl refl refl refl refl (Began work ∷ [], refl)) refl refl refl
+      (later_begun p.stops s (work ∷ []) refl refl refl refl refl refl (Began work ∷ [], refl)) refl refl refl refl
       (λ i. record (with_begun work (own_of p)) { moves = told_more p.stops.moves (Began work ∷ []) i })
 
   pub works_collect : (p new : PlaceValue) (h : H) (f : F) (word : ℕ) → new ≡ record p { stops = collects word p.stops }
@@ -96,14 +97,14 @@ module _ {H F : Type 0} (hears : H → Heard → H → Type 0) (runs : F → Cal
   works_collect p new h f word e =
       let s = collects word p.stops in
       works_step p new h f s (with_moves (Collected word ∷ []) (with_collected word (own_of p))) e
-      (later_collected p.stops s (word ∷ []) refl refl refl refl refl refl (Collected word ∷ [], refl)) refl refl refl
+      (later_collected p.stops s (word ∷ []) refl refl refl refl refl refl (Collected word ∷ [], refl)) refl refl refl refl
       (λ i. record (with_collected word (own_of p)) { moves = told_more p.stops.moves (Collected word ∷ []) i })
 
   pub works_put : (p new : PlaceValue) (h : H) (f : F) (cpu : ℕ) (x : Item) → new ≡ record p { passes = puts cpu x p.passes }
       → Works hears runs p h f new h f (with_put x (cpu ∷ []) (own_of p))
   works_put p new h f cpu x e =
       subst (λ (y : PlaceValue). Works hears runs p h f y h f (with_put x (cpu ∷ []) (own_of p))) (sym e)
-      (works_still hears runs p (record p { passes = puts cpu x p.passes }) h f refl (later_same p.stops) refl refl refl refl refl refl)
+      (works_still hears runs p (record p { passes = puts cpu x p.passes }) h f refl (later_same p.stops) refl refl refl refl refl refl refl)
 
   -- after a stretch in which the CPU has made none
   pub works_after : {old mid new : PlaceValue} {h h₁ h₂ : H} {f f₁ f₂ : F} (g : Own → Own) → Works hears runs old h f mid h₁ f₁ (own_of old)
@@ -166,6 +167,7 @@ last_given c word r = record {
     closed = r.given.closed;
     given = r.given.given;
   };
+  own = r.own;
 }
 
 pub last_open : {p new : PlaceValue} {word : ℕ} → new ≡ record p { stops = gives_gate p.stops } → IsLastResult p.stops word → IsLastResult new.stops word
@@ -210,6 +212,7 @@ module _ {H F : Type 0} (hears : H → Heard → H → Type 0) (runs : F → Cal
       let three = works_both hears runs put got a c.works in record {
         word = c.word;
         answer_is = same ∙ c.answer_is;
+        whole = subst (λ (z : ℤ). IsWholeWord z c.word) (sym same) c.whole;
         works = works_as hears runs left
             (λ i. record left { moves = moves_of_four (own_of old).moves (Took ∷ Began work ∷ []) (Collected c.word) Gave i })
             (works_both hears runs (λ (o : Own). got (put o)) gave three (works_give hears runs m₄ new h₄ f₄ e));
@@ -232,6 +235,7 @@ module _ {H F : Type 0} (hears : H → Heard → H → Type 0) (runs : F → Cal
       let three = works_both hears runs put gave a (works_give hears runs m₃ m₄ h₃ f₃ e) in record {
         word = c.word;
         answer_is = same ∙ c.answer_is;
+        whole = subst (λ (z : ℤ). IsWholeWord z c.word) (sym same) c.whole;
         works = works_as hears runs left
             (λ i. record left { moves = moves_of_four (own_of old).moves (Took ∷ Began work ∷ []) Gave (Collected c.word) i })
             (works_both hears runs (λ (o : Own). gave (put o)) got three c.works);

@@ -86,7 +86,7 @@ works_turn hears leads {old} {mid} {new} {h} {h'} {f} {f'} l calls passes s =
       later = later_called old.stops new.stops (map stop_call k.ran) table setting number (ap (λ (x : StopCpuValue). x.part.begun) k.kept)
           (ap (λ (x : StopCpuValue). x.part.collected) k.kept) k.calls_are
           (beginning_still old.stops.moves new.stops.moves (ap (λ (x : StopCpuValue). x.moves) k.kept));
-      serves = serves_none old new (ap (λ (x : PassesValue). x.taken) passed) k.keeps;
+      serves = serves_none old new (ap (λ (x : PassesValue). x.taken) passed) (ap (λ (x : StopCpuValue). x.attempts) k.kept) k.keeps;
       own_is = λ i. own_of (record { calls = new.calls; stops = k.kept i; passes = passed i });
     }
 

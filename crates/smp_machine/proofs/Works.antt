@@ -52,14 +52,14 @@ module _ {H F : Type 0} (hears : H → Heard → H → Type 0) (leads : F → Ca
   -- no work was taken
   pub works_still : (old new : PlaceValue) (h : H) (f : F) → new.calls ≡ old.calls → IsLater old.stops new.stops
       → new.stops.part.calls ≡ old.stops.part.calls → new.stops.part.answers ≡ old.stops.part.answers → new.stops.inside ≡ old.stops.inside
-      → new.passes.queues ≡ old.passes.queues → new.passes.number ≡ old.passes.number → new.passes.taken ≡ old.passes.taken
+      → new.stops.attempts ≡ old.stops.attempts → new.passes.queues ≡ old.passes.queues → new.passes.number ≡ old.passes.number → new.passes.taken ≡ old.passes.taken
       → Works hears leads old h f new h f (own_of new)
-  works_still old new h f calls later ran answers inside queues passes_number taken =
-      works_own old new h f calls later ran queues passes_number (serves_still old new taken answers inside)
+  works_still old new h f calls later ran answers inside attempts queues passes_number taken =
+      works_own old new h f calls later ran queues passes_number (serves_still old new taken answers inside attempts)
 
   -- nothing was done
   pub works_none : (p : PlaceValue) (h : H) (f : F) → Works hears leads p h f p h f (own_of p)
-  works_none p h f = works_still p p h f refl (later_same p.stops) refl refl refl refl refl refl
+  works_none p h f = works_still p p h f refl (later_same p.stops) refl refl refl refl refl refl refl
 
   -- one stretch, and then another
   pub works_then : {old mid new : PlaceValue} {h h₁ h₂ : H} {f f₁ f₂ : F} {own own' : Own} → Works hears leads old h f mid h₁ f₁ own
@@ -77,7 +77,7 @@ module _ {H F : Type 0} (hears : H → Heard → H → Type 0) (leads : F → Ca
     queues_are = b.queues_are ∙ a.queues_are;
     passes_number = b.passes_number ∙ a.passes_number;
     later = later_then old.stops mid.stops new.stops a.later b.later;
-    serves = serves_then old mid new a.later b.later a.serves b.serves;
+    serves = serves_then old mid new a.setting_is a.serves b.serves;
     own_is = b.own_is;
   }
 

@@ -1,5 +1,5 @@
 -- What a change of a key's count by one makes of its CPU.
-use Rattle.std.specs.Prelude.{◌≡◌, ◌≢◌, ◌⊎◌, ℕ, ℤ, pos, ◌≤◌, Bool, true, false, if◌then◌else◌, Result, Ok, Err, None, List, [], ◌∷◌, ◌++◌}
+use Rattle.std.specs.Prelude.{◌≡◌, ◌≢◌, ◌⊎◌, ℕ, ℤ, pos, ◌≤◌, Bool, true, false, if◌then◌else◌, Result, Ok, Err, None, List, [], ◌++◌}
 use Rattle.std.specs.List.{AllByRecursion}
 use Rattle.std.specs.Prelude.{map, slice_index_or, slice_set}
 use Rattle.smp_labels.specs.Keys.{is_on}

@@ -1,16 +1,27 @@
 -- What became of the works that a CPU has taken from its queue.
-use Rattle.std.specs.Prelude.{◌≡◌, ◌⊎◌, ℕ, ◌+◌, ◌<◌, ◌==◌, ◌&&◌, Bool, false, if◌then◌else◌, Option, Some, None}
+use Rattle.std.specs.List.{AllByRecursion}
+use Rattle.std.specs.Prelude.{◌≡◌, ℕ, ◌+◌, ◌<◌, ◌==◌, ◌&&◌, Bool, true, false, if◌then◌else◌, Option, Some, None}
 use Rattle.std.specs.Prelude.{List, [], ◌∷◌, ◌++◌, length, map, slice_index_or}
 use Rattle.smp_mask.specs.Mask.{has}
 use Rattle.smp_multi.specs.Cpu.{CpuValue as StopCpuValue, Inside}
-use Rattle.smp_multi.specs.Laws.{FindsNoCall}
+use Rattle.smp_multi.specs.Names.{Attempt}
 use Rattle.smp_machine.specs.declared.work_queue.Item.{Item}
 use Rattle.smp_machine.specs.Place.{PlaceValue}
 
--- a work that was taken, and whether its stop was entered
+-- what became of a work: its stop was entered; the one look at its roll was in vain; or it was not looked at
+pub data Fate : Type 0 where
+  Entered : Fate
+  Missed : Fate
+  Unseen : Fate
+
+-- a work that was taken, and what became of it
 pub record Service : Type 0 where
   pub item : Item
-  pub entered : Bool
+  pub fate : Fate
+
+abbrev pub is_entered : Fate → Bool
+is_entered Entered = true
+is_entered _ = false
 
 abbrev pub one_if : Bool → ℕ
 one_if b = if b then 1 else 0
@@ -27,12 +38,22 @@ visits source c = length (slice_index_or c.part.answers source []) + in_hand sou
 -- how many of these works are of this source and were entered
 abbrev pub entries : ℕ → List Service → ℕ
 entries source [] = 0
-entries source (s ∷ more) = one_if (s.entered && s.item.slot == source) + entries source more
+entries source (s ∷ more) = one_if (is_entered s.fate && s.item.slot == source) + entries source more
 
--- a CPU in no stop, for which a work of this source is stale: no such CPU is online, or its roll does not have this one
-pub record FindsStale (c : StopCpuValue) (source : ℕ) : Type 0 where
-  pub outside : c.inside ≡ None
-  pub stale : (has c.setting.online source ≡ false) ⊎ FindsNoCall c source
+-- the attempts to enter the stop of this slot that it comes to
+abbrev pub attempts_as : ℕ → Fate → List Attempt
+attempts_as slot Entered = record { slot = slot; entered = true } ∷ []
+attempts_as slot Missed = record { slot = slot; entered = false } ∷ []
+attempts_as slot Unseen = []
+
+-- one for each of these works, at its own slot, in order; none for a work that was not looked at
+abbrev pub attempts_for : List Service → List Attempt
+attempts_for [] = []
+attempts_for (s ∷ more) = attempts_as s.item.slot s.fate ++ attempts_for more
+
+-- only a work of a source that is not online is not looked at
+abbrev pub IsLookedAt : ℕ → Service → Type 0
+IsLookedAt online s = s.fate ≡ Unseen → has online s.item.slot ≡ false
 
 -- the first list is the beginning of the second
 abbrev pub IsBeginning : {A : Type 0} → List A → List A → Type 0
@@ -48,28 +69,17 @@ pub record IsLater (old new : StopCpuValue) : Type 0 where
   pub calls : IsBeginning old.part.calls new.part.calls
   pub moves : IsBeginning old.moves new.moves
 
--- between two times of a CPU a work of this source was stale
-pub record WasStale (old new : StopCpuValue) (source : ℕ) : Type 0 where
-  pub at : StopCpuValue
-  pub finds : FindsStale at source
-  pub after : IsLater old at
-  pub before : IsLater at new
-
--- of these works each that was not entered was stale
-abbrev pub AreStale : StopCpuValue → StopCpuValue → List Service → Type 0
-AreStale old new [] = Unit {0}
-AreStale old new (s ∷ more) = (s.entered ≡ false → WasStale old new s.item.slot) × AreStale old new more
-
 -- a CPU that has entered no stop, and that has lost none
 pub record KeepsVisits (old new : StopCpuValue) : Type 0 where
   pub sized : length new.part.answers ≡ length old.part.answers
   pub visits_are : (source : ℕ) → source < length old.part.answers → visits source new ≡ visits source old
 
--- All works that a CPU has taken meanwhile were served: as many of each source were entered as it has completed since, or has
--- in hand, and each of the others was stale.
+-- All works that a CPU has taken meanwhile were served: since then it has tried to enter the stop of each, once, in the order in
+-- which it has taken them, and no other; and of each source as many were entered as it has completed since, or has in hand.
 pub record Serves (old new : PlaceValue) : Type 0 where
   pub served : List Service
   pub taken_are : new.passes.taken ≡ old.passes.taken ++ map (λ s. s.item) served
   pub sized : length new.stops.part.answers ≡ length old.stops.part.answers
   pub visits_are : (source : ℕ) → source < length old.stops.part.answers → visits source new.stops ≡ visits source old.stops + entries source served
-  pub stale : AreStale old.stops new.stops served
+  pub attempts_are : new.stops.attempts ≡ old.stops.attempts ++ attempts_for served
+  pub looked_at : AllByRecursion (IsLookedAt old.stops.setting.online) served

@@ -1,5 +1,5 @@
 -- What the definitions of stops, polls and queues come to, in words that do not use them.
-use Rattle.std.specs.Prelude.{filter, ◌≡◌, ◌⊎◌, ◌↔◌, ℕ, ℤ, ◌<◌, ◌==◌, true, if◌then◌else◌, Option, Some, None, ◌≤◌, List, [], ◌∷◌, ◌++◌, length}
+use Rattle.std.specs.Prelude.{filter, ◌≡◌, ◌≢◌, ◌⊎◌, ◌↔◌, ℕ, ℤ, pos, ◌<◌, ◌==◌, true, if◌then◌else◌, Option, Some, None, ◌≤◌, List, [], ◌∷◌, ◌++◌, length}
 use mathlib.Core.Option.{some}
 use lib.ListN.{get_elem?}
 use Rattle.smp_mask.specs.Mask.{has}
@@ -9,6 +9,7 @@ use Rattle.smp_queue.specs.declared.handler.Heard.{Heard}
 use Rattle.smp_multi.specs.Answers.{answer_in}
 use Rattle.smp_multi.specs.Cpu.{TableValue, CpuValue as StopCpuValue, Inside}
 use Rattle.smp_multi.specs.Names.{OwnMove, Work, One, Multi}
+use Rattle.smp_multi.specs.Polls.{HasAnsweredItself}
 use Rattle.smp_multi.specs.declared.func.Called.{Called}
 use Rattle.smp_machine.specs.declared.work_queue.Item.{Item}
 use Rattle.smp_machine.specs.declared.work_queue.Knows.{Knows}
@@ -71,6 +72,23 @@ pub record StopsOnce (work : Work) (old new : PlaceValue) (answer : ℤ) : Type 
 abbrev pub StopsAreMadeOnce : {H F : Type 0} → (H → Heard → H → Type 0) → (F → Called → F → Type 0) → Type 0
 StopsAreMadeOnce {H} {F} hears runs = (moves : Work → ℕ → List OwnMove) (work : Work) (old new : PlaceValue) (h h' : H) (f f' : F) (answer : ℤ)
     → HasStopped hears runs moves work old h f new h' f' answer → StopsOnce work old new answer
+
+-- it is answered what it has answered to its own stop itself
+abbrev pub AnswersItself : StopCpuValue → ℤ → Type 0
+AnswersItself c answer = (own : ℕ) × HasAnsweredItself c own × (answer ≡ answer_in own)
+
+-- what it has answered to its own stop itself is not 0 only where this answer is not
+abbrev pub HearsItself : StopCpuValue → ℤ → Type 0
+HearsItself c answer = (own : ℕ) × HasAnsweredItself c own × (own ≢ 0 → answer ≢ pos 0)
+
+-- a stop that stops its caller too is not answered 0 where this has answered other than 0; and a stop of the caller alone is
+-- answered just what this has answered
+pub record StopsAgreeWithOwn {H F : Type 0} (hears : H → Heard → H → Type 0) (runs : F → Called → F → Type 0) : Type 0 where
+  pub agrees : (moves : Work → ℕ → List OwnMove) (work : Work) (old new : PlaceValue) (h h' : H) (f f' : F) (answer : ℤ)
+      → HasStopped hears runs moves work old h f new h' f' answer → has work.mask old.stops.number ≡ true → HearsItself new.stops answer
+  pub alone : (moves : Work → ℕ → List OwnMove) (work : Work) (old new : PlaceValue) (h h' : H) (f f' : F) (answer : ℤ)
+      (dst func arg : ℕ) → IsOneWork dst func arg work → dst ≡ old.stops.number
+      → HasStopped hears runs moves work old h f new h' f' answer → AnswersItself new.stops answer
 
 -- a CPU has sent no call, and owes, has confirmed and has logged what it had
 pub record SendsNothing (old new : CallCpuValue) : Type 0 where

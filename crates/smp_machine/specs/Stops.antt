@@ -1,5 +1,5 @@
 -- What a stop call makes of its CPU.
-use Rattle.std.specs.Prelude.{◌≡◌, ◌≢◌, ◌⊎◌, ℕ, ℤ, ◌==◌, ◌||◌, Bool, true, false, Option, Some, None}
+use Rattle.std.specs.Prelude.{◌≡◌, ◌≢◌, ◌⊎◌, ℕ, ℤ, ◌==◌, ◌||◌, true, false, Option, Some, None}
 use Rattle.std.specs.Prelude.{List, [], ◌∷◌, length, slice_index_or}
 use Rattle.smp_mask.specs.Mask.{has, members, IsLeast}
 use Rattle.smp_mask.specs.declared.error.SmpError.{SmpError}
@@ -9,7 +9,7 @@ use Rattle.smp_calls.specs.Queued.{is_in}
 use Rattle.smp_stop_steps.specs.Starts.{begin_refusal}
 use Rattle.smp_stop_steps.specs.declared.start.Terms.{Terms}
 use Rattle.smp_multi.specs.Names.{Work, One, Multi}
-use Rattle.smp_multi.specs.Answers.{answer_in}
+use Rattle.smp_multi.specs.Answers.{IsWholeWord, answer_in}
 use Rattle.smp_multi.specs.Cpu.{TableValue}
 use Rattle.smp_multi.specs.Polls.{IsLastResult}
 use Rattle.smp_multi.specs.declared.func.Called.{Called}
@@ -56,6 +56,7 @@ pub record HasCollected {H F : Type 0} (hears : H → Heard → H → Type 0) (r
     (new : PlaceValue) (h' : H) (f' : F) (answer : ℤ) : Type 0 where
   pub word : ℕ
   pub answer_is : answer ≡ answer_in word
+  pub whole : IsWholeWord answer word
   pub works : Works hears runs old h f new h' f' (with_moves (Collected word ∷ []) (with_collected word (own_of old)))
   pub result : IsLastResult new.stops word
   pub outside : new.stops.inside ≡ None
@@ -71,6 +72,7 @@ pub record HasStopped {H F : Type 0} (hears : H → Heard → H → Type 0) (run
     (old : PlaceValue) (h : H) (f : F) (new : PlaceValue) (h' : H) (f' : F) (answer : ℤ) : Type 0 where
   pub word : ℕ
   pub answer_is : answer ≡ answer_in word
+  pub whole : IsWholeWord answer word
   pub works : Works hears runs old h f new h' f' (with_stop moves old.stops.number work word (own_of old))
   pub result : IsLastResult new.stops word
   pub shown : AreShown old.stops.number (members work.mask) new.passes.put

@@ -5,7 +5,7 @@ ghost use Rattle.smp_words.specs.Size.{cpus};
 ghost use Rattle.smp_queue.specs.Laws.{IsShown as CallsAreShown};
 ghost use Rattle.smp_multi.specs.Laws.{IsShown as StopsAreShown};
 ghost use Rattle.smp_machine.specs.GateLaws.{GateIsHeld};
-ghost use Rattle.smp_machine.specs.StopLaws.{WorksAreOfTheirCpus, StopsAreMadeOnce, PollsSendNothing, QueuesKeepOrder, WorksAreTaken};
+ghost use Rattle.smp_machine.specs.StopLaws.{WorksAreOfTheirCpus, StopsAgreeWithOwn, StopsAreMadeOnce, PollsSendNothing, QueuesKeepOrder, WorksAreTaken};
 ghost use Rattle.smp_machine.specs.ReadLaws.{KindsFollowKeys};
 
 use crate::cpu::Cpu;
@@ -50,6 +50,12 @@ pub fn works_are_of_their_cpus()
 /// nothing else anywhere.
 pub fn stops_are_made_once<H: Handler, F: StopFunc>()
     ensures { StopsAreMadeOnce H.leads F.leads }
+{}
+
+/// What a stop answers agrees with what its caller has answered there itself, where it stops that too: a result of 0 says
+/// that this was 0. `stop_one` of the calling CPU answers just that (`kernel/stop_machine.c: stop_one_cpu`).
+pub fn stops_agree_with_own<H: Handler, F: StopFunc>()
+    ensures { StopsAgreeWithOwn H.leads F.leads }
 {}
 
 /// When the gate is taken and given up, read off the list of the CPU's own moves (`kernel/stop_machine.c: stop_cpus_mutex`).

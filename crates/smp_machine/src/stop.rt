@@ -4,7 +4,7 @@
 ghost use Rattle.std.specs.Prelude.{◌≡◌, ◌≢◌, ◌<◌, ℕ, true, false, if◌then◌else◌, None, Some, MatchOption, [], ◌∷◌, slice_index_or};
 ghost use Rattle.smp_mask.specs.Mask.{members};
 ghost use Rattle.smp_words.specs.Size.{cpus};
-ghost use Rattle.smp_multi.specs.Answers.{answer_in};
+ghost use Rattle.smp_multi.specs.Answers.{IsWholeWord, answer_in};
 ghost use Rattle.smp_multi.specs.Cpu.{begins, collects};
 ghost use Rattle.smp_multi.specs.Cpu.{takes_gate, gives_gate, misses_gate, looks_in_vain};
 ghost use Rattle.smp_stop_steps.specs.declared.known.OwnMove.TheVariants.{Took};
@@ -171,7 +171,7 @@ pub(crate) fn look_done<A: Allocator>(machine: &Machine<A>, me: &mut Place<A>) -
     requires at { IsAt machine.now me.old }
     requires begun { me.old.stops.pending ≢ None }
     ensures { MatchOption result (me.new ≡ record me.old { stops = looks_in_vain me.old.stops }) (λ v. (word : ℕ) × (v ≡ answer_in word)
-        × (me.new ≡ record me.old { stops = collects word me.old.stops }) × IsLastResult me.new.stops word) }
+        × (me.new ≡ record me.old { stops = collects word me.old.stops }) × IsLastResult me.new.stops word × IsWholeWord v word) }
 {
     match machine.stops.poll_done(&mut me.stops) {
         Ok(done) => done,

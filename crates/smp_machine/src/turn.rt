@@ -80,7 +80,6 @@ pub(crate) fn step<A: Allocator, F: StopFunc>(
 
 /// Handles the own interrupt where interrupts are on, and then makes one turn of the work in hand, if any. It does not
 /// wait.
-#[tactic(auto, using(crate::proofs::Turns::works_turn))]
 pub(crate) fn turn<A: Allocator, H: Handler, F: StopFunc>(
     machine: &Machine<A>,
     me: &mut Place<A>,

@@ -1,7 +1,7 @@
 -- The answer that a CPU carries: no step asks for it or changes it.
-use Rattle.std.proofs.Common.{◌≡◌, ℕ, Bool, true, false, cond, Option, Some, None, [], refl}
+use Rattle.std.proofs.Common.{◌≡◌, ℕ, Bool, true, false, cond, Option, Some, None, [], refl, ap}
 use Rattle.smp_mask.specs.Mask.{has}
-use Rattle.smp_stop_steps.specs.Known.{Sees, carrying, setup_in}
+use Rattle.smp_stop_steps.specs.Known.{Sees, attempting, carrying, setup_in}
 use Rattle.smp_multi.specs.Lives.{Lives, Moment}
 use Rattle.smp_stop_steps.specs.KnownAfter.{acked_by, called_by, completed_by, drafted_known, is_drafting, is_patching, key_loaded_by}
 use Rattle.smp_stop_steps.specs.KnownAfter.{known_entering, known_told, key_read_known, member_stored, opened_by, raised_by}
@@ -235,7 +235,8 @@ module _ (x : ℕ) where
   and_with z v (Slot s field.Arg) n m = refl
   and_with z v (Slot s field.State) n m = refl
   and_with z v (Slot s field.Ack) n m = refl
-  and_with z v (Slot s field.Roll) n m = with_cond (has n v.number) (record v { seat = In s z 0 0 Rests }) v
+  and_with z v (Slot s field.Roll) n m =
+      ap (attempting s (has n v.number)) (with_cond (has n v.number) (record v { seat = In s z 0 0 Rests }) v)
   and_with z v (Slot s field.Todo) n m = refl
   and_with z v (Slot s field.Result) n m = refl
   and_with z v (Slot s field.Done) n m = refl

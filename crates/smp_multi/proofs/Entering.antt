@@ -1,5 +1,5 @@
 -- The steps of a CPU that enters a stop: whose stop it is, and what is loaded of it.
-use Rattle.std.proofs.Common.{◌≡◌, ℕ, ◌<◌, true, Some, sym, subst, refl, ap, ◌∙◌}
+use Rattle.std.proofs.Common.{◌≡◌, ℕ, ◌<◌, Bool, true, false, cond, Some, sym, subst, refl, ap, ◌∙◌}
 use Rattle.std.proofs.lemmas.Bool.{and_parts}
 use Rattle.atomic_table.specs.Seated.{TableId}
 use Rattle.smp_mask.specs.Mask.{has}
@@ -7,6 +7,7 @@ use Rattle.smp_words.specs.Kinds.{kind_at}
 use Rattle.smp_words.specs.Size.{cpus}
 use Rattle.smp_stop_steps.specs.Known.{setup_in, told_source}
 use Rattle.smp_multi.specs.Lives.{Moment}
+use Rattle.smp_stop_steps.specs.KnownAfter.{entered_known}
 use Rattle.smp_stop_steps.specs.Moves.{Enter, LoadField, IsPlain}
 use Rattle.smp_stop_steps.specs.Slots.{IsWritten, SlotShows}
 use Rattle.smp_stop_steps.specs.Sources.{SourceShows}
@@ -16,7 +17,7 @@ use Rattle.smp_stop_steps.proofs.Steps.Facts.{work_words}
 use Rattle.smp_stop_steps.proofs.Steps.Sources.{kind_back}
 use Rattle.smp_multi.specs.Names.{Work, Slot, Field, Load, And, In, Source, Shut, Drafts, Owns, Collects, Known, Duty}
 use Rattle.smp_multi.specs.Names.field
-use Rattle.smp_multi.specs.Places.{IsFree, HasEntered, IsCalled, pending_of}
+use Rattle.smp_multi.specs.Places.{IsFree, HasEntered, IsCalled, entered, missed, pending_of}
 use Rattle.smp_multi.specs.Seat.{SeatValue, Ready}
 use Rattle.smp_multi.proofs.Cells.{slot_cell}
 
@@ -38,6 +39,11 @@ ready_roll t d number slot x f low e = record {
   };
   apart = tt;
 }
+
+-- what it knows after it
+pub entered_or : (slot : ℕ) (work : Work) (b : Bool) (v : Known) → entered_known slot work b v ≡ cond b (entered slot work v) (missed slot v)
+entered_or slot work true v = refl
+entered_or slot work false v = refl
 
 called_is_of : (x : Standing) → is_called x ≡ true → is_of x ≡ true
 called_is_of Outside e = cc

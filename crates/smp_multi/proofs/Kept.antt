@@ -1,5 +1,5 @@
 -- What a CPU keeps between two calls, and what a call leaves of its value.
-use Rattle.std.proofs.Common.{◌≡◌, ℕ, ℤ, Ok, ◌+◌, ◌<◌, ◌%◌, ◌^◌, nat_lt, Bool, true, false, cond, Option, Some, None, List, [], ◌∷◌, ◌++◌, length, inl, inr}
+use Rattle.std.proofs.Common.{◌≡◌, ◌≢◌, ℕ, ℤ, Ok, ◌+◌, ◌<◌, ◌%◌, ◌^◌, nat_lt, Bool, true, false, cond, Option, Some, None, List, [], ◌∷◌, ◌++◌, length, inl, inr}
 use Rattle.std.proofs.Common.{sym, subst, refl, ap, ◌∙◌, arith, eq-eqb}
 use Rattle.atomic_table.specs.Seated.{TableId}
 use Rattle.smp_mask.specs.Mask.{has}
@@ -38,8 +38,8 @@ use Rattle.smp_multi.specs.Begins.{Begins}
 use Rattle.smp_multi.specs.Cells.{cells}
 use Rattle.smp_multi.specs.Cpu.{TableValue, CallsNone, IsKept, call_with, calls_with, part_with, cpu_of, inside_of, is_in, enters, runs}
 use Rattle.smp_multi.specs.Cpu.{answers, collects}
-use Rattle.smp_multi.specs.Places.{IsVisitOf, IsCalled, entered, work_in, pending_of}
-use Rattle.smp_multi.specs.Polls.{IsLastResult, looked, collected}
+use Rattle.smp_multi.specs.Places.{IsVisitOf, IsCalled, entered, missed, work_in, pending_of}
+use Rattle.smp_multi.specs.Polls.{OwnAnswersAgree, IsLastResult, looked, collected}
 use Rattle.smp_multi.specs.Running.{AtOne, called, called_by}
 use Rattle.smp_multi.specs.Seat.{SeatValue}
 use Rattle.smp_multi.specs.declared.func.Called.{Called}
@@ -100,10 +100,6 @@ idle_outside visit carried f none quiet = go f (subst (λ x. CallsNone x carried
     go (Calls call) q = absurd q
     go (Carries answer) q = absurd q
 
-pub kept_same : (v u : Known) (number : ℕ) (visit : Option Visit) (holds is_open : Bool) → IsKept v number visit holds is_open → u ≡ v
-    → IsKept u number visit holds is_open
-kept_same v u number visit holds is_open kept same = subst (λ (x : Known). IsKept x number visit holds is_open) (sym same) kept
-
 -- who carries no answer outside a stop carries none inside
 quiet_in : (x : Visit) (carried : ℕ) (f : Calling) (visit : Option Visit) → f ≡ Idle → CallsNone visit carried f → CallsNone (Some x) carried f
 quiet_in x carried Idle visit e q = q
@@ -122,6 +118,21 @@ kept_entered v u number visit holds is_open x slot work kept idle same of low li
   quiet = subst (λ (z : Known). CallsNone (Some x) z.carried z.part.calling) (sym same) (quiet_in x v.carried v.part.calling visit idle kept.quiet);
   holds_is = kept.holds_is ∙ sym (ap (λ (z : Known). z.part.holds) same);
   owns = subst (OwnsIf is_open) (sym (ap (λ (z : Known). z.source) same)) kept.owns;
+  lives = lives;
+}
+
+-- a CPU that has looked for itself on a roll in vain
+pub kept_missed : (v u : Known) (number : ℕ) (visit : Option Visit) (holds is_open : Bool) (slot : ℕ) → IsKept v number visit holds is_open
+    → u ≡ missed slot v → Lives u → IsKept u number visit holds is_open
+kept_missed v u number visit holds is_open slot kept same lives = record {
+  number_is = ap (λ (z : Known). z.number) same ∙ kept.number_is;
+  below = kept.below;
+  online = ap (λ (z : Known). has z.setting.online number) same ∙ kept.online;
+  rests = subst (λ (z : Known). SitsAtRest visit z.seat) (sym same) kept.rests;
+  low = kept.low;
+  quiet = subst (λ (z : Known). CallsNone visit z.carried z.part.calling) (sym same) kept.quiet;
+  holds_is = kept.holds_is ∙ sym (ap (λ (z : Known). z.part.holds) same);
+  owns = subst (λ (z : Known). OwnsIf is_open z.source) (sym same) kept.owns;
   lives = lives;
 }
 
@@ -243,6 +254,13 @@ last_result d before r l shut is =
     let h = l.shown.past me in
     let closed = closed_by u l.stops.gate stop word me (l.source me) (l.shown.sources me) (l.sees.source_is ∙ shut) in
     let last = has_last h.0 before r h.1.each (sym h.1.collected_are ∙ (l.sees.part_is.collected ∙ is)) in
+    let given : (c : ℕ) → has last.work.mask c ≡ true → (before : List ℕ) × (l.stops.answers c me ≡ before ++ last.answer c ∷ []) = λ c of.
+    (let g = last.given c of in (
+      g.0,
+      h.1.answers_are c ∙ (
+          ap (λ s. answers_of c h.0 ++ answer_now s) (all_outside u.cpus stop word (l.shown.present.slots me) closed c)
+          ∙ (append-nil (answers_of c h.0) ∙ g.1)),
+    )) in
     record {
       work = last.work;
       answer = last.answer;
@@ -262,14 +280,22 @@ last_result d before r l shut is =
         begun = l.sees.part_is.begun;
         collected = l.sees.part_is.collected;
         closed = closed;
-        given = λ c of. (let g = last.given c of in (
-          g.0,
-          h.1.answers_are c ∙ (
-              ap (λ s. answers_of c h.0 ++ answer_now s) (all_outside u.cpus stop word (l.shown.present.slots me) closed c)
-              ∙ (append-nil (answers_of c h.0) ∙ g.1)),
-        ));
+        given = given;
       };
+      own = λ of. (let g = given me of in (g.0, sym (l.sees.part_is.answers.each me l.sees.below) ∙ g.1));
     }
+
+-- and it agrees with the CPU's own answer
+pub own_answers_agree : OwnAnswersAgree
+own_answers_agree c result l of = record { own = l.answer c.number; answered = l.own of; some = some l.is_result; alone = alone l.is_result }
+  where
+    some : IsResult l.work.mask l.answer result → l.answer c.number ≢ 0 → result ≢ 0
+    some (inl none) ne e = ne (none.1 c.number of)
+    some (inr one) ne e = one.0 e
+
+    alone : IsResult l.work.mask l.answer result → ((cpu : ℕ) → has l.work.mask cpu ≡ true → cpu ≡ c.number) → result ≡ l.answer c.number
+    alone (inl none) only = none.0 ∙ sym (none.1 c.number of)
+    alone (inr one) only = sym one.1.2 ∙ ap l.answer (only one.1.0 one.1.1)
 
 -- a CPU that has collected a result
 pub collected_view : (d e f : SeatValue) (r : ℕ) → e.known ≡ looked true d.known → f.table ≡ d.table → f.known ≡ collected r e.known

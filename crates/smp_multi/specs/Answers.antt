@@ -11,7 +11,7 @@ use Rattle.smp_multi.specs.Laws.{Finds, FindsNoCall}
 use Rattle.smp_multi.specs.Names.{Slot, Work, Kind, One, StopCall}
 use Rattle.smp_multi.specs.Names.field
 use Rattle.smp_multi.specs.declared.func.Called.{Called}
-use Rattle.smp_multi.specs.Cpu.{TableValue, CpuValue, Inside, call_with, begins, enters, runs, answers, collects, looks_in_vain, terms_of, is_pending}
+use Rattle.smp_multi.specs.Cpu.{TableValue, CpuValue, Inside, call_with, begins, enters, misses, runs, answers, collects, looks_in_vain, terms_of, is_pending}
 use Rattle.smp_multi.specs.Polls.{IsLastResult}
 use Rattle.smp_multi.specs.Running.{called}
 
@@ -31,9 +31,20 @@ pub record Enters (t : TableValue) (slot : ℕ) (old new : CpuValue) (kind : Kin
   pub kind_is : kind ≡ work.kind
   pub is : new ≡ enters slot work old
 
--- enter is refused: the CPU is in a stop, there is no such slot, or its roll does not have the CPU
-abbrev pub IsStale : TableValue → ℕ → CpuValue → Type 0
-IsStale t slot c = (c.inside ≢ None) ⊎ ((has_slot t.nr slot ≡ false) ⊎ FindsNoCall c slot)
+-- enter is refused without a step: the CPU is in a stop, or there is no such slot
+abbrev pub MayNotTry : TableValue → ℕ → CpuValue → Type 0
+MayNotTry t slot c = (c.inside ≢ None) ⊎ (has_slot t.nr slot ≡ false)
+
+-- the one look at the roll of a slot has not found the CPU there, which is in no stop
+pub record Misses (t : TableValue) (slot : ℕ) (old new : CpuValue) : Type 0 where
+  pub outside : old.inside ≡ None
+  pub there : has_slot t.nr slot ≡ true
+  pub none : FindsNoCall old slot
+  pub is : new ≡ misses slot old
+
+-- enter is refused: without a step, or after this look
+abbrev pub RefusesEntry : TableValue → ℕ → CpuValue → CpuValue → Type 0
+RefusesEntry t slot old new = (MayNotTry t slot old × (new ≡ old)) ⊎ Misses t slot old new
 
 -- a CPU in a stop of one CPU
 pub record IsInOne (c : CpuValue) : Type 0 where

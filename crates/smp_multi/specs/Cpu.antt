@@ -13,7 +13,7 @@ use Rattle.smp_stop_steps.specs.Tells.{calls_at_run}
 use Rattle.smp_stop_steps.specs.declared.phase.TheConstants.{DISABLE_IRQ}
 use Rattle.smp_stop_steps.specs.declared.stage.Visit.{Visit}
 use Rattle.smp_stop_steps.specs.declared.start.Terms.{Terms}
-use Rattle.smp_multi.specs.Names.{Work, Seat, In, Gives, Alters, Known, OwnMove, Part, Setting, StopCall, Calling, Idle, Carries}
+use Rattle.smp_multi.specs.Names.{Attempt, Work, Seat, In, Gives, Alters, Known, OwnMove, Part, Setting, StopCall, Calling, Idle, Carries}
 use Rattle.smp_multi.specs.Names.own
 use Rattle.smp_multi.specs.Places.{pending_of, work_in}
 use Rattle.smp_multi.specs.Seat.{SeatValue}
@@ -31,8 +31,8 @@ pub record Inside : Type 0 where
   pub acked : ℕ
 
 -- a CPU between two calls: its table, its number, the work of its own stop that is not collected, the stop that it is
--- in, whether its interrupts are on, its own part of all stops, and its steps at the gate, at its own stop and at keys, in
--- the order in which it has made them
+-- in, whether its interrupts are on, its own part of all stops, its steps at the gate, at its own stop and at keys, in the
+-- order in which it has made them, and in the same way its attempts to enter a stop
 pub record CpuValue : Type 0 where
   pub table : TableId
   pub setting : Setting
@@ -42,6 +42,7 @@ pub record CpuValue : Type 0 where
   pub irq : Bool
   pub part : Part
   pub moves : List OwnMove
+  pub attempts : List Attempt
 
 abbrev pub inside_of : Seat → Option Inside
 inside_of (In s w a l t) = Some (record { slot = s; work = w; acked = a })
@@ -84,6 +85,7 @@ cpu_of d = record {
   irq = irq_of d.known.seat;
   part = part_with d.known.carried d.known;
   moves = d.known.moves;
+  attempts = d.known.attempts;
 }
 
 -- a CPU that has done nothing
@@ -141,9 +143,16 @@ misses_gate c = moves_on own.Busy c
 abbrev pub begins : Work → CpuValue → CpuValue
 begins w c = moves_on (own.Began w) (record c { pending = Some w; part = record (c.part) { begun = c.part.begun ++ w ∷ [] } })
 
--- one that has entered the stop of this slot, which is this work
+-- one that has made one more attempt to enter the stop of this slot
+abbrev pub tries : ℕ → Bool → CpuValue → CpuValue
+tries slot entered c = record c { attempts = c.attempts ++ record { slot = slot; entered = entered } ∷ [] }
+
+-- one that has entered the stop of this slot, which is this work; and one that has looked for it on the roll once, in vain
 abbrev pub enters : ℕ → Work → CpuValue → CpuValue
-enters slot w c = record c { inside = Some (record { slot = slot; work = w; acked = 0 }) }
+enters slot w c = tries slot true (record c { inside = Some (record { slot = slot; work = w; acked = 0 }) })
+
+abbrev pub misses : ℕ → CpuValue → CpuValue
+misses slot c = tries slot false c
 
 -- one that has called a stop function
 abbrev pub runs : StopCall → CpuValue → CpuValue

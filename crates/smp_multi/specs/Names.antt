@@ -15,6 +15,7 @@ pub use Rattle.smp_stop_steps.specs.declared.known.Turn.{Turn as Duty}
 pub use Rattle.smp_stop_steps.specs.declared.known.Turn.TheVariants.{Rests, Fills, Sets}
 pub use Rattle.smp_stop_steps.specs.declared.known.Source.{Source}
 pub use Rattle.smp_stop_steps.specs.declared.known.Source.TheVariants.{Shut, Drafts, Owns, Collects}
+pub use Rattle.smp_stop_steps.specs.declared.known.Attempt.{Attempt}
 pub use Rattle.smp_stop_steps.specs.declared.known.Known.{Known}
 pub use Rattle.smp_stop_steps.specs.declared.known.OwnMove.{OwnMove}
 pub use Rattle.smp_stop_steps.specs.declared.known.OwnMove.TheVariants as own

@@ -1,5 +1,5 @@
 -- A source that looks for the end of its stop, and the result that it collects.
-use Rattle.std.specs.Prelude.{◌≡◌, ℕ, ◌<◌, Bool, true, false, cond, List, [], ◌∷◌, ◌++◌}
+use Rattle.std.specs.Prelude.{◌≡◌, ◌≢◌, ℕ, ◌<◌, Bool, true, false, cond, List, [], ◌∷◌, ◌++◌, slice_index_or}
 use Rattle.atomic_table.specs.Seated.{TableId}
 use Rattle.smp_mask.specs.Mask.{has}
 use Rattle.smp_words.specs.Size.{cpus}
@@ -60,8 +60,12 @@ pub record AreGiven (c : CpuValue) (mask : ℕ) (answer : ℕ → ℕ) : Type 0 
   pub closed : (stops.now.stop c.number).is_open ≡ false
   pub given : (cpu : ℕ) → has mask cpu ≡ true → (before : List ℕ) × (stops.answers cpu c.number ≡ before ++ answer cpu ∷ [])
 
+-- the CPU's last answer to a stop of its own
+abbrev pub HasAnsweredItself : CpuValue → ℕ → Type 0
+HasAnsweredItself c answer = (before : List ℕ) × (slice_index_or c.part.answers c.number [] ≡ before ++ answer ∷ [])
+
 -- the result collected last is that of the stop begun last: 0 where all of its mask have answered 0, else one of the
--- answers that are not
+-- answers that are not; where the CPU is of the mask, its own answer among these is the one that it has given
 pub record IsLastResult (c : CpuValue) (result : ℕ) : Type 0 where
   pub work : Work
   pub answer : ℕ → ℕ
@@ -71,3 +75,15 @@ pub record IsLastResult (c : CpuValue) (result : ℕ) : Type 0 where
   pub collected : c.part.collected ≡ results ++ result ∷ []
   pub is_result : IsResult work.mask answer result
   pub given : AreGiven c work.mask answer
+  pub own : has work.mask c.number ≡ true → HasAnsweredItself c (answer c.number)
+
+-- what a CPU has collected of a stop of its own agrees with its own answer: this is not 0 only where the result is not, and is
+-- the result where no other CPU was called
+pub record AgreesWithOwn (c : CpuValue) (mask result : ℕ) : Type 0 where
+  pub own : ℕ
+  pub answered : HasAnsweredItself c own
+  pub some : own ≢ 0 → result ≢ 0
+  pub alone : ((cpu : ℕ) → has mask cpu ≡ true → cpu ≡ c.number) → result ≡ own
+
+abbrev pub OwnAnswersAgree : Type 0
+OwnAnswersAgree = (c : CpuValue) (result : ℕ) → (l : IsLastResult c result) → has l.work.mask c.number ≡ true → AgreesWithOwn c l.work.mask result

@@ -6,7 +6,7 @@ ghost use Rattle.smp_words.specs.Size.{cpus};
 ghost use Rattle.smp_multi.specs.Lives.{Lives, Moment};
 ghost use Rattle.smp_multi.specs.Names.{Slot, Work};
 ghost use Rattle.smp_multi.specs.Names.field;
-ghost use Rattle.smp_multi.specs.Places.{IsFree, HasEntered, IsCalled, IsVisitOf, entered};
+ghost use Rattle.smp_multi.specs.Places.{IsFree, HasEntered, IsCalled, IsVisitOf, entered, missed};
 
 use crate::rule::Words;
 use crate::seat::{CpuSeat, load, mask};
@@ -22,7 +22,7 @@ fn take_bit(words: &Words, seat: &mut CpuSeat, number: u32, slot: u32) -> bool
     requires low { slot < cpus }
     ensures table { seat.new.table ≡ words.now.table_id }
     ensures lives { Lives seat.new.known }
-    ensures known { (work : Work) × (seat.new.known ≡ if result then entered slot work seat.old.known else seat.old.known)
+    ensures known { (work : Work) × (seat.new.known ≡ if result then entered slot work seat.old.known else missed slot seat.old.known)
         × (result ≡ true → IsCalled seat.old.known slot work) }
     ensures then { (found : ℕ) × Moment seat.old.known (Slot slot field.Roll) found × (result ≡ has found number) }
 {
@@ -57,8 +57,8 @@ pub(crate) fn enter(words: &Words, seat: &mut CpuSeat, number: u32, slot: u32) -
     requires low { slot < cpus }
     ensures table { seat.new.table ≡ words.now.table_id }
     ensures lives { Lives seat.new.known }
-    ensures known { MatchOption result (seat.new.known ≡ seat.old.known) (λ visit. (work : Work) × (seat.new.known ≡ entered slot work seat.old.known)
-        × IsCalled seat.old.known slot work × IsVisitOf slot work visit) }
+    ensures known { MatchOption result (seat.new.known ≡ missed slot seat.old.known) (λ visit. (work : Work)
+        × (seat.new.known ≡ entered slot work seat.old.known) × IsCalled seat.old.known slot work × IsVisitOf slot work visit) }
     ensures then { (found : ℕ) × Moment seat.old.known (Slot slot field.Roll) found × (result ≡ None → has found number ≡ false) }
 {
     if take_bit(words, seat, number, slot) {

@@ -3,6 +3,7 @@
 ghost use Rattle.smp_multi.specs.LabelLaws.{LabelsAreLawful, CountsAreSums};
 ghost use Rattle.smp_multi.specs.Laws.{IsShown, FunctionsRunAlone};
 ghost use Rattle.smp_multi.specs.PatchLaws.{PatchesMoveCounts};
+ghost use Rattle.smp_multi.specs.Polls.{OwnAnswersAgree};
 
 use crate::cpu::StopCpu;
 use crate::table::StopTable;
@@ -42,6 +43,12 @@ pub fn counts_are_sums<A: Allocator>(table: &StopTable<A>, cpu: &StopCpu)
     let _ = table;
     let _number = cpu.number;
 }
+
+/// What a CPU has collected of a stop that has called it too (`StopTable::poll_done`) agrees with what it has answered there
+/// itself: a result of 0 says that this was 0; and where the stop was of that CPU alone, the result is its answer.
+pub fn own_answers_agree()
+    ensures { OwnAnswersAgree }
+{}
 
 /// By how much the patch of a stop moves its key, by the number of its change and the count that it finds, and what it
 /// answers: 0 takes the count to 0, 1 makes it 1 where it is 0, 2 adds 1 and 3 takes 1 away. The answer is 1 where the count

@@ -27,7 +27,7 @@ ghost use Rattle.smp_words.specs.Size.{cpus};
 ghost use Rattle.smp_stop_steps.specs.Known.{fresh};
 ghost use Rattle.smp_multi.specs.Lives.{Lives};
 ghost use Rattle.smp_multi.specs.Advance.{AdvanceAnswers, FinishAnswers};
-ghost use Rattle.smp_multi.specs.Answers.{BeginAnswers, Enters, IsStale, RunAnswers, PollAnswers};
+ghost use Rattle.smp_multi.specs.Answers.{BeginAnswers, Enters, RefusesEntry, RunAnswers, PollAnswers};
 ghost use Rattle.smp_multi.specs.Cpu.{IsAt, IsFull, fresh_cpu, gives_gate, misses_gate, takes_gate};
 ghost use Rattle.smp_multi.specs.Laws.{FindsHeld};
 ghost use Rattle.smp_multi.specs.Nudges.{NudgeAnswers};
@@ -222,7 +222,7 @@ impl<A: Allocator> StopTable<A> {
     pub fn enter(&self, me: &mut StopCpu, slot: u32) -> Result<Kind, SmpError>
         requires { IsAt self.now me.old }
         ensures ok { IfOk result (λ kind. Enters self.now slot me.old me.new kind) }
-        ensures err { IfErr result (λ e. (e ≡ SmpError.Stale) × (me.new ≡ me.old) × IsStale self.now slot me.old) }
+        ensures err { IfErr result (λ e. (e ≡ SmpError.Stale) × RefusesEntry self.now slot me.old me.new) }
     {
         if me.in_stop() || !has_slot(self.nr, slot) {
             return Err(SmpError::Stale);

@@ -10,6 +10,7 @@ use Rattle.smp_stop_steps.specs.State.{Calling, Idle, Calls, Carries, Setup, Sto
 use Rattle.smp_stop_steps.specs.Tells.{tells}
 use Rattle.smp_stop_steps.specs.Value.{setup_of}
 use Rattle.smp_stop_steps.specs.Names.field
+pub use Rattle.smp_stop_steps.specs.declared.known.Attempt.{Attempt}
 pub use Rattle.smp_stop_steps.specs.declared.known.Known.{Known}
 pub use Rattle.smp_stop_steps.specs.declared.known.OwnMove.{OwnMove}
 pub use Rattle.smp_stop_steps.specs.declared.known.Part.{Part}
@@ -116,7 +117,7 @@ no_part = record {
 }
 
 abbrev pub fresh : Setting → ℕ → Known
-fresh k me = record { setting = k; number = me; seat = Free; source = Shut; part = no_part; carried = 0; moves = [] }
+fresh k me = record { setting = k; number = me; seat = Free; source = Shut; part = no_part; carried = 0; moves = []; attempts = [] }
 
 -- with this answer, which it carries from now on
 abbrev pub carrying : ℕ → Known → Known
@@ -125,6 +126,10 @@ carrying x v = record v { carried = x }
 -- with one more step of its own
 abbrev pub noting : OwnMove → Known → Known
 noting m v = record v { moves = v.moves ++ m ∷ [] }
+
+-- with one more attempt to enter the stop of this slot
+abbrev pub attempting : ℕ → Bool → Known → Known
+attempting slot entered v = record v { attempts = v.attempts ++ record { slot = slot; entered = entered } ∷ [] }
 
 -- the same stops; where the step stores an answer, with that answer of this CPU's function, which no step tells before
 abbrev pub AreAlike : ℕ → Seen → StopState → StopState → Type 0

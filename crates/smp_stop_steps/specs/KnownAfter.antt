@@ -2,7 +2,7 @@
 use Rattle.std.specs.Prelude.{ℕ, ◌+◌, Bool, true, false, ◌==◌, ◌&&◌, ◌||◌, not, cond, Option, Some, None, List, [], ◌∷◌, ◌++◌, slice_index_or, slice_set}
 use Rattle.smp_stop_steps.specs.Names.{has, is_on, Act, Field, One, Work, Word, Gate, Slot, Key, Site, DISABLE_IRQ, RUN, EXIT, OVER}
 use Rattle.smp_stop_steps.specs.KeyCounts.{moves}
-use Rattle.smp_stop_steps.specs.Known.{Known, Part, setup_in, noting}
+use Rattle.smp_stop_steps.specs.Known.{Known, Part, setup_in, noting, attempting}
 use Rattle.smp_stop_steps.specs.Labels.{Reading, ReadKey, ReadSite}
 use Rattle.smp_stop_steps.specs.Seats.{Seat, Free, In, Gives, Alters, Closes, Rests, Fills, Sets}
 use Rattle.smp_stop_steps.specs.Stop.{Inside}
@@ -135,10 +135,14 @@ done_known found v = record v { source = done_by found v.source; moves = cond (f
 abbrev pub collected_known : ℕ → Known → Known
 collected_known n v = noting (own.Collected n) (record v { source = Shut; part = record (v.part) { collected = v.part.collected ++ n ∷ [] } })
 
+-- an attempt to enter the stop of this slot: the CPU is in it where the roll has it, and learns its work
+abbrev pub entered_known : ℕ → Work → Bool → Known → Known
+entered_known s w there v = attempting s there (cond there (record v { seat = In s w 0 0 Rests }) v)
+
 -- a step on a slot; one that enters learns this work
 abbrev pub slot_known : Work → Known → ℕ → Act → Field → Option ℕ → Option ℕ → Known
 slot_known w v s act.Store f found (Some n) = slot_stored f n v
-slot_known w v s act.And field.Roll (Some found) put = cond (has found v.number) (record v { seat = In s w 0 0 Rests }) v
+slot_known w v s act.And field.Roll (Some found) put = entered_known s w (has found v.number) v
 slot_known w v s act.Load field.State (Some found) put = looked_known found v
 slot_known w v s act.Load field.Arg (Some found) put = called_by found v.seat v
 slot_known w v s act.Load field.Done (Some found) put = done_known found v

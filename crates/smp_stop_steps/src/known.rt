@@ -109,6 +109,13 @@ pub enum OwnMove {
     Lost { key: u32 },
 }
 
+/// An attempt of a CPU to enter the stop of a slot: the step that takes its bit from the roll.
+pub struct Attempt {
+    pub slot: u32,
+    /// Whether the roll had the CPU, which is in the stop then.
+    pub entered: bool,
+}
+
 /// What a table is made with.
 #[derive(Drop)]
 pub struct Setting {
@@ -151,4 +158,6 @@ pub struct Known {
     pub carried: u64,
     /// Its steps at the gate, at its own stop and at keys, in the order in which it has made them.
     pub moves: LinkedList<OwnMove>,
+    /// Its attempts to enter a stop, in the same way.
+    pub attempts: LinkedList<Attempt>,
 }

@@ -7,7 +7,7 @@ use Rattle.smp_stop_steps.specs.{HasCalled, has, put, put_word, cpus, mask_weigh
 use Rattle.smp_stop_steps.specs.{StopShows, Source, all_but, Setup, StopState, StopCall, Calling, Calls, Standing, Inside, acknowledged, raised, told, enters}
 use Rattle.smp_stop_steps.specs.{acknowledges, acknowledges_now, raises, stored_open, stored_shut, with_stop, leaves, unpatched, carried, may_call}
 use Rattle.smp_stop_steps.specs.{carried_call, told_calling, Sees, GoesOnBy, Act, columns_of, setup_in, Part, called_by, ran_since, is_drafting, drafted_known}
-use Rattle.smp_stop_steps.specs.{slot_stored, member_stored, refilled_by, raised_by, looked_known, acked_by, read_since, Field, Work, Word, Slot}
+use Rattle.smp_stop_steps.specs.{slot_stored, member_stored, entered_known, refilled_by, raised_by, looked_known, acked_by, read_since, Field, Work, Word, Slot}
 use Rattle.smp_stop_steps.proofs.Steps.Same.{word_same}
 use Rattle.smp_stop_steps.proofs.Steps.Callings.{carried_alone}
 use Rattle.smp_stop_steps.specs.State.{Present, Carries}
@@ -17,7 +17,7 @@ use Rattle.smp_stop_steps.proofs.Steps.Completions.{roll_cleared}
 use Rattle.smp_stop_steps.proofs.State.Moves.{IsNoPatch}
 use Rattle.smp_stop_steps.proofs.Steps.Facts.{high_none, arg_loaded, ack_bounds, ack_bounds_patched}
 use Rattle.smp_stop_steps.proofs.Knows.KnownSources.{still}
-use Rattle.smp_stop_steps.proofs.Knows.Parts.{Leaves, goes_seat, goes_still, seen_by, told_so}
+use Rattle.smp_stop_steps.proofs.Knows.Parts.{Leaves, attempted, goes_seat, goes_still, seen_by, told_so}
 use Rattle.smp_stop_steps.proofs.State.Phases.{is_open_inside}
 use Rattle.smp_stop_steps.proofs.Steps.Rounds.{state_loaded, ack_subtracted, ack_subtracted_patched, ack_stored, state_stored}
 use Rattle.smp_stop_steps.proofs.Steps.StageSteps.{less_one}
@@ -70,7 +70,7 @@ module _ (p : StopState) (at : Word → ℕ) (seat : ℕ → Seat) (source : ℕ
   pub enter : (s : ℕ) → v.seat ≡ Free →
       let n = bit_and (at (Slot s field.Roll)) (all_but v.number) in
       Goes act.And (Slot s field.Roll) (Some (at (Slot s field.Roll))) (Some n) (put_word at (Slot s field.Roll) n)
-      (cond (has (at (Slot s field.Roll)) v.number) (record v { seat = In s (p.now.stop s).work 0 0 Rests }) v)
+      (entered_known s (p.now.stop s).work (has (at (Slot s field.Roll)) v.number) v)
   enter s free = go (has (at (Slot s field.Roll)) v.number) refl
     where
       low : v.number < 64
@@ -79,26 +79,28 @@ module _ (p : StopState) (at : Word → ℕ) (seat : ℕ → Seat) (source : ℕ
       go : (b : Bool) → has (at (Slot s field.Roll)) v.number ≡ b →
           let n = bit_and (at (Slot s field.Roll)) (all_but v.number) in
           Goes act.And (Slot s field.Roll) (Some (at (Slot s field.Roll))) (Some n) (put_word at (Slot s field.Roll) n)
-          (cond b (record v { seat = In s (p.now.stop s).work 0 0 Rests }) v)
+          (entered_known s (p.now.stop s).work b v)
       go true found =
           let n = bit_and (at (Slot s field.Roll)) (all_but v.number) in
           let at' = put_word at (Slot s field.Roll) n in
           let next = In s (p.now.stop s).work 0 0 Rests in
           let p' = record p { now = enters p.now v.number s } in
           let plain : told u p v.number act.And (Slot s field.Roll) (Some (at (Slot s field.Roll))) (Some n) 0 ≡ p' = ap (λ b. cond b p' p) found in
-          goes_seat p seat source v sees p' at' next v.part
+          attempted p seat source v sees at' (record v { seat = next }) (v.attempts ++ record { slot = s; entered = true } ∷ [])
+          (goes_seat p seat source v sees p' at' next v.part
           (told_so u v.number p p' act.And (Slot s field.Roll) (Some (at (Slot s field.Roll))) (Some n) plain)
           (subst (λ q. StopShows u q at' (put seat v.number next) source) plain
           (roll_cleared u p at seat source h s v.number n 0 (sees.seat_is ∙ free) found (clear_same (at (Slot s field.Roll)) v.number low)
           (λ c ne. clear_other (at (Slot s field.Roll)) v.number c low ne (high_none u p at seat source h s c))))
-          record { mine = sees.part_is; others = λ c ne. refl }
+          record { mine = sees.part_is; others = λ c ne. refl })
       go false missing =
           let n = bit_and (at (Slot s field.Roll)) (all_but v.number) in
           let entered = record p { now = enters p.now v.number s } in
-          subst (λ m. Goes act.And (Slot s field.Roll) (Some (at (Slot s field.Roll))) (Some n) (put_word at (Slot s field.Roll) m) v)
+          attempted p seat source v sees (put_word at (Slot s field.Roll) n) v (v.attempts ++ record { slot = s; entered = false } ∷ [])
+          (subst (λ m. Goes act.And (Slot s field.Roll) (Some (at (Slot s field.Roll))) (Some n) (put_word at (Slot s field.Roll) m) v)
           (sym (clear_none (at (Slot s field.Roll)) v.number low missing (high_none u p at seat source h s)))
           (subst (λ x. Goes act.And (Slot s field.Roll) (Some (at (Slot s field.Roll))) (Some n) x v) (sym (word_same at (Slot s field.Roll)))
-          (still p at seat source v h sees act.And (Slot s field.Roll) (Some (at (Slot s field.Roll))) (Some n) (ap (λ b. cond b entered p) missing)))
+          (still p at seat source v h sees act.And (Slot s field.Roll) (Some (at (Slot s field.Roll))) (Some n) (ap (λ b. cond b entered p) missing))))
 
   -- a round
 

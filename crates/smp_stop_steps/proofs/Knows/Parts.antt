@@ -5,7 +5,7 @@ use Rattle.smp_words.proofs.Puts.{at_test, put_same, put_other}
 use Rattle.smp_words.proofs.Zeros.{get_or-same}
 use Rattle.smp_stop_steps.specs.{put, cpus, Word, Part, Setting, fresh, columns_of, AreFirst, AreTold, Columns, IsPart, Sees, GoesOnBy, IsBegun, Act, Seen, Setup, told, told_source, setup_in, Seat}
 use Rattle.smp_stop_steps.specs.{Free, StopShows, Source, Shut, StopState, no_stops}
-use Rattle.smp_stop_steps.specs.Known.{Known, OwnMove}
+use Rattle.smp_stop_steps.specs.Known.{Attempt, Known, OwnMove}
 
 -- the list of a function's first values, with one changed
 pub first_put : {A : Type 0} (n : ℕ) (f : ℕ → A) (d : A) (list : List A) (i : ℕ) (x : A) → AreFirst n f d list → i < n → AreFirst n (put f i x) d (set list
@@ -40,9 +40,10 @@ module _ (p : StopState) (seat : ℕ → Seat) (source : ℕ → Source) (v : Kn
   abbrev Told : StopState → Seen → Type 0
   Told p' seen = AreTold (setup_in v.setting) v.number p p' seen
 
-  -- no other knows a CPU's own moves
-  pub noted : {seen : Seen} (at' : Word → ℕ) (w : Known) (moves : List OwnMove) → By seen at' w → By seen at' (record w { moves = moves })
-  noted {seen} at' w moves g =
+  -- no other knows a CPU's own moves, and its attempts to enter a stop
+  listed : {seen : Seen} (at' : Word → ℕ) (w : Known) (moves : List OwnMove) (attempts : List Attempt) → By seen at' w
+      → By seen at' (record w { moves = moves; attempts = attempts })
+  listed {seen} at' w moves attempts g =
       let s = g.goes.mine in
       record {
         goes =
@@ -59,6 +60,12 @@ module _ (p : StopState) (seat : ℕ → Seat) (source : ℕ → Source) (v : Kn
             };
         told = g.told;
       }
+
+  pub noted : {seen : Seen} (at' : Word → ℕ) (w : Known) (moves : List OwnMove) → By seen at' w → By seen at' (record w { moves = moves })
+  noted at' w moves g = listed at' w moves w.attempts g
+
+  pub attempted : {seen : Seen} (at' : Word → ℕ) (w : Known) (attempts : List Attempt) → By seen at' w → By seen at' (record w { attempts = attempts })
+  attempted at' w attempts g = listed at' w w.moves attempts g
 
   -- a step, after which this CPU is at this seat and source and has this part
   pub goes : {seen : Seen} (p' : StopState) (at' : Word → ℕ) (seat' : ℕ → Seat) (source' : ℕ → Source) (x : Seat) (y : Source) (part : Part) →

@@ -1,6 +1,5 @@
-use Rattle.std.proofs.Common.{ℕ, [], ◌∷◌, sym, subst, ap, ◌∙◌}
+use Rattle.std.proofs.Common.{ℕ, [], ◌∷◌, ap, ◌∙◌}
 use Rattle.smp_multi.specs.Names.{ReadKey}
-use Rattle.smp_machine.specs.Keys.{Sets}
 use Rattle.smp_machine.specs.Place.{PlaceValue}
 use Rattle.smp_machine.proofs.KeyStops.{readings_are, stands_so, turns_key}
 use Rattle.smp_machine.proofs.Served.{own_from, own_after}

@@ -1,8 +1,9 @@
-use Rattle.std.proofs.Common.{rules, [], ◌∷◌, ap, ◌∙◌}
+use Rattle.std.proofs.Common.{rules, ℤ, [], ◌∷◌, ap, sym, subst, ◌∙◌}
 use Rattle.std.proofs.lemmas.Int.{to_z-of_z}
 use mir.Syntax.{w32}
 use mir.Val.{SFits}
 use Rattle.smp_stop_steps.specs.declared.known.OwnMove.TheVariants.{Collected}
+use Rattle.smp_multi.specs.Answers.{IsWholeWord}
 use Rattle.smp_machine.specs.Own.{Own, with_collected, with_moves}
 use Rattle.smp_machine.specs.Place.{PlaceValue}
 use Rattle.smp_machine.proofs.Works.{works_none}
@@ -28,9 +29,11 @@ pub returns-in-Some-look_done : goal.returns-in-Some-look_done
 returns-in-Some-look_done g c =
     let d = c.in-Some-look_done.ensures in
     let fits : SFits w32 c.in-Some-look_done.answer = search rules in
+    let back = to_z-of_z w32 c.in-Some-look_done.answer fits in
     record {
       word = d.0;
-      answer_is = to_z-of_z w32 c.in-Some-look_done.answer fits ∙ d.1;
+      answer_is = back ∙ d.1;
+      whole = subst (λ (z : ℤ). IsWholeWord z d.0) (sym back) d.4;
       works = works_after g.H.Handler.leads g.F.StopFunc.leads (λ (o : Own). with_moves (Collected d.0 ∷ []) (with_collected d.0 o)) c.loop.invariant.works
           (works_collect g.H.Handler.leads g.F.StopFunc.leads c.loop.me c.look_done.new.me c.loop.handler c.loop.run d.0 d.2);
       result = d.3;

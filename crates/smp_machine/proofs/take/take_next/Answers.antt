@@ -32,5 +32,5 @@ returns g c =
           let setting = ap (λ (p : PlaceValue). p.stops.setting) c.me.view_is ∙ (c.requires.at.stops.setting
           ∙ sym (ap (λ (y : MachineValue). y.stops.setting) c.machine.view_is)) in
           rw (w.result-is) (next_stale m c.me.inside.calls c.me.inside.stops c.enter.new.me c.me.inside.passes c.take.new.me x took.0 took.1 c.machine.invariant
-          setting (ap (λ (p : PlaceValue). p.stops.inside) c.me.view_is ∙ c.requires.outside) e.1 e.2)
+          setting (ap (λ (p : PlaceValue). p.stops.inside) c.me.view_is ∙ c.requires.outside) e.1)
     ]))

@@ -5,12 +5,12 @@ use Rattle.smp_mask.specs.declared.error.SmpError.TheVariants as error
 use Rattle.smp_stop_steps.specs.Starts.{has_slot}
 use Rattle.smp_multi.specs.Names.{Slot, Kind, Free, Idle}
 use Rattle.smp_multi.specs.Names.field
-use Rattle.smp_multi.specs.Answers.{Enters, IsStale}
+use Rattle.smp_multi.specs.Answers.{Enters, Misses, RefusesEntry}
 use Rattle.smp_multi.specs.Laws.{FindsNoCall}
-use Rattle.smp_multi.specs.Cpu.{CpuValue, TableValue, IsKept, cpu_of, is_in}
+use Rattle.smp_multi.specs.Cpu.{CpuValue, TableValue, IsKept, cpu_of, inside_of, is_in, misses}
 use Rattle.smp_multi.specs.declared.cpu.StopCpu.TheInside.{Inside}
 use Rattle.smp_multi.specs.contracts.cpu.StopCpu as cpu
-use Rattle.smp_multi.proofs.Kept.{is_free, idle_outside, kept_same, kept_entered, enters_answer, low_slot}
+use Rattle.smp_multi.proofs.Kept.{is_free, idle_outside, kept_missed, kept_entered, enters_answer, low_slot}
 use Rattle.smp_multi.proofs.Showing.{finds, rests_ungiven}
 use Rattle.smp_multi.proofs.table.StopTable.enter.Given as given
 use Rattle.smp_multi.proofs.table.StopTable.enter.Goals.{in-Some, in-None}
@@ -34,7 +34,8 @@ invariant_of-me g c = elim c.match-enter.branch [
       (idle g c) k.1 k.3
       (low_slot c.self.inside.nr c.args.slot (there g c)) c.enter.ensures.lives)
   | in-None w ↦ subst (λ (m : Inside). IsKept m.seat.known m.number m.visit m.holds m.is_open) (sym w.me-inside-is)
-      (kept_same _ _ c.me.inside.number c.me.inside.visit c.me.inside.holds c.me.inside.is_open c.me.invariant w.in-None.ensures.known)
+      (kept_missed _ _ c.me.inside.number c.me.inside.visit c.me.inside.holds c.me.inside.is_open c.args.slot c.me.invariant w.in-None.ensures.known
+      c.enter.ensures.lives)
 ]
 
 pub returns-clause-ok : goal.returns-clause-ok
@@ -58,8 +59,8 @@ returns-clause-ok g c = elim c.match-enter.branch [
 
 pub returns-clause-err : goal.returns-clause-err
 returns-clause-err g c =
-    let Stales : Result Kind SmpError → Type 0 = λ r. IfErr r (λ e. (e ≡ error.Stale) × (cpu.the_view c.match-enter.me-inside ≡ c.args.me.now)
-    × IsStale c.args.self.now c.args.slot c.args.me.now) in
+    let Stales : Result Kind SmpError → Type 0 = λ r. IfErr r (λ e. (e ≡ error.Stale)
+    × RefusesEntry c.args.self.now c.args.slot c.args.me.now (cpu.the_view c.match-enter.me-inside)) in
     elim c.match-enter.branch [
       | in-Some w ↦ subst Stales (sym w.result-is) tt
       | in-None w ↦
@@ -68,12 +69,18 @@ returns-clause-err g c =
           let table = c.enter.ensures.table
           ∙ sym (ap (λ (m : CpuValue). m.table) c.me.view_is ∙ (c.requires.table ∙ sym (ap (λ (t : TableValue). t.table) c.self.view_is))) in
           let known = w.in-None.ensures.known in
-          let view : cpu_of c.enter.new.seat ≡ cpu_of d = λ i. cpu_of (record { table = table i; known = known i }) in
+          let view : cpu_of c.enter.new.seat ≡ misses c.args.slot (cpu_of d) = λ i. cpu_of (record { table = table i; known = known i }) in
           let found = finds d (Slot c.args.slot field.Roll) t.0 (rests_ungiven _ _ c.me.invariant.rests) t.1 in
           let none : has t.0 d.known.number ≡ false = ap (has t.0) c.me.invariant.number_is ∙ t.2 w.in-None.is in
+          let looked : Misses c.args.self.now c.args.slot c.args.me.now (cpu_of c.enter.new.seat) =
+          record {
+            outside = sym (ap (λ (m : CpuValue). m.inside) c.me.view_is) ∙ ap inside_of (free g c).1;
+            there = subst (λ (t : TableValue). has_slot t.nr c.args.slot ≡ true) c.self.view_is (there g c);
+            none = subst (λ (m : CpuValue). FindsNoCall m c.args.slot) c.me.view_is (t.0, found, none);
+            is = view ∙ ap (misses c.args.slot) c.me.view_is;
+          } in
           subst Stales (sym w.result-is) (
             refl,
-            subst (λ (m : Inside). cpu.the_view m ≡ c.args.me.now) (sym w.me-inside-is) (view ∙ c.me.view_is),
-            inr (inr (subst (λ (m : CpuValue). FindsNoCall m c.args.slot) c.me.view_is (t.0, found, none))),
+            inr (subst (λ (m : Inside). Misses c.args.self.now c.args.slot c.args.me.now (cpu.the_view m)) (sym w.me-inside-is) looked),
           )
     ]

@@ -1,0 +1,11 @@
+use Rattle.std.proofs.Common.{SFits, rules, w32}
+use Rattle.std.proofs.lemmas.Int.{to_z-of_z}
+use Rattle.smp_machine.proofs.Stopping.{stop_seen}
+use Rattle.smp_machine.proofs.machine.Machine.stop_one.Goals as goal
+
+pub returns-clause-ok : goal.returns-clause-ok
+returns-clause-ok g c =
+    let v = c.stop.result in
+    let fits : SFits w32 v = search rules in
+    let seen = stop_seen g.H.Handler.leads g.F.StopFunc.leads _ v c.me.view_is (to_z-of_z w32 v fits) c.stop.ensures in
+    (c.one_work-work.result, c.one_work-work.ensures.work, seen)
