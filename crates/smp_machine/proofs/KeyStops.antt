@@ -22,6 +22,7 @@ use Rattle.smp_machine.specs.Place.{PlaceValue}
 use Rattle.smp_machine.specs.Stops.{item, with_stop, AreShown, HasCollected, HasStopped}
 use Rattle.smp_machine.specs.Takes.{EntersFront}
 use Rattle.smp_machine.specs.Works.{Works, ReadsAnew}
+use Rattle.smp_machine.proofs.OwnAnswers.{own_still}
 use Rattle.smp_machine.proofs.Served.{later_still}
 use Rattle.smp_machine.proofs.Works.{works_as, works_both}
 use Rattle.smp_machine.proofs.Stopping.{works_step, works_begin, works_give, told_more, moves_of_four, last_open, shown_at}
@@ -97,7 +98,7 @@ module _ {H F : Type 0} (hears : H → Heard → H → Type 0) (runs : F → Cal
   works_found p new h f k count e =
       let s = loads_count k count p.stops in
       works_step hears runs p new h f s (with_moves (Found k count ∷ []) (own_of p)) e
-      (later_still p.stops s refl refl refl refl refl refl (Found k count ∷ [], refl)) refl refl refl refl
+      (later_still p.stops s refl refl refl refl refl refl (Found k count ∷ [], refl)) refl refl refl refl (own_still p.stops s refl refl refl refl)
       (λ i. record (own_of p) { moves = told_more p.stops.moves (Found k count ∷ []) i })
 
   -- a patch after a stretch with these moves, in which at most the gate was taken

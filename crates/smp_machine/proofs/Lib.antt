@@ -12,10 +12,15 @@ pub mod Served
 pub mod Works
 -- what a look and a turn leave of a CPU
 pub mod Turns
+-- and what it answers to its own stops
+pub mod OwnAnswers
+pub mod OwnTurns
 -- the works of stops
 pub mod StopWorks
 -- a stop, out of its parts
 pub mod Stopping
+-- what a stop of itself alone answers
+pub mod OwnCounts
 -- a patch, out of its parts
 pub mod KeyStops
 -- a CPU goes on with a work until it is completed

@@ -13,6 +13,7 @@ use Rattle.smp_machine.specs.Passes.{PassesValue}
 use Rattle.smp_machine.specs.Place.{MachineValue, PlaceValue}
 use Rattle.smp_machine.specs.Takes.{TakesFront, EntersFront, TakesNext, TakesWork}
 use Rattle.smp_machine.specs.Works.{Works, LooksOnceMore, LooksOnceOrMore, TurnsStop, ReadsAnew}
+use Rattle.smp_machine.proofs.OwnAnswers.{own_still}
 use Rattle.smp_machine.proofs.Served.{beginning_still, later_still, serves_next}
 use Rattle.smp_machine.proofs.Works.{works_own, works_none, works_then, works_as}
 
@@ -99,7 +100,8 @@ module _ {H F : Type 0} (hears : H → Heard → H → Type 0) (leads : F → Ca
       (ap (λ (c : StopCpuValue). c.setting) e) (ap (λ (c : StopCpuValue). c.number) e) (ap (λ (c : StopCpuValue). c.part.begun) e)
       (ap (λ (c : StopCpuValue). c.part.collected) e) (ap (λ (c : StopCpuValue). c.part.calls) e)
       (beginning_still old.stops.moves new.stops.moves (ap (λ (c : StopCpuValue). c.moves) e))) (ap (λ (c : StopCpuValue). c.part.calls) e) p.0 p.1
-      (serves_next m old new slot t))
+      (serves_next m old new slot t) (own_still old.stops new.stops (ap (λ (c : StopCpuValue). c.part.calls) e)
+      (ap (λ (c : StopCpuValue). c.part.begun) e) (ap (λ (c : StopCpuValue). c.pending) e) (ap (λ (c : StopCpuValue). c.part.answers) e)))
 
   pub works_take : (m : MachineValue) (old new : PlaceValue) (h : H) (f : F) (there : Bool) (o : Option Inside) → old.stops.inside ≡ o
       → TakesWork m old new there → Works hears leads old h f new h f (own_of old)

@@ -7,7 +7,6 @@ use Rattle.smp_call_steps.specs.Order.{order}
 use Rattle.smp_queue.specs.Cpu.{CpuValue as CallCpuValue}
 use Rattle.smp_queue.specs.Handling.{Grows, asks, drains}
 use Rattle.smp_queue.specs.declared.handler.Heard.{Heard}
-use Rattle.smp_calls.specs.Handles.{Handles}
 use Rattle.smp_calls.proofs.Turns.{handles_none, handles_nothing, handles_batch}
 use Rattle.smp_mask.specs.declared.error.SmpError.{SmpError}
 use Rattle.smp_mask.specs.declared.error.SmpError.TheVariants as error
@@ -24,13 +23,11 @@ use Rattle.smp_stop_steps.specs.Labels.{patch_answer}
 use Rattle.smp_stop_steps.specs.Starts.{answer_word}
 use Rattle.smp_stop_steps.specs.Tells.{first_readings}
 use Rattle.smp_stop_steps.specs.declared.phase.TheConstants.{DISABLE_IRQ, RUN, EXIT}
-use Rattle.smp_machine.specs.Own.{own_of}
-use Rattle.smp_machine.specs.Passes.{PassesValue}
 use Rattle.smp_machine.specs.Place.{PlaceValue, HasNotLeft}
-use Rattle.smp_machine.specs.Works.{handled_calls, stop_call, turned, HasRun, Works, Hears, LooksOnce, LooksIfOn, StopMoves, GoesRound}
+use Rattle.smp_machine.specs.Works.{stop_call, turned, HasRun, LooksOnce, LooksIfOn, StopMoves, GoesRound}
 use Rattle.smp_machine.specs.Served.{KeepsVisits}
 use Rattle.smp_machine.specs.Works.{completed, StaysIn, TurnsStop}
-use Rattle.smp_machine.proofs.Served.{beginning_still, later_called, keeps_still, keeps_inside, keeps_answer, serves_none}
+use Rattle.smp_machine.proofs.Served.{keeps_still, keeps_inside, keeps_answer}
 
 module _ {H : Type 0} (hears : H → Heard → H → Type 0) where
   -- one look, by what `handle` answers
@@ -61,34 +58,6 @@ module _ {H : Type 0} (hears : H → Heard → H → Type 0) where
     once = λ on. absurd (true≢false (sym on ∙ off));
     off = λ _. (refl, refl);
   }
-
--- a look, and then a turn of a stop
-pub works_turn : {H F : Type 0} (hears : H → Heard → H → Type 0) (leads : F → Called → F → Type 0) {old mid new : PlaceValue} {h h' : H} {f f' : F}
-    → Hears hears old h mid h' → new.calls ≡ mid.calls → new.passes ≡ mid.passes → StopMoves leads mid.stops f new.stops f'
-    → Works hears leads old h f new h' f' (own_of old)
-works_turn hears leads {old} {mid} {new} {h} {h'} {f} {f'} l calls passes s =
-    let k : StopMoves leads old.stops f new.stops f' = subst (λ (x : StopCpuValue). StopMoves leads x f new.stops f') l.stops_are s in
-    let passed : new.passes ≡ old.passes = passes ∙ l.passes_are in
-    let table = ap (λ (x : StopCpuValue). x.table) k.kept in
-    let setting = ap (λ (x : StopCpuValue). x.setting) k.kept in
-    let number = ap (λ (x : StopCpuValue). x.number) k.kept in
-    record {
-      calls_kept = subst (λ (x : CallCpuValue). x ≡ handled_calls old.calls x) (sym calls) l.calls_kept;
-      handled = subst (λ (x : CallCpuValue). Handles hears old.calls h x h') (sym calls) l.handled;
-      table_is = table;
-      setting_is = setting;
-      number_is = number;
-      ran = k.ran;
-      calls_are = k.calls_are;
-      grows = k.grows;
-      queues_are = ap (λ (x : PassesValue). x.queues) passed;
-      passes_number = ap (λ (x : PassesValue). x.number) passed;
-      later = later_called old.stops new.stops (map stop_call k.ran) table setting number (ap (λ (x : StopCpuValue). x.part.begun) k.kept)
-          (ap (λ (x : StopCpuValue). x.part.collected) k.kept) k.calls_are
-          (beginning_still old.stops.moves new.stops.moves (ap (λ (x : StopCpuValue). x.moves) k.kept));
-      serves = serves_none old new (ap (λ (x : PassesValue). x.taken) passed) (ap (λ (x : StopCpuValue). x.attempts) k.kept) k.keeps;
-      own_is = λ i. own_of (record { calls = new.calls; stops = k.kept i; passes = passed i });
-    }
 
 -- a stop of several CPUs, or of one
 

@@ -10,8 +10,10 @@ use Rattle.smp_multi.specs.Names.{StopCall}
 use Rattle.smp_multi.specs.declared.func.Called.{Called}
 use Rattle.smp_machine.specs.Own.{Own, own_of}
 use Rattle.smp_machine.specs.Place.{MachineValue, PlaceValue, IsAt}
+use Rattle.smp_machine.specs.OwnAnswers.{OwnAnswers}
 use Rattle.smp_machine.specs.Served.{IsLater, Serves}
 use Rattle.smp_machine.specs.Works.{handled_calls, stop_call, HasRun, Works}
+use Rattle.smp_machine.proofs.OwnAnswers.{own_still, own_then}
 use Rattle.smp_machine.proofs.Served.{later_same, later_then, serves_still, serves_then}
 
 folds-append : {P A : Type 0} (R : P → A → P → Type 0) (xs ys : List A) (p q r : P) → FoldsTo R p xs q → FoldsTo R q ys r → FoldsTo R p (xs ++ ys) r
@@ -32,8 +34,8 @@ module _ {H F : Type 0} (hears : H → Heard → H → Type 0) (leads : F → Ca
   -- only what its own stop calls change has changed, or what it has taken
   pub works_own : (old new : PlaceValue) (h : H) (f : F) → new.calls ≡ old.calls → IsLater old.stops new.stops
       → new.stops.part.calls ≡ old.stops.part.calls → new.passes.queues ≡ old.passes.queues → new.passes.number ≡ old.passes.number
-      → Serves old new → Works hears leads old h f new h f (own_of new)
-  works_own old new h f calls later ran queues passes_number serves = record {
+      → Serves old new → OwnAnswers old.stops new.stops → Works hears leads old h f new h f (own_of new)
+  works_own old new h f calls later ran queues passes_number serves mine = record {
     calls_kept = subst (λ (x : CallCpuValue). x ≡ handled_calls old.calls x) (sym calls) refl;
     handled = subst (λ (x : CallCpuValue). Handles hears old.calls h x h) (sym calls) (handles_none hears old.calls h);
     table_is = later.table_is;
@@ -46,6 +48,7 @@ module _ {H F : Type 0} (hears : H → Heard → H → Type 0) (leads : F → Ca
     passes_number = passes_number;
     later = later;
     serves = serves;
+    mine = mine;
     own_is = refl;
   }
 
@@ -53,13 +56,13 @@ module _ {H F : Type 0} (hears : H → Heard → H → Type 0) (leads : F → Ca
   pub works_still : (old new : PlaceValue) (h : H) (f : F) → new.calls ≡ old.calls → IsLater old.stops new.stops
       → new.stops.part.calls ≡ old.stops.part.calls → new.stops.part.answers ≡ old.stops.part.answers → new.stops.inside ≡ old.stops.inside
       → new.stops.attempts ≡ old.stops.attempts → new.passes.queues ≡ old.passes.queues → new.passes.number ≡ old.passes.number → new.passes.taken ≡ old.passes.taken
-      → Works hears leads old h f new h f (own_of new)
-  works_still old new h f calls later ran answers inside attempts queues passes_number taken =
-      works_own old new h f calls later ran queues passes_number (serves_still old new taken answers inside attempts)
+      → OwnAnswers old.stops new.stops → Works hears leads old h f new h f (own_of new)
+  works_still old new h f calls later ran answers inside attempts queues passes_number taken mine =
+      works_own old new h f calls later ran queues passes_number (serves_still old new taken answers inside attempts) mine
 
   -- nothing was done
   pub works_none : (p : PlaceValue) (h : H) (f : F) → Works hears leads p h f p h f (own_of p)
-  works_none p h f = works_still p p h f refl (later_same p.stops) refl refl refl refl refl refl refl
+  works_none p h f = works_still p p h f refl (later_same p.stops) refl refl refl refl refl refl refl (own_still p.stops p.stops refl refl refl refl)
 
   -- one stretch, and then another
   pub works_then : {old mid new : PlaceValue} {h h₁ h₂ : H} {f f₁ f₂ : F} {own own' : Own} → Works hears leads old h f mid h₁ f₁ own
@@ -78,6 +81,7 @@ module _ {H F : Type 0} (hears : H → Heard → H → Type 0) (leads : F → Ca
     passes_number = b.passes_number ∙ a.passes_number;
     later = later_then old.stops mid.stops new.stops a.later b.later;
     serves = serves_then old mid new a.setting_is a.serves b.serves;
+    mine = own_then old.stops mid.stops new.stops a.number_is a.mine b.mine;
     own_is = b.own_is;
   }
 

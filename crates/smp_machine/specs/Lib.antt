@@ -20,6 +20,8 @@ pub mod Threads
 pub mod Own
 -- what became of the works that it has taken
 pub mod Served
+-- what it answers to its own stops
+pub mod OwnAnswers
 -- what a CPU does between two points of a call
 pub mod Works
 -- what a CPU takes from its own queue

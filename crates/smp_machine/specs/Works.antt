@@ -18,6 +18,7 @@ use Rattle.smp_multi.specs.declared.func.Called.{Called}
 use Rattle.smp_multi.specs.declared.turn.Turn.{Turn}
 use Rattle.smp_multi.specs.declared.turn.Turn.TheVariants.{Same, Left}
 use Rattle.smp_machine.specs.Own.{Own, own_of}
+use Rattle.smp_machine.specs.OwnAnswers.{OwnAnswers}
 use Rattle.smp_machine.specs.Place.{PlaceValue}
 use Rattle.smp_machine.specs.Served.{KeepsVisits, IsLater, Serves}
 
@@ -44,7 +45,8 @@ abbrev pub HasRun : {F : Type 0} → (F → Called → F → Type 0) → ℕ →
 HasRun leads number before ran after = FoldsTo (λ p call q. (call.cpu ≡ number) × leads p call q) before ran after
 
 -- A CPU has handled interrupts and taken part in stops: its handler has heard just what it has run, its stop function
--- has run just its calls, the works that it has taken were served, and of what only its own stop calls change this is left.
+-- has run just its calls, the works that it has taken were served, its answers to its own stops were given by these calls, and
+-- of what only its own stop calls change this is left.
 pub record Works {H F : Type 0} (hears : H → Heard → H → Type 0) (leads : F → Called → F → Type 0) (old : PlaceValue) (h : H) (f : F)
     (new : PlaceValue) (h' : H) (f' : F) (own : Own) : Type 0 where
   pub calls_kept : new.calls ≡ handled_calls old.calls new.calls
@@ -59,6 +61,7 @@ pub record Works {H F : Type 0} (hears : H → Heard → H → Type 0) (leads : 
   pub passes_number : new.passes.number ≡ old.passes.number
   pub later : IsLater old.stops new.stops
   pub serves : Serves old new
+  pub mine : OwnAnswers old.stops new.stops
   pub own_is : own_of new ≡ own
 
 -- the handler has heard what one look at the interrupt word, or none, has taken; the rest of the CPU is as it was

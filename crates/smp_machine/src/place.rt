@@ -2,9 +2,11 @@
 
 ghost use Rattle.std.specs.Prelude.{◌≡◌, ◌≢◌, ◌<◌, None, true, false};
 ghost use Rattle.smp_words.specs.Size.{cpus};
+ghost use Rattle.smp_multi.specs.Laws.{IsShown};
+ghost use Rattle.smp_machine.specs.Place.{HasNotLeft};
 
 use crate::stoppers::Passes;
-use smp_multi::StopCpu;
+use smp_multi::{StopCpu, StopTable};
 use smp_queue::CallCpu;
 use std::alloc::Allocator;
 use std::marker::Model;
@@ -34,6 +36,14 @@ impl<A: Allocator> Place<A> {
         ensures below { result < cpus }
     {
         self.calls.number()
+    }
+
+    /// Some words of the stop table show its part of the stops; and it has not left its stop. It makes no step.
+    pub(crate) fn is_shown(&self, table: &StopTable<A>)
+        ensures shown { IsShown self.now.stops }
+        ensures not_left { HasNotLeft self.now.stops.inside }
+    {
+        smp_multi::laws::is_shown(table, &self.stops);
     }
 
     /// Whether a work is in hand. Where none is, interrupts are on.

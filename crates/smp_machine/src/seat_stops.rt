@@ -3,6 +3,7 @@
 ghost use Rattle.std.specs.Prelude.{◌≡◌, ◌≢◌, true, None, IfOk, IfErr};
 ghost use Rattle.smp_mask.specs.Mask.{has};
 ghost use Rattle.smp_machine.specs.Moves.{long_stop, short_stop};
+ghost use Rattle.smp_machine.specs.OwnAnswers.{HasCalledFor};
 ghost use Rattle.smp_machine.specs.Seats.{IsSameSeat, SeatStopped};
 ghost use Rattle.smp_machine.specs.Stops.{IsOneWork, IsTwoWork, IsMachineWork, RefusesOne, RefusesTwo};
 
@@ -20,6 +21,7 @@ impl<'m, A: Allocator, R: Wait, H: Handler + Drop, F: StopFunc + Drop> Seat<'m, 
     ///
     /// The stop begins at the store of its roll, by the CPU that holds the gate. It waits for the gate, which it gives up
     /// once the work is queued, and for its stop: `dst` must poll, and the CPU that holds the gate. Meanwhile it polls.
+    /// Where `dst` is the calling CPU, the function is called here, and its answer is what it has answered.
     ///
     /// E4 (`SmpError::BadArgument`) where a work is in hand; then E3 (`SmpError::NoStopper`) where `dst` is not online. A
     /// refusal makes no step.
@@ -29,6 +31,7 @@ impl<'m, A: Allocator, R: Wait, H: Handler + Drop, F: StopFunc + Drop> Seat<'m, 
         ensures online { IfOk result (λ _. has self.old.machine.stops.setting.online dst ≡ true) }
         ensures ok { IfOk result (λ v. (work : Work) × IsOneWork dst func arg work
             × SeatStopped H.leads F.leads short_stop work self.old self.new v) }
+        ensures own { IfOk result (λ v. dst ≡ self.old.cpu.stops.number → HasCalledFor func arg self.old.cpu.stops self.new.cpu.stops v) }
         ensures err { IfErr result (λ e. RefusesOne self.old.machine.stops self.old.cpu dst e) }
         ensures kept { IfErr result (λ _. self.new ≡ self.old) }
         ensures same { IsSameSeat self.old self.new }

@@ -14,6 +14,7 @@ ghost use Rattle.smp_machine.specs.declared.work_queue.Knows.TheVariants.{Puts};
 ghost use Rattle.smp_machine.specs.Passes.{puts};
 ghost use Rattle.smp_machine.specs.Place.{IsAt};
 ghost use Rattle.smp_machine.specs.Own.{own_of, with_gate, with_moves, with_put};
+ghost use Rattle.smp_machine.specs.OwnAnswers.{RunsItself};
 ghost use Rattle.smp_machine.specs.Stops.{MayBegin, item, AreShown, HasCollected, HasStopped};
 ghost use Rattle.smp_machine.specs.WorkQueue.{IsKnown};
 ghost use Rattle.smp_machine.specs.Works.{Works};
@@ -220,16 +221,21 @@ pub(crate) fn stop<A: Allocator, R: Wait, H: Handler, F: StopFunc>(
     requires outside { me.old.stops.inside ≡ None }
     requires collected { me.old.stops.pending ≡ None }
     requires work { MayBegin machine.now.stops work.now }
-    ensures { HasStopped H.leads F.leads (stop_moves long) work.now me.old handler.old run.old me.new handler.new run.new result }
+    ensures stopped { HasStopped H.leads F.leads (stop_moves long) work.now me.old handler.old run.old me.new handler.new run.new result }
+    ensures own { RunsItself work.now me.old.stops me.new.stops result }
 {
+    me.is_shown(&machine.stops);
     take_gate(machine, rt, me, handler, run);
     begin(machine, me, work);
     put_to_all(machine, rt, me, handler, run, work);
     if long {
         let answer = collect(machine, rt, me, handler, run);
         give_gate(machine, me);
+        me.is_shown(&machine.stops);
         return answer;
     }
     give_gate(machine, me);
-    collect(machine, rt, me, handler, run)
+    let answer = collect(machine, rt, me, handler, run);
+    me.is_shown(&machine.stops);
+    answer
 }

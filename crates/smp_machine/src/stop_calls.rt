@@ -6,6 +6,7 @@
 ghost use Rattle.std.specs.Prelude.{◌≡◌, ◌≢◌, true, false, None, IfOk, IfErr};
 ghost use Rattle.smp_mask.specs.Mask.{has};
 ghost use Rattle.smp_machine.specs.Moves.{short_stop, long_stop};
+ghost use Rattle.smp_machine.specs.OwnAnswers.{HasCalledFor};
 ghost use Rattle.smp_machine.specs.Place.{IsAt};
 ghost use Rattle.smp_machine.specs.Stops.{HasStopped, IsOneWork, IsTwoWork, IsMachineWork, RefusedStill, RefusesOne, RefusesTwo};
 
@@ -26,6 +27,8 @@ impl<A: Allocator> Machine<A> {
     /// The stop begins at the store of its roll, by who holds the gate. It waits for the gate, which it gives up once the
     /// work is queued, and for its stop: `dst` must poll, and who holds the gate. Meanwhile it polls.
     ///
+    /// Where `dst` is the calling CPU, the function is called here, and its answer is what it has answered.
+    ///
     /// E4 where a work is in hand; then E3 where `dst` is not online. A refusal makes no step.
     pub fn stop_one<R: Wait, H: Handler, F: StopFunc>(
         &self,
@@ -42,6 +45,7 @@ impl<A: Allocator> Machine<A> {
         ensures online { IfOk result (λ _. has self.now.stops.setting.online dst ≡ true) }
         ensures ok { IfOk result (λ v. (work : Work) × IsOneWork dst func arg work
             × HasStopped H.leads F.leads short_stop work me.old handler.old run.old me.new handler.new run.new v) }
+        ensures own { IfOk result (λ v. dst ≡ me.old.stops.number → HasCalledFor func arg me.old.stops me.new.stops v) }
         ensures err { IfErr result (λ e. RefusesOne self.now.stops me.old dst e) }
         ensures kept { IfErr result (λ _. RefusedStill me.old handler.old run.old me.new handler.new run.new) }
     {

@@ -94,6 +94,7 @@ pub(crate) fn turn<A: Allocator, H: Handler, F: StopFunc>(
     ensures passes { me.new.passes ≡ me.old.passes }
 {
     handle_if_on(machine, me, handler);
+    me.is_shown(&machine.stops);
     step(machine, me, func)
 }
 

@@ -3,11 +3,13 @@ use Rattle.std.proofs.lemmas.Int.{to_z-of_z}
 use mir.Syntax.{w32}
 use mir.Val.{SFits}
 use Rattle.smp_machine.specs.Place.{PlaceValue}
+use Rattle.smp_machine.specs.Moves.{stop_moves}
+use Rattle.smp_machine.proofs.OwnCounts.{stop_itself}
 use Rattle.smp_machine.proofs.Stopping.{stop_queued, stop_long, stop_short, stop_as}
 use Rattle.smp_machine.proofs.stop.stop.Goals as goal
 
-pub returns-then-long : goal.returns-then-long
-returns-then-long g c =
+pub returns-then-long-clause-stopped : goal.returns-then-long-clause-stopped
+returns-then-long-clause-stopped g c =
     let v = c.collect-answer.result in
     let fits : SFits w32 v = search rules in
     stop_as g.H.Handler.leads g.F.StopFunc.leads c.if-long.true
@@ -16,12 +18,22 @@ returns-then-long g c =
     (stop_queued g.H.Handler.leads g.F.StopFunc.leads c.args.work.now c.take_gate.ensures.works c.begin.ensures c.put_to_all.ensures.works)
     c.put_to_all.ensures.shown c.collect-answer.ensures c.give_gate.ensures)
 
-pub returns : goal.returns
-returns g c =
-    let v = c.collect.result in
+pub returns-then-long-clause-own : goal.returns-then-long-clause-own
+returns-then-long-clause-own g c =
+    stop_itself g.H.Handler.leads g.F.StopFunc.leads (stop_moves c.args.long) c.args.work.now _ c.is_shown.ensures.shown c.is_shown-then-long.ensures.shown
+    c.requires.collected (returns-then-long-clause-stopped g c)
+
+pub returns-clause-stopped : goal.returns-clause-stopped
+returns-clause-stopped g c =
+    let v = c.collect-answer-2.result in
     let fits : SFits w32 v = search rules in
     stop_as g.H.Handler.leads g.F.StopFunc.leads c.if-long.false
     (stop_short g.H.Handler.leads g.F.StopFunc.leads c.args.work.now _ v (to_z-of_z w32 v fits)
     (ap (λ (p : PlaceValue). p.stops.number) c.begin.ensures ∙ c.take_gate.ensures.works.number_is)
     (stop_queued g.H.Handler.leads g.F.StopFunc.leads c.args.work.now c.take_gate.ensures.works c.begin.ensures c.put_to_all.ensures.works)
-    c.put_to_all.ensures.shown c.give_gate-2.ensures c.collect.ensures)
+    c.put_to_all.ensures.shown c.give_gate-2.ensures c.collect-answer-2.ensures)
+
+pub returns-clause-own : goal.returns-clause-own
+returns-clause-own g c =
+    stop_itself g.H.Handler.leads g.F.StopFunc.leads (stop_moves c.args.long) c.args.work.now _ c.is_shown.ensures.shown c.is_shown-2.ensures.shown
+    c.requires.collected (returns-clause-stopped g c)
