@@ -1,0 +1,21 @@
+-- What two steps show, one after the other.
+use Rattle.std.proofs.Common.{◌≡◌, ℕ, ◌+◌, ◌%◌, ◌^◌, ◌<◌, Bool, true, false, List, [], ◌∷◌, ◌++◌, length, count_by, refl, ap, ◌∙◌, sym, subst, arith, IsPermutation}
+use Rattle.std.proofs.lemmas.List.{append_assoc, append-nil}
+use Rattle.std.proofs.lemmas.List.Sorted.{IsPermutation-trans, IsPermutation-append_left, IsPermutation-append_right, IsPermutation-refl, IsPermutation-append_comm}
+use Rattle.smp_event_steps.specs.declared.call.Call.{Call}
+use Rattle.smp_event_laws.specs.History.{held}
+
+-- lists end as they go on
+pub joined : {X : Type 0} (a began over b more after c : List X) → a ++ began ≡ over ++ b → b ++ more ≡ after ++ c → a ++ (began ++ more) ≡ (over ++ after) ++ c
+joined a began over b more after c e f = sym (append_assoc a began more) ∙ ap (λ xs. xs ++ more) e ∙ append_assoc over b more ∙ ap (λ xs. over ++ xs) f ∙ sym (append_assoc over after c)
+
+pub joined_order : {X : Type 0} (a took began b more after c : List X) → a ++ took ≡ began ++ b → b ++ more ≡ after ++ c → a ++ (took ++ more) ≡ (began ++ after) ++ c
+joined_order a took began b more after c e f = joined a took began b more after c e f
+
+-- what was held and queued is what began and is held
+pub joined_once : {X : Type 0} (a queued began b more after c : List X) → IsPermutation (a ++ queued) (began ++ b) → IsPermutation (b ++ more) (after ++ c)
+    → IsPermutation (a ++ (queued ++ more)) ((began ++ after) ++ c)
+joined_once a queued began b more after c e f =
+    rw (← append_assoc a queued more, append_assoc began after c)
+    (IsPermutation-trans ((a ++ queued) ++ more) ((began ++ b) ++ more) (began ++ (after ++ c)) (IsPermutation-append_left more (a ++ queued) (began ++ b) e)
+    (rw (append_assoc began b more) (IsPermutation-append_right began (b ++ more) (after ++ c) f)))

@@ -1,0 +1,12 @@
+pub mod Binds
+pub mod CallEvents
+pub mod Cpus
+pub mod Drained
+pub mod Joins
+pub mod Others
+pub mod Placed
+pub mod Places
+pub mod Shifts
+pub mod Shown
+pub mod States
+pub mod Traces

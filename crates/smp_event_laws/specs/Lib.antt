@@ -1,0 +1,5 @@
+pub mod Drained
+pub mod Events
+pub mod History
+pub mod Places
+pub mod Traces

@@ -1,0 +1,37 @@
+//! The laws of calls, of every trace that the model accepts: events that lead from a state in which nothing has happened to
+//! another. Each law is said over what the events show. These functions do nothing.
+
+ghost use Rattle.smp_event_laws.specs.Drained.{DrainedEquals};
+ghost use Rattle.smp_event_laws.specs.Places.{InOnePlace};
+ghost use Rattle.smp_event_laws.specs.Traces.{BeginInOrder, BeginOnce, CountsAre, EndOnce, OfEachTrace, IsTrace};
+ghost use Rattle.smp_event_steps.specs.declared.event.Event.{Event};
+ghost use Rattle.smp_event_steps.specs.declared.without.Setting.{Setting};
+ghost use Rattle.smp_event_steps.specs.State.{StateValue};
+ghost use Rattle.smp_labels.specs.declared.words.LabelWords.{LabelWords};
+ghost use Rattle.std.specs.Prelude.{ℕ, List};
+
+/// A call begins at most once, on the CPU that it was queued for, with its record, function and argument: what a CPU's `begin`
+/// events tell, with the calls that it still holds, are the calls that were queued for it, in some order. And it ends at most
+/// once: the records of a CPU's `begin` events are those of its `end` events, in that order, and that of the call that runs.
+pub fn calls_run_once()
+    ensures begin { OfEachTrace BeginOnce }
+    ensures end { OfEachTrace EndOnce }
+{}
+
+/// Calls begin in the order of the queues that a CPU takes: at each `take` the calls that were queued since the one before,
+/// SYNC ones first, each class as it was queued.
+pub fn calls_begin_in_order()
+    ensures { OfEachTrace BeginInOrder }
+{}
+
+/// A CPU's counts are those of the events, modulo 2^64. Once all is drained, each call has ended, and for each pair of CPUs the
+/// calls that ran are as many as those that were queued.
+pub fn drained_runs_equal_queued()
+    ensures counts { OfEachTrace CountsAre }
+    ensures drained { OfEachTrace DrainedEquals }
+{}
+
+/// Each record is in one place: it is free, or it is once in one queue, in one batch, or of one call that runs.
+pub fn records_are_in_one_place()
+    ensures { (u : Setting) (words : LabelWords) (es : List (ℕ × Event)) (t : StateValue) → IsTrace u words es t → InOnePlace t }
+{}
