@@ -1,5 +1,5 @@
 -- Steps that were made.
-use Rattle.std.proofs.Common.{◌≡◌, ℕ, ◌⊎◌, Bool, true, false, if◌then◌else◌, Result, Ok, Err, refl, inl, inr}
+use Rattle.std.proofs.Common.{◌≡◌, Bool, true, false, if◌then◌else◌, Result, Ok, Err, refl}
 use Rattle.smp_script.specs.Faults.{◌>>=◌}
 use Rattle.smp_event_steps.specs.declared.reason.Reason.{Reason}
 

@@ -1,5 +1,5 @@
 -- What each event of calls shows.
-use Rattle.std.proofs.Common.{◌≡◌, ℕ, ◌+◌, ◌<◌, ◌≢◌, ◌⊎◌, Bool, true, false, not, ◌&&◌, cond, if◌then◌else◌, List, [], ◌∷◌, ◌++◌, map, length, Option, Some, None, Result, Ok, Err, refl, ap, ◌∙◌, sym, subst, arith, is_some}
+use Rattle.std.proofs.Common.{◌≡◌, ℕ, ◌<◌, Bool, true, false, not, ◌&&◌, if◌then◌else◌, List, [], ◌∷◌, map, length, Result, Ok, Err, refl, ap, sym, subst, is_some}
 use Rattle.std.specs.Prelude.{◌==◌}
 use Rattle.std.proofs.lemmas.Bool.{eqb-true, eqb-false}
 use Rattle.smp_mask.specs.Mask.{has}
@@ -7,24 +7,22 @@ use Rattle.smp_script.specs.Faults.{◌>>=◌}
 use Rattle.smp_words.specs.declared.call.Class.{Class}
 use Rattle.smp_event_steps.specs.declared.call.Call.{Call}
 use Rattle.smp_event_steps.specs.declared.call.Place.{Place}
-use Rattle.smp_event_steps.specs.declared.call.Place.TheVariants.{Free, Queue, Batch, Run}
+use Rattle.smp_event_steps.specs.declared.call.Place.TheVariants.{Free, Queue}
 use Rattle.smp_event_steps.specs.declared.cpu.Entry.{Entry}
-use Rattle.smp_event_steps.specs.declared.event.CallEvent.{CallEvent}
 use Rattle.smp_event_steps.specs.declared.event.CallEvent.TheVariants as calls
 use Rattle.smp_event_steps.specs.declared.event.Event.{Event}
 use Rattle.smp_event_steps.specs.declared.event.Event.TheVariants as event
 use Rattle.smp_event_steps.specs.declared.reason.Reason.{Reason}
 use Rattle.smp_event_steps.specs.declared.reason.Reason.TheVariants as reason
-use Rattle.smp_event_steps.specs.Calls.{accept_by, begin_by, end_by, entered_by, freed_if, idle_by, joined, joined_first, moved, on_cpu, placed_unless, queue_by, send_by, take_by, unlock_by}
-use Rattle.smp_event_steps.specs.Cpu.{CpuState, accepted, as_idle, begun, begun_loose, ended, handles_nothing, interrupted, is_empty, may_take, noted, not_over, owed_if, pushed, runs_locked, sent, taken, unlocked}
+use Rattle.smp_event_steps.specs.Calls.{accept_by, begin_by, end_by, entered_by, freed_if, joined, moved, on_cpu, placed_unless, queue_by, send_by, take_by, unlock_by}
+use Rattle.smp_event_steps.specs.Cpu.{CpuState, accepted, ended, handles_nothing, interrupted, is_empty, may_take, noted, not_over, pushed, runs_locked, sent, taken, unlocked}
 use Rattle.smp_event_steps.specs.Places.{is_batch}
 use Rattle.smp_event_steps.specs.State.{StateValue, cpu_at, freed, place_at, place_reason, with_cpu, with_place}
-use Rattle.smp_event_steps.specs.Step.{call_goes, goes}
 use Rattle.smp_event_laws.specs.Events.{begin_of, begins_now, ends_now, id_of, notes_now, only_if, queued_now, takes_now}
 use Rattle.smp_event_laws.specs.History.{Shows}
 use Rattle.smp_event_laws.proofs.Binds.{both_made, passed, failed}
-use Rattle.smp_event_laws.proofs.Cpus.{BeginShown, EndShown, SameCalls, shows_begun, shows_begun_loose, shows_ended, shows_noted, shows_pushed, shows_same, shows_taken, shows_unlocked}
-use Rattle.smp_event_laws.proofs.States.{Goes, GoesQuietly, Quiet, cpu_changed, freed_goes, goes_elsewhere, goes_first, goes_here, goes_last, goes_quiet, goes_same}
+use Rattle.smp_event_laws.proofs.Cpus.{BeginShown, SameCalls, shows_begun, shows_begun_loose, shows_ended, shows_noted, shows_pushed, shows_same, shows_taken, shows_unlocked}
+use Rattle.smp_event_laws.proofs.States.{Goes, GoesQuietly, freed_goes, goes_elsewhere, goes_first, goes_here, goes_last, goes_quiet, goes_same}
 
 -- An event shows these calls of a CPU.
 pub record EventShows (order : Bool) (cpu : ℕ) (e : ℕ × Event) (s t : StateValue) : Type 0 where

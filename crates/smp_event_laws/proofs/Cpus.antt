@@ -1,8 +1,8 @@
 -- What each step of a CPU shows of its calls.
-use Rattle.std.proofs.Common.{◌≡◌, ℕ, ◌+◌, ◌*◌, ◌/◌, ◌%◌, ◌^◌, ◌<◌, ◌≢◌, Bool, true, false, cond, not, ◌&&◌, if◌then◌else◌, List, [], ◌∷◌, ◌++◌, length, count_by, filter, Option, Some, None, Result, Ok, Err, refl, ap, ◌∙◌, sym, subst, arith, get_or, IsPermutation}
-use Rattle.std.specs.Prelude.{slice_set, slice_index_or, ◌==◌}
+use Rattle.std.proofs.Common.{◌≡◌, ℕ, ◌+◌, ◌*◌, ◌/◌, ◌%◌, ◌^◌, ◌<◌, ◌≢◌, Bool, true, false, cond, not, ◌&&◌, if◌then◌else◌, List, [], ◌∷◌, ◌++◌, length, count_by, Option, Some, None, Ok, Err, refl, ap, ◌∙◌, sym, subst, arith, get_or, IsPermutation}
+use Rattle.std.specs.Prelude.{slice_index_or, ◌==◌}
 use Rattle.std.proofs.lemmas.List.{append_assoc, append-nil, length-set, get_or-set_same, get_or-set_other}
-use Rattle.std.proofs.lemmas.List.Sorted.{IsPermutation-trans, IsPermutation-append_left, IsPermutation-append_right, IsPermutation-refl, IsPermutation-append_comm, IsPermutation-filter_both, IsPermutation-remove, IsPermutation-middle}
+use Rattle.std.proofs.lemmas.List.Sorted.{IsPermutation-trans, IsPermutation-append_right, IsPermutation-refl, IsPermutation-filter_both, IsPermutation-remove, IsPermutation-middle}
 use Rattle.smp_words.specs.declared.call.Class.{Class}
 use Rattle.smp_words.specs.declared.call.Class.TheVariants.{Sync, Async}
 use Rattle.smp_script.specs.Faults.{◌>>=◌}
@@ -14,13 +14,13 @@ use Rattle.smp_event_steps.specs.declared.cpu.Entry.{Entry}
 use Rattle.smp_event_steps.specs.declared.reason.Reason.{Reason}
 use Rattle.smp_event_steps.specs.declared.reason.Reason.TheVariants as reason
 use Rattle.std.proofs.lemmas.Bool.{eqb-true, eqb-false, and_parts}
-use Rattle.smp_event_steps.specs.Cpu.{CpuState, after_end, at_call, begun, begun_any, begun_at, begun_front, begun_loose, begun_with, call_at, counted, ended, ended_at, ended_with, front_of, is_async, is_class, is_of, is_sync, left_batch, loose_with, not_over, noted, of_class, order, over_with, place_in, pushed, rest_of, slipped_any, slipped_at, slipped_from_batch, slipped_from_queue, slipped_front, taken, unlocked, unlocked_front, unlocked_running, unlocked_with, with_irq}
+use Rattle.smp_event_steps.specs.Cpu.{CpuState, after_end, at_call, begun, begun_any, begun_at, begun_front, begun_loose, begun_with, call_at, counted, ended, ended_at, ended_with, front_of, is_async, is_class, is_of, is_sync, left_batch, loose_with, not_over, noted, order, over_with, place_in, pushed, rest_of, slipped_any, slipped_at, slipped_from_batch, slipped_from_queue, slipped_front, taken, unlocked, unlocked_front, unlocked_running, unlocked_with}
 use Rattle.std.specs.List.{remove}
 use Rattle.std.proofs.Math.Nat.{mod-add-div', add-mul-mod_self_right}
 use Rattle.std.proofs.lemmas.Option.{get_or_from_slice_get}
 use Rattle.std.proofs.lemmas.List.Quantifiers.{position-Some}
-use Rattle.smp_event_laws.specs.Events.{Begin, begin_of, queue_next, taken_now}
-use Rattle.smp_event_laws.specs.History.{Shows, held, is_from, ran_at, running, running_at, running_with, unlocked_at, unlocked_with as held_unlocked, waiting}
+use Rattle.smp_event_laws.specs.Events.{begin_of}
+use Rattle.smp_event_laws.specs.History.{Shows, is_from, ran_at, running, running_at, running_with, unlocked_at, unlocked_with as held_unlocked, waiting}
 use Rattle.smp_event_laws.proofs.Binds.{both_made, passed, failed}
 
 -- the calls of a CPU are as before

@@ -1,5 +1,5 @@
 -- What is run is what was queued, once all is drained.
-use Rattle.std.proofs.Common.{◌≡◌, ℕ, ◌+◌, ◌%◌, ◌^◌, ◌<◌, ◌≤◌, ◌⊎◌, Bool, true, false, not, cond, List, [], ◌∷◌, ◌++◌, map, length, count_by, Option, Some, None, Result, Ok, Err, refl, ap, ◌∙◌, sym, subst, arith, get_or, IsPermutation, inl, inr}
+use Rattle.std.proofs.Common.{◌≡◌, ℕ, ◌%◌, ◌^◌, ◌<◌, ◌≤◌, Bool, true, false, not, cond, List, [], ◌∷◌, length, count_by, Option, Some, None, refl, ap, ◌∙◌, sym, arith, get_or, IsPermutation, inl, inr}
 use Rattle.std.specs.Prelude.{is_err}
 use Rattle.std.proofs.lemmas.Bool.{cases_lt}
 use Rattle.std.proofs.lemmas.List.{append-nil, get_or_past}
@@ -9,15 +9,14 @@ use Rattle.smp_labels.specs.declared.words.LabelWords.{LabelWords}
 use Rattle.smp_event_steps.specs.declared.call.Call.{Call}
 use Rattle.smp_event_steps.specs.declared.call.Current.{Current}
 use Rattle.smp_event_steps.specs.declared.event.Event.{Event}
-use Rattle.smp_event_steps.specs.declared.reason.Reason.{Reason}
 use Rattle.smp_event_steps.specs.declared.without.Setting.{Setting}
-use Rattle.smp_event_steps.specs.Cpu.{CpuState, fresh_cpu, handles_nothing, is_empty, over_with, quiet_with}
-use Rattle.smp_event_steps.specs.Ending.{busy_of, has_calls, heads_of, is_busy, queued_by, ran_of}
+use Rattle.smp_event_steps.specs.Cpu.{CpuState, fresh_cpu, is_empty, over_with, quiet_with}
+use Rattle.smp_event_steps.specs.Ending.{has_calls, is_busy}
 use Rattle.smp_event_steps.specs.State.{StateValue, cpu_at}
-use Rattle.smp_event_laws.specs.Drained.{DrainedEquals, IsDrained, RunEqualsQueued}
-use Rattle.smp_event_laws.specs.Events.{ends, id_of, queued}
+use Rattle.smp_event_laws.specs.Drained.{DrainedEquals, IsDrained}
+use Rattle.smp_event_laws.specs.Events.{id_of, queued}
 use Rattle.smp_event_laws.specs.History.{held, is_from, running}
-use Rattle.smp_event_laws.specs.Traces.{CountsAre, IsTrace}
+use Rattle.smp_event_laws.specs.Traces.{IsTrace}
 use Rattle.smp_event_laws.proofs.Traces.{counts_are}
 
 -- where none passes, this one does not

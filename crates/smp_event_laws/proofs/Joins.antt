@@ -1,9 +1,7 @@
 -- What two steps show, one after the other.
-use Rattle.std.proofs.Common.{◌≡◌, ℕ, ◌+◌, ◌%◌, ◌^◌, ◌<◌, Bool, true, false, List, [], ◌∷◌, ◌++◌, length, count_by, refl, ap, ◌∙◌, sym, subst, arith, IsPermutation}
-use Rattle.std.proofs.lemmas.List.{append_assoc, append-nil}
-use Rattle.std.proofs.lemmas.List.Sorted.{IsPermutation-trans, IsPermutation-append_left, IsPermutation-append_right, IsPermutation-refl, IsPermutation-append_comm}
-use Rattle.smp_event_steps.specs.declared.call.Call.{Call}
-use Rattle.smp_event_laws.specs.History.{held}
+use Rattle.std.proofs.Common.{◌≡◌, List, ◌++◌, ap, ◌∙◌, sym, IsPermutation}
+use Rattle.std.proofs.lemmas.List.{append_assoc}
+use Rattle.std.proofs.lemmas.List.Sorted.{IsPermutation-trans, IsPermutation-append_left, IsPermutation-append_right}
 
 -- lists end as they go on
 pub joined : {X : Type 0} (a began over b more after c : List X) → a ++ began ≡ over ++ b → b ++ more ≡ after ++ c → a ++ (began ++ more) ≡ (over ++ after) ++ c

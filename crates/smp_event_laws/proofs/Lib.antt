@@ -1,3 +1,4 @@
+pub mod AtRun
 pub mod Binds
 pub mod CallEvents
 pub mod Cpus
@@ -6,7 +7,12 @@ pub mod Joins
 pub mod Others
 pub mod Placed
 pub mod Places
+pub mod Rests
+pub mod Rounds
 pub mod Shifts
 pub mod Shown
 pub mod States
 pub mod Traces
+pub mod RoundEvents
+pub mod RoundEnds
+pub mod RoundPhases

@@ -1,11 +1,10 @@
 -- Events of stops and of labels leave calls as they are.
-use Rattle.std.proofs.Common.{◌≡◌, ℕ, ◌+◌, ◌-◌, ◌<◌, ◌≢◌, ◌⊎◌, Bool, true, false, not, ◌&&◌, if◌then◌else◌, List, length, Option, Some, None, Result, Ok, Err, refl, ap, ◌∙◌, sym, subst, arith, inl, inr}
+use Rattle.std.proofs.Common.{◌≡◌, ℕ, ◌<◌, Bool, true, false, not, ◌&&◌, if◌then◌else◌, length, Option, Some, None, Result, Ok, Err, refl, ap, ◌∙◌, subst, inl, inr}
 use Rattle.std.specs.Prelude.{ℤ, ◌==◌, nat_lt}
 use Rattle.std.proofs.lemmas.Bool.{cases_eq}
 use Rattle.std.proofs.lemmas.List.{length-set}
 use Rattle.smp_mask.specs.Mask.{has}
 use Rattle.smp_labels.specs.declared.patch.Place.{Place}
-use Rattle.smp_labels.specs.declared.words.LabelWords.{LabelWords}
 use Rattle.smp_script.specs.Faults.{◌>>=◌}
 use Rattle.smp_words.specs.declared.work.Kind.{Kind}
 use Rattle.smp_words.specs.declared.work.Kind.TheVariants.{One, Multi, Patch as APatch}
@@ -18,13 +17,13 @@ use Rattle.smp_event_steps.specs.declared.reason.Reason.TheVariants as reason
 use Rattle.smp_event_steps.specs.declared.stop.Patch.{Patch}
 use Rattle.smp_event_steps.specs.declared.stop.Stop.{Stop}
 use Rattle.smp_event_steps.specs.declared.stop.Task.{Task}
-use Rattle.smp_event_steps.specs.Cpu.{CpuState, handles_nothing, in_stop, with_interrupts}
-use Rattle.smp_event_steps.specs.Labels.{nudged, to_be, popped, stored}
+use Rattle.smp_event_steps.specs.Cpu.{CpuState, in_stop, with_interrupts}
+use Rattle.smp_event_steps.specs.Labels.{nudged, to_be, popped}
 use Rattle.smp_event_steps.specs.State.{StateValue, cpu_at, stop_at, with_cpu, with_stop}
 use Rattle.smp_event_steps.specs.Step.{key_by, label_goes, nudge_by, nudged_word, reads_by, site_by, site_word, stop_goes}
 use Rattle.smp_labels.specs.declared.patch.Place.TheVariants.{Key, Site}
 use Rattle.smp_event_steps.specs.Stop.{acknowledged, at_phase, collected, completed, entered, has_run, is_cpu, opened, raised, ran_function, through}
-use Rattle.smp_event_steps.specs.Stops.{ack_by, acked, acks_as, acks_at_run, acks_disabled, collect_by, complete_by, enter_by, enter_from, entered_open, gate_by, gate_with, holds_gate, in_patch, in_round, is_store, made_store, may_ack, may_off, may_open, next_store, off_by, on_by, on_stop, open_by, patch_by, patch_left, patch_over, raise_by, run_as, run_by, stop_of, switched, switched_at, switched_on, ungate_by, with_inside, with_irq, with_patch, with_word}
+use Rattle.smp_event_steps.specs.Stops.{ack_by, acked, acks_as, acks_at_run, acks_disabled, collect_by, complete_by, enter_by, enter_from, entered_open, gate_by, gate_with, holds_gate, in_patch, in_round, is_store, made_store, may_ack, may_off, may_open, next_store, off_by, on_by, on_stop, open_by, patch_by, patch_left, patch_over, raise_by, run_as, run_by, stop_of, switched_at, switched_on, ungate_by, with_inside, with_irq, with_patch, with_word}
 use Rattle.smp_event_laws.proofs.Binds.{both_made, passed, failed}
 use Rattle.smp_event_laws.proofs.Cpus.{SameCalls}
 use Rattle.smp_event_laws.proofs.States.{cpu_changed, cpu_kept, same_calls}

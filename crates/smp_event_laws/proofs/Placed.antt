@@ -1,5 +1,5 @@
 -- Each event leaves each record in one place.
-use Rattle.std.proofs.Common.{◌≡◌, ℕ, ◌+◌, ◌<◌, ◌≤◌, ◌≢◌, ◌⊎◌, Bool, true, false, not, ◌&&◌, cond, if◌then◌else◌, List, [], ◌∷◌, ◌++◌, length, count_by, Option, Some, None, is_some, Result, Ok, Err, refl, ap, ◌∙◌, sym, subst, arith, get_or, replicate, inl, inr}
+use Rattle.std.proofs.Common.{◌≡◌, ℕ, ◌+◌, ◌<◌, ◌≤◌, ◌≢◌, ◌⊎◌, Bool, true, false, not, ◌&&◌, cond, if◌then◌else◌, List, [], ◌∷◌, length, count_by, is_some, Ok, Err, refl, ap, ◌∙◌, sym, subst, arith, inl, inr}
 use Rattle.std.specs.Prelude.{◌==◌, nat_lt, slice_set, slice_index_or}
 use Rattle.std.proofs.lemmas.Bool.{cases_eq, cases_lt, eq-eqb, ne_eqb}
 use Rattle.std.proofs.lemmas.List.{get_or-set_same, get_or-set_other, length-set, get_or-replicate, get_or_past, length-replicate}
@@ -17,24 +17,23 @@ use Rattle.smp_event_steps.specs.declared.event.CallEvent.{CallEvent}
 use Rattle.smp_event_steps.specs.declared.event.CallEvent.TheVariants as calls
 use Rattle.smp_event_steps.specs.declared.event.Event.{Event}
 use Rattle.smp_event_steps.specs.declared.event.Event.TheVariants as event
-use Rattle.smp_event_steps.specs.declared.reason.Reason.{Reason}
 use Rattle.smp_event_steps.specs.declared.reason.Reason.TheVariants as reason
 use Rattle.smp_event_steps.specs.declared.without.Setting.{Setting}
 use Rattle.smp_event_steps.specs.Calls.{accept_by, begin_by, end_by, entered_by, freed_if, idle_by, joined, moved, on_cpu, place_of_run, placed, placed_unless, queue_by, send_by, take_by, unlock_by}
-use Rattle.smp_event_steps.specs.Cpu.{CpuState, accepted, begun, begun_loose, ended, fresh_cpu, interrupted, is_empty, is_sync, may_take, noted, not_over, order, pushed, runs_locked, sent, slipped_from_batch, slipped_from_queue, taken, unlocked}
+use Rattle.smp_event_steps.specs.Cpu.{CpuState, accepted, ended, fresh_cpu, interrupted, is_empty, is_sync, may_take, noted, not_over, order, pushed, runs_locked, sent, slipped_from_batch, slipped_from_queue, taken, unlocked}
 use Rattle.smp_event_steps.specs.Opened.{opening, places_free}
 use Rattle.smp_event_steps.specs.Places.{is_batch}
 use Rattle.smp_event_steps.specs.Runs.{Runs}
-use Rattle.smp_event_steps.specs.State.{StateValue, cpu_at, freed, freed_by, freed_from, place_at, place_reason, slip_in, slipped, slipped_at, with_cpu, with_place}
+use Rattle.smp_event_steps.specs.State.{StateValue, cpu_at, freed, freed_by, freed_from, place_at, place_reason, slip_in, slipped_at, with_cpu, with_place}
 use Rattle.smp_event_steps.specs.Step.{call_goes, goes}
-use Rattle.smp_event_laws.specs.Places.{InOnePlace, PlacedAt, in_batch, in_queue, in_run, is_queue, is_record, is_run, one_if}
+use Rattle.smp_event_laws.specs.Places.{InOnePlace, PlacedAt, in_batch, in_queue, is_queue, is_record, one_if}
 use Rattle.smp_event_laws.specs.Traces.{IsTrace}
 use Rattle.smp_event_laws.proofs.Binds.{both_made, passed, failed}
 use Rattle.smp_event_laws.proofs.CallEvents.{accepted_same, made_on_cpu, may_take_over}
 use Rattle.smp_event_laws.proofs.Cpus.{order_moves, over_is}
-use Rattle.smp_event_laws.proofs.Others.{KeepsCalls, label_keeps_calls, stop_keeps_calls}
+use Rattle.smp_event_laws.proofs.Others.{label_keeps_calls, stop_keeps_calls}
 use Rattle.smp_event_laws.proofs.Places.{Placed, either_way, fresh_has_none, leaves, one_is, place_changed, placed_keeps, placed_move, placed_shift, placed_still, queue_is, shifted_away, async_kept}
-use Rattle.smp_event_laws.proofs.Shifts.{Kind, Nowhere, InQueue, InBatch, Running, Begins, Ends, Enters, IsUnlockedAsync, Leaves, Shift, begins_begun, begins_loose, count_cons, ends_ended, leaves_unlocked, place_of, run_kind, shift_pushed, slips_from_batch, slips_from_queue, stays}
+use Rattle.smp_event_laws.proofs.Shifts.{Kind, Nowhere, InQueue, InBatch, Running, Begins, Enters, IsUnlockedAsync, Shift, begins_begun, begins_loose, count_cons, ends_ended, leaves_unlocked, place_of, run_kind, shift_pushed, slips_from_batch, slips_from_queue, stays}
 use Rattle.smp_event_laws.proofs.States.{cpu_changed, cpu_kept}
 use Rattle.smp_event_laws.proofs.Traces.{cpus_at_first, fresh_at}
 

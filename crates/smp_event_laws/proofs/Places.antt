@@ -1,17 +1,16 @@
 -- Each record stays in one place.
-use Rattle.std.proofs.Common.{◌≡◌, ℕ, ◌+◌, ◌<◌, ◌≤◌, ◌≢◌, ◌⊎◌, Bool, true, false, not, ◌&&◌, cond, if◌then◌else◌, List, [], ◌∷◌, ◌++◌, length, count_by, Option, Some, None, is_some, Result, Ok, Err, refl, ap, ◌∙◌, sym, subst, arith, get_or, replicate, inl, inr}
-use Rattle.std.specs.Prelude.{◌==◌, nat_lt, slice_set, slice_index_or}
-use Rattle.std.proofs.lemmas.Bool.{eqb-true, eqb-false, eq-eqb, ne_eqb, cases_eq, cases_lt}
-use Rattle.std.proofs.lemmas.List.{get_or-set_same, get_or-set_other, length-set, get_or-replicate, get_or_past, length-replicate}
-use Rattle.smp_event_steps.specs.declared.call.Call.{Call}
+use Rattle.std.proofs.Common.{◌≡◌, ℕ, ◌+◌, ◌<◌, ◌≤◌, ◌≢◌, ◌⊎◌, Bool, true, false, ◌&&◌, length, refl, ap, ◌∙◌, sym, arith, inl, inr}
+use Rattle.std.specs.Prelude.{◌==◌}
+use Rattle.std.proofs.lemmas.Bool.{eqb-true, eq-eqb, ne_eqb, cases_eq, cases_lt}
+use Rattle.std.proofs.lemmas.List.{get_or-set_same, get_or-set_other, length-set, get_or_past}
 use Rattle.smp_event_steps.specs.declared.call.Place.{Place}
 use Rattle.smp_event_steps.specs.declared.call.Place.TheVariants.{Free, Queue, Batch, Run}
 use Rattle.smp_event_steps.specs.Cpu.{CpuState, fresh_cpu}
 use Rattle.smp_event_steps.specs.Places.{is_batch}
 use Rattle.smp_event_steps.specs.State.{StateValue, cpu_at, place_at, with_cpu, with_place}
-use Rattle.smp_event_laws.specs.Places.{InOnePlace, PlacedAt, in_batch, in_queue, in_run, is_queue, is_record, is_run, one_if}
+use Rattle.smp_event_laws.specs.Places.{InOnePlace, PlacedAt, in_batch, in_queue, in_run, is_queue, is_run, one_if}
 use Rattle.smp_event_laws.proofs.Others.{KeepsCalls}
-use Rattle.smp_event_laws.proofs.Shifts.{Kind, Nowhere, InQueue, InBatch, Running, IsUnlockedAsync, Shift, at_batch, at_queue, at_run, class_with, place_of, stays}
+use Rattle.smp_event_laws.proofs.Shifts.{Kind, Nowhere, InQueue, InBatch, Running, IsUnlockedAsync, Shift, at_batch, at_queue, at_run, place_of, stays}
 use Rattle.smp_event_laws.proofs.States.{cpu_changed, cpu_kept}
 
 -- Each record of the state is in one place, and what is unlocked before it begins is ASYNC.

@@ -1,9 +1,8 @@
 -- How a step of a CPU moves a record.
-use Rattle.std.proofs.Common.{◌≡◌, ℕ, ◌+◌, ◌<◌, ◌≤◌, ◌≢◌, ◌⊎◌, Bool, true, false, not, ◌&&◌, cond, if◌then◌else◌, List, [], ◌∷◌, ◌++◌, length, count_by, Option, Some, None, is_some, Result, Ok, Err, refl, ap, ◌∙◌, sym, subst, arith, get_or, IsPermutation, inl, inr}
+use Rattle.std.proofs.Common.{◌≡◌, ℕ, ◌+◌, ◌⊎◌, Bool, true, false, not, ◌&&◌, cond, if◌then◌else◌, List, [], ◌∷◌, ◌++◌, count_by, Option, Some, None, is_some, Ok, Err, refl, ap, ◌∙◌, subst, arith, IsPermutation, inl, inr}
 use Rattle.std.specs.Prelude.{◌==◌}
 use Rattle.std.specs.List.{remove}
-use Rattle.std.proofs.lemmas.Bool.{eqb-true, eqb-false, and_parts}
-use Rattle.std.proofs.lemmas.List.{append-nil}
+use Rattle.std.proofs.lemmas.Bool.{eqb-true, and_parts}
 use Rattle.std.proofs.lemmas.List.Sorted.{sum_by-IsPermutation}
 use Rattle.smp_words.specs.declared.call.Class.{Class}
 use Rattle.smp_words.specs.declared.call.Class.TheVariants.{Sync, Async}
@@ -17,9 +16,9 @@ use Rattle.smp_event_steps.specs.declared.call.Progress.TheVariants.{Unlocked, R
 use Rattle.smp_event_steps.specs.declared.cpu.Entry.{Entry}
 use Rattle.smp_event_steps.specs.declared.reason.Reason.{Reason}
 use Rattle.smp_event_steps.specs.declared.reason.Reason.TheVariants as reason
-use Rattle.smp_event_steps.specs.Cpu.{CpuState, after_end, at_call, begun, begun_any, begun_at, begun_front, begun_loose, begun_with, call_at, counted, ended, ended_at, ended_with, front_of, is_async, is_class, is_locked, is_of, is_sync, left_batch, loose_with, not_over, order, place_in, pushed, rest_of, runs_locked, slipped_any, slipped_at, slipped_from_batch, slipped_from_queue, slipped_front, taken, unlocked, unlocked_front, unlocked_running, unlocked_with, with_irq}
+use Rattle.smp_event_steps.specs.Cpu.{CpuState, after_end, at_call, begun, begun_any, begun_at, begun_front, begun_loose, begun_with, call_at, counted, ended, ended_at, ended_with, front_of, is_async, is_locked, is_of, is_sync, left_batch, loose_with, place_in, pushed, rest_of, runs_locked, slipped_any, slipped_at, slipped_from_batch, slipped_from_queue, slipped_front, unlocked, unlocked_front, unlocked_running, unlocked_with}
 use Rattle.smp_event_laws.specs.Events.{only_if}
-use Rattle.smp_event_laws.specs.Places.{in_batch, in_queue, in_run, is_record, locked_with, one_if}
+use Rattle.smp_event_laws.specs.Places.{in_batch, in_queue, in_run, is_record, one_if}
 use Rattle.smp_event_laws.proofs.Binds.{both_made, passed, failed}
 use Rattle.smp_event_laws.proofs.Cpus.{SameCalls, front_is, picked}
 use Rattle.smp_event_laws.proofs.Shown.{count_append}

@@ -1,28 +1,24 @@
 -- What the events of a run show of the calls of one CPU.
-use Rattle.std.proofs.Common.{◌≡◌, ℕ, ◌+◌, ◌%◌, ◌^◌, ◌<◌, Bool, true, false, not, cond, List, [], ◌∷◌, ◌++◌, map, length, count_by, Option, Some, None, Result, Ok, Err, refl, ap, ◌∙◌, sym, subst, arith, IsPermutation}
-use Rattle.std.proofs.lemmas.List.{append_assoc, append-nil, map-append}
-use Rattle.std.proofs.lemmas.List.Sorted.{IsPermutation-refl, IsPermutation-trans}
+use Rattle.std.proofs.Common.{◌≡◌, ℕ, ◌+◌, ◌<◌, Bool, true, false, not, cond, List, [], ◌∷◌, ◌++◌, length, count_by, Ok, refl, ap, ◌∙◌, sym, subst, arith}
+use Rattle.std.proofs.lemmas.List.{append-nil, map-append}
+use Rattle.std.proofs.lemmas.List.Sorted.{IsPermutation-refl}
 use Rattle.std.proofs.lemmas.List.Sums.{sum_by-append}
-use Rattle.smp_script.specs.Faults.{◌>>=◌}
-use Rattle.smp_event_steps.specs.declared.call.Call.{Call}
-use Rattle.smp_event_steps.specs.declared.cpu.Entry.{Entry}
 use Rattle.smp_event_steps.specs.declared.event.CallEvent.{CallEvent}
 use Rattle.smp_event_steps.specs.declared.event.CallEvent.TheVariants as calls
 use Rattle.smp_event_steps.specs.declared.event.Event.{Event}
 use Rattle.smp_event_steps.specs.declared.event.Event.TheVariants as event
-use Rattle.smp_event_steps.specs.declared.reason.Reason.{Reason}
 use Rattle.smp_event_steps.specs.Calls.{idle_by}
 use Rattle.smp_event_steps.specs.Runs.{Runs}
-use Rattle.smp_event_steps.specs.State.{StateValue, cpu_at, freed}
+use Rattle.smp_event_steps.specs.State.{StateValue, cpu_at}
 use Rattle.smp_event_steps.specs.Step.{call_goes, goes}
-use Rattle.smp_event_laws.specs.Events.{begin_of, begins, begins_now, ends, ends_now, id_of, notes, notes_now, queue_from, queue_next, queued, queued_now, taken_from, taken_now, takes_now}
-use Rattle.smp_event_laws.specs.History.{CallsShown, Shows, held, is_from, is_to, ran_at, running, waiting}
+use Rattle.smp_event_laws.specs.Events.{begin_of, begins, ends, id_of, notes, notes_now, queue_from, queue_next, queued, queued_now, taken_from, taken_now, takes_now}
+use Rattle.smp_event_laws.specs.History.{CallsShown, held, is_from, is_to, running, waiting}
 use Rattle.smp_event_laws.proofs.Binds.{both_made}
 use Rattle.smp_event_laws.proofs.CallEvents.{EventShows, accept_shows, begin_shows, end_shows, queue_shows, quiet_event, send_shows, take_shows, unlock_shows}
 use Rattle.smp_event_laws.proofs.Cpus.{shows_same}
 use Rattle.smp_event_laws.proofs.Joins.{joined, joined_once}
 use Rattle.smp_event_laws.proofs.Others.{KeepsCalls, label_keeps_calls, stop_keeps_calls}
-use Rattle.smp_event_laws.proofs.States.{Goes, GoesQuietly, freed_goes, goes_same}
+use Rattle.smp_event_laws.proofs.States.{GoesQuietly, freed_goes, goes_same}
 
 -- calls that are as before are quiet
 kept_goes : (told : Bool) (cpu : ℕ) (s t : StateValue) → cpu < length s.cpus → KeepsCalls s t → GoesQuietly told cpu s t

@@ -1,18 +1,15 @@
 -- What a step shows of the calls of one CPU of the state.
-use Rattle.std.proofs.Common.{◌≡◌, ℕ, ◌+◌, ◌%◌, ◌^◌, ◌<◌, ◌≢◌, ◌⊎◌, Bool, true, false, not, cond, if◌then◌else◌, List, [], ◌∷◌, ◌++◌, length, count_by, Option, Some, None, Result, Ok, Err, refl, ap, ◌∙◌, sym, subst, arith, get_or, IsPermutation, inl, inr}
-use Rattle.std.specs.Prelude.{slice_set, slice_index_or, ◌==◌, nat_lt}
-use Rattle.std.proofs.lemmas.List.{append_assoc, append-nil, length-set, get_or-set_same, get_or-set_other}
-use Rattle.std.proofs.lemmas.List.Sorted.{IsPermutation-trans, IsPermutation-append_left, IsPermutation-append_right, IsPermutation-refl}
-use Rattle.std.proofs.lemmas.Bool.{eqb-true, eqb-false, cases_eq, ltb-true}
-use Rattle.smp_script.specs.Faults.{◌>>=◌}
+use Rattle.std.proofs.Common.{◌≡◌, ℕ, ◌+◌, ◌<◌, ◌≢◌, Bool, true, false, not, if◌then◌else◌, List, [], ◌++◌, length, count_by, Ok, refl, ap, ◌∙◌, sym, subst, arith, IsPermutation, inl, inr}
+use Rattle.std.specs.Prelude.{nat_lt}
+use Rattle.std.proofs.lemmas.List.{append-nil, length-set, get_or-set_same, get_or-set_other}
+use Rattle.std.proofs.lemmas.List.Sorted.{IsPermutation-trans, IsPermutation-append_left, IsPermutation-append_right}
+use Rattle.std.proofs.lemmas.Bool.{cases_eq}
 use Rattle.smp_event_steps.specs.declared.call.Call.{Call}
 use Rattle.smp_event_steps.specs.declared.call.Place.{Place}
 use Rattle.smp_event_steps.specs.declared.call.Place.TheVariants.{Free, Queue, Batch, Run}
-use Rattle.smp_event_steps.specs.declared.reason.Reason.{Reason}
 use Rattle.smp_event_steps.specs.Cpu.{CpuState, fresh_cpu, slipped_from_batch, slipped_from_queue}
 use Rattle.smp_event_steps.specs.State.{StateValue, cpu_at, freed, freed_by, freed_from, slip_in, slipped, slipped_at, with_cpu, with_place, place_at}
-use Rattle.smp_event_laws.specs.Events.{queue_next, taken_now}
-use Rattle.smp_event_laws.specs.History.{Shows, held, is_from, ran_at, running, waiting}
+use Rattle.smp_event_laws.specs.History.{Shows, held, is_from, running, waiting}
 use Rattle.smp_event_laws.proofs.Cpus.{SameCalls, shows_same, shows_slipped_from_batch, shows_slipped_from_queue}
 
 -- no call is queued, none begins, and none ends

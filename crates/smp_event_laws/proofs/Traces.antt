@@ -1,8 +1,8 @@
 -- What traces show of calls.
-use Rattle.std.proofs.Common.{◌≡◌, ℕ, ◌+◌, ◌%◌, ◌^◌, ◌<◌, ◌≤◌, Bool, true, false, not, cond, List, [], ◌∷◌, ◌++◌, map, length, count_by, filter, Option, Some, None, Result, Ok, Err, refl, ap, ◌∙◌, sym, subst, arith, get_or, replicate, IsPermutation, is_err}
+use Rattle.std.proofs.Common.{◌≡◌, ℕ, ◌+◌, ◌%◌, ◌^◌, ◌<◌, Bool, true, false, cond, List, [], ◌∷◌, ◌++◌, map, length, count_by, filter, refl, ap, ◌∙◌, sym, arith, IsPermutation}
 use Rattle.std.proofs.lemmas.List.{append_assoc, append-nil, map-append, get_or-replicate, length-replicate}
 use Rattle.std.proofs.lemmas.List.Elements.{filter-append}
-use Rattle.std.proofs.lemmas.List.Sorted.{IsPermutation-map, IsPermutation-refl, sum_by-IsPermutation}
+use Rattle.std.proofs.lemmas.List.Sorted.{IsPermutation-map}
 use Rattle.std.specs.Prelude.{◌==◌}
 use Rattle.smp_labels.specs.declared.words.LabelWords.{LabelWords}
 use Rattle.smp_words.specs.declared.call.Class.{Class}
@@ -13,12 +13,11 @@ use Rattle.smp_event_steps.specs.declared.event.Event.TheVariants as event
 use Rattle.smp_event_steps.specs.declared.event.CallEvent.TheVariants as calls
 use Rattle.smp_event_steps.specs.declared.without.Setting.{Setting}
 use Rattle.smp_event_steps.specs.Cpu.{CpuState, fresh_cpu, is_class, of_class, order}
-use Rattle.smp_event_steps.specs.Ending.{queued_by, ran_of}
 use Rattle.smp_event_steps.specs.Opened.{opening}
 use Rattle.smp_event_steps.specs.State.{StateValue, cpu_at}
-use Rattle.smp_event_laws.specs.Events.{begin_of, begins, ends, id_of, notes, notes_now, only_if, queue_from, queue_next, queued, queued_now, taken_from, taken_now, takes_now}
+use Rattle.smp_event_laws.specs.Events.{begin_of, begins, id_of, notes, notes_now, only_if, queue_from, queue_next, queued, queued_now, taken_from, taken_now, takes_now}
 use Rattle.smp_event_laws.specs.History.{CallsShown, held, is_from, is_to, queued_at, ran_at, running, waiting}
-use Rattle.smp_event_laws.specs.Traces.{BeginInOrder, BeginOnce, CountsAre, EndOnce, IsTrace, record_of, taken, untaken}
+use Rattle.smp_event_laws.specs.Traces.{BeginInOrder, BeginOnce, CountsAre, EndOnce, IsTrace, record_of, taken}
 use Rattle.smp_event_laws.proofs.Shown.{calls_shown, count_append}
 
 -- before the first event, a CPU has done nothing

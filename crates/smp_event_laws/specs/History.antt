@@ -1,13 +1,13 @@
 -- The calls of one CPU, and what events tell of them.
-use Rattle.std.specs.Prelude.{◌≡◌, ℕ, ◌+◌, ◌%◌, ◌^◌, ◌<◌, Bool, true, false, not, ◌==◌, List, [], ◌∷◌, ◌++◌, map, length, count_by, slice_index_or, Option, Some, None, IsPermutation}
+use Rattle.std.specs.Prelude.{◌≡◌, ℕ, ◌+◌, ◌%◌, ◌^◌, ◌<◌, Bool, true, false, ◌==◌, List, [], ◌∷◌, ◌++◌, map, length, count_by, slice_index_or, Option, Some, None, IsPermutation}
 use Rattle.smp_event_steps.specs.declared.call.Call.{Call}
 use Rattle.smp_event_steps.specs.declared.call.Current.{Current}
 use Rattle.smp_event_steps.specs.declared.call.Progress.{Progress}
-use Rattle.smp_event_steps.specs.declared.call.Progress.TheVariants.{Unlocked, Runs, Ended}
+use Rattle.smp_event_steps.specs.declared.call.Progress.TheVariants.{Unlocked, Runs}
 use Rattle.smp_event_steps.specs.declared.event.Event.{Event}
 use Rattle.smp_event_steps.specs.Cpu.{CpuState}
 use Rattle.smp_event_steps.specs.State.{StateValue, cpu_at}
-use Rattle.smp_event_laws.specs.Events.{begin_of, begins, begins_now, ends, ends_now, id_of, notes, queue_from, queue_next, queued, queued_now, taken_from, taken_now, takes_now}
+use Rattle.smp_event_laws.specs.Events.{begin_of, begins, ends, id_of, notes, queue_from, queue_next, queued, taken_from, taken_now}
 
 -- the call whose function runs
 abbrev pub running_at : Progress → Call → List Call

@@ -2,4 +2,5 @@ pub mod Drained
 pub mod Events
 pub mod History
 pub mod Places
+pub mod Rounds
 pub mod Traces

@@ -1,10 +1,9 @@
 -- Where each record is.
-use Rattle.std.specs.Prelude.{◌≡◌, ℕ, ◌<◌, Bool, true, false, cond, ◌==◌, List, [], ◌∷◌, count_by, Option, Some, None}
-use Rattle.smp_words.specs.declared.call.Class.{Class}
+use Rattle.std.specs.Prelude.{◌≡◌, ℕ, ◌<◌, Bool, false, cond, ◌==◌, List, [], ◌∷◌, count_by, Option, Some, None}
 use Rattle.smp_event_steps.specs.declared.call.Call.{Call}
 use Rattle.smp_event_steps.specs.declared.call.Current.{Current}
 use Rattle.smp_event_steps.specs.declared.call.Place.{Place}
-use Rattle.smp_event_steps.specs.declared.call.Place.TheVariants.{Free, Queue, Batch, Run}
+use Rattle.smp_event_steps.specs.declared.call.Place.TheVariants.{Queue, Run}
 use Rattle.smp_event_steps.specs.declared.call.Progress.{Progress}
 use Rattle.smp_event_steps.specs.declared.call.Progress.TheVariants.{Unlocked, Runs, Ended}
 use Rattle.smp_event_steps.specs.Cpu.{CpuState, is_sync}

@@ -1,5 +1,5 @@
 -- Traces that the model accepts, and what they show of calls.
-use Rattle.std.specs.Prelude.{◌≡◌, ℕ, ◌+◌, ◌%◌, ◌^◌, ◌<◌, Bool, false, List, [], ◌++◌, map, length, count_by, IsPermutation}
+use Rattle.std.specs.Prelude.{◌≡◌, ℕ, ◌%◌, ◌^◌, ◌<◌, false, List, [], ◌++◌, map, count_by, IsPermutation}
 use Rattle.smp_labels.specs.declared.words.LabelWords.{LabelWords}
 use Rattle.smp_words.specs.declared.call.Class.{Class}
 use Rattle.smp_event_steps.specs.declared.call.Call.{Call}

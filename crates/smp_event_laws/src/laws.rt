@@ -1,8 +1,9 @@
-//! The laws of calls, of every trace that the model accepts: events that lead from a state in which nothing has happened to
+//! The laws of calls and of stops, of every trace that the model accepts: events that lead from a state in which nothing has happened to
 //! another. Each law is said over what the events show. These functions do nothing.
 
 ghost use Rattle.smp_event_laws.specs.Drained.{DrainedEquals};
 ghost use Rattle.smp_event_laws.specs.Places.{InOnePlace};
+ghost use Rattle.smp_event_laws.specs.Rounds.{FunctionsRunAtRun, PatchesStoreAtRun};
 ghost use Rattle.smp_event_laws.specs.Traces.{BeginInOrder, BeginOnce, CountsAre, EndOnce, OfEachTrace, IsTrace};
 ghost use Rattle.smp_event_steps.specs.declared.event.Event.{Event};
 ghost use Rattle.smp_event_steps.specs.declared.without.Setting.{Setting};
@@ -34,4 +35,12 @@ pub fn drained_runs_equal_queued()
 /// Each record is in one place: it is free, or it is once in one queue, in one batch, or of one call that runs.
 pub fn records_are_in_one_place()
     ensures { (u : Setting) (words : LabelWords) (es : List (ℕ × Event)) (t : StateValue) → IsTrace u words es t → InOnePlace t }
+{}
+
+/// A function runs once, in the stop that its CPU is in, with the argument that was opened. That of a rendezvous runs only at RUN,
+/// and so a patch stores: the CPU is active and has not acknowledged RUN, and each CPU of the mask is in this stop, has
+/// acknowledged DISABLE_IRQ and not EXIT, has its interrupts off, and runs no call.
+pub fn functions_run_at_run()
+    ensures run { FunctionsRunAtRun }
+    ensures store { PatchesStoreAtRun }
 {}
