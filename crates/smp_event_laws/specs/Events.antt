@@ -1,10 +1,11 @@
 -- What events tell of the calls of one CPU.
-use Rattle.std.specs.Prelude.{ℕ, Bool, true, false, ◌==◌, List, [], ◌∷◌, ◌++◌}
+use Rattle.std.specs.Prelude.{ℕ, Bool, true, false, ◌==◌, List, [], ◌∷◌, ◌++◌, filter}
+use Rattle.smp_words.specs.declared.call.Class.{Class}
+use Rattle.smp_words.specs.declared.call.Class.TheVariants.{Sync, Async}
 use Rattle.smp_event_steps.specs.declared.call.Call.{Call}
 use Rattle.smp_event_steps.specs.declared.event.CallEvent.TheVariants as calls
 use Rattle.smp_event_steps.specs.declared.event.Event.{Event}
 use Rattle.smp_event_steps.specs.declared.event.Event.TheVariants as event
-use Rattle.smp_event_steps.specs.Cpu.{order}
 
 -- a call, as its `begin` tells it
 pub record Begin : Type 0 where
@@ -73,9 +74,19 @@ abbrev pub queue_next : Bool → List Call → List Call → List Call
 queue_next true queue more = []
 queue_next false queue more = queue ++ more
 
+-- two classes are the same
+abbrev pub same_class : Class → Class → Bool
+same_class Sync Sync = true
+same_class Async Async = true
+same_class _ _ = false
+
+-- the calls of a class, as they stand in a list
+abbrev pub calls_of : Class → List Call → List Call
+calls_of class calls = filter (λ call. same_class class call.class) calls
+
 -- the calls that are taken now, in the order in which they are to run: SYNC ones first, each class as it was queued
 abbrev pub taken_now : Bool → List Call → List Call
-taken_now true queue = order queue
+taken_now true queue = calls_of Sync queue ++ calls_of Async queue
 taken_now false queue = []
 
 -- the calls that the CPU takes: at each `take` those that were queued since the one before, SYNC ones first

@@ -1,15 +1,15 @@
 -- Where each record is.
 use Rattle.std.specs.Prelude.{◌≡◌, ℕ, ◌<◌, Bool, false, cond, ◌==◌, List, [], ◌∷◌, count_by, Option, Some, None}
+use Rattle.smp_words.specs.declared.call.Class.TheVariants.{Sync}
 use Rattle.smp_event_steps.specs.declared.call.Call.{Call}
 use Rattle.smp_event_steps.specs.declared.call.Current.{Current}
 use Rattle.smp_event_steps.specs.declared.call.Place.{Place}
-use Rattle.smp_event_steps.specs.declared.call.Place.TheVariants.{Queue, Run}
+use Rattle.smp_event_steps.specs.declared.call.Place.TheVariants.{Queue, Batch, Run}
 use Rattle.smp_event_steps.specs.declared.call.Progress.{Progress}
 use Rattle.smp_event_steps.specs.declared.call.Progress.TheVariants.{Unlocked, Runs, Ended}
-use Rattle.smp_event_steps.specs.Cpu.{CpuState, is_sync}
-use Rattle.smp_event_steps.specs.Places.{is_batch}
+use Rattle.smp_event_steps.specs.Cpu.{CpuState}
 use Rattle.smp_event_steps.specs.State.{StateValue, cpu_at, place_at}
-use Rattle.smp_event_laws.specs.Events.{only_if}
+use Rattle.smp_event_laws.specs.Events.{only_if, same_class}
 
 -- the call of this record
 abbrev pub is_record : ℕ → Call → Bool
@@ -17,7 +17,7 @@ is_record r call = call.id == r
 
 -- a call that a CPU runs, with a record that is locked: a SYNC call, until its record is unlocked
 abbrev pub locked_at : Progress → Call → List Call
-locked_at Runs call = only_if (is_sync call.class) call
+locked_at Runs call = only_if (same_class Sync call.class) call
 locked_at Ended call = call ∷ []
 locked_at Unlocked call = []
 
@@ -28,10 +28,14 @@ locked_with (Some x) = locked_at x.progress x.call
 abbrev pub locked : CpuState → List Call
 locked c = locked_with c.current
 
--- a place is the queue of a CPU, or the call that it runs
+-- a place is the queue of a CPU, its batch, or the call that it runs
 abbrev pub is_queue : Place → ℕ → Bool
 is_queue (Queue d) cpu = d == cpu
 is_queue _ cpu = false
+
+abbrev pub is_batch : Place → ℕ → Bool
+is_batch (Batch d) cpu = d == cpu
+is_batch _ cpu = false
 
 abbrev pub is_run : Place → ℕ → Bool
 is_run (Run d) cpu = d == cpu

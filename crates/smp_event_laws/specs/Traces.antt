@@ -5,12 +5,11 @@ use Rattle.smp_words.specs.declared.call.Class.{Class}
 use Rattle.smp_event_steps.specs.declared.call.Call.{Call}
 use Rattle.smp_event_steps.specs.declared.event.Event.{Event}
 use Rattle.smp_event_steps.specs.declared.without.Setting.{Setting}
-use Rattle.smp_event_steps.specs.Cpu.{of_class}
 use Rattle.smp_event_steps.specs.Ending.{queued_by, ran_of}
 use Rattle.smp_event_steps.specs.Opened.{opening}
 use Rattle.smp_event_steps.specs.Runs.{Runs}
 use Rattle.smp_event_steps.specs.State.{StateValue, cpu_at}
-use Rattle.smp_event_laws.specs.Events.{Begin, begin_of, begins, ends, id_of, queue_from, queued, taken_from}
+use Rattle.smp_event_laws.specs.Events.{Begin, begin_of, begins, calls_of, ends, id_of, queue_from, queued, taken_from}
 use Rattle.smp_event_laws.specs.History.{held, is_from, running, waiting}
 
 -- these events lead here, from a state in which nothing has happened
@@ -48,7 +47,7 @@ untaken cpu es = queue_from cpu [] es
 pub record BeginInOrder (u : Setting) (es : List (ℕ × Event)) (t : StateValue) (cpu : ℕ) : Type 0 where
   pub begun : u.without.order ≡ false → map begin_of (taken cpu es) ≡ begins cpu es ++ map begin_of (waiting (cpu_at t cpu))
   pub queue : u.without.order ≡ false → (cpu_at t cpu).queue ≡ untaken cpu es
-  pub classes : (class : Class) → of_class class (taken cpu es) ++ of_class class (untaken cpu es) ≡ of_class class (queued cpu es)
+  pub classes : (class : Class) → calls_of class (taken cpu es) ++ calls_of class (untaken cpu es) ≡ calls_of class (queued cpu es)
 
 -- The counts of a CPU are those of the events: of each source, how many calls were queued for the CPU, and how many have ended
 -- there. Those that ended, the one that runs and those that are held are the calls that were queued.
