@@ -8,7 +8,6 @@ use Rattle.smp_words.specs.declared.call.Class.{Class}
 use Rattle.smp_event_steps.specs.declared.call.Call.{Call}
 use Rattle.smp_event_steps.specs.declared.call.Place.{Place}
 use Rattle.smp_event_steps.specs.declared.call.Place.TheVariants.{Free, Queue}
-use Rattle.smp_event_steps.specs.declared.cpu.Entry.{Entry}
 use Rattle.smp_event_steps.specs.declared.event.CallEvent.TheVariants as calls
 use Rattle.smp_event_steps.specs.declared.event.Event.{Event}
 use Rattle.smp_event_steps.specs.declared.event.Event.TheVariants as event
@@ -194,11 +193,11 @@ unlock_shows order cpu actor id s t below e =
     (goes_last (not order) cpu [] false [] [] [] s n.0 (with_place id Free n.0) h (goes_same (not order) cpu n.0 (with_place id Free n.0) refl refl)))
 
 -- a CPU enters a function
-entered_shows : (order : Bool) (actor : ℕ) (seen : Entry) (place : Place) (s : StateValue) (c : CpuState) → entered_by order actor seen place s ≡ Ok c
-    → BeginShown (not order) seen (cpu_at s actor) c
-entered_shows true actor seen place s c e = shows_begun_loose seen (place_reason seen.id place) (cpu_at s actor) c e
-entered_shows false actor seen place s c e =
-    shows_begun true seen (is_batch place actor) (place_reason seen.id place) (not s.setting.without.unlocks) (cpu_at s actor) c e
+entered_shows : (order : Bool) (actor : ℕ) (id func info : ℕ) (place : Place) (s : StateValue) (c : CpuState) → entered_by order actor (record { id = id; func = func; info = info }) place s ≡ Ok c
+    → BeginShown (not order) id func info (cpu_at s actor) c
+entered_shows true actor id func info place s c e = shows_begun_loose id func info (place_reason id place) (cpu_at s actor) c e
+entered_shows false actor id func info place s c e =
+    shows_begun true id func info (is_batch place actor) (place_reason id place) (not s.setting.without.unlocks) (cpu_at s actor) c e
 
 placed_goes : (told : Bool) (cpu actor id : ℕ) (unless : Bool) (s : StateValue) → GoesQuietly told cpu s (placed_unless unless actor id s)
 placed_goes told cpu actor id true s = goes_same told cpu s s refl refl
@@ -217,13 +216,12 @@ pub begin_shows : (order : Bool) (cpu actor id func info : ℕ) (s t : StateValu
     → begin_by actor (record { id = id; func = func; info = info }) s ≡ Ok t → EventShows order cpu (actor, event.Call (calls.Begin id func info)) s t
 unfolding begin_by
 begin_shows order cpu actor id func info s t o below e =
-    let seen : Entry = record { id = id; func = func; info = info } in
     let place = place_at s id in
     let unless = is_some (cpu_at s actor).current in
-    let made = entered_by s.setting.without.order actor seen place s in
+    let made = entered_by s.setting.without.order actor (record { id = id; func = func; info = info }) place s in
     let n = both_made (on_cpu actor s made) (λ x. Ok (placed_unless unless actor id x)) t e in
     let m = made_on_cpu actor s n.0 made n.1.0 in
-    let shown = subst (λ (b : Bool). BeginShown (not b) seen (cpu_at s actor) m.0) o (entered_shows s.setting.without.order actor seen place s m.0 m.1.0) in
+    let shown = subst (λ (b : Bool). BeginShown (not b) id func info (cpu_at s actor) m.0) o (entered_shows s.setting.without.order actor id func info place s m.0 m.1.0) in
     let same : placed_unless unless actor id n.0 ≡ t = cc in
     let g = by_actor (not order) cpu actor (shown.call ∷ []) [] s m.0 below shown.shows (actor == cpu) refl in
     ends_at order cpu (actor, event.Call (calls.Begin id func info)) s (placed_unless unless actor id n.0) t same

@@ -10,7 +10,6 @@ use Rattle.smp_event_steps.specs.declared.call.Call.{Call}
 use Rattle.smp_event_steps.specs.declared.call.Current.{Current}
 use Rattle.smp_event_steps.specs.declared.call.Progress.{Progress}
 use Rattle.smp_event_steps.specs.declared.call.Progress.TheVariants.{Unlocked, Runs, Ended}
-use Rattle.smp_event_steps.specs.declared.cpu.Entry.{Entry}
 use Rattle.smp_event_steps.specs.declared.reason.Reason.{Reason}
 use Rattle.smp_event_steps.specs.declared.reason.Reason.TheVariants as reason
 use Rattle.std.proofs.lemmas.Bool.{eqb-true, eqb-false, and_parts}
@@ -165,24 +164,24 @@ pub shows_unlocked : (told : Bool) (r : ℕ) (here : Bool) (elsewhere : Reason) 
 shows_unlocked told r here elsewhere a b e = shows_unlocked_with told a.current r here elsewhere a b refl e
 
 -- a call has the function and argument that are seen
-of_is : (seen : Entry) (call : Call) (u : Unit {0}) → is_of seen call ≡ Ok u → (call.func ≡ seen.func) × (call.info ≡ seen.info)
-of_is seen call u e =
-    let p = passed ((call.func == seen.func) && (call.info == seen.info)) (Ok tt) (reason.CallIs call.func call.info) u e in
-    let q = and_parts (call.func == seen.func) (call.info == seen.info) p.0 in
-    (eqb-true call.func seen.func q.0, eqb-true call.info seen.info q.1)
+of_is : (id func info : ℕ) (call : Call) (u : Unit {0}) → is_of (record { id = id; func = func; info = info }) call ≡ Ok u → (call.func ≡ func) × (call.info ≡ info)
+of_is id func info call u e =
+    let p = passed ((call.func == func) && (call.info == info)) (Ok tt) (reason.CallIs call.func call.info) u e in
+    let q = and_parts (call.func == func) (call.info == info) p.0 in
+    (eqb-true call.func func q.0, eqb-true call.info info q.1)
 
 -- A call begins on a CPU, with the record, function and argument that are seen.
-pub record BeginShown (told : Bool) (seen : Entry) (a b : CpuState) : Type 0 where
+pub record BeginShown (told : Bool) (id func info : ℕ) (a b : CpuState) : Type 0 where
   pub call : Call
-  pub begin_is : begin_of call ≡ record { id = seen.id; func = seen.func; info = seen.info }
+  pub begin_is : begin_of call ≡ record { id = id; func = func; info = info }
   pub shows : Shows told [] false (call ∷ []) [] [] a b
 
-begin_shown : (told : Bool) (seen : Entry) (call : Call) (a b c : CpuState) (u : Unit {0}) → call.id ≡ seen.id → is_of seen call ≡ Ok u
-    → Shows told [] false (call ∷ []) [] [] a c → c ≡ b → BeginShown told seen a b
-begin_shown told seen call a b c u same_id e shows same =
-    let o = of_is seen call u e in
-    let f : call.func ≡ seen.func = o.0 in
-    let i : call.info ≡ seen.info = o.1 in
+begin_shown : (told : Bool) (id func info : ℕ) (call : Call) (a b c : CpuState) (u : Unit {0}) → call.id ≡ id → is_of (record { id = id; func = func; info = info }) call ≡ Ok u
+    → Shows told [] false (call ∷ []) [] [] a c → c ≡ b → BeginShown told id func info a b
+begin_shown told id func info call a b c u same_id e shows same =
+    let o = of_is id func info call u e in
+    let f : call.func ≡ func = o.0 in
+    let i : call.info ≡ info = o.1 in
     record {
       call = call;
       begin_is = rw (same_id, f, i) refl;
@@ -190,39 +189,39 @@ begin_shown told seen call a b c u same_id e shows same =
     }
 
 -- the call that is unlocked begins
-shows_begun_at : (told : Bool) (progress : Progress) (seen : Entry) (call : Call) (a b : CpuState) → a.current ≡ at_call progress call
-    → begun_at progress seen call a ≡ Ok b → BeginShown told seen a b
-shows_begun_at told Unlocked seen call a b is e =
+shows_begun_at : (told : Bool) (progress : Progress) (id func info : ℕ) (call : Call) (a b : CpuState) → a.current ≡ at_call progress call
+    → begun_at progress (record { id = id; func = func; info = info }) call a ≡ Ok b → BeginShown told id func info a b
+shows_begun_at told Unlocked id func info call a b is e =
     let c = record a { current = at_call Runs call } in
-    let p = passed (call.id == seen.id) (is_of seen call >>= λ u. Ok c) (reason.ComesFirst call.id) b e in
-    let m = both_made (is_of seen call) (λ u. Ok c) b p.1 in
-    begin_shown told seen call a b c m.0 (eqb-true call.id seen.id p.0) m.1.0
+    let p = passed (call.id == id) (is_of (record { id = id; func = func; info = info }) call >>= λ u. Ok c) (reason.ComesFirst call.id) b e in
+    let m = both_made (is_of (record { id = id; func = func; info = info }) call) (λ u. Ok c) b p.1 in
+    begin_shown told id func info call a b c m.0 (eqb-true call.id id p.0) m.1.0
     (shows_untaken told [] (call ∷ []) [] a c (rw is refl) (rw is refl) (sym (append-nil a.queue)) (ticks_none a c refl refl)) cc
-shows_begun_at told Runs seen call a b is e = absurd cc
-shows_begun_at told Ended seen call a b is e = absurd cc
+shows_begun_at told Runs id func info call a b is e = absurd cc
+shows_begun_at told Ended id func info call a b is e = absurd cc
 
 -- or the front of the batch
-shows_begun_front : (told unlocks : Bool) (seen : Entry) (front : Call) (a b : CpuState) → a.current ≡ None → a.batch ≡ front ∷ rest_of a.batch
-    → front.id ≡ seen.id → begun_front seen unlocks a front ≡ Ok b → BeginShown told seen a b
-shows_begun_front told unlocks seen front a b none is same_id e =
+shows_begun_front : (told unlocks : Bool) (id func info : ℕ) (front : Call) (a b : CpuState) → a.current ≡ None → a.batch ≡ front ∷ rest_of a.batch
+    → front.id ≡ id → begun_front (record { id = id; func = func; info = info }) unlocks a front ≡ Ok b → BeginShown told id func info a b
+shows_begun_front told unlocks id func info front a b none is same_id e =
     let c = left_batch Runs front a in
-    let m = both_made (is_of seen front) (λ u. if is_async front.class && unlocks then Err (reason.IsLocked seen.id) else Ok c) b e in
-    let p = failed (is_async front.class && unlocks) (Ok c) (reason.IsLocked seen.id) b m.1.1 in
-    begin_shown told seen front a b c m.0 same_id m.1.0 (shows_left_running told front a none is) cc
+    let m = both_made (is_of (record { id = id; func = func; info = info }) front) (λ u. if is_async front.class && unlocks then Err (reason.IsLocked id) else Ok c) b e in
+    let p = failed (is_async front.class && unlocks) (Ok c) (reason.IsLocked id) b m.1.1 in
+    begin_shown told id func info front a b c m.0 same_id m.1.0 (shows_left_running told front a none is) cc
 
-shows_begun_with : (told : Bool) (current : Option Current) (seen : Entry) (here : Bool) (elsewhere : Reason) (unlocks : Bool) (a b : CpuState)
-    → a.current ≡ current → begun_with current seen here elsewhere unlocks a ≡ Ok b → BeginShown told seen a b
-shows_begun_with told (Some x) seen here elsewhere unlocks a b is e = shows_begun_at told x.progress seen x.call a b is e
-shows_begun_with told None seen here elsewhere unlocks a b is e =
-    let m = both_made (front_of seen.id here elsewhere a.batch) (begun_front seen unlocks a) b e in
-    let f = front_is seen.id here elsewhere a.batch m.0 m.1.0 in
-    shows_begun_front told unlocks seen m.0 a b is f.1 f.0 m.1.1
+shows_begun_with : (told : Bool) (current : Option Current) (id func info : ℕ) (here : Bool) (elsewhere : Reason) (unlocks : Bool) (a b : CpuState)
+    → a.current ≡ current → begun_with current (record { id = id; func = func; info = info }) here elsewhere unlocks a ≡ Ok b → BeginShown told id func info a b
+shows_begun_with told (Some x) id func info here elsewhere unlocks a b is e = shows_begun_at told x.progress id func info x.call a b is e
+shows_begun_with told None id func info here elsewhere unlocks a b is e =
+    let m = both_made (front_of id here elsewhere a.batch) (begun_front (record { id = id; func = func; info = info }) unlocks a) b e in
+    let f = front_is id here elsewhere a.batch m.0 m.1.0 in
+    shows_begun_front told unlocks id func info m.0 a b is f.1 f.0 m.1.1
 
-pub shows_begun : (told : Bool) (seen : Entry) (here : Bool) (elsewhere : Reason) (unlocks : Bool) (a b : CpuState)
-    → begun seen here elsewhere unlocks a ≡ Ok b → BeginShown told seen a b
-shows_begun told seen here elsewhere unlocks a b e =
-    let p = passed a.irq (begun_with a.current seen here elsewhere unlocks a) reason.InterruptsOff b e in
-    shows_begun_with told a.current seen here elsewhere unlocks a b refl p.1
+pub shows_begun : (told : Bool) (id func info : ℕ) (here : Bool) (elsewhere : Reason) (unlocks : Bool) (a b : CpuState)
+    → begun (record { id = id; func = func; info = info }) here elsewhere unlocks a ≡ Ok b → BeginShown told id func info a b
+shows_begun told id func info here elsewhere unlocks a b e =
+    let p = passed a.irq (begun_with a.current (record { id = id; func = func; info = info }) here elsewhere unlocks a) reason.InterruptsOff b e in
+    shows_begun_with told a.current id func info here elsewhere unlocks a b refl p.1
 
 -- the call at a place of the queue
 pub picked : (r : ℕ) (queue : List Call) (i : Option ℕ) → place_in r queue ≡ i → (n : ℕ) → i ≡ Some n → (call : Call) → call_at queue (Some n) ≡ Some call
@@ -252,26 +251,26 @@ shows_left_queue progress began over call n a none moves runs parts = record {
   noted = λ to m below was. ticks_none_at a.queued to m was;
 }
 
-shows_begun_any : (seen : Entry) (elsewhere : Reason) (a b : CpuState) (at : Option ℕ) (found : Option Call) → a.current ≡ None → place_in seen.id a.queue ≡ at
-    → call_at a.queue at ≡ found → begun_any seen a at found elsewhere ≡ Ok b → BeginShown false seen a b
-shows_begun_any seen elsewhere a b (Some n) (Some call) none place is e =
+shows_begun_any : (id func info : ℕ) (elsewhere : Reason) (a b : CpuState) (at : Option ℕ) (found : Option Call) → a.current ≡ None → place_in id a.queue ≡ at
+    → call_at a.queue at ≡ found → begun_any (record { id = id; func = func; info = info }) a at found elsewhere ≡ Ok b → BeginShown false id func info a b
+shows_begun_any id func info elsewhere a b (Some n) (Some call) none place is e =
     let c = record a { queue = remove a.queue n; current = at_call Runs call } in
-    let m = both_made (is_of seen call) (λ u. Ok c) b e in
-    let p = picked seen.id a.queue (Some n) place n refl call is in
-    begin_shown false seen call a b c m.0 p.0 m.1.0 (shows_left_queue Runs (call ∷ []) [] call n a none p.1 refl refl) cc
-shows_begun_any seen elsewhere a b None found none place is e = absurd cc
-shows_begun_any seen elsewhere a b (Some n) None none place is e = absurd cc
+    let m = both_made (is_of (record { id = id; func = func; info = info }) call) (λ u. Ok c) b e in
+    let p = picked id a.queue (Some n) place n refl call is in
+    begin_shown false id func info call a b c m.0 p.0 m.1.0 (shows_left_queue Runs (call ∷ []) [] call n a none p.1 refl refl) cc
+shows_begun_any id func info elsewhere a b None found none place is e = absurd cc
+shows_begun_any id func info elsewhere a b (Some n) None none place is e = absurd cc
 
-shows_loose_with : (current : Option Current) (seen : Entry) (elsewhere : Reason) (a b : CpuState) → a.current ≡ current
-    → loose_with current seen elsewhere a ≡ Ok b → BeginShown false seen a b
-shows_loose_with (Some x) seen elsewhere a b is e = shows_begun_at false x.progress seen x.call a b is e
-shows_loose_with None seen elsewhere a b is e =
-    shows_begun_any seen elsewhere a b (place_in seen.id a.queue) (call_at a.queue (place_in seen.id a.queue)) is refl refl e
+shows_loose_with : (current : Option Current) (id func info : ℕ) (elsewhere : Reason) (a b : CpuState) → a.current ≡ current
+    → loose_with current (record { id = id; func = func; info = info }) elsewhere a ≡ Ok b → BeginShown false id func info a b
+shows_loose_with (Some x) id func info elsewhere a b is e = shows_begun_at false x.progress id func info x.call a b is e
+shows_loose_with None id func info elsewhere a b is e =
+    shows_begun_any id func info elsewhere a b (place_in id a.queue) (call_at a.queue (place_in id a.queue)) is refl refl e
 
-pub shows_begun_loose : (seen : Entry) (elsewhere : Reason) (a b : CpuState) → begun_loose seen elsewhere a ≡ Ok b → BeginShown false seen a b
-shows_begun_loose seen elsewhere a b e =
-    let p = passed a.irq (loose_with a.current seen elsewhere a) reason.InterruptsOff b e in
-    shows_loose_with a.current seen elsewhere a b refl p.1
+pub shows_begun_loose : (id func info : ℕ) (elsewhere : Reason) (a b : CpuState) → begun_loose (record { id = id; func = func; info = info }) elsewhere a ≡ Ok b → BeginShown false id func info a b
+shows_begun_loose id func info elsewhere a b e =
+    let p = passed a.irq (loose_with a.current (record { id = id; func = func; info = info }) elsewhere a) reason.InterruptsOff b e in
+    shows_loose_with a.current id func info elsewhere a b refl p.1
 
 -- one more, as words of so many bits count
 next_mod : (n m : ℕ) → (n % m + 1) % m ≡ (n + 1) % m

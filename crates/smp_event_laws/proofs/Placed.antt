@@ -12,7 +12,6 @@ use Rattle.smp_words.specs.declared.call.Class.TheVariants.{Sync, Async}
 use Rattle.smp_event_steps.specs.declared.call.Call.{Call}
 use Rattle.smp_event_steps.specs.declared.call.Place.{Place}
 use Rattle.smp_event_steps.specs.declared.call.Place.TheVariants.{Free, Queue, Batch, Run}
-use Rattle.smp_event_steps.specs.declared.cpu.Entry.{Entry}
 use Rattle.smp_event_steps.specs.declared.event.CallEvent.{CallEvent}
 use Rattle.smp_event_steps.specs.declared.event.CallEvent.TheVariants as calls
 use Rattle.smp_event_steps.specs.declared.event.Event.{Event}
@@ -166,11 +165,11 @@ placed_unlock actor id s t pl e =
     placed_end (with_place id Free (with_cpu actor s m.0)) t same (placed_move s actor id l.from Nowhere m.0 pl l.shift
     (elim l.is_from [ inl x ↦ rw x refl | inr x ↦ rw x refl ]))
 
-entered_begins : (order : Bool) (actor : ℕ) (seen : Entry) (place : Place) (s : StateValue) (c : CpuState) → IsUnlockedAsync (cpu_at s actor)
-    → entered_by order actor seen place s ≡ Ok c → Begins seen.id (cpu_at s actor) c
-entered_begins true actor seen place s c async e = begins_loose seen (place_reason seen.id place) (cpu_at s actor) c async e
-entered_begins false actor seen place s c async e =
-    begins_begun seen (is_batch place actor) (place_reason seen.id place) (not s.setting.without.unlocks) (cpu_at s actor) c async e
+entered_begins : (order : Bool) (actor : ℕ) (id func info : ℕ) (place : Place) (s : StateValue) (c : CpuState) → IsUnlockedAsync (cpu_at s actor)
+    → entered_by order actor (record { id = id; func = func; info = info }) place s ≡ Ok c → Begins id (cpu_at s actor) c
+entered_begins true actor id func info place s c async e = begins_loose id func info (place_reason id place) (cpu_at s actor) c async e
+entered_begins false actor id func info place s c async e =
+    begins_begun id func info (is_batch place actor) (place_reason id place) (not s.setting.without.unlocks) (cpu_at s actor) c async e
 
 run_place : (class : Class) (actor : ℕ) → (if is_sync class then Run actor else Free) ≡ place_of (run_kind class) actor
 run_place Sync actor = refl
@@ -208,13 +207,12 @@ placed_begins actor id s c false pl still enters = placed_enters actor id s c pl
 placed_begin : (actor id func info : ℕ) (s t : StateValue) → Placed s → begin_by actor (record { id = id; func = func; info = info }) s ≡ Ok t → Placed t
 unfolding begin_by
 placed_begin actor id func info s t pl e =
-    let seen : Entry = record { id = id; func = func; info = info } in
     let place = place_at s id in
     let unless = is_some (cpu_at s actor).current in
-    let made = entered_by s.setting.without.order actor seen place s in
+    let made = entered_by s.setting.without.order actor (record { id = id; func = func; info = info }) place s in
     let n = both_made (on_cpu actor s made) (λ x. Ok (placed_unless unless actor id x)) t e in
     let m = made_on_cpu actor s n.0 made n.1.0 in
-    let b = entered_begins s.setting.without.order actor seen place s m.0 (async_any s actor pl) m.1.0 in
+    let b = entered_begins s.setting.without.order actor id func info place s m.0 (async_any s actor pl) m.1.0 in
     let end : with_cpu actor s m.0 ≡ n.0 = m.1.1 in
     let same : placed_unless unless actor id (with_cpu actor s m.0) ≡ t = ap (λ x. placed_unless unless actor id x) end ∙ cc in
     placed_end (placed_unless unless actor id (with_cpu actor s m.0)) t same

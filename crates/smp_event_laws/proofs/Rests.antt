@@ -14,7 +14,6 @@ use Rattle.smp_event_steps.specs.declared.call.Place.{Place}
 use Rattle.smp_event_steps.specs.declared.call.Place.TheVariants.{Free, Queue, Batch, Run}
 use Rattle.smp_event_steps.specs.declared.call.Progress.{Progress}
 use Rattle.smp_event_steps.specs.declared.call.Progress.TheVariants.{Unlocked, Runs, Ended}
-use Rattle.smp_event_steps.specs.declared.cpu.Entry.{Entry}
 use Rattle.smp_event_steps.specs.declared.event.CallEvent.{CallEvent}
 use Rattle.smp_event_steps.specs.declared.event.CallEvent.TheVariants as calls
 use Rattle.smp_event_steps.specs.declared.event.Event.TheVariants as event
@@ -102,44 +101,44 @@ rests_unlocked r here elsewhere a b e = rests_with a.current r here elsewhere a 
 rests_on : (a b : CpuState) → a.irq ≡ true → b.inside ≡ a.inside → b.irq ≡ a.irq → Rests a b
 rests_on a b on inside irq = record { inside = inside; irq = irq; quiet = λ off x. absurd (needs_irq a.irq on off) }
 
-rests_begun_at : (progress : Progress) (seen : Entry) (call : Call) (a b : CpuState) → a.irq ≡ true → begun_at progress seen call a ≡ Ok b → Rests a b
-rests_begun_at Unlocked seen call a b on e =
+rests_begun_at : (progress : Progress) (id func info : ℕ) (call : Call) (a b : CpuState) → a.irq ≡ true → begun_at progress (record { id = id; func = func; info = info }) call a ≡ Ok b → Rests a b
+rests_begun_at Unlocked id func info call a b on e =
     let c = record a { current = at_call Runs call } in
-    let p = passed (call.id == seen.id) (is_of seen call >>= λ u. Ok c) (reason.ComesFirst call.id) b e in
-    let m = both_made (is_of seen call) (λ u. Ok c) b p.1 in
+    let p = passed (call.id == id) (is_of (record { id = id; func = func; info = info }) call >>= λ u. Ok c) (reason.ComesFirst call.id) b e in
+    let m = both_made (is_of (record { id = id; func = func; info = info }) call) (λ u. Ok c) b p.1 in
     rests_end a c b (cc) (rests_on a c on refl refl)
-rests_begun_at Runs seen call a b on e = absurd cc
-rests_begun_at Ended seen call a b on e = absurd cc
+rests_begun_at Runs id func info call a b on e = absurd cc
+rests_begun_at Ended id func info call a b on e = absurd cc
 
-rests_begun_with : (current : Option Current) (seen : Entry) (here : Bool) (elsewhere : Reason) (unlocks : Bool) (a b : CpuState) → a.irq ≡ true
-    → begun_with current seen here elsewhere unlocks a ≡ Ok b → Rests a b
-rests_begun_with (Some x) seen here elsewhere unlocks a b on e = rests_begun_at x.progress seen x.call a b on e
-rests_begun_with None seen here elsewhere unlocks a b on e =
-    let n = both_made (front_of seen.id here elsewhere a.batch) (begun_front seen unlocks a) b e in
+rests_begun_with : (current : Option Current) (id func info : ℕ) (here : Bool) (elsewhere : Reason) (unlocks : Bool) (a b : CpuState) → a.irq ≡ true
+    → begun_with current (record { id = id; func = func; info = info }) here elsewhere unlocks a ≡ Ok b → Rests a b
+rests_begun_with (Some x) id func info here elsewhere unlocks a b on e = rests_begun_at x.progress id func info x.call a b on e
+rests_begun_with None id func info here elsewhere unlocks a b on e =
+    let n = both_made (front_of id here elsewhere a.batch) (begun_front (record { id = id; func = func; info = info }) unlocks a) b e in
     let c = left_batch Runs n.0 a in
-    let m = both_made (is_of seen n.0) (λ u. if is_async n.0.class && unlocks then Err (reason.IsLocked seen.id) else Ok c) b n.1.1 in
-    let p = failed (is_async n.0.class && unlocks) (Ok c) (reason.IsLocked seen.id) b m.1.1 in
+    let m = both_made (is_of (record { id = id; func = func; info = info }) n.0) (λ u. if is_async n.0.class && unlocks then Err (reason.IsLocked id) else Ok c) b n.1.1 in
+    let p = failed (is_async n.0.class && unlocks) (Ok c) (reason.IsLocked id) b m.1.1 in
     rests_end a c b (cc) (rests_on a c on refl refl)
 
-rests_begun : (seen : Entry) (here : Bool) (elsewhere : Reason) (unlocks : Bool) (a b : CpuState) → begun seen here elsewhere unlocks a ≡ Ok b → Rests a b
-rests_begun seen here elsewhere unlocks a b e =
-    let p = passed a.irq (begun_with a.current seen here elsewhere unlocks a) reason.InterruptsOff b e in
-    rests_begun_with a.current seen here elsewhere unlocks a b p.0 p.1
+rests_begun : (id func info : ℕ) (here : Bool) (elsewhere : Reason) (unlocks : Bool) (a b : CpuState) → begun (record { id = id; func = func; info = info }) here elsewhere unlocks a ≡ Ok b → Rests a b
+rests_begun id func info here elsewhere unlocks a b e =
+    let p = passed a.irq (begun_with a.current (record { id = id; func = func; info = info }) here elsewhere unlocks a) reason.InterruptsOff b e in
+    rests_begun_with a.current id func info here elsewhere unlocks a b p.0 p.1
 
-rests_any : (seen : Entry) (elsewhere : Reason) (a b : CpuState) (at : Option ℕ) (found : Option Call) → a.irq ≡ true → begun_any seen a at found elsewhere ≡ Ok b → Rests a b
-rests_any seen elsewhere a b (Some n) (Some call) on e =
+rests_any : (id func info : ℕ) (elsewhere : Reason) (a b : CpuState) (at : Option ℕ) (found : Option Call) → a.irq ≡ true → begun_any (record { id = id; func = func; info = info }) a at found elsewhere ≡ Ok b → Rests a b
+rests_any id func info elsewhere a b (Some n) (Some call) on e =
     let c = record a { queue = remove a.queue n; current = at_call Runs call } in
-    let m = both_made (is_of seen call) (λ u. Ok c) b e in rests_end a c b (cc) (rests_on a c on refl refl)
-rests_any seen elsewhere a b None found on e = absurd cc
-rests_any seen elsewhere a b (Some n) None on e = absurd cc
+    let m = both_made (is_of (record { id = id; func = func; info = info }) call) (λ u. Ok c) b e in rests_end a c b (cc) (rests_on a c on refl refl)
+rests_any id func info elsewhere a b None found on e = absurd cc
+rests_any id func info elsewhere a b (Some n) None on e = absurd cc
 
-rests_loose_with : (current : Option Current) (seen : Entry) (elsewhere : Reason) (a b : CpuState) → a.irq ≡ true → loose_with current seen elsewhere a ≡ Ok b → Rests a b
-rests_loose_with (Some x) seen elsewhere a b on e = rests_begun_at x.progress seen x.call a b on e
-rests_loose_with None seen elsewhere a b on e = rests_any seen elsewhere a b (place_in seen.id a.queue) (call_at a.queue (place_in seen.id a.queue)) on e
+rests_loose_with : (current : Option Current) (id func info : ℕ) (elsewhere : Reason) (a b : CpuState) → a.irq ≡ true → loose_with current (record { id = id; func = func; info = info }) elsewhere a ≡ Ok b → Rests a b
+rests_loose_with (Some x) id func info elsewhere a b on e = rests_begun_at x.progress id func info x.call a b on e
+rests_loose_with None id func info elsewhere a b on e = rests_any id func info elsewhere a b (place_in id a.queue) (call_at a.queue (place_in id a.queue)) on e
 
-rests_loose : (seen : Entry) (elsewhere : Reason) (a b : CpuState) → begun_loose seen elsewhere a ≡ Ok b → Rests a b
-rests_loose seen elsewhere a b e =
-    let p = passed a.irq (loose_with a.current seen elsewhere a) reason.InterruptsOff b e in rests_loose_with a.current seen elsewhere a b p.0 p.1
+rests_loose : (id func info : ℕ) (elsewhere : Reason) (a b : CpuState) → begun_loose (record { id = id; func = func; info = info }) elsewhere a ≡ Ok b → Rests a b
+rests_loose id func info elsewhere a b e =
+    let p = passed a.irq (loose_with a.current (record { id = id; func = func; info = info }) elsewhere a) reason.InterruptsOff b e in rests_loose_with a.current id func info elsewhere a b p.0 p.1
 
 rests_ended_at : (progress : Progress) (call : Call) (r : ℕ) (unlocks : Bool) (x : Current) (a b : CpuState) → a.current ≡ Some x → ended_at progress call r unlocks a ≡ Ok b → Rests a b
 rests_ended_at Runs call r unlocks x a b is e =
@@ -322,9 +321,9 @@ keeps_unlock actor id s t e =
     keeps_then s n.0 t (keeps_made actor s n.0 made n.1.0 (λ c f. rests_unlocked id here elsewhere (cpu_at s actor) c f))
     (keeps_end n.0 (with_place id Free n.0) t (cc) (keeps_same n.0 (with_place id Free n.0) refl refl refl refl))
 
-rests_entered : (order : Bool) (actor : ℕ) (seen : Entry) (place : Place) (s : StateValue) (c : CpuState) → entered_by order actor seen place s ≡ Ok c → Rests (cpu_at s actor) c
-rests_entered true actor seen place s c e = rests_loose seen (place_reason seen.id place) (cpu_at s actor) c e
-rests_entered false actor seen place s c e = rests_begun seen (is_batch place actor) (place_reason seen.id place) (not s.setting.without.unlocks) (cpu_at s actor) c e
+rests_entered : (order : Bool) (actor : ℕ) (id func info : ℕ) (place : Place) (s : StateValue) (c : CpuState) → entered_by order actor (record { id = id; func = func; info = info }) place s ≡ Ok c → Rests (cpu_at s actor) c
+rests_entered true actor id func info place s c e = rests_loose id func info (place_reason id place) (cpu_at s actor) c e
+rests_entered false actor id func info place s c e = rests_begun id func info (is_batch place actor) (place_reason id place) (not s.setting.without.unlocks) (cpu_at s actor) c e
 
 keeps_placed : (unless : Bool) (actor id : ℕ) (s : StateValue) → KeepsRounds s (placed_unless unless actor id s)
 keeps_placed true actor id s = keeps_refl s
@@ -333,11 +332,10 @@ keeps_placed false actor id s = keeps_same s (placed_unless false actor id s) re
 keeps_begin : (actor id func info : ℕ) (s t : StateValue) → begin_by actor (record { id = id; func = func; info = info }) s ≡ Ok t → KeepsRounds s t
 unfolding begin_by
 keeps_begin actor id func info s t e =
-    let seen : Entry = record { id = id; func = func; info = info } in
     let unless = is_some (cpu_at s actor).current in
-    let made = entered_by s.setting.without.order actor seen (place_at s id) s in
+    let made = entered_by s.setting.without.order actor (record { id = id; func = func; info = info }) (place_at s id) s in
     let n = both_made (on_cpu actor s made) (λ x. Ok (placed_unless unless actor id x)) t e in
-    keeps_then s n.0 t (keeps_made actor s n.0 made n.1.0 (λ c f. rests_entered s.setting.without.order actor seen (place_at s id) s c f))
+    keeps_then s n.0 t (keeps_made actor s n.0 made n.1.0 (λ c f. rests_entered s.setting.without.order actor id func info (place_at s id) s c f))
     (keeps_end n.0 (placed_unless unless actor id n.0) t (cc) (keeps_placed unless actor id n.0))
 
 keeps_freed_if : (test : Bool) (id : ℕ) (s : StateValue) → KeepsRounds s (freed_if test id s)

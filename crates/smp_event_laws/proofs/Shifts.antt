@@ -13,7 +13,6 @@ use Rattle.smp_event_steps.specs.declared.call.Place.{Place}
 use Rattle.smp_event_steps.specs.declared.call.Place.TheVariants.{Free, Queue, Batch, Run}
 use Rattle.smp_event_steps.specs.declared.call.Progress.{Progress}
 use Rattle.smp_event_steps.specs.declared.call.Progress.TheVariants.{Unlocked, Runs, Ended}
-use Rattle.smp_event_steps.specs.declared.cpu.Entry.{Entry}
 use Rattle.smp_event_steps.specs.declared.reason.Reason.{Reason}
 use Rattle.smp_event_steps.specs.declared.reason.Reason.TheVariants as reason
 use Rattle.smp_event_steps.specs.Cpu.{CpuState, after_end, at_call, begun, begun_any, begun_at, begun_front, begun_loose, begun_with, call_at, counted, ended, ended_at, ended_with, front_of, is_async, is_locked, is_of, is_sync, left_batch, loose_with, place_in, pushed, rest_of, runs_locked, slipped_any, slipped_at, slipped_from_batch, slipped_from_queue, slipped_front, unlocked, unlocked_front, unlocked_running, unlocked_with}
@@ -222,22 +221,22 @@ enters_as call other from a b c which same end is s = record {
 }
 
 -- the call that is unlocked begins: no record moves
-stays_begun_at : (progress : Progress) (seen : Entry) (call : Call) (a b : CpuState) → a.current ≡ at_call progress call → IsUnlockedAsync a
-    → begun_at progress seen call a ≡ Ok b → Shift seen.id Nowhere Nowhere a b
-stays_begun_at Unlocked seen call a b is async e =
+stays_begun_at : (progress : Progress) (id func info : ℕ) (call : Call) (a b : CpuState) → a.current ≡ at_call progress call → IsUnlockedAsync a
+    → begun_at progress (record { id = id; func = func; info = info }) call a ≡ Ok b → Shift id Nowhere Nowhere a b
+stays_begun_at Unlocked id func info call a b is async e =
     let c = record a { current = at_call Runs call } in
-    let p = passed (call.id == seen.id) (is_of seen call >>= λ u. Ok c) (reason.ComesFirst call.id) b e in
-    let m = both_made (is_of seen call) (λ u. Ok c) b p.1 in
+    let p = passed (call.id == id) (is_of (record { id = id; func = func; info = info }) call >>= λ u. Ok c) (reason.ComesFirst call.id) b e in
+    let m = both_made (is_of (record { id = id; func = func; info = info }) call) (λ u. Ok c) b p.1 in
     let same : c ≡ b = cc in
     let class : call.class ≡ Async = rw is at async in
-    subst (λ (x : CpuState). Shift seen.id Nowhere Nowhere a x) same (record {
+    subst (λ (x : CpuState). Shift id Nowhere Nowhere a x) same (record {
       queue = λ r. refl;
       batch = λ r. refl;
       run = λ r. rw (is, class) refl;
       async = refl;
     })
-stays_begun_at Runs seen call a b is async e = absurd cc
-stays_begun_at Ended seen call a b is async e = absurd cc
+stays_begun_at Runs id func info call a b is async e = absurd cc
+stays_begun_at Ended id func info call a b is async e = absurd cc
 
 stays_begun_in : (x : Current) (id : ℕ) (a b : CpuState) → a.current ≡ Some x → Shift id Nowhere Nowhere a b → Begins id a b
 stays_begun_in x id a b is s = record {
@@ -253,27 +252,27 @@ enters_in id a b none s = record {
   how = ((λ u. absurd cc), (λ u. s));
 }
 
-enters_front : (unlocks : Bool) (seen : Entry) (front : Call) (a b : CpuState) → a.current ≡ None → a.batch ≡ front ∷ rest_of a.batch → front.id ≡ seen.id
-    → begun_front seen unlocks a front ≡ Ok b → Enters seen.id a b
-enters_front unlocks seen front a b none is same_id e =
+enters_front : (unlocks : Bool) (id func info : ℕ) (front : Call) (a b : CpuState) → a.current ≡ None → a.batch ≡ front ∷ rest_of a.batch → front.id ≡ id
+    → begun_front (record { id = id; func = func; info = info }) unlocks a front ≡ Ok b → Enters id a b
+enters_front unlocks id func info front a b none is same_id e =
     let c = left_batch Runs front a in
-    let m = both_made (is_of seen front) (λ u. if is_async front.class && unlocks then Err (reason.IsLocked seen.id) else Ok c) b e in
-    let p = failed (is_async front.class && unlocks) (Ok c) (reason.IsLocked seen.id) b m.1.1 in
-    enters_as front seen.id InBatch a c b (inl refl) same_id (cc) refl (shift_left_running front a none is)
+    let m = both_made (is_of (record { id = id; func = func; info = info }) front) (λ u. if is_async front.class && unlocks then Err (reason.IsLocked id) else Ok c) b e in
+    let p = failed (is_async front.class && unlocks) (Ok c) (reason.IsLocked id) b m.1.1 in
+    enters_as front id InBatch a c b (inl refl) same_id (cc) refl (shift_left_running front a none is)
 
-begins_with : (current : Option Current) (seen : Entry) (here : Bool) (elsewhere : Reason) (unlocks : Bool) (a b : CpuState) → a.current ≡ current → IsUnlockedAsync a
-    → begun_with current seen here elsewhere unlocks a ≡ Ok b → Begins seen.id a b
-begins_with (Some x) seen here elsewhere unlocks a b is async e = stays_begun_in x seen.id a b is (stays_begun_at x.progress seen x.call a b is async e)
-begins_with None seen here elsewhere unlocks a b is async e =
-    let m = both_made (front_of seen.id here elsewhere a.batch) (begun_front seen unlocks a) b e in
-    let f = front_is seen.id here elsewhere a.batch m.0 m.1.0 in
-    enters_in seen.id a b is (enters_front unlocks seen m.0 a b is f.1 f.0 m.1.1)
+begins_with : (current : Option Current) (id func info : ℕ) (here : Bool) (elsewhere : Reason) (unlocks : Bool) (a b : CpuState) → a.current ≡ current → IsUnlockedAsync a
+    → begun_with current (record { id = id; func = func; info = info }) here elsewhere unlocks a ≡ Ok b → Begins id a b
+begins_with (Some x) id func info here elsewhere unlocks a b is async e = stays_begun_in x id a b is (stays_begun_at x.progress id func info x.call a b is async e)
+begins_with None id func info here elsewhere unlocks a b is async e =
+    let m = both_made (front_of id here elsewhere a.batch) (begun_front (record { id = id; func = func; info = info }) unlocks a) b e in
+    let f = front_is id here elsewhere a.batch m.0 m.1.0 in
+    enters_in id a b is (enters_front unlocks id func info m.0 a b is f.1 f.0 m.1.1)
 
-pub begins_begun : (seen : Entry) (here : Bool) (elsewhere : Reason) (unlocks : Bool) (a b : CpuState) → IsUnlockedAsync a
-    → begun seen here elsewhere unlocks a ≡ Ok b → Begins seen.id a b
-begins_begun seen here elsewhere unlocks a b async e =
-    let p = passed a.irq (begun_with a.current seen here elsewhere unlocks a) reason.InterruptsOff b e in
-    begins_with a.current seen here elsewhere unlocks a b refl async p.1
+pub begins_begun : (id func info : ℕ) (here : Bool) (elsewhere : Reason) (unlocks : Bool) (a b : CpuState) → IsUnlockedAsync a
+    → begun (record { id = id; func = func; info = info }) here elsewhere unlocks a ≡ Ok b → Begins id a b
+begins_begun id func info here elsewhere unlocks a b async e =
+    let p = passed a.irq (begun_with a.current (record { id = id; func = func; info = info }) here elsewhere unlocks a) reason.InterruptsOff b e in
+    begins_with a.current id func info here elsewhere unlocks a b refl async p.1
 
 -- a call leaves a queue
 queue_count : (queue rest : List Call) (call : Call) (r : ℕ) → IsPermutation queue (call ∷ rest)
@@ -283,31 +282,31 @@ queue_count queue rest call r moves =
     let f : count_by (is_record r) (call ∷ rest) ≡ cond (call.id == r) 1 0 + count_by (is_record r) rest = count_cons (is_record r) call rest in
     omega arith
 
-enters_any : (seen : Entry) (elsewhere : Reason) (a b : CpuState) (at : Option ℕ) (found : Option Call) → a.current ≡ None → place_in seen.id a.queue ≡ at
-    → call_at a.queue at ≡ found → begun_any seen a at found elsewhere ≡ Ok b → Enters seen.id a b
-enters_any seen elsewhere a b (Some n) (Some call) none place is e =
+enters_any : (id func info : ℕ) (elsewhere : Reason) (a b : CpuState) (at : Option ℕ) (found : Option Call) → a.current ≡ None → place_in id a.queue ≡ at
+    → call_at a.queue at ≡ found → begun_any (record { id = id; func = func; info = info }) a at found elsewhere ≡ Ok b → Enters id a b
+enters_any id func info elsewhere a b (Some n) (Some call) none place is e =
     let c = record a { queue = remove a.queue n; current = at_call Runs call } in
-    let m = both_made (is_of seen call) (λ u. Ok c) b e in
-    let p = picked seen.id a.queue (Some n) place n refl call is in
-    enters_as call seen.id InQueue a c b (inr refl) p.0 (cc) refl (record {
+    let m = both_made (is_of (record { id = id; func = func; info = info }) call) (λ u. Ok c) b e in
+    let p = picked id a.queue (Some n) place n refl call is in
+    enters_as call id InQueue a c b (inr refl) p.0 (cc) refl (record {
       queue = λ r. rw (not_queue call.class) (queue_count a.queue (remove a.queue n) call r p.1);
       batch = λ r. rw (not_batch call.class) refl;
       run = λ r. rw none (run_count call.class call r);
       async = refl;
     })
-enters_any seen elsewhere a b None found none place is e = absurd cc
-enters_any seen elsewhere a b (Some n) None none place is e = absurd cc
+enters_any id func info elsewhere a b None found none place is e = absurd cc
+enters_any id func info elsewhere a b (Some n) None none place is e = absurd cc
 
-begins_loose_with : (current : Option Current) (seen : Entry) (elsewhere : Reason) (a b : CpuState) → a.current ≡ current → IsUnlockedAsync a
-    → loose_with current seen elsewhere a ≡ Ok b → Begins seen.id a b
-begins_loose_with (Some x) seen elsewhere a b is async e = stays_begun_in x seen.id a b is (stays_begun_at x.progress seen x.call a b is async e)
-begins_loose_with None seen elsewhere a b is async e =
-    enters_in seen.id a b is (enters_any seen elsewhere a b (place_in seen.id a.queue) (call_at a.queue (place_in seen.id a.queue)) is refl refl e)
+begins_loose_with : (current : Option Current) (id func info : ℕ) (elsewhere : Reason) (a b : CpuState) → a.current ≡ current → IsUnlockedAsync a
+    → loose_with current (record { id = id; func = func; info = info }) elsewhere a ≡ Ok b → Begins id a b
+begins_loose_with (Some x) id func info elsewhere a b is async e = stays_begun_in x id a b is (stays_begun_at x.progress id func info x.call a b is async e)
+begins_loose_with None id func info elsewhere a b is async e =
+    enters_in id a b is (enters_any id func info elsewhere a b (place_in id a.queue) (call_at a.queue (place_in id a.queue)) is refl refl e)
 
-pub begins_loose : (seen : Entry) (elsewhere : Reason) (a b : CpuState) → IsUnlockedAsync a → begun_loose seen elsewhere a ≡ Ok b → Begins seen.id a b
-begins_loose seen elsewhere a b async e =
-    let p = passed a.irq (loose_with a.current seen elsewhere a) reason.InterruptsOff b e in
-    begins_loose_with a.current seen elsewhere a b refl async p.1
+pub begins_loose : (id func info : ℕ) (elsewhere : Reason) (a b : CpuState) → IsUnlockedAsync a → begun_loose (record { id = id; func = func; info = info }) elsewhere a ≡ Ok b → Begins id a b
+begins_loose id func info elsewhere a b async e =
+    let p = passed a.irq (loose_with a.current (record { id = id; func = func; info = info }) elsewhere a) reason.InterruptsOff b e in
+    begins_loose_with a.current id func info elsewhere a b refl async p.1
 
 -- A call ends: its record is unlocked with it, or does not move.
 pub record Ends (unlocks : Bool) (id : ℕ) (a b : CpuState) : Type 0 where
