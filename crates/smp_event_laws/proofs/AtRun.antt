@@ -58,10 +58,10 @@ ungate_rounds seen work cpu s t r e =
     rounds_end seen work (record s { gate = None }) t (cc) (gate_rounds seen work s None r)
 
 -- what the events of all CPUs tell, and the works of all sources, after one more
-abbrev seen_all : (ℕ → Seen) → ℕ × Event → ℕ → Seen
+abbrev pub seen_all : (ℕ → Seen) → ℕ × Event → ℕ → Seen
 seen_all seen e cpu = seen_next cpu (seen cpu) e
 
-abbrev work_all : (ℕ → Option Task) → ℕ × Event → ℕ → Option Task
+abbrev pub work_all : (ℕ → Option Task) → ℕ × Event → ℕ → Option Task
 work_all work e source = work_next source (work source) e
 
 stop_rounds : (seen : ℕ → Seen) (work : ℕ → Option Task) (actor : ℕ) (e : StopEvent) (s t : StateValue) → Rounds seen work s → stop_goes actor e s ≡ Ok t
@@ -97,7 +97,7 @@ label_rounds seen work actor (labels.Site site jumps) s t r e = after_rounds see
 label_rounds seen work actor (labels.Nudge key up) s t r e = nudge_rounds seen work actor key up s t r e
 
 -- each event keeps what holds of CPUs in stops
-rounds_goes : (seen : ℕ → Seen) (work : ℕ → Option Task) (actor : ℕ) (e : Event) (s t : StateValue) → Rounds seen work s → goes actor e s ≡ Ok t
+pub rounds_goes : (seen : ℕ → Seen) (work : ℕ → Option Task) (actor : ℕ) (e : Event) (s t : StateValue) → Rounds seen work s → goes actor e s ≡ Ok t
     → Rounds (seen_all seen (actor, e)) (work_all work (actor, e)) t
 rounds_goes seen work actor (event.Call e) s t r g = rounds_kept seen work s t r (call_keeps_rounds actor e s t g)
 rounds_goes seen work actor (event.Stop e) s t r g = stop_rounds seen work actor e s t r g
@@ -114,7 +114,7 @@ stops_at_first : (u : Setting) (words : LabelWords) → (opening u words).stops 
 unfolding opening
 stops_at_first u words = refl
 
-stop_at_first : (u : Setting) (words : LabelWords) (source : ℕ) → source < 32 → stop_at (opening u words) source ≡ closed u.online
+pub stop_at_first : (u : Setting) (words : LabelWords) (source : ℕ) → source < 32 → stop_at (opening u words) source ≡ closed u.online
 stop_at_first u words source low = ap (λ (xs : List Stop). slice_index_or xs source (closed 0)) (stops_at_first u words) ∙ get_or-replicate 32 source (closed u.online) (closed 0) low
 
 closed_round : (left_out : Bool) (source cpu mask : ℕ) → cpu < 32 → RoundAt left_out source cpu unseen (member_of cpu (closed mask)) None true
@@ -150,7 +150,7 @@ closed_stop mask = record {
 fresh_at_all : (left_out : Bool) → CpuAt left_out unseen fresh_cpu
 fresh_at_all left_out = record { quiet = λ e. absurd cc; below = λ x e. absurd cc; inside_is = refl; irq_is = λ e. refl }
 
-rounds_at_first : (u : Setting) (words : LabelWords) → Rounds (λ cpu. unseen) (λ source. None) (opening u words)
+pub rounds_at_first : (u : Setting) (words : LabelWords) → Rounds (λ cpu. unseen) (λ source. None) (opening u words)
 rounds_at_first u words =
     let s = opening u words in
     record {
@@ -164,7 +164,7 @@ rounds_at_first u words =
       stop = λ source low. let st : stop_at s source ≡ closed u.online = stop_at_first u words source low in rw st (closed_stop u.online);
     }
 
-rounds_of : (u : Setting) (words : LabelWords) (es : List (ℕ × Event)) (t : StateValue) → IsTrace u words es t → Rounds (λ cpu. seen cpu es) (λ source. work source es) t
+pub rounds_of : (u : Setting) (words : LabelWords) (es : List (ℕ × Event)) (t : StateValue) → IsTrace u words es t → Rounds (λ cpu. seen cpu es) (λ source. work source es) t
 rounds_of u words es t run = rounds_runs (λ cpu. unseen) (λ source. None) es (opening u words) t (rounds_at_first u words) run
 
 -- the last event of a run
@@ -178,21 +178,21 @@ setting_goes actor (event.Call e) s t g = (call_keeps_rounds actor e s t g).sett
 setting_goes actor (event.Stop e) s t g = (stop_keeps_calls actor e s t g).setting_is
 setting_goes actor (event.Label e) s t g = (label_keeps_calls actor e s t g).setting_is
 
-setting_at_first : (u : Setting) (words : LabelWords) → (opening u words).setting ≡ u
+pub setting_at_first : (u : Setting) (words : LabelWords) → (opening u words).setting ≡ u
 unfolding opening
 setting_at_first u words = refl
 
 -- and so does a run
-setting_runs : (es : List (ℕ × Event)) (s t : StateValue) → Runs s es t → t.setting ≡ s.setting
+pub setting_runs : (es : List (ℕ × Event)) (s t : StateValue) → Runs s es t → t.setting ≡ s.setting
 setting_runs [] s t run = ap (λ x. x.setting) run
 setting_runs (e ∷ es) s t (m, (g, run)) = setting_runs es m t run ∙ setting_goes e.0 e.1 s m g
 
-entered_is : (test : Bool) (acked : ℕ) → (test ≡ false → acked ≡ 0) → 2 ≤ acked → test ≡ true
+pub entered_is : (test : Bool) (acked : ℕ) → (test ≡ false → acked ≡ 0) → 2 ≤ acked → test ≡ true
 entered_is true acked f h = refl
 entered_is false acked f h = absurd (let z = f refl in omega arith)
 
 -- at RUN, each CPU of the mask is held
-held_at : (u : Setting) (words : LabelWords) (es : List (ℕ × Event)) (s : StateValue) (source member : ℕ) → IsTrace u words es s → source < 32
+pub held_at : (u : Setting) (words : LabelWords) (es : List (ℕ × Event)) (s : StateValue) (source member : ℕ) → IsTrace u words es s → source < 32
     → (stop_at s source).is_open ≡ true → is_round (stop_at s source).task.kind ≡ true → (stop_at s source).phase ≡ 3 → member < 32
     → has (stop_at s source).task.mask member ≡ true → IsHeld u es source member
 held_at u words es s source member run low opened_is round at below in_mask =

@@ -182,7 +182,7 @@ may_complete_past One cpu irq stop u e k = absurd cc
 may_complete_past Multi cpu irq stop u e k = let m = both_made (through stop cpu) (λ x. if irq then Ok tt else Err reason.InterruptsOff) u e in through_is stop cpu m.0 m.1.0
 may_complete_past APatch cpu irq stop u e k = let m = both_made (through stop cpu) (λ x. if irq then Ok tt else Err reason.InterruptsOff) u e in through_is stop cpu m.0 m.1.0
 
-completed_is : (stop to : Stop) (cpu : ℕ) (answer : ℤ) (irq : Bool) → completed cpu answer irq stop ≡ Ok to
+pub completed_is : (stop to : Stop) (cpu : ℕ) (answer : ℤ) (irq : Bool) → completed cpu answer irq stop ≡ Ok to
     → (is_round stop.task.kind ≡ true → 4 ≤ acked_by stop cpu) × (record stop { answers = slice_set stop.answers cpu (Some answer) } ≡ to)
 unfolding completed
 completed_is stop to cpu answer irq e =
@@ -218,7 +218,7 @@ first_none_by passes c more n false t e rest = elim (cases_eq c n) [
   | inr ne ↦ rest e ne
 ]
 
-first_none : (passes : ℕ → Bool) (c more : ℕ) → first_from passes c more ≡ None → (n : ℕ) → c ≤ n → n < c + more → passes n ≡ false
+pub first_none : (passes : ℕ → Bool) (c more : ℕ) → first_from passes c more ≡ None → (n : ℕ) → c ≤ n → n < c + more → passes n ≡ false
 unfolding first_from
 first_none passes c zero e n le lt = absurd (omega arith)
 first_none passes c (suc more) e n le lt =
@@ -227,12 +227,12 @@ first_none passes c (suc more) e n le lt =
 pub least_none : (passes : ℕ → Bool) → least passes ≡ None → (n : ℕ) → n < 32 → passes n ≡ false
 least_none passes e n below = first_none passes 0 32 e n (omega arith) (omega arith)
 
-collected_is : (who : Option ℕ) (stop to : Stop) (answer : ℤ) → collected_with who answer stop ≡ Ok to → (who ≡ None) × (record stop { is_open = false } ≡ to)
+pub collected_is : (who : Option ℕ) (stop to : Stop) (answer : ℤ) → collected_with who answer stop ≡ Ok to → (who ≡ None) × (record stop { is_open = false } ≡ to)
 collected_is (Some c) stop to answer e = absurd cc
 collected_is None stop to answer e =
     let p = passed (gives stop answer) (Ok (record stop { is_open = false })) (reason.AnswersDoNotGive answer) to e in (refl, cc)
 
-none_is : (answer : Option ℤ) (mask : Bool) → (mask && is_none answer) ≡ false → mask ≡ true → answer ≡ None → ⊥
+pub none_is : (answer : Option ℤ) (mask : Bool) → (mask && is_none answer) ≡ false → mask ≡ true → answer ≡ None → ⊥
 none_is None true e m n = cc
 none_is None false e m n = cc
 none_is (Some x) mask e m n = cc
@@ -279,11 +279,11 @@ collect_rounds seen work s t source answer r e =
     (stop_only seen work work s source to r (closed_change seen work s source r low c.0) (λ other ne. refl))
 
 -- A stop is opened: what is changed.
-offline_none : (who : Option ℕ) (stop to : Stop) → unless_offline who stop ≡ Ok to → stop ≡ to
+pub offline_none : (who : Option ℕ) (stop to : Stop) → unless_offline who stop ≡ Ok to → stop ≡ to
 offline_none None stop to e = cc
 offline_none (Some c) stop to e = absurd cc
 
-opened_is : (u : Setting) (task : Task) (to : Stop) → opened u task ≡ Ok to → opening task ≡ to
+pub opened_is : (u : Setting) (task : Task) (to : Stop) → opened u task ≡ Ok to → opening task ≡ to
 unfolding opened
 opened_is u task to e =
     let p = passed (is_work u task) (unless_offline (offline_in u task.mask) (opening task)) reason.NoSuchWork to e in

@@ -46,11 +46,11 @@ words_rounds : (seen : ℕ → Seen) (work : ℕ → Option Task) (s : StateValu
 words_rounds seen work s place word r = record { cpus_are = r.cpus_are; stops_are = r.stops_are; at = r.at; cpu = r.cpu; stop = r.stop }
 
 -- A CPU may acknowledge a phase: the state in which it does, where at most a patch is known.
-record AckFrom (seen : ℕ → Seen) (work : ℕ → Option Task) (s t : StateValue) (source : ℕ) : Type 0 where
-  rounds : Rounds seen work t
-  setting_is : t.setting ≡ s.setting
-  cpus_are : t.cpus ≡ s.cpus
-  views : (cpu : ℕ) → member_of cpu (stop_at t source) ≡ member_of cpu (stop_at s source)
+pub record AckFrom (seen : ℕ → Seen) (work : ℕ → Option Task) (s t : StateValue) (source : ℕ) : Type 0 where
+  pub rounds : Rounds seen work t
+  pub setting_is : t.setting ≡ s.setting
+  pub cpus_are : t.cpus ≡ s.cpus
+  pub views : (cpu : ℕ) → member_of cpu (stop_at t source) ≡ member_of cpu (stop_at s source)
 
 from_here : (seen : ℕ → Seen) (work : ℕ → Option Task) (s t : StateValue) (source : ℕ) → s ≡ t → Rounds seen work s → AckFrom seen work s t source
 from_here seen work s t source same r = subst (λ (x : StateValue). AckFrom seen work s x source) same (record { rounds = r; setting_is = refl; cpus_are = refl; views = λ cpu. refl })
@@ -84,7 +84,7 @@ from_kind seen work Multi cpu source s t r low e =
 abbrev ShowsOff : Bool → ℕ → ℕ → StateValue → Type 0
 ShowsOff test cpu phase s = test ≡ true → acks_disabled s.setting.without.switches cpu s ≡ Ok tt
 
-from_tests : (seen : ℕ → Seen) (work : ℕ → Option Task) (two runs : Bool) (cpu source : ℕ) (s t : StateValue) → Rounds seen work s → source < 32
+pub from_tests : (seen : ℕ → Seen) (work : ℕ → Option Task) (two runs : Bool) (cpu source : ℕ) (s t : StateValue) → Rounds seen work s → source < 32
     → (if two then (acks_disabled s.setting.without.switches cpu s >>= λ v. Ok s) else (if runs then acks_at_run cpu source s else Ok s)) ≡ Ok t
     → AckFrom seen work s t source × (two ≡ true → acks_disabled s.setting.without.switches cpu s ≡ Ok tt)
 from_tests seen work true runs cpu source s t r low e =
@@ -182,7 +182,7 @@ last_round (Some other) left_out source cpu actor v w inside irq all r = r
 last_round None false source cpu actor v w inside irq all r = with_raiser source cpu actor v w inside irq (all refl) r
 last_round None true source cpu actor v w inside irq all r = with_grown source cpu v w inside irq (all refl) r
 
-late_none : (stop : Stop) (phase cpu : ℕ) → late stop phase ≡ None → cpu < 32 → has stop.task.mask cpu ≡ true → phase ≤ acked_by stop cpu
+pub late_none : (stop : Stop) (phase cpu : ℕ) → late stop phase ≡ None → cpu < 32 → has stop.task.mask cpu ≡ true → phase ≤ acked_by stop cpu
 late_none stop phase cpu none below m =
     let f = least_none (λ c. has stop.task.mask c && nat_lt (acked_by stop c) phase) none cpu below in
     let g : (true && nat_lt (acked_by stop cpu) phase) ≡ false = rw m at f in ltb-false (acked_by stop cpu) phase g
@@ -367,7 +367,7 @@ raise_round left_out source cpu phase v w inside irq raiser at r = record {
   ran_is = r.ran_is;
 }
 
-raised_is : (raiser : Option ℕ) (cpu phase : ℕ) (stop to : Stop) → raised_by raiser cpu phase stop ≡ Ok to
+pub raised_is : (raiser : Option ℕ) (cpu phase : ℕ) (stop to : Stop) → raised_by raiser cpu phase stop ≡ Ok to
     → (is_some raiser ≡ true) × (record stop { phase = phase; raiser = None } ≡ to)
 raised_is None cpu phase stop to e = absurd cc
 raised_is (Some last) cpu phase stop to e =

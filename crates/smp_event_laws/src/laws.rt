@@ -1,7 +1,8 @@
-//! The laws of calls and of stops, of every trace that the model accepts: events that lead from a state in which nothing has happened to
+//! The laws of calls, of stops and of labels, of every trace that the model accepts: events that lead from a state in which nothing has happened to
 //! another. Each law is said over what the events show. These functions do nothing.
 
 ghost use Rattle.smp_event_laws.specs.Drained.{DrainedEquals};
+ghost use Rattle.smp_event_laws.specs.Lawful.{LabelsAreLawful, ReadsAreLawful};
 ghost use Rattle.smp_event_laws.specs.Places.{InOnePlace};
 ghost use Rattle.smp_event_laws.specs.Rounds.{FunctionsRunAtRun, PatchesStoreAtRun};
 ghost use Rattle.smp_event_laws.specs.Traces.{BeginInOrder, BeginOnce, CountsAre, EndOnce, OfEachTrace, IsTrace};
@@ -43,4 +44,11 @@ pub fn records_are_in_one_place()
 pub fn functions_run_at_run()
     ensures run { FunctionsRunAtRun }
     ensures store { PatchesStoreAtRun }
+{}
+
+/// Each site has the kind of its key's state and its branch, but while a patch is at RUN; then all CPUs online are held in its stop.
+/// So a CPU that is online and reads a key or a site finds all of them so, and what it reads is what the events have stored.
+pub fn labels_are_lawful()
+    ensures outside { LabelsAreLawful }
+    ensures read { ReadsAreLawful }
 {}
