@@ -21,4 +21,5 @@ pub mod Rounds
 pub mod Shifts
 pub mod Shown
 pub mod States
+pub mod Texts
 pub mod Traces

@@ -5,3 +5,4 @@ pub mod Lawful
 pub mod Places
 pub mod Rounds
 pub mod Traces
+pub mod Texts

@@ -5,12 +5,19 @@ ghost use Rattle.smp_event_laws.specs.Drained.{DrainedEquals};
 ghost use Rattle.smp_event_laws.specs.Lawful.{LabelsAreLawful, ReadsAreLawful};
 ghost use Rattle.smp_event_laws.specs.Places.{InOnePlace};
 ghost use Rattle.smp_event_laws.specs.Rounds.{FunctionsRunAtRun, PatchesStoreAtRun};
+ghost use Rattle.smp_event_laws.specs.Texts.{AcceptedAreTraces};
 ghost use Rattle.smp_event_laws.specs.Traces.{BeginInOrder, BeginOnce, CountsAre, EndOnce, OfEachTrace, IsTrace};
 ghost use Rattle.smp_event_steps.specs.declared.event.Event.{Event};
 ghost use Rattle.smp_event_steps.specs.declared.without.Setting.{Setting};
 ghost use Rattle.smp_event_steps.specs.State.{StateValue};
 ghost use Rattle.smp_labels.specs.declared.words.LabelWords.{LabelWords};
 ghost use Rattle.std.specs.Prelude.{ℕ, List};
+
+/// A text that the judge accepts is a trace, to which the laws below apply: the lines behind its head tell events that lead to the
+/// state of the verdict, and its labels are lawful at first.
+pub fn accepted_texts_are_traces()
+    ensures { AcceptedAreTraces }
+{}
 
 /// A call begins at most once, on the CPU that it was queued for, with its record, function and argument: what a CPU's `begin`
 /// events tell, with the calls that it still holds, are the calls that were queued for it, in some order. And it ends at most
