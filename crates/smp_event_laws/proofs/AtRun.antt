@@ -173,7 +173,7 @@ runs_last [] e s t (m, (g, same)) = (s, (refl, g ∙ ap (λ x. Ok x) (sym same))
 runs_last (x ∷ es) e s t (n, (g, run)) = let r = runs_last es e n t run in (r.0, ((n, (g, r.1.0)), r.1.1))
 
 -- an event keeps what the trace is of
-setting_goes : (actor : ℕ) (e : Event) (s t : StateValue) → goes actor e s ≡ Ok t → t.setting ≡ s.setting
+pub setting_goes : (actor : ℕ) (e : Event) (s t : StateValue) → goes actor e s ≡ Ok t → t.setting ≡ s.setting
 setting_goes actor (event.Call e) s t g = (call_keeps_rounds actor e s t g).setting_is
 setting_goes actor (event.Stop e) s t g = (stop_keeps_calls actor e s t g).setting_is
 setting_goes actor (event.Label e) s t g = (label_keeps_calls actor e s t g).setting_is

@@ -23,3 +23,4 @@ pub mod Shown
 pub mod States
 pub mod Texts
 pub mod Traces
+pub mod Turns

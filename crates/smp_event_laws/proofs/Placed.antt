@@ -37,7 +37,7 @@ use Rattle.smp_event_laws.proofs.States.{cpu_changed, cpu_kept}
 use Rattle.smp_event_laws.proofs.Traces.{cpus_at_first, fresh_at}
 
 -- what is unlocked before it begins is ASYNC, on any CPU
-async_any : (s : StateValue) (cpu : ℕ) → Placed s → IsUnlockedAsync (cpu_at s cpu)
+pub async_any : (s : StateValue) (cpu : ℕ) → Placed s → IsUnlockedAsync (cpu_at s cpu)
 async_any s cpu p = elim (cases_lt cpu 32) [
   | inl below ↦ p.async cpu below
   | inr past ↦ let end : length s.cpus ≤ cpu = rw p.cpus_are past in
@@ -165,7 +165,7 @@ placed_unlock actor id s t pl e =
     placed_end (with_place id Free (with_cpu actor s m.0)) t same (placed_move s actor id l.from Nowhere m.0 pl l.shift
     (elim l.is_from [ inl x ↦ rw x refl | inr x ↦ rw x refl ]))
 
-entered_begins : (order : Bool) (actor : ℕ) (id func info : ℕ) (place : Place) (s : StateValue) (c : CpuState) → IsUnlockedAsync (cpu_at s actor)
+pub entered_begins : (order : Bool) (actor : ℕ) (id func info : ℕ) (place : Place) (s : StateValue) (c : CpuState) → IsUnlockedAsync (cpu_at s actor)
     → entered_by order actor (record { id = id; func = func; info = info }) place s ≡ Ok c → Begins id (cpu_at s actor) c
 entered_begins true actor id func info place s c async e = begins_loose id func info (place_reason id place) (cpu_at s actor) c async e
 entered_begins false actor id func info place s c async e =
@@ -175,12 +175,12 @@ run_place : (class : Class) (actor : ℕ) → (if is_sync class then Run actor e
 run_place Sync actor = refl
 run_place Async actor = refl
 
-leaves_run : (from : Kind) (class : Class) → from ≡ InBatch ⊎ from ≡ InQueue → leaves from (run_kind class) ≡ true
+pub leaves_run : (from : Kind) (class : Class) → from ≡ InBatch ⊎ from ≡ InQueue → leaves from (run_kind class) ≡ true
 leaves_run from Sync which = elim which [ inl x ↦ rw x refl | inr x ↦ rw x refl ]
 leaves_run from Async which = elim which [ inl x ↦ rw x refl | inr x ↦ rw x refl ]
 
 -- a CPU that moves a record is one that there can be
-mover_below : (s : StateValue) (actor id : ℕ) (from to : Kind) (c : CpuState) → Placed s → Shift id from to (cpu_at s actor) c → leaves from to ≡ true → actor < 32
+pub mover_below : (s : StateValue) (actor id : ℕ) (from to : Kind) (c : CpuState) → Placed s → Shift id from to (cpu_at s actor) c → leaves from to ≡ true → actor < 32
 mover_below s actor id from to c p sh e = elim (cases_lt actor 32) [
   | inl below ↦ below
   | inr past ↦ let end : length s.cpus ≤ actor = rw p.cpus_are past in
@@ -223,7 +223,7 @@ placed_ends : (actor id : ℕ) (s : StateValue) (c : CpuState) (frees : Bool) �
 placed_ends actor id s c true pl moves still = placed_move s actor id Running Nowhere c pl (moves refl) refl
 placed_ends actor id s c false pl moves still = placed_still s actor id c pl (still refl)
 
-not_not : (a b : Bool) → (a && not (not b)) ≡ (a && b)
+pub not_not : (a b : Bool) → (a && not (not b)) ≡ (a && b)
 not_not a true = refl
 not_not a false = refl
 
@@ -244,8 +244,8 @@ placed_ended actor id s t pl e =
     (placed_ends actor id s m.0 test pl (λ x. d.how.0 (sym is ∙ x)) (λ x. d.how.1 (sym is ∙ x)))
 
 -- Records that are put at a place: this one too, or it is where it was.
-record PutAt (place : Place) (queue : List Call) (places : List Place) (r : ℕ) : Type 0 where
-  how : ((count_by (is_record r) queue ≡ 0) × (slice_index_or (placed place queue places) r Free ≡ slice_index_or places r Free))
+pub record PutAt (place : Place) (queue : List Call) (places : List Place) (r : ℕ) : Type 0 where
+  pub how : ((count_by (is_record r) queue ≡ 0) × (slice_index_or (placed place queue places) r Free ≡ slice_index_or places r Free))
       ⊎ ((1 ≤ count_by (is_record r) queue) × (slice_index_or (placed place queue places) r Free ≡ place))
 
 put_same : (place : Place) (x : Call) (xs : List Call) (places : List Place) (r : ℕ) → r < length places → x.id ≡ r → PutAt place xs (slice_set places x.id place) r
@@ -271,7 +271,7 @@ put_other place x xs places r ne put =
       ];
     }
 
-put_at : (place : Place) (queue : List Call) (places : List Place) (r : ℕ) → r < length places → PutAt place queue places r
+pub put_at : (place : Place) (queue : List Call) (places : List Place) (r : ℕ) → r < length places → PutAt place queue places r
 put_at place [] places r below = record { how = inl (refl, refl) }
 put_at place (x ∷ xs) places r below =
     let rest = put_at place xs (slice_set places x.id place) r (rw (length-set places x.id place) below) in
@@ -306,11 +306,11 @@ taken_here r cpu a p = record {
   run = p.run;
 }
 
-one_count : (n : ℕ) (test : Bool) → 1 ≤ n → n ≡ one_if test → 1 ≤ one_if test
+pub one_count : (n : ℕ) (test : Bool) → 1 ≤ n → n ≡ one_if test → 1 ≤ one_if test
 one_count n test h e = omega arith
 
 -- a CPU that has a call is one that there can be
-has_below : (s : StateValue) (actor r : ℕ) → Placed s → 1 ≤ in_queue r (cpu_at s actor) → actor < 32
+pub has_below : (s : StateValue) (actor r : ℕ) → Placed s → 1 ≤ in_queue r (cpu_at s actor) → actor < 32
 has_below s actor r p h = elim (cases_lt actor 32) [
   | inl below ↦ below
   | inr past ↦ let end : length s.cpus ≤ actor = rw p.cpus_are past in
@@ -400,7 +400,7 @@ opening_places : (u : Setting) (words : LabelWords) → (opening u words).places
 unfolding opening
 opening_places u words = refl
 
-free_at_first : (u : Setting) (words : LabelWords) (r : ℕ) → r < 65536 → place_at (opening u words) r ≡ Free
+pub free_at_first : (u : Setting) (words : LabelWords) (r : ℕ) → r < 65536 → place_at (opening u words) r ≡ Free
 free_at_first u words r low = ap (λ (xs : List Place). slice_index_or xs r Free) (opening_places u words) ∙ places_are_free 65536 r low
 
 fresh_placed : (r cpu : ℕ) (c : CpuState) → c ≡ fresh_cpu → PlacedAt Free r cpu c

@@ -61,7 +61,7 @@ run_elsewhere InBatch cpu other ne = refl
 pub place_changed : (id : ℕ) (place : Place) (s : StateValue) → id < length s.places → place_at (with_place id place s) id ≡ place
 place_changed id place s below = get_or-set_same s.places id place Free below
 
-place_kept : (r id : ℕ) (place : Place) (s : StateValue) → r ≢ id → place_at (with_place id place s) r ≡ place_at s r
+pub place_kept : (r id : ℕ) (place : Place) (s : StateValue) → r ≢ id → place_at (with_place id place s) r ≡ place_at s r
 place_kept r id place s ne = get_or-set_other s.places id r place Free ne
 
 -- what was there, with and without what moves
@@ -194,7 +194,7 @@ leaves _ _ = false
 left_one : (was now : ℕ) → now + 1 ≡ was + 0 → 1 ≤ was
 left_one was now e = omega arith
 
-place_before : (place : Place) (id actor : ℕ) (from to : Kind) (a c : CpuState) → PlacedAt place id actor a → Shift id from to a c → leaves from to ≡ true
+pub place_before : (place : Place) (id actor : ℕ) (from to : Kind) (a c : CpuState) → PlacedAt place id actor a → Shift id from to a c → leaves from to ≡ true
     → place ≡ place_of from actor
 place_before place id actor InQueue Nowhere a c p s e =
     let same : (id == id) ≡ true = eq-eqb id id refl in queue_is place actor (one_is (is_queue place actor) (rw p.queue at (left_one (in_queue id a) (in_queue id c) (rw same at (s.queue id)))))

@@ -4,5 +4,6 @@ pub mod History
 pub mod Lawful
 pub mod Places
 pub mod Rounds
-pub mod Traces
 pub mod Texts
+pub mod Traces
+pub mod Turns

@@ -7,6 +7,7 @@ ghost use Rattle.smp_event_laws.specs.Places.{InOnePlace};
 ghost use Rattle.smp_event_laws.specs.Rounds.{FunctionsRunAtRun, PatchesStoreAtRun};
 ghost use Rattle.smp_event_laws.specs.Texts.{AcceptedAreTraces};
 ghost use Rattle.smp_event_laws.specs.Traces.{BeginInOrder, BeginOnce, CountsAre, EndOnce, OfEachTrace, IsTrace};
+ghost use Rattle.smp_event_laws.specs.Turns.{RecordsTakeTurns};
 ghost use Rattle.smp_event_steps.specs.declared.event.Event.{Event};
 ghost use Rattle.smp_event_steps.specs.declared.without.Setting.{Setting};
 ghost use Rattle.smp_event_steps.specs.State.{StateValue};
@@ -40,9 +41,11 @@ pub fn drained_runs_equal_queued()
     ensures drained { OfEachTrace DrainedEquals }
 {}
 
-/// Each record is in one place: it is free, or it is once in one queue, in one batch, or of one call that runs.
+/// Each record is in one place: it is free, or it is once in one queue, in one batch, or of one call that runs. Where the order and
+/// the unlocks are told, it is queued and unlocked in turn, and seen free only between an unlock and the next call.
 pub fn records_are_in_one_place()
-    ensures { (u : Setting) (words : LabelWords) (es : List (ℕ × Event)) (t : StateValue) → IsTrace u words es t → InOnePlace t }
+    ensures turns { RecordsTakeTurns }
+    ensures place { (u : Setting) (words : LabelWords) (es : List (ℕ × Event)) (t : StateValue) → IsTrace u words es t → InOnePlace t }
 {}
 
 /// A function runs once, in the stop that its CPU is in, with the argument that was opened. That of a rendezvous runs only at RUN,
