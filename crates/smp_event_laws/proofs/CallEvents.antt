@@ -49,7 +49,7 @@ by_actor told cpu actor began over s c below shows false e = goes_elsewhere told
 pub made_on_cpu : (cpu : ℕ) (s t : StateValue) (made : Result CpuState Reason) → on_cpu cpu s made ≡ Ok t → (c : CpuState) × ((made ≡ Ok c) × (with_cpu cpu s c ≡ t))
 made_on_cpu cpu s t made e = let m = both_made made (λ c. Ok (with_cpu cpu s c)) t e in (m.0, (m.1.0, cc))
 
--- the same with another state at the end
+-- an event shows what it shows of an equal state
 ends_at : (order : Bool) (cpu : ℕ) (e : ℕ × Event) (s t u : StateValue) → t ≡ u → EventShows order cpu e s t → EventShows order cpu e s u
 ends_at order cpu e s t u same shown = subst (λ (x : StateValue). EventShows order cpu e s x) same shown
 

@@ -338,7 +338,7 @@ pub shows_ended : (told unlocks : Bool) (r : ℕ) (a b : CpuState) → ended r u
 shows_ended told unlocks r a b e = shows_ended_with told unlocks a.current r a b refl e
 
 -- what holds of both branches
-either : (P : CpuState → Type 0) (test : Bool) (x y : Bool × CpuState) → P x.1 → P y.1 → let z : Bool × CpuState = if test then x else y in P z.1
+pub either : (P : CpuState → Type 0) (test : Bool) (x y : Bool × CpuState) → P x.1 → P y.1 → let z : Bool × CpuState = if test then x else y in P z.1
 either P true x y p q = p
 either P false x y p q = q
 

@@ -7,9 +7,6 @@ use Rattle.std.proofs.lemmas.List.Sorted.{IsPermutation-trans, IsPermutation-app
 pub joined : {X : Type 0} (a began over b more after c : List X) → a ++ began ≡ over ++ b → b ++ more ≡ after ++ c → a ++ (began ++ more) ≡ (over ++ after) ++ c
 joined a began over b more after c e f = sym (append_assoc a began more) ∙ ap (λ xs. xs ++ more) e ∙ append_assoc over b more ∙ ap (λ xs. over ++ xs) f ∙ sym (append_assoc over after c)
 
-pub joined_order : {X : Type 0} (a took began b more after c : List X) → a ++ took ≡ began ++ b → b ++ more ≡ after ++ c → a ++ (took ++ more) ≡ (began ++ after) ++ c
-joined_order a took began b more after c e f = joined a took began b more after c e f
-
 -- what was held and queued is what began and is held
 pub joined_once : {X : Type 0} (a queued began b more after c : List X) → IsPermutation (a ++ queued) (began ++ b) → IsPermutation (b ++ more) (after ++ c)
     → IsPermutation (a ++ (queued ++ more)) ((began ++ after) ++ c)

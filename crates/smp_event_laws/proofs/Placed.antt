@@ -47,10 +47,6 @@ async_any s cpu p = elim (cases_lt cpu 32) [
 placed_end : (s t : StateValue) → s ≡ t → Placed s → Placed t
 placed_end s t same p = subst (λ (x : StateValue). Placed x) same p
 
--- the record is free
-FreeAt : ℕ → StateValue → Type 0
-FreeAt id s = id < 65536 → place_at s id ≡ Free
-
 -- The state after a record was seen free.
 record Freed (id : ℕ) (t : StateValue) : Type 0 where
   placed : Placed t

@@ -26,6 +26,7 @@ use Rattle.smp_event_steps.specs.State.{StateValue, cpu_at, freed, freed_by, fre
 use Rattle.smp_event_steps.specs.Step.{call_goes, goes}
 use Rattle.smp_event_laws.proofs.Binds.{both_made, passed, failed}
 use Rattle.smp_event_laws.proofs.CallEvents.{made_on_cpu}
+use Rattle.smp_event_laws.proofs.Cpus.{either}
 use Rattle.smp_event_laws.proofs.States.{cpu_changed, cpu_kept}
 
 -- A CPU is in the stop that it was in, with its interrupts as they were; where these are off, it still handles nothing.
@@ -154,11 +155,6 @@ rests_ended_with (Some x) r unlocks a b is e = rests_ended_at x.progress x.call 
 
 rests_ended : (r : ℕ) (unlocks : Bool) (a b : CpuState) → ended r unlocks a ≡ Ok b → Rests a b
 rests_ended r unlocks a b e = rests_ended_with a.current r unlocks a b refl e
-
--- what holds of both branches
-either : (P : CpuState → Type 0) (test : Bool) (x y : Bool × CpuState) → P x.1 → P y.1 → let z : Bool × CpuState = if test then x else y in P z.1
-either P true x y p q = p
-either P false x y p q = q
 
 rests_front : (r : ℕ) (a : CpuState) (current : Option Current) (batch : List Call) → a.batch ≡ batch → Rests a (slipped_front r a current batch).1
 rests_front r a None (x ∷ xs) is =

@@ -111,7 +111,7 @@ away_entered left_out source other cpu v v' w inside irq irq' is ne r = record {
   ran_is = λ e. absurd (other_stop (Some source) source other refl ne e);
 }
 
--- the same state at the end
+-- what holds of a state holds of an equal one
 pub rounds_end : (seen : ℕ → Seen) (work : ℕ → Option Task) (s t : StateValue) → s ≡ t → Rounds seen work s → Rounds seen work t
 rounds_end seen work s t same r = subst (λ (x : StateValue). Rounds seen work x) same r
 
@@ -214,7 +214,7 @@ entered_past s source actor long cpus past =
 seen_past : (actor : ℕ) (f : Seen → Seen) (seen : ℕ → Seen) → 32 ≤ actor → (cpu : ℕ) → cpu < 32 → put_seen actor f seen cpu ≡ seen cpu
 seen_past actor f seen past cpu below = seen_elsewhere actor cpu f seen (λ e. absurd (omega arith))
 
--- what holds where the events tell the same
+-- or where the events of each CPU tell the same
 pub rounds_seen : (seen seen' : ℕ → Seen) (work : ℕ → Option Task) (s : StateValue) → ((cpu : ℕ) → cpu < 32 → seen' cpu ≡ seen cpu) → Rounds seen work s → Rounds seen' work s
 rounds_seen seen seen' work s same r = record {
   cpus_are = r.cpus_are;

@@ -80,10 +80,7 @@ from_kind seen work One cpu source s t r low e =
 from_kind seen work Multi cpu source s t r low e =
     let p = passed (has_run (stop_at s source) cpu) (Ok s) reason.FunctionHasNotRun t e in from_here seen work s t source (cc) r
 
--- What a CPU that acknowledges has shown: at phase 2, where switches are left out, that it handles nothing, and else that its interrupts are off.
-abbrev ShowsOff : Bool → ℕ → ℕ → StateValue → Type 0
-ShowsOff test cpu phase s = test ≡ true → acks_disabled s.setting.without.switches cpu s ≡ Ok tt
-
+-- what a CPU that may acknowledge has shown: at phase 2, that its interrupts are off, or that it handles nothing
 pub from_tests : (seen : ℕ → Seen) (work : ℕ → Option Task) (two runs : Bool) (cpu source : ℕ) (s t : StateValue) → Rounds seen work s → source < 32
     → (if two then (acks_disabled s.setting.without.switches cpu s >>= λ v. Ok s) else (if runs then acks_at_run cpu source s else Ok s)) ≡ Ok t
     → AckFrom seen work s t source × (two ≡ true → acks_disabled s.setting.without.switches cpu s ≡ Ok tt)
@@ -313,7 +310,7 @@ ack_by_switches seen work s t source actor phase true r i at more out shows same
 ack_by_switches seen work s t source actor phase false r i at more out shows same =
     ack_same seen work s t source actor phase r i at more (λ e. (disabled_is false actor s (shows (eq-eqb phase 2 e))).0 refl) same
 
--- a CPU shows the same in both
+-- a CPU shows that in each state that has its interrupts and its calls
 disabled_in : (s m : StateValue) (cpu : ℕ) → m.cpus ≡ s.cpus → m.setting ≡ s.setting → acks_disabled s.setting.without.switches cpu s ≡ Ok tt
     → acks_disabled m.setting.without.switches cpu m ≡ Ok tt
 disabled_in s m cpu cpus set e =

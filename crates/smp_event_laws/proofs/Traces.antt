@@ -65,7 +65,7 @@ is_fresh c e = record {
 fresh_is : (u : Setting) (words : LabelWords) (cpu : ℕ) → cpu < 32 → IsFresh (cpu_at (opening u words) cpu)
 fresh_is u words cpu below = is_fresh (cpu_at (opening u words) cpu) (fresh_at u words cpu below)
 
--- the same order of lists that are others
+-- lists that are equal to these are in that order too
 moved_as : {X : Type 0} (xs ys xs' ys' : List X) → xs ≡ xs' → ys ≡ ys' → IsPermutation xs ys → IsPermutation xs' ys'
 moved_as xs ys xs' ys' e f p = rw (← e, ← f) p
 

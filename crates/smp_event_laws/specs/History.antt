@@ -61,7 +61,8 @@ pub record Shows (told : Bool) (queued : List Call) (takes : Bool) (began over :
   pub in_order : told ≡ true → waiting a ++ taken_now takes a.queue ≡ began ++ waiting b
   pub queue_is : told ≡ true → b.queue ≡ queue_next takes a.queue queued
   pub long : length b.ran ≡ length a.ran
-  pub tally : (source n : ℕ) → source < length a.ran → ran_at a source ≡ n % 2 ^ 64 → ran_at b source ≡ (n + count_by (is_from source) over) % 2 ^ 64
+  pub tally : (source n : ℕ) → source < length a.ran → ran_at a source ≡ n % 2 ^ 64
+      → ran_at b source ≡ (n + count_by (is_from source) over) % 2 ^ 64
   pub long_queued : length b.queued ≡ length a.queued
   pub noted : (to n : ℕ) → to < length a.queued → queued_at a to ≡ n % 2 ^ 64 → queued_at b to ≡ (n + count_by (is_to to) notes) % 2 ^ 64
 

@@ -18,7 +18,8 @@ IsTrace u words es t = Runs (opening u words) es t
 
 -- what holds of each CPU of each trace
 abbrev pub OfEachTrace : (Setting → List (ℕ × Event) → StateValue → ℕ → Type 0) → Type 0
-OfEachTrace Law = (u : Setting) (words : LabelWords) (es : List (ℕ × Event)) (t : StateValue) → IsTrace u words es t → (cpu : ℕ) → cpu < 32 → Law u es t cpu
+OfEachTrace Law = (u : Setting) (words : LabelWords) (es : List (ℕ × Event)) (t : StateValue) → IsTrace u words es t
+    → (cpu : ℕ) → cpu < 32 → Law u es t cpu
 
 -- The calls that were queued for a CPU are those that began there and those that it still holds, in some order: each call begins
 -- at most once, on its target, with its record, its function and its argument.
