@@ -1,5 +1,5 @@
-//! The laws of calls, of stops and of labels, of every trace that the model accepts: events that lead from a state in which nothing has happened to
-//! another. Each law is said over what the events show. These functions do nothing.
+//! The laws of calls, of stops and of labels. They hold of every trace that the model accepts: of events that lead from a state
+//! in which nothing has happened to another. Each law is said over what the events show. These functions do nothing.
 
 ghost use Rattle.smp_event_laws.specs.Drained.{DrainedEquals};
 ghost use Rattle.smp_event_laws.specs.Lawful.{LabelsAreLawful, ReadsAreLawful};
