@@ -1,0 +1,9 @@
+pub mod Drained
+pub mod Events
+pub mod History
+pub mod Lawful
+pub mod Places
+pub mod Rounds
+pub mod Texts
+pub mod Traces
+pub mod Turns
