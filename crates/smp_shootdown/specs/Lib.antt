@@ -2,5 +2,3 @@
 pub mod Tlb
 -- what a CPU has queued and sent
 pub mod Once
--- CPUs that have played their parts
-pub mod Ends

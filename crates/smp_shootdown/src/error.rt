@@ -11,6 +11,8 @@ pub enum RunError {
     Table(SmpError),
     #[error("no memory")]
     NoMemory,
+    #[error("a thread could not be started")]
+    NoThread,
     #[error("calls are left in the table")]
     NotDrained,
 }
