@@ -1,2 +1,2 @@
-pub mod Judging
+-- the exit status
 pub mod Status

@@ -1,25 +1,41 @@
 //! What the words of the command line ask for.
 
-use crate::status::Refusal;
+use crate::explore::Scripts;
+use crate::grammar::grammar;
 use clap::error::ErrorKind;
-use clap::{Arg, ArgAction, ArgMatches, Command};
+use clap::{ArgMatches, Error};
 use smp_explore::Most;
-use smp_mask::SmpError;
-use smp_report::{Orders, Run, Sample, Task};
+use smp_mask::CpuMask;
+use smp_report::{Orders, Run, Sample};
+use smp_show::text_kind::TextKind;
+use smp_show::{Choice, Mark};
 use std::alloc::{AllocError, Global};
-
-/// How many states are kept where no word says.
-const MOST_STATES: u32 = 100_000;
 
 /// How many bytes there are in one MiB.
 const MIB: usize = 1_048_576;
 
-/// What a sample is drawn by, how many runs it has, and how many steps one makes at most, where no word says.
-const SEED: u64 = 1;
+/// A list of CPUs has no more bytes than this.
+const MOST_LIST: usize = 1000;
 
-const RUNS: u32 = 100;
+/// A value that `clap` takes and that is wrong all the same.
+#[derive(Clone, Copy)]
+enum Wrong {
+    Cpus,
+    Mark,
+}
 
-const MOST_STEPS: u32 = 10_000;
+impl Wrong {
+    fn text(self) -> &'static str {
+        match self {
+            Wrong::Cpus => {
+                "invalid value for '--cpus <LIST>': it is a list of CPUs from 0 to 31 that is not empty, as 0-2,5"
+            }
+            Wrong::Mark => {
+                "invalid value for '--mark <EVENT>': it is last, or a number from 0 to 4294967295"
+            }
+        }
+    }
+}
 
 /// How a script is shown.
 #[derive(Clone, Copy, Debug, PartialEq, Eq)]
@@ -28,141 +44,187 @@ pub enum View {
     Lanes,
     /// A picture of its replay.
     Svg,
-    /// What is wrong with it.
-    Fault,
+    /// Its replay in the trace-event format.
+    Json,
 }
 
 /// What to do with a text.
 #[derive(Clone, Copy, Debug, PartialEq, Eq)]
-pub enum Job {
-    /// Shows a script.
-    Show(View),
-    /// Explores the programs of CPUs.
-    Explore(Task),
+pub enum Job<'a> {
+    /// Shows what is chosen of a script's replay.
+    Show(View, Choice),
+    /// Says what is wrong with a text of any kind.
+    Explain,
+    /// Judges what an exploration expects.
+    Explore(Orders, Scripts<'a>),
+    /// Finds all final numbers of words of an exploration.
+    Outcomes(Most),
+    /// Writes down one run of an exploration.
+    Write(Run),
+    /// Judges a trace.
+    Judge,
 }
 
-impl Job {
-    /// Why it was not done.
-    pub fn refusal(self, error: SmpError) -> Refusal {
+impl<'a> Job<'a> {
+    /// The kind of text that it takes; none where it takes each.
+    pub fn takes(&self) -> Option<TextKind> {
         match self {
-            Job::Show(_) => Refusal::Unshown(error),
-            Job::Explore(_) => Refusal::Failed(error),
+            Job::Show(..) => Some(TextKind::Replay),
+            Job::Explore(..) | Job::Outcomes(_) | Job::Write(_) => Some(TextKind::Exploration),
+            Job::Judge => Some(TextKind::Trace),
+            Job::Explain => None,
         }
     }
 }
 
-/// What to do with the text of a file, or of standard input.
+/// What to do with the text of a file.
 #[derive(Drop)]
 pub struct Request<'a> {
-    pub job: Job,
+    pub job: Job<'a>,
+    /// The name of the file; none for standard input.
     pub file: Option<&'a str>,
+    /// The words behind it.
+    pub words: Vec<&'a str>,
 }
 
-// A command of this name: these words may stand behind it, each with a value, and then a file.
-fn command<'a>(
-    alloc: Global,
-    name: &'a str,
-    options: &[&'a str],
-) -> Result<Command<'a>, AllocError> {
-    let mut command = Command::new(alloc, name);
-    for &option in options {
-        let arg = Arg::new(alloc, option).long(option).action(ArgAction::Set);
-        command = command.arg(arg)?;
-    }
-    command.arg(Arg::new(alloc, "FILE"))
-}
-
-fn grammar<'a>(alloc: Global) -> Result<Command<'a>, AllocError> {
-    let commands: [(&'a str, &[&'a str]); 6] = [
-        ("lanes", &[]),
-        ("svg", &[]),
-        ("explain", &[]),
-        ("explore", &["states", "memory"]),
-        ("sample", &["seed", "runs", "steps"]),
-        ("script", &["seed", "run", "steps"]),
-    ];
-    let mut grammar = Command::new(alloc, "smp");
-    for (name, options) in commands {
-        grammar = grammar.subcommand(command(alloc, name, options)?)?;
-    }
-    Ok(grammar)
-}
-
-// The number behind a word, or this where the word is not there.
-fn number_of(matches: &ArgMatches<'_>, name: &str, usual: u32) -> Result<u32, Refusal> {
-    match matches.get_str(name) {
-        None => Ok(usual),
-        Some(text) => text.parse::<u32>().map_err(|_| Refusal::Usage),
-    }
+// The number behind a word; that of the grammar where the word is not there.
+fn number(matches: &ArgMatches<'_>, name: &str) -> u32 {
+    matches.get_one::<u32>(name).unwrap_or(0)
 }
 
 // How many bytes of states are kept: no word, no limit.
-fn bytes_of(matches: &ArgMatches<'_>) -> Result<usize, Refusal> {
-    match matches.get_str("memory") {
-        None => Ok(usize::MAX),
-        Some(text) => match text.parse::<u32>() {
-            Ok(count) => Ok(count as usize * MIB),
-            Err(_) => Err(Refusal::Usage),
+fn bytes_of(matches: &ArgMatches<'_>) -> usize {
+    match matches.get_one::<u32>("memory") {
+        Some(count) => count as usize * MIB,
+        None => usize::MAX,
+    }
+}
+
+fn seed_of(matches: &ArgMatches<'_>) -> u64 {
+    matches.get_one::<u64>("seed").unwrap_or(0)
+}
+
+// How much an exploration keeps.
+fn most_of(matches: &ArgMatches<'_>) -> Most {
+    Most {
+        states: number(matches, "states") as usize,
+        bytes: bytes_of(matches),
+    }
+}
+
+fn sample_of(matches: &ArgMatches<'_>) -> Sample {
+    Sample {
+        seed: seed_of(matches),
+        runs: number(matches, "runs"),
+        steps: number(matches, "steps"),
+    }
+}
+
+fn run_of(matches: &ArgMatches<'_>) -> Run {
+    Run {
+        seed: seed_of(matches),
+        number: number(matches, "run"),
+        steps: number(matches, "steps"),
+    }
+}
+
+// Whither the scripts of broken expectations go.
+fn scripts_of<'a>(matches: &ArgMatches<'a>) -> Scripts<'a> {
+    match (matches.get_one::<u32>("only"), matches.get_str("scripts")) {
+        (Some(line), _) => Scripts::Only(line),
+        (None, Some(folder)) => Scripts::Folder(folder),
+        (None, None) => Scripts::Behind,
+    }
+}
+
+// The CPUs behind `--cpus`; none where it is not there.
+fn cpus_of(matches: &ArgMatches<'_>) -> Result<Option<CpuMask>, Wrong> {
+    let Some(list) = matches.get_str("cpus") else {
+        return Ok(None);
+    };
+    if list.len() > MOST_LIST {
+        return Err(Wrong::Cpus);
+    }
+    match CpuMask::parse(list.as_bytes()) {
+        Ok(cpus) if cpus.first().is_some() => Ok(Some(cpus)),
+        _ => Err(Wrong::Cpus),
+    }
+}
+
+// The event behind `--mark`; none where it is not there.
+fn mark_of(matches: &ArgMatches<'_>) -> Result<Option<Mark>, Wrong> {
+    match matches.get_str("mark") {
+        None => Ok(None),
+        Some("last") => Ok(Some(Mark::Last)),
+        Some(number) => match number.parse::<u32>() {
+            Ok(number) => Ok(Some(Mark::Event(number as usize))),
+            Err(_) => Err(Wrong::Mark),
         },
     }
 }
 
-fn seed_of(matches: &ArgMatches<'_>) -> Result<u64, Refusal> {
-    match matches.get_str("seed") {
-        None => Ok(SEED),
-        Some(text) => text.parse::<u64>().map_err(|_| Refusal::Usage),
-    }
-}
-
-// How programs are explored, by the words behind this name.
-fn task_of(name: &str, matches: &ArgMatches<'_>) -> Result<Task, Refusal> {
-    if name == "explore" {
-        return Ok(Task::Judge(Orders::All(Most {
-            states: number_of(matches, "states", MOST_STATES)? as usize,
-            bytes: bytes_of(matches)?,
-        })));
-    }
-    let seed = seed_of(matches)?;
-    let steps = number_of(matches, "steps", MOST_STEPS)?;
-    if name == "sample" {
-        let runs = number_of(matches, "runs", RUNS)?;
-        return Ok(Task::Judge(Orders::Sampled(Sample { seed, runs, steps })));
-    }
-    let number = number_of(matches, "run", 0)?;
-    Ok(Task::Write(Run {
-        seed,
-        number,
-        steps,
-    }))
+// What is shown of a replay.
+fn choice_of(matches: &ArgMatches<'_>) -> Result<Choice, Wrong> {
+    Ok(Choice {
+        from: number(matches, "from") as usize,
+        to: matches.get_one::<u32>("to").unwrap_or(u32::MAX) as usize,
+        cpus: cpus_of(matches)?,
+        mark: mark_of(matches)?,
+    })
 }
 
 // What a subcommand does, by its name and the words behind it.
-fn job_of(name: &str, matches: &ArgMatches<'_>) -> Result<Job, Refusal> {
-    match name {
-        "lanes" => Ok(Job::Show(View::Lanes)),
-        "svg" => Ok(Job::Show(View::Svg)),
-        "explain" => Ok(Job::Show(View::Fault)),
-        _ => Ok(Job::Explore(task_of(name, matches)?)),
+fn job_of<'a>(name: &str, matches: &ArgMatches<'a>) -> Result<Job<'a>, Wrong> {
+    Ok(match name {
+        "lanes" => Job::Show(View::Lanes, choice_of(matches)?),
+        "svg" => Job::Show(View::Svg, choice_of(matches)?),
+        "json" => Job::Show(View::Json, choice_of(matches)?),
+        "explain" => Job::Explain,
+        "explore" => Job::Explore(Orders::All(most_of(matches)), scripts_of(matches)),
+        "sample" => Job::Explore(Orders::Sampled(sample_of(matches)), scripts_of(matches)),
+        "outcomes" => Job::Outcomes(most_of(matches)),
+        "script" => Job::Write(run_of(matches)),
+        _ => Job::Judge,
+    })
+}
+
+// The name of a file, where it is not standard input.
+fn file_of<'a>(matches: &ArgMatches<'a>) -> Option<&'a str> {
+    match matches.get_str("FILE") {
+        Some("-") => None,
+        name => name,
     }
 }
 
-/// What the words ask for: `Failed(NoMemory)` where a growth was refused, and `Usage` where they are no command line, or
-/// ask for help.
-pub fn read_words<'a>(alloc: Global, words: &'a [&'a str]) -> Result<Request<'a>, Refusal> {
-    let Ok(grammar) = grammar(alloc) else {
-        return Err(Refusal::Failed(SmpError::NoMemory));
+// The words behind the file.
+fn words_of<'a>(alloc: Global, matches: &ArgMatches<'a>) -> Result<Vec<&'a str>, AllocError> {
+    let mut words = Vec::new(alloc);
+    if let Some(found) = matches.get_strs("WORD") {
+        for word in found {
+            words.push(*word)?;
+        }
+    }
+    Ok(words)
+}
+
+// What is said of a value that is wrong.
+fn refusal(alloc: Global, wrong: Wrong) -> Result<Error, AllocError> {
+    grammar(alloc)?.error(ErrorKind::ValueValidation, wrong.text())
+}
+
+/// What the words ask for. Where they are no command line, or ask for help or the version, the answer is what `clap` says.
+pub fn read_words<'a>(alloc: Global, words: &'a [&'a str]) -> Result<Request<'a>, Error> {
+    let matches = grammar(alloc)?.try_get_matches_from(words)?;
+    // The grammar asks for a subcommand.
+    let Some((name, found)) = matches.subcommand() else {
+        return Err(grammar(alloc)?.error(ErrorKind::MissingSubcommand, "there is no subcommand")?);
     };
-    match grammar.try_get_matches_from(words) {
-        Ok(matches) => match matches.subcommand() {
-            Some((name, found)) => Ok(Request {
-                job: job_of(name, found)?,
-                file: found.get_str("FILE"),
-            }),
-            None => Err(Refusal::Usage),
-        },
-        Err(e) => match e.kind() {
-            ErrorKind::OutOfMemory => Err(Refusal::Failed(SmpError::NoMemory)),
-            _ => Err(Refusal::Usage),
-        },
+    match job_of(name, found) {
+        Ok(job) => Ok(Request {
+            job,
+            file: file_of(found),
+            words: words_of(alloc, found)?,
+        }),
+        Err(wrong) => Err(refusal(alloc, wrong)?),
     }
 }

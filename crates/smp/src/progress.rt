@@ -20,6 +20,9 @@ pub enum Counted {
 pub struct Progress<'a, R: Clock + Eprint> {
     rt: &'a R,
     counted: Counted,
+    /// The expectation at hand: the word of its line, and the line.
+    word: &'static str,
+    line: u32,
     /// None where the clock failed.
     began: Option<Instant>,
     /// The seconds of which standard error was told.
@@ -29,10 +32,12 @@ pub struct Progress<'a, R: Clock + Eprint> {
 }
 
 impl<'a, R: Clock + Eprint> Progress<'a, R> {
-    pub fn new(rt: &'a R, counted: Counted) -> Progress<'a, R> {
+    pub fn new(rt: &'a R, counted: Counted, word: &'static str, line: u32) -> Progress<'a, R> {
         Progress {
             rt,
             counted,
+            word,
+            line,
             began: Instant::now(rt).ok(),
             told: 0,
             calls: 0,
@@ -54,9 +59,14 @@ impl<'a, R: Clock + Eprint> Progress<'a, R> {
             return Ok(());
         }
         self.told = seconds;
+        let word = self.word;
+        match self.line {
+            0 => eprint!(self.rt; "smp: {word}: ")?,
+            line => eprint!(self.rt; "smp: {word} {line}: ")?,
+        }
         match self.counted {
-            Counted::States => eprintln!(self.rt; "smp: {count} states, {steps} steps"),
-            Counted::Runs => eprintln!(self.rt; "smp: {count} runs, {steps} steps"),
+            Counted::States => eprintln!(self.rt; "{count} states, {steps} steps"),
+            Counted::Runs => eprintln!(self.rt; "{count} runs, {steps} steps"),
         }
     }
 }

@@ -1,54 +1,159 @@
 use super::*;
-use smp_explore::{Most, Unwatched};
+use crate::explore::Scripts;
+use clap::error::ErrorKind;
+use smp_explore::Most;
+use smp_mask::CpuMask;
 use smp_report::{Orders, Run, Sample, Task};
-use smp_show::explain::explanation;
-use smp_show::fault::first_fault;
+use smp_show::Mark;
 use std::alloc::Global;
+use std::str::from_utf8;
 use std::test::*;
+
+// What these words are refused as; none where they are taken.
+fn refused(alloc: Global, words: &[&str]) -> Option<ErrorKind> {
+    read_words(alloc, words).err().map(|e| e.kind())
+}
 
 #[test]
 fn words_that_are_none_of_this_program(rt: HostRuntime) {
-    let cases: [&[&str]; 20] = [
-        &[],
-        &["smp"],
-        &["smp", "jump"],
-        &["smp", "lanes", "one", "two"],
-        &["smp", "explain", "--states", "9"],
-        &["smp", "svg", "--help"],
-        &["smp", "explore", "one", "two"],
-        &["smp", "explore", "--states", "many"],
-        &["smp", "explore", "--states", "4294967296"],
-        &["smp", "explore", "--memory", "many"],
-        &["smp", "explore", "--memory", "-1"],
-        &["smp", "explore", "--memory", "4294967296"],
-        &["smp", "explore", "--seed", "1"],
-        &["smp", "sample", "--memory", "64"],
-        &["smp", "sample", "--states", "9"],
-        &["smp", "sample", "--runs", "-1"],
-        &["smp", "sample", "--seed", "18446744073709551616"],
-        &["smp", "script", "--runs", "7"],
-        &["smp", "script", "--run", "4294967296"],
-        &["smp", "--help"],
+    let cases: [(&[&str], ErrorKind); 24] = [
+        (&["smp"], ErrorKind::MissingSubcommand),
+        (&["smp", "jump"], ErrorKind::InvalidSubcommand),
+        (&["smp", "lanes", "one", "two"], ErrorKind::UnknownArgument),
+        (
+            &["smp", "explain", "--states", "9"],
+            ErrorKind::UnknownArgument,
+        ),
+        (
+            &["smp", "explore", "one", "two"],
+            ErrorKind::UnknownArgument,
+        ),
+        (
+            &["smp", "explore", "--stats", "9"],
+            ErrorKind::UnknownArgument,
+        ),
+        (
+            &["smp", "explore", "--states", "many"],
+            ErrorKind::ValueValidation,
+        ),
+        (
+            &["smp", "explore", "--states", "0"],
+            ErrorKind::ValueValidation,
+        ),
+        (
+            &["smp", "explore", "--states", "4294967296"],
+            ErrorKind::ValueValidation,
+        ),
+        (
+            &["smp", "explore", "--memory", "many"],
+            ErrorKind::ValueValidation,
+        ),
+        (
+            &["smp", "explore", "--memory", "0"],
+            ErrorKind::ValueValidation,
+        ),
+        (
+            &["smp", "explore", "--memory", "4294967296"],
+            ErrorKind::ValueValidation,
+        ),
+        (
+            &["smp", "explore", "--seed", "1"],
+            ErrorKind::UnknownArgument,
+        ),
+        (
+            &["smp", "explore", "--states", "5", "--states", "6"],
+            ErrorKind::ArgumentConflict,
+        ),
+        (
+            &["smp", "sample", "--memory", "64"],
+            ErrorKind::UnknownArgument,
+        ),
+        (
+            &["smp", "sample", "--runs", "0"],
+            ErrorKind::ValueValidation,
+        ),
+        (
+            &["smp", "sample", "--steps", "0"],
+            ErrorKind::ValueValidation,
+        ),
+        (
+            &["smp", "sample", "--seed", "18446744073709551616"],
+            ErrorKind::ValueValidation,
+        ),
+        (
+            &["smp", "script", "--runs", "7"],
+            ErrorKind::UnknownArgument,
+        ),
+        (
+            &["smp", "script", "--run", "4294967296"],
+            ErrorKind::ValueValidation,
+        ),
+        (&["smp", "--help"], ErrorKind::DisplayHelp),
+        (&["smp", "svg", "-h"], ErrorKind::DisplayHelp),
+        (&["smp", "--version"], ErrorKind::DisplayVersion),
+        (&["smp", "judge", "-V"], ErrorKind::DisplayVersion),
     ];
-    for words in cases {
-        assert_eq!(rt; read_words(rt.alloc(), words).err(), Some(Refusal::Usage));
+    for (words, kind) in cases {
+        assert_eq!(rt; refused(rt.alloc(), words), Some(kind));
     }
 }
 
 // What these words ask for.
-fn job(alloc: Global, words: &[&str]) -> Option<Job> {
+fn job<'a>(alloc: Global, words: &'a [&'a str]) -> Option<Job<'a>> {
     Some(read_words(alloc, words).ok()?.job)
+}
+
+/// All events that a number of 32 bits can name.
+const ALL: Choice = Choice {
+    from: 0,
+    to: u32::MAX as usize,
+    cpus: None,
+    mark: None,
+};
+
+#[test]
+fn what_is_chosen_of_a_replay(rt: HostRuntime) -> Result<(), Fail> {
+    let words = [
+        "smp", "svg", "--from", "5", "--to", "9", "--cpus", "0,2", "--mark", "last",
+    ];
+    let said = job(rt.alloc(), &words).ok_or("words")?;
+    let choice = Choice {
+        from: 5,
+        to: 9,
+        cpus: Some(CpuMask::parse(b"0,2").map_err(|_| "mask")?),
+        mark: Some(Mark::Last),
+    };
+    assert_eq!(rt; said, Job::Show(View::Svg, choice));
+    let cases: [(&[&str], ErrorKind); 4] = [
+        (&["smp", "svg", "--cpus", ""], ErrorKind::ValueValidation),
+        (&["smp", "svg", "--cpus", "3-1"], ErrorKind::ValueValidation),
+        (
+            &["smp", "svg", "--mark", "first"],
+            ErrorKind::ValueValidation,
+        ),
+        (
+            &["smp", "lanes", "--mark", "last"],
+            ErrorKind::UnknownArgument,
+        ),
+    ];
+    for (words, kind) in cases {
+        assert_eq!(rt; refused(rt.alloc(), words), Some(kind));
+    }
+    Ok(())
 }
 
 #[test]
 fn how_a_script_is_shown(rt: HostRuntime) -> Result<(), Fail> {
-    for (name, view) in [
-        ("lanes", View::Lanes),
-        ("svg", View::Svg),
-        ("explain", View::Fault),
+    for (name, wanted) in [
+        ("lanes", Job::Show(View::Lanes, ALL)),
+        ("svg", Job::Show(View::Svg, ALL)),
+        ("json", Job::Show(View::Json, ALL)),
+        ("explain", Job::Explain),
+        ("judge", Job::Judge),
     ] {
-        let said = job(rt.alloc(), &["smp", name]).ok_or("words")?;
-        assert_eq!(rt; said, Job::Show(view));
+        let words = ["smp", name];
+        let said = job(rt.alloc(), &words).ok_or("words")?;
+        assert_eq!(rt; said, wanted);
     }
     Ok(())
 }
@@ -59,7 +164,11 @@ fn how_much_is_kept(rt: HostRuntime) -> Result<(), Fail> {
         (&["smp", "explore", "file"], 100_000, usize::MAX),
         (&["smp", "explore", "--states", "89"], 89, usize::MAX),
         (&["smp", "explore", "--memory", "64"], 100_000, 67_108_864),
-        (&["smp", "explore", "--memory", "0", "file"], 100_000, 0),
+        (
+            &["smp", "explore", "--memory", "1", "file"],
+            100_000,
+            1_048_576,
+        ),
         (
             &["smp", "explore", "--memory", "4294967295", "--states", "7"],
             7,
@@ -70,7 +179,7 @@ fn how_much_is_kept(rt: HostRuntime) -> Result<(), Fail> {
         let said = job(rt.alloc(), words).ok_or("words")?;
         assert_eq!(rt;
             said,
-            Job::Explore(Task::Judge(Orders::All(Most { states, bytes })))
+            Job::Explore(Orders::All(Most { states, bytes }), Scripts::Behind)
         );
     }
     Ok(())
@@ -102,10 +211,10 @@ fn which_limit(rt: HostRuntime) -> Result<(), Fail> {
             b"goes holds, 4 states, 4 steps, 2 deep\n".as_slice(),
             0,
         ),
-        (3, usize::MAX, b"goes limit\n".as_slice(), 3),
-        (4, 1024, b"goes limit of memory\n".as_slice(), 3),
-        (0, 0, b"goes limit\n".as_slice(), 3),
-        (1, 0, b"goes limit of memory\n".as_slice(), 3),
+        (3, usize::MAX, b"goes limit\n".as_slice(), 2),
+        (4, 1024, b"goes limit of memory\n".as_slice(), 2),
+        (0, 0, b"goes limit\n".as_slice(), 2),
+        (1, 0, b"goes limit of memory\n".as_slice(), 2),
     ];
     for (states, bytes, wanted, status) in cases {
         let (text, ended) = told(rt.alloc(), states, bytes)?;
@@ -117,14 +226,37 @@ fn which_limit(rt: HostRuntime) -> Result<(), Fail> {
 
 #[test]
 fn from_a_file_or_standard_input(rt: HostRuntime) -> Result<(), Fail> {
-    for name in ["lanes", "svg", "explain", "explore", "sample", "script"] {
+    for name in [
+        "lanes", "svg", "explain", "explore", "sample", "script", "judge",
+    ] {
         let words = ["smp", name, "file"];
         let request = read_words(rt.alloc(), &words).ok().ok_or("words")?;
         assert_eq!(rt; request.file, Some("file"));
+        let words = ["smp", name, "-"];
+        let request = read_words(rt.alloc(), &words).ok().ok_or("words")?;
+        assert_eq!(rt; request.file, None);
         let words = ["smp", name];
         let request = read_words(rt.alloc(), &words).ok().ok_or("words")?;
         assert_eq!(rt; request.file, None);
     }
+    Ok(())
+}
+
+#[test]
+fn whither_scripts_go(rt: HostRuntime) -> Result<(), Fail> {
+    let alloc = rt.alloc();
+    let most = Orders::All(Most {
+        states: 100_000,
+        bytes: usize::MAX,
+    });
+    let words = ["smp", "explore", "--only", "12"];
+    let said = job(alloc, &words).ok_or("words")?;
+    assert_eq!(rt; said, Job::Explore(most, Scripts::Only(12)));
+    let words = ["smp", "explore", "--scripts", "here"];
+    let said = job(alloc, &words).ok_or("words")?;
+    assert_eq!(rt; said, Job::Explore(most, Scripts::Folder("here")));
+    let words = ["smp", "explore", "--scripts", "here", "--only", "3"];
+    assert_eq!(rt; refused(alloc, &words), Some(ErrorKind::ArgumentConflict));
     Ok(())
 }
 
@@ -137,7 +269,7 @@ fn which_runs(rt: HostRuntime) -> Result<(), Fail> {
         steps: 10_000,
     };
     let said = job(alloc, &["smp", "sample", "file"]).ok_or("words")?;
-    assert_eq!(rt; said, Job::Explore(Task::Judge(Orders::Sampled(usual))));
+    assert_eq!(rt; said, Job::Explore(Orders::Sampled(usual), Scripts::Behind));
     let words = [
         "smp",
         "sample",
@@ -154,7 +286,7 @@ fn which_runs(rt: HostRuntime) -> Result<(), Fail> {
         steps: 50,
     };
     let said = job(alloc, &words).ok_or("words")?;
-    assert_eq!(rt; said, Job::Explore(Task::Judge(Orders::Sampled(other))));
+    assert_eq!(rt; said, Job::Explore(Orders::Sampled(other), Scripts::Behind));
     Ok(())
 }
 
@@ -167,7 +299,7 @@ fn which_run_is_written(rt: HostRuntime) -> Result<(), Fail> {
         steps: 10_000,
     };
     let said = job(alloc, &["smp", "script"]).ok_or("words")?;
-    assert_eq!(rt; said, Job::Explore(Task::Write(usual)));
+    assert_eq!(rt; said, Job::Write(usual));
     let words = [
         "smp", "script", "--run", "7", "--seed", "2", "--steps", "50", "file",
     ];
@@ -177,16 +309,134 @@ fn which_run_is_written(rt: HostRuntime) -> Result<(), Fail> {
         steps: 50,
     };
     let said = job(alloc, &words).ok_or("words")?;
-    assert_eq!(rt; said, Job::Explore(Task::Write(other)));
+    assert_eq!(rt; said, Job::Write(other));
     Ok(())
 }
 
+// What is explained of a text, and how that ends.
+fn explained(alloc: Global, text: &[u8]) -> Result<(Vec<u8, Global>, Outcome), SmpError> {
+    let mut writer = Watched::new(Vec::new(alloc));
+    let outcome = explain_text(alloc, text, &mut writer)?;
+    Ok((writer.into_inner(), outcome))
+}
+
 #[test]
-fn what_may_stand_there(rt: HostRuntime) {
-    let script = b"smp 1 replay\ncpus 2 0-1\nstart 0 post 0 1 synk 7 42 1\n";
-    let expected =
-        "line 3 Word: a wrong word, or too few or too many fields\n  start 0 post 0 1 synk 7 42 1\n  field 6: here stands `synk`\n    here may stand: sync, async\n";
-    let found = first_fault(rt.alloc(), script).expect(&rt, "memory");
-    let said = explanation(rt.alloc(), script, found).expect(&rt, "memory");
-    assert_eq!(rt; said.as_str(), expected);
+fn what_may_stand_there(rt: HostRuntime) -> Result<(), Fail> {
+    let cases: [(&str, &str); 14] = [
+        (
+            "smp 1 replay\ncpus 2 0-1\nstart 0 post 0 1 synk 7 42 1\n",
+            "line 3 Word: a wrong word, or too few or too many fields
+  start 0 post 0 1 synk 7 42 1
+  field 6, CLASS: here stands `synk`
+    here may stand: sync, async
+    the line: start CPU post K DST CLASS FUNC INFO TRIES
+",
+        ),
+        (
+            "smp 1 replay\ncpus 2 0-1\nstart 0 post 0 1 sync 7 42\n",
+            "line 3 Word: a wrong word, or too few or too many fields
+  start 0 post 0 1 sync 7 42
+  field 9, TRIES: here the line ends
+    here may stand: a number from 0 to 4294967295
+    the line: start CPU post K DST CLASS FUNC INFO TRIES
+",
+        ),
+        (
+            "smp 1 replay\ncpus 2 0-1\nstat 0 handle\n",
+            "line 3 Word: a wrong word, or too few or too many fields
+  stat 0 handle
+  field 1: here stands `stat`
+    here may stand: labels, start, step, show
+",
+        ),
+        (
+            "smp 1 replay\r\ncpus 2 0-1\r\n",
+            "line 1 Word: a wrong word, or too few or too many fields
+  smp 1 replay\\r
+  field 3: here stands `replay\\r`: a carriage return is its end; a line ends in a line feed alone, not in CR LF
+    here may stand: replay
+    the line: smp VERSION replay
+",
+        ),
+        (
+            "smp 1 replay\ncpus 2 0-1\n# a comment\n",
+            "line 3 Word: a wrong word, or too few or too many fields
+  # a comment
+  field 1: here stands `#`: only explorations and traces have comments, from line 3 on
+    here may stand: labels, start, step, show
+",
+        ),
+        (
+            "smp 1 replay\ncpus 2 0-1\nstep 0 0\n",
+            "line 3 Range: a number outside the range of its field
+  step 0 0
+  field 3, N: here stands `0`
+    here may stand: a number from 1 to 10000
+    the line: step CPU N
+",
+        ),
+        (
+            "smp 1 run\ncpus 2 0-1\ndo 3 1 one 1 7 9\n",
+            "line 3 Range: a number outside the range of its field
+  do 3 1 one 1 7 9
+  field 2, CPU: here stands `3`
+    here may stand: a CPU that is online
+    the line: do CPU N one DST FUNC ARG
+",
+        ),
+        (
+            "smp 1 run\ncpus 2 0-1\ndo 1 1 set 0 up\n",
+            "line 3 Word: a wrong word, or too few or too many fields
+  do 1 1 set 0 up
+  field 6: here stands `up`
+    here may stand: on, off
+",
+        ),
+        (
+            "smp 1 run\ncpus 2 0-1\ndo 0 1 inc 0\ndo 1 1 inc 0\n",
+            "line 4 SharedKey: an earlier line changes the key of this one on another CPU
+  do 1 1 inc 0
+",
+        ),
+        (
+            "smp 1 explore\ncpus 2 0-1\nnever said owd\n",
+            "line 3 Word: a wrong word, or too few or too many fields
+  never said owd
+  field 3, NOTE: here stands `owd`
+    here may stand: E1, E2, E5, E7, E13, owed, queued, sent, done, locked, idle, call, handled, gate, taken, open, begun, entered, same, moved, run, ran, left, finished, pending, result, on, off, NOP, JMP, stop, lost
+",
+        ),
+        (
+            "smp 1 explore\ncpus 2 0-1\ncpu 0 repeat x handle\n",
+            "line 3 Number: a field that is no decimal number
+  cpu 0 repeat x handle
+  field 4, N: here stands `x`
+    here may stand: a number from 0 to 4294967295
+    the line: cpu C repeat N handle
+",
+        ),
+        (
+            "smp 2 trace\ncpus 2 0-1\n0 queue 1 1 sink 7 42\n",
+            "line 3 Word: a wrong word, or too few or too many fields
+  0 queue 1 1 sink 7 42
+  field 5, CLASS: here stands `sink`
+    here may stand: sync, async
+    the line: C queue R D CLASS FUNC INFO
+",
+        ),
+        (
+            "smp 2 replays\n",
+            "line 1 Word: a wrong word, or too few or too many fields
+  smp 2 replays
+  field 3: here stands `replays`
+    here may stand: replay, run, explore, trace
+",
+        ),
+        ("smp 1 explore\ncpus 2 0-1\ncpu 0 send 1\n", "no fault\n"),
+    ];
+    for (text, expected) in cases {
+        let (said, _) = explained(rt.alloc(), text.as_bytes())?;
+        assert_eq!(rt; from_utf8(said.as_slice()).unwrap_or("?"), expected);
+    }
+    Ok(())
 }

@@ -1,4 +1,4 @@
--- Where things stand in a picture, in pixels.
+-- Where things stand in a row of a picture, in pixels.
 use Rattle.std.specs.Prelude.{ℕ, ◌+◌, ◌*◌, ◌==◌, ◌≤◌, Bool, true, false, if◌then◌else◌, min, nat_lt, List, [], ◌∷◌, ◌-◌, length, Option, Some, None}
 use Rattle.std.specs.List.{list_any, slice_get}
 use Rattle.smp_show.specs.declared.frame.Lane.{Lane}
@@ -22,7 +22,7 @@ abbrev pub is_busy : List Row → ℕ → Bool
 is_busy rows cpu = list_any (is_event_of cpu) rows
 
 abbrev pub lane_height : Bool → ℕ
-lane_height busy = if busy then 76 else 24
+lane_height busy = if busy then 62 else 20
 
 -- the lanes of these CPUs from this place on, each below the one before it
 abbrev pub lanes_from : List Row → ℕ → List ℕ → List Lane
@@ -48,30 +48,34 @@ top_of low cpu (lane ∷ lanes) = if lane.cpu == cpu then lane.top else top_of l
 abbrev pub within : ℕ → ℕ → ℕ
 within bound n = if nat_lt n bound then n else bound
 
--- the left edge of a column, none right of the last
-abbrev pub left_of : ℕ → ℕ → ℕ
-left_of last column = 64 + 28 * within last column
+-- a row has at most 60 columns, and at most 30 where they are wide
+abbrev pub FitsIn : Bool → ℕ → ℕ → Type 0
+FitsIn wide first last = (last ≤ first + (if wide then 29 else 59)) × (first ≤ last)
+
+-- the width of a column
+abbrev pub step_of : Bool → ℕ
+step_of wide = if wide then 28 else 14
+
+-- the left edge of a column, none left of the first nor right of the last
+abbrev pub left_of : Bool → ℕ → ℕ → ℕ → ℕ
+left_of wide first last column = if wide then 52 + 28 * (within last column - first) else 52 + 14 * (within last column - first)
+
+-- the middle of a column
+abbrev pub middle_of : Bool → ℕ → ℕ → ℕ → ℕ
+middle_of wide first last column = left_of wide first last column + (if wide then 14 else 7)
 
 -- the upper edge of a CPU's lane, none below the lowest
-abbrev pub upper_of : ℕ → List Lane → ℕ → ℕ
-upper_of low lanes cpu = 128 + within low (top_of low cpu lanes)
+abbrev pub upper_of : ℕ → ℕ → List Lane → ℕ → ℕ
+upper_of base low lanes cpu = base + within low (top_of low cpu lanes)
 
 -- the height of the dots of an event's CPU
-abbrev pub dot_of : ℕ → List Lane → Row → ℕ
-dot_of low lanes row = upper_of low lanes row.cpu + 40
+abbrev pub dot_of : ℕ → ℕ → List Lane → Row → ℕ
+dot_of base low lanes row = upper_of base low lanes row.cpu + 32
 
 -- at most 8 apart
 abbrev pub IsNear : ℕ → ℕ → Type 0
 IsNear y dot = (y ≤ dot + 8) × (dot ≤ y + 8)
 
--- room for the last column
-abbrev pub room_of : ℕ → ℕ
-room_of last = 64 + 28 * (last + 1) + 24
-
--- and for the legend
-abbrev pub width_of : ℕ → ℕ
-width_of last = if nat_lt (room_of last) 800 then 800 else room_of last
-
 -- room for the lowest lane
-abbrev pub height_of : ℕ → ℕ
-height_of low = 128 + low + 76 + 16
+abbrev pub bottom_of : ℕ → ℕ → ℕ
+bottom_of base low = base + low + 62

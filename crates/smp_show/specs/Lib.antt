@@ -2,8 +2,11 @@
 pub mod Moments
 pub mod Trace
 pub mod Replays
+-- what is shown of it
+pub mod Choice
 -- a column for each CPU
 pub mod Cells
+pub mod Slim
 -- the first fault of a script
 pub mod Forms
 pub mod Shapes

@@ -107,3 +107,17 @@ pub fn write_arrow<A: Allocator>(
     )?;
     writeln!(out, " marker-end=\"url(#{style}-head)\"/>")
 }
+
+/// A path of this style, with an arrow's head at its end or without it.
+pub fn write_path<A: Allocator>(
+    out: &mut String<A>,
+    style: &str,
+    path: &str,
+    has_head: bool,
+) -> Result<(), AllocError> {
+    write!(out, "<path class=\"{style}\" d=\"{path}\"")?;
+    if has_head {
+        write!(out, " marker-end=\"url(#{style}-head)\"")?;
+    }
+    writeln!(out, "/>")
+}

@@ -1,21 +1,35 @@
-//! What is wrong with a script, and what may stand in its place.
+//! What is wrong with a text, and what may stand in its place.
 
 ghost use Rattle.std.specs.Prelude.{◌<◌, ◌^◌, length};
 
+use crate::condition_parts::{part_at_fault, part_name, part_text};
 use crate::fault::{Fault, field_at_fault, limit, line_text};
-use crate::fits::{front, shape_found};
-use crate::forms::{Form, Words, word_text};
-use crate::shapes::{forms, shapes};
-use smp_mask::Cause;
-use smp_script::line::fields;
+use crate::keeps::{front, has_shape, is_open, length_of, name_at, refused_at, takes_at};
+use crate::stands::{write_bytes, write_stands};
+use crate::takes::{Place, Takes, write_takes};
+use crate::templates::templates_at;
+use crate::text_kind::{TextKind, kind_of};
+use smp_mask::{Cause, CpuMask};
+use smp_script::line::{fields, is_word, split_part};
 use smp_script::script::MAX_BYTES;
 use std::alloc::{AllocError, Allocator};
 
+// What is said of a text that has too much.
+fn size_text(kind: Option<TextKind>) -> &'static str {
+    match kind {
+        Some(TextKind::Trace) => {
+            "a trace has at most 16,777,216 bytes, 1,000,000 lines, and 1,024 bytes in a line"
+        }
+        Some(TextKind::Exploration) => { "an exploration has at most 65,536 bytes and 2,000 lines" }
+        _ => "a script has at most 65,536 bytes, 2,000 lines and 100,000 events",
+    }
+}
+
 // What a cause says.
-fn cause_text(cause: Cause) -> &'static str {
+fn cause_text(kind: Option<TextKind>, cause: Cause) -> &'static str {
     match cause {
-        Cause::TooLong => "a script has at most 65,536 bytes, 2,000 lines and 100,000 events",
-        Cause::Cut => "the script ends before this line does: a line feed ends each line",
+        Cause::TooLong => size_text(kind),
+        Cause::Cut => "the text ends before this line does: a line feed ends each line",
         Cause::Word => "a wrong word, or too few or too many fields",
         Cause::Number => "a field that is no decimal number",
         Cause::Range => "a number outside the range of its field",
@@ -24,129 +38,239 @@ fn cause_text(cause: Cause) -> &'static str {
     }
 }
 
-// What may stand where one of several words has to.
-fn words_text(words: Words) -> &'static str {
-    match words {
-        Words::Version => "1, 2",
-        Words::Class => "sync, async",
-        Words::Kind => "one, multi, patch",
-        Words::Way => "up, down",
-        Words::WithNumber => "send, done, enter, key, site",
-        Words::WithAnswer => "advance, runone",
-        Words::WithNone => "handle, gate, ungate, finish, poll",
-    }
-}
-
-// What may stand where a field has to be of this form.
-fn write_form<A: Allocator>(out: &mut String<A>, form: Form) -> Result<(), AllocError> {
-    match form {
-        Form::Word(word) => out.push_str(word_text(word)),
-        Form::Words(words) => out.push_str(words_text(words)),
-        Form::Number(low, high) => write!(out, "a number from {low} to {high}"),
-        Form::Signed => write!(out, "a number from -2147483648 to 2147483647"),
-        Form::CpuList(limit) => { write!(out, "-, or a list of CPUs below {limit}, as 0-2,5") }
-        Form::Online(limit) => {
-            write!(
-                out,
-                "a list of CPUs below {limit} and below NR, as 0-2,5, and not empty"
-            )
+// The CPUs that are online by the second line of a text; none where it names none.
+fn online_in(text: &[u8]) -> CpuMask {
+    let Some(line) = line_text(text, 2) else {
+        return CpuMask::empty();
+    };
+    let Some((_, rest)) = split_part(line, b' ') else {
+        return CpuMask::empty();
+    };
+    match split_part(rest, b' ') {
+        Some((_, mask)) if mask.len() <= MAX_BYTES => {
+            CpuMask::parse(mask).unwrap_or(CpuMask::empty())
         }
-        Form::Items => write!(
-            out,
-            "-, or up to 16 items KEY:BRANCH joined by commas, KEY below KEYS, BRANCH 0 or 1"
-        ),
+        _ => CpuMask::empty(),
     }
 }
 
-// A byte of the script: one that can't be printed by its number.
-fn write_byte<A: Allocator>(out: &mut String<A>, byte: u8) -> Result<(), AllocError> {
-    match byte {
-        b'\r' => write!(out, "\\r"),
-        b'\t' => write!(out, "\\t"),
-        32..=126 => out.push(byte as char),
-        _ => write!(out, "\\{byte}"),
-    }
+// What the first two lines of a text settle.
+fn place_in<A: Allocator>(alloc: A, text: &[u8]) -> Result<Place, AllocError> {
+    Ok(Place {
+        kind: kind_of(text).unwrap_or(TextKind::Replay),
+        limit: limit(alloc, text)?,
+        online: online_in(text),
+    })
 }
 
-// The bytes of a line or a field.
-fn write_bytes<A: Allocator>(out: &mut String<A>, bytes: &[u8]) -> Result<(), AllocError> {
-    for byte in bytes {
-        write_byte(out, *byte)?;
-    }
-    Ok(())
-}
-
-// What stands in a field; its number is counted from 1.
-fn write_stands<A: Allocator>(
-    out: &mut String<A>,
-    fields: &[&[u8]],
-    place: usize,
-) -> Result<(), AllocError> {
-    let number = place.saturating_add(1);
-    write!(out, "  field {number}: ")?;
-    match fields.get(place) {
-        Some(field) if field.is_empty() => writeln!(
-            out,
-            "here stands nothing: one space parts two fields"
-        ),
-        Some(field) => {
-            write!(out, "here stands `")?;
-            write_bytes(out, field)?;
-            writeln!(out, "`")
-        }
-        None => writeln!(out, "here the line ends"),
-    }
-}
-
-// What may stand there: what one shape has there, or the end of the line.
-fn write_may<A: Allocator>(
-    out: &mut String<A>,
-    forms: &[Form],
-    place: usize,
-) -> Result<(), AllocError> {
-    write!(out, "    here may stand: ")?;
-    match forms.get(place) {
-        Some(form) => write_form(out, *form)?,
-        None => write!(out, "the end of the line")?,
-    }
-    writeln!(out, "")
-}
-
-// What may stand there in any of the shapes that the line keeps to so far.
-fn write_all_may<A: Allocator + Copy>(
-    alloc: A,
-    out: &mut String<A>,
-    limit: u32,
+/// A line at fault, and the templates that it may keep to.
+#[derive(Clone, Copy)]
+struct Wrong<'a, A: Allocator> {
+    place: Place,
     line: u32,
-    fields: &[&[u8]],
-    place: usize,
-) -> Result<(), AllocError> {
-    let shapes = shapes(alloc, line)?;
-    for shape in shapes.as_slice() {
-        let wanted = forms(alloc, limit, *shape)?;
-        if front(fields, wanted.as_slice()) == place {
-            write_may(out, wanted.as_slice(), place)?;
+    cause: Cause,
+    fields: &'a [&'a [u8]],
+    templates: &'a [String<A>],
+}
+
+impl<'a, A: Allocator> Wrong<'a, A> {
+    // Whether the fault is that of a field with the right words.
+    fn is_of_a_value(&self) -> bool {
+        matches!(self.cause, Cause::Number | Cause::Range | Cause::Mask)
+    }
+
+    // The field at fault by the templates, counted from 0.
+    fn field_by_templates(&self) -> usize {
+        let mut furthest = 0usize;
+        for template in self.templates {
+            let template = template.as_str();
+            if self.is_of_a_value() && has_shape(&self.place, template, self.fields) {
+                return refused_at(&self.place, template, self.fields);
+            }
+            furthest = furthest.max(front(&self.place, template, self.fields));
+        }
+        furthest
+    }
+
+    // Whether the line keeps to a template up to this field.
+    fn keeps(&self, template: &str, at: usize) -> bool {
+        if self.is_of_a_value() {
+            return has_shape(&self.place, template, self.fields);
+        }
+        front(&self.place, template, self.fields) >= at
+            && (length_of(template) >= at || is_open(template))
+    }
+}
+
+// The templates that a line keeps to up to this field.
+fn candidates<'a, A: Allocator + Copy>(
+    alloc: A,
+    wrong: &Wrong<'a, A>,
+    at: usize,
+) -> Result<Vec<&'a str, A>, AllocError> {
+    let mut found = Vec::new(alloc);
+    for template in wrong.templates {
+        if wrong.keeps(template.as_str(), at) {
+            found.push(template.as_str())?;
         }
     }
+    Ok(found)
+}
+
+// The name of a field, where all of these templates have the same there.
+fn common_name<'a>(place: &Place, found: &[&'a str], at: usize) -> Option<&'a str> {
+    let [first, rest @ ..] = found else {
+        return None;
+    };
+    let name = name_at(place, first, at);
+    if rest.iter().all(|other| name_at(place, other, at) == name) {
+        name
+    } else {
+        None
+    }
+}
+
+// What one template may have at a field that is no word of its own; nothing of such a word.
+fn write_other<A: Allocator>(
+    out: &mut String<A>,
+    place: &Place,
+    template: &str,
+    at: usize,
+) -> Result<(), AllocError> {
+    match takes_at(place, template, at) {
+        Some(Takes::Word(_)) => Ok(()),
+        Some(takes) => write_takes(out, place, takes),
+        None => write!(out, "the end of the line"),
+    }
+}
+
+// Adds a text, where it is not there yet and not empty.
+fn push_new<A: Allocator>(
+    texts: &mut Vec<String<A>, A>,
+    text: String<A>,
+) -> Result<(), AllocError> {
+    if !text.is_empty() && !texts.iter().any(|other| other.as_str() == text.as_str()) {
+        texts.push(text)?;
+    }
     Ok(())
+}
+
+// The words that these templates may have at a field, each once.
+fn words_at<A: Allocator + Copy>(
+    alloc: A,
+    place: &Place,
+    found: &[&str],
+    at: usize,
+) -> Result<String<A>, AllocError> {
+    let mut words: Vec<&str, A> = Vec::new(alloc);
+    for template in found {
+        if let Some(Takes::Word(word)) = takes_at(place, template, at) {
+            if !words.iter().any(|other| *other == word) {
+                words.push(word)?;
+            }
+        }
+    }
+    words.join(alloc, ", ")
+}
+
+// What may stand at a field, each once: first the words, then what else these templates may have there.
+fn all_at<A: Allocator + Copy>(
+    alloc: A,
+    place: &Place,
+    found: &[&str],
+    at: usize,
+) -> Result<Vec<String<A>, A>, AllocError> {
+    let mut texts = Vec::new(alloc);
+    push_new(&mut texts, words_at(alloc, place, found, at)?)?;
+    for template in found {
+        let mut text = String::new(alloc);
+        write_other(&mut text, place, template, at)?;
+        push_new(&mut texts, text)?;
+    }
+    Ok(texts)
+}
+
+// The number of a field, counted from 1, with its name where it has one.
+fn write_number<A: Allocator>(
+    out: &mut String<A>,
+    at: usize,
+    name: Option<&str>,
+) -> Result<(), AllocError> {
+    let number = at.saturating_add(1);
+    match name {
+        Some(name) => write!(out, "  field {number}, {name}: "),
+        None => write!(out, "  field {number}: "),
+    }
 }
 
 // What a field at fault has, and what it may have.
 fn write_field<A: Allocator + Copy>(
     alloc: A,
     out: &mut String<A>,
-    limit: u32,
-    fault: Fault,
-    fields: &[&[u8]],
-    place: usize,
+    wrong: &Wrong<'_, A>,
+    at: usize,
 ) -> Result<(), AllocError> {
-    write_stands(out, fields, place)?;
-    let shapes = shapes(alloc, fault.line)?;
-    match shape_found(alloc, limit, shapes.as_slice(), fields)? {
-        Some(forms) => write_may(out, forms.as_slice(), place),
-        None => write_all_may(alloc, out, limit, fault.line, fields, place),
+    let found = candidates(alloc, wrong, at)?;
+    write_number(out, at, common_name(&wrong.place, &found, at))?;
+    write_stands(out, wrong.fields, at)?;
+    for text in all_at(alloc, &wrong.place, &found, at)?.iter() {
+        writeln!(out, "    here may stand: {text}")?;
+    }
+    if let [template] = found.as_slice() {
+        writeln!(out, "    the line: {template}")?;
+    }
+    Ok(())
+}
+
+// What a field of a condition has, and what it may have.
+fn write_part<A: Allocator + Copy>(
+    alloc: A,
+    out: &mut String<A>,
+    wrong: &Wrong<'_, A>,
+) -> Result<(), AllocError> {
+    let (at, part) = part_at_fault(alloc, wrong.fields, wrong.cause)?;
+    write_number(out, at, Some(part_name(part)))?;
+    write_stands(out, wrong.fields, at)?;
+    let text = part_text(part);
+    writeln!(out, "    here may stand: {text}")
+}
+
+// Whether the line is one of an exploration with a condition.
+fn has_condition(place: &Place, fields: &[&[u8]]) -> bool {
+    match fields {
+        [first, _, ..] if place.kind == TextKind::Exploration => {
+            is_word(first, b"always") || is_word(first, b"never") || is_word(first, b"finally")
+        }
+        _ => false,
     }
 }
+
+// The field that a fault lies in. That of a replay is proved to be the one that its reader refuses.
+fn field_of<A: Allocator + Copy>(
+    alloc: A,
+    wrong: &Wrong<'_, A>,
+    is_replay: bool,
+) -> Result<Option<usize>, AllocError>
+    requires { AreShort (map (λ f. f.now) wrong.now.fields.now) }
+{
+    if is_replay {
+        let Wrong {
+            place,
+            line,
+            cause,
+            fields,
+            ..
+        } = *wrong;
+        return field_at_fault(alloc, place.limit, line, fields, cause);
+    }
+    match wrong.cause {
+        Cause::TooLong | Cause::Cut | Cause::SharedKey => Ok(None),
+        _ => Ok(Some(wrong.field_by_templates())),
+    }
+}
+
+ghost use Rattle.std.specs.Prelude.{map};
+ghost use Rattle.smp_script.specs.Lines.{AreShort};
 
 // What is wrong with a line that is there.
 fn write_line<A: Allocator + Copy>(
@@ -161,16 +285,28 @@ fn write_line<A: Allocator + Copy>(
     write!(out, "  ")?;
     write_bytes(out, line)?;
     writeln!(out, "")?;
-    let limit = limit(alloc, text)?;
+    let kind = kind_of(text);
     let fields = fields(alloc, line)?;
-    match field_at_fault(alloc, limit, fault.line, fields.as_slice(), fault.cause)? {
-        Some(place) => write_field(alloc, out, limit, fault, fields.as_slice(), place),
+    let templates = templates_at(alloc, kind, fault.line)?;
+    let wrong = Wrong {
+        place: place_in(alloc, text)?,
+        line: fault.line,
+        cause: fault.cause,
+        fields: fields.as_slice(),
+        templates: templates.as_slice(),
+    };
+    if has_condition(&wrong.place, wrong.fields) {
+        return write_part(alloc, out, &wrong);
+    }
+    match field_of(alloc, &wrong, kind == Some(TextKind::Replay))? {
+        Some(at) => write_field(alloc, out, &wrong, at),
         None => Ok(()),
     }
 }
 
-/// What is said of a script by its first fault: the line and the cause, the line itself, the field at fault, what stands
-/// there, and what may stand there.
+/// What is said of a text by its first fault: the line and the cause, the line itself, the field at fault by its number
+/// and its name, what stands there, what may stand there, and the line that it belongs to. The kind of the text is that
+/// of its first line.
 pub fn explanation<A: Allocator + Copy>(
     alloc: A,
     text: &[u8],
@@ -183,10 +319,10 @@ pub fn explanation<A: Allocator + Copy>(
     };
     let line = fault.line;
     let cause = fault.cause;
-    let meaning = cause_text(cause);
+    let meaning = cause_text(kind_of(text), cause);
     writeln!(out, "line {line} {cause}: {meaning}")?;
     if let Some(line) = line_text(text, line) {
-        // a script that is too long is at fault as a whole
+        // a text that is too long is at fault as a whole
         if fault.line > 0 && line.len() <= MAX_BYTES {
             write_line(alloc, &mut out, text, fault, line)?;
         }

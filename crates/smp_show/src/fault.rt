@@ -1,10 +1,9 @@
-//! The first fault of a replay script, and the field that it lies in.
+//! The first fault of a script, and the field of a replay that it lies in.
 
 ghost use Rattle.std.specs.Prelude.{◌≡◌, ◌<◌, ◌^◌, ◌≤◌, Err, IfOk, IfSome, IsOk, None, length, map};
 ghost use Rattle.smp_script.specs.FirstFault.{IsFirstFault, setting_in, limit_in};
 ghost use Rattle.smp_script.specs.Lines.{AreShort};
 ghost use Rattle.smp_script.specs.Script.{script_of};
-ghost use Rattle.smp_script.specs.declared.mode.Mode.TheVariants.{Replay};
 ghost use Rattle.smp_show.specs.Places.{IsPlace, RefusedAt};
 ghost use Rattle.smp_script.specs.Shapes.{shapes_of};
 ghost use Rattle.smp_show.specs.Shapes.{reach_of, replay_setting};
@@ -25,12 +24,16 @@ pub struct Fault {
     pub cause: Cause,
 }
 
-/// The first fault of a text as a replay script, by the order in which its reader looks; nothing where it has none.
-pub fn first_fault<A: Allocator + Copy>(alloc: A, text: &[u8]) -> Result<Option<Fault>, SmpError>
-    ensures none { IfOk result (λ found. found ≡ None → IsOk (script_of Replay text.now)) }
-    ensures first { IfOk result (λ found. IfSome found (λ f. IsFirstFault (setting_in Replay text.now) text.now f.line f.cause)) }
+/// The first fault of a text as a script of this kind, by the order in which its reader looks; nothing where it has none.
+pub fn first_fault<A: Allocator + Copy>(
+    alloc: A,
+    mode: Mode,
+    text: &[u8],
+) -> Result<Option<Fault>, SmpError>
+    ensures none { IfOk result (λ found. found ≡ None → IsOk (script_of mode text.now)) }
+    ensures first { IfOk result (λ found. IfSome found (λ f. IsFirstFault (setting_in mode text.now) text.now f.line f.cause)) }
 {
-    match read_script(alloc, Mode::Replay, text) {
+    match read_script(alloc, mode, text) {
         Ok(_) => Ok(None),
         Err(SmpError::BadScript { line, cause }) => {
             first_faults_are_told();

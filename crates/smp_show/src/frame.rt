@@ -1,32 +1,30 @@
-//! Where things stand in a picture: columns of events, lanes of CPUs.
+//! Where things stand in a row of a picture: columns of events, lanes of CPUs.
 
 ghost use Rattle.std.specs.Prelude.{◌≡◌, ◌≤◌, ◌<◌, ◌^◌, ◌+◌, ◌*◌, IfOk};
-ghost use Rattle.smp_show.specs.Frame.{column_of, height_of, is_busy, is_event_of, lane_height, lanes_from, left_of, lowest_of, room_of, top_of, upper_of, width_of};
+ghost use Rattle.smp_show.specs.Frame.{bottom_of, column_of, is_busy, is_event_of, lane_height, lanes_from, left_of, lowest_of, step_of, top_of, upper_of, FitsIn};
 
 use crate::trace::{Row, What};
 use std::alloc::{AllocError, Allocator};
 
-/// The width of a column, in pixels, as all lengths here.
-pub const STEP: u64 = 28;
+/// The width of a picture, in pixels, as all lengths here.
+pub const WIDTH: u64 = 900;
 
-/// The place left of the columns and right of them, above the lanes and below them.
-pub const LEFT: u64 = 64;
+/// The place left of the columns.
+pub const LEFT: u64 = 52;
 
-const RIGHT: u64 = 24;
+/// The height of a lane; that of a CPU without an event in the row is lower.
+pub const LANE: u64 = 62;
 
-pub const ABOVE: u64 = 128;
+pub const IDLE_LANE: u64 = 20;
 
-const BELOW: u64 = 16;
+const BUSY: u32 = 62;
 
-/// The height of a lane; that of a CPU without an event is lower.
-pub const LANE: u64 = 76;
+const IDLE: u32 = 20;
 
-const IDLE: u32 = 24;
+/// How many columns a row has at most, and how many where they are wide.
+pub const MOST_COLUMNS: u32 = 60;
 
-const BUSY: u32 = 76;
-
-/// The legend is no wider than this.
-const LEGEND: u64 = 800;
+pub const MOST_WIDE: u32 = 30;
 
 /// Columns of a picture: a script has no more events.
 const MOST: usize = 100_000;
@@ -39,17 +37,23 @@ pub struct Lane {
     pub busy: bool,
 }
 
-/// A picture's last column, the place of its lowest lane, and its lanes.
+/// A row of a picture: its first and its last column and whether they are wide, the place of its highest lane and that of
+/// its lowest below it, and its lanes.
 #[derive(Clone, Copy)]
 pub struct Frame<'a> {
+    pub wide: bool,
+    pub first: u32,
     pub last: u32,
+    pub base: u32,
     pub low: u32,
     pub lanes: &'a [Lane],
+    ghost lawful: { FitsIn wide first last },
 }
 
 /// The column of an event.
 pub fn column(row: &Row) -> u32
-    ensures { result ≡ column_of row.now }
+    ensures value { result ≡ column_of row.now }
+    ensures within { result ≤ 100000 }
 {
     row.number.min(MOST) as u32
 }
@@ -134,47 +138,58 @@ fn top_of(lanes: &[Lane], cpu: u32, low: u32) -> u32
 }
 
 impl<'a> Frame<'a> {
-    /// The width of the picture.
-    pub fn width(&self) -> u64
-        ensures value { result ≡ width_of self.now.last }
-        ensures small { result < 2 ^ 40 }
-        ensures holds { room_of self.now.last ≤ result }
+    /// The width of a column.
+    pub fn step(&self) -> u64
+        ensures { result ≡ step_of self.now.wide }
     {
-        let wanted = LEFT + STEP * (u64::from(self.last) + 1) + RIGHT;
-        if wanted < LEGEND { LEGEND } else { wanted }
+        if self.wide { 28 } else { 14 }
     }
 
-    /// The height of the picture.
-    pub fn height(&self) -> u64
-        ensures value { result ≡ height_of self.now.low }
-        ensures small { 220 ≤ result }
-    {
-        ABOVE + u64::from(self.low) + LANE + BELOW
+    /// The lane of a CPU, where it has one.
+    pub fn lane(&self, cpu: u32) -> Option<&'a Lane> {
+        self.lanes.iter().find(|lane| lane.cpu == cpu)
+    }
+
+    /// Whether a column is one of the row's.
+    pub fn has_column(&self, column: u32) -> bool {
+        self.first <= column && column <= self.last
     }
 
     /// The left edge of a column.
     pub fn left(&self, column: u32) -> u64
-        ensures value { result ≡ left_of self.now.last column }
-        ensures small { result < 2 ^ 40 }
-        ensures inside { result ≤ 64 + 28 * self.now.last }
+        ensures value { result ≡ left_of self.now.wide self.now.first self.now.last column }
+        ensures inside { result + step_of self.now.wide ≤ 892 }
     {
         let column = if column < self.last {
             column
         } else {
             self.last
         };
-        LEFT + STEP * u64::from(column)
+        let place = u64::from(column.saturating_sub(self.first));
+        if self.wide {
+            LEFT + 28 * place
+        } else {
+            LEFT + 14 * place
+        }
     }
 
     /// The upper edge of a CPU's lane.
     pub fn upper(&self, cpu: u32) -> u64
-        ensures value { result ≡ upper_of self.now.low self.now.lanes.now cpu }
+        ensures value { result ≡ upper_of self.now.base self.now.low self.now.lanes.now cpu }
         ensures small { result < 2 ^ 40 }
-        ensures inside { 128 ≤ result }
-        ensures within { result ≤ 128 + self.now.low }
+        ensures inside { self.now.base ≤ result }
+        ensures within { result ≤ self.now.base + self.now.low }
     {
         let top = top_of(self.lanes, cpu, self.low);
         let top = if top < self.low { top } else { self.low };
-        ABOVE + u64::from(top)
+        u64::from(self.base) + u64::from(top)
+    }
+
+    /// The lower edge of the row.
+    pub fn bottom(&self) -> u64
+        ensures value { result ≡ bottom_of self.now.base self.now.low }
+        ensures small { result < 2 ^ 40 }
+    {
+        u64::from(self.base) + u64::from(self.low) + LANE
     }
 }

@@ -6,7 +6,9 @@ ghost use Rattle.smp_mask.specs.Mask.{members};
 ghost use Rattle.smp_show.specs.Cells.{apart, cell_at, front_text, head_cell, head_text, is_column, row_text, table_cell, told_text};
 
 use crate::cell::cell;
+use crate::choice::Choice;
 use crate::pad::write_padded;
+use crate::slim::{write_slim, write_slim_head};
 use crate::trace::Row;
 use smp_mask::CpuMask;
 use std::alloc::{AllocError, Allocator};
@@ -25,6 +27,12 @@ pub struct Layout<'a> {
     pub cpus: &'a [u32],
 }
 
+/// A table has no more columns of text than this, where it has a slim form.
+const MOST_WIDTH: usize = 160;
+
+/// A line of the script is cut in the slim form from here on.
+const MOST_SCRIPT: usize = 40;
+
 /// The CPUs of a mask, ascending.
 pub fn columns<A: Allocator>(alloc: A, online: CpuMask) -> Result<Vec<u32, A>, AllocError>
     ensures { IfOk result (λ cpus. cpus.items ≡ members online) }
@@ -34,6 +42,18 @@ pub fn columns<A: Allocator>(alloc: A, online: CpuMask) -> Result<Vec<u32, A>, A
         cpus.push(cpu)?;
     }
     Ok(cpus)
+}
+
+/// The CPUs of a mask that are chosen, ascending.
+pub fn chosen_columns<A: Allocator + Copy>(
+    alloc: A,
+    choice: &Choice,
+    online: CpuMask,
+) -> Result<Vec<u32, A>, AllocError> {
+    match choice.cpus {
+        Some(cpus) => columns(alloc, online.and(cpus)),
+        None => columns(alloc, online),
+    }
 }
 
 // A line of the script by its number; nothing where there is no such line, or it is no text.
@@ -103,8 +123,8 @@ fn write_apart<A: Allocator>(
     write!(out, " CPU {cpu}: {text}")
 }
 
-// The number of an event, its line's, and the line itself.
-fn write_front<A: Allocator + Copy>(
+/// The number of an event, its line's, and the line itself.
+pub fn write_front<A: Allocator + Copy>(
     alloc: A,
     out: &mut String<A>,
     layout: &Layout<'_>,
@@ -191,8 +211,51 @@ fn widths<A: Allocator + Copy>(
     Ok((script, column))
 }
 
+// Whether the table with a column for each CPU is no wider than it may be.
+fn fits(script: usize, column: usize, cpus: usize) -> bool {
+    let cells = column.saturating_add(3).saturating_mul(cpus);
+    cells.saturating_add(script).saturating_add(14) <= MOST_WIDTH
+}
+
+// The table with a column for each CPU.
+fn wide_table<A: Allocator + Copy>(
+    alloc: A,
+    layout: &Layout<'_>,
+    lines: &[&[u8]],
+    rows: &[Row],
+) -> Result<String<A>, AllocError> {
+    let mut out = String::new(alloc);
+    write_head(alloc, &mut out, layout)?;
+    for row in rows {
+        write_row(alloc, &mut out, layout, row, script_line(lines, row.line))?;
+    }
+    Ok(out)
+}
+
+// The front of a line of the script that finds room in the slim form.
+fn cut(line: &str) -> &str {
+    line.get(..MOST_SCRIPT).unwrap_or(line)
+}
+
+// The table with a mark for each CPU.
+fn slim_table<A: Allocator + Copy>(
+    alloc: A,
+    layout: &Layout<'_>,
+    lines: &[&[u8]],
+    rows: &[Row],
+) -> Result<String<A>, AllocError> {
+    let mut out = String::new(alloc);
+    write_slim_head(&mut out, layout)?;
+    for row in rows {
+        let script = cut(script_line(lines, row.line));
+        write_slim(alloc, &mut out, layout, row, script)?;
+    }
+    Ok(out)
+}
+
 /// The table of a replay: its head, and a row for each event and each `show`, with the number of the event, the line of the
-/// script, and what the CPU has done in the CPU's own column.
+/// script, and what the CPU has done in the CPU's own column. Where that is wider than 160 columns, each CPU has a mark in
+/// place of a column, and what it has done is behind the marks.
 pub fn lanes<A: Allocator + Copy>(
     alloc: A,
     cpus: &[u32],
@@ -200,15 +263,18 @@ pub fn lanes<A: Allocator + Copy>(
     rows: &[Row],
 ) -> Result<String<A>, AllocError> {
     let (script, column) = widths(alloc, rows, lines)?;
+    if fits(script, column, cpus.len()) {
+        let layout = Layout {
+            script,
+            column,
+            cpus,
+        };
+        return wide_table(alloc, &layout, lines, rows);
+    }
     let layout = Layout {
-        script,
+        script: script.min(MOST_SCRIPT),
         column,
         cpus,
     };
-    let mut out = String::new(alloc);
-    write_head(alloc, &mut out, &layout)?;
-    for row in rows {
-        write_row(alloc, &mut out, &layout, row, script_line(lines, row.line))?;
-    }
-    Ok(out)
+    slim_table(alloc, &layout, lines, rows)
 }

@@ -1,15 +1,20 @@
 //! The head of a picture: its styles, its legend, its lanes and the numbers of its events.
 
 use crate::element::{Area, write_area, write_text};
-use crate::frame::{ABOVE, Frame, LANE, LEFT, Lane, STEP};
+use crate::frame::{Frame, IDLE_LANE, LANE, Lane, WIDTH};
 use std::alloc::{AllocError, Allocator};
+
+/// The place of the highest lane of the first row: below the legend and the numbers of the events.
+pub const FIRST_BASE: u32 = 112;
 
 // Colours that readers tell apart who see no red or no green: the eight of Okabe and Ito.
 const STYLES: &str = "<style>
 text { font-family: monospace; font-size: 10px; fill: #000000; }
-text.cpu { font-size: 13px; }
+text.cpu { font-size: 12px; }
 text.number { font-size: 9px; fill: #555555; text-anchor: middle; }
 text.key { font-size: 11px; }
+text.far { font-size: 9px; fill: #555555; text-anchor: end; }
+text.near { font-size: 9px; fill: #555555; }
 rect { stroke-width: 1; }
 rect.lane { fill: #f6f6f6; }
 rect.off { fill: #000000; fill-opacity: 0.16; }
@@ -21,6 +26,7 @@ rect.handle { fill: #009e73; fill-opacity: 0.4; stroke: #009e73; }
 rect.stop { fill: #cc79a7; fill-opacity: 0.4; stroke: #cc79a7; }
 rect.ask { fill: #ffffff; fill-opacity: 0.6; stroke: #000000; }
 rect.nudge { fill: #f0e442; fill-opacity: 0.6; stroke: #a09700; }
+rect.mark { fill: #f0e442; fill-opacity: 0.35; stroke: #d55e00; stroke-width: 2; }
 line.number { stroke: #dddddd; }
 path.call { fill: none; stroke: #0072b2; stroke-width: 1.6; }
 path.interrupt { fill: none; stroke: #d55e00; stroke-width: 1.6; stroke-dasharray: 5 3; }
@@ -71,9 +77,11 @@ const LINKS: &str =
 ";
 
 /// The begin of a picture, with its size, and its styles.
-pub fn write_head<A: Allocator>(out: &mut String<A>, frame: &Frame<'_>) -> Result<(), AllocError> {
-    let width = frame.width();
-    let height = frame.height();
+pub fn write_head<A: Allocator>(
+    out: &mut String<A>,
+    width: u64,
+    height: u64,
+) -> Result<(), AllocError> {
     write!(
         out,
         "<svg xmlns=\"http://www.w3.org/2000/svg\" width=\"{width}\" height=\"{height}\""
@@ -104,18 +112,18 @@ fn write_lane<A: Allocator + Copy>(
     let cpu = lane.cpu;
     let y = frame.upper(cpu);
     let name = format!(in alloc; "CPU {cpu}")?;
-    let height = if lane.busy { LANE } else { 24 };
+    let height = if lane.busy { LANE } else { IDLE_LANE };
     let area = Area {
         x: 0,
         y: y + 1,
-        width: frame.width(),
+        width: WIDTH,
         height: height - 2,
     };
     write_area(out, "lane", area, name.as_str())?;
-    write_text(out, "cpu", 8, y + height / 2 + 5, name.as_str())
+    write_text(out, "cpu", 4, y + height / 2 + 4, name.as_str())
 }
 
-/// The lanes of all CPUs.
+/// The lanes of a row.
 pub fn write_lanes<A: Allocator + Copy>(
     alloc: A,
     out: &mut String<A>,
@@ -134,26 +142,29 @@ fn write_number<A: Allocator + Copy>(
     frame: &Frame<'_>,
     column: u32,
 ) -> Result<(), AllocError> {
-    let x = frame.left(column) + STEP / 2;
-    let bottom = frame.height() - 8;
-    let top = ABOVE - 4;
+    let x = frame.left(column) + frame.step() / 2;
+    let top = u64::from(frame.base);
+    let bottom = frame.bottom();
     writeln!(
         out,
         "<line class=\"number\" x1=\"{x}\" y1=\"{top}\" x2=\"{x}\" y2=\"{bottom}\"/>"
     )?;
     let number = format!(in alloc; "{column}")?;
-    write_text(out, "number", x, ABOVE - 8, number.as_str())
+    write_text(out, "number", x, top.saturating_sub(5), number.as_str())
 }
 
-/// The number of each fifth event.
+/// The number of each fifth event of a row.
 pub fn write_axis<A: Allocator + Copy>(
     alloc: A,
     out: &mut String<A>,
     frame: &Frame<'_>,
 ) -> Result<(), AllocError> {
-    write_text(out, "key", 8, ABOVE - 8, "event")?;
-    for fifth in 0..frame.last / 5 + 1 {
-        write_number(alloc, out, frame, 5 * fifth)?;
+    let top = u64::from(frame.base).saturating_sub(5);
+    write_text(out, "key", 4, top, "event")?;
+    for column in frame.first..frame.last.saturating_add(1) {
+        if column % 5 == 0 {
+            write_number(alloc, out, frame, column)?;
+        }
     }
     Ok(())
 }

@@ -1,21 +1,30 @@
 //! Shows a script: its replay with one column for each CPU, a picture of it, or what is wrong with a script that is not
 //! lawful.
 //!
-//! - `show`, `svg`: A script from a reader, and what is shown of it to a writer.
+//! - `show`, `svg`, `json`: A script from a reader, and what is shown of it to a writer.
+//! - `choice`: Which events are shown.
 //! - `moments`, `trace`: What a script asks for, moment by moment, and what is seen of it.
-//! - `lanes`, `cell`, `pad`: A replay with one column for each CPU.
+//! - `lanes`, `slim`, `cell`, `pad`: A replay with one column for each CPU, or one mark.
 //! - `picture`, `legend`, `element`: A replay as a picture.
-//! - `frame`, `link`, `mark`: Where things stand in it, what opens and closes an arrow or a band, and the names of styles.
-//! - `forms`, `shapes`, `fits`, `fault`, `explain`: What is wrong with a script, and what may stand in its place.
+//! - `frame`, `spans`, `link`, `mark`: Where things stand in it, what is drawn from one event to another, what opens and
+//!   closes that, and the names of styles.
+//! - `text_kind`: The kinds of texts.
+//! - `forms`, `shapes`, `fits`, `fault`: The first fault of a script, and the field of a replay that it lies in.
+//! - `templates`, `takes`, `keeps`, `condition_parts`, `stands`, `explain`: What is wrong with a text of any kind, and what
+//!   may stand in its place.
 #![tactic(auto)]
 
 pub mod cell;
+pub mod choice;
+mod condition_parts;
 mod element;
 pub mod explain;
 pub mod fault;
 pub mod fits;
 pub mod forms;
 pub mod frame;
+mod json;
+mod keeps;
 pub mod lanes;
 mod legend;
 pub mod link;
@@ -25,8 +34,16 @@ mod pad;
 pub mod picture;
 pub mod shapes;
 pub mod show;
+mod slim;
+mod spans;
+mod stands;
 pub mod svg;
+mod takes;
+mod templates;
+pub mod text_kind;
 pub mod trace;
 
+pub use choice::{Choice, Mark};
+pub use json::show_json;
 pub use show::{explain_script, show_lanes};
 pub use svg::show_svg;

@@ -9,10 +9,12 @@ ghost use Rattle.smp_core.specs.New.{new_core};
 ghost use Rattle.smp_replay.specs.Output.{labels_or_none};
 ghost use Rattle.smp_show.specs.Replays.{ending_of, has_refused, rows_of_script};
 
+use crate::choice::Choice;
 use crate::explain::explanation;
 use crate::fault::first_fault;
-use crate::lanes::{columns, lanes};
+use crate::lanes::{chosen_columns, lanes};
 use crate::moments::moments;
+use crate::text_kind::{TextKind, kind_of};
 use crate::trace::{Row, is_refused, trace};
 use smp_core::Core;
 use smp_labels::LabelMap;
@@ -76,12 +78,13 @@ pub fn ending(rows: &[Row]) -> Outcome
     }
 }
 
-/// Reads a script, and writes its replay with one column for each CPU.
+/// Reads a script, and writes what is chosen of its replay with one column for each CPU.
 ///
 /// Refusals, in this order: `StreamFailed(Read)` where the reader failed, `BadScript` with the first fault where
 /// the script is not lawful, `NoMemory` where a growth was refused, `StreamFailed(Write)` where the writer failed.
 pub fn show_lanes<A: Allocator + Copy, R: Read, W: Write>(
     alloc: A,
+    choice: &Choice,
     reader: &mut Watched<R>,
     writer: &mut Watched<W>,
 ) -> Result<Outcome, SmpError>
@@ -96,17 +99,28 @@ pub fn show_lanes<A: Allocator + Copy, R: Read, W: Write>(
     let Ok(lines) = parts(alloc, text.as_slice(), b'\n') else {
         return Err(SmpError::NoMemory);
     };
-    let Ok(cpus) = columns(alloc, script.online) else {
+    let Ok(cpus) = chosen_columns(alloc, choice, script.online) else {
         return Err(SmpError::NoMemory);
     };
-    let Ok(table) = lanes(alloc, cpus.as_slice(), lines.as_slice(), rows.as_slice()) else {
+    let Ok(chosen) = choice.chosen(alloc, rows.as_slice()) else {
+        return Err(SmpError::NoMemory);
+    };
+    let Ok(table) = lanes(alloc, cpus.as_slice(), lines.as_slice(), chosen.as_slice()) else {
         return Err(SmpError::NoMemory);
     };
     write_text(writer, table.as_bytes())?;
     Ok(ending(rows.as_slice()))
 }
 
-/// Reads a script, and writes what its first fault is and what may stand there: `Done` where it has none.
+// The kind of script that a text is explained as: a run where its first line says so, else a replay.
+fn mode_of(text: &[u8]) -> Mode {
+    match kind_of(text) {
+        Some(TextKind::Run) => Mode::Run,
+        _ => Mode::Replay,
+    }
+}
+
+/// Reads a script of either kind, and writes what its first fault is and what may stand there: `Done` where it has none.
 ///
 /// Refusals, in this order: `StreamFailed(Read)` where the reader failed, `NoMemory` where a growth was refused,
 /// `StreamFailed(Write)` where the writer failed.
@@ -121,7 +135,7 @@ pub fn explain_script<A: Allocator + Copy, R: Read, W: Write>(
     ensures flushed { OnOk result (flushed_of writer.new ≡ true) }
 {
     let text = read_text(alloc, reader)?;
-    let found = first_fault(alloc, text.as_slice())?;
+    let found = first_fault(alloc, mode_of(text.as_slice()), text.as_slice())?;
     let Ok(said) = explanation(alloc, text.as_slice(), found) else {
         return Err(SmpError::NoMemory);
     };

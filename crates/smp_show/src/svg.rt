@@ -4,9 +4,10 @@ ghost use Rattle.std.specs.Prelude.{◌≡◌, Err, OnOk, true, false};
 ghost use Rattle.smp_script.specs.Watched.{inner_of, failed_of, flushed_of};
 ghost use Rattle.smp_mask.specs.declared.error.Side.TheVariants.{Read as ReadSide};
 
-use crate::lanes::columns;
-use crate::moments::moments;
-use crate::picture::picture;
+use crate::choice::Choice;
+use crate::lanes::chosen_columns;
+use crate::moments::{Moment, moments};
+use crate::picture::{Replayed, picture};
 use crate::show::{ending, rows};
 use crate::trace::Row;
 use smp_mask::SmpError;
@@ -17,47 +18,58 @@ use smp_script::{Mode, Outcome, Watched};
 use std::alloc::{AllocError, Allocator};
 use std::io::{Read, Write};
 
-// The CPUs that have a lane: those online, and one that was named in a refused event.
-fn lane_cpus<A: Allocator>(
+/// The CPUs that have a lane, of those that are chosen: those online, and one that was named in a refused event.
+pub fn lane_cpus<A: Allocator + Copy>(
     alloc: A,
+    choice: &Choice,
     script: &Script<A>,
     rows: &[Row],
 ) -> Result<Vec<u32, A>, AllocError> {
-    let mut cpus = columns(alloc, script.online)?;
+    let mut cpus = chosen_columns(alloc, choice, script.online)?;
     if let Some(row) = rows.last() {
-        if !cpus.as_slice().iter().any(|c| *c == row.cpu) {
-            cpus.push(row.cpu)?;
+        let cpu = row.cpu;
+        if choice.has_cpu(cpu) && !cpus.as_slice().iter().any(|c| *c == cpu) {
+            cpus.push(cpu)?;
         }
     }
     Ok(cpus)
 }
 
+/// What the lines of a script ask for.
+pub fn moments_of<A: Allocator + Copy>(
+    alloc: A,
+    script: &Script<A>,
+) -> Result<Vec<Moment, A>, AllocError> {
+    let first = if script.labels.is_some() { 4 } else { 3 };
+    moments(alloc, first, script.directives.as_slice())
+}
+
 // The picture of a script's replay.
 fn draw<A: Allocator + Copy>(
     alloc: A,
+    choice: &Choice,
     text: &[u8],
     script: &Script<A>,
     rows: &[Row],
 ) -> Result<String<A>, AllocError> {
     let lines = parts(alloc, text, b'\n')?;
-    let cpus = lane_cpus(alloc, script, rows)?;
-    let first = if script.labels.is_some() { 4 } else { 3 };
-    let moments = moments(alloc, first, script.directives.as_slice())?;
-    picture(
-        alloc,
-        cpus.as_slice(),
-        lines.as_slice(),
-        moments.as_slice(),
+    let cpus = lane_cpus(alloc, choice, script, rows)?;
+    let moments = moments_of(alloc, script)?;
+    let replayed = Replayed {
+        lines: lines.as_slice(),
+        moments: moments.as_slice(),
         rows,
-    )
+    };
+    picture(alloc, choice, cpus.as_slice(), &replayed)
 }
 
-/// Reads a script, and writes a picture of its replay.
+/// Reads a script, and writes a picture of what is chosen of its replay.
 ///
 /// Refusals, in this order: `StreamFailed(Read)` where the reader failed, `BadScript` with the first fault where
 /// the script is not lawful, `NoMemory` where a growth was refused, `StreamFailed(Write)` where the writer failed.
 pub fn show_svg<A: Allocator + Copy, R: Read, W: Write>(
     alloc: A,
+    choice: &Choice,
     reader: &mut Watched<R>,
     writer: &mut Watched<W>,
 ) -> Result<Outcome, SmpError>
@@ -69,7 +81,7 @@ pub fn show_svg<A: Allocator + Copy, R: Read, W: Write>(
     let text = read_text(alloc, reader)?;
     let script = read_script(alloc, Mode::Replay, text.as_slice())?;
     let rows = rows(alloc, &script)?;
-    let Ok(picture) = draw(alloc, text.as_slice(), &script, rows.as_slice()) else {
+    let Ok(picture) = draw(alloc, choice, text.as_slice(), &script, rows.as_slice()) else {
         return Err(SmpError::NoMemory);
     };
     write_text(writer, picture.as_bytes())?;

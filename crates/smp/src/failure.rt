@@ -1,0 +1,36 @@
+//! Why a text was not shown, explored or judged to its end.
+
+use smp_mask::SmpError;
+use smp_show::fault::Fault;
+use smp_show::text_kind::TextKind;
+use std::io;
+
+/// Why a text was not shown, explored or judged to its end.
+#[derive(Clone, Copy)]
+pub enum Failure {
+    /// The text could not be read, for this reason of the system.
+    Unread(io::Error),
+    /// What was found could not be written; the reason of the system, where it gave one.
+    Unwritten(Option<io::Error>),
+    /// A script could not be written into its file, for this reason of the system.
+    Unsaved(io::Error),
+    /// A word that was named is no word of the table, or there are too many outcomes.
+    NoWord,
+    /// No expectation stands on the line that was named.
+    NoExpectation,
+    /// The text is of another kind than the command takes.
+    OtherKind(TextKind),
+    /// The text is at fault.
+    Fault(Fault),
+    NoMemory,
+}
+
+/// Why a call failed that reads from memory. Why its writer failed, if it did, is not known here.
+pub fn failure_of(error: SmpError) -> Failure {
+    match error {
+        SmpError::BadScript { line, cause } => Failure::Fault(Fault { line, cause }),
+        SmpError::StreamFailed(_) => Failure::Unwritten(None),
+        SmpError::BadArgument => Failure::NoWord,
+        _ => Failure::NoMemory,
+    }
+}
