@@ -151,7 +151,7 @@ pub struct Report {
 
 /// Runs each CPU on a thread of its own, and gives all back. The TLB of each holds no entry of a space of which the CPU has run a
 /// flush.
-#[tactic(auto, using(crate::proofs::Ending::are_back))]
+
 fn run_all<'a, R: Wait + Threads + Sync>(
     rt: &R,
     alloc: Global,

@@ -1,6 +1,6 @@
 //! A TLB shootdown: a CPU drops an address space from the TLBs of all CPUs that use it.
 
-ghost use Rattle.std.specs.Prelude.{ℕ, IfOk, IfErr};
+ghost use Rattle.std.specs.Prelude.{◌≡◌, ℕ, false, IfOk, IfErr};
 ghost use Rattle.smp_mask.specs.Mask.{has, members};
 ghost use Rattle.smp_calls.specs.Ended.{HaveEnded};
 ghost use Rattle.smp_calls.specs.Records.{many_call};
@@ -25,7 +25,6 @@ use std::sync::Wait;
 /// must poll. Meanwhile it runs the flushes that were queued for it.
 ///
 /// E4 (`SmpError::BadArgument`) where a work of a stop is in hand.
-#[tactic(auto, using(crate::proofs::Shooting::keeps_flushed, crate::proofs::Shooting::calls_once, crate::proofs::Shooting::has_ended, crate::proofs::Flushed::gone))]
 pub fn shoot_down<'a, R: Wait>(
     seat: &mut Seat<'_, Global, R, Tlb<'a>, NoStop>,
     space: &AddressSpace,
