@@ -6,10 +6,13 @@ use Rattle.std.proofs.lemmas.Bool.{eq-eqb}
 use Rattle.std.proofs.lemmas.Fn.{chained_keeps}
 use Rattle.std.proofs.lemmas.List.Elements.{All-filter, All-weaker, All-push, filter_passes}
 use Rattle.smp_words.specs.declared.call.Call.{Call}
+use Rattle.smp_call_steps.specs.Histories.{orders}
+use Rattle.smp_calls.specs.Handles.{Handles, batches}
+use Rattle.smp_queue.specs.Cpu.{CpuValue}
 use Rattle.smp_queue.specs.declared.handler.Heard.{Heard}
 use Rattle.smp_queue.specs.Handling.{Grows, heard_of}
 use Rattle.smp_shootdown.specs.declared.tlb.Entry.{Entry}
-use Rattle.smp_shootdown.specs.Tlb.{without, left_by, left_after, IsGone, AreFlushed}
+use Rattle.smp_shootdown.specs.Tlb.{without, left_by, IsGone, AreFlushed, IsFlushed}
 
 apart : (a b : ℕ) → not (a == b) ≡ true → a ≢ b
 apart a b h e = let k = ap not (eq-eqb a b e) in let bad : true ≡ false = sym h ∙ k in cc
@@ -51,15 +54,15 @@ module _ {H : Type 0} (leads : H → Heard → H → Type 0) (entries : H → Li
       subst (λ es. AreFlushed (old ++ (xs ++ call ∷ [])) es) (sym (leaves q (heard_of call) v led))
       (subst (λ cs. AreFlushed cs (left_by (heard_of call) (entries q))) (append_assoc old xs (call ∷ [])) (flushed_more (old ++ xs) call (entries q) h))
 
-  pub flushed_all : (old : List Call) (before : H) (calls : List Call) (after : H) → AreFlushed old (entries before) → Grows leads before calls after
+  flushed_all : (old : List Call) (before : H) (calls : List Call) (after : H) → AreFlushed old (entries before) → Grows leads before calls after
       → AreFlushed (old ++ calls) (entries after)
   flushed_all old before calls after h grows =
       chained_keeps (λ p call q. leads p (heard_of call) q) (λ xs q. AreFlushed (old ++ xs) (entries q)) (one_more old) calls before after
       (subst (λ cs. AreFlushed cs (entries before)) (sym (append-nil old)) h) grows
 
-  pub left_all : (before : H) (calls : List Call) (after : H) → Grows leads before calls after → entries after ≡ left_after calls (entries before)
-  left_all before calls after grows =
-      chained_keeps (λ p call q. leads p (heard_of call) q) (λ xs q. entries q ≡ left_after xs (entries before))
-      (λ xs q call v is led. leaves q (heard_of call) v led ∙
-      (ap (left_by (heard_of call)) is ∙ sym (fold_push (λ es c. left_by (heard_of c) es) (entries before) xs call)))
-      calls before after refl grows
+  -- of a CPU that has handled meanwhile
+  pub flushed_handled : (old new : CpuValue) (before after : H) → IsFlushed old (entries before) → Handles leads old before new after
+      → IsFlushed new (entries after)
+  flushed_handled old new before after h made =
+      subst (λ cs. AreFlushed cs (entries after)) (sym made.ran_is)
+      (flushed_all old.part.ran before (orders (batches made.turns)) after h made.grows)

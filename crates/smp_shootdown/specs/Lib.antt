@@ -2,3 +2,5 @@
 pub mod Tlb
 -- what a CPU has queued and sent
 pub mod Once
+-- CPUs that have played their parts
+pub mod Ends

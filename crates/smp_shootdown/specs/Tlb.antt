@@ -1,8 +1,8 @@
 -- What a TLB holds, and what a call takes out of it.
-use Rattle.std.specs.Prelude.{◌≡◌, ◌≢◌, ℕ, ◌==◌, not, if◌then◌else◌, List, filter, fold, All}
+use Rattle.std.specs.Prelude.{◌≡◌, ◌≢◌, ℕ, ◌==◌, not, if◌then◌else◌, List, filter, All}
 use Rattle.smp_words.specs.declared.call.Call.{Call}
+use Rattle.smp_queue.specs.Cpu.{CpuValue}
 use Rattle.smp_queue.specs.declared.handler.Heard.{Heard}
-use Rattle.smp_queue.specs.Handling.{heard_of}
 use Rattle.smp_shootdown.specs.declared.tlb.Entry.{Entry}
 
 -- the entries that are not of this address space
@@ -17,10 +17,10 @@ IsGone space entries = All (λ e. e.space ≢ space) entries
 abbrev pub left_by : Heard → List Entry → List Entry
 left_by call entries = if call.func == 1 then without call.info entries else entries
 
--- what these calls leave, one after the other
-abbrev pub left_after : List Call → List Entry → List Entry
-left_after calls entries = fold (λ es call. left_by (heard_of call) es) entries calls
-
 -- no entry is of an address space that one of these calls flushes
 abbrev pub AreFlushed : List Call → List Entry → Type 0
 AreFlushed calls entries = All (λ call. call.func ≡ 1 → IsGone call.info entries) calls
+
+-- a TLB with these entries has none of an address space of which its CPU has run a flush
+abbrev pub IsFlushed : CpuValue → List Entry → Type 0
+IsFlushed c entries = AreFlushed c.part.ran entries

@@ -11,8 +11,6 @@ pub enum RunError {
     Table(SmpError),
     #[error("no memory")]
     NoMemory,
-    #[error("a thread could not be started")]
-    NoThread,
     #[error("calls are left in the table")]
     NotDrained,
 }

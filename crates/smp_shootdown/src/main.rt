@@ -2,22 +2,22 @@
 //! goes on once they have (`arch/arm/kernel/smp_tlb.c: flush_tlb_mm`).
 //!
 //! What is proved, by the clauses of public calls alone:
-//! - at the caller: when `Mmu::shoot_down` returns, each user of the space that it has called has run the flush, in calls
-//!   that some words show (`ended`), and its own TLB holds no entry of the space (`own`);
-//! - at each CPU, at any time: its TLB holds no entry of a space of which it has run a flush (the invariant of `Mmu`, by
-//!   what its handler leads to).
+//! - at the caller: when `shoot_down` returns, each user of the space that it has called has run the flush, in calls that some
+//!   words show (`ended`), and its own TLB holds no entry of the space (`own`);
+//! - at each CPU that is given back: its TLB holds no entry of a space of which it has run a flush (`run_all`, by what its
+//!   handler leads to).
 //!
 //! That the words of the first are those of the CPUs of the second is how the table is proved, and no clause can say it.
 //! So that the entries are gone when the call returns is only tested: the program prints how many were gone then.
 #![tactic(auto)]
 
 mod error;
-mod mmu;
+mod run;
+mod shoot;
 mod space;
-mod threads;
 mod tlb;
 
-use crate::threads::{Report, run};
+use crate::run::{Report, run};
 use std::io;
 use std::process::ExitCode;
 
