@@ -1,10 +1,7 @@
 use super::*;
-use crate::explore::Scripts;
 use clap::error::ErrorKind;
 use smp_explore::Most;
-use smp_mask::CpuMask;
-use smp_report::{Orders, Run, Sample, Task};
-use smp_show::Mark;
+use smp_report::{Orders, Task};
 use std::alloc::Global;
 use std::str::from_utf8;
 use std::test::*;
@@ -98,93 +95,6 @@ fn words_that_are_none_of_this_program(rt: HostRuntime) {
     }
 }
 
-// What these words ask for.
-fn job<'a>(alloc: Global, words: &'a [&'a str]) -> Option<Job<'a>> {
-    Some(read_words(alloc, words).ok()?.job)
-}
-
-/// All events that a number of 32 bits can name.
-const ALL: Choice = Choice {
-    from: 0,
-    to: u32::MAX as usize,
-    cpus: None,
-    mark: None,
-};
-
-#[test]
-fn what_is_chosen_of_a_replay(rt: HostRuntime) -> Result<(), Fail> {
-    let words = [
-        "smp", "svg", "--from", "5", "--to", "9", "--cpus", "0,2", "--mark", "last",
-    ];
-    let said = job(rt.alloc(), &words).ok_or("words")?;
-    let choice = Choice {
-        from: 5,
-        to: 9,
-        cpus: Some(CpuMask::parse(b"0,2").map_err(|_| "mask")?),
-        mark: Some(Mark::Last),
-    };
-    assert_eq!(rt; said, Job::Show(View::Svg, choice));
-    let cases: [(&[&str], ErrorKind); 4] = [
-        (&["smp", "svg", "--cpus", ""], ErrorKind::ValueValidation),
-        (&["smp", "svg", "--cpus", "3-1"], ErrorKind::ValueValidation),
-        (
-            &["smp", "svg", "--mark", "first"],
-            ErrorKind::ValueValidation,
-        ),
-        (
-            &["smp", "lanes", "--mark", "last"],
-            ErrorKind::UnknownArgument,
-        ),
-    ];
-    for (words, kind) in cases {
-        assert_eq!(rt; refused(rt.alloc(), words), Some(kind));
-    }
-    Ok(())
-}
-
-#[test]
-fn how_a_script_is_shown(rt: HostRuntime) -> Result<(), Fail> {
-    for (name, wanted) in [
-        ("lanes", Job::Show(View::Lanes, ALL)),
-        ("svg", Job::Show(View::Svg, ALL)),
-        ("json", Job::Show(View::Json, ALL)),
-        ("explain", Job::Explain),
-        ("judge", Job::Judge),
-    ] {
-        let words = ["smp", name];
-        let said = job(rt.alloc(), &words).ok_or("words")?;
-        assert_eq!(rt; said, wanted);
-    }
-    Ok(())
-}
-
-#[test]
-fn how_much_is_kept(rt: HostRuntime) -> Result<(), Fail> {
-    let cases: [(&[&str], usize, usize); 5] = [
-        (&["smp", "explore", "file"], 100_000, usize::MAX),
-        (&["smp", "explore", "--states", "89"], 89, usize::MAX),
-        (&["smp", "explore", "--memory", "64"], 100_000, 67_108_864),
-        (
-            &["smp", "explore", "--memory", "1", "file"],
-            100_000,
-            1_048_576,
-        ),
-        (
-            &["smp", "explore", "--memory", "4294967295", "--states", "7"],
-            7,
-            4_503_599_626_321_920,
-        ),
-    ];
-    for (words, states, bytes) in cases {
-        let said = job(rt.alloc(), words).ok_or("words")?;
-        assert_eq!(rt;
-            said,
-            Job::Explore(Orders::All(Most { states, bytes }), Scripts::Behind)
-        );
-    }
-    Ok(())
-}
-
 // What is told of two sends, where no more is kept than this, and the status of the program.
 fn told(alloc: Global, states: usize, bytes: usize) -> Result<(Vec<u8, Global>, u8), SmpError> {
     let text = b"smp 1 explore\ncpus 2 0-1\ncpu 0 send 1\ncpu 1 send 0\n".as_slice();
@@ -239,77 +149,6 @@ fn from_a_file_or_standard_input(rt: HostRuntime) -> Result<(), Fail> {
         let request = read_words(rt.alloc(), &words).ok().ok_or("words")?;
         assert_eq!(rt; request.file, None);
     }
-    Ok(())
-}
-
-#[test]
-fn whither_scripts_go(rt: HostRuntime) -> Result<(), Fail> {
-    let alloc = rt.alloc();
-    let most = Orders::All(Most {
-        states: 100_000,
-        bytes: usize::MAX,
-    });
-    let words = ["smp", "explore", "--only", "12"];
-    let said = job(alloc, &words).ok_or("words")?;
-    assert_eq!(rt; said, Job::Explore(most, Scripts::Only(12)));
-    let words = ["smp", "explore", "--scripts", "here"];
-    let said = job(alloc, &words).ok_or("words")?;
-    assert_eq!(rt; said, Job::Explore(most, Scripts::Folder("here")));
-    let words = ["smp", "explore", "--scripts", "here", "--only", "3"];
-    assert_eq!(rt; refused(alloc, &words), Some(ErrorKind::ArgumentConflict));
-    Ok(())
-}
-
-#[test]
-fn which_runs(rt: HostRuntime) -> Result<(), Fail> {
-    let alloc = rt.alloc();
-    let usual = Sample {
-        seed: 1,
-        runs: 100,
-        steps: 10_000,
-    };
-    let said = job(alloc, &["smp", "sample", "file"]).ok_or("words")?;
-    assert_eq!(rt; said, Job::Explore(Orders::Sampled(usual), Scripts::Behind));
-    let words = [
-        "smp",
-        "sample",
-        "--runs",
-        "7",
-        "--seed",
-        "18446744073709551615",
-        "--steps",
-        "50",
-    ];
-    let other = Sample {
-        seed: u64::MAX,
-        runs: 7,
-        steps: 50,
-    };
-    let said = job(alloc, &words).ok_or("words")?;
-    assert_eq!(rt; said, Job::Explore(Orders::Sampled(other), Scripts::Behind));
-    Ok(())
-}
-
-#[test]
-fn which_run_is_written(rt: HostRuntime) -> Result<(), Fail> {
-    let alloc = rt.alloc();
-    let usual = Run {
-        seed: 1,
-        number: 0,
-        steps: 10_000,
-    };
-    let said = job(alloc, &["smp", "script"]).ok_or("words")?;
-    assert_eq!(rt; said, Job::Write(usual));
-    let words = [
-        "smp", "script", "--run", "7", "--seed", "2", "--steps", "50", "file",
-    ];
-    let other = Run {
-        seed: 2,
-        number: 7,
-        steps: 50,
-    };
-    let said = job(alloc, &words).ok_or("words")?;
-    assert_eq!(rt; said, Job::Write(other));
     Ok(())
 }
 
