@@ -283,7 +283,7 @@ impl<A: Allocator + Copy> Cpu<A> {
         Ok(())
     }
 
-    /// The same of a call that is unlocked.
+    /// `begin` of a call that is unlocked already.
     fn begin_unlocked(&mut self, seen: Entry, current: Current) -> Result<(), Reason>
         ensures { Makes result self.new (begun_unlocked seen current self.old) }
     {

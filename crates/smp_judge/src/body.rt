@@ -103,7 +103,7 @@ fn told<A: Allocator + Copy>(
     }
 }
 
-/// The line of this number, after so many events: how many there are with it.
+/// The line of this number, after a number of events: how many there are with it.
 #[tactic(auto, unfolding(crate::specs::Judged::line_goes))]
 fn line<A: Allocator + Copy>(
     alloc: A,

@@ -266,7 +266,7 @@ fn write_left<A: Allocator>(
     writeln!(out, "left {heads} {locked} {busy}")
 }
 
-/// What is printed of a lawful trace with so many events that ends in this state.
+/// What is printed of a lawful trace, with its number of events and the state in which it ends.
 pub fn write_lawful<A: Allocator, B: Allocator + Copy>(
     out: &mut String<A>,
     events: u32,
