@@ -65,12 +65,12 @@ impl Drain {
             HandleStage::LeaveIdle => Outcome::end(Note::Idle),
             HandleStage::Take => {
                 self.calls = 0;
-                go_on(reverse_on(None, record_of(found)))
+                go_on(reverse_on(None, linked(found)))
             }
             HandleStage::ReverseLoad { newer, id } => go_on(HandleStage::ReverseStore {
                 newer,
                 id,
-                older: record_of(found),
+                older: linked(found),
             }),
             HandleStage::ReverseStore {
                 newer: _,
@@ -83,7 +83,7 @@ impl Drain {
             HandleStage::LoadNext { walk, id } => go_on(HandleStage::LoadFlags {
                 walk,
                 id,
-                next: record_of(found),
+                next: linked(found),
             }),
             HandleStage::LoadFlags { walk, id, next } => {
                 go_on(by_class(Class::of_flags(found), walk, id, next))
@@ -129,7 +129,7 @@ impl Drain {
             } => go_on(first_on(walk, next)),
             HandleStage::AsyncNext { id } => go_on(HandleStage::AsyncFunc {
                 id,
-                next: record_of(found),
+                next: linked(found),
             }),
             HandleStage::AsyncFunc { id, next } => go_on(HandleStage::AsyncInfo {
                 id,
@@ -155,7 +155,7 @@ impl Drain {
 }
 
 /// The record to which a link leads; none where it is 0.
-pub fn record_of(link: u64) -> Option<u32>
+pub fn linked(link: u64) -> Option<u32>
     requires { link ≤ 2 ^ 32 }
     ensures { result ≡ record_at link }
 {

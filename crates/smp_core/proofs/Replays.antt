@@ -12,7 +12,7 @@ use Rattle.smp_core.specs.Machine.{StopNotesFit, setup_in, step_at}
 use Rattle.smp_stop_steps.specs.Notes.{AllNotesFit, StopNoteFits}
 use Rattle.smp_core.specs.Replay.{Replay, answers_from, answers_on, replay_from, replay_on, after_seen, seen_list, start_turn, step_turn, turn_of}
 use Rattle.smp_core.specs.Start.{refusal_of, started}
-use Rattle.smp_stop_steps.specs.Starts.{stop_begun_if, stop_first}
+use Rattle.smp_stop_steps.specs.Start.{stop_begun_if, stop_first}
 use Rattle.smp_stop_steps.specs.State.{Setup, StopState}
 use Rattle.smp_stop_steps.specs.Tells as stops
 use Rattle.smp_stop_steps.specs.Tells.{tells_all as tells_stops, tells_if as stops_if}

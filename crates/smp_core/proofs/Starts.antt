@@ -9,7 +9,7 @@ use Rattle.smp_words.specs.Limits.{AreLimits}
 use Rattle.smp_core.specs.Start.{refusal_of, own_refusal, or_else, busy_or}
 use Rattle.smp_call_steps.specs.Start.{command_refusal, first_stage, control_at}
 use Rattle.smp_words.specs.Commands.{FitsCommand}
-use Rattle.smp_stop_steps.specs.Starts.{stop_refusal, stop_started, stop_begun_if, stop_first}
+use Rattle.smp_stop_steps.specs.Start.{stop_refusal, stop_started, stop_begun_if, stop_first}
 use Rattle.smp_stop_steps.specs.Value.{StopsValue, stop_control_of}
 use Rattle.smp_stop_steps.specs.declared.stage.StopStage.{StopStage}
 use Rattle.smp_core.specs.Value.{CoreValue}

@@ -5,7 +5,7 @@ use Rattle.smp_mask.specs.declared.error.SmpError.{SmpError}
 use Rattle.smp_mask.specs.declared.error.SmpError.TheVariants as error
 use Rattle.smp_core.specs.Value.{CoreValue}
 use Rattle.smp_call_steps.specs.Value.{control_of}
-use Rattle.smp_stop_steps.specs.Starts.{stop_refusal, stop_started}
+use Rattle.smp_stop_steps.specs.Start.{stop_refusal, stop_started}
 use Rattle.smp_stop_steps.specs.Value.{stop_control_of}
 use Rattle.smp_words.specs.declared.command.Command.{Command}
 use Rattle.smp_call_steps.specs.Start.{command_refusal, first_stage, control_at}

@@ -44,7 +44,7 @@ pub fn replay<A: Allocator>(
 {
     let mut seen = Vec::new(alloc);
     for (position, event) in events.iter().enumerate() {
-        match core.turn(*event) {
+        match core.apply(*event) {
             Ok(step) => note_step(&mut seen, step)?,
             Err(error) => {
                 return Ok(Replayed {

@@ -2,7 +2,7 @@
 use Rattle.std.proofs.Common.{◌≡◌, ℕ, suc, ◌+◌, true, false, Option, Some, None, MatchOption, List, [], ◌∷◌, ◌++◌, map, append_assoc, refl, sym, ap, ◌∙◌, subst, arith}
 use Rattle.std.proofs.lemmas.List.{append-nil, map-append}
 use Rattle.smp_mask.specs.Mask.{has, members_below}
-use Rattle.smp_machine.specs.Place.{MachineValue, PlaceValue, BootValue, IsAt, fresh_place}
+use Rattle.smp_machine.specs.MachineCpu.{MachineValue, MachineCpuValue, BootValue, IsAt, fresh_place}
 use Rattle.smp_queue.specs.declared.handler.Heard.{Heard}
 use Rattle.smp_multi.specs.declared.func.Called.{Called}
 use Rattle.smp_machine.specs.Crews.{AreFor, IsNext, IsPlayed}
@@ -81,40 +81,40 @@ pub moved_next : {X Y : Type 0} (P : ℕ → Y → Type 0) (Q : ℕ → X → Ty
 moved_next P Q numbers done x xs rest is m = next_of Q m.later x rest (subst (λ (zs : List _). AreFor Q m.later zs) is m.rest_are)
 
 -- a CPU that was given out has done nothing
-pub is_fresh : (b : BootValue) (m : MachineValue) (n : ℕ) (p : PlaceValue) → b.machine ≡ m → p ≡ fresh_place b.machine n → p ≡ fresh_place m n
+pub is_fresh : (b : BootValue) (m : MachineValue) (n : ℕ) (p : MachineCpuValue) → b.machine ≡ m → p ≡ fresh_place b.machine n → p ≡ fresh_place m n
 is_fresh b m n p same is = is ∙ ap (λ (x : MachineValue). fresh_place x n) same
 
 -- a fresh CPU is that of its own number
-pub fresh_own : (m : MachineValue) (n : ℕ) (p : PlaceValue) → p ≡ fresh_place m n → p ≡ fresh_place m p.calls.number
-fresh_own m n p is = is ∙ ap (λ (x : PlaceValue). fresh_place m x.calls.number) (sym is)
+pub fresh_own : (m : MachineValue) (n : ℕ) (p : MachineCpuValue) → p ≡ fresh_place m n → p ≡ fresh_place m p.calls.number
+fresh_own m n p is = is ∙ ap (λ (x : MachineCpuValue). fresh_place m x.calls.number) (sym is)
 
 -- no CPU is below 0; one CPU more is online, or not
-pub below_none : (f : ℕ → PlaceValue) (mask : ℕ) (xs : List PlaceValue) → xs ≡ [] → xs ≡ map f (members_below mask 0)
+pub below_none : (f : ℕ → MachineCpuValue) (mask : ℕ) (xs : List MachineCpuValue) → xs ≡ [] → xs ≡ map f (members_below mask 0)
 unfolding members_below
 below_none f mask xs e = e
 
 next : (n : ℕ) → suc n ≡ n + 1
 next n = omega arith
 
-in_suc : (f : ℕ → PlaceValue) (mask n : ℕ) (xs : List PlaceValue) (y : PlaceValue) → has mask n ≡ true → xs ≡ map f (members_below mask n)
+in_suc : (f : ℕ → MachineCpuValue) (mask n : ℕ) (xs : List MachineCpuValue) (y : MachineCpuValue) → has mask n ≡ true → xs ≡ map f (members_below mask n)
     → y ≡ f n → xs ++ y ∷ [] ≡ map f (members_below mask (suc n))
 unfolding members_below
 in_suc f mask n xs y there is e = rw (there, is, e) (sym (map-append f (members_below mask n) (n ∷ [])))
 
-out_suc : (f : ℕ → PlaceValue) (mask n : ℕ) (xs : List PlaceValue) → has mask n ≡ false → xs ≡ map f (members_below mask n)
+out_suc : (f : ℕ → MachineCpuValue) (mask n : ℕ) (xs : List MachineCpuValue) → has mask n ≡ false → xs ≡ map f (members_below mask n)
     → xs ≡ map f (members_below mask (suc n))
 unfolding members_below
 out_suc f mask n xs other is = rw (other, is) (ap (map f) (sym (append-nil (members_below mask n))))
 
-below_in : (f : ℕ → PlaceValue) (mask n : ℕ) (xs : List PlaceValue) (y : PlaceValue) → has mask n ≡ true → xs ≡ map f (members_below mask n)
+below_in : (f : ℕ → MachineCpuValue) (mask n : ℕ) (xs : List MachineCpuValue) (y : MachineCpuValue) → has mask n ≡ true → xs ≡ map f (members_below mask n)
     → y ≡ f n → xs ++ y ∷ [] ≡ map f (members_below mask (n + 1))
 below_in f mask n xs y there is e = subst (λ (k : ℕ). xs ++ y ∷ [] ≡ map f (members_below mask k)) (next n) (in_suc f mask n xs y there is e)
 
-below_out : (f : ℕ → PlaceValue) (mask n : ℕ) (xs : List PlaceValue) → has mask n ≡ false → xs ≡ map f (members_below mask n)
+below_out : (f : ℕ → MachineCpuValue) (mask n : ℕ) (xs : List MachineCpuValue) → has mask n ≡ false → xs ≡ map f (members_below mask n)
     → xs ≡ map f (members_below mask (n + 1))
 below_out f mask n xs other is = subst (λ (k : ℕ). xs ≡ map f (members_below mask k)) (next n) (out_suc f mask n xs other is)
 
-pub below_next : (m : MachineValue) (n : ℕ) (xs ys : List PlaceValue) (r : Option PlaceValue) → IsNext m n r
+pub below_next : (m : MachineValue) (n : ℕ) (xs ys : List MachineCpuValue) (r : Option MachineCpuValue) → IsNext m n r
     → MatchOption r (ys ≡ xs) (λ p. ys ≡ xs ++ p ∷ []) → xs ≡ map (fresh_place m) (members_below m.calls.online n)
     → ys ≡ map (fresh_place m) (members_below m.calls.online (n + 1))
 below_next m n xs ys None off same is = same ∙ below_out (fresh_place m) m.calls.online n xs off is
@@ -122,8 +122,8 @@ below_next m n xs ys (Some p) here pushed is = pushed ∙ below_in (fresh_place 
 
 -- a CPU that has played its part, and then polled
 pub played_is : {H F : Type 0} (hears : H → Heard → H → Type 0) (runs : F → Called → F → Type 0) (begins : ℕ → H → F → Type 0)
-    (plays : SeatValue H F → SeatValue H F → Type 0) (m : MachineValue) (cpu : PlaceValue) (number : ℕ) (h : H) (f : F)
-    (start played ended : SeatValue H F) (back : PlaceValue) (h' : H) (f' : F) → cpu ≡ fresh_place m cpu.calls.number → number ≡ cpu.calls.number
+    (plays : SeatValue H F → SeatValue H F → Type 0) (m : MachineValue) (cpu : MachineCpuValue) (number : ℕ) (h : H) (f : F)
+    (start played ended : SeatValue H F) (back : MachineCpuValue) (h' : H) (f' : F) → cpu ≡ fresh_place m cpu.calls.number → number ≡ cpu.calls.number
     → begins number h f → start ≡ record { machine = m; cpu = cpu; handler = h; functions = f } → plays start played → IsSameSeat start played
     → SeatWorks hears runs played ended (own_of played.cpu) → IsSameSeat played ended
     → (back ≡ ended.cpu) × (h' ≡ ended.handler) × (f' ≡ ended.functions) → IsAt ended.machine back
@@ -134,14 +134,14 @@ played_is {H} {F} hears runs begins plays m cpu number h f start played ended ba
     still.number_is ∙ (same.number_is ∙ ap (λ (s : SeatValue H F). s.cpu.calls.number) is) in
     record {
       at = subst (λ (x : MachineValue). IsAt x back) machine_is at;
-      number_is = ap (λ (p : PlaceValue). p.calls.number) parts.0 ∙ number_is;
+      number_is = ap (λ (p : MachineCpuValue). p.calls.number) parts.0 ∙ number_is;
       handler = h;
       functions = f;
       made = subst (λ (n : ℕ). begins n h f) own begun;
       played = played;
-      part = subst (λ (p : PlaceValue). plays (record { machine = m; cpu = p; handler = h; functions = f }) played) fresh
+      part = subst (λ (p : MachineCpuValue). plays (record { machine = m; cpu = p; handler = h; functions = f }) played) fresh
           (subst (λ (s : SeatValue H F). plays s played) is part);
-      polled = subst (λ (p : PlaceValue). Works hears runs played.cpu played.handler played.functions p h' f' (own_of played.cpu)) (sym parts.0)
+      polled = subst (λ (p : MachineCpuValue). Works hears runs played.cpu played.handler played.functions p h' f' (own_of played.cpu)) (sym parts.0)
           (subst (λ (x : H). Works hears runs played.cpu played.handler played.functions ended.cpu x f' (own_of played.cpu)) (sym parts.1)
           (subst (λ (x : F). Works hears runs played.cpu played.handler played.functions ended.cpu ended.handler x (own_of played.cpu)) (sym parts.2) polled));
     }

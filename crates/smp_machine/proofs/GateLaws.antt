@@ -10,7 +10,7 @@ use Rattle.smp_stop_steps.specs.declared.known.OwnMove.TheVariants.{Took, Gave, 
 use Rattle.smp_machine.specs.GateLaws.{HasDone, IsTryOf, EndAt, turning, last_one, HasLooked, HasLookedAgain, HasTurned, GateIsHeld}
 use Rattle.smp_machine.specs.Moves.{told, tells, lost_tries, Looks, LooksUpTo, gave_if}
 use Rattle.smp_machine.specs.Own.{Own}
-use Rattle.smp_machine.specs.Place.{PlaceValue}
+use Rattle.smp_machine.specs.MachineCpu.{MachineCpuValue}
 use Rattle.smp_machine.specs.Works.{Works}
 
 tries_are : (k : ℕ) (lost : List ℕ) → AllByRecursion (IsTryOf k) (lost_tries k lost)
@@ -22,7 +22,7 @@ looks_end k up count moves l = record { before = lost_tries k l.lost; tries = tr
 
 module _ {H F : Type 0} (hears : H → Heard → H → Type 0) (runs : F → Called → F → Type 0) where
   -- of a stretch that leaves these moves
-  has_done : {old new : PlaceValue} {h h' : H} {f f' : F} {own : Own} (moves : List OwnMove) → Works hears runs old h f new h' f' own
+  has_done : {old new : MachineCpuValue} {h h' : H} {f f' : F} {own : Own} (moves : List OwnMove) → Works hears runs old h f new h' f' own
       → own.moves ≡ told old.stops.moves ++ moves → HasDone moves old new
   has_done {old} {new} moves w is =
       let since : List OwnMove = w.later.moves.0 in
@@ -33,10 +33,10 @@ module _ {H F : Type 0} (hears : H → Heard → H → Type 0) (runs : F → Cal
         told_are = append_cancel_left (told old.stops.moves) (told since) moves (sym all ∙ (ap (λ (o : Own). o.moves) w.own_is ∙ is));
       }
 
-  done_as : {old new : PlaceValue} (moves other : List OwnMove) → moves ≡ other → HasDone moves old new → HasDone other old new
+  done_as : {old new : MachineCpuValue} (moves other : List OwnMove) → moves ≡ other → HasDone moves old new → HasDone other old new
   done_as moves other e d = record { since = d.since; moves_are = d.moves_are; told_are = d.told_are ∙ e }
 
-  has_looked : {old new : PlaceValue} (k : ℕ) (up : Bool) (count : ℕ) (gate : Bool) (moves : List OwnMove) → LooksUpTo k up count gate moves
+  has_looked : {old new : MachineCpuValue} (k : ℕ) (up : Bool) (count : ℕ) (gate : Bool) (moves : List OwnMove) → LooksUpTo k up count gate moves
       → HasDone (moves ++ gave_if gate) old new → HasLooked k count old new ⊎ HasLookedAgain k up count old new
   has_looked k up count false moves l d =
       inl (record { looks = moves; found = looks_end k up count moves l; done = done_as (moves ++ []) moves (append-nil moves) d })
@@ -49,7 +49,7 @@ module _ {H F : Type 0} (hears : H → Heard → H → Type 0) (runs : F → Cal
         ∙ append_assoc first (Took ∷ again) (Gave ∷ [])) d;
   })
 
-  has_turned : {old new : PlaceValue} (k : ℕ) (up : Bool) (work : Work) (word : ℕ) (moves : List OwnMove) → LooksUpTo k up (turning up) true moves
+  has_turned : {old new : MachineCpuValue} (k : ℕ) (up : Bool) (work : Work) (word : ℕ) (moves : List OwnMove) → LooksUpTo k up (turning up) true moves
       → HasDone (moves ++ Began work ∷ Collected word ∷ Gave ∷ []) old new → HasTurned k up work word old new
   has_turned k up work word moves (first, again, a, b, e) d =
       let last : List OwnMove = Began work ∷ Collected word ∷ Gave ∷ [] in

@@ -21,7 +21,7 @@ use Rattle.smp_machine.specs.Counts.{step_of, with_nudge, tries_all, Loads, Nudg
 use Rattle.smp_machine.specs.Keys.{MayChange}
 use Rattle.smp_machine.specs.Moves.{lost_tries, Looks, LooksFrom, LooksUpTo, gave_if, told}
 use Rattle.smp_machine.specs.Own.{Own, own_of, with_gate, with_moves}
-use Rattle.smp_machine.specs.Place.{PlaceValue}
+use Rattle.smp_machine.specs.MachineCpu.{MachineCpuValue}
 use Rattle.smp_machine.specs.Served.{IsBeginning}
 use Rattle.smp_machine.specs.Works.{Works}
 use Rattle.smp_machine.proofs.OwnAnswers.{own_still}
@@ -39,7 +39,7 @@ all_more : {A : Type 0} (P : A → Type 0) (xs : List A) (x : A) → AllByRecurs
 all_more P [] x all one = (one, tt)
 all_more P (y ∷ ys) x all one = (all.0, all_more P ys x all.1 one)
 
-pub tries_none : (k : ℕ) (p : PlaceValue) → p ≡ record p { stops = tries_all k [] p.stops }
+pub tries_none : (k : ℕ) (p : MachineCpuValue) → p ≡ record p { stops = tries_all k [] p.stops }
 tries_none k p = λ i. record p {
   stops = record (p.stops) {
     part = record (p.stops.part) { readings = sym (append-nil p.stops.part.readings) i };
@@ -62,10 +62,10 @@ tries_more k lost count c =
     ∙ ap (λ (l : List OwnMove). c.moves ++ l) (sym (lost_more k lost count)) in
     λ i. record c { part = record (c.part) { readings = read i }; moves = moved i }
 
-pub place_more : (k : ℕ) (lost : List ℕ) (count : ℕ) (old mid new : PlaceValue) → mid ≡ record old { stops = tries_all k lost old.stops }
+pub place_more : (k : ℕ) (lost : List ℕ) (count : ℕ) (old mid new : MachineCpuValue) → mid ≡ record old { stops = tries_all k lost old.stops }
     → new ≡ record mid { stops = loses_key k (loads_count k count mid.stops) } → new ≡ record old { stops = tries_all k (lost ++ count ∷ []) old.stops }
 place_more k lost count old mid new e f =
-    f ∙ (ap (λ (p : PlaceValue). record p { stops = loses_key k (loads_count k count p.stops) }) e
+    f ∙ (ap (λ (p : MachineCpuValue). record p { stops = loses_key k (loads_count k count p.stops) }) e
     ∙ ap (λ (c : CpuValue). record old { stops = c }) (tries_more k lost count old.stops))
 
 pub stay_more : (up : Bool) (lost : List ℕ) (count : ℕ) → AllByRecursion (StaysOn up) lost → StaysOn up count → AllByRecursion (StaysOn up) (lost ++ count ∷ [])
@@ -155,7 +155,7 @@ nudge_if true up k o = with_nudge up k o
 nudge_if false up k o = o
 
 module _ {H F : Type 0} (hears : H → Heard → H → Type 0) (runs : F → Called → F → Type 0) (t : TableValue) (k : ℕ) (up : Bool) where
-  pub works_loads : (count : ℕ) (p m : PlaceValue) (h : H) (f : F) (l : Loads k up count p.stops m.stops) → m ≡ record p { stops = m.stops }
+  pub works_loads : (count : ℕ) (p m : MachineCpuValue) (h : H) (f : F) (l : Loads k up count p.stops m.stops) → m ≡ record p { stops = m.stops }
       → Works hears runs p h f m h f (with_moves (looks_of l) (own_of p))
   works_loads count p m h f l e =
       let s = loads_count k count (tries_all k l.lost p.stops) in
@@ -163,7 +163,7 @@ module _ {H F : Type 0} (hears : H → Heard → H → Type 0) (runs : F → Cal
       (later_still p.stops s refl refl refl refl refl refl (later_loads k l.lost count p.stops.moves)) refl refl refl refl (own_still p.stops s refl refl refl refl)
       (λ i. record (own_of p) { moves = told_loads k l.lost count p.stops.moves i })
 
-  works_nudged : (count : ℕ) (p m : PlaceValue) (loaded : CpuValue) (h : H) (f : F) (l : Loads k up count p.stops loaded) → m.stops ≡ nudged up k loaded
+  works_nudged : (count : ℕ) (p m : MachineCpuValue) (loaded : CpuValue) (h : H) (f : F) (l : Loads k up count p.stops loaded) → m.stops ≡ nudged up k loaded
       → m ≡ record p { stops = m.stops } → Works hears runs p h f m h f (with_nudge up k (with_moves (looks_of l) (own_of p)))
   works_nudged count p m loaded h f l n e =
       let s = nudged up k (loads_count k count (tries_all k l.lost p.stops)) in
@@ -175,13 +175,13 @@ module _ {H F : Type 0} (hears : H → Heard → H → Type 0) (runs : F → Cal
   -- ---- by who holds the gate, which is given up
 
   -- the count was nudged
-  pub at_gate_nudged : (p m new : PlaceValue) (h : H) (f : F) → Nudges k up p.stops m.stops (Ok true) → m ≡ record p { stops = m.stops }
+  pub at_gate_nudged : (p m new : MachineCpuValue) (h : H) (f : F) → Nudges k up p.stops m.stops (Ok true) → m ≡ record p { stops = m.stops }
       → p.stops.inside ≡ None → new ≡ record m { stops = gives_gate m.stops }
       → CountsBy hears runs (LooksFrom [] k up) t k up p h f new h f (Ok false)
   at_gate_nudged p m new h f n e outside g =
       let l = n.2 in
       let own : Own = with_gate false (with_nudge up k (own_of p)) in
-      let is : new.stops ≡ gives_gate (nudged up k n.1) = ap (λ (x : PlaceValue). x.stops) g ∙ ap (gives_gate) n.5 in
+      let is : new.stops ≡ gives_gate (nudged up k n.1) = ap (λ (x : MachineCpuValue). x.stops) g ∙ ap (gives_gate) n.5 in
       record {
         count = n.0;
         stays = n.3;
@@ -199,13 +199,13 @@ module _ {H F : Type 0} (hears : H → Heard → H → Type 0) (runs : F → Cal
       }
 
   -- it stands at the end of its range
-  pub at_gate_refused : (x : SmpError) (p m new : PlaceValue) (h : H) (f : F) → Nudges k up p.stops m.stops (Err x) → m ≡ record p { stops = m.stops }
+  pub at_gate_refused : (x : SmpError) (p m new : MachineCpuValue) (h : H) (f : F) → Nudges k up p.stops m.stops (Err x) → m ≡ record p { stops = m.stops }
       → p.stops.inside ≡ None → new ≡ record m { stops = gives_gate m.stops }
       → CountsBy hears runs (LooksFrom [] k up) t k up p h f new h f (Err x)
   at_gate_refused (error.KeyRange x) p m new h f n e outside g =
       let l = n.1 in
       let own : Own = with_gate false (own_of p) in
-      let is : new.stops ≡ gives_gate m.stops = ap (λ (y : PlaceValue). y.stops) g in (
+      let is : new.stops ≡ gives_gate m.stops = ap (λ (y : MachineCpuValue). y.stops) g in (
         n.0,
         inl (record {
           gate = true;
@@ -224,7 +224,7 @@ module _ {H F : Type 0} (hears : H → Heard → H → Type 0) (runs : F → Cal
   at_gate_refused _ p m new h f n e outside g = absurd n
 
   -- a patch by one, after a stretch with these moves, in which at most the gate was taken
-  patches_after : (held : Bool) (before first : List OwnMove) {p m new : PlaceValue} {h h₁ h' : H} {f f₁ f' : F} (answer : ℤ)
+  patches_after : (held : Bool) (before first : List OwnMove) {p m new : MachineCpuValue} {h h₁ h' : H} {f f₁ f' : F} (answer : ℤ)
       → Works hears runs p h f m h₁ f₁ (with_moves before (with_gate held (own_of p))) → PatchesByOne hears runs t k up first m h₁ f₁ new h' f' answer
       → PatchesByOne hears runs t k up (before ++ first) p h f new h' f' answer
   patches_after held before first {p} {m} {new} answer w b = record {
@@ -234,19 +234,19 @@ module _ {H F : Type 0} (hears : H → Heard → H → Type 0) (runs : F → Cal
     last = own_after p m new w.serves w.passes_number b.last;
   }
 
-  patches_as : {first other : List OwnMove} {p new : PlaceValue} {h h' : H} {f f' : F} {answer : ℤ} → first ≡ other
+  patches_as : {first other : List OwnMove} {p new : MachineCpuValue} {h h' : H} {f f' : F} {answer : ℤ} → first ≡ other
       → PatchesByOne hears runs t k up first p h f new h' f' answer → PatchesByOne hears runs t k up other p h f new h' f' answer
   patches_as {first} {other} {p} {new} {h} {h'} {f} {f'} {answer} e b =
       subst (λ (l : List OwnMove). PatchesByOne hears runs t k up l p h f new h' f' answer) e b
 
   -- a patch by one, after a look that has found that the key would turn
-  patched_from : (p m new : PlaceValue) (h h' : H) (f f' : F) (answer : ℤ) → (l : Loads k up (turn_at up) p.stops m.stops)
+  patched_from : (p m new : MachineCpuValue) (h h' : H) (f f' : F) (answer : ℤ) → (l : Loads k up (turn_at up) p.stops m.stops)
       → m ≡ record p { stops = m.stops } → PatchesByOne hears runs t k up [] m h f new h' f' answer
       → PatchesByOne hears runs t k up (looks_of l) p h f new h' f' answer
   patched_from p m new h h' f f' answer l e b =
       patches_as (append-nil (looks_of l)) (patches_after p.stops.part.holds (looks_of l) [] answer (works_loads (turn_at up) p m h f l e) b)
 
-  pub at_gate_patched : (r : Result Bool SmpError) (p m new : PlaceValue) (h h' : H) (f f' : F) → Loads k up (turn_at up) p.stops m.stops
+  pub at_gate_patched : (r : Result Bool SmpError) (p m new : MachineCpuValue) (h h' : H) (f f' : F) → Loads k up (turn_at up) p.stops m.stops
       → m ≡ record p { stops = m.stops } → Patches hears runs t k up m h f new h' f' r
       → CountsBy hears runs (LooksFrom [] k up) t k up p h f new h' f' r
   at_gate_patched (Ok true) p m new h h' f f' l e b =
@@ -264,7 +264,7 @@ module _ {H F : Type 0} (hears : H → Heard → H → Type 0) (runs : F → Cal
 
   -- ---- after a stretch with these moves, in which at most the gate was taken
 
-  moves_after : {p m new : PlaceValue} {h h₁ h' : H} {f f₁ f' : F} (nudges held : Bool) (before moves : List OwnMove) (gate : Bool)
+  moves_after : {p m new : MachineCpuValue} {h h₁ h' : H} {f f₁ f' : F} (nudges held : Bool) (before moves : List OwnMove) (gate : Bool)
       → Works hears runs p h f m h₁ f₁ (with_moves before (with_gate held (own_of p)))
       → Works hears runs m h₁ f₁ new h' f' (nudge_if nudges up k (with_moves (moves ++ gave_if gate) (with_gate false (own_of m))))
       → Works hears runs p h f new h' f' (nudge_if nudges up k (with_moves ((before ++ moves) ++ gave_if gate) (with_gate false (own_of p))))
@@ -280,7 +280,7 @@ module _ {H F : Type 0} (hears : H → Heard → H → Type 0) (runs : F → Cal
   -- what such looks are with the moves of before
   pub counts_after : (held : Bool) (before : List OwnMove) (looking other : Looking)
       → ((count : ℕ) (gate : Bool) (moves : List OwnMove) → looking count gate moves → other count gate (before ++ moves))
-      → (r : Result Bool SmpError) (p m new : PlaceValue) (h h₁ h' : H) (f f₁ f' : F)
+      → (r : Result Bool SmpError) (p m new : MachineCpuValue) (h h₁ h' : H) (f f₁ f' : F)
       → Works hears runs p h f m h₁ f₁ (with_moves before (with_gate held (own_of p)))
       → CountsBy hears runs looking t k up m h₁ f₁ new h' f' r → CountsBy hears runs other t k up p h f new h' f' r
   counts_after held before looking other are (Ok false) p m new h h₁ h' f f₁ f' w c = record {
@@ -340,7 +340,7 @@ module _ {H F : Type 0} (hears : H → Heard → H → Type 0) (runs : F → Cal
 
   -- ---- without the gate
 
-  pub counts_nudged : (p m : PlaceValue) (h : H) (f : F) → Nudges k up p.stops m.stops (Ok true) → m ≡ record p { stops = m.stops }
+  pub counts_nudged : (p m : MachineCpuValue) (h : H) (f : F) → Nudges k up p.stops m.stops (Ok true) → m ≡ record p { stops = m.stops }
       → p.stops.inside ≡ None → p.stops.part.holds ≡ false → Counts hears runs t k up p h f m h f (Ok false)
   counts_nudged p m h f n e outside free =
       let l = n.2 in
@@ -359,7 +359,7 @@ module _ {H F : Type 0} (hears : H → Heard → H → Type 0) (runs : F → Cal
         outside = ap (λ (c : CpuValue). c.inside) n.5 ∙ (ap (λ (c : CpuValue). c.inside) l.is ∙ outside);
       }
 
-  pub counts_refused : (x : SmpError) (p m : PlaceValue) (h : H) (f : F) → Nudges k up p.stops m.stops (Err x) → m ≡ record p { stops = m.stops }
+  pub counts_refused : (x : SmpError) (p m : MachineCpuValue) (h : H) (f : F) → Nudges k up p.stops m.stops (Err x) → m ≡ record p { stops = m.stops }
       → p.stops.inside ≡ None → p.stops.part.holds ≡ false → Counts hears runs t k up p h f m h f (Err x)
   counts_refused (error.KeyRange x) p m h f n e outside free =
       let l = n.1 in (
@@ -379,7 +379,7 @@ module _ {H F : Type 0} (hears : H → Heard → H → Type 0) (runs : F → Cal
   counts_refused _ p m h f n e outside free = absurd n
 
   -- the gate is taken after looks that have found that the key would turn
-  pub counts_gated : (r : Result Bool SmpError) (p m new : PlaceValue) (h h' : H) (f f' : F) → Loads k up (turn_at up) p.stops m.stops
+  pub counts_gated : (r : Result Bool SmpError) (p m new : MachineCpuValue) (h h' : H) (f f' : F) → Loads k up (turn_at up) p.stops m.stops
       → m ≡ record p { stops = m.stops } → CountsBy hears runs (LooksFrom (Took ∷ []) k up) t k up m h f new h' f' r
       → Counts hears runs t k up p h f new h' f' r
   counts_gated r p m new h h' f f' l e c =
@@ -387,7 +387,7 @@ module _ {H F : Type 0} (hears : H → Heard → H → Type 0) (runs : F → Cal
       r p m new h h h' f f f'
       (works_loads (turn_at up) p m h f l e) c
 
-  pub counts_or : (r : Result Bool SmpError) (p new : PlaceValue) (h h' : H) (f f' : F) → MayChange t p k → Counts hears runs t k up p h f new h' f' r
+  pub counts_or : (r : Result Bool SmpError) (p new : MachineCpuValue) (h h' : H) (f f' : F) → MayChange t p k → Counts hears runs t k up p h f new h' f' r
       → CountsOr hears runs t k up p h f new h' f' r
   counts_or (Ok b) p new h h' f f' may c = (may, c)
   counts_or (Err (error.KeyRange x)) p new h h' f f' may c = (may, c)

@@ -18,7 +18,7 @@ use Rattle.smp_multi.specs.declared.func.Called.{Called}
 use Rattle.smp_machine.specs.declared.work_queue.Item.{Item}
 use Rattle.smp_machine.specs.Keys.{state_of, IsPatchOf, KeyStands, TurnsKey}
 use Rattle.smp_machine.specs.Own.{Own, own_of, with_gate, with_begun, with_collected, with_moves, with_put}
-use Rattle.smp_machine.specs.Place.{PlaceValue}
+use Rattle.smp_machine.specs.MachineCpu.{MachineCpuValue}
 use Rattle.smp_machine.specs.Stops.{item, with_stop, AreShown, HasCollected, HasStopped}
 use Rattle.smp_machine.specs.Takes.{EntersFront}
 use Rattle.smp_machine.specs.Works.{Works, ReadsAnew}
@@ -62,7 +62,7 @@ moves_before l before first rest = append_assoc l before (first ++ rest) ∙ ap 
 
 module _ {H F : Type 0} (hears : H → Heard → H → Type 0) (runs : F → Called → F → Type 0) where
   -- a patch by who holds the gate
-  pub patch_stopped : {old m₁ m₂ m₃ m₄ new : PlaceValue} {h h₂ h₃ h₄ : H} {f f₂ f₃ f₄ : F} (work : Work) (u v : ℤ) → u ≡ v
+  pub patch_stopped : {old m₁ m₂ m₃ m₄ new : MachineCpuValue} {h h₂ h₃ h₄ : H} {f f₂ f₃ f₄ : F} (work : Work) (u v : ℤ) → u ≡ v
       → m₁ ≡ record old { stops = begins work old.stops }
       → Works hears runs m₁ h f m₂ h₂ f₂ (with_put (item m₁.stops.number work) (members work.mask) (own_of m₁))
       → AreShown m₁.stops.number (members work.mask) m₂.passes.put → Works hears runs m₂ h₂ f₂ m₃ h₃ f₃ (own_of m₂)
@@ -74,7 +74,7 @@ module _ {H F : Type 0} (hears : H → Heard → H → Type 0) (runs : F → Cal
       let got = λ (o : Own). with_moves (Collected c.word ∷ []) (with_collected c.word o) in
       let gave = λ (o : Own). with_moves (Gave ∷ []) (with_gate false o) in
       let left = with_stop (patch_after []) old.stops.number work c.word (own_of old) in
-      let number : m₁.stops.number ≡ old.stops.number = ap (λ (p : PlaceValue). p.stops.number) e in
+      let number : m₁.stops.number ≡ old.stops.number = ap (λ (p : MachineCpuValue). p.stops.number) e in
       let two = works_both hears runs (λ (o : Own). with_moves (Began work ∷ []) (with_begun work o)) (with_put x (members work.mask))
       (works_begin hears runs old m₁ h f work e)
       (subst (λ (n : ℕ). Works hears runs m₁ h f m₂ h₂ f₂ (with_put (item n work) (members work.mask) (own_of m₁))) number a) in
@@ -87,13 +87,13 @@ module _ {H F : Type 0} (hears : H → Heard → H → Type 0) (runs : F → Cal
             (λ i. record left { moves = moves_of_four (own_of old).moves (Began work ∷ []) (Collected c.word) Gave i })
             (works_both hears runs (λ (o : Own). got (put o)) gave four (works_give hears runs m₄ new h₄ f₄ g));
         result = last_open g c.result;
-        shown = shown_at number refl (sym (ap (λ (p : PlaceValue). p.passes.put) g
+        shown = shown_at number refl (sym (ap (λ (p : MachineCpuValue). p.passes.put) g
             ∙ (ap (λ (o : Own). o.put) c.works.own_is ∙ ap (λ (o : Own). o.put) b.own_is))) shown;
-        outside = ap (λ (p : PlaceValue). p.stops.inside) g ∙ c.outside;
+        outside = ap (λ (p : MachineCpuValue). p.stops.inside) g ∙ c.outside;
       }
 
   -- a load of a key's count
-  pub works_found : (p new : PlaceValue) (h : H) (f : F) (k count : ℕ) → new ≡ record p { stops = loads_count k count p.stops }
+  pub works_found : (p new : MachineCpuValue) (h : H) (f : F) (k count : ℕ) → new ≡ record p { stops = loads_count k count p.stops }
       → Works hears runs p h f new h f (with_moves (Found k count ∷ []) (own_of p))
   works_found p new h f k count e =
       let s = loads_count k count p.stops in
@@ -102,7 +102,7 @@ module _ {H F : Type 0} (hears : H → Heard → H → Type 0) (runs : F → Cal
       (λ i. record (own_of p) { moves = told_more p.stops.moves (Found k count ∷ []) i })
 
   -- a patch after a stretch with these moves, in which at most the gate was taken
-  pub stopped_after : {old m new : PlaceValue} {h h₁ h' : H} {f f₁ f' : F} (held : Bool) (before first : List OwnMove) (work : Work) (v : ℤ)
+  pub stopped_after : {old m new : MachineCpuValue} {h h₁ h' : H} {f f₁ f' : F} (held : Bool) (before first : List OwnMove) (work : Work) (v : ℤ)
       → Works hears runs old h f m h₁ f₁ (with_moves before (with_gate held (own_of old)))
       → HasStopped hears runs (patch_after first) work m h₁ f₁ new h' f' v
       → HasStopped hears runs (patch_after (before ++ first)) work old h f new h' f' v
@@ -121,7 +121,7 @@ module _ {H F : Type 0} (hears : H → Heard → H → Type 0) (runs : F → Cal
       }
 
   -- the gate was taken, and the key read
-  pub read_at_gate : {old m₁ m₂ : PlaceValue} {h h₁ : H} {f f₁ : F} (k count : ℕ)
+  pub read_at_gate : {old m₁ m₂ : MachineCpuValue} {h h₁ : H} {f f₁ : F} (k count : ℕ)
       → Works hears runs old h f m₁ h₁ f₁ (with_moves (Took ∷ []) (with_gate true (own_of old))) → m₂ ≡ record m₁ { stops = loads_count k count m₁.stops }
       → Works hears runs old h f m₂ h₁ f₁ (with_moves (Took ∷ Found k count ∷ []) (with_gate true (own_of old)))
   read_at_gate {old} {m₁} {m₂} {h} {h₁} {f} {f₁} k count a e =
@@ -131,11 +131,11 @@ module _ {H F : Type 0} (hears : H → Heard → H → Type 0) (runs : F → Cal
       (works_found m₁ m₂ h₁ f₁ k count e))
 
   -- it is so, and the gate is given up
-  pub stands_so : {old m₁ new : PlaceValue} {h h₁ : H} {f f₁ : F} (k count : ℕ) (on : Bool) → is_on count ≡ on
+  pub stands_so : {old m₁ new : MachineCpuValue} {h h₁ : H} {f f₁ : F} (k count : ℕ) (on : Bool) → is_on count ≡ on
       → Works hears runs old h f m₁ h₁ f₁ (with_moves (Took ∷ []) (with_gate true (own_of old)))
       → new ≡ record m₁ { stops = gives_gate (loads_count k count m₁.stops) } → KeyStands hears runs k on old h f new h₁ f₁
   stands_so {old} {m₁} {new} {h} {h₁} {f} {f₁} k count on same a e =
-      let m₂ : PlaceValue = record m₁ { stops = loads_count k count m₁.stops } in record {
+      let m₂ : MachineCpuValue = record m₁ { stops = loads_count k count m₁.stops } in record {
         count = count;
         same = same;
         works = works_as hears runs (with_moves (Took ∷ Found k count ∷ Gave ∷ []) (with_gate false (own_of old)))
@@ -145,7 +145,7 @@ module _ {H F : Type 0} (hears : H → Heard → H → Type 0) (runs : F → Cal
       }
 
   -- it is not, and is turned by a patch
-  pub turns_key : {old m₁ m₂ new : PlaceValue} {h h₁ h' : H} {f f₁ f' : F} (t : TableValue) (k count : ℕ) (on : Bool) (work : Work) (v : ℤ)
+  pub turns_key : {old m₁ m₂ new : MachineCpuValue} {h h₁ h' : H} {f f₁ f' : F} (t : TableValue) (k count : ℕ) (on : Bool) (work : Work) (v : ℤ)
       → is_on count ≢ on → IsPatchOf t k (state_of on) work
       → Works hears runs old h f m₁ h₁ f₁ (with_moves (Took ∷ []) (with_gate true (own_of old))) → m₂ ≡ record m₁ { stops = loads_count k count m₁.stops }
       → HasStopped hears runs (patch_after []) work m₂ h₁ f₁ new h' f' v → TurnsKey hears runs t k on old h f new h' f'

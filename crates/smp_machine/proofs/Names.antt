@@ -8,7 +8,7 @@ use Rattle.smp_queue.specs.declared.handler.Heard.{Heard}
 use Rattle.smp_calls.specs.Rounds.{Picks}
 use Rattle.smp_calls.specs.Targets.{is_target}
 use Rattle.smp_machine.specs.Answers.{CondAnswers, EachAnswers}
-use Rattle.smp_machine.specs.Place.{MachineValue, PlaceValue}
+use Rattle.smp_machine.specs.MachineCpu.{MachineValue, MachineCpuValue}
 
 -- where each CPU that is asked says yes, all that are asked are called
 pub each_is_called : (says : ℕ → Bool → Type 0) (asked : ℕ → Bool) (called : ℕ) → ((c : ℕ) (answer : Bool) → says c answer → answer ≡ true)
@@ -22,7 +22,7 @@ each_is_called says asked called agrees below picks c = elim (cases_Bool (asked 
 ]
 
 -- so a call of each that a condition holds of is one of each, where the condition holds of all
-pub each_of_cond : {H : Type 0} (leads : H → Heard → H → Type 0) (m : MachineValue) (old : PlaceValue) (before : H) (new : PlaceValue) (after : H)
+pub each_of_cond : {H : Type 0} (leads : H → Heard → H → Type 0) (m : MachineValue) (old : MachineCpuValue) (before : H) (new : MachineCpuValue) (after : H)
     (says : ℕ → Bool → Type 0) (mask func info : ℕ) (wait : Bool) (result : Result ℕ SmpError)
     → ((c : ℕ) (answer : Bool) → says c answer → answer ≡ true) → ((c : ℕ) → is_target mask m.calls.online old.calls.number true c ≡ true → c < cpus)
     → CondAnswers leads m old before new after says mask func info wait result → EachAnswers leads m old before new after mask func info wait result

@@ -6,7 +6,7 @@ use Rattle.std.proofs.lemmas.List.{append-nil, append_cancel_left, length-append
 use Rattle.smp_mask.specs.Mask.{has}
 use Rattle.smp_words.specs.Size.{cpus}
 use Rattle.smp_stop_steps.specs.Past.{Past, works_of, answers_of, answer_now}
-use Rattle.smp_stop_steps.specs.Starts.{answer_word}
+use Rattle.smp_stop_steps.specs.Start.{answer_word}
 use Rattle.smp_stop_steps.proofs.State.Ends.{all_outside}
 use Rattle.smp_multi.specs.Answers.{IsWholeWord}
 use Rattle.smp_multi.specs.Cpu.{CpuValue as StopCpuValue}
@@ -19,7 +19,7 @@ use Rattle.smp_multi.specs.declared.func.Called.{Called}
 use Rattle.smp_multi.specs.Names.{OwnMove}
 use Rattle.smp_machine.specs.Own.{Own}
 use Rattle.smp_machine.specs.OwnAnswers.{IsCalled, IsOwnAnswer, OwnAnswers, HasCalledFor, RunsItself}
-use Rattle.smp_machine.specs.Place.{PlaceValue}
+use Rattle.smp_machine.specs.MachineCpu.{MachineCpuValue}
 use Rattle.smp_machine.specs.Served.{one_if}
 use Rattle.smp_machine.specs.Stops.{HasStopped, IsOneWork}
 
@@ -131,7 +131,7 @@ module _ (old new : StopCpuValue) (work : Work) (word : ℕ) (answer : ℤ) (num
       (mine.calls, mine.calls_are, (call.0, call.1, call.2, call.3, call.4 ∙ is))
 
 -- of a stop as it is made
-pub stop_itself : {H F : Type 0} (hears : H → Heard → H → Type 0) (runs : F → Called → F → Type 0) {old new : PlaceValue} {h h' : H} {f f' : F}
+pub stop_itself : {H F : Type 0} (hears : H → Heard → H → Type 0) (runs : F → Called → F → Type 0) {old new : MachineCpuValue} {h h' : H} {f f' : F}
     (moves : Work → ℕ → List OwnMove) (work : Work) (v : ℤ) → IsShown old.stops → IsShown new.stops → old.stops.pending ≡ None
     → HasStopped hears runs moves work old h f new h' f' v → RunsItself work old.stops new.stops v
 stop_itself hears runs {old} {new} moves work v was shown none s =

@@ -13,11 +13,11 @@ use Rattle.smp_multi.specs.declared.func.Called.{Called}
 use Rattle.smp_multi.specs.declared.turn.Turn.{Turn}
 use Rattle.smp_multi.specs.declared.turn.Turn.TheVariants.{Same, Moved, Ran, Left}
 use Rattle.smp_stop_steps.specs.Callings.{answer_in as carried_answer}
-use Rattle.smp_stop_steps.specs.Starts.{answer_word}
+use Rattle.smp_stop_steps.specs.Start.{answer_word}
 use Rattle.smp_machine.specs.Own.{own_of}
 use Rattle.smp_machine.specs.OwnAnswers.{OwnAnswers}
 use Rattle.smp_machine.specs.Passes.{PassesValue}
-use Rattle.smp_machine.specs.Place.{PlaceValue, HasNotLeft}
+use Rattle.smp_machine.specs.MachineCpu.{MachineCpuValue, HasNotLeft}
 use Rattle.smp_machine.specs.Works.{handled_calls, stop_call, Works, Hears, RunsOne, completed, TurnsStop}
 use Rattle.smp_machine.proofs.OwnAnswers.{own_none, own_still, own_answered, own_low, own_link}
 use Rattle.smp_machine.proofs.Served.{beginning_still, later_called, serves_none}
@@ -81,7 +81,7 @@ module _ {F : Type 0} (leads : F → Called → F → Type 0) where
       inside (Some stop) is = of_kind stop is stop.work.kind refl
 
 -- a look, and then a turn of a stop
-pub works_turn : {H F : Type 0} (hears : H → Heard → H → Type 0) (leads : F → Called → F → Type 0) {old mid new : PlaceValue} {h h' : H} {f f' : F}
+pub works_turn : {H F : Type 0} (hears : H → Heard → H → Type 0) (leads : F → Called → F → Type 0) {old mid new : MachineCpuValue} {h h' : H} {f f' : F}
     {turn : Turn} → Hears hears old h mid h' → new.calls ≡ mid.calls → new.passes ≡ mid.passes → IsShown mid.stops → HasNotLeft mid.stops.inside
     → TurnsStop leads mid.stops f new.stops f' turn → Works hears leads old h f new h' f' (own_of old)
 works_turn hears leads {old} {mid} {new} {h} {h'} {f} {f'} {turn} l calls passes shown not_left s =

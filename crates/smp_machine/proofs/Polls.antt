@@ -10,7 +10,7 @@ use Rattle.smp_stop_steps.specs.Tells.{first_readings}
 use Rattle.smp_machine.specs.declared.work_queue.Item.{Item}
 use Rattle.smp_machine.specs.Own.{Own, own_of}
 use Rattle.smp_machine.specs.Passes.{PassesValue}
-use Rattle.smp_machine.specs.Place.{MachineValue, PlaceValue}
+use Rattle.smp_machine.specs.MachineCpu.{MachineValue, MachineCpuValue}
 use Rattle.smp_machine.specs.Takes.{TakesFront, EntersFront, TakesNext, TakesWork}
 use Rattle.smp_machine.specs.Works.{Works, LooksOnceMore, LooksOnceOrMore, TurnsStop, ReadsAnew}
 use Rattle.smp_machine.proofs.OwnAnswers.{own_still}
@@ -18,7 +18,7 @@ use Rattle.smp_machine.proofs.Served.{beginning_still, later_still, serves_next}
 use Rattle.smp_machine.proofs.Works.{works_own, works_none, works_then, works_as}
 
 -- it has worked, has put and taken nothing, and is still in the same stop
-pub record Going {H F : Type 0} (hears : H → Heard → H → Type 0) (leads : F → Called → F → Type 0) (old : PlaceValue) (h : H) (f : F) (new : PlaceValue)
+pub record Going {H F : Type 0} (hears : H → Heard → H → Type 0) (leads : F → Called → F → Type 0) (old : MachineCpuValue) (h : H) (f : F) (new : MachineCpuValue)
     (h' : H) (f' : F) : Type 0 where
   pub works : Works hears leads old h f new h' f' (own_of old)
   pub inside : new.stops.inside ≢ None
@@ -52,17 +52,17 @@ front_inside m old new None (Some slot) e = absurd e
 front_inside m old new (Some x) (Some slot) e = subst (λ (y : StopCpuValue). y ≡ tried old y) (sym e.1.1.is) refl
 
 -- to take and to enter changes nothing that only a CPU's own stop calls change
-next_own : (m : MachineValue) (old new : PlaceValue) (slot : Option ℕ) → TakesNext m old new slot → own_of new ≡ own_of old
+next_own : (m : MachineValue) (old new : MachineCpuValue) (slot : Option ℕ) → TakesNext m old new slot → own_of new ≡ own_of old
 next_own m old new slot t =
     let p = front_queues old.passes new.passes t.front t.passes_are in
     let e = front_inside m old.stops new.stops t.front slot t.stops_are in
     λ i. own_of (record { calls = old.calls; stops = record (e i) { inside = None; attempts = [] }; passes = record (old.passes) { put = p.2 i } })
 
 module _ {H F : Type 0} (hears : H → Heard → H → Type 0) (leads : F → Called → F → Type 0) where
-  pub going_none : (p : PlaceValue) (h : H) (f : F) → p.stops.inside ≢ None → Going hears leads p h f p h f
+  pub going_none : (p : MachineCpuValue) (h : H) (f : F) → p.stops.inside ≢ None → Going hears leads p h f p h f
   going_none p h f inside = record { works = works_none hears leads p h f; inside = inside; same = λ stop e. (stop.acked, e); passes_are = refl }
 
-  pub going_more : (old mid new : PlaceValue) (h h₁ h₂ : H) (f f₁ f₂ : F) (turn : Turn) → Going hears leads old h f mid h₁ f₁
+  pub going_more : (old mid new : MachineCpuValue) (h h₁ h₂ : H) (f f₁ f₂ : F) (turn : Turn) → Going hears leads old h f mid h₁ f₁
       → Works hears leads mid h₁ f₁ new h₂ f₂ (own_of mid) → TurnsStop leads mid.stops f₁ new.stops f₂ turn → new.passes ≡ mid.passes → turn ≢ Left
       → Going hears leads old h f new h₂ f₂
   going_more old mid new h h₁ h₂ f f₁ f₂ turn g w t passes on = record {
@@ -73,14 +73,14 @@ module _ {H F : Type 0} (hears : H → Heard → H → Type 0) (leads : F → Ca
   }
 
   -- what it has read at the end
-  pub going_read : (old mid new : PlaceValue) (h h₁ : H) (f f₁ : F) → Going hears leads old h f mid h₁ f₁ → ReadsAnew mid.stops new.stops
+  pub going_read : (old mid new : MachineCpuValue) (h h₁ : H) (f f₁ : F) → Going hears leads old h f mid h₁ f₁ → ReadsAnew mid.stops new.stops
       → ReadsAnew old.stops new.stops
   going_read old mid new h h₁ f f₁ g r stop e several =
       let m = g.same stop e in
       r (record stop { acked = m.0 }) m.1 several ∙ ap (λ (n : ℕ). first_readings n stop.slot stop.work) g.works.number_is
 
   -- a look, and then more of them
-  pub looks_more : {own : Own} (old mid new : PlaceValue) (h h' : H) (f f' : F) → Works hears leads mid h f new h' f' own
+  pub looks_more : {own : Own} (old mid new : MachineCpuValue) (h h' : H) (f f' : F) → Works hears leads mid h f new h' f' own
       → LooksOnceMore old.calls mid.calls → LooksOnceOrMore old.calls new.calls
   looks_more old mid new h h' f f' w o = record {
     found = o.0;
@@ -90,7 +90,7 @@ module _ {H F : Type 0} (hears : H → Heard → H → Type 0) (leads : F → Ca
   }
 
   -- the front is taken and entered
-  pub works_next : (m : MachineValue) (old new : PlaceValue) (h : H) (f : F) (slot : Option ℕ) → TakesNext m old new slot
+  pub works_next : (m : MachineValue) (old new : MachineCpuValue) (h : H) (f : F) (slot : Option ℕ) → TakesNext m old new slot
       → Works hears leads old h f new h f (own_of old)
   works_next m old new h f slot t =
       let p = front_queues old.passes new.passes t.front t.passes_are in
@@ -103,21 +103,21 @@ module _ {H F : Type 0} (hears : H → Heard → H → Type 0) (leads : F → Ca
       (serves_next m old new slot t) (own_still old.stops new.stops (ap (λ (c : StopCpuValue). c.part.calls) e)
       (ap (λ (c : StopCpuValue). c.part.begun) e) (ap (λ (c : StopCpuValue). c.pending) e) (ap (λ (c : StopCpuValue). c.part.answers) e)))
 
-  pub works_take : (m : MachineValue) (old new : PlaceValue) (h : H) (f : F) (there : Bool) (o : Option Inside) → old.stops.inside ≡ o
+  pub works_take : (m : MachineValue) (old new : MachineCpuValue) (h : H) (f : F) (there : Bool) (o : Option Inside) → old.stops.inside ≡ o
       → TakesWork m old new there → Works hears leads old h f new h f (own_of old)
   works_take m old new h f there None is t = let n = t.next is in works_next m old new h f n.0 n.1
   works_take m old new h f there (Some stop) is t = works_as hears leads (own_of old) (ap own_of (t.in_hand (some_not is)).0)
-      (subst (λ (x : PlaceValue). Works hears leads old h f x h f (own_of x)) (sym (t.in_hand (some_not is)).0) (works_none hears leads old h f))
+      (subst (λ (x : MachineCpuValue). Works hears leads old h f x h f (own_of x)) (sym (t.in_hand (some_not is)).0) (works_none hears leads old h f))
 
   -- a turn, a take, and turns until the work is completed
-  pub works_poll : (m : MachineValue) (old mid taken new : PlaceValue) (h h₁ h₂ : H) (f f₁ f₂ : F) (there : Bool)
+  pub works_poll : (m : MachineValue) (old mid taken new : MachineCpuValue) (h h₁ h₂ : H) (f f₁ f₂ : F) (there : Bool)
       → Works hears leads old h f mid h₁ f₁ (own_of old) → TakesWork m mid taken there → Works hears leads taken h₁ f₁ new h₂ f₂ (own_of taken)
       → Works hears leads old h f new h₂ f₂ (own_of old)
   works_poll m old mid taken new h h₁ h₂ f f₁ f₂ there a t b =
       let took = works_take m mid taken h₁ f₁ there mid.stops.inside refl t in
       works_as hears leads (own_of old) (took.own_is ∙ a.own_is) (works_then hears leads (works_then hears leads a took) b)
 
-  pub looks_poll : (m : MachineValue) (old mid taken new : PlaceValue) (h₁ h₂ : H) (f₁ f₂ : F) (there : Bool) → LooksOnceMore old.calls mid.calls
+  pub looks_poll : (m : MachineValue) (old mid taken new : MachineCpuValue) (h₁ h₂ : H) (f₁ f₂ : F) (there : Bool) → LooksOnceMore old.calls mid.calls
       → TakesWork m mid taken there → Works hears leads taken h₁ f₁ new h₂ f₂ (own_of taken) → LooksOnceOrMore old.calls new.calls
   looks_poll m old mid taken new h₁ h₂ f₁ f₂ there once t b =
       let took = works_take m mid taken h₁ f₁ there mid.stops.inside refl t in

@@ -14,12 +14,12 @@ use Rattle.smp_words.specs.Size.{cpus}
 use Rattle.smp_queue.specs.Cpu as call
 use Rattle.smp_multi.specs.Cpu as stop
 use Rattle.smp_machine.specs.Passes.{PassesValue, AreFresh}
-use Rattle.smp_machine.specs.Place.{MachineValue, PlaceValue, fresh_place, AreWaiting}
+use Rattle.smp_machine.specs.MachineCpu.{MachineValue, MachineCpuValue, fresh_place, AreWaiting}
 use Rattle.smp_machine.proofs.Made.{fresh_rest}
 
 -- the parts of the CPUs from n on are left, and of the CPUs below n those online are kept
 pub record AreSeated (m : MachineValue) (n : ℕ) (calls : call.BootValue) (stops : stop.BootValue) (passes : List PassesValue)
-    (waiting : List (Option PlaceValue)) : Type 0 where
+    (waiting : List (Option MachineCpuValue)) : Type 0 where
   pub calls_table : calls.table ≡ m.calls
   pub calls_left : (cpu : ℕ) → n ≤ cpu → has m.calls.online cpu ≡ true → call.is_left calls cpu ≡ true
   pub stops_table : stops.table ≡ m.stops.table
@@ -51,7 +51,7 @@ stops_setting_kept : (b : Bool) (n : ℕ) (stops : stop.BootValue) → (if b the
 stops_setting_kept true n stops = refl
 stops_setting_kept false n stops = refl
 
-pub seated_none : (m : MachineValue) (calls : call.BootValue) (stops : stop.BootValue) (passes : List PassesValue) (waiting : List (Option PlaceValue))
+pub seated_none : (m : MachineValue) (calls : call.BootValue) (stops : stop.BootValue) (passes : List PassesValue) (waiting : List (Option MachineCpuValue))
     → m.stops.setting.online ≡ m.calls.online → call.IsFull calls m.calls → stop.IsFull stops m.stops.table m.stops.setting
     → length passes ≡ cpus → AreFresh m.queues 0 passes → waiting ≡ [] → AreSeated m 0 calls stops passes waiting
 seated_none m calls stops passes waiting online c s sized fresh none = record {
@@ -68,7 +68,7 @@ seated_none m calls stops passes waiting online c s sized fresh none = record {
 }
 
 pub seated_more : (m : MachineValue) (n : ℕ) (calls calls' : call.BootValue) (stops stops' : stop.BootValue) (passes passes' : List PassesValue)
-    (waiting waiting' : List (Option PlaceValue)) (x : Option PlaceValue) (b : Bool) → n < cpus → b ≡ has m.calls.online n
+    (waiting waiting' : List (Option MachineCpuValue)) (x : Option MachineCpuValue) (b : Bool) → n < cpus → b ≡ has m.calls.online n
     → AreSeated m n calls stops passes waiting → calls' ≡ (if b then call.given n calls else calls) → stops' ≡ (if b then stop.given n stops else stops)
     → passes' ≡ remove passes 0
     → x ≡ (if b then Some (fresh_place m n) else None) → waiting' ≡ waiting ++ x ∷ [] → AreSeated m (n + 1) calls' stops' passes' waiting'
@@ -95,7 +95,7 @@ seated_more m n calls calls' stops stops' passes passes' waiting waiting' x b lo
     }))))
 
 -- what stands at a CPU that is online, once all are seated
-seat_is : (m : MachineValue) (n : ℕ) (calls : call.BootValue) (stops : stop.BootValue) (passes : List PassesValue) (waiting : List (Option PlaceValue))
+seat_is : (m : MachineValue) (n : ℕ) (calls : call.BootValue) (stops : stop.BootValue) (passes : List PassesValue) (waiting : List (Option MachineCpuValue))
     → AreLimits m.calls.nr m.calls.online → cpus ≤ n → AreSeated m n calls stops passes waiting → (cpu : ℕ) → has m.calls.online cpu ≡ true
     → (cpu < length waiting) × (get_or waiting cpu None ≡ Some (fresh_place m cpu))
 seat_is m n calls stops passes waiting limits all s cpu e =
@@ -106,7 +106,7 @@ seat_is m n calls stops passes waiting limits all s cpu e =
 
 -- once all are seated, all that are online wait fresh
 pub seats_wait : (m : MachineValue) (online n : ℕ) (calls : call.BootValue) (stops : stop.BootValue) (passes : List PassesValue)
-    (waiting : List (Option PlaceValue))
+    (waiting : List (Option MachineCpuValue))
     → online ≡ m.calls.online → AreLimits m.calls.nr m.calls.online → cpus ≤ n → AreSeated m n calls stops passes waiting → AreWaiting m online waiting
 seats_wait m online n calls stops passes waiting is limits all s = record {
   online_is = is;
@@ -116,24 +116,24 @@ seats_wait m online n calls stops passes waiting is limits all s = record {
 }
 
 -- whether the CPU of a number is left, by what waits there
-pub left_is : (waiting : List (Option PlaceValue)) (cpu : ℕ) (o : Option PlaceValue) → get_or waiting cpu None ≡ o
+pub left_is : (waiting : List (Option MachineCpuValue)) (cpu : ℕ) (o : Option MachineCpuValue) → get_or waiting cpu None ≡ o
     → get_or (map is_some waiting) cpu false ≡ is_some o
 left_is waiting cpu o e = get_or-map is_some waiting cpu None ∙ ap is_some e
 
 -- and are left
 pub seats_left : (m : MachineValue) (n : ℕ) (calls : call.BootValue) (stops : stop.BootValue) (passes : List PassesValue)
-    (waiting : List (Option PlaceValue))
+    (waiting : List (Option MachineCpuValue))
     → AreLimits m.calls.nr m.calls.online → cpus ≤ n → AreSeated m n calls stops passes waiting
     → (cpu : ℕ) → has m.calls.online cpu ≡ true → get_or (map is_some waiting) cpu false ≡ true
 seats_left m n calls stops passes waiting limits all s cpu e =
     left_is waiting cpu (Some (fresh_place m cpu)) (seat_is m n calls stops passes waiting limits all s cpu e).1
 
 -- the CPU that waits at a number, as it is taken out
-pub taken_from : (waiting : List (Option PlaceValue)) (cpu : ℕ) (o now : Option PlaceValue) → cpu < length waiting → o ≡ now → now ≡ get_or waiting cpu now
+pub taken_from : (waiting : List (Option MachineCpuValue)) (cpu : ℕ) (o now : Option MachineCpuValue) → cpu < length waiting → o ≡ now → now ≡ get_or waiting cpu now
     → get_or waiting cpu None ≡ o
 taken_from waiting cpu o now low e f = sym (e ∙ (f ∙ get_or_default waiting cpu now None low))
 
 -- is fresh
-pub waits_fresh : (m : MachineValue) (online : ℕ) (waiting : List (Option PlaceValue)) (cpu : ℕ) (c : PlaceValue)
+pub waits_fresh : (m : MachineValue) (online : ℕ) (waiting : List (Option MachineCpuValue)) (cpu : ℕ) (c : MachineCpuValue)
     → AreWaiting m online waiting → has online cpu ≡ true → get_or waiting cpu None ≡ Some c → c ≡ fresh_place m cpu
 waits_fresh m online waiting cpu c w h e = subst (λ o. IfSome o (λ c. c ≡ fresh_place m cpu)) e (w.fresh_are cpu h)

@@ -12,25 +12,25 @@ use Rattle.smp_machine.specs.Counts.{CountsOr}
 use Rattle.smp_machine.specs.Keys.{Sets}
 use Rattle.smp_machine.specs.Own.{Own}
 use Rattle.smp_machine.specs.Passes.{PassesValue}
-use Rattle.smp_machine.specs.Place.{MachineValue, PlaceValue, IsAt}
+use Rattle.smp_machine.specs.MachineCpu.{MachineValue, MachineCpuValue, IsAt}
 use Rattle.smp_machine.specs.Stops.{HasStopped, RefusedStill}
 use Rattle.smp_machine.specs.Works.{Works}
 use Rattle.smp_machine.proofs.Works.{at_still}
 
 -- it is the same CPU, of the same machine
-pub record Stays (old new : PlaceValue) : Type 0 where
+pub record Stays (old new : MachineCpuValue) : Type 0 where
   pub at : (m : MachineValue) → IsAt m old → IsAt m new
   pub number_is : new.calls.number ≡ old.calls.number
 
 -- nothing has changed
-pub stays_same : (old new : PlaceValue) → new ≡ old → Stays old new
+pub stays_same : (old new : MachineCpuValue) → new ≡ old → Stays old new
 stays_same old new e = record {
-  at = λ m at. subst (λ (x : PlaceValue). IsAt m x) (sym e) at;
-  number_is = ap (λ (x : PlaceValue). x.calls.number) e;
+  at = λ m at. subst (λ (x : MachineCpuValue). IsAt m x) (sym e) at;
+  number_is = ap (λ (x : MachineCpuValue). x.calls.number) e;
 }
 
 -- a call of a family
-pub stays_called : (old new : PlaceValue) → KeepsStops old new → Stays old new
+pub stays_called : (old new : MachineCpuValue) → KeepsStops old new → Stays old new
 stays_called old new k = record {
   at = λ m at. record {
     calls = k.same.table_is ∙ at.calls;
@@ -40,19 +40,19 @@ stays_called old new k = record {
   number_is = k.same.number_is;
 }
 
-pub at_called : (m : MachineValue) (old new : PlaceValue) → KeepsStops old new → IsAt m old → IsAt m new
+pub at_called : (m : MachineValue) (old new : MachineCpuValue) → KeepsStops old new → IsAt m old → IsAt m new
 at_called m old new k at = (stays_called old new k).at m at
 
 module _ {H F : Type 0} (hears : H → Heard → H → Type 0) (runs : F → Called → F → Type 0) where
   -- a stretch of work
-  pub stays_worked : (old new : PlaceValue) (h h' : H) (f f' : F) (own : Own) → Works hears runs old h f new h' f' own → Stays old new
+  pub stays_worked : (old new : MachineCpuValue) (h h' : H) (f f' : F) (own : Own) → Works hears runs old h f new h' f' own → Stays old new
   stays_worked old new h h' f f' own w = record {
     at = λ m at. at_still hears runs w at;
     number_is = ap (λ (x : CallCpuValue). x.number) w.calls_kept;
   }
 
   -- a stop, or its refusal
-  pub stays_stopped : (moves : Work → ℕ → List OwnMove) (P : Work → Type 0) (old new : PlaceValue) (h h' : H) (f f' : F)
+  pub stays_stopped : (moves : Work → ℕ → List OwnMove) (P : Work → Type 0) (old new : MachineCpuValue) (h h' : H) (f f' : F)
       (made : Result ℤ SmpError)
       → IfOk made (λ v. (work : Work) × P work × HasStopped hears runs moves work old h f new h' f' v)
       → IfErr made (λ _. RefusedStill old h f new h' f') → Stays old new
@@ -60,14 +60,14 @@ module _ {H F : Type 0} (hears : H → Heard → H → Type 0) (runs : F → Cal
   stays_stopped moves P old new h h' f f' (Err e) ok err = stays_same old new err.kept
 
   -- a key that is set, or not
-  pub stays_set : (t : TableValue) (k : ℕ) (on : Bool) (old new : PlaceValue) (h h' : H) (f f' : F) (made : Result Bool SmpError)
+  pub stays_set : (t : TableValue) (k : ℕ) (on : Bool) (old new : MachineCpuValue) (h h' : H) (f f' : F) (made : Result Bool SmpError)
       → IfOk made (λ turned. Sets hears runs t k on old h f new h' f' turned) → IfErr made (λ _. RefusedStill old h f new h' f') → Stays old new
   stays_set t k on old new h h' f f' (Ok false) sets err = stays_worked old new h h' f f' _ sets.works
   stays_set t k on old new h h' f f' (Ok true) sets err = stays_worked old new h h' f f' _ sets.stopped.works
   stays_set t k on old new h h' f f' (Err e) sets err = stays_same old new err.kept
 
   -- a key that is counted, or not
-  pub stays_counted : (t : TableValue) (k : ℕ) (up : Bool) (old new : PlaceValue) (h h' : H) (f f' : F) (made : Result Bool SmpError)
+  pub stays_counted : (t : TableValue) (k : ℕ) (up : Bool) (old new : MachineCpuValue) (h h' : H) (f f' : F) (made : Result Bool SmpError)
       → CountsOr hears runs t k up old h f new h' f' made → Stays old new
   stays_counted t k up old new h h' f f' (Ok false) c = stays_worked old new h h' f f' _ c.1.works
   stays_counted t k up old new h h' f f' (Ok true) c = stays_worked old new h h' f f' _ c.1.patches.stopped.works
@@ -88,36 +88,36 @@ module _ {H F : Type 0} (hears : H → Heard → H → Type 0) (runs : F → Cal
   stays_counted t k up old new h h' f f' (Err (error.StreamFailed n)) c = absurd c.1
 
   -- the same, part by part
-  pub at_stopped : (moves : Work → ℕ → List OwnMove) (P : Work → Type 0) (m : MachineValue) (old new : PlaceValue) (h h' : H)
+  pub at_stopped : (moves : Work → ℕ → List OwnMove) (P : Work → Type 0) (m : MachineValue) (old new : MachineCpuValue) (h h' : H)
       (f f' : F) (made : Result ℤ SmpError)
       → IfOk made (λ v. (work : Work) × P work × HasStopped hears runs moves work old h f new h' f' v)
       → IfErr made (λ _. RefusedStill old h f new h' f') → IsAt m old → IsAt m new
   at_stopped moves P m old new h h' f f' made ok err at = (stays_stopped moves P old new h h' f f' made ok err).at m at
 
-  pub number_stopped : (moves : Work → ℕ → List OwnMove) (P : Work → Type 0) (old new : PlaceValue) (h h' : H) (f f' : F)
+  pub number_stopped : (moves : Work → ℕ → List OwnMove) (P : Work → Type 0) (old new : MachineCpuValue) (h h' : H) (f f' : F)
       (made : Result ℤ SmpError)
       → IfOk made (λ v. (work : Work) × P work × HasStopped hears runs moves work old h f new h' f' v)
       → IfErr made (λ _. RefusedStill old h f new h' f') → new.calls.number ≡ old.calls.number
   number_stopped moves P old new h h' f f' made ok err = (stays_stopped moves P old new h h' f f' made ok err).number_is
 
-  pub at_set : (t : TableValue) (k : ℕ) (on : Bool) (m : MachineValue) (old new : PlaceValue) (h h' : H) (f f' : F) (made : Result Bool SmpError)
+  pub at_set : (t : TableValue) (k : ℕ) (on : Bool) (m : MachineValue) (old new : MachineCpuValue) (h h' : H) (f f' : F) (made : Result Bool SmpError)
       → IfOk made (λ turned. Sets hears runs t k on old h f new h' f' turned) → IfErr made (λ _. RefusedStill old h f new h' f')
       → IsAt m old → IsAt m new
   at_set t k on m old new h h' f f' made sets err at = (stays_set t k on old new h h' f f' made sets err).at m at
 
-  pub number_set : (t : TableValue) (k : ℕ) (on : Bool) (old new : PlaceValue) (h h' : H) (f f' : F) (made : Result Bool SmpError)
+  pub number_set : (t : TableValue) (k : ℕ) (on : Bool) (old new : MachineCpuValue) (h h' : H) (f f' : F) (made : Result Bool SmpError)
       → IfOk made (λ turned. Sets hears runs t k on old h f new h' f' turned) → IfErr made (λ _. RefusedStill old h f new h' f')
       → new.calls.number ≡ old.calls.number
   number_set t k on old new h h' f f' made sets err = (stays_set t k on old new h h' f f' made sets err).number_is
 
-  pub at_counted : (t : TableValue) (k : ℕ) (up : Bool) (m : MachineValue) (old new : PlaceValue) (h h' : H) (f f' : F) (made : Result Bool SmpError)
+  pub at_counted : (t : TableValue) (k : ℕ) (up : Bool) (m : MachineValue) (old new : MachineCpuValue) (h h' : H) (f f' : F) (made : Result Bool SmpError)
       → CountsOr hears runs t k up old h f new h' f' made → IsAt m old → IsAt m new
   at_counted t k up m old new h h' f f' made c at = (stays_counted t k up old new h h' f f' made c).at m at
 
-  pub number_counted : (t : TableValue) (k : ℕ) (up : Bool) (old new : PlaceValue) (h h' : H) (f f' : F) (made : Result Bool SmpError)
+  pub number_counted : (t : TableValue) (k : ℕ) (up : Bool) (old new : MachineCpuValue) (h h' : H) (f f' : F) (made : Result Bool SmpError)
       → CountsOr hears runs t k up old h f new h' f' made → new.calls.number ≡ old.calls.number
   number_counted t k up old new h h' f f' made c = (stays_counted t k up old new h h' f f' made c).number_is
 
-  pub number_worked : (old new : PlaceValue) (h h' : H) (f f' : F) (own : Own) → Works hears runs old h f new h' f' own
+  pub number_worked : (old new : MachineCpuValue) (h h' : H) (f f' : F) (own : Own) → Works hears runs old h f new h' f' own
       → new.calls.number ≡ old.calls.number
   number_worked old new h h' f f' own w = (stays_worked old new h h' f f' own w).number_is

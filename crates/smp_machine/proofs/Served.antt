@@ -12,13 +12,13 @@ use Rattle.smp_mask.specs.declared.error.SmpError.{SmpError}
 use Rattle.smp_mask.specs.declared.error.SmpError.TheVariants as error
 use Rattle.smp_queue.specs.Cpu.{CpuValue as CallCpuValue}
 use Rattle.smp_words.specs.Limits.{AreLimits}
-use Rattle.smp_stop_steps.specs.Starts.{has_slot}
+use Rattle.smp_stop_steps.specs.Start.{has_slot}
 use Rattle.smp_multi.specs.Answers.{RefusesEntry, Enters}
 use Rattle.smp_multi.specs.Cpu.{TableValue as StopTableValue, CpuValue as StopCpuValue, Inside}
 use Rattle.smp_multi.specs.Names.{Attempt, Work, Setting, StopCall, Kind}
 use Rattle.smp_machine.specs.declared.work_queue.Item.{Item}
 use Rattle.smp_machine.specs.Passes.{PassesValue, LastIsOwn, takes, TakenIsShown}
-use Rattle.smp_machine.specs.Place.{MachineValue, PlaceValue, IsMachine, HasNotLeft}
+use Rattle.smp_machine.specs.MachineCpu.{MachineValue, MachineCpuValue, IsMachine, HasNotLeft}
 use Rattle.smp_machine.specs.Served.{Entered, Missed, Unseen, Service, is_entered, one_if, in_hand, visits, entries, attempts_as, attempts_for}
 use Rattle.smp_machine.specs.Served.{IsBeginning, IsLater, IsLookedAt, KeepsVisits, Serves}
 use Rattle.smp_machine.specs.Takes.{Drops, TakesFront, EntersFront, TakesNext}
@@ -181,7 +181,7 @@ looked_append online [] ys a b = b
 looked_append online (x ∷ xs) ys a b = (a.0, looked_append online xs ys a.1 b)
 
 -- none was taken
-pub serves_none : (old new : PlaceValue) → new.passes.taken ≡ old.passes.taken → new.stops.attempts ≡ old.stops.attempts
+pub serves_none : (old new : MachineCpuValue) → new.passes.taken ≡ old.passes.taken → new.stops.attempts ≡ old.stops.attempts
     → KeepsVisits old.stops new.stops → Serves old new
 serves_none old new taken attempts keeps = record {
   served = [];
@@ -192,12 +192,12 @@ serves_none old new taken attempts keeps = record {
   looked_at = tt;
 }
 
-pub serves_still : (old new : PlaceValue) → new.passes.taken ≡ old.passes.taken → new.stops.part.answers ≡ old.stops.part.answers
+pub serves_still : (old new : MachineCpuValue) → new.passes.taken ≡ old.passes.taken → new.stops.part.answers ≡ old.stops.part.answers
     → new.stops.inside ≡ old.stops.inside → new.stops.attempts ≡ old.stops.attempts → Serves old new
 serves_still old new taken answers inside attempts = serves_none old new taken attempts (keeps_still old.stops new.stops answers inside)
 
 -- one stretch after another
-pub serves_then : (old mid new : PlaceValue) → mid.stops.setting ≡ old.stops.setting → Serves old mid → Serves mid new → Serves old new
+pub serves_then : (old mid new : MachineCpuValue) → mid.stops.setting ≡ old.stops.setting → Serves old mid → Serves mid new → Serves old new
 serves_then old mid new setting a b = record {
   served = a.served ++ b.served;
   taken_are = b.taken_are ∙ (ap (λ (l : List Item). l ++ map (λ (s : Service). s.item) b.served) a.taken_are
@@ -217,7 +217,7 @@ serves_then old mid new setting a b = record {
 }
 
 -- the front of the own queue was taken
-serves_front : (t : StopTableValue) (old new : PlaceValue) (front : Option Item) (slot : Option ℕ) → TakesFront old.passes new.passes front
+serves_front : (t : StopTableValue) (old new : MachineCpuValue) (front : Option Item) (slot : Option ℕ) → TakesFront old.passes new.passes front
     → EntersFront t old.stops new.stops front slot → Serves old new
 serves_front t old new None None took e =
     serves_still old new (ap (λ (p : PassesValue). p.taken) took) (ap (λ (c : StopCpuValue). c.part.answers) e) (ap (λ (c : StopCpuValue). c.inside) e)
@@ -261,13 +261,13 @@ serves_front t old new (Some x) (Some slot) took e =
       looked_at = ((λ unseen. absurd (let bad : Entered ≡ Unseen = unseen in cc)), tt);
     }
 
-pub serves_next : (m : MachineValue) (old new : PlaceValue) (slot : Option ℕ) → TakesNext m old new slot → Serves old new
+pub serves_next : (m : MachineValue) (old new : MachineCpuValue) (slot : Option ℕ) → TakesNext m old new slot → Serves old new
 serves_next m old new slot t = serves_front m.stops old new t.front slot t.passes_are t.stops_are
 
 -- ---- the last work taken
 
 -- after works that were served
-pub own_after : (old mid new : PlaceValue) → Serves old mid → mid.passes.number ≡ old.passes.number → LastIsOwn mid.passes new.passes
+pub own_after : (old mid new : MachineCpuValue) → Serves old mid → mid.passes.number ≡ old.passes.number → LastIsOwn mid.passes new.passes
     → LastIsOwn old.passes new.passes
 own_after old mid new s number l =
     let before : List Item = map (λ (x : Service). x.item) s.served in
@@ -288,13 +288,13 @@ pub own_to : (old mid new : PassesValue) → new ≡ mid → LastIsOwn old mid �
 own_to old mid new e l = subst (λ (p : PassesValue). LastIsOwn old p) (sym e) l
 
 -- the front of the own queue was of the own stop, and was entered
-own_front : (t : StopTableValue) (old new : PlaceValue) (front : Option Item) (slot : ℕ) → slot ≡ old.passes.number
+own_front : (t : StopTableValue) (old new : MachineCpuValue) (front : Option Item) (slot : ℕ) → slot ≡ old.passes.number
     → TakesFront old.passes new.passes front → EntersFront t old.stops new.stops front (Some slot) → LastIsOwn old.passes new.passes
 own_front t old new None slot same took e = absurd e
 own_front t old new (Some x) slot same took e =
     record { others = []; last = x; own = sym e.0 ∙ same; taken_are = ap (λ (p : PassesValue). p.taken) took.0 }
 
-pub own_next : (m : MachineValue) (old new : PlaceValue) (slot : ℕ) → slot ≡ old.passes.number → TakesNext m old new (Some slot)
+pub own_next : (m : MachineValue) (old new : MachineCpuValue) (slot : ℕ) → slot ≡ old.passes.number → TakesNext m old new (Some slot)
     → LastIsOwn old.passes new.passes
 own_next m old new slot same t = own_front m.stops old new t.front slot same t.passes_are t.stops_are
 

@@ -9,7 +9,7 @@ use Rattle.smp_mask.specs.Mask.{has, members_below}
 use Rattle.smp_mask.specs.declared.mask.TheConstants.{NR_CPUS}
 use Rattle.smp_queue.specs.Cpu.{CpuValue as CallCpuValue}
 use Rattle.smp_queue.specs.declared.handler.Heard.{Heard}
-use Rattle.smp_stop_steps.specs.Starts.{answer_word}
+use Rattle.smp_stop_steps.specs.Start.{answer_word}
 use Rattle.smp_multi.specs.Answers.{answer_in}
 use Rattle.smp_multi.specs.Names.{OwnMove, Work}
 use Rattle.smp_multi.specs.Cpu.{TableValue, CpuValue as StopCpuValue}
@@ -21,7 +21,7 @@ use Rattle.smp_machine.specs.StopLaws.{IsOfOne, IsOfTwo, IsOfAll, IsFirstAlone, 
 use Rattle.smp_machine.specs.StopLaws.{StopsAgreeWithOwn, StopsAreMadeOnce, PollsSendNothing, QueuesKeepOrder, WorksAreTaken}
 use Rattle.smp_machine.specs.Own.{Own, put_one, put_all}
 use Rattle.smp_machine.specs.Passes.{PassesValue, put_to}
-use Rattle.smp_machine.specs.Place.{PlaceValue}
+use Rattle.smp_machine.specs.MachineCpu.{MachineCpuValue}
 use Rattle.smp_machine.specs.Stops.{item, HasStopped, IsActive, IsOneWork, IsTwoWork, IsMachineWork}
 use Rattle.smp_machine.specs.WorkQueue.{items_by}
 use Rattle.smp_multi.proofs.Kept.{own_answers_agree}
@@ -176,7 +176,7 @@ module _ {H F : Type 0} (hears : H → Heard → H → Type 0) (runs : F → Cal
   }
 
   -- the result of the own stop that stops its caller too
-  agrees : (moves : Work → ℕ → List OwnMove) (work : Work) (old new : PlaceValue) (h h' : H) (f f' : F) (answer : ℤ)
+  agrees : (moves : Work → ℕ → List OwnMove) (work : Work) (old new : MachineCpuValue) (h h' : H) (f f' : F) (answer : ℤ)
       → (s : HasStopped hears runs moves work old h f new h' f' answer) → has work.mask old.stops.number ≡ true
       → AgreesWithOwn new.stops work.mask s.word
   agrees moves work old new h h' f f' answer s of =

@@ -24,7 +24,7 @@ use Rattle.smp_machine.specs.OwnAnswers.{OwnAnswers}
 use Rattle.smp_machine.specs.Served.{IsLater}
 use Rattle.smp_machine.proofs.OwnAnswers.{own_begun, own_collected, own_still}
 use Rattle.smp_machine.specs.Passes.{puts}
-use Rattle.smp_machine.specs.Place.{PlaceValue}
+use Rattle.smp_machine.specs.MachineCpu.{MachineCpuValue}
 use Rattle.smp_machine.specs.Stops.{item, with_queued, with_stop, AreShown, HasCollected, HasStopped}
 use Rattle.smp_machine.specs.Works.{Works}
 use Rattle.smp_machine.proofs.Served.{later_still, later_same, later_begun, later_collected}
@@ -50,14 +50,14 @@ put_all-append x (cpu ∷ xs) ys put = put_all-append x xs ys (put_one x cpu put
 
 module _ {H F : Type 0} (hears : H → Heard → H → Type 0) (runs : F → Called → F → Type 0) where
   -- one step of the own stop: what it makes of the own part is this
-  pub works_step : (p new : PlaceValue) (h : H) (f : F) (s : CpuValue) (own : Own) → new ≡ record p { stops = s } → IsLater p.stops s
+  pub works_step : (p new : MachineCpuValue) (h : H) (f : F) (s : CpuValue) (own : Own) → new ≡ record p { stops = s } → IsLater p.stops s
       → s.part.calls ≡ p.stops.part.calls → s.part.answers ≡ p.stops.part.answers → s.inside ≡ p.stops.inside
       → s.attempts ≡ p.stops.attempts → OwnAnswers p.stops s → own_of (record p { stops = s }) ≡ own → Works hears runs p h f new h f own
   works_step p new h f s own e later calls answers inside attempts mine is =
-      subst (λ (x : PlaceValue). Works hears runs p h f x h f own) (sym e)
+      subst (λ (x : MachineCpuValue). Works hears runs p h f x h f own) (sym e)
       (works_as hears runs own is (works_still hears runs p (record p { stops = s }) h f refl later calls answers inside attempts refl refl refl mine))
 
-  pub works_take : (p new : PlaceValue) (h : H) (f : F) → new ≡ record p { stops = takes_gate p.stops }
+  pub works_take : (p new : MachineCpuValue) (h : H) (f : F) → new ≡ record p { stops = takes_gate p.stops }
       → Works hears runs p h f new h f (with_moves (Took ∷ []) (with_gate true (own_of p)))
   works_take p new h f e =
       let s = takes_gate p.stops in
@@ -66,19 +66,19 @@ module _ {H F : Type 0} (hears : H → Heard → H → Type 0) (runs : F → Cal
       (λ i. record (with_gate true (own_of p)) { moves = told_more p.stops.moves (Took ∷ []) i })
 
   -- a try of the gate, or a look at done, in vain
-  pub works_missed : (p new : PlaceValue) (h : H) (f : F) → new ≡ record p { stops = misses_gate p.stops } → Works hears runs p h f new h f (own_of p)
+  pub works_missed : (p new : MachineCpuValue) (h : H) (f : F) → new ≡ record p { stops = misses_gate p.stops } → Works hears runs p h f new h f (own_of p)
   works_missed p new h f e =
       let s = misses_gate p.stops in
       works_step p new h f s (own_of p) e (later_still p.stops s refl refl refl refl refl refl (Busy ∷ [], refl)) refl refl refl refl (own_still p.stops s refl refl refl refl)
       (λ i. record (own_of p) { moves = told_same p.stops.moves (Busy ∷ []) refl i })
 
-  pub works_looked : (p new : PlaceValue) (h : H) (f : F) → new ≡ record p { stops = looks_in_vain p.stops } → Works hears runs p h f new h f (own_of p)
+  pub works_looked : (p new : MachineCpuValue) (h : H) (f : F) → new ≡ record p { stops = looks_in_vain p.stops } → Works hears runs p h f new h f (own_of p)
   works_looked p new h f e =
       let s = looks_in_vain p.stops in
       works_step p new h f s (own_of p) e (later_still p.stops s refl refl refl refl refl refl (NotDone ∷ [], refl)) refl refl refl refl (own_still p.stops s refl refl refl refl)
       (λ i. record (own_of p) { moves = told_same p.stops.moves (NotDone ∷ []) refl i })
 
-  pub works_give : (p new : PlaceValue) (h : H) (f : F) → new ≡ record p { stops = gives_gate p.stops }
+  pub works_give : (p new : MachineCpuValue) (h : H) (f : F) → new ≡ record p { stops = gives_gate p.stops }
       → Works hears runs p h f new h f (with_moves (Gave ∷ []) (with_gate false (own_of p)))
   works_give p new h f e =
       let s = gives_gate p.stops in
@@ -86,7 +86,7 @@ module _ {H F : Type 0} (hears : H → Heard → H → Type 0) (runs : F → Cal
       (later_still p.stops s refl refl refl refl refl refl (Gave ∷ [], refl)) refl refl refl refl (own_still p.stops s refl refl refl refl)
       (λ i. record (with_gate false (own_of p)) { moves = told_more p.stops.moves (Gave ∷ []) i })
 
-  pub works_begin : (p new : PlaceValue) (h : H) (f : F) (work : Work) → new ≡ record p { stops = begins work p.stops }
+  pub works_begin : (p new : MachineCpuValue) (h : H) (f : F) (work : Work) → new ≡ record p { stops = begins work p.stops }
       → Works hears runs p h f new h f (with_moves (Began work ∷ []) (with_begun work (own_of p)))
   works_begin p new h f work e =
       let s = begins work p.stops in
@@ -94,7 +94,7 @@ module _ {H F : Type 0} (hears : H → Heard → H → Type 0) (runs : F → Cal
       (later_begun p.stops s (work ∷ []) refl refl refl refl refl refl (Began work ∷ [], refl)) refl refl refl refl (own_begun p.stops s work refl refl refl refl)
       (λ i. record (with_begun work (own_of p)) { moves = told_more p.stops.moves (Began work ∷ []) i })
 
-  pub works_collect : (p new : PlaceValue) (h : H) (f : F) (word : ℕ) → new ≡ record p { stops = collects word p.stops }
+  pub works_collect : (p new : MachineCpuValue) (h : H) (f : F) (word : ℕ) → new ≡ record p { stops = collects word p.stops }
       → Works hears runs p h f new h f (with_moves (Collected word ∷ []) (with_collected word (own_of p)))
   works_collect p new h f word e =
       let s = collects word p.stops in
@@ -102,20 +102,20 @@ module _ {H F : Type 0} (hears : H → Heard → H → Type 0) (runs : F → Cal
       (later_collected p.stops s (word ∷ []) refl refl refl refl refl refl (Collected word ∷ [], refl)) refl refl refl refl (own_collected p.stops s refl refl refl refl)
       (λ i. record (with_collected word (own_of p)) { moves = told_more p.stops.moves (Collected word ∷ []) i })
 
-  pub works_put : (p new : PlaceValue) (h : H) (f : F) (cpu : ℕ) (x : Item) → new ≡ record p { passes = puts cpu x p.passes }
+  pub works_put : (p new : MachineCpuValue) (h : H) (f : F) (cpu : ℕ) (x : Item) → new ≡ record p { passes = puts cpu x p.passes }
       → Works hears runs p h f new h f (with_put x (cpu ∷ []) (own_of p))
   works_put p new h f cpu x e =
-      subst (λ (y : PlaceValue). Works hears runs p h f y h f (with_put x (cpu ∷ []) (own_of p))) (sym e)
+      subst (λ (y : MachineCpuValue). Works hears runs p h f y h f (with_put x (cpu ∷ []) (own_of p))) (sym e)
       (works_still hears runs p (record p { passes = puts cpu x p.passes }) h f refl (later_same p.stops) refl refl refl refl refl refl refl
       (own_still p.stops p.stops refl refl refl refl))
 
   -- after a stretch in which the CPU has made none
-  pub works_after : {old mid new : PlaceValue} {h h₁ h₂ : H} {f f₁ f₂ : F} (g : Own → Own) → Works hears runs old h f mid h₁ f₁ (own_of old)
+  pub works_after : {old mid new : MachineCpuValue} {h h₁ h₂ : H} {f f₁ f₂ : F} (g : Own → Own) → Works hears runs old h f mid h₁ f₁ (own_of old)
       → Works hears runs mid h₁ f₁ new h₂ f₂ (g (own_of mid)) → Works hears runs old h f new h₂ f₂ (g (own_of old))
   works_after g a b = works_both hears runs (λ o. o) g a b
 
   -- one queue more
-  pub works_more : {old mid new : PlaceValue} {h h₁ h₂ : H} {f f₁ f₂ : F} (work : Work) (xs : List ℕ) (cpu : ℕ)
+  pub works_more : {old mid new : MachineCpuValue} {h h₁ h₂ : H} {f f₁ f₂ : F} (work : Work) (xs : List ℕ) (cpu : ℕ)
       → Works hears runs old h f mid h₁ f₁ (with_put (item old.stops.number work) xs (own_of old))
       → Works hears runs mid h₁ f₁ new h₂ f₂ (with_put (item mid.stops.number work) (cpu ∷ []) (own_of mid))
       → Works hears runs old h f new h₂ f₂ (with_put (item old.stops.number work) (xs ++ cpu ∷ []) (own_of old))
@@ -126,18 +126,18 @@ module _ {H F : Type 0} (hears : H → Heard → H → Type 0) (runs : F → Cal
       (ap (λ (l : List (List Item)). record (own_of old) { put = l }) (sym (put_all-append x xs (cpu ∷ []) old.passes.put)))
       (works_both hears runs (with_put x xs) (with_put x (cpu ∷ [])) a same)
 
-  pub works_all : {old new : PlaceValue} {h h' : H} {f f' : F} (x : Item) (xs ys : List ℕ) → xs ≡ ys
+  pub works_all : {old new : MachineCpuValue} {h h' : H} {f f' : F} (x : Item) (xs ys : List ℕ) → xs ≡ ys
       → Works hears runs old h f new h' f' (with_put x xs (own_of old)) → Works hears runs old h f new h' f' (with_put x ys (own_of old))
   works_all {old} x xs ys e w = works_as hears runs (with_put x ys (own_of old)) (ap (λ (l : List ℕ). with_put x l (own_of old)) e) w
 
   -- a stop until its works are queued
-  pub stop_queued : {old m₁ m₂ m₃ : PlaceValue} {h h₁ h₃ : H} {f f₁ f₃ : F} (work : Work)
+  pub stop_queued : {old m₁ m₂ m₃ : MachineCpuValue} {h h₁ h₃ : H} {f f₁ f₃ : F} (work : Work)
       → Works hears runs old h f m₁ h₁ f₁ (with_moves (Took ∷ []) (with_gate true (own_of old)))
       → m₂ ≡ record m₁ { stops = begins work m₁.stops }
       → Works hears runs m₂ h₁ f₁ m₃ h₃ f₃ (with_put (item m₂.stops.number work) (members work.mask) (own_of m₂))
       → Works hears runs old h f m₃ h₃ f₃ (with_queued old.stops.number work (own_of old))
   stop_queued {old} {m₁} {m₂} {m₃} {h} {h₁} {h₃} {f} {f₁} {f₃} work a e b =
-      let number : m₂.stops.number ≡ old.stops.number = ap (λ (p : PlaceValue). p.stops.number) e ∙ a.number_is in
+      let number : m₂.stops.number ≡ old.stops.number = ap (λ (p : MachineCpuValue). p.stops.number) e ∙ a.number_is in
       let took = λ (o : Own). with_moves (Took ∷ []) (with_gate true o) in
       let began = λ (o : Own). with_moves (Began work ∷ []) (with_begun work o) in
       let two = works_both hears runs took began a (works_begin m₁ m₂ h₁ f₁ work e) in
@@ -173,8 +173,8 @@ last_given c word r = record {
   own = r.own;
 }
 
-pub last_open : {p new : PlaceValue} {word : ℕ} → new ≡ record p { stops = gives_gate p.stops } → IsLastResult p.stops word → IsLastResult new.stops word
-last_open {p} {new} {word} e r = subst (λ (q : PlaceValue). IsLastResult q.stops word) (sym e) (last_given p.stops word r)
+pub last_open : {p new : MachineCpuValue} {word : ℕ} → new ≡ record p { stops = gives_gate p.stops } → IsLastResult p.stops word → IsLastResult new.stops word
+last_open {p} {new} {word} e r = subst (λ (q : MachineCpuValue). IsLastResult q.stops word) (sym e) (last_given p.stops word r)
 
 -- the law of the queues, over those that were put to
 or_left : (b : Bool) → (b || (false || false)) ≡ true → b ≡ true
@@ -202,7 +202,7 @@ shown_at e f k = subst (λ (t : ℕ × List ℕ × List (List Item)). AreShown t
 
 module _ {H F : Type 0} (hears : H → Heard → H → Type 0) (runs : F → Called → F → Type 0) where
   -- a stop that gives the gate up once it is complete
-  pub stop_long : {old m₃ m₄ new : PlaceValue} {n : ℕ} {h h₃ h₄ : H} {f f₃ f₄ : F} (work : Work) (u v : ℤ) → u ≡ v
+  pub stop_long : {old m₃ m₄ new : MachineCpuValue} {n : ℕ} {h h₃ h₄ : H} {f f₃ f₄ : F} (work : Work) (u v : ℤ) → u ≡ v
       → n ≡ old.stops.number
       → Works hears runs old h f m₃ h₃ f₃ (with_queued old.stops.number work (own_of old))
       → AreShown n (members work.mask) m₃.passes.put → HasCollected hears runs m₃ h₃ f₃ m₄ h₄ f₄ v
@@ -220,12 +220,12 @@ module _ {H F : Type 0} (hears : H → Heard → H → Type 0) (runs : F → Cal
             (λ i. record left { moves = moves_of_four (own_of old).moves (Took ∷ Began work ∷ []) (Collected c.word) Gave i })
             (works_both hears runs (λ (o : Own). got (put o)) gave three (works_give hears runs m₄ new h₄ f₄ e));
         result = last_open e c.result;
-        shown = shown_at number refl (sym (ap (λ (p : PlaceValue). p.passes.put) e ∙ ap (λ (o : Own). o.put) c.works.own_is)) shown;
-        outside = ap (λ (p : PlaceValue). p.stops.inside) e ∙ c.outside;
+        shown = shown_at number refl (sym (ap (λ (p : MachineCpuValue). p.passes.put) e ∙ ap (λ (o : Own). o.put) c.works.own_is)) shown;
+        outside = ap (λ (p : MachineCpuValue). p.stops.inside) e ∙ c.outside;
       }
 
   -- a stop that gives it up once its works are queued
-  pub stop_short : {old m₃ m₄ new : PlaceValue} {n : ℕ} {h h₃ h₅ : H} {f f₃ f₅ : F} (work : Work) (u v : ℤ) → u ≡ v
+  pub stop_short : {old m₃ m₄ new : MachineCpuValue} {n : ℕ} {h h₃ h₅ : H} {f f₃ f₅ : F} (work : Work) (u v : ℤ) → u ≡ v
       → n ≡ old.stops.number
       → Works hears runs old h f m₃ h₃ f₃ (with_queued old.stops.number work (own_of old))
       → AreShown n (members work.mask) m₃.passes.put → m₄ ≡ record m₃ { stops = gives_gate m₃.stops }
@@ -243,19 +243,19 @@ module _ {H F : Type 0} (hears : H → Heard → H → Type 0) (runs : F → Cal
             (λ i. record left { moves = moves_of_four (own_of old).moves (Took ∷ Began work ∷ []) Gave (Collected c.word) i })
             (works_both hears runs (λ (o : Own). gave (put o)) got three c.works);
         result = c.result;
-        shown = shown_at number refl (sym (ap (λ (o : Own). o.put) c.works.own_is ∙ ap (λ (p : PlaceValue). p.passes.put) e)) shown;
+        shown = shown_at number refl (sym (ap (λ (o : Own). o.put) c.works.own_is ∙ ap (λ (p : MachineCpuValue). p.passes.put) e)) shown;
         outside = c.outside;
       }
 
   -- the same, long or not
-  pub stop_as : {old new : PlaceValue} {h h' : H} {f f' : F} {work : Work} {v : ℤ} {long is_long : Bool} → is_long ≡ long
+  pub stop_as : {old new : MachineCpuValue} {h h' : H} {f f' : F} {work : Work} {v : ℤ} {long is_long : Bool} → is_long ≡ long
       → HasStopped hears runs (stop_moves long) work old h f new h' f' v → HasStopped hears runs (stop_moves is_long) work old h f new h' f' v
   stop_as {old} {new} {h} {h'} {f} {f'} {work} {v} e =
       subst (λ (b : Bool). HasStopped hears runs (stop_moves b) work old h f new h' f' v) (sym e)
 
   -- the same stop, as callers see its CPU and its answer
-  pub stop_seen : {old seen new : PlaceValue} {h h' : H} {f f' : F} {moves : Work → ℕ → List OwnMove} {work : Work} (u v : ℤ)
+  pub stop_seen : {old seen new : MachineCpuValue} {h h' : H} {f f' : F} {moves : Work → ℕ → List OwnMove} {work : Work} (u v : ℤ)
       → old ≡ seen → u ≡ v → HasStopped hears runs moves work old h f new h' f' v → HasStopped hears runs moves work seen h f new h' f' u
   stop_seen {old} {seen} {new} {h} {h'} {f} {f'} {moves} {work} u v e same s =
-      subst (λ (p : PlaceValue). HasStopped hears runs moves work p h f new h' f' u) e
+      subst (λ (p : MachineCpuValue). HasStopped hears runs moves work p h f new h' f' u) e
       (subst (λ (x : ℤ). HasStopped hears runs moves work old h f new h' f' x) (sym same) s)

@@ -20,10 +20,10 @@ use Rattle.smp_multi.specs.declared.turn.Turn.TheVariants.{Same, Moved, Ran, Lef
 use Rattle.smp_multi.specs.Running.{called}
 use Rattle.smp_stop_steps.specs.Callings.{answer_in as carried_answer}
 use Rattle.smp_stop_steps.specs.Labels.{patch_answer}
-use Rattle.smp_stop_steps.specs.Starts.{answer_word}
+use Rattle.smp_stop_steps.specs.Start.{answer_word}
 use Rattle.smp_stop_steps.specs.Tells.{first_readings}
 use Rattle.smp_stop_steps.specs.declared.phase.TheConstants.{DISABLE_IRQ, RUN, EXIT}
-use Rattle.smp_machine.specs.Place.{PlaceValue, HasNotLeft}
+use Rattle.smp_machine.specs.MachineCpu.{MachineCpuValue, HasNotLeft}
 use Rattle.smp_machine.specs.Works.{stop_call, turned, HasRun, LooksOnce, LooksIfOn, StopMoves, GoesRound}
 use Rattle.smp_machine.specs.Served.{KeepsVisits}
 use Rattle.smp_machine.specs.Works.{completed, StaysIn, TurnsStop}
@@ -31,7 +31,7 @@ use Rattle.smp_machine.proofs.Served.{keeps_still, keeps_inside, keeps_answer}
 
 module _ {H : Type 0} (hears : H → Heard → H → Type 0) where
   -- one look, by what `handle` answers
-  pub looks_once : (interrupted : Bool) (p : PlaceValue) (calls : CallCpuValue) (h i : H)
+  pub looks_once : (interrupted : Bool) (p : MachineCpuValue) (calls : CallCpuValue) (h i : H)
       → (interrupted ≡ true → (batch : List Call) × (calls ≡ drains batch (asks true p.calls)) × Grows hears h (order batch) i)
       → (interrupted ≡ false → (calls ≡ asks false p.calls) × (i ≡ h))
       → LooksOnce hears p h (record p { calls = calls }) i
@@ -49,10 +49,10 @@ module _ {H : Type 0} (hears : H → Heard → H → Type 0) where
         once = (false, refl);
       }))
 
-  pub looks_on : (old new : PlaceValue) (h i : H) → old.stops.irq ≡ true → LooksOnce hears old h new i → LooksIfOn hears old h new i
+  pub looks_on : (old new : MachineCpuValue) (h i : H) → old.stops.irq ≡ true → LooksOnce hears old h new i → LooksIfOn hears old h new i
   looks_on old new h i on l = record { rest = l.rest; once = λ _. l.once; off = λ off. absurd (true≢false (sym on ∙ off)) }
 
-  pub looks_off : (p : PlaceValue) (h : H) → p.stops.irq ≡ false → LooksIfOn hears p h p h
+  pub looks_off : (p : MachineCpuValue) (h : H) → p.stops.irq ≡ false → LooksIfOn hears p h p h
   looks_off p h off = record {
     rest = record { stops_are = refl; passes_are = refl; calls_kept = refl; handled = handles_none hears p.calls h };
     once = λ on. absurd (true≢false (sym on ∙ off));

@@ -9,7 +9,7 @@ use Rattle.smp_calls.proofs.Turns.{handles_none, handles_then}
 use Rattle.smp_multi.specs.Names.{StopCall}
 use Rattle.smp_multi.specs.declared.func.Called.{Called}
 use Rattle.smp_machine.specs.Own.{Own, own_of}
-use Rattle.smp_machine.specs.Place.{MachineValue, PlaceValue, IsAt}
+use Rattle.smp_machine.specs.MachineCpu.{MachineValue, MachineCpuValue, IsAt}
 use Rattle.smp_machine.specs.OwnAnswers.{OwnAnswers}
 use Rattle.smp_machine.specs.Served.{IsLater, Serves}
 use Rattle.smp_machine.specs.Works.{handled_calls, stop_call, HasRun, Works}
@@ -32,7 +32,7 @@ ran_then old mid new xs ys e f =
 
 module _ {H F : Type 0} (hears : H → Heard → H → Type 0) (leads : F → Called → F → Type 0) where
   -- only what its own stop calls change has changed, or what it has taken
-  pub works_own : (old new : PlaceValue) (h : H) (f : F) → new.calls ≡ old.calls → IsLater old.stops new.stops
+  pub works_own : (old new : MachineCpuValue) (h : H) (f : F) → new.calls ≡ old.calls → IsLater old.stops new.stops
       → new.stops.part.calls ≡ old.stops.part.calls → new.passes.queues ≡ old.passes.queues → new.passes.number ≡ old.passes.number
       → Serves old new → OwnAnswers old.stops new.stops → Works hears leads old h f new h f (own_of new)
   works_own old new h f calls later ran queues passes_number serves mine = record {
@@ -53,7 +53,7 @@ module _ {H F : Type 0} (hears : H → Heard → H → Type 0) (leads : F → Ca
   }
 
   -- no work was taken
-  pub works_still : (old new : PlaceValue) (h : H) (f : F) → new.calls ≡ old.calls → IsLater old.stops new.stops
+  pub works_still : (old new : MachineCpuValue) (h : H) (f : F) → new.calls ≡ old.calls → IsLater old.stops new.stops
       → new.stops.part.calls ≡ old.stops.part.calls → new.stops.part.answers ≡ old.stops.part.answers → new.stops.inside ≡ old.stops.inside
       → new.stops.attempts ≡ old.stops.attempts → new.passes.queues ≡ old.passes.queues → new.passes.number ≡ old.passes.number → new.passes.taken ≡ old.passes.taken
       → OwnAnswers old.stops new.stops → Works hears leads old h f new h f (own_of new)
@@ -61,11 +61,11 @@ module _ {H F : Type 0} (hears : H → Heard → H → Type 0) (leads : F → Ca
       works_own old new h f calls later ran queues passes_number (serves_still old new taken answers inside attempts) mine
 
   -- nothing was done
-  pub works_none : (p : PlaceValue) (h : H) (f : F) → Works hears leads p h f p h f (own_of p)
+  pub works_none : (p : MachineCpuValue) (h : H) (f : F) → Works hears leads p h f p h f (own_of p)
   works_none p h f = works_still p p h f refl (later_same p.stops) refl refl refl refl refl refl refl (own_still p.stops p.stops refl refl refl refl)
 
   -- one stretch, and then another
-  pub works_then : {old mid new : PlaceValue} {h h₁ h₂ : H} {f f₁ f₂ : F} {own own' : Own} → Works hears leads old h f mid h₁ f₁ own
+  pub works_then : {old mid new : MachineCpuValue} {h h₁ h₂ : H} {f f₁ f₂ : F} {own own' : Own} → Works hears leads old h f mid h₁ f₁ own
       → Works hears leads mid h₁ f₁ new h₂ f₂ own' → Works hears leads old h f new h₂ f₂ own'
   works_then {old} {mid} {new} {h} {h₁} {h₂} {f} {f₁} {f₂} a b = record {
     calls_kept = kept_then old.calls mid.calls new.calls a.calls_kept b.calls_kept;
@@ -86,22 +86,22 @@ module _ {H F : Type 0} (hears : H → Heard → H → Type 0) (leads : F → Ca
   }
 
   -- with what its own stop calls change in other words
-  pub works_as : {old new : PlaceValue} {h h' : H} {f f' : F} {own : Own} (own' : Own) → own ≡ own' → Works hears leads old h f new h' f' own
+  pub works_as : {old new : MachineCpuValue} {h h' : H} {f f' : F} {own : Own} (own' : Own) → own ≡ own' → Works hears leads old h f new h' f' own
       → Works hears leads old h f new h' f' own'
   works_as {old} {new} {h} {h'} {f} {f'} {own} own' e w = subst (λ (o : Own). Works hears leads old h f new h' f' o) e w
 
   -- two stretches, each by what it makes of the own part
-  pub works_both : {old mid new : PlaceValue} {h h₁ h₂ : H} {f f₁ f₂ : F} (g k : Own → Own) → Works hears leads old h f mid h₁ f₁ (g (own_of old))
+  pub works_both : {old mid new : MachineCpuValue} {h h₁ h₂ : H} {f f₁ f₂ : F} (g k : Own → Own) → Works hears leads old h f mid h₁ f₁ (g (own_of old))
       → Works hears leads mid h₁ f₁ new h₂ f₂ (k (own_of mid)) → Works hears leads old h f new h₂ f₂ (k (g (own_of old)))
   works_both {old} g k a b = works_as (k (g (own_of old))) (ap k a.own_is) (works_then a b)
 
   -- nothing has changed before
-  pub works_from : {old mid new : PlaceValue} {h h' : H} {f f' : F} {own : Own} → mid ≡ old → Works hears leads mid h f new h' f' own
+  pub works_from : {old mid new : MachineCpuValue} {h h' : H} {f f' : F} {own : Own} → mid ≡ old → Works hears leads mid h f new h' f' own
       → Works hears leads old h f new h' f' own
-  works_from {old} {mid} {new} {h} {h'} {f} {f'} {own} e w = subst (λ (x : PlaceValue). Works hears leads x h f new h' f' own) e w
+  works_from {old} {mid} {new} {h} {h'} {f} {f'} {own} e w = subst (λ (x : MachineCpuValue). Works hears leads x h f new h' f' own) e w
 
   -- a CPU stays at its machine
-  pub at_still : {m : MachineValue} {old new : PlaceValue} {h h' : H} {f f' : F} {own : Own} → Works hears leads old h f new h' f' own → IsAt m old
+  pub at_still : {m : MachineValue} {old new : MachineCpuValue} {h h' : H} {f f' : F} {own : Own} → Works hears leads old h f new h' f' own → IsAt m old
       → IsAt m new
   at_still w at = record {
     calls = ap (λ (x : CallCpuValue). x.table) w.calls_kept ∙ at.calls;

@@ -12,10 +12,10 @@ use Rattle.smp_calls.specs.Records.{call_by, many_call, single_record, user_reco
 use Rattle.smp_calls.specs.Rounds.{Picks}
 use Rattle.smp_calls.specs.Targets.{IsAny, HasNone, is_target, remote}
 use Rattle.smp_machine.specs.Calls.{KeepsStops, RefusedInHand}
-use Rattle.smp_machine.specs.Place.{MachineValue, PlaceValue}
+use Rattle.smp_machine.specs.MachineCpu.{MachineValue, MachineCpuValue}
 
 -- `call_single`: a call to another CPU was queued there, and one to the CPU itself was run at once; with wait the call has ended
-pub record SingleAnswers {H : Type 0} (leads : H → Heard → H → Type 0) (m : MachineValue) (old : PlaceValue) (before : H) (new : PlaceValue) (after : H)
+pub record SingleAnswers {H : Type 0} (leads : H → Heard → H → Type 0) (m : MachineValue) (old : MachineCpuValue) (before : H) (new : MachineCpuValue) (after : H)
     (dst func info : ℕ) (wait : Bool) (result : Result Unit SmpError) : Type 0 where
   pub free : IfOk result (λ _. old.stops.inside ≡ None)
   pub queued : IfOk result (λ _. dst ≢ old.calls.number → (has m.calls.online dst ≡ true)
@@ -29,7 +29,7 @@ pub record SingleAnswers {H : Type 0} (leads : H → Heard → H → Type 0) (m 
   pub kept : KeepsStops old new
 
 -- `call_async`: the same by a record of the user, with no wait; E4, E2 and E1 in this order
-pub record AsyncAnswers {H : Type 0} (leads : H → Heard → H → Type 0) (m : MachineValue) (old : PlaceValue) (before : H) (new : PlaceValue) (after : H)
+pub record AsyncAnswers {H : Type 0} (leads : H → Heard → H → Type 0) (m : MachineValue) (old : MachineCpuValue) (before : H) (new : MachineCpuValue) (after : H)
     (u dst func info : ℕ) (result : Result Unit SmpError) : Type 0 where
   pub free : IfOk result (λ _. old.stops.inside ≡ None)
   pub record_is : IfOk result (λ _. u < 2)
@@ -44,7 +44,7 @@ pub record AsyncAnswers {H : Type 0} (leads : H → Heard → H → Type 0) (m :
   pub kept : KeepsStops old new
 
 -- `call_any`: as `call_single`, to the CPU that it answers, which is this one where the mask has it, else the lowest online
-pub record AnyAnswers {H : Type 0} (leads : H → Heard → H → Type 0) (m : MachineValue) (old : PlaceValue) (before : H) (new : PlaceValue) (after : H)
+pub record AnyAnswers {H : Type 0} (leads : H → Heard → H → Type 0) (m : MachineValue) (old : MachineCpuValue) (before : H) (new : MachineCpuValue) (after : H)
     (mask func info : ℕ) (wait : Bool) (result : Result ℕ SmpError) : Type 0 where
   pub free : IfOk result (λ _. old.stops.inside ≡ None)
   pub any : IfOk result (λ cpu. IsAny mask m.calls.online old.calls.number cpu)
@@ -58,7 +58,7 @@ pub record AnyAnswers {H : Type 0} (leads : H → Heard → H → Type 0) (m : M
   pub kept : KeepsStops old new
 
 -- `call_many`: a call was queued for each online CPU of the mask but this one, and these are answered; with wait all have ended
-pub record ManyAnswers {H : Type 0} (leads : H → Heard → H → Type 0) (m : MachineValue) (old : PlaceValue) (before : H) (new : PlaceValue) (after : H)
+pub record ManyAnswers {H : Type 0} (leads : H → Heard → H → Type 0) (m : MachineValue) (old : MachineCpuValue) (before : H) (new : MachineCpuValue) (after : H)
     (mask func info : ℕ) (wait : Bool) (result : Result ℕ SmpError) : Type 0 where
   pub free : IfOk result (λ _. old.stops.inside ≡ None)
   pub targets : IfOk result (λ called. (c : ℕ) → has called c ≡ is_target mask m.calls.online old.calls.number false c)
@@ -68,7 +68,7 @@ pub record ManyAnswers {H : Type 0} (leads : H → Heard → H → Type 0) (m : 
   pub kept : KeepsStops old new
 
 -- `each_cpu_cond`: as `call_many`, to those of which the condition holds, this CPU included, which runs the function at once
-pub record CondAnswers {H : Type 0} (leads : H → Heard → H → Type 0) (m : MachineValue) (old : PlaceValue) (before : H) (new : PlaceValue) (after : H)
+pub record CondAnswers {H : Type 0} (leads : H → Heard → H → Type 0) (m : MachineValue) (old : MachineCpuValue) (before : H) (new : MachineCpuValue) (after : H)
     (says : ℕ → Bool → Type 0) (mask func info : ℕ) (wait : Bool) (result : Result ℕ SmpError) : Type 0 where
   pub free : IfOk result (λ _. old.stops.inside ≡ None)
   pub picks : IfOk result (λ called. Picks says (is_target mask m.calls.online old.calls.number true) called)
@@ -79,7 +79,7 @@ pub record CondAnswers {H : Type 0} (leads : H → Heard → H → Type 0) (m : 
   pub kept : KeepsStops old new
 
 -- `on_each_cpu_mask`: as `each_cpu_cond`, to each online CPU of the mask, this CPU included, and these are answered
-pub record EachAnswers {H : Type 0} (leads : H → Heard → H → Type 0) (m : MachineValue) (old : PlaceValue) (before : H) (new : PlaceValue) (after : H)
+pub record EachAnswers {H : Type 0} (leads : H → Heard → H → Type 0) (m : MachineValue) (old : MachineCpuValue) (before : H) (new : MachineCpuValue) (after : H)
     (mask func info : ℕ) (wait : Bool) (result : Result ℕ SmpError) : Type 0 where
   pub free : IfOk result (λ _. old.stops.inside ≡ None)
   pub targets : IfOk result (λ called. (c : ℕ) → has called c ≡ is_target mask m.calls.online old.calls.number true c)

@@ -3,7 +3,7 @@ use Rattle.std.specs.Prelude.{◌≡◌, ◌≢◌, None}
 use Rattle.smp_mask.specs.declared.error.SmpError.{SmpError}
 use Rattle.smp_mask.specs.declared.error.SmpError.TheVariants as error
 use Rattle.smp_queue.specs.Cpu.{CpuValue as CallCpuValue}
-use Rattle.smp_machine.specs.Place.{PlaceValue}
+use Rattle.smp_machine.specs.MachineCpu.{MachineCpuValue}
 
 -- it is still the CPU of this number, of this table
 pub record IsSameCpu (old new : CallCpuValue) : Type 0 where
@@ -11,13 +11,13 @@ pub record IsSameCpu (old new : CallCpuValue) : Type 0 where
   pub number_is : new.number ≡ old.number
 
 -- nothing has changed but the CPU's part of the calls: it has taken no work, and no part in a stop
-pub record KeepsStops (old new : PlaceValue) : Type 0 where
+pub record KeepsStops (old new : MachineCpuValue) : Type 0 where
   pub same : IsSameCpu old.calls new.calls
   pub stops_are : new.stops ≡ old.stops
   pub passes_are : new.passes ≡ old.passes
 
 -- refused since a work is in hand: nothing has changed, and no function has run
-pub record RefusedInHand {H : Type 0} (e : SmpError) (old : PlaceValue) (before : H) (new : PlaceValue) (after : H) : Type 0 where
+pub record RefusedInHand {H : Type 0} (e : SmpError) (old : MachineCpuValue) (before : H) (new : MachineCpuValue) (after : H) : Type 0 where
   pub error_is : e ≡ error.BadArgument
   pub in_hand : old.stops.inside ≢ None
   pub kept : new ≡ old

@@ -20,7 +20,7 @@ use Rattle.smp_multi.specs.declared.func.Called.{Called}
 use Rattle.smp_machine.specs.Keys.{IsPatchOf, MayChange}
 use Rattle.smp_machine.specs.Own.{Own, own_of, with_gate, with_moves}
 use Rattle.smp_machine.specs.Passes.{LastIsOwn}
-use Rattle.smp_machine.specs.Place.{PlaceValue}
+use Rattle.smp_machine.specs.MachineCpu.{MachineCpuValue}
 use Rattle.smp_machine.specs.Stops.{HasStopped, RefusedStill}
 use Rattle.smp_machine.specs.Works.{Works}
 
@@ -67,7 +67,7 @@ given_if false c = c
 
 -- it has polled, and nudged the count of a key that is on and stays on, as its last look has found it; the gate is not the CPU's
 pub record HasNudged {H F : Type 0} (hears : H → Heard → H → Type 0) (runs : F → Called → F → Type 0) (looking : Looking) (k : ℕ) (up : Bool)
-    (old : PlaceValue) (h : H) (f : F) (new : PlaceValue) (h' : H) (f' : F) : Type 0 where
+    (old : MachineCpuValue) (h : H) (f : F) (new : MachineCpuValue) (h' : H) (f' : F) : Type 0 where
   pub count : ℕ
   pub stays : StaysOn up count
   pub gate : Bool
@@ -81,7 +81,7 @@ pub record HasNudged {H F : Type 0} (hears : H → Heard → H → Type 0) (runs
 
 -- its last look has found the count at the end of its range, and it has done nothing but poll; the gate is not the CPU's
 pub record HasFoundEdge {H F : Type 0} (hears : H → Heard → H → Type 0) (runs : F → Called → F → Type 0) (looking : Looking) (k : ℕ) (up : Bool)
-    (old : PlaceValue) (h : H) (f : F) (new : PlaceValue) (h' : H) (f' : F) : Type 0 where
+    (old : MachineCpuValue) (h : H) (f : F) (new : MachineCpuValue) (h' : H) (f' : F) : Type 0 where
   pub gate : Bool
   pub moves : List OwnMove
   pub looks : looking (edge_at up) gate moves
@@ -93,15 +93,15 @@ pub record HasFoundEdge {H F : Type 0} (hears : H → Heard → H → Type 0) (r
 
 -- after these moves it has made a patch by one, with this answer, and has taken no work after its own
 pub record PatchesByOne {H F : Type 0} (hears : H → Heard → H → Type 0) (runs : F → Called → F → Type 0) (t : TableValue) (k : ℕ) (up : Bool)
-    (first : List OwnMove) (old : PlaceValue) (h : H) (f : F) (new : PlaceValue) (h' : H) (f' : F) (answer : ℤ) : Type 0 where
+    (first : List OwnMove) (old : MachineCpuValue) (h : H) (f : F) (new : MachineCpuValue) (h' : H) (f' : F) (answer : ℤ) : Type 0 where
   pub work : Work
   pub patch : IsPatchOf t k (step_of up) work
   pub stopped : HasStopped hears runs (patch_after first) work old h f new h' f' answer
   pub last : LastIsOwn old.passes new.passes
 
 -- the same by who holds the gate, by its answer: E13 where the patch has not answered 0
-abbrev pub Patches : {H F : Type 0} → (H → Heard → H → Type 0) → (F → Called → F → Type 0) → TableValue → ℕ → Bool → PlaceValue → H → F
-    → PlaceValue → H → F → Result Bool SmpError → Type 0
+abbrev pub Patches : {H F : Type 0} → (H → Heard → H → Type 0) → (F → Called → F → Type 0) → TableValue → ℕ → Bool → MachineCpuValue → H → F
+    → MachineCpuValue → H → F → Result Bool SmpError → Type 0
 Patches hears runs t k up old h f new h' f' (Ok true) = PatchesByOne hears runs t k up [] old h f new h' f' (pos 0)
 Patches hears runs t k up old h f new h' f' (Ok false) = ⊥
 Patches hears runs t k up old h f new h' f' (Err (error.KeyRange e)) = (e ≡ end_of up)
@@ -110,15 +110,15 @@ Patches hears runs t k up old h f new h' f' (Err _) = ⊥
 
 -- its last look, while it held the gate, has found the key about to turn, and it has made a patch by one then
 pub record HasPatched {H F : Type 0} (hears : H → Heard → H → Type 0) (runs : F → Called → F → Type 0) (looking : Looking) (t : TableValue) (k : ℕ)
-    (up : Bool) (old : PlaceValue) (h : H) (f : F) (new : PlaceValue) (h' : H) (f' : F) (answer : ℤ) : Type 0 where
+    (up : Bool) (old : MachineCpuValue) (h : H) (f : F) (new : MachineCpuValue) (h' : H) (f' : F) (answer : ℤ) : Type 0 where
   pub moves : List OwnMove
   pub looks : looking (turn_at up) true moves
   pub patches : PatchesByOne hears runs t k up moves old h f new h' f' answer
 
 -- what a change of a count by one leaves, by its answer: true where there was a patch. That of an E13 stays among the stops
 -- that the CPU has made
-abbrev pub CountsBy : {H F : Type 0} → (H → Heard → H → Type 0) → (F → Called → F → Type 0) → Looking → TableValue → ℕ → Bool → PlaceValue → H → F
-    → PlaceValue → H → F → Result Bool SmpError → Type 0
+abbrev pub CountsBy : {H F : Type 0} → (H → Heard → H → Type 0) → (F → Called → F → Type 0) → Looking → TableValue → ℕ → Bool → MachineCpuValue → H → F
+    → MachineCpuValue → H → F → Result Bool SmpError → Type 0
 CountsBy hears runs looking t k up old h f new h' f' (Ok false) = HasNudged hears runs looking k up old h f new h' f'
 CountsBy hears runs looking t k up old h f new h' f' (Ok true) = HasPatched hears runs looking t k up old h f new h' f' (pos 0)
 CountsBy hears runs looking t k up old h f new h' f' (Err (error.KeyRange e)) = (e ≡ end_of up)
@@ -127,18 +127,18 @@ CountsBy hears runs looking t k up old h f new h' f' (Err (error.KeyRange e)) = 
 CountsBy hears runs looking t k up old h f new h' f' (Err _) = ⊥
 
 -- the same of who holds the gate, after these moves
-abbrev pub CountsFrom : {H F : Type 0} → (H → Heard → H → Type 0) → (F → Called → F → Type 0) → List OwnMove → TableValue → ℕ → Bool → PlaceValue → H
-    → F → PlaceValue → H → F → Result Bool SmpError → Type 0
+abbrev pub CountsFrom : {H F : Type 0} → (H → Heard → H → Type 0) → (F → Called → F → Type 0) → List OwnMove → TableValue → ℕ → Bool → MachineCpuValue → H
+    → F → MachineCpuValue → H → F → Result Bool SmpError → Type 0
 CountsFrom hears runs first t k up old h f new h' f' r = CountsBy hears runs (LooksFrom first k up) t k up old h f new h' f' r
 
 -- the same of who does not
-abbrev pub Counts : {H F : Type 0} → (H → Heard → H → Type 0) → (F → Called → F → Type 0) → TableValue → ℕ → Bool → PlaceValue → H → F
-    → PlaceValue → H → F → Result Bool SmpError → Type 0
+abbrev pub Counts : {H F : Type 0} → (H → Heard → H → Type 0) → (F → Called → F → Type 0) → TableValue → ℕ → Bool → MachineCpuValue → H → F
+    → MachineCpuValue → H → F → Result Bool SmpError → Type 0
 Counts hears runs t k up old h f new h' f' r = CountsBy hears runs (LooksUpTo k up) t k up old h f new h' f' r
 
 -- what a public call of it leaves: E4 before all else, with nothing changed
-abbrev pub CountsOr : {H F : Type 0} → (H → Heard → H → Type 0) → (F → Called → F → Type 0) → TableValue → ℕ → Bool → PlaceValue → H → F
-    → PlaceValue → H → F → Result Bool SmpError → Type 0
+abbrev pub CountsOr : {H F : Type 0} → (H → Heard → H → Type 0) → (F → Called → F → Type 0) → TableValue → ℕ → Bool → MachineCpuValue → H → F
+    → MachineCpuValue → H → F → Result Bool SmpError → Type 0
 CountsOr hears runs t k up old h f new h' f' (Err error.BadArgument) =
     ((old.stops.inside ≢ None) ⊎ (t.setting.labels.keys ≤ k)) × RefusedStill old h f new h' f'
 CountsOr hears runs t k up old h f new h' f' r = MayChange t old k × Counts hears runs t k up old h f new h' f' r

@@ -4,7 +4,7 @@ use Rattle.smp_mask.specs.Mask.{has}
 use Rattle.smp_queue.specs.declared.handler.Heard.{Heard}
 use Rattle.smp_multi.specs.declared.func.Called.{Called}
 use Rattle.smp_machine.specs.Own.{own_of}
-use Rattle.smp_machine.specs.Place.{MachineValue, PlaceValue, BootValue, IsAt, fresh_place, is_left}
+use Rattle.smp_machine.specs.MachineCpu.{MachineValue, MachineCpuValue, BootValue, IsAt, fresh_place, is_left}
 use Rattle.smp_machine.specs.Seats.{SeatValue}
 use Rattle.smp_machine.specs.Works.{Works}
 use Rattle.smp_machine.specs.declared.crew.Played.{Played}
@@ -38,6 +38,6 @@ pub record AreLeftFrom (m : MachineValue) (b : BootValue) (n : ℕ) : Type 0 whe
   pub left : (cpu : ℕ) → n ≤ cpu → has m.calls.online cpu ≡ true → is_left b cpu ≡ true
 
 -- the CPU of a number, which has done nothing, where it is online
-abbrev pub IsNext : MachineValue → ℕ → Option PlaceValue → Type 0
+abbrev pub IsNext : MachineValue → ℕ → Option MachineCpuValue → Type 0
 IsNext m n None = has m.calls.online n ≡ false
 IsNext m n (Some p) = (has m.calls.online n ≡ true) × (p ≡ fresh_place m n)

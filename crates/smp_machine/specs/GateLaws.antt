@@ -11,13 +11,13 @@ use Rattle.smp_machine.specs.Counts.{HasNudged, HasFoundEdge, HasPatched}
 use Rattle.smp_machine.specs.Keys.{KeyStands, TurnsKey}
 use Rattle.smp_machine.specs.Moves.{told, short_stop, long_stop, LooksUpTo}
 use Rattle.smp_machine.specs.Own.{own_of}
-use Rattle.smp_machine.specs.Place.{PlaceValue}
+use Rattle.smp_machine.specs.MachineCpu.{MachineCpuValue}
 use Rattle.smp_machine.specs.Stops.{HasStopped}
 use Rattle.smp_machine.specs.Works.{Works}
 
 -- since then a CPU has made just these moves, but for tries of the gate that have found a holder, and for looks at done that have
 -- found it not set
-pub record HasDone (moves : List OwnMove) (old new : PlaceValue) : Type 0 where
+pub record HasDone (moves : List OwnMove) (old new : MachineCpuValue) : Type 0 where
   pub since : List OwnMove
   pub moves_are : new.stops.moves ≡ old.stops.moves ++ since
   pub told_are : told since ≡ moves
@@ -42,14 +42,14 @@ abbrev pub last_one : Bool → ℕ
 last_one up = if up then 65535 else 0
 
 -- without the gate, looks up to one that has found this count
-pub record HasLooked (k count : ℕ) (old new : PlaceValue) : Type 0 where
+pub record HasLooked (k count : ℕ) (old new : MachineCpuValue) : Type 0 where
   pub looks : List OwnMove
   pub found : EndAt k count looks
   pub done : HasDone looks old new
 
 -- looks up to one that has found the key about to turn; with the gate taken then, looks up to one that has found this count; and the
 -- gate is given up
-pub record HasLookedAgain (k : ℕ) (up : Bool) (count : ℕ) (old new : PlaceValue) : Type 0 where
+pub record HasLookedAgain (k : ℕ) (up : Bool) (count : ℕ) (old new : MachineCpuValue) : Type 0 where
   pub first : List OwnMove
   pub again : List OwnMove
   pub found : EndAt k (turning up) first
@@ -58,7 +58,7 @@ pub record HasLookedAgain (k : ℕ) (up : Bool) (count : ℕ) (old new : PlaceVa
 
 -- looks up to one that has found the key about to turn, with the gate taken then the same again, and then a patch, with the gate held
 -- until its result is collected
-pub record HasTurned (k : ℕ) (up : Bool) (work : Work) (word : ℕ) (old new : PlaceValue) : Type 0 where
+pub record HasTurned (k : ℕ) (up : Bool) (work : Work) (word : ℕ) (old new : MachineCpuValue) : Type 0 where
   pub first : List OwnMove
   pub again : List OwnMove
   pub found : EndAt k (turning up) first
@@ -68,23 +68,23 @@ pub record HasTurned (k : ℕ) (up : Bool) (work : Work) (word : ℕ) (old new :
 -- the moves of each stop, and of each change of a key
 pub record GateIsHeld {H F : Type 0} (hears : H → Heard → H → Type 0) (runs : F → Called → F → Type 0) : Type 0 where
   -- of turn and poll: none
-  pub polls : (old new : PlaceValue) (h h' : H) (f f' : F) → Works hears runs old h f new h' f' (own_of old) → HasDone [] old new
+  pub polls : (old new : MachineCpuValue) (h h' : H) (f f' : F) → Works hears runs old h f new h' f' (own_of old) → HasDone [] old new
   -- of stop_one and stop_two
-  pub short : (work : Work) (old new : PlaceValue) (h h' : H) (f f' : F) (answer : ℤ) → (s : HasStopped hears runs short_stop work old h f new h' f' answer)
+  pub short : (work : Work) (old new : MachineCpuValue) (h h' : H) (f f' : F) (answer : ℤ) → (s : HasStopped hears runs short_stop work old h f new h' f' answer)
       → HasDone (Took ∷ Began work ∷ Gave ∷ Collected s.word ∷ []) old new
   -- of stop_machine
-  pub long : (work : Work) (old new : PlaceValue) (h h' : H) (f f' : F) (answer : ℤ) → (s : HasStopped hears runs long_stop work old h f new h' f' answer)
+  pub long : (work : Work) (old new : MachineCpuValue) (h h' : H) (f f' : F) (answer : ℤ) → (s : HasStopped hears runs long_stop work old h f new h' f' answer)
       → HasDone (Took ∷ Began work ∷ Collected s.word ∷ Gave ∷ []) old new
   -- of set_key
-  pub stands : (k : ℕ) (on : Bool) (old new : PlaceValue) (h h' : H) (f f' : F) → KeyStands hears runs k on old h f new h' f'
+  pub stands : (k : ℕ) (on : Bool) (old new : MachineCpuValue) (h h' : H) (f f' : F) → KeyStands hears runs k on old h f new h' f'
       → (count : ℕ) × (is_on count ≡ on) × HasDone (Took ∷ Found k count ∷ Gave ∷ []) old new
-  pub turns : (t : TableValue) (k : ℕ) (on : Bool) (old new : PlaceValue) (h h' : H) (f f' : F) → (s : TurnsKey hears runs t k on old h f new h' f')
+  pub turns : (t : TableValue) (k : ℕ) (on : Bool) (old new : MachineCpuValue) (h h' : H) (f f' : F) → (s : TurnsKey hears runs t k on old h f new h' f')
       → (count : ℕ) × (is_on count ≢ on) × HasDone (Took ∷ Found k count ∷ Began s.work ∷ Collected s.stopped.word ∷ Gave ∷ []) old new
   -- of key_inc and key_dec
-  pub nudged : (k : ℕ) (up : Bool) (old new : PlaceValue) (h h' : H) (f f' : F) → HasNudged hears runs (LooksUpTo k up) k up old h f new h' f'
+  pub nudged : (k : ℕ) (up : Bool) (old new : MachineCpuValue) (h h' : H) (f f' : F) → HasNudged hears runs (LooksUpTo k up) k up old h f new h' f'
       → (count : ℕ) × (count ≢ turning up) × (count ≢ last_one up)
       × (HasLooked k count old new ⊎ HasLookedAgain k up count old new)
-  pub refused : (k : ℕ) (up : Bool) (old new : PlaceValue) (h h' : H) (f f' : F) → HasFoundEdge hears runs (LooksUpTo k up) k up old h f new h' f'
+  pub refused : (k : ℕ) (up : Bool) (old new : MachineCpuValue) (h h' : H) (f f' : F) → HasFoundEdge hears runs (LooksUpTo k up) k up old h f new h' f'
       → HasLooked k (last_one up) old new ⊎ HasLookedAgain k up (last_one up) old new
-  pub patched : (t : TableValue) (k : ℕ) (up : Bool) (old new : PlaceValue) (h h' : H) (f f' : F) (answer : ℤ)
+  pub patched : (t : TableValue) (k : ℕ) (up : Bool) (old new : MachineCpuValue) (h h' : H) (f f' : F) (answer : ℤ)
       → (p : HasPatched hears runs (LooksUpTo k up) t k up old h f new h' f' answer) → HasTurned k up p.patches.work p.patches.stopped.word old new

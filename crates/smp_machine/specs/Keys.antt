@@ -13,7 +13,7 @@ use Rattle.smp_multi.specs.declared.func.Called.{Called}
 use Rattle.smp_stop_steps.specs.declared.known.OwnMove.TheVariants.{Took, Found, Gave}
 use Rattle.smp_machine.specs.Moves.{patch_after}
 use Rattle.smp_machine.specs.Own.{own_of, with_gate, with_moves}
-use Rattle.smp_machine.specs.Place.{PlaceValue}
+use Rattle.smp_machine.specs.MachineCpu.{MachineCpuValue}
 use Rattle.smp_machine.specs.Stops.{IsActive, HasStopped}
 use Rattle.smp_machine.specs.Works.{Works}
 
@@ -34,15 +34,15 @@ abbrev pub Reads : CpuValue → Reading → Type 0
 Reads c r = (before : List Reading) × (after : List Reading) × (c.part.readings ≡ before ++ r ∷ after)
 
 -- a CPU has polled, has found while it held the gate that key k is on or off as it is to be, and has made no stop
-pub record KeyStands {H F : Type 0} (hears : H → Heard → H → Type 0) (runs : F → Called → F → Type 0) (k : ℕ) (on : Bool) (old : PlaceValue) (h : H) (f : F)
-    (new : PlaceValue) (h' : H) (f' : F) : Type 0 where
+pub record KeyStands {H F : Type 0} (hears : H → Heard → H → Type 0) (runs : F → Called → F → Type 0) (k : ℕ) (on : Bool) (old : MachineCpuValue) (h : H) (f : F)
+    (new : MachineCpuValue) (h' : H) (f' : F) : Type 0 where
   pub count : ℕ
   pub same : is_on count ≡ on
   pub works : Works hears runs old h f new h' f' (with_moves (Took ∷ Found k count ∷ Gave ∷ []) (with_gate false (own_of old)))
 
 -- a CPU has found while it held the gate that key k is not so, and has made one stop then, with a patch that turns the key so
-pub record TurnsKey {H F : Type 0} (hears : H → Heard → H → Type 0) (runs : F → Called → F → Type 0) (t : TableValue) (k : ℕ) (on : Bool) (old : PlaceValue)
-    (h : H) (f : F) (new : PlaceValue) (h' : H) (f' : F) : Type 0 where
+pub record TurnsKey {H F : Type 0} (hears : H → Heard → H → Type 0) (runs : F → Called → F → Type 0) (t : TableValue) (k : ℕ) (on : Bool) (old : MachineCpuValue)
+    (h : H) (f : F) (new : MachineCpuValue) (h' : H) (f' : F) : Type 0 where
   pub work : Work
   pub patch : IsPatchOf t k (state_of on) work
   pub count : ℕ
@@ -52,16 +52,16 @@ pub record TurnsKey {H F : Type 0} (hears : H → Heard → H → Type 0) (runs 
 
 -- what a call that turns a key on or off leaves, by its answer: whether it has turned it
 abbrev pub Sets : {H F : Type 0} → (H → Heard → H → Type 0) → (F → Called → F → Type 0) → TableValue → ℕ → Bool
-    → PlaceValue → H → F → PlaceValue → H → F → Bool → Type 0
+    → MachineCpuValue → H → F → MachineCpuValue → H → F → Bool → Type 0
 Sets hears runs t k on old h f new h' f' false = KeyStands hears runs k on old h f new h' f'
 Sets hears runs t k on old h f new h' f' true = TurnsKey hears runs t k on old h f new h' f'
 
 -- a change of a key is refused with E4 where a work is in hand, or there is no such key
-abbrev pub RefusesKey : TableValue → PlaceValue → ℕ → SmpError → Type 0
+abbrev pub RefusesKey : TableValue → MachineCpuValue → ℕ → SmpError → Type 0
 RefusesKey t old k error.BadArgument = (old.stops.inside ≢ None) ⊎ (t.setting.labels.keys ≤ k)
 RefusesKey t old k _ = ⊥
 
 -- it is not
-pub record MayChange (t : TableValue) (old : PlaceValue) (k : ℕ) : Type 0 where
+pub record MayChange (t : TableValue) (old : MachineCpuValue) (k : ℕ) : Type 0 where
   pub free : old.stops.inside ≡ None
   pub key : k < t.setting.labels.keys

@@ -3,7 +3,7 @@ pub mod WorkQueue
 -- what one CPU has put and taken
 pub mod Passes
 -- a machine and a CPU of it
-pub mod Place
+pub mod MachineCpu
 -- what a family of calls leaves of its CPU
 pub mod Calls
 -- its own moves at the gate, at its stop and at keys

@@ -4,7 +4,7 @@ use Rattle.smp_multi.specs.Names.{Work, Moved}
 use Rattle.smp_machine.specs.declared.work_queue.Item.{Item}
 use Rattle.smp_multi.specs.Names.{OwnMove}
 use Rattle.smp_machine.specs.Moves.{told}
-use Rattle.smp_machine.specs.Place.{PlaceValue}
+use Rattle.smp_machine.specs.MachineCpu.{MachineCpuValue}
 
 -- whether it holds the gate, the work of its stop that is not collected, the stops that it has begun, the results that it
 -- has collected, by how much it has nudged each key, what it has put into the queues, and those of its own moves that tell
@@ -18,7 +18,7 @@ pub record Own : Type 0 where
   pub put : List (List Item)
   pub moves : List OwnMove
 
-abbrev pub own_of : PlaceValue → Own
+abbrev pub own_of : MachineCpuValue → Own
 own_of p = record {
   gate = p.stops.part.holds;
   pending = p.stops.pending;

@@ -2,7 +2,7 @@
 use Rattle.std.specs.List.{AllByRecursion}
 use Rattle.std.specs.Prelude.{◌≡◌, ◌⊎◌, ℕ, ℤ, true, Option, Some, List, [], ◌∷◌, ◌++◌, slice_index_or}
 use Rattle.smp_mask.specs.Mask.{has}
-use Rattle.smp_stop_steps.specs.Starts.{answer_word}
+use Rattle.smp_stop_steps.specs.Start.{answer_word}
 use Rattle.smp_multi.specs.Cpu.{CpuValue as StopCpuValue}
 use Rattle.smp_multi.specs.Names.{Work, StopCall, One}
 

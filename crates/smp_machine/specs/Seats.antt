@@ -7,7 +7,7 @@ use Rattle.smp_multi.specs.declared.func.Called.{Called}
 use Rattle.smp_machine.specs.Counts.{CountsOr}
 use Rattle.smp_machine.specs.Keys.{Sets}
 use Rattle.smp_machine.specs.Own.{Own}
-use Rattle.smp_machine.specs.Place.{MachineValue, PlaceValue}
+use Rattle.smp_machine.specs.MachineCpu.{MachineValue, MachineCpuValue}
 use Rattle.smp_machine.specs.Polls.{Polls}
 use Rattle.smp_machine.specs.Stops.{HasStopped}
 use Rattle.smp_machine.specs.Works.{Works}
@@ -15,7 +15,7 @@ use Rattle.smp_machine.specs.Works.{Works}
 -- a seat: its machine, its CPU, and the values of its handler and of its stop function
 pub record SeatValue (H F : Type 0) : Type 0 where
   pub machine : MachineValue
-  pub cpu : PlaceValue
+  pub cpu : MachineCpuValue
   pub handler : H
   pub functions : F
 

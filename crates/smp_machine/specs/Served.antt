@@ -6,7 +6,7 @@ use Rattle.smp_mask.specs.Mask.{has}
 use Rattle.smp_multi.specs.Cpu.{CpuValue as StopCpuValue, Inside}
 use Rattle.smp_multi.specs.Names.{Attempt}
 use Rattle.smp_machine.specs.declared.work_queue.Item.{Item}
-use Rattle.smp_machine.specs.Place.{PlaceValue}
+use Rattle.smp_machine.specs.MachineCpu.{MachineCpuValue}
 
 -- what became of a work: its stop was entered; the one look at its roll was in vain; or it was not looked at
 pub data Fate : Type 0 where
@@ -76,7 +76,7 @@ pub record KeepsVisits (old new : StopCpuValue) : Type 0 where
 
 -- All works that a CPU has taken meanwhile were served: since then it has tried to enter the stop of each, once, in the order in
 -- which it has taken them, and no other; and of each source as many were entered as it has completed since, or has in hand.
-pub record Serves (old new : PlaceValue) : Type 0 where
+pub record Serves (old new : MachineCpuValue) : Type 0 where
   pub served : List Service
   pub taken_are : new.passes.taken ≡ old.passes.taken ++ map (λ s. s.item) served
   pub sized : length new.stops.part.answers ≡ length old.stops.part.answers

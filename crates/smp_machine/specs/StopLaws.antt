@@ -16,7 +16,7 @@ use Rattle.smp_machine.specs.declared.work_queue.Knows.{Knows}
 use Rattle.smp_machine.specs.declared.work_queue.Knows.TheVariants.{Takes, Puts}
 use Rattle.smp_machine.specs.Own.{Own}
 use Rattle.smp_machine.specs.Passes.{PassesValue, put_to}
-use Rattle.smp_machine.specs.Place.{PlaceValue}
+use Rattle.smp_machine.specs.MachineCpu.{MachineCpuValue}
 use Rattle.smp_machine.specs.Stops.{item, HasStopped, IsOneWork, IsTwoWork, IsMachineWork}
 use Rattle.smp_machine.specs.Takes.{TakesFront, EntersFront}
 use Rattle.smp_machine.specs.WorkQueue.{IsInOrder}
@@ -60,7 +60,7 @@ pub record WorksAreOfTheirCpus : Type 0 where
 
 -- a stop has begun one work, and collected its result, which is its answer; it has put the work once into the queue of each
 -- CPU of its mask, and nothing else anywhere
-pub record StopsOnce (work : Work) (old new : PlaceValue) (answer : ℤ) : Type 0 where
+pub record StopsOnce (work : Work) (old new : MachineCpuValue) (answer : ℤ) : Type 0 where
   pub begun : new.stops.part.begun ≡ old.stops.part.begun ++ work ∷ []
   pub word : ℕ
   pub collected : new.stops.part.collected ≡ old.stops.part.collected ++ word ∷ []
@@ -70,7 +70,7 @@ pub record StopsOnce (work : Work) (old new : PlaceValue) (answer : ℤ) : Type 
 
 -- each stop does so
 abbrev pub StopsAreMadeOnce : {H F : Type 0} → (H → Heard → H → Type 0) → (F → Called → F → Type 0) → Type 0
-StopsAreMadeOnce {H} {F} hears runs = (moves : Work → ℕ → List OwnMove) (work : Work) (old new : PlaceValue) (h h' : H) (f f' : F) (answer : ℤ)
+StopsAreMadeOnce {H} {F} hears runs = (moves : Work → ℕ → List OwnMove) (work : Work) (old new : MachineCpuValue) (h h' : H) (f f' : F) (answer : ℤ)
     → HasStopped hears runs moves work old h f new h' f' answer → StopsOnce work old new answer
 
 -- it is answered what it has answered to its own stop itself
@@ -84,9 +84,9 @@ HearsItself c answer = (own : ℕ) × HasAnsweredItself c own × (own ≢ 0 → 
 -- a stop that stops its caller too is not answered 0 where this has answered other than 0; and a stop of the caller alone is
 -- answered just what this has answered
 pub record StopsAgreeWithOwn {H F : Type 0} (hears : H → Heard → H → Type 0) (runs : F → Called → F → Type 0) : Type 0 where
-  pub agrees : (moves : Work → ℕ → List OwnMove) (work : Work) (old new : PlaceValue) (h h' : H) (f f' : F) (answer : ℤ)
+  pub agrees : (moves : Work → ℕ → List OwnMove) (work : Work) (old new : MachineCpuValue) (h h' : H) (f f' : F) (answer : ℤ)
       → HasStopped hears runs moves work old h f new h' f' answer → has work.mask old.stops.number ≡ true → HearsItself new.stops answer
-  pub alone : (moves : Work → ℕ → List OwnMove) (work : Work) (old new : PlaceValue) (h h' : H) (f f' : F) (answer : ℤ)
+  pub alone : (moves : Work → ℕ → List OwnMove) (work : Work) (old new : MachineCpuValue) (h h' : H) (f f' : F) (answer : ℤ)
       (dst func arg : ℕ) → IsOneWork dst func arg work → dst ≡ old.stops.number
       → HasStopped hears runs moves work old h f new h' f' answer → AnswersItself new.stops answer
 
@@ -99,7 +99,7 @@ pub record SendsNothing (old new : CallCpuValue) : Type 0 where
 
 -- who polls, waits for the gate or for a stop sends no call
 abbrev pub PollsSendNothing : {H F : Type 0} → (H → Heard → H → Type 0) → (F → Called → F → Type 0) → Type 0
-PollsSendNothing {H} {F} hears runs = (old new : PlaceValue) (h h' : H) (f f' : F) (own : Own) → Works hears runs old h f new h' f' own
+PollsSendNothing {H} {F} hears runs = (old new : MachineCpuValue) (h h' : H) (f f' : F) (own : Own) → Works hears runs old h f new h' f' own
     → SendsNothing old.calls new.calls
 
 -- In a queue that keeps its rule: what a source knows to have put are the items of its own slot, in order, of all that the

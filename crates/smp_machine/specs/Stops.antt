@@ -6,7 +6,7 @@ use Rattle.smp_mask.specs.declared.error.SmpError.{SmpError}
 use Rattle.smp_mask.specs.declared.error.SmpError.TheVariants as error
 use Rattle.smp_queue.specs.declared.handler.Heard.{Heard}
 use Rattle.smp_calls.specs.Queued.{is_in}
-use Rattle.smp_stop_steps.specs.Starts.{begin_refusal}
+use Rattle.smp_stop_steps.specs.Start.{begin_refusal}
 use Rattle.smp_stop_steps.specs.declared.start.Terms.{Terms}
 use Rattle.smp_multi.specs.Names.{Work, One, Multi}
 use Rattle.smp_multi.specs.Answers.{IsWholeWord, answer_in}
@@ -16,7 +16,7 @@ use Rattle.smp_multi.specs.declared.func.Called.{Called}
 use Rattle.smp_machine.specs.declared.work_queue.Item.{Item}
 use Rattle.smp_machine.specs.declared.work_queue.Knows.TheVariants.{Puts}
 use Rattle.smp_machine.specs.WorkQueue.{IsKnown}
-use Rattle.smp_machine.specs.Place.{PlaceValue}
+use Rattle.smp_machine.specs.MachineCpu.{MachineCpuValue}
 use Rattle.smp_multi.specs.Names.{OwnMove}
 use Rattle.smp_stop_steps.specs.declared.known.OwnMove.TheVariants.{Took, Began, Collected}
 use Rattle.smp_machine.specs.Own.{Own, own_of, with_gate, with_begun, with_put, with_collected, with_moves}
@@ -52,8 +52,8 @@ abbrev pub AreShown : ℕ → List ℕ → List (List Item) → Type 0
 AreShown source cpus put = (c : ℕ) → is_in c cpus ≡ true → IsKnown (Puts source (slice_index_or put c []))
 
 -- a CPU that was in no stop has collected its own stop, whose function has this answer, and is in none
-pub record HasCollected {H F : Type 0} (hears : H → Heard → H → Type 0) (runs : F → Called → F → Type 0) (old : PlaceValue) (h : H) (f : F)
-    (new : PlaceValue) (h' : H) (f' : F) (answer : ℤ) : Type 0 where
+pub record HasCollected {H F : Type 0} (hears : H → Heard → H → Type 0) (runs : F → Called → F → Type 0) (old : MachineCpuValue) (h : H) (f : F)
+    (new : MachineCpuValue) (h' : H) (f' : F) (answer : ℤ) : Type 0 where
   pub word : ℕ
   pub answer_is : answer ≡ answer_in word
   pub whole : IsWholeWord answer word
@@ -69,7 +69,7 @@ with_queued source work o = with_moves (Took ∷ Began work ∷ []) (with_put (i
 -- once for each CPU of the mask
 pub record HasStopped {H F : Type 0} (hears : H → Heard → H → Type 0) (runs : F → Called → F → Type 0)
     (moves : Work → ℕ → List OwnMove) (work : Work)
-    (old : PlaceValue) (h : H) (f : F) (new : PlaceValue) (h' : H) (f' : F) (answer : ℤ) : Type 0 where
+    (old : MachineCpuValue) (h : H) (f : F) (new : MachineCpuValue) (h' : H) (f' : F) (answer : ℤ) : Type 0 where
   pub word : ℕ
   pub answer_is : answer ≡ answer_in word
   pub whole : IsWholeWord answer word
@@ -108,18 +108,18 @@ pub record IsMachineWork (t : TableValue) (func arg : ℕ) (active : Option ℕ)
   pub arg_is : work.arg ≡ arg
 
 -- refused: nothing has changed, no handler and no stop function has run
-pub record RefusedStill {H F : Type 0} (old : PlaceValue) (h : H) (f : F) (new : PlaceValue) (h' : H) (f' : F) : Type 0 where
+pub record RefusedStill {H F : Type 0} (old : MachineCpuValue) (h : H) (f : F) (new : MachineCpuValue) (h' : H) (f' : F) : Type 0 where
   pub kept : new ≡ old
   pub handler_kept : h' ≡ h
   pub func_kept : f' ≡ f
 
 -- why a stop of one CPU, or of two, is refused: E4 first, then E3
-abbrev pub RefusesOne : TableValue → PlaceValue → ℕ → SmpError → Type 0
+abbrev pub RefusesOne : TableValue → MachineCpuValue → ℕ → SmpError → Type 0
 RefusesOne t old dst error.BadArgument = old.stops.inside ≢ None
 RefusesOne t old dst error.NoStopper = (old.stops.inside ≡ None) × (has t.setting.online dst ≡ false)
 RefusesOne t old dst _ = ⊥
 
-abbrev pub RefusesTwo : TableValue → PlaceValue → ℕ → ℕ → SmpError → Type 0
+abbrev pub RefusesTwo : TableValue → MachineCpuValue → ℕ → ℕ → SmpError → Type 0
 RefusesTwo t old a b error.BadArgument = (old.stops.inside ≢ None) ⊎ (a ≡ b)
 RefusesTwo t old a b error.NoStopper = (old.stops.inside ≡ None) × (a ≢ b) × ((has t.setting.online a ≡ false) ⊎ (has t.setting.online b ≡ false))
 RefusesTwo t old a b _ = ⊥

@@ -7,7 +7,7 @@ use Rattle.smp_multi.specs.Answers.{Enters, Misses}
 use Rattle.smp_multi.specs.Cpu.{TableValue as StopTableValue, CpuValue as StopCpuValue}
 use Rattle.smp_machine.specs.declared.work_queue.Item.{Item}
 use Rattle.smp_machine.specs.Passes.{PassesValue, takes, TakenIsShown}
-use Rattle.smp_machine.specs.Place.{MachineValue, PlaceValue}
+use Rattle.smp_machine.specs.MachineCpu.{MachineValue, MachineCpuValue}
 
 -- the front of the own queue, where there was one: it is taken, with the law of the queue
 abbrev pub TakesFront : PassesValue → PassesValue → Option Item → Type 0
@@ -27,14 +27,14 @@ EntersFront t old new (Some x) (Some slot) = (slot ≡ x.slot) × ((kind : Kind)
 EntersFront t old new None (Some slot) = ⊥
 
 -- a CPU with no work in hand takes the front of its queue and enters it: the slot of the stop that it is in then
-pub record TakesNext (m : MachineValue) (old new : PlaceValue) (slot : Option ℕ) : Type 0 where
+pub record TakesNext (m : MachineValue) (old new : MachineCpuValue) (slot : Option ℕ) : Type 0 where
   pub calls_are : new.calls ≡ old.calls
   pub front : Option Item
   pub passes_are : TakesFront old.passes new.passes front
   pub stops_are : EntersFront m.stops old.stops new.stops front slot
 
 -- the same where no work is in hand, and nothing where one is: whether one is then
-pub record TakesWork (m : MachineValue) (old new : PlaceValue) (there : Bool) : Type 0 where
+pub record TakesWork (m : MachineValue) (old new : MachineCpuValue) (there : Bool) : Type 0 where
   pub in_hand : old.stops.inside ≢ None → (new ≡ old) × (there ≡ true)
   pub next : old.stops.inside ≡ None → (slot : Option ℕ) × TakesNext m old new slot × (there ≡ is_some slot)
   pub yes : there ≡ true → new.stops.inside ≢ None

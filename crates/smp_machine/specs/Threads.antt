@@ -2,7 +2,7 @@
 use Rattle.std.specs.Prelude.{◌≡◌, ℕ, List}
 use Rattle.std.specs.declared.thread.PromisedHandle.{PromisedHandle}
 use Rattle.smp_machine.specs.Crews.{AreFor}
-use Rattle.smp_machine.specs.Place.{MachineValue}
+use Rattle.smp_machine.specs.MachineCpu.{MachineValue}
 use Rattle.smp_machine.specs.declared.threads.Task.{Task}
 
 -- the promise of the thread of this CPU

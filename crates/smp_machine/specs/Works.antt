@@ -2,7 +2,7 @@
 use Rattle.std.specs.Prelude.{◌≡◌, ◌≢◌, ℕ, ℤ, Bool, true, false, Some, None, List, [], ◌∷◌, ◌++◌, map}
 use Rattle.std.specs.List.{FoldsTo}
 use Rattle.smp_stop_steps.specs.Callings.{answer_in as carried_answer}
-use Rattle.smp_stop_steps.specs.Starts.{answer_word}
+use Rattle.smp_stop_steps.specs.Start.{answer_word}
 use Rattle.smp_stop_steps.specs.Tells.{first_readings}
 use Rattle.smp_stop_steps.specs.declared.phase.TheConstants.{EXIT}
 use Rattle.smp_queue.specs.Names.{Part as CallPart}
@@ -19,7 +19,7 @@ use Rattle.smp_multi.specs.declared.turn.Turn.{Turn}
 use Rattle.smp_multi.specs.declared.turn.Turn.TheVariants.{Same, Left}
 use Rattle.smp_machine.specs.Own.{Own, own_of}
 use Rattle.smp_machine.specs.OwnAnswers.{OwnAnswers}
-use Rattle.smp_machine.specs.Place.{PlaceValue}
+use Rattle.smp_machine.specs.MachineCpu.{MachineCpuValue}
 use Rattle.smp_machine.specs.Served.{KeepsVisits, IsLater, Serves}
 
 -- a CPU of the calls that has only handled
@@ -47,8 +47,8 @@ HasRun leads number before ran after = FoldsTo (λ p call q. (call.cpu ≡ numbe
 -- A CPU has handled interrupts and taken part in stops: its handler has heard just what it has run, its stop function
 -- has run just its calls, the works that it has taken were served, its answers to its own stops were given by these calls, and
 -- of what only its own stop calls change this is left.
-pub record Works {H F : Type 0} (hears : H → Heard → H → Type 0) (leads : F → Called → F → Type 0) (old : PlaceValue) (h : H) (f : F)
-    (new : PlaceValue) (h' : H) (f' : F) (own : Own) : Type 0 where
+pub record Works {H F : Type 0} (hears : H → Heard → H → Type 0) (leads : F → Called → F → Type 0) (old : MachineCpuValue) (h : H) (f : F)
+    (new : MachineCpuValue) (h' : H) (f' : F) (own : Own) : Type 0 where
   pub calls_kept : new.calls ≡ handled_calls old.calls new.calls
   pub handled : Handles hears old.calls h new.calls h'
   pub table_is : new.stops.table ≡ old.stops.table
@@ -65,7 +65,7 @@ pub record Works {H F : Type 0} (hears : H → Heard → H → Type 0) (leads : 
   pub own_is : own_of new ≡ own
 
 -- the handler has heard what one look at the interrupt word, or none, has taken; the rest of the CPU is as it was
-pub record Hears {H : Type 0} (hears : H → Heard → H → Type 0) (old : PlaceValue) (h : H) (new : PlaceValue) (h' : H) : Type 0 where
+pub record Hears {H : Type 0} (hears : H → Heard → H → Type 0) (old : MachineCpuValue) (h : H) (new : MachineCpuValue) (h' : H) : Type 0 where
   pub stops_are : new.stops ≡ old.stops
   pub passes_are : new.passes ≡ old.passes
   pub calls_kept : new.calls ≡ handled_calls old.calls new.calls
@@ -82,12 +82,12 @@ pub record LooksOnceOrMore (old new : CallCpuValue) : Type 0 where
   pub asked_is : new.part.asked ≡ old.part.asked ++ found ∷ more
 
 -- one look at the interrupt word
-pub record LooksOnce {H : Type 0} (hears : H → Heard → H → Type 0) (old : PlaceValue) (h : H) (new : PlaceValue) (h' : H) : Type 0 where
+pub record LooksOnce {H : Type 0} (hears : H → Heard → H → Type 0) (old : MachineCpuValue) (h : H) (new : MachineCpuValue) (h' : H) : Type 0 where
   pub rest : Hears hears old h new h'
   pub once : LooksOnceMore old.calls new.calls
 
 -- the same where interrupts are on, and nothing where they are off
-pub record LooksIfOn {H : Type 0} (hears : H → Heard → H → Type 0) (old : PlaceValue) (h : H) (new : PlaceValue) (h' : H) : Type 0 where
+pub record LooksIfOn {H : Type 0} (hears : H → Heard → H → Type 0) (old : MachineCpuValue) (h : H) (new : MachineCpuValue) (h' : H) : Type 0 where
   pub rest : Hears hears old h new h'
   pub once : old.stops.irq ≡ true → LooksOnceMore old.calls new.calls
   pub off : old.stops.irq ≡ false → (new.calls ≡ old.calls) × (h' ≡ h)

@@ -6,11 +6,11 @@ ghost use Rattle.smp_words.specs.Size.{cpus};
 ghost use Rattle.smp_queue.specs.Cpu.{IsFull as IsFullOfCalls, is_left as call_left, given as calls_given};
 ghost use Rattle.smp_multi.specs.Cpu.{IsFull as IsFullOfStops, is_left as stop_left, given as stops_given};
 ghost use Rattle.smp_machine.specs.Passes.{AreFresh, fresh_passes};
-ghost use Rattle.smp_machine.specs.Place.{IsFull, is_left, given, fresh_place};
+ghost use Rattle.smp_machine.specs.MachineCpu.{IsFull, is_left, given, fresh_place};
 
 use crate::cpu::Cpu;
 use crate::machine::Machine;
-use crate::place::Place;
+use crate::machine_cpu::MachineCpu;
 use crate::stoppers::Passes;
 use smp_mask::{CpuMask, SmpError};
 use smp_multi::StopBoot;
@@ -31,7 +31,7 @@ pub struct MachineBoot<A: Allocator> {
 
 impl<A: Allocator> Model for MachineBoot<A> {
     ghost use Rattle.std.specs.Prelude.{map, is_some};
-    ghost use Rattle.smp_machine.specs.Place.{BootValue, AreWaiting};
+    ghost use Rattle.smp_machine.specs.MachineCpu.{BootValue, AreWaiting};
 
     ghost Value = { BootValue };
 
@@ -68,7 +68,7 @@ fn seat_if<A: Allocator>(
     let Ok(stops) = stops.cpu(number) else {
         unreachable!()
     };
-    let place = Place {
+    let place = MachineCpu {
         calls,
         stops,
         passes,

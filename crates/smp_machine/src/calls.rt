@@ -6,7 +6,7 @@
 ghost use Rattle.std.specs.Prelude.{◌<◌, ℕ};
 ghost use Rattle.smp_words.specs.Size.{cpus};
 ghost use Rattle.smp_machine.specs.Answers.{SingleAnswers, AsyncAnswers, AnyAnswers, ManyAnswers, CondAnswers};
-ghost use Rattle.smp_machine.specs.Place.{IsAt};
+ghost use Rattle.smp_machine.specs.MachineCpu.{IsAt};
 
 use crate::cpu::Cpu;
 use crate::hearing::{any, each, many, single, single_async};

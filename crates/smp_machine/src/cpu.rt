@@ -3,7 +3,7 @@
 ghost use Rattle.std.specs.Prelude.{◌≡◌, ◌<◌};
 ghost use Rattle.smp_words.specs.Size.{cpus};
 
-use crate::place::Place;
+use crate::machine_cpu::MachineCpu;
 use std::alloc::Allocator;
 use std::marker::Model;
 
@@ -12,13 +12,13 @@ use std::marker::Model;
 /// move to another thread.
 #[derive(Drop)]
 pub struct Cpu<A: Allocator> {
-    pub(crate) place: Place<A>,
+    pub(crate) place: MachineCpu<A>,
 }
 
 impl<A: Allocator> Model for Cpu<A> {
-    ghost use Rattle.smp_machine.specs.Place.{PlaceValue, IsQuiet};
+    ghost use Rattle.smp_machine.specs.MachineCpu.{MachineCpuValue, IsQuiet};
 
-    ghost Value = { PlaceValue };
+    ghost Value = { MachineCpuValue };
 
     ghost view = { λ c. c.place };
 

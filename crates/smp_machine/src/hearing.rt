@@ -14,11 +14,11 @@ ghost use Rattle.smp_calls.specs.Records.{call_by, many_call, single_record, use
 ghost use Rattle.smp_calls.specs.Rounds.{Picks};
 ghost use Rattle.smp_calls.specs.Targets.{IsAny, HasNone, is_target, remote};
 ghost use Rattle.smp_machine.specs.Calls.{KeepsStops};
-ghost use Rattle.smp_machine.specs.Place.{IsAt};
+ghost use Rattle.smp_machine.specs.MachineCpu.{IsAt};
 ghost use Rattle.smp_machine.specs.Works.{LooksOnce};
 
 use crate::machine::Machine;
-use crate::place::Place;
+use crate::machine_cpu::MachineCpu;
 use smp_calls::{call_any, call_async, call_many, call_single, each_cpu_cond};
 use smp_mask::{CpuMask, SmpError};
 use smp_queue::{Audit, Boot, CallCpu, CallTable, Handler};
@@ -78,7 +78,7 @@ impl<A: Allocator> Hearing<A> {
 /// Handles the CPU's own interrupt, with interrupts on.
 pub(crate) fn hear<A: Allocator, H: Handler>(
     machine: &Machine<A>,
-    me: &mut Place<A>,
+    me: &mut MachineCpu<A>,
     handler: &mut H,
 )
     requires at { IsAt machine.now me.old }
@@ -92,7 +92,7 @@ pub(crate) fn hear<A: Allocator, H: Handler>(
 pub(crate) fn single<A: Allocator, R: Wait, H: Handler>(
     machine: &Machine<A>,
     rt: &R,
-    me: &mut Place<A>,
+    me: &mut MachineCpu<A>,
     handler: &mut H,
     dst: u32,
     func: u16,
@@ -126,7 +126,7 @@ pub(crate) fn single<A: Allocator, R: Wait, H: Handler>(
 pub(crate) fn single_async<A: Allocator, R: Wait, H: Handler>(
     machine: &Machine<A>,
     rt: &R,
-    me: &mut Place<A>,
+    me: &mut MachineCpu<A>,
     handler: &mut H,
     u: u32,
     dst: u32,
@@ -161,7 +161,7 @@ pub(crate) fn single_async<A: Allocator, R: Wait, H: Handler>(
 pub(crate) fn any<A: Allocator, R: Wait, H: Handler>(
     machine: &Machine<A>,
     rt: &R,
-    me: &mut Place<A>,
+    me: &mut MachineCpu<A>,
     handler: &mut H,
     mask: CpuMask,
     func: u16,
@@ -195,7 +195,7 @@ pub(crate) fn any<A: Allocator, R: Wait, H: Handler>(
 pub(crate) fn many<A: Allocator, R: Wait, H: Handler>(
     machine: &Machine<A>,
     rt: &R,
-    me: &mut Place<A>,
+    me: &mut MachineCpu<A>,
     handler: &mut H,
     mask: CpuMask,
     func: u16,
@@ -225,7 +225,7 @@ pub(crate) fn many<A: Allocator, R: Wait, H: Handler>(
 pub(crate) fn each<A: Allocator, R: Wait, H: Handler, C: Fn(u32, u64) -> bool>(
     machine: &Machine<A>,
     rt: &R,
-    me: &mut Place<A>,
+    me: &mut MachineCpu<A>,
     handler: &mut H,
     mask: CpuMask,
     func: u16,

@@ -10,12 +10,12 @@ ghost use Rattle.smp_multi.specs.Nudges.{loads_count};
 ghost use Rattle.smp_machine.specs.Keys.{IsPatchOf, Reads, Sets, state_of};
 ghost use Rattle.smp_machine.specs.Own.{own_of};
 ghost use Rattle.smp_machine.specs.Passes.{LastIsOwn};
-ghost use Rattle.smp_machine.specs.Place.{IsAt};
+ghost use Rattle.smp_machine.specs.MachineCpu.{IsAt};
 ghost use Rattle.smp_machine.specs.Stops.{MayBegin, HasCollected, HasStopped};
 ghost use Rattle.smp_machine.specs.Works.{Works};
 
 use crate::machine::Machine;
-use crate::place::Place;
+use crate::machine_cpu::MachineCpu;
 use crate::stop::{begin, give_gate, look_done, put_to_all, take_gate};
 use crate::take::take_next;
 use crate::turn::{finish_work, turn};
@@ -30,7 +30,7 @@ use std::sync::Wait;
 fn run_next<A: Allocator, R: Wait, H: Handler, F: StopFunc>(
     machine: &Machine<A>,
     rt: &R,
-    me: &mut Place<A>,
+    me: &mut MachineCpu<A>,
     handler: &mut H,
     run: &mut F,
     work: &Work,
@@ -59,7 +59,7 @@ fn run_next<A: Allocator, R: Wait, H: Handler, F: StopFunc>(
 fn run_own_patch<A: Allocator, R: Wait, H: Handler, F: StopFunc>(
     machine: &Machine<A>,
     rt: &R,
-    me: &mut Place<A>,
+    me: &mut MachineCpu<A>,
     handler: &mut H,
     run: &mut F,
     work: &Work,
@@ -87,7 +87,7 @@ fn run_own_patch<A: Allocator, R: Wait, H: Handler, F: StopFunc>(
 fn collect_quietly<A: Allocator, R: Wait, H: Handler, F: StopFunc>(
     machine: &Machine<A>,
     rt: &R,
-    me: &mut Place<A>,
+    me: &mut MachineCpu<A>,
     handler: &mut H,
     run: &mut F,
 ) -> i32
@@ -115,7 +115,7 @@ fn collect_quietly<A: Allocator, R: Wait, H: Handler, F: StopFunc>(
 pub(crate) fn patch<A: Allocator, R: Wait, H: Handler, F: StopFunc>(
     machine: &Machine<A>,
     rt: &R,
-    me: &mut Place<A>,
+    me: &mut MachineCpu<A>,
     handler: &mut H,
     run: &mut F,
     work: &Work,
@@ -139,7 +139,7 @@ pub(crate) fn patch<A: Allocator, R: Wait, H: Handler, F: StopFunc>(
 }
 
 /// Whether the key is on.
-fn read<A: Allocator>(machine: &Machine<A>, me: &mut Place<A>, k: u32) -> bool
+fn read<A: Allocator>(machine: &Machine<A>, me: &mut MachineCpu<A>, k: u32) -> bool
     requires at { IsAt machine.now me.old }
     requires outside { me.old.stops.inside ≡ None }
     requires key { k < machine.now.stops.setting.labels.keys }
@@ -154,7 +154,7 @@ fn read<A: Allocator>(machine: &Machine<A>, me: &mut Place<A>, k: u32) -> bool
 }
 
 /// Whether the key stands so; then the gate is given up.
-fn stands<A: Allocator>(machine: &Machine<A>, me: &mut Place<A>, k: u32, on: bool) -> bool
+fn stands<A: Allocator>(machine: &Machine<A>, me: &mut MachineCpu<A>, k: u32, on: bool) -> bool
     requires at { IsAt machine.now me.old }
     requires outside { me.old.stops.inside ≡ None }
     requires gate { me.old.stops.part.holds ≡ true }
@@ -174,7 +174,7 @@ fn stands<A: Allocator>(machine: &Machine<A>, me: &mut Place<A>, k: u32, on: boo
 pub(crate) fn set<A: Allocator, R: Wait, H: Handler, F: StopFunc>(
     machine: &Machine<A>,
     rt: &R,
-    me: &mut Place<A>,
+    me: &mut MachineCpu<A>,
     handler: &mut H,
     run: &mut F,
     k: u32,

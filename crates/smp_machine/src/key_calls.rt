@@ -8,7 +8,7 @@ ghost use Rattle.smp_multi.specs.Names.{ReadKey};
 ghost use Rattle.smp_machine.specs.Counts.{CountsOr};
 ghost use Rattle.smp_machine.specs.Keys.{MayChange, Reads, RefusesKey, Sets};
 ghost use Rattle.smp_machine.specs.Passes.{LastIsOwn};
-ghost use Rattle.smp_machine.specs.Place.{IsAt};
+ghost use Rattle.smp_machine.specs.MachineCpu.{IsAt};
 ghost use Rattle.smp_machine.specs.Stops.{RefusedStill};
 
 use crate::cpu::Cpu;

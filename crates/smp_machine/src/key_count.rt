@@ -4,12 +4,12 @@ ghost use Rattle.std.specs.Prelude.{◌≡◌, ◌<◌, None, true, false, [], �
 ghost use Rattle.smp_multi.specs.Nudges.{NudgeAnswers};
 ghost use Rattle.smp_machine.specs.Counts.{step_of, Nudges, Patches, Counts, CountsFrom};
 ghost use Rattle.smp_stop_steps.specs.declared.known.OwnMove.TheVariants.{Took};
-ghost use Rattle.smp_machine.specs.Place.{IsAt};
+ghost use Rattle.smp_machine.specs.MachineCpu.{IsAt};
 
 use crate::key::patch;
 use crate::key_work::patch_work;
 use crate::machine::Machine;
-use crate::place::Place;
+use crate::machine_cpu::MachineCpu;
 use crate::stop::{give_gate, take_gate};
 use crossbeam_utils::Backoff;
 use smp_labels::Change;
@@ -30,7 +30,7 @@ fn step(up: bool) -> Change
 #[inline(always)]
 fn try_key<A: Allocator>(
     machine: &Machine<A>,
-    me: &mut Place<A>,
+    me: &mut MachineCpu<A>,
     k: u32,
     up: bool,
 ) -> Result<Nudge, SmpError>
@@ -47,7 +47,7 @@ fn try_key<A: Allocator>(
 fn nudge_again<A: Allocator, R: Wait>(
     machine: &Machine<A>,
     rt: &R,
-    me: &mut Place<A>,
+    me: &mut MachineCpu<A>,
     k: u32,
     up: bool,
 ) -> Result<bool, SmpError>
@@ -78,7 +78,7 @@ fn nudge_again<A: Allocator, R: Wait>(
 fn nudge<A: Allocator, R: Wait>(
     machine: &Machine<A>,
     rt: &R,
-    me: &mut Place<A>,
+    me: &mut MachineCpu<A>,
     k: u32,
     up: bool,
 ) -> Result<bool, SmpError>
@@ -102,7 +102,7 @@ fn nudge<A: Allocator, R: Wait>(
 fn patch_by_one<A: Allocator, R: Wait, H: Handler, F: StopFunc>(
     machine: &Machine<A>,
     rt: &R,
-    me: &mut Place<A>,
+    me: &mut MachineCpu<A>,
     handler: &mut H,
     run: &mut F,
     k: u32,
@@ -129,7 +129,7 @@ fn patch_by_one<A: Allocator, R: Wait, H: Handler, F: StopFunc>(
 fn count_at_gate<A: Allocator, R: Wait, H: Handler, F: StopFunc>(
     machine: &Machine<A>,
     rt: &R,
-    me: &mut Place<A>,
+    me: &mut MachineCpu<A>,
     handler: &mut H,
     run: &mut F,
     k: u32,
@@ -161,7 +161,7 @@ fn count_at_gate<A: Allocator, R: Wait, H: Handler, F: StopFunc>(
 fn count_by_gate<A: Allocator, R: Wait, H: Handler, F: StopFunc>(
     machine: &Machine<A>,
     rt: &R,
-    me: &mut Place<A>,
+    me: &mut MachineCpu<A>,
     handler: &mut H,
     run: &mut F,
     k: u32,
@@ -182,7 +182,7 @@ fn count_by_gate<A: Allocator, R: Wait, H: Handler, F: StopFunc>(
 pub(crate) fn count<A: Allocator, R: Wait, H: Handler, F: StopFunc>(
     machine: &Machine<A>,
     rt: &R,
-    me: &mut Place<A>,
+    me: &mut MachineCpu<A>,
     handler: &mut H,
     run: &mut F,
     k: u32,

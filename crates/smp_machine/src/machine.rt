@@ -3,13 +3,13 @@
 ghost use Rattle.std.specs.Prelude.{◌≡◌, ◌⊎◌, ◌↔◌, IfOk, IfErr, OnOk, IsErrOf};
 ghost use Rattle.smp_words.specs.Limits.{AreLimits};
 ghost use Rattle.smp_queue.specs.Audit.{Audited, IfDrained, AreEqual, HasRowsOf, HasZerosFrom};
-ghost use Rattle.smp_machine.specs.Place.{IsAt, IsFull};
+ghost use Rattle.smp_machine.specs.MachineCpu.{IsAt, IsFull};
 
 use crate::boot::{MachineBoot, seat_all};
 use crate::cpu::Cpu;
 use crate::hearing::Hearing;
+use crate::machine_cpu::MachineCpu;
 use crate::open::open;
-use crate::place::Place;
 use crate::stoppers::Stoppers;
 use smp_labels::LabelMap;
 use smp_mask::{CpuMask, SmpError};
@@ -28,7 +28,7 @@ pub struct Machine<A: Allocator> {
 }
 
 impl<A: Allocator> Model for Machine<A> {
-    ghost use Rattle.smp_machine.specs.Place.{MachineValue, IsMachine};
+    ghost use Rattle.smp_machine.specs.MachineCpu.{MachineValue, IsMachine};
 
     ghost Value = { MachineValue };
 
@@ -119,7 +119,7 @@ impl<A: Allocator> Machine<A> {
     {
         let Machine { calls, .. } = self;
         let Cpu { place } = last;
-        let Place { calls: cpu, .. } = place;
+        let MachineCpu { calls: cpu, .. } = place;
         calls.audit(cpu)
     }
 }

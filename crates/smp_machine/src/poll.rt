@@ -2,13 +2,13 @@
 
 ghost use Rattle.std.specs.Prelude.{◌≡◌, true, None};
 ghost use Rattle.smp_machine.specs.Own.{own_of};
-ghost use Rattle.smp_machine.specs.Place.{IsAt};
+ghost use Rattle.smp_machine.specs.MachineCpu.{IsAt};
 ghost use Rattle.smp_machine.specs.Polls.{Polls};
 ghost use Rattle.smp_machine.specs.Works.{Works, LooksOnceOrMore};
 
 use crate::cpu::Cpu;
 use crate::machine::Machine;
-use crate::place::Place;
+use crate::machine_cpu::MachineCpu;
 use crate::take::take_work;
 use crate::turn::{finish_work, turn};
 use smp_multi::StopFunc;
@@ -22,19 +22,19 @@ use std::sync::Wait;
 pub(crate) fn poll<A: Allocator, R: Wait, H: Handler, F: StopFunc>(
     machine: &Machine<A>,
     rt: &R,
-    me: &mut Place<A>,
+    me: &mut MachineCpu<A>,
     handler: &mut H,
-    func: &mut F,
+    run: &mut F,
 )
     requires at { IsAt machine.now me.old }
-    ensures works { Works H.leads F.leads me.old handler.old func.old me.new handler.new func.new (own_of me.old) }
-    ensures polls { Polls H.leads F.leads machine.now me.old handler.old func.old me.new handler.new func.new }
+    ensures works { Works H.leads F.leads me.old handler.old run.old me.new handler.new run.new (own_of me.old) }
+    ensures polls { Polls H.leads F.leads machine.now me.old handler.old run.old me.new handler.new run.new }
     ensures outside { me.new.stops.inside ≡ None }
     ensures once { me.old.stops.irq ≡ true → LooksOnceOrMore me.old.calls me.new.calls }
 {
-    turn(machine, me, handler, func);
+    turn(machine, me, handler, run);
     if take_work(machine, rt, me) {
-        finish_work(machine, rt, me, handler, func);
+        finish_work(machine, rt, me, handler, run);
     }
 }
 
@@ -49,14 +49,14 @@ impl<A: Allocator> Machine<A> {
         rt: &R,
         me: &mut Cpu<A>,
         handler: &mut H,
-        func: &mut F,
+        run: &mut F,
     )
         requires at { IsAt self.now me.old }
-        ensures works { Works H.leads F.leads me.old handler.old func.old me.new handler.new func.new (own_of me.old) }
-        ensures polls { Polls H.leads F.leads self.now me.old handler.old func.old me.new handler.new func.new }
+        ensures works { Works H.leads F.leads me.old handler.old run.old me.new handler.new run.new (own_of me.old) }
+        ensures polls { Polls H.leads F.leads self.now me.old handler.old run.old me.new handler.new run.new }
         ensures outside { me.new.stops.inside ≡ None }
         ensures once { me.old.stops.irq ≡ true → LooksOnceOrMore me.old.calls me.new.calls }
     {
-        poll(self, rt, &mut me.place, handler, func)
+        poll(self, rt, &mut me.place, handler, run)
     }
 }

@@ -2,11 +2,11 @@
 
 ghost use Rattle.std.specs.Prelude.{◌≡◌};
 ghost use Rattle.smp_multi.specs.Reads.{KeyAnswers, SiteAnswers};
-ghost use Rattle.smp_machine.specs.Place.{IsAt};
+ghost use Rattle.smp_machine.specs.MachineCpu.{IsAt};
 
 use crate::cpu::Cpu;
 use crate::machine::Machine;
-use crate::place::Place;
+use crate::machine_cpu::MachineCpu;
 use smp_labels::SiteKind;
 use smp_mask::SmpError;
 use std::alloc::Allocator;
@@ -14,7 +14,7 @@ use std::alloc::Allocator;
 /// Whether a key is on.
 pub(crate) fn read_key<A: Allocator>(
     machine: &Machine<A>,
-    me: &mut Place<A>,
+    me: &mut MachineCpu<A>,
     k: u32,
 ) -> Result<bool, SmpError>
     requires at { IsAt machine.now me.old }
@@ -28,7 +28,7 @@ pub(crate) fn read_key<A: Allocator>(
 /// What stands at a site.
 fn read_site<A: Allocator>(
     machine: &Machine<A>,
-    me: &mut Place<A>,
+    me: &mut MachineCpu<A>,
     i: u32,
 ) -> Result<SiteKind, SmpError>
     requires at { IsAt machine.now me.old }

@@ -3,7 +3,7 @@
 ghost use Rattle.std.specs.Prelude.{◌≡◌, ◌<◌};
 ghost use Rattle.smp_words.specs.Limits.{AreLimits};
 ghost use Rattle.smp_words.specs.Size.{cpus};
-ghost use Rattle.smp_machine.specs.Place.{IsAt};
+ghost use Rattle.smp_machine.specs.MachineCpu.{IsAt};
 
 use crate::cpu::Cpu;
 use crate::machine::Machine;
@@ -32,7 +32,7 @@ pub struct Seat<'m, A: Allocator, R: Wait, H: Handler + Drop, F: StopFunc + Drop
 
 impl<'m, A: Allocator, R: Wait, H: Handler + Drop, F: StopFunc + Drop> Model
     for Seat<'m, A, R, H, F> {
-    ghost use Rattle.smp_machine.specs.Place.{IsAt};
+    ghost use Rattle.smp_machine.specs.MachineCpu.{IsAt};
     ghost use Rattle.smp_machine.specs.Seats.{SeatValue};
 
     ghost Value = { SeatValue H F };

@@ -12,7 +12,7 @@ ghost use Rattle.smp_machine.specs.Moves.{stop_moves};
 ghost use Rattle.smp_multi.specs.Polls.{IsLastResult};
 ghost use Rattle.smp_machine.specs.declared.work_queue.Knows.TheVariants.{Puts};
 ghost use Rattle.smp_machine.specs.Passes.{puts};
-ghost use Rattle.smp_machine.specs.Place.{IsAt};
+ghost use Rattle.smp_machine.specs.MachineCpu.{IsAt};
 ghost use Rattle.smp_machine.specs.Own.{own_of, with_gate, with_moves, with_put};
 ghost use Rattle.smp_machine.specs.OwnAnswers.{RunsItself};
 ghost use Rattle.smp_machine.specs.Stops.{MayBegin, item, AreShown, HasCollected, HasStopped};
@@ -20,7 +20,7 @@ ghost use Rattle.smp_machine.specs.WorkQueue.{IsKnown};
 ghost use Rattle.smp_machine.specs.Works.{Works};
 
 use crate::machine::Machine;
-use crate::place::Place;
+use crate::machine_cpu::MachineCpu;
 use crate::poll::poll;
 use crate::turn::turn;
 use crate::work_queue::Item;
@@ -32,7 +32,7 @@ use std::alloc::Allocator;
 use std::sync::Wait;
 
 /// Takes the gate, if it is free.
-fn try_gate<A: Allocator>(machine: &Machine<A>, me: &mut Place<A>) -> bool
+fn try_gate<A: Allocator>(machine: &Machine<A>, me: &mut MachineCpu<A>) -> bool
     requires at { IsAt machine.now me.old }
     ensures taken { result ≡ true → me.new ≡ record me.old { stops = takes_gate me.old.stops } }
     ensures held { result ≡ false → me.new ≡ record me.old { stops = misses_gate me.old.stops } }
@@ -44,7 +44,7 @@ fn try_gate<A: Allocator>(machine: &Machine<A>, me: &mut Place<A>) -> bool
 pub(crate) fn take_gate<A: Allocator, R: Wait, H: Handler, F: StopFunc>(
     machine: &Machine<A>,
     rt: &R,
-    me: &mut Place<A>,
+    me: &mut MachineCpu<A>,
     handler: &mut H,
     run: &mut F,
 )
@@ -66,7 +66,7 @@ pub(crate) fn take_gate<A: Allocator, R: Wait, H: Handler, F: StopFunc>(
 }
 
 /// Gives the gate up.
-pub(crate) fn give_gate<A: Allocator>(machine: &Machine<A>, me: &mut Place<A>)
+pub(crate) fn give_gate<A: Allocator>(machine: &Machine<A>, me: &mut MachineCpu<A>)
     requires at { IsAt machine.now me.old }
     requires gate { me.old.stops.part.holds ≡ true }
     ensures { me.new ≡ record me.old { stops = gives_gate me.old.stops } }
@@ -78,7 +78,7 @@ pub(crate) fn give_gate<A: Allocator>(machine: &Machine<A>, me: &mut Place<A>)
 }
 
 /// Opens the own slot for a stop of this work.
-pub(crate) fn begin<A: Allocator>(machine: &Machine<A>, me: &mut Place<A>, work: &Work)
+pub(crate) fn begin<A: Allocator>(machine: &Machine<A>, me: &mut MachineCpu<A>, work: &Work)
     requires at { IsAt machine.now me.old }
     requires gate { me.old.stops.part.holds ≡ true }
     requires collected { me.old.stops.pending ≡ None }
@@ -95,7 +95,7 @@ pub(crate) fn begin<A: Allocator>(machine: &Machine<A>, me: &mut Place<A>, work:
 fn try_put<A: Allocator, R: Wait>(
     machine: &Machine<A>,
     rt: &R,
-    me: &mut Place<A>,
+    me: &mut MachineCpu<A>,
     cpu: u32,
     work: &Work,
 ) -> bool
@@ -116,7 +116,7 @@ fn try_put<A: Allocator, R: Wait>(
 fn put<A: Allocator, R: Wait, H: Handler, F: StopFunc>(
     machine: &Machine<A>,
     rt: &R,
-    me: &mut Place<A>,
+    me: &mut MachineCpu<A>,
     handler: &mut H,
     run: &mut F,
     cpu: u32,
@@ -147,7 +147,7 @@ fn put<A: Allocator, R: Wait, H: Handler, F: StopFunc>(
 pub(crate) fn put_to_all<A: Allocator, R: Wait, H: Handler, F: StopFunc>(
     machine: &Machine<A>,
     rt: &R,
-    me: &mut Place<A>,
+    me: &mut MachineCpu<A>,
     handler: &mut H,
     run: &mut F,
     work: &Work,
@@ -168,7 +168,7 @@ pub(crate) fn put_to_all<A: Allocator, R: Wait, H: Handler, F: StopFunc>(
 }
 
 /// The result of the own stop, once all its CPUs have completed.
-pub(crate) fn look_done<A: Allocator>(machine: &Machine<A>, me: &mut Place<A>) -> Option<i32>
+pub(crate) fn look_done<A: Allocator>(machine: &Machine<A>, me: &mut MachineCpu<A>) -> Option<i32>
     requires at { IsAt machine.now me.old }
     requires begun { me.old.stops.pending ≢ None }
     ensures { MatchOption result (me.new ≡ record me.old { stops = looks_in_vain me.old.stops }) (λ v. (word : ℕ) × (v ≡ answer_in word)
@@ -184,7 +184,7 @@ pub(crate) fn look_done<A: Allocator>(machine: &Machine<A>, me: &mut Place<A>) -
 pub(crate) fn collect<A: Allocator, R: Wait, H: Handler, F: StopFunc>(
     machine: &Machine<A>,
     rt: &R,
-    me: &mut Place<A>,
+    me: &mut MachineCpu<A>,
     handler: &mut H,
     run: &mut F,
 ) -> i32
@@ -211,7 +211,7 @@ pub(crate) fn collect<A: Allocator, R: Wait, H: Handler, F: StopFunc>(
 pub(crate) fn stop<A: Allocator, R: Wait, H: Handler, F: StopFunc>(
     machine: &Machine<A>,
     rt: &R,
-    me: &mut Place<A>,
+    me: &mut MachineCpu<A>,
     handler: &mut H,
     run: &mut F,
     work: &Work,

@@ -7,7 +7,7 @@ ghost use Rattle.std.specs.Prelude.{◌≡◌, ◌≢◌, true, false, None, IfO
 ghost use Rattle.smp_mask.specs.Mask.{has};
 ghost use Rattle.smp_machine.specs.Moves.{short_stop, long_stop};
 ghost use Rattle.smp_machine.specs.OwnAnswers.{HasCalledFor};
-ghost use Rattle.smp_machine.specs.Place.{IsAt};
+ghost use Rattle.smp_machine.specs.MachineCpu.{IsAt};
 ghost use Rattle.smp_machine.specs.Stops.{HasStopped, IsOneWork, IsTwoWork, IsMachineWork, RefusedStill, RefusesOne, RefusesTwo};
 
 use crate::cpu::Cpu;

@@ -1,12 +1,12 @@
 //! A CPU takes the front of its own queue.
 
 ghost use Rattle.std.specs.Prelude.{◌≡◌, None};
-ghost use Rattle.smp_machine.specs.Place.{IsAt};
+ghost use Rattle.smp_machine.specs.MachineCpu.{IsAt};
 ghost use Rattle.smp_machine.specs.Takes.{TakesNext, TakesWork};
 
 use crate::cpu::Cpu;
 use crate::machine::Machine;
-use crate::place::Place;
+use crate::machine_cpu::MachineCpu;
 use std::alloc::Allocator;
 use std::sync::Wait;
 
@@ -16,7 +16,7 @@ use std::sync::Wait;
 pub(crate) fn take_next<A: Allocator, R: Wait>(
     machine: &Machine<A>,
     rt: &R,
-    me: &mut Place<A>,
+    me: &mut MachineCpu<A>,
 ) -> Option<u32>
     requires at { IsAt machine.now me.old }
     requires outside { me.old.stops.inside ≡ None }
@@ -33,7 +33,7 @@ pub(crate) fn take_next<A: Allocator, R: Wait>(
 pub(crate) fn take_work<A: Allocator, R: Wait>(
     machine: &Machine<A>,
     rt: &R,
-    me: &mut Place<A>,
+    me: &mut MachineCpu<A>,
 ) -> bool
     requires at { IsAt machine.now me.old }
     ensures { TakesWork machine.now me.old me.new result }

@@ -4,7 +4,7 @@ ghost use Rattle.std.specs.Prelude.{◌≡◌, ◌≤◌, ◌+◌, ℕ, [], map,
 ghost use Rattle.smp_mask.specs.Mask.{members};
 ghost use Rattle.smp_machine.specs.Crews.{AreLeftFrom, ArePlayed, IsNext, IsPlayed};
 ghost use Rattle.smp_machine.specs.Own.{own_of};
-ghost use Rattle.smp_machine.specs.Place.{IsFull, fresh_place};
+ghost use Rattle.smp_machine.specs.MachineCpu.{IsFull, fresh_place};
 ghost use Rattle.smp_machine.specs.Seats.{IsSameSeat, SeatWorks};
 ghost use Rattle.smp_machine.specs.Threads.{AreStarted, IsTaskOf};
 

@@ -4,13 +4,13 @@ ghost use Rattle.std.specs.Prelude.{◌≡◌, ◌≢◌, true, false, None};
 ghost use Rattle.smp_multi.specs.Advance.{IsInRound};
 ghost use Rattle.smp_multi.specs.Cpu.{IsAt as IsAtStops};
 ghost use Rattle.smp_machine.specs.Own.{own_of};
-ghost use Rattle.smp_machine.specs.Place.{IsAt, HasNotLeft};
+ghost use Rattle.smp_machine.specs.MachineCpu.{IsAt, HasNotLeft};
 ghost use Rattle.smp_machine.specs.Works.{Works, LooksIfOn, LooksOnceMore, GoesRound, TurnsStop, ReadsAnew};
 
 use crate::cpu::Cpu;
 use crate::hearing::hear;
 use crate::machine::Machine;
-use crate::place::Place;
+use crate::machine_cpu::MachineCpu;
 use crossbeam_utils::Backoff;
 use smp_multi::{StopCpu, StopFunc, StopTable, Turn};
 use smp_queue::Handler;
@@ -20,7 +20,7 @@ use std::sync::Wait;
 /// Handles the CPU's own interrupt where interrupts are on; where they are off, nothing.
 pub(crate) fn handle_if_on<A: Allocator, H: Handler>(
     machine: &Machine<A>,
-    me: &mut Place<A>,
+    me: &mut MachineCpu<A>,
     handler: &mut H,
 )
     requires at { IsAt machine.now me.old }
@@ -32,12 +32,12 @@ pub(crate) fn handle_if_on<A: Allocator, H: Handler>(
 }
 
 /// One turn of a stop of several CPUs; it completes where the CPU has left.
-fn go_round<A: Allocator, F: StopFunc>(table: &StopTable<A>, me: &mut StopCpu, func: &mut F) -> Turn
+fn go_round<A: Allocator, F: StopFunc>(table: &StopTable<A>, me: &mut StopCpu, run: &mut F) -> Turn
     requires at { IsAtStops table.now me.old }
     requires round { IsInRound me.old }
-    ensures { GoesRound F.leads me.old func.old me.new func.new result }
+    ensures { GoesRound F.leads me.old run.old me.new run.new result }
 {
-    match table.advance(me, func) {
+    match table.advance(me, run) {
         Ok(Turn::Left) => match table.finish(me) {
             Ok(()) => Turn::Left,
             Err(_) => unreachable!(),
@@ -48,74 +48,74 @@ fn go_round<A: Allocator, F: StopFunc>(table: &StopTable<A>, me: &mut StopCpu, f
 }
 
 /// One turn of the stop that the CPU is in: a stop of one CPU runs and is completed.
-fn go_on<A: Allocator, F: StopFunc>(table: &StopTable<A>, me: &mut StopCpu, func: &mut F) -> Turn
+fn go_on<A: Allocator, F: StopFunc>(table: &StopTable<A>, me: &mut StopCpu, run: &mut F) -> Turn
     requires at { IsAtStops table.now me.old }
     requires inside { me.old.inside ≢ None }
     requires not_left { HasNotLeft me.old.inside }
-    ensures stops { TurnsStop F.leads me.old func.old me.new func.new result }
+    ensures stops { TurnsStop F.leads me.old run.old me.new run.new result }
     ensures not_left { HasNotLeft me.new.inside }
 {
-    match table.run_one(me, func) {
+    match table.run_one(me, run) {
         Ok(_) => Turn::Left,
-        Err(_) => go_round(table, me, func),
+        Err(_) => go_round(table, me, run),
     }
 }
 
 /// One turn of the work in hand, if any.
 pub(crate) fn step<A: Allocator, F: StopFunc>(
     machine: &Machine<A>,
-    me: &mut Place<A>,
-    func: &mut F,
+    me: &mut MachineCpu<A>,
+    run: &mut F,
 ) -> Turn
     requires at { IsAt machine.now me.old }
     ensures calls { me.new.calls ≡ me.old.calls }
     ensures passes { me.new.passes ≡ me.old.passes }
-    ensures stops { TurnsStop F.leads me.old.stops func.old me.new.stops func.new result }
+    ensures stops { TurnsStop F.leads me.old.stops run.old me.new.stops run.new result }
 {
     if !me.stops.in_stop() {
         return Turn::Same;
     }
-    go_on(&machine.stops, &mut me.stops, func)
+    go_on(&machine.stops, &mut me.stops, run)
 }
 
 /// Handles the own interrupt where interrupts are on, and then makes one turn of the work in hand, if any. It does not
 /// wait.
 pub(crate) fn turn<A: Allocator, H: Handler, F: StopFunc>(
     machine: &Machine<A>,
-    me: &mut Place<A>,
+    me: &mut MachineCpu<A>,
     handler: &mut H,
-    func: &mut F,
+    run: &mut F,
 ) -> Turn
     requires at { IsAt machine.now me.old }
-    ensures works { Works H.leads F.leads me.old handler.old func.old me.new handler.new func.new (own_of me.old) }
-    ensures stops { TurnsStop F.leads me.old.stops func.old me.new.stops func.new result }
+    ensures works { Works H.leads F.leads me.old handler.old run.old me.new handler.new run.new (own_of me.old) }
+    ensures stops { TurnsStop F.leads me.old.stops run.old me.new.stops run.new result }
     ensures once { me.old.stops.irq ≡ true → LooksOnceMore me.old.calls me.new.calls }
     ensures off { me.old.stops.irq ≡ false → (me.new.calls ≡ me.old.calls) × (handler.new ≡ handler.old) }
     ensures passes { me.new.passes ≡ me.old.passes }
 {
     handle_if_on(machine, me, handler);
     me.is_shown(&machine.stops);
-    step(machine, me, func)
+    step(machine, me, run)
 }
 
 /// Turns until the work in hand is completed. It may wait; the CPUs of the work's mask must poll.
 pub(crate) fn finish_work<A: Allocator, R: Wait, H: Handler, F: StopFunc>(
     machine: &Machine<A>,
     rt: &R,
-    me: &mut Place<A>,
+    me: &mut MachineCpu<A>,
     handler: &mut H,
-    func: &mut F,
+    run: &mut F,
 )
     requires at { IsAt machine.now me.old }
     requires inside { me.old.stops.inside ≢ None }
-    ensures works { Works H.leads F.leads me.old handler.old func.old me.new handler.new func.new (own_of me.old) }
+    ensures works { Works H.leads F.leads me.old handler.old run.old me.new handler.new run.new (own_of me.old) }
     ensures outside { me.new.stops.inside ≡ None }
     ensures read { ReadsAnew me.old.stops me.new.stops }
     ensures passes { me.new.passes ≡ me.old.passes }
 {
     let backoff = Backoff::new();
     for _ in rt.forever() {
-        match turn(machine, me, handler, func) {
+        match turn(machine, me, handler, run) {
             Turn::Left => return,
             _ => backoff.snooze(),
         }
@@ -136,15 +136,15 @@ impl<A: Allocator> Machine<A> {
         &self,
         me: &mut Cpu<A>,
         handler: &mut H,
-        func: &mut F,
+        run: &mut F,
     ) -> Turn
         requires at { IsAt self.now me.old }
-        ensures works { Works H.leads F.leads me.old handler.old func.old me.new handler.new func.new (own_of me.old) }
-        ensures stops { TurnsStop F.leads me.old.stops func.old me.new.stops func.new result }
+        ensures works { Works H.leads F.leads me.old handler.old run.old me.new handler.new run.new (own_of me.old) }
+        ensures stops { TurnsStop F.leads me.old.stops run.old me.new.stops run.new result }
         ensures once { me.old.stops.irq ≡ true → LooksOnceMore me.old.calls me.new.calls }
         ensures off { me.old.stops.irq ≡ false → (me.new.calls ≡ me.old.calls) × (handler.new ≡ handler.old) }
         ensures passes { me.new.passes ≡ me.old.passes }
     {
-        turn(self, &mut me.place, handler, func)
+        turn(self, &mut me.place, handler, run)
     }
 }

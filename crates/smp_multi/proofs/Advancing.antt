@@ -8,7 +8,7 @@ use Rattle.smp_stop_steps.specs.Known.{carrying}
 use Rattle.smp_multi.specs.Lives.{Lives, Moment}
 use Rattle.smp_stop_steps.specs.KnownAfter.{looked_known, looked_to}
 use Rattle.smp_stop_steps.specs.Sits.{OwnsIf}
-use Rattle.smp_stop_steps.specs.Starts.{answer_word}
+use Rattle.smp_stop_steps.specs.Start.{answer_word}
 use Rattle.smp_stop_steps.specs.Tells.{carried_call, first_readings, calls_at_run, is_multi}
 use Rattle.smp_stop_steps.specs.Labels.{patch_answer}
 use Rattle.smp_stop_steps.specs.declared.known.Reading.{Reading}

@@ -5,7 +5,7 @@ use Rattle.smp_stop_steps.specs.Known.{Sees, attempting, carrying, setup_in}
 use Rattle.smp_multi.specs.Lives.{Lives, Moment}
 use Rattle.smp_stop_steps.specs.KnownAfter.{acked_by, called_by, completed_by, drafted_known, is_drafting, is_patching, key_loaded_by}
 use Rattle.smp_stop_steps.specs.KnownAfter.{known_entering, known_told, key_read_known, member_stored, opened_by, raised_by}
-use Rattle.smp_stop_steps.specs.Moves.{Can, May, Move, access_in, TakeGate, OpenGate, Draft, DraftMore, Open, Enter, Look, Acknowledge, AcknowledgePatch}
+use Rattle.smp_stop_steps.specs.Moves.{Can, MayStep, Move, known_access, TakeGate, OpenGate, Draft, DraftMore, Open, Enter, Look, Acknowledge, AcknowledgePatch}
 use Rattle.smp_stop_steps.specs.Moves.{Refill, Raise, Give, Count, CountGiven, Close, LookDone, Collect, ReadKey, ReadSite, Nudge, BeginPatch, Alter}
 use Rattle.smp_stop_steps.specs.Moves.{LoadArg, LoadField, LoadEntry}
 use Rattle.smp_stop_steps.specs.State.{StopState}
@@ -18,7 +18,7 @@ use Rattle.smp_multi.specs.Names.field
 
 -- a CPU may make the same steps, whatever it carries
 module _ (x : ℕ) (v : Known) where
-  can_by : (a : Access) (m : Move) → May (carrying x v) m → access_in (carrying x v) m ≡ a → Can v a
+  can_by : (a : Access) (m : Move) → MayStep (carrying x v) m → known_access (carrying x v) m ≡ a → Can v a
   can_by a TakeGate h e = record { move = TakeGate; may = h; is_access = e }
   can_by a OpenGate h e = record { move = OpenGate; may = h; is_access = e }
   can_by a (Draft w) h e = record { move = Draft w; may = h; is_access = e }

@@ -20,7 +20,7 @@ use Rattle.std.proofs.lemmas.Bool.{and_parts, ltb-true}
 use Rattle.std.proofs.lemmas.Int.{of_z-to_z}
 use Rattle.smp_stop_steps.specs.AnswerWords.{IsI32Word}
 use Rattle.std.proofs.lemmas.List.{append-nil}
-use Rattle.smp_stop_steps.specs.Starts.{begin_refusal, has_slot, answer_word}
+use Rattle.smp_stop_steps.specs.Start.{begin_refusal, has_slot, answer_word}
 use Rattle.smp_stop_steps.specs.State.{Setup}
 use Rattle.smp_stop_steps.specs.Stop.{Stop, Inside}
 use Rattle.smp_stop_steps.specs.Table.{StopWords}
@@ -30,7 +30,7 @@ use Rattle.smp_stop_steps.specs.declared.stage.Visit.{Visit}
 use Rattle.smp_stop_steps.proofs.Promises.StopLaws.{keeps_laws}
 use Rattle.smp_stop_steps.proofs.State.Ends.{all_outside}
 use Rattle.smp_stop_steps.proofs.State.Phases.{is_open_inside, keeps_inside}
-use Rattle.smp_stop_steps.proofs.TheMachine.Starting.{begins_work}
+use Rattle.smp_stop_steps.proofs.Machine.Starting.{begins_work}
 use Rattle.smp_multi.specs.Names.{Field, Work, Kind, One, Slot, Seat, Free, In, Rests, Source, Shut, Drafts, Owns, Collects, Known, Part, Setting, Duty}
 use Rattle.smp_multi.specs.Names.{Calling, Idle, Calls, Carries}
 use Rattle.smp_multi.specs.Answers.{Enters, RunAnswers, PollAnswers, IsWholeWord, answer_in}

@@ -5,7 +5,7 @@ use Rattle.smp_mask.specs.declared.error.SmpError.{SmpError}
 use Rattle.smp_mask.specs.declared.error.SmpError.TheVariants as error
 use Rattle.smp_stop_steps.specs.Callings.{answer_in as carried_answer}
 use Rattle.smp_stop_steps.specs.Labels.{patch_answer}
-use Rattle.smp_stop_steps.specs.Starts.{answer_word}
+use Rattle.smp_stop_steps.specs.Start.{answer_word}
 use Rattle.smp_stop_steps.specs.Tells.{first_readings}
 use Rattle.smp_stop_steps.specs.declared.phase.TheConstants.{DISABLE_IRQ, RUN, EXIT}
 use Rattle.smp_multi.specs.Names.{Work, Kind, One, Multi, Patch, Carries}

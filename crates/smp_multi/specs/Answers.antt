@@ -6,7 +6,7 @@ use Rattle.smp_mask.specs.declared.error.SmpError.{SmpError}
 use Rattle.smp_mask.specs.declared.error.SmpError.TheVariants as error
 use Rattle.smp_stop_steps.specs.Known.{setup_in}
 use Rattle.smp_stop_steps.specs.Sources.{IsWork}
-use Rattle.smp_stop_steps.specs.Starts.{begin_refusal, has_slot, answer_word}
+use Rattle.smp_stop_steps.specs.Start.{begin_refusal, has_slot, answer_word}
 use Rattle.smp_multi.specs.Laws.{Finds, FindsNoCall}
 use Rattle.smp_multi.specs.Names.{Slot, Work, Kind, One, StopCall}
 use Rattle.smp_multi.specs.Names.field

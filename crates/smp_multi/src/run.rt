@@ -4,7 +4,7 @@ ghost use Rattle.std.specs.Prelude.{◌≡◌};
 ghost use Rattle.smp_stop_steps.specs.Known.{carrying};
 ghost use Rattle.smp_multi.specs.Lives.{Lives};
 ghost use Rattle.smp_stop_steps.specs.KnownAfter.{completed_with};
-ghost use Rattle.smp_stop_steps.specs.Starts.{answer_word};
+ghost use Rattle.smp_stop_steps.specs.Start.{answer_word};
 ghost use Rattle.smp_multi.specs.Places.{work_in};
 ghost use Rattle.smp_multi.specs.Running.{AtOne, called_by};
 

@@ -22,7 +22,7 @@ use crate::handler::Handler;
 use crate::reverse::reverse;
 use crate::run::{run_async_calls, run_sync_calls};
 use crate::seat::{CpuSeat, store, swap};
-use smp_call_steps::drain::record_of;
+use smp_call_steps::drain::linked;
 use smp_words::Word;
 
 /// What `handle` has done.
@@ -52,7 +52,7 @@ fn take(words: Words, seat: &mut CpuSeat, number: u32) -> Option<u32>
     ensures known { (queue : List Call) × (seat.new.known ≡ taken_known queue result seat.old.known) }
 {
     let link = swap(words, seat, Word::Head(number), 0);
-    record_of(link)
+    linked(link)
 }
 
 /// Has handled.

@@ -10,7 +10,7 @@ ghost use Rattle.smp_queue.specs.Seat.{InHandle};
 
 use crate::accesses::Words;
 use crate::seat::{CpuSeat, load, store};
-use smp_call_steps::drain::record_of;
+use smp_call_steps::drain::linked;
 use smp_call_steps::handle::link_of;
 use smp_words::Word;
 
@@ -26,7 +26,7 @@ fn reverse_one(words: Words, seat: &mut CpuSeat, newer: Option<u32>, id: u32) ->
     ensures room { seat.old.known.drain.calls < MOST_CALLS }
 {
     let link = load(words, seat, Word::Next(id));
-    let older = record_of(link);
+    let older = linked(link);
     store(words, seat, Word::Next(id), link_of(newer));
     older
 }

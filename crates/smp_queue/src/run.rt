@@ -11,7 +11,7 @@ use crate::accesses::Words;
 use crate::handler::Handler;
 use crate::seat::call_steps::{run_async, run_sync};
 use crate::seat::{CpuSeat, load, store};
-use smp_call_steps::drain::record_of;
+use smp_call_steps::drain::linked;
 use smp_call_steps::handle::{Walk, link_of};
 use smp_words::call::Class;
 use smp_words::{Call, Word};
@@ -64,7 +64,7 @@ pub(crate) fn run_sync_calls<H: Handler>(
     let mut here = first;
     while let Some(id) = here {
         let link = load(words, seat, Word::Next(id));
-        let next = record_of(link);
+        let next = linked(link);
         let flags = load(words, seat, Word::Flags(id));
         match Class::of_flags(flags) {
             Class::Sync => {
@@ -102,7 +102,7 @@ pub(crate) fn run_async_calls<H: Handler>(
     let mut here = first;
     while let Some(id) = here {
         let link = load(words, seat, Word::Next(id));
-        let next = record_of(link);
+        let next = linked(link);
         let func = load(words, seat, Word::Func(id));
         let info = load(words, seat, Word::Info(id));
         let call = Call {

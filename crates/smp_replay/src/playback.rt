@@ -44,7 +44,7 @@ impl<A: Allocator> Playback<A> {
         ensures made { IfOk result (λ stopped. progress_of self.new stopped ≡ event_after (progress_of self.old false) event) }
         ensures count { self.new.position ≤ self.old.position + 1 }
     {
-        match self.core.turn(event) {
+        match self.core.apply(event) {
             Ok(seen) => {
                 write_event(&mut self.text, seen)?;
                 self.position += 1;

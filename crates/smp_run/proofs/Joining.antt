@@ -4,7 +4,7 @@ use Rattle.std.proofs.Common.{slice_index_or, inl, inr, refl, sym, subst, ◌∙
 use Rattle.std.proofs.lemmas.List.{length-append}
 use Rattle.std.proofs.lemmas.Bool.{cases_eq, cases_lt}
 use Rattle.smp_mask.specs.Mask.{has}
-use Rattle.smp_machine.specs.Place.{MachineValue, PlaceValue}
+use Rattle.smp_machine.specs.MachineCpu.{MachineValue, MachineCpuValue}
 use Rattle.smp_script.specs.declared.directive.Directive.{Directive}
 use Rattle.smp_script.specs.declared.directive.Directive.TheVariants.{Start, Step, Show, Do}
 use Rattle.smp_run.specs.declared.answer.Answer.{Answer}
@@ -84,7 +84,7 @@ line_gathered m this (Step cpu count) a b makings same made = made
 line_gathered m this Show a b makings same made = made
 
 -- a CPU's answers, put among those of others
-run_gathered : (m : MachineValue) (lines : List Directive) (from to : List Answer) (p : PlaceValue)
+run_gathered : (m : MachineValue) (lines : List Directive) (from to : List Answer) (p : MachineCpuValue)
     → Gathers (λ c. c ≡ p.calls.number) lines from to (length lines) → HasRun m lines from p → HasRun m lines to p
 run_gathered m lines from to p gathered run = let played = run.played in record {
   sent = run.sent;
@@ -101,18 +101,18 @@ run_gathered m lines from to p gathered run = let played = run.played in record 
 }
 
 -- of the CPUs below n, once all of them have begun, the lowest that is online, or none
-abbrev pub Lowest : MachineValue → List Directive → ℕ → Bool → List Answer → Option PlaceValue → Type 0
+abbrev pub Lowest : MachineValue → List Directive → ℕ → Bool → List Answer → Option MachineCpuValue → Type 0
 Lowest m lines n all answers None = all ≡ true → (c : ℕ) → c < n → has m.calls.online c ≡ false
 Lowest m lines n all answers (Some p) = IsSeated m p × (p.calls.number < n) × HasRun m lines answers p
     × (all ≡ true → (c : ℕ) → has m.calls.online c ≡ true → p.calls.number ≤ c)
 
 -- one CPU more is back
-pub lowest_more : (m : MachineValue) (lines : List Directive) (n : ℕ) (all : Bool) (old own new : List Answer) (last : Option PlaceValue)
-    (next result : PlaceValue) → IsSeated m next → next.calls.number ≡ n → HasRun m lines own next → Gathers (λ c. c ≡ n) lines own new (length lines)
+pub lowest_more : (m : MachineValue) (lines : List Directive) (n : ℕ) (all : Bool) (old own new : List Answer) (last : Option MachineCpuValue)
+    (next result : MachineCpuValue) → IsSeated m next → next.calls.number ≡ n → HasRun m lines own next → Gathers (λ c. c ≡ n) lines own new (length lines)
     → Gathers (λ c. c ≢ n) lines old new (length lines) → Lowest m lines n all old last → MatchOption last (result ≡ next) (λ c. result ≡ c)
     → Lowest m lines (n + 1) all new (Some result)
 lowest_more m lines n all old own new None next result seated number run gathered others was is =
-    subst (λ (p : PlaceValue). Lowest m lines (n + 1) all new (Some p)) (sym is) (
+    subst (λ (p : MachineCpuValue). Lowest m lines (n + 1) all new (Some p)) (sym is) (
       seated,
       omega (arith, number),
       run_gathered m lines own new next (subst (λ (x : ℕ). Gathers (λ c. c ≡ x) lines own new (length lines)) (sym number) gathered) run,
@@ -122,7 +122,7 @@ lowest_more m lines n all old own new None next result seated number run gathere
       ],
     )
 lowest_more m lines n all old own new (Some p) next result seated number run gathered others was is =
-    subst (λ (x : PlaceValue). Lowest m lines (n + 1) all new (Some x)) (sym is) (
+    subst (λ (x : MachineCpuValue). Lowest m lines (n + 1) all new (Some x)) (sym is) (
       was.0,
       (let less = was.1 in omega (arith, less)),
       run_gathered m lines old new p (λ i l a below mine. others i l a below (λ e. let less = was.1 in omega (arith, less, mine, e))) was.2,
@@ -130,7 +130,7 @@ lowest_more m lines n all old own new (Some p) next result seated number run gat
     )
 
 -- one that is not online
-pub lowest_none : (m : MachineValue) (lines : List Directive) (n : ℕ) (all : Bool) (answers : List Answer) (last : Option PlaceValue)
+pub lowest_none : (m : MachineValue) (lines : List Directive) (n : ℕ) (all : Bool) (answers : List Answer) (last : Option MachineCpuValue)
     → has m.calls.online n ≡ false → Lowest m lines n all answers last → Lowest m lines (n + 1) all answers last
 lowest_none m lines n all answers None off was = λ begun c below. elim (cases_eq c n) [
   | inl e ↦ subst (λ (x : ℕ). has m.calls.online x ≡ false) (sym e) off
@@ -139,13 +139,13 @@ lowest_none m lines n all answers None off was = λ begun c below. elim (cases_e
 lowest_none m lines n all answers (Some p) off was = (was.0, (let less = was.1 in omega (arith, less)), was.2, was.3)
 
 -- one that has not begun
-pub lowest_left : (m : MachineValue) (lines : List Directive) (n : ℕ) (all : Bool) (answers : List Answer) (last : Option PlaceValue)
+pub lowest_left : (m : MachineValue) (lines : List Directive) (n : ℕ) (all : Bool) (answers : List Answer) (last : Option MachineCpuValue)
     → Lowest m lines n all answers last → Lowest m lines (n + 1) false answers last
 lowest_left m lines n all answers None was = λ no. absurd (cc no)
 lowest_left m lines n all answers (Some p) was = (was.0, (let less = was.1 in omega (arith, less)), was.2, λ no. absurd (cc no))
 
 -- all are back
-pub all_joined : (m : MachineValue) (lines : List Directive) (n : ℕ) (answers : List Answer) (last : Option PlaceValue)
+pub all_joined : (m : MachineValue) (lines : List Directive) (n : ℕ) (answers : List Answer) (last : Option MachineCpuValue)
     → Answered m.calls.online (keys_at m) (IsJoined m.calls.online n) lines answers → Lowest m lines n true answers last
     → IfSome last (λ p. AreJoined m lines n p answers)
 all_joined m lines n answers None answered was = tt

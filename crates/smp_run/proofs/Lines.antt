@@ -3,7 +3,7 @@ use Rattle.std.proofs.Common.{◌≡◌, ℕ, zero, suc, ◌<◌, true, List, []
 use Rattle.std.specs.List.{AllByRecursion}
 use Rattle.smp_mask.specs.Mask.{has}
 use Rattle.smp_words.specs.Limits.{AreLimits}
-use Rattle.smp_machine.specs.Place.{MachineValue}
+use Rattle.smp_machine.specs.MachineCpu.{MachineValue}
 use Rattle.smp_script.specs.declared.directive.Directive.{Directive}
 use Rattle.smp_script.specs.declared.directive.Directive.TheVariants.{Start, Step, Show, Do}
 use Rattle.smp_run.specs.Answers.{Answered, IsJoined, cpu_of}

@@ -17,7 +17,7 @@ use Rattle.smp_multi.specs.Names.{OwnMove}
 use Rattle.smp_stop_steps.specs.declared.known.OwnMove.TheVariants.{Took, Found}
 use Rattle.smp_machine.specs.Moves.{patch_after}
 use Rattle.smp_machine.specs.Own.{Own, own_of}
-use Rattle.smp_machine.specs.Place.{MachineValue, PlaceValue}
+use Rattle.smp_machine.specs.MachineCpu.{MachineValue, MachineCpuValue}
 use Rattle.smp_machine.specs.Stops.{HasStopped, RefusedStill}
 use Rattle.smp_machine.specs.Works.{Works}
 use Rattle.smp_script.specs.declared.directive.Directive.{Directive}
@@ -31,20 +31,20 @@ use Rattle.smp_run.specs.declared.answer.Answer.{Answer}
 use Rattle.smp_run.specs.declared.answer.Answer.TheVariants.{Number, Turned}
 
 -- no stop was begun, and none collected
-made_none : (old new : PlaceValue) → new.stops.part.begun ≡ old.stops.part.begun → new.stops.part.collected ≡ old.stops.part.collected → HasMade [] old new
+made_none : (old new : MachineCpuValue) → new.stops.part.begun ≡ old.stops.part.begun → new.stops.part.collected ≡ old.stops.part.collected → HasMade [] old new
 made_none old new b c = record { begun = b ∙ sym (append-nil old.stops.part.begun); collected = c ∙ sym (append-nil old.stops.part.collected) }
 
-pub made_same : (old new : PlaceValue) → new ≡ old → HasMade [] old new
+pub made_same : (old new : MachineCpuValue) → new ≡ old → HasMade [] old new
 made_same old new e =
-    made_none old new (ap (λ (p : PlaceValue). p.stops.part.begun) e) (ap (λ (p : PlaceValue). p.stops.part.collected) e)
+    made_none old new (ap (λ (p : MachineCpuValue). p.stops.part.begun) e) (ap (λ (p : MachineCpuValue). p.stops.part.collected) e)
 
 -- by a call of a family
-pub made_called : (old new : PlaceValue) → KeepsStops old new → HasMade [] old new
+pub made_called : (old new : MachineCpuValue) → KeepsStops old new → HasMade [] old new
 made_called old new k =
     made_none old new (ap (λ (c : StopCpuValue). c.part.begun) k.stops_are) (ap (λ (c : StopCpuValue). c.part.collected) k.stops_are)
 
 -- these stops, and then those
-pub made_then : (xs ys : List Stop) (old mid new : PlaceValue) → HasMade xs old mid → HasMade ys mid new → HasMade (xs ++ ys) old new
+pub made_then : (xs ys : List Stop) (old mid new : MachineCpuValue) → HasMade xs old mid → HasMade ys mid new → HasMade (xs ++ ys) old new
 made_then xs ys old mid new f l = record {
   begun = l.begun ∙ (ap (λ (zs : List Work). zs ++ map (λ (s : Stop). s.work) ys) f.begun
       ∙ (append_assoc old.stops.part.begun (map (λ (s : Stop). s.work) xs) (map (λ (s : Stop). s.work) ys)
@@ -54,28 +54,28 @@ made_then xs ys old mid new f l = record {
       ∙ ap (λ (zs : List ℕ). old.stops.part.collected ++ zs) (sym (map-append (λ (s : Stop). s.word) xs ys))));
 }
 
-pub made_as : (xs ys : List Stop) (old new : PlaceValue) → xs ≡ ys → HasMade xs old new → HasMade ys old new
+pub made_as : (xs ys : List Stop) (old new : MachineCpuValue) → xs ≡ ys → HasMade xs old new → HasMade ys old new
 made_as xs ys old new e s = subst (λ (l : List Stop). HasMade l old new) e s
 
 module _ {H F : Type 0} (hears : H → Heard → H → Type 0) (runs : F → Called → F → Type 0) where
   -- a stretch of work that begins and collects no stop
-  made_worked : (old new : PlaceValue) (h h' : H) (f f' : F) (own : Own) → Works hears runs old h f new h' f' own
+  made_worked : (old new : MachineCpuValue) (h h' : H) (f f' : F) (own : Own) → Works hears runs old h f new h' f' own
       → own.begun ≡ old.stops.part.begun → own.collected ≡ old.stops.part.collected → HasMade [] old new
   made_worked old new h h' f f' own w b c =
       made_none old new (ap (λ (o : Own). o.begun) w.own_is ∙ b) (ap (λ (o : Own). o.collected) w.own_is ∙ c)
 
-  pub made_polled : (old new : PlaceValue) (h h' : H) (f f' : F) → Works hears runs old h f new h' f' (own_of old) → HasMade [] old new
+  pub made_polled : (old new : MachineCpuValue) (h h' : H) (f f' : F) → Works hears runs old h f new h' f' (own_of old) → HasMade [] old new
   made_polled old new h h' f f' w = made_worked old new h h' f f' (own_of old) w refl refl
 
   -- a stop
-  made_stop : (moves : Work → ℕ → List OwnMove) (work : Work) (old new : PlaceValue) (h h' : H) (f f' : F) (answer : ℤ)
+  made_stop : (moves : Work → ℕ → List OwnMove) (work : Work) (old new : MachineCpuValue) (h h' : H) (f f' : F) (answer : ℤ)
       → (s : HasStopped hears runs moves work old h f new h' f' answer) → HasMade (record { work = work; word = s.word } ∷ []) old new
   made_stop moves work old new h h' f f' answer s = record {
     begun = ap (λ (o : Own). o.begun) s.works.own_is;
     collected = ap (λ (o : Own). o.collected) s.works.own_is;
   }
 
-  pub makes_stop : (moves : Work → ℕ → List OwnMove) (P : Work → Type 0) (old new : PlaceValue) (h h' : H) (f f' : F) (made : Result ℤ SmpError)
+  pub makes_stop : (moves : Work → ℕ → List OwnMove) (P : Work → Type 0) (old new : MachineCpuValue) (h h' : H) (f f' : F) (made : Result ℤ SmpError)
       → IfOk made (λ v. (work : Work) × P work × HasStopped hears runs moves work old h f new h' f' v)
       → IfErr made (λ _. RefusedStill old h f new h' f')
       → (stops : List Stop) × IsStopOf P (answer_of Number made) stops × HasMade stops old new
@@ -85,7 +85,7 @@ module _ {H F : Type 0} (hears : H → Heard → H → Type 0) (runs : F → Cal
   makes_stop moves P old new h h' f f' (Err e) ok err = ([], refl, made_same old new err.kept)
 
   -- a key that is set
-  pub makes_set : (t : TableValue) (k : ℕ) (on : Bool) (old new : PlaceValue) (h h' : H) (f f' : F) (made : Result Bool SmpError)
+  pub makes_set : (t : TableValue) (k : ℕ) (on : Bool) (old new : MachineCpuValue) (h h' : H) (f f' : F) (made : Result Bool SmpError)
       → IfOk made (λ turned. Sets hears runs t k on old h f new h' f' turned) → IfErr made (λ _. RefusedStill old h f new h' f')
       → Makes t (Set k on) (answer_of Turned made) old new
   makes_set t k on old new h h' f f' (Ok false) sets err = ([], refl, made_worked old new h h' f f' _ sets.works refl refl)
@@ -98,7 +98,7 @@ module _ {H F : Type 0} (hears : H → Heard → H → Type 0) (runs : F → Cal
   makes_set t k on old new h h' f f' (Err e) sets err = ([], refl, made_same old new err.kept)
 
   -- a patch by one
-  patch_made : (t : TableValue) (k : ℕ) (up : Bool) (Says : ℤ → Type 0) (first : List OwnMove) (old new : PlaceValue) (h h' : H) (f f' : F) (answer : ℤ)
+  patch_made : (t : TableValue) (k : ℕ) (up : Bool) (Says : ℤ → Type 0) (first : List OwnMove) (old new : MachineCpuValue) (h h' : H) (f f' : F) (answer : ℤ)
       → Says answer → PatchesByOne hears runs t k up first old h f new h' f' answer
       → (stops : List Stop) × IsOneStop (IsPatchOf t k (step_of up)) Says stops × HasMade stops old new
   patch_made t k up Says first old new h h' f f' answer says p =
@@ -109,7 +109,7 @@ module _ {H F : Type 0} (hears : H → Heard → H → Type 0) (runs : F → Cal
       )
 
   -- a key that is counted
-  pub makes_count : (t : TableValue) (k : ℕ) (up : Bool) (old new : PlaceValue) (h h' : H) (f f' : F) (made : Result Bool SmpError)
+  pub makes_count : (t : TableValue) (k : ℕ) (up : Bool) (old new : MachineCpuValue) (h h' : H) (f f' : F) (made : Result Bool SmpError)
       → CountsOr hears runs t k up old h f new h' f' made
       → (stops : List Stop) × IsStopOfCount (IsPatchOf t k (step_of up)) (answer_of Turned made) stops × HasMade stops old new
   makes_count t k up old new h h' f f' (Ok false) c = ([], refl, made_worked old new h h' f f' _ c.1.works refl refl)
@@ -136,13 +136,13 @@ all_more P [] x all one = (one, tt)
 all_more P (y ∷ ys) x all one = (all.0, all_more P ys x all.1 one)
 
 -- a request made once more
-pub record MadeMore (m : MachineValue) (this : ℕ) (request : Request) (answer : Answer) (makings : List Making) (old new : PlaceValue) : Type 0 where
+pub record MadeMore (m : MachineValue) (this : ℕ) (request : Request) (answer : Answer) (makings : List Making) (old new : MachineCpuValue) : Type 0 where
   pub last : Making
   pub answer_is : answer ≡ last.answer
   pub each : AllByRecursion (IsMaking m this request) (makings ++ last ∷ [])
   pub stops : HasMade (stops_of (makings ++ last ∷ [])) old new
 
-pub made_more : (m now : MachineValue) (old mid new : PlaceValue) (request : Request) (answer : Answer) (makings : List Making) → now ≡ m
+pub made_more : (m now : MachineValue) (old mid new : MachineCpuValue) (request : Request) (answer : Answer) (makings : List Making) → now ≡ m
     → mid.calls.number ≡ old.calls.number → AllByRecursion (IsMaking m old.calls.number request) makings → HasMade (stops_of makings) old mid
     → IsAnswer now.calls.online (keys_at now) mid.calls.number request answer → Makes now.stops request answer mid new
     → MadeMore m old.calls.number request answer makings old new
@@ -187,7 +187,7 @@ pub lines_none : (m : MachineValue) (this : ℕ) (lines : List Directive) (answe
 lines_none m this lines answers = record { sized = refl; each = λ i l a x below. absurd (omega (arith, below)) }
 
 -- the stops of one line more
-pub lines_then : (made : List (List Making)) (here : List Making) (old mid new : PlaceValue) → HasMade (flat_map stops_of made) old mid
+pub lines_then : (made : List (List Making)) (here : List Making) (old mid new : MachineCpuValue) → HasMade (flat_map stops_of made) old mid
     → HasMade (stops_of here) mid new → HasMade (flat_map stops_of (made ++ here ∷ [])) old new
 lines_then made here old mid new s more =
     made_as _ _ old new (flat_map_more stops_of [] made here) (made_then (flat_map stops_of made) (stops_of here) old mid new s more)

@@ -15,7 +15,7 @@ use Rattle.smp_labels.specs.declared.kinds.SiteKind.TheVariants.{Nop, Jmp}
 use Rattle.smp_labels.proofs.Lawful.{entry_at-word}
 use Rattle.smp_mask.specs.Mask.{has}
 use Rattle.smp_machine.specs.Passes.{PassesValue}
-use Rattle.smp_machine.specs.Place.{MachineValue, PlaceValue}
+use Rattle.smp_machine.specs.MachineCpu.{MachineValue, MachineCpuValue}
 use Rattle.smp_multi.specs.Cpu.{CpuValue}
 use Rattle.smp_multi.specs.Names.{OwnMove, Reading, ReadKey, ReadSite}
 use Rattle.smp_multi.specs.Reads.{KeyAnswers, SiteAnswers, ReadsOneTable, jumps, reads}
@@ -43,7 +43,7 @@ reads_then xs ys rs ss c = λ i. record c {
 }
 
 -- a reading leaves the CPU where it is
-seated_reads : (m : MachineValue) (old new : PlaceValue) (looks : List OwnMove) (reading : Reading) → new.calls ≡ old.calls → new.passes ≡ old.passes
+seated_reads : (m : MachineValue) (old new : MachineCpuValue) (looks : List OwnMove) (reading : Reading) → new.calls ≡ old.calls → new.passes ≡ old.passes
     → new.stops ≡ reads_by looks (reading ∷ []) old.stops → IsSeated m old → IsSeated m new
 seated_reads m old new looks reading calls passes stops seated = record {
   at = record {
@@ -59,7 +59,7 @@ seated_reads m old new looks reading calls passes stops seated = record {
 }
 
 -- a key was read, or a site
-pub key_more : (m : MachineValue) (old new : PlaceValue) (k : ℕ) (on : Bool) → IsSeated m old → KeyAnswers k old.stops new.stops (Ok on)
+pub key_more : (m : MachineValue) (old new : MachineCpuValue) (k : ℕ) (on : Bool) → IsSeated m old → KeyAnswers k old.stops new.stops (Ok on)
     → new.calls ≡ old.calls → new.passes ≡ old.passes → ReadsMore m (ReadKey k on) old new
 key_more m old new k on seated a calls passes =
     let count : ℕ = a.1.0 in
@@ -75,7 +75,7 @@ key_more m old new k on seated a calls passes =
       one_table = a.2;
     }
 
-pub site_more : (m : MachineValue) (old new : PlaceValue) (i : ℕ) (kind : SiteKind) → IsSeated m old → SiteAnswers i old.stops new.stops (Ok kind)
+pub site_more : (m : MachineValue) (old new : MachineCpuValue) (i : ℕ) (kind : SiteKind) → IsSeated m old → SiteAnswers i old.stops new.stops (Ok kind)
     → new.calls ≡ old.calls → new.passes ≡ old.passes → ReadsMore m (ReadSite i (jumps kind)) old new
 site_more m old new i kind seated a calls passes =
     let reading : Reading = ReadSite i (jumps kind) in
@@ -91,7 +91,7 @@ site_more m old new i kind seated a calls passes =
     }
 
 -- nothing yet
-pub none_read : {X : Type 0} (f : ℕ → X → List Reading) (m : MachineValue) (p : PlaceValue) → IsSeated m p → HasRead m p p (numbered f 0 [])
+pub none_read : {X : Type 0} (f : ℕ → X → List Reading) (m : MachineValue) (p : MachineCpuValue) → IsSeated m p → HasRead m p p (numbered f 0 [])
 unfolding numbered
 none_read f m p seated = record {
   seated = seated;
@@ -102,7 +102,7 @@ none_read f m p seated = record {
 }
 
 -- one item more
-pub more_read : {X : Type 0} (f : ℕ → X → List Reading) (m : MachineValue) (old mid new : PlaceValue) (xs : List X) (x : X) (n : ℕ) (reading : Reading)
+pub more_read : {X : Type 0} (f : ℕ → X → List Reading) (m : MachineValue) (old mid new : MachineCpuValue) (xs : List X) (x : X) (n : ℕ) (reading : Reading)
     → length xs ≡ n → f n x ≡ reading ∷ [] → HasRead m old mid (numbered f 0 xs) → ReadsMore m reading mid new
     → HasRead m old new (numbered f 0 (xs ++ x ∷ []))
 more_read f m old mid new xs x n reading long one was more =
@@ -119,7 +119,7 @@ more_read f m old mid new xs x n reading long one was more =
     }
 
 -- the labels are still those of the machine
-pub same_labels : (m : MachineValue) (old mid new : PlaceValue) (labels : Labels) → IsSeated m old → mid.stops.setting ≡ old.stops.setting
+pub same_labels : (m : MachineValue) (old mid new : MachineCpuValue) (labels : Labels) → IsSeated m old → mid.stops.setting ≡ old.stops.setting
     → new.stops.setting ≡ mid.stops.setting → m.stops.setting.labels ≡ labels → new.stops.setting.labels ≡ labels
 same_labels m old mid new labels seated e f same = rw (f, e, seated.at.stops.setting) same
 
@@ -197,7 +197,7 @@ kinds_read labels keys sites c front known same keys_sized sites_sized readings 
 }
 
 -- the keys, and then the sites
-pub both_read : (m : MachineValue) (old mid new : PlaceValue) (xs ys : List Reading) → HasRead m old mid xs → HasRead m mid new ys → HasRead m old new (xs ++ ys)
+pub both_read : (m : MachineValue) (old mid new : MachineCpuValue) (xs ys : List Reading) → HasRead m old mid xs → HasRead m mid new ys → HasRead m old new (xs ++ ys)
 both_read m old mid new xs ys f l = record {
   seated = l.seated;
   calls_are = l.calls_are ∙ f.calls_are;

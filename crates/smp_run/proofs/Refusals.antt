@@ -9,7 +9,7 @@ use Rattle.smp_mask.specs.declared.error.SmpError.TheVariants as error
 use Rattle.smp_queue.specs.declared.handler.Heard.{Heard}
 use Rattle.smp_machine.specs.Counts.{CountsOr}
 use Rattle.smp_machine.specs.Keys.{MayChange, RefusesKey}
-use Rattle.smp_machine.specs.Place.{PlaceValue}
+use Rattle.smp_machine.specs.MachineCpu.{MachineCpuValue}
 use Rattle.smp_machine.specs.Stops.{RefusesOne, RefusesTwo}
 use Rattle.smp_multi.specs.Cpu.{TableValue}
 use Rattle.smp_multi.specs.Nudges.{end_of}
@@ -18,7 +18,7 @@ use Rattle.smp_run.specs.Answers.{answer_of, IsCount, IsNumber, IsRefusedOr, IsT
 use Rattle.smp_run.specs.declared.answer.Answer.{Answer}
 use Rattle.smp_run.specs.declared.answer.Answer.TheVariants.{Number, Turned, Refused}
 
-refused_one : (t : TableValue) (old : PlaceValue) (dst : ℕ) (e : SmpError) → old.stops.inside ≡ None → RefusesOne t old dst e
+refused_one : (t : TableValue) (old : MachineCpuValue) (dst : ℕ) (e : SmpError) → old.stops.inside ≡ None → RefusesOne t old dst e
     → IsRefusedOr (one_refusal t.setting.online dst) IsNumber (Refused e)
 refused_one t old dst error.NoStopper free r = rw r.1 refl
 refused_one t old dst error.BadArgument free r = absurd (r free)
@@ -34,14 +34,14 @@ refused_one t old dst (error.BadMask k) free r = absurd r
 refused_one t old dst (error.StreamFailed k) free r = absurd r
 refused_one t old dst (error.KeyRange k) free r = absurd r
 
-pub one_answered : (t : TableValue) (old : PlaceValue) (dst online : ℕ) (made : Result ℤ SmpError) → t.setting.online ≡ online → old.stops.inside ≡ None
+pub one_answered : (t : TableValue) (old : MachineCpuValue) (dst online : ℕ) (made : Result ℤ SmpError) → t.setting.online ≡ online → old.stops.inside ≡ None
     → IfOk made (λ _. has t.setting.online dst ≡ true) → IfErr made (λ e. RefusesOne t old dst e)
     → IsRefusedOr (one_refusal online dst) IsNumber (answer_of Number made)
 one_answered t old dst online (Ok v) same free ok err = rw (← same, ok) tt
 one_answered t old dst online (Err e) same free ok err =
     subst (λ (x : ℕ). IsRefusedOr (one_refusal x dst) IsNumber (Refused e)) same (refused_one t old dst e free err)
 
-refused_two : (t : TableValue) (old : PlaceValue) (a b : ℕ) (e : SmpError) → old.stops.inside ≡ None → RefusesTwo t old a b e
+refused_two : (t : TableValue) (old : MachineCpuValue) (a b : ℕ) (e : SmpError) → old.stops.inside ≡ None → RefusesTwo t old a b e
     → IsRefusedOr (two_refusal t.setting.online a b) IsNumber (Refused e)
 refused_two t old a b error.NoStopper free (_, other, inl off) = let e : (a == b) ≡ false = ne_eqb a b other in rw (e, off) refl
 refused_two t old a b error.NoStopper free (_, other, inr off) = let e : (a == b) ≡ false = ne_eqb a b other in
@@ -60,7 +60,7 @@ refused_two t old a b (error.BadMask k) free r = absurd r
 refused_two t old a b (error.StreamFailed k) free r = absurd r
 refused_two t old a b (error.KeyRange k) free r = absurd r
 
-pub two_answered : (t : TableValue) (old : PlaceValue) (a b online : ℕ) (made : Result ℤ SmpError) → t.setting.online ≡ online → old.stops.inside ≡ None
+pub two_answered : (t : TableValue) (old : MachineCpuValue) (a b online : ℕ) (made : Result ℤ SmpError) → t.setting.online ≡ online → old.stops.inside ≡ None
     → IfOk made (λ _. (a ≢ b) × (has t.setting.online a ≡ true) × (has t.setting.online b ≡ true)) → IfErr made (λ e. RefusesTwo t old a b e)
     → IsRefusedOr (two_refusal online a b) IsNumber (answer_of Number made)
 two_answered t old a b online (Ok v) same free ok err = let e : (a == b) ≡ false = ne_eqb a b ok.0 in rw (← same, e, ok.1, ok.2) tt
@@ -68,12 +68,12 @@ two_answered t old a b online (Err e) same free ok err =
     subst (λ (x : ℕ). IsRefusedOr (two_refusal x a b) IsNumber (Refused e)) same (refused_two t old a b e free err)
 
 -- a stop of all CPUs is not refused
-pub all_answered : (old : PlaceValue) (made : Result ℤ SmpError) → old.stops.inside ≡ None
+pub all_answered : (old : MachineCpuValue) (made : Result ℤ SmpError) → old.stops.inside ≡ None
     → IfErr made (λ e. (e ≡ error.BadArgument) × (old.stops.inside ≢ None)) → IsNumber (answer_of Number made)
 all_answered old (Ok v) free err = tt
 all_answered old (Err e) free err = absurd (err.1 free)
 
-refused_key : (t : TableValue) (old : PlaceValue) (k : ℕ) (Fine : Answer → Type 0) (e : SmpError) → old.stops.inside ≡ None → RefusesKey t old k e
+refused_key : (t : TableValue) (old : MachineCpuValue) (k : ℕ) (Fine : Answer → Type 0) (e : SmpError) → old.stops.inside ≡ None → RefusesKey t old k e
     → IsRefusedOr (key_refusal t.setting.labels.keys k) Fine (Refused e)
 refused_key t old k Fine error.BadArgument free (inl inside) = absurd (inside free)
 refused_key t old k Fine error.BadArgument free (inr above) = let e : nat_lt k t.setting.labels.keys ≡ false = le-ltb k t.setting.labels.keys above in rw e refl
@@ -93,14 +93,14 @@ refused_key t old k Fine (error.KeyRange n) free r = absurd r
 has_key : (keys k : ℕ) (Fine : Answer → Type 0) (answer : Answer) → k < keys → Fine answer → IsRefusedOr (key_refusal keys k) Fine answer
 has_key keys k Fine answer below fine = let e : nat_lt k keys ≡ true = lt-ltb k keys below in rw e fine
 
-pub set_answered : (t : TableValue) (old : PlaceValue) (k : ℕ) (made : Result Bool SmpError) → old.stops.inside ≡ None → IfOk made (λ _. MayChange t old k)
+pub set_answered : (t : TableValue) (old : MachineCpuValue) (k : ℕ) (made : Result Bool SmpError) → old.stops.inside ≡ None → IfOk made (λ _. MayChange t old k)
     → IfErr made (λ e. RefusesKey t old k e) → IsRefusedOr (key_refusal t.setting.labels.keys k) IsTruth (answer_of Turned made)
 set_answered t old k (Ok turned) free ok err = has_key t.setting.labels.keys k IsTruth (Turned turned) ok.key tt
 set_answered t old k (Err e) free ok err = refused_key t old k IsTruth e free err
 
 module _ {H F : Type 0} (hears : H → Heard → H → Type 0) (runs : F → Called → F → Type 0) where
   -- what a change of a count answers, and what it leaves
-  pub counted : (t : TableValue) (k : ℕ) (up : Bool) (old : PlaceValue) (h : H) (f : F) (new : PlaceValue) (h' : H) (f' : F) (made : Result Bool SmpError)
+  pub counted : (t : TableValue) (k : ℕ) (up : Bool) (old : MachineCpuValue) (h : H) (f : F) (new : MachineCpuValue) (h' : H) (f' : F) (made : Result Bool SmpError)
       → old.stops.inside ≡ None → CountsOr hears runs t k up old h f new h' f' made
       → IsRefusedOr (key_refusal t.setting.labels.keys k) (IsCount (end_of up)) (answer_of Turned made)
   counted t k up old h f new h' f' (Ok turned) free c = has_key t.setting.labels.keys k (IsCount (end_of up)) (Turned turned) c.0.key tt

@@ -10,7 +10,7 @@ use Rattle.smp_queue.specs.declared.audit.Audit.{Audit}
 use Rattle.smp_queue.specs.declared.audit.Audit.TheVariants.{Drained, Left}
 use Rattle.smp_multi.specs.Cpu.{CpuValue as StopCpuValue}
 use Rattle.smp_multi.specs.Names.{Reading}
-use Rattle.smp_machine.specs.Place.{MachineValue, PlaceValue, BootValue, fresh_place}
+use Rattle.smp_machine.specs.MachineCpu.{MachineValue, MachineCpuValue, BootValue, fresh_place}
 use Rattle.smp_script.specs.declared.directive.Directive.{Directive}
 use Rattle.smp_run.specs.Driven.{HasRun}
 use Rattle.smp_run.specs.Made.{HasMade, HasPlayed, stops_of}
@@ -23,26 +23,26 @@ use Rattle.smp_run.proofs.Sending.{sent_as, sent_then}
 use Rattle.smp_run.proofs.Waiting.{waits_still}
 
 -- a CPU that was given out has done nothing
-pub is_new : (b : BootValue) (m : MachineValue) (n : ℕ) (p : PlaceValue) → b.machine ≡ m → p ≡ fresh_place b.machine n → p ≡ fresh_place m p.calls.number
+pub is_new : (b : BootValue) (m : MachineValue) (n : ℕ) (p : MachineCpuValue) → b.machine ≡ m → p ≡ fresh_place b.machine n → p ≡ fresh_place m p.calls.number
 is_new b m n p same is =
     let here : p ≡ fresh_place m n = is ∙ ap (λ (x : MachineValue). fresh_place x n) same in
-    here ∙ ap (λ (x : PlaceValue). fresh_place m x.calls.number) (sym here)
+    here ∙ ap (λ (x : MachineCpuValue). fresh_place m x.calls.number) (sym here)
 
 -- a new CPU has made its lines, and then polled
-pub run_polled : (m : MachineValue) (lines : List Directive) (answers : List Answer) (old mid new : PlaceValue) → old ≡ fresh_place m old.calls.number
+pub run_polled : (m : MachineValue) (lines : List Directive) (answers : List Answer) (old mid new : MachineCpuValue) → old ≡ fresh_place m old.calls.number
     → new.calls.number ≡ old.calls.number → HasSent (script_calls m.calls.online old.calls.number lines) old mid → HasPlayed m lines answers old mid
     → HasSent [] mid new → HasMade [] mid new → HasWaited new → HasRun m lines answers new
 run_polled m lines answers old mid new fresh number sent played none still waited =
     let this = old.calls.number in let calls = script_calls m.calls.online this lines in
     let all : HasSent calls (fresh_place m this) new =
-    subst (λ (p : PlaceValue). HasSent calls p new) fresh (sent_as (calls ++ []) calls old new (append-nil calls) (sent_then calls [] old mid new sent none)) in
+    subst (λ (p : MachineCpuValue). HasSent calls p new) fresh (sent_as (calls ++ []) calls old new (append-nil calls) (sent_then calls [] old mid new sent none)) in
     let stops = flat_map stops_of played.made in
     let done : HasPlayed m lines answers old new = record {
       made = played.made;
       lines_are = played.lines_are;
       stops = made_as (stops ++ []) stops old new (append-nil stops) (made_then stops [] old mid new played.stops still);
     } in
-    let kept : HasPlayed m lines answers (fresh_place m this) new = subst (λ (p : PlaceValue). HasPlayed m lines answers p new) fresh done in
+    let kept : HasPlayed m lines answers (fresh_place m this) new = subst (λ (p : MachineCpuValue). HasPlayed m lines answers p new) fresh done in
     record {
       sent = subst (λ (k : ℕ). sent_of new.calls.part.sent ≡ script_calls m.calls.online k lines) (sym number) all;
       waited = waited;
@@ -50,7 +50,7 @@ run_polled m lines answers old mid new fresh number sent played none still waite
     }
 
 -- it has read since
-pub run_read : (m : MachineValue) (lines : List Directive) (answers : List Answer) (old new : PlaceValue) (readings : List Reading)
+pub run_read : (m : MachineValue) (lines : List Directive) (answers : List Answer) (old new : MachineCpuValue) (readings : List Reading)
     → HasRead m old new readings → HasRun m lines answers old → HasRun m lines answers new
 run_read m lines answers old new readings read run =
     let played = run.played in
@@ -79,7 +79,7 @@ count_sent to [] = refl
 count_sent to (x ∷ xs) = count_one (x.to == to) _ (sent_to to xs) _ (filter (λ s. s.to == to) (sent_of xs)) (count_sent to xs)
 
 -- the rows of the last CPU are of what its lines ask for
-pub has_asked : (m : MachineValue) (lines : List Directive) (answers : List Answer) (last : PlaceValue) (ending : Audit)
+pub has_asked : (m : MachineValue) (lines : List Directive) (answers : List Answer) (last : MachineCpuValue) (ending : Audit)
     → HasRun m lines answers last → IfDrained ending (HasRowsOf last.calls) → IfDrained ending (HasAsked m.calls.online last.calls.number lines)
 has_asked m lines answers last (Drained t) run rows = λ to below.
     (rows to below).0 ∙ ap (λ (n : ℕ). n % 2 ^ 64) (count_sent to last.calls.part.sent

@@ -21,7 +21,7 @@ use Rattle.smp_calls.specs.Records.{call_by, class_for, many_call, single_record
 use Rattle.smp_calls.specs.Rounds.{Picks}
 use Rattle.smp_calls.specs.Targets.{IsAny, HasNone, is_target, remote}
 use Rattle.smp_machine.specs.Calls.{RefusedInHand}
-use Rattle.smp_machine.specs.Place.{MachineValue, PlaceValue}
+use Rattle.smp_machine.specs.MachineCpu.{MachineValue, MachineCpuValue}
 use Rattle.smp_script.specs.declared.directive.Directive.{Directive}
 use Rattle.smp_script.specs.declared.request.Request.{Request}
 use Rattle.smp_run.specs.Sent.{Sent, HasSent, sent_of, calls_to, cpus_with, passing_below, first_only, queue_of_one, queue_of_any, line_calls, repeated, request_calls, script_calls}
@@ -33,25 +33,25 @@ sent_queued call [] = refl
 sent_queued call (q ∷ qs) = ap (λ (l : List Sent). record { call = call q.to; to = q.to } ∷ l) (sent_queued call qs)
 
 -- calls to these CPUs were queued
-sent_calls : (old new : PlaceValue) (call : ℕ → Call) (queued : List Queued) (to : List ℕ)
+sent_calls : (old new : MachineCpuValue) (call : ℕ → Call) (queued : List Queued) (to : List ℕ)
     → new.calls.part.sent ≡ old.calls.part.sent ++ sendings call queued → destinations queued ≡ to → HasSent (calls_to call to) old new
 sent_calls old new call queued to e d =
     ap sent_of e ∙ (map-append _ old.calls.part.sent (sendings call queued)
     ∙ ap (λ (l : List Sent). sent_of old.calls.part.sent ++ l) (sent_queued call queued ∙ ap (λ (l : List ℕ). calls_to call l) d))
 
 -- none was
-pub sent_none : (old new : PlaceValue) → new.calls.part.sent ≡ old.calls.part.sent → HasSent [] old new
+pub sent_none : (old new : MachineCpuValue) → new.calls.part.sent ≡ old.calls.part.sent → HasSent [] old new
 sent_none old new e = ap sent_of e ∙ sym (append-nil (sent_of old.calls.part.sent))
 
-sent_nothing : (old new : PlaceValue) → new.calls.part.sent ≡ old.calls.part.sent ++ [] → HasSent [] old new
+sent_nothing : (old new : MachineCpuValue) → new.calls.part.sent ≡ old.calls.part.sent ++ [] → HasSent [] old new
 sent_nothing old new e = sent_none old new (e ∙ append-nil old.calls.part.sent)
 
 -- the same calls by another name
-pub sent_as : (xs ys : List Sent) (old new : PlaceValue) → xs ≡ ys → HasSent xs old new → HasSent ys old new
+pub sent_as : (xs ys : List Sent) (old new : MachineCpuValue) → xs ≡ ys → HasSent xs old new → HasSent ys old new
 sent_as xs ys old new e s = subst (λ (l : List Sent). HasSent l old new) e s
 
 -- these calls, and then those
-pub sent_then : (xs ys : List Sent) (old mid new : PlaceValue) → HasSent xs old mid → HasSent ys mid new → HasSent (xs ++ ys) old new
+pub sent_then : (xs ys : List Sent) (old mid new : MachineCpuValue) → HasSent xs old mid → HasSent ys mid new → HasSent (xs ++ ys) old new
 sent_then xs ys old mid new f l = l ∙ (ap (λ (zs : List Sent). zs ++ ys) f ∙ append_assoc (sent_of old.calls.part.sent) xs ys)
 
 -- the queue of the CPU called, where it is online and another one
@@ -70,7 +70,7 @@ no_queue online this dst off = rw off refl
 
 -- a call to one CPU, by some record and of some class
 module _ {H : Type 0} (leads : H → Heard → H → Type 0) where
-  by_one : (online dst k func info : ℕ) (class : Class) (wait : Bool) (old new : PlaceValue) (h h' : H) → has online dst ≡ true
+  by_one : (online dst k func info : ℕ) (class : Class) (wait : Bool) (old new : MachineCpuValue) (h h' : H) → has online dst ≡ true
       → dst ≢ old.calls.number → CallsBy leads old.calls h new.calls h' k class dst func info wait
       → HasSent (calls_to (λ _. call_by old.calls.number k class func info) (queue_of_one online old.calls.number dst)) old new
   by_one online dst k func info class wait old new h h' there other c =
@@ -78,11 +78,11 @@ module _ {H : Type 0} (leads : H → Heard → H → Type 0) where
       (sym (one_queue online old.calls.number dst there other))) (sent_calls old new (λ _. call_by old.calls.number k class func info) c.0 (dst ∷ []) c.2.sent_is c.1)
 
   -- to the own CPU, or to one that is not online
-  by_none : (online dst : ℕ) (call : Call) (old new : PlaceValue) → queue_of_one online old.calls.number dst ≡ []
+  by_none : (online dst : ℕ) (call : Call) (old new : MachineCpuValue) → queue_of_one online old.calls.number dst ≡ []
       → HasSent [] old new → HasSent (calls_to (λ _. call) (queue_of_one online old.calls.number dst)) old new
   by_none online dst call old new none s = sent_as _ _ old new (ap (λ (l : List ℕ). calls_to (λ _. call) l) (sym none)) s
 
-  pub single_sent : (online dst func info : ℕ) (wait : Bool) (old new : PlaceValue) (h h' : H) (made : Result (Unit {0}) SmpError)
+  pub single_sent : (online dst func info : ℕ) (wait : Bool) (old new : MachineCpuValue) (h h' : H) (made : Result (Unit {0}) SmpError)
       → old.stops.inside ≡ None
       → IfOk made (λ _. dst ≢ old.calls.number → (has online dst ≡ true) × CallsOne leads old.calls h new.calls h' dst func info wait)
       → IfOk made (λ _. dst ≡ old.calls.number → CallsHere leads old.calls h new.calls h' func info wait)
@@ -97,7 +97,7 @@ module _ {H : Type 0} (leads : H → Heard → H → Type 0) where
   single_sent online dst func info wait old new h h' (Err e) free queued here (inr (_, is, other, off, none)) =
       by_none online dst _ old new (no_queue online old.calls.number dst off) (sent_nothing old new none.sent_is)
 
-  pub user_sent : (online dst u func info : ℕ) (old new : PlaceValue) (h h' : H)
+  pub user_sent : (online dst u func info : ℕ) (old new : MachineCpuValue) (h h' : H)
       → (dst ≢ old.calls.number → (has online dst ≡ true) × CallsBy leads old.calls h new.calls h' (user_record u) Async dst func info false)
       → (dst ≡ old.calls.number → CallsUserHere leads old.calls h new.calls h' u func info)
       → HasSent (calls_to (λ _. call_by old.calls.number (user_record u) Async func info) (queue_of_one online old.calls.number dst)) old new
@@ -204,7 +204,7 @@ remote_passing mask online this says called picks =
     ∙ other_picked (has mask c) (has online c) (c == this) (says c))
 
 module _ {H : Type 0} (leads : H → Heard → H → Type 0) where
-  pub any_sent : (online mask func info : ℕ) (wait : Bool) (old new : PlaceValue) (h h' : H) (made : Result ℕ SmpError) → old.stops.inside ≡ None
+  pub any_sent : (online mask func info : ℕ) (wait : Bool) (old new : MachineCpuValue) (h h' : H) (made : Result ℕ SmpError) → old.stops.inside ≡ None
       → ((c : ℕ) → has online c ≡ true → c < cpus)
       → IfOk made (λ cpu. IsAny mask online old.calls.number cpu)
       → IfOk made (λ cpu. cpu ≢ old.calls.number → CallsOne leads old.calls h new.calls h' cpu func info wait)
@@ -235,14 +235,14 @@ module _ {H : Type 0} (leads : H → Heard → H → Type 0) where
   with_sent old new h h' call queued (Some heard) wait c =
       c.later.sent_is ∙ (append-nil c.middle.part.sent ∙ c.first.sent_is)
 
-  to_many : (to : List ℕ) (func info : ℕ) (here : Option Heard) (wait : Bool) (old new : PlaceValue) (h h' : H) (all : List ℕ) → to ≡ all
+  to_many : (to : List ℕ) (func info : ℕ) (here : Option Heard) (wait : Bool) (old new : MachineCpuValue) (h h' : H) (all : List ℕ) → to ≡ all
       → CallsMany leads old.calls h new.calls h' to (class_for wait) func info here wait
       → HasSent (calls_to (many_call old.calls.number (class_for wait) func info) all) old new
   to_many to func info here wait old new h h' all e c =
       let call = many_call old.calls.number (class_for wait) func info in
       sent_calls old new call c.0 all (with_sent old.calls new.calls h h' call c.0 here wait c.2) (c.1 ∙ e)
 
-  pub many_sent : (online mask func info : ℕ) (wait : Bool) (old new : PlaceValue) (h h' : H) (made : Result ℕ SmpError) → old.stops.inside ≡ None
+  pub many_sent : (online mask func info : ℕ) (wait : Bool) (old new : MachineCpuValue) (h h' : H) (made : Result ℕ SmpError) → old.stops.inside ≡ None
       → IfOk made (λ called. (c : ℕ) → has called c ≡ is_target mask online old.calls.number false c)
       → IfOk made (λ called. CallsMany leads old.calls h new.calls h' (members called) (class_for wait) func info None wait)
       → IfErr made (λ e. RefusedInHand e old h new h')
@@ -252,7 +252,7 @@ module _ {H : Type 0} (leads : H → Heard → H → Type 0) where
       (members_passing called (is_target mask online old.calls.number false) NR_CPUS (λ i l. targets i)) c
   many_sent online mask func info wait old new h h' (Err e) free targets c refused = absurd (refused.in_hand free)
 
-  pub cond_sent : (online mask func info : ℕ) (says : ℕ → Bool) (here : ℕ → Option Heard) (wait : Bool) (old new : PlaceValue) (h h' : H)
+  pub cond_sent : (online mask func info : ℕ) (says : ℕ → Bool) (here : ℕ → Option Heard) (wait : Bool) (old new : MachineCpuValue) (h h' : H)
       (made : Result ℕ SmpError) → old.stops.inside ≡ None
       → IfOk made (λ called. Picks (λ c answer. answer ≡ says c) (is_target mask online old.calls.number true) called)
       → IfOk made (λ called. CallsMany leads old.calls h new.calls h' (remote old.calls.number called) (class_for wait) func info (here called) wait)
@@ -265,7 +265,7 @@ module _ {H : Type 0} (leads : H → Heard → H → Type 0) where
   cond_sent online mask func info says here wait old new h h' (Err e) free picks c refused = absurd (refused.in_hand free)
 
 -- the calls of one line more
-pub script_more : (m now : MachineValue) (old mid new : PlaceValue) (lines : List Directive) (at : ℕ) (line : Directive) → at < length lines
+pub script_more : (m now : MachineValue) (old mid new : MachineCpuValue) (lines : List Directive) (at : ℕ) (line : Directive) → at < length lines
     → line ≡ slice_index_or lines at line → now ≡ m → mid.calls.number ≡ old.calls.number
     → HasSent (script_calls m.calls.online old.calls.number (take at lines)) old mid
     → HasSent (line_calls now.calls.online mid.calls.number line) mid new
@@ -281,7 +281,7 @@ script_more m now old mid new lines at line below is same number s more =
     (sent_then (flat_map f (take at lines)) (f line) old mid new s here)
 
 -- the calls of a request once more
-pub repeat_more : (m now : MachineValue) (old mid new : PlaceValue) (request : Request) (n : ℕ) → now ≡ m → mid.calls.number ≡ old.calls.number
+pub repeat_more : (m now : MachineValue) (old mid new : MachineCpuValue) (request : Request) (n : ℕ) → now ≡ m → mid.calls.number ≡ old.calls.number
     → HasSent (repeated n (request_calls m.calls.online old.calls.number request)) old mid
     → HasSent (request_calls now.calls.online mid.calls.number request) mid new
     → HasSent (repeated (suc n) (request_calls m.calls.online old.calls.number request)) old new
@@ -293,6 +293,6 @@ repeat_more m now old mid new request n same number s more =
     sent_then (repeated n (request_calls m.calls.online old.calls.number request)) (request_calls m.calls.online old.calls.number request) old mid new s here
 
 -- those of none
-pub repeat_none : (old : PlaceValue) (xs : List Sent) → HasSent (repeated 0 xs) old old
+pub repeat_none : (old : MachineCpuValue) (xs : List Sent) → HasSent (repeated 0 xs) old old
 unfolding repeated
 repeat_none old xs = sent_none old old refl

@@ -14,7 +14,7 @@ use Rattle.smp_machine.specs.Keys.{Sets}
 use Rattle.smp_multi.specs.Names.{OwnMove}
 use Rattle.smp_machine.specs.Own.{Own}
 use Rattle.smp_machine.specs.Passes.{PassesValue}
-use Rattle.smp_machine.specs.Place.{MachineValue, PlaceValue}
+use Rattle.smp_machine.specs.MachineCpu.{MachineValue, MachineCpuValue}
 use Rattle.smp_machine.specs.Stops.{HasStopped, RefusedStill}
 use Rattle.smp_machine.specs.Works.{Works}
 use Rattle.smp_machine.proofs.Works.{at_still}
@@ -23,11 +23,11 @@ use Rattle.smp_run.specs.Sent.{HasSent}
 use Rattle.smp_run.proofs.Sending.{sent_none}
 
 -- nothing has changed
-pub still_same : (m : MachineValue) (old new : PlaceValue) → new ≡ old → IsSeated m old → IsStill m old new
-still_same m old new e seated = subst (λ (x : PlaceValue). IsStill m old x) (sym e) (record { seated = seated; number_is = refl })
+pub still_same : (m : MachineValue) (old new : MachineCpuValue) → new ≡ old → IsSeated m old → IsStill m old new
+still_same m old new e seated = subst (λ (x : MachineCpuValue). IsStill m old x) (sym e) (record { seated = seated; number_is = refl })
 
 -- a call of a family
-pub still_called : (m : MachineValue) (old new : PlaceValue) → KeepsStops old new → IsSeated m old → IsStill m old new
+pub still_called : (m : MachineValue) (old new : MachineCpuValue) → KeepsStops old new → IsSeated m old → IsStill m old new
 still_called m old new k seated = record {
   seated = record {
     at = record {
@@ -41,12 +41,12 @@ still_called m old new k seated = record {
   number_is = k.same.number_is;
 }
 
-pub seated_called : (m : MachineValue) (old new : PlaceValue) → KeepsStops old new → IsSeated m old → IsSeated m new
+pub seated_called : (m : MachineValue) (old new : MachineCpuValue) → KeepsStops old new → IsSeated m old → IsSeated m new
 seated_called m old new k seated = (still_called m old new k seated).seated
 
 module _ {H F : Type 0} (hears : H → Heard → H → Type 0) (runs : F → Called → F → Type 0) where
   -- a stretch of work, after which it is in no stop
-  pub still_worked : (m : MachineValue) (old new : PlaceValue) (h h' : H) (f f' : F) (own : Own) → Works hears runs old h f new h' f' own
+  pub still_worked : (m : MachineValue) (old new : MachineCpuValue) (h h' : H) (f f' : F) (own : Own) → Works hears runs old h f new h' f' own
       → new.stops.inside ≡ None → IsSeated m old → IsStill m old new
   still_worked m old new h h' f f' own w outside seated =
       let number : new.calls.number ≡ old.calls.number = ap (λ (x : CallCpuValue). x.number) w.calls_kept in
@@ -60,60 +60,60 @@ module _ {H F : Type 0} (hears : H → Heard → H → Type 0) (runs : F → Cal
       }
 
   -- a stretch of work after which it is in no stop, or nothing at all
-  abbrev pub Quiet : PlaceValue → H → F → PlaceValue → H → F → Type 0
+  abbrev pub Quiet : MachineCpuValue → H → F → MachineCpuValue → H → F → Type 0
   Quiet old h f new h' f' = ((own : Own) × Works hears runs old h f new h' f' own × (new.stops.inside ≡ None)) ⊎ (new ≡ old)
 
-  pub still_quiet : (m : MachineValue) (old new : PlaceValue) (h h' : H) (f f' : F) → Quiet old h f new h' f' → IsSeated m old → IsStill m old new
+  pub still_quiet : (m : MachineValue) (old new : MachineCpuValue) (h h' : H) (f f' : F) → Quiet old h f new h' f' → IsSeated m old → IsStill m old new
   still_quiet m old new h h' f f' (inl (own, w, outside)) seated = still_worked m old new h h' f f' own w outside seated
   still_quiet m old new h h' f f' (inr same) seated = still_same m old new same seated
 
-  pub sent_worked : (old new : PlaceValue) (h h' : H) (f f' : F) (own : Own) → Works hears runs old h f new h' f' own → HasSent [] old new
+  pub sent_worked : (old new : MachineCpuValue) (h h' : H) (f f' : F) (own : Own) → Works hears runs old h f new h' f' own → HasSent [] old new
   sent_worked old new h h' f f' own w = sent_none old new (ap (λ (x : CallCpuValue). x.part.sent) w.calls_kept)
 
-  sent_quiet : (old new : PlaceValue) (h h' : H) (f f' : F) → Quiet old h f new h' f' → HasSent [] old new
+  sent_quiet : (old new : MachineCpuValue) (h h' : H) (f f' : F) → Quiet old h f new h' f' → HasSent [] old new
   sent_quiet old new h h' f f' (inl (own, w, outside)) = sent_worked old new h h' f f' own w
-  sent_quiet old new h h' f f' (inr same) = sent_none old new (ap (λ (x : PlaceValue). x.calls.part.sent) same)
+  sent_quiet old new h h' f f' (inr same) = sent_none old new (ap (λ (x : MachineCpuValue). x.calls.part.sent) same)
 
   -- a stop
-  pub quiet_stopped : (moves : Work → ℕ → List OwnMove) (P : Work → Type 0) (old new : PlaceValue) (h h' : H) (f f' : F) (made : Result ℤ SmpError)
+  pub quiet_stopped : (moves : Work → ℕ → List OwnMove) (P : Work → Type 0) (old new : MachineCpuValue) (h h' : H) (f f' : F) (made : Result ℤ SmpError)
       → IfOk made (λ v. (work : Work) × P work × HasStopped hears runs moves work old h f new h' f' v)
       → IfErr made (λ _. RefusedStill old h f new h' f') → Quiet old h f new h' f'
   quiet_stopped moves P old new h h' f f' (Ok v) ok err = inl (_, ok.2.works, ok.2.outside)
   quiet_stopped moves P old new h h' f f' (Err e) ok err = inr err.kept
 
-  pub still_stopped : (m : MachineValue) (moves : Work → ℕ → List OwnMove) (P : Work → Type 0) (old new : PlaceValue) (h h' : H) (f f' : F)
+  pub still_stopped : (m : MachineValue) (moves : Work → ℕ → List OwnMove) (P : Work → Type 0) (old new : MachineCpuValue) (h h' : H) (f f' : F)
       (made : Result ℤ SmpError)
       → IfOk made (λ v. (work : Work) × P work × HasStopped hears runs moves work old h f new h' f' v)
       → IfErr made (λ _. RefusedStill old h f new h' f') → IsSeated m old → IsStill m old new
   still_stopped m moves P old new h h' f f' made ok err seated =
       still_quiet m old new h h' f f' (quiet_stopped moves P old new h h' f f' made ok err) seated
 
-  pub sent_stopped : (moves : Work → ℕ → List OwnMove) (P : Work → Type 0) (old new : PlaceValue) (h h' : H) (f f' : F) (made : Result ℤ SmpError)
+  pub sent_stopped : (moves : Work → ℕ → List OwnMove) (P : Work → Type 0) (old new : MachineCpuValue) (h h' : H) (f f' : F) (made : Result ℤ SmpError)
       → IfOk made (λ v. (work : Work) × P work × HasStopped hears runs moves work old h f new h' f' v)
       → IfErr made (λ _. RefusedStill old h f new h' f') → HasSent [] old new
   sent_stopped moves P old new h h' f f' made ok err = sent_quiet old new h h' f f' (quiet_stopped moves P old new h h' f f' made ok err)
 
   -- a key that is set
-  pub quiet_set : (t : TableValue) (k : ℕ) (on : Bool) (old new : PlaceValue) (h h' : H) (f f' : F) (made : Result Bool SmpError)
+  pub quiet_set : (t : TableValue) (k : ℕ) (on : Bool) (old new : MachineCpuValue) (h h' : H) (f f' : F) (made : Result Bool SmpError)
       → IfOk made (λ turned. Sets hears runs t k on old h f new h' f' turned) → IfOk made (λ _. new.stops.inside ≡ None)
       → IfErr made (λ _. RefusedStill old h f new h' f') → Quiet old h f new h' f'
   quiet_set t k on old new h h' f f' (Ok false) sets outside err = inl (_, sets.works, outside)
   quiet_set t k on old new h h' f f' (Ok true) sets outside err = inl (_, sets.stopped.works, outside)
   quiet_set t k on old new h h' f f' (Err e) sets outside err = inr err.kept
 
-  pub still_set : (m : MachineValue) (t : TableValue) (k : ℕ) (on : Bool) (old new : PlaceValue) (h h' : H) (f f' : F) (made : Result Bool SmpError)
+  pub still_set : (m : MachineValue) (t : TableValue) (k : ℕ) (on : Bool) (old new : MachineCpuValue) (h h' : H) (f f' : F) (made : Result Bool SmpError)
       → IfOk made (λ turned. Sets hears runs t k on old h f new h' f' turned) → IfOk made (λ _. new.stops.inside ≡ None)
       → IfErr made (λ _. RefusedStill old h f new h' f') → IsSeated m old → IsStill m old new
   still_set m t k on old new h h' f f' made sets outside err seated =
       still_quiet m old new h h' f f' (quiet_set t k on old new h h' f f' made sets outside err) seated
 
-  pub sent_set : (t : TableValue) (k : ℕ) (on : Bool) (old new : PlaceValue) (h h' : H) (f f' : F) (made : Result Bool SmpError)
+  pub sent_set : (t : TableValue) (k : ℕ) (on : Bool) (old new : MachineCpuValue) (h h' : H) (f f' : F) (made : Result Bool SmpError)
       → IfOk made (λ turned. Sets hears runs t k on old h f new h' f' turned) → IfOk made (λ _. new.stops.inside ≡ None)
       → IfErr made (λ _. RefusedStill old h f new h' f') → HasSent [] old new
   sent_set t k on old new h h' f f' made sets outside err = sent_quiet old new h h' f f' (quiet_set t k on old new h h' f f' made sets outside err)
 
   -- a key that is counted
-  pub quiet_counted : (t : TableValue) (k : ℕ) (up : Bool) (old new : PlaceValue) (h h' : H) (f f' : F) (made : Result Bool SmpError)
+  pub quiet_counted : (t : TableValue) (k : ℕ) (up : Bool) (old new : MachineCpuValue) (h h' : H) (f f' : F) (made : Result Bool SmpError)
       → CountsOr hears runs t k up old h f new h' f' made → Quiet old h f new h' f'
   quiet_counted t k up old new h h' f f' (Ok false) c = inl (_, c.1.works, c.1.outside)
   quiet_counted t k up old new h h' f f' (Ok true) c = inl (_, c.1.patches.stopped.works, c.1.patches.stopped.outside)
@@ -133,19 +133,19 @@ module _ {H F : Type 0} (hears : H → Heard → H → Type 0) (runs : F → Cal
   quiet_counted t k up old new h h' f f' (Err (error.BadMask n)) c = absurd c.1
   quiet_counted t k up old new h h' f f' (Err (error.StreamFailed n)) c = absurd c.1
 
-  pub still_counted : (m : MachineValue) (t : TableValue) (k : ℕ) (up : Bool) (old new : PlaceValue) (h h' : H) (f f' : F) (made : Result Bool SmpError)
+  pub still_counted : (m : MachineValue) (t : TableValue) (k : ℕ) (up : Bool) (old new : MachineCpuValue) (h h' : H) (f f' : F) (made : Result Bool SmpError)
       → CountsOr hears runs t k up old h f new h' f' made → IsSeated m old → IsStill m old new
   still_counted m t k up old new h h' f f' made c seated = still_quiet m old new h h' f f' (quiet_counted t k up old new h h' f f' made c) seated
 
-  pub sent_counted : (t : TableValue) (k : ℕ) (up : Bool) (old new : PlaceValue) (h h' : H) (f f' : F) (made : Result Bool SmpError)
+  pub sent_counted : (t : TableValue) (k : ℕ) (up : Bool) (old new : MachineCpuValue) (h h' : H) (f f' : F) (made : Result Bool SmpError)
       → CountsOr hears runs t k up old h f new h' f' made → HasSent [] old new
   sent_counted t k up old new h h' f f' made c = sent_quiet old new h h' f f' (quiet_counted t k up old new h h' f f' made c)
 
   -- the same, part by part
-  pub seated_worked : (m : MachineValue) (old new : PlaceValue) (h h' : H) (f f' : F) (own : Own) → Works hears runs old h f new h' f' own
+  pub seated_worked : (m : MachineValue) (old new : MachineCpuValue) (h h' : H) (f f' : F) (own : Own) → Works hears runs old h f new h' f' own
       → new.stops.inside ≡ None → IsSeated m old → IsSeated m new
   seated_worked m old new h h' f f' own w outside seated = (still_worked m old new h h' f f' own w outside seated).seated
 
-  pub number_worked : (old new : PlaceValue) (h h' : H) (f f' : F) (own : Own) → Works hears runs old h f new h' f' own
+  pub number_worked : (old new : MachineCpuValue) (h h' : H) (f f' : F) (own : Own) → Works hears runs old h f new h' f' own
       → new.calls.number ≡ old.calls.number
   number_worked old new h h' f f' own w = ap (λ (x : CallCpuValue). x.number) w.calls_kept

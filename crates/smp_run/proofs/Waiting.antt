@@ -25,7 +25,7 @@ use Rattle.smp_machine.specs.Counts.{CountsOr}
 use Rattle.smp_machine.specs.Keys.{Sets}
 use Rattle.smp_multi.specs.Names.{OwnMove}
 use Rattle.smp_machine.specs.Own.{Own}
-use Rattle.smp_machine.specs.Place.{MachineValue, PlaceValue, fresh_place}
+use Rattle.smp_machine.specs.MachineCpu.{MachineValue, MachineCpuValue, fresh_place}
 use Rattle.smp_machine.specs.Stops.{HasStopped, RefusedStill}
 use Rattle.smp_machine.specs.Works.{Works}
 use Rattle.smp_run.specs.Sent.{HasWaited, is_sync, is_waited}
@@ -56,7 +56,7 @@ confirmed_if true wait last confirmed e was = e
 confirmed_if false wait last confirmed e was = was e
 
 -- calls were queued, whose records are confirmed exactly where they wait
-waits_more : (old new : PlaceValue) (call : ℕ → Call) (queued : List Queued) (wait : Bool) → new.calls.number ≡ old.calls.number
+waits_more : (old new : MachineCpuValue) (call : ℕ → Call) (queued : List Queued) (wait : Bool) → new.calls.number ≡ old.calls.number
     → new.calls.part.sent ≡ old.calls.part.sent ++ sendings call queued
     → ((k : ℕ) → k < records_of_one → confirmed_at new.calls k
     ≡ (if is_used call (record_of old.calls.number k) queued then wait else confirmed_at old.calls k))
@@ -74,7 +74,7 @@ waits_more old new call queued wait number sent confirmed class was = record {
 }
 
 -- no call was queued, and each record that was confirmed still is
-waits_same : (old new : PlaceValue) → new.calls.number ≡ old.calls.number → new.calls.part.sent ≡ old.calls.part.sent
+waits_same : (old new : MachineCpuValue) → new.calls.number ≡ old.calls.number → new.calls.part.sent ≡ old.calls.part.sent
     → ((k : ℕ) → k < records_of_one → confirmed_at old.calls k ≡ true → confirmed_at new.calls k ≡ true) → HasWaited old → HasWaited new
 waits_same old new number sent confirmed was = record {
   each = λ k low last. confirmed k low (was.each k low
@@ -82,14 +82,14 @@ waits_same old new number sent confirmed was = record {
       (subst (λ (n : ℕ). is_waited false (record_of n k) new.calls.part.sent ≡ true) number last)));
 }
 
-pub waits_still : (old new : PlaceValue) → new.calls ≡ old.calls → HasWaited old → HasWaited new
+pub waits_still : (old new : MachineCpuValue) → new.calls ≡ old.calls → HasWaited old → HasWaited new
 waits_still old new e was =
     waits_same old new (ap (λ (c : CpuValue). c.number) e) (ap (λ (c : CpuValue). c.part.sent) e)
     (λ k low t. subst (λ (c : CpuValue). confirmed_at c k ≡ true) (sym e) t) was
 
 -- a CPU that has done nothing
-pub waited_fresh : (m : MachineValue) (n : ℕ) (p : PlaceValue) → p ≡ fresh_place m n → HasWaited p
-waited_fresh m n p is = subst (λ (x : PlaceValue). HasWaited x) (sym is) (record { each = λ k low no. absurd (cc no) })
+pub waited_fresh : (m : MachineValue) (n : ℕ) (p : MachineCpuValue) → p ≡ fresh_place m n → HasWaited p
+waited_fresh m n p is = subst (λ (x : MachineCpuValue). HasWaited x) (sym is) (record { each = λ k low no. absurd (cc no) })
 
 class_waits : (wait : Bool) → is_sync (class_for wait) ≡ wait
 class_waits true = refl
@@ -103,24 +103,24 @@ set_true (x ∷ xs) (suc i) zero e = e
 set_true (x ∷ xs) (suc i) (suc j) e = set_true xs i j e
 
 -- a record was seen confirmed
-waits_confirmed : (old new : PlaceValue) (k : ℕ) → new.calls ≡ looks (confirms k old.calls) → HasWaited old → HasWaited new
+waits_confirmed : (old new : MachineCpuValue) (k : ℕ) → new.calls ≡ looks (confirms k old.calls) → HasWaited old → HasWaited new
 waits_confirmed old new k e was =
     waits_same old new (ap (λ (c : CpuValue). c.number) e) (ap (λ (c : CpuValue). c.part.sent) e)
     (λ i low t. subst (λ (c : CpuValue). confirmed_at c i ≡ true) (sym e)
     (set_true old.calls.part.confirmed (record_of old.calls.number k) (record_of old.calls.number i) t)) was
 
 module _ {H : Type 0} (leads : H → Heard → H → Type 0) where
-  waits_none : (wait : Bool) (old new : PlaceValue) (h h' : H) → QueuesNone leads old.calls h new.calls h' wait → HasWaited old → HasWaited new
+  waits_none : (wait : Bool) (old new : MachineCpuValue) (h h' : H) → QueuesNone leads old.calls h new.calls h' wait → HasWaited old → HasWaited new
   waits_none wait old new h h' q was =
       waits_same old new q.number_is (q.sent_is ∙ append-nil old.calls.part.sent)
       (λ k low t. q.confirmed_are k low ∙ or_right (not wait && k == 1) (confirmed_at old.calls k) t) was
 
-  waits_by : (k dst func info : ℕ) (class : Class) (wait : Bool) (old new : PlaceValue) (h h' : H) → is_sync class ≡ wait
+  waits_by : (k dst func info : ℕ) (class : Class) (wait : Bool) (old new : MachineCpuValue) (h h' : H) → is_sync class ≡ wait
       → CallsBy leads old.calls h new.calls h' k class dst func info wait → HasWaited old → HasWaited new
   waits_by k dst func info class wait old new h h' is c was =
       waits_more old new (λ _. call_by old.calls.number k class func info) c.0 wait c.2.number_is c.2.sent_is c.2.confirmed_are (λ to. is) was
 
-  pub waited_single : (online dst func info : ℕ) (wait : Bool) (old new : PlaceValue) (h h' : H) (made : Result (Unit {0}) SmpError)
+  pub waited_single : (online dst func info : ℕ) (wait : Bool) (old new : MachineCpuValue) (h h' : H) (made : Result (Unit {0}) SmpError)
       → old.stops.inside ≡ None
       → IfOk made (λ _. dst ≢ old.calls.number → (has online dst ≡ true) × CallsOne leads old.calls h new.calls h' dst func info wait)
       → IfOk made (λ _. dst ≡ old.calls.number → CallsHere leads old.calls h new.calls h' func info wait)
@@ -134,7 +134,7 @@ module _ {H : Type 0} (leads : H → Heard → H → Type 0) where
   waited_single online dst func info wait old new h h' (Err e) free queued here (inl held) was = absurd (held.in_hand free)
   waited_single online dst func info wait old new h h' (Err e) free queued here (inr (_, is, other, off, none)) was = waits_none wait old new h h' none was
 
-  refused_user : (online u dst : ℕ) (old new : PlaceValue) (e : SmpError) → RefusesUser online old.calls new.calls u dst e → HasWaited old → HasWaited new
+  refused_user : (online u dst : ℕ) (old new : MachineCpuValue) (e : SmpError) → RefusesUser online old.calls new.calls u dst e → HasWaited old → HasWaited new
   refused_user online u dst old new error.BadArgument r was = waits_still old new r.1 was
   refused_user online u dst old new error.Busy r was =
       waits_same old new (ap (λ (c : CpuValue). c.number) r.2) (ap (λ (c : CpuValue). c.part.sent) r.2)
@@ -151,7 +151,7 @@ module _ {H : Type 0} (leads : H → Heard → H → Type 0) where
   refused_user online u dst old new (error.StreamFailed n) r was = absurd r
   refused_user online u dst old new (error.KeyRange n) r was = absurd r
 
-  pub waited_user : (online dst u func info : ℕ) (old new : PlaceValue) (h h' : H) (made : Result (Unit {0}) SmpError) → old.stops.inside ≡ None
+  pub waited_user : (online dst u func info : ℕ) (old new : MachineCpuValue) (h h' : H) (made : Result (Unit {0}) SmpError) → old.stops.inside ≡ None
       → IfOk made (λ _. dst ≢ old.calls.number → (has online dst ≡ true)
       × CallsBy leads old.calls h new.calls h' (user_record u) Async dst func info false)
       → IfOk made (λ _. dst ≡ old.calls.number → CallsUserHere leads old.calls h new.calls h' u func info)
@@ -164,7 +164,7 @@ module _ {H : Type 0} (leads : H → Heard → H → Type 0) where
   waited_user online dst u func info old new h h' (Err e) free queued here (inl held) was = absurd (held.in_hand free)
   waited_user online dst u func info old new h h' (Err e) free queued here (inr (_, r, same)) was = refused_user online u dst old new e r was
 
-  pub waited_any : (online mask func info : ℕ) (wait : Bool) (old new : PlaceValue) (h h' : H) (made : Result ℕ SmpError) → old.stops.inside ≡ None
+  pub waited_any : (online mask func info : ℕ) (wait : Bool) (old new : MachineCpuValue) (h h' : H) (made : Result ℕ SmpError) → old.stops.inside ≡ None
       → IfOk made (λ cpu. cpu ≢ old.calls.number → CallsOne leads old.calls h new.calls h' cpu func info wait)
       → IfOk made (λ cpu. cpu ≡ old.calls.number → CallsHere leads old.calls h new.calls h' func info wait)
       → IfErr made (λ e. RefusedInHand e old h new h' ⊎ ((old.stops.inside ≡ None) × (e ≡ error.NoCpu) × HasNone mask online old.calls.number
@@ -184,7 +184,7 @@ module _ {H : Type 0} (leads : H → Heard → H → Type 0) where
   both_confirmed false true confirmed = refl
   both_confirmed false false confirmed = refl
 
-  waits_with : (old new : PlaceValue) (h h' : H) (call : ℕ → Call) (queued : List Queued) (here : Option Heard) (wait : Bool)
+  waits_with : (old new : MachineCpuValue) (h h' : H) (call : ℕ → Call) (queued : List Queued) (here : Option Heard) (wait : Bool)
       → ((to : ℕ) → is_sync (call to).class ≡ wait) → CallsWith leads old.calls h new.calls h' call queued here wait → HasWaited old → HasWaited new
   waits_with old new h h' call queued None wait class c was = waits_more old new call queued wait c.number_is c.sent_is c.confirmed_are class was
   waits_with old new h h' call queued (Some heard) wait class c was =
@@ -195,7 +195,7 @@ module _ {H : Type 0} (leads : H → Heard → H → Type 0) where
       ∙ both_confirmed wait used (confirmed_at old.calls k)))
       class was
 
-  pub waited_many : (to : ℕ → List ℕ) (func info : ℕ) (here : ℕ → Option Heard) (wait : Bool) (old new : PlaceValue) (h h' : H) (made : Result ℕ SmpError)
+  pub waited_many : (to : ℕ → List ℕ) (func info : ℕ) (here : ℕ → Option Heard) (wait : Bool) (old new : MachineCpuValue) (h h' : H) (made : Result ℕ SmpError)
       → old.stops.inside ≡ None
       → IfOk made (λ called. CallsMany leads old.calls h new.calls h' (to called) (class_for wait) func info (here called) wait)
       → IfErr made (λ e. RefusedInHand e old h new h') → HasWaited old → HasWaited new
@@ -204,28 +204,28 @@ module _ {H : Type 0} (leads : H → Heard → H → Type 0) where
   waited_many to func info here wait old new h h' (Err e) free c refused was = absurd (refused.in_hand free)
 
 module _ {H F : Type 0} (hears : H → Heard → H → Type 0) (runs : F → Called → F → Type 0) where
-  pub waited_worked : (old new : PlaceValue) (h h' : H) (f f' : F) (own : Own) → Works hears runs old h f new h' f' own → HasWaited old → HasWaited new
+  pub waited_worked : (old new : MachineCpuValue) (h h' : H) (f f' : F) (own : Own) → Works hears runs old h f new h' f' own → HasWaited old → HasWaited new
   waited_worked old new h h' f f' own w was =
       waits_same old new (ap (λ (c : CpuValue). c.number) w.calls_kept) (ap (λ (c : CpuValue). c.part.sent) w.calls_kept)
       (λ k low t. subst (λ (c : CpuValue). confirmed_at c k ≡ true) (sym w.calls_kept) t) was
 
-  waited_quiet : (old new : PlaceValue) (h h' : H) (f f' : F) → Quiet hears runs old h f new h' f' → HasWaited old → HasWaited new
+  waited_quiet : (old new : MachineCpuValue) (h h' : H) (f f' : F) → Quiet hears runs old h f new h' f' → HasWaited old → HasWaited new
   waited_quiet old new h h' f f' (inl (own, w, outside)) was = waited_worked old new h h' f f' own w was
-  waited_quiet old new h h' f f' (inr same) was = subst (λ (p : PlaceValue). HasWaited p) (sym same) was
+  waited_quiet old new h h' f f' (inr same) was = subst (λ (p : MachineCpuValue). HasWaited p) (sym same) was
 
-  pub waited_stopped : (moves : Work → ℕ → List OwnMove) (P : Work → Type 0) (old new : PlaceValue) (h h' : H) (f f' : F) (made : Result ℤ SmpError)
+  pub waited_stopped : (moves : Work → ℕ → List OwnMove) (P : Work → Type 0) (old new : MachineCpuValue) (h h' : H) (f f' : F) (made : Result ℤ SmpError)
       → IfOk made (λ v. (work : Work) × P work × HasStopped hears runs moves work old h f new h' f' v)
       → IfErr made (λ _. RefusedStill old h f new h' f') → HasWaited old → HasWaited new
   waited_stopped moves P old new h h' f f' made ok err was =
       waited_quiet old new h h' f f' (quiet_stopped hears runs moves P old new h h' f f' made ok err) was
 
-  pub waited_set : (t : TableValue) (k : ℕ) (on : Bool) (old new : PlaceValue) (h h' : H) (f f' : F) (made : Result Bool SmpError)
+  pub waited_set : (t : TableValue) (k : ℕ) (on : Bool) (old new : MachineCpuValue) (h h' : H) (f f' : F) (made : Result Bool SmpError)
       → IfOk made (λ turned. Sets hears runs t k on old h f new h' f' turned) → IfOk made (λ _. new.stops.inside ≡ None)
       → IfErr made (λ _. RefusedStill old h f new h' f') → HasWaited old → HasWaited new
   waited_set t k on old new h h' f f' made sets outside err was =
       waited_quiet old new h h' f f' (quiet_set hears runs t k on old new h h' f f' made sets outside err) was
 
-  pub waited_counted : (t : TableValue) (k : ℕ) (up : Bool) (old new : PlaceValue) (h h' : H) (f f' : F) (made : Result Bool SmpError)
+  pub waited_counted : (t : TableValue) (k : ℕ) (up : Bool) (old new : MachineCpuValue) (h h' : H) (f f' : F) (made : Result Bool SmpError)
       → CountsOr hears runs t k up old h f new h' f' made → HasWaited old → HasWaited new
   waited_counted t k up old new h h' f f' made c was =
       waited_quiet old new h h' f f' (quiet_counted hears runs t k up old new h h' f f' made c) was

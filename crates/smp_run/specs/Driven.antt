@@ -1,7 +1,7 @@
 -- What threads are given, and what they give back.
 use Rattle.std.specs.Prelude.{◌≡◌, ℕ, ◌<◌, ◌≤◌, true, false, List, Option, Some, None, length, slice_index_or, vec_len, vec_items}
 use Rattle.smp_mask.specs.Mask.{has, IsLeast}
-use Rattle.smp_machine.specs.Place.{MachineValue, PlaceValue, BootValue, is_left, fresh_place}
+use Rattle.smp_machine.specs.MachineCpu.{MachineValue, MachineCpuValue, BootValue, is_left, fresh_place}
 use Rattle.smp_script.specs.declared.directive.Directive.{Directive}
 use Rattle.smp_run.specs.Answers.{Answered, IsJoined}
 use Rattle.smp_run.specs.Made.{HasPlayed}
@@ -23,7 +23,7 @@ pub record IsNew (m : MachineValue) (lines : List Directive) (s : Seat) : Type 0
 
 -- a CPU that, since it had done nothing, has sent the calls of its own lines, of which those that wait have ended, and made their
 -- stops with these answers
-pub record HasRun (m : MachineValue) (lines : List Directive) (answers : List Answer) (p : PlaceValue) : Type 0 where
+pub record HasRun (m : MachineValue) (lines : List Directive) (answers : List Answer) (p : MachineCpuValue) : Type 0 where
   pub sent : sent_of p.calls.part.sent ≡ script_calls m.calls.online p.calls.number lines
   pub waited : HasWaited p
   pub played : HasPlayed m lines answers (fresh_place m p.calls.number) p
@@ -49,7 +49,7 @@ pub record AreLeft (m : MachineValue) (b : BootValue) (n : ℕ) : Type 0 where
   pub left : (cpu : ℕ) → n ≤ cpu → has m.calls.online cpu ≡ true → is_left b cpu ≡ true
 
 -- the lowest CPU that is online is back, and the answers of the CPUs below n
-pub record AreJoined (m : MachineValue) (lines : List Directive) (n : ℕ) (last : PlaceValue) (answers : List Answer) : Type 0 where
+pub record AreJoined (m : MachineValue) (lines : List Directive) (n : ℕ) (last : MachineCpuValue) (answers : List Answer) : Type 0 where
   pub seated : IsSeated m last
   pub least : IsLeast (λ c. has m.calls.online c) last.calls.number
   pub run : HasRun m lines answers last

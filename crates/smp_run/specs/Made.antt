@@ -7,7 +7,7 @@ use Rattle.smp_multi.specs.Answers.{answer_in}
 use Rattle.smp_multi.specs.Cpu.{TableValue}
 use Rattle.smp_multi.specs.Names.{Work}
 use Rattle.smp_machine.specs.Keys.{IsPatchOf, state_of}
-use Rattle.smp_machine.specs.Place.{MachineValue, PlaceValue}
+use Rattle.smp_machine.specs.MachineCpu.{MachineValue, MachineCpuValue}
 use Rattle.smp_machine.specs.Stops.{IsOneWork, IsTwoWork, IsMachineWork}
 use Rattle.smp_script.specs.declared.directive.Directive.{Directive}
 use Rattle.smp_script.specs.declared.directive.Directive.TheVariants.{Do}
@@ -29,7 +29,7 @@ pub record Making : Type 0 where
   pub answer : Answer
 
 -- since then a CPU has begun the works of these stops and collected their results, in order, and no others
-pub record HasMade (stops : List Stop) (old new : PlaceValue) : Type 0 where
+pub record HasMade (stops : List Stop) (old new : MachineCpuValue) : Type 0 where
   pub begun : new.stops.part.begun ≡ old.stops.part.begun ++ map (λ s. s.work) stops
   pub collected : new.stops.part.collected ≡ old.stops.part.collected ++ map (λ s. s.word) stops
 
@@ -67,7 +67,7 @@ AreStopsOf t (Dec k) answer stops = IsStopOfCount (IsPatchOf t k Down) answer st
 AreStopsOf t _ answer stops = stops ≡ []
 
 -- what a CPU has done that made a request once: it has made the stops of this answer
-abbrev pub Makes : TableValue → Request → Answer → PlaceValue → PlaceValue → Type 0
+abbrev pub Makes : TableValue → Request → Answer → MachineCpuValue → MachineCpuValue → Type 0
 Makes t request answer old new = (stops : List Stop) × AreStopsOf t request answer stops × HasMade stops old new
 
 -- an answer of this request by this CPU, and the stops of that answer
@@ -100,7 +100,7 @@ stops_of makings = flat_map (λ x. x.stops) makings
 
 -- Since then a CPU has made its own lines, in the order of the script: the stops of each repetition of each line, and no
 -- others; and the answer of a line is that of its last repetition.
-pub record HasPlayed (m : MachineValue) (lines : List Directive) (answers : List Answer) (old new : PlaceValue) : Type 0 where
+pub record HasPlayed (m : MachineValue) (lines : List Directive) (answers : List Answer) (old new : MachineCpuValue) : Type 0 where
   pub made : List (List Making)
   pub lines_are : AreLinesMade m old.calls.number lines answers (length lines) made
   pub stops : HasMade (flat_map stops_of made) old new

@@ -5,7 +5,7 @@ use Rattle.smp_labels.specs.Kinds.{kind_of}
 use Rattle.smp_labels.specs.Labels.{Labels}
 use Rattle.smp_labels.specs.declared.entries.Entry.{Entry}
 use Rattle.smp_labels.specs.declared.kinds.SiteKind.{SiteKind}
-use Rattle.smp_machine.specs.Place.{MachineValue, PlaceValue}
+use Rattle.smp_machine.specs.MachineCpu.{MachineValue, MachineCpuValue}
 use Rattle.smp_multi.specs.Cpu.{CpuValue}
 use Rattle.smp_multi.specs.Names.{OwnMove, Reading, ReadKey, ReadSite}
 use Rattle.smp_multi.specs.Reads.{ReadsOneTable, jumps}
@@ -23,7 +23,7 @@ abbrev pub reads_by : List OwnMove → List Reading → CpuValue → CpuValue
 reads_by looks readings c = record c { part = record (c.part) { readings = c.part.readings ++ readings }; moves = c.moves ++ looks }
 
 -- one reading more, which one lawful table says with those before it
-pub record ReadsMore (m : MachineValue) (reading : Reading) (old new : PlaceValue) : Type 0 where
+pub record ReadsMore (m : MachineValue) (reading : Reading) (old new : MachineCpuValue) : Type 0 where
   pub seated : IsSeated m new
   pub calls_are : new.calls ≡ old.calls
   pub looks : List OwnMove
@@ -38,7 +38,7 @@ abbrev pub site_reading : ℕ → SiteKind → List Reading
 site_reading i kind = ReadSite i (jumps kind) ∷ []
 
 -- it has read this since, and done nothing else
-pub record HasRead (m : MachineValue) (old new : PlaceValue) (readings : List Reading) : Type 0 where
+pub record HasRead (m : MachineValue) (old new : MachineCpuValue) (readings : List Reading) : Type 0 where
   pub seated : IsSeated m new
   pub calls_are : new.calls ≡ old.calls
   pub looks : List OwnMove

@@ -6,7 +6,7 @@ use Rattle.smp_mask.specs.declared.error.SmpError.TheVariants as errors
 use Rattle.smp_mask.specs.declared.error.Side.TheVariants as sides
 use Rattle.smp_labels.specs.Labels.{Labels}
 use Rattle.smp_labels.specs.declared.kinds.SiteKind.{SiteKind}
-use Rattle.smp_machine.specs.Place.{MachineValue, PlaceValue}
+use Rattle.smp_machine.specs.MachineCpu.{MachineValue, MachineCpuValue}
 use Rattle.smp_mask.specs.Mask.{has, IsLeast}
 use Rattle.smp_multi.specs.Names.{Reading}
 use Rattle.smp_queue.specs.Audit.{Audited, IfDrained, AreEqual, tally_at}
@@ -52,7 +52,7 @@ pub record Prints (nr online : ℕ) (labels : Labels) (first : ℕ) (lines : Lis
   pub sites : List SiteKind
   pub kinds : HaveKinds labels keys sites
   pub machine : MachineValue
-  pub last : PlaceValue
+  pub last : MachineCpuValue
   pub ending : Audit
   pub sizes : (machine.calls.nr ≡ nr) × (machine.calls.online ≡ online)
   pub lowest : IsLeast (λ c. has online c) last.calls.number

@@ -2,19 +2,19 @@
 use Rattle.std.specs.List.{AllByRecursion}
 use Rattle.std.specs.Prelude.{◌≡◌, ℕ, true, None, List, length}
 use Rattle.smp_mask.specs.Mask.{has}
-use Rattle.smp_machine.specs.Place.{MachineValue, PlaceValue, IsAt}
+use Rattle.smp_machine.specs.MachineCpu.{MachineValue, MachineCpuValue, IsAt}
 use Rattle.smp_script.specs.declared.directive.Directive.{Directive}
 use Rattle.smp_script.specs.declared.mode.Mode.TheVariants.{Run}
 use Rattle.smp_script.specs.Spelling.{DirectiveFits}
 
 -- it is online at this machine, and in no stop
-pub record IsSeated (m : MachineValue) (p : PlaceValue) : Type 0 where
+pub record IsSeated (m : MachineValue) (p : MachineCpuValue) : Type 0 where
   pub at : IsAt m p
   pub free : p.stops.inside ≡ None
   pub online : has m.calls.online p.calls.number ≡ true
 
 -- it is still there, after what it has called
-pub record IsStill (m : MachineValue) (old new : PlaceValue) : Type 0 where
+pub record IsStill (m : MachineValue) (old new : MachineCpuValue) : Type 0 where
   pub seated : IsSeated m new
   pub number_is : new.calls.number ≡ old.calls.number
 

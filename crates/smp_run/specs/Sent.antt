@@ -10,7 +10,7 @@ use Rattle.smp_words.specs.declared.call.Class.TheVariants.{Sync, Async}
 use Rattle.smp_call_steps.specs.declared.known.Sending.{Sending}
 use Rattle.smp_calls.specs.Records.{call_by, many_call, single_record, user_record, class_for}
 use Rattle.smp_calls.specs.Targets.{is_target}
-use Rattle.smp_machine.specs.Place.{PlaceValue}
+use Rattle.smp_machine.specs.MachineCpu.{MachineCpuValue}
 use Rattle.smp_script.specs.declared.request.Request.{Request}
 use Rattle.smp_script.specs.declared.request.Request.TheVariants.{Single, User, Any, Many, Cond}
 use Rattle.smp_script.specs.declared.directive.Directive.{Directive}
@@ -27,7 +27,7 @@ abbrev pub sent_of : List Sending → List Sent
 sent_of sendings = map (λ s. record { call = s.call; to = s.to }) sendings
 
 -- since then a CPU has sent just these calls, in order
-abbrev pub HasSent : List Sent → PlaceValue → PlaceValue → Type 0
+abbrev pub HasSent : List Sent → MachineCpuValue → MachineCpuValue → Type 0
 HasSent calls old new = sent_of new.calls.part.sent ≡ sent_of old.calls.part.sent ++ calls
 
 -- whether calls of a class are waited for
@@ -41,7 +41,7 @@ is_waited was id [] = was
 is_waited was id (s ∷ more) = is_waited (if id == s.call.id then is_sync s.call.class else was) id more
 
 -- each record of a CPU whose last call waits was seen confirmed: that call has ended
-pub record HasWaited (p : PlaceValue) : Type 0 where
+pub record HasWaited (p : MachineCpuValue) : Type 0 where
   pub each : (k : ℕ) → k < records_of_one → is_waited false (record_of p.calls.number k) p.calls.part.sent ≡ true → confirmed_at p.calls k ≡ true
 
 -- the call for each of these CPUs

@@ -2,7 +2,7 @@
 
 ghost use Rattle.std.specs.Prelude.{◌≡◌, ◌+◌, ◌≤◌, vec_len, string_bytes, IfOk, IfErr, None};
 ghost use Rattle.smp_words.specs.Limits.{AreLimits};
-ghost use Rattle.smp_machine.specs.Place.{IsFull};
+ghost use Rattle.smp_machine.specs.MachineCpu.{IsFull};
 ghost use Rattle.smp_script.specs.Script.{first_line};
 ghost use Rattle.smp_script.specs.MeaningOf.{meaning_of};
 ghost use Rattle.smp_run.specs.Driven.{AreJoined, AreLeft, IsSeat, AreSeats};

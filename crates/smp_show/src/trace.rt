@@ -78,7 +78,7 @@ fn turn<A: Allocator>(core: &mut Core<A>, number: usize, line: usize, cpu: u32, 
     ensures row { result ≡ (turned core.old number line cpu event).row }
     ensures core { core.new ≡ (turned core.old number line cpu event).core }
 {
-    match core.turn(event) {
+    match core.apply(event) {
         Ok(seen) => Row {
             number,
             line,

@@ -7,6 +7,6 @@ pub mod Steps
 -- what a CPU knows
 pub mod Knows
 -- the machine: a stop table, and a list of controls
-pub mod TheMachine
+pub mod Machine
 -- the laws
 pub mod Promises

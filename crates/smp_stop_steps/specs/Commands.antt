@@ -16,7 +16,7 @@ use Rattle.smp_words.specs.declared.work.Work.{Work}
 use Rattle.smp_stop_steps.specs.Counts.{mask_weight}
 use Rattle.smp_stop_steps.specs.Promises.{OfEachCpu}
 use Rattle.smp_stop_steps.specs.Stages.{StopControlValue, stop_access, stop_outcome}
-use Rattle.smp_stop_steps.specs.Starts.{stop_first}
+use Rattle.smp_stop_steps.specs.Start.{stop_first}
 use Rattle.smp_stop_steps.specs.Steps.{state_after}
 use Rattle.smp_stop_steps.specs.declared.stage.StopStage.{StopStage}
 use Rattle.smp_stop_steps.specs.declared.stage.StopStage.TheVariants.{Begin, NudgeKey, ExchangeKey}

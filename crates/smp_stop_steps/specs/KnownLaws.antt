@@ -3,7 +3,7 @@ use Rattle.std.specs.Prelude.{◌≡◌, ℕ, Some, None}
 use Rattle.smp_stop_steps.specs.Names.{word_of, at_after, seen_of, Word}
 use Rattle.smp_stop_steps.specs.Known.{Known, Sees, setup_in}
 use Rattle.smp_stop_steps.specs.Labels.{Change, Whole}
-use Rattle.smp_stop_steps.specs.Moves.{Move, May, access_in}
+use Rattle.smp_stop_steps.specs.Moves.{Move, MayStep, known_access}
 use Rattle.smp_stop_steps.specs.Patchers.{IsNextOfPatch, label_stored}
 use Rattle.smp_stop_steps.specs.Premises.{MaySee}
 use Rattle.smp_stop_steps.specs.Promises.{KeysStand}
@@ -15,12 +15,12 @@ use Rattle.smp_stop_steps.specs.State.{StopState}
 -- who may make it, that a store to a label is the next of the CPU's patch, and that outside a patch no key is turned
 pub record KeepsMoveLaws (p : StopState) (at : Word → ℕ) (v : Known) (m : Move) : Type 0 where
   pub premise :
-      let access = access_in v m in
+      let access = known_access v m in
       let seen = seen_of v.number access (at (word_of access)) None in
       MaySee p v.number seen.act seen.word seen.found seen.put
-  pub labels : (change : Change) → label_stored (access_in v m) ≡ Some change → IsNextOfPatch p v.number change
-  pub stands : p.now.patching ≡ Whole → KeysStand at (at_after at (access_in v m))
+  pub labels : (change : Change) → label_stored (known_access v m) ≡ Some change → IsNextOfPatch p v.number change
+  pub stands : p.now.patching ≡ Whole → KeysStand at (at_after at (known_access v m))
 
 abbrev pub KnownMovesKeepLaws : Type 0
 KnownMovesKeepLaws = (p : StopState) (at : Word → ℕ) (seat : ℕ → Seat) (source : ℕ → Source) (v : Known) → StopShows (setup_in v.setting) p at seat source →
-    Sees p seat source v → (m : Move) → May v m → KeepsMoveLaws p at v m
+    Sees p seat source v → (m : Move) → MayStep v m → KeepsMoveLaws p at v m

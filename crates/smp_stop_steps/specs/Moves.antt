@@ -62,61 +62,61 @@ abbrev pub IsThrough : Work → ℕ → Type 0
 IsThrough w a = (a ≡ EXIT) ⊎ (w.kind ≡ One)
 
 -- a CPU that knows this may make this step
-abbrev pub May : Known → Move → Type 0
-May v TakeGate = Unit {0}
-May v OpenGate = (v.part.holds ≡ true) × (is_drafting v.source ≡ false)
-May v (Draft w) = (v.source ≡ Shut) × (v.part.holds ≡ true) × IsWork (setup_in v.setting) w
-May v (DraftMore w f) = (v.source ≡ Drafts (told_work (order f) w) (order f)) × IsWork (setup_in v.setting) w × (order f ≢ 0) × (order f < order field.Roll)
-May v (Open w) = (v.source ≡ Drafts (told_work (order field.Roll) w) (order field.Roll)) × IsWork (setup_in v.setting) w
-May v (Enter s) = v.seat ≡ Free
-May v (Look s w a l) = (v.seat ≡ In s w a l Rests) × (a ≢ EXIT)
-May v (Acknowledge s w a) = (v.seat ≡ In s w a (a + 1) Rests) × (a ≡ DISABLE_IRQ → HasCalled v.number w v.part.calling)
-May v (AcknowledgePatch s w count made) = v.seat ≡ Alters s w count made []
-May v (Refill s w a l) = (v.seat ≡ In s w a l Fills) × (is_drafting v.source ≡ false)
-May v (Raise s w a l) = (v.seat ≡ In s w a l Sets) × (is_drafting v.source ≡ false)
-May v (Give s w a l x) = (v.seat ≡ In s w a l Rests) × IsThrough w a × (x ≢ 0) × (is_drafting v.source ≡ false) × (v.part.calling ≢ Idle)
-May v (Count s w a l) = (v.seat ≡ In s w a l Rests) × IsThrough w a × (s < cpus) × (w.kind ≡ One → v.part.calling ≢ Idle)
-May v (CountGiven s w a x) = (v.seat ≡ Gives s w a x) × (s < cpus)
-May v (Close s) = (v.seat ≡ Closes s) × (is_drafting v.source ≡ false)
-May v (LookDone w) = v.source ≡ Owns w
-May v (Collect w) = v.source ≡ Collects w
-May v (ReadKey k) = irq_of v.seat ≡ true
-May v (ReadSite i) = irq_of v.seat ≡ true
-May v (Nudge k found new) = (irq_of v.seat ≡ true) × (has v.setting.online v.number ≡ true) × (k < MOST_KEYS) × IsNudge found new
-May v (BeginPatch s w) = (v.seat ≡ In s w DISABLE_IRQ RUN Rests) × (w.kind ≡ Patch) × (has w.active v.number ≡ true)
-May v (Alter s w count made change rest) = (v.seat ≡ Alters s w count made (change ∷ rest)) × (plan_at (setup_in v.setting) w count ≡ made ++ change ∷ rest)
+abbrev pub MayStep : Known → Move → Type 0
+MayStep v TakeGate = Unit {0}
+MayStep v OpenGate = (v.part.holds ≡ true) × (is_drafting v.source ≡ false)
+MayStep v (Draft w) = (v.source ≡ Shut) × (v.part.holds ≡ true) × IsWork (setup_in v.setting) w
+MayStep v (DraftMore w f) = (v.source ≡ Drafts (told_work (order f) w) (order f)) × IsWork (setup_in v.setting) w × (order f ≢ 0) × (order f < order field.Roll)
+MayStep v (Open w) = (v.source ≡ Drafts (told_work (order field.Roll) w) (order field.Roll)) × IsWork (setup_in v.setting) w
+MayStep v (Enter s) = v.seat ≡ Free
+MayStep v (Look s w a l) = (v.seat ≡ In s w a l Rests) × (a ≢ EXIT)
+MayStep v (Acknowledge s w a) = (v.seat ≡ In s w a (a + 1) Rests) × (a ≡ DISABLE_IRQ → HasCalled v.number w v.part.calling)
+MayStep v (AcknowledgePatch s w count made) = v.seat ≡ Alters s w count made []
+MayStep v (Refill s w a l) = (v.seat ≡ In s w a l Fills) × (is_drafting v.source ≡ false)
+MayStep v (Raise s w a l) = (v.seat ≡ In s w a l Sets) × (is_drafting v.source ≡ false)
+MayStep v (Give s w a l x) = (v.seat ≡ In s w a l Rests) × IsThrough w a × (x ≢ 0) × (is_drafting v.source ≡ false) × (v.part.calling ≢ Idle)
+MayStep v (Count s w a l) = (v.seat ≡ In s w a l Rests) × IsThrough w a × (s < cpus) × (w.kind ≡ One → v.part.calling ≢ Idle)
+MayStep v (CountGiven s w a x) = (v.seat ≡ Gives s w a x) × (s < cpus)
+MayStep v (Close s) = (v.seat ≡ Closes s) × (is_drafting v.source ≡ false)
+MayStep v (LookDone w) = v.source ≡ Owns w
+MayStep v (Collect w) = v.source ≡ Collects w
+MayStep v (ReadKey k) = irq_of v.seat ≡ true
+MayStep v (ReadSite i) = irq_of v.seat ≡ true
+MayStep v (Nudge k found new) = (irq_of v.seat ≡ true) × (has v.setting.online v.number ≡ true) × (k < MOST_KEYS) × IsNudge found new
+MayStep v (BeginPatch s w) = (v.seat ≡ In s w DISABLE_IRQ RUN Rests) × (w.kind ≡ Patch) × (has w.active v.number ≡ true)
+MayStep v (Alter s w count made change rest) = (v.seat ≡ Alters s w count made (change ∷ rest)) × (plan_at (setup_in v.setting) w count ≡ made ++ change ∷ rest)
     × (w.func < MOST_KEYS)
-May v (LoadArg s w a l) = v.seat ≡ In s w a l Rests
-May v (LoadField s w a l f) = IsPlain f × (v.seat ≡ In s w a l Rests)
-May v (LoadEntry s w count made rest i) = v.seat ≡ Alters s w count made rest
+MayStep v (LoadArg s w a l) = v.seat ≡ In s w a l Rests
+MayStep v (LoadField s w a l f) = IsPlain f × (v.seat ≡ In s w a l Rests)
+MayStep v (LoadEntry s w count made rest i) = v.seat ≡ Alters s w count made rest
 
 -- its access
-abbrev pub access_in : Known → Move → Access
-access_in v TakeGate = Exchange Gate 0 (v.number + 1)
-access_in v OpenGate = Store Gate 0
-access_in v (Draft w) = Store (Slot v.number field.Kind) (begun_value cpus w field.Kind)
-access_in v (DraftMore w f) = Store (Slot v.number f) (begun_value cpus w f)
-access_in v (Open w) = Store (Slot v.number field.Roll) w.mask
-access_in v (Enter s) = And (Slot s field.Roll) (all_but v.number)
-access_in v (Look s w a l) = Load (Slot s field.State)
-access_in v (Acknowledge s w a) = Sub (Slot s field.Ack)
-access_in v (AcknowledgePatch s w count made) = Sub (Slot s field.Ack)
-access_in v (Refill s w a l) = Store (Slot s field.Ack) (mask_weight cpus w.mask)
-access_in v (Raise s w a l) = Store (Slot s field.State) (a + 1)
-access_in v (Give s w a l x) = Store (Slot s field.Result) x
-access_in v (Count s w a l) = Sub (Slot s field.Todo)
-access_in v (CountGiven s w a x) = Sub (Slot s field.Todo)
-access_in v (Close s) = Store (Slot s field.Done) 1
-access_in v (LookDone w) = Load (Slot v.number field.Done)
-access_in v (Collect w) = Load (Slot v.number field.Result)
-access_in v (ReadKey k) = Load (Key k)
-access_in v (ReadSite i) = Load (Site i)
-access_in v (Nudge k found new) = Exchange (Key k) found new
-access_in v (BeginPatch s w) = Load (Key w.func)
-access_in v (Alter s w count made change rest) = store_of change
-access_in v (LoadArg s w a l) = Load (Slot s field.Arg)
-access_in v (LoadField s w a l f) = Load (Slot s f)
-access_in v (LoadEntry s w count made rest i) = Load (Entry i)
+abbrev pub known_access : Known → Move → Access
+known_access v TakeGate = Exchange Gate 0 (v.number + 1)
+known_access v OpenGate = Store Gate 0
+known_access v (Draft w) = Store (Slot v.number field.Kind) (begun_value cpus w field.Kind)
+known_access v (DraftMore w f) = Store (Slot v.number f) (begun_value cpus w f)
+known_access v (Open w) = Store (Slot v.number field.Roll) w.mask
+known_access v (Enter s) = And (Slot s field.Roll) (all_but v.number)
+known_access v (Look s w a l) = Load (Slot s field.State)
+known_access v (Acknowledge s w a) = Sub (Slot s field.Ack)
+known_access v (AcknowledgePatch s w count made) = Sub (Slot s field.Ack)
+known_access v (Refill s w a l) = Store (Slot s field.Ack) (mask_weight cpus w.mask)
+known_access v (Raise s w a l) = Store (Slot s field.State) (a + 1)
+known_access v (Give s w a l x) = Store (Slot s field.Result) x
+known_access v (Count s w a l) = Sub (Slot s field.Todo)
+known_access v (CountGiven s w a x) = Sub (Slot s field.Todo)
+known_access v (Close s) = Store (Slot s field.Done) 1
+known_access v (LookDone w) = Load (Slot v.number field.Done)
+known_access v (Collect w) = Load (Slot v.number field.Result)
+known_access v (ReadKey k) = Load (Key k)
+known_access v (ReadSite i) = Load (Site i)
+known_access v (Nudge k found new) = Exchange (Key k) found new
+known_access v (BeginPatch s w) = Load (Key w.func)
+known_access v (Alter s w count made change rest) = store_of change
+known_access v (LoadArg s w a l) = Load (Slot s field.Arg)
+known_access v (LoadField s w a l f) = Load (Slot s f)
+known_access v (LoadEntry s w count made rest i) = Load (Entry i)
 
 -- the work of a stop that is entered at this word
 abbrev pub entering : StopState → Word → Work
@@ -126,8 +126,8 @@ entering p _ = no_work
 -- a CPU that knows this may make this access
 pub record Can (v : Known) (access : Access) : Type 0 where
   pub move : Move
-  pub may : May v move
-  pub is_access : access_in v move ≡ access
+  pub may : MayStep v move
+  pub is_access : known_access v move ≡ access
 
 -- at first, and after each step that a CPU may make by what it knows, each CPU knows its part of stops that the words show
 abbrev pub NothingIsKnown : Type 0
@@ -136,8 +136,8 @@ NothingIsKnown = (k : Setting) (me : ℕ) → me < cpus → Sees no_stops (λ _.
 abbrev pub MovesAreKnown : Type 0
 MovesAreKnown = (p : StopState) (at : Word → ℕ) (seat : ℕ → Seat) (source : ℕ → Source) (v : Known) → StopShows (setup_in v.setting) p at seat source →
     Sees p seat source v →
-    (m : Move) → May v m →
-    let access = access_in v m in
+    (m : Move) → MayStep v m →
+    let access = known_access v m in
     let seen = seen_of v.number access (at (word_of access)) None in
     GoesOnBy v.setting p seat source v.number (at_after at access) (known_entering (entering p (word_of access)) v seen.act seen.word seen.found seen.put)
     seen

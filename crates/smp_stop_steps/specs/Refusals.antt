@@ -3,7 +3,7 @@ use Rattle.std.specs.Prelude.{◌≡◌, ◌≢◌, ◌⊎◌, ℕ, ◌<◌, tru
 use Rattle.smp_stop_steps.specs.Names.{has, SmpError, cpus, Command, One, Work}
 use Rattle.smp_stop_steps.specs.Counts.{mask_weight}
 use Rattle.smp_stop_steps.specs.Sources.{IsOfKind}
-use Rattle.smp_stop_steps.specs.Starts.{stop_refusal}
+use Rattle.smp_stop_steps.specs.Start.{stop_refusal}
 use Rattle.smp_stop_steps.specs.State.{Setup, StopState}
 use Rattle.smp_stop_steps.specs.Stop.{acked}
 use Rattle.smp_stop_steps.specs.Value.{StopsValue, StopShown, setup_of, stop_control_of}

@@ -161,7 +161,7 @@ impl<A: Allocator> Stops<A> {
         }
     }
 
-    ghost use Rattle.smp_stop_steps.specs.Starts.{terms_of, stop_refusal, stop_started};
+    ghost use Rattle.smp_stop_steps.specs.Start.{terms_of, stop_refusal, stop_started};
     ghost use Rattle.smp_stop_steps.specs.Table.{stop_number_of};
 
     /// What a refusal depends on beside where the CPU stands.

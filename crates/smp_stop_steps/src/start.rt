@@ -1,11 +1,11 @@
 //! When a command of the stop half may start, and where it begins.
 
 ghost use Rattle.std.specs.Prelude.{◌≡◌};
-ghost use Rattle.smp_stop_steps.specs.Starts.{begin_refusal as refusal_of_begin, fits_patch as is_fit_patch};
-ghost use Rattle.smp_stop_steps.specs.Starts.{fits_work as is_fit_work, may_advance as can_advance};
-ghost use Rattle.smp_stop_steps.specs.Starts.{may_finish as can_finish, may_run as can_run, refusal_on, stop_first};
-ghost use Rattle.smp_stop_steps.specs.Starts.{has_slot as has_slot_in, unless as error_unless};
-ghost use Rattle.smp_stop_steps.specs.Starts.{answer_word as word_of_answer};
+ghost use Rattle.smp_stop_steps.specs.Start.{begin_refusal as refusal_of_begin, fits_patch as is_fit_patch};
+ghost use Rattle.smp_stop_steps.specs.Start.{fits_work as is_fit_work, may_advance as can_advance};
+ghost use Rattle.smp_stop_steps.specs.Start.{may_finish as can_finish, may_run as can_run, refusal_on, stop_first};
+ghost use Rattle.smp_stop_steps.specs.Start.{has_slot as has_slot_in, unless as error_unless};
+ghost use Rattle.smp_stop_steps.specs.Start.{answer_word as word_of_answer};
 
 use crate::control::StopControl;
 use crate::mask::{first_of, mask_word, weight};

@@ -65,9 +65,9 @@ pub struct Member<'a> {
 }
 
 impl<'a> Model for Member<'a> {
-    ghost use Rattle.smp_machine.specs.Place.{PlaceValue, IsAt};
+    ghost use Rattle.smp_machine.specs.MachineCpu.{MachineCpuValue, IsAt};
 
-    ghost Value = { PlaceValue };
+    ghost Value = { MachineCpuValue };
 
     ghost view = { λ m. m.cpu };
 

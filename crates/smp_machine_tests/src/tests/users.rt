@@ -3,7 +3,7 @@
 ghost use Rattle.std.specs.Prelude.{◌≡◌, IfOk, slice_index_or};
 ghost use Rattle.smp_labels.specs.declared.entries.Entry.{Entry};
 ghost use Rattle.smp_multi.specs.Reads.{jumps};
-ghost use Rattle.smp_machine.specs.Place.{IsAt};
+ghost use Rattle.smp_machine.specs.MachineCpu.{IsAt};
 ghost use Rattle.smp_machine.specs.ReadLaws.{is_jump};
 
 use smp_labels::SiteKind;

@@ -9,7 +9,7 @@ ghost use Rattle.std.specs.Prelude.{◌≡◌, ◌≢◌};
 ghost use Rattle.smp_stop_steps.specs.Known.{carrying};
 ghost use Rattle.smp_multi.specs.Lives.{Lives};
 ghost use Rattle.smp_stop_steps.specs.KnownAfter.{acked_by, completed_with};
-ghost use Rattle.smp_stop_steps.specs.Starts.{answer_word as word_of_answer};
+ghost use Rattle.smp_stop_steps.specs.Start.{answer_word as word_of_answer};
 ghost use Rattle.smp_stop_steps.specs.AnswerWords.{IsI32Word};
 ghost use Rattle.smp_multi.specs.Completes.{AtClose, AtEnd, AtGiven, given};
 ghost use Rattle.smp_multi.specs.Names.{Idle, Multi, One};

@@ -5,7 +5,7 @@ use Rattle.smp_stop_steps.specs.{Word, Slot, Entry}
 use Rattle.smp_stop_steps.specs.Known.{Known}
 use Rattle.smp_stop_steps.specs.Moves.{Move, TakeGate, OpenGate, Draft, DraftMore, Open, Enter, Look, Acknowledge, AcknowledgePatch, Refill, Raise, Give}
 use Rattle.smp_stop_steps.specs.Moves.{Count, CountGiven, Close, LookDone, Collect, ReadKey, ReadSite, Nudge, BeginPatch, Alter, LoadArg, LoadField}
-use Rattle.smp_stop_steps.specs.Moves.{LoadEntry, May, access_in, entering, IsPlain}
+use Rattle.smp_stop_steps.specs.Moves.{LoadEntry, MayStep, known_access, entering, IsPlain}
 use Rattle.smp_stop_steps.proofs.Knows.KnownEnds.{give, count, count_given, close}
 use Rattle.smp_stop_steps.proofs.Knows.KnownLabels.{read_key, read_site, nudge, begin_patch, alter}
 use Rattle.smp_stop_steps.proofs.Knows.KnownRounds.{enter, load_arg, look, acknowledge, acknowledge_patch, refill, raise}
@@ -33,8 +33,8 @@ module _ (p : StopState) (at : Word → ℕ) (seat : ℕ → Seat) (source : ℕ
   load_field s field.Result i = absurd i
   load_field s field.Done i = absurd i
 
-  pub known_move : (m : Move) → May v m →
-      let a = access_in v m in
+  pub known_move : (m : Move) → MayStep v m →
+      let a = known_access v m in
       let seen = seen_of v.number a (at (word_of a)) None in
       Goes seen (at_after at a) (known_entering (entering p (word_of a)) v seen.act seen.word seen.found seen.put)
   known_move TakeGate m = take_gate p at seat source v h sees

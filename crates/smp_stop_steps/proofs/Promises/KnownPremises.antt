@@ -12,7 +12,7 @@ use Rattle.smp_stop_steps.specs.KnownLaws.{KeepsMoveLaws}
 use Rattle.smp_stop_steps.specs.Laws.{IsThrough}
 use Rattle.smp_stop_steps.specs.Moves.{Move, TakeGate, OpenGate, Draft, DraftMore, Open, Enter, Look, Acknowledge, AcknowledgePatch, Refill, Raise, Give}
 use Rattle.smp_stop_steps.specs.Moves.{Count, CountGiven, Close, LookDone, Collect, ReadKey, ReadSite, Nudge, BeginPatch, Alter, LoadArg, LoadField}
-use Rattle.smp_stop_steps.specs.Moves.{LoadEntry, May, access_in, IsPlain}
+use Rattle.smp_stop_steps.specs.Moves.{LoadEntry, MayStep, known_access, IsPlain}
 use Rattle.smp_stop_steps.specs.Moves.{IsThrough as IsThroughAll}
 use Rattle.smp_stop_steps.proofs.Basics.Counts.{sum_zero}
 use Rattle.smp_stop_steps.proofs.Knows.KnownRounds.{stands, open_at}
@@ -107,7 +107,7 @@ module _ (p : StopState) (at : Word → ℕ) (seat : ℕ → Seat) (source : ℕ
   altering (place.Key k, n) run = run
   altering (place.Site i, n) run = run
 
-  ended : (w : Work) → v.source ≡ Collects w → IsPremised (access_in v (Collect w))
+  ended : (w : Work) → v.source ≡ Collects w → IsPremised (known_access v (Collect w))
   ended w is =
       let there = is_collects (source me) w (sees.source_is ∙ is) in
       let o : OwnerShows u (p.now.stop me) w × ((p.now.stop me).ending ≡ Ended) = source_is (Collects w) there in
@@ -123,10 +123,10 @@ module _ (p : StopState) (at : Word → ℕ) (seat : ℕ → Seat) (source : ℕ
             member ((h.present.slots me).keeps d'))),
       )
 
-  plain_load : (s : ℕ) (w : Work) (a l : ℕ) (f : Field) → IsPlain f → v.seat ≡ In s w a l Rests → IsPremised (access_in v (LoadField s w a l f))
+  plain_load : (s : ℕ) (w : Work) (a l : ℕ) (f : Field) → IsPlain f → v.seat ≡ In s w a l Rests → IsPremised (known_access v (LoadField s w a l f))
   plain_load s w a l f plain is = search (at_seat, arith)
 
-  may_see : (m : Move) → May v m → IsPremised (access_in v m)
+  may_see : (m : Move) → MayStep v m → IsPremised (known_access v m)
   may_see TakeGate m = search (gate_free, h.gate, eqb-true, arith)
   may_see OpenGate m = gate_is m.0
   may_see (Draft w) m = stored_shut (begun_value cpus w field.Kind) field.Kind (source_is Shut (is_shut (source me) (sees.source_is ∙ m.0))) (gate_is m.1)
@@ -154,7 +154,7 @@ module _ (p : StopState) (at : Word → ℕ) (seat : ℕ → Seat) (source : ℕ
   may_see (LoadField s w a l f) m = plain_load s w a l f m.0 m.1
   may_see (LoadEntry s w count made rest i) m = at_run_patching s w count made rest m
 
-  labels : (m : Move) → May v m → (change : Change) → label_stored (access_in v m) ≡ Some change → IsNextOfPatch p me change
+  labels : (m : Move) → MayStep v m → (change : Change) → label_stored (known_access v m) ≡ Some change → IsNextOfPatch p me change
   labels (Alter s w count made (x, n) rest) m change e = next_is x n change e (at_seat (Alters s w count made ((x, n) ∷ rest)) m.0).5
     where
       next_is : (x : Place) (n : ℕ) (change : Change) → label_stored (store_of (x, n)) ≡ Some change
@@ -209,7 +209,7 @@ module _ (p : StopState) (at : Word → ℕ) (seat : ℕ → Seat) (source : ℕ
   whole_not : (s : ℕ) (w : Work) (count : ℕ) (made rest : List Change) → v.seat ≡ Alters s w count made rest → p.now.patching ≡ Whole → ⊥
   whole_not s w count made rest is whole = let patches = (at_seat (Alters s w count made rest) is).5 in cc
 
-  stands_still : (m : Move) → May v m → p.now.patching ≡ Whole → KeysStand at (at_after at (access_in v m))
+  stands_still : (m : Move) → MayStep v m → p.now.patching ≡ Whole → KeysStand at (at_after at (known_access v m))
   stands_still TakeGate may whole = gate (at Gate == 0)
   stands_still OpenGate may whole = other Gate 0 tt
   stands_still (Draft w) may whole = other (Slot me field.Kind) (begun_value cpus w field.Kind) tt
@@ -236,5 +236,5 @@ module _ (p : StopState) (at : Word → ℕ) (seat : ℕ → Seat) (source : ℕ
   stands_still (LoadField s w a l f) may whole = same
   stands_still (LoadEntry s w count made rest i) may whole = same
 
-  pub keeps_move_laws : (m : Move) → May v m → KeepsMoveLaws p at v m
+  pub keeps_move_laws : (m : Move) → MayStep v m → KeepsMoveLaws p at v m
   keeps_move_laws m may = record { premise = may_see m may; labels = labels m may; stands = stands_still m may }

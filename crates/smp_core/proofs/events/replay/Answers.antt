@@ -11,22 +11,22 @@ loop-position-init g c = starts c.args.core c.args.events.now c.new-seen.result.
 pub loop-position-preserved : goal.loop-position-preserved
 loop-position-preserved g c =
     let answer = c.in-Ok.ensures.answer in
-    let core = c.turn.ensures.core in
+    let core = c.apply.ensures.core in
     let pushed = c.in_ok-note_step-in-Ok.ensures.ok in
     let told = c.in-Ok.ensures.told in
     let said = c.in-Ok.ensures.said in
     let stops = c.in-Ok.ensures.stops in
     let notes = c.in-Ok.ensures.stop_notes in
-    goes_on c.args.core c.loop-position.core c.turn.new.self c.args.events.now c.loop-position.position c.index-events-position.result
+    goes_on c.args.core c.loop-position.core c.apply.new.self c.args.events.now c.loop-position.position c.index-events-position.result
     c.loop-position.seen.items c.note_step.new.seen.items c.in-Ok.step
     (omega arith) c.index-events-position.is answer core pushed told said stops notes c.loop-position.invariant
 
 refused : (g : given.Over) (c : goal.In-Err g) → (p : StopState) → StopShown p c.args.core.stops →
-    IsToldBy c.args.core c.turn.new.self c.args.events.now c.loop-position.seen.items p
+    IsToldBy c.args.core c.apply.new.self c.args.events.now c.loop-position.seen.items p
 refused g c =
     let answer = c.in-Err.ensures.answer in
     let same = c.in-Err.ensures.err in
-    ends_refused c.args.core c.loop-position.core c.turn.new.self c.args.events.now c.loop-position.position c.index-events-position.result
+    ends_refused c.args.core c.loop-position.core c.apply.new.self c.args.events.now c.loop-position.position c.index-events-position.result
     c.loop-position.seen.items c.in-Err.error
     (omega arith) c.index-events-position.is answer same c.loop-position.invariant
 

@@ -1,6 +1,6 @@
 use Rattle.std.proofs.Common.{ℕ, sym, ap, ◌∙◌, subst}
 use Rattle.smp_words.specs.Limits.{AreLimits}
-use Rattle.smp_machine.specs.Place.{MachineValue, AreWaiting}
+use Rattle.smp_machine.specs.MachineCpu.{MachineValue, AreWaiting}
 use Rattle.smp_mask.specs.Mask.{has}
 use Rattle.smp_machine.proofs.Seating.{seated_none, seated_more, seats_wait, seats_left}
 use Rattle.smp_machine.proofs.boot.seat_all.Goals as goal

@@ -2,11 +2,11 @@ use Rattle.std.proofs.Common.{ℕ, ◌≡◌, ◌≢◌, true, IfOk, [], ◌∷�
 use Rattle.smp_words.specs.declared.call.Class.TheVariants.{Sync}
 use Rattle.smp_calls.specs.Ended.{HaveEnded}
 use Rattle.smp_calls.specs.Records.{call_by, single_record}
-use Rattle.smp_machine.specs.Place.{PlaceValue}
+use Rattle.smp_machine.specs.MachineCpu.{MachineCpuValue}
 use Rattle.smp_machine.proofs.hearing.any.Goals as goal
 
 pub returns-clause-ended : goal.returns-clause-ended
 returns-clause-ended g c =
     subst (λ (n : ℕ). IfOk c.call_any.result (λ cpu. c.args.wait ≡ true → cpu ≢ n →
     HaveEnded c.call_any.new.me (λ _. call_by n (single_record true) Sync c.args.func c.args.info) (cpu ∷ [])))
-    (ap (λ (p : PlaceValue). p.calls.number) c.me.view_is) c.call_any.ensures.ended
+    (ap (λ (p : MachineCpuValue). p.calls.number) c.me.view_is) c.call_any.ensures.ended

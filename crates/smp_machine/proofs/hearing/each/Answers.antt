@@ -3,10 +3,10 @@ use Rattle.smp_words.specs.declared.call.Class.TheVariants.{Sync}
 use Rattle.smp_calls.specs.Ended.{HaveEnded}
 use Rattle.smp_calls.specs.Records.{many_call}
 use Rattle.smp_calls.specs.Targets.{remote}
-use Rattle.smp_machine.specs.Place.{PlaceValue}
+use Rattle.smp_machine.specs.MachineCpu.{MachineCpuValue}
 use Rattle.smp_machine.proofs.hearing.each.Goals as goal
 
 pub returns-clause-ended : goal.returns-clause-ended
 returns-clause-ended g c =
     subst (λ (n : ℕ). c.args.wait ≡ true → HaveEnded c.each_cpu_cond.new.me (many_call n Sync c.args.func c.args.info) (remote n c.each_cpu_cond.result))
-    (ap (λ (p : PlaceValue). p.calls.number) c.me.view_is) c.each_cpu_cond.ensures.ended
+    (ap (λ (p : MachineCpuValue). p.calls.number) c.me.view_is) c.each_cpu_cond.ensures.ended

@@ -3,10 +3,10 @@ use Rattle.smp_mask.specs.Mask.{members}
 use Rattle.smp_words.specs.declared.call.Class.TheVariants.{Sync}
 use Rattle.smp_calls.specs.Ended.{HaveEnded}
 use Rattle.smp_calls.specs.Records.{many_call}
-use Rattle.smp_machine.specs.Place.{PlaceValue}
+use Rattle.smp_machine.specs.MachineCpu.{MachineCpuValue}
 use Rattle.smp_machine.proofs.hearing.many.Goals as goal
 
 pub returns-clause-ended : goal.returns-clause-ended
 returns-clause-ended g c =
     subst (λ (n : ℕ). c.args.wait ≡ true → HaveEnded c.call_many.new.me (many_call n Sync c.args.func c.args.info) (members c.call_many.result))
-    (ap (λ (p : PlaceValue). p.calls.number) c.me.view_is) c.call_many.ensures.ended
+    (ap (λ (p : MachineCpuValue). p.calls.number) c.me.view_is) c.call_many.ensures.ended

@@ -6,7 +6,7 @@ use Rattle.smp_multi.specs.Cpu.{CpuValue}
 use Rattle.smp_stop_steps.specs.declared.known.OwnMove.TheVariants.{Collected}
 use Rattle.smp_multi.specs.Answers.{IsWholeWord}
 use Rattle.smp_machine.specs.Own.{Own, with_collected, with_moves}
-use Rattle.smp_machine.specs.Place.{PlaceValue}
+use Rattle.smp_machine.specs.MachineCpu.{MachineCpuValue}
 use Rattle.smp_machine.proofs.Works.{works_none}
 use Rattle.smp_machine.proofs.Stopping.{works_after, works_collect, works_looked}
 use Rattle.smp_machine.proofs.key.collect_quietly.Goals as goal
@@ -25,14 +25,14 @@ loop-preserved g c =
     let hears = g.H.Handler.leads in
     let runs = g.F.StopFunc.leads in
     let looked = works_looked hears runs c.loop.me c.look_done.new.me c.loop.handler c.loop.run same in
-    let stops = ap (λ (p : PlaceValue). p.stops) same in
+    let stops = ap (λ (p : MachineCpuValue). p.stops) same in
     let inside = ap (λ (s : CpuValue). s.inside) stops ∙ c.loop.invariant.outside in
     let still = (c.turn.ensures.stops.none inside).0 in
     record {
       works = works_after hears runs (λ o. o) c.loop.invariant.works (works_after hears runs (λ o. o) looked c.turn.ensures.works);
       outside = ap (λ (s : CpuValue). s.inside) still ∙ inside;
       read = ap (λ (s : CpuValue). s.part.readings) still ∙ (ap (λ (s : CpuValue). s.part.readings) stops ∙ c.loop.invariant.read);
-      passes = c.turn.ensures.passes ∙ (ap (λ (p : PlaceValue). p.passes) same ∙ c.loop.invariant.passes);
+      passes = c.turn.ensures.passes ∙ (ap (λ (p : MachineCpuValue). p.passes) same ∙ c.loop.invariant.passes);
     }
 
 pub returns-in-Some-look_done-clause-collected : goal.returns-in-Some-look_done-clause-collected
@@ -47,12 +47,12 @@ returns-in-Some-look_done-clause-collected g c =
       works = works_after g.H.Handler.leads g.F.StopFunc.leads (λ (o : Own). with_moves (Collected d.0 ∷ []) (with_collected d.0 o)) c.loop.invariant.works
           (works_collect g.H.Handler.leads g.F.StopFunc.leads c.loop.me c.look_done.new.me c.loop.handler c.loop.run d.0 d.2);
       result = d.3;
-      outside = ap (λ (p : PlaceValue). p.stops.inside) d.2 ∙ c.loop.invariant.outside;
+      outside = ap (λ (p : MachineCpuValue). p.stops.inside) d.2 ∙ c.loop.invariant.outside;
     }
 
 pub returns-in-Some-look_done-clause-read : goal.returns-in-Some-look_done-clause-read
 returns-in-Some-look_done-clause-read g c =
-    ap (λ (p : PlaceValue). p.stops.part.readings) c.in-Some-look_done.ensures.2 ∙ c.loop.invariant.read
+    ap (λ (p : MachineCpuValue). p.stops.part.readings) c.in-Some-look_done.ensures.2 ∙ c.loop.invariant.read
 
 pub returns-in-Some-look_done-clause-passes : goal.returns-in-Some-look_done-clause-passes
-returns-in-Some-look_done-clause-passes g c = ap (λ (p : PlaceValue). p.passes) c.in-Some-look_done.ensures.2 ∙ c.loop.invariant.passes
+returns-in-Some-look_done-clause-passes g c = ap (λ (p : MachineCpuValue). p.passes) c.in-Some-look_done.ensures.2 ∙ c.loop.invariant.passes

@@ -1,6 +1,6 @@
 use Rattle.std.proofs.Common.{ℕ, [], ◌∷◌, ap, ◌∙◌}
 use Rattle.smp_multi.specs.Names.{ReadKey}
-use Rattle.smp_machine.specs.Place.{PlaceValue}
+use Rattle.smp_machine.specs.MachineCpu.{MachineCpuValue}
 use Rattle.smp_machine.proofs.KeyStops.{readings_are, stands_so, turns_key}
 use Rattle.smp_machine.proofs.Served.{own_from, own_after}
 use Rattle.smp_machine.proofs.key.set.Goals as goal
@@ -25,7 +25,7 @@ returns-clause-last g c _ =
     let r = c.stands.ensures.no c.if-stands.false in
     let w = c.take_gate.ensures.works in
     own_after c.args.me.now c.take_gate.new.me c.patch.new.me w.serves w.passes_number
-    (own_from c.take_gate.new.me.passes c.stands.new.me.passes c.patch.new.me.passes (ap (λ (p : PlaceValue). p.passes) r.2) c.patch.ensures.last)
+    (own_from c.take_gate.new.me.passes c.stands.new.me.passes c.patch.new.me.passes (ap (λ (p : MachineCpuValue). p.passes) r.2) c.patch.ensures.last)
 
 pub returns-then-stands-clause-sets : goal.returns-then-stands-clause-sets
 returns-then-stands-clause-sets g c =

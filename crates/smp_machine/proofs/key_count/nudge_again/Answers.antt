@@ -1,7 +1,7 @@
 use Rattle.std.proofs.Common.{◌<◌, [], ◌∷◌, ◌++◌, sym, subst, ap, ◌∙◌}
 use Rattle.smp_multi.specs.Names.{Setting}
 use Rattle.smp_multi.specs.Cpu.{CpuValue}
-use Rattle.smp_machine.specs.Place.{PlaceValue}
+use Rattle.smp_machine.specs.MachineCpu.{MachineCpuValue}
 use Rattle.smp_machine.proofs.KeyCounts.{tries_none, place_more, stay_more, nudge_done, nudge_turns, nudge_lost, nudge_refused}
 use Rattle.smp_machine.proofs.key_count.nudge_again.Goals as goal
 
@@ -22,23 +22,23 @@ loop-preserved g c =
 pub returns-in-Ok-Done-clause-nudges : goal.returns-in-Ok-Done-clause-nudges
 returns-in-Ok-Done-clause-nudges g c =
     let i = c.loop.invariant in
-    nudge_done c.args.k c.args.up i.lost i.stay c.args.me.now.stops c.loop.me.stops c.try_key.new.me.stops (ap (λ (p : PlaceValue). p.stops) i.is)
+    nudge_done c.args.k c.args.up i.lost i.stay c.args.me.now.stops c.loop.me.stops c.try_key.new.me.stops (ap (λ (p : MachineCpuValue). p.stops) i.is)
     c.in-Ok-Done.field-0 c.in-Ok-Done.field-0-is c.in-Ok-Done.ensures.answers
 
 pub returns-in-Ok-Stop-clause-nudges : goal.returns-in-Ok-Stop-clause-nudges
 returns-in-Ok-Stop-clause-nudges g c =
     let i = c.loop.invariant in
-    nudge_turns c.args.k c.args.up i.lost i.stay c.args.me.now.stops c.loop.me.stops c.try_key.new.me.stops (ap (λ (p : PlaceValue). p.stops) i.is)
+    nudge_turns c.args.k c.args.up i.lost i.stay c.args.me.now.stops c.loop.me.stops c.try_key.new.me.stops (ap (λ (p : MachineCpuValue). p.stops) i.is)
     c.in-Ok-Stop.field-0 c.in-Ok-Stop.field-0-is c.in-Ok-Stop.ensures.answers
 
 pub returns-in-Err-clause-nudges : goal.returns-in-Err-clause-nudges
 returns-in-Err-clause-nudges g c =
     let i = c.loop.invariant in
-    let stops = ap (λ (p : PlaceValue). p.stops) i.is in
+    let stops = ap (λ (p : MachineCpuValue). p.stops) i.is in
     let setting = ap (λ (s : CpuValue). s.setting) stops ∙ c.requires.at.stops.setting in
     nudge_refused c.args.k c.args.up i.lost i.stay c.args.me.now.stops c.loop.me.stops c.try_key.new.me.stops stops c.in-Err.error (
       subst (λ (x : Setting). c.args.k < x.labels.keys) (sym setting) c.requires.key,
-      ap (λ (s : CpuValue). s.irq) stops ∙ (sym (ap (λ (p : PlaceValue). p.stops.irq) c.me.view_is)
-          ∙ c.interrupts_on-on.ensures.outside (ap (λ (p : PlaceValue). p.stops.inside) c.me.view_is ∙ c.requires.outside)),
+      ap (λ (s : CpuValue). s.irq) stops ∙ (sym (ap (λ (p : MachineCpuValue). p.stops.irq) c.me.view_is)
+          ∙ c.interrupts_on-on.ensures.outside (ap (λ (p : MachineCpuValue). p.stops.inside) c.me.view_is ∙ c.requires.outside)),
     )
     c.in-Err.ensures.answers

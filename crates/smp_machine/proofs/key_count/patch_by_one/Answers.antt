@@ -5,7 +5,7 @@ use Rattle.smp_labels.specs.declared.keys.Change.{Change}
 use Rattle.smp_machine.specs.Counts.{step_of}
 use Rattle.smp_machine.specs.Keys.{IsPatchOf}
 use Rattle.smp_machine.specs.Moves.{patch_after}
-use Rattle.smp_machine.specs.Place.{MachineValue}
+use Rattle.smp_machine.specs.MachineCpu.{MachineValue}
 use Rattle.smp_machine.specs.Stops.{HasStopped}
 use Rattle.smp_machine.proofs.KeyCounts.{edge_is}
 use Rattle.smp_machine.proofs.key_count.patch_by_one.Goals as goal

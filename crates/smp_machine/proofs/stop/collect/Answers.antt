@@ -5,7 +5,7 @@ use mir.Val.{SFits}
 use Rattle.smp_stop_steps.specs.declared.known.OwnMove.TheVariants.{Collected}
 use Rattle.smp_multi.specs.Answers.{IsWholeWord}
 use Rattle.smp_machine.specs.Own.{Own, with_collected, with_moves}
-use Rattle.smp_machine.specs.Place.{PlaceValue}
+use Rattle.smp_machine.specs.MachineCpu.{MachineCpuValue}
 use Rattle.smp_machine.proofs.Works.{works_none}
 use Rattle.smp_machine.proofs.Stopping.{works_after, works_collect, works_looked}
 use Rattle.smp_machine.proofs.stop.collect.Goals as goal
@@ -37,5 +37,5 @@ returns-in-Some-look_done g c =
       works = works_after g.H.Handler.leads g.F.StopFunc.leads (λ (o : Own). with_moves (Collected d.0 ∷ []) (with_collected d.0 o)) c.loop.invariant.works
           (works_collect g.H.Handler.leads g.F.StopFunc.leads c.loop.me c.look_done.new.me c.loop.handler c.loop.run d.0 d.2);
       result = d.3;
-      outside = ap (λ (p : PlaceValue). p.stops.inside) d.2 ∙ c.loop.invariant.outside;
+      outside = ap (λ (p : MachineCpuValue). p.stops.inside) d.2 ∙ c.loop.invariant.outside;
     }

@@ -3,7 +3,7 @@ use Rattle.smp_multi.specs.Cpu.{CpuValue}
 use Rattle.smp_machine.specs.declared.work_queue.Knows.TheVariants.{Puts}
 use Rattle.smp_machine.specs.WorkQueue.{IsKnown}
 use Rattle.smp_machine.specs.Own.{own_of, with_put}
-use Rattle.smp_machine.specs.Place.{PlaceValue}
+use Rattle.smp_machine.specs.MachineCpu.{MachineCpuValue}
 use Rattle.smp_machine.specs.Stops.{item}
 use Rattle.smp_machine.specs.Works.{Works}
 use Rattle.smp_machine.proofs.Works.{works_none, works_as, works_from}
@@ -19,7 +19,7 @@ loop-init g c = record {
 pub loop-preserved : goal.loop-preserved
 loop-preserved g c =
     let full = c.try_put.ensures.full c.if-try_put.false in
-    let stops = ap (λ (p : PlaceValue). p.stops) full ∙ c.loop.invariant.stops in
+    let stops = ap (λ (p : MachineCpuValue). p.stops) full ∙ c.loop.invariant.stops in
     record {
       works = works_after g.H.Handler.leads g.F.StopFunc.leads (λ o. o) c.loop.invariant.works (works_from g.H.Handler.leads g.F.StopFunc.leads full
           (works_as g.H.Handler.leads g.F.StopFunc.leads (own_of c.loop.me) (ap own_of full) c.turn.ensures.works));

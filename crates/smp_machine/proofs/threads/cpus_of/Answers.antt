@@ -1,4 +1,4 @@
-use Rattle.smp_machine.specs.Place.{fresh_place}
+use Rattle.smp_machine.specs.MachineCpu.{fresh_place}
 use Rattle.smp_machine.proofs.Crews.{below_none, below_next}
 use Rattle.smp_machine.proofs.threads.cpus_of.Goals as goal
 

@@ -1,7 +1,7 @@
 use Rattle.std.proofs.Common.{◌≡◌, map}
 use Rattle.smp_mask.specs.Mask.{members_below}
 use Rattle.smp_machine.specs.Crews.{AreLeftFrom}
-use Rattle.smp_machine.specs.Place.{fresh_place}
+use Rattle.smp_machine.specs.MachineCpu.{fresh_place}
 use Rattle.smp_machine.proofs.threads.cpus_of.Given as goal
 
 abbrev pub invariant-loop-number : goal.invariant-loop-number

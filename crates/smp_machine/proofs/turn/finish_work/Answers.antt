@@ -4,7 +4,7 @@ use Rattle.smp_machine.proofs.Polls.{going_none, going_more, going_read}
 use Rattle.smp_machine.proofs.turn.finish_work.Goals as goal
 
 pub loop-init : goal.loop-init
-loop-init g c = going_none g.H.Handler.leads g.F.StopFunc.leads c.args.me.now c.args.handler.now c.args.func.now c.requires.inside
+loop-init g c = going_none g.H.Handler.leads g.F.StopFunc.leads c.args.me.now c.args.handler.now c.args.run.now c.requires.inside
 
 pub returns-in-Left-clause-works : goal.returns-in-Left-clause-works
 returns-in-Left-clause-works g c =
@@ -13,11 +13,11 @@ returns-in-Left-clause-works g c =
 
 pub returns-in-Left-clause-read : goal.returns-in-Left-clause-read
 returns-in-Left-clause-read g c =
-    going_read g.H.Handler.leads g.F.StopFunc.leads c.args.me.now c.loop.me c.turn.new.me c.args.handler.now c.loop.handler c.args.func.now c.loop.func
+    going_read g.H.Handler.leads g.F.StopFunc.leads c.args.me.now c.loop.me c.turn.new.me c.args.handler.now c.loop.handler c.args.run.now c.loop.run
     c.loop.invariant (c.turn.ensures.stops.read c.in-Left.is)
 
 pub loop-preserved : goal.loop-preserved
 loop-preserved g c =
     going_more g.H.Handler.leads g.F.StopFunc.leads c.args.me.now c.loop.me c.turn.new.me c.args.handler.now c.loop.handler c.turn.new.handler
-    c.args.func.now c.loop.func c.turn.new.func c.turn.result c.loop.invariant c.turn.ensures.works c.turn.ensures.stops c.turn.ensures.passes
+    c.args.run.now c.loop.run c.turn.new.run c.turn.result c.loop.invariant c.turn.ensures.works c.turn.ensures.stops c.turn.ensures.passes
     c.in_default.not-Left

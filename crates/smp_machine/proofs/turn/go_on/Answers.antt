@@ -5,15 +5,15 @@ use Rattle.smp_machine.proofs.turn.go_on.Goals as goal
 
 pub go_round-requires-clause-round : goal.go_round-requires-clause-round
 go_round-requires-clause-round g c =
-    let no = not_run g.F.StopFunc.leads c.args.me.now c.run_one.new.me c.args.func.now c.run_one.new.func c.in-Err.field-0 c.in-Err.ensures in
+    let no = not_run g.F.StopFunc.leads c.args.me.now c.run_one.new.me c.args.run.now c.run_one.new.func c.in-Err.field-0 c.in-Err.ensures in
     subst IsInRound (sym no.1) (in_round c.args.me.now c.args.me.now.inside refl c.requires.inside c.requires.not_left no.0)
 
 pub returns-in-Ok-clause-stops : goal.returns-in-Ok-clause-stops
 returns-in-Ok-clause-stops g c =
-    turns_one g.F.StopFunc.leads c.args.me.now c.run_one.new.me c.args.func.now c.run_one.new.func c.in-Ok.field-0 c.in-Ok.ensures
+    turns_one g.F.StopFunc.leads c.args.me.now c.run_one.new.me c.args.run.now c.run_one.new.func c.in-Ok.field-0 c.in-Ok.ensures
 
 pub returns-in-Err-clause-stops : goal.returns-in-Err-clause-stops
 returns-in-Err-clause-stops g c =
-    let no = not_run g.F.StopFunc.leads c.args.me.now c.run_one.new.me c.args.func.now c.run_one.new.func c.in-Err.field-0 c.in-Err.ensures in
-    turns_after g.F.StopFunc.leads c.args.me.now c.run_one.new.me c.go_round.new.me c.args.func.now c.run_one.new.func c.go_round.new.func
+    let no = not_run g.F.StopFunc.leads c.args.me.now c.run_one.new.me c.args.run.now c.run_one.new.func c.in-Err.field-0 c.in-Err.ensures in
+    turns_after g.F.StopFunc.leads c.args.me.now c.run_one.new.me c.go_round.new.me c.args.run.now c.run_one.new.func c.go_round.new.run
     c.go_round.result no.1 no.2 c.go_round.ensures

@@ -8,6 +8,6 @@ use Rattle.smp_queue.proofs.handle.take.Goals as goal
 pub swap-link-requires : goal.swap-link-requires
 swap-link-requires c = in_handle_ready c.requires.at (Swap (Head c.args.number) 0) tt (ap (λ (n : ℕ). Swap (Head n) 0) c.requires.me)
 
-pub record_of-requires : goal.record_of-requires
-record_of-requires c = moment_fits _ _ handle.Take c.requires.at (Head c.args.number) c.swap-link.result c.swap-link.ensures.known.0
+pub linked-requires : goal.linked-requires
+linked-requires c = moment_fits _ _ handle.Take c.requires.at (Head c.args.number) c.swap-link.result c.swap-link.ensures.known.0
     (ap (λ (n : ℕ). Head n) c.requires.me)

@@ -11,8 +11,8 @@ use Rattle.smp_queue.proofs.reverse.reverse_one.Goals as goal
 pub load-link-requires : goal.load-link-requires
 load-link-requires c = in_handle_ready c.requires (Load (Next c.args.id)) tt refl
 
-pub record_of-older-requires : goal.record_of-older-requires
-record_of-older-requires c =
+pub linked-older-requires : goal.linked-older-requires
+linked-older-requires c =
     let l = c.load-link.ensures in
     found_fits _ _ _ _ c.requires (Next c.args.id) c.load-link.result l refl
 

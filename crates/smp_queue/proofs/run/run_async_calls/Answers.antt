@@ -10,8 +10,8 @@ load-link-requires g c =
     let here = second_at c.in-Some.is c.loop-here.invariant.at in
     in_handle_ready here (Load (Next c.in-Some.id)) tt refl
 
-pub record_of-next-requires : goal.record_of-next-requires
-record_of-next-requires g c =
+pub linked-next-requires : goal.linked-next-requires
+linked-next-requires g c =
     let here = second_at c.in-Some.is c.loop-here.invariant.at in
     search (found_fits, here, arith)
 

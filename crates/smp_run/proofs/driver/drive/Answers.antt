@@ -1,5 +1,5 @@
 use Rattle.std.proofs.Common.{◌≡◌, ◌∙◌, [], vec_items, ap, subst}
-use Rattle.smp_machine.specs.Place.{MachineValue, PlaceValue}
+use Rattle.smp_machine.specs.MachineCpu.{MachineValue, MachineCpuValue}
 use Rattle.smp_run.specs.Made.{HasMade}
 use Rattle.smp_run.specs.Seats.{IsSeated}
 use Rattle.smp_run.specs.Sent.{HasSent}
@@ -11,11 +11,11 @@ returns g c =
     let m = c.args.machine.now in let lines = c.args.lines.now in let made = c.play-cpu in let new = c.new-player in let polled = c.poll_until in
     let first = c.args.seat.cpu in let last = polled.new.self.cpu in let same = polled.ensures.same in
     let number : last.calls.number ≡ first.calls.number =
-    same.number_is ∙ (ap (λ (p : PlaceValue). p.calls.number) new.ensures.cpu ∙ made.ensures.number) in (
+    same.number_is ∙ (ap (λ (p : MachineCpuValue). p.calls.number) new.ensures.cpu ∙ made.ensures.number) in (
       subst (λ (x : MachineValue). IsSeated x last) (same.machine_is ∙ new.ensures.machine) polled.new.self.own,
       number,
       made.ensures.answered,
       run_polled m lines (vec_items made.result.answers) first made.result.cpu last c.requires.new.fresh number made.ensures.sent made.ensures.played
-          (subst (λ (p : PlaceValue). HasSent [] p last) new.ensures.cpu polled.ensures.sent)
-          (subst (λ (p : PlaceValue). HasMade [] p last) new.ensures.cpu polled.ensures.stops) polled.new.self.waited,
+          (subst (λ (p : MachineCpuValue). HasSent [] p last) new.ensures.cpu polled.ensures.sent)
+          (subst (λ (p : MachineCpuValue). HasMade [] p last) new.ensures.cpu polled.ensures.stops) polled.new.self.waited,
     )

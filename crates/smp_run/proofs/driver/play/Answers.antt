@@ -1,6 +1,6 @@
 use Rattle.std.proofs.Common.{◌≡◌, List, ◌∙◌, sym, subst}
 use Rattle.std.proofs.lemmas.List.{take_at}
-use Rattle.smp_machine.specs.Place.{MachineValue, PlaceValue}
+use Rattle.smp_machine.specs.MachineCpu.{MachineValue, MachineCpuValue}
 use Rattle.smp_run.specs.Answers.{Answered}
 use Rattle.smp_run.specs.Made.{HasPlayed}
 use Rattle.smp_run.specs.Seats.{keys_at}
@@ -11,7 +11,7 @@ pub returns-clause-answered : goal.returns-clause-answered
 returns-clause-answered g c =
     let m = c.args.machine.now in let lines = c.args.lines.now in let told = c.answer_all.new.answers in let new = c.new-player in
     let here : Answered m.calls.online (keys_at m) (λ n. n ≡ c.args.seat.cpu.calls.number) lines told =
-    subst (λ (p : PlaceValue). Answered m.calls.online (keys_at m) (λ n. n ≡ p.calls.number) lines told) new.ensures.cpu
+    subst (λ (p : MachineCpuValue). Answered m.calls.online (keys_at m) (λ n. n ≡ p.calls.number) lines told) new.ensures.cpu
     (subst (λ (x : MachineValue). Answered x.calls.online (keys_at x) (λ n. n ≡ new.result.cpu.calls.number) lines told) new.ensures.machine
     c.answer_all.ensures.answered) in
     subst (λ (xs : List Answer). Answered m.calls.online (keys_at m) (λ n. n ≡ c.args.seat.cpu.calls.number) lines xs)
@@ -22,7 +22,7 @@ returns-clause-played g c =
     let m = c.args.machine.now in let lines = c.args.lines.now in let told = c.answer_all.new.answers in let new = c.new-player in
     let last = c.answer_all.new.self.cpu in
     let here : HasPlayed m lines told c.args.seat.cpu last =
-    subst (λ (p : PlaceValue). HasPlayed m lines told p last) new.ensures.cpu
+    subst (λ (p : MachineCpuValue). HasPlayed m lines told p last) new.ensures.cpu
     (subst (λ (x : MachineValue). HasPlayed x lines told new.result.cpu last) new.ensures.machine c.answer_all.ensures.played) in
     subst (λ (xs : List Answer). HasPlayed m lines xs c.args.seat.cpu last)
     (sym (take_at told _ _ (c.answer_all.ensures.answered.sized ∙ sym c.requires.ready.sized))) here

@@ -1,5 +1,5 @@
 use Rattle.std.proofs.Common.{◌≡◌, ◌≢◌, ℕ, false, Some, List, length, [], ◌∷◌, ◌++◌, ◌∙◌, vec_items, arith, subst, sym}
-use Rattle.smp_machine.specs.Place.{MachineValue}
+use Rattle.smp_machine.specs.MachineCpu.{MachineValue}
 use Rattle.smp_script.specs.declared.directive.Directive.{Directive}
 use Rattle.smp_run.specs.Tasks.{IsStarted}
 use Rattle.smp_run.specs.Answers.{Answered, Gathers, IsJoined}

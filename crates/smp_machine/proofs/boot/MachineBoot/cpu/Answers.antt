@@ -2,7 +2,7 @@ use Rattle.std.proofs.Common.{◌≡◌, true, Option, List, set, map, sym, ap, 
 use Rattle.std.specs.Prelude.{is_some}
 use Rattle.std.proofs.lemmas.List.{map-set}
 use Rattle.smp_mask.specs.Mask.{has}
-use Rattle.smp_machine.specs.Place.{BootValue, PlaceValue, fresh_place, is_left, given}
+use Rattle.smp_machine.specs.MachineCpu.{BootValue, MachineCpuValue, fresh_place, is_left, given}
 use Rattle.smp_machine.proofs.Seating.{taken_from, waits_fresh, left_is}
 use Rattle.smp_machine.proofs.boot.MachineBoot.cpu.Goals as goal
 use Rattle.smp_machine.proofs.boot.MachineBoot.cpu.Goals.{in-Some, in-None}
@@ -11,7 +11,7 @@ pub returns-clause-ok : goal.returns-clause-ok
 returns-clause-ok g c = elim c.match-take.branch [
   | in-Some w ↦
       let b = c.self.inside in
-      let items : List (Option PlaceValue) = b.waiting.items in
+      let items : List (Option MachineCpuValue) = b.waiting.items in
       let cpu = c.args.cpu in
       let m = c.self.invariant in
       let old : BootValue = record { machine = b.machine.value; left = map is_some items } in
@@ -22,7 +22,7 @@ returns-clause-ok g c = elim c.match-take.branch [
       let gone : new ≡ given cpu old =
       λ i. record {
         machine = b.machine.value;
-        left = (map-set is_some items cpu c.take.new.self ∙ ap (λ (o : Option PlaceValue). set (map is_some items) cpu (is_some o)) c.take.ensures.after) i;
+        left = (map-set is_some items cpu c.take.new.self ∙ ap (λ (o : Option MachineCpuValue). set (map is_some items) cpu (is_some o)) c.take.ensures.after) i;
       } in
       rw (w.result-is) (subst (λ (v : BootValue). (w.in-Some.given ≡ fresh_place v.machine cpu) × (has v.machine.calls.online cpu ≡ true)
       × (is_left v cpu ≡ true) × (new ≡ given cpu v)) c.self.view_is

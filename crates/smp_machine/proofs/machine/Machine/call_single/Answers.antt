@@ -1,11 +1,11 @@
 use Rattle.std.proofs.Common.{rules, subst}
 use Rattle.smp_machine.specs.Answers.{SingleAnswers}
-use Rattle.smp_machine.specs.Place.{PlaceValue}
+use Rattle.smp_machine.specs.MachineCpu.{MachineCpuValue}
 use Rattle.smp_machine.proofs.machine.Machine.call_single.Goals as goal
 
 pub returns : goal.returns
 returns g c =
-    subst (λ (p : PlaceValue). SingleAnswers g.H.Handler.leads c.args.self.now p c.args.handler.now c.single.new.me c.single.new.handler c.args.dst c.args.func c.args.info c.args.wait
+    subst (λ (p : MachineCpuValue). SingleAnswers g.H.Handler.leads c.args.self.now p c.args.handler.now c.single.new.me c.single.new.handler c.args.dst c.args.func c.args.info c.args.wait
     c.single.result) c.me.view_is (record {
       free = search rules;
       queued = c.single.ensures.queued;

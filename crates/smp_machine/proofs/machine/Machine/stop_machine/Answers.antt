@@ -1,6 +1,6 @@
 use Rattle.std.proofs.Common.{SFits, rules, subst, w32}
 use Rattle.std.proofs.lemmas.Int.{to_z-of_z}
-use Rattle.smp_machine.specs.Place.{MachineValue}
+use Rattle.smp_machine.specs.MachineCpu.{MachineValue}
 use Rattle.smp_machine.specs.Stops.{IsMachineWork}
 use Rattle.smp_machine.proofs.Stopping.{stop_seen}
 use Rattle.smp_machine.proofs.machine.Machine.stop_machine.Goals as goal

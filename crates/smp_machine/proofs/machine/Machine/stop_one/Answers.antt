@@ -1,7 +1,7 @@
 use Rattle.std.proofs.Common.{◌≡◌, ℤ, SFits, rules, subst, sym, w32}
 use Rattle.std.proofs.lemmas.Int.{to_z-of_z}
 use Rattle.smp_machine.specs.OwnAnswers.{HasCalledFor}
-use Rattle.smp_machine.specs.Place.{PlaceValue}
+use Rattle.smp_machine.specs.MachineCpu.{MachineCpuValue}
 use Rattle.smp_machine.proofs.OwnCounts.{one_itself}
 use Rattle.smp_machine.proofs.Stopping.{stop_seen}
 use Rattle.smp_machine.proofs.machine.Machine.stop_one.Goals as goal
@@ -20,5 +20,5 @@ returns-clause-own g c =
     let new = c.stop.new.me in
     subst (λ (x : ℤ). c.args.dst ≡ c.args.me.now.stops.number → HasCalledFor c.args.func c.args.arg c.args.me.now.stops new.stops x)
     (sym (to_z-of_z w32 v fits))
-    (subst (λ (p : PlaceValue). c.args.dst ≡ p.stops.number → HasCalledFor c.args.func c.args.arg p.stops new.stops v) c.me.view_is
+    (subst (λ (p : MachineCpuValue). c.args.dst ≡ p.stops.number → HasCalledFor c.args.func c.args.arg p.stops new.stops v) c.me.view_is
     (one_itself c.args.dst c.args.func c.args.arg c.one_work-work.result c.me.inside.place.stops new.stops v c.one_work-work.ensures.work c.stop.ensures.own))

@@ -3,7 +3,7 @@ use Rattle.std.proofs.lemmas.List.{nil_from_length}
 use Rattle.std.specs.Vec.Iter.{into_iter_items}
 use Rattle.smp_mask.specs.Mask.{members}
 use Rattle.smp_machine.specs.Crews.{AreFor, IsPlayed}
-use Rattle.smp_machine.specs.Place.{MachineValue}
+use Rattle.smp_machine.specs.MachineCpu.{MachineValue}
 use Rattle.smp_machine.specs.Threads.{IsTaskOf}
 use Rattle.smp_machine.proofs.Crews.{moved_none, moved_more, moved_all}
 use Rattle.smp_machine.proofs.threads.Run.join_all.Goals as goal

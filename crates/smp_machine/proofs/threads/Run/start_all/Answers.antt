@@ -2,7 +2,7 @@ use Rattle.std.proofs.Common.{rules, ℕ, ◌≡◌, List, map, ap, sym, ◌∙�
 use Rattle.std.proofs.lemmas.List.{nil_from_length}
 use Rattle.std.specs.Vec.Iter.{into_iter_items}
 use Rattle.smp_mask.specs.Mask.{members}
-use Rattle.smp_machine.specs.Place.{PlaceValue, fresh_place}
+use Rattle.smp_machine.specs.MachineCpu.{MachineCpuValue, fresh_place}
 use Rattle.smp_machine.specs.Threads.{IsTaskOf}
 use Rattle.smp_machine.specs.Crews.{AreFor}
 use Rattle.smp_machine.proofs.Crews.{moved_none, moved_more, moved_next, moved_all, mapped, fresh_own}
@@ -21,7 +21,7 @@ loop-cpu-preserved g c =
       search rules,
       search rules,
       moved_more (λ n t. IsTaskOf m crew n t.promise) (λ n x. x ≡ fresh_place m n) (members m.calls.online) _ _ c.in-Some.cpu _ _ h step.0 (search rules)
-          (λ n is. subst (λ (i : ℕ). IsTaskOf m crew i h.promise) (ap (λ (p : PlaceValue). p.calls.number) is) c.in-Some-start.ensures)
+          (λ n is. subst (λ (i : ℕ). IsTaskOf m crew i h.promise) (ap (λ (p : MachineCpuValue). p.calls.number) is) c.in-Some-start.ensures)
           c.loop-cpu.invariant.2,
     )
 
@@ -32,7 +32,7 @@ loop-cpu-init g c =
       search rules,
       search rules,
       moved_none (λ n t. IsTaskOf m c.args.self.now.crew.now n t.promise) (λ n x. x ≡ fresh_place m n) numbers _ _ c.requires.none.1
-          (subst (λ (xs : List PlaceValue). AreFor (λ n x. x ≡ fresh_place m n) numbers xs) is (mapped (fresh_place m) numbers)),
+          (subst (λ (xs : List MachineCpuValue). AreFor (λ n x. x ≡ fresh_place m n) numbers xs) is (mapped (fresh_place m) numbers)),
     )
 
 pub returns-clause-started : goal.returns-clause-started

@@ -1,7 +1,7 @@
 use Rattle.std.proofs.Common.{◌≡◌, ◌+◌, ◌≤◌, vec_len, vec_capacity}
 use Rattle.std.specs.Vec.Iter.{into_iter_items, into_iter_len}
 use Rattle.smp_mask.specs.Mask.{members}
-use Rattle.smp_machine.specs.Place.{fresh_place}
+use Rattle.smp_machine.specs.MachineCpu.{fresh_place}
 use Rattle.smp_machine.specs.Threads.{IsTaskOf}
 use Rattle.smp_machine.proofs.Crews.{Moved}
 use Rattle.smp_machine.proofs.threads.Run.start_all.Given as goal

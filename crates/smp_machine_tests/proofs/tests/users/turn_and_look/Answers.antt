@@ -9,7 +9,7 @@ use Rattle.smp_multi.specs.Cpu.{CpuValue, TableValue}
 use Rattle.smp_multi.specs.Names.{Reading, ReadKey, ReadSite, Setting}
 use Rattle.smp_multi.specs.Reads.{SiteAnswers, jumps}
 use Rattle.smp_machine.specs.Keys.{Reads, Sets}
-use Rattle.smp_machine.specs.Place.{PlaceValue}
+use Rattle.smp_machine.specs.MachineCpu.{MachineCpuValue}
 use Rattle.smp_machine.specs.ReadLaws.{KindsFollowKeys, is_jump}
 use Rattle.smp_machine_tests.proofs.tests.users.turn_and_look.Goals as goal
 
@@ -28,9 +28,9 @@ answer_read law setting mid new k i on (Ok kind) same read a = λ e at key.
 answer_read law setting mid new k i on (Err x) same read a = tt
 
 -- the machine's labels are still the CPU's
-setting_kept : {H F : Type 0} (hears : H → Heard → H → Type 0) (runs : F → Called → F → Type 0) (t : TableValue) (k : ℕ) (on : Bool) (p : PlaceValue) (h : H)
+setting_kept : {H F : Type 0} (hears : H → Heard → H → Type 0) (runs : F → Called → F → Type 0) (t : TableValue) (k : ℕ) (on : Bool) (p : MachineCpuValue) (h : H)
     (f : F)
-    (new : PlaceValue) (h' : H) (f' : F) (turned : Bool) → Sets hears runs t k on p h f new h' f' turned → new.stops.setting ≡ p.stops.setting
+    (new : MachineCpuValue) (h' : H) (f' : F) (turned : Bool) → Sets hears runs t k on p h f new h' f' turned → new.stops.setting ≡ p.stops.setting
 setting_kept hears runs t k on p h f new h' f' false s = s.works.setting_is
 setting_kept hears runs t k on p h f new h' f' true s = s.stopped.works.setting_is
 

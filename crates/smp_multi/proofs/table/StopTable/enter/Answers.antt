@@ -2,7 +2,7 @@ use Rattle.std.proofs.Common.{◌≡◌, true, false, None, Result, IfOk, IfErr,
 use Rattle.smp_mask.specs.Mask.{has}
 use Rattle.smp_mask.specs.declared.error.SmpError.{SmpError}
 use Rattle.smp_mask.specs.declared.error.SmpError.TheVariants as error
-use Rattle.smp_stop_steps.specs.Starts.{has_slot}
+use Rattle.smp_stop_steps.specs.Start.{has_slot}
 use Rattle.smp_multi.specs.Names.{Slot, Kind, Free, Idle}
 use Rattle.smp_multi.specs.Names.field
 use Rattle.smp_multi.specs.Answers.{Enters, Misses, RefusesEntry}

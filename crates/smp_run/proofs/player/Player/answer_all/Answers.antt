@@ -1,5 +1,5 @@
 use Rattle.std.proofs.Common.{rules, ◌≡◌, ℕ, [], ◌∷◌, ◌++◌, length, ◌∙◌, refl, sym, subst, arith}
-use Rattle.smp_machine.specs.Place.{MachineValue}
+use Rattle.smp_machine.specs.MachineCpu.{MachineValue}
 use Rattle.smp_run.specs.Answers.{IsLineAnswer}
 use Rattle.smp_run.specs.Made.{AreLinesMade, IsLineMade}
 use Rattle.smp_run.specs.Seats.{keys_at}

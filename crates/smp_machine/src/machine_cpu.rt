@@ -3,7 +3,7 @@
 ghost use Rattle.std.specs.Prelude.{◌≡◌, ◌≢◌, ◌<◌, None, true, false};
 ghost use Rattle.smp_words.specs.Size.{cpus};
 ghost use Rattle.smp_multi.specs.Laws.{IsShown};
-ghost use Rattle.smp_machine.specs.Place.{HasNotLeft};
+ghost use Rattle.smp_machine.specs.MachineCpu.{HasNotLeft};
 
 use crate::stoppers::Passes;
 use smp_multi::{StopCpu, StopTable};
@@ -13,23 +13,23 @@ use std::marker::Model;
 
 /// One CPU: its part of the calls, of the stops and of the queues.
 #[derive(Drop)]
-pub(crate) struct Place<A: Allocator> {
+pub(crate) struct MachineCpu<A: Allocator> {
     pub(crate) calls: CallCpu,
     pub(crate) stops: StopCpu,
     pub(crate) passes: Passes<A>,
 }
 
-impl<A: Allocator> Model for Place<A> {
-    ghost use Rattle.smp_machine.specs.Place.{PlaceValue, IsPlace};
+impl<A: Allocator> Model for MachineCpu<A> {
+    ghost use Rattle.smp_machine.specs.MachineCpu.{MachineCpuValue, IsMachineCpu};
 
-    ghost Value = { PlaceValue };
+    ghost Value = { MachineCpuValue };
 
     ghost view = { λ p. record { calls = p.calls; stops = p.stops; passes = p.passes } };
 
-    ghost invariant = { λ p. IsPlace (record { calls = p.calls; stops = p.stops; passes = p.passes }) };
+    ghost invariant = { λ p. IsMachineCpu (record { calls = p.calls; stops = p.stops; passes = p.passes }) };
 }
 
-impl<A: Allocator> Place<A> {
+impl<A: Allocator> MachineCpu<A> {
     /// The CPU's number.
     pub(crate) fn number(&self) -> u32
         ensures number { (result ≡ self.now.calls.number) × (result ≡ self.now.stops.number) × (result ≡ self.now.passes.number) }

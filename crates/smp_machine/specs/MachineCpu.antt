@@ -15,7 +15,7 @@ pub record MachineValue : Type 0 where
   pub queues : List TableId
 
 -- a CPU: its part of the calls, of the stops and of the queues
-pub record PlaceValue : Type 0 where
+pub record MachineCpuValue : Type 0 where
   pub calls : CallCpuValue
   pub stops : StopCpuValue
   pub passes : PassesValue
@@ -27,7 +27,7 @@ pub record IsMachine (m : MachineValue) : Type 0 where
   pub limits : AreLimits m.calls.nr m.calls.online
 
 -- the CPU is one of this machine
-pub record IsAt (m : MachineValue) (p : PlaceValue) : Type 0 where
+pub record IsAt (m : MachineValue) (p : MachineCpuValue) : Type 0 where
   pub calls : p.calls.table ≡ m.calls.table
   pub stops : IsAtStops m.stops p.stops
   pub queues : p.passes.queues ≡ m.queues
@@ -38,18 +38,18 @@ HasNotLeft None = Unit {0}
 HasNotLeft (Some stop) = stop.acked ≢ EXIT
 
 -- its parts are of one CPU, and it is between two turns
-pub record IsPlace (p : PlaceValue) : Type 0 where
+pub record IsMachineCpu (p : MachineCpuValue) : Type 0 where
   pub stops_number : p.stops.number ≡ p.calls.number
   pub passes_number : p.passes.number ≡ p.calls.number
   pub not_left : HasNotLeft p.stops.inside
 
 -- between two calls of a user the CPU does not hold the gate, and no stop of its own is left to collect
-pub record IsQuiet (p : PlaceValue) : Type 0 where
+pub record IsQuiet (p : MachineCpuValue) : Type 0 where
   pub gate : p.stops.part.holds ≡ false
   pub collected : p.stops.pending ≡ None
 
 -- a CPU that has done nothing
-abbrev pub fresh_place : MachineValue → ℕ → PlaceValue
+abbrev pub fresh_place : MachineValue → ℕ → MachineCpuValue
 fresh_place m cpu = record { calls = fresh_calls m.calls cpu; stops = fresh_stops m.stops.table m.stops.setting cpu; passes = fresh_passes m.queues cpu }
 
 -- the machine whose CPUs are given out, and which of these are left
@@ -66,7 +66,7 @@ abbrev pub given : ℕ → BootValue → BootValue
 given cpu b = record b { left = slice_set b.left cpu false }
 
 -- each CPU that is online waits fresh, or was given out
-pub record AreWaiting (m : MachineValue) (online : ℕ) (waiting : List (Option PlaceValue)) : Type 0 where
+pub record AreWaiting (m : MachineValue) (online : ℕ) (waiting : List (Option MachineCpuValue)) : Type 0 where
   pub online_is : online ≡ m.calls.online
   pub sized : (cpu : ℕ) → has online cpu ≡ true → cpu < length waiting
   pub fresh_are : (cpu : ℕ) → has online cpu ≡ true → IfSome (slice_index_or waiting cpu None) (λ c. c ≡ fresh_place m cpu)
