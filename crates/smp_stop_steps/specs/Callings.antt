@@ -26,13 +26,13 @@ IsCallOf w call = (call.func ≡ w.func) × (call.arg ≡ w.arg)
 abbrev pub MayCall : ℕ → Work → ℕ → ℕ → Turn → Type 0
 MayCall c w a l t = (t ≡ Rests) × ((w.kind ≡ One) ⊎ ((a ≡ DISABLE_IRQ) × (l ≡ RUN) × (calls_at_run c w ≡ true)))
 
--- an active CPU carries an answer from its acknowledgement of RUN on, and no other does
+-- an active CPU carries an answer from its acknowledgement of RUN on, and no other does, nor stores one
 abbrev pub IsCalling : ℕ → Seat → Calling → Type 0
 IsCalling c (In s w a l t) Idle = RUN ≤ a → has w.active c ≡ false
 IsCalling c (In s w a l t) (Calls call) = IsCallOf w call × MayCall c w a l t
 IsCalling c (In s w a l t) (Carries answer) = (RUN ≤ a) × (has w.active c ≡ true)
 IsCalling c (Gives s w a v) (Calls call) = IsCallOf w call × (w.kind ≡ One) × (call.answer ≡ v)
-IsCalling c (Gives s w a v) (Carries answer) = answer ≡ v
+IsCalling c (Gives s w a v) (Carries answer) = (answer ≡ v) × (has w.active c ≡ true)
 IsCalling c (Alters s w count made rest) Idle = Unit {0}
 IsCalling c (Closes s) Idle = Unit {0}
 IsCalling c Free Idle = Unit {0}

@@ -1,7 +1,7 @@
 -- What was begun, answered and collected: the results of stops.
-use Rattle.std.specs.Prelude.{◌≡◌, ℕ, cond, List, [], ◌∷◌, ◌++◌}
-use Rattle.smp_stop_steps.specs.Names.{has, Work}
-use Rattle.smp_stop_steps.specs.Stop.{Standing, Completed, Stop}
+use Rattle.std.specs.Prelude.{◌≡◌, ◌≢◌, ℕ, false, cond, List, [], ◌∷◌, ◌++◌}
+use Rattle.smp_stop_steps.specs.Names.{has, One, Work}
+use Rattle.smp_stop_steps.specs.Stop.{Standing, Completed, Stop, answer_of}
 use Rattle.smp_stop_steps.specs.Laws.{IsResult}
 
 -- a stop that was collected: its work, what each CPU of its mask answered, and its result
@@ -10,10 +10,14 @@ pub record Past : Type 0 where
   pub answer : ℕ → ℕ
   pub result : ℕ
 
--- the result of each is one of its answers
+-- in a stop of several CPUs those that are not active answer 0
+abbrev pub OnlyActiveAnswer : Work → (ℕ → ℕ) → Type 0
+OnlyActiveAnswer work answer = work.kind ≢ One → (c : ℕ) → has work.active c ≡ false → answer c ≡ 0
+
+-- the result of each is one of its answers, which are those of active CPUs
 abbrev pub AllPast : List Past → Type 0
 AllPast [] = Unit {0}
-AllPast (x ∷ rest) = IsResult x.work.mask x.answer x.result × AllPast rest
+AllPast (x ∷ rest) = (IsResult x.work.mask x.answer x.result × OnlyActiveAnswer x.work x.answer) × AllPast rest
 
 abbrev pub works_of : List Past → List Work
 works_of [] = []
@@ -37,12 +41,13 @@ abbrev pub work_now : Stop → List Work
 work_now stop = cond stop.is_open (stop.work ∷ []) []
 
 -- the results of stops, of one source: the works begun are those collected and the open one, each result is one of the
--- answers of its own work, and each CPU of its mask gave it exactly one
+-- answers of its own work, each CPU of its mask gave it exactly one, and in the open stop too only active CPUs answer
 pub record PastShows (past : List Past) (stop : Stop) (begun : List Work) (collected : List ℕ) (answers : ℕ → List ℕ) : Type 0 where
   pub each : AllPast past
   pub begun_are : begun ≡ works_of past ++ work_now stop
   pub collected_are : collected ≡ results_of past
   pub answers_are : (c : ℕ) → answers c ≡ answers_of c past ++ answer_now (stop.standing c)
+  pub active : OnlyActiveAnswer stop.work (λ c. answer_of (stop.standing c))
 
 abbrev pub HasPast : Stop → List Work → List ℕ → (ℕ → List ℕ) → Type 0
 HasPast stop begun collected answers = (past : List Past) × PastShows past stop begun collected answers
