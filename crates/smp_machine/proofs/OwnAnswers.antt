@@ -6,13 +6,15 @@ use Rattle.std.proofs.lemmas.Bool.{and_parts, cases_eq}
 use Rattle.std.proofs.lemmas.List.{append-nil, get_or-set_same, get_or-set_other}
 use Rattle.smp_mask.specs.Mask.{has}
 use Rattle.smp_words.specs.Size.{cpus}
+use Rattle.smp_stop_steps.specs.Callings.{IsCalling}
 use Rattle.smp_stop_steps.specs.Seats.{Stands}
 use Rattle.smp_stop_steps.specs.State.{Present}
 use Rattle.smp_stop_steps.specs.Stop.{is_of}
+use Rattle.smp_stop_steps.specs.declared.phase.TheConstants.{DISABLE_IRQ, RUN}
 use Rattle.smp_multi.specs.Cpu.{CpuValue as StopCpuValue, Inside, inside_of}
 use Rattle.smp_multi.specs.Laws.{IsShown, IsInside, IsPending}
-use Rattle.smp_multi.specs.Names.{Work, StopCall, One, Seat, Free, In, Gives, Alters, Closes}
-use Rattle.smp_machine.specs.OwnAnswers.{IsIn, IsCalled, IsOwnAnswer, OwnAnswers}
+use Rattle.smp_multi.specs.Names.{Work, StopCall, One, Multi, Seat, Free, In, Gives, Alters, Closes, Calling, Idle, Calls, Carries}
+use Rattle.smp_machine.specs.OwnAnswers.{IsIn, IsCalled, IsGiven, IsOwnAnswer, HasToRun, CarriesFor, OwnAnswers}
 
 -- ---- lists
 
@@ -36,12 +38,20 @@ called_left xs ys func arg answer (call, there, f, a, x) = (call, in_left xs ys 
 called_right : (xs ys : List StopCall) (func arg answer : ℕ) → IsCalled ys func arg answer → IsCalled (xs ++ ys) func arg answer
 called_right xs ys func arg answer (call, there, f, a, x) = (call, in_right xs ys call there, f, a, x)
 
+-- what it carries it carried before, where it is in the same stop
+pub carried_still : (old new : StopCpuValue) (calls : List StopCall)
+    → ((stop : Inside) → new.inside ≡ Some stop → stop.acked ≡ RUN → old.inside ≡ Some stop) → new.part.calling ≡ old.part.calling
+    → (work : Work) (answer : ℕ) → HasToRun old.number work → CarriesFor new work answer → IsGiven old calls work answer
+carried_still old new calls there calling work answer run k =
+    inr (record { stop = k.stop; is = there k.stop k.is k.at_run; work_is = k.work_is; at_run = k.at_run; carries = sym calling ∙ k.carries })
+
 -- ---- one stretch, and then another
 
 -- it has answered none
 pub own_none : (old new : StopCpuValue) (calls : List StopCall) → new.part.calls ≡ old.part.calls ++ calls → new.part.begun ≡ old.part.begun
-    → new.pending ≡ old.pending → new.part.answers ≡ old.part.answers → OwnAnswers old new
-own_none old new calls calls_are begun pending answers = record {
+    → new.pending ≡ old.pending → new.part.answers ≡ old.part.answers
+    → ((work : Work) (answer : ℕ) → HasToRun old.number work → CarriesFor new work answer → IsGiven old calls work answer) → OwnAnswers old new
+own_none old new calls calls_are begun pending answers carried = record {
   calls = calls;
   calls_are = calls_are;
   begun = [];
@@ -50,11 +60,14 @@ own_none old new calls calls_are begun pending answers = record {
   answers = [];
   answers_are = ap (λ (l : List (List ℕ)). slice_index_or l old.number []) answers ∙ sym (append-nil (slice_index_or old.part.answers old.number []));
   each = tt;
+  carried = carried;
 }
 
 pub own_still : (old new : StopCpuValue) → new.part.calls ≡ old.part.calls → new.part.begun ≡ old.part.begun → new.pending ≡ old.pending
-    → new.part.answers ≡ old.part.answers → OwnAnswers old new
-own_still old new calls begun pending answers = own_none old new [] (calls ∙ sym (append-nil old.part.calls)) begun pending answers
+    → new.part.answers ≡ old.part.answers → ((stop : Inside) → new.inside ≡ Some stop → stop.acked ≡ RUN → old.inside ≡ Some stop)
+    → new.part.calling ≡ old.part.calling → OwnAnswers old new
+own_still old new calls begun pending answers there calling =
+    own_none old new [] (calls ∙ sym (append-nil old.part.calls)) begun pending answers (carried_still old new [] there calling)
 
 some_same : {A : Type 0} {a b : A} → Some a ≡ Some b → a ≡ b
 some_same e = cc
@@ -64,8 +77,8 @@ some_none e n = cc
 
 -- it has begun a stop
 pub own_begun : (old new : StopCpuValue) (work : Work) → new.part.calls ≡ old.part.calls → new.part.begun ≡ old.part.begun ++ work ∷ []
-    → new.pending ≡ Some work → new.part.answers ≡ old.part.answers → OwnAnswers old new
-own_begun old new work calls begun pending answers = record {
+    → new.pending ≡ Some work → new.part.answers ≡ old.part.answers → new.inside ≡ old.inside → new.part.calling ≡ old.part.calling → OwnAnswers old new
+own_begun old new work calls begun pending answers inside calling = record {
   calls = [];
   calls_are = calls ∙ sym (append-nil old.part.calls);
   begun = work ∷ [];
@@ -74,12 +87,13 @@ own_begun old new work calls begun pending answers = record {
   answers = [];
   answers_are = ap (λ (l : List (List ℕ)). slice_index_or l old.number []) answers ∙ sym (append-nil (slice_index_or old.part.answers old.number []));
   each = tt;
+  carried = carried_still old new [] (λ stop e at. sym inside ∙ e) calling;
 }
 
 -- it has collected one
 pub own_collected : (old new : StopCpuValue) → new.part.calls ≡ old.part.calls → new.part.begun ≡ old.part.begun → new.pending ≡ None
-    → new.part.answers ≡ old.part.answers → OwnAnswers old new
-own_collected old new calls begun pending answers = record {
+    → new.part.answers ≡ old.part.answers → new.inside ≡ old.inside → new.part.calling ≡ old.part.calling → OwnAnswers old new
+own_collected old new calls begun pending answers inside calling = record {
   calls = [];
   calls_are = calls ∙ sym (append-nil old.part.calls);
   begun = [];
@@ -88,6 +102,7 @@ own_collected old new calls begun pending answers = record {
   answers = [];
   answers_are = ap (λ (l : List (List ℕ)). slice_index_or l old.number []) answers ∙ sym (append-nil (slice_index_or old.part.answers old.number []));
   each = tt;
+  carried = carried_still old new [] (λ stop e at. sym inside ∙ e) calling;
 }
 
 -- it has completed the stop that it was in
@@ -95,8 +110,8 @@ pub own_answered : (old new : StopCpuValue) (stop : Inside) (answer : ℕ) (call
     → new.part.begun ≡ old.part.begun → new.pending ≡ old.pending
     → new.part.answers ≡ slice_set old.part.answers stop.slot (slice_index_or old.part.answers stop.slot [] ++ answer ∷ [])
     → old.number < length old.part.answers → (stop.slot ≡ old.number → old.pending ≡ Some stop.work)
-    → (stop.work.kind ≡ One → IsCalled calls stop.work.func stop.work.arg answer) → OwnAnswers old new
-own_answered old new stop answer calls calls_are begun pending answers low link given = elim (cases_eq stop.slot old.number) [
+    → (HasToRun old.number stop.work → IsGiven old calls stop.work answer) → new.inside ≡ None → OwnAnswers old new
+own_answered old new stop answer calls calls_are begun pending answers low link given outside = elim (cases_eq stop.slot old.number) [
   | inl same ↦ record {
     calls = calls;
     calls_are = calls_are;
@@ -108,6 +123,7 @@ own_answered old new stop answer calls calls_are begun pending answers low link 
         ∙ (ap (λ (k : ℕ). slice_index_or (slice_set old.part.answers k (slice_index_or old.part.answers k [] ++ answer ∷ [])) old.number []) same
         ∙ get_or-set_same old.part.answers old.number (slice_index_or old.part.answers old.number [] ++ answer ∷ []) [] low);
     each = ((stop.work, inl (link same), given), tt);
+    carried = λ work x run k. absurd (some_none k.is outside);
   }
   | inr apart ↦ record {
     calls = calls;
@@ -120,6 +136,7 @@ own_answered old new stop answer calls calls_are begun pending answers low link 
         ∙ (get_or-set_other old.part.answers stop.slot old.number (slice_index_or old.part.answers stop.slot [] ++ answer ∷ []) [] (λ e. apart (sym e))
         ∙ sym (append-nil (slice_index_or old.part.answers old.number [])));
     each = tt;
+    carried = λ work x run k. absurd (some_none k.is outside);
   }
 ]
 
@@ -133,9 +150,10 @@ own_then old mid new number a b = record {
   answers = a.answers ++ b.answers;
   answers_are = subst (λ (n : ℕ). slice_index_or new.part.answers n [] ≡ slice_index_or mid.part.answers n [] ++ b.answers) number b.answers_are
       ∙ (ap (λ (l : List ℕ). l ++ b.answers) a.answers_are ∙ append_assoc (slice_index_or old.part.answers old.number []) a.answers b.answers);
-  each = all_append (IsOwnAnswer old.pending (a.begun ++ b.begun) (a.calls ++ b.calls)) a.answers b.answers
-      (all_as (IsOwnAnswer old.pending a.begun a.calls) (IsOwnAnswer old.pending (a.begun ++ b.begun) (a.calls ++ b.calls)) a.answers first a.each)
-      (all_as (IsOwnAnswer mid.pending b.begun b.calls) (IsOwnAnswer old.pending (a.begun ++ b.begun) (a.calls ++ b.calls)) b.answers second b.each);
+  each = all_append (IsOwnAnswer old (a.begun ++ b.begun) (a.calls ++ b.calls)) a.answers b.answers
+      (all_as (IsOwnAnswer old a.begun a.calls) (IsOwnAnswer old (a.begun ++ b.begun) (a.calls ++ b.calls)) a.answers first a.each)
+      (all_as (IsOwnAnswer mid b.begun b.calls) (IsOwnAnswer old (a.begun ++ b.begun) (a.calls ++ b.calls)) b.answers second b.each);
+  carried = λ work x run k. joined work x run (b.carried work x (mid_runs work run) k);
 }
   where
     earlier : (work : Work) → (old.pending ≡ Some work) ⊎ IsIn a.begun work → (old.pending ≡ Some work) ⊎ IsIn (a.begun ++ b.begun) work
@@ -146,11 +164,23 @@ own_then old mid new number a b = record {
     pended work (inl was) = earlier work (a.pends work was)
     pended work (inr there) = inr (in_right a.begun b.begun work there)
 
-    first : (x : ℕ) → IsOwnAnswer old.pending a.begun a.calls x → IsOwnAnswer old.pending (a.begun ++ b.begun) (a.calls ++ b.calls) x
-    first x (work, which, given) = (work, earlier work which, λ one. called_left a.calls b.calls work.func work.arg x (given one))
+    mid_runs : (work : Work) → HasToRun old.number work → HasToRun mid.number work
+    mid_runs work run = subst (λ (n : ℕ). HasToRun n work) (sym number) run
 
-    second : (x : ℕ) → IsOwnAnswer mid.pending b.begun b.calls x → IsOwnAnswer old.pending (a.begun ++ b.begun) (a.calls ++ b.calls) x
-    second x (work, which, given) = (work, pended work which, λ one. called_right a.calls b.calls work.func work.arg x (given one))
+    in_first : (work : Work) (x : ℕ) → IsGiven old a.calls work x → IsGiven old (a.calls ++ b.calls) work x
+    in_first work x (inl call) = inl (called_left a.calls b.calls work.func work.arg x call)
+    in_first work x (inr was) = inr was
+
+    -- given in the second stretch, or in the first, or before both
+    joined : (work : Work) (x : ℕ) → HasToRun old.number work → IsGiven mid b.calls work x → IsGiven old (a.calls ++ b.calls) work x
+    joined work x run (inl call) = inl (called_right a.calls b.calls work.func work.arg x call)
+    joined work x run (inr was) = in_first work x (a.carried work x run was)
+
+    first : (x : ℕ) → IsOwnAnswer old a.begun a.calls x → IsOwnAnswer old (a.begun ++ b.begun) (a.calls ++ b.calls) x
+    first x (work, which, given) = (work, earlier work which, λ run. in_first work x (given run))
+
+    second : (x : ℕ) → IsOwnAnswer mid b.begun b.calls x → IsOwnAnswer old (a.begun ++ b.begun) (a.calls ++ b.calls) x
+    second x (work, which, given) = (work, pended work which, λ run. joined work x run (given (mid_runs work run)))
 
 -- ---- of a CPU whose value some words show
 
@@ -198,3 +228,41 @@ own_link c s stop is same = go c.pending refl
     go : (o : Option Work) → c.pending ≡ o → c.pending ≡ Some stop.work
     go None e = absurd (true≢false (sym opened ∙ subst (IsPending (s.stops.now.stop c.number)) e s.pending))
     go (Some w) e = e ∙ ap Some (sym (subst (IsPending (s.stops.now.stop c.number)) e s.pending).1 ∙ work)
+
+-- an active CPU that has acknowledged RUN in a stop of kind Multi carries an answer
+pub carries_active : (c : StopCpuValue) → IsShown c → (stop : Inside) → c.inside ≡ Some stop → stop.acked ≡ RUN → stop.work.kind ≡ Multi
+    → has stop.work.active c.number ≡ true → (x : ℕ) × (c.part.calling ≡ Carries x)
+carries_active c s stop is at multi active =
+    let number : c.number ≡ s.known.number = ap (λ (z : StopCpuValue). z.number) s.view in
+    let seated : inside_of s.known.seat ≡ Some stop = sym (ap (λ (z : StopCpuValue). z.inside) s.view) ∙ is in
+    let here : IsCalling c.number s.known.seat (s.stops.calling c.number) =
+    subst (λ (n : ℕ). IsCalling n s.known.seat (s.stops.calling n)) (sym number)
+    (subst (λ (x : Seat). IsCalling s.known.number x (s.stops.calling s.known.number)) s.sees.seat_is (s.shown.callings s.known.number)) in
+    let k = go s.known.seat seated (s.stops.calling c.number) here in
+    (k.0, sym s.calling ∙ k.1)
+  where
+    no_bools : true ≡ false → ⊥
+    no_bools e = cc
+
+    go : (x : Seat) → inside_of x ≡ Some stop → (f : Calling) → IsCalling c.number x f → (y : ℕ) × (f ≡ Carries y)
+    go Free e f k = cc
+    go (In s w a l t) e Idle k =
+        let same : w ≡ stop.work = ap (λ (z : Inside). z.work) (some_same e) in
+        let late : a ≡ stop.acked = ap (λ (z : Inside). z.acked) (some_same e) in
+        absurd (no_bools (sym (ap (λ (z : Work). has z.active c.number) same ∙ active) ∙ k (omega (arith, late, at))))
+    go (In s w a l t) e (Calls call) k =
+        let same : w ≡ stop.work = ap (λ (z : Inside). z.work) (some_same e) in
+        let late : a ≡ stop.acked = ap (λ (z : Inside). z.acked) (some_same e) in
+        elim k.1.1 [
+          | inl one ↦ absurd (let bad : One ≡ Multi = sym one ∙ (ap (λ (z : Work). z.kind) same ∙ multi) in cc)
+          | inr early ↦ absurd (let early_at = early.0 in omega (arith, late, at, early_at))
+        ]
+    go (In s w a l t) e (Carries y) k = (y, refl)
+    go (Gives s w a v) e Idle k = absurd k
+    go (Gives s w a v) e (Calls call) k =
+        let same : w ≡ stop.work = ap (λ (z : Inside). z.work) (some_same e) in
+        absurd (let bad : One ≡ Multi = sym k.1.0 ∙ (ap (λ (z : Work). z.kind) same ∙ multi) in cc)
+    go (Gives s w a v) e (Carries y) k = (y, refl)
+    go (Alters s w count made rest) e f k =
+        let late : DISABLE_IRQ ≡ stop.acked = ap (λ (z : Inside). z.acked) (some_same e) in absurd (omega (arith, late, at))
+    go (Closes s) e f k = cc

@@ -1,73 +1,127 @@
 -- What a turn leaves of a CPU, with what it has answered to its own stop.
-use Rattle.std.proofs.Common.{◌≡◌, ◌≢◌, ◌⊎◌, inl, inr, ℕ, Option, Some, None, [], ◌∷◌, ◌++◌, map, slice_index_or, slice_set}
+use Rattle.std.proofs.Common.{◌≡◌, ◌≢◌, inl, inr, ℕ, ℤ, nat_lt, Bool, true, false, Option, Some, None, List, [], ◌∷◌, map, slice_index_or, slice_set}
 use Rattle.std.proofs.Common.{refl, sym, ap, ◌∙◌, subst}
+use Rattle.std.proofs.lemmas.List.{append_cancel_left}
+use Rattle.smp_mask.specs.Mask.{has}
 use Rattle.smp_queue.specs.Cpu.{CpuValue as CallCpuValue}
 use Rattle.smp_queue.specs.declared.handler.Heard.{Heard}
 use Rattle.smp_calls.specs.Handles.{Handles}
-use Rattle.smp_multi.specs.Names.{Kind, One, Multi, Patch}
-use Rattle.smp_multi.specs.Advance.{IsInRound, Advances, RunsAt}
+use Rattle.smp_multi.specs.Names.{Work, StopCall, Kind, One, Multi, Patch, Carries}
+use Rattle.smp_multi.specs.Advance.{IsInRound, Advances, RunsAt, looks, acknowledges, carries, patches, reads_anew}
 use Rattle.smp_multi.specs.Answers.{call_of}
-use Rattle.smp_multi.specs.Cpu.{CpuValue as StopCpuValue, Inside}
+use Rattle.smp_multi.specs.Cpu.{CpuValue as StopCpuValue, Inside, runs}
 use Rattle.smp_multi.specs.Laws.{IsShown}
 use Rattle.smp_multi.specs.declared.func.Called.{Called}
 use Rattle.smp_multi.specs.declared.turn.Turn.{Turn}
 use Rattle.smp_multi.specs.declared.turn.Turn.TheVariants.{Same, Moved, Ran, Left}
 use Rattle.smp_stop_steps.specs.Callings.{answer_in as carried_answer}
+use Rattle.smp_stop_steps.specs.Labels.{patch_answer}
 use Rattle.smp_stop_steps.specs.Start.{answer_word}
+use Rattle.smp_stop_steps.specs.declared.phase.TheConstants.{DISABLE_IRQ, RUN, EXIT}
 use Rattle.smp_machine.specs.Own.{own_of}
-use Rattle.smp_machine.specs.OwnAnswers.{OwnAnswers}
+use Rattle.smp_machine.specs.OwnAnswers.{HasToRun, CarriesFor, OwnAnswers}
 use Rattle.smp_machine.specs.Passes.{PassesValue}
 use Rattle.smp_machine.specs.MachineCpu.{MachineCpuValue, HasNotLeft}
 use Rattle.smp_machine.specs.Works.{handled_calls, stop_call, Works, Hears, RunsOne, completed, TurnsStop}
-use Rattle.smp_machine.proofs.OwnAnswers.{own_none, own_still, own_answered, own_low, own_link}
+use Rattle.smp_machine.proofs.OwnAnswers.{own_none, own_still, own_answered, own_low, own_link, carried_still, carries_active}
 use Rattle.smp_machine.proofs.Served.{beginning_still, later_called, serves_none}
 
-module _ {F : Type 0} (leads : F → Called → F → Type 0) where
+carries_same : {x y : ℕ} → Carries x ≡ Carries y → x ≡ y
+carries_same e = cc
+
+some_same : {x y : Inside} → Some x ≡ Some y → x ≡ y
+some_same e = cc
+
+-- a CPU in a stop of several CPUs that has to run its function is active, in one of kind Multi
+runs_active : (me : ℕ) (work : Work) → work.kind ≢ One → HasToRun me work → (work.kind ≡ Multi) × (has work.active me ≡ true)
+runs_active me work several (inl one) = absurd (several one)
+runs_active me work several (inr active) = active
+
+module _ {F : Type 0} (leads : F → Called → F → Type 0) (old new : StopCpuValue) (f f' : F) (turn : Turn) (shown : IsShown old)
+    (t : TurnsStop leads old f new f' turn) where
+  calls : List StopCall
+  calls = map stop_call t.moves.ran
+
+  begun : new.part.begun ≡ old.part.begun
+  begun = ap (λ (c : StopCpuValue). c.part.begun) t.moves.kept
+
+  pending : new.pending ≡ old.pending
+  pending = ap (λ (c : StopCpuValue). c.pending) t.moves.kept
+
+  ran_one : RunsOne leads old f new f' → OwnAnswers old new
+  ran_one r = own_answered old new r.at.stop (answer_word r.answer) (call_of r.at.stop r.answer ∷ [])
+      (ap (λ (c : StopCpuValue). c.part.calls) r.is) begun pending (ap (λ (c : StopCpuValue). c.part.answers) r.is) (own_low old shown)
+      (own_link old shown r.at.stop r.at.is) (λ run. inl (call_of r.at.stop r.answer, ([], [], refl), refl, refl, refl))
+      (ap (λ (c : StopCpuValue). c.inside) r.is)
+
   -- a turn of a stop of several CPUs answers nothing, or completes the stop
-  abbrev Answered : Inside → StopCpuValue → StopCpuValue → Type 0
-  Answered stop old new = (new.part.answers ≡ old.part.answers) ⊎ ((x : ℕ) × (new.part.answers
-      ≡ slice_set old.part.answers stop.slot (slice_index_or old.part.answers stop.slot [] ++ x ∷ [])))
+  module _ (stop : Inside) (is : old.inside ≡ Some stop) (several : stop.work.kind ≢ One) where
+    -- what it carries afterwards is of this stop
+    of_it : (acked : ℕ) → new.inside ≡ Some (record stop { acked = acked }) → (work : Work) (x : ℕ) → HasToRun old.number work
+        → CarriesFor new work x → (acked ≡ RUN) × (stop.work ≡ work) × (stop.work.kind ≡ Multi) × (has stop.work.active old.number ≡ true)
+    of_it acked inside work x run k =
+        let same : record stop { acked = acked } ≡ k.stop = some_same (sym inside ∙ k.is) in
+        let work_is : stop.work ≡ work = ap (λ (z : Inside). z.work) same ∙ k.work_is in
+        let active = runs_active old.number stop.work several (subst (HasToRun old.number) (sym work_is) run) in
+        (ap (λ (z : Inside). z.acked) same ∙ k.at_run, work_is, active.0, active.1)
 
-  run_answers : (kind : Kind) (stop : Inside) (old mid : StopCpuValue) (f f' : F) → RunsAt leads stop old mid f f' kind
-      → mid.part.answers ≡ old.part.answers
-  run_answers One stop old mid f f' r = absurd r
-  run_answers Multi stop old mid f f' r = ap (λ (c : StopCpuValue). c.part.answers) r.1
-  run_answers Patch stop old mid f f' r = ap (λ (c : StopCpuValue). c.part.answers) r.1
+    no_bools : true ≡ false → ⊥
+    no_bools e = cc
 
-  round_answers : (old mid new : StopCpuValue) (stop : Inside) (f f' : F) (turn : Turn) → Advances leads stop old mid f f' turn
-      → new ≡ completed turn stop mid → Answered stop old new
-  round_answers old mid new stop f f' Same a is = inl (ap (λ (c : StopCpuValue). c.part.answers) (is ∙ a.0))
-  round_answers old mid new stop f f' (Moved p) a is = inl (ap (λ (c : StopCpuValue). c.part.answers) (is ∙ a.3))
-  round_answers old mid new stop f f' Ran a is =
-      inl (ap (λ (c : StopCpuValue). c.part.answers) is ∙ run_answers stop.work.kind stop old mid f f' a.2)
-  round_answers old mid new stop f f' Left a is =
-      inr (carried_answer old.part.calling, ap (λ (c : StopCpuValue). c.part.answers) (is ∙ ap (completed Left stop) a.1))
+    looked : new ≡ looks stop.acked old → OwnAnswers old new
+    looked e = own_none old new calls t.moves.calls_are begun pending (ap (λ (c : StopCpuValue). c.part.answers) e)
+        (carried_still old new calls (λ k i at. sym (ap (λ (c : StopCpuValue). c.inside) e) ∙ i) (ap (λ (c : StopCpuValue). c.part.calling) e))
 
-  own_turn : (old new : StopCpuValue) (f f' : F) (turn : Turn) → IsShown old → HasNotLeft old.inside → TurnsStop leads old f new f' turn
-      → OwnAnswers old new
-  own_turn old new f f' turn shown not_left t = inside old.inside refl
+    moved : (p : ℕ) (on : Bool) → new ≡ acknowledges stop p on old → (p ≡ RUN → has stop.work.active old.number ≡ false) → OwnAnswers old new
+    moved p on e idle = own_none old new calls t.moves.calls_are begun pending (ap (λ (c : StopCpuValue). c.part.answers) e)
+        (λ work x run k. let it = of_it p (ap (λ (c : StopCpuValue). c.inside) e) work x run k in absurd (no_bools (sym it.3 ∙ idle it.0)))
+
+    called : (answer : ℤ) → new ≡ carries (answer_word answer) (runs (call_of stop answer) (acknowledges stop RUN false old)) → OwnAnswers old new
+    called answer e = own_none old new calls t.moves.calls_are begun pending (ap (λ (c : StopCpuValue). c.part.answers) e)
+        (λ work x run k.
+        let it = of_it RUN (ap (λ (c : StopCpuValue). c.inside) e) work x run k in
+        let x_is : answer_word answer ≡ x = carries_same (sym (ap (λ (c : StopCpuValue). c.part.calling) e) ∙ k.carries) in
+        let is_calls : calls ≡ call_of stop answer ∷ [] =
+        append_cancel_left old.part.calls calls (call_of stop answer ∷ []) (sym t.moves.calls_are ∙ ap (λ (c : StopCpuValue). c.part.calls) e) in
+        inl (call_of stop answer, ([], [], is_calls), ap (λ (w : Work). w.func) it.1, ap (λ (w : Work). w.arg) it.1, x_is))
+
+    patched : stop.work.kind ≡ Patch → (count : ℕ) → new ≡ carries (patch_answer stop.work count) (patches stop.work count (acknowledges stop RUN false old))
+        → OwnAnswers old new
+    patched kind count e = own_none old new calls t.moves.calls_are begun pending (ap (λ (c : StopCpuValue). c.part.answers) e)
+        (λ work x run k. let it = of_it RUN (ap (λ (c : StopCpuValue). c.inside) e) work x run k in
+        absurd (let bad : Multi ≡ Patch = sym it.2 ∙ kind in cc))
+
+    left : (mid : StopCpuValue) → stop.acked ≡ RUN → mid ≡ reads_anew stop (acknowledges stop EXIT true old) → new ≡ completed Left stop mid
+        → OwnAnswers old new
+    left mid at is_mid e =
+        let e' : new ≡ completed Left stop (reads_anew stop (acknowledges stop EXIT true old)) = e ∙ ap (completed Left stop) is_mid in
+        own_answered old new stop (carried_answer old.part.calling) calls t.moves.calls_are begun pending
+        (ap (λ (c : StopCpuValue). c.part.answers) e') (own_low old shown) (own_link old shown stop is)
+        (λ run.
+        let active = runs_active old.number stop.work several run in
+        let y = carries_active old shown stop is at active.0 active.1 in
+        inr (record { stop = stop; is = is; work_is = refl; at_run = at; carries = y.1 ∙ ap Carries (sym (ap carried_answer y.1)) }))
+        (ap (λ (c : StopCpuValue). c.inside) e')
+
+    ran : (mid : StopCpuValue) (kind : Kind) → stop.work.kind ≡ kind → RunsAt leads stop old mid f f' kind → new ≡ mid → OwnAnswers old new
+    ran mid One k r e = absurd r
+    ran mid Multi k r e = called r.0 (e ∙ r.1)
+    ran mid Patch k r e = patched k r.0 (e ∙ r.1)
+
+    round : (mid : StopCpuValue) (u : Turn) → Advances leads stop old mid f f' u → new ≡ completed u stop mid → OwnAnswers old new
+    round mid Same a e = looked (e ∙ a.0)
+    round mid (Moved p) a e = moved p (nat_lt p DISABLE_IRQ) (e ∙ a.3) a.2
+    round mid Ran a e = ran mid stop.work.kind refl a.2 e
+    round mid Left a e = left mid a.0 a.1 e
+
+  own_turn : HasNotLeft old.inside → OwnAnswers old new
+  own_turn not_left = inside old.inside refl
     where
-      begun : new.part.begun ≡ old.part.begun
-      begun = ap (λ (c : StopCpuValue). c.part.begun) t.moves.kept
-
-      pending : new.pending ≡ old.pending
-      pending = ap (λ (c : StopCpuValue). c.pending) t.moves.kept
-
-      ran_one : RunsOne leads old f new f' → OwnAnswers old new
-      ran_one r = own_answered old new r.at.stop (answer_word r.answer) (call_of r.at.stop r.answer ∷ [])
-          (ap (λ (c : StopCpuValue). c.part.calls) r.is) begun pending (ap (λ (c : StopCpuValue). c.part.answers) r.is) (own_low old shown)
-          (own_link old shown r.at.stop r.at.is) (λ one. (call_of r.at.stop r.answer, ([], [], refl), refl, refl, refl))
-
-      gone_on : (stop : Inside) → old.inside ≡ Some stop → stop.work.kind ≢ One → Answered stop old new → OwnAnswers old new
-      gone_on stop is several (inl same) = own_none old new (map stop_call t.moves.ran) t.moves.calls_are begun pending same
-      gone_on stop is several (inr done) = own_answered old new stop done.0 (map stop_call t.moves.ran) t.moves.calls_are begun pending done.1
-          (own_low old shown) (own_link old shown stop is) (λ one. absurd (several one))
-
       went_round : (stop : Inside) → old.inside ≡ Some stop → stop.work.kind ≢ One → OwnAnswers old new
       went_round stop is several =
           let at : IsInRound old = record { stop = stop; is = is; several = several; not_left = subst HasNotLeft is not_left } in
           let g = t.round at in
-          gone_on g.at.stop g.at.is g.at.several (round_answers old g.advanced new g.at.stop f f' turn g.advances g.is)
+          round g.at.stop g.at.is g.at.several g.advanced turn g.advances g.is
 
       of_kind : (stop : Inside) → old.inside ≡ Some stop → (k : Kind) → stop.work.kind ≡ k → OwnAnswers old new
       of_kind stop is One e = ran_one (t.one (record { stop = stop; is = is; one = e })).0
@@ -78,6 +132,7 @@ module _ {F : Type 0} (leads : F → Called → F → Type 0) where
       inside None is =
           let same = (t.none is).0 in
           own_still old new (ap (λ (c : StopCpuValue). c.part.calls) same) begun pending (ap (λ (c : StopCpuValue). c.part.answers) same)
+              (λ stop i at. sym (ap (λ (c : StopCpuValue). c.inside) same) ∙ i) (ap (λ (c : StopCpuValue). c.part.calling) same)
       inside (Some stop) is = of_kind stop is stop.work.kind refl
 
 -- a look, and then a turn of a stop
@@ -106,7 +161,7 @@ works_turn hears leads {old} {mid} {new} {h} {h'} {f} {f'} {turn} l calls passes
           (ap (λ (x : StopCpuValue). x.part.collected) k.kept) k.calls_are
           (beginning_still old.stops.moves new.stops.moves (ap (λ (x : StopCpuValue). x.moves) k.kept));
       serves = serves_none old new (ap (λ (x : PassesValue). x.taken) passed) (ap (λ (x : StopCpuValue). x.attempts) k.kept) k.keeps;
-      mine = own_turn leads old.stops new.stops f f' turn (subst IsShown l.stops_are shown)
-          (subst (λ (x : StopCpuValue). HasNotLeft x.inside) l.stops_are not_left) t;
+      mine = own_turn leads old.stops new.stops f f' turn (subst IsShown l.stops_are shown) t
+          (subst (λ (x : StopCpuValue). HasNotLeft x.inside) l.stops_are not_left);
       own_is = λ i. own_of (record { calls = new.calls; stops = k.kept i; passes = passed i });
     }

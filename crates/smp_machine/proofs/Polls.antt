@@ -1,5 +1,5 @@
 -- A CPU goes on with a work until it is completed.
-use Rattle.std.proofs.Common.{◌≡◌, ◌≢◌, ℕ, Bool, Option, Some, None, List, [], ◌∷◌, ◌++◌, append_assoc, inl, inr, refl, sym, ap, ◌∙◌, subst}
+use Rattle.std.proofs.Common.{◌≡◌, ◌≢◌, ℕ, Bool, Option, Some, None, List, [], ◌∷◌, ◌++◌, append_assoc, inl, inr, arith, refl, sym, ap, ◌∙◌, subst}
 use Rattle.smp_queue.specs.declared.handler.Heard.{Heard}
 use Rattle.smp_calls.specs.Handles.{looks}
 use Rattle.smp_multi.specs.Cpu.{CpuValue as StopCpuValue, Inside}
@@ -7,6 +7,7 @@ use Rattle.smp_multi.specs.declared.func.Called.{Called}
 use Rattle.smp_multi.specs.declared.turn.Turn.{Turn}
 use Rattle.smp_multi.specs.declared.turn.Turn.TheVariants.{Left}
 use Rattle.smp_stop_steps.specs.Tells.{first_readings}
+use Rattle.smp_stop_steps.specs.declared.phase.TheConstants.{RUN}
 use Rattle.smp_machine.specs.declared.work_queue.Item.{Item}
 use Rattle.smp_machine.specs.Own.{Own, own_of}
 use Rattle.smp_machine.specs.Passes.{PassesValue}
@@ -50,6 +51,21 @@ front_inside m old new (Some x) None (inl e) = subst (λ (y : StopCpuValue). y �
 front_inside m old new (Some x) None (inr e) = subst (λ (y : StopCpuValue). y ≡ tried old y) (sym e.0) refl
 front_inside m old new None (Some slot) e = absurd e
 front_inside m old new (Some x) (Some slot) e = subst (λ (y : StopCpuValue). y ≡ tried old y) (sym e.1.1.is) refl
+
+-- who has acknowledged RUN then was in the same stop before: one that enters has acknowledged nothing
+front_early : (m : MachineValue) (old new : StopCpuValue) (front : Option Item) (slot : Option ℕ) → EntersFront m.stops old new front slot
+    → (stop : Inside) → new.inside ≡ Some stop → stop.acked ≡ RUN → old.inside ≡ Some stop
+front_early m old new None None e stop is at = ap (λ (y : StopCpuValue). y.inside) (sym e) ∙ is
+front_early m old new (Some x) None (inl e) stop is at = ap (λ (y : StopCpuValue). y.inside) (sym e.is) ∙ is
+front_early m old new (Some x) None (inr e) stop is at = ap (λ (y : StopCpuValue). y.inside) (sym e.0) ∙ is
+front_early m old new None (Some slot) e stop is at = absurd e
+front_early m old new (Some x) (Some slot) e stop is at =
+    let entered : Some (record { slot = slot; work = e.1.1.work; acked = 0 }) ≡ Some stop = ap (λ (y : StopCpuValue). y.inside) (sym e.1.1.is) ∙ is in
+    let none : 0 ≡ stop.acked = ap (λ (z : Inside). z.acked) (inside_same entered) in
+    absurd (omega (arith, none, at))
+  where
+    inside_same : {y z : Inside} → Some y ≡ Some z → y ≡ z
+    inside_same e = cc
 
 -- to take and to enter changes nothing that only a CPU's own stop calls change
 next_own : (m : MachineValue) (old new : MachineCpuValue) (slot : Option ℕ) → TakesNext m old new slot → own_of new ≡ own_of old
@@ -101,7 +117,8 @@ module _ {H F : Type 0} (hears : H → Heard → H → Type 0) (leads : F → Ca
       (ap (λ (c : StopCpuValue). c.part.collected) e) (ap (λ (c : StopCpuValue). c.part.calls) e)
       (beginning_still old.stops.moves new.stops.moves (ap (λ (c : StopCpuValue). c.moves) e))) (ap (λ (c : StopCpuValue). c.part.calls) e) p.0 p.1
       (serves_next m old new slot t) (own_still old.stops new.stops (ap (λ (c : StopCpuValue). c.part.calls) e)
-      (ap (λ (c : StopCpuValue). c.part.begun) e) (ap (λ (c : StopCpuValue). c.pending) e) (ap (λ (c : StopCpuValue). c.part.answers) e)))
+      (ap (λ (c : StopCpuValue). c.part.begun) e) (ap (λ (c : StopCpuValue). c.pending) e) (ap (λ (c : StopCpuValue). c.part.answers) e)
+      (front_early m old.stops new.stops t.front slot t.stops_are) (ap (λ (c : StopCpuValue). c.part.calling) e)))
 
   pub works_take : (m : MachineValue) (old new : MachineCpuValue) (h : H) (f : F) (there : Bool) (o : Option Inside) → old.stops.inside ≡ o
       → TakesWork m old new there → Works hears leads old h f new h f (own_of old)

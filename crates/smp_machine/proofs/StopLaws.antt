@@ -13,7 +13,7 @@ use Rattle.smp_stop_steps.specs.Start.{answer_word}
 use Rattle.smp_multi.specs.Answers.{answer_in}
 use Rattle.smp_multi.specs.Names.{OwnMove, Work}
 use Rattle.smp_multi.specs.Cpu.{TableValue, CpuValue as StopCpuValue}
-use Rattle.smp_multi.specs.Polls.{AgreesWithOwn}
+use Rattle.smp_multi.specs.Polls.{AgreesWithOwn, MayAnswer}
 use Rattle.smp_multi.specs.declared.func.Called.{Called}
 use Rattle.smp_machine.specs.declared.work_queue.Item.{Item}
 use Rattle.smp_machine.specs.declared.work_queue.Knows.TheVariants.{Takes, Puts}
@@ -178,14 +178,14 @@ module _ {H F : Type 0} (hears : H → Heard → H → Type 0) (runs : F → Cal
   -- the result of the own stop that stops its caller too
   agrees : (moves : Work → ℕ → List OwnMove) (work : Work) (old new : MachineCpuValue) (h h' : H) (f f' : F) (answer : ℤ)
       → (s : HasStopped hears runs moves work old h f new h' f' answer) → has work.mask old.stops.number ≡ true
-      → AgreesWithOwn new.stops work.mask s.word
+      → AgreesWithOwn new.stops work s.word
   agrees moves work old new h h' f f' answer s of =
       let l = s.result in
       let number : new.stops.number ≡ old.stops.number = s.works.number_is in
       let begun : l.works ++ l.work ∷ [] ≡ old.stops.part.begun ++ work ∷ [] = sym l.begun ∙ ap (λ (o : Own). o.begun) s.works.own_is in
       let same : l.work ≡ work = (same_from_push l.works old.stops.part.begun l.work work begun).1 in
       let mine : has l.work.mask new.stops.number ≡ true = (λ i. has (same i).mask (number i)) ∙ of in
-      subst (λ (w : Work). AgreesWithOwn new.stops w.mask s.word) same (own_answers_agree new.stops s.word l mine)
+      subst (λ (w : Work). AgreesWithOwn new.stops w s.word) same (own_answers_agree new.stops s.word l mine)
 
   pub agree_with_own : StopsAgreeWithOwn hears runs
   agree_with_own = record {
@@ -196,8 +196,8 @@ module _ {H F : Type 0} (hears : H → Heard → H → Type 0) (runs : F → Cal
         let number : new.stops.number ≡ old.stops.number = s.works.number_is in
         let of : has work.mask old.stops.number ≡ true = one.mask old.stops.number ∙ eq-eqb old.stops.number dst (sym self) in
         let a = agrees moves work old new h h' f f' answer s of in
-        let only : (cpu : ℕ) → has work.mask cpu ≡ true → cpu ≡ new.stops.number =
-        λ cpu there. eqb-true cpu dst (sym (one.mask cpu) ∙ there) ∙ (self ∙ sym number) in
+        let only : (cpu : ℕ) → has work.mask cpu ≡ true → MayAnswer work cpu → cpu ≡ new.stops.number =
+        λ cpu there may. eqb-true cpu dst (sym (one.mask cpu) ∙ there) ∙ (self ∙ sym number) in
         (a.own, a.answered, s.answer_is ∙ ap answer_in (a.alone only));
   }
 

@@ -62,20 +62,20 @@ module _ {H F : Type 0} (hears : H → Heard → H → Type 0) (runs : F → Cal
   works_take p new h f e =
       let s = takes_gate p.stops in
       works_step p new h f s (with_moves (Took ∷ []) (with_gate true (own_of p))) e
-      (later_still p.stops s refl refl refl refl refl refl (Took ∷ [], refl)) refl refl refl refl (own_still p.stops s refl refl refl refl)
+      (later_still p.stops s refl refl refl refl refl refl (Took ∷ [], refl)) refl refl refl refl (own_still p.stops s refl refl refl refl (λ _ e _. e) refl)
       (λ i. record (with_gate true (own_of p)) { moves = told_more p.stops.moves (Took ∷ []) i })
 
   -- a try of the gate, or a look at done, in vain
   pub works_missed : (p new : MachineCpuValue) (h : H) (f : F) → new ≡ record p { stops = misses_gate p.stops } → Works hears runs p h f new h f (own_of p)
   works_missed p new h f e =
       let s = misses_gate p.stops in
-      works_step p new h f s (own_of p) e (later_still p.stops s refl refl refl refl refl refl (Busy ∷ [], refl)) refl refl refl refl (own_still p.stops s refl refl refl refl)
+      works_step p new h f s (own_of p) e (later_still p.stops s refl refl refl refl refl refl (Busy ∷ [], refl)) refl refl refl refl (own_still p.stops s refl refl refl refl (λ _ e _. e) refl)
       (λ i. record (own_of p) { moves = told_same p.stops.moves (Busy ∷ []) refl i })
 
   pub works_looked : (p new : MachineCpuValue) (h : H) (f : F) → new ≡ record p { stops = looks_in_vain p.stops } → Works hears runs p h f new h f (own_of p)
   works_looked p new h f e =
       let s = looks_in_vain p.stops in
-      works_step p new h f s (own_of p) e (later_still p.stops s refl refl refl refl refl refl (NotDone ∷ [], refl)) refl refl refl refl (own_still p.stops s refl refl refl refl)
+      works_step p new h f s (own_of p) e (later_still p.stops s refl refl refl refl refl refl (NotDone ∷ [], refl)) refl refl refl refl (own_still p.stops s refl refl refl refl (λ _ e _. e) refl)
       (λ i. record (own_of p) { moves = told_same p.stops.moves (NotDone ∷ []) refl i })
 
   pub works_give : (p new : MachineCpuValue) (h : H) (f : F) → new ≡ record p { stops = gives_gate p.stops }
@@ -83,7 +83,7 @@ module _ {H F : Type 0} (hears : H → Heard → H → Type 0) (runs : F → Cal
   works_give p new h f e =
       let s = gives_gate p.stops in
       works_step p new h f s (with_moves (Gave ∷ []) (with_gate false (own_of p))) e
-      (later_still p.stops s refl refl refl refl refl refl (Gave ∷ [], refl)) refl refl refl refl (own_still p.stops s refl refl refl refl)
+      (later_still p.stops s refl refl refl refl refl refl (Gave ∷ [], refl)) refl refl refl refl (own_still p.stops s refl refl refl refl (λ _ e _. e) refl)
       (λ i. record (with_gate false (own_of p)) { moves = told_more p.stops.moves (Gave ∷ []) i })
 
   pub works_begin : (p new : MachineCpuValue) (h : H) (f : F) (work : Work) → new ≡ record p { stops = begins work p.stops }
@@ -91,7 +91,7 @@ module _ {H F : Type 0} (hears : H → Heard → H → Type 0) (runs : F → Cal
   works_begin p new h f work e =
       let s = begins work p.stops in
       works_step p new h f s (with_moves (Began work ∷ []) (with_begun work (own_of p))) e
-      (later_begun p.stops s (work ∷ []) refl refl refl refl refl refl (Began work ∷ [], refl)) refl refl refl refl (own_begun p.stops s work refl refl refl refl)
+      (later_begun p.stops s (work ∷ []) refl refl refl refl refl refl (Began work ∷ [], refl)) refl refl refl refl (own_begun p.stops s work refl refl refl refl refl refl)
       (λ i. record (with_begun work (own_of p)) { moves = told_more p.stops.moves (Began work ∷ []) i })
 
   pub works_collect : (p new : MachineCpuValue) (h : H) (f : F) (word : ℕ) → new ≡ record p { stops = collects word p.stops }
@@ -99,7 +99,7 @@ module _ {H F : Type 0} (hears : H → Heard → H → Type 0) (runs : F → Cal
   works_collect p new h f word e =
       let s = collects word p.stops in
       works_step p new h f s (with_moves (Collected word ∷ []) (with_collected word (own_of p))) e
-      (later_collected p.stops s (word ∷ []) refl refl refl refl refl refl (Collected word ∷ [], refl)) refl refl refl refl (own_collected p.stops s refl refl refl refl)
+      (later_collected p.stops s (word ∷ []) refl refl refl refl refl refl (Collected word ∷ [], refl)) refl refl refl refl (own_collected p.stops s refl refl refl refl refl refl)
       (λ i. record (with_collected word (own_of p)) { moves = told_more p.stops.moves (Collected word ∷ []) i })
 
   pub works_put : (p new : MachineCpuValue) (h : H) (f : F) (cpu : ℕ) (x : Item) → new ≡ record p { passes = puts cpu x p.passes }
@@ -107,7 +107,7 @@ module _ {H F : Type 0} (hears : H → Heard → H → Type 0) (runs : F → Cal
   works_put p new h f cpu x e =
       subst (λ (y : MachineCpuValue). Works hears runs p h f y h f (with_put x (cpu ∷ []) (own_of p))) (sym e)
       (works_still hears runs p (record p { passes = puts cpu x p.passes }) h f refl (later_same p.stops) refl refl refl refl refl refl refl
-      (own_still p.stops p.stops refl refl refl refl))
+      (own_still p.stops p.stops refl refl refl refl (λ _ e _. e) refl))
 
   -- after a stretch in which the CPU has made none
   pub works_after : {old mid new : MachineCpuValue} {h h₁ h₂ : H} {f f₁ f₂ : F} (g : Own → Own) → Works hears runs old h f mid h₁ f₁ (own_of old)
@@ -158,6 +158,7 @@ last_given c word r = record {
   begun = r.begun;
   collected = r.collected;
   is_result = r.is_result;
+  active = r.active;
   given = record {
     stops = r.given.stops;
     at = r.given.at;

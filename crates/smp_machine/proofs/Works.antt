@@ -62,7 +62,7 @@ module _ {H F : Type 0} (hears : H → Heard → H → Type 0) (leads : F → Ca
 
   -- nothing was done
   pub works_none : (p : MachineCpuValue) (h : H) (f : F) → Works hears leads p h f p h f (own_of p)
-  works_none p h f = works_still p p h f refl (later_same p.stops) refl refl refl refl refl refl refl (own_still p.stops p.stops refl refl refl refl)
+  works_none p h f = works_still p p h f refl (later_same p.stops) refl refl refl refl refl refl refl (own_still p.stops p.stops refl refl refl refl (λ _ e _. e) refl)
 
   -- one stretch, and then another
   pub works_then : {old mid new : MachineCpuValue} {h h₁ h₂ : H} {f f₁ f₂ : F} {own own' : Own} → Works hears leads old h f mid h₁ f₁ own

@@ -1,5 +1,5 @@
 -- What a stop call makes of its CPU.
-use Rattle.std.specs.Prelude.{◌≡◌, ◌≢◌, ◌⊎◌, ℕ, ℤ, ◌==◌, ◌||◌, true, false, Option, Some, None}
+use Rattle.std.specs.Prelude.{◌≡◌, ◌≢◌, ◌⊎◌, ℕ, ℤ, ◌==◌, ◌||◌, ◌&&◌, true, false, Option, Some, None}
 use Rattle.std.specs.Prelude.{List, [], ◌∷◌, length, slice_index_or}
 use Rattle.smp_mask.specs.Mask.{has, members, IsLeast}
 use Rattle.smp_mask.specs.declared.error.SmpError.{SmpError}
@@ -98,6 +98,11 @@ pub record IsTwoWork (a b func arg : ℕ) (work : Work) : Type 0 where
 abbrev pub IsActive : ℕ → Option ℕ → ℕ → Type 0
 IsActive online None active = (first : ℕ) × IsLeast (λ c. has online c) first × ((c : ℕ) → has active c ≡ (c == first))
 IsActive online (Some mask) active = active ≡ mask
+
+-- of the CPUs that are active in such a stop this one alone is online
+abbrev pub IsActiveAlone : ℕ → Option ℕ → ℕ → Type 0
+IsActiveAlone online None me = IsLeast (λ c. has online c) me
+IsActiveAlone online (Some mask) me = (c : ℕ) → (has mask c && has online c) ≡ (c == me)
 
 -- the work of a stop of all online CPUs
 pub record IsMachineWork (t : TableValue) (func arg : ℕ) (active : Option ℕ) (work : Work) : Type 0 where

@@ -5,7 +5,7 @@ ghost use Rattle.smp_mask.specs.Mask.{has};
 ghost use Rattle.smp_machine.specs.Moves.{long_stop, short_stop};
 ghost use Rattle.smp_machine.specs.OwnAnswers.{HasCalledFor};
 ghost use Rattle.smp_machine.specs.Seats.{IsSameSeat, SeatStopped};
-ghost use Rattle.smp_machine.specs.Stops.{IsOneWork, IsTwoWork, IsMachineWork, RefusesOne, RefusesTwo};
+ghost use Rattle.smp_machine.specs.Stops.{IsActiveAlone, IsOneWork, IsTwoWork, IsMachineWork, RefusesOne, RefusesTwo};
 
 use crate::seat::Seat;
 use smp_mask::{CpuMask, SmpError};
@@ -63,6 +63,7 @@ impl<'m, A: Allocator, R: Wait, H: Handler + Drop, F: StopFunc + Drop> Seat<'m, 
             × (has self.old.machine.stops.setting.online b ≡ true)) }
         ensures ok { IfOk result (λ v. (work : Work) × IsTwoWork a b func arg work
             × SeatStopped H.leads F.leads short_stop work self.old self.new v) }
+        ensures own { IfOk result (λ v. a ≡ self.old.cpu.stops.number → HasCalledFor func arg self.old.cpu.stops self.new.cpu.stops v) }
         ensures err { IfErr result (λ e. RefusesTwo self.old.machine.stops self.old.cpu a b e) }
         ensures kept { IfErr result (λ _. self.new ≡ self.old) }
         ensures same { IsSameSeat self.old self.new }
@@ -98,6 +99,8 @@ impl<'m, A: Allocator, R: Wait, H: Handler + Drop, F: StopFunc + Drop> Seat<'m, 
         ensures free { IfOk result (λ _. self.old.cpu.stops.inside ≡ None) }
         ensures ok { IfOk result (λ v. (work : Work) × IsMachineWork self.old.machine.stops func arg active work
             × SeatStopped H.leads F.leads long_stop work self.old self.new v) }
+        ensures own { IfOk result (λ v. IsActiveAlone self.old.machine.stops.setting.online active self.old.cpu.stops.number
+            → HasCalledFor func arg self.old.cpu.stops self.new.cpu.stops v) }
         ensures err { IfErr result (λ e. (e ≡ SmpError.BadArgument) × (self.old.cpu.stops.inside ≢ None)) }
         ensures kept { IfErr result (λ _. self.new ≡ self.old) }
         ensures same { IsSameSeat self.old self.new }

@@ -8,7 +8,7 @@ ghost use Rattle.smp_mask.specs.Mask.{has};
 ghost use Rattle.smp_machine.specs.Moves.{short_stop, long_stop};
 ghost use Rattle.smp_machine.specs.OwnAnswers.{HasCalledFor};
 ghost use Rattle.smp_machine.specs.MachineCpu.{IsAt};
-ghost use Rattle.smp_machine.specs.Stops.{HasStopped, IsOneWork, IsTwoWork, IsMachineWork, RefusedStill, RefusesOne, RefusesTwo};
+ghost use Rattle.smp_machine.specs.Stops.{HasStopped, IsActiveAlone, IsOneWork, IsTwoWork, IsMachineWork, RefusedStill, RefusesOne, RefusesTwo};
 
 use crate::cpu::Cpu;
 use crate::machine::Machine;
@@ -65,6 +65,8 @@ impl<A: Allocator> Machine<A> {
     /// The stop begins at the store of its roll, by who holds the gate. It waits for the gate, which it gives up once the
     /// works are queued, and for its stop: `a` and `b` must poll, and who holds the gate. Meanwhile it polls.
     ///
+    /// Where `a` is the calling CPU, the function is called here, and its answer is what it has answered.
+    ///
     /// E4 where a work is in hand, or `a` is `b`; then E3 where one of them is not online. A refusal makes no step.
     pub fn stop_two<R: Wait, H: Handler, F: StopFunc>(
         &self,
@@ -82,6 +84,7 @@ impl<A: Allocator> Machine<A> {
         ensures online { IfOk result (λ _. (a ≢ b) × (has self.now.stops.setting.online a ≡ true) × (has self.now.stops.setting.online b ≡ true)) }
         ensures ok { IfOk result (λ v. (work : Work) × IsTwoWork a b func arg work
             × HasStopped H.leads F.leads short_stop work me.old handler.old run.old me.new handler.new run.new v) }
+        ensures own { IfOk result (λ v. a ≡ me.old.stops.number → HasCalledFor func arg me.old.stops me.new.stops v) }
         ensures err { IfErr result (λ e. RefusesTwo self.now.stops me.old a b e) }
         ensures kept { IfErr result (λ _. RefusedStill me.old handler.old run.old me.new handler.new run.new) }
     {
@@ -104,6 +107,9 @@ impl<A: Allocator> Machine<A> {
     /// The stop begins at the store of its roll, by who holds the gate. It waits for the gate, which it keeps until the
     /// stop is complete, and for its stop: all online CPUs must poll. Meanwhile it polls.
     ///
+    /// Where the calling CPU is the only active one that is online, the function is called here, and its answer is what it
+    /// has answered.
+    ///
     /// E4 where a work is in hand, which makes no step.
     pub fn stop_machine<R: Wait, H: Handler, F: StopFunc>(
         &self,
@@ -119,6 +125,8 @@ impl<A: Allocator> Machine<A> {
         ensures free { IfOk result (λ _. me.old.stops.inside ≡ None) }
         ensures ok { IfOk result (λ v. (work : Work) × IsMachineWork self.now.stops func arg active work
             × HasStopped H.leads F.leads long_stop work me.old handler.old run.old me.new handler.new run.new v) }
+        ensures own { IfOk result (λ v. IsActiveAlone self.now.stops.setting.online active me.old.stops.number
+            → HasCalledFor func arg me.old.stops me.new.stops v) }
         ensures err { IfErr result (λ e. (e ≡ SmpError.BadArgument) × (me.old.stops.inside ≢ None)) }
         ensures kept { IfErr result (λ _. RefusedStill me.old handler.old run.old me.new handler.new run.new) }
     {

@@ -9,7 +9,7 @@ use Rattle.smp_stop_steps.specs.Known.{carrying, setup_in, told_source, told_cal
 use Rattle.smp_multi.specs.Lives.{Lives}
 use Rattle.smp_stop_steps.specs.KnownAfter.{completed_with, is_drafting}
 use Rattle.smp_stop_steps.specs.Laws.{IsResult}
-use Rattle.smp_stop_steps.specs.Past.{Past, AllPast, works_of, results_of, answers_of, answer_now}
+use Rattle.smp_stop_steps.specs.Past.{Past, AllPast, OnlyActiveAnswer, works_of, results_of, answers_of, answer_now}
 use Rattle.smp_stop_steps.specs.Seats.{irq_of, Stands}
 use Rattle.smp_stop_steps.specs.Sits.{SitsAtRest, OwnsIf}
 use Rattle.smp_stop_steps.specs.Slots.{IsPhaseOf}
@@ -31,15 +31,15 @@ use Rattle.smp_stop_steps.proofs.Promises.StopLaws.{keeps_laws}
 use Rattle.smp_stop_steps.proofs.State.Ends.{all_outside}
 use Rattle.smp_stop_steps.proofs.State.Phases.{is_open_inside, keeps_inside}
 use Rattle.smp_stop_steps.proofs.TheMachine.Starting.{begins_work}
-use Rattle.smp_multi.specs.Names.{Field, Work, Kind, One, Slot, Seat, Free, In, Rests, Source, Shut, Drafts, Owns, Collects, Known, Part, Setting, Duty}
-use Rattle.smp_multi.specs.Names.{Calling, Idle, Calls, Carries}
+use Rattle.smp_multi.specs.Names.{Field, Work, Kind, One, Multi, Patch, Slot, Seat, Free, In, Rests, Source, Shut, Drafts, Owns, Collects, Known, Part}
+use Rattle.smp_multi.specs.Names.{Setting, Duty, Calling, Idle, Calls, Carries}
 use Rattle.smp_multi.specs.Answers.{Enters, RunAnswers, PollAnswers, IsWholeWord, answer_in}
 use Rattle.smp_multi.specs.Begins.{Begins}
 use Rattle.smp_multi.specs.Cells.{cells}
 use Rattle.smp_multi.specs.Cpu.{TableValue, CallsNone, IsKept, call_with, calls_with, part_with, cpu_of, inside_of, is_in, enters, runs}
 use Rattle.smp_multi.specs.Cpu.{answers, collects}
 use Rattle.smp_multi.specs.Places.{IsVisitOf, IsCalled, entered, missed, work_in, pending_of}
-use Rattle.smp_multi.specs.Polls.{OwnAnswersAgree, IsLastResult, looked, collected}
+use Rattle.smp_multi.specs.Polls.{OwnAnswersAgree, MayAnswer, IsLastResult, looked, collected}
 use Rattle.smp_multi.specs.Running.{AtOne, called, called_by}
 use Rattle.smp_multi.specs.Seat.{SeatValue}
 use Rattle.smp_multi.specs.declared.func.Called.{Called}
@@ -206,6 +206,7 @@ record HasLast (past : List Past) (r : ℕ) : Type 0 where
   works : List Work
   works_are : works_of past ≡ works ++ work ∷ []
   is_result : IsResult work.mask answer r
+  active : OnlyActiveAnswer work answer
   given : (c : ℕ) → has work.mask c ≡ true → (before : List ℕ) × (answers_of c past ≡ before ++ answer c ∷ [])
 
 has_last : (past : List Past) (rs : List ℕ) (r : ℕ) → AllPast past → results_of past ≡ rs ++ r ∷ [] → HasLast past r
@@ -217,7 +218,8 @@ has_last (x ∷ []) [] r all e =
       answer = x.answer;
       works = [];
       works_are = refl;
-      is_result = (let same : x.result ≡ r = cc in subst (IsResult x.work.mask x.answer) same all.0);
+      is_result = (let same : x.result ≡ r = cc in subst (IsResult x.work.mask x.answer) same all.0.0);
+      active = all.0.1;
       given = λ c of. ([], ap (λ b. cond b (x.answer c ∷ []) []) of);
     }
 has_last (x ∷ []) (z ∷ []) r all e = cc
@@ -232,6 +234,7 @@ has_last (x ∷ y ∷ rest) (z ∷ zs) r all e =
       works = x.work ∷ l.works;
       works_are = ap (λ ws. x.work ∷ ws) l.works_are;
       is_result = l.is_result;
+      active = l.active;
       given = λ c of. (let g = l.given c of in given_more (has x.work.mask c) (x.answer c) (answers_of c (y ∷ rest)) g.0 (l.answer c) g.1);
     }
 
@@ -270,6 +273,7 @@ last_result d before r l shut is =
           ∙ (h.1.begun_are ∙ (ap (λ b. works_of h.0 ++ cond b (stop.work ∷ []) []) closed ∙ (append-nil (works_of h.0) ∙ last.works_are)));
       collected = is;
       is_result = last.is_result;
+      active = last.active;
       given = record {
         stops = l.stops;
         at = l.at;
@@ -293,9 +297,19 @@ own_answers_agree c result l of = record { own = l.answer c.number; answered = l
     some (inl none) ne e = ne (none.1 c.number of)
     some (inr one) ne e = one.0 e
 
-    alone : IsResult l.work.mask l.answer result → ((cpu : ℕ) → has l.work.mask cpu ≡ true → cpu ≡ c.number) → result ≡ l.answer c.number
+    -- a CPU with an answer that is not 0 may answer
+    may : (cpu : ℕ) → l.answer cpu ≢ 0 → (kind : Kind) → l.work.kind ≡ kind → (b : Bool) → has l.work.active cpu ≡ b → MayAnswer l.work cpu
+    may cpu some One e b is = inl e
+    may cpu some Multi e true is = inr is
+    may cpu some Multi e false is = absurd (some (l.active (λ one. let bad : One ≡ Multi = sym one ∙ e in cc) cpu is))
+    may cpu some Patch e true is = inr is
+    may cpu some Patch e false is = absurd (some (l.active (λ one. let bad : One ≡ Patch = sym one ∙ e in cc) cpu is))
+
+    alone : IsResult l.work.mask l.answer result → ((cpu : ℕ) → has l.work.mask cpu ≡ true → MayAnswer l.work cpu → cpu ≡ c.number)
+        → result ≡ l.answer c.number
     alone (inl none) only = none.0 ∙ sym (none.1 c.number of)
-    alone (inr one) only = sym one.1.2 ∙ ap l.answer (only one.1.0 one.1.1)
+    alone (inr one) only = sym one.1.2 ∙ ap l.answer (only one.1.0 one.1.1
+        (may one.1.0 (λ z. one.0 (sym one.1.2 ∙ z)) l.work.kind refl (has l.work.active one.1.0) refl))
 
 -- a CPU that has collected a result
 pub collected_view : (d e f : SeatValue) (r : ℕ) → e.known ≡ looked true d.known → f.table ≡ d.table → f.known ≡ collected r e.known

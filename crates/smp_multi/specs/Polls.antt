@@ -1,15 +1,16 @@
 -- A source that looks for the end of its stop, and the result that it collects.
-use Rattle.std.specs.Prelude.{◌≡◌, ◌≢◌, ℕ, ◌<◌, Bool, true, false, cond, List, [], ◌∷◌, ◌++◌, slice_index_or}
+use Rattle.std.specs.Prelude.{◌≡◌, ◌≢◌, ◌⊎◌, ℕ, ◌<◌, Bool, true, false, cond, List, [], ◌∷◌, ◌++◌, slice_index_or}
 use Rattle.atomic_table.specs.Seated.{TableId}
 use Rattle.smp_mask.specs.Mask.{has}
 use Rattle.smp_words.specs.Size.{cpus}
 use Rattle.smp_stop_steps.specs.Known.{setup_in, noting}
 use Rattle.smp_stop_steps.specs.KnownAfter.{no_work}
 use Rattle.smp_stop_steps.specs.Laws.{IsResult}
+use Rattle.smp_stop_steps.specs.Past.{OnlyActiveAnswer}
 use Rattle.smp_stop_steps.specs.Shows.{StopShows}
 use Rattle.smp_stop_steps.specs.State.{StopState}
 use Rattle.smp_stop_steps.specs.StopLaws.{KeepsStopLaws}
-use Rattle.smp_multi.specs.Names.{Word, Work, Seat, Source, Shut, Owns, Collects, Known}
+use Rattle.smp_multi.specs.Names.{Word, Work, One, Seat, Source, Shut, Owns, Collects, Known}
 use Rattle.smp_multi.specs.Names.own
 use Rattle.smp_multi.specs.Cells.{cells}
 use Rattle.smp_multi.specs.Cpu.{CpuValue}
@@ -65,7 +66,8 @@ abbrev pub HasAnsweredItself : CpuValue → ℕ → Type 0
 HasAnsweredItself c answer = (before : List ℕ) × (slice_index_or c.part.answers c.number [] ≡ before ++ answer ∷ [])
 
 -- the result collected last is that of the stop begun last: 0 where all of its mask have answered 0, else one of the
--- answers that are not; where the CPU is of the mask, its own answer among these is the one that it has given
+-- answers that are not; in a stop of several CPUs those that are not active have answered 0; and where the CPU is of the mask,
+-- its own answer among these is the one that it has given
 pub record IsLastResult (c : CpuValue) (result : ℕ) : Type 0 where
   pub work : Work
   pub answer : ℕ → ℕ
@@ -74,16 +76,21 @@ pub record IsLastResult (c : CpuValue) (result : ℕ) : Type 0 where
   pub begun : c.part.begun ≡ works ++ work ∷ []
   pub collected : c.part.collected ≡ results ++ result ∷ []
   pub is_result : IsResult work.mask answer result
+  pub active : OnlyActiveAnswer work answer
   pub given : AreGiven c work.mask answer
   pub own : has work.mask c.number ≡ true → HasAnsweredItself c (answer c.number)
 
+-- a CPU that is called may give an answer that is not 0: one that is active, or any of a stop of one CPU
+abbrev pub MayAnswer : Work → ℕ → Type 0
+MayAnswer work cpu = (work.kind ≡ One) ⊎ (has work.active cpu ≡ true)
+
 -- what a CPU has collected of a stop of its own agrees with its own answer: this is not 0 only where the result is not, and is
--- the result where no other CPU was called
-pub record AgreesWithOwn (c : CpuValue) (mask result : ℕ) : Type 0 where
+-- the result where no other CPU that was called may answer
+pub record AgreesWithOwn (c : CpuValue) (work : Work) (result : ℕ) : Type 0 where
   pub own : ℕ
   pub answered : HasAnsweredItself c own
   pub some : own ≢ 0 → result ≢ 0
-  pub alone : ((cpu : ℕ) → has mask cpu ≡ true → cpu ≡ c.number) → result ≡ own
+  pub alone : ((cpu : ℕ) → has work.mask cpu ≡ true → MayAnswer work cpu → cpu ≡ c.number) → result ≡ own
 
 abbrev pub OwnAnswersAgree : Type 0
-OwnAnswersAgree = (c : CpuValue) (result : ℕ) → (l : IsLastResult c result) → has l.work.mask c.number ≡ true → AgreesWithOwn c l.work.mask result
+OwnAnswersAgree = (c : CpuValue) (result : ℕ) → (l : IsLastResult c result) → has l.work.mask c.number ≡ true → AgreesWithOwn c l.work result

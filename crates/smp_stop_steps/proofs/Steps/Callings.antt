@@ -67,6 +67,12 @@ pub calling_given : (c s : ℕ) (w : Work) (a l : ℕ) (v : ℕ) (f : Calling) �
     IsCalling c (In s w a l Rests) f → IsCalling c (Gives s w a v) f
 calling_given c s w a l v f some through is k = search arith
 
+-- an answer that is in the result word is that of an active CPU, or of a stop of one CPU
+pub given_quiet : (c s : ℕ) (w : Work) (a v : ℕ) (f : Calling) → IsCalling c (Gives s w a v) f → w.kind ≢ One → has w.active c ≡ false → v ≡ 0
+given_quiet c s w a v Idle k many no = absurd k
+given_quiet c s w a v (Calls call) k many no = absurd (many k.1.0)
+given_quiet c s w a v (Carries answer) k many no = absurd (let bad : true ≡ false = sym k.1 ∙ no in cc)
+
 -- a CPU at this seat has no done to store
 abbrev pub IsNotClosing : Seat → Type 0
 IsNotClosing (Closes s) = ⊥

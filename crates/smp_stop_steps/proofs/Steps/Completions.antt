@@ -9,13 +9,14 @@ use Rattle.smp_stop_steps.specs.{Setup, StopState, Idle, Answering, Called, Comp
 use Rattle.smp_stop_steps.specs.{stands, Last, completes_with, enters, told, called_more, Field, One, Patch, Kind as KindOf, Work, Key, Slot, Word, has}
 use Rattle.smp_stop_steps.proofs.Basics.Bools.{or_true}
 use Rattle.smp_stop_steps.proofs.Steps.Callings.{calling_same, IsNotClosing, idle_free, closing_kept, idle_closes, closing_seat, calling_next}
+use Rattle.smp_stop_steps.proofs.Steps.Callings.{given_quiet}
 use Rattle.smp_stop_steps.proofs.Basics.Counts.{sum_zero}
 use Rattle.smp_stop_steps.proofs.State.Ends.{answer_of_it, answer_unfinished}
 use Rattle.smp_stop_steps.proofs.State.Entered.{step_answers, step_completes, step_enters, step_finishes}
 use Rattle.smp_stop_steps.proofs.Steps.Kept.{MovesInside, StaysOpen, after, moves_early, moves_given, open_step, open_step_with, other_slots, owns_kept}
 use Rattle.smp_stop_steps.proofs.Steps.Kept.{past_answers}
 use Rattle.smp_stop_steps.proofs.State.Moves.{IsNoPatch}
-use Rattle.smp_stop_steps.proofs.State.Pasts.{past_completes}
+use Rattle.smp_stop_steps.proofs.State.Pasts.{active_put, past_completes}
 use Rattle.smp_stop_steps.proofs.State.Phases.{is_open_inside, keeps_inside}
 use Rattle.smp_stop_steps.proofs.State.Raises.{in_machine}
 use Rattle.smp_stop_steps.proofs.Steps.Rounds.{acked_most_phase}
@@ -43,7 +44,7 @@ module _ (u : Setup) (p : StopState) (at : Word → ℕ) (seat : ℕ → Seat) (
       let called : (p.now.stop s).standing me ≡ Called = called_is ((p.now.stop s).standing me) (sym ((h.present.slots s).roll me) ∙ found) in
       let open_ = is_open_inside u.cpus (p.now.stop s) w (h.present.slots s) me Called called refl in
       let k = keeps_inside u.cpus (p.now.stop s) w (h.present.slots s) me Called called in
-      let stays : StaysOpen (p.now.stop s) stop' = search (open_, put_all, arith) in
+      let stays : StaysOpen (p.now.stop s) stop' = search (open_, put_all, active_put, arith) in
       let at' = put_word at (Slot s Roll) n in
       let shown' = open_step u p at seat source h s stop' inside' p.now.irq p.now.readings p.now.patching at' (put seat me (In s (p.now.stop s).work 0 0
       Rests)) p.looks p.calls p.calling stays refl (λ k. refl) (other_slots at s Roll n) (own k.1) (step_enters u p.now at seat h.present s me n is found
@@ -94,7 +95,9 @@ module _ (u : Setup) (p : StopState) (at : Word → ℕ) (seat : ℕ → Seat) (
         let stop' = stands (p.now.stop s) me to in
         let at' = put_word at (Slot s Result) v in
         let inside : MovesInside ((p.now.stop s).standing me) to = search arith in
-        let stays : StaysOpen (p.now.stop s) stop' = search (open_, moves_given, arith) in
+        let active = active_put (p.now.stop s) me to (subst (λ (x : Work). x.kind ≢ One → has x.active me ≡ false → v ≡ 0) (sym st.3)
+        (given_quiet me s job a v (p.calling me) calls)) in
+        let stays : StaysOpen (p.now.stop s) stop' = search (open_, moves_given, active, arith) in
         let shown' = open_step u p at seat source h s stop' p.now.inside p.now.irq p.now.readings p.now.patching at' (put seat me (Gives s job a v)) p.looks
         p.calls p.calling stays refl (λ k. refl) (other_slots at s Result v) (owns_kept u.first p.now (λ k. at (Key k)) s stop' p.now.inside p.now.irq
         p.now.readings p.now.patching stays (moves_early u.first s me (p.now.stop s) to inside stop' refl) h.owns) (step_answers u p.now at seat h.present
@@ -107,9 +110,10 @@ module _ (u : Setup) (p : StopState) (at : Word → ℕ) (seat : ℕ → Seat) (
   completes_shown : (job : Work) (a v : ℕ) → p.now.inside me ≡ Some s → IsAnswer ((p.now.stop s).standing me) a v → turn_of (p.now.stop s).raising me ≡
       Rests → IsDone (p.now.stop s).phase a →
       irq_of (seat me) ≡ true → IsNoPatch (seat me) → IsNotClosing (seat me) → answer_now ((p.now.stop s).standing me) ≡ [] →
+      ((p.now.stop s).work.kind ≢ One → has (p.now.stop s).work.active me ≡ false → v ≡ 0) →
       let found = at (Slot s Todo) in
       StopShows u (completes_with p me s a v found) (put_word at (Slot s Todo) (found - 1)) (put seat me (cond (found == 1) (Closes s) Free)) source
-  completes_shown job a v in_ is turn done on idle calm none =
+  completes_shown job a v in_ is turn done on idle calm none mine =
       let found = at (Slot s Todo) in
       let to = Completed a v in
       let stop' = completed (p.now.stop s) me a v found in
@@ -128,7 +132,7 @@ module _ (u : Setup) (p : StopState) (at : Word → ℕ) (seat : ℕ → Seat) (
       (λ e. let P : ℕ → Type 0 = λ k. HasPast stop' (p.begun k) (p.collected k) (λ c. answers' c k) in
       subst P (sym e) (past_answers stop' (p.begun s) (p.collected s) (put (λ c. p.answers c s) me (p.answers me s ++ v ∷ [])) (λ c. answers' c s)
       (here_more (p.answers me s ++ v ∷ []))
-      ((h.past s).0, past_completes (h.past s).0 (p.now.stop s) (p.begun s) (p.collected s) (λ c. p.answers c s) (h.past s).1 me a v found none)))
+      ((h.past s).0, past_completes (h.past s).0 (p.now.stop s) (p.begun s) (p.collected s) (λ c. p.answers c s) (h.past s).1 me a v found none mine)))
       (λ ne. past_answers (p.now.stop j) (p.begun j) (p.collected j) (λ c. p.answers c j) (λ c. answers' c j) (there_same j ne (p.answers me s ++ v ∷ []))
       (h.past j)))
       (λ j. at_test j s (λ b. let y = cond b stop' (p.now.stop j) in
@@ -202,7 +206,7 @@ module _ (u : Setup) (p : StopState) (at : Word → ℕ) (seat : ℕ → Seat) (
       let shown' = completes_shown job a 0 now.0 (subst (λ x. IsAnswer x a 0) (sym now.1) (refl, refl)) now.2 (is_done job a l is through) (search (
         on_now,
         arith,
-      )) (subst IsNoPatch (sym is) tt) (subst IsNotClosing (sym is) tt) (ap answer_now now.1) in
+      )) (subst IsNoPatch (sym is) tt) (subst IsNotClosing (sym is) tt) (ap answer_now now.1) (λ _ _. refl) in
       search (now.1, shown', arith)
 
   -- and by who has stored its answer
@@ -214,7 +218,9 @@ module _ (u : Setup) (p : StopState) (at : Word → ℕ) (seat : ℕ → Seat) (
       let now : Stands p.now me (Gives s job a v) = subst (Stands p.now me) is (h.present.stands me) in
       let k = keeps_inside u.cpus (p.now.stop s) w (h.present.slots s) me (Answering a v) now.1 in
       let shown' = completes_shown job a v now.0 (subst (λ x. IsAnswer x a v) (sym now.1) (refl, refl)) now.2 k.2 (ap irq_of is) (subst IsNoPatch (sym is) tt)
-      (subst IsNotClosing (sym is) tt) (ap answer_now now.1) in
+      (subst IsNotClosing (sym is) tt) (ap answer_now now.1)
+      (subst (λ (x : Work). x.kind ≢ One → has x.active me ≡ false → v ≡ 0) (sym now.3)
+      (given_quiet me s job a v (p.calling me) (subst (λ x. IsCalling me x (p.calling me)) is (h.callings me)))) in
       search (now.1, shown', arith)
 
   -- store of done by the last
@@ -223,7 +229,7 @@ module _ (u : Setup) (p : StopState) (at : Word → ℕ) (seat : ℕ → Seat) (
   done_stored answer is =
       let now : Stands p.now me (Closes s) = subst (Stands p.now me) is (h.present.stands me) in
       let stop' = ended (p.now.stop s) in
-      let stays : StaysOpen (p.now.stop s) stop' = record { was = now.1; now = now.1; work = refl; end = λ _. refl; given = λ c. refl } in
+      let stays : StaysOpen (p.now.stop s) stop' = record { was = now.1; now = now.1; work = refl; end = λ _. refl; given = λ c. refl; active = λ a. a } in
       let shown' = open_step u p at seat source h s stop' p.now.inside p.now.irq p.now.readings p.now.patching (put_word at (Slot s Done) 1) (put seat me
       Free) p.looks p.calls p.calling stays refl (λ k. refl) (other_slots at s Done 1) (owns_kept u.first p.now (λ k. at (Key k)) s stop' p.now.inside
       p.now.irq p.now.readings p.now.patching stays record { inside = λ i. i; late = λ i. i } h.owns) (step_finishes u p.now at seat h.present s me is)

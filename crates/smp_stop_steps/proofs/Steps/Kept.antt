@@ -1,7 +1,8 @@
 -- What a step on an open stop leaves to the sources, to the past and to the keys that sources know.
 use Rattle.std.proofs.Common.{◌≡◌, ◌≢◌, ℕ, ◌≤◌, Bool, true, ◌==◌, cond, sym, subst, refl, ap, ◌∙◌, Option, List, arith}
 use Rattle.smp_words.proofs.Puts.{at_test, put_all}
-use Rattle.smp_stop_steps.specs.{CountShows, put, put_word, Patching, Reading, StandsSet, HasPast, answer_now, OwnsKey, PresentShows, Seat, StopShows}
+use Rattle.smp_stop_steps.specs.{CountShows, put, put_word, Patching, Reading, StandsSet, HasPast, OnlyActiveAnswer, answer_now, answer_of, OwnsKey}
+use Rattle.smp_stop_steps.specs.{PresentShows, Seat, StopShows}
 use Rattle.smp_stop_steps.specs.{Collects, Drafts, Owns, Shut, Source, SourceShows, AreClosing, IsCalling, Calling, Setup, StopCall, StopState, Ended}
 use Rattle.smp_stop_steps.specs.{Standing, acked, is_inside, Field, Patch, Work, Gate, Key, Slot, Word}
 use Rattle.smp_stop_steps.proofs.State.Moves.{field_false}
@@ -26,8 +27,9 @@ module _ (u : Setup) (gate : Option ℕ) (s : ℕ) where
 -- the past, where nothing begins, is answered or collected
 pub past_same : (stop stop' : Stop) (begun : List Work) (collected : List ℕ) (answers : ℕ → List ℕ) → stop'.is_open ≡ stop.is_open →
     (stop.is_open ≡ true → stop'.work ≡ stop.work) →
-    ((c : ℕ) → answer_now (stop'.standing c) ≡ answer_now (stop.standing c)) → HasPast stop begun collected answers → HasPast stop' begun collected answers
-past_same stop stop' begun collected answers op work given h = search (h.1.answers_are, given, stop'.is_open, work, arith)
+    ((c : ℕ) → answer_now (stop'.standing c) ≡ answer_now (stop.standing c)) → OnlyActiveAnswer stop'.work (λ c. answer_of (stop'.standing c)) →
+    HasPast stop begun collected answers → HasPast stop' begun collected answers
+past_same stop stop' begun collected answers op work given active h = search (h.1.answers_are, given, stop'.is_open, work, active, arith)
 
 -- what is now, with one stop and other columns changed
 abbrev pub after : Present → ℕ → Stop → (ℕ → Option ℕ) → (ℕ → Bool) → (ℕ → List Reading) → Patching → Present
@@ -40,6 +42,7 @@ pub record StaysOpen (old new : Stop) : Type 0 where
   pub work : new.work ≡ old.work
   pub end : old.ending ≡ Ended → new.ending ≡ Ended
   pub given : (c : ℕ) → answer_now (new.standing c) ≡ answer_now (old.standing c)
+  pub active : OnlyActiveAnswer old.work (λ c. answer_of (old.standing c)) → OnlyActiveAnswer new.work (λ c. answer_of (new.standing c))
 
 -- a step that brings no source inside, and no first CPU past phase 3
 pub record IsEarly (first s : ℕ) (old new : Stop) : Type 0 where
@@ -107,7 +110,7 @@ module _ (u : Setup) (p : StopState) (at : Word → ℕ) (seat : ℕ → Seat) (
       (λ j. at_test j s (λ b. HasPast (cond b stop' (p.now.stop j)) (p.begun j) (p.collected j) (λ c. p.answers c j))
       (λ e. let P : ℕ → Type 0 = λ k. HasPast stop' (p.begun k) (p.collected k) (λ c. p.answers c k) in
       subst P (sym e) (past_same (p.now.stop s) stop' (p.begun s) (p.collected s) (λ c. p.answers c s) (stays.now ∙ sym stays.was) (λ _. stays.work)
-      stays.given (h.past s)))
+      stays.given (stays.active (h.past s).1.active) (h.past s)))
       (λ ne. h.past j)) own present callings closing
 
 -- the words of other slots, where one field of one slot was changed

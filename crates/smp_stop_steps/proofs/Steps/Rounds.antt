@@ -16,6 +16,7 @@ use Rattle.smp_stop_steps.proofs.Steps.Callings.{calling_same, calling_looked, I
 use Rattle.smp_stop_steps.proofs.Steps.Callings.{carried_alone, calling_next, calling_ran}
 use Rattle.smp_stop_steps.proofs.Steps.Kept.{MovesInside, StaysOpen, after, moves_early, moves_given, open_step, other_slots, owns_kept, put_twice}
 use Rattle.smp_stop_steps.proofs.State.Moves.{IsNoPatch, SaveMe}
+use Rattle.smp_stop_steps.proofs.State.Pasts.{active_put}
 use Rattle.smp_stop_steps.proofs.State.Owns.{owns_at_leave}
 use Rattle.smp_stop_steps.proofs.State.Patched.{patch_ends}
 use Rattle.smp_stop_steps.proofs.State.Phases.{is_open_inside, keeps_inside}
@@ -73,6 +74,7 @@ module _ (u : Setup) (p : StopState) (at : Word → ℕ) (seat : ℕ → Seat) (
         work = refl;
         end = λ e. e;
         given = moves_given u.first s me (p.now.stop s) to inside;
+        active = active_put (p.now.stop s) me to (λ _ _. refl);
       } refl (λ k. refl) (λ j ne f. refl) (owns_kept u.first p.now (λ k. at (Key k)) s stop' p.now.inside irq' p.now.readings p.now.patching
       record {
         was = is_open job a l Rests is;
@@ -80,6 +82,7 @@ module _ (u : Setup) (p : StopState) (at : Word → ℕ) (seat : ℕ → Seat) (
         work = refl;
         end = λ e. e;
         given = moves_given u.first s me (p.now.stop s) to inside;
+        active = active_put (p.now.stop s) me to (λ _ _. refl);
       } (moves_early u.first s me (p.now.stop s) to inside stop' refl) h.owns) (step_looks u p.now at seat h.present s me irq' p.now.readings
       (save found) job a l is more (turned found refl (o.state ∙ refl) k (h.present.irq me ∙ ap irq_of is)) (λ on i. h.present.read me on (before found
       (sym (turned found refl (o.state ∙ refl) k (h.present.irq me ∙ ap irq_of is)) ∙ refl) i))) (calling_same seat p.calling h.callings me next
@@ -184,7 +187,7 @@ module _ (u : Setup) (p : StopState) (at : Word → ℕ) (seat : ℕ → Seat) (
         let at' = put_word at (Slot s Ack) (found - 1) in
         let to = Inside (a + 1) (a + 1) in
         let shown' = open_step u p at seat source h s acked_stop p.now.inside irq' readings' x at' (put seat0 me next) p.looks calls' calling' (search
-        (put_all, arith)) refl (λ k. refl) (other_slots at s Ack (found - 1)) (owns_acked x irq' readings' st known)
+        (put_all, active_put, arith)) refl (λ k. refl) (other_slots at s Ack (found - 1)) (owns_acked x irq' readings' st known)
         (step_acknowledges u (record (p.now) { patching = x }) at seat0 present s me irq' readings' record {
           inside = λ c ne. refl;
           irq = λ c ne. put_other p.now.irq me true c ne;
@@ -206,6 +209,7 @@ module _ (u : Setup) (p : StopState) (at : Word → ℕ) (seat : ℕ → Seat) (
           work = refl;
           end = λ e. e;
           given = search (put_all, arith);
+          active = active_put (p.now.stop s) me to (λ _ _. refl);
         } refl (λ k. refl) (other_slots at s Ack (found - 1)) (owns_acked x p.now.irq
         p.now.readings st known) (step_acknowledges u (record (p.now) { patching = x }) at seat0 present s me p.now.irq p.now.readings record {
           inside = λ c ne. refl;
@@ -283,7 +287,7 @@ module _ (u : Setup) (p : StopState) (at : Word → ℕ) (seat : ℕ → Seat) (
       let stop' = refilled (p.now.stop s) me in
       let next = In s job a l Sets in
       let whole : weight u.cpus (p.now.stop s).standing ≡ v = search (weight_of_mask, h.present.slots, arith) in
-      let stays : StaysOpen (p.now.stop s) stop' = record { was = open_; now = open_; work = refl; end = λ e. e; given = λ c. refl } in
+      let stays : StaysOpen (p.now.stop s) stop' = record { was = open_; now = open_; work = refl; end = λ e. e; given = λ c. refl; active = λ a. a } in
       let shown' = open_step u p at seat source h s stop' p.now.inside p.now.irq p.now.readings p.now.patching (put_word at (Slot s Ack) v) (put seat me next)
       p.looks p.calls p.calling stays refl (λ k. refl) (other_slots at s Ack v) (owns_kept u.first p.now (λ k. at (Key k)) s stop' p.now.inside p.now.irq
       p.now.readings p.now.patching stays record { inside = λ i. i; late = λ i. i } h.owns) (subst (λ n. PresentShows u (after p.now s stop' p.now.inside
@@ -314,7 +318,7 @@ module _ (u : Setup) (p : StopState) (at : Word → ℕ) (seat : ℕ → Seat) (
       let level : Inside (p.now.stop s).phase (p.now.stop s).phase ≡ Inside a l = sym ack.2 ∙ st.1 in
       let phase : (p.now.stop s).phase ≡ a = cc in
       let looked : (p.now.stop s).phase ≡ l = cc in
-      let stays : StaysOpen (p.now.stop s) stop' = record { was = open_; now = open_; work = refl; end = λ e. e; given = λ c. refl } in
+      let stays : StaysOpen (p.now.stop s) stop' = record { was = open_; now = open_; work = refl; end = λ e. e; given = λ c. refl; active = λ a. a } in
       let own = λ (irq' : ℕ → Bool) (readings' : ℕ → List Reading).
       owns_kept u.first p.now (λ k. at (Key k)) s stop' p.now.inside irq' readings' p.now.patching stays record { inside = λ i. i; late = λ i. i } h.owns in
       search (go, arith)

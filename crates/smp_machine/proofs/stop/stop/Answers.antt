@@ -21,7 +21,7 @@ returns-then-long-clause-stopped g c =
 pub returns-then-long-clause-own : goal.returns-then-long-clause-own
 returns-then-long-clause-own g c =
     stop_itself g.H.Handler.leads g.F.StopFunc.leads (stop_moves c.args.long) c.args.work.now _ c.is_shown.ensures.shown c.is_shown-then-long.ensures.shown
-    c.requires.collected (returns-then-long-clause-stopped g c)
+    c.requires.collected c.requires.outside (returns-then-long-clause-stopped g c)
 
 pub returns-clause-stopped : goal.returns-clause-stopped
 returns-clause-stopped g c =
@@ -36,4 +36,4 @@ returns-clause-stopped g c =
 pub returns-clause-own : goal.returns-clause-own
 returns-clause-own g c =
     stop_itself g.H.Handler.leads g.F.StopFunc.leads (stop_moves c.args.long) c.args.work.now _ c.is_shown.ensures.shown c.is_shown-2.ensures.shown
-    c.requires.collected (returns-clause-stopped g c)
+    c.requires.collected c.requires.outside (returns-clause-stopped g c)

@@ -21,4 +21,4 @@ returns-clause-own g c =
     subst (λ (x : ℤ). c.args.dst ≡ c.args.me.now.stops.number → HasCalledFor c.args.func c.args.arg c.args.me.now.stops new.stops x)
     (sym (to_z-of_z w32 v fits))
     (subst (λ (p : MachineCpuValue). c.args.dst ≡ p.stops.number → HasCalledFor c.args.func c.args.arg p.stops new.stops v) c.me.view_is
-    (one_itself c.args.dst c.args.func c.args.arg c.one_work-work.result c.me.inside.place.stops new.stops v c.one_work-work.ensures.work c.stop.ensures.own))
+    (one_itself c.args.func c.args.arg c.one_work-work.result c.me.inside.place.stops new.stops v c.stop.ensures.own c.args.dst c.one_work-work.ensures.work))
