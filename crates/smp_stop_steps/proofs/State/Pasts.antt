@@ -37,7 +37,7 @@ active_put stop me to mine others many =
 
 -- where nobody is in a stop, nobody has an answer
 pub active_outside : (work : Work) (standing : ℕ → Standing) → ((c : ℕ) → standing c ≡ Outside) → OnlyActiveAnswer work (λ c. answer_of (standing c))
-active_outside work standing out many c no = ap answer_of (out c)
+active_outside work standing out many c idle = ap answer_of (out c)
 
 module _ (past : List Past) (stop : Stop) (begun : List Work) (collected : List ℕ) (answers : ℕ → List ℕ) (h : PastShows past stop begun collected answers)
   where

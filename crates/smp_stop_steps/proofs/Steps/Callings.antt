@@ -1,9 +1,9 @@
 -- The functions that run, and who is to store done, after a step.
-use Rattle.std.proofs.Common.{◌≡◌, ◌≢◌, ℕ, ◌+◌, Bool, true, ◌&&◌, ◌⊎◌, cond, List, ne_eqb, sym, subst, ap, ◌∙◌, arith}
+use Rattle.std.proofs.Common.{◌≡◌, ◌≢◌, ℕ, ◌+◌, Bool, true, false, ◌&&◌, ◌⊎◌, cond, List, ne_eqb, sym, subst, ap, ◌∙◌, arith}
 use Rattle.smp_words.proofs.Puts.{at_test, put_all, put_both, put_other}
 use Rattle.smp_stop_steps.specs.{put, Kind as KindOf, One, Patch, Work, with_answer, IsCalling, answer_in, HasCalled, AreClosing, HasCompleted, Change}
 use Rattle.smp_stop_steps.specs.{Patching, RunnerShows, StopShows, Source, Word, Seat, Free, In, Gives, Alters, Closes, Turn, Rests, Setup, StopState}
-use Rattle.smp_stop_steps.specs.{Calling, Idle, Last, carried, carried_call, is_multi}
+use Rattle.smp_stop_steps.specs.{Calling, Idle, Calls, Carries, Last, carried, carried_call, has, is_multi}
 use Rattle.smp_stop_steps.specs.State.{Present}
 use Rattle.smp_stop_steps.specs.Stop.{Stop}
 use Rattle.smp_stop_steps.proofs.State.Moves.{IsNoPatch}
