@@ -3,8 +3,8 @@ use Rattle.std.proofs.Common.{◌≡◌, ◌≢◌, ℕ, ◌+◌, Bool, true, fa
 use Rattle.smp_words.proofs.Puts.{at_test, put_all, put_both, put_other}
 use Rattle.smp_stop_steps.specs.{put, Kind as KindOf, One, Patch, Work, with_answer, IsCalling, answer_in, HasCalled, AreClosing, HasCompleted, Change}
 use Rattle.smp_stop_steps.specs.{Patching, RunnerShows, StopShows, Source, Word, Seat, Free, In, Gives, Alters, Closes, Turn, Rests, Setup, StopState}
-use Rattle.smp_stop_steps.specs.{Calling, Idle, Calls, Carries, Last, carried, carried_call, has, is_multi}
-use Rattle.smp_stop_steps.specs.State.{Present}
+use Rattle.smp_stop_steps.specs.{Calling, Idle, Last, carried, carried_call, has, is_multi}
+use Rattle.smp_stop_steps.specs.State.{Present, Calls, Carries}
 use Rattle.smp_stop_steps.specs.Stop.{Stop}
 use Rattle.smp_stop_steps.proofs.State.Moves.{IsNoPatch}
 
@@ -69,9 +69,9 @@ calling_given c s w a l v f some through is k = search arith
 
 -- an answer that is in the result word is that of an active CPU, or of a stop of one CPU
 pub given_quiet : (c s : ℕ) (w : Work) (a v : ℕ) (f : Calling) → IsCalling c (Gives s w a v) f → w.kind ≢ One → has w.active c ≡ false → v ≡ 0
-given_quiet c s w a v Idle k many no = absurd k
-given_quiet c s w a v (Calls call) k many no = absurd (many k.1.0)
-given_quiet c s w a v (Carries answer) k many no = absurd (let bad : true ≡ false = sym k.1 ∙ no in cc)
+given_quiet c s w a v Idle k many idle = absurd k
+given_quiet c s w a v (Calls call) k many idle = absurd (many k.1)
+given_quiet c s w a v (Carries answer) k many idle = absurd (let bad : true ≡ false = sym k.1 ∙ idle in cc)
 
 -- a CPU at this seat has no done to store
 abbrev pub IsNotClosing : Seat → Type 0
