@@ -1,10 +1,10 @@
 -- What a turn leaves of a CPU.
-use Rattle.std.proofs.Common.{◌≡◌, ◌≢◌, ℕ, ℤ, Ok, ◌==◌, ◌&&◌, ◌||◌, nat_lt, Bool, true, false, cond, Some, List, [], ◌∷◌, ◌++◌}
+use Rattle.std.proofs.Common.{◌≡◌, ◌≢◌, ℕ, ℤ, Ok, ◌+◌, ◌==◌, ◌&&◌, ◌||◌, nat_lt, Bool, true, false, cond, Some, List, [], ◌∷◌, ◌++◌}
 use Rattle.std.proofs.Common.{sym, subst, refl, ap, ◌∙◌, arith, ne_eqb}
 use Rattle.atomic_table.specs.Seated.{TableId}
 use Rattle.smp_mask.specs.Mask.{has}
 use Rattle.smp_stop_steps.specs.Callings.{with_answer}
-use Rattle.smp_stop_steps.specs.Known.{carrying}
+use Rattle.smp_stop_steps.specs.Known.{carrying, stepped}
 use Rattle.smp_multi.specs.Lives.{Lives, Moment}
 use Rattle.smp_stop_steps.specs.KnownAfter.{looked_known, looked_to}
 use Rattle.smp_stop_steps.specs.Sits.{OwnsIf}
@@ -16,12 +16,13 @@ use Rattle.smp_stop_steps.specs.declared.phase.TheConstants.{DISABLE_IRQ, RUN, E
 use Rattle.smp_stop_steps.specs.declared.stage.Visit.{Visit}
 use Rattle.smp_multi.specs.Names.{Key, Work, Kind, One, Multi, Patch, Seat, In, Rests, Known, Part, Calling, Idle, Calls, Carries}
 use Rattle.smp_multi.specs.Advance.{Advances, AdvanceAnswers, RunsAt, acknowledges, carries, looks, patches}
-use Rattle.smp_multi.specs.Cpu.{CpuValue, CallsNone, Inside, IsKept, call_with, calls_with, part_with, cpu_of, inside_of, runs}
+use Rattle.smp_multi.specs.Cpu.{CpuValue, CallsNone, Inside, IsKept, call_with, calls_with, part_with, cpu_of, inside_of, makes, runs}
 use Rattle.smp_multi.specs.Laws.{FindsCount}
 use Rattle.smp_multi.specs.Places.{work_in}
 use Rattle.smp_multi.specs.Rounds.{AtTurn, passed_by, passed_known}
 use Rattle.smp_multi.specs.Running.{answered_now, called}
 use Rattle.smp_multi.specs.Seat.{SeatValue}
+use Rattle.smp_multi.specs.StepCounts.{patching, raising}
 use Rattle.smp_multi.specs.Turns.{TurnAnswers, HasRun, patched_by, patched_with}
 use Rattle.smp_multi.specs.declared.func.Called.{Called}
 use Rattle.smp_multi.specs.declared.turn.Turn.{Turn}
@@ -79,12 +80,13 @@ patched_is k s w a count e = ap (λ x. patched_by count (looked_to RUN x) (recor
   part = record (k.part) { looks = k.part.looks ++ RUN ∷ [] };
 })) e
 
--- what a turn leaves: another seat, part and answer, with which the CPU calls no function
+-- what a turn leaves: another seat, part, answer and number of steps, with which the CPU calls no function
 record Turned (k m : Known) (x : Visit) : Type 0 where
   seat : Seat
   part : Part
   carried : ℕ
-  is : m ≡ record k { seat = seat; part = part; carried = carried }
+  steps : ℕ
+  is : m ≡ record k { seat = seat; part = part; carried = carried; steps = steps }
   holds : part.holds ≡ k.part.holds
   quiet : CallsNone (Some x) carried part.calling
 
@@ -108,7 +110,8 @@ module _ {F : Type 0} (leads : F → Called → F → Type 0) (t : TableId) (d e
     seat = In v.slot w RUN RUN Rests;
     part = (turned_at d.known RUN v.slot w (Calls (call_with w 0))).part;
     carried = answer_word h.0;
-    is = h.1 ∙ ran_is d.known v.slot w v.acked h.0 is;
+    steps = d.known.steps + (4 + raising h.1.0);
+    is = h.1.1 ∙ ap (stepped (4 + raising h.1.0)) (ran_is d.known v.slot w v.acked h.0 is);
     holds = refl;
     quiet = tt;
   }
@@ -116,17 +119,19 @@ module _ {F : Type 0} (leads : F → Called → F → Type 0) (t : TableId) (d e
     seat = In v.slot w RUN RUN Rests;
     part = (patched_at d.known v.slot w h.0).part;
     carried = patch_answer w h.0;
-    is = h.2 ∙ patched_is d.known v.slot w v.acked h.0 is;
+    steps = d.known.steps + (5 + patching d.known.setting (work_in d.known.seat) h.0 + raising h.2.0);
+    is = h.2.1 ∙ ap (stepped (5 + patching d.known.setting (work_in d.known.seat) h.0 + raising h.2.0)) (patched_is d.known v.slot w v.acked h.0 is);
     holds = refl;
     quiet = tt;
   }
 
-  passed_turned : (p : ℕ) → e.known ≡ passed_known p d.known → Turned d.known e.known x
-  passed_turned p same = record {
+  passed_turned : (p n : ℕ) → e.known ≡ stepped n (passed_known p d.known) → Turned d.known e.known x
+  passed_turned p n same = record {
     seat = In v.slot w p p Rests;
     part = (turned_at d.known p v.slot w d.known.part.calling).part;
     carried = d.known.carried;
-    is = same ∙ passed_is d.known v.slot w v.acked p is;
+    steps = d.known.steps + n;
+    is = same ∙ ap (stepped n) (passed_is d.known v.slot w v.acked p is);
     holds = refl;
     quiet = subst (λ z. CallsNone (Some x) d.known.carried z) (sym (quiet_carried v d.known.carried d.known.part.calling k.quiet (p == RUN)))
         (quiet_on v x d.known.carried d.known.part.calling k.quiet);
@@ -137,13 +142,14 @@ module _ {F : Type 0} (leads : F → Called → F → Type 0) (t : TableId) (d e
     seat = d.known.seat;
     part = record (d.known.part) { looks = d.known.part.looks ++ v.acked ∷ [] };
     carried = d.known.carried;
-    is = h.0 ∙ looked_is d.known v.slot w v.acked is;
+    steps = d.known.steps + 1;
+    is = h.0 ∙ ap (stepped 1) (looked_is d.known v.slot w v.acked is);
     holds = refl;
     quiet = quiet_on v x d.known.carried d.known.part.calling k.quiet;
   }
-  turned (Moved p) h = passed_turned p h.3
+  turned (Moved p) h = passed_turned p (2 + raising h.3.0) h.3.1
   turned Ran h = ran_turned v.kind h.2
-  turned Left h = passed_turned EXIT h.1
+  turned Left h = passed_turned EXIT (2 + raising h.1.0) h.1.1
 
   pub advance_kept : (turn : Turn) → TurnAnswers leads d.known e.known v x f g turn → Lives e.known → IsKept e.known number (Some x) holds is_open
   advance_kept turn h lives =
@@ -172,48 +178,48 @@ module _ {F : Type 0} (leads : F → Called → F → Type 0) (t : TableId) (d e
   active_is = ap (λ m. has m d.known.number) (sym k.rests.1.active)
 
   -- a phase in which it calls no function
-  moved_view : (p : ℕ) (rs : List Reading) → e.known ≡ passed_known p d.known →
+  moved_view : (p n : ℕ) (rs : List Reading) → e.known ≡ stepped n (passed_known p d.known) →
       cond (p == EXIT) (first_readings d.known.number v.slot w) d.known.part.readings ≡ rs →
-      cpu_of e ≡ record (acknowledges stop p (nat_lt p DISABLE_IRQ || p == EXIT) old) {
+      cpu_of e ≡ makes n (record (acknowledges stop p (nat_lt p DISABLE_IRQ || p == EXIT) old) {
         part = record (part_with d.known.carried d.known) { looks = d.known.part.looks ++ p ∷ []; readings = rs };
-      }
-  moved_view p rs same reads =
+      })
+  moved_view p m rs same reads =
       let n = d.known.number in
       let c = d.known.part.calling in
       let same_call = quiet_carried v d.known.carried c k.quiet (p == RUN) in
-      view (turned_at d.known p v.slot w c) (same ∙ passed_is d.known v.slot w v.acked p is) ∙
-      (λ i. record (acknowledges stop p (nat_lt p DISABLE_IRQ || p == EXIT) old) {
+      view (stepped m (turned_at d.known p v.slot w c)) (same ∙ ap (stepped m) (passed_is d.known v.slot w v.acked p is)) ∙
+      (λ i. makes m (record (acknowledges stop p (nat_lt p DISABLE_IRQ || p == EXIT) old) {
         part = record (d.known.part) {
           looks = d.known.part.looks ++ p ∷ [];
           readings = reads i;
           calls = calls_with d.known.carried n (work_is i) d.known.part.calls (same_call i);
           calling = with_answer d.known.carried (same_call i);
         };
-      })
+      }))
 
   idle : v.acked ≡ DISABLE_IRQ → d.known.part.calling ≡ Idle
   idle two = idle_before d.known v v.slot v.acked v.acked w Rests k.lives is (omega (arith, two)) k.quiet
 
-  -- the CPU that has looked at RUN
+  -- the CPU that has looked at RUN, and has loaded its key and its change
   abbrev at_run : SeatValue
-  at_run = record { table = d.table; known = looked_known RUN d.known }
+  at_run = record { table = d.table; known = stepped 3 (looked_known RUN d.known) }
 
-  at_run_view : v.acked ≡ DISABLE_IRQ → cpu_of at_run ≡ looks RUN old
+  at_run_view : v.acked ≡ DISABLE_IRQ → cpu_of at_run ≡ makes 3 (looks RUN old)
   at_run_view two =
       let there : d.known.seat ≡ In v.slot w DISABLE_IRQ DISABLE_IRQ Rests = is ∙ ap (λ n. In v.slot w n n Rests) two in
       let P : Seat → CpuValue = λ y. cpu_of (record {
         table = d.table;
-        known = record (d.known) { seat = looked_to RUN y; part = record (d.known.part) { looks = d.known.part.looks ++ RUN ∷ [] } };
+        known = stepped 3 (record (d.known) { seat = looked_to RUN y; part = record (d.known.part) { looks = d.known.part.looks ++ RUN ∷ [] } });
       }) in
-      let Q : Seat → CpuValue = λ y. looks RUN (cpu_of (record { table = d.table; known = record (d.known) { seat = y } })) in
+      let Q : Seat → CpuValue = λ y. makes 3 (looks RUN (cpu_of (record { table = d.table; known = record (d.known) { seat = y } }))) in
       ap P there ∙ sym (ap Q there)
 
-  finds : (count : ℕ) → v.acked ≡ DISABLE_IRQ → Moment (looked_known RUN d.known) (Key (work_in d.known.seat).func) count
-      → FindsCount (looks RUN old) w.func count
+  finds : (count : ℕ) → v.acked ≡ DISABLE_IRQ → Moment (stepped 3 (looked_known RUN d.known)) (Key (work_in d.known.seat).func) count
+      → FindsCount (makes 3 (looks RUN old)) w.func count
   finds count two m =
       let free : HasNotGiven (looked_to RUN d.known.seat) = subst (λ y. HasNotGiven (looked_to RUN y)) (sym is) tt in
       subst (λ (z : CpuValue). FindsCount z w.func count) (at_run_view two) (finds_count at_run w.func count free
-      (subst (λ (z : Work). Moment (looked_known RUN d.known) (Key z.func) count) (sym work_is) m))
+      (subst (λ (z : Work). Moment (stepped 3 (looked_known RUN d.known)) (Key z.func) count) (sym work_is) m))
 
   runs_at : (kind : Kind) → v.kind ≡ kind → v.acked ≡ DISABLE_IRQ → has v.active d.known.number ≡ true → HasRun leads d.known e.known v x f g kind
       → RunsAt leads stop old (cpu_of e) f g kind
@@ -222,44 +228,59 @@ module _ {F : Type 0} (leads : F → Called → F → Type 0) (t : TableId) (d e
       let y = answer_word h.0 in
       let calls : calls_at_run d.known.number w ≡ true =
       ap (λ b. b && is_multi w.kind) (active_is ∙ on) ∙ ap is_multi (sym k.rests.1.kind ∙ kind) in
-      let mine = turned_at (carrying y d.known) RUN v.slot w (Calls (call_with w 0)) in (
+      let mine = turned_at (carrying y d.known) RUN v.slot w (Calls (call_with w 0)) in
+      let m = 4 + raising h.1.0 in (
         h.0,
-        view mine (h.1 ∙ ran_is d.known v.slot w v.acked h.0 is) ∙ (
-            ap (λ b. record (cpu_of (record { table = d.table; known = mine })) {
-              part = record (mine.part) { calls = cond b (d.known.part.calls ++ call_with w y ∷ []) d.known.part.calls; calling = Carries y };
-            }) calls ∙
-            ap (λ (z : Part). carries y (runs (call_with w y) (acknowledges stop RUN false (record old { part = z })))) (sym (idle_part d.known.carried d.known
-            (idle two)))),
+        (
+          h.1.0,
+          view (stepped m mine) (h.1.1 ∙ ap (stepped m) (ran_is d.known v.slot w v.acked h.0 is)) ∙ (
+              ap (λ b. makes m (record (cpu_of (record { table = d.table; known = mine })) {
+                part = record (mine.part) { calls = cond b (d.known.part.calls ++ call_with w y ∷ []) d.known.part.calls; calling = Carries y };
+              })) calls ∙
+              ap (λ (z : Part). makes m (carries y (runs (call_with w y) (acknowledges stop RUN false (record old { part = z })))))
+              (sym (idle_part d.known.carried d.known (idle two)))),
+        ),
         subst (λ (z : Work). leads f (called d.known.number z.func z.arg h.0) g) (sym work_is) h.3,
       )
   runs_at Patch kind two on h =
       let y = patch_answer w h.0 in
       let none : calls_at_run d.known.number w ≡ false =
       ap (λ b. b && is_multi w.kind) (active_is ∙ on) ∙ ap is_multi (sym k.rests.1.kind ∙ kind) in
-      let mine = patched_at d.known v.slot w h.0 in (
+      let mine = patched_at d.known v.slot w h.0 in
+      let many = λ (z : Work). 5 + patching d.known.setting z h.0 + raising h.2.0 in
+      let m = many w in
+      let same = h.2.1 ∙ (ap (λ (z : Work). stepped (many z) (patched_by h.0 (looked_to RUN d.known.seat) (looked_known RUN d.known))) (sym work_is)
+      ∙ ap (stepped m) (patched_is d.known v.slot w v.acked h.0 is)) in (
         h.0,
-        view mine (h.2 ∙ patched_is d.known v.slot w v.acked h.0 is) ∙ (
-            ap (λ b. record (cpu_of (record { table = d.table; known = mine })) {
-              part = record (mine.part) { calls = cond b (d.known.part.calls ++ call_with w y ∷ []) d.known.part.calls; calling = Carries y };
-            }) none ∙
-            ap (λ (z : Part). carries y (patches w h.0 (acknowledges stop RUN false (record old { part = z })))) (sym (idle_part d.known.carried d.known
-            (idle two)))),
+        (
+          h.2.0,
+          view (stepped m mine) same ∙ (
+              ap (λ b. makes m (record (cpu_of (record { table = d.table; known = mine })) {
+                part = record (mine.part) { calls = cond b (d.known.part.calls ++ call_with w y ∷ []) d.known.part.calls; calling = Carries y };
+              })) none ∙
+              ap (λ (z : Part). makes m (carries y (patches w h.0 (acknowledges stop RUN false (record old { part = z })))))
+              (sym (idle_part d.known.carried d.known (idle two)))),
+        ),
         h.4,
         finds h.0 two h.1,
       )
 
   pub advances : (turn : Turn) → TurnAnswers leads d.known e.known v x f g turn → Advances leads stop old (cpu_of e) f g turn
   advances Same h = (
-    view (record (d.known) { part = record (d.known.part) { looks = d.known.part.looks ++ v.acked ∷ [] } })
-        (h.0 ∙ looked_is d.known v.slot w v.acked is),
+    view (stepped 1 (record (d.known) { part = record (d.known.part) { looks = d.known.part.looks ++ v.acked ∷ [] } }))
+        (h.0 ∙ ap (stepped 1) (looked_is d.known v.slot w v.acked is)),
     h.2,
   )
   advances (Moved p) h = (
     h.0,
     h.1,
     (λ run. active_is ∙ h.2 run),
-    moved_view p d.known.part.readings h.3 (ap (λ b. cond b (first_readings d.known.number v.slot w) d.known.part.readings) (ne_eqb p EXIT h.1)) ∙
-        ap (λ b. acknowledges stop p b old) (on_before (nat_lt p DISABLE_IRQ) (p == EXIT) (ne_eqb p EXIT h.1)),
+    (
+      h.3.0,
+      moved_view p (2 + raising h.3.0) d.known.part.readings h.3.1
+          (ap (λ b. cond b (first_readings d.known.number v.slot w) d.known.part.readings) (ne_eqb p EXIT h.1)) ∙
+          ap (λ b. makes (2 + raising h.3.0) (acknowledges stop p b old)) (on_before (nat_lt p DISABLE_IRQ) (p == EXIT) (ne_eqb p EXIT h.1)),
+    ),
     h.5,
   )
     where
@@ -272,7 +293,7 @@ module _ {F : Type 0} (leads : F → Called → F → Type 0) (t : TableId) (d e
     subst (RunsAt leads stop old (cpu_of e) f g) k.rests.1.kind
         (runs_at v.kind refl h.0 h.1 h.2),
   )
-  advances Left h = (h.0, moved_view EXIT (first_readings d.known.number v.slot w) h.1 refl, h.3)
+  advances Left h = (h.0, (h.1.0, moved_view EXIT (2 + raising h.1.0) (first_readings d.known.number v.slot w) h.1.1 refl), h.3)
 
   pub advance_answers : v.kind ≢ One → v.acked ≢ EXIT → (turn : Turn) → TurnAnswers leads d.known e.known v x f g turn →
       AdvanceAnswers leads old (cpu_of e) f g (Ok turn)

@@ -2,7 +2,7 @@
 use Rattle.std.proofs.Common.{◌≡◌, ◌≢◌, ℕ, ◌+◌, ◌<◌, sym, subst, refl, ap, ◌∙◌, arith}
 use Rattle.atomic_table.specs.Seated.{TableId}
 use Rattle.smp_words.specs.Size.{cpus}
-use Rattle.smp_stop_steps.specs.Known.{setup_in, told_work}
+use Rattle.smp_stop_steps.specs.Known.{setup_in, stepped, told_work}
 use Rattle.smp_stop_steps.specs.KnownAfter.{drafts_more, is_drafting, opened_by, slot_stored}
 use Rattle.smp_stop_steps.specs.Moves.{Draft, DraftMore, Open}
 use Rattle.smp_stop_steps.specs.Slots.{begun_value, order}
@@ -125,7 +125,7 @@ module _ (t : TableId) (d : SeatValue) (number : ℕ) (w : Work) where
   known_open b = ap (λ o. opened_by o d.known) b.drafts
 
 pub begins_on : (t : TableId) (d e : SeatValue) (number : ℕ) (w : Work) (j k : ℕ) → Begins t d number w j → e.table ≡ t
-    → e.known ≡ record (d.known) { source = draft_at k w } → Begins t e number w k
+    → e.known ≡ stepped 1 (record (d.known) { source = draft_at k w }) → Begins t e number w k
 begins_on t d e number w j k b table same = record {
   table_is = table;
   sized = b.sized;

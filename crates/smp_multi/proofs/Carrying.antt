@@ -1,7 +1,7 @@
 -- The answer that a CPU carries: no step asks for it or changes it.
 use Rattle.std.proofs.Common.{◌≡◌, ℕ, Bool, true, false, cond, Option, Some, None, [], refl, ap}
 use Rattle.smp_mask.specs.Mask.{has}
-use Rattle.smp_stop_steps.specs.Known.{Sees, attempting, carrying, setup_in}
+use Rattle.smp_stop_steps.specs.Known.{Sees, attempting, carrying, setup_in, stepped}
 use Rattle.smp_multi.specs.Lives.{Lives, Moment}
 use Rattle.smp_stop_steps.specs.KnownAfter.{acked_by, called_by, completed_by, drafted_known, is_drafting, is_patching, key_loaded_by}
 use Rattle.smp_stop_steps.specs.KnownAfter.{known_entering, known_told, key_read_known, member_stored, opened_by, raised_by}
@@ -106,7 +106,7 @@ module _ (x : ℕ) where
   load_with v (Slot s field.Mask) n = refl
   load_with v (Slot s field.Active) n = refl
   load_with v (Slot s field.Func) n = refl
-  load_with v (Slot s field.Arg) n = called_with n v.seat v
+  load_with v (Slot s field.Arg) n = ap (stepped 1) (called_with n v.seat v)
   load_with v (Slot s field.State) n = refl
   load_with v (Slot s field.Ack) n = refl
   load_with v (Slot s field.Roll) n = refl
@@ -114,7 +114,7 @@ module _ (x : ℕ) where
   load_with v (Slot s field.Result) n = refl
   load_with v (Slot s field.Done) n = refl
   load_with v Gate n = refl
-  load_with v (Key k) n = key_with k n v.seat v
+  load_with v (Key k) n = ap (stepped 1) (key_with k n v.seat v)
   load_with v (Entry i) n = refl
   load_with v (Site i) n = refl
   load_with v _ n = refl
@@ -156,16 +156,16 @@ module _ (x : ℕ) where
   pub store_with : (v : Known) (w : Word) (n : ℕ)
       → carrying x (known_told v act.Store w None (Some n)) ≡ known_told (carrying x v) act.Store w None (Some n)
   store_with v (Slot s field.Kind) n = refl
-  store_with v (Slot s field.Mask) n = either_with field.Mask n v
-  store_with v (Slot s field.Active) n = either_with field.Active n v
-  store_with v (Slot s field.Func) n = either_with field.Func n v
-  store_with v (Slot s field.Arg) n = either_with field.Arg n v
-  store_with v (Slot s field.State) n = either_with field.State n v
-  store_with v (Slot s field.Ack) n = either_with field.Ack n v
-  store_with v (Slot s field.Roll) n = opened_with v.source v
-  store_with v (Slot s field.Todo) n = either_with field.Todo n v
-  store_with v (Slot s field.Result) n = either_with field.Result n v
-  store_with v (Slot s field.Done) n = either_with field.Done n v
+  store_with v (Slot s field.Mask) n = ap (stepped 1) (either_with field.Mask n v)
+  store_with v (Slot s field.Active) n = ap (stepped 1) (either_with field.Active n v)
+  store_with v (Slot s field.Func) n = ap (stepped 1) (either_with field.Func n v)
+  store_with v (Slot s field.Arg) n = ap (stepped 1) (either_with field.Arg n v)
+  store_with v (Slot s field.State) n = ap (stepped 1) (either_with field.State n v)
+  store_with v (Slot s field.Ack) n = ap (stepped 1) (either_with field.Ack n v)
+  store_with v (Slot s field.Roll) n = ap (stepped 1) (opened_with v.source v)
+  store_with v (Slot s field.Todo) n = ap (stepped 1) (either_with field.Todo n v)
+  store_with v (Slot s field.Result) n = ap (stepped 1) (either_with field.Result n v)
+  store_with v (Slot s field.Done) n = ap (stepped 1) (either_with field.Done n v)
   store_with v Gate n = refl
   store_with v (Key k) n = refl
   store_with v (Entry i) n = refl
@@ -215,9 +215,9 @@ module _ (x : ℕ) where
   sub_with v (Slot s field.Func) n m = refl
   sub_with v (Slot s field.Arg) n m = refl
   sub_with v (Slot s field.State) n m = refl
-  sub_with v (Slot s field.Ack) n m = acked_with n v.seat v
+  sub_with v (Slot s field.Ack) n m = ap (stepped 1) (acked_with n v.seat v)
   sub_with v (Slot s field.Roll) n m = refl
-  sub_with v (Slot s field.Todo) n m = completed_on n v.seat v
+  sub_with v (Slot s field.Todo) n m = ap (stepped 1) (completed_on n v.seat v)
   sub_with v (Slot s field.Result) n m = refl
   sub_with v (Slot s field.Done) n m = refl
   sub_with v Gate n m = refl
@@ -236,7 +236,7 @@ module _ (x : ℕ) where
   and_with z v (Slot s field.State) n m = refl
   and_with z v (Slot s field.Ack) n m = refl
   and_with z v (Slot s field.Roll) n m =
-      ap (attempting s (has n v.number)) (with_cond (has n v.number) (record v { seat = In s z 0 0 Rests }) v)
+      ap (λ (k : Known). stepped 1 (attempting s (has n v.number) k)) (with_cond (has n v.number) (record v { seat = In s z 0 0 Rests }) v)
   and_with z v (Slot s field.Todo) n m = refl
   and_with z v (Slot s field.Result) n m = refl
   and_with z v (Slot s field.Done) n m = refl

@@ -2,15 +2,17 @@
 use Rattle.std.proofs.Common.{◌≡◌, ◌≢◌, ℕ, ◌==◌, Bool, true, false, cond, sym, refl, ap, ◌∙◌, ne_eqb, eq-eqb, eqb-true}
 use Rattle.atomic_table.specs.Seated.{TableId}
 use Rattle.smp_stop_steps.specs.AnswerWords.{IsI32Word}
-use Rattle.smp_stop_steps.specs.Known.{carrying}
+use Rattle.smp_stop_steps.specs.Known.{carrying, stepped}
 use Rattle.smp_stop_steps.specs.KnownAfter.{completed_by, completed_with, is_drafting, slot_stored, drafted_known, given_by, member_stored}
 use Rattle.smp_stop_steps.specs.Moves.{Give, Count, CountGiven, Close}
 use Rattle.smp_multi.specs.Names.{Work, One, Slot, Store, Sub, Free, In, Gives, Closes, Rests, Seat, Known, Idle}
 use Rattle.smp_multi.specs.Names.field
-use Rattle.smp_multi.specs.Completes.{AtEnd, AtGiven, AtClose, answered, given, left}
+use Rattle.smp_multi.specs.Completes.{AtEnd, AtGiven, AtClose, given, left}
 use Rattle.smp_multi.specs.Places.{work_in}
 use Rattle.smp_multi.specs.Seat.{SeatValue, Able, Ready}
+use Rattle.smp_multi.specs.StepCounts.{closing}
 use Rattle.smp_multi.proofs.Cells.{slot_cell}
+use Rattle.smp_multi.proofs.Counting.{no_steps}
 
 module _ (t : TableId) (d : SeatValue) (slot acked : ℕ) where
   pub able_give : (x : ℕ) → AtEnd t d slot acked → d.known.part.calling ≢ Idle → x ≢ 0 → IsI32Word x → Able t d (Store (Slot slot field.Result) x)
@@ -22,16 +24,19 @@ module _ (t : TableId) (d : SeatValue) (slot acked : ℕ) where
     fits = fits;
   }
 
-  pub known_give : (x : ℕ) → AtEnd t d slot acked → x ≢ 0 → slot_stored field.Result x d.known ≡ given slot acked x d.known
+  pub known_give : (x : ℕ) → AtEnd t d slot acked → x ≢ 0 → stepped 1 (slot_stored field.Result x d.known) ≡ given slot acked x d.known
   known_give x a some =
       let w = work_in d.known.seat in
-      ap (λ b. cond b (drafted_known field.Result x d.known) (member_stored field.Result x d.known)) a.idle ∙ (
-      ap (λ (y : Seat). record (d.known) { seat = given_by x y }) a.seat_is ∙
-      ap (λ b. record (d.known) { seat = cond b (In slot w acked acked Rests) (Gives slot w acked x) }) (sym (ne_eqb x 0 some)))
+      ap (λ b. stepped 1 (cond b (drafted_known field.Result x d.known) (member_stored field.Result x d.known))) a.idle ∙ (
+      ap (λ (y : Seat). stepped 1 (record (d.known) { seat = given_by x y })) a.seat_is ∙
+      ap (λ b. stepped (cond b 0 1) (record (d.known) { seat = cond b (In slot w acked acked Rests) (Gives slot w acked x) })) (sym (ne_eqb x 0 some)))
 
   -- where the answer is 0 nothing is stored
   pub known_zero : (x : ℕ) → AtEnd t d slot acked → x ≡ 0 → d.known ≡ given slot acked x d.known
-  known_zero x a z = ap (λ (y : Seat). record (d.known) { seat = y }) (a.seat_is ∙ ap (λ n. answered slot (work_in d.known.seat) acked n) (sym z))
+  known_zero x a z =
+      let w = work_in d.known.seat in
+      no_steps d.known ∙ (ap (λ (y : Seat). stepped 0 (record (d.known) { seat = y })) a.seat_is
+      ∙ ap (λ b. stepped (cond b 0 1) (record (d.known) { seat = cond b (In slot w acked acked Rests) (Gives slot w acked x) })) (sym (eq-eqb x 0 z)))
 
   pub at_given : (e : SeatValue) (x : ℕ) → AtEnd t d slot acked → ((work_in d.known.seat).kind ≡ One → d.known.part.calling ≢ Idle) → e.table ≡ t
       → e.known ≡ given slot acked x d.known → AtGiven t e slot acked x (work_in d.known.seat)
@@ -75,9 +80,9 @@ module _ (t : TableId) (d : SeatValue) (slot acked : ℕ) where
       go true e = ap (λ n. completed_with found slot w n (carrying 0 d.known)) (sym (eqb-true x 0 e))
       go false e = refl
 
-  pub at_close : (e : SeatValue) (x found : ℕ) (w : Work) → AtGiven t d slot acked x w → e.table ≡ t
-      → e.known ≡ completed_with found slot w x (carrying 0 d.known) → AtClose t e slot found
-  at_close e x found w a table same = record {
+  pub at_close : (e : SeatValue) (x found n : ℕ) (w : Work) → AtGiven t d slot acked x w → e.table ≡ t
+      → e.known ≡ stepped n (completed_with found slot w x (carrying 0 d.known)) → AtClose t e slot found
+  at_close e x found n w a table same = record {
     table_is = table;
     sized = a.sized;
     low = a.low;
@@ -98,8 +103,11 @@ module _ (t : TableId) (d : SeatValue) (slot found : ℕ) (a : AtClose t d slot 
     apart = tt;
   }
 
-  pub known_close : slot_stored field.Done 1 d.known ≡ left d.known
-  known_close = ap (λ b. cond b (drafted_known field.Done 1 d.known) (member_stored field.Done 1 d.known)) a.idle
+  pub known_close : found ≡ 1 → stepped 1 (slot_stored field.Done 1 d.known) ≡ stepped (closing (found == 1)) (left d.known)
+  known_close one = ap (λ b. stepped 1 (cond b (drafted_known field.Done 1 d.known) (member_stored field.Done 1 d.known))) a.idle
+      ∙ ap (λ b. stepped (closing b) (left d.known)) (sym (eq-eqb found 1 one))
 
-  pub left_already : found ≢ 1 → d.known ≡ left d.known
-  left_already ne = ap (λ (y : Seat). record (d.known) { seat = y }) (a.seat_is ∙ ap (λ b. cond b (Closes slot) Free) (ne_eqb found 1 ne))
+  pub left_already : found ≢ 1 → d.known ≡ stepped (closing (found == 1)) (left d.known)
+  left_already ne = no_steps d.known
+      ∙ (ap (λ (y : Seat). stepped 0 (record (d.known) { seat = y })) (a.seat_is ∙ ap (λ b. cond b (Closes slot) Free) (ne_eqb found 1 ne))
+      ∙ ap (λ b. stepped (closing b) (left d.known)) (sym (ne_eqb found 1 ne)))

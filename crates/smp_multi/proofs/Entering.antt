@@ -5,7 +5,7 @@ use Rattle.atomic_table.specs.Seated.{TableId}
 use Rattle.smp_mask.specs.Mask.{has}
 use Rattle.smp_words.specs.Kinds.{kind_at}
 use Rattle.smp_words.specs.Size.{cpus}
-use Rattle.smp_stop_steps.specs.Known.{setup_in, told_source}
+use Rattle.smp_stop_steps.specs.Known.{setup_in, stepped, told_source}
 use Rattle.smp_multi.specs.Lives.{Moment}
 use Rattle.smp_stop_steps.specs.KnownAfter.{entered_known}
 use Rattle.smp_stop_steps.specs.Moves.{Enter, LoadField, IsPlain}
@@ -41,7 +41,7 @@ ready_roll t d number slot x f low e = record {
 }
 
 -- what it knows after it
-pub entered_or : (slot : ℕ) (work : Work) (b : Bool) (v : Known) → entered_known slot work b v ≡ cond b (entered slot work v) (missed slot v)
+pub entered_or : (slot : ℕ) (work : Work) (b : Bool) (v : Known) → stepped 1 (entered_known slot work b v) ≡ cond b (entered slot work v) (missed slot v)
 entered_or slot work true v = refl
 entered_or slot work false v = refl
 
@@ -89,8 +89,9 @@ ready_plain t d slot w f h plain = record {
   apart = tt;
 }
 
-pub entered_moved : (t : TableId) (d e : SeatValue) (slot : ℕ) (w : Work) → HasEntered t d slot w → e.table ≡ t → e.known ≡ d.known → HasEntered t e slot w
-entered_moved t d e slot w h table same = record { table_is = table; sized = h.sized; low = h.low; seat_is = ap (λ (k : Known). k.seat) same ∙ h.seat_is }
+pub entered_moved : (t : TableId) (d e : SeatValue) (slot : ℕ) (w : Work) (n : ℕ) → HasEntered t d slot w → e.table ≡ t → e.known ≡ stepped n d.known
+    → HasEntered t e slot w
+entered_moved t d e slot w n h table same = record { table_is = table; sized = h.sized; low = h.low; seat_is = ap (λ (k : Known). k.seat) same ∙ h.seat_is }
 
 -- what a CPU in a stop finds of its work
 module _ (v : Known) (slot : ℕ) (w : Work) (acked looked : ℕ) (duty : Duty) (is : v.seat ≡ In slot w acked looked duty) where

@@ -4,19 +4,20 @@ use Rattle.std.proofs.Common.{subst, refl, ap, ◌∙◌, arith}
 use Rattle.atomic_table.specs.Seated.{TableId}
 use Rattle.smp_mask.specs.Mask.{has}
 use Rattle.smp_stop_steps.specs.Callings.{IsCalling, answer_in, with_answer}
-use Rattle.smp_stop_steps.specs.Known.{carrying, told_calling}
+use Rattle.smp_stop_steps.specs.Known.{carrying, stepped, told_calling}
 use Rattle.smp_stop_steps.specs.KnownAfter.{completed_with, has_called, is_drafting}
 use Rattle.smp_stop_steps.specs.Sits.{OwnsIf}
 use Rattle.smp_stop_steps.specs.Tells.{calls_at_run, is_multi, is_one}
 use Rattle.smp_stop_steps.specs.declared.phase.TheConstants.{EXIT}
 use Rattle.smp_stop_steps.specs.declared.stage.Visit.{Visit}
 use Rattle.smp_multi.specs.Names.{Work, Kind, One, Multi, Patch, Seat, In, Rests, Source, Calling, Idle, Calls, Carries}
-use Rattle.smp_multi.specs.Advance.{FinishAnswers}
+use Rattle.smp_multi.specs.Advance.{FinishAnswers, completes}
 use Rattle.smp_multi.specs.Cells.{cells}
 use Rattle.smp_multi.specs.Completes.{AtEnd}
-use Rattle.smp_multi.specs.Cpu.{CallsNone, IsKept, answers, call_with, calls_with, cpu_of, inside_of}
+use Rattle.smp_multi.specs.Cpu.{CallsNone, IsKept, answers, call_with, calls_with, cpu_of, inside_of, makes}
 use Rattle.smp_multi.specs.Places.{work_in}
 use Rattle.smp_multi.specs.Seat.{SeatValue}
+use Rattle.smp_multi.specs.StepCounts.{completing}
 
 -- who calls none completes with the answer that it carries, and calls none with 0
 quiet_answer : (v : Visit) (x : ℕ) (f : Calling) → CallsNone (Some v) x f → answer_in (with_answer x f) ≡ x
@@ -94,15 +95,16 @@ module _ (t : TableId) (d : SeatValue) (number : ℕ) (v : Visit) (holds is_open
       sym (ap (λ b. cond (b || calls_at_run me w) (d.known.part.calls ++ call_with w x ∷ []) d.known.part.calls) (is_several w.kind kind))
 
   -- its value once it has completed
-  finished_view : (e : SeatValue) → e.table ≡ d.table → e.known ≡ completed_with 0 v.slot (work_in d.known.seat) x (carrying 0 d.known) →
-      cpu_of e ≡ answers v.slot (answer_in (with_answer x d.known.part.calling)) (cpu_of d)
-  finished_view e table same =
-      let known : e.known ≡ completed_with 0 v.slot w x (carrying 0 d.known)
-      = same ∙ ap (λ (z : Work). completed_with 0 v.slot z x (carrying 0 d.known)) (ap work_in is) in
+  finished_view : (e : SeatValue) (last : Bool) → e.table ≡ d.table
+      → e.known ≡ stepped (completing x last) (completed_with 0 v.slot (work_in d.known.seat) x (carrying 0 d.known))
+      → cpu_of e ≡ completes v.slot last (cpu_of d)
+  finished_view e last table same =
+      let known : e.known ≡ stepped (completing x last) (completed_with 0 v.slot w x (carrying 0 d.known))
+      = same ∙ ap (λ (z : Work). stepped (completing x last) (completed_with 0 v.slot z x (carrying 0 d.known))) (ap work_in is) in
       let answer = quiet_answer v x d.known.part.calling k.quiet in
       let calls = has_run d.known.part.calling refl in
       (λ i. cpu_of (record { table = table i; known = known i })) ∙
-      (λ i. record (answers v.slot (sym answer i) (cpu_of d)) {
+      (λ i. record (makes (completing (sym answer i) last) (answers v.slot (sym answer i) (cpu_of d))) {
         part = record (d.known.part) {
           calling = Idle;
           answers = slice_set d.known.part.answers v.slot (slice_index_or d.known.part.answers v.slot [] ++ sym answer i ∷ []);
@@ -110,14 +112,15 @@ module _ (t : TableId) (d : SeatValue) (number : ℕ) (v : Visit) (holds is_open
         };
       })
 
-  pub finish_answers : (e : SeatValue) → e.table ≡ d.table → e.known ≡ completed_with 0 v.slot (work_in d.known.seat) d.known.carried (carrying 0 d.known) → (u : Unit) →
-      FinishAnswers (cpu_of d) (cpu_of e) (Ok u)
-  finish_answers e table same u = (
+  pub finish_answers : (e : SeatValue) (last : Bool) → e.table ≡ d.table
+      → e.known ≡ stepped (completing x last) (completed_with 0 v.slot (work_in d.known.seat) x (carrying 0 d.known))
+      → (u : Unit) → FinishAnswers (cpu_of d) (cpu_of e) (Ok u)
+  finish_answers e last table same u = (
     record {
       stop = record { slot = v.slot; work = w; acked = v.acked };
       is = ap inside_of k.rests.2;
       several = kind;
       left = left;
     },
-    finished_view e table same,
+    (last, finished_view e last table same),
   )

@@ -5,7 +5,7 @@ use Rattle.atomic_table.specs.Seated.{TableId}
 use Rattle.smp_mask.specs.Mask.{has}
 use Rattle.smp_words.specs.Size.{cpus}
 use Rattle.smp_stop_steps.specs.Callings.{IsCalling, with_answer}
-use Rattle.smp_stop_steps.specs.Known.{carrying, setup_in, told_source, told_calling}
+use Rattle.smp_stop_steps.specs.Known.{attempting, carrying, noting, setup_in, stepped, told_source, told_calling}
 use Rattle.smp_multi.specs.Lives.{Lives}
 use Rattle.smp_stop_steps.specs.KnownAfter.{completed_with, is_drafting}
 use Rattle.smp_stop_steps.specs.Laws.{IsResult}
@@ -33,16 +33,19 @@ use Rattle.smp_stop_steps.proofs.State.Phases.{is_open_inside, keeps_inside}
 use Rattle.smp_stop_steps.proofs.TheMachine.Starting.{begins_work}
 use Rattle.smp_multi.specs.Names.{Field, Work, Kind, One, Multi, Patch, Slot, Seat, Free, In, Rests, Source, Shut, Drafts, Owns, Collects, Known, Part}
 use Rattle.smp_multi.specs.Names.{Setting, Duty, Calling, Idle, Calls, Carries}
+use Rattle.smp_multi.specs.Names.own
 use Rattle.smp_multi.specs.Answers.{Enters, RunAnswers, PollAnswers, IsWholeWord, answer_in}
 use Rattle.smp_multi.specs.Begins.{Begins}
 use Rattle.smp_multi.specs.Cells.{cells}
 use Rattle.smp_multi.specs.Cpu.{TableValue, CallsNone, IsKept, call_with, calls_with, part_with, cpu_of, inside_of, is_in, enters, runs}
-use Rattle.smp_multi.specs.Cpu.{answers, collects}
+use Rattle.smp_multi.specs.Cpu.{answers, collects, makes}
 use Rattle.smp_multi.specs.Places.{IsVisitOf, IsCalled, entered, missed, work_in, pending_of}
 use Rattle.smp_multi.specs.Polls.{OwnAnswersAgree, MayAnswer, IsLastResult, looked, collected}
 use Rattle.smp_multi.specs.Running.{AtOne, called, called_by}
 use Rattle.smp_multi.specs.Seat.{SeatValue}
+use Rattle.smp_multi.specs.StepCounts.{completing}
 use Rattle.smp_multi.specs.declared.func.Called.{Called}
+use Rattle.smp_multi.proofs.Counting.{steps_on}
 
 -- begin is not refused: the gate is held, the slot is closed, and the work is one that a stop may have
 pub not_refused : (nr : ℕ) (k : Setting) (cpu : ℕ) → cpu < cpus → ((c : ℕ) → has k.online c ≡ true → c < cpus) → has k.online cpu ≡ true
@@ -107,7 +110,7 @@ quiet_in x carried (Calls call) visit e q = absurd q
 quiet_in x carried (Carries answer) visit e q = tt
 
 pub kept_entered : (v u : Known) (number : ℕ) (visit : Option Visit) (holds is_open : Bool) (x : Visit) (slot : ℕ) (work : Work)
-    → IsKept v number visit holds is_open → v.part.calling ≡ Idle → u ≡ entered slot work v → IsVisitOf slot work x → slot < cpus → Lives u →
+    → IsKept v number visit holds is_open → v.part.calling ≡ Idle → u ≡ stepped 3 (entered slot work v) → IsVisitOf slot work x → slot < cpus → Lives u →
     IsKept u number (Some x) holds is_open
 kept_entered v u number visit holds is_open x slot work kept idle same of low lives = record {
   number_is = ap (λ (z : Known). z.number) same ∙ kept.number_is;
@@ -141,13 +144,17 @@ pub idle_part : (answer : ℕ) (v : Known) → v.part.calling ≡ Idle → part_
 idle_part answer v idle =
     ap (λ f. record (v.part) { calls = calls_with answer v.number (work_in v.seat) v.part.calls f; calling = with_answer answer f }) idle
 
+-- a CPU that has entered, but for its steps
+abbrev entered_at : ℕ → Work → Known → Known
+entered_at slot work v = attempting slot true (record v { seat = In slot work 0 0 Rests })
+
 -- a CPU's value by what it knows
 pub entered_view : (d e : SeatValue) (slot : ℕ) (work : Work) → d.known.seat ≡ Free → d.known.part.calling ≡ Idle → e.table ≡ d.table
-    → e.known ≡ entered slot work d.known → cpu_of e ≡ enters slot work (cpu_of d)
+    → e.known ≡ stepped 3 (entered slot work d.known) → cpu_of e ≡ enters slot work (cpu_of d)
 entered_view d e slot work free idle table same =
-    let v = entered slot work d.known in
+    let v = stepped 4 (entered_at slot work d.known) in
     let x = d.known.carried in
-    (λ i. cpu_of (record { table = table i; known = same i })) ∙ (
+    (λ i. cpu_of (record { table = table i; known = (same ∙ steps_on 1 3 (entered_at slot work d.known)) i })) ∙ (
     ap (λ (k : Part). record (cpu_of (record { table = d.table; known = v })) { part = k }) (idle_part x v idle ∙ sym (idle_part x d.known idle)) ∙
     ap (λ (b : Bool). record (enters slot work (cpu_of d)) { irq = b }) (sym (ap irq_of free)))
 
@@ -186,12 +193,12 @@ idle_before v x slot acked looked w t l is early quiet = go (l.stops.calling v.n
     go (Carries answer) k e = absurd (let late = k.0 in omega (arith, late, early))
 
 -- a CPU that has run the function of a stop of one CPU
-pub ran_view : (d e : SeatValue) (slot : ℕ) (w : Work) (x : ℕ) → w.kind ≡ One → d.known.part.calling ≡ Idle → e.table ≡ d.table
-    → e.known ≡ completed_with 0 slot w x (carrying 0 d.known) → cpu_of e ≡ answers slot x (runs (call_with w x) (cpu_of d))
-ran_view d e slot w x one idle table same =
+pub ran_view : (d e : SeatValue) (slot : ℕ) (w : Work) (x n : ℕ) → w.kind ≡ One → d.known.part.calling ≡ Idle → e.table ≡ d.table
+    → e.known ≡ stepped n (completed_with 0 slot w x (carrying 0 d.known)) → cpu_of e ≡ makes n (answers slot x (runs (call_with w x) (cpu_of d)))
+ran_view d e slot w x n one idle table same =
     (λ i. cpu_of (record { table = table i; known = same i })) ∙ (
-    ap (λ (k : Kind). cpu_of (record { table = d.table; known = completed_with 0 slot (record w { kind = k }) x (carrying 0 d.known) })) one ∙
-    ap (λ (k : Part). answers slot x (runs (call_with w x) (record (cpu_of d) { part = k }))) (sym (idle_part d.known.carried d.known idle)))
+    ap (λ (k : Kind). cpu_of (record { table = d.table; known = stepped n (completed_with 0 slot (record w { kind = k }) x (carrying 0 d.known)) })) one ∙
+    ap (λ (k : Part). makes n (answers slot x (runs (call_with w x) (record (cpu_of d) { part = k })))) (sym (idle_part d.known.carried d.known idle)))
 
 -- one stop more, before those that have this last answer
 given_more : (b : Bool) (n : ℕ) (answers before : List ℕ) (v : ℕ) → answers ≡ before ++ v ∷ []
@@ -314,7 +321,9 @@ own_answers_agree c result l of = record { own = l.answer c.number; answered = l
 -- a CPU that has collected a result
 pub collected_view : (d e f : SeatValue) (r : ℕ) → e.known ≡ looked true d.known → f.table ≡ d.table → f.known ≡ collected r e.known
     → cpu_of f ≡ collects r (cpu_of d)
-collected_view d e f r one table two = (λ i. cpu_of (record { table = table i; known = (two ∙ ap (collected r) one) i }))
+collected_view d e f r one table two =
+    let at : Known = record (d.known) { source = Shut; part = record (d.known.part) { collected = d.known.part.collected ++ r ∷ [] } } in
+    (λ i. cpu_of (record { table = table i; known = (two ∙ (ap (collected r) one ∙ steps_on 1 1 (noting (own.Collected r) at))) i }))
 
 -- a slot that may be entered is one of the table
 pub low_slot : (nr slot : ℕ) → has_slot nr slot ≡ true → slot < cpus
@@ -322,7 +331,8 @@ low_slot nr slot e = ltb-true slot cpus (and_parts (nat_lt slot cpus) _ e).0
 
 -- the answer of a CPU that has entered
 pub enters_answer : (t : TableValue) (d e : SeatValue) (slot : ℕ) (work : Work) (visit : Visit) → d.known.seat ≡ Free
-    → d.known.part.calling ≡ Idle → has_slot t.nr slot ≡ true → e.table ≡ d.table → e.known ≡ entered slot work d.known → IsCalled d.known slot work
+    → d.known.part.calling ≡ Idle → has_slot t.nr slot ≡ true → e.table ≡ d.table → e.known ≡ stepped 3 (entered slot work d.known)
+    → IsCalled d.known slot work
     → IsVisitOf slot work visit → Enters t slot (cpu_of d) (cpu_of e) visit.kind
 enters_answer t d e slot work visit free idle there table same calls of = record {
   work = work;
@@ -357,18 +367,22 @@ at_one t d number visit holds is_open kept one table sized =
 
 -- its answer
 pub run_answers : {F : Type 0} (leads : F → Called → F → Type 0) (d e : SeatValue) (number : ℕ) (visit : Visit) (holds is_open : Bool) (before after : F)
-    (v : ℤ) → IsKept d.known number (Some visit) holds is_open → visit.kind ≡ One →
-    e.table ≡ d.table → e.known ≡ completed_with 0 visit.slot (work_in d.known.seat) (answer_word v) (carrying 0 d.known) → leads before (called_by d.known v) after
-    → RunAnswers leads (cpu_of d) (cpu_of e) before after (Ok v)
-run_answers {F} leads d e number visit holds is_open before after v kept one table same heard =
+    (v : ℤ) (last : Bool) → IsKept d.known number (Some visit) holds is_open → visit.kind ≡ One → e.table ≡ d.table
+    → e.known ≡ stepped (2 + completing (answer_word v) last) (completed_with 0 visit.slot (work_in d.known.seat) (answer_word v) (carrying 0 d.known))
+    → leads before (called_by d.known v) after → RunAnswers leads (cpu_of d) (cpu_of e) before after (Ok v)
+run_answers {F} leads d e number visit holds is_open before after v last kept one table same heard =
+    let n = 2 + completing (answer_word v) last in
     let w = kept.rests.0 in
     let kind : w.kind ≡ One = sym kept.rests.1.kind ∙ one in
     let work : work_in d.known.seat ≡ w = ap work_in kept.rests.2 in
     let none = no_phase d.known visit.slot visit.acked visit.acked w kept.lives kept.rests.2 kind in
     let idle = idle_before d.known visit visit.slot visit.acked visit.acked w Rests kept.lives kept.rests.2 (omega (arith, none)) kept.quiet in (
       record { stop = record { slot = visit.slot; work = w; acked = visit.acked }; is = ap inside_of kept.rests.2; one = kind },
-      ran_view d e visit.slot w (answer_word v) kind idle table (same
-          ∙ ap (λ (x : Work). completed_with 0 visit.slot x (answer_word v) (carrying 0 d.known)) work),
+      (
+        last,
+        ran_view d e visit.slot w (answer_word v) n kind idle table
+            (same ∙ ap (λ (x : Work). stepped n (completed_with 0 visit.slot x (answer_word v) (carrying 0 d.known))) work),
+      ),
       subst (λ (x : Work). leads before (called d.known.number x.func x.arg v) after) work heard,
     )
 

@@ -3,12 +3,15 @@ pub mod Cells
 -- the rule: each kind of access keeps it
 pub mod Keeps
 pub mod Carrying
+-- how many steps
+pub mod Counting
 -- the steps of each call
 pub mod Gates
 pub mod Entering
 pub mod Beginning
 pub mod Running
 pub mod Turning
+pub mod Planning
 pub mod Patching
 pub mod Completing
 pub mod Polling

@@ -1,12 +1,10 @@
 -- The patch of a stop: what its CPU may do, what it finds, and where it is after each step.
-use Rattle.std.proofs.Common.{◌≡◌, ℕ, zero, suc, ◌+◌, ◌<◌, ◌≤◌, ◌==◌, ◌&&◌, ◌||◌, Bool, true, false, cond, Option, Some, None, List, [], ◌∷◌, ◌++◌, length, map}
-use Rattle.std.proofs.Common.{get_or, slice_index, take, drop, inl, inr, sym, subst, refl, ap, ◌∙◌, arith, append_assoc, drop-cons}
-use Rattle.std.proofs.Math.Seq.{drop-nil}
-use Rattle.std.proofs.lemmas.Bool.{cases_lt}
-use Rattle.std.proofs.lemmas.List.{append-nil, drop_all, get_or_past, take-append-drop, take_all, take_more}
+use Rattle.std.proofs.Common.{◌≡◌, ℕ, suc, ◌+◌, ◌<◌, ◌≤◌, ◌==◌, ◌&&◌, ◌||◌, Bool, true, false, cond, Option, Some, None, List, [], ◌∷◌, ◌++◌, length}
+use Rattle.std.proofs.Common.{get_or, take, drop, sym, subst, refl, ap, ◌∙◌, arith, drop-cons}
+use Rattle.std.proofs.lemmas.List.{append-nil, drop_all, take-append-drop, take_all, take_more}
 use Rattle.std.specs.List.{AllByRecursion}
 use Rattle.atomic_table.specs.Seated.{TableId}
-use Rattle.smp_labels.specs.Entries.{entry_word, entry_at, IsEntryWord}
+use Rattle.smp_labels.specs.Entries.{entry_at, IsEntryWord}
 use Rattle.smp_labels.specs.Keys.{count_after, is_on}
 use Rattle.smp_labels.specs.Kinds.{kind_of, kind_word, xor}
 use Rattle.smp_labels.specs.Law.{Table}
@@ -19,7 +17,7 @@ use Rattle.smp_labels.proofs.Patched.{plan_key_first}
 use Rattle.smp_labels.proofs.Stores.{entries_kept}
 use Rattle.smp_mask.specs.Mask.{has}
 use Rattle.smp_words.specs.Size.{cpus}
-use Rattle.smp_stop_steps.specs.Known.{carrying, setup_in}
+use Rattle.smp_stop_steps.specs.Known.{carrying, setup_in, stepped}
 use Rattle.smp_multi.specs.Lives.{Lives, Moment}
 use Rattle.smp_stop_steps.specs.KnownAfter.{acked_by, called_by, counted, is_drafting, key_loaded_by, known_told, looked_known, looked_to}
 use Rattle.smp_stop_steps.specs.KnownAfter.{key_read_known, raised_by}
@@ -46,9 +44,11 @@ use Rattle.smp_multi.specs.Patches.{AtPatch, IsInPatch, begins_with, count_in, e
 use Rattle.smp_multi.specs.Places.{work_in}
 use Rattle.smp_multi.specs.Rounds.{AloneWhile, AtRun, AtTurn}
 use Rattle.smp_multi.specs.Seat.{SeatValue, Able, Ready, FitsWord}
+use Rattle.smp_multi.specs.StepCounts.{patching, raising}
 use Rattle.smp_multi.specs.Turns.{HasRun, patched_by, patched_with}
 use Rattle.smp_multi.specs.declared.func.Called.{Called}
 use Rattle.smp_multi.proofs.Cells.{slot_cell, key_cell, entry_cell, site_cell}
+use Rattle.smp_multi.proofs.Counting.{patched_on, steps_on}
 
 -- what a CPU in a patch stop finds at a moment
 
@@ -129,11 +129,11 @@ module _ (t : TableId) (d : SeatValue) (v : Visit) (a : AtRun t d v Patch) where
       ∙ (ap (λ (x : Kind). cond (is_patch x) next (key_read_known k found d.known)) is_patch_work
       ∙ sym (ap (λ (y : Seat). begins_with found y d.known) is_at_run))
 
-  pub at_patch : (e : SeatValue) (found : ℕ) → e.table ≡ t → e.known ≡ begins_with found d.known.seat d.known → work.func < MOST_KEYS → AtPatch t e v
+  pub at_patch : (e : SeatValue) (found : ℕ) → e.table ≡ t → e.known ≡ stepped 1 (begins_with found d.known.seat d.known) → work.func < MOST_KEYS → AtPatch t e v
   at_patch e found table same low =
       let plan = plan_at (setup_in d.known.setting) work found in
       let next = Alters v.slot work found [] plan in
-      let is : e.known ≡ record (d.known) { seat = next } = same ∙ ap (λ (y : Seat). begins_with found y d.known) is_at_run in
+      let is : e.known ≡ stepped 1 (record (d.known) { seat = next }) = same ∙ ap (λ (y : Seat). stepped 1 (begins_with found y d.known)) is_at_run in
       subst (λ (k : Known). AtPatch t (record { table = e.table; known = k }) v) (sym is) record {
         table_is = table;
         sized = a.at.sized;
@@ -170,47 +170,6 @@ ready_entry t d i table sized inside low =
       };
       apart = tt;
     }
-
--- the plan, entry by entry
-
--- one entry more
-site_next : (key : ℕ) (on : Bool) (i : ℕ) (es : List ℕ) → site_changes key on i (drop i es)
-    ≡ site_change key on i (entry_at (slice_index es i)) ++ site_changes key on (i + 1) (drop (i + 1) es)
-site_next key on i es = elim (cases_lt i (length es)) [
-  | inl low ↦ ap (site_changes key on i) (drop-cons es i 0 low)
-      ∙ ap (λ n. site_change key on i (entry_at (slice_index es i)) ++ site_changes key on (i + 1) (drop n es)) (let e : suc i ≡ i + 1 = omega arith in e)
-  | inr past ↦ ap (site_changes key on i) (drop_all i es past)
-      ∙ sym (ap (λ n. site_change key on i (entry_at n) ++ site_changes key on (i + 1) (drop (i + 1) es)) (get_or_past es i 0 past)
-      ∙ ap (site_changes key on (i + 1)) (drop_all (i + 1) es (omega arith)))
-]
-
--- the plan so far, and what is left of it
-abbrev pub PlanLeft : ℕ → Bool → ℕ → List ℕ → List Change → List Change → Type 0
-PlanLeft key on i es whole plan = plan ++ site_changes key on i (drop i es) ≡ whole
-
-pub left_more : (key : ℕ) (on : Bool) (i : ℕ) (es : List ℕ) (plan whole : List Change) (e : SiteEntry) → entry_at (slice_index es i) ≡ Some e
-    → plan ++ site_changes key on i (drop i es) ≡ whole → (b : Bool) → (e.key == key) ≡ b
-    → cond b (plan ++ (place.Site i, kind_word (kind_of on e.branch)) ∷ []) plan ++ site_changes key on (i + 1) (drop (i + 1) es) ≡ whole
-left_more key on i es plan whole e is left b test =
-    let rest = site_changes key on (i + 1) (drop (i + 1) es) in
-    let one = (place.Site i, kind_word (kind_of on e.branch)) ∷ [] in
-    let here : site_changes key on i (drop i es) ≡ cond b one [] ++ rest =
-    site_next key on i es ∙ (ap (λ o. site_change key on i o ++ rest) is ∙ ap (λ c. cond c one [] ++ rest) test) in
-    joined b plan one rest ∙ (ap (λ l. plan ++ l) (sym here) ∙ left)
-  where
-    joined : (b : Bool) (plan one rest : List Change) → cond b (plan ++ one) plan ++ rest ≡ plan ++ (cond b one [] ++ rest)
-    joined true plan one rest = append_assoc plan one rest
-    joined false plan one rest = refl
-
--- nothing is left behind the last entry
-pub entries_end : (es : List SiteEntry) (i : ℕ) → slice_index (map entry_word es) i ≡ 0 → drop i (map entry_word es) ≡ []
-entries_end [] i e = drop-nil i
-entries_end (x ∷ es) zero e = absurd (omega (arith, e))
-entries_end (x ∷ es) (suc i) e = entries_end es i e
-
-pub left_none : (key : ℕ) (on : Bool) (i : ℕ) (es : List ℕ) (plan whole : List Change) → drop i es ≡ []
-    → plan ++ site_changes key on i (drop i es) ≡ whole → plan ≡ whole
-left_none key on i es plan whole none left = sym (append-nil plan) ∙ (sym (ap (λ l. plan ++ site_changes key on i l) none) ∙ left)
 
 -- the stores
 
@@ -296,18 +255,18 @@ module _ (t : TableId) (d : SeatValue) (v : Visit) (a : AtPatch t d v) (fresh : 
   stored_is i = ap (λ (y : Seat). stored_to i y d.known) seat_is
 
   -- one store more
-  step_known : (made rest : List Change) (x : Place) (n : ℕ) → plan ≡ made ++ (x, n) ∷ rest →
-      known_told (with_made made ((x, n) ∷ rest) (moved_with job count made d.known.part.patched)) act.Store (label_word x) None (Some n)
-      ≡ with_made (made ++ (x, n) ∷ []) rest (moved_with job count (made ++ (x, n) ∷ []) d.known.part.patched)
-  step_known made rest (place.Key k) n is =
+  step_known : (i : ℕ) (made rest : List Change) (x : Place) (n : ℕ) → plan ≡ made ++ (x, n) ∷ rest →
+      known_told (stepped i (with_made made ((x, n) ∷ rest) (moved_with job count made d.known.part.patched))) act.Store (label_word x) None (Some n)
+      ≡ stepped 1 (stepped i (with_made (made ++ (x, n) ∷ []) rest (moved_with job count (made ++ (x, n) ∷ []) d.known.part.patched)))
+  step_known i made rest (place.Key k) n is =
       let first = plan_key_first job.func count (count_set job count) entries made k n rest (plan_is ∙ is) in
       let old = d.known.part.patched in
-      ap (with_made (made ++ (place.Key k, n) ∷ []) rest)
+      ap (λ l. stepped 1 (stepped i (with_made (made ++ (place.Key k, n) ∷ []) rest l)))
       (ap (λ m. counted (moved_with job count m old) k count n) first.0
       ∙ (ap (λ j. counted old j count n) first.1 ∙ (ap (λ m. counted old job.func count m) first.2
       ∙ sym (ap (λ m. moved_with job count (m ++ (place.Key k, n) ∷ []) old) first.0))))
-  step_known [] rest (place.Site i) n is = absurd (site_first job.func count (count_set job count) entries i n rest (plan_is ∙ is))
-  step_known (y ∷ made) rest (place.Site i) n is = refl
+  step_known i [] rest (place.Site j) n is = absurd (site_first job.func count (count_set job count) entries j n rest (plan_is ∙ is))
+  step_known i (y ∷ made) rest (place.Site j) n is = refl
 
   split : (i : ℕ) (change : Change) → i < length plan → change ≡ get_or plan i (place.Key 0, 0) → drop i plan ≡ change ∷ drop (i + 1) plan
   split i change low is = drop-cons plan i (place.Key 0, 0) low
@@ -316,13 +275,14 @@ module _ (t : TableId) (d : SeatValue) (v : Visit) (a : AtPatch t d v) (fresh : 
   whole : (i : ℕ) (change : Change) → i < length plan → change ≡ get_or plan i (place.Key 0, 0) → plan ≡ take i plan ++ change ∷ drop (i + 1) plan
   whole i change low is = sym (take-append-drop i plan) ∙ ap (λ l. take i plan ++ l) (split i change low is)
 
-  at_store : (e : SeatValue) (i : ℕ) (change : Change) → e.known ≡ stored_to i d.known.seat d.known → i < length plan → change ≡ get_or plan i (place.Key 0, 0)
-      → e.known ≡ with_made (take i plan) (change ∷ drop (i + 1) plan) (moved_with job count (take i plan) d.known.part.patched)
-  at_store e i change same low is = same ∙ (stored_is i
+  at_store : (e : SeatValue) (i : ℕ) (change : Change) → e.known ≡ stepped i (stored_to i d.known.seat d.known) → i < length plan
+      → change ≡ get_or plan i (place.Key 0, 0)
+      → e.known ≡ stepped i (with_made (take i plan) (change ∷ drop (i + 1) plan) (moved_with job count (take i plan) d.known.part.patched))
+  at_store e i change same low is = same ∙ ap (stepped i) (stored_is i
       ∙ ap (λ l. with_made (take i plan) l (moved_with job count (take i plan) d.known.part.patched)) (split i change low is))
 
-  pub able_store : (e : SeatValue) (i : ℕ) (change : Change) → e.table ≡ t → Lives e.known → e.known ≡ stored_to i d.known.seat d.known → i < length plan
-      → change ≡ get_or plan i (place.Key 0, 0) → Able t e (Store (label_word change.0) change.1)
+  pub able_store : (e : SeatValue) (i : ℕ) (change : Change) → e.table ≡ t → Lives e.known → e.known ≡ stepped i (stored_to i d.known.seat d.known)
+      → i < length plan → change ≡ get_or plan i (place.Key 0, 0) → Able t e (Store (label_word change.0) change.1)
   able_store e i change table lives same low is = subst (λ (k : Known). Able t (record { table = e.table; known = k }) (store_of change))
       (sym (at_store e i change same low is)) record {
         table_is = table;
@@ -337,7 +297,7 @@ module _ (t : TableId) (d : SeatValue) (v : Visit) (a : AtPatch t d v) (fresh : 
       }
     where
       few : length entries ≤ MOST_SITES
-      few = subst (λ (k : Known). length (entries_in k) ≤ MOST_SITES) (same ∙ stored_is i) (few_entries e.known lives)
+      few = subst (λ (k : Known). length (entries_in k) ≤ MOST_SITES) (same ∙ ap (stepped i) (stored_is i)) (few_entries e.known lives)
 
       parts : (x : Place) (n : ℕ) → change ≡ (x, n) → plan_of job.func count (count_set job count) entries ≡ take i plan ++ (x, n) ∷ drop (i + 1) plan
       parts x n c = plan_is ∙ (whole i change low is ∙ ap (λ y. take i plan ++ y ∷ drop (i + 1) plan) c)
@@ -350,30 +310,34 @@ module _ (t : TableId) (d : SeatValue) (v : Visit) (a : AtPatch t d v) (fresh : 
           site_cell j (in_middle (take i plan) (place.Site j, n) (drop (i + 1) plan) (subst AreLow (parts (place.Site j) n c)
           (plan_low job.func count (count_set job count) entries few)))
 
-  pub stored_more : (e f : SeatValue) (i : ℕ) (change : Change) → e.known ≡ stored_to i d.known.seat d.known → i < length plan
+  pub stored_more : (e f : SeatValue) (i : ℕ) (change : Change) → e.known ≡ stepped i (stored_to i d.known.seat d.known) → i < length plan
       → change ≡ get_or plan i (place.Key 0, 0) → f.known ≡ known_told e.known act.Store (label_word change.0) None (Some change.1)
-      → f.known ≡ stored_to (i + 1) d.known.seat d.known
+      → f.known ≡ stepped (i + 1) (stored_to (i + 1) d.known.seat d.known)
   stored_more e f i change same low is next =
       let made = take i plan ++ change ∷ [] in
       let more : made ≡ take (i + 1) plan = sym (take_more plan i (place.Key 0, 0) low ∙ ap (λ y. take i plan ++ y ∷ []) (sym is)) in
       next ∙ (ap (λ (k : Known). known_told k act.Store (label_word change.0) None (Some change.1)) (at_store e i change same low is)
-      ∙ (step_known (take i plan) (drop (i + 1) plan) change.0 change.1 (whole i change low is)
-      ∙ (ap (λ l. with_made l (drop (i + 1) plan) (moved_with job count l d.known.part.patched)) more ∙ sym (stored_is (i + 1)))))
+      ∙ (step_known i (take i plan) (drop (i + 1) plan) change.0 change.1 (whole i change low is)
+      ∙ (ap (λ (k : Known). stepped 1 (stepped i k))
+      (ap (λ l. with_made l (drop (i + 1) plan) (moved_with job count l d.known.part.patched)) more ∙ sym (stored_is (i + 1)))
+      ∙ steps_on i 1 (stored_to (i + 1) d.known.seat d.known))))
 
   -- all of them
-  pub stored_whole : (e : SeatValue) (i : ℕ) → i ≡ length plan → e.known ≡ stored_to i d.known.seat d.known → e.known ≡ stored_all d.known.seat d.known
+  pub stored_whole : (e : SeatValue) (i : ℕ) → i ≡ length plan → e.known ≡ stepped i (stored_to i d.known.seat d.known)
+      → e.known ≡ stepped (length plan) (stored_all d.known.seat d.known)
   stored_whole e i end same =
       let all : take i plan ≡ plan = take_all i plan (omega arith) in
       let none : drop i plan ≡ [] = drop_all i plan (omega arith) in
-      same ∙ (stored_is i
+      same ∙ (ap (λ n. stepped n (stored_to i d.known.seat d.known)) end ∙ ap (stepped (length plan)) (stored_is i
       ∙ (ap (λ l. with_made l (drop i plan) (moved_with job count l d.known.part.patched)) all
       ∙ (ap (λ l. with_made plan l (moved_with job count plan d.known.part.patched)) none
       ∙ (ap (with_made plan []) (ap (λ l. moved_with job count l d.known.part.patched) (sym plan_is) ∙ moved_all job count entries d.known.part.patched)
-      ∙ sym (ap (λ (y : Seat). stored_all y d.known) seat_is)))))
+      ∙ sym (ap (λ (y : Seat). stored_all y d.known) seat_is))))))
 
-  pub at_whole : (e : SeatValue) → e.table ≡ t → e.known ≡ stored_all d.known.seat d.known → AtPatch t e v × (rest_in e.known.seat ≡ [])
-  at_whole e table same =
-      let is : e.known ≡ with_made plan [] (patched_with job count d.known.part.patched) = same ∙ ap (λ (y : Seat). stored_all y d.known) seat_is in
+  pub at_whole : (e : SeatValue) (n : ℕ) → e.table ≡ t → e.known ≡ stepped n (stored_all d.known.seat d.known) → AtPatch t e v × (rest_in e.known.seat ≡ [])
+  at_whole e n table same =
+      let is : e.known ≡ stepped n (with_made plan [] (patched_with job count d.known.part.patched)) = same
+      ∙ ap (λ (y : Seat). stepped n (stored_all y d.known)) seat_is in
       subst (λ (k : Known). AtPatch t (record { table = e.table; known = k }) v × (rest_in k.seat ≡ [])) (sym is) (
         record {
           table_is = table;
@@ -413,15 +377,15 @@ able_acknowledge_patch t d v a none =
     }
 
 -- where the CPU is once it has acknowledged RUN
-pub patch_acked : (t : TableId) (d e : SeatValue) (v x : Visit) (found answer : ℕ) → AtPatch t d v → e.table ≡ t
-    → e.known ≡ acked_by found d.known.seat (carrying answer d.known) → (x.slot ≡ v.slot) × (x.kind ≡ v.kind) × (x.mask ≡ v.mask) × (x.active ≡ v.active) × (x.acked ≡ v.acked + 1)
+pub patch_acked : (t : TableId) (d e : SeatValue) (v x : Visit) (found answer n : ℕ) → AtPatch t d v → e.table ≡ t
+    → e.known ≡ stepped n (acked_by found d.known.seat (carrying answer d.known)) → (x.slot ≡ v.slot) × (x.kind ≡ v.kind) × (x.mask ≡ v.mask) × (x.active ≡ v.active) × (x.acked ≡ v.acked + 1)
     → AtTurn t e x x.acked (cond (found == 1) Fills Rests)
-patch_acked t d e v x found answer a table same moved =
+patch_acked t d e v x found answer n a table same moved =
     let w = work_in d.known.seat in
     let duty = cond (found == 1) Fills Rests in
     let run : RUN ≡ x.acked = (let two = a.disabled in let up = moved.4 in omega arith) in
-    let is : e.known ≡ acked_by found (Alters v.slot w (count_in d.known.seat) (made_in d.known.seat) (rest_in d.known.seat))
-    (carrying answer d.known) = same ∙ ap (λ y. acked_by found y (carrying answer d.known)) a.seat_is in
+    let is : e.known ≡ stepped n (acked_by found (Alters v.slot w (count_in d.known.seat) (made_in d.known.seat) (rest_in d.known.seat))
+    (carrying answer d.known)) = same ∙ ap (λ y. stepped n (acked_by found y (carrying answer d.known))) a.seat_is in
     let seat : e.known.seat ≡ In x.slot w x.acked x.acked duty = ap (λ (k : Known). k.seat) is ∙ (λ i. In (sym moved.0 i) w (run i) (run i) duty) in
     let work : w ≡ work_in e.known.seat = sym (ap work_in seat) in
     record {
@@ -435,33 +399,40 @@ patch_acked t d e v x found answer a table same moved =
 
 -- all steps of a patch, from the load of its key on
 module _ (k : Known) (s : ℕ) (w : Work) (count : ℕ) (is : k.seat ≡ In s w DISABLE_IRQ RUN Rests) where
-  abbrev patched_at : Duty → Known
-  patched_at duty = record k {
+  abbrev patched_at : ℕ → Duty → Known
+  patched_at steps duty = record k {
     seat = In s w RUN RUN duty;
     part = record (k.part) { calling = Carries 0; patched = patched_with w count k.part.patched };
     carried = patch_answer w count;
+    steps = steps;
   }
 
   abbrev duty_at : Bool → Duty
   duty_at last = cond last Fills Rests
 
-  passed_same : (b : Bool) → cond b (raised_by 4 (patched_at (duty_at b)).seat (patched_at (duty_at b))) (patched_at (duty_at b)) ≡ patched_at Rests
-  passed_same true = refl
-  passed_same false = refl
+  passed_same : (n : ℕ) (b : Bool) → cond b (raised_by 4 (patched_at n (duty_at b)).seat (patched_at n (duty_at b))) (patched_at n (duty_at b))
+      ≡ patched_at n Rests
+  passed_same n true = refl
+  passed_same n false = refl
 
-  pub patch_ends : (k1 k2 k3 k4 : Known) (found answer next : ℕ) → k1 ≡ begins_with count k.seat k → k2 ≡ stored_all k1.seat k1
-      → answer ≡ patch_answer w count → k3 ≡ acked_by found k2.seat (carrying answer k2)
-      → k4 ≡ cond (found == 1) (raised_by next k3.seat k3) k3 → next ≡ 4 → k4 ≡ patched_by count k.seat k
-  patch_ends k1 k2 k3 k4 found answer next one two says three four up =
+  -- with the numbers of steps: up to the plan, of its stores, and of who stores the next phase
+  pub patch_ends : (k1 k2 k3 k4 : Known) (found answer next p q r all : ℕ) → k1 ≡ stepped p (begins_with count k.seat k)
+      → k2 ≡ stepped q (stored_all k1.seat k1) → answer ≡ patch_answer w count → k3 ≡ stepped 1 (acked_by found k2.seat (carrying answer k2))
+      → k4 ≡ stepped r (cond (found == 1) (raised_by next k3.seat k3) k3) → next ≡ 4 → p + q + 1 + r ≡ all → k4 ≡ stepped all (patched_by count k.seat k)
+  patch_ends k1 k2 k3 k4 found answer next p q r all one two says three four up sum =
       let plan = plan_at (setup_in k.setting) w count in
       let l = patched_with w count k.part.patched in
-      let acked = patched_at (duty_at (found == 1)) in
-      let a : k1 ≡ record k { seat = Alters s w count [] plan } = one ∙ ap (λ y. begins_with count y k) is in
-      let b : k2 ≡ record k { seat = Alters s w count plan []; part = record (k.part) { patched = l } } = two ∙ ap (λ (x : Known). stored_all x.seat x) a in
-      let c : k3 ≡ acked = three ∙ (ap (λ (x : Known). acked_by found x.seat (carrying answer x)) b
+      let n = k.steps + p + q + 1 in
+      let acked = patched_at n (duty_at (found == 1)) in
+      let a : k1 ≡ stepped p (record k { seat = Alters s w count [] plan }) = one ∙ ap (λ y. stepped p (begins_with count y k)) is in
+      let b : k2 ≡ stepped q (stepped p (record k { seat = Alters s w count plan []; part = record (k.part) { patched = l } })) = two
+      ∙ ap (λ (x : Known). stepped q (stored_all x.seat x)) a in
+      let c : k3 ≡ acked = three ∙ (ap (λ (x : Known). stepped 1 (acked_by found x.seat (carrying answer x))) b
       ∙ ap (λ n. record acked { carried = n }) says) in
-      four ∙ (ap (λ (x : Known). cond (found == 1) (raised_by next x.seat x) x) c
-      ∙ (ap (λ n. cond (found == 1) (raised_by n acked.seat acked) acked) up ∙ (passed_same (found == 1) ∙ sym (ap (λ y. patched_by count y k) is))))
+      let steps : n + r ≡ k.steps + all = omega (arith, sum) in
+      four ∙ (ap (λ (x : Known). stepped r (cond (found == 1) (raised_by next x.seat x) x)) c
+      ∙ (ap (λ j. stepped r (cond (found == 1) (raised_by j acked.seat acked) acked)) up ∙ (ap (stepped r) (passed_same n (found == 1))
+      ∙ (ap (λ m. patched_at m Rests) steps ∙ sym (ap (λ y. stepped all (patched_by count y k)) is)))))
 
 -- a turn with a patch
 
@@ -473,15 +444,27 @@ work_looked n (Alters s w count made rest) = refl
 work_looked n (Closes s) = refl
 
 -- a CPU that has looked at RUN, where this count was in the key, and has made its patch
-pub has_patched : {F : Type 0} (leads : F → Called → F → Type 0) (old looked new : Known) (v x : Visit) (f : F) (count : ℕ)
-    → looked ≡ looked_known RUN old → Moment looked (Key (work_in looked.seat).func) count → new ≡ patched_by count looked.seat looked
+pub has_patched : {F : Type 0} (leads : F → Called → F → Type 0) (old looked new : Known) (v x : Visit) (f : F) (count : ℕ) (last : Bool)
+    → looked ≡ stepped 1 (looked_known RUN old) → Moment (stepped 2 looked) (Key (work_in looked.seat).func) count
+    → new ≡ stepped (4 + patching looked.setting (work_in looked.seat) count + raising last) (patched_by count looked.seat looked)
     → x ≡ visit_acked v 0 false → HasRun leads old new v x f f Patch
-has_patched leads old looked new v x f count is m same next =
-    let work : work_in looked.seat ≡ work_in old.seat = ap (λ (k : Known). work_in k.seat) is ∙ work_looked RUN old.seat in (
+has_patched leads old looked new v x f count last is m same next =
+    let at = looked_known RUN old in
+    let work : work_in looked.seat ≡ work_in old.seat = ap (λ (k : Known). work_in k.seat) is ∙ work_looked RUN old.seat in
+    let many = λ (z : Work). 4 + patching old.setting z count + raising last in
+    let all = 5 + patching old.setting (work_in old.seat) count + raising last in
+    let one : 1 + many (work_in old.seat) ≡ all = omega arith in (
       count,
-      subst (λ (w : Work). Moment (looked_known RUN old) (Key w.func) count) work
-          (subst (λ (k : Known). Moment k (Key (work_in looked.seat).func) count) is m),
-      same ∙ ap (λ (k : Known). patched_by count k.seat k) is,
+      subst (λ (k : Known). Moment k (Key (work_in old.seat).func) count) (steps_on 1 2 at)
+          (subst (λ (w : Work). Moment (stepped 2 (stepped 1 at)) (Key w.func) count) work
+          (subst (λ (k : Known). Moment (stepped 2 k) (Key (work_in looked.seat).func) count) is m)),
+      (
+        last,
+        same ∙ (ap (λ (k : Known). stepped (4 + patching k.setting (work_in looked.seat) count + raising last) (patched_by count k.seat k)) is
+            ∙ (ap (λ (z : Work). stepped (many z) (patched_by count at.seat (stepped 1 at))) work
+            ∙ (ap (stepped (many (work_in old.seat))) (patched_on 1 count at.seat at)
+            ∙ (steps_on 1 (many (work_in old.seat)) (patched_by count at.seat at) ∙ ap (λ n. stepped n (patched_by count at.seat at)) one)))),
+      ),
       next,
       refl,
     )

@@ -2,7 +2,7 @@
 use Rattle.std.proofs.Common.{◌≡◌, ℕ, ◌==◌, not, Bool, true, false, cond, Option, Some, None, Ok, [], ◌∷◌, ◌++◌, sym, refl, ap, subst, ◌∙◌, eqb-true}
 use Rattle.atomic_table.specs.Seated.{TableId}
 use Rattle.smp_stop_steps.specs.AnswerWords.{IsI32Word}
-use Rattle.smp_stop_steps.specs.Known.{noting}
+use Rattle.smp_stop_steps.specs.Known.{noting, stepped}
 use Rattle.smp_multi.specs.Lives.{Moment}
 use Rattle.smp_stop_steps.specs.KnownAfter.{done_by, done_known}
 use Rattle.smp_stop_steps.specs.declared.stage.Visit.{Visit}
@@ -45,10 +45,10 @@ module _ (t : TableId) (d : SeatValue) (number : ℕ) where
   }
 
   abbrev told : Bool → Source → Known
-  told c y = record (d.known) { source = y; moves = cond c (d.known.moves ++ own.NotDone ∷ []) d.known.moves }
+  told c y = stepped 1 (record (d.known) { source = y; moves = cond c (d.known.moves ++ own.NotDone ∷ []) d.known.moves })
 
   pub known_done : (found : ℕ) → IsOwner t d number → (b : Bool) → b ≡ not (found == 0)
-      → done_known found d.known ≡ looked b d.known
+      → stepped 1 (done_known found d.known) ≡ looked b d.known
   known_done found a b e = ap (λ (y : Source). told (found == 0) (done_by found y)) a.owns ∙ (go (found == 0) ∙ ap (λ c. looked c d.known) (sym e))
     where
       go : (c : Bool) → told c (cond c (Owns (own_work d.known.source)) (Collects (own_work d.known.source))) ≡ looked (not c) d.known
@@ -65,7 +65,7 @@ pub poll_none : (d e : SeatValue) (number : ℕ) (visit : Option Visit) (holds :
     PollAnswers (cpu_of d) (cpu_of e) (Ok None)
 poll_none d e number visit holds n b kept table same m is none =
     let w = kept.owns.0 in
-    let vain : Known = noting own.NotDone d.known in
+    let vain : Known = stepped 1 (noting own.NotDone d.known) in
     let owned : looked false d.known ≡ vain = ap (λ y. record vain { source = Owns (own_work y) }) kept.owns.1
     ∙ sym (ap (λ y. record vain { source = y }) kept.owns.1) in
     let known : e.known ≡ vain = same ∙ (ap (λ c. looked c d.known) none ∙ owned) in

@@ -6,7 +6,7 @@ use Rattle.smp_labels.specs.Keys.{IsKeyWord, is_on}
 use Rattle.smp_labels.specs.declared.kinds.SiteKind.{SiteKind}
 use Rattle.smp_labels.specs.declared.words.TheConstants.{MOST_KEYS, MOST_SITES}
 use Rattle.smp_mask.specs.Mask.{has}
-use Rattle.smp_stop_steps.specs.Known.{setup_in}
+use Rattle.smp_stop_steps.specs.Known.{setup_in, stepped}
 use Rattle.smp_multi.specs.Lives.{Lives, Moment}
 use Rattle.smp_stop_steps.specs.KnownAfter.{reads_more}
 use Rattle.smp_stop_steps.specs.Labels.{Agrees, labels_in}
@@ -65,7 +65,7 @@ reads_table d l online on =
     }
 
 -- a CPU that has read
-module _ (d e : SeatValue) (r : Reading) (table : e.table ≡ d.table) (same : e.known ≡ reads_more r d.known) (lives : Lives e.known)
+module _ (d e : SeatValue) (r : Reading) (table : e.table ≡ d.table) (same : e.known ≡ stepped 1 (reads_more r d.known)) (lives : Lives e.known)
     (online : has d.known.setting.online d.known.number ≡ true) (on : irq_of d.known.seat ≡ true) where
   pub read_view : cpu_of e ≡ reads r (cpu_of d)
   read_view = λ i. cpu_of (record { table = table i; known = same i })
@@ -83,7 +83,7 @@ key_answers d e k count b table m found same lives online on low free = (
   reads_table e lives (ap (λ (v : Known). has v.setting.online v.number) same ∙ online) (ap (λ (v : Known). irq_of v.seat) same ∙ on),
 )
 
-pub site_answers : (d e : SeatValue) (i : ℕ) (kind : SiteKind) → e.table ≡ d.table → e.known ≡ reads_more (ReadSite i (jumps kind)) d.known
+pub site_answers : (d e : SeatValue) (i : ℕ) (kind : SiteKind) → e.table ≡ d.table → e.known ≡ stepped 1 (reads_more (ReadSite i (jumps kind)) d.known)
     → Lives e.known
     → has d.known.setting.online d.known.number ≡ true → irq_of d.known.seat ≡ true → i < length d.known.setting.labels.entries
     → SiteAnswers i (cpu_of d) (cpu_of e) (Ok kind)

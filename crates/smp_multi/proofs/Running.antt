@@ -1,7 +1,7 @@
 -- The steps round the function of a stop of one CPU.
 use Rattle.std.proofs.Common.{◌≡◌, ◌≢◌, ℕ, ◌<◌, ◌^◌, ◌||◌, true, false, cond, inr, sym, subst, refl, ap, ◌∙◌}
 use Rattle.atomic_table.specs.Seated.{TableId}
-use Rattle.smp_stop_steps.specs.Known.{setup_in}
+use Rattle.smp_stop_steps.specs.Known.{setup_in, stepped}
 use Rattle.smp_multi.specs.Lives.{Moment}
 use Rattle.smp_stop_steps.specs.KnownAfter.{called_by, is_drafting}
 use Rattle.smp_stop_steps.specs.Moves.{LoadArg, LoadField, IsPlain}
@@ -21,8 +21,8 @@ use Rattle.smp_multi.specs.Running.{AtOne, calls_now}
 use Rattle.smp_multi.specs.Seat.{SeatValue, Ready}
 use Rattle.smp_multi.proofs.Cells.{slot_cell}
 
-pub one_moved : (t : TableId) (d e : SeatValue) (slot : ℕ) → AtOne t d slot → e.table ≡ t → e.known ≡ d.known → AtOne t e slot
-one_moved t d e slot a table same = record {
+pub one_moved : (t : TableId) (d e : SeatValue) (slot n : ℕ) → AtOne t d slot → e.table ≡ t → e.known ≡ stepped n d.known → AtOne t e slot
+one_moved t d e slot n a table same = record {
   table_is = table;
   sized = a.sized;
   low = a.low;
@@ -31,8 +31,8 @@ one_moved t d e slot a table same = record {
   one = ap (λ (k : Known). (work_in k.seat).kind) same ∙ a.one;
 }
 
-pub one_called : (t : TableId) (d e : SeatValue) (slot : ℕ) → AtOne t d slot → e.table ≡ t → e.known ≡ calls_now d.known → AtOne t e slot
-one_called t d e slot a table same = record {
+pub one_called : (t : TableId) (d e : SeatValue) (slot n : ℕ) → AtOne t d slot → e.table ≡ t → e.known ≡ stepped n (calls_now d.known) → AtOne t e slot
+one_called t d e slot n a table same = record {
   table_is = table;
   sized = a.sized;
   low = a.low;
@@ -48,8 +48,8 @@ calls_some f call e none = absurd (no_call (sym e ∙ none))
     no_call : Calls call ≢ Idle
     no_call x = cc
 
-pub called_some : (u v : Known) → u ≡ calls_now v → u.part.calling ≢ Idle
-called_some u v same = calls_some u.part.calling (record { func = (work_in v.seat).func; arg = (work_in v.seat).arg; answer = 0 })
+pub called_some : (u v : Known) (n : ℕ) → u ≡ stepped n (calls_now v) → u.part.calling ≢ Idle
+called_some u v n same = calls_some u.part.calling (record { func = (work_in v.seat).func; arg = (work_in v.seat).arg; answer = 0 })
     (ap (λ (k : Known). k.part.calling) same)
 
 module _ (t : TableId) (d : SeatValue) (slot : ℕ) where

@@ -1,6 +1,6 @@
 -- What each call answers, and what it leaves of its CPU.
 use Rattle.std.specs.Int.{cast_signed, w32}
-use Rattle.std.specs.Prelude.{◌≡◌, ◌≢◌, ◌⊎◌, ◌↔◌, ℕ, ℤ, pos, ◌%◌, ◌^◌, true, false, Option, Some, None, Result, Ok, Err}
+use Rattle.std.specs.Prelude.{◌≡◌, ◌≢◌, ◌⊎◌, ◌↔◌, ℕ, ℤ, pos, ◌+◌, ◌%◌, ◌^◌, Bool, true, false, Option, Some, None, Result, Ok, Err}
 use Rattle.smp_mask.specs.Mask.{has}
 use Rattle.smp_mask.specs.declared.error.SmpError.{SmpError}
 use Rattle.smp_mask.specs.declared.error.SmpError.TheVariants as error
@@ -11,9 +11,11 @@ use Rattle.smp_multi.specs.Laws.{Finds, FindsNoCall}
 use Rattle.smp_multi.specs.Names.{Slot, Work, Kind, One, StopCall}
 use Rattle.smp_multi.specs.Names.field
 use Rattle.smp_multi.specs.declared.func.Called.{Called}
-use Rattle.smp_multi.specs.Cpu.{TableValue, CpuValue, Inside, call_with, begins, enters, misses, runs, answers, collects, looks_in_vain, terms_of, is_pending}
+use Rattle.smp_multi.specs.Cpu.{TableValue, CpuValue, Inside, call_with, begins, enters, misses, runs, answers, collects, looks_in_vain, makes, terms_of}
+use Rattle.smp_multi.specs.Cpu.{is_pending}
 use Rattle.smp_multi.specs.Polls.{IsLastResult}
 use Rattle.smp_multi.specs.Running.{called}
+use Rattle.smp_multi.specs.StepCounts.{completing}
 
 -- begin: it is refused just as the pure machine refuses it, and its work is one that a stop may have
 abbrev pub BeginAnswers : TableValue → CpuValue → CpuValue → Work → Result Unit SmpError → Type 0
@@ -56,10 +58,14 @@ pub record IsInOne (c : CpuValue) : Type 0 where
 abbrev pub call_of : Inside → ℤ → StopCall
 call_of stop answer = call_with stop.work (answer_word answer)
 
+-- one that has called the function of the stop of one CPU, at two loads, and has completed with its answer, as the last or not
+abbrev pub completes_one : Inside → ℤ → Bool → CpuValue → CpuValue
+completes_one stop v last c = let x = answer_word v in makes (2 + completing x last) (answers stop.slot x (runs (call_of stop v) c))
+
 -- run_one: the function is called once, and what it answered is the CPU's answer
 abbrev pub RunAnswers : {F : Type 0} → (F → Called → F → Type 0) → CpuValue → CpuValue → F → F → Result ℤ SmpError → Type 0
 RunAnswers leads old new before after (Ok v) =
-    (at : IsInOne old) × (new ≡ answers at.stop.slot (answer_word v) (runs (call_of at.stop v) old)) ×
+    (at : IsInOne old) × ((last : Bool) × (new ≡ completes_one at.stop v last old)) ×
     leads before (called old.number at.stop.work.func at.stop.work.arg v) after
 RunAnswers leads old new before after (Err error.BadArgument) = (¬ (IsInOne old)) × (new ≡ old) × (after ≡ before)
 RunAnswers leads old new before after (Err _) = ⊥

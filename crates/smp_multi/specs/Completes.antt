@@ -2,12 +2,14 @@
 use Rattle.std.specs.Prelude.{◌≡◌, ◌≢◌, ℕ, ◌<◌, ◌==◌, false, cond}
 use Rattle.atomic_table.specs.Seated.{TableId}
 use Rattle.smp_words.specs.Size.{cpus}
+use Rattle.smp_stop_steps.specs.Known.{stepped}
 use Rattle.smp_stop_steps.specs.KnownAfter.{is_drafting}
 use Rattle.smp_stop_steps.specs.Moves.{IsThrough}
 use Rattle.smp_multi.specs.Names.{Work, One, Seat, Free, In, Gives, Closes, Rests, Known, Idle}
 use Rattle.smp_multi.specs.Places.{work_in}
 use Rattle.smp_multi.specs.Cells.{cells}
 use Rattle.smp_multi.specs.Seat.{SeatValue}
+use Rattle.smp_multi.specs.StepCounts.{giving}
 
 -- it is through all phases of its stop, of which it has acknowledged this one last, and has not completed
 pub record AtEnd (table : TableId) (seat : SeatValue) (slot acked : ℕ) : Type 0 where
@@ -23,7 +25,7 @@ abbrev pub answered : ℕ → Work → ℕ → ℕ → Seat
 answered slot work acked x = cond (x == 0) (In slot work acked acked Rests) (Gives slot work acked x)
 
 abbrev pub given : ℕ → ℕ → ℕ → Known → Known
-given slot acked x v = record v { seat = answered slot (work_in v.seat) acked x }
+given slot acked x v = stepped (giving x) (record v { seat = answered slot (work_in v.seat) acked x })
 
 pub record AtGiven (table : TableId) (seat : SeatValue) (slot acked x : ℕ) (work : Work) : Type 0 where
   pub table_is : seat.table ≡ table

@@ -1,5 +1,5 @@
 -- What contracts see of a table, of a CPU and of the CPUs that were not given out.
-use Rattle.std.specs.Prelude.{◌≡◌, ℕ, ◌<◌, Bool, true, false, cond, Option, Some, None, List, [], ◌∷◌, ◌++◌, length}
+use Rattle.std.specs.Prelude.{◌≡◌, ℕ, ◌+◌, ◌<◌, Bool, true, false, cond, Option, Some, None, List, [], ◌∷◌, ◌++◌, length}
 use Rattle.std.specs.Prelude.{IfSome, slice_index_or, slice_set}
 use Rattle.atomic_table.specs.Seated.{TableId}
 use Rattle.smp_mask.specs.Mask.{has}
@@ -32,7 +32,7 @@ pub record Inside : Type 0 where
 
 -- a CPU between two calls: its table, its number, the work of its own stop that is not collected, the stop that it is
 -- in, whether its interrupts are on, its own part of all stops, its steps at the gate, at its own stop and at keys, in the
--- order in which it has made them, and in the same way its attempts to enter a stop
+-- order in which it has made them, in the same way its attempts to enter a stop, and how many steps it has made in all
 pub record CpuValue : Type 0 where
   pub table : TableId
   pub setting : Setting
@@ -43,6 +43,7 @@ pub record CpuValue : Type 0 where
   pub part : Part
   pub moves : List OwnMove
   pub attempts : List Attempt
+  pub steps : ℕ
 
 abbrev pub inside_of : Seat → Option Inside
 inside_of (In s w a l t) = Some (record { slot = s; work = w; acked = a })
@@ -86,6 +87,7 @@ cpu_of d = record {
   part = part_with d.known.carried d.known;
   moves = d.known.moves;
   attempts = d.known.attempts;
+  steps = d.known.steps;
 }
 
 -- a CPU that has done nothing
@@ -125,34 +127,39 @@ pub record IsKept (v : Known) (number : ℕ) (visit : Option Visit) (holds is_op
 abbrev pub gated : Bool → CpuValue → CpuValue
 gated b c = record c { part = record (c.part) { holds = b } }
 
+-- one that has made this number of steps more
+abbrev pub makes : ℕ → CpuValue → CpuValue
+makes n c = record c { steps = c.steps + n }
+
 -- one that has made one more step of its own
 abbrev pub moves_on : OwnMove → CpuValue → CpuValue
 moves_on m c = record c { moves = c.moves ++ m ∷ [] }
 
 -- one that has taken the gate, at one exchange; that has given it up, at one store; that has tried it once, and lost
 abbrev pub takes_gate : CpuValue → CpuValue
-takes_gate c = moves_on own.Took (gated true c)
+takes_gate c = makes 1 (moves_on own.Took (gated true c))
 
 abbrev pub gives_gate : CpuValue → CpuValue
-gives_gate c = moves_on own.Gave (gated false c)
+gives_gate c = makes 1 (moves_on own.Gave (gated false c))
 
 abbrev pub misses_gate : CpuValue → CpuValue
-misses_gate c = moves_on own.Busy c
+misses_gate c = makes 1 (moves_on own.Busy c)
 
--- one that has begun a stop of this work
+-- one that has begun a stop of this work, at eleven stores
 abbrev pub begins : Work → CpuValue → CpuValue
-begins w c = moves_on (own.Began w) (record c { pending = Some w; part = record (c.part) { begun = c.part.begun ++ w ∷ [] } })
+begins w c = makes 11 (moves_on (own.Began w) (record c { pending = Some w; part = record (c.part) { begun = c.part.begun ++ w ∷ [] } }))
 
 -- one that has made one more attempt to enter the stop of this slot
 abbrev pub tries : ℕ → Bool → CpuValue → CpuValue
 tries slot entered c = record c { attempts = c.attempts ++ record { slot = slot; entered = entered } ∷ [] }
 
--- one that has entered the stop of this slot, which is this work; and one that has looked for it on the roll once, in vain
+-- one that has entered the stop of this slot, which is this work, and has loaded its kind and its two masks; and one that has looked
+-- for it on the roll once, in vain
 abbrev pub enters : ℕ → Work → CpuValue → CpuValue
-enters slot w c = tries slot true (record c { inside = Some (record { slot = slot; work = w; acked = 0 }) })
+enters slot w c = makes 4 (tries slot true (record c { inside = Some (record { slot = slot; work = w; acked = 0 }) }))
 
 abbrev pub misses : ℕ → CpuValue → CpuValue
-misses slot c = tries slot false c
+misses slot c = makes 1 (tries slot false c)
 
 -- one that has called a stop function
 abbrev pub runs : StopCall → CpuValue → CpuValue
@@ -166,13 +173,13 @@ answers slot x c = record c {
   part = record (c.part) { calling = Idle; answers = slice_set c.part.answers slot (slice_index_or c.part.answers slot [] ++ x ∷ []) };
 }
 
--- one that has collected this result
+-- one that has found done set and has collected this result, at two loads
 abbrev pub collects : ℕ → CpuValue → CpuValue
-collects x c = moves_on (own.Collected x) (record c { pending = None; part = record (c.part) { collected = c.part.collected ++ x ∷ [] } })
+collects x c = makes 2 (moves_on (own.Collected x) (record c { pending = None; part = record (c.part) { collected = c.part.collected ++ x ∷ [] } }))
 
 -- one that has looked at done once, and has found it not set
 abbrev pub looks_in_vain : CpuValue → CpuValue
-looks_in_vain c = moves_on own.NotDone c
+looks_in_vain c = makes 1 (moves_on own.NotDone c)
 
 -- what a refusal depends on
 abbrev pub terms_of : TableValue → CpuValue → Terms

@@ -8,6 +8,7 @@ pub mod Rule
 pub mod Plays
 -- a CPU at the table, between two steps
 pub mod Seat
+pub mod StepCounts
 pub mod Places
 pub mod Begins
 pub mod Running

@@ -4,12 +4,12 @@ use Rattle.smp_mask.specs.declared.error.Edge.{Edge}
 use Rattle.smp_mask.specs.declared.error.Edge.TheVariants.{Full, Zero}
 use Rattle.smp_mask.specs.declared.error.SmpError.{SmpError}
 use Rattle.smp_mask.specs.declared.error.SmpError.TheVariants as error
-use Rattle.smp_stop_steps.specs.Known.{noting}
+use Rattle.smp_stop_steps.specs.Known.{noting, stepped}
 use Rattle.smp_multi.specs.Lives.{Moment}
 use Rattle.smp_stop_steps.specs.State.{unmoved}
 use Rattle.smp_multi.specs.Names.{Key, Known, Part, Moved}
 use Rattle.smp_multi.specs.Names.own
-use Rattle.smp_multi.specs.Cpu.{CpuValue, moves_on}
+use Rattle.smp_multi.specs.Cpu.{CpuValue, makes, moves_on}
 use Rattle.smp_multi.specs.Laws.{FindsCount}
 use Rattle.smp_multi.specs.Reads.{HasKey, ReadsOneTable}
 pub use Rattle.smp_multi.specs.Reads.{loads_known, loads_count}
@@ -37,19 +37,19 @@ moved_more up m = if up then record m { up = m.up + 1 } else record m { down = m
 abbrev pub nudge_more : Bool → ℕ → Part → Part
 nudge_more up k part = record part { nudged = slice_set part.nudged k (moved_more up (slice_index_or part.nudged k unmoved)) }
 
--- a CPU that has moved a count by one
+-- a CPU that has moved a count by one, at its exchange
 abbrev pub nudged_known : Bool → ℕ → Known → Known
-nudged_known up k v = record v { part = nudge_more up k v.part }
+nudged_known up k v = stepped 1 (record v { part = nudge_more up k v.part })
 
 abbrev pub nudged : Bool → ℕ → CpuValue → CpuValue
-nudged up k c = record c { part = nudge_more up k c.part }
+nudged up k c = makes 1 (record c { part = nudge_more up k c.part })
 
 -- one whose exchange of a key has found another count
 abbrev pub lost_known : ℕ → Known → Known
-lost_known k v = noting (own.Lost k) v
+lost_known k v = stepped 1 (noting (own.Lost k) v)
 
 abbrev pub loses_key : ℕ → CpuValue → CpuValue
-loses_key k c = moves_on (own.Lost k) c
+loses_key k c = makes 1 (moves_on (own.Lost k) c)
 
 -- what a nudge does, as its CPU knows it: it loads a count, and where that stays on it exchanges it, unless another has
 -- changed it meanwhile

@@ -3,7 +3,7 @@ use Rattle.std.specs.Prelude.{◌≡◌, ℕ, ◌<◌, Bool, true, false, Option
 use Rattle.atomic_table.specs.Seated.{TableId}
 use Rattle.smp_mask.specs.Mask.{has}
 use Rattle.smp_words.specs.Size.{cpus}
-use Rattle.smp_stop_steps.specs.Known.{attempting, noting}
+use Rattle.smp_stop_steps.specs.Known.{attempting, noting, stepped}
 use Rattle.smp_stop_steps.specs.KnownAfter.{is_drafting, no_work}
 use Rattle.smp_stop_steps.specs.Sits.{IsLoaded}
 use Rattle.smp_stop_steps.specs.declared.stage.Visit.{Visit}
@@ -31,18 +31,18 @@ holding b v = record v { part = record (v.part) { holds = b } }
 
 -- one that has tried the gate, and has taken it or not; and one that has given it up
 abbrev pub tried : Bool → Known → Known
-tried true v = noting own.Took (holding true v)
-tried false v = noting own.Busy v
+tried true v = stepped 1 (noting own.Took (holding true v))
+tried false v = stepped 1 (noting own.Busy v)
 
 abbrev pub given_up : Known → Known
-given_up v = noting own.Gave (holding false v)
+given_up v = stepped 1 (noting own.Gave (holding false v))
 
--- one that has entered the stop of this slot, which is this work; and one that has looked for it on the roll in vain
+-- one that has entered the stop of this slot, which is this work; and one that has looked for it on the roll in vain, at that one step
 abbrev pub entered : ℕ → Work → Known → Known
-entered slot work v = attempting slot true (record v { seat = In slot work 0 0 Rests })
+entered slot work v = stepped 1 (attempting slot true (record v { seat = In slot work 0 0 Rests }))
 
 abbrev pub missed : ℕ → Known → Known
-missed slot v = attempting slot false v
+missed slot v = stepped 1 (attempting slot false v)
 
 pub record HasEntered (table : TableId) (seat : SeatValue) (slot : ℕ) (work : Work) : Type 0 where
   pub table_is : seat.table ≡ table

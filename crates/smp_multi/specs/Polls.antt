@@ -3,7 +3,7 @@ use Rattle.std.specs.Prelude.{◌≡◌, ◌≢◌, ◌⊎◌, ℕ, ◌<◌, Boo
 use Rattle.atomic_table.specs.Seated.{TableId}
 use Rattle.smp_mask.specs.Mask.{has}
 use Rattle.smp_words.specs.Size.{cpus}
-use Rattle.smp_stop_steps.specs.Known.{setup_in, noting}
+use Rattle.smp_stop_steps.specs.Known.{setup_in, noting, stepped}
 use Rattle.smp_stop_steps.specs.KnownAfter.{no_work}
 use Rattle.smp_stop_steps.specs.Laws.{IsResult}
 use Rattle.smp_stop_steps.specs.Past.{OnlyActiveAnswer}
@@ -39,13 +39,13 @@ pub record HasFound (table : TableId) (seat : SeatValue) (number : ℕ) : Type 0
   pub collects : seat.known.source ≡ Collects (own_work seat.known.source)
 
 abbrev pub looked : Bool → Known → Known
-looked done v = record v {
+looked done v = stepped 1 (record v {
   source = cond done (Collects (own_work v.source)) (Owns (own_work v.source));
   moves = cond done v.moves (v.moves ++ own.NotDone ∷ []);
-}
+})
 
 abbrev pub collected : ℕ → Known → Known
-collected x v = noting (own.Collected x) (record v { source = Shut; part = record (v.part) { collected = v.part.collected ++ x ∷ [] } })
+collected x v = stepped 1 (noting (own.Collected x) (record v { source = Shut; part = record (v.part) { collected = v.part.collected ++ x ∷ [] } }))
 
 -- some words show stops that keep all laws: in them this CPU has begun and collected what its part says, none of its stops
 -- is open, and the last answer of each CPU of the mask in its stops is this

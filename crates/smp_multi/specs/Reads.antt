@@ -11,13 +11,14 @@ use Rattle.smp_mask.specs.Mask.{has}
 use Rattle.smp_mask.specs.declared.error.SmpError.{SmpError}
 use Rattle.smp_mask.specs.declared.error.SmpError.TheVariants as error
 use Rattle.smp_labels.specs.Keys.{is_on}
+use Rattle.smp_stop_steps.specs.Known.{stepped}
 use Rattle.smp_stop_steps.specs.KnownAfter.{key_read_known}
 use Rattle.smp_stop_steps.specs.Labels.{Agrees}
 use Rattle.smp_stop_steps.specs.Seats.{irq_of}
 use Rattle.smp_multi.specs.Names.{Known, Reading, ReadKey, ReadSite}
 use Rattle.smp_multi.specs.Names.own
 use Rattle.smp_multi.specs.Cells.{cells}
-use Rattle.smp_multi.specs.Cpu.{CpuValue, moves_on}
+use Rattle.smp_multi.specs.Cpu.{CpuValue, makes, moves_on}
 use Rattle.smp_multi.specs.Laws.{FindsCount}
 use Rattle.smp_multi.specs.Seat.{SeatValue}
 
@@ -28,13 +29,13 @@ pub record MayRead (table : TableId) (seat : SeatValue) : Type 0 where
   pub online : has seat.known.setting.online seat.known.number ≡ true
   pub irq : irq_of seat.known.seat ≡ true
 
--- a CPU that has read this
+-- a CPU that has read this, at one load
 abbrev pub reads : Reading → CpuValue → CpuValue
-reads r c = record c { part = record (c.part) { readings = c.part.readings ++ r ∷ [] } }
+reads r c = makes 1 (record c { part = record (c.part) { readings = c.part.readings ++ r ∷ [] } })
 
 -- a CPU that has loaded this count of a key, which is a reading, and one of its own steps
 abbrev pub loads_known : ℕ → ℕ → Known → Known
-loads_known k count v = key_read_known k count v
+loads_known k count v = stepped 1 (key_read_known k count v)
 
 abbrev pub loads_count : ℕ → ℕ → CpuValue → CpuValue
 loads_count k count c = moves_on (own.Found k count) (reads (ReadKey k (is_on count)) c)

@@ -2,6 +2,7 @@
 //! (`stop_machine_cpuslocked`, `queue_stop_cpus_work`).
 
 ghost use Rattle.std.specs.Prelude.{◌≡◌, ◌+◌, ◌<◌};
+ghost use Rattle.smp_stop_steps.specs.Known.{stepped};
 ghost use Rattle.smp_multi.specs.Lives.{Lives};
 ghost use Rattle.smp_stop_steps.specs.Slots.{order};
 ghost use Rattle.smp_multi.specs.Begins.{Begins, draft_at, begun};
@@ -19,7 +20,7 @@ fn store_field(words: &Words, seat: &mut CpuSeat, number: u32, work: &Work, fiel
     requires at { Begins words.now.table_id seat.old number work.now (order field) }
     requires low { order field < order field_of.Roll }
     ensures at { Begins words.now.table_id seat.new number work.now (order field + 1) }
-    ensures known { seat.new.known ≡ record (seat.old.known) { source = draft_at (order field + 1) work.now } }
+    ensures known { seat.new.known ≡ stepped 1 (record (seat.old.known) { source = draft_at (order field + 1) work.now }) }
 {
     let value = begun_value(*work, field);
     store(words, seat, Word::Slot(number, field), value);
@@ -30,18 +31,18 @@ fn open_slot(words: &Words, seat: &mut CpuSeat, number: u32, work: &Work)
     requires at { Begins words.now.table_id seat.old number work.now (order field_of.Roll) }
     ensures table { seat.new.table ≡ words.now.table_id }
     ensures lives { Lives seat.new.known }
-    ensures known { seat.new.known ≡ begun work.now seat.old.known }
+    ensures known { seat.new.known ≡ stepped 1 (begun work.now seat.old.known) }
 {
     let value = begun_value(*work, Field::Roll);
     store(words, seat, Word::Slot(number, Field::Roll), value);
 }
 
-/// Begins a stop.
+/// Begins a stop, at eleven stores.
 pub(crate) fn begin(words: &Words, seat: &mut CpuSeat, number: u32, work: &Work)
     requires at { Begins words.now.table_id seat.old number work.now 0 }
     ensures table { seat.new.table ≡ words.now.table_id }
     ensures lives { Lives seat.new.known }
-    ensures known { seat.new.known ≡ begun work.now seat.old.known }
+    ensures known { seat.new.known ≡ stepped 11 (begun work.now seat.old.known) }
 {
     store_field(words, seat, number, work, Field::Kind);
     store_field(words, seat, number, work, Field::Mask);

@@ -1,12 +1,13 @@
 //! A CPU completes a stop (`cpu_stop_signal_done`).
 
-ghost use Rattle.std.specs.Prelude.{◌≡◌, ◌≢◌};
-ghost use Rattle.smp_stop_steps.specs.Known.{carrying};
+ghost use Rattle.std.specs.Prelude.{◌≡◌, ◌≢◌, ◌==◌, Bool};
+ghost use Rattle.smp_stop_steps.specs.Known.{carrying, stepped};
 ghost use Rattle.smp_multi.specs.Lives.{Lives};
 ghost use Rattle.smp_stop_steps.specs.KnownAfter.{completed_with};
 ghost use Rattle.smp_multi.specs.Completes.{AtEnd, AtClose, left};
 ghost use Rattle.smp_multi.specs.Names.{Idle, One};
 ghost use Rattle.smp_multi.specs.Places.{work_in};
+ghost use Rattle.smp_multi.specs.StepCounts.{closing, completing};
 
 use crate::rule::Words;
 use crate::seat::run_steps::complete_round;
@@ -21,7 +22,7 @@ pub(crate) fn close_if_last(words: &Words, seat: &mut CpuSeat, slot: u32, found:
     requires lives { Lives seat.old.known }
     ensures table { seat.new.table ≡ words.now.table_id }
     ensures lives { Lives seat.new.known }
-    ensures known { seat.new.known ≡ left seat.old.known }
+    ensures known { seat.new.known ≡ stepped (closing (found == 1)) (left seat.old.known) }
 {
     if found == 1 {
         store(words, seat, Word::Slot(slot, Field::Done), 1);
@@ -35,7 +36,8 @@ pub(crate) fn finish(words: &Words, seat: &mut CpuSeat, slot: u32)
     requires carries { seat.old.known.carried ≢ 0 → seat.old.known.part.calling ≢ Idle }
     ensures table { seat.new.table ≡ words.now.table_id }
     ensures lives { Lives seat.new.known }
-    ensures known { seat.new.known ≡ completed_with 0 slot (work_in seat.old.known.seat) seat.old.known.carried (carrying 0 seat.old.known) }
+    ensures known { (last : Bool) × (seat.new.known ≡ stepped (completing seat.old.known.carried last)
+        (completed_with 0 slot (work_in seat.old.known.seat) seat.old.known.carried (carrying 0 seat.old.known))) }
 {
     let found = complete_round(words, seat, slot);
     close_if_last(words, seat, slot, found);

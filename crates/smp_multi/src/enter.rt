@@ -3,6 +3,7 @@
 ghost use Rattle.std.specs.Prelude.{◌≡◌, ℕ, ◌<◌, true, false, None, if◌then◌else◌, MatchOption};
 ghost use Rattle.smp_mask.specs.Mask.{has};
 ghost use Rattle.smp_words.specs.Size.{cpus};
+ghost use Rattle.smp_stop_steps.specs.Known.{stepped};
 ghost use Rattle.smp_multi.specs.Lives.{Lives, Moment};
 ghost use Rattle.smp_multi.specs.Names.{Slot, Work};
 ghost use Rattle.smp_multi.specs.Names.field;
@@ -35,7 +36,7 @@ fn load_visit(words: &Words, seat: &mut CpuSeat, slot: u32) -> Visit
     requires { (work : Work) × HasEntered words.now.table_id seat.old slot work }
     ensures table { seat.new.table ≡ words.now.table_id }
     ensures lives { Lives seat.new.known }
-    ensures known { seat.new.known ≡ seat.old.known }
+    ensures known { seat.new.known ≡ stepped 3 seat.old.known }
     ensures visit { (work : Work) → HasEntered words.now.table_id seat.old slot work → IsVisitOf slot work result }
 {
     let kind = load(words, seat, Word::Slot(slot, Field::Kind));
@@ -58,7 +59,7 @@ pub(crate) fn enter(words: &Words, seat: &mut CpuSeat, number: u32, slot: u32) -
     ensures table { seat.new.table ≡ words.now.table_id }
     ensures lives { Lives seat.new.known }
     ensures known { MatchOption result (seat.new.known ≡ missed slot seat.old.known) (λ visit. (work : Work)
-        × (seat.new.known ≡ entered slot work seat.old.known) × IsCalled seat.old.known slot work × IsVisitOf slot work visit) }
+        × (seat.new.known ≡ stepped 3 (entered slot work seat.old.known)) × IsCalled seat.old.known slot work × IsVisitOf slot work visit) }
     ensures then { (found : ℕ) × Moment seat.old.known (Slot slot field.Roll) found × (result ≡ None → has found number ≡ false) }
 {
     if take_bit(words, seat, number, slot) {

@@ -3,6 +3,7 @@
 
 ghost use Rattle.std.specs.Prelude.{◌≡◌, ℕ, ◌<◌, ◌==◌, if◌then◌else◌};
 ghost use Rattle.smp_labels.specs.declared.words.TheConstants.{MOST_KEYS};
+ghost use Rattle.smp_stop_steps.specs.Known.{stepped};
 ghost use Rattle.smp_multi.specs.Lives.{Lives, Moment};
 ghost use Rattle.smp_stop_steps.specs.KnownAfter.{counted};
 ghost use Rattle.smp_stop_steps.specs.Sits.{IsNudge};
@@ -43,11 +44,11 @@ fn exchange_count(words: &Words, seat: &mut CpuSeat, k: u32, count: u64, next: u
     requires nudge { IsNudge count next }
     ensures table { seat.new.table ≡ words.now.table_id }
     ensures lives { Lives seat.new.known }
-    ensures known { seat.new.known ≡ if result then record (seat.old.known) {
+    ensures known { seat.new.known ≡ if result then stepped 1 (record (seat.old.known) {
       part = record (seat.old.known.part) {
         nudged = counted seat.old.known.part.nudged k count next;
       };
-    } else lost_known k seat.old.known }
+    }) else lost_known k seat.old.known }
     ensures then { (found : ℕ) × Moment seat.old.known (Key k) found × (result ≡ (found == count)) }
 {
     exchange(words, seat, Word::Key(k), count, next) == count

@@ -1,10 +1,11 @@
 //! A CPU makes the patch of its stop, and acknowledges `RUN` (`kernel/jump_label.c: jump_label_update`).
 
-ghost use Rattle.std.specs.Prelude.{◌≡◌, ◌<◌, ℕ, false, slice_index};
+ghost use Rattle.std.specs.Prelude.{◌≡◌, ◌+◌, ◌<◌, ℕ, Bool, false, length, slice_index};
 ghost use Rattle.smp_labels.specs.Entries.{IsEntryWord};
 ghost use Rattle.smp_labels.specs.Keys.{change_of};
 ghost use Rattle.smp_labels.specs.Plans.{plan_of};
 ghost use Rattle.smp_labels.specs.declared.words.TheConstants.{MOST_KEYS, MOST_SITES};
+ghost use Rattle.smp_stop_steps.specs.Known.{stepped};
 ghost use Rattle.smp_multi.specs.Lives.{Lives, Moment};
 ghost use Rattle.smp_stop_steps.specs.Labels.{answer_for as answer_of_patch};
 ghost use Rattle.smp_stop_steps.specs.Stages.{visit_acked};
@@ -13,6 +14,7 @@ ghost use Rattle.smp_multi.specs.Cells.{cells};
 ghost use Rattle.smp_multi.specs.Patches.{AtPatch, IsInPatch, begins_with, entries_in};
 ghost use Rattle.smp_multi.specs.Places.{work_in};
 ghost use Rattle.smp_multi.specs.Rounds.{AloneWhile, AtRun, AtTurn};
+ghost use Rattle.smp_multi.specs.StepCounts.{loading, patching, raising};
 ghost use Rattle.smp_multi.specs.Turns.{patched_by};
 
 use crate::round::pass;
@@ -30,7 +32,7 @@ fn load_change(words: &Words, seat: &mut CpuSeat, visit: Visit) -> (u32, Change)
     requires { AtRun words.now.table_id seat.old visit Patch }
     ensures at { AtRun words.now.table_id seat.new visit Patch }
     ensures lives { Lives seat.new.known }
-    ensures known { seat.new.known ≡ seat.old.known }
+    ensures known { seat.new.known ≡ stepped 2 seat.old.known }
     ensures key { result.0 ≡ (work_in seat.old.known.seat).func }
     ensures low { result.0 < MOST_KEYS }
     ensures change { result.1 ≡ change_of (work_in seat.old.known.seat).arg }
@@ -50,7 +52,7 @@ fn begin_patch(words: &Words, seat: &mut CpuSeat, visit: Visit, key: u32) -> u64
     ensures lives { Lives seat.new.known }
     ensures alone { AloneWhile seat.new.known visit.slot }
     ensures then { Moment seat.old.known (Key key) result }
-    ensures known { seat.new.known ≡ begins_with result seat.old.known.seat seat.old.known }
+    ensures known { seat.new.known ≡ stepped 1 (begins_with result seat.old.known.seat seat.old.known) }
 {
     load(words, seat, Word::Key(key))
 }
@@ -63,7 +65,7 @@ fn load_entry(words: &Words, seat: &mut CpuSeat, site: u32) -> u64
     requires low { site < MOST_SITES }
     ensures table { seat.new.table ≡ words.now.table_id }
     ensures lives { Lives seat.new.known }
-    ensures known { seat.new.known ≡ seat.old.known }
+    ensures known { seat.new.known ≡ stepped 1 seat.old.known }
     ensures word { result ≡ slice_index (entries_in seat.old.known) site }
     ensures form { IsEntryWord result }
 {
@@ -85,7 +87,7 @@ fn load_plan(
     requires lives { Lives seat.old.known }
     ensures table { seat.new.table ≡ words.now.table_id }
     ensures lives { Lives seat.new.known }
-    ensures known { seat.new.known ≡ seat.old.known }
+    ensures known { seat.new.known ≡ stepped (loading count next (length (entries_in seat.old.known))) seat.old.known }
     ensures plan { result.items ≡ plan_of key count next (entries_in seat.old.known) }
 {
     let mut plan = ArrayVec::new();
@@ -125,8 +127,9 @@ pub(crate) fn patch_on(words: &Words, seat: &mut CpuSeat, visit: Visit) -> Visit
     requires { AtRun words.now.table_id seat.old visit Patch }
     ensures at { AtTurn words.now.table_id seat.new result result.acked Rests }
     ensures lives { Lives seat.new.known }
-    ensures patched { (count : ℕ) × Moment seat.old.known (Key (work_in seat.old.known.seat).func) count
-        × (seat.new.known ≡ patched_by count seat.old.known.seat seat.old.known)
+    ensures patched { (count : ℕ) × Moment (stepped 2 seat.old.known) (Key (work_in seat.old.known.seat).func) count
+        × ((last : Bool) × (seat.new.known ≡ stepped (4 + patching seat.old.known.setting (work_in seat.old.known.seat) count + raising last)
+        (patched_by count seat.old.known.seat seat.old.known)))
         × (result ≡ visit_acked visit 0 false) }
 {
     let (key, change) = load_change(words, seat, visit);

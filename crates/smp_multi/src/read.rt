@@ -4,6 +4,7 @@ ghost use Rattle.std.specs.Prelude.{◌≡◌, ℕ, ◌<◌};
 ghost use Rattle.smp_labels.specs.declared.words.TheConstants.{MOST_KEYS, MOST_SITES};
 ghost use Rattle.smp_labels.specs.Keys.{is_on as is_word_on};
 ghost use Rattle.smp_labels.specs.Keys.{IsKeyWord};
+ghost use Rattle.smp_stop_steps.specs.Known.{stepped};
 ghost use Rattle.smp_multi.specs.Lives.{Lives, Moment};
 ghost use Rattle.smp_stop_steps.specs.KnownAfter.{reads_more};
 ghost use Rattle.smp_multi.specs.Names.{Key, ReadSite};
@@ -44,7 +45,7 @@ pub(crate) fn read_site(words: &Words, seat: &mut CpuSeat, i: u32) -> SiteKind
     requires low { i < MOST_SITES }
     ensures table { seat.new.table ≡ words.now.table_id }
     ensures lives { Lives seat.new.known }
-    ensures known { seat.new.known ≡ reads_more (ReadSite i (jumps result)) seat.old.known }
+    ensures known { seat.new.known ≡ stepped 1 (reads_more (ReadSite i (jumps result)) seat.old.known) }
 {
     SiteKind::from_word(load(words, seat, Word::Site(i)))
 }

@@ -1,13 +1,15 @@
 //! The steps of a turn: a CPU loads the phase, acknowledges it, and as the last stores the next one (`ack_state`,
 //! `set_state`).
 
-ghost use Rattle.std.specs.Prelude.{◌≡◌, ◌≢◌, ◌⊎◌, ◌+◌, ◌≤◌, ◌==◌, false, if◌then◌else◌};
+ghost use Rattle.std.specs.Prelude.{◌≡◌, ◌≢◌, ◌⊎◌, ◌+◌, ◌≤◌, ◌==◌, Bool, false, if◌then◌else◌};
 ghost use Rattle.smp_mask.specs.Mask.{has};
+ghost use Rattle.smp_stop_steps.specs.Known.{stepped};
 ghost use Rattle.smp_multi.specs.Lives.{Lives};
 ghost use Rattle.smp_stop_steps.specs.KnownAfter.{acked_by, looked_known, raised_by};
 ghost use Rattle.smp_stop_steps.specs.Stages.{visit_acked};
 ghost use Rattle.smp_multi.specs.Names.{Rests, Fills};
 ghost use Rattle.smp_multi.specs.Rounds.{AtTurn, passed_by};
+ghost use Rattle.smp_multi.specs.StepCounts.{raising};
 
 use crate::rule::Words;
 use crate::seat::{CpuSeat, load, store, subtract};
@@ -23,7 +25,7 @@ pub(crate) fn look(words: &Words, seat: &mut CpuSeat, visit: Visit) -> u64
     requires more { visit.acked ≢ EXIT }
     ensures at { AtTurn words.now.table_id seat.new visit result Rests }
     ensures lives { Lives seat.new.known }
-    ensures known { seat.new.known ≡ looked_known result seat.old.known }
+    ensures known { seat.new.known ≡ stepped 1 (looked_known result seat.old.known) }
     ensures near { (result ≡ visit.acked) ⊎ (result ≡ visit.acked + 1) }
     ensures few { visit.acked ≤ RUN }
 {
@@ -36,7 +38,7 @@ fn acknowledge(words: &Words, seat: &mut CpuSeat, visit: Visit) -> u64
     requires calm { visit.acked ≡ DISABLE_IRQ → has visit.active seat.old.known.number ≡ false }
     ensures table { seat.new.table ≡ words.now.table_id }
     ensures lives { Lives seat.new.known }
-    ensures known { seat.new.known ≡ acked_by result seat.old.known.seat seat.old.known }
+    ensures known { seat.new.known ≡ stepped 1 (acked_by result seat.old.known.seat seat.old.known) }
 {
     subtract(words, seat, Word::Slot(visit.slot, Field::Ack))
 }
@@ -46,7 +48,7 @@ fn raise(words: &Words, seat: &mut CpuSeat, visit: Visit)
     requires at { AtTurn words.now.table_id seat.old visit visit.acked Fills }
     ensures at { AtTurn words.now.table_id seat.new visit visit.acked Rests }
     ensures lives { Lives seat.new.known }
-    ensures known { seat.new.known ≡ raised_by (visit.acked + 1) seat.old.known.seat seat.old.known }
+    ensures known { seat.new.known ≡ stepped 2 (raised_by (visit.acked + 1) seat.old.known.seat seat.old.known) }
 {
     store(
         words,
@@ -64,7 +66,8 @@ pub(crate) fn pass(words: &Words, seat: &mut CpuSeat, visit: Visit, found: u64)
     requires lives { Lives seat.old.known }
     ensures at { AtTurn words.now.table_id seat.new visit visit.acked Rests }
     ensures lives { Lives seat.new.known }
-    ensures known { seat.new.known ≡ if found == 1 then raised_by (visit.acked + 1) seat.old.known.seat seat.old.known else seat.old.known }
+    ensures known { seat.new.known ≡ stepped (raising (found == 1))
+        (if found == 1 then raised_by (visit.acked + 1) seat.old.known.seat seat.old.known else seat.old.known) }
 {
     if found == 1 {
         raise(words, seat, visit);
@@ -78,7 +81,7 @@ pub(crate) fn move_on(words: &Words, seat: &mut CpuSeat, visit: Visit) -> Visit
     requires few { visit.acked ≤ RUN }
     ensures at { AtTurn words.now.table_id seat.new result result.acked Rests }
     ensures lives { Lives seat.new.known }
-    ensures known { seat.new.known ≡ passed_by seat.old.known.seat seat.old.known }
+    ensures known { (last : Bool) × (seat.new.known ≡ stepped (1 + raising last) (passed_by seat.old.known.seat seat.old.known)) }
     ensures visit { result ≡ visit_acked visit 0 false }
 {
     let found = acknowledge(words, seat, visit);

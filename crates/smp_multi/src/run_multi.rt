@@ -1,11 +1,13 @@
 //! A CPU runs the function of a Multi stop, and acknowledges `RUN` (`multi_cpu_stop`).
 
-ghost use Rattle.std.specs.Prelude.{◌≡◌, ℤ, false};
+ghost use Rattle.std.specs.Prelude.{◌≡◌, ◌+◌, ℤ, Bool, false};
+ghost use Rattle.smp_stop_steps.specs.Known.{stepped};
 ghost use Rattle.smp_multi.specs.Lives.{Lives};
 ghost use Rattle.smp_stop_steps.specs.Stages.{visit_acked};
 ghost use Rattle.smp_multi.specs.Names.{Multi, Rests};
 ghost use Rattle.smp_multi.specs.Rounds.{AtRun, AtTurn, passed_by};
 ghost use Rattle.smp_multi.specs.Running.{answered_now, called_by};
+ghost use Rattle.smp_multi.specs.StepCounts.{raising};
 
 use crate::func::StopFunc;
 use crate::round::pass;
@@ -27,7 +29,8 @@ pub(crate) fn run_on<F: StopFunc>(
     ensures at { AtTurn words.now.table_id seat.new result result.acked Rests }
     ensures lives { Lives seat.new.known }
     ensures visit { result ≡ visit_acked visit 0 false }
-    ensures heard { (answer : ℤ) × (seat.new.known ≡ passed_by seat.old.known.seat (answered_now answer seat.old.known))
+    ensures heard { (answer : ℤ)
+        × ((last : Bool) × (seat.new.known ≡ stepped (3 + raising last) (passed_by seat.old.known.seat (answered_now answer seat.old.known))))
         × F.leads func.old (called_by seat.old.known answer) func.new }
 {
     let (found, _) = run_multi(words, seat, number, visit, func);

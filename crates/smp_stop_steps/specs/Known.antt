@@ -1,5 +1,5 @@
 -- What a CPU knows of the stops: where it is with them, as far as its steps have told, and its own part of their state.
-use Rattle.std.specs.Prelude.{◌≡◌, ◌≢◌, ◌⊎◌, ℕ, ◌<◌, nat_lt, Bool, false, ◌==◌, cond, Option, Some, None, List, [], ◌∷◌, ◌++◌, length, replicate, slice_index_or}
+use Rattle.std.specs.Prelude.{◌≡◌, ◌≢◌, ◌⊎◌, ℕ, ◌+◌, ◌<◌, nat_lt, Bool, false, ◌==◌, cond, Option, Some, None, List, [], ◌∷◌, ◌++◌, length, replicate, slice_index_or}
 use Rattle.smp_stop_steps.specs.Callings.{with_answer}
 use Rattle.smp_stop_steps.specs.Names.{MOST_KEYS, cpus, put, One, Seen, Work, Word, Slot}
 use Rattle.smp_stop_steps.specs.Seats.{Seat, Free}
@@ -117,7 +117,7 @@ no_part = record {
 }
 
 abbrev pub fresh : Setting → ℕ → Known
-fresh k me = record { setting = k; number = me; seat = Free; source = Shut; part = no_part; carried = 0; moves = []; attempts = [] }
+fresh k me = record { setting = k; number = me; seat = Free; source = Shut; part = no_part; carried = 0; moves = []; attempts = []; steps = 0 }
 
 -- with this answer, which it carries from now on
 abbrev pub carrying : ℕ → Known → Known
@@ -130,6 +130,10 @@ noting m v = record v { moves = v.moves ++ m ∷ [] }
 -- with one more attempt to enter the stop of this slot
 abbrev pub attempting : ℕ → Bool → Known → Known
 attempting slot entered v = record v { attempts = v.attempts ++ record { slot = slot; entered = entered } ∷ [] }
+
+-- with this number of steps more
+abbrev pub stepped : ℕ → Known → Known
+stepped n v = record v { steps = v.steps + n }
 
 -- the same stops; where the step stores an answer, with that answer of this CPU's function, which no step tells before
 abbrev pub AreAlike : ℕ → Seen → StopState → StopState → Type 0

@@ -2,7 +2,7 @@
 use Rattle.std.specs.Prelude.{ℕ, ◌+◌, Bool, true, false, ◌==◌, ◌&&◌, ◌||◌, not, cond, Option, Some, None, List, [], ◌∷◌, ◌++◌, slice_index_or, slice_set}
 use Rattle.smp_stop_steps.specs.Names.{has, is_on, Act, Field, One, Work, Word, Gate, Slot, Key, Site, DISABLE_IRQ, RUN, EXIT, OVER}
 use Rattle.smp_stop_steps.specs.KeyCounts.{moves}
-use Rattle.smp_stop_steps.specs.Known.{Known, Part, setup_in, noting, attempting}
+use Rattle.smp_stop_steps.specs.Known.{Known, Part, setup_in, noting, attempting, stepped}
 use Rattle.smp_stop_steps.specs.Labels.{Reading, ReadKey, ReadSite}
 use Rattle.smp_stop_steps.specs.Seats.{Seat, Free, In, Gives, Alters, Closes, Rests, Fills, Sets}
 use Rattle.smp_stop_steps.specs.Stop.{Inside}
@@ -196,13 +196,17 @@ site_known act.Load i (Some found) v = reads_more (ReadSite i (is_on found)) v
 site_known act.Store i found v = record v { seat = altered_by v.seat }
 site_known _ i found v = v
 
--- what a CPU knows after a step of its own; one that enters learns this work
+-- what a step of its own tells a CPU, beside that it has made it; one that enters learns this work
+abbrev pub learned : Work → Known → Act → Word → Option ℕ → Option ℕ → Known
+learned w v act Gate found put = gate_known act put v
+learned w v act (Slot s f) found put = slot_known w v s act f found put
+learned w v act (Key k) found put = key_known act k found put v
+learned w v act (Site i) found put = site_known act i found v
+learned w v act _ found put = v
+
+-- what a CPU knows after a step of its own: what the step tells, and one step more, whatever its access
 abbrev pub known_entering : Work → Known → Act → Word → Option ℕ → Option ℕ → Known
-known_entering w v act Gate found put = gate_known act put v
-known_entering w v act (Slot s f) found put = slot_known w v s act f found put
-known_entering w v act (Key k) found put = key_known act k found put v
-known_entering w v act (Site i) found put = site_known act i found v
-known_entering w v act _ found put = v
+known_entering w v act word found put = stepped 1 (learned w v act word found put)
 
 -- the same of a step that enters no stop
 abbrev pub known_told : Known → Act → Word → Option ℕ → Option ℕ → Known

@@ -160,4 +160,6 @@ pub struct Known {
     pub moves: LinkedList<OwnMove>,
     /// Its attempts to enter a stop, in the same way.
     pub attempts: LinkedList<Attempt>,
+    /// How many steps it has made: one for each access.
+    pub steps: u64,
 }

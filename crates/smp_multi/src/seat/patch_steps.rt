@@ -1,8 +1,8 @@
 //! The steps by which a CPU makes the patch of its stop: the stores of labels, and the acknowledgement of `RUN` after
 //! them. No other page can make them.
 
-ghost use Rattle.std.specs.Prelude.{◌≡◌, []};
-ghost use Rattle.smp_stop_steps.specs.Known.{carrying};
+ghost use Rattle.std.specs.Prelude.{◌≡◌, [], length};
+ghost use Rattle.smp_stop_steps.specs.Known.{carrying, stepped};
 ghost use Rattle.smp_multi.specs.Lives.{Lives};
 ghost use Rattle.smp_stop_steps.specs.KnownAfter.{acked_by};
 ghost use Rattle.smp_stop_steps.specs.Labels.{patch_answer};
@@ -41,7 +41,7 @@ pub(crate) fn store_plan(
     requires lives { Lives seat.old.known }
     ensures at { AtPatch words.now.table_id seat.new visit }
     ensures lives { Lives seat.new.known }
-    ensures known { seat.new.known ≡ stored_all seat.old.known.seat seat.old.known }
+    ensures known { seat.new.known ≡ stepped (length (rest_in seat.old.known.seat)) (stored_all seat.old.known.seat seat.old.known) }
 {
     let _ = visit;
     for (place, number) in plan.as_slice() {
@@ -57,7 +57,7 @@ pub(crate) fn acknowledge_patch(words: &Words, seat: &mut CpuSeat, visit: Visit,
     requires answer { answer ≡ patch_answer (work_in seat.old.known.seat) (count_in seat.old.known.seat) }
     ensures table { seat.new.table ≡ words.now.table_id }
     ensures lives { Lives seat.new.known }
-    ensures known { seat.new.known ≡ acked_by result seat.old.known.seat (carrying answer seat.old.known) }
+    ensures known { seat.new.known ≡ stepped 1 (acked_by result seat.old.known.seat (carrying answer seat.old.known)) }
 {
     subtract_with(words, seat, Word::Slot(visit.slot, Field::Ack), answer)
 }

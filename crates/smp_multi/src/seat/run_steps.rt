@@ -5,8 +5,8 @@
 //! With the acknowledgement of `RUN` the answer is fixed: the CPU carries it, and `complete_round` completes with what it
 //! carries. No other page can make these steps: the accesses that make them are private to the pages of the seat.
 
-ghost use Rattle.std.specs.Prelude.{◌≡◌, ◌≢◌};
-ghost use Rattle.smp_stop_steps.specs.Known.{carrying};
+ghost use Rattle.std.specs.Prelude.{◌≡◌, ◌≢◌, ◌+◌};
+ghost use Rattle.smp_stop_steps.specs.Known.{carrying, stepped};
 ghost use Rattle.smp_multi.specs.Lives.{Lives};
 ghost use Rattle.smp_stop_steps.specs.KnownAfter.{acked_by, completed_with};
 ghost use Rattle.smp_stop_steps.specs.Start.{answer_word as word_of_answer};
@@ -16,6 +16,7 @@ ghost use Rattle.smp_multi.specs.Names.{Idle, Multi, One};
 ghost use Rattle.smp_multi.specs.Places.{work_in};
 ghost use Rattle.smp_multi.specs.Rounds.{AloneWhile, AtRun};
 ghost use Rattle.smp_multi.specs.Running.{AtOne, IsItsCall, answered_now, called_by, calls_now};
+ghost use Rattle.smp_multi.specs.StepCounts.{giving};
 
 use super::access::{CpuSeat, load, store_any, subtract_with};
 use crate::func::StopFunc;
@@ -38,7 +39,7 @@ fn word_of(answer: i32) -> u64
 fn begin_one(words: &Words, seat: &mut CpuSeat, slot: u32) -> (u16, u64)
     requires { AtOne words.now.table_id seat.old slot }
     ensures at { AtOne words.now.table_id seat.new slot }
-    ensures known { seat.new.known ≡ calls_now seat.old.known }
+    ensures known { seat.new.known ≡ stepped 2 (calls_now seat.old.known) }
     ensures call { IsItsCall seat.new.known result.0 result.1 }
 {
     let number = load(words, seat, Word::Slot(slot, Field::Func));
@@ -70,7 +71,8 @@ fn complete(words: &Words, seat: &mut CpuSeat, slot: u32, acked: u32, answer: u6
     requires one { (work_in seat.old.known.seat).kind ≡ One → seat.old.known.part.calling ≢ Idle }
     ensures at { AtClose words.now.table_id seat.new slot result }
     ensures lives { Lives seat.new.known }
-    ensures known { seat.new.known ≡ completed_with result slot (work_in seat.old.known.seat) answer (carrying 0 seat.old.known) }
+    ensures known { seat.new.known ≡ stepped (giving answer + 1) (completed_with result slot (work_in seat.old.known.seat) answer
+        (carrying 0 seat.old.known)) }
 {
     give(words, seat, slot, acked, answer);
     subtract_with(words, seat, Word::Slot(slot, Field::Todo), 0)
@@ -89,8 +91,8 @@ pub(crate) fn run_one<F: StopFunc>(
     requires number { seat.old.known.number ≡ number }
     ensures at { AtClose words.now.table_id seat.new slot result.0 }
     ensures lives { Lives seat.new.known }
-    ensures known { seat.new.known
-        ≡ completed_with result.0 slot (work_in seat.old.known.seat) (word_of_answer result.1) (carrying 0 seat.old.known) }
+    ensures known { seat.new.known ≡ stepped (2 + (giving (word_of_answer result.1) + 1))
+        (completed_with result.0 slot (work_in seat.old.known.seat) (word_of_answer result.1) (carrying 0 seat.old.known)) }
     ensures heard { F.leads func.old (called_by seat.old.known result.1) func.new }
 {
     let (number_of_func, arg) = begin_one(words, seat, slot);
@@ -105,7 +107,7 @@ pub(crate) fn run_one<F: StopFunc>(
 fn begin_run(words: &Words, seat: &mut CpuSeat, visit: Visit) -> (u16, u64)
     requires { AtRun words.now.table_id seat.old visit Multi }
     ensures at { AtRun words.now.table_id seat.new visit Multi }
-    ensures known { seat.new.known ≡ calls_now seat.old.known }
+    ensures known { seat.new.known ≡ stepped 2 (calls_now seat.old.known) }
     ensures alone { AloneWhile seat.new.known visit.slot }
     ensures call { IsItsCall seat.new.known result.0 result.1 }
 {
@@ -123,7 +125,7 @@ fn end_run(words: &Words, seat: &mut CpuSeat, visit: Visit, answer: u64) -> u64
     requires alone { AloneWhile seat.old.known visit.slot }
     ensures table { seat.new.table ≡ words.now.table_id }
     ensures lives { Lives seat.new.known }
-    ensures known { seat.new.known ≡ acked_by result seat.old.known.seat (carrying answer seat.old.known) }
+    ensures known { seat.new.known ≡ stepped 1 (acked_by result seat.old.known.seat (carrying answer seat.old.known)) }
 {
     subtract_with(words, seat, Word::Slot(visit.slot, Field::Ack), answer)
 }
@@ -141,7 +143,7 @@ pub(crate) fn run_multi<F: StopFunc>(
     requires number { seat.old.known.number ≡ number }
     ensures table { seat.new.table ≡ words.now.table_id }
     ensures lives { Lives seat.new.known }
-    ensures known { seat.new.known ≡ acked_by result.0 seat.old.known.seat (answered_now result.1 seat.old.known) }
+    ensures known { seat.new.known ≡ stepped 3 (acked_by result.0 seat.old.known.seat (answered_now result.1 seat.old.known)) }
     ensures heard { F.leads func.old (called_by seat.old.known result.1) func.new }
 {
     let (function, arg) = begin_run(words, seat, visit);
@@ -158,8 +160,8 @@ pub(crate) fn complete_round(words: &Words, seat: &mut CpuSeat, slot: u32) -> u6
     requires carries { seat.old.known.carried ≢ 0 → seat.old.known.part.calling ≢ Idle }
     ensures at { AtClose words.now.table_id seat.new slot result }
     ensures lives { Lives seat.new.known }
-    ensures known { seat.new.known
-        ≡ completed_with result slot (work_in seat.old.known.seat) seat.old.known.carried (carrying 0 seat.old.known) }
+    ensures known { seat.new.known ≡ stepped (giving seat.old.known.carried + 1)
+        (completed_with result slot (work_in seat.old.known.seat) seat.old.known.carried (carrying 0 seat.old.known)) }
 {
     let answer = seat.carried();
     complete(words, seat, slot, EXIT, answer)

@@ -6,7 +6,7 @@ use Rattle.smp_words.proofs.Puts.{at_test, put_same, put_other}
 use Rattle.smp_stop_steps.specs.{has, is_on, Place, MOST_KEYS, word_of, at_after, seen_of, put, put_word, moves, moved_by, Change, Patches, Reading, ReadKey}
 use Rattle.smp_stop_steps.specs.{ReadSite, count_set, Seat, Free, In, Gives, Alters, Closes, Turn, Rests, irq_of, StopShows, IsNudge, Source, store_of, Setup}
 use Rattle.smp_stop_steps.specs.{StopState, Moved, unmoved, told, is_patch, is_at_run, reads, key_loaded, key_patched, patched_more, patch_begun, plan_at}
-use Rattle.smp_stop_steps.specs.{Sees, GoesOnBy, Act, AreFirst, setup_in, reads_more, key_loaded_by, key_known, key_read_known, counted, known_entering, Patch, Work}
+use Rattle.smp_stop_steps.specs.{Sees, GoesOnBy, Act, AreFirst, setup_in, reads_more, key_loaded_by, key_known, key_read_known, counted, learned, Patch, Work}
 use Rattle.smp_stop_steps.specs.{Word, Key, Site}
 use Rattle.smp_stop_steps.specs.State.{Present}
 use Rattle.smp_stop_steps.specs.Known.{Known}
@@ -151,7 +151,7 @@ module _ (p : StopState) (at : Word → ℕ) (seat : ℕ → Seat) (source : ℕ
       plan_at u w count ≡ made ++ (x, n) ∷ rest → w.func < MOST_KEYS →
       let a = store_of (x, n) in
       let seen = seen_of v.number a (at (word_of a)) None in
-      GoesOnBy v.setting p seat source v.number (at_after at a) (known_entering (entering p (word_of a)) v seen.act seen.word seen.found seen.put) seen
+      GoesOnBy v.setting p seat source v.number (at_after at a) (learned (entering p (word_of a)) v seen.act seen.word seen.found seen.put) seen
   alter s w count made rest (place.Key k) n is plan low =
       let next = Alters s w count (made ++ (place.Key k, n) ∷ []) rest in
       let at' = put_word at (Key k) n in

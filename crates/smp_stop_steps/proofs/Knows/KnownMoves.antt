@@ -1,6 +1,6 @@
 -- Each step that a CPU may make by what it knows goes on to stops of which all know their part.
 use Rattle.std.proofs.Common.{ℕ, Some, None, refl}
-use Rattle.smp_stop_steps.specs.{word_of, at_after, seen_of, Sees, GoesOnBy, Seen, setup_in, slot_known, known_entering, Seat, StopShows, Source, StopState, Field}
+use Rattle.smp_stop_steps.specs.{word_of, at_after, seen_of, Sees, GoesOnBy, Seen, setup_in, slot_known, learned, known_entering, Seat, StopShows, Source, StopState, Field}
 use Rattle.smp_stop_steps.specs.{Word, Slot, Entry}
 use Rattle.smp_stop_steps.specs.Known.{Known}
 use Rattle.smp_stop_steps.specs.Moves.{Move, TakeGate, OpenGate, Draft, DraftMore, Open, Enter, Look, Acknowledge, AcknowledgePatch, Refill, Raise, Give}
@@ -10,7 +10,7 @@ use Rattle.smp_stop_steps.proofs.Knows.KnownEnds.{give, count, count_given, clos
 use Rattle.smp_stop_steps.proofs.Knows.KnownLabels.{read_key, read_site, nudge, begin_patch, alter}
 use Rattle.smp_stop_steps.proofs.Knows.KnownRounds.{enter, load_arg, look, acknowledge, acknowledge_patch, refill, raise}
 use Rattle.smp_stop_steps.proofs.Knows.KnownSources.{still, take_gate, open_gate, draft, draft_more, open_stop, look_done, collect}
-use Rattle.smp_stop_steps.proofs.Knows.Parts.{seen_by}
+use Rattle.smp_stop_steps.proofs.Knows.Parts.{counted_step, seen_by}
 use Rattle.smp_stop_steps.specs.act
 use Rattle.smp_stop_steps.specs.field
 
@@ -33,32 +33,43 @@ module _ (p : StopState) (at : Word → ℕ) (seat : ℕ → Seat) (source : ℕ
   load_field s field.Result i = absurd i
   load_field s field.Done i = absurd i
 
+  -- what each step tells
+  tells_move : (m : Move) → MayStep v m →
+      let a = known_access v m in
+      let seen = seen_of v.number a (at (word_of a)) None in
+      Goes seen (at_after at a) (learned (entering p (word_of a)) v seen.act seen.word seen.found seen.put)
+  tells_move TakeGate m = take_gate p at seat source v h sees
+  tells_move OpenGate m = open_gate p at seat source v h sees m.0 m.1
+  tells_move (Draft w) m = draft p at seat source v h sees w m.0 m.1 m.2
+  tells_move (DraftMore w f) m = draft_more p at seat source v h sees w f m.0 m.1 m.2 m.3
+  tells_move (Open w) m = open_stop p at seat source v h sees w m.0
+  tells_move (Enter s) m = enter p at seat source v h sees s m
+  tells_move (Look s w a l) m = look p at seat source v h sees s w a l m.0 m.1
+  tells_move (Acknowledge s w a) m = acknowledge p at seat source v h sees s w a m.0 m.1
+  tells_move (AcknowledgePatch s w count made) m = acknowledge_patch p at seat source v h sees s w count made m
+  tells_move (Refill s w a l) m = refill p at seat source v h sees s w a l m.0 m.1
+  tells_move (Raise s w a l) m = raise p at seat source v h sees s w a l m.0 m.1
+  tells_move (Give s w a l x) m = give p at seat source v h sees s w a l x m.0 m.1 m.2 m.3 m.4
+  tells_move (Count s w a l) m = count p at seat source v h sees s w a l m.0 m.1 m.2
+  tells_move (CountGiven s w a x) m = count_given p at seat source v h sees s w a x m.0 m.1
+  tells_move (Close s) m = close p at seat source v h sees s m.0 m.1
+  tells_move (LookDone w) m = look_done p at seat source v h sees w m
+  tells_move (Collect w) m = collect p at seat source v h sees w m
+  tells_move (ReadKey k) m = read_key p at seat source v h sees k m
+  tells_move (ReadSite i) m = read_site p at seat source v h sees i
+  tells_move (Nudge k found new) m = nudge p at seat source v h sees k found new m.0 m.1 m.2 m.3
+  tells_move (BeginPatch s w) m = begin_patch p at seat source v h sees s w m.0 m.1 m.2
+  tells_move (Alter s w count made change rest) m = alter p at seat source v h sees s w count made rest change.0 change.1 m.0 m.1 m.2
+  tells_move (LoadArg s w a l) m = load_arg p at seat source v h sees s w a l m
+  tells_move (LoadField s w a l f) m = load_field s f m.0
+  tells_move (LoadEntry s w count made rest i) m = still p at seat source v h sees act.Load (Entry i) (Some (at (Entry i))) None refl
+
+  -- and that it is one more
   pub known_move : (m : Move) → MayStep v m →
       let a = known_access v m in
       let seen = seen_of v.number a (at (word_of a)) None in
       Goes seen (at_after at a) (known_entering (entering p (word_of a)) v seen.act seen.word seen.found seen.put)
-  known_move TakeGate m = take_gate p at seat source v h sees
-  known_move OpenGate m = open_gate p at seat source v h sees m.0 m.1
-  known_move (Draft w) m = draft p at seat source v h sees w m.0 m.1 m.2
-  known_move (DraftMore w f) m = draft_more p at seat source v h sees w f m.0 m.1 m.2 m.3
-  known_move (Open w) m = open_stop p at seat source v h sees w m.0
-  known_move (Enter s) m = enter p at seat source v h sees s m
-  known_move (Look s w a l) m = look p at seat source v h sees s w a l m.0 m.1
-  known_move (Acknowledge s w a) m = acknowledge p at seat source v h sees s w a m.0 m.1
-  known_move (AcknowledgePatch s w count made) m = acknowledge_patch p at seat source v h sees s w count made m
-  known_move (Refill s w a l) m = refill p at seat source v h sees s w a l m.0 m.1
-  known_move (Raise s w a l) m = raise p at seat source v h sees s w a l m.0 m.1
-  known_move (Give s w a l x) m = give p at seat source v h sees s w a l x m.0 m.1 m.2 m.3 m.4
-  known_move (Count s w a l) m = count p at seat source v h sees s w a l m.0 m.1 m.2
-  known_move (CountGiven s w a x) m = count_given p at seat source v h sees s w a x m.0 m.1
-  known_move (Close s) m = close p at seat source v h sees s m.0 m.1
-  known_move (LookDone w) m = look_done p at seat source v h sees w m
-  known_move (Collect w) m = collect p at seat source v h sees w m
-  known_move (ReadKey k) m = read_key p at seat source v h sees k m
-  known_move (ReadSite i) m = read_site p at seat source v h sees i
-  known_move (Nudge k found new) m = nudge p at seat source v h sees k found new m.0 m.1 m.2 m.3
-  known_move (BeginPatch s w) m = begin_patch p at seat source v h sees s w m.0 m.1 m.2
-  known_move (Alter s w count made change rest) m = alter p at seat source v h sees s w count made rest change.0 change.1 m.0 m.1 m.2
-  known_move (LoadArg s w a l) m = load_arg p at seat source v h sees s w a l m
-  known_move (LoadField s w a l f) m = load_field s f m.0
-  known_move (LoadEntry s w count made rest i) m = still p at seat source v h sees act.Load (Entry i) (Some (at (Entry i))) None refl
+  known_move m may =
+      let a = known_access v m in
+      let seen = seen_of v.number a (at (word_of a)) None in
+      counted_step p seat source v sees (at_after at a) (learned (entering p (word_of a)) v seen.act seen.word seen.found seen.put) (tells_move m may)

@@ -1,11 +1,11 @@
 -- What a step of a CPU leaves to it and to all others.
-use Rattle.std.proofs.Common.{◌≡◌, ◌≢◌, ℕ, ◌<◌, List, Option, None, get_or, set, replicate, inl, refl, ap, subst, ◌∙◌, sym, arith}
+use Rattle.std.proofs.Common.{◌≡◌, ◌≢◌, ℕ, ◌+◌, ◌<◌, List, Option, None, get_or, set, replicate, inl, refl, ap, subst, ◌∙◌, sym, arith}
 use Rattle.std.proofs.lemmas.List.{length-set, length-replicate, get_or-set_same, get_or-set_other}
 use Rattle.smp_words.proofs.Puts.{at_test, put_same, put_other}
 use Rattle.smp_words.proofs.Zeros.{get_or-same}
 use Rattle.smp_stop_steps.specs.{put, cpus, Word, Part, Setting, fresh, columns_of, AreFirst, AreTold, Columns, IsPart, Sees, GoesOnBy, IsBegun, Act, Seen, Setup, told, told_source, setup_in, Seat}
 use Rattle.smp_stop_steps.specs.{Free, StopShows, Source, Shut, StopState, no_stops}
-use Rattle.smp_stop_steps.specs.Known.{Attempt, Known, OwnMove}
+use Rattle.smp_stop_steps.specs.Known.{Attempt, Known, OwnMove, stepped}
 
 -- the list of a function's first values, with one changed
 pub first_put : {A : Type 0} (n : ℕ) (f : ℕ → A) (d : A) (list : List A) (i : ℕ) (x : A) → AreFirst n f d list → i < n → AreFirst n (put f i x) d (set list
@@ -40,10 +40,10 @@ module _ (p : StopState) (seat : ℕ → Seat) (source : ℕ → Source) (v : Kn
   abbrev Told : StopState → Seen → Type 0
   Told p' seen = AreTold (setup_in v.setting) v.number p p' seen
 
-  -- no other knows a CPU's own moves, and its attempts to enter a stop
-  listed : {seen : Seen} (at' : Word → ℕ) (w : Known) (moves : List OwnMove) (attempts : List Attempt) → By seen at' w
-      → By seen at' (record w { moves = moves; attempts = attempts })
-  listed {seen} at' w moves attempts g =
+  -- no other knows a CPU's own moves, its attempts to enter a stop, and how many steps it has made
+  listed : {seen : Seen} (at' : Word → ℕ) (w : Known) (moves : List OwnMove) (attempts : List Attempt) (steps : ℕ) → By seen at' w
+      → By seen at' (record w { moves = moves; attempts = attempts; steps = steps })
+  listed {seen} at' w moves attempts steps g =
       let s = g.goes.mine in
       record {
         goes =
@@ -62,10 +62,13 @@ module _ (p : StopState) (seat : ℕ → Seat) (source : ℕ → Source) (v : Kn
       }
 
   pub noted : {seen : Seen} (at' : Word → ℕ) (w : Known) (moves : List OwnMove) → By seen at' w → By seen at' (record w { moves = moves })
-  noted at' w moves g = listed at' w moves w.attempts g
+  noted at' w moves g = listed at' w moves w.attempts w.steps g
 
   pub attempted : {seen : Seen} (at' : Word → ℕ) (w : Known) (attempts : List Attempt) → By seen at' w → By seen at' (record w { attempts = attempts })
-  attempted at' w attempts g = listed at' w w.moves attempts g
+  attempted at' w attempts g = listed at' w w.moves attempts w.steps g
+
+  pub counted_step : {seen : Seen} (at' : Word → ℕ) (w : Known) → By seen at' w → By seen at' (stepped 1 w)
+  counted_step at' w g = listed at' w w.moves w.attempts (w.steps + 1) g
 
   -- a step, after which this CPU is at this seat and source and has this part
   pub goes : {seen : Seen} (p' : StopState) (at' : Word → ℕ) (seat' : ℕ → Seat) (source' : ℕ → Source) (x : Seat) (y : Source) (part : Part) →

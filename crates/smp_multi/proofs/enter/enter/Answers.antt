@@ -1,4 +1,5 @@
 use Rattle.std.proofs.Common.{ap, ◌∙◌, cond}
+use Rattle.smp_stop_steps.specs.Known.{stepped}
 use Rattle.smp_multi.specs.Names.{Known}
 use Rattle.smp_multi.specs.Places.{entered, missed}
 use Rattle.smp_multi.proofs.enter.enter.Goals as goal
@@ -11,4 +12,4 @@ returns-then-take_bit-clause-known c =
     let visit =
     c.load_visit.ensures.visit k.0 record
     { table_is = c.take_bit.ensures.table; sized = c.requires.free.seated.sized; low = c.requires.low; seat_is = ap (λ (v : Known). v.seat) known } in
-    (k.0, c.load_visit.ensures.known ∙ known, k.2 c.if-take_bit.true, visit)
+    (k.0, c.load_visit.ensures.known ∙ ap (stepped 3) known, k.2 c.if-take_bit.true, visit)

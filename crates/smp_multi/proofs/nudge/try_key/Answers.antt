@@ -2,6 +2,7 @@ use Rattle.std.proofs.Common.{◌≡◌, Some, ap, sym, subst, ◌∙◌, cond}
 use Rattle.smp_labels.specs.Keys.{is_on, count_after}
 use Rattle.smp_labels.specs.declared.keys.Change.{Change}
 use Rattle.smp_multi.specs.Lives.{Moment}
+use Rattle.smp_stop_steps.specs.Known.{stepped}
 use Rattle.smp_stop_steps.specs.KnownAfter.{counted}
 use Rattle.smp_stop_steps.specs.Stages.{nudge_of}
 use Rattle.smp_multi.specs.Names.{Key, Known}
@@ -27,6 +28,6 @@ returns-else-exchange_count-clause-known c =
       subst (λ (v : Known). Moment v (Key c.args.k) found.0) loaded found.1,
       found_other found.0 count c.exchange_count.result found.2 lost,
       c.exchange_count.ensures.known
-          ∙ (ap (λ b. cond b (record v { part = record (v.part) { nudged = counted v.part.nudged c.args.k count next } }) (lost_known c.args.k v)) lost
+          ∙ (ap (λ b. cond b (stepped 1 (record v { part = record (v.part) { nudged = counted v.part.nudged c.args.k count next } })) (lost_known c.args.k v)) lost
           ∙ ap (lost_known c.args.k) loaded),
     )

@@ -1,31 +1,62 @@
-use Rattle.std.proofs.Common.{◌≡◌, ◌+◌, ap, arith, subst, ◌∙◌}
-use Rattle.smp_labels.specs.Keys.{count_after}
+use Rattle.std.proofs.Common.{◌≡◌, ℕ, ◌+◌, ◌==◌, Option, Some, None, length, refl, ap, arith, subst, ◌∙◌}
+use Rattle.std.specs.Option.{unwrap_or}
+use Rattle.std.proofs.lemmas.List.{length-map}
+use Rattle.smp_labels.specs.Entries.{entry_word}
+use Rattle.smp_labels.specs.Keys.{count_after, count_left, count_or}
 use Rattle.smp_labels.specs.declared.keys.Change.{Change}
+use Rattle.smp_stop_steps.specs.Known.{setup_in, stepped}
 use Rattle.smp_multi.specs.Lives.{Moment}
-use Rattle.smp_stop_steps.specs.Labels.{answer_for, patch_answer}
+use Rattle.smp_stop_steps.specs.Labels.{answer_for, count_set, patch_answer}
+use Rattle.smp_stop_steps.specs.Tells.{plan_at}
 use Rattle.smp_stop_steps.specs.declared.stage.Visit.{Visit}
-use Rattle.smp_multi.specs.Names.{Key, Known}
-use Rattle.smp_multi.specs.Patches.{begins_with}
+use Rattle.smp_multi.specs.Names.{Key, Known, Seat}
+use Rattle.smp_multi.specs.Patches.{begins_with, entries_in, rest_in}
 use Rattle.smp_multi.specs.Places.{work_in}
+use Rattle.smp_multi.specs.StepCounts.{loading, patching, raising}
+use Rattle.smp_multi.proofs.Counting.{begun_on, steps_on, then_steps}
 use Rattle.smp_multi.proofs.Patching.{patch_ends, is_at_run}
 use Rattle.smp_multi.proofs.patch.patch_on.Goals as goal
+
+unwrap_is : (o : Option ℕ) (n : ℕ) → unwrap_or o n ≡ count_or n o
+unwrap_is None n = refl
+unwrap_is (Some m) n = refl
 
 pub returns-clause-patched : goal.returns-clause-patched
 returns-clause-patched c =
     let k = c.args.seat.now.known in
     let w = work_in k.seat in
     let count = c.begin_patch-count.result in
-    let one = c.load_plan-plan.ensures.known ∙ (c.begin_patch-count.ensures.known
-    ∙ ap (λ (x : Known). begins_with count x.seat x) c.load_change-key.ensures.known) in
+    let begun = begins_with count k.seat k in
+    let at = is_at_run _ _ c.args.visit c.requires in
+    let first : c.begin_patch-count.new.seat.known ≡ stepped 3 begun = c.begin_patch-count.ensures.known
+    ∙ (ap (λ (x : Known). stepped 1 (begins_with count x.seat x)) c.load_change-key.ensures.known
+    ∙ (ap (stepped 1) (begun_on 2 count k.seat k) ∙ steps_on 2 1 begun)) in
+    let loads = loading count c.unwrap_or.result (length (entries_in c.begin_patch-count.new.seat.known)) in
+    let one : c.load_plan-plan.new.seat.known ≡ stepped (3 + loads) begun = then_steps 3 loads _ _ _ first c.load_plan-plan.ensures.known in
+    let same : c.unwrap_or.result ≡ count_set w count = c.unwrap_or.ensures ∙ (unwrap_is c.count_after-next.result count
+    ∙ (ap (count_or count) c.count_after-next.ensures
+    ∙ ap (λ (x : Change). count_left x count) c.load_change-key.ensures.change)) in
+    let entries : length (entries_in c.begin_patch-count.new.seat.known) ≡ length k.setting.labels.entries =
+    ap (λ (x : Known). length (entries_in x)) (first ∙ ap (λ (y : Seat). stepped 3 (begins_with count y k)) at)
+    ∙ length-map k.setting.labels.entries entry_word in
+    let loaded : loads ≡ loading count (count_set w count) (length k.setting.labels.entries) = (λ i. loading count (same i) (entries i)) in
+    let stored : length (rest_in c.load_plan-plan.new.seat.known.seat) ≡ length (plan_at (setup_in k.setting) w count) =
+    ap (λ (x : Known). length (rest_in x.seat)) (one ∙ ap (λ (y : Seat). stepped (3 + loads) (begins_with count y k)) at) in
+    let last = c.acknowledge_patch-found.result == 1 in
+    let all = 4 + patching k.setting w count + raising last in
+    let sum : (3 + loads) + length (rest_in c.load_plan-plan.new.seat.known.seat) + 1 + raising last ≡ all = omega (arith, loaded, stored) in
     let two = c.requires.disabled in
     let acked : c.acknowledged-visit.result.acked ≡ c.args.visit.acked + 1 = ap (λ (v : Visit). v.acked) c.acknowledged-visit.ensures in
     let next : c.acknowledged-visit.result.acked + 1 ≡ 4 = omega arith in
     let answer : c.answer_for.result ≡ patch_answer w count =
     c.answer_for.ensures ∙ ap answer_for (c.count_after-next.ensures ∙ ap (λ (x : Change). count_after x count) c.load_change-key.ensures.change) in (
       count,
-      subst (λ n. Moment k (Key n) count) c.load_change-key.ensures.key
+      subst (λ n. Moment (stepped 2 k) (Key n) count) c.load_change-key.ensures.key
           (subst (λ (x : Known). Moment x (Key c.load_change-key.result.0) count) c.load_change-key.ensures.known c.begin_patch-count.ensures.then),
-      patch_ends k c.args.visit.slot w count (is_at_run _ _ c.args.visit c.requires) _ _ _ _ c.acknowledge_patch-found.result c.answer_for.result _ one
-          c.store_plan.ensures.known answer c.acknowledge_patch-found.ensures.known c.pass.ensures.known next,
+      (
+        last,
+        patch_ends k c.args.visit.slot w count at _ _ _ _ c.acknowledge_patch-found.result c.answer_for.result _ _ _ _ all one
+            c.store_plan.ensures.known answer c.acknowledge_patch-found.ensures.known c.pass.ensures.known next sum,
+      ),
       c.acknowledged-visit.ensures,
     )

@@ -1,5 +1,6 @@
 use Rattle.std.proofs.Common.{◌≡◌, true, rules, ap, sym, subst, ◌∙◌}
 use Rattle.smp_mask.specs.Mask.{has}
+use Rattle.smp_stop_steps.specs.Known.{stepped}
 use Rattle.smp_stop_steps.specs.KnownAfter.{looked_known}
 use Rattle.smp_stop_steps.specs.declared.phase.TheConstants.{DISABLE_IRQ, RUN}
 use Rattle.smp_multi.specs.Names.{Patch}
@@ -18,9 +19,9 @@ returns-then-eq-clause-answers g c =
     let active : has v.active k.number ≡ true = search rules in
     let disabled : v.acked ≡ DISABLE_IRQ = search rules in
     let kind : v.kind ≡ Patch = search rules in
-    let looked = c.look-state.ensures.known ∙ ap (λ n. looked_known n k) run in (
+    let looked = c.look-state.ensures.known ∙ ap (λ n. stepped 1 (looked_known n k)) run in (
       disabled,
       active,
       subst (HasRun leads k c.patch_on-visit.new.seat.known v c.patch_on-visit.result f f) (sym kind)
-          (has_patched leads k c.look-state.new.seat.known c.patch_on-visit.new.seat.known v c.patch_on-visit.result f p.0 looked p.1 p.2 p.3),
+          (has_patched leads k c.look-state.new.seat.known c.patch_on-visit.new.seat.known v c.patch_on-visit.result f p.0 p.2.0 looked p.1 p.2.1 p.3),
     )

@@ -1,9 +1,11 @@
 use Rattle.std.proofs.Common.{arith, ap, ◌∙◌, sym}
+use Rattle.smp_stop_steps.specs.Known.{stepped}
 use Rattle.smp_stop_steps.specs.declared.phase.TheConstants.{RUN}
 use Rattle.smp_multi.specs.Names.{Known, Multi, Rests}
 use Rattle.smp_multi.specs.Names.field
 use Rattle.smp_multi.specs.Places.{work_in}
 use Rattle.smp_multi.specs.Running.{calls_now}
+use Rattle.smp_multi.proofs.Counting.{then_steps}
 use Rattle.smp_multi.proofs.Entering.{finds_func, finds_arg}
 use Rattle.smp_multi.proofs.Running.{small_func}
 use Rattle.smp_multi.proofs.Turning.{ready_func, ready_arg, known_arg, run_moved, run_alone}
@@ -31,7 +33,8 @@ returns-clause-known c =
     let m = run_moved _ c.args.seat.now c.load-number.new.seat c.args.visit Multi c.requires c.load-number.ensures.table (ap (λ (v : Known). v.number) same)
     (ap (λ (v : Known). v.source) same) (ap (λ (v : Known). v.seat) same) in
     let arg = finds_arg _ c.args.visit.slot _ c.args.visit.acked RUN Rests m.at.seat_is c.load-arg.result c.load-arg.ensures.then in
-    c.load-arg.ensures.known ∙ (known_arg _ _ c.args.visit c.load-arg.result m arg ∙ ap calls_now same)
+    let called = c.load-arg.ensures.known ∙ ap (stepped 1) (known_arg _ _ c.args.visit c.load-arg.result m arg) in
+    then_steps 1 1 _ _ _ (ap calls_now same) called
 
 pub returns-clause-at : goal.returns-clause-at
 returns-clause-at c = let same = returns-clause-known c in

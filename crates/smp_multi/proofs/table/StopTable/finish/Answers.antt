@@ -18,4 +18,4 @@ returns g c =
     let several : v.kind ≢ One = search rules in
     let left : v.acked ≡ EXIT = search rules in
     subst (λ (m : CpuValue). FinishAnswers m (cpu_of e) (Ok _)) c.me.view_is
-    (finish_answers d.table d c.me.inside.number v c.me.inside.holds c.me.inside.is_open kept several left e table c.finish.ensures.known _)
+    (finish_answers d.table d c.me.inside.number v c.me.inside.holds c.me.inside.is_open kept several left e c.finish.ensures.known.0 table c.finish.ensures.known.1 _)

@@ -22,4 +22,4 @@ returns g c =
     (subst (λ (m : CpuValue). RunAnswers leads m (cpu_of e) c.args.func.now c.run_one-answer.new.func (Ok c.run_one-answer.result))
     c.me.view_is
     (run_answers leads d e c.me.inside.number c.in-Some.visit c.me.inside.holds c.me.inside.is_open c.args.func.now c.run_one-answer.new.func
-    c.run_one-answer.result kept one table c.run_one-answer.ensures.known c.run_one-answer.ensures.heard))
+    c.run_one-answer.result c.run_one-answer.ensures.known.0 kept one table c.run_one-answer.ensures.known.1 c.run_one-answer.ensures.heard))
