@@ -16,20 +16,21 @@ use Rattle.smp_words.specs.declared.field.Field.{Field}
 use Rattle.smp_words.specs.declared.field.Field.TheVariants as field
 use Rattle.smp_words.specs.declared.seen.Act.TheVariants as act
 use Rattle.smp_words.specs.declared.seen.Note.{Note}
-use Rattle.smp_words.specs.declared.word.Word.TheVariants.{Slot}
+use Rattle.smp_words.specs.declared.word.Word.TheVariants.{Gate, Slot}
 use Rattle.smp_words.specs.declared.work.Work.{Work}
 use Rattle.smp_words.proofs.Zeros.{get_or-same}
 use Rattle.smp_stop_steps.specs.Counts.{mask_weight}
 use Rattle.smp_stop_steps.specs.Known.{holds_it}
 use Rattle.smp_stop_steps.specs.Labels.{Change, Patching, Whole, Patches}
 use Rattle.smp_stop_steps.specs.Machine.{IsSoundHalf, StopTold, stop_found_at, stop_seen_at, stop_stepped}
+use Rattle.smp_stop_steps.specs.Shows.{gate_word}
 use Rattle.smp_stop_steps.specs.Slots.{begun_value}
 use Rattle.smp_stop_steps.specs.Sits.{SourceSits}
 use Rattle.smp_stop_steps.specs.Sources.{SourceShows}
 use Rattle.smp_stop_steps.specs.Stages.{StopControlValue, answer_at, change_at, stop_access, stop_goes, stop_outcome, stop_outside, store_of}
 use Rattle.smp_stop_steps.specs.Start.{stop_begun_if, stop_first, stop_refusal, stop_started}
 use Rattle.smp_stop_steps.specs.State.{Setup, StopState, no_stops}
-use Rattle.smp_stop_steps.specs.Stop.{Standing, Outside, Called, Inside, Answering, Completed, Stop, acknowledged, is_of, raised, stands}
+use Rattle.smp_stop_steps.specs.Stop.{Standing, Outside, Called, Inside, Answering, Completed, Stop, acknowledged, is_called, is_of, raised, stands}
 use Rattle.smp_stop_steps.specs.Table.{stop_number}
 use Rattle.smp_stop_steps.specs.Tells.{acknowledges, called_more, calls_now, carried, completes, drafts, enters, gate_told, is_at_run, is_patch, key_loaded}
 use Rattle.smp_stop_steps.specs.Tells.{key_patched, key_told, leaves, looked_by, looks, may_call, patch_begun, patched_more, reads, stored_open, stored_shut}
@@ -143,7 +144,8 @@ module _ (u : Setup) (p : StopState) (me c : ℕ) (ne : c ≢ me) where
 
   loads_else : (k n : ℕ) (o : Option ℕ) → Same (record p { now = key_loaded u p.now me k n o })
   loads_else k n None = reads_else (KeyRead k (is_on n))
-  loads_else k n (Some s) = begins_else k n (patch_begun u me (p.now.stop s).work n) (is_at_run ((p.now.stop s).standing me) && is_patch (p.now.stop s).work.kind)
+  loads_else k n (Some s) = begins_else k n (patch_begun u me (p.now.stop s).work n)
+      (is_at_run ((p.now.stop s).standing me) && is_patch (p.now.stop s).work.kind)
 
   patches_else : (k n : ℕ) (x y : Patching) → Same (record p { now = record (p.now) { patching = y }; patched = key_patched x p.patched me k n })
   patches_else k n Whole y = refl
@@ -336,11 +338,18 @@ module _ (v : StopsValue) (h : AreStopsApart v) where
     patched = λ k. ap (λ (x : StopPart). x.patched k) e;
   }
 
+  -- nor does the gate's word name it
+  gate_other : (g : Option ℕ) (c n : ℕ) → g ≢ Some c → n ≡ gate_word g → n ≢ c + 1
+  gate_other None c n ne e is = let z : 0 ≡ c + 1 = sym e ∙ is in omega (arith, z)
+  gate_other (Some d) c n ne e is = let z : d + 1 ≡ c + 1 = sym e ∙ is in ne (ap Some (omega (arith, z)))
+
   pub leaves_offline_stops : (online : ℕ) → v.online ≡ online → LeavesOfflineStops online v
   leaves_offline_stops online e = subst (λ (o : ℕ). LeavesOfflineStops o v) e record {
     stops = p;
     shown = h.shown;
     nothing = has_no_stop;
     outside = λ c none. ap (λ (x : StopControlValue). x.stage) (h.outside c none);
+    gate = λ c none. gate_other p.gate c (stop_number v.table Gate) (has_no_stop c none).gate h.shown.shows.gate;
+    rolls = λ s c none. (h.shown.shows.present.slots s).roll c ∙ ap is_called (stands_outside s c none);
     members = members;
   }

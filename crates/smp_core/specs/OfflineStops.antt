@@ -1,16 +1,19 @@
 -- CPUs that are not online, in the stops.
-use Rattle.std.specs.Prelude.{◌≡◌, ◌≢◌, ℕ, Bool, true, false, Option, Some, None, List, []}
+use Rattle.std.specs.Prelude.{◌≡◌, ◌≢◌, ℕ, ◌+◌, Bool, true, false, Option, Some, None, List, []}
 use Rattle.smp_mask.specs.Mask.{has}
 use Rattle.smp_stop_steps.specs.Known.{holds_it}
 use Rattle.smp_stop_steps.specs.Stages.{stop_outside}
 use Rattle.smp_stop_steps.specs.State.{StopState, no_stops, unmoved}
 use Rattle.smp_stop_steps.specs.Stop.{Outside}
+use Rattle.smp_stop_steps.specs.Table.{stop_number}
 use Rattle.smp_stop_steps.specs.Value.{StopShown, StopsValue, stop_control_of}
 use Rattle.smp_stop_steps.specs.declared.known.Calling.{Calling}
 use Rattle.smp_stop_steps.specs.declared.known.Calling.TheVariants.{Idle}
 use Rattle.smp_stop_steps.specs.declared.known.Moved.{Moved}
 use Rattle.smp_stop_steps.specs.declared.known.Reading.{Reading}
 use Rattle.smp_stop_steps.specs.declared.known.StopCall.{StopCall}
+use Rattle.smp_words.specs.declared.field.Field.TheVariants.{Roll}
+use Rattle.smp_words.specs.declared.word.Word.TheVariants.{Gate, Slot}
 use Rattle.smp_words.specs.declared.work.Work.{Work}
 
 -- all that the state of the stops has of one CPU
@@ -70,11 +73,13 @@ pub record HasNoStop (p : StopState) (cpu : ℕ) : Type 0 where
   pub nudged : (k : ℕ) → p.nudged cpu k ≡ unmoved
   pub patched : (k : ℕ) → p.patched cpu k ≡ unmoved
 
--- the words and the stages show stops in which CPUs that are not online have no part, and are outside a command; each open stop is of
--- CPUs that are online
+-- the words and the stages show stops in which CPUs that are not online have no part; they are outside a command; the gate's word and
+-- the rolls have none of them, and each open stop is of CPUs that are online
 pub record LeavesOfflineStops (online : ℕ) (v : StopsValue) : Type 0 where
   pub stops : StopState
   pub shown : StopShown stops v
   pub nothing : (cpu : ℕ) → has online cpu ≡ false → HasNoStop stops cpu
   pub outside : (cpu : ℕ) → has online cpu ≡ false → (stop_control_of v.controls cpu).stage ≡ None
+  pub gate : (cpu : ℕ) → has online cpu ≡ false → stop_number v.table Gate ≢ cpu + 1
+  pub rolls : (s cpu : ℕ) → has online cpu ≡ false → has (stop_number v.table (Slot s Roll)) cpu ≡ false
   pub members : (s cpu : ℕ) → (stops.now.stop s).is_open ≡ true → has (stops.now.stop s).work.mask cpu ≡ true → has online cpu ≡ true

@@ -36,7 +36,7 @@ impl<A: Allocator> Core<A> {
 
     /// CPUs that are not online have no part in the stops, at any time: none holds the gate, is in a stop or of the mask of an
     /// open one, or has a stop of its own begun. None has looked at a phase, called a stop function, answered, or moved the
-    /// count of a key. It makes no step, and does not wait.
+    /// count of a key. The gate's word and the rolls have none of them. It makes no step, and does not wait.
     pub fn leaves_offline_stops(&self)
         ensures { LeavesOfflineStops self.now.online self.now.stops }
     {
