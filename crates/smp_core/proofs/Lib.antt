@@ -6,6 +6,7 @@ pub mod Saying
 -- what a step changes of a core, and what it keeps
 pub mod Kept
 pub mod Offline
+pub mod OfflineStops
 pub mod Whole
 -- a list of events
 pub mod Replays

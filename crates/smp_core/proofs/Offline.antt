@@ -1,8 +1,8 @@
 -- CPUs that are not online stay as they are, by each step and by the beginning of each command.
-use Rattle.std.proofs.Common.{◌≡◌, ◌≢◌, ◌⊎◌, ℕ, ◌<◌, ◌%◌, ◌-◌, ◌==◌, Bool, true, false, cond, nat_lt, Option, Some, None, List, [], ◌∷◌, length, replicate, get_or, refl, sym, ap}
+use Rattle.std.proofs.Common.{◌≡◌, ◌≢◌, ◌⊎◌, ℕ, ◌<◌, ◌%◌, ◌-◌, ◌==◌, Bool, true, false, cond, nat_lt, Option, Some, None}
+use Rattle.std.proofs.Common.{List, [], ◌∷◌, length, replicate, get_or, refl, sym, ap}
 use Rattle.std.proofs.Common.{◌∙◌, subst, inl, inr, true≢false, arith}
 use Rattle.std.specs.Prelude.{slice_set}
-use Rattle.std.proofs.lemmas.Bool.{cases_eq}
 use Rattle.smp_mask.specs.Mask.{has}
 use Rattle.smp_words.specs.Access.{at_after, put_if, seen_of, word_of, words_after}
 use Rattle.smp_words.specs.Layout.{index_of, number_in}

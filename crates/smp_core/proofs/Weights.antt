@@ -1,5 +1,5 @@
 -- What a kept core takes.
-use Rattle.std.proofs.Common.{◌≡◌, ◌==◌, ℕ, true, Option, Some, None, ap, ◌∙◌}
+use Rattle.std.proofs.Common.{◌≡◌, ℕ, true, Option, Some, None, ap}
 use Rattle.std.proofs.lemmas.Bool.{eqb-true}
 use Rattle.smp_sparse.specs.Count.{Tells}
 use Rattle.smp_call_steps.specs.Stages.{ControlValue}

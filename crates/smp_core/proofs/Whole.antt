@@ -1,30 +1,62 @@
 -- A core stays whole, by each step and by the beginning of each command.
-use Rattle.std.proofs.Common.{◌≡◌, ℕ, ◌<◌, true, Option, Some, None, length, refl, sym, subst, ◌∙◌}
+use Rattle.std.proofs.Common.{◌≡◌, ℕ, ◌<◌, true, Option, Some, None, List, refl, sym, subst, ◌∙◌}
 use Rattle.std.proofs.lemmas.List.{length-set}
+use Rattle.std.specs.Prelude.{MatchOption}
 use Rattle.smp_mask.specs.Mask.{has}
 use Rattle.smp_words.specs.Size.{cpus}
 use Rattle.smp_words.specs.Commands.{FitsCommand}
 use Rattle.smp_words.specs.Layout.{number_in}
 use Rattle.smp_words.specs.declared.command.Command.{Command}
+use Rattle.smp_words.specs.declared.seen.Seen.{Seen}
 use Rattle.smp_call_steps.specs.Calls.{tells}
-use Rattle.smp_call_steps.specs.Stages.{access_of}
+use Rattle.smp_call_steps.specs.Stages.{ControlValue, access_of}
 use Rattle.smp_call_steps.specs.Value.{control_of}
 use Rattle.smp_call_steps.specs.declared.stage.Stage.{Stage}
 use Rattle.smp_call_steps.proofs.Machine.Cores.{length-words_after, made_shown}
 use Rattle.smp_call_steps.proofs.Machine.Starts.{online_below}
-use Rattle.smp_stop_steps.specs.Machine.{stop_seen_at}
+use Rattle.smp_stop_steps.specs.Machine.{IsStepOf, StopTold, stop_seen_at, stop_stepped}
 use Rattle.smp_stop_steps.specs.Table.{stop_number}
-use Rattle.smp_stop_steps.specs.Value.{stop_control_of}
+use Rattle.smp_stop_steps.specs.Value.{StopsValue, stop_control_of}
 use Rattle.smp_stop_steps.specs.declared.stage.StopStage.{StopStage}
 use Rattle.smp_stop_steps.proofs.Promises.StopLaws.{keeps_laws}
-use Rattle.smp_stop_steps.proofs.TheMachine.Made.{made_sound}
+use Rattle.smp_stop_steps.proofs.TheMachine.Made.{made_sound, made_told}
 use Rattle.smp_stop_steps.proofs.TheMachine.Started.{started_sound}
 use Rattle.smp_core.specs.Machine.{Stepped, call_step, found_at, seen_at, step_at, step_of, stepped, stop_step, stops_stepped}
+use Rattle.smp_core.specs.Sound.{IsSound}
 use Rattle.smp_core.specs.Start.{refusal_of, started}
 use Rattle.smp_core.specs.Value.{CoreValue}
 use Rattle.smp_core.specs.Whole.{IsWhole, KeepsLaws}
 use Rattle.smp_core.proofs.Offline.{leaves_offline, start_apart, step_apart}
+use Rattle.smp_core.proofs.OfflineStops.{leaves_offline_stops, start_stops_apart, started_told, step_stops_apart}
 use Rattle.smp_core.proofs.Starts.{may_start, start_below, started_nr, started_online, started_shown}
+
+-- a step of the stop half
+module _ (nr online : ℕ) (words : List ℕ) (controls : List ControlValue) (v : StopsValue) (cpu : ℕ) (sound : IsSound nr online words controls v) where
+  sound_stepped : (stage : StopStage) → (stop_control_of v.controls cpu).stage ≡ Some stage → StopTold v cpu stage (stop_stepped v cpu stage) →
+      IsSound nr online words controls (stop_stepped v cpu stage)
+  sound_stepped stage e told = record {
+    limits = sound.limits;
+    table = sound.table;
+    stops_nr = sound.stops_nr;
+    stops_online = sound.stops_online;
+    apart = sound.apart;
+    stops_apart = step_stops_apart v cpu sound.stops_apart stage e told;
+  }
+
+  after : (v' : StopsValue) (seen : Option Seen) (o : Option StopStage) → (stop_control_of v.controls cpu).stage ≡ o →
+      MatchOption o ((seen ≡ None) × (v' ≡ v)) (λ stage. IsStepOf v cpu stage seen v') →
+      MatchOption o (v' ≡ v) (λ stage. StopTold v cpu stage v') → IsSound nr online words controls v'
+  after v' seen None e step told = subst (IsSound nr online words controls) (sym told) sound
+  after v' seen (Some stage) e step told = subst (IsSound nr online words controls) (sym step.1)
+      (sound_stepped stage e (subst (StopTold v cpu stage) step.1 told))
+
+-- as the half promises it
+pub sound_after : (nr online : ℕ) (words : List ℕ) (controls : List ControlValue) (v v' : StopsValue) (cpu : ℕ) (seen : Option Seen) →
+    IsSound nr online words controls v →
+    MatchOption (stop_control_of v.controls cpu).stage ((seen ≡ None) × (v' ≡ v)) (λ stage. IsStepOf v cpu stage seen v') →
+    MatchOption (stop_control_of v.controls cpu).stage (v' ≡ v) (λ stage. StopTold v cpu stage v') → IsSound nr online words controls v'
+sound_after nr online words controls v v' cpu seen sound step told = after nr online words controls v cpu sound v' seen
+    (stop_control_of v.controls cpu).stage refl step told
 
 module _ (core : CoreValue) (cpu : ℕ) (w : IsWhole core) where
   in_calls : (stage : Stage) → (control_of core.controls cpu).stage ≡ Some stage → IsWhole (stepped core cpu stage)
@@ -45,19 +77,15 @@ module _ (core : CoreValue) (cpu : ℕ) (w : IsWhole core) where
           stops_nr = w.sound.stops_nr;
           stops_online = w.sound.stops_online;
           apart = step_apart core.online core.words core.controls cpu table.controls_sized w.sound.apart stage table.words_sized e;
+          stops_apart = w.sound.stops_apart;
         };
         stops = w.stops;
       }
 
   in_stops : (stage : StopStage) → (stop_control_of core.stops.controls cpu).stage ≡ Some stage → IsWhole (stops_stepped core cpu stage)
   in_stops stage e = record {
-    sound = record {
-      limits = w.sound.limits;
-      table = w.sound.table;
-      stops_nr = w.sound.stops_nr;
-      stops_online = w.sound.stops_online;
-      apart = w.sound.apart;
-    };
+    sound = sound_stepped core.nr core.online core.words core.controls core.stops cpu w.sound stage e (made_told core.stops w.stops cpu stage
+        (stop_seen_at core.stops cpu stage) _ _ record { at_stage = e; is_table = refl; is_controls = refl; is_seen = refl });
     stops = made_sound core.stops w.stops cpu stage (stop_seen_at core.stops cpu stage) _ _
         record { at_stage = e; is_table = refl; is_controls = refl; is_seen = refl };
   }
@@ -96,6 +124,8 @@ module _ (core : CoreValue) (cpu : ℕ) (w : IsWhole core) where
           stops_online = started_online core.stops cpu c ∙ w.sound.stops_online;
           apart = start_apart core.online core.words core.controls cpu table.controls_sized w.sound.apart core.nr c low m.is_online m.is_allowed
               (started_shown w.sound.apart.calls core cpu c w.sound.limits table.controls_sized allowed fits w.sound.apart.shown);
+          stops_apart = start_stops_apart core.stops cpu w.sound.stops_apart c online
+              (started_told core.stops w.stops cpu low m.is_stop_outside below online c fits m.is_stop_allowed);
         };
         stops = started_sound core.stops w.stops cpu low m.is_stop_outside below online c fits m.is_stop_allowed;
       }
@@ -108,6 +138,7 @@ whole_keeps core w =
       calls = w.sound.table.calls;
       shows_calls = w.sound.table.shown;
       offline = leaves_offline core.online core.words core.controls w.sound.apart;
+      offline_stops = leaves_offline_stops core.stops w.sound.stops_apart core.online w.sound.stops_online;
       stops = p;
       shows_stops = shown;
       stop_laws = keeps_laws _ p (stop_number core.stops.table) shown.seat shown.source shown.shows;

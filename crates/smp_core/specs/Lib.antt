@@ -2,6 +2,7 @@
 pub mod Value
 pub mod Sound
 pub mod Offline
+pub mod OfflineStops
 pub mod New
 -- its commands and its steps
 pub mod Start

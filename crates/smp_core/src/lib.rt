@@ -12,9 +12,10 @@
 //! |---|---|---|
 //! | `start` | puts a CPU at the beginning of a command, by no step | E1, E2, or the command's own refusal |
 //! | `step` | makes one atomic step of a CPU's command | what was seen of it, or E10 |
-//! | `turn`, `replay` | makes one event, or a list of them | what was seen, up to the first refusal |
+//! | `apply`, `replay` | makes one event, or a list of them | what was seen, up to the first refusal |
 //! | `word`, `queue`, `place`, `tally`, `phase` | nothing | a word, a queue, the place of a record, two counts, a phase |
 //! | `copy`, `is_same` | nothing | the same core once more, or whether two are the same |
+//! | `leaves_offline`, `leaves_offline_stops`, `keeps_stop_laws`, .. (`machine/laws.rt`) | nothing | nothing: each clause is a law of every core |
 #![tactic(auto)]
 
 pub mod events;

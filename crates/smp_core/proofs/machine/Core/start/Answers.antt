@@ -9,6 +9,7 @@ use Rattle.smp_call_steps.specs.Start.{first_stage, control_at}
 use Rattle.smp_core.specs.Value.{CoreValue}
 use Rattle.smp_call_steps.specs.Value.{ValuesShow, control_of, outside}
 use Rattle.smp_core.proofs.Offline.{start_apart}
+use Rattle.smp_core.proofs.OfflineStops.{start_stops_apart}
 use Rattle.smp_core.proofs.Starts.{may_start, started_shown, started_nr, started_online, start_below}
 use Rattle.smp_call_steps.proofs.Machine.Starts.{names_record}
 use Rattle.smp_core.proofs.Insides.{started_inside}
@@ -91,6 +92,10 @@ invariant_of-self g c =
           c.self.invariant.table.controls_sized c.self.invariant.apart c.self.inside.nr c.args.command low m.is_online m.is_allowed
           (started_shown c.self.invariant.apart.calls (before g c.before) c.args.cpu c.args.command c.self.invariant.limits
           c.self.invariant.table.controls_sized (allowed g c.before) (fits g c.before) c.self.invariant.apart.shown));
+      stops_apart =
+          let m = may_start (before g c.before) c.args.cpu c.args.command (allowed g c.before) in
+          rw c.start.ensures.started (start_stops_apart c.self.inside.stops c.args.cpu c.self.invariant.stops_apart c.args.command
+          (rw c.self.invariant.stops_online m.is_online) (rw c.start.ensures.started at c.start.ensures.told));
     }
 
 pub returns-clause-told : goal.returns-clause-told

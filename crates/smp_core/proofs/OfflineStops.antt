@@ -1,0 +1,355 @@
+-- CPUs that are not online have no part in the stops: a step and the beginning of a command keep it.
+use Rattle.std.proofs.Common.{◌≡◌, ◌≢◌, ℕ, ◌+◌, ◌<◌, nat_lt, Bool, true, false, ◌==◌, ◌&&◌, not, cond, Option, Some, None, List, [], ◌∷◌, ◌++◌, replicate, refl}
+use Rattle.std.proofs.Common.{sym, subst, ap, ◌∙◌, true≢false, ne_eqb, eq-eqb, arith}
+use Rattle.std.proofs.lemmas.Bool.{ltb-true, ltb-false}
+use Rattle.std.proofs.lemmas.List.{get_or-set_other}
+use Rattle.std.specs.Prelude.{slice_set}
+use Rattle.smp_mask.specs.Mask.{has}
+use Rattle.smp_labels.specs.Keys.{is_on}
+use Rattle.smp_labels.specs.declared.patch.Place.TheVariants as place
+use Rattle.smp_words.specs.Access.{seen_of}
+use Rattle.smp_words.specs.Size.{cpus}
+use Rattle.smp_words.specs.Put.{put}
+use Rattle.smp_words.specs.Commands.{FitsCommand}
+use Rattle.smp_words.specs.declared.command.Command.{Command}
+use Rattle.smp_words.specs.declared.field.Field.{Field}
+use Rattle.smp_words.specs.declared.field.Field.TheVariants as field
+use Rattle.smp_words.specs.declared.seen.Act.TheVariants as act
+use Rattle.smp_words.specs.declared.seen.Note.{Note}
+use Rattle.smp_words.specs.declared.word.Word.TheVariants.{Gate, Slot}
+use Rattle.smp_words.specs.declared.work.Work.{Work}
+use Rattle.smp_words.proofs.Zeros.{get_or-same}
+use Rattle.smp_stop_steps.specs.Counts.{mask_weight}
+use Rattle.smp_stop_steps.specs.Known.{holds_it}
+use Rattle.smp_stop_steps.specs.Labels.{Change, Patching, Whole, Patches}
+use Rattle.smp_stop_steps.specs.Machine.{IsSoundHalf, StopTold, stop_found_at, stop_seen_at, stop_stepped}
+use Rattle.smp_stop_steps.specs.Shows.{gate_word}
+use Rattle.smp_stop_steps.specs.Slots.{begun_value}
+use Rattle.smp_stop_steps.specs.Sits.{SourceSits}
+use Rattle.smp_stop_steps.specs.Sources.{SourceShows}
+use Rattle.smp_stop_steps.specs.Stages.{StopControlValue, answer_at, change_at, stop_access, stop_goes, stop_outcome, stop_outside, store_of}
+use Rattle.smp_stop_steps.specs.Start.{stop_begun_if, stop_first, stop_refusal, stop_started}
+use Rattle.smp_stop_steps.specs.State.{Setup, StopState, no_stops}
+use Rattle.smp_stop_steps.specs.Stop.{Standing, Outside, Called, Inside, Answering, Completed, Stop, acknowledged, is_called, is_of, raised, stands}
+use Rattle.smp_stop_steps.specs.Table.{stop_number}
+use Rattle.smp_stop_steps.specs.Tells.{acknowledges, called_more, calls_now, carried, completes, drafts, enters, gate_told, is_at_run, is_patch, key_loaded}
+use Rattle.smp_stop_steps.specs.Tells.{key_patched, key_told, leaves, looked_by, looks, may_call, patch_begun, patched_more, reads, stored_open, stored_shut}
+use Rattle.smp_stop_steps.specs.Tells.{tells, unpatched, with_stop}
+use Rattle.smp_stop_steps.specs.Value.{StopShown, StopsValue, setup_of, stop_control_of}
+use Rattle.smp_stop_steps.specs.declared.known.Calling.{Calling}
+use Rattle.smp_stop_steps.specs.declared.known.Calling.TheVariants.{Idle, Calls, Carries}
+use Rattle.smp_stop_steps.specs.declared.known.Reading.{Reading}
+use Rattle.smp_stop_steps.specs.declared.known.Reading.TheVariants.{ReadKey as KeyRead, ReadSite as SiteRead}
+use Rattle.smp_stop_steps.specs.declared.known.Source.{Source}
+use Rattle.smp_stop_steps.specs.declared.known.Source.TheVariants.{Shut, Drafts, Owns, Collects}
+use Rattle.smp_stop_steps.specs.declared.phase.TheConstants.{DISABLE_IRQ, RUN, EXIT, OVER}
+use Rattle.smp_stop_steps.specs.declared.stage.CompletionStage.{CompletionStage}
+use Rattle.smp_stop_steps.specs.declared.stage.CompletionStage.TheVariants as completion
+use Rattle.smp_stop_steps.specs.declared.stage.RoundStage.{RoundStage}
+use Rattle.smp_stop_steps.specs.declared.stage.RoundStage.TheVariants as round
+use Rattle.smp_stop_steps.specs.declared.stage.StopStage.{StopStage}
+use Rattle.smp_stop_steps.specs.declared.stage.StopStage.TheVariants.{TakeGate, OpenGate, Begin, Enter, EnterKind, EnterMask, EnterActive, Advance, Complete}
+use Rattle.smp_stop_steps.specs.declared.stage.StopStage.TheVariants.{Close, LoadDone, LoadResult, ReadKey, ReadSite, NudgeKey, ExchangeKey}
+use Rattle.smp_stop_steps.specs.declared.stage.Visit.{Visit}
+use Rattle.smp_stop_steps.proofs.TheMachine.Begun.{begun_value_shown}
+use Rattle.smp_stop_steps.proofs.TheMachine.Starting.{may_begin}
+use Rattle.smp_core.specs.OfflineStops.{AreStopsApart, HasNoStop, LeavesOfflineStops, StopPart, stop_part_of}
+
+-- a step leaves the part of each other CPU, but for the gate
+
+module _ (u : Setup) (p : StopState) (me c : ℕ) (ne : c ≢ me) where
+  abbrev Same : StopState → Type 0
+  Same q = stop_part_of q c ≡ stop_part_of p c
+
+  off : (c == me) ≡ false
+  off = ne_eqb c me ne
+
+  raises_else : (s : ℕ) (w : Work) (stop : Stop) (b : Bool) →
+      Same (record p { now = cond b (leaves (with_stop p.now s stop) me s w) (with_stop p.now s stop) })
+  raises_else s w stop true = rw off refl
+  raises_else s w stop false = refl
+
+  open_else : (s v : ℕ) (f : Field) → Same (stored_open p me s f v)
+  open_else s v field.State = raises_else s (p.now.stop s).work (raised (p.now.stop s) v) (v == OVER)
+  open_else s v field.Ack = refl
+  open_else s v field.Result = refl
+  open_else s v field.Done = refl
+  open_else s v _ = refl
+
+  shut_else : (v : ℕ) (f : Field) → Same (stored_shut p me f v)
+  shut_else v field.Roll = rw off refl
+  shut_else v _ = refl
+
+  -- a store to the CPU's own slot, and one to a slot that drafts nothing
+  own_else : (v : ℕ) (f : Field) (b : Bool) → Same (cond b (stored_open p me me f v) (stored_shut p me f v))
+  own_else v f true = open_else me v f
+  own_else v f false = shut_else v f
+
+  stored_else : (s v : ℕ) (f : Field) (b : Bool) → Same (cond b (stored_open p me s f v) (record p { now = drafts p.now s f v }))
+  stored_else s v f true = open_else s v f
+  stored_else s v f false = refl
+
+  enters_else : (s : ℕ) (b : Bool) → Same (cond b (record p { now = enters p.now me s }) p)
+  enters_else s true = rw off refl
+  enters_else s false = refl
+
+  looks_if : (s n : ℕ) (stop : Stop) (b : Bool) → Same (record p {
+    now = record (p.now) { stop = put p.now.stop s stop; irq = cond b (put p.now.irq me false) p.now.irq };
+    looks = put p.looks me (p.looks me ++ n ∷ []);
+  })
+  looks_if s n stop true = rw off refl
+  looks_if s n stop false = rw off refl
+
+  looks_else : (s n : ℕ) → Same (looks p me s n)
+  looks_else s n = looks_if s n (stands (p.now.stop s) me (looked_by ((p.now.stop s).standing me) n)) (n == DISABLE_IRQ)
+
+  calls_else : (w : Work) (arg answer : ℕ) (b : Bool) → Same (cond b (calls_now p me w arg answer) p)
+  calls_else w arg answer true = rw off refl
+  calls_else w arg answer false = refl
+
+  called_else : (f : Calling) → called_more p.calls me f c ≡ p.calls c
+  called_else (Calls call) = rw off refl
+  called_else (Carries answer) = refl
+  called_else Idle = refl
+
+  acked_if : (s : ℕ) (w : Work) (stop : Stop) (y : Patching) (g : Calling) (left at_run : Bool) → Same (record p {
+    now = cond left (leaves (record (p.now) { stop = put p.now.stop s stop; patching = y }) me s w)
+        (record (p.now) { stop = put p.now.stop s stop; patching = y });
+    calls = cond at_run (called_more p.calls me (p.calling me)) p.calls;
+    calling = cond at_run (put p.calling me g) p.calling;
+  })
+  acked_if s w stop y g true true = rw (called_else (p.calling me), off) refl
+  acked_if s w stop y g true false = rw off refl
+  acked_if s w stop y g false true = rw (called_else (p.calling me), off) refl
+  acked_if s w stop y g false false = refl
+
+  acknowledges_else : (s n : ℕ) (x : Standing) → Same (acknowledges p me s x n)
+  acknowledges_else s n (Inside a l) = acked_if s (acknowledged (p.now.stop s) me l n).work (acknowledged (p.now.stop s) me l n)
+      (cond (l == RUN) (unpatched me p.now.patching) p.now.patching) (carried me p.now.patching (p.calling me)) (l == EXIT && not (n == 1)) (l == RUN)
+  acknowledges_else s n _ = refl
+
+  completes_else : (s n : ℕ) (x : Standing) → Same (completes p me s x n)
+  completes_else s n (Inside a l) = rw (called_else (p.calling me), off) refl
+  completes_else s n (Answering a v) = rw (called_else (p.calling me), off) refl
+  completes_else s n _ = refl
+
+  -- a load of a key, a store of a patch, and a nudge
+
+  reads_else : (r : Reading) → Same (record p { now = reads p.now me r })
+  reads_else r = rw off refl
+
+  begins_else : (k n : ℕ) (y : Patching) (b : Bool) → Same (record p { now = cond b (record (p.now) { patching = y }) (reads p.now me (KeyRead k (is_on n))) })
+  begins_else k n y true = refl
+  begins_else k n y false = reads_else (KeyRead k (is_on n))
+
+  loads_else : (k n : ℕ) (o : Option ℕ) → Same (record p { now = key_loaded u p.now me k n o })
+  loads_else k n None = reads_else (KeyRead k (is_on n))
+  loads_else k n (Some s) = begins_else k n (patch_begun u me (p.now.stop s).work n)
+      (is_at_run ((p.now.stop s).standing me) && is_patch (p.now.stop s).work.kind)
+
+  patches_else : (k n : ℕ) (x y : Patching) → Same (record p { now = record (p.now) { patching = y }; patched = key_patched x p.patched me k n })
+  patches_else k n Whole y = refl
+  patches_else k n (Patches cpu w count made rest) y = rw off refl
+
+  change_else : (change : Change) (n : ℕ) (said : Option Note) → Same (tells u p (seen_of me (store_of change) n said) 0)
+  change_else (place.Key k, new) n said = patches_else k new p.now.patching (patched_more p.now.patching)
+  change_else (place.Site i, new) n said = refl
+
+  nudges_else : (k found new : ℕ) (b : Bool) → Same (key_told u p me k act.Cas (Some found) (cond b (Some new) None))
+  nudges_else k found new true = rw off refl
+  nudges_else k found new false = refl
+
+  -- by the stages
+
+  module _ (n : ℕ) (changes : List Change) (found : ℕ) (said : Option Note) where
+    abbrev After : StopStage → StopState
+    After stage = tells u p (seen_of me (stop_access n me changes stage) found said) (answer_at stage)
+
+    round_else : (v : Visit) (stage : RoundStage) → Same (After (Advance v stage))
+    round_else v (round.Look answer) = looks_else v.slot found
+    round_else v (round.LoadFunc answer) = refl
+    round_else v (round.LoadArg answer func) = calls_else (p.now.stop v.slot).work found answer
+        (may_call me (p.now.stop v.slot).work ((p.now.stop v.slot).standing me))
+    round_else v (round.LoadKey key change) = loads_else key found (p.now.inside me)
+    round_else v (round.LoadEntry key word site) = refl
+    round_else v (round.StoreChange made) = change_else (change_at changes made) found said
+    round_else v (round.Acknowledge answer ran) = acknowledges_else v.slot found ((p.now.stop v.slot).standing me)
+    round_else v (round.Refill ran) = stored_else v.slot (mask_weight n v.mask) field.Ack (p.now.stop v.slot).is_open
+    round_else v (round.Raise ran) = stored_else v.slot (v.acked + 1) field.State (p.now.stop v.slot).is_open
+
+    completion_else : (v : Visit) (stage : CompletionStage) → Same (After (Complete v stage))
+    completion_else v (completion.LoadFunc answer) = refl
+    completion_else v (completion.LoadArg answer func) = calls_else (p.now.stop v.slot).work found answer
+        (may_call me (p.now.stop v.slot).work ((p.now.stop v.slot).standing me))
+    completion_else v completion.StoreAnswer = stored_else v.slot v.answer field.Result (p.now.stop v.slot).is_open
+    completion_else v completion.CountDown = completes_else v.slot found ((p.now.stop v.slot).standing me)
+
+    -- of another CPU that has no part
+    abbrev HasNone : StopState → Type 0
+    HasNone q = stop_part_of q c ≡ stop_part_of no_stops c
+
+    gate_else : HasNone p → (b : Bool) → HasNone (gate_told p me act.Cas (cond b (Some (me + 1)) None))
+    gate_else h true = rw (ne_eqb me c (λ same. ne (sym same))) (ap (λ (x : StopPart). record x { holds = false }) h)
+    gate_else h false = h
+
+    stage_else : HasNone p → (stage : StopStage) → HasNone (After stage)
+    stage_else h TakeGate = gate_else h (found == 0)
+    stage_else h OpenGate = ap (λ (x : StopPart). record x { holds = false }) h
+    stage_else h (Begin work f) = own_else (begun_value n work f) f (p.now.stop me).is_open ∙ h
+    stage_else h (Enter slot) = enters_else slot (has found me) ∙ h
+    stage_else h (EnterKind slot) = h
+    stage_else h (EnterMask slot kind) = h
+    stage_else h (EnterActive slot kind mask) = h
+    stage_else h (Advance v stage) = round_else v stage ∙ h
+    stage_else h (Complete v stage) = completion_else v stage ∙ h
+    stage_else h (Close slot) = stored_else slot 1 field.Done (p.now.stop slot).is_open ∙ h
+    stage_else h LoadDone = h
+    stage_else h LoadResult = let e : Same (After LoadResult) = rw off refl in e ∙ h
+    stage_else h (ReadKey k) = loads_else k found (p.now.inside me) ∙ h
+    stage_else h (ReadSite i) = reads_else (SiteRead i (is_on found)) ∙ h
+    stage_else h (NudgeKey k up) = loads_else k found (p.now.inside me) ∙ h
+    stage_else h (ExchangeKey k expected new) = nudges_else k found new (found == expected) ∙ h
+
+-- a step, and the beginning of a command, of a CPU that is online
+
+module _ (v : StopsValue) (cpu : ℕ) (before : AreStopsApart v) where
+  inside_online : (stage : StopStage) → (stop_control_of v.controls cpu).stage ≡ Some stage → has v.online cpu ≡ true
+  inside_online stage e = is_on (has v.online cpu) refl
+    where
+      is_on : (b : Bool) → has v.online cpu ≡ b → has v.online cpu ≡ true
+      is_on true f = f
+      is_on false f = absurd (let none : None ≡ Some stage = sym (ap (λ (x : StopControlValue). x.stage) (before.outside cpu f)) ∙ e in cc)
+
+  apart : (j : ℕ) → has v.online cpu ≡ true → has v.online j ≡ false → j ≢ cpu
+  apart j on none e = true≢false (sym on ∙ (ap (has v.online) (sym e) ∙ none))
+
+  still_outside : (control : StopControlValue) → has v.online cpu ≡ true → (j : ℕ) → has v.online j ≡ false →
+      stop_control_of (slice_set v.controls cpu control) j ≡ stop_outside
+  still_outside control on j none = get_or-set_other v.controls cpu j control stop_outside (apart j on none) ∙ before.outside j none
+
+  pub step_stops_apart : (stage : StopStage) → (stop_control_of v.controls cpu).stage ≡ Some stage → StopTold v cpu stage (stop_stepped v cpu stage)
+      → AreStopsApart (stop_stepped v cpu stage)
+  step_stops_apart stage e told =
+      let on = inside_online stage e in
+      record {
+        stops = tells (setup_of v.online v.labels) before.stops (stop_seen_at v cpu stage) (answer_at stage);
+        shown = told before.stops before.shown;
+        outside = λ j none. still_outside (stop_outcome cpu (stop_control_of v.controls cpu) stage (stop_found_at v cpu stage)).control on j none;
+        idle = λ j none. stage_else (setup_of v.online v.labels) before.stops cpu j (apart j on none) cpus (stop_control_of v.controls cpu).changes
+            (stop_found_at v cpu stage) (stop_outcome cpu (stop_control_of v.controls cpu) stage (stop_found_at v cpu stage)).note (before.idle j none) stage;
+      }
+
+  pub start_stops_apart : (c : Command) → has v.online cpu ≡ true → ((p : StopState) → StopShown p v → StopShown p (stop_started v cpu c))
+      → AreStopsApart (stop_started v cpu c)
+  start_stops_apart c on shown = go (stop_first (stop_control_of v.controls cpu) c) shown
+    where
+      go : (o : Option StopStage) → ((p : StopState) → StopShown p v → StopShown p (stop_begun_if v cpu o)) → AreStopsApart (stop_begun_if v cpu o)
+      go None shown = before
+      go (Some stage) shown = record {
+        stops = before.stops;
+        shown = shown before.stops before.shown;
+        outside = λ j none. still_outside (stop_goes (stop_control_of v.controls cpu) stage).control on j none;
+        idle = before.idle;
+      }
+
+-- a command that may start leaves the stops that the half shows
+pub started_told : (v : StopsValue) → IsSoundHalf v → (cpu : ℕ) → cpu < cpus → (stop_control_of v.controls cpu).stage ≡ None →
+    ((k : ℕ) → has v.online k ≡ true → k < cpus) → has v.online cpu ≡ true → (c : Command) → FitsCommand c → stop_refusal v cpu c ≡ None →
+    (p : StopState) → StopShown p v → StopShown p (stop_started v cpu c)
+started_told v sound cpu low outside below online c fits allowed p shown = go (stop_first (stop_control_of v.controls cpu) c) refl
+  where
+    go : (o : Option StopStage) → stop_first (stop_control_of v.controls cpu) c ≡ o → StopShown p (stop_begun_if v cpu o)
+    go None first = shown
+    go (Some stage) first = begun_value_shown (setup_of v.online v.labels) p v.table v.controls shown cpu low
+        (let sized = sound.sized in omega (arith, low)) stage outside (may_begin v cpu c stage low below online fits allowed first)
+
+-- a new half
+pub new_stops_apart : (v : StopsValue) → StopShown no_stops v → v.controls ≡ replicate cpus stop_outside → AreStopsApart v
+new_stops_apart v shown e = record {
+  stops = no_stops;
+  shown = shown;
+  outside = λ cpu none. rw e (get_or-same stop_outside cpus cpu);
+  idle = λ cpu none. refl;
+}
+
+-- what that says of the stops
+
+not_holder : (g : Option ℕ) (c : ℕ) → holds_it g c ≡ false → g ≢ Some c
+not_holder g c e is = true≢false (sym (eq-eqb c c refl) ∙ (ap (λ (o : Option ℕ). holds_it o c) (sym is) ∙ e))
+
+not_of : (x : Standing) → is_of x ≡ false → x ≡ Outside
+not_of Outside e = refl
+not_of Called e = absurd (true≢false e)
+not_of (Inside a l) e = absurd (true≢false e)
+not_of (Answering a v) e = absurd (true≢false e)
+not_of (Completed a v) e = absurd (true≢false e)
+
+-- the stop of a source that is open is of CPUs that are online
+of_online : (u : Setup) (gate : Option ℕ) (stop : Stop) (word : Field → ℕ) (s : ℕ) (y : Source) → SourceShows u gate stop word s y → stop.is_open ≡ true →
+    (c : ℕ) → has stop.work.mask c ≡ true → u.online c ≡ true
+of_online u gate stop word s Shut h opened c m = absurd (true≢false (sym opened ∙ h))
+of_online u gate stop word s (Drafts w k) h opened c m = absurd (true≢false (sym opened ∙ h.shut))
+of_online u gate stop word s (Owns w) h opened c m = h.is_work.online c (subst (λ (x : Work). has x.mask c ≡ true) h.work_is m)
+of_online u gate stop word s (Collects w) h opened c m = h.0.is_work.online c (subst (λ (x : Work). has x.mask c ≡ true) h.0.work_is m)
+
+module _ (v : StopsValue) (h : AreStopsApart v) where
+  abbrev p : StopState
+  p = h.stops
+
+  members : (s c : ℕ) → (p.now.stop s).is_open ≡ true → has (p.now.stop s).work.mask c ≡ true → has v.online c ≡ true
+  members s c opened m = of_online (setup_of v.online v.labels) p.gate (p.now.stop s) (λ f. stop_number v.table (Slot s f)) s (h.shown.source s)
+      (h.shown.shows.sources s) opened c m
+
+  not_member : (s c : ℕ) → has v.online c ≡ false → (b d : Bool) → (p.now.stop s).is_open ≡ b → has (p.now.stop s).work.mask c ≡ d → (b && d) ≡ false
+  not_member s c none true true opened m = absurd (true≢false (sym (members s c opened m) ∙ none))
+  not_member s c none true false opened m = refl
+  not_member s c none false d opened m = refl
+
+  stands_outside : (s c : ℕ) → has v.online c ≡ false → (p.now.stop s).standing c ≡ Outside
+  stands_outside s c none = not_of ((p.now.stop s).standing c) ((h.shown.shows.present.slots s).members c
+      ∙ not_member s c none (p.now.stop s).is_open (has (p.now.stop s).work.mask c) refl refl)
+
+  -- it is no source of an open stop
+  source_shut : (c : ℕ) → has v.online c ≡ false → (b : Bool) → nat_lt c cpus ≡ b → h.shown.source c ≡ Shut
+  source_shut c none true low =
+      let below = ltb-true c cpus low in
+      subst (λ (x : StopControlValue). SourceSits x.is_open x.stage (h.shown.source c)) (h.outside c none) (h.shown.sits c below).source
+  source_shut c none false high = h.shown.shut c (ltb-false c cpus high)
+
+  own_shut : (c : ℕ) → has v.online c ≡ false → (p.now.stop c).is_open ≡ false
+  own_shut c none = subst (SourceShows (setup_of v.online v.labels) p.gate (p.now.stop c) (λ f. stop_number v.table (Slot c f)) c)
+      (source_shut c none (nat_lt c cpus) refl) (h.shown.shows.sources c)
+
+  has_no_stop : (c : ℕ) → has v.online c ≡ false → HasNoStop p c
+  has_no_stop c none = let e = h.idle c none in record {
+    gate = not_holder p.gate c (ap (λ (x : StopPart). x.holds) e);
+    inside = ap (λ (x : StopPart). x.inside) e;
+    standing = λ s. stands_outside s c none;
+    irq = ap (λ (x : StopPart). x.irq) e;
+    shut = own_shut c none;
+    begun = ap (λ (x : StopPart). x.begun) e;
+    collected = ap (λ (x : StopPart). x.collected) e;
+    answers = λ s. ap (λ (x : StopPart). x.answers s) e;
+    looks = ap (λ (x : StopPart). x.looks) e;
+    calls = ap (λ (x : StopPart). x.calls) e;
+    calling = ap (λ (x : StopPart). x.calling) e;
+    readings = ap (λ (x : StopPart). x.readings) e;
+    nudged = λ k. ap (λ (x : StopPart). x.nudged k) e;
+    patched = λ k. ap (λ (x : StopPart). x.patched k) e;
+  }
+
+  -- nor does the gate's word name it
+  gate_other : (g : Option ℕ) (c n : ℕ) → g ≢ Some c → n ≡ gate_word g → n ≢ c + 1
+  gate_other None c n ne e is = let z : 0 ≡ c + 1 = sym e ∙ is in omega (arith, z)
+  gate_other (Some d) c n ne e is = let z : d + 1 ≡ c + 1 = sym e ∙ is in ne (ap Some (omega (arith, z)))
+
+  pub leaves_offline_stops : (online : ℕ) → v.online ≡ online → LeavesOfflineStops online v
+  leaves_offline_stops online e = subst (λ (o : ℕ). LeavesOfflineStops o v) e record {
+    stops = p;
+    shown = h.shown;
+    nothing = has_no_stop;
+    outside = λ c none. ap (λ (x : StopControlValue). x.stage) (h.outside c none);
+    gate = λ c none. gate_other p.gate c (stop_number v.table Gate) (has_no_stop c none).gate h.shown.shows.gate;
+    rolls = λ s c none. (h.shown.shows.present.slots s).roll c ∙ ap is_called (stands_outside s c none);
+    members = members;
+  }
