@@ -91,9 +91,12 @@ active_alone online None mask me is least =
     let same : is.0 ≡ me = least_same (λ c. has online c) is.0 me is.1 least in
     (least.passing, is.2 me ∙ eq-eqb me is.0 (sym same), λ cpu there active. eqb-true cpu is.0 (sym (is.2 cpu) ∙ active) ∙ same)
 active_alone online (Some given) mask me is alone =
-    let mine = and_parts (has given me) (has online me) (alone me ∙ eq-eqb me me refl) in
-    (mine.1, ap (λ (m : ℕ). has m me) is ∙ mine.0, λ cpu there active.
-    eqb-true cpu me (sym (alone cpu) ∙ both_true (has given cpu) (has online cpu) (sym (ap (λ (m : ℕ). has m cpu) is) ∙ active) there))
+    let mine = and_parts (has given me) (has online me) (alone me ∙ eq-eqb me me refl) in (
+      mine.1,
+      ap (λ (m : ℕ). has m me) is ∙ mine.0,
+      λ cpu there active.
+          eqb-true cpu me (sym (alone cpu) ∙ both_true (has given cpu) (has online cpu) (sym (ap (λ (m : ℕ). has m cpu) is) ∙ active) there),
+    )
 
 -- ---- a stop of which the CPU alone may answer
 

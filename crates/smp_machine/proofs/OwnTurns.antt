@@ -132,7 +132,7 @@ module _ {F : Type 0} (leads : F → Called → F → Type 0) (old new : StopCpu
       inside None is =
           let same = (t.none is).0 in
           own_still old new (ap (λ (c : StopCpuValue). c.part.calls) same) begun pending (ap (λ (c : StopCpuValue). c.part.answers) same)
-              (λ stop i at. sym (ap (λ (c : StopCpuValue). c.inside) same) ∙ i) (ap (λ (c : StopCpuValue). c.part.calling) same)
+          (λ stop i at. sym (ap (λ (c : StopCpuValue). c.inside) same) ∙ i) (ap (λ (c : StopCpuValue). c.part.calling) same)
       inside (Some stop) is = of_kind stop is stop.work.kind refl
 
 -- a look, and then a turn of a stop

@@ -11,8 +11,8 @@ pub use Rattle.smp_words.specs.declared.work.Kind.TheVariants.{One, Multi, Patch
 pub use Rattle.smp_words.specs.declared.work.Work.{Work}
 pub use Rattle.smp_stop_steps.specs.declared.known.Seat.{Seat}
 pub use Rattle.smp_stop_steps.specs.declared.known.Seat.TheVariants.{Free, In, Gives, Alters, Closes}
-pub use Rattle.smp_stop_steps.specs.declared.known.Turn.{Turn as Duty}
-pub use Rattle.smp_stop_steps.specs.declared.known.Turn.TheVariants.{Rests, Fills, Sets}
+pub use Rattle.smp_stop_steps.specs.declared.known.Duty.{Duty}
+pub use Rattle.smp_stop_steps.specs.declared.known.Duty.TheVariants.{Rests, Fills, Sets}
 pub use Rattle.smp_stop_steps.specs.declared.known.Source.{Source}
 pub use Rattle.smp_stop_steps.specs.declared.known.Source.TheVariants.{Shut, Drafts, Owns, Collects}
 pub use Rattle.smp_stop_steps.specs.declared.known.Attempt.{Attempt}

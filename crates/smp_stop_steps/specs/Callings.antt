@@ -1,7 +1,7 @@
 -- How far a CPU is with the function of the stop that it is in, by its seat.
 use Rattle.std.specs.Prelude.{◌≡◌, ◌⊎◌, ℕ, ◌≤◌, true, false}
 use Rattle.smp_stop_steps.specs.Names.{has, One, Work, DISABLE_IRQ, RUN}
-use Rattle.smp_stop_steps.specs.Seats.{Seat, Free, In, Gives, Alters, Closes, Turn, Rests}
+use Rattle.smp_stop_steps.specs.Seats.{Seat, Free, In, Gives, Alters, Closes, Duty, Rests}
 use Rattle.smp_stop_steps.specs.State.{StopCall, Calling, Idle, Calls, Carries, Present}
 use Rattle.smp_stop_steps.specs.Stop.{Standing, Completed, Last}
 use Rattle.smp_stop_steps.specs.Tells.{calls_at_run}
@@ -23,7 +23,7 @@ abbrev pub IsCallOf : Work → StopCall → Type 0
 IsCallOf w call = (call.func ≡ w.func) × (call.arg ≡ w.arg)
 
 -- it may call it: in a stop of kind One, or active in one of kind Multi at RUN, which it has looked at and not acknowledged
-abbrev pub MayCall : ℕ → Work → ℕ → ℕ → Turn → Type 0
+abbrev pub MayCall : ℕ → Work → ℕ → ℕ → Duty → Type 0
 MayCall c w a l t = (t ≡ Rests) × ((w.kind ≡ One) ⊎ ((a ≡ DISABLE_IRQ) × (l ≡ RUN) × (calls_at_run c w ≡ true)))
 
 -- an active CPU carries an answer from its acknowledgement of RUN on, and no other does, nor stores one

@@ -4,7 +4,7 @@ use Rattle.smp_stop_steps.specs.Names.{has, put, DISABLE_IRQ, RUN, StopStage, On
 use Rattle.smp_stop_steps.specs.Callings.{IsCallOf, with_answer}
 use Rattle.smp_stop_steps.specs.Carries.{CarriesIn}
 use Rattle.smp_stop_steps.specs.Promises.{RunsAlone}
-use Rattle.smp_stop_steps.specs.Seats.{Seat, In, Turn}
+use Rattle.smp_stop_steps.specs.Seats.{Seat, In, Duty}
 use Rattle.smp_stop_steps.specs.Shows.{StopShows}
 use Rattle.smp_stop_steps.specs.Sits.{Sits}
 use Rattle.smp_stop_steps.specs.Sources.{Source}
@@ -43,5 +43,5 @@ FunctionsRunOnce = (u : Setup) (p : StopState) (at : Word → ℕ) (seat : ℕ �
 -- until it completes, nothing that words show names the answer of a CPU's function: any other may be put for it
 abbrev pub AnswersMayBeReplaced : Type 0
 AnswersMayBeReplaced = (u : Setup) (p : StopState) (at : Word → ℕ) (seat : ℕ → Seat) (source : ℕ → Source) → StopShows u p at seat source →
-    (me s : ℕ) (work : Work) (acked looked : ℕ) (turn : Turn) (answer : ℕ) → seat me ≡ In s work acked looked turn →
+    (me s : ℕ) (work : Work) (acked looked : ℕ) (turn : Duty) (answer : ℕ) → seat me ≡ In s work acked looked turn →
     StopShows u (record p { calling = put p.calling me (with_answer answer (p.calling me)) }) at seat source

@@ -1,7 +1,7 @@
 -- When a CPU's interrupts are off.
 use Rattle.std.specs.Prelude.{◌≡◌, ◌≢◌, ℕ, ◌≤◌, true, false, None}
 use Rattle.smp_stop_steps.specs.Names.{DISABLE_IRQ, EXIT, Word}
-use Rattle.smp_stop_steps.specs.Seats.{Seat, Rests, turn_of}
+use Rattle.smp_stop_steps.specs.Seats.{Seat, Rests, duty_of}
 use Rattle.smp_stop_steps.specs.Shows.{StopShows}
 use Rattle.smp_stop_steps.specs.Sources.{Source}
 use Rattle.smp_stop_steps.specs.State.{Setup, StopState}
@@ -9,7 +9,7 @@ use Rattle.smp_stop_steps.specs.Stop.{Stop, Inside}
 
 -- the CPU has not left the stop: it has not acknowledged EXIT, or is to set the phase after it
 abbrev pub HasNotLeft : Stop → ℕ → ℕ → Type 0
-HasNotLeft stop c a = a ≡ EXIT → turn_of stop.raising c ≢ Rests
+HasNotLeft stop c a = a ≡ EXIT → duty_of stop.raising c ≢ Rests
 
 -- interrupts are off from the look at DISABLE_IRQ, so also once that is acknowledged, until the CPU has left; in no stop
 -- they are on

@@ -6,23 +6,23 @@ use Rattle.smp_stop_steps.specs.Labels.{Patches}
 use Rattle.smp_stop_steps.specs.State.{Present}
 pub use Rattle.smp_stop_steps.specs.declared.known.Seat.{Seat}
 pub use Rattle.smp_stop_steps.specs.declared.known.Seat.TheVariants.{Free, In, Gives, Alters, Closes}
-pub use Rattle.smp_stop_steps.specs.declared.known.Turn.{Turn}
-pub use Rattle.smp_stop_steps.specs.declared.known.Turn.TheVariants.{Rests, Fills, Sets}
+pub use Rattle.smp_stop_steps.specs.declared.known.Duty.{Duty}
+pub use Rattle.smp_stop_steps.specs.declared.known.Duty.TheVariants.{Rests, Fills, Sets}
 
 -- what a CPU is to do for the next phase
-abbrev pub turn_of : Raising → ℕ → Turn
-turn_of Nobody c = Rests
-turn_of (Refills r) c = cond (c == r) Fills Rests
-turn_of (Raises r) c = cond (c == r) Sets Rests
+abbrev pub duty_of : Raising → ℕ → Duty
+duty_of Nobody c = Rests
+duty_of (Refills r) c = cond (c == r) Fills Rests
+duty_of (Raises r) c = cond (c == r) Sets Rests
 
 -- the CPU is there
 abbrev pub Stands : Present → ℕ → Seat → Type 0
 Stands n me Free = n.inside me ≡ None
-Stands n me (In s w a l t) = (n.inside me ≡ Some s) × ((n.stop s).standing me ≡ Inside a l) × (turn_of (n.stop s).raising me ≡ t) × ((n.stop s).work ≡ w)
+Stands n me (In s w a l t) = (n.inside me ≡ Some s) × ((n.stop s).standing me ≡ Inside a l) × (duty_of (n.stop s).raising me ≡ t) × ((n.stop s).work ≡ w)
 Stands n me (Gives s w a v) =
-    (n.inside me ≡ Some s) × ((n.stop s).standing me ≡ Answering a v) × (turn_of (n.stop s).raising me ≡ Rests) × ((n.stop s).work ≡ w)
+    (n.inside me ≡ Some s) × ((n.stop s).standing me ≡ Answering a v) × (duty_of (n.stop s).raising me ≡ Rests) × ((n.stop s).work ≡ w)
 Stands n me (Alters s w count made rest) =
-    (n.inside me ≡ Some s) × ((n.stop s).standing me ≡ Inside DISABLE_IRQ RUN) × (turn_of (n.stop s).raising me ≡ Rests) ×
+    (n.inside me ≡ Some s) × ((n.stop s).standing me ≡ Inside DISABLE_IRQ RUN) × (duty_of (n.stop s).raising me ≡ Rests) ×
     ((n.stop s).work ≡ w) × (w.kind ≡ Patch) × (n.patching ≡ Patches me w count made rest)
 Stands n me (Closes s) = (n.inside me ≡ None) × ((n.stop s).is_open ≡ true) × ((n.stop s).ending ≡ Last me)
 

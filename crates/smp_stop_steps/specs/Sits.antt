@@ -7,7 +7,7 @@ use Rattle.smp_stop_steps.specs.Labels.{Change, count_set, patch_answer}
 use Rattle.smp_stop_steps.specs.Tells.{plan_at}
 use Rattle.smp_stop_steps.specs.Slots.{order}
 use Rattle.smp_stop_steps.specs.State.{Setup}
-use Rattle.smp_stop_steps.specs.Seats.{Seat, Free, In, Gives, Alters, Closes, Turn, Rests, Fills, Sets, irq_of}
+use Rattle.smp_stop_steps.specs.Seats.{Seat, Free, In, Gives, Alters, Closes, Duty, Rests, Fills, Sets, irq_of}
 use Rattle.smp_stop_steps.specs.Sources.{Source, Shut, Drafts, Owns, Collects}
 use Rattle.smp_stop_steps.specs.Stages.{StopControlValue}
 use Rattle.smp_stop_steps.specs.declared.stage.StopStage.TheVariants.{ReadKey, ReadSite}
@@ -22,7 +22,7 @@ pub record IsLoaded (v : Visit) (work : Work) : Type 0 where
   pub active : v.active ≡ work.active
 
 -- the CPU is in the stop of its visit, at these phases
-abbrev pub SitsIn : Visit → ℕ → Turn → Seat → Type 0
+abbrev pub SitsIn : Visit → ℕ → Duty → Seat → Type 0
 SitsIn v looked t x = (work : Work) × IsLoaded v work × (x ≡ In v.slot work v.acked looked t)
 
 -- between two turns

@@ -7,7 +7,7 @@ use smp_words::work::Work;
 use std::collections::LinkedList;
 
 /// What a CPU is to do for the next phase.
-pub enum Turn {
+pub enum Duty {
     Rests,
     /// It was the last to acknowledge, and is to fill the count again.
     Fills,
@@ -25,7 +25,7 @@ pub enum Seat {
         work: Work,
         acked: u32,
         looked: u32,
-        turn: Turn,
+        duty: Duty,
     },
     /// Its answer is in the result word, and it has not counted itself.
     Gives {

@@ -4,7 +4,7 @@ use Rattle.smp_labels.proofs.Patched.{plan_key_first}
 use Rattle.smp_words.specs.Access.{put_if}
 use Rattle.smp_words.proofs.Puts.{at_test, put_same, put_other}
 use Rattle.smp_stop_steps.specs.{has, is_on, Place, MOST_KEYS, word_of, at_after, seen_of, put, put_word, moves, moved_by, Change, Patches, Reading, ReadKey}
-use Rattle.smp_stop_steps.specs.{ReadSite, count_set, Seat, Free, In, Gives, Alters, Closes, Turn, Rests, irq_of, StopShows, IsNudge, Source, store_of, Setup}
+use Rattle.smp_stop_steps.specs.{ReadSite, count_set, Seat, Free, In, Gives, Alters, Closes, Duty, Rests, irq_of, StopShows, IsNudge, Source, store_of, Setup}
 use Rattle.smp_stop_steps.specs.{StopState, Moved, unmoved, told, is_patch, is_at_run, reads, key_loaded, key_patched, patched_more, patch_begun, plan_at}
 use Rattle.smp_stop_steps.specs.{Sees, GoesOnBy, Act, AreFirst, setup_in, reads_more, key_loaded_by, key_known, key_read_known, counted, learned, Patch, Work}
 use Rattle.smp_stop_steps.specs.{Word, Key, Site}
@@ -20,7 +20,7 @@ use Rattle.smp_stop_steps.specs.act
 use Rattle.smp_stop_steps.specs.declared.known.OwnMove.TheVariants as own
 
 -- where interrupts are on, a CPU does not stand at the function
-not_at_run : (s : ℕ) (w : Work) (a l : ℕ) (t : Turn) → irq_of (In s w a l t) ≡ true → (a == 2 && l == 3) ≡ false
+not_at_run : (s : ℕ) (w : Work) (a l : ℕ) (t : Duty) → irq_of (In s w a l t) ≡ true → (a == 2 && l == 3) ≡ false
 not_at_run s w a l t on = search (at_test, arith)
 
 -- the counts of one CPU, with one moved

@@ -3,7 +3,7 @@ use Rattle.std.proofs.Common.{◌≡◌, ◌≢◌, ℕ, ◌+◌, ◌-◌, ◌<�
 use Rattle.std.proofs.Common.{refl, ap, ◌∙◌, arith, bit_and}
 use Rattle.smp_words.specs.Access.{one_less}
 use Rattle.smp_words.proofs.Puts.{put_same, put_other}
-use Rattle.smp_stop_steps.specs.{HasCalled, has, put, put_word, cpus, mask_weight, Change, Reading, Seat, Free, In, Alters, Turn, Rests, Fills, Sets, Stands}
+use Rattle.smp_stop_steps.specs.{HasCalled, has, put, put_word, cpus, mask_weight, Change, Reading, Seat, Free, In, Alters, Duty, Rests, Fills, Sets, Stands}
 use Rattle.smp_stop_steps.specs.{StopShows, Source, all_but, Setup, StopState, StopCall, Calling, Calls, Standing, Inside, acknowledged, raised, told, enters}
 use Rattle.smp_stop_steps.specs.{acknowledges, acknowledges_now, raises, stored_open, stored_shut, with_stop, leaves, unpatched, carried, may_call}
 use Rattle.smp_stop_steps.specs.{carried_call, told_calling, Sees, GoesOnBy, Act, columns_of, setup_in, Part, called_by, ran_since, is_drafting, drafted_known}
@@ -51,11 +51,11 @@ module _ (p : StopState) (at : Word → ℕ) (seat : ℕ → Seat) (source : ℕ
   pub stands : (x : Seat) → v.seat ≡ x → Stands p.now v.number x
   stands x e = subst (Stands p.now v.number) (sees.seat_is ∙ e) (h.present.stands v.number)
 
-  pub open_at : (s : ℕ) (w : Work) (a l : ℕ) (t : Turn) → v.seat ≡ In s w a l t → (p.now.stop s).is_open ≡ true
+  pub open_at : (s : ℕ) (w : Work) (a l : ℕ) (t : Duty) → v.seat ≡ In s w a l t → (p.now.stop s).is_open ≡ true
   open_at s w a l t e = is_open_inside u.cpus (p.now.stop s) (λ f. at (Slot s f)) (h.present.slots s) v.number (Inside a l) (stands (In s w a l t) e).1 refl
 
   -- a store by who is in the stop and drafts none
-  pub stored_plain : (s : ℕ) (f : Field) (x : ℕ) (w : Work) (a l : ℕ) (t : Turn) → v.seat ≡ In s w a l t →
+  pub stored_plain : (s : ℕ) (f : Field) (x : ℕ) (w : Work) (a l : ℕ) (t : Duty) → v.seat ≡ In s w a l t →
       told u p v.number act.Store (Slot s f) None (Some x) 0 ≡ stored_open p v.number s f x
   stored_plain s f x w a l t e = ap (λ b. cond b (stored_open p v.number s f x) (stored_shut p s f x)) (open_at s w a l t e)
 

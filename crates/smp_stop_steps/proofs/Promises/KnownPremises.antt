@@ -1,7 +1,7 @@
 -- Each step that a CPU may make by what it knows keeps what the steps of the commands keep.
 use Rattle.std.proofs.Common.{◌≡◌, ℕ, ◌+◌, ◌∷◌, [], Bool, true, false, ◌==◌, cond, Some, None, List, inl, inr, sym, subst, refl, ap, ◌∙◌, arith, bit_and, eqb-true}
 use Rattle.smp_stop_steps.specs.{word_of, at_after, seen_of, Access, Field, Work, Word, Gate, Slot, Key, Site, HasCompleted, MayStore, MayStoreIf, MaySee, IsAtRun}
-use Rattle.smp_stop_steps.specs.{unfinished, Seat, In, Alters, Closes, Turn, Rests, Sets, Stands, StopShows, DoneShows, Source, Shut, Drafts, Owns}
+use Rattle.smp_stop_steps.specs.{unfinished, Seat, In, Alters, Closes, Duty, Rests, Sets, Stands, StopShows, DoneShows, Source, Shut, Drafts, Owns}
 use Rattle.smp_stop_steps.specs.{Collects, SourceShows, OwnerShows, DraftShows, IsNextOfPatch, label_stored, store_of, KeysStand, Change, Whole, Patches}
 use Rattle.smp_stop_steps.specs.{Place, Setup, StopState, Standing, Inside, Ended, acked, is_of, irq_of, Sees, setup_in, told_source, told_work, order}
 use Rattle.smp_stop_steps.specs.{IsNudge, all_but, begun_value, cpus, mask_weight, put_word}
@@ -55,7 +55,7 @@ module _ (p : StopState) (at : Word → ℕ) (seat : ℕ → Seat) (source : ℕ
   at_seat : (x : Seat) → v.seat ≡ x → Stands p.now me x
   at_seat x e = stands p at seat source v h sees x e
 
-  opened : (s : ℕ) (w : Work) (a l : ℕ) (t : Turn) → v.seat ≡ In s w a l t → (p.now.stop s).is_open ≡ true
+  opened : (s : ℕ) (w : Work) (a l : ℕ) (t : Duty) → v.seat ≡ In s w a l t → (p.now.stop s).is_open ≡ true
   opened s w a l t e = open_at p at seat source v h sees s w a l t e
 
   source_is : (y : Source) → source me ≡ y → SourceShows u p.gate (p.now.stop me) (slot me) me y

@@ -1,7 +1,7 @@
 -- Who may make which step: what holds of the stops before it.
 use Rattle.std.proofs.Common.{◌≡◌, ℕ, ◌+◌, [], true, false, ⊎_elim, Some, None, sym, subst, refl, ◌∙◌, arith, eqb-true}
 use Rattle.smp_stop_steps.specs.{word_of, seen_of, Access, Field, Work, Word, Gate, Slot, HasCompleted, patch_answer, IsThrough, MayStore, MayStoreIf, MaySee}
-use Rattle.smp_stop_steps.specs.{unfinished, plan_at, Seat, In, Alters, Closes, Turn, Rests, Sets, Stands, StopShows, RunsIf, HoldsGate, IsLoaded}
+use Rattle.smp_stop_steps.specs.{unfinished, plan_at, Seat, In, Alters, Closes, Duty, Rests, Sets, Stands, StopShows, RunsIf, HoldsGate, IsLoaded}
 use Rattle.smp_stop_steps.specs.{IsThroughAll, SitsAt, SitsInCompletion, SitsInRound, SourceSits, DoneShows, Source, Owns, Collects, SourceShows, OwnerShows}
 use Rattle.smp_stop_steps.specs.{StopControlValue, completion_access, round_access, stop_access, Setup, StopState, Standing, Inside, Ended, is_of}
 use Rattle.smp_stop_steps.specs.{CompletionStage, RoundStage, StopStage, TakeGate, OpenGate, Begin, Enter, EnterKind, EnterMask, EnterActive, Advance}
@@ -35,7 +35,7 @@ module _ (u : Setup) (p : StopState) (at : Word → ℕ) (seat : ℕ → Seat) (
   source_is : (y : Source) → source me ≡ y → SourceShows u p.gate (p.now.stop me) (slot me) me y
   source_is y e = subst (SourceShows u p.gate (p.now.stop me) (slot me) me) e (h.sources me)
 
-  open_in : (j : ℕ) (w : Work) (a l : ℕ) (t : Turn) → seat me ≡ In j w a l t → (p.now.stop j).is_open ≡ true
+  open_in : (j : ℕ) (w : Work) (a l : ℕ) (t : Duty) → seat me ≡ In j w a l t → (p.now.stop j).is_open ≡ true
   open_in j w a l t e = is_open_inside u.cpus (p.now.stop j) (slot j) (h.present.slots j) me (Inside a l) (stands (In j w a l t) e).1 refl
 
   -- a store to an open slot, and to one that is not

@@ -3,8 +3,8 @@ use Rattle.std.proofs.Common.{◌≡◌, ◌≢◌, ℕ, ◌+◌, ◌-◌, ◌<�
 use Rattle.std.specs.List.{AllByRecursion}
 use Rattle.smp_words.proofs.Puts.{at_test, put_same, put_other}
 use Rattle.smp_words.specs.declared.field.Field.TheVariants.{Ack, State}
-use Rattle.smp_stop_steps.specs.{put, put_word, weight, Agrees, Reading, labels_in, IsNot, PresentShows, Fills, In, Rests, Seat, Sets, Stands, Turn, irq_of}
-use Rattle.smp_stop_steps.specs.{turn_of, AckShows, Setup, Inside, Nobody, Raises, Raising, Refills, Standing, acknowledged, is_inside, raised, refilled}
+use Rattle.smp_stop_steps.specs.{put, put_word, weight, Agrees, Reading, labels_in, IsNot, PresentShows, Fills, In, Rests, Seat, Sets, Stands, Duty, irq_of}
+use Rattle.smp_stop_steps.specs.{duty_of, AckShows, Setup, Inside, Nobody, Raises, Raising, Refills, Standing, acknowledged, is_inside, raised, refilled}
 use Rattle.smp_stop_steps.specs.{stands, Field, Work, Slot, Word}
 use Rattle.smp_stop_steps.proofs.State.Moves.{IsNoPatch, SaveMe, moved, moves, slot_put, slot_same}
 use Rattle.smp_stop_steps.proofs.State.Phases.{acknowledges_slot, is_open_inside, keeps_inside, none_raises, refills_slot}
@@ -21,20 +21,20 @@ nobody_raises cpus stop ack me a l (Refills r) is small ne h = absurd (none_rais
 nobody_raises cpus stop ack me a l (Raises r) is small ne h = absurd (none_raises cpus stop.phase stop.standing me a l is small ne h.1)
 
 -- whose turn it is, by a CPU's turn
-pub fills_me : (me : ℕ) (r : Raising) → turn_of r me ≡ Fills → r ≡ Refills me
+pub fills_me : (me : ℕ) (r : Raising) → duty_of r me ≡ Fills → r ≡ Refills me
 fills_me me r e = search (at_test, arith)
 
-pub sets_me : (me : ℕ) (r : Raising) → turn_of r me ≡ Sets → r ≡ Raises me
+pub sets_me : (me : ℕ) (r : Raising) → duty_of r me ≡ Sets → r ≡ Raises me
 sets_me me r e = search (at_test, arith)
 
 -- who has nothing to do for the next phase does not set it
-pub rests_me : (me : ℕ) (r : Raising) → turn_of r me ≡ Rests → IsNot me r
+pub rests_me : (me : ℕ) (r : Raising) → duty_of r me ≡ Rests → IsNot me r
 rests_me me r e = search (at_test, arith)
 
 module _ (u : Setup) (p : Present) (at : Word → ℕ) (seat : ℕ → Seat) (h : PresentShows u p at seat)
     (s me : ℕ) (irq' : ℕ → Bool) (readings' : ℕ → List Reading) (save : SaveMe p me p.inside irq' readings') where
-  turn_here : (stop' : Stop) (t : Turn) → turn_of stop'.raising me ≡ t → turn_of (put p.stop s stop' s).raising me ≡ t
-  turn_here stop' t e = at_test s s (λ b. turn_of (cond b stop' (p.stop s)).raising me ≡ t) (λ _. e) (λ ne. absurd (ne refl))
+  turn_here : (stop' : Stop) (t : Duty) → duty_of stop'.raising me ≡ t → duty_of (put p.stop s stop' s).raising me ≡ t
+  turn_here stop' t e = at_test s s (λ b. duty_of (cond b stop' (p.stop s)).raising me ≡ t) (λ _. e) (λ ne. absurd (ne refl))
 
   standing_here : (stop' : Stop) (x : Standing) → stop'.standing me ≡ x → (put p.stop s stop' s).standing me ≡ x
   standing_here stop' x e = at_test s s (λ b. (cond b stop' (p.stop s)).standing me ≡ x) (λ _. e) (λ ne. absurd (ne refl))
@@ -68,10 +68,10 @@ module _ (u : Setup) (p : Present) (at : Word → ℕ) (seat : ℕ → Seat) (h 
       (home_stays stop' a (a + 1) st.1 st.0) off read
       (subst IsNoPatch (sym is) tt) (λ op kind. h.works s op kind)
     where
-      other_turn : (c : ℕ) → c ≢ me → (b : Bool) → turn_of (cond b (Refills me) Nobody) c ≡ Rests
+      other_turn : (c : ℕ) → c ≢ me → (b : Bool) → duty_of (cond b (Refills me) Nobody) c ≡ Rests
       other_turn c ne b = search (ne_eqb, arith)
 
-      own_turn : (b : Bool) → turn_of (cond b (Refills me) Nobody) me ≡ cond b Fills Rests
+      own_turn : (b : Bool) → duty_of (cond b (Refills me) Nobody) me ≡ cond b Fills Rests
       own_turn b = search (eq-eqb, arith)
 
   -- store of the count, by the one that found 1

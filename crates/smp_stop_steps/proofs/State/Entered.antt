@@ -5,7 +5,7 @@ use Rattle.smp_words.specs.Put.{same_field}
 use Rattle.smp_words.specs.declared.field.Field.TheVariants.{Done, Result, Roll, Todo}
 use Rattle.smp_labels.specs.Plans.{stored}
 use Rattle.smp_stop_steps.specs.{put, put_word, count_unfinished, unfinished, IsAnswer, IsNot, IsThrough, PresentShows, Closes, Free, Gives, In, Rests, Seat}
-use Rattle.smp_stop_steps.specs.{Stands, irq_of, turn_of, DoneShows, IsStored, OpenShows, SlotShows, put_field, IsOfKind, IsPatchWork, IsWork, Setup}
+use Rattle.smp_stop_steps.specs.{Stands, irq_of, duty_of, DoneShows, IsStored, OpenShows, SlotShows, put_field, IsOfKind, IsPatchWork, IsWork, Setup}
 use Rattle.smp_stop_steps.specs.{Answering, Called, Completed, Ending, Inside, Last, Outside, Raising, Standing, closed, completed, ended, is_inside, is_of}
 use Rattle.smp_stop_steps.specs.{opened, stands, Field, Patch, Kind as KindOf, Work, Slot, Word, has}
 use Rattle.smp_stop_steps.proofs.Basics.Counts.{sum_zero}
@@ -120,14 +120,14 @@ module _ (u : Setup) (p : Present) (at : Word → ℕ) (seat : ℕ → Seat) (h 
         (subst IsNoPatch (sym is) tt)
         (λ op kind. h.works s op kind)
       where
-        turns : (r : Raising) → IsNot me r → turn_of r me ≡ Rests
+        turns : (r : Raising) → IsNot me r → duty_of r me ≡ Rests
         turns r ne = search (ne_eqb, arith)
 
-        quiet : (p.stop s).standing me ≡ Called → OpenShows u.cpus (p.stop s) w → turn_of (p.stop s).raising me ≡ Rests
+        quiet : (p.stop s).standing me ≡ Called → OpenShows u.cpus (p.stop s) w → duty_of (p.stop s).raising me ≡ Rests
         quiet called o = search (turns, o.calm, not_raising, o.ack, arith)
 
     -- fetch_sub of todo
-    pub step_completes : (a v : ℕ) → p.inside me ≡ Some s → IsAnswer ((p.stop s).standing me) a v → turn_of (p.stop s).raising me ≡ Rests →
+    pub step_completes : (a v : ℕ) → p.inside me ≡ Some s → IsAnswer ((p.stop s).standing me) a v → duty_of (p.stop s).raising me ≡ Rests →
         IsThrough (p.stop s) me a →
         irq_of (seat me) ≡ true → IsNoPatch (seat me) →
         PresentShows u (moved p s (completed (p.stop s) me a v (at (Slot s Todo))) (put p.inside me None) p.irq p.readings)

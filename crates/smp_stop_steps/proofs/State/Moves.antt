@@ -4,8 +4,8 @@ use Rattle.std.specs.List.{AllByRecursion}
 use Rattle.smp_words.proofs.Puts.{at_test, put_all, put_other}
 use Rattle.smp_words.specs.Put.{same_field}
 use Rattle.smp_labels.specs.Plans.{AreEntriesOf}
-use Rattle.smp_stop_steps.specs.{put, put_word, Agrees, LabelsShow, Patching, Reading, labels_in, PresentShows, RunnerShows, Alters, Seat, Stands, Turn}
-use Rattle.smp_stop_steps.specs.{irq_of, turn_of, SlotShows, put_field, IsPatchWork, Setup, Last, Standing, is_inside, leaves, Field, Patch, Work, Slot, Word}
+use Rattle.smp_stop_steps.specs.{put, put_word, Agrees, LabelsShow, Patching, Reading, labels_in, PresentShows, RunnerShows, Alters, Seat, Stands, Duty}
+use Rattle.smp_stop_steps.specs.{irq_of, duty_of, SlotShows, put_field, IsPatchWork, Setup, Last, Standing, is_inside, leaves, Field, Patch, Work, Slot, Word}
 use Rattle.smp_stop_steps.specs.State.{Present}
 use Rattle.smp_stop_steps.specs.Stop.{Stop}
 
@@ -14,7 +14,7 @@ pub record LeavesTo (c : ℕ) (old new : Stop) : Type 0 where
   pub on : is_inside (old.standing c) ≡ true → new.standing c ≡ old.standing c
   pub back : is_inside (new.standing c) ≡ true → is_inside (old.standing c) ≡ true
   pub work : is_inside (old.standing c) ≡ true → new.work ≡ old.work
-  pub turn : is_inside (old.standing c) ≡ true → turn_of new.raising c ≡ turn_of old.raising c
+  pub turn : is_inside (old.standing c) ≡ true → duty_of new.raising c ≡ duty_of old.raising c
   pub ending : old.is_open ≡ true → old.ending ≡ Last c → (new.is_open ≡ true) × (new.ending ≡ Last c)
 
 -- what is now, after a step of one CPU on one slot
@@ -49,9 +49,9 @@ module _ (p : Present) (s me : ℕ) (stop' : Stop) (inside' : ℕ → Option ℕ
     standing_kept : (j : ℕ) (to : Standing) → is_inside to ≡ true → (p.stop j).standing c ≡ to → (put p.stop s stop' j).standing c ≡ to
     standing_kept j to of is = search (put_all, leaves.on, arith)
 
-    turn_kept : (j : ℕ) (t : Turn) (to : Standing) → is_inside to ≡ true → (p.stop j).standing c ≡ to → turn_of (p.stop j).raising c ≡ t →
-        turn_of (put p.stop s stop' j).raising c ≡ t
-    turn_kept j t to of is = put_all (λ j x. (p.stop j).standing c ≡ to → turn_of (p.stop j).raising c ≡ t → turn_of x.raising c ≡ t) p.stop s stop'
+    turn_kept : (j : ℕ) (t : Duty) (to : Standing) → is_inside to ≡ true → (p.stop j).standing c ≡ to → duty_of (p.stop j).raising c ≡ t →
+        duty_of (put p.stop s stop' j).raising c ≡ t
+    turn_kept j t to of is = put_all (λ j x. (p.stop j).standing c ≡ to → duty_of (p.stop j).raising c ≡ t → duty_of x.raising c ≡ t) p.stop s stop'
         (λ i e. leaves.turn (ap is_inside i ∙ of) ∙ e) (λ j _ i e. e) j is
 
     work_kept : (j : ℕ) (to : Standing) (w : Work) → is_inside to ≡ true → (p.stop j).standing c ≡ to → (p.stop j).work ≡ w → (put p.stop s stop' j).work ≡ w

@@ -6,7 +6,7 @@ use Rattle.smp_labels.specs.declared.keys.Change.{Change as KeyChange}
 use Rattle.smp_words.proofs.Puts.{put_same, put_other}
 use Rattle.smp_stop_steps.specs.{count_after, is_on, word_of, seen_of, put, Field, Kind as KindOf, One, Multi, Patch, Work, Word, Gate, Slot, Key, IsCalling}
 use Rattle.smp_stop_steps.specs.{answer_in, HasCalled, CarriesAt, CarriesIn, IsQuiet, IsAcking, IsEnding, Change, patch_answer, Seat, In, Gives, Alters}
-use Rattle.smp_stop_steps.specs.{Rests, Stands, Turn, StopShows, IsLoaded, RunsIf, SitsAtRun, IsThroughAll, Source, StopControlValue, answer_at, turn_note}
+use Rattle.smp_stop_steps.specs.{Rests, Stands, Duty, StopShows, IsLoaded, RunsIf, SitsAtRun, IsThroughAll, Source, StopControlValue, answer_at, turn_note}
 use Rattle.smp_stop_steps.specs.{key_on, nudge_of, nudge_on, stop_goes, store_of, turn_ends, visit_acked, Setup, StopState, Calling, Idle, Calls, StopCall}
 use Rattle.smp_stop_steps.specs.{CallStep, control_then, state_after, told_of, is_run, note_then, Standing, Inside, acknowledges, called_more, calls_now}
 use Rattle.smp_stop_steps.specs.{carried, carried_call, completes, completes_with, gate_told, key_told, may_call, plan_at, stored_open, stored_shut, tells}
@@ -57,11 +57,11 @@ quiet_visit : (v w : Visit) (f : Calling) → w.answer ≡ v.answer → IsQuiet 
 quiet_visit v w f same k = search arith
 
 -- before RUN is acknowledged who calls nothing carries nothing
-quiet_early : (c s : ℕ) (w : Work) (l : ℕ) (t : Turn) (v : Visit) (f : Calling) → IsQuiet (Some v) f → v.acked ≡ 2 → IsCalling c (In s w 2 l t) f → f ≡ Idle
+quiet_early : (c s : ℕ) (w : Work) (l : ℕ) (t : Duty) (v : Visit) (f : Calling) → IsQuiet (Some v) f → v.acked ≡ 2 → IsCalling c (In s w 2 l t) f → f ≡ Idle
 quiet_early c s w l t v f q two k = search (q, arith)
 
 -- nor does it in a stop of kind One
-quiet_one : (c s : ℕ) (w : Work) (a l : ℕ) (t : Turn) (v : Visit) (f : Calling) → IsQuiet (Some v) f → a ≡ 0 → IsCalling c (In s w a l t) f → f ≡ Idle
+quiet_one : (c s : ℕ) (w : Work) (a l : ℕ) (t : Duty) (v : Visit) (f : Calling) → IsQuiet (Some v) f → a ≡ 0 → IsCalling c (In s w a l t) f → f ≡ Idle
 quiet_one c s w a l t v f q none k = search (q, none, arith)
 
 quiet_none : (f : Calling) → IsQuiet None f → f ≡ Idle

@@ -2,7 +2,7 @@
 use Rattle.std.proofs.Common.{◌≡◌, ◌≢◌, ℕ, ◌+◌, Bool, true, false, ◌&&◌, ◌⊎◌, cond, List, ne_eqb, sym, subst, ap, ◌∙◌, arith}
 use Rattle.smp_words.proofs.Puts.{at_test, put_all, put_both, put_other}
 use Rattle.smp_stop_steps.specs.{put, Kind as KindOf, One, Patch, Work, with_answer, IsCalling, answer_in, HasCalled, AreClosing, HasCompleted, Change}
-use Rattle.smp_stop_steps.specs.{Patching, RunnerShows, StopShows, Source, Word, Seat, Free, In, Gives, Alters, Closes, Turn, Rests, Setup, StopState}
+use Rattle.smp_stop_steps.specs.{Patching, RunnerShows, StopShows, Source, Word, Seat, Free, In, Gives, Alters, Closes, Duty, Rests, Setup, StopState}
 use Rattle.smp_stop_steps.specs.{Calling, Idle, Last, carried, carried_call, has, is_multi}
 use Rattle.smp_stop_steps.specs.State.{Present, Calls, Carries}
 use Rattle.smp_stop_steps.specs.Stop.{Stop}
@@ -31,7 +31,7 @@ patch_not_multi : (k : KindOf) (b : Bool) → k ≡ Patch → (b && is_multi k) 
 patch_not_multi k b e c = search arith
 
 -- nor does a CPU that is to patch
-pub idle_patch : (c s : ℕ) (w : Work) (l : ℕ) (t : Turn) (f : Calling) → w.kind ≡ Patch → IsCalling c (In s w 2 l t) f → f ≡ Idle
+pub idle_patch : (c s : ℕ) (w : Work) (l : ℕ) (t : Duty) (f : Calling) → w.kind ≡ Patch → IsCalling c (In s w 2 l t) f → f ≡ Idle
 idle_patch c s w l t f kind k = search (kind, patch_not_multi, w.kind, w.active, arith)
 
 -- a look, at the phase that it has looked at or at the next
@@ -40,12 +40,12 @@ pub calling_looked : (c s : ℕ) (w : Work) (a l found : ℕ) (f : Calling) → 
 calling_looked c s w a l found f same k = search arith
 
 -- a turn, of a CPU that sets the next phase
-pub calling_turned : (c s : ℕ) (w : Work) (a l : ℕ) (t t' : Turn) (f : Calling) → (t ≡ Rests → ⊥) → IsCalling c (In s w a l t) f → IsCalling c (In s w a l
+pub calling_turned : (c s : ℕ) (w : Work) (a l : ℕ) (t t' : Duty) (f : Calling) → (t ≡ Rests → ⊥) → IsCalling c (In s w a l t) f → IsCalling c (In s w a l
     t') f
 calling_turned c s w a l t t' f ne k = search arith
 
 -- an acknowledgement of another phase than RUN, in a stop of several CPUs
-pub calling_acked : (c s : ℕ) (w : Work) (a : ℕ) (t : Turn) (f : Calling) → a ≢ 2 → w.kind ≢ One → IsCalling c (In s w a (a + 1) Rests) f →
+pub calling_acked : (c s : ℕ) (w : Work) (a : ℕ) (t : Duty) (f : Calling) → a ≢ 2 → w.kind ≢ One → IsCalling c (In s w a (a + 1) Rests) f →
     IsCalling c (In s w (a + 1) (a + 1) t) f
 calling_acked c s w a t f ne many k = search arith
 
@@ -53,7 +53,7 @@ active_multi : (k : KindOf) (b : Bool) → (b && is_multi k) ≡ true → b ≡ 
 active_multi k b e = search arith
 
 -- and one of RUN, which no patch ends
-pub calling_ran : (c s : ℕ) (w : Work) (t : Turn) (f : Calling) → w.kind ≢ One → HasCalled c w f → IsCalling c (In s w 2 3 Rests) f →
+pub calling_ran : (c s : ℕ) (w : Work) (t : Duty) (f : Calling) → w.kind ≢ One → HasCalled c w f → IsCalling c (In s w 2 3 Rests) f →
     IsCalling c (In s w 3 3 t) (carried_call f)
 calling_ran c s w t f many idle k = search (active_multi, w.active, arith)
 
@@ -98,11 +98,11 @@ module _ (n : Present) (seat : ℕ → Seat) (me : ℕ) (next : Seat) (h : AreCl
         (λ ne o l. closing_seat j c o l)
 
 -- until a completion tells it, any answer may be put for that of the function of a CPU in a stop
-answered_in : (c s : ℕ) (w : Work) (a l : ℕ) (t : Turn) (x : ℕ) (f : Calling) → IsCalling c (In s w a l t) f → IsCalling c (In s w a l t) (with_answer x f)
+answered_in : (c s : ℕ) (w : Work) (a l : ℕ) (t : Duty) (x : ℕ) (f : Calling) → IsCalling c (In s w a l t) f → IsCalling c (In s w a l t) (with_answer x f)
 answered_in c s w a l t x f k = search arith
 
 pub answer_replaced : (u : Setup) (p : StopState) (at : Word → ℕ) (seat : ℕ → Seat) (source : ℕ → Source) → StopShows u p at seat source →
-    (me s : ℕ) (w : Work) (a l : ℕ) (t : Turn) (x : ℕ) → seat me ≡ In s w a l t →
+    (me s : ℕ) (w : Work) (a l : ℕ) (t : Duty) (x : ℕ) → seat me ≡ In s w a l t →
     StopShows u (record p { calling = put p.calling me (with_answer x (p.calling me)) }) at seat source
 answer_replaced u p at seat source h me s w a l t x is = record {
   setup = h.setup;

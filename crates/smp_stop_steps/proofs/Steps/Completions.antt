@@ -4,7 +4,7 @@ use Rattle.std.proofs.Common.{Option, Some, None, List, [], ◌∷◌, ◌++◌}
 use Rattle.smp_words.proofs.Puts.{at_test, put_all, put_same, put_other}
 use Rattle.smp_words.specs.declared.field.Field.TheVariants.{Done, Result, Roll, Todo}
 use Rattle.smp_stop_steps.specs.{IsCalling, AreClosing, HasCompleted, StandsSet, put, put_word, one, unfinished, IsAnswer, HasPast, answer_now, OwnsKey}
-use Rattle.smp_stop_steps.specs.{Closes, Free, Gives, In, Rests, Seat, Stands, irq_of, turn_of, StopShows, DoneShows, IsDone, IsLevel, IsPhaseOf, Source}
+use Rattle.smp_stop_steps.specs.{Closes, Free, Gives, In, Rests, Seat, Stands, irq_of, duty_of, StopShows, DoneShows, IsDone, IsLevel, IsPhaseOf, Source}
 use Rattle.smp_stop_steps.specs.{Setup, StopState, Idle, Answering, Called, Completed, Ended, Inside, Standing, acked, completed, ended, is_inside, is_of}
 use Rattle.smp_stop_steps.specs.{stands, Last, completes_with, enters, told, called_more, Field, One, Patch, Kind as KindOf, Work, Key, Slot, Word, has}
 use Rattle.smp_stop_steps.proofs.Basics.Bools.{or_true}
@@ -107,7 +107,7 @@ module _ (u : Setup) (p : StopState) (at : Word → ℕ) (seat : ℕ → Seat) (
         search (open_, st.1, shown', arith)
 
   -- fetch_sub of todo, of whoever is ready to be counted
-  completes_shown : (job : Work) (a v : ℕ) → p.now.inside me ≡ Some s → IsAnswer ((p.now.stop s).standing me) a v → turn_of (p.now.stop s).raising me ≡
+  completes_shown : (job : Work) (a v : ℕ) → p.now.inside me ≡ Some s → IsAnswer ((p.now.stop s).standing me) a v → duty_of (p.now.stop s).raising me ≡
       Rests → IsDone (p.now.stop s).phase a →
       irq_of (seat me) ≡ true → IsNoPatch (seat me) → IsNotClosing (seat me) → answer_now ((p.now.stop s).standing me) ≡ [] →
       ((p.now.stop s).work.kind ≢ One → has (p.now.stop s).work.active me ≡ false → v ≡ 0) →

@@ -7,7 +7,7 @@ use Rattle.smp_words.specs.declared.field.Field.TheVariants.{Ack, Arg, Roll, Sta
 use Rattle.smp_labels.specs.Law.{IsLawful}
 use Rattle.smp_labels.specs.Plans.{AreEntriesOf}
 use Rattle.smp_stop_steps.specs.{IsCalling, told, may_call, calls_now, behind, count_behind, sum_below, unfinished, Change, labels_in, Alters, Free, Gives}
-use Rattle.smp_stop_steps.specs.{In, Rests, Seat, Stands, Turn, StopShows, IsWritten, Keeps, OpenShows, Shut, Source, IsSetup, Setup, StopState, no_stops}
+use Rattle.smp_stop_steps.specs.{In, Rests, Seat, Stands, Duty, StopShows, IsWritten, Keeps, OpenShows, Shut, Source, IsSetup, Setup, StopState, no_stops}
 use Rattle.smp_stop_steps.specs.{StopCall, Calls, Answering, Called, Completed, Inside, Outside, Standing, is_called, Work, Gate, Slot, Key, Word, has}
 use Rattle.smp_stop_steps.proofs.State.KeyCounts.{opened_count}
 use Rattle.smp_stop_steps.proofs.Basics.Counts.{sum_zero}
@@ -32,7 +32,7 @@ module _ (u : Setup) (p : StopState) (at : Word → ℕ) (seat : ℕ → Seat) (
   pub patcher_active : (work : Work) (count : ℕ) (made rest : List Change) → seat me ≡ Alters s work count made rest → has work.active me ≡ true
   patcher_active work count made rest is = search (h.present.stands, is_open_inside, h.present.slots, h.present.works, eq-eqb, arith)
 
-  module _ (job : Work) (a l : ℕ) (t : Turn) (is : seat me ≡ In s job a l t) where
+  module _ (job : Work) (a l : ℕ) (t : Duty) (is : seat me ≡ In s job a l t) where
     st : Stands p.now me (In s job a l t)
     st = subst (Stands p.now me) is (h.present.stands me)
 

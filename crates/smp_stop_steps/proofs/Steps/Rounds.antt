@@ -7,7 +7,7 @@ use Rattle.smp_words.proofs.Puts.{at_test, put_all, put_same, put_other}
 use Rattle.smp_words.specs.declared.field.Field.TheVariants.{Ack, State}
 use Rattle.smp_stop_steps.specs.{HasCalled, IsCalling, AreClosing, put, put_word, mask_weight, weight, Agrees, Change, Patches, Patching, Reading, Whole}
 use Rattle.smp_stop_steps.specs.{labels_in, StandsSet, reading_of, state_left, patch_answer, OwnsKey, PresentShows, RunnerShows, Alters, Fills}
-use Rattle.smp_stop_steps.specs.{In, Rests, Seat, Sets, Stands, Turn, irq_of, turn_of, StopShows, AckShows, IsLevel, Keeps, OpenShows, IsPhaseOf, Source}
+use Rattle.smp_stop_steps.specs.{In, Rests, Seat, Sets, Stands, Duty, irq_of, duty_of, StopShows, AckShows, IsLevel, Keeps, OpenShows, IsPhaseOf, Source}
 use Rattle.smp_stop_steps.specs.{Setup, StopCall, StopState, Calling, Inside, Nobody, Raises, Raising, Standing, acked, acknowledged, is_inside, raised}
 use Rattle.smp_stop_steps.specs.{refilled, stands, first_readings, is_patch, leaves, told, unpatched, with_stop, called_more, carried, One, Patch}
 use Rattle.smp_stop_steps.specs.{Kind as KindOf, Work, Key, Slot, Word, is_on, change_of, has}
@@ -38,7 +38,7 @@ module _ (u : Setup) (p : StopState) (at : Word → ℕ) (seat : ℕ → Seat) (
   abbrev pub now : Present
   now = p.now
 
-  module _ (job : Work) (a l : ℕ) (t : Turn) (is : seat me ≡ In s job a l t) where
+  module _ (job : Work) (a l : ℕ) (t : Duty) (is : seat me ≡ In s job a l t) where
     -- where the CPU stands
     here : Stands p.now me (In s job a l t)
     here = subst (Stands p.now me) is (h.present.stands me)
@@ -114,7 +114,7 @@ module _ (u : Setup) (p : StopState) (at : Word → ℕ) (seat : ℕ → Seat) (
   not_patching x idle r = search (ne_eqb, IsNoPatch, arith)
 
   -- with the key of its own patch a source's readings begin when it leaves
-  leave_agrees : (job : Work) (a l : ℕ) (t : Turn) → seat me ≡ In s job a l t → 4 ≤ (p.now.stop s).phase → AllByRecursion (Agrees (labels_in at))
+  leave_agrees : (job : Work) (a l : ℕ) (t : Duty) → seat me ≡ In s job a l t → 4 ≤ (p.now.stop s).phase → AllByRecursion (Agrees (labels_in at))
       (first_readings me s job)
   leave_agrees job a l t is late = go (is_patch job.kind) refl (s == me) refl
     where
@@ -298,7 +298,7 @@ module _ (u : Setup) (p : StopState) (at : Word → ℕ) (seat : ℕ → Seat) (
       (h.callings me)))) (closing_kept p.now seat me next h.closing (subst IsNotClosing (sym is) tt) s stop' (λ c ne. refl) refl refl) in
       search (open_, shown', arith)
     where
-      one : (r : Raising) → turn_of r me ≡ Fills → r ≡ Nobody → ⊥
+      one : (r : Raising) → duty_of r me ≡ Fills → r ≡ Nobody → ⊥
       one r e z = search arith
 
   -- store of the next phase by the one that refilled the count; from 4 to 5 it leaves
@@ -323,7 +323,7 @@ module _ (u : Setup) (p : StopState) (at : Word → ℕ) (seat : ℕ → Seat) (
       owns_kept u.first p.now (λ k. at (Key k)) s stop' p.now.inside irq' readings' p.now.patching stays record { inside = λ i. i; late = λ i. i } h.owns in
       search (go, arith)
     where
-      one : (r : Raising) → turn_of r me ≡ Sets → r ≡ Nobody → ⊥
+      one : (r : Raising) → duty_of r me ≡ Sets → r ≡ Nobody → ⊥
       one r e z = search arith
 
       callings : (c : ℕ) → IsCalling c (put seat me (In s job a l Rests) c) (p.calling c)

@@ -3,7 +3,7 @@ use Rattle.std.proofs.Common.{◌≡◌, ◌≢◌, ℕ, ◌+◌, ◌<◌, ◌�
 use Rattle.std.proofs.lemmas.Bool.{cases_lt}
 use Rattle.std.proofs.lemmas.List.{append-nil}
 use Rattle.std.specs.List.{AllByRecursion}
-use Rattle.smp_stop_steps.specs.{plan_at, word_of, cpus, Change, Alters, Fills, Gives, In, Rests, Seat, Sets, Stands, Turn, StopShows, SitsInCompletion}
+use Rattle.smp_stop_steps.specs.{plan_at, word_of, cpus, Change, Alters, Fills, Gives, In, Rests, Seat, Sets, Stands, Duty, StopShows, SitsInCompletion}
 use Rattle.smp_stop_steps.specs.{SitsInRound, Collects, Drafts, IsWork, Owns, Shut, Source, SourceShows, StopControlValue, change_at, completion_access}
 use Rattle.smp_stop_steps.specs.{label_word, round_access, stop_access, store_of, Setup, StopState, at_then, CompletionStage, RoundStage, StopStage, Visit}
 use Rattle.smp_stop_steps.specs.{Patch, Work, Gate, Slot, Word, site_changes, MOST_KEYS, MOST_SITES}
@@ -39,7 +39,7 @@ module _ (u : Setup) (p : StopState) (at : Word → ℕ) (seat : ℕ → Seat) (
       go (Collects work) d = subst (IsWork u) (sym d.0.work_is) d.0.is_work
 
   module _ (me : ℕ) where
-    open_in : (s : ℕ) (work : Work) (a l : ℕ) (t : Turn) → seat me ≡ In s work a l t → (p.now.stop s).is_open ≡ true
+    open_in : (s : ℕ) (work : Work) (a l : ℕ) (t : Duty) → seat me ≡ In s work a l t → (p.now.stop s).is_open ≡ true
     open_in s work a l t is = search (h.present.stands, is_open_inside, h.present.slots, arith)
 
     open_gives : (s : ℕ) (work : Work) (a v : ℕ) → seat me ≡ Gives s work a v → (p.now.stop s).is_open ≡ true
@@ -49,7 +49,7 @@ module _ (u : Setup) (p : StopState) (at : Word → ℕ) (seat : ℕ → Seat) (
     open_alters s work count made rest is = search (h.present.stands, is_open_inside, h.present.slots, arith)
 
     -- the slot that a CPU is in, and its work
-    pub below_in : (s : ℕ) (work : Work) (a l : ℕ) (t : Turn) → seat me ≡ In s work a l t → s < cpus
+    pub below_in : (s : ℕ) (work : Work) (a l : ℕ) (t : Duty) → seat me ≡ In s work a l t → s < cpus
     below_in s work a l t is = open_below s (open_in s work a l t is)
 
     below_gives : (s : ℕ) (work : Work) (a v : ℕ) → seat me ≡ Gives s work a v → s < cpus
@@ -58,7 +58,7 @@ module _ (u : Setup) (p : StopState) (at : Word → ℕ) (seat : ℕ → Seat) (
     below_alters : (s : ℕ) (work : Work) (count : ℕ) (made rest : List Change) → seat me ≡ Alters s work count made rest → s < cpus
     below_alters s work count made rest is = open_below s (open_alters s work count made rest is)
 
-    pub work_in : (s : ℕ) (work : Work) (a l : ℕ) (t : Turn) → seat me ≡ In s work a l t → IsWork u work
+    pub work_in : (s : ℕ) (work : Work) (a l : ℕ) (t : Duty) → seat me ≡ In s work a l t → IsWork u work
     work_in s work a l t is =
         let st : Stands p.now me (In s work a l t) = subst (Stands p.now me) is (h.present.stands me) in
         subst (IsWork u) st.3 (open_work s (open_in s work a l t is))
