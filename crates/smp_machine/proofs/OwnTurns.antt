@@ -1,5 +1,5 @@
 -- What a turn leaves of a CPU, with what it has answered to its own stop.
-use Rattle.std.proofs.Common.{◌≡◌, ◌≢◌, ◌⊎◌, inl, inr, ℕ, Option, Some, None, [], ◌∷◌, ◌++◌, map, slice_index_or, slice_set}
+use Rattle.std.proofs.Common.{◌≡◌, ◌≢◌, ◌⊎◌, inl, inr, ℕ, Bool, Option, Some, None, [], ◌∷◌, ◌++◌, map, slice_index_or, slice_set}
 use Rattle.std.proofs.Common.{refl, sym, ap, ◌∙◌, subst}
 use Rattle.smp_queue.specs.Cpu.{CpuValue as CallCpuValue}
 use Rattle.smp_queue.specs.declared.handler.Heard.{Heard}
@@ -31,17 +31,17 @@ module _ {F : Type 0} (leads : F → Called → F → Type 0) where
   run_answers : (kind : Kind) (stop : Inside) (old mid : StopCpuValue) (f f' : F) → RunsAt leads stop old mid f f' kind
       → mid.part.answers ≡ old.part.answers
   run_answers One stop old mid f f' r = absurd r
-  run_answers Multi stop old mid f f' r = ap (λ (c : StopCpuValue). c.part.answers) r.1
-  run_answers Patch stop old mid f f' r = ap (λ (c : StopCpuValue). c.part.answers) r.1
+  run_answers Multi stop old mid f f' r = ap (λ (c : StopCpuValue). c.part.answers) r.1.1
+  run_answers Patch stop old mid f f' r = ap (λ (c : StopCpuValue). c.part.answers) r.1.1
 
-  round_answers : (old mid new : StopCpuValue) (stop : Inside) (f f' : F) (turn : Turn) → Advances leads stop old mid f f' turn
-      → new ≡ completed turn stop mid → Answered stop old new
-  round_answers old mid new stop f f' Same a is = inl (ap (λ (c : StopCpuValue). c.part.answers) (is ∙ a.0))
-  round_answers old mid new stop f f' (Moved p) a is = inl (ap (λ (c : StopCpuValue). c.part.answers) (is ∙ a.3))
-  round_answers old mid new stop f f' Ran a is =
+  round_answers : (old mid new : StopCpuValue) (stop : Inside) (f f' : F) (turn : Turn) (last : Bool) → Advances leads stop old mid f f' turn
+      → new ≡ completed turn stop last mid → Answered stop old new
+  round_answers old mid new stop f f' Same last a is = inl (ap (λ (c : StopCpuValue). c.part.answers) (is ∙ a.0))
+  round_answers old mid new stop f f' (Moved p) last a is = inl (ap (λ (c : StopCpuValue). c.part.answers) (is ∙ a.3.1))
+  round_answers old mid new stop f f' Ran last a is =
       inl (ap (λ (c : StopCpuValue). c.part.answers) is ∙ run_answers stop.work.kind stop old mid f f' a.2)
-  round_answers old mid new stop f f' Left a is =
-      inr (carried_answer old.part.calling, ap (λ (c : StopCpuValue). c.part.answers) (is ∙ ap (completed Left stop) a.1))
+  round_answers old mid new stop f f' Left last a is =
+      inr (carried_answer old.part.calling, ap (λ (c : StopCpuValue). c.part.answers) (is ∙ ap (completed Left stop last) a.1.1))
 
   own_turn : (old new : StopCpuValue) (f f' : F) (turn : Turn) → IsShown old → HasNotLeft old.inside → TurnsStop leads old f new f' turn
       → OwnAnswers old new
@@ -67,7 +67,7 @@ module _ {F : Type 0} (leads : F → Called → F → Type 0) where
       went_round stop is several =
           let at : IsInRound old = record { stop = stop; is = is; several = several; not_left = subst HasNotLeft is not_left } in
           let g = t.round at in
-          gone_on g.at.stop g.at.is g.at.several (round_answers old g.advanced new g.at.stop f f' turn g.advances g.is)
+          gone_on g.at.stop g.at.is g.at.several (round_answers old g.advanced new g.at.stop f f' turn g.last g.advances g.is)
 
       of_kind : (stop : Inside) → old.inside ≡ Some stop → (k : Kind) → stop.work.kind ≡ k → OwnAnswers old new
       of_kind stop is One e = ran_one (t.one (record { stop = stop; is = is; one = e })).0
