@@ -1,7 +1,7 @@
 -- A change of a key's count by one, out of its parts.
 use Rattle.std.specs.List.{AllByRecursion}
-use Rattle.std.proofs.Common.{◌≡◌, inl, inr, ℕ, ℤ, pos, Bool, true, false, true≢false, None, Result, Ok, Err, List, [], ◌∷◌, ◌++◌, map}
-use Rattle.std.proofs.Common.{append_assoc, refl, sym, ap, ◌∙◌, subst}
+use Rattle.std.proofs.Common.{◌≡◌, inl, inr, ℕ, ◌+◌, ◌*◌, ℤ, pos, Bool, true, false, true≢false, None, Result, Ok, Err, List, [], ◌∷◌, ◌++◌, map}
+use Rattle.std.proofs.Common.{append_assoc, arith, length, length-append, refl, sym, ap, ◌∙◌, subst}
 use Rattle.std.proofs.lemmas.List.{append-nil, map-append}
 use Rattle.smp_labels.specs.Keys.{edge_of, is_on}
 use Rattle.smp_mask.specs.declared.error.SmpError.{SmpError}
@@ -44,6 +44,7 @@ tries_none k p = λ i. record p {
   stops = record (p.stops) {
     part = record (p.stops.part) { readings = sym (append-nil p.stops.part.readings) i };
     moves = sym (append-nil p.stops.moves) i;
+    steps = (let none : p.stops.steps ≡ p.stops.steps + 2 * 0 = omega arith in none) i;
   };
 }
 
@@ -60,7 +61,9 @@ tries_more k lost count c =
     let moved : ((c.moves ++ lost_tries k lost) ++ Found k count ∷ []) ++ move.Lost k ∷ [] ≡ c.moves ++ lost_tries k (lost ++ count ∷ []) =
     moves_of_four c.moves (lost_tries k lost) (Found k count) (move.Lost k)
     ∙ ap (λ (l : List OwnMove). c.moves ++ l) (sym (lost_more k lost count)) in
-    λ i. record c { part = record (c.part) { readings = read i }; moves = moved i }
+    let longer = length-append lost (count ∷ []) in
+    let made : c.steps + 2 * length lost + 1 + 1 ≡ c.steps + 2 * length (lost ++ count ∷ []) = omega arith in
+    λ i. record c { part = record (c.part) { readings = read i }; moves = moved i; steps = made i }
 
 pub place_more : (k : ℕ) (lost : List ℕ) (count : ℕ) (old mid new : MachineCpuValue) → mid ≡ record old { stops = tries_all k lost old.stops }
     → new ≡ record mid { stops = loses_key k (loads_count k count mid.stops) } → new ≡ record old { stops = tries_all k (lost ++ count ∷ []) old.stops }
@@ -101,7 +104,8 @@ tries_first k first lost c =
     let moved : ((c.moves ++ Found k first ∷ []) ++ move.Lost k ∷ []) ++ lost_tries k lost ≡ c.moves ++ lost_tries k (first ∷ lost) =
     append_assoc (c.moves ++ Found k first ∷ []) (move.Lost k ∷ []) (lost_tries k lost)
     ∙ append_assoc c.moves (Found k first ∷ []) (move.Lost k ∷ lost_tries k lost) in
-    λ i. record c { part = record (c.part) { readings = read i }; moves = moved i }
+    let made : c.steps + 1 + 1 + 2 * length lost ≡ c.steps + 2 * length (first ∷ lost) = omega arith in
+    λ i. record c { part = record (c.part) { readings = read i }; moves = moved i; steps = made i }
 
 loads_after : (k : ℕ) (up : Bool) (count first : ℕ) (old mid loaded : CpuValue) → StaysOn up first
     → mid ≡ loses_key k (loads_count k first old) → Loads k up count mid loaded → Loads k up count old loaded

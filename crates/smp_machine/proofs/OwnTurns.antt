@@ -1,5 +1,5 @@
 -- What a turn leaves of a CPU, with what it has answered to its own stop.
-use Rattle.std.proofs.Common.{◌≡◌, ◌≢◌, inl, inr, ℕ, ℤ, nat_lt, Bool, true, false, Option, Some, None, List, [], ◌∷◌, map, slice_index_or, slice_set}
+use Rattle.std.proofs.Common.{◌≡◌, ◌≢◌, inl, inr, ℕ, ℤ, ◌+◌, nat_lt, Bool, true, false, Option, Some, None, List, [], ◌∷◌, map, slice_index_or, slice_set}
 use Rattle.std.proofs.Common.{refl, sym, ap, ◌∙◌, subst}
 use Rattle.std.proofs.lemmas.List.{append_cancel_left}
 use Rattle.smp_mask.specs.Mask.{has}
@@ -9,7 +9,8 @@ use Rattle.smp_calls.specs.Handles.{Handles}
 use Rattle.smp_multi.specs.Names.{Work, StopCall, Kind, One, Multi, Patch, Carries}
 use Rattle.smp_multi.specs.Advance.{IsInRound, Advances, RunsAt, looks, acknowledges, carries, patches, reads_anew}
 use Rattle.smp_multi.specs.Answers.{call_of}
-use Rattle.smp_multi.specs.Cpu.{CpuValue as StopCpuValue, Inside, runs}
+use Rattle.smp_multi.specs.Cpu.{CpuValue as StopCpuValue, Inside, makes, runs}
+use Rattle.smp_multi.specs.StepCounts.{patching, raising}
 use Rattle.smp_multi.specs.Laws.{IsShown}
 use Rattle.smp_multi.specs.declared.func.Called.{Called}
 use Rattle.smp_multi.specs.declared.turn.Turn.{Turn}
@@ -68,16 +69,17 @@ module _ {F : Type 0} (leads : F → Called → F → Type 0) (old new : StopCpu
     no_bools : true ≡ false → ⊥
     no_bools e = cc
 
-    looked : new ≡ looks stop.acked old → OwnAnswers old new
+    looked : new ≡ makes 1 (looks stop.acked old) → OwnAnswers old new
     looked e = own_none old new calls t.moves.calls_are begun pending (ap (λ (c : StopCpuValue). c.part.answers) e)
         (carried_still old new calls (λ k i at. sym (ap (λ (c : StopCpuValue). c.inside) e) ∙ i) (ap (λ (c : StopCpuValue). c.part.calling) e))
 
-    moved : (p : ℕ) (on : Bool) → new ≡ acknowledges stop p on old → (p ≡ RUN → has stop.work.active old.number ≡ false) → OwnAnswers old new
-    moved p on e idle = own_none old new calls t.moves.calls_are begun pending (ap (λ (c : StopCpuValue). c.part.answers) e)
+    moved : (n p : ℕ) (on : Bool) → new ≡ makes n (acknowledges stop p on old) → (p ≡ RUN → has stop.work.active old.number ≡ false) → OwnAnswers old new
+    moved n p on e idle = own_none old new calls t.moves.calls_are begun pending (ap (λ (c : StopCpuValue). c.part.answers) e)
         (λ work x run k. let it = of_it p (ap (λ (c : StopCpuValue). c.inside) e) work x run k in absurd (no_bools (sym it.3 ∙ idle it.0)))
 
-    called : (answer : ℤ) → new ≡ carries (answer_word answer) (runs (call_of stop answer) (acknowledges stop RUN false old)) → OwnAnswers old new
-    called answer e = own_none old new calls t.moves.calls_are begun pending (ap (λ (c : StopCpuValue). c.part.answers) e)
+    called : (n : ℕ) (answer : ℤ) → new ≡ makes n (carries (answer_word answer) (runs (call_of stop answer) (acknowledges stop RUN false old)))
+        → OwnAnswers old new
+    called n answer e = own_none old new calls t.moves.calls_are begun pending (ap (λ (c : StopCpuValue). c.part.answers) e)
         (λ work x run k.
         let it = of_it RUN (ap (λ (c : StopCpuValue). c.inside) e) work x run k in
         let x_is : answer_word answer ≡ x = carries_same (sym (ap (λ (c : StopCpuValue). c.part.calling) e) ∙ k.carries) in
@@ -85,16 +87,17 @@ module _ {F : Type 0} (leads : F → Called → F → Type 0) (old new : StopCpu
         append_cancel_left old.part.calls calls (call_of stop answer ∷ []) (sym t.moves.calls_are ∙ ap (λ (c : StopCpuValue). c.part.calls) e) in
         inl (call_of stop answer, ([], [], is_calls), ap (λ (w : Work). w.func) it.1, ap (λ (w : Work). w.arg) it.1, x_is))
 
-    patched : stop.work.kind ≡ Patch → (count : ℕ) → new ≡ carries (patch_answer stop.work count) (patches stop.work count (acknowledges stop RUN false old))
-        → OwnAnswers old new
-    patched kind count e = own_none old new calls t.moves.calls_are begun pending (ap (λ (c : StopCpuValue). c.part.answers) e)
+    patched : stop.work.kind ≡ Patch → (n count : ℕ)
+        → new ≡ makes n (carries (patch_answer stop.work count) (patches stop.work count (acknowledges stop RUN false old))) → OwnAnswers old new
+    patched kind n count e = own_none old new calls t.moves.calls_are begun pending (ap (λ (c : StopCpuValue). c.part.answers) e)
         (λ work x run k. let it = of_it RUN (ap (λ (c : StopCpuValue). c.inside) e) work x run k in
         absurd (let bad : Multi ≡ Patch = sym it.2 ∙ kind in cc))
 
-    left : (mid : StopCpuValue) → stop.acked ≡ RUN → mid ≡ reads_anew stop (acknowledges stop EXIT true old) → new ≡ completed Left stop mid
-        → OwnAnswers old new
-    left mid at is_mid e =
-        let e' : new ≡ completed Left stop (reads_anew stop (acknowledges stop EXIT true old)) = e ∙ ap (completed Left stop) is_mid in
+    left : (mid : StopCpuValue) (last : Bool) (n : ℕ) → stop.acked ≡ RUN → mid ≡ makes n (reads_anew stop (acknowledges stop EXIT true old))
+        → new ≡ completed Left stop last mid → OwnAnswers old new
+    left mid last n at is_mid e =
+        let e' : new ≡ completed Left stop last (makes n (reads_anew stop (acknowledges stop EXIT true old))) =
+        e ∙ ap (completed Left stop last) is_mid in
         own_answered old new stop (carried_answer old.part.calling) calls t.moves.calls_are begun pending
         (ap (λ (c : StopCpuValue). c.part.answers) e') (own_low old shown) (own_link old shown stop is)
         (λ run.
@@ -105,14 +108,14 @@ module _ {F : Type 0} (leads : F → Called → F → Type 0) (old new : StopCpu
 
     ran : (mid : StopCpuValue) (kind : Kind) → stop.work.kind ≡ kind → RunsAt leads stop old mid f f' kind → new ≡ mid → OwnAnswers old new
     ran mid One k r e = absurd r
-    ran mid Multi k r e = called r.0 (e ∙ r.1)
-    ran mid Patch k r e = patched k r.0 (e ∙ r.1)
+    ran mid Multi k r e = called (4 + raising r.1.0) r.0 (e ∙ r.1.1)
+    ran mid Patch k r e = patched k (5 + patching old.setting stop.work r.0 + raising r.1.0) r.0 (e ∙ r.1.1)
 
-    round : (mid : StopCpuValue) (u : Turn) → Advances leads stop old mid f f' u → new ≡ completed u stop mid → OwnAnswers old new
-    round mid Same a e = looked (e ∙ a.0)
-    round mid (Moved p) a e = moved p (nat_lt p DISABLE_IRQ) (e ∙ a.3) a.2
-    round mid Ran a e = ran mid stop.work.kind refl a.2 e
-    round mid Left a e = left mid a.0 a.1 e
+    round : (mid : StopCpuValue) (u : Turn) (last : Bool) → Advances leads stop old mid f f' u → new ≡ completed u stop last mid → OwnAnswers old new
+    round mid Same last a e = looked (e ∙ a.0)
+    round mid (Moved p) last a e = moved (2 + raising a.3.0) p (nat_lt p DISABLE_IRQ) (e ∙ a.3.1) a.2
+    round mid Ran last a e = ran mid stop.work.kind refl a.2 e
+    round mid Left last a e = left mid last (2 + raising a.1.0) a.0 a.1.1 e
 
   own_turn : HasNotLeft old.inside → OwnAnswers old new
   own_turn not_left = inside old.inside refl
@@ -121,7 +124,7 @@ module _ {F : Type 0} (leads : F → Called → F → Type 0) (old new : StopCpu
       went_round stop is several =
           let at : IsInRound old = record { stop = stop; is = is; several = several; not_left = subst HasNotLeft is not_left } in
           let g = t.round at in
-          round g.at.stop g.at.is g.at.several g.advanced turn g.advances g.is
+          round g.at.stop g.at.is g.at.several g.advanced turn g.last g.advances g.is
 
       of_kind : (stop : Inside) → old.inside ≡ Some stop → (k : Kind) → stop.work.kind ≡ k → OwnAnswers old new
       of_kind stop is One e = ran_one (t.one (record { stop = stop; is = is; one = e })).0

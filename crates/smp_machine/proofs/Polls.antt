@@ -39,9 +39,9 @@ front_queues old new None t = (ap (λ (p : PassesValue). p.queues) t, ap (λ (p 
 front_queues old new (Some x) t =
     (ap (λ (p : PassesValue). p.queues) t.0, ap (λ (p : PassesValue). p.number) t.0, ap (λ (p : PassesValue). p.put) t.0)
 
--- a CPU of which nothing has changed but where it is, and its attempts to enter a stop
+-- a CPU of which nothing has changed but where it is, its attempts to enter a stop, and how many steps it has made
 abbrev tried : StopCpuValue → StopCpuValue → StopCpuValue
-tried old new = record old { inside = new.inside; attempts = new.attempts }
+tried old new = record old { inside = new.inside; attempts = new.attempts; steps = new.steps }
 
 -- to take the front of the queue changes no more
 front_inside : (m : MachineValue) (old new : StopCpuValue) (front : Option Item) (slot : Option ℕ) → EntersFront m.stops old new front slot
@@ -72,7 +72,7 @@ next_own : (m : MachineValue) (old new : MachineCpuValue) (slot : Option ℕ) �
 next_own m old new slot t =
     let p = front_queues old.passes new.passes t.front t.passes_are in
     let e = front_inside m old.stops new.stops t.front slot t.stops_are in
-    λ i. own_of (record { calls = old.calls; stops = record (e i) { inside = None; attempts = [] }; passes = record (old.passes) { put = p.2 i } })
+    λ i. own_of (record { calls = old.calls; stops = record (e i) { inside = None; attempts = []; steps = 0 }; passes = record (old.passes) { put = p.2 i } })
 
 module _ {H F : Type 0} (hears : H → Heard → H → Type 0) (leads : F → Called → F → Type 0) where
   pub going_none : (p : MachineCpuValue) (h : H) (f : F) → p.stops.inside ≢ None → Going hears leads p h f p h f

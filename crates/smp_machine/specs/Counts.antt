@@ -1,7 +1,7 @@
 -- What a change of a key's count by one makes of its CPU.
-use Rattle.std.specs.Prelude.{◌≡◌, ◌≢◌, ◌⊎◌, ℕ, ℤ, pos, ◌≤◌, Bool, true, false, if◌then◌else◌, Result, Ok, Err, None, List, [], ◌++◌}
+use Rattle.std.specs.Prelude.{◌≡◌, ◌≢◌, ◌⊎◌, ℕ, ℤ, pos, ◌+◌, ◌*◌, ◌≤◌, Bool, true, false, if◌then◌else◌, Result, Ok, Err, None, List, [], ◌++◌}
 use Rattle.std.specs.List.{AllByRecursion}
-use Rattle.std.specs.Prelude.{map, slice_index_or, slice_set}
+use Rattle.std.specs.Prelude.{length, map, slice_index_or, slice_set}
 use Rattle.smp_labels.specs.Keys.{is_on}
 use Rattle.smp_labels.specs.declared.keys.Change.{Change}
 use Rattle.smp_labels.specs.declared.keys.Change.TheVariants.{Up, Down}
@@ -32,11 +32,12 @@ step_of up = if up then Up else Down
 abbrev pub with_nudge : Bool → ℕ → Own → Own
 with_nudge up k o = record o { nudged = slice_set o.nudged k (moved_more up (slice_index_or o.nudged k unmoved)) }
 
--- a CPU that has tried to nudge key k, in vain, at these counts
+-- a CPU that has tried to nudge key k, in vain, at these counts: at a load and an exchange each
 abbrev pub tries_all : ℕ → List ℕ → CpuValue → CpuValue
 tries_all k lost c = record c {
   part = record (c.part) { readings = c.part.readings ++ map (λ count. ReadKey k (is_on count)) lost };
   moves = c.moves ++ lost_tries k lost;
+  steps = c.steps + 2 * length lost;
 }
 
 -- nudges tried as long as they were lost, each at a count at which the key stays on, and a last one, whose load has found this

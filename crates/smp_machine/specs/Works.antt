@@ -1,7 +1,6 @@
 -- What a CPU does between two points of a call.
 use Rattle.std.specs.Prelude.{◌≡◌, ◌≢◌, ℕ, ℤ, Bool, true, false, Some, None, List, [], ◌∷◌, ◌++◌, map}
 use Rattle.std.specs.List.{FoldsTo}
-use Rattle.smp_stop_steps.specs.Callings.{answer_in as carried_answer}
 use Rattle.smp_stop_steps.specs.Start.{answer_word}
 use Rattle.smp_stop_steps.specs.Tells.{first_readings}
 use Rattle.smp_stop_steps.specs.declared.phase.TheConstants.{EXIT}
@@ -10,9 +9,9 @@ use Rattle.smp_queue.specs.Cpu.{CpuValue as CallCpuValue}
 use Rattle.smp_queue.specs.declared.handler.Heard.{Heard}
 use Rattle.smp_calls.specs.Handles.{Handles}
 use Rattle.smp_multi.specs.Names.{Part, StopCall, One}
-use Rattle.smp_multi.specs.Advance.{IsInRound, Advances}
-use Rattle.smp_multi.specs.Answers.{IsInOne, call_of}
-use Rattle.smp_multi.specs.Cpu.{CpuValue as StopCpuValue, Inside, answers, runs}
+use Rattle.smp_multi.specs.Advance.{IsInRound, Advances, completes}
+use Rattle.smp_multi.specs.Answers.{IsInOne, completes_one}
+use Rattle.smp_multi.specs.Cpu.{CpuValue as StopCpuValue, Inside}
 use Rattle.smp_multi.specs.Running.{called}
 use Rattle.smp_multi.specs.declared.func.Called.{Called}
 use Rattle.smp_multi.specs.declared.turn.Turn.{Turn}
@@ -104,7 +103,7 @@ turned_part old new = record old {
 }
 
 abbrev pub turned : StopCpuValue → StopCpuValue → StopCpuValue
-turned old new = record old { inside = new.inside; irq = new.irq; part = turned_part old.part new.part }
+turned old new = record old { inside = new.inside; irq = new.irq; part = turned_part old.part new.part; steps = new.steps }
 
 -- the same: it has entered none, and lost none; and the stop functions that it has run
 pub record StopMoves {F : Type 0} (leads : F → Called → F → Type 0) (old : StopCpuValue) (f : F) (new : StopCpuValue) (f' : F) : Type 0 where
@@ -118,20 +117,22 @@ pub record StopMoves {F : Type 0} (leads : F → Called → F → Type 0) (old :
 pub record RunsOne {F : Type 0} (leads : F → Called → F → Type 0) (old : StopCpuValue) (f : F) (new : StopCpuValue) (f' : F) : Type 0 where
   pub at : IsInOne old
   pub answer : ℤ
-  pub is : new ≡ answers at.stop.slot (answer_word answer) (runs (call_of at.stop answer) old)
+  pub last : Bool
+  pub is : new ≡ completes_one at.stop answer last old
   pub ran : leads f (called old.number at.stop.work.func at.stop.work.arg answer) f'
 
 -- the CPU completes its stop where the turn is the one in which it has left
-abbrev pub completed : Turn → Inside → StopCpuValue → StopCpuValue
-completed Left stop c = answers stop.slot (carried_answer c.part.calling) c
-completed _ stop c = c
+abbrev pub completed : Turn → Inside → Bool → StopCpuValue → StopCpuValue
+completed Left stop last c = completes stop.slot last c
+completed _ stop last c = c
 
 -- one turn of a stop of several CPUs, with its completion at the end
 pub record GoesRound {F : Type 0} (leads : F → Called → F → Type 0) (old : StopCpuValue) (f : F) (new : StopCpuValue) (f' : F) (turn : Turn) : Type 0 where
   pub at : IsInRound old
   pub advanced : StopCpuValue
   pub advances : Advances leads at.stop old advanced f f' turn
-  pub is : new ≡ completed turn at.stop advanced
+  pub last : Bool
+  pub is : new ≡ completed turn at.stop last advanced
 
 -- the CPU is still in the same stop, which it has not left
 abbrev pub StaysIn : StopCpuValue → StopCpuValue → Type 0
