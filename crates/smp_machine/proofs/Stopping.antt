@@ -13,6 +13,7 @@ use Rattle.smp_multi.specs.Answers.{IsWholeWord}
 use Rattle.smp_multi.specs.Cpu.{CpuValue, begins, collects, takes_gate, gives_gate, misses_gate, looks_in_vain}
 use Rattle.smp_stop_steps.specs.declared.known.OwnMove.TheVariants.{Busy, Took, Gave, Began, NotDone, Collected}
 use Rattle.smp_machine.specs.Moves.{told, tells, short_stop, long_stop, stop_moves}
+use Rattle.smp_machine.specs.declared.stop.Holds.{Holds}
 use Rattle.smp_multi.specs.Names.{OwnMove, Work}
 use Rattle.smp_multi.specs.Polls.{IsLastResult}
 use Rattle.smp_multi.specs.declared.func.Called.{Called}
@@ -248,11 +249,11 @@ module _ {H F : Type 0} (hears : H → Heard → H → Type 0) (runs : F → Cal
         outside = c.outside;
       }
 
-  -- the same, long or not
-  pub stop_as : {old new : MachineCpuValue} {h h' : H} {f f' : F} {work : Work} {v : ℤ} {long is_long : Bool} → is_long ≡ long
-      → HasStopped hears runs (stop_moves long) work old h f new h' f' v → HasStopped hears runs (stop_moves is_long) work old h f new h' f' v
+  -- the same, by how long the gate was held
+  pub stop_as : {old new : MachineCpuValue} {h h' : H} {f f' : F} {work : Work} {v : ℤ} {holds asked : Holds} → asked ≡ holds
+      → HasStopped hears runs (stop_moves holds) work old h f new h' f' v → HasStopped hears runs (stop_moves asked) work old h f new h' f' v
   stop_as {old} {new} {h} {h'} {f} {f'} {work} {v} e =
-      subst (λ (b : Bool). HasStopped hears runs (stop_moves b) work old h f new h' f' v) (sym e)
+      subst (λ (x : Holds). HasStopped hears runs (stop_moves x) work old h f new h' f' v) (sym e)
 
   -- the same stop, as callers see its CPU and its answer
   pub stop_seen : {old seen new : MachineCpuValue} {h h' : H} {f f' : F} {moves : Work → ℕ → List OwnMove} {work : Work} (u v : ℤ)

@@ -3,6 +3,8 @@ use Rattle.std.specs.List.{AllByRecursion, filter}
 use Rattle.std.specs.Prelude.{◌≡◌, ℕ, Bool, true, false, List, [], ◌∷◌, ◌++◌}
 use Rattle.smp_multi.specs.Names.{OwnMove, Work}
 use Rattle.smp_multi.specs.Nudges.{turn_at, StaysOn}
+use Rattle.smp_machine.specs.declared.stop.Holds.{Holds}
+use Rattle.smp_machine.specs.declared.stop.Holds.TheVariants.{UntilQueued, UntilDone}
 use Rattle.smp_stop_steps.specs.declared.known.OwnMove.TheVariants.{Busy, Took, Gave, Began, NotDone, Collected, Found, Lost}
 
 -- a try of the gate that has found a holder, and a look at done that has found it not set, only say that the CPU waits
@@ -23,9 +25,10 @@ short_stop work word = Took ∷ Began work ∷ Gave ∷ Collected word ∷ []
 abbrev pub long_stop : Work → ℕ → List OwnMove
 long_stop work word = Took ∷ Began work ∷ Collected word ∷ Gave ∷ []
 
-abbrev pub stop_moves : Bool → Work → ℕ → List OwnMove
-stop_moves true = long_stop
-stop_moves false = short_stop
+-- by how long the gate is held
+abbrev pub stop_moves : Holds → Work → ℕ → List OwnMove
+stop_moves UntilDone = long_stop
+stop_moves UntilQueued = short_stop
 
 -- a patch, after these moves, by which the gate was taken: it is held until the result is collected
 abbrev pub patch_after : List OwnMove → Work → ℕ → List OwnMove

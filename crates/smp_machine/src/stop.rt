@@ -206,8 +206,16 @@ pub(crate) fn collect<A: Allocator, R: Wait, H: Handler, F: StopFunc>(
     unreachable!()
 }
 
-/// A stop of this work: its result. Where it is `long`, the gate is given up only once the stop is complete, else as soon
-/// as its works are queued.
+/// How long the source of a stop holds the gate.
+#[derive(Clone, Copy)]
+pub(crate) enum Holds {
+    /// Until the works of the stop are queued.
+    UntilQueued,
+    /// Until the stop is complete.
+    UntilDone,
+}
+
+/// A stop of this work: its result.
 pub(crate) fn stop<A: Allocator, R: Wait, H: Handler, F: StopFunc>(
     machine: &Machine<A>,
     rt: &R,
@@ -215,27 +223,31 @@ pub(crate) fn stop<A: Allocator, R: Wait, H: Handler, F: StopFunc>(
     handler: &mut H,
     run: &mut F,
     work: &Work,
-    long: bool,
+    holds: Holds,
 ) -> i32
     requires at { IsAt machine.now me.old }
     requires outside { me.old.stops.inside ≡ None }
     requires collected { me.old.stops.pending ≡ None }
     requires work { MayBegin machine.now.stops work.now }
-    ensures stopped { HasStopped H.leads F.leads (stop_moves long) work.now me.old handler.old run.old me.new handler.new run.new result }
+    ensures stopped { HasStopped H.leads F.leads (stop_moves holds) work.now me.old handler.old run.old me.new handler.new run.new result }
     ensures own { RunsItself work.now me.old.stops me.new.stops result }
 {
     me.is_shown(&machine.stops);
     take_gate(machine, rt, me, handler, run);
     begin(machine, me, work);
     put_to_all(machine, rt, me, handler, run, work);
-    if long {
-        let answer = collect(machine, rt, me, handler, run);
-        give_gate(machine, me);
-        me.is_shown(&machine.stops);
-        return answer;
+    match holds {
+        Holds::UntilDone => {
+            let answer = collect(machine, rt, me, handler, run);
+            give_gate(machine, me);
+            me.is_shown(&machine.stops);
+            answer
+        }
+        Holds::UntilQueued => {
+            give_gate(machine, me);
+            let answer = collect(machine, rt, me, handler, run);
+            me.is_shown(&machine.stops);
+            answer
+        }
     }
-    give_gate(machine, me);
-    let answer = collect(machine, rt, me, handler, run);
-    me.is_shown(&machine.stops);
-    answer
 }

@@ -12,7 +12,7 @@ ghost use Rattle.smp_machine.specs.Stops.{HasStopped, IsActiveAlone, IsOneWork, 
 
 use crate::cpu::Cpu;
 use crate::machine::Machine;
-use crate::stop::stop;
+use crate::stop::{Holds, stop};
 use crate::stop_work::{machine_work, one_work, two_work};
 use smp_mask::{CpuMask, SmpError};
 use smp_multi::StopFunc;
@@ -56,7 +56,7 @@ impl<A: Allocator> Machine<A> {
             return Err(SmpError::NoStopper);
         }
         let work = one_work(&self.stops, dst, func, arg);
-        Ok(stop(self, rt, &mut me.place, handler, run, &work, false))
+        Ok(stop(self, rt, &mut me.place, handler, run, &work, Holds::UntilQueued))
     }
 
     /// Stops two CPUs together and runs a function on the first of them (`kernel/stop_machine.c: stop_two_cpus`): its
@@ -96,7 +96,7 @@ impl<A: Allocator> Machine<A> {
             return Err(SmpError::NoStopper);
         }
         let work = two_work(&self.stops, a, b, func, arg);
-        Ok(stop(self, rt, &mut me.place, handler, run, &work, false))
+        Ok(stop(self, rt, &mut me.place, handler, run, &work, Holds::UntilQueued))
     }
 
     /// Stops all CPUs that are online, and runs a function on the active ones of them, with the interrupts of all of them
@@ -134,6 +134,6 @@ impl<A: Allocator> Machine<A> {
             return Err(SmpError::BadArgument);
         }
         let work = machine_work(&self.stops, func, arg, active);
-        Ok(stop(self, rt, &mut me.place, handler, run, &work, true))
+        Ok(stop(self, rt, &mut me.place, handler, run, &work, Holds::UntilDone))
     }
 }

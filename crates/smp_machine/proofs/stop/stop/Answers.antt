@@ -8,32 +8,32 @@ use Rattle.smp_machine.proofs.OwnCounts.{stop_itself}
 use Rattle.smp_machine.proofs.Stopping.{stop_queued, stop_long, stop_short, stop_as}
 use Rattle.smp_machine.proofs.stop.stop.Goals as goal
 
-pub returns-then-long-clause-stopped : goal.returns-then-long-clause-stopped
-returns-then-long-clause-stopped g c =
+pub returns-in-UntilDone-clause-stopped : goal.returns-in-UntilDone-clause-stopped
+returns-in-UntilDone-clause-stopped g c =
     let v = c.collect-answer.result in
     let fits : SFits w32 v = search rules in
-    stop_as g.H.Handler.leads g.F.StopFunc.leads c.if-long.true
+    stop_as g.H.Handler.leads g.F.StopFunc.leads c.in-UntilDone.is
     (stop_long g.H.Handler.leads g.F.StopFunc.leads c.args.work.now _ v (to_z-of_z w32 v fits)
     (ap (λ (p : MachineCpuValue). p.stops.number) c.begin.ensures ∙ c.take_gate.ensures.works.number_is)
     (stop_queued g.H.Handler.leads g.F.StopFunc.leads c.args.work.now c.take_gate.ensures.works c.begin.ensures c.put_to_all.ensures.works)
     c.put_to_all.ensures.shown c.collect-answer.ensures c.give_gate.ensures)
 
-pub returns-then-long-clause-own : goal.returns-then-long-clause-own
-returns-then-long-clause-own g c =
-    stop_itself g.H.Handler.leads g.F.StopFunc.leads (stop_moves c.args.long) c.args.work.now _ c.is_shown.ensures.shown c.is_shown-then-long.ensures.shown
-    c.requires.collected c.requires.outside (returns-then-long-clause-stopped g c)
+pub returns-in-UntilDone-clause-own : goal.returns-in-UntilDone-clause-own
+returns-in-UntilDone-clause-own g c =
+    stop_itself g.H.Handler.leads g.F.StopFunc.leads (stop_moves c.args.holds) c.args.work.now _ c.is_shown.ensures.shown c.is_shown-in-UntilDone.ensures.shown
+    c.requires.collected c.requires.outside (returns-in-UntilDone-clause-stopped g c)
 
-pub returns-clause-stopped : goal.returns-clause-stopped
-returns-clause-stopped g c =
+pub returns-in-UntilQueued-clause-stopped : goal.returns-in-UntilQueued-clause-stopped
+returns-in-UntilQueued-clause-stopped g c =
     let v = c.collect-answer-2.result in
     let fits : SFits w32 v = search rules in
-    stop_as g.H.Handler.leads g.F.StopFunc.leads c.if-long.false
+    stop_as g.H.Handler.leads g.F.StopFunc.leads c.in-UntilQueued.is
     (stop_short g.H.Handler.leads g.F.StopFunc.leads c.args.work.now _ v (to_z-of_z w32 v fits)
     (ap (λ (p : MachineCpuValue). p.stops.number) c.begin.ensures ∙ c.take_gate.ensures.works.number_is)
     (stop_queued g.H.Handler.leads g.F.StopFunc.leads c.args.work.now c.take_gate.ensures.works c.begin.ensures c.put_to_all.ensures.works)
     c.put_to_all.ensures.shown c.give_gate-2.ensures c.collect-answer-2.ensures)
 
-pub returns-clause-own : goal.returns-clause-own
-returns-clause-own g c =
-    stop_itself g.H.Handler.leads g.F.StopFunc.leads (stop_moves c.args.long) c.args.work.now _ c.is_shown.ensures.shown c.is_shown-2.ensures.shown
-    c.requires.collected c.requires.outside (returns-clause-stopped g c)
+pub returns-in-UntilQueued-clause-own : goal.returns-in-UntilQueued-clause-own
+returns-in-UntilQueued-clause-own g c =
+    stop_itself g.H.Handler.leads g.F.StopFunc.leads (stop_moves c.args.holds) c.args.work.now _ c.is_shown.ensures.shown c.is_shown-in-UntilQueued.ensures.shown
+    c.requires.collected c.requires.outside (returns-in-UntilQueued-clause-stopped g c)
