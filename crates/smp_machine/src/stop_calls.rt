@@ -56,7 +56,15 @@ impl<A: Allocator> Machine<A> {
             return Err(SmpError::NoStopper);
         }
         let work = one_work(&self.stops, dst, func, arg);
-        Ok(stop(self, rt, &mut me.place, handler, run, &work, Holds::UntilQueued))
+        Ok(stop(
+            self,
+            rt,
+            &mut me.place,
+            handler,
+            run,
+            &work,
+            Holds::UntilQueued,
+        ))
     }
 
     /// Stops two CPUs together and runs a function on the first of them (`kernel/stop_machine.c: stop_two_cpus`): its
@@ -96,7 +104,15 @@ impl<A: Allocator> Machine<A> {
             return Err(SmpError::NoStopper);
         }
         let work = two_work(&self.stops, a, b, func, arg);
-        Ok(stop(self, rt, &mut me.place, handler, run, &work, Holds::UntilQueued))
+        Ok(stop(
+            self,
+            rt,
+            &mut me.place,
+            handler,
+            run,
+            &work,
+            Holds::UntilQueued,
+        ))
     }
 
     /// Stops all CPUs that are online, and runs a function on the active ones of them, with the interrupts of all of them
@@ -134,6 +150,14 @@ impl<A: Allocator> Machine<A> {
             return Err(SmpError::BadArgument);
         }
         let work = machine_work(&self.stops, func, arg, active);
-        Ok(stop(self, rt, &mut me.place, handler, run, &work, Holds::UntilDone))
+        Ok(stop(
+            self,
+            rt,
+            &mut me.place,
+            handler,
+            run,
+            &work,
+            Holds::UntilDone,
+        ))
     }
 }
