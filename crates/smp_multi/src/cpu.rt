@@ -14,8 +14,8 @@ use std::marker::Model;
 
 /// One CPU between two calls, seen as its table, its number, its own stop that is not collected, the stop that it is
 /// in, whether its interrupts are on, its own part of all stops (what it has begun, collected, answered, looked at, called
-/// and read), its steps at the gate, at its own stop and at keys, in order, and its attempts to enter a stop, in order. Only
-/// calls with this value change these three.
+/// and read), its steps at the gate, at its own stop and at keys, in order, its attempts to enter a stop, in order, and how
+/// many steps it has made in all. Only calls with this value change these four.
 /// It may move to another thread.
 #[derive(Drop)]
 pub struct StopCpu {

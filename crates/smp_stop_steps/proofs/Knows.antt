@@ -5,3 +5,4 @@ pub mod KnownRounds
 pub mod KnownEnds
 pub mod KnownLabels
 pub mod KnownMoves
+pub mod KnownSteps

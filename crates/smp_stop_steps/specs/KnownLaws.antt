@@ -1,7 +1,8 @@
 -- What each step that a CPU may make by what it knows keeps, beside the stops that it tells.
-use Rattle.std.specs.Prelude.{◌≡◌, ℕ, Some, None}
-use Rattle.smp_stop_steps.specs.Names.{word_of, at_after, seen_of, Word}
+use Rattle.std.specs.Prelude.{◌≡◌, ℕ, ◌+◌, Some, None}
+use Rattle.smp_stop_steps.specs.Names.{word_of, at_after, seen_of, Word, Work}
 use Rattle.smp_stop_steps.specs.Known.{Known, Sees, setup_in}
+use Rattle.smp_stop_steps.specs.KnownAfter.{known_entering}
 use Rattle.smp_stop_steps.specs.Labels.{Change, Whole}
 use Rattle.smp_stop_steps.specs.Moves.{Move, MayStep, known_access}
 use Rattle.smp_stop_steps.specs.Patchers.{IsNextOfPatch, label_stored}
@@ -24,3 +25,9 @@ pub record KeepsMoveLaws (p : StopState) (at : Word → ℕ) (v : Known) (m : Mo
 abbrev pub KnownMovesKeepLaws : Type 0
 KnownMovesKeepLaws = (p : StopState) (at : Word → ℕ) (seat : ℕ → Seat) (source : ℕ → Source) (v : Known) → StopShows (setup_in v.setting) p at seat source →
     Sees p seat source v → (m : Move) → MayStep v m → KeepsMoveLaws p at v m
+
+-- each step that a CPU may make is counted once, whatever it finds and whichever work it learns
+abbrev pub KnownStepsCount : Type 0
+KnownStepsCount = (v : Known) (m : Move) → MayStep v m → (found : ℕ) (w : Work) →
+    let seen = seen_of v.number (known_access v m) found None in
+    (known_entering w v seen.act seen.word seen.found seen.put).steps ≡ v.steps + 1

@@ -235,13 +235,18 @@ pub fn moves_are_known()
     ensures { MovesAreKnown }
 {}
 
-ghost use Rattle.smp_stop_steps.specs.KnownLaws.{KnownMovesKeepLaws};
+ghost use Rattle.smp_stop_steps.specs.KnownLaws.{KnownMovesKeepLaws, KnownStepsCount};
 
 /// Where threads share the words, what holds before each step that a CPU may make by what it knows is what holds before the
 /// steps of commands (`steps_are_premised`). A store to a key or a site is the next one of its own patch. While nobody
 /// patches, no such step turns a key on or off or changes a site.
 pub fn known_moves_keep_laws()
     ensures { KnownMovesKeepLaws }
+{}
+
+/// Where threads share the words, each step that a CPU may make by what it knows is counted once in its number of steps.
+pub fn known_steps_count()
+    ensures { KnownStepsCount }
 {}
 
 ghost use Rattle.smp_stop_steps.specs.Commands.{CommandsBeginSo, BeginsStoreTheWork, WorksAreBegun, NudgesGoSo, NotesEndCommands};

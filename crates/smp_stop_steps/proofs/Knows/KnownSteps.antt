@@ -1,0 +1,148 @@
+-- Each step that a CPU may make is counted once.
+use Rattle.std.proofs.Common.{◌≡◌, ℕ, ◌+◌, ◌==◌, Bool, true, false, cond, Option, Some, None, refl, ap}
+use Rattle.smp_labels.specs.declared.patch.Place.TheVariants as place
+use Rattle.smp_stop_steps.specs.{begun_value, cpus, has, mask_weight, seen_of, Seat, Free, In, Gives, Alters, Closes, Source, Shut, Drafts, Owns, Collects, Field, Work}
+use Rattle.smp_stop_steps.specs.{acked_by, called_by, completed_by, drafted_known, entered_known, gate_known, is_drafting, key_known, key_loaded_by, learned}
+use Rattle.smp_stop_steps.specs.{member_stored, opened_by, raised_by, slot_known, slot_stored}
+use Rattle.smp_stop_steps.specs.Known.{Known}
+use Rattle.smp_stop_steps.specs.KnownLaws.{KnownStepsCount}
+use Rattle.smp_stop_steps.specs.Moves.{Move, TakeGate, OpenGate, Draft, DraftMore, Open, Enter, Look, Acknowledge, AcknowledgePatch, Refill, Raise, Give}
+use Rattle.smp_stop_steps.specs.Moves.{Count, CountGiven, Close, LookDone, Collect, ReadKey, ReadSite, Nudge, BeginPatch, Alter, LoadArg, LoadField}
+use Rattle.smp_stop_steps.specs.Moves.{LoadEntry, known_access}
+use Rattle.smp_stop_steps.specs.act
+use Rattle.smp_stop_steps.specs.field
+
+-- what a step tells has no part in how many there were
+
+either : (b : Bool) (x y : Known) (n : ℕ) → x.steps ≡ n → y.steps ≡ n → (cond b x y).steps ≡ n
+either true x y n e f = e
+either false x y n e f = f
+
+module _ (v : Known) where
+  gate : (put : Option ℕ) → (gate_known act.Cas put v).steps ≡ v.steps
+  gate (Some n) = refl
+  gate None = refl
+
+  opened : (y : Source) → (opened_by y v).steps ≡ v.steps
+  opened Shut = refl
+  opened (Drafts w k) = refl
+  opened (Owns w) = refl
+  opened (Collects w) = refl
+
+  raised : (n : ℕ) (x : Seat) → (raised_by n x v).steps ≡ v.steps
+  raised n Free = refl
+  raised n (In s w a l t) = refl
+  raised n (Gives s w a x) = refl
+  raised n (Alters s w count made rest) = refl
+  raised n (Closes s) = refl
+
+  acked : (found : ℕ) (x : Seat) → (acked_by found x v).steps ≡ v.steps
+  acked found Free = refl
+  acked found (In s w a l t) = refl
+  acked found (Gives s w a x) = refl
+  acked found (Alters s w count made rest) = refl
+  acked found (Closes s) = refl
+
+  completed : (found : ℕ) (x : Seat) → (completed_by found x v).steps ≡ v.steps
+  completed found Free = refl
+  completed found (In s w a l t) = refl
+  completed found (Gives s w a x) = refl
+  completed found (Alters s w count made rest) = refl
+  completed found (Closes s) = refl
+
+  called : (found : ℕ) (x : Seat) → (called_by found x v).steps ≡ v.steps
+  called found Free = refl
+  called found (In s w a l t) = either _ _ v v.steps refl refl
+  called found (Gives s w a x) = refl
+  called found (Alters s w count made rest) = refl
+  called found (Closes s) = refl
+
+  key_loaded : (k found : ℕ) (x : Seat) → (key_loaded_by k found x v).steps ≡ v.steps
+  key_loaded k found Free = refl
+  key_loaded k found (In s w a l t) = either _ _ _ v.steps refl refl
+  key_loaded k found (Gives s w a x) = refl
+  key_loaded k found (Alters s w count made rest) = refl
+  key_loaded k found (Closes s) = refl
+
+  nudged : (k found : ℕ) (put : Option ℕ) → (key_known act.Cas k (Some found) put v).steps ≡ v.steps
+  nudged k found (Some n) = refl
+  nudged k found None = refl
+
+  entered : (s : ℕ) (w : Work) (b : Bool) → (entered_known s w b v).steps ≡ v.steps
+  entered s w true = refl
+  entered s w false = refl
+
+  -- a store to a slot, of a CPU that drafts or not
+  member : (f : Field) (n : ℕ) → (member_stored f n v).steps ≡ v.steps
+  member field.Kind n = refl
+  member field.Mask n = refl
+  member field.Active n = refl
+  member field.Func n = refl
+  member field.Arg n = refl
+  member field.State n = raised n v.seat
+  member field.Ack n = refl
+  member field.Roll n = refl
+  member field.Todo n = refl
+  member field.Result n = refl
+  member field.Done n = refl
+
+  drafted : (f : Field) (n : ℕ) → (cond (is_drafting v.source) (drafted_known f n v) (member_stored f n v)).steps ≡ v.steps
+  drafted f n = either (is_drafting v.source) (drafted_known f n v) (member_stored f n v) v.steps refl (member f n)
+
+  stored : (f : Field) (n : ℕ) → (slot_stored f n v).steps ≡ v.steps
+  stored field.Kind n = refl
+  stored field.Mask n = drafted field.Mask n
+  stored field.Active n = drafted field.Active n
+  stored field.Func n = drafted field.Func n
+  stored field.Arg n = drafted field.Arg n
+  stored field.State n = drafted field.State n
+  stored field.Ack n = drafted field.Ack n
+  stored field.Roll n = opened v.source
+  stored field.Todo n = drafted field.Todo n
+  stored field.Result n = drafted field.Result n
+  stored field.Done n = drafted field.Done n
+
+  loaded : (w : Work) (s n : ℕ) (f : Field) → (slot_known w v s act.Load f (Some n) None).steps ≡ v.steps
+  loaded w s n field.Kind = refl
+  loaded w s n field.Mask = refl
+  loaded w s n field.Active = refl
+  loaded w s n field.Func = refl
+  loaded w s n field.Arg = called n v.seat
+  loaded w s n field.State = refl
+  loaded w s n field.Ack = refl
+  loaded w s n field.Roll = refl
+  loaded w s n field.Todo = refl
+  loaded w s n field.Result = refl
+  loaded w s n field.Done = refl
+
+  told : (m : Move) (found : ℕ) (w : Work) → let seen = seen_of v.number (known_access v m) found None in
+      (learned w v seen.act seen.word seen.found seen.put).steps ≡ v.steps
+  told TakeGate found w = gate (cond (found == 0) (Some (v.number + 1)) None)
+  told OpenGate found w = refl
+  told (Draft x) found w = refl
+  told (DraftMore x f) found w = stored f (begun_value cpus x f)
+  told (Open x) found w = opened v.source
+  told (Enter s) found w = entered s w (has found v.number)
+  told (Look s x a l) found w = refl
+  told (Acknowledge s x a) found w = acked found v.seat
+  told (AcknowledgePatch s x count made) found w = acked found v.seat
+  told (Refill s x a l) found w = stored field.Ack (mask_weight cpus x.mask)
+  told (Raise s x a l) found w = stored field.State (a + 1)
+  told (Give s x a l n) found w = stored field.Result n
+  told (Count s x a l) found w = completed found v.seat
+  told (CountGiven s x a n) found w = completed found v.seat
+  told (Close s) found w = stored field.Done 1
+  told (LookDone x) found w = refl
+  told (Collect x) found w = refl
+  told (ReadKey k) found w = key_loaded k found v.seat
+  told (ReadSite i) found w = refl
+  told (Nudge k old new) found w = nudged k found (cond (found == old) (Some new) None)
+  told (BeginPatch s x) found w = key_loaded x.func found v.seat
+  told (Alter s x count made (place.Key k, n) rest) found w = refl
+  told (Alter s x count made (place.Site i, n) rest) found w = refl
+  told (LoadArg s x a l) found w = called found v.seat
+  told (LoadField s x a l f) found w = loaded w s found f
+  told (LoadEntry s x count made rest i) found w = refl
+
+pub known_steps_count : KnownStepsCount
+known_steps_count v m may found w = ap (λ n. n + 1) (told v m found w)
