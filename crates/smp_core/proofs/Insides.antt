@@ -10,7 +10,7 @@ use Rattle.smp_call_steps.specs.Stages.{ControlValue}
 use Rattle.smp_call_steps.specs.Start.{control_at, first_stage}
 use Rattle.smp_call_steps.specs.Value.{control_of, outside}
 use Rattle.smp_call_steps.specs.declared.stage.Stage.{Stage}
-use Rattle.smp_stop_steps.proofs.Machine.Fits.{passed}
+use Rattle.smp_stop_steps.proofs.TheMachine.Fits.{passed}
 use Rattle.smp_stop_steps.specs.Stages.{StopControlValue, stop_goes, stop_outside}
 use Rattle.smp_stop_steps.specs.Start.{in_visit, may_advance, may_finish, may_run, stop_begun_if, stop_first, stop_refusal, stop_started}
 use Rattle.smp_stop_steps.specs.Value.{StopsValue, stop_control_of}

@@ -17,8 +17,8 @@ use Rattle.smp_stop_steps.specs.Table.{stop_number}
 use Rattle.smp_stop_steps.specs.Value.{stop_control_of}
 use Rattle.smp_stop_steps.specs.declared.stage.StopStage.{StopStage}
 use Rattle.smp_stop_steps.proofs.Promises.StopLaws.{keeps_laws}
-use Rattle.smp_stop_steps.proofs.Machine.Made.{made_sound}
-use Rattle.smp_stop_steps.proofs.Machine.Started.{started_sound}
+use Rattle.smp_stop_steps.proofs.TheMachine.Made.{made_sound}
+use Rattle.smp_stop_steps.proofs.TheMachine.Started.{started_sound}
 use Rattle.smp_core.specs.Machine.{Stepped, call_step, found_at, seen_at, step_at, step_of, stepped, stop_step, stops_stepped}
 use Rattle.smp_core.specs.Start.{refusal_of, started}
 use Rattle.smp_core.specs.Value.{CoreValue}

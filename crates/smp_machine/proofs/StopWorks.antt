@@ -17,7 +17,7 @@ use Rattle.smp_stop_steps.specs.Counts.{sum_below, bit, mask_weight}
 use Rattle.smp_stop_steps.specs.Start.{fits_kind, fits_patch, fits_work, unless}
 use Rattle.smp_stop_steps.specs.Value.{first_below}
 use Rattle.smp_stop_steps.proofs.Basics.Weights.{first_at}
-use Rattle.smp_stop_steps.proofs.Machine.Fits.{all_within, of_both, one_bit}
+use Rattle.smp_stop_steps.proofs.TheMachine.Fits.{all_within, of_both, one_bit}
 use Rattle.smp_multi.specs.Names.{Work, Kind, One, Multi, Patch}
 use Rattle.smp_multi.specs.Cpu.{TableValue}
 use Rattle.smp_machine.specs.Keys.{IsPatchOf}

@@ -24,7 +24,7 @@ use Rattle.smp_stop_steps.specs.Stages.{stop_outside}
 use Rattle.smp_stop_steps.specs.State.{no_stops}
 use Rattle.smp_stop_steps.specs.Table.{StopWords, stop_number, slot_cell}
 use Rattle.smp_stop_steps.proofs.Steps.Facts.{no_stops_shown}
-use Rattle.smp_stop_steps.proofs.Machine.Opened.{opened_shown}
+use Rattle.smp_stop_steps.proofs.TheMachine.Opened.{opened_shown}
 use Rattle.smp_stop_steps.proofs.Knows.Parts.{fresh_sees}
 use Rattle.smp_multi.specs.Names.{Word, Gate, Slot, Key, Entry, Site, Free, Shut, Setting, SeatView, Maker}
 use Rattle.smp_multi.specs.Names.field

@@ -7,6 +7,6 @@ pub mod Steps
 -- what a CPU knows
 pub mod Knows
 -- the machine: a stop table, and a list of controls
-pub mod Machine
+pub mod TheMachine
 -- the laws
 pub mod Promises

@@ -41,7 +41,7 @@ pub mod AnswerWords
 pub mod Machine
 pub mod New
 pub mod Begins
-pub mod Starts
+pub mod Start
 pub mod Refusals
 pub mod Members
 pub mod Commands
@@ -88,7 +88,7 @@ unfoldable pub use AnswerWords.*
 unfoldable pub use Machine.*
 unfoldable pub use New.*
 unfoldable pub use Begins.*
-unfoldable pub use Starts.*
+unfoldable pub use Start.*
 unfoldable pub use Refusals.*
 unfoldable pub use StepLaws.*
 unfoldable pub use Kept.*

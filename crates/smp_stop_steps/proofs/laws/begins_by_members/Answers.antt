@@ -1,4 +1,4 @@
-use Rattle.smp_stop_steps.proofs.Machine.Members.{refuses_members}
+use Rattle.smp_stop_steps.proofs.TheMachine.Members.{refuses_members}
 use Rattle.smp_stop_steps.proofs.laws.begins_by_members.Goals as goal
 
 pub returns : goal.returns

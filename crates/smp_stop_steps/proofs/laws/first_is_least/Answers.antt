@@ -1,4 +1,4 @@
-use Rattle.smp_stop_steps.proofs.Machine.Members.{first_least}
+use Rattle.smp_stop_steps.proofs.TheMachine.Members.{first_least}
 use Rattle.smp_stop_steps.proofs.laws.first_is_least.Goals as goal
 
 pub returns : goal.returns

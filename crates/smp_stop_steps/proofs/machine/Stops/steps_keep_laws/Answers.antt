@@ -1,5 +1,5 @@
 use Rattle.smp_stop_steps.specs.{StopsValue}
-use Rattle.smp_stop_steps.proofs.Machine.StepLaws.{steps_keep_laws}
+use Rattle.smp_stop_steps.proofs.TheMachine.StepLaws.{steps_keep_laws}
 use Rattle.smp_stop_steps.proofs.machine.Stops.steps_keep_laws.Goals as goal
 
 pub returns : goal.returns

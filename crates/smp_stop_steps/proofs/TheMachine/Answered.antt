@@ -7,7 +7,7 @@ use Rattle.smp_words.proofs.Puts.{at_test}
 use Rattle.smp_words.specs.Commands.{FitsCommand}
 use Rattle.smp_stop_steps.specs.{Command, AnswersAreTaken, BeginsWith, HasI32Answers, IsI32Word, StageFits, VisitFits, StopControlValue, answer_word}
 use Rattle.smp_stop_steps.specs.{in_visit, stop_first, stop_control_of, Advance, Complete, Visit}
-use Rattle.smp_stop_steps.proofs.Machine.Values.{stop_controls_by_cpu}
+use Rattle.smp_stop_steps.proofs.TheMachine.Values.{stop_controls_by_cpu}
 use Rattle.smp_stop_steps.specs.completion
 use Rattle.smp_stop_steps.specs.round
 

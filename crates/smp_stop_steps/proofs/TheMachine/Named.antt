@@ -9,7 +9,7 @@ use Rattle.smp_stop_steps.specs.{label_word, round_access, stop_access, store_of
 use Rattle.smp_stop_steps.specs.{Patch, Work, Gate, Slot, Word, site_changes, MOST_KEYS, MOST_SITES}
 use Rattle.smp_stop_steps.proofs.State.Phases.{is_open_inside}
 use Rattle.smp_stop_steps.proofs.Steps.RoundSteps.{change_here}
-use Rattle.smp_stop_steps.proofs.Machine.Tables.{IsStopWord}
+use Rattle.smp_stop_steps.proofs.TheMachine.Tables.{IsStopWord}
 use Rattle.smp_stop_steps.specs.Sits.{Sits}
 use Rattle.smp_stop_steps.proofs.Steps.Stages.{at_seat}
 use Rattle.smp_stop_steps.specs.round

@@ -11,7 +11,7 @@ use Rattle.smp_stop_steps.specs.declared.start.Terms.{Terms}
 use Rattle.smp_stop_steps.proofs.State.Gates.{gate_mine}
 use Rattle.smp_stop_steps.proofs.State.Phases.{is_open_inside, keeps_inside}
 use Rattle.smp_stop_steps.proofs.Steps.Completions.{one_phase}
-use Rattle.smp_stop_steps.proofs.Machine.Fits.{both, is_kind, is_one_kind, is_same, ne_false, not_one, not_true, of_both, some_outside, within, work_fits}
+use Rattle.smp_stop_steps.proofs.TheMachine.Fits.{both, is_kind, is_one_kind, is_same, ne_false, not_one, not_true, of_both, some_outside, within, work_fits}
 use Rattle.smp_stop_steps.specs.error
 
 -- a test that says when a command may start

@@ -6,8 +6,8 @@ use Rattle.smp_stop_steps.specs.{setup_of, stop_control_of, AreSoundStops, stop_
 use Rattle.smp_stop_steps.specs.{StopStage}
 use Rattle.smp_stop_steps.proofs.Steps.StateWords.{ArePhases}
 use Rattle.smp_stop_steps.proofs.Steps.AnswerWords.{keeps_answers}
-use Rattle.smp_stop_steps.proofs.Machine.Answered.{answers_set}
-use Rattle.smp_stop_steps.proofs.Machine.Values.{stop_inside_below, stop_value_shown, stop_table_shown, stop_phases_kept, stop_results_kept}
+use Rattle.smp_stop_steps.proofs.TheMachine.Answered.{answers_set}
+use Rattle.smp_stop_steps.proofs.TheMachine.Values.{stop_inside_below, stop_value_shown, stop_table_shown, stop_phases_kept, stop_results_kept}
 
 pub record StopMade (v : StopsValue) (cpu : ℕ) (stage : StopStage) (seen : Seen) (table' : StopWords) (controls' : List StopControlValue) : Type 0 where
   pub at_stage : (stop_control_of v.controls cpu).stage ≡ Some stage

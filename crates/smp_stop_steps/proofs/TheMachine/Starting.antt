@@ -6,7 +6,7 @@ use Rattle.smp_words.specs.Commands.{FitsCommand}
 use Rattle.smp_stop_steps.specs.{has, cpus, MayBegin, MayBeginAt, IsWork, StopControlValue, completes_from, begin_refusal, refusal_on, stop_first}
 use Rattle.smp_stop_steps.specs.{stop_refusal, terms_of, has_slot, is_free, in_visit, may_advance, may_run, may_finish, Setup, stop_number, StopsValue}
 use Rattle.smp_stop_steps.specs.{setup_of, stop_control_of, Command, StopStage, Advance, Complete, Visit, Work, Gate}
-use Rattle.smp_stop_steps.proofs.Machine.Fits.{both, if_passed, is_kind, is_one_kind, is_same, ne_false, not_one, not_true, passed, within}
+use Rattle.smp_stop_steps.proofs.TheMachine.Fits.{both, if_passed, is_kind, is_one_kind, is_same, ne_false, not_one, not_true, passed, within}
 use Rattle.smp_stop_steps.specs.declared.start.Terms.{Terms}
 use Rattle.smp_stop_steps.specs.completion
 use Rattle.smp_stop_steps.specs.round

@@ -17,10 +17,10 @@ use Rattle.smp_stop_steps.specs.{OpenGate, TakeGate, NudgeKey, ExchangeKey, Stop
 use Rattle.smp_stop_steps.proofs.Steps.CallSteps.{call_step}
 use Rattle.smp_stop_steps.proofs.Steps.CompletionSteps.{stop_step_shown}
 use Rattle.smp_stop_steps.proofs.Steps.Facts.{work_words}
-use Rattle.smp_stop_steps.proofs.Machine.Named.{gate_stays, stage_named, work_in}
+use Rattle.smp_stop_steps.proofs.TheMachine.Named.{gate_stays, stage_named, work_in}
 use Rattle.smp_stop_steps.proofs.Steps.AnswerWords.{keeps_answers}
 use Rattle.smp_stop_steps.proofs.Steps.StateWords.{ArePhases, phases_after}
-use Rattle.smp_stop_steps.proofs.Machine.Tables.{IsStopWord, stop_words_by_name, table_after}
+use Rattle.smp_stop_steps.proofs.TheMachine.Tables.{IsStopWord, stop_words_by_name, table_after}
 use Rattle.smp_stop_steps.specs.Sits.{Sits}
 use Rattle.smp_stop_steps.specs.declared.stage.StopStage.TheVariants.{ReadKey, ReadSite}
 use Rattle.smp_stop_steps.specs.completion

@@ -8,8 +8,8 @@ use Rattle.smp_stop_steps.specs.{has, cpus, Kind, One, Multi, Patch, Work, sum_b
 use Rattle.smp_stop_steps.specs.{begin_refusal, unless}
 use Rattle.smp_stop_steps.specs.Members.{IsAlone, IsPatchOf, HasItsCpus, FitsMembers, RefusesByMembers}
 use Rattle.smp_stop_steps.specs.declared.start.Terms.{Terms}
-use Rattle.smp_stop_steps.proofs.Machine.Fits.{both, is_same, of_both, one_bit, some_outside, within}
-use Rattle.smp_stop_steps.proofs.Machine.Opened.{first_is}
+use Rattle.smp_stop_steps.proofs.TheMachine.Fits.{both, is_same, of_both, one_bit, some_outside, within}
+use Rattle.smp_stop_steps.proofs.TheMachine.Opened.{first_is}
 use Rattle.smp_stop_steps.specs.error
 
 -- the members of a mask of 32 CPUs are below 32

@@ -8,7 +8,7 @@ use Rattle.smp_stop_steps.specs.{Setup, StopState, StopWords, stop_number, Stops
 use Rattle.smp_stop_steps.specs.{NudgeKey, TakeGate, StopStage, Visit, Gate, Word, CarriesIn, Calling}
 use Rattle.smp_stop_steps.proofs.State.Gates.{gate_mine}
 use Rattle.smp_stop_steps.proofs.Steps.Same.{put_same_fn}
-use Rattle.smp_stop_steps.proofs.Machine.Values.{stop_controls_by_cpu}
+use Rattle.smp_stop_steps.proofs.TheMachine.Values.{stop_controls_by_cpu}
 use Rattle.smp_stop_steps.specs.Sits.{Sits}
 use Rattle.smp_stop_steps.specs.declared.stage.StopStage.TheVariants.{ReadKey, ReadSite}
 use Rattle.smp_stop_steps.specs.completion

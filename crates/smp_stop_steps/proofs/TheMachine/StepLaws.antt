@@ -7,7 +7,7 @@ use Rattle.smp_stop_steps.proofs.Steps.CallSteps.{call_step}
 use Rattle.smp_stop_steps.proofs.Steps.NoteSteps.{note_fits}
 use Rattle.smp_stop_steps.proofs.Promises.Patchers.{stores_patch}
 use Rattle.smp_stop_steps.proofs.Promises.Premises.{may_see}
-use Rattle.smp_stop_steps.proofs.Machine.Values.{stop_inside_below}
+use Rattle.smp_stop_steps.proofs.TheMachine.Values.{stop_inside_below}
 
 pub steps_keep_laws : (v : StopsValue) (p : StopState) → AreSoundStops v.online v.labels v.table v.controls → StopShown p v → StepsKeepLaws v p
 steps_keep_laws v p sound shown cpu stage e =
