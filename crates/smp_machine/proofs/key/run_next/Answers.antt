@@ -13,13 +13,13 @@ returns-in-None-clause-works g c =
     let hears = g.H.Handler.leads in
     let runs = g.F.StopFunc.leads in
     works_after hears runs (λ o. o) c.turn.ensures.works
-    (works_next hears runs c.args.machine.now c.turn.new.me c.take_next.new.me c.turn.new.handler c.turn.new.func c.take_next.result c.take_next.ensures)
+    (works_next hears runs c.args.machine.now c.turn.new.me c.take_next.new.me c.turn.new.handler c.turn.new.run c.take_next.result c.take_next.ensures)
 
 pub returns-in-Some-clause-works : goal.returns-in-Some-clause-works
 returns-in-Some-clause-works g c =
     let hears = g.H.Handler.leads in
     let runs = g.F.StopFunc.leads in
-    let took = works_next hears runs c.args.machine.now c.turn.new.me c.take_next.new.me c.turn.new.handler c.turn.new.func c.take_next.result
+    let took = works_next hears runs c.args.machine.now c.turn.new.me c.take_next.new.me c.turn.new.handler c.turn.new.run c.take_next.result
     c.take_next.ensures in
     works_after hears runs (λ o. o) (works_after hears runs (λ o. o) c.turn.ensures.works took) c.finish_work.ensures.works
 
