@@ -1,7 +1,7 @@
 //! One CPU of a machine, with what it calls.
 
 ghost use Rattle.std.specs.Prelude.{◌≡◌};
-ghost use Rattle.smp_machine.specs.Place.{IsAt};
+ghost use Rattle.smp_machine.specs.MachineCpu.{IsAt};
 
 use crate::error::BenchError;
 use crate::seat::Counter;

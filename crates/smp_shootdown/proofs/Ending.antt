@@ -3,7 +3,7 @@ use Rattle.std.proofs.Common.{◌≡◌, ℕ, List, [], ◌∷◌, ◌++◌, ref
 use Rattle.smp_queue.specs.declared.handler.Heard.{Heard}
 use Rattle.smp_multi.specs.declared.func.Called.{Called}
 use Rattle.smp_machine.specs.Crews.{ArePlayed, IsPlayed}
-use Rattle.smp_machine.specs.Place.{MachineValue, IsAt, fresh_place}
+use Rattle.smp_machine.specs.MachineCpu.{MachineValue, IsAt, fresh_place}
 use Rattle.smp_machine.specs.Seats.{SeatValue}
 use Rattle.smp_machine.specs.declared.crew.Played.{Played}
 use Rattle.smp_machine.specs.declared.idle.NoStop.{NoStop}

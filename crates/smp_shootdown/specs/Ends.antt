@@ -1,6 +1,6 @@
 -- CPUs that have played their parts.
 use Rattle.std.specs.Prelude.{List, [], ◌∷◌}
-use Rattle.smp_machine.specs.Place.{MachineValue, IsAt}
+use Rattle.smp_machine.specs.MachineCpu.{MachineValue, IsAt}
 use Rattle.smp_machine.specs.declared.crew.Played.{Played}
 use Rattle.smp_machine.specs.declared.idle.NoStop.{NoStop}
 use Rattle.smp_shootdown.specs.Tlb.{IsFlushed}

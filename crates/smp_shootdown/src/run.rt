@@ -1,7 +1,7 @@
 //! Four CPUs, each on a thread of its own, drop an address space each at the same time.
 
 ghost use Rattle.std.specs.Prelude.{IfOk};
-ghost use Rattle.smp_machine.specs.Place.{IsFull};
+ghost use Rattle.smp_machine.specs.MachineCpu.{IsFull};
 ghost use Rattle.smp_machine.specs.Seats.{IsSameSeat};
 ghost use Rattle.smp_shootdown.specs.Ends.{AreBack};
 ghost use Rattle.smp_shootdown.specs.Tlb.{IsFlushed};

@@ -1,7 +1,7 @@
 //! A thread for each CPU.
 
 ghost use Rattle.std.specs.Prelude.{◌≡◌, IfSome, IfOk};
-ghost use Rattle.smp_machine.specs.Place.{IsAt, IsFull};
+ghost use Rattle.smp_machine.specs.MachineCpu.{IsAt, IsFull};
 ghost use Rattle.smp_torture.specs.Ranges.{AreThreads};
 
 use crate::choice::Choice;

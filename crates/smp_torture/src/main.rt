@@ -6,7 +6,7 @@
 #![tactic(auto)]
 
 ghost use Rattle.std.specs.Prelude.{IfOk};
-ghost use Rattle.smp_machine.specs.Place.{IsAt, IsFull};
+ghost use Rattle.smp_machine.specs.MachineCpu.{IsAt, IsFull};
 
 mod acts;
 mod cell;

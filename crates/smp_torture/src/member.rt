@@ -1,7 +1,7 @@
 //! A CPU at its machine.
 
 ghost use Rattle.std.specs.Prelude.{◌≡◌};
-ghost use Rattle.smp_machine.specs.Place.{IsAt};
+ghost use Rattle.smp_machine.specs.MachineCpu.{IsAt};
 
 use crate::ear::{Ear, Runs};
 use smp_labels::SiteKind;

@@ -1,7 +1,7 @@
 //! What the thread of one CPU does.
 
 ghost use Rattle.std.specs.Prelude.{◌≡◌};
-ghost use Rattle.smp_machine.specs.Place.{IsAt};
+ghost use Rattle.smp_machine.specs.MachineCpu.{IsAt};
 
 use crate::choice::Choice;
 use crate::kind::KINDS;

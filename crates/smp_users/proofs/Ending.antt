@@ -3,7 +3,7 @@ use Rattle.std.proofs.Common.{ℕ, List, [], ◌∷◌, ◌++◌}
 use Rattle.smp_queue.specs.declared.handler.Heard.{Heard}
 use Rattle.smp_multi.specs.declared.func.Called.{Called}
 use Rattle.smp_machine.specs.Crews.{ArePlayed}
-use Rattle.smp_machine.specs.Place.{MachineValue, IsAt}
+use Rattle.smp_machine.specs.MachineCpu.{MachineValue, IsAt}
 use Rattle.smp_machine.specs.Seats.{SeatValue}
 use Rattle.smp_machine.specs.declared.crew.Played.{Played}
 use Rattle.smp_users.specs.Ends.{AreAt}

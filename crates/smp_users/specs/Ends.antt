@@ -1,6 +1,6 @@
 -- CPUs at the end of a program.
 use Rattle.std.specs.Prelude.{List, [], ◌∷◌}
-use Rattle.smp_machine.specs.Place.{MachineValue, IsAt}
+use Rattle.smp_machine.specs.MachineCpu.{MachineValue, IsAt}
 use Rattle.smp_machine.specs.declared.crew.Played.{Played}
 
 -- each of them is of this machine

@@ -1,7 +1,7 @@
 mod paces;
 
 use crate::tests::replays::devices::{Narrow, Slow};
-use crate::tests::runs::paces::{Counts, Finds, Lets, Meets, Stays};
+use crate::tests::runs::paces::{Counts, Finds, Follows, Lets, Meets, Stays};
 use smp_mask::{Cause, Side, SmpError};
 use smp_run::*;
 use smp_script::{Outcome, Watched};
@@ -180,6 +180,18 @@ fn a_cpu_polls_for_a_busy_record(rt: HostRuntime) {
     let (answer, _written) = run(&rt, rt.alloc(), script, &pace);
     assert_eq!(rt; answer, Ok(Outcome::Done));
     assert!(rt; pace.was_let());
+}
+
+// All CPUs are done before CPU 1 polls for the first time, and its one poll runs what was queued for it.
+#[test]
+fn a_cpu_polls_once_more(rt: HostRuntime) {
+    let script: &[u8] = b"smp 1 run\ncpus 2 0-1\ndo 0 1 async 1 7 9\n";
+    let print: &[u8] = b"3 ok\ntally 0 1 1 1\ntally 1 0 0 0\ndrained\n";
+    let pace = Follows::new();
+    let (answer, written) = run(&rt, rt.alloc(), script, &pace);
+    assert!(rt; pace.has_followed());
+    assert_eq!(rt; answer, Ok(Outcome::Done));
+    assert_eq!(rt; written.as_slice(), print);
 }
 
 const SHORT: &[u8] = b"smp 1 run\ncpus 2 0-1\nlabels 1 0:0\ndo 0 2 sync 1 7 9\ndo 0 1 set 0 on\n";

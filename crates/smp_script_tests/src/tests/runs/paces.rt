@@ -158,6 +158,50 @@ impl Pace for Stays {
     }
 }
 
+/// CPU 1 begins to poll once CPU 0 is done.
+#[derive(Drop)]
+pub struct Follows {
+    done: AtomicU64,
+    /// How often CPU 1 gave up.
+    late: AtomicU64,
+}
+
+impl Follows {
+    pub fn new() -> Follows {
+        Follows {
+            done: AtomicU64::new(0),
+            late: AtomicU64::new(0),
+        }
+    }
+
+    /// Whether CPU 1 has not given up.
+    pub fn has_followed(&self) -> bool {
+        self.late.load(Ordering::SeqCst) == 0
+    }
+
+    fn wait(&self) {
+        for _ in 0..TURNS {
+            if self.done.load(Ordering::SeqCst) == 1 {
+                return;
+            }
+        }
+        self.late.fetch_add(1, Ordering::SeqCst);
+    }
+}
+
+impl Pace for Follows {
+    fn entered(&self, _cpu: u32, _src: u32, _func: u16, _info: u64) {}
+
+    fn polls(&self, cpu: u32) -> bool {
+        if cpu == 0 {
+            self.done.store(1, Ordering::SeqCst);
+        } else {
+            self.wait();
+        }
+        true
+    }
+}
+
 /// Counts the calls that run, modulo 2^64, and adds up what they were given.
 #[derive(Drop)]
 pub struct Counts {
