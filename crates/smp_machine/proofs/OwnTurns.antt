@@ -40,7 +40,7 @@ runs_active me work several (inr active) = active
 
 module _ {F : Type 0} (leads : F → Called → F → Type 0) (old new : StopCpuValue) (f f' : F) (turn : Turn) (shown : IsShown old)
     (t : TurnsStop leads old f new f' turn) where
-  calls : List StopCall
+  abbrev calls : List StopCall
   calls = map stop_call t.moves.ran
 
   begun : new.part.begun ≡ old.part.begun

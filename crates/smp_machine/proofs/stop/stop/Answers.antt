@@ -25,13 +25,13 @@ returns-in-UntilDone-clause-own g c =
 
 pub returns-in-UntilQueued-clause-stopped : goal.returns-in-UntilQueued-clause-stopped
 returns-in-UntilQueued-clause-stopped g c =
-    let v = c.collect-answer-2.result in
+    let v = c.collect-answer-in-UntilQueued.result in
     let fits : SFits w32 v = search rules in
     stop_as g.H.Handler.leads g.F.StopFunc.leads c.in-UntilQueued.is
     (stop_short g.H.Handler.leads g.F.StopFunc.leads c.args.work.now _ v (to_z-of_z w32 v fits)
     (ap (λ (p : MachineCpuValue). p.stops.number) c.begin.ensures ∙ c.take_gate.ensures.works.number_is)
     (stop_queued g.H.Handler.leads g.F.StopFunc.leads c.args.work.now c.take_gate.ensures.works c.begin.ensures c.put_to_all.ensures.works)
-    c.put_to_all.ensures.shown c.give_gate-2.ensures c.collect-answer-2.ensures)
+    c.put_to_all.ensures.shown c.give_gate-in-UntilQueued.ensures c.collect-answer-in-UntilQueued.ensures)
 
 pub returns-in-UntilQueued-clause-own : goal.returns-in-UntilQueued-clause-own
 returns-in-UntilQueued-clause-own g c =
