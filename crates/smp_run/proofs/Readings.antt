@@ -1,6 +1,6 @@
 -- What a CPU has read of the labels, one reading after the other, and why it is lawful.
 use Rattle.std.proofs.Common.{◌≡◌, ℕ, zero, suc, ◌+◌, ◌<◌, ◌≤◌, Bool, true, Option, Some, List, [], ◌∷◌, ◌++◌, length, slice_index_or, map, refl, sym, ap, subst, ◌∙◌}
-use Rattle.std.proofs.Common.{Ok, append_assoc, append-nil, arith}
+use Rattle.std.proofs.Common.{Ok, append_assoc, append-nil, arith, length-append}
 use Rattle.std.proofs.lemmas.List.{get_or-map, length-map}
 use Rattle.std.proofs.lemmas.List.Elements.{All-get_or}
 use Rattle.std.specs.List.{AllByRecursion}
@@ -34,13 +34,19 @@ looks_join [] ys a b = b
 looks_join (x ∷ xs) ys a b = (a.0, looks_join xs ys a.1 b)
 
 reads_none : (c : CpuValue) → c ≡ reads_by [] [] c
-reads_none c = λ i. record c { part = record (c.part) { readings = sym (append-nil c.part.readings) i }; moves = sym (append-nil c.moves) i }
+reads_none c =
+    let none : c.steps ≡ c.steps + 0 = omega arith in
+    λ i. record c { part = record (c.part) { readings = sym (append-nil c.part.readings) i }; moves = sym (append-nil c.moves) i; steps = none i }
 
 reads_then : (xs ys : List OwnMove) (rs ss : List Reading) (c : CpuValue) → reads_by ys ss (reads_by xs rs c) ≡ reads_by (xs ++ ys) (rs ++ ss) c
-reads_then xs ys rs ss c = λ i. record c {
-  part = record (c.part) { readings = append_assoc c.part.readings rs ss i };
-  moves = append_assoc c.moves xs ys i;
-}
+reads_then xs ys rs ss c =
+    let both = length-append rs ss in
+    let made : c.steps + length rs + length ss ≡ c.steps + length (rs ++ ss) = omega arith in
+    λ i. record c {
+      part = record (c.part) { readings = append_assoc c.part.readings rs ss i };
+      moves = append_assoc c.moves xs ys i;
+      steps = made i;
+    }
 
 -- a reading leaves the CPU where it is
 seated_reads : (m : MachineValue) (old new : MachineCpuValue) (looks : List OwnMove) (reading : Reading) → new.calls ≡ old.calls → new.passes ≡ old.passes

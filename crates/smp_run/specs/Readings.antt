@@ -1,6 +1,6 @@
 -- What a CPU reads of the labels at the end of a run.
 use Rattle.std.specs.List.{AllByRecursion}
-use Rattle.std.specs.Prelude.{◌≡◌, ℕ, ◌<◌, Bool, List, [], ◌∷◌, ◌++◌, length, slice_index_or}
+use Rattle.std.specs.Prelude.{◌≡◌, ℕ, ◌+◌, ◌<◌, Bool, List, [], ◌∷◌, ◌++◌, length, slice_index_or}
 use Rattle.smp_labels.specs.Kinds.{kind_of}
 use Rattle.smp_labels.specs.Labels.{Labels}
 use Rattle.smp_labels.specs.declared.entries.Entry.{Entry}
@@ -18,9 +18,13 @@ abbrev pub IsLook : OwnMove → Type 0
 IsLook (Found key count) = Unit {0}
 IsLook _ = ⊥
 
--- a CPU that has read these, by these moves
+-- a CPU that has read these, by these moves and at a load each
 abbrev pub reads_by : List OwnMove → List Reading → CpuValue → CpuValue
-reads_by looks readings c = record c { part = record (c.part) { readings = c.part.readings ++ readings }; moves = c.moves ++ looks }
+reads_by looks readings c = record c {
+  part = record (c.part) { readings = c.part.readings ++ readings };
+  moves = c.moves ++ looks;
+  steps = c.steps + length readings;
+}
 
 -- one reading more, which one lawful table says with those before it
 pub record ReadsMore (m : MachineValue) (reading : Reading) (old new : MachineCpuValue) : Type 0 where
