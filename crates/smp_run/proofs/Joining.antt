@@ -9,9 +9,9 @@ use Rattle.smp_script.specs.declared.directive.Directive.{Directive}
 use Rattle.smp_script.specs.declared.directive.Directive.TheVariants.{Start, Step, Show, Do}
 use Rattle.smp_run.specs.declared.answer.Answer.{Answer}
 use Rattle.smp_run.specs.Answers.{IsLineAnswer, Answered, Gathers, IsJoined, cpu_of}
-use Rattle.smp_run.specs.Driven.{AreJoined, HasRun}
+use Rattle.smp_run.specs.Driven.{AreBack, AreJoined, HasRun, IsBack}
 use Rattle.smp_run.specs.Made.{AreMakings, IsLineMade, Making}
-use Rattle.smp_run.specs.Seats.{IsSeated, keys_at}
+use Rattle.smp_run.specs.Seats.{IsSeated, IsShown, keys_at}
 
 -- a CPU that is not online has no lines
 pub joined_none : (online keys n : ℕ) (lines : List Directive) (answers : List Answer) → has online n ≡ false
@@ -144,14 +144,49 @@ pub lowest_left : (m : MachineValue) (lines : List Directive) (n : ℕ) (all : B
 lowest_left m lines n all answers None was = λ no. absurd (cc no)
 lowest_left m lines n all answers (Some p) was = (was.0, (let less = was.1 in omega (arith, less)), was.2, λ no. absurd (cc no))
 
+-- a CPU that is back, with the answers of another put among its own
+back_kept : (m : MachineValue) (lines : List Directive) (old new : List Answer) (n cpu : ℕ) → cpu ≢ n
+    → Gathers (λ c. c ≢ n) lines old new (length lines) → IsBack m lines old cpu → IsBack m lines new cpu
+back_kept m lines old new n cpu apart others b = record {
+  value = b.value;
+  number_is = b.number_is;
+  seated = b.seated;
+  shown = b.shown;
+  run = run_gathered m lines old new b.value (λ i l a below mine. others i l a below (λ e. apart (sym b.number_is ∙ (sym mine ∙ e)))) b.run;
+}
+
+-- one CPU more is back
+pub back_more : (m : MachineValue) (lines : List Directive) (n : ℕ) (old own new : List Answer) (next : MachineCpuValue)
+    → IsSeated m next → next.calls.number ≡ n → IsShown next → HasRun m lines own next → Gathers (λ c. c ≡ n) lines own new (length lines)
+    → Gathers (λ c. c ≢ n) lines old new (length lines) → AreBack m lines old n → AreBack m lines new (n + 1)
+back_more m lines n old own new next seated number shown run gathered others was cpu below on = elim (cases_eq cpu n) [
+  | inl same ↦ record {
+    value = next;
+    number_is = number ∙ sym same;
+    seated = seated;
+    shown = shown;
+    run = run_gathered m lines own new next (subst (λ (x : ℕ). Gathers (λ c. c ≡ x) lines own new (length lines)) (sym number) gathered) run;
+  }
+  | inr apart ↦ back_kept m lines old new n cpu apart others (was cpu (omega (arith, below, apart)) on)
+]
+
+-- one that is not online
+pub back_none : (m : MachineValue) (lines : List Directive) (n : ℕ) (answers : List Answer) → has m.calls.online n ≡ false
+    → AreBack m lines answers n → AreBack m lines answers (n + 1)
+back_none m lines n answers off was cpu below on = elim (cases_eq cpu n) [
+  | inl same ↦ absurd (cc (subst (λ (x : ℕ). has m.calls.online x ≡ true) same on, off))
+  | inr apart ↦ was cpu (omega (arith, below, apart)) on
+]
+
 -- all are back
 pub all_joined : (m : MachineValue) (lines : List Directive) (n : ℕ) (answers : List Answer) (last : Option MachineCpuValue)
-    → Answered m.calls.online (keys_at m) (IsJoined m.calls.online n) lines answers → Lowest m lines n true answers last
+    → Answered m.calls.online (keys_at m) (IsJoined m.calls.online n) lines answers → AreBack m lines answers n → Lowest m lines n true answers last
     → IfSome last (λ p. AreJoined m lines n p answers)
-all_joined m lines n answers None answered was = tt
-all_joined m lines n answers (Some p) answered was = record {
+all_joined m lines n answers None answered back was = tt
+all_joined m lines n answers (Some p) answered back was = record {
   seated = was.0;
   least = record { passing = was.0.online; least = was.3 refl };
   run = was.2;
   answered = answered;
+  back = back;
 }

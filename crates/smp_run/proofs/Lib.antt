@@ -12,6 +12,8 @@ mod Readings
 mod Staying
 mod Calling
 mod Refusals
+-- what a stop of the caller itself answers
+mod Echoing
 -- what calls send, and which stops they make
 mod Sending
 mod Making

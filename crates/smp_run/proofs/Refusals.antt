@@ -1,6 +1,6 @@
 -- What calls of the machine answer, and why they are refused, to a CPU that has no work in hand.
-use Rattle.std.proofs.Common.{◌≡◌, ◌≢◌, ℕ, ℤ, ◌<◌, inl, inr, ◌==◌, Bool, true, false, nat_lt, None, Result, Ok, Err, IfOk, IfErr}
-use Rattle.std.proofs.Common.{refl, subst}
+use Rattle.std.proofs.Common.{◌≡◌, ◌≢◌, ℕ, ℤ, pos, ◌<◌, inl, inr, ◌==◌, Bool, true, false, nat_lt, None, Result, Ok, Err, IfOk, IfErr}
+use Rattle.std.proofs.Common.{ap, refl, subst}
 use Rattle.std.proofs.Math.Bool.{and-false}
 use Rattle.std.proofs.lemmas.Bool.{eq-eqb, ne_eqb, lt-ltb, le-ltb}
 use Rattle.smp_mask.specs.Mask.{has}
@@ -14,32 +14,33 @@ use Rattle.smp_machine.specs.Stops.{RefusesOne, RefusesTwo}
 use Rattle.smp_multi.specs.Cpu.{TableValue}
 use Rattle.smp_multi.specs.Nudges.{end_of}
 use Rattle.smp_multi.specs.declared.func.Called.{Called}
-use Rattle.smp_run.specs.Answers.{answer_of, IsCount, IsNumber, IsRefusedOr, IsTruth, key_refusal, one_refusal, two_refusal}
+use Rattle.smp_run.specs.Answers.{answer_of, IsCount, IsNumber, IsOneAnswer, IsRefusedOr, IsTruth, key_refusal, one_refusal, two_refusal}
 use Rattle.smp_run.specs.declared.answer.Answer.{Answer}
 use Rattle.smp_run.specs.declared.answer.Answer.TheVariants.{Number, Turned, Refused}
 
-refused_one : (t : TableValue) (old : MachineCpuValue) (dst : ℕ) (e : SmpError) → old.stops.inside ≡ None → RefusesOne t old dst e
-    → IsRefusedOr (one_refusal t.setting.online dst) IsNumber (Refused e)
-refused_one t old dst error.NoStopper free r = rw r.1 refl
-refused_one t old dst error.BadArgument free r = absurd (r free)
-refused_one t old dst error.NoCpu free r = absurd r
-refused_one t old dst error.Busy free r = absurd r
-refused_one t old dst error.Contended free r = absurd r
-refused_one t old dst error.NoMemory free r = absurd r
-refused_one t old dst error.Stale free r = absurd r
-refused_one t old dst error.SlotBusy free r = absurd r
-refused_one t old dst (error.BadScript n cause) free r = absurd r
-refused_one t old dst error.IdleStep free r = absurd r
-refused_one t old dst (error.BadMask k) free r = absurd r
-refused_one t old dst (error.StreamFailed k) free r = absurd r
-refused_one t old dst (error.KeyRange k) free r = absurd r
+refused_one : (t : TableValue) (old : MachineCpuValue) (dst : ℕ) (Fine : Answer → Type 0) (e : SmpError) → old.stops.inside ≡ None → RefusesOne t old dst e
+    → IsRefusedOr (one_refusal t.setting.online dst) Fine (Refused e)
+refused_one t old dst Fine error.NoStopper free r = rw r.1 refl
+refused_one t old dst Fine error.BadArgument free r = absurd (r free)
+refused_one t old dst Fine error.NoCpu free r = absurd r
+refused_one t old dst Fine error.Busy free r = absurd r
+refused_one t old dst Fine error.Contended free r = absurd r
+refused_one t old dst Fine error.NoMemory free r = absurd r
+refused_one t old dst Fine error.Stale free r = absurd r
+refused_one t old dst Fine error.SlotBusy free r = absurd r
+refused_one t old dst Fine (error.BadScript n cause) free r = absurd r
+refused_one t old dst Fine error.IdleStep free r = absurd r
+refused_one t old dst Fine (error.BadMask k) free r = absurd r
+refused_one t old dst Fine (error.StreamFailed k) free r = absurd r
+refused_one t old dst Fine (error.KeyRange k) free r = absurd r
 
-pub one_answered : (t : TableValue) (old : MachineCpuValue) (dst online : ℕ) (made : Result ℤ SmpError) → t.setting.online ≡ online → old.stops.inside ≡ None
-    → IfOk made (λ _. has t.setting.online dst ≡ true) → IfErr made (λ e. RefusesOne t old dst e)
-    → IsRefusedOr (one_refusal online dst) IsNumber (answer_of Number made)
-one_answered t old dst online (Ok v) same free ok err = rw (← same, ok) tt
-one_answered t old dst online (Err e) same free ok err =
-    subst (λ (x : ℕ). IsRefusedOr (one_refusal x dst) IsNumber (Refused e)) same (refused_one t old dst e free err)
+pub one_answered : (t : TableValue) (old : MachineCpuValue) (this dst arg online : ℕ) (made : Result ℤ SmpError) → t.setting.online ≡ online
+    → old.stops.inside ≡ None → IfOk made (λ _. has t.setting.online dst ≡ true) → IfOk made (λ v. dst ≡ this → v ≡ pos arg)
+    → IfErr made (λ e. RefusesOne t old dst e) → IsRefusedOr (one_refusal online dst) (IsOneAnswer this dst arg) (answer_of Number made)
+one_answered t old this dst arg online (Ok v) same free ok own err = rw (← same, ok) (tt, λ e. ap Number (own e))
+one_answered t old this dst arg online (Err e) same free ok own err =
+    subst (λ (x : ℕ). IsRefusedOr (one_refusal x dst) (IsOneAnswer this dst arg) (Refused e)) same
+    (refused_one t old dst (IsOneAnswer this dst arg) e free err)
 
 refused_two : (t : TableValue) (old : MachineCpuValue) (a b : ℕ) (e : SmpError) → old.stops.inside ≡ None → RefusesTwo t old a b e
     → IsRefusedOr (two_refusal t.setting.online a b) IsNumber (Refused e)

@@ -1,5 +1,5 @@
 -- What `do` lines answer.
-use Rattle.std.specs.Prelude.{◌≡◌, ℕ, ◌<◌, ◌%◌, ◌==◌, ◌&&◌, Bool, true, false, nat_lt, if◌then◌else◌, Option, Some, None, Result, Ok, Err}
+use Rattle.std.specs.Prelude.{◌≡◌, ℕ, ℤ, pos, ◌<◌, ◌-◌, ◌%◌, ◌^◌, ◌==◌, ◌&&◌, Bool, true, false, nat_lt, if◌then◌else◌, Option, Some, None, Result, Ok, Err}
 use Rattle.std.specs.Prelude.{List, length, slice_index_or}
 use Rattle.smp_mask.specs.Mask.{has}
 use Rattle.smp_mask.specs.declared.error.Edge.{Edge}
@@ -8,6 +8,7 @@ use Rattle.smp_mask.specs.declared.error.SmpError.{SmpError}
 use Rattle.smp_mask.specs.declared.error.SmpError.TheVariants as error
 use Rattle.smp_words.specs.Size.{cpus}
 use Rattle.smp_calls.specs.Targets.{is_target, IsAny, HasNone}
+use Rattle.smp_multi.specs.declared.func.Called.{Called}
 use Rattle.smp_script.specs.declared.request.Which.{Which}
 use Rattle.smp_script.specs.declared.request.Which.TheVariants.{All, Even, Odd}
 use Rattle.smp_script.specs.declared.request.Request.{Request}
@@ -68,6 +69,18 @@ abbrev pub IsNumber : Answer → Type 0
 IsNumber (Number n) = Unit {0}
 IsNumber _ = ⊥
 
+-- what the function of a stop answers to this argument: the argument, which is below 2^31 in a script
+abbrev pub echo_of : ℕ → ℤ
+echo_of arg = pos (if nat_lt arg (2 ^ 31) then arg else 2 ^ 31 - 1)
+
+-- a call of that function
+abbrev pub IsEcho : Called → Type 0
+IsEcho call = call.answer ≡ echo_of call.arg
+
+-- a number, which is the argument where the stop is of the caller itself
+abbrev pub IsOneAnswer : ℕ → ℕ → ℕ → Answer → Type 0
+IsOneAnswer this dst arg answer = IsNumber answer × (dst ≡ this → answer ≡ Number (pos arg))
+
 -- a truth value
 abbrev pub IsTruth : Answer → Type 0
 IsTruth (Turned turned) = Unit {0}
@@ -86,7 +99,7 @@ IsAnswer online keys this (User u dst func info) answer = IsRefusedOr (call_refu
 IsAnswer online keys this (Any wait mask func info) answer = IsAnyAnswer mask online this answer
 IsAnswer online keys this (Many wait mask func info) answer = IsCpus (is_target mask online this false) answer
 IsAnswer online keys this (Cond which wait mask func info) answer = IsCpus (λ c. is_target mask online this true c && says which c) answer
-IsAnswer online keys this (One dst func arg) answer = IsRefusedOr (one_refusal online dst) IsNumber answer
+IsAnswer online keys this (One dst func arg) answer = IsRefusedOr (one_refusal online dst) (IsOneAnswer this dst arg) answer
 IsAnswer online keys this (Two a b func arg) answer = IsRefusedOr (two_refusal online a b) IsNumber answer
 IsAnswer online keys this (Machine active func arg) answer = IsNumber answer
 IsAnswer online keys this (Set k on) answer = IsRefusedOr (key_refusal keys k) IsTruth answer

@@ -22,7 +22,7 @@ use Rattle.smp_script.specs.Script.{Script, first_line, script_of}
 use Rattle.smp_script.specs.Streams.{Gave, TookFront}
 use Rattle.smp_words.specs.Size.{cpus}
 use Rattle.smp_run.specs.Answers.{IsLineAnswer}
-use Rattle.smp_run.specs.Driven.{HasRun}
+use Rattle.smp_run.specs.Driven.{HasRun, IsBack}
 use Rattle.smp_run.specs.Readings.{HaveKinds, keys_read, sites_read}
 use Rattle.smp_run.specs.Sent.{script_calls}
 use Rattle.smp_run.specs.Text.{ending_text, line_text, numbered}
@@ -44,7 +44,8 @@ HasAsked online this lines t = (to : ℕ) → to < cpus
 
 -- What a run prints: a line for each, in order, with its answer, of which the first is of this number; then, where the
 -- audit is Drained, each pair of CPUs with as many calls run as queued; the keys and the sites; and how the audit ended.
--- The audit is by the lowest CPU online, which has made its lines and then read the keys and the sites.
+-- Each CPU online was given back by its thread once it has made its lines. The audit is by the lowest of them, which has then
+-- read the keys and the sites.
 pub record Prints (nr online : ℕ) (labels : Labels) (first : ℕ) (lines : List Directive) (text : List ℕ) (left : Bool) : Type 0 where
   pub answers : List Answer
   pub answered : AreAnswers online labels.keys lines answers
@@ -57,6 +58,7 @@ pub record Prints (nr online : ℕ) (labels : Labels) (first : ℕ) (lines : Lis
   pub sizes : (machine.calls.nr ≡ nr) × (machine.calls.online ≡ online)
   pub lowest : IsLeast (λ c. has online c) last.calls.number
   pub run : HasRun machine lines answers last
+  pub back : (cpu : ℕ) → has online cpu ≡ true → IsBack machine lines answers cpu
   pub before : List Reading
   pub read : last.stops.part.readings ≡ before ++ (keys_read keys ++ sites_read sites)
   pub audited : Audited machine.calls last.calls ending

@@ -13,6 +13,7 @@ use crate::answer::Answer;
 use crate::pace::Pace;
 use crate::player::Player;
 use crossbeam_utils::Backoff;
+use smp_machine::laws::is_shown;
 use smp_machine::{Cpu, Machine};
 use smp_script::directive::Directive;
 use smp_script::request::Request;
@@ -154,5 +155,6 @@ pub(crate) fn drive<R: Wait, P: Pace>(
     let mut player = Player::new(machine, pace, cpu);
     player.poll_until(rt, start);
     let Player { cpu, .. } = player;
+    is_shown(machine, &cpu);
     Some(Seat { cpu, answers })
 }

@@ -1,5 +1,7 @@
 //! What a caller may do inside handlers, and where a CPU ends.
 
+ghost use Rattle.smp_run.specs.Answers.{IsEcho};
+
 use smp_multi::StopFunc;
 use smp_queue::Handler;
 
@@ -44,9 +46,9 @@ impl<'a, P: Pace> Handler for Paced<'a, P> {
 pub(crate) struct Echo;
 
 impl StopFunc for Echo {
-    ghost leads = { λ before call after. Unit {0} };
+    ghost leads = { λ before call after. IsEcho call };
 
     fn run(&mut self, _cpu: u32, _func: u16, arg: u64) -> i32 {
-        i32::try_from(arg).unwrap_or(i32::MAX)
+        if arg < 1 << 31 { arg as i32 } else { i32::MAX }
     }
 }

@@ -18,4 +18,5 @@ returns g c =
       run_polled m lines (vec_items made.result.answers) first made.result.cpu last c.requires.new.fresh number made.ensures.sent made.ensures.played
           (subst (λ (p : MachineCpuValue). HasSent [] p last) new.ensures.cpu polled.ensures.sent)
           (subst (λ (p : MachineCpuValue). HasMade [] p last) new.ensures.cpu polled.ensures.stops) polled.new.self.waited,
+      record { calls = c.is_shown.ensures.calls; stops = c.is_shown.ensures.stops },
     )

@@ -27,6 +27,7 @@ returns c =
       sizes = (refl, refl);
       lowest = subst (λ (x : CallCpuValue). IsLeast (λ n. has t.online n) x.number) (sym read.calls_are) joined.least;
       run = run;
+      back = λ cpu on. joined.back cpu (c.requires.limits.below cpu on) on;
       before = first.stops.part.readings;
       read = ap (λ (x : StopCpuValue). x.part.readings) read.stops_are;
       audited = c.shutdown-audit.ensures.audited;

@@ -1,4 +1,6 @@
 use Rattle.std.proofs.Common.{false, sym, ◌∙◌}
+use Rattle.smp_machine.specs.Stops.{IsOneWork}
+use Rattle.smp_run.proofs.Echoing.{own_answered}
 use Rattle.smp_run.proofs.Refusals.{one_answered}
 use Rattle.smp_machine.specs.Moves.{short_stop}
 use Rattle.smp_run.proofs.Staying.{sent_stopped}
@@ -7,10 +9,12 @@ use Rattle.smp_run.proofs.player.Player.one.Goals as goal
 
 pub returns-clause-answer : goal.returns-clause-answer
 returns-clause-answer g c =
-    let me = c.args.self.now in let call = c.stop_one-made in
-    rw c.number_or.ensures (one_answered me.machine.now.stops me.cpu c.args.dst me.machine.now.calls.online call.result
-    (sym c.online-online.ensures.stops ∙ c.online-online.ensures.calls) me.own.free
-    call.ensures.online call.ensures.err)
+    let me = c.args.self.now in let call = c.stop_one-made in let this = c.number-this.ensures.number in
+    rw c.number_or.ensures (one_answered me.machine.now.stops me.cpu me.cpu.calls.number c.args.dst c.args.arg me.machine.now.calls.online call.result
+    (sym c.online-online.ensures.stops ∙ c.online-online.ensures.calls) me.own.free call.ensures.online
+    (own_answered _ short_stop (IsOneWork c.args.dst c.args.func c.args.arg) me.cpu call.new.me _ _ _ _ c.args.dst c.args.func c.args.arg call.result
+    (sym this.0 ∙ this.1) c.requires call.ensures.ok call.ensures.own)
+    call.ensures.err)
 
 pub returns-clause-sent : goal.returns-clause-sent
 returns-clause-sent g c =
