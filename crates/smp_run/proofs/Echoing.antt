@@ -1,4 +1,4 @@
--- What a stop of the caller itself answers: its argument.
+-- What a stop answers in which the caller alone runs the function: its argument.
 use Rattle.std.proofs.Common.{◌≡◌, ℕ, ℤ, pos, ◌<◌, ◌-◌, ◌%◌, ◌^◌, nat_lt, Bool, true, if◌then◌else◌, Result, Ok, Err, IfOk, List, [], ◌∷◌, ◌++◌, map}
 use Rattle.std.proofs.Common.{arith, refl, sym, ap, subst, ◌∙◌}
 use Rattle.std.specs.Int.{cast_signed, w32}
@@ -59,12 +59,12 @@ module _ {H F : Type 0} (hears : H → Heard → H → Type 0) where
       let word : s.word ≡ answer_word (echo_of arg) = s.whole.0 ∙ (sym answer_is ∙ (told ∙ ap (λ (n : ℕ). answer_word (echo_of n)) arg_is)) in
       s.answer_is ∙ (ap answer_in word ∙ echo_back arg low)
 
-  -- a stop of the caller itself
-  pub own_answered : (moves : Work → ℕ → List OwnMove) (P : Work → Type 0) (old new : MachineCpuValue) (h h' : H) (f f' : F) (dst func arg : ℕ)
-      (made : Result ℤ SmpError) → old.calls.number ≡ old.stops.number → arg < 2 ^ 31
+  -- a stop in which, by such a condition, the caller alone runs the function
+  pub own_answered : (moves : Work → ℕ → List OwnMove) (P : Work → Type 0) (old new : MachineCpuValue) (h h' : H) (f f' : F) (IsAlone IsOwn : Type 0) (func arg : ℕ)
+      (made : Result ℤ SmpError) → (IsAlone → IsOwn) → arg < 2 ^ 31
       → IfOk made (λ v. (work : Work) × P work × HasStopped hears echoes moves work old h f new h' f' v)
-      → IfOk made (λ v. dst ≡ old.stops.number → HasCalledFor func arg old.stops new.stops v)
-      → IfOk made (λ v. dst ≡ old.calls.number → v ≡ pos arg)
-  own_answered moves P old new h h' f f' dst func arg (Ok v) number low ok own =
-      λ e. stop_answered moves ok.0 old new h h' f f' func arg v low ok.2 (own (e ∙ number))
-  own_answered moves P old new h h' f f' dst func arg (Err e) number low ok own = tt
+      → IfOk made (λ v. IsOwn → HasCalledFor func arg old.stops new.stops v)
+      → IfOk made (λ v. IsAlone → v ≡ pos arg)
+  own_answered moves P old new h h' f f' IsAlone IsOwn func arg (Ok v) as_own low ok own =
+      λ alone. stop_answered moves ok.0 old new h h' f f' func arg v low ok.2 (own (as_own alone))
+  own_answered moves P old new h h' f f' IsAlone IsOwn func arg (Err e) as_own low ok own = tt

@@ -14,7 +14,7 @@ use Rattle.smp_machine.specs.Stops.{RefusesOne, RefusesTwo}
 use Rattle.smp_multi.specs.Cpu.{TableValue}
 use Rattle.smp_multi.specs.Nudges.{end_of}
 use Rattle.smp_multi.specs.declared.func.Called.{Called}
-use Rattle.smp_run.specs.Answers.{answer_of, IsCount, IsNumber, IsOneAnswer, IsRefusedOr, IsTruth, key_refusal, one_refusal, two_refusal}
+use Rattle.smp_run.specs.Answers.{answer_of, IsCount, IsStopAnswer, IsRefusedOr, IsTruth, key_refusal, one_refusal, two_refusal}
 use Rattle.smp_run.specs.declared.answer.Answer.{Answer}
 use Rattle.smp_run.specs.declared.answer.Answer.TheVariants.{Number, Turned, Refused}
 
@@ -36,43 +36,47 @@ refused_one t old dst Fine (error.KeyRange k) free r = absurd r
 
 pub one_answered : (t : TableValue) (old : MachineCpuValue) (this dst arg online : ℕ) (made : Result ℤ SmpError) → t.setting.online ≡ online
     → old.stops.inside ≡ None → IfOk made (λ _. has t.setting.online dst ≡ true) → IfOk made (λ v. dst ≡ this → v ≡ pos arg)
-    → IfErr made (λ e. RefusesOne t old dst e) → IsRefusedOr (one_refusal online dst) (IsOneAnswer this dst arg) (answer_of Number made)
+    → IfErr made (λ e. RefusesOne t old dst e) → IsRefusedOr (one_refusal online dst) (IsStopAnswer (dst ≡ this) arg) (answer_of Number made)
 one_answered t old this dst arg online (Ok v) same free ok own err = rw (← same, ok) (tt, λ e. ap Number (own e))
 one_answered t old this dst arg online (Err e) same free ok own err =
-    subst (λ (x : ℕ). IsRefusedOr (one_refusal x dst) (IsOneAnswer this dst arg) (Refused e)) same
-    (refused_one t old dst (IsOneAnswer this dst arg) e free err)
+    subst (λ (x : ℕ). IsRefusedOr (one_refusal x dst) (IsStopAnswer (dst ≡ this) arg) (Refused e)) same
+    (refused_one t old dst (IsStopAnswer (dst ≡ this) arg) e free err)
 
-refused_two : (t : TableValue) (old : MachineCpuValue) (a b : ℕ) (e : SmpError) → old.stops.inside ≡ None → RefusesTwo t old a b e
-    → IsRefusedOr (two_refusal t.setting.online a b) IsNumber (Refused e)
-refused_two t old a b error.NoStopper free (_, other, inl off) = let e : (a == b) ≡ false = ne_eqb a b other in rw (e, off) refl
-refused_two t old a b error.NoStopper free (_, other, inr off) = let e : (a == b) ≡ false = ne_eqb a b other in
+refused_two : (t : TableValue) (old : MachineCpuValue) (a b : ℕ) (Fine : Answer → Type 0) (e : SmpError) → old.stops.inside ≡ None → RefusesTwo t old a b e
+    → IsRefusedOr (two_refusal t.setting.online a b) Fine (Refused e)
+refused_two t old a b Fine error.NoStopper free (_, other, inl off) = let e : (a == b) ≡ false = ne_eqb a b other in rw (e, off) refl
+refused_two t old a b Fine error.NoStopper free (_, other, inr off) = let e : (a == b) ≡ false = ne_eqb a b other in
     rw (e, off, and-false (has t.setting.online a)) refl
-refused_two t old a b error.BadArgument free (inl inside) = absurd (inside free)
-refused_two t old a b error.BadArgument free (inr same) = rw (same, eq-eqb b b refl) refl
-refused_two t old a b error.NoCpu free r = absurd r
-refused_two t old a b error.Busy free r = absurd r
-refused_two t old a b error.Contended free r = absurd r
-refused_two t old a b error.NoMemory free r = absurd r
-refused_two t old a b error.Stale free r = absurd r
-refused_two t old a b error.SlotBusy free r = absurd r
-refused_two t old a b (error.BadScript n cause) free r = absurd r
-refused_two t old a b error.IdleStep free r = absurd r
-refused_two t old a b (error.BadMask k) free r = absurd r
-refused_two t old a b (error.StreamFailed k) free r = absurd r
-refused_two t old a b (error.KeyRange k) free r = absurd r
+refused_two t old a b Fine error.BadArgument free (inl inside) = absurd (inside free)
+refused_two t old a b Fine error.BadArgument free (inr same) = rw (same, eq-eqb b b refl) refl
+refused_two t old a b Fine error.NoCpu free r = absurd r
+refused_two t old a b Fine error.Busy free r = absurd r
+refused_two t old a b Fine error.Contended free r = absurd r
+refused_two t old a b Fine error.NoMemory free r = absurd r
+refused_two t old a b Fine error.Stale free r = absurd r
+refused_two t old a b Fine error.SlotBusy free r = absurd r
+refused_two t old a b Fine (error.BadScript n cause) free r = absurd r
+refused_two t old a b Fine error.IdleStep free r = absurd r
+refused_two t old a b Fine (error.BadMask k) free r = absurd r
+refused_two t old a b Fine (error.StreamFailed k) free r = absurd r
+refused_two t old a b Fine (error.KeyRange k) free r = absurd r
 
-pub two_answered : (t : TableValue) (old : MachineCpuValue) (a b online : ℕ) (made : Result ℤ SmpError) → t.setting.online ≡ online → old.stops.inside ≡ None
-    → IfOk made (λ _. (a ≢ b) × (has t.setting.online a ≡ true) × (has t.setting.online b ≡ true)) → IfErr made (λ e. RefusesTwo t old a b e)
-    → IsRefusedOr (two_refusal online a b) IsNumber (answer_of Number made)
-two_answered t old a b online (Ok v) same free ok err = let e : (a == b) ≡ false = ne_eqb a b ok.0 in rw (← same, e, ok.1, ok.2) tt
-two_answered t old a b online (Err e) same free ok err =
-    subst (λ (x : ℕ). IsRefusedOr (two_refusal x a b) IsNumber (Refused e)) same (refused_two t old a b e free err)
+pub two_answered : (t : TableValue) (old : MachineCpuValue) (this a b arg online : ℕ) (made : Result ℤ SmpError) → t.setting.online ≡ online
+    → old.stops.inside ≡ None → IfOk made (λ _. (a ≢ b) × (has t.setting.online a ≡ true) × (has t.setting.online b ≡ true))
+    → IfOk made (λ v. a ≡ this → v ≡ pos arg) → IfErr made (λ e. RefusesTwo t old a b e)
+    → IsRefusedOr (two_refusal online a b) (IsStopAnswer (a ≡ this) arg) (answer_of Number made)
+two_answered t old this a b arg online (Ok v) same free ok own err =
+    let e : (a == b) ≡ false = ne_eqb a b ok.0 in rw (← same, e, ok.1, ok.2) (tt, λ alone. ap Number (own alone))
+two_answered t old this a b arg online (Err e) same free ok own err =
+    subst (λ (x : ℕ). IsRefusedOr (two_refusal x a b) (IsStopAnswer (a ≡ this) arg) (Refused e)) same
+    (refused_two t old a b (IsStopAnswer (a ≡ this) arg) e free err)
 
 -- a stop of all CPUs is not refused
-pub all_answered : (old : MachineCpuValue) (made : Result ℤ SmpError) → old.stops.inside ≡ None
-    → IfErr made (λ e. (e ≡ error.BadArgument) × (old.stops.inside ≢ None)) → IsNumber (answer_of Number made)
-all_answered old (Ok v) free err = tt
-all_answered old (Err e) free err = absurd (err.1 free)
+pub all_answered : (old : MachineCpuValue) (IsAlone : Type 0) (arg : ℕ) (made : Result ℤ SmpError) → old.stops.inside ≡ None
+    → IfOk made (λ v. IsAlone → v ≡ pos arg) → IfErr made (λ e. (e ≡ error.BadArgument) × (old.stops.inside ≢ None))
+    → IsStopAnswer IsAlone arg (answer_of Number made)
+all_answered old IsAlone arg (Ok v) free own err = (tt, λ alone. ap Number (own alone))
+all_answered old IsAlone arg (Err e) free own err = absurd (err.1 free)
 
 refused_key : (t : TableValue) (old : MachineCpuValue) (k : ℕ) (Fine : Answer → Type 0) (e : SmpError) → old.stops.inside ≡ None → RefusesKey t old k e
     → IsRefusedOr (key_refusal t.setting.labels.keys k) Fine (Refused e)

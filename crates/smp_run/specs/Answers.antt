@@ -9,6 +9,7 @@ use Rattle.smp_mask.specs.declared.error.SmpError.TheVariants as error
 use Rattle.smp_words.specs.Size.{cpus}
 use Rattle.smp_calls.specs.Targets.{is_target, IsAny, HasNone}
 use Rattle.smp_multi.specs.declared.func.Called.{Called}
+use Rattle.smp_machine.specs.Stops.{IsActiveAlone}
 use Rattle.smp_script.specs.declared.request.Which.{Which}
 use Rattle.smp_script.specs.declared.request.Which.TheVariants.{All, Even, Odd}
 use Rattle.smp_script.specs.declared.request.Request.{Request}
@@ -77,9 +78,9 @@ echo_of arg = pos (if nat_lt arg (2 ^ 31) then arg else 2 ^ 31 - 1)
 abbrev pub IsEcho : Called → Type 0
 IsEcho call = call.answer ≡ echo_of call.arg
 
--- a number, which is the argument where the stop is of the caller itself
-abbrev pub IsOneAnswer : ℕ → ℕ → ℕ → Answer → Type 0
-IsOneAnswer this dst arg answer = IsNumber answer × (dst ≡ this → answer ≡ Number (pos arg))
+-- a number, which is the argument where no other CPU than the caller runs the function
+abbrev pub IsStopAnswer : Type 0 → ℕ → Answer → Type 0
+IsStopAnswer IsAlone arg answer = IsNumber answer × (IsAlone → answer ≡ Number (pos arg))
 
 -- a truth value
 abbrev pub IsTruth : Answer → Type 0
@@ -99,9 +100,9 @@ IsAnswer online keys this (User u dst func info) answer = IsRefusedOr (call_refu
 IsAnswer online keys this (Any wait mask func info) answer = IsAnyAnswer mask online this answer
 IsAnswer online keys this (Many wait mask func info) answer = IsCpus (is_target mask online this false) answer
 IsAnswer online keys this (Cond which wait mask func info) answer = IsCpus (λ c. is_target mask online this true c && says which c) answer
-IsAnswer online keys this (One dst func arg) answer = IsRefusedOr (one_refusal online dst) (IsOneAnswer this dst arg) answer
-IsAnswer online keys this (Two a b func arg) answer = IsRefusedOr (two_refusal online a b) IsNumber answer
-IsAnswer online keys this (Machine active func arg) answer = IsNumber answer
+IsAnswer online keys this (One dst func arg) answer = IsRefusedOr (one_refusal online dst) (IsStopAnswer (dst ≡ this) arg) answer
+IsAnswer online keys this (Two a b func arg) answer = IsRefusedOr (two_refusal online a b) (IsStopAnswer (a ≡ this) arg) answer
+IsAnswer online keys this (Machine active func arg) answer = IsStopAnswer (IsActiveAlone online active this) arg answer
 IsAnswer online keys this (Set k on) answer = IsRefusedOr (key_refusal keys k) IsTruth answer
 IsAnswer online keys this (Inc k) answer = IsRefusedOr (key_refusal keys k) (IsCount Full) answer
 IsAnswer online keys this (Dec k) answer = IsRefusedOr (key_refusal keys k) (IsCount Zero) answer

@@ -3,8 +3,9 @@
 ghost use Rattle.std.specs.Prelude.{◌≡◌, ◌<◌, ◌≤◌, ◌^◌, ◌&&◌, true, false, [], IfSome, MatchOption};
 ghost use Rattle.smp_mask.specs.declared.error.Edge.TheVariants.{Full, Zero};
 ghost use Rattle.smp_calls.specs.Targets.{is_target};
+ghost use Rattle.smp_machine.specs.Stops.{IsActiveAlone};
 ghost use Rattle.smp_script.specs.Spelling.{RequestFits};
-ghost use Rattle.smp_run.specs.Answers.{IsAnswer, IsAnyAnswer, IsCount, IsCpus, IsDone, IsNumber, IsOneAnswer, IsRefusedOr, IsTruth};
+ghost use Rattle.smp_run.specs.Answers.{IsAnswer, IsAnyAnswer, IsCount, IsCpus, IsDone, IsRefusedOr, IsStopAnswer, IsTruth};
 ghost use Rattle.smp_run.specs.Answers.{answer_of, call_refusal, key_refusal, one_refusal, two_refusal, says as says_of};
 ghost use Rattle.smp_run.specs.Players.{IsSame};
 ghost use Rattle.smp_run.specs.Made.{HasMade, Makes};
@@ -205,7 +206,7 @@ impl<'a, P: Pace> Player<'a, P> {
     fn one<R: Wait>(&mut self, rt: &R, dst: u32, func: u16, arg: u64) -> Answer
         requires { arg < 2 ^ 31 }
         ensures same { IsSame self.old self.new }
-        ensures answer { IsRefusedOr (one_refusal self.old.machine.now.calls.online dst) (IsOneAnswer self.old.cpu.calls.number dst arg) result }
+        ensures answer { IsRefusedOr (one_refusal self.old.machine.now.calls.online dst) (IsStopAnswer (dst ≡ self.old.cpu.calls.number) arg) result }
         ensures sent { HasSent [] self.old.cpu self.new.cpu }
         ensures made { Makes self.old.machine.now.stops (Request.One dst func arg) result self.old.cpu self.new.cpu }
     {
@@ -220,12 +221,14 @@ impl<'a, P: Pace> Player<'a, P> {
 
     #[tactic(auto, using(crate::proofs::Staying::still_stopped, crate::proofs::Refusals::two_answered, crate::proofs::Waiting::waited_stopped))]
     fn two<R: Wait>(&mut self, rt: &R, a: u32, b: u32, func: u16, arg: u64) -> Answer
+        requires { arg < 2 ^ 31 }
         ensures same { IsSame self.old self.new }
-        ensures answer { IsRefusedOr (two_refusal self.old.machine.now.calls.online a b) IsNumber result }
+        ensures answer { IsRefusedOr (two_refusal self.old.machine.now.calls.online a b) (IsStopAnswer (a ≡ self.old.cpu.calls.number) arg) result }
         ensures sent { HasSent [] self.old.cpu self.new.cpu }
         ensures made { Makes self.old.machine.now.stops (Request.Two a b func arg) result self.old.cpu self.new.cpu }
     {
         let _online = self.machine.online();
+        let _this = self.cpu.number();
         let (cpu, functions, echo) = (&mut self.cpu, &mut self.functions, &mut self.echo);
         let made = self
             .machine
@@ -235,11 +238,14 @@ impl<'a, P: Pace> Player<'a, P> {
 
     #[tactic(auto, using(crate::proofs::Staying::still_stopped, crate::proofs::Refusals::all_answered, crate::proofs::Waiting::waited_stopped))]
     fn stop_all<R: Wait>(&mut self, rt: &R, active: Option<CpuMask>, func: u16, arg: u64) -> Answer
+        requires { arg < 2 ^ 31 }
         ensures same { IsSame self.old self.new }
-        ensures answer { IsNumber result }
+        ensures answer { IsStopAnswer (IsActiveAlone self.old.machine.now.calls.online active self.old.cpu.calls.number) arg result }
         ensures sent { HasSent [] self.old.cpu self.new.cpu }
         ensures made { Makes self.old.machine.now.stops (Request.Machine active func arg) result self.old.cpu self.new.cpu }
     {
+        let _online = self.machine.online();
+        let _this = self.cpu.number();
         let (cpu, functions, echo) = (&mut self.cpu, &mut self.functions, &mut self.echo);
         let made = self
             .machine

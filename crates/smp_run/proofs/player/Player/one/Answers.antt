@@ -12,8 +12,8 @@ returns-clause-answer g c =
     let me = c.args.self.now in let call = c.stop_one-made in let this = c.number-this.ensures.number in
     rw c.number_or.ensures (one_answered me.machine.now.stops me.cpu me.cpu.calls.number c.args.dst c.args.arg me.machine.now.calls.online call.result
     (sym c.online-online.ensures.stops ∙ c.online-online.ensures.calls) me.own.free call.ensures.online
-    (own_answered _ short_stop (IsOneWork c.args.dst c.args.func c.args.arg) me.cpu call.new.me _ _ _ _ c.args.dst c.args.func c.args.arg call.result
-    (sym this.0 ∙ this.1) c.requires call.ensures.ok call.ensures.own)
+    (own_answered _ short_stop (IsOneWork c.args.dst c.args.func c.args.arg) me.cpu call.new.me _ _ _ _ _ _ c.args.func c.args.arg call.result
+    (λ e. e ∙ (sym this.0 ∙ this.1)) c.requires call.ensures.ok call.ensures.own)
     call.ensures.err)
 
 pub returns-clause-sent : goal.returns-clause-sent
