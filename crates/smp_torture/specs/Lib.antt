@@ -6,3 +6,5 @@ pub mod Counts
 pub mod Ranges
 -- what it says at the end
 pub mod Verdicts
+-- CPUs at its end
+pub mod Ends

@@ -1,10 +1,10 @@
 //! What a CPU does of each kind, and whether it was answered as it should be.
 
-ghost use Rattle.std.specs.Prelude.{◌≡◌};
+ghost use Rattle.smp_machine.specs.Seats.{IsSameSeat};
 
 use crate::ear::{answer_to, arg_of};
 use crate::kind::Kind;
-use crate::torturer::Torturer;
+use crate::torturer::{EarSeat, Torturer, poll};
 use crossbeam_utils::Backoff;
 use smp_labels::{Entry, LabelMap, SiteKind};
 use smp_mask::{CpuMask, Edge, SmpError};
@@ -48,203 +48,199 @@ fn picked(mask: CpuMask, info: u64) -> CpuMask {
     picked
 }
 
-impl<'a> Torturer<'a> {
+impl<'e, T: Clock + Eprint> Torturer<'e, T> {
     /// Notes a call to each CPU of a mask.
-    fn note_all(&mut self, kind: Kind, cpus: CpuMask, value: u64)
-        ensures { self.new.member ≡ self.old.member }
-    {
-        let sent = &mut self.sent;
+    fn note_all(&mut self, kind: Kind, cpus: CpuMask, value: u64) {
+        let sent = &mut self.deeds.sent;
         for cpu in cpus.iter() {
             sent.note(kind.func(), cpu, value);
         }
     }
 
-    fn single<R: Wait>(&mut self, rt: &R, kind: Kind, wait: bool) -> bool
-        ensures { self.new.member.machine ≡ self.old.member.machine }
+    fn single<R: Wait>(&mut self, seat: &mut EarSeat<'_, R>, kind: Kind, wait: bool) -> bool
+        ensures { IsSameSeat seat.old seat.new }
     {
         let (dst, info) = (self.choice.cpu(), self.choice.value());
-        let made = self.member.single(rt, wait, dst, kind.func(), info);
-        self.sent.note(kind.func(), dst, info);
+        let made = seat.call_single(dst, kind.func(), info, wait);
+        self.deeds.sent.note(kind.func(), dst, info);
         made.is_ok()
     }
 
-    fn user<R: Wait>(&mut self, rt: &R, kind: Kind) -> bool
-        ensures { self.new.member.machine ≡ self.old.member.machine }
+    fn user<R: Wait>(&mut self, seat: &mut EarSeat<'_, R>, kind: Kind) -> bool
+        ensures { IsSameSeat seat.old seat.new }
     {
         let (u, dst, info) = (self.choice.below(2), self.choice.cpu(), self.choice.value());
         let backoff = Backoff::new();
         for _ in 0..TRIES {
-            match self.member.user(rt, u, dst, kind.func(), info) {
+            match seat.call_async(u, dst, kind.func(), info) {
                 Ok(()) => {
-                    self.sent.note(kind.func(), dst, info);
+                    self.deeds.sent.note(kind.func(), dst, info);
                     return true;
                 }
-                Err(SmpError::Busy) => self.retries = self.retries.wrapping_add(1),
+                Err(SmpError::Busy) => self.deeds.retries = self.deeds.retries.wrapping_add(1),
                 Err(_) => return false,
             }
-            self.member.poll(rt);
+            poll(seat);
             backoff.snooze();
         }
         false
     }
 
-    fn any<R: Wait>(&mut self, rt: &R, kind: Kind, wait: bool) -> bool
-        ensures { self.new.member.machine ≡ self.old.member.machine }
+    fn any<R: Wait>(&mut self, seat: &mut EarSeat<'_, R>, kind: Kind, wait: bool) -> bool
+        ensures { IsSameSeat seat.old seat.new }
     {
         let (mask, info) = (self.choice.mask(), self.choice.value());
-        match self.member.any(rt, wait, mask, kind.func(), info) {
+        match seat.call_any(mask, kind.func(), info, wait) {
             Ok(cpu) => {
-                self.sent.note(kind.func(), cpu, info);
+                self.deeds.sent.note(kind.func(), cpu, info);
                 mask.contains(cpu)
             }
             Err(error) => error == SmpError::NoCpu && mask.first().is_none(),
         }
     }
 
-    fn many<R: Wait>(&mut self, rt: &R, kind: Kind, wait: bool) -> bool
-        ensures { self.new.member.machine ≡ self.old.member.machine }
+    fn many<R: Wait>(&mut self, seat: &mut EarSeat<'_, R>, kind: Kind, wait: bool) -> bool
+        ensures { IsSameSeat seat.old seat.new }
     {
         let (mask, info) = (self.choice.mask(), self.choice.value());
-        let called = self.member.many(rt, wait, mask, kind.func(), info);
-        let wanted = mask.without(self.member.cpu.number());
+        let called = seat.call_many(mask, kind.func(), info, wait);
+        let wanted = mask.without(seat.number());
         self.note_all(kind, wanted, info);
         called == Ok(wanted)
     }
 
-    fn each<R: Wait>(&mut self, rt: &R, kind: Kind, wait: bool) -> bool
-        ensures { self.new.member.machine ≡ self.old.member.machine }
+    /// Calls the CPUs of a mask whose numbers are even where the info is, and else the odd ones.
+    fn each<R: Wait>(&mut self, seat: &mut EarSeat<'_, R>, kind: Kind, wait: bool) -> bool
+        ensures { IsSameSeat seat.old seat.new }
     {
         let (mask, info) = (self.choice.mask(), self.choice.value());
-        let called = self.member.each(rt, wait, mask, kind.func(), info);
+        let says = |cpu: u32, info: u64| u64::from(cpu % 2) == info % 2;
+        let called = seat.each_cpu_cond(mask, kind.func(), info, &says, wait);
         let wanted = picked(mask, info);
         self.note_all(kind, wanted, info);
         called == Ok(wanted)
     }
 
     /// An argument of a stop that names this CPU.
-    fn arg(&mut self) -> u64
-        ensures { self.new.member ≡ self.old.member }
-    {
-        arg_of(self.member.cpu.number(), self.choice.value())
+    fn arg(&mut self, number: u32) -> u64 {
+        arg_of(number, self.choice.value())
     }
 
-    fn stop_one<R: Wait>(&mut self, rt: &R, kind: Kind) -> bool
-        ensures { self.new.member.machine ≡ self.old.member.machine }
+    fn stop_one<R: Wait>(&mut self, seat: &mut EarSeat<'_, R>, kind: Kind) -> bool
+        ensures { IsSameSeat seat.old seat.new }
     {
-        let (dst, arg) = (self.choice.cpu(), self.arg());
-        let answer = self.member.stop_one(rt, dst, kind.func(), arg);
-        self.sent.note(kind.func(), dst, arg);
+        let (dst, arg) = (self.choice.cpu(), self.arg(seat.number()));
+        let answer = seat.stop_one(dst, kind.func(), arg);
+        self.deeds.sent.note(kind.func(), dst, arg);
         answer == Ok(answer_to(arg))
     }
 
-    fn stop_two<R: Wait>(&mut self, rt: &R, kind: Kind) -> bool
-        ensures { self.new.member.machine ≡ self.old.member.machine }
+    fn stop_two<R: Wait>(&mut self, seat: &mut EarSeat<'_, R>, kind: Kind) -> bool
+        ensures { IsSameSeat seat.old seat.new }
     {
-        let (a, b, arg) = (self.choice.cpu(), self.choice.cpu(), self.arg());
-        let answer = self.member.stop_two(rt, a, b, kind.func(), arg);
+        let (a, b, arg) = (
+            self.choice.cpu(),
+            self.choice.cpu(),
+            self.arg(seat.number()),
+        );
+        let answer = seat.stop_two(a, b, kind.func(), arg);
         if a == b {
             return answer == Err(SmpError::BadArgument);
         }
-        self.sent.note(kind.func(), a, arg);
+        self.deeds.sent.note(kind.func(), a, arg);
         answer == Ok(answer_to(arg))
     }
 
-    fn stop_machine<R: Wait>(&mut self, rt: &R, kind: Kind) -> bool
-        ensures { self.new.member.machine ≡ self.old.member.machine }
+    fn stop_machine<R: Wait>(&mut self, seat: &mut EarSeat<'_, R>, kind: Kind) -> bool
+        ensures { IsSameSeat seat.old seat.new }
     {
-        let (active, arg) = (self.choice.mask(), self.arg());
-        let answer = self.member.stop_machine(rt, active, kind.func(), arg);
+        let (active, arg) = (self.choice.mask(), self.arg(seat.number()));
+        let answer = seat.stop_machine(kind.func(), arg, Some(active));
         self.note_all(kind, active, arg);
         let runs = active.first().is_some();
         answer == Ok(if runs { answer_to(arg) } else { 0 })
     }
 
-    fn set_key<R: Wait>(&mut self, rt: &R) -> bool
-        ensures { self.new.member.machine ≡ self.old.member.machine }
+    fn set_key<R: Wait>(&mut self, seat: &mut EarSeat<'_, R>) -> bool
+        ensures { IsSameSeat seat.old seat.new }
     {
         let (k, on) = (self.choice.below(KEYS), self.choice.flip());
-        self.member.set_key(rt, k, on).is_ok()
+        seat.set_key(k, on).is_ok()
     }
 
-    fn key_inc<R: Wait>(&mut self, rt: &R) -> bool
-        ensures { self.new.member.machine ≡ self.old.member.machine }
+    fn key_inc<R: Wait>(&mut self, seat: &mut EarSeat<'_, R>) -> bool
+        ensures { IsSameSeat seat.old seat.new }
     {
         let k = self.choice.below(KEYS);
-        match self.member.key_inc(rt, k) {
+        match seat.key_inc(k) {
             Ok(_) => true,
             Err(error) => error == SmpError::KeyRange(Edge::Full),
         }
     }
 
-    fn key_dec<R: Wait>(&mut self, rt: &R) -> bool
-        ensures { self.new.member.machine ≡ self.old.member.machine }
+    fn key_dec<R: Wait>(&mut self, seat: &mut EarSeat<'_, R>) -> bool
+        ensures { IsSameSeat seat.old seat.new }
     {
         let k = self.choice.below(KEYS);
-        match self.member.key_dec(rt, k) {
+        match seat.key_dec(k) {
             Ok(_) => true,
             Err(error) => error == SmpError::KeyRange(Edge::Zero),
         }
     }
 
-    fn read_key(&mut self) -> bool
-        ensures { self.new.member.machine ≡ self.old.member.machine }
+    fn read_key<R: Wait>(&mut self, seat: &mut EarSeat<'_, R>) -> bool
+        ensures { IsSameSeat seat.old seat.new }
     {
         let k = self.choice.below(KEYS);
-        self.member.read_key(k).is_ok()
+        seat.read_key(k).is_ok()
     }
 
     /// Between the two readings this CPU takes part in no stop, so that no patch comes between.
-    fn read_site(&mut self) -> bool
-        ensures { self.new.member.machine ≡ self.old.member.machine }
+    fn read_site<R: Wait>(&mut self, seat: &mut EarSeat<'_, R>) -> bool
+        ensures { IsSameSeat seat.old seat.new }
     {
         let site = self.choice.below(SITES);
-        let key = self.member.read_key(site / 2);
-        let read = self.member.read_site(site);
+        let key = seat.read_key(site / 2);
+        let read = seat.read_site(site);
         match (key, read) {
             (Ok(on), Ok(kind)) => (kind == SiteKind::Jmp) == (on != is_branch(site)),
             _ => false,
         }
     }
 
-    fn sleep<R: Clock>(&mut self, rt: &R) -> bool
-        ensures { self.new.member ≡ self.old.member }
-    {
+    fn sleep(&mut self) -> bool {
         let micros = self.choice.below(MOST_SLEEP);
-        thread::sleep(rt, Duration::from_micros(u64::from(micros)));
-        true
-    }
-
-    fn poll_once<R: Wait>(&mut self, rt: &R) -> bool
-        ensures { self.new.member.machine ≡ self.old.member.machine }
-    {
-        self.member.poll(rt);
+        thread::sleep(self.clock, Duration::from_micros(u64::from(micros)));
         true
     }
 
     /// Does one thing of this kind: whether it was answered as it should be.
-    pub fn make<R: Wait + Clock>(&mut self, rt: &R, kind: Kind) -> bool
-        ensures { self.new.member.machine ≡ self.old.member.machine }
+    pub fn make<R: Wait>(&mut self, seat: &mut EarSeat<'_, R>, kind: Kind) -> bool
+        ensures { IsSameSeat seat.old seat.new }
     {
         match kind {
-            Kind::Single => self.single(rt, kind, false),
-            Kind::SingleWait => self.single(rt, kind, true),
-            Kind::Async => self.user(rt, kind),
-            Kind::Any => self.any(rt, kind, false),
-            Kind::AnyWait => self.any(rt, kind, true),
-            Kind::Many => self.many(rt, kind, false),
-            Kind::ManyWait => self.many(rt, kind, true),
-            Kind::Each => self.each(rt, kind, false),
-            Kind::EachWait => self.each(rt, kind, true),
-            Kind::StopOne => self.stop_one(rt, kind),
-            Kind::StopTwo => self.stop_two(rt, kind),
-            Kind::StopMachine => self.stop_machine(rt, kind),
-            Kind::SetKey => self.set_key(rt),
-            Kind::KeyInc => self.key_inc(rt),
-            Kind::KeyDec => self.key_dec(rt),
-            Kind::ReadKey => self.read_key(),
-            Kind::ReadSite => self.read_site(),
-            Kind::Sleep => self.sleep(rt),
-            Kind::Poll => self.poll_once(rt),
+            Kind::Single => self.single(seat, kind, false),
+            Kind::SingleWait => self.single(seat, kind, true),
+            Kind::Async => self.user(seat, kind),
+            Kind::Any => self.any(seat, kind, false),
+            Kind::AnyWait => self.any(seat, kind, true),
+            Kind::Many => self.many(seat, kind, false),
+            Kind::ManyWait => self.many(seat, kind, true),
+            Kind::Each => self.each(seat, kind, false),
+            Kind::EachWait => self.each(seat, kind, true),
+            Kind::StopOne => self.stop_one(seat, kind),
+            Kind::StopTwo => self.stop_two(seat, kind),
+            Kind::StopMachine => self.stop_machine(seat, kind),
+            Kind::SetKey => self.set_key(seat),
+            Kind::KeyInc => self.key_inc(seat),
+            Kind::KeyDec => self.key_dec(seat),
+            Kind::ReadKey => self.read_key(seat),
+            Kind::ReadSite => self.read_site(seat),
+            Kind::Sleep => self.sleep(),
+            Kind::Poll => {
+                poll(seat);
+                true
+            }
         }
     }
 }

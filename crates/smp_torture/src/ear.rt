@@ -2,20 +2,36 @@
 
 ghost use Rattle.std.specs.Prelude.{◌<◌};
 
+use crate::deeds::Deeds;
 use crate::sheet::Sheet;
 use smp_multi::StopFunc;
 use smp_queue::Handler;
 use smp_words::size::NR_CPUS;
 
-/// Notes each call that it hears.
+/// Notes each call that it hears, and keeps what its CPU has done at the end.
 #[derive(Drop)]
 pub struct Ear {
     pub own: u32,
     pub heard: Sheet,
-    /// Polls and waits in which it heard calls of other CPUs, modulo 2^64. Each is a batch of the queue, or more.
+    /// Polls and waits in which it heard calls of other CPUs, modulo 2^64; those after its CPU's last act are one. Each is a
+    /// batch of the queue, or more.
     pub batches: u64,
     /// Whether the current poll or wait has had none yet.
     pub fresh: bool,
+    pub deeds: Deeds,
+}
+
+impl Ear {
+    /// The handler of this CPU, which has heard nothing.
+    pub fn new(own: u32) -> Ear {
+        Ear {
+            own,
+            heard: Sheet::new(),
+            batches: 0,
+            fresh: true,
+            deeds: Deeds::new(),
+        }
+    }
 }
 
 impl Handler for Ear {
@@ -35,6 +51,16 @@ impl Handler for Ear {
 pub struct Runs {
     pub own: u32,
     pub ran: Sheet,
+}
+
+impl Runs {
+    /// The stop function of this CPU, which has run nothing.
+    pub fn new(own: u32) -> Runs {
+        Runs {
+            own,
+            ran: Sheet::new(),
+        }
+    }
 }
 
 /// The argument of a stop by this CPU.

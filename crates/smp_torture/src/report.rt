@@ -1,7 +1,9 @@
 //! What one CPU has made, sent and heard.
 
-ghost use Rattle.std.specs.Prelude.{◌<◌};
+ghost use Rattle.std.specs.Prelude.{◌≡◌, ◌<◌};
 
+use crate::deeds::Deeds;
+use crate::ear::{Ear, Runs};
 use crate::kind::{KINDS, Kind};
 use crate::made::Made;
 use crate::sheet::Sheet;
@@ -19,12 +21,33 @@ pub struct Report {
     pub ran: Sheet,
     /// How often a record of its own was still busy, modulo 2^64.
     pub retries: u64,
-    /// Polls and waits in which it heard calls of other CPUs, modulo 2^64.
+    /// Polls and waits in which it heard calls of other CPUs, modulo 2^64; those after its last act are one.
     pub batches: u64,
     ghost below: { number < 32 },
 }
 
 impl Report {
+    /// What a CPU has left, in its handler and its stop function.
+    pub fn new(number: u32, handler: Ear, functions: Runs) -> Report
+        requires { number < 32 }
+        ensures { result.number ≡ number }
+    {
+        let Deeds {
+            made,
+            sent,
+            retries,
+        } = handler.deeds;
+        Report {
+            number,
+            made,
+            sent,
+            heard: handler.heard,
+            ran: functions.ran,
+            retries,
+            batches: handler.batches,
+        }
+    }
+
     pub fn made(&self, kind: Kind) -> Made {
         self.made[kind.index()]
     }

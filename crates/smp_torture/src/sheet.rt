@@ -1,13 +1,12 @@
 //! What one CPU has sent, or has heard.
 
-ghost use Rattle.std.specs.Prelude.{◌≡◌, ◌<◌, ℕ, IfSome, IfNone, IfOk, length, slice_index_or, slice_set, vec_len, vec_items};
+ghost use Rattle.std.specs.Prelude.{◌≡◌, ◌<◌, IfSome, IfNone, slice_set};
 ghost use Rattle.smp_torture.specs.Kinds.{kinds};
-ghost use Rattle.smp_torture.specs.Counts.{place_of, cell_at, cell_with, no_cell};
+ghost use Rattle.smp_torture.specs.Counts.{place_of, cell_at, cell_with};
 
 use crate::cell::Cell;
 use crate::kind::KINDS;
 use smp_words::size::NR_CPUS;
-use std::alloc::{AllocError, Global};
 
 /// A cell for each function and each CPU.
 const CELLS: usize = KINDS * NR_CPUS as usize;
@@ -15,10 +14,9 @@ const CELLS: usize = KINDS * NR_CPUS as usize;
 /// What one CPU has sent, or has heard: by the function, and by the CPU to or from which the calls went.
 #[derive(Drop)]
 pub struct Sheet {
-    cells: Vec<Cell, Global>,
+    cells: [Cell; CELLS],
     /// Calls of functions or CPUs that do not exist, modulo 2^64.
     strays: u64,
-    ghost sized: { vec_len cells ≡ 608 },
 }
 
 /// Where the calls of a function to or from a CPU stand; nowhere where one of them does not exist.
@@ -35,15 +33,17 @@ fn place(func: u16, cpu: u32) -> Option<usize>
 
 impl Sheet {
     /// Nothing sent, or heard.
-    pub fn new(alloc: Global) -> Result<Sheet, AllocError> {
-        let cells = Vec::from_elem(alloc, Cell::NONE, CELLS)?;
-        Ok(Sheet { cells, strays: 0 })
+    pub fn new() -> Sheet {
+        Sheet {
+            cells: [Cell::NONE; CELLS],
+            strays: 0,
+        }
     }
 
     /// Notes a call of this function and value, to or from this CPU.
     pub fn note(&mut self, func: u16, cpu: u32, value: u64)
-        ensures { func < kinds → cpu < 32 → vec_items self.new.cells
-            ≡ slice_set (vec_items self.old.cells) (place_of func cpu) (cell_with (cell_at (vec_items self.old.cells) func cpu) value) }
+        ensures { func < kinds → cpu < 32 → self.new.cells
+            ≡ slice_set self.old.cells (place_of func cpu) (cell_with (cell_at self.old.cells func cpu) value) }
     {
         match place(func, cpu) {
             Some(at) => self.cells[at] = self.cells[at].with(value),
@@ -64,7 +64,7 @@ impl Sheet {
 
     /// The calls of this function to or from this CPU.
     pub fn cell(&self, func: u16, cpu: u32) -> Cell
-        ensures { func < kinds → cpu < 32 → result ≡ cell_at (vec_items self.now.cells) func cpu }
+        ensures { func < kinds → cpu < 32 → result ≡ cell_at (self.now.cells) func cpu }
     {
         match place(func, cpu) {
             Some(at) => self.cells[at],

@@ -1,134 +1,94 @@
-//! What the thread of one CPU does.
+//! What a CPU does while it is tortured.
 
-ghost use Rattle.std.specs.Prelude.{◌≡◌};
-ghost use Rattle.smp_machine.specs.MachineCpu.{IsAt};
+ghost use Rattle.smp_machine.specs.Seats.{IsSameSeat};
 
 use crate::choice::Choice;
-use crate::kind::KINDS;
-use crate::made::Made;
-use crate::member::Member;
+use crate::deeds::Deeds;
+use crate::ear::{Ear, Runs};
 use crate::plan::Plan;
-use crate::report::Report;
-use crate::sheet::Sheet;
-use crossbeam_utils::Backoff;
-use smp_machine::Cpu;
-use smp_start::StartLine;
+use smp_machine::Seat;
 use std::alloc::Global;
 use std::sync::Wait;
 use std::time::{Clock, Instant};
 
-/// A CPU that makes calls and stops at random, and what it has made.
+/// The CPU at its machine, with its handler and its stop function.
+pub type EarSeat<'m, R> = Seat<'m, Global, R, Ear, Runs>;
+
+/// What a CPU makes at random, and what it has made.
 #[derive(Drop)]
-pub struct Torturer<'a> {
-    pub member: Member<'a>,
+pub struct Torturer<'e, T> {
+    pub clock: &'e T,
+    pub plan: &'e Plan,
     pub choice: Choice,
-    pub made: [Made; KINDS],
-    pub sent: Sheet,
-    pub retries: u64,
+    pub deeds: Deeds,
     /// How much it has done, modulo 2^64.
     pub acts: u64,
     /// The seconds of which standard error was told.
     pub told: u64,
 }
 
-impl<'a> Torturer<'a> {
+/// One turn; then, where there is a work to take, a poll.
+pub fn poll<R: Wait>(seat: &mut EarSeat<'_, R>)
+    ensures { IsSameSeat seat.old seat.new }
+{
+    seat.handler.fresh = true;
+    seat.turn();
+    if seat.take_work() {
+        seat.poll();
+    }
+}
+
+impl<'e, T: Clock + Eprint> Torturer<'e, T> {
+    /// A CPU of this number that has done nothing.
+    pub fn new(clock: &'e T, plan: &'e Plan, number: u32) -> Torturer<'e, T> {
+        Torturer {
+            clock,
+            plan,
+            choice: Choice::new(plan.request.seed, number, plan.request.threads),
+            deeds: Deeds::new(),
+            acts: 0,
+            told: 0,
+        }
+    }
+
     /// Does one thing, and polls once, as often as not: how many seconds have passed. None where there is no clock.
-    fn act<R: Wait + Clock>(&mut self, rt: &R, plan: &Plan) -> Option<u64>
-        ensures { self.new.member.machine ≡ self.old.member.machine }
+    fn act<R: Wait>(&mut self, seat: &mut EarSeat<'_, R>) -> Option<u64>
+        ensures { IsSameSeat seat.old seat.new }
     {
-        let kind = self.choice.kind(&plan.request.weights);
-        let before = Instant::now(rt).ok()?;
-        self.member.ear.fresh = true;
-        let right = self.make(rt, kind);
-        let after = Instant::now(rt).ok()?;
-        self.made[kind.index()].note(right, after.duration_since(before));
+        let kind = self.choice.kind(&self.plan.request.weights);
+        let before = Instant::now(self.clock).ok()?;
+        seat.handler.fresh = true;
+        let right = self.make(seat, kind);
+        let after = Instant::now(self.clock).ok()?;
+        self.deeds.made[kind.index()].note(right, after.duration_since(before));
         self.acts = self.acts.wrapping_add(1);
         if self.choice.flip() {
-            self.member.poll(rt);
+            poll(seat);
         }
-        Some(after.duration_since(plan.began).as_secs())
+        Some(after.duration_since(self.plan.began).as_secs())
     }
 
     /// CPU 0 tells standard error of each second that has passed.
-    fn tell<R: Eprint>(&mut self, rt: &R, seconds: u64)
-        ensures { self.new.member.machine ≡ self.old.member.machine }
-    {
-        if seconds > self.told && self.member.cpu.number() == 0 {
+    fn tell(&mut self, number: u32, seconds: u64) {
+        if seconds > self.told && number == 0 {
             self.told = seconds;
-            let acts = self.acts;
+            let (rt, acts) = (self.clock, self.acts);
             eprintln!(rt; "smp_torture: {seconds} s, {acts} acts of CPU 0").is_ok();
         }
     }
 
     /// Does one thing after the other until the seconds have passed.
-    fn act_all<R: Wait + Clock + Eprint>(&mut self, rt: &R, plan: &Plan)
-        ensures { self.new.member.machine ≡ self.old.member.machine }
+    pub fn act_all<R: Wait>(&mut self, seat: &mut EarSeat<'_, R>)
+        ensures { IsSameSeat seat.old seat.new }
     {
-        for _ in rt.forever() {
-            match self.act(rt, plan) {
-                Some(seconds) if seconds < u64::from(plan.request.seconds) => {
-                    self.tell(rt, seconds);
+        for _ in seat.rt.forever() {
+            match self.act(seat) {
+                Some(seconds) if seconds < u64::from(self.plan.request.seconds) => {
+                    self.tell(seat.number(), seconds);
                 }
                 _ => return,
             }
         }
         unreachable!()
-    }
-
-    /// Polls until all CPUs have made their last call, and once more.
-    fn poll_to_the_end<R: Wait>(&mut self, rt: &R, cpus: u32, start: &StartLine)
-        ensures { self.new.member.machine ≡ self.old.member.machine }
-    {
-        let backoff = Backoff::new();
-        for _ in rt.forever() {
-            let last = start.done() >= u64::from(cpus);
-            self.member.poll(rt);
-            if last {
-                return;
-            }
-            backoff.snooze();
-        }
-        unreachable!()
-    }
-
-    /// The CPU, and what it has done.
-    fn close(self) -> (Cpu<Global>, Report)
-        ensures { IsAt self.entry.member.machine.now result.0 }
-    {
-        let Torturer {
-            member,
-            made,
-            sent,
-            retries,
-            ..
-        } = self;
-        let Member { cpu, ear, runs, .. } = member;
-        let number = cpu.number();
-        let report = Report {
-            number,
-            made,
-            sent,
-            heard: ear.heard,
-            ran: runs.ran,
-            retries,
-            batches: ear.batches,
-        };
-        (cpu, report)
-    }
-
-    /// What the thread of a CPU does, once all are started: the CPU, and what it has done. Then no CPU makes a call any
-    /// more, and this one has heard all calls that were sent to it.
-    pub fn run<R: Wait + Clock + Eprint>(
-        mut self,
-        rt: &R,
-        plan: &Plan,
-        start: &StartLine,
-    ) -> (Cpu<Global>, Report)
-        ensures { IsAt self.entry.member.machine.now result.0 }
-    {
-        self.act_all(rt, plan);
-        start.note_done();
-        self.poll_to_the_end(rt, plan.request.threads, start);
-        self.close()
     }
 }

@@ -1,0 +1,2 @@
+-- CPUs at the end of a torture
+pub mod Ending
