@@ -1,9 +1,14 @@
 //! What a thread does at a machine, over and over: stops, changes of a key, and idle polls.
 
 use crate::request::Limit;
-use crate::stand::Stand;
+use crate::stand::{Stand, count, poll};
 use crate::workload::Workload;
 use std::sync::Wait;
+
+/// The function that all stops name, and its argument.
+const FUNC: u16 = 3;
+
+const ARG: u64 = 4;
 
 /// Stops that are timed together.
 const STOPS: u32 = 10;
@@ -12,9 +17,9 @@ const STOPS: u32 = 10;
 const SHORT: u32 = 100;
 
 /// Counts the key up and down in turn.
-pub fn count_batch<R: Wait>(rt: &R, stand: &mut Stand) {
+pub fn count_batch<R: Wait>(stand: &mut Stand<'_, R>) {
     for i in 0..SHORT {
-        stand.count(rt, i % 2 == 0);
+        count(stand, i % 2 == 0);
     }
 }
 
@@ -27,31 +32,31 @@ pub fn batches_of(limit: Limit) -> Option<u32> {
 }
 
 /// One batch of stops; a key is turned on and off in turn.
-fn stop_batch<R: Wait>(rt: &R, stand: &mut Stand, workload: Workload) {
+fn stop_batch<R: Wait>(stand: &mut Stand<'_, R>, workload: Workload) {
     for i in 0..STOPS {
         match workload {
-            Workload::StopOne => stand.stop_one(rt, 1),
-            Workload::SetKey => stand.set_key(rt, i % 2 == 0),
-            _ => stand.stop_all(rt),
-        }
+            Workload::StopOne => stand.stop_one(1, FUNC, ARG).is_ok(),
+            Workload::SetKey => stand.set_key(0, i % 2 == 0).is_ok(),
+            _ => stand.stop_machine(FUNC, ARG, None).is_ok(),
+        };
     }
 }
 
 /// One batch of this workload: how many operations it has.
-pub fn run_batch<R: Wait>(rt: &R, stand: &mut Stand, workload: Workload) -> u32 {
+pub fn run_batch<R: Wait>(stand: &mut Stand<'_, R>, workload: Workload) -> u32 {
     match workload {
         Workload::CountOne | Workload::CountAll => {
-            count_batch(rt, stand);
+            count_batch(stand);
             SHORT
         }
         Workload::Idle => {
             for _ in 0..SHORT {
-                stand.poll(rt);
+                poll(stand);
             }
             SHORT
         }
         _ => {
-            stop_batch(rt, stand, workload);
+            stop_batch(stand, workload);
             STOPS
         }
     }

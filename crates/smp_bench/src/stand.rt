@@ -1,25 +1,21 @@
 //! One CPU of a machine, with what it calls.
 
 ghost use Rattle.std.specs.Prelude.{◌≡◌};
-ghost use Rattle.smp_machine.specs.MachineCpu.{IsAt};
 
 use crate::error::BenchError;
 use crate::seat::Counter;
 use smp_labels::{Entry, LabelMap};
-use smp_machine::{Cpu, Machine, MachineBoot};
+use smp_machine::{Machine, MachineBoot, Seat};
 use smp_multi::StopFunc;
 use std::alloc::Global;
 use std::sync::Wait;
 
-/// The function that all stops name, and its argument.
-const FUNC: u16 = 3;
-
-const ARG: u64 = 4;
-
 /// Answers 0, and counts its calls modulo 2^64.
 #[derive(Drop)]
-struct Runs {
+pub struct Runs {
     calls: u64,
+    /// Changes of the key's count by its CPU that took no stop, modulo 2^64.
+    nudges: u64,
 }
 
 impl StopFunc for Runs {
@@ -40,91 +36,58 @@ pub fn label() -> Result<LabelMap, BenchError> {
 }
 
 /// A CPU at its machine, with its handler and its stop function.
-#[derive(Drop)]
-pub struct Stand<'a> {
-    machine: &'a Machine<Global>,
-    cpu: Cpu<Global>,
-    counter: Counter,
-    runs: Runs,
-    /// Changes of the key's count that took no stop, modulo 2^64.
-    nudges: u64,
-    ghost own: { IsAt machine.now cpu },
+pub type Stand<'m, R> = Seat<'m, Global, R, Counter, Runs>;
+
+/// How many stop functions have run here, and changes of the key's count were made without a stop, modulo 2^64.
+pub fn done<R: Wait>(stand: &Stand<'_, R>) -> u64 {
+    stand.functions.calls.wrapping_add(stand.functions.nudges)
 }
 
-impl<'a> Stand<'a> {
-    /// How many stop functions have run here, and changes of the key's count were made without a stop, modulo 2^64.
-    pub fn done(&self) -> u64 {
-        self.runs.calls.wrapping_add(self.nudges)
+/// Handles and turns; then runs a work of its queue, if there is one: whether there was.
+pub fn poll<R: Wait>(stand: &mut Stand<'_, R>) -> bool {
+    stand.turn();
+    let taken = stand.take_work();
+    if taken {
+        stand.poll();
     }
+    taken
+}
 
-    /// Handles and turns; then runs a work of its queue, if there is one: whether there was.
-    pub fn poll<R: Wait>(&mut self, rt: &R) -> bool {
-        let (cpu, counter, runs) = (&mut self.cpu, &mut self.counter, &mut self.runs);
-        self.machine.turn(cpu, counter, runs);
-        let taken = self.machine.take_work(rt, cpu);
-        if taken {
-            self.machine.poll(rt, cpu, counter, runs);
-        }
-        taken
-    }
-
-    pub fn stop_all<R: Wait>(&mut self, rt: &R) {
-        let (cpu, counter, runs) = (&mut self.cpu, &mut self.counter, &mut self.runs);
-        self.machine
-            .stop_machine(rt, cpu, counter, runs, FUNC, ARG, None)
-            .is_ok();
-    }
-
-    pub fn stop_one<R: Wait>(&mut self, rt: &R, dst: u32) {
-        let (cpu, counter, runs) = (&mut self.cpu, &mut self.counter, &mut self.runs);
-        self.machine
-            .stop_one(rt, cpu, counter, runs, dst, FUNC, ARG)
-            .is_ok();
-    }
-
-    pub fn set_key<R: Wait>(&mut self, rt: &R, on: bool) {
-        let (cpu, counter, runs) = (&mut self.cpu, &mut self.counter, &mut self.runs);
-        self.machine.set_key(rt, cpu, counter, runs, 0, on).is_ok();
-    }
-
-    /// Counts the key up or down by one.
-    pub fn count<R: Wait>(&mut self, rt: &R, up: bool) {
-        let (cpu, counter, runs) = (&mut self.cpu, &mut self.counter, &mut self.runs);
-        let turned = if up {
-            self.machine.key_inc(rt, cpu, counter, runs, 0)
-        } else {
-            self.machine.key_dec(rt, cpu, counter, runs, 0)
-        };
-        if let Ok(false) = turned {
-            self.nudges = self.nudges.wrapping_add(1);
-        }
+/// Counts the key up or down by one.
+pub fn count<R: Wait>(stand: &mut Stand<'_, R>, up: bool) {
+    let turned = if up {
+        stand.key_inc(0)
+    } else {
+        stand.key_dec(0)
+    };
+    if let Ok(false) = turned {
+        stand.functions.nudges = stand.functions.nudges.wrapping_add(1);
     }
 }
 
 /// The CPUs of a machine that have no stand yet.
 #[derive(Drop)]
-pub struct Stands<'a> {
+pub struct Stands<'a, R> {
     machine: &'a Machine<Global>,
+    rt: &'a R,
     boot: MachineBoot<Global>,
     ghost own: { boot.machine ≡ machine.now },
 }
 
-impl<'a> Stands<'a> {
-    pub fn new(machine: &'a Machine<Global>, boot: MachineBoot<Global>) -> Stands<'a>
+impl<'a, R: Wait> Stands<'a, R> {
+    pub fn new(machine: &'a Machine<Global>, rt: &'a R, boot: MachineBoot<Global>) -> Stands<'a, R>
         requires { boot.machine ≡ machine.now }
     {
-        Stands { machine, boot }
+        Stands { machine, rt, boot }
     }
 
     /// The stand of this CPU. E1 where it is not online, E2 where it has one.
-    pub fn stand(&mut self, number: u32) -> Result<Stand<'a>, BenchError> {
+    pub fn stand(&mut self, number: u32) -> Result<Stand<'a, R>, BenchError> {
         let cpu = self.boot.cpu(number)?;
-        Ok(Stand {
-            machine: self.machine,
-            cpu,
-            counter: Counter { calls: 0 },
-            runs: Runs { calls: 0 },
+        let runs = Runs {
+            calls: 0,
             nudges: 0,
-        })
+        };
+        Ok(Seat::new(self.machine, self.rt, cpu, Counter { calls: 0 }, runs))
     }
 }

@@ -6,7 +6,7 @@ use crate::batch::{batches_of, count_batch, run_batch};
 use crate::error::BenchError;
 use crate::meter::{Measured, Meter};
 use crate::request::Limit;
-use crate::stand::{Stand, Stands, label};
+use crate::stand::{Stand, Stands, done, label, poll};
 use crate::workload::Workload;
 use crossbeam_utils::{Backoff, CachePadded};
 use smp_machine::Machine;
@@ -39,8 +39,8 @@ impl Progress {
         self.over.load(Ordering::SeqCst) != 0
     }
 
-    fn note(&self, stand: &Stand) {
-        self.sum.fetch_add(stand.done(), Ordering::SeqCst);
+    fn note<R: Wait>(&self, stand: &Stand<'_, R>) {
+        self.sum.fetch_add(done(stand), Ordering::SeqCst);
     }
 }
 
@@ -62,13 +62,13 @@ fn is_reached(progress: &Progress, until: Until) -> bool {
 }
 
 /// Polls until this is reached.
-fn answer<R: Wait>(rt: &R, stand: &mut Stand, progress: &Progress, until: Until) {
+fn answer<R: Wait>(stand: &mut Stand<'_, R>, progress: &Progress, until: Until) {
     let mut backoff = Backoff::new();
-    for _ in rt.forever() {
+    for _ in stand.rt.forever() {
         if is_reached(progress, until) {
             return;
         }
-        if stand.poll(rt) {
+        if poll(stand) {
             backoff = Backoff::new();
         } else {
             backoff.snooze();
@@ -78,45 +78,44 @@ fn answer<R: Wait>(rt: &R, stand: &mut Stand, progress: &Progress, until: Until)
 }
 
 /// Counts the key up and down this number of times, or until the first thread is through.
-fn count<R: Wait>(rt: &R, stand: &mut Stand, progress: &Progress, limit: Limit) {
+fn count<R: Wait>(stand: &mut Stand<'_, R>, progress: &Progress, limit: Limit) {
     if let Some(batches) = batches_of(limit) {
         for _ in 0..batches {
-            count_batch(rt, stand);
+            count_batch(stand);
         }
         return;
     }
-    for _ in rt.forever() {
+    for _ in stand.rt.forever() {
         if progress.is_over() {
             return;
         }
-        count_batch(rt, stand);
+        count_batch(stand);
     }
     unreachable!()
 }
 
 /// What a thread beside the first does.
-fn help<R: Wait>(rt: &R, mut stand: Stand, progress: &Progress, workload: Workload, limit: Limit) {
+fn help<R: Wait>(mut stand: Stand<'_, R>, progress: &Progress, workload: Workload, limit: Limit) {
     match workload {
         Workload::CountAll => {
-            answer(rt, &mut stand, progress, Until::Start);
-            if progress.start.wait(rt) {
-                count(rt, &mut stand, progress, limit);
+            answer(&mut stand, progress, Until::Start);
+            if progress.start.wait(stand.rt) {
+                count(&mut stand, progress, limit);
             }
         }
-        _ => answer(rt, &mut stand, progress, Until::Over),
+        _ => answer(&mut stand, progress, Until::Over),
     }
     progress.note(&stand);
 }
 
 /// Makes batches until the meter says that it is enough.
 fn repeat<R: Wait + Clock + Eprint>(
-    rt: &R,
-    stand: &mut Stand,
+    stand: &mut Stand<'_, R>,
     workload: Workload,
     meter: &mut Meter<R>,
 ) {
-    for _ in rt.forever() {
-        let operations = run_batch(rt, stand, workload);
+    for _ in stand.rt.forever() {
+        let operations = run_batch(stand, workload);
         if !meter.lap(operations) {
             return;
         }
@@ -126,26 +125,25 @@ fn repeat<R: Wait + Clock + Eprint>(
 
 /// What the first thread does, with all others started.
 fn lead<R: Wait + Clock + Eprint>(
-    rt: &R,
-    stand: &mut Stand,
+    stand: &mut Stand<'_, R>,
     progress: &Progress,
     workload: Workload,
     meter: &mut Meter<R>,
 ) {
     if workload == Workload::CountOne || workload == Workload::CountAll {
         // The key is on from here on. The first batch begins only now.
-        stand.set_key(rt, true);
+        let _ = stand.set_key(0, true);
         progress.start.open();
         meter.lap(0);
     }
-    repeat(rt, stand, workload, meter);
+    repeat(stand, workload, meter);
 }
 
 /// Starts the helpers, and leads where all were started: what all of them have done.
 fn run_threads<'a, R: Wait + Threads + Clock + Eprint + Sync>(
     rt: &R,
-    mut first: Stand<'a>,
-    helpers: Vec<Stand<'a>, Global>,
+    mut first: Stand<'a, R>,
+    helpers: Vec<Stand<'a, R>, Global>,
     workload: Workload,
     meter: &mut Meter<R>,
 ) -> Option<u64> {
@@ -160,11 +158,11 @@ fn run_threads<'a, R: Wait + Threads + Clock + Eprint + Sync>(
     let mut started = true;
     thread::scope(thread::scope_env(), rt, |scope| {
         for helper in helpers {
-            let spawned = scope.spawn(move || help(rt, helper, progress, workload, limit));
+            let spawned = scope.spawn(move || help(helper, progress, workload, limit));
             started = started && spawned.is_ok();
         }
         if started {
-            lead(rt, &mut first, progress, workload, meter);
+            lead(&mut first, progress, workload, meter);
         } else {
             progress.start.cancel();
         }
@@ -189,7 +187,7 @@ fn first_cpus(count: u32) -> Result<CpuMask, BenchError> {
 
 /// Stands one CPU for each thread, and runs the threads: what all of them have done.
 fn measure<R: Wait + Threads + Clock + Eprint + Sync>(
-    stands: &mut Stands,
+    stands: &mut Stands<'_, R>,
     rt: &R,
     alloc: Global,
     workload: Workload,
@@ -218,7 +216,7 @@ pub fn run<R: Wait + Threads + Clock + Eprint + Sync>(
     let count = workload.threads(threads);
     let (machine, boot) = Machine::new(alloc, 8, first_cpus(count)?, &label()?)?;
     let done = measure(
-        &mut Stands::new(&machine, boot),
+        &mut Stands::new(&machine, rt, boot),
         rt,
         alloc,
         workload,
