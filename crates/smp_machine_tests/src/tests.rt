@@ -1,3 +1,4 @@
+mod ends;
 mod hall;
 mod keys;
 mod line;
