@@ -1,4 +1,4 @@
-//! A seat of a run.
+//! A CPU of a run at its seat.
 
 ghost use Rattle.std.specs.Prelude.{◌≡◌};
 ghost use Rattle.smp_run.specs.Seats.{IsSeated};
@@ -9,7 +9,7 @@ use smp_machine::{Cpu, Machine, Seat};
 use std::alloc::Global;
 use std::sync::Wait;
 
-/// A CPU at its machine, with the functions that it runs. It has no work in hand, and its waited calls have ended.
+/// A CPU at its seat, with the functions that it runs. It has no work in hand, and its waited calls have ended.
 #[derive(Drop)]
 pub(crate) struct Player<'a, R: Wait, P: Pace> {
     pub(crate) seat: Seat<'a, Global, R, Paced<'a, P>, Echo>,
@@ -18,7 +18,7 @@ pub(crate) struct Player<'a, R: Wait, P: Pace> {
 }
 
 impl<'a, R: Wait, P: Pace> Player<'a, R, P> {
-    /// This CPU at its machine.
+    /// This CPU at a seat of its machine.
     pub(crate) fn new(
         rt: &'a R,
         machine: &'a Machine<Global>,
