@@ -9,7 +9,7 @@ use Rattle.smp_run.proofs.driver.drive.Goals as goal
 pub returns : goal.returns
 returns g c =
     let m = c.args.machine.now in let lines = c.args.lines.now in let made = c.play-cpu in let new = c.new-player in let polled = c.poll_until in
-    let first = c.args.seat.cpu in let last = polled.new.self.cpu in let same = polled.ensures.same in
+    let first = c.args.seat.cpu in let last = polled.new.self.seat.cpu in let same = polled.ensures.same in
     let number : last.calls.number ≡ first.calls.number =
     same.number_is ∙ (ap (λ (p : MachineCpuValue). p.calls.number) new.ensures.cpu ∙ made.ensures.number) in (
       subst (λ (x : MachineValue). IsSeated x last) (same.machine_is ∙ new.ensures.machine) polled.new.self.own,
