@@ -228,8 +228,7 @@ module _ {F : Type 0} (leads : F → Called → F → Type 0) (t : TableId) (d e
       let y = answer_word h.0 in
       let calls : calls_at_run d.known.number w ≡ true =
       ap (λ b. b && is_multi w.kind) (active_is ∙ on) ∙ ap is_multi (sym k.rests.1.kind ∙ kind) in
-      let mine = turned_at (carrying y d.known) RUN v.slot w (Calls (call_with w 0)) in
-      (
+      let mine = turned_at (carrying y d.known) RUN v.slot w (Calls (call_with w 0)) in (
         h.0,
         view (stepped 4 mine) (h.1 ∙ ap (stepped 4) (ran_is d.known v.slot w v.acked h.0 is)) ∙ (
             ap (λ b. makes 4 (record (cpu_of (record { table = d.table; known = mine })) {

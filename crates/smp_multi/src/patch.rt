@@ -17,8 +17,8 @@ ghost use Rattle.smp_multi.specs.Rounds.{AloneWhile, AtRun, AtTurn};
 ghost use Rattle.smp_multi.specs.StepCounts.{loading, patching};
 ghost use Rattle.smp_multi.specs.Turns.{patched_by};
 
-use crate::round::pass;
 use crate::accesses::Words;
+use crate::round::pass;
 use crate::seat::patch_steps::{acknowledge_patch, store_plan};
 use crate::seat::{CpuSeat, load};
 use arrayvec::ArrayVec;

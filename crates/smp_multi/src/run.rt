@@ -9,9 +9,9 @@ ghost use Rattle.smp_multi.specs.Places.{work_in};
 ghost use Rattle.smp_multi.specs.Running.{AtOne, called_by};
 ghost use Rattle.smp_multi.specs.StepCounts.{completing};
 
+use crate::accesses::Words;
 use crate::complete::close_if_last;
 use crate::func::StopFunc;
-use crate::accesses::Words;
 use crate::seat::{CpuSeat, run_steps};
 
 /// Calls the function of the stop of this slot, and completes with its answer.

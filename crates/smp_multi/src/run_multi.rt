@@ -8,9 +8,9 @@ ghost use Rattle.smp_multi.specs.Names.{Multi, Rests};
 ghost use Rattle.smp_multi.specs.Rounds.{AtRun, AtTurn, passed_by};
 ghost use Rattle.smp_multi.specs.Running.{answered_now, called_by};
 
+use crate::accesses::Words;
 use crate::func::StopFunc;
 use crate::round::pass;
-use crate::accesses::Words;
 use crate::seat::CpuSeat;
 use crate::seat::run_steps::run_multi;
 use smp_stop_steps::stage::Visit;

@@ -33,13 +33,13 @@ ghost use Rattle.smp_multi.specs.Laws.{FindsHeld};
 ghost use Rattle.smp_multi.specs.Nudges.{NudgeAnswers};
 ghost use Rattle.smp_multi.specs.Reads.{KeyAnswers, SiteAnswers};
 
+use crate::accesses::Owner;
 use crate::boot::StopBoot;
 use crate::cpu::StopCpu;
 use crate::func::StopFunc;
 use crate::gate::{leave_gate, take_gate};
 use crate::nudge::Nudge;
 use crate::poll::{collect, is_done};
-use crate::accesses::Owner;
 use crate::seat::{CpuSeat, lay, next_seat};
 use crate::turn::{Turn, take_turn};
 use crate::{begin, complete, enter, nudge, read, run};

@@ -7,10 +7,10 @@ ghost use Rattle.smp_multi.specs.Names.{One, Rests};
 ghost use Rattle.smp_multi.specs.Rounds.{AtTurn};
 ghost use Rattle.smp_multi.specs.Turns.{TurnAnswers};
 
+use crate::accesses::Words;
 use crate::func::StopFunc;
 use crate::patch::patch_on;
 use crate::round::{look, move_on};
-use crate::accesses::Words;
 use crate::run_multi::run_on;
 use crate::seat::CpuSeat;
 use smp_stop_steps::mask::has_bit;

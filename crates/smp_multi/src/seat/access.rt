@@ -20,8 +20,8 @@ ghost use Rattle.smp_stop_steps.specs.AnswerWords.{IsI32Word};
 ghost use Rattle.smp_multi.specs.Seat.{SeatValue, Able, Ready, fresh_seat};
 ghost use Rattle.smp_multi.specs.Plays.{loaded, stored, exchanged, subtracted, masked};
 
-use crate::cell::{FIRST_ENTRY, cell};
 use crate::accesses::{Owner, Words};
+use crate::cell::{FIRST_ENTRY, cell};
 use crate::rule::RawSeat;
 use crate::seat_view::SeatView;
 use atomic_table::Play;

@@ -51,7 +51,12 @@ pub(crate) fn store_plan(
 
 /// Acknowledges `RUN`, with all stores of the patch made, and answers what was found in the count. With this step the CPU
 /// carries the answer of the patch.
-pub(crate) fn acknowledge_patch(words: Words<'_>, seat: &mut CpuSeat, visit: Visit, answer: u64) -> u64
+pub(crate) fn acknowledge_patch(
+    words: Words<'_>,
+    seat: &mut CpuSeat,
+    visit: Visit,
+    answer: u64,
+) -> u64
     requires at { AtPatch words.shared.now.table_id seat.old visit }
     requires whole { rest_in seat.old.known.seat ≡ [] }
     requires answer { answer ≡ patch_answer (work_in seat.old.known.seat) (count_in seat.old.known.seat) }

@@ -19,8 +19,8 @@ ghost use Rattle.smp_multi.specs.Running.{AtOne, IsItsCall, answered_now, called
 ghost use Rattle.smp_multi.specs.StepCounts.{giving};
 
 use super::access::{CpuSeat, load, store_any, subtract_with};
-use crate::func::StopFunc;
 use crate::accesses::Words;
+use crate::func::StopFunc;
 use smp_stop_steps::phase::EXIT;
 use smp_stop_steps::stage::Visit;
 use smp_stop_steps::start::answer_word;

@@ -196,4 +196,4 @@ pub known_steps_count : KnownStepsCount
 known_steps_count v m may found w =
     let seen = seen_of v.number (known_access v m) found None in
     one_unless v (is_due (is_drafting v.source) seen.act seen.word) (weight_of m) (learned w v seen.act seen.word seen.found seen.put)
-        (weighs v m may found) (told v m found w)
+    (weighs v m may found) (told v m found w)
