@@ -18,7 +18,7 @@ returns g c =
     let run = run_polled m lines (vec_items made.result.answers) first made.result.cpu last c.requires.new.fresh number made.ensures.sent made.ensures.played
     (subst (λ (p : MachineCpuValue). HasSent [] p last) new.ensures.cpu polled.ensures.sent)
     (subst (λ (p : MachineCpuValue). HasMade [] p last) new.ensures.cpu polled.ensures.stops) polled.new.self.waited in
-    let same_cpu : c.into_parts.result.0 ≡ last = c.into_parts.ensures.parts.0 in (
+    let same_cpu : c.into_parts-cpu.result.0 ≡ last = c.into_parts-cpu.ensures.parts.0 in (
       subst (λ (p : MachineCpuValue). IsSeated m p) (sym same_cpu) seated,
       ap (λ (p : MachineCpuValue). p.calls.number) same_cpu ∙ number,
       made.ensures.answered,

@@ -1,4 +1,4 @@
-use Rattle.std.proofs.Common.{ℕ, true, sym, subst, ◌∙◌}
+use Rattle.std.proofs.Common.{ℕ, sym, subst, ◌∙◌}
 use Rattle.smp_machine.specs.Stops.{IsActiveAlone, IsMachineWork}
 use Rattle.smp_run.proofs.Echoing.{own_answered}
 use Rattle.smp_run.proofs.Refusals.{all_answered}

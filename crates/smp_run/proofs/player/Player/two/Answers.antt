@@ -1,4 +1,4 @@
-use Rattle.std.proofs.Common.{false, sym, ◌∙◌}
+use Rattle.std.proofs.Common.{sym, ◌∙◌}
 use Rattle.smp_machine.specs.Stops.{IsTwoWork}
 use Rattle.smp_run.proofs.Echoing.{own_answered}
 use Rattle.smp_run.proofs.Refusals.{two_answered}
