@@ -1,6 +1,6 @@
 -- What a stop answers in which the caller alone runs the function: its argument.
 use Rattle.std.proofs.Common.{◌≡◌, ℕ, ℤ, pos, ◌<◌, ◌-◌, ◌%◌, ◌^◌, nat_lt, Bool, true, if◌then◌else◌, Result, Ok, Err, IfOk, List, [], ◌∷◌, ◌++◌, map}
-use Rattle.std.proofs.Common.{arith, refl, sym, ap, subst, ◌∙◌}
+use Rattle.std.proofs.Common.{arith, sym, ap, ◌∙◌}
 use Rattle.std.specs.Int.{cast_signed, w32}
 use Rattle.std.proofs.lemmas.Bool.{lt-ltb}
 use Rattle.std.proofs.lemmas.Int.{to_z_pos}
@@ -12,11 +12,10 @@ use Rattle.smp_multi.specs.Answers.{answer_in}
 use Rattle.smp_multi.specs.Names.{OwnMove, StopCall, Work}
 use Rattle.smp_multi.specs.declared.func.Called.{Called}
 use Rattle.smp_machine.specs.MachineCpu.{MachineCpuValue}
-use Rattle.smp_machine.specs.Own.{Own}
-use Rattle.smp_machine.specs.OwnAnswers.{HasCalledFor, IsIn}
+use Rattle.smp_machine.specs.OwnAnswers.{HasCalledFor}
 use Rattle.smp_machine.specs.Seats.{SeatStopped, SeatValue}
 use Rattle.smp_machine.specs.Stops.{HasStopped}
-use Rattle.smp_machine.specs.Works.{HasRun, Works, stop_call}
+use Rattle.smp_machine.specs.Works.{HasRun, stop_call}
 use Rattle.smp_run.specs.Answers.{IsEcho, echo_of}
 
 -- a call of the function, whatever its value

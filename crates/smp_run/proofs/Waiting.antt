@@ -1,9 +1,9 @@
 -- Calls that wait have ended.
-use Rattle.std.proofs.Common.{◌≡◌, ◌≢◌, ◌⊎◌, ℕ, ℤ, zero, suc, ◌<◌, ◌≤◌, inl, inr, not, ◌&&◌, ◌||◌, ◌==◌, Bool, true, false, None, Some, Option, Result, Ok, Err, IfOk, IfErr}
+use Rattle.std.proofs.Common.{◌≡◌, ◌≢◌, ◌⊎◌, ℕ, ℤ, zero, suc, ◌<◌, inl, inr, not, ◌&&◌, ◌||◌, ◌==◌, Bool, true, false, None, Some, Option, Result, Ok, Err, IfOk, IfErr}
 use Rattle.std.proofs.Common.{if◌then◌else◌, List, [], ◌∷◌, ◌++◌, slice_index_or, slice_set, refl, sym, ap, ◌∙◌, subst}
 use Rattle.std.proofs.lemmas.Bool.{cases_eq, or_right}
 use Rattle.std.proofs.lemmas.List.{append-nil}
-use Rattle.smp_mask.specs.Mask.{has, members}
+use Rattle.smp_mask.specs.Mask.{has}
 use Rattle.smp_mask.specs.declared.error.SmpError.{SmpError}
 use Rattle.smp_mask.specs.declared.error.SmpError.TheVariants as error
 use Rattle.smp_words.specs.Size.{records_of_one, record_of}
@@ -13,10 +13,10 @@ use Rattle.smp_words.specs.declared.call.Class.TheVariants.{Async}
 use Rattle.smp_call_steps.specs.declared.known.Sending.{Sending}
 use Rattle.smp_queue.specs.Cpu.{CpuValue, confirmed_at, confirms, looks}
 use Rattle.smp_queue.specs.declared.handler.Heard.{Heard}
-use Rattle.smp_calls.specs.Families.{Calls, CallsBy, CallsHere, CallsMany, CallsOne, CallsUserHere, CallsWith, QueuesNone, RefusesUser}
+use Rattle.smp_calls.specs.Families.{CallsBy, CallsHere, CallsMany, CallsOne, CallsUserHere, CallsWith, QueuesNone, RefusesUser}
 use Rattle.smp_calls.specs.Queued.{Queued, is_used, sendings}
-use Rattle.smp_calls.specs.Records.{call_by, class_for, many_call, single_record, user_record}
-use Rattle.smp_calls.specs.Targets.{HasNone, remote}
+use Rattle.smp_calls.specs.Records.{call_by, class_for, many_call, user_record}
+use Rattle.smp_calls.specs.Targets.{HasNone}
 use Rattle.smp_multi.specs.Names.{Work}
 use Rattle.smp_multi.specs.declared.func.Called.{Called}
 use Rattle.smp_machine.specs.Calls.{RefusedInHand}

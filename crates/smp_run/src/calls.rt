@@ -13,11 +13,13 @@ ghost use Rattle.smp_run.specs.Seats.{keys_at};
 ghost use Rattle.smp_run.specs.Sent.{HasSent, request_calls};
 
 use crate::answer::Answer;
-use crate::pace::Pace;
+use crate::pace::{Echo, Pace, Paced};
 use crate::player::Player;
 use crossbeam_utils::Backoff;
+use smp_machine::Seat;
 use smp_mask::{CpuMask, SmpError};
 use smp_script::request::{Request, Which};
+use std::alloc::Global;
 use std::sync::Wait;
 
 fn says(which: Which, cpu: u32) -> bool
@@ -73,6 +75,14 @@ fn turned_or(made: Result<bool, SmpError>) -> Answer
         Ok(turned) => Answer::Turned(turned),
         Err(error) => Answer::Refused(error),
     }
+}
+
+/// The number of a seat's CPU, which is the same in both halves of the machine.
+fn number_of<R: Wait, P: Pace>(seat: &Seat<'_, Global, R, Paced<'_, P>, Echo>) -> u32
+    ensures calls { result ≡ seat.now.cpu.calls.number }
+    ensures stops { result ≡ seat.now.cpu.stops.number }
+{
+    seat.cpu.number()
 }
 
 impl<'a, R: Wait, P: Pace> Player<'a, R, P> {
@@ -185,7 +195,7 @@ impl<'a, R: Wait, P: Pace> Player<'a, R, P> {
         ensures made { Makes self.old.seat.machine.stops (Request.One dst func arg) result self.old.seat.cpu self.new.seat.cpu }
     {
         let _online = self.seat.online();
-        let _this = self.seat.cpu.number();
+        let _this = number_of(&self.seat);
         let made = self.seat.stop_one(dst, func, arg);
         number_or(made)
     }
@@ -199,7 +209,7 @@ impl<'a, R: Wait, P: Pace> Player<'a, R, P> {
         ensures made { Makes self.old.seat.machine.stops (Request.Two a b func arg) result self.old.seat.cpu self.new.seat.cpu }
     {
         let _online = self.seat.online();
-        let _this = self.seat.cpu.number();
+        let _this = number_of(&self.seat);
         let made = self.seat.stop_two(a, b, func, arg);
         number_or(made)
     }
@@ -213,7 +223,7 @@ impl<'a, R: Wait, P: Pace> Player<'a, R, P> {
         ensures made { Makes self.old.seat.machine.stops (Request.Machine active func arg) result self.old.seat.cpu self.new.seat.cpu }
     {
         let _online = self.seat.online();
-        let _this = self.seat.cpu.number();
+        let _this = number_of(&self.seat);
         let made = self.seat.stop_machine(func, arg, active);
         number_or(made)
     }

@@ -57,7 +57,7 @@ impl<'a, R: Wait, P: Pace> Player<'a, R, P> {
             × HasMade (stops_of makings) self.old.seat.cpu self.new.seat.cpu }
     {
         match line {
-            Directive::Do(cpu, count, request) if *cpu == self.seat.cpu.number() => {
+            Directive::Do(cpu, count, request) if *cpu == self.seat.number() => {
                 *answer = self.repeat(*count, request);
             }
             _ => {}
@@ -129,7 +129,8 @@ pub fn play<R: Wait, P: Pace>(
     let Seat { cpu, mut answers } = seat;
     let mut player = Player::new(rt, machine, pace, cpu);
     player.answer_all(lines, answers.as_mut_slice());
-    let cpu = player.seat.cpu;
+    let Player { seat, .. } = player;
+    let (cpu, _, _) = seat.into_parts();
     Seat { cpu, answers }
 }
 
@@ -154,7 +155,8 @@ pub(crate) fn drive<R: Wait, P: Pace>(
     start.note_done();
     let mut player = Player::new(rt, machine, pace, cpu);
     player.poll_until(start);
-    let cpu = player.seat.cpu;
+    let Player { seat, .. } = player;
+    let (cpu, _, _) = seat.into_parts();
     is_shown(machine, &cpu);
     Some(Seat { cpu, answers })
 }

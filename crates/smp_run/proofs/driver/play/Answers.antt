@@ -24,5 +24,8 @@ returns-clause-played g c =
     let here : HasPlayed m lines told c.args.seat.cpu last =
     subst (λ (p : MachineCpuValue). HasPlayed m lines told p last) new.ensures.cpu
     (subst (λ (x : MachineValue). HasPlayed x lines told new.result.seat.cpu last) new.ensures.machine c.answer_all.ensures.played) in
-    subst (λ (xs : List Answer). HasPlayed m lines xs c.args.seat.cpu last)
-    (sym (take_at told _ _ (c.answer_all.ensures.answered.sized ∙ sym c.requires.ready.sized))) here
+    let back = c.into_parts-cpu in
+    let given : HasPlayed m lines told c.args.seat.cpu back.result.0 =
+    subst (λ (p : MachineCpuValue). HasPlayed m lines told c.args.seat.cpu p) (sym back.ensures.parts.0) here in
+    subst (λ (xs : List Answer). HasPlayed m lines xs c.args.seat.cpu back.result.0)
+    (sym (take_at told _ _ (c.answer_all.ensures.answered.sized ∙ sym c.requires.ready.sized))) given

@@ -7,6 +7,6 @@ returns-else-cpu-number-clause-made g c =
     let me = c.args.self.now.seat.cpu in (
       [],
       line_of_other c.args.self.now.seat.machine me.calls.number c.in-Do.cpu c.in-Do.count c.in-Do.request c.args.line.now c.args.answer.now c.in-Do.is
-          (λ own. c.if-cpu-number.false (own ∙ sym c.number.ensures.number.0)),
+          (λ own. c.if-cpu-number.false (own ∙ sym c.number.ensures.number)),
       made_same me me refl,
     )
