@@ -1,3 +1,4 @@
+mod Differences
 pub mod Showings
 pub mod Progresses
 pub mod Endings

@@ -6,3 +6,7 @@ pub mod Output
 pub mod ProgressOf
 -- a call of `replay_script`
 pub mod Replays
+-- the first line in which two texts differ
+pub mod Difference
+-- a call of `check_steps`
+pub mod Checks

@@ -4,11 +4,17 @@
 //! - `playback`: Runs what a script asks for, and keeps what it prints.
 //! - `show`: What `show` prints.
 //! - `text`: The lines of a replay's output.
+//! - `check`: Whether the steps of another implementation are those of a script.
+//! - `difference`: The first line in which two texts differ.
 #![tactic(auto)]
 
+pub mod check;
+pub mod difference;
 mod playback;
 mod replay;
 pub mod show;
 pub mod text;
 
+pub use check::check_steps;
+pub use difference::first_difference;
 pub use replay::replay_script;
