@@ -1,4 +1,3 @@
-mod ends;
 mod hall;
 mod keys;
 mod line;
@@ -16,6 +15,7 @@ use smp_mask::{CpuMask, SmpError};
 use smp_queue::{Audit, Handler};
 use smp_words::size::NR_CPUS;
 use std::alloc::Global;
+use std::marker::Model;
 use std::process::Abort;
 use std::sync::Wait;
 use std::test::*;
