@@ -10,7 +10,7 @@ use Rattle.smp_multi.specs.Names.{Work, StopCall, Kind, One, Multi, Patch, Carri
 use Rattle.smp_multi.specs.Advance.{IsInRound, Advances, RunsAt, looks, acknowledges, carries, patches, reads_anew}
 use Rattle.smp_multi.specs.Answers.{call_of}
 use Rattle.smp_multi.specs.Cpu.{CpuValue as StopCpuValue, Inside, makes, runs}
-use Rattle.smp_multi.specs.StepCounts.{patching, raising}
+use Rattle.smp_multi.specs.StepCounts.{patching}
 use Rattle.smp_multi.specs.Laws.{IsShown}
 use Rattle.smp_multi.specs.declared.func.Called.{Called}
 use Rattle.smp_multi.specs.declared.turn.Turn.{Turn}
@@ -93,11 +93,11 @@ module _ {F : Type 0} (leads : F → Called → F → Type 0) (old new : StopCpu
         (λ work x run k. let it = of_it RUN (ap (λ (c : StopCpuValue). c.inside) e) work x run k in
         absurd (let bad : Multi ≡ Patch = sym it.2 ∙ kind in cc))
 
-    left : (mid : StopCpuValue) (last : Bool) (n : ℕ) → stop.acked ≡ RUN → mid ≡ makes n (reads_anew stop (acknowledges stop EXIT true old))
-        → new ≡ completed Left stop last mid → OwnAnswers old new
-    left mid last n at is_mid e =
-        let e' : new ≡ completed Left stop last (makes n (reads_anew stop (acknowledges stop EXIT true old))) =
-        e ∙ ap (completed Left stop last) is_mid in
+    left : (mid : StopCpuValue) (n : ℕ) → stop.acked ≡ RUN → mid ≡ makes n (reads_anew stop (acknowledges stop EXIT true old))
+        → new ≡ completed Left stop mid → OwnAnswers old new
+    left mid n at is_mid e =
+        let e' : new ≡ completed Left stop (makes n (reads_anew stop (acknowledges stop EXIT true old))) =
+        e ∙ ap (completed Left stop) is_mid in
         own_answered old new stop (carried_answer old.part.calling) calls t.moves.calls_are begun pending
         (ap (λ (c : StopCpuValue). c.part.answers) e') (own_low old shown) (own_link old shown stop is)
         (λ run.
@@ -108,14 +108,14 @@ module _ {F : Type 0} (leads : F → Called → F → Type 0) (old new : StopCpu
 
     ran : (mid : StopCpuValue) (kind : Kind) → stop.work.kind ≡ kind → RunsAt leads stop old mid f f' kind → new ≡ mid → OwnAnswers old new
     ran mid One k r e = absurd r
-    ran mid Multi k r e = called (4 + raising r.1.0) r.0 (e ∙ r.1.1)
-    ran mid Patch k r e = patched k (5 + patching old.setting stop.work r.0 + raising r.1.0) r.0 (e ∙ r.1.1)
+    ran mid Multi k r e = called 4 r.0 (e ∙ r.1)
+    ran mid Patch k r e = patched k (5 + patching old.setting stop.work r.0) r.0 (e ∙ r.1)
 
-    round : (mid : StopCpuValue) (u : Turn) (last : Bool) → Advances leads stop old mid f f' u → new ≡ completed u stop last mid → OwnAnswers old new
-    round mid Same last a e = looked (e ∙ a.0)
-    round mid (Moved p) last a e = moved (2 + raising a.3.0) p (nat_lt p DISABLE_IRQ) (e ∙ a.3.1) a.2
-    round mid Ran last a e = ran mid stop.work.kind refl a.2 e
-    round mid Left last a e = left mid last (2 + raising a.1.0) a.0 a.1.1 e
+    round : (mid : StopCpuValue) (u : Turn) → Advances leads stop old mid f f' u → new ≡ completed u stop mid → OwnAnswers old new
+    round mid Same a e = looked (e ∙ a.0)
+    round mid (Moved p) a e = moved 2 p (nat_lt p DISABLE_IRQ) (e ∙ a.3) a.2
+    round mid Ran a e = ran mid stop.work.kind refl a.2 e
+    round mid Left a e = left mid 2 a.0 a.1 e
 
   own_turn : HasNotLeft old.inside → OwnAnswers old new
   own_turn not_left = inside old.inside refl
@@ -124,7 +124,7 @@ module _ {F : Type 0} (leads : F → Called → F → Type 0) (old new : StopCpu
       went_round stop is several =
           let at : IsInRound old = record { stop = stop; is = is; several = several; not_left = subst HasNotLeft is not_left } in
           let g = t.round at in
-          round g.at.stop g.at.is g.at.several g.advanced turn g.last g.advances g.is
+          round g.at.stop g.at.is g.at.several g.advanced turn g.advances g.is
 
       of_kind : (stop : Inside) → old.inside ≡ Some stop → (k : Kind) → stop.work.kind ≡ k → OwnAnswers old new
       of_kind stop is One e = ran_one (t.one (record { stop = stop; is = is; one = e })).0

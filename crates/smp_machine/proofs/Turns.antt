@@ -15,7 +15,7 @@ use Rattle.smp_multi.specs.Advance.{IsInRound, HasLeft, Advances, AdvanceAnswers
 use Rattle.smp_multi.specs.Advance.{reads_anew}
 use Rattle.smp_multi.specs.Answers.{IsInOne, RunAnswers, call_of, completes_one}
 use Rattle.smp_multi.specs.Cpu.{CpuValue as StopCpuValue, Inside, makes, runs}
-use Rattle.smp_multi.specs.StepCounts.{patching, raising}
+use Rattle.smp_multi.specs.StepCounts.{patching}
 use Rattle.smp_multi.specs.declared.func.Called.{Called}
 use Rattle.smp_multi.specs.declared.turn.Turn.{Turn}
 use Rattle.smp_multi.specs.declared.turn.Turn.TheVariants.{Same, Moved, Ran, Left}
@@ -95,7 +95,7 @@ module _ {F : Type 0} (leads : F → Called → F → Type 0) where
   has_left : (old mid : StopCpuValue) (f f' : F) → AdvanceAnswers leads old mid f f' (Ok Left) → HasLeft mid
   has_left old mid f f' a = record {
     stop = record (a.0.stop) { acked = EXIT };
-    is = ap (λ (c : StopCpuValue). c.inside) a.1.1.1;
+    is = ap (λ (c : StopCpuValue). c.inside) a.1.1;
     several = a.0.several;
     left = refl;
   }
@@ -114,22 +114,21 @@ module _ {F : Type 0} (leads : F → Called → F → Type 0) where
       → FinishAnswers mid new (Ok u) → GoesRound leads old f new f' Left
   round_done old mid new f f' turn u is a done =
       let l = at_left old mid f f' turn is a in
-      let same : done.0.stop ≡ record (l.0.stop) { acked = EXIT } = some_same done.0.is (ap (λ (c : StopCpuValue). c.inside) l.1.1.1) in
+      let same : done.0.stop ≡ record (l.0.stop) { acked = EXIT } = some_same done.0.is (ap (λ (c : StopCpuValue). c.inside) l.1.1) in
       record {
         at = l.0;
         advanced = mid;
         advances = l.1;
-        last = done.1.0;
-        is = done.1.1 ∙ ap (λ (x : Inside). completes x.slot done.1.0 mid) same;
+        is = done.1 ∙ ap (λ (x : Inside). completes x.slot mid) same;
       }
 
   -- who has not left goes on
   pub round_on : (old new : StopCpuValue) (f f' : F) (turn : Turn) → turn ≢ Left → AdvanceAnswers leads old new f f' (Ok turn)
       → GoesRound leads old f new f' turn
   round_on old new f f' Left on a = absurd (on refl)
-  round_on old new f f' Same on a = record { at = a.0; advanced = new; advances = a.1; last = false; is = refl }
-  round_on old new f f' (Moved p) on a = record { at = a.0; advanced = new; advances = a.1; last = false; is = refl }
-  round_on old new f f' Ran on a = record { at = a.0; advanced = new; advances = a.1; last = false; is = refl }
+  round_on old new f f' Same on a = record { at = a.0; advanced = new; advances = a.1; is = refl }
+  round_on old new f f' (Moved p) on a = record { at = a.0; advanced = new; advances = a.1; is = refl }
+  round_on old new f f' Ran on a = record { at = a.0; advanced = new; advances = a.1; is = refl }
 
   -- a stop of one CPU is not run where there is none
   pub not_run : (old new : StopCpuValue) (f f' : F) (e : SmpError) → RunAnswers leads old new f f' (Err e)
@@ -162,15 +161,15 @@ module _ {F : Type 0} (leads : F → Called → F → Type 0) where
   pub turns_one : (old new : StopCpuValue) (f f' : F) (v : ℤ) → RunAnswers leads old new f f' (Ok v) → TurnsStop leads old f new f' Left
   turns_one old new f f' v a =
       let at : IsInOne old = a.0 in
-      let x = completes_one at.stop v a.1.0 old in
-      let is : new ≡ x = a.1.1 in
+      let x = completes_one at.stop v old in
+      let is : new ≡ x = a.1 in
       record {
         moves = lit_moves old x new f f'
             (called old.number at.stop.work.func at.stop.work.arg v ∷ []) refl
             (keeps_answer old x at.stop (answer_word v) at.is refl refl)
             refl (f', (refl, a.2), refl) is;
         none = λ n. absurd (some_none at.is n);
-        one = λ _. (record { at = at; answer = v; last = a.1.0; is = is; ran = a.2 }, refl);
+        one = λ _. (record { at = at; answer = v; is = is; ran = a.2 }, refl);
         round = λ r. absurd (not_both old at r);
         left = λ _. (some_none at.is, ap (λ (c : StopCpuValue). c.inside) is);
         stays = λ n. absurd (n refl);
@@ -186,69 +185,69 @@ module _ {F : Type 0} (leads : F → Called → F → Type 0) where
       → RunsAt leads stop old new f f' kind → StopMoves leads old f new f'
   run_moves One stop old new f f' in_it r = absurd r
   run_moves Multi stop old new f f' in_it r =
-      let x = makes (4 + raising r.1.0) (carries (answer_word r.0) (runs (call_of stop r.0) (acknowledges stop RUN false old))) in
+      let x = makes 4 (carries (answer_word r.0) (runs (call_of stop r.0) (acknowledges stop RUN false old))) in
       lit_moves old x new f f' (called old.number stop.work.func stop.work.arg r.0 ∷ []) refl (acked_keeps old x stop RUN in_it refl refl) refl
-      (f', (refl, r.2), refl) r.1.1
+      (f', (refl, r.2), refl) r.1
   run_moves Patch stop old new f f' in_it r =
-      let x = makes (5 + patching old.setting stop.work r.0 + raising r.1.0)
+      let x = makes (5 + patching old.setting stop.work r.0)
       (carries (patch_answer stop.work r.0) (patches stop.work r.0 (acknowledges stop RUN false old))) in
-      lit_still old x new f f' refl (acked_keeps old x stop RUN in_it refl refl) refl r.2 r.1.1
+      lit_still old x new f f' refl (acked_keeps old x stop RUN in_it refl refl) refl r.2 r.1
 
   run_inside : (kind : Kind) (stop : Inside) (old new : StopCpuValue) (f f' : F)
       → RunsAt leads stop old new f f' kind → new.inside ≡ Some (record stop { acked = RUN })
   run_inside One stop old new f f' r = absurd r
-  run_inside Multi stop old new f f' r = ap (λ (c : StopCpuValue). c.inside) r.1.1
-  run_inside Patch stop old new f f' r = ap (λ (c : StopCpuValue). c.inside) r.1.1
+  run_inside Multi stop old new f f' r = ap (λ (c : StopCpuValue). c.inside) r.1
+  run_inside Patch stop old new f f' r = ap (λ (c : StopCpuValue). c.inside) r.1
 
-  round_moves : (old new mid : StopCpuValue) (stop : Inside) (f f' : F) (turn : Turn) (last : Bool) → old.inside ≡ Some stop
-      → Advances leads stop old mid f f' turn → new ≡ completed turn stop last mid → StopMoves leads old f new f'
-  round_moves old new mid stop f f' Same last in_it a is =
+  round_moves : (old new mid : StopCpuValue) (stop : Inside) (f f' : F) (turn : Turn) → old.inside ≡ Some stop
+      → Advances leads stop old mid f f' turn → new ≡ completed turn stop mid → StopMoves leads old f new f'
+  round_moves old new mid stop f f' Same in_it a is =
       let x = makes 1 (looks stop.acked old) in
       lit_still old x new f f' refl (keeps_still old x refl refl) refl a.1 (is ∙ a.0)
-  round_moves old new mid stop f f' (Moved p) last in_it a is =
-      let x = makes (2 + raising a.3.0) (acknowledges stop p (nat_lt p DISABLE_IRQ) old) in
-      lit_still old x new f f' refl (acked_keeps old x stop p in_it refl refl) refl a.4 (is ∙ a.3.1)
-  round_moves old new mid stop f f' Ran last in_it a is =
+  round_moves old new mid stop f f' (Moved p) in_it a is =
+      let x = makes 2 (acknowledges stop p (nat_lt p DISABLE_IRQ) old) in
+      lit_still old x new f f' refl (acked_keeps old x stop p in_it refl refl) refl a.4 (is ∙ a.3)
+  round_moves old new mid stop f f' Ran in_it a is =
       subst (λ (y : StopCpuValue). StopMoves leads old f y f') (sym is) (run_moves stop.work.kind stop old mid f f' in_it a.2)
-  round_moves old new mid stop f f' Left last in_it a is =
-      let x = completed Left stop last (makes (2 + raising a.1.0) (reads_anew stop (acknowledges stop EXIT true old))) in
+  round_moves old new mid stop f f' Left in_it a is =
+      let x = completed Left stop (makes 2 (reads_anew stop (acknowledges stop EXIT true old))) in
       lit_still old x new f f' refl (keeps_answer old x stop (carried_answer old.part.calling) in_it refl refl) refl a.2
-      (is ∙ ap (completed Left stop last) a.1.1)
+      (is ∙ ap (completed Left stop) a.1)
 
   stays_at : (old new : StopCpuValue) (stop : Inside) (acked : ℕ) → old.inside ≡ Some stop → acked ≢ EXIT
       → new.inside ≡ Some (record stop { acked = acked }) → StaysIn old new
   stays_at old new stop acked is in_it at other there =
       (acked, in_it, at ∙ ap (λ (x : Inside). Some (record x { acked = acked })) (some_same is there))
 
-  round_stays : (old new mid : StopCpuValue) (at : IsInRound old) (f f' : F) (turn : Turn) (last : Bool) → Advances leads at.stop old mid f f' turn
-      → new ≡ completed turn at.stop last mid → turn ≢ Left → StaysIn old new
-  round_stays old new mid at f f' Same last a is not_left =
+  round_stays : (old new mid : StopCpuValue) (at : IsInRound old) (f f' : F) (turn : Turn) → Advances leads at.stop old mid f f' turn
+      → new ≡ completed turn at.stop mid → turn ≢ Left → StaysIn old new
+  round_stays old new mid at f f' Same a is not_left =
       stays_at old new at.stop at.stop.acked at.is at.not_left (ap (λ (c : StopCpuValue). c.inside) (is ∙ a.0) ∙ at.is)
-  round_stays old new mid at f f' (Moved p) last a is not_left = stays_at old new at.stop p at.is a.1 (ap (λ (c : StopCpuValue). c.inside) (is ∙ a.3.1))
-  round_stays old new mid at f f' Ran last a is not_left =
+  round_stays old new mid at f f' (Moved p) a is not_left = stays_at old new at.stop p at.is a.1 (ap (λ (c : StopCpuValue). c.inside) (is ∙ a.3))
+  round_stays old new mid at f f' Ran a is not_left =
       stays_at old new at.stop RUN at.is (λ e. omega arith) (ap (λ (c : StopCpuValue). c.inside) is ∙ run_inside at.stop.work.kind at.stop old mid f f' a.2)
-  round_stays old new mid at f f' Left last a is not_left = absurd (not_left refl)
+  round_stays old new mid at f f' Left a is not_left = absurd (not_left refl)
 
-  round_left : (old new mid : StopCpuValue) (stop : Inside) (f f' : F) (turn : Turn) (last : Bool) → Advances leads stop old mid f f' turn
-      → new ≡ completed turn stop last mid → turn ≡ Left → (new.inside ≡ None) × (new.part.readings ≡ first_readings old.number stop.slot stop.work)
-  round_left old new mid stop f f' Left last a is e =
-      let full = is ∙ ap (completed Left stop last) a.1.1 in
+  round_left : (old new mid : StopCpuValue) (stop : Inside) (f f' : F) (turn : Turn) → Advances leads stop old mid f f' turn
+      → new ≡ completed turn stop mid → turn ≡ Left → (new.inside ≡ None) × (new.part.readings ≡ first_readings old.number stop.slot stop.work)
+  round_left old new mid stop f f' Left a is e =
+      let full = is ∙ ap (completed Left stop) a.1 in
       (ap (λ (c : StopCpuValue). c.inside) full, ap (λ (c : StopCpuValue). c.part.readings) full)
-  round_left old new mid stop f f' Same last a is e = absurd (same_left e)
-  round_left old new mid stop f f' (Moved p) last a is e = absurd (moved_left e)
-  round_left old new mid stop f f' Ran last a is e = absurd (ran_left e)
+  round_left old new mid stop f f' Same a is e = absurd (same_left e)
+  round_left old new mid stop f f' (Moved p) a is e = absurd (moved_left e)
+  round_left old new mid stop f f' Ran a is e = absurd (ran_left e)
 
   -- a stop of several CPUs was gone on with
   pub turns_round : (old new : StopCpuValue) (f f' : F) (turn : Turn) → GoesRound leads old f new f' turn → TurnsStop leads old f new f' turn
   turns_round old new f f' turn g =
-      let done = round_left old new g.advanced g.at.stop f f' turn g.last g.advances g.is in
+      let done = round_left old new g.advanced g.at.stop f f' turn g.advances g.is in
       record {
-        moves = round_moves old new g.advanced g.at.stop f f' turn g.last g.at.is g.advances g.is;
+        moves = round_moves old new g.advanced g.at.stop f f' turn g.at.is g.advances g.is;
         none = λ n. absurd (some_none g.at.is n);
         one = λ at. absurd (not_both old at g.at);
         round = λ _. g;
         left = λ e. (some_none g.at.is, (done e).0);
-        stays = round_stays old new g.advanced g.at f f' turn g.last g.advances g.is;
+        stays = round_stays old new g.advanced g.at f f' turn g.advances g.is;
         read = λ e stop there several. (done e).1 ∙ ap (λ (x : Inside). first_readings old.number x.slot x.work) (some_same g.at.is there);
       }
 

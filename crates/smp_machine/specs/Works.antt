@@ -117,22 +117,20 @@ pub record StopMoves {F : Type 0} (leads : F → Called → F → Type 0) (old :
 pub record RunsOne {F : Type 0} (leads : F → Called → F → Type 0) (old : StopCpuValue) (f : F) (new : StopCpuValue) (f' : F) : Type 0 where
   pub at : IsInOne old
   pub answer : ℤ
-  pub last : Bool
-  pub is : new ≡ completes_one at.stop answer last old
+  pub is : new ≡ completes_one at.stop answer old
   pub ran : leads f (called old.number at.stop.work.func at.stop.work.arg answer) f'
 
 -- the CPU completes its stop where the turn is the one in which it has left
-abbrev pub completed : Turn → Inside → Bool → StopCpuValue → StopCpuValue
-completed Left stop last c = completes stop.slot last c
-completed _ stop last c = c
+abbrev pub completed : Turn → Inside → StopCpuValue → StopCpuValue
+completed Left stop c = completes stop.slot c
+completed _ stop c = c
 
 -- one turn of a stop of several CPUs, with its completion at the end
 pub record GoesRound {F : Type 0} (leads : F → Called → F → Type 0) (old : StopCpuValue) (f : F) (new : StopCpuValue) (f' : F) (turn : Turn) : Type 0 where
   pub at : IsInRound old
   pub advanced : StopCpuValue
   pub advances : Advances leads at.stop old advanced f f' turn
-  pub last : Bool
-  pub is : new ≡ completed turn at.stop last advanced
+  pub is : new ≡ completed turn at.stop advanced
 
 -- the CPU is still in the same stop, which it has not left
 abbrev pub StaysIn : StopCpuValue → StopCpuValue → Type 0

@@ -22,7 +22,7 @@ use Rattle.smp_multi.specs.Places.{work_in}
 use Rattle.smp_multi.specs.Rounds.{AtTurn, passed_by, passed_known}
 use Rattle.smp_multi.specs.Running.{answered_now, called}
 use Rattle.smp_multi.specs.Seat.{SeatValue}
-use Rattle.smp_multi.specs.StepCounts.{patching, raising}
+use Rattle.smp_multi.specs.StepCounts.{patching}
 use Rattle.smp_multi.specs.Turns.{TurnAnswers, HasRun, patched_by, patched_with}
 use Rattle.smp_multi.specs.declared.func.Called.{Called}
 use Rattle.smp_multi.specs.declared.turn.Turn.{Turn}
@@ -110,8 +110,8 @@ module _ {F : Type 0} (leads : F → Called → F → Type 0) (t : TableId) (d e
     seat = In v.slot w RUN RUN Rests;
     part = (turned_at d.known RUN v.slot w (Calls (call_with w 0))).part;
     carried = answer_word h.0;
-    steps = d.known.steps + (4 + raising h.1.0);
-    is = h.1.1 ∙ ap (stepped (4 + raising h.1.0)) (ran_is d.known v.slot w v.acked h.0 is);
+    steps = d.known.steps + 4;
+    is = h.1 ∙ ap (stepped 4) (ran_is d.known v.slot w v.acked h.0 is);
     holds = refl;
     quiet = tt;
   }
@@ -119,8 +119,8 @@ module _ {F : Type 0} (leads : F → Called → F → Type 0) (t : TableId) (d e
     seat = In v.slot w RUN RUN Rests;
     part = (patched_at d.known v.slot w h.0).part;
     carried = patch_answer w h.0;
-    steps = d.known.steps + (5 + patching d.known.setting (work_in d.known.seat) h.0 + raising h.2.0);
-    is = h.2.1 ∙ ap (stepped (5 + patching d.known.setting (work_in d.known.seat) h.0 + raising h.2.0)) (patched_is d.known v.slot w v.acked h.0 is);
+    steps = d.known.steps + (5 + patching d.known.setting (work_in d.known.seat) h.0);
+    is = h.2 ∙ ap (stepped (5 + patching d.known.setting (work_in d.known.seat) h.0)) (patched_is d.known v.slot w v.acked h.0 is);
     holds = refl;
     quiet = tt;
   }
@@ -147,9 +147,9 @@ module _ {F : Type 0} (leads : F → Called → F → Type 0) (t : TableId) (d e
     holds = refl;
     quiet = quiet_on v x d.known.carried d.known.part.calling k.quiet;
   }
-  turned (Moved p) h = passed_turned p (2 + raising h.3.0) h.3.1
+  turned (Moved p) h = passed_turned p 2 h.3
   turned Ran h = ran_turned v.kind h.2
-  turned Left h = passed_turned EXIT (2 + raising h.1.0) h.1.1
+  turned Left h = passed_turned EXIT 2 h.1
 
   pub advance_kept : (turn : Turn) → TurnAnswers leads d.known e.known v x f g turn → Lives e.known → IsKept e.known number (Some x) holds is_open
   advance_kept turn h lives =
@@ -228,18 +228,14 @@ module _ {F : Type 0} (leads : F → Called → F → Type 0) (t : TableId) (d e
       let y = answer_word h.0 in
       let calls : calls_at_run d.known.number w ≡ true =
       ap (λ b. b && is_multi w.kind) (active_is ∙ on) ∙ ap is_multi (sym k.rests.1.kind ∙ kind) in
-      let mine = turned_at (carrying y d.known) RUN v.slot w (Calls (call_with w 0)) in
-      let m = 4 + raising h.1.0 in (
+      let mine = turned_at (carrying y d.known) RUN v.slot w (Calls (call_with w 0)) in (
         h.0,
-        (
-          h.1.0,
-          view (stepped m mine) (h.1.1 ∙ ap (stepped m) (ran_is d.known v.slot w v.acked h.0 is)) ∙ (
-              ap (λ b. makes m (record (cpu_of (record { table = d.table; known = mine })) {
-                part = record (mine.part) { calls = cond b (d.known.part.calls ++ call_with w y ∷ []) d.known.part.calls; calling = Carries y };
-              })) calls ∙
-              ap (λ (z : Part). makes m (carries y (runs (call_with w y) (acknowledges stop RUN false (record old { part = z })))))
-              (sym (idle_part d.known.carried d.known (idle two)))),
-        ),
+        view (stepped 4 mine) (h.1 ∙ ap (stepped 4) (ran_is d.known v.slot w v.acked h.0 is)) ∙ (
+            ap (λ b. makes 4 (record (cpu_of (record { table = d.table; known = mine })) {
+              part = record (mine.part) { calls = cond b (d.known.part.calls ++ call_with w y ∷ []) d.known.part.calls; calling = Carries y };
+            })) calls ∙
+            ap (λ (z : Part). makes 4 (carries y (runs (call_with w y) (acknowledges stop RUN false (record old { part = z })))))
+            (sym (idle_part d.known.carried d.known (idle two)))),
         subst (λ (z : Work). leads f (called d.known.number z.func z.arg h.0) g) (sym work_is) h.3,
       )
   runs_at Patch kind two on h =
@@ -247,20 +243,17 @@ module _ {F : Type 0} (leads : F → Called → F → Type 0) (t : TableId) (d e
       let none : calls_at_run d.known.number w ≡ false =
       ap (λ b. b && is_multi w.kind) (active_is ∙ on) ∙ ap is_multi (sym k.rests.1.kind ∙ kind) in
       let mine = patched_at d.known v.slot w h.0 in
-      let many = λ (z : Work). 5 + patching d.known.setting z h.0 + raising h.2.0 in
+      let many = λ (z : Work). 5 + patching d.known.setting z h.0 in
       let m = many w in
-      let same = h.2.1 ∙ (ap (λ (z : Work). stepped (many z) (patched_by h.0 (looked_to RUN d.known.seat) (looked_known RUN d.known))) (sym work_is)
+      let same = h.2 ∙ (ap (λ (z : Work). stepped (many z) (patched_by h.0 (looked_to RUN d.known.seat) (looked_known RUN d.known))) (sym work_is)
       ∙ ap (stepped m) (patched_is d.known v.slot w v.acked h.0 is)) in (
         h.0,
-        (
-          h.2.0,
-          view (stepped m mine) same ∙ (
-              ap (λ b. makes m (record (cpu_of (record { table = d.table; known = mine })) {
-                part = record (mine.part) { calls = cond b (d.known.part.calls ++ call_with w y ∷ []) d.known.part.calls; calling = Carries y };
-              })) none ∙
-              ap (λ (z : Part). makes m (carries y (patches w h.0 (acknowledges stop RUN false (record old { part = z })))))
-              (sym (idle_part d.known.carried d.known (idle two)))),
-        ),
+        view (stepped m mine) same ∙ (
+            ap (λ b. makes m (record (cpu_of (record { table = d.table; known = mine })) {
+              part = record (mine.part) { calls = cond b (d.known.part.calls ++ call_with w y ∷ []) d.known.part.calls; calling = Carries y };
+            })) none ∙
+            ap (λ (z : Part). makes m (carries y (patches w h.0 (acknowledges stop RUN false (record old { part = z })))))
+            (sym (idle_part d.known.carried d.known (idle two)))),
         h.4,
         finds h.0 two h.1,
       )
@@ -275,12 +268,9 @@ module _ {F : Type 0} (leads : F → Called → F → Type 0) (t : TableId) (d e
     h.0,
     h.1,
     (λ run. active_is ∙ h.2 run),
-    (
-      h.3.0,
-      moved_view p (2 + raising h.3.0) d.known.part.readings h.3.1
-          (ap (λ b. cond b (first_readings d.known.number v.slot w) d.known.part.readings) (ne_eqb p EXIT h.1)) ∙
-          ap (λ b. makes (2 + raising h.3.0) (acknowledges stop p b old)) (on_before (nat_lt p DISABLE_IRQ) (p == EXIT) (ne_eqb p EXIT h.1)),
-    ),
+    moved_view p 2 d.known.part.readings h.3
+        (ap (λ b. cond b (first_readings d.known.number v.slot w) d.known.part.readings) (ne_eqb p EXIT h.1)) ∙
+        ap (λ b. makes 2 (acknowledges stop p b old)) (on_before (nat_lt p DISABLE_IRQ) (p == EXIT) (ne_eqb p EXIT h.1)),
     h.5,
   )
     where
@@ -293,7 +283,7 @@ module _ {F : Type 0} (leads : F → Called → F → Type 0) (t : TableId) (d e
     subst (RunsAt leads stop old (cpu_of e) f g) k.rests.1.kind
         (runs_at v.kind refl h.0 h.1 h.2),
   )
-  advances Left h = (h.0, (h.1.0, moved_view EXIT (2 + raising h.1.0) (first_readings d.known.number v.slot w) h.1.1 refl), h.3)
+  advances Left h = (h.0, moved_view EXIT 2 (first_readings d.known.number v.slot w) h.1 refl, h.3)
 
   pub advance_answers : v.kind ≢ One → v.acked ≢ EXIT → (turn : Turn) → TurnAnswers leads d.known e.known v x f g turn →
       AdvanceAnswers leads old (cpu_of e) f g (Ok turn)

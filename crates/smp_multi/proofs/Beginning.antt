@@ -1,9 +1,9 @@
 -- The stores of begin.
-use Rattle.std.proofs.Common.{◌≡◌, ◌≢◌, ℕ, ◌+◌, ◌<◌, sym, subst, refl, ap, ◌∙◌, arith}
+use Rattle.std.proofs.Common.{◌≡◌, ◌≢◌, ℕ, ◌+◌, ◌<◌, ◌&&◌, not, cond, Some, None, sym, subst, refl, ap, ◌∙◌, arith}
 use Rattle.atomic_table.specs.Seated.{TableId}
 use Rattle.smp_words.specs.Size.{cpus}
 use Rattle.smp_stop_steps.specs.Known.{setup_in, stepped, told_work}
-use Rattle.smp_stop_steps.specs.KnownAfter.{drafts_more, is_drafting, opened_by, slot_stored}
+use Rattle.smp_stop_steps.specs.KnownAfter.{drafts_more, is_drafting, is_due_field, known_told, opened_by, slot_stored}
 use Rattle.smp_stop_steps.specs.Moves.{Draft, DraftMore, Open}
 use Rattle.smp_stop_steps.specs.Slots.{begun_value, order}
 use Rattle.smp_stop_steps.specs.Sources.{IsWork}
@@ -11,6 +11,7 @@ use Rattle.smp_stop_steps.proofs.Knows.KnownSources.{stored_draft, draft_next}
 use Rattle.smp_stop_steps.proofs.Steps.Sources.{kind_back}
 use Rattle.smp_multi.specs.Names.{Work, Slot, Field, Store, Drafts, Known}
 use Rattle.smp_multi.specs.Names.{Kind as KindOf}
+use Rattle.smp_multi.specs.Names.act
 use Rattle.smp_multi.specs.Names.field
 use Rattle.smp_multi.specs.Begins.{Begins, draft_at, begun}
 use Rattle.smp_multi.specs.Seat.{SeatValue, Ready, FitsWord}
@@ -97,6 +98,20 @@ module _ (t : TableId) (d : SeatValue) (number : ℕ) (w : Work) where
     apart = tt;
   }
 
+  -- a store of a CPU that drafts is none that is due
+  counts : (f : Field) → Begins t d number w (order f) → (x : Known) → cond (is_due_field f && not (is_drafting d.known.source)) x (stepped 1 x) ≡ stepped 1 x
+  counts field.Kind b x = refl
+  counts field.Mask b x = refl
+  counts field.Active b x = refl
+  counts field.Func b x = refl
+  counts field.Arg b x = refl
+  counts field.Result b x = refl
+  counts field.Todo b x = refl
+  counts field.Done b x = ap (λ o. cond (not (is_drafting o)) x (stepped 1 x)) b.drafts
+  counts field.Ack b x = ap (λ o. cond (not (is_drafting o)) x (stepped 1 x)) b.drafts
+  counts field.State b x = ap (λ o. cond (not (is_drafting o)) x (stepped 1 x)) b.drafts
+  counts field.Roll b x = refl
+
   known_more : (f : Field) → Begins t d number w (order f) → order f < 10 → order f ≢ 0 → draft_at (order f) w ≡ Drafts (told_work (order f) w) (order f)
       → draft_at (order f + 1) w ≡ Drafts (told_work (order f + 1) w) (order f + 1) →
       (x : ℕ) → x ≡ begun_value cpus w f → slot_stored f x d.known ≡ record (d.known) { source = draft_at (order f + 1) w }
@@ -106,20 +121,24 @@ module _ (t : TableId) (d : SeatValue) (number : ℕ) (w : Work) where
       (ap (λ y. record (d.known) { source = drafts_more f y (Drafts (told_work (order f) w) (order f)) }) e
       ∙ (ap (λ z. record (d.known) { source = Drafts z (order f + 1) }) (draft_next f w ne low) ∙ ap (λ o. record (d.known) { source = o }) (sym next))))
 
-  pub known_field : (f : Field) → Begins t d number w (order f) → order f < 10 → (x : ℕ) → x ≡ begun_value cpus w f
+  drafted : (f : Field) → Begins t d number w (order f) → order f < 10 → (x : ℕ) → x ≡ begun_value cpus w f
       → slot_stored f x d.known ≡ record (d.known) { source = draft_at (order f + 1) w }
-  known_field field.Kind b low x e = ap (λ y. slot_stored field.Kind y d.known) e
+  drafted field.Kind b low x e = ap (λ y. slot_stored field.Kind y d.known) e
       ∙ ap (λ (k : KindOf). record (d.known) { source = Drafts (record { kind = k; mask = 0; active = 0; func = 0; arg = 0 }) 1 }) (kind_back w.kind)
-  known_field field.Mask b low x e = known_more field.Mask b low (omega arith) refl refl x e
-  known_field field.Active b low x e = known_more field.Active b low (omega arith) refl refl x e
-  known_field field.Func b low x e = known_more field.Func b low (omega arith) refl refl x e
-  known_field field.Arg b low x e = known_more field.Arg b low (omega arith) refl refl x e
-  known_field field.Result b low x e = known_more field.Result b low (omega arith) refl refl x e
-  known_field field.Todo b low x e = known_more field.Todo b low (omega arith) refl refl x e
-  known_field field.Done b low x e = known_more field.Done b low (omega arith) refl refl x e
-  known_field field.Ack b low x e = known_more field.Ack b low (omega arith) refl refl x e
-  known_field field.State b low x e = known_more field.State b low (omega arith) refl refl x e
-  known_field field.Roll b low x e = absurd (let z : ⊥ = omega (arith, low) in z)
+  drafted field.Mask b low x e = known_more field.Mask b low (omega arith) refl refl x e
+  drafted field.Active b low x e = known_more field.Active b low (omega arith) refl refl x e
+  drafted field.Func b low x e = known_more field.Func b low (omega arith) refl refl x e
+  drafted field.Arg b low x e = known_more field.Arg b low (omega arith) refl refl x e
+  drafted field.Result b low x e = known_more field.Result b low (omega arith) refl refl x e
+  drafted field.Todo b low x e = known_more field.Todo b low (omega arith) refl refl x e
+  drafted field.Done b low x e = known_more field.Done b low (omega arith) refl refl x e
+  drafted field.Ack b low x e = known_more field.Ack b low (omega arith) refl refl x e
+  drafted field.State b low x e = known_more field.State b low (omega arith) refl refl x e
+  drafted field.Roll b low x e = absurd (let z : ⊥ = omega (arith, low) in z)
+
+  pub known_field : (f : Field) → Begins t d number w (order f) → order f < 10 → (x : ℕ) → x ≡ begun_value cpus w f
+      → known_told d.known act.Store (Slot number f) None (Some x) ≡ stepped 1 (record (d.known) { source = draft_at (order f + 1) w })
+  known_field f b low x e = counts f b (slot_stored f x d.known) ∙ ap (stepped 1) (drafted f b low x e)
 
   pub known_open : Begins t d number w 10 → opened_by d.known.source d.known ≡ begun w d.known
   known_open b = ap (λ o. opened_by o d.known) b.drafts

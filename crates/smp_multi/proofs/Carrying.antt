@@ -1,10 +1,10 @@
 -- The answer that a CPU carries: no step asks for it or changes it.
-use Rattle.std.proofs.Common.{◌≡◌, ℕ, Bool, true, false, cond, Option, Some, None, [], refl, ap}
+use Rattle.std.proofs.Common.{◌≡◌, ℕ, not, Bool, true, false, cond, Option, Some, None, [], refl, ap}
 use Rattle.smp_mask.specs.Mask.{has}
 use Rattle.smp_stop_steps.specs.Known.{Sees, attempting, carrying, setup_in, stepped}
 use Rattle.smp_multi.specs.Lives.{Lives, Moment}
 use Rattle.smp_stop_steps.specs.KnownAfter.{acked_by, called_by, completed_by, drafted_known, is_drafting, is_patching, key_loaded_by}
-use Rattle.smp_stop_steps.specs.KnownAfter.{known_entering, known_told, key_read_known, member_stored, opened_by, raised_by}
+use Rattle.smp_stop_steps.specs.KnownAfter.{known_entering, known_told, key_read_known, member_stored, opened_by, raised_by, slot_stored}
 use Rattle.smp_stop_steps.specs.Moves.{Can, MayStep, Move, known_access, TakeGate, OpenGate, Draft, DraftMore, Open, Enter, Look, Acknowledge, AcknowledgePatch}
 use Rattle.smp_stop_steps.specs.Moves.{Refill, Raise, Give, Count, CountGiven, Close, LookDone, Collect, ReadKey, ReadSite, Nudge, BeginPatch, Alter}
 use Rattle.smp_stop_steps.specs.Moves.{LoadArg, LoadField, LoadEntry}
@@ -153,6 +153,14 @@ module _ (x : ℕ) where
         | false ↦ member_with f n v
       ]
 
+  -- a store that is due where the CPU drafts nothing, and else is counted
+  due_with : (v z : Known) (w : Known) → carrying x z ≡ w → carrying x (cond (not (is_drafting v.source)) z (stepped 1 z))
+      ≡ cond (not (is_drafting v.source)) w (stepped 1 w)
+  due_with v z w e = elim (is_drafting v.source) as (λ b. carrying x (cond (not b) z (stepped 1 z)) ≡ cond (not b) w (stepped 1 w)) [
+    | true ↦ ap (stepped 1) e
+    | false ↦ e
+  ]
+
   pub store_with : (v : Known) (w : Word) (n : ℕ)
       → carrying x (known_told v act.Store w None (Some n)) ≡ known_told (carrying x v) act.Store w None (Some n)
   store_with v (Slot s field.Kind) n = refl
@@ -160,12 +168,12 @@ module _ (x : ℕ) where
   store_with v (Slot s field.Active) n = ap (stepped 1) (either_with field.Active n v)
   store_with v (Slot s field.Func) n = ap (stepped 1) (either_with field.Func n v)
   store_with v (Slot s field.Arg) n = ap (stepped 1) (either_with field.Arg n v)
-  store_with v (Slot s field.State) n = ap (stepped 1) (either_with field.State n v)
-  store_with v (Slot s field.Ack) n = ap (stepped 1) (either_with field.Ack n v)
+  store_with v (Slot s field.State) n = due_with v (slot_stored field.State n v) (slot_stored field.State n (carrying x v)) (either_with field.State n v)
+  store_with v (Slot s field.Ack) n = due_with v (slot_stored field.Ack n v) (slot_stored field.Ack n (carrying x v)) (either_with field.Ack n v)
   store_with v (Slot s field.Roll) n = ap (stepped 1) (opened_with v.source v)
   store_with v (Slot s field.Todo) n = ap (stepped 1) (either_with field.Todo n v)
   store_with v (Slot s field.Result) n = ap (stepped 1) (either_with field.Result n v)
-  store_with v (Slot s field.Done) n = ap (stepped 1) (either_with field.Done n v)
+  store_with v (Slot s field.Done) n = due_with v (slot_stored field.Done n v) (slot_stored field.Done n (carrying x v)) (either_with field.Done n v)
   store_with v Gate n = refl
   store_with v (Key k) n = refl
   store_with v (Entry i) n = refl

@@ -1,16 +1,16 @@
 -- The steps of a completion: the answer, the count, and done by the last of all.
-use Rattle.std.proofs.Common.{◌≡◌, ◌≢◌, ℕ, ◌==◌, Bool, true, false, cond, sym, refl, ap, ◌∙◌, ne_eqb, eq-eqb, eqb-true}
+use Rattle.std.proofs.Common.{◌≡◌, ◌≢◌, ℕ, ◌==◌, not, Bool, true, false, cond, Some, None, sym, refl, ap, ◌∙◌, ne_eqb, eq-eqb, eqb-true}
 use Rattle.atomic_table.specs.Seated.{TableId}
 use Rattle.smp_stop_steps.specs.AnswerWords.{IsI32Word}
 use Rattle.smp_stop_steps.specs.Known.{carrying, stepped}
-use Rattle.smp_stop_steps.specs.KnownAfter.{completed_by, completed_with, is_drafting, slot_stored, drafted_known, given_by, member_stored}
+use Rattle.smp_stop_steps.specs.KnownAfter.{completed_by, completed_with, is_drafting, known_told, slot_stored, drafted_known, given_by, member_stored}
 use Rattle.smp_stop_steps.specs.Moves.{Give, Count, CountGiven, Close}
 use Rattle.smp_multi.specs.Names.{Work, One, Slot, Store, Sub, Free, In, Gives, Closes, Rests, Seat, Known, Idle}
+use Rattle.smp_multi.specs.Names.act
 use Rattle.smp_multi.specs.Names.field
 use Rattle.smp_multi.specs.Completes.{AtEnd, AtGiven, AtClose, given, left}
 use Rattle.smp_multi.specs.Places.{work_in}
 use Rattle.smp_multi.specs.Seat.{SeatValue, Able, Ready}
-use Rattle.smp_multi.specs.StepCounts.{closing}
 use Rattle.smp_multi.proofs.Cells.{slot_cell}
 use Rattle.smp_multi.proofs.Counting.{no_steps}
 
@@ -103,11 +103,12 @@ module _ (t : TableId) (d : SeatValue) (slot found : ℕ) (a : AtClose t d slot 
     apart = tt;
   }
 
-  pub known_close : found ≡ 1 → stepped 1 (slot_stored field.Done 1 d.known) ≡ stepped (closing (found == 1)) (left d.known)
-  known_close one = ap (λ b. stepped 1 (cond b (drafted_known field.Done 1 d.known) (member_stored field.Done 1 d.known))) a.idle
-      ∙ ap (λ b. stepped (closing b) (left d.known)) (sym (eq-eqb found 1 one))
+  -- the store of done is due, and not counted
+  pub known_close : known_told d.known act.Store (Slot slot field.Done) None (Some 1) ≡ left d.known
+  known_close = ap (λ b. cond (not b) (stored_if b) (stepped 1 (stored_if b))) a.idle
+    where
+      stored_if : Bool → Known
+      stored_if b = cond b (drafted_known field.Done 1 d.known) (member_stored field.Done 1 d.known)
 
-  pub left_already : found ≢ 1 → d.known ≡ stepped (closing (found == 1)) (left d.known)
-  left_already ne = no_steps d.known
-      ∙ (ap (λ (y : Seat). stepped 0 (record (d.known) { seat = y })) (a.seat_is ∙ ap (λ b. cond b (Closes slot) Free) (ne_eqb found 1 ne))
-      ∙ ap (λ b. stepped (closing b) (left d.known)) (sym (ne_eqb found 1 ne)))
+  pub left_already : found ≢ 1 → d.known ≡ left d.known
+  left_already ne = ap (λ (y : Seat). record (d.known) { seat = y }) (a.seat_is ∙ ap (λ b. cond b (Closes slot) Free) (ne_eqb found 1 ne))

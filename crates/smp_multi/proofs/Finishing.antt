@@ -95,16 +95,16 @@ module _ (t : TableId) (d : SeatValue) (number : ℕ) (v : Visit) (holds is_open
       sym (ap (λ b. cond (b || calls_at_run me w) (d.known.part.calls ++ call_with w x ∷ []) d.known.part.calls) (is_several w.kind kind))
 
   -- its value once it has completed
-  finished_view : (e : SeatValue) (last : Bool) → e.table ≡ d.table
-      → e.known ≡ stepped (completing x last) (completed_with 0 v.slot (work_in d.known.seat) x (carrying 0 d.known))
-      → cpu_of e ≡ completes v.slot last (cpu_of d)
-  finished_view e last table same =
-      let known : e.known ≡ stepped (completing x last) (completed_with 0 v.slot w x (carrying 0 d.known))
-      = same ∙ ap (λ (z : Work). stepped (completing x last) (completed_with 0 v.slot z x (carrying 0 d.known))) (ap work_in is) in
+  finished_view : (e : SeatValue) → e.table ≡ d.table
+      → e.known ≡ stepped (completing x) (completed_with 0 v.slot (work_in d.known.seat) x (carrying 0 d.known))
+      → cpu_of e ≡ completes v.slot (cpu_of d)
+  finished_view e table same =
+      let known : e.known ≡ stepped (completing x) (completed_with 0 v.slot w x (carrying 0 d.known))
+      = same ∙ ap (λ (z : Work). stepped (completing x) (completed_with 0 v.slot z x (carrying 0 d.known))) (ap work_in is) in
       let answer = quiet_answer v x d.known.part.calling k.quiet in
       let calls = has_run d.known.part.calling refl in
       (λ i. cpu_of (record { table = table i; known = known i })) ∙
-      (λ i. record (makes (completing (sym answer i) last) (answers v.slot (sym answer i) (cpu_of d))) {
+      (λ i. record (makes (completing (sym answer i)) (answers v.slot (sym answer i) (cpu_of d))) {
         part = record (d.known.part) {
           calling = Idle;
           answers = slice_set d.known.part.answers v.slot (slice_index_or d.known.part.answers v.slot [] ++ sym answer i ∷ []);
@@ -112,15 +112,15 @@ module _ (t : TableId) (d : SeatValue) (number : ℕ) (v : Visit) (holds is_open
         };
       })
 
-  pub finish_answers : (e : SeatValue) (last : Bool) → e.table ≡ d.table
-      → e.known ≡ stepped (completing x last) (completed_with 0 v.slot (work_in d.known.seat) x (carrying 0 d.known))
+  pub finish_answers : (e : SeatValue) → e.table ≡ d.table
+      → e.known ≡ stepped (completing x) (completed_with 0 v.slot (work_in d.known.seat) x (carrying 0 d.known))
       → (u : Unit) → FinishAnswers (cpu_of d) (cpu_of e) (Ok u)
-  finish_answers e last table same u = (
+  finish_answers e table same u = (
     record {
       stop = record { slot = v.slot; work = w; acked = v.acked };
       is = ap inside_of k.rests.2;
       several = kind;
       left = left;
     },
-    (last, finished_view e last table same),
+    finished_view e table same,
   )

@@ -367,22 +367,19 @@ at_one t d number visit holds is_open kept one table sized =
 
 -- its answer
 pub run_answers : {F : Type 0} (leads : F → Called → F → Type 0) (d e : SeatValue) (number : ℕ) (visit : Visit) (holds is_open : Bool) (before after : F)
-    (v : ℤ) (last : Bool) → IsKept d.known number (Some visit) holds is_open → visit.kind ≡ One → e.table ≡ d.table
-    → e.known ≡ stepped (2 + completing (answer_word v) last) (completed_with 0 visit.slot (work_in d.known.seat) (answer_word v) (carrying 0 d.known))
+    (v : ℤ) → IsKept d.known number (Some visit) holds is_open → visit.kind ≡ One → e.table ≡ d.table
+    → e.known ≡ stepped (2 + completing (answer_word v)) (completed_with 0 visit.slot (work_in d.known.seat) (answer_word v) (carrying 0 d.known))
     → leads before (called_by d.known v) after → RunAnswers leads (cpu_of d) (cpu_of e) before after (Ok v)
-run_answers {F} leads d e number visit holds is_open before after v last kept one table same heard =
-    let n = 2 + completing (answer_word v) last in
+run_answers {F} leads d e number visit holds is_open before after v kept one table same heard =
+    let n = 2 + completing (answer_word v) in
     let w = kept.rests.0 in
     let kind : w.kind ≡ One = sym kept.rests.1.kind ∙ one in
     let work : work_in d.known.seat ≡ w = ap work_in kept.rests.2 in
     let none = no_phase d.known visit.slot visit.acked visit.acked w kept.lives kept.rests.2 kind in
     let idle = idle_before d.known visit visit.slot visit.acked visit.acked w Rests kept.lives kept.rests.2 (omega (arith, none)) kept.quiet in (
       record { stop = record { slot = visit.slot; work = w; acked = visit.acked }; is = ap inside_of kept.rests.2; one = kind },
-      (
-        last,
-        ran_view d e visit.slot w (answer_word v) n kind idle table
-            (same ∙ ap (λ (x : Work). stepped n (completed_with 0 visit.slot x (answer_word v) (carrying 0 d.known))) work),
-      ),
+      ran_view d e visit.slot w (answer_word v) n kind idle table
+          (same ∙ ap (λ (x : Work). stepped n (completed_with 0 visit.slot x (answer_word v) (carrying 0 d.known))) work),
       subst (λ (x : Work). leads before (called d.known.number x.func x.arg v) after) work heard,
     )
 

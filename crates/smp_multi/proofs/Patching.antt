@@ -44,7 +44,7 @@ use Rattle.smp_multi.specs.Patches.{AtPatch, IsInPatch, begins_with, count_in, e
 use Rattle.smp_multi.specs.Places.{work_in}
 use Rattle.smp_multi.specs.Rounds.{AloneWhile, AtRun, AtTurn}
 use Rattle.smp_multi.specs.Seat.{SeatValue, Able, Ready, FitsWord}
-use Rattle.smp_multi.specs.StepCounts.{patching, raising}
+use Rattle.smp_multi.specs.StepCounts.{patching}
 use Rattle.smp_multi.specs.Turns.{HasRun, patched_by, patched_with}
 use Rattle.smp_multi.specs.declared.func.Called.{Called}
 use Rattle.smp_multi.proofs.Cells.{slot_cell, key_cell, entry_cell, site_cell}
@@ -415,11 +415,11 @@ module _ (k : Known) (s : ℕ) (w : Work) (count : ℕ) (is : k.seat ≡ In s w 
   passed_same n true = refl
   passed_same n false = refl
 
-  -- with the numbers of steps: up to the plan, of its stores, and of who stores the next phase
-  pub patch_ends : (k1 k2 k3 k4 : Known) (found answer next p q r all : ℕ) → k1 ≡ stepped p (begins_with count k.seat k)
+  -- with the numbers of steps: up to the plan, and of its stores
+  pub patch_ends : (k1 k2 k3 k4 : Known) (found answer next p q all : ℕ) → k1 ≡ stepped p (begins_with count k.seat k)
       → k2 ≡ stepped q (stored_all k1.seat k1) → answer ≡ patch_answer w count → k3 ≡ stepped 1 (acked_by found k2.seat (carrying answer k2))
-      → k4 ≡ stepped r (cond (found == 1) (raised_by next k3.seat k3) k3) → next ≡ 4 → p + q + 1 + r ≡ all → k4 ≡ stepped all (patched_by count k.seat k)
-  patch_ends k1 k2 k3 k4 found answer next p q r all one two says three four up sum =
+      → k4 ≡ cond (found == 1) (raised_by next k3.seat k3) k3 → next ≡ 4 → p + q + 1 ≡ all → k4 ≡ stepped all (patched_by count k.seat k)
+  patch_ends k1 k2 k3 k4 found answer next p q all one two says three four up sum =
       let plan = plan_at (setup_in k.setting) w count in
       let l = patched_with w count k.part.patched in
       let n = k.steps + p + q + 1 in
@@ -429,9 +429,9 @@ module _ (k : Known) (s : ℕ) (w : Work) (count : ℕ) (is : k.seat ≡ In s w 
       ∙ ap (λ (x : Known). stepped q (stored_all x.seat x)) a in
       let c : k3 ≡ acked = three ∙ (ap (λ (x : Known). stepped 1 (acked_by found x.seat (carrying answer x))) b
       ∙ ap (λ n. record acked { carried = n }) says) in
-      let steps : n + r ≡ k.steps + all = omega (arith, sum) in
-      four ∙ (ap (λ (x : Known). stepped r (cond (found == 1) (raised_by next x.seat x) x)) c
-      ∙ (ap (λ j. stepped r (cond (found == 1) (raised_by j acked.seat acked) acked)) up ∙ (ap (stepped r) (passed_same n (found == 1))
+      let steps : n ≡ k.steps + all = omega (arith, sum) in
+      four ∙ (ap (λ (x : Known). cond (found == 1) (raised_by next x.seat x) x) c
+      ∙ (ap (λ j. cond (found == 1) (raised_by j acked.seat acked) acked) up ∙ (passed_same n (found == 1)
       ∙ (ap (λ m. patched_at m Rests) steps ∙ sym (ap (λ y. stepped all (patched_by count y k)) is)))))
 
 -- a turn with a patch
@@ -444,27 +444,24 @@ work_looked n (Alters s w count made rest) = refl
 work_looked n (Closes s) = refl
 
 -- a CPU that has looked at RUN, where this count was in the key, and has made its patch
-pub has_patched : {F : Type 0} (leads : F → Called → F → Type 0) (old looked new : Known) (v x : Visit) (f : F) (count : ℕ) (last : Bool)
+pub has_patched : {F : Type 0} (leads : F → Called → F → Type 0) (old looked new : Known) (v x : Visit) (f : F) (count : ℕ)
     → looked ≡ stepped 1 (looked_known RUN old) → Moment (stepped 2 looked) (Key (work_in looked.seat).func) count
-    → new ≡ stepped (4 + patching looked.setting (work_in looked.seat) count + raising last) (patched_by count looked.seat looked)
+    → new ≡ stepped (4 + patching looked.setting (work_in looked.seat) count) (patched_by count looked.seat looked)
     → x ≡ visit_acked v 0 false → HasRun leads old new v x f f Patch
-has_patched leads old looked new v x f count last is m same next =
+has_patched leads old looked new v x f count is m same next =
     let at = looked_known RUN old in
     let work : work_in looked.seat ≡ work_in old.seat = ap (λ (k : Known). work_in k.seat) is ∙ work_looked RUN old.seat in
-    let many = λ (z : Work). 4 + patching old.setting z count + raising last in
-    let all = 5 + patching old.setting (work_in old.seat) count + raising last in
+    let many = λ (z : Work). 4 + patching old.setting z count in
+    let all = 5 + patching old.setting (work_in old.seat) count in
     let one : 1 + many (work_in old.seat) ≡ all = omega arith in (
       count,
       subst (λ (k : Known). Moment k (Key (work_in old.seat).func) count) (steps_on 1 2 at)
           (subst (λ (w : Work). Moment (stepped 2 (stepped 1 at)) (Key w.func) count) work
           (subst (λ (k : Known). Moment (stepped 2 k) (Key (work_in looked.seat).func) count) is m)),
-      (
-        last,
-        same ∙ (ap (λ (k : Known). stepped (4 + patching k.setting (work_in looked.seat) count + raising last) (patched_by count k.seat k)) is
-            ∙ (ap (λ (z : Work). stepped (many z) (patched_by count at.seat (stepped 1 at))) work
-            ∙ (ap (stepped (many (work_in old.seat))) (patched_on 1 count at.seat at)
-            ∙ (steps_on 1 (many (work_in old.seat)) (patched_by count at.seat at) ∙ ap (λ n. stepped n (patched_by count at.seat at)) one)))),
-      ),
+      same ∙ (ap (λ (k : Known). stepped (4 + patching k.setting (work_in looked.seat) count) (patched_by count k.seat k)) is
+          ∙ (ap (λ (z : Work). stepped (many z) (patched_by count at.seat (stepped 1 at))) work
+          ∙ (ap (stepped (many (work_in old.seat))) (patched_on 1 count at.seat at)
+          ∙ (steps_on 1 (many (work_in old.seat)) (patched_by count at.seat at) ∙ ap (λ n. stepped n (patched_by count at.seat at)) one)))),
       next,
       refl,
     )

@@ -1,5 +1,5 @@
 -- A turn of a stop of several CPUs: what the CPU may do, what it finds, and where it is after each step.
-use Rattle.std.proofs.Common.{◌≡◌, ◌≢◌, ◌⊎◌, ℕ, ◌+◌, ◌<◌, ◌≤◌, ◌==◌, ◌&&◌, ◌||◌, not, Bool, true, false, cond, List, sym, subst, refl, ap, ◌∙◌, arith}
+use Rattle.std.proofs.Common.{◌≡◌, ◌≢◌, ◌⊎◌, ℕ, ◌+◌, ◌<◌, ◌≤◌, ◌==◌, ◌&&◌, ◌||◌, not, Bool, true, false, cond, Some, None, List, sym, subst, refl, ap, ◌∙◌, arith}
 use Rattle.std.proofs.Common.{eq-eqb, ne_eqb}
 use Rattle.atomic_table.specs.Seated.{TableId}
 use Rattle.smp_mask.specs.Mask.{has}
@@ -9,9 +9,9 @@ use Rattle.smp_stop_steps.specs.Callings.{HasCalled}
 use Rattle.smp_stop_steps.specs.Counts.{mask_weight}
 use Rattle.smp_stop_steps.specs.Known.{setup_in, stepped}
 use Rattle.smp_multi.specs.Lives.{Moment}
-use Rattle.smp_stop_steps.specs.KnownAfter.{acked_by, called_by, drafted_known, is_drafting, looked_known, looked_to, member_stored, raised_by}
+use Rattle.smp_stop_steps.specs.KnownAfter.{acked_by, called_by, drafted_known, is_drafting, known_told, looked_known, looked_to, member_stored, raised_by}
 use Rattle.smp_stop_steps.specs.KnownAfter.{ran_since, read_since}
-use Rattle.smp_stop_steps.specs.KnownAfter.{refilled_by, slot_stored}
+use Rattle.smp_stop_steps.specs.KnownAfter.{refilled_by}
 use Rattle.smp_stop_steps.specs.Moves.{Look, Acknowledge, Refill, Raise, LoadArg, LoadField}
 use Rattle.smp_stop_steps.specs.Seats.{Stands}
 use Rattle.smp_stop_steps.specs.Sits.{IsLoaded}
@@ -25,6 +25,7 @@ use Rattle.smp_stop_steps.proofs.Promises.Functions.{runs_alone}
 use Rattle.smp_multi.specs.Names.{Work, Kind, Multi, Slot, Field, Load, Store, Sub, Seat, In, Duty, Rests, Fills, Sets, Known}
 use Rattle.smp_multi.specs.Names.{Free, Gives, Alters, Closes}
 use Rattle.smp_multi.specs.Names.{Calling, Idle, Calls, Carries}
+use Rattle.smp_multi.specs.Names.act
 use Rattle.smp_multi.specs.Names.field
 use Rattle.smp_multi.specs.Laws.{IsAtRun}
 use Rattle.smp_multi.specs.Places.{work_in}
@@ -32,7 +33,7 @@ use Rattle.smp_multi.specs.Rounds.{AtTurn, AtRun, AloneWhile, passed_by}
 use Rattle.smp_multi.specs.Running.{calls_now}
 use Rattle.smp_multi.specs.Seat.{SeatValue, Able, Ready}
 use Rattle.smp_multi.proofs.Cells.{slot_cell}
-use Rattle.smp_multi.proofs.Counting.{raised_on, steps_on, with_steps}
+use Rattle.smp_multi.proofs.Counting.{raised_on, with_steps}
 
 -- a CPU that goes on in the stop that it is in
 pub turn_on : (t : TableId) (d e : SeatValue) (v x : Visit) (l m : ℕ) (r q : Duty) → AtTurn t d v l r → e.table ≡ t
@@ -233,39 +234,40 @@ turn_looked t d e v n a table same = turn_on t d e v v v.acked n Rests Rests a t
     (ap (λ (k : Known). k.seat) same ∙ ap (looked_to n) a.seat_is)
 
 pub turn_filled : (t : TableId) (d e : SeatValue) (v : Visit) (n : ℕ) → AtTurn t d v v.acked Fills → e.table ≡ t
-    → e.known ≡ stepped 1 (slot_stored field.Ack n d.known)
-    → (e.known ≡ stepped 1 (record (d.known) { seat = In v.slot (work_in d.known.seat) v.acked v.acked Sets })) × AtTurn t e v v.acked Sets
+    → e.known ≡ known_told d.known act.Store (Slot v.slot field.Ack) None (Some n)
+    → (e.known ≡ record (d.known) { seat = In v.slot (work_in d.known.seat) v.acked v.acked Sets }) × AtTurn t e v v.acked Sets
 turn_filled t d e v n a table same =
     let next = In v.slot (work_in d.known.seat) v.acked v.acked Sets in
-    let is : e.known ≡ stepped 1 (record (d.known) { seat = next }) = same ∙ (
-    ap (λ b. stepped 1 (cond b (drafted_known field.Ack n d.known) (member_stored field.Ack n d.known))) a.idle ∙
-    ap (λ x. stepped 1 (record (d.known) { seat = refilled_by x })) a.seat_is) in
+    let stored : Bool → Known = λ b. cond b (drafted_known field.Ack n d.known) (member_stored field.Ack n d.known) in
+    let is : e.known ≡ record (d.known) { seat = next } = same ∙ (
+    ap (λ b. cond (not b) (stored b) (stepped 1 (stored b))) a.idle ∙
+    ap (λ x. record (d.known) { seat = refilled_by x }) a.seat_is) in
     (is, turn_on t d e v v v.acked v.acked Fills Sets a table (ap (λ (k : Known). is_drafting k.source) is) refl a.loaded (ap (λ (k : Known). k.seat) is))
 
 pub turn_raised : (t : TableId) (d e : SeatValue) (v : Visit) (n : ℕ) → AtTurn t d v v.acked Sets → e.table ≡ t
-    → e.known ≡ stepped 1 (slot_stored field.State n d.known)
-    → (e.known ≡ stepped 1 (raised_by n d.known.seat d.known)) × AtTurn t e v v.acked Rests
+    → e.known ≡ known_told d.known act.Store (Slot v.slot field.State) None (Some n)
+    → (e.known ≡ raised_by n d.known.seat d.known) × AtTurn t e v v.acked Rests
 turn_raised t d e v n a table same =
-    let is : e.known ≡ stepped 1 (raised_by n d.known.seat d.known) = same
-    ∙ ap (λ b. stepped 1 (cond b (drafted_known field.State n d.known) (member_stored field.State n d.known))) a.idle in
-    let at : e.known ≡ stepped 1 (raised_by n (In v.slot (work_in d.known.seat) v.acked v.acked Sets) d.known) = is
-    ∙ ap (λ x. stepped 1 (raised_by n x d.known)) a.seat_is in
+    let stored : Bool → Known = λ b. cond b (drafted_known field.State n d.known) (member_stored field.State n d.known) in
+    let is : e.known ≡ raised_by n d.known.seat d.known = same ∙ ap (λ b. cond (not b) (stored b) (stepped 1 (stored b))) a.idle in
+    let at : e.known ≡ raised_by n (In v.slot (work_in d.known.seat) v.acked v.acked Sets) d.known = is
+    ∙ ap (λ x. raised_by n x d.known) a.seat_is in
     (is, turn_on t d e v v v.acked v.acked Sets Rests a table (ap (λ (k : Known). is_drafting k.source) at) refl a.loaded (ap (λ (k : Known). k.seat) at))
 
 -- both stores of who stores the next phase
 pub turn_passed : (t : TableId) (d e f : SeatValue) (v : Visit) (m n : ℕ) → AtTurn t d v v.acked Fills → e.table ≡ t
-    → e.known ≡ stepped 1 (slot_stored field.Ack m d.known) → f.table ≡ t → f.known ≡ stepped 1 (slot_stored field.State n e.known) → n ≡ v.acked + 1
-    → (f.known ≡ stepped 2 (raised_by (v.acked + 1) d.known.seat d.known)) × AtTurn t f v v.acked Rests
+    → e.known ≡ known_told d.known act.Store (Slot v.slot field.Ack) None (Some m) → f.table ≡ t
+    → f.known ≡ known_told e.known act.Store (Slot v.slot field.State) None (Some n) → n ≡ v.acked + 1
+    → (f.known ≡ raised_by (v.acked + 1) d.known.seat d.known) × AtTurn t f v v.acked Rests
 turn_passed t d e f v m n a table same table' same' next =
     let one = turn_filled t d e v m a table same in
     let two = turn_raised t e f v n one.1 table' same' in
     let s = v.slot in
     let w = work_in d.known.seat in (
       two.0 ∙ (
-          ap (λ (k : Known). stepped 1 (raised_by n k.seat k)) one.0 ∙ (
-          ap (λ j. stepped 1 (raised_by j (In s w v.acked v.acked Sets) (stepped 1 (record (d.known) { seat = In s w v.acked v.acked Sets })))) next ∙ (
-          steps_on 1 1 (raised_by (v.acked + 1) (In s w v.acked v.acked Sets) d.known) ∙
-          sym (ap (λ x. stepped 2 (raised_by (v.acked + 1) x d.known)) a.seat_is)))),
+          ap (λ (k : Known). raised_by n k.seat k) one.0 ∙ (
+          ap (λ j. raised_by j (In s w v.acked v.acked Sets) (record (d.known) { seat = In s w v.acked v.acked Sets })) next ∙
+          sym (ap (λ x. raised_by (v.acked + 1) x d.known) a.seat_is))),
       two.1,
     )
 
@@ -276,15 +278,13 @@ abbrev passed_with : Known → ℕ → Work → ℕ → List Reading → Known
 passed_with k s w l r = record k { seat = In s w l l Rests; part = record (ran_since (l == RUN) (k.part)) { readings = r } }
 
 -- an acknowledgement, and the stores of the next phase where it was the last, leave the same
-pub ack_passes : (k k1 k2 : Known) (s : ℕ) (w : Work) (a l found n m : ℕ) → k.seat ≡ In s w a l Rests → k1 ≡ stepped n (acked_by found k.seat k)
-    → k2 ≡ stepped m (cond (found == 1) (raised_by (l + 1) k1.seat k1) k1) → k2 ≡ stepped (n + m) (passed_by k.seat k)
-ack_passes k k1 k2 s w a l found n m is e f =
+pub ack_passes : (k k1 k2 : Known) (s : ℕ) (w : Work) (a l found n : ℕ) → k.seat ≡ In s w a l Rests → k1 ≡ stepped n (acked_by found k.seat k)
+    → k2 ≡ cond (found == 1) (raised_by (l + 1) k1.seat k1) k1 → k2 ≡ stepped n (passed_by k.seat k)
+ack_passes k k1 k2 s w a l found n is e f =
     let at = acked_by found k.seat k in
-    f ∙ (ap (λ x. stepped m (cond (found == 1) (raised_by (l + 1) x.seat x) x)) e
-    ∙ (ap (λ x. stepped m (cond (found == 1) x (stepped n at))) (raised_on n (l + 1) at.seat at)
-    ∙ (ap (stepped m) (with_steps n (found == 1) (raised_by (l + 1) at.seat at) at)
-    ∙ (steps_on n m (cond (found == 1) (raised_by (l + 1) at.seat at) at)
-    ∙ ap (stepped (n + m)) (passes is)))))
+    f ∙ (ap (λ x. cond (found == 1) (raised_by (l + 1) x.seat x) x) e
+    ∙ (ap (λ x. cond (found == 1) x (stepped n at)) (raised_on n (l + 1) at.seat at)
+    ∙ (with_steps n (found == 1) (raised_by (l + 1) at.seat at) at ∙ ap (stepped n) (passes is))))
   where
     fives : (old more : List Reading) → cond (l + 1 == OVER) more (cond (l == EXIT && false) more old) ≡ cond (l == EXIT) more old
     fives old more = at_test l EXIT (λ b. cond (l + 1 == OVER) more (cond (b && false) more old) ≡ cond b more old)

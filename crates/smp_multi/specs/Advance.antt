@@ -13,7 +13,7 @@ use Rattle.smp_multi.specs.Answers.{call_of}
 use Rattle.smp_multi.specs.Cpu.{CpuValue, Inside, runs, answers, makes}
 use Rattle.smp_multi.specs.Laws.{FindsCount}
 use Rattle.smp_multi.specs.Running.{called}
-use Rattle.smp_multi.specs.StepCounts.{completing, patching, raising}
+use Rattle.smp_multi.specs.StepCounts.{completing, patching}
 use Rattle.smp_multi.specs.Turns.{patched_with}
 use Rattle.smp_multi.specs.declared.func.Called.{Called}
 use Rattle.smp_multi.specs.declared.turn.Turn.{Turn}
@@ -54,28 +54,28 @@ abbrev pub reads_anew : Inside → CpuValue → CpuValue
 reads_anew stop c = record c { part = record (c.part) { readings = first_readings c.number stop.slot stop.work } }
 
 -- an active CPU at RUN: it has called the function of its Multi stop once, or has made its patch, which leads from the count
--- that its load has found in the key; and it was the last to acknowledge the phase, or not
+-- that its load has found in the key
 abbrev pub RunsAt : {F : Type 0} → (F → Called → F → Type 0) → Inside → CpuValue → CpuValue → F → F → Kind → Type 0
 RunsAt leads stop old new before after One = ⊥
 RunsAt leads stop old new before after Multi =
     (answer : ℤ)
-    × ((last : Bool) × (new ≡ makes (4 + raising last) (carries (answer_word answer) (runs (call_of stop answer) (acknowledges stop RUN false old)))))
+    × (new ≡ makes 4 (carries (answer_word answer) (runs (call_of stop answer) (acknowledges stop RUN false old))))
     × leads before (called old.number stop.work.func stop.work.arg answer) after
 RunsAt leads stop old new before after Patch =
-    (count : ℕ) × ((last : Bool) × (new ≡ makes (5 + patching old.setting stop.work count + raising last)
-    (carries (patch_answer stop.work count) (patches stop.work count (acknowledges stop RUN false old)))))
+    (count : ℕ) × (new ≡ makes (5 + patching old.setting stop.work count)
+    (carries (patch_answer stop.work count) (patches stop.work count (acknowledges stop RUN false old))))
     × (after ≡ before) × FindsCount (makes 3 (looks RUN old)) stop.work.func count
 
 -- one turn, in this stop. The CPU has looked at one phase more, the last that it has acknowledged at the end: a new one but
--- at Same. Interrupts are off from DISABLE_IRQ until it has left. Who was the last to acknowledge has made two stores more
+-- at Same. Interrupts are off from DISABLE_IRQ until it has left. The two stores of the last to acknowledge are not counted
 abbrev pub Advances : {F : Type 0} → (F → Called → F → Type 0) → Inside → CpuValue → CpuValue → F → F → Turn → Type 0
 Advances leads stop old new before after Same = (new ≡ makes 1 (looks stop.acked old)) × (after ≡ before)
 Advances leads stop old new before after (Moved p) = (p ≡ stop.acked + 1) × (p ≢ EXIT) × (p ≡ RUN → has stop.work.active old.number ≡ false)
-    × ((last : Bool) × (new ≡ makes (2 + raising last) (acknowledges stop p (nat_lt p DISABLE_IRQ) old))) × (after ≡ before)
+    × (new ≡ makes 2 (acknowledges stop p (nat_lt p DISABLE_IRQ) old)) × (after ≡ before)
 Advances leads stop old new before after Ran = (stop.acked ≡ DISABLE_IRQ) × (has stop.work.active old.number ≡ true)
     × RunsAt leads stop old new before after stop.work.kind
 Advances leads stop old new before after Left = (stop.acked ≡ RUN)
-    × ((last : Bool) × (new ≡ makes (2 + raising last) (reads_anew stop (acknowledges stop EXIT true old)))) × (after ≡ before)
+    × (new ≡ makes 2 (reads_anew stop (acknowledges stop EXIT true old))) × (after ≡ before)
 
 -- advance: one turn; refused where the CPU is in no stop of several CPUs, or has left it
 abbrev pub AdvanceAnswers : {F : Type 0} → (F → Called → F → Type 0) → CpuValue → CpuValue → F → F → Result Turn SmpError → Type 0
@@ -83,12 +83,12 @@ AdvanceAnswers leads old new before after (Ok turn) = (at : IsInRound old) × Ad
 AdvanceAnswers leads old new before after (Err error.BadArgument) = (¬ (IsInRound old)) × (new ≡ old) × (after ≡ before)
 AdvanceAnswers leads old new before after (Err _) = ⊥
 
--- one that has left the stop of this slot and has completed with the answer that it carries, or with 0, as the last or not
-abbrev pub completes : ℕ → Bool → CpuValue → CpuValue
-completes slot last c = let x = carried_answer c.part.calling in makes (completing x last) (answers slot x c)
+-- one that has left the stop of this slot and has completed with the answer that it carries, or with 0
+abbrev pub completes : ℕ → CpuValue → CpuValue
+completes slot c = let x = carried_answer c.part.calling in makes (completing x) (answers slot x c)
 
 -- finish: the CPU completes; refused before it has left
 abbrev pub FinishAnswers : CpuValue → CpuValue → Result Unit SmpError → Type 0
-FinishAnswers old new (Ok u) = (at : HasLeft old) × ((last : Bool) × (new ≡ completes at.stop.slot last old))
+FinishAnswers old new (Ok u) = (at : HasLeft old) × (new ≡ completes at.stop.slot old)
 FinishAnswers old new (Err error.BadArgument) = (¬ (HasLeft old)) × (new ≡ old)
 FinishAnswers old new (Err _) = ⊥

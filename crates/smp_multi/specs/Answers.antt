@@ -58,14 +58,14 @@ pub record IsInOne (c : CpuValue) : Type 0 where
 abbrev pub call_of : Inside → ℤ → StopCall
 call_of stop answer = call_with stop.work (answer_word answer)
 
--- one that has called the function of the stop of one CPU, at two loads, and has completed with its answer, as the last or not
-abbrev pub completes_one : Inside → ℤ → Bool → CpuValue → CpuValue
-completes_one stop v last c = let x = answer_word v in makes (2 + completing x last) (answers stop.slot x (runs (call_of stop v) c))
+-- one that has called the function of the stop of one CPU, at two loads, and has completed with its answer
+abbrev pub completes_one : Inside → ℤ → CpuValue → CpuValue
+completes_one stop v c = let x = answer_word v in makes (2 + completing x) (answers stop.slot x (runs (call_of stop v) c))
 
 -- run_one: the function is called once, and what it answered is the CPU's answer
 abbrev pub RunAnswers : {F : Type 0} → (F → Called → F → Type 0) → CpuValue → CpuValue → F → F → Result ℤ SmpError → Type 0
 RunAnswers leads old new before after (Ok v) =
-    (at : IsInOne old) × ((last : Bool) × (new ≡ completes_one at.stop v last old)) ×
+    (at : IsInOne old) × (new ≡ completes_one at.stop v old) ×
     leads before (called old.number at.stop.work.func at.stop.work.arg v) after
 RunAnswers leads old new before after (Err error.BadArgument) = (¬ (IsInOne old)) × (new ≡ old) × (after ≡ before)
 RunAnswers leads old new before after (Err _) = ⊥

@@ -1,5 +1,5 @@
 -- How many steps a part of a call makes, where that is not the same each time.
-use Rattle.std.specs.Prelude.{ℕ, ◌+◌, nat_lt, Bool, ◌==◌, cond, length}
+use Rattle.std.specs.Prelude.{ℕ, ◌+◌, nat_lt, ◌==◌, cond, length}
 use Rattle.smp_labels.specs.Keys.{is_on}
 use Rattle.smp_labels.specs.Kinds.{xor}
 use Rattle.smp_labels.specs.declared.words.TheConstants.{MOST_SITES}
@@ -8,19 +8,12 @@ use Rattle.smp_stop_steps.specs.Labels.{count_set}
 use Rattle.smp_stop_steps.specs.Tells.{plan_at}
 use Rattle.smp_multi.specs.Names.{Setting, Work}
 
--- who has acknowledged a phase stores the count again and the next phase, where it was the last
-abbrev pub raising : Bool → ℕ
-raising last = cond last 2 0
-
--- who completes stores an answer that is not 0, counts itself, and stores done where it was the last
+-- a CPU that completes stores an answer that is not 0, and counts itself; the last one's store of done is due, and not counted
 abbrev pub giving : ℕ → ℕ
 giving answer = cond (answer == 0) 0 1
 
-abbrev pub closing : Bool → ℕ
-closing last = cond last 1 0
-
-abbrev pub completing : ℕ → Bool → ℕ
-completing answer last = giving answer + 1 + closing last
+abbrev pub completing : ℕ → ℕ
+completing answer = giving answer + 1
 
 -- the loads that find all of a number of entries: one each, and that of the word behind them, where there is one
 abbrev pub finding : ℕ → ℕ

@@ -13,7 +13,7 @@ use Rattle.smp_multi.specs.Names.{Key, Work, Kind, One, Multi, Patch, Seat, Know
 use Rattle.smp_multi.specs.Places.{work_in}
 use Rattle.smp_multi.specs.Rounds.{passed_by, passed_known}
 use Rattle.smp_multi.specs.Running.{answered_now, called_by}
-use Rattle.smp_multi.specs.StepCounts.{patching, raising}
+use Rattle.smp_multi.specs.StepCounts.{patching}
 use Rattle.smp_multi.specs.declared.func.Called.{Called}
 use Rattle.smp_multi.specs.declared.turn.Turn.{Turn}
 use Rattle.smp_multi.specs.declared.turn.Turn.TheVariants.{Same, Moved, Ran, Left}
@@ -31,19 +31,18 @@ patched_by count x v = let next = passed_by x (carrying (patch_answer (work_in x
 abbrev pub HasRun : {F : Type 0} → (F → Called → F → Type 0) → Known → Known → Visit → Visit → F → F → Kind → Type 0
 HasRun leads old new v v' f g One = ⊥
 HasRun leads old new v v' f g Multi = (answer : ℤ)
-    × ((last : Bool) × (new ≡ stepped (4 + raising last) (passed_by (looked_to RUN old.seat) (answered_now answer (looked_known RUN old)))))
+    × (new ≡ stepped 4 (passed_by (looked_to RUN old.seat) (answered_now answer (looked_known RUN old))))
     × (v' ≡ visit_acked v 0 false) × leads f (called_by old answer) g
 HasRun leads old new v v' f g Patch =
     (count : ℕ) × Moment (stepped 3 (looked_known RUN old)) (Key (work_in old.seat).func) count
-    × ((last : Bool) × (new ≡ stepped (5 + patching old.setting (work_in old.seat) count + raising last)
-    (patched_by count (looked_to RUN old.seat) (looked_known RUN old))))
+    × (new ≡ stepped (5 + patching old.setting (work_in old.seat) count) (patched_by count (looked_to RUN old.seat) (looked_known RUN old)))
     × (v' ≡ visit_acked v 0 false) × (g ≡ f)
 
 -- it looks at one phase more; where that is new it acknowledges it, and at RUN an active CPU has called its function
 abbrev pub TurnAnswers : {F : Type 0} → (F → Called → F → Type 0) → Known → Known → Visit → Visit → F → F → Turn → Type 0
 TurnAnswers leads old new v v' f g Same = (new ≡ stepped 1 (looked_known v.acked old)) × (v' ≡ v) × (g ≡ f)
 TurnAnswers leads old new v v' f g (Moved p) = (p ≡ v.acked + 1) × (p ≢ EXIT) × (p ≡ RUN → has v.active old.number ≡ false)
-    × ((last : Bool) × (new ≡ stepped (2 + raising last) (passed_known p old))) × (v' ≡ visit_acked v 0 false) × (g ≡ f)
+    × (new ≡ stepped 2 (passed_known p old)) × (v' ≡ visit_acked v 0 false) × (g ≡ f)
 TurnAnswers leads old new v v' f g Ran = (v.acked ≡ DISABLE_IRQ) × (has v.active old.number ≡ true) × HasRun leads old new v v' f g v.kind
-TurnAnswers leads old new v v' f g Left = (v.acked ≡ RUN) × ((last : Bool) × (new ≡ stepped (2 + raising last) (passed_known EXIT old)))
+TurnAnswers leads old new v v' f g Left = (v.acked ≡ RUN) × (new ≡ stepped 2 (passed_known EXIT old))
     × (v' ≡ visit_acked v 0 false) × (g ≡ f)

@@ -8,7 +8,7 @@ ghost use Rattle.smp_stop_steps.specs.Slots.{order};
 ghost use Rattle.smp_multi.specs.Begins.{Begins, draft_at, begun};
 ghost use Rattle.smp_words.specs.declared.field.Field.TheVariants as field_of;
 
-use crate::rule::Words;
+use crate::accesses::Words;
 use crate::seat::{CpuSeat, store};
 use smp_stop_steps::accesses::begun_value;
 use smp_words::field::Field;
@@ -16,10 +16,10 @@ use smp_words::word::Word;
 use smp_words::work::Work;
 
 /// Stores the next field.
-fn store_field(words: &Words, seat: &mut CpuSeat, number: u32, work: &Work, field: Field)
-    requires at { Begins words.now.table_id seat.old number work.now (order field) }
+fn store_field(words: Words<'_>, seat: &mut CpuSeat, number: u32, work: &Work, field: Field)
+    requires at { Begins words.shared.now.table_id seat.old number work.now (order field) }
     requires low { order field < order field_of.Roll }
-    ensures at { Begins words.now.table_id seat.new number work.now (order field + 1) }
+    ensures at { Begins words.entry.shared.now.table_id seat.new number work.now (order field + 1) }
     ensures known { seat.new.known ≡ stepped 1 (record (seat.old.known) { source = draft_at (order field + 1) work.now }) }
 {
     let value = begun_value(*work, field);
@@ -27,9 +27,9 @@ fn store_field(words: &Words, seat: &mut CpuSeat, number: u32, work: &Work, fiel
 }
 
 /// Stores the roll: all CPUs of the mask are called.
-fn open_slot(words: &Words, seat: &mut CpuSeat, number: u32, work: &Work)
-    requires at { Begins words.now.table_id seat.old number work.now (order field_of.Roll) }
-    ensures table { seat.new.table ≡ words.now.table_id }
+fn open_slot(words: Words<'_>, seat: &mut CpuSeat, number: u32, work: &Work)
+    requires at { Begins words.shared.now.table_id seat.old number work.now (order field_of.Roll) }
+    ensures table { seat.new.table ≡ words.entry.shared.now.table_id }
     ensures lives { Lives seat.new.known }
     ensures known { seat.new.known ≡ stepped 1 (begun work.now seat.old.known) }
 {
@@ -38,9 +38,9 @@ fn open_slot(words: &Words, seat: &mut CpuSeat, number: u32, work: &Work)
 }
 
 /// Begins a stop, at eleven stores.
-pub(crate) fn begin(words: &Words, seat: &mut CpuSeat, number: u32, work: &Work)
-    requires at { Begins words.now.table_id seat.old number work.now 0 }
-    ensures table { seat.new.table ≡ words.now.table_id }
+pub(crate) fn begin(words: Words<'_>, seat: &mut CpuSeat, number: u32, work: &Work)
+    requires at { Begins words.shared.now.table_id seat.old number work.now 0 }
+    ensures table { seat.new.table ≡ words.entry.shared.now.table_id }
     ensures lives { Lives seat.new.known }
     ensures known { seat.new.known ≡ stepped 11 (begun work.now seat.old.known) }
 {

@@ -9,7 +9,7 @@ ghost use Rattle.smp_multi.specs.Names.{Slot, Work};
 ghost use Rattle.smp_multi.specs.Names.field;
 ghost use Rattle.smp_multi.specs.Places.{IsFree, HasEntered, IsCalled, IsVisitOf, entered, missed};
 
-use crate::rule::Words;
+use crate::accesses::Words;
 use crate::seat::{CpuSeat, load, mask};
 use smp_stop_steps::mask::has_bit;
 use smp_stop_steps::stage::Visit;
@@ -18,10 +18,10 @@ use smp_words::word::Word;
 use smp_words::work::Kind;
 
 /// Takes the own bit from the roll of a slot: with it the CPU is in the stop of that slot.
-fn take_bit(words: &Words, seat: &mut CpuSeat, number: u32, slot: u32) -> bool
-    requires free { IsFree words.now.table_id seat.old number }
+fn take_bit(words: Words<'_>, seat: &mut CpuSeat, number: u32, slot: u32) -> bool
+    requires free { IsFree words.shared.now.table_id seat.old number }
     requires low { slot < cpus }
-    ensures table { seat.new.table ≡ words.now.table_id }
+    ensures table { seat.new.table ≡ words.entry.shared.now.table_id }
     ensures lives { Lives seat.new.known }
     ensures known { (work : Work) × (seat.new.known ≡ if result then entered slot work seat.old.known else missed slot seat.old.known)
         × (result ≡ true → IsCalled seat.old.known slot work) }
@@ -32,12 +32,12 @@ fn take_bit(words: &Words, seat: &mut CpuSeat, number: u32, slot: u32) -> bool
 }
 
 /// Loads what a CPU is to know of the stop that it has entered.
-fn load_visit(words: &Words, seat: &mut CpuSeat, slot: u32) -> Visit
-    requires { (work : Work) × HasEntered words.now.table_id seat.old slot work }
-    ensures table { seat.new.table ≡ words.now.table_id }
+fn load_visit(words: Words<'_>, seat: &mut CpuSeat, slot: u32) -> Visit
+    requires { (work : Work) × HasEntered words.shared.now.table_id seat.old slot work }
+    ensures table { seat.new.table ≡ words.entry.shared.now.table_id }
     ensures lives { Lives seat.new.known }
     ensures known { seat.new.known ≡ stepped 3 seat.old.known }
-    ensures visit { (work : Work) → HasEntered words.now.table_id seat.old slot work → IsVisitOf slot work result }
+    ensures visit { (work : Work) → HasEntered words.entry.shared.now.table_id seat.old slot work → IsVisitOf slot work result }
 {
     let kind = load(words, seat, Word::Slot(slot, Field::Kind));
     let mask = load(words, seat, Word::Slot(slot, Field::Mask));
@@ -53,10 +53,10 @@ fn load_visit(words: &Words, seat: &mut CpuSeat, slot: u32) -> Visit
 }
 
 /// Enters the stop of a slot, where its roll has the CPU.
-pub(crate) fn enter(words: &Words, seat: &mut CpuSeat, number: u32, slot: u32) -> Option<Visit>
-    requires free { IsFree words.now.table_id seat.old number }
+pub(crate) fn enter(words: Words<'_>, seat: &mut CpuSeat, number: u32, slot: u32) -> Option<Visit>
+    requires free { IsFree words.shared.now.table_id seat.old number }
     requires low { slot < cpus }
-    ensures table { seat.new.table ≡ words.now.table_id }
+    ensures table { seat.new.table ≡ words.entry.shared.now.table_id }
     ensures lives { Lives seat.new.known }
     ensures known { MatchOption result (seat.new.known ≡ missed slot seat.old.known) (λ visit. (work : Work)
         × (seat.new.known ≡ stepped 3 (entered slot work seat.old.known)) × IsCalled seat.old.known slot work × IsVisitOf slot work visit) }

@@ -5,14 +5,14 @@ ghost use Rattle.smp_multi.specs.Lives.{Lives, Moment};
 ghost use Rattle.smp_multi.specs.Names.{Gate};
 ghost use Rattle.smp_multi.specs.Places.{IsSeated, given_up, tried};
 
-use crate::rule::Words;
+use crate::accesses::Words;
 use crate::seat::{CpuSeat, exchange, store};
 use smp_words::word::Word;
 
 /// Takes the gate where nobody holds it.
-pub(crate) fn take_gate(words: &Words, seat: &mut CpuSeat, number: u32) -> bool
-    requires { IsSeated words.now.table_id seat.old number }
-    ensures table { seat.new.table ≡ words.now.table_id }
+pub(crate) fn take_gate(words: Words<'_>, seat: &mut CpuSeat, number: u32) -> bool
+    requires { IsSeated words.shared.now.table_id seat.old number }
+    ensures table { seat.new.table ≡ words.entry.shared.now.table_id }
     ensures lives { Lives seat.new.known }
     ensures known { seat.new.known ≡ tried result seat.old.known }
     ensures held { seat.old.known.part.holds ≡ true → result ≡ false }
@@ -23,10 +23,10 @@ pub(crate) fn take_gate(words: &Words, seat: &mut CpuSeat, number: u32) -> bool
 }
 
 /// Gives up the gate.
-pub(crate) fn leave_gate(words: &Words, seat: &mut CpuSeat, number: u32)
-    requires seat { IsSeated words.now.table_id seat.old number }
+pub(crate) fn leave_gate(words: Words<'_>, seat: &mut CpuSeat, number: u32)
+    requires seat { IsSeated words.shared.now.table_id seat.old number }
     requires held { seat.old.known.part.holds ≡ true }
-    ensures table { seat.new.table ≡ words.now.table_id }
+    ensures table { seat.new.table ≡ words.entry.shared.now.table_id }
     ensures lives { Lives seat.new.known }
     ensures known { seat.new.known ≡ given_up seat.old.known }
 {

@@ -38,6 +38,7 @@
 //! | `try_key` | the compare-exchange of the count | the caller, at `Lost` | `static_key_slow_inc_cpuslocked`, `static_key_slow_try_dec` |
 #![tactic(auto)]
 
+mod accesses;
 mod begin;
 mod boot;
 mod cell;

@@ -12,8 +12,8 @@ ghost use Rattle.smp_multi.specs.Names.{Key};
 ghost use Rattle.smp_multi.specs.Nudges.{NudgeKnown, lost_known};
 ghost use Rattle.smp_multi.specs.Reads.{MayRead};
 
+use crate::accesses::Words;
 use crate::read::load_count;
-use crate::rule::Words;
 use crate::seat::{CpuSeat, exchange};
 use smp_labels::{Change, is_on};
 use smp_mask::SmpError;
@@ -38,11 +38,11 @@ fn change_of(up: bool) -> Change
 }
 
 /// Puts another count in a key's word, where this one is found: whether it was.
-fn exchange_count(words: &Words, seat: &mut CpuSeat, k: u32, count: u64, next: u64) -> bool
-    requires at { MayRead words.now.table_id seat.old }
+fn exchange_count(words: Words<'_>, seat: &mut CpuSeat, k: u32, count: u64, next: u64) -> bool
+    requires at { MayRead words.shared.now.table_id seat.old }
     requires low { k < MOST_KEYS }
     requires nudge { IsNudge count next }
-    ensures table { seat.new.table ≡ words.now.table_id }
+    ensures table { seat.new.table ≡ words.entry.shared.now.table_id }
     ensures lives { Lives seat.new.known }
     ensures known { seat.new.known ≡ if result then stepped 1 (record (seat.old.known) {
       part = record (seat.old.known.part) {
@@ -56,14 +56,14 @@ fn exchange_count(words: &Words, seat: &mut CpuSeat, k: u32, count: u64, next: u
 
 /// Moves a key's count up or down by one.
 pub(crate) fn try_key(
-    words: &Words,
+    words: Words<'_>,
     seat: &mut CpuSeat,
     k: u32,
     up: bool,
 ) -> Result<Nudge, SmpError>
-    requires at { MayRead words.now.table_id seat.old }
+    requires at { MayRead words.shared.now.table_id seat.old }
     requires low { k < MOST_KEYS }
-    ensures table { seat.new.table ≡ words.now.table_id }
+    ensures table { seat.new.table ≡ words.entry.shared.now.table_id }
     ensures lives { Lives seat.new.known }
     ensures known { NudgeKnown k up seat.old.known seat.new.known result }
 {

@@ -1,6 +1,6 @@
 //! A CPU makes the patch of its stop, and acknowledges `RUN` (`kernel/jump_label.c: jump_label_update`).
 
-ghost use Rattle.std.specs.Prelude.{◌≡◌, ◌+◌, ◌<◌, ℕ, Bool, false, length, slice_index};
+ghost use Rattle.std.specs.Prelude.{◌≡◌, ◌+◌, ◌<◌, ℕ, false, length, slice_index};
 ghost use Rattle.smp_labels.specs.Entries.{IsEntryWord};
 ghost use Rattle.smp_labels.specs.Keys.{change_of};
 ghost use Rattle.smp_labels.specs.Plans.{plan_of};
@@ -14,11 +14,11 @@ ghost use Rattle.smp_multi.specs.Cells.{cells};
 ghost use Rattle.smp_multi.specs.Patches.{AtPatch, IsInPatch, begins_with, entries_in};
 ghost use Rattle.smp_multi.specs.Places.{work_in};
 ghost use Rattle.smp_multi.specs.Rounds.{AloneWhile, AtRun, AtTurn};
-ghost use Rattle.smp_multi.specs.StepCounts.{loading, patching, raising};
+ghost use Rattle.smp_multi.specs.StepCounts.{loading, patching};
 ghost use Rattle.smp_multi.specs.Turns.{patched_by};
 
+use crate::accesses::Words;
 use crate::round::pass;
-use crate::rule::Words;
 use crate::seat::patch_steps::{acknowledge_patch, store_plan};
 use crate::seat::{CpuSeat, load};
 use arrayvec::ArrayVec;
@@ -28,9 +28,9 @@ use smp_words::field::Field;
 use smp_words::word::Word;
 
 /// Loads the key and the change of the patch.
-fn load_change(words: &Words, seat: &mut CpuSeat, visit: Visit) -> (u32, Change)
-    requires { AtRun words.now.table_id seat.old visit Patch }
-    ensures at { AtRun words.now.table_id seat.new visit Patch }
+fn load_change(words: Words<'_>, seat: &mut CpuSeat, visit: Visit) -> (u32, Change)
+    requires { AtRun words.shared.now.table_id seat.old visit Patch }
+    ensures at { AtRun words.entry.shared.now.table_id seat.new visit Patch }
     ensures lives { Lives seat.new.known }
     ensures known { seat.new.known ≡ stepped 2 seat.old.known }
     ensures key { result.0 ≡ (work_in seat.old.known.seat).func }
@@ -44,11 +44,11 @@ fn load_change(words: &Words, seat: &mut CpuSeat, visit: Visit) -> (u32, Change)
 
 /// Loads the key: the patch leads from the count that is found here. From here until the CPU acknowledges the phase,
 /// whatever others do, every CPU of the mask has acknowledged disabled interrupts, and has them off.
-fn begin_patch(words: &Words, seat: &mut CpuSeat, visit: Visit, key: u32) -> u64
-    requires at { AtRun words.now.table_id seat.old visit Patch }
+fn begin_patch(words: Words<'_>, seat: &mut CpuSeat, visit: Visit, key: u32) -> u64
+    requires at { AtRun words.shared.now.table_id seat.old visit Patch }
     requires key { key ≡ (work_in seat.old.known.seat).func }
     requires low { key < MOST_KEYS }
-    ensures at { AtPatch words.now.table_id seat.new visit }
+    ensures at { AtPatch words.entry.shared.now.table_id seat.new visit }
     ensures lives { Lives seat.new.known }
     ensures alone { AloneWhile seat.new.known visit.slot }
     ensures then { Moment seat.old.known (Key key) result }
@@ -58,12 +58,12 @@ fn begin_patch(words: &Words, seat: &mut CpuSeat, visit: Visit, key: u32) -> u64
 }
 
 /// Loads the entry of a site.
-fn load_entry(words: &Words, seat: &mut CpuSeat, site: u32) -> u64
-    requires table { seat.old.table ≡ words.now.table_id }
-    requires sized { words.now.table_id.words ≡ cells }
+fn load_entry(words: Words<'_>, seat: &mut CpuSeat, site: u32) -> u64
+    requires table { seat.old.table ≡ words.shared.now.table_id }
+    requires sized { words.shared.now.table_id.words ≡ cells }
     requires inside { IsInPatch seat.old.known }
     requires low { site < MOST_SITES }
-    ensures table { seat.new.table ≡ words.now.table_id }
+    ensures table { seat.new.table ≡ words.entry.shared.now.table_id }
     ensures lives { Lives seat.new.known }
     ensures known { seat.new.known ≡ stepped 1 seat.old.known }
     ensures word { result ≡ slice_index (entries_in seat.old.known) site }
@@ -75,17 +75,17 @@ fn load_entry(words: &Words, seat: &mut CpuSeat, site: u32) -> u64
 /// The stores that lead from one count of a key to another: none where they are the same, the key's alone where it stays
 /// on, else those of its sites too, for which it loads the entries.
 fn load_plan(
-    words: &Words,
+    words: Words<'_>,
     seat: &mut CpuSeat,
     key: u32,
     count: u64,
     next: u64,
 ) -> ArrayVec<(Place, u64), MOST_CHANGES>
-    requires table { seat.old.table ≡ words.now.table_id }
-    requires sized { words.now.table_id.words ≡ cells }
+    requires table { seat.old.table ≡ words.shared.now.table_id }
+    requires sized { words.shared.now.table_id.words ≡ cells }
     requires inside { IsInPatch seat.old.known }
     requires lives { Lives seat.old.known }
-    ensures table { seat.new.table ≡ words.now.table_id }
+    ensures table { seat.new.table ≡ words.entry.shared.now.table_id }
     ensures lives { Lives seat.new.known }
     ensures known { seat.new.known ≡ stepped (loading count next (length (entries_in seat.old.known))) seat.old.known }
     ensures plan { result.items ≡ plan_of key count next (entries_in seat.old.known) }
@@ -123,13 +123,13 @@ fn answer_for(next: Option<u64>) -> u64
 
 /// Makes the patch of a stop, acknowledges `RUN`, and stores the next phase as the last. It answers 1 where the key's
 /// count stands at the end of its range, so that nothing is stored, else 0.
-pub(crate) fn patch_on(words: &Words, seat: &mut CpuSeat, visit: Visit) -> Visit
-    requires { AtRun words.now.table_id seat.old visit Patch }
-    ensures at { AtTurn words.now.table_id seat.new result result.acked Rests }
+pub(crate) fn patch_on(words: Words<'_>, seat: &mut CpuSeat, visit: Visit) -> Visit
+    requires { AtRun words.shared.now.table_id seat.old visit Patch }
+    ensures at { AtTurn words.entry.shared.now.table_id seat.new result result.acked Rests }
     ensures lives { Lives seat.new.known }
     ensures patched { (count : ℕ) × Moment (stepped 2 seat.old.known) (Key (work_in seat.old.known.seat).func) count
-        × ((last : Bool) × (seat.new.known ≡ stepped (4 + patching seat.old.known.setting (work_in seat.old.known.seat) count + raising last)
-        (patched_by count seat.old.known.seat seat.old.known)))
+        × (seat.new.known ≡ stepped (4 + patching seat.old.known.setting (work_in seat.old.known.seat) count)
+        (patched_by count seat.old.known.seat seat.old.known))
         × (result ≡ visit_acked visit 0 false) }
 {
     let (key, change) = load_change(words, seat, visit);

@@ -7,15 +7,15 @@ ghost use Rattle.smp_multi.specs.Names.{Slot};
 ghost use Rattle.smp_multi.specs.Names.field;
 ghost use Rattle.smp_multi.specs.Polls.{IsOwner, HasFound, looked, collected};
 
-use crate::rule::Words;
+use crate::accesses::Words;
 use crate::seat::{CpuSeat, load};
 use smp_words::field::Field;
 use smp_words::word::Word;
 
 /// Whether all have completed.
-pub(crate) fn is_done(words: &Words, seat: &mut CpuSeat, number: u32) -> bool
-    requires { IsOwner words.now.table_id seat.old number }
-    ensures table { seat.new.table ≡ words.now.table_id }
+pub(crate) fn is_done(words: Words<'_>, seat: &mut CpuSeat, number: u32) -> bool
+    requires { IsOwner words.shared.now.table_id seat.old number }
+    ensures table { seat.new.table ≡ words.entry.shared.now.table_id }
     ensures lives { Lives seat.new.known }
     ensures known { seat.new.known ≡ looked result seat.old.known }
     ensures then { (found : ℕ) × Moment seat.old.known (Slot number field.Done) found × (result ≡ not (found == 0)) }
@@ -24,9 +24,9 @@ pub(crate) fn is_done(words: &Words, seat: &mut CpuSeat, number: u32) -> bool
 }
 
 /// Collects the result, which closes the stop.
-pub(crate) fn collect(words: &Words, seat: &mut CpuSeat, number: u32) -> u64
-    requires { HasFound words.now.table_id seat.old number }
-    ensures table { seat.new.table ≡ words.now.table_id }
+pub(crate) fn collect(words: Words<'_>, seat: &mut CpuSeat, number: u32) -> u64
+    requires { HasFound words.shared.now.table_id seat.old number }
+    ensures table { seat.new.table ≡ words.entry.shared.now.table_id }
     ensures lives { Lives seat.new.known }
     ensures known { seat.new.known ≡ collected result seat.old.known }
     ensures fits { IsI32Word result }

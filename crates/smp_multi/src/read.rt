@@ -10,16 +10,16 @@ ghost use Rattle.smp_stop_steps.specs.KnownAfter.{reads_more};
 ghost use Rattle.smp_multi.specs.Names.{Key, ReadSite};
 ghost use Rattle.smp_multi.specs.Reads.{MayRead, jumps, loads_known};
 
-use crate::rule::Words;
+use crate::accesses::Words;
 use crate::seat::{CpuSeat, load};
 use smp_labels::{SiteKind, is_on};
 use smp_words::word::Word;
 
 /// Loads the count of a key.
-pub(crate) fn load_count(words: &Words, seat: &mut CpuSeat, k: u32) -> u64
-    requires at { MayRead words.now.table_id seat.old }
+pub(crate) fn load_count(words: Words<'_>, seat: &mut CpuSeat, k: u32) -> u64
+    requires at { MayRead words.shared.now.table_id seat.old }
     requires low { k < MOST_KEYS }
-    ensures table { seat.new.table ≡ words.now.table_id }
+    ensures table { seat.new.table ≡ words.entry.shared.now.table_id }
     ensures lives { Lives seat.new.known }
     ensures known { seat.new.known ≡ loads_known k result seat.old.known }
     ensures then { Moment seat.old.known (Key k) result }
@@ -29,10 +29,10 @@ pub(crate) fn load_count(words: &Words, seat: &mut CpuSeat, k: u32) -> u64
 }
 
 /// Whether a key is on (`static_key_enabled`).
-pub(crate) fn read_key(words: &Words, seat: &mut CpuSeat, k: u32) -> bool
-    requires at { MayRead words.now.table_id seat.old }
+pub(crate) fn read_key(words: Words<'_>, seat: &mut CpuSeat, k: u32) -> bool
+    requires at { MayRead words.shared.now.table_id seat.old }
     requires low { k < MOST_KEYS }
-    ensures table { seat.new.table ≡ words.now.table_id }
+    ensures table { seat.new.table ≡ words.entry.shared.now.table_id }
     ensures lives { Lives seat.new.known }
     ensures known { (count : ℕ) × Moment seat.old.known (Key k) count × (result ≡ is_word_on count) × (seat.new.known ≡ loads_known k count seat.old.known) }
 {
@@ -40,10 +40,10 @@ pub(crate) fn read_key(words: &Words, seat: &mut CpuSeat, k: u32) -> bool
 }
 
 /// What stands at a site.
-pub(crate) fn read_site(words: &Words, seat: &mut CpuSeat, i: u32) -> SiteKind
-    requires at { MayRead words.now.table_id seat.old }
+pub(crate) fn read_site(words: Words<'_>, seat: &mut CpuSeat, i: u32) -> SiteKind
+    requires at { MayRead words.shared.now.table_id seat.old }
     requires low { i < MOST_SITES }
-    ensures table { seat.new.table ≡ words.now.table_id }
+    ensures table { seat.new.table ≡ words.entry.shared.now.table_id }
     ensures lives { Lives seat.new.known }
     ensures known { seat.new.known ≡ stepped 1 (reads_more (ReadSite i (jumps result)) seat.old.known) }
 {

@@ -1,7 +1,7 @@
 //! The steps of a turn: a CPU loads the phase, acknowledges it, and as the last stores the next one (`ack_state`,
 //! `set_state`).
 
-ghost use Rattle.std.specs.Prelude.{◌≡◌, ◌≢◌, ◌⊎◌, ◌+◌, ◌≤◌, ◌==◌, Bool, false, if◌then◌else◌};
+ghost use Rattle.std.specs.Prelude.{◌≡◌, ◌≢◌, ◌⊎◌, ◌+◌, ◌≤◌, ◌==◌, false, if◌then◌else◌};
 ghost use Rattle.smp_mask.specs.Mask.{has};
 ghost use Rattle.smp_stop_steps.specs.Known.{stepped};
 ghost use Rattle.smp_multi.specs.Lives.{Lives};
@@ -9,9 +9,8 @@ ghost use Rattle.smp_stop_steps.specs.KnownAfter.{acked_by, looked_known, raised
 ghost use Rattle.smp_stop_steps.specs.Stages.{visit_acked};
 ghost use Rattle.smp_multi.specs.Names.{Rests, Fills};
 ghost use Rattle.smp_multi.specs.Rounds.{AtTurn, passed_by};
-ghost use Rattle.smp_multi.specs.StepCounts.{raising};
 
-use crate::rule::Words;
+use crate::accesses::Words;
 use crate::seat::{CpuSeat, load, store, subtract};
 use smp_stop_steps::mask::weight;
 use smp_stop_steps::phase::{DISABLE_IRQ, EXIT, RUN};
@@ -20,10 +19,10 @@ use smp_words::field::Field;
 use smp_words::word::Word;
 
 /// Loads the phase: the one that the CPU has acknowledged last, or the next one.
-pub(crate) fn look(words: &Words, seat: &mut CpuSeat, visit: Visit) -> u64
-    requires at { AtTurn words.now.table_id seat.old visit visit.acked Rests }
+pub(crate) fn look(words: Words<'_>, seat: &mut CpuSeat, visit: Visit) -> u64
+    requires at { AtTurn words.shared.now.table_id seat.old visit visit.acked Rests }
     requires more { visit.acked ≢ EXIT }
-    ensures at { AtTurn words.now.table_id seat.new visit result Rests }
+    ensures at { AtTurn words.entry.shared.now.table_id seat.new visit result Rests }
     ensures lives { Lives seat.new.known }
     ensures known { seat.new.known ≡ stepped 1 (looked_known result seat.old.known) }
     ensures near { (result ≡ visit.acked) ⊎ (result ≡ visit.acked + 1) }
@@ -33,10 +32,10 @@ pub(crate) fn look(words: &Words, seat: &mut CpuSeat, visit: Visit) -> u64
 }
 
 /// Acknowledges a phase in which it calls no function, and answers what was found in the count.
-fn acknowledge(words: &Words, seat: &mut CpuSeat, visit: Visit) -> u64
-    requires at { AtTurn words.now.table_id seat.old visit (visit.acked + 1) Rests }
+fn acknowledge(words: Words<'_>, seat: &mut CpuSeat, visit: Visit) -> u64
+    requires at { AtTurn words.shared.now.table_id seat.old visit (visit.acked + 1) Rests }
     requires calm { visit.acked ≡ DISABLE_IRQ → has visit.active seat.old.known.number ≡ false }
-    ensures table { seat.new.table ≡ words.now.table_id }
+    ensures table { seat.new.table ≡ words.entry.shared.now.table_id }
     ensures lives { Lives seat.new.known }
     ensures known { seat.new.known ≡ stepped 1 (acked_by result seat.old.known.seat seat.old.known) }
 {
@@ -44,11 +43,11 @@ fn acknowledge(words: &Words, seat: &mut CpuSeat, visit: Visit) -> u64
 }
 
 /// As the last to acknowledge a phase, fills the count again and then stores the next phase.
-fn raise(words: &Words, seat: &mut CpuSeat, visit: Visit)
-    requires at { AtTurn words.now.table_id seat.old visit visit.acked Fills }
-    ensures at { AtTurn words.now.table_id seat.new visit visit.acked Rests }
+fn raise(words: Words<'_>, seat: &mut CpuSeat, visit: Visit)
+    requires at { AtTurn words.shared.now.table_id seat.old visit visit.acked Fills }
+    ensures at { AtTurn words.entry.shared.now.table_id seat.new visit visit.acked Rests }
     ensures lives { Lives seat.new.known }
-    ensures known { seat.new.known ≡ stepped 2 (raised_by (visit.acked + 1) seat.old.known.seat seat.old.known) }
+    ensures known { seat.new.known ≡ raised_by (visit.acked + 1) seat.old.known.seat seat.old.known }
 {
     store(
         words,
@@ -61,13 +60,12 @@ fn raise(words: &Words, seat: &mut CpuSeat, visit: Visit)
 }
 
 /// A CPU whose decrement found 1 was the last to acknowledge. It stores the next phase.
-pub(crate) fn pass(words: &Words, seat: &mut CpuSeat, visit: Visit, found: u64)
-    requires at { AtTurn words.now.table_id seat.old visit visit.acked (if found == 1 then Fills else Rests) }
+pub(crate) fn pass(words: Words<'_>, seat: &mut CpuSeat, visit: Visit, found: u64)
+    requires at { AtTurn words.shared.now.table_id seat.old visit visit.acked (if found == 1 then Fills else Rests) }
     requires lives { Lives seat.old.known }
-    ensures at { AtTurn words.now.table_id seat.new visit visit.acked Rests }
+    ensures at { AtTurn words.entry.shared.now.table_id seat.new visit visit.acked Rests }
     ensures lives { Lives seat.new.known }
-    ensures known { seat.new.known ≡ stepped (raising (found == 1))
-        (if found == 1 then raised_by (visit.acked + 1) seat.old.known.seat seat.old.known else seat.old.known) }
+    ensures known { seat.new.known ≡ (if found == 1 then raised_by (visit.acked + 1) seat.old.known.seat seat.old.known else seat.old.known) }
 {
     if found == 1 {
         raise(words, seat, visit);
@@ -75,13 +73,13 @@ pub(crate) fn pass(words: &Words, seat: &mut CpuSeat, visit: Visit, found: u64)
 }
 
 /// Acknowledges a phase in which it calls no function, and stores the next one as the last.
-pub(crate) fn move_on(words: &Words, seat: &mut CpuSeat, visit: Visit) -> Visit
-    requires at { AtTurn words.now.table_id seat.old visit (visit.acked + 1) Rests }
+pub(crate) fn move_on(words: Words<'_>, seat: &mut CpuSeat, visit: Visit) -> Visit
+    requires at { AtTurn words.shared.now.table_id seat.old visit (visit.acked + 1) Rests }
     requires calm { visit.acked ≡ DISABLE_IRQ → has visit.active seat.old.known.number ≡ false }
     requires few { visit.acked ≤ RUN }
-    ensures at { AtTurn words.now.table_id seat.new result result.acked Rests }
+    ensures at { AtTurn words.entry.shared.now.table_id seat.new result result.acked Rests }
     ensures lives { Lives seat.new.known }
-    ensures known { (last : Bool) × (seat.new.known ≡ stepped (1 + raising last) (passed_by seat.old.known.seat seat.old.known)) }
+    ensures known { seat.new.known ≡ stepped 1 (passed_by seat.old.known.seat seat.old.known) }
     ensures visit { result ≡ visit_acked visit 0 false }
 {
     let found = acknowledge(words, seat, visit);

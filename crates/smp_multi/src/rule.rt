@@ -1,7 +1,7 @@
 //! The rule of the table: between any two steps its words show the stops that the CPUs know.
 
 use crate::seat_view::SeatView;
-use atomic_table::{Seat, Shared, Split, Table, TableRule};
+use atomic_table::{Seat, Split, TableRule};
 use smp_stop_steps::known::Setting;
 
 /// The rule of the table. Its key is what the table is made with.
@@ -26,12 +26,6 @@ impl Split<SeatView> for NextSeat {
 
     ghost right = { seat_made };
 }
-
-/// The words, as all threads share them.
-pub type Words = Shared<(), SeatView, Setting, StopRule>;
-
-/// The words with their memory.
-pub type Owner<A> = Table<(), SeatView, Setting, StopRule, A>;
 
 /// A seat at the table.
 pub type RawSeat = Seat<(), SeatView>;

@@ -33,13 +33,13 @@ ghost use Rattle.smp_multi.specs.Laws.{FindsHeld};
 ghost use Rattle.smp_multi.specs.Nudges.{NudgeAnswers};
 ghost use Rattle.smp_multi.specs.Reads.{KeyAnswers, SiteAnswers};
 
+use crate::accesses::Owner;
 use crate::boot::StopBoot;
 use crate::cpu::StopCpu;
 use crate::func::StopFunc;
 use crate::gate::{leave_gate, take_gate};
 use crate::nudge::Nudge;
 use crate::poll::{collect, is_done};
-use crate::rule::Owner;
 use crate::seat::{CpuSeat, lay, next_seat};
 use crate::turn::{Turn, take_turn};
 use crate::{begin, complete, enter, nudge, read, run};
@@ -68,9 +68,9 @@ impl<A: Allocator> Model for StopTable<A> {
 
     ghost Value = { TableValue };
 
-    ghost view = { λ t. record { table = t.owner.shared.table_id; nr = t.nr; setting = t.setting } };
+    ghost view = { λ t. record { table = t.owner.table.shared.table_id; nr = t.nr; setting = t.setting } };
 
-    ghost invariant = { λ t. IsTable t.owner.shared.table_id t.owner.shared.key t.nr t.setting };
+    ghost invariant = { λ t. IsTable t.owner.table.shared.table_id t.owner.table.shared.key t.nr t.setting };
 }
 
 /// The CPU of a seat, if there is one.
@@ -101,7 +101,7 @@ where
     let online = setting.online;
     for number in 0..NR_CPUS {
         let is_online = online.contains(number);
-        let seat = next_seat(&owner.shared, &mut maker, number, is_online);
+        let seat = next_seat(owner.words(), &mut maker, number, is_online);
         waiting.push(cpu_if(seat, number))?;
     }
     let table = StopTable { owner, nr, setting };
@@ -168,7 +168,7 @@ impl<A: Allocator> StopTable<A> {
         ensures held { me.old.part.holds ≡ true → result ≡ false }
         ensures busy { result ≡ false → FindsHeld me.old }
     {
-        let taken = take_gate(&self.owner.shared, &mut me.seat, me.number);
+        let taken = take_gate(self.owner.words(), &mut me.seat, me.number);
         me.holds = me.holds || taken;
         taken
     }
@@ -182,7 +182,7 @@ impl<A: Allocator> StopTable<A> {
         if !me.holds {
             return Err(SmpError::BadArgument);
         }
-        leave_gate(&self.owner.shared, &mut me.seat, me.number);
+        leave_gate(self.owner.words(), &mut me.seat, me.number);
         me.holds = false;
         Ok(())
     }
@@ -211,7 +211,7 @@ impl<A: Allocator> StopTable<A> {
         if let Some(refusal) = terms.begin_refusal(work, me.is_open) {
             return Err(refusal);
         }
-        begin::begin(&self.owner.shared, &mut me.seat, me.number, &work);
+        begin::begin(self.owner.words(), &mut me.seat, me.number, &work);
         me.is_open = true;
         Ok(())
     }
@@ -227,7 +227,7 @@ impl<A: Allocator> StopTable<A> {
         if me.in_stop() || !has_slot(self.nr, slot) {
             return Err(SmpError::Stale);
         }
-        match enter::enter(&self.owner.shared, &mut me.seat, me.number, slot) {
+        match enter::enter(self.owner.words(), &mut me.seat, me.number, slot) {
             Some(visit) => {
                 me.visit = Some(visit);
                 Ok(visit.kind)
@@ -249,7 +249,7 @@ impl<A: Allocator> StopTable<A> {
             return Err(SmpError::BadArgument);
         }
         let answer = run::run_one(
-            &self.owner.shared,
+            self.owner.words(),
             &mut me.seat,
             me.number,
             visit.slot,
@@ -281,7 +281,7 @@ impl<A: Allocator> StopTable<A> {
         if visit.kind == Kind::One || visit.acked == EXIT {
             return Err(SmpError::BadArgument);
         }
-        let (visit, turn) = take_turn(&self.owner.shared, &mut me.seat, me.number, visit, func);
+        let (visit, turn) = take_turn(self.owner.words(), &mut me.seat, me.number, visit, func);
         me.visit = Some(visit);
         Ok(turn)
     }
@@ -298,7 +298,7 @@ impl<A: Allocator> StopTable<A> {
         if visit.kind == Kind::One || visit.acked != EXIT {
             return Err(SmpError::BadArgument);
         }
-        complete::finish(&self.owner.shared, &mut me.seat, visit.slot);
+        complete::finish(self.owner.words(), &mut me.seat, visit.slot);
         me.visit = None;
         Ok(())
     }
@@ -313,10 +313,10 @@ impl<A: Allocator> StopTable<A> {
         if !me.is_open {
             return Err(SmpError::BadArgument);
         }
-        if !is_done(&self.owner.shared, &mut me.seat, me.number) {
+        if !is_done(self.owner.words(), &mut me.seat, me.number) {
             return Ok(None);
         }
-        let word = collect(&self.owner.shared, &mut me.seat, me.number);
+        let word = collect(self.owner.words(), &mut me.seat, me.number);
         me.is_open = false;
         Ok(Some(((word % 0x1_0000_0000) as u32).cast_signed()))
     }
@@ -331,7 +331,7 @@ impl<A: Allocator> StopTable<A> {
         if k >= self.setting.labels.keys() || !me.interrupts_on() {
             return Err(SmpError::BadArgument);
         }
-        Ok(read::read_key(&self.owner.shared, &mut me.seat, k))
+        Ok(read::read_key(self.owner.words(), &mut me.seat, k))
     }
 
     /// What stands at a site, a NOP or a jump (`arch_static_branch`, `arch_static_branch_jump`), at a load of its word. E4
@@ -344,7 +344,7 @@ impl<A: Allocator> StopTable<A> {
         if i >= self.setting.labels.sites() || !me.interrupts_on() {
             return Err(SmpError::BadArgument);
         }
-        Ok(read::read_site(&self.owner.shared, &mut me.seat, i))
+        Ok(read::read_site(self.owner.words(), &mut me.seat, i))
     }
 
     /// Moves the count of a key by one, where the key stays on: up as the loop of `kernel/jump_label.c:
@@ -363,6 +363,6 @@ impl<A: Allocator> StopTable<A> {
         if !me.interrupts_on() || k >= self.setting.labels.keys() {
             return Err(SmpError::BadArgument);
         }
-        nudge::try_key(&self.owner.shared, &mut me.seat, k, up)
+        nudge::try_key(self.owner.words(), &mut me.seat, k, up)
     }
 }

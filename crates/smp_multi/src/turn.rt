@@ -7,10 +7,10 @@ ghost use Rattle.smp_multi.specs.Names.{One, Rests};
 ghost use Rattle.smp_multi.specs.Rounds.{AtTurn};
 ghost use Rattle.smp_multi.specs.Turns.{TurnAnswers};
 
+use crate::accesses::Words;
 use crate::func::StopFunc;
 use crate::patch::patch_on;
 use crate::round::{look, move_on};
-use crate::rule::Words;
 use crate::run_multi::run_on;
 use crate::seat::CpuSeat;
 use smp_stop_steps::mask::has_bit;
@@ -41,18 +41,18 @@ fn calls_at(state: u64, visit: Visit, number: u32) -> bool
 
 /// One turn.
 pub(crate) fn take_turn<F: StopFunc>(
-    words: &Words,
+    words: Words<'_>,
     seat: &mut CpuSeat,
     number: u32,
     visit: Visit,
     func: &mut F,
 ) -> (Visit, Turn)
-    requires at { AtTurn words.now.table_id seat.old visit visit.acked Rests }
+    requires at { AtTurn words.shared.now.table_id seat.old visit visit.acked Rests }
     requires more { visit.acked ≢ EXIT }
     requires several { visit.kind ≢ One }
     requires number { seat.old.known.number ≡ number }
     requires below { number < 64 }
-    ensures at { AtTurn words.now.table_id seat.new result.0 result.0.acked Rests }
+    ensures at { AtTurn words.entry.shared.now.table_id seat.new result.0 result.0.acked Rests }
     ensures lives { Lives seat.new.known }
     ensures answers { TurnAnswers F.leads seat.old.known seat.new.known visit result.0 func.old func.new result.1 }
 {

@@ -1,6 +1,6 @@
 -- What a stop answers in which the caller alone runs the function: its argument.
 use Rattle.std.proofs.Common.{◌≡◌, ℕ, ℤ, pos, ◌<◌, ◌-◌, ◌%◌, ◌^◌, nat_lt, Bool, true, if◌then◌else◌, Result, Ok, Err, IfOk, List, [], ◌∷◌, ◌++◌, map}
-use Rattle.std.proofs.Common.{arith, refl, sym, ap, subst, ◌∙◌}
+use Rattle.std.proofs.Common.{arith, sym, ap, ◌∙◌}
 use Rattle.std.specs.Int.{cast_signed, w32}
 use Rattle.std.proofs.lemmas.Bool.{lt-ltb}
 use Rattle.std.proofs.lemmas.Int.{to_z_pos}
@@ -12,10 +12,10 @@ use Rattle.smp_multi.specs.Answers.{answer_in}
 use Rattle.smp_multi.specs.Names.{OwnMove, StopCall, Work}
 use Rattle.smp_multi.specs.declared.func.Called.{Called}
 use Rattle.smp_machine.specs.MachineCpu.{MachineCpuValue}
-use Rattle.smp_machine.specs.Own.{Own}
-use Rattle.smp_machine.specs.OwnAnswers.{HasCalledFor, IsIn}
+use Rattle.smp_machine.specs.OwnAnswers.{HasCalledFor}
+use Rattle.smp_machine.specs.Seats.{SeatStopped, SeatValue}
 use Rattle.smp_machine.specs.Stops.{HasStopped}
-use Rattle.smp_machine.specs.Works.{HasRun, Works, stop_call}
+use Rattle.smp_machine.specs.Works.{HasRun, stop_call}
 use Rattle.smp_run.specs.Answers.{IsEcho, echo_of}
 
 -- a call of the function, whatever its value
@@ -60,11 +60,11 @@ module _ {H F : Type 0} (hears : H → Heard → H → Type 0) where
       s.answer_is ∙ (ap answer_in word ∙ echo_back arg low)
 
   -- a stop in which, by such a condition, the caller alone runs the function
-  pub own_answered : (moves : Work → ℕ → List OwnMove) (P : Work → Type 0) (old new : MachineCpuValue) (h h' : H) (f f' : F) (IsAlone IsOwn : Type 0) (func arg : ℕ)
+  pub own_answered : (moves : Work → ℕ → List OwnMove) (P : Work → Type 0) (old new : SeatValue H F) (IsAlone IsOwn : Type 0) (func arg : ℕ)
       (made : Result ℤ SmpError) → (IsAlone → IsOwn) → arg < 2 ^ 31
-      → IfOk made (λ v. (work : Work) × P work × HasStopped hears echoes moves work old h f new h' f' v)
-      → IfOk made (λ v. IsOwn → HasCalledFor func arg old.stops new.stops v)
+      → IfOk made (λ v. (work : Work) × P work × SeatStopped hears echoes moves work old new v)
+      → IfOk made (λ v. IsOwn → HasCalledFor func arg old.cpu.stops new.cpu.stops v)
       → IfOk made (λ v. IsAlone → v ≡ pos arg)
-  own_answered moves P old new h h' f f' IsAlone IsOwn func arg (Ok v) as_own low ok own =
-      λ alone. stop_answered moves ok.0 old new h h' f f' func arg v low ok.2 (own (as_own alone))
-  own_answered moves P old new h h' f f' IsAlone IsOwn func arg (Err e) as_own low ok own = tt
+  own_answered moves P old new IsAlone IsOwn func arg (Ok v) as_own low ok own =
+      λ alone. stop_answered moves ok.0 old.cpu new.cpu old.handler new.handler old.functions new.functions func arg v low ok.2 (own (as_own alone))
+  own_answered moves P old new IsAlone IsOwn func arg (Err e) as_own low ok own = tt

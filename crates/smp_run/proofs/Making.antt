@@ -11,14 +11,15 @@ use Rattle.smp_multi.specs.Cpu.{TableValue, CpuValue as StopCpuValue}
 use Rattle.smp_multi.specs.Names.{Work}
 use Rattle.smp_multi.specs.declared.func.Called.{Called}
 use Rattle.smp_machine.specs.Calls.{KeepsStops}
-use Rattle.smp_machine.specs.Counts.{CountsOr, PatchesByOne, step_of}
-use Rattle.smp_machine.specs.Keys.{IsPatchOf, Sets}
+use Rattle.smp_machine.specs.Counts.{PatchesByOne, step_of}
+use Rattle.smp_machine.specs.Keys.{IsPatchOf}
 use Rattle.smp_multi.specs.Names.{OwnMove}
 use Rattle.smp_stop_steps.specs.declared.known.OwnMove.TheVariants.{Took, Found}
 use Rattle.smp_machine.specs.Moves.{patch_after}
 use Rattle.smp_machine.specs.Own.{Own, own_of}
 use Rattle.smp_machine.specs.MachineCpu.{MachineValue, MachineCpuValue}
-use Rattle.smp_machine.specs.Stops.{HasStopped, RefusedStill}
+use Rattle.smp_machine.specs.Seats.{SeatCounts, SeatSets, SeatStopped, SeatValue}
+use Rattle.smp_machine.specs.Stops.{HasStopped}
 use Rattle.smp_machine.specs.Works.{Works}
 use Rattle.smp_script.specs.declared.directive.Directive.{Directive}
 use Rattle.smp_script.specs.declared.directive.Directive.TheVariants.{Do}
@@ -75,27 +76,30 @@ module _ {H F : Type 0} (hears : H → Heard → H → Type 0) (runs : F → Cal
     collected = ap (λ (o : Own). o.collected) s.works.own_is;
   }
 
-  pub makes_stop : (moves : Work → ℕ → List OwnMove) (P : Work → Type 0) (old new : MachineCpuValue) (h h' : H) (f f' : F) (made : Result ℤ SmpError)
-      → IfOk made (λ v. (work : Work) × P work × HasStopped hears runs moves work old h f new h' f' v)
-      → IfErr made (λ _. RefusedStill old h f new h' f')
-      → (stops : List Stop) × IsStopOf P (answer_of Number made) stops × HasMade stops old new
-  makes_stop moves P old new h h' f f' (Ok v) ok err =
-      let s = ok.2 in let stop : Stop = record { work = ok.0; word = s.word } in
-      (stop ∷ [], record { stop = stop; fits = ok.1; says = s.answer_is; stops_are = refl }, made_stop moves ok.0 old new h h' f f' v s)
-  makes_stop moves P old new h h' f f' (Err e) ok err = ([], refl, made_same old new err.kept)
+  pub makes_stop : (moves : Work → ℕ → List OwnMove) (P : Work → Type 0) (old new : SeatValue H F) (made : Result ℤ SmpError)
+      → IfOk made (λ v. (work : Work) × P work × SeatStopped hears runs moves work old new v) → IfErr made (λ _. new ≡ old)
+      → (stops : List Stop) × IsStopOf P (answer_of Number made) stops × HasMade stops old.cpu new.cpu
+  makes_stop moves P old new (Ok v) ok kept =
+      let s = ok.2 in let stop : Stop = record { work = ok.0; word = s.word } in (
+        stop ∷ [],
+        record { stop = stop; fits = ok.1; says = s.answer_is; stops_are = refl },
+        made_stop moves ok.0 old.cpu new.cpu old.handler new.handler old.functions new.functions v s,
+      )
+  makes_stop moves P old new (Err e) ok kept = ([], refl, made_same old.cpu new.cpu (ap (λ (s : SeatValue H F). s.cpu) kept))
 
   -- a key that is set
-  pub makes_set : (t : TableValue) (k : ℕ) (on : Bool) (old new : MachineCpuValue) (h h' : H) (f f' : F) (made : Result Bool SmpError)
-      → IfOk made (λ turned. Sets hears runs t k on old h f new h' f' turned) → IfErr made (λ _. RefusedStill old h f new h' f')
-      → Makes t (Set k on) (answer_of Turned made) old new
-  makes_set t k on old new h h' f f' (Ok false) sets err = ([], refl, made_worked old new h h' f f' _ sets.works refl refl)
-  makes_set t k on old new h h' f f' (Ok true) sets err =
+  pub makes_set : (k : ℕ) (on : Bool) (old new : SeatValue H F) (made : Result Bool SmpError)
+      → IfOk made (λ turned. SeatSets hears runs k on old new turned) → IfErr made (λ _. new ≡ old)
+      → Makes old.machine.stops (Set k on) (answer_of Turned made) old.cpu new.cpu
+  makes_set k on old new (Ok false) sets kept =
+      ([], refl, made_worked old.cpu new.cpu old.handler new.handler old.functions new.functions _ sets.works refl refl)
+  makes_set k on old new (Ok true) sets kept =
       let s = sets.stopped in let stop : Stop = record { work = sets.work; word = s.word } in (
         stop ∷ [],
         record { stop = stop; fits = sets.patch; says = tt; stops_are = refl },
-        made_stop (patch_after (Took ∷ Found k sets.count ∷ [])) sets.work old new h h' f f' sets.answer s,
+        made_stop (patch_after (Took ∷ Found k sets.count ∷ [])) sets.work old.cpu new.cpu old.handler new.handler old.functions new.functions sets.answer s,
       )
-  makes_set t k on old new h h' f f' (Err e) sets err = ([], refl, made_same old new err.kept)
+  makes_set k on old new (Err e) sets kept = ([], refl, made_same old.cpu new.cpu (ap (λ (s : SeatValue H F). s.cpu) kept))
 
   -- a patch by one
   patch_made : (t : TableValue) (k : ℕ) (up : Bool) (Says : ℤ → Type 0) (first : List OwnMove) (old new : MachineCpuValue) (h h' : H) (f f' : F) (answer : ℤ)
@@ -109,26 +113,30 @@ module _ {H F : Type 0} (hears : H → Heard → H → Type 0) (runs : F → Cal
       )
 
   -- a key that is counted
-  pub makes_count : (t : TableValue) (k : ℕ) (up : Bool) (old new : MachineCpuValue) (h h' : H) (f f' : F) (made : Result Bool SmpError)
-      → CountsOr hears runs t k up old h f new h' f' made
-      → (stops : List Stop) × IsStopOfCount (IsPatchOf t k (step_of up)) (answer_of Turned made) stops × HasMade stops old new
-  makes_count t k up old new h h' f f' (Ok false) c = ([], refl, made_worked old new h h' f f' _ c.1.works refl refl)
-  makes_count t k up old new h h' f f' (Ok true) c = patch_made t k up (λ x. x ≡ pos 0) c.1.moves old new h h' f f' (pos 0) refl c.1.patches
-  makes_count t k up old new h h' f f' (Err (error.KeyRange e)) (may, (is, inl edge)) = ([], inl refl, made_worked old new h h' f f' _ edge.works refl refl)
-  makes_count t k up old new h h' f f' (Err (error.KeyRange e)) (may, (is, inr patched)) =
-      let p = patch_made t k up (λ x. x ≢ pos 0) patched.2.moves old new h h' f f' patched.0 patched.1 patched.2.patches in (p.0, inr p.1, p.2)
-  makes_count t k up old new h h' f f' (Err error.BadArgument) c = ([], refl, made_same old new c.1.kept)
-  makes_count t k up old new h h' f f' (Err error.NoStopper) c = absurd c.1
-  makes_count t k up old new h h' f f' (Err error.NoCpu) c = absurd c.1
-  makes_count t k up old new h h' f f' (Err error.Busy) c = absurd c.1
-  makes_count t k up old new h h' f f' (Err error.Contended) c = absurd c.1
-  makes_count t k up old new h h' f f' (Err error.NoMemory) c = absurd c.1
-  makes_count t k up old new h h' f f' (Err error.Stale) c = absurd c.1
-  makes_count t k up old new h h' f f' (Err error.SlotBusy) c = absurd c.1
-  makes_count t k up old new h h' f f' (Err (error.BadScript n cause)) c = absurd c.1
-  makes_count t k up old new h h' f f' (Err error.IdleStep) c = absurd c.1
-  makes_count t k up old new h h' f f' (Err (error.BadMask n)) c = absurd c.1
-  makes_count t k up old new h h' f f' (Err (error.StreamFailed n)) c = absurd c.1
+  pub makes_count : (k : ℕ) (up : Bool) (old new : SeatValue H F) (made : Result Bool SmpError) → SeatCounts hears runs k up old new made
+      → (stops : List Stop) × IsStopOfCount (IsPatchOf old.machine.stops k (step_of up)) (answer_of Turned made) stops × HasMade stops old.cpu new.cpu
+  makes_count k up old new (Ok false) c =
+      ([], refl, made_worked old.cpu new.cpu old.handler new.handler old.functions new.functions _ c.1.works refl refl)
+  makes_count k up old new (Ok true) c =
+      patch_made old.machine.stops k up (λ x. x ≡ pos 0) c.1.moves old.cpu new.cpu old.handler new.handler old.functions new.functions (pos 0) refl c.1.patches
+  makes_count k up old new (Err (error.KeyRange e)) (may, (is, inl edge)) =
+      ([], inl refl, made_worked old.cpu new.cpu old.handler new.handler old.functions new.functions _ edge.works refl refl)
+  makes_count k up old new (Err (error.KeyRange e)) (may, (is, inr patched)) =
+      let p = patch_made old.machine.stops k up (λ x. x ≢ pos 0) patched.2.moves old.cpu new.cpu old.handler new.handler old.functions new.functions
+      patched.0 patched.1 patched.2.patches in
+      (p.0, inr p.1, p.2)
+  makes_count k up old new (Err error.BadArgument) c = ([], refl, made_same old.cpu new.cpu c.1.kept)
+  makes_count k up old new (Err error.NoStopper) c = absurd c.1
+  makes_count k up old new (Err error.NoCpu) c = absurd c.1
+  makes_count k up old new (Err error.Busy) c = absurd c.1
+  makes_count k up old new (Err error.Contended) c = absurd c.1
+  makes_count k up old new (Err error.NoMemory) c = absurd c.1
+  makes_count k up old new (Err error.Stale) c = absurd c.1
+  makes_count k up old new (Err error.SlotBusy) c = absurd c.1
+  makes_count k up old new (Err (error.BadScript n cause)) c = absurd c.1
+  makes_count k up old new (Err error.IdleStep) c = absurd c.1
+  makes_count k up old new (Err (error.BadMask n)) c = absurd c.1
+  makes_count k up old new (Err (error.StreamFailed n)) c = absurd c.1
 
 -- a list with one element more
 pub all_more : {X : Type 0} (P : X → Type 0) (xs : List X) (x : X) → AllByRecursion P xs → P x → AllByRecursion P (xs ++ x ∷ [])

@@ -5,17 +5,15 @@ use Rattle.smp_mask.specs.declared.error.SmpError.{SmpError}
 use Rattle.smp_mask.specs.declared.error.SmpError.TheVariants as error
 use Rattle.smp_queue.specs.Cpu.{CpuValue as CallCpuValue}
 use Rattle.smp_queue.specs.declared.handler.Heard.{Heard}
-use Rattle.smp_multi.specs.Cpu.{TableValue, IsAt as IsAtStops}
+use Rattle.smp_multi.specs.Cpu.{IsAt as IsAtStops}
 use Rattle.smp_multi.specs.Names.{Work}
 use Rattle.smp_multi.specs.declared.func.Called.{Called}
 use Rattle.smp_machine.specs.Calls.{KeepsStops}
-use Rattle.smp_machine.specs.Counts.{CountsOr}
-use Rattle.smp_machine.specs.Keys.{Sets}
 use Rattle.smp_multi.specs.Names.{OwnMove}
 use Rattle.smp_machine.specs.Own.{Own}
 use Rattle.smp_machine.specs.Passes.{PassesValue}
 use Rattle.smp_machine.specs.MachineCpu.{MachineValue, MachineCpuValue}
-use Rattle.smp_machine.specs.Stops.{HasStopped, RefusedStill}
+use Rattle.smp_machine.specs.Seats.{IsSameSeat, SeatCounts, SeatSets, SeatStopped, SeatValue}
 use Rattle.smp_machine.specs.Works.{Works}
 use Rattle.smp_machine.proofs.Works.{at_still}
 use Rattle.smp_run.specs.Seats.{IsSeated, IsStill}
@@ -41,8 +39,13 @@ still_called m old new k seated = record {
   number_is = k.same.number_is;
 }
 
-pub seated_called : (m : MachineValue) (old new : MachineCpuValue) → KeepsStops old new → IsSeated m old → IsSeated m new
-seated_called m old new k seated = (still_called m old new k seated).seated
+-- the same CPU, at the same machine
+pub seated_still : {H F : Type 0} (old new : SeatValue H F) → IsSameSeat old new → IsStill old.machine old.cpu new.cpu → IsSeated new.machine new.cpu
+seated_still old new same still = subst (λ (m : MachineValue). IsSeated m new.cpu) (sym same.machine_is) still.seated
+
+pub seated_called : {H F : Type 0} (old new : SeatValue H F) → KeepsStops old.cpu new.cpu → IsSameSeat old new → IsSeated old.machine old.cpu
+    → IsSeated new.machine new.cpu
+seated_called old new k same seated = seated_still old new same (still_called old.machine old.cpu new.cpu k seated)
 
 module _ {H F : Type 0} (hears : H → Heard → H → Type 0) (runs : F → Called → F → Type 0) where
   -- a stretch of work, after which it is in no stop
@@ -63,9 +66,17 @@ module _ {H F : Type 0} (hears : H → Heard → H → Type 0) (runs : F → Cal
   abbrev pub Quiet : MachineCpuValue → H → F → MachineCpuValue → H → F → Type 0
   Quiet old h f new h' f' = ((own : Own) × Works hears runs old h f new h' f' own × (new.stops.inside ≡ None)) ⊎ (new ≡ old)
 
-  pub still_quiet : (m : MachineValue) (old new : MachineCpuValue) (h h' : H) (f f' : F) → Quiet old h f new h' f' → IsSeated m old → IsStill m old new
+  abbrev pub QuietSeat : SeatValue H F → SeatValue H F → Type 0
+  QuietSeat old new = Quiet old.cpu old.handler old.functions new.cpu new.handler new.functions
+
+  still_quiet : (m : MachineValue) (old new : MachineCpuValue) (h h' : H) (f f' : F) → Quiet old h f new h' f' → IsSeated m old → IsStill m old new
   still_quiet m old new h h' f f' (inl (own, w, outside)) seated = still_worked m old new h h' f f' own w outside seated
   still_quiet m old new h h' f f' (inr same) seated = still_same m old new same seated
+
+  seated_quiet : (old new : SeatValue H F) → QuietSeat old new → IsSameSeat old new → IsSeated old.machine old.cpu → IsSeated new.machine new.cpu
+  seated_quiet old new q same seated =
+      seated_still old new same
+      (still_quiet old.machine old.cpu new.cpu old.handler new.handler old.functions new.functions q seated)
 
   pub sent_worked : (old new : MachineCpuValue) (h h' : H) (f f' : F) (own : Own) → Works hears runs old h f new h' f' own → HasSent [] old new
   sent_worked old new h h' f f' own w = sent_none old new (ap (λ (x : CallCpuValue). x.part.sent) w.calls_kept)
@@ -74,78 +85,75 @@ module _ {H F : Type 0} (hears : H → Heard → H → Type 0) (runs : F → Cal
   sent_quiet old new h h' f f' (inl (own, w, outside)) = sent_worked old new h h' f f' own w
   sent_quiet old new h h' f f' (inr same) = sent_none old new (ap (λ (x : MachineCpuValue). x.calls.part.sent) same)
 
+  sent_quietly : (old new : SeatValue H F) → QuietSeat old new → HasSent [] old.cpu new.cpu
+  sent_quietly old new q = sent_quiet old.cpu new.cpu old.handler new.handler old.functions new.functions q
+
   -- a stop
-  pub quiet_stopped : (moves : Work → ℕ → List OwnMove) (P : Work → Type 0) (old new : MachineCpuValue) (h h' : H) (f f' : F) (made : Result ℤ SmpError)
-      → IfOk made (λ v. (work : Work) × P work × HasStopped hears runs moves work old h f new h' f' v)
-      → IfErr made (λ _. RefusedStill old h f new h' f') → Quiet old h f new h' f'
-  quiet_stopped moves P old new h h' f f' (Ok v) ok err = inl (_, ok.2.works, ok.2.outside)
-  quiet_stopped moves P old new h h' f f' (Err e) ok err = inr err.kept
+  pub quiet_stopped : (moves : Work → ℕ → List OwnMove) (P : Work → Type 0) (old new : SeatValue H F) (made : Result ℤ SmpError)
+      → IfOk made (λ v. (work : Work) × P work × SeatStopped hears runs moves work old new v) → IfErr made (λ _. new ≡ old) → QuietSeat old new
+  quiet_stopped moves P old new (Ok v) ok kept = inl (_, ok.2.works, ok.2.outside)
+  quiet_stopped moves P old new (Err e) ok kept = inr (ap (λ (s : SeatValue H F). s.cpu) kept)
 
-  pub still_stopped : (m : MachineValue) (moves : Work → ℕ → List OwnMove) (P : Work → Type 0) (old new : MachineCpuValue) (h h' : H) (f f' : F)
-      (made : Result ℤ SmpError)
-      → IfOk made (λ v. (work : Work) × P work × HasStopped hears runs moves work old h f new h' f' v)
-      → IfErr made (λ _. RefusedStill old h f new h' f') → IsSeated m old → IsStill m old new
-  still_stopped m moves P old new h h' f f' made ok err seated =
-      still_quiet m old new h h' f f' (quiet_stopped moves P old new h h' f f' made ok err) seated
+  pub seated_stopped : (moves : Work → ℕ → List OwnMove) (P : Work → Type 0) (old new : SeatValue H F) (made : Result ℤ SmpError)
+      → IfOk made (λ v. (work : Work) × P work × SeatStopped hears runs moves work old new v) → IfErr made (λ _. new ≡ old)
+      → IsSameSeat old new → IsSeated old.machine old.cpu → IsSeated new.machine new.cpu
+  seated_stopped moves P old new made ok kept same seated = seated_quiet old new (quiet_stopped moves P old new made ok kept) same seated
 
-  pub sent_stopped : (moves : Work → ℕ → List OwnMove) (P : Work → Type 0) (old new : MachineCpuValue) (h h' : H) (f f' : F) (made : Result ℤ SmpError)
-      → IfOk made (λ v. (work : Work) × P work × HasStopped hears runs moves work old h f new h' f' v)
-      → IfErr made (λ _. RefusedStill old h f new h' f') → HasSent [] old new
-  sent_stopped moves P old new h h' f f' made ok err = sent_quiet old new h h' f f' (quiet_stopped moves P old new h h' f f' made ok err)
+  pub sent_stopped : (moves : Work → ℕ → List OwnMove) (P : Work → Type 0) (old new : SeatValue H F) (made : Result ℤ SmpError)
+      → IfOk made (λ v. (work : Work) × P work × SeatStopped hears runs moves work old new v) → IfErr made (λ _. new ≡ old)
+      → HasSent [] old.cpu new.cpu
+  sent_stopped moves P old new made ok kept = sent_quietly old new (quiet_stopped moves P old new made ok kept)
 
   -- a key that is set
-  pub quiet_set : (t : TableValue) (k : ℕ) (on : Bool) (old new : MachineCpuValue) (h h' : H) (f f' : F) (made : Result Bool SmpError)
-      → IfOk made (λ turned. Sets hears runs t k on old h f new h' f' turned) → IfOk made (λ _. new.stops.inside ≡ None)
-      → IfErr made (λ _. RefusedStill old h f new h' f') → Quiet old h f new h' f'
-  quiet_set t k on old new h h' f f' (Ok false) sets outside err = inl (_, sets.works, outside)
-  quiet_set t k on old new h h' f f' (Ok true) sets outside err = inl (_, sets.stopped.works, outside)
-  quiet_set t k on old new h h' f f' (Err e) sets outside err = inr err.kept
+  pub quiet_set : (k : ℕ) (on : Bool) (old new : SeatValue H F) (made : Result Bool SmpError)
+      → IfOk made (λ turned. SeatSets hears runs k on old new turned) → IfOk made (λ _. new.cpu.stops.inside ≡ None) → IfErr made (λ _. new ≡ old)
+      → QuietSeat old new
+  quiet_set k on old new (Ok false) sets outside kept = inl (_, sets.works, outside)
+  quiet_set k on old new (Ok true) sets outside kept = inl (_, sets.stopped.works, outside)
+  quiet_set k on old new (Err e) sets outside kept = inr (ap (λ (s : SeatValue H F). s.cpu) kept)
 
-  pub still_set : (m : MachineValue) (t : TableValue) (k : ℕ) (on : Bool) (old new : MachineCpuValue) (h h' : H) (f f' : F) (made : Result Bool SmpError)
-      → IfOk made (λ turned. Sets hears runs t k on old h f new h' f' turned) → IfOk made (λ _. new.stops.inside ≡ None)
-      → IfErr made (λ _. RefusedStill old h f new h' f') → IsSeated m old → IsStill m old new
-  still_set m t k on old new h h' f f' made sets outside err seated =
-      still_quiet m old new h h' f f' (quiet_set t k on old new h h' f f' made sets outside err) seated
+  pub seated_set : (k : ℕ) (on : Bool) (old new : SeatValue H F) (made : Result Bool SmpError)
+      → IfOk made (λ turned. SeatSets hears runs k on old new turned) → IfOk made (λ _. new.cpu.stops.inside ≡ None) → IfErr made (λ _. new ≡ old)
+      → IsSameSeat old new → IsSeated old.machine old.cpu → IsSeated new.machine new.cpu
+  seated_set k on old new made sets outside kept same seated = seated_quiet old new (quiet_set k on old new made sets outside kept) same seated
 
-  pub sent_set : (t : TableValue) (k : ℕ) (on : Bool) (old new : MachineCpuValue) (h h' : H) (f f' : F) (made : Result Bool SmpError)
-      → IfOk made (λ turned. Sets hears runs t k on old h f new h' f' turned) → IfOk made (λ _. new.stops.inside ≡ None)
-      → IfErr made (λ _. RefusedStill old h f new h' f') → HasSent [] old new
-  sent_set t k on old new h h' f f' made sets outside err = sent_quiet old new h h' f f' (quiet_set t k on old new h h' f f' made sets outside err)
+  pub sent_set : (k : ℕ) (on : Bool) (old new : SeatValue H F) (made : Result Bool SmpError)
+      → IfOk made (λ turned. SeatSets hears runs k on old new turned) → IfOk made (λ _. new.cpu.stops.inside ≡ None) → IfErr made (λ _. new ≡ old)
+      → HasSent [] old.cpu new.cpu
+  sent_set k on old new made sets outside kept = sent_quietly old new (quiet_set k on old new made sets outside kept)
 
   -- a key that is counted
-  pub quiet_counted : (t : TableValue) (k : ℕ) (up : Bool) (old new : MachineCpuValue) (h h' : H) (f f' : F) (made : Result Bool SmpError)
-      → CountsOr hears runs t k up old h f new h' f' made → Quiet old h f new h' f'
-  quiet_counted t k up old new h h' f f' (Ok false) c = inl (_, c.1.works, c.1.outside)
-  quiet_counted t k up old new h h' f f' (Ok true) c = inl (_, c.1.patches.stopped.works, c.1.patches.stopped.outside)
-  quiet_counted t k up old new h h' f f' (Err (error.KeyRange e)) (may, (is, inl edge)) = inl (_, edge.works, edge.outside)
-  quiet_counted t k up old new h h' f f' (Err (error.KeyRange e)) (may, (is, inr patched)) =
+  pub quiet_counted : (k : ℕ) (up : Bool) (old new : SeatValue H F) (made : Result Bool SmpError) → SeatCounts hears runs k up old new made
+      → QuietSeat old new
+  quiet_counted k up old new (Ok false) c = inl (_, c.1.works, c.1.outside)
+  quiet_counted k up old new (Ok true) c = inl (_, c.1.patches.stopped.works, c.1.patches.stopped.outside)
+  quiet_counted k up old new (Err (error.KeyRange e)) (may, (is, inl edge)) = inl (_, edge.works, edge.outside)
+  quiet_counted k up old new (Err (error.KeyRange e)) (may, (is, inr patched)) =
       inl (_, patched.2.patches.stopped.works, patched.2.patches.stopped.outside)
-  quiet_counted t k up old new h h' f f' (Err error.BadArgument) c = inr c.1.kept
-  quiet_counted t k up old new h h' f f' (Err error.NoStopper) c = absurd c.1
-  quiet_counted t k up old new h h' f f' (Err error.NoCpu) c = absurd c.1
-  quiet_counted t k up old new h h' f f' (Err error.Busy) c = absurd c.1
-  quiet_counted t k up old new h h' f f' (Err error.Contended) c = absurd c.1
-  quiet_counted t k up old new h h' f f' (Err error.NoMemory) c = absurd c.1
-  quiet_counted t k up old new h h' f f' (Err error.Stale) c = absurd c.1
-  quiet_counted t k up old new h h' f f' (Err error.SlotBusy) c = absurd c.1
-  quiet_counted t k up old new h h' f f' (Err (error.BadScript n cause)) c = absurd c.1
-  quiet_counted t k up old new h h' f f' (Err error.IdleStep) c = absurd c.1
-  quiet_counted t k up old new h h' f f' (Err (error.BadMask n)) c = absurd c.1
-  quiet_counted t k up old new h h' f f' (Err (error.StreamFailed n)) c = absurd c.1
+  quiet_counted k up old new (Err error.BadArgument) c = inr c.1.kept
+  quiet_counted k up old new (Err error.NoStopper) c = absurd c.1
+  quiet_counted k up old new (Err error.NoCpu) c = absurd c.1
+  quiet_counted k up old new (Err error.Busy) c = absurd c.1
+  quiet_counted k up old new (Err error.Contended) c = absurd c.1
+  quiet_counted k up old new (Err error.NoMemory) c = absurd c.1
+  quiet_counted k up old new (Err error.Stale) c = absurd c.1
+  quiet_counted k up old new (Err error.SlotBusy) c = absurd c.1
+  quiet_counted k up old new (Err (error.BadScript n cause)) c = absurd c.1
+  quiet_counted k up old new (Err error.IdleStep) c = absurd c.1
+  quiet_counted k up old new (Err (error.BadMask n)) c = absurd c.1
+  quiet_counted k up old new (Err (error.StreamFailed n)) c = absurd c.1
 
-  pub still_counted : (m : MachineValue) (t : TableValue) (k : ℕ) (up : Bool) (old new : MachineCpuValue) (h h' : H) (f f' : F) (made : Result Bool SmpError)
-      → CountsOr hears runs t k up old h f new h' f' made → IsSeated m old → IsStill m old new
-  still_counted m t k up old new h h' f f' made c seated = still_quiet m old new h h' f f' (quiet_counted t k up old new h h' f f' made c) seated
+  pub seated_counted : (k : ℕ) (up : Bool) (old new : SeatValue H F) (made : Result Bool SmpError) → SeatCounts hears runs k up old new made
+      → IsSameSeat old new → IsSeated old.machine old.cpu → IsSeated new.machine new.cpu
+  seated_counted k up old new made c same seated = seated_quiet old new (quiet_counted k up old new made c) same seated
 
-  pub sent_counted : (t : TableValue) (k : ℕ) (up : Bool) (old new : MachineCpuValue) (h h' : H) (f f' : F) (made : Result Bool SmpError)
-      → CountsOr hears runs t k up old h f new h' f' made → HasSent [] old new
-  sent_counted t k up old new h h' f f' made c = sent_quiet old new h h' f f' (quiet_counted t k up old new h h' f f' made c)
+  pub sent_counted : (k : ℕ) (up : Bool) (old new : SeatValue H F) (made : Result Bool SmpError) → SeatCounts hears runs k up old new made
+      → HasSent [] old.cpu new.cpu
+  sent_counted k up old new made c = sent_quietly old new (quiet_counted k up old new made c)
 
-  -- the same, part by part
-  pub seated_worked : (m : MachineValue) (old new : MachineCpuValue) (h h' : H) (f f' : F) (own : Own) → Works hears runs old h f new h' f' own
-      → new.stops.inside ≡ None → IsSeated m old → IsSeated m new
-  seated_worked m old new h h' f f' own w outside seated = (still_worked m old new h h' f f' own w outside seated).seated
-
-  pub number_worked : (old new : MachineCpuValue) (h h' : H) (f f' : F) (own : Own) → Works hears runs old h f new h' f' own
-      → new.calls.number ≡ old.calls.number
-  number_worked old new h h' f f' own w = ap (λ (x : CallCpuValue). x.number) w.calls_kept
+  -- a stretch of work of a seat
+  pub seated_worked : (old new : SeatValue H F) (own : Own) → Works hears runs old.cpu old.handler old.functions new.cpu new.handler new.functions own
+      → new.cpu.stops.inside ≡ None → IsSameSeat old new → IsSeated old.machine old.cpu → IsSeated new.machine new.cpu
+  seated_worked old new own w outside same seated =
+      seated_still old new same
+      (still_worked old.machine old.cpu new.cpu old.handler new.handler old.functions new.functions own w outside seated)

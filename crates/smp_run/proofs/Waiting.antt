@@ -1,9 +1,9 @@
 -- Calls that wait have ended.
-use Rattle.std.proofs.Common.{◌≡◌, ◌≢◌, ◌⊎◌, ℕ, ℤ, zero, suc, ◌<◌, ◌≤◌, inl, inr, not, ◌&&◌, ◌||◌, ◌==◌, Bool, true, false, None, Some, Option, Result, Ok, Err, IfOk, IfErr}
+use Rattle.std.proofs.Common.{◌≡◌, ◌≢◌, ◌⊎◌, ℕ, ℤ, zero, suc, ◌<◌, inl, inr, not, ◌&&◌, ◌||◌, ◌==◌, Bool, true, false, None, Some, Option, Result, Ok, Err, IfOk, IfErr}
 use Rattle.std.proofs.Common.{if◌then◌else◌, List, [], ◌∷◌, ◌++◌, slice_index_or, slice_set, refl, sym, ap, ◌∙◌, subst}
 use Rattle.std.proofs.lemmas.Bool.{cases_eq, or_right}
 use Rattle.std.proofs.lemmas.List.{append-nil}
-use Rattle.smp_mask.specs.Mask.{has, members}
+use Rattle.smp_mask.specs.Mask.{has}
 use Rattle.smp_mask.specs.declared.error.SmpError.{SmpError}
 use Rattle.smp_mask.specs.declared.error.SmpError.TheVariants as error
 use Rattle.smp_words.specs.Size.{records_of_one, record_of}
@@ -13,23 +13,20 @@ use Rattle.smp_words.specs.declared.call.Class.TheVariants.{Async}
 use Rattle.smp_call_steps.specs.declared.known.Sending.{Sending}
 use Rattle.smp_queue.specs.Cpu.{CpuValue, confirmed_at, confirms, looks}
 use Rattle.smp_queue.specs.declared.handler.Heard.{Heard}
-use Rattle.smp_calls.specs.Families.{Calls, CallsBy, CallsHere, CallsMany, CallsOne, CallsUserHere, CallsWith, QueuesNone, RefusesUser}
+use Rattle.smp_calls.specs.Families.{CallsBy, CallsHere, CallsMany, CallsOne, CallsUserHere, CallsWith, QueuesNone, RefusesUser}
 use Rattle.smp_calls.specs.Queued.{Queued, is_used, sendings}
-use Rattle.smp_calls.specs.Records.{call_by, class_for, many_call, single_record, user_record}
-use Rattle.smp_calls.specs.Targets.{HasNone, remote}
-use Rattle.smp_multi.specs.Cpu.{TableValue}
+use Rattle.smp_calls.specs.Records.{call_by, class_for, many_call, user_record}
+use Rattle.smp_calls.specs.Targets.{HasNone}
 use Rattle.smp_multi.specs.Names.{Work}
 use Rattle.smp_multi.specs.declared.func.Called.{Called}
 use Rattle.smp_machine.specs.Calls.{RefusedInHand}
-use Rattle.smp_machine.specs.Counts.{CountsOr}
-use Rattle.smp_machine.specs.Keys.{Sets}
 use Rattle.smp_multi.specs.Names.{OwnMove}
 use Rattle.smp_machine.specs.Own.{Own}
 use Rattle.smp_machine.specs.MachineCpu.{MachineValue, MachineCpuValue, fresh_place}
-use Rattle.smp_machine.specs.Stops.{HasStopped, RefusedStill}
+use Rattle.smp_machine.specs.Seats.{SeatCounts, SeatSets, SeatStopped, SeatValue}
 use Rattle.smp_machine.specs.Works.{Works}
 use Rattle.smp_run.specs.Sent.{HasWaited, is_sync, is_waited}
-use Rattle.smp_run.proofs.Staying.{Quiet, quiet_counted, quiet_set, quiet_stopped}
+use Rattle.smp_run.proofs.Staying.{Quiet, QuietSeat, quiet_counted, quiet_set, quiet_stopped}
 
 waited_then : (was : Bool) (id : ℕ) (xs ys : List Sending) → is_waited was id (xs ++ ys) ≡ is_waited (is_waited was id xs) id ys
 waited_then was id [] ys = refl
@@ -213,19 +210,19 @@ module _ {H F : Type 0} (hears : H → Heard → H → Type 0) (runs : F → Cal
   waited_quiet old new h h' f f' (inl (own, w, outside)) was = waited_worked old new h h' f f' own w was
   waited_quiet old new h h' f f' (inr same) was = subst (λ (p : MachineCpuValue). HasWaited p) (sym same) was
 
-  pub waited_stopped : (moves : Work → ℕ → List OwnMove) (P : Work → Type 0) (old new : MachineCpuValue) (h h' : H) (f f' : F) (made : Result ℤ SmpError)
-      → IfOk made (λ v. (work : Work) × P work × HasStopped hears runs moves work old h f new h' f' v)
-      → IfErr made (λ _. RefusedStill old h f new h' f') → HasWaited old → HasWaited new
-  waited_stopped moves P old new h h' f f' made ok err was =
-      waited_quiet old new h h' f f' (quiet_stopped hears runs moves P old new h h' f f' made ok err) was
+  waited_quietly : (old new : SeatValue H F) → QuietSeat hears runs old new → HasWaited old.cpu → HasWaited new.cpu
+  waited_quietly old new q was = waited_quiet old.cpu new.cpu old.handler new.handler old.functions new.functions q was
 
-  pub waited_set : (t : TableValue) (k : ℕ) (on : Bool) (old new : MachineCpuValue) (h h' : H) (f f' : F) (made : Result Bool SmpError)
-      → IfOk made (λ turned. Sets hears runs t k on old h f new h' f' turned) → IfOk made (λ _. new.stops.inside ≡ None)
-      → IfErr made (λ _. RefusedStill old h f new h' f') → HasWaited old → HasWaited new
-  waited_set t k on old new h h' f f' made sets outside err was =
-      waited_quiet old new h h' f f' (quiet_set hears runs t k on old new h h' f f' made sets outside err) was
+  pub waited_stopped : (moves : Work → ℕ → List OwnMove) (P : Work → Type 0) (old new : SeatValue H F) (made : Result ℤ SmpError)
+      → IfOk made (λ v. (work : Work) × P work × SeatStopped hears runs moves work old new v) → IfErr made (λ _. new ≡ old)
+      → HasWaited old.cpu → HasWaited new.cpu
+  waited_stopped moves P old new made ok kept was = waited_quietly old new (quiet_stopped hears runs moves P old new made ok kept) was
 
-  pub waited_counted : (t : TableValue) (k : ℕ) (up : Bool) (old new : MachineCpuValue) (h h' : H) (f f' : F) (made : Result Bool SmpError)
-      → CountsOr hears runs t k up old h f new h' f' made → HasWaited old → HasWaited new
-  waited_counted t k up old new h h' f f' made c was =
-      waited_quiet old new h h' f f' (quiet_counted hears runs t k up old new h h' f f' made c) was
+  pub waited_set : (k : ℕ) (on : Bool) (old new : SeatValue H F) (made : Result Bool SmpError)
+      → IfOk made (λ turned. SeatSets hears runs k on old new turned) → IfOk made (λ _. new.cpu.stops.inside ≡ None) → IfErr made (λ _. new ≡ old)
+      → HasWaited old.cpu → HasWaited new.cpu
+  waited_set k on old new made sets outside kept was = waited_quietly old new (quiet_set hears runs k on old new made sets outside kept) was
+
+  pub waited_counted : (k : ℕ) (up : Bool) (old new : SeatValue H F) (made : Result Bool SmpError) → SeatCounts hears runs k up old new made
+      → HasWaited old.cpu → HasWaited new.cpu
+  waited_counted k up old new made c was = waited_quietly old new (quiet_counted hears runs k up old new made c) was

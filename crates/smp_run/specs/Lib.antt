@@ -6,7 +6,6 @@ pub mod Sent
 pub mod Seats
 -- which stops its lines ask for
 pub mod Made
-pub mod Players
 -- what threads are given and give back
 pub mod Driven
 -- what they promise

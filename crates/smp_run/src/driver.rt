@@ -1,11 +1,11 @@
 //! What the thread of one CPU does.
 
 ghost use Rattle.std.specs.Prelude.{◌≡◌, ◌<◌, ◌≤◌, List, [], length};
+ghost use Rattle.smp_machine.specs.Seats.{IsSameSeat};
 ghost use Rattle.smp_script.specs.Spelling.{RequestFits};
 ghost use Rattle.smp_run.specs.Answers.{Answered, IsAnswer, IsLineAnswer, cpu_of};
 ghost use Rattle.smp_run.specs.Driven.{IsDriven, IsNew, IsReady};
 ghost use Rattle.smp_run.specs.Made.{AreMakings, HasMade, HasPlayed, IsLineMade, Making, stops_of};
-ghost use Rattle.smp_run.specs.Players.{IsSame};
 ghost use Rattle.smp_run.specs.Seats.{AreLines, IsRunLine, keys_at};
 ghost use Rattle.smp_run.specs.Sent.{HasSent, line_calls, repeated, request_calls, script_calls};
 
@@ -28,37 +28,37 @@ pub struct Seat {
     pub answers: Vec<Answer, Global>,
 }
 
-impl<'a, P: Pace> Player<'a, P> {
+impl<'a, R: Wait, P: Pace> Player<'a, R, P> {
     /// Makes what a request asks for, this number of times. Returns the last answer.
-    fn repeat<R: Wait>(&mut self, rt: &R, count: u32, request: &Request) -> Answer
+    fn repeat(&mut self, count: u32, request: &Request) -> Answer
         requires count { 1 ≤ count }
         requires fits { RequestFits request.now }
-        ensures same { IsSame self.old self.new }
-        ensures answer { IsAnswer self.old.machine.now.calls.online (keys_at self.old.machine.now) self.old.cpu.calls.number request.now result }
-        ensures sent { HasSent (repeated count (request_calls self.old.machine.now.calls.online self.old.cpu.calls.number request.now))
-            self.old.cpu self.new.cpu }
-        ensures made { (makings : List Making) × AreMakings self.old.machine.now self.old.cpu.calls.number request.now count result makings
-            × HasMade (stops_of makings) self.old.cpu self.new.cpu }
+        ensures same { IsSameSeat self.old.seat self.new.seat }
+        ensures answer { IsAnswer self.old.seat.machine.calls.online (keys_at self.old.seat.machine) self.old.seat.cpu.calls.number request.now result }
+        ensures sent { HasSent (repeated count (request_calls self.old.seat.machine.calls.online self.old.seat.cpu.calls.number request.now))
+            self.old.seat.cpu self.new.seat.cpu }
+        ensures made { (makings : List Making) × AreMakings self.old.seat.machine self.old.seat.cpu.calls.number request.now count result makings
+            × HasMade (stops_of makings) self.old.seat.cpu self.new.seat.cpu }
     {
         for _made in 1..count {
-            self.make(rt, *request);
+            self.make(*request);
         }
-        self.make(rt, *request)
+        self.make(*request)
     }
 
     /// Answers a line, where it is the CPU's own.
-    fn answer_if<R: Wait>(&mut self, rt: &R, line: &Directive, answer: &mut Answer)
-        requires { IsRunLine self.old.machine.now.calls.online line.now }
-        ensures same { IsSame self.old self.new }
-        ensures answered { cpu_of line.now ≡ self.old.cpu.calls.number →
-            IsLineAnswer self.old.machine.now.calls.online (keys_at self.old.machine.now) line.now answer.new }
-        ensures sent { HasSent (line_calls self.old.machine.now.calls.online self.old.cpu.calls.number line.now) self.old.cpu self.new.cpu }
-        ensures made { (makings : List Making) × IsLineMade self.old.machine.now self.old.cpu.calls.number line.now answer.new makings
-            × HasMade (stops_of makings) self.old.cpu self.new.cpu }
+    fn answer_if(&mut self, line: &Directive, answer: &mut Answer)
+        requires { IsRunLine self.old.seat.machine.calls.online line.now }
+        ensures same { IsSameSeat self.old.seat self.new.seat }
+        ensures answered { cpu_of line.now ≡ self.old.seat.cpu.calls.number →
+            IsLineAnswer self.old.seat.machine.calls.online (keys_at self.old.seat.machine) line.now answer.new }
+        ensures sent { HasSent (line_calls self.old.seat.machine.calls.online self.old.seat.cpu.calls.number line.now) self.old.seat.cpu self.new.seat.cpu }
+        ensures made { (makings : List Making) × IsLineMade self.old.seat.machine self.old.seat.cpu.calls.number line.now answer.new makings
+            × HasMade (stops_of makings) self.old.seat.cpu self.new.seat.cpu }
     {
         match line {
-            Directive::Do(cpu, count, request) if *cpu == self.cpu.number() => {
-                *answer = self.repeat(rt, *count, request);
+            Directive::Do(cpu, count, request) if *cpu == self.seat.number() => {
+                *answer = self.repeat(*count, request);
             }
             _ => {}
         }
@@ -66,34 +66,34 @@ impl<'a, P: Pace> Player<'a, P> {
 
     /// Answers the CPU's own lines, in order.
     #[tactic(auto, using(crate::proofs::Lines::line_at))]
-    fn answer_all<R: Wait>(&mut self, rt: &R, lines: &[Directive], answers: &mut [Answer])
-        requires lawful { AreLines self.old.machine.now.calls.online lines.now }
+    fn answer_all(&mut self, lines: &[Directive], answers: &mut [Answer])
+        requires lawful { AreLines self.old.seat.machine.calls.online lines.now }
         requires sized { length answers.old ≡ length lines.now }
-        ensures same { IsSame self.old self.new }
-        ensures answered { Answered self.old.machine.now.calls.online (keys_at self.old.machine.now)
-            (λ c. c ≡ self.old.cpu.calls.number) lines.now answers.new }
-        ensures sent { HasSent (script_calls self.old.machine.now.calls.online self.old.cpu.calls.number lines.now) self.old.cpu self.new.cpu }
-        ensures played { HasPlayed self.old.machine.now lines.now answers.new self.old.cpu self.new.cpu }
+        ensures same { IsSameSeat self.old.seat self.new.seat }
+        ensures answered { Answered self.old.seat.machine.calls.online (keys_at self.old.seat.machine)
+            (λ c. c ≡ self.old.seat.cpu.calls.number) lines.now answers.new }
+        ensures sent { HasSent (script_calls self.old.seat.machine.calls.online self.old.seat.cpu.calls.number lines.now) self.old.seat.cpu self.new.seat.cpu }
+        ensures played { HasPlayed self.old.seat.machine lines.now answers.new self.old.seat.cpu self.new.seat.cpu }
     {
         for at in 0..lines.len() {
-            self.answer_if(rt, &lines[at], &mut answers[at]);
+            self.answer_if(&lines[at], &mut answers[at]);
         }
     }
 
     /// Where the pace says so, polls until all CPUs have made their calls, and once more.
-    fn poll_until<R: Wait>(&mut self, rt: &R, start: &StartLine)
-        ensures same { IsSame self.old self.new }
-        ensures sent { HasSent [] self.old.cpu self.new.cpu }
-        ensures stops { HasMade [] self.old.cpu self.new.cpu }
+    fn poll_until(&mut self, start: &StartLine)
+        ensures same { IsSameSeat self.old.seat self.new.seat }
+        ensures sent { HasSent [] self.old.seat.cpu self.new.seat.cpu }
+        ensures stops { HasMade [] self.old.seat.cpu self.new.seat.cpu }
     {
-        if !self.functions.pace.polls(self.cpu.number()) {
+        if !self.seat.handler.pace.polls(self.seat.cpu.number()) {
             return;
         }
-        let all = self.machine.online().weight() as u64;
+        let all = self.seat.online().weight() as u64;
         let backoff = Backoff::new();
-        for _ in rt.forever() {
+        for _ in self.seat.rt.forever() {
             let last = start.done() >= all;
-            self.poll(rt);
+            self.poll();
             if last {
                 return;
             }
@@ -127,9 +127,10 @@ pub fn play<R: Wait, P: Pace>(
     ensures played { HasPlayed machine.now lines.now result.answers.items seat.cpu result.cpu }
 {
     let Seat { cpu, mut answers } = seat;
-    let mut player = Player::new(machine, pace, cpu);
-    player.answer_all(rt, lines, answers.as_mut_slice());
-    let Player { cpu, .. } = player;
+    let mut player = Player::new(rt, machine, pace, cpu);
+    player.answer_all(lines, answers.as_mut_slice());
+    let Player { seat, .. } = player;
+    let (cpu, _, _) = seat.into_parts();
     Seat { cpu, answers }
 }
 
@@ -152,9 +153,10 @@ pub(crate) fn drive<R: Wait, P: Pace>(
     }
     let Seat { cpu, answers } = play(rt, machine, lines, pace, seat);
     start.note_done();
-    let mut player = Player::new(machine, pace, cpu);
-    player.poll_until(rt, start);
-    let Player { cpu, .. } = player;
+    let mut player = Player::new(rt, machine, pace, cpu);
+    player.poll_until(start);
+    let Player { seat, .. } = player;
+    let (cpu, _, _) = seat.into_parts();
     is_shown(machine, &cpu);
     Some(Seat { cpu, answers })
 }

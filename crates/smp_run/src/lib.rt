@@ -4,7 +4,7 @@
 //! - `run`: A script, from its lines to the text of its answers.
 //! - `launch`: A thread for each CPU.
 //! - `driver`: What the thread of one CPU does.
-//! - `player`: A CPU at its machine.
+//! - `player`: A CPU at its seat.
 //! - `calls`: What a CPU calls, and what is answered.
 //! - `reading`: What a CPU reads of the labels at the end.
 //! - `pace`: What a caller may do inside handlers, and where a CPU ends.

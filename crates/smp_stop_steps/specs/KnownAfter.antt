@@ -204,9 +204,22 @@ learned w v act (Key k) found put = key_known act k found put v
 learned w v act (Site i) found put = site_known act i found v
 learned w v act _ found put = v
 
--- what a CPU knows after a step of its own: what the step tells, and one step more, whatever its access
+-- the stores that only the CPU that was the last of its stop makes: the count again and the next phase, and done; each of them is
+-- due at its own seat, and once
+abbrev pub is_due_field : Field → Bool
+is_due_field field.Ack = true
+is_due_field field.State = true
+is_due_field field.Done = true
+is_due_field _ = false
+
+abbrev pub is_due : Bool → Act → Word → Bool
+is_due drafting act.Store (Slot s f) = is_due_field f && not drafting
+is_due drafting _ _ = false
+
+-- what a CPU knows after a step of its own: what the step tells, and one step more, but for a store that is due
 abbrev pub known_entering : Work → Known → Act → Word → Option ℕ → Option ℕ → Known
-known_entering w v act word found put = stepped 1 (learned w v act word found put)
+known_entering w v act word found put =
+    cond (is_due (is_drafting v.source) act word) (learned w v act word found put) (stepped 1 (learned w v act word found put))
 
 -- the same of a step that enters no stop
 abbrev pub known_told : Known → Act → Word → Option ℕ → Option ℕ → Known

@@ -4,7 +4,7 @@ use Rattle.smp_stop_steps.specs.Names.{word_of, at_after, seen_of, Word, Work}
 use Rattle.smp_stop_steps.specs.Known.{Known, Sees, setup_in}
 use Rattle.smp_stop_steps.specs.KnownAfter.{known_entering}
 use Rattle.smp_stop_steps.specs.Labels.{Change, Whole}
-use Rattle.smp_stop_steps.specs.Moves.{Move, MayStep, known_access}
+use Rattle.smp_stop_steps.specs.Moves.{Move, Refill, Raise, Close, MayStep, known_access}
 use Rattle.smp_stop_steps.specs.Patchers.{IsNextOfPatch, label_stored}
 use Rattle.smp_stop_steps.specs.Premises.{MaySee}
 use Rattle.smp_stop_steps.specs.Promises.{KeysStand}
@@ -26,8 +26,16 @@ abbrev pub KnownMovesKeepLaws : Type 0
 KnownMovesKeepLaws = (p : StopState) (at : Word → ℕ) (seat : ℕ → Seat) (source : ℕ → Source) (v : Known) → StopShows (setup_in v.setting) p at seat source →
     Sees p seat source v → (m : Move) → MayStep v m → KeepsMoveLaws p at v m
 
--- each step that a CPU may make is counted once, whatever it finds and whichever work it learns
+-- how much a step counts: the three stores that only the last CPU of a stop makes are not counted, since their seats alone say
+-- whether they were made; all others count one
+abbrev pub weight_of : Move → ℕ
+weight_of (Refill s w a l) = 0
+weight_of (Raise s w a l) = 0
+weight_of (Close s) = 0
+weight_of _ = 1
+
+-- each step that a CPU may make is counted once, whatever it finds and whichever work it learns, but for those that are due
 abbrev pub KnownStepsCount : Type 0
 KnownStepsCount = (v : Known) (m : Move) → MayStep v m → (found : ℕ) (w : Work) →
     let seen = seen_of v.number (known_access v m) found None in
-    (known_entering w v seen.act seen.word seen.found seen.put).steps ≡ v.steps + 1
+    (known_entering w v seen.act seen.word seen.found seen.put).steps ≡ v.steps + weight_of m

@@ -244,7 +244,8 @@ pub fn known_moves_keep_laws()
     ensures { KnownMovesKeepLaws }
 {}
 
-/// Where threads share the words, each step that a CPU may make by what it knows is counted once in its number of steps.
+/// Where threads share the words, each step that a CPU may make by what it knows is counted once in its number of steps. Not
+/// counted are three stores: the count again, the next phase, and done. The last CPU alone makes each, at a seat of its own.
 pub fn known_steps_count()
     ensures { KnownStepsCount }
 {}

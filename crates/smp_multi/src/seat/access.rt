@@ -20,10 +20,11 @@ ghost use Rattle.smp_stop_steps.specs.AnswerWords.{IsI32Word};
 ghost use Rattle.smp_multi.specs.Seat.{SeatValue, Able, Ready, fresh_seat};
 ghost use Rattle.smp_multi.specs.Plays.{loaded, stored, exchanged, subtracted, masked};
 
+use crate::accesses::{Owner, Words};
 use crate::cell::{FIRST_ENTRY, cell};
-use crate::rule::{NextSeat, Owner, RawSeat, Words};
+use crate::rule::RawSeat;
 use crate::seat_view::SeatView;
-use atomic_table::{Play, Table};
+use atomic_table::Play;
 use smp_stop_steps::known::Setting;
 use smp_words::word::Word;
 use std::alloc::{AllocError, Allocator};
@@ -107,32 +108,32 @@ pub(crate) fn lay<A: Allocator>(
 where
     A: Copy,
     requires { AreLimits nr setting.now.online }
-    ensures made { IfOk result (λ t. (t.0.shared.table_id.words ≡ cells) × (t.0.shared.table_id.slots ≡ 0) × (t.0.shared.key ≡ setting.now)
-        × (t.1.raw.table_id ≡ t.0.shared.table_id) × (t.1.raw.me.0 ≡ Maker 0 setting.now)) }
+    ensures made { IfOk result (λ t. (t.0.table.shared.table_id.words ≡ cells) × (t.0.table.shared.table_id.slots ≡ 0) × (t.0.table.shared.key ≡ setting.now)
+        × (t.1.raw.table_id ≡ t.0.table.shared.table_id) × (t.1.raw.me.0 ≡ Maker 0 setting.now)) }
     ensures lives { IfOk result (λ _. (cpu : ℕ) → cpu < cpus → has setting.now.online cpu ≡ true → Lives (fresh setting.now cpu)) }
 {
     let labels = setting.labels.words();
     let mut words = Vec::from_elem(alloc, 0u64, FIRST_ENTRY)?;
     words.extend_from_slice(&labels.entries)?;
     words.extend_from_slice(&labels.sites)?;
-    let (table, raw) = Table::of_words(alloc, words.as_slice(), setting)?;
-    Ok((table, SeatMaker { raw }))
+    let (owner, raw) = Owner::new(alloc, words.as_slice(), setting)?;
+    Ok((owner, SeatMaker { raw }))
 }
 
 /// A seat for the next CPU, where it is online: no step is made by the seat of one that is not.
 pub(crate) fn next_seat(
-    words: &Words,
+    words: Words<'_>,
     maker: &mut SeatMaker,
     n: u32,
     is_online: bool,
 ) -> Option<CpuSeat>
-    requires table { (maker.old.raw.table_id ≡ words.now.table_id) × (words.now.table_id.words ≡ cells) }
-    requires next { (maker.old.raw.me.0 ≡ Maker n words.now.key) × (n < cpus) }
-    requires online { is_online ≡ has words.now.key.online n }
-    ensures maker { (maker.new.raw.table_id ≡ words.now.table_id) × (maker.new.raw.me.0 ≡ Maker (n + 1) words.now.key) }
-    ensures seat { result ≡ if is_online then Some (fresh_seat words.now.table_id words.now.key n) else None }
+    requires table { (maker.old.raw.table_id ≡ words.shared.now.table_id) × (words.shared.now.table_id.words ≡ cells) }
+    requires next { (maker.old.raw.me.0 ≡ Maker n words.shared.now.key) × (n < cpus) }
+    requires online { is_online ≡ has words.shared.now.key.online n }
+    ensures maker { (maker.new.raw.table_id ≡ words.entry.shared.now.table_id) × (maker.new.raw.me.0 ≡ Maker (n + 1) words.entry.shared.now.key) }
+    ensures seat { result ≡ if is_online then Some (fresh_seat words.entry.shared.now.table_id words.entry.shared.now.key n) else None }
 {
-    let raw = words.split_seat::<NextSeat>(&mut maker.raw);
+    let raw = words.split_seat(&mut maker.raw);
     if is_online {
         Some(CpuSeat { raw, carried: 0 })
     } else {
@@ -142,9 +143,9 @@ pub(crate) fn next_seat(
 
 /// Loads a word.
 #[inline(always)]
-pub(crate) fn load(words: &Words, seat: &mut CpuSeat, word: Word) -> u64
-    requires { Ready words.now.table_id seat.old (access.Load word) }
-    ensures table { seat.new.table ≡ words.now.table_id }
+pub(crate) fn load(words: Words<'_>, seat: &mut CpuSeat, word: Word) -> u64
+    requires { Ready words.shared.now.table_id seat.old (access.Load word) }
+    ensures table { seat.new.table ≡ words.entry.shared.now.table_id }
     ensures lives { Lives seat.new.known }
     ensures known { seat.new.known ≡ known_told seat.old.known act.Load word (Some result) None }
     ensures then { Moment seat.old.known word result }
@@ -154,9 +155,9 @@ pub(crate) fn load(words: &Words, seat: &mut CpuSeat, word: Word) -> u64
 
 /// Stores a number in a word, by any step that the CPU may make.
 #[inline(always)]
-pub(super) fn store_any(words: &Words, seat: &mut CpuSeat, word: Word, number: u64)
-    requires { Able words.now.table_id seat.old (access.Store word number) }
-    ensures table { seat.new.table ≡ words.now.table_id }
+pub(super) fn store_any(words: Words<'_>, seat: &mut CpuSeat, word: Word, number: u64)
+    requires { Able words.shared.now.table_id seat.old (access.Store word number) }
+    ensures table { seat.new.table ≡ words.entry.shared.now.table_id }
     ensures lives { Lives seat.new.known }
     ensures known { seat.new.known ≡ known_told seat.old.known act.Store word None (Some number) }
 {
@@ -165,9 +166,9 @@ pub(super) fn store_any(words: &Words, seat: &mut CpuSeat, word: Word, number: u
 
 /// Stores a number in a word, by a step that stores no answer and no label.
 #[inline(always)]
-pub(crate) fn store(words: &Words, seat: &mut CpuSeat, word: Word, number: u64)
-    requires { Ready words.now.table_id seat.old (access.Store word number) }
-    ensures table { seat.new.table ≡ words.now.table_id }
+pub(crate) fn store(words: Words<'_>, seat: &mut CpuSeat, word: Word, number: u64)
+    requires { Ready words.shared.now.table_id seat.old (access.Store word number) }
+    ensures table { seat.new.table ≡ words.entry.shared.now.table_id }
     ensures lives { Lives seat.new.known }
     ensures known { seat.new.known ≡ known_told seat.old.known act.Store word None (Some number) }
 {
@@ -177,14 +178,14 @@ pub(crate) fn store(words: &Words, seat: &mut CpuSeat, word: Word, number: u64)
 /// Puts a number in a word where another is found, and answers what was found.
 #[inline(always)]
 pub(crate) fn exchange(
-    words: &Words,
+    words: Words<'_>,
     seat: &mut CpuSeat,
     word: Word,
     expected: u64,
     number: u64,
 ) -> u64
-    requires { Ready words.now.table_id seat.old (access.Exchange word expected number) }
-    ensures table { seat.new.table ≡ words.now.table_id }
+    requires { Ready words.shared.now.table_id seat.old (access.Exchange word expected number) }
+    ensures table { seat.new.table ≡ words.entry.shared.now.table_id }
     ensures lives { Lives seat.new.known }
     ensures known { seat.new.known ≡ known_told seat.old.known act.Cas word (Some result) (if result == expected then Some number else None) }
     ensures then { Moment seat.old.known word result }
@@ -195,35 +196,35 @@ pub(crate) fn exchange(
 /// Takes 1 from a word, by any step that the CPU may make, and answers what was found. With this step the CPU carries
 /// this answer.
 #[inline(always)]
-pub(super) fn subtract_with(words: &Words, seat: &mut CpuSeat, word: Word, answer: u64) -> u64
-    requires able { Able words.now.table_id seat.old (access.Sub word) }
+pub(super) fn subtract_with(words: Words<'_>, seat: &mut CpuSeat, word: Word, answer: u64) -> u64
+    requires able { Able words.shared.now.table_id seat.old (access.Sub word) }
     requires fits { IsI32Word answer }
-    ensures table { seat.new.table ≡ words.now.table_id }
+    ensures table { seat.new.table ≡ words.entry.shared.now.table_id }
     ensures lives { Lives seat.new.known }
     ensures known { seat.new.known ≡ known_told (carrying answer seat.old.known) act.Sub word (Some result) (Some (one_less result)) }
 {
-    let found = words.fetch_sub::<Subtracted>(&mut seat.raw, cell(word), 1);
+    let found = words.take_one::<Subtracted>(&mut seat.raw, cell(word));
     seat.carried = answer;
     found
 }
 
 /// Takes 1 from a word, by a step that ends no stop function, no patch and no stop, and answers what was found.
 #[inline(always)]
-pub(crate) fn subtract(words: &Words, seat: &mut CpuSeat, word: Word) -> u64
-    requires { Ready words.now.table_id seat.old (access.Sub word) }
-    ensures table { seat.new.table ≡ words.now.table_id }
+pub(crate) fn subtract(words: Words<'_>, seat: &mut CpuSeat, word: Word) -> u64
+    requires { Ready words.shared.now.table_id seat.old (access.Sub word) }
+    ensures table { seat.new.table ≡ words.entry.shared.now.table_id }
     ensures lives { Lives seat.new.known }
     ensures known { seat.new.known ≡ known_told seat.old.known act.Sub word (Some result) (Some (one_less result)) }
 {
-    words.fetch_sub::<Subtracted>(&mut seat.raw, cell(word), 1)
+    words.take_one::<Subtracted>(&mut seat.raw, cell(word))
 }
 
 /// Keeps those bits of a word that this number has, and answers what was found. A CPU that enters a stop learns its
 /// work.
 #[inline(always)]
-pub(crate) fn mask(words: &Words, seat: &mut CpuSeat, word: Word, number: u64) -> u64
-    requires { Ready words.now.table_id seat.old (access.And word number) }
-    ensures table { seat.new.table ≡ words.now.table_id }
+pub(crate) fn mask(words: Words<'_>, seat: &mut CpuSeat, word: Word, number: u64) -> u64
+    requires { Ready words.shared.now.table_id seat.old (access.And word number) }
+    ensures table { seat.new.table ≡ words.entry.shared.now.table_id }
     ensures lives { Lives seat.new.known }
     ensures known { (t : Moment seat.old.known word result) × (seat.new.known ≡ known_entering (entering t.stops word) seat.old.known act.And word
         (Some result) (Some (bit_and result number))) }

@@ -11,7 +11,7 @@ ghost use Rattle.smp_multi.specs.Patches.{AtPatch, count_in, made_in, rest_in, s
 ghost use Rattle.smp_multi.specs.Places.{work_in};
 
 use super::access::{CpuSeat, store_any, subtract_with};
-use crate::rule::Words;
+use crate::accesses::Words;
 use arrayvec::ArrayVec;
 use smp_labels::{MOST_CHANGES, Place};
 use smp_stop_steps::stage::Visit;
@@ -30,16 +30,16 @@ fn word_of(place: Place) -> Word
 
 /// Makes the stores of a patch, in order.
 pub(crate) fn store_plan(
-    words: &Words,
+    words: Words<'_>,
     seat: &mut CpuSeat,
     visit: Visit,
     plan: &ArrayVec<(Place, u64), MOST_CHANGES>,
 )
-    requires at { AtPatch words.now.table_id seat.old visit }
+    requires at { AtPatch words.shared.now.table_id seat.old visit }
     requires fresh { made_in seat.old.known.seat ≡ [] }
     requires plan { rest_in seat.old.known.seat ≡ plan.now.items }
     requires lives { Lives seat.old.known }
-    ensures at { AtPatch words.now.table_id seat.new visit }
+    ensures at { AtPatch words.entry.shared.now.table_id seat.new visit }
     ensures lives { Lives seat.new.known }
     ensures known { seat.new.known ≡ stepped (length (rest_in seat.old.known.seat)) (stored_all seat.old.known.seat seat.old.known) }
 {
@@ -51,11 +51,16 @@ pub(crate) fn store_plan(
 
 /// Acknowledges `RUN`, with all stores of the patch made, and answers what was found in the count. With this step the CPU
 /// carries the answer of the patch.
-pub(crate) fn acknowledge_patch(words: &Words, seat: &mut CpuSeat, visit: Visit, answer: u64) -> u64
-    requires at { AtPatch words.now.table_id seat.old visit }
+pub(crate) fn acknowledge_patch(
+    words: Words<'_>,
+    seat: &mut CpuSeat,
+    visit: Visit,
+    answer: u64,
+) -> u64
+    requires at { AtPatch words.shared.now.table_id seat.old visit }
     requires whole { rest_in seat.old.known.seat ≡ [] }
     requires answer { answer ≡ patch_answer (work_in seat.old.known.seat) (count_in seat.old.known.seat) }
-    ensures table { seat.new.table ≡ words.now.table_id }
+    ensures table { seat.new.table ≡ words.entry.shared.now.table_id }
     ensures lives { Lives seat.new.known }
     ensures known { seat.new.known ≡ stepped 1 (acked_by result seat.old.known.seat (carrying answer seat.old.known)) }
 {

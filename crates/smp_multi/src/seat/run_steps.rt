@@ -19,8 +19,8 @@ ghost use Rattle.smp_multi.specs.Running.{AtOne, IsItsCall, answered_now, called
 ghost use Rattle.smp_multi.specs.StepCounts.{giving};
 
 use super::access::{CpuSeat, load, store_any, subtract_with};
+use crate::accesses::Words;
 use crate::func::StopFunc;
-use crate::rule::Words;
 use smp_stop_steps::phase::EXIT;
 use smp_stop_steps::stage::Visit;
 use smp_stop_steps::start::answer_word;
@@ -36,9 +36,9 @@ fn word_of(answer: i32) -> u64
 }
 
 /// A CPU has entered a stop of one CPU: loads the function and its argument.
-fn begin_one(words: &Words, seat: &mut CpuSeat, slot: u32) -> (u16, u64)
-    requires { AtOne words.now.table_id seat.old slot }
-    ensures at { AtOne words.now.table_id seat.new slot }
+fn begin_one(words: Words<'_>, seat: &mut CpuSeat, slot: u32) -> (u16, u64)
+    requires { AtOne words.shared.now.table_id seat.old slot }
+    ensures at { AtOne words.entry.shared.now.table_id seat.new slot }
     ensures known { seat.new.known ≡ stepped 2 (calls_now seat.old.known) }
     ensures call { IsItsCall seat.new.known result.0 result.1 }
 {
@@ -48,12 +48,12 @@ fn begin_one(words: &Words, seat: &mut CpuSeat, slot: u32) -> (u16, u64)
 }
 
 /// Stores an answer; 0 is not stored. `acked` is the last phase that the CPU has acknowledged.
-fn give(words: &Words, seat: &mut CpuSeat, slot: u32, acked: u32, answer: u64)
-    requires at { AtEnd words.now.table_id seat.old slot acked }
+fn give(words: Words<'_>, seat: &mut CpuSeat, slot: u32, acked: u32, answer: u64)
+    requires at { AtEnd words.shared.now.table_id seat.old slot acked }
     requires fits { IsI32Word answer }
     requires calls { answer ≢ 0 → seat.old.known.part.calling ≢ Idle }
     requires one { (work_in seat.old.known.seat).kind ≡ One → seat.old.known.part.calling ≢ Idle }
-    ensures at { AtGiven words.now.table_id seat.new slot acked answer (work_in seat.old.known.seat) }
+    ensures at { AtGiven words.entry.shared.now.table_id seat.new slot acked answer (work_in seat.old.known.seat) }
     ensures known { seat.new.known ≡ given slot acked answer seat.old.known }
 {
     let _ = acked;
@@ -64,12 +64,12 @@ fn give(words: &Words, seat: &mut CpuSeat, slot: u32, acked: u32, answer: u64)
 
 /// Completes a stop with this answer: stores it, counts the CPU, which carries none from then on, and answers what was
 /// found in the count.
-fn complete(words: &Words, seat: &mut CpuSeat, slot: u32, acked: u32, answer: u64) -> u64
-    requires at { AtEnd words.now.table_id seat.old slot acked }
+fn complete(words: Words<'_>, seat: &mut CpuSeat, slot: u32, acked: u32, answer: u64) -> u64
+    requires at { AtEnd words.shared.now.table_id seat.old slot acked }
     requires fits { IsI32Word answer }
     requires calls { answer ≢ 0 → seat.old.known.part.calling ≢ Idle }
     requires one { (work_in seat.old.known.seat).kind ≡ One → seat.old.known.part.calling ≢ Idle }
-    ensures at { AtClose words.now.table_id seat.new slot result }
+    ensures at { AtClose words.entry.shared.now.table_id seat.new slot result }
     ensures lives { Lives seat.new.known }
     ensures known { seat.new.known ≡ stepped (giving answer + 1) (completed_with result slot (work_in seat.old.known.seat) answer
         (carrying 0 seat.old.known)) }
@@ -81,15 +81,15 @@ fn complete(words: &Words, seat: &mut CpuSeat, slot: u32, acked: u32, answer: u6
 /// Calls the function of a stop of one CPU, and completes with its answer. Answers what was found in the count, and the
 /// function's answer.
 pub(crate) fn run_one<F: StopFunc>(
-    words: &Words,
+    words: Words<'_>,
     seat: &mut CpuSeat,
     number: u32,
     slot: u32,
     func: &mut F,
 ) -> (u64, i32)
-    requires at { AtOne words.now.table_id seat.old slot }
+    requires at { AtOne words.shared.now.table_id seat.old slot }
     requires number { seat.old.known.number ≡ number }
-    ensures at { AtClose words.now.table_id seat.new slot result.0 }
+    ensures at { AtClose words.entry.shared.now.table_id seat.new slot result.0 }
     ensures lives { Lives seat.new.known }
     ensures known { seat.new.known ≡ stepped (2 + (giving (word_of_answer result.1) + 1))
         (completed_with result.0 slot (work_in seat.old.known.seat) (word_of_answer result.1) (carrying 0 seat.old.known)) }
@@ -104,9 +104,9 @@ pub(crate) fn run_one<F: StopFunc>(
 /// A Multi stop has come to `RUN`, and the CPU is active: loads the function and its argument. From here until the CPU
 /// acknowledges the phase, whatever others do, every CPU of the mask has acknowledged disabled interrupts, and has them
 /// off.
-fn begin_run(words: &Words, seat: &mut CpuSeat, visit: Visit) -> (u16, u64)
-    requires { AtRun words.now.table_id seat.old visit Multi }
-    ensures at { AtRun words.now.table_id seat.new visit Multi }
+fn begin_run(words: Words<'_>, seat: &mut CpuSeat, visit: Visit) -> (u16, u64)
+    requires { AtRun words.shared.now.table_id seat.old visit Multi }
+    ensures at { AtRun words.entry.shared.now.table_id seat.new visit Multi }
     ensures known { seat.new.known ≡ stepped 2 (calls_now seat.old.known) }
     ensures alone { AloneWhile seat.new.known visit.slot }
     ensures call { IsItsCall seat.new.known result.0 result.1 }
@@ -118,12 +118,12 @@ fn begin_run(words: &Words, seat: &mut CpuSeat, visit: Visit) -> (u16, u64)
 
 /// The function has run: acknowledges `RUN` with its answer, which the CPU carries from then on, and answers what was
 /// found in the count.
-fn end_run(words: &Words, seat: &mut CpuSeat, visit: Visit, answer: u64) -> u64
-    requires at { AtRun words.now.table_id seat.old visit Multi }
+fn end_run(words: Words<'_>, seat: &mut CpuSeat, visit: Visit, answer: u64) -> u64
+    requires at { AtRun words.shared.now.table_id seat.old visit Multi }
     requires fits { IsI32Word answer }
     requires calls { seat.old.known.part.calling ≢ Idle }
     requires alone { AloneWhile seat.old.known visit.slot }
-    ensures table { seat.new.table ≡ words.now.table_id }
+    ensures table { seat.new.table ≡ words.entry.shared.now.table_id }
     ensures lives { Lives seat.new.known }
     ensures known { seat.new.known ≡ stepped 1 (acked_by result seat.old.known.seat (carrying answer seat.old.known)) }
 {
@@ -133,15 +133,15 @@ fn end_run(words: &Words, seat: &mut CpuSeat, visit: Visit, answer: u64) -> u64
 /// Calls the function of a Multi stop, and acknowledges `RUN` with its answer. Answers what was found in the count, and
 /// the function's answer.
 pub(crate) fn run_multi<F: StopFunc>(
-    words: &Words,
+    words: Words<'_>,
     seat: &mut CpuSeat,
     number: u32,
     visit: Visit,
     func: &mut F,
 ) -> (u64, i32)
-    requires at { AtRun words.now.table_id seat.old visit Multi }
+    requires at { AtRun words.shared.now.table_id seat.old visit Multi }
     requires number { seat.old.known.number ≡ number }
-    ensures table { seat.new.table ≡ words.now.table_id }
+    ensures table { seat.new.table ≡ words.entry.shared.now.table_id }
     ensures lives { Lives seat.new.known }
     ensures known { seat.new.known ≡ stepped 3 (acked_by result.0 seat.old.known.seat (answered_now result.1 seat.old.known)) }
     ensures heard { F.leads func.old (called_by seat.old.known result.1) func.new }
@@ -154,11 +154,11 @@ pub(crate) fn run_multi<F: StopFunc>(
 
 /// Completes a stop of several CPUs, which the CPU has left, with the answer that it carries. Answers what was found in
 /// the count.
-pub(crate) fn complete_round(words: &Words, seat: &mut CpuSeat, slot: u32) -> u64
-    requires at { AtEnd words.now.table_id seat.old slot EXIT }
+pub(crate) fn complete_round(words: Words<'_>, seat: &mut CpuSeat, slot: u32) -> u64
+    requires at { AtEnd words.shared.now.table_id seat.old slot EXIT }
     requires several { (work_in seat.old.known.seat).kind ≢ One }
     requires carries { seat.old.known.carried ≢ 0 → seat.old.known.part.calling ≢ Idle }
-    ensures at { AtClose words.now.table_id seat.new slot result }
+    ensures at { AtClose words.entry.shared.now.table_id seat.new slot result }
     ensures lives { Lives seat.new.known }
     ensures known { seat.new.known ≡ stepped (giving seat.old.known.carried + 1)
         (completed_with result slot (work_in seat.old.known.seat) seat.old.known.carried (carrying 0 seat.old.known)) }

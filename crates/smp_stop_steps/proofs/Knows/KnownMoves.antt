@@ -1,7 +1,7 @@
 -- Each step that a CPU may make by what it knows goes on to stops of which all know their part.
 use Rattle.std.proofs.Common.{ℕ, Some, None, refl}
-use Rattle.smp_stop_steps.specs.{word_of, at_after, seen_of, Sees, GoesOnBy, Seen, setup_in, slot_known, learned, known_entering, Seat, StopShows, Source, StopState, Field}
-use Rattle.smp_stop_steps.specs.{Word, Slot, Entry}
+use Rattle.smp_stop_steps.specs.{word_of, at_after, seen_of, Sees, GoesOnBy, Seen, setup_in, slot_known, learned, known_entering, is_drafting, is_due, Seat}
+use Rattle.smp_stop_steps.specs.{StopShows, Source, StopState, Field, Word, Slot, Entry}
 use Rattle.smp_stop_steps.specs.Known.{Known}
 use Rattle.smp_stop_steps.specs.Moves.{Move, TakeGate, OpenGate, Draft, DraftMore, Open, Enter, Look, Acknowledge, AcknowledgePatch, Refill, Raise, Give}
 use Rattle.smp_stop_steps.specs.Moves.{Count, CountGiven, Close, LookDone, Collect, ReadKey, ReadSite, Nudge, BeginPatch, Alter, LoadArg, LoadField}
@@ -64,7 +64,7 @@ module _ (p : StopState) (at : Word → ℕ) (seat : ℕ → Seat) (source : ℕ
   tells_move (LoadField s w a l f) m = load_field s f m.0
   tells_move (LoadEntry s w count made rest i) m = still p at seat source v h sees act.Load (Entry i) (Some (at (Entry i))) None refl
 
-  -- and that it is one more
+  -- and that it is counted, where it is not due
   pub known_move : (m : Move) → MayStep v m →
       let a = known_access v m in
       let seen = seen_of v.number a (at (word_of a)) None in
@@ -72,4 +72,5 @@ module _ (p : StopState) (at : Word → ℕ) (seat : ℕ → Seat) (source : ℕ
   known_move m may =
       let a = known_access v m in
       let seen = seen_of v.number a (at (word_of a)) None in
-      counted_step p seat source v sees (at_after at a) (learned (entering p (word_of a)) v seen.act seen.word seen.found seen.put) (tells_move m may)
+      counted_step p seat source v sees (at_after at a) (learned (entering p (word_of a)) v seen.act seen.word seen.found seen.put)
+      (is_due (is_drafting v.source) seen.act seen.word) (tells_move m may)

@@ -1,14 +1,14 @@
--- Each step that a CPU may make is counted once.
-use Rattle.std.proofs.Common.{◌≡◌, ℕ, ◌+◌, ◌==◌, Bool, true, false, cond, Option, Some, None, refl, ap}
+-- Each step that a CPU may make is counted once, but for the stores that are due.
+use Rattle.std.proofs.Common.{◌≡◌, ℕ, ◌+◌, ◌==◌, ◌&&◌, not, Bool, true, false, cond, Option, Some, None, refl, ap, ◌∙◌, arith}
 use Rattle.smp_labels.specs.declared.patch.Place.TheVariants as place
 use Rattle.smp_stop_steps.specs.{begun_value, cpus, has, mask_weight, seen_of, Seat, Free, In, Gives, Alters, Closes, Source, Shut, Drafts, Owns, Collects, Field, Work}
 use Rattle.smp_stop_steps.specs.{acked_by, called_by, completed_by, drafted_known, entered_known, gate_known, is_drafting, key_known, key_loaded_by, learned}
-use Rattle.smp_stop_steps.specs.{member_stored, opened_by, raised_by, slot_known, slot_stored}
-use Rattle.smp_stop_steps.specs.Known.{Known}
-use Rattle.smp_stop_steps.specs.KnownLaws.{KnownStepsCount}
+use Rattle.smp_stop_steps.specs.{is_due, is_due_field, member_stored, opened_by, order, raised_by, slot_known, slot_stored, told_work, Act, Word, Slot}
+use Rattle.smp_stop_steps.specs.Known.{Known, stepped}
+use Rattle.smp_stop_steps.specs.KnownLaws.{KnownStepsCount, weight_of}
 use Rattle.smp_stop_steps.specs.Moves.{Move, TakeGate, OpenGate, Draft, DraftMore, Open, Enter, Look, Acknowledge, AcknowledgePatch, Refill, Raise, Give}
 use Rattle.smp_stop_steps.specs.Moves.{Count, CountGiven, Close, LookDone, Collect, ReadKey, ReadSite, Nudge, BeginPatch, Alter, LoadArg, LoadField}
-use Rattle.smp_stop_steps.specs.Moves.{LoadEntry, known_access}
+use Rattle.smp_stop_steps.specs.Moves.{LoadEntry, MayStep, known_access}
 use Rattle.smp_stop_steps.specs.act
 use Rattle.smp_stop_steps.specs.field
 
@@ -144,5 +144,56 @@ module _ (v : Known) where
   told (LoadField s x a l f) found w = loaded w s found f
   told (LoadEntry s x count made rest i) found w = refl
 
+  -- a step counts as its kind does
+
+  one_unless : (due : Bool) (n : ℕ) (x : Known) → cond due 0 1 ≡ n → x.steps ≡ v.steps → (cond due x (stepped 1 x)).steps ≡ v.steps + n
+  one_unless true n x e f = f ∙ ((let z : v.steps ≡ v.steps + 0 = omega arith in z) ∙ ap (λ k. v.steps + k) e)
+  one_unless false n x e f = ap (λ k. k + 1) f ∙ ap (λ k. v.steps + k) e
+
+  -- a store to a slot, of a CPU that drafts, is none that is due
+  drafts : (f : Field) (y : Source) (w : Work) (k : ℕ) → y ≡ Drafts w k
+      → let one : ℕ = 1 in cond (is_due (is_drafting y) act.Store (Slot v.number f)) 0 one ≡ one
+  drafts f y w k is = ap (λ (z : Source). cond (is_due (is_drafting z) act.Store (Slot v.number f)) 0 1) is ∙ none (is_due_field f)
+    where
+      none : (b : Bool) → let one : ℕ = 1 in cond (b && false) 0 one ≡ one
+      none true = refl
+      none false = refl
+
+  -- of one that does not, each store of a field that is due
+  rests : is_drafting v.source ≡ false → let none : ℕ = 0 in cond (not (is_drafting v.source)) none 1 ≡ none
+  rests is = ap (λ b. cond (not b) 0 1) is
+
+  weighs : (m : Move) → MayStep v m → (found : ℕ) → let seen = seen_of v.number (known_access v m) found None in
+      cond (is_due (is_drafting v.source) seen.act seen.word) 0 1 ≡ weight_of m
+  weighs TakeGate may found = refl
+  weighs OpenGate may found = refl
+  weighs (Draft x) may found = refl
+  weighs (DraftMore x f) may found = drafts f v.source (told_work (order f) x) (order f) may.0
+  weighs (Open x) may found = refl
+  weighs (Enter s) may found = refl
+  weighs (Look s x a l) may found = refl
+  weighs (Acknowledge s x a) may found = refl
+  weighs (AcknowledgePatch s x count made) may found = refl
+  weighs (Refill s x a l) may found = rests may.1
+  weighs (Raise s x a l) may found = rests may.1
+  weighs (Give s x a l n) may found = refl
+  weighs (Count s x a l) may found = refl
+  weighs (CountGiven s x a n) may found = refl
+  weighs (Close s) may found = rests may.1
+  weighs (LookDone x) may found = refl
+  weighs (Collect x) may found = refl
+  weighs (ReadKey k) may found = refl
+  weighs (ReadSite i) may found = refl
+  weighs (Nudge k old new) may found = refl
+  weighs (BeginPatch s x) may found = refl
+  weighs (Alter s x count made (place.Key k, n) rest) may found = refl
+  weighs (Alter s x count made (place.Site i, n) rest) may found = refl
+  weighs (LoadArg s x a l) may found = refl
+  weighs (LoadField s x a l f) may found = refl
+  weighs (LoadEntry s x count made rest i) may found = refl
+
 pub known_steps_count : KnownStepsCount
-known_steps_count v m may found w = ap (λ n. n + 1) (told v m found w)
+known_steps_count v m may found w =
+    let seen = seen_of v.number (known_access v m) found None in
+    one_unless v (is_due (is_drafting v.source) seen.act seen.word) (weight_of m) (learned w v seen.act seen.word seen.found seen.put)
+    (weighs v m may found) (told v m found w)

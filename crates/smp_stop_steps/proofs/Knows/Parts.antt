@@ -1,5 +1,5 @@
 -- What a step of a CPU leaves to it and to all others.
-use Rattle.std.proofs.Common.{◌≡◌, ◌≢◌, ℕ, ◌+◌, ◌<◌, List, Option, None, get_or, set, replicate, inl, refl, ap, subst, ◌∙◌, sym, arith}
+use Rattle.std.proofs.Common.{◌≡◌, ◌≢◌, ℕ, ◌+◌, ◌<◌, Bool, true, false, cond, List, Option, None, get_or, set, replicate, inl, refl, ap, subst, ◌∙◌, sym, arith}
 use Rattle.std.proofs.lemmas.List.{length-set, length-replicate, get_or-set_same, get_or-set_other}
 use Rattle.smp_words.proofs.Puts.{at_test, put_same, put_other}
 use Rattle.smp_words.proofs.Zeros.{get_or-same}
@@ -67,8 +67,10 @@ module _ (p : StopState) (seat : ℕ → Seat) (source : ℕ → Source) (v : Kn
   pub attempted : {seen : Seen} (at' : Word → ℕ) (w : Known) (attempts : List Attempt) → By seen at' w → By seen at' (record w { attempts = attempts })
   attempted at' w attempts g = listed at' w w.moves attempts w.steps g
 
-  pub counted_step : {seen : Seen} (at' : Word → ℕ) (w : Known) → By seen at' w → By seen at' (stepped 1 w)
-  counted_step at' w g = listed at' w w.moves w.attempts (w.steps + 1) g
+  -- a step is counted, or is a store that is due
+  pub counted_step : {seen : Seen} (at' : Word → ℕ) (w : Known) (due : Bool) → By seen at' w → By seen at' (cond due w (stepped 1 w))
+  counted_step at' w true g = g
+  counted_step at' w false g = listed at' w w.moves w.attempts (w.steps + 1) g
 
   -- a step, after which this CPU is at this seat and source and has this part
   pub goes : {seen : Seen} (p' : StopState) (at' : Word → ℕ) (seat' : ℕ → Seat) (source' : ℕ → Source) (x : Seat) (y : Source) (part : Part) →

@@ -9,7 +9,7 @@ use Rattle.smp_multi.proofs.patch.load_plan.Given as goal
 
 abbrev pub invariant-loop-site : goal.invariant-loop-site
 invariant-loop-site l = record {
-  table : l.seat.table ≡ l.words.table_id;
+  table : l.seat.table ≡ l.fn.words.shared.now.table_id;
   lives : Lives l.seat.known;
   known : l.seat.known ≡ stepped l.site l.fn.seat.known;
   few : l.site ≤ length (entries_in l.fn.seat.known);

@@ -1,4 +1,4 @@
-use Rattle.std.proofs.Common.{◌≡◌, ℕ, ◌+◌, ◌==◌, Option, Some, None, length, refl, ap, arith, subst, ◌∙◌}
+use Rattle.std.proofs.Common.{◌≡◌, ℕ, ◌+◌, Option, Some, None, length, refl, ap, arith, subst, ◌∙◌}
 use Rattle.std.specs.Option.{unwrap_or}
 use Rattle.std.proofs.lemmas.List.{length-map}
 use Rattle.smp_labels.specs.Entries.{entry_word}
@@ -12,7 +12,7 @@ use Rattle.smp_stop_steps.specs.declared.stage.Visit.{Visit}
 use Rattle.smp_multi.specs.Names.{Key, Known, Seat}
 use Rattle.smp_multi.specs.Patches.{begins_with, entries_in, rest_in}
 use Rattle.smp_multi.specs.Places.{work_in}
-use Rattle.smp_multi.specs.StepCounts.{loading, patching, raising}
+use Rattle.smp_multi.specs.StepCounts.{loading, patching}
 use Rattle.smp_multi.proofs.Counting.{begun_on, steps_on, then_steps}
 use Rattle.smp_multi.proofs.Patching.{patch_ends, is_at_run}
 use Rattle.smp_multi.proofs.patch.patch_on.Goals as goal
@@ -42,9 +42,8 @@ returns-clause-patched c =
     let loaded : loads ≡ loading count (count_set w count) (length k.setting.labels.entries) = (λ i. loading count (same i) (entries i)) in
     let stored : length (rest_in c.load_plan-plan.new.seat.known.seat) ≡ length (plan_at (setup_in k.setting) w count) =
     ap (λ (x : Known). length (rest_in x.seat)) (one ∙ ap (λ (y : Seat). stepped (3 + loads) (begins_with count y k)) at) in
-    let last = c.acknowledge_patch-found.result == 1 in
-    let all = 4 + patching k.setting w count + raising last in
-    let sum : (3 + loads) + length (rest_in c.load_plan-plan.new.seat.known.seat) + 1 + raising last ≡ all = omega (arith, loaded, stored) in
+    let all = 4 + patching k.setting w count in
+    let sum : (3 + loads) + length (rest_in c.load_plan-plan.new.seat.known.seat) + 1 ≡ all = omega (arith, loaded, stored) in
     let two = c.requires.disabled in
     let acked : c.acknowledged-visit.result.acked ≡ c.args.visit.acked + 1 = ap (λ (v : Visit). v.acked) c.acknowledged-visit.ensures in
     let next : c.acknowledged-visit.result.acked + 1 ≡ 4 = omega arith in
@@ -53,10 +52,7 @@ returns-clause-patched c =
       count,
       subst (λ n. Moment (stepped 2 k) (Key n) count) c.load_change-key.ensures.key
           (subst (λ (x : Known). Moment x (Key c.load_change-key.result.0) count) c.load_change-key.ensures.known c.begin_patch-count.ensures.then),
-      (
-        last,
-        patch_ends k c.args.visit.slot w count at _ _ _ _ c.acknowledge_patch-found.result c.answer_for.result _ _ _ _ all one
-            c.store_plan.ensures.known answer c.acknowledge_patch-found.ensures.known c.pass.ensures.known next sum,
-      ),
+      patch_ends k c.args.visit.slot w count at _ _ _ _ c.acknowledge_patch-found.result c.answer_for.result _ _ _ all one
+          c.store_plan.ensures.known answer c.acknowledge_patch-found.ensures.known c.pass.ensures.known next sum,
       c.acknowledged-visit.ensures,
     )

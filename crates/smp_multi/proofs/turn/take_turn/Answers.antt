@@ -23,5 +23,5 @@ returns-then-eq-clause-answers g c =
       disabled,
       active,
       subst (HasRun leads k c.patch_on-visit.new.seat.known v c.patch_on-visit.result f f) (sym kind)
-          (has_patched leads k c.look-state.new.seat.known c.patch_on-visit.new.seat.known v c.patch_on-visit.result f p.0 p.2.0 looked p.1 p.2.1 p.3),
+          (has_patched leads k c.look-state.new.seat.known c.patch_on-visit.new.seat.known v c.patch_on-visit.result f p.0 looked p.1 p.2 p.3),
     )

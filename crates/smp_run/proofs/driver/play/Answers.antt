@@ -12,7 +12,7 @@ returns-clause-answered g c =
     let m = c.args.machine.now in let lines = c.args.lines.now in let told = c.answer_all.new.answers in let new = c.new-player in
     let here : Answered m.calls.online (keys_at m) (λ n. n ≡ c.args.seat.cpu.calls.number) lines told =
     subst (λ (p : MachineCpuValue). Answered m.calls.online (keys_at m) (λ n. n ≡ p.calls.number) lines told) new.ensures.cpu
-    (subst (λ (x : MachineValue). Answered x.calls.online (keys_at x) (λ n. n ≡ new.result.cpu.calls.number) lines told) new.ensures.machine
+    (subst (λ (x : MachineValue). Answered x.calls.online (keys_at x) (λ n. n ≡ new.result.seat.cpu.calls.number) lines told) new.ensures.machine
     c.answer_all.ensures.answered) in
     subst (λ (xs : List Answer). Answered m.calls.online (keys_at m) (λ n. n ≡ c.args.seat.cpu.calls.number) lines xs)
     (sym (take_at told _ _ (here.sized ∙ sym c.requires.ready.sized))) here
@@ -20,9 +20,12 @@ returns-clause-answered g c =
 pub returns-clause-played : goal.returns-clause-played
 returns-clause-played g c =
     let m = c.args.machine.now in let lines = c.args.lines.now in let told = c.answer_all.new.answers in let new = c.new-player in
-    let last = c.answer_all.new.self.cpu in
+    let last = c.answer_all.new.self.seat.cpu in
     let here : HasPlayed m lines told c.args.seat.cpu last =
     subst (λ (p : MachineCpuValue). HasPlayed m lines told p last) new.ensures.cpu
-    (subst (λ (x : MachineValue). HasPlayed x lines told new.result.cpu last) new.ensures.machine c.answer_all.ensures.played) in
-    subst (λ (xs : List Answer). HasPlayed m lines xs c.args.seat.cpu last)
-    (sym (take_at told _ _ (c.answer_all.ensures.answered.sized ∙ sym c.requires.ready.sized))) here
+    (subst (λ (x : MachineValue). HasPlayed x lines told new.result.seat.cpu last) new.ensures.machine c.answer_all.ensures.played) in
+    let back = c.into_parts-cpu in
+    let given : HasPlayed m lines told c.args.seat.cpu back.result.0 =
+    subst (λ (p : MachineCpuValue). HasPlayed m lines told c.args.seat.cpu p) (sym back.ensures.parts.0) here in
+    subst (λ (xs : List Answer). HasPlayed m lines xs c.args.seat.cpu back.result.0)
+    (sym (take_at told _ _ (c.answer_all.ensures.answered.sized ∙ sym c.requires.ready.sized))) given

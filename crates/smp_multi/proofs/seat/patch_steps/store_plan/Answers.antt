@@ -15,7 +15,7 @@ store_any-requires c =
     let items = c.as_slice-place-items.ensures.value ∙ sym c.requires.plan in
     let change = slice_index_or c.as_slice-place-items.result.now index (Key 0, 0) in
     let low = subst (λ (l : List Change). index < length l) items c.loop-place-test.true in
-    subst (λ (x : Word). Able c.args.words.now.table_id c.loop-place.seat (Store x change.1)) (sym c.word_of.ensures)
+    subst (λ (x : Word). Able c.args.words.shared.now.table_id c.loop-place.seat (Store x change.1)) (sym c.word_of.ensures)
     (able_store _ c.args.seat.now c.args.visit c.requires.at c.requires.fresh c.loop-place.seat index change i.table i.lives i.known low
     (ap (λ (l : List Change). slice_index_or l index (Key 0, 0)) items))
 

@@ -6,7 +6,7 @@ use Rattle.smp_multi.proofs.seat.patch_steps.store_plan.Given as goal
 
 abbrev pub invariant-loop-place : goal.invariant-loop-place
 invariant-loop-place l = record {
-  table : l.seat.table ≡ l.words.table_id;
+  table : l.seat.table ≡ l.fn.words.shared.now.table_id;
   lives : Lives l.seat.known;
   known : l.seat.known ≡ stepped l.place-index (stored_to l.place-index l.fn.seat.known.seat l.fn.seat.known);
 }

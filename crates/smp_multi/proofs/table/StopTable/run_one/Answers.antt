@@ -13,7 +13,7 @@ returns g c =
     let e = c.run_one-answer.new.seat in
     let kept = subst (λ (x : Option Visit). IsKept d.known c.me.inside.number x c.me.inside.holds c.me.inside.is_open) c.in-Some.is c.me.invariant in
     let table = c.run_one-answer.ensures.table
-    ∙ sym (ap (λ (m : CpuValue). m.table) c.me.view_is ∙ (c.requires.table ∙ sym (ap (λ (t : TableValue). t.table) c.self.view_is))) in
+    ∙ (c.words.ensures.table ∙ sym (ap (λ (m : CpuValue). m.table) c.me.view_is ∙ (c.requires.table ∙ sym (ap (λ (t : TableValue). t.table) c.self.view_is)))) in
     let one : c.in-Some.visit.kind ≡ One = search rules in
     let small : SFits w32 c.run_one-answer.result = search rules in
     let leads = g.F.StopFunc.leads in
@@ -22,4 +22,4 @@ returns g c =
     (subst (λ (m : CpuValue). RunAnswers leads m (cpu_of e) c.args.func.now c.run_one-answer.new.func (Ok c.run_one-answer.result))
     c.me.view_is
     (run_answers leads d e c.me.inside.number c.in-Some.visit c.me.inside.holds c.me.inside.is_open c.args.func.now c.run_one-answer.new.func
-    c.run_one-answer.result c.run_one-answer.ensures.known.0 kept one table c.run_one-answer.ensures.known.1 c.run_one-answer.ensures.heard))
+    c.run_one-answer.result kept one table c.run_one-answer.ensures.known c.run_one-answer.ensures.heard))

@@ -10,7 +10,7 @@ use Rattle.smp_run.proofs.player.Player.answer_all.Goals as goal
 
 pub loop-at-init : goal.loop-at-init
 loop-at-init g c =
-    let me = c.args.self.now.cpu in let m = c.args.self.now.machine.now in (
+    let me = c.args.self.now.seat.cpu in let m = c.args.self.now.seat.machine in (
       record { machine_is = refl; number_is = refl },
       c.requires.sized,
       (λ i l a below mine. absurd (omega (arith, below))),
@@ -21,8 +21,8 @@ loop-at-init g c =
 pub loop-at-preserved : goal.loop-at-preserved
 loop-at-preserved g c =
     let was = c.loop-at.invariant in let same = was.0 in let call = c.answer_if.ensures in let more = call.same in let made = was.4 in
-    let first = c.args.self.now in let m = first.machine.now in let this = first.cpu.calls.number in let mid = c.loop-at.self in
-    let lines = c.args.lines.now in let line = c.index-lines-at.result in let answer = c.answer_if.new.answer in let new = c.answer_if.new.self.cpu in
+    let first = c.args.self.now.seat in let m = first.machine in let this = first.cpu.calls.number in let mid = c.loop-at.self.seat in
+    let lines = c.args.lines.now in let line = c.index-lines-at.result in let answer = c.answer_if.new.answer in let new = c.answer_if.new.self.seat.cpu in
     let told : IsLineMade m this line answer call.made.0 =
     subst (λ (n : ℕ). IsLineMade m n line answer call.made.0) same.number_is
     (subst (λ (x : MachineValue). IsLineMade x mid.cpu.calls.number line answer call.made.0) same.machine_is call.made.1) in (
@@ -34,7 +34,7 @@ loop-at-preserved g c =
           (λ mine. subst (λ (x : MachineValue). IsLineAnswer x.calls.online (keys_at x) line answer) same.machine_is
           (call.answered (mine ∙ sym same.number_is)))
           was.2,
-      script_more m mid.machine.now first.cpu mid.cpu new lines c.loop-at.at line c.loop-at-test.true
+      script_more m mid.machine first.cpu mid.cpu new lines c.loop-at.at line c.loop-at-test.true
           c.index-lines-at.is same.machine_is same.number_is was.3 call.sent,
       (
         made.0 ++ call.made.0 ∷ [],
@@ -45,10 +45,10 @@ loop-at-preserved g c =
 
 pub returns-clause-played : goal.returns-clause-played
 returns-clause-played g c =
-    let made = c.loop-at.invariant.4 in let m = c.args.self.now.machine.now in let lines = c.args.lines.now in
+    let made = c.loop-at.invariant.4 in let m = c.args.self.now.seat.machine in let lines = c.args.lines.now in
     let all : c.loop-at.at ≡ length lines = search (rules, arith) in
     record {
       made = made.0;
-      lines_are = subst (λ (n : ℕ). AreLinesMade m c.args.self.now.cpu.calls.number lines c.loop-at.answers n made.0) all made.1;
+      lines_are = subst (λ (n : ℕ). AreLinesMade m c.args.self.now.seat.cpu.calls.number lines c.loop-at.answers n made.0) all made.1;
       stops = made.2;
     }

@@ -4,9 +4,9 @@ use Rattle.smp_run.proofs.player.Player.answer_if.Goals as goal
 
 pub returns-else-cpu-number-clause-made : goal.returns-else-cpu-number-clause-made
 returns-else-cpu-number-clause-made g c =
-    let me = c.args.self.now.cpu in (
+    let me = c.args.self.now.seat.cpu in (
       [],
-      line_of_other c.args.self.now.machine.now me.calls.number c.in-Do.cpu c.in-Do.count c.in-Do.request c.args.line.now c.args.answer.now c.in-Do.is
-          (λ own. c.if-cpu-number.false (own ∙ sym c.number.ensures.number.0)),
+      line_of_other c.args.self.now.seat.machine me.calls.number c.in-Do.cpu c.in-Do.count c.in-Do.request c.args.line.now c.args.answer.now c.in-Do.is
+          (λ own. c.if-cpu-number.false (own ∙ sym c.number.ensures.number)),
       made_same me me refl,
     )

@@ -7,15 +7,15 @@ use Rattle.smp_run.proofs.player.Player.any.Goals as goal
 
 pub returns-clause-sent : goal.returns-clause-sent
 returns-clause-sent g c =
-    let me = c.args.self.now in let call = c.call_any-made in let limits = c.online-online.ensures.limits in
-    let low : (cpu : ℕ) → has me.machine.now.calls.online cpu ≡ true → cpu < cpus =
+    let me = c.args.self.now.seat in let own = c.args.self.now.own in let call = c.call_any-made in let limits = c.online-online.ensures.limits in
+    let low : (cpu : ℕ) → has me.machine.calls.online cpu ≡ true → cpu < cpus =
     subst (λ (online : ℕ). (cpu : ℕ) → has online cpu ≡ true → cpu < cpus) c.online-online.ensures.calls
     (λ cpu there. omega (arith, limits.below cpu there, limits.within)) in
-    any_sent _ me.machine.now.calls.online c.args.mask c.args.func c.args.info c.args.wait me.cpu call.new.me _ _ call.result me.own.free low
-    call.ensures.any call.ensures.queued call.ensures.here call.ensures.refused
+    any_sent _ me.machine.calls.online c.args.mask c.args.func c.args.info c.args.wait me.cpu call.new.self.cpu _ _ call.result own.free low
+    call.ensures.answers.any call.ensures.answers.queued call.ensures.answers.here call.ensures.answers.refused
 
 pub invariant_of-self-clause-waited : goal.invariant_of-self-clause-waited
 invariant_of-self-clause-waited g c =
-    let me = c.args.self.now in let call = c.call_any-made in
-    waited_any _ me.machine.now.calls.online c.args.mask c.args.func c.args.info c.args.wait me.cpu call.new.me _ _ call.result me.own.free
-    call.ensures.queued call.ensures.here call.ensures.refused me.waited
+    let me = c.args.self.now.seat in let own = c.args.self.now.own in let call = c.call_any-made in
+    waited_any _ me.machine.calls.online c.args.mask c.args.func c.args.info c.args.wait me.cpu call.new.self.cpu _ _ call.result own.free
+    call.ensures.answers.queued call.ensures.answers.here call.ensures.answers.refused c.args.self.now.waited

@@ -6,15 +6,15 @@ use Rattle.smp_run.proofs.player.Player.dec.Goals as goal
 
 pub returns-clause-answer : goal.returns-clause-answer
 returns-clause-answer g c =
-    let me = c.args.self.now in let call = c.key_dec-made in
-    rw c.turned_or.ensures (counted _ _ me.machine.now.stops c.args.k false me.cpu _ _ call.new.me _ _ call.result me.own.free call.ensures)
+    let me = c.args.self.now.seat in let call = c.key_dec-made in
+    rw c.turned_or.ensures (counted _ _ me.machine.stops c.args.k false me.cpu _ _ call.new.self.cpu _ _ call.result c.args.self.now.own.free
+    call.ensures.counts)
 
 pub returns-clause-sent : goal.returns-clause-sent
 returns-clause-sent g c =
-    let me = c.args.self.now in let call = c.key_dec-made in
-    sent_counted _ _ me.machine.now.stops c.args.k false me.cpu call.new.me _ _ _ _ call.result call.ensures
+    let call = c.key_dec-made in sent_counted _ _ c.args.k false c.args.self.now.seat call.new.self call.result call.ensures.counts
 
 pub returns-clause-made : goal.returns-clause-made
 returns-clause-made g c =
-    let me = c.args.self.now in let call = c.key_dec-made in
-    rw c.turned_or.ensures (makes_count _ _ me.machine.now.stops c.args.k false me.cpu call.new.me _ _ _ _ call.result call.ensures)
+    let call = c.key_dec-made in
+    rw c.turned_or.ensures (makes_count _ _ c.args.k false c.args.self.now.seat call.new.self call.result call.ensures.counts)

@@ -8,19 +8,19 @@ use Rattle.smp_run.proofs.player.Player.many.Goals as goal
 
 pub returns-clause-answer : goal.returns-clause-answer
 returns-clause-answer g c =
-    let me = c.args.self.now in let call = c.call_many-made in
-    rw c.cpus_or.ensures (many_answered (is_target c.args.mask me.machine.now.calls.online me.cpu.calls.number false) me.cpu call.new.me _ _ call.result
-    me.own.free
-    call.ensures.targets call.ensures.refused)
+    let me = c.args.self.now.seat in let own = c.args.self.now.own in let call = c.call_many-made in
+    rw c.cpus_or.ensures (many_answered (is_target c.args.mask me.machine.calls.online me.cpu.calls.number false) me.cpu call.new.self.cpu _ _ call.result
+    own.free
+    call.ensures.answers.targets call.ensures.answers.refused)
 
 pub returns-clause-sent : goal.returns-clause-sent
 returns-clause-sent g c =
-    let me = c.args.self.now in let call = c.call_many-made in
-    many_sent _ me.machine.now.calls.online c.args.mask c.args.func c.args.info c.args.wait me.cpu call.new.me _ _ call.result me.own.free
-    call.ensures.targets call.ensures.calls call.ensures.refused
+    let me = c.args.self.now.seat in let own = c.args.self.now.own in let call = c.call_many-made in
+    many_sent _ me.machine.calls.online c.args.mask c.args.func c.args.info c.args.wait me.cpu call.new.self.cpu _ _ call.result own.free
+    call.ensures.answers.targets call.ensures.answers.calls call.ensures.answers.refused
 
 pub invariant_of-self-clause-waited : goal.invariant_of-self-clause-waited
 invariant_of-self-clause-waited g c =
-    let me = c.args.self.now in let call = c.call_many-made in
-    waited_many _ members c.args.func c.args.info (λ called. None) c.args.wait me.cpu call.new.me _ _ call.result me.own.free call.ensures.calls
-    call.ensures.refused me.waited
+    let me = c.args.self.now.seat in let own = c.args.self.now.own in let call = c.call_many-made in
+    waited_many _ members c.args.func c.args.info (λ called. None) c.args.wait me.cpu call.new.self.cpu _ _ call.result own.free call.ensures.answers.calls
+    call.ensures.answers.refused c.args.self.now.waited

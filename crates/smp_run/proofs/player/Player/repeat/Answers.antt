@@ -7,23 +7,23 @@ use Rattle.smp_run.proofs.player.Player.repeat.Goals as goal
 
 pub loop-made-init : goal.loop-made-init
 loop-made-init g c =
-    let me = c.args.self.now.cpu in
+    let me = c.args.self.now.seat.cpu in
     (record { machine_is = refl; number_is = refl }, ([], refl, repeat_none me _, tt, made_same me me refl))
 
 pub loop-made-preserved : goal.loop-made-preserved
 loop-made-preserved g c =
     let was = c.loop-made.invariant in let same = was.0 in let before = was.1 in let call = c.make in let more = call.ensures.same in
-    let first = c.args.self.now in let now = c.loop-made.self in let request = c.args.request.now in
-    let made = made_more first.machine.now now.machine.now first.cpu now.cpu call.new.self.cpu request call.result before.0
+    let first = c.args.self.now.seat in let now = c.loop-made.self.seat in let request = c.args.request.now in
+    let made = made_more first.machine now.machine first.cpu now.cpu call.new.self.seat.cpu request call.result before.0
     same.machine_is same.number_is before.3 before.4 call.ensures.answer call.ensures.made in
     let grown : length (before.0 ++ made.last ∷ []) ≡ suc (length before.0) = omega (arith, length_push before.0 made.last) in (
       record { machine_is = more.machine_is ∙ same.machine_is; number_is = more.number_is ∙ same.number_is },
       (
         before.0 ++ made.last ∷ [],
         search (rules, arith),
-        subst (λ (k : ℕ). HasSent (repeated k (request_calls first.machine.now.calls.online first.cpu.calls.number request)) first.cpu call.new.self.cpu)
+        subst (λ (k : ℕ). HasSent (repeated k (request_calls first.machine.calls.online first.cpu.calls.number request)) first.cpu call.new.self.seat.cpu)
             (sym grown)
-            (repeat_more first.machine.now now.machine.now first.cpu now.cpu call.new.self.cpu request (length before.0)
+            (repeat_more first.machine now.machine first.cpu now.cpu call.new.self.seat.cpu request (length before.0)
             same.machine_is same.number_is before.2 call.ensures.sent),
         made.each,
         made.stops,
@@ -32,18 +32,18 @@ loop-made-preserved g c =
 
 pub returns-clause-sent : goal.returns-clause-sent
 returns-clause-sent g c =
-    let was = c.loop-made.invariant in let same = was.0 in let before = was.1 in let first = c.args.self.now in let request = c.args.request.now in
+    let was = c.loop-made.invariant in let same = was.0 in let before = was.1 in let first = c.args.self.now.seat in let request = c.args.request.now in
     let all : suc (length before.0) ≡ c.args.count =
     omega (arith, before.1, c.loop-made-test.false, c.loop-made.auto._made-end, c.requires.count) in
-    subst (λ (k : ℕ). HasSent (repeated k (request_calls first.machine.now.calls.online first.cpu.calls.number request)) first.cpu c.make-2.new.self.cpu) all
-    (repeat_more first.machine.now c.loop-made.self.machine.now first.cpu c.loop-made.self.cpu c.make-2.new.self.cpu request (length before.0)
+    subst (λ (k : ℕ). HasSent (repeated k (request_calls first.machine.calls.online first.cpu.calls.number request)) first.cpu c.make-2.new.self.seat.cpu) all
+    (repeat_more first.machine c.loop-made.self.seat.machine first.cpu c.loop-made.self.seat.cpu c.make-2.new.self.seat.cpu request (length before.0)
     same.machine_is same.number_is before.2 c.make-2.ensures.sent)
 
 pub returns-clause-made : goal.returns-clause-made
 returns-clause-made g c =
-    let was = c.loop-made.invariant in let same = was.0 in let before = was.1 in let first = c.args.self.now in let call = c.make-2 in
-    let now = c.loop-made.self in
-    let made = made_more first.machine.now now.machine.now first.cpu now.cpu call.new.self.cpu c.args.request.now call.result before.0
+    let was = c.loop-made.invariant in let same = was.0 in let before = was.1 in let first = c.args.self.now.seat in let call = c.make-2 in
+    let now = c.loop-made.self.seat in
+    let made = made_more first.machine now.machine first.cpu now.cpu call.new.self.seat.cpu c.args.request.now call.result before.0
     same.machine_is same.number_is before.3 before.4 call.ensures.answer call.ensures.made in
     let grown = length_push before.0 made.last in
     let all : length (before.0 ++ made.last ∷ []) ≡ c.args.count =

@@ -1,13 +1,13 @@
 use Rattle.std.proofs.Common.{◌≡◌, ◌+◌, List, length}
 use Rattle.std.specs.List.{AllByRecursion}
+use Rattle.smp_machine.specs.Seats.{IsSameSeat}
 use Rattle.smp_run.specs.Made.{Making, HasMade, IsMaking, stops_of}
-use Rattle.smp_run.specs.Players.{IsSame}
 use Rattle.smp_run.specs.Sent.{HasSent, repeated, request_calls}
 use Rattle.smp_run.proofs.player.Player.repeat.Given as goal
 
 abbrev pub invariant-loop-made : goal.invariant-loop-made
-invariant-loop-made g l = let first = l.initial.self in let this = first.cpu.calls.number in
-    IsSame first l.self
+invariant-loop-made g l = let first = l.initial.self.seat in let this = first.cpu.calls.number in
+    IsSameSeat first l.self.seat
     × ((makings : List Making) × (length makings + 1 ≡ l._made)
-    × HasSent (repeated (length makings) (request_calls first.machine.now.calls.online this l.request)) first.cpu l.self.cpu
-    × AllByRecursion (IsMaking first.machine.now this l.request) makings × HasMade (stops_of makings) first.cpu l.self.cpu)
+    × HasSent (repeated (length makings) (request_calls first.machine.calls.online this l.request)) first.cpu l.self.seat.cpu
+    × AllByRecursion (IsMaking first.machine this l.request) makings × HasMade (stops_of makings) first.cpu l.self.seat.cpu)

@@ -5,15 +5,15 @@ use Rattle.smp_run.proofs.player.Player.set.Goals as goal
 
 pub returns-clause-answer : goal.returns-clause-answer
 returns-clause-answer g c =
-    let me = c.args.self.now in let call = c.set_key-made in
-    rw c.turned_or.ensures (set_answered me.machine.now.stops me.cpu c.args.k call.result me.own.free call.ensures.may call.ensures.err)
+    let me = c.args.self.now.seat in let call = c.set_key-made in
+    rw c.turned_or.ensures (set_answered me.machine.stops me.cpu c.args.k call.result c.args.self.now.own.free call.ensures.may call.ensures.err)
 
 pub returns-clause-sent : goal.returns-clause-sent
 returns-clause-sent g c =
-    let me = c.args.self.now in let call = c.set_key-made in
-    sent_set _ _ me.machine.now.stops c.args.k c.args.on me.cpu call.new.me _ _ _ _ call.result call.ensures.sets call.ensures.outside call.ensures.kept
+    let call = c.set_key-made in
+    sent_set _ _ c.args.k c.args.on c.args.self.now.seat call.new.self call.result call.ensures.sets call.ensures.outside call.ensures.kept
 
 pub returns-clause-made : goal.returns-clause-made
 returns-clause-made g c =
-    let me = c.args.self.now in let call = c.set_key-made in
-    rw c.turned_or.ensures (makes_set _ _ me.machine.now.stops c.args.k c.args.on me.cpu call.new.me _ _ _ _ call.result call.ensures.sets call.ensures.kept)
+    let call = c.set_key-made in
+    rw c.turned_or.ensures (makes_set _ _ c.args.k c.args.on c.args.self.now.seat call.new.self call.result call.ensures.sets call.ensures.kept)
