@@ -63,13 +63,17 @@ pub enum Job<'a> {
     Write(Run),
     /// Judges a trace.
     Judge,
+    /// Tells the events of a script's replay.
+    Events,
+    /// Holds the trace of steps of this name against a script's replay.
+    Check(&'a str),
 }
 
 impl<'a> Job<'a> {
     /// The kind of text that it takes; none where it takes each.
     pub fn takes(&self) -> Option<TextKind> {
         match self {
-            Job::Show(..) => Some(TextKind::Replay),
+            Job::Show(..) | Job::Events | Job::Check(_) => Some(TextKind::Replay),
             Job::Explore(..) | Job::Outcomes(_) | Job::Write(_) => Some(TextKind::Exploration),
             Job::Judge => Some(TextKind::Trace),
             Job::Explain => None,
@@ -184,6 +188,8 @@ fn job_of<'a>(name: &str, matches: &ArgMatches<'a>) -> Result<Job<'a>, Wrong> {
         "sample" => Job::Explore(Orders::Sampled(sample_of(matches)), scripts_of(matches)),
         "outcomes" => Job::Outcomes(most_of(matches)),
         "script" => Job::Write(run_of(matches)),
+        "events" => Job::Events,
+        "check" => Job::Check(matches.get_str("TRACE").unwrap_or("-")),
         _ => Job::Judge,
     })
 }

@@ -12,6 +12,8 @@ pub enum Failure {
     Unread(io::Error),
     /// What was found could not be written; the reason of the system, where it gave one.
     Unwritten(Option<io::Error>),
+    /// The trace of steps could not be read, for this reason of the system.
+    NoTrace(io::Error),
     /// A script could not be written into its file, for this reason of the system.
     Unsaved(io::Error),
     /// A word that was named is no word of the table, or there are too many outcomes.

@@ -8,16 +8,20 @@ use std::alloc::{AllocError, Global};
 const VERSION: &str = "0.1.0-dev";
 
 const ABOUT: &str =
-    "Shows, explains, explores and judges texts of cross-processor calls and stops.";
+    "Shows, explains, explores, checks and judges texts of cross-processor calls and stops.";
 
 /// What stands behind the help of the program and of each subcommand.
 const STATUSES: &str = "Exit statuses:
-  0  done: all lines were run, there is no fault, all expectations hold, the trace is lawful
-  1  the answer is no: a refused event, a fault explained, a broken expectation, an unlawful trace
+  0  done: all lines were run, there is no fault, all expectations hold, the trace is lawful, the steps are the same
+  1  the answer is no: a refused event, a fault explained, a broken expectation, an unlawful trace, a step that differs
   2  it could not be done: standard error says why, or the output names the limit that was met";
 
 /// What is said of the last word.
 const FILE: &str = "The text; standard input where it is - or left out";
+
+/// What is said of the trace behind it.
+const TRACE: &str =
+    "The steps that were seen, as a replay prints them; standard input where it is -";
 
 /// An option with a number, and what help says of it.
 #[derive(Clone, Copy)]
@@ -162,6 +166,16 @@ const SCRIPT: Named = Named {
     about: "Writes down one random order of the steps of an exploration as a replay",
 };
 
+const EVENTS: Named = Named {
+    name: "events",
+    about: "Writes a replay as a trace of events, which judge takes",
+};
+
+const CHECK: Named = Named {
+    name: "check",
+    about: "Says whether a trace of steps is what a replay prints, or the first line that differs",
+};
+
 const JUDGE: Named = Named {
     name: "judge",
     about: "Says whether the model has a run with the events of a trace",
@@ -234,6 +248,10 @@ fn with_words<'a>(
     command: Command<'a>,
 ) -> Result<Command<'a>, AllocError> {
     let file = Arg::new(alloc, "FILE").help(FILE);
+    if named.name == CHECK.name {
+        let trace = Arg::new(alloc, "TRACE").help(TRACE).required(true);
+        return command.arg(file.required(true))?.arg(trace);
+    }
     if named.name != OUTCOMES.name {
         return command.arg(file);
     }
@@ -264,7 +282,7 @@ fn subcommand<'a>(
 
 /// All that the command line may have.
 pub fn grammar<'a>(alloc: Global) -> Result<Command<'a>, AllocError> {
-    let commands: [(Named, &[Number]); 9] = [
+    let commands: [(Named, &[Number]); 11] = [
         (LANES, &[FROM, TO]),
         (SVG, &[FROM, TO]),
         (JSON, &[FROM, TO]),
@@ -273,6 +291,8 @@ pub fn grammar<'a>(alloc: Global) -> Result<Command<'a>, AllocError> {
         (SAMPLE, &[SEED, RUNS, STEPS, ONLY]),
         (OUTCOMES, &[STATES, MEMORY]),
         (SCRIPT, &[SEED, RUN, STEPS]),
+        (EVENTS, &[]),
+        (CHECK, &[]),
         (JUDGE, &[]),
     ];
     let mut grammar = Command::new(alloc, "smp")

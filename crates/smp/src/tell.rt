@@ -27,6 +27,7 @@ pub fn tell(rt: &HostRuntime, name: &str, text: &[u8], failure: Failure) -> io::
         Failure::Unread(reason) => eprintln!(rt; "smp: {name}: {reason}"),
         Failure::Unwritten(Some(reason)) => eprintln!(rt; "smp: standard output: {reason}"),
         Failure::Unwritten(None) => eprintln!(rt; "smp: standard output takes no more"),
+        Failure::NoTrace(reason) => eprintln!(rt; "smp: the trace of steps: {reason}"),
         Failure::Unsaved(reason) => eprintln!(rt; "smp: a file of a script: {reason}"),
         Failure::NoWord => eprintln!(rt;
             "smp: a WORD is none of this table, as head.2 or queued.0.1, or there are more than 1000 outcomes"

@@ -1,6 +1,8 @@
 use super::*;
 use clap::error::ErrorKind;
 use smp_explore::Most;
+use smp_replay::check_steps;
+use smp_replay::difference::difference_text;
 use smp_report::{Orders, Task};
 use std::alloc::Global;
 use std::str::from_utf8;
@@ -13,7 +15,7 @@ fn refused(alloc: Global, words: &[&str]) -> Option<ErrorKind> {
 
 #[test]
 fn words_that_are_none_of_this_program(rt: HostRuntime) {
-    let cases: [(&[&str], ErrorKind); 24] = [
+    let cases: [(&[&str], ErrorKind); 25] = [
         (&["smp"], ErrorKind::MissingSubcommand),
         (&["smp", "jump"], ErrorKind::InvalidSubcommand),
         (&["smp", "lanes", "one", "two"], ErrorKind::UnknownArgument),
@@ -85,6 +87,7 @@ fn words_that_are_none_of_this_program(rt: HostRuntime) {
             &["smp", "script", "--run", "4294967296"],
             ErrorKind::ValueValidation,
         ),
+        (&["smp", "check", "one"], ErrorKind::MissingRequiredArgument),
         (&["smp", "--help"], ErrorKind::DisplayHelp),
         (&["smp", "svg", "-h"], ErrorKind::DisplayHelp),
         (&["smp", "--version"], ErrorKind::DisplayVersion),
@@ -137,7 +140,7 @@ fn which_limit(rt: HostRuntime) -> Result<(), Fail> {
 #[test]
 fn from_a_file_or_standard_input(rt: HostRuntime) -> Result<(), Fail> {
     for name in [
-        "lanes", "svg", "explain", "explore", "sample", "script", "judge",
+        "lanes", "svg", "explain", "explore", "sample", "script", "events", "judge",
     ] {
         let words = ["smp", name, "file"];
         let request = read_words(rt.alloc(), &words).ok().ok_or("words")?;
@@ -277,5 +280,58 @@ fn what_may_stand_there(rt: HostRuntime) -> Result<(), Fail> {
         let (said, _) = explained(rt.alloc(), text.as_bytes())?;
         assert_eq!(rt; from_utf8(said.as_slice()).unwrap_or("?"), expected);
     }
+    Ok(())
+}
+
+// A send, and what the machine prints for it.
+const SEND: &[u8] =
+    b"smp 1 replay\ncpus 2 0-1\nstart 0 send 1\nstep 0 1\nstart 1 handle\nstep 1 2\n";
+
+// What is told of a trace of steps that is held against the send.
+fn checked(alloc: Global, trace: &[u8]) -> Result<Vec<u8, Global>, SmpError> {
+    let checked = check_steps(alloc, SEND, trace)?;
+    let Some(difference) = checked.difference else {
+        return Ok(Vec::new(alloc));
+    };
+    let printed = checked.printed.as_bytes();
+    match difference_text(alloc, difference, printed, trace) {
+        Ok(text) => Ok(text),
+        Err(_) => Err(SmpError::NoMemory),
+    }
+}
+
+#[test]
+fn the_first_line_that_differs(rt: HostRuntime) -> Result<(), Fail> {
+    let cases: [(&[u8], &[u8]); 4] = [
+        (
+            b"0 store intr.1 1 ; sent\n1 store hand.1 1\n1 swap intr.1 1\n".as_slice(),
+            b"".as_slice(),
+        ),
+        (
+            b"0 store intr.1 1 ; sent\n1 swap intr.1 1\n1 store hand.1 1\n".as_slice(),
+            b"line 2 differs\nmachine: 1 store hand.1 1\ntrace: 1 swap intr.1 1\n".as_slice(),
+        ),
+        (
+            b"0 store intr.1 1 ; sent\n1 store hand.1 1\n".as_slice(),
+            b"line 3 differs\nmachine: 1 swap intr.1 1\ntrace has ended\n".as_slice(),
+        ),
+        (
+            b"0 store intr.1 1 ; sent".as_slice(),
+            b"line 1 differs\nmachine: 0 store intr.1 1 ; sent\ntrace: 0 store intr.1 1 ; sent (cut)\n".as_slice(),
+        ),
+    ];
+    for (trace, told) in cases {
+        assert_eq!(rt; checked(rt.alloc(), trace)?.as_slice(), told);
+    }
+    Ok(())
+}
+
+#[test]
+fn the_events_of_a_send(rt: HostRuntime) -> Result<(), Fail> {
+    let mut writer = Watched::new(Vec::new(rt.alloc()));
+    let outcome = show_events(rt.alloc(), &mut Watched::new(SEND), &mut writer)?;
+    assert_eq!(rt; outcome, Outcome::Done);
+    let told = b"smp 2 trace\ncpus 2 0-1\n0 send 1\n1 accept\n".as_slice();
+    assert_eq!(rt; writer.into_inner().as_slice(), told);
     Ok(())
 }

@@ -2,6 +2,7 @@
 pub mod Moments
 pub mod Trace
 pub mod Replays
+pub mod Events
 -- what is shown of it
 pub mod Choice
 -- a column for each CPU

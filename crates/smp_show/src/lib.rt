@@ -3,6 +3,7 @@
 //!
 //! - `show`, `svg`, `json`: A script from a reader, and what is shown of it to a writer.
 //! - `choice`: Which events are shown.
+//! - `events`: A replay as a trace of events.
 //! - `moments`, `trace`: What a script asks for, moment by moment, and what is seen of it.
 //! - `lanes`, `slim`, `cell`, `pad`: A replay with one column for each CPU, or one mark.
 //! - `picture`, `legend`, `element`: A replay as a picture.
@@ -18,6 +19,7 @@ pub mod cell;
 pub mod choice;
 mod condition_parts;
 mod element;
+pub mod events;
 pub mod explain;
 pub mod fault;
 pub mod fits;
@@ -44,6 +46,7 @@ pub mod text_kind;
 pub mod trace;
 
 pub use choice::{Choice, Mark};
+pub use events::show_events;
 pub use json::show_json;
 pub use show::{explain_script, show_lanes};
 pub use svg::show_svg;

@@ -42,7 +42,8 @@ impl TextKind {
     /// The commands that take such a text.
     pub fn takers(self) -> &'static str {
         match self {
-            TextKind::Replay => "smp_runner replay, smp lanes, smp svg and smp json take it",
+            TextKind::Replay =>
+                "smp_runner replay, smp lanes, smp svg, smp json, smp events and smp check take it",
             TextKind::Run => "smp_runner run takes it",
             TextKind::Exploration => "smp explore, smp sample, smp outcomes and smp script take it",
             TextKind::Trace => "smp judge takes it",
