@@ -1,3 +1,4 @@
+mod ends;
 mod hall;
 mod keys;
 mod line;
@@ -15,7 +16,6 @@ use smp_mask::{CpuMask, SmpError};
 use smp_queue::{Audit, Handler};
 use smp_words::size::NR_CPUS;
 use std::alloc::Global;
-use std::marker::Model;
 use std::process::Abort;
 use std::sync::Wait;
 use std::test::*;

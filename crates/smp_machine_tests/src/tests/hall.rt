@@ -1,21 +1,18 @@
 //! CPUs of one machine, each on a thread of its own.
 
 use super::line::{Part, play_parts};
-use super::member::{Member, Room};
+use super::member::{Ear, Member, Teller};
 use super::*;
-use crossbeam_utils::Backoff;
-use smp_start::StartLine;
 use std::sync::atomic::{AtomicU64, Ordering};
-use std::thread;
 use std::thread::Threads;
 
 /// How often the flag is read in vain by a function that is slow on purpose.
 const LINGER: u32 = 200_000;
 
-/// What the threads share: where they start, how many CPUs saw what they should, on which CPUs stop functions have run, and how often the flag was raised.
+/// What the threads share: how many CPUs saw what they should, on which CPUs stop functions have run, and how often the
+/// flag was raised.
 #[derive(Drop)]
 pub struct Hall {
-    start: StartLine,
     right: AtomicU64,
     ran: AtomicU64,
     flag: AtomicU64,
@@ -24,7 +21,6 @@ pub struct Hall {
 impl Hall {
     pub fn new() -> Hall {
         Hall {
-            start: StartLine::new(),
             right: AtomicU64::new(0),
             ran: AtomicU64::new(0),
             flag: AtomicU64::new(0),
@@ -62,51 +58,31 @@ impl Hall {
     }
 }
 
-/// Is done with its part, and polls until all CPUs are, and once more.
-fn poll_to_the_end<R: Wait>(me: &mut Member, rt: &R, cpus: u64) {
-    let hall = me.hall;
-    hall.start.note_done();
-    let backoff = Backoff::new();
-    for _ in rt.forever() {
-        let last = hall.start.done() >= cpus;
-        me.poll(rt);
-        if last {
-            return;
-        }
-        backoff.snooze();
-    }
-    unreachable!()
+/// What the CPUs of a machine do: each its parts, from CPU 0 on.
+#[derive(Drop)]
+struct Case<'a> {
+    hall: &'a Hall,
+    plays: &'a [&'a [Part<'a>]],
 }
 
-/// What one thread does.
-fn run<R: Wait>(mut me: Member, rt: &R, cpus: u64, parts: &[Part]) {
-    let hall = me.hall;
-    if !hall.start.wait(rt) {
-        return;
-    }
-    let right = play_parts(rt, &mut me, parts);
-    poll_to_the_end(&mut me, rt, cpus);
-    if right {
-        hall.right.fetch_add(1, Ordering::SeqCst);
-    }
-}
+impl<'a> Crew<Ear<'a>, Teller<'a>> for Case<'a> {
+    ghost begins = { λ _ _ _ _. Unit {0} };
 
-/// Runs each of the CPUs on a thread of its own, to the end.
-fn run_threads<R: Wait + Threads + Sync>(
-    rt: &R,
-    members: Vec<Member, Global>,
-    hall: &Hall,
-    plays: &[&[Part]],
-) {
-    let mut started = true;
-    let cpus = plays.len() as u64;
-    thread::scope(thread::scope_env(), rt, |scope| {
-        for (member, parts) in members.into_iter().zip(plays) {
-            let spawned = scope.spawn(move || run(member, rt, cpus, parts));
-            started = started && spawned.is_ok();
+    ghost plays = { λ _ _ _. Unit {0} };
+
+    fn make(&self, _cpu: u32) -> (Ear<'a>, Teller<'a>) {
+        (Ear::new(self.hall), Teller::new(self.hall))
+    }
+
+    fn play<R: Wait>(&self, seat: &mut Member<'_, 'a, R>) {
+        let right = match self.plays.get(seat.number() as usize) {
+            Some(parts) => play_parts(seat, parts),
+            None => false,
+        };
+        if right {
+            self.hall.right.fetch_add(1, Ordering::SeqCst);
         }
-        hall.start.settle(started);
-    });
+    }
 }
 
 /// Runs the CPUs of a machine of these labels on threads, each with its parts, from CPU 0 on: how many saw what they
@@ -120,10 +96,10 @@ pub fn in_threads<R: Wait + Threads + Sync>(
 ) -> Result<u64, SmpError> {
     let online: CpuMask = online.parse()?;
     let cpus = online.weight();
-    let hall = Hall::new();
     let nr = if cpus < NR_CPUS { cpus + 1 } else { NR_CPUS };
     let (machine, boot) = Machine::new(alloc, nr, online, labels)?;
-    let members = Room::new(&machine, boot, &hall).members(alloc, cpus)?;
-    run_threads(rt, members, &hall, plays);
+    let hall = Hall::new();
+    let case = Case { hall: &hall, plays };
+    run_cpus(rt, alloc, &machine, boot, &case)?;
     Ok(hall.right.load(Ordering::SeqCst))
 }

@@ -1,7 +1,9 @@
 //! Worked cases as lines: what a CPU does, and what it is answered.
 
+ghost use Rattle.smp_machine.specs.Seats.{IsSameSeat};
+
 use super::hall::Hall;
-use super::member::{Member, Room};
+use super::member::{Member, Room, SLOW};
 use super::*;
 use crossbeam_utils::Backoff;
 use smp_labels::SiteKind;
@@ -65,48 +67,55 @@ pub enum Act {
 
 impl Act {
     /// Whether it goes so.
-    fn goes<R: Wait>(&self, rt: &R, me: &mut Member) -> bool {
+    fn goes<R: Wait>(&self, me: &mut Member<'_, '_, R>) -> bool
+        ensures { IsSameSeat me.old me.new }
+    {
         match *self {
-            Act::One(dst, func, answer) => me.stop_one(rt, dst, func) == answer,
-            Act::Two(a, b, func, answer) => me.stop_two(rt, a, b, func) == answer,
-            Act::OneNext => me.stop_next(rt) == Ok(9),
-            Act::TwoNext => me.stop_with_next(rt) == Ok(9),
-            Act::All(func, arg, active, answer) => {
-                me.stop_machine(rt, func, arg, active) == answer
-            }
-            Act::Set(k, on, answer) => me.set_key(rt, k, on) == answer,
-            Act::SetTo(k, on) => me.set_key(rt, k, on).is_ok() && reads_as(me, k, on),
-            Act::Inc(k, answer) => me.key_inc(rt, k) == answer,
-            Act::Dec(k, answer) => me.key_dec(rt, k) == answer,
-            Act::Count(k, true) => me.key_inc(rt, k).is_ok(),
-            Act::Count(k, false) => me.key_dec(rt, k).is_ok(),
-            _ => self.calls(rt, me),
+            Act::One(dst, func, answer) => me.stop_one(dst, func, 4) == answer,
+            Act::Two(a, b, func, answer) => me.stop_two(a, b, func, 4) == answer,
+            Act::OneNext => me.stop_one(next(me), 9, 4) == Ok(9),
+            Act::TwoNext => me.stop_two(next(me), me.number(), 9, 4) == Ok(9),
+            Act::All(func, arg, active, answer) => me.stop_machine(func, arg, active) == answer,
+            Act::Set(k, on, answer) => me.set_key(k, on) == answer,
+            Act::SetTo(k, on) => me.set_key(k, on).is_ok() && reads_as(me, k, on),
+            Act::Inc(k, answer) => me.key_inc(k) == answer,
+            Act::Dec(k, answer) => me.key_dec(k) == answer,
+            Act::Count(k, true) => me.key_inc(k).is_ok(),
+            Act::Count(k, false) => me.key_dec(k).is_ok(),
+            _ => self.calls(me),
         }
     }
 
     /// Whether a call is answered as the line says.
-    fn calls<R: Wait>(&self, rt: &R, me: &mut Member) -> bool {
+    fn calls<R: Wait>(&self, me: &mut Member<'_, '_, R>) -> bool
+        ensures { IsSameSeat me.old me.new }
+    {
         match *self {
-            Act::Single(dst, wait, answer) => me.single(rt, dst, wait) == answer,
-            Act::ByUser(u, answer) => me.by_user(rt, u) == answer,
-            Act::Any(mask, answer) => me.any(rt, mask) == answer,
-            Act::Many(mask, answer) => me.many(rt, mask) == answer,
-            Act::Each(mask, yes, answer) => me.each(rt, mask, yes) == answer,
-            Act::SlowSingle(dst) => me.slow_single(rt, dst),
-            Act::SlowMany(mask) => me.slow_many(rt, mask),
-            Act::SlowEach(mask) => me.slow_each(rt, mask),
-            _ => self.serves(rt, me),
+            Act::Single(dst, wait, answer) => me.call_single(dst, 5, 6, wait) == answer,
+            Act::ByUser(u, answer) => me.call_async(u, 0, 7, 8) == answer,
+            Act::Any(mask, answer) => me.call_any(mask, 9, 10, false) == answer,
+            Act::Many(mask, answer) => me.call_many(mask, 11, 12, true) == answer,
+            Act::Each(mask, yes, answer) => {
+                let says = |_: u32, _: u64| yes;
+                me.each_cpu_cond(mask, 13, 14, &says, true) == answer
+            }
+            Act::SlowSingle(dst) => slow_single(me, dst),
+            Act::SlowMany(mask) => slow_many(me, mask),
+            Act::SlowEach(mask) => slow_each(me, mask),
+            _ => self.serves(me),
         }
     }
 
     /// Whether the CPU takes part in stops as the line says.
-    fn serves<R: Wait>(&self, rt: &R, me: &mut Member) -> bool {
+    fn serves<R: Wait>(&self, me: &mut Member<'_, '_, R>) -> bool
+        ensures { IsSameSeat me.old me.new }
+    {
         match *self {
-            Act::TakeWork(has_one) => me.take_work(rt) == has_one,
-            Act::AwaitWork => await_work(rt, me),
+            Act::TakeWork(has_one) => me.take_work() == has_one,
+            Act::AwaitWork => await_work(me),
             Act::Turn(turn) => me.turn() == turn,
             Act::Poll => {
-                me.poll(rt);
+                me.poll();
                 true
             }
             Act::Hears(calls) => hears(me, calls),
@@ -115,17 +124,19 @@ impl Act {
     }
 
     /// Whether what the CPU reads is as the line says.
-    fn is_seen(&self, me: &mut Member) -> bool {
+    fn is_seen<R: Wait>(&self, me: &mut Member<'_, '_, R>) -> bool
+        ensures { IsSameSeat me.old me.new }
+    {
         match *self {
             Act::Key(k, answer) => me.read_key(k) == answer,
             Act::Site(i, answer) => me.read_site(i) == answer,
             Act::Reads(k, on) => reads_as(me, k, on),
             Act::Agrees(k) => agrees(me, k),
-            Act::Heard(calls, last) => (me.ear.calls, me.ear.last) == (calls, last),
-            Act::Calls(calls) => me.teller.calls == calls,
-            Act::Runs(runs) => me.hall.runs() == runs,
+            Act::Heard(calls, last) => (me.handler.calls, me.handler.last) == (calls, last),
+            Act::Calls(calls) => me.functions.calls == calls,
+            Act::Runs(runs) => me.handler.hall.runs() == runs,
             Act::Raise => {
-                me.hall.raise();
+                me.handler.hall.raise();
                 true
             }
             _ => false,
@@ -133,10 +144,50 @@ impl Act {
     }
 }
 
-fn await_work<R: Wait>(rt: &R, me: &mut Member) -> bool {
+/// The CPU after this one, of those that are online from 0 on; the first after the last.
+fn next<R: Wait>(me: &Member<'_, '_, R>) -> u32 {
+    let after = me.number().wrapping_add(1);
+    if after < me.online().weight() {
+        after
+    } else {
+        0
+    }
+}
+
+/// Whether a slow function, called with wait, has come to its end on the CPU by the time that the call returns.
+fn slow_single<R: Wait>(me: &mut Member<'_, '_, R>, dst: u32) -> bool
+    ensures { IsSameSeat me.old me.new }
+{
+    let before = me.handler.hall.flag();
+    let made = me.call_single(dst, SLOW, 0, true);
+    made.is_ok() && me.handler.hall.was_raised(before, 1)
+}
+
+/// The same, on all CPUs called.
+fn slow_many<R: Wait>(me: &mut Member<'_, '_, R>, mask: CpuMask) -> bool
+    ensures { IsSameSeat me.old me.new }
+{
+    let before = me.handler.hall.flag();
+    let made = me.call_many(mask, SLOW, 0, true);
+    made == Ok(mask) && me.handler.hall.was_raised(before, mask.weight())
+}
+
+/// The same.
+fn slow_each<R: Wait>(me: &mut Member<'_, '_, R>, mask: CpuMask) -> bool
+    ensures { IsSameSeat me.old me.new }
+{
+    let before = me.handler.hall.flag();
+    let says = |_: u32, _: u64| true;
+    let made = me.each_cpu_cond(mask, SLOW, 0, &says, true);
+    made == Ok(mask) && me.handler.hall.was_raised(before, mask.weight())
+}
+
+fn await_work<R: Wait>(me: &mut Member<'_, '_, R>) -> bool
+    ensures { IsSameSeat me.old me.new }
+{
     let backoff = Backoff::new();
     for _ in 0..TRIES {
-        if me.take_work(rt) {
+        if me.take_work() {
             return true;
         }
         backoff.snooze();
@@ -144,11 +195,13 @@ fn await_work<R: Wait>(rt: &R, me: &mut Member) -> bool {
     false
 }
 
-fn hears(me: &mut Member, calls: u32) -> bool {
+fn hears<R: Wait>(me: &mut Member<'_, '_, R>, calls: u32) -> bool
+    ensures { IsSameSeat me.old me.new }
+{
     let backoff = Backoff::new();
     for _ in 0..TRIES {
         let turn = me.turn();
-        if me.ear.calls == calls {
+        if me.handler.calls == calls {
             return true;
         }
         if turn != Turn::Same {
@@ -160,7 +213,9 @@ fn hears(me: &mut Member, calls: u32) -> bool {
 }
 
 /// Whether key and sites are read as the key is on or off.
-fn reads_as(me: &mut Member, k: u32, on: bool) -> bool {
+fn reads_as<R: Wait>(me: &mut Member<'_, '_, R>, k: u32, on: bool) -> bool
+    ensures { IsSameSeat me.old me.new }
+{
     let first = k.wrapping_mul(2);
     let (off_branch, on_branch) = if on { (Jmp, Nop) } else { (Nop, Jmp) };
     me.read_key(k) == Ok(on)
@@ -168,7 +223,9 @@ fn reads_as(me: &mut Member, k: u32, on: bool) -> bool {
         && me.read_site(first.wrapping_add(1)) == Ok(on_branch)
 }
 
-fn agrees(me: &mut Member, k: u32) -> bool {
+fn agrees<R: Wait>(me: &mut Member<'_, '_, R>, k: u32) -> bool
+    ensures { IsSameSeat me.old me.new }
+{
     match me.read_key(k) {
         Ok(on) => reads_as(me, k, on) && reads_as(me, k, on),
         Err(_) => false,
@@ -176,10 +233,12 @@ fn agrees(me: &mut Member, k: u32) -> bool {
 }
 
 /// Whether all of these go so.
-fn all_go<R: Wait>(rt: &R, me: &mut Member, acts: &[Act]) -> bool {
+fn all_go<R: Wait>(me: &mut Member<'_, '_, R>, acts: &[Act]) -> bool
+    ensures { IsSameSeat me.old me.new }
+{
     let mut right = true;
     for act in acts {
-        right = act.goes(rt, me) && right;
+        right = act.goes(me) && right;
     }
     right
 }
@@ -193,13 +252,15 @@ pub enum Often {
 }
 
 /// Plays a part until the flag was raised this number of times. Whether all goes so.
-fn play_until<R: Wait>(rt: &R, me: &mut Member, flag: u64, acts: &[Act]) -> bool {
+fn play_until<R: Wait>(me: &mut Member<'_, '_, R>, flag: u64, acts: &[Act]) -> bool
+    ensures { IsSameSeat me.old me.new }
+{
     let backoff = Backoff::new();
     for _ in 0..TRIES {
-        if me.hall.flag() == flag {
+        if me.handler.hall.flag() == flag {
             return true;
         }
-        if !all_go(rt, me, acts) {
+        if !all_go(me, acts) {
             return false;
         }
         backoff.snooze();
@@ -207,13 +268,15 @@ fn play_until<R: Wait>(rt: &R, me: &mut Member, flag: u64, acts: &[Act]) -> bool
     false
 }
 
-fn play_often<R: Wait>(rt: &R, me: &mut Member, often: Often, acts: &[Act]) -> bool {
+fn play_often<R: Wait>(me: &mut Member<'_, '_, R>, often: Often, acts: &[Act]) -> bool
+    ensures { IsSameSeat me.old me.new }
+{
     match often {
-        Often::Until(flag) => play_until(rt, me, flag, acts),
+        Often::Until(flag) => play_until(me, flag, acts),
         Often::Times(times) => {
             let mut right = true;
             for _ in 0..times {
-                right = all_go(rt, me, acts) && right;
+                right = all_go(me, acts) && right;
             }
             right
         }
@@ -224,19 +287,24 @@ fn play_often<R: Wait>(rt: &R, me: &mut Member, often: Often, acts: &[Act]) -> b
 pub type Part<'a> = (Often, &'a [Act]);
 
 /// Plays a CPU's parts, one after the other: whether all goes as they say.
-pub fn play_parts<R: Wait>(rt: &R, me: &mut Member, parts: &[Part]) -> bool {
+pub fn play_parts<R: Wait>(me: &mut Member<'_, '_, R>, parts: &[Part]) -> bool
+    ensures { IsSameSeat me.old me.new }
+{
     let mut right = true;
     for (often, acts) in parts {
-        right = play_often(rt, me, *often, acts) && right;
+        right = play_often(me, *often, acts) && right;
     }
     right
 }
 
 /// The first line that goes another way.
-fn first_fault<R: Wait>(rt: &R, members: &mut [Member], lines: &[(usize, Act)]) -> Option<usize> {
+fn first_fault<R: Wait>(
+    members: &mut [Member<'_, '_, R>],
+    lines: &[(usize, Act)],
+) -> Option<usize> {
     for (i, (cpu, act)) in lines.iter().enumerate() {
         let is_so = match members.get_mut(*cpu) {
-            Some(member) => act.goes(rt, member),
+            Some(member) => act.goes(member),
             None => false,
         };
         if !is_so {
@@ -258,6 +326,6 @@ pub fn play<R: Wait>(
     let cpus = online.weight();
     let hall = Hall::new();
     let (machine, boot) = Machine::new(alloc, cpus, online, labels)?;
-    let mut members = Room::new(&machine, boot, &hall).members(alloc, cpus)?;
-    Ok(first_fault(rt, members.as_mut_slice(), lines))
+    let mut members = Room::new(rt, &machine, boot, &hall).members(alloc, cpus)?;
+    Ok(first_fault(members.as_mut_slice(), lines))
 }
