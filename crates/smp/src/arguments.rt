@@ -22,6 +22,7 @@ const MOST_LIST: usize = 1000;
 enum Wrong {
     Cpus,
     Mark,
+    Input,
 }
 
 impl Wrong {
@@ -32,6 +33,9 @@ impl Wrong {
             }
             Wrong::Mark => {
                 "invalid value for '--mark <EVENT>': it is last, or a number from 0 to 4294967295"
+            }
+            Wrong::Input => {
+                "invalid value for '<TRACE>': only one of FILE and TRACE can be standard input"
             }
         }
     }
@@ -177,6 +181,15 @@ fn choice_of(matches: &ArgMatches<'_>) -> Result<Choice, Wrong> {
     })
 }
 
+// The trace that is held against a script, where not both are standard input.
+fn trace_of<'a>(matches: &ArgMatches<'a>) -> Result<&'a str, Wrong> {
+    let trace = matches.get_str("TRACE").unwrap_or("-");
+    if trace == "-" && file_of(matches).is_none() {
+        return Err(Wrong::Input);
+    }
+    Ok(trace)
+}
+
 // What a subcommand does, by its name and the words behind it.
 fn job_of<'a>(name: &str, matches: &ArgMatches<'a>) -> Result<Job<'a>, Wrong> {
     Ok(match name {
@@ -189,7 +202,7 @@ fn job_of<'a>(name: &str, matches: &ArgMatches<'a>) -> Result<Job<'a>, Wrong> {
         "outcomes" => Job::Outcomes(most_of(matches)),
         "script" => Job::Write(run_of(matches)),
         "events" => Job::Events,
-        "check" => Job::Check(matches.get_str("TRACE").unwrap_or("-")),
+        "check" => Job::Check(trace_of(matches)?),
         _ => Job::Judge,
     })
 }

@@ -15,7 +15,7 @@ fn refused(alloc: Global, words: &[&str]) -> Option<ErrorKind> {
 
 #[test]
 fn words_that_are_none_of_this_program(rt: HostRuntime) {
-    let cases: [(&[&str], ErrorKind); 25] = [
+    let cases: [(&[&str], ErrorKind); 26] = [
         (&["smp"], ErrorKind::MissingSubcommand),
         (&["smp", "jump"], ErrorKind::InvalidSubcommand),
         (&["smp", "lanes", "one", "two"], ErrorKind::UnknownArgument),
@@ -88,6 +88,7 @@ fn words_that_are_none_of_this_program(rt: HostRuntime) {
             ErrorKind::ValueValidation,
         ),
         (&["smp", "check", "one"], ErrorKind::MissingRequiredArgument),
+        (&["smp", "check", "-", "-"], ErrorKind::ValueValidation),
         (&["smp", "--help"], ErrorKind::DisplayHelp),
         (&["smp", "svg", "-h"], ErrorKind::DisplayHelp),
         (&["smp", "--version"], ErrorKind::DisplayVersion),

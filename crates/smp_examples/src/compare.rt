@@ -12,7 +12,7 @@ use smp_replay::replay_script;
 use smp_report::explore_script;
 use smp_run::{FreePace, run_script};
 use smp_script::Watched;
-use smp_show::{Choice, show_lanes};
+use smp_show::{Choice, show_events, show_lanes};
 use std::alloc::Global;
 use std::sync::Wait;
 use std::thread::Threads;
@@ -41,6 +41,7 @@ fn take<T: Threads + Wait + Sync>(
         Kind::Lanes => show_lanes(alloc, &Choice::ALL, reader, writer).err(),
         Kind::Explore(task) => explore_script(alloc, task, reader, writer, &mut Unwatched).err(),
         Kind::Judge => judge_trace(alloc, reader, writer).err(),
+        Kind::Events => show_events(alloc, reader, writer).err(),
     }
 }
 

@@ -163,7 +163,8 @@ fn slow_single<R: Wait>(me: &mut Member<'_, '_, R>, dst: u32) -> bool
     made.is_ok() && me.handler.hall.was_raised(before, 1)
 }
 
-/// The same, on all CPUs called.
+/// Whether a slow function, called with wait on all CPUs of a mask, has come to its end on each by the time that the call
+/// returns.
 fn slow_many<R: Wait>(me: &mut Member<'_, '_, R>, mask: CpuMask) -> bool
     ensures { IsSameSeat me.old me.new }
 {
@@ -172,7 +173,8 @@ fn slow_many<R: Wait>(me: &mut Member<'_, '_, R>, mask: CpuMask) -> bool
     made == Ok(mask) && me.handler.hall.was_raised(before, mask.weight())
 }
 
-/// The same.
+/// Whether a slow function, called with wait by a condition that holds of every CPU, has come to its end on each CPU of a mask
+/// by the time that the call returns.
 fn slow_each<R: Wait>(me: &mut Member<'_, '_, R>, mask: CpuMask) -> bool
     ensures { IsSameSeat me.old me.new }
 {
