@@ -4,6 +4,8 @@ pub mod Showing
 -- a replay, from its first event to its last
 pub mod Output
 pub mod ProgressOf
+-- a call of `print_script`
+pub mod Prints
 -- a call of `replay_script`
 pub mod Replays
 -- the first line in which two texts differ

@@ -4,10 +4,8 @@ ghost use Rattle.std.specs.Prelude.{◌≡◌, string_bytes};
 ghost use Rattle.smp_replay.specs.Checks.{Checks};
 
 use crate::difference::{Difference, first_difference};
-use crate::playback::play_script;
+use crate::playback::print_script;
 use smp_mask::SmpError;
-use smp_script::Mode;
-use smp_script::script::read_script;
 use std::alloc::Allocator;
 
 /// What the machine prints for a script, and the first line in which a trace differs from it; none where it is the same.
@@ -27,8 +25,7 @@ pub fn check_steps<A: Allocator + Copy>(
 ) -> Result<Checked<A>, SmpError>
     ensures { Checks script.now trace.now result }
 {
-    let script = read_script(alloc, Mode::Replay, script)?;
-    let output = play_script(alloc, &script)?;
+    let output = print_script(alloc, script)?;
     let difference = first_difference(output.text.as_bytes(), trace);
     Ok(Checked {
         printed: output.text,

@@ -17,4 +17,5 @@ pub mod text;
 
 pub use check::check_steps;
 pub use difference::first_difference;
+pub use playback::{Printed, print_script};
 pub use replay::replay_script;

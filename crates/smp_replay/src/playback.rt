@@ -7,14 +7,16 @@ ghost use Rattle.smp_script.specs.Script.{events_of};
 ghost use Rattle.smp_script.specs.MeaningOf.{meaning_of};
 ghost use Rattle.smp_replay.specs.Output.{directive_after, event_after, event_text, labels_or_none, replay_after, replay_of, show_after, steps_after};
 ghost use Rattle.smp_replay.specs.ProgressOf.{progress_of};
+ghost use Rattle.smp_replay.specs.Prints.{Prints};
 
 use crate::show::write_show;
 use crate::text::{write_seen, write_stopped};
 use smp_core::{Core, Event, Seen};
 use smp_labels::LabelMap;
 use smp_mask::{CpuMask, SmpError};
+use smp_script::Mode;
 use smp_script::directive::Directive;
-use smp_script::script::Script;
+use smp_script::script::{Script, read_script};
 use std::alloc::{AllocError, Allocator};
 
 // A step prints its line, and a start none.
@@ -103,10 +105,11 @@ impl<A: Allocator> Playback<A> {
     }
 }
 
-/// What a script printed, and whether an event was refused.
+/// What a script printed.
 #[derive(Drop)]
 pub struct Printed<A: Allocator> {
     pub text: String<A>,
+    /// Whether an event was refused.
     pub stopped: bool,
 }
 
@@ -127,11 +130,8 @@ fn new_core<A: Allocator + Copy>(
     }
 }
 
-/// Runs a script on a table with no calls and no stops.
-pub fn play_script<A: Allocator + Copy>(
-    alloc: A,
-    script: &Script<A>,
-) -> Result<Printed<A>, SmpError>
+// Runs a script on a table with no calls and no stops.
+fn play_script<A: Allocator + Copy>(alloc: A, script: &Script<A>) -> Result<Printed<A>, SmpError>
     requires limits { AreLimits script.now.nr script.now.online }
     requires events { sum_by events_of script.now.directives.items ≤ 100000 }
     ensures text { IfOk result (λ o. string_bytes o.text ≡ (replay_of (meaning_of script.now)).text) }
@@ -153,4 +153,14 @@ pub fn play_script<A: Allocator + Copy>(
         text,
     } = playback;
     Ok(Printed { text, stopped })
+}
+
+/// Reads a script, runs it on a table with no calls and no stops, and keeps what it prints.
+///
+/// Refusals: `BadScript` with the first fault where the script is not lawful, `NoMemory` where a growth was refused.
+pub fn print_script<A: Allocator + Copy>(alloc: A, text: &[u8]) -> Result<Printed<A>, SmpError>
+    ensures { Prints text.now result }
+{
+    let script = read_script(alloc, Mode::Replay, text)?;
+    play_script(alloc, &script)
 }

@@ -5,11 +5,10 @@ ghost use Rattle.smp_mask.specs.declared.error.Side.TheVariants.{Read as ReadSid
 ghost use Rattle.smp_script.specs.Watched.{inner_of, failed_of, flushed_of};
 ghost use Rattle.smp_replay.specs.Replays.{Replays, outcome_of};
 
-use crate::playback::play_script;
+use crate::playback::print_script;
 use smp_mask::SmpError;
-use smp_script::script::read_script;
 use smp_script::stream::{read_text, write_text};
-use smp_script::{Mode, Outcome, Watched};
+use smp_script::{Outcome, Watched};
 use std::alloc::Allocator;
 use std::io::{Read, Write};
 
@@ -46,8 +45,7 @@ pub fn replay_script<A: Allocator + Copy, R: Read, W: Write>(
     ensures flushed { OnOk result (flushed_of writer.new ≡ true) }
 {
     let text = read_text(alloc, reader)?;
-    let script = read_script(alloc, Mode::Replay, text.as_slice())?;
-    let output = play_script(alloc, &script)?;
+    let output = print_script(alloc, text.as_slice())?;
     let printed = output.text.as_bytes();
     write_text(writer, printed)?;
     Ok(ending(output.stopped))
