@@ -5,7 +5,7 @@ pub mod Showing
 pub mod Output
 pub mod ProgressOf
 -- a call of `print_script`
-pub mod Prints
+pub mod Printing
 -- a call of `replay_script`
 pub mod Replays
 -- the first line in which two texts differ

@@ -7,7 +7,7 @@ ghost use Rattle.smp_script.specs.Script.{events_of};
 ghost use Rattle.smp_script.specs.MeaningOf.{meaning_of};
 ghost use Rattle.smp_replay.specs.Output.{directive_after, event_after, event_text, labels_or_none, replay_after, replay_of, show_after, steps_after};
 ghost use Rattle.smp_replay.specs.ProgressOf.{progress_of};
-ghost use Rattle.smp_replay.specs.Prints.{Prints};
+ghost use Rattle.smp_replay.specs.Printing.{PrintsReplay};
 
 use crate::show::write_show;
 use crate::text::{write_seen, write_stopped};
@@ -159,7 +159,7 @@ fn play_script<A: Allocator + Copy>(alloc: A, script: &Script<A>) -> Result<Prin
 ///
 /// Refusals: `BadScript` with the first fault where the script is not lawful, `NoMemory` where a growth was refused.
 pub fn print_script<A: Allocator + Copy>(alloc: A, text: &[u8]) -> Result<Printed<A>, SmpError>
-    ensures { Prints text.now result }
+    ensures { PrintsReplay text.now result }
 {
     let script = read_script(alloc, Mode::Replay, text)?;
     play_script(alloc, &script)

@@ -14,7 +14,7 @@ pub record HasPrinted {A : Type 0} (text : List ℕ) (p : Printed A) : Type 0 wh
   pub printed : string_bytes p.text ≡ (replay_of script).text
   pub ended : p.stopped ≡ (replay_of script).stopped
 
-abbrev pub Prints : {A : Type 0} → List ℕ → Result (Printed A) SmpError → Type 0
-Prints text (Ok p) = HasPrinted text p
+abbrev pub PrintsReplay : {A : Type 0} → List ℕ → Result (Printed A) SmpError → Type 0
+PrintsReplay text (Ok p) = HasPrinted text p
 -- the text is no lawful script, and this is its first fault, or there was no memory
-Prints text (Err e) = Fails e (script_of Replay text)
+PrintsReplay text (Err e) = Fails e (script_of Replay text)
