@@ -9,6 +9,7 @@
  * What the caller keeps to:
  * - A pointer with a length has that many bytes. No pointer is null, also where the length is 0: pass (uint8_t *)"".
  * - `out` and `*answer` lie apart from each other and from the input. What `*answer` has before the call is of no effect.
+ * - 64 KiB of stack are free. That was enough in all that was tried; no proof says how much a call takes.
  *
  * A call takes memory by malloc, realloc and free, and gives all of it back. It keeps nothing between calls. So threads may
  * call at the same time, each with bytes of its own. No signal handler may call, nor the forked child of a process with threads.
