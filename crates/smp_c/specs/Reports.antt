@@ -10,12 +10,13 @@ use Rattle.smp_c.specs.declared.report.Report.{Report}
 
 -- whether the answer is yes, the line that it names, 0 for none, and the text
 pub record ReportValue : Type 0 where
-  pub good : Bool
+  pub is_yes : Bool
   pub line : ℕ
   pub text : List ℕ
 
+-- a report of the program, with its bytes
 abbrev pub report_of : Report → ReportValue
-report_of r = record { good = r.good; line = r.line; text = r.text.items }
+report_of r = record { is_yes = r.is_yes; line = r.line; text = r.text.items }
 
 -- the number of a cause; 8 is memory refused
 abbrev pub cause_number : Cause → ℕ
@@ -33,10 +34,10 @@ filled text before = take (length before) text ++ drop (length text) before
 
 -- the status: yes, no, or the input has a fault
 abbrev pub status_of : Result ReportValue Fault → ℤ
-status_of (Ok report) = if report.good then pos 0 else pos 1
+status_of (Ok report) = if report.is_yes then pos 0 else pos 1
 status_of (Err fault) = pos 2
 
--- the numbers beside it, where there is room for so many bytes
+-- the numbers beside it, where `room` bytes have room
 abbrev pub answer_of : Result ReportValue Fault → ℕ → SmpAnswer
 answer_of (Ok report) room = record { length = length report.text; written = min (length report.text) room; line = report.line; cause = 0 }
 answer_of (Err (line, cause)) room = record { length = 0; written = 0; line = line; cause = cause_number cause }

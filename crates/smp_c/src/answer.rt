@@ -1,7 +1,7 @@
 //! How a report is put into the caller's memory.
 
 ghost use Rattle.std.specs.Prelude.{◌≡◌, length, min};
-ghost use Rattle.smp_c.specs.Reports.{GivesReport, cause_number, filled, status_of};
+ghost use Rattle.smp_c.specs.Reports.{GivesReport, cause_number, filled};
 
 use crate::report::Report;
 use smp_mask::{Cause, SmpError};
@@ -66,7 +66,7 @@ pub fn give(found: Result<Report, SmpError>, out: &mut [u8], answer: &mut SmpAns
                 line: report.line,
                 cause: 0,
             };
-            if report.good { 0 } else { 1 }
+            if report.is_yes { 0 } else { 1 }
         }
         Err(SmpError::BadScript { line, cause }) => {
             *answer = SmpAnswer {

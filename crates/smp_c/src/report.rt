@@ -18,7 +18,7 @@ use std::alloc::Global;
 #[derive(Drop)]
 pub struct Report {
     /// Whether the answer is yes.
-    pub good: bool,
+    pub is_yes: bool,
     /// The line that the answer names; 0 where it names none.
     pub line: usize,
     /// What there is to print.
@@ -30,7 +30,7 @@ impl Report {
         ensures { report_of result ≡ yes text.items }
     {
         Report {
-            good: true,
+            is_yes: true,
             line: 0,
             text,
         }
@@ -40,7 +40,7 @@ impl Report {
         ensures { report_of result ≡ no line text.items }
     {
         Report {
-            good: false,
+            is_yes: false,
             line,
             text,
         }
@@ -70,7 +70,7 @@ pub fn replay(alloc: Global, script: &[u8]) -> Result<Report, SmpError>
     let printed = print_script(alloc, script)?;
     let stopped = printed.stopped;
     Ok(Report {
-        good: !stopped,
+        is_yes: !stopped,
         line: 0,
         text: printed.text.into_bytes(),
     })
