@@ -73,6 +73,19 @@ impl<'a, A: Allocator, R: Wait, H: Handler + Drop> Caller<'a, A, R, H> {
         self.table.handle(&mut self.cpu, &mut self.handler)
     }
 
+    /// A poll; then, where no interrupt was pending, it sleeps until another CPU sends one to this CPU, or wakes it, as
+    /// `CallTable::rest`: what a CPU repeats that has nothing else to do. Nobody must poll.
+    pub fn rest(&mut self) -> Handled
+        ensures asked { result.interrupted ≡ true → (batch : List Call) × (self.new.cpu ≡ drains batch (asks true self.old.cpu))
+            × (Grows H.leads self.old.handler (order batch) self.new.handler) × (result.ran ≡ length batch) }
+        ensures idle { result.interrupted ≡ false → (self.new.cpu ≡ asks false self.old.cpu)
+            × (self.new.handler ≡ self.old.handler) × (result.ran ≡ 0) }
+        ensures laws { IsShown self.new.cpu }
+        ensures table { self.new.table.now ≡ self.old.table.now }
+    {
+        self.table.rest(self.rt, &mut self.cpu, &mut self.handler)
+    }
+
     /// Calls a function on one CPU, as [`call_single`] (`kernel/smp.c: smp_call_function_single`).
     ///
     /// A call to another CPU is queued at the compare-exchange that wins in its post. It may wait, for the record's last

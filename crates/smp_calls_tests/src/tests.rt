@@ -1,6 +1,7 @@
 ghost use Rattle.std.specs.Prelude.{◌≡◌, IfOk};
 
 mod conditions;
+mod resting;
 mod threads;
 mod users;
 mod waiting;

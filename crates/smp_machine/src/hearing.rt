@@ -21,7 +21,7 @@ use crate::machine::Machine;
 use crate::machine_cpu::MachineCpu;
 use smp_calls::{call_any, call_async, call_many, call_single, each_cpu_cond};
 use smp_mask::{CpuMask, SmpError};
-use smp_queue::{Audit, Boot, CallCpu, CallTable, Handler};
+use smp_queue::{Alarm, Audit, Boot, CallCpu, CallTable, Handler};
 use smp_words::call::Class;
 use std::alloc::Allocator;
 use std::marker::Model;
@@ -75,17 +75,34 @@ impl<A: Allocator> Hearing<A> {
     }
 }
 
-/// Handles the CPU's own interrupt, with interrupts on.
+/// Sets the alarm of a CPU: [`CallTable::set_alarm`].
+pub(crate) fn set_alarm<'m, A: Allocator>(
+    machine: &'m Machine<A>,
+    me: &MachineCpu<A>,
+) -> Alarm<'m> {
+    machine.calls.table.set_alarm(&me.calls)
+}
+
+/// Wakes a CPU that sleeps: [`CallTable::wake`].
+pub(crate) fn wake<A: Allocator>(machine: &Machine<A>, cpu: u32) {
+    machine.calls.table.wake(cpu);
+}
+
+/// Handles the CPU's own interrupt, with interrupts on: whether one was pending.
 pub(crate) fn hear<A: Allocator, H: Handler>(
     machine: &Machine<A>,
     me: &mut MachineCpu<A>,
     handler: &mut H,
-)
+) -> bool
     requires at { IsAt machine.now me.old }
     requires irq { me.old.stops.irq ≡ true }
     ensures { LooksOnce H.leads me.old handler.old me.new handler.new }
 {
-    machine.calls.table.handle(&mut me.calls, handler);
+    machine
+        .calls
+        .table
+        .handle(&mut me.calls, handler)
+        .interrupted
 }
 
 /// A call to one CPU. Interrupts are on: while it waits, the CPU handles its own.

@@ -12,8 +12,9 @@
 //! | `read_key`, `read_site` | nothing | nobody | the load | `static_key_enabled`, `arch_static_branch` |
 //! | `turn` | nothing | nobody | its own steps | one pass of `multi_cpu_stop` |
 //! | `poll` | the stop that it takes part in | the CPUs of that stop | its own steps | an interrupt, and the stopper thread |
+//! | `rest` | as `poll`; then, where that found nothing, for an interrupt or a work | the CPUs of that stop | its own steps | `do_idle` |
 //!
-//! Each call but `turn`, `poll` and the readings refuses with E4 (`SmpError::BadArgument`) where a work is in hand. A CPU that
+//! Each call but `turn`, `poll`, `rest` and the readings refuses with E4 (`SmpError::BadArgument`) where a work is in hand. A CPU that
 //! waits in a call of the first three rows handles its interrupts, and takes part in no stop. One that waits in a stop
 //! polls.
 //!

@@ -59,4 +59,23 @@ impl<'m, A: Allocator, R: Wait, H: Handler + Drop, F: StopFunc + Drop> Seat<'m, 
             &mut self.functions,
         )
     }
+
+    /// A poll; then, where that took neither an interrupt nor a work, it sleeps until another CPU sends one to this CPU, or
+    /// wakes it, as [`crate::Machine::rest`]: what an idle CPU repeats that is to leave its processor to others. It may wait as a
+    /// poll does, and it may sleep as long as nothing is for it.
+    #[tactic(auto, using(crate::proofs::Works::at_still, crate::proofs::Seats::number_worked))]
+    pub fn rest(&mut self)
+        ensures works { SeatWorks H.leads F.leads self.old self.new (own_of self.old.cpu) }
+        ensures polls { SeatPolls H.leads F.leads self.old self.new }
+        ensures outside { self.new.cpu.stops.inside ≡ None }
+        ensures once { self.old.cpu.stops.irq ≡ true → LooksOnceOrMore self.old.cpu.calls self.new.cpu.calls }
+        ensures same { IsSameSeat self.old self.new }
+    {
+        self.machine.rest(
+            self.rt,
+            &mut self.cpu,
+            &mut self.handler,
+            &mut self.functions,
+        )
+    }
 }

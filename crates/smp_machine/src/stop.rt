@@ -19,6 +19,7 @@ ghost use Rattle.smp_machine.specs.Stops.{MayBegin, item, AreShown, HasCollected
 ghost use Rattle.smp_machine.specs.WorkQueue.{IsKnown};
 ghost use Rattle.smp_machine.specs.Works.{Works};
 
+use crate::hearing::wake;
 use crate::machine::Machine;
 use crate::machine_cpu::MachineCpu;
 use crate::poll::poll;
@@ -112,7 +113,7 @@ fn try_put<A: Allocator, R: Wait>(
     machine.queues.put(rt, &mut me.passes, &me.stops, cpu, item)
 }
 
-/// Puts the work into this CPU's queue (`cpu_stop_queue_work`). Where that is full, takes a turn and tries again.
+/// Puts the work into this CPU's queue, and wakes it (`cpu_stop_queue_work`). Where that is full, takes a turn and tries again.
 fn put<A: Allocator, R: Wait, H: Handler, F: StopFunc>(
     machine: &Machine<A>,
     rt: &R,
@@ -135,6 +136,7 @@ fn put<A: Allocator, R: Wait, H: Handler, F: StopFunc>(
     let backoff = Backoff::new();
     for _ in rt.forever() {
         if try_put(machine, rt, me, cpu, work) {
+            wake(machine, cpu);
             return;
         }
         turn(machine, me, handler, run);

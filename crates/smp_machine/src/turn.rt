@@ -17,18 +17,16 @@ use smp_queue::Handler;
 use std::alloc::Allocator;
 use std::sync::Wait;
 
-/// Handles the CPU's own interrupt where interrupts are on; where they are off, nothing.
+/// Handles the CPU's own interrupt where interrupts are on; where they are off, nothing. Whether one was taken.
 pub(crate) fn handle_if_on<A: Allocator, H: Handler>(
     machine: &Machine<A>,
     me: &mut MachineCpu<A>,
     handler: &mut H,
-)
+) -> bool
     requires at { IsAt machine.now me.old }
     ensures { LooksIfOn H.leads me.old handler.old me.new handler.new }
 {
-    if me.stops.interrupts_on() {
-        hear(machine, me, handler);
-    }
+    me.stops.interrupts_on() && hear(machine, me, handler)
 }
 
 /// One turn of a stop of several CPUs; it completes where the CPU has left.
@@ -79,7 +77,26 @@ pub(crate) fn step<A: Allocator, F: StopFunc>(
 }
 
 /// Handles the own interrupt where interrupts are on, and then makes one turn of the work in hand, if any. It does not
-/// wait.
+/// wait. Beside the turn it tells whether an interrupt was taken.
+pub(crate) fn turn_and_tell<A: Allocator, H: Handler, F: StopFunc>(
+    machine: &Machine<A>,
+    me: &mut MachineCpu<A>,
+    handler: &mut H,
+    run: &mut F,
+) -> (Turn, bool)
+    requires at { IsAt machine.now me.old }
+    ensures works { Works H.leads F.leads me.old handler.old run.old me.new handler.new run.new (own_of me.old) }
+    ensures stops { TurnsStop F.leads me.old.stops run.old me.new.stops run.new result.0 }
+    ensures once { me.old.stops.irq ≡ true → LooksOnceMore me.old.calls me.new.calls }
+    ensures off { me.old.stops.irq ≡ false → (me.new.calls ≡ me.old.calls) × (handler.new ≡ handler.old) }
+    ensures passes { me.new.passes ≡ me.old.passes }
+{
+    let interrupted = handle_if_on(machine, me, handler);
+    me.is_shown(&machine.stops);
+    (step(machine, me, run), interrupted)
+}
+
+/// The same, without what is told beside the turn.
 pub(crate) fn turn<A: Allocator, H: Handler, F: StopFunc>(
     machine: &Machine<A>,
     me: &mut MachineCpu<A>,
@@ -93,9 +110,7 @@ pub(crate) fn turn<A: Allocator, H: Handler, F: StopFunc>(
     ensures off { me.old.stops.irq ≡ false → (me.new.calls ≡ me.old.calls) × (handler.new ≡ handler.old) }
     ensures passes { me.new.passes ≡ me.old.passes }
 {
-    handle_if_on(machine, me, handler);
-    me.is_shown(&machine.stops);
-    step(machine, me, run)
+    turn_and_tell(machine, me, handler, run).0
 }
 
 /// Turns until the work in hand is completed. It may wait; the CPUs of the work's mask must poll.

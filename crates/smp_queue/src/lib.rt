@@ -3,8 +3,8 @@
 //! The machine is that of `smp_call_steps`: the same stages, the same steps, the same laws, between any two steps of
 //! any threads. Each CPU is driven through one value, `CallCpu`.
 //!
-//! Which calls of one table may run together, in the form of `include/linux/llist.h`; `post` is also `post_within`, and
-//! `is_done` also `call_here`:
+//! Which calls of one table may run together, in the form of `include/linux/llist.h`; `post` is also `post_within`,
+//! `is_done` also `call_here`, and `handle` also `rest`:
 //!
 //! | | `post` | `send` | `is_done` | `tally` | `handle` | `Boot::cpu` | `new` | `audit` |
 //! |---|---|---|---|---|---|---|---|---|
@@ -21,11 +21,14 @@
 //! types refuse it, since `new` makes the table, `audit` takes it, and `Boot::cpu` takes the one `Boot` by `&mut`. The
 //! first five take the `CallCpu` of who calls by `&mut`, so that `-` is of two CPUs: one makes a single call at a time.
 //!
+//! `wake` and `set_alarm` make no step. They may run together with all calls but `new` and `audit`.
+//!
 //! At which step a call takes effect, whether it may wait and who must poll stands at each call. A CPU polls where it
-//! calls `handle` time and again.
+//! calls `handle` time and again. One that calls `rest` in its place sleeps until an interrupt is sent to it.
 #![tactic(auto)]
 
 mod accesses;
+mod alarms;
 mod audit;
 mod boot;
 mod cell;
@@ -42,6 +45,7 @@ mod seat;
 mod seat_view;
 mod table;
 
+pub use alarms::Alarm;
 pub use audit::{Audit, Left, Tally};
 pub use boot::Boot;
 pub use closing::ClosedTable;

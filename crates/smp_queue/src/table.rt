@@ -37,6 +37,7 @@ ghost use Rattle.smp_queue.specs.Cpu.{TableValue, IsFull, fresh_cpu, table_with,
 ghost use Rattle.smp_queue.specs.Audit.{ClosesWith, Audited, IfDrained, AreEqual, HasRowsOf, HasZerosFrom};
 
 use crate::accesses::{Owner, Words};
+use crate::alarms::{Alarm, Alarms};
 use crate::audit::Audit;
 use crate::boot::Boot;
 use crate::closing::ClosedTable;
@@ -64,6 +65,7 @@ pub struct CallTable<A: Allocator> {
     owner: Owner<A>,
     nr: u32,
     online: CpuMask,
+    alarms: Alarms,
 }
 
 impl<A: Allocator> Model for CallTable<A> {
@@ -111,7 +113,12 @@ where
         let is_online = online.contains(number);
         waiting.push(cpu_if(owner.words(), &mut maker, number, is_online))?;
     }
-    let table = CallTable { owner, nr, online };
+    let table = CallTable {
+        owner,
+        nr,
+        online,
+        alarms: Alarms::new(),
+    };
     let boot = Boot {
         maker,
         online,
@@ -208,8 +215,25 @@ impl<A: Allocator> CallTable<A> {
             return Err(SmpError::NoCpu);
         }
         store(self.owner.words(), &mut me.seat, Word::Intr(to), 1);
+        self.wake(to);
         me.is_shown();
         Ok(())
+    }
+
+    /// Wakes a CPU that sleeps in [`CallTable::rest`], and does nothing where it is awake. A CPU that is woken with no
+    /// interrupt pending runs nothing.
+    ///
+    /// It makes no step, does not wait, and nobody must poll.
+    pub fn wake(&self, cpu: u32) {
+        self.alarms.ring(cpu);
+    }
+
+    /// Sets the alarm of a CPU, for a caller that has more to look at than the interrupt word: set it, look, and let it
+    /// sleep where nothing was found ([`Alarm::sleep`]). [`CallTable::send`] and [`CallTable::wake`] ring it.
+    ///
+    /// It makes no step, and does not wait.
+    pub fn set_alarm(&self, me: &CallCpu) -> Alarm<'_> {
+        self.alarms.set(me.number)
     }
 
     /// The refusals of a post that come before its record is written, and else the call that it queues: E4, E2
@@ -352,6 +376,26 @@ impl<A: Allocator> CallTable<A> {
         let words = self.owner.words();
         let handled = handle(words, &mut me.seat, me.number, &mut me.ran, handler);
         me.is_shown();
+        handled
+    }
+
+    /// As [`CallTable::handle`]; then, where no interrupt was pending, it sleeps until another CPU sends one or wakes this
+    /// CPU ([`CallTable::wake`]). It is what a CPU repeats that has nothing else to do, in the place of a poll.
+    ///
+    /// It takes effect at the steps of `handle`, and sleeps behind them. What wakes it is told by its next look alone. That a
+    /// sleeping CPU is woken is not promised by a clause. Nobody must poll.
+    pub fn rest<R: Wait, H: Handler>(&self, rt: &R, me: &mut CallCpu, handler: &mut H) -> Handled
+        requires { me.old.table ≡ self.now.table }
+        ensures asked { result.interrupted ≡ true → (batch : List Call) × (me.new ≡ drains batch (asks true me.old))
+            × (Grows H.leads handler.old (order batch) handler.new) × (result.ran ≡ length batch) }
+        ensures idle { result.interrupted ≡ false → (me.new ≡ asks false me.old) × (handler.new ≡ handler.old) × (result.ran ≡ 0) }
+        ensures laws { IsShown me.new }
+    {
+        let alarm = self.set_alarm(me);
+        let handled = self.handle(me, handler);
+        if !handled.interrupted {
+            alarm.sleep(rt);
+        }
         handled
     }
 

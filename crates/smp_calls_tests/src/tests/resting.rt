@@ -1,0 +1,101 @@
+//! A CPU that rests is woken by each call.
+
+use super::*;
+use crossbeam_utils::Backoff;
+use std::thread;
+use std::thread::Threads;
+
+/// How often the CPU is called.
+const CALLS: u64 = 100_000;
+
+/// How often the caller looks before it takes a wake-up for lost, so that a lost one fails and does not hang.
+const TURNS: usize = 1_000_000;
+
+/// Counts calls of function 1, and notes a call of function 2.
+#[derive(Drop)]
+struct Count {
+    calls: u64,
+    over: bool,
+}
+
+impl Handler for Count {
+    ghost leads = { λ _ _ _. Unit {0} };
+
+    fn call(&mut self, _src: u32, func: u16, _info: u64) {
+        match func {
+            1 => self.calls = self.calls.wrapping_add(1),
+            _ => self.over = true,
+        }
+    }
+}
+
+/// A CPU that counts its calls.
+type Counter<'a, R> = Caller<'a, Global, R, Count>;
+
+/// Rests until it was called with function 2: how often it was called with function 1.
+fn rest_until_over<R: Wait>(mut one: Counter<'_, R>) -> u64 {
+    for _ in one.rt.forever() {
+        if one.handler.over {
+            return one.handler.calls;
+        }
+        one.rest();
+    }
+    unreachable!()
+}
+
+/// Whether the CPU's call by its first user record has begun to run, by the last of this number of looks.
+fn was_heard<R: Wait>(zero: &mut Counter<'_, R>) -> bool {
+    let backoff = Backoff::new();
+    for _ in 0..TURNS {
+        if zero.table.is_done(&mut zero.cpu, 10) == Ok(true) {
+            return true;
+        }
+        backoff.snooze();
+    }
+    false
+}
+
+/// Calls CPU 1, each time once it has heard the call before, up to the first call that it does not hear, and then with
+/// function 2: how many calls it has heard.
+fn call_each<R: Wait>(zero: &mut Counter<'_, R>) -> u64 {
+    let mut heard = 0u64;
+    for _ in 0..CALLS {
+        if zero.call_async(0, 1, 1, 0).is_err() || !was_heard(zero) {
+            break;
+        }
+        heard = heard.wrapping_add(1);
+    }
+    let last = zero.call_single(1, 2, 0, false);
+    zero.table.wake(1);
+    if last.is_ok() { heard } else { 0 }
+}
+
+/// How many calls the caller has seen heard, and how many were heard by a CPU that rests on a thread of its own.
+fn call_a_thread<'a, R: Wait + Threads + Sync>(
+    zero: &mut Counter<'a, R>,
+    one: Counter<'a, R>,
+) -> (u64, u64) {
+    let heard = AtomicU64::new(0);
+    let shared = &heard;
+    let mut seen = 0;
+    thread::scope(thread::scope_env(), zero.rt, |scope| {
+        let rests = move || shared.store(rest_until_over(one), Ordering::SeqCst);
+        if scope.spawn(rests).is_ok() {
+            seen = call_each(zero);
+        }
+    });
+    (seen, heard.load(Ordering::SeqCst))
+}
+
+#[test]
+fn a_cpu_that_rests_is_woken_by_each_call(rt: HostRuntime) -> Result<(), Fail> {
+    let (table, mut boot) = CallTable::new(rt.alloc(), 2, "0-1".parse()?)?;
+    let count = || Count {
+        calls: 0,
+        over: false,
+    };
+    let mut zero = Caller::new(&table, &rt, boot.cpu(0)?, count());
+    let one = Caller::new(&table, &rt, boot.cpu(1)?, count());
+    assert_eq!(rt; call_a_thread(&mut zero, one), (CALLS, CALLS));
+    Ok(())
+}
