@@ -1,14 +1,16 @@
 -- Threads of CPUs, one after another.
-use Rattle.std.proofs.Common.{◌≡◌, ℕ, suc, ◌+◌, true, false, Option, Some, None, MatchOption, List, [], ◌∷◌, ◌++◌, map, append_assoc, refl, sym, ap, ◌∙◌, subst, arith}
-use Rattle.std.proofs.lemmas.List.{append-nil, map-append}
+use Rattle.std.proofs.Common.{◌≡◌, ℕ, suc, ◌+◌, Bool, true, false, if◌then◌else◌, Option, Some, None, MatchOption, List, [], ◌∷◌, ◌++◌, append_assoc, refl, sym, ap, ◌∙◌, subst, arith}
+use Rattle.std.proofs.lemmas.List.{append-nil}
 use Rattle.smp_mask.specs.Mask.{has, members_below}
 use Rattle.smp_machine.specs.MachineCpu.{MachineValue, MachineCpuValue, BootValue, IsAt, fresh_place}
 use Rattle.smp_queue.specs.declared.handler.Heard.{Heard}
 use Rattle.smp_multi.specs.declared.func.Called.{Called}
-use Rattle.smp_machine.specs.Crews.{AreFor, IsNext, IsPlayed}
+use Rattle.smp_machine.specs.Crews.{HasEnded, IsPlayed, IsShown, seat_of}
+use Rattle.smp_machine.specs.Members.{AreFor, AreMembers, IsMember, IsNext}
 use Rattle.smp_machine.specs.Own.{own_of}
 use Rattle.smp_machine.specs.Seats.{SeatValue, SeatWorks, IsSameSeat}
-use Rattle.smp_machine.specs.Works.{Works}
+use Rattle.smp_machine.specs.declared.crew.Played.{Played}
+use Rattle.smp_machine.specs.declared.member.Member.{Member}
 
 -- one more at the end
 are_for-push : {X : Type 0} (P : ℕ → X → Type 0) (ns : List ℕ) (xs : List X) (n : ℕ) (x : X) → AreFor P ns xs → P n x
@@ -66,11 +68,6 @@ pub moved_all : {X Y : Type 0} (P : ℕ → Y → Type 0) (Q : ℕ → X → Typ
 moved_all P Q numbers done rest none m =
     done_all P Q numbers m.first m.later done m.numbers_are m.done_are (subst (λ (zs : List _). AreFor Q m.later zs) none m.rest_are)
 
--- the values of some numbers are for these
-pub mapped : {X : Type 0} (f : ℕ → X) (ns : List ℕ) → AreFor (λ n x. x ≡ f n) ns (map f ns)
-mapped f [] = tt
-mapped f (n ∷ ns) = (refl, mapped f ns)
-
 next_of : {X : Type 0} (Q : ℕ → X → Type 0) (later : List ℕ) (x : X) (rest : List X) → AreFor Q later (x ∷ rest) → (n : ℕ) × Q n x
 next_of Q [] x rest left = absurd left
 next_of Q (n ∷ later) x rest left = (n, left.0)
@@ -80,68 +77,80 @@ pub moved_next : {X Y : Type 0} (P : ℕ → Y → Type 0) (Q : ℕ → X → Ty
     → xs ≡ x ∷ rest → Moved P Q numbers done xs → (n : ℕ) × Q n x
 moved_next P Q numbers done x xs rest is m = next_of Q m.later x rest (subst (λ (zs : List _). AreFor Q m.later zs) is m.rest_are)
 
--- a CPU that was given out has done nothing
-pub is_fresh : (b : BootValue) (m : MachineValue) (n : ℕ) (p : MachineCpuValue) → b.machine ≡ m → p ≡ fresh_place b.machine n → p ≡ fresh_place m n
-is_fresh b m n p same is = is ∙ ap (λ (x : MachineValue). fresh_place x n) same
+-- a CPU that was given out, with what was made for it
+pub is_member : {H F : Type 0} (begins : ℕ → H → F → Type 0) (b : BootValue) (m : MachineValue) (n : ℕ) (p : MachineCpuValue) (h : H) (f : F) → b.machine ≡ m
+    → p ≡ fresh_place b.machine n → has b.machine.calls.online n ≡ true → begins n h f
+    → IsMember begins m n (record { cpu = p; handler = h; functions = f })
+is_member begins b m n p h f same is on made = record {
+  online = subst (λ (x : MachineValue). has x.calls.online n ≡ true) same on;
+  fresh = is ∙ ap (λ (x : MachineValue). fresh_place x n) same;
+  made = made;
+}
 
--- a fresh CPU is that of its own number
-pub fresh_own : (m : MachineValue) (n : ℕ) (p : MachineCpuValue) → p ≡ fresh_place m n → p ≡ fresh_place m p.calls.number
-fresh_own m n p is = is ∙ ap (λ (x : MachineCpuValue). fresh_place m x.calls.number) (sym is)
+-- it is the CPU of its own number
+pub member_own : {H F : Type 0} (begins : ℕ → H → F → Type 0) (m : MachineValue) (n : ℕ) (x : Member H F) → IsMember begins m n x
+    → IsMember begins m x.cpu.calls.number x
+member_own begins m n x is =
+    subst (λ (k : ℕ). IsMember begins m k x) (sym (ap (λ (p : MachineCpuValue). p.calls.number) is.fresh)) is
 
 -- no CPU is below 0; one CPU more is online, or not
-pub below_none : (f : ℕ → MachineCpuValue) (mask : ℕ) (xs : List MachineCpuValue) → xs ≡ [] → xs ≡ map f (members_below mask 0)
+pub below_none : {X : Type 0} (P : ℕ → X → Type 0) (mask : ℕ) (xs : List X) → xs ≡ [] → AreFor P (members_below mask 0) xs
 unfolding members_below
-below_none f mask xs e = e
+below_none P mask xs e = subst (λ (ys : List _). AreFor P [] ys) (sym e) tt
 
 next : (n : ℕ) → suc n ≡ n + 1
 next n = omega arith
 
-in_suc : (f : ℕ → MachineCpuValue) (mask n : ℕ) (xs : List MachineCpuValue) (y : MachineCpuValue) → has mask n ≡ true → xs ≡ map f (members_below mask n)
-    → y ≡ f n → xs ++ y ∷ [] ≡ map f (members_below mask (suc n))
+in_suc : {X : Type 0} (P : ℕ → X → Type 0) (mask n : ℕ) (xs : List X) (x : X) → has mask n ≡ true → AreFor P (members_below mask n) xs → P n x
+    → AreFor P (members_below mask (suc n)) (xs ++ x ∷ [])
 unfolding members_below
-in_suc f mask n xs y there is e = rw (there, is, e) (sym (map-append f (members_below mask n) (n ∷ [])))
+in_suc P mask n xs x there all here =
+    subst (λ (b : Bool). AreFor P (members_below mask n ++ (if b then n ∷ [] else [])) (xs ++ x ∷ [])) (sym there)
+    (are_for-push P (members_below mask n) xs n x all here)
 
-out_suc : (f : ℕ → MachineCpuValue) (mask n : ℕ) (xs : List MachineCpuValue) → has mask n ≡ false → xs ≡ map f (members_below mask n)
-    → xs ≡ map f (members_below mask (suc n))
+out_suc : {X : Type 0} (P : ℕ → X → Type 0) (mask n : ℕ) (xs : List X) → has mask n ≡ false → AreFor P (members_below mask n) xs
+    → AreFor P (members_below mask (suc n)) xs
 unfolding members_below
-out_suc f mask n xs other is = rw (other, is) (ap (map f) (sym (append-nil (members_below mask n))))
+out_suc P mask n xs other all =
+    subst (λ (b : Bool). AreFor P (members_below mask n ++ (if b then n ∷ [] else [])) xs) (sym other)
+    (subst (λ (ns : List ℕ). AreFor P ns xs) (sym (append-nil (members_below mask n))) all)
 
-below_in : (f : ℕ → MachineCpuValue) (mask n : ℕ) (xs : List MachineCpuValue) (y : MachineCpuValue) → has mask n ≡ true → xs ≡ map f (members_below mask n)
-    → y ≡ f n → xs ++ y ∷ [] ≡ map f (members_below mask (n + 1))
-below_in f mask n xs y there is e = subst (λ (k : ℕ). xs ++ y ∷ [] ≡ map f (members_below mask k)) (next n) (in_suc f mask n xs y there is e)
+pub below_next : {H F : Type 0} (begins : ℕ → H → F → Type 0) (m : MachineValue) (n : ℕ) (xs ys : List (Member H F)) (r : Option (Member H F))
+    → IsNext begins m n r → MatchOption r (ys ≡ xs) (λ x. ys ≡ xs ++ x ∷ []) → AreMembers begins m (members_below m.calls.online n) xs
+    → AreMembers begins m (members_below m.calls.online (n + 1)) ys
+below_next {H} {F} begins m n xs ys None off same all =
+    subst (λ (k : ℕ). AreMembers begins m (members_below m.calls.online k) ys) (next n)
+    (subst (λ (zs : List (Member H F)). AreMembers begins m (members_below m.calls.online (suc n)) zs) (sym same)
+    (out_suc (λ k x. IsMember begins m k x) m.calls.online n xs off all))
+below_next {H} {F} begins m n xs ys (Some x) here pushed all =
+    subst (λ (k : ℕ). AreMembers begins m (members_below m.calls.online k) ys) (next n)
+    (subst (λ (zs : List (Member H F)). AreMembers begins m (members_below m.calls.online (suc n)) zs) (sym pushed)
+    (in_suc (λ k x. IsMember begins m k x) m.calls.online n xs x here.online all here))
 
-below_out : (f : ℕ → MachineCpuValue) (mask n : ℕ) (xs : List MachineCpuValue) → has mask n ≡ false → xs ≡ map f (members_below mask n)
-    → xs ≡ map f (members_below mask (n + 1))
-below_out f mask n xs other is = subst (λ (k : ℕ). xs ≡ map f (members_below mask k)) (next n) (out_suc f mask n xs other is)
-
-pub below_next : (m : MachineValue) (n : ℕ) (xs ys : List MachineCpuValue) (r : Option MachineCpuValue) → IsNext m n r
-    → MatchOption r (ys ≡ xs) (λ p. ys ≡ xs ++ p ∷ []) → xs ≡ map (fresh_place m) (members_below m.calls.online n)
-    → ys ≡ map (fresh_place m) (members_below m.calls.online (n + 1))
-below_next m n xs ys None off same is = same ∙ below_out (fresh_place m) m.calls.online n xs off is
-below_next m n xs ys (Some p) here pushed is = pushed ∙ below_in (fresh_place m) m.calls.online n xs p here.0 is here.1
-
--- a CPU that has played its part, and then polled
+-- a CPU that has played its part, and has ended
 pub played_is : {H F : Type 0} (hears : H → Heard → H → Type 0) (runs : F → Called → F → Type 0) (begins : ℕ → H → F → Type 0)
-    (plays : SeatValue H F → SeatValue H F → Type 0) (m : MachineValue) (cpu : MachineCpuValue) (number : ℕ) (h : H) (f : F)
-    (start played ended : SeatValue H F) (back : MachineCpuValue) (h' : H) (f' : F) → cpu ≡ fresh_place m cpu.calls.number → number ≡ cpu.calls.number
-    → begins number h f → start ≡ record { machine = m; cpu = cpu; handler = h; functions = f } → plays start played → IsSameSeat start played
-    → SeatWorks hears runs played ended (own_of played.cpu) → IsSameSeat played ended
-    → (back ≡ ended.cpu) × (h' ≡ ended.handler) × (f' ≡ ended.functions) → IsAt ended.machine back
-    → IsPlayed hears runs begins plays m cpu.calls.number (record { cpu = back; handler = h'; functions = f' })
-played_is {H} {F} hears runs begins plays m cpu number h f start played ended back h' f' fresh own begun is part same polled still parts at =
+    (plays : SeatValue H F → SeatValue H F → Type 0) (leaves : ℕ → Type 0) (m : MachineValue) (x : Member H F) (start played ended : SeatValue H F)
+    (back : Played H F) → IsMember begins m x.cpu.calls.number x
+    → start ≡ record { machine = m; cpu = x.cpu; handler = x.handler; functions = x.functions } → plays start played → IsSameSeat start played
+    → SeatWorks hears runs played ended (own_of played.cpu) → IsSameSeat played ended → HasEnded (leaves played.cpu.calls.number) played ended
+    → (back.cpu ≡ ended.cpu) × (back.handler ≡ ended.handler) × (back.functions ≡ ended.functions) → IsAt ended.machine back.cpu → IsShown back.cpu
+    → IsPlayed hears runs begins plays leaves m x.cpu.calls.number back
+played_is {H} {F} hears runs begins plays leaves m x start played ended back member is part same polled still left parts at shown =
     let machine_is : ended.machine ≡ m = still.machine_is ∙ (same.machine_is ∙ ap (λ (s : SeatValue H F). s.machine) is) in
-    let number_is : ended.cpu.calls.number ≡ cpu.calls.number =
-    still.number_is ∙ (same.number_is ∙ ap (λ (s : SeatValue H F). s.cpu.calls.number) is) in
+    let number_is : played.cpu.calls.number ≡ x.cpu.calls.number = same.number_is ∙ ap (λ (s : SeatValue H F). s.cpu.calls.number) is in
+    let back_is : ended ≡ seat_of m back =
+    λ i. record { machine = machine_is i; cpu = sym parts.0 i; handler = sym parts.1 i; functions = sym parts.2 i } in
     record {
-      at = subst (λ (x : MachineValue). IsAt x back) machine_is at;
-      number_is = ap (λ (p : MachineCpuValue). p.calls.number) parts.0 ∙ number_is;
-      handler = h;
-      functions = f;
-      made = subst (λ (n : ℕ). begins n h f) own begun;
+      at = subst (λ (t : MachineValue). IsAt t back.cpu) machine_is at;
+      number_is = ap (λ (p : MachineCpuValue). p.calls.number) parts.0 ∙ (still.number_is ∙ number_is);
+      shown = shown;
+      handler = x.handler;
+      functions = x.functions;
+      made = member.made;
       played = played;
-      part = subst (λ (p : MachineCpuValue). plays (record { machine = m; cpu = p; handler = h; functions = f }) played) fresh
+      part = subst (λ (p : MachineCpuValue). plays (record { machine = m; cpu = p; handler = x.handler; functions = x.functions }) played) member.fresh
           (subst (λ (s : SeatValue H F). plays s played) is part);
-      polled = subst (λ (p : MachineCpuValue). Works hears runs played.cpu played.handler played.functions p h' f' (own_of played.cpu)) (sym parts.0)
-          (subst (λ (x : H). Works hears runs played.cpu played.handler played.functions ended.cpu x f' (own_of played.cpu)) (sym parts.1)
-          (subst (λ (x : F). Works hears runs played.cpu played.handler played.functions ended.cpu ended.handler x (own_of played.cpu)) (sym parts.2) polled));
+      polled = subst (λ (s : SeatValue H F). SeatWorks hears runs played s (own_of played.cpu)) back_is polled;
+      ended = subst (λ (n : ℕ). HasEnded (leaves n) played (seat_of m back)) number_is
+          (subst (λ (s : SeatValue H F). HasEnded (leaves played.cpu.calls.number) played s) back_is left);
     }

@@ -12,6 +12,8 @@ pub mod Moves
 pub mod Answers
 -- a CPU with its machine, its handler and its stop function
 pub mod Seats
+-- the CPUs before they begin, each with what was made for it
+pub mod Members
 -- what CPUs have done, each on a thread of its own
 pub mod Crews
 -- their threads

@@ -52,6 +52,11 @@ pub record IsQuiet (p : MachineCpuValue) : Type 0 where
 abbrev pub fresh_place : MachineValue → ℕ → MachineCpuValue
 fresh_place m cpu = record { calls = fresh_calls m.calls cpu; stops = fresh_stops m.stops.table m.stops.setting cpu; passes = fresh_passes m.queues cpu }
 
+-- a CPU of this machine that is online and has done nothing
+pub record IsFresh (m : MachineValue) (p : MachineCpuValue) : Type 0 where
+  pub online : has m.calls.online p.calls.number ≡ true
+  pub is : p ≡ fresh_place m p.calls.number
+
 -- the machine whose CPUs are given out, and which of these are left
 pub record BootValue : Type 0 where
   pub machine : MachineValue

@@ -1,7 +1,7 @@
 -- The threads of the CPUs of a machine, by what they promise.
 use Rattle.std.specs.Prelude.{◌≡◌, ℕ, List}
 use Rattle.std.specs.declared.thread.PromisedHandle.{PromisedHandle}
-use Rattle.smp_machine.specs.Crews.{AreFor}
+use Rattle.smp_machine.specs.Members.{AreFor}
 use Rattle.smp_machine.specs.MachineCpu.{MachineValue}
 use Rattle.smp_machine.specs.declared.threads.Task.{Task}
 

@@ -35,6 +35,7 @@ mod key_work;
 pub mod laws;
 mod machine;
 mod machine_cpu;
+mod member;
 mod open;
 mod poll;
 mod read;

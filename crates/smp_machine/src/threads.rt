@@ -1,25 +1,26 @@
 //! A thread for each online CPU of a machine.
 
-ghost use Rattle.std.specs.Prelude.{◌≡◌, ◌≤◌, ◌+◌, ℕ, [], map, length, vec_len, vec_capacity, ◌∷◌, ◌++◌, IfOk, IfErr, IfSome, MatchOption};
+ghost use Rattle.std.specs.Prelude.{◌≡◌, ◌≤◌, [], vec_len, vec_capacity, IfOk, IfErr, IfSome};
 ghost use Rattle.smp_mask.specs.Mask.{members};
-ghost use Rattle.smp_machine.specs.Crews.{AreLeftFrom, ArePlayed, IsNext, IsPlayed};
+ghost use Rattle.smp_machine.specs.Crews.{ArePlayed, HasEnded, IsPlayed};
+ghost use Rattle.smp_machine.specs.Members.{AreMembers, IsMember};
 ghost use Rattle.smp_machine.specs.Own.{own_of};
-ghost use Rattle.smp_machine.specs.MachineCpu.{IsFull, fresh_place};
+ghost use Rattle.smp_machine.specs.MachineCpu.{IsFull};
 ghost use Rattle.smp_machine.specs.Seats.{IsSameSeat, SeatWorks};
 ghost use Rattle.smp_machine.specs.Threads.{AreStarted, IsTaskOf};
 
 use crate::boot::MachineBoot;
-use crate::cpu::Cpu;
 use crate::crew::{Crew, Played};
+use crate::laws::is_shown;
 use crate::machine::Machine;
+use crate::member::{Member, members_of};
 use crate::seat::Seat;
 use crossbeam_utils::Backoff;
 use smp_mask::SmpError;
 use smp_multi::StopFunc;
 use smp_queue::Handler;
 use smp_start::StartLine;
-use smp_words::size::NR_CPUS;
-use std::alloc::{AllocError, Global};
+use std::alloc::Global;
 use std::sync::Wait;
 use std::thread;
 use std::thread::{Promise, PromisedHandle, Scope, Threads};
@@ -37,66 +38,26 @@ impl<'e, H: Handler + Drop, F: StopFunc + Drop, C: Crew<H, F>> Promise<Option<Pl
     ghost use Rattle.std.specs.Prelude.{IfSome};
     ghost use Rattle.smp_machine.specs.Crews.{IsPlayed};
 
-    ghost kept_by = { λ t r. IfSome r (λ p. IsPlayed H.leads F.leads (C.begins t.crew.now) (C.plays t.crew.now) t.machine.now t.number p) };
+    ghost kept_by = { λ t r. IfSome r (λ p. IsPlayed H.leads F.leads (C.begins t.crew.now) (C.plays t.crew.now) (C.leaves t.crew.now) t.machine.now t.number p) };
 }
 
 /// A thread that was started.
 type Thread<'e, H, F, C> = PromisedHandle<Option<Played<H, F>>, Task<'e, C>>;
 
-/// The CPU of a number, where it is online; the CPUs from that number on were not given out before, and those above it are not
-/// yet.
-#[tactic(auto, using(crate::proofs::Crews::is_fresh))]
-fn next_cpu(
-    machine: &Machine<Global>,
-    boot: &mut MachineBoot<Global>,
-    number: u32,
-) -> Option<Cpu<Global>>
-    requires { AreLeftFrom machine.now boot.old number }
-    ensures cpu { IsNext machine.now number result }
-    ensures left { AreLeftFrom machine.now boot.new (number + 1) }
-{
-    match boot.cpu(number) {
-        Ok(cpu) => Some(cpu),
-        Err(_) => None,
-    }
-}
-
-/// One CPU more, if there is one.
-fn push_if(cpus: &mut Vec<Cpu<Global>, Global>, cpu: Option<Cpu<Global>>) -> Result<(), AllocError>
-    ensures { IfOk result (λ _. MatchOption cpu (cpus.new.items ≡ cpus.old.items) (λ c. cpus.new.items ≡ cpus.old.items ++ c ∷ [])) }
-{
-    match cpu {
-        Some(cpu) => Ok(cpus.push(cpu)?),
-        None => Ok(()),
-    }
-}
-
-/// The CPUs of a machine that are online, ascending.
-fn cpus_of(
-    alloc: Global,
-    machine: &Machine<Global>,
-    mut boot: MachineBoot<Global>,
-) -> Result<Vec<Cpu<Global>, Global>, AllocError>
-    requires { IsFull boot machine.now }
-    ensures { IfOk result (λ cpus. cpus.items ≡ map (fresh_place machine.now) (members machine.now.calls.online)) }
-{
-    let mut cpus = Vec::with_capacity(alloc, NR_CPUS as usize)?;
-    for number in 0..NR_CPUS {
-        let cpu = next_cpu(machine, &mut boot, number);
-        push_if(&mut cpus, cpu)?;
-    }
-    Ok(cpus)
-}
-
-/// Polls until all CPUs have played their parts, and once more.
-fn poll_to_the_end<R: Wait, H: Handler + Drop, F: StopFunc + Drop>(
+/// Where the crew says that this CPU polls, it polls until all CPUs have played their parts, and once more.
+fn poll_to_the_end<R: Wait, H: Handler + Drop, F: StopFunc + Drop, C: Crew<H, F>>(
     rt: &R,
-    seat: &mut Seat<'_, Global, R, H, F>,
+    crew: &C,
     line: &StartLine,
+    seat: &mut Seat<'_, Global, R, H, F>,
 )
     ensures works { SeatWorks H.leads F.leads seat.old seat.new (own_of seat.old.cpu) }
     ensures same { IsSameSeat seat.old seat.new }
+    ensures ended { HasEnded (C.leaves crew.now seat.old.cpu.calls.number) seat.old seat.new }
 {
+    if !crew.polls(seat.number()) {
+        return;
+    }
     let all = u64::from(seat.online().weight());
     let backoff = Backoff::new();
     for _ in rt.forever() {
@@ -110,27 +71,33 @@ fn poll_to_the_end<R: Wait, H: Handler + Drop, F: StopFunc + Drop>(
     unreachable!()
 }
 
-/// What the thread of a CPU does: once all are started, its part; then it polls until all CPUs have played theirs. None where
-/// it may not begin.
+/// What the thread of a CPU does: once all are started, its part; then it polls until all CPUs have played theirs, where the
+/// crew says so. None where it may not begin.
 fn drive<R: Wait, H: Handler + Drop, F: StopFunc + Drop, C: Crew<H, F>>(
     rt: &R,
     machine: &Machine<Global>,
     crew: &C,
     line: &StartLine,
-    cpu: Cpu<Global>,
+    member: Member<H, F>,
 ) -> Option<Played<H, F>>
-    requires { cpu ≡ fresh_place machine.now cpu.calls.number }
-    ensures { IfSome result (λ p. IsPlayed H.leads F.leads (C.begins crew.now) (C.plays crew.now) machine.now cpu.calls.number p) }
+    requires machine { C.runs_on crew.now machine.now }
+    requires member { IsMember (C.begins crew.now) machine.now member.cpu.calls.number member }
+    ensures { IfSome result (λ p. IsPlayed H.leads F.leads (C.begins crew.now) (C.plays crew.now) (C.leaves crew.now) machine.now member.cpu.calls.number p) }
 {
     if !line.wait(rt) {
         return None;
     }
-    let (handler, functions) = crew.make(cpu.number());
+    let Member {
+        cpu,
+        handler,
+        functions,
+    } = member;
     let mut seat = Seat::new(machine, rt, cpu, handler, functions);
     crew.play(&mut seat);
     line.note_done();
-    poll_to_the_end(rt, &mut seat, line);
+    poll_to_the_end(rt, crew, line, &mut seat);
     let (cpu, handler, functions) = seat.into_parts();
+    is_shown(machine, &cpu);
     Some(Played {
         cpu,
         handler,
@@ -152,22 +119,23 @@ impl<'e, R: Wait + Threads + Sync, C: Sync> Run<'e, R, C> {
     fn start<'s, H: Handler + Drop + Send + 's, F: StopFunc + Drop + Send + 's>(
         &self,
         scope: &Scope<'s, &'e ()>,
-        cpu: Cpu<Global>,
+        member: Member<H, F>,
     ) -> Option<Thread<'e, H, F, C>>
     where
         C: Crew<H, F>,
-        requires { cpu ≡ fresh_place self.now.machine.now cpu.calls.number }
-        ensures { IfSome result (λ h. IsTaskOf self.now.machine.now self.now.crew.now cpu.calls.number h.promise) }
+        requires machine { C.runs_on self.now.crew.now self.now.machine.now }
+        requires member { IsMember (C.begins self.now.crew.now) self.now.machine.now member.cpu.calls.number member }
+        ensures { IfSome result (λ h. IsTaskOf self.now.machine.now self.now.crew.now member.cpu.calls.number h.promise) }
     {
         let (rt, machine, crew, line) = (self.rt, self.machine, self.crew, self.line);
-        let number = cpu.number();
+        let number = member.cpu.number();
         let task = Task {
             machine,
             crew,
             number,
         };
         scope
-            .spawn_with(task, move || drive(rt, machine, crew, line, cpu))
+            .spawn_with(task, move || drive(rt, machine, crew, line, member))
             .ok()
     }
 
@@ -175,19 +143,20 @@ impl<'e, R: Wait + Threads + Sync, C: Sync> Run<'e, R, C> {
     fn start_all<'s, H: Handler + Drop + Send + 's, F: StopFunc + Drop + Send + 's>(
         &self,
         scope: &Scope<'s, &'e ()>,
-        cpus: Vec<Cpu<Global>, Global>,
+        all: Vec<Member<H, F>, Global>,
         mut handles: Vec<Thread<'e, H, F, C>, Global>,
     ) -> Result<Vec<Thread<'e, H, F, C>, Global>, Vec<Thread<'e, H, F, C>, Global>>
     where
         C: Crew<H, F>,
-        requires cpus { cpus.items ≡ map (fresh_place self.now.machine.now) (members self.now.machine.now.calls.online) }
-        requires room { vec_len cpus ≤ vec_capacity handles }
+        requires machine { C.runs_on self.now.crew.now self.now.machine.now }
+        requires members { AreMembers (C.begins self.now.crew.now) self.now.machine.now (members self.now.machine.now.calls.online) all.items }
+        requires room { vec_len all ≤ vec_capacity handles }
         requires none { (vec_len handles ≡ 0) × (handles.items ≡ []) }
-        ensures sized { IfOk result (λ h. vec_len h ≡ vec_len cpus) }
+        ensures sized { IfOk result (λ h. vec_len h ≡ vec_len all) }
         ensures started { IfOk result (λ h. AreStarted self.now.machine.now self.now.crew.now (members self.now.machine.now.calls.online) h.items) }
     {
-        for cpu in cpus {
-            let Some(handle) = self.start(scope, cpu) else {
+        for member in all {
+            let Some(handle) = self.start(scope, member) else {
                 return Err(handles);
             };
             let Ok(()) = handles.push(handle) else {
@@ -208,7 +177,7 @@ impl<'e, R: Wait + Threads + Sync, C: Sync> Run<'e, R, C> {
         requires started { AreStarted self.now.machine.now self.now.crew.now (members self.now.machine.now.calls.online) handles.items }
         requires room { vec_len handles ≤ vec_capacity back }
         requires none { (vec_len back ≡ 0) × (back.items ≡ []) }
-        ensures { IfSome result (λ v. ArePlayed H.leads F.leads (C.begins self.now.crew.now) (C.plays self.now.crew.now) self.now.machine.now
+        ensures { IfSome result (λ v. ArePlayed H.leads F.leads (C.begins self.now.crew.now) (C.plays self.now.crew.now) (C.leaves self.now.crew.now) self.now.machine.now
             (members self.now.machine.now.calls.online) v.items) }
     {
         for handle in handles {
@@ -226,18 +195,19 @@ impl<'e, R: Wait + Threads + Sync, C: Sync> Run<'e, R, C> {
         &self,
         scope: &Scope<'s, &'e ()>,
         alloc: Global,
-        cpus: Vec<Cpu<Global>, Global>,
+        all: Vec<Member<H, F>, Global>,
     ) -> Option<Vec<Played<H, F>, Global>>
     where
         C: Crew<H, F>,
-        requires { cpus.items ≡ map (fresh_place self.now.machine.now) (members self.now.machine.now.calls.online) }
-        ensures { IfSome result (λ v. ArePlayed H.leads F.leads (C.begins self.now.crew.now) (C.plays self.now.crew.now) self.now.machine.now
+        requires machine { C.runs_on self.now.crew.now self.now.machine.now }
+        requires members { AreMembers (C.begins self.now.crew.now) self.now.machine.now (members self.now.machine.now.calls.online) all.items }
+        ensures { IfSome result (λ v. ArePlayed H.leads F.leads (C.begins self.now.crew.now) (C.plays self.now.crew.now) (C.leaves self.now.crew.now) self.now.machine.now
             (members self.now.machine.now.calls.online) v.items) }
     {
-        let count = cpus.len();
+        let count = all.len();
         let handles = Vec::with_capacity(alloc, count).ok()?;
         let back = Vec::with_capacity(alloc, count).ok()?;
-        match self.start_all(scope, cpus, handles) {
+        match self.start_all(scope, all, handles) {
             Ok(handles) => {
                 self.line.open();
                 self.join_all(handles, back)
@@ -264,17 +234,18 @@ fn run_scope<
     machine: &'e Machine<Global>,
     crew: &'e C,
     line: &'e StartLine,
-    cpus: Vec<Cpu<Global>, Global>,
+    all: Vec<Member<H, F>, Global>,
 ) -> Option<Vec<Played<H, F>, Global>>
-    requires { cpus.items ≡ map (fresh_place machine.now) (members machine.now.calls.online) }
-    ensures { IfSome result (λ v. ArePlayed H.leads F.leads (C.begins crew.now) (C.plays crew.now) machine.now (members machine.now.calls.online) v.items) }
+    requires machine { C.runs_on crew.now machine.now }
+    requires members { AreMembers (C.begins crew.now) machine.now (members machine.now.calls.online) all.items }
+    ensures { IfSome result (λ v. ArePlayed H.leads F.leads (C.begins crew.now) (C.plays crew.now) (C.leaves crew.now) machine.now (members machine.now.calls.online) v.items) }
 {
     thread::scope(
         thread::scope_env(),
         rt,
         move |scope| -> Option<Vec<Played<H, F>, Global>>
-            requires { cpus.items ≡ map (fresh_place machine.now) (members machine.now.calls.online) }
-            ensures { IfSome result (λ v. ArePlayed H.leads F.leads (C.begins crew.entry.now) (C.plays crew.entry.now) machine.entry.now
+            requires { C.runs_on crew.now machine.now × AreMembers (C.begins crew.now) machine.now (members machine.now.calls.online) all.items }
+            ensures { IfSome result (λ v. ArePlayed H.leads F.leads (C.begins crew.entry.now) (C.plays crew.entry.now) (C.leaves crew.entry.now) machine.entry.now
                 (members machine.entry.now.calls.online) v.items) }
         {
             let run = Run {
@@ -283,15 +254,16 @@ fn run_scope<
                 crew,
                 line,
             };
-            run.run_threads(scope, alloc, cpus)
+            run.run_threads(scope, alloc, all)
         },
     )
 }
 
 /// Runs each CPU of a machine on a thread of its own, and gives all of them back, ascending, with their handlers and stop
-/// functions: each plays its part of the crew once all are started, then polls until all have played theirs, and once more.
+/// functions. These are made before any thread is started. Each CPU plays its part of the crew once all threads are started.
+/// Then it polls until all have played theirs, and once more, unless the crew says that it ends at once.
 ///
-/// It waits until all parts are played. The caller's own thread plays none, and need not poll.
+/// It waits until all threads have ended. The caller's own thread plays no part, and need not poll.
 ///
 /// E6 (`SmpError::NoMemory`) where memory is refused or a thread can't be started; then no part has begun.
 pub fn run_cpus<
@@ -306,15 +278,17 @@ pub fn run_cpus<
     boot: MachineBoot<Global>,
     crew: &C,
 ) -> Result<Vec<Played<H, F>, Global>, SmpError>
-    requires { IsFull boot machine.now }
-    ensures back { IfOk result (λ v. ArePlayed H.leads F.leads (C.begins crew.now) (C.plays crew.now) machine.now (members machine.now.calls.online) v.items) }
+    requires full { IsFull boot machine.now }
+    requires machine { C.runs_on crew.now machine.now }
+    ensures back { IfOk result (λ v. ArePlayed H.leads F.leads (C.begins crew.now) (C.plays crew.now) (C.leaves crew.now) machine.now
+        (members machine.now.calls.online) v.items) }
     ensures only { IfErr result (λ e. e ≡ SmpError.NoMemory) }
 {
-    let Ok(cpus) = cpus_of(alloc, machine, boot) else {
+    let Ok(all) = members_of(alloc, machine, boot, crew) else {
         return Err(SmpError::NoMemory);
     };
     let line = StartLine::new();
-    match run_scope(rt, alloc, machine, crew, &line, cpus) {
+    match run_scope(rt, alloc, machine, crew, &line, all) {
         Some(played) => Ok(played),
         None => Err(SmpError::NoMemory),
     }

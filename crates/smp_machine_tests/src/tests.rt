@@ -15,7 +15,7 @@ use smp_machine::*;
 use smp_mask::{CpuMask, SmpError};
 use smp_queue::{Audit, Handler};
 use smp_words::size::NR_CPUS;
-use std::alloc::Global;
+use std::alloc::{AllocError, Global};
 use std::process::Abort;
 use std::sync::Wait;
 use std::test::*;

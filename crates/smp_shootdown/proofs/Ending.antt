@@ -17,14 +17,14 @@ abbrev pub Flushes : SeatValue Tlb NoStop → SeatValue Tlb NoStop → Type 0
 Flushes old new = old.cpu.calls.part.ran ≡ [] → IsFlushed new.cpu.calls new.handler.entries.items
 
 module _ (hears : Tlb → Heard → Tlb → Type 0) (leaves : (p : Tlb) (call : Heard) (q : Tlb) → hears p call q → q.entries.items ≡ left_by call p.entries.items)
-    (runs : NoStop → Called → NoStop → Type 0) (begins : ℕ → Tlb → NoStop → Type 0) (m : MachineValue) where
-  is_back : (number : ℕ) (p : Played Tlb NoStop) → IsPlayed hears runs begins Flushes m number p → IsBack m p
+    (runs : NoStop → Called → NoStop → Type 0) (begins : ℕ → Tlb → NoStop → Type 0) (ends : ℕ → Type 0) (m : MachineValue) where
+  is_back : (number : ℕ) (p : Played Tlb NoStop) → IsPlayed hears runs begins Flushes ends m number p → IsBack m p
   is_back number p b = record {
     at = b.at;
     flushed = flushed_handled hears (λ (h : Tlb). h.entries.items) leaves b.played.cpu.calls p.cpu.calls b.played.handler p.handler (b.part refl) b.polled.handled;
   }
 
-  pub are_back : (numbers : List ℕ) (back : List (Played Tlb NoStop)) → ArePlayed hears runs begins Flushes m numbers back → AreBack m back
+  pub are_back : (numbers : List ℕ) (back : List (Played Tlb NoStop)) → ArePlayed hears runs begins Flushes ends m numbers back → AreBack m back
   are_back [] [] all = tt
   are_back (n ∷ ns) (p ∷ ps) all = (is_back n p all.0, are_back ns ps all.1)
   are_back [] (p ∷ ps) all = absurd all

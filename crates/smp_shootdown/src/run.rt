@@ -128,8 +128,8 @@ impl<'a> Crew<Tlb<'a>, NoStop> for Shootdowns<'a> {
     // A CPU that has run no call before: its TLB holds no entry of a space of which it has run a flush.
     ghost plays = { λ _ old new. old.cpu.calls.part.ran ≡ [] → IsFlushed new.cpu.calls new.handler.entries.items };
 
-    fn make(&self, _cpu: u32) -> (Tlb<'a>, NoStop) {
-        (Tlb::new(self.alloc, self.gone), NoStop)
+    fn make(&self, _cpu: u32) -> Result<(Tlb<'a>, NoStop), AllocError> {
+        Ok((Tlb::new(self.alloc, self.gone), NoStop))
     }
 
     fn play<R: Wait>(&self, seat: &mut Seat<'_, Global, R, Tlb<'a>, NoStop>) {

@@ -10,12 +10,12 @@ use Rattle.smp_torture.specs.Ends.{AreAt}
 
 -- CPUs that have played their parts are of the machine
 pub all_at : {H F : Type 0} (hears : H → Heard → H → Type 0) (runs : F → Called → F → Type 0) (begins : ℕ → H → F → Type 0)
-    (plays : SeatValue H F → SeatValue H F → Type 0) (m : MachineValue) (numbers : List ℕ) (back : List (Played H F))
-    → ArePlayed hears runs begins plays m numbers back → AreAt m back
-all_at hears runs begins plays m [] [] all = tt
-all_at hears runs begins plays m (n ∷ ns) (p ∷ ps) all = (all.0.at, all_at hears runs begins plays m ns ps all.1)
-all_at hears runs begins plays m [] (p ∷ ps) all = absurd all
-all_at hears runs begins plays m (n ∷ ns) [] all = absurd all
+    (plays : SeatValue H F → SeatValue H F → Type 0) (leaves : ℕ → Type 0) (m : MachineValue) (numbers : List ℕ) (back : List (Played H F))
+    → ArePlayed hears runs begins plays leaves m numbers back → AreAt m back
+all_at hears runs begins plays leaves m [] [] all = tt
+all_at hears runs begins plays leaves m (n ∷ ns) (p ∷ ps) all = (all.0.at, all_at hears runs begins plays leaves m ns ps all.1)
+all_at hears runs begins plays leaves m [] (p ∷ ps) all = absurd all
+all_at hears runs begins plays leaves m (n ∷ ns) [] all = absurd all
 
 -- the last of them is
 pub last_at : {H F : Type 0} (m : MachineValue) (before : List (Played H F)) (p : Played H F) → AreAt m (before ++ p ∷ []) → IsAt m p.cpu

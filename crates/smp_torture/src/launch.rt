@@ -10,7 +10,7 @@ use crate::plan::Plan;
 use crate::report::Report;
 use crate::torturer::{EarSeat, Torturer};
 use smp_machine::{Cpu, Crew, Machine, MachineBoot, Played, run_cpus};
-use std::alloc::Global;
+use std::alloc::{AllocError, Global};
 use std::sync::Wait;
 use std::thread::Threads;
 use std::time::Clock;
@@ -34,8 +34,8 @@ impl<'e, T: Clock + Eprint> Crew<Ear, Runs> for Tortures<'e, T> {
 
     ghost plays = { λ _ _ _. Unit {0} };
 
-    fn make(&self, cpu: u32) -> (Ear, Runs) {
-        (Ear::new(cpu), Runs::new(cpu))
+    fn make(&self, cpu: u32) -> Result<(Ear, Runs), AllocError> {
+        Ok((Ear::new(cpu), Runs::new(cpu)))
     }
 
     fn play<R: Wait>(&self, seat: &mut EarSeat<'_, R>) {

@@ -12,7 +12,7 @@ use smp_labels::LabelMap;
 use smp_machine::{Crew, Machine, NoStop, Seat, Silent, run_cpus};
 use smp_mask::{CpuMask, SmpError};
 use smp_words::call::Class;
-use std::alloc::Global;
+use std::alloc::{AllocError, Global};
 use std::sync::Wait;
 use std::thread::Threads;
 
@@ -36,8 +36,8 @@ impl Crew<Silent, NoStop> for Fences {
 
     ghost plays = { λ _ _ _. Unit {0} };
 
-    fn make(&self, _cpu: u32) -> (Silent, NoStop) {
-        (Silent, NoStop)
+    fn make(&self, _cpu: u32) -> Result<(Silent, NoStop), AllocError> {
+        Ok((Silent, NoStop))
     }
 
     fn play<R: Wait>(&self, seat: &mut Seat<'_, Global, R, Silent, NoStop>) {

@@ -12,7 +12,7 @@ use smp_labels::{Entry, LabelMap, SiteKind};
 use smp_machine::laws::kinds_follow_keys;
 use smp_machine::{Crew, Machine, NoStop, Seat, Silent, run_cpus};
 use smp_mask::SmpError;
-use std::alloc::Global;
+use std::alloc::{AllocError, Global};
 use std::sync::Wait;
 use std::thread::Threads;
 
@@ -52,8 +52,8 @@ impl Crew<Silent, NoStop> for Parts {
 
     ghost plays = { λ _ _ _. Unit {0} };
 
-    fn make(&self, _cpu: u32) -> (Silent, NoStop) {
-        (Silent, NoStop)
+    fn make(&self, _cpu: u32) -> Result<(Silent, NoStop), AllocError> {
+        Ok((Silent, NoStop))
     }
 
     fn play<R: Wait>(&self, seat: &mut Seat<'_, Global, R, Silent, NoStop>) {

@@ -52,8 +52,8 @@ impl Crew<Counts, NoStop> for Late {
 
     ghost plays = { λ _ _ _. Unit {0} };
 
-    fn make(&self, _cpu: u32) -> (Counts, NoStop) {
-        (Counts { calls: 0 }, NoStop)
+    fn make(&self, _cpu: u32) -> Result<(Counts, NoStop), AllocError> {
+        Ok((Counts { calls: 0 }, NoStop))
     }
 
     fn play<R: Wait>(&self, seat: &mut Seat<'_, Global, R, Counts, NoStop>) {

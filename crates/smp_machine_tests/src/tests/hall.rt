@@ -70,8 +70,8 @@ impl<'a> Crew<Ear<'a>, Teller<'a>> for Case<'a> {
 
     ghost plays = { λ _ _ _. Unit {0} };
 
-    fn make(&self, _cpu: u32) -> (Ear<'a>, Teller<'a>) {
-        (Ear::new(self.hall), Teller::new(self.hall))
+    fn make(&self, _cpu: u32) -> Result<(Ear<'a>, Teller<'a>), AllocError> {
+        Ok((Ear::new(self.hall), Teller::new(self.hall)))
     }
 
     fn play<R: Wait>(&self, seat: &mut Member<'_, 'a, R>) {

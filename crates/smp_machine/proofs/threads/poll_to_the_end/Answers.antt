@@ -3,6 +3,10 @@ use Rattle.smp_machine.specs.Own.{own_of}
 use Rattle.smp_machine.proofs.Works.{works_none, works_then, works_as}
 use Rattle.smp_machine.proofs.threads.poll_to_the_end.Goals as goal
 
+pub returns-then-not-polls-clause-works : goal.returns-then-not-polls-clause-works
+returns-then-not-polls-clause-works g c =
+    let seat = c.args.seat.now in works_none g.H.Handler.leads g.F.StopFunc.leads seat.cpu seat.handler seat.functions
+
 pub loop-init : goal.loop-init
 loop-init g c =
     let seat = c.args.seat.now in
