@@ -2,11 +2,10 @@
 use Rattle.std.proofs.Common.{◌≡◌, ℕ, zero, suc, ◌<◌, true, List, [], ◌∷◌, length, slice_index_or, sym, subst, arith}
 use Rattle.std.specs.List.{AllByRecursion}
 use Rattle.smp_mask.specs.Mask.{has}
-use Rattle.smp_words.specs.Limits.{AreLimits}
 use Rattle.smp_machine.specs.MachineCpu.{MachineValue}
 use Rattle.smp_script.specs.declared.directive.Directive.{Directive}
 use Rattle.smp_script.specs.declared.directive.Directive.TheVariants.{Start, Step, Show, Do}
-use Rattle.smp_run.specs.Answers.{Answered, IsJoined, cpu_of}
+use Rattle.smp_run.specs.Answers.{Answered, cpu_of}
 use Rattle.smp_run.specs.Runs.{AreAnswers}
 use Rattle.smp_run.specs.Seats.{AreLines, IsRunLine}
 use Rattle.smp_run.specs.declared.answer.Answer.{Answer}
@@ -31,12 +30,11 @@ is_online online (Start cpu command) fits = absurd fits
 is_online online (Step cpu count) fits = absurd fits
 is_online online Show fits = absurd fits
 
--- the answers of the CPUs below nr are those of all lines
-pub all_answered : (nr online keys : ℕ) (lines : List Directive) (answers : List Answer) → AreLimits nr online → AreLines online lines
-    → Answered online keys (IsJoined online nr) lines answers → AreAnswers online keys lines answers
-all_answered nr online keys lines answers limits lawful answered = record {
+-- the answers of the CPUs that are online are those of all lines
+pub all_answered : (online keys : ℕ) (lines : List Directive) (answers : List Answer) → AreLines online lines
+    → Answered online keys (λ c. has online c ≡ true) lines answers → AreAnswers online keys lines answers
+all_answered online keys lines answers lawful answered = record {
   sized = answered.sized;
   each = λ i l a below.
-      let online_is = is_online online (slice_index_or lines i l) (all_at (IsRunLine online) lines i l below lawful) in
-      answered.each i l a below (online_is, limits.below (cpu_of (slice_index_or lines i l)) online_is);
+      answered.each i l a below (is_online online (slice_index_or lines i l) (all_at (IsRunLine online) lines i l below lawful));
 }

@@ -1,8 +1,10 @@
 -- What the lowest CPU of a run has done, once it has polled, and once it has read the labels.
-use Rattle.std.proofs.Common.{◌≡◌, ℕ, suc, ◌%◌, ◌^◌, ◌==◌, Bool, true, false, if◌then◌else◌, List, [], ◌∷◌, ◌++◌, cond, filter, length, refl, sym, ap, subst, ◌∙◌}
+use Rattle.std.proofs.Common.{◌≡◌, ℕ, suc, ◌%◌, ◌^◌, ◌==◌, Bool, true, false, if◌then◌else◌, List, [], ◌∷◌, ◌++◌, cond, filter, length, inl, inr, refl, sym, ap, subst, ◌∙◌}
 use Rattle.std.specs.List.{flat_map}
+use Rattle.std.proofs.lemmas.Fn.{chained_keeps}
 use Rattle.std.proofs.lemmas.List.{append-nil}
-use Rattle.smp_call_steps.specs.Histories.{Marked, sent_to}
+use Rattle.smp_words.specs.declared.call.Call.{Call}
+use Rattle.smp_call_steps.specs.Histories.{Marked, orders, sent_to}
 use Rattle.smp_call_steps.specs.declared.known.Sending.{Sending}
 use Rattle.smp_queue.specs.Audit.{HasRowsOf, IfDrained}
 use Rattle.smp_queue.specs.Cpu.{CpuValue as CallCpuValue}
@@ -10,23 +12,29 @@ use Rattle.smp_queue.specs.declared.audit.Audit.{Audit}
 use Rattle.smp_queue.specs.declared.audit.Audit.TheVariants.{Drained, Left}
 use Rattle.smp_multi.specs.Cpu.{CpuValue as StopCpuValue}
 use Rattle.smp_multi.specs.Names.{Reading}
-use Rattle.smp_machine.specs.MachineCpu.{MachineValue, MachineCpuValue, BootValue, fresh_place}
+use Rattle.smp_queue.specs.Handling.{heard_of}
+use Rattle.smp_queue.specs.declared.handler.Heard.{Heard}
+use Rattle.smp_calls.specs.Handles.{Handles, batches}
+use Rattle.smp_multi.specs.declared.func.Called.{Called}
+use Rattle.smp_machine.specs.Crews.{IsPlayed}
+use Rattle.smp_machine.specs.MachineCpu.{MachineValue, MachineCpuValue, fresh_place}
+use Rattle.smp_machine.specs.Members.{AreFor}
+use Rattle.smp_machine.specs.Own.{own_of}
+use Rattle.smp_machine.specs.Seats.{SeatValue}
+use Rattle.smp_machine.specs.declared.crew.Played.{Played}
 use Rattle.smp_script.specs.declared.directive.Directive.{Directive}
-use Rattle.smp_run.specs.Driven.{HasRun}
+use Rattle.smp_run.specs.Driven.{HasRun, IsDriven, MakesLines}
 use Rattle.smp_run.specs.Made.{HasMade, HasPlayed, stops_of}
 use Rattle.smp_run.specs.Readings.{HasRead}
 use Rattle.smp_run.specs.Runs.{HasAsked}
 use Rattle.smp_run.specs.Sent.{Sent, HasSent, HasWaited, sent_of, script_calls}
 use Rattle.smp_run.specs.declared.answer.Answer.{Answer}
-use Rattle.smp_run.proofs.Making.{made_as, made_then}
+use Rattle.smp_run.specs.Answers.{Answered}
+use Rattle.smp_run.specs.Seats.{IsSeated, keys_at}
+use Rattle.smp_run.proofs.Making.{made_as, made_polled, made_then}
 use Rattle.smp_run.proofs.Sending.{sent_as, sent_then}
-use Rattle.smp_run.proofs.Waiting.{waits_still}
-
--- a CPU that was given out has done nothing
-pub is_new : (b : BootValue) (m : MachineValue) (n : ℕ) (p : MachineCpuValue) → b.machine ≡ m → p ≡ fresh_place b.machine n → p ≡ fresh_place m p.calls.number
-is_new b m n p same is =
-    let here : p ≡ fresh_place m n = is ∙ ap (λ (x : MachineValue). fresh_place x n) same in
-    here ∙ ap (λ (x : MachineCpuValue). fresh_place m x.calls.number) (sym here)
+use Rattle.smp_run.proofs.Staying.{sent_worked, still_worked}
+use Rattle.smp_run.proofs.Waiting.{waited_worked, waits_still}
 
 -- a new CPU has made its lines, and then polled
 pub run_polled : (m : MachineValue) (lines : List Directive) (answers : List Answer) (old mid new : MachineCpuValue) → old ≡ fresh_place m old.calls.number
@@ -48,6 +56,62 @@ run_polled m lines answers old mid new fresh number sent played none still waite
       waited = waited;
       played = subst (λ (k : ℕ). HasPlayed m lines answers (fresh_place m k) new) (sym number) kept;
     }
+
+-- a seat that was made for a CPU, and given up once it has made its lines
+pub made_back : {H F : Type 0} (lines : List Directive) (answers : H → List Answer) (m : MachineValue) (cpu : MachineCpuValue) (h : H) (f : F)
+    (start made : SeatValue H F) (back : MachineCpuValue) (h' : H) → start ≡ record { machine = m; cpu = cpu; handler = h; functions = f }
+    → MakesLines start.machine lines (answers made.handler) start.cpu made.cpu → back ≡ made.cpu → h' ≡ made.handler
+    → MakesLines m lines (answers h') cpu back
+made_back {H} {F} lines answers m cpu h f start made back h' is makes cpu_is handler_is =
+    subst (λ (p : MachineCpuValue). MakesLines m lines (answers h') cpu p) (sym cpu_is)
+    (subst (λ (x : H). MakesLines m lines (answers x) cpu made.cpu) (sym handler_is)
+    (subst (λ (s : SeatValue H F). MakesLines s.machine lines (answers made.handler) s.cpu made.cpu) is makes))
+
+-- by a handler whose calls keep the answers to its CPU's lines
+module _ {H F : Type 0} (hears : H → Heard → H → Type 0) (runs : F → Called → F → Type 0) (answers : H → List Answer)
+    (keeps : (p : H) (call : Heard) (q : H) → hears p call q → answers q ≡ answers p) where
+  kept_one : (first : List Answer) (xs : List Call) (q : H) (call : Call) (v : H) → answers q ≡ first → hears q (heard_of call) v → answers v ≡ first
+  kept_one first xs q call v is led = keeps q (heard_of call) v led ∙ is
+
+  answers_kept : (old new : CallCpuValue) (before after : H) → Handles hears old before new after → answers after ≡ answers before
+  answers_kept old new before after made =
+      chained_keeps (λ p call q. hears p (heard_of call) q) (λ xs q. answers q ≡ answers before) (kept_one (answers before))
+      (orders (batches made.turns)) before after refl made.grows
+
+  -- what the part of a CPU promises
+  abbrev pub Plays : List Directive → SeatValue H F → SeatValue H F → Type 0
+  Plays lines old new = MakesLines old.machine lines (answers new.handler) old.cpu new.cpu
+
+  -- a CPU that has made its lines has made them still, once it has polled
+  driven_is : (begins : ℕ → H → F → Type 0) (leaves : ℕ → Type 0) (m : MachineValue) (lines : List Directive) (n : ℕ) (b : Played H F)
+      → IsPlayed hears runs begins (Plays lines) leaves m n b → IsDriven m lines n (answers b.handler) b.cpu
+  driven_is begins leaves m lines n b p =
+      let made : MakesLines m lines (answers p.played.handler) (fresh_place m n) p.played.cpu = p.part in
+      let mid = p.played.cpu in let h = p.played.handler in let f = p.played.functions in let own = own_of mid in
+      let kept : answers b.handler ≡ answers h = answers_kept mid.calls b.cpu.calls h b.handler p.polled.handled in
+      let seated : IsSeated m b.cpu = elim p.ended [
+        | inl outside ↦ (still_worked hears runs m mid b.cpu h b.handler f b.functions own p.polled outside made.seated).seated
+        | inr left ↦ subst (λ (x : MachineCpuValue). IsSeated m x) (sym (ap (λ (s : SeatValue H F). s.cpu) left.1)) made.seated
+      ] in
+      let run : HasRun m lines (answers h) b.cpu =
+      run_polled m lines (answers h) (fresh_place m n) mid b.cpu refl p.number_is made.sent made.played
+      (sent_worked hears runs mid b.cpu h b.handler f b.functions own p.polled) (made_polled hears runs mid b.cpu h b.handler f b.functions p.polled)
+      (waited_worked hears runs mid b.cpu h b.handler f b.functions own p.polled made.waited) in
+      record {
+        seated = seated;
+        number_is = p.number_is;
+        answered = subst (λ (xs : List Answer). Answered m.calls.online (keys_at m) (λ c. c ≡ n) lines xs) (sym kept) made.answered;
+        run = subst (λ (xs : List Answer). HasRun m lines xs b.cpu) (sym kept) run;
+        shown = record { calls = p.shown.calls; stops = p.shown.stops };
+      }
+
+  pub are_driven : (begins : ℕ → H → F → Type 0) (leaves : ℕ → Type 0) (m : MachineValue) (lines : List Directive) (numbers : List ℕ)
+      (back : List (Played H F)) → AreFor (λ n b. IsPlayed hears runs begins (Plays lines) leaves m n b) numbers back
+      → AreFor (λ n b. IsDriven m lines n (answers b.handler) b.cpu) numbers back
+  are_driven begins leaves m lines [] [] all = tt
+  are_driven begins leaves m lines (n ∷ ns) (b ∷ bs) all = (driven_is begins leaves m lines n b all.0, are_driven begins leaves m lines ns bs all.1)
+  are_driven begins leaves m lines [] (b ∷ bs) all = absurd all
+  are_driven begins leaves m lines (n ∷ ns) [] all = absurd all
 
 -- it has read since
 pub run_read : (m : MachineValue) (lines : List Directive) (answers : List Answer) (old new : MachineCpuValue) (readings : List Reading)

@@ -22,7 +22,7 @@ use Rattle.smp_multi.specs.declared.func.Called.{Called}
 use Rattle.smp_machine.specs.Calls.{RefusedInHand}
 use Rattle.smp_multi.specs.Names.{OwnMove}
 use Rattle.smp_machine.specs.Own.{Own}
-use Rattle.smp_machine.specs.MachineCpu.{MachineValue, MachineCpuValue, fresh_place}
+use Rattle.smp_machine.specs.MachineCpu.{MachineCpuValue}
 use Rattle.smp_machine.specs.Seats.{SeatCounts, SeatSets, SeatStopped, SeatValue}
 use Rattle.smp_machine.specs.Works.{Works}
 use Rattle.smp_run.specs.Sent.{HasWaited, is_sync, is_waited}
@@ -83,10 +83,6 @@ pub waits_still : (old new : MachineCpuValue) → new.calls ≡ old.calls → Ha
 waits_still old new e was =
     waits_same old new (ap (λ (c : CpuValue). c.number) e) (ap (λ (c : CpuValue). c.part.sent) e)
     (λ k low t. subst (λ (c : CpuValue). confirmed_at c k ≡ true) (sym e) t) was
-
--- a CPU that has done nothing
-pub waited_fresh : (m : MachineValue) (n : ℕ) (p : MachineCpuValue) → p ≡ fresh_place m n → HasWaited p
-waited_fresh m n p is = subst (λ (x : MachineCpuValue). HasWaited x) (sym is) (record { each = λ k low no. absurd (cc no) })
 
 class_waits : (wait : Bool) → is_sync (class_for wait) ≡ wait
 class_waits true = refl

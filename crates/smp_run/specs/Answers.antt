@@ -131,7 +131,3 @@ pub record Answered (online keys : ℕ) (Mine : ℕ → Type 0) (lines : List Di
 abbrev pub Gathers : (ℕ → Type 0) → List Directive → List Answer → List Answer → ℕ → Type 0
 Gathers Mine lines from answers n = (i : ℕ) (l : Directive) (a : Answer) → i < n → Mine (cpu_of (slice_index_or lines i l))
     → slice_index_or answers i a ≡ slice_index_or from i a
-
--- a CPU that is online and below n
-abbrev pub IsJoined : ℕ → ℕ → ℕ → Type 0
-IsJoined online n c = (has online c ≡ true) × (c < n)

@@ -8,8 +8,6 @@ pub mod Seats
 pub mod Made
 -- what threads are given and give back
 pub mod Driven
--- what they promise
-pub mod Tasks
 -- what a CPU reads of the labels at the end
 pub mod Readings
 -- what a run prints

@@ -1,24 +1,22 @@
 //! What the thread of one CPU does.
 
-ghost use Rattle.std.specs.Prelude.{◌≡◌, ◌<◌, ◌≤◌, List, [], length};
+ghost use Rattle.std.specs.Prelude.{◌≡◌, ◌≤◌, List, length, vec_len};
 ghost use Rattle.smp_machine.specs.Seats.{IsSameSeat};
 ghost use Rattle.smp_script.specs.Spelling.{RequestFits};
 ghost use Rattle.smp_run.specs.Answers.{Answered, IsAnswer, IsLineAnswer, cpu_of};
-ghost use Rattle.smp_run.specs.Driven.{IsDriven, IsNew, IsReady};
+ghost use Rattle.smp_run.specs.Driven.{IsReady, MakesLines};
 ghost use Rattle.smp_run.specs.Made.{AreMakings, HasMade, HasPlayed, IsLineMade, Making, stops_of};
-ghost use Rattle.smp_run.specs.Seats.{AreLines, IsRunLine, keys_at};
-ghost use Rattle.smp_run.specs.Sent.{HasSent, line_calls, repeated, request_calls, script_calls};
+ghost use Rattle.smp_run.specs.Seats.{AreLines, IsRunLine, IsSeated, keys_at};
+ghost use Rattle.smp_run.specs.Sent.{HasSent, HasWaited, line_calls, repeated, request_calls, script_calls};
 
 use crate::answer::Answer;
-use crate::pace::Pace;
-use crate::player::Player;
-use crossbeam_utils::Backoff;
-use smp_machine::laws::is_shown;
-use smp_machine::{Cpu, Machine};
+use crate::calls::make;
+use crate::pace::{Echo, Pace, Paced, RunSeat};
+use smp_machine::{Cpu, Crew, Machine};
 use smp_script::directive::Directive;
 use smp_script::request::Request;
-use smp_start::StartLine;
-use std::alloc::Global;
+use std::alloc::{AllocError, Global};
+use std::mem;
 use std::sync::Wait;
 
 /// What the thread of a CPU has: the CPU, and room for the answer of each line of the script.
@@ -28,79 +26,112 @@ pub struct Seat {
     pub answers: Vec<Answer, Global>,
 }
 
-impl<'a, R: Wait, P: Pace> Player<'a, R, P> {
-    /// Makes what a request asks for, this number of times. Returns the last answer.
-    fn repeat(&mut self, count: u32, request: &Request) -> Answer
-        requires count { 1 ≤ count }
-        requires fits { RequestFits request.now }
-        ensures same { IsSameSeat self.old.seat self.new.seat }
-        ensures answer { IsAnswer self.old.seat.machine.calls.online (keys_at self.old.seat.machine) self.old.seat.cpu.calls.number request.now result }
-        ensures sent { HasSent (repeated count (request_calls self.old.seat.machine.calls.online self.old.seat.cpu.calls.number request.now))
-            self.old.seat.cpu self.new.seat.cpu }
-        ensures made { (makings : List Making) × AreMakings self.old.seat.machine self.old.seat.cpu.calls.number request.now count result makings
-            × HasMade (stops_of makings) self.old.seat.cpu self.new.seat.cpu }
-    {
-        for _made in 1..count {
-            self.make(*request);
-        }
-        self.make(*request)
+/// Makes what a request asks for, this number of times. Returns the last answer.
+fn repeat<R: Wait, P: Pace>(
+    seat: &mut RunSeat<'_, '_, R, P>,
+    count: u32,
+    request: &Request,
+) -> Answer
+    requires seated { IsSeated seat.old.machine seat.old.cpu }
+    requires waited { HasWaited seat.old.cpu }
+    requires count { 1 ≤ count }
+    requires fits { RequestFits request.now }
+    ensures seated { IsSeated seat.new.machine seat.new.cpu }
+    ensures waited { HasWaited seat.new.cpu }
+    ensures same { IsSameSeat seat.old seat.new }
+    ensures answer { IsAnswer seat.old.machine.calls.online (keys_at seat.old.machine) seat.old.cpu.calls.number request.now result }
+    ensures sent { HasSent (repeated count (request_calls seat.old.machine.calls.online seat.old.cpu.calls.number request.now))
+        seat.old.cpu seat.new.cpu }
+    ensures made { (makings : List Making) × AreMakings seat.old.machine seat.old.cpu.calls.number request.now count result makings
+        × HasMade (stops_of makings) seat.old.cpu seat.new.cpu }
+{
+    for _made in 1..count {
+        make(seat, *request);
     }
+    make(seat, *request)
+}
 
-    /// Answers a line, where it is the CPU's own.
-    fn answer_if(&mut self, line: &Directive, answer: &mut Answer)
-        requires { IsRunLine self.old.seat.machine.calls.online line.now }
-        ensures same { IsSameSeat self.old.seat self.new.seat }
-        ensures answered { cpu_of line.now ≡ self.old.seat.cpu.calls.number →
-            IsLineAnswer self.old.seat.machine.calls.online (keys_at self.old.seat.machine) line.now answer.new }
-        ensures sent { HasSent (line_calls self.old.seat.machine.calls.online self.old.seat.cpu.calls.number line.now) self.old.seat.cpu self.new.seat.cpu }
-        ensures made { (makings : List Making) × IsLineMade self.old.seat.machine self.old.seat.cpu.calls.number line.now answer.new makings
-            × HasMade (stops_of makings) self.old.seat.cpu self.new.seat.cpu }
-    {
-        match line {
-            Directive::Do(cpu, count, request) if *cpu == self.seat.number() => {
-                *answer = self.repeat(*count, request);
-            }
-            _ => {}
+/// Answers a line, where it is the CPU's own.
+fn answer_if<R: Wait, P: Pace>(
+    seat: &mut RunSeat<'_, '_, R, P>,
+    line: &Directive,
+    answer: &mut Answer,
+)
+    requires seated { IsSeated seat.old.machine seat.old.cpu }
+    requires waited { HasWaited seat.old.cpu }
+    requires lawful { IsRunLine seat.old.machine.calls.online line.now }
+    ensures seated { IsSeated seat.new.machine seat.new.cpu }
+    ensures waited { HasWaited seat.new.cpu }
+    ensures same { IsSameSeat seat.old seat.new }
+    ensures answered { cpu_of line.now ≡ seat.old.cpu.calls.number →
+        IsLineAnswer seat.old.machine.calls.online (keys_at seat.old.machine) line.now answer.new }
+    ensures sent { HasSent (line_calls seat.old.machine.calls.online seat.old.cpu.calls.number line.now) seat.old.cpu seat.new.cpu }
+    ensures made { (makings : List Making) × IsLineMade seat.old.machine seat.old.cpu.calls.number line.now answer.new makings
+        × HasMade (stops_of makings) seat.old.cpu seat.new.cpu }
+{
+    match line {
+        Directive::Do(cpu, count, request) if *cpu == seat.number() => {
+            *answer = repeat(seat, *count, request);
         }
+        _ => {}
     }
+}
 
-    /// Answers the CPU's own lines, in order.
-    #[tactic(auto, using(crate::proofs::Lines::line_at))]
-    fn answer_all(&mut self, lines: &[Directive], answers: &mut [Answer])
-        requires lawful { AreLines self.old.seat.machine.calls.online lines.now }
-        requires sized { length answers.old ≡ length lines.now }
-        ensures same { IsSameSeat self.old.seat self.new.seat }
-        ensures answered { Answered self.old.seat.machine.calls.online (keys_at self.old.seat.machine)
-            (λ c. c ≡ self.old.seat.cpu.calls.number) lines.now answers.new }
-        ensures sent { HasSent (script_calls self.old.seat.machine.calls.online self.old.seat.cpu.calls.number lines.now) self.old.seat.cpu self.new.seat.cpu }
-        ensures played { HasPlayed self.old.seat.machine lines.now answers.new self.old.seat.cpu self.new.seat.cpu }
-    {
-        for at in 0..lines.len() {
-            self.answer_if(&lines[at], &mut answers[at]);
-        }
+/// Answers the CPU's own lines, in order.
+#[tactic(auto, using(crate::proofs::Lines::line_at))]
+fn answer_all<R: Wait, P: Pace>(
+    seat: &mut RunSeat<'_, '_, R, P>,
+    lines: &[Directive],
+    answers: &mut [Answer],
+)
+    requires seated { IsSeated seat.old.machine seat.old.cpu }
+    requires waited { HasWaited seat.old.cpu }
+    requires lawful { AreLines seat.old.machine.calls.online lines.now }
+    requires sized { length answers.old ≡ length lines.now }
+    ensures seated { IsSeated seat.new.machine seat.new.cpu }
+    ensures waited { HasWaited seat.new.cpu }
+    ensures same { IsSameSeat seat.old seat.new }
+    ensures answered { Answered seat.old.machine.calls.online (keys_at seat.old.machine)
+        (λ c. c ≡ seat.old.cpu.calls.number) lines.now answers.new }
+    ensures sent { HasSent (script_calls seat.old.machine.calls.online seat.old.cpu.calls.number lines.now) seat.old.cpu seat.new.cpu }
+    ensures played { HasPlayed seat.old.machine lines.now answers.new seat.old.cpu seat.new.cpu }
+{
+    for at in 0..lines.len() {
+        answer_if(seat, &lines[at], &mut answers[at]);
     }
+}
 
-    /// Where the pace says so, polls until all CPUs have made their calls, and once more.
-    fn poll_until(&mut self, start: &StartLine)
-        ensures same { IsSameSeat self.old.seat self.new.seat }
-        ensures sent { HasSent [] self.old.seat.cpu self.new.seat.cpu }
-        ensures stops { HasMade [] self.old.seat.cpu self.new.seat.cpu }
-    {
-        if !self.seat.handler.pace.polls(self.seat.cpu.number()) {
-            return;
-        }
-        let all = self.seat.online().weight() as u64;
-        let backoff = Backoff::new();
-        for _ in self.seat.rt.forever() {
-            let last = start.done() >= all;
-            self.poll();
-            if last {
-                return;
-            }
-            backoff.snooze();
-        }
-        unreachable!()
-    }
+/// Takes the answers from the CPU's handler, and leaves none there.
+fn take_answers<R: Wait, P: Pace>(seat: &mut RunSeat<'_, '_, R, P>) -> Vec<Answer, Global>
+    ensures taken { result ≡ seat.old.handler.answers }
+    ensures machine { seat.new.machine ≡ seat.old.machine }
+    ensures cpu { seat.new.cpu ≡ seat.old.cpu }
+{
+    let none = Vec::new(*seat.handler.answers.allocator());
+    mem::replace(&mut seat.handler.answers, none)
+}
+
+/// Leaves answers with the CPU's handler.
+fn leave_answers<R: Wait, P: Pace>(seat: &mut RunSeat<'_, '_, R, P>, answers: Vec<Answer, Global>)
+    ensures left { seat.new.handler.answers ≡ answers }
+    ensures machine { seat.new.machine ≡ seat.old.machine }
+    ensures cpu { seat.new.cpu ≡ seat.old.cpu }
+{
+    seat.handler.answers = answers;
+}
+
+/// Makes the CPU's own lines, and leaves their answers with its handler.
+fn make_lines<R: Wait, P: Pace>(seat: &mut RunSeat<'_, '_, R, P>, lines: &[Directive])
+    requires seated { IsSeated seat.old.machine seat.old.cpu }
+    requires waited { HasWaited seat.old.cpu }
+    requires lawful { AreLines seat.old.machine.calls.online lines.now }
+    requires sized { vec_len seat.old.handler.answers ≡ length lines.now }
+    ensures makes { MakesLines seat.old.machine lines.now seat.new.handler.answers.items seat.old.cpu seat.new.cpu }
+    ensures same { IsSameSeat seat.old seat.new }
+{
+    let mut answers = take_answers(seat);
+    answer_all(seat, lines, answers.as_mut_slice());
+    leave_answers(seat, answers);
 }
 
 /// Makes the lines of a script that are of this CPU: in the order of the script, each as often as it says. It puts the answer
@@ -126,37 +157,57 @@ pub fn play<R: Wait, P: Pace>(
     // It has made the stops of each repetition, and no others; the last repetition's answer is told.
     ensures played { HasPlayed machine.now lines.now result.answers.items seat.cpu result.cpu }
 {
-    let Seat { cpu, mut answers } = seat;
-    let mut player = Player::new(rt, machine, pace, cpu);
-    player.answer_all(lines, answers.as_mut_slice());
-    let Player { seat, .. } = player;
-    let (cpu, _, _) = seat.into_parts();
+    let Seat { cpu, answers } = seat;
+    let handler = Paced {
+        pace,
+        cpu: cpu.number(),
+        answers,
+    };
+    let mut at = smp_machine::Seat::new(machine, rt, cpu, handler, Echo);
+    make_lines(&mut at, lines);
+    let (cpu, handler, _) = at.into_parts();
+    let Paced { answers, .. } = handler;
     Seat { cpu, answers }
 }
 
-/// What the thread of a CPU does: once all are started, its lines; then it polls until all CPUs have made theirs. None where
-/// it may not begin.
-pub(crate) fn drive<R: Wait, P: Pace>(
-    rt: &R,
-    machine: &Machine<Global>,
-    lines: &[Directive],
-    pace: &P,
-    start: &StartLine,
-    seat: Seat,
-) -> Option<Seat>
-    requires lawful { AreLines machine.now.calls.online lines.now }
-    requires new { IsNew machine.now lines.now seat }
-    ensures { IsDriven machine.now lines.now seat.cpu.calls.number result }
-{
-    if !start.wait(rt) {
-        return None;
+/// What the CPUs of a run do: each makes its own lines of the script.
+#[derive(Drop)]
+pub(crate) struct Lines<'a, P> {
+    pub(crate) alloc: Global,
+    pub(crate) lines: &'a [Directive],
+    pub(crate) pace: &'a P,
+}
+
+impl<'a, P: Pace> Crew<Paced<'a, P>, Echo> for Lines<'a, P> {
+    ghost use Rattle.std.specs.Prelude.{◌≡◌, length, vec_len};
+    ghost use Rattle.smp_run.specs.Driven.{MakesLines};
+    ghost use Rattle.smp_run.specs.Seats.{AreLines};
+
+    ghost runs_on = { λ crew m. AreLines m.calls.online crew.lines.now };
+
+    // It has room for the answer of each line.
+    ghost begins = { λ crew _ handler _. vec_len handler.answers ≡ length crew.lines.now };
+
+    ghost plays = { λ crew old new. MakesLines old.machine crew.lines.now new.handler.answers.items old.cpu new.cpu };
+
+    // The pace says so.
+    ghost leaves = { λ _ _. Unit {0} };
+
+    fn make(&self, cpu: u32) -> Result<(Paced<'a, P>, Echo), AllocError> {
+        let answers = Vec::from_elem(self.alloc, Answer::Done, self.lines.len())?;
+        let handler = Paced {
+            pace: self.pace,
+            cpu,
+            answers,
+        };
+        Ok((handler, Echo))
     }
-    let Seat { cpu, answers } = play(rt, machine, lines, pace, seat);
-    start.note_done();
-    let mut player = Player::new(rt, machine, pace, cpu);
-    player.poll_until(start);
-    let Player { seat, .. } = player;
-    let (cpu, _, _) = seat.into_parts();
-    is_shown(machine, &cpu);
-    Some(Seat { cpu, answers })
+
+    fn play<R: Wait>(&self, seat: &mut RunSeat<'_, 'a, R, P>) {
+        make_lines(seat, self.lines);
+    }
+
+    fn polls(&self, cpu: u32) -> bool {
+        self.pace.polls(cpu)
+    }
 }

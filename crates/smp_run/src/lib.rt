@@ -2,9 +2,8 @@
 //!
 //! - `script`: A script from a reader, and what its run prints to a writer.
 //! - `run`: A script, from its lines to the text of its answers.
-//! - `launch`: A thread for each CPU.
+//! - `launch`: A thread for each CPU, and what all have answered.
 //! - `driver`: What the thread of one CPU does.
-//! - `player`: A CPU at its seat.
 //! - `calls`: What a CPU calls, and what is answered.
 //! - `reading`: What a CPU reads of the labels at the end.
 //! - `pace`: What a caller may do inside handlers, and where a CPU ends.
@@ -16,7 +15,6 @@ mod calls;
 mod driver;
 mod launch;
 mod pace;
-mod player;
 mod reading;
 mod run;
 mod script;

@@ -1,9 +1,13 @@
 //! What a caller may do inside handlers, and where a CPU ends.
 
+ghost use Rattle.std.specs.Prelude.{◌≡◌};
 ghost use Rattle.smp_run.specs.Answers.{IsEcho};
 
+use crate::answer::Answer;
+use smp_machine::Seat;
 use smp_multi::StopFunc;
 use smp_queue::Handler;
+use std::alloc::Global;
 
 /// Is told of each call as its function runs, and says which CPUs poll at the end. All threads of a run share it.
 pub trait Pace {
@@ -26,15 +30,17 @@ impl Pace for FreePace {
     }
 }
 
-/// The functions that calls run on a CPU: each tells the pace.
+/// The functions that calls run on a CPU: each tells the pace. They keep the answers to the CPU's lines, which its part leaves
+/// here.
 #[derive(Drop)]
 pub(crate) struct Paced<'a, P: Pace> {
     pub(crate) pace: &'a P,
     pub(crate) cpu: u32,
+    pub(crate) answers: Vec<Answer, Global>,
 }
 
 impl<'a, P: Pace> Handler for Paced<'a, P> {
-    ghost leads = { λ before call after. Unit {0} };
+    ghost leads = { λ before _ after. after.answers ≡ before.answers };
 
     fn call(&mut self, src: u32, func: u16, info: u64) {
         self.pace.entered(self.cpu, src, func, info);
@@ -52,3 +58,6 @@ impl StopFunc for Echo {
         if arg < 1 << 31 { arg as i32 } else { i32::MAX }
     }
 }
+
+/// A CPU of a run at its seat.
+pub(crate) type RunSeat<'m, 'a, R, P> = Seat<'m, Global, R, Paced<'a, P>, Echo>;

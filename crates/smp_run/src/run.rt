@@ -1,16 +1,16 @@
 //! A script, from its lines to the text of its answers.
 
-ghost use Rattle.std.specs.Prelude.{◌≡◌, ◌+◌, ◌≤◌, vec_len, string_bytes, IfOk, IfErr, None};
+ghost use Rattle.std.specs.Prelude.{◌≡◌, ◌≤◌, string_bytes, IfOk, IfErr, None};
 ghost use Rattle.smp_words.specs.Limits.{AreLimits};
 ghost use Rattle.smp_machine.specs.MachineCpu.{IsFull};
 ghost use Rattle.smp_script.specs.Script.{first_line};
 ghost use Rattle.smp_script.specs.MeaningOf.{meaning_of};
-ghost use Rattle.smp_run.specs.Driven.{AreJoined, AreLeft, IsSeat, AreSeats};
+ghost use Rattle.smp_run.specs.Driven.{AreJoined};
 ghost use Rattle.smp_run.specs.Runs.{Printed, Prints, is_left, labels_of};
 ghost use Rattle.smp_run.specs.Seats.{AreLines};
 
 use crate::answer::Answer;
-use crate::driver::Seat;
+use crate::driver::Lines;
 use crate::launch::{Driven, run_all};
 use crate::pace::Pace;
 use crate::reading::read_labels;
@@ -30,47 +30,6 @@ use std::thread::Threads;
 pub struct Ran {
     pub text: String<Global>,
     pub left: bool,
-}
-
-/// A seat for this CPU, where it is online, with room for the answer of each line.
-#[tactic(auto, using(crate::proofs::Running::is_new, crate::proofs::Waiting::waited_fresh))]
-fn seat_one(
-    alloc: Global,
-    machine: &Machine<Global>,
-    boot: &mut MachineBoot<Global>,
-    number: u32,
-    lines: &[Directive],
-) -> Result<Option<Seat>, AllocError>
-    requires { AreLeft machine.now boot.old number }
-    ensures seat { IfOk result (λ s. IsSeat machine.now lines.now number s) }
-    ensures left { IfOk result (λ _. AreLeft machine.now boot.new (number + 1)) }
-{
-    match boot.cpu(number) {
-        Ok(cpu) => {
-            let answers = Vec::from_elem(alloc, Answer::Done, lines.len())?;
-            Ok(Some(Seat { cpu, answers }))
-        }
-        Err(_) => Ok(None),
-    }
-}
-
-/// A seat for each CPU below `nr`.
-fn seat_all(
-    alloc: Global,
-    machine: &Machine<Global>,
-    mut boot: MachineBoot<Global>,
-    nr: u32,
-    lines: &[Directive],
-) -> Result<Vec<Option<Seat>, Global>, AllocError>
-    requires { IsFull boot machine.now }
-    ensures { IfOk result (λ v. (vec_len v ≡ nr) × AreSeats machine.now lines.now nr v.items) }
-{
-    let mut seats = Vec::with_capacity(alloc, nr as usize)?;
-    for number in 0..nr {
-        let seat = seat_one(alloc, machine, &mut boot, number, lines)?;
-        seats.push(seat)?;
-    }
-    Ok(seats)
 }
 
 fn is_left(audit: &Audit) -> bool
@@ -95,7 +54,7 @@ fn finish(
     requires first { first ≤ 4 }
     requires labels { machine.stops.setting.labels ≡ labels.now }
     requires lawful { AreLines machine.calls.online lines.now }
-    requires joined { AreJoined machine lines.now machine.calls.nr driven.last driven.answers.items }
+    requires joined { AreJoined machine lines.now driven.last driven.answers.items }
     ensures { IfOk result (λ r. Prints machine.calls.nr machine.calls.online labels.now first lines.now (string_bytes r.text) r.left) }
 {
     let Driven { answers, mut last } = driven;
@@ -146,9 +105,9 @@ fn run_machine<R: Threads + Wait + Sync, P: Pace + Sync>(
 {
     let (machine, boot) = opened;
     let lines = script.directives.as_slice();
-    let seats = seat_all(alloc, &machine, boot, script.nr, lines)?;
     let answers = Vec::from_elem(alloc, Answer::Done, lines.len())?;
-    let Some(driven) = run_all(rt, alloc, &machine, lines, pace, seats, answers) else {
+    let crew = Lines { alloc, lines, pace };
+    let Some(driven) = run_all(rt, &machine, boot, &crew, answers) else {
         return Err(AllocError);
     };
     let none = LabelMap::empty();

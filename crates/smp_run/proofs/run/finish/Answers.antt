@@ -1,9 +1,9 @@
-use Rattle.std.proofs.Common.{rules, refl, sym, ap, subst}
+use Rattle.std.proofs.Common.{rules, ◌≡◌, true, refl, sym, ap, subst}
 use Rattle.smp_labels.specs.Labels.{Labels}
 use Rattle.smp_queue.specs.Cpu.{CpuValue as CallCpuValue}
 use Rattle.smp_mask.specs.Mask.{has, IsLeast}
 use Rattle.smp_multi.specs.Cpu.{CpuValue as StopCpuValue}
-use Rattle.smp_run.specs.Answers.{Answered, IsJoined}
+use Rattle.smp_run.specs.Answers.{Answered}
 use Rattle.smp_run.proofs.Lines.{all_answered}
 use Rattle.smp_run.proofs.Running.{has_asked, run_read}
 use Rattle.smp_run.proofs.run.finish.Goals as goal
@@ -12,12 +12,12 @@ pub returns : goal.returns
 returns c =
     let m = c.args.machine in let t = m.calls in let lines = c.args.lines.now in let answers = c.args.driven.answers.items in
     let joined = c.requires.joined in let first = c.args.driven.last in let last = c.read_labels.new.me in let read = c.in_ok-read.ensures.read in
-    let answered : Answered t.online c.args.labels.now.keys (IsJoined t.online t.nr) lines answers =
-    subst (λ (x : Labels). Answered t.online x.keys (IsJoined t.online t.nr) lines answers) c.requires.labels joined.answered in
+    let answered : Answered t.online c.args.labels.now.keys (λ n. has t.online n ≡ true) lines answers =
+    subst (λ (x : Labels). Answered t.online x.keys (λ n. has t.online n ≡ true) lines answers) c.requires.labels joined.answered in
     let run = run_read m lines answers first last _ read joined.run in
     record {
       answers = answers;
-      answered = all_answered t.nr t.online c.args.labels.now.keys lines answers c.requires.limits c.requires.lawful answered;
+      answered = all_answered t.online c.args.labels.now.keys lines answers c.requires.lawful answered;
       keys = c.in_ok-read.read.keys.items;
       sites = c.in_ok-read.read.sites.items;
       kinds = c.in_ok-read.ensures.kinds;
@@ -27,7 +27,7 @@ returns c =
       sizes = (refl, refl);
       lowest = subst (λ (x : CallCpuValue). IsLeast (λ n. has t.online n) x.number) (sym read.calls_are) joined.least;
       run = run;
-      back = λ cpu on. joined.back cpu (c.requires.limits.below cpu on) on;
+      back = joined.back;
       before = first.stops.part.readings;
       read = ap (λ (x : StopCpuValue). x.part.readings) read.stops_are;
       audited = c.shutdown-audit.ensures.audited;
