@@ -1,6 +1,8 @@
 //! How far a search is, told on standard error.
 
+use crate::named::Named;
 use smp_explore::Watch;
+use std::alloc::Global;
 use std::io;
 use std::time::{Clock, Instant};
 
@@ -15,14 +17,16 @@ pub enum Counted {
     Runs,
 }
 
-/// Tells standard error once a second how far a search is, from the first second on. What fails in that is passed over.
+/// Tells standard error once a second how far a search is, from the first second on, and of each expectation that it finds
+/// broken. What fails in that is passed over.
 #[derive(Drop)]
-pub struct Progress<'a, R: Clock + Eprint> {
-    rt: &'a R,
+pub struct Progress<'a> {
+    rt: &'a HostRuntime,
     counted: Counted,
-    /// The expectation at hand: the word of its line, and the line.
-    word: &'static str,
-    line: u32,
+    /// What is searched for.
+    names: &'a [Named],
+    /// What is broken, and was not told of.
+    broken: Vec<Named>,
     /// None where the clock failed.
     began: Option<Instant>,
     /// The seconds of which standard error was told.
@@ -31,13 +35,13 @@ pub struct Progress<'a, R: Clock + Eprint> {
     calls: u32,
 }
 
-impl<'a, R: Clock + Eprint> Progress<'a, R> {
-    pub fn new(rt: &'a R, counted: Counted, word: &'static str, line: u32) -> Progress<'a, R> {
+impl<'a> Progress<'a> {
+    pub fn new(rt: &'a HostRuntime, counted: Counted, names: &'a [Named]) -> Progress<'a> {
         Progress {
             rt,
             counted,
-            word,
-            line,
+            names,
+            broken: Vec::new(rt.alloc()),
             began: Instant::now(rt).ok(),
             told: 0,
             calls: 0,
@@ -52,17 +56,51 @@ impl<'a, R: Clock + Eprint> Progress<'a, R> {
         }
     }
 
+    /// How many seconds have passed.
+    fn seconds(&self, began: Instant) -> io::Result<u64> {
+        Ok(Instant::now(self.rt)?.duration_since(began).as_secs())
+    }
+
+    /// Begins a line with the name of an expectation.
+    fn tell_name(&self, named: Named) -> io::Result<()> {
+        let Named { line, word } = named;
+        match line {
+            0 => eprint!(self.rt; "smp: {word}: "),
+            _ => eprint!(self.rt; "smp: {word} {line}: "),
+        }
+    }
+
+    /// Tells of all that is broken and was not told of.
+    fn tell_untold(&self) -> io::Result<()> {
+        for named in self.broken.iter() {
+            self.tell_name(*named)?;
+            eprintln!(self.rt; "broken")?;
+        }
+        Ok(())
+    }
+
+    /// Tells of what is broken, once a second has passed.
+    fn tell_broken(&mut self, began: Instant) -> io::Result<()> {
+        if self.seconds(began)? == 0 {
+            return Ok(());
+        }
+        self.tell_untold()?;
+        self.broken.clear();
+        Ok(())
+    }
+
     /// Tells of the second that has passed, if one has.
     fn tell(&mut self, began: Instant, count: usize, steps: u64) -> io::Result<()> {
-        let seconds = Instant::now(self.rt)?.duration_since(began).as_secs();
+        let seconds = self.seconds(began)?;
         if seconds <= self.told {
             return Ok(());
         }
         self.told = seconds;
-        let word = self.word;
-        match self.line {
-            0 => eprint!(self.rt; "smp: {word}: ")?,
-            line => eprint!(self.rt; "smp: {word} {line}: ")?,
+        self.tell_broken(began)?;
+        let names = self.names;
+        match names {
+            [one] => self.tell_name(*one)?,
+            _ => eprint!(self.rt; "smp: ")?,
         }
         match self.counted {
             Counted::States => eprintln!(self.rt; "{count} states, {steps} steps"),
@@ -71,7 +109,7 @@ impl<'a, R: Clock + Eprint> Progress<'a, R> {
     }
 }
 
-impl<'a, R: Clock + Eprint> Watch for Progress<'a, R> {
+impl<'a> Watch for Progress<'a> {
     fn look(&mut self, count: usize, steps: u64) {
         self.calls = self.calls.wrapping_add(1);
         if !self.is_due() {
@@ -81,5 +119,17 @@ impl<'a, R: Clock + Eprint> Watch for Progress<'a, R> {
             return;
         };
         let _ = self.tell(began, count, steps);
+    }
+
+    fn broken(&mut self, number: usize) {
+        let Some(named) = self.names.get(number).copied() else {
+            return;
+        };
+        let Some(began) = self.began else {
+            return;
+        };
+        if self.broken.push(named).is_ok() {
+            let _ = self.tell_broken(began);
+        }
     }
 }
