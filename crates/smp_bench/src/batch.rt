@@ -1,5 +1,7 @@
 //! What a thread does at a machine, over and over: stops, changes of a key, and idle polls.
 
+ghost use Rattle.smp_machine.specs.Seats.{IsSameSeat};
+
 use crate::request::Limit;
 use crate::stand::{Stand, count, poll};
 use crate::workload::Workload;
@@ -17,7 +19,9 @@ const STOPS: u32 = 10;
 const SHORT: u32 = 100;
 
 /// Counts the key up and down in turn.
-pub fn count_batch<R: Wait>(stand: &mut Stand<'_, R>) {
+pub fn count_batch<R: Wait>(stand: &mut Stand<'_, R>)
+    ensures { IsSameSeat stand.old stand.new }
+{
     for i in 0..SHORT {
         count(stand, i % 2 == 0);
     }
@@ -32,7 +36,9 @@ pub fn batches_of(limit: Limit) -> Option<u32> {
 }
 
 /// One batch of stops; a key is turned on and off in turn.
-fn stop_batch<R: Wait>(stand: &mut Stand<'_, R>, workload: Workload) {
+fn stop_batch<R: Wait>(stand: &mut Stand<'_, R>, workload: Workload)
+    ensures { IsSameSeat stand.old stand.new }
+{
     for i in 0..STOPS {
         match workload {
             Workload::StopOne => stand.stop_one(1, FUNC, ARG).is_ok(),
@@ -43,7 +49,9 @@ fn stop_batch<R: Wait>(stand: &mut Stand<'_, R>, workload: Workload) {
 }
 
 /// One batch of this workload: how many operations it has.
-pub fn run_batch<R: Wait>(stand: &mut Stand<'_, R>, workload: Workload) -> u32 {
+pub fn run_batch<R: Wait>(stand: &mut Stand<'_, R>, workload: Workload) -> u32
+    ensures { IsSameSeat stand.old stand.new }
+{
     match workload {
         Workload::CountOne | Workload::CountAll => {
             count_batch(stand);

@@ -30,8 +30,8 @@ use std::thread::Threads;
 use std::time::Clock;
 use std::{env, io};
 
-/// Runs a workload on a new table: what was measured, and how many calls have run.
-fn run<R: Wait + Threads + Clock + Eprint + Sync>(
+/// Runs a workload of calls on a new table: what was measured, and how many calls have run.
+fn run_calls<R: Wait + Threads + Clock + Eprint + Sync>(
     rt: &R,
     alloc: Global,
     workload: Workload,
@@ -45,8 +45,27 @@ fn run<R: Wait + Threads + Clock + Eprint + Sync>(
         Workload::PostOne => alone::run(alloc, 1, &[10], meter),
         Workload::PostEight => alone::run(alloc, 4, &[10, 11], meter),
         Workload::RoundTrip => threads::run(rt, alloc, workload, 2, meter),
-        Workload::Async | Workload::Many => threads::run(rt, alloc, workload, threads, meter),
-        _ => stops::run(rt, alloc, workload, threads, meter),
+        _ => threads::run(rt, alloc, workload, threads, meter),
+    }
+}
+
+/// Runs a workload on a new table or machine: what was measured, and how many calls or stop functions have run.
+fn run<R: Wait + Threads + Clock + Eprint + Sync>(
+    rt: &R,
+    alloc: Global,
+    workload: Workload,
+    threads: u32,
+    limit: Limit,
+) -> Result<(Measured, u64), BenchError>
+    requires { IsLawful threads }
+{
+    match workload {
+        Workload::PostOne
+        | Workload::PostEight
+        | Workload::RoundTrip
+        | Workload::Async
+        | Workload::Many => run_calls(rt, alloc, workload, threads, limit),
+        _ => stops::run(rt, alloc, workload, threads, limit),
     }
 }
 

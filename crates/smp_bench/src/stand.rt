@@ -1,11 +1,12 @@
 //! One CPU of a machine, with what it calls.
 
-ghost use Rattle.std.specs.Prelude.{◌≡◌};
+ghost use Rattle.smp_machine.specs.Seats.{IsSameSeat};
 
 use crate::error::BenchError;
+use crate::meter::Measured;
 use crate::seat::Counter;
 use smp_labels::{Entry, LabelMap};
-use smp_machine::{Machine, MachineBoot, Seat};
+use smp_machine::Seat;
 use smp_multi::StopFunc;
 use std::alloc::Global;
 use std::sync::Wait;
@@ -16,6 +17,23 @@ pub struct Runs {
     calls: u64,
     /// Changes of the key's count by its CPU that took no stop, modulo 2^64.
     nudges: u64,
+    /// What its CPU has measured, where it is the first.
+    pub measured: Option<Result<Measured, BenchError>>,
+}
+
+impl Runs {
+    pub fn new() -> Runs {
+        Runs {
+            calls: 0,
+            nudges: 0,
+            measured: None,
+        }
+    }
+
+    /// How many stop functions have run here, and changes of the key's count were made without a stop, modulo 2^64.
+    pub fn done(&self) -> u64 {
+        self.calls.wrapping_add(self.nudges)
+    }
 }
 
 impl StopFunc for Runs {
@@ -38,13 +56,10 @@ pub fn label() -> Result<LabelMap, BenchError> {
 /// A CPU at its machine, with its handler and its stop function.
 pub type Stand<'m, R> = Seat<'m, Global, R, Counter, Runs>;
 
-/// How many stop functions have run here, and changes of the key's count were made without a stop, modulo 2^64.
-pub fn done<R: Wait>(stand: &Stand<'_, R>) -> u64 {
-    stand.functions.calls.wrapping_add(stand.functions.nudges)
-}
-
 /// Handles and turns; then runs a work of its queue, if there is one: whether there was.
-pub fn poll<R: Wait>(stand: &mut Stand<'_, R>) -> bool {
+pub fn poll<R: Wait>(stand: &mut Stand<'_, R>) -> bool
+    ensures { IsSameSeat stand.old stand.new }
+{
     stand.turn();
     let taken = stand.take_work();
     if taken {
@@ -54,7 +69,9 @@ pub fn poll<R: Wait>(stand: &mut Stand<'_, R>) -> bool {
 }
 
 /// Counts the key up or down by one.
-pub fn count<R: Wait>(stand: &mut Stand<'_, R>, up: bool) {
+pub fn count<R: Wait>(stand: &mut Stand<'_, R>, up: bool)
+    ensures { IsSameSeat stand.old stand.new }
+{
     let turned = if up {
         stand.key_inc(0)
     } else {
@@ -62,32 +79,5 @@ pub fn count<R: Wait>(stand: &mut Stand<'_, R>, up: bool) {
     };
     if let Ok(false) = turned {
         stand.functions.nudges = stand.functions.nudges.wrapping_add(1);
-    }
-}
-
-/// The CPUs of a machine that have no stand yet.
-#[derive(Drop)]
-pub struct Stands<'a, R> {
-    machine: &'a Machine<Global>,
-    rt: &'a R,
-    boot: MachineBoot<Global>,
-    ghost own: { boot.machine ≡ machine.now },
-}
-
-impl<'a, R: Wait> Stands<'a, R> {
-    pub fn new(machine: &'a Machine<Global>, rt: &'a R, boot: MachineBoot<Global>) -> Stands<'a, R>
-        requires { boot.machine ≡ machine.now }
-    {
-        Stands { machine, rt, boot }
-    }
-
-    /// The stand of this CPU. E1 where it is not online, E2 where it has one.
-    pub fn stand(&mut self, number: u32) -> Result<Stand<'a, R>, BenchError> {
-        let cpu = self.boot.cpu(number)?;
-        let runs = Runs {
-            calls: 0,
-            nudges: 0,
-        };
-        Ok(Seat::new(self.machine, self.rt, cpu, Counter { calls: 0 }, runs))
     }
 }

@@ -1,36 +1,42 @@
 //! Threads at a machine, one for each of its CPUs.
 
+ghost use Rattle.smp_machine.specs.Seats.{IsSameSeat};
 ghost use Rattle.smp_bench.specs.Threads.{IsLawful};
 
 use crate::batch::{batches_of, count_batch, run_batch};
 use crate::error::BenchError;
 use crate::meter::{Measured, Meter};
 use crate::request::Limit;
-use crate::stand::{Stand, Stands, done, label, poll};
+use crate::seat::Counter;
+use crate::stand::{Runs, Stand, label, poll};
 use crate::workload::Workload;
 use crossbeam_utils::{Backoff, CachePadded};
-use smp_machine::Machine;
+use smp_machine::{Crew, Machine, Played, run_cpus};
 use smp_mask::CpuMask;
-use smp_start::StartLine;
-use std::alloc::Global;
+use std::alloc::{AllocError, Global};
 use std::sync::Wait;
 use std::sync::atomic::{AtomicU64, Ordering};
-use std::thread;
 use std::thread::Threads;
 use std::time::Clock;
 
 /// What the threads share beside the machine.
 #[derive(Drop)]
 struct Progress {
-    /// Those that count begin here, once the key is on.
-    start: StartLine,
-    /// Not 0 once the first thread is through.
+    /// Not 0 once the key is on, so that all may count.
+    counting: AtomicU64,
+    /// Not 0 once the first CPU is through.
     over: AtomicU64,
-    /// What the threads that are through have done, modulo 2^64.
-    sum: AtomicU64,
 }
 
 impl Progress {
+    fn tell_counting(&self) {
+        self.counting.store(1, Ordering::SeqCst);
+    }
+
+    fn is_counting(&self) -> bool {
+        self.counting.load(Ordering::SeqCst) != 0
+    }
+
     fn tell_over(&self) {
         self.over.store(1, Ordering::SeqCst);
     }
@@ -38,31 +44,29 @@ impl Progress {
     fn is_over(&self) -> bool {
         self.over.load(Ordering::SeqCst) != 0
     }
-
-    fn note<R: Wait>(&self, stand: &Stand<'_, R>) {
-        self.sum.fetch_add(done(stand), Ordering::SeqCst);
-    }
 }
 
-/// What a thread waits for while it polls.
+/// What a CPU waits for while it polls.
 #[derive(Clone, Copy)]
 enum Until {
-    /// That it may count.
-    Start,
-    /// That the first thread is through.
+    /// That it may count, or the first CPU is through.
+    Counting,
+    /// That the first CPU is through.
     Over,
 }
 
-/// Whether a thread need not poll any more.
+/// Whether a CPU need not poll any more.
 fn is_reached(progress: &Progress, until: Until) -> bool {
     match until {
-        Until::Start => progress.start.look().is_some(),
+        Until::Counting => progress.is_counting() || progress.is_over(),
         Until::Over => progress.is_over(),
     }
 }
 
 /// Polls until this is reached.
-fn answer<R: Wait>(stand: &mut Stand<'_, R>, progress: &Progress, until: Until) {
+fn answer<R: Wait>(stand: &mut Stand<'_, R>, progress: &Progress, until: Until)
+    ensures { IsSameSeat stand.old stand.new }
+{
     let mut backoff = Backoff::new();
     for _ in stand.rt.forever() {
         if is_reached(progress, until) {
@@ -77,12 +81,21 @@ fn answer<R: Wait>(stand: &mut Stand<'_, R>, progress: &Progress, until: Until) 
     unreachable!()
 }
 
-/// Counts the key up and down this number of times, or until the first thread is through.
-fn count<R: Wait>(stand: &mut Stand<'_, R>, progress: &Progress, limit: Limit) {
+/// Makes this number of batches of changes of the key.
+fn count_batches<R: Wait>(stand: &mut Stand<'_, R>, batches: u32)
+    ensures { IsSameSeat stand.old stand.new }
+{
+    for _ in 0..batches {
+        count_batch(stand);
+    }
+}
+
+/// Counts the key up and down this number of times, or until the first CPU is through.
+fn count<R: Wait>(stand: &mut Stand<'_, R>, progress: &Progress, limit: Limit)
+    ensures { IsSameSeat stand.old stand.new }
+{
     if let Some(batches) = batches_of(limit) {
-        for _ in 0..batches {
-            count_batch(stand);
-        }
+        count_batches(stand, batches);
         return;
     }
     for _ in stand.rt.forever() {
@@ -94,26 +107,14 @@ fn count<R: Wait>(stand: &mut Stand<'_, R>, progress: &Progress, limit: Limit) {
     unreachable!()
 }
 
-/// What a thread beside the first does.
-fn help<R: Wait>(mut stand: Stand<'_, R>, progress: &Progress, workload: Workload, limit: Limit) {
-    match workload {
-        Workload::CountAll => {
-            answer(&mut stand, progress, Until::Start);
-            if progress.start.wait(stand.rt) {
-                count(&mut stand, progress, limit);
-            }
-        }
-        _ => answer(&mut stand, progress, Until::Over),
-    }
-    progress.note(&stand);
-}
-
 /// Makes batches until the meter says that it is enough.
-fn repeat<R: Wait + Clock + Eprint>(
+fn repeat<R: Wait, T: Clock + Eprint>(
     stand: &mut Stand<'_, R>,
     workload: Workload,
-    meter: &mut Meter<R>,
-) {
+    meter: &mut Meter<T>,
+)
+    ensures { IsSameSeat stand.old stand.new }
+{
     for _ in stand.rt.forever() {
         let operations = run_batch(stand, workload);
         if !meter.lap(operations) {
@@ -123,56 +124,88 @@ fn repeat<R: Wait + Clock + Eprint>(
     unreachable!()
 }
 
-/// What the first thread does, with all others started.
-fn lead<R: Wait + Clock + Eprint>(
-    stand: &mut Stand<'_, R>,
-    progress: &Progress,
+/// What the CPUs do: the first is timed, and the others help it.
+#[derive(Drop)]
+struct Bench<'a, T> {
+    rt: &'a T,
+    alloc: Global,
     workload: Workload,
-    meter: &mut Meter<R>,
-) {
-    if workload == Workload::CountOne || workload == Workload::CountAll {
-        // The key is on from here on. The first batch begins only now.
-        let _ = stand.set_key(0, true);
-        progress.start.open();
-        meter.lap(0);
-    }
-    repeat(stand, workload, meter);
+    limit: Limit,
+    progress: &'a Progress,
 }
 
-/// Starts the helpers, and leads where all were started: what all of them have done.
-fn run_threads<'a, R: Wait + Threads + Clock + Eprint + Sync>(
-    rt: &R,
-    mut first: Stand<'a, R>,
-    helpers: Vec<Stand<'a, R>, Global>,
-    workload: Workload,
-    meter: &mut Meter<R>,
-) -> Option<u64> {
-    // All threads look at it all the time, so that it must share no line with what one of them writes.
-    let shared = CachePadded::new(Progress {
-        start: StartLine::new(),
-        over: AtomicU64::new(0),
-        sum: AtomicU64::new(0),
-    });
-    let progress: &Progress = &shared;
-    let limit = meter.limit();
-    let mut started = true;
-    thread::scope(thread::scope_env(), rt, |scope| {
-        for helper in helpers {
-            let spawned = scope.spawn(move || help(helper, progress, workload, limit));
-            started = started && spawned.is_ok();
+impl<'a, T: Clock + Eprint> Bench<'a, T> {
+    /// What a CPU beside the first does.
+    fn help<R: Wait>(&self, stand: &mut Stand<'_, R>)
+        ensures { IsSameSeat stand.old stand.new }
+    {
+        if self.workload != Workload::CountAll {
+            answer(stand, self.progress, Until::Over);
+            return;
         }
-        if started {
-            lead(&mut first, progress, workload, meter);
-        } else {
-            progress.start.cancel();
+        answer(stand, self.progress, Until::Counting);
+        if self.progress.is_counting() {
+            count(stand, self.progress, self.limit);
         }
-        progress.note(&first);
-        progress.tell_over();
-    });
-    if started {
-        Some(progress.sum.load(Ordering::SeqCst))
-    } else {
-        None
+    }
+
+    /// What the first CPU does, with all others started.
+    fn lead<R: Wait>(&self, stand: &mut Stand<'_, R>, meter: &mut Meter<T>)
+        ensures { IsSameSeat stand.old stand.new }
+    {
+        if self.workload == Workload::CountOne || self.workload == Workload::CountAll {
+            // The key is on from here on. The first batch begins only now.
+            let _ = stand.set_key(0, true);
+            self.progress.tell_counting();
+            meter.lap(0);
+        }
+        repeat(stand, self.workload, meter);
+    }
+
+    /// What the first CPU does, and what it has measured.
+    fn measure<R: Wait>(&self, stand: &mut Stand<'_, R>) -> Result<Measured, BenchError>
+        ensures { IsSameSeat stand.old stand.new }
+    {
+        let mut meter = Meter::new(self.rt, self.alloc, self.workload.name(), self.limit)?;
+        self.lead(stand, &mut meter);
+        meter.close()
+    }
+}
+
+impl<'a, T: Clock + Eprint> Crew<Counter, Runs> for Bench<'a, T> {
+    ghost begins = { λ _ _ _ _. Unit {0} };
+
+    ghost plays = { λ _ _ _. Unit {0} };
+
+    fn make(&self, _cpu: u32) -> Result<(Counter, Runs), AllocError> {
+        Ok((Counter { calls: 0 }, Runs::new()))
+    }
+
+    fn play<R: Wait>(&self, seat: &mut Stand<'_, R>) {
+        if seat.number() > 0 {
+            self.help(seat);
+            return;
+        }
+        let measured = self.measure(seat);
+        seat.functions.measured = Some(measured);
+        self.progress.tell_over();
+    }
+}
+
+/// What the first CPU has measured, and what all have done, modulo 2^64.
+fn sum_up(back: Vec<Played<Counter, Runs>, Global>) -> Result<(Measured, u64), BenchError> {
+    let mut first = None;
+    let mut sum = 0u64;
+    for played in back {
+        let Played { functions, .. } = played;
+        sum = sum.wrapping_add(functions.done());
+        if let Some(measured) = functions.measured {
+            first = Some(measured?);
+        }
+    }
+    match first {
+        Some(measured) => Ok((measured, sum)),
+        None => Err(BenchError::NoThread),
     }
 }
 
@@ -185,43 +218,32 @@ fn first_cpus(count: u32) -> Result<CpuMask, BenchError> {
     Ok(mask)
 }
 
-/// Stands one CPU for each thread, and runs the threads: what all of them have done.
-fn measure<R: Wait + Threads + Clock + Eprint + Sync>(
-    stands: &mut Stands<'_, R>,
-    rt: &R,
-    alloc: Global,
-    workload: Workload,
-    count: u32,
-    meter: &mut Meter<R>,
-) -> Result<u64, BenchError> {
-    let first = stands.stand(0)?;
-    let mut helpers = Vec::new(alloc);
-    for number in 1..count {
-        helpers.push(stands.stand(number)?)?;
-    }
-    meter.begin()?;
-    run_threads(rt, first, helpers, workload, meter).ok_or(BenchError::NoThread)
-}
-
 /// Runs a workload of up to 7 threads, one for each CPU of a machine with one key and two sites.
 pub fn run<R: Wait + Threads + Clock + Eprint + Sync>(
     rt: &R,
     alloc: Global,
     workload: Workload,
     threads: u32,
-    mut meter: Meter<R>,
+    limit: Limit,
 ) -> Result<(Measured, u64), BenchError>
     requires { IsLawful threads }
 {
     let count = workload.threads(threads);
     let (machine, boot) = Machine::new(alloc, 8, first_cpus(count)?, &label()?)?;
-    let done = measure(
-        &mut Stands::new(&machine, rt, boot),
+    // All threads look at it all the time, so that it must share no line with what one of them writes.
+    let shared = CachePadded::new(Progress {
+        counting: AtomicU64::new(0),
+        over: AtomicU64::new(0),
+    });
+    let bench = Bench {
         rt,
         alloc,
         workload,
-        count,
-        &mut meter,
-    )?;
-    Ok((meter.close()?, done))
+        limit,
+        progress: &shared,
+    };
+    match run_cpus(rt, alloc, &machine, boot, &bench) {
+        Ok(back) => sum_up(back),
+        Err(_) => Err(BenchError::NoThread),
+    }
 }
