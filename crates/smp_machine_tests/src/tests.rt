@@ -3,6 +3,7 @@ mod hall;
 mod keys;
 mod line;
 mod member;
+mod rests;
 mod stops;
 mod turns;
 mod users;

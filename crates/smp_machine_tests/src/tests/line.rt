@@ -47,6 +47,8 @@ pub enum Act {
     AwaitWork,
     Turn(Turn),
     Poll,
+    /// It polls, and sleeps where there was nothing.
+    Rest,
     /// It makes turns in which nothing goes on, until it has heard this number of calls.
     Hears(u32),
     Key(u32, Result<bool, SmpError>),
@@ -116,6 +118,10 @@ impl Act {
             Act::Turn(turn) => me.turn() == turn,
             Act::Poll => {
                 me.poll();
+                true
+            }
+            Act::Rest => {
+                me.rest();
                 true
             }
             Act::Hears(calls) => hears(me, calls),
