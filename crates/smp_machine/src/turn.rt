@@ -76,8 +76,9 @@ pub(crate) fn step<A: Allocator, F: StopFunc>(
     go_on(&machine.stops, &mut me.stops, run)
 }
 
-/// Handles the own interrupt where interrupts are on, and then makes one turn of the work in hand, if any. It does not
-/// wait. Beside the turn it tells whether an interrupt was taken.
+/// Handles the own interrupt where interrupts are on, and then makes one turn of the work in hand, if any: the turn, and
+/// whether an interrupt was taken. It does not wait.
+#[inline(always)]
 pub(crate) fn turn_and_tell<A: Allocator, H: Handler, F: StopFunc>(
     machine: &Machine<A>,
     me: &mut MachineCpu<A>,
@@ -96,7 +97,8 @@ pub(crate) fn turn_and_tell<A: Allocator, H: Handler, F: StopFunc>(
     (step(machine, me, run), interrupted)
 }
 
-/// The same, without what is told beside the turn.
+/// Handles the own interrupt where interrupts are on, and then makes one turn of the work in hand, if any: the turn. It does
+/// not wait.
 pub(crate) fn turn<A: Allocator, H: Handler, F: StopFunc>(
     machine: &Machine<A>,
     me: &mut MachineCpu<A>,

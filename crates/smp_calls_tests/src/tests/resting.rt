@@ -65,26 +65,64 @@ fn call_each<R: Wait>(zero: &mut Counter<'_, R>) -> u64 {
         }
         heard = heard.wrapping_add(1);
     }
-    let last = zero.call_single(1, 2, 0, false);
-    zero.table.wake(1);
-    if last.is_ok() { heard } else { 0 }
+    match zero.call_single(1, 2, 0, false) {
+        Ok(()) => heard,
+        Err(_) => 0,
+    }
 }
 
-/// How many calls the caller has seen heard, and how many were heard by a CPU that rests on a thread of its own.
+/// What a CPU that rests has heard, and whether it has ended.
+struct Rested {
+    heard: AtomicU64,
+    ended: AtomicU64,
+}
+
+impl Rested {
+    fn new() -> Rested {
+        Rested {
+            heard: AtomicU64::new(0),
+            ended: AtomicU64::new(0),
+        }
+    }
+
+    /// The CPU has heard this number of calls, and ends.
+    fn end(&self, heard: u64) {
+        self.heard.store(heard, Ordering::SeqCst);
+        self.ended.store(1, Ordering::SeqCst);
+    }
+
+    /// Whether the CPU has ended, by the last of this number of looks.
+    fn has_ended(&self) -> bool {
+        let backoff = Backoff::new();
+        for _ in 0..TURNS {
+            if self.ended.load(Ordering::SeqCst) == 1 {
+                return true;
+            }
+            backoff.snooze();
+        }
+        false
+    }
+}
+
+/// How many calls the caller has seen heard, how many were heard by a CPU that rests on a thread of its own, and whether
+/// that CPU has ended by the last call alone. It is woken once more, so that one that sleeps on does not hang.
 fn call_a_thread<'a, R: Wait + Threads + Sync>(
     zero: &mut Counter<'a, R>,
     one: Counter<'a, R>,
-) -> (u64, u64) {
-    let heard = AtomicU64::new(0);
-    let shared = &heard;
+) -> (u64, u64, bool) {
+    let rested = Rested::new();
+    let shared = &rested;
     let mut seen = 0;
+    let mut ended = false;
     thread::scope(thread::scope_env(), zero.rt, |scope| {
-        let rests = move || shared.store(rest_until_over(one), Ordering::SeqCst);
+        let rests = move || shared.end(rest_until_over(one));
         if scope.spawn(rests).is_ok() {
             seen = call_each(zero);
+            ended = shared.has_ended();
         }
+        zero.table.wake(1);
     });
-    (seen, heard.load(Ordering::SeqCst))
+    (seen, rested.heard.load(Ordering::SeqCst), ended)
 }
 
 #[test]
@@ -96,6 +134,6 @@ fn a_cpu_that_rests_is_woken_by_each_call(rt: HostRuntime) -> Result<(), Fail> {
     };
     let mut zero = Caller::new(&table, &rt, boot.cpu(0)?, count());
     let one = Caller::new(&table, &rt, boot.cpu(1)?, count());
-    assert_eq!(rt; call_a_thread(&mut zero, one), (CALLS, CALLS));
+    assert_eq!(rt; call_a_thread(&mut zero, one), (CALLS, CALLS, true));
     Ok(())
 }
