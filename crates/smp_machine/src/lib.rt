@@ -48,6 +48,7 @@ mod seat_names;
 mod seat_polls;
 mod seat_stops;
 mod seat_within;
+mod stalls;
 mod stop;
 mod stop_calls;
 mod stop_work;
