@@ -62,7 +62,7 @@ pub enum Job<'a> {
     /// Judges what an exploration expects.
     Explore(Orders, Scripts<'a>),
     /// Finds all final numbers of words of an exploration.
-    Outcomes(Most),
+    Outcomes(Most, Scripts<'a>),
     /// Writes down one run of an exploration.
     Write(Run),
     /// Judges a trace.
@@ -78,7 +78,7 @@ impl<'a> Job<'a> {
     pub fn takes(&self) -> Option<TextKind> {
         match self {
             Job::Show(..) | Job::Events | Job::Check(_) => Some(TextKind::Replay),
-            Job::Explore(..) | Job::Outcomes(_) | Job::Write(_) => Some(TextKind::Exploration),
+            Job::Explore(..) | Job::Outcomes(..) | Job::Write(_) => Some(TextKind::Exploration),
             Job::Judge => Some(TextKind::Trace),
             Job::Explain => None,
         }
@@ -199,7 +199,7 @@ fn job_of<'a>(name: &str, matches: &ArgMatches<'a>) -> Result<Job<'a>, Wrong> {
         "explain" => Job::Explain,
         "explore" => Job::Explore(Orders::All(most_of(matches)), scripts_of(matches)),
         "sample" => Job::Explore(Orders::Sampled(sample_of(matches)), scripts_of(matches)),
-        "outcomes" => Job::Outcomes(most_of(matches)),
+        "outcomes" => Job::Outcomes(most_of(matches), scripts_of(matches)),
         "script" => Job::Write(run_of(matches)),
         "events" => Job::Events,
         "check" => Job::Check(trace_of(matches)?),

@@ -16,8 +16,10 @@ pub enum Failure {
     NoTrace(io::Error),
     /// A script could not be written into its file, for this reason of the system.
     Unsaved(io::Error),
-    /// A word that was named is no word of the table, or there are too many outcomes.
+    /// A word that was named is no word of the table.
     NoWord,
+    /// No outcome has the number that was named.
+    NoOutcome,
     /// No expectation stands on the line that was named.
     NoExpectation,
     /// The text is of another kind than the command takes.

@@ -101,6 +101,15 @@ const ONLY: Number = Number {
     help: "Judges the expectation of this line alone, or at 0 that the programs go on, and prints its script and nothing else",
 };
 
+const OUTCOME: Number = Number {
+    name: "only",
+    value: "N",
+    low: 1,
+    high: MOST_32,
+    usual: None,
+    help: "Prints the script of the outcome of this number, and nothing else",
+};
+
 const FROM: Number = Number {
     name: "from",
     value: "N",
@@ -158,7 +167,7 @@ const SAMPLE: Named = Named {
 
 const OUTCOMES: Named = Named {
     name: "outcomes",
-    about: "Prints all numbers that these words have where all programs of an exploration have ended",
+    about: "Prints all numbers that these words have where all programs of an exploration have ended, with a script to each",
 };
 
 const SCRIPT: Named = Named {
@@ -224,19 +233,30 @@ fn with_choice<'a>(
     command.arg(mark)
 }
 
+// Of which scripts a subcommand says whither they go.
+fn scripts_help(named: Named) -> Option<&'static str> {
+    match named.name {
+        "explore" | "sample" => Some(
+            "Writes the script of each broken expectation into a file in this folder, as FOLDER/never-12.smp",
+        ),
+        "outcomes" => Some(
+            "Writes the script of each outcome into a file in this folder, as FOLDER/outcome-1.smp",
+        ),
+        _ => None,
+    }
+}
+
 // The option that says whither scripts go.
 fn with_scripts<'a>(
     alloc: Global,
     named: Named,
     command: Command<'a>,
 ) -> Result<Command<'a>, AllocError> {
-    if named.name != EXPLORE.name && named.name != SAMPLE.name {
+    let Some(help) = scripts_help(named) else {
         return Ok(command);
-    }
+    };
     let scripts = text_arg(alloc, "scripts", "FOLDER")
-        .help(
-            "Writes the script of each broken expectation into a file in this folder, as FOLDER/never-12.smp",
-        )
+        .help(help)
         .conflicts_with("only")?;
     command.arg(scripts)
 }
@@ -289,7 +309,7 @@ pub fn grammar<'a>(alloc: Global) -> Result<Command<'a>, AllocError> {
         (EXPLAIN, &[]),
         (EXPLORE, &[STATES, MEMORY, ONLY]),
         (SAMPLE, &[SEED, RUNS, STEPS, ONLY]),
-        (OUTCOMES, &[STATES, MEMORY]),
+        (OUTCOMES, &[STATES, MEMORY, OUTCOME]),
         (SCRIPT, &[SEED, RUN, STEPS]),
         (EVENTS, &[]),
         (CHECK, &[]),

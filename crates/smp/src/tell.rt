@@ -30,8 +30,9 @@ pub fn tell(rt: &HostRuntime, name: &str, text: &[u8], failure: Failure) -> io::
         Failure::NoTrace(reason) => eprintln!(rt; "smp: the trace of steps: {reason}"),
         Failure::Unsaved(reason) => eprintln!(rt; "smp: a file of a script: {reason}"),
         Failure::NoWord => eprintln!(rt;
-            "smp: a WORD is none of this table, as head.2 or queued.0.1, or there are more than 1000 outcomes"
+            "smp: a WORD is none of this table; head.2 and queued.0.1 are such words"
         ),
+        Failure::NoOutcome => eprintln!(rt; "smp: {name}: no outcome has the number of --only"),
         Failure::NoExpectation => {
             eprintln!(rt; "smp: {name}: there is no expectation on the line of --only")
         }

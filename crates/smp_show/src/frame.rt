@@ -81,8 +81,8 @@ fn is_event_of(row: &Row, cpu: u32) -> bool
     }
 }
 
-// Whether the CPU has an event.
-fn is_busy(rows: &[Row], cpu: u32) -> bool
+/// Whether the CPU has an event.
+pub fn is_busy(rows: &[Row], cpu: u32) -> bool
     ensures { result ≡ is_busy rows.now cpu }
 {
     rows.iter().any(|row| is_event_of(row, cpu))
@@ -191,5 +191,16 @@ impl<'a> Frame<'a> {
         ensures small { result < 2 ^ 40 }
     {
         u64::from(self.base) + u64::from(self.low) + LANE
+    }
+
+    /// The lower edge of the lowest lane.
+    pub fn foot(&self) -> u64
+        ensures { result ≤ bottom_of self.now.base self.now.low }
+    {
+        let bottom = self.bottom();
+        match self.lanes.last() {
+            Some(lane) if !lane.busy => bottom - (LANE - IDLE_LANE),
+            _ => bottom,
+        }
     }
 }

@@ -103,7 +103,7 @@ fn write_span<A: Allocator>(
     one: &Span<'_>,
 ) -> Result<(), AllocError> {
     match one.drawn {
-        Drawn::Command(_, line) => {
+        Drawn::Command(_, line) | Drawn::Idle(line) => {
             let name = from_utf8(line).unwrap_or("");
             write_slice(out, name, one.cpu, one.first, one.last)
         }

@@ -14,6 +14,7 @@ text.cpu { font-size: 12px; }
 text.number { font-size: 9px; fill: #555555; text-anchor: middle; }
 text.key { font-size: 11px; }
 text.far { font-size: 9px; fill: #555555; text-anchor: end; }
+text.value { font-size: 8px; text-anchor: middle; }
 text.near { font-size: 9px; fill: #555555; }
 rect { stroke-width: 1; }
 rect.lane { fill: #f6f6f6; }
@@ -23,6 +24,7 @@ rect.even { fill: #cc79a7; fill-opacity: 0.25; }
 rect.post { fill: #56b4e9; fill-opacity: 0.45; stroke: #0072b2; }
 rect.send { fill: #e69f00; fill-opacity: 0.45; stroke: #e69f00; }
 rect.handle { fill: #009e73; fill-opacity: 0.4; stroke: #009e73; }
+rect.idle { fill: #009e73; fill-opacity: 0.25; }
 rect.stop { fill: #cc79a7; fill-opacity: 0.4; stroke: #cc79a7; }
 rect.ask { fill: #ffffff; fill-opacity: 0.6; stroke: #000000; }
 rect.nudge { fill: #f0e442; fill-opacity: 0.6; stroke: #a09700; }
@@ -55,6 +57,7 @@ const BOXES: &str =
 <rect class=\"stop\" x=\"290\" y=\"10\" width=\"22\" height=\"14\"/><text class=\"key\" x=\"318\" y=\"21\">of a stop</text>
 <rect class=\"nudge\" x=\"412\" y=\"10\" width=\"22\" height=\"14\"/><text class=\"key\" x=\"440\" y=\"21\">nudge</text>
 <rect class=\"ask\" x=\"508\" y=\"10\" width=\"22\" height=\"14\"/><text class=\"key\" x=\"536\" y=\"21\">done, poll, key, site</text>
+<rect class=\"idle\" x=\"700\" y=\"14\" width=\"22\" height=\"6\"/><text class=\"key\" x=\"728\" y=\"21\">a handle of nothing</text>
 ";
 
 // The second line: the dots of steps.
@@ -144,7 +147,7 @@ fn write_number<A: Allocator + Copy>(
 ) -> Result<(), AllocError> {
     let x = frame.left(column) + frame.step() / 2;
     let top = u64::from(frame.base);
-    let bottom = frame.bottom();
+    let bottom = frame.foot();
     writeln!(
         out,
         "<line class=\"number\" x1=\"{x}\" y1=\"{top}\" x2=\"{x}\" y2=\"{bottom}\"/>"

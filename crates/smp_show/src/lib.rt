@@ -6,15 +6,17 @@
 //! - `events`: A replay as a trace of events.
 //! - `moments`, `trace`: What a script asks for, moment by moment, and what is seen of it.
 //! - `lanes`, `slim`, `cell`, `pad`: A replay with one column for each CPU, or one mark.
-//! - `picture`, `legend`, `element`: A replay as a picture.
-//! - `frame`, `spans`, `link`, `mark`: Where things stand in it, what is drawn from one event to another, what opens and
-//!   closes that, and the names of styles.
+//! - `picture`, `areas`, `arrows`, `legend`, `element`: A replay as a picture.
+//! - `frame`, `spans`, `link`, `quiet`, `mark`: Where things stand in it, what is drawn from one event to another, what opens
+//!   and closes that, what is drawn small, and the names of styles.
 //! - `text_kind`: The kinds of texts.
 //! - `forms`, `shapes`, `fits`, `fault`: The first fault of a script, and the field of a replay that it lies in.
 //! - `templates`, `takes`, `keeps`, `condition_parts`, `stands`, `explain`: What is wrong with a text of any kind, and what
 //!   may stand in its place.
 #![tactic(auto)]
 
+mod areas;
+mod arrows;
 pub mod cell;
 pub mod choice;
 mod condition_parts;
@@ -34,6 +36,7 @@ mod mark;
 pub mod moments;
 mod pad;
 pub mod picture;
+mod quiet;
 pub mod shapes;
 pub mod show;
 mod slim;

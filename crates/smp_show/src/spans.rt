@@ -4,6 +4,7 @@ use crate::frame::column;
 use crate::link::{Link, closing, opened_by};
 use crate::mark::box_style;
 use crate::moments::{Asked, Moment};
+use crate::quiet::is_idle;
 use crate::trace::{Row, What};
 use smp_core::Event;
 use std::alloc::{AllocError, Allocator};
@@ -13,6 +14,8 @@ use std::alloc::{AllocError, Allocator};
 pub enum Drawn<'a> {
     /// A command, by its style and its line.
     Command(&'static str, &'a [u8]),
+    /// A handle that finds no interrupt, by its line.
+    Idle(&'a [u8]),
     /// Interrupts are off.
     Off,
     /// A stop is in this phase.
@@ -66,12 +69,20 @@ fn command_of<'a>(
     lines: &[&'a [u8]],
 ) -> Option<Span<'a>> {
     match (moment.asked, begun.what) {
-        (Asked::Turn(Event::Start(_, command)), What::Began) => Some(Span {
-            cpu: begun.cpu,
-            first: column(begun),
-            last: end_of(begun, rest),
-            drawn: Drawn::Command(box_style(command), script_line(lines, begun.line)),
-        }),
+        (Asked::Turn(Event::Start(_, command)), What::Began) => {
+            let line = script_line(lines, begun.line);
+            let drawn = if is_idle(moment, begun, rest) {
+                Drawn::Idle(line)
+            } else {
+                Drawn::Command(box_style(command), line)
+            };
+            Some(Span {
+                cpu: begun.cpu,
+                first: column(begun),
+                last: end_of(begun, rest),
+                drawn,
+            })
+        }
         _ => None,
     }
 }
