@@ -1,5 +1,7 @@
 //! A CPU that keeps a stop waiting is named, and a call to it that gives up waiting says so.
 
+ghost use Rattle.smp_machine.specs.Seats.{IsSameSeat};
+
 use super::*;
 use crossbeam_utils::Backoff;
 use std::sync::atomic::{AtomicU64, Ordering};
@@ -27,9 +29,9 @@ fn is_named<R: Wait>(seat: &Seat<'_, Global, R, Silent, NoStop>) -> bool {
 
 /// Calls CPU 1, which does not poll, stops it, and calls it again: whether it is named while it does not answer, and not any
 /// more once it has.
-fn call_and_stop<R: Wait>(
-    seat: &mut Seat<'_, Global, R, Silent, NoStop>,
-) -> Result<bool, SmpError> {
+fn call_and_stop<R: Wait>(seat: &mut Seat<'_, Global, R, Silent, NoStop>) -> Result<bool, SmpError>
+    ensures { IsSameSeat seat.old seat.new }
+{
     let one = CpuMask::of(1)?;
     let before = seat.call_many_within(one, 1, 0, 10)?;
     let answer = seat.stop_machine(0, 0, None)?;
