@@ -44,7 +44,7 @@ fn run_calls<R: Wait + Threads + Clock + Eprint + Sync>(
     match workload {
         Workload::PostOne => alone::run(alloc, 1, &[10], meter),
         Workload::PostEight => alone::run(alloc, 4, &[10, 11], meter),
-        Workload::RoundTrip => threads::run(rt, alloc, workload, 2, meter),
+        Workload::RoundTrip | Workload::Wake => threads::run(rt, alloc, workload, 2, meter),
         _ => threads::run(rt, alloc, workload, threads, meter),
     }
 }
@@ -63,6 +63,7 @@ fn run<R: Wait + Threads + Clock + Eprint + Sync>(
         Workload::PostOne
         | Workload::PostEight
         | Workload::RoundTrip
+        | Workload::Wake
         | Workload::Async
         | Workload::Many => run_calls(rt, alloc, workload, threads, limit),
         _ => stops::run(rt, alloc, workload, threads, limit),

@@ -9,6 +9,7 @@ use smp_queue::{Audit, Boot, CallCpu, CallTable, Handler, Tally};
 use smp_words::call::Class;
 use std::alloc::Global;
 use std::sync::Wait;
+use std::sync::atomic::{AtomicU64, Ordering};
 
 /// The function that all calls name, and its info.
 const FUNC: u16 = 7;
@@ -57,6 +58,22 @@ impl<'a> Seat<'a> {
     /// Handles the CPU's interrupt, if one is pending: how many calls it ran.
     pub fn poll(&mut self) -> u32 {
         self.table.handle(&mut self.cpu, &mut self.counter).ran
+    }
+
+    /// Handles the CPU's interrupt, and sleeps where none was pending, unless all are to stop: whether they are.
+    pub fn rest<R: Wait>(&mut self, rt: &R, stop: &AtomicU64) -> bool {
+        let alarm = self.table.set_alarm(&self.cpu);
+        let is_stopped = stop.load(Ordering::SeqCst) != 0;
+        let handled = self.table.handle(&mut self.cpu, &mut self.counter);
+        if !is_stopped && !handled.interrupted {
+            alarm.sleep(rt);
+        }
+        is_stopped
+    }
+
+    /// Wakes a CPU that sleeps.
+    pub fn wake(&self, cpu: u32) {
+        self.table.wake(cpu);
     }
 
     pub fn single<R: Wait>(&mut self, rt: &R, dst: u32, wait: bool) -> bool {

@@ -54,6 +54,16 @@ fn answer<R: Wait>(rt: &R, mut seat: Seat, progress: &Progress) {
     unreachable!()
 }
 
+/// Rests until it is told to stop.
+fn rest<R: Wait>(rt: &R, mut seat: Seat, progress: &Progress) {
+    for _ in rt.forever() {
+        if seat.rest(rt, &progress.stop) {
+            return;
+        }
+    }
+    unreachable!()
+}
+
 /// Calls CPU 0 without wait, this number of times or until it is told to stop.
 fn call_zero<R: Wait>(rt: &R, mut seat: Seat, progress: &Progress, times: u64) {
     if !progress.start.wait(rt) {
@@ -72,6 +82,7 @@ fn call_zero<R: Wait>(rt: &R, mut seat: Seat, progress: &Progress, times: u64) {
 fn help<R: Wait>(rt: &R, seat: Seat, progress: &Progress, workload: Workload, times: u64) {
     match workload {
         Workload::Async => call_zero(rt, seat, progress, times),
+        Workload::Wake => rest(rt, seat, progress),
         _ => answer(rt, seat, progress),
     }
 }
@@ -184,6 +195,8 @@ fn run_threads<'a, R: Wait + Threads + Clock + Eprint + Sync>(
         } else {
             progress.stop();
         }
+        // A CPU that rests looks whether all are to stop once it is awake.
+        first.wake(1);
     });
     started
 }

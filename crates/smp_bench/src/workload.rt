@@ -9,6 +9,8 @@ pub enum Workload {
     PostEight,
     /// A call with wait between two threads that poll.
     RoundTrip,
+    /// A call with wait, from one thread to another, which sleeps where nothing is pending.
+    Wake,
     /// Calls without wait from all threads but one to that one. An operation is a call that has run.
     Async,
     /// A call to many with wait, from one thread to all others, which poll.
@@ -28,10 +30,11 @@ pub enum Workload {
 }
 
 impl Workload {
-    pub const ALL: [Workload; 11] = [
+    pub const ALL: [Workload; 12] = [
         Workload::PostOne,
         Workload::PostEight,
         Workload::RoundTrip,
+        Workload::Wake,
         Workload::Async,
         Workload::Many,
         Workload::Stop,
@@ -47,6 +50,7 @@ impl Workload {
             Workload::PostOne => "post-1",
             Workload::PostEight => "post-8",
             Workload::RoundTrip => "trip",
+            Workload::Wake => "wake",
             Workload::Async => "async",
             Workload::Many => "many",
             Workload::Stop => "stop",
@@ -62,7 +66,7 @@ impl Workload {
     pub fn threads(self, asked: u32) -> u32 {
         match self {
             Workload::PostOne | Workload::PostEight | Workload::CountOne | Workload::Idle => 1,
-            Workload::RoundTrip | Workload::StopOne => 2,
+            Workload::RoundTrip | Workload::Wake | Workload::StopOne => 2,
             _ => asked,
         }
     }

@@ -30,7 +30,7 @@ all_by of [] = tt
 all_by of (x ∷ xs) = search (eq-eqb, every, or_yes, all_by of xs, arith)
 
 -- what holds of what was sent holds of each destination and its call
-all_sent : (P : ℕ → Call → Type 0) (call : ℕ → Call) (queued : List Queued) → AllByRecursion (λ s. P s.to s.call) (sendings call queued)
+pub all_sent : (P : ℕ → Call → Type 0) (call : ℕ → Call) (queued : List Queued) → AllByRecursion (λ s. P s.to s.call) (sendings call queued)
     → AllByRecursion (λ x. P x (call x)) (destinations queued)
 all_sent P call [] h = tt
 all_sent P call (q ∷ qs) h = (h.0, all_sent P call qs h.1)

@@ -19,3 +19,6 @@ pub mod Parts
 pub mod Ended
 -- each CPU of a mask is called, or all are
 pub mod Names
+-- waiting no longer than some polls, and a call to many that does
+pub mod Polling
+pub mod Bounded

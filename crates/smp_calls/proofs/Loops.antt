@@ -25,7 +25,7 @@ pub record Asking {H : Type 0} (leads : H → Heard → H → Type 0) (old : Cpu
   pub waiting : (c : ℕ) → c < NR_CPUS → has left c ≡ true → has called c ≡ true
   pub answered : (c : ℕ) → c < NR_CPUS → has others c ≡ true → has left c ≡ false → says c (has called c)
 
-both_true : (a b : Bool) → (a && b) ≡ true → (a ≡ true) × (b ≡ true)
+pub both_true : (a b : Bool) → (a && b) ≡ true → (a ≡ true) × (b ≡ true)
 both_true true b e = (refl, e)
 both_true false b e = cc
 
@@ -34,19 +34,19 @@ not_true true e = cc
 not_true false e = refl
 
 -- what is in a mask that was kept, or taken out of, was in it before
-kept_among : (keep : Bool) (m n cpu c : ℕ) → (keep ≡ true → n ≡ m) → (keep ≡ false → (x : ℕ) → has n x ≡ (has m x && not (x == cpu))) → has n c ≡ true
+pub kept_among : (keep : Bool) (m n cpu c : ℕ) → (keep ≡ true → n ≡ m) → (keep ≡ false → (x : ℕ) → has n x ≡ (has m x && not (x == cpu))) → has n c ≡ true
     → has m c ≡ true
 kept_among true m n cpu c kept out h = ap (λ (x : ℕ). has x c) (sym (kept refl)) ∙ h
 kept_among false m n cpu c kept out h = (both_true (has m c) (not (c == cpu)) (sym (out refl c) ∙ h)).0
 
 -- another one stays as it was
-kept_else : (keep : Bool) (m n cpu c : ℕ) → (keep ≡ true → n ≡ m) → (keep ≡ false → (x : ℕ) → has n x ≡ (has m x && not (x == cpu))) → (c == cpu) ≡ false
+pub kept_else : (keep : Bool) (m n cpu c : ℕ) → (keep ≡ true → n ≡ m) → (keep ≡ false → (x : ℕ) → has n x ≡ (has m x && not (x == cpu))) → (c == cpu) ≡ false
     → has n c ≡ has m c
 kept_else true m n cpu c kept out h = ap (λ (x : ℕ). has x c) (kept refl)
 kept_else false m n cpu c kept out h = out refl c ∙ (ap (λ b. has m c && not b) h ∙ and_true (has m c))
 
 -- this one stays where it is to be kept
-kept_here : (keep : Bool) (m n cpu : ℕ) → (keep ≡ true → n ≡ m) → (keep ≡ false → (x : ℕ) → has n x ≡ (has m x && not (x == cpu))) → has m cpu ≡ true
+pub kept_here : (keep : Bool) (m n cpu : ℕ) → (keep ≡ true → n ≡ m) → (keep ≡ false → (x : ℕ) → has n x ≡ (has m x && not (x == cpu))) → has m cpu ≡ true
     → has n cpu ≡ keep
 kept_here true m n cpu kept out h = ap (λ (x : ℕ). has x cpu) (kept refl) ∙ h
 kept_here false m n cpu kept out h = out refl cpu ∙ (ap (λ b. has m cpu && not b) (eq-eqb cpu cpu refl) ∙ and_false (has m cpu))

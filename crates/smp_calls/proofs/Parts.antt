@@ -23,7 +23,7 @@ confirmed_by true false x = refl
 confirmed_by false true x = refl
 confirmed_by false false x = refl
 
-none_true : (b : Bool) → (b ≡ true → ⊥) → b ≡ false
+pub none_true : (b : Bool) → (b ≡ true → ⊥) → b ≡ false
 none_true true never = absurd (never refl)
 none_true false never = refl
 

@@ -11,3 +11,5 @@ pub mod Families
 pub mod Rounds
 -- what a call that waits says of the calls that it made
 pub mod Ended
+-- what a call leaves that waits no longer than some polls
+pub mod Within

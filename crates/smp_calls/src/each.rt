@@ -46,7 +46,7 @@ fn queue_if<A: Allocator, R: Wait, H: Handler>(
 }
 
 /// The mask, without the CPU unless that is kept.
-fn without_unless(mask: CpuMask, cpu: u32, keep: bool) -> CpuMask
+pub(crate) fn without_unless(mask: CpuMask, cpu: u32, keep: bool) -> CpuMask
     ensures kept { keep ≡ true → result ≡ mask }
     ensures out { keep ≡ false → (c : ℕ) → has result c ≡ (has mask c && not (c == cpu)) }
 {

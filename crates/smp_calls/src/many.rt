@@ -23,7 +23,7 @@ use std::sync::Wait;
 
 /// Queues a call for each of these CPUs that the condition holds of, and then sends all interrupts that are
 /// owed: the CPUs called.
-fn queue_all<A: Allocator, R: Wait, H: Handler, C: Fn(u32, u64) -> bool>(
+pub(crate) fn queue_all<A: Allocator, R: Wait, H: Handler, C: Fn(u32, u64) -> bool>(
     table: &CallTable<A>,
     rt: &R,
     me: &mut CallCpu,

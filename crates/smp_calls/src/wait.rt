@@ -24,7 +24,7 @@ pub(crate) fn is_done<A: Allocator>(table: &CallTable<A>, me: &mut CallCpu, k: u
 }
 
 /// Handles the CPU's own interrupt, if one is pending.
-fn handle_own<A: Allocator, R: Wait, H: Handler>(
+pub(crate) fn handle_own<A: Allocator, R: Wait, H: Handler>(
     table: &CallTable<A>,
     rt: &R,
     me: &mut CallCpu,

@@ -6,6 +6,7 @@ mod threads;
 mod users;
 mod waiting;
 mod wide;
+mod within;
 
 use smp_calls::*;
 use smp_mask::{CpuMask, SmpError};

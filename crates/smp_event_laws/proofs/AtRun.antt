@@ -1,5 +1,6 @@
 -- Functions run, and patches store, only at RUN.
-use Rattle.std.proofs.Common.{◌≡◌, ℕ, ◌<◌, ◌≤◌, Bool, true, false, List, [], ◌∷◌, ◌++◌, map, length, Option, Some, None, Result, Ok, refl, ap, ◌∙◌, sym, arith, replicate}
+use Rattle.std.proofs.Common.{◌≡◌, ℕ, ◌<◌, ◌≤◌, Bool, true, false, List, [], ◌∷◌, ◌++◌, map, length, Option, Some, None, Result, Ok, refl, ap, ◌∙◌, sym, arith}
+use Rattle.std.proofs.Common.{replicate}
 use Rattle.std.specs.Prelude.{ℤ, slice_index_or}
 use Rattle.std.proofs.lemmas.List.{append-nil, get_or-replicate, length-replicate}
 use Rattle.smp_labels.specs.declared.patch.Place.TheVariants.{Key, Site}
@@ -29,7 +30,8 @@ use Rattle.smp_event_steps.specs.Stop.{acked_by, answer_of, at_phase, closed, ha
 use Rattle.smp_event_steps.specs.Stops.{gate_by, gate_with, holds_gate, in_patch, made_store, next_store, patch_by, patch_left, ungate_by}
 use Rattle.smp_event_laws.specs.Events.{ends, id_of}
 use Rattle.smp_event_laws.specs.History.{running}
-use Rattle.smp_event_laws.specs.Rounds.{FunctionsRunAtRun, IsAtRun, IsHeld, MayRun, MayStore, PatchesStoreAtRun, RunsAt, Seen, seen, seen_from, seen_next, stores, unseen, work, work_from, work_next}
+use Rattle.smp_event_laws.specs.Rounds.{FunctionsRunAtRun, IsAtRun, IsHeld, MayRun, MayStore, PatchesStoreAtRun, RunsAt, Seen, seen, seen_from, seen_next}
+use Rattle.smp_event_laws.specs.Rounds.{stores, unseen, work, work_from, work_next}
 use Rattle.smp_event_laws.specs.Traces.{IsTrace}
 use Rattle.smp_event_laws.proofs.Binds.{both_made, passed}
 use Rattle.smp_event_laws.proofs.Others.{label_keeps_calls, stop_keeps_calls}
@@ -44,10 +46,12 @@ use Rattle.smp_event_laws.proofs.Traces.{cpus_at_first, end_once, fresh_at}
 gate_rounds : (seen : ℕ → Seen) (work : ℕ → Option Task) (s : StateValue) (gate : Option ℕ) → Rounds seen work s → Rounds seen work (record s { gate = gate })
 gate_rounds seen work s gate r = record { cpus_are = r.cpus_are; stops_are = r.stops_are; at = r.at; cpu = r.cpu; stop = r.stop }
 
-words_rounds : (seen : ℕ → Seen) (work : ℕ → Option Task) (s : StateValue) (words : LabelWords) → Rounds seen work s → Rounds seen work (record s { words = words })
+words_rounds : (seen : ℕ → Seen) (work : ℕ → Option Task) (s : StateValue) (words : LabelWords) → Rounds seen work s →
+    Rounds seen work (record s { words = words })
 words_rounds seen work s words r = record { cpus_are = r.cpus_are; stops_are = r.stops_are; at = r.at; cpu = r.cpu; stop = r.stop }
 
-gate_with_rounds : (seen : ℕ → Seen) (work : ℕ → Option Task) (gate : Option ℕ) (cpu : ℕ) (s t : StateValue) → Rounds seen work s → gate_with gate cpu s ≡ Ok t → Rounds seen work t
+gate_with_rounds : (seen : ℕ → Seen) (work : ℕ → Option Task) (gate : Option ℕ) (cpu : ℕ) (s t : StateValue) → Rounds seen work s →
+    gate_with gate cpu s ≡ Ok t → Rounds seen work t
 gate_with_rounds seen work (Some holder) cpu s t r e = absurd cc
 gate_with_rounds seen work None cpu s t r e = rounds_end seen work (record s { gate = Some cpu }) t (cc) (gate_rounds seen work s (Some cpu) r)
 
@@ -79,16 +83,19 @@ stop_rounds seen work actor (stops.Run func arg) s t r e = run_rounds seen work 
 stop_rounds seen work actor (stops.Complete answer) s t r e = complete_rounds seen work s t actor answer r e
 stop_rounds seen work actor (stops.Collect answer) s t r e = collect_rounds seen work s t actor answer r e
 
-after_rounds : (seen : ℕ → Seen) (work : ℕ → Option Task) (s t : StateValue) (test : Result (Unit {0}) Reason) → Rounds seen work s → (test >>= λ u. Ok s) ≡ Ok t → Rounds seen work t
+after_rounds : (seen : ℕ → Seen) (work : ℕ → Option Task) (s t : StateValue) (test : Result (Unit {0}) Reason) → Rounds seen work s →
+    (test >>= λ u. Ok s) ≡ Ok t → Rounds seen work t
 after_rounds seen work s t test r e = let m = both_made test (λ u. Ok s) t e in rounds_end seen work s t (cc) r
 
-nudge_rounds : (seen : ℕ → Seen) (work : ℕ → Option Task) (cpu key : ℕ) (up : Bool) (s t : StateValue) → Rounds seen work s → nudge_by cpu key up s ≡ Ok t → Rounds seen work t
+nudge_rounds : (seen : ℕ → Seen) (work : ℕ → Option Task) (cpu key : ℕ) (up : Bool) (s t : StateValue) → Rounds seen work s → nudge_by cpu key up s ≡ Ok t →
+    Rounds seen work t
 nudge_rounds seen work cpu key up s t r e =
     let m = both_made (reads_by cpu s) (λ u. nudged_word key up s) t e in
     let n = both_made (nudged key up s.words) (λ words. Ok (record s { words = words })) t m.1.1 in
     rounds_end seen work (record s { words = n.0 }) t (cc) (words_rounds seen work s n.0 r)
 
-label_rounds : (seen : ℕ → Seen) (work : ℕ → Option Task) (actor : ℕ) (e : LabelEvent) (s t : StateValue) → Rounds seen work s → label_goes actor e s ≡ Ok t → Rounds seen work t
+label_rounds : (seen : ℕ → Seen) (work : ℕ → Option Task) (actor : ℕ) (e : LabelEvent) (s t : StateValue) → Rounds seen work s →
+    label_goes actor e s ≡ Ok t → Rounds seen work t
 unfolding label_goes
 label_rounds seen work actor (labels.Set key count) s t r e = patch_by_rounds seen work s t actor (Key key) count r e
 label_rounds seen work actor (labels.Turn site jumps) s t r e = patch_by_rounds seen work s t actor (Site site) (site_word jumps) r e
@@ -115,7 +122,8 @@ unfolding opening
 stops_at_first u words = refl
 
 pub stop_at_first : (u : Setting) (words : LabelWords) (source : ℕ) → source < 32 → stop_at (opening u words) source ≡ closed u.online
-stop_at_first u words source low = ap (λ (xs : List Stop). slice_index_or xs source (closed 0)) (stops_at_first u words) ∙ get_or-replicate 32 source (closed u.online) (closed 0) low
+stop_at_first u words source low = ap (λ (xs : List Stop). slice_index_or xs source (closed 0)) (stops_at_first u words) ∙
+    get_or-replicate 32 source (closed u.online) (closed 0) low
 
 closed_round : (left_out : Bool) (source cpu mask : ℕ) → cpu < 32 → RoundAt left_out source cpu unseen (member_of cpu (closed mask)) None true
 closed_round left_out source cpu mask below =
@@ -164,11 +172,13 @@ rounds_at_first u words =
       stop = λ source low. let st : stop_at s source ≡ closed u.online = stop_at_first u words source low in rw st (closed_stop u.online);
     }
 
-pub rounds_of : (u : Setting) (words : LabelWords) (es : List (ℕ × Event)) (t : StateValue) → IsTrace u words es t → Rounds (λ cpu. seen cpu es) (λ source. work source es) t
+pub rounds_of : (u : Setting) (words : LabelWords) (es : List (ℕ × Event)) (t : StateValue) → IsTrace u words es t →
+    Rounds (λ cpu. seen cpu es) (λ source. work source es) t
 rounds_of u words es t run = rounds_runs (λ cpu. unseen) (λ source. None) es (opening u words) t (rounds_at_first u words) run
 
 -- the last event of a run
-pub runs_last : (es : List (ℕ × Event)) (e : ℕ × Event) (s t : StateValue) → Runs s (es ++ e ∷ []) t → (m : StateValue) × (Runs s es m × (goes e.0 e.1 m ≡ Ok t))
+pub runs_last : (es : List (ℕ × Event)) (e : ℕ × Event) (s t : StateValue) → Runs s (es ++ e ∷ []) t → (m : StateValue) × (Runs s es m ×
+    (goes e.0 e.1 m ≡ Ok t))
 runs_last [] e s t (m, (g, same)) = (s, (refl, g ∙ ap (λ x. Ok x) (sym same)))
 runs_last (x ∷ es) e s t (n, (g, run)) = let r = runs_last es e n t run in (r.0, ((n, (g, r.1.0)), r.1.1))
 
@@ -289,7 +299,8 @@ may_store_at u words es s cpu run i =
 stores_in : (s t : StateValue) (cpu : ℕ) (place : Place) (word : ℕ) → patch_by cpu place word s ≡ Ok t → StoresIn s cpu
 unfolding patch_by
 stores_in s t cpu place word e =
-    let m = both_made (in_patch cpu s) (λ source. made_store (next_store source s) source (patch_left source s) place word s) t e in (in_patch_is s cpu m.0 m.1.0).0
+    let m = both_made (in_patch cpu s) (λ source. made_store (next_store source s) source (patch_left source s) place word s) t e in
+    (in_patch_is s cpu m.0 m.1.0).0
 
 store_is : (cpu : ℕ) (e : LabelEvent) (s t : StateValue) → label_goes cpu e s ≡ Ok t → stores e ≡ true → StoresIn s cpu
 unfolding label_goes

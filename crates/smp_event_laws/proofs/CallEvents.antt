@@ -1,5 +1,6 @@
 -- What each event of calls shows.
-use Rattle.std.proofs.Common.{◌≡◌, ℕ, ◌<◌, Bool, true, false, not, ◌&&◌, if◌then◌else◌, List, [], ◌∷◌, map, length, Result, Ok, Err, refl, ap, sym, subst, is_some}
+use Rattle.std.proofs.Common.{◌≡◌, ℕ, ◌<◌, Bool, true, false, not, ◌&&◌, if◌then◌else◌, List, [], ◌∷◌, map, length, Result, Ok, Err, refl, ap, sym, subst}
+use Rattle.std.proofs.Common.{is_some}
 use Rattle.std.specs.Prelude.{◌==◌}
 use Rattle.std.proofs.lemmas.Bool.{eqb-true, eqb-false}
 use Rattle.smp_mask.specs.Mask.{has}
@@ -13,14 +14,17 @@ use Rattle.smp_event_steps.specs.declared.event.Event.{Event}
 use Rattle.smp_event_steps.specs.declared.event.Event.TheVariants as event
 use Rattle.smp_event_steps.specs.declared.reason.Reason.{Reason}
 use Rattle.smp_event_steps.specs.declared.reason.Reason.TheVariants as reason
-use Rattle.smp_event_steps.specs.Calls.{accept_by, begin_by, end_by, entered_by, freed_if, joined, moved, on_cpu, placed_unless, queue_by, send_by, take_by, unlock_by}
-use Rattle.smp_event_steps.specs.Cpu.{CpuState, accepted, ended, handles_nothing, interrupted, is_empty, may_take, noted, not_over, pushed, runs_locked, sent, taken, unlocked}
+use Rattle.smp_event_steps.specs.Calls.{accept_by, begin_by, end_by, entered_by, freed_if, joined, moved, on_cpu, placed_unless, queue_by, send_by, take_by}
+use Rattle.smp_event_steps.specs.Calls.{unlock_by}
+use Rattle.smp_event_steps.specs.Cpu.{CpuState, accepted, ended, handles_nothing, interrupted, is_empty, may_take, noted, not_over, pushed, runs_locked, sent}
+use Rattle.smp_event_steps.specs.Cpu.{taken, unlocked}
 use Rattle.smp_event_steps.specs.Places.{is_batch}
 use Rattle.smp_event_steps.specs.State.{StateValue, cpu_at, freed, place_at, place_reason, with_cpu, with_place}
 use Rattle.smp_event_laws.specs.Events.{begin_of, begins_now, ends_now, id_of, notes_now, only_if, queued_now, takes_now}
 use Rattle.smp_event_laws.specs.History.{Shows}
 use Rattle.smp_event_laws.proofs.Binds.{both_made, passed, failed}
-use Rattle.smp_event_laws.proofs.Cpus.{BeginShown, SameCalls, shows_begun, shows_begun_loose, shows_ended, shows_noted, shows_pushed, shows_same, shows_taken, shows_unlocked}
+use Rattle.smp_event_laws.proofs.Cpus.{BeginShown, SameCalls, shows_begun, shows_begun_loose, shows_ended, shows_noted, shows_pushed, shows_same, shows_taken}
+use Rattle.smp_event_laws.proofs.Cpus.{shows_unlocked}
 use Rattle.smp_event_laws.proofs.States.{Goes, GoesQuietly, freed_goes, goes_elsewhere, goes_first, goes_here, goes_last, goes_quiet, goes_same}
 
 -- An event shows these calls of a CPU.
@@ -46,14 +50,16 @@ by_actor told cpu actor began over s c below shows true e =
 by_actor told cpu actor began over s c below shows false e = goes_elsewhere told cpu actor s c (λ x. eqb-false actor cpu e (sym x))
 
 -- what a CPU makes of its part
-pub made_on_cpu : (cpu : ℕ) (s t : StateValue) (made : Result CpuState Reason) → on_cpu cpu s made ≡ Ok t → (c : CpuState) × ((made ≡ Ok c) × (with_cpu cpu s c ≡ t))
+pub made_on_cpu : (cpu : ℕ) (s t : StateValue) (made : Result CpuState Reason) → on_cpu cpu s made ≡ Ok t → (c : CpuState) × ((made ≡ Ok c) ×
+    (with_cpu cpu s c ≡ t))
 made_on_cpu cpu s t made e = let m = both_made made (λ c. Ok (with_cpu cpu s c)) t e in (m.0, (m.1.0, cc))
 
 -- an event shows what it shows of an equal state
 ends_at : (order : Bool) (cpu : ℕ) (e : ℕ × Event) (s t u : StateValue) → t ≡ u → EventShows order cpu e s t → EventShows order cpu e s u
 ends_at order cpu e s t u same shown = subst (λ (x : StateValue). EventShows order cpu e s x) same shown
 
-pub quiet_event : (order : Bool) (cpu : ℕ) (e : ℕ × Event) (s t : StateValue) → [] ≡ begins_now cpu e → [] ≡ ends_now cpu e → queued_now cpu e ≡ [] → takes_now cpu e ≡ false
+pub quiet_event : (order : Bool) (cpu : ℕ) (e : ℕ × Event) (s t : StateValue) → [] ≡ begins_now cpu e → [] ≡ ends_now cpu e → queued_now cpu e ≡ [] →
+    takes_now cpu e ≡ false
     → notes_now cpu e ≡ [] → GoesQuietly (not order) cpu s t → EventShows order cpu e s t
 quiet_event order cpu e s t b o q n m g = record {
   began = [];
@@ -92,13 +98,15 @@ joined_goes told cpu to call s below =
     goes_last told cpu (only_if (to == cpu) call) false [] [] (only_if (call.source == cpu) to) s u (joined call to s) h
     (noted_shows told cpu to call.source first u (rw h.cpus_are below) (call.source == cpu) refl)
 
-pub queue_shows : (order : Bool) (cpu source id to : ℕ) (class : Class) (func info : ℕ) (s t : StateValue) → s.setting.without.order ≡ order → cpu < length s.cpus
+pub queue_shows : (order : Bool) (cpu source id to : ℕ) (class : Class) (func info : ℕ) (s t : StateValue) → s.setting.without.order ≡ order →
+    cpu < length s.cpus
     → queue_by (record { source = source; id = id; class = class; func = func; info = info }) to s ≡ Ok t
     → EventShows order cpu (source, event.Call (calls.Queue id to class func info)) s t
 unfolding queue_by
 queue_shows order cpu source id to class func info s t o below e =
     let call : Call = record { source = source; id = id; class = class; func = func; info = info } in
-    let p = passed (has s.setting.online to) (if to == source then Err (reason.IsCaller to) else (freed id s >>= λ m. Ok (joined call to m))) (reason.NotOnline to) t e in
+    let p = passed (has s.setting.online to) (if to == source then Err (reason.IsCaller to) else (freed id s >>= λ m. Ok (joined call to m)))
+    (reason.NotOnline to) t e in
     let q = failed (to == source) (freed id s >>= λ m. Ok (joined call to m)) (reason.IsCaller to) t p.1 in
     let m = both_made (freed id s) (λ m. Ok (joined call to m)) t q.1 in
     let f = freed_goes order cpu id s m.0 o below m.1.0 in
@@ -123,10 +131,13 @@ send_shows order cpu actor to s t below e =
     let d = sent to (cpu_at m actor) in
     let p = passed (has s.setting.online to) (Ok (with_cpu actor m d)) (reason.NotOnline to) t e in
     let same : with_cpu actor m d ≡ t = cc in
-    let g = goes_quiet told cpu to s c below (shows_same told (cpu_at s to) c (record { queue = refl; batch = refl; current = refl; ran = refl; queued = refl })) in
-    let h = goes_quiet told cpu actor m d (rw g.cpus_are below) (shows_same told (cpu_at m actor) d (record { queue = refl; batch = refl; current = refl; ran = refl; queued = refl })) in
+    let g = goes_quiet told cpu to s c below (shows_same told (cpu_at s to) c
+    (record { queue = refl; batch = refl; current = refl; ran = refl; queued = refl })) in
+    let h = goes_quiet told cpu actor m d (rw g.cpus_are below) (shows_same told (cpu_at m actor) d
+    (record { queue = refl; batch = refl; current = refl; ran = refl; queued = refl })) in
     ends_at order cpu (actor, event.Call (calls.Send to)) s (with_cpu actor m d) t same
-    (quiet_event order cpu (actor, event.Call (calls.Send to)) s (with_cpu actor m d) refl refl refl refl refl (goes_first told cpu [] false [] [] [] s m (with_cpu actor m d) g h))
+    (quiet_event order cpu (actor, event.Call (calls.Send to)) s (with_cpu actor m d) refl refl refl refl refl (goes_first told cpu [] false [] [] [] s m
+    (with_cpu actor m d) g h))
 
 pub accepted_same : (a b : CpuState) → accepted a ≡ Ok b → SameCalls a b
 accepted_same a b e =
@@ -137,7 +148,8 @@ accepted_same a b e =
     let same : c ≡ b = cc in
     subst (λ (x : CpuState). SameCalls a x) same (record { queue = refl; batch = refl; current = refl; ran = refl; queued = refl })
 
-pub accept_shows : (order : Bool) (cpu actor : ℕ) (s t : StateValue) → cpu < length s.cpus → accept_by actor s ≡ Ok t → EventShows order cpu (actor, event.Call calls.Accept) s t
+pub accept_shows : (order : Bool) (cpu actor : ℕ) (s t : StateValue) → cpu < length s.cpus → accept_by actor s ≡ Ok t →
+    EventShows order cpu (actor, event.Call calls.Accept) s t
 accept_shows order cpu actor s t below e =
     let m = made_on_cpu actor s t (accepted (cpu_at s actor)) e in
     ends_at order cpu (actor, event.Call calls.Accept) s (with_cpu actor s m.0) t m.1.1
@@ -156,13 +168,16 @@ take_goes : (told : Bool) (cpu actor : ℕ) (s : StateValue) → cpu < length s.
 take_goes told cpu actor s below over true e =
     let same : actor ≡ cpu = eqb-true actor cpu e in
     subst (λ (o : ℕ). not_over (cpu_at s o) ≡ Ok tt → Goes told cpu [] true [] [] [] s (with_cpu o (moved o s) (taken (cpu_at s o)))) (sym same)
-    (λ over. goes_first told cpu [] true [] [] [] s (moved cpu s) (with_cpu cpu (moved cpu s) (taken (cpu_at s cpu))) (goes_same told cpu s (moved cpu s) refl refl)
+    (λ over. goes_first told cpu [] true [] [] [] s (moved cpu s) (with_cpu cpu (moved cpu s) (taken (cpu_at s cpu))) (goes_same told cpu s
+    (moved cpu s) refl refl)
     (goes_here told cpu [] true [] [] [] (moved cpu s) (taken (cpu_at s cpu)) below (shows_taken told (cpu_at s cpu) over))) over
 take_goes told cpu actor s below over false e =
-    goes_first told cpu [] false [] [] [] s (moved actor s) (with_cpu actor (moved actor s) (taken (cpu_at s actor))) (goes_same told cpu s (moved actor s) refl refl)
+    goes_first told cpu [] false [] [] [] s (moved actor s) (with_cpu actor (moved actor s) (taken (cpu_at s actor))) (goes_same told cpu s
+    (moved actor s) refl refl)
     (goes_elsewhere told cpu actor (moved actor s) (taken (cpu_at s actor)) (λ x. eqb-false actor cpu e (sym x)))
 
-pub take_shows : (order : Bool) (cpu actor : ℕ) (s t : StateValue) → cpu < length s.cpus → take_by actor s ≡ Ok t → EventShows order cpu (actor, event.Call calls.Take) s t
+pub take_shows : (order : Bool) (cpu actor : ℕ) (s t : StateValue) → cpu < length s.cpus → take_by actor s ≡ Ok t →
+    EventShows order cpu (actor, event.Call calls.Take) s t
 unfolding take_by
 take_shows order cpu actor s t below e =
     let x = with_cpu actor (moved actor s) (taken (cpu_at s actor)) in
@@ -177,7 +192,8 @@ take_shows order cpu actor s t below e =
       goes = take_goes (not order) cpu actor s below (may_take_over (not s.setting.without.interrupts) (cpu_at s actor) m.0 m.1.0) (actor == cpu) refl;
     })
 
-pub unlock_shows : (order : Bool) (cpu actor id : ℕ) (s t : StateValue) → cpu < length s.cpus → unlock_by actor id s ≡ Ok t → EventShows order cpu (actor, event.Call (calls.Unlock id)) s t
+pub unlock_shows : (order : Bool) (cpu actor id : ℕ) (s t : StateValue) → cpu < length s.cpus → unlock_by actor id s ≡ Ok t →
+    EventShows order cpu (actor, event.Call (calls.Unlock id)) s t
 unfolding unlock_by
 unlock_shows order cpu actor id s t below e =
     let a = cpu_at s actor in
@@ -193,7 +209,8 @@ unlock_shows order cpu actor id s t below e =
     (goes_last (not order) cpu [] false [] [] [] s n.0 (with_place id Free n.0) h (goes_same (not order) cpu n.0 (with_place id Free n.0) refl refl)))
 
 -- a CPU enters a function
-entered_shows : (order : Bool) (actor : ℕ) (id func info : ℕ) (place : Place) (s : StateValue) (c : CpuState) → entered_by order actor (record { id = id; func = func; info = info }) place s ≡ Ok c
+entered_shows : (order : Bool) (actor : ℕ) (id func info : ℕ) (place : Place) (s : StateValue) (c : CpuState) →
+    entered_by order actor (record { id = id; func = func; info = info }) place s ≡ Ok c
     → BeginShown (not order) id func info (cpu_at s actor) c
 entered_shows true actor id func info place s c e = shows_begun_loose id func info (place_reason id place) (cpu_at s actor) c e
 entered_shows false actor id func info place s c e =
@@ -221,7 +238,8 @@ begin_shows order cpu actor id func info s t o below e =
     let made = entered_by s.setting.without.order actor (record { id = id; func = func; info = info }) place s in
     let n = both_made (on_cpu actor s made) (λ x. Ok (placed_unless unless actor id x)) t e in
     let m = made_on_cpu actor s n.0 made n.1.0 in
-    let shown = subst (λ (b : Bool). BeginShown (not b) id func info (cpu_at s actor) m.0) o (entered_shows s.setting.without.order actor id func info place s m.0 m.1.0) in
+    let shown = subst (λ (b : Bool). BeginShown (not b) id func info (cpu_at s actor) m.0) o
+    (entered_shows s.setting.without.order actor id func info place s m.0 m.1.0) in
     let same : placed_unless unless actor id n.0 ≡ t = cc in
     let g = by_actor (not order) cpu actor (shown.call ∷ []) [] s m.0 below shown.shows (actor == cpu) refl in
     ends_at order cpu (actor, event.Call (calls.Begin id func info)) s (placed_unless unless actor id n.0) t same
@@ -230,7 +248,8 @@ begin_shows order cpu actor id func info s t o below e =
       over = if_actor (actor == cpu) [];
       begins_are = begin_is_if shown.call id func info (actor == cpu) shown.begin_is;
       ends_are = rw (nothing_if (actor == cpu)) refl;
-      goes = goes_last (not order) cpu [] false (if_actor (actor == cpu) (shown.call ∷ [])) (if_actor (actor == cpu) []) [] s n.0 (placed_unless unless actor id n.0)
+      goes = goes_last (not order) cpu [] false (if_actor (actor == cpu) (shown.call ∷ [])) (if_actor (actor == cpu) []) [] s n.0
+          (placed_unless unless actor id n.0)
           (subst (λ (x : StateValue). Goes (not order) cpu [] false (if_actor (actor == cpu) (shown.call ∷ [])) (if_actor (actor == cpu) []) [] s x) m.1.1 g)
           (placed_goes (not order) cpu actor id unless n.0);
     })
@@ -243,7 +262,8 @@ freed_if_goes : (told : Bool) (cpu id : ℕ) (test : Bool) (s : StateValue) → 
 freed_if_goes told cpu id true s = goes_same told cpu s (freed_if true id s) refl refl
 freed_if_goes told cpu id false s = goes_same told cpu s s refl refl
 
-pub end_shows : (order : Bool) (cpu actor id : ℕ) (s t : StateValue) → cpu < length s.cpus → end_by actor id s ≡ Ok t → EventShows order cpu (actor, event.Call (calls.End id)) s t
+pub end_shows : (order : Bool) (cpu actor id : ℕ) (s t : StateValue) → cpu < length s.cpus → end_by actor id s ≡ Ok t →
+    EventShows order cpu (actor, event.Call (calls.End id)) s t
 unfolding end_by
 end_shows order cpu actor id s t below e =
     let a = cpu_at s actor in

@@ -1,8 +1,10 @@
 -- What each step of a CPU shows of its calls.
-use Rattle.std.proofs.Common.{◌≡◌, ℕ, ◌+◌, ◌*◌, ◌/◌, ◌%◌, ◌^◌, ◌<◌, ◌≢◌, Bool, true, false, cond, not, ◌&&◌, if◌then◌else◌, List, [], ◌∷◌, ◌++◌, length, count_by, Option, Some, None, Ok, Err, refl, ap, ◌∙◌, sym, subst, arith, get_or, IsPermutation}
+use Rattle.std.proofs.Common.{◌≡◌, ℕ, ◌+◌, ◌*◌, ◌/◌, ◌%◌, ◌^◌, ◌<◌, ◌≢◌, Bool, true, false, cond, not, ◌&&◌, if◌then◌else◌, List, [], ◌∷◌, ◌++◌, length}
+use Rattle.std.proofs.Common.{count_by, Option, Some, None, Ok, Err, refl, ap, ◌∙◌, sym, subst, arith, get_or, IsPermutation}
 use Rattle.std.specs.Prelude.{slice_index_or, ◌==◌}
 use Rattle.std.proofs.lemmas.List.{append_assoc, append-nil, length-set, get_or-set_same, get_or-set_other}
-use Rattle.std.proofs.lemmas.List.Sorted.{IsPermutation-trans, IsPermutation-append_right, IsPermutation-refl, IsPermutation-filter_both, IsPermutation-remove, IsPermutation-middle}
+use Rattle.std.proofs.lemmas.List.Sorted.{IsPermutation-trans, IsPermutation-append_right, IsPermutation-refl, IsPermutation-filter_both, IsPermutation-remove}
+use Rattle.std.proofs.lemmas.List.Sorted.{IsPermutation-middle}
 use Rattle.smp_words.specs.declared.call.Class.{Class}
 use Rattle.smp_words.specs.declared.call.Class.TheVariants.{Sync, Async}
 use Rattle.smp_script.specs.Faults.{◌>>=◌}
@@ -13,7 +15,10 @@ use Rattle.smp_event_steps.specs.declared.call.Progress.TheVariants.{Unlocked, R
 use Rattle.smp_event_steps.specs.declared.reason.Reason.{Reason}
 use Rattle.smp_event_steps.specs.declared.reason.Reason.TheVariants as reason
 use Rattle.std.proofs.lemmas.Bool.{eqb-true, eqb-false, and_parts}
-use Rattle.smp_event_steps.specs.Cpu.{CpuState, after_end, at_call, begun, begun_any, begun_at, begun_front, begun_loose, begun_with, call_at, counted, ended, ended_at, ended_with, front_of, is_async, is_class, is_of, is_sync, left_batch, loose_with, not_over, noted, order, over_with, place_in, pushed, rest_of, slipped_any, slipped_at, slipped_from_batch, slipped_from_queue, slipped_front, taken, unlocked, unlocked_front, unlocked_running, unlocked_with}
+use Rattle.smp_event_steps.specs.Cpu.{CpuState, after_end, at_call, begun, begun_any, begun_at, begun_front, begun_loose, begun_with, call_at, counted, ended}
+use Rattle.smp_event_steps.specs.Cpu.{ended_at, ended_with, front_of, is_async, is_class, is_of, is_sync, left_batch, loose_with, not_over, noted, order}
+use Rattle.smp_event_steps.specs.Cpu.{over_with, place_in, pushed, rest_of, slipped_any, slipped_at, slipped_from_batch, slipped_from_queue, slipped_front}
+use Rattle.smp_event_steps.specs.Cpu.{taken, unlocked, unlocked_front, unlocked_running, unlocked_with}
 use Rattle.std.specs.List.{remove}
 use Rattle.std.proofs.Math.Nat.{mod-add-div', add-mul-mod_self_right}
 use Rattle.std.proofs.lemmas.Option.{get_or_from_slice_get}
@@ -54,7 +59,8 @@ same_order xs ys e = subst (λ zs. IsPermutation xs zs) e (IsPermutation-refl xs
 held_untaken : (waits queue queued began waits' queue' : List Call) → waits ≡ began ++ waits' → queue' ≡ queue ++ queued
     → IsPermutation ((waits ++ queue) ++ queued) (began ++ (waits' ++ queue'))
 held_untaken waits queue queued began waits' queue' e f =
-    same_order ((waits ++ queue) ++ queued) (began ++ (waits' ++ queue')) (append_assoc waits queue queued ∙ rw (e, f) (append_assoc began waits' (queue ++ queued)))
+    same_order ((waits ++ queue) ++ queued) (began ++ (waits' ++ queue')) (append_assoc waits queue queued ∙
+    rw (e, f) (append_assoc began waits' (queue ++ queued)))
 
 pub shows_untaken : (told : Bool) (queued began over : List Call) (a b : CpuState) → running a ++ began ≡ over ++ running b → waiting a ≡ began ++ waiting b
     → b.queue ≡ a.queue ++ queued → Ticks over a b → Shows told queued false began over [] a b
@@ -72,7 +78,8 @@ shows_untaken told queued began over a b run wait queue ticks = record {
 -- nothing is shown where the calls are as before
 pub shows_same : (told : Bool) (a b : CpuState) → SameCalls a b → Shows told [] false [] [] [] a b
 shows_same told a b same = shows_untaken told [] [] [] a b
-    (rw same.current (append-nil (running a))) (rw (same.current, same.batch) refl) (same.queue ∙ sym (append-nil a.queue)) (ticks_none a b same.ran same.queued)
+    (rw same.current (append-nil (running a))) (rw (same.current, same.batch) refl) (same.queue ∙
+    sym (append-nil a.queue)) (ticks_none a b same.ran same.queued)
 
 -- nor where a call joins the queue, but that call
 pub shows_pushed : (told : Bool) (call : Call) (a b : CpuState) → SameCalls (pushed call a) b → Shows told (call ∷ []) false [] [] [] a b
@@ -160,11 +167,13 @@ shows_unlocked_with told None r here elsewhere a b is e =
     let same : left_batch Unlocked m.0 a ≡ b = cc in
     subst (λ (c : CpuState). Shows told [] false [] [] [] a c) same (shows_left_unlocked told m.0 a is f.1)
 
-pub shows_unlocked : (told : Bool) (r : ℕ) (here : Bool) (elsewhere : Reason) (a b : CpuState) → unlocked r here elsewhere a ≡ Ok b → Shows told [] false [] [] [] a b
+pub shows_unlocked : (told : Bool) (r : ℕ) (here : Bool) (elsewhere : Reason) (a b : CpuState) → unlocked r here elsewhere a ≡ Ok b →
+    Shows told [] false [] [] [] a b
 shows_unlocked told r here elsewhere a b e = shows_unlocked_with told a.current r here elsewhere a b refl e
 
 -- a call has the function and argument that are seen
-of_is : (id func info : ℕ) (call : Call) (u : Unit {0}) → is_of (record { id = id; func = func; info = info }) call ≡ Ok u → (call.func ≡ func) × (call.info ≡ info)
+of_is : (id func info : ℕ) (call : Call) (u : Unit {0}) → is_of (record { id = id; func = func; info = info }) call ≡ Ok u → (call.func ≡ func) ×
+    (call.info ≡ info)
 of_is id func info call u e =
     let p = passed ((call.func == func) && (call.info == info)) (Ok tt) (reason.CallIs call.func call.info) u e in
     let q = and_parts (call.func == func) (call.info == info) p.0 in
@@ -176,7 +185,8 @@ pub record BeginShown (told : Bool) (id func info : ℕ) (a b : CpuState) : Type
   pub begin_is : begin_of call ≡ record { id = id; func = func; info = info }
   pub shows : Shows told [] false (call ∷ []) [] [] a b
 
-begin_shown : (told : Bool) (id func info : ℕ) (call : Call) (a b c : CpuState) (u : Unit {0}) → call.id ≡ id → is_of (record { id = id; func = func; info = info }) call ≡ Ok u
+begin_shown : (told : Bool) (id func info : ℕ) (call : Call) (a b c : CpuState) (u : Unit {0}) → call.id ≡ id →
+    is_of (record { id = id; func = func; info = info }) call ≡ Ok u
     → Shows told [] false (call ∷ []) [] [] a c → c ≡ b → BeginShown told id func info a b
 begin_shown told id func info call a b c u same_id e shows same =
     let o = of_is id func info call u e in
@@ -205,7 +215,8 @@ shows_begun_front : (told unlocks : Bool) (id func info : ℕ) (front : Call) (a
     → front.id ≡ id → begun_front (record { id = id; func = func; info = info }) unlocks a front ≡ Ok b → BeginShown told id func info a b
 shows_begun_front told unlocks id func info front a b none is same_id e =
     let c = left_batch Runs front a in
-    let m = both_made (is_of (record { id = id; func = func; info = info }) front) (λ u. if is_async front.class && unlocks then Err (reason.IsLocked id) else Ok c) b e in
+    let m = both_made (is_of (record { id = id; func = func; info = info }) front) (λ u. if is_async front.class && unlocks then Err
+    (reason.IsLocked id) else Ok c) b e in
     let p = failed (is_async front.class && unlocks) (Ok c) (reason.IsLocked id) b m.1.1 in
     begin_shown told id func info front a b c m.0 same_id m.1.0 (shows_left_running told front a none is) cc
 
@@ -239,7 +250,8 @@ shows_left_queue : (progress : Progress) (began over : List Call) (call : Call) 
     → Shows false [] false began [] [] a (record a { queue = remove a.queue n; current = at_call progress call })
 shows_left_queue progress began over call n a none moves runs parts = record {
   one_at_a_time = rw none (sym runs);
-  each_once = rw (none, append-nil (a.batch ++ a.queue)) (IsPermutation-trans (a.batch ++ a.queue) (a.batch ++ (call ∷ remove a.queue n)) (began ++ ((unlocked_at progress call ++ a.batch) ++ remove a.queue n))
+  each_once = rw (none, append-nil (a.batch ++ a.queue)) (IsPermutation-trans (a.batch ++ a.queue) (a.batch ++ (call ∷ remove a.queue n)) (began ++
+      ((unlocked_at progress call ++ a.batch) ++ remove a.queue n))
       (IsPermutation-append_right a.batch a.queue (call ∷ remove a.queue n) moves)
       (rw (← append_assoc began (unlocked_at progress call ++ a.batch) (remove a.queue n), ← append_assoc began (unlocked_at progress call) a.batch, parts)
       (IsPermutation-middle a.batch call (remove a.queue n))));
@@ -267,7 +279,8 @@ shows_loose_with (Some x) id func info elsewhere a b is e = shows_begun_at false
 shows_loose_with None id func info elsewhere a b is e =
     shows_begun_any id func info elsewhere a b (place_in id a.queue) (call_at a.queue (place_in id a.queue)) is refl refl e
 
-pub shows_begun_loose : (id func info : ℕ) (elsewhere : Reason) (a b : CpuState) → begun_loose (record { id = id; func = func; info = info }) elsewhere a ≡ Ok b → BeginShown false id func info a b
+pub shows_begun_loose : (id func info : ℕ) (elsewhere : Reason) (a b : CpuState) →
+    begun_loose (record { id = id; func = func; info = info }) elsewhere a ≡ Ok b → BeginShown false id func info a b
 shows_begun_loose id func info elsewhere a b e =
     let p = passed a.irq (loose_with a.current (record { id = id; func = func; info = info }) elsewhere a) reason.InterruptsOff b e in
     shows_loose_with a.current id func info elsewhere a b refl p.1
@@ -293,7 +306,8 @@ pub counted_at : (counts : List ℕ) (at place n : ℕ) → place < length count
 counted_at counts at place n below was = counted_by counts at place n (at == place) refl below was
 
 -- a call ends, of which the record is unlocked or not
-shows_ended_as : (told : Bool) (call : Call) (after : Option Current) (a : CpuState) → a.current ≡ at_call Runs call → running_with after ≡ [] → held_unlocked after ≡ []
+shows_ended_as : (told : Bool) (call : Call) (after : Option Current) (a : CpuState) → a.current ≡ at_call Runs call → running_with after ≡ [] →
+    held_unlocked after ≡ []
     → Shows told [] false [] (call ∷ []) [] a (record a { ran = counted call.source a.ran; current = after })
 shows_ended_as told call after a is stopped locked =
     let b = record a { ran = counted call.source a.ran; current = after } in
@@ -305,7 +319,8 @@ shows_ended_as told call after a is stopped locked =
       queued = refl;
     })
 
-after_end_rests : (held : Bool) (call : Call) → (running_with (if held then at_call Ended call else None) ≡ []) × (held_unlocked (if held then at_call Ended call else None) ≡ [])
+after_end_rests : (held : Bool) (call : Call) → (running_with (if held then at_call Ended call else None) ≡ []) ×
+    (held_unlocked (if held then at_call Ended call else None) ≡ [])
 after_end_rests true call = (refl, refl)
 after_end_rests false call = (refl, refl)
 
@@ -330,7 +345,8 @@ shows_ended_at told unlocks Runs call r a b is e =
 shows_ended_at told unlocks Unlocked call r a b is e = absurd cc
 shows_ended_at told unlocks Ended call r a b is e = absurd cc
 
-shows_ended_with : (told unlocks : Bool) (current : Option Current) (r : ℕ) (a b : CpuState) → a.current ≡ current → ended_with current r unlocks a ≡ Ok b → EndShown told r a b
+shows_ended_with : (told unlocks : Bool) (current : Option Current) (r : ℕ) (a b : CpuState) → a.current ≡ current → ended_with current r unlocks a ≡ Ok b →
+    EndShown told r a b
 shows_ended_with told unlocks None r a b is e = absurd cc
 shows_ended_with told unlocks (Some x) r a b is e = shows_ended_at told unlocks x.progress x.call r a b is e
 
@@ -358,12 +374,15 @@ slipped_any_shows : (r : ℕ) (a : CpuState) (at : Option ℕ) (found : Option C
     → Shows false [] false [] [] [] a (slipped_any a at found).1
 slipped_any_shows r a (Some n) (Some call) none place is =
     let p = picked r a.queue (Some n) place n refl call is in
-    either (λ b. Shows false [] false [] [] [] a b) (is_async call.class) (true, record a { queue = remove a.queue n; current = at_call Unlocked call }) (false, a)
-    (shows_left_queue Unlocked [] [] call n a none p.1 refl refl) (shows_same false a a (record { queue = refl; batch = refl; current = refl; ran = refl; queued = refl }))
+    either (λ b. Shows false [] false [] [] [] a b) (is_async call.class) (true, record a { queue = remove a.queue n; current = at_call Unlocked call })
+    (false, a)
+    (shows_left_queue Unlocked [] [] call n a none p.1 refl refl) (shows_same false a a
+    (record { queue = refl; batch = refl; current = refl; ran = refl; queued = refl }))
 slipped_any_shows r a None found none place is = shows_same false a a (record { queue = refl; batch = refl; current = refl; ran = refl; queued = refl })
 slipped_any_shows r a (Some n) None none place is = shows_same false a a (record { queue = refl; batch = refl; current = refl; ran = refl; queued = refl })
 
-slipped_at_shows : (current : Option Current) (irq : Bool) (r : ℕ) (a : CpuState) → a.current ≡ current → Shows false [] false [] [] [] a (slipped_at current irq r a).1
+slipped_at_shows : (current : Option Current) (irq : Bool) (r : ℕ) (a : CpuState) → a.current ≡ current →
+    Shows false [] false [] [] [] a (slipped_at current irq r a).1
 slipped_at_shows None true r a is = slipped_any_shows r a (place_in r a.queue) (call_at a.queue (place_in r a.queue)) is refl refl
 slipped_at_shows None false r a is = shows_same false a a (record { queue = refl; batch = refl; current = refl; ran = refl; queued = refl })
 slipped_at_shows (Some x) irq r a is = shows_same false a a (record { queue = refl; batch = refl; current = refl; ran = refl; queued = refl })

@@ -1,5 +1,6 @@
 -- What is run is what was queued, once all is drained.
-use Rattle.std.proofs.Common.{◌≡◌, ℕ, ◌%◌, ◌^◌, ◌<◌, ◌≤◌, Bool, true, false, not, cond, List, [], ◌∷◌, length, count_by, Option, Some, None, refl, ap, ◌∙◌, sym, arith, get_or, IsPermutation, inl, inr}
+use Rattle.std.proofs.Common.{◌≡◌, ℕ, ◌%◌, ◌^◌, ◌<◌, ◌≤◌, Bool, true, false, not, cond, List, [], ◌∷◌, length, count_by, Option, Some, None, refl, ap, ◌∙◌, sym}
+use Rattle.std.proofs.Common.{arith, get_or, IsPermutation, inl, inr}
 use Rattle.std.specs.Prelude.{is_err}
 use Rattle.std.proofs.lemmas.Bool.{cases_lt}
 use Rattle.std.proofs.lemmas.List.{append-nil, get_or_past}
@@ -40,7 +41,8 @@ empty_is : (queue : List Call) → not (is_empty queue) ≡ false → queue ≡ 
 empty_is [] e = refl
 empty_is (x ∷ xs) e = absurd cc
 
-idle_is : (current : Option Current) (batch : List Call) (accepted : Bool) → is_err (quiet_with (over_with current batch) accepted) ≡ false → (current ≡ None) × (batch ≡ [])
+idle_is : (current : Option Current) (batch : List Call) (accepted : Bool) → is_err (quiet_with (over_with current batch) accepted) ≡ false →
+    (current ≡ None) × (batch ≡ [])
 idle_is (Some x) batch accepted e = absurd cc
 idle_is None (x ∷ xs) accepted e = absurd cc
 idle_is None [] accepted e = (refl, refl)
@@ -55,7 +57,8 @@ drained_cpu t cpu d =
     let empty : c.batch ≡ [] = i.1 in
     (rw (none, empty, q) refl, rw none refl)
 
-pub drained_equals : (u : Setting) (words : LabelWords) (es : List (ℕ × Event)) (t : StateValue) → IsTrace u words es t → (cpu : ℕ) → cpu < 32 → DrainedEquals u es t cpu
+pub drained_equals : (u : Setting) (words : LabelWords) (es : List (ℕ × Event)) (t : StateValue) → IsTrace u words es t → (cpu : ℕ) → cpu < 32 →
+    DrainedEquals u es t cpu
 drained_equals u words es t run cpu below d =
     let c = counts_are u words es t run cpu below in
     let e = drained_cpu t cpu d in

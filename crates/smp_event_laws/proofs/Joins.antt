@@ -5,7 +5,8 @@ use Rattle.std.proofs.lemmas.List.Sorted.{IsPermutation-trans, IsPermutation-app
 
 -- lists end as they go on
 pub joined : {X : Type 0} (a began over b more after c : List X) → a ++ began ≡ over ++ b → b ++ more ≡ after ++ c → a ++ (began ++ more) ≡ (over ++ after) ++ c
-joined a began over b more after c e f = sym (append_assoc a began more) ∙ ap (λ xs. xs ++ more) e ∙ append_assoc over b more ∙ ap (λ xs. over ++ xs) f ∙ sym (append_assoc over after c)
+joined a began over b more after c e f = sym (append_assoc a began more) ∙ ap (λ xs. xs ++ more) e ∙ append_assoc over b more ∙ ap (λ xs. over ++ xs) f ∙
+    sym (append_assoc over after c)
 
 -- what was held and queued is what began and is held
 pub joined_once : {X : Type 0} (a queued began b more after c : List X) → IsPermutation (a ++ queued) (began ++ b) → IsPermutation (b ++ more) (after ++ c)

@@ -1,5 +1,6 @@
 -- Keys and sites where a store is made.
-use Rattle.std.proofs.Common.{◌≡◌, ℕ, zero, suc, ◌+◌, ◌-◌, ◌/◌, ◌%◌, ◌^◌, ◌<◌, ◌≤◌, ◌≢◌, ◌⊎◌, Bool, true, false, not, ◌&&◌, if◌then◌else◌, min, List, length, Option, Some, None, refl, ap, ◌∙◌, sym, subst, arith, inl, inr}
+use Rattle.std.proofs.Common.{◌≡◌, ℕ, zero, suc, ◌+◌, ◌-◌, ◌/◌, ◌%◌, ◌^◌, ◌<◌, ◌≤◌, ◌≢◌, ◌⊎◌, Bool, true, false, not, ◌&&◌, if◌then◌else◌, min, List, length}
+use Rattle.std.proofs.Common.{Option, Some, None, refl, ap, ◌∙◌, sym, subst, arith, inl, inr}
 use Rattle.std.specs.Prelude.{◌==◌, nat_lt, nat_le, slice_set, slice_index}
 use Rattle.std.proofs.lemmas.Bool.{cases_eq, cases_lt, eqb-true, eqb-false, leb-true, lt-ltb, not-true, not-false, and_parts, cases_Bool}
 use Rattle.std.proofs.lemmas.List.{get_or-set_same, get_or-set_other, set_past}
@@ -12,7 +13,8 @@ use Rattle.smp_labels.specs.Keys.{change_of, count_after, is_on}
 use Rattle.smp_labels.specs.Kinds.{kind_of, kind_word, xor}
 use Rattle.smp_labels.specs.Law.{site_word}
 use Rattle.smp_event_steps.specs.declared.stop.Patch.{Patch}
-use Rattle.smp_event_steps.specs.Labels.{count_at, entry_of, front_of, is_of_key, is_site, key_number, may_nudge, nudged_count, patch_for, patch_to, site_from, site_front, site_store}
+use Rattle.smp_event_steps.specs.Labels.{count_at, entry_of, front_of, is_of_key, is_site, key_number, may_nudge, nudged_count, patch_for, patch_to, site_from}
+use Rattle.smp_event_steps.specs.Labels.{site_front, site_store}
 use Rattle.smp_event_steps.specs.Stop.{first_from}
 use Rattle.smp_event_laws.proofs.RoundEnds.{first_none}
 
@@ -42,20 +44,24 @@ pub ok_keys : (words : LabelWords) (keys : List ℕ) (i : ℕ) → ((k : ℕ) �
 ok_keys words keys i same ok = ok ∙ sym (word_by (slice_index words.keys) (slice_index keys) (entry_at (slice_index words.entries i)) same)
 
 -- or where a key that is not the site's does
-other_word : (none : Bool) (k : ℕ) (branch : Bool) (key : ℕ) (f g : ℕ → ℕ) → is_of_key (if none then None else Some (k, branch)) key ≡ false → ((j : ℕ) → j ≢ key → f j ≡ g j)
-    → site_word f (if none then None else Some (record { key = k; branch = branch })) ≡ site_word g (if none then None else Some (record { key = k; branch = branch }))
+other_word : (none : Bool) (k : ℕ) (branch : Bool) (key : ℕ) (f g : ℕ → ℕ) → is_of_key (if none then None else Some (k, branch)) key ≡ false → ((j : ℕ) →
+    j ≢ key → f j ≡ g j)
+    → site_word f (if none then None else Some (record { key = k; branch = branch })) ≡ site_word g (if none then None else Some
+    (record { key = k; branch = branch }))
 other_word true k branch key f g other same = refl
 other_word false k branch key f g other same =
     let e : f k ≡ g k = same k (λ x. eqb-false k key other x) in ap (λ n. kind_word (kind_of (is_on n) branch)) e
 
-pub ok_other : (words : LabelWords) (key count i : ℕ) → is_site words key i ≡ false → SiteOk words i → SiteOk (record words { keys = slice_set words.keys key count }) i
+pub ok_other : (words : LabelWords) (key count i : ℕ) → is_site words key i ≡ false → SiteOk words i →
+    SiteOk (record words { keys = slice_set words.keys key count }) i
 ok_other words key count i other ok =
     let w = slice_index words.entries i in
     ok ∙ sym (other_word (w == 0) ((w - 1) / 2) ((w - 1) % 2 == 1) key (slice_index (slice_set words.keys key count)) (slice_index words.keys) other
     (λ j ne. get_or-set_other words.keys key j count 0 ne))
 
 -- the word that a patch gives a site
-turned_word : (none : Bool) (k : ℕ) (branch : Bool) (key site word : ℕ) (place : Place) (on : Bool) (f : ℕ → ℕ) → is_of_key (if none then None else Some (k, branch)) key ≡ true
+turned_word : (none : Bool) (k : ℕ) (branch : Bool) (key site word : ℕ) (place : Place) (on : Bool) (f : ℕ → ℕ) →
+    is_of_key (if none then None else Some (k, branch)) key ≡ true
     → site_store site on (if none then None else Some (k, branch)) ≡ Some (place, word) → on ≡ is_on (f key)
     → (place ≡ Site site) × (word ≡ site_word f (if none then None else Some (record { key = k; branch = branch })))
 turned_word true k branch key site word place on f is store same = absurd cc
@@ -84,7 +90,13 @@ first_by : (passes : ℕ → Bool) (c more n : ℕ) (test : Bool) → passes c �
     → (first_from passes (c + 1) more ≡ Some n → IsFirst passes (c + 1) more n) → IsFirst passes c (suc more) n
 first_by passes c more n true t e rest =
     let same : c ≡ n = cc in
-    subst (λ (x : ℕ). IsFirst passes c (suc more) x) same (record { from = omega arith; within = omega arith; passing = t; first = λ k le lt. absurd (omega arith) })
+    subst (λ (x : ℕ). IsFirst passes c (suc more) x) same (record {
+      from = omega arith;
+      within = omega arith;
+      passing = t;
+      first = λ k le lt. absurd
+          (omega arith);
+    })
 first_by passes c more n false t e rest = first_later passes c more n t (rest e)
 
 pub first_is : (passes : ℕ → Bool) (c more n : ℕ) → first_from passes c more ≡ Some n → IsFirst passes c more n
@@ -102,7 +114,8 @@ is_place_of_key (Site site) = false
 
 pub site_stores : (site : ℕ) (on : Bool) (entry : Option (ℕ × Bool)) (next : Place × ℕ) → site_store site on entry ≡ Some next → next.0 ≡ Site site
 site_stores site on None next e = absurd cc
-site_stores site on (Some x) next e = let p : (Site site, kind_word (kind_of on x.1)) ≡ next = some_is (Site site, kind_word (kind_of on x.1)) next e in ap (λ y. y.0) (sym p)
+site_stores site on (Some x) next e = let p : (Site site, kind_word (kind_of on x.1)) ≡ next = some_is (Site site, kind_word (kind_of on x.1)) next e in ap
+    (λ y. y.0) (sym p)
 
 -- A patch turns a site next.
 pub record TurnsNext (words : LabelWords) (key : ℕ) (p : Patch) (next : Place × ℕ) : Type 0 where
@@ -113,12 +126,14 @@ pub record TurnsNext (words : LabelWords) (key : ℕ) (p : Patch) (next : Place 
   pub store : site_store site (is_on p.count) (entry_of words site) ≡ Some next
 
 site_next : (words : LabelWords) (key : ℕ) (p : Patch) (next : Place × ℕ) (found : Option ℕ) → site_from words key p.from ≡ found
-    → site_front words (is_on p.count) found ≡ Some next → (site : ℕ) × ((found ≡ Some site) × (site_store site (is_on p.count) (entry_of words site) ≡ Some next))
+    → site_front words (is_on p.count) found ≡ Some next → (site : ℕ) × ((found ≡ Some site) ×
+    (site_store site (is_on p.count) (entry_of words site) ≡ Some next))
 site_next words key p next None f e = absurd cc
 site_next words key p next (Some site) f e = (site, (refl, e))
 
 front_by : (words : LabelWords) (key : ℕ) (p : Patch) (next : Place × ℕ) (counts turns : Bool) → p.counts ≡ counts → p.turns ≡ turns
-    → (if counts then Some (Key (key_number key), p.count) else (if turns then site_front words (is_on p.count) (site_from words key p.from) else None)) ≡ Some next
+    → (if counts then Some (Key (key_number key), p.count) else (if turns then site_front words (is_on p.count)
+    (site_from words key p.from) else None)) ≡ Some next
     → ((counts ≡ true) × ((Key (key_number key), p.count) ≡ next)) ⊎ TurnsNext words key p next
 front_by words key p next true turns c t e = inl (refl, some_is (Key (key_number key), p.count) next e)
 front_by words key p next false true c t e =
@@ -141,13 +156,15 @@ has_entry : (entry : Option (ℕ × Bool)) (key site : ℕ) (on : Bool) → is_o
 has_entry None key site on is e = cc
 has_entry (Some x) key site on is e = cc
 
-no_site : (words : LabelWords) (key from : ℕ) (on : Bool) (found : Option ℕ) → site_from words key from ≡ found → site_front words on found ≡ None → found ≡ None
+no_site : (words : LabelWords) (key from : ℕ) (on : Bool) (found : Option ℕ) → site_from words key from ≡ found → site_front words on found ≡ None →
+    found ≡ None
 no_site words key from on None f e = refl
 no_site words key from on (Some site) f e =
     let first = first_is (is_site words key) from (16 - from) site f in absurd (has_entry (entry_of words site) key site on first.passing e)
 
 -- nothing is left of a patch
-pub front_none : (words : LabelWords) (key : ℕ) (p : Patch) → front_of words key p ≡ None → (p.counts ≡ false) × (p.turns ≡ true → site_from words key p.from ≡ None)
+pub front_none : (words : LabelWords) (key : ℕ) (p : Patch) → front_of words key p ≡ None → (p.counts ≡ false) × (p.turns ≡ true →
+    site_from words key p.from ≡ None)
 front_none words key p e =
     let n = none_by words key p p.counts p.turns refl refl e in
     (n.0, (λ t. no_site words key p.from (is_on p.count) (site_from words key p.from) refl (n.1 t)))
@@ -166,14 +183,16 @@ over_ok words key p turns e part i low =
     ])
 
 -- a site is turned
-pub turned_site : (words : LabelWords) (key : ℕ) (p : Patch) (site word : ℕ) → length words.sites ≡ 16 → TurnsNext words key p (Site site, word) → Partial words key p
+pub turned_site : (words : LabelWords) (key : ℕ) (p : Patch) (site word : ℕ) → length words.sites ≡ 16 → TurnsNext words key p (Site site, word) →
+    Partial words key p
     → let q : Patch = record p { from = min (site + 1) (2 ^ 32 - 1) } in Partial (record words { sites = slice_set words.sites site word }) key q
 turned_site words key p site word long t part =
     let named : Site site ≡ Site t.site = site_stores t.site (is_on p.count) (entry_of words t.site) (Site site, word) t.store in
     let same : site ≡ t.site = site_is site t.site named in
     let first = first_is (is_site words key) p.from (16 - p.from) t.site t.found in
     let w = slice_index words.entries t.site in
-    let new = turned_word (w == 0) ((w - 1) / 2) ((w - 1) % 2 == 1) key t.site word (Site site) (is_on p.count) (slice_index words.keys) first.passing t.store part.on in
+    let new = turned_word (w == 0) ((w - 1) / 2) ((w - 1) % 2 == 1) key t.site word (Site site) (is_on p.count)
+    (slice_index words.keys) first.passing t.store part.on in
     let within = first.within in
     let from = first.from in
     record {
@@ -232,7 +251,8 @@ pub record Counts (words : LabelWords) (key : ℕ) (p : Patch) : Type 0 where
   pub from : p.from ≡ 0
   pub turns : p.turns ≡ xor (is_on p.count) (is_on (count_at words key))
 
-counts_by : (words : LabelWords) (key : ℕ) (count : Option ℕ) → (patch_to (count_at words key) count).counts ≡ true → Counts words key (patch_to (count_at words key) count)
+counts_by : (words : LabelWords) (key : ℕ) (count : Option ℕ) → (patch_to (count_at words key) count).counts ≡ true →
+    Counts words key (patch_to (count_at words key) count)
 counts_by words key (Some count) e = record { from = refl; turns = refl }
 counts_by words key None e = absurd cc
 
@@ -271,7 +291,8 @@ set_turns words key p ok low c = record {
   ];
 }
 
-pub set_rests : (words : LabelWords) (key : ℕ) (p : Patch) → AllOk words → Counts words key p → p.turns ≡ false → AllOk (record words { keys = slice_set words.keys key p.count })
+pub set_rests : (words : LabelWords) (key : ℕ) (p : Patch) → AllOk words → Counts words key p → p.turns ≡ false →
+    AllOk (record words { keys = slice_set words.keys key p.count })
 set_rests words key p ok c none i low =
     let same : is_on p.count ≡ is_on (slice_index words.keys key) = xor_same (is_on p.count) (is_on (count_at words key)) (sym none ∙ c.turns) in
     ok_keys words (slice_set words.keys key p.count) i (same_state words.keys key p.count same) (ok i low)

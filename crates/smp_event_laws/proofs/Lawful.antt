@@ -1,9 +1,12 @@
 -- Keys and sites are lawful outside a patch.
-use Rattle.std.proofs.Common.{◌≡◌, ℕ, ◌<◌, ◌⊎◌, Bool, true, false, not, ◌&&◌, if◌then◌else◌, List, [], ◌∷◌, length, Option, Some, None, Result, Ok, Err, refl, ap, ◌∙◌, sym, inl, inr}
+use Rattle.std.proofs.Common.{◌≡◌, ℕ, ◌<◌, ◌⊎◌, Bool, true, false, not, ◌&&◌, if◌then◌else◌, List, [], ◌∷◌, length, Option, Some, None, Result, Ok, Err, refl}
+use Rattle.std.proofs.Common.{ap, ◌∙◌, sym, inl, inr}
 use Rattle.std.specs.Prelude.{ℤ, ◌==◌, nat_lt}
 use Rattle.smp_event_steps.specs.State.{StateValue, cpu_at, stop_at, with_stop}
 use Rattle.smp_event_steps.specs.Stop.{acknowledged, collected, completed, entered, is_cpu, opened, raised}
-use Rattle.smp_event_steps.specs.Stops.{ack_by, acked, collect_by, complete_by, enter_by, enter_from, gate_by, gate_with, holds_gate, in_patch, in_round, is_store, made_store, may_ack, may_off, may_open, next_store, off_by, on_by, on_stop, open_by, patch_by, patch_left, raise_by, run_by, stop_of, switched, switched_at, switched_on, ungate_by, with_inside, with_irq, with_patch, with_word}
+use Rattle.smp_event_steps.specs.Stops.{ack_by, acked, collect_by, complete_by, enter_by, enter_from, gate_by, gate_with, holds_gate, in_patch, in_round}
+use Rattle.smp_event_steps.specs.Stops.{is_store, made_store, may_ack, may_off, may_open, next_store, off_by, on_by, on_stop, open_by, patch_by, patch_left}
+use Rattle.smp_event_steps.specs.Stops.{raise_by, run_by, stop_of, switched, switched_at, switched_on, ungate_by, with_inside, with_irq, with_patch, with_word}
 use Rattle.smp_event_steps.specs.Labels.{count_at, nudged, popped, stored, to_be}
 use Rattle.smp_labels.specs.declared.patch.Place.{Place}
 use Rattle.smp_labels.specs.declared.patch.Place.TheVariants.{Key, Site}
@@ -37,7 +40,8 @@ use Rattle.smp_event_steps.specs.Stops.{run_as}
 use Rattle.smp_event_laws.specs.Lawful.{AreLabels, IsPatching, LabelsAreLawful, Reads, ReadsAreLawful, moved, reads, words_from, words_next}
 use Rattle.smp_event_laws.specs.Rounds.{Seen, seen, unseen, work}
 use Rattle.smp_event_laws.specs.Traces.{IsTrace}
-use Rattle.smp_event_laws.proofs.AtRun.{held_at, rounds_at_first, rounds_goes, rounds_of, runs_last, seen_all, setting_at_first, setting_runs, stop_at_first, work_all}
+use Rattle.smp_event_laws.proofs.AtRun.{held_at, rounds_at_first, rounds_goes, rounds_of, runs_last, seen_all, setting_at_first, setting_runs, stop_at_first}
+use Rattle.smp_event_laws.proofs.AtRun.{work_all}
 use Rattle.smp_event_laws.proofs.Binds.{both_made, passed, failed}
 use Rattle.smp_event_laws.proofs.PatchAcks.{ack_labelled, may_is, raise_labelled}
 use Rattle.smp_event_laws.proofs.PatchEvents.{collect_labelled, complete_labelled, enter_labelled, labelled_end, open_labelled, run_labelled}
@@ -84,7 +88,8 @@ switched_words : (s : StateValue) (cpu source phase : ℕ) → let t = switched 
 switched_words s cpu source phase =
     let on = not (is_cpu (stop_at s source).raiser cpu) in
     if_words s.setting.without.switches s (switched_at cpu source phase s) s
-    (if_words (phase == 2) s (with_irq cpu false s) (if phase == 4 then with_irq cpu on s else s) refl (if_words (phase == 4) s (with_irq cpu on s) s refl refl)) refl
+    (if_words (phase == 2) s (with_irq cpu false s) (if phase == 4 then with_irq cpu on s else s) refl (if_words (phase == 4) s
+    (with_irq cpu on s) s refl refl)) refl
 
 ack_words : (cpu phase : ℕ) (s t : StateValue) → ack_by cpu phase s ≡ Ok t → t.words ≡ s.words
 unfolding ack_by
@@ -159,7 +164,8 @@ stop_goes_words cpu (stops.Run func arg) s t e = run_words cpu func arg s t e
 stop_goes_words cpu (stops.Complete answer) s t e = complete_words cpu answer s t e
 stop_goes_words cpu (stops.Collect answer) s t e = collect_words cpu answer s t e
 
-made_words : (next : Option (Place × ℕ)) (source : ℕ) (patch : Patch) (place : Place) (word : ℕ) (s t : StateValue) → made_store next source patch place word s ≡ Ok t
+made_words : (next : Option (Place × ℕ)) (source : ℕ) (patch : Patch) (place : Place) (word : ℕ) (s t : StateValue) →
+    made_store next source patch place word s ≡ Ok t
     → t.words ≡ stored place word s.words
 made_words None source patch place word s t e = absurd cc
 made_words (Some next) source patch place word s t e =
@@ -173,7 +179,8 @@ store_words cpu place word s t e =
     let m = both_made (in_patch cpu s) (λ source. made_store (next_store source s) source (patch_left source s) place word s) t e in
     made_words (next_store m.0 s) m.0 (patch_left m.0 s) place word s t m.1.1
 
-nudge_words : (cpu key : ℕ) (up : Bool) (s t : StateValue) → nudge_by cpu key up s ≡ Ok t → t.words ≡ stored (Key key) (nudged_count up (count_at s.words key)) s.words
+nudge_words : (cpu key : ℕ) (up : Bool) (s t : StateValue) → nudge_by cpu key up s ≡ Ok t →
+    t.words ≡ stored (Key key) (nudged_count up (count_at s.words key)) s.words
 nudge_words cpu key up s t e =
     let m = both_made (reads_by cpu s) (λ u. nudged_word key up s) t e in
     let n = both_made (nudged key up s.words) (λ words. Ok (record s { words = words })) t m.1.1 in
@@ -215,7 +222,8 @@ ungate_labelled cpu s t l e =
     let m = both_made (holds_gate cpu s) (λ u. Ok (record s { gate = None })) t e in
     labelled_end (record s { gate = None }) t (cc) (labelled_same s (record s { gate = None }) refl refl refl l)
 
-stop_goes_labelled : (seen : ℕ → Seen) (work : ℕ → Option Task) (cpu : ℕ) (e : StopEvent) (s t : StateValue) → Rounds seen work s → Labelled s → stop_goes cpu e s ≡ Ok t → Labelled t
+stop_goes_labelled : (seen : ℕ → Seen) (work : ℕ → Option Task) (cpu : ℕ) (e : StopEvent) (s t : StateValue) → Rounds seen work s → Labelled s →
+    stop_goes cpu e s ≡ Ok t → Labelled t
 unfolding stop_goes gate_by
 stop_goes_labelled seen work cpu stops.Gate s t r l e = gate_labelled s.gate cpu s t l e
 stop_goes_labelled seen work cpu stops.Ungate s t r l e = ungate_labelled cpu s t l e
@@ -223,8 +231,10 @@ stop_goes_labelled seen work cpu (stops.Open task) s t r l e = open_labelled see
 stop_goes_labelled seen work cpu (stops.Enter source) s t r l e = enter_labelled seen work s t source cpu r l e
 stop_goes_labelled seen work cpu (stops.Ack phase) s t r l e = ack_labelled seen work s t cpu phase r l e
 stop_goes_labelled seen work cpu (stops.Raise phase) s t r l e = raise_labelled seen work s t cpu phase r l e
-stop_goes_labelled seen work cpu stops.Off s t r l e = labelled_end (with_irq cpu false s) t (off_is cpu s t e) (labelled_same s (with_irq cpu false s) refl refl refl l)
-stop_goes_labelled seen work cpu stops.On s t r l e = labelled_end (with_irq cpu true s) t (on_is cpu s t e) (labelled_same s (with_irq cpu true s) refl refl refl l)
+stop_goes_labelled seen work cpu stops.Off s t r l e = labelled_end (with_irq cpu false s) t (off_is cpu s t e) (labelled_same s
+    (with_irq cpu false s) refl refl refl l)
+stop_goes_labelled seen work cpu stops.On s t r l e = labelled_end (with_irq cpu true s) t (on_is cpu s t e) (labelled_same s
+    (with_irq cpu true s) refl refl refl l)
 stop_goes_labelled seen work cpu (stops.Run func arg) s t r l e = run_labelled seen work s t cpu func arg r l e
 stop_goes_labelled seen work cpu (stops.Complete answer) s t r l e = complete_labelled seen work s t cpu answer r l e
 stop_goes_labelled seen work cpu (stops.Collect answer) s t r l e = collect_labelled seen work s t cpu answer r l e
@@ -232,7 +242,8 @@ stop_goes_labelled seen work cpu (stops.Collect answer) s t r l e = collect_labe
 after_labelled : (test : Result (Unit {0}) Reason) (s t : StateValue) → Labelled s → (test >>= λ u. Ok s) ≡ Ok t → Labelled t
 after_labelled test s t l e = let m = both_made test (λ u. Ok s) t e in labelled_end s t (cc) l
 
-label_goes_labelled : (seen : ℕ → Seen) (work : ℕ → Option Task) (cpu : ℕ) (e : LabelEvent) (s t : StateValue) → Rounds seen work s → Labelled s → label_goes cpu e s ≡ Ok t → Labelled t
+label_goes_labelled : (seen : ℕ → Seen) (work : ℕ → Option Task) (cpu : ℕ) (e : LabelEvent) (s t : StateValue) → Rounds seen work s → Labelled s →
+    label_goes cpu e s ≡ Ok t → Labelled t
 unfolding label_goes
 label_goes_labelled seen work cpu (labels.Set key count) s t r l e = patch_labelled seen work s t cpu (Key key) count r l e
 label_goes_labelled seen work cpu (labels.Turn site jumps) s t r l e = patch_labelled seen work s t cpu (Site site) (site_word jumps) r l e
@@ -240,12 +251,14 @@ label_goes_labelled seen work cpu (labels.Key key on) s t r l e = after_labelled
 label_goes_labelled seen work cpu (labels.Site site jumps) s t r l e = after_labelled (site_by cpu site jumps s) s t l e
 label_goes_labelled seen work cpu (labels.Nudge key up) s t r l e = nudge_labelled s t cpu key up l e
 
-labelled_goes : (seen : ℕ → Seen) (work : ℕ → Option Task) (cpu : ℕ) (e : Event) (s t : StateValue) → Rounds seen work s → Labelled s → goes cpu e s ≡ Ok t → Labelled t
+labelled_goes : (seen : ℕ → Seen) (work : ℕ → Option Task) (cpu : ℕ) (e : Event) (s t : StateValue) → Rounds seen work s → Labelled s → goes cpu e s ≡ Ok t →
+    Labelled t
 labelled_goes seen work cpu (event.Call e) s t r l g = let k = call_keeps_rounds cpu e s t g in labelled_same s t k.words_are k.stops_are k.setting_is l
 labelled_goes seen work cpu (event.Stop e) s t r l g = stop_goes_labelled seen work cpu e s t r l g
 labelled_goes seen work cpu (event.Label e) s t r l g = label_goes_labelled seen work cpu e s t r l g
 
-labelled_runs : (seen : ℕ → Seen) (work : ℕ → Option Task) (es : List (ℕ × Event)) (s t : StateValue) → Rounds seen work s → Labelled s → Runs s es t → Labelled t
+labelled_runs : (seen : ℕ → Seen) (work : ℕ → Option Task) (es : List (ℕ × Event)) (s t : StateValue) → Rounds seen work s → Labelled s → Runs s es t →
+    Labelled t
 labelled_runs seen work [] s t r l run = labelled_end s t (sym run) l
 labelled_runs seen work (e ∷ es) s t r l (m, (g, run)) =
     labelled_runs (seen_all seen e) (work_all work e) es m t (rounds_goes seen work e.0 e.1 s m r g) (labelled_goes seen work e.0 e.1 s m r l g) run
@@ -276,7 +289,8 @@ labelled_at_first u words a =
     }
 
 labelled_of : (u : Setting) (words : LabelWords) (es : List (ℕ × Event)) (t : StateValue) → AreLabels u words → IsTrace u words es t → Labelled t
-labelled_of u words es t a run = labelled_runs (λ cpu. unseen) (λ source. None) es (at_first u words) t (rounds_at_first u words) (labelled_at_first u words a) run
+labelled_of u words es t a run = labelled_runs (λ cpu. unseen) (λ source. None) es (at_first u words) t (rounds_at_first u words)
+    (labelled_at_first u words a) run
 
 told_words : (u : Setting) (words : LabelWords) (es : List (ℕ × Event)) (t : StateValue) → IsTrace u words es t → t.words ≡ words_from words es
 told_words u words es t run = words_runs es (at_first u words) t run ∙ ap (λ w. words_from w es) (words_at_first u words)
@@ -293,7 +307,8 @@ patching u words es t run l a =
       kind_is = a.live.kind_is;
       all = λ member below online.
           let mask : (stop_at t a.source).task.mask ≡ u.online = all.mask_is ∙ ap (λ x. x.online) set in
-          held_at u words es t a.source member run a.low a.live.is_open (patch_round (stop_at t a.source).task.kind a.live.kind_is) a.live.at below (rw mask online);
+          held_at u words es t a.source member run a.low a.live.is_open (patch_round (stop_at t a.source).task.kind a.live.kind_is) a.live.at below
+          (rw mask online);
     }
 
 pub labels_are_lawful : LabelsAreLawful
@@ -323,18 +338,25 @@ read_is : (cpu : ℕ) (e : LabelEvent) (s t : StateValue) → label_goes cpu e s
 unfolding label_goes
 read_is cpu (labels.Key key on) s t e is =
     let m = both_made (key_by cpu key on s) (λ u. Ok s) t e in
-    let n = both_made (reads_by cpu s) (λ u. read_key s.words key on) m.0 m.1.0 in
-    (reads_on cpu s n.0 n.1.0, xor_none (is_on (count_at s.words key)) on (read_as (xor (is_on (count_at s.words key)) on) (reason.KeyIs key (is_on (count_at s.words key))) m.0 n.1.1))
+    let n = both_made (reads_by cpu s) (λ u. read_key s.words key on) m.0 m.1.0 in (
+      reads_on cpu s n.0 n.1.0,
+      xor_none (is_on (count_at s.words key)) on (read_as (xor (is_on (count_at s.words key)) on) (reason.KeyIs key (is_on
+          (count_at s.words key))) m.0 n.1.1),
+    )
 read_is cpu (labels.Site site jumps) s t e is =
     let m = both_made (site_by cpu site jumps s) (λ u. Ok s) t e in
-    let n = both_made (reads_by cpu s) (λ u. read_site s.words site jumps) m.0 m.1.0 in
-    (reads_on cpu s n.0 n.1.0, xor_none (is_jump (site_at s.words site)) jumps (read_as (xor (is_jump (site_at s.words site)) jumps) (reason.SiteIs site (is_jump (site_at s.words site))) m.0 n.1.1))
+    let n = both_made (reads_by cpu s) (λ u. read_site s.words site jumps) m.0 m.1.0 in (
+      reads_on cpu s n.0 n.1.0,
+      xor_none (is_jump (site_at s.words site)) jumps (read_as (xor (is_jump (site_at s.words site)) jumps) (reason.SiteIs site
+          (is_jump (site_at s.words site))) m.0 n.1.1),
+    )
 read_is cpu (labels.Set key count) s t e is = absurd cc
 read_is cpu (labels.Turn site jumps) s t e is = absurd cc
 read_is cpu (labels.Nudge key up) s t e is = absurd cc
 
 -- a CPU that is online and reads is in no patch
-rests_where_read : (u : Setting) (words : LabelWords) (es : List (ℕ × Event)) (s : StateValue) (cpu : ℕ) → IsTrace u words es s → Labelled s → cpu < 32 → has u.online cpu ≡ true
+rests_where_read : (u : Setting) (words : LabelWords) (es : List (ℕ × Event)) (s : StateValue) (cpu : ℕ) → IsTrace u words es s → Labelled s → cpu < 32 →
+    has u.online cpu ≡ true
     → (cpu_at s cpu).irq ≡ true → AtRest s ⊎ AtPatch s → HaveKinds (table_of s.words)
 rests_where_read u words es s cpu run l below online on (inl rest) = rest.ok
 rests_where_read u words es s cpu run l below online on (inr a) =
@@ -342,7 +364,8 @@ rests_where_read u words es s cpu run l below online on (inr a) =
     let all = (l.patches a.source a.low).all a.live.is_open a.live.kind_is in
     let set : s.setting ≡ u = setting_runs es (at_first u words) s run ∙ setting_at_first u words in
     let mask : (stop_at s a.source).task.mask ≡ u.online = all.mask_is ∙ ap (λ x. x.online) set in
-    let h = held_in (λ c. seen c es) (λ c. work c es) s a.source cpu r a.low a.live.is_open (patch_round (stop_at s a.source).task.kind a.live.kind_is) a.live.at below (rw mask online) in
+    let h = held_in (λ c. seen c es) (λ c. work c es) s a.source cpu r a.low a.live.is_open (patch_round
+    (stop_at s a.source).task.kind a.live.kind_is) a.live.at below (rw mask online) in
     absurd (ne_truth (cpu_at s cpu).irq on h.1)
 
 pub reads_are_lawful : ReadsAreLawful

@@ -1,5 +1,6 @@
 -- Events of stops and of labels leave calls as they are.
-use Rattle.std.proofs.Common.{◌≡◌, ℕ, ◌<◌, Bool, true, false, not, ◌&&◌, if◌then◌else◌, length, Option, Some, None, Result, Ok, Err, refl, ap, ◌∙◌, subst, inl, inr}
+use Rattle.std.proofs.Common.{◌≡◌, ℕ, ◌<◌, Bool, true, false, not, ◌&&◌, if◌then◌else◌, length, Option, Some, None, Result, Ok, Err, refl, ap, ◌∙◌, subst, inl}
+use Rattle.std.proofs.Common.{inr}
 use Rattle.std.specs.Prelude.{ℤ, ◌==◌, nat_lt}
 use Rattle.std.proofs.lemmas.Bool.{cases_eq}
 use Rattle.std.proofs.lemmas.List.{length-set}
@@ -23,7 +24,10 @@ use Rattle.smp_event_steps.specs.State.{StateValue, cpu_at, stop_at, with_cpu, w
 use Rattle.smp_event_steps.specs.Step.{key_by, label_goes, nudge_by, nudged_word, reads_by, site_by, site_word, stop_goes}
 use Rattle.smp_labels.specs.declared.patch.Place.TheVariants.{Key, Site}
 use Rattle.smp_event_steps.specs.Stop.{acknowledged, at_phase, collected, completed, entered, has_run, is_cpu, opened, raised, ran_function, through}
-use Rattle.smp_event_steps.specs.Stops.{ack_by, acked, acks_as, acks_at_run, acks_disabled, collect_by, complete_by, enter_by, enter_from, entered_open, gate_by, gate_with, holds_gate, in_patch, in_round, is_store, made_store, may_ack, may_off, may_open, next_store, off_by, on_by, on_stop, open_by, patch_by, patch_left, patch_over, raise_by, run_as, run_by, stop_of, switched_at, switched_on, ungate_by, with_inside, with_irq, with_patch, with_word}
+use Rattle.smp_event_steps.specs.Stops.{ack_by, acked, acks_as, acks_at_run, acks_disabled, collect_by, complete_by, enter_by, enter_from, entered_open}
+use Rattle.smp_event_steps.specs.Stops.{gate_by, gate_with, holds_gate, in_patch, in_round, is_store, made_store, may_ack, may_off, may_open, next_store}
+use Rattle.smp_event_steps.specs.Stops.{off_by, on_by, on_stop, open_by, patch_by, patch_left, patch_over, raise_by, run_as, run_by, stop_of, switched_at}
+use Rattle.smp_event_steps.specs.Stops.{switched_on, ungate_by, with_inside, with_irq, with_patch, with_word}
 use Rattle.smp_event_laws.proofs.Binds.{both_made, passed, failed}
 use Rattle.smp_event_laws.proofs.Cpus.{SameCalls}
 use Rattle.smp_event_laws.proofs.States.{cpu_changed, cpu_kept, same_calls}

@@ -1,11 +1,13 @@
 -- A CPU acknowledges a phase, or raises it: what holds of patches still does.
-use Rattle.std.proofs.Common.{◌≡◌, ℕ, ◌+◌, ◌-◌, ◌^◌, ◌<◌, ◌≢◌, ◌⊎◌, Bool, true, false, not, ◌&&◌, if◌then◌else◌, min, List, Option, Some, None, is_some, Result, Ok, Err, refl, ap, ◌∙◌, sym, arith, inl, inr}
+use Rattle.std.proofs.Common.{◌≡◌, ℕ, ◌+◌, ◌-◌, ◌^◌, ◌<◌, ◌≢◌, ◌⊎◌, Bool, true, false, not, ◌&&◌, if◌then◌else◌, min, List, Option, Some, None, is_some, Result}
+use Rattle.std.proofs.Common.{Ok, Err, refl, ap, ◌∙◌, sym, arith, inl, inr}
 use Rattle.std.specs.Prelude.{◌==◌, slice_set, slice_index_or}
 use Rattle.std.proofs.lemmas.Bool.{cases_Bool, eqb-true, eq-eqb, and_parts}
 use Rattle.std.proofs.lemmas.List.{get_or-set_same, get_or-set_other}
 use Rattle.smp_event_steps.specs.State.{StateValue, stop_at, with_stop}
 use Rattle.smp_event_steps.specs.Stop.{acked_by, acknowledged, at_last, at_phase, has_run, is_cpu, late, raised, raised_by, with_acked}
-use Rattle.smp_event_steps.specs.Stops.{ack_by, acked, acks_as, acks_at_run, acks_disabled, in_round, may_ack, next_store, on_stop, patch_left, patch_over, raise_by, switched, switched_at, switched_on, with_irq, with_patch}
+use Rattle.smp_event_steps.specs.Stops.{ack_by, acked, acks_as, acks_at_run, acks_disabled, in_round, may_ack, next_store, on_stop, patch_left, patch_over}
+use Rattle.smp_event_steps.specs.Stops.{raise_by, switched, switched_at, switched_on, with_irq, with_patch}
 use Rattle.smp_event_steps.specs.Labels.{front_of, key_number, patch_for, patch_or}
 use Rattle.smp_labels.specs.declared.patch.Place.{Place}
 use Rattle.smp_mask.specs.Mask.{has}
@@ -44,18 +46,21 @@ pub record MayAck (s t : StateValue) (source actor phase : ℕ) : Type 0 where
 same_stop : (source : ℕ) (s : StateValue) → s ≡ with_stop source s (record (stop_at s source) { patch = (stop_at s source).patch })
 same_stop source s = sym (stop_same source s)
 
-may_here : (s t : StateValue) (source actor phase : ℕ) → s ≡ t → (phase ≡ 3 → (stop_at s source).task.kind ≡ APatch → has (stop_at s source).task.active actor ≡ true → ⊥)
+may_here : (s t : StateValue) (source actor phase : ℕ) → s ≡ t → (phase ≡ 3 → (stop_at s source).task.kind ≡ APatch →
+    has (stop_at s source).task.active actor ≡ true → ⊥)
     → MayAck s t source actor phase
 may_here s t source actor phase same idle = record { patch = (stop_at s source).patch; is = sym same ∙ same_stop source s; how = inl (refl, idle) }
 
-may_over : (next : Option (Place × ℕ)) (s t : StateValue) (source actor phase : ℕ) → next_store source s ≡ next → phase ≡ 3 → (stop_at s source).task.kind ≡ APatch
+may_over : (next : Option (Place × ℕ)) (s t : StateValue) (source actor phase : ℕ) → next_store source s ≡ next → phase ≡ 3 →
+    (stop_at s source).task.kind ≡ APatch
     → has (stop_at s source).task.active actor ≡ true → patch_over next source (patch_left source s) s ≡ Ok t → MayAck s t source actor phase
 may_over (Some next) s t source actor phase is at kind active e = absurd cc
 may_over None s t source actor phase is at kind active e =
     let same : with_patch source (patch_left source s) s ≡ t = cc in
     record { patch = Some (patch_left source s); is = sym same; how = inr (refl, record { at = at; kind_is = kind; active = active; none = is }) }
 
-may_kind : (kind : Kind) (s t : StateValue) (source actor phase : ℕ) → (stop_at s source).task.kind ≡ kind → phase ≡ 3 → has (stop_at s source).task.active actor ≡ true
+may_kind : (kind : Kind) (s t : StateValue) (source actor phase : ℕ) → (stop_at s source).task.kind ≡ kind → phase ≡ 3 →
+    has (stop_at s source).task.active actor ≡ true
     → acks_as kind actor source s ≡ Ok t → MayAck s t source actor phase
 may_kind APatch s t source actor phase k at active e = may_over (next_store source s) s t source actor phase refl at k active e
 may_kind One s t source actor phase k at active e =
@@ -75,7 +80,8 @@ may_tests false true s t source actor phase test is_two is_runs e =
     let p = and_parts (phase == 3) (has (stop_at s source).task.active actor) is_runs in
     may_kind (stop_at s source).task.kind s t source actor phase refl (eqb-true phase 3 p.0) p.1 e
 may_tests false false s t source actor phase test is_two is_runs e =
-    may_here s t source actor phase (cc) (λ x y z. let f : (phase == 3) ≡ true = eq-eqb phase 3 x in ne_truth ((phase == 3) && has (stop_at s source).task.active actor) (rw (f, z) refl) is_runs)
+    may_here s t source actor phase (cc) (λ x y z. let f : (phase == 3) ≡ true = eq-eqb phase 3 x in ne_truth ((phase == 3) && has
+    (stop_at s source).task.active actor) (rw (f, z) refl) is_runs)
 
 pub may_is : (s t : StateValue) (source actor phase : ℕ) → may_ack actor source phase s ≡ Ok t
     → MayAck s t source actor phase × ((acked_by (stop_at s source) actor < phase) × ((stop_at s source).phase ≡ phase))
@@ -106,7 +112,8 @@ last_phase None actor true stop = inl refl
 last_phase None actor false stop = inr (refl, refl)
 
 -- the phase after is 3 only where it was 3, or where nobody is late at 2
-three_after : (who : Option ℕ) (actor : ℕ) (raises : Bool) (stop : Stop) (phase : ℕ) → stop.phase ≡ phase → (at_last who actor raises stop).phase ≡ 3 → (phase ≡ 3) ⊎ (phase ≡ 2)
+three_after : (who : Option ℕ) (actor : ℕ) (raises : Bool) (stop : Stop) (phase : ℕ) → stop.phase ≡ phase → (at_last who actor raises stop).phase ≡ 3 →
+    (phase ≡ 3) ⊎ (phase ≡ 2)
 three_after who actor raises stop phase at three = elim (last_phase who actor raises stop) [
   | inl same ↦ inl (sym at ∙ sym same ∙ three)
   | inr grown ↦ inr (let g = grown.1 in omega arith)
@@ -159,22 +166,26 @@ acked_other : (stop : Stop) (actor phase cpu : ℕ) → cpu ≢ actor → slice_
 acked_other stop actor phase cpu ne = get_or-set_other stop.acked actor cpu phase 0 ne
 
 -- the CPU that has acknowledged RUN is not the one that patches
-not_early : (seen : ℕ → Seen) (work : ℕ → Option Task) (s : StateValue) (source actor phase : ℕ) (raises : Bool) (patch : Option Patch) (q : Patch) → Rounds seen work s
-    → Acks s source actor phase patch → phase ≡ 3 → has (stop_at s source).task.active actor ≡ true → Live (ack_to actor phase raises patch (stop_at s source)) q → ⊥
+not_early : (seen : ℕ → Seen) (work : ℕ → Option Task) (s : StateValue) (source actor phase : ℕ) (raises : Bool) (patch : Option Patch) (q : Patch) →
+    Rounds seen work s
+    → Acks s source actor phase patch → phase ≡ 3 → has (stop_at s source).task.active actor ≡ true →
+    Live (ack_to actor phase raises patch (stop_at s source)) q → ⊥
 not_early seen work s source actor phase raises patch q r a three active live =
     let stop = stop_at s source in
     let mid = with_acked actor phase (record stop { patch = patch }) in
     let b = last_open (late mid phase) actor raises mid in
     let task : (at_last (late mid phase) actor raises mid).task ≡ stop.task = b.task in
     let acked : (at_last (late mid phase) actor raises mid).acked ≡ slice_set stop.acked actor phase = b.acked in
-    let now : slice_index_or (slice_set stop.acked actor phase) actor 0 ≡ phase = get_or-set_same stop.acked actor phase 0 (rw (r.stop source a.low).acked_are a.below) in
+    let now : slice_index_or (slice_set stop.acked actor phase) actor 0 ≡ phase = get_or-set_same stop.acked actor phase 0 (rw
+    (r.stop source a.low).acked_are a.below) in
     let early = live.early actor a.below (rw task active) in
     let is : acked_by (at_last (late mid phase) actor raises mid) actor ≡ phase = ap (λ (xs : List ℕ). slice_index_or xs actor 0) acked ∙ now in
     omega arith
 
 -- where the CPU is not the one that patches, the patch goes on as it was
 live_before : (s : StateValue) (source actor phase : ℕ) (raises : Bool) (patch : Option Patch) (q : Patch) → Acks s source actor phase patch → phase ≡ 3
-    → patch ≡ (stop_at s source).patch → (has (stop_at s source).task.active actor ≡ true → ⊥) → Live (ack_to actor phase raises patch (stop_at s source)) q → Live (stop_at s source) q
+    → patch ≡ (stop_at s source).patch → (has (stop_at s source).task.active actor ≡ true → ⊥) →
+    Live (ack_to actor phase raises patch (stop_at s source)) q → Live (stop_at s source) q
 live_before s source actor phase raises patch q a three same idle live =
     let stop = stop_at s source in
     let mid = with_acked actor phase (record stop { patch = patch }) in
@@ -190,7 +201,8 @@ live_before s source actor phase raises patch q a three same idle live =
       early = λ cpu low active.
           let ne : cpu ≢ actor = λ e. idle (rw e at active) in
           let h = live.early cpu low (rw task active) in
-          let is : acked_by (at_last (late mid phase) actor raises mid) cpu ≡ acked_by stop cpu = ap (λ (xs : List ℕ). slice_index_or xs cpu 0) acked ∙ acked_other stop actor phase cpu ne in
+          let is : acked_by (at_last (late mid phase) actor raises mid) cpu ≡ acked_by stop cpu = ap (λ (xs : List ℕ). slice_index_or xs cpu 0) acked ∙
+          acked_other stop actor phase cpu ne in
           rw is at h;
     }
 
@@ -221,12 +233,15 @@ live_after s source actor phase raises patch q l a same idle live =
           let old : has stop.task.active cpu ≡ true = rw task at active in
           let other : cpu ≢ actor = λ e. idle (rw e at old) in
           let h = live.early cpu low old in
-          let is : acked_by (at_last who actor raises mid) cpu ≡ acked_by stop cpu = ap (λ (xs : List ℕ). slice_index_or xs cpu 0) acked ∙ acked_other stop actor phase cpu other in
+          let is : acked_by (at_last who actor raises mid) cpu ≡ acked_by stop cpu = ap (λ (xs : List ℕ). slice_index_or xs cpu 0) acked ∙
+          acked_other stop actor phase cpu other in
           rw is h;
     }
 
-ack_rests : (seen : ℕ → Seen) (work : ℕ → Option Task) (s : StateValue) (source actor phase : ℕ) (raises : Bool) (patch : Option Patch) → Rounds seen work s → Labelled s
-    → Acks s source actor phase patch → ((p : Patch) → Live (stop_at s source) p → ⊥) → (q : Patch) → Live (ack_to actor phase raises patch (stop_at s source)) q → ⊥
+ack_rests : (seen : ℕ → Seen) (work : ℕ → Option Task) (s : StateValue) (source actor phase : ℕ) (raises : Bool) (patch : Option Patch) →
+    Rounds seen work s → Labelled s
+    → Acks s source actor phase patch → ((p : Patch) → Live (stop_at s source) p → ⊥) → (q : Patch) →
+    Live (ack_to actor phase raises patch (stop_at s source)) q → ⊥
 ack_rests seen work s source actor phase raises patch r l a none q live =
     let stop = stop_at s source in
     let mid = with_acked actor phase (record stop { patch = patch }) in
@@ -246,7 +261,8 @@ ack_rests seen work s source actor phase raises patch r l a none q live =
       ]
     ]
 
-ack_next : (seen : ℕ → Seen) (work : ℕ → Option Task) (s : StateValue) (source actor phase : ℕ) (raises : Bool) (patch : Option Patch) → Rounds seen work s → Labelled s
+ack_next : (seen : ℕ → Seen) (work : ℕ → Option Task) (s : StateValue) (source actor phase : ℕ) (raises : Bool) (patch : Option Patch) → Rounds seen work s →
+    Labelled s
     → Acks s source actor phase patch → (p : Patch) → Live (stop_at s source) p → Partial s.words (stop_at s source).task.func p
     → let to = ack_to actor phase raises patch (stop_at s source) in
     (Live to p × (to.task.func ≡ (stop_at s source).task.func)) ⊎ (AllOk s.words × ((q : Patch) → Live to q → ⊥))
@@ -264,7 +280,8 @@ ack_next seen work s source actor phase raises patch r l a p live part =
           inr (over_ok s.words stop.task.func p live.turns over part, (λ q m. not_early seen work s source actor phase raises patch q r a three h.1.active m)))
     ]
 
-ack_goes : (seen : ℕ → Seen) (work : ℕ → Option Task) (s : StateValue) (source actor phase : ℕ) (raises : Bool) (patch : Option Patch) → Rounds seen work s → Labelled s
+ack_goes : (seen : ℕ → Seen) (work : ℕ → Option Task) (s : StateValue) (source actor phase : ℕ) (raises : Bool) (patch : Option Patch) → Rounds seen work s →
+    Labelled s
     → Acks s source actor phase patch → StopGoes s source (ack_to actor phase raises patch (stop_at s source))
 ack_goes seen work s source actor phase raises patch r l a = record {
   patch = ack_patch s source actor phase raises patch l a;
@@ -306,7 +323,8 @@ ack_from seen work s m source actor phase r l low below k more at =
     switched_labelled u actor source phase (labelled_same (with_stop source s to) u words stops setting
     (stop_labelled seen work s source to r l (ack_goes seen work s source actor phase raises k.patch r l a) low))
 
-pub ack_labelled : (seen : ℕ → Seen) (work : ℕ → Option Task) (s t : StateValue) (actor phase : ℕ) → Rounds seen work s → Labelled s → ack_by actor phase s ≡ Ok t → Labelled t
+pub ack_labelled : (seen : ℕ → Seen) (work : ℕ → Option Task) (s t : StateValue) (actor phase : ℕ) → Rounds seen work s → Labelled s →
+    ack_by actor phase s ≡ Ok t → Labelled t
 unfolding ack_by
 ack_labelled seen work s t actor phase r l e =
     let m = both_made (in_round actor s) (λ source. may_ack actor source phase s >>= λ x. Ok (acked actor source phase x)) t e in
@@ -318,13 +336,15 @@ ack_labelled seen work s t actor phase r l e =
 
 -- a phase is raised
 raise_goes : (seen : ℕ → Seen) (work : ℕ → Option Task) (s : StateValue) (source phase : ℕ) → Rounds seen work s → Labelled s → source < 32
-    → is_some (stop_at s source).raiser ≡ true → (stop_at s source).phase ≡ phase - 1 → StopGoes s source (record (stop_at s source) { phase = phase; raiser = None })
+    → is_some (stop_at s source).raiser ≡ true → (stop_at s source).phase ≡ phase - 1 →
+    StopGoes s source (record (stop_at s source) { phase = phase; raiser = None })
 raise_goes seen work s source phase r l low raiser at =
     let stop = stop_at s source in
     let old = l.patches source low in
     record {
       patch = record { known = old.known; early = λ h. old.early (omega arith); all = old.all };
-      rests = λ none q live. absurd (let e : stop.patch ≡ None = old.early (let z = live.at in omega arith) in let f : None ≡ Some q = sym e ∙ live.known in cc);
+      rests = λ none q live. absurd (let e : stop.patch ≡ None = old.early (let z = live.at in omega arith) in let f : None ≡ Some q = sym e ∙
+          live.known in cc);
       goes = λ p live part.
           let a = old.all live.is_open live.kind_is in
           let early = live.early a.cpu a.below a.active in
@@ -332,7 +352,8 @@ raise_goes seen work s source phase r l low raiser at =
           absurd (let z = live.at in omega arith);
     }
 
-pub raise_labelled : (seen : ℕ → Seen) (work : ℕ → Option Task) (s t : StateValue) (actor phase : ℕ) → Rounds seen work s → Labelled s → raise_by actor phase s ≡ Ok t → Labelled t
+pub raise_labelled : (seen : ℕ → Seen) (work : ℕ → Option Task) (s t : StateValue) (actor phase : ℕ) → Rounds seen work s → Labelled s →
+    raise_by actor phase s ≡ Ok t → Labelled t
 unfolding raise_by raised
 raise_labelled seen work s t actor phase r l e =
     let made = λ (source : ℕ). let stop = stop_at s source in

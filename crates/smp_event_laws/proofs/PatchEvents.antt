@@ -4,7 +4,8 @@ use Rattle.std.specs.Prelude.{ℤ, ◌==◌, nat_lt, nat_le, slice_set}
 use Rattle.std.proofs.lemmas.Bool.{cases_lt, eqb-true, ltb-true, and_parts}
 use Rattle.std.proofs.lemmas.List.{set_past}
 use Rattle.smp_event_steps.specs.State.{StateValue, cpu_at, stop_at, with_stop}
-use Rattle.smp_event_steps.specs.Stop.{answer_of, collected, collected_with, completed, entered, first_of, is_called, is_only, is_work, offline_in, opened, opening, unfinished, unless_offline}
+use Rattle.smp_event_steps.specs.Stop.{answer_of, collected, collected_with, completed, entered, first_of, is_called, is_only, is_work, offline_in, opened}
+use Rattle.smp_event_steps.specs.Stop.{opening, unfinished, unless_offline}
 use Rattle.smp_event_steps.specs.Stops.{collect_by, complete_by, enter_by, enter_from, entered_open, may_open, on_stop, open_by, run_by, stop_of, with_inside}
 use Rattle.smp_mask.specs.Mask.{has, members, members_below}
 use Rattle.smp_script.specs.Faults.{◌>>=◌}
@@ -47,7 +48,8 @@ enter_open seen work s t source actor r l e =
     let k = passed (is_called stop actor) (Ok to) (reason.NotCalled actor) n.0 n.1.0 in
     let a : to ≡ n.0 = cc in
     let b : with_stop source s n.0 ≡ m.0 = cc in
-    let same : with_inside actor (Some source) (with_stop source s to) ≡ t = ap (λ x. with_inside actor (Some source) (with_stop source s x)) a ∙ ap (λ x. with_inside actor (Some source) x) b ∙ cc in
+    let same : with_inside actor (Some source) (with_stop source s to) ≡ t = ap (λ x. with_inside actor (Some source) (with_stop source s x)) a ∙
+    ap (λ x. with_inside actor (Some source) x) b ∙ cc in
     labelled_end (with_inside actor (Some source) (with_stop source s to)) t same
     (same_labelled seen work s (with_inside actor (Some source) (with_stop source s to)) source to r l low
     (record { is_open = refl; task = refl; phase = refl; patch = refl; acked = refl }) refl refl refl)
@@ -57,20 +59,24 @@ enter_as : (seen : ℕ → Seen) (work : ℕ → Option Task) (s t : StateValue)
 enter_as seen work s t source actor (Ok x) r l e = absurd cc
 enter_as seen work s t source actor (Err why) r l e = enter_open seen work s t source actor r l e
 
-pub enter_labelled : (seen : ℕ → Seen) (work : ℕ → Option Task) (s t : StateValue) (source actor : ℕ) → Rounds seen work s → Labelled s → enter_by actor source s ≡ Ok t → Labelled t
+pub enter_labelled : (seen : ℕ → Seen) (work : ℕ → Option Task) (s t : StateValue) (source actor : ℕ) → Rounds seen work s → Labelled s →
+    enter_by actor source s ≡ Ok t → Labelled t
 unfolding enter_by
 enter_labelled seen work s t source actor r l e = enter_as seen work s t source actor (stop_of actor s) r l e
 
-pub run_labelled : (seen : ℕ → Seen) (work : ℕ → Option Task) (s t : StateValue) (actor func arg : ℕ) → Rounds seen work s → Labelled s → run_by actor func arg s ≡ Ok t → Labelled t
+pub run_labelled : (seen : ℕ → Seen) (work : ℕ → Option Task) (s t : StateValue) (actor func arg : ℕ) → Rounds seen work s → Labelled s →
+    run_by actor func arg s ≡ Ok t → Labelled t
 run_labelled seen work s t actor func arg r l e =
     let i = run_is s t actor func arg e in
     let source = i.0.source in
     let stop = stop_at s source in
     let to = record stop { ran = slice_set stop.ran actor true } in
     labelled_end (with_stop source s to) t i.1
-    (same_labelled seen work s (with_stop source s to) source to r l i.0.low (record { is_open = refl; task = refl; phase = refl; patch = refl; acked = refl }) refl refl refl)
+    (same_labelled seen work s (with_stop source s to) source to r l i.0.low
+    (record { is_open = refl; task = refl; phase = refl; patch = refl; acked = refl }) refl refl refl)
 
-pub complete_labelled : (seen : ℕ → Seen) (work : ℕ → Option Task) (s t : StateValue) (actor : ℕ) (answer : ℤ) → Rounds seen work s → Labelled s → complete_by actor answer s ≡ Ok t → Labelled t
+pub complete_labelled : (seen : ℕ → Seen) (work : ℕ → Option Task) (s t : StateValue) (actor : ℕ) (answer : ℤ) → Rounds seen work s → Labelled s →
+    complete_by actor answer s ≡ Ok t → Labelled t
 unfolding complete_by
 complete_labelled seen work s t actor answer r l e =
     let made = λ (source : ℕ). completed actor answer (cpu_at s actor).irq (stop_at s source) in
@@ -84,10 +90,12 @@ complete_labelled seen work s t actor answer r l e =
     let end : with_stop m.0 s to ≡ n.0 = ap (λ x. with_stop m.0 s x) c.1 ∙ cc in
     let same : with_inside actor None (with_stop m.0 s to) ≡ t = ap (λ x. with_inside actor None x) end ∙ cc in
     labelled_end (with_inside actor None (with_stop m.0 s to)) t same
-    (same_labelled seen work s (with_inside actor None (with_stop m.0 s to)) m.0 to r l o.1 (record { is_open = refl; task = refl; phase = refl; patch = refl; acked = refl }) refl refl refl)
+    (same_labelled seen work s (with_inside actor None (with_stop m.0 s to)) m.0 to r l o.1
+    (record { is_open = refl; task = refl; phase = refl; patch = refl; acked = refl }) refl refl refl)
 
 -- a stop that is closed has no patch
-closed_goes : (seen : ℕ → Seen) (work : ℕ → Option Task) (s : StateValue) (source : ℕ) → Rounds seen work s → Labelled s → source < 32 → unfinished (stop_at s source) ≡ None
+closed_goes : (seen : ℕ → Seen) (work : ℕ → Option Task) (s : StateValue) (source : ℕ) → Rounds seen work s → Labelled s → source < 32 →
+    unfinished (stop_at s source) ≡ None
     → StopGoes s source (record (stop_at s source) { is_open = false })
 closed_goes seen work s source r l low none =
     let stop = stop_at s source in
@@ -104,7 +112,8 @@ closed_goes seen work s source r l low none =
           absurd (none_is (answer_of stop a.cpu) (has stop.task.mask a.cpu) over a.member (w.answered round (omega arith)));
     }
 
-pub collect_labelled : (seen : ℕ → Seen) (work : ℕ → Option Task) (s t : StateValue) (source : ℕ) (answer : ℤ) → Rounds seen work s → Labelled s → collect_by source answer s ≡ Ok t
+pub collect_labelled : (seen : ℕ → Seen) (work : ℕ → Option Task) (s t : StateValue) (source : ℕ) (answer : ℤ) → Rounds seen work s → Labelled s →
+    collect_by source answer s ≡ Ok t
     → Labelled t
 unfolding collect_by collected
 collect_labelled seen work s t source answer r l e =
@@ -128,7 +137,8 @@ only_one m x y k hx hy lx ly one = elim (cases_lt x y) [
   ]
 ]
 
-only_is : (u : Setting) (task : Task) (found : Option ℕ) → first_of u.online ≡ found → task.mask ≡ u.online → is_only task.active found ≡ true → task.func < u.keys → IsOfAll u task
+only_is : (u : Setting) (task : Task) (found : Option ℕ) → first_of u.online ≡ found → task.mask ≡ u.online → is_only task.active found ≡ true →
+    task.func < u.keys → IsOfAll u task
 only_is u task None f mask e key = absurd cc
 only_is u task (Some cpu) f mask e key =
     let p = and_parts (length (members task.active) == 1) (has task.active cpu) e in
@@ -156,7 +166,8 @@ work_all u task One k e same = absurd cc
 work_all u task Multi k e same = absurd cc
 
 -- a stop that is opened has no patch that is known
-opened_goes : (s : StateValue) (source : ℕ) (task : Task) → (stop_at s source).is_open ≡ false → is_work s.setting task ≡ true → StopGoes s source (opening task)
+opened_goes : (s : StateValue) (source : ℕ) (task : Task) → (stop_at s source).is_open ≡ false → is_work s.setting task ≡ true →
+    StopGoes s source (opening task)
 opened_goes s source task shut e = record {
   patch = record { known = λ p x. absurd cc; early = λ h. refl; all = λ o k. work_all s.setting task task.kind refl e k };
   rests = λ none q live. absurd (let k = live.known in cc);
@@ -169,7 +180,8 @@ opened_work u task to e =
     let p = passed (is_work u task) (unless_offline (offline_in u task.mask) (opening task)) reason.NoSuchWork to e in
     (p.0, offline_none (offline_in u task.mask) (opening task) to p.1)
 
-pub open_labelled : (seen : ℕ → Seen) (work : ℕ → Option Task) (s t : StateValue) (source : ℕ) (task : Task) → Rounds seen work s → Labelled s → open_by source task s ≡ Ok t → Labelled t
+pub open_labelled : (seen : ℕ → Seen) (work : ℕ → Option Task) (s t : StateValue) (source : ℕ) (task : Task) → Rounds seen work s → Labelled s →
+    open_by source task s ≡ Ok t → Labelled t
 unfolding open_by
 open_labelled seen work s t source task r l e =
     let next = on_stop source s (opened s.setting task) in

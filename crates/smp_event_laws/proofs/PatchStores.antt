@@ -1,5 +1,6 @@
 -- A patch stores: what holds of patches, and of keys and sites, still does.
-use Rattle.std.proofs.Common.{◌≡◌, ℕ, ◌+◌, ◌-◌, ◌^◌, ◌<◌, ◌≢◌, ◌⊎◌, Bool, true, false, ◌&&◌, min, length, Option, Some, None, Ok, refl, ap, ◌∙◌, sym, subst, arith, inl, inr}
+use Rattle.std.proofs.Common.{◌≡◌, ℕ, ◌+◌, ◌-◌, ◌^◌, ◌<◌, ◌≢◌, ◌⊎◌, Bool, true, false, ◌&&◌, min, length, Option, Some, None, Ok, refl, ap, ◌∙◌, sym, subst}
+use Rattle.std.proofs.Common.{arith, inl, inr}
 use Rattle.std.specs.Prelude.{◌==◌, slice_set}
 use Rattle.std.proofs.lemmas.Bool.{cases_eq, cases_Bool, eqb-true, and_parts}
 use Rattle.std.proofs.lemmas.List.{length-set}
@@ -17,7 +18,8 @@ use Rattle.smp_event_steps.specs.declared.stop.Stop.{Stop}
 use Rattle.smp_event_steps.specs.declared.stop.Task.{Task}
 use Rattle.smp_event_laws.specs.Rounds.{Seen}
 use Rattle.smp_event_laws.proofs.Binds.{both_made, passed}
-use Rattle.smp_event_laws.proofs.LabelWords.{AllOk, Counts, Partial, TurnsNext, counts_is, front_is, nudged_on, ok_keys, partial_keys, same_state, site_stores, set_rests, set_turns, some_is, still, turned_site}
+use Rattle.smp_event_laws.proofs.LabelWords.{AllOk, Counts, Partial, TurnsNext, counts_is, front_is, nudged_on, ok_keys, partial_keys, same_state, site_stores}
+use Rattle.smp_event_laws.proofs.LabelWords.{set_rests, set_turns, some_is, still, turned_site}
 use Rattle.smp_event_laws.proofs.Patches.{held_in, patch_round, AtPatch, AtRest, Labelled, Live, PatchAt}
 use Rattle.smp_event_laws.proofs.RoundEvents.{actor_below, ne_truth}
 use Rattle.smp_event_laws.proofs.RoundPhases.{StoresIn, in_patch_is}
@@ -34,7 +36,8 @@ abbrev stop_to : ℕ → Patch → Place → StateValue → Stop
 stop_to source patch place s = record (stop_at s source) { patch = Some (popped patch place) }
 
 -- the CPU that stores is in the stop of the patch that has more to store
-same_source : (seen : ℕ → Seen) (work : ℕ → Option Task) (s : StateValue) (cpu : ℕ) → Rounds seen work s → Labelled s → (i : StoresIn s cpu) → (a : AtPatch s) → a.source ≡ i.source
+same_source : (seen : ℕ → Seen) (work : ℕ → Option Task) (s : StateValue) (cpu : ℕ) → Rounds seen work s → Labelled s → (i : StoresIn s cpu) →
+    (a : AtPatch s) → a.source ≡ i.source
 same_source seen work s cpu r l i a =
     let below = actor_below s cpu i.source r.cpus_are i.inside in
     let w = (r.at i.source i.low cpu below).in_stop i.inside in
@@ -45,7 +48,8 @@ same_source seen work s cpu r l i a =
     some_is a.source i.source (sym h.0 ∙ i.inside)
 
 -- once it has stored, its patch has more to store, or not
-live_now : (seen : ℕ → Seen) (work : ℕ → Option Task) (s : StateValue) (cpu : ℕ) (to : Option Patch) (q : Patch) → Rounds seen work s → Labelled s → (i : StoresIn s cpu)
+live_now : (seen : ℕ → Seen) (work : ℕ → Option Task) (s : StateValue) (cpu : ℕ) (to : Option Patch) (q : Patch) → Rounds seen work s → Labelled s →
+    (i : StoresIn s cpu)
     → to ≡ Some q → q.turns ≡ true → Live (record (stop_at s i.source) { patch = to }) q
 live_now seen work s cpu to q r l i is turns =
     let below = actor_below s cpu i.source r.cpus_are i.inside in
@@ -70,7 +74,8 @@ live_is seen work s cpu p r l i is turns =
     subst (λ (x : Stop). Live x p) e (live_now seen work s cpu (Some p) p r l i refl turns)
 
 -- what is known of a patch that has stored
-stored_patch : (s : StateValue) (cpu : ℕ) (to : Patch) → Labelled s → (i : StoresIn s cpu) → to.counts ≡ false → PatchAt s.setting (record (stop_at s i.source) { patch = Some to })
+stored_patch : (s : StateValue) (cpu : ℕ) (to : Patch) → Labelled s → (i : StoresIn s cpu) → to.counts ≡ false →
+    PatchAt s.setting (record (stop_at s i.source) { patch = Some to })
 stored_patch s cpu to l i none =
     let old = l.patches i.source i.low in
     record {
@@ -79,35 +84,46 @@ stored_patch s cpu to l i none =
       all = old.all;
     }
 
-patches_after : (s : StateValue) (words : LabelWords) (source : ℕ) (to : Stop) → length s.stops ≡ 32 → Labelled s → PatchAt s.setting to → (other : ℕ) → other < 32
+patches_after : (s : StateValue) (words : LabelWords) (source : ℕ) (to : Stop) → length s.stops ≡ 32 → Labelled s → PatchAt s.setting to → (other : ℕ) →
+    other < 32
     → other ≡ source ⊎ other ≢ source → PatchAt s.setting (stop_at (with_stop source (record s { words = words }) to) other)
 patches_after s words source to long l patch other low (inl same) =
-    let st : stop_at (with_stop source (record s { words = words }) to) source ≡ to = stop_changed source (record s { words = words }) to (rw (long, ← same) low) in rw (same, st) patch
+    let st : stop_at (with_stop source (record s { words = words }) to) source ≡ to = stop_changed source (record s { words = words }) to (rw
+    (long, ← same) low) in rw (same, st) patch
 patches_after s words source to long l patch other low (inr ne) =
-    let st : stop_at (with_stop source (record s { words = words }) to) other ≡ stop_at s other = stop_kept other source (record s { words = words }) to ne in rw st (l.patches other low)
+    let st : stop_at (with_stop source (record s { words = words }) to) other ≡ stop_at s other = stop_kept other source
+    (record s { words = words }) to ne in rw st (l.patches other low)
 
 -- the sites of a patch are turned, or it is at rest
-at_patch : (s : StateValue) (words : LabelWords) (source : ℕ) (to : Stop) (q : Patch) → length s.stops ≡ 32 → source < 32 → Live to q → Partial words to.task.func q
+at_patch : (s : StateValue) (words : LabelWords) (source : ℕ) (to : Stop) (q : Patch) → length s.stops ≡ 32 → source < 32 → Live to q →
+    Partial words to.task.func q
     → AtPatch (with_stop source (record s { words = words }) to)
 at_patch s words source to q long low live part =
     let st : stop_at (with_stop source (record s { words = words }) to) source ≡ to = stop_changed source (record s { words = words }) to (rw long low) in
     record { source = source; low = low; p = q; live = rw st live; partial = rw st part }
 
 at_rest : (s : StateValue) (words : LabelWords) (source : ℕ) (to : Stop) → length s.stops ≡ 32 → AllOk words
-    → ((other : ℕ) → other < 32 → (p : Patch) → Live (stop_at s other) p → ⊥) → ((p : Patch) → Live to p → ⊥) → AtRest (with_stop source (record s { words = words }) to)
+    → ((other : ℕ) → other < 32 → (p : Patch) → Live (stop_at s other) p → ⊥) → ((p : Patch) → Live to p → ⊥) →
+    AtRest (with_stop source (record s { words = words }) to)
 at_rest s words source to long ok others here = record {
   ok = ok;
   none = λ other low p. elim (cases_eq other source) [
-    | inl same ↦ (let st : stop_at (with_stop source (record s { words = words }) to) source ≡ to = stop_changed source (record s { words = words }) to (rw (long, ← same) low) in rw (same, st) (here p))
-    | inr ne ↦ (let st : stop_at (with_stop source (record s { words = words }) to) other ≡ stop_at s other = stop_kept other source (record s { words = words }) to ne in rw st (others other low p))
+    | inl same ↦ (let st : stop_at (with_stop source (record s { words = words }) to) source ≡ to = stop_changed source (record s { words = words }) to (rw
+        (long, ← same) low) in rw (same, st) (here p))
+    | inr ne ↦ (let st : stop_at (with_stop source (record s { words = words }) to) other ≡ stop_at s other = stop_kept other source
+        (record s { words = words }) to ne in rw st (others other low p))
   ];
 }
 
 -- a key's count is stored: the patch was not known
-key_either : (seen : ℕ → Seen) (work : ℕ → Option Task) (s : StateValue) (cpu : ℕ) (known : Option Patch) → Rounds seen work s → Labelled s → (i : StoresIn s cpu)
+key_either : (seen : ℕ → Seen) (work : ℕ → Option Task) (s : StateValue) (cpu : ℕ) (known : Option Patch) → Rounds seen work s → Labelled s →
+    (i : StoresIn s cpu)
     → (stop_at s i.source).patch ≡ known → let stop = stop_at s i.source in let key = stop.task.func in
     let p = patch_or known (patch_for s.words (key_number key) stop.task.arg) in p.counts ≡ true → key_number key ≡ key → key < 4
-    → let t = with_stop i.source (record s { words = record s.words { keys = slice_set s.words.keys key p.count } }) (record stop { patch = Some (record p { counts = false }) }) in
+    → let t = with_stop i.source (record s { words = record s.words { keys = slice_set s.words.keys key p.count } }) (record stop {
+      patch = Some
+          (record p { counts = false });
+    }) in
     AtRest t ⊎ AtPatch t
 key_either seen work s cpu (Some q) r l i is counts number low = absurd (ne_truth q.counts counts ((l.patches i.source i.low).known q is))
 key_either seen work s cpu None r l i is counts number low =
@@ -130,10 +146,14 @@ key_either seen work s cpu None r l i is counts number low =
     ]
 
 -- a site is turned: the patch was known, and had more to store
-site_either : (seen : ℕ → Seen) (work : ℕ → Option Task) (s : StateValue) (cpu site word : ℕ) (known : Option Patch) → Rounds seen work s → Labelled s → (i : StoresIn s cpu)
+site_either : (seen : ℕ → Seen) (work : ℕ → Option Task) (s : StateValue) (cpu site word : ℕ) (known : Option Patch) → Rounds seen work s → Labelled s →
+    (i : StoresIn s cpu)
     → (stop_at s i.source).patch ≡ known → let stop = stop_at s i.source in let key = stop.task.func in
     let p = patch_or known (patch_for s.words (key_number key) stop.task.arg) in TurnsNext s.words key p (Site site, word)
-    → let t = with_stop i.source (record s { words = record s.words { sites = slice_set s.words.sites site word } }) (record stop { patch = Some (record p { from = min (site + 1) (2 ^ 32 - 1) }) }) in
+    → let t = with_stop i.source (record s { words = record s.words { sites = slice_set s.words.sites site word } }) (record stop {
+      patch = Some
+          (record p { from = min (site + 1) (2 ^ 32 - 1) });
+    }) in
     AtRest t ⊎ AtPatch t
 site_either seen work s cpu site word None r l i is turns =
     let stop = stop_at s i.source in absurd (still s.words (key_number stop.task.func) stop.task.arg turns.counts turns.turns)
@@ -171,7 +191,8 @@ site_no_key words key p k word next t e =
     let named : next.0 ≡ Site t.site = site_stores t.site (is_on p.count) (entry_of words t.site) next t.store in
     let f : (is_place (Site t.site) (Key k) && (next.1 == word)) ≡ true = rw named at e in cc
 
-labelled_stored : (s : StateValue) (words : LabelWords) (source : ℕ) (to : Stop) → length s.stops ≡ 32 → Labelled s → length words.keys ≡ 4 → length words.sites ≡ 16
+labelled_stored : (s : StateValue) (words : LabelWords) (source : ℕ) (to : Stop) → length s.stops ≡ 32 → Labelled s → length words.keys ≡ 4 →
+    length words.sites ≡ 16
     → PatchAt s.setting to → let t = with_stop source (record s { words = words }) to in AtRest t ⊎ AtPatch t → Labelled t
 labelled_stored s words source to long l keys sites patch either = record {
   keys_are = keys;
@@ -181,7 +202,8 @@ labelled_stored s words source to long l keys sites patch either = record {
   either = either;
 }
 
-key_labelled : (seen : ℕ → Seen) (work : ℕ → Option Task) (s : StateValue) (cpu k word : ℕ) (next : Place × ℕ) → Rounds seen work s → Labelled s → (i : StoresIn s cpu)
+key_labelled : (seen : ℕ → Seen) (work : ℕ → Option Task) (s : StateValue) (cpu k word : ℕ) (next : Place × ℕ) → Rounds seen work s → Labelled s →
+    (i : StoresIn s cpu)
     → next_store i.source s ≡ Some next → is_store next (Key k) word ≡ true → Labelled (stored_to i.source (patch_left i.source s) (Key k) word s)
 key_labelled seen work s cpu k word next r l i is e =
     let stop = stop_at s i.source in
@@ -208,7 +230,8 @@ key_labelled seen work s cpu k word next r l i is e =
     ]
 
 -- a key's count is stored, or a site is turned
-site_labelled : (seen : ℕ → Seen) (work : ℕ → Option Task) (s : StateValue) (cpu site word : ℕ) (next : Place × ℕ) → Rounds seen work s → Labelled s → (i : StoresIn s cpu)
+site_labelled : (seen : ℕ → Seen) (work : ℕ → Option Task) (s : StateValue) (cpu site word : ℕ) (next : Place × ℕ) → Rounds seen work s → Labelled s →
+    (i : StoresIn s cpu)
     → next_store i.source s ≡ Some next → is_store next (Site site) word ≡ true → Labelled (stored_to i.source (patch_left i.source s) (Site site) word s)
 site_labelled seen work s cpu site word next r l i is e =
     let stop = stop_at s i.source in
@@ -216,7 +239,8 @@ site_labelled seen work s cpu site word next r l i is e =
     let p = patch_left i.source s in
     let same : next ≡ (Site site, word) = place_site next site word e in
     elim (front_is s.words key p next is) [
-      | inl h ↦ absurd (let f : (Key (key_number key), p.count) ≡ (Site site, word) = h.1 ∙ same in let g : Key (key_number key) ≡ Site site = ap (λ x. x.0) f in cc)
+      | inl h ↦ absurd (let f : (Key (key_number key), p.count) ≡ (Site site, word) = h.1 ∙
+          same in let g : Key (key_number key) ≡ Site site = ap (λ x. x.0) f in cc)
       | inr t ↦
           (let turns : TurnsNext s.words key p (Site site, word) = rw same at t in
           let q : Patch = record p { from = min (site + 1) (2 ^ 32 - 1) } in
@@ -225,13 +249,15 @@ site_labelled seen work s cpu site word next r l i is e =
           (stored_patch s cpu q l i t.counts) (site_either seen work s cpu site word stop.patch r l i refl turns))
     ]
 
-store_made : (next : Option (Place × ℕ)) (source : ℕ) (patch : Patch) (place : Place) (word : ℕ) (s t : StateValue) → made_store next source patch place word s ≡ Ok t
+store_made : (next : Option (Place × ℕ)) (source : ℕ) (patch : Patch) (place : Place) (word : ℕ) (s t : StateValue) →
+    made_store next source patch place word s ≡ Ok t
     → (n : Place × ℕ) × ((next ≡ Some n) × (is_store n place word ≡ true) × (stored_to source patch place word s ≡ t))
 store_made None source patch place word s t e = absurd cc
 store_made (Some n) source patch place word s t e =
     let p = passed (is_store n place word) (Ok (stored_to source patch place word s)) (to_be n) t e in (n, (refl, p.0, cc))
 
-place_labelled : (seen : ℕ → Seen) (work : ℕ → Option Task) (s : StateValue) (cpu : ℕ) (place : Place) (word : ℕ) (next : Place × ℕ) → Rounds seen work s → Labelled s → (i : StoresIn s cpu)
+place_labelled : (seen : ℕ → Seen) (work : ℕ → Option Task) (s : StateValue) (cpu : ℕ) (place : Place) (word : ℕ) (next : Place × ℕ) → Rounds seen work s →
+    Labelled s → (i : StoresIn s cpu)
     → next_store i.source s ≡ Some next → is_store next place word ≡ true → Labelled (stored_to i.source (patch_left i.source s) place word s)
 place_labelled seen work s cpu (Key k) word next r l i is e = key_labelled seen work s cpu k word next r l i is e
 place_labelled seen work s cpu (Site site) word next r l i is e = site_labelled seen work s cpu site word next r l i is e
@@ -264,6 +290,13 @@ nudge_labelled s t cpu key up l e =
       patches = l.patches;
       either = elim l.either [
         | inl rest ↦ inl (record { ok = λ i low. ok_keys s.words keys i same (rest.ok i low); none = rest.none })
-        | inr a ↦ inr (record { source = a.source; low = a.low; p = a.p; live = a.live; partial = partial_keys s.words keys (stop_at s a.source).task.func a.p same a.partial })
+        | inr a ↦ inr (record {
+          source = a.source;
+          low = a.low;
+          p = a.p;
+          live = a.live;
+          partial = partial_keys s.words keys
+              (stop_at s a.source).task.func a.p same a.partial;
+        })
       ];
     })

@@ -1,5 +1,6 @@
 -- What holds of patches, and of keys and sites.
-use Rattle.std.proofs.Common.{◌≡◌, ℕ, zero, suc, ◌+◌, ◌<◌, ◌≤◌, ◌≢◌, ◌⊎◌, true, false, if◌then◌else◌, [], ◌∷◌, length, Option, Some, None, refl, ap, ◌∙◌, sym, arith, inl, inr}
+use Rattle.std.proofs.Common.{◌≡◌, ℕ, zero, suc, ◌+◌, ◌<◌, ◌≤◌, ◌≢◌, ◌⊎◌, true, false, if◌then◌else◌, [], ◌∷◌, length, Option, Some, None, refl, ap, ◌∙◌, sym}
+use Rattle.std.proofs.Common.{arith, inl, inr}
 use Rattle.std.specs.Prelude.{slice_index_or}
 use Rattle.std.proofs.lemmas.Bool.{cases_eq}
 use Rattle.std.proofs.lemmas.List.{length-append}
@@ -80,7 +81,8 @@ members_more m x (suc k) is low = elim (cases_eq x k) [
 ]
 
 -- at RUN of a patch, each CPU of its mask is in its stop, with its interrupts off
-pub held_in : (seen : ℕ → Seen) (work : ℕ → Option Task) (s : StateValue) (source cpu : ℕ) → Rounds seen work s → source < 32 → (stop_at s source).is_open ≡ true
+pub held_in : (seen : ℕ → Seen) (work : ℕ → Option Task) (s : StateValue) (source cpu : ℕ) → Rounds seen work s → source < 32 →
+    (stop_at s source).is_open ≡ true
     → is_round (stop_at s source).task.kind ≡ true → (stop_at s source).phase ≡ 3 → cpu < 32 → has (stop_at s source).task.mask cpu ≡ true
     → ((cpu_at s cpu).inside ≡ Some source) × ((cpu_at s cpu).irq ≡ false)
 held_in seen work s source cpu r low opened_is round at below in_mask =
@@ -114,7 +116,8 @@ pub record StopGoes (s : StateValue) (source : ℕ) (to : Stop) : Type 0 where
   pub goes : (p : Patch) → Live (stop_at s source) p → Partial s.words (stop_at s source).task.func p
       → (Live to p × (to.task.func ≡ (stop_at s source).task.func)) ⊎ (AllOk s.words × ((q : Patch) → Live to q → ⊥))
 
-patches_go : (s : StateValue) (source : ℕ) (to : Stop) → length s.stops ≡ 32 → Labelled s → PatchAt s.setting to → (other : ℕ) → other < 32 → other ≡ source ⊎ other ≢ source
+patches_go : (s : StateValue) (source : ℕ) (to : Stop) → length s.stops ≡ 32 → Labelled s → PatchAt s.setting to → (other : ℕ) → other < 32 →
+    other ≡ source ⊎ other ≢ source
     → PatchAt s.setting (stop_at (with_stop source s to) other)
 patches_go s source to long l patch other low (inl same) =
     let st : stop_at (with_stop source s to) source ≡ to = stop_changed source s to (rw (long, ← same) low) in rw (same, st) patch
@@ -131,7 +134,8 @@ rest_goes s source to long ok others here = record {
   ];
 }
 
-patch_goes : (seen : ℕ → Seen) (work : ℕ → Option Task) (s : StateValue) (source : ℕ) (to : Stop) → Rounds seen work s → Labelled s → StopGoes s source to → (a : AtPatch s)
+patch_goes : (seen : ℕ → Seen) (work : ℕ → Option Task) (s : StateValue) (source : ℕ) (to : Stop) → Rounds seen work s → Labelled s → StopGoes s source to →
+    (a : AtPatch s)
     → a.source ≡ source ⊎ a.source ≢ source → AtRest (with_stop source s to) ⊎ AtPatch (with_stop source s to)
 patch_goes seen work s source to r l g a (inl same) =
     let low : source < 32 = rw (← same) a.low in
@@ -149,7 +153,8 @@ patch_goes seen work s source to r l g a (inr ne) =
     inr (record { source = a.source; low = a.low; p = a.p; live = rw st a.live; partial = rw st a.partial })
 
 -- all holds after it
-pub stop_labelled : (seen : ℕ → Seen) (work : ℕ → Option Task) (s : StateValue) (source : ℕ) (to : Stop) → Rounds seen work s → Labelled s → StopGoes s source to
+pub stop_labelled : (seen : ℕ → Seen) (work : ℕ → Option Task) (s : StateValue) (source : ℕ) (to : Stop) → Rounds seen work s → Labelled s →
+    StopGoes s source to
     → source < 32 → Labelled (with_stop source s to)
 stop_labelled seen work s source to r l g low = record {
   keys_are = l.keys_are;

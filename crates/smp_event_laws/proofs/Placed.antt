@@ -1,5 +1,6 @@
 -- Each event leaves each record in one place.
-use Rattle.std.proofs.Common.{◌≡◌, ℕ, ◌+◌, ◌<◌, ◌≤◌, ◌≢◌, ◌⊎◌, Bool, true, false, not, ◌&&◌, cond, if◌then◌else◌, List, [], ◌∷◌, length, count_by, is_some, Ok, Err, refl, ap, ◌∙◌, sym, subst, arith, inl, inr}
+use Rattle.std.proofs.Common.{◌≡◌, ℕ, ◌+◌, ◌<◌, ◌≤◌, ◌≢◌, ◌⊎◌, Bool, true, false, not, ◌&&◌, cond, if◌then◌else◌, List, [], ◌∷◌, length, count_by, is_some, Ok}
+use Rattle.std.proofs.Common.{Err, refl, ap, ◌∙◌, sym, subst, arith, inl, inr}
 use Rattle.std.specs.Prelude.{◌==◌, nat_lt, slice_set, slice_index_or}
 use Rattle.std.proofs.lemmas.Bool.{cases_eq, cases_lt, eq-eqb, ne_eqb}
 use Rattle.std.proofs.lemmas.List.{get_or-set_same, get_or-set_other, length-set, get_or-replicate, get_or_past, length-replicate}
@@ -18,8 +19,10 @@ use Rattle.smp_event_steps.specs.declared.event.Event.{Event}
 use Rattle.smp_event_steps.specs.declared.event.Event.TheVariants as event
 use Rattle.smp_event_steps.specs.declared.reason.Reason.TheVariants as reason
 use Rattle.smp_event_steps.specs.declared.without.Setting.{Setting}
-use Rattle.smp_event_steps.specs.Calls.{accept_by, begin_by, end_by, entered_by, freed_if, idle_by, joined, moved, on_cpu, place_of_run, placed, placed_unless, queue_by, send_by, take_by, unlock_by}
-use Rattle.smp_event_steps.specs.Cpu.{CpuState, accepted, ended, fresh_cpu, interrupted, is_empty, is_sync, may_take, noted, not_over, order, pushed, runs_locked, sent, slipped_from_batch, slipped_from_queue, taken, unlocked}
+use Rattle.smp_event_steps.specs.Calls.{accept_by, begin_by, end_by, entered_by, freed_if, idle_by, joined, moved, on_cpu, place_of_run, placed, placed_unless}
+use Rattle.smp_event_steps.specs.Calls.{queue_by, send_by, take_by, unlock_by}
+use Rattle.smp_event_steps.specs.Cpu.{CpuState, accepted, ended, fresh_cpu, interrupted, is_empty, is_sync, may_take, noted, not_over, order, pushed}
+use Rattle.smp_event_steps.specs.Cpu.{runs_locked, sent, slipped_from_batch, slipped_from_queue, taken, unlocked}
 use Rattle.smp_event_steps.specs.Opened.{opening, places_free}
 use Rattle.smp_event_steps.specs.Places.{is_batch}
 use Rattle.smp_event_steps.specs.Runs.{Runs}
@@ -31,8 +34,10 @@ use Rattle.smp_event_laws.proofs.Binds.{both_made, passed, failed}
 use Rattle.smp_event_laws.proofs.CallEvents.{accepted_same, made_on_cpu, may_take_over}
 use Rattle.smp_event_laws.proofs.Cpus.{order_moves, over_is}
 use Rattle.smp_event_laws.proofs.Others.{label_keeps_calls, stop_keeps_calls}
-use Rattle.smp_event_laws.proofs.Places.{Placed, either_way, fresh_has_none, leaves, one_is, place_changed, placed_keeps, placed_move, placed_shift, placed_still, queue_is, shifted_away, async_kept}
-use Rattle.smp_event_laws.proofs.Shifts.{Kind, Nowhere, InQueue, InBatch, Running, Begins, Enters, IsUnlockedAsync, Shift, begins_begun, begins_loose, count_cons, ends_ended, leaves_unlocked, place_of, run_kind, shift_pushed, slips_from_batch, slips_from_queue, stays}
+use Rattle.smp_event_laws.proofs.Places.{Placed, either_way, fresh_has_none, leaves, one_is, place_changed, placed_keeps, placed_move, placed_shift}
+use Rattle.smp_event_laws.proofs.Places.{placed_still, queue_is, shifted_away, async_kept}
+use Rattle.smp_event_laws.proofs.Shifts.{Kind, Nowhere, InQueue, InBatch, Running, Begins, Enters, IsUnlockedAsync, Shift, begins_begun, begins_loose}
+use Rattle.smp_event_laws.proofs.Shifts.{count_cons, ends_ended, leaves_unlocked, place_of, run_kind, shift_pushed, slips_from_batch, slips_from_queue, stays}
 use Rattle.smp_event_laws.proofs.States.{cpu_changed, cpu_kept}
 use Rattle.smp_event_laws.proofs.Traces.{cpus_at_first, fresh_at}
 
@@ -126,7 +131,8 @@ placed_queue : (source id to : ℕ) (class : Class) (func info : ℕ) (s t : Sta
 unfolding queue_by
 placed_queue source id to class func info s t pl e =
     let call : Call = record { source = source; id = id; class = class; func = func; info = info } in
-    let p = passed (has s.setting.online to) (if to == source then Err (reason.IsCaller to) else (freed id s >>= λ m. Ok (joined call to m))) (reason.NotOnline to) t e in
+    let p = passed (has s.setting.online to) (if to == source then Err (reason.IsCaller to) else (freed id s >>= λ m. Ok (joined call to m)))
+    (reason.NotOnline to) t e in
     let q = failed (to == source) (freed id s >>= λ m. Ok (joined call to m)) (reason.IsCaller to) t p.1 in
     let m = both_made (freed id s) (λ m. Ok (joined call to m)) t q.1 in
     let f = freed_is id s m.0 pl m.1.0 in
@@ -140,7 +146,8 @@ placed_send actor to s t pl e =
     let d = sent to (cpu_at m actor) in
     let p = passed (has s.setting.online to) (Ok (with_cpu actor m d)) (reason.NotOnline to) t e in
     let q = placed_rests s to c pl (record { queue = λ r. refl; batch = λ r. refl; run = λ r. refl; async = async_any s to pl }) in
-    placed_end (with_cpu actor m d) t (cc) (placed_rests m actor d q (record { queue = λ r. refl; batch = λ r. refl; run = λ r. refl; async = async_any m actor q }))
+    placed_end (with_cpu actor m d) t (cc) (placed_rests m actor d q
+    (record { queue = λ r. refl; batch = λ r. refl; run = λ r. refl; async = async_any m actor q }))
 
 placed_accept : (actor : ℕ) (s t : StateValue) → Placed s → accept_by actor s ≡ Ok t → Placed t
 placed_accept actor s t pl e =
@@ -176,7 +183,8 @@ leaves_run from Sync which = elim which [ inl x ↦ rw x refl | inr x ↦ rw x r
 leaves_run from Async which = elim which [ inl x ↦ rw x refl | inr x ↦ rw x refl ]
 
 -- a CPU that moves a record is one that there can be
-pub mover_below : (s : StateValue) (actor id : ℕ) (from to : Kind) (c : CpuState) → Placed s → Shift id from to (cpu_at s actor) c → leaves from to ≡ true → actor < 32
+pub mover_below : (s : StateValue) (actor id : ℕ) (from to : Kind) (c : CpuState) → Placed s → Shift id from to (cpu_at s actor) c → leaves from to ≡ true →
+    actor < 32
 mover_below s actor id from to c p sh e = elim (cases_lt actor 32) [
   | inl below ↦ below
   | inr past ↦ let end : length s.cpus ≤ actor = rw p.cpus_are past in
@@ -244,7 +252,8 @@ pub record PutAt (place : Place) (queue : List Call) (places : List Place) (r : 
   pub how : ((count_by (is_record r) queue ≡ 0) × (slice_index_or (placed place queue places) r Free ≡ slice_index_or places r Free))
       ⊎ ((1 ≤ count_by (is_record r) queue) × (slice_index_or (placed place queue places) r Free ≡ place))
 
-put_same : (place : Place) (x : Call) (xs : List Call) (places : List Place) (r : ℕ) → r < length places → x.id ≡ r → PutAt place xs (slice_set places x.id place) r
+put_same : (place : Place) (x : Call) (xs : List Call) (places : List Place) (r : ℕ) → r < length places → x.id ≡ r →
+    PutAt place xs (slice_set places x.id place) r
     → PutAt place (x ∷ xs) places r
 put_same place x xs places r below same put =
     let is : (x.id == r) ≡ true = eq-eqb x.id r same in
@@ -259,7 +268,8 @@ put_other place x xs places r ne put =
     let is : (x.id == r) ≡ false = ne_eqb x.id r ne in
     let c : count_by (is_record r) (x ∷ xs) ≡ cond (x.id == r) 1 0 + count_by (is_record r) xs = count_cons (is_record r) x xs in
     let none : count_by (is_record r) (x ∷ xs) ≡ 0 + count_by (is_record r) xs = c ∙ ap (λ (b : Bool). cond b 1 0 + count_by (is_record r) xs) is in
-    let kept : slice_index_or (slice_set places x.id place) r Free ≡ slice_index_or places r Free = get_or-set_other places x.id r place Free (λ e. ne (sym e)) in
+    let kept : slice_index_or (slice_set places x.id place) r Free ≡ slice_index_or places r Free = get_or-set_other places x.id r place Free (λ e. ne
+    (sym e)) in
     record {
       how = elim put.how [
         | inl h ↦ inl ((let z = h.0 in omega arith), h.1 ∙ kept)
@@ -325,20 +335,24 @@ taken_each s actor p over r low cpu below which =
           (let same : place_at t r ≡ place_at s r = h.1 in
           elim which [
             | inl here ↦
-                (let changed : cpu_at t actor ≡ taken (cpu_at s actor) = cpu_changed actor (moved actor s) (taken (cpu_at s actor)) (rw (p.cpus_are, ← here) below) in
+                (let changed : cpu_at t actor ≡ taken (cpu_at s actor) = cpu_changed actor (moved actor s) (taken (cpu_at s actor)) (rw
+                (p.cpus_are, ← here) below) in
                 let old : PlacedAt (place_at s r) r cpu (cpu_at s cpu) = p.each r low cpu below in
                 rw (same, here, changed) (taken_other (place_at s r) r actor (cpu_at s actor) o.1 h.0 (rw here at old)))
-            | inr ne ↦ (let kept : cpu_at t cpu ≡ cpu_at s cpu = cpu_kept cpu actor (moved actor s) (taken (cpu_at s actor)) ne in rw (same, kept) (p.each r low cpu below))
+            | inr ne ↦ (let kept : cpu_at t cpu ≡ cpu_at s cpu = cpu_kept cpu actor (moved actor s) (taken (cpu_at s actor)) ne in rw (same, kept)
+                (p.each r low cpu below))
           ])
       | inr h ↦
           (let same : place_at t r ≡ Batch actor = h.1 in
           let actor_below = has_below s actor r p h.0 in
           let was : place_at s r ≡ Queue actor =
-          queue_is (place_at s r) actor (one_is (is_queue (place_at s r) actor) (one_count (in_queue r (cpu_at s actor)) (is_queue (place_at s r) actor) h.0 (p.each r low actor actor_below).queue)) in
+          queue_is (place_at s r) actor (one_is (is_queue (place_at s r) actor) (one_count (in_queue r (cpu_at s actor)) (is_queue (place_at s r) actor) h.0
+          (p.each r low actor actor_below).queue)) in
           let old : PlacedAt (place_at s r) r cpu (cpu_at s cpu) = p.each r low cpu below in
           elim which [
             | inl here ↦
-                (let changed : cpu_at t actor ≡ taken (cpu_at s actor) = cpu_changed actor (moved actor s) (taken (cpu_at s actor)) (rw (p.cpus_are, ← here) below) in
+                (let changed : cpu_at t actor ≡ taken (cpu_at s actor) = cpu_changed actor (moved actor s) (taken (cpu_at s actor)) (rw
+                (p.cpus_are, ← here) below) in
                 rw (same, here, changed) (taken_here r actor (cpu_at s actor) (rw (was, here) at old)))
             | inr ne ↦
                 (let kept : cpu_at t cpu ≡ cpu_at s cpu = cpu_kept cpu actor (moved actor s) (taken (cpu_at s actor)) ne in

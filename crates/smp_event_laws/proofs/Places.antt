@@ -78,17 +78,22 @@ rests_here was now false true e = omega arith
 rests_here was now false false e = omega arith
 
 -- the record that moves, at the CPU that acts
-shifted_here : (id : ℕ) (from to : Kind) (cpu : ℕ) (a b : CpuState) → Shift id from to a b → PlacedAt (place_of from cpu) id cpu a → PlacedAt (place_of to cpu) id cpu b
+shifted_here : (id : ℕ) (from to : Kind) (cpu : ℕ) (a b : CpuState) → Shift id from to a b → PlacedAt (place_of from cpu) id cpu a →
+    PlacedAt (place_of to cpu) id cpu b
 shifted_here id from to cpu a b s p =
     let same : (id == id) ≡ true = eq-eqb id id refl in
     record {
-      queue = moves_here (in_queue id a) (in_queue id b) (at_queue from) (at_queue to) (rw same at (s.queue id)) (p.queue ∙ ap one_if (queue_here from cpu)) ∙ ap one_if (sym (queue_here to cpu));
-      batch = moves_here (in_batch id a) (in_batch id b) (at_batch from) (at_batch to) (rw same at (s.batch id)) (p.batch ∙ ap one_if (batch_here from cpu)) ∙ ap one_if (sym (batch_here to cpu));
-      run = moves_here (in_run id a) (in_run id b) (at_run from) (at_run to) (rw same at (s.run id)) (p.run ∙ ap one_if (run_here from cpu)) ∙ ap one_if (sym (run_here to cpu));
+      queue = moves_here (in_queue id a) (in_queue id b) (at_queue from) (at_queue to) (rw same at (s.queue id)) (p.queue ∙
+          ap one_if (queue_here from cpu)) ∙ ap one_if (sym (queue_here to cpu));
+      batch = moves_here (in_batch id a) (in_batch id b) (at_batch from) (at_batch to) (rw same at (s.batch id)) (p.batch ∙
+          ap one_if (batch_here from cpu)) ∙ ap one_if (sym (batch_here to cpu));
+      run = moves_here (in_run id a) (in_run id b) (at_run from) (at_run to) (rw same at (s.run id)) (p.run ∙ ap one_if (run_here from cpu)) ∙
+          ap one_if (sym (run_here to cpu));
     }
 
 -- another record
-shifted_other : (r id : ℕ) (from to : Kind) (place : Place) (cpu : ℕ) (a b : CpuState) → r ≢ id → Shift id from to a b → PlacedAt place r cpu a → PlacedAt place r cpu b
+shifted_other : (r id : ℕ) (from to : Kind) (place : Place) (cpu : ℕ) (a b : CpuState) → r ≢ id → Shift id from to a b → PlacedAt place r cpu a →
+    PlacedAt place r cpu b
 shifted_other r id from to place cpu a b ne s p =
     let other : (id == r) ≡ false = ne_eqb id r (λ e. ne (sym e)) in
     record {
@@ -98,7 +103,8 @@ shifted_other r id from to place cpu a b ne s p =
     }
 
 -- the record that moves, at another CPU
-pub shifted_away : (id : ℕ) (from to : Kind) (cpu other : ℕ) (a : CpuState) → cpu ≢ other → PlacedAt (place_of from other) id cpu a → PlacedAt (place_of to other) id cpu a
+pub shifted_away : (id : ℕ) (from to : Kind) (cpu other : ℕ) (a : CpuState) → cpu ≢ other → PlacedAt (place_of from other) id cpu a →
+    PlacedAt (place_of to other) id cpu a
 shifted_away id from to cpu other a ne p = record {
   queue = p.queue ∙ ap one_if (queue_elsewhere from cpu other ne) ∙ ap one_if (sym (queue_elsewhere to cpu other ne));
   batch = p.batch ∙ ap one_if (batch_elsewhere from cpu other ne) ∙ ap one_if (sym (batch_elsewhere to cpu other ne));
@@ -107,7 +113,8 @@ shifted_away id from to cpu other a ne p = record {
 
 shifted_each : (s : StateValue) (actor id : ℕ) (from to : Kind) (c : CpuState) → Placed s → Shift id from to (cpu_at s actor) c
     → (id < 65536 → place_at s id ≡ place_of from actor) → (r : ℕ) → r < 65536 → (cpu : ℕ) → cpu < 32
-    → let t = with_place id (place_of to actor) (with_cpu actor s c) in r ≡ id ⊎ r ≢ id → cpu ≡ actor ⊎ cpu ≢ actor → PlacedAt (place_at t r) r cpu (cpu_at t cpu)
+    → let t = with_place id (place_of to actor) (with_cpu actor s c) in r ≡ id ⊎ r ≢ id → cpu ≡ actor ⊎ cpu ≢ actor →
+    PlacedAt (place_at t r) r cpu (cpu_at t cpu)
 shifted_each s actor id from to c p sh at r low cpu below (inl same) (inl here) =
     let t = with_place id (place_of to actor) (with_cpu actor s c) in
     let low_id : id < 65536 = rw (← same) low in
@@ -147,7 +154,8 @@ pub async_kept : (s : StateValue) (actor : ℕ) (c : CpuState) → Placed s → 
     → IsUnlockedAsync (cpu_at (with_cpu actor s c) cpu)
 async_kept s actor c p async cpu below (inl here) =
     let changed : cpu_at (with_cpu actor s c) actor ≡ c = cpu_changed actor s c (rw (p.cpus_are, ← here) below) in rw (here, changed) async
-async_kept s actor c p async cpu below (inr ne) = let kept : cpu_at (with_cpu actor s c) cpu ≡ cpu_at s cpu = cpu_kept cpu actor s c ne in rw kept (p.async cpu below)
+async_kept s actor c p async cpu below (inr ne) = let kept : cpu_at (with_cpu actor s c) cpu ≡ cpu_at s cpu = cpu_kept cpu actor s c ne in rw kept
+    (p.async cpu below)
 
 -- a record moves from a place that is known
 pub placed_shift : (s : StateValue) (actor id : ℕ) (from to : Kind) (c : CpuState) → Placed s → Shift id from to (cpu_at s actor) c
@@ -197,15 +205,20 @@ left_one was now e = omega arith
 pub place_before : (place : Place) (id actor : ℕ) (from to : Kind) (a c : CpuState) → PlacedAt place id actor a → Shift id from to a c → leaves from to ≡ true
     → place ≡ place_of from actor
 place_before place id actor InQueue Nowhere a c p s e =
-    let same : (id == id) ≡ true = eq-eqb id id refl in queue_is place actor (one_is (is_queue place actor) (rw p.queue at (left_one (in_queue id a) (in_queue id c) (rw same at (s.queue id)))))
+    let same : (id == id) ≡ true = eq-eqb id id refl in queue_is place actor (one_is (is_queue place actor) (rw p.queue at (left_one (in_queue id a)
+    (in_queue id c) (rw same at (s.queue id)))))
 place_before place id actor InQueue Running a c p s e =
-    let same : (id == id) ≡ true = eq-eqb id id refl in queue_is place actor (one_is (is_queue place actor) (rw p.queue at (left_one (in_queue id a) (in_queue id c) (rw same at (s.queue id)))))
+    let same : (id == id) ≡ true = eq-eqb id id refl in queue_is place actor (one_is (is_queue place actor) (rw p.queue at (left_one (in_queue id a)
+    (in_queue id c) (rw same at (s.queue id)))))
 place_before place id actor InBatch Nowhere a c p s e =
-    let same : (id == id) ≡ true = eq-eqb id id refl in batch_is place actor (one_is (is_batch place actor) (rw p.batch at (left_one (in_batch id a) (in_batch id c) (rw same at (s.batch id)))))
+    let same : (id == id) ≡ true = eq-eqb id id refl in batch_is place actor (one_is (is_batch place actor) (rw p.batch at (left_one (in_batch id a)
+    (in_batch id c) (rw same at (s.batch id)))))
 place_before place id actor InBatch Running a c p s e =
-    let same : (id == id) ≡ true = eq-eqb id id refl in batch_is place actor (one_is (is_batch place actor) (rw p.batch at (left_one (in_batch id a) (in_batch id c) (rw same at (s.batch id)))))
+    let same : (id == id) ≡ true = eq-eqb id id refl in batch_is place actor (one_is (is_batch place actor) (rw p.batch at (left_one (in_batch id a)
+    (in_batch id c) (rw same at (s.batch id)))))
 place_before place id actor Running Nowhere a c p s e =
-    let same : (id == id) ≡ true = eq-eqb id id refl in run_is place actor (one_is (is_run place actor) (rw p.run at (left_one (in_run id a) (in_run id c) (rw same at (s.run id)))))
+    let same : (id == id) ≡ true = eq-eqb id id refl in run_is place actor (one_is (is_run place actor) (rw p.run at (left_one (in_run id a) (in_run id c)
+    (rw same at (s.run id)))))
 place_before place id actor Nowhere to a c p s e = absurd cc
 place_before place id actor InQueue InQueue a c p s e = absurd cc
 place_before place id actor InQueue InBatch a c p s e = absurd cc
@@ -247,13 +260,15 @@ still_at place r id cpu a c s p = record {
   run = rests_here (in_run r a) (in_run r c) false false (s.run r) ∙ p.run;
 }
 
-still_each : (s : StateValue) (actor id : ℕ) (c : CpuState) → Placed s → Shift id Nowhere Nowhere (cpu_at s actor) c → (r : ℕ) → r < 65536 → (cpu : ℕ) → cpu < 32
+still_each : (s : StateValue) (actor id : ℕ) (c : CpuState) → Placed s → Shift id Nowhere Nowhere (cpu_at s actor) c → (r : ℕ) → r < 65536 → (cpu : ℕ) →
+    cpu < 32
     → cpu ≡ actor ⊎ cpu ≢ actor → PlacedAt (place_at s r) r cpu (cpu_at (with_cpu actor s c) cpu)
 still_each s actor id c p sh r low cpu below (inl here) =
     let changed : cpu_at (with_cpu actor s c) actor ≡ c = cpu_changed actor s c (rw (p.cpus_are, ← here) below) in
     let old : PlacedAt (place_at s r) r cpu (cpu_at s cpu) = p.each r low cpu below in
     rw (here, changed) (still_at (place_at s r) r id actor (cpu_at s actor) c sh (rw here at old))
-still_each s actor id c p sh r low cpu below (inr ne) = let kept : cpu_at (with_cpu actor s c) cpu ≡ cpu_at s cpu = cpu_kept cpu actor s c ne in rw kept (p.each r low cpu below)
+still_each s actor id c p sh r low cpu below (inr ne) = let kept : cpu_at (with_cpu actor s c) cpu ≡ cpu_at s cpu = cpu_kept cpu actor s c ne in rw kept
+    (p.each r low cpu below)
 
 -- no record moves
 pub placed_still : (s : StateValue) (actor id : ℕ) (c : CpuState) → Placed s → Shift id Nowhere Nowhere (cpu_at s actor) c → Placed (with_cpu actor s c)
@@ -271,6 +286,7 @@ placed_keeps s t p k = record {
   each = λ r low cpu below.
       let c = k.calls cpu (rw p.cpus_are below) in
       let same : t.places ≡ s.places = k.places_are in
-      rw same (still_at (place_at s r) r 0 cpu (cpu_at s cpu) (cpu_at t cpu) (stays 0 (cpu_at s cpu) (cpu_at t cpu) c (p.async cpu below)) (p.each r low cpu below));
+      rw same (still_at (place_at s r) r 0 cpu (cpu_at s cpu) (cpu_at t cpu) (stays 0 (cpu_at s cpu) (cpu_at t cpu) c (p.async cpu below))
+      (p.each r low cpu below));
   async = λ cpu below. (stays 0 (cpu_at s cpu) (cpu_at t cpu) (k.calls cpu (rw p.cpus_are below)) (p.async cpu below)).async;
 }

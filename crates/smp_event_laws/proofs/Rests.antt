@@ -1,5 +1,6 @@
 -- Events of calls leave stops as they are, and a CPU whose interrupts are off handles nothing.
-use Rattle.std.proofs.Common.{◌≡◌, ℕ, ◌<◌, Bool, true, false, not, ◌&&◌, if◌then◌else◌, List, [], ◌∷◌, length, Option, Some, None, is_some, Result, Ok, Err, refl, ap, ◌∙◌, subst, inl, inr}
+use Rattle.std.proofs.Common.{◌≡◌, ℕ, ◌<◌, Bool, true, false, not, ◌&&◌, if◌then◌else◌, List, [], ◌∷◌, length, Option, Some, None, is_some, Result, Ok, Err}
+use Rattle.std.proofs.Common.{refl, ap, ◌∙◌, subst, inl, inr}
 use Rattle.std.specs.Prelude.{◌==◌, nat_lt}
 use Rattle.std.specs.List.{remove}
 use Rattle.std.proofs.lemmas.Bool.{cases_eq}
@@ -19,10 +20,16 @@ use Rattle.smp_event_steps.specs.declared.event.CallEvent.TheVariants as calls
 use Rattle.smp_event_steps.specs.declared.event.Event.TheVariants as event
 use Rattle.smp_event_steps.specs.declared.reason.Reason.{Reason}
 use Rattle.smp_event_steps.specs.declared.reason.Reason.TheVariants as reason
-use Rattle.smp_event_steps.specs.Calls.{begin_by, end_by, entered_by, freed_if, idle_by, joined, moved, on_cpu, placed_unless, queue_by, send_by, take_by, unlock_by}
-use Rattle.smp_event_steps.specs.Cpu.{CpuState, accepted, after_end, at_call, begun, begun_any, begun_at, begun_front, begun_loose, begun_with, call_at, counted, ended, ended_at, ended_with, front_of, handles_nothing, interrupted, is_async, is_empty, is_of, is_sync, left_batch, loose_with, may_take, not_over, noted, over_with, place_in, pushed, quiet_with, runs_locked, sent, slipped_any, slipped_at, slipped_from_batch, slipped_from_queue, slipped_front, taken, unlocked, unlocked_front, unlocked_running, unlocked_with}
+use Rattle.smp_event_steps.specs.Calls.{begin_by, end_by, entered_by, freed_if, idle_by, joined, moved, on_cpu, placed_unless, queue_by, send_by, take_by}
+use Rattle.smp_event_steps.specs.Calls.{unlock_by}
+use Rattle.smp_event_steps.specs.Cpu.{CpuState, accepted, after_end, at_call, begun, begun_any, begun_at, begun_front, begun_loose, begun_with, call_at}
+use Rattle.smp_event_steps.specs.Cpu.{counted, ended, ended_at, ended_with, front_of, handles_nothing, interrupted, is_async, is_empty, is_of, is_sync}
+use Rattle.smp_event_steps.specs.Cpu.{left_batch, loose_with, may_take, not_over, noted, over_with, place_in, pushed, quiet_with, runs_locked, sent}
+use Rattle.smp_event_steps.specs.Cpu.{slipped_any, slipped_at, slipped_from_batch, slipped_from_queue, slipped_front, taken, unlocked, unlocked_front}
+use Rattle.smp_event_steps.specs.Cpu.{unlocked_running, unlocked_with}
 use Rattle.smp_event_steps.specs.Places.{is_batch}
-use Rattle.smp_event_steps.specs.State.{StateValue, cpu_at, freed, freed_by, freed_from, place_at, place_reason, slip_in, slipped, slipped_at as slipped_state, with_cpu, with_place}
+use Rattle.smp_event_steps.specs.State.{StateValue, cpu_at, freed, freed_by, freed_from, place_at, place_reason, slip_in, slipped, slipped_at as slipped_state}
+use Rattle.smp_event_steps.specs.State.{with_cpu, with_place}
 use Rattle.smp_event_steps.specs.Step.{call_goes, goes}
 use Rattle.smp_event_laws.proofs.Binds.{both_made, passed, failed}
 use Rattle.smp_event_laws.proofs.CallEvents.{made_on_cpu}
@@ -42,7 +49,8 @@ pub rests_same : (a : CpuState) → Rests a a
 rests_same a = record { inside = refl; irq = refl; quiet = λ off q. q }
 
 -- where nothing is handled, no call that was taken is left
-idle_with : (current : Option Current) (batch : List Call) (accepted : Bool) → quiet_with (over_with current batch) accepted ≡ Ok tt → (current ≡ None) × (batch ≡ [])
+idle_with : (current : Option Current) (batch : List Call) (accepted : Bool) → quiet_with (over_with current batch) accepted ≡ Ok tt → (current ≡ None) ×
+    (batch ≡ [])
 idle_with (Some x) batch accepted e = absurd cc
 idle_with None (x ∷ xs) accepted e = absurd cc
 idle_with None [] accepted e = (refl, refl)
@@ -82,7 +90,8 @@ rests_running Runs Sync r elsewhere x a b is e = absurd cc
 rests_running Runs Async r elsewhere x a b is e = absurd cc
 rests_running Unlocked class r elsewhere x a b is e = absurd cc
 
-front_left : (r : ℕ) (here : Bool) (elsewhere : Reason) (a : CpuState) (front : Call) → front_of r here elsewhere a.batch ≡ Ok front → handles_nothing a ≡ Ok tt → ⊥
+front_left : (r : ℕ) (here : Bool) (elsewhere : Reason) (a : CpuState) (front : Call) → front_of r here elsewhere a.batch ≡ Ok front →
+    handles_nothing a ≡ Ok tt → ⊥
 front_left r true elsewhere a front e q = let i = idle_is a q in let none : front_of r true elsewhere [] ≡ Ok front = rw i.1 at e in cc
 front_left r false elsewhere a front e q = cc
 
@@ -102,7 +111,8 @@ rests_unlocked r here elsewhere a b e = rests_with a.current r here elsewhere a 
 rests_on : (a b : CpuState) → a.irq ≡ true → b.inside ≡ a.inside → b.irq ≡ a.irq → Rests a b
 rests_on a b on inside irq = record { inside = inside; irq = irq; quiet = λ off x. absurd (needs_irq a.irq on off) }
 
-rests_begun_at : (progress : Progress) (id func info : ℕ) (call : Call) (a b : CpuState) → a.irq ≡ true → begun_at progress (record { id = id; func = func; info = info }) call a ≡ Ok b → Rests a b
+rests_begun_at : (progress : Progress) (id func info : ℕ) (call : Call) (a b : CpuState) → a.irq ≡ true →
+    begun_at progress (record { id = id; func = func; info = info }) call a ≡ Ok b → Rests a b
 rests_begun_at Unlocked id func info call a b on e =
     let c = record a { current = at_call Runs call } in
     let p = passed (call.id == id) (is_of (record { id = id; func = func; info = info }) call >>= λ u. Ok c) (reason.ComesFirst call.id) b e in
@@ -117,31 +127,38 @@ rests_begun_with (Some x) id func info here elsewhere unlocks a b on e = rests_b
 rests_begun_with None id func info here elsewhere unlocks a b on e =
     let n = both_made (front_of id here elsewhere a.batch) (begun_front (record { id = id; func = func; info = info }) unlocks a) b e in
     let c = left_batch Runs n.0 a in
-    let m = both_made (is_of (record { id = id; func = func; info = info }) n.0) (λ u. if is_async n.0.class && unlocks then Err (reason.IsLocked id) else Ok c) b n.1.1 in
+    let m = both_made (is_of (record { id = id; func = func; info = info }) n.0) (λ u. if is_async n.0.class && unlocks then Err
+    (reason.IsLocked id) else Ok c) b n.1.1 in
     let p = failed (is_async n.0.class && unlocks) (Ok c) (reason.IsLocked id) b m.1.1 in
     rests_end a c b (cc) (rests_on a c on refl refl)
 
-rests_begun : (id func info : ℕ) (here : Bool) (elsewhere : Reason) (unlocks : Bool) (a b : CpuState) → begun (record { id = id; func = func; info = info }) here elsewhere unlocks a ≡ Ok b → Rests a b
+rests_begun : (id func info : ℕ) (here : Bool) (elsewhere : Reason) (unlocks : Bool) (a b : CpuState) →
+    begun (record { id = id; func = func; info = info }) here elsewhere unlocks a ≡ Ok b → Rests a b
 rests_begun id func info here elsewhere unlocks a b e =
     let p = passed a.irq (begun_with a.current (record { id = id; func = func; info = info }) here elsewhere unlocks a) reason.InterruptsOff b e in
     rests_begun_with a.current id func info here elsewhere unlocks a b p.0 p.1
 
-rests_any : (id func info : ℕ) (elsewhere : Reason) (a b : CpuState) (at : Option ℕ) (found : Option Call) → a.irq ≡ true → begun_any (record { id = id; func = func; info = info }) a at found elsewhere ≡ Ok b → Rests a b
+rests_any : (id func info : ℕ) (elsewhere : Reason) (a b : CpuState) (at : Option ℕ) (found : Option Call) → a.irq ≡ true →
+    begun_any (record { id = id; func = func; info = info }) a at found elsewhere ≡ Ok b → Rests a b
 rests_any id func info elsewhere a b (Some n) (Some call) on e =
     let c = record a { queue = remove a.queue n; current = at_call Runs call } in
     let m = both_made (is_of (record { id = id; func = func; info = info }) call) (λ u. Ok c) b e in rests_end a c b (cc) (rests_on a c on refl refl)
 rests_any id func info elsewhere a b None found on e = absurd cc
 rests_any id func info elsewhere a b (Some n) None on e = absurd cc
 
-rests_loose_with : (current : Option Current) (id func info : ℕ) (elsewhere : Reason) (a b : CpuState) → a.irq ≡ true → loose_with current (record { id = id; func = func; info = info }) elsewhere a ≡ Ok b → Rests a b
+rests_loose_with : (current : Option Current) (id func info : ℕ) (elsewhere : Reason) (a b : CpuState) → a.irq ≡ true →
+    loose_with current (record { id = id; func = func; info = info }) elsewhere a ≡ Ok b → Rests a b
 rests_loose_with (Some x) id func info elsewhere a b on e = rests_begun_at x.progress id func info x.call a b on e
 rests_loose_with None id func info elsewhere a b on e = rests_any id func info elsewhere a b (place_in id a.queue) (call_at a.queue (place_in id a.queue)) on e
 
-rests_loose : (id func info : ℕ) (elsewhere : Reason) (a b : CpuState) → begun_loose (record { id = id; func = func; info = info }) elsewhere a ≡ Ok b → Rests a b
+rests_loose : (id func info : ℕ) (elsewhere : Reason) (a b : CpuState) → begun_loose (record { id = id; func = func; info = info }) elsewhere a ≡ Ok b →
+    Rests a b
 rests_loose id func info elsewhere a b e =
-    let p = passed a.irq (loose_with a.current (record { id = id; func = func; info = info }) elsewhere a) reason.InterruptsOff b e in rests_loose_with a.current id func info elsewhere a b p.0 p.1
+    let p = passed a.irq (loose_with a.current
+    (record { id = id; func = func; info = info }) elsewhere a) reason.InterruptsOff b e in rests_loose_with a.current id func info elsewhere a b p.0 p.1
 
-rests_ended_at : (progress : Progress) (call : Call) (r : ℕ) (unlocks : Bool) (x : Current) (a b : CpuState) → a.current ≡ Some x → ended_at progress call r unlocks a ≡ Ok b → Rests a b
+rests_ended_at : (progress : Progress) (call : Call) (r : ℕ) (unlocks : Bool) (x : Current) (a b : CpuState) → a.current ≡ Some x →
+    ended_at progress call r unlocks a ≡ Ok b → Rests a b
 rests_ended_at Runs call r unlocks x a b is e =
     let c = record a { ran = counted call.source a.ran; current = after_end unlocks call } in
     let p = passed (call.id == r) (Ok c) (reason.NotOver call.id) b e in
@@ -149,7 +166,8 @@ rests_ended_at Runs call r unlocks x a b is e =
 rests_ended_at Unlocked call r unlocks x a b is e = absurd cc
 rests_ended_at Ended call r unlocks x a b is e = absurd cc
 
-rests_ended_with : (current : Option Current) (r : ℕ) (unlocks : Bool) (a b : CpuState) → a.current ≡ current → ended_with current r unlocks a ≡ Ok b → Rests a b
+rests_ended_with : (current : Option Current) (r : ℕ) (unlocks : Bool) (a b : CpuState) → a.current ≡ current → ended_with current r unlocks a ≡ Ok b →
+    Rests a b
 rests_ended_with None r unlocks a b is e = absurd cc
 rests_ended_with (Some x) r unlocks a b is e = rests_ended_at x.progress x.call r unlocks x a b is e
 
@@ -232,15 +250,18 @@ keeps_then s m t p q = record {
 keeps_refl : (s : StateValue) → KeepsRounds s s
 keeps_refl s = keeps_same s s refl refl refl refl
 
-either_keeps : (s : StateValue) (test : Bool) (x : Bool × StateValue) → KeepsRounds s x.1 → let z : Bool × StateValue = if test then x else (false, s) in KeepsRounds s z.1
+either_keeps : (s : StateValue) (test : Bool) (x : Bool × StateValue) → KeepsRounds s x.1 → let z : Bool ×
+    StateValue = if test then x else (false, s) in KeepsRounds s z.1
 either_keeps s true x k = k
 either_keeps s false x k = keeps_refl s
 
 keeps_slipped_at : (order : Bool) (id : ℕ) (place : Place) (s : StateValue) → KeepsRounds s (slipped_state order id place s).1
 keeps_slipped_at true id (Queue x) s =
-    either_keeps s (nat_lt x 32) (slip_in x s (slipped_from_queue id (cpu_at s x))) (keeps_cpu x s (slipped_from_queue id (cpu_at s x)).1 (rests_from_queue id (cpu_at s x)))
+    either_keeps s (nat_lt x 32) (slip_in x s (slipped_from_queue id (cpu_at s x))) (keeps_cpu x s (slipped_from_queue id (cpu_at s x)).1 (rests_from_queue id
+    (cpu_at s x)))
 keeps_slipped_at false id (Batch x) s =
-    either_keeps s (nat_lt x 32) (slip_in x s (slipped_from_batch id (cpu_at s x))) (keeps_cpu x s (slipped_from_batch id (cpu_at s x)).1 (rests_from_batch id (cpu_at s x)))
+    either_keeps s (nat_lt x 32) (slip_in x s (slipped_from_batch id (cpu_at s x))) (keeps_cpu x s (slipped_from_batch id (cpu_at s x)).1 (rests_from_batch id
+    (cpu_at s x)))
 keeps_slipped_at true id Free s = keeps_refl s
 keeps_slipped_at true id (Batch x) s = keeps_refl s
 keeps_slipped_at true id (Run x) s = keeps_refl s
@@ -273,14 +294,16 @@ keeps_joined call to s =
     let first = is_empty (cpu_at s to).queue in
     let c = noted to first (cpu_at u call.source) in
     keeps_then s m (joined call to s) (keeps_cpu to s (pushed call (cpu_at s to)) (record { inside = refl; irq = refl; quiet = λ off q. q }))
-    (keeps_then m u (joined call to s) (keeps_same m u refl refl refl refl) (keeps_cpu call.source u c (record { inside = refl; irq = refl; quiet = λ off q. q })))
+    (keeps_then m u (joined call to s) (keeps_same m u refl refl refl refl) (keeps_cpu call.source u c
+    (record { inside = refl; irq = refl; quiet = λ off q. q })))
 
 keeps_queue : (source id to : ℕ) (class : Class) (func info : ℕ) (s t : StateValue)
     → queue_by (record { source = source; id = id; class = class; func = func; info = info }) to s ≡ Ok t → KeepsRounds s t
 unfolding queue_by
 keeps_queue source id to class func info s t e =
     let call : Call = record { source = source; id = id; class = class; func = func; info = info } in
-    let p = passed (has s.setting.online to) (if to == source then Err (reason.IsCaller to) else (freed id s >>= λ m. Ok (joined call to m))) (reason.NotOnline to) t e in
+    let p = passed (has s.setting.online to) (if to == source then Err (reason.IsCaller to) else (freed id s >>= λ m. Ok (joined call to m)))
+    (reason.NotOnline to) t e in
     let q = failed (to == source) (freed id s >>= λ m. Ok (joined call to m)) (reason.IsCaller to) t p.1 in
     let m = both_made (freed id s) (λ m. Ok (joined call to m)) t q.1 in
     keeps_then s m.0 t (keeps_freed id s m.0 m.1.0) (keeps_end m.0 (joined call to m.0) t (cc) (keeps_joined call to m.0))
@@ -295,7 +318,8 @@ keeps_send actor to s t e =
     (keeps_then s m (with_cpu actor m d) (keeps_cpu to s (interrupted (cpu_at s to)) (record { inside = refl; irq = refl; quiet = λ off q. q }))
     (keeps_cpu actor m d (record { inside = refl; irq = refl; quiet = λ off q. q })))
 
-keeps_made : (actor : ℕ) (s t : StateValue) (made : Result CpuState Reason) → on_cpu actor s made ≡ Ok t → ((c : CpuState) → made ≡ Ok c → Rests (cpu_at s actor) c) → KeepsRounds s t
+keeps_made : (actor : ℕ) (s t : StateValue) (made : Result CpuState Reason) → on_cpu actor s made ≡ Ok t → ((c : CpuState) → made ≡ Ok c →
+    Rests (cpu_at s actor) c) → KeepsRounds s t
 keeps_made actor s t made e rests =
     let m = made_on_cpu actor s t made e in keeps_end s (with_cpu actor s m.0) t m.1.1 (keeps_cpu actor s m.0 (rests m.0 m.1.0))
 
@@ -317,9 +341,11 @@ keeps_unlock actor id s t e =
     keeps_then s n.0 t (keeps_made actor s n.0 made n.1.0 (λ c f. rests_unlocked id here elsewhere (cpu_at s actor) c f))
     (keeps_end n.0 (with_place id Free n.0) t (cc) (keeps_same n.0 (with_place id Free n.0) refl refl refl refl))
 
-rests_entered : (order : Bool) (actor : ℕ) (id func info : ℕ) (place : Place) (s : StateValue) (c : CpuState) → entered_by order actor (record { id = id; func = func; info = info }) place s ≡ Ok c → Rests (cpu_at s actor) c
+rests_entered : (order : Bool) (actor : ℕ) (id func info : ℕ) (place : Place) (s : StateValue) (c : CpuState) →
+    entered_by order actor (record { id = id; func = func; info = info }) place s ≡ Ok c → Rests (cpu_at s actor) c
 rests_entered true actor id func info place s c e = rests_loose id func info (place_reason id place) (cpu_at s actor) c e
-rests_entered false actor id func info place s c e = rests_begun id func info (is_batch place actor) (place_reason id place) (not s.setting.without.unlocks) (cpu_at s actor) c e
+rests_entered false actor id func info place s c e = rests_begun id func info (is_batch place actor) (place_reason id place) (not s.setting.without.unlocks)
+    (cpu_at s actor) c e
 
 keeps_placed : (unless : Bool) (actor id : ℕ) (s : StateValue) → KeepsRounds s (placed_unless unless actor id s)
 keeps_placed true actor id s = keeps_refl s

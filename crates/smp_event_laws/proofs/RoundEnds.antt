@@ -1,5 +1,6 @@
 -- A function runs, a CPU completes, and a source opens a stop and collects: what holds of CPUs in stops still does.
-use Rattle.std.proofs.Common.{◌≡◌, ℕ, zero, suc, ◌+◌, ◌<◌, ◌≤◌, ◌≢◌, Bool, true, false, not, ◌&&◌, if◌then◌else◌, Option, Some, None, is_none, Result, Ok, Err, refl, ap, ◌∙◌, sym, arith, inl, inr}
+use Rattle.std.proofs.Common.{◌≡◌, ℕ, zero, suc, ◌+◌, ◌<◌, ◌≤◌, ◌≢◌, Bool, true, false, not, ◌&&◌, if◌then◌else◌, Option, Some, None, is_none, Result, Ok, Err}
+use Rattle.std.proofs.Common.{refl, ap, ◌∙◌, sym, arith, inl, inr}
 use Rattle.std.specs.Prelude.{ℤ, ◌==◌, slice_set, slice_index_or}
 use Rattle.std.specs.Ordering.{int_eq}
 use Rattle.std.proofs.lemmas.Bool.{cases_eq, cases_lt, eqb-true, eq-eqb, ne_eqb, and_parts}
@@ -15,7 +16,8 @@ use Rattle.smp_event_steps.specs.declared.stop.Task.{Task}
 use Rattle.smp_event_steps.specs.declared.without.Setting.{Setting}
 use Rattle.smp_event_steps.specs.Cpu.{in_stop}
 use Rattle.smp_event_steps.specs.State.{StateValue, cpu_at, stop_at, with_stop}
-use Rattle.smp_event_steps.specs.Stop.{acked_by, answer_of, answer_wanted, collected, collected_with, completed, first_from, first_phase, gives, has_run, is_work, least, offline_in, may_complete, may_run, opened, opening, ran_function, through, unfinished, unless_offline}
+use Rattle.smp_event_steps.specs.Stop.{acked_by, answer_of, answer_wanted, collected, collected_with, completed, first_from, first_phase, gives, has_run}
+use Rattle.smp_event_steps.specs.Stop.{is_work, least, offline_in, may_complete, may_run, opened, opening, ran_function, through, unfinished, unless_offline}
 use Rattle.smp_event_steps.specs.Stops.{collect_by, complete_by, may_open, on_stop, open_by, run_as, run_by, stop_of, with_inside}
 use Rattle.smp_event_laws.specs.Rounds.{Seen}
 use Rattle.smp_event_laws.proofs.Binds.{both_made, passed, failed}
@@ -26,7 +28,8 @@ abbrev pub ran_seen : Seen → Seen
 ran_seen v = record v { ran = true }
 
 -- A function runs: what is changed.
-ran_change : (seen : ℕ → Seen) (work : ℕ → Option Task) (s : StateValue) (source actor : ℕ) → Rounds seen work s → source < 32 → (cpu_at s actor).inside ≡ Some source
+ran_change : (seen : ℕ → Seen) (work : ℕ → Option Task) (s : StateValue) (source actor : ℕ) → Rounds seen work s → source < 32 →
+    (cpu_at s actor).inside ≡ Some source
     → let stop = stop_at s source in
     Change seen work s source actor ran_seen (record stop { ran = slice_set stop.ran actor true }) (cpu_at s actor)
 ran_change seen work s source actor r low is =
@@ -47,11 +50,14 @@ ran_change seen work s source actor r low is =
       };
       cpu_is = record { quiet = q.quiet; below = q.below; inside_is = q.inside_is; irq_is = q.irq_is };
       others = λ cpu cpu_low ne.
-          let kept : slice_index_or (slice_set stop.ran actor true) cpu false ≡ slice_index_or stop.ran cpu false = get_or-set_other stop.ran actor cpu true false ne in
-          view_same s.setting.without.raises source cpu (seen cpu) (member_of cpu stop) (member_of cpu (record stop { ran = slice_set stop.ran actor true })) (cpu_at s cpu).inside (cpu_at s cpu).irq
+          let kept : slice_index_or (slice_set stop.ran actor true) cpu false ≡ slice_index_or stop.ran cpu false =
+          get_or-set_other stop.ran actor cpu true false ne in
+          view_same s.setting.without.raises source cpu (seen cpu) (member_of cpu stop) (member_of cpu (record stop { ran = slice_set stop.ran actor true }))
+          (cpu_at s cpu).inside (cpu_at s cpu).irq
           (rw kept refl) (r.at source low cpu cpu_low);
       elsewhere = λ other other_low ne.
-          away_same s.setting.without.raises source other actor (seen actor) (ran_seen (seen actor)) (member_of actor (stop_at s other)) (cpu_at s actor).inside (cpu_at s actor).irq (cpu_at s actor).irq is ne
+          away_same s.setting.without.raises source other actor (seen actor) (ran_seen (seen actor)) (member_of actor (stop_at s other))
+          (cpu_at s actor).inside (cpu_at s actor).irq (cpu_at s actor).irq is ne
           (r.at other other_low actor below);
       here = record {
         in_stop = λ e. record { is_open = here.is_open; entered = here.entered; unanswered = here.unanswered; member = here.member };
@@ -72,7 +78,8 @@ ran_change seen work s source actor r low is =
 change_stop : (seen : ℕ → Seen) (work : ℕ → Option Task) (s : StateValue) (source actor : ℕ) (f : Seen → Seen) (stop : Stop) → Rounds seen work s
     → Change seen work s source actor f stop (cpu_at s actor) → Rounds (put_seen actor f seen) work (with_stop source s stop)
 change_stop seen work s source actor f stop r ch =
-    rounds_end (put_seen actor f seen) work (changed_to source actor s stop (cpu_at s actor)) (with_stop source s stop) (cpu_same actor (with_stop source s stop))
+    rounds_end (put_seen actor f seen) work (changed_to source actor s stop (cpu_at s actor)) (with_stop source s stop) (cpu_same actor
+    (with_stop source s stop))
     (changed seen work s source actor f stop (cpu_at s actor) r ch)
 
 -- What a function that runs shows.
@@ -145,7 +152,8 @@ completed_change seen work s source actor answer r low is past =
     let st = r.stop source low in
     let q = r.cpu actor below in
     let here = old.in_stop is in
-    let now : slice_index_or (slice_set stop.answers actor (Some answer)) actor None ≡ Some answer = get_or-set_same stop.answers actor (Some answer) None (rw st.answers_are below) in
+    let now : slice_index_or (slice_set stop.answers actor (Some answer)) actor None ≡ Some answer = get_or-set_same stop.answers actor (Some answer) None
+    (rw st.answers_are below) in
     record {
       stop_is = record {
         entered_are = st.entered_are;
@@ -156,11 +164,16 @@ completed_change seen work s source actor answer r low is past =
       };
       cpu_is = record { quiet = q.quiet; below = λ x e. absurd cc; inside_is = refl; irq_is = q.irq_is };
       others = λ cpu cpu_low ne.
-          let kept : slice_index_or (slice_set stop.answers actor (Some answer)) cpu None ≡ slice_index_or stop.answers cpu None = get_or-set_other stop.answers actor cpu (Some answer) None ne in
-          view_same s.setting.without.raises source cpu (seen cpu) (member_of cpu stop) (member_of cpu (record stop { answers = slice_set stop.answers actor (Some answer) })) (cpu_at s cpu).inside (cpu_at s cpu).irq
+          let kept : slice_index_or (slice_set stop.answers actor
+          (Some answer)) cpu None ≡ slice_index_or stop.answers cpu None = get_or-set_other stop.answers actor cpu (Some answer) None ne in
+          view_same s.setting.without.raises source cpu (seen cpu) (member_of cpu stop) (member_of cpu (record stop {
+            answers = slice_set stop.answers actor
+                (Some answer);
+          })) (cpu_at s cpu).inside (cpu_at s cpu).irq
           (rw kept refl) (r.at source low cpu cpu_low);
       elsewhere = λ other other_low ne.
-          away_left s.setting.without.raises source other actor (seen actor) (left_seen (seen actor)) (member_of actor (stop_at s other)) (cpu_at s actor).inside (cpu_at s actor).irq (cpu_at s actor).irq is ne
+          away_left s.setting.without.raises source other actor (seen actor) (left_seen (seen actor)) (member_of actor (stop_at s other))
+          (cpu_at s actor).inside (cpu_at s actor).irq (cpu_at s actor).irq is ne
           (r.at other other_low actor below);
       here = record {
         in_stop = λ e. absurd cc;
@@ -177,10 +190,13 @@ completed_change seen work s source actor answer r low is past =
       };
     }
 
-may_complete_past : (kind : Kind) (cpu : ℕ) (irq : Bool) (stop : Stop) (u : Unit {0}) → may_complete kind cpu irq stop ≡ Ok u → is_round kind ≡ true → 4 ≤ acked_by stop cpu
+may_complete_past : (kind : Kind) (cpu : ℕ) (irq : Bool) (stop : Stop) (u : Unit {0}) → may_complete kind cpu irq stop ≡ Ok u → is_round kind ≡ true →
+    4 ≤ acked_by stop cpu
 may_complete_past One cpu irq stop u e k = absurd cc
-may_complete_past Multi cpu irq stop u e k = let m = both_made (through stop cpu) (λ x. if irq then Ok tt else Err reason.InterruptsOff) u e in through_is stop cpu m.0 m.1.0
-may_complete_past APatch cpu irq stop u e k = let m = both_made (through stop cpu) (λ x. if irq then Ok tt else Err reason.InterruptsOff) u e in through_is stop cpu m.0 m.1.0
+may_complete_past Multi cpu irq stop u e k = let m = both_made (through stop cpu)
+    (λ x. if irq then Ok tt else Err reason.InterruptsOff) u e in through_is stop cpu m.0 m.1.0
+may_complete_past APatch cpu irq stop u e k = let m = both_made (through stop cpu)
+    (λ x. if irq then Ok tt else Err reason.InterruptsOff) u e in through_is stop cpu m.0 m.1.0
 
 pub completed_is : (stop to : Stop) (cpu : ℕ) (answer : ℤ) (irq : Bool) → completed cpu answer irq stop ≡ Ok to
     → (is_round stop.task.kind ≡ true → 4 ≤ acked_by stop cpu) × (record stop { answers = slice_set stop.answers cpu (Some answer) } ≡ to)
@@ -192,7 +208,8 @@ completed_is stop to cpu answer irq e =
     let p = failed test (Ok new) (reason.AnswerIs (answer_wanted stop cpu)) to m.1.1 in
     (may_complete_past stop.task.kind cpu irq stop m.0 m.1.0, cc)
 
-pub complete_rounds : (seen : ℕ → Seen) (work : ℕ → Option Task) (s t : StateValue) (actor : ℕ) (answer : ℤ) → Rounds seen work s → complete_by actor answer s ≡ Ok t
+pub complete_rounds : (seen : ℕ → Seen) (work : ℕ → Option Task) (s t : StateValue) (actor : ℕ) (answer : ℤ) → Rounds seen work s →
+    complete_by actor answer s ≡ Ok t
     → Rounds (put_seen actor left_seen seen) work t
 unfolding complete_by
 complete_rounds seen work s t actor answer r e =
@@ -227,7 +244,8 @@ first_none passes c (suc more) e n le lt =
 pub least_none : (passes : ℕ → Bool) → least passes ≡ None → (n : ℕ) → n < 32 → passes n ≡ false
 least_none passes e n below = first_none passes 0 32 e n (omega arith) (omega arith)
 
-pub collected_is : (who : Option ℕ) (stop to : Stop) (answer : ℤ) → collected_with who answer stop ≡ Ok to → (who ≡ None) × (record stop { is_open = false } ≡ to)
+pub collected_is : (who : Option ℕ) (stop to : Stop) (answer : ℤ) → collected_with who answer stop ≡ Ok to → (who ≡ None) ×
+    (record stop { is_open = false } ≡ to)
 collected_is (Some c) stop to answer e = absurd cc
 collected_is None stop to answer e =
     let p = passed (gives stop answer) (Ok (record stop { is_open = false })) (reason.AnswersDoNotGive answer) to e in (refl, cc)
@@ -238,7 +256,8 @@ none_is None false e m n = cc
 none_is (Some x) mask e m n = cc
 
 -- A stop is closed: what is changed.
-closed_change : (seen : ℕ → Seen) (work : ℕ → Option Task) (s : StateValue) (source : ℕ) → Rounds seen work s → source < 32 → unfinished (stop_at s source) ≡ None
+closed_change : (seen : ℕ → Seen) (work : ℕ → Option Task) (s : StateValue) (source : ℕ) → Rounds seen work s → source < 32 →
+    unfinished (stop_at s source) ≡ None
     → StopChange seen (work source) s source (record (stop_at s source) { is_open = false })
 closed_change seen work s source r low none =
     let stop = stop_at s source in
@@ -248,7 +267,8 @@ closed_change seen work s source r low none =
       each = λ cpu below.
           let old = r.at source low cpu below in
           let over = least_none (λ c. has stop.task.mask c && is_none (answer_of stop c)) none cpu below in
-          let gone = λ (e : (cpu_at s cpu).inside ≡ Some source). let i = old.in_stop e in none_is (answer_of stop cpu) (has stop.task.mask cpu) over i.member i.unanswered in
+          let gone = λ (e : (cpu_at s cpu).inside ≡ Some source). let i = old.in_stop e in none_is (answer_of stop cpu)
+          (has stop.task.mask cpu) over i.member i.unanswered in
           record {
             in_stop = λ e. absurd (gone e);
             is_in = λ o e n. absurd cc;
@@ -264,7 +284,8 @@ closed_change seen work s source r low none =
           };
     }
 
-pub collect_rounds : (seen : ℕ → Seen) (work : ℕ → Option Task) (s t : StateValue) (source : ℕ) (answer : ℤ) → Rounds seen work s → collect_by source answer s ≡ Ok t
+pub collect_rounds : (seen : ℕ → Seen) (work : ℕ → Option Task) (s t : StateValue) (source : ℕ) (answer : ℤ) → Rounds seen work s →
+    collect_by source answer s ≡ Ok t
     → Rounds seen work t
 unfolding collect_by collected
 collect_rounds seen work s t source answer r e =
@@ -294,7 +315,8 @@ first_low One h = omega arith
 first_low Multi h = omega arith
 first_low APatch h = omega arith
 
-opened_change : (seen : ℕ → Seen) (work : ℕ → Option Task) (s : StateValue) (source : ℕ) (task : Task) → Rounds seen work s → source < 32 → (stop_at s source).is_open ≡ false
+opened_change : (seen : ℕ → Seen) (work : ℕ → Option Task) (s : StateValue) (source : ℕ) (task : Task) → Rounds seen work s → source < 32 →
+    (stop_at s source).is_open ≡ false
     → StopChange seen (Some task) s source (opening task)
 opened_change seen work s source task r low shut =
     let stop = stop_at s source in
@@ -342,7 +364,8 @@ work_elsewhere source task work other ne = let t : (source == other) ≡ false =
 opened_past : (seen : ℕ → Seen) (work : ℕ → Option Task) (s : StateValue) (source : ℕ) (task : Task) → Rounds seen work s → 32 ≤ source
     → Rounds seen (put_work source task work) (with_stop source s (opening task))
 opened_past seen work s source task r past =
-    let same : with_stop source s (opening task) ≡ s = ap (λ stops. record s { stops = stops }) (set_past s.stops source (opening task) (rw r.stops_are past)) in
+    let same : with_stop source s (opening task) ≡ s = ap (λ stops. record s { stops = stops }) (set_past s.stops source (opening task)
+    (rw r.stops_are past)) in
     rounds_end seen (put_work source task work) s (with_stop source s (opening task)) (sym same) (record {
       cpus_are = r.cpus_are;
       stops_are = r.stops_are;
@@ -364,6 +387,7 @@ open_rounds seen work s t source task r e =
     rounds_end seen (put_work source task work) (with_stop source s (opening task)) t (ap (λ x. with_stop source s x) o ∙ cc)
     (elim (cases_lt source 32) [
       | inl low ↦ (let w : put_work source task work source ≡ Some task = work_here source task work in
-          stop_only seen work (put_work source task work) s source (opening task) r (rw w (opened_change seen work s source task r low p.0)) (work_elsewhere source task work))
+          stop_only seen work (put_work source task work) s source (opening task) r (rw w (opened_change seen work s source task r low p.0))
+          (work_elsewhere source task work))
       | inr past ↦ opened_past seen work s source task r past
     ])

@@ -1,5 +1,6 @@
 -- Each event of stops keeps what holds of CPUs in stops.
-use Rattle.std.proofs.Common.{◌≡◌, ℕ, ◌-◌, ◌<◌, ◌≤◌, ◌≢◌, ◌⊎◌, Bool, true, false, not, ◌&&◌, if◌then◌else◌, length, Option, Some, None, Result, Ok, Err, refl, ap, ◌∙◌, sym, subst, arith, inl, inr}
+use Rattle.std.proofs.Common.{◌≡◌, ℕ, ◌-◌, ◌<◌, ◌≤◌, ◌≢◌, ◌⊎◌, Bool, true, false, not, ◌&&◌, if◌then◌else◌, length, Option, Some, None, Result, Ok, Err, refl}
+use Rattle.std.proofs.Common.{ap, ◌∙◌, sym, subst, arith, inl, inr}
 use Rattle.std.specs.Prelude.{◌==◌, nat_lt, nat_le, slice_set, slice_index_or}
 use Rattle.std.proofs.lemmas.Bool.{cases_lt, eqb-true, ltb-true, ltb-false, lt-ltb, leb-false, and_parts}
 use Rattle.std.proofs.lemmas.List.{get_or-set_same, get_or-set_other, get_or_past, length-set, set-get_or, set_past}
@@ -14,7 +15,8 @@ use Rattle.smp_event_steps.specs.declared.stop.Task.{Task}
 use Rattle.smp_event_steps.specs.Cpu.{fresh_cpu, handles_nothing, in_stop, with_interrupts}
 use Rattle.smp_event_steps.specs.State.{StateValue, cpu_at, stop_at, with_cpu, with_stop}
 use Rattle.smp_event_steps.specs.Stop.{acked_by, at_phase, closed, entered, is_called, is_cpu, late, through, waits_for}
-use Rattle.smp_event_steps.specs.Stops.{enter_by, enter_from, entered_open, in_round, may_off, off_by, on_by, on_stop, stop_in, stop_of, unless_one, with_inside, with_irq}
+use Rattle.smp_event_steps.specs.Stops.{enter_by, enter_from, entered_open, in_round, may_off, off_by, on_by, on_stop, stop_in, stop_of, unless_one}
+use Rattle.smp_event_steps.specs.Stops.{with_inside, with_irq}
 use Rattle.smp_event_laws.specs.Rounds.{Seen}
 use Rattle.smp_event_laws.proofs.Binds.{both_made, passed, failed}
 use Rattle.smp_event_laws.proofs.Rounds.{seen_elsewhere, Change, Member, RoundAt, Rounds, changed, changed_to, is_round, member_of, put_seen}
@@ -61,7 +63,8 @@ pub other_stop : (inside : Option ℕ) (source other : ℕ) → inside ≡ Some 
 other_stop inside source other is ne e = ne (let f : Some other ≡ Some source = sym e ∙ is in cc)
 
 -- of a CPU in one stop, other stops stay as they were
-pub away_same : (left_out : Bool) (source other cpu : ℕ) (v v' : Seen) (w : Member) (inside : Option ℕ) (irq irq' : Bool) → inside ≡ Some source → other ≢ source
+pub away_same : (left_out : Bool) (source other cpu : ℕ) (v v' : Seen) (w : Member) (inside : Option ℕ) (irq irq' : Bool) → inside ≡ Some source →
+    other ≢ source
     → RoundAt left_out other cpu v w inside irq → RoundAt left_out other cpu v' w inside irq'
 away_same left_out source other cpu v v' w inside irq irq' is ne r = record {
   in_stop = r.in_stop;
@@ -78,7 +81,8 @@ away_same left_out source other cpu v v' w inside irq irq' is ne r = record {
 }
 
 -- when it leaves
-pub away_left : (left_out : Bool) (source other cpu : ℕ) (v v' : Seen) (w : Member) (inside : Option ℕ) (irq irq' : Bool) → inside ≡ Some source → other ≢ source
+pub away_left : (left_out : Bool) (source other cpu : ℕ) (v v' : Seen) (w : Member) (inside : Option ℕ) (irq irq' : Bool) → inside ≡ Some source →
+    other ≢ source
     → RoundAt left_out other cpu v w inside irq → RoundAt left_out other cpu v' w None irq'
 away_left left_out source other cpu v v' w inside irq irq' is ne r = record {
   in_stop = λ e. absurd cc;
@@ -115,7 +119,8 @@ away_entered left_out source other cpu v v' w inside irq irq' is ne r = record {
 pub rounds_end : (seen : ℕ → Seen) (work : ℕ → Option Task) (s t : StateValue) → s ≡ t → Rounds seen work s → Rounds seen work t
 rounds_end seen work s t same r = subst (λ (x : StateValue). Rounds seen work x) same r
 
-pub view_same : (left_out : Bool) (source cpu : ℕ) (v : Seen) (w w' : Member) (inside : Option ℕ) (irq : Bool) → w ≡ w' → RoundAt left_out source cpu v w inside irq
+pub view_same : (left_out : Bool) (source cpu : ℕ) (v : Seen) (w w' : Member) (inside : Option ℕ) (irq : Bool) → w ≡ w' →
+    RoundAt left_out source cpu v w inside irq
     → RoundAt left_out source cpu v w' inside irq
 view_same left_out source cpu v w w' inside irq same r = subst (λ (x : Member). RoundAt left_out source cpu v x inside irq) same r
 
@@ -170,11 +175,14 @@ entered_change seen work s source actor r low below none opened_is called =
         irq_is = q.irq_is;
       };
       others = λ cpu cpu_low ne.
-          let kept : slice_index_or (slice_set stop.entered actor true) cpu false ≡ slice_index_or stop.entered cpu false = get_or-set_other stop.entered actor cpu true false ne in
-          view_same s.setting.without.raises source cpu (seen cpu) (member_of cpu stop) (member_of cpu (record stop { entered = slice_set stop.entered actor true })) (cpu_at s cpu).inside (cpu_at s cpu).irq
+          let kept : slice_index_or (slice_set stop.entered actor true) cpu false ≡ slice_index_or stop.entered cpu false =
+          get_or-set_other stop.entered actor cpu true false ne in
+          view_same s.setting.without.raises source cpu (seen cpu) (member_of cpu stop) (member_of cpu
+          (record stop { entered = slice_set stop.entered actor true })) (cpu_at s cpu).inside (cpu_at s cpu).irq
           (rw kept refl) (r.at source low cpu cpu_low);
       elsewhere = λ other other_low ne.
-          away_entered s.setting.without.raises source other actor (seen actor) (enters source (seen actor)) (member_of actor (stop_at s other)) (cpu_at s actor).inside (cpu_at s actor).irq (cpu_at s actor).irq none ne
+          away_entered s.setting.without.raises source other actor (seen actor) (enters source (seen actor)) (member_of actor (stop_at s other))
+          (cpu_at s actor).inside (cpu_at s actor).irq (cpu_at s actor).irq none ne
           (r.at other other_low actor below);
       here = record {
         in_stop = λ e. record { is_open = opened_is; entered = now; unanswered = out.unanswered; member = c.0 };
@@ -207,15 +215,18 @@ entered_past : (s : StateValue) (source actor : ℕ) → length (stop_at s sourc
 entered_past s source actor long cpus past =
     let stop = stop_at s source in
     let e : slice_set stop.entered actor true ≡ stop.entered = set_past stop.entered actor true (rw long past) in
-    let m : with_stop source s (record stop { entered = slice_set stop.entered actor true }) ≡ s = ap (λ xs. with_stop source s (record stop { entered = xs })) e ∙ stop_same source s in
-    let c : with_inside actor (Some source) s ≡ s = ap (λ cpus. record s { cpus = cpus }) (set_past s.cpus actor (in_stop (Some source) (cpu_at s actor)) (rw cpus past)) in
+    let m : with_stop source s (record stop { entered = slice_set stop.entered actor true }) ≡ s = ap (λ xs. with_stop source s
+    (record stop { entered = xs })) e ∙ stop_same source s in
+    let c : with_inside actor (Some source) s ≡ s = ap (λ cpus. record s { cpus = cpus }) (set_past s.cpus actor (in_stop (Some source) (cpu_at s actor))
+    (rw cpus past)) in
     ap (λ x. with_inside actor (Some source) x) m ∙ c
 
 seen_past : (actor : ℕ) (f : Seen → Seen) (seen : ℕ → Seen) → 32 ≤ actor → (cpu : ℕ) → cpu < 32 → put_seen actor f seen cpu ≡ seen cpu
 seen_past actor f seen past cpu below = seen_elsewhere actor cpu f seen (λ e. absurd (omega arith))
 
 -- or where the events of each CPU tell the same
-pub rounds_seen : (seen seen' : ℕ → Seen) (work : ℕ → Option Task) (s : StateValue) → ((cpu : ℕ) → cpu < 32 → seen' cpu ≡ seen cpu) → Rounds seen work s → Rounds seen' work s
+pub rounds_seen : (seen seen' : ℕ → Seen) (work : ℕ → Option Task) (s : StateValue) → ((cpu : ℕ) → cpu < 32 → seen' cpu ≡ seen cpu) → Rounds seen work s →
+    Rounds seen' work s
 rounds_seen seen seen' work s same r = record {
   cpus_are = r.cpus_are;
   stops_are = r.stops_are;
@@ -239,7 +250,8 @@ enter_open seen work s t source actor r none e =
     let k = passed (is_called stop actor) (Ok to) (reason.NotCalled actor) n.0 n.1.0 in
     let a : to ≡ n.0 = cc in
     let b : with_stop source s n.0 ≡ m.0 = cc in
-    let same : with_inside actor (Some source) (with_stop source s to) ≡ t = ap (λ x. with_inside actor (Some source) (with_stop source s x)) a ∙ ap (λ x. with_inside actor (Some source) x) b ∙ cc in
+    let same : with_inside actor (Some source) (with_stop source s to) ≡ t = ap (λ x. with_inside actor (Some source) (with_stop source s x)) a ∙
+    ap (λ x. with_inside actor (Some source) x) b ∙ cc in
     rounds_end (put_seen actor (enters source) seen) work (with_inside actor (Some source) (with_stop source s to)) t same
     (elim (cases_lt actor 32) [
       | inl below ↦ changed seen work s source actor (enters source) to (in_stop (Some source) (cpu_at s actor)) r
@@ -252,7 +264,8 @@ enter_open seen work s t source actor r none e =
 any_below : (seen : ℕ → Seen) (work : ℕ → Option Task) (s : StateValue) (actor x : ℕ) → Rounds seen work s → (cpu_at s actor).inside ≡ Some x → x < 32
 any_below seen work s actor x r e = (r.cpu actor (actor_below s actor x r.cpus_are e)).below x e
 
-pub enter_as : (seen : ℕ → Seen) (work : ℕ → Option Task) (s t : StateValue) (source actor : ℕ) (inside : Result ℕ Reason) → Rounds seen work s → stop_of actor s ≡ inside
+pub enter_as : (seen : ℕ → Seen) (work : ℕ → Option Task) (s t : StateValue) (source actor : ℕ) (inside : Result ℕ Reason) → Rounds seen work s →
+    stop_of actor s ≡ inside
     → enter_from inside actor source s ≡ Ok t → Rounds (put_seen actor (enters source) seen) work t
 enter_as seen work s t source actor (Ok x) r is e = absurd cc
 enter_as seen work s t source actor (Err why) r is e =
@@ -272,7 +285,8 @@ at_it now phase false false why other u is e = absurd cc
 -- a CPU may act on a phase
 pub acts_at : (stop : Stop) (cpu phase : ℕ) (u : Unit {0}) → at_phase stop cpu phase ≡ Ok u → (acked_by stop cpu < phase) × (stop.phase ≡ phase)
 acts_at stop cpu phase u e =
-    let later : Result (Unit {0}) Reason = if nat_lt (acked_by stop cpu) (phase - 1) then Err (reason.NotAcknowledged cpu (phase - 1)) else Err (waits_for (late stop (phase - 1)) (phase - 1) stop.phase) in
+    let later : Result (Unit {0}) Reason = if nat_lt (acked_by stop cpu) (phase - 1) then Err (reason.NotAcknowledged cpu (phase - 1)) else Err (waits_for
+    (late stop (phase - 1)) (phase - 1) stop.phase) in
     let next : Result (Unit {0}) Reason = if stop.phase == phase then Ok tt else later in
     let p = failed (nat_le phase (acked_by stop cpu)) next (reason.Acknowledged cpu phase) u e in (
       leb-false phase (acked_by stop cpu) p.0,
@@ -306,7 +320,8 @@ irq_change seen work s source actor f on r low is inside irq acked_kept ran_kept
       };
       others = λ cpu cpu_low ne. r.at source low cpu cpu_low;
       elsewhere = λ other other_low ne.
-          away_same s.setting.without.raises source other actor (seen actor) (f (seen actor)) (member_of actor (stop_at s other)) (cpu_at s actor).inside (cpu_at s actor).irq on is ne
+          away_same s.setting.without.raises source other actor (seen actor) (f (seen actor)) (member_of actor (stop_at s other)) (cpu_at s actor).inside
+          (cpu_at s actor).irq on is ne
           (r.at other other_low actor below);
       here = record {
         in_stop = old.in_stop;
@@ -330,7 +345,8 @@ irq_changed seen work s source actor f on r ch =
     (ap (λ x. with_cpu actor x (with_interrupts on (cpu_at s actor))) (stop_same source s))
     (changed seen work s source actor f (stop_at s source) (with_interrupts on (cpu_at s actor)) r ch)
 
-pub off_rounds : (seen : ℕ → Seen) (work : ℕ → Option Task) (s t : StateValue) (actor : ℕ) → Rounds seen work s → off_by actor s ≡ Ok t → Rounds (put_seen actor off_seen seen) work t
+pub off_rounds : (seen : ℕ → Seen) (work : ℕ → Option Task) (s t : StateValue) (actor : ℕ) → Rounds seen work s → off_by actor s ≡ Ok t →
+    Rounds (put_seen actor off_seen seen) work t
 unfolding off_by
 off_rounds seen work s t actor r e =
     let m = both_made (in_round actor s) (λ source. may_off actor source s >>= λ u. Ok (with_irq actor false s)) t e in
@@ -347,7 +363,8 @@ through_is stop cpu u e =
     let next : Result (Unit {0}) Reason = if is_cpu stop.raiser cpu then Err (reason.PhaseIs stop.phase) else Ok tt in
     let p = failed (nat_lt (acked_by stop cpu) 4) next (reason.NotAcknowledged cpu 4) u e in ltb-false (acked_by stop cpu) 4 p.0
 
-pub on_rounds : (seen : ℕ → Seen) (work : ℕ → Option Task) (s t : StateValue) (actor : ℕ) → Rounds seen work s → on_by actor s ≡ Ok t → Rounds (put_seen actor on_seen seen) work t
+pub on_rounds : (seen : ℕ → Seen) (work : ℕ → Option Task) (s t : StateValue) (actor : ℕ) → Rounds seen work s → on_by actor s ≡ Ok t →
+    Rounds (put_seen actor on_seen seen) work t
 unfolding on_by
 on_rounds seen work s t actor r e =
     let next = λ (source : ℕ). through (stop_at s source) actor >>= λ u. Ok (with_irq actor true s) in
@@ -357,4 +374,5 @@ on_rounds seen work s t actor r e =
     let n = both_made (through (stop_at s m.0) actor) (λ u. Ok (with_irq actor true s)) t p.1 in
     rounds_end (put_seen actor on_seen seen) work (with_irq actor true s) t (cc)
     (irq_changed seen work s m.0 actor on_seen true r
-    (irq_change seen work s m.0 actor on_seen true r i.low i.inside refl (λ told. refl) refl refl (λ off. absurd cc) (inr (through_is (stop_at s m.0) actor n.0 n.1.0))))
+    (irq_change seen work s m.0 actor on_seen true r i.low i.inside refl (λ told. refl) refl refl (λ off. absurd cc) (inr (through_is
+    (stop_at s m.0) actor n.0 n.1.0))))

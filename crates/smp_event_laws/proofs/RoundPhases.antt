@@ -1,5 +1,6 @@
 -- A CPU acknowledges a phase, raises it, or stores: what holds of CPUs in stops still does.
-use Rattle.std.proofs.Common.{◌≡◌, ℕ, ◌+◌, ◌-◌, ◌^◌, ◌<◌, ◌≤◌, Bool, true, false, not, ◌&&◌, if◌then◌else◌, min, length, Option, Some, None, is_some, Result, Ok, Err, refl, ap, ◌∙◌, sym, subst, arith, inl, inr}
+use Rattle.std.proofs.Common.{◌≡◌, ℕ, ◌+◌, ◌-◌, ◌^◌, ◌<◌, ◌≤◌, Bool, true, false, not, ◌&&◌, if◌then◌else◌, min, length, Option, Some, None, is_some, Result}
+use Rattle.std.proofs.Common.{Ok, Err, refl, ap, ◌∙◌, sym, subst, arith, inl, inr}
 use Rattle.std.specs.Prelude.{◌==◌, nat_lt}
 use Rattle.std.proofs.lemmas.Bool.{cases_eq, eqb-true, eqb-false, ltb-false, eq-eqb}
 use Rattle.std.proofs.lemmas.List.{get_or-set_same, get_or-set_other, length-set}
@@ -17,13 +18,16 @@ use Rattle.smp_event_steps.specs.declared.without.Setting.{Setting}
 use Rattle.smp_event_steps.specs.Cpu.{handles_nothing, with_interrupts}
 use Rattle.smp_event_steps.specs.State.{StateValue, cpu_at, stop_at, with_stop}
 use Rattle.smp_event_steps.specs.Stop.{acked_by, acknowledged, at_last, at_phase, has_run, is_cpu, late, raised, raised_by, with_acked}
-use Rattle.smp_event_steps.specs.Stops.{ack_by, acked, acks_as, acks_at_run, acks_disabled, if_patch, in_patch, in_round, is_store, made_store, may_ack, next_store, on_stop, patch_by, patch_left, patch_over, raise_by, stop_of, switched_at, switched_on, with_irq, with_patch, with_word}
+use Rattle.smp_event_steps.specs.Stops.{ack_by, acked, acks_as, acks_at_run, acks_disabled, if_patch, in_patch, in_round, is_store, made_store, may_ack}
+use Rattle.smp_event_steps.specs.Stops.{next_store, on_stop, patch_by, patch_left, patch_over, raise_by, stop_of, switched_at, switched_on, with_irq}
+use Rattle.smp_event_steps.specs.Stops.{with_patch, with_word}
 use Rattle.smp_event_steps.specs.Labels.{popped, to_be}
 use Rattle.smp_event_laws.specs.Rounds.{Seen}
 use Rattle.smp_event_laws.proofs.Binds.{both_made, passed}
 use Rattle.smp_event_laws.proofs.Rounds.{Change, Member, RoundAt, Rounds, StopAt, StopChange, changed, changed_to, member_of, put_seen, stop_only, stop_changed}
 use Rattle.smp_event_laws.proofs.RoundEnds.{least_none}
-use Rattle.smp_event_laws.proofs.RoundEvents.{InRound, actor_below, acts_at, away_same, cpu_same, in_round_is, irq_change, irq_changed, ne_truth, rounds_end, rounds_seen, stop_of_is, view_same}
+use Rattle.smp_event_laws.proofs.RoundEvents.{InRound, actor_below, acts_at, away_same, cpu_same, in_round_is, irq_change, irq_changed, ne_truth, rounds_end}
+use Rattle.smp_event_laws.proofs.RoundEvents.{rounds_seen, stop_of_is, view_same}
 
 abbrev pub acked_seen : ℕ → Seen → Seen
 acked_seen phase v = record v { acked = phase }
@@ -38,11 +42,13 @@ patch_change seen work s source patch r low =
       each = λ cpu below. r.at source low cpu below;
     }
 
-patch_rounds : (seen : ℕ → Seen) (work : ℕ → Option Task) (s : StateValue) (source : ℕ) (patch : Patch) → Rounds seen work s → source < 32 → Rounds seen work (with_patch source patch s)
+patch_rounds : (seen : ℕ → Seen) (work : ℕ → Option Task) (s : StateValue) (source : ℕ) (patch : Patch) → Rounds seen work s → source < 32 →
+    Rounds seen work (with_patch source patch s)
 patch_rounds seen work s source patch r low =
     stop_only seen work work s source (record (stop_at s source) { patch = Some patch }) r (patch_change seen work s source patch r low) (λ other ne. refl)
 
-words_rounds : (seen : ℕ → Seen) (work : ℕ → Option Task) (s : StateValue) (place : Place) (word : ℕ) → Rounds seen work s → Rounds seen work (with_word place word s)
+words_rounds : (seen : ℕ → Seen) (work : ℕ → Option Task) (s : StateValue) (place : Place) (word : ℕ) → Rounds seen work s →
+    Rounds seen work (with_word place word s)
 words_rounds seen work s place word r = record { cpus_are = r.cpus_are; stops_are = r.stops_are; at = r.at; cpu = r.cpu; stop = r.stop }
 
 -- A CPU may acknowledge a phase: the state in which it does, where at most a patch is known.
@@ -53,14 +59,18 @@ pub record AckFrom (seen : ℕ → Seen) (work : ℕ → Option Task) (s t : Sta
   pub views : (cpu : ℕ) → member_of cpu (stop_at t source) ≡ member_of cpu (stop_at s source)
 
 from_here : (seen : ℕ → Seen) (work : ℕ → Option Task) (s t : StateValue) (source : ℕ) → s ≡ t → Rounds seen work s → AckFrom seen work s t source
-from_here seen work s t source same r = subst (λ (x : StateValue). AckFrom seen work s x source) same (record { rounds = r; setting_is = refl; cpus_are = refl; views = λ cpu. refl })
+from_here seen work s t source same r = subst (λ (x : StateValue). AckFrom seen work s x source) same
+    (record { rounds = r; setting_is = refl; cpus_are = refl; views = λ cpu. refl })
 
-patched_view : (s : StateValue) (source cpu : ℕ) (patch : Patch) → source < length s.stops → member_of cpu (stop_at (with_patch source patch s) source) ≡ member_of cpu (stop_at s source)
+patched_view : (s : StateValue) (source cpu : ℕ) (patch : Patch) → source < length s.stops →
+    member_of cpu (stop_at (with_patch source patch s) source) ≡ member_of cpu (stop_at s source)
 patched_view s source cpu patch low =
-    let st : stop_at (with_patch source patch s) source ≡ record (stop_at s source) { patch = Some patch } = stop_changed source s (record (stop_at s source) { patch = Some patch }) low in
+    let st : stop_at (with_patch source patch s) source ≡ record (stop_at s source) { patch = Some patch } = stop_changed source s (record
+    (stop_at s source) { patch = Some patch }) low in
     ap (λ x. member_of cpu x) st
 
-from_patch : (seen : ℕ → Seen) (work : ℕ → Option Task) (next : Option (Place × ℕ)) (source : ℕ) (patch : Patch) (s t : StateValue) → Rounds seen work s → source < 32
+from_patch : (seen : ℕ → Seen) (work : ℕ → Option Task) (next : Option (Place × ℕ)) (source : ℕ) (patch : Patch) (s t : StateValue) → Rounds seen work s →
+    source < 32
     → patch_over next source patch s ≡ Ok t → AckFrom seen work s t source
 from_patch seen work (Some next) source patch s t r low e = absurd cc
 from_patch seen work None source patch s t r low e =
@@ -93,7 +103,8 @@ from_tests seen work false false cpu source s t r low e = (from_here seen work s
 abbrev acked_member : ℕ → Member → Member
 acked_member phase w = record w { acked = phase }
 
-here_acked : (left_out : Bool) (source cpu phase : ℕ) (v : Seen) (w : Member) (inside : Option ℕ) (irq irq' : Bool) → inside ≡ Some source → w.phase ≡ phase → w.acked < phase
+here_acked : (left_out : Bool) (source cpu phase : ℕ) (v : Seen) (w : Member) (inside : Option ℕ) (irq irq' : Bool) → inside ≡ Some source →
+    w.phase ≡ phase → w.acked < phase
     → (2 ≤ phase → phase < 4 → irq' ≡ false) → RoundAt left_out source cpu v w inside irq
     → RoundAt left_out source cpu (acked_seen phase v) (acked_member phase w) inside irq'
 here_acked left_out source cpu phase v w inside irq irq' is at more off r =
@@ -167,7 +178,8 @@ last_member (Some other) actor left_out w = w
 last_member None actor false w = raiser_member actor w
 last_member None actor true w = grown_member w
 
-last_view : (who : Option ℕ) (actor : ℕ) (left_out : Bool) (stop : Stop) (cpu : ℕ) → member_of cpu (at_last who actor (not left_out) stop) ≡ last_member who actor left_out (member_of cpu stop)
+last_view : (who : Option ℕ) (actor : ℕ) (left_out : Bool) (stop : Stop) (cpu : ℕ) →
+    member_of cpu (at_last who actor (not left_out) stop) ≡ last_member who actor left_out (member_of cpu stop)
 last_view (Some other) actor left_out stop cpu = refl
 last_view None actor false stop cpu = refl
 last_view None actor true stop cpu = refl
@@ -186,15 +198,18 @@ late_none stop phase cpu none below m =
 
 at_last_long : (who : Option ℕ) (actor : ℕ) (raises : Bool) (stop : Stop) (w : Option Task) → StopAt w stop → StopAt w (at_last who actor raises stop)
 at_last_long (Some other) actor raises stop w s = s
-at_last_long None actor true stop w s = record { entered_are = s.entered_are; acked_are = s.acked_are; ran_are = s.ran_are; answers_are = s.answers_are; work_is = s.work_is }
-at_last_long None actor false stop w s = record { entered_are = s.entered_are; acked_are = s.acked_are; ran_are = s.ran_are; answers_are = s.answers_are; work_is = s.work_is }
+at_last_long None actor true stop w s =
+    record { entered_are = s.entered_are; acked_are = s.acked_are; ran_are = s.ran_are; answers_are = s.answers_are; work_is = s.work_is }
+at_last_long None actor false stop w s =
+    record { entered_are = s.entered_are; acked_are = s.acked_are; ran_are = s.ran_are; answers_are = s.answers_are; work_is = s.work_is }
 
 -- A CPU acknowledges a phase, and its interrupts are so after it: what is changed.
 ack_change : (seen : ℕ → Seen) (work : ℕ → Option Task) (s : StateValue) (source actor phase : ℕ) (irq : Bool) → Rounds seen work s → source < 32
     → (cpu_at s actor).inside ≡ Some source → (stop_at s source).phase ≡ phase → acked_by (stop_at s source) actor < phase
     → (2 ≤ phase → phase < 4 → irq ≡ false) → (irq ≡ false → handles_nothing (cpu_at s actor) ≡ Ok tt)
     → (s.setting.without.switches ≡ false → irq ≡ (cpu_at s actor).irq)
-    → Change seen work s source actor (acked_seen phase) (acknowledged actor phase (not s.setting.without.raises) (stop_at s source)) (with_interrupts irq (cpu_at s actor))
+    → Change seen work s source actor (acked_seen phase) (acknowledged actor phase (not s.setting.without.raises) (stop_at s source)) (with_interrupts irq
+    (cpu_at s actor))
 unfolding acknowledged
 ack_change seen work s source actor phase irq r low is at more off quiet told =
     let stop = stop_at s source in
@@ -219,18 +234,24 @@ ack_change seen work s source actor phase irq r low is at more off quiet told =
       others = λ cpu cpu_low ne.
           let kept : acked_by mid cpu ≡ acked_by stop cpu = get_or-set_other stop.acked actor cpu phase 0 ne in
           let same : member_of cpu stop ≡ member_of cpu mid = rw kept refl in
-          let old = view_same left_out source cpu (seen cpu) (member_of cpu stop) (member_of cpu mid) (cpu_at s cpu).inside (cpu_at s cpu).irq same (r.at source low cpu cpu_low) in
-          view_same left_out source cpu (seen cpu) (last_member who actor left_out (member_of cpu mid)) (member_of cpu (at_last who actor (not left_out) mid)) (cpu_at s cpu).inside (cpu_at s cpu).irq
+          let old = view_same left_out source cpu (seen cpu) (member_of cpu stop) (member_of cpu mid) (cpu_at s cpu).inside (cpu_at s cpu).irq same
+          (r.at source low cpu cpu_low) in
+          view_same left_out source cpu (seen cpu) (last_member who actor left_out (member_of cpu mid)) (member_of cpu (at_last who actor (not left_out) mid))
+          (cpu_at s cpu).inside (cpu_at s cpu).irq
           (sym (last_view who actor left_out mid cpu))
           (last_round who left_out source cpu actor (seen cpu) (member_of cpu mid) (cpu_at s cpu).inside (cpu_at s cpu).irq
           (λ none m. rw at (late_none mid phase cpu none cpu_low m)) old);
       elsewhere = λ other other_low ne.
-          away_same left_out source other actor (seen actor) (acked_seen phase (seen actor)) (member_of actor (stop_at s other)) (cpu_at s actor).inside (cpu_at s actor).irq irq is ne
+          away_same left_out source other actor (seen actor) (acked_seen phase (seen actor)) (member_of actor (stop_at s other)) (cpu_at s actor).inside
+          (cpu_at s actor).irq irq is ne
           (r.at other other_low actor below);
       here =
-          let acked = here_acked left_out source actor phase (seen actor) (member_of actor stop) (cpu_at s actor).inside (cpu_at s actor).irq irq is at more off (r.at source low actor below) in
-          let old = view_same left_out source actor (acked_seen phase (seen actor)) (acked_member phase (member_of actor stop)) (member_of actor mid) (cpu_at s actor).inside irq view acked in
-          view_same left_out source actor (acked_seen phase (seen actor)) (last_member who actor left_out (member_of actor mid)) (member_of actor (at_last who actor (not left_out) mid)) (cpu_at s actor).inside irq
+          let acked = here_acked left_out source actor phase (seen actor) (member_of actor stop) (cpu_at s actor).inside
+          (cpu_at s actor).irq irq is at more off (r.at source low actor below) in
+          let old = view_same left_out source actor (acked_seen phase (seen actor)) (acked_member phase (member_of actor stop)) (member_of actor mid)
+          (cpu_at s actor).inside irq view acked in
+          view_same left_out source actor (acked_seen phase (seen actor)) (last_member who actor left_out (member_of actor mid)) (member_of actor
+          (at_last who actor (not left_out) mid)) (cpu_at s actor).inside irq
           (sym (last_view who actor left_out mid actor))
           (last_round who left_out source actor actor (acked_seen phase (seen actor)) (member_of actor mid) (cpu_at s actor).inside irq
           (λ none m. rw at (late_none mid phase actor none below m)) old);
@@ -274,7 +295,8 @@ disabled_by false s m cpu cpus e = rw cpus e
 -- interrupts stay as they are
 ack_same : (seen : ℕ → Seen) (work : ℕ → Option Task) (s t : StateValue) (source actor phase : ℕ) → Rounds seen work s → InRound s actor source
     → (stop_at s source).phase ≡ phase → acked_by (stop_at s source) actor < phase → (phase ≡ 2 → (cpu_at s actor).irq ≡ false)
-    → with_stop source s (acknowledged actor phase (not s.setting.without.raises) (stop_at s source)) ≡ t → Rounds (put_seen actor (acked_seen phase) seen) work t
+    → with_stop source s (acknowledged actor phase (not s.setting.without.raises) (stop_at s source)) ≡ t →
+    Rounds (put_seen actor (acked_seen phase) seen) work t
 ack_same seen work s t source actor phase r i at more two same =
     let below = actor_below s actor source r.cpus_are i.inside in
     let m = with_stop source s (acknowledged actor phase (not s.setting.without.raises) (stop_at s source)) in
@@ -282,14 +304,17 @@ ack_same seen work s t source actor phase r i at more two same =
     (λ le lt. elim (cases_eq phase 2) [ inl e ↦ two e | inr ne ↦ off_before seen work s source actor phase r i at more (omega arith) (omega arith) ])
     (r.cpu actor below).quiet (λ told. refl) (cpu_same actor m ∙ same)
 
-ack_switched : (seen : ℕ → Seen) (work : ℕ → Option Task) (s t : StateValue) (source actor phase : ℕ) (two four : Bool) → Rounds seen work s → InRound s actor source
-    → (stop_at s source).phase ≡ phase → acked_by (stop_at s source) actor < phase → s.setting.without.switches ≡ true → (phase == 2) ≡ two → (phase == 4) ≡ four
+ack_switched : (seen : ℕ → Seen) (work : ℕ → Option Task) (s t : StateValue) (source actor phase : ℕ) (two four : Bool) → Rounds seen work s →
+    InRound s actor source
+    → (stop_at s source).phase ≡ phase → acked_by (stop_at s source) actor < phase → s.setting.without.switches ≡ true → (phase == 2) ≡ two →
+    (phase == 4) ≡ four
     → (two ≡ true → handles_nothing (cpu_at s actor) ≡ Ok tt)
     → let m = with_stop source s (acknowledged actor phase (not s.setting.without.raises) (stop_at s source)) in
     (if two then with_irq actor false m else (if four then with_irq actor (not (is_cpu (stop_at m source).raiser actor)) m else m)) ≡ t
     → Rounds (put_seen actor (acked_seen phase) seen) work t
 ack_switched seen work s t source actor phase true four r i at more out is_two is_four idle same =
-    ack_done seen work s t source actor phase false r i.low i.inside at more (λ le lt. refl) (λ e. idle refl) (λ told. absurd (ne_truth s.setting.without.switches out told)) same
+    ack_done seen work s t source actor phase false r i.low i.inside at more (λ le lt. refl) (λ e. idle refl) (λ told. absurd
+    (ne_truth s.setting.without.switches out told)) same
 ack_switched seen work s t source actor phase false true r i at more out is_two is_four idle same =
     let m = with_stop source s (acknowledged actor phase (not s.setting.without.raises) (stop_at s source)) in
     let e : phase ≡ 4 = eqb-true phase 4 is_four in
@@ -300,7 +325,8 @@ ack_switched seen work s t source actor phase false true r i at more out is_two 
 ack_switched seen work s t source actor phase false false r i at more out is_two is_four idle same =
     ack_same seen work s t source actor phase r i at more (λ e. absurd (eqb-false phase 2 is_two e)) same
 
-ack_by_switches : (seen : ℕ → Seen) (work : ℕ → Option Task) (s t : StateValue) (source actor phase : ℕ) (left_out : Bool) → Rounds seen work s → InRound s actor source
+ack_by_switches : (seen : ℕ → Seen) (work : ℕ → Option Task) (s t : StateValue) (source actor phase : ℕ) (left_out : Bool) → Rounds seen work s →
+    InRound s actor source
     → (stop_at s source).phase ≡ phase → acked_by (stop_at s source) actor < phase → s.setting.without.switches ≡ left_out
     → ((phase == 2) ≡ true → acks_disabled left_out actor s ≡ Ok tt)
     → let m = with_stop source s (acknowledged actor phase (not s.setting.without.raises) (stop_at s source)) in
@@ -319,7 +345,8 @@ disabled_in s m cpu cpus set e =
 -- at the state where a patch is known
 ack_from : (seen : ℕ → Seen) (work : ℕ → Option Task) (s m t : StateValue) (source actor phase : ℕ) → InRound s actor source → AckFrom seen work s m source
     → (stop_at s source).phase ≡ phase → acked_by (stop_at s source) actor < phase
-    → ((phase == 2) ≡ true → acks_disabled s.setting.without.switches actor s ≡ Ok tt) → acked actor source phase m ≡ t → Rounds (put_seen actor (acked_seen phase) seen) work t
+    → ((phase == 2) ≡ true → acks_disabled s.setting.without.switches actor s ≡ Ok tt) → acked actor source phase m ≡ t →
+    Rounds (put_seen actor (acked_seen phase) seen) work t
 ack_from seen work s m t source actor phase i f at more shows same =
     let cpus : m.cpus ≡ s.cpus = f.cpus_are in
     let set : m.setting ≡ s.setting = f.setting_is in
@@ -378,7 +405,8 @@ raise_change seen work s source phase r low raiser at =
     let st = r.stop source low in
     record {
       stop_is = record { entered_are = st.entered_are; acked_are = st.acked_are; ran_are = st.ran_are; answers_are = st.answers_are; work_is = st.work_is };
-      each = λ cpu below. raise_round s.setting.without.raises source cpu phase (seen cpu) (member_of cpu stop) (cpu_at s cpu).inside (cpu_at s cpu).irq raiser at (r.at source low cpu below);
+      each = λ cpu below. raise_round s.setting.without.raises source cpu phase (seen cpu) (member_of cpu stop) (cpu_at s cpu).inside
+          (cpu_at s cpu).irq raiser at (r.at source low cpu below);
     }
 
 put_same : (actor : ℕ) (seen : ℕ → Seen) (cpu : ℕ) → seen cpu ≡ put_seen actor (λ v. v) seen cpu
@@ -387,7 +415,8 @@ put_same actor seen cpu = by_test (actor == cpu) (seen cpu) where
   by_test true v = refl
   by_test false v = refl
 
-switched_rounds : (seen : ℕ → Seen) (work : ℕ → Option Task) (s t : StateValue) (source actor phase : ℕ) (left_out five : Bool) → Rounds seen work s → source < 32
+switched_rounds : (seen : ℕ → Seen) (work : ℕ → Option Task) (s t : StateValue) (source actor phase : ℕ) (left_out five : Bool) → Rounds seen work s →
+    source < 32
     → (cpu_at s actor).inside ≡ Some source → s.setting.without.switches ≡ left_out → (phase == 5) ≡ five → phase ≤ acked_by (stop_at s source) actor + 1
     → (if left_out && five then with_irq actor true s else s) ≡ t → Rounds seen work t
 switched_rounds seen work s t source actor phase true true r low is out five at same =
@@ -395,11 +424,13 @@ switched_rounds seen work s t source actor phase true true r low is out five at 
     rounds_end seen work (with_irq actor true s) t same
     (rounds_seen (put_seen actor (λ v. v) seen) seen work (with_irq actor true s) (λ cpu below. put_same actor seen cpu)
     (irq_changed seen work s source actor (λ v. v) true r
-    (irq_change seen work s source actor (λ v. v) true r low is refl (λ told. absurd (ne_truth s.setting.without.switches out told)) refl refl (λ x. absurd cc) (inr (omega arith)))))
+    (irq_change seen work s source actor (λ v. v) true r low is refl (λ told. absurd (ne_truth s.setting.without.switches out told)) refl refl
+    (λ x. absurd cc) (inr (omega arith)))))
 switched_rounds seen work s t source actor phase true false r low is out five at same = rounds_end seen work s t same r
 switched_rounds seen work s t source actor phase false five r low is out is_five at same = rounds_end seen work s t same r
 
-pub raise_rounds : (seen : ℕ → Seen) (work : ℕ → Option Task) (s t : StateValue) (actor phase : ℕ) → Rounds seen work s → raise_by actor phase s ≡ Ok t → Rounds seen work t
+pub raise_rounds : (seen : ℕ → Seen) (work : ℕ → Option Task) (s t : StateValue) (actor phase : ℕ) → Rounds seen work s → raise_by actor phase s ≡ Ok t →
+    Rounds seen work t
 unfolding raise_by raised
 raise_rounds seen work s t actor phase r e =
     let made = λ (source : ℕ). let stop = stop_at s source in
@@ -444,7 +475,8 @@ kind_is_patch Multi source other e = absurd cc
 
 pub in_patch_is : (s : StateValue) (cpu source : ℕ) → in_patch cpu s ≡ Ok source → (i : StoresIn s cpu) × (i.source ≡ source)
 in_patch_is s cpu source e =
-    let after = λ (x : ℕ). let y : Result ℕ Reason = if has (stop_at s x).task.active cpu then (at_phase (stop_at s x) cpu 3 >>= λ u. Ok x) else Err (reason.NotActive cpu) in y in
+    let after = λ (x : ℕ). let y : Result ℕ Reason = if has (stop_at s x).task.active cpu then (at_phase (stop_at s x) cpu 3 >>= λ u. Ok x) else Err
+    (reason.NotActive cpu) in y in
     let m = both_made (stop_of cpu s) (λ x. if_patch (stop_at s x).task.kind x >>= λ patch. after x) source e in
     let o = stop_of_is s cpu m.0 m.1.0 in
     let stop = stop_at s m.0 in
@@ -460,7 +492,8 @@ store_rounds seen work None source patch place word s t r low e = absurd cc
 store_rounds seen work (Some next) source patch place word s t r low e =
     let m = with_word place word s in
     let p = passed (is_store next place word) (Ok (with_patch source (popped patch place) m)) (to_be next) t e in
-    rounds_end seen work (with_patch source (popped patch place) m) t (cc) (patch_rounds seen work m source (popped patch place) (words_rounds seen work s place word r) low)
+    rounds_end seen work (with_patch source (popped patch place) m) t (cc) (patch_rounds seen work m source (popped patch place)
+    (words_rounds seen work s place word r) low)
 
 pub patch_by_rounds : (seen : ℕ → Seen) (work : ℕ → Option Task) (s t : StateValue) (actor : ℕ) (place : Place) (word : ℕ) → Rounds seen work s
     → patch_by actor place word s ≡ Ok t → Rounds seen work t

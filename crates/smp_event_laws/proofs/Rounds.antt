@@ -1,5 +1,6 @@
 -- What holds of each CPU in each stop.
-use Rattle.std.proofs.Common.{◌≡◌, ℕ, ◌+◌, ◌<◌, ◌≤◌, ◌≢◌, ◌⊎◌, Bool, true, false, if◌then◌else◌, length, Option, Some, None, is_some, Ok, refl, ap, ◌∙◌, sym, inl, inr}
+use Rattle.std.proofs.Common.{◌≡◌, ℕ, ◌+◌, ◌<◌, ◌≤◌, ◌≢◌, ◌⊎◌, Bool, true, false, if◌then◌else◌, length, Option, Some, None, is_some, Ok, refl, ap, ◌∙◌, sym}
+use Rattle.std.proofs.Common.{inl, inr}
 use Rattle.std.specs.Prelude.{ℤ, ◌==◌, slice_index_or}
 use Rattle.std.proofs.lemmas.Bool.{cases_eq, eq-eqb, ne_eqb}
 use Rattle.std.proofs.lemmas.List.{get_or-set_same, get_or-set_other, length-set}
@@ -204,7 +205,8 @@ stop_each seen work work' s source stop r ch other low cpu below (inr away) =
     let st : stop_at (with_stop source s stop) other ≡ stop_at s other = stop_kept other source s stop away in rw st (r.at other low cpu below)
 
 stop_work : (seen : ℕ → Seen) (work work' : ℕ → Option Task) (s : StateValue) (source : ℕ) (stop : Stop) → Rounds seen work s
-    → StopChange seen (work' source) s source stop → ((other : ℕ) → other ≢ source → work' other ≡ work other) → (other : ℕ) → other < 32 → other ≡ source ⊎ other ≢ source
+    → StopChange seen (work' source) s source stop → ((other : ℕ) → other ≢ source → work' other ≡ work other) → (other : ℕ) → other < 32 →
+    other ≡ source ⊎ other ≢ source
     → StopAt (work' other) (stop_at (with_stop source s stop) other)
 stop_work seen work work' s source stop r ch kept other low (inl same) =
     let st : stop_at (with_stop source s stop) source ≡ stop = stop_changed source s stop (rw (r.stops_are, ← same) low) in rw (same, st) ch.stop_is

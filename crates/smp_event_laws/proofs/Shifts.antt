@@ -1,5 +1,6 @@
 -- How a step of a CPU moves a record.
-use Rattle.std.proofs.Common.{◌≡◌, ℕ, ◌+◌, ◌⊎◌, Bool, true, false, not, ◌&&◌, cond, if◌then◌else◌, List, [], ◌∷◌, ◌++◌, count_by, Option, Some, None, is_some, Ok, Err, refl, ap, ◌∙◌, subst, arith, IsPermutation, inl, inr}
+use Rattle.std.proofs.Common.{◌≡◌, ℕ, ◌+◌, ◌⊎◌, Bool, true, false, not, ◌&&◌, cond, if◌then◌else◌, List, [], ◌∷◌, ◌++◌, count_by, Option, Some, None, is_some}
+use Rattle.std.proofs.Common.{Ok, Err, refl, ap, ◌∙◌, subst, arith, IsPermutation, inl, inr}
 use Rattle.std.specs.Prelude.{◌==◌}
 use Rattle.std.specs.List.{remove}
 use Rattle.std.proofs.lemmas.Bool.{eqb-true, and_parts}
@@ -15,7 +16,10 @@ use Rattle.smp_event_steps.specs.declared.call.Progress.{Progress}
 use Rattle.smp_event_steps.specs.declared.call.Progress.TheVariants.{Unlocked, Runs, Ended}
 use Rattle.smp_event_steps.specs.declared.reason.Reason.{Reason}
 use Rattle.smp_event_steps.specs.declared.reason.Reason.TheVariants as reason
-use Rattle.smp_event_steps.specs.Cpu.{CpuState, after_end, at_call, begun, begun_any, begun_at, begun_front, begun_loose, begun_with, call_at, counted, ended, ended_at, ended_with, front_of, is_async, is_locked, is_of, is_sync, left_batch, loose_with, place_in, pushed, rest_of, runs_locked, slipped_any, slipped_at, slipped_from_batch, slipped_from_queue, slipped_front, unlocked, unlocked_front, unlocked_running, unlocked_with}
+use Rattle.smp_event_steps.specs.Cpu.{CpuState, after_end, at_call, begun, begun_any, begun_at, begun_front, begun_loose, begun_with, call_at, counted, ended}
+use Rattle.smp_event_steps.specs.Cpu.{ended_at, ended_with, front_of, is_async, is_locked, is_of, is_sync, left_batch, loose_with, place_in, pushed, rest_of}
+use Rattle.smp_event_steps.specs.Cpu.{runs_locked, slipped_any, slipped_at, slipped_from_batch, slipped_from_queue, slipped_front, unlocked, unlocked_front}
+use Rattle.smp_event_steps.specs.Cpu.{unlocked_running, unlocked_with}
 use Rattle.smp_event_laws.specs.Events.{only_if}
 use Rattle.smp_event_laws.specs.Places.{in_batch, in_queue, in_run, is_record, one_if}
 use Rattle.smp_event_laws.proofs.Binds.{both_made, passed, failed}
@@ -93,7 +97,8 @@ stays id a b same async =
 pub shift_pushed : (call : Call) (a : CpuState) → IsUnlockedAsync a → Shift call.id Nowhere InQueue a (pushed call a)
 shift_pushed call a async = record {
   queue = λ r.
-      let e : count_by (is_record r) (a.queue ++ call ∷ []) ≡ count_by (is_record r) a.queue + count_by (is_record r) (call ∷ []) = count_append (is_record r) a.queue (call ∷ []) in
+      let e : count_by (is_record r) (a.queue ++ call ∷ []) ≡ count_by (is_record r) a.queue + count_by (is_record r) (call ∷ []) = count_append
+      (is_record r) a.queue (call ∷ []) in
       let f : count_by (is_record r) (call ∷ []) ≡ cond (call.id == r) 1 0 = count_one (is_record r) call in
       omega arith;
   batch = λ r. refl;
@@ -105,7 +110,8 @@ shift_pushed call a async = record {
 left_count : (batch : List Call) (front : Call) (r : ℕ) → batch ≡ front ∷ rest_of batch
     → count_by (is_record r) (rest_of batch) + cond (front.id == r) 1 0 ≡ count_by (is_record r) batch + 0
 left_count batch front r is =
-    let e : count_by (is_record r) (front ∷ rest_of batch) ≡ cond (front.id == r) 1 0 + count_by (is_record r) (rest_of batch) = count_cons (is_record r) front (rest_of batch) in
+    let e : count_by (is_record r) (front ∷ rest_of batch) ≡ cond (front.id == r) 1 0 + count_by (is_record r) (rest_of batch) = count_cons
+    (is_record r) front (rest_of batch) in
     let f : count_by (is_record r) batch ≡ count_by (is_record r) (front ∷ rest_of batch) = ap (λ xs. count_by (is_record r) xs) is in
     omega arith
 
@@ -123,7 +129,8 @@ abbrev pub run_kind : Class → Kind
 run_kind Sync = Running
 run_kind Async = Nowhere
 
-run_count : (class : Class) (call : Call) (r : ℕ) → count_by (is_record r) (only_if (is_sync class) call) + 0 ≡ 0 + one_if (at_run (run_kind class) && (call.id == r))
+run_count : (class : Class) (call : Call) (r : ℕ) →
+    count_by (is_record r) (only_if (is_sync class) call) + 0 ≡ 0 + one_if (at_run (run_kind class) && (call.id == r))
 run_count Sync call r = let e : count_by (is_record r) (call ∷ []) ≡ cond (call.id == r) 1 0 = count_one (is_record r) call in omega arith
 run_count Async call r = refl
 
@@ -159,14 +166,16 @@ pub record Leaves (id : ℕ) (a b : CpuState) : Type 0 where
   pub is_from : from ≡ InBatch ⊎ from ≡ Running
   pub shift : Shift id from Nowhere a b
 
-leaves_as : (id other : ℕ) (from : Kind) (a b c : CpuState) → from ≡ InBatch ⊎ from ≡ Running → id ≡ other → b ≡ c → Shift id from Nowhere a b → Leaves other a c
+leaves_as : (id other : ℕ) (from : Kind) (a b c : CpuState) → from ≡ InBatch ⊎ from ≡ Running → id ≡ other → b ≡ c → Shift id from Nowhere a b →
+    Leaves other a c
 leaves_as id other from a b c which same end s = record {
   from = from;
   is_from = which;
   shift = subst (λ (x : CpuState). Shift other from Nowhere a x) end (subst (λ (i : ℕ). Shift i from Nowhere a b) same s);
 }
 
-leaves_running : (progress : Progress) (class : Class) (call : Call) (r : ℕ) (elsewhere : Reason) (a b : CpuState) → a.current ≡ at_call progress call → call.id ≡ r
+leaves_running : (progress : Progress) (class : Class) (call : Call) (r : ℕ) (elsewhere : Reason) (a b : CpuState) → a.current ≡ at_call progress call →
+    call.id ≡ r
     → unlocked_running progress class r elsewhere a ≡ Ok b → Leaves r a b
 leaves_running Ended class call r elsewhere a b is id e =
     leaves_as call.id r Running a (record a { current = None }) b (inr refl) id (cc) (record {
@@ -210,7 +219,8 @@ runs_is : (class : Class) → is_locked Runs class ≡ is_sync class
 runs_is Sync = refl
 runs_is Async = refl
 
-enters_as : (call : Call) (other : ℕ) (from : Kind) (a b c : CpuState) → from ≡ InBatch ⊎ from ≡ InQueue → call.id ≡ other → b ≡ c → b.current ≡ at_call Runs call
+enters_as : (call : Call) (other : ℕ) (from : Kind) (a b c : CpuState) → from ≡ InBatch ⊎ from ≡ InQueue → call.id ≡ other → b ≡ c →
+    b.current ≡ at_call Runs call
     → Shift call.id from (run_kind call.class) a b → Enters other a c
 enters_as call other from a b c which same end is s = record {
   from = from;
@@ -256,13 +266,16 @@ enters_front : (unlocks : Bool) (id func info : ℕ) (front : Call) (a b : CpuSt
     → begun_front (record { id = id; func = func; info = info }) unlocks a front ≡ Ok b → Enters id a b
 enters_front unlocks id func info front a b none is same_id e =
     let c = left_batch Runs front a in
-    let m = both_made (is_of (record { id = id; func = func; info = info }) front) (λ u. if is_async front.class && unlocks then Err (reason.IsLocked id) else Ok c) b e in
+    let m = both_made (is_of (record { id = id; func = func; info = info }) front) (λ u. if is_async front.class && unlocks then Err
+    (reason.IsLocked id) else Ok c) b e in
     let p = failed (is_async front.class && unlocks) (Ok c) (reason.IsLocked id) b m.1.1 in
     enters_as front id InBatch a c b (inl refl) same_id (cc) refl (shift_left_running front a none is)
 
-begins_with : (current : Option Current) (id func info : ℕ) (here : Bool) (elsewhere : Reason) (unlocks : Bool) (a b : CpuState) → a.current ≡ current → IsUnlockedAsync a
+begins_with : (current : Option Current) (id func info : ℕ) (here : Bool) (elsewhere : Reason) (unlocks : Bool) (a b : CpuState) → a.current ≡ current →
+    IsUnlockedAsync a
     → begun_with current (record { id = id; func = func; info = info }) here elsewhere unlocks a ≡ Ok b → Begins id a b
-begins_with (Some x) id func info here elsewhere unlocks a b is async e = stays_begun_in x id a b is (stays_begun_at x.progress id func info x.call a b is async e)
+begins_with (Some x) id func info here elsewhere unlocks a b is async e = stays_begun_in x id a b is
+    (stays_begun_at x.progress id func info x.call a b is async e)
 begins_with None id func info here elsewhere unlocks a b is async e =
     let m = both_made (front_of id here elsewhere a.batch) (begun_front (record { id = id; func = func; info = info }) unlocks a) b e in
     let f = front_is id here elsewhere a.batch m.0 m.1.0 in
@@ -278,7 +291,8 @@ begins_begun id func info here elsewhere unlocks a b async e =
 queue_count : (queue rest : List Call) (call : Call) (r : ℕ) → IsPermutation queue (call ∷ rest)
     → count_by (is_record r) rest + cond (call.id == r) 1 0 ≡ count_by (is_record r) queue + 0
 queue_count queue rest call r moves =
-    let e : count_by (is_record r) (call ∷ rest) ≡ count_by (is_record r) queue = sum_by-IsPermutation (λ x. cond (is_record r x) 1 0) queue (call ∷ rest) moves in
+    let e : count_by (is_record r) (call ∷ rest) ≡ count_by (is_record r) queue = sum_by-IsPermutation (λ x. cond (is_record r x) 1 0) queue
+    (call ∷ rest) moves in
     let f : count_by (is_record r) (call ∷ rest) ≡ cond (call.id == r) 1 0 + count_by (is_record r) rest = count_cons (is_record r) call rest in
     omega arith
 
@@ -303,7 +317,8 @@ begins_loose_with (Some x) id func info elsewhere a b is async e = stays_begun_i
 begins_loose_with None id func info elsewhere a b is async e =
     enters_in id a b is (enters_any id func info elsewhere a b (place_in id a.queue) (call_at a.queue (place_in id a.queue)) is refl refl e)
 
-pub begins_loose : (id func info : ℕ) (elsewhere : Reason) (a b : CpuState) → IsUnlockedAsync a → begun_loose (record { id = id; func = func; info = info }) elsewhere a ≡ Ok b → Begins id a b
+pub begins_loose : (id func info : ℕ) (elsewhere : Reason) (a b : CpuState) → IsUnlockedAsync a →
+    begun_loose (record { id = id; func = func; info = info }) elsewhere a ≡ Ok b → Begins id a b
 begins_loose id func info elsewhere a b async e =
     let p = passed a.irq (loose_with a.current (record { id = id; func = func; info = info }) elsewhere a) reason.InterruptsOff b e in
     begins_loose_with a.current id func info elsewhere a b refl async p.1
@@ -340,17 +355,20 @@ ends_as false Sync call a is class = record {
   );
 }
 
-ends_at : (unlocks : Bool) (progress : Progress) (call : Call) (r : ℕ) (a b : CpuState) → a.current ≡ at_call progress call → ended_at progress call r unlocks a ≡ Ok b
+ends_at : (unlocks : Bool) (progress : Progress) (call : Call) (r : ℕ) (a b : CpuState) → a.current ≡ at_call progress call →
+    ended_at progress call r unlocks a ≡ Ok b
     → Ends unlocks r a b
 ends_at unlocks Runs call r a b is e =
     let c = record a { ran = counted call.source a.ran; current = after_end unlocks call } in
     let p = passed (call.id == r) (Ok c) (reason.NotOver call.id) b e in
     let same : c ≡ b = cc in
-    subst (λ (x : CpuState). Ends unlocks r a x) same (subst (λ (i : ℕ). Ends unlocks i a c) (eqb-true call.id r p.0) (ends_as unlocks call.class call a is refl))
+    subst (λ (x : CpuState). Ends unlocks r a x) same (subst (λ (i : ℕ). Ends unlocks i a c) (eqb-true call.id r p.0)
+    (ends_as unlocks call.class call a is refl))
 ends_at unlocks Unlocked call r a b is e = absurd cc
 ends_at unlocks Ended call r a b is e = absurd cc
 
-ends_with : (unlocks : Bool) (current : Option Current) (r : ℕ) (a b : CpuState) → a.current ≡ current → ended_with current r unlocks a ≡ Ok b → Ends unlocks r a b
+ends_with : (unlocks : Bool) (current : Option Current) (r : ℕ) (a b : CpuState) → a.current ≡ current → ended_with current r unlocks a ≡ Ok b →
+    Ends unlocks r a b
 ends_with unlocks None r a b is e = absurd cc
 ends_with unlocks (Some x) r a b is e = ends_at unlocks x.progress x.call r a b is e
 
@@ -397,7 +415,8 @@ slips_any r a b (Some n) (Some call) none place is e = by_test (is_async call.cl
 slips_any r a b None found none place is e = absurd (let g : false ≡ true = ap (λ (y : Bool × CpuState). y.0) e in cc)
 slips_any r a b (Some n) None none place is e = absurd (let g : false ≡ true = ap (λ (y : Bool × CpuState). y.0) e in cc)
 
-slips_at : (current : Option Current) (irq : Bool) (r : ℕ) (a b : CpuState) → a.current ≡ current → slipped_at current irq r a ≡ (true, b) → Shift r InQueue Nowhere a b
+slips_at : (current : Option Current) (irq : Bool) (r : ℕ) (a b : CpuState) → a.current ≡ current → slipped_at current irq r a ≡ (true, b) →
+    Shift r InQueue Nowhere a b
 slips_at None true r a b is e = slips_any r a b (place_in r a.queue) (call_at a.queue (place_in r a.queue)) is refl refl e
 slips_at None false r a b is e = absurd (let g : false ≡ true = ap (λ (y : Bool × CpuState). y.0) e in cc)
 slips_at (Some x) irq r a b is e = absurd (let g : false ≡ true = ap (λ (y : Bool × CpuState). y.0) e in cc)

@@ -11,7 +11,8 @@ use Rattle.smp_event_steps.specs.Calls.{idle_by}
 use Rattle.smp_event_steps.specs.Runs.{Runs}
 use Rattle.smp_event_steps.specs.State.{StateValue, cpu_at}
 use Rattle.smp_event_steps.specs.Step.{call_goes, goes}
-use Rattle.smp_event_laws.specs.Events.{begin_of, begins, ends, id_of, notes, notes_now, queue_from, queue_next, queued, queued_now, taken_from, taken_now, takes_now}
+use Rattle.smp_event_laws.specs.Events.{begin_of, begins, ends, id_of, notes, notes_now, queue_from, queue_next, queued, queued_now, taken_from, taken_now}
+use Rattle.smp_event_laws.specs.Events.{takes_now}
 use Rattle.smp_event_laws.specs.History.{CallsShown, held, is_from, is_to, running, waiting}
 use Rattle.smp_event_laws.proofs.Binds.{both_made}
 use Rattle.smp_event_laws.proofs.CallEvents.{EventShows, accept_shows, begin_shows, end_shows, queue_shows, quiet_event, send_shows, take_shows, unlock_shows}
@@ -62,7 +63,8 @@ add_three : (a b c : ℕ) → (a + b) + c ≡ a + (b + c)
 add_three a b c = omega arith
 
 count_more : {X : Type 0} (n : ℕ) (p : X → Bool) (xs ys : List X) → (n + count_by p xs) + count_by p ys ≡ n + count_by p (xs ++ ys)
-count_more n p xs ys = let e : count_by p (xs ++ ys) ≡ count_by p xs + count_by p ys = count_append p xs ys in rw e (add_three n (count_by p xs) (count_by p ys))
+count_more n p xs ys = let e : count_by p (xs ++ ys) ≡ count_by p xs + count_by p ys = count_append p xs ys in rw e (add_three n (count_by p xs)
+    (count_by p ys))
 
 -- no event has happened
 shown_none : (cpu : ℕ) (s : StateValue) → CallsShown cpu [] s s
@@ -87,7 +89,8 @@ told_from true s e f = absurd cc
 told_from false s e f = refl
 
 -- one event comes before others
-shown_more : (order : Bool) (cpu : ℕ) (e : ℕ × Event) (es : List (ℕ × Event)) (s m t : StateValue) → s.setting.without.order ≡ order → EventShows order cpu e s m
+shown_more : (order : Bool) (cpu : ℕ) (e : ℕ × Event) (es : List (ℕ × Event)) (s m t : StateValue) → s.setting.without.order ≡ order →
+    EventShows order cpu e s m
     → CallsShown cpu es m t → CallsShown cpu (e ∷ es) s t
 unfolding begins ends notes queued taken_from queue_from
 shown_more order cpu e es s m t o first more =
@@ -122,7 +125,8 @@ shown_more order cpu e es s m t o first more =
           rw z at (more.noted to (n + count_by (is_to to) (notes_now cpu e)) (rw f.long_queued below) (f.noted to n below was));
     }
 
-pub calls_shown : (order : Bool) (cpu : ℕ) (es : List (ℕ × Event)) (s t : StateValue) → s.setting.without.order ≡ order → cpu < length s.cpus → Runs s es t → CallsShown cpu es s t
+pub calls_shown : (order : Bool) (cpu : ℕ) (es : List (ℕ × Event)) (s t : StateValue) → s.setting.without.order ≡ order → cpu < length s.cpus → Runs s es t →
+    CallsShown cpu es s t
 calls_shown order cpu [] s t o below run = subst (λ (x : StateValue). CallsShown cpu [] s x) (sym run) (shown_none cpu s)
 calls_shown order cpu (e ∷ es) s t o below (m, (g, run)) =
     let first = event_shows order cpu e.0 e.1 s m o below g in

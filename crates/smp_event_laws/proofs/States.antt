@@ -1,5 +1,6 @@
 -- What a step shows of the calls of one CPU of the state.
-use Rattle.std.proofs.Common.{◌≡◌, ℕ, ◌+◌, ◌<◌, ◌≢◌, Bool, true, false, not, if◌then◌else◌, List, [], ◌++◌, length, count_by, Ok, refl, ap, ◌∙◌, sym, subst, arith, IsPermutation, inl, inr}
+use Rattle.std.proofs.Common.{◌≡◌, ℕ, ◌+◌, ◌<◌, ◌≢◌, Bool, true, false, not, if◌then◌else◌, List, [], ◌++◌, length, count_by, Ok, refl, ap, ◌∙◌, sym, subst}
+use Rattle.std.proofs.Common.{arith, IsPermutation, inl, inr}
 use Rattle.std.specs.Prelude.{nat_lt}
 use Rattle.std.proofs.lemmas.List.{append-nil, length-set, get_or-set_same, get_or-set_other}
 use Rattle.std.proofs.lemmas.List.Sorted.{IsPermutation-trans, IsPermutation-append_left, IsPermutation-append_right}
@@ -33,7 +34,8 @@ pub quiet_first : (told : Bool) (queued : List Call) (takes : Bool) (began over 
     → Shows told queued takes began over notes b c → Shows told queued takes began over notes a c
 quiet_first told queued takes began over notes a b c q s = record {
   one_at_a_time = rw (rests_running told [] a b q) s.one_at_a_time;
-  each_once = IsPermutation-trans (held a ++ queued) (held b ++ queued) (began ++ held c) (IsPermutation-append_left queued (held a) (held b) (rests_held told [] a b q)) s.each_once;
+  each_once = IsPermutation-trans (held a ++ queued) (held b ++ queued) (began ++ held c) (IsPermutation-append_left queued (held a) (held b)
+      (rests_held told [] a b q)) s.each_once;
   in_order = λ t. let w = rests_waiting told [] a b q t in let e = rests_queue told [] a b q t in rw (w, ← e) (s.in_order t);
   queue_is = λ t. let e = rests_queue told [] a b q t in rw (← e) (s.queue_is t);
   long = s.long ∙ q.long;
@@ -43,11 +45,13 @@ quiet_first told queued takes began over notes a b c q s = record {
 }
 
 -- a quiet step comes last, or one that counts calls that are queued for others
-pub quiet_last : (told : Bool) (queued : List Call) (takes : Bool) (began over : List Call) (notes : List ℕ) (a b c : CpuState) → Shows told queued takes began over [] a b
+pub quiet_last : (told : Bool) (queued : List Call) (takes : Bool) (began over : List Call) (notes : List ℕ) (a b c : CpuState) →
+    Shows told queued takes began over [] a b
     → Shows told [] false [] [] notes b c → Shows told queued takes began over notes a c
 quiet_last told queued takes began over notes a b c s q = record {
   one_at_a_time = s.one_at_a_time ∙ ap (λ xs. over ++ xs) (rests_running told notes b c q);
-  each_once = IsPermutation-trans (held a ++ queued) (began ++ held b) (began ++ held c) s.each_once (IsPermutation-append_right began (held b) (held c) (rests_held told notes b c q));
+  each_once = IsPermutation-trans (held a ++ queued) (began ++ held b) (began ++ held c) s.each_once (IsPermutation-append_right began (held b) (held c)
+      (rests_held told notes b c q));
   in_order = λ t. s.in_order t ∙ ap (λ xs. began ++ xs) (rests_waiting told notes b c q t);
   queue_is = λ t. rests_queue told notes b c q t ∙ s.queue_is t;
   long = q.long ∙ s.long;
@@ -85,7 +89,8 @@ cpu_changed cpu s c below = get_or-set_same s.cpus cpu c fresh_cpu below
 pub cpu_kept : (cpu other : ℕ) (s : StateValue) (c : CpuState) → cpu ≢ other → cpu_at (with_cpu other s c) cpu ≡ cpu_at s cpu
 cpu_kept cpu other s c ne = get_or-set_other s.cpus other cpu c fresh_cpu ne
 
-pub goes_here : (told : Bool) (cpu : ℕ) (queued : List Call) (takes : Bool) (began over : List Call) (notes : List ℕ) (s : StateValue) (c : CpuState) → cpu < length s.cpus
+pub goes_here : (told : Bool) (cpu : ℕ) (queued : List Call) (takes : Bool) (began over : List Call) (notes : List ℕ) (s : StateValue) (c : CpuState) →
+    cpu < length s.cpus
     → Shows told queued takes began over notes (cpu_at s cpu) c → Goes told cpu queued takes began over notes s (with_cpu cpu s c)
 goes_here told cpu queued takes began over notes s c below shows = record {
   setting_is = refl;
@@ -109,7 +114,8 @@ goes_quiet told cpu other s c below q = elim (cases_eq cpu other) [
 ]
 
 -- a quiet step of the state comes first, or last
-pub goes_first : (told : Bool) (cpu : ℕ) (queued : List Call) (takes : Bool) (began over : List Call) (notes : List ℕ) (s m t : StateValue) → GoesQuietly told cpu s m
+pub goes_first : (told : Bool) (cpu : ℕ) (queued : List Call) (takes : Bool) (began over : List Call) (notes : List ℕ) (s m t : StateValue) →
+    GoesQuietly told cpu s m
     → Goes told cpu queued takes began over notes m t → Goes told cpu queued takes began over notes s t
 goes_first told cpu queued takes began over notes s m t q g = record {
   setting_is = g.setting_is ∙ q.setting_is;
@@ -117,7 +123,8 @@ goes_first told cpu queued takes began over notes s m t q g = record {
   shows = quiet_first told queued takes began over notes (cpu_at s cpu) (cpu_at m cpu) (cpu_at t cpu) q.shows g.shows;
 }
 
-pub goes_last : (told : Bool) (cpu : ℕ) (queued : List Call) (takes : Bool) (began over : List Call) (notes : List ℕ) (s m t : StateValue) → Goes told cpu queued takes began over [] s m
+pub goes_last : (told : Bool) (cpu : ℕ) (queued : List Call) (takes : Bool) (began over : List Call) (notes : List ℕ) (s m t : StateValue) →
+    Goes told cpu queued takes began over [] s m
     → Goes told cpu [] false [] [] notes m t → Goes told cpu queued takes began over notes s t
 goes_last told cpu queued takes began over notes s m t g q = record {
   setting_is = q.setting_is ∙ g.setting_is;
@@ -135,7 +142,8 @@ either_goes : (told : Bool) (cpu : ℕ) (s : StateValue) (test : Bool) (x : Bool
 either_goes told cpu s true x g = g
 either_goes told cpu s false x g = goes_same told cpu s s refl refl
 
-slipped_at_goes : (order : Bool) (cpu id : ℕ) (place : Place) (s : StateValue) → cpu < length s.cpus → GoesQuietly (not order) cpu s (slipped_at order id place s).1
+slipped_at_goes : (order : Bool) (cpu id : ℕ) (place : Place) (s : StateValue) → cpu < length s.cpus →
+    GoesQuietly (not order) cpu s (slipped_at order id place s).1
 slipped_at_goes true cpu id (Queue x) s below =
     either_goes false cpu s (nat_lt x 32) (slip_in x s (slipped_from_queue id (cpu_at s x)))
     (slip_in_goes false cpu x s (slipped_from_queue id (cpu_at s x)) below (shows_slipped_from_queue id (cpu_at s x)))
@@ -153,22 +161,31 @@ slipped_goes : (order : Bool) (cpu id : ℕ) (place : Place) (s : StateValue) �
     → GoesQuietly (not order) cpu s (slipped id place s).1
 slipped_goes order cpu id place s e below =
     either_goes (not order) cpu s s.setting.without.unlocks (slipped_at s.setting.without.order id place s)
-    (subst (λ (o : Bool). GoesQuietly (not o) cpu s (slipped_at s.setting.without.order id place s).1) e (slipped_at_goes s.setting.without.order cpu id place s below))
+    (subst (λ (o : Bool). GoesQuietly (not o) cpu s (slipped_at s.setting.without.order id place s).1) e
+    (slipped_at_goes s.setting.without.order cpu id place s below))
 
-freed_by_goes : (told : Bool) (cpu id : ℕ) (place : Place) (s t : StateValue) (slip : Bool × StateValue) → GoesQuietly told cpu s slip.1 → freed_by id place slip ≡ Ok t
+freed_by_goes : (told : Bool) (cpu id : ℕ) (place : Place) (s t : StateValue) (slip : Bool × StateValue) → GoesQuietly told cpu s slip.1 →
+    freed_by id place slip ≡ Ok t
     → GoesQuietly told cpu s t
 freed_by_goes told cpu id place s t (true, m) g e =
     let same : with_place id Free m ≡ t = cc in
-    subst (λ (x : StateValue). GoesQuietly told cpu s x) same (goes_last told cpu [] false [] [] [] s m (with_place id Free m) g (goes_same told cpu m (with_place id Free m) refl refl))
+    subst (λ (x : StateValue). GoesQuietly told cpu s x) same (goes_last told cpu [] false [] [] [] s m (with_place id Free m) g (goes_same told cpu m
+    (with_place id Free m) refl refl))
 freed_by_goes told cpu id place s t (false, m) g e = absurd cc
 
-freed_from_goes : (order : Bool) (cpu id : ℕ) (place : Place) (s t : StateValue) → s.setting.without.order ≡ order → cpu < length s.cpus → freed_from id place s ≡ Ok t
+freed_from_goes : (order : Bool) (cpu id : ℕ) (place : Place) (s t : StateValue) → s.setting.without.order ≡ order → cpu < length s.cpus →
+    freed_from id place s ≡ Ok t
     → GoesQuietly (not order) cpu s t
-freed_from_goes order cpu id Free s t o below e = let same : s ≡ t = cc in subst (λ (x : StateValue). GoesQuietly (not order) cpu s x) same (goes_same (not order) cpu s s refl refl)
-freed_from_goes order cpu id (Queue x) s t o below e = freed_by_goes (not order) cpu id (Queue x) s t (slipped id (Queue x) s) (slipped_goes order cpu id (Queue x) s o below) e
-freed_from_goes order cpu id (Batch x) s t o below e = freed_by_goes (not order) cpu id (Batch x) s t (slipped id (Batch x) s) (slipped_goes order cpu id (Batch x) s o below) e
-freed_from_goes order cpu id (Run x) s t o below e = freed_by_goes (not order) cpu id (Run x) s t (slipped id (Run x) s) (slipped_goes order cpu id (Run x) s o below) e
+freed_from_goes order cpu id Free s t o below e = let same : s ≡ t = cc in subst (λ (x : StateValue). GoesQuietly (not order) cpu s x) same (goes_same
+    (not order) cpu s s refl refl)
+freed_from_goes order cpu id (Queue x) s t o below e = freed_by_goes (not order) cpu id (Queue x) s t (slipped id (Queue x) s) (slipped_goes order cpu id
+    (Queue x) s o below) e
+freed_from_goes order cpu id (Batch x) s t o below e = freed_by_goes (not order) cpu id (Batch x) s t (slipped id (Batch x) s) (slipped_goes order cpu id
+    (Batch x) s o below) e
+freed_from_goes order cpu id (Run x) s t o below e = freed_by_goes (not order) cpu id (Run x) s t (slipped id (Run x) s) (slipped_goes order cpu id
+    (Run x) s o below) e
 
 -- so is seeing a record free
-pub freed_goes : (order : Bool) (cpu id : ℕ) (s t : StateValue) → s.setting.without.order ≡ order → cpu < length s.cpus → freed id s ≡ Ok t → GoesQuietly (not order) cpu s t
+pub freed_goes : (order : Bool) (cpu id : ℕ) (s t : StateValue) → s.setting.without.order ≡ order → cpu < length s.cpus → freed id s ≡ Ok t →
+    GoesQuietly (not order) cpu s t
 freed_goes order cpu id s t o below e = freed_from_goes order cpu id (place_at s id) s t o below e

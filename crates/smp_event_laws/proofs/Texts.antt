@@ -1,9 +1,11 @@
 -- A text that is accepted is a trace.
-use Rattle.std.proofs.Common.{◌≡◌, ℕ, ◌-◌, ◌≤◌, Bool, true, false, ◌&&◌, if◌then◌else◌, List, [], ◌∷◌, ◌++◌, map, length, Some, Result, Ok, Err, refl, ap, ◌∙◌, sym, subst, arith, get_or, replicate, inl, inr}
+use Rattle.std.proofs.Common.{◌≡◌, ℕ, ◌-◌, ◌≤◌, Bool, true, false, ◌&&◌, if◌then◌else◌, List, [], ◌∷◌, ◌++◌, map, length, Some, Result, Ok, Err, refl, ap, ◌∙◌}
+use Rattle.std.proofs.Common.{sym, subst, arith, get_or, replicate, inl, inr}
 use Rattle.std.specs.Prelude.{nat_le, nat_lt, slice_index}
 use Rattle.std.specs.List.{list_all}
 use Rattle.std.proofs.lemmas.Bool.{and_parts, cases_lt, leb-true, ltb-false}
-use Rattle.std.proofs.lemmas.List.{get_or-map, get_or-replicate, get_or_append_left, get_or-append_right, get_or_past, length-append, length-map, length-replicate}
+use Rattle.std.proofs.lemmas.List.{get_or-map, get_or-replicate, get_or_append_left, get_or-append_right, get_or_past, length-append, length-map}
+use Rattle.std.proofs.lemmas.List.{length-replicate}
 use Rattle.smp_mask.specs.declared.error.Cause.{Cause}
 use Rattle.smp_mask.specs.declared.error.Cause.TheVariants.{Number, Range, Word}
 use Rattle.smp_labels.specs.declared.entries.Entry.{Entry}
@@ -22,7 +24,8 @@ use Rattle.smp_script.specs.Lines.{Line, fields_of, lines_of}
 use Rattle.smp_script.specs.Numbers.{is_decimal, number_in, value_after}
 use Rattle.smp_event_steps.specs.State.{StateValue}
 use Rattle.smp_judge.specs.declared.halted.Halted.{Halted}
-use Rattle.smp_judge.specs.Head.{HeadValue, SpotValue, behind, head_of, head_with, is_labels, labels_at, labels_from, no_labels, online_at, titled, without_at, words_of}
+use Rattle.smp_judge.specs.Head.{HeadValue, SpotValue, behind, head_of, head_with, is_labels, labels_at, labels_from, no_labels, online_at, titled, without_at}
+use Rattle.smp_judge.specs.Head.{words_of}
 use Rattle.smp_judge.specs.Judged.{at_line, used_after}
 use Rattle.smp_judge.specs.Runs.{MeansWith}
 use Rattle.smp_judge.proofs.Meaning.{is_meant}
@@ -114,7 +117,8 @@ few_from : (s : SpotValue) (lines : List Line) (found : Labels × SpotValue) →
 few_from s [] found e = let same : (no_labels, s) ≡ found = ok_is (no_labels, s) found e in subst (λ (x : Labels). Few x) (ap (λ x. x.0) same) few_none
 few_from s (l ∷ ls) found e =
     let next = λ (used : ℕ). let r : Result (Labels × SpotValue) Halted =
-    if is_labels (fields_of l.text) then (at_line 3 (whole_labels (fields_of l.text)) >>= λ labels. Ok (labels, behind s used ls)) else Ok (no_labels, s) in r in
+    if is_labels (fields_of l.text) then (at_line 3 (whole_labels (fields_of l.text)) >>= λ labels. Ok (labels, behind s used ls)) else Ok
+    (no_labels, s) in r in
     let a = both (used_after s.number s.used l) next found e in
     few_line (is_labels (fields_of l.text)) s a.0 ls (fields_of l.text) found a.1.1
 
@@ -136,15 +140,19 @@ words_lawful labels few i low =
       | inl below ↦
           (let e = get_or entries i none in
           let site : slice_index (map first_site entries ++ rest) i ≡ first_site e =
-          get_or_append_left (map first_site entries) rest 0 i (let l = length-map entries first_site in omega arith) ∙ get_or-map first_site entries i none 0 below in
+          get_or_append_left (map first_site entries) rest 0 i (let l = length-map entries first_site in omega arith) ∙
+          get_or-map first_site entries i none 0 below in
           let word : slice_index (map entry_word entries ++ rest) i ≡ entry_word e =
-          get_or_append_left (map entry_word entries) rest 0 i (let l = length-map entries entry_word in omega arith) ∙ get_or-map entry_word entries i none 0 below in
+          get_or_append_left (map entry_word entries) rest 0 i (let l = length-map entries entry_word in omega arith) ∙
+          get_or-map entry_word entries i none 0 below in
           site ∙ word_first f e keys_off ∙ ap (λ x. site_word f x) (sym (entry_at-word e)) ∙ ap (λ x. site_word f (entry_at x)) (sym word))
       | inr past ↦
           (let site : slice_index (map first_site entries ++ rest) i ≡ 0 =
-          get_or-append_right (map first_site entries) rest (length entries) i 0 (length-map entries first_site) past ∙ rest_none (16 - length entries) (i - length entries) in
+          get_or-append_right (map first_site entries) rest (length entries) i 0 (length-map entries first_site) past ∙
+          rest_none (16 - length entries) (i - length entries) in
           let word : slice_index (map entry_word entries ++ rest) i ≡ 0 =
-          get_or-append_right (map entry_word entries) rest (length entries) i 0 (length-map entries entry_word) past ∙ rest_none (16 - length entries) (i - length entries) in
+          get_or-append_right (map entry_word entries) rest (length entries) i 0 (length-map entries entry_word) past ∙
+          rest_none (16 - length entries) (i - length entries) in
           site ∙ ap (λ x. site_word f (entry_at x)) (sym word))
     ]
 
@@ -176,7 +184,8 @@ head_labels lines h e =
       lawful = words_lawful c.0.0 few.sites;
     })
 
-run_of : (text : List ℕ) (count : ℕ) (t : StateValue) (head : Result HeadValue Halted) → head_of (lines_of text) ≡ head → MeansWith head (Ok (count, t)) → IsTraceOf text count t
+run_of : (text : List ℕ) (count : ℕ) (t : StateValue) (head : Result HeadValue Halted) → head_of (lines_of text) ≡ head → MeansWith head (Ok (count, t)) →
+    IsTraceOf text count t
 run_of text count t (Ok h) e m = record {
   head = h;
   head_is = e;

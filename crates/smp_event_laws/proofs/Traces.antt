@@ -1,5 +1,6 @@
 -- What traces show of calls.
-use Rattle.std.proofs.Common.{◌≡◌, ℕ, ◌+◌, ◌%◌, ◌^◌, ◌<◌, Bool, true, false, cond, List, [], ◌∷◌, ◌++◌, map, length, count_by, filter, refl, ap, ◌∙◌, sym, arith, IsPermutation}
+use Rattle.std.proofs.Common.{◌≡◌, ℕ, ◌+◌, ◌%◌, ◌^◌, ◌<◌, Bool, true, false, cond, List, [], ◌∷◌, ◌++◌, map, length, count_by, filter, refl, ap, ◌∙◌, sym}
+use Rattle.std.proofs.Common.{arith, IsPermutation}
 use Rattle.std.proofs.lemmas.List.{append_assoc, append-nil, map-append, get_or-replicate, length-replicate}
 use Rattle.std.proofs.lemmas.List.Elements.{filter-append}
 use Rattle.std.proofs.lemmas.List.Sorted.{IsPermutation-map}
@@ -15,7 +16,8 @@ use Rattle.smp_event_steps.specs.declared.without.Setting.{Setting}
 use Rattle.smp_event_steps.specs.Cpu.{CpuState, fresh_cpu, is_class, of_class, order}
 use Rattle.smp_event_steps.specs.Opened.{opening}
 use Rattle.smp_event_steps.specs.State.{StateValue, cpu_at}
-use Rattle.smp_event_laws.specs.Events.{begin_of, begins, id_of, notes, notes_now, only_if, queue_from, queue_next, queued, queued_now, taken_from, taken_now, takes_now}
+use Rattle.smp_event_laws.specs.Events.{begin_of, begins, id_of, notes, notes_now, only_if, queue_from, queue_next, queued, queued_now, taken_from, taken_now}
+use Rattle.smp_event_laws.specs.Events.{takes_now}
 use Rattle.smp_event_laws.specs.History.{CallsShown, held, is_from, is_to, queued_at, ran_at, running, waiting}
 use Rattle.smp_event_laws.specs.Traces.{BeginInOrder, BeginOnce, CountsAre, EndOnce, IsTrace, record_of, taken}
 use Rattle.smp_event_laws.proofs.Shown.{calls_shown, count_append}
@@ -69,14 +71,16 @@ fresh_is u words cpu below = is_fresh (cpu_at (opening u words) cpu) (fresh_at u
 moved_as : {X : Type 0} (xs ys xs' ys' : List X) → xs ≡ xs' → ys ≡ ys' → IsPermutation xs ys → IsPermutation xs' ys'
 moved_as xs ys xs' ys' e f p = rw (← e, ← f) p
 
-pub begin_once : (u : Setting) (words : LabelWords) (es : List (ℕ × Event)) (t : StateValue) → IsTrace u words es t → (cpu : ℕ) → cpu < 32 → BeginOnce u es t cpu
+pub begin_once : (u : Setting) (words : LabelWords) (es : List (ℕ × Event)) (t : StateValue) → IsTrace u words es t → (cpu : ℕ) → cpu < 32 →
+    BeginOnce u es t cpu
 begin_once u words es t run cpu below =
     let c = shown_at u words es t cpu run below in
     let f = fresh_is u words cpu below in
     let a = cpu_at (opening u words) cpu in
     let h : held a ≡ [] = f.holds in
     let p = IsPermutation-map begin_of (held a ++ queued cpu es) (c.began ++ held (cpu_at t cpu)) c.each_once in
-    moved_as (map begin_of (held a ++ queued cpu es)) (map begin_of (c.began ++ held (cpu_at t cpu))) (map begin_of (queued cpu es)) (begins cpu es ++ map begin_of (held (cpu_at t cpu)))
+    moved_as (map begin_of (held a ++ queued cpu es)) (map begin_of (c.began ++ held (cpu_at t cpu))) (map begin_of (queued cpu es))
+    (begins cpu es ++ map begin_of (held (cpu_at t cpu)))
     (ap (λ xs. map begin_of (xs ++ queued cpu es)) h)
     (map-append begin_of c.began (held (cpu_at t cpu)) ∙ ap (λ xs. xs ++ map begin_of (held (cpu_at t cpu))) c.begins_are) p
 
@@ -95,7 +99,8 @@ end_once u words es t run cpu below =
     ∙ map-append id_of c.over (running b) ∙ ap (λ xs. xs ++ map id_of (running b)) c.ends_are
 
 -- what passes a test passes it again
-filter_again_by : (p : Call → Bool) (x : Call) (ys : List Call) (test : Bool) → p x ≡ test → filter p ys ≡ ys → filter p (cond test (x ∷ ys) ys) ≡ cond test (x ∷ ys) ys
+filter_again_by : (p : Call → Bool) (x : Call) (ys : List Call) (test : Bool) → p x ≡ test → filter p ys ≡ ys →
+    filter p (cond test (x ∷ ys) ys) ≡ cond test (x ∷ ys) ys
 filter_again_by p x ys true e same = rw e (ap (λ zs. x ∷ zs) same)
 filter_again_by p x ys false e same = same
 
@@ -104,7 +109,8 @@ filter_again p [] = refl
 filter_again p (x ∷ xs) = filter_again_by p x (filter p xs) (p x) refl (filter_again p xs)
 
 -- what passes one test passes no other
-filter_other_by : (p q : Call → Bool) (x : Call) (ys : List Call) (test : Bool) → (test ≡ true → q x ≡ false) → filter q ys ≡ [] → filter q (cond test (x ∷ ys) ys) ≡ []
+filter_other_by : (p q : Call → Bool) (x : Call) (ys : List Call) (test : Bool) → (test ≡ true → q x ≡ false) → filter q ys ≡ [] →
+    filter q (cond test (x ∷ ys) ys) ≡ []
 filter_other_by p q x ys true other none = rw (other refl) none
 filter_other_by p q x ys false other none = none
 
@@ -169,7 +175,8 @@ classes_from class cpu queue (e ∷ es) =
     ∙ ap (λ xs. xs ++ of_class class (queued cpu es)) (classes_next class takes queue more (takes_none cpu e))
     ∙ append_assoc (of_class class queue) (of_class class more) (of_class class (queued cpu es)))
 
-pub begin_in_order : (u : Setting) (words : LabelWords) (es : List (ℕ × Event)) (t : StateValue) → IsTrace u words es t → (cpu : ℕ) → cpu < 32 → BeginInOrder u es t cpu
+pub begin_in_order : (u : Setting) (words : LabelWords) (es : List (ℕ × Event)) (t : StateValue) → IsTrace u words es t → (cpu : ℕ) → cpu < 32 →
+    BeginInOrder u es t cpu
 begin_in_order u words es t run cpu below =
     let c = shown_at u words es t cpu run below in
     let f = fresh_is u words cpu below in
@@ -179,7 +186,8 @@ begin_in_order u words es t run cpu below =
     record {
       begun = λ told.
           ap (λ xs. map begin_of (xs ++ taken cpu es)) (sym f.waits) ∙ ap (λ xs. map begin_of (waiting a ++ taken_from cpu xs es)) (sym f.queue)
-          ∙ ap (λ xs. map begin_of xs) (c.in_order (o ∙ told)) ∙ map-append begin_of c.began (waiting b) ∙ ap (λ xs. xs ++ map begin_of (waiting b)) c.begins_are;
+          ∙ ap (λ xs. map begin_of xs) (c.in_order (o ∙ told)) ∙ map-append begin_of c.began (waiting b) ∙
+          ap (λ xs. xs ++ map begin_of (waiting b)) c.begins_are;
       queue = λ told. c.queue_is (o ∙ told) ∙ ap (λ xs. queue_from cpu xs es) f.queue;
       classes = λ class. classes_from class cpu [] es;
     }
@@ -220,7 +228,8 @@ zero_and n = ap (λ k. k % 2 ^ 64) (zero_first n) where
   zero_first : (n : ℕ) → 0 + n ≡ n
   zero_first n = omega arith
 
-pub counts_are : (u : Setting) (words : LabelWords) (es : List (ℕ × Event)) (t : StateValue) → IsTrace u words es t → (cpu : ℕ) → cpu < 32 → CountsAre u es t cpu
+pub counts_are : (u : Setting) (words : LabelWords) (es : List (ℕ × Event)) (t : StateValue) → IsTrace u words es t → (cpu : ℕ) → cpu < 32 →
+    CountsAre u es t cpu
 counts_are u words es t run cpu below =
     let c = shown_at u words es t cpu run below in
     let f = fresh_is u words cpu below in
@@ -235,6 +244,7 @@ counts_are u words es t run cpu below =
       queued_are = λ source low.
           let d = shown_at u words es t source run low in
           let g = fresh_is u words source low in
-          d.noted cpu 0 (rw g.queued_long below) (g.queued cpu below) ∙ zero_and (count_by (is_to cpu) (notes source es)) ∙ ap (λ k. k % 2 ^ 64) (notes_are source cpu es);
+          d.noted cpu 0 (rw g.queued_long below) (g.queued cpu below) ∙ zero_and (count_by (is_to cpu) (notes source es)) ∙
+          ap (λ k. k % 2 ^ 64) (notes_are source cpu es);
       ran_are = λ source low. c.tally source 0 (rw f.ran_long low) (f.ran source low) ∙ zero_and (count_by (is_from source) c.over);
     }

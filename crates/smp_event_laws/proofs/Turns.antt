@@ -1,5 +1,6 @@
 -- A record is locked from the `queue` of a call to its `unlock`.
-use Rattle.std.proofs.Common.{Option, Some, None, Err, ◌≡◌, ℕ, ◌<◌, Bool, true, false, not, ◌&&◌, if◌then◌else◌, List, [], ◌∷◌, length, is_some, Ok, Err, refl, ap, ◌∙◌, sym, subst, inl, inr}
+use Rattle.std.proofs.Common.{Option, Some, None, Err, ◌≡◌, ℕ, ◌<◌, Bool, true, false, not, ◌&&◌, if◌then◌else◌, List, [], ◌∷◌, length, is_some, Ok, Err, refl}
+use Rattle.std.proofs.Common.{ap, ◌∙◌, sym, subst, inl, inr}
 use Rattle.std.specs.Prelude.{◌==◌, slice_set, slice_index_or}
 use Rattle.std.proofs.lemmas.Bool.{cases_eq, eq-eqb, ne_eqb}
 use Rattle.std.proofs.lemmas.List.{get_or-set_same, get_or-set_other}
@@ -15,7 +16,8 @@ use Rattle.smp_event_steps.specs.declared.event.CallEvent.TheVariants as calls
 use Rattle.smp_event_steps.specs.declared.event.Event.{Event}
 use Rattle.smp_event_steps.specs.declared.event.Event.TheVariants as event
 use Rattle.smp_event_steps.specs.declared.reason.Reason.TheVariants as reason
-use Rattle.smp_event_steps.specs.Calls.{begin_by, end_by, entered_by, freed_if, idle_by, joined, moved, on_cpu, place_of_run, placed, placed_unless, queue_by, send_by, take_by, unlock_by}
+use Rattle.smp_event_steps.specs.Calls.{begin_by, end_by, entered_by, freed_if, idle_by, joined, moved, on_cpu, place_of_run, placed, placed_unless, queue_by}
+use Rattle.smp_event_steps.specs.Calls.{send_by, take_by, unlock_by}
 use Rattle.smp_event_steps.specs.Cpu.{CpuState, accepted, ended, interrupted, may_take, order, runs_locked, sent, taken, unlocked}
 use Rattle.smp_event_steps.specs.Opened.{opening}
 use Rattle.smp_event_steps.specs.Places.{is_batch}
@@ -30,7 +32,8 @@ use Rattle.smp_event_laws.proofs.Places.{Placed, leaves, one_is, place_changed, 
 use Rattle.smp_event_laws.proofs.Shifts.{Kind, Nowhere, InQueue, InBatch, Running, Enters, Shift, leaves_unlocked, place_of, run_kind}
 use Rattle.smp_event_laws.proofs.States.{cpu_changed}
 use Rattle.smp_event_laws.proofs.AtRun.{runs_last, setting_at_first, setting_goes, setting_runs}
-use Rattle.smp_event_laws.proofs.Placed.{async_any, entered_begins, leaves_run, free_at_first, has_below, mover_below, one_count, placed_at_first, placed_goes, placed_runs, put_at}
+use Rattle.smp_event_laws.proofs.Placed.{async_any, entered_begins, leaves_run, free_at_first, has_below, mover_below, one_count, placed_at_first, placed_goes}
+use Rattle.smp_event_laws.proofs.Placed.{placed_runs, put_at}
 use Rattle.smp_event_laws.proofs.Places.{place_before, place_kept}
 use Rattle.smp_event_steps.specs.declared.call.Current.{Current}
 use Rattle.smp_event_steps.specs.declared.reason.Reason.{Reason}
@@ -65,7 +68,8 @@ same_places : (s t : StateValue) (r : ℕ) → t.places ≡ s.places → taken_a
 same_places s t r same = ap (λ (xs : List Place). is_taken (slice_index_or xs r Free)) same
 
 -- a record that moves was where a CPU had it
-mover_place : (s : StateValue) (actor id : ℕ) (from to : Kind) (c : CpuState) → Placed s → Shift id from to (cpu_at s actor) c → leaves from to ≡ true → id < 65536
+mover_place : (s : StateValue) (actor id : ℕ) (from to : Kind) (c : CpuState) → Placed s → Shift id from to (cpu_at s actor) c → leaves from to ≡ true →
+    id < 65536
     → place_at s id ≡ place_of from actor
 mover_place s actor id from to c p sh e low =
     place_before (place_at s id) id actor from to (cpu_at s actor) c (p.each id low actor (mover_below s actor id from to c p sh e)) sh e
@@ -84,7 +88,8 @@ put_turn s t r id place long low same = elim (cases_eq id r) [
       let now : slice_index_or (slice_set s.places id place) r Free ≡ place = rw e (get_or-set_same s.places r place Free (rw long low)) in
       rw test (ap (λ (xs : List Place). is_taken (slice_index_or xs r Free)) same ∙ ap is_taken now))
   | inr ne ↦ (let test : (id == r) ≡ false = ne_eqb id r ne in
-      let kept : slice_index_or (slice_set s.places id place) r Free ≡ slice_index_or s.places r Free = get_or-set_other s.places id r place Free (λ x. ne (sym x)) in
+      let kept : slice_index_or (slice_set s.places id place) r Free ≡ slice_index_or s.places r Free = get_or-set_other s.places id r place Free (λ x. ne
+      (sym x)) in
       rw test (ap (λ (xs : List Place). is_taken (slice_index_or xs r Free)) same ∙ ap is_taken kept))
 ]
 
@@ -94,7 +99,8 @@ queue_turns : (source id to : ℕ) (class : Class) (func info r : ℕ) (s t : St
 unfolding queue_by
 queue_turns source id to class func info r s t pl told low e =
     let call : Call = record { source = source; id = id; class = class; func = func; info = info } in
-    let p = passed (has s.setting.online to) (if to == source then Err (reason.IsCaller to) else (freed id s >>= λ m. Ok (joined call to m))) (reason.NotOnline to) t e in
+    let p = passed (has s.setting.online to) (if to == source then Err (reason.IsCaller to) else (freed id s >>= λ m. Ok (joined call to m)))
+    (reason.NotOnline to) t e in
     let q = failed (to == source) (freed id s >>= λ m. Ok (joined call to m)) (reason.IsCaller to) t p.1 in
     let m = both_made (freed id s) (λ m. Ok (joined call to m)) t q.1 in
     let f = freed_told id (place_at s id) s m.0 told m.1.0 in
@@ -121,7 +127,11 @@ unlock_turns actor id r s t pl low e =
     let same : with_place id Free n.0 ≡ t = cc in
     let places : t.places ≡ slice_set s.places id Free = ap (λ x. x.places) (sym same) ∙ ap (λ x. slice_set x.places id Free) (sym m.1.1) in
     let leaves_it = elim l.is_from as (λ x. leaves l.from Nowhere ≡ true) [ inl x ↦ rw x refl | inr x ↦ rw x refl ] in
-    let some : l.from ≡ Nowhere → ⊥ = λ x. elim l.is_from [ inl y ↦ (let f : Nowhere ≡ InBatch = sym x ∙ y in cc) | inr y ↦ (let f : Nowhere ≡ Running = sym x ∙ y in cc) ] in
+    let some : l.from ≡ Nowhere → ⊥ = λ x. elim l.is_from [
+      | inl y ↦ (let f : Nowhere ≡ InBatch = sym x ∙
+          y in cc)
+      | inr y ↦ (let f : Nowhere ≡ Running = sym x ∙ y in cc)
+    ] in
     record {
       allows = λ here.
           let low_id : id < 65536 = rw here low in
@@ -147,17 +157,20 @@ take_turns actor r s t pl low e =
         | inr h ↦
             (let below = has_below s actor r pl h.0 in
             let was : place_at s r ≡ Queue actor =
-            queue_is (place_at s r) actor (one_is (is_queue (place_at s r) actor) (one_count (in_queue r (cpu_at s actor)) (is_queue (place_at s r) actor) h.0 (pl.each r low actor below).queue)) in
+            queue_is (place_at s r) actor (one_is (is_queue (place_at s r) actor) (one_count (in_queue r (cpu_at s actor)) (is_queue (place_at s r) actor) h.0
+            (pl.each r low actor below).queue)) in
             ap is_taken h.1 ∙ ap is_taken (sym was))
       ];
     }
 
 -- a function that is entered leaves its record locked: where unlocks are told, an ASYNC call was unlocked before
-front_sync : (unlocks : Bool) (id func info : ℕ) (front : Call) (a b : CpuState) → unlocks ≡ true → begun_front (record { id = id; func = func; info = info }) unlocks a front ≡ Ok b
+front_sync : (unlocks : Bool) (id func info : ℕ) (front : Call) (a b : CpuState) → unlocks ≡ true →
+    begun_front (record { id = id; func = func; info = info }) unlocks a front ≡ Ok b
     → runs_locked b ≡ true
 front_sync unlocks id func info front a b told e =
     let c = left_batch Progressing front a in
-    let m = both_made (is_of (record { id = id; func = func; info = info }) front) (λ u. if is_async front.class && unlocks then Err (reason.IsLocked id) else Ok c) b e in
+    let m = both_made (is_of (record { id = id; func = func; info = info }) front) (λ u. if is_async front.class && unlocks then Err
+    (reason.IsLocked id) else Ok c) b e in
     let p = failed (is_async front.class && unlocks) (Ok c) (reason.IsLocked id) b m.1.1 in
     let same : c ≡ b = cc in
     let sync : (is_async front.class && true) ≡ false = (let z = p.0 in rw told at z) in
@@ -166,7 +179,8 @@ front_sync unlocks id func info front a b told e =
       by_class Sync f = refl
       by_class Async f = absurd cc
 
-none_locked : (current : Option Current) (id func info : ℕ) (here : Bool) (elsewhere : Reason) (unlocks : Bool) (a b : CpuState) → unlocks ≡ true → is_some current ≡ false
+none_locked : (current : Option Current) (id func info : ℕ) (here : Bool) (elsewhere : Reason) (unlocks : Bool) (a b : CpuState) → unlocks ≡ true →
+    is_some current ≡ false
     → begun_with current (record { id = id; func = func; info = info }) here elsewhere unlocks a ≡ Ok b → runs_locked b ≡ true
 none_locked (Some x) id func info here elsewhere unlocks a b told is e = absurd cc
 none_locked None id func info here elsewhere unlocks a b told is e =
@@ -179,10 +193,12 @@ entered_locked true actor id func info place s c told unlocks none e = absurd cc
 entered_locked false actor id func info place s c told unlocks none e =
     let a = cpu_at s actor in
     let tells = not s.setting.without.unlocks in
-    let p = passed a.irq (begun_with a.current (record { id = id; func = func; info = info }) (is_batch place actor) (place_reason id place) tells a) reason.InterruptsOff c e in
+    let p = passed a.irq (begun_with a.current (record { id = id; func = func; info = info }) (is_batch place actor)
+    (place_reason id place) tells a) reason.InterruptsOff c e in
     none_locked a.current id func info (is_batch place actor) (place_reason id place) tells a c (ap not unlocks) none p.1
 
-begin_places : (actor id func info r : ℕ) (s : StateValue) (c : CpuState) (unless : Bool) → Placed s → r < 65536 → (unless ≡ false → Enters id (cpu_at s actor) c)
+begin_places : (actor id func info r : ℕ) (s : StateValue) (c : CpuState) (unless : Bool) → Placed s → r < 65536 → (unless ≡ false →
+    Enters id (cpu_at s actor) c)
     → (unless ≡ false → runs_locked c ≡ true) → taken_at (placed_unless unless actor id (with_cpu actor s c)) r ≡ taken_at s r
 begin_places actor id func info r s c true pl low enters locked = refl
 begin_places actor id func info r s c false pl low enters locked =
@@ -192,7 +208,11 @@ begin_places actor id func info r s c false pl low enters locked =
     let changed : cpu_at (with_cpu actor s c) actor ≡ c = cpu_changed actor s c (rw pl.cpus_are below) in
     let place : place_of_run actor (cpu_at (with_cpu actor s c) actor) ≡ Run actor =
     ap (λ x. place_of_run actor x) changed ∙ ap (λ (b : Bool). if b then Run actor else Free) (locked refl) in
-    let some : en.from ≡ Nowhere → ⊥ = λ x. elim en.is_from [ inl y ↦ (let f : Nowhere ≡ InBatch = sym x ∙ y in cc) | inr y ↦ (let f : Nowhere ≡ InQueue = sym x ∙ y in cc) ] in
+    let some : en.from ≡ Nowhere → ⊥ = λ x. elim en.is_from [
+      | inl y ↦ (let f : Nowhere ≡ InBatch = sym x ∙
+          y in cc)
+      | inr y ↦ (let f : Nowhere ≡ InQueue = sym x ∙ y in cc)
+    ] in
     elim (cases_eq id r) [
       | inl here ↦
           (let was = mover_place s actor id en.from (run_kind en.class) c pl en.shift l (rw here low) in
@@ -235,7 +255,8 @@ end_turns actor id r s t told e =
     let n = both_made (on_cpu actor s made) (λ x. Ok (freed_if test id x)) t e in
     let m = made_on_cpu actor s n.0 made n.1.0 in
     let same : freed_if test id n.0 ≡ t = cc in
-    let places : t.places ≡ s.places = ap (λ x. x.places) (sym same) ∙ none_freed (runs_locked (cpu_at s actor)) unlocks id n.0 told ∙ ap (λ x. x.places) (sym m.1.1) in
+    let places : t.places ≡ s.places = ap (λ x. x.places) (sym same) ∙ none_freed (runs_locked (cpu_at s actor)) unlocks id n.0 told ∙
+    ap (λ x. x.places) (sym m.1.1) in
     record { allows = tt; after = same_places s t r places }
 
 send_turns : (actor to r : ℕ) (s t : StateValue) → send_by actor to s ≡ Ok t → Turns r actor (event.Call (calls.Send to)) s t
@@ -263,13 +284,15 @@ call_turns actor r (calls.Unlock id) s t p low order unlocks e = unlock_turns ac
 call_turns actor r (calls.Begin id func info) s t p low order unlocks e = begin_turns actor id func info r s t p low order unlocks e
 call_turns actor r (calls.End id) s t p low order unlocks e = end_turns actor id r s t unlocks e
 
-turns_goes : (actor r : ℕ) (e : Event) (s t : StateValue) → Placed s → r < 65536 → s.setting.without.order ≡ false → s.setting.without.unlocks ≡ false → goes actor e s ≡ Ok t
+turns_goes : (actor r : ℕ) (e : Event) (s t : StateValue) → Placed s → r < 65536 → s.setting.without.order ≡ false → s.setting.without.unlocks ≡ false →
+    goes actor e s ≡ Ok t
     → Turns r actor e s t
 turns_goes actor r (event.Call e) s t p low order unlocks g = call_turns actor r e s t p low order unlocks g
 turns_goes actor r (event.Stop e) s t p low order unlocks g = record { allows = tt; after = same_places s t r (stop_keeps_calls actor e s t g).places_are }
 turns_goes actor r (event.Label e) s t p low order unlocks g = record { allows = tt; after = same_places s t r (label_keeps_calls actor e s t g).places_are }
 
-turns_run : (r : ℕ) (es : List (ℕ × Event)) (s t : StateValue) → Placed s → r < 65536 → s.setting.without.order ≡ false → s.setting.without.unlocks ≡ false → Runs s es t
+turns_run : (r : ℕ) (es : List (ℕ × Event)) (s t : StateValue) → Placed s → r < 65536 → s.setting.without.order ≡ false → s.setting.without.unlocks ≡ false →
+    Runs s es t
     → taken_at t r ≡ locked_from r (taken_at s r) es
 unfolding locked_from
 turns_run r [] s t p low order unlocks run = ap (λ x. taken_at x r) run
@@ -290,5 +313,6 @@ records_take_turns u words es t cpu e order unlocks run r low =
     let now = turns_run r es first s p0 low (ap (λ v. v.without.order) set0 ∙ order) (ap (λ v. v.without.unlocks) set0 ∙ unlocks) m.1.0 in
     let none : taken_at first r ≡ false = ap is_taken (free_at_first u words r low) in
     let locked : taken_at s r ≡ locked_from r false es = now ∙ ap (λ b. locked_from r b es) none in
-    let step = turns_goes cpu r e s t (placed_runs es first s p0 m.1.0) low (ap (λ v. v.without.order) set ∙ order) (ap (λ v. v.without.unlocks) set ∙ unlocks) m.1.1 in
+    let step = turns_goes cpu r e s t (placed_runs es first s p0 m.1.0) low (ap (λ v. v.without.order) set ∙ order) (ap (λ v. v.without.unlocks) set ∙
+    unlocks) m.1.1 in
     rw locked at step.allows

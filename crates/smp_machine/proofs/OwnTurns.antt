@@ -1,5 +1,5 @@
 -- What a turn leaves of a CPU, with what it has answered to its own stop.
-use Rattle.std.proofs.Common.{◌≡◌, ◌≢◌, inl, inr, ℕ, ℤ, ◌+◌, nat_lt, Bool, true, false, Option, Some, None, List, [], ◌∷◌, map, slice_index_or, slice_set}
+use Rattle.std.proofs.Common.{◌≡◌, ◌≢◌, inl, inr, ℕ, ℤ, ◌+◌, nat_lt, Bool, true, false, Option, Some, None, List, [], ◌∷◌, map}
 use Rattle.std.proofs.Common.{refl, sym, ap, ◌∙◌, subst}
 use Rattle.std.proofs.lemmas.List.{append_cancel_left}
 use Rattle.smp_mask.specs.Mask.{has}

@@ -11,6 +11,8 @@ use Rattle.smp_calls.specs.Families.{CallsOne, CallsBy, CallsHere, CallsUserHere
 use Rattle.smp_calls.specs.Records.{call_by, many_call, single_record, user_record, class_for}
 use Rattle.smp_calls.specs.Rounds.{Picks}
 use Rattle.smp_calls.specs.Targets.{IsAny, HasNone, is_target, remote}
+use Rattle.smp_calls.specs.Within.{CallsWithin}
+use Rattle.smp_calls.specs.declared.many_within.Within.{Within}
 use Rattle.smp_machine.specs.Calls.{KeepsStops, RefusedInHand}
 use Rattle.smp_machine.specs.MachineCpu.{MachineValue, MachineCpuValue}
 
@@ -86,5 +88,14 @@ pub record EachAnswers {H : Type 0} (leads : H → Heard → H → Type 0) (m : 
   pub calls : IfOk result (λ called. CallsMany leads old.calls before new.calls after (remote old.calls.number called) (class_for wait) func info
       (if has called old.calls.number then Some (heard old.calls.number func info) else None) wait)
   pub ended : IfOk result (λ called. wait ≡ true → HaveEnded new.calls (many_call old.calls.number Sync func info) (remote old.calls.number called))
+  pub refused : IfErr result (λ e. RefusedInHand e old before new after)
+  pub kept : KeepsStops old new
+
+-- `call_many_within`: as `call_many` with wait, with an end of waiting: which CPUs were called, and which have not answered
+pub record WithinAnswers {H : Type 0} (leads : H → Heard → H → Type 0) (m : MachineValue) (old : MachineCpuValue) (before : H) (new : MachineCpuValue) (after : H)
+    (mask func info polls : ℕ) (result : Result Within SmpError) : Type 0 where
+  pub free : IfOk result (λ _. old.stops.inside ≡ None)
+  pub calls : IfOk result (λ w. CallsWithin leads old.calls before new.calls after func info (is_target mask m.calls.online old.calls.number false)
+      w.called w.silent polls)
   pub refused : IfErr result (λ e. RefusedInHand e old before new after)
   pub kept : KeepsStops old new

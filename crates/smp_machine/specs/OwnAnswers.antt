@@ -1,6 +1,6 @@
 -- What a CPU answers to its own stops.
 use Rattle.std.specs.List.{AllByRecursion}
-use Rattle.std.specs.Prelude.{◌≡◌, ◌⊎◌, ℕ, ℤ, true, Option, Some, List, [], ◌∷◌, ◌++◌, slice_index_or}
+use Rattle.std.specs.Prelude.{◌≡◌, ◌⊎◌, ℕ, ℤ, true, Some, List, [], ◌∷◌, ◌++◌, slice_index_or}
 use Rattle.smp_mask.specs.Mask.{has}
 use Rattle.smp_stop_steps.specs.Start.{answer_word}
 use Rattle.smp_stop_steps.specs.declared.phase.TheConstants.{RUN}

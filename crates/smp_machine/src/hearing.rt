@@ -13,13 +13,16 @@ ghost use Rattle.smp_calls.specs.Families.{CallsOne, CallsBy, CallsHere, CallsUs
 ghost use Rattle.smp_calls.specs.Records.{call_by, many_call, single_record, user_record, class_for};
 ghost use Rattle.smp_calls.specs.Rounds.{Picks};
 ghost use Rattle.smp_calls.specs.Targets.{IsAny, HasNone, is_target, remote};
+ghost use Rattle.smp_calls.specs.Within.{CallsWithin};
 ghost use Rattle.smp_machine.specs.Calls.{KeepsStops};
 ghost use Rattle.smp_machine.specs.MachineCpu.{IsAt};
 ghost use Rattle.smp_machine.specs.Works.{LooksOnce};
 
 use crate::machine::Machine;
 use crate::machine_cpu::MachineCpu;
-use smp_calls::{call_any, call_async, call_many, call_single, each_cpu_cond};
+use smp_calls::{
+    Within, call_any, call_async, call_many, call_many_within, call_single, each_cpu_cond,
+};
 use smp_mask::{CpuMask, SmpError};
 use smp_queue::{Alarm, Audit, Boot, CallCpu, CallTable, Handler};
 use smp_words::call::Class;
@@ -235,6 +238,35 @@ pub(crate) fn many<A: Allocator, R: Wait, H: Handler>(
         func,
         info,
         wait,
+    )
+}
+
+/// A call to many CPUs that gives up waiting after some polls. Interrupts are on: while it waits, the CPU handles its own.
+pub(crate) fn many_within<A: Allocator, R: Wait, H: Handler>(
+    machine: &Machine<A>,
+    rt: &R,
+    me: &mut MachineCpu<A>,
+    handler: &mut H,
+    mask: CpuMask,
+    func: u16,
+    info: u64,
+    polls: u32,
+) -> Within
+    requires at { IsAt machine.now me.old }
+    requires irq { me.old.stops.irq ≡ true }
+    ensures calls { CallsWithin H.leads me.old.calls handler.old me.new.calls handler.new func info
+        (is_target mask machine.now.calls.online me.old.calls.number false) result.called result.silent polls }
+    ensures kept { KeepsStops me.old me.new }
+{
+    call_many_within(
+        &machine.calls.table,
+        rt,
+        &mut me.calls,
+        handler,
+        mask,
+        func,
+        info,
+        polls,
     )
 }
 

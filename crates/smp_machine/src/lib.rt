@@ -25,6 +25,7 @@
 
 mod boot;
 mod calls;
+mod calls_within;
 mod cpu;
 mod crew;
 mod hearing;
@@ -46,6 +47,8 @@ mod seat_keys;
 mod seat_names;
 mod seat_polls;
 mod seat_stops;
+mod seat_within;
+mod stalls;
 mod stop;
 mod stop_calls;
 mod stop_work;

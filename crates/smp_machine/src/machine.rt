@@ -10,6 +10,7 @@ use crate::cpu::Cpu;
 use crate::hearing::Hearing;
 use crate::machine_cpu::MachineCpu;
 use crate::open::open;
+use crate::stalls::Stalls;
 use crate::stoppers::Stoppers;
 use smp_labels::LabelMap;
 use smp_mask::{CpuMask, SmpError};
@@ -25,6 +26,7 @@ pub struct Machine<A: Allocator> {
     pub(crate) calls: Hearing<A>,
     pub(crate) stops: StopTable<A>,
     pub(crate) queues: Stoppers<A>,
+    pub(crate) stalls: Stalls,
 }
 
 impl<A: Allocator> Model for Machine<A> {
@@ -61,6 +63,7 @@ where
         calls,
         stops,
         queues,
+        stalls: Stalls::new(),
     };
     match seat_all(alloc, &machine, call_cpus, stop_cpus, passes) {
         Ok(boot) => Ok((machine, boot)),

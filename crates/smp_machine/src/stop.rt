@@ -23,6 +23,7 @@ use crate::hearing::wake;
 use crate::machine::Machine;
 use crate::machine_cpu::MachineCpu;
 use crate::poll::poll;
+use crate::stalls::note_late;
 use crate::turn::turn;
 use crate::work_queue::Item;
 use crossbeam_utils::Backoff;
@@ -196,6 +197,7 @@ pub(crate) fn collect<A: Allocator, R: Wait, H: Handler, F: StopFunc>(
     ensures { HasCollected H.leads F.leads me.old handler.old run.old me.new handler.new run.new result }
 {
     let backoff = Backoff::new();
+    let mut polls = 0u32;
     for _ in rt.forever() {
         match look_done(machine, me) {
             Some(answer) => return answer,
@@ -204,6 +206,8 @@ pub(crate) fn collect<A: Allocator, R: Wait, H: Handler, F: StopFunc>(
                 backoff.snooze();
             }
         }
+        polls = polls.wrapping_add(1);
+        note_late(machine, me, polls);
     }
     unreachable!()
 }

@@ -101,4 +101,14 @@ impl<A: Allocator> Stoppers<A> {
     {
         self.queues[me.number as usize].pop_as::<Take, R>(rt, &mut me.own)
     }
+
+    /// Whether this CPU's queue has a work that it has not taken, by loads alone. It does not wait.
+    pub(crate) fn has_work(&self, me: &mut Passes<A>, cpu: u32) -> bool
+        requires queues { me.old.queues ≡ self.now }
+        requires within { cpu < cpus }
+        ensures { me.new ≡ me.old }
+    {
+        let by = &mut me.to[cpu as usize];
+        !self.queues[cpu as usize].is_empty_as::<Take>(by)
+    }
 }

@@ -23,6 +23,7 @@ pub(crate) fn take_next<A: Allocator, R: Wait>(
     ensures { TakesNext machine.now me.old me.new result }
 {
     let item = machine.queues.take(rt, &mut me.passes)?;
+    machine.stalls.answers(me.calls.number());
     match machine.stops.enter(&mut me.stops, item.slot) {
         Ok(_) => Some(item.slot),
         Err(_) => None,

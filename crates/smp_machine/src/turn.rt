@@ -11,6 +11,7 @@ use crate::cpu::Cpu;
 use crate::hearing::hear;
 use crate::machine::Machine;
 use crate::machine_cpu::MachineCpu;
+use crate::stalls::note_late;
 use crossbeam_utils::Backoff;
 use smp_multi::{StopCpu, StopFunc, StopTable, Turn};
 use smp_queue::Handler;
@@ -131,11 +132,14 @@ pub(crate) fn finish_work<A: Allocator, R: Wait, H: Handler, F: StopFunc>(
     ensures passes { me.new.passes ≡ me.old.passes }
 {
     let backoff = Backoff::new();
+    let mut turns = 0u32;
     for _ in rt.forever() {
         match turn(machine, me, handler, run) {
             Turn::Left => return,
             _ => backoff.snooze(),
         }
+        turns = turns.wrapping_add(1);
+        note_late(machine, me, turns);
     }
     unreachable!()
 }

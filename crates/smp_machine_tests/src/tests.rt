@@ -8,6 +8,7 @@ mod stops;
 mod turns;
 mod users;
 mod waits;
+mod watching;
 mod wide;
 
 use linked_list_allocator::LocalHeap;

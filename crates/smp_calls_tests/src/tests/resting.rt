@@ -72,6 +72,7 @@ fn call_each<R: Wait>(zero: &mut Counter<'_, R>) -> u64 {
 }
 
 /// What a CPU that rests has heard, and whether it has ended.
+#[derive(Drop)]
 struct Rested {
     heard: AtomicU64,
     ended: AtomicU64,

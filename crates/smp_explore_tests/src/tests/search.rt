@@ -3,8 +3,8 @@ use smp_core::{
 };
 use smp_explore::walk::walk;
 use smp_explore::{
-    Atom, Conditions, Expected, Limit, Line, Most, Part, Unwatched, Verdict, WalkEnd, Walked,
-    Watch, events_of, explore,
+    Answered, Atom, Conditions, Expected, Limit, Line, Most, Part, Unwatched, Verdict, WalkEnd,
+    Walked, Watch, events_of, explore, explore_each,
 };
 use smp_mask::{CpuMask, SmpError};
 use std::alloc::Global;
@@ -381,6 +381,69 @@ fn a_watch_sees_each_state(rt: HostRuntime) -> Result<(), Fail> {
         steps: 4,
     };
     assert_eq!(rt; noted, wanted);
+    Ok(())
+}
+
+// The numbers of broken expectations, in the order in which they are told.
+#[derive(Drop)]
+struct Breaks {
+    numbers: Vec<usize, Global>,
+}
+
+impl Watch for Breaks {
+    fn look(&mut self, _states: usize, _steps: u64) {}
+
+    fn broken(&mut self, number: usize) {
+        let _ = self.numbers.push(number);
+    }
+}
+
+// How long the shortest schedule is that breaks an expectation, where one does.
+fn breach(answered: &Answered<'_, Global>) -> Option<usize> {
+    match &answered.verdict {
+        Verdict::Broken(schedule) => Some(schedule.len()),
+        _ => None,
+    }
+}
+
+// One search for five expectations, of which all but the first are broken. The record is free at first, held after 2 steps,
+// in the queue after 8, and its function runs after 19, so they are told in this order.
+#[test]
+fn each_break_is_told_by_its_number(rt: HostRuntime) -> Result<(), Fail> {
+    let lines = [
+        post(0, 1, 1),
+        once(0, Command::Send(1)),
+        until(1, Command::Handle),
+    ];
+    let running = [Part::Is(Atom::Place(0, RecPlace::Running(1)))];
+    let held = [Part::Is(Atom::Place(0, RecPlace::Held))];
+    let queued = [Part::Is(Atom::Place(0, RecPlace::Queued(1)))];
+    let free = [Part::Is(Atom::Place(0, RecPlace::Free))];
+    let expected = [
+        Expected::Goes,
+        Expected::Never(&running),
+        Expected::Never(&held),
+        Expected::Never(&queued),
+        Expected::Never(&free),
+    ];
+    let mut breaks = Breaks {
+        numbers: Vec::new(rt.alloc()),
+    };
+    let core = Core::new(rt.alloc(), 3, "0-1".parse()?)?;
+    let answers = explore_each(
+        rt.alloc(),
+        core,
+        &lines,
+        &expected,
+        states(1_000),
+        &mut breaks,
+    )?;
+    assert_eq!(rt; breaks.numbers.as_slice(), [4, 2, 3, 1].as_slice());
+    let wanted = [None, Some(19), Some(2), Some(8), Some(0)];
+    assert_eq!(rt; answers.len(), wanted.len());
+    for (answered, steps) in answers.iter().zip(wanted) {
+        assert_eq!(rt; breach(answered), steps);
+    }
     Ok(())
 }
 

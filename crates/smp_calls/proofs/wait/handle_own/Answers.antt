@@ -1,4 +1,3 @@
-use Rattle.std.proofs.Common.{arith, refl}
 use Rattle.smp_calls.proofs.Steps.{leaves_handled}
 use Rattle.smp_calls.proofs.Turns.{handled_once}
 use Rattle.smp_calls.proofs.wait.handle_own.Goals as goal

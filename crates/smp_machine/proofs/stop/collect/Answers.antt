@@ -4,7 +4,8 @@ use mir.Syntax.{w32}
 use mir.Val.{SFits}
 use Rattle.smp_stop_steps.specs.declared.known.OwnMove.TheVariants.{Collected}
 use Rattle.smp_multi.specs.Answers.{IsWholeWord}
-use Rattle.smp_machine.specs.Own.{Own, with_collected, with_moves}
+use Rattle.smp_machine.specs.Own.{Own, own_of, with_collected, with_moves}
+use Rattle.smp_machine.specs.Works.{Works}
 use Rattle.smp_machine.specs.MachineCpu.{MachineCpuValue}
 use Rattle.smp_machine.proofs.Works.{works_none}
 use Rattle.smp_machine.proofs.Stopping.{works_after, works_collect, works_looked}
@@ -21,8 +22,10 @@ loop-preserved g c =
     let hears = g.H.Handler.leads in
     let runs = g.F.StopFunc.leads in
     let looked = works_looked hears runs c.loop.me c.look_done.new.me c.loop.handler c.loop.run c.in-None-look_done.ensures in record {
-      works = works_after hears runs (λ o. o) c.loop.invariant.works (works_after hears runs (λ o. o) looked c.poll.ensures.works);
-      outside = c.poll.ensures.outside;
+      works = subst (λ (x : MachineCpuValue). Works hears runs c.args.me.now c.args.handler.now c.args.run.now x c.poll.new.handler c.poll.new.run
+          (own_of c.args.me.now)) (sym c.note_late.ensures)
+          (works_after hears runs (λ o. o) c.loop.invariant.works (works_after hears runs (λ o. o) looked c.poll.ensures.works));
+      outside = ap (λ (x : MachineCpuValue). x.stops.inside) c.note_late.ensures ∙ c.poll.ensures.outside;
     }
 
 pub returns-in-Some-look_done : goal.returns-in-Some-look_done

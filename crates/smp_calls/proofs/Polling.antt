@@ -1,0 +1,230 @@
+-- Waiting no longer than some polls: for one record, and for those of many CPUs.
+use Rattle.std.proofs.Common.{arith, ◌≡◌, ℕ, ◌+◌, ◌<◌, ◌≤◌, ◌==◌, ◌&&◌, ◌||◌, not, Bool, true, false, cond, List, [], ◌∷◌, length, refl, sym, ap, ◌∙◌, subst}
+use Rattle.std.proofs.Common.{inl, inr}
+use Rattle.std.proofs.lemmas.Bool.{cases_eq, cases_Bool, ne_eqb, eq-eqb}
+use Rattle.smp_mask.specs.Mask.{has, members}
+use Rattle.smp_mask.specs.declared.mask.TheConstants.{NR_CPUS}
+use Rattle.smp_words.specs.Size.{records_of_one}
+use Rattle.smp_queue.specs.Cpu.{CpuValue, confirmed_at, confirms, looks}
+use Rattle.smp_queue.specs.declared.handler.Heard.{Heard}
+use Rattle.smp_calls.specs.Families.{IsSized, Leaves, owes_at}
+use Rattle.smp_calls.specs.Records.{many_record}
+use Rattle.smp_calls.specs.Within.{IsNoneOf, WaitsWithin}
+use Rattle.smp_calls.proofs.Steps.{leaves_none, leaves_as, leaves_then, leaves_looked, leaves_ended}
+use Rattle.smp_calls.proofs.Lawful.{small_many, are_apart}
+use Rattle.smp_calls.proofs.One.{and_true, and_false}
+use Rattle.smp_calls.proofs.Lists.{next_gone, none_left}
+use Rattle.smp_calls.proofs.Loops.{both_true, kept_among, kept_else, kept_here}
+use Rattle.smp_calls.proofs.Parts.{none_true}
+
+-- a CPU has looked at a record and polled so often, once after each look
+pub record Polling {H : Type 0} (leads : H → Heard → H → Type 0) (old : CpuValue) (before : H) (now : CpuValue) (here : H) (made : ℕ) : Type 0 where
+  pub leaves : Leaves leads old before now here [] [] (owes_at old) (confirmed_at old)
+  pub turns : now.steps + length old.part.asked ≡ old.steps + length now.part.asked
+  pub polled : length now.part.asked ≡ length old.part.asked + made
+
+-- of the CPUs called all were waited for but those left
+pub record Asks {H : Type 0} (leads : H → Heard → H → Type 0) (old : CpuValue) (before : H) (new : CpuValue) (after : H)
+    (called left answered silent polls budget : ℕ) : Type 0 where
+  pub leaves : Leaves leads old before new after [] [] (owes_at old) (confirmed_at new)
+  pub among : (c : ℕ) → c < NR_CPUS → has left c ≡ true → has called c ≡ true
+  pub still : (c : ℕ) → c < NR_CPUS → has left c ≡ true → (has answered c ≡ true) × (has silent c ≡ true)
+  pub parted : (c : ℕ) → c < NR_CPUS → has left c ≡ false → has answered c ≡ (has called c && not (has silent c))
+  pub silent_among : (c : ℕ) → has silent c ≡ true → has called c ≡ true
+  pub answered_among : (c : ℕ) → has answered c ≡ true → has called c ≡ true
+  pub told : (c : ℕ) → c < NR_CPUS → has called c ≡ true → has left c ≡ false → confirmed_at new (many_record c) ≡ not (has silent c)
+  pub others : (k : ℕ) → k < records_of_one → IsNoneOf k (has called) → confirmed_at new k ≡ confirmed_at old k
+  pub turns : (new.steps + length old.part.asked) + length (members left) ≡ old.steps + (length (members called) + length new.part.asked)
+  pub polled : length new.part.asked + budget ≡ length old.part.asked + polls
+  pub gone : (c : ℕ) → c < NR_CPUS → has silent c ≡ true → has left c ≡ false → budget ≡ 0
+
+pub differ : (b : Bool) → b ≡ true → b ≡ false → ⊥
+differ true e n = cc
+differ false e n = cc
+
+not_of : (b : Bool) → not (not b) ≡ b
+not_of true = refl
+not_of false = refl
+
+is_no : (b : Bool) → not b ≡ true → b ≡ false
+is_no true e = cc
+is_no false e = refl
+
+-- another one than the next is left exactly where it was
+left_else : (left next cpu c : ℕ) → members left ≡ cpu ∷ members next → c < NR_CPUS → (c == cpu) ≡ false → has next c ≡ has left c
+left_else left next cpu c step below n = next_gone left next cpu c step below ∙ (ap (λ b. has left c && not b) n ∙ and_true (has left c))
+
+-- whether a record is confirmed that was waited for
+found_one : (done : Bool) (k : ℕ) (was now : Bool) → now ≡ ((done && k == k) || was) → (done ≡ false → was ≡ false) → now ≡ done
+found_one true k was now e locked = e ∙ ap (λ b. b || was) (eq-eqb k k refl)
+found_one false k was now e locked = e ∙ locked refl
+
+-- and another one
+found_else : (done : Bool) (j k : ℕ) (was now : Bool) → now ≡ ((done && j == k) || was) → (j ≡ k → ⊥) → now ≡ was
+found_else done j k was now e other = e ∙ (ap (λ b. (done && b) || was) (ne_eqb j k other) ∙ ap (λ b. b || was) (and_false done))
+
+-- the records of two CPUs are two
+others_record : (c cpu k : ℕ) → k ≡ many_record cpu → (c ≡ cpu → ⊥) → many_record c ≡ k → ⊥
+others_record c cpu k is_k other e = other (are_apart.many c cpu (e ∙ is_k))
+
+module _ {H : Type 0} (leads : H → Heard → H → Type 0) where
+  pub polling_first : (c : CpuValue) (h : H) → Polling leads c h c h 0
+  polling_first c h = record { leaves = leaves_none leads c h; turns = refl; polled = omega arith }
+
+  -- after a look that found it locked, and one poll
+  pub polling_more : (old now mid next : CpuValue) (before here last : H) (made : ℕ) → Polling leads old before now here made → mid ≡ looks now
+      → Leaves leads mid here next last [] [] (owes_at mid) (confirmed_at mid)
+      → (next.steps ≡ mid.steps) × (length next.part.asked ≡ length mid.part.asked + 1) → Polling leads old before next last (made + 1)
+  polling_more old now mid next before here last made p e handled once =
+      let steps : next.steps ≡ now.steps + 1 = once.0 ∙ ap (λ (c : CpuValue). c.steps) e in
+      let asked : length next.part.asked ≡ length now.part.asked + 1 = once.1 ∙ ap (λ (c : CpuValue). length c.part.asked + 1) e in
+      let t = p.turns in
+      let q = p.polled in
+      let one = subst (λ (x : CpuValue). Leaves leads x here next last [] [] (owes_at x) (confirmed_at x)) e handled in
+      record {
+        leaves = leaves_as leads (owes_at old) (confirmed_at old) (leaves_then leads p.leaves (leaves_looked leads {old = now} refl one))
+            p.leaves.owes_are p.leaves.confirmed_are;
+        turns = omega arith;
+        polled = omega arith;
+      }
+
+  -- the last look
+  pub polling_looked : (old now new : CpuValue) (before here : H) (made k : ℕ) (done : Bool) → IsSized old → k < records_of_one
+      → Polling leads old before now here made → new ≡ looks (cond done (confirms k now) now) →
+      Leaves leads old before new here [] [] (owes_at old) (λ j. (done && j == k) || confirmed_at old j)
+  polling_looked old now new before here made k true s l p e = leaves_ended leads old now new before here k s l p.leaves e
+  polling_looked old now new before here made k false s l p e =
+      let one = leaves_looked leads {old = now} e (leaves_none leads new here) in
+      leaves_as leads (owes_at old) (confirmed_at old) (leaves_then leads p.leaves one)
+      (λ c. ap (λ (x : CpuValue). owes_at x c) e ∙ p.leaves.owes_are c) (λ j b. ap (λ (x : CpuValue). confirmed_at x j) e ∙ p.leaves.confirmed_are j b)
+
+  pub polling_turns : (old now new : CpuValue) (before here : H) (made k : ℕ) (done : Bool) → Polling leads old before now here made
+      → new ≡ looks (cond done (confirms k now) now) → new.steps + length old.part.asked ≡ old.steps + (1 + length new.part.asked)
+  polling_turns old now new before here made k true p e =
+      let steps : new.steps ≡ now.steps + 1 = ap (λ (c : CpuValue). c.steps) e in
+      let asked : length new.part.asked ≡ length now.part.asked = ap (λ (c : CpuValue). length c.part.asked) e in
+      let t = p.turns in
+      omega arith
+  polling_turns old now new before here made k false p e =
+      let steps : new.steps ≡ now.steps + 1 = ap (λ (c : CpuValue). c.steps) e in
+      let asked : length new.part.asked ≡ length now.part.asked = ap (λ (c : CpuValue). length c.part.asked) e in
+      let t = p.turns in
+      omega arith
+
+  pub polling_polled : (old now new : CpuValue) (before here : H) (made k polls rest : ℕ) (done : Bool) → Polling leads old before now here made
+      → new ≡ looks (cond done (confirms k now) now) → made + rest ≡ polls → length new.part.asked + rest ≡ length old.part.asked + polls
+  polling_polled old now new before here made k polls rest true p e sum =
+      let asked : length new.part.asked ≡ length now.part.asked = ap (λ (c : CpuValue). length c.part.asked) e in
+      let q = p.polled in
+      omega arith
+  polling_polled old now new before here made k polls rest false p e sum =
+      let asked : length new.part.asked ≡ length now.part.asked = ap (λ (c : CpuValue). length c.part.asked) e in
+      let q = p.polled in
+      omega arith
+
+  pub polling_locked : (old now : CpuValue) (before here : H) (made k : ℕ) → k < records_of_one → Polling leads old before now here made
+      → (confirmed_at now k ≡ true → ⊥) → confirmed_at old k ≡ false
+  polling_locked old now before here made k l p locked = sym (p.leaves.confirmed_are k l) ∙ none_true (confirmed_at now k) locked
+
+  pub asks_start : (c : CpuValue) (h : H) (called polls : ℕ) → Asks leads c h c h called called called called polls polls
+  asks_start c h called polls = record {
+    leaves = leaves_none leads c h;
+    among = λ x l e. e;
+    still = λ x l e. (e, e);
+    parted = λ x l e. e ∙ sym (ap (λ b. b && not (has called x)) e);
+    silent_among = λ x e. e;
+    answered_among = λ x e. e;
+    told = λ x l e n. absurd (differ (has called x) e n);
+    others = λ k l none. refl;
+    turns = omega arith;
+    polled = refl;
+    gone = λ x l e n. absurd (differ (has called x) e n);
+  }
+
+  -- one more was waited for
+  pub asks_more : {old mid new : CpuValue} {before m after : H} (called left next cpu k answered silent answered' silent' polls budget rest : ℕ) (done : Bool) →
+      Asks leads old before mid m called left answered silent polls budget →
+      members left ≡ cpu ∷ members next → cpu < NR_CPUS → has left cpu ≡ true → k ≡ many_record cpu → k < records_of_one →
+      Leaves leads mid m new after [] [] (owes_at mid) (λ j. (done && j == k) || confirmed_at mid j) →
+      (done ≡ false → (confirmed_at mid k ≡ false) × (rest ≡ 0)) →
+      new.steps + length mid.part.asked ≡ mid.steps + (1 + length new.part.asked) →
+      length new.part.asked + rest ≡ length mid.part.asked + budget → rest ≤ budget →
+      (done ≡ true → answered' ≡ answered) → (done ≡ false → (c : ℕ) → has answered' c ≡ (has answered c && not (c == cpu))) →
+      (not done ≡ true → silent' ≡ silent) → (not done ≡ false → (c : ℕ) → has silent' c ≡ (has silent c && not (c == cpu))) →
+      Asks leads old before new after called next answered' silent' polls rest
+  asks_more {old} {mid} {new} {before} {m} {after} called left next cpu k answered silent answered' silent' polls budget rest done
+      a step below here is_k small g locked turns polled fewer ak ao sk so =
+      let answered_here : has answered' cpu ≡ done = kept_here done answered answered' cpu ak ao (a.still cpu below here).0 in
+      let silent_here : has silent' cpu ≡ not done = kept_here (not done) silent silent' cpu sk so (a.still cpu below here).1 in
+      let answered_else : (c : ℕ) → (c == cpu) ≡ false → has answered' c ≡ has answered c = λ c n. kept_else done answered answered' cpu c ak ao n in
+      let silent_else : (c : ℕ) → (c == cpu) ≡ false → has silent' c ≡ has silent c = λ c n. kept_else (not done) silent silent' cpu c sk so n in
+      let is_called : has called cpu ≡ true = a.among cpu below here in
+      let one_less = ap (λ (xs : List ℕ). length xs) step in
+      let before_turns = a.turns in
+      let before_polled = a.polled in
+      let confirmed_here : confirmed_at new k ≡ done =
+      found_one done k (confirmed_at mid k) (confirmed_at new k) (g.confirmed_are k small) (λ n. (locked n).0) in
+      record {
+        leaves = leaves_as leads (owes_at old) (confirmed_at new) (leaves_then leads a.leaves g) a.leaves.owes_are (λ j b. sym (g.confirmed_are j b));
+        among = λ c l h. a.among c l (both_true (has left c) (not (c == cpu)) (sym (next_gone left next cpu c step l) ∙ h)).0;
+        still = λ c l h.
+            let both = both_true (has left c) (not (c == cpu)) (sym (next_gone left next cpu c step l) ∙ h) in
+            let n = is_no (c == cpu) both.1 in
+            let was = a.still c l both.0 in
+            (answered_else c n ∙ was.0, silent_else c n ∙ was.1);
+        parted = λ c l h. elim (cases_eq c cpu) [
+          | inl e ↦ subst (λ (x : ℕ). has answered' x ≡ (has called x && not (has silent' x))) (sym e)
+              (answered_here ∙ sym (ap (λ b. b && not (has silent' cpu)) is_called ∙ (ap not silent_here ∙ not_of done)))
+          | inr n ↦
+              let other = ne_eqb c cpu n in
+              let was = a.parted c l (sym (left_else left next cpu c step l other) ∙ h) in
+              answered_else c other ∙ (was ∙ sym (ap (λ b. has called c && not b) (silent_else c other)))
+        ];
+        silent_among = λ c h. a.silent_among c (kept_among (not done) silent silent' cpu c sk so h);
+        answered_among = λ c h. a.answered_among c (kept_among done answered answered' cpu c ak ao h);
+        told = λ c l h gone. elim (cases_eq c cpu) [
+          | inl e ↦ subst (λ (x : ℕ). confirmed_at new (many_record x) ≡ not (has silent' x)) (sym e)
+              (subst (λ (j : ℕ). confirmed_at new j ≡ not (has silent' cpu)) is_k (confirmed_here ∙ sym (ap not silent_here ∙ not_of done)))
+          | inr n ↦
+              let other = ne_eqb c cpu n in
+              let was = a.told c l h (sym (left_else left next cpu c step l other) ∙ gone) in
+              found_else done (many_record c) k (confirmed_at mid (many_record c)) (confirmed_at new (many_record c)) (g.confirmed_are (many_record c) (small_many c l))
+              (others_record c cpu k is_k n) ∙ (was ∙ sym (ap not (silent_else c other)))
+        ];
+        others = λ j b none. found_else done j k (confirmed_at mid j) (confirmed_at new j) (g.confirmed_are j b) (λ e. none cpu is_called (e ∙ is_k))
+            ∙ a.others j b none;
+        turns = omega arith;
+        polled = omega arith;
+        gone = λ c l h gone. elim (cases_eq c cpu) [
+          | inl e ↦ (locked (is_no done (sym silent_here ∙ (ap (λ (x : ℕ). has silent' x) (sym e) ∙ h)))).1
+          | inr n ↦
+              let other = ne_eqb c cpu n in
+              let none = a.gone c l (sym (silent_else c other) ∙ h) (sym (left_else left next cpu c step l other) ∙ gone) in
+              omega arith
+        ];
+      }
+
+  -- all were waited for
+  pub asks_end : {old new : CpuValue} {before after : H} (called left answered silent polls budget : ℕ) →
+      Asks leads old before new after called left answered silent polls budget → members left ≡ [] → ((c : ℕ) → has called c ≡ true → c < NR_CPUS) →
+      WaitsWithin leads old before new after called answered silent polls
+  asks_end {old} {new} called left answered silent polls budget a none low =
+      let no_more : length (members left) ≡ 0 = ap (λ (xs : List ℕ). length xs) none in
+      let turns = a.turns in
+      let sum = a.polled in
+      record {
+        leaves = a.leaves;
+        parted = λ c. elim (cases_Bool (has called c)) [
+          | inl h ↦ a.parted c (low c h) (none_left left c none (low c h))
+          | inr n ↦ none_true (has answered c) (λ e. absurd (differ (has called c) (a.answered_among c e) n)) ∙ sym (ap (λ b. b && not (has silent c)) n)
+        ];
+        among = a.silent_among;
+        confirmed_are = λ c h. a.told c (low c h) h (none_left left c none (low c h));
+        others = a.others;
+        turns = omega arith;
+        polled = λ c h.
+            let l = low c (a.silent_among c h) in
+            let zero = a.gone c l h (none_left left c none l) in
+            omega arith;
+        most = omega arith;
+      }
