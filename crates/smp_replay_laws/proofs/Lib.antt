@@ -1,0 +1,9 @@
+pub mod States
+pub mod Events
+pub mod Queues
+pub mod Accepts
+pub mod Posts
+pub mod Handles
+pub mod Pasts
+pub mod Halves
+pub mod Replays

@@ -1,0 +1,57 @@
+-- The events of a replay are accepted.
+use Rattle.std.specs.Prelude.{◌≡◌, ℕ, Bool, true, false, List, filter, Option}
+use Rattle.std.specs.List.{AllByRecursion}
+use Rattle.smp_labels.specs.Labels.{Labels}
+use Rattle.smp_labels.specs.declared.words.LabelWords.{LabelWords}
+use Rattle.smp_mask.specs.declared.error.SmpError.{SmpError}
+use Rattle.smp_words.specs.Commands.{FitsCommand}
+use Rattle.smp_words.specs.declared.command.Event.{Event as Command}
+use Rattle.smp_words.specs.declared.command.Event.TheVariants as command
+use Rattle.smp_words.specs.declared.seen.Seen.{Seen}
+use Rattle.smp_call_steps.specs.Calls.{no_calls, tells_all}
+use Rattle.smp_core.specs.New.{new_core}
+use Rattle.smp_core.specs.Runs.{IsReplay}
+use Rattle.smp_core.specs.Value.{CoreValue, Shown}
+use Rattle.smp_core.specs.Whole.{IsWhole}
+use Rattle.smp_event_steps.specs.declared.event.Event.{Event}
+use Rattle.smp_event_steps.specs.declared.event.Event.TheVariants as event
+use Rattle.smp_event_steps.specs.declared.without.Setting.{Setting}
+use Rattle.smp_event_steps.specs.Opened.{opening}
+use Rattle.smp_event_steps.specs.Runs.{Runs}
+use Rattle.smp_event_steps.specs.State.{StateValue}
+use Rattle.smp_events.specs.Traces.{all_fresh, events_of}
+use Rattle.smp_replay_laws.specs.Follows.{Follows, nothing_left_out}
+
+-- an event is one of calls
+abbrev pub is_of_call : ℕ × Event → Bool
+is_of_call (cpu, event.Call call) = true
+is_of_call (cpu, event.Stop stop) = false
+is_of_call (cpu, event.Label label) = false
+
+-- the events of calls among these, those of stops, keys and sites left out
+abbrev pub call_events : List (ℕ × Event) → List (ℕ × Event)
+call_events events = filter is_of_call events
+
+-- the numbers of a command that a replay begins are of its types
+abbrev pub Fits : Command → Type 0
+Fits (command.Start cpu c) = FitsCommand c
+Fits (command.Step cpu) = Unit {0}
+
+-- a trace is of these CPUs, and leaves nothing out
+pub record IsOf (u : Setting) (mask : ℕ) : Type 0 where
+  pub online : u.online ≡ mask
+  pub whole : u.without ≡ nothing_left_out
+
+-- The events of calls that these steps tell are a run of the model of events. It leads to a state in which each queue, each batch,
+-- each call that runs, each interrupt and each record is as in the calls that the steps tell, which are those of the core.
+pub record CallsAreAccepted (u : Setting) (words : LabelWords) (steps : List Seen) (core : CoreValue) : Type 0 where
+  pub end : StateValue
+  pub run : Runs (opening u words) (call_events (events_of all_fresh steps)) end
+  pub shown : Shown (tells_all no_calls steps) core
+  pub follows : Follows core.online (tells_all no_calls steps) end
+
+-- Of each replay, from a machine in which nothing was begun, the events of calls are accepted.
+abbrev pub CallsOfReplaysAreAccepted : Type 0
+CallsOfReplaysAreAccepted = (nr online : ℕ) (labels : Labels) (commands : List Command) (core : CoreValue) (steps : List Seen) (stopped : Option (ℕ × SmpError))
+    (u : Setting) (words : LabelWords) → IsWhole (new_core nr online labels) → AllByRecursion Fits commands → IsReplay (new_core nr online labels) commands core steps stopped
+    → IsOf u online → CallsAreAccepted u words steps core
