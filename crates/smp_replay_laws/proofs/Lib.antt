@@ -7,3 +7,7 @@ pub mod Handles
 pub mod Pasts
 pub mod Halves
 pub mod Replays
+pub mod StopEvents
+pub mod StopStates
+pub mod StopSteps
+pub mod StopKinds
