@@ -11,3 +11,5 @@ pub mod StopEvents
 pub mod StopStates
 pub mod StopSteps
 pub mod StopKinds
+pub mod StopMoves
+pub mod StopRuns

@@ -52,7 +52,7 @@ idle_free cpu (Carries answer) k = absurd k
 module _ (u : Setup) (p : StopState) (at at' : Word → ℕ) (seat : ℕ → Seat) (source : ℕ → Source) (h : StopShows u p at seat source) (me : ℕ) (below : me < cpus)
     (pasts : List Past) (sized : length pasts ≡ 32) (s : StateValue) (whole : s.setting.without ≡ nothing_left_out) (cpus_are : length s.cpus ≡ 32)
     (f : FollowsStops p at pasts s) (keys : (key : ℕ) → at' (Key key) ≡ at (Key key)) (sites : (site : ℕ) → at' (Site site) ≡ at (Site site)) where
-  mine : CpuIs p s (past_at pasts me) me
+  pub mine : CpuIs p s (past_at pasts me) me
   mine = f.cpus_are me below
 
   abbrev pub Leads : StopState → Past → List (ℕ × Event) → Type 0
@@ -80,7 +80,7 @@ module _ (u : Setup) (p : StopState) (at at' : Word → ℕ) (seat : ℕ → Sea
     pub standing_else : (cpu : ℕ) → cpu ≢ me → x.standing cpu ≡ (p.now.stop slot).standing cpu
     pub gate_is : q.gate ≡ p.gate
 
-  one_stop : (q : StopState) (slot : ℕ) (x : Stop) (inside : Option ℕ) (irq : Bool) (calling : Calling) (y : ToldStop) → Goes q slot x inside irq calling
+  pub one_stop : (q : StopState) (slot : ℕ) (x : Stop) (inside : Option ℕ) (irq : Bool) (calling : Calling) (y : ToldStop) → Goes q slot x inside irq calling
       → ((cpu : ℕ) → cpu ≢ me → has_run y cpu ≡ has_run (stop_at s slot) cpu) → OneStop p q me slot x (stop_at s slot) y
   one_stop q slot x inside irq calling y g ran = record {
     stop_is = g.stop_is;
@@ -97,7 +97,7 @@ module _ (u : Setup) (p : StopState) (at at' : Word → ℕ) (seat : ℕ → Sea
   stop_now q slot x is = is slot ∙ put_same p.now.stop slot x
 
   -- a CPU in this stop
-  in_slot : (q : StopState) (t : StateValue) (past : Past) (slot : ℕ) (x : Stop) (irq : Bool) (calling : Calling) → Goes q slot x (Some slot) irq calling → slot < cpus
+  pub in_slot : (q : StopState) (t : StateValue) (past : Past) (slot : ℕ) (x : Stop) (irq : Bool) (calling : Calling) → Goes q slot x (Some slot) irq calling → slot < cpus
       → (cpu_at t me).inside ≡ Some slot → (cpu_at t me).irq ≡ irq → has_run (stop_at t slot) me ≡ has_called calling → PhaseIs (x.standing me) past.phase
       → AnswerIs (x.standing me) past.answer → (past.phase ≡ 3 → irq ≡ false) → CpuIs q t past me
   in_slot q t past slot x irq calling g l inside_told irq_told ran phase answer reads = record {
@@ -121,7 +121,7 @@ module _ (u : Setup) (p : StopState) (at at' : Word → ℕ) (seat : ℕ → Sea
       none_some n e = absurd cc
 
   -- a CPU in no stop
-  in_none : (q : StopState) (t : StateValue) (past : Past) (slot : ℕ) (x : Stop) (irq : Bool) (calling : Calling) → Goes q slot x None irq calling
+  pub in_none : (q : StopState) (t : StateValue) (past : Past) (slot : ℕ) (x : Stop) (irq : Bool) (calling : Calling) → Goes q slot x None irq calling
       → (cpu_at t me).inside ≡ None → (cpu_at t me).irq ≡ irq → past.answer ≡ pos 0 → (past.phase ≡ 3 → irq ≡ false) → CpuIs q t past me
   in_none q t past slot x irq calling g inside_told irq_told answer reads = record {
     inside = inside_told ∙ sym g.inside_is;
@@ -155,7 +155,7 @@ module _ (u : Setup) (p : StopState) (at at' : Word → ℕ) (seat : ℕ → Sea
       (mine_past past phase answer)
 
   -- the members of a stop after a step of this CPU
-  members_set : (x y : Stop) (e g : ToldStop) → ((cpu : ℕ) → cpu < cpus → MemberIs (x.standing cpu) e cpu) → ((cpu : ℕ) → cpu ≢ me → y.standing cpu ≡ x.standing cpu)
+  pub members_set : (x y : Stop) (e g : ToldStop) → ((cpu : ℕ) → cpu < cpus → MemberIs (x.standing cpu) e cpu) → ((cpu : ℕ) → cpu ≢ me → y.standing cpu ≡ x.standing cpu)
       → ((cpu : ℕ) → cpu ≢ me → MemberIs (x.standing cpu) e cpu → MemberIs (x.standing cpu) g cpu) → MemberIs (y.standing me) g me
       → (cpu : ℕ) → cpu < cpus → MemberIs (y.standing cpu) g cpu
   members_set x y e g was same goes here cpu l = elim (cases_eq cpu me) [
@@ -164,7 +164,7 @@ module _ (u : Setup) (p : StopState) (at at' : Word → ℕ) (seat : ℕ → Sea
   ]
 
   -- a stop of which nothing is told
-  told_still : (x y : Stop) (e : ToldStop) → StopIs x e → y.is_open ≡ x.is_open → y.work ≡ x.work → y.phase ≡ x.phase → raiser_of y.raising ≡ raiser_of x.raising
+  pub told_still : (x y : Stop) (e : ToldStop) → StopIs x e → y.is_open ≡ x.is_open → y.work ≡ x.work → y.phase ≡ x.phase → raiser_of y.raising ≡ raiser_of x.raising
       → ((cpu : ℕ) → cpu ≢ me → y.standing cpu ≡ x.standing cpu) → (x.is_open ≡ true → MemberIs (x.standing me) e me → MemberIs (y.standing me) e me) → StopIs y e
   told_still x y e k is_open work phase raiser others here = record {
     sized = k.sized;
@@ -182,7 +182,7 @@ module _ (u : Setup) (p : StopState) (at at' : Word → ℕ) (seat : ℕ → Sea
   }
 
   -- a step that tells nothing, on one stop
-  silent : (q : StopState) (past : Past) (slot : ℕ) (x : Stop) (inside : Option ℕ) (irq : Bool) (calling : Calling) → Goes q slot x inside irq calling → slot < cpus
+  pub silent : (q : StopState) (past : Past) (slot : ℕ) (x : Stop) (inside : Option ℕ) (irq : Bool) (calling : Calling) → Goes q slot x inside irq calling → slot < cpus
       → StopIs x (stop_at s slot) → CpuIs q s past me → Leads q past []
   silent q past slot x inside irq calling g l here my = same_step p q at at' pasts s me past below sized cpus_are f keys sites slot x
       (one_stop q slot x inside irq calling (stop_at s slot) g (λ c ne. refl)) here my
