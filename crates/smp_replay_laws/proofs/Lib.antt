@@ -13,3 +13,5 @@ pub mod StopSteps
 pub mod StopKinds
 pub mod StopMoves
 pub mod StopRuns
+pub mod Counting
+pub mod StopRounds

@@ -96,7 +96,7 @@ module _ (u : Setup) (p : StopState) (at at' : Word → ℕ) (seat : ℕ → Sea
       (t, (enters_stop s me whole slot (omega arith) (me_now.inside ∙ none) ((f.stops slot l).is_open ∙ is_open) (member.called ∙ ap is_called called), refl)) refl
       (in_slot u p at at' seat source h me below pasts sized s whole cpus_are f keys sites q t (past_at pasts me) slot x (p.now.irq me) (p.calling me) g l
       (ap (λ (z : CpuState). z.inside) my_cpu) (ap (λ (z : CpuState). z.irq) my_cpu ∙ me_now.irq) ran
-      (rw (eq-eqb me me refl) (λ e. absurd (omega arith))) (rw (eq-eqb me me refl) (me_now.answer none)) me_now.reads)
+      (rw (eq-eqb me me refl) (λ e. absurd (e refl))) (rw (eq-eqb me me refl) (me_now.answer none)) me_now.reads)
 
   -- a CPU looks at the phase: its interrupts go off with the second
   module _ (slot a found : ℕ) (inside : p.now.inside me ≡ Some slot) (stands_so : (p.now.stop slot).standing me ≡ Inside a a) (past : Past)
@@ -123,14 +123,14 @@ module _ (u : Setup) (p : StopState) (at at' : Word → ℕ) (seat : ℕ → Sea
 
     -- no event
     pub looked_step : (q : StopState) → Is q slot (stands (p.now.stop slot) me (Inside a found)) (Some slot) (p.now.irq me) (p.calling me)
-        → (found ≡ a + 1 → past.phase ≡ found) → (past.phase ≡ 3 → p.now.irq me ≡ false) → Leads q past []
+        → (found ≢ 0 → past.phase ≡ found) → (past.phase ≡ 3 → p.now.irq me ≡ false) → Leads q past []
     looked_step q g phase reads = silent u p at at' seat source h me below pasts sized s whole cpus_are f keys sites q past slot
         (stands (p.now.stop slot) me (Inside a found)) (Some slot) (p.now.irq me) (p.calling me) g i.below (told_looked q (p.now.irq me) (p.calling me) g)
         (in_slot u p at at' seat source h me below pasts sized s whole cpus_are f keys sites q s past slot (stands (p.now.stop slot) me (Inside a found)) (p.now.irq me)
         (p.calling me) g i.below (me_now.inside ∙ inside) me_now.irq i.ran (rw (eq-eqb me me refl) phase) (rw (eq-eqb me me refl) still) reads)
 
     -- interrupts go off
-    pub off_step : (q : StopState) → Is q slot (stands (p.now.stop slot) me (Inside a found)) (Some slot) false (p.calling me) → (found ≡ a + 1 → past.phase ≡ found)
+    pub off_step : (q : StopState) → Is q slot (stands (p.now.stop slot) me (Inside a found)) (Some slot) false (p.calling me) → (found ≢ 0 → past.phase ≡ found)
         → (p.now.stop slot).work.kind ≢ One → (p.now.stop slot).is_open ≡ true → p.now.irq me ≡ true → a < 2 → (p.now.stop slot).phase ≡ 2
         → handles_nothing (cpu_at s me) ≡ Ok tt → Leads q past ((me, event.Stop stops.Off) ∷ [])
     unfolding stop_goes

@@ -79,9 +79,9 @@ pub record StopIs (stop : Stop) (told : ToldStop) : Type 0 where
   pub is_open : told.is_open ≡ stop.is_open
   pub shows : stop.is_open ≡ true → OpenIs stop told
 
--- the phase that it is to acknowledge is the one that it last loaded anew
+-- the phase that it looked at last is the one that it last loaded anew
 abbrev pub PhaseIs : Standing → ℕ → Type 0
-PhaseIs (Inside a l) phase = l ≡ a + 1 → phase ≡ l
+PhaseIs (Inside a l) phase = l ≢ 0 → phase ≡ l
 PhaseIs _ phase = Unit {0}
 
 -- the answer that it has stored
