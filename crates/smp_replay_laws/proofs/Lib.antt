@@ -15,3 +15,5 @@ pub mod StopMoves
 pub mod StopRuns
 pub mod Counting
 pub mod StopRounds
+pub mod StopSources
+pub mod StopAcks

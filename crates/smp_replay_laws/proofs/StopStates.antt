@@ -39,24 +39,24 @@ pub record IsAlike (p q : StopState) (s t : StateValue) (cpu : ℕ) : Type 0 whe
   pub inside : q.now.inside cpu ≡ p.now.inside cpu
   pub irq : q.now.irq cpu ≡ p.now.irq cpu
   pub calling : q.calling cpu ≡ p.calling cpu
-  pub standing : (source : ℕ) → (q.now.stop source).standing cpu ≡ (p.now.stop source).standing cpu
+  pub standing : (source : ℕ) → p.now.inside cpu ≡ Some source → (q.now.stop source).standing cpu ≡ (p.now.stop source).standing cpu
   pub inside_told : (cpu_at t cpu).inside ≡ (cpu_at s cpu).inside
   pub irq_told : (cpu_at t cpu).irq ≡ (cpu_at s cpu).irq
-  pub ran : (source : ℕ) → source < cpus → has_run (stop_at t source) cpu ≡ has_run (stop_at s source) cpu
+  pub ran : (source : ℕ) → p.now.inside cpu ≡ Some source → source < cpus → has_run (stop_at t source) cpu ≡ has_run (stop_at s source) cpu
 
-inside_alike : (p q : StopState) (s t : StateValue) (cpu : ℕ) (past : Past) → IsAlike p q s t cpu → (source : ℕ) → InsideIs p s past cpu source → InsideIs q t past cpu source
-inside_alike p q s t cpu past k source i = record {
+inside_alike : (p q : StopState) (s t : StateValue) (cpu : ℕ) (past : Past) → IsAlike p q s t cpu → (source : ℕ) → p.now.inside cpu ≡ Some source → InsideIs p s past cpu source → InsideIs q t past cpu source
+inside_alike p q s t cpu past k source e i = record {
   below = i.below;
-  ran = k.ran source i.below ∙ (i.ran ∙ ap has_called (sym k.calling));
-  phase = subst (λ (x : Standing). PhaseIs x past.phase) (sym (k.standing source)) i.phase;
-  answer = subst (λ (x : Standing). AnswerIs x past.answer) (sym (k.standing source)) i.answer;
+  ran = k.ran source e i.below ∙ (i.ran ∙ ap has_called (sym k.calling));
+  phase = subst (λ (x : Standing). PhaseIs x past.phase) (sym (k.standing source e)) i.phase;
+  answer = subst (λ (x : Standing). AnswerIs x past.answer) (sym (k.standing source e)) i.answer;
 }
 
 pub cpu_alike : (p q : StopState) (s t : StateValue) (cpu : ℕ) (past : Past) → IsAlike p q s t cpu → CpuIs p s past cpu → CpuIs q t past cpu
 cpu_alike p q s t cpu past k c = record {
   inside = k.inside_told ∙ (c.inside ∙ sym k.inside);
   irq = k.irq_told ∙ (c.irq ∙ sym k.irq);
-  stop = λ source e. inside_alike p q s t cpu past k source (c.stop source (sym k.inside ∙ e));
+  stop = λ source e. inside_alike p q s t cpu past k source (sym k.inside ∙ e) (c.stop source (sym k.inside ∙ e));
   answer = λ e. c.answer (sym k.inside ∙ e);
   reads = λ e. k.irq ∙ c.reads e;
 }

@@ -81,10 +81,10 @@ module _ (p q : StopState) (at at' : Word → ℕ) (pasts : List Past) (s : Stat
         inside = inside cpu ne;
         irq = irq cpu ne;
         calling = calling cpu ne;
-        standing = λ j. ap (λ (x : Stop). x.standing cpu) (stops j);
+        standing = λ j inside. ap (λ (x : Stop). x.standing cpu) (stops j);
         inside_told = refl;
         irq_told = refl;
-        ran = λ j l. refl;
+        ran = λ j inside l. refl;
       };
       words = refl;
       keys = keys;
@@ -108,7 +108,7 @@ module _ (p q : StopState) (at at' : Word → ℕ) (pasts : List Past) (s : Stat
           gate = refl;
           stops = f.stops;
           mine = cpu_alike p (record p { gate = gate }) s t me past (alike t) mine;
-          others = λ cpu ne. record { inside = refl; irq = refl; calling = refl; standing = λ j. refl; inside_told = refl; irq_told = refl; ran = λ j l. refl };
+          others = λ cpu ne. record { inside = refl; irq = refl; calling = refl; standing = λ j inside. refl; inside_told = refl; irq_told = refl; ran = λ j inside l. refl };
           words = refl;
           keys = keys;
           sites = sites;
@@ -117,7 +117,7 @@ module _ (p q : StopState) (at at' : Word → ℕ) (pasts : List Past) (s : Stat
       })
     where
       alike : (t : StateValue) → IsAlike p (record p { gate = gate }) s (record s { gate = gate }) me
-      alike t = record { inside = refl; irq = refl; calling = refl; standing = λ j. refl; inside_told = refl; irq_told = refl; ran = λ j l. refl }
+      alike t = record { inside = refl; irq = refl; calling = refl; standing = λ j inside. refl; inside_told = refl; irq_told = refl; ran = λ j inside l. refl }
 
   -- the stop of a source goes on, and what is told of it is the same
   module _ (source : ℕ) (x : Stop) (k : OneStop p q me source x (stop_at s source) (stop_at s source)) (here : StopIs x (stop_at s source)) where
@@ -144,10 +144,10 @@ module _ (p q : StopState) (at at' : Word → ℕ) (pasts : List Past) (s : Stat
           inside = k.inside cpu ne;
           irq = k.irq cpu ne;
           calling = k.calling cpu ne;
-          standing = standing_still cpu ne;
+          standing = λ j inside. standing_still cpu ne j;
           inside_told = refl;
           irq_told = refl;
-          ran = λ j l. refl;
+          ran = λ j inside l. refl;
         };
         words = refl;
         keys = keys;
@@ -173,10 +173,10 @@ module _ (p q : StopState) (at at' : Word → ℕ) (pasts : List Past) (s : Stat
           inside = k.inside cpu ne;
           irq = k.irq cpu ne;
           calling = k.calling cpu ne;
-          standing = standing_still cpu ne;
+          standing = λ j inside. standing_still cpu ne j;
           inside_told = ap (λ (z : CpuState). z.inside) (cpu_else s me c cpu ne);
           irq_told = ap (λ (z : CpuState). z.irq) (cpu_else s me c cpu ne);
-          ran = λ j l. refl;
+          ran = λ j inside l. refl;
         };
         words = refl;
         keys = keys;
@@ -225,10 +225,10 @@ module _ (p q : StopState) (at at' : Word → ℕ) (pasts : List Past) (s : Stat
           inside = k.inside cpu ne;
           irq = k.irq cpu ne;
           calling = k.calling cpu ne;
-          standing = standing_else cpu ne;
+          standing = λ j inside. standing_else cpu ne j;
           inside_told = ap (λ (z : CpuState). z.inside) (cpu_else (with_stop source s y) me c cpu ne);
           irq_told = ap (λ (z : CpuState). z.irq) (cpu_else (with_stop source s y) me c cpu ne);
-          ran = λ j l. ran_else cpu ne j;
+          ran = λ j inside l. ran_else cpu ne j;
         };
         words = refl;
         keys = keys;
@@ -262,10 +262,10 @@ module _ (p q : StopState) (at at' : Word → ℕ) (pasts : List Past) (s : Stat
           inside = k.inside cpu ne;
           irq = k.irq cpu ne;
           calling = k.calling cpu ne;
-          standing = standing_else cpu ne;
+          standing = λ j inside. standing_else cpu ne j;
           inside_told = refl;
           irq_told = refl;
-          ran = λ j l. ran_else cpu ne j;
+          ran = λ j inside l. ran_else cpu ne j;
         };
         words = refl;
         keys = keys;
