@@ -162,12 +162,10 @@ module _ (u : Setup) (p : StopState) (at at' : Word → ℕ) (seat : ℕ → Sea
       where
         acks_two : (cpu_at s me).inside ≡ Some slot → (stop_at s slot).task.kind ≢ One → acked_by (stop_at s slot) me < 2 → (stop_at s slot).phase ≡ 2 → (cpu_at s me).irq ≡ false
             → stop_goes me (stops.Ack 2) s ≡ Ok (with_stop slot s (acknowledged_in me 2 true (stop_at s slot)))
-        unfolding stop_goes
         acks_two in_told kind l two o = acks_disabled s me whole slot (omega (arith, i.below)) in_told kind l two o
         acks_three : (cpu_at s me).inside ≡ Some slot → (stop_at s slot).task.kind ≡ Multi → (n : ℕ) → n ≡ 3 → acked_by (stop_at s slot) me < n → (stop_at s slot).phase ≡ n
             → has_run (stop_at s slot) me ≡ true → has (stop_at s slot).task.active me ≡ true
             → stop_goes me (stops.Ack n) s ≡ Ok (with_stop slot s (acknowledged_in me n true (stop_at s slot)))
-        unfolding stop_goes
         acks_three in_told kind n three l at_three ran active =
             rw three (acks_run s me whole slot (omega (arith, i.below)) in_told kind (omega (arith, l, three)) (at_three ∙ three) ran active)
         by_run : (cpu_at s me).inside ≡ Some slot → (stop_at s slot).task.kind ≢ One → acked_by (stop_at s slot) me < a + 1 → (stop_at s slot).phase ≡ a + 1 → (a + 1 ≡ 2 → ⊥)
@@ -175,7 +173,6 @@ module _ (u : Setup) (p : StopState) (at at' : Word → ℕ) (seat : ℕ → Sea
             → (a + 1 ≡ 3 → has (p.now.stop slot).work.active me ≡ true → ((p.now.stop slot).work.kind ≡ Multi) × (has_called (p.calling me) ≡ true))
             → (b : Bool) → (((a + 1) == 3) && has (stop_at s slot).task.active me) ≡ b
             → stop_goes me (stops.Ack (a + 1)) s ≡ Ok (with_stop slot s (acknowledged_in me (a + 1) true (stop_at s slot)))
-        unfolding stop_goes
         by_run in_told kind l phase not_two active_told called false e =
             acks_other s me whole slot (omega (arith, i.below)) in_told (a + 1) kind l phase (ne_eqb (a + 1) 2 not_two) e
         by_run in_told kind l phase not_two active_told called true e =
