@@ -17,3 +17,4 @@ pub mod Counting
 pub mod StopRounds
 pub mod StopSources
 pub mod StopAcks
+pub mod StopStages

@@ -44,7 +44,7 @@ use Rattle.smp_replay_laws.proofs.StopStates.{IsAlike, cpu_alike, stop_here}
 use Rattle.smp_replay_laws.proofs.StopSteps.{OneStop, ReachesStops, cpu_step, gate_step, member_as, quiet_step, same_step, set_step, stop_step}
 
 -- a CPU that is in a stop has called a function only as its seat says
-idle_free : (cpu : ℕ) (f : Calling) → IsCalling cpu Free f → f ≡ Idle
+pub idle_free : (cpu : ℕ) (f : Calling) → IsCalling cpu Free f → f ≡ Idle
 idle_free cpu Idle k = refl
 idle_free cpu (Calls call) k = absurd k
 idle_free cpu (Carries answer) k = absurd k
@@ -135,7 +135,7 @@ module _ (u : Setup) (p : StopState) (at at' : Word → ℕ) (seat : ℕ → Sea
       none_some n e = absurd cc
 
   -- a CPU of which nothing is changed but what it keeps, and that not of its stop
-  mine_past : (past : Past) → past.phase ≡ (past_at pasts me).phase → past.answer ≡ (past_at pasts me).answer → CpuIs p s past me
+  pub mine_past : (past : Past) → past.phase ≡ (past_at pasts me).phase → past.answer ≡ (past_at pasts me).answer → CpuIs p s past me
   mine_past past phase answer = record {
     inside = mine.inside;
     irq = mine.irq;

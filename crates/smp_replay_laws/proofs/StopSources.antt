@@ -280,17 +280,17 @@ module _ (u : Setup) (p : StopState) (at at' : Word → ℕ) (seat : ℕ → Sea
   xor_same true = refl
   xor_same false = refl
 
-  pub key_read : (key : ℕ) → key < 4 → p.now.irq me ≡ true → goes me (event.Label (labels.Key key (is_on (at (Key key))))) s ≡ Ok s
+  pub key_read : (key : ℕ) → p.now.irq me ≡ true → goes me (event.Label (labels.Key key (is_on (at (Key key))))) s ≡ Ok s
   unfolding label_goes
-  key_read key l on = rw (me_now.irq ∙ on, f.keys key l, xor_same (is_on (at (Key key)))) refl
+  key_read key on = rw (me_now.irq ∙ on, f.keys key, xor_same (is_on (at (Key key)))) refl
 
   jumps_on : (n : ℕ) → not (n == 0) ≡ nat_lt 0 n
   jumps_on zero = refl
   jumps_on (suc n) = rw (ne_eqb (suc n) 0 (λ e. absurd (omega arith)), lt-ltb 0 (suc n) (omega arith)) refl
 
-  pub site_read : (site : ℕ) → site < 16 → p.now.irq me ≡ true → goes me (event.Label (labels.Site site (is_on (at (Site site))))) s ≡ Ok s
+  pub site_read : (site : ℕ) → p.now.irq me ≡ true → goes me (event.Label (labels.Site site (is_on (at (Site site))))) s ≡ Ok s
   unfolding label_goes
-  site_read site l on = rw (me_now.irq ∙ on, f.sites site l, jumps_on (at (Site site)), xor_same (is_on (at (Site site)))) refl
+  site_read site on = rw (me_now.irq ∙ on, f.sites site, jumps_on (at (Site site)), xor_same (is_on (at (Site site)))) refl
 
   -- a source opens its stop
   module _ (q : StopState) (w : Work) (work : (p.now.stop me).work ≡ w) (plain : IsPlain w) (shut : (p.now.stop me).is_open ≡ false) where

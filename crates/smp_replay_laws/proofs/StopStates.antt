@@ -84,8 +84,8 @@ module _ (p q : StopState) (at at' : Word → ℕ) (pasts : List Past) (s t : St
       | inl e ↦ rw (e, past_here pasts me past k.pasts_are k.below) k.mine
       | inr ne ↦ rw (past_else pasts me past cpu ne) (cpu_alike p q s t cpu (past_at pasts cpu) (k.others cpu ne) (f.cpus_are cpu l))
     ];
-    keys = λ key l. rw (k.words, k.keys key) (f.keys key l);
-    sites = λ site l. rw (k.words, k.sites site) (f.sites site l);
+    keys = λ key. rw (k.words, k.keys key) (f.keys key);
+    sites = λ site. rw (k.words, k.sites site) (f.sites site);
   }
 
 -- one stop is set

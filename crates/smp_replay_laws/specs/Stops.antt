@@ -110,8 +110,8 @@ pub record FollowsStops (p : StopState) (at : Word → ℕ) (pasts : List Past) 
   pub gate : s.gate ≡ p.gate
   pub stops : (source : ℕ) → source < cpus → StopIs (p.now.stop source) (stop_at s source)
   pub cpus_are : (cpu : ℕ) → cpu < cpus → CpuIs p s (past_at pasts cpu) cpu
-  pub keys : (key : ℕ) → key < 4 → count_at s.words key ≡ at (Key key)
-  pub sites : (site : ℕ) → site < 16 → site_at s.words site ≡ at (Site site)
+  pub keys : (key : ℕ) → count_at s.words key ≡ at (Key key)
+  pub sites : (site : ℕ) → site_at s.words site ≡ at (Site site)
 
 -- it has stored so much of the stop that it begins
 abbrev pub DraftIs : Work → Field → Draft → Type 0
