@@ -18,3 +18,4 @@ pub mod StopRounds
 pub mod StopSources
 pub mod StopAcks
 pub mod StopStages
+pub mod StopTurns

@@ -182,9 +182,9 @@ module _ (u : Setup) (p : StopState) (at at' : Word → ℕ) (seat : ℕ → Sea
   }
 
   -- a step that tells nothing, on one stop
-  pub silent : (q : StopState) (past : Past) (slot : ℕ) (x : Stop) (inside : Option ℕ) (irq : Bool) (calling : Calling) → Goes q slot x inside irq calling → slot < cpus
-      → StopIs x (stop_at s slot) → CpuIs q s past me → Leads q past []
-  silent q past slot x inside irq calling g l here my = same_step p q at at' pasts s me past below sized cpus_are f keys sites slot x
+  pub silent : (q : StopState) (past : Past) (slot : ℕ) (x : Stop) (inside : Option ℕ) (irq : Bool) (calling : Calling) → Goes q slot x inside irq calling
+      → (slot < cpus → StopIs x (stop_at s slot)) → CpuIs q s past me → Leads q past []
+  silent q past slot x inside irq calling g here my = same_step p q at at' pasts s me past below sized cpus_are f keys sites slot x
       (one_stop q slot x inside irq calling (stop_at s slot) g (λ c ne. refl)) here my
 
   -- the count is refilled
@@ -194,8 +194,8 @@ module _ (u : Setup) (p : StopState) (at at' : Word → ℕ) (seat : ℕ → Sea
       → past.phase ≡ (past_at pasts me).phase → past.answer ≡ (past_at pasts me).answer → Leads q past []
   refilled_step q past slot x a inside was g now is_open work phase raiser past_phase past_answer =
       let i = mine.stop slot inside in
-      silent q past slot x (Some slot) (p.now.irq me) (p.calling me) g i.below
-      (told_still (p.now.stop slot) x (stop_at s slot) (f.stops slot i.below) is_open work phase raiser g.standing_else
+      silent q past slot x (Some slot) (p.now.irq me) (p.calling me) g
+      (λ _. told_still (p.now.stop slot) x (stop_at s slot) (f.stops slot i.below) is_open work phase raiser g.standing_else
       (λ o m. subst (λ (z : Standing). MemberIs z (stop_at s slot) me) (was ∙ sym now) m))
       (in_slot q s past slot x (p.now.irq me) (p.calling me) g i.below (mine.inside ∙ inside) mine.irq i.ran
       (rw (now, past_phase) (rw was at i.phase)) (rw (now, past_answer) (rw was at i.answer)) (λ e. mine.reads (sym past_phase ∙ e)))

@@ -125,7 +125,7 @@ module _ (u : Setup) (p : StopState) (at at' : Word → ℕ) (seat : ℕ → Sea
     pub looked_step : (q : StopState) → Is q slot (stands (p.now.stop slot) me (Inside a found)) (Some slot) (p.now.irq me) (p.calling me)
         → (found ≢ 0 → past.phase ≡ found) → (past.phase ≡ 3 → p.now.irq me ≡ false) → Leads q past []
     looked_step q g phase reads = silent u p at at' seat source h me below pasts sized s whole cpus_are f keys sites q past slot
-        (stands (p.now.stop slot) me (Inside a found)) (Some slot) (p.now.irq me) (p.calling me) g i.below (told_looked q (p.now.irq me) (p.calling me) g)
+        (stands (p.now.stop slot) me (Inside a found)) (Some slot) (p.now.irq me) (p.calling me) g (λ _. told_looked q (p.now.irq me) (p.calling me) g)
         (in_slot u p at at' seat source h me below pasts sized s whole cpus_are f keys sites q s past slot (stands (p.now.stop slot) me (Inside a found)) (p.now.irq me)
         (p.calling me) g i.below (me_now.inside ∙ inside) me_now.irq i.ran (rw (eq-eqb me me refl) phase) (rw (eq-eqb me me refl) still) reads)
 
@@ -143,7 +143,7 @@ module _ (u : Setup) (p : StopState) (at at' : Word → ℕ) (seat : ℕ → Sea
         let kind_is : (stop_at s slot).task.kind ≢ One = λ e. kind (sym (ap (λ (z : Task). z.kind) was.task) ∙ e) in
         cpu_step p q at at' pasts s me past below sized cpus_are f keys sites slot (stands (p.now.stop slot) me (Inside a found))
         (one_stop u p at at' seat source h me below pasts sized s whole cpus_are f keys sites q slot (stands (p.now.stop slot) me (Inside a found)) (Some slot) false
-        (p.calling me) (stop_at s slot) g (λ cpu ne. refl)) (told_looked q false (p.calling me) g) c ((me, event.Stop stops.Off) ∷ [])
+        (p.calling me) (stop_at s slot) g (λ cpu ne. refl)) (λ _. told_looked q false (p.calling me) g) c ((me, event.Stop stops.Off) ∷ [])
         (t, (turns_off s me whole slot (omega (arith, i.below)) (me_now.inside ∙ inside) kind_is (me_now.irq ∙ irq) (omega arith) (was.phase ∙ at_two) quiet, refl)) refl
         (in_slot u p at at' seat source h me below pasts sized s whole cpus_are f keys sites q t past slot (stands (p.now.stop slot) me (Inside a found)) false
         (p.calling me) g i.below (ap (λ (z : CpuState). z.inside) my_cpu ∙ (me_now.inside ∙ inside)) (ap (λ (z : CpuState). z.irq) my_cpu) i.ran

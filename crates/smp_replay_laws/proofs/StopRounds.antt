@@ -71,7 +71,7 @@ module _ (u : Setup) (p : StopState) (at at' : Word → ℕ) (seat : ℕ → Sea
     with_phase phase raiser = record (stop_at s slot) { acked = slice_set (stop_at s slot).acked me phase; raiser = raiser }
 
     -- the stop once the phase is acknowledged
-    told_acked : (x : Stop) (phase : ℕ) (raiser : Option ℕ) → x.standing me ≡ Inside phase phase → x.is_open ≡ (p.now.stop slot).is_open → x.work ≡ (p.now.stop slot).work
+    pub told_acked : (x : Stop) (phase : ℕ) (raiser : Option ℕ) → x.standing me ≡ Inside phase phase → x.is_open ≡ (p.now.stop slot).is_open → x.work ≡ (p.now.stop slot).work
         → x.phase ≡ (p.now.stop slot).phase → raiser_of x.raising ≡ raiser → is_called ((p.now.stop slot).standing me) ≡ false → given_by ((p.now.stop slot).standing me) ≡ None
         → ((cpu : ℕ) → cpu ≢ me → x.standing cpu ≡ (p.now.stop slot).standing cpu)
         → StopIs x (record (stop_at s slot) { acked = slice_set (stop_at s slot).acked me phase; raiser = raiser })
@@ -144,7 +144,7 @@ module _ (u : Setup) (p : StopState) (at at' : Word → ℕ) (seat : ℕ → Sea
     abbrev raised : ℕ → ToldStop
     raised phase = record (stop_at s slot) { phase = phase; raiser = None }
 
-    told_raised : (x : Stop) (phase : ℕ) → x.is_open ≡ (p.now.stop slot).is_open → x.work ≡ (p.now.stop slot).work → x.phase ≡ phase → raiser_of x.raising ≡ None
+    pub told_raised : (x : Stop) (phase : ℕ) → x.is_open ≡ (p.now.stop slot).is_open → x.work ≡ (p.now.stop slot).work → x.phase ≡ phase → raiser_of x.raising ≡ None
         → ((cpu : ℕ) → x.standing cpu ≡ (p.now.stop slot).standing cpu) → StopIs x (record (stop_at s slot) { phase = phase; raiser = None })
     told_raised x phase x_open work is raising same = record {
       sized = record { entered = size.entered; acked = size.acked; ran = size.ran; answers = size.answers };

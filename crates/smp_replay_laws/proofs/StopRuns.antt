@@ -128,8 +128,8 @@ module _ (u : Setup) (p : StopState) (at at' : Word → ℕ) (seat : ℕ → Sea
         → Is q slot (stands (p.now.stop slot) me (Answering a answer)) (Some slot) (p.now.irq me) (p.calling me)
         → past.phase ≡ (past_at pasts me).phase → past.answer ≡ as_i32 answer → Leads q past []
     answers_step q past a l answer stood g phase given = silent u p at at' seat source h me below pasts sized s whole cpus_are f keys sites q past slot
-        (stands (p.now.stop slot) me (Answering a answer)) (Some slot) (p.now.irq me) (p.calling me) g i.below
-        (told_still u p at at' seat source h me below pasts sized s whole cpus_are f keys sites (p.now.stop slot) (stands (p.now.stop slot) me (Answering a answer))
+        (stands (p.now.stop slot) me (Answering a answer)) (Some slot) (p.now.irq me) (p.calling me) g
+        (λ _. told_still u p at at' seat source h me below pasts sized s whole cpus_are f keys sites (p.now.stop slot) (stands (p.now.stop slot) me (Answering a answer))
         (stop_at s slot) (f.stops slot i.below) refl refl refl refl g.standing_else
         (λ o m. rw (eq-eqb me me refl) (record {
           called = m.called ∙ ap is_called stood;

@@ -28,11 +28,12 @@ use Rattle.smp_stop_steps.specs.Sits.{HoldsGate, SitsAt, SitsAtRest, SitsIn, Sou
 use Rattle.smp_stop_steps.specs.Slots.{order}
 use Rattle.smp_stop_steps.specs.Sources.{DraftShows, IsDrafted, IsOfKind, IsWork, SourceShows}
 use Rattle.smp_stop_steps.specs.Stages.{StopControlValue, answer_at, stop_access, stop_outcome}
-use Rattle.smp_stop_steps.specs.State.{Setup, StopState}
+use Rattle.smp_stop_steps.specs.State.{Present, Setup, StopState}
+use Rattle.smp_stop_steps.specs.declared.known.Reading.TheVariants.{ReadKey as ReadingKey}
 use Rattle.smp_stop_steps.specs.Stop.{Standing, Outside, Called, Inside, Answering, Completed, Stop, first_phase, is_called, stands}
 use Rattle.smp_stop_steps.specs.Table.{stop_number}
 use Rattle.smp_stop_steps.specs.Counts.{mask_weight}
-use Rattle.smp_stop_steps.specs.Tells.{drafted, drafts, gate_told, is_at_run, opens, slot_told, stored_open, tells}
+use Rattle.smp_stop_steps.specs.Tells.{drafted, drafts, gate_told, is_at_run, is_patch, key_loaded, opens, patch_begun, reads, slot_told, stored_open, tells}
 use Rattle.smp_stop_steps.specs.Value.{StopShown, StopsValue, setup_of, stop_control_of}
 use Rattle.smp_stop_steps.specs.declared.known.Calling.{Calling}
 use Rattle.smp_stop_steps.specs.declared.known.Calling.TheVariants.{Idle}
@@ -66,7 +67,7 @@ use Rattle.smp_replay_laws.proofs.StopMoves.{enters_told}
 use Rattle.smp_replay_laws.proofs.StopSources.{drafts_step, key_read, onlines, opens_told, reads_step, site_read, works}
 use Rattle.smp_replay_laws.proofs.StopSteps.{ReachesStops, word_kept}
 
-else_if : {A : Type 0} (b : Bool) (x y : A) → b ≡ false → cond b x y ≡ y
+pub else_if : {A : Type 0} (b : Bool) (x y : A) → b ≡ false → cond b x y ≡ y
 else_if true x y e = absurd (true≢false e)
 else_if false x y e = refl
 
@@ -290,3 +291,30 @@ module _ (v : StopsValue) (p : StopState) (shown : StopShown p v) (me : ℕ) (be
         | inl two ↦ rw two refl
         | inr ne ↦ and_left (a == 2) (a == 3) (ne_eqb a 2 ne)
       ]
+
+  key_in : (k : ℕ) (w : Option Visit) → SitsAtRest w (shown.seat me) → p.now.irq me ≡ true → (o : Option ℕ) → p.now.inside me ≡ o
+      → ReachesStops (record p { now = key_loaded u p.now me k (at (Key k)) o }) at (slice_set pasts me past) s
+      (by me (cond (past.phase == 3) told.Nothing (told.One (event.Label (labels.Key k (is_on (at (Key k))))))))
+  key_in k w rest on None e = key_on k (record p { now = key_loaded u p.now me k (at (Key k)) None }) on (λ j. refl) (λ d. refl) (λ d. refl) (λ d. refl) refl
+  key_in k w rest on (Some j) e =
+      let n = reads p.now me (ReadingKey k (is_on (at (Key k)))) in
+      let not_run = and_left (is_at_run ((p.now.stop j).standing me)) (is_patch (p.now.stop j).work.kind) (not_at_run w rest j e) in
+      subst (λ (x : Present). ReachesStops (record p { now = x }) at (slice_set pasts me past) s
+      (by me (cond (past.phase == 3) told.Nothing (told.One (event.Label (labels.Key k (is_on (at (Key k)))))))))
+      (sym (else_if (is_at_run ((p.now.stop j).standing me) && is_patch (p.now.stop j).work.kind)
+      (record (p.now) { patching = patch_begun u me (p.now.stop j).work (at (Key k)) }) n not_run))
+      (key_on k (record p { now = n }) on (λ j. refl) (λ d. refl) (λ d. refl) (λ d. refl) refl)
+
+  pub reads_key : (k : ℕ) → c.stage ≡ Some (ReadKey k) → Accepted (ReadKey k)
+  reads_key k e = let st = sits (ReadKey k) e in key_in k c.visit st.2 (irq_on st.0) (p.now.inside me) refl
+
+  pub looks_key : (k : ℕ) (up : Bool) → c.stage ≡ Some (NudgeKey k up) → Accepted (NudgeKey k up)
+  looks_key k up e = let st = sits (NudgeKey k up) e in key_in k c.visit st.3 (irq_on st.0) (p.now.inside me) refl
+
+  pub reads_site : (k : ℕ) → c.stage ≡ Some (ReadSite k) → Accepted (ReadSite k)
+  reads_site k e =
+      let st = sits (ReadSite k) e in
+      reads_step u p at at shown.seat shown.source shown.shows me below pasts sized s whole cpus_are f (λ j. refl) (λ j. refl) _
+      (event.Label (labels.Site k (is_on (at (Site k)))))
+      (site_read u p at at shown.seat shown.source shown.shows me below pasts sized s whole cpus_are f (λ j. refl) (λ j. refl) k (irq_on st.0))
+      (λ j. refl) (λ d. refl) (λ d. refl) (λ d. refl) refl

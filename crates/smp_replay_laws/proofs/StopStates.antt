@@ -78,6 +78,7 @@ module _ (p q : StopState) (at at' : Word → ℕ) (pasts : List Past) (s t : St
   pub follows_step : Steps → FollowsStops q at' (slice_set pasts me past) t
   follows_step k = record {
     stops_are = k.stops_are;
+    keys_are = rw k.words f.keys_are;
     gate = k.gate;
     stops = k.stops;
     cpus_are = λ cpu l. elim (cases_eq cpu me) [

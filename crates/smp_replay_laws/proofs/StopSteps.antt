@@ -120,14 +120,14 @@ module _ (p q : StopState) (at at' : Word → ℕ) (pasts : List Past) (s : Stat
       alike t = record { inside = refl; irq = refl; calling = refl; standing = λ j inside. refl; inside_told = refl; irq_told = refl; ran = λ j inside l. refl }
 
   -- the stop of a source goes on, and what is told of it is the same
-  module _ (source : ℕ) (x : Stop) (k : OneStop p q me source x (stop_at s source) (stop_at s source)) (here : StopIs x (stop_at s source)) where
+  module _ (source : ℕ) (x : Stop) (k : OneStop p q me source x (stop_at s source) (stop_at s source)) (here : source < cpus → StopIs x (stop_at s source)) where
     standing_still : (cpu : ℕ) → cpu ≢ me → (j : ℕ) → (q.now.stop j).standing cpu ≡ (p.now.stop j).standing cpu
     standing_still cpu ne j = ap (λ (z : Stop). z.standing cpu) (k.stop_is j)
         ∙ put_all (λ i (z : Stop). z.standing cpu ≡ (p.now.stop i).standing cpu) p.now.stop source x (k.standing cpu ne) (λ i other. refl) j
 
     stops_still : (j : ℕ) → j < cpus → StopIs (q.now.stop j) (stop_at s j)
     stops_still j l = subst (λ (z : Stop). StopIs z (stop_at s j)) (sym (k.stop_is j))
-        (put_all (λ i (z : Stop). i < cpus → StopIs z (stop_at s i)) p.now.stop source x (λ _. here) (λ i other m. f.stops i m) j l)
+        (put_all (λ i (z : Stop). i < cpus → StopIs z (stop_at s i)) p.now.stop source x here (λ i other m. f.stops i m) j l)
 
     pub same_step : CpuIs q s past me → ReachesStops q at' (slice_set pasts me past) s []
     same_step mine = record {

@@ -107,6 +107,7 @@ pub record CpuIs (p : StopState) (s : StateValue) (past : Past) (cpu : ℕ) : Ty
 -- All stops and CPUs.
 pub record FollowsStops (p : StopState) (at : Word → ℕ) (pasts : List Past) (s : StateValue) : Type 0 where
   pub stops_are : length s.stops ≡ 32
+  pub keys_are : length s.words.keys ≡ 4
   pub gate : s.gate ≡ p.gate
   pub stops : (source : ℕ) → source < cpus → StopIs (p.now.stop source) (stop_at s source)
   pub cpus_are : (cpu : ℕ) → cpu < cpus → CpuIs p s (past_at pasts cpu) cpu
