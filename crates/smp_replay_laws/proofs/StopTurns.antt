@@ -3,8 +3,8 @@ use Rattle.std.proofs.Common.{◌≡◌, ◌≢◌, ℕ, ℤ, ◌+◌, ◌-◌, 
 use Rattle.std.proofs.lemmas.Bool.{cases_eq, eq-eqb, ne_eqb, true≢false, false≢true, and_left, and_right, lt-ltb, eqb-true, eqb-false}
 use Rattle.std.specs.Prelude.{slice_set, ◌==◌, pos, replicate}
 use Rattle.smp_mask.specs.Mask.{has}
-use Rattle.smp_labels.specs.Keys.{is_on}
-use Rattle.smp_words.specs.Access.{at_after, put_by, put_if, seen_of, word_of}
+use Rattle.smp_labels.specs.Keys.{change_of, is_on}
+use Rattle.smp_words.specs.Access.{one_less, at_after, put_by, put_if, seen_of, word_of}
 use Rattle.smp_words.specs.Kinds.{kind_at, kind_word}
 use Rattle.smp_words.specs.Put.{put, put_word, same_word}
 use Rattle.smp_words.specs.Size.{cpus}
@@ -22,6 +22,8 @@ use Rattle.smp_words.specs.declared.work.Kind.TheVariants.{One, Multi, Patch}
 use Rattle.smp_words.specs.declared.work.Work.{Work}
 use Rattle.smp_words.proofs.Puts.{put_all, put_other, put_same}
 use Rattle.smp_stop_steps.specs.Callings.{IsCalling}
+use Rattle.smp_stop_steps.specs.Labels.{Change, Patching, Whole, Patches}
+use Rattle.smp_stop_steps.specs.Present.{RunnerShows}
 use Rattle.smp_stop_steps.specs.Seats.{Stands, irq_of}
 use Rattle.smp_stop_steps.specs.Shows.{StopShows, gate_word}
 use Rattle.smp_stop_steps.specs.Slots.{Keeps, OpenShows}
@@ -29,13 +31,13 @@ use Rattle.smp_stop_steps.specs.Sits.{SitsInRound, HoldsGate, SitsAt, SitsAtRest
 use Rattle.smp_stop_steps.specs.Slots.{order}
 use Rattle.smp_stop_steps.specs.Sources.{DraftShows, IsDrafted, IsOfKind, IsWork, SourceShows}
 use Rattle.smp_stop_steps.specs.Carries.{CarriesAt, IsQuiet}
-use Rattle.smp_stop_steps.specs.Stages.{StopControlValue, answer_at, looked_on, stop_access, stop_ends, stop_outcome}
+use Rattle.smp_stop_steps.specs.Stages.{StopControlValue, answer_at, StopOutcome, acked_on, looked_on, stop_access, stop_ends, stop_goes, stop_outcome, turn_ends, turn_note, visit_acked}
 use Rattle.smp_stop_steps.specs.State.{Present, Setup, StopState}
 use Rattle.smp_stop_steps.specs.declared.known.Reading.TheVariants.{ReadKey as ReadingKey}
-use Rattle.smp_stop_steps.specs.Stop.{Standing, Outside, Called, Inside, Answering, Completed, Stop, first_phase, is_called, stands}
+use Rattle.smp_stop_steps.specs.Stop.{Standing, Outside, Called, Inside, Answering, Completed, Raising, Nobody, Refills, Raises, Stop, acknowledged, first_phase, is_called, stands}
 use Rattle.smp_stop_steps.specs.Table.{stop_number}
 use Rattle.smp_stop_steps.specs.Counts.{mask_weight}
-use Rattle.smp_stop_steps.specs.Tells.{calls_now, looked_by, drafted, drafts, gate_told, is_at_run, is_patch, key_loaded, opens, patch_begun, reads, slot_told, stored_open, tells}
+use Rattle.smp_stop_steps.specs.Tells.{called_more, calls_now, carried, carried_call, leaves, unpatched, is_multi, looked_by, may_call, drafted, drafts, gate_told, is_at_run, is_patch, key_loaded, opens, patch_begun, reads, slot_told, stored_open, tells}
 use Rattle.smp_stop_steps.specs.Value.{StopShown, StopsValue, setup_of, stop_control_of}
 use Rattle.smp_stop_steps.specs.declared.known.Calling.{Calling}
 use Rattle.smp_stop_steps.specs.declared.known.Calling.TheVariants.{Idle, Calls, Carries}
@@ -44,7 +46,7 @@ use Rattle.smp_stop_steps.specs.declared.known.Duty.TheVariants.{Rests, Fills, S
 use Rattle.smp_stop_steps.specs.declared.stage.RoundStage.{RoundStage}
 use Rattle.smp_stop_steps.specs.declared.stage.RoundStage.TheVariants as round
 use Rattle.smp_stop_steps.specs.declared.known.Seat.{Seat}
-use Rattle.smp_stop_steps.specs.declared.known.Seat.TheVariants.{Free, In}
+use Rattle.smp_stop_steps.specs.declared.known.Seat.TheVariants.{Free, In, Gives, Alters, Closes}
 use Rattle.smp_stop_steps.specs.declared.known.Source.{Source}
 use Rattle.smp_stop_steps.specs.declared.known.Source.TheVariants.{Drafts as Drafting}
 use Rattle.smp_stop_steps.specs.declared.stage.StopStage.{StopStage}
@@ -58,18 +60,22 @@ use Rattle.smp_event_steps.specs.declared.event.LabelEvent.TheVariants as labels
 use Rattle.smp_event_steps.specs.declared.event.StopEvent.TheVariants as stops
 use Rattle.smp_event_steps.specs.declared.stop.Task.{Task}
 use Rattle.smp_event_steps.specs.Cpu.{handles_nothing}
-use Rattle.smp_event_steps.specs.State.{StateValue, cpu_at, stop_at}
+use Rattle.smp_event_steps.specs.State.{StateValue, cpu_at, stop_at, with_stop}
+use Rattle.smp_event_steps.specs.Step.{goes}
+use Rattle.smp_event_steps.specs.Stop.{acked_by, is_cpu}
+use Rattle.std.proofs.lemmas.List.{get_or-set_same, get_or-set_other}
 use Rattle.smp_events.specs.Past.{after, after_draft, is_new, past_at, phase_of}
-use Rattle.smp_events.specs.Told.{of_gate, of_key, of_roll, of_slot, task_of, told_of}
+use Rattle.smp_events.specs.Told.{of_arg, of_gate, with_on, of_key, of_roll, of_slot, task_of, told_of}
 use Rattle.smp_events.specs.declared.past.Draft.{Draft}
 use Rattle.smp_events.specs.declared.past.Past.{Past}
 use Rattle.smp_events.specs.declared.told.Told.{Told}
 use Rattle.smp_events.specs.declared.told.Told.TheVariants as told
 use Rattle.smp_replay_laws.specs.Follows.{nothing_left_out}
-use Rattle.smp_replay_laws.specs.Stops.{AnswerIs, CpuIs, DraftIs, Drafts, FollowsStops, InsideIs, IsPlain, OpenIs, PhaseIs, told_work}
+use Rattle.smp_replay_laws.specs.Stops.{AnswerIs, CpuIs, DraftIs, Drafts, FollowsStops, InsideIs, IsPlain, OpenIs, PhaseIs, given_by, has_called, raiser_of, told_work}
 use Rattle.smp_replay_laws.proofs.Accepts.{by}
 use Rattle.smp_replay_laws.proofs.StopKinds.{gate_given, gate_taken, idle_free, mine_past, nothing_told}
 use Rattle.smp_replay_laws.proofs.StopAcks as acking
+use Rattle.smp_replay_laws.proofs.StopKinds.{Goes}
 use Rattle.smp_replay_laws.proofs.StopMoves.{looked_step, off_step}
 use Rattle.smp_replay_laws.proofs.StopRounds.{acks_told, leaves_told, raise_made, raises_told, told_acked, told_raised}
 use Rattle.smp_replay_laws.proofs.StopRuns.{runs_told}
@@ -284,7 +290,7 @@ module _ (v : StopsValue) (p : StopState) (shown : StopShown p v) (me : ℕ) (be
       let idle = idle_here slot w x (calling_here slot 2 3 w Rests at_seat) quiet_now in
       let k = keeps_here slot 2 3 w Rests at_seat in
       let words = words_here slot 2 3 w Rests at_seat in
-      let phase : (p.now.stop slot).phase ≡ 3 = at_three k.2 in
+      let phase : (p.now.stop slot).phase ≡ 3 = at_three 3 2 (p.now.stop slot).phase refl refl k.2 in
       runs_told U p At At shown.seat shown.source shown.shows me below pasts sized s whole cpus_are f (λ j. refl) (λ j. refl) slot so.0 o
       (calls_now p me (p.now.stop slot).work (At (Slot slot field.Arg)) answer) 2 3 func (At (Slot slot field.Arg))
       (Calls (record { func = (p.now.stop slot).work.func; arg = At (Slot slot field.Arg); answer = answer })) so.1 idle refl
@@ -302,6 +308,202 @@ module _ (v : StopsValue) (p : StopState) (shown : StopShown p v) (me : ℕ) (be
       (inr (ap (λ (z : Work). z.kind) so.3 ∙ kind, (ap (λ (z : Work). has z.active me) so.3 ∙ active, (refl, phase))))
       (ap (λ (z : Work). z.func) so.3 ∙ sym is) (sym words.written.arg)
     where
-      at_three : ((3 ≡ 2) ⊎ ((3 ≡ 2 + 1) × ((p.now.stop slot).phase ≡ 3))) → (p.now.stop slot).phase ≡ 3
-      at_three (inl e) = absurd (omega arith)
-      at_three (inr e) = e.1
+      at_three : (l n phase : ℕ) → l ≡ 3 → n ≡ 2 → ((l ≡ n) ⊎ ((l ≡ n + 1) × (phase ≡ l))) → phase ≡ 3
+      at_three l n phase three two (inl e) = absurd (omega arith)
+      at_three l n phase three two (inr e) = e.1 ∙ three
+
+  multi_is : (k : Kind) → k ≢ One → k ≢ Patch → k ≡ Multi
+  multi_is One a b = absurd (a refl)
+  multi_is Multi a b = refl
+  multi_is Patch a b = absurd (b refl)
+
+  pub loads_arg : (x : Visit) (answer func : ℕ) → C.stage ≡ Some (Advance x (round.LoadArg answer func)) → Made (Advance x (round.LoadArg answer func))
+  loads_arg x answer func e =
+      let k = sits x (round.LoadArg answer func) e in
+      let w = k.1.0 in
+      let run = k.1.1 in
+      let slot = x.slot in
+      let kind : w.kind ≡ Multi = multi_is w.kind (λ one. k.0 (run.0.kind ∙ one)) (not_patch slot 2 3 w Rests run.3) in
+      let active : has w.active me ≡ true = ap (λ (m : ℕ). has m me) (sym run.0.active) ∙ run.2 in
+      let so = st slot 2 3 w Rests run.3 in
+      let carries : IsQuiet C.visit (p.calling me) = subst (λ (o : Option StopStage). CarriesAt C.visit o (p.calling me)) e (shown.carries me below) in
+      let visit : C.visit ≡ Some x = (subst (λ (o : Option StopStage). SitsAt U me C o (shown.seat me)) e (shown.sits me below).seat).0 in
+      let quiet_now : IsQuiet (Some x) (p.calling me) = subst (λ (o : Option Visit). IsQuiet o (p.calling me)) visit carries in
+      let r = runs_at slot w x answer func run.3 kind active k.1.2 quiet_now in
+      let may : may_call me (p.now.stop slot).work ((p.now.stop slot).standing me) ≡ true =
+      ap (λ (z : Standing). may_call me (p.now.stop slot).work z) so.1 ∙ (ap (λ (z : Work). may_call me z (Inside 2 3)) so.3 ∙ may_at w kind active) in
+      let multi : is_multi x.kind ≡ true = ap is_multi run.0.kind ∙ ap is_multi kind in
+      said_by slot (tells U p (seen_so v p shown me below pasts sized s whole cpus_are f (Advance x (round.LoadArg answer func))) answer) (is_multi x.kind) func
+      (record { control = record C { stage = Some (Advance x (round.Acknowledge answer true)) }; note = None })
+      (stop_goes C (Advance x (round.LoadKey func (change_of (At (Slot slot field.Arg)))))) multi
+      (subst (λ (q : StopState). Runs q slot func (At (Slot slot field.Arg))) (sym (then_if (may_call me (p.now.stop slot).work ((p.now.stop slot).standing me))
+      (calls_now p me (p.now.stop slot).work (At (Slot slot field.Arg)) answer) p may)) r)
+    where
+      may_at : (w : Work) → w.kind ≡ Multi → has w.active me ≡ true → may_call me w (Inside 2 3) ≡ true
+      may_at w kind active = rw (kind, active) refl
+      said_by : (slot : ℕ) (q : StopState) (multi : Bool) (func : ℕ) (a b : StopOutcome) → multi ≡ true → Runs q slot func (At (Slot slot field.Arg))
+          → ReachesStops q At (slice_set pasts me Old) s (by me (of_arg (cond multi (record a { note = Some (note.Run func (At (Slot slot field.Arg))) }) b).note))
+      said_by slot q true func a b e r = r
+      said_by slot q false func a b e r = absurd (false≢true e)
+
+  -- a CPU of a patch is in no stop that is told
+  no_patch : (slot : ℕ) (w : Work) (count : ℕ) (made rest : List Change) → shown.seat me ≡ Alters slot w count made rest → ⊥
+  no_patch slot w count made rest e =
+      let so = seat_is (Alters slot w count made rest) e in
+      let i = my.stop slot so.0 in
+      let o = is_open_inside U.cpus (p.now.stop slot) (λ g. At (Slot slot g)) (shown.shows.present.slots slot) me (Inside 2 3) so.1 refl in
+      let told = (f.stops slot i.below).shows o in
+      told.kind (ap (λ (z : Work). z.kind) so.3 ∙ so.4)
+
+  -- a CPU acknowledges
+  module _ (slot a : ℕ) (w : Work) (at_seat : shown.seat me ≡ In slot w a (a + 1) Rests) (kind : w.kind ≢ One) (x : Visit) (answer : ℕ) (ran : Bool)
+      (called : a + 1 ≡ 3 → has w.active me ≡ true → has_called (p.calling me) ≡ true) where
+    abbrev here : Stands p.now me (In slot w a (a + 1) Rests)
+    here = st slot a (a + 1) w Rests at_seat
+
+    abbrev Ack : ℕ
+    Ack = At (Slot slot field.Ack)
+
+    abbrev Next : Stop
+    Next = acknowledged (p.now.stop slot) me (a + 1) (At (Slot slot field.Ack))
+
+    abbrev At' : Word → ℕ
+    At' = put_word At (Slot slot field.Ack) (one_less (At (Slot slot field.Ack)))
+
+    abbrev Acked : Present
+    Acked = record (p.now) {
+      stop = put p.now.stop slot (acknowledged (p.now.stop slot) me (a + 1) (At (Slot slot field.Ack)));
+      patching = cond (a + 1 == 3) (unpatched me p.now.patching) p.now.patching;
+    }
+
+    abbrev Q : Bool → StopState
+    Q left = record p {
+      now = cond left (leaves Acked me slot (p.now.stop slot).work) Acked;
+      calls = cond (a + 1 == 3) (called_more p.calls me (p.calling me)) p.calls;
+      calling = cond (a + 1 == 3) (put p.calling me (carried me p.now.patching (p.calling me))) p.calling;
+    }
+
+    -- who has called its function, has called it still
+    carried_same : (g : Calling) → has_called (carried_call g) ≡ has_called g
+    carried_same Idle = refl
+    carried_same (Calls call) = refl
+    carried_same (Carries n) = refl
+
+    calls_same : (g : Patching) → RunnerShows U.first g shown.seat → has_called (carried me g (p.calling me)) ≡ has_called (p.calling me)
+    calls_same Whole r = carried_same (p.calling me)
+    calls_same (Patches d y count made rest) r = elim (cases_eq d me) [
+      | inl e ↦ absurd (no_patch r.1.0 y count made rest (subst (λ (n : ℕ). shown.seat n ≡ Alters r.1.0 y count made rest) e r.1.1))
+      | inr ne ↦ rw (ne_eqb d me ne) (carried_same (p.calling me))
+    ]
+
+    calling_same : (three : Bool) → has_called ((cond three (put p.calling me (carried me p.now.patching (p.calling me))) p.calling) me) ≡ has_called (p.calling me)
+    calling_same true = ap has_called (put_same p.calling me _) ∙ calls_same p.now.patching shown.shows.present.runner
+    calling_same false = refl
+
+    calling_other : (three : Bool) (d : ℕ) → d ≢ me → (cond three (put p.calling me (carried me p.now.patching (p.calling me))) p.calling) d ≡ p.calling d
+    calling_other true d ne = put_other p.calling me _ d ne
+    calling_other false d ne = refl
+
+    old_is : Old.phase ≡ a + 1
+    old_is =
+        let k : PhaseIs (Inside a (a + 1)) Old.phase = subst (λ (z : Standing). PhaseIs z Old.phase) here.1 (my.stop slot here.0).phase in
+        k (λ z. absurd (omega arith))
+
+    old_answer : Old.answer ≡ pos 0
+    old_answer = subst (λ (z : Standing). AnswerIs z Old.answer) here.1 (my.stop slot here.0).answer
+
+    open_now : (p.now.stop slot).is_open ≡ true
+    open_now = opened_here slot a (a + 1) w Rests at_seat
+
+    made : goes me (event.Stop (stops.Ack (a + 1))) s ≡ Ok (with_stop slot s (record (stop_at s slot) { acked = slice_set (stop_at s slot).acked me (a + 1);
+        raiser = raiser_of (cond (At (Slot slot field.Ack) == 1) (Refills me) (p.now.stop slot).raising) }))
+    made = acking.ack_made U p At At' shown.seat shown.source shown.shows me below pasts sized s whole cpus_are f (λ j. refl) (λ j. refl) refl slot a w Idle here
+        (λ e. kind (ap (λ (z : Work). z.kind) (sym here.3) ∙ e)) (λ two. irq_here slot a (a + 1) w Rests at_seat ∙ off_two a two)
+        (λ three active. (multi_is (p.now.stop slot).work.kind (λ e. kind (ap (λ (z : Work). z.kind) (sym here.3) ∙ e)) (told_here slot a (a + 1) w Rests at_seat).kind,
+        called three (ap (λ (z : Work). has z.active me) (sym here.3) ∙ active)))
+      where
+        off_two : (n : ℕ) → n + 1 ≡ 2 → irq_of (In slot w n (n + 1) Rests) ≡ false
+        off_two n two =
+            let one : n ≡ 1 = omega arith in
+            rw one refl
+
+    abbrev IsAcked : Bool → Bool → Type 0
+    IsAcked left irq = Goes U p At At' shown.seat shown.source shown.shows me below pasts sized s whole cpus_are f (λ j. refl) (λ j. refl) (Q left) slot
+        (acknowledged (p.now.stop slot) me (a + 1) (At (Slot slot field.Ack))) (Some slot) irq
+        ((cond (a + 1 == 3) (put p.calling me (carried me p.now.patching (p.calling me))) p.calling) me)
+
+    stays : IsAcked false (p.now.irq me)
+    stays = record {
+      stop_is = λ j. refl;
+      inside_is = here.0;
+      irq_is = refl;
+      calling_is = refl;
+      inside_else = λ d ne. refl;
+      irq_else = λ d ne. refl;
+      calling_else = calling_other (a + 1 == 3);
+      standing_else = λ d ne. put_other (p.now.stop slot).standing me (Inside (a + 1) (a + 1)) d ne;
+      gate_is = refl;
+    }
+
+    goes_out : IsAcked true true
+    goes_out = record {
+      stop_is = λ j. refl;
+      inside_is = here.0;
+      irq_is = put_same p.now.irq me true;
+      calling_is = refl;
+      inside_else = λ d ne. refl;
+      irq_else = λ d ne. put_other p.now.irq me true d ne;
+      calling_else = calling_other (a + 1 == 3);
+      standing_else = λ d ne. put_other (p.now.stop slot).standing me (Inside (a + 1) (a + 1)) d ne;
+      gate_is = refl;
+    }
+
+    acked_now : (acknowledged (p.now.stop slot) me (a + 1) (At (Slot slot field.Ack))).standing me ≡ Inside (a + 1) (a + 1)
+    acked_now = put_same (p.now.stop slot).standing me (Inside (a + 1) (a + 1))
+
+    one_ack : ReachesStops (Q false) At' (slice_set pasts me Old) s ((me, event.Stop (stops.Ack (a + 1))) ∷ [])
+    one_ack = acks_told U p At At' shown.seat shown.source shown.shows me below pasts sized s whole cpus_are f (λ j. refl) (λ j. refl) slot here.0 open_now (Q false)
+        (acknowledged (p.now.stop slot) me (a + 1) (At (Slot slot field.Ack))) (a + 1)
+        (raiser_of (cond (At (Slot slot field.Ack) == 1) (Refills me) (p.now.stop slot).raising))
+        ((cond (a + 1 == 3) (put p.calling me (carried me p.now.patching (p.calling me))) p.calling) me) acked_now refl refl refl refl
+        (ap is_called here.1) (ap given_by here.1) (calling_same (a + 1 == 3)) old_is old_answer stays made
+
+    two_acks : a + 1 ≡ 4 → (At (Slot slot field.Ack) == 1) ≡ false
+        → ReachesStops (Q true) At' (slice_set pasts me Old) s ((me, event.Stop (stops.Ack (a + 1))) ∷ ((me, event.Stop stops.On) ∷ []))
+    two_acks exit last =
+        let y = record (stop_at s slot) { acked = slice_set (stop_at s slot).acked me (a + 1);
+            raiser = raiser_of (cond (At (Slot slot field.Ack) == 1) (Refills me) (p.now.stop slot).raising) } in
+        let told = told_here slot a (a + 1) w Rests at_seat in
+        let size = (f.stops slot (my.stop slot here.0).below).sized in
+        let acked : acked_by y me ≡ a + 1 = get_or-set_same (stop_at s slot).acked me (a + 1) 0 (rw size.acked (omega arith)) in
+        let none : raiser_of (cond (At (Slot slot field.Ack) == 1) (Refills me) (p.now.stop slot).raising) ≡ None =
+        rw (last, acking.nobody U p At At' shown.seat shown.source shown.shows me below pasts sized s whole cpus_are f (λ j. refl) (λ j. refl) refl slot a w Idle here) refl in
+        leaves_told U p At At' shown.seat shown.source shown.shows me below pasts sized s whole cpus_are f (λ j. refl) (λ j. refl) slot here.0 open_now (Q true)
+        (acknowledged (p.now.stop slot) me (a + 1) (At (Slot slot field.Ack))) y
+        ((cond (a + 1 == 3) (put p.calling me (carried me p.now.patching (p.calling me))) p.calling) me) (event.Stop (stops.Ack (a + 1)))
+        (told_acked U p At At' shown.seat shown.source shown.shows me below pasts sized s whole cpus_are f (λ j. refl) (λ j. refl) slot here.0 open_now
+        (acknowledged (p.now.stop slot) me (a + 1) (At (Slot slot field.Ack))) (a + 1)
+        (raiser_of (cond (At (Slot slot field.Ack) == 1) (Refills me) (p.now.stop slot).raising)) acked_now refl refl refl refl
+        (ap is_called here.1) (ap given_by here.1) goes_out.standing_else) (a + 1) acked_now (calling_same (a + 1 == 3)) old_is exit old_answer goes_out (λ d. refl) made
+        (λ e. kind (ap (λ (z : Work). z.kind) (sym here.3) ∙ (ap (λ (z : Task). z.kind) (sym told.task) ∙ e))) (acked ∙ exit) (ap (λ (z : Option ℕ). is_cpu z me) none)
+        (irq_here slot a (a + 1) w Rests at_seat ∙ off_three a exit)
+      where
+        off_three : (n : ℕ) → n + 1 ≡ 4 → irq_of (In slot w n (n + 1) Rests) ≡ false
+        off_three n e =
+            let three : n ≡ 3 = omega arith in
+            rw three refl
+
+    abbrev AckSaid : Bool → Bool → Option Note
+    AckSaid last exit = (cond {A = StopOutcome} last (stop_goes (record C { visit = Some (visit_acked x answer ran) }) (Advance (visit_acked x answer ran) (round.Refill ran)))
+        (stop_ends (record C { visit = Some (visit_acked x answer ran); interrupts = cond exit true C.interrupts }) (cond exit note.Left (cond ran note.Ran (note.Moved (a + 1)))))).note
+
+    ack_by : (last exit r : Bool) → ran ≡ r → (At (Slot slot field.Ack) == 1) ≡ last → (a + 1 == 4) ≡ exit
+        → ReachesStops (Q (exit && not last)) At' (slice_set pasts me Old) s
+        (by me (with_on (stops.Ack (a + 1)) (cond {A = StopOutcome} last
+        (stop_goes (record C { visit = Some (visit_acked x answer ran) }) (Advance (visit_acked x answer ran) (round.Refill ran)))
+        (stop_ends (record C { visit = Some (visit_acked x answer ran); interrupts = cond exit true C.interrupts }) (cond exit note.Left (cond r note.Ran (note.Moved (a + 1)))))).note))
+    ack_by true true r e one four = one_ack
+    ack_by true false r e one four = one_ack
+    ack_by false true r e one four = two_acks (eqb-true (a + 1) 4 four) one
+    ack_by false false true e one four = one_ack
+    ack_by false false false e one four = one_ack
