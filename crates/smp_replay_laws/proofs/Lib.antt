@@ -19,3 +19,4 @@ pub mod StopSources
 pub mod StopAcks
 pub mod StopStages
 pub mod StopTurns
+pub mod StopPhases

@@ -82,7 +82,7 @@ use Rattle.smp_replay_laws.proofs.StopRuns.{runs_told}
 use Rattle.smp_replay_laws.proofs.StopStages.{Accepted, at, c, else_if, loads, past, seen_so, u}
 use Rattle.smp_replay_laws.proofs.StopSteps.{ReachesStops, word_kept}
 
-then_if : {A : Type 0} (b : Bool) (x y : A) → b ≡ true → cond b x y ≡ x
+pub then_if : {A : Type 0} (b : Bool) (x y : A) → b ≡ true → cond b x y ≡ x
 then_if true x y e = refl
 then_if false x y e = absurd (false≢true e)
 
@@ -101,21 +101,21 @@ module _ (v : StopsValue) (p : StopState) (shown : StopShown p v) (me : ℕ) (be
   abbrev Old : Past
   Old = past_at pasts me
 
-  abbrev Made : StopStage → Type 0
+  abbrev pub Made : StopStage → Type 0
   Made stage = Accepted v p shown me below pasts sized s whole cpus_are f stage
 
   my : CpuIs p s Old me
   my = f.cpus_are me below
 
-  seat_is : (x : Seat) → shown.seat me ≡ x → Stands p.now me x
+  pub seat_is : (x : Seat) → shown.seat me ≡ x → Stands p.now me x
   seat_is x e = subst (Stands p.now me) e (shown.shows.present.stands me)
 
-  sits : (w : Visit) (stage : RoundStage) → C.stage ≡ Some (Advance w stage) → SitsInRound U me C.changes w stage (shown.seat me)
+  pub sits : (w : Visit) (stage : RoundStage) → C.stage ≡ Some (Advance w stage) → SitsInRound U me C.changes w stage (shown.seat me)
   sits w stage e = (subst (λ (x : Option StopStage). SitsAt U me C x (shown.seat me)) e (shown.sits me below).seat).1
 
   -- a CPU that is in an open stop
   module _ (slot a l : ℕ) (w : Work) (t : Duty) (at_seat : shown.seat me ≡ In slot w a l t) where
-    st : Stands p.now me (In slot w a l t)
+    pub st : Stands p.now me (In slot w a l t)
     st = seat_is (In slot w a l t) at_seat
 
     i : InsideIs p s Old me slot
@@ -347,7 +347,7 @@ module _ (v : StopsValue) (p : StopState) (shown : StopShown p v) (me : ℕ) (be
       said_by slot q false func a b e r = absurd (false≢true e)
 
   -- a CPU of a patch is in no stop that is told
-  no_patch : (slot : ℕ) (w : Work) (count : ℕ) (made rest : List Change) → shown.seat me ≡ Alters slot w count made rest → ⊥
+  pub no_patch : (slot : ℕ) (w : Work) (count : ℕ) (made rest : List Change) → shown.seat me ≡ Alters slot w count made rest → ⊥
   no_patch slot w count made rest e =
       let so = seat_is (Alters slot w count made rest) e in
       let i = my.stop slot so.0 in
@@ -404,7 +404,7 @@ module _ (v : StopsValue) (p : StopState) (shown : StopShown p v) (me : ℕ) (be
     calling_other true d ne = put_other p.calling me _ d ne
     calling_other false d ne = refl
 
-    old_is : Old.phase ≡ a + 1
+    pub old_is : Old.phase ≡ a + 1
     old_is =
         let k : PhaseIs (Inside a (a + 1)) Old.phase = subst (λ (z : Standing). PhaseIs z Old.phase) here.1 (my.stop slot here.0).phase in
         k (λ z. absurd (omega arith))
@@ -497,7 +497,7 @@ module _ (v : StopsValue) (p : StopState) (shown : StopShown p v) (me : ℕ) (be
     AckSaid last exit = (cond {A = StopOutcome} last (stop_goes (record C { visit = Some (visit_acked x answer ran) }) (Advance (visit_acked x answer ran) (round.Refill ran)))
         (stop_ends (record C { visit = Some (visit_acked x answer ran); interrupts = cond exit true C.interrupts }) (cond exit note.Left (cond ran note.Ran (note.Moved (a + 1)))))).note
 
-    ack_by : (last exit r : Bool) → ran ≡ r → (At (Slot slot field.Ack) == 1) ≡ last → (a + 1 == 4) ≡ exit
+    pub ack_by : (last exit r : Bool) → ran ≡ r → (At (Slot slot field.Ack) == 1) ≡ last → (a + 1 == 4) ≡ exit
         → ReachesStops (Q (exit && not last)) At' (slice_set pasts me Old) s
         (by me (with_on (stops.Ack (a + 1)) (cond {A = StopOutcome} last
         (stop_goes (record C { visit = Some (visit_acked x answer ran) }) (Advance (visit_acked x answer ran) (round.Refill ran)))
