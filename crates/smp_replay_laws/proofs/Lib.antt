@@ -20,3 +20,4 @@ pub mod StopAcks
 pub mod StopStages
 pub mod StopTurns
 pub mod StopPhases
+pub mod StopEnds

@@ -265,3 +265,35 @@ module _ (v : StopsValue) (p : StopState) (shown : StopShown p v) (me : ℕ) (be
     raise_by true r e four = two_raises (eqb-true x.acked 4 four)
     raise_by false true e four = one_raise
     raise_by false false e four = one_raise
+
+  over_is : (n : ℕ) → (n == 4) ≡ (n + 1 == 5)
+  over_is n = elim (cases_eq n 4) [
+    | inl e ↦ rw e refl
+    | inr ne ↦ ne_eqb n 4 ne ∙ sym (ne_eqb (n + 1) 5 (λ z. ne (omega arith)))
+  ]
+
+  pub raises_phase : (x : Visit) (ran : Bool) → C.stage ≡ Some (Advance x (round.Raise ran)) → Does (Advance x (round.Raise ran))
+  raises_phase x ran e =
+      let k = at_stage x (round.Raise ran) e in
+      let w = k.0 in
+      let n = x.acked + 1 in
+      let said = (stop_ends (record C { interrupts = cond (x.acked == 4) true C.interrupts }) (cond (x.acked == 4) note.Left (cond ran note.Ran (note.Moved x.acked)))).note in
+      let at' = put_word At (Slot x.slot field.State) n in
+      let moved : Present = record (p.now) { stop = put p.now.stop x.slot (raised (p.now.stop x.slot) n) } in
+      let q = λ (over : Bool). record p { now = cond over (leaves moved me x.slot (p.now.stop x.slot).work) moved } in
+      let phase = phase_is x ran w k.2 in
+      let calm = not_calm x ran w k.2 in
+      let high = small x ran w k.2 in
+      let some : 1 < n = above x.acked (λ z. calm (phase ∙ z)) in
+      let one = raise_by x ran w k.2 (x.acked == 4) ran refl refl in
+      let two = subst (λ (b : Bool). ReachesStops (q b) at' (slice_set pasts me Old) s (by me (with_on (stops.Raise n) said))) (over_is x.acked) one in
+      let three = subst (λ (m : ℕ). ReachesStops (q (n == 5)) at' (slice_set pasts me Old) s (by me (with_on (stops.Raise m) said))) (sym (phase_small n (omega (arith, high)))) two in
+      let four = subst (λ (z : Told). ReachesStops (q (n == 5)) at' (slice_set pasts me Old) s (by me z))
+      (sym (then_if (nat_lt 1 n) (with_on (stops.Raise (phase_of n)) said) told.Nothing (lt-ltb 1 n some))) three in
+      subst (λ (z : StopState). ReachesStops z at' (slice_set pasts me Old) s (by me (cond (nat_lt 1 n) (with_on (stops.Raise (phase_of n)) said) told.Nothing)))
+      (sym (then_if (p.now.stop x.slot).is_open (q (n == 5)) (stored_shut p x.slot field.State n) (open_now x ran w k.2))) four
+    where
+      above : (m : ℕ) → m ≢ 0 → 1 < m + 1
+      above m ne = omega arith
+      phase_small : (m : ℕ) → m ≤ 5 → phase_of m ≡ m
+      phase_small m l = omega arith

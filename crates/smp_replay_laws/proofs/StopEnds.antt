@@ -1,0 +1,195 @@
+-- The step of a CPU that runs the function of a stop of kind One, completes, closes or collects is accepted.
+use Rattle.std.proofs.Common.{◌≡◌, ◌≢◌, ℕ, ℤ, ◌+◌, ◌-◌, ◌<◌, ◌≤◌, ◌%◌, ◌^◌, nat_lt, Bool, true, false, not, ◌&&◌, cond, List, [], ◌∷◌, ◌++◌, length, Option, Some, None, Ok, refl, ap, sym, ◌∙◌, subst, inl, inr, ◌⊎◌, arith}
+use Rattle.std.proofs.lemmas.Bool.{cases_eq, eq-eqb, ne_eqb, true≢false, false≢true, and_left, and_right, lt-ltb, eqb-true, eqb-false}
+use Rattle.std.specs.Prelude.{slice_set, ◌==◌, pos, replicate}
+use Rattle.smp_mask.specs.Mask.{has}
+use Rattle.smp_labels.specs.Keys.{change_of, is_on}
+use Rattle.smp_words.specs.Access.{one_less, at_after, put_by, put_if, seen_of, word_of}
+use Rattle.smp_words.specs.Kinds.{kind_at, kind_word}
+use Rattle.smp_words.specs.Put.{put, put_word, same_word}
+use Rattle.smp_words.specs.Size.{cpus}
+use Rattle.smp_words.specs.declared.access.Access.{Access}
+use Rattle.smp_words.specs.declared.field.Field.{Field}
+use Rattle.smp_words.specs.declared.field.Field.TheVariants as field
+use Rattle.smp_words.specs.declared.seen.Act.TheVariants as act
+use Rattle.smp_words.specs.declared.seen.Note.{Note}
+use Rattle.smp_words.specs.declared.seen.Note.TheVariants as note
+use Rattle.smp_words.specs.declared.seen.Seen.{Seen}
+use Rattle.smp_words.specs.declared.word.Word.{Word}
+use Rattle.smp_words.specs.declared.word.Word.TheVariants.{Gate, Slot, Key, Entry, Site}
+use Rattle.smp_words.specs.declared.work.Kind.{Kind}
+use Rattle.smp_words.specs.declared.work.Kind.TheVariants.{One, Multi, Patch}
+use Rattle.smp_words.specs.declared.work.Work.{Work}
+use Rattle.smp_words.proofs.Puts.{put_all, put_other, put_same}
+use Rattle.smp_stop_steps.specs.Callings.{IsCalling}
+use Rattle.smp_stop_steps.specs.Labels.{Change, Patching, Whole, Patches}
+use Rattle.smp_stop_steps.specs.Present.{RunnerShows}
+use Rattle.smp_stop_steps.specs.Seats.{Stands, irq_of}
+use Rattle.smp_stop_steps.specs.Shows.{StopShows, gate_word}
+use Rattle.smp_stop_steps.specs.Slots.{AckShows, Keeps, OpenShows}
+use Rattle.smp_stop_steps.specs.Sits.{IsLoaded, IsNudge, SitsInCompletion, HoldsGate, SitsAt, SitsAtRest, SitsIn, SourceSits}
+use Rattle.smp_stop_steps.specs.Slots.{order}
+use Rattle.smp_stop_steps.specs.Sources.{DraftShows, IsDrafted, IsOfKind, IsWork, SourceShows}
+use Rattle.smp_stop_steps.specs.Carries.{CarriesAt, IsAcking, IsQuiet}
+use Rattle.smp_stop_steps.specs.Stages.{StopControlValue, answer_at, StopOutcome, acked_on, looked_on, stop_access, stop_ends, stop_goes, stop_outcome, turn_ends, turn_note, visit_acked}
+use Rattle.smp_stop_steps.specs.State.{Present, Setup, StopState}
+use Rattle.smp_stop_steps.specs.declared.known.Reading.TheVariants.{ReadKey as ReadingKey}
+use Rattle.smp_stop_steps.specs.Stop.{Standing, Outside, Called, Inside, Answering, Completed, Raising, Nobody, Refills, Raises, Stop, acked as acked_of, acknowledged, raised, refilled, first_phase, is_called, stands}
+use Rattle.smp_stop_steps.specs.Table.{stop_number}
+use Rattle.smp_stop_steps.specs.Counts.{mask_weight}
+use Rattle.smp_stop_steps.specs.Tells.{answered_by, completes, collects, stored_shut, called_more, calls_now, carried, carried_call, leaves, unpatched, is_multi, looked_by, may_call, drafted, drafts, gate_told, is_at_run, is_patch, key_loaded, opens, patch_begun, reads, slot_told, stored_open, tells}
+use Rattle.smp_stop_steps.specs.Value.{StopShown, StopsValue, setup_of, stop_control_of}
+use Rattle.smp_stop_steps.specs.declared.known.Calling.{Calling}
+use Rattle.smp_stop_steps.specs.declared.known.Calling.TheVariants.{Idle, Calls, Carries}
+use Rattle.smp_stop_steps.specs.declared.known.Duty.{Duty}
+use Rattle.smp_stop_steps.specs.declared.known.Duty.TheVariants.{Rests, Fills, Sets}
+use Rattle.smp_stop_steps.specs.declared.stage.CompletionStage.{CompletionStage}
+use Rattle.smp_stop_steps.specs.declared.stage.CompletionStage.TheVariants as completion
+use Rattle.smp_stop_steps.specs.declared.known.Seat.{Seat}
+use Rattle.smp_stop_steps.specs.declared.known.Seat.TheVariants.{Free, In, Gives, Alters, Closes}
+use Rattle.smp_stop_steps.specs.declared.known.Source.{Source}
+use Rattle.smp_stop_steps.specs.declared.known.Source.TheVariants.{Drafts as Drafting}
+use Rattle.smp_stop_steps.specs.declared.stage.StopStage.{StopStage}
+use Rattle.smp_stop_steps.specs.declared.stage.StopStage.TheVariants.{TakeGate, OpenGate, Begin, Enter, EnterKind, EnterMask, EnterActive, ReadKey, ReadSite, NudgeKey, Advance, Complete, Close, LoadDone, LoadResult, ExchangeKey}
+use Rattle.smp_stop_steps.specs.declared.stage.Visit.{Visit}
+use Rattle.smp_stop_steps.proofs.State.Gates.{gate_free, gate_mine}
+use Rattle.smp_stop_steps.proofs.State.Phases.{is_open_inside, keeps_inside}
+use Rattle.smp_event_steps.specs.declared.event.Event.{Event}
+use Rattle.smp_event_steps.specs.declared.event.Event.TheVariants as event
+use Rattle.smp_event_steps.specs.declared.event.LabelEvent.TheVariants as labels
+use Rattle.smp_event_steps.specs.declared.event.StopEvent.TheVariants as stops
+use Rattle.smp_event_steps.specs.declared.stop.Task.{Task}
+use Rattle.smp_event_steps.specs.Cpu.{handles_nothing}
+use Rattle.smp_event_steps.specs.State.{StateValue, cpu_at, stop_at, with_stop}
+use Rattle.smp_event_steps.specs.Step.{goes}
+use Rattle.smp_event_steps.specs.Stop.{acked_by, is_cpu}
+use Rattle.std.proofs.lemmas.List.{get_or-set_same, get_or-set_other}
+use Rattle.smp_events.specs.Past.{after, after_draft, is_new, past_at, phase_of}
+use Rattle.smp_events.specs.Told.{of_arg, of_gate, with_on, of_key, of_roll, of_slot, task_of, told_of}
+use Rattle.smp_events.specs.declared.past.Draft.{Draft}
+use Rattle.smp_events.specs.declared.past.Past.{Past}
+use Rattle.smp_events.specs.declared.told.Told.{Told}
+use Rattle.smp_events.specs.declared.told.Told.TheVariants as told
+use Rattle.smp_replay_laws.specs.Follows.{nothing_left_out}
+use Rattle.smp_replay_laws.specs.Stops.{AnswerIs, CpuIs, DraftIs, Drafts, FollowsStops, InsideIs, IsPlain, OpenIs, PhaseIs, as_i32, given_by, has_called, raiser_of, told_work}
+use Rattle.smp_replay_laws.proofs.Accepts.{by}
+use Rattle.smp_replay_laws.proofs.StopKinds.{gate_given, gate_taken, idle_free, mine_past, nothing_told}
+use Rattle.smp_replay_laws.proofs.StopAcks as acking
+use Rattle.smp_replay_laws.proofs.StopKinds.{Goes, refilled_step}
+use Rattle.smp_replay_laws.proofs.StopTurns.{Made, ack_by, calling_here, irq_here, keeps_here, no_patch, not_patch, old_is, opened_here, seat_is, sits, st, then_if, told_here, words_here}
+use Rattle.smp_stop_steps.proofs.State.Acknowledged.{fills_me, sets_me}
+use Rattle.smp_stop_steps.proofs.Steps.Completions.{one_phase}
+use Rattle.smp_replay_laws.proofs.StopMoves.{looked_step, off_step}
+use Rattle.smp_replay_laws.proofs.StopRounds.{acks_told, leaves_told, raise_made, raises_told, told_acked, told_raised}
+use Rattle.smp_replay_laws.proofs.StopRuns.{answers_step, complete_one, complete_round, completes_told, runs_told}
+use Rattle.smp_replay_laws.proofs.StopStages.{Accepted, at, c, else_if, loads, past, seen_so, u}
+use Rattle.smp_replay_laws.proofs.StopSteps.{ReachesStops, word_kept}
+
+module _ (v : StopsValue) (p : StopState) (shown : StopShown p v) (me : ℕ) (below : me < cpus) (pasts : List Past) (sized : length pasts ≡ 32)
+    (s : StateValue) (whole : s.setting.without ≡ nothing_left_out) (cpus_are : length s.cpus ≡ 32) (f : FollowsStops p (stop_number v.table) pasts s)
+    (quiet : handles_nothing (cpu_at s me) ≡ Ok tt) (results : (slot : ℕ) → stop_number v.table (Slot slot field.Result) < 2 ^ 32) where
+  abbrev U : Setup
+  U = setup_of v.online v.labels
+
+  abbrev At : Word → ℕ
+  At = stop_number v.table
+
+  abbrev C : StopControlValue
+  C = stop_control_of v.controls me
+
+  abbrev Old : Past
+  Old = past_at pasts me
+
+  abbrev Does : StopStage → Type 0
+  Does stage = Made v p shown me below pasts sized s whole cpus_are f quiet stage
+
+  my : CpuIs p s Old me
+  my = f.cpus_are me below
+
+  ends_at : (w : Visit) (stage : CompletionStage) → C.stage ≡ Some (Complete w stage) → SitsInCompletion w stage (shown.seat me)
+  ends_at w stage e = (subst (λ (x : Option StopStage). SitsAt U me C x (shown.seat me)) e (shown.sits me below).seat).1
+
+  visit_is : (w : Visit) (stage : CompletionStage) → C.stage ≡ Some (Complete w stage) → C.visit ≡ Some w
+  visit_is w stage e = (subst (λ (x : Option StopStage). SitsAt U me C x (shown.seat me)) e (shown.sits me below).seat).0
+
+  pub loads_func : (x : Visit) (answer : ℕ) → Does (Complete x (completion.LoadFunc answer))
+  loads_func x answer = loads v p shown me below pasts sized s whole cpus_are f (Complete x (completion.LoadFunc answer)) (λ k. refl) (λ k. refl)
+
+  pub loads_done : Does LoadDone
+  loads_done = loads v p shown me below pasts sized s whole cpus_are f LoadDone (λ k. refl) (λ k. refl)
+
+  -- the function of a stop of kind One runs
+  one_acked : (n a l phase : ℕ) → phase ≡ 0 → ((a ≡ phase) ⊎ (a + 1 ≡ phase)) → a ≡ 0
+  one_acked n a l phase z (inl e) = e ∙ z
+  one_acked n a l phase z (inr e) = absurd (omega arith)
+
+  pub loads_arg : (x : Visit) (answer func : ℕ) → C.stage ≡ Some (Complete x (completion.LoadArg answer func)) → Does (Complete x (completion.LoadArg answer func))
+  loads_arg x answer func e =
+      let k = ends_at x (completion.LoadArg answer func) e in
+      let w = k.1.0 in
+      let slot = x.slot in
+      let a = x.acked in
+      let at_seat = k.1.2 in
+      let so = st v p shown me below pasts sized s whole cpus_are f quiet slot a a w Rests at_seat in
+      let o = opened_here v p shown me below pasts sized s whole cpus_are f quiet slot a a w Rests at_seat in
+      let words = words_here v p shown me below pasts sized s whole cpus_are f quiet slot a a w Rests at_seat in
+      let keeps = keeps_here v p shown me below pasts sized s whole cpus_are f quiet slot a a w Rests at_seat in
+      let kind : (p.now.stop slot).work.kind ≡ One = ap (λ (z : Work). z.kind) so.3 ∙ (sym k.1.1.kind ∙ k.0) in
+      let none : a ≡ 0 = one_acked 0 a a (p.now.stop slot).phase (one_phase (p.now.stop slot).work.kind (p.now.stop slot).phase kind words.kinds) keeps.1 in
+      let carries : IsQuiet C.visit (p.calling me) = subst (λ (y : Option StopStage). CarriesAt C.visit y (p.calling me)) e (shown.carries me below) in
+      let still : IsQuiet (Some x) (p.calling me) = subst (λ (y : Option Visit). IsQuiet y (p.calling me)) (visit_is x (completion.LoadArg answer func) e) carries in
+      let idle = idle_of slot w x a (p.calling me) none (calling_here v p shown me below pasts sized s whole cpus_are f quiet slot a a w Rests at_seat) still in
+      let found = At (Slot slot field.Arg) in
+      let q = calls_now p me (p.now.stop slot).work found answer in
+      let may : may_call me (p.now.stop slot).work ((p.now.stop slot).standing me) ≡ true =
+      ap (λ (z : Standing). may_call me (p.now.stop slot).work z) so.1 ∙ may_one (p.now.stop slot).work a kind in
+      subst (λ (z : StopState). ReachesStops z At (slice_set pasts me Old) s ((me, event.Stop (stops.Run func found)) ∷ []))
+      (sym (then_if (may_call me (p.now.stop slot).work ((p.now.stop slot).standing me)) q p may))
+      (runs_told U p At At shown.seat shown.source shown.shows me below pasts sized s whole cpus_are f (λ j. refl) (λ j. refl) slot so.0 o q a a func found
+      (Calls (record { func = (p.now.stop slot).work.func; arg = found; answer = answer })) so.1 idle refl
+      (record {
+        stop_is = λ j. sym (put_all (λ i (z : Stop). z ≡ p.now.stop i) p.now.stop slot (p.now.stop slot) refl (λ i ne. refl) j);
+        inside_is = so.0;
+        irq_is = refl;
+        calling_is = put_same p.calling me _;
+        inside_else = λ d ne. refl;
+        irq_else = λ d ne. refl;
+        calling_else = λ d ne. put_other p.calling me _ d ne;
+        standing_else = λ d ne. refl;
+        gate_is = refl;
+      }) (inl kind) (ap (λ (z : Work). z.func) so.3 ∙ sym k.1.3) (sym words.written.arg))
+    where
+      may_one : (w : Work) (a : ℕ) → w.kind ≡ One → may_call me w (Inside a a) ≡ true
+      may_one w a kind = rw kind refl
+      idle_of : (slot : ℕ) (w : Work) (y : Visit) (a : ℕ) (g : Calling) → a ≡ 0 → IsCalling me (In slot w a a Rests) g → IsQuiet (Some y) g → g ≡ Idle
+      idle_of slot w y a Idle none k still = refl
+      idle_of slot w y a (Calls call) none k still = absurd still
+      idle_of slot w y a (Carries n) none k still = absurd (omega (arith, k.0))
+
+  -- the answer is stored
+  pub stores_answer : (x : Visit) → C.stage ≡ Some (Complete x completion.StoreAnswer) → Does (Complete x completion.StoreAnswer)
+  stores_answer x e =
+      let k = ends_at x completion.StoreAnswer e in
+      let sit = k.2 in
+      let slot = x.slot in
+      let so = st v p shown me below pasts sized s whole cpus_are f quiet slot x.acked x.acked sit.0 Rests sit.2 in
+      let o = opened_here v p shown me below pasts sized s whole cpus_are f quiet slot x.acked x.acked sit.0 Rests sit.2 in
+      let new : Past = record Old { answer = as_i32 x.answer } in
+      let q = λ (z : Standing). record p { now = record (p.now) { stop = put p.now.stop slot (stands (p.now.stop slot) me (answered_by z x.answer)) } } in
+      let at' = put_word At (Slot slot field.Result) x.answer in
+      subst (λ (z : StopState). ReachesStops z at' (slice_set pasts me new) s [])
+      (sym (then_if (p.now.stop slot).is_open (q ((p.now.stop slot).standing me)) (stored_shut p slot field.Result x.answer) o))
+      (subst (λ (z : Standing). ReachesStops (q z) at' (slice_set pasts me new) s []) (sym so.1)
+      (answers_step U p At at' shown.seat shown.source shown.shows me below pasts sized s whole cpus_are f (λ j. refl) (λ j. refl) slot so.0 o (q (Inside x.acked x.acked)) new
+      x.acked x.acked x.answer so.1
+      (record {
+        stop_is = λ j. refl;
+        inside_is = so.0;
+        irq_is = refl;
+        calling_is = refl;
+        inside_else = λ d ne. refl;
+        irq_else = λ d ne. refl;
+        calling_else = λ d ne. refl;
+        standing_else = λ d ne. put_other (p.now.stop slot).standing me (Answering x.acked x.answer) d ne;
+        gate_is = refl;
+      }) refl refl))
