@@ -26,18 +26,18 @@ use Rattle.smp_stop_steps.specs.Labels.{Change, Patching, Whole, Patches}
 use Rattle.smp_stop_steps.specs.Present.{RunnerShows}
 use Rattle.smp_stop_steps.specs.Seats.{Stands, irq_of}
 use Rattle.smp_stop_steps.specs.Shows.{StopShows, gate_word}
-use Rattle.smp_stop_steps.specs.Slots.{AckShows, Keeps, OpenShows}
+use Rattle.smp_stop_steps.specs.Slots.{AckShows, IsPhaseOf, Keeps, OpenShows}
 use Rattle.smp_stop_steps.specs.Sits.{IsLoaded, IsNudge, SitsInCompletion, HoldsGate, SitsAt, SitsAtRest, SitsIn, SourceSits}
 use Rattle.smp_stop_steps.specs.Slots.{order}
 use Rattle.smp_stop_steps.specs.Sources.{DraftShows, IsDrafted, IsOfKind, IsWork, SourceShows}
-use Rattle.smp_stop_steps.specs.Carries.{CarriesAt, IsAcking, IsQuiet}
+use Rattle.smp_stop_steps.specs.Carries.{CarriesAt, IsEnding, IsQuiet}
 use Rattle.smp_stop_steps.specs.Stages.{StopControlValue, answer_at, StopOutcome, acked_on, looked_on, stop_access, stop_ends, stop_goes, stop_outcome, turn_ends, turn_note, visit_acked}
 use Rattle.smp_stop_steps.specs.State.{Present, Setup, StopState}
 use Rattle.smp_stop_steps.specs.declared.known.Reading.TheVariants.{ReadKey as ReadingKey}
-use Rattle.smp_stop_steps.specs.Stop.{Standing, Outside, Called, Inside, Answering, Completed, Raising, Nobody, Refills, Raises, Stop, acked as acked_of, acknowledged, raised, refilled, first_phase, is_called, stands}
+use Rattle.smp_stop_steps.specs.Stop.{Standing, Outside, Called, Inside, Answering, Completed, Raising, Nobody, Refills, Raises, Stop, closed, completed, ended, is_of, acked as acked_of, acknowledged, raised, refilled, first_phase, is_called, stands}
 use Rattle.smp_stop_steps.specs.Table.{stop_number}
 use Rattle.smp_stop_steps.specs.Counts.{mask_weight}
-use Rattle.smp_stop_steps.specs.Tells.{answered_by, completes, collects, stored_shut, called_more, calls_now, carried, carried_call, leaves, unpatched, is_multi, looked_by, may_call, drafted, drafts, gate_told, is_at_run, is_patch, key_loaded, opens, patch_begun, reads, slot_told, stored_open, tells}
+use Rattle.smp_stop_steps.specs.Tells.{answered_by, completes, completes_with, collects, stored_shut, called_more, calls_now, carried, carried_call, leaves, unpatched, is_multi, looked_by, may_call, drafted, drafts, gate_told, is_at_run, is_patch, key_loaded, opens, patch_begun, reads, slot_told, stored_open, tells}
 use Rattle.smp_stop_steps.specs.Value.{StopShown, StopsValue, setup_of, stop_control_of}
 use Rattle.smp_stop_steps.specs.declared.known.Calling.{Calling}
 use Rattle.smp_stop_steps.specs.declared.known.Calling.TheVariants.{Idle, Calls, Carries}
@@ -59,8 +59,8 @@ use Rattle.smp_event_steps.specs.declared.event.Event.TheVariants as event
 use Rattle.smp_event_steps.specs.declared.event.LabelEvent.TheVariants as labels
 use Rattle.smp_event_steps.specs.declared.event.StopEvent.TheVariants as stops
 use Rattle.smp_event_steps.specs.declared.stop.Task.{Task}
-use Rattle.smp_event_steps.specs.Cpu.{handles_nothing}
-use Rattle.smp_event_steps.specs.State.{StateValue, cpu_at, stop_at, with_stop}
+use Rattle.smp_event_steps.specs.Cpu.{handles_nothing, in_stop}
+use Rattle.smp_event_steps.specs.State.{StateValue, cpu_at, stop_at, with_cpu, with_stop}
 use Rattle.smp_event_steps.specs.Step.{goes}
 use Rattle.smp_event_steps.specs.Stop.{acked_by, is_cpu}
 use Rattle.std.proofs.lemmas.List.{get_or-set_same, get_or-set_other}
@@ -81,6 +81,8 @@ use Rattle.smp_stop_steps.proofs.State.Acknowledged.{fills_me, sets_me}
 use Rattle.smp_stop_steps.proofs.Steps.Completions.{one_phase}
 use Rattle.smp_replay_laws.proofs.StopMoves.{looked_step, off_step}
 use Rattle.smp_replay_laws.proofs.StopRounds.{acks_told, leaves_told, raise_made, raises_told, told_acked, told_raised}
+use Rattle.smp_stop_steps.specs.Laws.{IsNot, IsThrough}
+use Rattle.smp_stop_steps.proofs.Promises.Premises.{may_see}
 use Rattle.smp_replay_laws.proofs.StopRuns.{answers_step, complete_one, complete_round, completes_told, runs_told}
 use Rattle.smp_replay_laws.proofs.StopStages.{Accepted, at, c, else_if, loads, past, seen_so, u}
 use Rattle.smp_replay_laws.proofs.StopSteps.{ReachesStops, word_kept}
@@ -193,3 +195,77 @@ module _ (v : StopsValue) (p : StopState) (shown : StopShown p v) (me : ℕ) (be
         standing_else = λ d ne. put_other (p.now.stop slot).standing me (Answering x.acked x.answer) d ne;
         gate_is = refl;
       }) refl refl))
+
+  -- a CPU that completes
+  module _ (x : Visit) (e : C.stage ≡ Some (Complete x completion.CountDown)) where
+    abbrev Found : ℕ
+    Found = At (Slot x.slot field.Todo)
+
+    abbrev Done : Past
+    Done = record Old { answer = pos 0 }
+
+    abbrev At' : Word → ℕ
+    At' = put_word At (Slot x.slot field.Todo) (one_less (At (Slot x.slot field.Todo)))
+
+    abbrev Q : ℕ → ℕ → StopState
+    Q a answer = completes_with p me x.slot a answer (At (Slot x.slot field.Todo))
+
+    sees : (p.now.inside me ≡ Some x.slot) × IsThrough (p.now.stop x.slot) me (acked_of ((p.now.stop x.slot).standing me))
+    sees = may_see U p At shown.seat shown.source shown.shows C me (shown.sits me below) (Complete x completion.CountDown) e
+
+    carries : IsEnding x (p.calling me)
+    carries = subst (λ (o : Option StopStage). CarriesAt C.visit o (p.calling me)) e (shown.carries me below)
+
+    not_mine : (r : Raising) → IsNot me r → is_cpu (raiser_of r) me ≡ false
+    not_mine Nobody k = refl
+    not_mine (Refills n) k = ne_eqb n me k
+    not_mine (Raises n) k = ne_eqb n me k
+
+    -- of a CPU that stands so in an open stop
+    ends_so : (a answer : ℕ) (w : Work) (stood : Standing) → (p.now.stop x.slot).standing me ≡ stood → acked_of stood ≡ a → is_called stood ≡ false → is_of stood ≡ true
+        → (p.now.stop x.slot).work ≡ w → Old.answer ≡ as_i32 answer → ((p.now.stop x.slot).phase ≢ 0 → a ≡ 4 → p.now.irq me ≡ true)
+        → ((p.now.stop x.slot).work.kind ≡ One → has_called (p.calling me) ≡ true) → (has_called (p.calling me) ≡ true) ⊎ (Old.answer ≡ pos 0)
+        → ReachesStops (Q a answer) At' (slice_set pasts me Done) s (by me (told.One (event.Stop (stops.Complete Old.answer))))
+    ends_so a answer w stood is acked_is not_called of work_is given irq one_called round_called =
+        let slot = x.slot in
+        let o = is_open_inside U.cpus (p.now.stop slot) (λ g. At (Slot slot g)) (shown.shows.present.slots slot) me stood is of in
+        let words = (shown.shows.present.slots slot).shows o in
+        let through = sees.1 in
+        let made = by_kind (p.now.stop slot).work.kind refl words.kinds o through in
+        completes_told U p At At' shown.seat shown.source shown.shows me below pasts sized s whole cpus_are f (λ j. refl) (λ j. refl) slot sees.0 o (Q a answer) Done
+        (completed (p.now.stop slot) me a answer (At (Slot slot field.Todo))) a answer (put_same (p.now.stop slot).standing me (Completed a answer)) refl refl refl refl
+        (ap acked_of is ∙ acked_is) (ap is_called is ∙ not_called) given
+        (record {
+          stop_is = λ j. refl;
+          inside_is = put_same p.now.inside me None;
+          irq_is = refl;
+          calling_is = put_same p.calling me Idle;
+          inside_else = λ d ne. put_other p.now.inside me None d ne;
+          irq_else = λ d ne. refl;
+          calling_else = λ d ne. put_other p.calling me Idle d ne;
+          standing_else = λ d ne. put_other (p.now.stop slot).standing me (Completed a answer) d ne;
+          gate_is = refl;
+        }) refl refl made
+      where
+        made_round : (o : (p.now.stop x.slot).is_open ≡ true) → (p.now.stop x.slot).work.kind ≢ One → (p.now.stop x.slot).phase ≢ 0
+            → IsThrough (p.now.stop x.slot) me (acked_of ((p.now.stop x.slot).standing me))
+            → goes me (event.Stop (stops.Complete Old.answer)) s ≡ Ok (with_cpu me (with_stop x.slot s (record (stop_at s x.slot) {
+                answers = slice_set (stop_at s x.slot).answers me (Some Old.answer) })) (in_stop None (cpu_at s me)))
+        made_round o kind phase through =
+            let four : acked_of ((p.now.stop x.slot).standing me) ≡ 4 = elim through.0 [ inl k ↦ k | inr k ↦ absurd (phase k) ] in
+            complete_round U p At At' shown.seat shown.source shown.shows me below pasts sized s whole cpus_are f (λ j. refl) (λ j. refl) x.slot sees.0 o kind
+            (omega (arith, four)) (not_mine (p.now.stop x.slot).raising through.1) (irq phase (sym acked_is ∙ (sym (ap acked_of is) ∙ four))) round_called
+        by_kind : (k : Kind) → (p.now.stop x.slot).work.kind ≡ k → IsPhaseOf (p.now.stop x.slot).work.kind (p.now.stop x.slot).phase → (p.now.stop x.slot).is_open ≡ true
+            → IsThrough (p.now.stop x.slot) me (acked_of ((p.now.stop x.slot).standing me))
+            → goes me (event.Stop (stops.Complete Old.answer)) s ≡ Ok (with_cpu me (with_stop x.slot s (record (stop_at s x.slot) {
+                answers = slice_set (stop_at s x.slot).answers me (Some Old.answer) })) (in_stop None (cpu_at s me)))
+        by_kind One k phase o through = complete_one U p At At' shown.seat shown.source shown.shows me below pasts sized s whole cpus_are f (λ j. refl) (λ j. refl) x.slot sees.0 o
+            k (one_called k)
+        by_kind Multi k phase o through = made_round o (λ one. multi_one (sym k ∙ one)) (subst (λ (z : Kind). IsPhaseOf z (p.now.stop x.slot).phase) k phase) through
+          where
+            multi_one : Multi ≡ One → ⊥
+            multi_one z = absurd cc
+        by_kind Patch k phase o through = made_round o (λ one. patch_one (sym k ∙ one)) (subst (λ (z : Kind). IsPhaseOf z (p.now.stop x.slot).phase) k phase) through
+          where
+            patch_one : Patch ≡ One → ⊥
+            patch_one z = absurd cc
