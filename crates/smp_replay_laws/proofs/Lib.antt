@@ -21,3 +21,4 @@ pub mod StopStages
 pub mod StopTurns
 pub mod StopPhases
 pub mod StopEnds
+pub mod StopNudges

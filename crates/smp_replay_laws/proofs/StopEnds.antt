@@ -75,7 +75,8 @@ use Rattle.smp_replay_laws.specs.Stops.{AnswerIs, CpuIs, DraftIs, Drafts, Follow
 use Rattle.smp_replay_laws.proofs.Accepts.{by}
 use Rattle.smp_replay_laws.proofs.StopKinds.{gate_given, gate_taken, idle_free, mine_past, nothing_told}
 use Rattle.smp_replay_laws.proofs.StopAcks as acking
-use Rattle.smp_replay_laws.proofs.StopKinds.{Goes, refilled_step}
+use Rattle.smp_replay_laws.proofs.StopKinds.{Goes, in_none, silent, told_still}
+use Rattle.smp_replay_laws.proofs.StopSources.{all_done, collects_told, result_gives}
 use Rattle.smp_replay_laws.proofs.StopTurns.{Made, ack_by, calling_here, irq_here, keeps_here, no_patch, not_patch, old_is, opened_here, seat_is, sits, st, then_if, told_here, words_here}
 use Rattle.smp_stop_steps.proofs.State.Acknowledged.{fills_me, sets_me}
 use Rattle.smp_stop_steps.proofs.Steps.Completions.{one_phase}
@@ -269,3 +270,93 @@ module _ (v : StopsValue) (p : StopState) (shown : StopShown p v) (me : ℕ) (be
           where
             patch_one : Patch ≡ One → ⊥
             patch_one z = absurd cc
+
+  pub counts_down : (x : Visit) → C.stage ≡ Some (Complete x completion.CountDown) → Does (Complete x completion.CountDown)
+  counts_down x e =
+      let k = ends_at x completion.CountDown e in
+      elim k.1 [
+        | inl y ↦ inside_so k.0 y.3
+        | inr y ↦ gives_so k.0 y
+      ]
+    where
+      found : ℕ
+      found = At (Slot x.slot field.Todo)
+      inside_so : (w : Work) → shown.seat me ≡ In x.slot w x.acked x.acked Rests → Does (Complete x completion.CountDown)
+      inside_so w at_seat =
+          let slot = x.slot in
+          let a = x.acked in
+          let so = st v p shown me below pasts sized s whole cpus_are f quiet slot a a w Rests at_seat in
+          let words = words_here v p shown me below pasts sized s whole cpus_are f quiet slot a a w Rests at_seat in
+          let keeps = keeps_here v p shown me below pasts sized s whole cpus_are f quiet slot a a w Rests at_seat in
+          let zero_now : Old.answer ≡ pos 0 = subst (λ (z : Standing). AnswerIs z Old.answer) so.1 (my.stop slot so.0).answer in
+          subst (λ (z : Standing). ReachesStops (completes p me slot z (At (Slot slot field.Todo))) (put_word At (Slot slot field.Todo) (one_less (At (Slot slot field.Todo))))
+          (slice_set pasts me (record Old { answer = pos 0 })) s (by me (told.One (event.Stop (stops.Complete Old.answer))))) (sym so.1)
+          (ends_so x e a 0 w (Inside a a) so.1 refl refl refl so.3 zero_now
+          (λ phase four. irq_here v p shown me below pasts sized s whole cpus_are f quiet slot a a w Rests at_seat ∙ on_at a four)
+          (λ kind. one_called (p.calling me) (carries x e) (one_acked 0 a a (p.now.stop slot).phase (one_phase (p.now.stop slot).work.kind (p.now.stop slot).phase kind words.kinds) keeps.1))
+          (inr zero_now))
+        where
+          on_at : (n : ℕ) → n ≡ 4 → irq_of (In x.slot w n n Rests) ≡ true
+          on_at n four = rw four refl
+          one_called : (g : Calling) → IsEnding x g → x.acked ≡ 0 → has_called g ≡ true
+          one_called Idle k z = absurd (omega (arith, k.0))
+          one_called (Calls call) k z = refl
+          one_called (Carries n) k z = refl
+      gives_so : (w : Work) → shown.seat me ≡ Gives x.slot w x.acked x.answer → Does (Complete x completion.CountDown)
+      gives_so w at_seat =
+          let slot = x.slot in
+          let so = seat_is v p shown me below pasts sized s whole cpus_are f quiet (Gives slot w x.acked x.answer) at_seat in
+          let given = subst (λ (z : Standing). AnswerIs z Old.answer) so.1 (my.stop slot so.0).answer in
+          let called = called_so (p.calling me) (subst (λ (z : Seat). IsCalling me z (p.calling me)) at_seat (shown.shows.callings me)) in
+          subst (λ (z : Standing). ReachesStops (completes p me slot z (At (Slot slot field.Todo))) (put_word At (Slot slot field.Todo) (one_less (At (Slot slot field.Todo))))
+          (slice_set pasts me (record Old { answer = pos 0 })) s (by me (told.One (event.Stop (stops.Complete Old.answer))))) (sym so.1)
+          (ends_so x e x.acked x.answer w (Answering x.acked x.answer) so.1 refl refl refl so.3 given
+          (λ phase four. shown.shows.present.irq me ∙ ap irq_of at_seat) (λ kind. called) (inl called))
+        where
+          called_so : (g : Calling) → IsCalling me (Gives x.slot w x.acked x.answer) g → has_called g ≡ true
+          called_so Idle k = absurd k
+          called_so (Calls call) k = refl
+          called_so (Carries n) k = refl
+
+  -- the last to complete stores done
+  pub closes : (slot : ℕ) → C.stage ≡ Some (Close slot) → Does (Close slot)
+  closes slot e =
+      let at_seat = (subst (λ (x : Option StopStage). SitsAt U me C x (shown.seat me)) e (shown.sits me below).seat).1 in
+      let so = seat_is v p shown me below pasts sized s whole cpus_are f quiet (Closes slot) at_seat in
+      let q : StopState = record p { now = record (p.now) { stop = put p.now.stop slot (ended (p.now.stop slot)) } } in
+      let at' = put_word At (Slot slot field.Done) 1 in
+      let g : Goes U p At at' shown.seat shown.source shown.shows me below pasts sized s whole cpus_are f (λ j. refl) (λ j. refl) q slot (ended (p.now.stop slot)) None
+      (p.now.irq me) (p.calling me) = record {
+        stop_is = λ j. refl;
+        inside_is = so.0;
+        irq_is = refl;
+        calling_is = refl;
+        inside_else = λ d ne. refl;
+        irq_else = λ d ne. refl;
+        calling_else = λ d ne. refl;
+        standing_else = λ d ne. refl;
+        gate_is = refl;
+      } in
+      subst (λ (z : StopState). ReachesStops z at' (slice_set pasts me Old) s []) (sym (then_if (p.now.stop slot).is_open q (stored_shut p slot field.Done 1) so.1))
+      (silent U p At at' shown.seat shown.source shown.shows me below pasts sized s whole cpus_are f (λ j. refl) (λ j. refl) q Old slot (ended (p.now.stop slot)) None
+      (p.now.irq me) (p.calling me) g
+      (λ l. told_still U p At at' shown.seat shown.source shown.shows me below pasts sized s whole cpus_are f (λ j. refl) (λ j. refl) (p.now.stop slot) (ended (p.now.stop slot))
+      (stop_at s slot) (f.stops slot l) refl refl refl refl (λ d ne. refl) (λ o m. m))
+      (in_none U p At at' shown.seat shown.source shown.shows me below pasts sized s whole cpus_are f (λ j. refl) (λ j. refl) q s Old slot (ended (p.now.stop slot))
+      (p.now.irq me) (p.calling me) g (my.inside ∙ so.0) my.irq (my.answer so.0) my.reads))
+
+  -- the source collects
+  pub collects_it : C.stage ≡ Some LoadResult → Does LoadResult
+  collects_it e =
+      let sees_it = may_see U p At shown.seat shown.source shown.shows C me (shown.sits me below) LoadResult e in
+      let open_now = sees_it.1 in
+      let all = sees_it.2 in
+      let q = collects p me (At (Slot me field.Result)) in
+      let x = closed (p.now.stop me) in
+      let words = (shown.shows.present.slots me).shows open_now in
+      collects_told U p At At shown.seat shown.source shown.shows me below pasts sized s whole cpus_are f (λ j. refl) (λ j. refl) q x open_now refl all
+      (as_i32 (At (Slot me field.Result)))
+      (all_done U p At At shown.seat shown.source shown.shows me below pasts sized s whole cpus_are f (λ j. refl) (λ j. refl) q x open_now refl all)
+      (result_gives U p At At shown.seat shown.source shown.shows me below pasts sized s whole cpus_are f (λ j. refl) (λ j. refl) q x open_now refl all refl
+      (At (Slot me field.Result)) (results me) words.result)
+      (λ j. refl) (λ d. refl) (λ d. refl) (λ d. refl) refl
