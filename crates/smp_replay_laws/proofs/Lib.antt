@@ -22,3 +22,4 @@ pub mod StopTurns
 pub mod StopPhases
 pub mod StopEnds
 pub mod StopNudges
+pub mod StopAll
