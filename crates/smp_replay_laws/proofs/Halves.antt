@@ -1,7 +1,7 @@
 -- Steps of the call half tell events of calls, and those of the stop half tell others.
 use Rattle.std.proofs.Common.{◌≡◌, ℕ, Bool, true, false, cond, List, [], Option, Some, None, refl}
 use Rattle.std.proofs.lemmas.Bool.{true≢false, false≢true}
-use Rattle.std.specs.Prelude.{◌&&◌, ◌==◌, ◌%◌, nat_lt, unwrap_or}
+use Rattle.std.specs.Prelude.{◌-◌, ◌&&◌, ◌==◌, ◌%◌, nat_lt, unwrap_or}
 use Rattle.smp_mask.specs.Mask.{has}
 use Rattle.smp_words.specs.Access.{word_of}
 use Rattle.smp_words.specs.declared.field.Field.{Field}
@@ -37,7 +37,7 @@ use Rattle.smp_stop_steps.specs.declared.stage.StopStage.TheVariants.{TakeGate, 
 use Rattle.smp_stop_steps.specs.declared.stage.Visit.{Visit}
 use Rattle.smp_event_steps.specs.declared.event.StopEvent.{StopEvent}
 use Rattle.smp_event_steps.specs.declared.event.StopEvent.TheVariants as stops
-use Rattle.smp_events.specs.Past.{after, after_draft, after_on, after_other, after_slot, after_slot_load, after_slot_sub, id_of, is_new, phase_of}
+use Rattle.smp_events.specs.Past.{after, after_call_entry, after_draft, after_on, after_other, after_slot, after_slot_load, after_slot_sub, after_store, id_of, is_new, phase_of}
 use Rattle.smp_events.specs.Told.{of_ack, of_arg, of_flags, of_gate, of_hand, of_head, of_intr, of_key, of_nudge, of_ran, of_result, of_roll, of_site, of_slot, of_state, of_todo, of_unlock, told_on, with_on}
 use Rattle.smp_events.specs.declared.past.Past.{Past}
 use Rattle.smp_events.specs.declared.told.Told.{Told}
@@ -309,6 +309,67 @@ on_keeps p (word.Next id) s e k = absurd (true≢false k)
 
 pub stop_keeps : (p : Past) (s : Seen) → is_call_word s.word ≡ false → KeepsCalls p (after p s)
 stop_keeps p s e = on_keeps p s.word s refl e
+
+-- what a CPU keeps of the stops
+pub record KeepsStops (p q : Past) : Type 0 where
+  pub phase : q.phase ≡ p.phase
+  pub answer : q.answer ≡ p.answer
+  pub draft : q.draft ≡ p.draft
+
+stays : (p : Past) → KeepsStops p p
+stays p = record { phase = refl; answer = refl; draft = refl }
+
+entry_stays : (p : Past) (id : ℕ) (said : Option Note) → KeepsStops p (after_call_entry p id said)
+entry_stays p id None = stays p
+entry_stays p id (Some (note.Call source func info)) = record { phase = refl; answer = refl; draft = refl }
+entry_stays p id (Some _) = stays p
+
+if_stays : (b : Bool) (p q r : Past) → KeepsStops p q → KeepsStops p r → KeepsStops p (cond b q r)
+if_stays true p q r x y = x
+if_stays false p q r x y = y
+
+store_stays : (p : Past) (w : Word) (put : ℕ) (said : Option Note) → KeepsStops p (after_store p w put said)
+store_stays p (word.Flags id) put said = if_stays (put == 0) p _ _ (entry_stays p id said) (record { phase = refl; answer = refl; draft = refl })
+store_stays p (word.Func id) put said = record { phase = refl; answer = refl; draft = refl }
+store_stays p (word.Info id) put said = record { phase = refl; answer = refl; draft = refl }
+store_stays p (word.Hand cpu) put said = entry_stays p (put - 2) said
+store_stays p (word.Head cpu) put said = stays p
+store_stays p (word.Intr cpu) put said = stays p
+store_stays p (word.Ran cpu from) put said = stays p
+store_stays p (word.Queued from to) put said = stays p
+store_stays p (word.Next id) put said = stays p
+store_stays p word.Gate put said = stays p
+store_stays p (word.Slot source f) put said = stays p
+store_stays p (word.Key key) put said = stays p
+store_stays p (word.Entry i) put said = stays p
+store_stays p (word.Site i) put said = stays p
+
+other_stays : (p : Past) (a : Act) (s : Seen) → KeepsStops p (after_other p a s)
+other_stays p act.Store s = store_stays p s.word (unwrap_or s.put 0) s.note
+other_stays p act.Load s = stays p
+other_stays p act.Swap s = stays p
+other_stays p act.Sub s = stays p
+other_stays p act.And s = stays p
+other_stays p act.Cas s = stays p
+
+on_stays : (p : Past) (w : Word) (s : Seen) → is_call_word w ≡ true → KeepsStops p (after_on p w s)
+on_stays p (word.Flags id) s e = other_stays p s.act s
+on_stays p (word.Head cpu) s e = other_stays p s.act s
+on_stays p (word.Intr cpu) s e = other_stays p s.act s
+on_stays p (word.Hand cpu) s e = other_stays p s.act s
+on_stays p (word.Ran cpu from) s e = other_stays p s.act s
+on_stays p (word.Queued from to) s e = other_stays p s.act s
+on_stays p (word.Func id) s e = other_stays p s.act s
+on_stays p (word.Info id) s e = other_stays p s.act s
+on_stays p (word.Next id) s e = other_stays p s.act s
+on_stays p word.Gate s e = absurd (false≢true e)
+on_stays p (word.Slot source f) s e = absurd (false≢true e)
+on_stays p (word.Key key) s e = absurd (false≢true e)
+on_stays p (word.Entry i) s e = absurd (false≢true e)
+on_stays p (word.Site i) s e = absurd (false≢true e)
+
+pub call_keeps : (p : Past) (s : Seen) → is_call_word s.word ≡ true → KeepsStops p (after p s)
+call_keeps p s e = on_stays p s.word s e
 
 -- the calls are the same
 pub stop_tells : (a : CallState) (me : ℕ) (x : Act) (w : Word) (found put : Option ℕ) → is_call_word w ≡ false → told a me x w found put ≡ a
