@@ -23,3 +23,5 @@ pub mod StopPhases
 pub mod StopEnds
 pub mod StopNudges
 pub mod StopAll
+pub mod Wholes
+pub mod AllReplays

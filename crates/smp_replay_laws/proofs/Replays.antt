@@ -108,7 +108,7 @@ handles_elsewhere : (d : DrainValue) (me : ℕ) (stage : HandleStage) (found : �
 handles_elsewhere d me handle.Accept found = if_elsewhere (found == 0) me (handle_goes handle.LeaveIdle) (handle_goes handle.Take) tt tt
 handles_elsewhere d me _ found = tt
 
-step_elsewhere : (d : DrainValue) (me : ℕ) (stage : Stage) (found : ℕ) → GoesElsewhere (Some stage) me → GoesElsewhere (outcome_of d stage found).next me
+pub step_elsewhere : (d : DrainValue) (me : ℕ) (stage : Stage) (found : ℕ) → GoesElsewhere (Some stage) me → GoesElsewhere (outcome_of d stage found).next me
 step_elsewhere d me (Send to) found k = tt
 step_elsewhere d me (Done id) found k = tt
 step_elsewhere d me (Post p stage) found k = posts_elsewhere p me k stage found
@@ -123,7 +123,7 @@ then_none : (b : Bool) (e : SmpError) → cond b (Some e) None ≡ None → b �
 then_none true e x = absurd cc
 then_none false e x = refl
 
-start_elsewhere : (nr online cpu : ℕ) (c : Command) → command_refusal nr online cpu c ≡ None → GoesElsewhere (first_stage online cpu c) cpu
+pub start_elsewhere : (nr online cpu : ℕ) (c : Command) → command_refusal nr online cpu c ≡ None → GoesElsewhere (first_stage online cpu c) cpu
 start_elsewhere nr online cpu (command.Post k to class func info tries) e =
     let o = or_parts ((not (nat_lt k records_of_one) || tries == 0) || to == cpu) _ (then_none _ _ e) in
     let p = or_parts (not (nat_lt k records_of_one) || tries == 0) (to == cpu) o.0 in
@@ -133,7 +133,7 @@ start_elsewhere nr online cpu (command.Done k) e = tt
 start_elsewhere nr online cpu command.Handle e = tt
 start_elsewhere nr online cpu _ e = tt
 
-start_posts : (online cpu : ℕ) (c : Command) (p : Posted) → PostIs (first_stage online cpu c) p
+pub start_posts : (online cpu : ℕ) (c : Command) (p : Posted) → PostIs (first_stage online cpu c) p
 start_posts online cpu (command.Post k to class func info tries) p = tt
 start_posts online cpu (command.Send to) p = tt
 start_posts online cpu (command.Done k) p = tt
@@ -349,7 +349,7 @@ opening_irq u words cpu l = ap (λ (c : CpuState). c.irq) (get_or-replicate 32 c
 outside_at : (cpu : ℕ) → control_of (replicate cpus outside) cpu ≡ outside
 outside_at cpu = get_or-same outside cpus cpu
 
-new_stands : (nr online : ℕ) (labels : Labels) (u : Setting) (words : LabelWords) → IsWhole (new_core nr online labels) → u.online ≡ online → u.without ≡ nothing_left_out
+pub new_stands : (nr online : ℕ) (labels : Labels) (u : Setting) (words : LabelWords) → IsWhole (new_core nr online labels) → u.online ≡ online → u.without ≡ nothing_left_out
     → Stands (new_core nr online labels) no_calls all_fresh (opening u words)
 new_stands nr online labels u words whole e w = record {
   whole = whole;
