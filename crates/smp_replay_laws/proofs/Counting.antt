@@ -1,19 +1,19 @@
 -- Who acknowledges a phase last.
-use Rattle.std.proofs.Common.{◌≡◌, ◌≢◌, ℕ, zero, suc, ◌+◌, ◌<◌, ◌≤◌, nat_lt, Bool, true, false, ◌&&◌, cond, Option, Some, None, refl, ap, sym, ◌∙◌, subst, inl, inr, ◌⊎◌, arith}
-use Rattle.std.proofs.lemmas.Bool.{cases_eq, cases_lt, cases_Bool, eq-eqb, ne_eqb, lt-ltb, le-ltb, and_left, and_right, true≢false, false≢true}
+use Rattle.std.proofs.Common.{◌≡◌, ◌≢◌, ℕ, zero, suc, ◌+◌, ◌<◌, ◌≤◌, nat_lt, Bool, true, false, ◌&&◌, Some, None, refl, ap, sym, ◌∙◌, subst, inl, inr, arith}
+use Rattle.std.proofs.lemmas.Bool.{cases_eq, lt-ltb, le-ltb, and_left, and_right, true≢false}
 use Rattle.std.proofs.lemmas.List.{get_or-set_same, get_or-set_other}
-use Rattle.std.specs.Prelude.{slice_set, slice_index_or, ◌==◌, length}
+use Rattle.std.specs.Prelude.{slice_set, length}
 use Rattle.smp_mask.specs.Mask.{has}
 use Rattle.smp_words.specs.Put.{put}
 use Rattle.smp_words.specs.Size.{cpus}
 use Rattle.smp_stop_steps.specs.Counts.{behind, count_behind, sum_below}
-use Rattle.smp_stop_steps.specs.Slots.{IsLevel, Keeps}
-use Rattle.smp_stop_steps.specs.Stop.{Standing, Outside, Called, Inside, Answering, Completed, acked, is_of}
+use Rattle.smp_stop_steps.specs.Slots.{Keeps}
+use Rattle.smp_stop_steps.specs.Stop.{Standing, Inside, acked, is_of}
 use Rattle.smp_words.proofs.Puts.{put_other, put_same}
 use Rattle.smp_stop_steps.proofs.Basics.Counts.{sum_zero}
 use Rattle.smp_stop_steps.proofs.State.Phases.{behind_zero, has_acknowledged}
 use Rattle.smp_event_steps.specs.declared.stop.Stop.{Stop as ToldStop}
-use Rattle.smp_event_steps.specs.Stop.{acked_by, first_from, late, least}
+use Rattle.smp_event_steps.specs.Stop.{acked_by, first_from, late}
 
 -- the first number that passes a test, or none
 pub first_none : (passes : ℕ → Bool) (c n : ℕ) → ((k : ℕ) → c ≤ k → k < c + n → passes k ≡ false) → first_from passes c n ≡ None

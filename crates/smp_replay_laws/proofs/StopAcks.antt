@@ -1,8 +1,7 @@
 -- The event of an acknowledgement: who is the last.
-use Rattle.std.proofs.Common.{◌≡◌, ◌≢◌, ℕ, ℤ, ◌+◌, ◌-◌, ◌<◌, ◌≤◌, ◌%◌, ◌^◌, nat_lt, Bool, true, false, not, ◌&&◌, cond, List, [], ◌∷◌, length, length-set, Option, Some, None, Ok, refl, ap, sym, ◌∙◌, subst, inl, inr, arith}
-use Rattle.std.proofs.lemmas.Bool.{cases_eq, eq-eqb, ne_eqb, true≢false, false≢true, and_parts, eqb-true, eqb-false, and_right}
-use Rattle.std.proofs.lemmas.List.{get_or-set_same, get_or-set_other}
-use Rattle.std.specs.Prelude.{slice_set, slice_index_or, ◌==◌, pos}
+use Rattle.std.proofs.Common.{◌≡◌, ◌≢◌, ℕ, ◌+◌, ◌<◌, Bool, true, false, ◌&&◌, cond, List, length, Option, Some, None, Ok, refl, ap, sym, ◌∙◌, subst, inl, inr, arith}
+use Rattle.std.proofs.lemmas.Bool.{cases_eq, ne_eqb, and_parts, eqb-true, eqb-false}
+use Rattle.std.specs.Prelude.{slice_set, ◌==◌}
 use Rattle.smp_mask.specs.Mask.{has}
 use Rattle.smp_words.specs.Put.{put}
 use Rattle.smp_words.specs.Size.{cpus}
@@ -19,35 +18,29 @@ use Rattle.smp_stop_steps.specs.declared.known.Duty.TheVariants.{Rests}
 use Rattle.smp_stop_steps.proofs.State.Acknowledged.{nobody_raises}
 use Rattle.smp_stop_steps.proofs.State.Phases.{is_open_inside, keeps_inside, one_fewer}
 use Rattle.smp_replay_laws.proofs.Counting.{none_late, some_late}
-use Rattle.smp_words.specs.declared.work.Kind.{Kind}
-use Rattle.smp_words.specs.declared.work.Kind.TheVariants.{One, Multi, Patch}
+use Rattle.smp_words.specs.declared.work.Kind.TheVariants.{One, Multi}
 use Rattle.smp_stop_steps.specs.Shows.{StopShows}
 use Rattle.smp_stop_steps.specs.State.{Setup, StopState}
-use Rattle.smp_stop_steps.specs.Stop.{Standing, Outside, Called, Inside, Answering, Completed, Stop, acked, is_called, stands}
+use Rattle.smp_stop_steps.specs.Stop.{Inside, Stop, acked}
 use Rattle.smp_stop_steps.specs.declared.known.Calling.{Calling}
-use Rattle.smp_stop_steps.specs.declared.known.Calling.TheVariants.{Idle, Calls, Carries}
 use Rattle.smp_stop_steps.specs.declared.known.Seat.{Seat}
 use Rattle.smp_stop_steps.specs.declared.known.Source.{Source}
-use Rattle.smp_stop_steps.specs.declared.known.StopCall.{StopCall}
 use Rattle.smp_event_steps.specs.declared.event.Event.{Event}
 use Rattle.smp_event_steps.specs.declared.event.Event.TheVariants as event
 use Rattle.smp_event_steps.specs.declared.event.StopEvent.TheVariants as stops
 use Rattle.smp_event_steps.specs.declared.stop.Stop.{Stop as ToldStop}
 use Rattle.smp_event_steps.specs.declared.stop.Task.{Task}
-use Rattle.smp_event_steps.specs.Cpu.{CpuState, handles_nothing, in_stop, with_interrupts}
-use Rattle.smp_event_steps.specs.State.{StateValue, cpu_at, stop_at, with_cpu, with_stop}
+use Rattle.smp_event_steps.specs.State.{StateValue, cpu_at, stop_at, with_stop}
 use Rattle.smp_event_steps.specs.Step.{goes, stop_goes}
-use Rattle.smp_event_steps.specs.Stop.{acked_by, answer_of, has_run, is_called as is_called_in, is_cpu}
+use Rattle.smp_event_steps.specs.Stop.{acked_by, has_run}
 use Rattle.smp_events.specs.Past.{past_at}
 use Rattle.smp_events.specs.declared.past.Past.{Past}
 use Rattle.smp_replay_laws.specs.Follows.{nothing_left_out}
-use Rattle.smp_replay_laws.specs.Stops.{AnswerIs, CpuIs, FollowsStops, InsideIs, IsSized, MemberIs, OpenIs, PhaseIs, StopIs, as_i32, given_by, has_called, raiser_of, told_work}
-use Rattle.smp_replay_laws.proofs.States.{cpu_here}
-use Rattle.smp_event_steps.specs.Stop.{acknowledged as acknowledged_in, late, with_acked}
-use Rattle.smp_replay_laws.proofs.StopEvents.{acks_disabled, acks_other, acks_run, raises_phase, turns_on}
-use Rattle.smp_replay_laws.proofs.StopKinds.{Goes, in_none, in_slot, members_set, mine, one_stop, silent, told_still}
-use Rattle.smp_replay_laws.proofs.StopStates.{stop_here}
-use Rattle.smp_replay_laws.proofs.StopSteps.{ReachesStops, cpu_step, member_as, set_step, stop_step}
+use Rattle.smp_replay_laws.specs.Stops.{CpuIs, FollowsStops, InsideIs, OpenIs, has_called, raiser_of}
+use Rattle.smp_event_steps.specs.Stop.{acknowledged as acknowledged_in}
+use Rattle.smp_replay_laws.proofs.StopEvents.{acks_disabled, acks_other, acks_run}
+use Rattle.smp_replay_laws.proofs.StopKinds.{Goes}
+use Rattle.smp_replay_laws.proofs.StopSteps.{ReachesStops}
 
 module _ (u : Setup) (p : StopState) (at at' : Word → ℕ) (seat : ℕ → Seat) (source : ℕ → Source) (h : StopShows u p at seat source) (me : ℕ) (below : me < cpus)
     (pasts : List Past) (sized : length pasts ≡ 32) (s : StateValue) (whole : s.setting.without ≡ nothing_left_out) (cpus_are : length s.cpus ≡ 32)

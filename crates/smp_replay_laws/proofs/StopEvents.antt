@@ -1,7 +1,7 @@
 -- What events of stops make of a state that leaves nothing out, where their premises hold.
-use Rattle.std.proofs.Common.{◌≡◌, ◌≢◌, ℕ, ℤ, ◌+◌, ◌-◌, ◌<◌, ◌≤◌, nat_lt, nat_le, Bool, true, false, not, ◌&&◌, cond, List, Option, Some, None, Result, Ok, Err, refl, ap, sym, ◌∙◌, arith, length}
-use Rattle.std.proofs.lemmas.Bool.{true≢false, false≢true, eq-eqb, ne_eqb, lt-ltb, le-ltb, lt-leb, le-leb}
-use Rattle.std.specs.Prelude.{slice_set, ◌==◌, pos}
+use Rattle.std.proofs.Common.{◌≡◌, ◌≢◌, ℕ, ℤ, ◌-◌, ◌<◌, ◌≤◌, Bool, true, false, not, ◌&&◌, cond, Option, Some, None, Result, Ok, Err, refl, ap, ◌∙◌}
+use Rattle.std.proofs.lemmas.Bool.{true≢false, false≢true, eq-eqb, lt-ltb, le-ltb, lt-leb}
+use Rattle.std.specs.Prelude.{slice_set, ◌==◌}
 use Rattle.std.specs.Ordering.{int_eq}
 use Rattle.smp_mask.specs.Mask.{has}
 use Rattle.smp_script.specs.Faults.{◌>>=◌}
@@ -13,9 +13,9 @@ use Rattle.smp_event_steps.specs.declared.stop.Stop.{Stop}
 use Rattle.smp_event_steps.specs.declared.stop.Task.{Task}
 use Rattle.smp_event_steps.specs.declared.without.Setting.{Setting}
 use Rattle.smp_event_steps.specs.declared.without.Without.{Without}
-use Rattle.smp_event_steps.specs.Cpu.{CpuState, handles_nothing}
+use Rattle.smp_event_steps.specs.Cpu.{handles_nothing}
 use Rattle.smp_event_steps.specs.State.{StateValue, cpu_at, stop_at, with_stop}
-use Rattle.smp_event_steps.specs.Stop.{acked_by, acknowledged, answer_wanted, collected, completed, entered, gives, has_run, is_called, is_cpu, is_work, may_complete, offline_in, opened, opening, raised, ran_function, through, unfinished, unless_offline}
+use Rattle.smp_event_steps.specs.Stop.{acked_by, acknowledged, answer_wanted, collected, completed, entered, gives, has_run, is_called, is_cpu, is_work, may_complete, offline_in, opened, opening, raised, ran_function, unfinished, unless_offline}
 use Rattle.smp_event_steps.specs.Stops.{ack_by, collect_by, complete_by, enter_by, gate_by, in_round, off_by, on_by, open_by, raise_by, run_by, stop_of, ungate_by, with_inside, with_irq}
 use Rattle.smp_replay_laws.specs.Follows.{nothing_left_out}
 

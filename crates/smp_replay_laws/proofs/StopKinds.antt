@@ -1,47 +1,34 @@
 -- Each kind of step on the stops is accepted.
-use Rattle.std.proofs.Common.{◌≡◌, ◌≢◌, ℕ, ℤ, ◌+◌, ◌-◌, ◌<◌, ◌≤◌, ◌%◌, ◌^◌, nat_lt, Bool, true, false, not, ◌&&◌, cond, List, [], ◌∷◌, length, length-set, Option, Some, None, Ok, refl, ap, sym, ◌∙◌, subst, inl, inr, arith}
-use Rattle.std.proofs.lemmas.Bool.{cases_eq, eq-eqb, ne_eqb}
-use Rattle.std.proofs.lemmas.List.{get_or-set_same, get_or-set_other}
-use Rattle.std.specs.Prelude.{slice_set, slice_index_or, ◌==◌, pos}
-use Rattle.smp_mask.specs.Mask.{has}
+use Rattle.std.proofs.Common.{◌≡◌, ◌≢◌, ℕ, ◌<◌, Bool, true, false, List, [], ◌∷◌, length, Option, Some, None, refl, ap, sym, ◌∙◌, subst, inl, inr}
+use Rattle.std.proofs.lemmas.Bool.{cases_eq}
+use Rattle.std.specs.Prelude.{slice_set, pos}
 use Rattle.smp_words.specs.Put.{put}
 use Rattle.smp_words.specs.Size.{cpus}
 use Rattle.smp_words.specs.declared.word.Word.{Word}
-use Rattle.smp_words.specs.declared.word.Word.TheVariants.{Key, Site, Gate, Slot}
-use Rattle.smp_words.specs.declared.work.Kind.{Kind}
-use Rattle.smp_words.specs.declared.work.Kind.TheVariants.{One, Multi, Patch}
-use Rattle.smp_words.specs.declared.work.Work.{Work}
-use Rattle.smp_words.proofs.Puts.{put_all, put_other, put_same}
+use Rattle.smp_words.specs.declared.word.Word.TheVariants.{Key, Site}
+use Rattle.smp_words.proofs.Puts.{put_same}
 use Rattle.smp_stop_steps.specs.Callings.{IsCalling}
-use Rattle.smp_stop_steps.specs.Labels.{Whole}
-use Rattle.smp_stop_steps.specs.Seats.{Stands, duty_of, irq_of}
 use Rattle.smp_stop_steps.specs.declared.known.Seat.{Seat}
-use Rattle.smp_stop_steps.specs.declared.known.Seat.TheVariants.{Free, In, Gives, Alters, Closes}
-use Rattle.smp_stop_steps.specs.declared.known.Duty.{Duty}
-use Rattle.smp_stop_steps.specs.declared.known.Duty.TheVariants.{Rests, Fills, Sets}
+use Rattle.smp_stop_steps.specs.declared.known.Seat.TheVariants.{Free}
 use Rattle.smp_stop_steps.specs.Shows.{StopShows}
-use Rattle.smp_stop_steps.specs.Slots.{Keeps, OpenShows, SlotShows}
 use Rattle.smp_stop_steps.specs.declared.known.Source.{Source}
 use Rattle.smp_stop_steps.specs.State.{Setup, StopState}
-use Rattle.smp_stop_steps.specs.Stop.{Standing, Outside, Called, Inside, Answering, Completed, Raising, Nobody, Refills, Raises, Stop, acked, is_called, is_inside, is_of}
+use Rattle.smp_stop_steps.specs.Stop.{Standing, Inside, Stop}
 use Rattle.smp_stop_steps.specs.declared.known.Calling.{Calling}
 use Rattle.smp_stop_steps.specs.declared.known.Calling.TheVariants.{Idle, Calls, Carries}
 use Rattle.smp_event_steps.specs.declared.event.Event.{Event}
 use Rattle.smp_event_steps.specs.declared.event.Event.TheVariants as event
 use Rattle.smp_event_steps.specs.declared.event.StopEvent.TheVariants as stops
 use Rattle.smp_event_steps.specs.declared.stop.Stop.{Stop as ToldStop}
-use Rattle.smp_event_steps.specs.Cpu.{CpuState, in_stop}
-use Rattle.smp_event_steps.specs.State.{StateValue, cpu_at, stop_at, with_cpu, with_stop}
+use Rattle.smp_event_steps.specs.State.{StateValue, cpu_at, stop_at}
 use Rattle.smp_event_steps.specs.Step.{goes, stop_goes}
-use Rattle.smp_event_steps.specs.Stop.{acked_by, answer_of, has_run, is_called as is_called_in}
+use Rattle.smp_event_steps.specs.Stop.{has_run}
 use Rattle.smp_events.specs.Past.{past_at}
 use Rattle.smp_events.specs.declared.past.Past.{Past}
 use Rattle.smp_replay_laws.specs.Follows.{nothing_left_out}
-use Rattle.smp_replay_laws.specs.Stops.{AnswerIs, CpuIs, FollowsStops, InsideIs, IsSized, MemberIs, OpenIs, PhaseIs, StopIs, given_by, has_called, raiser_of}
-use Rattle.smp_replay_laws.proofs.States.{cpu_here}
-use Rattle.smp_replay_laws.proofs.StopEvents.{enters_stop, gives_gate, takes_gate}
-use Rattle.smp_replay_laws.proofs.StopStates.{IsAlike, cpu_alike, stop_here}
-use Rattle.smp_replay_laws.proofs.StopSteps.{OneStop, ReachesStops, cpu_step, gate_step, member_as, quiet_step, same_step, set_step, stop_step}
+use Rattle.smp_replay_laws.specs.Stops.{AnswerIs, CpuIs, FollowsStops, InsideIs, MemberIs, PhaseIs, StopIs, has_called, raiser_of}
+use Rattle.smp_replay_laws.proofs.StopEvents.{gives_gate, takes_gate}
+use Rattle.smp_replay_laws.proofs.StopSteps.{OneStop, ReachesStops, gate_step, quiet_step, same_step}
 
 -- a CPU that is in a stop has called a function only as its seat says
 pub idle_free : (cpu : ℕ) (f : Calling) → IsCalling cpu Free f → f ≡ Idle

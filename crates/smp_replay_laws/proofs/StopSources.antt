@@ -1,13 +1,13 @@
 -- A source begins and opens its stop, and collects the result; a CPU reads a key or a site.
-use Rattle.std.proofs.Common.{◌≡◌, ◌≢◌, ℕ, zero, suc, ℤ, ◌+◌, ◌-◌, ◌<◌, ◌≤◌, ◌%◌, ◌^◌, nat_lt, Bool, true, false, not, ◌&&◌, cond, List, [], ◌∷◌, length, length-set, Option, Some, None, Ok, refl, ap, sym, ◌∙◌, subst, inl, inr, is_none, arith}
-use Rattle.std.proofs.lemmas.Bool.{cases_eq, eq-eqb, ne_eqb, true≢false, false≢true, and_left, and_right, lt-ltb}
-use Rattle.std.proofs.lemmas.List.{get_or-replicate, get_or-set_same, get_or-set_other, length-append, length-replicate}
+use Rattle.std.proofs.Common.{◌≡◌, ◌≢◌, ℕ, zero, suc, ℤ, ◌<◌, ◌%◌, ◌^◌, nat_lt, Bool, true, false, not, ◌&&◌, cond, List, [], ◌∷◌, length, length-set, Option, Some, None, Ok, refl, ap, sym, ◌∙◌, subst, inl, inr, is_none, arith}
+use Rattle.std.proofs.lemmas.Bool.{eq-eqb, ne_eqb, true≢false, false≢true, and_left, and_right, lt-ltb}
+use Rattle.std.proofs.lemmas.List.{get_or-replicate, length-append, length-replicate}
 use Rattle.std.proofs.lemmas.Int.{of_z-to_z}
 use Rattle.std.proofs.lemmas.Bool.Decides.{Decides-int_eq}
 use Rattle.std.specs.Ordering.{int_eq}
 use Rattle.smp_stop_steps.proofs.State.Raises.{in_machine}
 use Rattle.std.specs.Int.{cast_unsigned, w32}
-use Rattle.std.specs.Prelude.{slice_set, slice_index_or, ◌==◌, pos}
+use Rattle.std.specs.Prelude.{slice_set, ◌==◌, pos}
 use Rattle.smp_mask.specs.Mask.{has, members_below}
 use Rattle.smp_words.specs.Put.{put}
 use Rattle.smp_words.specs.Size.{cpus}
@@ -18,45 +18,40 @@ use Rattle.smp_words.specs.declared.work.Kind.{Kind}
 use Rattle.smp_words.specs.declared.work.Kind.TheVariants.{One, Multi, Patch}
 use Rattle.smp_stop_steps.specs.Shows.{StopShows}
 use Rattle.smp_stop_steps.specs.State.{Setup, StopState}
-use Rattle.smp_stop_steps.specs.Stop.{Standing, Outside, Called, Inside, Answering, Completed, Stop, acked, is_called, stands}
+use Rattle.smp_stop_steps.specs.Stop.{Standing, Outside, Called, Inside, Answering, Completed, Stop}
 use Rattle.smp_stop_steps.specs.declared.known.Calling.{Calling}
-use Rattle.smp_stop_steps.specs.declared.known.Calling.TheVariants.{Idle, Calls, Carries}
 use Rattle.smp_stop_steps.specs.declared.known.Seat.{Seat}
 use Rattle.smp_stop_steps.specs.declared.known.Source.{Source}
-use Rattle.smp_stop_steps.specs.declared.known.StopCall.{StopCall}
 use Rattle.smp_event_steps.specs.declared.event.Event.{Event}
 use Rattle.smp_event_steps.specs.declared.event.Event.TheVariants as event
 use Rattle.smp_event_steps.specs.declared.event.StopEvent.TheVariants as stops
 use Rattle.smp_event_steps.specs.declared.stop.Stop.{Stop as ToldStop}
 use Rattle.smp_event_steps.specs.declared.stop.Task.{Task}
 use Rattle.smp_event_steps.specs.declared.without.Setting.{Setting}
-use Rattle.smp_event_steps.specs.Cpu.{CpuState, handles_nothing, in_stop, with_interrupts}
-use Rattle.smp_event_steps.specs.State.{StateValue, cpu_at, stop_at, with_cpu, with_stop}
+use Rattle.smp_event_steps.specs.State.{StateValue, stop_at, with_stop}
 use Rattle.smp_event_steps.specs.Step.{goes, stop_goes}
-use Rattle.smp_event_steps.specs.Stop.{acked_by, answer_of, has_run, is_called as is_called_in, is_cpu}
+use Rattle.smp_event_steps.specs.Stop.{answer_of, has_run}
 use Rattle.smp_events.specs.Past.{past_at}
 use Rattle.smp_events.specs.declared.past.Past.{Past}
 use Rattle.smp_replay_laws.specs.Follows.{nothing_left_out}
-use Rattle.smp_replay_laws.specs.Stops.{AnswerIs, CpuIs, FollowsStops, InsideIs, IsPlain, IsSized, MemberIs, OpenIs, PhaseIs, StopIs, as_i32, given_by, has_called, raiser_of, told_work}
-use Rattle.smp_replay_laws.proofs.States.{cpu_here}
+use Rattle.smp_replay_laws.specs.Stops.{CpuIs, FollowsStops, IsPlain, MemberIs, OpenIs, StopIs, as_i32, given_by, told_work}
 use Rattle.smp_event_steps.specs.declared.event.LabelEvent.TheVariants as labels
-use Rattle.smp_event_steps.specs.Labels.{count_at, site_at}
 use Rattle.smp_event_steps.specs.Step.{label_goes}
-use Rattle.smp_event_steps.specs.Stop.{giver, is_answer, is_same, first_phase as told_first, gives, is_work, offline_in, opening, unfinished}
+use Rattle.smp_event_steps.specs.Stop.{is_answer, is_same, first_phase as told_first, gives, is_work, offline_in, opening, unfinished}
 use Rattle.smp_labels.specs.Keys.{is_on}
 use Rattle.smp_labels.specs.Kinds.{xor}
 use Rattle.smp_stop_steps.specs.Callings.{HasCompleted}
 use Rattle.smp_stop_steps.specs.Counts.{bit, mask_weight, sum_below}
 use Rattle.smp_stop_steps.specs.Seats.{Stands}
 use Rattle.smp_stop_steps.specs.Slots.{HasGiven, ResultShows}
-use Rattle.smp_stop_steps.specs.Stop.{closed, first_phase, is_inside, is_of, opened}
+use Rattle.smp_stop_steps.specs.Stop.{first_phase, is_inside, is_of, opened}
 use Rattle.smp_stop_steps.specs.declared.known.Seat.TheVariants.{Free, In, Gives, Alters, Closes}
-use Rattle.smp_words.proofs.Puts.{put_all, put_other, put_same}
+use Rattle.smp_words.proofs.Puts.{put_all, put_other}
 use Rattle.smp_replay_laws.proofs.Counting.{first_none, first_some}
 use Rattle.smp_replay_laws.proofs.StopEvents.{collects_result, opens_stop}
-use Rattle.smp_replay_laws.proofs.StopKinds.{Goes, in_none, in_slot, members_set, mine, one_stop, silent, told_still}
-use Rattle.smp_replay_laws.proofs.StopStates.{IsAlike, LeavesCalls, Steps, cpu_alike, follows_step, stop_else, stop_here, stops_set}
-use Rattle.smp_replay_laws.proofs.StopSteps.{ReachesStops, cpu_step, member_as, set_step, stop_step}
+use Rattle.smp_replay_laws.proofs.StopKinds.{Goes}
+use Rattle.smp_replay_laws.proofs.StopStates.{IsAlike, cpu_alike, follows_step, stop_else, stops_set}
+use Rattle.smp_replay_laws.proofs.StopSteps.{ReachesStops}
 
 -- a CPU of a stop that opens
 member_new : (task : Task) (c : ℕ) (b : Bool) → c < cpus → has task.mask c ≡ b → MemberIs (cond b Called Outside) (opening task) c

@@ -1,66 +1,56 @@
 -- The step of a CPU at each stage of the stop half is accepted: the gate, begin, enter, and readings.
-use Rattle.std.proofs.Common.{◌≡◌, ◌≢◌, ℕ, ℤ, ◌+◌, ◌-◌, ◌<◌, ◌≤◌, ◌%◌, ◌^◌, nat_lt, Bool, true, false, not, ◌&&◌, cond, List, [], ◌∷◌, length, Option, Some, None, Ok, refl, ap, sym, ◌∙◌, subst, inl, inr, ◌⊎◌, arith}
-use Rattle.std.proofs.lemmas.Bool.{cases_eq, eq-eqb, ne_eqb, true≢false, false≢true, and_left, and_right, lt-ltb, eqb-true, eqb-false}
-use Rattle.std.specs.Prelude.{slice_set, ◌==◌, pos, replicate}
+use Rattle.std.proofs.Common.{◌≡◌, ℕ, ◌+◌, ◌<◌, ◌%◌, ◌^◌, nat_lt, Bool, true, false, ◌&&◌, cond, List, [], length, Option, Some, None, refl, sym, ◌∙◌, subst, inl, inr, arith}
+use Rattle.std.proofs.lemmas.Bool.{cases_eq, ne_eqb, true≢false, false≢true, and_left, and_right, lt-ltb, eqb-true}
+use Rattle.std.specs.Prelude.{slice_set, ◌==◌, pos}
 use Rattle.smp_mask.specs.Mask.{has}
 use Rattle.smp_labels.specs.Keys.{is_on}
 use Rattle.smp_words.specs.Access.{at_after, put_by, put_if, seen_of, word_of}
-use Rattle.smp_words.specs.Kinds.{kind_at, kind_word}
-use Rattle.smp_words.specs.Put.{put, put_word, same_word}
+use Rattle.smp_words.specs.Kinds.{kind_word}
+use Rattle.smp_words.specs.Put.{put_word, same_word}
 use Rattle.smp_words.specs.Size.{cpus}
 use Rattle.smp_words.specs.declared.access.Access.{Access}
 use Rattle.smp_words.specs.declared.field.Field.{Field}
 use Rattle.smp_words.specs.declared.field.Field.TheVariants as field
 use Rattle.smp_words.specs.declared.seen.Act.TheVariants as act
-use Rattle.smp_words.specs.declared.seen.Note.{Note}
-use Rattle.smp_words.specs.declared.seen.Note.TheVariants as note
 use Rattle.smp_words.specs.declared.seen.Seen.{Seen}
 use Rattle.smp_words.specs.declared.word.Word.{Word}
-use Rattle.smp_words.specs.declared.word.Word.TheVariants.{Gate, Slot, Key, Entry, Site}
+use Rattle.smp_words.specs.declared.word.Word.TheVariants.{Gate, Slot, Key, Site}
 use Rattle.smp_words.specs.declared.work.Kind.{Kind}
 use Rattle.smp_words.specs.declared.work.Kind.TheVariants.{One, Multi, Patch}
 use Rattle.smp_words.specs.declared.work.Work.{Work}
-use Rattle.smp_words.proofs.Puts.{put_all, put_other, put_same}
+use Rattle.smp_words.proofs.Puts.{put_other, put_same}
 use Rattle.smp_stop_steps.specs.Callings.{IsCalling}
 use Rattle.smp_stop_steps.specs.Seats.{Stands}
-use Rattle.smp_stop_steps.specs.Shows.{StopShows, gate_word}
-use Rattle.smp_stop_steps.specs.Sits.{HoldsGate, SitsAt, SitsAtRest, SitsIn, SourceSits}
+use Rattle.smp_stop_steps.specs.Sits.{HoldsGate, SitsAt, SitsAtRest, SourceSits}
 use Rattle.smp_stop_steps.specs.Slots.{order}
-use Rattle.smp_stop_steps.specs.Sources.{DraftShows, IsDrafted, IsOfKind, IsWork, SourceShows}
+use Rattle.smp_stop_steps.specs.Sources.{DraftShows, IsDrafted, IsOfKind, SourceShows}
 use Rattle.smp_stop_steps.specs.Stages.{StopControlValue, answer_at, stop_access, stop_outcome}
 use Rattle.smp_stop_steps.specs.State.{Present, Setup, StopState}
 use Rattle.smp_stop_steps.specs.declared.known.Reading.TheVariants.{ReadKey as ReadingKey}
-use Rattle.smp_stop_steps.specs.Stop.{Standing, Outside, Called, Inside, Answering, Completed, Stop, first_phase, is_called, stands}
+use Rattle.smp_stop_steps.specs.Stop.{Standing, Outside, Called, Inside, Answering, Completed, first_phase, is_called}
 use Rattle.smp_stop_steps.specs.Table.{stop_number}
 use Rattle.smp_stop_steps.specs.Counts.{mask_weight}
-use Rattle.smp_stop_steps.specs.Tells.{drafted, drafts, gate_told, is_at_run, is_patch, key_loaded, opens, patch_begun, reads, slot_told, stored_open, tells}
+use Rattle.smp_stop_steps.specs.Tells.{drafted, drafts, gate_told, is_at_run, is_patch, key_loaded, opens, patch_begun, reads, stored_open, tells}
 use Rattle.smp_stop_steps.specs.Value.{StopShown, StopsValue, setup_of, stop_control_of}
-use Rattle.smp_stop_steps.specs.declared.known.Calling.{Calling}
 use Rattle.smp_stop_steps.specs.declared.known.Calling.TheVariants.{Idle}
 use Rattle.smp_stop_steps.specs.declared.known.Duty.TheVariants.{Rests}
 use Rattle.smp_stop_steps.specs.declared.known.Seat.{Seat}
 use Rattle.smp_stop_steps.specs.declared.known.Seat.TheVariants.{Free, In}
-use Rattle.smp_stop_steps.specs.declared.known.Source.{Source}
-use Rattle.smp_stop_steps.specs.declared.known.Source.TheVariants.{Drafts as Drafting}
 use Rattle.smp_stop_steps.specs.declared.stage.StopStage.{StopStage}
 use Rattle.smp_stop_steps.specs.declared.stage.StopStage.TheVariants.{TakeGate, OpenGate, Begin, Enter, EnterKind, EnterMask, EnterActive, ReadKey, ReadSite, NudgeKey}
 use Rattle.smp_stop_steps.specs.declared.stage.Visit.{Visit}
 use Rattle.smp_stop_steps.proofs.State.Gates.{gate_free, gate_mine}
 use Rattle.smp_stop_steps.proofs.State.Phases.{is_open_inside}
-use Rattle.smp_event_steps.specs.declared.event.Event.{Event}
 use Rattle.smp_event_steps.specs.declared.event.Event.TheVariants as event
 use Rattle.smp_event_steps.specs.declared.event.LabelEvent.TheVariants as labels
-use Rattle.smp_event_steps.specs.declared.event.StopEvent.TheVariants as stops
-use Rattle.smp_event_steps.specs.declared.stop.Task.{Task}
-use Rattle.smp_event_steps.specs.State.{StateValue, cpu_at, stop_at}
+use Rattle.smp_event_steps.specs.State.{StateValue}
 use Rattle.smp_events.specs.Past.{after, after_draft, past_at}
-use Rattle.smp_events.specs.Told.{of_gate, of_key, of_roll, of_slot, task_of, told_of}
+use Rattle.smp_events.specs.Told.{of_gate, of_roll, task_of, told_of}
 use Rattle.smp_events.specs.declared.past.Draft.{Draft}
 use Rattle.smp_events.specs.declared.past.Past.{Past}
-use Rattle.smp_events.specs.declared.told.Told.{Told}
 use Rattle.smp_events.specs.declared.told.Told.TheVariants as told
 use Rattle.smp_replay_laws.specs.Follows.{nothing_left_out}
-use Rattle.smp_replay_laws.specs.Stops.{AnswerIs, CpuIs, DraftIs, Drafts, FollowsStops, InsideIs, IsPlain, told_work}
+use Rattle.smp_replay_laws.specs.Stops.{AnswerIs, CpuIs, DraftIs, Drafts, FollowsStops, IsPlain, told_work}
 use Rattle.smp_replay_laws.proofs.Accepts.{by}
 use Rattle.smp_replay_laws.proofs.StopKinds.{gate_given, gate_taken, idle_free, mine_past, nothing_told}
 use Rattle.smp_replay_laws.proofs.StopMoves.{enters_told}

@@ -1,5 +1,5 @@
 -- A state of the model with one stop or one CPU's part of the stops changed, and the stops of the machine that it stands as.
-use Rattle.std.proofs.Common.{◌≡◌, ◌≢◌, ℕ, ◌<◌, cond, List, length, length-set, Option, Some, None, refl, ap, sym, ◌∙◌, subst, inl, inr, arith}
+use Rattle.std.proofs.Common.{◌≡◌, ◌≢◌, ℕ, ◌<◌, List, length, Some, ap, sym, ◌∙◌, subst, inl, inr, arith}
 use Rattle.std.proofs.lemmas.List.{get_or-set_same, get_or-set_other}
 use Rattle.std.proofs.lemmas.Bool.{cases_eq}
 use Rattle.std.specs.Prelude.{slice_set}
@@ -7,19 +7,17 @@ use Rattle.smp_words.specs.Put.{put}
 use Rattle.smp_words.specs.Size.{cpus}
 use Rattle.smp_words.specs.declared.word.Word.{Word}
 use Rattle.smp_words.specs.declared.word.Word.TheVariants.{Key, Site}
-use Rattle.smp_words.proofs.Puts.{put_all, put_other, put_same}
+use Rattle.smp_words.proofs.Puts.{put_other, put_same}
 use Rattle.smp_stop_steps.specs.State.{StopState}
 use Rattle.smp_stop_steps.specs.Stop.{Standing, Stop}
 use Rattle.smp_event_steps.specs.declared.stop.Stop.{Stop as ToldStop}
-use Rattle.smp_event_steps.specs.Cpu.{CpuState}
-use Rattle.smp_event_steps.specs.State.{StateValue, cpu_at, stop_at, with_cpu, with_stop}
+use Rattle.smp_event_steps.specs.State.{StateValue, cpu_at, stop_at, with_stop}
 use Rattle.smp_event_steps.specs.Stop.{closed, has_run}
 use Rattle.smp_events.specs.Past.{past_at}
 use Rattle.smp_events.specs.declared.past.Past.{Past}
 use Rattle.smp_replay_laws.specs.Follows.{calls_in}
 use Rattle.smp_replay_laws.specs.Stops.{AnswerIs, CpuIs, FollowsStops, InsideIs, PhaseIs, StopIs, has_called}
 use Rattle.smp_replay_laws.proofs.Pasts.{past_else, past_here}
-use Rattle.smp_replay_laws.proofs.States.{cpu_else, cpu_here}
 
 pub stop_here : (s : StateValue) (source : ℕ) (x : ToldStop) → length s.stops ≡ 32 → source < cpus → stop_at (with_stop source s x) source ≡ x
 stop_here s source x l b = get_or-set_same s.stops source x (closed 0) (omega arith)

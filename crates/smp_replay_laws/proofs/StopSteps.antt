@@ -1,14 +1,13 @@
 -- The events of a step on the stops, and the state to which they lead.
-use Rattle.std.proofs.Common.{◌≡◌, ◌≢◌, ℕ, ℤ, ◌+◌, ◌<◌, ◌%◌, ◌^◌, Bool, true, false, cond, List, [], ◌∷◌, map, length, length-set, Option, Some, None, Ok, refl, ap, sym, ◌∙◌, subst, inl, inr, arith}
+use Rattle.std.proofs.Common.{◌≡◌, ◌≢◌, ℕ, ◌<◌, false, List, [], ◌∷◌, length, length-set, Option, Some, None, Ok, refl, ap, sym, ◌∙◌, subst, inl, inr}
 use Rattle.std.proofs.lemmas.Bool.{cases_eq}
-use Rattle.std.proofs.lemmas.List.{get_or-set_same, get_or-set_other}
-use Rattle.std.specs.Prelude.{slice_set, slice_index_or}
+use Rattle.std.specs.Prelude.{slice_set}
 use Rattle.smp_words.specs.Put.{put, put_word, same_word}
 use Rattle.smp_words.specs.Access.{put_if}
 use Rattle.smp_words.specs.Size.{cpus}
 use Rattle.smp_words.specs.declared.word.Word.{Word}
 use Rattle.smp_words.specs.declared.word.Word.TheVariants.{Key, Site}
-use Rattle.smp_words.proofs.Puts.{put_all, put_other, put_same}
+use Rattle.smp_words.proofs.Puts.{put_all}
 use Rattle.smp_stop_steps.specs.State.{StopState}
 use Rattle.smp_stop_steps.specs.Stop.{Standing, Stop}
 use Rattle.smp_event_steps.specs.declared.event.Event.{Event}
@@ -18,12 +17,11 @@ use Rattle.smp_event_steps.specs.Runs.{Runs as RunsTo}
 use Rattle.smp_event_steps.specs.State.{StateValue, cpu_at, stop_at, with_cpu, with_stop}
 use Rattle.smp_event_steps.specs.Step.{goes}
 use Rattle.smp_event_steps.specs.Stop.{acked_by, answer_of, has_run, is_called}
-use Rattle.smp_events.specs.Past.{past_at}
 use Rattle.smp_events.specs.declared.past.Past.{Past}
-use Rattle.smp_replay_laws.specs.Follows.{calls_in, nothing_left_out}
-use Rattle.smp_replay_laws.specs.Stops.{AnswerIs, CpuIs, FollowsStops, InsideIs, IsSized, MemberIs, OpenIs, PhaseIs, StopIs}
+use Rattle.smp_replay_laws.specs.Follows.{calls_in}
+use Rattle.smp_replay_laws.specs.Stops.{CpuIs, FollowsStops, MemberIs, StopIs}
 use Rattle.smp_replay_laws.proofs.States.{cpu_else, cpu_here}
-use Rattle.smp_replay_laws.proofs.StopStates.{IsAlike, LeavesCalls, Steps, cpu_alike, follows_step, stop_else, stop_here, stops_set}
+use Rattle.smp_replay_laws.proofs.StopStates.{IsAlike, LeavesCalls, cpu_alike, follows_step, stop_else, stop_here, stops_set}
 
 -- These events lead to a state that stands as the stops do, and leave the calls as they were.
 pub record ReachesStops (q : StopState) (at' : Word → ℕ) (pasts' : List Past) (s : StateValue) (es : List (ℕ × Event)) : Type 0 where

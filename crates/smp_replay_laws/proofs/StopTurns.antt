@@ -1,22 +1,17 @@
 -- The step of a CPU in a turn of a rendezvous is accepted.
-use Rattle.std.proofs.Common.{◌≡◌, ◌≢◌, ℕ, ℤ, ◌+◌, ◌-◌, ◌<◌, ◌≤◌, ◌%◌, ◌^◌, nat_lt, Bool, true, false, not, ◌&&◌, cond, List, [], ◌∷◌, ◌++◌, length, Option, Some, None, Ok, refl, ap, sym, ◌∙◌, subst, inl, inr, ◌⊎◌, arith}
-use Rattle.std.proofs.lemmas.Bool.{cases_eq, eq-eqb, ne_eqb, true≢false, false≢true, and_left, and_right, lt-ltb, eqb-true, eqb-false}
-use Rattle.std.specs.Prelude.{slice_set, ◌==◌, pos, replicate}
+use Rattle.std.proofs.Common.{◌≡◌, ◌≢◌, ℕ, ◌+◌, ◌<◌, ◌≤◌, Bool, true, false, not, ◌&&◌, cond, List, [], ◌∷◌, ◌++◌, length, Option, Some, None, Ok, refl, ap, sym, ◌∙◌, subst, inl, inr, ◌⊎◌, arith}
+use Rattle.std.proofs.lemmas.Bool.{cases_eq, ne_eqb, false≢true, eqb-true, eqb-false}
+use Rattle.std.specs.Prelude.{slice_set, ◌==◌, pos}
 use Rattle.smp_mask.specs.Mask.{has}
-use Rattle.smp_labels.specs.Keys.{change_of, is_on}
-use Rattle.smp_words.specs.Access.{one_less, at_after, put_by, put_if, seen_of, word_of}
-use Rattle.smp_words.specs.Kinds.{kind_at, kind_word}
-use Rattle.smp_words.specs.Put.{put, put_word, same_word}
+use Rattle.smp_labels.specs.Keys.{change_of}
+use Rattle.smp_words.specs.Access.{one_less}
+use Rattle.smp_words.specs.Put.{put, put_word}
 use Rattle.smp_words.specs.Size.{cpus}
-use Rattle.smp_words.specs.declared.access.Access.{Access}
-use Rattle.smp_words.specs.declared.field.Field.{Field}
 use Rattle.smp_words.specs.declared.field.Field.TheVariants as field
-use Rattle.smp_words.specs.declared.seen.Act.TheVariants as act
 use Rattle.smp_words.specs.declared.seen.Note.{Note}
 use Rattle.smp_words.specs.declared.seen.Note.TheVariants as note
-use Rattle.smp_words.specs.declared.seen.Seen.{Seen}
 use Rattle.smp_words.specs.declared.word.Word.{Word}
-use Rattle.smp_words.specs.declared.word.Word.TheVariants.{Gate, Slot, Key, Entry, Site}
+use Rattle.smp_words.specs.declared.word.Word.TheVariants.{Slot}
 use Rattle.smp_words.specs.declared.work.Kind.{Kind}
 use Rattle.smp_words.specs.declared.work.Kind.TheVariants.{One, Multi, Patch}
 use Rattle.smp_words.specs.declared.work.Work.{Work}
@@ -25,62 +20,49 @@ use Rattle.smp_stop_steps.specs.Callings.{IsCalling}
 use Rattle.smp_stop_steps.specs.Labels.{Change, Patching, Whole, Patches}
 use Rattle.smp_stop_steps.specs.Present.{RunnerShows}
 use Rattle.smp_stop_steps.specs.Seats.{Stands, irq_of}
-use Rattle.smp_stop_steps.specs.Shows.{StopShows, gate_word}
 use Rattle.smp_stop_steps.specs.Slots.{Keeps, OpenShows}
-use Rattle.smp_stop_steps.specs.Sits.{SitsInRound, HoldsGate, SitsAt, SitsAtRest, SitsIn, SourceSits}
-use Rattle.smp_stop_steps.specs.Slots.{order}
-use Rattle.smp_stop_steps.specs.Sources.{DraftShows, IsDrafted, IsOfKind, IsWork, SourceShows}
+use Rattle.smp_stop_steps.specs.Sits.{SitsInRound, SitsAt}
 use Rattle.smp_stop_steps.specs.Carries.{CarriesAt, IsQuiet}
-use Rattle.smp_stop_steps.specs.Stages.{StopControlValue, answer_at, StopOutcome, acked_on, looked_on, stop_access, stop_ends, stop_goes, stop_outcome, turn_ends, turn_note, visit_acked}
+use Rattle.smp_stop_steps.specs.Stages.{StopControlValue, StopOutcome, looked_on, stop_ends, stop_goes, visit_acked}
 use Rattle.smp_stop_steps.specs.State.{Present, Setup, StopState}
-use Rattle.smp_stop_steps.specs.declared.known.Reading.TheVariants.{ReadKey as ReadingKey}
-use Rattle.smp_stop_steps.specs.Stop.{Standing, Outside, Called, Inside, Answering, Completed, Raising, Nobody, Refills, Raises, Stop, acknowledged, first_phase, is_called, stands}
+use Rattle.smp_stop_steps.specs.Stop.{Standing, Inside, Refills, Stop, acknowledged, is_called, stands}
 use Rattle.smp_stop_steps.specs.Table.{stop_number}
-use Rattle.smp_stop_steps.specs.Counts.{mask_weight}
-use Rattle.smp_stop_steps.specs.Tells.{called_more, calls_now, carried, carried_call, leaves, unpatched, is_multi, looked_by, may_call, drafted, drafts, gate_told, is_at_run, is_patch, key_loaded, opens, patch_begun, reads, slot_told, stored_open, tells}
+use Rattle.smp_stop_steps.specs.Tells.{called_more, calls_now, carried, carried_call, leaves, unpatched, is_multi, looked_by, may_call, reads, tells}
 use Rattle.smp_stop_steps.specs.Value.{StopShown, StopsValue, setup_of, stop_control_of}
 use Rattle.smp_stop_steps.specs.declared.known.Calling.{Calling}
 use Rattle.smp_stop_steps.specs.declared.known.Calling.TheVariants.{Idle, Calls, Carries}
 use Rattle.smp_stop_steps.specs.declared.known.Duty.{Duty}
-use Rattle.smp_stop_steps.specs.declared.known.Duty.TheVariants.{Rests, Fills, Sets}
+use Rattle.smp_stop_steps.specs.declared.known.Duty.TheVariants.{Rests}
 use Rattle.smp_stop_steps.specs.declared.stage.RoundStage.{RoundStage}
 use Rattle.smp_stop_steps.specs.declared.stage.RoundStage.TheVariants as round
 use Rattle.smp_stop_steps.specs.declared.known.Seat.{Seat}
-use Rattle.smp_stop_steps.specs.declared.known.Seat.TheVariants.{Free, In, Gives, Alters, Closes}
-use Rattle.smp_stop_steps.specs.declared.known.Source.{Source}
-use Rattle.smp_stop_steps.specs.declared.known.Source.TheVariants.{Drafts as Drafting}
+use Rattle.smp_stop_steps.specs.declared.known.Seat.TheVariants.{In, Alters}
 use Rattle.smp_stop_steps.specs.declared.stage.StopStage.{StopStage}
-use Rattle.smp_stop_steps.specs.declared.stage.StopStage.TheVariants.{TakeGate, OpenGate, Begin, Enter, EnterKind, EnterMask, EnterActive, ReadKey, ReadSite, NudgeKey, Advance}
+use Rattle.smp_stop_steps.specs.declared.stage.StopStage.TheVariants.{Advance}
 use Rattle.smp_stop_steps.specs.declared.stage.Visit.{Visit}
-use Rattle.smp_stop_steps.proofs.State.Gates.{gate_free, gate_mine}
 use Rattle.smp_stop_steps.proofs.State.Phases.{is_open_inside, keeps_inside}
-use Rattle.smp_event_steps.specs.declared.event.Event.{Event}
 use Rattle.smp_event_steps.specs.declared.event.Event.TheVariants as event
-use Rattle.smp_event_steps.specs.declared.event.LabelEvent.TheVariants as labels
 use Rattle.smp_event_steps.specs.declared.event.StopEvent.TheVariants as stops
 use Rattle.smp_event_steps.specs.declared.stop.Task.{Task}
 use Rattle.smp_event_steps.specs.Cpu.{handles_nothing}
 use Rattle.smp_event_steps.specs.State.{StateValue, cpu_at, stop_at, with_stop}
 use Rattle.smp_event_steps.specs.Step.{goes}
 use Rattle.smp_event_steps.specs.Stop.{acked_by, is_cpu}
-use Rattle.std.proofs.lemmas.List.{get_or-set_same, get_or-set_other}
-use Rattle.smp_events.specs.Past.{after, after_draft, is_new, past_at, phase_of}
-use Rattle.smp_events.specs.Told.{of_arg, of_gate, with_on, of_key, of_roll, of_slot, task_of, told_of}
-use Rattle.smp_events.specs.declared.past.Draft.{Draft}
+use Rattle.std.proofs.lemmas.List.{get_or-set_same}
+use Rattle.smp_events.specs.Past.{is_new, past_at, phase_of}
+use Rattle.smp_events.specs.Told.{of_arg, with_on}
 use Rattle.smp_events.specs.declared.past.Past.{Past}
-use Rattle.smp_events.specs.declared.told.Told.{Told}
 use Rattle.smp_events.specs.declared.told.Told.TheVariants as told
 use Rattle.smp_replay_laws.specs.Follows.{nothing_left_out}
-use Rattle.smp_replay_laws.specs.Stops.{AnswerIs, CpuIs, DraftIs, Drafts, FollowsStops, InsideIs, IsPlain, OpenIs, PhaseIs, given_by, has_called, raiser_of, told_work}
+use Rattle.smp_replay_laws.specs.Stops.{AnswerIs, CpuIs, FollowsStops, InsideIs, OpenIs, PhaseIs, given_by, has_called, raiser_of}
 use Rattle.smp_replay_laws.proofs.Accepts.{by}
-use Rattle.smp_replay_laws.proofs.StopKinds.{gate_given, gate_taken, idle_free, mine_past, nothing_told}
 use Rattle.smp_replay_laws.proofs.StopAcks as acking
 use Rattle.smp_replay_laws.proofs.StopKinds.{Goes}
 use Rattle.smp_replay_laws.proofs.StopMoves.{looked_step, off_step}
-use Rattle.smp_replay_laws.proofs.StopRounds.{acks_told, leaves_told, raise_made, raises_told, told_acked, told_raised}
+use Rattle.smp_replay_laws.proofs.StopRounds.{acks_told, leaves_told, told_acked}
 use Rattle.smp_replay_laws.proofs.StopRuns.{runs_told}
-use Rattle.smp_replay_laws.proofs.StopStages.{Accepted, at, c, else_if, loads, past, seen_so, u}
-use Rattle.smp_replay_laws.proofs.StopSteps.{ReachesStops, word_kept}
+use Rattle.smp_replay_laws.proofs.StopStages.{Accepted, loads, seen_so}
+use Rattle.smp_replay_laws.proofs.StopSteps.{ReachesStops}
 
 pub then_if : {A : Type 0} (b : Bool) (x y : A) → b ≡ true → cond b x y ≡ x
 then_if true x y e = refl

@@ -1,33 +1,24 @@
 -- All events of a replay in which no stop is a patch are accepted.
-use Rattle.std.proofs.Common.{map, ◌≡◌, ◌≢◌, ℕ, ◌+◌, ◌-◌, ◌<◌, nat_lt, Bool, true, false, ◌==◌, cond, List, [], ◌∷◌, ◌++◌, replicate, Option, Some, None, Ok, Err, length, length-set, true≢false, ◌%◌, refl, ap, sym, ◌∙◌, subst, inl, inr, ◌⊎◌, arith}
-use Rattle.std.proofs.lemmas.Bool.{cases_eq, eqb-false}
-use Rattle.std.proofs.lemmas.List.{get_or-replicate, length-replicate}
-use Rattle.std.proofs.lemmas.List.Elements.{filter-append}
-use Rattle.std.specs.Prelude.{slice_index_or, slice_set, ◌||◌, not}
-use Rattle.std.specs.List.{AllByRecursion}
-use Rattle.smp_labels.specs.Labels.{Labels}
-use Rattle.smp_labels.specs.declared.words.LabelWords.{LabelWords}
+use Rattle.std.proofs.Common.{map, ◌≡◌, ◌≢◌, ℕ, ◌+◌, ◌-◌, ◌<◌, nat_lt, Bool, true, false, ◌==◌, cond, List, [], Option, Some, None, Ok, length, length-set, ◌%◌, refl, ap, sym, ◌∙◌, subst, inl, inr, ◌⊎◌, arith}
+use Rattle.std.proofs.lemmas.Bool.{cases_eq}
+use Rattle.std.specs.Prelude.{slice_set}
 use Rattle.smp_mask.specs.declared.error.SmpError.{SmpError}
-use Rattle.smp_mask.specs.declared.error.SmpError.TheVariants as error
-use Rattle.smp_words.specs.Access.{at_after, seen_of, word_of}
+use Rattle.smp_words.specs.Access.{at_after, seen_of}
 use Rattle.smp_words.specs.Commands.{FitsCommand}
 use Rattle.smp_words.specs.Layout.{number_in}
 use Rattle.smp_words.specs.Put.{put}
-use Rattle.smp_words.specs.Size.{cpus, records_of_one, table_size}
+use Rattle.smp_words.specs.Size.{cpus}
 use Rattle.smp_words.specs.declared.seen.Note.TheVariants as note
 use Rattle.smp_words.proofs.Puts.{put_all, put_other, put_same}
-use Rattle.smp_words.proofs.Zeros.{get_or-same}
 use Rattle.smp_words.specs.declared.command.Command.{Command}
 use Rattle.smp_words.specs.declared.command.Command.TheVariants as command
-use Rattle.smp_words.specs.declared.command.Event.{Event as Turned}
-use Rattle.smp_words.specs.declared.command.Event.TheVariants as turned
 use Rattle.smp_words.specs.declared.seen.Seen.{Seen}
-use Rattle.smp_call_steps.specs.Calls.{CallState, no_calls, tells, tells_all}
+use Rattle.smp_call_steps.specs.Calls.{CallState, tells}
 use Rattle.smp_call_steps.specs.Stages.{ControlValue, access_of, control_after, outcome_of}
 use Rattle.smp_call_steps.specs.Posts.{ends, goes_to, post_outcome}
 use Rattle.smp_call_steps.specs.Drains.{DrainValue, handle_goes, handle_outcome}
-use Rattle.smp_call_steps.specs.Start.{command_refusal, control_at, first_stage}
-use Rattle.smp_call_steps.specs.Value.{control_of, outside}
+use Rattle.smp_call_steps.specs.Start.{control_at, first_stage}
+use Rattle.smp_call_steps.specs.Value.{control_of}
 use Rattle.smp_call_steps.specs.declared.post.Posting.{Posting}
 use Rattle.smp_call_steps.specs.declared.post.PostStage.{PostStage}
 use Rattle.smp_call_steps.specs.declared.post.PostStage.TheVariants as post
@@ -37,44 +28,32 @@ use Rattle.smp_call_steps.specs.declared.stage.Outcome.{Outcome}
 use Rattle.smp_call_steps.specs.declared.stage.Stage.{Stage}
 use Rattle.smp_call_steps.specs.declared.stage.Stage.TheVariants.{Send, Done, Post, Handle}
 use Rattle.smp_call_steps.proofs.Machine.Cores.{controls_by_cpu, inside_below, made_shown}
-use Rattle.smp_call_steps.proofs.Machine.Starts.{new_shown}
 use Rattle.smp_stop_steps.specs.Machine.{stop_seen_at}
 use Rattle.smp_stop_steps.specs.Value.{stop_control_of}
 use Rattle.smp_stop_steps.specs.declared.stage.StopStage.{StopStage}
-use Rattle.smp_core.specs.Machine.{call_step, found_at, seen_at, step_at, stepped, stop_step, stops_stepped}
-use Rattle.smp_core.specs.New.{new_core}
+use Rattle.smp_core.specs.Machine.{call_step, found_at, seen_at, stepped, stops_stepped}
 use Rattle.smp_core.specs.Offline.{AimsOnline}
-use Rattle.smp_core.specs.Replay.{Replay, after_seen, replay_from, replay_on, start_turn, step_turn}
-use Rattle.smp_core.specs.Runs.{replay_made}
 use Rattle.smp_core.specs.Start.{refusal_of, started}
 use Rattle.smp_core.specs.Value.{CoreValue, Shown}
 use Rattle.smp_core.specs.Whole.{IsWhole}
 use Rattle.smp_core.proofs.Starts.{may_start, start_below, started_shown}
 use Rattle.smp_core.proofs.Whole.{start_whole, step_whole}
-use Rattle.smp_event_steps.specs.declared.event.Event.{Event}
-use Rattle.smp_event_steps.specs.declared.without.Setting.{Setting}
-use Rattle.smp_event_steps.specs.Cpu.{CpuState, fresh_cpu}
-use Rattle.smp_event_steps.specs.Opened.{opening, places_free}
-use Rattle.smp_event_steps.specs.Runs.{Runs}
 use Rattle.smp_event_steps.specs.State.{StateValue, cpu_at}
-use Rattle.smp_event_steps.specs.declared.call.Place.TheVariants.{Free}
-use Rattle.smp_events.specs.Past.{after, fresh, past_at}
-use Rattle.smp_events.specs.Traces.{all_fresh, events_of, events_of_step, kept}
+use Rattle.smp_events.specs.Past.{after, past_at}
+use Rattle.smp_events.specs.Traces.{events_of_step, kept}
 use Rattle.smp_events.specs.declared.past.Past.{Past}
-use Rattle.smp_events.specs.declared.past.Post.{Post as Posted}
 use Rattle.smp_replay_laws.specs.Accepted.{BeginsPlain}
-use Rattle.smp_replay_laws.specs.Follows.{Follows, GoesElsewhere, HandlesWithOn, current_of, told_call, KeepsPast, PostIs, calls_in, nothing_left_out}
+use Rattle.smp_replay_laws.specs.Follows.{Follows, GoesElsewhere, HandlesWithOn, current_of, told_call, KeepsPast, PostIs}
 use Rattle.smp_replay_laws.proofs.Accepts.{Reaches}
-use Rattle.smp_stop_steps.specs.State.{StopState, no_stops}
+use Rattle.smp_stop_steps.specs.State.{StopState}
 use Rattle.smp_stop_steps.specs.Stages.{StopControlValue, answer_at, stop_access}
 use Rattle.smp_stop_steps.specs.Table.{stop_number}
 use Rattle.smp_stop_steps.specs.Tells.{tells as tells_stops}
 use Rattle.smp_stop_steps.specs.Value.{StopShown, setup_of}
 use Rattle.smp_replay_laws.specs.Stops.{CpuIs, DraftIs, Drafts, FollowsStops, IsPlain}
-use Rattle.smp_replay_laws.proofs.Replays.{runs_append, start_elsewhere, start_posts, step_elsewhere}
+use Rattle.smp_replay_laws.proofs.Replays.{start_elsewhere, start_posts, step_elsewhere}
 use Rattle.smp_replay_laws.proofs.States.{LeavesStops}
 use Rattle.smp_words.specs.declared.word.Word.{Word}
-use Rattle.smp_words.specs.declared.word.Word.TheVariants.{Key, Site, Slot}
 use Rattle.smp_words.specs.declared.field.Field.{Field}
 use Rattle.smp_words.specs.declared.field.Field.TheVariants as field
 use Rattle.smp_words.specs.declared.work.Work.{Work}
@@ -111,7 +90,7 @@ use Rattle.smp_stop_steps.specs.Machine.{stop_found_at, stop_stepped}
 use Rattle.smp_stop_steps.proofs.TheMachine.Made.{made_told}
 use Rattle.smp_stop_steps.proofs.TheMachine.Tables.{stop_words_by_name}
 use Rattle.smp_stop_steps.proofs.TheMachine.Values.{stop_controls_by_cpu, stop_inside_below, stop_word_named}
-use Rattle.smp_replay_laws.proofs.Halves.{KeepsCalls, KeepsStops, call_keeps, is_call_word, all_calls, call_word, no_calls as none_of_calls, stop_keeps, stop_tells, stop_word}
+use Rattle.smp_replay_laws.proofs.Halves.{KeepsCalls, KeepsStops, call_keeps, is_call_word, call_word, stop_keeps, stop_tells, stop_word}
 use Rattle.smp_replay_laws.proofs.Handles.{handles_step}
 use Rattle.smp_replay_laws.proofs.Pasts.{begun_same, keeps_past, past_else, past_here}
 use Rattle.smp_replay_laws.proofs.Posts.{Accepted, looks_step, posts_step, sends_step}

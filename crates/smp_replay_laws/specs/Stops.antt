@@ -1,18 +1,15 @@
 -- A state of the model of events that stands as the stops of a machine do, where none of them is a patch.
 use Rattle.std.specs.Int.{w32, cast_signed}
-use Rattle.std.specs.Prelude.{◌≡◌, ◌≢◌, ℕ, ℤ, pos, ◌+◌, ◌<◌, ◌%◌, ◌^◌, Bool, true, false, not, List, length, slice_index_or, Option, Some, None}
-use Rattle.smp_mask.specs.Mask.{has}
+use Rattle.std.specs.Prelude.{◌≡◌, ◌≢◌, ℕ, ℤ, pos, ◌<◌, ◌%◌, ◌^◌, Bool, true, false, List, length, Option, Some, None}
 use Rattle.smp_words.specs.Size.{cpus}
 use Rattle.smp_words.specs.declared.field.Field.{Field}
 use Rattle.smp_words.specs.declared.field.Field.TheVariants as field
 use Rattle.smp_words.specs.declared.word.Word.{Word}
 use Rattle.smp_words.specs.declared.word.Word.TheVariants.{Key, Site}
-use Rattle.smp_words.specs.declared.work.Kind.{Kind}
-use Rattle.smp_words.specs.declared.work.Kind.TheVariants.{One, Multi, Patch}
+use Rattle.smp_words.specs.declared.work.Kind.TheVariants.{Patch}
 use Rattle.smp_words.specs.declared.work.Work.{Work}
 use Rattle.smp_stop_steps.specs.State.{StopState}
-use Rattle.smp_stop_steps.specs.Stop.{Raising, Nobody, Refills, Raises, Standing, Outside, Called, Inside, Answering, Completed, Stop, acked, is_called}
-use Rattle.smp_stop_steps.specs.Tells.{is_patch}
+use Rattle.smp_stop_steps.specs.Stop.{Raising, Nobody, Refills, Raises, Standing, Called, Inside, Answering, Completed, Stop, acked, is_called}
 use Rattle.smp_stop_steps.specs.declared.known.Calling.{Calling}
 use Rattle.smp_stop_steps.specs.declared.known.Calling.TheVariants.{Idle, Calls, Carries}
 use Rattle.smp_stop_steps.specs.declared.stage.StopStage.{StopStage}
