@@ -10,7 +10,8 @@ use Rattle.smp_words.specs.declared.call.Call.{Call as MachineCall}
 use Rattle.smp_words.specs.declared.call.Class.TheVariants.{Sync, Async}
 use Rattle.smp_words.proofs.Puts.{put_all, put_same, put_other}
 use Rattle.smp_call_steps.specs.Batches.{has_record}
-use Rattle.smp_call_steps.specs.Calls.{CallState, place_taken, accepts, appended, begins_async, begins_sync, confirms, ends_async, ends_sync, Holding, sends, takes}
+use Rattle.smp_call_steps.specs.Calls.{CallState, place_taken, accepts, appended, begins_async, begins_sync, confirms, ends_async, ends_sync, Holding}
+use Rattle.smp_call_steps.specs.Calls.{sends, takes}
 use Rattle.smp_call_steps.specs.Places.{Placed, IsThere}
 use Rattle.smp_call_steps.specs.Words.{FlagsShow}
 use Rattle.smp_call_steps.specs.declared.known.Running.{Running}
@@ -33,9 +34,11 @@ use Rattle.smp_events.specs.Told.{events_in}
 use Rattle.smp_events.specs.declared.told.Told.{Told}
 use Rattle.smp_events.specs.declared.told.Told.TheVariants as told
 use Rattle.smp_replay_laws.specs.Follows.{CallsOfCpu, Follows, calls_in, calls_of, current_of, place_of, told_call}
-use Rattle.smp_replay_laws.proofs.Events.{IsNext, Rests, accepts as accepts_interrupt, begins_async as enters_unlocked, ends_call, idles, queues_call, sees_free, sends_to, takes_queue, unlocks_async, unlocks_sync, begins_sync as enters_front}
+use Rattle.smp_replay_laws.proofs.Events.{IsNext, Rests, accepts as accepts_interrupt, begins_async as enters_unlocked, ends_call, idles, queues_call}
+use Rattle.smp_replay_laws.proofs.Events.{sees_free, sends_to, takes_queue, unlocks_async, unlocks_sync, begins_sync as enters_front}
 use Rattle.smp_replay_laws.proofs.Queues.{length-placed, order_told, placed_at, record_there, taken_place}
-use Rattle.smp_replay_laws.proofs.States.{FollowsBut, LeavesStops, but_placed, but_set, cpu_here, follows_but, follows_placed, follows_same, follows_set, leaves_all, leaves_cpu, leaves_place, leaves_then}
+use Rattle.smp_replay_laws.proofs.States.{FollowsBut, LeavesStops, but_placed, but_set, cpu_here, follows_but, follows_placed, follows_same}
+use Rattle.smp_replay_laws.proofs.States.{follows_set, leaves_all, leaves_cpu, leaves_place, leaves_then}
 
 -- These events lead to a state that stands as the calls do, and leave all else as it was.
 pub record Reaches (online : ℕ) (b : CallState) (s : StateValue) (es : List (ℕ × Event)) : Type 0 where
@@ -144,7 +147,11 @@ module _ (online : ℕ) (a : CallState) (s : StateValue) (f : Follows online a s
           t = s;
           runs = (s, (rw made refl, refl));
           follows = follows_same online a (accepts a me) s
-              (put_all (λ j x. record (calls_of a j) { pending = x; accepted = put a.accepted me (if a.pending me then true else a.accepted me) j } ≡ calls_of a j) a.pending me false
+              (put_all (λ j x. record (calls_of a j) {
+                pending = x;
+                accepted = put a.accepted me
+                    (if a.pending me then true else a.accepted me) j;
+              } ≡ calls_of a j) a.pending me false
               (rw (put_same a.accepted me (if a.pending me then true else a.accepted me), e) refl) (λ j ne. rw (ne_eqb j me ne) refl))
               (λ id l. refl) f;
           leaves = leaves_all s;
@@ -160,13 +167,27 @@ module _ (online : ℕ) (a : CallState) (s : StateValue) (f : Follows online a s
         let c = left_batch Runs x (cpu_at s me) in
         let t = with_cpu me s c in
         let b : CallState = record a { batch = put a.batch me rest; running = put a.running me (SyncCall call) } in
-        let next : IsNext (cpu_at s me) x (map told_call rest) = record { current = current_is Nothing idle; batch = batch_is (call ∷ rest) front; irq = on } in
+        let next : IsNext (cpu_at s me) x (map told_call rest) = record {
+          current = current_is Nothing idle;
+          batch = batch_is
+              (call ∷ rest) front;
+          irq = on;
+        } in
         let batch : (cpu_at s me).batch ≡ x ∷ map told_call rest = next.batch in
-        let here : calls_in c ≡ calls_of b me = rw (eq-eqb me me refl, batch) (ap (λ (y : CallsOfCpu). record y { batch = map told_call rest; current = at_call Runs x }) mine) in
-        let g : Follows online b t = follows_set online a b s me c below (follows_but online me a s f) here (λ j ne. rw (ne_eqb j me ne) refl) (λ id m. refl) in
+        let here : calls_in c ≡ calls_of b me = rw (eq-eqb me me refl, batch) (ap (λ
+        (y : CallsOfCpu). record y { batch = map told_call rest; current = at_call Runs x }) mine) in
+        let g : Follows online b t = follows_set online a b s me c below (follows_but online me a s f) here (λ j ne. rw (ne_eqb j me ne) refl)
+        (λ id m. refl) in
         record {
           t = with_place call.id (Run me) t;
-          runs = (with_place call.id (Run me) t, (enters_front s me f.whole x (map told_call rest) next is (f.places call.id l ∙ ap place_of at) f.cpus_are below, refl));
+          runs = (
+            with_place call.id (Run me) t,
+            (
+              enters_front s me f.whole x (map told_call rest) next is (f.places call.id l
+                  ∙ ap place_of at) f.cpus_are below,
+              refl,
+            ),
+          );
           follows = follows_placed online b (begins_sync a me (call ∷ rest)) t call.id (Run me) l (rw (eq-eqb call.id call.id refl) refl)
               (λ j ne. put_other a.place call.id (machine.Running me) j ne) (λ j. refl) g;
           leaves = leaves_then s t (with_place call.id (Run me) t) (leaves_cpu s me c f.cpus_are below refl refl) (leaves_place t call.id (Run me));
@@ -200,7 +221,8 @@ module _ (online : ℕ) (a : CallState) (s : StateValue) (f : Follows online a s
         let t = with_cpu me s c in
         let b : CallState = record a { running = put a.running me Nothing; ran = put a.ran me (a.ran me ++ call ∷ []) } in
         let here : calls_in c ≡ calls_of b me = rw (eq-eqb me me refl) (ap (λ (y : CallsOfCpu). record y { current = None }) mine) in
-        let g : Follows online b t = follows_set online a b s me c below (follows_but online me a s f) here (λ j ne. rw (ne_eqb j me ne) refl) (λ id m. refl) in
+        let g : Follows online b t = follows_set online a b s me c below (follows_but online me a s f) here (λ j ne. rw (ne_eqb j me ne) refl)
+        (λ id m. refl) in
         record {
           t = with_place call.id Free t;
           runs = (with_place call.id Free t, (unlocks_sync s me f.whole (told_call call) (current_is (CountedCall call) was), refl));
@@ -217,7 +239,12 @@ module _ (online : ℕ) (a : CallState) (s : StateValue) (f : Follows online a s
     unfolding call_goes
     begins_async_told call rest front idle is at l on =
         let x = told_call call in
-        let next : IsNext (cpu_at s me) x (map told_call rest) = record { current = current_is Nothing idle; batch = batch_is (call ∷ rest) front; irq = on } in
+        let next : IsNext (cpu_at s me) x (map told_call rest) = record {
+          current = current_is Nothing idle;
+          batch = batch_is
+              (call ∷ rest) front;
+          irq = on;
+        } in
         let batch : (cpu_at s me).batch ≡ x ∷ map told_call rest = next.batch in
         let c = left_batch Unlocked x (cpu_at s me) in
         let m = with_cpu me s c in
@@ -226,9 +253,11 @@ module _ (online : ℕ) (a : CallState) (s : StateValue) (f : Follows online a s
         let d = record (cpu_at n me) { current = at_call Runs x } in
         let b = begins_async a me (call ∷ rest) in
         let placed : CallState = record a { place = put a.place call.id machine.Free } in
-        let g = but_placed online a placed m call.id Free l (rw (eq-eqb call.id call.id refl) refl) (λ j ne. put_other a.place call.id machine.Free j ne) me (λ j ne. refl)
+        let g = but_placed online a placed m call.id Free l (rw (eq-eqb call.id call.id refl) refl)
+        (λ j ne. put_other a.place call.id machine.Free j ne) me (λ j ne. refl)
         (but_set online a a s me c (follows_but online me a s f)) in
-        let here : calls_in d ≡ calls_of b me = rw (mid, eq-eqb me me refl, batch) (ap (λ (y : CallsOfCpu). record y { batch = map told_call rest; current = at_call Runs x }) mine) in
+        let here : calls_in d ≡ calls_of b me = rw (mid, eq-eqb me me refl, batch) (ap (λ
+        (y : CallsOfCpu). record y { batch = map told_call rest; current = at_call Runs x }) mine) in
         record {
           t = with_cpu me n d;
           runs = (
@@ -245,16 +274,19 @@ module _ (online : ℕ) (a : CallState) (s : StateValue) (f : Follows online a s
         }
 
     -- the records of the queue are in the batch
-    places_moved : Placed a.place a.held a.queue a.batch a.running a.confirmed → (id : ℕ) → id < records → place_at (moved me s) id ≡ place_of (place_taken me (a.place id))
+    places_moved : Placed a.place a.held a.queue a.batch a.running a.confirmed → (id : ℕ) → id < records
+        → place_at (moved me s) id ≡ place_of (place_taken me (a.place id))
     places_moved law id l =
         let q : (cpu_at s me).queue ≡ map told_call (a.queue me) = ap (λ (c : CallsOfCpu). c.queue) mine in
         rw q (placed_at (Batch me) (a.queue me) s.places id (rw f.places_are (omega arith))
         ∙ (ap (λ p. cond (has_record id (a.queue me)) (Batch me) p) (f.places id l)
-        ∙ taken_place me id (a.place id) (a.queue me) (has_record id (a.queue me)) refl (record_there a.place (machine.Queued me) id (a.queue me) (law.queued me))
+        ∙ taken_place me id (a.place id) (a.queue me) (has_record id (a.queue me)) refl (record_there a.place (machine.Queued me) id (a.queue me)
+        (law.queued me))
         (λ e. subst (λ (p : RecPlace). IsThere a.held a.queue a.batch a.running id p) e (law.is_there id))))
 
     -- the whole queue is taken
-    pub takes_told : Placed a.place a.held a.queue a.batch a.running a.confirmed → a.accepted me ≡ true → a.batch me ≡ [] → a.running me ≡ Nothing → (cpu_at s me).irq ≡ true
+    pub takes_told : Placed a.place a.held a.queue a.batch a.running a.confirmed → a.accepted me ≡ true → a.batch me ≡ [] → a.running me ≡ Nothing
+        → (cpu_at s me).irq ≡ true
         → Reaches online (takes a me) s ((me, event.Call calls.Take) ∷ [])
     takes_told law x empty idle on =
         let q : (cpu_at s me).queue ≡ map told_call (a.queue me) = ap (λ (c : CallsOfCpu). c.queue) mine in
@@ -262,7 +294,12 @@ module _ (online : ℕ) (a : CallState) (s : StateValue) (f : Follows online a s
         let c = taken (cpu_at s me) in
         let b = takes a me in
         let here : calls_in c ≡ calls_of b me =
-        rw (eq-eqb me me refl, q, order_told (a.queue me)) (ap (λ (y : CallsOfCpu). record y { queue = []; batch = order (map told_call (a.queue me)); accepted = false }) mine) in
+        rw (eq-eqb me me refl, q, order_told (a.queue me)) (ap (λ (y : CallsOfCpu). record y {
+          queue = [];
+          batch = order (map told_call
+              (a.queue me));
+          accepted = false;
+        }) mine) in
         let g : FollowsBut online me b m = record {
           whole = f.whole;
           online_is = f.online_is;
@@ -280,7 +317,8 @@ module _ (online : ℕ) (a : CallState) (s : StateValue) (f : Follows online a s
         }
 
     -- a call joins a queue
-    pub queues_told : (h : Holding) (to : ℕ) → owner h.call.id ≡ me → h.call.id < records → to < cpus → has online to ≡ true → to ≢ me → place_of (a.place h.call.id) ≡ Free
+    pub queues_told : (h : Holding) (to : ℕ) → owner h.call.id ≡ me → h.call.id < records → to < cpus → has online to ≡ true → to ≢ me
+        → place_of (a.place h.call.id) ≡ Free
         → Reaches online (appended a me to (Some h)) s ((me, event.Call (calls.Queue h.call.id to h.call.class h.call.func h.call.info)) ∷ [])
     queues_told h to owned l m on ne free =
         let x : Call = record { source = me; id = h.call.id; class = h.call.class; func = h.call.func; info = h.call.info } in

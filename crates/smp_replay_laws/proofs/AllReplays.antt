@@ -75,18 +75,22 @@ abbrev Rest : ℕ → List Turned → Type 0
 Rest position rest = (core : CoreValue) (a : CallState) (p : StopState) (pasts : List Past) (s : StateValue) → StandsAll core a p pasts s
     → ReplayedAll a pasts s (replay_from position core rest)
 
-started_then : (position : ℕ) (rest : List Turned) → Rest (position + 1) rest → (core : CoreValue) (a : CallState) (p : StopState) (pasts : List Past) (s : StateValue)
+started_then : (position : ℕ) (rest : List Turned) → Rest (position + 1) rest → (core : CoreValue) (a : CallState) (p : StopState) (pasts : List Past)
+    (s : StateValue)
     → StandsAll core a p pasts s → (cpu : ℕ) (c : Command) → FitsCommand c → BeginsPlain c → (r : Option SmpError) → refusal_of core cpu c ≡ r
-    → let turn = start_turn core (started core cpu c) r in ReplayedAll a pasts s (replay_on position turn.core turn.answer (replay_from (position + 1) turn.core rest))
+    → let turn = start_turn core (started core cpu c) r in ReplayedAll a pasts s (replay_on position turn.core turn.answer (replay_from
+    (position + 1) turn.core rest))
 started_then position rest on core a p pasts s k cpu c fits plain (Some why) e = refused core a p pasts s position why (replay_from (position + 1) core rest) k
 started_then position rest on core a p pasts s k cpu c fits plain None e =
     let next = on (started core cpu c) a p pasts s (start_stands core a p pasts s k cpu c fits plain e) in
     record { t = next.t; stops = next.stops; kept_then = next.kept_then; run = next.run; stands = next.stands }
 
-stepped_then : (position : ℕ) (rest : List Turned) → Rest (position + 1) rest → (core : CoreValue) (a : CallState) (p : StopState) (pasts : List Past) (s : StateValue)
+stepped_then : (position : ℕ) (rest : List Turned) → Rest (position + 1) rest → (core : CoreValue) (a : CallState) (p : StopState) (pasts : List Past)
+    (s : StateValue)
     → StandsAll core a p pasts s → (cpu : ℕ) (x : Option Stage) (y : Option StopStage) → (control_of core.controls cpu).stage ≡ x
     → (stop_control_of core.stops.controls cpu).stage ≡ y
-    → let turn = step_turn core (step_at core cpu x y) in ReplayedAll a pasts s (replay_on position turn.core turn.answer (replay_from (position + 1) turn.core rest))
+    → let turn = step_turn core (step_at core cpu x y) in ReplayedAll a pasts s (replay_on position turn.core turn.answer (replay_from
+    (position + 1) turn.core rest))
 stepped_then position rest on core a p pasts s k cpu None None e f = refused core a p pasts s position error.IdleStep (replay_from (position + 1) core rest) k
 stepped_then position rest on core a p pasts s k cpu (Some stage) y e f =
     let seen = seen_at core cpu stage in
@@ -98,13 +102,16 @@ stepped_then position rest on core a p pasts s k cpu None (Some stage) e f =
     let whole : IsWhole (stops_stepped core cpu stage) = step_whole core cpu k.whole (stop_step core cpu stage) (rw (e, f) refl) in
     let m = reached_stops core a p pasts s k cpu stage f e whole in
     seen_first a pasts s m.t seen (replay_from (position + 1) (stops_stepped core cpu stage) rest) m.runs
-    (on (stops_stepped core cpu stage) (tells a seen) (told_stops core a p pasts s k cpu stage f e whole) (kept pasts seen) m.t (stop_stands core a p pasts s k cpu stage f e whole))
+    (on (stops_stepped core cpu stage) (tells a seen) (told_stops core a p pasts s k cpu stage f e whole) (kept pasts seen) m.t
+    (stop_stands core a p pasts s k cpu stage f e whole))
 
-replayed : (position : ℕ) (commands : List Turned) (core : CoreValue) (a : CallState) (p : StopState) (pasts : List Past) (s : StateValue) → StandsAll core a p pasts s
+replayed : (position : ℕ) (commands : List Turned) (core : CoreValue) (a : CallState) (p : StopState) (pasts : List Past) (s : StateValue)
+    → StandsAll core a p pasts s
     → AllByRecursion FitsPlain commands → ReplayedAll a pasts s (replay_from position core commands)
 replayed position [] core a p pasts s k all = record { t = s; stops = p; kept_then = pasts; run = refl; stands = k }
 replayed position (turned.Start cpu c ∷ rest) core a p pasts s k all =
-    started_then position rest (λ core' a' p' pasts' s' k'. replayed (position + 1) rest core' a' p' pasts' s' k' all.1) core a p pasts s k cpu c all.0.0 all.0.1
+    started_then position rest (λ core' a' p' pasts' s' k'. replayed
+    (position + 1) rest core' a' p' pasts' s' k' all.1) core a p pasts s k cpu c all.0.0 all.0.1
     (refusal_of core cpu c) refl
 replayed position (turned.Step cpu ∷ rest) core a p pasts s k all =
     stepped_then position rest (λ core' a' p' pasts' s' k'. replayed (position + 1) rest core' a' p' pasts' s' k' all.1) core a p pasts s k cpu
@@ -161,6 +168,7 @@ opening_stops u words nr online labels w = record {
   where
     none_some : (j : ℕ) → None ≡ Some j → ⊥
     none_some j e = absurd cc
+
     three : {n : ℕ} → n ≡ 0 → n ≡ 3 → ⊥
     three e f = absurd (omega arith)
 
@@ -182,7 +190,8 @@ replays_are_accepted nr online labels commands core steps stopped u words whole 
       apart = λ cpu. inl (ap (λ (c : ControlValue). c.stage) (outside_at cpu));
     } in
     let one = replayed 0 commands first no_calls no_stops all_fresh (opening u words) begun fits in
-    let done : ReplayedAll no_calls all_fresh (opening u words) made = subst (λ (r : Replay). ReplayedAll no_calls all_fresh (opening u words) r) (sym is_replay) one in
+    let done : ReplayedAll no_calls all_fresh (opening u words) made = subst (λ (r : Replay). ReplayedAll no_calls all_fresh (opening u words) r)
+    (sym is_replay) one in
     record {
       end = done.t;
       run = done.run;

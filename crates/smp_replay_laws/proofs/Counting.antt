@@ -30,7 +30,13 @@ pub record IsFirst (passes : ℕ → Bool) (c n : ℕ) : Type 0 where
 first_by : (passes : ℕ → Bool) (c n : ℕ) (b : Bool) → passes c ≡ b → (b ≡ false → IsFirst passes (c + 1) n) → IsFirst passes c (suc n)
 unfolding first_from
 first_by passes c n true e rest = record { first = c; is = rw e refl; below = omega arith; passed = e }
-first_by passes c n false e rest = let r = rest refl in record { first = r.first; is = rw e r.is; below = let l = r.below in omega (arith, l); passed = r.passed }
+first_by passes c n false e rest = let r = rest refl in record {
+  first = r.first;
+  is = rw e r.is;
+  below = let l = r.below in omega
+      (arith, l);
+  passed = r.passed;
+}
 
 pub first_some : (passes : ℕ → Bool) (c n k : ℕ) → c ≤ k → k < c + n → passes k ≡ true → IsFirst passes c n
 first_some passes c zero k l m e = absurd (omega arith)
@@ -75,13 +81,15 @@ module _ (told : ToldStop) (standing : ℕ → Standing) (me p : ℕ) (size : le
   punctual : count_behind cpus p (put standing me (Inside p p)) ≡ 0 → (c : ℕ) → c < cpus → (b : Bool) → has told.task.mask c ≡ b → is_late c ≡ false
   punctual none c l false e = and_left (has told.task.mask c) _ e
   punctual none c l true e = elim (cases_eq c me) [
-    | inl same ↦ and_right (has told.task.mask c) _ (le-ltb _ p (subst (λ (n : ℕ). p ≤ acked_by (record told { acked = slice_set told.acked me p }) n) (sym same) (omega (arith, mine_acked))))
+    | inl same ↦ and_right (has told.task.mask c) _ (le-ltb _ p (subst (λ (n : ℕ). p ≤ acked_by (record told { acked = slice_set told.acked me p }) n)
+        (sym same) (omega (arith, mine_acked))))
     | inr ne ↦
-      let z = sum_zero (λ k. behind p (put standing me (Inside p p) k)) cpus none c l in
-      let done : acked (standing c) ≡ p = has_acknowledged p (standing c) (mask c ∙ e) (subst (λ (x : Standing). behind p x ≡ 0) (put_other standing me (Inside p p) c ne) z) in
-      let a = members c l in
-      let o = other_acked c ne in
-      and_right (has told.task.mask c) _ (le-ltb _ p (omega (arith, o, a, done)))
+        let z = sum_zero (λ k. behind p (put standing me (Inside p p) k)) cpus none c l in
+        let done : acked (standing c) ≡ p = has_acknowledged p (standing c) (mask c ∙ e) (subst (λ (x : Standing). behind p x ≡ 0)
+        (put_other standing me (Inside p p) c ne) z) in
+        let a = members c l in
+        let o = other_acked c ne in
+        and_right (has told.task.mask c) _ (le-ltb _ p (omega (arith, o, a, done)))
   ]
 
   pub none_late : count_behind cpus p (put standing me (Inside p p)) ≡ 0 → late (record told { acked = slice_set told.acked me p }) p ≡ None

@@ -12,7 +12,8 @@ use Rattle.smp_event_steps.specs.declared.call.Progress.TheVariants.{Unlocked, R
 use Rattle.smp_event_steps.specs.declared.reason.Reason.{Reason}
 use Rattle.smp_event_steps.specs.declared.without.Without.{Without}
 use Rattle.smp_event_steps.specs.Calls.{accept_by, begin_by, end_by, idle_by, joined, moved, queue_by, send_by, take_by, unlock_by}
-use Rattle.smp_event_steps.specs.Cpu.{CpuState, accepted, as_idle, at_call, begun, counted, ended, handles_nothing, interrupted, left_batch, may_take, sent, taken, unlocked}
+use Rattle.smp_event_steps.specs.Cpu.{CpuState, accepted, as_idle, at_call, begun, counted, ended, handles_nothing, interrupted, left_batch, may_take}
+use Rattle.smp_event_steps.specs.Cpu.{sent, taken, unlocked}
 use Rattle.smp_event_steps.specs.State.{StateValue, cpu_at, freed, place_at, with_cpu, with_place}
 use Rattle.smp_replay_laws.specs.Follows.{nothing_left_out}
 use Rattle.smp_replay_laws.proofs.States.{cpu_here}

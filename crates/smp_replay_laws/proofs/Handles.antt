@@ -27,10 +27,12 @@ use Rattle.smp_events.specs.Past.{past_at}
 use Rattle.smp_events.specs.Told.{of_intr}
 use Rattle.smp_events.specs.declared.past.Past.{Past}
 use Rattle.smp_replay_laws.specs.Follows.{BegunIs, Follows}
-use Rattle.smp_replay_laws.proofs.Accepts.{Reaches, accepts_told, begins_async_told, begins_sync_told, by, ends_async_told, ends_sync_told, id_told, idles_told, loads, rests_told, still, takes_told, unlocks_told}
+use Rattle.smp_replay_laws.proofs.Accepts.{Reaches, accepts_told, begins_async_told, begins_sync_told, by, ends_async_told, ends_sync_told, id_told}
+use Rattle.smp_replay_laws.proofs.Accepts.{idles_told, loads, rests_told, still, takes_told, unlocks_told}
 use Rattle.smp_replay_laws.proofs.Posts.{Accepted, links_quiet}
 
-module _ (online : ℕ) (a : CallState) (at : Word → ℕ) (control : ℕ → ControlValue) (shown : Shows a at control) (me : ℕ) (below : me < cpus) (pasts : List Past)
+module _ (online : ℕ) (a : CallState) (at : Word → ℕ) (control : ℕ → ControlValue) (shown : Shows a at control) (me : ℕ) (below : me < cpus)
+    (pasts : List Past)
     (s : StateValue) (f : Follows online a s) (on : (cpu_at s me).irq ≡ true) (begun : BegunIs (a.running me) (past_at pasts me)) where
   abbrev Made : HandleStage → Type 0
   Made stage = Accepted online a at control shown me below pasts s f (Handle stage)
@@ -43,7 +45,8 @@ module _ (online : ℕ) (a : CallState) (at : Word → ℕ) (control : ℕ → C
 
   -- an interrupt is taken where one is pending
   takes_interrupt : (pending : Bool) (n : ℕ) → a.pending me ≡ pending → n ≡ bit pending → a.running me ≡ Nothing → a.batch me ≡ [] → a.accepted me ≡ false
-      → Reaches online (accepts a me) s (by me (of_intr me act.Swap (record { cpu = me; act = act.Swap; word = Intr me; found = Some n; put = Some 0; note = None })))
+      → Reaches online (accepts a me) s (by me (of_intr me act.Swap
+      (record { cpu = me; act = act.Swap; word = Intr me; found = Some n; put = Some 0; note = None })))
   takes_interrupt true n e is r b x = rw is (accepts_told online a s f me below (rests_told online a s f me below r b x on) e)
   takes_interrupt false n e is r b x = rw is (idles_told online a s f me below (rests_told online a s f me below r b x on) e)
 
@@ -90,14 +93,16 @@ module _ (online : ℕ) (a : CallState) (at : Word → ℕ) (control : ℕ → C
 
   runs_below : (call : Call) (r : Running) → r ≡ CountedCall call → AllByRecursion (IsPlaced a.place (machine.Running me)) (locked_by r) → call.id < records
   runs_below call r e all =
-      let x : AllByRecursion (IsPlaced a.place (machine.Running me)) (call ∷ []) = subst (λ (q : Running). AllByRecursion (IsPlaced a.place (machine.Running me)) (locked_by q)) e all in
+      let x : AllByRecursion (IsPlaced a.place (machine.Running me)) (call ∷ []) = subst (λ (q : Running). AllByRecursion (IsPlaced a.place
+      (machine.Running me)) (locked_by q)) e all in
       x.0.is_call.in_range
 
   sync_unlocks : (walk : Walk) (call : Call) (next : Option ℕ) → At (handle.EndSync walk call next) → Made (handle.EndSync walk call next)
   sync_unlocks walk call next e =
       let k = stands_at me shown (handle.EndSync walk call next) e in
       let l : call.id < records = runs_below call (a.running me) k.1.1.running_is (shown.placed.runs me) in
-      rw (id_told call.id l, holds_nothing me shown (handle.EndSync walk call next) e, k.1.1.running_is) (unlocks_told online a s f me below call k.1.1.running_is l)
+      rw (id_told call.id l, holds_nothing me shown (handle.EndSync walk call next) e, k.1.1.running_is)
+      (unlocks_told online a s f me below call k.1.1.running_is l)
 
   pub handles_step : (stage : HandleStage) → At stage → Made stage
   handles_step handle.Enter e = still online a s f

@@ -25,3 +25,6 @@ pub mod StopNudges
 pub mod StopAll
 pub mod Wholes
 pub mod AllReplays
+pub mod PastKept
+pub mod StopBegins
+pub mod StopAcked

@@ -1,5 +1,6 @@
 -- What a CPU has kept of its steps, after one more.
-use Rattle.std.proofs.Common.{◌≡◌, ◌≢◌, ℕ, ◌+◌, ◌-◌, ◌<◌, ◌%◌, nat_lt, Bool, true, false, cond, List, Option, Some, None, length, length-set, refl, ap, sym, ◌∙◌, subst, inl, inr, arith}
+use Rattle.std.proofs.Common.{◌≡◌, ◌≢◌, ℕ, ◌+◌, ◌-◌, ◌<◌, ◌%◌, nat_lt, Bool, true, false, cond, List, Option, Some, None, length, length-set, refl}
+use Rattle.std.proofs.Common.{ap, sym, ◌∙◌, subst, inl, inr, arith}
 use Rattle.std.proofs.lemmas.Bool.{cases_eq, eq-eqb, lt-ltb}
 use Rattle.std.proofs.lemmas.List.{get_or-set_same, get_or-set_other}
 use Rattle.std.specs.Prelude.{◌==◌, slice_set}
@@ -90,7 +91,8 @@ post_exchange true c q link tries n p k = tt
 post_exchange false true q link tries n p k = k
 post_exchange false false q link tries n p k = k
 
-post_accept : (b : Bool) (x y : HandleStage) (p : Posted) → PostIs (cond {A = Outcome} b (record { next = Some (Handle x); note = None }) (record { next = Some (Handle y); note = None })).next p
+post_accept : (b : Bool) (x y : HandleStage) (p : Posted) → PostIs (cond {A = Outcome} b (record { next = Some (Handle x); note = None })
+    (record { next = Some (Handle y); note = None })).next p
 post_accept true x y p = tt
 post_accept false x y p = tt
 
@@ -123,15 +125,24 @@ module _ (a : CallState) (at : Word → ℕ) (control : ℕ → ControlValue) (s
   runs_on b q same e = subst (λ (r : ℕ → Running). BegunIs (r me) q) (sym same) (begun_same (a.running me) p q e begun)
 
   posts_on : (q : Posting) (stage : PostStage) → (control me).stage ≡ Some (Post q stage) → Mine (Post q stage)
-  posts_on q post.LoadFlags e =
-      (runs_on (tells a (SeenAt (Post q post.LoadFlags))) p (runs_confirms a me (at (Flags q.id) % 2 == 1) q.id) refl, post_flags (at (Flags q.id) % 2 == 1) q.is_online q p.post)
-  posts_on q post.Lock e =
-      (runs_on (tells a (SeenAt (Post q post.Lock))) (after p (SeenAt (Post q post.Lock))) (runs_lock q.class) (past_lock p q.id q.class), past_class p q.id q.class)
+  posts_on q post.LoadFlags e = (
+    runs_on (tells a (SeenAt (Post q post.LoadFlags))) p (runs_confirms a me (at (Flags q.id) % 2 == 1) q.id) refl,
+    post_flags (at
+        (Flags q.id) % 2 == 1) q.is_online q p.post,
+  )
+  posts_on q post.Lock e = (
+    runs_on (tells a (SeenAt (Post q post.Lock))) (after p (SeenAt (Post q post.Lock))) (runs_lock q.class)
+        (past_lock p q.id q.class),
+    past_class p q.id q.class,
+  )
     where
       runs_lock : (class : Class) → (flags_told a me q.id act.Store None (Some (flags_of class))).running ≡ a.running
       runs_lock Sync = refl
       runs_lock Async = refl
-  posts_on q post.StoreFunc e = (runs_on (tells a (SeenAt (Post q post.StoreFunc))) (after p (SeenAt (Post q post.StoreFunc))) refl refl, (posted_at q post.StoreFunc e, refl))
+  posts_on q post.StoreFunc e = (
+    runs_on (tells a (SeenAt (Post q post.StoreFunc))) (after p (SeenAt (Post q post.StoreFunc))) refl refl,
+    (posted_at q post.StoreFunc e, refl),
+  )
   posts_on q post.StoreInfo e =
       let k = posted_at q post.StoreInfo e in
       (runs_on (tells a (SeenAt (Post q post.StoreInfo))) (after p (SeenAt (Post q post.StoreInfo))) refl refl, (k.0, (k.1, refl)))
@@ -167,7 +178,8 @@ module _ (a : CallState) (at : Word → ℕ) (control : ℕ → ControlValue) (s
   async_begins call next e =
       let k = stands_at me shown (handle.BeginAsync call next) e in
       let all = ends_front In k.1.1 (shown.placed.batched me) in
-      rw (holds_nothing me shown (handle.BeginAsync call next) e, k.1.1.running_is, k.1.1.batch, eq-eqb me me refl) (id_told call.id all.0.is_call.in_range, tt)
+      rw (holds_nothing me shown (handle.BeginAsync call next) e, k.1.1.running_is, k.1.1.batch, eq-eqb me me refl)
+      (id_told call.id all.0.is_call.in_range, tt)
 
   -- it is counted, and ends
   sync_counts : (walk : Walk) (call : Call) (next : Option ℕ) → At (handle.CountSync walk call next) → Mine (Handle (handle.CountSync walk call next))

@@ -58,11 +58,13 @@ module _ (online : ℕ) (a : CallState) (s : StateValue) (f : Follows online a s
   exchange : (h : Holding) (to : ℕ) (past : Past) (won : Bool) → me < cpus → a.held me ≡ Some h
       → past.post.class ≡ h.call.class → past.post.func ≡ h.call.func → past.post.info ≡ h.call.info → h.call.id < records
       → Reaches online (appended a me to (Some h)) s (by me (of_head past to act.Cas (Some (h.call.id + 1))))
-      → Reaches online (head_told a me to act.Cas (cond won (Some (h.call.id + 1)) None)) s (by me (of_head past to act.Cas (cond won (Some (h.call.id + 1)) None)))
+      → Reaches online (head_told a me to act.Cas (cond won (Some (h.call.id + 1)) None)) s (by me (of_head past to act.Cas (cond won (Some
+      (h.call.id + 1)) None)))
   exchange h to past true below held class func info l done = rw held done
   exchange h to past false below held class func info l done = still online a s f
 
-module _ (online : ℕ) (a : CallState) (at : Word → ℕ) (control : ℕ → ControlValue) (shown : Shows a at control) (me : ℕ) (below : me < cpus) (pasts : List Past)
+module _ (online : ℕ) (a : CallState) (at : Word → ℕ) (control : ℕ → ControlValue) (shown : Shows a at control) (me : ℕ) (below : me < cpus)
+    (pasts : List Past)
     (s : StateValue) (f : Follows online a s) where
   -- the events that the step of this stage tells lead to a state that stands as the calls that it tells
   abbrev pub Accepted : Stage → Type 0

@@ -1,5 +1,6 @@
 -- A CPU takes its queue: the order of its batch, and where its records are.
-use Rattle.std.proofs.Common.{◌≡◌, ◌≢◌, ℕ, ◌<◌, Bool, true, false, ◌||◌, cond, List, [], ◌∷◌, ◌++◌, map, length, length-set, refl, ap, sym, ◌∙◌, subst, inl, inr, arith}
+use Rattle.std.proofs.Common.{◌≡◌, ◌≢◌, ℕ, ◌<◌, Bool, true, false, ◌||◌, cond, List, [], ◌∷◌, ◌++◌, map, length, length-set, refl, ap, sym, ◌∙◌}
+use Rattle.std.proofs.Common.{subst, inl, inr, arith}
 use Rattle.std.proofs.lemmas.List.{get_or-set_same, get_or-set_other, map-append}
 use Rattle.std.proofs.lemmas.Bool.{eq-eqb, ne_eqb}
 use Rattle.std.specs.Prelude.{slice_index_or, slice_set, ◌==◌}
@@ -23,8 +24,10 @@ use Rattle.smp_event_steps.specs.Cpu.{is_class, of_class, order}
 use Rattle.smp_replay_laws.specs.Follows.{place_of, told_call}
 
 -- the calls of a class
-sync_more : (class : Class) (call : MachineCall) → call.class ≡ class → (rest : List MachineCall) → map told_call (sync_calls rest) ≡ of_class Sync (map told_call rest)
-    → map told_call (if_sync class call ++ sync_calls rest) ≡ cond (is_class Sync class) (told_call call ∷ of_class Sync (map told_call rest)) (of_class Sync (map told_call rest))
+sync_more : (class : Class) (call : MachineCall) → call.class ≡ class → (rest : List MachineCall) → map told_call (sync_calls rest) ≡ of_class Sync
+    (map told_call rest)
+    → map told_call (if_sync class call ++ sync_calls rest) ≡ cond (is_class Sync class) (told_call call ∷ of_class Sync (map told_call rest))
+    (of_class Sync (map told_call rest))
 sync_more Sync call e rest same = ap (λ xs. told_call call ∷ xs) same
 sync_more Async call e rest same = same
 
@@ -32,8 +35,10 @@ syncs_told : (calls : List MachineCall) → map told_call (sync_calls calls) ≡
 syncs_told [] = refl
 syncs_told (call ∷ rest) = sync_more call.class call refl rest (syncs_told rest)
 
-async_more : (class : Class) (call : MachineCall) → call.class ≡ class → (rest : List MachineCall) → map told_call (async_calls rest) ≡ of_class Async (map told_call rest)
-    → map told_call (if_async class call ++ async_calls rest) ≡ cond (is_class Async class) (told_call call ∷ of_class Async (map told_call rest)) (of_class Async (map told_call rest))
+async_more : (class : Class) (call : MachineCall) → call.class ≡ class → (rest : List MachineCall) → map told_call (async_calls rest) ≡ of_class Async
+    (map told_call rest)
+    → map told_call (if_async class call ++ async_calls rest) ≡ cond (is_class Async class) (told_call call ∷ of_class Async (map told_call rest))
+    (of_class Async (map told_call rest))
 async_more Sync call e rest same = same
 async_more Async call e rest same = ap (λ xs. told_call call ∷ xs) same
 
@@ -74,7 +79,8 @@ length-placed p [] places = refl
 length-placed p (x ∷ xs) places = length-placed p xs (slice_set places x.id p) ∙ length-set places x.id p
 
 -- the record of a call that is placed is there
-pub record_there : (places : ℕ → RecPlace) (at : RecPlace) (id : ℕ) (calls : List MachineCall) → AllByRecursion (IsPlaced places at) calls → HasRecord id calls → places id ≡ at
+pub record_there : (places : ℕ → RecPlace) (at : RecPlace) (id : ℕ) (calls : List MachineCall) → AllByRecursion (IsPlaced places at) calls
+    → HasRecord id calls → places id ≡ at
 record_there places at id [] all has = absurd has
 record_there places at id (call ∷ rest) all (inl e) = subst (λ (n : ℕ). places n ≡ at) e all.0.placed
 record_there places at id (call ∷ rest) all (inr has) = record_there places at id rest all.1 has

@@ -1,5 +1,6 @@
 -- The events of calls of a replay are accepted.
-use Rattle.std.proofs.Common.{◌≡◌, ◌≢◌, ℕ, ◌+◌, ◌-◌, ◌<◌, nat_lt, Bool, true, false, ◌==◌, cond, List, [], ◌∷◌, ◌++◌, replicate, Option, Some, None, Err, length, length-set, true≢false, ◌%◌, refl, ap, sym, ◌∙◌, subst, inl, inr, arith}
+use Rattle.std.proofs.Common.{◌≡◌, ◌≢◌, ℕ, ◌+◌, ◌-◌, ◌<◌, nat_lt, Bool, true, false, ◌==◌, cond, List, [], ◌∷◌, ◌++◌, replicate, Option, Some, None}
+use Rattle.std.proofs.Common.{Err, length, length-set, true≢false, ◌%◌, refl, ap, sym, ◌∙◌, subst, inl, inr, arith}
 use Rattle.std.proofs.lemmas.Bool.{cases_eq, eqb-false}
 use Rattle.std.proofs.lemmas.List.{get_or-replicate, length-replicate}
 use Rattle.std.proofs.lemmas.List.Elements.{filter-append}
@@ -65,7 +66,8 @@ use Rattle.smp_events.specs.declared.past.Post.{Post as Posted}
 use Rattle.smp_replay_laws.specs.Accepted.{CallsOfReplaysAreAccepted, Fits, call_events, is_of_call}
 use Rattle.smp_replay_laws.specs.Follows.{Follows, GoesElsewhere, KeepsPast, PostIs, calls_in, nothing_left_out}
 use Rattle.smp_replay_laws.proofs.Accepts.{Reaches}
-use Rattle.smp_replay_laws.proofs.Halves.{KeepsCalls, is_call_word, all_calls, call_word, no_calls as none_of_calls, stop_keeps, stop_tells, stop_word}
+use Rattle.smp_replay_laws.proofs.Halves.{is_call_word, all_calls, call_word, no_calls as none_of_calls, stop_tells, stop_word}
+use Rattle.smp_replay_laws.proofs.PastKept.{KeepsCalls, stop_keeps}
 use Rattle.smp_replay_laws.proofs.Handles.{handles_step}
 use Rattle.smp_replay_laws.proofs.Pasts.{begun_same, keeps_past, past_else, past_here}
 use Rattle.smp_replay_laws.proofs.Posts.{Accepted, looks_step, posts_step, sends_step}
@@ -165,9 +167,11 @@ module _ (core : CoreValue) (a : CallState) (pasts : List Past) (s : StateValue)
         → PostIs (Some x) (past_at pasts cpu).post → Goes x
     step_accepted (Send to) f on ne p = sends_step core.online a (number_in core.words) (control_of core.controls) k.shown cpu below pasts s k.follows to f on
     step_accepted (Done id) f on ne p = looks_step core.online a (number_in core.words) (control_of core.controls) k.shown cpu below pasts s k.follows id f
-    step_accepted (Post q x) f on ne p = posts_step core.online a (number_in core.words) (control_of core.controls) k.shown cpu below pasts s k.follows q x f on ne p
+    step_accepted (Post q x) f on ne p = posts_step core.online a (number_in core.words)
+        (control_of core.controls) k.shown cpu below pasts s k.follows q x f on ne p
     step_accepted (Handle x) f on ne p =
-        handles_step core.online a (number_in core.words) (control_of core.controls) k.shown cpu below pasts s k.follows (k.irq cpu below) (k.keeps.begun cpu below) x f
+        handles_step core.online a (number_in core.words) (control_of core.controls) k.shown cpu below pasts s k.follows (k.irq cpu below)
+        (k.keeps.begun cpu below) x f
 
     pub reached : Reaches core.online (tells a (seen_at core cpu stage)) s (events_of_step pasts (seen_at core cpu stage))
     reached = step_accepted stage e aims away posted
@@ -190,7 +194,8 @@ module _ (core : CoreValue) (a : CallState) (pasts : List Past) (s : StateValue)
               record { at_stage = e; is_access = refl; is_found = refl; is_words = refl; is_control = refl; is_seen = refl }
               k.whole.sound.table.words_sized sized k.shown;
           follows = reached.follows;
-          keeps = subst (λ (f : ℕ → ControlValue). KeepsPast (tells a (seen_at core cpu stage)) f (kept pasts (seen_at core cpu stage))) (sym by_name) (keeps_past a (number_in core.words) (control_of core.controls) k.shown cpu pasts below k.keeps stage e);
+          keeps = subst (λ (f : ℕ → ControlValue). KeepsPast (tells a (seen_at core cpu stage)) f (kept pasts (seen_at core cpu stage))) (sym by_name)
+              (keeps_past a (number_in core.words) (control_of core.controls) k.shown cpu pasts below k.keeps stage e);
           irq = λ c l. reached.leaves.irq c ∙ k.irq c l;
           elsewhere = subst (λ (f : ℕ → ControlValue). (j : ℕ) → GoesElsewhere (f j).stage j) (sym by_name)
               (put_all (λ j x. GoesElsewhere x.stage j) (control_of core.controls) cpu next
@@ -215,7 +220,8 @@ module _ (core : CoreValue) (a : CallState) (pasts : List Past) (s : StateValue)
     -- what each CPU has kept of the calls is the same
     kept_here : (c : ℕ) → c < cpus → KeepsCalls (past_at pasts c) (past_at (kept pasts seen) c)
     kept_here c l = elim (cases_eq c cpu) [
-      | inl e ↦ rw (e, past_here pasts cpu (after (past_at pasts cpu) seen) k.keeps.pasts_are (subst (λ (n : ℕ). n < cpus) e l)) (stop_keeps (past_at pasts cpu) seen is_stop)
+      | inl e ↦ rw (e, past_here pasts cpu (after (past_at pasts cpu) seen) k.keeps.pasts_are (subst (λ (n : ℕ). n < cpus) e l)) (stop_keeps
+          (past_at pasts cpu) seen is_stop)
       | inr ne ↦ rw (past_else pasts cpu (after (past_at pasts cpu) seen) c ne) (record { begun = refl; post = refl })
     ]
 
@@ -242,7 +248,8 @@ module _ (core : CoreValue) (a : CallState) (pasts : List Past) (s : StateValue)
       let m = may_start core cpu c e in
       let low = start_below core cpu c k.whole.sound.limits e in
       let first = control_at (control_of core.controls cpu) (first_stage core.online cpu c) in
-      let by_name : control_of (slice_set core.controls cpu first) ≡ put (control_of core.controls) cpu first = controls_by_cpu core.controls cpu first sized low in
+      let by_name : control_of (slice_set core.controls cpu first) ≡ put
+      (control_of core.controls) cpu first = controls_by_cpu core.controls cpu first sized low in
       record {
         whole = start_whole core cpu k.whole c fits e;
         shown = started_shown a core cpu c k.whole.sound.limits sized e fits k.shown;
@@ -285,21 +292,26 @@ refused core a pasts s position why rest k = record { t = s; kept_then = pasts; 
 
 -- what follows of the rest, from any core
 abbrev Rest : ℕ → List Turned → Type 0
-Rest position rest = (core : CoreValue) (a : CallState) (pasts : List Past) (s : StateValue) → Stands core a pasts s → Replayed a pasts s (replay_from position core rest)
+Rest position rest = (core : CoreValue) (a : CallState) (pasts : List Past) (s : StateValue) → Stands core a pasts s
+    → Replayed a pasts s (replay_from position core rest)
 
 -- after a command, by whether it may begin
-started_then : (position : ℕ) (rest : List Turned) → Rest (position + 1) rest → (core : CoreValue) (a : CallState) (pasts : List Past) (s : StateValue) → Stands core a pasts s
+started_then : (position : ℕ) (rest : List Turned) → Rest (position + 1) rest → (core : CoreValue) (a : CallState) (pasts : List Past) (s : StateValue)
+    → Stands core a pasts s
     → (cpu : ℕ) (c : Command) → FitsCommand c → (r : Option SmpError) → refusal_of core cpu c ≡ r
-    → let turn = start_turn core (started core cpu c) r in Replayed a pasts s (replay_on position turn.core turn.answer (replay_from (position + 1) turn.core rest))
+    → let turn = start_turn core (started core cpu c) r in Replayed a pasts s (replay_on position turn.core turn.answer (replay_from
+    (position + 1) turn.core rest))
 started_then position rest on core a pasts s k cpu c fits (Some why) e = refused core a pasts s position why (replay_from (position + 1) core rest) k
 started_then position rest on core a pasts s k cpu c fits None e =
     let next = on (started core cpu c) a pasts s (start_stands core a pasts s k cpu c fits e) in
     record { t = next.t; kept_then = next.kept_then; run = next.run; stands = next.stands }
 
 -- after a step, by where the CPU is
-stepped_then : (position : ℕ) (rest : List Turned) → Rest (position + 1) rest → (core : CoreValue) (a : CallState) (pasts : List Past) (s : StateValue) → Stands core a pasts s
+stepped_then : (position : ℕ) (rest : List Turned) → Rest (position + 1) rest → (core : CoreValue) (a : CallState) (pasts : List Past) (s : StateValue)
+    → Stands core a pasts s
     → (cpu : ℕ) (x : Option Stage) (y : Option StopStage) → (control_of core.controls cpu).stage ≡ x → (stop_control_of core.stops.controls cpu).stage ≡ y
-    → let turn = step_turn core (step_at core cpu x y) in Replayed a pasts s (replay_on position turn.core turn.answer (replay_from (position + 1) turn.core rest))
+    → let turn = step_turn core (step_at core cpu x y) in Replayed a pasts s (replay_on position turn.core turn.answer (replay_from
+    (position + 1) turn.core rest))
 stepped_then position rest on core a pasts s k cpu None None e f = refused core a pasts s position error.IdleStep (replay_from (position + 1) core rest) k
 stepped_then position rest on core a pasts s k cpu (Some stage) y e f =
     let seen = seen_at core cpu stage in
@@ -316,7 +328,8 @@ pub replayed : (position : ℕ) (commands : List Turned) (core : CoreValue) (a :
     → AllByRecursion Fits commands → Replayed a pasts s (replay_from position core commands)
 replayed position [] core a pasts s k all = record { t = s; kept_then = pasts; run = refl; stands = k }
 replayed position (turned.Start cpu c ∷ rest) core a pasts s k all =
-    started_then position rest (λ core' a' pasts' s' k'. replayed (position + 1) rest core' a' pasts' s' k' all.1) core a pasts s k cpu c all.0 (refusal_of core cpu c) refl
+    started_then position rest (λ core' a' pasts' s' k'. replayed (position + 1) rest core' a' pasts' s' k' all.1) core a pasts s k cpu c all.0
+    (refusal_of core cpu c) refl
 replayed position (turned.Step cpu ∷ rest) core a pasts s k all =
     stepped_then position rest (λ core' a' pasts' s' k'. replayed (position + 1) rest core' a' pasts' s' k' all.1) core a pasts s k cpu
     (control_of core.controls cpu).stage (stop_control_of core.stops.controls cpu).stage refl refl
@@ -331,7 +344,8 @@ length-free : (n : ℕ) → length (places_free n) ≡ n
 unfolding places_free
 length-free n = length-replicate n Free
 
-opening_follows : (u : Setting) (words : LabelWords) (online : ℕ) → u.online ≡ online → u.without ≡ nothing_left_out → Follows online no_calls (opening u words)
+opening_follows : (u : Setting) (words : LabelWords) (online : ℕ) → u.online ≡ online → u.without ≡ nothing_left_out
+    → Follows online no_calls (opening u words)
 unfolding opening
 opening_follows u words online e w = record {
   whole = w;
@@ -349,7 +363,8 @@ opening_irq u words cpu l = ap (λ (c : CpuState). c.irq) (get_or-replicate 32 c
 outside_at : (cpu : ℕ) → control_of (replicate cpus outside) cpu ≡ outside
 outside_at cpu = get_or-same outside cpus cpu
 
-pub new_stands : (nr online : ℕ) (labels : Labels) (u : Setting) (words : LabelWords) → IsWhole (new_core nr online labels) → u.online ≡ online → u.without ≡ nothing_left_out
+pub new_stands : (nr online : ℕ) (labels : Labels) (u : Setting) (words : LabelWords) → IsWhole (new_core nr online labels) → u.online ≡ online
+    → u.without ≡ nothing_left_out
     → Stands (new_core nr online labels) no_calls all_fresh (opening u words)
 new_stands nr online labels u words whole e w = record {
   whole = whole;
@@ -369,5 +384,6 @@ calls_of_replays_are_accepted nr online labels commands core steps stopped u wor
     let first = new_core nr online labels in
     let made : Replay = replay_made core steps stopped in
     let one = replayed 0 commands first no_calls all_fresh (opening u words) (new_stands nr online labels u words whole is_of.online is_of.whole) fits in
-    let done : Replayed no_calls all_fresh (opening u words) made = subst (λ (r : Replay). Replayed no_calls all_fresh (opening u words) r) (sym is_replay) one in
+    let done : Replayed no_calls all_fresh (opening u words) made = subst (λ (r : Replay). Replayed no_calls all_fresh (opening u words) r)
+    (sym is_replay) one in
     record { end = done.t; run = done.run; shown = done.stands.shown; follows = done.stands.follows }

@@ -1,5 +1,6 @@
 -- The event of an acknowledgement: who is the last.
-use Rattle.std.proofs.Common.{◌≡◌, ◌≢◌, ℕ, ◌+◌, ◌<◌, Bool, true, false, ◌&&◌, cond, List, length, Option, Some, None, Ok, refl, ap, sym, ◌∙◌, subst, inl, inr, arith}
+use Rattle.std.proofs.Common.{◌≡◌, ◌≢◌, ℕ, ◌+◌, ◌<◌, Bool, true, false, ◌&&◌, cond, List, length, Option, Some, None, Ok, refl, ap, sym, ◌∙◌, subst}
+use Rattle.std.proofs.Common.{inl, inr, arith}
 use Rattle.std.proofs.lemmas.Bool.{cases_eq, ne_eqb, and_parts, eqb-true, eqb-false}
 use Rattle.std.specs.Prelude.{slice_set, ◌==◌}
 use Rattle.smp_mask.specs.Mask.{has}
@@ -42,7 +43,8 @@ use Rattle.smp_replay_laws.proofs.StopEvents.{acks_disabled, acks_other, acks_ru
 use Rattle.smp_replay_laws.proofs.StopKinds.{Goes}
 use Rattle.smp_replay_laws.proofs.StopSteps.{ReachesStops}
 
-module _ (u : Setup) (p : StopState) (at at' : Word → ℕ) (seat : ℕ → Seat) (source : ℕ → Source) (h : StopShows u p at seat source) (me : ℕ) (below : me < cpus)
+module _ (u : Setup) (p : StopState) (at at' : Word → ℕ) (seat : ℕ → Seat) (source : ℕ → Source) (h : StopShows u p at seat source) (me : ℕ)
+    (below : me < cpus)
     (pasts : List Past) (sized : length pasts ≡ 32) (s : StateValue) (whole : s.setting.without ≡ nothing_left_out) (cpus_are : length s.cpus ≡ 32)
     (f : FollowsStops p at pasts s) (keys : (key : ℕ) → at' (Key key) ≡ at (Key key)) (sites : (site : ℕ) → at' (Site site) ≡ at (Site site)) where
   abbrev Is : StopState → ℕ → Stop → Option ℕ → Bool → Calling → Type 0
@@ -94,7 +96,8 @@ module _ (u : Setup) (p : StopState) (at at' : Word → ℕ) (seat : ℕ → Sea
     acks = open_shows.ack (λ z. absurd (omega (arith, phase_is)))
 
     pub nobody : (p.now.stop slot).raising ≡ Nobody
-    nobody = nobody_raises u.cpus (p.now.stop slot) (at (Slot slot field.Ack)) me a (a + 1) (p.now.stop slot).raising stood (subst (λ (n : ℕ). me < n) (sym u_is) below)
+    nobody = nobody_raises u.cpus (p.now.stop slot) (at (Slot slot field.Ack)) me a (a + 1) (p.now.stop slot).raising stood (subst (λ (n : ℕ). me < n)
+        (sym u_is) below)
         (λ e. absurd (omega (arith, phase_is))) acks
 
     counted : at (Slot slot field.Ack) ≡ count_behind u.cpus (p.now.stop slot).phase (p.now.stop slot).standing
@@ -121,16 +124,22 @@ module _ (u : Setup) (p : StopState) (at at' : Word → ℕ) (seat : ℕ → Sea
 
     -- the last is to raise the phase
     acknowledged_as : (last : Bool) → (at (Slot slot field.Ack) == 1) ≡ last → acknowledged_in me (a + 1) true (stop_at s slot)
-        ≡ record (stop_at s slot) { acked = slice_set (stop_at s slot).acked me (a + 1); raiser = raiser_of (cond last (Refills me) (p.now.stop slot).raising) }
+        ≡ record (stop_at s slot) {
+          acked = slice_set (stop_at s slot).acked me (a + 1);
+          raiser = raiser_of (cond last (Refills me)
+              (p.now.stop slot).raising);
+        }
     unfolding acknowledged_in
     acknowledged_as true e =
         let one = eqb-true (at (Slot slot field.Ack)) 1 e in
-        let none = none_late (stop_at s slot) (p.now.stop slot).standing me (a + 1) (f.stops slot i.below).sized.acked below (λ c l. (was.members c l).acked_is) mask keeps_all
+        let none = none_late (stop_at s slot) (p.now.stop slot).standing me (a + 1) (f.stops slot i.below).sized.acked below (λ c l.
+        (was.members c l).acked_is) mask keeps_all
         (at (Slot slot field.Ack)) (omega (arith, fewer, one)) in
         rw none refl
     acknowledged_as false e =
         let ne = eqb-false (at (Slot slot field.Ack)) 1 e in
-        let some = some_late (stop_at s slot) (p.now.stop slot).standing me (a + 1) (f.stops slot i.below).sized.acked below (λ c l. (was.members c l).acked_is) mask keeps_all
+        let some = some_late (stop_at s slot) (p.now.stop slot).standing me (a + 1) (f.stops slot i.below).sized.acked below (λ c l.
+        (was.members c l).acked_is) mask keeps_all
         (at (Slot slot field.Ack)) (λ z. ne (omega (arith, fewer, z))) in
         rw (some.is, nobody) (ap (λ (r : Option ℕ). record (stop_at s slot) { acked = slice_set (stop_at s slot).acked me (a + 1); raiser = r }) no_raiser)
 
@@ -153,15 +162,20 @@ module _ (u : Setup) (p : StopState) (at at' : Word → ℕ) (seat : ℕ → Sea
           | inr not_two ↦ by_run in_told kind_told low phase not_two active_told called (((a + 1) == 3) && has (stop_at s slot).task.active me) refl
         ]
       where
-        acks_two : (cpu_at s me).inside ≡ Some slot → (stop_at s slot).task.kind ≢ One → acked_by (stop_at s slot) me < 2 → (stop_at s slot).phase ≡ 2 → (cpu_at s me).irq ≡ false
+        acks_two : (cpu_at s me).inside ≡ Some slot → (stop_at s slot).task.kind ≢ One → acked_by (stop_at s slot) me < 2 → (stop_at s slot).phase ≡ 2
+            → (cpu_at s me).irq ≡ false
             → stop_goes me (stops.Ack 2) s ≡ Ok (with_stop slot s (acknowledged_in me 2 true (stop_at s slot)))
         acks_two in_told kind l two o = acks_disabled s me whole slot (omega (arith, i.below)) in_told kind l two o
-        acks_three : (cpu_at s me).inside ≡ Some slot → (stop_at s slot).task.kind ≡ Multi → (n : ℕ) → n ≡ 3 → acked_by (stop_at s slot) me < n → (stop_at s slot).phase ≡ n
+
+        acks_three : (cpu_at s me).inside ≡ Some slot → (stop_at s slot).task.kind ≡ Multi → (n : ℕ) → n ≡ 3 → acked_by (stop_at s slot) me < n
+            → (stop_at s slot).phase ≡ n
             → has_run (stop_at s slot) me ≡ true → has (stop_at s slot).task.active me ≡ true
             → stop_goes me (stops.Ack n) s ≡ Ok (with_stop slot s (acknowledged_in me n true (stop_at s slot)))
         acks_three in_told kind n three l at_three ran active =
             rw three (acks_run s me whole slot (omega (arith, i.below)) in_told kind (omega (arith, l, three)) (at_three ∙ three) ran active)
-        by_run : (cpu_at s me).inside ≡ Some slot → (stop_at s slot).task.kind ≢ One → acked_by (stop_at s slot) me < a + 1 → (stop_at s slot).phase ≡ a + 1 → (a + 1 ≡ 2 → ⊥)
+
+        by_run : (cpu_at s me).inside ≡ Some slot → (stop_at s slot).task.kind ≢ One → acked_by (stop_at s slot) me < a + 1
+            → (stop_at s slot).phase ≡ a + 1 → (a + 1 ≡ 2 → ⊥)
             → has (stop_at s slot).task.active me ≡ has (p.now.stop slot).work.active me
             → (a + 1 ≡ 3 → has (p.now.stop slot).work.active me ≡ true → ((p.now.stop slot).work.kind ≡ Multi) × (has_called (p.calling me) ≡ true))
             → (b : Bool) → (((a + 1) == 3) && has (stop_at s slot).task.active me) ≡ b
@@ -176,7 +190,9 @@ module _ (u : Setup) (p : StopState) (at at' : Word → ℕ) (seat : ℕ → Sea
 
     pub ack_made : (p.now.stop slot).work.kind ≢ One → (a + 1 ≡ 2 → p.now.irq me ≡ false)
         → (a + 1 ≡ 3 → has (p.now.stop slot).work.active me ≡ true → ((p.now.stop slot).work.kind ≡ Multi) × (has_called (p.calling me) ≡ true))
-        → goes me (event.Stop (stops.Ack (a + 1))) s ≡ Ok (with_stop slot s (record (stop_at s slot) { acked = slice_set (stop_at s slot).acked me (a + 1);
-            raiser = raiser_of (cond (at (Slot slot field.Ack) == 1) (Refills me) (p.now.stop slot).raising) }))
+        → goes me (event.Stop (stops.Ack (a + 1))) s ≡ Ok (with_stop slot s (record (stop_at s slot) {
+          acked = slice_set (stop_at s slot).acked me (a + 1);
+          raiser = raiser_of (cond (at (Slot slot field.Ack) == 1) (Refills me) (p.now.stop slot).raising);
+        }))
     ack_made kind off called = acks_as kind off called
         ∙ ap (λ (z : ToldStop). Ok (with_stop slot s z)) (acknowledged_as (at (Slot slot field.Ack) == 1) refl)

@@ -18,7 +18,8 @@ use Rattle.smp_replay_laws.proofs.StopPhases as phases
 use Rattle.smp_replay_laws.proofs.StopEnds as ends
 use Rattle.smp_replay_laws.proofs.StopNudges as nudges
 use Rattle.smp_stop_steps.specs.declared.stage.StopStage.{StopStage}
-use Rattle.smp_stop_steps.specs.declared.stage.StopStage.TheVariants.{TakeGate, OpenGate, Begin, Enter, EnterKind, EnterMask, EnterActive, ReadKey, ReadSite, NudgeKey, Advance, Complete, Close, LoadDone, LoadResult, ExchangeKey}
+use Rattle.smp_stop_steps.specs.declared.stage.StopStage.TheVariants.{TakeGate, OpenGate, Begin, Enter, EnterKind, EnterMask, EnterActive, ReadKey}
+use Rattle.smp_stop_steps.specs.declared.stage.StopStage.TheVariants.{ReadSite, NudgeKey, Advance, Complete, Close, LoadDone, LoadResult, ExchangeKey}
 use Rattle.smp_stop_steps.specs.declared.stage.Visit.{Visit}
 use Rattle.smp_event_steps.specs.Cpu.{handles_nothing}
 use Rattle.smp_event_steps.specs.State.{StateValue, cpu_at}
@@ -26,7 +27,8 @@ use Rattle.smp_events.specs.Past.{past_at}
 use Rattle.smp_events.specs.declared.past.Past.{Past}
 use Rattle.smp_replay_laws.specs.Follows.{nothing_left_out}
 use Rattle.smp_replay_laws.specs.Stops.{Drafts, FollowsStops}
-use Rattle.smp_replay_laws.proofs.StopTurns.{Made, ack_by, calling_here, irq_here, keeps_here, no_patch, not_patch, old_is, opened_here, seat_is, sits, st, then_if, told_here, words_here}
+use Rattle.smp_replay_laws.proofs.StopTurns.{Made, calling_here, irq_here, keeps_here, no_patch, not_patch, opened_here, seat_is, sits, st, then_if}
+use Rattle.smp_replay_laws.proofs.StopTurns.{told_here, words_here}
 use Rattle.smp_replay_laws.proofs.StopStages.{Accepted, at, c, else_if, loads, past, seen_so, u}
 
 module _ (v : StopsValue) (p : StopState) (shown : StopShown p v) (me : ℕ) (below : me < cpus) (pasts : List Past) (sized : length pasts ≡ 32)

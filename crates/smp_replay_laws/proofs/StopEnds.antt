@@ -1,5 +1,6 @@
 -- The step of a CPU that runs the function of a stop of kind One, completes, closes or collects is accepted.
-use Rattle.std.proofs.Common.{◌≡◌, ◌≢◌, ℕ, ◌+◌, ◌<◌, ◌^◌, true, false, List, [], ◌∷◌, length, Option, Some, None, Ok, refl, ap, sym, ◌∙◌, subst, inl, inr, ◌⊎◌, arith}
+use Rattle.std.proofs.Common.{◌≡◌, ◌≢◌, ℕ, ◌+◌, ◌<◌, ◌^◌, true, false, List, [], ◌∷◌, length, Option, Some, None, Ok, refl, ap, sym, ◌∙◌, subst, inl}
+use Rattle.std.proofs.Common.{inr, ◌⊎◌, arith}
 use Rattle.std.proofs.lemmas.Bool.{ne_eqb}
 use Rattle.std.specs.Prelude.{slice_set, pos}
 use Rattle.smp_words.specs.Access.{one_less}
@@ -19,7 +20,8 @@ use Rattle.smp_stop_steps.specs.Sits.{SitsInCompletion, SitsAt}
 use Rattle.smp_stop_steps.specs.Carries.{CarriesAt, IsEnding, IsQuiet}
 use Rattle.smp_stop_steps.specs.Stages.{StopControlValue}
 use Rattle.smp_stop_steps.specs.State.{Setup, StopState}
-use Rattle.smp_stop_steps.specs.Stop.{Standing, Inside, Answering, Completed, Raising, Nobody, Refills, Raises, Stop, closed, completed, ended, is_of, acked as acked_of, is_called, stands}
+use Rattle.smp_stop_steps.specs.Stop.{Standing, Inside, Answering, Completed, Raising, Nobody, Refills, Raises, Stop, closed, completed, ended, is_of}
+use Rattle.smp_stop_steps.specs.Stop.{acked as acked_of, is_called, stands}
 use Rattle.smp_stop_steps.specs.Table.{stop_number}
 use Rattle.smp_stop_steps.specs.Tells.{answered_by, completes, completes_with, collects, stored_shut, calls_now, may_call}
 use Rattle.smp_stop_steps.specs.Value.{StopShown, StopsValue, setup_of, stop_control_of}
@@ -94,7 +96,8 @@ module _ (v : StopsValue) (p : StopState) (shown : StopShown p v) (me : ℕ) (be
   one_acked n a l phase z (inl e) = e ∙ z
   one_acked n a l phase z (inr e) = absurd (omega arith)
 
-  pub loads_arg : (x : Visit) (answer func : ℕ) → C.stage ≡ Some (Complete x (completion.LoadArg answer func)) → Does (Complete x (completion.LoadArg answer func))
+  pub loads_arg : (x : Visit) (answer func : ℕ) → C.stage ≡ Some (Complete x (completion.LoadArg answer func))
+      → Does (Complete x (completion.LoadArg answer func))
   loads_arg x answer func e =
       let k = ends_at x (completion.LoadArg answer func) e in
       let w = k.1.0 in
@@ -108,7 +111,8 @@ module _ (v : StopsValue) (p : StopState) (shown : StopShown p v) (me : ℕ) (be
       let kind : (p.now.stop slot).work.kind ≡ One = ap (λ (z : Work). z.kind) so.3 ∙ (sym k.1.1.kind ∙ k.0) in
       let none : a ≡ 0 = one_acked 0 a a (p.now.stop slot).phase (one_phase (p.now.stop slot).work.kind (p.now.stop slot).phase kind words.kinds) keeps.1 in
       let carries : IsQuiet C.visit (p.calling me) = subst (λ (y : Option StopStage). CarriesAt C.visit y (p.calling me)) e (shown.carries me below) in
-      let still : IsQuiet (Some x) (p.calling me) = subst (λ (y : Option Visit). IsQuiet y (p.calling me)) (visit_is x (completion.LoadArg answer func) e) carries in
+      let still : IsQuiet (Some x) (p.calling me) = subst (λ (y : Option Visit). IsQuiet y (p.calling me)) (visit_is x
+      (completion.LoadArg answer func) e) carries in
       let idle = idle_of slot w x a (p.calling me) none (calling_here v p shown me below pasts sized s whole cpus_are f quiet slot a a w Rests at_seat) still in
       let found = At (Slot slot field.Arg) in
       let q = calls_now p me (p.now.stop slot).work found answer in
@@ -132,6 +136,7 @@ module _ (v : StopsValue) (p : StopState) (shown : StopShown p v) (me : ℕ) (be
     where
       may_one : (w : Work) (a : ℕ) → w.kind ≡ One → may_call me w (Inside a a) ≡ true
       may_one w a kind = rw kind refl
+
       idle_of : (slot : ℕ) (w : Work) (y : Visit) (a : ℕ) (g : Calling) → a ≡ 0 → IsCalling me (In slot w a a Rests) g → IsQuiet (Some y) g → g ≡ Idle
       idle_of slot w y a Idle none k still = refl
       idle_of slot w y a (Calls call) none k still = absurd still
@@ -151,7 +156,8 @@ module _ (v : StopsValue) (p : StopState) (shown : StopShown p v) (me : ℕ) (be
       subst (λ (z : StopState). ReachesStops z at' (slice_set pasts me new) s [])
       (sym (then_if (p.now.stop slot).is_open (q ((p.now.stop slot).standing me)) (stored_shut p slot field.Result x.answer) o))
       (subst (λ (z : Standing). ReachesStops (q z) at' (slice_set pasts me new) s []) (sym so.1)
-      (answers_step U p At at' shown.seat shown.source shown.shows me below pasts sized s whole cpus_are f (λ j. refl) (λ j. refl) slot so.0 o (q (Inside x.acked x.acked)) new
+      (answers_step U p At at' shown.seat shown.source shown.shows me below pasts sized s whole cpus_are f (λ j. refl) (λ j. refl) slot so.0 o (q
+      (Inside x.acked x.acked)) new
       x.acked x.acked x.answer so.1
       (record {
         stop_is = λ j. refl;
@@ -191,7 +197,8 @@ module _ (v : StopsValue) (p : StopState) (shown : StopShown p v) (me : ℕ) (be
     not_mine (Raises n) k = ne_eqb n me k
 
     -- of a CPU that stands so in an open stop
-    ends_so : (a answer : ℕ) (w : Work) (stood : Standing) → (p.now.stop x.slot).standing me ≡ stood → acked_of stood ≡ a → is_called stood ≡ false → is_of stood ≡ true
+    ends_so : (a answer : ℕ) (w : Work) (stood : Standing) → (p.now.stop x.slot).standing me ≡ stood → acked_of stood ≡ a → is_called stood ≡ false
+        → is_of stood ≡ true
         → (p.now.stop x.slot).work ≡ w → Old.answer ≡ as_i32 answer → ((p.now.stop x.slot).phase ≢ 0 → a ≡ 4 → p.now.irq me ≡ true)
         → ((p.now.stop x.slot).work.kind ≡ One → has_called (p.calling me) ≡ true) → (has_called (p.calling me) ≡ true) ⊎ (Old.answer ≡ pos 0)
         → ReachesStops (Q a answer) At' (slice_set pasts me Done) s (by me (told.One (event.Stop (stops.Complete Old.answer))))
@@ -201,8 +208,10 @@ module _ (v : StopsValue) (p : StopState) (shown : StopShown p v) (me : ℕ) (be
         let words = (shown.shows.present.slots slot).shows o in
         let through = sees.1 in
         let made = by_kind (p.now.stop slot).work.kind refl words.kinds o through in
-        completes_told U p At At' shown.seat shown.source shown.shows me below pasts sized s whole cpus_are f (λ j. refl) (λ j. refl) slot sees.0 o (Q a answer) Done
-        (completed (p.now.stop slot) me a answer (At (Slot slot field.Todo))) a answer (put_same (p.now.stop slot).standing me (Completed a answer)) refl refl refl refl
+        completes_told U p At At' shown.seat shown.source shown.shows me below pasts sized s whole cpus_are f (λ j. refl) (λ j. refl) slot sees.0 o
+        (Q a answer) Done
+        (completed (p.now.stop slot) me a answer (At (Slot slot field.Todo))) a answer (put_same (p.now.stop slot).standing me
+        (Completed a answer)) refl refl refl refl
         (ap acked_of is ∙ acked_is) (ap is_called is ∙ not_called) given
         (record {
           stop_is = λ j. refl;
@@ -219,22 +228,29 @@ module _ (v : StopsValue) (p : StopState) (shown : StopShown p v) (me : ℕ) (be
         made_round : (o : (p.now.stop x.slot).is_open ≡ true) → (p.now.stop x.slot).work.kind ≢ One → (p.now.stop x.slot).phase ≢ 0
             → IsThrough (p.now.stop x.slot) me (acked_of ((p.now.stop x.slot).standing me))
             → goes me (event.Stop (stops.Complete Old.answer)) s ≡ Ok (with_cpu me (with_stop x.slot s (record (stop_at s x.slot) {
-                answers = slice_set (stop_at s x.slot).answers me (Some Old.answer) })) (in_stop None (cpu_at s me)))
+              answers = slice_set (stop_at s x.slot).answers me (Some Old.answer);
+            })) (in_stop None (cpu_at s me)))
         made_round o kind phase through =
             let four : acked_of ((p.now.stop x.slot).standing me) ≡ 4 = elim through.0 [ inl k ↦ k | inr k ↦ absurd (phase k) ] in
             complete_round U p At At' shown.seat shown.source shown.shows me below pasts sized s whole cpus_are f (λ j. refl) (λ j. refl) x.slot sees.0 o kind
             (omega (arith, four)) (not_mine (p.now.stop x.slot).raising through.1) (irq phase (sym acked_is ∙ (sym (ap acked_of is) ∙ four))) round_called
-        by_kind : (k : Kind) → (p.now.stop x.slot).work.kind ≡ k → IsPhaseOf (p.now.stop x.slot).work.kind (p.now.stop x.slot).phase → (p.now.stop x.slot).is_open ≡ true
+
+        by_kind : (k : Kind) → (p.now.stop x.slot).work.kind ≡ k → IsPhaseOf (p.now.stop x.slot).work.kind (p.now.stop x.slot).phase
+            → (p.now.stop x.slot).is_open ≡ true
             → IsThrough (p.now.stop x.slot) me (acked_of ((p.now.stop x.slot).standing me))
             → goes me (event.Stop (stops.Complete Old.answer)) s ≡ Ok (with_cpu me (with_stop x.slot s (record (stop_at s x.slot) {
-                answers = slice_set (stop_at s x.slot).answers me (Some Old.answer) })) (in_stop None (cpu_at s me)))
-        by_kind One k phase o through = complete_one U p At At' shown.seat shown.source shown.shows me below pasts sized s whole cpus_are f (λ j. refl) (λ j. refl) x.slot sees.0 o
+              answers = slice_set (stop_at s x.slot).answers me (Some Old.answer);
+            })) (in_stop None (cpu_at s me)))
+        by_kind One k phase o through = complete_one U p At At' shown.seat shown.source shown.shows me below pasts sized s whole cpus_are f (λ j. refl)
+            (λ j. refl) x.slot sees.0 o
             k (one_called k)
-        by_kind Multi k phase o through = made_round o (λ one. multi_one (sym k ∙ one)) (subst (λ (z : Kind). IsPhaseOf z (p.now.stop x.slot).phase) k phase) through
+        by_kind Multi k phase o through = made_round o (λ one. multi_one (sym k ∙ one)) (subst (λ (z : Kind). IsPhaseOf z
+            (p.now.stop x.slot).phase) k phase) through
           where
             multi_one : Multi ≡ One → ⊥
             multi_one z = absurd cc
-        by_kind Patch k phase o through = made_round o (λ one. patch_one (sym k ∙ one)) (subst (λ (z : Kind). IsPhaseOf z (p.now.stop x.slot).phase) k phase) through
+        by_kind Patch k phase o through = made_round o (λ one. patch_one (sym k ∙ one)) (subst (λ (z : Kind). IsPhaseOf z
+            (p.now.stop x.slot).phase) k phase) through
           where
             patch_one : Patch ≡ One → ⊥
             patch_one z = absurd cc
@@ -249,6 +265,7 @@ module _ (v : StopsValue) (p : StopState) (shown : StopShown p v) (me : ℕ) (be
     where
       found : ℕ
       found = At (Slot x.slot field.Todo)
+
       inside_so : (w : Work) → shown.seat me ≡ In x.slot w x.acked x.acked Rests → Does (Complete x completion.CountDown)
       inside_so w at_seat =
           let slot = x.slot in
@@ -257,26 +274,31 @@ module _ (v : StopsValue) (p : StopState) (shown : StopShown p v) (me : ℕ) (be
           let words = words_here v p shown me below pasts sized s whole cpus_are f quiet slot a a w Rests at_seat in
           let keeps = keeps_here v p shown me below pasts sized s whole cpus_are f quiet slot a a w Rests at_seat in
           let zero_now : Old.answer ≡ pos 0 = subst (λ (z : Standing). AnswerIs z Old.answer) so.1 (my.stop slot so.0).answer in
-          subst (λ (z : Standing). ReachesStops (completes p me slot z (At (Slot slot field.Todo))) (put_word At (Slot slot field.Todo) (one_less (At (Slot slot field.Todo))))
+          subst (λ (z : Standing). ReachesStops (completes p me slot z (At (Slot slot field.Todo))) (put_word At (Slot slot field.Todo) (one_less (At
+          (Slot slot field.Todo))))
           (slice_set pasts me (record Old { answer = pos 0 })) s (by me (told.One (event.Stop (stops.Complete Old.answer))))) (sym so.1)
           (ends_so x e a 0 w (Inside a a) so.1 refl refl refl so.3 zero_now
           (λ phase four. irq_here v p shown me below pasts sized s whole cpus_are f quiet slot a a w Rests at_seat ∙ on_at a four)
-          (λ kind. one_called (p.calling me) (carries x e) (one_acked 0 a a (p.now.stop slot).phase (one_phase (p.now.stop slot).work.kind (p.now.stop slot).phase kind words.kinds) keeps.1))
+          (λ kind. one_called (p.calling me) (carries x e) (one_acked 0 a a (p.now.stop slot).phase (one_phase (p.now.stop slot).work.kind
+          (p.now.stop slot).phase kind words.kinds) keeps.1))
           (inr zero_now))
         where
           on_at : (n : ℕ) → n ≡ 4 → irq_of (In x.slot w n n Rests) ≡ true
           on_at n four = rw four refl
+
           one_called : (g : Calling) → IsEnding x g → x.acked ≡ 0 → has_called g ≡ true
           one_called Idle k z = absurd (omega (arith, k.0))
           one_called (Calls call) k z = refl
           one_called (Carries n) k z = refl
+
       gives_so : (w : Work) → shown.seat me ≡ Gives x.slot w x.acked x.answer → Does (Complete x completion.CountDown)
       gives_so w at_seat =
           let slot = x.slot in
           let so = seat_is v p shown me below pasts sized s whole cpus_are f quiet (Gives slot w x.acked x.answer) at_seat in
           let given = subst (λ (z : Standing). AnswerIs z Old.answer) so.1 (my.stop slot so.0).answer in
           let called = called_so (p.calling me) (subst (λ (z : Seat). IsCalling me z (p.calling me)) at_seat (shown.shows.callings me)) in
-          subst (λ (z : Standing). ReachesStops (completes p me slot z (At (Slot slot field.Todo))) (put_word At (Slot slot field.Todo) (one_less (At (Slot slot field.Todo))))
+          subst (λ (z : Standing). ReachesStops (completes p me slot z (At (Slot slot field.Todo))) (put_word At (Slot slot field.Todo) (one_less (At
+          (Slot slot field.Todo))))
           (slice_set pasts me (record Old { answer = pos 0 })) s (by me (told.One (event.Stop (stops.Complete Old.answer))))) (sym so.1)
           (ends_so x e x.acked x.answer w (Answering x.acked x.answer) so.1 refl refl refl so.3 given
           (λ phase four. shown.shows.present.irq me ∙ ap irq_of at_seat) (λ kind. called) (inl called))
@@ -293,7 +315,8 @@ module _ (v : StopsValue) (p : StopState) (shown : StopShown p v) (me : ℕ) (be
       let so = seat_is v p shown me below pasts sized s whole cpus_are f quiet (Closes slot) at_seat in
       let q : StopState = record p { now = record (p.now) { stop = put p.now.stop slot (ended (p.now.stop slot)) } } in
       let at' = put_word At (Slot slot field.Done) 1 in
-      let g : Goes U p At at' shown.seat shown.source shown.shows me below pasts sized s whole cpus_are f (λ j. refl) (λ j. refl) q slot (ended (p.now.stop slot)) None
+      let g : Goes U p At at' shown.seat shown.source shown.shows me below pasts sized s whole cpus_are f (λ j. refl) (λ j. refl) q slot (ended
+      (p.now.stop slot)) None
       (p.now.irq me) (p.calling me) = record {
         stop_is = λ j. refl;
         inside_is = so.0;
@@ -305,12 +328,16 @@ module _ (v : StopsValue) (p : StopState) (shown : StopShown p v) (me : ℕ) (be
         standing_else = λ d ne. refl;
         gate_is = refl;
       } in
-      subst (λ (z : StopState). ReachesStops z at' (slice_set pasts me Old) s []) (sym (then_if (p.now.stop slot).is_open q (stored_shut p slot field.Done 1) so.1))
-      (silent U p At at' shown.seat shown.source shown.shows me below pasts sized s whole cpus_are f (λ j. refl) (λ j. refl) q Old slot (ended (p.now.stop slot)) None
+      subst (λ (z : StopState). ReachesStops z at' (slice_set pasts me Old) s []) (sym (then_if (p.now.stop slot).is_open q
+      (stored_shut p slot field.Done 1) so.1))
+      (silent U p At at' shown.seat shown.source shown.shows me below pasts sized s whole cpus_are f (λ j. refl) (λ j. refl) q Old slot (ended
+      (p.now.stop slot)) None
       (p.now.irq me) (p.calling me) g
-      (λ l. told_still U p At at' shown.seat shown.source shown.shows me below pasts sized s whole cpus_are f (λ j. refl) (λ j. refl) (p.now.stop slot) (ended (p.now.stop slot))
+      (λ l. told_still U p At at' shown.seat shown.source shown.shows me below pasts sized s whole cpus_are f (λ j. refl) (λ j. refl) (p.now.stop slot)
+      (ended (p.now.stop slot))
       (stop_at s slot) (f.stops slot l) refl refl refl refl (λ d ne. refl) (λ o m. m))
-      (in_none U p At at' shown.seat shown.source shown.shows me below pasts sized s whole cpus_are f (λ j. refl) (λ j. refl) q s Old slot (ended (p.now.stop slot))
+      (in_none U p At at' shown.seat shown.source shown.shows me below pasts sized s whole cpus_are f (λ j. refl) (λ j. refl) q s Old slot (ended
+      (p.now.stop slot))
       (p.now.irq me) (p.calling me) g (my.inside ∙ so.0) my.irq (my.answer so.0) my.reads))
 
   -- the source collects

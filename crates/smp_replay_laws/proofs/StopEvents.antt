@@ -15,8 +15,10 @@ use Rattle.smp_event_steps.specs.declared.without.Setting.{Setting}
 use Rattle.smp_event_steps.specs.declared.without.Without.{Without}
 use Rattle.smp_event_steps.specs.Cpu.{handles_nothing}
 use Rattle.smp_event_steps.specs.State.{StateValue, cpu_at, stop_at, with_stop}
-use Rattle.smp_event_steps.specs.Stop.{acked_by, acknowledged, answer_wanted, collected, completed, entered, gives, has_run, is_called, is_cpu, is_work, may_complete, offline_in, opened, opening, raised, ran_function, unfinished, unless_offline}
-use Rattle.smp_event_steps.specs.Stops.{ack_by, collect_by, complete_by, enter_by, gate_by, in_round, off_by, on_by, open_by, raise_by, run_by, stop_of, ungate_by, with_inside, with_irq}
+use Rattle.smp_event_steps.specs.Stop.{acked_by, acknowledged, answer_wanted, collected, completed, entered, gives, has_run, is_called, is_cpu}
+use Rattle.smp_event_steps.specs.Stop.{is_work, may_complete, offline_in, opened, opening, raised, ran_function, unfinished, unless_offline}
+use Rattle.smp_event_steps.specs.Stops.{ack_by, collect_by, complete_by, enter_by, gate_by, in_round, off_by, on_by, open_by, raise_by, run_by}
+use Rattle.smp_event_steps.specs.Stops.{stop_of, ungate_by, with_inside, with_irq}
 use Rattle.smp_replay_laws.specs.Follows.{nothing_left_out}
 
 passes : {A : Type 0} (b : Bool) (x y : A) → b ≡ true → cond b x y ≡ x
@@ -26,7 +28,8 @@ passes false x y e = absurd (false≢true e)
 opened_made : (u : Setting) (task : Task) → is_work u task ≡ true → offline_in u task.mask ≡ None → opened u task ≡ Ok (opening task)
 unfolding opened
 opened_made u task work online =
-    passes (is_work u task) (unless_offline (offline_in u task.mask) (opening task)) (Err reason.NoSuchWork) work ∙ ap (λ (x : Option ℕ). unless_offline x (opening task)) online
+    passes (is_work u task) (unless_offline (offline_in u task.mask) (opening task)) (Err reason.NoSuchWork) work
+    ∙ ap (λ (x : Option ℕ). unless_offline x (opening task)) online
 
 -- the function of a stop is entered
 ran_one : (stop : Stop) (me func arg : ℕ) → stop.task.kind ≡ One → has_run stop me ≡ false → stop.task.func ≡ func → stop.task.arg ≡ arg
@@ -34,7 +37,8 @@ ran_one : (stop : Stop) (me func arg : ℕ) → stop.task.kind ≡ One → has_r
 unfolding ran_function
 ran_one stop me func arg kind not_yet f a = rw (kind, not_yet, eq-eqb stop.task.func func f, eq-eqb stop.task.arg arg a) refl
 
-ran_multi : (stop : Stop) (me func arg : ℕ) → stop.task.kind ≡ Multi → has stop.task.active me ≡ true → acked_by stop me < 3 → stop.phase ≡ 3 → has_run stop me ≡ false
+ran_multi : (stop : Stop) (me func arg : ℕ) → stop.task.kind ≡ Multi → has stop.task.active me ≡ true → acked_by stop me < 3 → stop.phase ≡ 3
+    → has_run stop me ≡ false
     → stop.task.func ≡ func → stop.task.arg ≡ arg → ran_function me func arg stop ≡ Ok (record stop { ran = slice_set stop.ran me true })
 unfolding ran_function
 ran_multi stop me func arg kind active low at not_yet f a =
@@ -88,7 +92,10 @@ module _ (s : StateValue) (me : ℕ) (whole : s.setting.without ≡ nothing_left
   opens_stop task shut gate work online = rw (shut, opened_made s.setting task work online, ap (λ (w : Without). w.gate) whole, gate, eq-eqb me me refl) refl
 
   pub enters_stop : (source : ℕ) → source < 32 → (cpu_at s me).inside ≡ None → (stop_at s source).is_open ≡ true → is_called (stop_at s source) me ≡ true
-      → enter_by me source s ≡ Ok (with_inside me (Some source) (with_stop source s (record (stop_at s source) { entered = slice_set (stop_at s source).entered me true })))
+      → enter_by me source s ≡ Ok (with_inside me (Some source) (with_stop source s (record (stop_at s source) {
+        entered = slice_set
+            (stop_at s source).entered me true;
+      })))
   unfolding enter_by entered
   enters_stop source l none is_open called = rw (none, lt-ltb source 32 l, is_open, called) refl
 
@@ -107,7 +114,8 @@ module _ (s : StateValue) (me : ℕ) (whole : s.setting.without ≡ nothing_left
     unfolding off_by
     turns_off kind on low at quiet = rw (rounds (stop_at s source).task.kind refl kind, on, lt-leb 2 (acked_by (stop_at s source) me) low, at, quiet) refl
 
-    pub turns_on : (stop_at s source).task.kind ≢ One → (cpu_at s me).irq ≡ false → 4 ≤ acked_by (stop_at s source) me → is_cpu (stop_at s source).raiser me ≡ false
+    pub turns_on : (stop_at s source).task.kind ≢ One → (cpu_at s me).irq ≡ false → 4 ≤ acked_by (stop_at s source) me
+        → is_cpu (stop_at s source).raiser me ≡ false
         → on_by me s ≡ Ok (with_irq me true s)
     unfolding on_by
     turns_on kind off high not_last = rw (rounds (stop_at s source).task.kind refl kind, off, le-ltb (acked_by (stop_at s source) me) 4 high, not_last) refl
@@ -116,11 +124,21 @@ module _ (s : StateValue) (me : ℕ) (whole : s.setting.without ≡ nothing_left
         → raise_by me phase s ≡ Ok (with_stop source s (record (stop_at s source) { phase = phase; raiser = None }))
     unfolding raise_by raised
     raises_phase phase kind at last =
-        rw (rounds (stop_at s source).task.kind refl kind, eq-eqb (stop_at s source).phase (phase - 1) at, last, eq-eqb me me refl, ap (λ (w : Without). w.switches) whole) refl
+        rw (
+          rounds (stop_at s source).task.kind refl kind,
+          eq-eqb (stop_at s source).phase (phase - 1) at,
+          last,
+          eq-eqb me me refl,
+          ap (λ
+              (w : Without). w.switches) whole,
+        ) refl
 
     -- the function of a stop of kind One, and that of a rendezvous
     pub runs_one : (func arg : ℕ) → (stop_at s source).task.kind ≡ One → has_run (stop_at s source) me ≡ false → (stop_at s source).task.func ≡ func
-        → (stop_at s source).task.arg ≡ arg → run_by me func arg s ≡ Ok (with_stop source s (record (stop_at s source) { ran = slice_set (stop_at s source).ran me true }))
+        → (stop_at s source).task.arg ≡ arg → run_by me func arg s ≡ Ok (with_stop source s (record (stop_at s source) {
+          ran = slice_set
+              (stop_at s source).ran me true;
+        }))
     unfolding run_by
     runs_one func arg kind not_yet f a = rw (inside, lt-ltb source 32 below, kind, ran_one (stop_at s source) me func arg kind not_yet f a) refl
 
@@ -132,39 +150,66 @@ module _ (s : StateValue) (me : ℕ) (whole : s.setting.without ≡ nothing_left
         rw (inside, lt-ltb source 32 below, kind, ran_multi (stop_at s source) me func arg kind active low at not_yet f a) refl
 
     -- a phase is acknowledged, which the CPU has not acknowledged, and which is that of the stop
-    pub acks_other : (phase : ℕ) → (stop_at s source).task.kind ≢ One → acked_by (stop_at s source) me < phase → (stop_at s source).phase ≡ phase → (phase == 2) ≡ false
+    pub acks_other : (phase : ℕ) → (stop_at s source).task.kind ≢ One → acked_by (stop_at s source) me < phase → (stop_at s source).phase ≡ phase
+        → (phase == 2) ≡ false
         → ((phase == 3) && has (stop_at s source).task.active me) ≡ false
         → ack_by me phase s ≡ Ok (with_stop source s (acknowledged me phase true (stop_at s source)))
     unfolding ack_by
     acks_other phase kind low at not_two not_run =
-        rw (rounds (stop_at s source).task.kind refl kind, lt-leb phase (acked_by (stop_at s source) me) low, eq-eqb (stop_at s source).phase phase at, not_two, not_run,
-        ap (λ (w : Without). w.switches) whole, ap (λ (w : Without). w.raises) whole) refl
+        rw (
+          rounds (stop_at s source).task.kind refl kind,
+          lt-leb phase (acked_by (stop_at s source) me) low,
+          eq-eqb (stop_at s source).phase phase at,
+          not_two,
+          not_run,
+          ap (λ (w : Without). w.switches) whole,
+          ap (λ (w : Without). w.raises) whole,
+        ) refl
 
     pub acks_disabled : (stop_at s source).task.kind ≢ One → acked_by (stop_at s source) me < 2 → (stop_at s source).phase ≡ 2 → (cpu_at s me).irq ≡ false
         → ack_by me 2 s ≡ Ok (with_stop source s (acknowledged me 2 true (stop_at s source)))
     unfolding ack_by
     acks_disabled kind low at off =
-        rw (rounds (stop_at s source).task.kind refl kind, lt-leb 2 (acked_by (stop_at s source) me) low, eq-eqb (stop_at s source).phase 2 at,
-        ap (λ (w : Without). w.switches) whole, ap (λ (w : Without). w.raises) whole, off) refl
+        rw (
+          rounds (stop_at s source).task.kind refl kind,
+          lt-leb 2 (acked_by (stop_at s source) me) low,
+          eq-eqb (stop_at s source).phase 2 at,
+          ap (λ (w : Without). w.switches) whole,
+          ap (λ (w : Without). w.raises) whole,
+          off,
+        ) refl
 
-    pub acks_run : (stop_at s source).task.kind ≡ Multi → acked_by (stop_at s source) me < 3 → (stop_at s source).phase ≡ 3 → has_run (stop_at s source) me ≡ true
+    pub acks_run : (stop_at s source).task.kind ≡ Multi → acked_by (stop_at s source) me < 3 → (stop_at s source).phase ≡ 3
+        → has_run (stop_at s source) me ≡ true
         → has (stop_at s source).task.active me ≡ true → ack_by me 3 s ≡ Ok (with_stop source s (acknowledged me 3 true (stop_at s source)))
     unfolding ack_by
     acks_run kind low at ran active =
-        rw (inside, lt-ltb source 32 below, kind, lt-leb 3 (acked_by (stop_at s source) me) low, eq-eqb (stop_at s source).phase 3 at, active, kind, ran,
-        ap (λ (w : Without). w.switches) whole, ap (λ (w : Without). w.raises) whole) refl
+        rw (
+          inside,
+          lt-ltb source 32 below,
+          kind,
+          lt-leb 3 (acked_by (stop_at s source) me) low,
+          eq-eqb (stop_at s source).phase 3 at,
+          active,
+          kind,
+          ran,
+          ap (λ (w : Without). w.switches) whole,
+          ap (λ (w : Without). w.raises) whole,
+        ) refl
 
     -- a CPU completes
     abbrev pub done_with : ℤ → StateValue
     done_with answer = with_inside me None (with_stop source s (record (stop_at s source) { answers = slice_set (stop_at s source).answers me (Some answer) }))
 
-    pub completes_one : (answer : ℤ) → (stop_at s source).task.kind ≡ One → has_run (stop_at s source) me ≡ true → complete_by me answer s ≡ Ok (done_with answer)
+    pub completes_one : (answer : ℤ) → (stop_at s source).task.kind ≡ One → has_run (stop_at s source) me ≡ true
+        → complete_by me answer s ≡ Ok (done_with answer)
     unfolding complete_by
     completes_one answer kind ran = rw (inside, lt-ltb source 32 below, completed_one (stop_at s source) me answer (cpu_at s me).irq kind ran) refl
 
     -- after its function, or with the answer of who has run none
     pub completes_round : (answer : ℤ) → (stop_at s source).task.kind ≢ One → 4 ≤ acked_by (stop_at s source) me
-        → is_cpu (stop_at s source).raiser me ≡ false → (cpu_at s me).irq ≡ true → MayAnswer (stop_at s source) me answer → complete_by me answer s ≡ Ok (done_with answer)
+        → is_cpu (stop_at s source).raiser me ≡ false → (cpu_at s me).irq ≡ true → MayAnswer (stop_at s source) me answer
+        → complete_by me answer s ≡ Ok (done_with answer)
     unfolding complete_by
     completes_round answer ne high not_last on may =
         rw (inside, lt-ltb source 32 below, completed_round (stop_at s source) me answer (cpu_at s me).irq ne high not_last on may) refl

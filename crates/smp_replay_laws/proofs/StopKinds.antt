@@ -36,7 +36,8 @@ idle_free cpu Idle k = refl
 idle_free cpu (Calls call) k = absurd k
 idle_free cpu (Carries answer) k = absurd k
 
-module _ (u : Setup) (p : StopState) (at at' : Word → ℕ) (seat : ℕ → Seat) (source : ℕ → Source) (h : StopShows u p at seat source) (me : ℕ) (below : me < cpus)
+module _ (u : Setup) (p : StopState) (at at' : Word → ℕ) (seat : ℕ → Seat) (source : ℕ → Source) (h : StopShows u p at seat source) (me : ℕ)
+    (below : me < cpus)
     (pasts : List Past) (sized : length pasts ≡ 32) (s : StateValue) (whole : s.setting.without ≡ nothing_left_out) (cpus_are : length s.cpus ≡ 32)
     (f : FollowsStops p at pasts s) (keys : (key : ℕ) → at' (Key key) ≡ at (Key key)) (sites : (site : ℕ) → at' (Site site) ≡ at (Site site)) where
   pub mine : CpuIs p s (past_at pasts me) me
@@ -47,12 +48,14 @@ module _ (u : Setup) (p : StopState) (at at' : Word → ℕ) (seat : ℕ → Sea
 
   pub gate_taken : p.gate ≡ None → Leads (record p { gate = Some me }) (past_at pasts me) ((me, event.Stop stops.Gate) ∷ [])
   unfolding stop_goes
-  gate_taken e = gate_step p (record p { gate = Some me }) at at' pasts s me (past_at pasts me) below sized cpus_are f keys sites (Some me) (event.Stop stops.Gate) refl
+  gate_taken e = gate_step p (record p { gate = Some me }) at at' pasts s me (past_at pasts me) below sized cpus_are f keys sites (Some me)
+      (event.Stop stops.Gate) refl
       (takes_gate s me whole (f.gate ∙ e)) mine
 
   pub gate_given : p.gate ≡ Some me → Leads (record p { gate = None }) (past_at pasts me) ((me, event.Stop stops.Ungate) ∷ [])
   unfolding stop_goes
-  gate_given e = gate_step p (record p { gate = None }) at at' pasts s me (past_at pasts me) below sized cpus_are f keys sites None (event.Stop stops.Ungate) refl
+  gate_given e = gate_step p (record p { gate = None }) at at' pasts s me (past_at pasts me) below sized cpus_are f keys sites None
+      (event.Stop stops.Ungate) refl
       (gives_gate s me whole (f.gate ∙ e)) mine
 
   -- What a step of this CPU makes of the stops: of one stop, and of where the CPU is.
@@ -84,7 +87,8 @@ module _ (u : Setup) (p : StopState) (at at' : Word → ℕ) (seat : ℕ → Sea
   stop_now q slot x is = is slot ∙ put_same p.now.stop slot x
 
   -- a CPU in this stop
-  pub in_slot : (q : StopState) (t : StateValue) (past : Past) (slot : ℕ) (x : Stop) (irq : Bool) (calling : Calling) → Goes q slot x (Some slot) irq calling → slot < cpus
+  pub in_slot : (q : StopState) (t : StateValue) (past : Past) (slot : ℕ) (x : Stop) (irq : Bool) (calling : Calling)
+      → Goes q slot x (Some slot) irq calling → slot < cpus
       → (cpu_at t me).inside ≡ Some slot → (cpu_at t me).irq ≡ irq → has_run (stop_at t slot) me ≡ has_called calling → PhaseIs (x.standing me) past.phase
       → AnswerIs (x.standing me) past.answer → (past.phase ≡ 3 → irq ≡ false) → CpuIs q t past me
   in_slot q t past slot x irq calling g l inside_told irq_told ran phase answer reads = record {
@@ -104,6 +108,7 @@ module _ (u : Setup) (p : StopState) (at at' : Word → ℕ) (seat : ℕ → Sea
     where
       some_same : {a b : ℕ} → Some a ≡ Some b → a ≡ b
       some_same e = cc
+
       none_some : (n : ℕ) → None ≡ Some n → ⊥
       none_some n e = absurd cc
 
@@ -138,11 +143,13 @@ module _ (u : Setup) (p : StopState) (at at' : Word → ℕ) (seat : ℕ → Sea
 
   -- a step that tells and changes nothing of the stops
   pub nothing_told : (past : Past) → past.phase ≡ (past_at pasts me).phase → past.answer ≡ (past_at pasts me).answer → Leads p past []
-  nothing_told past phase answer = quiet_step p p at at' pasts s me past below sized cpus_are f keys sites refl (λ j. refl) (λ c ne. refl) (λ c ne. refl) (λ c ne. refl)
+  nothing_told past phase answer = quiet_step p p at at' pasts s me past below sized cpus_are f keys sites refl (λ j. refl) (λ c ne. refl)
+      (λ c ne. refl) (λ c ne. refl)
       (mine_past past phase answer)
 
   -- the members of a stop after a step of this CPU
-  pub members_set : (x y : Stop) (e g : ToldStop) → ((cpu : ℕ) → cpu < cpus → MemberIs (x.standing cpu) e cpu) → ((cpu : ℕ) → cpu ≢ me → y.standing cpu ≡ x.standing cpu)
+  pub members_set : (x y : Stop) (e g : ToldStop) → ((cpu : ℕ) → cpu < cpus → MemberIs (x.standing cpu) e cpu) → ((cpu : ℕ) → cpu ≢ me
+      → y.standing cpu ≡ x.standing cpu)
       → ((cpu : ℕ) → cpu ≢ me → MemberIs (x.standing cpu) e cpu → MemberIs (x.standing cpu) g cpu) → MemberIs (y.standing me) g me
       → (cpu : ℕ) → cpu < cpus → MemberIs (y.standing cpu) g cpu
   members_set x y e g was same goes here cpu l = elim (cases_eq cpu me) [
@@ -151,8 +158,10 @@ module _ (u : Setup) (p : StopState) (at at' : Word → ℕ) (seat : ℕ → Sea
   ]
 
   -- a stop of which nothing is told
-  pub told_still : (x y : Stop) (e : ToldStop) → StopIs x e → y.is_open ≡ x.is_open → y.work ≡ x.work → y.phase ≡ x.phase → raiser_of y.raising ≡ raiser_of x.raising
-      → ((cpu : ℕ) → cpu ≢ me → y.standing cpu ≡ x.standing cpu) → (x.is_open ≡ true → MemberIs (x.standing me) e me → MemberIs (y.standing me) e me) → StopIs y e
+  pub told_still : (x y : Stop) (e : ToldStop) → StopIs x e → y.is_open ≡ x.is_open → y.work ≡ x.work → y.phase ≡ x.phase
+      → raiser_of y.raising ≡ raiser_of x.raising
+      → ((cpu : ℕ) → cpu ≢ me → y.standing cpu ≡ x.standing cpu) → (x.is_open ≡ true → MemberIs (x.standing me) e me → MemberIs (y.standing me) e me)
+      → StopIs y e
   told_still x y e k is_open work phase raiser others here = record {
     sized = k.sized;
     is_open = k.is_open ∙ sym is_open;
@@ -176,7 +185,8 @@ module _ (u : Setup) (p : StopState) (at at' : Word → ℕ) (seat : ℕ → Sea
 
   -- the count is refilled
   pub refilled_step : (q : StopState) (past : Past) (slot : ℕ) (x : Stop) (a : ℕ) → p.now.inside me ≡ Some slot → (p.now.stop slot).standing me ≡ Inside a a
-      → Goes q slot x (Some slot) (p.now.irq me) (p.calling me) → x.standing me ≡ Inside a a → x.is_open ≡ (p.now.stop slot).is_open → x.work ≡ (p.now.stop slot).work
+      → Goes q slot x (Some slot) (p.now.irq me) (p.calling me) → x.standing me ≡ Inside a a → x.is_open ≡ (p.now.stop slot).is_open
+      → x.work ≡ (p.now.stop slot).work
       → x.phase ≡ (p.now.stop slot).phase → raiser_of x.raising ≡ raiser_of (p.now.stop slot).raising
       → past.phase ≡ (past_at pasts me).phase → past.answer ≡ (past_at pasts me).answer → Leads q past []
   refilled_step q past slot x a inside was g now is_open work phase raiser past_phase past_answer =

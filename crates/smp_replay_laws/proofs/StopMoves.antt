@@ -34,7 +34,8 @@ use Rattle.smp_replay_laws.proofs.StopKinds.{Goes, in_slot, members_set, one_sto
 use Rattle.smp_replay_laws.proofs.StopStates.{stop_here}
 use Rattle.smp_replay_laws.proofs.StopSteps.{ReachesStops, cpu_step, member_as, set_step}
 
-module _ (u : Setup) (p : StopState) (at at' : Word → ℕ) (seat : ℕ → Seat) (source : ℕ → Source) (h : StopShows u p at seat source) (me : ℕ) (below : me < cpus)
+module _ (u : Setup) (p : StopState) (at at' : Word → ℕ) (seat : ℕ → Seat) (source : ℕ → Source) (h : StopShows u p at seat source) (me : ℕ)
+    (below : me < cpus)
     (pasts : List Past) (sized : length pasts ≡ 32) (s : StateValue) (whole : s.setting.without ≡ nothing_left_out) (cpus_are : length s.cpus ≡ 32)
     (f : FollowsStops p at pasts s) (keys : (key : ℕ) → at' (Key key) ≡ at (Key key)) (sites : (site : ℕ) → at' (Site site) ≡ at (Site site)) where
   abbrev Is : StopState → ℕ → Stop → Option ℕ → Bool → Calling → Type 0
@@ -51,7 +52,8 @@ module _ (u : Setup) (p : StopState) (at at' : Word → ℕ) (seat : ℕ → Sea
   shown slot l o = (f.stops slot l).shows o
 
   -- a CPU enters
-  pub enters_told : (q : StopState) (slot : ℕ) → slot < cpus → p.now.inside me ≡ None → (p.now.stop slot).is_open ≡ true → (p.now.stop slot).standing me ≡ Called
+  pub enters_told : (q : StopState) (slot : ℕ) → slot < cpus → p.now.inside me ≡ None → (p.now.stop slot).is_open ≡ true
+      → (p.now.stop slot).standing me ≡ Called
       → p.calling me ≡ Idle → Is q slot (stands (p.now.stop slot) me (Inside 0 0)) (Some slot) (p.now.irq me) (p.calling me)
       → Leads q (past_at pasts me) ((me, event.Stop (stops.Enter slot)) ∷ [])
   unfolding stop_goes
@@ -78,7 +80,8 @@ module _ (u : Setup) (p : StopState) (at at' : Word → ℕ) (seat : ℕ → Sea
           phase = was.phase;
           raiser = was.raiser;
           members = members_set u p at at' seat source h me below pasts sized s whole cpus_are f keys sites (p.now.stop slot) x e y was.members g.standing_else
-              (λ cpu ne m. member_as ((p.now.stop slot).standing cpu) e y cpu (rw (get_or-set_other e.entered me cpu true false ne) refl) refl refl refl m) here;
+              (λ cpu ne m. member_as ((p.now.stop slot).standing cpu) e y cpu (rw
+              (get_or-set_other e.entered me cpu true false ne) refl) refl refl refl m) here;
           kind = was.kind;
           patch = was.patch;
         };
@@ -88,9 +91,16 @@ module _ (u : Setup) (p : StopState) (at at' : Word → ℕ) (seat : ℕ → Sea
       let ran : has_run (stop_at t slot) me ≡ has_called (p.calling me) =
       ap (λ (z : ToldStop). has_run z me) (stop_here s slot y f.stops_are l) ∙ (member.fresh called ∙ rw idle refl) in
       set_step p q at at' pasts s me (past_at pasts me) below sized cpus_are f keys sites slot x y c l
-      (one_stop u p at at' seat source h me below pasts sized s whole cpus_are f keys sites q slot x (Some slot) (p.now.irq me) (p.calling me) y g (λ cpu ne. refl)) told
-      ((me, event.Stop (stops.Enter slot)) ∷ [])
-      (t, (enters_stop s me whole slot (omega arith) (me_now.inside ∙ none) ((f.stops slot l).is_open ∙ is_open) (member.called ∙ ap is_called called), refl)) refl
+      (one_stop u p at at' seat source h me below pasts sized s whole cpus_are f keys sites q slot x (Some slot) (p.now.irq me) (p.calling me) y g
+      (λ cpu ne. refl)) told
+      ((me, event.Stop (stops.Enter slot)) ∷ []) (
+        t,
+        (
+          enters_stop s me whole slot (omega arith) (me_now.inside ∙ none) ((f.stops slot l).is_open ∙ is_open) (member.called
+              ∙ ap is_called called),
+          refl,
+        ),
+      ) refl
       (in_slot u p at at' seat source h me below pasts sized s whole cpus_are f keys sites q t (past_at pasts me) slot x (p.now.irq me) (p.calling me) g l
       (ap (λ (z : CpuState). z.inside) my_cpu) (ap (λ (z : CpuState). z.irq) my_cpu ∙ me_now.irq) ran
       (rw (eq-eqb me me refl) (λ e. absurd (e refl))) (rw (eq-eqb me me refl) (me_now.answer none)) me_now.reads)
@@ -123,11 +133,13 @@ module _ (u : Setup) (p : StopState) (at at' : Word → ℕ) (seat : ℕ → Sea
         → (found ≢ 0 → past.phase ≡ found) → (past.phase ≡ 3 → p.now.irq me ≡ false) → Leads q past []
     looked_step q g phase reads = silent u p at at' seat source h me below pasts sized s whole cpus_are f keys sites q past slot
         (stands (p.now.stop slot) me (Inside a found)) (Some slot) (p.now.irq me) (p.calling me) g (λ _. told_looked q (p.now.irq me) (p.calling me) g)
-        (in_slot u p at at' seat source h me below pasts sized s whole cpus_are f keys sites q s past slot (stands (p.now.stop slot) me (Inside a found)) (p.now.irq me)
+        (in_slot u p at at' seat source h me below pasts sized s whole cpus_are f keys sites q s past slot (stands (p.now.stop slot) me
+        (Inside a found)) (p.now.irq me)
         (p.calling me) g i.below (me_now.inside ∙ inside) me_now.irq i.ran (rw (eq-eqb me me refl) phase) (rw (eq-eqb me me refl) still) reads)
 
     -- interrupts go off
-    pub off_step : (q : StopState) → Is q slot (stands (p.now.stop slot) me (Inside a found)) (Some slot) false (p.calling me) → (found ≢ 0 → past.phase ≡ found)
+    pub off_step : (q : StopState) → Is q slot (stands (p.now.stop slot) me (Inside a found)) (Some slot) false (p.calling me) → (found ≢ 0
+        → past.phase ≡ found)
         → (p.now.stop slot).work.kind ≢ One → (p.now.stop slot).is_open ≡ true → p.now.irq me ≡ true → a < 2 → (p.now.stop slot).phase ≡ 2
         → handles_nothing (cpu_at s me) ≡ Ok tt → Leads q past ((me, event.Stop stops.Off) ∷ [])
     unfolding stop_goes
@@ -139,9 +151,16 @@ module _ (u : Setup) (p : StopState) (at at' : Word → ℕ) (seat : ℕ → Sea
         let acked_is : acked_by (stop_at s slot) me ≡ a = (was.members me below).acked_is ∙ ap acked stands_so in
         let kind_is : (stop_at s slot).task.kind ≢ One = λ e. kind (sym (ap (λ (z : Task). z.kind) was.task) ∙ e) in
         cpu_step p q at at' pasts s me past below sized cpus_are f keys sites slot (stands (p.now.stop slot) me (Inside a found))
-        (one_stop u p at at' seat source h me below pasts sized s whole cpus_are f keys sites q slot (stands (p.now.stop slot) me (Inside a found)) (Some slot) false
-        (p.calling me) (stop_at s slot) g (λ cpu ne. refl)) (λ _. told_looked q false (p.calling me) g) c ((me, event.Stop stops.Off) ∷ [])
-        (t, (turns_off s me whole slot (omega (arith, i.below)) (me_now.inside ∙ inside) kind_is (me_now.irq ∙ irq) (omega arith) (was.phase ∙ at_two) quiet, refl)) refl
+        (one_stop u p at at' seat source h me below pasts sized s whole cpus_are f keys sites q slot (stands (p.now.stop slot) me (Inside a found))
+        (Some slot) false
+        (p.calling me) (stop_at s slot) g (λ cpu ne. refl)) (λ _. told_looked q false (p.calling me) g) c ((me, event.Stop stops.Off) ∷ []) (
+          t,
+          (
+            turns_off s me whole slot (omega (arith, i.below)) (me_now.inside ∙ inside) kind_is (me_now.irq ∙ irq) (omega arith) (was.phase
+                ∙ at_two) quiet,
+            refl,
+          ),
+        ) refl
         (in_slot u p at at' seat source h me below pasts sized s whole cpus_are f keys sites q t past slot (stands (p.now.stop slot) me (Inside a found)) false
         (p.calling me) g i.below (ap (λ (z : CpuState). z.inside) my_cpu ∙ (me_now.inside ∙ inside)) (ap (λ (z : CpuState). z.irq) my_cpu) i.ran
         (rw (eq-eqb me me refl) phase) (rw (eq-eqb me me refl) still) (λ e. refl))

@@ -1,5 +1,6 @@
 -- A key's count is moved by one outside a patch.
-use Rattle.std.proofs.Common.{◌≡◌, ℕ, ◌+◌, ◌-◌, ◌<◌, ◌≤◌, nat_lt, Bool, true, false, cond, List, [], ◌∷◌, length, length-set, nat_le, Option, Some, None, Ok, refl, ap, sym, ◌∙◌, subst, inl, inr, arith}
+use Rattle.std.proofs.Common.{◌≡◌, ℕ, ◌+◌, ◌-◌, ◌<◌, ◌≤◌, nat_lt, Bool, true, false, cond, List, [], ◌∷◌, length, length-set, nat_le, Option, Some}
+use Rattle.std.proofs.Common.{None, Ok, refl, ap, sym, ◌∙◌, subst, inl, inr, arith}
 use Rattle.std.proofs.lemmas.Bool.{ltb-true, le-leb, le-ltb, cases_eq, eq-eqb, ne_eqb, lt-ltb, eqb-true}
 use Rattle.std.specs.Prelude.{slice_set, ◌==◌}
 use Rattle.smp_labels.specs.Keys.{is_on}
@@ -54,18 +55,18 @@ nudges_told : (key found new : ℕ) (words : LabelWords) → count_at words key 
     → nudged key (nat_lt found new) words ≡ Ok (stored (Key key) new words)
 nudges_told key found new words is k = elim k.one [
   | inl e ↦
-    let some = on_same found new k.same (omega arith) in
-    let word = k.word in
-    let up : nat_lt found new ≡ true = lt-ltb found new (omega arith) in
-    let z : (found == 0) ≡ false = ne_eqb found 0 (λ n. absurd (omega arith)) in
-    let less : nat_lt found 65535 ≡ true = lt-ltb found 65535 (omega arith) in
-    rw (up, is, z, less, e) refl
+      let some = on_same found new k.same (omega arith) in
+      let word = k.word in
+      let up : nat_lt found new ≡ true = lt-ltb found new (omega arith) in
+      let z : (found == 0) ≡ false = ne_eqb found 0 (λ n. absurd (omega arith)) in
+      let less : nat_lt found 65535 ≡ true = lt-ltb found 65535 (omega arith) in
+      rw (up, is, z, less, e) refl
   | inr e ↦
-    let on : 0 < new = on_same new found (sym k.same) (omega arith) in
-    let down : nat_lt found new ≡ false = le-ltb found new (omega arith) in
-    let two : nat_le 2 found ≡ true = le-leb 2 found (omega arith) in
-    let one : found - 1 ≡ new = omega arith in
-    rw (down, is, two, one) refl
+      let on : 0 < new = on_same new found (sym k.same) (omega arith) in
+      let down : nat_lt found new ≡ false = le-ltb found new (omega arith) in
+      let two : nat_le 2 found ≡ true = le-leb 2 found (omega arith) in
+      let one : found - 1 ≡ new = omega arith in
+      rw (down, is, two, one) refl
 ]
 
 module _ (v : StopsValue) (p : StopState) (shown : StopShown p v) (me : ℕ) (below : me < cpus) (pasts : List Past) (sized : length pasts ≡ 32)
@@ -111,7 +112,8 @@ module _ (v : StopsValue) (p : StopState) (shown : StopShown p v) (me : ℕ) (be
       stops = λ j l. subst (λ (z : Stop). StopIs z (stop_at s j)) (sym (stop j)) (f.stops j l);
       cpus_are = λ d l. elim (cases_eq d me) [
         | inl e ↦ rw (e, past_here pasts me Old sized below) (cpu_alike p q s (record s { words = stored (Key key) new s.words }) me Old (alike me) my)
-        | inr ne ↦ rw (past_else pasts me Old d ne) (cpu_alike p q s (record s { words = stored (Key key) new s.words }) d (past_at pasts d) (alike d) (f.cpus_are d l))
+        | inr ne ↦ rw (past_else pasts me Old d ne) (cpu_alike p q s (record s { words = stored (Key key) new s.words }) d (past_at pasts d) (alike d)
+            (f.cpus_are d l))
       ];
       keys = λ j. elim (cases_eq j key) [
         | inl e ↦ rw (e, eq-eqb key key refl) (get_or-set_same s.words.keys key new 0 (rw f.keys_are small))
@@ -134,9 +136,11 @@ module _ (v : StopsValue) (p : StopState) (shown : StopShown p v) (me : ℕ) (be
   unfolding label_goes
   nudge_made key found new is on k = rw (my.irq ∙ on, nudges_told key found new s.words (f.keys key ∙ is) k) refl
 
-  nudge_by : (key found expected new : ℕ) (b : Bool) → (found == expected) ≡ b → At (word.Key key) ≡ found → p.now.irq me ≡ true → key < 4 → IsNudge expected new
+  nudge_by : (key found expected new : ℕ) (b : Bool) → (found == expected) ≡ b → At (word.Key key) ≡ found → p.now.irq me ≡ true → key < 4
+      → IsNudge expected new
       → let put : Option ℕ = cond b (Some new) None in
-      ReachesStops (key_told U p me key act.Cas (Some found) put) (put_if put_word At (word.Key key) put) (slice_set pasts me Old) s (by me (of_nudge key found put))
+      ReachesStops (key_told U p me key act.Cas (Some found) put) (put_if put_word At (word.Key key) put) (slice_set pasts me Old) s (by me
+      (of_nudge key found put))
   nudge_by key found expected new true e is on small k =
       let same = eqb-true found expected e in
       reaches_nudge (record p { nudged = moved_by p.nudged me key found new }) key new small (λ j. refl) (λ d. refl) (λ d. refl) (λ d. refl) refl

@@ -1,5 +1,6 @@
 -- The step of a CPU that acknowledges a phase, refills the count, or raises the phase is accepted.
-use Rattle.std.proofs.Common.{◌≡◌, ◌≢◌, ℕ, ◌+◌, ◌<◌, ◌≤◌, nat_lt, Bool, true, false, cond, List, [], ◌∷◌, length, Option, Some, None, Ok, refl, ap, sym, ◌∙◌, subst, inl, inr, arith}
+use Rattle.std.proofs.Common.{◌≡◌, ◌≢◌, ℕ, ◌+◌, ◌<◌, ◌≤◌, nat_lt, Bool, true, false, cond, List, [], ◌∷◌, length, Option, Some, None, Ok, refl, ap}
+use Rattle.std.proofs.Common.{sym, ◌∙◌, subst, inl, inr, arith}
 use Rattle.std.proofs.lemmas.Bool.{cases_eq, ne_eqb, true≢false, lt-ltb, eqb-true}
 use Rattle.std.specs.Prelude.{slice_set, ◌==◌}
 use Rattle.smp_mask.specs.Mask.{has}
@@ -49,7 +50,8 @@ use Rattle.smp_replay_laws.specs.Stops.{AnswerIs, CpuIs, FollowsStops, PhaseIs, 
 use Rattle.smp_replay_laws.proofs.Accepts.{by}
 use Rattle.smp_replay_laws.proofs.StopAcks as acking
 use Rattle.smp_replay_laws.proofs.StopKinds.{refilled_step}
-use Rattle.smp_replay_laws.proofs.StopTurns.{Made, ack_by, irq_here, keeps_here, no_patch, not_patch, old_is, opened_here, sits, st, then_if, told_here, words_here}
+use Rattle.smp_replay_laws.proofs.StopAcked.{ack_by, old_is}
+use Rattle.smp_replay_laws.proofs.StopTurns.{Made, irq_here, keeps_here, no_patch, not_patch, opened_here, sits, st, then_if, told_here, words_here}
 use Rattle.smp_stop_steps.proofs.State.Acknowledged.{fills_me, sets_me}
 use Rattle.smp_stop_steps.proofs.Steps.Completions.{one_phase}
 use Rattle.smp_replay_laws.proofs.StopRounds.{leaves_told, raise_made, raises_told, told_raised}
@@ -88,7 +90,8 @@ module _ (v : StopsValue) (p : StopState) (shown : StopShown p v) (me : ℕ) (be
   has_called_it x answer false w g loaded kind runs acking three active =
       absurd (true≢false (sym active ∙ (ap (λ (m : ℕ). has m me) (sym loaded.active) ∙ runs (omega arith))))
 
-  pub acknowledges_phase : (x : Visit) (answer : ℕ) (ran : Bool) → C.stage ≡ Some (Advance x (round.Acknowledge answer ran)) → Does (Advance x (round.Acknowledge answer ran))
+  pub acknowledges_phase : (x : Visit) (answer : ℕ) (ran : Bool) → C.stage ≡ Some (Advance x (round.Acknowledge answer ran))
+      → Does (Advance x (round.Acknowledge answer ran))
   acknowledges_phase x answer ran e =
       let k = at_stage x (round.Acknowledge answer ran) e in
       elim k.3 [
@@ -96,21 +99,32 @@ module _ (v : StopsValue) (p : StopState) (shown : StopShown p v) (me : ℕ) (be
         | inr y ↦ absurd (no_patch v p shown me below pasts sized s whole cpus_are f quiet x.slot k.0 y.2.0 (plan_at U k.0 y.2.0) [] y.2.2)
       ]
     where
-      here : (w : Work) → IsLoaded x w → shown.seat me ≡ In x.slot w x.acked (x.acked + 1) Rests → RunsIf me x ran → Does (Advance x (round.Acknowledge answer ran))
+      here : (w : Work) → IsLoaded x w → shown.seat me ≡ In x.slot w x.acked (x.acked + 1) Rests → RunsIf me x ran
+          → Does (Advance x (round.Acknowledge answer ran))
       here w loaded at_seat runs =
           let so = st v p shown me below pasts sized s whole cpus_are f quiet x.slot x.acked (x.acked + 1) w Rests at_seat in
           let words = words_here v p shown me below pasts sized s whole cpus_are f quiet x.slot x.acked (x.acked + 1) w Rests at_seat in
-          let phase = acking.phase_is U p At At shown.seat shown.source shown.shows me below pasts sized s whole cpus_are f (λ j. refl) (λ j. refl) refl x.slot x.acked w Idle so in
-          let kind : w.kind ≢ One = λ one. absurd (omega (arith, phase, one_phase (p.now.stop x.slot).work.kind (p.now.stop x.slot).phase (ap (λ (z : Work). z.kind) so.3 ∙ one) words.kinds)) in
-          let carries : IsAcking x answer ran (p.calling me) = subst (λ (o : Option StopStage). CarriesAt C.visit o (p.calling me)) e (shown.carries me below) in
+          let phase = acking.phase_is U p At At shown.seat shown.source shown.shows me below pasts sized s whole cpus_are f (λ j. refl)
+          (λ j. refl) refl x.slot x.acked w Idle so in
+          let kind : w.kind ≢ One = λ one. absurd (omega (
+            arith,
+            phase,
+            one_phase (p.now.stop x.slot).work.kind (p.now.stop x.slot).phase (ap (λ
+                (z : Work). z.kind) so.3 ∙ one) words.kinds,
+          )) in
+          let carries : IsAcking x answer ran (p.calling me) = subst (λ (o : Option StopStage). CarriesAt C.visit o (p.calling me)) e
+          (shown.carries me below) in
           let plain = not_patch v p shown me below pasts sized s whole cpus_are f quiet x.slot x.acked (x.acked + 1) w Rests at_seat in
           let called = has_called_it x answer ran w (p.calling me) loaded plain runs carries in
           let found = At (Slot x.slot field.Ack) in
-          let told = ack_by v p shown me below pasts sized s whole cpus_are f quiet x.slot x.acked w at_seat kind x answer ran called (found == 1) (x.acked + 1 == 4) ran refl refl refl in
+          let told = ack_by v p shown me below pasts sized s whole cpus_are f quiet x.slot x.acked w at_seat kind x answer ran called (found == 1)
+          (x.acked + 1 == 4) ran refl refl refl in
           let old = old_is v p shown me below pasts sized s whole cpus_are f quiet x.slot x.acked w at_seat kind x answer ran called in
-          subst (λ (z : Standing). ReachesStops (acknowledges p me x.slot z found) (put_word At (Slot x.slot field.Ack) (one_less found)) (slice_set pasts me Old) s
+          subst (λ (z : Standing). ReachesStops (acknowledges p me x.slot z found) (put_word At (Slot x.slot field.Ack) (one_less found))
+          (slice_set pasts me Old) s
           (by me (with_on (stops.Ack Old.phase) (acked_on C (visit_acked x answer ran) ran found).note))) (sym so.1)
-          (subst (λ (n : ℕ). ReachesStops (acknowledges p me x.slot (Inside x.acked (x.acked + 1)) found) (put_word At (Slot x.slot field.Ack) (one_less found)) (slice_set pasts me Old) s
+          (subst (λ (n : ℕ). ReachesStops (acknowledges p me x.slot (Inside x.acked (x.acked + 1)) found) (put_word At (Slot x.slot field.Ack)
+          (one_less found)) (slice_set pasts me Old) s
           (by me (with_on (stops.Ack n) (acked_on C (visit_acked x answer ran) ran found).note))) (sym old) told)
 
   -- the count is refilled
@@ -124,7 +138,8 @@ module _ (v : StopsValue) (p : StopState) (shown : StopShown p v) (me : ℕ) (be
       let q : StopState = record p { now = record (p.now) { stop = put p.now.stop x.slot (refilled (p.now.stop x.slot) me) } } in
       subst (λ (z : StopState). ReachesStops z (put_word At (Slot x.slot field.Ack) n) (slice_set pasts me Old) s [])
       (sym (then_if (p.now.stop x.slot).is_open q (stored_shut p x.slot field.Ack n) open_now))
-      (refilled_step U p At (put_word At (Slot x.slot field.Ack) n) shown.seat shown.source shown.shows me below pasts sized s whole cpus_are f (λ j. refl) (λ j. refl)
+      (refilled_step U p At (put_word At (Slot x.slot field.Ack) n) shown.seat shown.source shown.shows me below pasts sized s whole cpus_are f
+      (λ j. refl) (λ j. refl)
       q Old x.slot (refilled (p.now.stop x.slot) me) x.acked so.0 so.1
       (record {
         stop_is = λ j. refl;
@@ -173,7 +188,8 @@ module _ (v : StopsValue) (p : StopState) (shown : StopShown p v) (me : ℕ) (be
     phase_is : (p.now.stop x.slot).phase ≡ x.acked
     phase_is =
         let k : AckShows U.cpus (p.now.stop x.slot).phase (p.now.stop x.slot).standing (Raises me) (At (Slot x.slot field.Ack)) =
-        subst (λ (r : Raising). AckShows U.cpus (p.now.stop x.slot).phase (p.now.stop x.slot).standing r (At (Slot x.slot field.Ack))) raising (words.ack not_calm) in
+        subst (λ (r : Raising). AckShows U.cpus (p.now.stop x.slot).phase (p.now.stop x.slot).standing r (At (Slot x.slot field.Ack))) raising
+        (words.ack not_calm) in
         same (sym k.2 ∙ so.1)
       where
         same : Inside (p.now.stop x.slot).phase (p.now.stop x.slot).phase ≡ Inside x.acked x.acked → (p.now.stop x.slot).phase ≡ x.acked
@@ -186,11 +202,13 @@ module _ (v : StopsValue) (p : StopState) (shown : StopShown p v) (me : ℕ) (be
     kind one = not_calm (one_phase (p.now.stop x.slot).work.kind (p.now.stop x.slot).phase one words.kinds)
 
     made : goes me (event.Stop (stops.Raise (x.acked + 1))) s ≡ Ok (with_stop x.slot s (record (stop_at s x.slot) { phase = x.acked + 1; raiser = None }))
-    made = raise_made U p At At' shown.seat shown.source shown.shows me below pasts sized s whole cpus_are f (λ j. refl) (λ j. refl) x.slot so.0 open_now (x.acked + 1) kind
+    made = raise_made U p At At' shown.seat shown.source shown.shows me below pasts sized s whole cpus_are f (λ j. refl)
+        (λ j. refl) x.slot so.0 open_now (x.acked + 1) kind
         (let n = phase_is in omega (arith, n)) (ap raiser_of raising)
 
     one_raise : ReachesStops (Q false) At' (slice_set pasts me Old) s ((me, event.Stop (stops.Raise (x.acked + 1))) ∷ [])
-    one_raise = raises_told U p At At' shown.seat shown.source shown.shows me below pasts sized s whole cpus_are f (λ j. refl) (λ j. refl) x.slot so.0 open_now (Q false)
+    one_raise = raises_told U p At At' shown.seat shown.source shown.shows me below pasts sized s whole cpus_are f (λ j. refl)
+        (λ j. refl) x.slot so.0 open_now (Q false)
         (raised (p.now.stop x.slot) (x.acked + 1)) (x.acked + 1) x.acked refl refl refl refl (λ d. refl)
         (record {
           stop_is = λ j. refl;
@@ -210,7 +228,8 @@ module _ (v : StopsValue) (p : StopState) (shown : StopShown p v) (me : ℕ) (be
         let i = my.stop x.slot so.0 in
         let told = told_here v p shown me below pasts sized s whole cpus_are f quiet x.slot x.acked x.acked w Sets at_seat in
         let old : Old.phase ≡ x.acked = (subst (λ (z : Standing). PhaseIs z Old.phase) so.1 i.phase) (λ z. absurd (omega arith)) in
-        leaves_told U p At At' shown.seat shown.source shown.shows me below pasts sized s whole cpus_are f (λ j. refl) (λ j. refl) x.slot so.0 open_now (Q true)
+        leaves_told U p At At' shown.seat shown.source shown.shows me below pasts sized s whole cpus_are f (λ j. refl) (λ j. refl) x.slot so.0 open_now
+        (Q true)
         (raised (p.now.stop x.slot) (x.acked + 1)) (record (stop_at s x.slot) { phase = x.acked + 1; raiser = None }) (p.calling me)
         (event.Stop (stops.Raise (x.acked + 1)))
         (told_raised U p At At' shown.seat shown.source shown.shows me below pasts sized s whole cpus_are f (λ j. refl) (λ j. refl) x.slot so.0 open_now
@@ -231,7 +250,8 @@ module _ (v : StopsValue) (p : StopState) (shown : StopShown p v) (me : ℕ) (be
         (irq_here v p shown me below pasts sized s whole cpus_are f quiet x.slot x.acked x.acked w Sets at_seat ∙ rw four refl)
 
     raise_by : (exit r : Bool) → ran ≡ r → (x.acked == 4) ≡ exit → ReachesStops (Q exit) At' (slice_set pasts me Old) s
-        (by me (with_on (stops.Raise (x.acked + 1)) (stop_ends (record C { interrupts = cond exit true C.interrupts }) (cond exit note.Left (cond r note.Ran (note.Moved x.acked)))).note))
+        (by me (with_on (stops.Raise (x.acked + 1)) (stop_ends (record C { interrupts = cond exit true C.interrupts }) (cond exit note.Left
+        (cond r note.Ran (note.Moved x.acked)))).note))
     raise_by true r e four = two_raises (eqb-true x.acked 4 four)
     raise_by false true e four = one_raise
     raise_by false false e four = one_raise
@@ -247,7 +267,8 @@ module _ (v : StopsValue) (p : StopState) (shown : StopShown p v) (me : ℕ) (be
       let k = at_stage x (round.Raise ran) e in
       let w = k.0 in
       let n = x.acked + 1 in
-      let said = (stop_ends (record C { interrupts = cond (x.acked == 4) true C.interrupts }) (cond (x.acked == 4) note.Left (cond ran note.Ran (note.Moved x.acked)))).note in
+      let said = (stop_ends (record C { interrupts = cond (x.acked == 4) true C.interrupts }) (cond (x.acked == 4) note.Left (cond ran note.Ran
+      (note.Moved x.acked)))).note in
       let at' = put_word At (Slot x.slot field.State) n in
       let moved : Present = record (p.now) { stop = put p.now.stop x.slot (raised (p.now.stop x.slot) n) } in
       let q = λ (over : Bool). record p { now = cond over (leaves moved me x.slot (p.now.stop x.slot).work) moved } in
@@ -257,13 +278,16 @@ module _ (v : StopsValue) (p : StopState) (shown : StopShown p v) (me : ℕ) (be
       let some : 1 < n = above x.acked (λ z. calm (phase ∙ z)) in
       let one = raise_by x ran w k.2 (x.acked == 4) ran refl refl in
       let two = subst (λ (b : Bool). ReachesStops (q b) at' (slice_set pasts me Old) s (by me (with_on (stops.Raise n) said))) (over_is x.acked) one in
-      let three = subst (λ (m : ℕ). ReachesStops (q (n == 5)) at' (slice_set pasts me Old) s (by me (with_on (stops.Raise m) said))) (sym (phase_small n (omega (arith, high)))) two in
+      let three = subst (λ (m : ℕ). ReachesStops (q (n == 5)) at' (slice_set pasts me Old) s (by me (with_on (stops.Raise m) said))) (sym (phase_small n
+      (omega (arith, high)))) two in
       let four = subst (λ (z : Told). ReachesStops (q (n == 5)) at' (slice_set pasts me Old) s (by me z))
       (sym (then_if (nat_lt 1 n) (with_on (stops.Raise (phase_of n)) said) told.Nothing (lt-ltb 1 n some))) three in
-      subst (λ (z : StopState). ReachesStops z at' (slice_set pasts me Old) s (by me (cond (nat_lt 1 n) (with_on (stops.Raise (phase_of n)) said) told.Nothing)))
+      subst (λ (z : StopState). ReachesStops z at' (slice_set pasts me Old) s (by me (cond (nat_lt 1 n) (with_on (stops.Raise
+      (phase_of n)) said) told.Nothing)))
       (sym (then_if (p.now.stop x.slot).is_open (q (n == 5)) (stored_shut p x.slot field.State n) (open_now x ran w k.2))) four
     where
       above : (m : ℕ) → m ≢ 0 → 1 < m + 1
       above m ne = omega arith
+
       phase_small : (m : ℕ) → m ≤ 5 → phase_of m ≡ m
       phase_small m l = omega arith

@@ -1,5 +1,6 @@
 -- A CPU acknowledges a phase, and raises it.
-use Rattle.std.proofs.Common.{◌≡◌, ◌≢◌, ℕ, ◌-◌, ◌<◌, ◌≤◌, Bool, true, false, List, [], ◌∷◌, length, length-set, Option, Some, None, Ok, refl, ap, sym, ◌∙◌, subst, arith}
+use Rattle.std.proofs.Common.{◌≡◌, ◌≢◌, ℕ, ◌-◌, ◌<◌, ◌≤◌, Bool, true, false, List, [], ◌∷◌, length, length-set, Option, Some, None, Ok, refl, ap, sym}
+use Rattle.std.proofs.Common.{◌∙◌, subst, arith}
 use Rattle.std.proofs.lemmas.List.{get_or-set_same, get_or-set_other}
 use Rattle.std.specs.Prelude.{slice_set, pos}
 use Rattle.smp_words.specs.Size.{cpus}
@@ -31,7 +32,8 @@ use Rattle.smp_replay_laws.proofs.StopKinds.{Goes, in_slot, members_set, one_sto
 use Rattle.smp_replay_laws.proofs.StopStates.{stop_here}
 use Rattle.smp_replay_laws.proofs.StopSteps.{ReachesStops, member_as, set_step, stop_step}
 
-module _ (u : Setup) (p : StopState) (at at' : Word → ℕ) (seat : ℕ → Seat) (source : ℕ → Source) (h : StopShows u p at seat source) (me : ℕ) (below : me < cpus)
+module _ (u : Setup) (p : StopState) (at at' : Word → ℕ) (seat : ℕ → Seat) (source : ℕ → Source) (h : StopShows u p at seat source) (me : ℕ)
+    (below : me < cpus)
     (pasts : List Past) (sized : length pasts ≡ 32) (s : StateValue) (whole : s.setting.without ≡ nothing_left_out) (cpus_are : length s.cpus ≡ 32)
     (f : FollowsStops p at pasts s) (keys : (key : ℕ) → at' (Key key) ≡ at (Key key)) (sites : (site : ℕ) → at' (Site site) ≡ at (Site site)) where
   abbrev Is : StopState → ℕ → Stop → Option ℕ → Bool → Calling → Type 0
@@ -64,8 +66,10 @@ module _ (u : Setup) (p : StopState) (at at' : Word → ℕ) (seat : ℕ → Sea
     with_phase phase raiser = record (stop_at s slot) { acked = slice_set (stop_at s slot).acked me phase; raiser = raiser }
 
     -- the stop once the phase is acknowledged
-    pub told_acked : (x : Stop) (phase : ℕ) (raiser : Option ℕ) → x.standing me ≡ Inside phase phase → x.is_open ≡ (p.now.stop slot).is_open → x.work ≡ (p.now.stop slot).work
-        → x.phase ≡ (p.now.stop slot).phase → raiser_of x.raising ≡ raiser → is_called ((p.now.stop slot).standing me) ≡ false → given_by ((p.now.stop slot).standing me) ≡ None
+    pub told_acked : (x : Stop) (phase : ℕ) (raiser : Option ℕ) → x.standing me ≡ Inside phase phase → x.is_open ≡ (p.now.stop slot).is_open
+        → x.work ≡ (p.now.stop slot).work
+        → x.phase ≡ (p.now.stop slot).phase → raiser_of x.raising ≡ raiser → is_called ((p.now.stop slot).standing me) ≡ false
+        → given_by ((p.now.stop slot).standing me) ≡ None
         → ((cpu : ℕ) → cpu ≢ me → x.standing cpu ≡ (p.now.stop slot).standing cpu)
         → StopIs x (record (stop_at s slot) { acked = slice_set (stop_at s slot).acked me phase; raiser = raiser })
     told_acked x phase raiser stood x_open work same raising called given others = record {
@@ -92,11 +96,17 @@ module _ (u : Setup) (p : StopState) (at at' : Word → ℕ) (seat : ℕ → Sea
     }
 
     -- the CPU is in the stop still, and its interrupts are as they were
-    pub acks_told : (q : StopState) (x : Stop) (phase : ℕ) (raiser : Option ℕ) (calling : Calling) → x.standing me ≡ Inside phase phase → x.is_open ≡ (p.now.stop slot).is_open
-        → x.work ≡ (p.now.stop slot).work → x.phase ≡ (p.now.stop slot).phase → raiser_of x.raising ≡ raiser → is_called ((p.now.stop slot).standing me) ≡ false
+    pub acks_told : (q : StopState) (x : Stop) (phase : ℕ) (raiser : Option ℕ) (calling : Calling) → x.standing me ≡ Inside phase phase
+        → x.is_open ≡ (p.now.stop slot).is_open
+        → x.work ≡ (p.now.stop slot).work → x.phase ≡ (p.now.stop slot).phase → raiser_of x.raising ≡ raiser
+        → is_called ((p.now.stop slot).standing me) ≡ false
         → given_by ((p.now.stop slot).standing me) ≡ None → has_called calling ≡ has_called (p.calling me) → (past_at pasts me).phase ≡ phase
         → (past_at pasts me).answer ≡ pos 0 → Is q slot x (Some slot) (p.now.irq me) calling
-        → goes me (event.Stop (stops.Ack phase)) s ≡ Ok (with_stop slot s (record (stop_at s slot) { acked = slice_set (stop_at s slot).acked me phase; raiser = raiser }))
+        → goes me (event.Stop (stops.Ack phase)) s ≡ Ok (with_stop slot s (record (stop_at s slot) {
+          acked = slice_set
+              (stop_at s slot).acked me phase;
+          raiser = raiser;
+        }))
         → Leads q (past_at pasts me) ((me, event.Stop (stops.Ack phase)) ∷ [])
     acks_told q x phase raiser calling stood x_open work same raising called given calls past_phase past_answer g made =
         let y = record (stop_at s slot) { acked = slice_set (stop_at s slot).acked me phase; raiser = raiser } in
@@ -110,7 +120,8 @@ module _ (u : Setup) (p : StopState) (at at' : Word → ℕ) (seat : ℕ → Sea
 
     -- they go on where it has left
     module _ (q : StopState) (x : Stop) (y : ToldStop) (calling : Calling) (e : Event) (told : StopIs x y) (a : ℕ) (stood : x.standing me ≡ Inside a a)
-        (calls : has_called calling ≡ has_called (p.calling me)) (past_phase : (past_at pasts me).phase ≡ a) (last : a ≡ 4) (past_answer : (past_at pasts me).answer ≡ pos 0)
+        (calls : has_called calling ≡ has_called (p.calling me)) (past_phase : (past_at pasts me).phase ≡ a) (last : a ≡ 4) (past_answer :
+        (past_at pasts me).answer ≡ pos 0)
         (g : Is q slot x (Some slot) true calling) (ran : (cpu : ℕ) → has_run y cpu ≡ has_run (stop_at s slot) cpu)
         (made : goes me e s ≡ Ok (with_stop slot s y)) (kind : y.task.kind ≢ One) (acked_told : acked_by y me ≡ 4) (raiser : is_cpu y.raiser me ≡ false)
         (off : p.now.irq me ≡ false) where
@@ -137,7 +148,8 @@ module _ (u : Setup) (p : StopState) (at at' : Word → ℕ) (seat : ℕ → Sea
     abbrev raised : ℕ → ToldStop
     raised phase = record (stop_at s slot) { phase = phase; raiser = None }
 
-    pub told_raised : (x : Stop) (phase : ℕ) → x.is_open ≡ (p.now.stop slot).is_open → x.work ≡ (p.now.stop slot).work → x.phase ≡ phase → raiser_of x.raising ≡ None
+    pub told_raised : (x : Stop) (phase : ℕ) → x.is_open ≡ (p.now.stop slot).is_open → x.work ≡ (p.now.stop slot).work → x.phase ≡ phase
+        → raiser_of x.raising ≡ None
         → ((cpu : ℕ) → x.standing cpu ≡ (p.now.stop slot).standing cpu) → StopIs x (record (stop_at s slot) { phase = phase; raiser = None })
     told_raised x phase x_open work is raising same = record {
       sized = record { entered = size.entered; acked = size.acked; ran = size.ran; answers = size.answers };
@@ -161,9 +173,11 @@ module _ (u : Setup) (p : StopState) (at at' : Word → ℕ) (seat : ℕ → Sea
         let y = record (stop_at s slot) { phase = phase; raiser = None } in
         let t = with_stop slot s y in
         stop_step p q at at' pasts s me (past_at pasts me) below sized cpus_are f keys sites slot x y (cpu_at s me) i.below
-        (one_stop u p at at' seat source h me below pasts sized s whole cpus_are f keys sites q slot x (Some slot) (p.now.irq me) (p.calling me) y g (λ cpu ne. refl))
+        (one_stop u p at at' seat source h me below pasts sized s whole cpus_are f keys sites q slot x (Some slot) (p.now.irq me) (p.calling me) y g
+        (λ cpu ne. refl))
         (told_raised x phase x_open work is raising same) ((me, event.Stop (stops.Raise phase)) ∷ []) (t, (made, refl))
-        (in_slot u p at at' seat source h me below pasts sized s whole cpus_are f keys sites q t (past_at pasts me) slot x (p.now.irq me) (p.calling me) g i.below
+        (in_slot u p at at' seat source h me below pasts sized s whole cpus_are f keys sites q t (past_at pasts me) slot x (p.now.irq me)
+        (p.calling me) g i.below
         (me_now.inside ∙ inside) me_now.irq (ap (λ (z : ToldStop). has_run z me) (stop_here s slot y f.stops_are i.below) ∙ i.ran)
         (rw (same me) i.phase) (rw (same me) i.answer) me_now.reads)
 

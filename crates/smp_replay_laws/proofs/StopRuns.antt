@@ -1,5 +1,6 @@
 -- A CPU runs the function of its stop, answers and completes.
-use Rattle.std.proofs.Common.{◌≡◌, ◌≢◌, ℕ, ◌<◌, ◌≤◌, Bool, true, false, not, List, [], ◌∷◌, length, length-set, Option, Some, None, Ok, refl, ap, sym, ◌∙◌, inl, inr, ◌⊎◌, arith}
+use Rattle.std.proofs.Common.{◌≡◌, ◌≢◌, ℕ, ◌<◌, ◌≤◌, Bool, true, false, not, List, [], ◌∷◌, length, length-set, Option, Some, None, Ok, refl, ap, sym}
+use Rattle.std.proofs.Common.{◌∙◌, inl, inr, ◌⊎◌, arith}
 use Rattle.std.proofs.lemmas.Bool.{eq-eqb, and_right}
 use Rattle.std.proofs.lemmas.List.{get_or-set_same, get_or-set_other}
 use Rattle.std.specs.Prelude.{slice_set, pos}
@@ -34,7 +35,8 @@ use Rattle.smp_replay_laws.proofs.StopKinds.{Goes, in_none, in_slot, members_set
 use Rattle.smp_replay_laws.proofs.StopStates.{stop_here}
 use Rattle.smp_replay_laws.proofs.StopSteps.{ReachesStops, member_as, set_step, stop_step}
 
-module _ (u : Setup) (p : StopState) (at at' : Word → ℕ) (seat : ℕ → Seat) (source : ℕ → Source) (h : StopShows u p at seat source) (me : ℕ) (below : me < cpus)
+module _ (u : Setup) (p : StopState) (at at' : Word → ℕ) (seat : ℕ → Seat) (source : ℕ → Source) (h : StopShows u p at seat source) (me : ℕ)
+    (below : me < cpus)
     (pasts : List Past) (sized : length pasts ≡ 32) (s : StateValue) (whole : s.setting.without ≡ nothing_left_out) (cpus_are : length s.cpus ≡ 32)
     (f : FollowsStops p at pasts s) (keys : (key : ℕ) → at' (Key key) ≡ at (Key key)) (sites : (site : ℕ) → at' (Site site) ≡ at (Site site)) where
   abbrev Is : StopState → ℕ → Stop → Option ℕ → Bool → Calling → Type 0
@@ -71,7 +73,10 @@ module _ (u : Setup) (p : StopState) (at at' : Word → ℕ) (seat : ℕ → Sea
     abbrev entered : ToldStop
     entered = record (stop_at s slot) { ran = slice_set (stop_at s slot).ran me true }
 
-    told_entered : (a l : ℕ) → (p.now.stop slot).standing me ≡ Inside a l → StopIs (p.now.stop slot) (record (stop_at s slot) { ran = slice_set (stop_at s slot).ran me true })
+    told_entered : (a l : ℕ) → (p.now.stop slot).standing me ≡ Inside a l → StopIs (p.now.stop slot) (record (stop_at s slot) {
+      ran = slice_set
+          (stop_at s slot).ran me true;
+    })
     told_entered a l stood = record {
       sized = record { entered = size.entered; acked = size.acked; ran = length-set (stop_at s slot).ran me true ∙ size.ran; answers = size.answers };
       is_open = (f.stops slot i.below).is_open;
@@ -81,7 +86,10 @@ module _ (u : Setup) (p : StopState) (at at' : Word → ℕ) (seat : ℕ → Sea
         raiser = was.raiser;
         members = members_set u p at at' seat source h me below pasts sized s whole cpus_are f keys sites (p.now.stop slot) (p.now.stop slot) (stop_at s slot)
             (record (stop_at s slot) { ran = slice_set (stop_at s slot).ran me true }) was.members (λ cpu ne. refl)
-            (λ cpu ne m. member_as ((p.now.stop slot).standing cpu) (stop_at s slot) (record (stop_at s slot) { ran = slice_set (stop_at s slot).ran me true }) cpu refl refl refl
+            (λ cpu ne m. member_as ((p.now.stop slot).standing cpu) (stop_at s slot) (record (stop_at s slot) {
+              ran = slice_set
+                  (stop_at s slot).ran me true;
+            }) cpu refl refl refl
             (get_or-set_other (stop_at s slot).ran me cpu true false ne) m)
             (record { called = member.called; acked_is = member.acked_is; answer = member.answer; fresh = λ is. absurd (not_called a l (sym stood ∙ is)) });
         kind = was.kind;
@@ -92,9 +100,11 @@ module _ (u : Setup) (p : StopState) (at at' : Word → ℕ) (seat : ℕ → Sea
         not_called : (a l : ℕ) → Inside a l ≡ Called → ⊥
         not_called a l x = absurd cc
 
-    pub runs_told : (q : StopState) (a l func arg : ℕ) (calling : Calling) → (p.now.stop slot).standing me ≡ Inside a l → p.calling me ≡ Idle → has_called calling ≡ true
+    pub runs_told : (q : StopState) (a l func arg : ℕ) (calling : Calling) → (p.now.stop slot).standing me ≡ Inside a l → p.calling me ≡ Idle
+        → has_called calling ≡ true
         → Is q slot (p.now.stop slot) (Some slot) (p.now.irq me) calling
-        → ((p.now.stop slot).work.kind ≡ One) ⊎ (((p.now.stop slot).work.kind ≡ Multi) × ((has (p.now.stop slot).work.active me ≡ true) × ((a ≡ 2) × ((p.now.stop slot).phase ≡ 3))))
+        → ((p.now.stop slot).work.kind ≡ One) ⊎ (((p.now.stop slot).work.kind ≡ Multi) × ((has (p.now.stop slot).work.active me ≡ true) × ((a ≡ 2) ×
+        ((p.now.stop slot).phase ≡ 3))))
         → (p.now.stop slot).work.func ≡ func → (p.now.stop slot).work.arg ≡ arg → Leads q (past_at pasts me) ((me, event.Stop (stops.Run func arg)) ∷ [])
     unfolding stop_goes
     runs_told q a l func arg calling stood idle called g kinds func_is arg_is =
@@ -112,8 +122,10 @@ module _ (u : Setup) (p : StopState) (at at' : Word → ℕ) (seat : ℕ → Sea
         ] in
         stop_step p q at at' pasts s me (past_at pasts me) below sized cpus_are f keys sites slot (p.now.stop slot) y (cpu_at s me) i.below
         (one_stop u p at at' seat source h me below pasts sized s whole cpus_are f keys sites q slot (p.now.stop slot) (Some slot) (p.now.irq me) calling y g
-        (λ cpu ne. get_or-set_other (stop_at s slot).ran me cpu true false ne)) (told_entered a l stood) ((me, event.Stop (stops.Run func arg)) ∷ []) (t, (made, refl))
-        (in_slot u p at at' seat source h me below pasts sized s whole cpus_are f keys sites q t (past_at pasts me) slot (p.now.stop slot) (p.now.irq me) calling g i.below
+        (λ cpu ne. get_or-set_other (stop_at s slot).ran me cpu true false ne)) (told_entered a l stood) ((me, event.Stop (stops.Run func arg)) ∷ [])
+        (t, (made, refl))
+        (in_slot u p at at' seat source h me below pasts sized s whole cpus_are f keys sites q t (past_at pasts me) slot (p.now.stop slot)
+        (p.now.irq me) calling g i.below
         in_told me_now.irq (ap (λ (z : ToldStop). has_run z me) (stop_here s slot y f.stops_are i.below)
         ∙ (get_or-set_same (stop_at s slot).ran me true false (rw size.ran (omega arith)) ∙ sym called)) i.phase i.answer me_now.reads)
       where
@@ -126,7 +138,8 @@ module _ (u : Setup) (p : StopState) (at at' : Word → ℕ) (seat : ℕ → Sea
         → past.phase ≡ (past_at pasts me).phase → past.answer ≡ as_i32 answer → Leads q past []
     answers_step q past a l answer stood g phase given = silent u p at at' seat source h me below pasts sized s whole cpus_are f keys sites q past slot
         (stands (p.now.stop slot) me (Answering a answer)) (Some slot) (p.now.irq me) (p.calling me) g
-        (λ _. told_still u p at at' seat source h me below pasts sized s whole cpus_are f keys sites (p.now.stop slot) (stands (p.now.stop slot) me (Answering a answer))
+        (λ _. told_still u p at at' seat source h me below pasts sized s whole cpus_are f keys sites (p.now.stop slot) (stands (p.now.stop slot) me
+        (Answering a answer))
         (stop_at s slot) (f.stops slot i.below) refl refl refl refl g.standing_else
         (λ o m. rw (eq-eqb me me refl) (record {
           called = m.called ∙ ap is_called stood;
@@ -134,8 +147,10 @@ module _ (u : Setup) (p : StopState) (at at' : Word → ℕ) (seat : ℕ → Sea
           answer = m.answer ∙ ap given_by stood;
           fresh = λ is. absurd cc;
         })))
-        (in_slot u p at at' seat source h me below pasts sized s whole cpus_are f keys sites q s past slot (stands (p.now.stop slot) me (Answering a answer)) (p.now.irq me)
-        (p.calling me) g i.below (me_now.inside ∙ inside) me_now.irq i.ran (rw (eq-eqb me me refl) tt) (rw (eq-eqb me me refl) given) (λ x. me_now.reads (sym phase ∙ x)))
+        (in_slot u p at at' seat source h me below pasts sized s whole cpus_are f keys sites q s past slot (stands (p.now.stop slot) me
+        (Answering a answer)) (p.now.irq me)
+        (p.calling me) g i.below (me_now.inside ∙ inside) me_now.irq i.ran (rw (eq-eqb me me refl) tt) (rw (eq-eqb me me refl) given) (λ x. me_now.reads
+        (sym phase ∙ x)))
 
     -- the CPU completes
     pub completes_told : (q : StopState) (past : Past) (x : Stop) (a answer : ℕ) → x.standing me ≡ Completed a answer → x.is_open ≡ (p.now.stop slot).is_open
@@ -143,7 +158,10 @@ module _ (u : Setup) (p : StopState) (at at' : Word → ℕ) (seat : ℕ → Sea
         → acked ((p.now.stop slot).standing me) ≡ a → is_called ((p.now.stop slot).standing me) ≡ false → (past_at pasts me).answer ≡ as_i32 answer
         → Is q slot x None (p.now.irq me) Idle → past.phase ≡ (past_at pasts me).phase → past.answer ≡ pos 0
         → goes me (event.Stop (stops.Complete (past_at pasts me).answer)) s
-        ≡ Ok (with_cpu me (with_stop slot s (record (stop_at s slot) { answers = slice_set (stop_at s slot).answers me (Some (past_at pasts me).answer) })) (in_stop None (cpu_at s me)))
+        ≡ Ok (with_cpu me (with_stop slot s (record (stop_at s slot) {
+          answers = slice_set (stop_at s slot).answers me (Some
+              (past_at pasts me).answer);
+        })) (in_stop None (cpu_at s me)))
         → Leads q past ((me, event.Stop (stops.Complete (past_at pasts me).answer)) ∷ [])
     completes_told q past x a answer stood x_open work phase raising acked_is called given g past_phase past_answer made =
         let told = (past_at pasts me).answer in
@@ -158,13 +176,20 @@ module _ (u : Setup) (p : StopState) (at at' : Word → ℕ) (seat : ℕ → Sea
           fresh = λ is. absurd cc;
         }) in
         let told_so : StopIs x y = record {
-          sized = record { entered = size.entered; acked = size.acked; ran = size.ran; answers = length-set (stop_at s slot).answers me (Some told) ∙ size.answers };
+          sized = record {
+            entered = size.entered;
+            acked = size.acked;
+            ran = size.ran;
+            answers = length-set (stop_at s slot).answers me (Some told)
+                ∙ size.answers;
+          };
           is_open = (f.stops slot i.below).is_open ∙ sym x_open;
           shows = λ o. record {
             task = was.task ∙ rw work refl;
             phase = was.phase ∙ sym phase;
             raiser = was.raiser ∙ rw raising refl;
-            members = members_set u p at at' seat source h me below pasts sized s whole cpus_are f keys sites (p.now.stop slot) x (stop_at s slot) y was.members g.standing_else
+            members = members_set u p at at' seat source h me below pasts sized s whole cpus_are f keys sites (p.now.stop slot) x
+                (stop_at s slot) y was.members g.standing_else
                 (λ cpu ne m. member_as ((p.now.stop slot).standing cpu) (stop_at s slot) y cpu refl refl
                 (get_or-set_other (stop_at s slot).answers me cpu (Some told) None ne) refl m) here;
             kind = rw work was.kind;
@@ -180,15 +205,23 @@ module _ (u : Setup) (p : StopState) (at at' : Word → ℕ) (seat : ℕ → Sea
     -- so it does in a stop of kind One, and in a rendezvous
     pub complete_one : (p.now.stop slot).work.kind ≡ One → has_called (p.calling me) ≡ true
         → goes me (event.Stop (stops.Complete (past_at pasts me).answer)) s
-        ≡ Ok (with_cpu me (with_stop slot s (record (stop_at s slot) { answers = slice_set (stop_at s slot).answers me (Some (past_at pasts me).answer) })) (in_stop None (cpu_at s me)))
+        ≡ Ok (with_cpu me (with_stop slot s (record (stop_at s slot) {
+          answers = slice_set (stop_at s slot).answers me (Some
+              (past_at pasts me).answer);
+        })) (in_stop None (cpu_at s me)))
     unfolding stop_goes
     complete_one kind called =
-        completes_one s me whole slot (omega (arith, i.below)) (me_now.inside ∙ inside) (past_at pasts me).answer (ap (λ (z : Task). z.kind) was.task ∙ kind) (i.ran ∙ called)
+        completes_one s me whole slot (omega (arith, i.below)) (me_now.inside ∙ inside) (past_at pasts me).answer (ap (λ (z : Task). z.kind) was.task
+        ∙ kind) (i.ran ∙ called)
 
-    pub complete_round : (p.now.stop slot).work.kind ≢ One → 4 ≤ acked ((p.now.stop slot).standing me) → is_cpu (raiser_of (p.now.stop slot).raising) me ≡ false
+    pub complete_round : (p.now.stop slot).work.kind ≢ One → 4 ≤ acked ((p.now.stop slot).standing me)
+        → is_cpu (raiser_of (p.now.stop slot).raising) me ≡ false
         → p.now.irq me ≡ true → (has_called (p.calling me) ≡ true) ⊎ ((past_at pasts me).answer ≡ pos 0)
         → goes me (event.Stop (stops.Complete (past_at pasts me).answer)) s
-        ≡ Ok (with_cpu me (with_stop slot s (record (stop_at s slot) { answers = slice_set (stop_at s slot).answers me (Some (past_at pasts me).answer) })) (in_stop None (cpu_at s me)))
+        ≡ Ok (with_cpu me (with_stop slot s (record (stop_at s slot) {
+          answers = slice_set (stop_at s slot).answers me (Some
+              (past_at pasts me).answer);
+        })) (in_stop None (cpu_at s me)))
     unfolding stop_goes
     complete_round kind high not_last on given =
         let acks = member.acked_is in
@@ -197,4 +230,5 @@ module _ (u : Setup) (p : StopState) (at at' : Word → ℕ) (seat : ℕ → Sea
           | inr zero ↦ rw (was.patch, zero) (and_right (not (has_run (stop_at s slot) me)) false refl)
         ] in
         completes_round s me whole slot (omega (arith, i.below)) (me_now.inside ∙ inside) (past_at pasts me).answer
-        (λ x. kind (sym (ap (λ (z : Task). z.kind) was.task) ∙ x)) (omega (arith, acks, high)) (ap (λ (z : Option ℕ). is_cpu z me) was.raiser ∙ not_last) (me_now.irq ∙ on) may
+        (λ x. kind (sym (ap (λ (z : Task). z.kind) was.task) ∙ x)) (omega (arith, acks, high)) (ap (λ (z : Option ℕ). is_cpu z me) was.raiser
+        ∙ not_last) (me_now.irq ∙ on) may

@@ -1,5 +1,6 @@
 -- A source begins and opens its stop, and collects the result; a CPU reads a key or a site.
-use Rattle.std.proofs.Common.{◌≡◌, ◌≢◌, ℕ, zero, suc, ℤ, ◌<◌, ◌%◌, ◌^◌, nat_lt, Bool, true, false, not, ◌&&◌, cond, List, [], ◌∷◌, length, length-set, Option, Some, None, Ok, refl, ap, sym, ◌∙◌, subst, inl, inr, is_none, arith}
+use Rattle.std.proofs.Common.{◌≡◌, ◌≢◌, ℕ, zero, suc, ℤ, ◌<◌, ◌%◌, ◌^◌, nat_lt, Bool, true, false, not, ◌&&◌, cond, List, [], ◌∷◌, length, length-set}
+use Rattle.std.proofs.Common.{Option, Some, None, Ok, refl, ap, sym, ◌∙◌, subst, inl, inr, is_none, arith}
 use Rattle.std.proofs.lemmas.Bool.{eq-eqb, ne_eqb, true≢false, false≢true, and_left, and_right, lt-ltb}
 use Rattle.std.proofs.lemmas.List.{get_or-replicate, length-append, length-replicate}
 use Rattle.std.proofs.lemmas.Int.{of_z-to_z}
@@ -88,7 +89,8 @@ members_weight mask (suc k) =
     omega (arith, one, more, both)
 
 -- there is such a work, of CPUs that are online
-pub works : (u : Setting) (w : Work) (k : Kind) → w.kind ≡ k → k ≢ Patch → mask_weight cpus w.mask ≢ 0 → (k ≡ One → mask_weight cpus w.mask ≡ 1) → is_work u (told_work w) ≡ true
+pub works : (u : Setting) (w : Work) (k : Kind) → w.kind ≡ k → k ≢ Patch → mask_weight cpus w.mask ≢ 0 → (k ≡ One → mask_weight cpus w.mask ≡ 1)
+    → is_work u (told_work w) ≡ true
 works u w One e ne some one =
     let m = members_weight w.mask cpus in
     let o = one refl in
@@ -128,7 +130,8 @@ as_i32-zero n l e =
     let same : n % 2 ^ 32 ≡ cast_unsigned w32 (pos 0) = sym back ∙ ap (cast_unsigned w32) e in
     omega (arith, small, same, zero_word)
 
-module _ (u : Setup) (p : StopState) (at at' : Word → ℕ) (seat : ℕ → Seat) (source : ℕ → Source) (h : StopShows u p at seat source) (me : ℕ) (below : me < cpus)
+module _ (u : Setup) (p : StopState) (at at' : Word → ℕ) (seat : ℕ → Seat) (source : ℕ → Source) (h : StopShows u p at seat source) (me : ℕ)
+    (below : me < cpus)
     (pasts : List Past) (sized : length pasts ≡ 32) (s : StateValue) (whole : s.setting.without ≡ nothing_left_out) (cpus_are : length s.cpus ≡ 32)
     (f : FollowsStops p at pasts s) (keys : (key : ℕ) → at' (Key key) ≡ at (Key key)) (sites : (site : ℕ) → at' (Site site) ≡ at (Site site)) where
   abbrev Is : StopState → ℕ → Stop → Option ℕ → Bool → Calling → Type 0
@@ -178,7 +181,8 @@ module _ (u : Setup) (p : StopState) (at at' : Word → ℕ) (seat : ℕ → Sea
 
   -- a stop of which no CPU is inside goes on, and all that is told of it
   module _ (q : StopState) (past : Past) (slot : ℕ) (x : Stop) (y : ToldStop) (below_slot : slot < cpus) (empty : (c : ℕ) → p.now.inside c ≡ Some slot → ⊥)
-      (stop_is : (j : ℕ) → q.now.stop j ≡ put p.now.stop slot x j) (inside : (c : ℕ) → q.now.inside c ≡ p.now.inside c) (irq : (c : ℕ) → q.now.irq c ≡ p.now.irq c)
+      (stop_is : (j : ℕ) → q.now.stop j ≡ put p.now.stop slot x j) (inside : (c : ℕ) → q.now.inside c ≡ p.now.inside c) (irq : (c : ℕ)
+      → q.now.irq c ≡ p.now.irq c)
       (calling : (c : ℕ) → q.calling c ≡ p.calling c) (gate : q.gate ≡ p.gate) (here : StopIs x y) (my : CpuIs p s past me) where
     alike : (c : ℕ) → IsAlike p q s (with_stop slot s y) c
     alike c = record {
@@ -218,7 +222,16 @@ module _ (u : Setup) (p : StopState) (at at' : Word → ℕ) (seat : ℕ → Sea
       let same = λ (c j : ℕ). ap (λ (z : Stop). z.standing c) (stop_is j)
       ∙ put_all (λ k (z : Stop). z.standing c ≡ (p.now.stop k).standing c) p.now.stop me x (standing c) (λ k other. refl) j in
       let alike : (c : ℕ) → IsAlike p q s s c =
-      λ c. record { inside = inside c; irq = irq c; calling = calling c; standing = λ j e. same c j; inside_told = refl; irq_told = refl; ran = λ j e l. refl } in
+      λ c. record {
+        inside = inside c;
+        irq = irq c;
+        calling = calling c;
+        standing = λ j e. same c j;
+        inside_told = refl;
+        irq_told = refl;
+        ran =
+            λ j e l. refl;
+      } in
       record {
         t = s;
         runs = refl;
@@ -227,8 +240,14 @@ module _ (u : Setup) (p : StopState) (at at' : Word → ℕ) (seat : ℕ → Sea
           pasts_are = sized;
           stops_are = f.stops_are;
           gate = f.gate ∙ sym gate;
-          stops = λ j l. subst (λ (z : Stop). StopIs z (stop_at s j)) (sym (stop_is j)) (put_all (λ k (z : Stop). k < cpus → StopIs z (stop_at s k)) p.now.stop me x
-              (λ m. let k = f.stops me m in record { sized = k.sized; is_open = k.is_open ∙ (shut ∙ sym x_shut); shows = λ o. absurd (false≢true (sym x_shut ∙ o)) })
+          stops = λ j l. subst (λ (z : Stop). StopIs z (stop_at s j)) (sym (stop_is j)) (put_all (λ k (z : Stop). k < cpus
+              → StopIs z (stop_at s k)) p.now.stop me x
+              (λ m. let k = f.stops me m in record {
+                sized = k.sized;
+                is_open = k.is_open ∙ (shut ∙ sym x_shut);
+                shows = λ o. absurd (false≢true
+                    (sym x_shut ∙ o));
+              })
               (λ k ne m. f.stops k m) j l);
           mine = cpu_alike p q s s me past (alike me) my;
           others = λ c ne. alike c;
@@ -327,7 +346,8 @@ module _ (u : Setup) (p : StopState) (at at' : Word → ℕ) (seat : ℕ → Sea
         → Leads q (past_at pasts me) ((me, event.Stop (stops.Open task)) ∷ [])
     unfolding stop_goes
     opens_told task is works online gate stop_is inside irq calling gate_is =
-        rw is (empty_step q (past_at pasts me) me (opened (p.now.stop me) (p.now.stop me).work) (opening (told_work w)) below nobody stop_is inside irq calling gate_is told_opened
+        rw is (empty_step q (past_at pasts me) me (opened (p.now.stop me) (p.now.stop me).work) (opening
+        (told_work w)) below nobody stop_is inside irq calling gate_is told_opened
         me_now (event.Stop (stops.Open (told_work w))) (opens_stop s me whole (told_work w) ((f.stops me below).is_open ∙ shut) (f.gate ∙ gate) works online))
 
   -- a source collects the result
@@ -375,14 +395,17 @@ module _ (u : Setup) (p : StopState) (at at' : Word → ℕ) (seat : ℕ → Sea
         given_some Called k = absurd k
         given_some (Inside a l) k = absurd k
         given_some (Answering a v) k = absurd k
-        by_mask : (c : ℕ) → c < cpus → (b : Bool) → has (stop_at s me).task.mask c ≡ b → (has (stop_at s me).task.mask c && is_none (answer_of (stop_at s me) c)) ≡ false
+
+        by_mask : (c : ℕ) → c < cpus → (b : Bool) → has (stop_at s me).task.mask c ≡ b → (has (stop_at s me).task.mask c && is_none (answer_of
+            (stop_at s me) c)) ≡ false
         by_mask c l false e = and_left (has (stop_at s me).task.mask c) _ e
         by_mask c l true e =
             let of : has (p.now.stop me).work.mask c ≡ true = sym (ap (λ (z : Task). has z.mask c) was_open.task) ∙ e in
             and_right (has (stop_at s me).task.mask c) _ (ap is_none (was_open.members c l).answer ∙ given_some ((p.now.stop me).standing c) (all c of))
 
     -- the answers give this result: 0 where all are 0, and else one of those that are not
-    pub result_gives : u.cpus ≡ cpus → (result : ℕ) → result < 2 ^ 32 → ResultShows (p.now.stop me).standing result → gives (stop_at s me) (as_i32 result) ≡ true
+    pub result_gives : u.cpus ≡ cpus → (result : ℕ) → result < 2 ^ 32 → ResultShows (p.now.stop me).standing result
+        → gives (stop_at s me) (as_i32 result) ≡ true
     result_gives u_is result l (inl k) =
         let zero_told : as_i32 result ≡ pos 0 = ap as_i32 k.0 in
         rw (zero_told) (ap is_none (first_none (λ c. has (stop_at s me).task.mask c && is_same (is_answer (answer_of (stop_at s me) c) (pos 0)) false) 0 32
@@ -394,6 +417,7 @@ module _ (u : Setup) (p : StopState) (at at' : Word → ℕ) (seat : ℕ → Sea
         zero_of Called k zeros = absurd k
         zero_of (Inside a l) k zeros = absurd k
         zero_of (Answering a v) k zeros = absurd k
+
         by_mask : (c : ℕ) → c < cpus → (b : Bool) → has (stop_at s me).task.mask c ≡ b
             → (has (stop_at s me).task.mask c && is_same (is_answer (answer_of (stop_at s me) c) (pos 0)) false) ≡ false
         by_mask c x false e = and_left (has (stop_at s me).task.mask c) _ e
@@ -405,11 +429,14 @@ module _ (u : Setup) (p : StopState) (at at' : Word → ℕ) (seat : ℕ → Sea
         let c = k.1.0 in
         let of_it : is_of ((p.now.stop me).standing c) ≡ true = given_of ((p.now.stop me).standing c) k.1.1 in
         let member : has (p.now.stop me).work.mask c ≡ true = sym (rw open_now at ((h.present.slots me).members c)) ∙ of_it in
-        let small : c < cpus = subst (λ (n : ℕ). c < n) u_is (in_machine u.cpus (p.now.stop me).phase c ((p.now.stop me).standing c) of_it ((h.present.slots me).keeps c)) in
-        let answers : answer_of (stop_at s me) c ≡ Some (as_i32 result) = (was_open.members c small).answer ∙ completed_of ((p.now.stop me).standing c) (all c member) k.1.1 in
+        let small : c < cpus = subst (λ (n : ℕ). c < n) u_is (in_machine u.cpus (p.now.stop me).phase c ((p.now.stop me).standing c) of_it
+        ((h.present.slots me).keeps c)) in
+        let answers : answer_of (stop_at s me) c ≡ Some (as_i32 result) = (was_open.members c small).answer
+        ∙ completed_of ((p.now.stop me).standing c) (all c member) k.1.1 in
         let mask : has (stop_at s me).task.mask c ≡ true = ap (λ (z : Task). has z.mask c) was_open.task ∙ member in
         let not_zero : int_eq (as_i32 result) (pos 0) ≡ false = differs (as_i32 result) (pos 0) (λ e. k.0 (as_i32-zero result l e)) in
-        let found = first_some (λ j. has (stop_at s me).task.mask j && is_same (is_answer (answer_of (stop_at s me) j) (as_i32 result)) true) 0 32 c (omega arith) (omega (arith, small))
+        let found = first_some (λ j. has (stop_at s me).task.mask j && is_same (is_answer (answer_of (stop_at s me) j) (as_i32 result)) true) 0 32 c
+        (omega arith) (omega (arith, small))
         (rw (mask, answers, same_int (as_i32 result)) refl) in
         rw (not_zero, found.is) refl
       where
@@ -419,6 +446,7 @@ module _ (u : Setup) (p : StopState) (at at' : Word → ℕ) (seat : ℕ → Sea
         given_of (Inside a m) g = absurd g
         given_of (Answering a v) g = refl
         given_of (Completed a v) g = refl
+
         completed_of : (z : Standing) → HasCompleted z → HasGiven z result → given_by z ≡ Some (as_i32 result)
         completed_of (Completed a v) d g = ap (λ n. Some (as_i32 n)) g
         completed_of Outside d g = absurd d

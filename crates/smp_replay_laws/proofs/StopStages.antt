@@ -1,5 +1,6 @@
 -- The step of a CPU at each stage of the stop half is accepted: the gate, begin, enter, and readings.
-use Rattle.std.proofs.Common.{◌≡◌, ℕ, ◌+◌, ◌<◌, ◌%◌, ◌^◌, nat_lt, Bool, true, false, ◌&&◌, cond, List, [], length, Option, Some, None, refl, sym, ◌∙◌, subst, inl, inr, arith}
+use Rattle.std.proofs.Common.{◌≡◌, ℕ, ◌+◌, ◌<◌, ◌%◌, ◌^◌, nat_lt, Bool, true, false, ◌&&◌, cond, List, [], length, Option, Some, None, refl, sym, ◌∙◌}
+use Rattle.std.proofs.Common.{subst, inl, inr, arith}
 use Rattle.std.proofs.lemmas.Bool.{cases_eq, ne_eqb, true≢false, false≢true, and_left, and_right, lt-ltb, eqb-true}
 use Rattle.std.specs.Prelude.{slice_set, ◌==◌, pos}
 use Rattle.smp_mask.specs.Mask.{has}
@@ -37,7 +38,8 @@ use Rattle.smp_stop_steps.specs.declared.known.Duty.TheVariants.{Rests}
 use Rattle.smp_stop_steps.specs.declared.known.Seat.{Seat}
 use Rattle.smp_stop_steps.specs.declared.known.Seat.TheVariants.{Free, In}
 use Rattle.smp_stop_steps.specs.declared.stage.StopStage.{StopStage}
-use Rattle.smp_stop_steps.specs.declared.stage.StopStage.TheVariants.{TakeGate, OpenGate, Begin, Enter, EnterKind, EnterMask, EnterActive, ReadKey, ReadSite, NudgeKey}
+use Rattle.smp_stop_steps.specs.declared.stage.StopStage.TheVariants.{TakeGate, OpenGate, Begin, Enter, EnterKind, EnterMask, EnterActive, ReadKey}
+use Rattle.smp_stop_steps.specs.declared.stage.StopStage.TheVariants.{ReadSite, NudgeKey}
 use Rattle.smp_stop_steps.specs.declared.stage.Visit.{Visit}
 use Rattle.smp_stop_steps.proofs.State.Gates.{gate_free, gate_mine}
 use Rattle.smp_stop_steps.proofs.State.Phases.{is_open_inside}
@@ -110,7 +112,8 @@ module _ (v : StopsValue) (p : StopState) (shown : StopShown p v) (me : ℕ) (be
       ReachesStops (gate_told p me act.Cas new) (put_if put_word at Gate new) (slice_set pasts me past) s (by me (of_gate act.Cas new))
   gate_on true free = gate_taken u p at (put_word at Gate (me + 1)) shown.seat shown.source shown.shows me below pasts sized s whole cpus_are f
       (λ k. refl) (λ k. refl) (free refl)
-  gate_on false free = nothing_told u p at at shown.seat shown.source shown.shows me below pasts sized s whole cpus_are f (λ k. refl) (λ k. refl) past refl refl
+  gate_on false free = nothing_told u p at at shown.seat shown.source shown.shows me below pasts sized s whole cpus_are f (λ k. refl)
+      (λ k. refl) past refl refl
 
   pub takes_gate : Accepted TakeGate
   takes_gate = gate_on (at Gate == 0) (λ z. gate_free p.gate (sym shown.shows.gate ∙ eqb-true (at Gate) 0 z))
@@ -119,7 +122,8 @@ module _ (v : StopsValue) (p : StopState) (shown : StopShown p v) (me : ℕ) (be
   opens_gate e =
       let holds : at Gate ≡ me + 1 = subst (λ (x : Option StopStage). HoldsGate me (at Gate) x) e (shown.sits me below).gate_held in
       gate_given u p at (at_after at (stop_access cpus me c.changes OpenGate)) shown.seat shown.source shown.shows me below pasts sized s whole cpus_are f
-      (kept (stop_access cpus me c.changes OpenGate) Key (λ k. refl)) (kept (stop_access cpus me c.changes OpenGate) Site (λ k. refl)) (gate_mine me p.gate (sym shown.shows.gate ∙ holds))
+      (kept (stop_access cpus me c.changes OpenGate) Key (λ k. refl)) (kept (stop_access cpus me c.changes OpenGate) Site (λ k. refl))
+      (gate_mine me p.gate (sym shown.shows.gate ∙ holds))
 
   -- loads of what the CPU has entered
   abbrev Plain : StopStage → Type 0
@@ -127,7 +131,8 @@ module _ (v : StopsValue) (p : StopState) (shown : StopShown p v) (me : ℕ) (be
 
   pub loads : (stage : StopStage) → ((k : ℕ) → same_word (Key k) (word_of (stop_access cpus me c.changes stage)) ≡ false)
       → ((k : ℕ) → same_word (Site k) (word_of (stop_access cpus me c.changes stage)) ≡ false) → Plain stage
-  loads stage keys sites = nothing_told u p at (at_after at (stop_access cpus me c.changes stage)) shown.seat shown.source shown.shows me below pasts sized s whole cpus_are f
+  loads stage keys sites = nothing_told u p at (at_after at
+      (stop_access cpus me c.changes stage)) shown.seat shown.source shown.shows me below pasts sized s whole cpus_are f
       (kept (stop_access cpus me c.changes stage) Key keys) (kept (stop_access cpus me c.changes stage) Site sites) past refl refl
 
   -- a CPU enters where its bit is in the roll
@@ -140,8 +145,10 @@ module _ (v : StopsValue) (p : StopState) (shown : StopShown p v) (me : ℕ) (be
       let stood : (p.now.stop slot).standing me ≡ Called = called_is ((p.now.stop slot).standing me) called in
       let is_open : (p.now.stop slot).is_open ≡ true = is_open_inside u.cpus (p.now.stop slot) (λ g. at (Slot slot g)) k me Called stood refl in
       let idle : p.calling me ≡ Idle = idle_free me (p.calling me) (subst (λ (x : Seat). IsCalling me x (p.calling me)) free (shown.shows.callings me)) in
-      rw (e, lt-ltb me 32 (omega arith)) (enters_told u p at (at_after at (stop_access cpus me c.changes (Enter slot))) shown.seat shown.source shown.shows me below pasts sized s
-      whole cpus_are f (kept (stop_access cpus me c.changes (Enter slot)) Key (λ k. refl)) (kept (stop_access cpus me c.changes (Enter slot)) Site (λ k. refl)) _ slot l none is_open stood idle
+      rw (e, lt-ltb me 32 (omega arith)) (enters_told u p at (at_after at (stop_access cpus me c.changes
+      (Enter slot))) shown.seat shown.source shown.shows me below pasts sized s
+      whole cpus_are f (kept (stop_access cpus me c.changes (Enter slot)) Key (λ k. refl)) (kept (stop_access cpus me c.changes (Enter slot)) Site
+      (λ k. refl)) _ slot l none is_open stood idle
       (record {
         stop_is = λ j. refl;
         inside_is = put_same p.now.inside me (Some slot);
@@ -185,7 +192,8 @@ module _ (v : StopsValue) (p : StopState) (shown : StopShown p v) (me : ℕ) (be
   drafting w g e = subst (SourceShows u p.gate (p.now.stop me) (λ k. at (Slot me k)) me) (source_sits (Begin w g) e).1 (shown.shows.sources me)
 
   -- a field of a stop that is not open
-  stores : (w : Work) (g : Field) → c.stage ≡ Some (Begin w g) → (n : ℕ) → (after_draft past g n).phase ≡ past.phase → (after_draft past g n).answer ≡ past.answer
+  stores : (w : Work) (g : Field) → c.stage ≡ Some (Begin w g) → (n : ℕ) → (after_draft past g n).phase ≡ past.phase
+      → (after_draft past g n).answer ≡ past.answer
       → ReachesStops (record p { now = drafts p.now me g n }) (put_word at (Slot me g) n) (slice_set pasts me (after_draft past g n)) s []
   stores w g e n phase answer =
       let d = drafting w g e in
@@ -198,7 +206,8 @@ module _ (v : StopsValue) (p : StopState) (shown : StopShown p v) (me : ℕ) (be
   -- while it is not open
   stores_shut : (w : Work) (g : Field) (x : StopState) (n : ℕ) → c.stage ≡ Some (Begin w g) → (phase : (after_draft past g n).phase ≡ past.phase)
       → (after_draft past g n).answer ≡ past.answer
-      → ReachesStops (cond (p.now.stop me).is_open x (record p { now = drafts p.now me g n })) (put_word at (Slot me g) n) (slice_set pasts me (after_draft past g n)) s []
+      → ReachesStops (cond (p.now.stop me).is_open x (record p { now = drafts p.now me g n })) (put_word at (Slot me g) n) (slice_set pasts me
+      (after_draft past g n)) s []
   stores_shut w g x n e phase answer = subst (λ (z : StopState). ReachesStops z (put_word at (Slot me g) n) (slice_set pasts me (after_draft past g n)) s [])
       (sym (else_if (p.now.stop me).is_open x (record p { now = drafts p.now me g n }) (drafting w g e).shut)) (stores w g e n phase answer)
 
@@ -220,11 +229,13 @@ module _ (v : StopsValue) (p : StopState) (shown : StopShown p v) (me : ℕ) (be
       small m n e l = omega arith
 
   opens_so : (w : Work) → c.stage ≡ Some (Begin w field.Roll) → IsPlain w → DraftIs w field.Roll past.draft → s.setting.online ≡ v.online
-      → ReachesStops (opens p me) (put_word at (Slot me field.Roll) w.mask) (slice_set pasts me past) s (by me (of_roll past me act.Store (seen_so (Begin w field.Roll))))
+      → ReachesStops (opens p me) (put_word at (Slot me field.Roll) w.mask) (slice_set pasts me past) s (by me (of_roll past me act.Store (seen_so
+      (Begin w field.Roll))))
   opens_so w e plain d online =
       let k = drafting w field.Roll e in
       let same : (p.now.stop me).work ≡ w = drafted_all (p.now.stop me).work w k.told in
-      opens_told u p at (put_word at (Slot me field.Roll) w.mask) shown.seat shown.source shown.shows me below pasts sized s whole cpus_are f (λ j. refl) (λ j. refl)
+      opens_told u p at (put_word at (Slot me field.Roll) w.mask) shown.seat shown.source shown.shows me below pasts sized s whole cpus_are f
+      (λ j. refl) (λ j. refl)
       (opens p me) w same plain k.shut (task_of past.draft) (begun_task w past.draft plain d)
       (works s.setting w w.kind refl plain.kind k.is_work.some (λ one. subst (λ (x : Kind). IsOfKind u w x) one k.is_work.kind))
       (onlines s.setting w.mask (λ j m. rw online (k.is_work.online j m))) k.holds
@@ -255,11 +266,13 @@ module _ (v : StopsValue) (p : StopState) (shown : StopShown p v) (me : ℕ) (be
 
   key_on : (k : ℕ) (q : StopState) → p.now.irq me ≡ true → ((j : ℕ) → q.now.stop j ≡ p.now.stop j) → ((d : ℕ) → q.now.inside d ≡ p.now.inside d)
       → ((d : ℕ) → q.now.irq d ≡ p.now.irq d) → ((d : ℕ) → q.calling d ≡ p.calling d) → q.gate ≡ p.gate
-      → ReachesStops q at (slice_set pasts me past) s (by me (cond (past.phase == 3) told.Nothing (told.One (event.Label (labels.Key k (is_on (at (Key k))))))))
+      → ReachesStops q at (slice_set pasts me past) s (by me (cond (past.phase == 3) told.Nothing (told.One (event.Label (labels.Key k (is_on (at
+      (Key k))))))))
   key_on k q on stop inside irq calling gate = rw (on_read on)
       (reads_step u p at at shown.seat shown.source shown.shows me below pasts sized s whole cpus_are f (λ j. refl) (λ j. refl) q
       (event.Label (labels.Key k (is_on (at (Key k)))))
-      (key_read u p at at shown.seat shown.source shown.shows me below pasts sized s whole cpus_are f (λ j. refl) (λ j. refl) k on) stop inside irq calling gate)
+      (key_read u p at at shown.seat shown.source shown.shows me below pasts sized s whole cpus_are f (λ j. refl)
+      (λ j. refl) k on) stop inside irq calling gate)
 
   irq_on : c.interrupts ≡ true → p.now.irq me ≡ true
   irq_on e = shown.shows.present.irq me ∙ (sym (shown.sits me below).irq ∙ e)
@@ -276,6 +289,7 @@ module _ (v : StopsValue) (p : StopState) (shown : StopShown p v) (me : ℕ) (be
     where
       some : Some w.slot ≡ Some j → w.slot ≡ j
       some x = cc
+
       equal_phases : (a : ℕ) → is_at_run (Inside a a) ≡ false
       equal_phases a = elim (cases_eq a 2) [
         | inl two ↦ rw two refl

@@ -42,7 +42,8 @@ pub record IsAlike (p q : StopState) (s t : StateValue) (cpu : ℕ) : Type 0 whe
   pub irq_told : (cpu_at t cpu).irq ≡ (cpu_at s cpu).irq
   pub ran : (source : ℕ) → p.now.inside cpu ≡ Some source → source < cpus → has_run (stop_at t source) cpu ≡ has_run (stop_at s source) cpu
 
-inside_alike : (p q : StopState) (s t : StateValue) (cpu : ℕ) (past : Past) → IsAlike p q s t cpu → (source : ℕ) → p.now.inside cpu ≡ Some source → InsideIs p s past cpu source → InsideIs q t past cpu source
+inside_alike : (p q : StopState) (s t : StateValue) (cpu : ℕ) (past : Past) → IsAlike p q s t cpu → (source : ℕ) → p.now.inside cpu ≡ Some source
+    → InsideIs p s past cpu source → InsideIs q t past cpu source
 inside_alike p q s t cpu past k source e i = record {
   below = i.below;
   ran = k.ran source e i.below ∙ (i.ran ∙ ap has_called (sym k.calling));

@@ -39,7 +39,8 @@ word_kept at w u None e = refl
 word_kept at w u (Some n) e = rw e refl
 
 -- a member of a stop, where what is told of it is as before
-pub member_as : (x : Standing) (e f : ToldStop) (cpu : ℕ) → is_called f cpu ≡ is_called e cpu → acked_by f cpu ≡ acked_by e cpu → answer_of f cpu ≡ answer_of e cpu
+pub member_as : (x : Standing) (e f : ToldStop) (cpu : ℕ) → is_called f cpu ≡ is_called e cpu → acked_by f cpu ≡ acked_by e cpu
+    → answer_of f cpu ≡ answer_of e cpu
     → has_run f cpu ≡ has_run e cpu → MemberIs x e cpu → MemberIs x f cpu
 member_as x e f cpu called acked answer ran m = record {
   called = called ∙ m.called;
@@ -106,7 +107,16 @@ module _ (p q : StopState) (at at' : Word → ℕ) (pasts : List Past) (s : Stat
           gate = refl;
           stops = f.stops;
           mine = cpu_alike p (record p { gate = gate }) s t me past (alike t) mine;
-          others = λ cpu ne. record { inside = refl; irq = refl; calling = refl; standing = λ j inside. refl; inside_told = refl; irq_told = refl; ran = λ j inside l. refl };
+          others = λ cpu ne. record {
+            inside = refl;
+            irq = refl;
+            calling = refl;
+            standing = λ j inside. refl;
+            inside_told = refl;
+            irq_told = refl;
+            ran =
+                λ j inside l. refl;
+          };
           words = refl;
           keys = keys;
           sites = sites;
@@ -115,10 +125,20 @@ module _ (p q : StopState) (at at' : Word → ℕ) (pasts : List Past) (s : Stat
       })
     where
       alike : (t : StateValue) → IsAlike p (record p { gate = gate }) s (record s { gate = gate }) me
-      alike t = record { inside = refl; irq = refl; calling = refl; standing = λ j inside. refl; inside_told = refl; irq_told = refl; ran = λ j inside l. refl }
+      alike t = record {
+        inside = refl;
+        irq = refl;
+        calling = refl;
+        standing = λ j inside. refl;
+        inside_told = refl;
+        irq_told = refl;
+        ran =
+            λ j inside l. refl;
+      }
 
   -- the stop of a source goes on, and what is told of it is the same
-  module _ (source : ℕ) (x : Stop) (k : OneStop p q me source x (stop_at s source) (stop_at s source)) (here : source < cpus → StopIs x (stop_at s source)) where
+  module _ (source : ℕ) (x : Stop) (k : OneStop p q me source x (stop_at s source) (stop_at s source)) (here : source < cpus
+      → StopIs x (stop_at s source)) where
     standing_still : (cpu : ℕ) → cpu ≢ me → (j : ℕ) → (q.now.stop j).standing cpu ≡ (p.now.stop j).standing cpu
     standing_still cpu ne j = ap (λ (z : Stop). z.standing cpu) (k.stop_is j)
         ∙ put_all (λ i (z : Stop). z.standing cpu ≡ (p.now.stop i).standing cpu) p.now.stop source x (k.standing cpu ne) (λ i other. refl) j
@@ -155,7 +175,8 @@ module _ (p q : StopState) (at at' : Word → ℕ) (pasts : List Past) (s : Stat
     }
 
     -- but for the CPU's interrupts
-    pub cpu_step : (c : CpuState) (es : List (ℕ × Event)) → RunsTo s es (with_cpu me s c) → calls_in c ≡ calls_in (cpu_at s me) → CpuIs q (with_cpu me s c) past me
+    pub cpu_step : (c : CpuState) (es : List (ℕ × Event)) → RunsTo s es (with_cpu me s c) → calls_in c ≡ calls_in (cpu_at s me)
+        → CpuIs q (with_cpu me s c) past me
         → ReachesStops q at' (slice_set pasts me past) s es
     cpu_step c es runs calls mine = record {
       t = with_cpu me s c;
@@ -192,7 +213,8 @@ module _ (p q : StopState) (at at' : Word → ℕ) (pasts : List Past) (s : Stat
     }
 
   -- the stop of a source goes on, and the CPU's part
-  module _ (source : ℕ) (x : Stop) (y : ToldStop) (c : CpuState) (m : source < cpus) (k : OneStop p q me source x (stop_at s source) y) (here : StopIs x y) where
+  module _ (source : ℕ) (x : Stop) (y : ToldStop) (c : CpuState) (m : source < cpus) (k : OneStop p q me source x (stop_at s source) y)
+      (here : StopIs x y) where
     standing_else : (cpu : ℕ) → cpu ≢ me → (j : ℕ) → (q.now.stop j).standing cpu ≡ (p.now.stop j).standing cpu
     standing_else cpu ne j = ap (λ (z : Stop). z.standing cpu) (k.stop_is j)
         ∙ put_all (λ i (z : Stop). z.standing cpu ≡ (p.now.stop i).standing cpu) p.now.stop source x (k.standing cpu ne) (λ i other. refl) j

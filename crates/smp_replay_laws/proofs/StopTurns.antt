@@ -1,11 +1,11 @@
 -- The step of a CPU in a turn of a rendezvous is accepted.
-use Rattle.std.proofs.Common.{◌≡◌, ◌≢◌, ℕ, ◌+◌, ◌<◌, ◌≤◌, Bool, true, false, not, ◌&&◌, cond, List, [], ◌∷◌, ◌++◌, length, Option, Some, None, Ok, refl, ap, sym, ◌∙◌, subst, inl, inr, ◌⊎◌, arith}
-use Rattle.std.proofs.lemmas.Bool.{cases_eq, ne_eqb, false≢true, eqb-true, eqb-false}
-use Rattle.std.specs.Prelude.{slice_set, ◌==◌, pos}
+use Rattle.std.proofs.Common.{◌≡◌, ◌≢◌, ℕ, ◌+◌, ◌<◌, ◌≤◌, Bool, true, false, ◌&&◌, cond, List, [], ◌∷◌, ◌++◌, length, Option, Some, None, Ok}
+use Rattle.std.proofs.Common.{refl, ap, sym, ◌∙◌, subst, inl, inr, ◌⊎◌, arith}
+use Rattle.std.proofs.lemmas.Bool.{false≢true, eqb-true, eqb-false}
+use Rattle.std.specs.Prelude.{slice_set, ◌==◌}
 use Rattle.smp_mask.specs.Mask.{has}
 use Rattle.smp_labels.specs.Keys.{change_of}
-use Rattle.smp_words.specs.Access.{one_less}
-use Rattle.smp_words.specs.Put.{put, put_word}
+use Rattle.smp_words.specs.Put.{put}
 use Rattle.smp_words.specs.Size.{cpus}
 use Rattle.smp_words.specs.declared.field.Field.TheVariants as field
 use Rattle.smp_words.specs.declared.seen.Note.{Note}
@@ -17,17 +17,16 @@ use Rattle.smp_words.specs.declared.work.Kind.TheVariants.{One, Multi, Patch}
 use Rattle.smp_words.specs.declared.work.Work.{Work}
 use Rattle.smp_words.proofs.Puts.{put_all, put_other, put_same}
 use Rattle.smp_stop_steps.specs.Callings.{IsCalling}
-use Rattle.smp_stop_steps.specs.Labels.{Change, Patching, Whole, Patches}
-use Rattle.smp_stop_steps.specs.Present.{RunnerShows}
+use Rattle.smp_stop_steps.specs.Labels.{Change}
 use Rattle.smp_stop_steps.specs.Seats.{Stands, irq_of}
 use Rattle.smp_stop_steps.specs.Slots.{Keeps, OpenShows}
 use Rattle.smp_stop_steps.specs.Sits.{SitsInRound, SitsAt}
 use Rattle.smp_stop_steps.specs.Carries.{CarriesAt, IsQuiet}
-use Rattle.smp_stop_steps.specs.Stages.{StopControlValue, StopOutcome, looked_on, stop_ends, stop_goes, visit_acked}
-use Rattle.smp_stop_steps.specs.State.{Present, Setup, StopState}
-use Rattle.smp_stop_steps.specs.Stop.{Standing, Inside, Refills, Stop, acknowledged, is_called, stands}
+use Rattle.smp_stop_steps.specs.Stages.{StopControlValue, StopOutcome, looked_on, stop_ends, stop_goes}
+use Rattle.smp_stop_steps.specs.State.{Setup, StopState}
+use Rattle.smp_stop_steps.specs.Stop.{Standing, Inside, Stop, stands}
 use Rattle.smp_stop_steps.specs.Table.{stop_number}
-use Rattle.smp_stop_steps.specs.Tells.{called_more, calls_now, carried, carried_call, leaves, unpatched, is_multi, looked_by, may_call, reads, tells}
+use Rattle.smp_stop_steps.specs.Tells.{calls_now, is_multi, looked_by, may_call, reads, tells}
 use Rattle.smp_stop_steps.specs.Value.{StopShown, StopsValue, setup_of, stop_control_of}
 use Rattle.smp_stop_steps.specs.declared.known.Calling.{Calling}
 use Rattle.smp_stop_steps.specs.declared.known.Calling.TheVariants.{Idle, Calls, Carries}
@@ -43,23 +42,16 @@ use Rattle.smp_stop_steps.specs.declared.stage.Visit.{Visit}
 use Rattle.smp_stop_steps.proofs.State.Phases.{is_open_inside, keeps_inside}
 use Rattle.smp_event_steps.specs.declared.event.Event.TheVariants as event
 use Rattle.smp_event_steps.specs.declared.event.StopEvent.TheVariants as stops
-use Rattle.smp_event_steps.specs.declared.stop.Task.{Task}
 use Rattle.smp_event_steps.specs.Cpu.{handles_nothing}
-use Rattle.smp_event_steps.specs.State.{StateValue, cpu_at, stop_at, with_stop}
-use Rattle.smp_event_steps.specs.Step.{goes}
-use Rattle.smp_event_steps.specs.Stop.{acked_by, is_cpu}
-use Rattle.std.proofs.lemmas.List.{get_or-set_same}
+use Rattle.smp_event_steps.specs.State.{StateValue, cpu_at, stop_at}
 use Rattle.smp_events.specs.Past.{is_new, past_at, phase_of}
-use Rattle.smp_events.specs.Told.{of_arg, with_on}
+use Rattle.smp_events.specs.Told.{of_arg}
 use Rattle.smp_events.specs.declared.past.Past.{Past}
 use Rattle.smp_events.specs.declared.told.Told.TheVariants as told
 use Rattle.smp_replay_laws.specs.Follows.{nothing_left_out}
-use Rattle.smp_replay_laws.specs.Stops.{AnswerIs, CpuIs, FollowsStops, InsideIs, OpenIs, PhaseIs, given_by, has_called, raiser_of}
+use Rattle.smp_replay_laws.specs.Stops.{CpuIs, FollowsStops, InsideIs, OpenIs, PhaseIs}
 use Rattle.smp_replay_laws.proofs.Accepts.{by}
-use Rattle.smp_replay_laws.proofs.StopAcks as acking
-use Rattle.smp_replay_laws.proofs.StopKinds.{Goes}
 use Rattle.smp_replay_laws.proofs.StopMoves.{looked_step, off_step}
-use Rattle.smp_replay_laws.proofs.StopRounds.{acks_told, leaves_told, told_acked}
 use Rattle.smp_replay_laws.proofs.StopRuns.{runs_told}
 use Rattle.smp_replay_laws.proofs.StopStages.{Accepted, loads, seen_so}
 use Rattle.smp_replay_laws.proofs.StopSteps.{ReachesStops}
@@ -168,7 +160,8 @@ module _ (v : StopsValue) (p : StopState) (shown : StopShown p v) (me : ℕ) (be
     looks_on : (two : Bool) (new : Past) → (two ≡ true → p.now.irq me ≡ false) → new.answer ≡ Old.answer
         → (At (Slot slot field.State) ≢ 0 → new.phase ≡ At (Slot slot field.State)) → (new.phase ≡ 3 → p.now.irq me ≡ false)
         → ReachesStops (Looked two) At (slice_set pasts me new) s []
-    looks_on two new off answer phase reads = looked_step U p At At shown.seat shown.source shown.shows me below pasts sized s whole cpus_are f (λ j. refl) (λ j. refl)
+    looks_on two new off answer phase reads = looked_step U p At At shown.seat shown.source shown.shows me below pasts sized s whole cpus_are f
+        (λ j. refl) (λ j. refl)
         slot a (At (Slot slot field.State)) so.0 so.1 new answer (Looked two)
         (record {
           stop_is = looked_same;
@@ -183,7 +176,8 @@ module _ (v : StopsValue) (p : StopState) (shown : StopShown p v) (me : ℕ) (be
         }) phase reads
 
     -- interrupts go off
-    looks_off : (new : Past) → At (Slot slot field.State) ≡ 2 → a ≡ 1 → new.answer ≡ Old.answer → (At (Slot slot field.State) ≢ 0 → new.phase ≡ At (Slot slot field.State))
+    looks_off : (new : Past) → At (Slot slot field.State) ≡ 2 → a ≡ 1 → new.answer ≡ Old.answer → (At (Slot slot field.State) ≢ 0
+        → new.phase ≡ At (Slot slot field.State))
         → ReachesStops (Looked true) At (slice_set pasts me new) s ((me, event.Stop stops.Off) ∷ [])
     looks_off new two one answer phase = off_step U p At At shown.seat shown.source shown.shows me below pasts sized s whole cpus_are f (λ j. refl) (λ j. refl)
         slot a (At (Slot slot field.State)) so.0 so.1 new answer (Looked true)
@@ -197,7 +191,8 @@ module _ (v : StopsValue) (p : StopState) (shown : StopShown p v) (me : ℕ) (be
           calling_else = λ d ne. refl;
           standing_else = λ d ne. put_other (p.now.stop slot).standing me (Inside a (At (Slot slot field.State))) d ne;
           gate_is = refl;
-        }) phase (subst (λ (x : Work). x.kind ≢ One) (sym so.3) kind) (opened_here slot a a w Rests at_seat) (irq_here slot a a w Rests at_seat ∙ rw one refl) (omega arith)
+        }) phase (subst (λ (x : Work). x.kind ≢ One) (sym so.3) kind) (opened_here slot a a w Rests at_seat) (irq_here slot a a w Rests at_seat
+        ∙ rw one refl) (omega arith)
         (sym (words_here slot a a w Rests at_seat).state ∙ two) quiet
 
     -- by what is found
@@ -245,7 +240,8 @@ module _ (v : StopsValue) (p : StopState) (shown : StopShown p v) (me : ℕ) (be
   pub looks : (x : Visit) (answer : ℕ) → C.stage ≡ Some (Advance x (round.Look answer)) → Made (Advance x (round.Look answer))
   looks x answer e =
       let k = sits x (round.Look answer) e in
-      look_by x.slot x.acked k.2.0 k.2.2 (λ one. k.0 (k.2.1.kind ∙ one)) x answer (At (Slot x.slot field.State) == x.acked) (At (Slot x.slot field.State) == 2) refl refl
+      look_by x.slot x.acked k.2.0 k.2.2 (λ one. k.0 (k.2.1.kind ∙ one)) x answer (At (Slot x.slot field.State) == x.acked) (At
+      (Slot x.slot field.State) == 2) refl refl
 
   -- the function of a Multi stop is loaded, and runs
   pub loads_func : (x : Visit) (answer : ℕ) → Made (Advance x (round.LoadFunc answer))
@@ -294,7 +290,7 @@ module _ (v : StopsValue) (p : StopState) (shown : StopShown p v) (me : ℕ) (be
       at_three l n phase three two (inl e) = absurd (omega arith)
       at_three l n phase three two (inr e) = e.1 ∙ three
 
-  multi_is : (k : Kind) → k ≢ One → k ≢ Patch → k ≡ Multi
+  pub multi_is : (k : Kind) → k ≢ One → k ≢ Patch → k ≡ Multi
   multi_is One a b = absurd (a refl)
   multi_is Multi a b = refl
   multi_is Patch a b = absurd (b refl)
@@ -315,16 +311,22 @@ module _ (v : StopsValue) (p : StopState) (shown : StopShown p v) (me : ℕ) (be
       let may : may_call me (p.now.stop slot).work ((p.now.stop slot).standing me) ≡ true =
       ap (λ (z : Standing). may_call me (p.now.stop slot).work z) so.1 ∙ (ap (λ (z : Work). may_call me z (Inside 2 3)) so.3 ∙ may_at w kind active) in
       let multi : is_multi x.kind ≡ true = ap is_multi run.0.kind ∙ ap is_multi kind in
-      said_by slot (tells U p (seen_so v p shown me below pasts sized s whole cpus_are f (Advance x (round.LoadArg answer func))) answer) (is_multi x.kind) func
+      said_by slot (tells U p (seen_so v p shown me below pasts sized s whole cpus_are f (Advance x (round.LoadArg answer func))) answer)
+      (is_multi x.kind) func
       (record { control = record C { stage = Some (Advance x (round.Acknowledge answer true)) }; note = None })
       (stop_goes C (Advance x (round.LoadKey func (change_of (At (Slot slot field.Arg)))))) multi
-      (subst (λ (q : StopState). Runs q slot func (At (Slot slot field.Arg))) (sym (then_if (may_call me (p.now.stop slot).work ((p.now.stop slot).standing me))
+      (subst (λ (q : StopState). Runs q slot func (At (Slot slot field.Arg))) (sym (then_if (may_call me (p.now.stop slot).work
+      ((p.now.stop slot).standing me))
       (calls_now p me (p.now.stop slot).work (At (Slot slot field.Arg)) answer) p may)) r)
     where
       may_at : (w : Work) → w.kind ≡ Multi → has w.active me ≡ true → may_call me w (Inside 2 3) ≡ true
       may_at w kind active = rw (kind, active) refl
+
       said_by : (slot : ℕ) (q : StopState) (multi : Bool) (func : ℕ) (a b : StopOutcome) → multi ≡ true → Runs q slot func (At (Slot slot field.Arg))
-          → ReachesStops q At (slice_set pasts me Old) s (by me (of_arg (cond multi (record a { note = Some (note.Run func (At (Slot slot field.Arg))) }) b).note))
+          → ReachesStops q At (slice_set pasts me Old) s (by me (of_arg (cond multi (record a {
+            note = Some (note.Run func (At
+                (Slot slot field.Arg)));
+          }) b).note))
       said_by slot q true func a b e r = r
       said_by slot q false func a b e r = absurd (false≢true e)
 
@@ -336,156 +338,3 @@ module _ (v : StopsValue) (p : StopState) (shown : StopShown p v) (me : ℕ) (be
       let o = is_open_inside U.cpus (p.now.stop slot) (λ g. At (Slot slot g)) (shown.shows.present.slots slot) me (Inside 2 3) so.1 refl in
       let told = (f.stops slot i.below).shows o in
       told.kind (ap (λ (z : Work). z.kind) so.3 ∙ so.4)
-
-  -- a CPU acknowledges
-  module _ (slot a : ℕ) (w : Work) (at_seat : shown.seat me ≡ In slot w a (a + 1) Rests) (kind : w.kind ≢ One) (x : Visit) (answer : ℕ) (ran : Bool)
-      (called : a + 1 ≡ 3 → has w.active me ≡ true → has_called (p.calling me) ≡ true) where
-    abbrev here : Stands p.now me (In slot w a (a + 1) Rests)
-    here = st slot a (a + 1) w Rests at_seat
-
-    abbrev Ack : ℕ
-    Ack = At (Slot slot field.Ack)
-
-    abbrev Next : Stop
-    Next = acknowledged (p.now.stop slot) me (a + 1) (At (Slot slot field.Ack))
-
-    abbrev At' : Word → ℕ
-    At' = put_word At (Slot slot field.Ack) (one_less (At (Slot slot field.Ack)))
-
-    abbrev Acked : Present
-    Acked = record (p.now) {
-      stop = put p.now.stop slot (acknowledged (p.now.stop slot) me (a + 1) (At (Slot slot field.Ack)));
-      patching = cond (a + 1 == 3) (unpatched me p.now.patching) p.now.patching;
-    }
-
-    abbrev Q : Bool → StopState
-    Q left = record p {
-      now = cond left (leaves Acked me slot (p.now.stop slot).work) Acked;
-      calls = cond (a + 1 == 3) (called_more p.calls me (p.calling me)) p.calls;
-      calling = cond (a + 1 == 3) (put p.calling me (carried me p.now.patching (p.calling me))) p.calling;
-    }
-
-    -- who has called its function, has called it still
-    carried_same : (g : Calling) → has_called (carried_call g) ≡ has_called g
-    carried_same Idle = refl
-    carried_same (Calls call) = refl
-    carried_same (Carries n) = refl
-
-    calls_same : (g : Patching) → RunnerShows U.first g shown.seat → has_called (carried me g (p.calling me)) ≡ has_called (p.calling me)
-    calls_same Whole r = carried_same (p.calling me)
-    calls_same (Patches d y count made rest) r = elim (cases_eq d me) [
-      | inl e ↦ absurd (no_patch r.1.0 y count made rest (subst (λ (n : ℕ). shown.seat n ≡ Alters r.1.0 y count made rest) e r.1.1))
-      | inr ne ↦ rw (ne_eqb d me ne) (carried_same (p.calling me))
-    ]
-
-    calling_same : (three : Bool) → has_called ((cond three (put p.calling me (carried me p.now.patching (p.calling me))) p.calling) me) ≡ has_called (p.calling me)
-    calling_same true = ap has_called (put_same p.calling me _) ∙ calls_same p.now.patching shown.shows.present.runner
-    calling_same false = refl
-
-    calling_other : (three : Bool) (d : ℕ) → d ≢ me → (cond three (put p.calling me (carried me p.now.patching (p.calling me))) p.calling) d ≡ p.calling d
-    calling_other true d ne = put_other p.calling me _ d ne
-    calling_other false d ne = refl
-
-    pub old_is : Old.phase ≡ a + 1
-    old_is =
-        let k : PhaseIs (Inside a (a + 1)) Old.phase = subst (λ (z : Standing). PhaseIs z Old.phase) here.1 (my.stop slot here.0).phase in
-        k (λ z. absurd (omega arith))
-
-    old_answer : Old.answer ≡ pos 0
-    old_answer = subst (λ (z : Standing). AnswerIs z Old.answer) here.1 (my.stop slot here.0).answer
-
-    open_now : (p.now.stop slot).is_open ≡ true
-    open_now = opened_here slot a (a + 1) w Rests at_seat
-
-    made : goes me (event.Stop (stops.Ack (a + 1))) s ≡ Ok (with_stop slot s (record (stop_at s slot) { acked = slice_set (stop_at s slot).acked me (a + 1);
-        raiser = raiser_of (cond (At (Slot slot field.Ack) == 1) (Refills me) (p.now.stop slot).raising) }))
-    made = acking.ack_made U p At At' shown.seat shown.source shown.shows me below pasts sized s whole cpus_are f (λ j. refl) (λ j. refl) refl slot a w Idle here
-        (λ e. kind (ap (λ (z : Work). z.kind) (sym here.3) ∙ e)) (λ two. irq_here slot a (a + 1) w Rests at_seat ∙ off_two a two)
-        (λ three active. (multi_is (p.now.stop slot).work.kind (λ e. kind (ap (λ (z : Work). z.kind) (sym here.3) ∙ e)) (told_here slot a (a + 1) w Rests at_seat).kind,
-        called three (ap (λ (z : Work). has z.active me) (sym here.3) ∙ active)))
-      where
-        off_two : (n : ℕ) → n + 1 ≡ 2 → irq_of (In slot w n (n + 1) Rests) ≡ false
-        off_two n two =
-            let one : n ≡ 1 = omega arith in
-            rw one refl
-
-    abbrev IsAcked : Bool → Bool → Type 0
-    IsAcked left irq = Goes U p At At' shown.seat shown.source shown.shows me below pasts sized s whole cpus_are f (λ j. refl) (λ j. refl) (Q left) slot
-        (acknowledged (p.now.stop slot) me (a + 1) (At (Slot slot field.Ack))) (Some slot) irq
-        ((cond (a + 1 == 3) (put p.calling me (carried me p.now.patching (p.calling me))) p.calling) me)
-
-    stays : IsAcked false (p.now.irq me)
-    stays = record {
-      stop_is = λ j. refl;
-      inside_is = here.0;
-      irq_is = refl;
-      calling_is = refl;
-      inside_else = λ d ne. refl;
-      irq_else = λ d ne. refl;
-      calling_else = calling_other (a + 1 == 3);
-      standing_else = λ d ne. put_other (p.now.stop slot).standing me (Inside (a + 1) (a + 1)) d ne;
-      gate_is = refl;
-    }
-
-    goes_out : IsAcked true true
-    goes_out = record {
-      stop_is = λ j. refl;
-      inside_is = here.0;
-      irq_is = put_same p.now.irq me true;
-      calling_is = refl;
-      inside_else = λ d ne. refl;
-      irq_else = λ d ne. put_other p.now.irq me true d ne;
-      calling_else = calling_other (a + 1 == 3);
-      standing_else = λ d ne. put_other (p.now.stop slot).standing me (Inside (a + 1) (a + 1)) d ne;
-      gate_is = refl;
-    }
-
-    acked_now : (acknowledged (p.now.stop slot) me (a + 1) (At (Slot slot field.Ack))).standing me ≡ Inside (a + 1) (a + 1)
-    acked_now = put_same (p.now.stop slot).standing me (Inside (a + 1) (a + 1))
-
-    one_ack : ReachesStops (Q false) At' (slice_set pasts me Old) s ((me, event.Stop (stops.Ack (a + 1))) ∷ [])
-    one_ack = acks_told U p At At' shown.seat shown.source shown.shows me below pasts sized s whole cpus_are f (λ j. refl) (λ j. refl) slot here.0 open_now (Q false)
-        (acknowledged (p.now.stop slot) me (a + 1) (At (Slot slot field.Ack))) (a + 1)
-        (raiser_of (cond (At (Slot slot field.Ack) == 1) (Refills me) (p.now.stop slot).raising))
-        ((cond (a + 1 == 3) (put p.calling me (carried me p.now.patching (p.calling me))) p.calling) me) acked_now refl refl refl refl
-        (ap is_called here.1) (ap given_by here.1) (calling_same (a + 1 == 3)) old_is old_answer stays made
-
-    two_acks : a + 1 ≡ 4 → (At (Slot slot field.Ack) == 1) ≡ false
-        → ReachesStops (Q true) At' (slice_set pasts me Old) s ((me, event.Stop (stops.Ack (a + 1))) ∷ ((me, event.Stop stops.On) ∷ []))
-    two_acks exit last =
-        let y = record (stop_at s slot) { acked = slice_set (stop_at s slot).acked me (a + 1);
-            raiser = raiser_of (cond (At (Slot slot field.Ack) == 1) (Refills me) (p.now.stop slot).raising) } in
-        let told = told_here slot a (a + 1) w Rests at_seat in
-        let size = (f.stops slot (my.stop slot here.0).below).sized in
-        let acked : acked_by y me ≡ a + 1 = get_or-set_same (stop_at s slot).acked me (a + 1) 0 (rw size.acked (omega arith)) in
-        let none : raiser_of (cond (At (Slot slot field.Ack) == 1) (Refills me) (p.now.stop slot).raising) ≡ None =
-        rw (last, acking.nobody U p At At' shown.seat shown.source shown.shows me below pasts sized s whole cpus_are f (λ j. refl) (λ j. refl) refl slot a w Idle here) refl in
-        leaves_told U p At At' shown.seat shown.source shown.shows me below pasts sized s whole cpus_are f (λ j. refl) (λ j. refl) slot here.0 open_now (Q true)
-        (acknowledged (p.now.stop slot) me (a + 1) (At (Slot slot field.Ack))) y
-        ((cond (a + 1 == 3) (put p.calling me (carried me p.now.patching (p.calling me))) p.calling) me) (event.Stop (stops.Ack (a + 1)))
-        (told_acked U p At At' shown.seat shown.source shown.shows me below pasts sized s whole cpus_are f (λ j. refl) (λ j. refl) slot here.0 open_now
-        (acknowledged (p.now.stop slot) me (a + 1) (At (Slot slot field.Ack))) (a + 1)
-        (raiser_of (cond (At (Slot slot field.Ack) == 1) (Refills me) (p.now.stop slot).raising)) acked_now refl refl refl refl
-        (ap is_called here.1) (ap given_by here.1) goes_out.standing_else) (a + 1) acked_now (calling_same (a + 1 == 3)) old_is exit old_answer goes_out (λ d. refl) made
-        (λ e. kind (ap (λ (z : Work). z.kind) (sym here.3) ∙ (ap (λ (z : Task). z.kind) (sym told.task) ∙ e))) (acked ∙ exit) (ap (λ (z : Option ℕ). is_cpu z me) none)
-        (irq_here slot a (a + 1) w Rests at_seat ∙ off_three a exit)
-      where
-        off_three : (n : ℕ) → n + 1 ≡ 4 → irq_of (In slot w n (n + 1) Rests) ≡ false
-        off_three n e =
-            let three : n ≡ 3 = omega arith in
-            rw three refl
-
-    abbrev AckSaid : Bool → Bool → Option Note
-    AckSaid last exit = (cond {A = StopOutcome} last (stop_goes (record C { visit = Some (visit_acked x answer ran) }) (Advance (visit_acked x answer ran) (round.Refill ran)))
-        (stop_ends (record C { visit = Some (visit_acked x answer ran); interrupts = cond exit true C.interrupts }) (cond exit note.Left (cond ran note.Ran (note.Moved (a + 1)))))).note
-
-    pub ack_by : (last exit r : Bool) → ran ≡ r → (At (Slot slot field.Ack) == 1) ≡ last → (a + 1 == 4) ≡ exit
-        → ReachesStops (Q (exit && not last)) At' (slice_set pasts me Old) s
-        (by me (with_on (stops.Ack (a + 1)) (cond {A = StopOutcome} last
-        (stop_goes (record C { visit = Some (visit_acked x answer ran) }) (Advance (visit_acked x answer ran) (round.Refill ran)))
-        (stop_ends (record C { visit = Some (visit_acked x answer ran); interrupts = cond exit true C.interrupts }) (cond exit note.Left (cond r note.Ran (note.Moved (a + 1)))))).note))
-    ack_by true true r e one four = one_ack
-    ack_by true false r e one four = one_ack
-    ack_by false true r e one four = two_acks (eqb-true (a + 1) 4 four) one
-    ack_by false false true e one four = one_ack
-    ack_by false false false e one four = one_ack

@@ -1,9 +1,9 @@
 -- All events of a replay in which no stop is a patch are accepted.
-use Rattle.std.proofs.Common.{map, ◌≡◌, ◌≢◌, ℕ, ◌+◌, ◌-◌, ◌<◌, nat_lt, Bool, true, false, ◌==◌, cond, List, [], Option, Some, None, Ok, length, length-set, ◌%◌, refl, ap, sym, ◌∙◌, subst, inl, inr, ◌⊎◌, arith}
+use Rattle.std.proofs.Common.{map, ◌≡◌, ◌≢◌, ℕ, ◌-◌, ◌<◌, nat_lt, Bool, true, false, ◌==◌, cond, List, [], Option, Some, None, Ok, length}
+use Rattle.std.proofs.Common.{length-set, ◌%◌, refl, ap, sym, ◌∙◌, subst, inl, inr, ◌⊎◌, arith}
 use Rattle.std.proofs.lemmas.Bool.{cases_eq}
 use Rattle.std.specs.Prelude.{slice_set}
-use Rattle.smp_mask.specs.declared.error.SmpError.{SmpError}
-use Rattle.smp_words.specs.Access.{at_after, seen_of}
+use Rattle.smp_words.specs.Access.{at_after}
 use Rattle.smp_words.specs.Commands.{FitsCommand}
 use Rattle.smp_words.specs.Layout.{number_in}
 use Rattle.smp_words.specs.Put.{put}
@@ -11,7 +11,6 @@ use Rattle.smp_words.specs.Size.{cpus}
 use Rattle.smp_words.specs.declared.seen.Note.TheVariants as note
 use Rattle.smp_words.proofs.Puts.{put_all, put_other, put_same}
 use Rattle.smp_words.specs.declared.command.Command.{Command}
-use Rattle.smp_words.specs.declared.command.Command.TheVariants as command
 use Rattle.smp_words.specs.declared.seen.Seen.{Seen}
 use Rattle.smp_call_steps.specs.Calls.{CallState, tells}
 use Rattle.smp_call_steps.specs.Stages.{ControlValue, access_of, control_after, outcome_of}
@@ -50,47 +49,29 @@ use Rattle.smp_stop_steps.specs.Stages.{StopControlValue, answer_at, stop_access
 use Rattle.smp_stop_steps.specs.Table.{stop_number}
 use Rattle.smp_stop_steps.specs.Tells.{tells as tells_stops}
 use Rattle.smp_stop_steps.specs.Value.{StopShown, setup_of}
-use Rattle.smp_replay_laws.specs.Stops.{CpuIs, DraftIs, Drafts, FollowsStops, IsPlain}
+use Rattle.smp_replay_laws.specs.Stops.{CpuIs, Drafts, FollowsStops}
 use Rattle.smp_replay_laws.proofs.Replays.{start_elsewhere, start_posts, step_elsewhere}
 use Rattle.smp_replay_laws.proofs.States.{LeavesStops}
 use Rattle.smp_words.specs.declared.word.Word.{Word}
-use Rattle.smp_words.specs.declared.field.Field.{Field}
-use Rattle.smp_words.specs.declared.field.Field.TheVariants as field
-use Rattle.smp_words.specs.declared.work.Work.{Work}
 use Rattle.smp_replay_laws.proofs.StopStates.{LeavesCalls}
 use Rattle.smp_replay_laws.proofs.StopSteps.{ReachesStops}
 use Rattle.smp_replay_laws.proofs.StopAll.{stop_accepted}
+use Rattle.smp_replay_laws.proofs.StopBegins.{stage_drafts, first_drafts, first_apart, first_handles, begun_table, begun_here, begun_else}
+use Rattle.smp_replay_laws.proofs.StopBegins.{begun_drafts, begun_on, begun_none}
 use Rattle.smp_call_steps.specs.Stands.{Rests, StandsAt, share_of}
 use Rattle.smp_event_steps.specs.Cpu.{handles_nothing}
 use Rattle.smp_replay_laws.specs.Follows.{CallsOfCpu}
-use Rattle.smp_stop_steps.specs.Stages.{StopOutcome, begun_next, completion_outcome, key_on, looked_on, nudge_of, nudge_on, round_outcome, stop_ends, stop_goes, stop_outcome, turn_ends, visit_acked}
-use Rattle.smp_stop_steps.specs.Slots.{begun_value}
-use Rattle.smp_stop_steps.specs.Stages.{completes_from}
-use Rattle.smp_stop_steps.specs.Start.{answer_word, in_visit, refusal_on, stop_begun_if, stop_first, terms_of, unless}
-use Rattle.smp_stop_steps.specs.Value.{StopsValue}
-use Rattle.smp_stop_steps.specs.declared.start.Terms.{Terms}
+use Rattle.smp_stop_steps.specs.Stages.{stop_outcome}
+use Rattle.smp_stop_steps.specs.Start.{stop_first, terms_of}
 use Rattle.smp_core.proofs.OfflineStops.{started_told}
 use Rattle.smp_call_steps.proofs.Machine.Starts.{online_below}
-use Rattle.smp_stop_steps.specs.Tells.{is_multi}
-use Rattle.smp_stop_steps.specs.declared.stage.StopStage.TheVariants.{TakeGate, OpenGate, Begin, Enter, EnterKind, EnterMask, EnterActive, Advance, Complete, Close, LoadDone, LoadResult, ReadKey, ReadSite, NudgeKey, ExchangeKey}
-use Rattle.smp_stop_steps.specs.declared.stage.Visit.{Visit}
-use Rattle.smp_stop_steps.specs.declared.stage.CompletionStage.{CompletionStage}
-use Rattle.smp_stop_steps.specs.declared.stage.CompletionStage.TheVariants as completion
-use Rattle.smp_stop_steps.specs.declared.stage.RoundStage.{RoundStage}
-use Rattle.smp_stop_steps.specs.declared.stage.RoundStage.TheVariants as round
-use Rattle.smp_labels.specs.Keys.{change_of, count_after, is_on}
-use Rattle.smp_labels.specs.Kinds.{xor}
-use Rattle.smp_words.specs.Kinds.{kind_at, kind_word}
-use Rattle.smp_words.specs.declared.work.Kind.{Kind}
-use Rattle.smp_words.specs.declared.work.Kind.TheVariants.{One, Multi, Patch}
-use Rattle.smp_events.specs.Past.{after_draft}
-use Rattle.smp_events.specs.declared.past.Draft.{Draft}
 use Rattle.smp_mask.specs.Mask.{has}
 use Rattle.smp_stop_steps.specs.Machine.{stop_found_at, stop_stepped}
 use Rattle.smp_stop_steps.proofs.TheMachine.Made.{made_told}
 use Rattle.smp_stop_steps.proofs.TheMachine.Tables.{stop_words_by_name}
 use Rattle.smp_stop_steps.proofs.TheMachine.Values.{stop_controls_by_cpu, stop_inside_below, stop_word_named}
-use Rattle.smp_replay_laws.proofs.Halves.{KeepsCalls, KeepsStops, call_keeps, is_call_word, call_word, stop_keeps, stop_tells, stop_word}
+use Rattle.smp_replay_laws.proofs.Halves.{is_call_word, call_word, stop_tells, stop_word}
+use Rattle.smp_replay_laws.proofs.PastKept.{KeepsCalls, KeepsStops, call_keeps, stop_keeps}
 use Rattle.smp_replay_laws.proofs.Handles.{handles_step}
 use Rattle.smp_replay_laws.proofs.Pasts.{begun_same, keeps_past, past_else, past_here}
 use Rattle.smp_replay_laws.proofs.Posts.{Accepted, looks_step, posts_step, sends_step}
@@ -179,176 +160,6 @@ step_handles d (Done id) found on k = tt
 step_handles d (Post q stage) found on k = posts_handle q stage found on
 step_handles d (Handle stage) found on k = handles_on d stage found on k
 
--- what is kept of a stop that a CPU begins, after its next field
-kind_kept : (w : Kind) → kind_at (kind_word w) ≡ w
-kind_kept One = refl
-kind_kept Multi = refl
-kind_kept Patch = refl
-
-if_drafts : (b : Bool) (d : Draft) (x y : StopOutcome) → Drafts x.control.stage d → Drafts y.control.stage d → Drafts (cond b x y).control.stage d
-if_drafts true d x y k l = k
-if_drafts false d x y k l = l
-
-key_drafts : (c : StopControlValue) (x : Visit) (key found : ℕ) (o : Option ℕ) (d : Draft) → Drafts (key_on c x key found o).control.stage d
-key_drafts c x key found None d = tt
-key_drafts c x key found (Some new) d = if_drafts (found == new) d _ _ tt tt
-
-nudge_drafts : (c : StopControlValue) (key found : ℕ) (o : Option ℕ) (d : Draft) → Drafts (nudge_on c key found o).control.stage d
-nudge_drafts c key found None d = tt
-nudge_drafts c key found (Some new) d = if_drafts (xor (is_on found) (is_on new)) d (stop_ends c note.Stop) (stop_goes c (ExchangeKey key found new)) tt tt
-
-round_drafts : (me : ℕ) (c : StopControlValue) (x : Visit) (stage : RoundStage) (found : ℕ) (d : Draft) → Drafts (round_outcome me c x stage found).control.stage d
-round_drafts me c x (round.Look answer) found d = if_drafts (found == x.acked) d (stop_ends c note.Same) (looked_on me c x answer found) tt tt
-round_drafts me c x (round.LoadFunc answer) found d = tt
-round_drafts me c x (round.LoadArg answer func) found d =
-    if_drafts (is_multi x.kind) d (record { control = record c { stage = Some (Advance x (round.Acknowledge answer true)) }; note = Some (note.Run func found) })
-    (stop_goes c (Advance x (round.LoadKey func (change_of found)))) tt tt
-round_drafts me c x (round.LoadKey key change) found d = key_drafts c x key found (count_after change found) d
-round_drafts me c x (round.LoadEntry key word site) found d = tt
-round_drafts me c x (round.StoreChange made) found d = tt
-round_drafts me c x (round.Acknowledge answer ran) found d =
-    if_drafts (found == 1) d (stop_goes (record c { visit = Some (visit_acked x answer ran) }) (Advance (visit_acked x answer ran) (round.Refill ran)))
-    (turn_ends (record c { visit = Some (visit_acked x answer ran) }) (x.acked + 1) ran) tt tt
-round_drafts me c x (round.Refill ran) found d = tt
-round_drafts me c x (round.Raise ran) found d = tt
-
-completion_drafts : (c : StopControlValue) (x : Visit) (stage : CompletionStage) (found : ℕ) (d : Draft) → Drafts (completion_outcome c x stage found).control.stage d
-completion_drafts c x (completion.LoadFunc answer) found d = tt
-completion_drafts c x (completion.LoadArg answer func) found d = tt
-completion_drafts c x completion.StoreAnswer found d = tt
-completion_drafts c x completion.CountDown found d =
-    if_drafts (found == 1) d (stop_goes (record c { visit = None }) (Close x.slot)) (stop_ends (record c { visit = None }) note.Finished) tt tt
-
-begin_drafts : (c : StopControlValue) (past : Past) (w : Work) (g : Field) → IsPlain w → DraftIs w g past.draft
-    → Drafts (begun_next c w g).control.stage (after_draft past g (begun_value cpus w g)).draft
-begin_drafts c past w field.Kind plain d = (plain, kind_kept w.kind)
-begin_drafts c past w field.Mask plain d = (plain, (d, refl))
-begin_drafts c past w field.Active plain d = (plain, (d.0, (d.1, refl)))
-begin_drafts c past w field.Func plain d = (plain, (d.0, (d.1.0, (d.1.1, refl))))
-begin_drafts c past w field.Arg plain d = (plain, (d.0, (d.1.0, (d.1.1.0, (d.1.1.1, refl)))))
-begin_drafts c past w field.Result plain d = (plain, d)
-begin_drafts c past w field.Todo plain d = (plain, d)
-begin_drafts c past w field.Done plain d = (plain, d)
-begin_drafts c past w field.Ack plain d = (plain, d)
-begin_drafts c past w field.State plain d = (plain, d)
-begin_drafts c past w field.Roll plain d = tt
-
-stage_drafts : (me : ℕ) (c : StopControlValue) (past : Past) (stage : StopStage) (found : ℕ) → Drafts (Some stage) past.draft
-    → Drafts (stop_outcome me c stage found).control.stage (after past (seen_of me (stop_access cpus me c.changes stage) found (stop_outcome me c stage found).note)).draft
-stage_drafts me c past TakeGate found k = tt
-stage_drafts me c past OpenGate found k = tt
-stage_drafts me c past (Begin w g) found k = begin_drafts c past w g k.0 k.1
-stage_drafts me c past (Enter slot) found k = if_drafts (has found me) past.draft (stop_goes c (EnterKind slot)) (stop_ends c note.Stale) tt tt
-stage_drafts me c past (EnterKind slot) found k = tt
-stage_drafts me c past (EnterMask slot kind) found k = tt
-stage_drafts me c past (EnterActive slot kind mask) found k = tt
-stage_drafts me c past (Advance x stage) found k = round_drafts me c x stage found _
-stage_drafts me c past (Complete x stage) found k = completion_drafts c x stage found _
-stage_drafts me c past (Close slot) found k = tt
-stage_drafts me c past LoadDone found k = if_drafts (found == 0) past.draft (stop_ends c note.Pending) (stop_goes c LoadResult) tt tt
-stage_drafts me c past LoadResult found k = tt
-stage_drafts me c past (ReadKey key) found k = tt
-stage_drafts me c past (ReadSite site) found k = tt
-stage_drafts me c past (NudgeKey key up) found k = nudge_drafts c key found (count_after (nudge_of up) found) _
-stage_drafts me c past (ExchangeKey key expected new) found k = tt
-
--- a command of the stop half begins at a stage, and one of the call half at none
-visit_drafts : (o : Option Visit) (stage : Visit → StopStage) (d : Draft) → ((y : Visit) → Drafts (Some (stage y)) d) → Drafts (in_visit o stage) d
-visit_drafts None stage d k = tt
-visit_drafts (Some y) stage d k = k y
-
-first_drafts : (x : StopControlValue) (y : Command) → BeginsPlain y → (d : Draft) → Drafts (stop_first x y) d
-first_drafts x (command.Begin w) pl d = (pl, tt)
-first_drafts x command.Gate pl d = tt
-first_drafts x command.Ungate pl d = tt
-first_drafts x (command.Enter slot) pl d = tt
-first_drafts x (command.Advance n) pl d = visit_drafts x.visit (λ y. Advance y (round.Look (answer_word n))) d (λ y. tt)
-first_drafts x (command.RunOne n) pl d = visit_drafts x.visit (λ y. Complete y (completion.LoadFunc (answer_word n))) d (λ y. tt)
-first_drafts x command.Finish pl d = visit_drafts x.visit (λ y. Complete y (completes_from y)) d (λ y. tt)
-first_drafts x command.Poll pl d = tt
-first_drafts x (command.Key key) pl d = tt
-first_drafts x (command.Site site) pl d = tt
-first_drafts x (command.Nudge key up) pl d = tt
-first_drafts x (command.Post n to class func info tries) pl d = tt
-first_drafts x (command.Send to) pl d = tt
-first_drafts x (command.Done n) pl d = tt
-first_drafts x command.Handle pl d = tt
-
-first_apart : (online cpu : ℕ) (x : StopControlValue) (y : Command) → (first_stage online cpu y ≡ None) ⊎ (stop_first x y ≡ None)
-first_apart online cpu x (command.Post n to class func info tries) = inr refl
-first_apart online cpu x (command.Send to) = inr refl
-first_apart online cpu x (command.Done n) = inr refl
-first_apart online cpu x command.Handle = inr refl
-first_apart online cpu x command.Gate = inl refl
-first_apart online cpu x command.Ungate = inl refl
-first_apart online cpu x (command.Begin w) = inl refl
-first_apart online cpu x (command.Enter slot) = inl refl
-first_apart online cpu x (command.Advance n) = inl refl
-first_apart online cpu x (command.RunOne n) = inl refl
-first_apart online cpu x command.Finish = inl refl
-first_apart online cpu x command.Poll = inl refl
-first_apart online cpu x (command.Key key) = inl refl
-first_apart online cpu x (command.Site site) = inl refl
-first_apart online cpu x (command.Nudge key up) = inl refl
-
-unless_none : (b : Bool) (e : SmpError) → unless b e ≡ None → b ≡ true
-unless_none true e x = refl
-unless_none false e x = absurd cc
-
-first_handles : (online cpu : ℕ) (t : Terms) (x : StopControlValue) (y : Command) → refusal_on t x y ≡ None → HandlesWithOn (first_stage online cpu y) x.interrupts
-first_handles online cpu t x command.Handle e = unless_none x.interrupts _ e
-first_handles online cpu t x (command.Post n to class func info tries) e = tt
-first_handles online cpu t x (command.Send to) e = tt
-first_handles online cpu t x (command.Done n) e = tt
-first_handles online cpu t x command.Gate e = tt
-first_handles online cpu t x command.Ungate e = tt
-first_handles online cpu t x (command.Begin w) e = tt
-first_handles online cpu t x (command.Enter slot) e = tt
-first_handles online cpu t x (command.Advance n) e = tt
-first_handles online cpu t x (command.RunOne n) e = tt
-first_handles online cpu t x command.Finish e = tt
-first_handles online cpu t x command.Poll e = tt
-first_handles online cpu t x (command.Key key) e = tt
-first_handles online cpu t x (command.Site site) e = tt
-first_handles online cpu t x (command.Nudge key up) e = tt
-
--- where a CPU stands in the stop half once a command has begun
-begun_at : StopControlValue → Option StopStage → StopControlValue
-begun_at x None = x
-begun_at x (Some stage) = record x { stage = Some stage }
-
-begun_table : (v : StopsValue) (cpu : ℕ) (o : Option StopStage) → (stop_begun_if v cpu o).table ≡ v.table
-begun_table v cpu None = refl
-begun_table v cpu (Some stage) = refl
-
-begun_here : (v : StopsValue) (cpu : ℕ) (o : Option StopStage) → length v.controls ≡ cpus → cpu < cpus
-    → stop_control_of (stop_begun_if v cpu o).controls cpu ≡ begun_at (stop_control_of v.controls cpu) o
-unfolding begun_at
-begun_here v cpu None l b = refl
-begun_here v cpu (Some stage) l b = stop_controls_by_cpu v.controls cpu cpu (record (stop_control_of v.controls cpu) { stage = Some stage }) (omega (arith, l, b))
-    ∙ put_same (stop_control_of v.controls) cpu (record (stop_control_of v.controls cpu) { stage = Some stage })
-
-begun_else : (v : StopsValue) (cpu : ℕ) (o : Option StopStage) (c : ℕ) → length v.controls ≡ cpus → cpu < cpus → c ≢ cpu
-    → stop_control_of (stop_begun_if v cpu o).controls c ≡ stop_control_of v.controls c
-begun_else v cpu None c l b ne = refl
-begun_else v cpu (Some stage) c l b ne = stop_controls_by_cpu v.controls cpu c (record (stop_control_of v.controls cpu) { stage = Some stage }) (omega (arith, l, b))
-    ∙ put_other (stop_control_of v.controls) cpu (record (stop_control_of v.controls cpu) { stage = Some stage }) c ne
-
-begun_drafts : (x : StopControlValue) (o : Option StopStage) (d : Draft) → x.stage ≡ None → Drafts o d → Drafts (begun_at x o).stage d
-unfolding begun_at
-begun_drafts x None d e k = rw e tt
-begun_drafts x (Some stage) d e k = k
-
-begun_on : (x : StopControlValue) (o : Option StopStage) → (begun_at x o).interrupts ≡ x.interrupts
-unfolding begun_at
-begun_on x None = refl
-begun_on x (Some stage) = refl
-
-begun_none : (x : StopControlValue) (o : Option StopStage) → x.stage ≡ None → o ≡ None → (begun_at x o).stage ≡ None
-unfolding begun_at
-begun_none x None e k = e
-begun_none x (Some stage) e k = absurd cc
-
 module _ (core : CoreValue) (a : CallState) (p : StopState) (pasts : List Past) (s : StateValue) (k : StandsAll core a p pasts s) (cpu : ℕ) where
   sized : length core.controls ≡ cpus
   sized = k.whole.sound.table.controls_sized
@@ -381,11 +192,14 @@ module _ (core : CoreValue) (a : CallState) (p : StopState) (pasts : List Past) 
 
     step_accepted : (x : Stage) → (control_of core.controls cpu).stage ≡ Some x → AimsOnline core.online (Some x) → GoesElsewhere (Some x) cpu
         → PostIs (Some x) (past_at pasts cpu).post → HandlesWithOn (Some x) (stop_control_of core.stops.controls cpu).interrupts → Goes x
-    step_accepted (Send to) f on ne q h = sends_step core.online a (number_in core.words) (control_of core.controls) k.calls cpu below pasts s k.follows to f on
+    step_accepted (Send to) f on ne q h = sends_step core.online a (number_in core.words)
+        (control_of core.controls) k.calls cpu below pasts s k.follows to f on
     step_accepted (Done id) f on ne q h = looks_step core.online a (number_in core.words) (control_of core.controls) k.calls cpu below pasts s k.follows id f
-    step_accepted (Post r x) f on ne q h = posts_step core.online a (number_in core.words) (control_of core.controls) k.calls cpu below pasts s k.follows r x f on ne q
+    step_accepted (Post r x) f on ne q h = posts_step core.online a (number_in core.words)
+        (control_of core.controls) k.calls cpu below pasts s k.follows r x f on ne q
     step_accepted (Handle x) f on ne q h =
-        handles_step core.online a (number_in core.words) (control_of core.controls) k.calls cpu below pasts s k.follows (irq_is cpu below ∙ h) (k.keeps.begun cpu below) x f
+        handles_step core.online a (number_in core.words) (control_of core.controls) k.calls cpu below pasts s k.follows (irq_is cpu below
+        ∙ h) (k.keeps.begun cpu below) x f
 
     pub reached : Reaches core.online (tells a (seen_at core cpu stage)) s (events_of_step pasts (seen_at core cpu stage))
     reached = step_accepted stage e aims away posted handled
@@ -424,7 +238,8 @@ module _ (core : CoreValue) (a : CallState) (p : StopState) (pasts : List Past) 
           follows = reached.follows;
           keeps = subst (λ (f : ℕ → ControlValue). KeepsPast (tells a (seen_at core cpu stage)) f (kept pasts (seen_at core cpu stage))) (sym by_name)
               (keeps_past a (number_in core.words) (control_of core.controls) k.calls cpu pasts below k.keeps stage e);
-          follows_stops = stops_moved p (stop_number core.stops.table) pasts (kept pasts (seen_at core cpu stage)) s reached.t reached.leaves kept_here k.follows_stops;
+          follows_stops = stops_moved p (stop_number core.stops.table) pasts (kept pasts
+              (seen_at core cpu stage)) s reached.t reached.leaves kept_here k.follows_stops;
           elsewhere = subst (λ (f : ℕ → ControlValue). (j : ℕ) → GoesElsewhere (f j).stage j) (sym by_name)
               (put_all (λ j x. GoesElsewhere x.stage j) (control_of core.controls) cpu next
               (step_elsewhere (control_of core.controls cpu).drain cpu stage (found_at core cpu stage) away) (λ j ne. k.elsewhere j));
@@ -434,7 +249,8 @@ module _ (core : CoreValue) (a : CallState) (p : StopState) (pasts : List Past) 
               (step_handles (control_of core.controls cpu).drain stage (found_at core cpu stage) (stop_control_of core.stops.controls cpu).interrupts handled)
               (λ j ne. k.handles j));
           apart = subst (λ (f : ℕ → ControlValue). (j : ℕ) → ((f j).stage ≡ None) ⊎ ((stop_control_of core.stops.controls j).stage ≡ None)) (sym by_name)
-              (put_all (λ j x. (x.stage ≡ None) ⊎ ((stop_control_of core.stops.controls j).stage ≡ None)) (control_of core.controls) cpu next (inr stop_none) (λ j ne. k.apart j));
+              (put_all (λ j x. (x.stage ≡ None) ⊎ ((stop_control_of core.stops.controls j).stage ≡ None)) (control_of core.controls) cpu next
+              (inr stop_none) (λ j ne. k.apart j));
         }
 
   -- the step of a CPU that is inside a command of the stop half
@@ -444,7 +260,8 @@ module _ (core : CoreValue) (a : CallState) (p : StopState) (pasts : List Past) 
     stop_below = let l = stop_inside_below core.stops.controls cpu stage e in let n = stops_sized in omega (arith, l, n)
 
     rests : Rests (share_of a cpu)
-    rests = subst (λ (x : Option Stage). StandsAt a.place (number_in core.words) (share_of a cpu) (control_of core.controls cpu).drain cpu x) out (k.calls.stands cpu)
+    rests = subst (λ (x : Option Stage). StandsAt a.place (number_in core.words) (share_of a cpu) (control_of core.controls cpu).drain cpu x) out
+        (k.calls.stands cpu)
 
     quiet : handles_nothing (cpu_at s cpu) ≡ Ok tt
     quiet =
@@ -460,7 +277,8 @@ module _ (core : CoreValue) (a : CallState) (p : StopState) (pasts : List Past) 
     abbrev pub told_stops : StopState
     told_stops = tells_stops (setup_of core.stops.online core.stops.labels) p (stop_seen_at core.stops cpu stage) (answer_at stage)
 
-    pub reached_stops : ReachesStops told_stops (at_after (stop_number core.stops.table) (stop_access cpus cpu (stop_control_of core.stops.controls cpu).changes stage))
+    pub reached_stops : ReachesStops told_stops (at_after (stop_number core.stops.table) (stop_access cpus cpu
+        (stop_control_of core.stops.controls cpu).changes stage))
         (kept pasts (stop_seen_at core.stops cpu stage)) s (events_of_step pasts (stop_seen_at core.stops cpu stage))
     reached_stops = stop_accepted core.stops p k.stops cpu stop_below pasts k.keeps.pasts_are s k.follows.whole k.follows.cpus_are k.follows_stops quiet
         k.whole.stops.results (k.follows.online_is ∙ sym k.whole.sound.stops_online) stage e
@@ -496,7 +314,8 @@ module _ (core : CoreValue) (a : CallState) (p : StopState) (pasts : List Past) 
     drafts_next = stage_drafts cpu (stop_control_of core.stops.controls cpu) (past_at pasts cpu) stage (stop_found_at core.stops cpu stage)
         (subst (λ (x : Option StopStage). Drafts x (past_at pasts cpu).draft) e (k.drafts cpu stop_below))
 
-    pub stop_stands : StandsAll (stops_stepped core cpu stage) (tells a (stop_seen_at core.stops cpu stage)) told_stops (kept pasts (stop_seen_at core.stops cpu stage)) reached_stops.t
+    pub stop_stands : StandsAll (stops_stepped core cpu stage) (tells a (stop_seen_at core.stops cpu stage)) told_stops (kept pasts
+        (stop_seen_at core.stops cpu stage)) reached_stops.t
     stop_stands = rw same (record {
       whole = whole;
       calls = k.calls;
@@ -505,19 +324,29 @@ module _ (core : CoreValue) (a : CallState) (p : StopState) (pasts : List Past) 
       follows = calls_left core.online a s reached_stops.t reached_stops.leaves k.follows;
       keeps = record {
         pasts_are = length-set pasts cpu (after (past_at pasts cpu) (stop_seen_at core.stops cpu stage)) ∙ k.keeps.pasts_are;
-        begun = λ c l. begun_same (a.running c) (past_at pasts c) (past_at (kept pasts (stop_seen_at core.stops cpu stage)) c) (calls_kept c l).begun (k.keeps.begun c l);
+        begun = λ c l. begun_same (a.running c) (past_at pasts c) (past_at (kept pasts (stop_seen_at core.stops cpu stage)) c) (calls_kept c l).begun
+            (k.keeps.begun c l);
         posts = λ c l. rw (calls_kept c l).post (k.keeps.posts c l);
       };
-      follows_stops = subst (λ (at : Word → ℕ). FollowsStops told_stops at (kept pasts (stop_seen_at core.stops cpu stage)) reached_stops.t) (sym named) reached_stops.follows;
+      follows_stops = subst (λ (at : Word → ℕ). FollowsStops told_stops at (kept pasts (stop_seen_at core.stops cpu stage)) reached_stops.t)
+          (sym named) reached_stops.follows;
       elsewhere = k.elsewhere;
       drafts = λ c l. elim (cases_eq c cpu) [
-        | inl is ↦ rw (is, by_name_stops cpu, put_same (stop_control_of core.stops.controls) cpu Next,
-            past_here pasts cpu (after (past_at pasts cpu) (stop_seen_at core.stops cpu stage)) k.keeps.pasts_are stop_below) drafts_next
-        | inr ne ↦ rw (by_name_stops c, put_other (stop_control_of core.stops.controls) cpu Next c ne,
-            past_else pasts cpu (after (past_at pasts cpu) (stop_seen_at core.stops cpu stage)) c ne) (k.drafts c l)
+        | inl is ↦ rw (
+          is,
+          by_name_stops cpu,
+          put_same (stop_control_of core.stops.controls) cpu Next,
+          past_here pasts cpu (after (past_at pasts cpu) (stop_seen_at core.stops cpu stage)) k.keeps.pasts_are stop_below,
+        ) drafts_next
+        | inr ne ↦ rw (
+          by_name_stops c,
+          put_other (stop_control_of core.stops.controls) cpu Next c ne,
+          past_else pasts cpu (after (past_at pasts cpu) (stop_seen_at core.stops cpu stage)) c ne,
+        ) (k.drafts c l)
       ];
       handles = λ c. elim (cases_eq c cpu) [
-        | inl is ↦ subst (λ (n : ℕ). HandlesWithOn (control_of core.controls n).stage (stop_control_of (slice_set core.stops.controls cpu Next) n).interrupts) (sym is)
+        | inl is ↦ subst (λ (n : ℕ). HandlesWithOn (control_of core.controls n).stage (stop_control_of
+            (slice_set core.stops.controls cpu Next) n).interrupts) (sym is)
             (rw out tt)
         | inr ne ↦ rw (by_name_stops c, put_other (stop_control_of core.stops.controls) cpu Next c ne) (k.handles c)
       ];
@@ -526,7 +355,6 @@ module _ (core : CoreValue) (a : CallState) (p : StopState) (pasts : List Past) 
         | inr ne ↦ rw (by_name_stops c, put_other (stop_control_of core.stops.controls) cpu Next c ne) (k.apart c)
       ];
     })
-
 
   -- a command begins
   pub start_stands : (c : Command) → FitsCommand c → BeginsPlain c → refusal_of core cpu c ≡ None → StandsAll (started core cpu c) a p pasts s
@@ -540,8 +368,10 @@ module _ (core : CoreValue) (a : CallState) (p : StopState) (pasts : List Past) 
       let first = stop_first control c in
       let here = begun_here core.stops cpu first stops_sized low in
       let next = control_at (control_of core.controls cpu) (first_stage core.online cpu c) in
-      let by_name : control_of (slice_set core.controls cpu next) ≡ put (control_of core.controls) cpu next = controls_by_cpu core.controls cpu next sized low in
-      let mine : control_of (slice_set core.controls cpu next) cpu ≡ next = ap (λ (f : ℕ → ControlValue). f cpu) by_name ∙ put_same (control_of core.controls) cpu next in
+      let by_name : control_of (slice_set core.controls cpu next) ≡ put
+      (control_of core.controls) cpu next = controls_by_cpu core.controls cpu next sized low in
+      let mine : control_of (slice_set core.controls cpu next) cpu ≡ next = ap (λ (f : ℕ → ControlValue). f cpu) by_name
+      ∙ put_same (control_of core.controls) cpu next in
       let other = λ (n : ℕ) (ne : n ≢ cpu). ap (λ (f : ℕ → ControlValue). f n) by_name ∙ put_other (control_of core.controls) cpu next n ne in
       record {
         whole = start_whole core cpu k.whole c fits e;
@@ -557,9 +387,11 @@ module _ (core : CoreValue) (a : CallState) (p : StopState) (pasts : List Past) 
         };
         follows_stops = rw (begun_table core.stops cpu first) k.follows_stops;
         elsewhere = subst (λ (f : ℕ → ControlValue). (j : ℕ) → GoesElsewhere (f j).stage j) (sym by_name)
-            (put_all (λ j x. GoesElsewhere x.stage j) (control_of core.controls) cpu next (start_elsewhere core.nr core.online cpu c m.is_allowed) (λ j ne. k.elsewhere j));
+            (put_all (λ j x. GoesElsewhere x.stage j) (control_of core.controls) cpu next (start_elsewhere core.nr core.online cpu c m.is_allowed)
+            (λ j ne. k.elsewhere j));
         drafts = λ n l. elim (cases_eq n cpu) [
-          | inl is ↦ rw (is, here) (begun_drafts control first (past_at pasts cpu).draft m.is_stop_outside (first_drafts control c plain (past_at pasts cpu).draft))
+          | inl is ↦ rw (is, here) (begun_drafts control first (past_at pasts cpu).draft m.is_stop_outside (first_drafts control c plain
+              (past_at pasts cpu).draft))
           | inr ne ↦ rw (begun_else core.stops cpu first n stops_sized low ne) (k.drafts n l)
         ];
         handles = λ n. elim (cases_eq n cpu) [
@@ -568,9 +400,9 @@ module _ (core : CoreValue) (a : CallState) (p : StopState) (pasts : List Past) 
         ];
         apart = λ n. elim (cases_eq n cpu) [
           | inl is ↦ rw (is, here, mine) (elim (first_apart core.online cpu control c) [
-              | inl none ↦ inl none
-              | inr none ↦ inr (begun_none control first m.is_stop_outside none)
-            ])
+            | inl none ↦ inl none
+            | inr none ↦ inr (begun_none control first m.is_stop_outside none)
+          ])
           | inr ne ↦ rw (begun_else core.stops cpu first n stops_sized low ne, other n ne) (k.apart n)
         ];
       }

@@ -61,8 +61,9 @@ pub record CallsAreAccepted (u : Setting) (words : LabelWords) (steps : List See
 
 -- Of each replay, from a machine in which nothing was begun, the events of calls are accepted.
 abbrev pub CallsOfReplaysAreAccepted : Type 0
-CallsOfReplaysAreAccepted = (nr online : ℕ) (labels : Labels) (commands : List Command) (core : CoreValue) (steps : List Seen) (stopped : Option (ℕ × SmpError))
-    (u : Setting) (words : LabelWords) → IsWhole (new_core nr online labels) → AllByRecursion Fits commands → IsReplay (new_core nr online labels) commands core steps stopped
+CallsOfReplaysAreAccepted = (nr online : ℕ) (labels : Labels) (commands : List Command) (core : CoreValue) (steps : List Seen)
+    (stopped : Option (ℕ × SmpError)) (u : Setting) (words : LabelWords) → IsWhole (new_core nr online labels) → AllByRecursion Fits commands
+    → IsReplay (new_core nr online labels) commands core steps stopped
     → IsOf u online → CallsAreAccepted u words steps core
 
 -- a stop that begins is no patch, and its masks are of CPUs
@@ -95,7 +96,7 @@ pub record IsAccepted (u : Setting) (words : LabelWords) (steps : List Seen) (co
 
 -- Each replay from a machine in which nothing was begun, and in which no stop is a patch, is accepted.
 abbrev pub ReplaysAreAccepted : Type 0
-ReplaysAreAccepted = (nr online : ℕ) (labels : Labels) (commands : List Command) (core : CoreValue) (steps : List Seen) (stopped : Option (ℕ × SmpError))
-    (u : Setting) (words : LabelWords) → let first = new_core nr online labels in
+ReplaysAreAccepted = (nr online : ℕ) (labels : Labels) (commands : List Command) (core : CoreValue) (steps : List Seen)
+    (stopped : Option (ℕ × SmpError)) (u : Setting) (words : LabelWords) → let first = new_core nr online labels in
     IsWhole first → StopShown no_stops first.stops → AllByRecursion FitsPlain commands → IsReplay first commands core steps stopped
     → IsOf u online → AreWordsOf words first.stops → IsAccepted u words steps core
