@@ -1,0 +1,267 @@
+-- The step of a CPU that acknowledges a phase.
+use Rattle.std.proofs.Common.{◌≡◌, ◌≢◌, ℕ, ◌+◌, ◌<◌, Bool, true, false, not, ◌&&◌, cond, List, [], ◌∷◌, length, Option, Some, None, Ok}
+use Rattle.std.proofs.Common.{refl, ap, sym, ◌∙◌, subst, inl, inr, arith}
+use Rattle.std.proofs.lemmas.Bool.{cases_eq, ne_eqb, eqb-true}
+use Rattle.std.specs.Prelude.{slice_set, ◌==◌, pos}
+use Rattle.smp_mask.specs.Mask.{has}
+use Rattle.smp_words.specs.Access.{one_less}
+use Rattle.smp_words.specs.Put.{put, put_word}
+use Rattle.smp_words.specs.Size.{cpus}
+use Rattle.smp_words.specs.declared.field.Field.TheVariants as field
+use Rattle.smp_words.specs.declared.seen.Note.{Note}
+use Rattle.smp_words.specs.declared.seen.Note.TheVariants as note
+use Rattle.smp_words.specs.declared.word.Word.{Word}
+use Rattle.smp_words.specs.declared.word.Word.TheVariants.{Slot}
+use Rattle.smp_words.specs.declared.work.Kind.{Kind}
+use Rattle.smp_words.specs.declared.work.Kind.TheVariants.{One, Multi, Patch}
+use Rattle.smp_words.specs.declared.work.Work.{Work}
+use Rattle.smp_words.proofs.Puts.{put_other, put_same}
+use Rattle.smp_stop_steps.specs.Labels.{Change, Patching, Whole, Patches}
+use Rattle.smp_stop_steps.specs.Present.{RunnerShows}
+use Rattle.smp_stop_steps.specs.Seats.{Stands, irq_of}
+use Rattle.smp_stop_steps.specs.Stages.{StopControlValue, StopOutcome, stop_ends, stop_goes, visit_acked}
+use Rattle.smp_stop_steps.specs.State.{Present, Setup, StopState}
+use Rattle.smp_stop_steps.specs.Stop.{Standing, Inside, Refills, Stop, acknowledged, is_called}
+use Rattle.smp_stop_steps.specs.Table.{stop_number}
+use Rattle.smp_stop_steps.specs.Tells.{called_more, carried, carried_call, leaves, unpatched}
+use Rattle.smp_stop_steps.specs.Value.{StopShown, StopsValue, setup_of, stop_control_of}
+use Rattle.smp_stop_steps.specs.declared.known.Calling.{Calling}
+use Rattle.smp_stop_steps.specs.declared.known.Calling.TheVariants.{Idle, Calls, Carries}
+use Rattle.smp_stop_steps.specs.declared.known.Duty.{Duty}
+use Rattle.smp_stop_steps.specs.declared.known.Duty.TheVariants.{Rests}
+use Rattle.smp_stop_steps.specs.declared.stage.RoundStage.TheVariants as round
+use Rattle.smp_stop_steps.specs.declared.known.Seat.TheVariants.{In, Alters}
+use Rattle.smp_stop_steps.specs.declared.stage.StopStage.{StopStage}
+use Rattle.smp_stop_steps.specs.declared.stage.StopStage.TheVariants.{Advance}
+use Rattle.smp_stop_steps.specs.declared.stage.Visit.{Visit}
+use Rattle.smp_event_steps.specs.declared.event.Event.TheVariants as event
+use Rattle.smp_event_steps.specs.declared.event.StopEvent.TheVariants as stops
+use Rattle.smp_event_steps.specs.declared.stop.Task.{Task}
+use Rattle.smp_event_steps.specs.Cpu.{handles_nothing}
+use Rattle.smp_event_steps.specs.State.{StateValue, cpu_at, stop_at, with_stop}
+use Rattle.smp_event_steps.specs.Step.{goes}
+use Rattle.smp_event_steps.specs.Stop.{acked_by, is_cpu}
+use Rattle.std.proofs.lemmas.List.{get_or-set_same}
+use Rattle.smp_events.specs.Past.{past_at}
+use Rattle.smp_events.specs.Told.{with_on}
+use Rattle.smp_events.specs.declared.past.Past.{Past}
+use Rattle.smp_replay_laws.specs.Follows.{nothing_left_out}
+use Rattle.smp_replay_laws.specs.Stops.{AnswerIs, CpuIs, FollowsStops, OpenIs, PhaseIs, given_by, has_called, raiser_of}
+use Rattle.smp_replay_laws.proofs.Accepts.{by}
+use Rattle.smp_replay_laws.proofs.StopAcks as acking
+use Rattle.smp_replay_laws.proofs.StopKinds.{Goes}
+use Rattle.smp_replay_laws.proofs.StopRounds.{acks_told, leaves_told, told_acked}
+use Rattle.smp_replay_laws.proofs.StopStages.{Accepted}
+use Rattle.smp_replay_laws.proofs.StopSteps.{ReachesStops}
+use Rattle.smp_replay_laws.proofs.StopTurns as turns
+
+module _ (v : StopsValue) (p : StopState) (shown : StopShown p v) (me : ℕ) (below : me < cpus) (pasts : List Past) (sized : length pasts ≡ 32)
+    (s : StateValue) (whole : s.setting.without ≡ nothing_left_out) (cpus_are : length s.cpus ≡ 32) (f : FollowsStops p (stop_number v.table) pasts s)
+    (quiet : handles_nothing (cpu_at s me) ≡ Ok tt) where
+  abbrev U : Setup
+  U = setup_of v.online v.labels
+
+  abbrev At : Word → ℕ
+  At = stop_number v.table
+
+  abbrev C : StopControlValue
+  C = stop_control_of v.controls me
+
+  abbrev Old : Past
+  Old = past_at pasts me
+
+  abbrev Made : StopStage → Type 0
+  Made stage = Accepted v p shown me below pasts sized s whole cpus_are f stage
+
+  my : CpuIs p s Old me
+  my = f.cpus_are me below
+
+  st : (slot a l : ℕ) (w : Work) (t : Duty) → shown.seat me ≡ In slot w a l t → Stands p.now me (In slot w a l t)
+  st slot a l w t e = turns.st v p shown me below pasts sized s whole cpus_are f quiet slot a l w t e
+
+  opened_here : (slot a l : ℕ) (w : Work) (t : Duty) → shown.seat me ≡ In slot w a l t → (p.now.stop slot).is_open ≡ true
+  opened_here slot a l w t e = turns.opened_here v p shown me below pasts sized s whole cpus_are f quiet slot a l w t e
+
+  told_here : (slot a l : ℕ) (w : Work) (t : Duty) → shown.seat me ≡ In slot w a l t → OpenIs (p.now.stop slot) (stop_at s slot)
+  told_here slot a l w t e = turns.told_here v p shown me below pasts sized s whole cpus_are f quiet slot a l w t e
+
+  irq_here : (slot a l : ℕ) (w : Work) (t : Duty) → shown.seat me ≡ In slot w a l t → p.now.irq me ≡ irq_of (In slot w a l t)
+  irq_here slot a l w t e = turns.irq_here v p shown me below pasts sized s whole cpus_are f quiet slot a l w t e
+
+  no_patch : (slot : ℕ) (w : Work) (count : ℕ) (made rest : List Change) → shown.seat me ≡ Alters slot w count made rest → ⊥
+  no_patch slot w count made rest e = turns.no_patch v p shown me below pasts sized s whole cpus_are f quiet slot w count made rest e
+
+  multi_is : (k : Kind) → k ≢ One → k ≢ Patch → k ≡ Multi
+  multi_is = turns.multi_is v p shown me below pasts sized s whole cpus_are f quiet
+
+  -- a CPU acknowledges
+  module _ (slot a : ℕ) (w : Work) (at_seat : shown.seat me ≡ In slot w a (a + 1) Rests) (kind : w.kind ≢ One) (x : Visit) (answer : ℕ) (ran : Bool)
+      (called : a + 1 ≡ 3 → has w.active me ≡ true → has_called (p.calling me) ≡ true) where
+    abbrev here : Stands p.now me (In slot w a (a + 1) Rests)
+    here = st slot a (a + 1) w Rests at_seat
+
+    abbrev Ack : ℕ
+    Ack = At (Slot slot field.Ack)
+
+    abbrev Next : Stop
+    Next = acknowledged (p.now.stop slot) me (a + 1) (At (Slot slot field.Ack))
+
+    abbrev At' : Word → ℕ
+    At' = put_word At (Slot slot field.Ack) (one_less (At (Slot slot field.Ack)))
+
+    abbrev Acked : Present
+    Acked = record (p.now) {
+      stop = put p.now.stop slot (acknowledged (p.now.stop slot) me (a + 1) (At (Slot slot field.Ack)));
+      patching = cond (a + 1 == 3) (unpatched me p.now.patching) p.now.patching;
+    }
+
+    abbrev Q : Bool → StopState
+    Q left = record p {
+      now = cond left (leaves Acked me slot (p.now.stop slot).work) Acked;
+      calls = cond (a + 1 == 3) (called_more p.calls me (p.calling me)) p.calls;
+      calling = cond (a + 1 == 3) (put p.calling me (carried me p.now.patching (p.calling me))) p.calling;
+    }
+
+    -- who has called its function, has called it still
+    carried_same : (g : Calling) → has_called (carried_call g) ≡ has_called g
+    carried_same Idle = refl
+    carried_same (Calls call) = refl
+    carried_same (Carries n) = refl
+
+    calls_same : (g : Patching) → RunnerShows U.first g shown.seat → has_called (carried me g (p.calling me)) ≡ has_called (p.calling me)
+    calls_same Whole r = carried_same (p.calling me)
+    calls_same (Patches d y count made rest) r = elim (cases_eq d me) [
+      | inl e ↦ absurd (no_patch r.1.0 y count made rest (subst (λ (n : ℕ). shown.seat n ≡ Alters r.1.0 y count made rest) e r.1.1))
+      | inr ne ↦ rw (ne_eqb d me ne) (carried_same (p.calling me))
+    ]
+
+    calling_same : (three : Bool) → has_called ((cond three (put p.calling me (carried me p.now.patching (p.calling me))) p.calling) me) ≡ has_called
+        (p.calling me)
+    calling_same true = ap has_called (put_same p.calling me _) ∙ calls_same p.now.patching shown.shows.present.runner
+    calling_same false = refl
+
+    calling_other : (three : Bool) (d : ℕ) → d ≢ me → (cond three (put p.calling me (carried me p.now.patching (p.calling me))) p.calling) d ≡ p.calling d
+    calling_other true d ne = put_other p.calling me _ d ne
+    calling_other false d ne = refl
+
+    pub old_is : Old.phase ≡ a + 1
+    old_is =
+        let k : PhaseIs (Inside a (a + 1)) Old.phase = subst (λ (z : Standing). PhaseIs z Old.phase) here.1 (my.stop slot here.0).phase in
+        k (λ z. absurd (omega arith))
+
+    old_answer : Old.answer ≡ pos 0
+    old_answer = subst (λ (z : Standing). AnswerIs z Old.answer) here.1 (my.stop slot here.0).answer
+
+    open_now : (p.now.stop slot).is_open ≡ true
+    open_now = opened_here slot a (a + 1) w Rests at_seat
+
+    made : goes me (event.Stop (stops.Ack (a + 1))) s ≡ Ok (with_stop slot s (record (stop_at s slot) {
+      acked = slice_set (stop_at s slot).acked me (a + 1);
+      raiser = raiser_of (cond (At (Slot slot field.Ack) == 1) (Refills me) (p.now.stop slot).raising);
+    }))
+    made = acking.ack_made U p At At' shown.seat shown.source shown.shows me below pasts sized s whole cpus_are f (λ j. refl)
+        (λ j. refl) refl slot a w Idle here
+        (λ e. kind (ap (λ (z : Work). z.kind) (sym here.3) ∙ e)) (λ two. irq_here slot a (a + 1) w Rests at_seat ∙ off_two a two)
+        (λ three active. (
+          multi_is (p.now.stop slot).work.kind (λ e. kind (ap (λ (z : Work). z.kind) (sym here.3) ∙ e)) (told_here slot a (a + 1) w Rests at_seat).kind,
+          called three (ap (λ (z : Work). has z.active me) (sym here.3) ∙ active),
+        ))
+      where
+        off_two : (n : ℕ) → n + 1 ≡ 2 → irq_of (In slot w n (n + 1) Rests) ≡ false
+        off_two n two =
+            let one : n ≡ 1 = omega arith in
+            rw one refl
+
+    abbrev IsAcked : Bool → Bool → Type 0
+    IsAcked left irq = Goes U p At At' shown.seat shown.source shown.shows me below pasts sized s whole cpus_are f (λ j. refl) (λ j. refl) (Q left) slot
+        (acknowledged (p.now.stop slot) me (a + 1) (At (Slot slot field.Ack))) (Some slot) irq
+        ((cond (a + 1 == 3) (put p.calling me (carried me p.now.patching (p.calling me))) p.calling) me)
+
+    stays : IsAcked false (p.now.irq me)
+    stays = record {
+      stop_is = λ j. refl;
+      inside_is = here.0;
+      irq_is = refl;
+      calling_is = refl;
+      inside_else = λ d ne. refl;
+      irq_else = λ d ne. refl;
+      calling_else = calling_other (a + 1 == 3);
+      standing_else = λ d ne. put_other (p.now.stop slot).standing me (Inside (a + 1) (a + 1)) d ne;
+      gate_is = refl;
+    }
+
+    goes_out : IsAcked true true
+    goes_out = record {
+      stop_is = λ j. refl;
+      inside_is = here.0;
+      irq_is = put_same p.now.irq me true;
+      calling_is = refl;
+      inside_else = λ d ne. refl;
+      irq_else = λ d ne. put_other p.now.irq me true d ne;
+      calling_else = calling_other (a + 1 == 3);
+      standing_else = λ d ne. put_other (p.now.stop slot).standing me (Inside (a + 1) (a + 1)) d ne;
+      gate_is = refl;
+    }
+
+    acked_now : (acknowledged (p.now.stop slot) me (a + 1) (At (Slot slot field.Ack))).standing me ≡ Inside (a + 1) (a + 1)
+    acked_now = put_same (p.now.stop slot).standing me (Inside (a + 1) (a + 1))
+
+    one_ack : ReachesStops (Q false) At' (slice_set pasts me Old) s ((me, event.Stop (stops.Ack (a + 1))) ∷ [])
+    one_ack = acks_told U p At At' shown.seat shown.source shown.shows me below pasts sized s whole cpus_are f (λ j. refl)
+        (λ j. refl) slot here.0 open_now (Q false)
+        (acknowledged (p.now.stop slot) me (a + 1) (At (Slot slot field.Ack))) (a + 1)
+        (raiser_of (cond (At (Slot slot field.Ack) == 1) (Refills me) (p.now.stop slot).raising))
+        ((cond (a + 1 == 3) (put p.calling me (carried me p.now.patching (p.calling me))) p.calling) me) acked_now refl refl refl refl
+        (ap is_called here.1) (ap given_by here.1) (calling_same (a + 1 == 3)) old_is old_answer stays made
+
+    two_acks : a + 1 ≡ 4 → (At (Slot slot field.Ack) == 1) ≡ false
+        → ReachesStops (Q true) At' (slice_set pasts me Old) s ((me, event.Stop (stops.Ack (a + 1))) ∷ ((me, event.Stop stops.On) ∷ []))
+    two_acks exit last =
+        let y = record (stop_at s slot) {
+          acked = slice_set (stop_at s slot).acked me (a + 1);
+          raiser = raiser_of (cond (At (Slot slot field.Ack) == 1) (Refills me) (p.now.stop slot).raising);
+        } in
+        let told = told_here slot a (a + 1) w Rests at_seat in
+        let size = (f.stops slot (my.stop slot here.0).below).sized in
+        let acked : acked_by y me ≡ a + 1 = get_or-set_same (stop_at s slot).acked me (a + 1) 0 (rw size.acked (omega arith)) in
+        let none : raiser_of (cond (At (Slot slot field.Ack) == 1) (Refills me) (p.now.stop slot).raising) ≡ None =
+        rw (
+          last,
+          acking.nobody U p At At' shown.seat shown.source shown.shows me below pasts sized s whole cpus_are f (λ j. refl)
+              (λ j. refl) refl slot a w Idle here,
+        ) refl in
+        leaves_told U p At At' shown.seat shown.source shown.shows me below pasts sized s whole cpus_are f (λ j. refl) (λ j. refl) slot here.0 open_now
+        (Q true)
+        (acknowledged (p.now.stop slot) me (a + 1) (At (Slot slot field.Ack))) y
+        ((cond (a + 1 == 3) (put p.calling me (carried me p.now.patching (p.calling me))) p.calling) me) (event.Stop (stops.Ack (a + 1)))
+        (told_acked U p At At' shown.seat shown.source shown.shows me below pasts sized s whole cpus_are f (λ j. refl) (λ j. refl) slot here.0 open_now
+        (acknowledged (p.now.stop slot) me (a + 1) (At (Slot slot field.Ack))) (a + 1)
+        (raiser_of (cond (At (Slot slot field.Ack) == 1) (Refills me) (p.now.stop slot).raising)) acked_now refl refl refl refl
+        (ap is_called here.1) (ap given_by here.1) goes_out.standing_else) (a + 1) acked_now (calling_same (a + 1 == 3)) old_is exit old_answer goes_out
+        (λ d. refl) made
+        (λ e. kind (ap (λ (z : Work). z.kind) (sym here.3) ∙ (ap (λ (z : Task). z.kind) (sym told.task) ∙ e))) (acked
+        ∙ exit) (ap (λ (z : Option ℕ). is_cpu z me) none)
+        (irq_here slot a (a + 1) w Rests at_seat ∙ off_three a exit)
+      where
+        off_three : (n : ℕ) → n + 1 ≡ 4 → irq_of (In slot w n (n + 1) Rests) ≡ false
+        off_three n e =
+            let three : n ≡ 3 = omega arith in
+            rw three refl
+
+    abbrev AckSaid : Bool → Bool → Option Note
+    AckSaid last exit = (cond {A = StopOutcome} last (stop_goes (record C { visit = Some (visit_acked x answer ran) }) (Advance
+        (visit_acked x answer ran) (round.Refill ran)))
+        (stop_ends (record C { visit = Some (visit_acked x answer ran); interrupts = cond exit true C.interrupts }) (cond exit note.Left
+        (cond ran note.Ran (note.Moved (a + 1)))))).note
+
+    pub ack_by : (last exit r : Bool) → ran ≡ r → (At (Slot slot field.Ack) == 1) ≡ last → (a + 1 == 4) ≡ exit
+        → ReachesStops (Q (exit && not last)) At' (slice_set pasts me Old) s
+        (by me (with_on (stops.Ack (a + 1)) (cond {A = StopOutcome} last
+        (stop_goes (record C { visit = Some (visit_acked x answer ran) }) (Advance (visit_acked x answer ran) (round.Refill ran)))
+        (stop_ends (record C { visit = Some (visit_acked x answer ran); interrupts = cond exit true C.interrupts }) (cond exit note.Left
+        (cond r note.Ran (note.Moved (a + 1)))))).note))
+    ack_by true true r e one four = one_ack
+    ack_by true false r e one four = one_ack
+    ack_by false true r e one four = two_acks (eqb-true (a + 1) 4 four) one
+    ack_by false false true e one four = one_ack
+    ack_by false false false e one four = one_ack

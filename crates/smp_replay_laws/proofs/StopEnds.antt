@@ -1,0 +1,357 @@
+-- The step of a CPU that runs the function of a stop of kind One, completes, closes or collects is accepted.
+use Rattle.std.proofs.Common.{◌≡◌, ◌≢◌, ℕ, ◌+◌, ◌<◌, ◌^◌, true, false, List, [], ◌∷◌, length, Option, Some, None, Ok, refl, ap, sym, ◌∙◌, subst, inl}
+use Rattle.std.proofs.Common.{inr, ◌⊎◌, arith}
+use Rattle.std.proofs.lemmas.Bool.{ne_eqb}
+use Rattle.std.specs.Prelude.{slice_set, pos}
+use Rattle.smp_words.specs.Access.{one_less}
+use Rattle.smp_words.specs.Put.{put, put_word}
+use Rattle.smp_words.specs.Size.{cpus}
+use Rattle.smp_words.specs.declared.field.Field.TheVariants as field
+use Rattle.smp_words.specs.declared.word.Word.{Word}
+use Rattle.smp_words.specs.declared.word.Word.TheVariants.{Slot}
+use Rattle.smp_words.specs.declared.work.Kind.{Kind}
+use Rattle.smp_words.specs.declared.work.Kind.TheVariants.{One, Multi, Patch}
+use Rattle.smp_words.specs.declared.work.Work.{Work}
+use Rattle.smp_words.proofs.Puts.{put_all, put_other, put_same}
+use Rattle.smp_stop_steps.specs.Callings.{IsCalling}
+use Rattle.smp_stop_steps.specs.Seats.{irq_of}
+use Rattle.smp_stop_steps.specs.Slots.{IsPhaseOf}
+use Rattle.smp_stop_steps.specs.Sits.{SitsInCompletion, SitsAt}
+use Rattle.smp_stop_steps.specs.Carries.{CarriesAt, IsEnding, IsQuiet}
+use Rattle.smp_stop_steps.specs.Stages.{StopControlValue}
+use Rattle.smp_stop_steps.specs.State.{Setup, StopState}
+use Rattle.smp_stop_steps.specs.Stop.{Standing, Inside, Answering, Completed, Raising, Nobody, Refills, Raises, Stop, closed, completed, ended, is_of}
+use Rattle.smp_stop_steps.specs.Stop.{acked as acked_of, is_called, stands}
+use Rattle.smp_stop_steps.specs.Table.{stop_number}
+use Rattle.smp_stop_steps.specs.Tells.{answered_by, completes, completes_with, collects, stored_shut, calls_now, may_call}
+use Rattle.smp_stop_steps.specs.Value.{StopShown, StopsValue, setup_of, stop_control_of}
+use Rattle.smp_stop_steps.specs.declared.known.Calling.{Calling}
+use Rattle.smp_stop_steps.specs.declared.known.Calling.TheVariants.{Idle, Calls, Carries}
+use Rattle.smp_stop_steps.specs.declared.known.Duty.TheVariants.{Rests}
+use Rattle.smp_stop_steps.specs.declared.stage.CompletionStage.{CompletionStage}
+use Rattle.smp_stop_steps.specs.declared.stage.CompletionStage.TheVariants as completion
+use Rattle.smp_stop_steps.specs.declared.known.Seat.{Seat}
+use Rattle.smp_stop_steps.specs.declared.known.Seat.TheVariants.{In, Gives, Closes}
+use Rattle.smp_stop_steps.specs.declared.stage.StopStage.{StopStage}
+use Rattle.smp_stop_steps.specs.declared.stage.StopStage.TheVariants.{Complete, Close, LoadDone, LoadResult}
+use Rattle.smp_stop_steps.specs.declared.stage.Visit.{Visit}
+use Rattle.smp_stop_steps.proofs.State.Phases.{is_open_inside}
+use Rattle.smp_event_steps.specs.declared.event.Event.TheVariants as event
+use Rattle.smp_event_steps.specs.declared.event.StopEvent.TheVariants as stops
+use Rattle.smp_event_steps.specs.Cpu.{handles_nothing, in_stop}
+use Rattle.smp_event_steps.specs.State.{StateValue, cpu_at, stop_at, with_cpu, with_stop}
+use Rattle.smp_event_steps.specs.Step.{goes}
+use Rattle.smp_event_steps.specs.Stop.{is_cpu}
+use Rattle.smp_events.specs.Past.{past_at}
+use Rattle.smp_events.specs.declared.past.Past.{Past}
+use Rattle.smp_events.specs.declared.told.Told.TheVariants as told
+use Rattle.smp_replay_laws.specs.Follows.{nothing_left_out}
+use Rattle.smp_replay_laws.specs.Stops.{AnswerIs, CpuIs, FollowsStops, as_i32, has_called, raiser_of}
+use Rattle.smp_replay_laws.proofs.Accepts.{by}
+use Rattle.smp_replay_laws.proofs.StopKinds.{Goes, in_none, silent, told_still}
+use Rattle.smp_replay_laws.proofs.StopSources.{all_done, collects_told, result_gives}
+use Rattle.smp_replay_laws.proofs.StopTurns.{Made, calling_here, irq_here, keeps_here, opened_here, seat_is, st, then_if, words_here}
+use Rattle.smp_stop_steps.proofs.Steps.Completions.{one_phase}
+use Rattle.smp_stop_steps.specs.Laws.{IsNot, IsThrough}
+use Rattle.smp_stop_steps.proofs.Promises.Premises.{may_see}
+use Rattle.smp_replay_laws.proofs.StopRuns.{answers_step, complete_one, complete_round, completes_told, runs_told}
+use Rattle.smp_replay_laws.proofs.StopStages.{loads}
+use Rattle.smp_replay_laws.proofs.StopSteps.{ReachesStops}
+
+module _ (v : StopsValue) (p : StopState) (shown : StopShown p v) (me : ℕ) (below : me < cpus) (pasts : List Past) (sized : length pasts ≡ 32)
+    (s : StateValue) (whole : s.setting.without ≡ nothing_left_out) (cpus_are : length s.cpus ≡ 32) (f : FollowsStops p (stop_number v.table) pasts s)
+    (quiet : handles_nothing (cpu_at s me) ≡ Ok tt) (results : (slot : ℕ) → stop_number v.table (Slot slot field.Result) < 2 ^ 32) where
+  abbrev U : Setup
+  U = setup_of v.online v.labels
+
+  abbrev At : Word → ℕ
+  At = stop_number v.table
+
+  abbrev C : StopControlValue
+  C = stop_control_of v.controls me
+
+  abbrev Old : Past
+  Old = past_at pasts me
+
+  abbrev Does : StopStage → Type 0
+  Does stage = Made v p shown me below pasts sized s whole cpus_are f quiet stage
+
+  my : CpuIs p s Old me
+  my = f.cpus_are me below
+
+  ends_at : (w : Visit) (stage : CompletionStage) → C.stage ≡ Some (Complete w stage) → SitsInCompletion w stage (shown.seat me)
+  ends_at w stage e = (subst (λ (x : Option StopStage). SitsAt U me C x (shown.seat me)) e (shown.sits me below).seat).1
+
+  visit_is : (w : Visit) (stage : CompletionStage) → C.stage ≡ Some (Complete w stage) → C.visit ≡ Some w
+  visit_is w stage e = (subst (λ (x : Option StopStage). SitsAt U me C x (shown.seat me)) e (shown.sits me below).seat).0
+
+  pub loads_func : (x : Visit) (answer : ℕ) → Does (Complete x (completion.LoadFunc answer))
+  loads_func x answer = loads v p shown me below pasts sized s whole cpus_are f (Complete x (completion.LoadFunc answer)) (λ k. refl) (λ k. refl)
+
+  pub loads_done : Does LoadDone
+  loads_done = loads v p shown me below pasts sized s whole cpus_are f LoadDone (λ k. refl) (λ k. refl)
+
+  -- the function of a stop of kind One runs
+  one_acked : (n a l phase : ℕ) → phase ≡ 0 → ((a ≡ phase) ⊎ (a + 1 ≡ phase)) → a ≡ 0
+  one_acked n a l phase z (inl e) = e ∙ z
+  one_acked n a l phase z (inr e) = absurd (omega arith)
+
+  pub loads_arg : (x : Visit) (answer func : ℕ) → C.stage ≡ Some (Complete x (completion.LoadArg answer func))
+      → Does (Complete x (completion.LoadArg answer func))
+  loads_arg x answer func e =
+      let k = ends_at x (completion.LoadArg answer func) e in
+      let w = k.1.0 in
+      let slot = x.slot in
+      let a = x.acked in
+      let at_seat = k.1.2 in
+      let so = st v p shown me below pasts sized s whole cpus_are f quiet slot a a w Rests at_seat in
+      let o = opened_here v p shown me below pasts sized s whole cpus_are f quiet slot a a w Rests at_seat in
+      let words = words_here v p shown me below pasts sized s whole cpus_are f quiet slot a a w Rests at_seat in
+      let keeps = keeps_here v p shown me below pasts sized s whole cpus_are f quiet slot a a w Rests at_seat in
+      let kind : (p.now.stop slot).work.kind ≡ One = ap (λ (z : Work). z.kind) so.3 ∙ (sym k.1.1.kind ∙ k.0) in
+      let none : a ≡ 0 = one_acked 0 a a (p.now.stop slot).phase (one_phase (p.now.stop slot).work.kind (p.now.stop slot).phase kind words.kinds) keeps.1 in
+      let carries : IsQuiet C.visit (p.calling me) = subst (λ (y : Option StopStage). CarriesAt C.visit y (p.calling me)) e (shown.carries me below) in
+      let still : IsQuiet (Some x) (p.calling me) = subst (λ (y : Option Visit). IsQuiet y (p.calling me)) (visit_is x
+      (completion.LoadArg answer func) e) carries in
+      let idle = idle_of slot w x a (p.calling me) none (calling_here v p shown me below pasts sized s whole cpus_are f quiet slot a a w Rests at_seat) still in
+      let found = At (Slot slot field.Arg) in
+      let q = calls_now p me (p.now.stop slot).work found answer in
+      let may : may_call me (p.now.stop slot).work ((p.now.stop slot).standing me) ≡ true =
+      ap (λ (z : Standing). may_call me (p.now.stop slot).work z) so.1 ∙ may_one (p.now.stop slot).work a kind in
+      subst (λ (z : StopState). ReachesStops z At (slice_set pasts me Old) s ((me, event.Stop (stops.Run func found)) ∷ []))
+      (sym (then_if (may_call me (p.now.stop slot).work ((p.now.stop slot).standing me)) q p may))
+      (runs_told U p At At shown.seat shown.source shown.shows me below pasts sized s whole cpus_are f (λ j. refl) (λ j. refl) slot so.0 o q a a func found
+      (Calls (record { func = (p.now.stop slot).work.func; arg = found; answer = answer })) so.1 idle refl
+      (record {
+        stop_is = λ j. sym (put_all (λ i (z : Stop). z ≡ p.now.stop i) p.now.stop slot (p.now.stop slot) refl (λ i ne. refl) j);
+        inside_is = so.0;
+        irq_is = refl;
+        calling_is = put_same p.calling me _;
+        inside_else = λ d ne. refl;
+        irq_else = λ d ne. refl;
+        calling_else = λ d ne. put_other p.calling me _ d ne;
+        standing_else = λ d ne. refl;
+        gate_is = refl;
+      }) (inl kind) (ap (λ (z : Work). z.func) so.3 ∙ sym k.1.3) (sym words.written.arg))
+    where
+      may_one : (w : Work) (a : ℕ) → w.kind ≡ One → may_call me w (Inside a a) ≡ true
+      may_one w a kind = rw kind refl
+
+      idle_of : (slot : ℕ) (w : Work) (y : Visit) (a : ℕ) (g : Calling) → a ≡ 0 → IsCalling me (In slot w a a Rests) g → IsQuiet (Some y) g → g ≡ Idle
+      idle_of slot w y a Idle none k still = refl
+      idle_of slot w y a (Calls call) none k still = absurd still
+      idle_of slot w y a (Carries n) none k still = absurd (omega (arith, k.0))
+
+  -- the answer is stored
+  pub stores_answer : (x : Visit) → C.stage ≡ Some (Complete x completion.StoreAnswer) → Does (Complete x completion.StoreAnswer)
+  stores_answer x e =
+      let k = ends_at x completion.StoreAnswer e in
+      let sit = k.2 in
+      let slot = x.slot in
+      let so = st v p shown me below pasts sized s whole cpus_are f quiet slot x.acked x.acked sit.0 Rests sit.2 in
+      let o = opened_here v p shown me below pasts sized s whole cpus_are f quiet slot x.acked x.acked sit.0 Rests sit.2 in
+      let new : Past = record Old { answer = as_i32 x.answer } in
+      let q = λ (z : Standing). record p { now = record (p.now) { stop = put p.now.stop slot (stands (p.now.stop slot) me (answered_by z x.answer)) } } in
+      let at' = put_word At (Slot slot field.Result) x.answer in
+      subst (λ (z : StopState). ReachesStops z at' (slice_set pasts me new) s [])
+      (sym (then_if (p.now.stop slot).is_open (q ((p.now.stop slot).standing me)) (stored_shut p slot field.Result x.answer) o))
+      (subst (λ (z : Standing). ReachesStops (q z) at' (slice_set pasts me new) s []) (sym so.1)
+      (answers_step U p At at' shown.seat shown.source shown.shows me below pasts sized s whole cpus_are f (λ j. refl) (λ j. refl) slot so.0 o (q
+      (Inside x.acked x.acked)) new
+      x.acked x.acked x.answer so.1
+      (record {
+        stop_is = λ j. refl;
+        inside_is = so.0;
+        irq_is = refl;
+        calling_is = refl;
+        inside_else = λ d ne. refl;
+        irq_else = λ d ne. refl;
+        calling_else = λ d ne. refl;
+        standing_else = λ d ne. put_other (p.now.stop slot).standing me (Answering x.acked x.answer) d ne;
+        gate_is = refl;
+      }) refl refl))
+
+  -- a CPU that completes
+  module _ (x : Visit) (e : C.stage ≡ Some (Complete x completion.CountDown)) where
+    abbrev Found : ℕ
+    Found = At (Slot x.slot field.Todo)
+
+    abbrev Done : Past
+    Done = record Old { answer = pos 0 }
+
+    abbrev At' : Word → ℕ
+    At' = put_word At (Slot x.slot field.Todo) (one_less (At (Slot x.slot field.Todo)))
+
+    abbrev Q : ℕ → ℕ → StopState
+    Q a answer = completes_with p me x.slot a answer (At (Slot x.slot field.Todo))
+
+    sees : (p.now.inside me ≡ Some x.slot) × IsThrough (p.now.stop x.slot) me (acked_of ((p.now.stop x.slot).standing me))
+    sees = may_see U p At shown.seat shown.source shown.shows C me (shown.sits me below) (Complete x completion.CountDown) e
+
+    carries : IsEnding x (p.calling me)
+    carries = subst (λ (o : Option StopStage). CarriesAt C.visit o (p.calling me)) e (shown.carries me below)
+
+    not_mine : (r : Raising) → IsNot me r → is_cpu (raiser_of r) me ≡ false
+    not_mine Nobody k = refl
+    not_mine (Refills n) k = ne_eqb n me k
+    not_mine (Raises n) k = ne_eqb n me k
+
+    -- of a CPU that stands so in an open stop
+    ends_so : (a answer : ℕ) (w : Work) (stood : Standing) → (p.now.stop x.slot).standing me ≡ stood → acked_of stood ≡ a → is_called stood ≡ false
+        → is_of stood ≡ true
+        → (p.now.stop x.slot).work ≡ w → Old.answer ≡ as_i32 answer → ((p.now.stop x.slot).phase ≢ 0 → a ≡ 4 → p.now.irq me ≡ true)
+        → ((p.now.stop x.slot).work.kind ≡ One → has_called (p.calling me) ≡ true) → (has_called (p.calling me) ≡ true) ⊎ (Old.answer ≡ pos 0)
+        → ReachesStops (Q a answer) At' (slice_set pasts me Done) s (by me (told.One (event.Stop (stops.Complete Old.answer))))
+    ends_so a answer w stood is acked_is not_called of work_is given irq one_called round_called =
+        let slot = x.slot in
+        let o = is_open_inside U.cpus (p.now.stop slot) (λ g. At (Slot slot g)) (shown.shows.present.slots slot) me stood is of in
+        let words = (shown.shows.present.slots slot).shows o in
+        let through = sees.1 in
+        let made = by_kind (p.now.stop slot).work.kind refl words.kinds o through in
+        completes_told U p At At' shown.seat shown.source shown.shows me below pasts sized s whole cpus_are f (λ j. refl) (λ j. refl) slot sees.0 o
+        (Q a answer) Done
+        (completed (p.now.stop slot) me a answer (At (Slot slot field.Todo))) a answer (put_same (p.now.stop slot).standing me
+        (Completed a answer)) refl refl refl refl
+        (ap acked_of is ∙ acked_is) (ap is_called is ∙ not_called) given
+        (record {
+          stop_is = λ j. refl;
+          inside_is = put_same p.now.inside me None;
+          irq_is = refl;
+          calling_is = put_same p.calling me Idle;
+          inside_else = λ d ne. put_other p.now.inside me None d ne;
+          irq_else = λ d ne. refl;
+          calling_else = λ d ne. put_other p.calling me Idle d ne;
+          standing_else = λ d ne. put_other (p.now.stop slot).standing me (Completed a answer) d ne;
+          gate_is = refl;
+        }) refl refl made
+      where
+        made_round : (o : (p.now.stop x.slot).is_open ≡ true) → (p.now.stop x.slot).work.kind ≢ One → (p.now.stop x.slot).phase ≢ 0
+            → IsThrough (p.now.stop x.slot) me (acked_of ((p.now.stop x.slot).standing me))
+            → goes me (event.Stop (stops.Complete Old.answer)) s ≡ Ok (with_cpu me (with_stop x.slot s (record (stop_at s x.slot) {
+              answers = slice_set (stop_at s x.slot).answers me (Some Old.answer);
+            })) (in_stop None (cpu_at s me)))
+        made_round o kind phase through =
+            let four : acked_of ((p.now.stop x.slot).standing me) ≡ 4 = elim through.0 [ inl k ↦ k | inr k ↦ absurd (phase k) ] in
+            complete_round U p At At' shown.seat shown.source shown.shows me below pasts sized s whole cpus_are f (λ j. refl) (λ j. refl) x.slot sees.0 o kind
+            (omega (arith, four)) (not_mine (p.now.stop x.slot).raising through.1) (irq phase (sym acked_is ∙ (sym (ap acked_of is) ∙ four))) round_called
+
+        by_kind : (k : Kind) → (p.now.stop x.slot).work.kind ≡ k → IsPhaseOf (p.now.stop x.slot).work.kind (p.now.stop x.slot).phase
+            → (p.now.stop x.slot).is_open ≡ true
+            → IsThrough (p.now.stop x.slot) me (acked_of ((p.now.stop x.slot).standing me))
+            → goes me (event.Stop (stops.Complete Old.answer)) s ≡ Ok (with_cpu me (with_stop x.slot s (record (stop_at s x.slot) {
+              answers = slice_set (stop_at s x.slot).answers me (Some Old.answer);
+            })) (in_stop None (cpu_at s me)))
+        by_kind One k phase o through = complete_one U p At At' shown.seat shown.source shown.shows me below pasts sized s whole cpus_are f (λ j. refl)
+            (λ j. refl) x.slot sees.0 o
+            k (one_called k)
+        by_kind Multi k phase o through = made_round o (λ one. multi_one (sym k ∙ one)) (subst (λ (z : Kind). IsPhaseOf z
+            (p.now.stop x.slot).phase) k phase) through
+          where
+            multi_one : Multi ≡ One → ⊥
+            multi_one z = absurd cc
+        by_kind Patch k phase o through = made_round o (λ one. patch_one (sym k ∙ one)) (subst (λ (z : Kind). IsPhaseOf z
+            (p.now.stop x.slot).phase) k phase) through
+          where
+            patch_one : Patch ≡ One → ⊥
+            patch_one z = absurd cc
+
+  pub counts_down : (x : Visit) → C.stage ≡ Some (Complete x completion.CountDown) → Does (Complete x completion.CountDown)
+  counts_down x e =
+      let k = ends_at x completion.CountDown e in
+      elim k.1 [
+        | inl y ↦ inside_so k.0 y.3
+        | inr y ↦ gives_so k.0 y
+      ]
+    where
+      found : ℕ
+      found = At (Slot x.slot field.Todo)
+
+      inside_so : (w : Work) → shown.seat me ≡ In x.slot w x.acked x.acked Rests → Does (Complete x completion.CountDown)
+      inside_so w at_seat =
+          let slot = x.slot in
+          let a = x.acked in
+          let so = st v p shown me below pasts sized s whole cpus_are f quiet slot a a w Rests at_seat in
+          let words = words_here v p shown me below pasts sized s whole cpus_are f quiet slot a a w Rests at_seat in
+          let keeps = keeps_here v p shown me below pasts sized s whole cpus_are f quiet slot a a w Rests at_seat in
+          let zero_now : Old.answer ≡ pos 0 = subst (λ (z : Standing). AnswerIs z Old.answer) so.1 (my.stop slot so.0).answer in
+          subst (λ (z : Standing). ReachesStops (completes p me slot z (At (Slot slot field.Todo))) (put_word At (Slot slot field.Todo) (one_less (At
+          (Slot slot field.Todo))))
+          (slice_set pasts me (record Old { answer = pos 0 })) s (by me (told.One (event.Stop (stops.Complete Old.answer))))) (sym so.1)
+          (ends_so x e a 0 w (Inside a a) so.1 refl refl refl so.3 zero_now
+          (λ phase four. irq_here v p shown me below pasts sized s whole cpus_are f quiet slot a a w Rests at_seat ∙ on_at a four)
+          (λ kind. one_called (p.calling me) (carries x e) (one_acked 0 a a (p.now.stop slot).phase (one_phase (p.now.stop slot).work.kind
+          (p.now.stop slot).phase kind words.kinds) keeps.1))
+          (inr zero_now))
+        where
+          on_at : (n : ℕ) → n ≡ 4 → irq_of (In x.slot w n n Rests) ≡ true
+          on_at n four = rw four refl
+
+          one_called : (g : Calling) → IsEnding x g → x.acked ≡ 0 → has_called g ≡ true
+          one_called Idle k z = absurd (omega (arith, k.0))
+          one_called (Calls call) k z = refl
+          one_called (Carries n) k z = refl
+
+      gives_so : (w : Work) → shown.seat me ≡ Gives x.slot w x.acked x.answer → Does (Complete x completion.CountDown)
+      gives_so w at_seat =
+          let slot = x.slot in
+          let so = seat_is v p shown me below pasts sized s whole cpus_are f quiet (Gives slot w x.acked x.answer) at_seat in
+          let given = subst (λ (z : Standing). AnswerIs z Old.answer) so.1 (my.stop slot so.0).answer in
+          let called = called_so (p.calling me) (subst (λ (z : Seat). IsCalling me z (p.calling me)) at_seat (shown.shows.callings me)) in
+          subst (λ (z : Standing). ReachesStops (completes p me slot z (At (Slot slot field.Todo))) (put_word At (Slot slot field.Todo) (one_less (At
+          (Slot slot field.Todo))))
+          (slice_set pasts me (record Old { answer = pos 0 })) s (by me (told.One (event.Stop (stops.Complete Old.answer))))) (sym so.1)
+          (ends_so x e x.acked x.answer w (Answering x.acked x.answer) so.1 refl refl refl so.3 given
+          (λ phase four. shown.shows.present.irq me ∙ ap irq_of at_seat) (λ kind. called) (inl called))
+        where
+          called_so : (g : Calling) → IsCalling me (Gives x.slot w x.acked x.answer) g → has_called g ≡ true
+          called_so Idle k = absurd k
+          called_so (Calls call) k = refl
+          called_so (Carries n) k = refl
+
+  -- the last to complete stores done
+  pub closes : (slot : ℕ) → C.stage ≡ Some (Close slot) → Does (Close slot)
+  closes slot e =
+      let at_seat = (subst (λ (x : Option StopStage). SitsAt U me C x (shown.seat me)) e (shown.sits me below).seat).1 in
+      let so = seat_is v p shown me below pasts sized s whole cpus_are f quiet (Closes slot) at_seat in
+      let q : StopState = record p { now = record (p.now) { stop = put p.now.stop slot (ended (p.now.stop slot)) } } in
+      let at' = put_word At (Slot slot field.Done) 1 in
+      let g : Goes U p At at' shown.seat shown.source shown.shows me below pasts sized s whole cpus_are f (λ j. refl) (λ j. refl) q slot (ended
+      (p.now.stop slot)) None
+      (p.now.irq me) (p.calling me) = record {
+        stop_is = λ j. refl;
+        inside_is = so.0;
+        irq_is = refl;
+        calling_is = refl;
+        inside_else = λ d ne. refl;
+        irq_else = λ d ne. refl;
+        calling_else = λ d ne. refl;
+        standing_else = λ d ne. refl;
+        gate_is = refl;
+      } in
+      subst (λ (z : StopState). ReachesStops z at' (slice_set pasts me Old) s []) (sym (then_if (p.now.stop slot).is_open q
+      (stored_shut p slot field.Done 1) so.1))
+      (silent U p At at' shown.seat shown.source shown.shows me below pasts sized s whole cpus_are f (λ j. refl) (λ j. refl) q Old slot (ended
+      (p.now.stop slot)) None
+      (p.now.irq me) (p.calling me) g
+      (λ l. told_still U p At at' shown.seat shown.source shown.shows me below pasts sized s whole cpus_are f (λ j. refl) (λ j. refl) (p.now.stop slot)
+      (ended (p.now.stop slot))
+      (stop_at s slot) (f.stops slot l) refl refl refl refl (λ d ne. refl) (λ o m. m))
+      (in_none U p At at' shown.seat shown.source shown.shows me below pasts sized s whole cpus_are f (λ j. refl) (λ j. refl) q s Old slot (ended
+      (p.now.stop slot))
+      (p.now.irq me) (p.calling me) g (my.inside ∙ so.0) my.irq (my.answer so.0) my.reads))
+
+  -- the source collects
+  pub collects_it : C.stage ≡ Some LoadResult → Does LoadResult
+  collects_it e =
+      let sees_it = may_see U p At shown.seat shown.source shown.shows C me (shown.sits me below) LoadResult e in
+      let open_now = sees_it.1 in
+      let all = sees_it.2 in
+      let q = collects p me (At (Slot me field.Result)) in
+      let x = closed (p.now.stop me) in
+      let words = (shown.shows.present.slots me).shows open_now in
+      collects_told U p At At shown.seat shown.source shown.shows me below pasts sized s whole cpus_are f (λ j. refl) (λ j. refl) q x open_now refl all
+      (as_i32 (At (Slot me field.Result)))
+      (all_done U p At At shown.seat shown.source shown.shows me below pasts sized s whole cpus_are f (λ j. refl) (λ j. refl) q x open_now refl all)
+      (result_gives U p At At shown.seat shown.source shown.shows me below pasts sized s whole cpus_are f (λ j. refl) (λ j. refl) q x open_now refl all refl
+      (At (Slot me field.Result)) (results me) words.result)
+      (λ j. refl) (λ d. refl) (λ d. refl) (λ d. refl) refl

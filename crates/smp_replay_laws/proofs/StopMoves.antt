@@ -1,0 +1,166 @@
+-- A CPU enters a stop, looks at its phase, runs its function, answers and completes.
+use Rattle.std.proofs.Common.{◌≡◌, ◌≢◌, ℕ, ◌<◌, Bool, true, false, List, [], ◌∷◌, length, length-set, Option, Some, None, Ok, refl, ap, sym, ◌∙◌, subst, arith}
+use Rattle.std.proofs.lemmas.Bool.{eq-eqb, and_right}
+use Rattle.std.proofs.lemmas.List.{get_or-set_same, get_or-set_other}
+use Rattle.std.specs.Prelude.{slice_set, slice_index_or, pos}
+use Rattle.smp_mask.specs.Mask.{has}
+use Rattle.smp_words.specs.Size.{cpus}
+use Rattle.smp_words.specs.declared.word.Word.{Word}
+use Rattle.smp_words.specs.declared.word.Word.TheVariants.{Key, Site}
+use Rattle.smp_words.specs.declared.work.Kind.TheVariants.{One}
+use Rattle.smp_stop_steps.specs.Shows.{StopShows}
+use Rattle.smp_stop_steps.specs.State.{Setup, StopState}
+use Rattle.smp_stop_steps.specs.Stop.{Standing, Called, Inside, Stop, acked, is_called, stands}
+use Rattle.smp_stop_steps.specs.declared.known.Calling.{Calling}
+use Rattle.smp_stop_steps.specs.declared.known.Calling.TheVariants.{Idle}
+use Rattle.smp_stop_steps.specs.declared.known.Seat.{Seat}
+use Rattle.smp_stop_steps.specs.declared.known.Source.{Source}
+use Rattle.smp_event_steps.specs.declared.event.Event.{Event}
+use Rattle.smp_event_steps.specs.declared.event.Event.TheVariants as event
+use Rattle.smp_event_steps.specs.declared.event.StopEvent.TheVariants as stops
+use Rattle.smp_event_steps.specs.declared.stop.Stop.{Stop as ToldStop}
+use Rattle.smp_event_steps.specs.declared.stop.Task.{Task}
+use Rattle.smp_event_steps.specs.Cpu.{CpuState, handles_nothing, in_stop, with_interrupts}
+use Rattle.smp_event_steps.specs.State.{StateValue, cpu_at, stop_at, with_cpu, with_stop}
+use Rattle.smp_event_steps.specs.Step.{stop_goes}
+use Rattle.smp_event_steps.specs.Stop.{acked_by, has_run}
+use Rattle.smp_events.specs.Past.{past_at}
+use Rattle.smp_events.specs.declared.past.Past.{Past}
+use Rattle.smp_replay_laws.specs.Follows.{nothing_left_out}
+use Rattle.smp_replay_laws.specs.Stops.{AnswerIs, CpuIs, FollowsStops, InsideIs, MemberIs, OpenIs, StopIs, given_by, has_called}
+use Rattle.smp_replay_laws.proofs.States.{cpu_here}
+use Rattle.smp_replay_laws.proofs.StopEvents.{enters_stop, turns_off}
+use Rattle.smp_replay_laws.proofs.StopKinds.{Goes, in_slot, members_set, one_stop, silent, told_still}
+use Rattle.smp_replay_laws.proofs.StopStates.{stop_here}
+use Rattle.smp_replay_laws.proofs.StopSteps.{ReachesStops, cpu_step, member_as, set_step}
+
+module _ (u : Setup) (p : StopState) (at at' : Word → ℕ) (seat : ℕ → Seat) (source : ℕ → Source) (h : StopShows u p at seat source) (me : ℕ)
+    (below : me < cpus)
+    (pasts : List Past) (sized : length pasts ≡ 32) (s : StateValue) (whole : s.setting.without ≡ nothing_left_out) (cpus_are : length s.cpus ≡ 32)
+    (f : FollowsStops p at pasts s) (keys : (key : ℕ) → at' (Key key) ≡ at (Key key)) (sites : (site : ℕ) → at' (Site site) ≡ at (Site site)) where
+  abbrev Is : StopState → ℕ → Stop → Option ℕ → Bool → Calling → Type 0
+  Is q slot x inside irq calling = Goes u p at at' seat source h me below pasts sized s whole cpus_are f keys sites q slot x inside irq calling
+
+  abbrev Leads : StopState → Past → List (ℕ × Event) → Type 0
+  Leads q past es = ReachesStops q at' (slice_set pasts me past) s es
+
+  me_now : CpuIs p s (past_at pasts me) me
+  me_now = f.cpus_are me below
+
+  -- an open stop, as it is told
+  shown : (slot : ℕ) → slot < cpus → (p.now.stop slot).is_open ≡ true → OpenIs (p.now.stop slot) (stop_at s slot)
+  shown slot l o = (f.stops slot l).shows o
+
+  -- a CPU enters
+  pub enters_told : (q : StopState) (slot : ℕ) → slot < cpus → p.now.inside me ≡ None → (p.now.stop slot).is_open ≡ true
+      → (p.now.stop slot).standing me ≡ Called
+      → p.calling me ≡ Idle → Is q slot (stands (p.now.stop slot) me (Inside 0 0)) (Some slot) (p.now.irq me) (p.calling me)
+      → Leads q (past_at pasts me) ((me, event.Stop (stops.Enter slot)) ∷ [])
+  unfolding stop_goes
+  enters_told q slot l none is_open called idle g =
+      let was = shown slot l is_open in
+      let e = stop_at s slot in
+      let x = stands (p.now.stop slot) me (Inside 0 0) in
+      let y = record e { entered = slice_set e.entered me true } in
+      let c = in_stop (Some slot) (cpu_at s me) in
+      let size = (f.stops slot l).sized in
+      let member = was.members me below in
+      let set : slice_index_or (slice_set e.entered me true) me false ≡ true = get_or-set_same e.entered me true false (rw size.entered (omega arith)) in
+      let here : MemberIs (x.standing me) y me = rw (eq-eqb me me refl) (record {
+        called = rw set (and_right (has e.task.mask me) false refl);
+        acked_is = member.acked_is ∙ ap acked called;
+        answer = member.answer ∙ ap given_by called;
+        fresh = λ is. absurd cc;
+      }) in
+      let told : StopIs x y = record {
+        sized = record { entered = length-set e.entered me true ∙ size.entered; acked = size.acked; ran = size.ran; answers = size.answers };
+        is_open = (f.stops slot l).is_open;
+        shows = λ o. record {
+          task = was.task;
+          phase = was.phase;
+          raiser = was.raiser;
+          members = members_set u p at at' seat source h me below pasts sized s whole cpus_are f keys sites (p.now.stop slot) x e y was.members g.standing_else
+              (λ cpu ne m. member_as ((p.now.stop slot).standing cpu) e y cpu (rw
+              (get_or-set_other e.entered me cpu true false ne) refl) refl refl refl m) here;
+          kind = was.kind;
+          patch = was.patch;
+        };
+      } in
+      let t = with_cpu me (with_stop slot s y) c in
+      let my_cpu = cpu_here (with_stop slot s y) me c cpus_are below in
+      let ran : has_run (stop_at t slot) me ≡ has_called (p.calling me) =
+      ap (λ (z : ToldStop). has_run z me) (stop_here s slot y f.stops_are l) ∙ (member.fresh called ∙ rw idle refl) in
+      set_step p q at at' pasts s me (past_at pasts me) below sized cpus_are f keys sites slot x y c l
+      (one_stop u p at at' seat source h me below pasts sized s whole cpus_are f keys sites q slot x (Some slot) (p.now.irq me) (p.calling me) y g
+      (λ cpu ne. refl)) told
+      ((me, event.Stop (stops.Enter slot)) ∷ []) (
+        t,
+        (
+          enters_stop s me whole slot (omega arith) (me_now.inside ∙ none) ((f.stops slot l).is_open ∙ is_open) (member.called
+              ∙ ap is_called called),
+          refl,
+        ),
+      ) refl
+      (in_slot u p at at' seat source h me below pasts sized s whole cpus_are f keys sites q t (past_at pasts me) slot x (p.now.irq me) (p.calling me) g l
+      (ap (λ (z : CpuState). z.inside) my_cpu) (ap (λ (z : CpuState). z.irq) my_cpu ∙ me_now.irq) ran
+      (rw (eq-eqb me me refl) (λ e. absurd (e refl))) (rw (eq-eqb me me refl) (me_now.answer none)) me_now.reads)
+
+  -- a CPU looks at the phase: its interrupts go off with the second
+  module _ (slot a found : ℕ) (inside : p.now.inside me ≡ Some slot) (stands_so : (p.now.stop slot).standing me ≡ Inside a a) (past : Past)
+      (answer : past.answer ≡ (past_at pasts me).answer) where
+    i : InsideIs p s (past_at pasts me) me slot
+    i = me_now.stop slot inside
+
+    looks : Stop
+    looks = stands (p.now.stop slot) me (Inside a found)
+
+    told_looked : (q : StopState) (irq : Bool) (calling : Calling) → Is q slot (stands (p.now.stop slot) me (Inside a found)) (Some slot) irq calling
+        → StopIs (stands (p.now.stop slot) me (Inside a found)) (stop_at s slot)
+    told_looked q irq calling g = told_still u p at at' seat source h me below pasts sized s whole cpus_are f keys sites (p.now.stop slot)
+        (stands (p.now.stop slot) me (Inside a found)) (stop_at s slot) (f.stops slot i.below) refl refl refl refl g.standing_else
+        (λ o m. rw (eq-eqb me me refl) (record {
+          called = m.called ∙ ap is_called stands_so;
+          acked_is = m.acked_is ∙ ap acked stands_so;
+          answer = m.answer ∙ ap given_by stands_so;
+          fresh = λ is. absurd cc;
+        }))
+
+    still : past.answer ≡ pos 0
+    still = answer ∙ subst (λ (z : Standing). AnswerIs z (past_at pasts me).answer) stands_so i.answer
+
+    -- no event
+    pub looked_step : (q : StopState) → Is q slot (stands (p.now.stop slot) me (Inside a found)) (Some slot) (p.now.irq me) (p.calling me)
+        → (found ≢ 0 → past.phase ≡ found) → (past.phase ≡ 3 → p.now.irq me ≡ false) → Leads q past []
+    looked_step q g phase reads = silent u p at at' seat source h me below pasts sized s whole cpus_are f keys sites q past slot
+        (stands (p.now.stop slot) me (Inside a found)) (Some slot) (p.now.irq me) (p.calling me) g (λ _. told_looked q (p.now.irq me) (p.calling me) g)
+        (in_slot u p at at' seat source h me below pasts sized s whole cpus_are f keys sites q s past slot (stands (p.now.stop slot) me
+        (Inside a found)) (p.now.irq me)
+        (p.calling me) g i.below (me_now.inside ∙ inside) me_now.irq i.ran (rw (eq-eqb me me refl) phase) (rw (eq-eqb me me refl) still) reads)
+
+    -- interrupts go off
+    pub off_step : (q : StopState) → Is q slot (stands (p.now.stop slot) me (Inside a found)) (Some slot) false (p.calling me) → (found ≢ 0
+        → past.phase ≡ found)
+        → (p.now.stop slot).work.kind ≢ One → (p.now.stop slot).is_open ≡ true → p.now.irq me ≡ true → a < 2 → (p.now.stop slot).phase ≡ 2
+        → handles_nothing (cpu_at s me) ≡ Ok tt → Leads q past ((me, event.Stop stops.Off) ∷ [])
+    unfolding stop_goes
+    off_step q g phase kind is_open irq low at_two quiet =
+        let was = shown slot i.below is_open in
+        let c = with_interrupts false (cpu_at s me) in
+        let t = with_cpu me s c in
+        let my_cpu = cpu_here s me c cpus_are below in
+        let acked_is : acked_by (stop_at s slot) me ≡ a = (was.members me below).acked_is ∙ ap acked stands_so in
+        let kind_is : (stop_at s slot).task.kind ≢ One = λ e. kind (sym (ap (λ (z : Task). z.kind) was.task) ∙ e) in
+        cpu_step p q at at' pasts s me past below sized cpus_are f keys sites slot (stands (p.now.stop slot) me (Inside a found))
+        (one_stop u p at at' seat source h me below pasts sized s whole cpus_are f keys sites q slot (stands (p.now.stop slot) me (Inside a found))
+        (Some slot) false
+        (p.calling me) (stop_at s slot) g (λ cpu ne. refl)) (λ _. told_looked q false (p.calling me) g) c ((me, event.Stop stops.Off) ∷ []) (
+          t,
+          (
+            turns_off s me whole slot (omega (arith, i.below)) (me_now.inside ∙ inside) kind_is (me_now.irq ∙ irq) (omega arith) (was.phase
+                ∙ at_two) quiet,
+            refl,
+          ),
+        ) refl
+        (in_slot u p at at' seat source h me below pasts sized s whole cpus_are f keys sites q t past slot (stands (p.now.stop slot) me (Inside a found)) false
+        (p.calling me) g i.below (ap (λ (z : CpuState). z.inside) my_cpu ∙ (me_now.inside ∙ inside)) (ap (λ (z : CpuState). z.irq) my_cpu) i.ran
+        (rw (eq-eqb me me refl) phase) (rw (eq-eqb me me refl) still) (λ e. refl))

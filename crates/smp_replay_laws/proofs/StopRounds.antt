@@ -1,0 +1,188 @@
+-- A CPU acknowledges a phase, and raises it.
+use Rattle.std.proofs.Common.{◌≡◌, ◌≢◌, ℕ, ◌-◌, ◌<◌, ◌≤◌, Bool, true, false, List, [], ◌∷◌, length, length-set, Option, Some, None, Ok, refl, ap, sym}
+use Rattle.std.proofs.Common.{◌∙◌, subst, arith}
+use Rattle.std.proofs.lemmas.List.{get_or-set_same, get_or-set_other}
+use Rattle.std.specs.Prelude.{slice_set, pos}
+use Rattle.smp_words.specs.Size.{cpus}
+use Rattle.smp_words.specs.declared.word.Word.{Word}
+use Rattle.smp_words.specs.declared.word.Word.TheVariants.{Key, Site}
+use Rattle.smp_words.specs.declared.work.Kind.TheVariants.{One}
+use Rattle.smp_stop_steps.specs.Shows.{StopShows}
+use Rattle.smp_stop_steps.specs.State.{Setup, StopState}
+use Rattle.smp_stop_steps.specs.Stop.{Inside, Stop, is_called}
+use Rattle.smp_stop_steps.specs.declared.known.Calling.{Calling}
+use Rattle.smp_stop_steps.specs.declared.known.Seat.{Seat}
+use Rattle.smp_stop_steps.specs.declared.known.Source.{Source}
+use Rattle.smp_event_steps.specs.declared.event.Event.{Event}
+use Rattle.smp_event_steps.specs.declared.event.Event.TheVariants as event
+use Rattle.smp_event_steps.specs.declared.event.StopEvent.TheVariants as stops
+use Rattle.smp_event_steps.specs.declared.stop.Stop.{Stop as ToldStop}
+use Rattle.smp_event_steps.specs.declared.stop.Task.{Task}
+use Rattle.smp_event_steps.specs.Cpu.{CpuState, with_interrupts}
+use Rattle.smp_event_steps.specs.State.{StateValue, cpu_at, stop_at, with_cpu, with_stop}
+use Rattle.smp_event_steps.specs.Step.{goes, stop_goes}
+use Rattle.smp_event_steps.specs.Stop.{acked_by, has_run, is_cpu}
+use Rattle.smp_events.specs.Past.{past_at}
+use Rattle.smp_events.specs.declared.past.Past.{Past}
+use Rattle.smp_replay_laws.specs.Follows.{nothing_left_out}
+use Rattle.smp_replay_laws.specs.Stops.{CpuIs, FollowsStops, InsideIs, IsSized, MemberIs, OpenIs, StopIs, given_by, has_called, raiser_of}
+use Rattle.smp_replay_laws.proofs.States.{cpu_here}
+use Rattle.smp_replay_laws.proofs.StopEvents.{raises_phase, turns_on}
+use Rattle.smp_replay_laws.proofs.StopKinds.{Goes, in_slot, members_set, one_stop}
+use Rattle.smp_replay_laws.proofs.StopStates.{stop_here}
+use Rattle.smp_replay_laws.proofs.StopSteps.{ReachesStops, member_as, set_step, stop_step}
+
+module _ (u : Setup) (p : StopState) (at at' : Word → ℕ) (seat : ℕ → Seat) (source : ℕ → Source) (h : StopShows u p at seat source) (me : ℕ)
+    (below : me < cpus)
+    (pasts : List Past) (sized : length pasts ≡ 32) (s : StateValue) (whole : s.setting.without ≡ nothing_left_out) (cpus_are : length s.cpus ≡ 32)
+    (f : FollowsStops p at pasts s) (keys : (key : ℕ) → at' (Key key) ≡ at (Key key)) (sites : (site : ℕ) → at' (Site site) ≡ at (Site site)) where
+  abbrev Is : StopState → ℕ → Stop → Option ℕ → Bool → Calling → Type 0
+  Is q slot x inside irq calling = Goes u p at at' seat source h me below pasts sized s whole cpus_are f keys sites q slot x inside irq calling
+
+  abbrev Leads : StopState → Past → List (ℕ × Event) → Type 0
+  Leads q past es = ReachesStops q at' (slice_set pasts me past) s es
+
+  me_now : CpuIs p s (past_at pasts me) me
+  me_now = f.cpus_are me below
+
+  -- an open stop, as it is told
+  shown : (slot : ℕ) → slot < cpus → (p.now.stop slot).is_open ≡ true → OpenIs (p.now.stop slot) (stop_at s slot)
+  shown slot l o = (f.stops slot l).shows o
+
+  module _ (slot : ℕ) (inside : p.now.inside me ≡ Some slot) (is_open : (p.now.stop slot).is_open ≡ true) where
+    i : InsideIs p s (past_at pasts me) me slot
+    i = me_now.stop slot inside
+
+    was : OpenIs (p.now.stop slot) (stop_at s slot)
+    was = shown slot i.below is_open
+
+    member : MemberIs ((p.now.stop slot).standing me) (stop_at s slot) me
+    member = was.members me below
+
+    size : IsSized (stop_at s slot)
+    size = (f.stops slot i.below).sized
+
+    abbrev with_phase : ℕ → Option ℕ → ToldStop
+    with_phase phase raiser = record (stop_at s slot) { acked = slice_set (stop_at s slot).acked me phase; raiser = raiser }
+
+    -- the stop once the phase is acknowledged
+    pub told_acked : (x : Stop) (phase : ℕ) (raiser : Option ℕ) → x.standing me ≡ Inside phase phase → x.is_open ≡ (p.now.stop slot).is_open
+        → x.work ≡ (p.now.stop slot).work
+        → x.phase ≡ (p.now.stop slot).phase → raiser_of x.raising ≡ raiser → is_called ((p.now.stop slot).standing me) ≡ false
+        → given_by ((p.now.stop slot).standing me) ≡ None
+        → ((cpu : ℕ) → cpu ≢ me → x.standing cpu ≡ (p.now.stop slot).standing cpu)
+        → StopIs x (record (stop_at s slot) { acked = slice_set (stop_at s slot).acked me phase; raiser = raiser })
+    told_acked x phase raiser stood x_open work same raising called given others = record {
+      sized = record { entered = size.entered; acked = length-set (stop_at s slot).acked me phase ∙ size.acked; ran = size.ran; answers = size.answers };
+      is_open = (f.stops slot i.below).is_open ∙ sym x_open;
+      shows = λ o. record {
+        task = was.task ∙ rw work refl;
+        phase = was.phase ∙ sym same;
+        raiser = sym raising;
+        members = members_set u p at at' seat source h me below pasts sized s whole cpus_are f keys sites (p.now.stop slot) x (stop_at s slot)
+            (record (stop_at s slot) { acked = slice_set (stop_at s slot).acked me phase; raiser = raiser }) was.members others
+            (λ cpu ne m. member_as ((p.now.stop slot).standing cpu) (stop_at s slot)
+            (record (stop_at s slot) { acked = slice_set (stop_at s slot).acked me phase; raiser = raiser }) cpu refl
+            (get_or-set_other (stop_at s slot).acked me cpu phase 0 ne) refl refl m)
+            (rw stood (record {
+              called = member.called ∙ called;
+              acked_is = get_or-set_same (stop_at s slot).acked me phase 0 (rw size.acked (omega arith));
+              answer = member.answer ∙ given;
+              fresh = λ is. absurd cc;
+            }));
+        kind = rw work was.kind;
+        patch = was.patch;
+      };
+    }
+
+    -- the CPU is in the stop still, and its interrupts are as they were
+    pub acks_told : (q : StopState) (x : Stop) (phase : ℕ) (raiser : Option ℕ) (calling : Calling) → x.standing me ≡ Inside phase phase
+        → x.is_open ≡ (p.now.stop slot).is_open
+        → x.work ≡ (p.now.stop slot).work → x.phase ≡ (p.now.stop slot).phase → raiser_of x.raising ≡ raiser
+        → is_called ((p.now.stop slot).standing me) ≡ false
+        → given_by ((p.now.stop slot).standing me) ≡ None → has_called calling ≡ has_called (p.calling me) → (past_at pasts me).phase ≡ phase
+        → (past_at pasts me).answer ≡ pos 0 → Is q slot x (Some slot) (p.now.irq me) calling
+        → goes me (event.Stop (stops.Ack phase)) s ≡ Ok (with_stop slot s (record (stop_at s slot) {
+          acked = slice_set
+              (stop_at s slot).acked me phase;
+          raiser = raiser;
+        }))
+        → Leads q (past_at pasts me) ((me, event.Stop (stops.Ack phase)) ∷ [])
+    acks_told q x phase raiser calling stood x_open work same raising called given calls past_phase past_answer g made =
+        let y = record (stop_at s slot) { acked = slice_set (stop_at s slot).acked me phase; raiser = raiser } in
+        let t = with_stop slot s y in
+        stop_step p q at at' pasts s me (past_at pasts me) below sized cpus_are f keys sites slot x y (cpu_at s me) i.below
+        (one_stop u p at at' seat source h me below pasts sized s whole cpus_are f keys sites q slot x (Some slot) (p.now.irq me) calling y g (λ cpu ne. refl))
+        (told_acked x phase raiser stood x_open work same raising called given g.standing_else) ((me, event.Stop (stops.Ack phase)) ∷ []) (t, (made, refl))
+        (in_slot u p at at' seat source h me below pasts sized s whole cpus_are f keys sites q t (past_at pasts me) slot x (p.now.irq me) calling g i.below
+        (me_now.inside ∙ inside) me_now.irq (ap (λ (z : ToldStop). has_run z me) (stop_here s slot y f.stops_are i.below) ∙ (i.ran ∙ sym calls))
+        (rw stood (λ _. past_phase)) (rw stood past_answer) me_now.reads)
+
+    -- they go on where it has left
+    module _ (q : StopState) (x : Stop) (y : ToldStop) (calling : Calling) (e : Event) (told : StopIs x y) (a : ℕ) (stood : x.standing me ≡ Inside a a)
+        (calls : has_called calling ≡ has_called (p.calling me)) (past_phase : (past_at pasts me).phase ≡ a) (last : a ≡ 4) (past_answer :
+        (past_at pasts me).answer ≡ pos 0)
+        (g : Is q slot x (Some slot) true calling) (ran : (cpu : ℕ) → has_run y cpu ≡ has_run (stop_at s slot) cpu)
+        (made : goes me e s ≡ Ok (with_stop slot s y)) (kind : y.task.kind ≢ One) (acked_told : acked_by y me ≡ 4) (raiser : is_cpu y.raiser me ≡ false)
+        (off : p.now.irq me ≡ false) where
+      pub leaves_told : Leads q (past_at pasts me) ((me, e) ∷ ((me, event.Stop stops.On) ∷ []))
+      unfolding stop_goes
+      leaves_told =
+          let m = with_stop slot s y in
+          let c = with_interrupts true (cpu_at s me) in
+          let t = with_cpu me m c in
+          let my_cpu = cpu_here m me c cpus_are below in
+          let here = stop_here s slot y f.stops_are i.below in
+          let on = turns_on m me whole slot (omega (arith, i.below)) (me_now.inside ∙ inside) (subst (λ (z : ToldStop). z.task.kind ≢ One) (sym here) kind)
+          (me_now.irq ∙ off) (subst (λ (z : ToldStop). 4 ≤ acked_by z me) (sym here) (omega (arith, acked_told)))
+          (subst (λ (z : ToldStop). is_cpu z.raiser me ≡ false) (sym here) raiser) in
+          set_step p q at at' pasts s me (past_at pasts me) below sized cpus_are f keys sites slot x y c i.below
+          (one_stop u p at at' seat source h me below pasts sized s whole cpus_are f keys sites q slot x (Some slot) true calling y g (λ cpu ne. ran cpu)) told
+          ((me, e) ∷ ((me, event.Stop stops.On) ∷ [])) (m, (made, (t, (on, refl)))) refl
+          (in_slot u p at at' seat source h me below pasts sized s whole cpus_are f keys sites q t (past_at pasts me) slot x true calling g i.below
+          (ap (λ (z : CpuState). z.inside) my_cpu ∙ (me_now.inside ∙ inside)) (ap (λ (z : CpuState). z.irq) my_cpu)
+          (ap (λ (z : ToldStop). has_run z me) here ∙ (ran me ∙ (i.ran ∙ sym calls)))
+          (rw stood (λ _. past_phase)) (rw stood past_answer) (λ three. absurd (omega arith)))
+
+    -- the phase is raised
+    abbrev raised : ℕ → ToldStop
+    raised phase = record (stop_at s slot) { phase = phase; raiser = None }
+
+    pub told_raised : (x : Stop) (phase : ℕ) → x.is_open ≡ (p.now.stop slot).is_open → x.work ≡ (p.now.stop slot).work → x.phase ≡ phase
+        → raiser_of x.raising ≡ None
+        → ((cpu : ℕ) → x.standing cpu ≡ (p.now.stop slot).standing cpu) → StopIs x (record (stop_at s slot) { phase = phase; raiser = None })
+    told_raised x phase x_open work is raising same = record {
+      sized = record { entered = size.entered; acked = size.acked; ran = size.ran; answers = size.answers };
+      is_open = (f.stops slot i.below).is_open ∙ sym x_open;
+      shows = λ o. record {
+        task = was.task ∙ rw work refl;
+        phase = sym is;
+        raiser = sym raising;
+        members = λ cpu l. member_as (x.standing cpu) (stop_at s slot) (record (stop_at s slot) { phase = phase; raiser = None }) cpu refl refl refl refl
+            (rw (same cpu) (was.members cpu l));
+        kind = rw work was.kind;
+        patch = was.patch;
+      };
+    }
+
+    pub raises_told : (q : StopState) (x : Stop) (phase a : ℕ) → x.is_open ≡ (p.now.stop slot).is_open → x.work ≡ (p.now.stop slot).work → x.phase ≡ phase
+        → raiser_of x.raising ≡ None → ((cpu : ℕ) → x.standing cpu ≡ (p.now.stop slot).standing cpu) → Is q slot x (Some slot) (p.now.irq me) (p.calling me)
+        → goes me (event.Stop (stops.Raise phase)) s ≡ Ok (with_stop slot s (record (stop_at s slot) { phase = phase; raiser = None }))
+        → Leads q (past_at pasts me) ((me, event.Stop (stops.Raise phase)) ∷ [])
+    raises_told q x phase a x_open work is raising same g made =
+        let y = record (stop_at s slot) { phase = phase; raiser = None } in
+        let t = with_stop slot s y in
+        stop_step p q at at' pasts s me (past_at pasts me) below sized cpus_are f keys sites slot x y (cpu_at s me) i.below
+        (one_stop u p at at' seat source h me below pasts sized s whole cpus_are f keys sites q slot x (Some slot) (p.now.irq me) (p.calling me) y g
+        (λ cpu ne. refl))
+        (told_raised x phase x_open work is raising same) ((me, event.Stop (stops.Raise phase)) ∷ []) (t, (made, refl))
+        (in_slot u p at at' seat source h me below pasts sized s whole cpus_are f keys sites q t (past_at pasts me) slot x (p.now.irq me)
+        (p.calling me) g i.below
+        (me_now.inside ∙ inside) me_now.irq (ap (λ (z : ToldStop). has_run z me) (stop_here s slot y f.stops_are i.below) ∙ i.ran)
+        (rw (same me) i.phase) (rw (same me) i.answer) me_now.reads)
+
+    pub raise_made : (phase : ℕ) → (p.now.stop slot).work.kind ≢ One → (p.now.stop slot).phase ≡ phase - 1 → raiser_of (p.now.stop slot).raising ≡ Some me
+        → goes me (event.Stop (stops.Raise phase)) s ≡ Ok (with_stop slot s (record (stop_at s slot) { phase = phase; raiser = None }))
+    unfolding stop_goes
+    raise_made phase kind at_phase last = raises_phase s me whole slot (omega (arith, i.below)) (me_now.inside ∙ inside) phase
+        (λ x. kind (sym (ap (λ (z : Task). z.kind) was.task) ∙ x)) (was.phase ∙ at_phase) (was.raiser ∙ last)

@@ -1,0 +1,324 @@
+-- The step of a CPU at each stage of the stop half is accepted: the gate, begin, enter, and readings.
+use Rattle.std.proofs.Common.{◌≡◌, ℕ, ◌+◌, ◌<◌, ◌%◌, ◌^◌, nat_lt, Bool, true, false, ◌&&◌, cond, List, [], length, Option, Some, None, refl, sym, ◌∙◌}
+use Rattle.std.proofs.Common.{subst, inl, inr, arith}
+use Rattle.std.proofs.lemmas.Bool.{cases_eq, ne_eqb, true≢false, false≢true, and_left, and_right, lt-ltb, eqb-true}
+use Rattle.std.specs.Prelude.{slice_set, ◌==◌, pos}
+use Rattle.smp_mask.specs.Mask.{has}
+use Rattle.smp_labels.specs.Keys.{is_on}
+use Rattle.smp_words.specs.Access.{at_after, put_by, put_if, seen_of, word_of}
+use Rattle.smp_words.specs.Kinds.{kind_word}
+use Rattle.smp_words.specs.Put.{put_word, same_word}
+use Rattle.smp_words.specs.Size.{cpus}
+use Rattle.smp_words.specs.declared.access.Access.{Access}
+use Rattle.smp_words.specs.declared.field.Field.{Field}
+use Rattle.smp_words.specs.declared.field.Field.TheVariants as field
+use Rattle.smp_words.specs.declared.seen.Act.TheVariants as act
+use Rattle.smp_words.specs.declared.seen.Seen.{Seen}
+use Rattle.smp_words.specs.declared.word.Word.{Word}
+use Rattle.smp_words.specs.declared.word.Word.TheVariants.{Gate, Slot, Key, Site}
+use Rattle.smp_words.specs.declared.work.Kind.{Kind}
+use Rattle.smp_words.specs.declared.work.Kind.TheVariants.{One, Multi, Patch}
+use Rattle.smp_words.specs.declared.work.Work.{Work}
+use Rattle.smp_words.proofs.Puts.{put_other, put_same}
+use Rattle.smp_stop_steps.specs.Callings.{IsCalling}
+use Rattle.smp_stop_steps.specs.Seats.{Stands}
+use Rattle.smp_stop_steps.specs.Sits.{HoldsGate, SitsAt, SitsAtRest, SourceSits}
+use Rattle.smp_stop_steps.specs.Slots.{order}
+use Rattle.smp_stop_steps.specs.Sources.{DraftShows, IsDrafted, IsOfKind, SourceShows}
+use Rattle.smp_stop_steps.specs.Stages.{StopControlValue, answer_at, stop_access, stop_outcome}
+use Rattle.smp_stop_steps.specs.State.{Present, Setup, StopState}
+use Rattle.smp_stop_steps.specs.declared.known.Reading.TheVariants.{ReadKey as ReadingKey}
+use Rattle.smp_stop_steps.specs.Stop.{Standing, Outside, Called, Inside, Answering, Completed, first_phase, is_called}
+use Rattle.smp_stop_steps.specs.Table.{stop_number}
+use Rattle.smp_stop_steps.specs.Counts.{mask_weight}
+use Rattle.smp_stop_steps.specs.Tells.{drafted, drafts, gate_told, is_at_run, is_patch, key_loaded, opens, patch_begun, reads, stored_open, tells}
+use Rattle.smp_stop_steps.specs.Value.{StopShown, StopsValue, setup_of, stop_control_of}
+use Rattle.smp_stop_steps.specs.declared.known.Calling.TheVariants.{Idle}
+use Rattle.smp_stop_steps.specs.declared.known.Duty.TheVariants.{Rests}
+use Rattle.smp_stop_steps.specs.declared.known.Seat.{Seat}
+use Rattle.smp_stop_steps.specs.declared.known.Seat.TheVariants.{Free, In}
+use Rattle.smp_stop_steps.specs.declared.stage.StopStage.{StopStage}
+use Rattle.smp_stop_steps.specs.declared.stage.StopStage.TheVariants.{TakeGate, OpenGate, Begin, Enter, EnterKind, EnterMask, EnterActive, ReadKey}
+use Rattle.smp_stop_steps.specs.declared.stage.StopStage.TheVariants.{ReadSite, NudgeKey}
+use Rattle.smp_stop_steps.specs.declared.stage.Visit.{Visit}
+use Rattle.smp_stop_steps.proofs.State.Gates.{gate_free, gate_mine}
+use Rattle.smp_stop_steps.proofs.State.Phases.{is_open_inside}
+use Rattle.smp_event_steps.specs.declared.event.Event.TheVariants as event
+use Rattle.smp_event_steps.specs.declared.event.LabelEvent.TheVariants as labels
+use Rattle.smp_event_steps.specs.State.{StateValue}
+use Rattle.smp_events.specs.Past.{after, after_draft, past_at}
+use Rattle.smp_events.specs.Told.{of_gate, of_roll, task_of, told_of}
+use Rattle.smp_events.specs.declared.past.Draft.{Draft}
+use Rattle.smp_events.specs.declared.past.Past.{Past}
+use Rattle.smp_events.specs.declared.told.Told.TheVariants as told
+use Rattle.smp_replay_laws.specs.Follows.{nothing_left_out}
+use Rattle.smp_replay_laws.specs.Stops.{AnswerIs, CpuIs, DraftIs, Drafts, FollowsStops, IsPlain, told_work}
+use Rattle.smp_replay_laws.proofs.Accepts.{by}
+use Rattle.smp_replay_laws.proofs.StopKinds.{gate_given, gate_taken, idle_free, mine_past, nothing_told}
+use Rattle.smp_replay_laws.proofs.StopMoves.{enters_told}
+use Rattle.smp_replay_laws.proofs.StopSources.{drafts_step, key_read, onlines, opens_told, reads_step, site_read, works}
+use Rattle.smp_replay_laws.proofs.StopSteps.{ReachesStops, word_kept}
+
+pub else_if : {A : Type 0} (b : Bool) (x y : A) → b ≡ false → cond b x y ≡ y
+else_if true x y e = absurd (true≢false e)
+else_if false x y e = refl
+
+module _ (v : StopsValue) (p : StopState) (shown : StopShown p v) (me : ℕ) (below : me < cpus) (pasts : List Past) (sized : length pasts ≡ 32)
+    (s : StateValue) (whole : s.setting.without ≡ nothing_left_out) (cpus_are : length s.cpus ≡ 32) (f : FollowsStops p (stop_number v.table) pasts s) where
+  abbrev pub u : Setup
+  u = setup_of v.online v.labels
+
+  abbrev pub at : Word → ℕ
+  at = stop_number v.table
+
+  abbrev pub c : StopControlValue
+  c = stop_control_of v.controls me
+
+  abbrev pub past : Past
+  past = past_at pasts me
+
+  -- the step of a stage, as it is seen
+  abbrev pub seen_so : StopStage → Seen
+  seen_so stage =
+      let access = stop_access cpus me c.changes stage in
+      let found = at (word_of access) in
+      seen_of me access found (stop_outcome me c stage found).note
+
+  -- its events are accepted
+  abbrev pub Accepted : StopStage → Type 0
+  Accepted stage = ReachesStops (tells u p (seen_so stage) (answer_at stage)) (at_after at (stop_access cpus me c.changes stage))
+      (slice_set pasts me (after past (seen_so stage))) s (by me (told_of past (seen_so stage)))
+
+  abbrev Kept : Access → (ℕ → Word) → Type 0
+  Kept access word = (k : ℕ) → at_after at access (word k) ≡ at (word k)
+
+  kept : (access : Access) (word : ℕ → Word) → ((k : ℕ) → same_word (word k) (word_of access) ≡ false) → Kept access word
+  kept access word other k = word_kept at (word_of access) (word k) (put_by access (at (word_of access))) (other k)
+
+  my : CpuIs p s past me
+  my = f.cpus_are me below
+
+  seat_is : (x : Seat) → shown.seat me ≡ x → Stands p.now me x
+  seat_is x e = subst (Stands p.now me) e (shown.shows.present.stands me)
+
+  sits : (stage : StopStage) → c.stage ≡ Some stage → SitsAt u me c (Some stage) (shown.seat me)
+  sits stage e = subst (λ (x : Option StopStage). SitsAt u me c x (shown.seat me)) e (shown.sits me below).seat
+
+  source_sits : (stage : StopStage) → c.stage ≡ Some stage → SourceSits c.is_open (Some stage) (shown.source me)
+  source_sits stage e = subst (λ (x : Option StopStage). SourceSits c.is_open x (shown.source me)) e (shown.sits me below).source
+
+  -- the gate
+  gate_on : (b : Bool) → (b ≡ true → p.gate ≡ None) → let new : Option ℕ = cond b (Some (me + 1)) None in
+      ReachesStops (gate_told p me act.Cas new) (put_if put_word at Gate new) (slice_set pasts me past) s (by me (of_gate act.Cas new))
+  gate_on true free = gate_taken u p at (put_word at Gate (me + 1)) shown.seat shown.source shown.shows me below pasts sized s whole cpus_are f
+      (λ k. refl) (λ k. refl) (free refl)
+  gate_on false free = nothing_told u p at at shown.seat shown.source shown.shows me below pasts sized s whole cpus_are f (λ k. refl)
+      (λ k. refl) past refl refl
+
+  pub takes_gate : Accepted TakeGate
+  takes_gate = gate_on (at Gate == 0) (λ z. gate_free p.gate (sym shown.shows.gate ∙ eqb-true (at Gate) 0 z))
+
+  pub opens_gate : c.stage ≡ Some OpenGate → Accepted OpenGate
+  opens_gate e =
+      let holds : at Gate ≡ me + 1 = subst (λ (x : Option StopStage). HoldsGate me (at Gate) x) e (shown.sits me below).gate_held in
+      gate_given u p at (at_after at (stop_access cpus me c.changes OpenGate)) shown.seat shown.source shown.shows me below pasts sized s whole cpus_are f
+      (kept (stop_access cpus me c.changes OpenGate) Key (λ k. refl)) (kept (stop_access cpus me c.changes OpenGate) Site (λ k. refl))
+      (gate_mine me p.gate (sym shown.shows.gate ∙ holds))
+
+  -- loads of what the CPU has entered
+  abbrev Plain : StopStage → Type 0
+  Plain stage = ReachesStops p (at_after at (stop_access cpus me c.changes stage)) (slice_set pasts me past) s []
+
+  pub loads : (stage : StopStage) → ((k : ℕ) → same_word (Key k) (word_of (stop_access cpus me c.changes stage)) ≡ false)
+      → ((k : ℕ) → same_word (Site k) (word_of (stop_access cpus me c.changes stage)) ≡ false) → Plain stage
+  loads stage keys sites = nothing_told u p at (at_after at
+      (stop_access cpus me c.changes stage)) shown.seat shown.source shown.shows me below pasts sized s whole cpus_are f
+      (kept (stop_access cpus me c.changes stage) Key keys) (kept (stop_access cpus me c.changes stage) Site sites) past refl refl
+
+  -- a CPU enters where its bit is in the roll
+  enter_by : (slot : ℕ) → slot < cpus → shown.seat me ≡ Free → (b : Bool) → has (at (Slot slot field.Roll)) me ≡ b → Accepted (Enter slot)
+  enter_by slot l free false e = rw (e, and_right (nat_lt me 32) false refl) (loads (Enter slot) (λ k. refl) (λ k. refl))
+  enter_by slot l free true e =
+      let none : p.now.inside me ≡ None = seat_is Free free in
+      let k = shown.shows.present.slots slot in
+      let called : is_called ((p.now.stop slot).standing me) ≡ true = sym (k.roll me) ∙ e in
+      let stood : (p.now.stop slot).standing me ≡ Called = called_is ((p.now.stop slot).standing me) called in
+      let is_open : (p.now.stop slot).is_open ≡ true = is_open_inside u.cpus (p.now.stop slot) (λ g. at (Slot slot g)) k me Called stood refl in
+      let idle : p.calling me ≡ Idle = idle_free me (p.calling me) (subst (λ (x : Seat). IsCalling me x (p.calling me)) free (shown.shows.callings me)) in
+      rw (e, lt-ltb me 32 (omega arith)) (enters_told u p at (at_after at (stop_access cpus me c.changes
+      (Enter slot))) shown.seat shown.source shown.shows me below pasts sized s
+      whole cpus_are f (kept (stop_access cpus me c.changes (Enter slot)) Key (λ k. refl)) (kept (stop_access cpus me c.changes (Enter slot)) Site
+      (λ k. refl)) _ slot l none is_open stood idle
+      (record {
+        stop_is = λ j. refl;
+        inside_is = put_same p.now.inside me (Some slot);
+        irq_is = refl;
+        calling_is = refl;
+        inside_else = λ d ne. put_other p.now.inside me (Some slot) d ne;
+        irq_else = λ d ne. refl;
+        calling_else = λ d ne. refl;
+        standing_else = λ d ne. put_other (p.now.stop slot).standing me (Inside 0 0) d ne;
+        gate_is = refl;
+      }))
+    where
+      called_is : (x : Standing) → is_called x ≡ true → x ≡ Called
+      called_is Called e = refl
+      called_is Outside e = absurd (false≢true e)
+      called_is (Inside a l) e = absurd (false≢true e)
+      called_is (Answering a n) e = absurd (false≢true e)
+      called_is (Completed a n) e = absurd (false≢true e)
+
+  pub enters : (slot : ℕ) → c.stage ≡ Some (Enter slot) → Accepted (Enter slot)
+  enters slot e = let k = sits (Enter slot) e in enter_by slot k.2 k.1 (has (at (Slot slot field.Roll)) me) refl
+
+  pub enters_kind : (slot : ℕ) → Accepted (EnterKind slot)
+  enters_kind slot = loads (EnterKind slot) (λ k. refl) (λ k. refl)
+
+  pub enters_mask : (slot : ℕ) (kind : Kind) → Accepted (EnterMask slot kind)
+  enters_mask slot kind = loads (EnterMask slot kind) (λ k. refl) (λ k. refl)
+
+  pub enters_active : (slot : ℕ) (kind : Kind) (mask : ℕ) → Accepted (EnterActive slot kind mask)
+  enters_active slot kind mask = loads (EnterActive slot kind mask) (λ k. refl) (λ k. refl)
+
+  -- what is kept of a stop that the CPU begins, and of no other
+  rest_in : (w : Option Visit) → SitsAtRest w (shown.seat me) → past.answer ≡ pos 0
+  rest_in None e = my.answer (seat_is Free e)
+  rest_in (Some w) k =
+      let st = seat_is (In w.slot k.0 w.acked w.acked Rests) k.2 in
+      let i = my.stop w.slot st.0 in
+      subst (λ (x : Standing). AnswerIs x past.answer) st.1 i.answer
+
+  drafting : (w : Work) (g : Field) → c.stage ≡ Some (Begin w g) → DraftShows u p.gate (p.now.stop me) (λ k. at (Slot me k)) me w (order g)
+  drafting w g e = subst (SourceShows u p.gate (p.now.stop me) (λ k. at (Slot me k)) me) (source_sits (Begin w g) e).1 (shown.shows.sources me)
+
+  -- a field of a stop that is not open
+  stores : (w : Work) (g : Field) → c.stage ≡ Some (Begin w g) → (n : ℕ) → (after_draft past g n).phase ≡ past.phase
+      → (after_draft past g n).answer ≡ past.answer
+      → ReachesStops (record p { now = drafts p.now me g n }) (put_word at (Slot me g) n) (slice_set pasts me (after_draft past g n)) s []
+  stores w g e n phase answer =
+      let d = drafting w g e in
+      drafts_step u p at (put_word at (Slot me g) n) shown.seat shown.source shown.shows me below pasts sized s whole cpus_are f (λ k. refl) (λ k. refl)
+      (record p { now = drafts p.now me g n }) (after_draft past g n) (record (p.now.stop me) { work = drafted g n (p.now.stop me).work }) d.shut d.shut
+      (λ j. refl) (λ d. refl) (λ d. refl) (λ d. refl) (λ d. refl) refl
+      (mine_past u p at (put_word at (Slot me g) n) shown.seat shown.source shown.shows me below pasts sized s whole cpus_are f (λ k. refl) (λ k. refl)
+      (after_draft past g n) phase answer)
+
+  -- while it is not open
+  stores_shut : (w : Work) (g : Field) (x : StopState) (n : ℕ) → c.stage ≡ Some (Begin w g) → (phase : (after_draft past g n).phase ≡ past.phase)
+      → (after_draft past g n).answer ≡ past.answer
+      → ReachesStops (cond (p.now.stop me).is_open x (record p { now = drafts p.now me g n })) (put_word at (Slot me g) n) (slice_set pasts me
+      (after_draft past g n)) s []
+  stores_shut w g x n e phase answer = subst (λ (z : StopState). ReachesStops z (put_word at (Slot me g) n) (slice_set pasts me (after_draft past g n)) s [])
+      (sym (else_if (p.now.stop me).is_open x (record p { now = drafts p.now me g n }) (drafting w g e).shut)) (stores w g e n phase answer)
+
+  first_low : (k : Kind) → nat_lt 1 (first_phase k) ≡ false
+  first_low One = refl
+  first_low Multi = refl
+  first_low Patch = refl
+
+  at_rest : (w : Work) (g : Field) → c.stage ≡ Some (Begin w g) → past.answer ≡ pos 0
+  at_rest w g e = rest_in c.visit (sits (Begin w g) e)
+
+  begun_task : (w : Work) (d : Draft) → IsPlain w → DraftIs w field.Roll d → task_of d ≡ told_work w
+  begun_task w d plain k =
+      let m : d.mask % 2 ^ 32 ≡ w.mask = small d.mask w.mask k.1.0 plain.mask in
+      let a : d.active % 2 ^ 32 ≡ w.active = small d.active w.active k.1.1.0 plain.active in
+      rw (k.0, m, a, k.1.1.1.0, k.1.1.1.1) refl
+    where
+      small : (m n : ℕ) → m ≡ n → n < 2 ^ 32 → m % 2 ^ 32 ≡ n
+      small m n e l = omega arith
+
+  opens_so : (w : Work) → c.stage ≡ Some (Begin w field.Roll) → IsPlain w → DraftIs w field.Roll past.draft → s.setting.online ≡ v.online
+      → ReachesStops (opens p me) (put_word at (Slot me field.Roll) w.mask) (slice_set pasts me past) s (by me (of_roll past me act.Store (seen_so
+      (Begin w field.Roll))))
+  opens_so w e plain d online =
+      let k = drafting w field.Roll e in
+      let same : (p.now.stop me).work ≡ w = drafted_all (p.now.stop me).work w k.told in
+      opens_told u p at (put_word at (Slot me field.Roll) w.mask) shown.seat shown.source shown.shows me below pasts sized s whole cpus_are f
+      (λ j. refl) (λ j. refl)
+      (opens p me) w same plain k.shut (task_of past.draft) (begun_task w past.draft plain d)
+      (works s.setting w w.kind refl plain.kind k.is_work.some (λ one. subst (λ (x : Kind). IsOfKind u w x) one k.is_work.kind))
+      (onlines s.setting w.mask (λ j m. rw online (k.is_work.online j m))) k.holds
+      (λ j. refl) (λ j. refl) (λ j. refl) (λ j. refl) refl
+    where
+      drafted_all : (x y : Work) → IsDrafted 10 x y → x ≡ y
+      drafted_all x y k = search arith
+
+  pub begins : (w : Work) (g : Field) → c.stage ≡ Some (Begin w g) → Drafts (Some (Begin w g)) past.draft → s.setting.online ≡ v.online → Accepted (Begin w g)
+  begins w field.Kind e d on = stores_shut w field.Kind (stored_open p me me field.Kind (kind_word w.kind)) (kind_word w.kind) e refl refl
+  begins w field.Mask e d on = stores_shut w field.Mask (stored_open p me me field.Mask w.mask) w.mask e refl refl
+  begins w field.Active e d on = stores_shut w field.Active (stored_open p me me field.Active w.active) w.active e refl refl
+  begins w field.Func e d on = stores_shut w field.Func (stored_open p me me field.Func w.func) w.func e refl refl
+  begins w field.Arg e d on = stores_shut w field.Arg (stored_open p me me field.Arg w.arg) w.arg e refl refl
+  begins w field.Result e d on = stores_shut w field.Result (stored_open p me me field.Result 0) 0 e refl (sym (at_rest w field.Result e))
+  begins w field.Todo e d on = stores_shut w field.Todo (stored_open p me me field.Todo (mask_weight cpus w.mask)) (mask_weight cpus w.mask) e refl refl
+  begins w field.Done e d on = stores_shut w field.Done (stored_open p me me field.Done 0) 0 e refl refl
+  begins w field.Ack e d on = stores_shut w field.Ack (stored_open p me me field.Ack (mask_weight cpus w.mask)) (mask_weight cpus w.mask) e refl refl
+  begins w field.State e d on =
+      rw (first_low w.kind) (stores_shut w field.State (stored_open p me me field.State (first_phase w.kind)) (first_phase w.kind) e refl refl)
+  begins w field.Roll e d on = subst (λ (z : StopState). ReachesStops z (put_word at (Slot me field.Roll) w.mask) (slice_set pasts me past) s
+      (by me (of_roll past me act.Store (seen_so (Begin w field.Roll)))))
+      (sym (else_if (p.now.stop me).is_open (stored_open p me me field.Roll w.mask) (opens p me) (drafting w field.Roll e).shut)) (opens_so w e d.0 d.1 on)
+
+  -- a key and a site are read
+  on_read : p.now.irq me ≡ true → (past.phase == 3) ≡ false
+  on_read on = ne_eqb past.phase 3 (λ three. true≢false (sym on ∙ my.reads three))
+
+  key_on : (k : ℕ) (q : StopState) → p.now.irq me ≡ true → ((j : ℕ) → q.now.stop j ≡ p.now.stop j) → ((d : ℕ) → q.now.inside d ≡ p.now.inside d)
+      → ((d : ℕ) → q.now.irq d ≡ p.now.irq d) → ((d : ℕ) → q.calling d ≡ p.calling d) → q.gate ≡ p.gate
+      → ReachesStops q at (slice_set pasts me past) s (by me (cond (past.phase == 3) told.Nothing (told.One (event.Label (labels.Key k (is_on (at
+      (Key k))))))))
+  key_on k q on stop inside irq calling gate = rw (on_read on)
+      (reads_step u p at at shown.seat shown.source shown.shows me below pasts sized s whole cpus_are f (λ j. refl) (λ j. refl) q
+      (event.Label (labels.Key k (is_on (at (Key k)))))
+      (key_read u p at at shown.seat shown.source shown.shows me below pasts sized s whole cpus_are f (λ j. refl)
+      (λ j. refl) k on) stop inside irq calling gate)
+
+  irq_on : c.interrupts ≡ true → p.now.irq me ≡ true
+  irq_on e = shown.shows.present.irq me ∙ (sym (shown.sits me below).irq ∙ e)
+
+  not_at_run : (w : Option Visit) → SitsAtRest w (shown.seat me) → (j : ℕ) → p.now.inside me ≡ Some j → is_at_run ((p.now.stop j).standing me) ≡ false
+  not_at_run None e j i = absurd (none (sym (seat_is Free e) ∙ i))
+    where
+      none : None ≡ Some j → ⊥
+      none x = absurd cc
+  not_at_run (Some w) k j i =
+      let st = seat_is (In w.slot k.0 w.acked w.acked Rests) k.2 in
+      let same : w.slot ≡ j = some (sym st.0 ∙ i) in
+      subst (λ (n : ℕ). is_at_run ((p.now.stop n).standing me) ≡ false) same (rw st.1 (equal_phases w.acked))
+    where
+      some : Some w.slot ≡ Some j → w.slot ≡ j
+      some x = cc
+
+      equal_phases : (a : ℕ) → is_at_run (Inside a a) ≡ false
+      equal_phases a = elim (cases_eq a 2) [
+        | inl two ↦ rw two refl
+        | inr ne ↦ and_left (a == 2) (a == 3) (ne_eqb a 2 ne)
+      ]
+
+  key_in : (k : ℕ) (w : Option Visit) → SitsAtRest w (shown.seat me) → p.now.irq me ≡ true → (o : Option ℕ) → p.now.inside me ≡ o
+      → ReachesStops (record p { now = key_loaded u p.now me k (at (Key k)) o }) at (slice_set pasts me past) s
+      (by me (cond (past.phase == 3) told.Nothing (told.One (event.Label (labels.Key k (is_on (at (Key k))))))))
+  key_in k w rest on None e = key_on k (record p { now = key_loaded u p.now me k (at (Key k)) None }) on (λ j. refl) (λ d. refl) (λ d. refl) (λ d. refl) refl
+  key_in k w rest on (Some j) e =
+      let n = reads p.now me (ReadingKey k (is_on (at (Key k)))) in
+      let not_run = and_left (is_at_run ((p.now.stop j).standing me)) (is_patch (p.now.stop j).work.kind) (not_at_run w rest j e) in
+      subst (λ (x : Present). ReachesStops (record p { now = x }) at (slice_set pasts me past) s
+      (by me (cond (past.phase == 3) told.Nothing (told.One (event.Label (labels.Key k (is_on (at (Key k)))))))))
+      (sym (else_if (is_at_run ((p.now.stop j).standing me) && is_patch (p.now.stop j).work.kind)
+      (record (p.now) { patching = patch_begun u me (p.now.stop j).work (at (Key k)) }) n not_run))
+      (key_on k (record p { now = n }) on (λ j. refl) (λ d. refl) (λ d. refl) (λ d. refl) refl)
+
+  pub reads_key : (k : ℕ) → c.stage ≡ Some (ReadKey k) → Accepted (ReadKey k)
+  reads_key k e = let st = sits (ReadKey k) e in key_in k c.visit st.2 (irq_on st.0) (p.now.inside me) refl
+
+  pub looks_key : (k : ℕ) (up : Bool) → c.stage ≡ Some (NudgeKey k up) → Accepted (NudgeKey k up)
+  looks_key k up e = let st = sits (NudgeKey k up) e in key_in k c.visit st.3 (irq_on st.0) (p.now.inside me) refl
+
+  pub reads_site : (k : ℕ) → c.stage ≡ Some (ReadSite k) → Accepted (ReadSite k)
+  reads_site k e =
+      let st = sits (ReadSite k) e in
+      reads_step u p at at shown.seat shown.source shown.shows me below pasts sized s whole cpus_are f (λ j. refl) (λ j. refl) _
+      (event.Label (labels.Site k (is_on (at (Site k)))))
+      (site_read u p at at shown.seat shown.source shown.shows me below pasts sized s whole cpus_are f (λ j. refl) (λ j. refl) k (irq_on st.0))
+      (λ j. refl) (λ d. refl) (λ d. refl) (λ d. refl) refl

@@ -1,0 +1,98 @@
+-- A state of the model with one stop or one CPU's part of the stops changed, and the stops of the machine that it stands as.
+use Rattle.std.proofs.Common.{◌≡◌, ◌≢◌, ℕ, ◌<◌, List, length, Some, ap, sym, ◌∙◌, subst, inl, inr, arith}
+use Rattle.std.proofs.lemmas.List.{get_or-set_same, get_or-set_other}
+use Rattle.std.proofs.lemmas.Bool.{cases_eq}
+use Rattle.std.specs.Prelude.{slice_set}
+use Rattle.smp_words.specs.Put.{put}
+use Rattle.smp_words.specs.Size.{cpus}
+use Rattle.smp_words.specs.declared.word.Word.{Word}
+use Rattle.smp_words.specs.declared.word.Word.TheVariants.{Key, Site}
+use Rattle.smp_words.proofs.Puts.{put_other, put_same}
+use Rattle.smp_stop_steps.specs.State.{StopState}
+use Rattle.smp_stop_steps.specs.Stop.{Standing, Stop}
+use Rattle.smp_event_steps.specs.declared.stop.Stop.{Stop as ToldStop}
+use Rattle.smp_event_steps.specs.State.{StateValue, cpu_at, stop_at, with_stop}
+use Rattle.smp_event_steps.specs.Stop.{closed, has_run}
+use Rattle.smp_events.specs.Past.{past_at}
+use Rattle.smp_events.specs.declared.past.Past.{Past}
+use Rattle.smp_replay_laws.specs.Follows.{calls_in}
+use Rattle.smp_replay_laws.specs.Stops.{AnswerIs, CpuIs, FollowsStops, InsideIs, PhaseIs, StopIs, has_called}
+use Rattle.smp_replay_laws.proofs.Pasts.{past_else, past_here}
+
+pub stop_here : (s : StateValue) (source : ℕ) (x : ToldStop) → length s.stops ≡ 32 → source < cpus → stop_at (with_stop source s x) source ≡ x
+stop_here s source x l b = get_or-set_same s.stops source x (closed 0) (omega arith)
+
+pub stop_else : (s : StateValue) (source : ℕ) (x : ToldStop) (j : ℕ) → j ≢ source → stop_at (with_stop source s x) j ≡ stop_at s j
+stop_else s source x j ne = get_or-set_other s.stops source j x (closed 0) ne
+
+-- Events of stops leave the calls as they were.
+pub record LeavesCalls (s t : StateValue) : Type 0 where
+  pub setting : t.setting ≡ s.setting
+  pub places : t.places ≡ s.places
+  pub cpus_are : length t.cpus ≡ length s.cpus
+  pub calls : (cpu : ℕ) → calls_in (cpu_at t cpu) ≡ calls_in (cpu_at s cpu)
+
+-- Another CPU's part of the stops is as it was.
+pub record IsAlike (p q : StopState) (s t : StateValue) (cpu : ℕ) : Type 0 where
+  pub inside : q.now.inside cpu ≡ p.now.inside cpu
+  pub irq : q.now.irq cpu ≡ p.now.irq cpu
+  pub calling : q.calling cpu ≡ p.calling cpu
+  pub standing : (source : ℕ) → p.now.inside cpu ≡ Some source → (q.now.stop source).standing cpu ≡ (p.now.stop source).standing cpu
+  pub inside_told : (cpu_at t cpu).inside ≡ (cpu_at s cpu).inside
+  pub irq_told : (cpu_at t cpu).irq ≡ (cpu_at s cpu).irq
+  pub ran : (source : ℕ) → p.now.inside cpu ≡ Some source → source < cpus → has_run (stop_at t source) cpu ≡ has_run (stop_at s source) cpu
+
+inside_alike : (p q : StopState) (s t : StateValue) (cpu : ℕ) (past : Past) → IsAlike p q s t cpu → (source : ℕ) → p.now.inside cpu ≡ Some source
+    → InsideIs p s past cpu source → InsideIs q t past cpu source
+inside_alike p q s t cpu past k source e i = record {
+  below = i.below;
+  ran = k.ran source e i.below ∙ (i.ran ∙ ap has_called (sym k.calling));
+  phase = subst (λ (x : Standing). PhaseIs x past.phase) (sym (k.standing source e)) i.phase;
+  answer = subst (λ (x : Standing). AnswerIs x past.answer) (sym (k.standing source e)) i.answer;
+}
+
+pub cpu_alike : (p q : StopState) (s t : StateValue) (cpu : ℕ) (past : Past) → IsAlike p q s t cpu → CpuIs p s past cpu → CpuIs q t past cpu
+cpu_alike p q s t cpu past k c = record {
+  inside = k.inside_told ∙ (c.inside ∙ sym k.inside);
+  irq = k.irq_told ∙ (c.irq ∙ sym k.irq);
+  stop = λ source e. inside_alike p q s t cpu past k source (sym k.inside ∙ e) (c.stop source (sym k.inside ∙ e));
+  answer = λ e. c.answer (sym k.inside ∙ e);
+  reads = λ e. k.irq ∙ c.reads e;
+}
+
+module _ (p q : StopState) (at at' : Word → ℕ) (pasts : List Past) (s t : StateValue) (me : ℕ) (past : Past) (f : FollowsStops p at pasts s) where
+  -- A step of one CPU: the others' parts are as they were, and the stops are as the machine's.
+  pub record Steps : Type 0 where
+    pub below : me < cpus
+    pub pasts_are : length pasts ≡ 32
+    pub stops_are : length t.stops ≡ 32
+    pub gate : t.gate ≡ q.gate
+    pub stops : (source : ℕ) → source < cpus → StopIs (q.now.stop source) (stop_at t source)
+    pub mine : CpuIs q t past me
+    pub others : (cpu : ℕ) → cpu ≢ me → IsAlike p q s t cpu
+    pub words : t.words ≡ s.words
+    pub keys : (key : ℕ) → at' (Key key) ≡ at (Key key)
+    pub sites : (site : ℕ) → at' (Site site) ≡ at (Site site)
+
+  pub follows_step : Steps → FollowsStops q at' (slice_set pasts me past) t
+  follows_step k = record {
+    stops_are = k.stops_are;
+    keys_are = rw k.words f.keys_are;
+    gate = k.gate;
+    stops = k.stops;
+    cpus_are = λ cpu l. elim (cases_eq cpu me) [
+      | inl e ↦ rw (e, past_here pasts me past k.pasts_are k.below) k.mine
+      | inr ne ↦ rw (past_else pasts me past cpu ne) (cpu_alike p q s t cpu (past_at pasts cpu) (k.others cpu ne) (f.cpus_are cpu l))
+    ];
+    keys = λ key. rw (k.words, k.keys key) (f.keys key);
+    sites = λ site. rw (k.words, k.sites site) (f.sites site);
+  }
+
+-- one stop is set
+pub stops_set : (p q : StopState) (s : StateValue) (source : ℕ) (x : Stop) (y : ToldStop) → length s.stops ≡ 32 → source < cpus
+    → ((j : ℕ) → j < cpus → StopIs (p.now.stop j) (stop_at s j)) → ((j : ℕ) → q.now.stop j ≡ put p.now.stop source x j) → StopIs x y
+    → (j : ℕ) → j < cpus → StopIs (q.now.stop j) (stop_at (with_stop source s y) j)
+stops_set p q s source x y l b was same here j m = elim (cases_eq j source) [
+  | inl e ↦ rw (e, stop_here s source y l b, same source, put_same p.now.stop source x) here
+  | inr ne ↦ rw (stop_else s source y j ne, same j, put_other p.now.stop source x j ne) (was j m)
+]

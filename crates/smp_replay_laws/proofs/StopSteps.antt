@@ -1,0 +1,295 @@
+-- The events of a step on the stops, and the state to which they lead.
+use Rattle.std.proofs.Common.{◌≡◌, ◌≢◌, ℕ, ◌<◌, false, List, [], ◌∷◌, length, length-set, Option, Some, None, Ok, refl, ap, sym, ◌∙◌, subst, inl, inr}
+use Rattle.std.proofs.lemmas.Bool.{cases_eq}
+use Rattle.std.specs.Prelude.{slice_set}
+use Rattle.smp_words.specs.Put.{put, put_word, same_word}
+use Rattle.smp_words.specs.Access.{put_if}
+use Rattle.smp_words.specs.Size.{cpus}
+use Rattle.smp_words.specs.declared.word.Word.{Word}
+use Rattle.smp_words.specs.declared.word.Word.TheVariants.{Key, Site}
+use Rattle.smp_words.proofs.Puts.{put_all}
+use Rattle.smp_stop_steps.specs.State.{StopState}
+use Rattle.smp_stop_steps.specs.Stop.{Standing, Stop}
+use Rattle.smp_event_steps.specs.declared.event.Event.{Event}
+use Rattle.smp_event_steps.specs.declared.stop.Stop.{Stop as ToldStop}
+use Rattle.smp_event_steps.specs.Cpu.{CpuState}
+use Rattle.smp_event_steps.specs.Runs.{Runs as RunsTo}
+use Rattle.smp_event_steps.specs.State.{StateValue, cpu_at, stop_at, with_cpu, with_stop}
+use Rattle.smp_event_steps.specs.Step.{goes}
+use Rattle.smp_event_steps.specs.Stop.{acked_by, answer_of, has_run, is_called}
+use Rattle.smp_events.specs.declared.past.Past.{Past}
+use Rattle.smp_replay_laws.specs.Follows.{calls_in}
+use Rattle.smp_replay_laws.specs.Stops.{CpuIs, FollowsStops, MemberIs, StopIs}
+use Rattle.smp_replay_laws.proofs.States.{cpu_else, cpu_here}
+use Rattle.smp_replay_laws.proofs.StopStates.{IsAlike, LeavesCalls, cpu_alike, follows_step, stop_else, stop_here, stops_set}
+
+-- These events lead to a state that stands as the stops do, and leave the calls as they were.
+pub record ReachesStops (q : StopState) (at' : Word → ℕ) (pasts' : List Past) (s : StateValue) (es : List (ℕ × Event)) : Type 0 where
+  pub t : StateValue
+  pub runs : RunsTo s es t
+  pub follows : FollowsStops q at' pasts' t
+  pub leaves : LeavesCalls s t
+
+pub leaves_calls : (s : StateValue) → LeavesCalls s s
+leaves_calls s = record { setting = refl; places = refl; cpus_are = refl; calls = λ cpu. refl }
+
+-- words that a step leaves as they are
+pub word_kept : (at : Word → ℕ) (w u : Word) (put : Option ℕ) → same_word u w ≡ false → put_if put_word at w put u ≡ at u
+word_kept at w u None e = refl
+word_kept at w u (Some n) e = rw e refl
+
+-- a member of a stop, where what is told of it is as before
+pub member_as : (x : Standing) (e f : ToldStop) (cpu : ℕ) → is_called f cpu ≡ is_called e cpu → acked_by f cpu ≡ acked_by e cpu
+    → answer_of f cpu ≡ answer_of e cpu
+    → has_run f cpu ≡ has_run e cpu → MemberIs x e cpu → MemberIs x f cpu
+member_as x e f cpu called acked answer ran m = record {
+  called = called ∙ m.called;
+  acked_is = acked ∙ m.acked_is;
+  answer = answer ∙ m.answer;
+  fresh = λ is. ran ∙ m.fresh is;
+}
+
+-- What a step of one CPU on one stop changes.
+pub record OneStop (p q : StopState) (me source : ℕ) (x : Stop) (e f : ToldStop) : Type 0 where
+  pub stop_is : (j : ℕ) → q.now.stop j ≡ put p.now.stop source x j
+  pub inside : (cpu : ℕ) → cpu ≢ me → q.now.inside cpu ≡ p.now.inside cpu
+  pub irq : (cpu : ℕ) → cpu ≢ me → q.now.irq cpu ≡ p.now.irq cpu
+  pub calling : (cpu : ℕ) → cpu ≢ me → q.calling cpu ≡ p.calling cpu
+  pub standing : (cpu : ℕ) → cpu ≢ me → x.standing cpu ≡ (p.now.stop source).standing cpu
+  pub ran : (cpu : ℕ) → cpu ≢ me → has_run f cpu ≡ has_run e cpu
+  pub gate : q.gate ≡ p.gate
+
+module _ (p q : StopState) (at at' : Word → ℕ) (pasts : List Past) (s : StateValue) (me : ℕ) (past : Past) (below : me < cpus) (sized : length pasts ≡ 32)
+    (cpus_are : length s.cpus ≡ 32) (f : FollowsStops p at pasts s)
+    (keys : (key : ℕ) → at' (Key key) ≡ at (Key key)) (sites : (site : ℕ) → at' (Site site) ≡ at (Site site)) where
+  -- no stop and no CPU is told to be another
+  pub quiet_step : q.gate ≡ p.gate → ((j : ℕ) → q.now.stop j ≡ p.now.stop j) → ((cpu : ℕ) → cpu ≢ me → q.now.inside cpu ≡ p.now.inside cpu)
+      → ((cpu : ℕ) → cpu ≢ me → q.now.irq cpu ≡ p.now.irq cpu) → ((cpu : ℕ) → cpu ≢ me → q.calling cpu ≡ p.calling cpu) → CpuIs q s past me
+      → ReachesStops q at' (slice_set pasts me past) s []
+  quiet_step gate stops inside irq calling mine = record {
+    t = s;
+    runs = refl;
+    follows = follows_step p q at at' pasts s s me past f (record {
+      below = below;
+      pasts_are = sized;
+      stops_are = f.stops_are;
+      gate = f.gate ∙ sym gate;
+      stops = λ j l. subst (λ (x : Stop). StopIs x (stop_at s j)) (sym (stops j)) (f.stops j l);
+      mine = mine;
+      others = λ cpu ne. record {
+        inside = inside cpu ne;
+        irq = irq cpu ne;
+        calling = calling cpu ne;
+        standing = λ j inside. ap (λ (x : Stop). x.standing cpu) (stops j);
+        inside_told = refl;
+        irq_told = refl;
+        ran = λ j inside l. refl;
+      };
+      words = refl;
+      keys = keys;
+      sites = sites;
+    });
+    leaves = leaves_calls s;
+  }
+
+  -- the gate is taken, or given up
+  pub gate_step : (gate : Option ℕ) (e : Event) → q ≡ record p { gate = gate } → goes me e s ≡ Ok (record s { gate = gate }) → CpuIs p s past me
+      → ReachesStops q at' (slice_set pasts me past) s ((me, e) ∷ [])
+  gate_step gate e is made mine =
+      let t = record s { gate = gate } in
+      rw is (record {
+        t = t;
+        runs = (t, (made, refl));
+        follows = follows_step p (record p { gate = gate }) at at' pasts s t me past f (record {
+          below = below;
+          pasts_are = sized;
+          stops_are = f.stops_are;
+          gate = refl;
+          stops = f.stops;
+          mine = cpu_alike p (record p { gate = gate }) s t me past (alike t) mine;
+          others = λ cpu ne. record {
+            inside = refl;
+            irq = refl;
+            calling = refl;
+            standing = λ j inside. refl;
+            inside_told = refl;
+            irq_told = refl;
+            ran =
+                λ j inside l. refl;
+          };
+          words = refl;
+          keys = keys;
+          sites = sites;
+        });
+        leaves = record { setting = refl; places = refl; cpus_are = refl; calls = λ cpu. refl };
+      })
+    where
+      alike : (t : StateValue) → IsAlike p (record p { gate = gate }) s (record s { gate = gate }) me
+      alike t = record {
+        inside = refl;
+        irq = refl;
+        calling = refl;
+        standing = λ j inside. refl;
+        inside_told = refl;
+        irq_told = refl;
+        ran =
+            λ j inside l. refl;
+      }
+
+  -- the stop of a source goes on, and what is told of it is the same
+  module _ (source : ℕ) (x : Stop) (k : OneStop p q me source x (stop_at s source) (stop_at s source)) (here : source < cpus
+      → StopIs x (stop_at s source)) where
+    standing_still : (cpu : ℕ) → cpu ≢ me → (j : ℕ) → (q.now.stop j).standing cpu ≡ (p.now.stop j).standing cpu
+    standing_still cpu ne j = ap (λ (z : Stop). z.standing cpu) (k.stop_is j)
+        ∙ put_all (λ i (z : Stop). z.standing cpu ≡ (p.now.stop i).standing cpu) p.now.stop source x (k.standing cpu ne) (λ i other. refl) j
+
+    stops_still : (j : ℕ) → j < cpus → StopIs (q.now.stop j) (stop_at s j)
+    stops_still j l = subst (λ (z : Stop). StopIs z (stop_at s j)) (sym (k.stop_is j))
+        (put_all (λ i (z : Stop). i < cpus → StopIs z (stop_at s i)) p.now.stop source x here (λ i other m. f.stops i m) j l)
+
+    pub same_step : CpuIs q s past me → ReachesStops q at' (slice_set pasts me past) s []
+    same_step mine = record {
+      t = s;
+      runs = refl;
+      follows = follows_step p q at at' pasts s s me past f (record {
+        below = below;
+        pasts_are = sized;
+        stops_are = f.stops_are;
+        gate = f.gate ∙ sym k.gate;
+        stops = stops_still;
+        mine = mine;
+        others = λ cpu ne. record {
+          inside = k.inside cpu ne;
+          irq = k.irq cpu ne;
+          calling = k.calling cpu ne;
+          standing = λ j inside. standing_still cpu ne j;
+          inside_told = refl;
+          irq_told = refl;
+          ran = λ j inside l. refl;
+        };
+        words = refl;
+        keys = keys;
+        sites = sites;
+      });
+      leaves = leaves_calls s;
+    }
+
+    -- but for the CPU's interrupts
+    pub cpu_step : (c : CpuState) (es : List (ℕ × Event)) → RunsTo s es (with_cpu me s c) → calls_in c ≡ calls_in (cpu_at s me)
+        → CpuIs q (with_cpu me s c) past me
+        → ReachesStops q at' (slice_set pasts me past) s es
+    cpu_step c es runs calls mine = record {
+      t = with_cpu me s c;
+      runs = runs;
+      follows = follows_step p q at at' pasts s (with_cpu me s c) me past f (record {
+        below = below;
+        pasts_are = sized;
+        stops_are = f.stops_are;
+        gate = f.gate ∙ sym k.gate;
+        stops = stops_still;
+        mine = mine;
+        others = λ cpu ne. record {
+          inside = k.inside cpu ne;
+          irq = k.irq cpu ne;
+          calling = k.calling cpu ne;
+          standing = λ j inside. standing_still cpu ne j;
+          inside_told = ap (λ (z : CpuState). z.inside) (cpu_else s me c cpu ne);
+          irq_told = ap (λ (z : CpuState). z.irq) (cpu_else s me c cpu ne);
+          ran = λ j inside l. refl;
+        };
+        words = refl;
+        keys = keys;
+        sites = sites;
+      });
+      leaves = record {
+        setting = refl;
+        places = refl;
+        cpus_are = length-set s.cpus me c;
+        calls = λ cpu. elim (cases_eq cpu me) [
+          | inl e ↦ rw e (ap calls_in (cpu_here s me c cpus_are below) ∙ calls)
+          | inr ne ↦ ap calls_in (cpu_else s me c cpu ne)
+        ];
+      };
+    }
+
+  -- the stop of a source goes on, and the CPU's part
+  module _ (source : ℕ) (x : Stop) (y : ToldStop) (c : CpuState) (m : source < cpus) (k : OneStop p q me source x (stop_at s source) y)
+      (here : StopIs x y) where
+    standing_else : (cpu : ℕ) → cpu ≢ me → (j : ℕ) → (q.now.stop j).standing cpu ≡ (p.now.stop j).standing cpu
+    standing_else cpu ne j = ap (λ (z : Stop). z.standing cpu) (k.stop_is j)
+        ∙ put_all (λ i (z : Stop). z.standing cpu ≡ (p.now.stop i).standing cpu) p.now.stop source x (k.standing cpu ne) (λ i other. refl) j
+
+    ran_else : (cpu : ℕ) → cpu ≢ me → (j : ℕ) → has_run (stop_at (with_stop source s y) j) cpu ≡ has_run (stop_at s j) cpu
+    ran_else cpu ne j = elim (cases_eq j source) [
+      | inl e ↦ rw (e, stop_here s source y f.stops_are m) (k.ran cpu ne)
+      | inr other ↦ ap (λ (z : ToldStop). has_run z cpu) (stop_else s source y j other)
+    ]
+
+    abbrev pub after_set : StateValue
+    after_set = with_cpu me (with_stop source s y) c
+
+    -- the CPU is told as it was, but for its interrupts and the stop that it is in
+    pub set_step : (es : List (ℕ × Event)) → RunsTo s es (with_cpu me (with_stop source s y) c) → calls_in c ≡ calls_in (cpu_at s me)
+        → CpuIs q (with_cpu me (with_stop source s y) c) past me → ReachesStops q at' (slice_set pasts me past) s es
+    set_step es runs calls mine = record {
+      t = after_set;
+      runs = runs;
+      follows = follows_step p q at at' pasts s after_set me past f (record {
+        below = below;
+        pasts_are = sized;
+        stops_are = length-set s.stops source y ∙ f.stops_are;
+        gate = f.gate ∙ sym k.gate;
+        stops = stops_set p q s source x y f.stops_are m f.stops k.stop_is here;
+        mine = mine;
+        others = λ cpu ne. record {
+          inside = k.inside cpu ne;
+          irq = k.irq cpu ne;
+          calling = k.calling cpu ne;
+          standing = λ j inside. standing_else cpu ne j;
+          inside_told = ap (λ (z : CpuState). z.inside) (cpu_else (with_stop source s y) me c cpu ne);
+          irq_told = ap (λ (z : CpuState). z.irq) (cpu_else (with_stop source s y) me c cpu ne);
+          ran = λ j inside l. ran_else cpu ne j;
+        };
+        words = refl;
+        keys = keys;
+        sites = sites;
+      });
+      leaves = record {
+        setting = refl;
+        places = refl;
+        cpus_are = length-set s.cpus me c;
+        calls = λ cpu. elim (cases_eq cpu me) [
+          | inl e ↦ rw e (ap calls_in (cpu_here (with_stop source s y) me c cpus_are below) ∙ calls)
+          | inr ne ↦ ap calls_in (cpu_else (with_stop source s y) me c cpu ne)
+        ];
+      };
+    }
+
+    -- no CPU is told to be another
+    pub stop_step : (es : List (ℕ × Event)) → RunsTo s es (with_stop source s y) → CpuIs q (with_stop source s y) past me
+        → ReachesStops q at' (slice_set pasts me past) s es
+    stop_step es runs mine = record {
+      t = with_stop source s y;
+      runs = runs;
+      follows = follows_step p q at at' pasts s (with_stop source s y) me past f (record {
+        below = below;
+        pasts_are = sized;
+        stops_are = length-set s.stops source y ∙ f.stops_are;
+        gate = f.gate ∙ sym k.gate;
+        stops = stops_set p q s source x y f.stops_are m f.stops k.stop_is here;
+        mine = mine;
+        others = λ cpu ne. record {
+          inside = k.inside cpu ne;
+          irq = k.irq cpu ne;
+          calling = k.calling cpu ne;
+          standing = λ j inside. standing_else cpu ne j;
+          inside_told = refl;
+          irq_told = refl;
+          ran = λ j inside l. ran_else cpu ne j;
+        };
+        words = refl;
+        keys = keys;
+        sites = sites;
+      });
+      leaves = record { setting = refl; places = refl; cpus_are = refl; calls = λ cpu. refl };
+    }

@@ -1,0 +1,19 @@
+//! What the pure machine does is accepted by the model of events. These functions do nothing.
+
+ghost use Rattle.smp_replay_laws.specs.Accepted.{CallsOfReplaysAreAccepted, ReplaysAreAccepted};
+
+/// Each replay of a machine in which nothing was begun is accepted, where no stop is a patch: the model of events has a run of the
+/// events that its steps tell, in any order of steps, whatever commands are refused on the way. So `smp judge` refuses nothing that
+/// the machine does.
+///
+/// The state to which the run leads is that of the machine. It has the same queues, batches, calls that run, interrupts and places of
+/// records, the same gate, open stops, phases and answers, and the same keys and sites. So no step of the machine is left untold.
+pub fn replays_are_accepted()
+    ensures { ReplaysAreAccepted }
+{}
+
+/// The events of calls of each replay are accepted, those of patches included, where the events of stops, keys and sites are left
+/// out: no queue, send, interrupt, take, begin, end or unlock that the machine makes is refused.
+pub fn calls_of_replays_are_accepted()
+    ensures { CallsOfReplaysAreAccepted }
+{}
