@@ -1,13 +1,10 @@
 -- A source begins and opens its stop, and collects the result; a CPU reads a key or a site.
-use Rattle.std.proofs.Common.{◌≡◌, ◌≢◌, ℕ, zero, suc, ℤ, ◌<◌, ◌%◌, ◌^◌, nat_lt, Bool, true, false, not, ◌&&◌, cond, List, [], ◌∷◌, length, length-set}
+use Rattle.std.proofs.Common.{◌≡◌, ◌≢◌, ℕ, zero, suc, ℤ, ◌<◌, ◌^◌, nat_lt, Bool, true, false, not, ◌&&◌, cond, List, [], ◌∷◌, length, length-set}
 use Rattle.std.proofs.Common.{Option, Some, None, Ok, refl, ap, sym, ◌∙◌, subst, inl, inr, is_none, arith}
 use Rattle.std.proofs.lemmas.Bool.{eq-eqb, ne_eqb, true≢false, false≢true, and_left, and_right, lt-ltb}
 use Rattle.std.proofs.lemmas.List.{get_or-replicate, length-append, length-replicate}
-use Rattle.std.proofs.lemmas.Int.{of_z-to_z}
-use Rattle.std.proofs.lemmas.Bool.Decides.{Decides-int_eq}
 use Rattle.std.specs.Ordering.{int_eq}
 use Rattle.smp_stop_steps.proofs.State.Raises.{in_machine}
-use Rattle.std.specs.Int.{cast_unsigned, w32}
 use Rattle.std.specs.Prelude.{slice_set, ◌==◌, pos}
 use Rattle.smp_mask.specs.Mask.{has, members_below}
 use Rattle.smp_words.specs.Put.{put}

@@ -1,4 +1,4 @@
-use Rattle.std.proofs.Common.{IfOk, ◌≡◌, Result, Ok, Err, List, subst}
+use Rattle.std.proofs.Common.{IfOk, Result, Ok, Err, subst}
 use Rattle.std.specs.List.{AllByRecursion}
 use Rattle.smp_labels.specs.declared.words.LabelWords.{LabelWords}
 use Rattle.smp_stop_steps.specs.State.{no_stops}
@@ -23,9 +23,9 @@ returns g c =
     record {
       accepted = ok_then c.replay.result (λ r. IsReplay c.in_ok-core.core c.args.events.now r.core r.seen.items r.stopped)
           (λ r. (u : Setting) (words : LabelWords) → AllByRecursion FitsPlain c.args.events.now → IsOf u c.args.online →
-              AreWordsOf words (new_core c.args.nr c.args.online c.args.labels.now).stops → IsAccepted u words r.seen.items r.core)
+          AreWordsOf words (new_core c.args.nr c.args.online c.args.labels.now).stops → IsAccepted u words r.seen.items r.core)
           (λ r run u words fits is_of words_are. replays_are_accepted c.args.nr c.args.online c.args.labels.now c.args.events.now r.core r.seen.items r.stopped u words
-              (subst IsWhole made c.is_whole.ensures) (subst (λ (k : CoreValue). StopShown no_stops k.stops) made c.in_ok-core.ensures.no_stops) fits
-              (subst (λ (k : CoreValue). IsReplay k c.args.events.now r.core r.seen.items r.stopped) made run) is_of words_are)
+          (subst IsWhole made c.is_whole.ensures) (subst (λ (k : CoreValue). StopShown no_stops k.stops) made c.in_ok-core.ensures.no_stops) fits
+          (subst (λ (k : CoreValue). IsReplay k c.args.events.now r.core r.seen.items r.stopped) made run) is_of words_are)
           c.replay.ensures.run;
     }
