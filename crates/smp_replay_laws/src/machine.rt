@@ -4,6 +4,7 @@ ghost use Rattle.std.specs.Prelude.{IfOk};
 ghost use Rattle.std.specs.List.{AllByRecursion};
 ghost use Rattle.smp_labels.specs.declared.words.LabelWords.{LabelWords};
 ghost use Rattle.smp_core.specs.New.{new_core};
+ghost use Rattle.smp_core.specs.Runs.{IsReplay};
 ghost use Rattle.smp_event_steps.specs.declared.without.Setting.{Setting};
 ghost use Rattle.smp_replay_laws.specs.Accepted.{AreWordsOf, FitsPlain, IsAccepted, IsOf};
 
@@ -24,6 +25,7 @@ pub fn replay_accepted<A: Allocator + Copy>(
     labels: &LabelMap,
     events: &[Event],
 ) -> Result<Replayed<A>, SmpError>
+    ensures run { IfOk result (λ r. IsReplay (new_core nr online labels.now) events.now r.core r.seen.items r.stopped) }
     ensures accepted { IfOk result (λ r. (u : Setting) (words : LabelWords) → AllByRecursion FitsPlain events.now → IsOf u online →
         AreWordsOf words (new_core nr online labels.now).stops → IsAccepted u words r.seen.items r.core) }
 {

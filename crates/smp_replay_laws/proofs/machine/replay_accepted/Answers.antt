@@ -21,6 +21,9 @@ pub returns : goal.returns
 returns g c =
     let made = c.in_ok-core.ensures.ok in
     record {
+      run = ok_then c.replay.result (λ r. IsReplay c.in_ok-core.core c.args.events.now r.core r.seen.items r.stopped)
+          (λ r. IsReplay (new_core c.args.nr c.args.online c.args.labels.now) c.args.events.now r.core r.seen.items r.stopped)
+          (λ r run. subst (λ (k : CoreValue). IsReplay k c.args.events.now r.core r.seen.items r.stopped) made run) c.replay.ensures.run;
       accepted = ok_then c.replay.result (λ r. IsReplay c.in_ok-core.core c.args.events.now r.core r.seen.items r.stopped)
           (λ r. (u : Setting) (words : LabelWords) → AllByRecursion FitsPlain c.args.events.now → IsOf u c.args.online →
           AreWordsOf words (new_core c.args.nr c.args.online c.args.labels.now).stops → IsAccepted u words r.seen.items r.core)
