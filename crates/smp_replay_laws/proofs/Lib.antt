@@ -28,3 +28,4 @@ pub mod AllReplays
 pub mod PastKept
 pub mod StopBegins
 pub mod StopAcked
+pub mod StopResults

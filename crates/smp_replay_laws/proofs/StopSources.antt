@@ -1,13 +1,10 @@
 -- A source begins and opens its stop, and collects the result; a CPU reads a key or a site.
-use Rattle.std.proofs.Common.{◌≡◌, ◌≢◌, ℕ, zero, suc, ℤ, ◌<◌, ◌%◌, ◌^◌, nat_lt, Bool, true, false, not, ◌&&◌, cond, List, [], ◌∷◌, length, length-set}
+use Rattle.std.proofs.Common.{◌≡◌, ◌≢◌, ℕ, zero, suc, ℤ, ◌<◌, ◌^◌, nat_lt, Bool, true, false, not, ◌&&◌, cond, List, [], ◌∷◌, length, length-set}
 use Rattle.std.proofs.Common.{Option, Some, None, Ok, refl, ap, sym, ◌∙◌, subst, inl, inr, is_none, arith}
 use Rattle.std.proofs.lemmas.Bool.{eq-eqb, ne_eqb, true≢false, false≢true, and_left, and_right, lt-ltb}
 use Rattle.std.proofs.lemmas.List.{get_or-replicate, length-append, length-replicate}
-use Rattle.std.proofs.lemmas.Int.{of_z-to_z}
-use Rattle.std.proofs.lemmas.Bool.Decides.{Decides-int_eq}
 use Rattle.std.specs.Ordering.{int_eq}
 use Rattle.smp_stop_steps.proofs.State.Raises.{in_machine}
-use Rattle.std.specs.Int.{cast_unsigned, w32}
 use Rattle.std.specs.Prelude.{slice_set, ◌==◌, pos}
 use Rattle.smp_mask.specs.Mask.{has, members_below}
 use Rattle.smp_words.specs.Put.{put}
@@ -53,6 +50,7 @@ use Rattle.smp_replay_laws.proofs.StopEvents.{collects_result, opens_stop}
 use Rattle.smp_replay_laws.proofs.StopKinds.{Goes}
 use Rattle.smp_replay_laws.proofs.StopStates.{IsAlike, cpu_alike, follows_step, stop_else, stops_set}
 use Rattle.smp_replay_laws.proofs.StopSteps.{ReachesStops}
+use Rattle.smp_replay_laws.proofs.StopResults.{as_i32-zero, differs, same_int}
 
 -- a CPU of a stop that opens
 member_new : (task : Task) (c : ℕ) (b : Bool) → c < cpus → has task.mask c ≡ b → MemberIs (cond b Called Outside) (opening task) c
@@ -109,26 +107,6 @@ onlines u mask online = first_none (λ c. has mask c && not (has u.online c)) 0 
     by_mask : (c : ℕ) (b : Bool) → has mask c ≡ b → (has mask c && not (has u.online c)) ≡ false
     by_mask c false e = and_left (has mask c) _ e
     by_mask c true e = and_right (has mask c) _ (ap not (online c e))
-
--- answers are compared
-same_int : (x : ℤ) → int_eq x x ≡ true
-same_int x = (Decides-int_eq x x).1 refl
-
-differs : (x y : ℤ) → x ≢ y → int_eq x y ≡ false
-differs x y ne = by_test (int_eq x y) refl
-  where
-    by_test : (b : Bool) → int_eq x y ≡ b → b ≡ false
-    by_test false e = refl
-    by_test true e = absurd (ne ((Decides-int_eq x y).0 e))
-
--- an answer that is not 0 is told as one that is not
-as_i32-zero : (n : ℕ) → n < 2 ^ 32 → as_i32 n ≡ pos 0 → n ≡ 0
-as_i32-zero n l e =
-    let small : n % 2 ^ 32 ≡ n = omega arith in
-    let back = of_z-to_z w32 (n % 2 ^ 32) (omega arith) in
-    let zero_word : cast_unsigned w32 (pos 0) ≡ 0 = refl in
-    let same : n % 2 ^ 32 ≡ cast_unsigned w32 (pos 0) = sym back ∙ ap (cast_unsigned w32) e in
-    omega (arith, small, same, zero_word)
 
 module _ (u : Setup) (p : StopState) (at at' : Word → ℕ) (seat : ℕ → Seat) (source : ℕ → Source) (h : StopShows u p at seat source) (me : ℕ)
     (below : me < cpus)
