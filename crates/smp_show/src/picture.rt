@@ -262,7 +262,7 @@ fn write_rows<A: Allocator + Copy>(
         };
         write_row(alloc, out, &frame, scene, events.as_slice())?;
         write_folded(alloc, out, &frame, others(cpus, among.as_slice()))?;
-        base = u32::try_from(frame.foot() + BETWEEN).unwrap_or(u32::MAX);
+        base = u32::try_from(frame.foot().saturating_add(BETWEEN)).unwrap_or(u32::MAX);
         first = end + 1;
     }
     Ok(u64::from(base))
