@@ -29,3 +29,6 @@ pub mod PastKept
 pub mod StopBegins
 pub mod StopAcked
 pub mod StopResults
+pub mod PatchFronts
+pub mod PatchSteps
+pub mod PatchWorks

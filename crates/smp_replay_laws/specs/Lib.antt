@@ -1,3 +1,4 @@
 pub mod Accepted
 pub mod Follows
 pub mod Stops
+pub mod Patches

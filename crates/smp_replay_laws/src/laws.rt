@@ -1,6 +1,7 @@
 //! What the pure machine does is accepted by the model of events. These functions do nothing.
 
 ghost use Rattle.smp_replay_laws.specs.Accepted.{CallsOfReplaysAreAccepted, ReplaysAreAccepted};
+ghost use Rattle.smp_replay_laws.specs.Patches.{PatchesStoreThePlan};
 
 /// Each replay of a machine in which nothing was begun is accepted, where no stop is a patch: the model of events has a run of the
 /// events that its steps tell, in any order of steps, whatever commands are refused on the way. So `smp judge` refuses nothing that
@@ -16,4 +17,10 @@ pub fn replays_are_accepted()
 /// out: no queue, send, interrupt, take, begin, end or unlock that the machine makes is refused.
 pub fn calls_of_replays_are_accepted()
     ensures { CallsOfReplaysAreAccepted }
+{}
+
+/// The stores that the model takes of a patch are those that the machine plans, in their order: for each key, each count that the
+/// patch finds, and each that it leaves.
+pub fn patches_store_the_plan()
+    ensures { PatchesStoreThePlan }
 {}
