@@ -1,5 +1,6 @@
 -- The calls of one CPU, and what events tell of them.
-use Rattle.std.specs.Prelude.{◌≡◌, ℕ, ◌+◌, ◌%◌, ◌^◌, ◌<◌, Bool, true, false, ◌==◌, List, [], ◌∷◌, ◌++◌, map, length, count_by, slice_index_or, Option, Some, None, IsPermutation}
+use Rattle.std.specs.Prelude.{◌≡◌, ℕ, ◌+◌, ◌%◌, ◌^◌, ◌<◌, Bool, true, false, ◌==◌, List, [], ◌∷◌, ◌++◌, map, length, count_by, slice_index_or, Option}
+use Rattle.std.specs.Prelude.{Some, None, IsPermutation}
 use Rattle.smp_event_steps.specs.declared.call.Call.{Call}
 use Rattle.smp_event_steps.specs.declared.call.Current.{Current}
 use Rattle.smp_event_steps.specs.declared.call.Progress.{Progress}

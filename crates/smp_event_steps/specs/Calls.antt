@@ -10,7 +10,8 @@ use Rattle.smp_event_steps.specs.declared.halt.Halt.{Halt}
 use Rattle.smp_event_steps.specs.declared.halt.Halt.TheVariants as halt
 use Rattle.smp_event_steps.specs.declared.reason.Reason.{Reason}
 use Rattle.smp_event_steps.specs.declared.reason.Reason.TheVariants as reason
-use Rattle.smp_event_steps.specs.Cpu.{CpuState, accepted, as_idle, begun, begun_loose, ended, interrupted, is_empty, may_take, noted, pushed, runs_locked, sent, taken, unlocked}
+use Rattle.smp_event_steps.specs.Cpu.{CpuState, accepted, as_idle, begun, begun_loose, ended, interrupted, is_empty, may_take, noted, pushed}
+use Rattle.smp_event_steps.specs.Cpu.{runs_locked, sent, taken, unlocked}
 use Rattle.smp_event_steps.specs.Places.{is_batch}
 use Rattle.smp_event_steps.specs.State.{StateValue, cpu_at, freed, place_at, place_reason, with_cpu, with_place}
 

@@ -1,5 +1,6 @@
 -- One CPU of the model.
-use Rattle.std.specs.Prelude.{◌≡◌, ℕ, ◌+◌, ◌%◌, ◌^◌, Bool, true, false, not, ◌&&◌, ◌==◌, nat_lt, if◌then◌else◌, List, [], ◌∷◌, ◌++◌, filter, position, remove, replicate}
+use Rattle.std.specs.Prelude.{◌≡◌, ℕ, ◌+◌, ◌%◌, ◌^◌, Bool, true, false, not, ◌&&◌, ◌==◌, nat_lt, if◌then◌else◌, List, [], ◌∷◌, ◌++◌, filter, position}
+use Rattle.std.specs.Prelude.{remove, replicate}
 use Rattle.std.specs.Prelude.{slice_get, slice_index_or, slice_set, Option, Some, None, Result, Ok, Err}
 use Rattle.smp_script.specs.Faults.{◌>>=◌}
 use Rattle.smp_words.specs.declared.call.Class.{Class}

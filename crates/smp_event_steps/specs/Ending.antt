@@ -1,5 +1,6 @@
 -- What is told of the state at the end of a trace.
-use Rattle.std.specs.Prelude.{ℕ, zero, suc, ◌^◌, Bool, true, false, not, ◌&&◌, ◌||◌, ◌==◌, nat_lt, if◌then◌else◌, List, length, count_by, slice_index_or, Option, is_none, is_err}
+use Rattle.std.specs.Prelude.{ℕ, zero, suc, ◌^◌, Bool, true, false, not, ◌&&◌, ◌||◌, ◌==◌, nat_lt, if◌then◌else◌, List, length, count_by}
+use Rattle.std.specs.Prelude.{slice_index_or, Option, is_none, is_err}
 use Rattle.std.specs.Int.Bits.{bit_or}
 use Rattle.smp_mask.specs.Mask.{has}
 use Rattle.smp_event_steps.specs.declared.call.Place.{Place}

@@ -1,5 +1,6 @@
 -- One stop of the model.
-use Rattle.std.specs.Prelude.{◌≡◌, ℕ, zero, suc, ◌+◌, ◌-◌, ◌^◌, ℤ, pos, Bool, true, false, not, ◌&&◌, ◌||◌, ◌==◌, nat_le, nat_lt, min, if◌then◌else◌, List, [], ◌∷◌, length, replicate}
+use Rattle.std.specs.Prelude.{◌≡◌, ℕ, zero, suc, ◌+◌, ◌-◌, ◌^◌, ℤ, pos, Bool, true, false, not, ◌&&◌, ◌||◌, ◌==◌, nat_le, nat_lt, min, if◌then◌else◌}
+use Rattle.std.specs.Prelude.{List, [], ◌∷◌, length, replicate}
 use Rattle.std.specs.Prelude.{slice_index_or, slice_set, Option, Some, None, is_none, is_some, unwrap_or, Result, Ok, Err}
 use Rattle.std.specs.Ordering.{int_eq}
 use Rattle.smp_script.specs.Faults.{◌>>=◌}

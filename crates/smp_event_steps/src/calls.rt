@@ -6,7 +6,7 @@ ghost use Rattle.smp_event_steps.specs.Cpu.{Makes};
 ghost use Rattle.smp_event_steps.specs.State.{cpu_at, with_place};
 
 use crate::call::{Call, Place};
-use crate::cpu::Entry;
+use crate::cpu::handling::Entry;
 use crate::halt::Halt;
 use crate::reason::Reason;
 use crate::state::{State, place_reason};

@@ -2,11 +2,12 @@
 
 ghost use Rattle.std.specs.Prelude.{◌≡◌, ◌<◌, is_some, OnOk};
 ghost use Rattle.smp_event_steps.specs.Calls.{accept_by, idle_by, on_cpu, entered_by};
-ghost use Rattle.smp_event_steps.specs.Cpu.{begun, begun_loose, ended, interrupted, is_empty, may_take, noted, pushed, runs_locked, sent, taken, unlocked, Makes};
+ghost use Rattle.smp_event_steps.specs.Cpu.{begun, begun_loose, ended, interrupted, is_empty, may_take, noted, pushed};
+ghost use Rattle.smp_event_steps.specs.Cpu.{runs_locked, sent, taken, unlocked, Makes};
 ghost use Rattle.smp_event_steps.specs.State.{cpu_at, with_cpu};
 
 use crate::call::{Call, Place};
-use crate::cpu::Entry;
+use crate::cpu::handling::Entry;
 use crate::reason::Reason;
 use crate::state::{State, place_reason};
 use std::alloc::{AllocError, Allocator};

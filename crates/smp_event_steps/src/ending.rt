@@ -2,7 +2,9 @@
 
 ghost use Rattle.std.specs.Prelude.{◌≡◌, ◌<◌, ◌^◌};
 ghost use Rattle.std.specs.Int.Bits.{bit_or};
-ghost use Rattle.smp_event_steps.specs.Ending.{busy_of, has_calls, heads_of, is_busy, is_locked, is_waited_for, joined_if, locked_of, owed_by, owes, queue_length, queued_by, ran_of, waiting, waits};
+ghost use Rattle.smp_event_steps.specs.Ending.{busy_of, has_calls, heads_of, is_busy, is_locked, is_waited_for};
+ghost use Rattle.smp_event_steps.specs.Ending.{joined_if, locked_of, owed_by, owes, queue_length, queued_by, ran_of};
+ghost use Rattle.smp_event_steps.specs.Ending.{waiting, waits};
 ghost use Rattle.smp_event_steps.specs.State.{cpu_at};
 
 use crate::call::Place;

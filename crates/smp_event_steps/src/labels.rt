@@ -2,7 +2,9 @@
 
 ghost use Rattle.std.specs.Prelude.{◌≡◌};
 ghost use Rattle.smp_event_steps.specs.Cpu.{Makes};
-ghost use Rattle.smp_event_steps.specs.Labels.{count_at, entry_of, front_of, is_site, key_number, nudged, patch_for, patch_now, popped, read_key, read_site, site_at, site_from, stored, to_be};
+ghost use Rattle.smp_event_steps.specs.Labels.{count_at, entry_of, front_of, is_site, key_number, nudged, patch_for};
+ghost use Rattle.smp_event_steps.specs.Labels.{patch_now, popped, read_key, read_site, site_at, site_from, stored};
+ghost use Rattle.smp_event_steps.specs.Labels.{to_be};
 
 use crate::reason::Reason;
 use crate::stop::{Patch, Stop};

@@ -4,7 +4,8 @@
 //! - `event`: What a line of a trace tells; `without`: what a trace leaves out.
 //! - `state`, `open`: The state of the model, and how it begins.
 //! - `step`: One event; `calls`, `stops`: events of calls and of stops.
-//! - `cpu`, `cpus`: One CPU, and each CPU of the state; `stop`, `sources`: one stop, and each stop of the state.
+//! - `cpu`, `cpu::handling`: One CPU, and how it handles an interrupt; `cpus`: each CPU of the state.
+//! - `stop`, `sources`: One stop, and each stop of the state.
 //! - `labels`: Keys, sites, and what a patch is to store.
 //! - `ending`: What is told of the state at the end.
 //! - `reason`, `halt`: Why an event is none.

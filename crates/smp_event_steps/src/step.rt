@@ -6,7 +6,7 @@ ghost use Rattle.smp_event_steps.specs.Cpu.{Makes};
 ghost use Rattle.smp_event_steps.specs.Step.{call_goes, goes, key_by, label_goes, nudge_by, nudged_word, reads_by, site_by, stop_goes};
 
 use crate::call::Call;
-use crate::cpu::Entry;
+use crate::cpu::handling::Entry;
 use crate::event::{CallEvent, Event, LabelEvent, StopEvent};
 use crate::halt::Halt;
 use crate::labels::{nudge, read_key, read_site};

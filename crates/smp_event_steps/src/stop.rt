@@ -3,7 +3,10 @@
 ghost use Rattle.std.specs.Prelude.{◌≡◌};
 ghost use Rattle.smp_mask.specs.Mask.{has};
 ghost use Rattle.smp_event_steps.specs.Cpu.{Makes};
-ghost use Rattle.smp_event_steps.specs.Stop.{acknowledged, answer_of, answer_wanted, at_phase, closed, collected, completed, entered, first_of, giver, gives, has_run, is_answer, is_cpu, is_only, is_work, late, offline_in, opened, raised, ran_function, through, unfinished};
+ghost use Rattle.smp_event_steps.specs.Stop.{acknowledged, answer_of, answer_wanted, at_phase, closed, collected};
+ghost use Rattle.smp_event_steps.specs.Stop.{completed, entered, first_of, giver, gives, has_run, is_answer, is_cpu};
+ghost use Rattle.smp_event_steps.specs.Stop.{is_only, is_work, late, offline_in, opened, raised, ran_function, through};
+ghost use Rattle.smp_event_steps.specs.Stop.{unfinished};
 
 use crate::reason::Reason;
 use crate::table::{at, put};

@@ -2,7 +2,11 @@
 
 ghost use Rattle.std.specs.Prelude.{◌≡◌, ◌<◌, IfOk};
 ghost use Rattle.smp_event_steps.specs.Cpu.{Makes};
-ghost use Rattle.smp_event_steps.specs.Stops.{ack_by, acks_at_run, acks_disabled, collect_by, complete_by, enter_by, gate_by, holds_gate, in_patch, in_round, is_store, made_store, may_ack, may_off, next_store, off_by, on_by, open_by, patch_by, patch_left, patch_over, raise_by, run_by, switched, switched_on, ungate_by, with_word};
+ghost use Rattle.smp_event_steps.specs.Stops.{ack_by, acks_at_run, acks_disabled, collect_by, complete_by, enter_by};
+ghost use Rattle.smp_event_steps.specs.Stops.{gate_by, holds_gate, in_patch, in_round, is_store, made_store, may_ack};
+ghost use Rattle.smp_event_steps.specs.Stops.{may_off, next_store, off_by, on_by, open_by, patch_by, patch_left};
+ghost use Rattle.smp_event_steps.specs.Stops.{patch_over, raise_by, run_by, switched, switched_on, ungate_by};
+ghost use Rattle.smp_event_steps.specs.Stops.{with_word};
 
 use crate::labels::{front_of, patch_now, popped, store, to_be};
 use crate::reason::Reason;

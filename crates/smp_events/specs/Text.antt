@@ -65,7 +65,8 @@ call_text (calls.End id) = codes "end " ++ decimal id
 -- `open KIND MASK ACTIVE FUNC ARG`
 abbrev pub open_text : Task → List ℕ
 open_text t =
-    codes "open " ++ kind_text t.kind ++ codes " " ++ mask_text t.mask ++ codes " " ++ mask_text t.active ++ codes " " ++ decimal t.func ++ codes " " ++ decimal t.arg
+    codes "open " ++ kind_text t.kind ++ codes " " ++ mask_text t.mask ++ codes " " ++ mask_text t.active ++
+    codes " " ++ decimal t.func ++ codes " " ++ decimal t.arg
 
 -- an event of stops
 abbrev pub stop_text : StopEvent → List ℕ

@@ -1,7 +1,9 @@
 //! What a CPU has done before that its next step's events need.
 
 ghost use Rattle.std.specs.Prelude.{◌≡◌, slice_index_or, slice_set};
-ghost use Rattle.smp_events.specs.Past.{after, after_call_entry, after_draft, after_flags, after_other, after_slot, after_slot_load, after_slot_sub, after_store, fresh, id_of, is_new, past_at, phase_of};
+ghost use Rattle.smp_events.specs.Past.{after, after_call_entry, after_draft, after_flags, after_other, after_slot};
+ghost use Rattle.smp_events.specs.Past.{after_slot_load, after_slot_sub, after_store, fresh, id_of, is_new, past_at};
+ghost use Rattle.smp_events.specs.Past.{phase_of};
 
 use smp_words::call::Class;
 use smp_words::work::Kind;

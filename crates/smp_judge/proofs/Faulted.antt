@@ -23,7 +23,8 @@ pub sees_ok : {X : Type 0} (n : ℕ) (r : Result X Cause) (x : X) → placed n r
 unfolding told_at
 sees_ok n r x e = sym (told_same n r) ∙ ap told_at e
 
-pub sees_err : {X : Type 0} (n : ℕ) (r : Result X Cause) (error : SmpError) → Fails error (placed n r) → Sees (λ (x : X). x) (Err (halted_of error)) (at_line n r)
+pub sees_err : {X : Type 0} (n : ℕ) (r : Result X Cause) (error : SmpError) → Fails error (placed n r) →
+    Sees (λ (x : X). x) (Err (halted_of error)) (at_line n r)
 unfolding told_at
 sees_err n r (errors.BadScript m cause) e = sym (told_same n r) ∙ ap told_at e
 sees_err n r errors.NoMemory e = tt

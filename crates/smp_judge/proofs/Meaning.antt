@@ -1,5 +1,6 @@
 -- The verdict is the meaning of a trace.
-use Rattle.std.proofs.Common.{◌≡◌, ℕ, ◌+◌, Bool, true, false, if◌then◌else◌, Result, List, [], ◌∷◌, ◌++◌, length, Option, Some, None, Ok, Err, refl, ap, ◌∙◌, sym, subst, arith, inl, inr, ◌⊎◌}
+use Rattle.std.proofs.Common.{◌≡◌, ℕ, ◌+◌, Bool, true, false, if◌then◌else◌, Result, List, [], ◌∷◌, ◌++◌, length, Option, Some, None, Ok, Err, refl}
+use Rattle.std.proofs.Common.{ap, ◌∙◌, sym, subst, arith, inl, inr, ◌⊎◌}
 use Rattle.smp_mask.specs.declared.error.Cause.{Cause}
 use Rattle.smp_mask.specs.declared.error.Cause.TheVariants.{TooLong, Cut}
 use Rattle.smp_script.specs.Faults.{◌>>=◌}

@@ -129,7 +129,8 @@ texts_below text (suc n) = texts_below text n ++ text n
 abbrev pub tally_text : StateValue → ℕ → ℕ → List ℕ
 tally_text s source to =
     if queued_by s source to == 0 then codes ""
-    else codes "tally " ++ decimal source ++ codes " " ++ decimal to ++ codes " " ++ decimal (queued_by s source to) ++ codes " " ++ decimal (ran_of s source to) ++ 10 ∷ []
+    else codes "tally " ++ decimal source ++ codes " " ++ decimal to ++ codes " " ++ decimal (queued_by s source to) ++
+    codes " " ++ decimal (ran_of s source to) ++ 10 ∷ []
 
 unfoldable pub tallies_of : StateValue → ℕ → List ℕ
 tallies_of s source = texts_below (tally_text s source) 32
@@ -149,7 +150,8 @@ why_text false false false owed = owed_text owed
 abbrev pub queue_text : StateValue → ℕ → List ℕ
 queue_text s cpu =
     if queue_length s cpu == 0 then codes ""
-    else codes "queue " ++ decimal cpu ++ codes " " ++ decimal (queue_length s cpu) ++ why_text s.setting.without.interrupts (cpu_at s cpu).accepted (cpu_at s cpu).pending (owed_by s cpu) ++ 10 ∷ []
+    else codes "queue " ++ decimal cpu ++ codes " " ++ decimal (queue_length s cpu) ++
+    why_text s.setting.without.interrupts (cpu_at s cpu).accepted (cpu_at s cpu).pending (owed_by s cpu) ++ 10 ∷ []
 
 -- a mask as a CPU list, `-` where it is empty
 abbrev pub mask_text : ℕ → List ℕ
@@ -159,7 +161,8 @@ mask_text mask = if mask == 0 then codes "-" else list_text mask
 abbrev pub open_text : ℕ → Stop → List ℕ
 open_text source stop =
     if stop.is_open then
-    codes "stop " ++ decimal source ++ codes " " ++ kind_name stop.task.kind ++ codes " " ++ decimal stop.phase ++ codes " " ++ mask_text (waiting stop) ++ 10 ∷ []
+    codes "stop " ++ decimal source ++ codes " " ++ kind_name stop.task.kind ++ codes " " ++ decimal stop.phase ++
+    codes " " ++ mask_text (waiting stop) ++ 10 ∷ []
     else codes ""
 
 abbrev pub stop_text : StateValue → ℕ → List ℕ

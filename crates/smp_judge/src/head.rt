@@ -4,7 +4,9 @@ ghost use Rattle.std.specs.Prelude.{◌≡◌, ◌+◌, ◌≤◌, map, length, 
 ghost use Rattle.smp_script.specs.Commands.{are_whole};
 ghost use Rattle.smp_script.specs.Labels.{whole_labels};
 ghost use Rattle.smp_script.specs.Lines.{AreShort, lines_of};
-ghost use Rattle.smp_judge.specs.Head.{all_told, groups_of, halted_of, head_of, is_labels, is_left_out, is_next, is_title, labels_at, needed, online_at, past, some_groups, titled, whole_groups, without_at, words_of, Sees};
+ghost use Rattle.smp_judge.specs.Head.{all_told, groups_of, halted_of, head_of, is_labels, is_left_out, is_next};
+ghost use Rattle.smp_judge.specs.Head.{is_title, labels_at, needed, online_at, past, some_groups, titled, whole_groups};
+ghost use Rattle.smp_judge.specs.Head.{without_at, words_of, Sees};
 ghost use Rattle.smp_judge.specs.Judged.{at_line, Reads};
 ghost use Rattle.smp_judge.specs.SpotOf.{head_value, spot_of};
 

@@ -12,5 +12,6 @@ ghost use Rattle.smp_judge.specs.Verdict.{verdict_of};
 /// line at fault, and what comes before it is a run.
 pub fn verdicts_are_meant()
     ensures meant { (text : List ℕ) → IsMeant text (verdict_of text) }
-    ensures accepted { (text : List ℕ) (h : HeadValue) (count : ℕ) (t : StateValue) → head_of (lines_of text) ≡ Ok h → IsRunOf h count t → verdict_of text ≡ Ok (count, t) }
+    ensures accepted { (text : List ℕ) (h : HeadValue) (count : ℕ) (t : StateValue) → head_of (lines_of text) ≡ Ok h →
+        IsRunOf h count t → verdict_of text ≡ Ok (count, t) }
 {}

@@ -1,7 +1,9 @@
 //! What is printed of a trace.
 
 ghost use Rattle.std.specs.Prelude.{◌≡◌, ◌<◌, ◌++◌, OnOk, string_bytes};
-ghost use Rattle.smp_judge.specs.Text.{broken_text, call_name, event_name, label_name, lawful_text, left_text, mask_text, open_text, owed_text, queue_text, reason_text, stop_name, stop_text, tallies_of, tally_text, texts_below, why_text};
+ghost use Rattle.smp_judge.specs.Text.{broken_text, call_name, event_name, label_name, lawful_text, left_text};
+ghost use Rattle.smp_judge.specs.Text.{mask_text, open_text, owed_text, queue_text, reason_text, stop_name, stop_text};
+ghost use Rattle.smp_judge.specs.Text.{tallies_of, tally_text, texts_below, why_text};
 
 use crate::words::{kind_name, words_of, write_words};
 use smp_event_steps::{CallEvent, Event, LabelEvent, Reason, State, Stop, StopEvent};

@@ -71,7 +71,8 @@ pub fn judge_trace<A: Allocator + Copy, R: Read, W: Write>(
     requires reads { failed_of reader.old ≡ false }
     requires writes { failed_of writer.old ≡ false }
     ensures order { failed_of reader.new ≡ true → result ≡ Err (SmpError.StreamFailed ReadSide) }
-    ensures judged { Judged (R.remaining (inner_of reader.old)) (R.remaining (inner_of reader.new)) (W.contents (inner_of writer.old)) (W.contents (inner_of writer.new)) result }
+    ensures judged { Judged (R.remaining (inner_of reader.old)) (R.remaining (inner_of reader.new))
+        (W.contents (inner_of writer.old)) (W.contents (inner_of writer.new)) result }
     ensures flushed { OnOk result (flushed_of writer.new ≡ true) }
 {
     let text = read_trace(alloc, reader)?;

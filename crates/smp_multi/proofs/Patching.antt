@@ -129,7 +129,8 @@ module _ (t : TableId) (d : SeatValue) (v : Visit) (a : AtRun t d v Patch) where
       ∙ (ap (λ (x : Kind). cond (is_patch x) next (key_read_known k found d.known)) is_patch_work
       ∙ sym (ap (λ (y : Seat). begins_with found y d.known) is_at_run))
 
-  pub at_patch : (e : SeatValue) (found : ℕ) → e.table ≡ t → e.known ≡ stepped 1 (begins_with found d.known.seat d.known) → work.func < MOST_KEYS → AtPatch t e v
+  pub at_patch : (e : SeatValue) (found : ℕ) → e.table ≡ t → e.known ≡ stepped 1 (begins_with found d.known.seat d.known) → work.func < MOST_KEYS →
+      AtPatch t e v
   at_patch e found table same low =
       let plan = plan_at (setup_in d.known.setting) work found in
       let next = Alters v.slot work found [] plan in
@@ -378,7 +379,8 @@ able_acknowledge_patch t d v a none =
 
 -- where the CPU is once it has acknowledged RUN
 pub patch_acked : (t : TableId) (d e : SeatValue) (v x : Visit) (found answer n : ℕ) → AtPatch t d v → e.table ≡ t
-    → e.known ≡ stepped n (acked_by found d.known.seat (carrying answer d.known)) → (x.slot ≡ v.slot) × (x.kind ≡ v.kind) × (x.mask ≡ v.mask) × (x.active ≡ v.active) × (x.acked ≡ v.acked + 1)
+    → e.known ≡ stepped n (acked_by found d.known.seat (carrying answer d.known)) →
+        (x.slot ≡ v.slot) × (x.kind ≡ v.kind) × (x.mask ≡ v.mask) × (x.active ≡ v.active) × (x.acked ≡ v.acked + 1)
     → AtTurn t e x x.acked (cond (found == 1) Fills Rests)
 patch_acked t d e v x found answer n a table same moved =
     let w = work_in d.known.seat in

@@ -3,7 +3,8 @@ use Rattle.std.proofs.Common.{◌≡◌, ◌≢◌, ℕ, ℤ, pos, ◌+◌, ◌<
 use Rattle.std.proofs.Common.{length, map, slice_index_or, slice_set, append_assoc, refl, sym, ap, subst, ◌∙◌, arith}
 use Rattle.std.specs.List.{AllByRecursion, flat_map}
 use Rattle.std.proofs.lemmas.Bool.{cases_eq}
-use Rattle.std.proofs.lemmas.List.{append-nil, map-append, flat_map_more, get_or-set_same, get_or-set_other, get_or_default, get_or_push, get_or_append_left, length_push}
+use Rattle.std.proofs.lemmas.List.{append-nil, map-append, flat_map_more, get_or-set_same, get_or-set_other, get_or_default, get_or_push}
+use Rattle.std.proofs.lemmas.List.{get_or_append_left, length_push}
 use Rattle.smp_mask.specs.declared.error.SmpError.{SmpError}
 use Rattle.smp_mask.specs.declared.error.SmpError.TheVariants as error
 use Rattle.smp_queue.specs.declared.handler.Heard.{Heard}

@@ -1,5 +1,6 @@
 -- What a CPU has read of the labels, one reading after the other, and why it is lawful.
-use Rattle.std.proofs.Common.{◌≡◌, ℕ, zero, suc, ◌+◌, ◌<◌, ◌≤◌, Bool, true, Option, Some, List, [], ◌∷◌, ◌++◌, length, slice_index_or, map, refl, sym, ap, subst, ◌∙◌}
+use Rattle.std.proofs.Common.{◌≡◌, ℕ, zero, suc, ◌+◌, ◌<◌, ◌≤◌, Bool, true, Option, Some, List, [], ◌∷◌, ◌++◌, length, slice_index_or, map, refl, sym}
+use Rattle.std.proofs.Common.{ap, subst, ◌∙◌}
 use Rattle.std.proofs.Common.{Ok, append_assoc, append-nil, arith, length-append}
 use Rattle.std.proofs.lemmas.List.{get_or-map, length-map}
 use Rattle.std.proofs.lemmas.List.Elements.{All-get_or}
@@ -203,7 +204,8 @@ kinds_read labels keys sites c front known same keys_sized sites_sized readings 
 }
 
 -- the keys, and then the sites
-pub both_read : (m : MachineValue) (old mid new : MachineCpuValue) (xs ys : List Reading) → HasRead m old mid xs → HasRead m mid new ys → HasRead m old new (xs ++ ys)
+pub both_read : (m : MachineValue) (old mid new : MachineCpuValue) (xs ys : List Reading) → HasRead m old mid xs → HasRead m mid new ys →
+    HasRead m old new (xs ++ ys)
 both_read m old mid new xs ys f l = record {
   seated = l.seated;
   calls_are = l.calls_are ∙ f.calls_are;

@@ -1,6 +1,7 @@
 -- What calls of the families send.
 use Rattle.std.proofs.Common.{◌≡◌, ◌≢◌, ℕ, zero, suc, ◌+◌, ◌<◌, ◌⊎◌, inl, inr, not, ◌&&◌, ◌||◌, ◌==◌, Bool, true, false, None, Some, Option, Result, Ok, Err}
-use Rattle.std.proofs.Common.{IfOk, IfErr, if◌then◌else◌, filter, take, length, slice_index_or, List, [], ◌∷◌, ◌++◌, append_assoc, refl, sym, ap, ◌∙◌, subst, arith}
+use Rattle.std.proofs.Common.{IfOk, IfErr, if◌then◌else◌, filter, take, length, slice_index_or, List, [], ◌∷◌, ◌++◌, append_assoc, refl, sym, ap, ◌∙◌}
+use Rattle.std.proofs.Common.{subst, arith}
 use Rattle.std.proofs.lemmas.Bool.{cases_eq, cases_Bool, eq-eqb, ne_eqb, and_parts, false_from_ne_true}
 use Rattle.std.specs.List.{flat_map}
 use Rattle.std.proofs.lemmas.List.{append-nil, map-append, take_more, flat_map_more}
@@ -24,7 +25,8 @@ use Rattle.smp_machine.specs.Calls.{RefusedInHand}
 use Rattle.smp_machine.specs.MachineCpu.{MachineValue, MachineCpuValue}
 use Rattle.smp_script.specs.declared.directive.Directive.{Directive}
 use Rattle.smp_script.specs.declared.request.Request.{Request}
-use Rattle.smp_run.specs.Sent.{Sent, HasSent, sent_of, calls_to, cpus_with, passing_below, first_only, queue_of_one, queue_of_any, line_calls, repeated, request_calls, script_calls}
+use Rattle.smp_run.specs.Sent.{Sent, HasSent, sent_of, calls_to, cpus_with, passing_below, first_only, queue_of_one, queue_of_any, line_calls}
+use Rattle.smp_run.specs.Sent.{repeated, request_calls, script_calls}
 use Rattle.smp_run.proofs.Picking.{picked}
 
 -- the calls that were queued, without their marks

@@ -6,7 +6,8 @@ ghost use Rattle.smp_mask.specs.Mask.{members};
 ghost use Rattle.smp_words.specs.Size.{cpus};
 ghost use Rattle.smp_queue.specs.Audit.{tally_at, AreEqual, IfDrained};
 ghost use Rattle.smp_script.specs.Spelling.{mask_text, switch_text};
-ghost use Rattle.smp_run.specs.Text.{answer_text, audit_text, ending_text, key_text, kind_text, line_text, numbered, pair_text, site_text, tallies_text, tally_text};
+ghost use Rattle.smp_run.specs.Text.{answer_text, audit_text, ending_text, key_text, kind_text, line_text, numbered};
+ghost use Rattle.smp_run.specs.Text.{pair_text, site_text, tallies_text, tally_text};
 
 use crate::answer::Answer;
 use crate::reading::LabelReadings;

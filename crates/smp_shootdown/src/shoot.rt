@@ -29,7 +29,8 @@ pub fn shoot_down<'a, R: Wait>(
     seat: &mut Seat<'_, Global, R, Tlb<'a>, NoStop>,
     space: &AddressSpace,
 ) -> Result<CpuMask, SmpError>
-    ensures called { IfOk result (λ called. (c : ℕ) → has called c ≡ is_target space.now.users seat.old.machine.calls.online seat.old.cpu.calls.number false c) }
+    ensures called { IfOk result (λ called. (c : ℕ) →
+        has called c ≡ is_target space.now.users seat.old.machine.calls.online seat.old.cpu.calls.number false c) }
     ensures once { IfOk result (λ called. CallsOnce seat.old.cpu.calls seat.new.cpu.calls
         (many_call seat.old.cpu.calls.number Class.Sync FLUSH space.now.id) (members called)) }
     ensures ended { IfOk result (λ called. HaveEnded seat.new.cpu.calls

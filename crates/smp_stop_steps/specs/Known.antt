@@ -1,5 +1,6 @@
 -- What a CPU knows of the stops: where it is with them, as far as its steps have told, and its own part of their state.
-use Rattle.std.specs.Prelude.{◌≡◌, ◌≢◌, ◌⊎◌, ℕ, ◌+◌, ◌<◌, nat_lt, Bool, false, ◌==◌, cond, Option, Some, None, List, [], ◌∷◌, ◌++◌, length, replicate, slice_index_or}
+use Rattle.std.specs.Prelude.{◌≡◌, ◌≢◌, ◌⊎◌, ℕ, ◌+◌, ◌<◌, nat_lt, Bool, false, ◌==◌, cond, Option, Some, None, List, [], ◌∷◌, ◌++◌, length, replicate}
+use Rattle.std.specs.Prelude.{slice_index_or}
 use Rattle.smp_stop_steps.specs.Callings.{with_answer}
 use Rattle.smp_stop_steps.specs.Names.{MOST_KEYS, cpus, put, One, Seen, Work, Word, Slot}
 use Rattle.smp_stop_steps.specs.Seats.{Seat, Free}

@@ -10,7 +10,7 @@
 //! - `stage`: Where a CPU stands inside a command of the stop half.
 //! - `accesses`: What a CPU does to which word, at each stage of the stop half.
 //! - `control`: Where a CPU stands in the stop half: which step it makes next, and what it knows of the stop that
-//!   it is in.
+//!   it is in; `control::turn`: its turn in a stop.
 //! - `start`: When a command of the stop half may start, and where it begins.
 //! - `table`: The words of a stop table, and what an access does to them.
 //! - `machine`: The stop half of a pure machine: its words, and where each CPU stands, one atomic step at a time.

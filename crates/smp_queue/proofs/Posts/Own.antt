@@ -9,7 +9,8 @@ use Rattle.smp_call_steps.specs.Start.{command_refusal}
 use Rattle.smp_call_steps.specs.Heads.{Found}
 use Rattle.smp_call_steps.specs.Known.{posting_of, standing, stepped, confirmed_known}
 use Rattle.smp_words.proofs.Sizes.{owner-of_record, record_of-below}
-use Rattle.smp_queue.specs.{Class, Known, Posting, cells, SeatValue, OwnsRecord, IsMine, uncounted, GivesUp, CpuValue, IsKept, MayQueue, cpu_of, confirms, looks}
+use Rattle.smp_queue.specs.{Class, Known, Posting, cells, SeatValue, OwnsRecord, IsMine, uncounted, GivesUp, CpuValue, IsKept, MayQueue, cpu_of}
+use Rattle.smp_queue.specs.{confirms, looks}
 use Rattle.smp_queue.specs.{loses, posts}
 use Rattle.smp_queue.specs.Appends.{Appends}
 use Rattle.smp_queue.specs.post

@@ -7,7 +7,8 @@ use Rattle.smp_call_steps.specs.Stands.{PostGoes}
 use Rattle.smp_call_steps.specs.Known.{IsLockable, told_post, known_access, posting_of}
 use Rattle.smp_words.proofs.Links.{IsInTable}
 use Rattle.smp_mask.specs.Mask.{has}
-use Rattle.smp_queue.specs.{Flags, Setting, Reaches, Access, Load, Known, Posting, PostStage, Done, Post, SeatValue, Ready, OwnsRecord, IsMine, counted, HasCell}
+use Rattle.smp_queue.specs.{Flags, Setting, Reaches, Access, Load, Known, Posting, PostStage, Done, Post, SeatValue, Ready, OwnsRecord, IsMine}
+use Rattle.smp_queue.specs.{counted, HasCell}
 use Rattle.smp_queue.proofs.TheRule.Cells.{has_cell}
 use Rattle.smp_queue.specs.post
 

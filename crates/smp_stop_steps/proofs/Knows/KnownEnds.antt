@@ -3,7 +3,8 @@ use Rattle.std.proofs.Common.{◌≡◌, ◌≢◌, ℕ, ◌-◌, ◌<◌, false
 use Rattle.smp_words.specs.Access.{one_less}
 use Rattle.smp_words.proofs.Puts.{put_same, put_other}
 use Rattle.smp_stop_steps.specs.{put, put_word, cpus, IsCalling, answer_in, with_answer, Seat, Free, In, Gives, Closes, Rests, StopShows, Source, Setup}
-use Rattle.smp_stop_steps.specs.{StopState, Calling, Idle, Standing, told, stored_open, stored_shut, completes, completes_with, told_calling, Sees, GoesOnBy, Act}
+use Rattle.smp_stop_steps.specs.{StopState, Calling, Idle, Standing, told, stored_open, stored_shut, completes, completes_with, told_calling, Sees}
+use Rattle.smp_stop_steps.specs.{GoesOnBy, Act}
 use Rattle.smp_stop_steps.specs.{columns_of, AreFirst, setup_in, is_drafting, drafted_known, slot_stored, member_stored, given_by, completed_by}
 use Rattle.smp_stop_steps.specs.{completed_with, Work, Word, Slot}
 use Rattle.smp_stop_steps.proofs.Steps.Callings.{answer_replaced, calling_given}

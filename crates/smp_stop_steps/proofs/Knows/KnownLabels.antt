@@ -1,5 +1,6 @@
 -- The steps on labels of a CPU that knows v: readings, nudges, and patches.
-use Rattle.std.proofs.Common.{arith, ◌≡◌, ℕ, ◌<◌, eqb-true, Bool, true, false, ◌==◌, ◌&&◌, cond, Option, Some, None, List, [], ◌∷◌, ◌++◌, sym, subst, refl, ap, ◌∙◌}
+use Rattle.std.proofs.Common.{arith, ◌≡◌, ℕ, ◌<◌, eqb-true, Bool, true, false, ◌==◌, ◌&&◌, cond, Option, Some, None, List, [], ◌∷◌, ◌++◌, sym, subst}
+use Rattle.std.proofs.Common.{refl, ap, ◌∙◌}
 use Rattle.smp_labels.proofs.Patched.{plan_key_first}
 use Rattle.smp_words.specs.Access.{put_if}
 use Rattle.smp_words.proofs.Puts.{at_test, put_same, put_other}

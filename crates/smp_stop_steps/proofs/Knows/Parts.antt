@@ -3,7 +3,8 @@ use Rattle.std.proofs.Common.{◌≡◌, ◌≢◌, ℕ, ◌+◌, ◌<◌, Bool,
 use Rattle.std.proofs.lemmas.List.{length-set, length-replicate, get_or-set_same, get_or-set_other}
 use Rattle.smp_words.proofs.Puts.{at_test, put_same, put_other}
 use Rattle.smp_words.proofs.Zeros.{get_or-same}
-use Rattle.smp_stop_steps.specs.{put, cpus, Word, Part, Setting, fresh, columns_of, AreFirst, AreTold, Columns, IsPart, Sees, GoesOnBy, IsBegun, Act, Seen, Setup, told, told_source, setup_in, Seat}
+use Rattle.smp_stop_steps.specs.{put, cpus, Word, Part, Setting, fresh, columns_of, AreFirst, AreTold, Columns, IsPart, Sees, GoesOnBy, IsBegun, Act}
+use Rattle.smp_stop_steps.specs.{Seen, Setup, told, told_source, setup_in, Seat}
 use Rattle.smp_stop_steps.specs.{Free, StopShows, Source, Shut, StopState, no_stops}
 use Rattle.smp_stop_steps.specs.Known.{Attempt, Known, OwnMove, stepped}
 

@@ -1,6 +1,8 @@
 -- Each step that a CPU may make by what it knows keeps what the steps of the commands keep.
-use Rattle.std.proofs.Common.{◌≡◌, ℕ, ◌+◌, ◌∷◌, [], Bool, true, false, ◌==◌, cond, Some, None, List, inl, inr, sym, subst, refl, ap, ◌∙◌, arith, bit_and, eqb-true}
-use Rattle.smp_stop_steps.specs.{word_of, at_after, seen_of, Access, Field, Work, Word, Gate, Slot, Key, Site, HasCompleted, MayStore, MayStoreIf, MaySee, IsAtRun}
+use Rattle.std.proofs.Common.{◌≡◌, ℕ, ◌+◌, ◌∷◌, [], Bool, true, false, ◌==◌, cond, Some, None, List, inl, inr, sym, subst, refl, ap, ◌∙◌, arith}
+use Rattle.std.proofs.Common.{bit_and, eqb-true}
+use Rattle.smp_stop_steps.specs.{word_of, at_after, seen_of, Access, Field, Work, Word, Gate, Slot, Key, Site, HasCompleted, MayStore, MayStoreIf}
+use Rattle.smp_stop_steps.specs.{MaySee, IsAtRun}
 use Rattle.smp_stop_steps.specs.{unfinished, Seat, In, Alters, Closes, Duty, Rests, Sets, Stands, StopShows, DoneShows, Source, Shut, Drafts, Owns}
 use Rattle.smp_stop_steps.specs.{Collects, SourceShows, OwnerShows, DraftShows, IsNextOfPatch, label_stored, store_of, KeysStand, Change, Whole, Patches}
 use Rattle.smp_stop_steps.specs.{Place, Setup, StopState, Standing, Inside, Ended, acked, is_of, irq_of, Sees, setup_in, told_source, told_work, order}

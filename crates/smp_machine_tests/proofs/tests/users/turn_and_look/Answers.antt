@@ -28,8 +28,8 @@ answer_read law setting mid new k i on (Ok kind) same read a = λ e at key.
 answer_read law setting mid new k i on (Err x) same read a = tt
 
 -- the machine's labels are still the CPU's
-setting_kept : {H F : Type 0} (hears : H → Heard → H → Type 0) (runs : F → Called → F → Type 0) (t : TableValue) (k : ℕ) (on : Bool) (p : MachineCpuValue) (h : H)
-    (f : F)
+setting_kept : {H F : Type 0} (hears : H → Heard → H → Type 0) (runs : F → Called → F → Type 0)
+    (t : TableValue) (k : ℕ) (on : Bool) (p : MachineCpuValue) (h : H) (f : F)
     (new : MachineCpuValue) (h' : H) (f' : F) (turned : Bool) → Sets hears runs t k on p h f new h' f' turned → new.stops.setting ≡ p.stops.setting
 setting_kept hears runs t k on p h f new h' f' false s = s.works.setting_is
 setting_kept hears runs t k on p h f new h' f' true s = s.stopped.works.setting_is
