@@ -5,7 +5,7 @@ use Rattle.smp_script.specs.Faults.{◌>>=◌}
 use Rattle.smp_event_steps.specs.declared.call.Call.{Call}
 use Rattle.smp_event_steps.specs.declared.call.Place.{Place}
 use Rattle.smp_event_steps.specs.declared.call.Place.TheVariants.{Free, Queue, Batch, Run}
-use Rattle.smp_event_steps.specs.declared.cpu.Entry.{Entry}
+use Rattle.smp_event_steps.specs.declared.cpu.handling.Entry.{Entry}
 use Rattle.smp_event_steps.specs.declared.halt.Halt.{Halt}
 use Rattle.smp_event_steps.specs.declared.halt.Halt.TheVariants as halt
 use Rattle.smp_event_steps.specs.declared.reason.Reason.{Reason}

@@ -9,7 +9,7 @@ use Rattle.smp_event_steps.specs.declared.call.Call.{Call}
 use Rattle.smp_event_steps.specs.declared.call.Current.{Current}
 use Rattle.smp_event_steps.specs.declared.call.Progress.{Progress}
 use Rattle.smp_event_steps.specs.declared.call.Progress.TheVariants.{Unlocked, Runs, Ended}
-use Rattle.smp_event_steps.specs.declared.cpu.Entry.{Entry}
+use Rattle.smp_event_steps.specs.declared.cpu.handling.Entry.{Entry}
 use Rattle.smp_event_steps.specs.declared.reason.Reason.{Reason}
 use Rattle.smp_event_steps.specs.declared.reason.Reason.TheVariants as reason
 

@@ -380,7 +380,7 @@ able_acknowledge_patch t d v a none =
 -- where the CPU is once it has acknowledged RUN
 pub patch_acked : (t : TableId) (d e : SeatValue) (v x : Visit) (found answer n : ℕ) → AtPatch t d v → e.table ≡ t
     → e.known ≡ stepped n (acked_by found d.known.seat (carrying answer d.known)) →
-        (x.slot ≡ v.slot) × (x.kind ≡ v.kind) × (x.mask ≡ v.mask) × (x.active ≡ v.active) × (x.acked ≡ v.acked + 1)
+    (x.slot ≡ v.slot) × (x.kind ≡ v.kind) × (x.mask ≡ v.mask) × (x.active ≡ v.active) × (x.acked ≡ v.acked + 1)
     → AtTurn t e x x.acked (cond (found == 1) Fills Rests)
 patch_acked t d e v x found answer n a table same moved =
     let w = work_in d.known.seat in
