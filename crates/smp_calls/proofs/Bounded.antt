@@ -1,7 +1,7 @@
 -- A call to many that waits no longer than some polls, out of its parts.
 use Rattle.std.proofs.Common.{arith, ◌≡◌, ℕ, zero, suc, ◌<◌, ◌≤◌, ◌&&◌, ◌||◌, not, Bool, true, false, cond, None, List, [], ◌∷◌, ◌++◌, length}
 use Rattle.std.proofs.Common.{get_or, length-append, refl, sym, ap, ◌∙◌, subst, inl, inr}
-use Rattle.std.proofs.lemmas.Bool.{cases_eq, cases_Bool, ne_eqb}
+use Rattle.std.proofs.lemmas.Bool.{cases_eq, cases_Bool}
 use Rattle.std.specs.List.{AllByRecursion}
 use Rattle.smp_mask.specs.Mask.{has, members, members_below}
 use Rattle.smp_mask.specs.declared.mask.TheConstants.{NR_CPUS}
@@ -17,11 +17,12 @@ use Rattle.smp_queue.specs.Cpu.{CpuValue, confirmed_at}
 use Rattle.smp_queue.specs.Laws.{IsShown}
 use Rattle.smp_queue.specs.declared.handler.Heard.{Heard}
 use Rattle.smp_calls.specs.Ended.{HaveEnded}
-use Rattle.smp_calls.specs.Families.{Leaves, Calls, CallsMany, IsLast, owes_at}
+use Rattle.smp_calls.specs.Families.{Leaves, Calls, CallsMany, IsLast, AreConfirmed, HandlesNone, owes_at}
 use Rattle.smp_calls.specs.Handles.{looks}
 use Rattle.smp_calls.specs.Queued.{Queued, destinations, sendings, is_by, is_first_to, is_used}
 use Rattle.smp_calls.specs.Records.{many_call, many_record}
 use Rattle.smp_calls.specs.Within.{IsNoneOf, WaitsWithin, CallsWithin}
+use Rattle.smp_calls.proofs.AtOnce.{last_none}
 use Rattle.smp_calls.proofs.Ended.{all_sent}
 use Rattle.smp_calls.proofs.Lawful.{small_many, are_apart}
 use Rattle.smp_calls.proofs.Lists.{none_left}
@@ -31,10 +32,6 @@ use Rattle.smp_calls.proofs.Round.{is_by-append}
 use Rattle.smp_calls.proofs.Steps.{leaves_as, leaves_then, leaves_last}
 
 -- no member has this record
-last_none : (of : ℕ → ℕ) (id k : ℕ) (b : Bool) → (b ≡ true → id ≡ of k → ⊥) → is_by of id (cond b (k ∷ []) []) ≡ false
-last_none of id k true none = ap (λ b. b || false) (ne_eqb id (of k) (none refl))
-last_none of id k false none = refl
-
 none_by : (of : ℕ → ℕ) (id m n : ℕ) → ((c : ℕ) → has m c ≡ true → id ≡ of c → ⊥) → is_by of id (members_below m n) ≡ false
 unfolding members_below
 none_by of id m zero none = refl
@@ -68,10 +65,6 @@ cond_false false x e = e
 or_one : (a b : Bool) → (a || b) ≡ true → (b ≡ true → ⊥) → a ≡ true
 or_one true b e n = refl
 or_one false b e n = absurd (n e)
-
-or_yes : (a b : Bool) → b ≡ true → (a || b) ≡ true
-or_yes true b e = refl
-or_yes false b e = e
 
 and_not : (a b : Bool) → (a && not b) ≡ true → b ≡ false
 and_not true true e = cc
@@ -120,10 +113,11 @@ module _ {H : Type 0} (leads : H → Heard → H → Type 0) where
       ((c : ℕ) → has others c ≡ targets c) → ((c : ℕ) → has others c ≡ true → c < NR_CPUS) →
       WaitsWithin leads old before first h others free busy polls →
       CallsMany leads first h mid m (members free) Sync func info None false → IsLast first mid (members free) →
+      (AreConfirmed first (has free) → HandlesNone first mid × (m ≡ h)) →
       WaitsWithin leads mid m new after free rest late polls →
       ((c : ℕ) → has silent c ≡ (has busy c || has late c)) → IsShown new →
       CallsWithin leads old before new after func info targets free silent polls
-  calls_within old first mid new before h m after func info others free busy rest late silent polls targets are low a q last b either shown =
+  calls_within old first mid new before h m after func info others free busy rest late silent polls targets are low a q last quick_calls b either shown =
       let queued = q.0 in
       let made = by_number old.number func info queued a.leaves.number_is q.2 in
       let call = many_call old.number Sync func info in
@@ -148,6 +142,9 @@ module _ {H : Type 0} (leads : H → Heard → H → Type 0) where
       let still = b.leaves.still refl in
       let turns = b.turns in
       let most = b.most in
+      let first_most = a.most in
+      let confirmed : AreConfirmed first (has free) = λ c f. a.confirmed_are c (free_other c f) ∙ ap not (free_idle c f) in
+      let same : length mid.part.asked ≡ length first.part.asked = ap (λ (bs : List Bool). length bs) (quick_calls confirmed).0.asked_is in
       record {
         queued = queued;
         to = q.1;
@@ -184,6 +181,23 @@ module _ {H : Type 0} (leads : H → Heard → H → Type 0) where
             let d1 = (done c f).1 in
             let s1 = still.1 in
             let p = b.polled c (sym (either c ∙ ap (λ x. x || has late c) (free_idle c f)) ∙ s) in
+            omega arith;
+        most = omega arith;
+        sent_within = λ c f.
+            let d1 = (done c f).1 in
+            let s1 = still.1 in
+            omega arith;
+        sent_at_once = λ c f all.
+            let d1 = (done c f).1 in
+            let s1 = still.1 in
+            let none = a.at_once (λ x o. all x (sym (are x) ∙ o)) in
+            omega arith;
+        none_called = λ out.
+            let none = b.at_once (λ x f. absurd (differ (has free x) f (out x))) in
+            omega arith;
+        no_target = λ out.
+            let none = a.at_once (λ x o. absurd (differ (targets x) (sym (are x) ∙ o) (out x))) in
+            let none_later = b.at_once (λ x f. absurd (differ (targets x) (sym (are x) ∙ free_other x f) (out x))) in
             omega arith;
         waited = λ c out s. elim (cases_Bool (has busy c)) [
           | inl y ↦

@@ -14,6 +14,8 @@ pub mod Round
 pub mod Loops
 -- the loops that send, and that wait
 pub mod Passes
+-- where all records are seen confirmed, nothing is handled before the interrupts
+pub mod AtOnce
 -- a call to many, out of its parts
 pub mod Parts
 pub mod Ended

@@ -7,7 +7,7 @@ use Rattle.smp_mask.specs.declared.mask.TheConstants.{NR_CPUS}
 use Rattle.smp_words.specs.Size.{records_of_one}
 use Rattle.smp_queue.specs.Cpu.{CpuValue, confirmed_at, confirms, looks}
 use Rattle.smp_queue.specs.declared.handler.Heard.{Heard}
-use Rattle.smp_calls.specs.Families.{IsSized, Leaves, owes_at}
+use Rattle.smp_calls.specs.Families.{IsSized, Leaves, AreConfirmed, owes_at}
 use Rattle.smp_calls.specs.Records.{many_record}
 use Rattle.smp_calls.specs.Within.{IsNoneOf, WaitsWithin}
 use Rattle.smp_calls.proofs.Steps.{leaves_none, leaves_as, leaves_then, leaves_looked, leaves_ended}
@@ -17,11 +17,14 @@ use Rattle.smp_calls.proofs.Lists.{next_gone, none_left}
 use Rattle.smp_calls.proofs.Loops.{both_true, kept_among, kept_else, kept_here}
 use Rattle.smp_calls.proofs.Parts.{none_true}
 
--- a CPU has looked at a record and polled so often, once after each look
-pub record Polling {H : Type 0} (leads : H → Heard → H → Type 0) (old : CpuValue) (before : H) (now : CpuValue) (here : H) (made : ℕ) : Type 0 where
+-- a CPU has looked at its record k and has made this number of polls, one after each look; where the record was seen confirmed
+-- before, it has made none
+pub record Polling {H : Type 0} (leads : H → Heard → H → Type 0) (k : ℕ) (old : CpuValue) (before : H) (now : CpuValue) (here : H) (made : ℕ)
+    : Type 0 where
   pub leaves : Leaves leads old before now here [] [] (owes_at old) (confirmed_at old)
   pub turns : now.steps + length old.part.asked ≡ old.steps + length now.part.asked
   pub polled : length now.part.asked ≡ length old.part.asked + made
+  pub not_yet : confirmed_at old k ≡ true → made ≡ 0
 
 -- of the CPUs called all were waited for but those left
 pub record Asks {H : Type 0} (leads : H → Heard → H → Type 0) (old : CpuValue) (before : H) (new : CpuValue) (after : H)
@@ -37,16 +40,22 @@ pub record Asks {H : Type 0} (leads : H → Heard → H → Type 0) (old : CpuVa
   pub turns : (new.steps + length old.part.asked) + length (members left) ≡ old.steps + (length (members called) + length new.part.asked)
   pub polled : length new.part.asked + budget ≡ length old.part.asked + polls
   pub gone : (c : ℕ) → c < NR_CPUS → has silent c ≡ true → has left c ≡ false → budget ≡ 0
+  pub kept : (k : ℕ) → k < records_of_one → confirmed_at old k ≡ true → confirmed_at new k ≡ true
+  pub at_once : AreConfirmed old (has called) → budget ≡ polls
 
 pub differ : (b : Bool) → b ≡ true → b ≡ false → ⊥
 differ true e n = cc
 differ false e n = cc
 
+pub or_yes : (a b : Bool) → b ≡ true → (a || b) ≡ true
+or_yes true b e = refl
+or_yes false b e = e
+
 not_of : (b : Bool) → not (not b) ≡ b
 not_of true = refl
 not_of false = refl
 
-is_no : (b : Bool) → not b ≡ true → b ≡ false
+pub is_no : (b : Bool) → not b ≡ true → b ≡ false
 is_no true e = cc
 is_no false e = refl
 
@@ -68,14 +77,15 @@ others_record : (c cpu k : ℕ) → k ≡ many_record cpu → (c ≡ cpu → ⊥
 others_record c cpu k is_k other e = other (are_apart.many c cpu (e ∙ is_k))
 
 module _ {H : Type 0} (leads : H → Heard → H → Type 0) where
-  pub polling_first : (c : CpuValue) (h : H) → Polling leads c h c h 0
-  polling_first c h = record { leaves = leaves_none leads c h; turns = refl; polled = omega arith }
+  pub polling_first : (k : ℕ) (c : CpuValue) (h : H) → Polling leads k c h c h 0
+  polling_first k c h = record { leaves = leaves_none leads c h; turns = refl; polled = omega arith; not_yet = λ confirmed. refl }
 
   -- after a look that found it locked, and one poll
-  pub polling_more : (old now mid next : CpuValue) (before here last : H) (made : ℕ) → Polling leads old before now here made → mid ≡ looks now
+  pub polling_more : (k : ℕ) (old now mid next : CpuValue) (before here last : H) (made : ℕ) → k < records_of_one
+      → Polling leads k old before now here made → (confirmed_at now k ≡ true → ⊥) → mid ≡ looks now
       → Leaves leads mid here next last [] [] (owes_at mid) (confirmed_at mid)
-      → (next.steps ≡ mid.steps) × (length next.part.asked ≡ length mid.part.asked + 1) → Polling leads old before next last (made + 1)
-  polling_more old now mid next before here last made p e handled once =
+      → (next.steps ≡ mid.steps) × (length next.part.asked ≡ length mid.part.asked + 1) → Polling leads k old before next last (made + 1)
+  polling_more k old now mid next before here last made l p locked e handled once =
       let steps : next.steps ≡ now.steps + 1 = once.0 ∙ ap (λ (c : CpuValue). c.steps) e in
       let asked : length next.part.asked ≡ length now.part.asked + 1 = once.1 ∙ ap (λ (c : CpuValue). length c.part.asked + 1) e in
       let t = p.turns in
@@ -86,11 +96,12 @@ module _ {H : Type 0} (leads : H → Heard → H → Type 0) where
             p.leaves.owes_are p.leaves.confirmed_are;
         turns = omega arith;
         polled = omega arith;
+        not_yet = λ confirmed. absurd (locked (p.leaves.confirmed_are k l ∙ confirmed));
       }
 
   -- the last look
   pub polling_looked : (old now new : CpuValue) (before here : H) (made k : ℕ) (done : Bool) → IsSized old → k < records_of_one
-      → Polling leads old before now here made → new ≡ looks (cond done (confirms k now) now) →
+      → Polling leads k old before now here made → new ≡ looks (cond done (confirms k now) now) →
       Leaves leads old before new here [] [] (owes_at old) (λ j. (done && j == k) || confirmed_at old j)
   polling_looked old now new before here made k true s l p e = leaves_ended leads old now new before here k s l p.leaves e
   polling_looked old now new before here made k false s l p e =
@@ -98,7 +109,7 @@ module _ {H : Type 0} (leads : H → Heard → H → Type 0) where
       leaves_as leads (owes_at old) (confirmed_at old) (leaves_then leads p.leaves one)
       (λ c. ap (λ (x : CpuValue). owes_at x c) e ∙ p.leaves.owes_are c) (λ j b. ap (λ (x : CpuValue). confirmed_at x j) e ∙ p.leaves.confirmed_are j b)
 
-  pub polling_turns : (old now new : CpuValue) (before here : H) (made k : ℕ) (done : Bool) → Polling leads old before now here made
+  pub polling_turns : (old now new : CpuValue) (before here : H) (made k : ℕ) (done : Bool) → Polling leads k old before now here made
       → new ≡ looks (cond done (confirms k now) now) → new.steps + length old.part.asked ≡ old.steps + (1 + length new.part.asked)
   polling_turns old now new before here made k true p e =
       let steps : new.steps ≡ now.steps + 1 = ap (λ (c : CpuValue). c.steps) e in
@@ -111,7 +122,7 @@ module _ {H : Type 0} (leads : H → Heard → H → Type 0) where
       let t = p.turns in
       omega arith
 
-  pub polling_polled : (old now new : CpuValue) (before here : H) (made k polls rest : ℕ) (done : Bool) → Polling leads old before now here made
+  pub polling_polled : (old now new : CpuValue) (before here : H) (made k polls rest : ℕ) (done : Bool) → Polling leads k old before now here made
       → new ≡ looks (cond done (confirms k now) now) → made + rest ≡ polls → length new.part.asked + rest ≡ length old.part.asked + polls
   polling_polled old now new before here made k polls rest true p e sum =
       let asked : length new.part.asked ≡ length now.part.asked = ap (λ (c : CpuValue). length c.part.asked) e in
@@ -122,9 +133,23 @@ module _ {H : Type 0} (leads : H → Heard → H → Type 0) where
       let q = p.polled in
       omega arith
 
-  pub polling_locked : (old now : CpuValue) (before here : H) (made k : ℕ) → k < records_of_one → Polling leads old before now here made
+  pub polling_locked : (old now : CpuValue) (before here : H) (made k : ℕ) → k < records_of_one → Polling leads k old before now here made
       → (confirmed_at now k ≡ true → ⊥) → confirmed_at old k ≡ false
   polling_locked old now before here made k l p locked = sym (p.leaves.confirmed_are k l) ∙ none_true (confirmed_at now k) locked
+
+  -- where the record was seen confirmed before, the last look is the first
+  pub polling_at_once : (old now new : CpuValue) (before here : H) (made k : ℕ) (done : Bool) → Polling leads k old before now here made
+      → new ≡ looks (cond done (confirms k now) now) → confirmed_at old k ≡ true → length new.part.asked ≡ length old.part.asked
+  polling_at_once old now new before here made k true p e confirmed =
+      let asked : length new.part.asked ≡ length now.part.asked = ap (λ (c : CpuValue). length c.part.asked) e in
+      let q = p.polled in
+      let none = p.not_yet confirmed in
+      omega arith
+  polling_at_once old now new before here made k false p e confirmed =
+      let asked : length new.part.asked ≡ length now.part.asked = ap (λ (c : CpuValue). length c.part.asked) e in
+      let q = p.polled in
+      let none = p.not_yet confirmed in
+      omega arith
 
   pub asks_start : (c : CpuValue) (h : H) (called polls : ℕ) → Asks leads c h c h called called called called polls polls
   asks_start c h called polls = record {
@@ -139,6 +164,8 @@ module _ {H : Type 0} (leads : H → Heard → H → Type 0) where
     turns = omega arith;
     polled = refl;
     gone = λ x l e n. absurd (differ (has called x) e n);
+    kept = λ k l e. e;
+    at_once = λ all. refl;
   }
 
   -- one more was waited for
@@ -149,11 +176,12 @@ module _ {H : Type 0} (leads : H → Heard → H → Type 0) where
       (done ≡ false → (confirmed_at mid k ≡ false) × (rest ≡ 0)) →
       new.steps + length mid.part.asked ≡ mid.steps + (1 + length new.part.asked) →
       length new.part.asked + rest ≡ length mid.part.asked + budget → rest ≤ budget →
+      (confirmed_at mid k ≡ true → length new.part.asked ≡ length mid.part.asked) →
       (done ≡ true → answered' ≡ answered) → (done ≡ false → (c : ℕ) → has answered' c ≡ (has answered c && not (c == cpu))) →
       (not done ≡ true → silent' ≡ silent) → (not done ≡ false → (c : ℕ) → has silent' c ≡ (has silent c && not (c == cpu))) →
       Asks leads old before new after called next answered' silent' polls rest
   asks_more {old} {mid} {new} {before} {m} {after} called left next cpu k answered silent answered' silent' polls budget rest done
-      a step below here is_k small g locked turns polled fewer ak ao sk so =
+      a step below here is_k small g locked turns polled fewer at_once ak ao sk so =
       let answered_here : has answered' cpu ≡ done = kept_here done answered answered' cpu ak ao (a.still cpu below here).0 in
       let silent_here : has silent' cpu ≡ not done = kept_here (not done) silent silent' cpu sk so (a.still cpu below here).1 in
       let answered_else : (c : ℕ) → (c == cpu) ≡ false → has answered' c ≡ has answered c = λ c n. kept_else done answered answered' cpu c ak ao n in
@@ -202,6 +230,11 @@ module _ {H : Type 0} (leads : H → Heard → H → Type 0) where
               let none = a.gone c l (sym (silent_else c other) ∙ h) (sym (left_else left next cpu c step l other) ∙ gone) in
               omega arith
         ];
+        kept = λ j b e. g.confirmed_are j b ∙ or_yes (done && j == k) (confirmed_at mid j) (a.kept j b e);
+        at_once = λ all.
+            let was = a.at_once all in
+            let same = at_once (a.kept k small (subst (λ (j : ℕ). confirmed_at old j ≡ true) (sym is_k) (all cpu is_called))) in
+            omega arith;
       }
 
   -- all were waited for
@@ -227,4 +260,7 @@ module _ {H : Type 0} (leads : H → Heard → H → Type 0) where
             let zero = a.gone c l h (none_left left c none l) in
             omega arith;
         most = omega arith;
+        at_once = λ all.
+            let same = a.at_once all in
+            omega arith;
       }

@@ -15,7 +15,7 @@ use Rattle.smp_queue.specs.Handling.{heard}
 use Rattle.smp_queue.specs.declared.handler.Heard.{Heard}
 use Rattle.smp_calls.specs.Handles.{Handles}
 use Rattle.smp_calls.specs.Queued.{Queued, destinations, sendings, calls_and_interrupts, is_first_to, is_used}
-use Rattle.smp_calls.specs.Records.{call_by, class_for, single_record, user_record, many_call}
+use Rattle.smp_calls.specs.Records.{call_by, class_for, single_record, user_record, many_call, many_record}
 
 -- a CPU's number is one, and it has all its records
 pub record IsSized (c : CpuValue) : Type 0 where
@@ -91,6 +91,10 @@ CallsOne leads old before new after dst func info wait = CallsBy leads old befor
 -- a call to one CPU that queues none and sends no interrupt: without wait it has waited for the async record
 abbrev pub QueuesNone : {H : Type 0} → (H → Heard → H → Type 0) → CpuValue → H → CpuValue → H → Bool → Type 0
 QueuesNone leads old before new after wait = Leaves leads old before new after [] [] (owes_at old) (λ k. (not wait && k == 1) || confirmed_at old k)
+
+-- the records for calls to many with these destinations are all seen confirmed
+abbrev pub AreConfirmed : CpuValue → (ℕ → Bool) → Type 0
+AreConfirmed c to = (cpu : ℕ) → to cpu ≡ true → confirmed_at c (many_record cpu) ≡ true
 
 -- a CPU has looked at the flags of its record k, and has handled once after each look but the last; where the record was seen
 -- confirmed before, that was one look, and it has handled nothing

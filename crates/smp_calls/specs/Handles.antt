@@ -18,8 +18,8 @@ batches [] = []
 batches (None ∷ rest) = batches rest
 batches (Some batch ∷ rest) = batch ∷ batches rest
 
--- from one value to the other a CPU has looked for interrupts so often, has taken and run a batch wherever one was pending,
--- and its handler has run just these calls
+-- from one value to the other a CPU has looked for interrupts once for each turn, has taken and run a batch wherever one was
+-- pending, and its handler has run just these calls
 pub record Handles {H : Type 0} (leads : H → Heard → H → Type 0) (old : CpuValue) (before : H) (new : CpuValue) (after : H) : Type 0 where
   pub turns : List (Option (List Call))
   pub asked_is : new.part.asked ≡ old.part.asked ++ looks turns

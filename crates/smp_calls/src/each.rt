@@ -5,9 +5,10 @@ ghost use Rattle.std.specs.Prelude.{◌≡◌, ◌≢◌, ℕ, ◌<◌, ◌==◌
 ghost use Rattle.smp_mask.specs.Mask.{has, members};
 ghost use Rattle.smp_words.specs.Size.{cpus};
 ghost use Rattle.smp_words.specs.Limits.{AreLimits};
-ghost use Rattle.smp_calls.specs.Records.{many_call};
+ghost use Rattle.smp_queue.specs.Cpu.{confirmed_at};
+ghost use Rattle.smp_calls.specs.Records.{many_call, many_record as many_record_in};
 ghost use Rattle.smp_calls.specs.Queued.{Queued, destinations, firsts};
-ghost use Rattle.smp_calls.specs.Families.{IsSized};
+ghost use Rattle.smp_calls.specs.Families.{IsSized, AreConfirmed, HandlesNone};
 ghost use Rattle.smp_calls.specs.Rounds.{only_if, Queues, Sends, WaitsFor, QueuesEach};
 
 use crate::queue::{Job, interrupt, queue};
@@ -34,8 +35,9 @@ fn queue_if<A: Allocator, R: Wait, H: Handler>(
     requires limits { AreLimits table.now.nr table.now.online }
     requires online { has table.now.online to ≡ true }
     requires other { to ≢ me.old.number }
-    ensures { (queued : List Queued) × (destinations queued ≡ only_if asked to) × (firsts queued ≡ only_if result to)
+    ensures queued { (queued : List Queued) × (destinations queued ≡ only_if asked to) × (firsts queued ≡ only_if result to)
         × Queues H.leads me.old handler.old me.new handler.new (many_call me.old.number job.class job.func job.info) queued }
+    ensures at_once { confirmed_at me.old (many_record_in to) ≡ true → HandlesNone me.old me.new × (handler.new ≡ handler.old) }
 {
     if !asked {
         return false;
@@ -69,8 +71,9 @@ pub(crate) fn queue_each<A: Allocator, R: Wait, H: Handler, C: Fn(u32, u64) -> b
     requires limits { AreLimits table.now.nr table.now.online }
     requires online { (c : ℕ) → has others c ≡ true → (has table.now.online c ≡ true) × (c ≢ me.old.number) }
     requires condition { (c : ℕ) → c < cpus → C.pre cond.now c job.info }
-    ensures { QueuesEach H.leads me.old handler.old me.new handler.new (λ c answer. C.post cond.now c job.info answer)
+    ensures queued { QueuesEach H.leads me.old handler.old me.new handler.new (λ c answer. C.post cond.now c job.info answer)
         (many_call me.old.number job.class job.func job.info) others result.0 result.1 }
+    ensures at_once { AreConfirmed me.old (has others) → HandlesNone me.old me.new × (handler.new ≡ handler.old) }
 {
     let mut called = others;
     let mut owed = others;

@@ -8,7 +8,7 @@ ghost use Rattle.smp_queue.specs.Handling.{heard};
 ghost use Rattle.smp_calls.specs.Records.{many_call, class_for as class_in};
 ghost use Rattle.smp_calls.specs.Targets.{is_target, remote};
 ghost use Rattle.smp_calls.specs.Ended.{HaveEnded};
-ghost use Rattle.smp_calls.specs.Families.{IsSized, IsLast, CallsMany};
+ghost use Rattle.smp_calls.specs.Families.{IsSized, IsLast, AreConfirmed, HandlesNone, CallsMany};
 ghost use Rattle.smp_calls.specs.Rounds.{WaitsFor, Picks, HearsIf, noted_if};
 
 use crate::each::{queue_each, send_each, wait_each};
@@ -40,6 +40,7 @@ pub(crate) fn queue_all<A: Allocator, R: Wait, H: Handler, C: Fn(u32, u64) -> bo
     ensures picks { Picks (λ c answer. C.post cond.now c job.info answer) (has others) result }
     ensures calls { CallsMany H.leads me.old handler.old me.new handler.new (members result) job.class job.func job.info None false }
     ensures last { IsLast me.old me.new (members result) }
+    ensures at_once { AreConfirmed me.old (has others) → HandlesNone me.old me.new × (handler.new ≡ handler.old) }
 {
     let (called, owed) = queue_each(table, rt, me, handler, others, job, cond);
     send_each(table, me, owed);

@@ -32,6 +32,9 @@ pub struct Within {
 /// `polls` polls more. A call to a CPU that is silent stays queued, and runs once that CPU polls. Until then its record stays
 /// locked, so that each later call to many waits for it first. `CallTable::is_done` with [`crate::many_record`] says when.
 ///
+/// Between the two waits it handles nothing. So at most `polls` polls come before its last interrupt, and none where the records
+/// of all destinations were seen confirmed. In all there are at most twice `polls`, and at most `polls` where it calls no CPU.
+///
 /// Each call is queued at the compare-exchange that wins in its post: they are as many steps, not one. It waits for no CPU longer
 /// than its polls; only its posts may wait while others change the same head. It refuses nothing.
 pub fn call_many_within<A: Allocator, R: Wait, H: Handler>(

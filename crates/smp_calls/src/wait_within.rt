@@ -35,6 +35,7 @@ fn poll_until<A: Allocator, R: Wait, H: Handler>(
     ensures turns { me.new.steps + length me.old.part.asked ≡ me.old.steps + (1 + length me.new.part.asked) }
     ensures polled { length me.new.part.asked + result.1 ≡ length me.old.part.asked + polls }
     ensures fewer { result.1 ≤ polls }
+    ensures at_once { confirmed_at me.old k ≡ true → length me.new.part.asked ≡ length me.old.part.asked }
 {
     let backoff = Backoff::new();
     for made in 0..polls {

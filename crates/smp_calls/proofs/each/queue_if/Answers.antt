@@ -1,11 +1,13 @@
-use Rattle.std.proofs.Common.{arith, [], refl, rules}
+use Rattle.std.proofs.Common.{◌≡◌, ℕ, true, arith, [], refl, sym, subst, rules}
+use Rattle.smp_queue.specs.Cpu.{confirmed_at}
 use Rattle.smp_calls.specs.Records.{many_call}
 use Rattle.smp_calls.proofs.Lawful.{has_online, lawful_online}
+use Rattle.smp_calls.proofs.AtOnce.{none_handled, queued_at_once}
 use Rattle.smp_calls.proofs.Round.{queues_none, queues_one}
 use Rattle.smp_calls.proofs.each.queue_if.Goals as goal
 
-pub returns-then-not-asked : goal.returns-then-not-asked
-returns-then-not-asked g c = (
+pub returns-then-not-asked-clause-queued : goal.returns-then-not-asked-clause-queued
+returns-then-not-asked-clause-queued g c = (
   [],
   search rules,
   refl,
@@ -13,13 +15,22 @@ returns-then-not-asked g c = (
       (many_call c.args.me.now.number c.args.job.class c.args.job.func c.args.job.info),
 )
 
+pub returns-then-not-asked-clause-at_once : goal.returns-then-not-asked-clause-at_once
+returns-then-not-asked-clause-at_once g c confirmed = (none_handled c.args.me.now, refl)
+
 pub wait_for-requires-clause-record : goal.wait_for-requires-clause-record
 wait_for-requires-clause-record g c = search (has_online, arith)
 
 pub queue-requires-clause-lawful : goal.queue-requires-clause-lawful
 queue-requires-clause-lawful g c = search (lawful_online, arith)
 
-pub returns : goal.returns
-returns g c =
+pub returns-clause-queued : goal.returns-clause-queued
+returns-clause-queued g c =
     queues_one g.H.Handler.leads c.many_record-k.result c.args.to c.args.job.class c.args.job.func c.args.job.info c.args.asked c.queue.result
     c.queue.ensures.0 c.if-not-asked.false c.many_record-k.ensures (search rules) c.requires.sized c.wait_for.ensures.left c.queue.ensures.1
+
+pub returns-clause-at_once : goal.returns-clause-at_once
+returns-clause-at_once g c confirmed =
+    queued_at_once c.args.me.now c.wait_for.new.me c.queue.new.me c.args.handler.now c.wait_for.new.handler c.many_record-k.result c.args.to
+    c.args.job.class c.args.job.func c.args.job.info c.queue.result c.queue.ensures.0 c.wait_for.ensures.turns c.queue.ensures.1
+    (subst (λ (j : ℕ). confirmed_at c.args.me.now j ≡ true) (sym c.many_record-k.ensures) confirmed)

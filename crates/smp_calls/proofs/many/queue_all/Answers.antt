@@ -1,12 +1,18 @@
 use Rattle.std.proofs.Common.{ℕ, List, sym, subst}
 use Rattle.smp_calls.specs.Families.{IsLast}
 use Rattle.smp_calls.specs.Rounds.{Sends}
+use Rattle.smp_calls.proofs.AtOnce.{none_sent}
 use Rattle.smp_calls.proofs.Passes.{queued_and_sent}
 use Rattle.smp_calls.proofs.many.queue_all.Goals as goal
 
 pub returns-clause-last : goal.returns-clause-last
 returns-clause-last g c =
-    let q = c.queue_each-called.ensures in
+    let q = c.queue_each-called.ensures.queued in
     subst (λ (to : List ℕ). IsLast c.args.me.now c.send_each.new.me to) q.called_are
     (queued_and_sent c.args.me.now c.queue_each-called.new.me c.send_each.new.me q.queued q.queues.last
     (subst (λ (sent : List ℕ). Sends c.queue_each-called.new.me c.send_each.new.me sent) (sym q.owed_are) c.send_each.ensures))
+
+pub returns-clause-at_once : goal.returns-clause-at_once
+returns-clause-at_once g c all =
+    let q = c.queue_each-called.ensures.at_once all in
+    (none_sent c.args.me.now c.queue_each-called.new.me c.send_each.new.me _ q.0 c.send_each.ensures, q.1)
