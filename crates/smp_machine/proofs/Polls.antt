@@ -19,8 +19,8 @@ use Rattle.smp_machine.proofs.Served.{beginning_still, later_still, serves_next}
 use Rattle.smp_machine.proofs.Works.{works_own, works_none, works_then, works_as}
 
 -- it has worked, has put and taken nothing, and is still in the same stop
-pub record Going {H F : Type 0} (hears : H → Heard → H → Type 0) (leads : F → Called → F → Type 0) (old : MachineCpuValue) (h : H) (f : F) (new : MachineCpuValue)
-    (h' : H) (f' : F) : Type 0 where
+pub record Going {H F : Type 0} (hears : H → Heard → H → Type 0) (leads : F → Called → F → Type 0) (old : MachineCpuValue) (h : H) (f : F)
+    (new : MachineCpuValue) (h' : H) (f' : F) : Type 0 where
   pub works : Works hears leads old h f new h' f' (own_of old)
   pub inside : new.stops.inside ≢ None
   pub same : (stop : Inside) → old.stops.inside ≡ Some stop → (acked : ℕ) × (new.stops.inside ≡ Some (record stop { acked = acked }))
