@@ -178,7 +178,7 @@ module _ {H F : Type 0} (hears : H → Heard → H → Type 0) (runs : F → Cal
       (own_still p.stops s refl refl refl refl (λ _ e _. e) refl)
       (λ i. record (with_nudge up k (own_of p)) { moves = told_loads k l.lost count p.stops.moves i })
 
-  -- ---- by who holds the gate, which is given up
+  -- ---- on a CPU that holds the gate, which is given up
 
   -- the count was nudged
   pub at_gate_nudged : (p m new : MachineCpuValue) (h : H) (f : F) → Nudges k up p.stops m.stops (Ok true) → m ≡ record p { stops = m.stops }

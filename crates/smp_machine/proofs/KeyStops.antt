@@ -61,7 +61,7 @@ moves_before : (l before first rest : List OwnMove) → (l ++ before) ++ (first 
 moves_before l before first rest = append_assoc l before (first ++ rest) ∙ ap (λ (x : List OwnMove). l ++ x) (sym (append_assoc before first rest))
 
 module _ {H F : Type 0} (hears : H → Heard → H → Type 0) (runs : F → Called → F → Type 0) where
-  -- a patch by who holds the gate
+  -- a patch on a CPU that holds the gate
   pub patch_stopped : {old m₁ m₂ m₃ m₄ new : MachineCpuValue} {h h₂ h₃ h₄ : H} {f f₂ f₃ f₄ : F} (work : Work) (u v : ℤ) → u ≡ v
       → m₁ ≡ record old { stops = begins work old.stops }
       → Works hears runs m₁ h f m₂ h₂ f₂ (with_put (item m₁.stops.number work) (members work.mask) (own_of m₁))

@@ -52,7 +52,7 @@ front_inside m old new (Some x) None (inr e) = subst (λ (y : StopCpuValue). y �
 front_inside m old new None (Some slot) e = absurd e
 front_inside m old new (Some x) (Some slot) e = subst (λ (y : StopCpuValue). y ≡ tried old y) (sym e.1.1.is) refl
 
--- who has acknowledged RUN then was in the same stop before: one that enters has acknowledged nothing
+-- a CPU that has acknowledged RUN then was in the same stop before: one that enters has acknowledged nothing
 front_early : (m : MachineValue) (old new : StopCpuValue) (front : Option Item) (slot : Option ℕ) → EntersFront m.stops old new front slot
     → (stop : Inside) → new.inside ≡ Some stop → stop.acked ≡ RUN → old.inside ≡ Some stop
 front_early m old new None None e stop is at = ap (λ (y : StopCpuValue). y.inside) (sym e) ∙ is

@@ -111,7 +111,7 @@ fn collect_quietly<A: Allocator, R: Wait, H: Handler, F: StopFunc>(
     unreachable!()
 }
 
-/// Makes the patch by who holds the gate, and gives the gate up: the patch's answer.
+/// Makes the patch on a CPU that holds the gate, and gives the gate up: the patch's answer.
 pub(crate) fn patch<A: Allocator, R: Wait, H: Handler, F: StopFunc>(
     machine: &Machine<A>,
     rt: &R,
