@@ -61,7 +61,7 @@ moves_before : (l before first rest : List OwnMove) → (l ++ before) ++ (first 
 moves_before l before first rest = append_assoc l before (first ++ rest) ∙ ap (λ (x : List OwnMove). l ++ x) (sym (append_assoc before first rest))
 
 module _ {H F : Type 0} (hears : H → Heard → H → Type 0) (runs : F → Called → F → Type 0) where
-  -- a patch by who holds the gate
+  -- a patch on a CPU that holds the gate
   pub patch_stopped : {old m₁ m₂ m₃ m₄ new : MachineCpuValue} {h h₂ h₃ h₄ : H} {f f₂ f₃ f₄ : F} (work : Work) (u v : ℤ) → u ≡ v
       → m₁ ≡ record old { stops = begins work old.stops }
       → Works hears runs m₁ h f m₂ h₂ f₂ (with_put (item m₁.stops.number work) (members work.mask) (own_of m₁))
@@ -98,7 +98,8 @@ module _ {H F : Type 0} (hears : H → Heard → H → Type 0) (runs : F → Cal
   works_found p new h f k count e =
       let s = loads_count k count p.stops in
       works_step hears runs p new h f s (with_moves (Found k count ∷ []) (own_of p)) e
-      (later_still p.stops s refl refl refl refl refl refl (Found k count ∷ [], refl)) refl refl refl refl (own_still p.stops s refl refl refl refl (λ _ e _. e) refl)
+      (later_still p.stops s refl refl refl refl refl refl (Found k count ∷ [], refl)) refl refl refl refl
+      (own_still p.stops s refl refl refl refl (λ _ e _. e) refl)
       (λ i. record (own_of p) { moves = told_more p.stops.moves (Found k count ∷ []) i })
 
   -- a patch after a stretch with these moves, in which at most the gate was taken

@@ -192,7 +192,7 @@ own_low c s =
     let below : s.known.number < cpus = s.sees.below in
     omega arith
 
--- who is in a stop is of it
+-- a CPU that is in a stop is of it
 is_of_it : (n : Present) (me : ℕ) (x : Seat) (stop : Inside) → Stands n me x → inside_of x ≡ Some stop → is_of ((n.stop stop.slot).standing me) ≡ true
 is_of_it n me Free stop st e = cc
 is_of_it n me (In s w a l t) stop st e =

@@ -177,7 +177,7 @@ module _ (func arg : ℕ) (work : Work) (old new : StopCpuValue) (v : ℤ) (r : 
   one_itself dst w self = called_as w.func_is w.arg_is (r (inl w.kind) (w.mask old.number ∙ eq-eqb old.number dst (sym self))
       (λ cpu there may. eqb-true cpu dst (sym (w.mask cpu) ∙ there) ∙ self))
 
-  -- who may answer in a stop of kind Multi is active
+  -- a CPU that may answer in a stop of kind Multi is active
   multi_active : work.kind ≡ Multi → (cpu : ℕ) → MayAnswer work cpu → has work.active cpu ≡ true
   multi_active kind cpu (inl one) = absurd (let bad : One ≡ Multi = sym one ∙ kind in cc)
   multi_active kind cpu (inr active) = active

@@ -19,8 +19,8 @@ use Rattle.smp_machine.proofs.Served.{beginning_still, later_still, serves_next}
 use Rattle.smp_machine.proofs.Works.{works_own, works_none, works_then, works_as}
 
 -- it has worked, has put and taken nothing, and is still in the same stop
-pub record Going {H F : Type 0} (hears : H → Heard → H → Type 0) (leads : F → Called → F → Type 0) (old : MachineCpuValue) (h : H) (f : F) (new : MachineCpuValue)
-    (h' : H) (f' : F) : Type 0 where
+pub record Going {H F : Type 0} (hears : H → Heard → H → Type 0) (leads : F → Called → F → Type 0) (old : MachineCpuValue) (h : H) (f : F)
+    (new : MachineCpuValue) (h' : H) (f' : F) : Type 0 where
   pub works : Works hears leads old h f new h' f' (own_of old)
   pub inside : new.stops.inside ≢ None
   pub same : (stop : Inside) → old.stops.inside ≡ Some stop → (acked : ℕ) × (new.stops.inside ≡ Some (record stop { acked = acked }))
@@ -52,7 +52,7 @@ front_inside m old new (Some x) None (inr e) = subst (λ (y : StopCpuValue). y �
 front_inside m old new None (Some slot) e = absurd e
 front_inside m old new (Some x) (Some slot) e = subst (λ (y : StopCpuValue). y ≡ tried old y) (sym e.1.1.is) refl
 
--- who has acknowledged RUN then was in the same stop before: one that enters has acknowledged nothing
+-- a CPU that has acknowledged RUN then was in the same stop before: one that enters has acknowledged nothing
 front_early : (m : MachineValue) (old new : StopCpuValue) (front : Option Item) (slot : Option ℕ) → EntersFront m.stops old new front slot
     → (stop : Inside) → new.inside ≡ Some stop → stop.acked ≡ RUN → old.inside ≡ Some stop
 front_early m old new None None e stop is at = ap (λ (y : StopCpuValue). y.inside) (sym e) ∙ is

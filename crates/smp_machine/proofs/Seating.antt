@@ -129,8 +129,8 @@ seats_left m n calls stops passes waiting limits all s cpu e =
     left_is waiting cpu (Some (fresh_place m cpu)) (seat_is m n calls stops passes waiting limits all s cpu e).1
 
 -- the CPU that waits at a number, as it is taken out
-pub taken_from : (waiting : List (Option MachineCpuValue)) (cpu : ℕ) (o now : Option MachineCpuValue) → cpu < length waiting → o ≡ now → now ≡ get_or waiting cpu now
-    → get_or waiting cpu None ≡ o
+pub taken_from : (waiting : List (Option MachineCpuValue)) (cpu : ℕ) (o now : Option MachineCpuValue) → cpu < length waiting → o ≡ now
+    → now ≡ get_or waiting cpu now → get_or waiting cpu None ≡ o
 taken_from waiting cpu o now low e f = sym (e ∙ (f ∙ get_or_default waiting cpu now None low))
 
 -- is fresh

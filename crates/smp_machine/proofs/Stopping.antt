@@ -70,13 +70,15 @@ module _ {H F : Type 0} (hears : H → Heard → H → Type 0) (runs : F → Cal
   pub works_missed : (p new : MachineCpuValue) (h : H) (f : F) → new ≡ record p { stops = misses_gate p.stops } → Works hears runs p h f new h f (own_of p)
   works_missed p new h f e =
       let s = misses_gate p.stops in
-      works_step p new h f s (own_of p) e (later_still p.stops s refl refl refl refl refl refl (Busy ∷ [], refl)) refl refl refl refl (own_still p.stops s refl refl refl refl (λ _ e _. e) refl)
+      works_step p new h f s (own_of p) e (later_still p.stops s refl refl refl refl refl refl (Busy ∷ [], refl)) refl refl refl refl
+      (own_still p.stops s refl refl refl refl (λ _ e _. e) refl)
       (λ i. record (own_of p) { moves = told_same p.stops.moves (Busy ∷ []) refl i })
 
   pub works_looked : (p new : MachineCpuValue) (h : H) (f : F) → new ≡ record p { stops = looks_in_vain p.stops } → Works hears runs p h f new h f (own_of p)
   works_looked p new h f e =
       let s = looks_in_vain p.stops in
-      works_step p new h f s (own_of p) e (later_still p.stops s refl refl refl refl refl refl (NotDone ∷ [], refl)) refl refl refl refl (own_still p.stops s refl refl refl refl (λ _ e _. e) refl)
+      works_step p new h f s (own_of p) e (later_still p.stops s refl refl refl refl refl refl (NotDone ∷ [], refl)) refl refl refl refl
+      (own_still p.stops s refl refl refl refl (λ _ e _. e) refl)
       (λ i. record (own_of p) { moves = told_same p.stops.moves (NotDone ∷ []) refl i })
 
   pub works_give : (p new : MachineCpuValue) (h : H) (f : F) → new ≡ record p { stops = gives_gate p.stops }
@@ -92,7 +94,8 @@ module _ {H F : Type 0} (hears : H → Heard → H → Type 0) (runs : F → Cal
   works_begin p new h f work e =
       let s = begins work p.stops in
       works_step p new h f s (with_moves (Began work ∷ []) (with_begun work (own_of p))) e
-      (later_begun p.stops s (work ∷ []) refl refl refl refl refl refl (Began work ∷ [], refl)) refl refl refl refl (own_begun p.stops s work refl refl refl refl refl refl)
+      (later_begun p.stops s (work ∷ []) refl refl refl refl refl refl (Began work ∷ [], refl)) refl refl refl refl
+      (own_begun p.stops s work refl refl refl refl refl refl)
       (λ i. record (with_begun work (own_of p)) { moves = told_more p.stops.moves (Began work ∷ []) i })
 
   pub works_collect : (p new : MachineCpuValue) (h : H) (f : F) (word : ℕ) → new ≡ record p { stops = collects word p.stops }
@@ -100,7 +103,8 @@ module _ {H F : Type 0} (hears : H → Heard → H → Type 0) (runs : F → Cal
   works_collect p new h f word e =
       let s = collects word p.stops in
       works_step p new h f s (with_moves (Collected word ∷ []) (with_collected word (own_of p))) e
-      (later_collected p.stops s (word ∷ []) refl refl refl refl refl refl (Collected word ∷ [], refl)) refl refl refl refl (own_collected p.stops s refl refl refl refl refl refl)
+      (later_collected p.stops s (word ∷ []) refl refl refl refl refl refl (Collected word ∷ [], refl)) refl refl refl refl
+      (own_collected p.stops s refl refl refl refl refl refl)
       (λ i. record (with_collected word (own_of p)) { moves = told_more p.stops.moves (Collected word ∷ []) i })
 
   pub works_put : (p new : MachineCpuValue) (h : H) (f : F) (cpu : ℕ) (x : Item) → new ≡ record p { passes = puts cpu x p.passes }

@@ -69,7 +69,7 @@ some_same e f = cc
 some_none : {x : Inside} {o : Option Inside} → o ≡ Some x → o ≡ None → ⊥
 some_none e n = cc
 
--- who is in no stop of one CPU is in one of several
+-- a CPU that is in no stop of one CPU is in one of several
 pub in_round : (c : StopCpuValue) (o : Option Inside) → c.inside ≡ o → o ≢ None → HasNotLeft o → (¬ (IsInOne c)) → IsInRound c
 in_round c None is inside not_left not_one = absurd (inside refl)
 in_round c (Some stop) is inside not_left not_one =
@@ -91,7 +91,7 @@ not_both : (c : StopCpuValue) → IsInOne c → IsInRound c → ⊥
 not_both c a b = b.several (ap (λ (x : Inside). x.work.kind) (some_same b.is a.is) ∙ a.one)
 
 module _ {F : Type 0} (leads : F → Called → F → Type 0) where
-  -- who has left may finish
+  -- a CPU that has left may finish
   has_left : (old mid : StopCpuValue) (f f' : F) → AdvanceAnswers leads old mid f f' (Ok Left) → HasLeft mid
   has_left old mid f f' a = record {
     stop = record (a.0.stop) { acked = EXIT };
@@ -109,7 +109,7 @@ module _ {F : Type 0} (leads : F → Called → F → Type 0) where
   finishes old mid new f f' turn error.BadArgument is a r = r.0 (has_left old mid f f' (at_left old mid f f' turn is a))
   finishes old mid new f f' turn _ is a r = r
 
-  -- who has left has completed
+  -- a CPU that has left has completed
   pub round_done : (old mid new : StopCpuValue) (f f' : F) (turn : Turn) (u : Unit {0}) → turn ≡ Left → AdvanceAnswers leads old mid f f' (Ok turn)
       → FinishAnswers mid new (Ok u) → GoesRound leads old f new f' Left
   round_done old mid new f f' turn u is a done =
@@ -122,7 +122,7 @@ module _ {F : Type 0} (leads : F → Called → F → Type 0) where
         is = done.1 ∙ ap (λ (x : Inside). completes x.slot mid) same;
       }
 
-  -- who has not left goes on
+  -- a CPU that has not left goes on
   pub round_on : (old new : StopCpuValue) (f f' : F) (turn : Turn) → turn ≢ Left → AdvanceAnswers leads old new f f' (Ok turn)
       → GoesRound leads old f new f' turn
   round_on old new f f' Left on a = absurd (on refl)

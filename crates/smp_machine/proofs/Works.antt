@@ -55,14 +55,15 @@ module _ {H F : Type 0} (hears : H → Heard → H → Type 0) (leads : F → Ca
   -- no work was taken
   pub works_still : (old new : MachineCpuValue) (h : H) (f : F) → new.calls ≡ old.calls → IsLater old.stops new.stops
       → new.stops.part.calls ≡ old.stops.part.calls → new.stops.part.answers ≡ old.stops.part.answers → new.stops.inside ≡ old.stops.inside
-      → new.stops.attempts ≡ old.stops.attempts → new.passes.queues ≡ old.passes.queues → new.passes.number ≡ old.passes.number → new.passes.taken ≡ old.passes.taken
-      → OwnAnswers old.stops new.stops → Works hears leads old h f new h f (own_of new)
+      → new.stops.attempts ≡ old.stops.attempts → new.passes.queues ≡ old.passes.queues → new.passes.number ≡ old.passes.number
+      → new.passes.taken ≡ old.passes.taken → OwnAnswers old.stops new.stops → Works hears leads old h f new h f (own_of new)
   works_still old new h f calls later ran answers inside attempts queues passes_number taken mine =
       works_own old new h f calls later ran queues passes_number (serves_still old new taken answers inside attempts) mine
 
   -- nothing was done
   pub works_none : (p : MachineCpuValue) (h : H) (f : F) → Works hears leads p h f p h f (own_of p)
-  works_none p h f = works_still p p h f refl (later_same p.stops) refl refl refl refl refl refl refl (own_still p.stops p.stops refl refl refl refl (λ _ e _. e) refl)
+  works_none p h f = works_still p p h f refl (later_same p.stops) refl refl refl refl refl refl refl
+      (own_still p.stops p.stops refl refl refl refl (λ _ e _. e) refl)
 
   -- one stretch, and then another
   pub works_then : {old mid new : MachineCpuValue} {h h₁ h₂ : H} {f f₁ f₂ : F} {own own' : Own} → Works hears leads old h f mid h₁ f₁ own

@@ -17,8 +17,8 @@ use Rattle.smp_machine.specs.Calls.{KeepsStops, RefusedInHand}
 use Rattle.smp_machine.specs.MachineCpu.{MachineValue, MachineCpuValue}
 
 -- `call_single`: a call to another CPU was queued there, and one to the CPU itself was run at once; with wait the call has ended
-pub record SingleAnswers {H : Type 0} (leads : H → Heard → H → Type 0) (m : MachineValue) (old : MachineCpuValue) (before : H) (new : MachineCpuValue) (after : H)
-    (dst func info : ℕ) (wait : Bool) (result : Result Unit SmpError) : Type 0 where
+pub record SingleAnswers {H : Type 0} (leads : H → Heard → H → Type 0) (m : MachineValue) (old : MachineCpuValue) (before : H) (new : MachineCpuValue)
+    (after : H) (dst func info : ℕ) (wait : Bool) (result : Result Unit SmpError) : Type 0 where
   pub free : IfOk result (λ _. old.stops.inside ≡ None)
   pub queued : IfOk result (λ _. dst ≢ old.calls.number → (has m.calls.online dst ≡ true)
       × CallsOne leads old.calls before new.calls after dst func info wait)
@@ -31,8 +31,8 @@ pub record SingleAnswers {H : Type 0} (leads : H → Heard → H → Type 0) (m 
   pub kept : KeepsStops old new
 
 -- `call_async`: the same by a record of the user, with no wait; E4, E2 and E1 in this order
-pub record AsyncAnswers {H : Type 0} (leads : H → Heard → H → Type 0) (m : MachineValue) (old : MachineCpuValue) (before : H) (new : MachineCpuValue) (after : H)
-    (u dst func info : ℕ) (result : Result Unit SmpError) : Type 0 where
+pub record AsyncAnswers {H : Type 0} (leads : H → Heard → H → Type 0) (m : MachineValue) (old : MachineCpuValue) (before : H) (new : MachineCpuValue)
+    (after : H) (u dst func info : ℕ) (result : Result Unit SmpError) : Type 0 where
   pub free : IfOk result (λ _. old.stops.inside ≡ None)
   pub record_is : IfOk result (λ _. u < 2)
   pub queued : IfOk result (λ _. dst ≢ old.calls.number → (has m.calls.online dst ≡ true)
@@ -92,8 +92,8 @@ pub record EachAnswers {H : Type 0} (leads : H → Heard → H → Type 0) (m : 
   pub kept : KeepsStops old new
 
 -- `call_many_within`: as `call_many` with wait, with an end of waiting: which CPUs were called, and which have not answered
-pub record WithinAnswers {H : Type 0} (leads : H → Heard → H → Type 0) (m : MachineValue) (old : MachineCpuValue) (before : H) (new : MachineCpuValue) (after : H)
-    (mask func info polls : ℕ) (result : Result Within SmpError) : Type 0 where
+pub record WithinAnswers {H : Type 0} (leads : H → Heard → H → Type 0) (m : MachineValue) (old : MachineCpuValue) (before : H) (new : MachineCpuValue)
+    (after : H) (mask func info polls : ℕ) (result : Result Within SmpError) : Type 0 where
   pub free : IfOk result (λ _. old.stops.inside ≡ None)
   pub calls : IfOk result (λ w. CallsWithin leads old.calls before new.calls after func info (is_target mask m.calls.online old.calls.number false)
       w.called w.silent polls)

@@ -100,7 +100,7 @@ pub record PatchesByOne {H F : Type 0} (hears : H → Heard → H → Type 0) (r
   pub stopped : HasStopped hears runs (patch_after first) work old h f new h' f' answer
   pub last : LastIsOwn old.passes new.passes
 
--- the same by who holds the gate, by its answer: E13 where the patch has not answered 0
+-- the same on a CPU that holds the gate, by its answer: E13 where the patch has not answered 0
 abbrev pub Patches : {H F : Type 0} → (H → Heard → H → Type 0) → (F → Called → F → Type 0) → TableValue → ℕ → Bool → MachineCpuValue → H → F
     → MachineCpuValue → H → F → Result Bool SmpError → Type 0
 Patches hears runs t k up old h f new h' f' (Ok true) = PatchesByOne hears runs t k up [] old h f new h' f' (pos 0)
@@ -127,12 +127,12 @@ CountsBy hears runs looking t k up old h f new h' f' (Err (error.KeyRange e)) = 
     ⊎ ((answer : ℤ) × (answer ≢ pos 0) × HasPatched hears runs looking t k up old h f new h' f' answer))
 CountsBy hears runs looking t k up old h f new h' f' (Err _) = ⊥
 
--- the same of who holds the gate, after these moves
+-- the same of a CPU that holds the gate, after these moves
 abbrev pub CountsFrom : {H F : Type 0} → (H → Heard → H → Type 0) → (F → Called → F → Type 0) → List OwnMove → TableValue → ℕ → Bool → MachineCpuValue → H
     → F → MachineCpuValue → H → F → Result Bool SmpError → Type 0
 CountsFrom hears runs first t k up old h f new h' f' r = CountsBy hears runs (LooksFrom first k up) t k up old h f new h' f' r
 
--- the same of who does not
+-- the same of a CPU that does not
 abbrev pub Counts : {H F : Type 0} → (H → Heard → H → Type 0) → (F → Called → F → Type 0) → TableValue → ℕ → Bool → MachineCpuValue → H → F
     → MachineCpuValue → H → F → Result Bool SmpError → Type 0
 Counts hears runs t k up old h f new h' f' r = CountsBy hears runs (LooksUpTo k up) t k up old h f new h' f' r

@@ -70,11 +70,11 @@ pub record GateIsHeld {H F : Type 0} (hears : H → Heard → H → Type 0) (run
   -- of turn and poll: none
   pub polls : (old new : MachineCpuValue) (h h' : H) (f f' : F) → Works hears runs old h f new h' f' (own_of old) → HasDone [] old new
   -- of stop_one and stop_two
-  pub short : (work : Work) (old new : MachineCpuValue) (h h' : H) (f f' : F) (answer : ℤ) → (s : HasStopped hears runs short_stop work old h f new h' f' answer)
-      → HasDone (Took ∷ Began work ∷ Gave ∷ Collected s.word ∷ []) old new
+  pub short : (work : Work) (old new : MachineCpuValue) (h h' : H) (f f' : F) (answer : ℤ)
+      → (s : HasStopped hears runs short_stop work old h f new h' f' answer) → HasDone (Took ∷ Began work ∷ Gave ∷ Collected s.word ∷ []) old new
   -- of stop_machine
-  pub long : (work : Work) (old new : MachineCpuValue) (h h' : H) (f f' : F) (answer : ℤ) → (s : HasStopped hears runs long_stop work old h f new h' f' answer)
-      → HasDone (Took ∷ Began work ∷ Collected s.word ∷ Gave ∷ []) old new
+  pub long : (work : Work) (old new : MachineCpuValue) (h h' : H) (f f' : F) (answer : ℤ)
+      → (s : HasStopped hears runs long_stop work old h f new h' f' answer) → HasDone (Took ∷ Began work ∷ Collected s.word ∷ Gave ∷ []) old new
   -- of set_key
   pub stands : (k : ℕ) (on : Bool) (old new : MachineCpuValue) (h h' : H) (f f' : F) → KeyStands hears runs k on old h f new h' f'
       → (count : ℕ) × (is_on count ≡ on) × HasDone (Took ∷ Found k count ∷ Gave ∷ []) old new

@@ -34,15 +34,15 @@ abbrev pub Reads : CpuValue → Reading → Type 0
 Reads c r = (before : List Reading) × (after : List Reading) × (c.part.readings ≡ before ++ r ∷ after)
 
 -- a CPU has polled, has found while it held the gate that key k is on or off as it is to be, and has made no stop
-pub record KeyStands {H F : Type 0} (hears : H → Heard → H → Type 0) (runs : F → Called → F → Type 0) (k : ℕ) (on : Bool) (old : MachineCpuValue) (h : H) (f : F)
-    (new : MachineCpuValue) (h' : H) (f' : F) : Type 0 where
+pub record KeyStands {H F : Type 0} (hears : H → Heard → H → Type 0) (runs : F → Called → F → Type 0) (k : ℕ) (on : Bool) (old : MachineCpuValue)
+    (h : H) (f : F) (new : MachineCpuValue) (h' : H) (f' : F) : Type 0 where
   pub count : ℕ
   pub same : is_on count ≡ on
   pub works : Works hears runs old h f new h' f' (with_moves (Took ∷ Found k count ∷ Gave ∷ []) (with_gate false (own_of old)))
 
 -- a CPU has found while it held the gate that key k is not so, and has made one stop then, with a patch that turns the key so
-pub record TurnsKey {H F : Type 0} (hears : H → Heard → H → Type 0) (runs : F → Called → F → Type 0) (t : TableValue) (k : ℕ) (on : Bool) (old : MachineCpuValue)
-    (h : H) (f : F) (new : MachineCpuValue) (h' : H) (f' : F) : Type 0 where
+pub record TurnsKey {H F : Type 0} (hears : H → Heard → H → Type 0) (runs : F → Called → F → Type 0) (t : TableValue) (k : ℕ) (on : Bool)
+    (old : MachineCpuValue) (h : H) (f : F) (new : MachineCpuValue) (h' : H) (f' : F) : Type 0 where
   pub work : Work
   pub patch : IsPatchOf t k (state_of on) work
   pub count : ℕ

@@ -32,7 +32,7 @@ pub record IsAt (m : MachineValue) (p : MachineCpuValue) : Type 0 where
   pub stops : IsAtStops m.stops p.stops
   pub queues : p.passes.queues ≡ m.queues
 
--- who has left its stop has completed it too
+-- a CPU that has left its stop has completed it too
 abbrev pub HasNotLeft : Option Inside → Type 0
 HasNotLeft None = Unit {0}
 HasNotLeft (Some stop) = stop.acked ≢ EXIT

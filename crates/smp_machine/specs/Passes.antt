@@ -87,7 +87,7 @@ pub record LastIsOwn (old new : PassesValue) : Type 0 where
 abbrev pub queue_ids : {Q A : Type 0} → List (Slotted (Option Item) (Doing Item Knows) Q A) → List TableId
 queue_ids queues = map (λ q. q.table.shared.table_id) queues
 
--- the pass of a queue's taker, once so many sources have theirs
+-- the pass of a queue's taker, once this number of sources have theirs
 pub record IsTaker (n : ℕ) (p : Pass Item Knows) : Type 0 where
   pub empty : p.me.1 ≡ []
   pub knows : view p ≡ Takes n []

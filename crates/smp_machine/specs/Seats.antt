@@ -33,7 +33,7 @@ abbrev pub SeatStopped : {H F : Type 0} → (H → Heard → H → Type 0) → (
 SeatStopped hears runs moves work old new answer =
     HasStopped hears runs moves work old.cpu old.handler old.functions new.cpu new.handler new.functions answer
 
--- it has turned a key on or off, or has found that it stands so
+-- it has turned a key on or off, or has found that it is so already
 abbrev pub SeatSets : {H F : Type 0} → (H → Heard → H → Type 0) → (F → Called → F → Type 0) → ℕ → Bool → SeatValue H F → SeatValue H F → Bool → Type 0
 SeatSets hears runs k on old new turned =
     Sets hears runs old.machine.stops k on old.cpu old.handler old.functions new.cpu new.handler new.functions turned

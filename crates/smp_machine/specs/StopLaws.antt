@@ -97,7 +97,7 @@ pub record SendsNothing (old new : CallCpuValue) : Type 0 where
   pub confirmed : new.part.confirmed ≡ old.part.confirmed
   pub log : new.log ≡ old.log
 
--- who polls, waits for the gate or for a stop sends no call
+-- a CPU that polls, waits for the gate or for a stop sends no call
 abbrev pub PollsSendNothing : {H F : Type 0} → (H → Heard → H → Type 0) → (F → Called → F → Type 0) → Type 0
 PollsSendNothing {H} {F} hears runs = (old new : MachineCpuValue) (h h' : H) (f f' : F) (own : Own) → Works hears runs old h f new h' f' own
     → SendsNothing old.calls new.calls

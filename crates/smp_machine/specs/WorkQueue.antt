@@ -11,7 +11,7 @@ abbrev pub items_by : ℕ → List Item → List Item
 items_by source [] = []
 items_by source (x ∷ xs) = if x.slot == source then x ∷ items_by source xs else items_by source xs
 
--- whose pass stands at a port: the taker's, or one source's own
+-- whose pass is at a port: the taker's, or one source's own
 abbrev pub IsAtPort : (taker : ℕ) → (port : ℕ → ℕ) → (next : ℕ) → (taken items : List Item) → ℕ → Knows → Type 0
 IsAtPort taker port next taken items p (Takes n l) = (p ≡ taker) × (n ≡ next) × (l ≡ taken)
 IsAtPort taker port next taken items p (Puts s l) = (p ≡ port s) × (s < next) × (l ≡ items_by s (taken ++ items))

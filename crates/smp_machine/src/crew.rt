@@ -40,7 +40,7 @@ pub trait Crew<H: Handler + Drop, F: StopFunc + Drop> {
         ensures same { IsSameSeat seat.old seat.new };
 
     /// Whether this CPU polls once its part is played, until all CPUs have played theirs, and once more. Else its thread ends
-    /// at once, and who waits for this CPU waits for ever. Asked once of each CPU, on its thread. Each polls, unless an `impl`
+    /// at once, and a CPU that waits for this one waits for ever. Asked once of each CPU, on its thread. Each polls, unless an `impl`
     /// says else.
     fn polls(&self, _cpu: u32) -> bool
         ensures { result ≡ false → leaves self.now _cpu }

@@ -111,7 +111,7 @@ fn collect_quietly<A: Allocator, R: Wait, H: Handler, F: StopFunc>(
     unreachable!()
 }
 
-/// Makes the patch by who holds the gate, and gives the gate up: the patch's answer.
+/// Makes the patch on a CPU that holds the gate, and gives the gate up: the patch's answer.
 pub(crate) fn patch<A: Allocator, R: Wait, H: Handler, F: StopFunc>(
     machine: &Machine<A>,
     rt: &R,
@@ -153,7 +153,7 @@ fn read<A: Allocator>(machine: &Machine<A>, me: &mut MachineCpu<A>, k: u32) -> b
     }
 }
 
-/// Whether the key stands so; then the gate is given up.
+/// Whether the key is so already; then the gate is given up.
 fn stands<A: Allocator>(machine: &Machine<A>, me: &mut MachineCpu<A>, k: u32, on: bool) -> bool
     requires at { IsAt machine.now me.old }
     requires outside { me.old.stops.inside ≡ None }
@@ -170,7 +170,7 @@ fn stands<A: Allocator>(machine: &Machine<A>, me: &mut MachineCpu<A>, k: u32, on
     true
 }
 
-/// Turns a key on or off by this patch, unless it stands so: whether there was a patch.
+/// Turns a key on or off by this patch, unless it is so already: whether there was a patch.
 pub(crate) fn set<A: Allocator, R: Wait, H: Handler, F: StopFunc>(
     machine: &Machine<A>,
     rt: &R,

@@ -1,7 +1,7 @@
 //! The changes of keys that a CPU of a machine makes.
 //!
 //! While it waits for the gate, the CPU polls. Once its own patch has run here, it only handles its interrupts until all
-//! have completed: what it has read of the key stands until it takes part in another stop.
+//! have completed: what it has read of the key holds until it takes part in another stop.
 
 ghost use Rattle.std.specs.Prelude.{◌≡◌, true, false, None, IfOk, IfErr};
 ghost use Rattle.smp_multi.specs.Names.{ReadKey};
@@ -27,7 +27,7 @@ impl<A: Allocator> Machine<A> {
     /// which makes no stop; true where it has turned it, with all its sites, in a stop of all online CPUs. Off brings any
     /// count to 0.
     ///
-    /// It takes effect in the patch, at `RUN` of its stop; where the key stands so, at the load of its count. It waits
+    /// It takes effect in the patch, at `RUN` of its stop; where the key is so already, at the load of its count. It waits
     /// for the gate, which it keeps until the stop is complete, and for its stop: all online CPUs must poll. Meanwhile it
     /// polls, until its own patch has run here; from there on it only handles its interrupts. So its reads of the key
     /// give what it has set until it takes part in another stop.

@@ -98,7 +98,7 @@ fn nudge<A: Allocator, R: Wait>(
     }
 }
 
-/// A patch of the count by one, by who holds the gate, which it gives up.
+/// A patch of the count by one, on a CPU that holds the gate, which it gives up.
 fn patch_by_one<A: Allocator, R: Wait, H: Handler, F: StopFunc>(
     machine: &Machine<A>,
     rt: &R,
@@ -125,7 +125,7 @@ fn patch_by_one<A: Allocator, R: Wait, H: Handler, F: StopFunc>(
     }
 }
 
-/// Changes the count by one, by who holds the gate, which it gives up: whether there was a patch.
+/// Changes the count by one, on a CPU that holds the gate, which it gives up: whether there was a patch.
 fn count_at_gate<A: Allocator, R: Wait, H: Handler, F: StopFunc>(
     machine: &Machine<A>,
     rt: &R,

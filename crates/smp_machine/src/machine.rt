@@ -112,7 +112,7 @@ impl<A: Allocator> Machine<A> {
     /// Gives up the machine and one of its CPUs, and answers what is left of calls, as [`smp_queue::CallTable::audit`]. Other CPUs of
     /// the machine are useless afterwards.
     ///
-    /// It takes effect at no step, since it owns the machine; it does not wait, and nobody must poll any more.
+    /// It takes effect at no step, since it owns the machine; it does not wait, and no CPU must poll any more.
     pub fn shutdown(self, last: Cpu<A>) -> Audit
         requires { IsAt self last }
         ensures audited { Audited self.calls last.calls result }

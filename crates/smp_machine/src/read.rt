@@ -25,7 +25,7 @@ pub(crate) fn read_key<A: Allocator>(
     machine.stops.read_key(&mut me.stops, k)
 }
 
-/// What stands at a site.
+/// What is at a site.
 fn read_site<A: Allocator>(
     machine: &Machine<A>,
     me: &mut MachineCpu<A>,
@@ -52,7 +52,7 @@ impl<A: Allocator> Machine<A> {
         read_key(self, &mut me.place, k)
     }
 
-    /// What stands at a site, a NOP or a jump (`arch_static_branch`, `arch_static_branch_jump`), at a load of its word, as
+    /// What is at a site, a NOP or a jump (`arch_static_branch`, `arch_static_branch_jump`), at a load of its word, as
     /// [`smp_multi::StopTable::read_site`]. E4 where the machine has no such site, or this CPU has its interrupts off,
     /// which makes no step. One lawful table says all that the CPU has read since its interrupts last went on. It does not
     /// wait.

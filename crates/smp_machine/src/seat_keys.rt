@@ -20,7 +20,7 @@ impl<'m, A: Allocator, R: Wait, H: Handler + Drop, F: StopFunc + Drop> Seat<'m, 
     /// `static_key_disable`): false where it stood so, which makes no stop; true where it has turned it, with all its sites,
     /// in a stop of all online CPUs. Off brings any count to 0.
     ///
-    /// It takes effect in the patch, at `RUN` of its stop; where the key stands so, at the load of its count. It waits
+    /// It takes effect in the patch, at `RUN` of its stop; where the key is so already, at the load of its count. It waits
     /// for the gate, which it keeps until the stop is complete, and for its stop: all online CPUs must poll. Meanwhile it
     /// polls, until its own patch has run here; from there on it only handles its interrupts. So its reads of the key
     /// give what it has set until it takes part in another stop.
@@ -105,7 +105,7 @@ impl<'m, A: Allocator, R: Wait, H: Handler + Drop, F: StopFunc + Drop> Seat<'m, 
         self.machine.read_key(&mut self.cpu, k)
     }
 
-    /// What stands at a site, a NOP or a jump, at a load of its word, as [`crate::Machine::read_site`]
+    /// What is at a site, a NOP or a jump, at a load of its word, as [`crate::Machine::read_site`]
     /// (`arch_static_branch`, `arch_static_branch_jump`). It does not wait.
     ///
     /// E4 (`SmpError::BadArgument`) where the machine has no such site, or this CPU has its interrupts off, which makes no

@@ -13,34 +13,36 @@ use std::alloc::Allocator;
 use std::array;
 use std::sync::atomic::{AtomicBool, Ordering};
 
-/// After so many turns in vain a CPU looks for those that keep it waiting, and again after so many more.
+/// A CPU looks for those that keep it waiting each time that it has made this number of turns in vain.
 const PATIENCE: u32 = 65_536;
 
-/// For each CPU, whether another one waits for it, and it has taken no work since that found a work in its queue.
+/// Which CPUs keep another one waiting.
 #[derive(Drop)]
 pub(crate) struct Stalls {
+    /// A flag for each CPU. A CPU that waits sets it where it finds a work in that CPU's queue. A CPU that takes a work clears
+    /// its own flag.
     late: [AtomicBool; NR_CPUS as usize],
 }
 
 impl Stalls {
-    /// No CPU waits.
+    /// No flag is set.
     pub(crate) fn new() -> Stalls {
         Stalls {
             late: array::from_fn(|_| AtomicBool::new(false)),
         }
     }
 
-    /// Whether a CPU, by its number modulo 32, keeps another one waiting.
+    /// The flag of a CPU, by its number modulo 32.
     fn is_late(&self, cpu: u32) -> bool {
         self.late[(cpu % NR_CPUS) as usize].load(Ordering::SeqCst)
     }
 
-    /// Notes whether a CPU, by its number modulo 32, keeps another one waiting.
+    /// Sets or clears the flag of a CPU, by its number modulo 32.
     fn set(&self, cpu: u32, is_late: bool) {
         self.late[(cpu % NR_CPUS) as usize].store(is_late, Ordering::SeqCst);
     }
 
-    /// A CPU takes a work.
+    /// Clears the flag of a CPU that has taken a work.
     pub(crate) fn answers(&self, cpu: u32) {
         if self.is_late(cpu) {
             self.set(cpu, false);
@@ -48,8 +50,10 @@ impl Stalls {
     }
 }
 
-/// Notes whether this CPU has a work that it has not taken. It looks once more behind its note, since the CPU may have taken the
-/// work before that.
+/// Sets the flag of this CPU where its queue has a work. The CPU may have taken the work before the flag was set, and then it
+/// does not clear it. So the queue is looked at once more, and the flag is cleared where the queue is empty then.
+///
+/// A flag that a third CPU sets in between is cleared too. That CPU looks again while it waits.
 fn note_one<A: Allocator>(machine: &Machine<A>, me: &mut MachineCpu<A>, cpu: u32)
     requires at { IsAt machine.now me.old }
     requires within { cpu < cpus }
@@ -57,12 +61,13 @@ fn note_one<A: Allocator>(machine: &Machine<A>, me: &mut MachineCpu<A>, cpu: u32
 {
     if machine.queues.has_work(&mut me.passes, cpu) {
         machine.stalls.set(cpu, true);
-        let is_late = machine.queues.has_work(&mut me.passes, cpu);
-        machine.stalls.set(cpu, is_late);
+        if !machine.queues.has_work(&mut me.passes, cpu) {
+            machine.stalls.set(cpu, false);
+        }
     }
 }
 
-/// Notes which CPUs have a work that they have not taken.
+/// Looks at the queue of each CPU that is online, and sets the flags of those that have a work there.
 fn note_all<A: Allocator>(machine: &Machine<A>, me: &mut MachineCpu<A>)
     requires at { IsAt machine.now me.old }
     ensures { me.new ≡ me.old }
@@ -72,7 +77,7 @@ fn note_all<A: Allocator>(machine: &Machine<A>, me: &mut MachineCpu<A>)
     }
 }
 
-/// At each 65,536th turn that this CPU makes in vain, notes which CPUs have a work that they have not taken.
+/// At each 65,536th turn that this CPU makes in vain, sets the flags of the CPUs whose queues have a work.
 pub(crate) fn note_late<A: Allocator>(machine: &Machine<A>, me: &mut MachineCpu<A>, turns: u32)
     requires at { IsAt machine.now me.old }
     ensures { me.new ≡ me.old }
@@ -82,7 +87,7 @@ pub(crate) fn note_late<A: Allocator>(machine: &Machine<A>, me: &mut MachineCpu<
     }
 }
 
-/// These CPUs without those that keep no other waiting.
+/// Those of these CPUs whose flags are set.
 fn late_of(stalls: &Stalls, online: CpuMask) -> CpuMask
     ensures { (c : ℕ) → has result c ≡ true → has online c ≡ true }
 {
@@ -96,10 +101,12 @@ fn late_of(stalls: &Stalls, online: CpuMask) -> CpuMask
 }
 
 impl<A: Allocator> Machine<A> {
-    /// The CPUs that keep another one waiting in a stop: each has had a work in its queue after some 65,536 turns of that one, and
-    /// has taken no work since. It is for a thread that watches over the others, and makes no step of a table. It does not wait.
+    /// The CPUs that keep another one waiting in a stop. A CPU that waits looks at all queues at each 65,536th turn that it makes
+    /// in vain. It notes the CPUs that have a work there. Each of them is named until it takes a work.
     ///
-    /// That a CPU is named is not promised by a clause: another one has to wait for it, and to have looked.
+    /// It is for a thread that watches over the others. It makes no step of a table, and does not wait. The notes are loaded one
+    /// by one, so a CPU may be named for a moment after it has taken its work. No clause promises that a CPU is named: another
+    /// one has to wait for it, and to have looked.
     pub fn silent(&self) -> CpuMask
         ensures { (c : ℕ) → has result c ≡ true → has self.now.stops.setting.online c ≡ true }
     {

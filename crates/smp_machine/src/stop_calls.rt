@@ -24,8 +24,8 @@ use std::sync::Wait;
 impl<A: Allocator> Machine<A> {
     /// Runs a function on one CPU, as a stop of its own (`kernel/stop_machine.c: stop_one_cpu`): its answer.
     ///
-    /// The stop begins at the store of its roll, by who holds the gate. It waits for the gate, which it gives up once the
-    /// work is queued, and for its stop: `dst` must poll, and who holds the gate. Meanwhile it polls.
+    /// The stop begins at the store of its roll, with the gate held. It waits for the gate, which it gives up once the
+    /// work is queued, and for its stop: `dst` must poll, and the CPU that holds the gate. Meanwhile it polls.
     ///
     /// Where `dst` is the calling CPU, the function is called here, and its answer is what it has answered.
     ///
@@ -70,8 +70,8 @@ impl<A: Allocator> Machine<A> {
     /// Stops two CPUs together and runs a function on the first of them (`kernel/stop_machine.c: stop_two_cpus`): its
     /// answer.
     ///
-    /// The stop begins at the store of its roll, by who holds the gate. It waits for the gate, which it gives up once the
-    /// works are queued, and for its stop: `a` and `b` must poll, and who holds the gate. Meanwhile it polls.
+    /// The stop begins at the store of its roll, with the gate held. It waits for the gate, which it gives up once the
+    /// works are queued, and for its stop: `a` and `b` must poll, and the CPU that holds the gate. Meanwhile it polls.
     ///
     /// Where `a` is the calling CPU, the function is called here, and its answer is what it has answered.
     ///
@@ -120,7 +120,7 @@ impl<A: Allocator> Machine<A> {
     /// the CPUs of `active` that are online, or with `None` the first that is online; where there is no such CPU, the
     /// function runs nowhere and the answer is 0.
     ///
-    /// The stop begins at the store of its roll, by who holds the gate. It waits for the gate, which it keeps until the
+    /// The stop begins at the store of its roll, with the gate held. It waits for the gate, which it keeps until the
     /// stop is complete, and for its stop: all online CPUs must poll. Meanwhile it polls.
     ///
     /// Where the calling CPU is the only active one that is online, the function is called here, and its answer is what it

@@ -66,7 +66,7 @@ impl<A: Allocator> Passes<A> {
 }
 
 impl<A: Allocator> Stoppers<A> {
-    /// Puts the work of the own stop, which is open, into this CPU's queue (`cpu_stop_queue_work`), by who holds the gate, at
+    /// Puts the work of the own stop, which is open, into this CPU's queue (`cpu_stop_queue_work`), by a CPU that holds the gate, at
     /// the compare-exchange of its tail; false where it was full. It may wait while another CPU is between two steps of a call on the same
     /// queue. A CPU that takes a work before its slot is open drops it as stale, so no other way leads into a queue.
     pub(crate) fn put<R: Wait>(

@@ -38,7 +38,8 @@ impl<'e, H: Handler + Drop, F: StopFunc + Drop, C: Crew<H, F>> Promise<Option<Pl
     ghost use Rattle.std.specs.Prelude.{IfSome};
     ghost use Rattle.smp_machine.specs.Crews.{IsPlayed};
 
-    ghost kept_by = { λ t r. IfSome r (λ p. IsPlayed H.leads F.leads (C.begins t.crew.now) (C.plays t.crew.now) (C.leaves t.crew.now) t.machine.now t.number p) };
+    ghost kept_by = { λ t r. IfSome r (λ p. IsPlayed H.leads F.leads (C.begins t.crew.now) (C.plays t.crew.now) (C.leaves t.crew.now)
+        t.machine.now t.number p) };
 }
 
 /// A thread that was started.
@@ -177,8 +178,8 @@ impl<'e, R: Wait + Threads + Sync, C: Sync> Run<'e, R, C> {
         requires started { AreStarted self.now.machine.now self.now.crew.now (members self.now.machine.now.calls.online) handles.items }
         requires room { vec_len handles ≤ vec_capacity back }
         requires none { (vec_len back ≡ 0) × (back.items ≡ []) }
-        ensures { IfSome result (λ v. ArePlayed H.leads F.leads (C.begins self.now.crew.now) (C.plays self.now.crew.now) (C.leaves self.now.crew.now) self.now.machine.now
-            (members self.now.machine.now.calls.online) v.items) }
+        ensures { IfSome result (λ v. ArePlayed H.leads F.leads (C.begins self.now.crew.now) (C.plays self.now.crew.now) (C.leaves self.now.crew.now)
+            self.now.machine.now (members self.now.machine.now.calls.online) v.items) }
     {
         for handle in handles {
             let played = handle.join(self.rt)?;
@@ -201,8 +202,8 @@ impl<'e, R: Wait + Threads + Sync, C: Sync> Run<'e, R, C> {
         C: Crew<H, F>,
         requires machine { C.runs_on self.now.crew.now self.now.machine.now }
         requires members { AreMembers (C.begins self.now.crew.now) self.now.machine.now (members self.now.machine.now.calls.online) all.items }
-        ensures { IfSome result (λ v. ArePlayed H.leads F.leads (C.begins self.now.crew.now) (C.plays self.now.crew.now) (C.leaves self.now.crew.now) self.now.machine.now
-            (members self.now.machine.now.calls.online) v.items) }
+        ensures { IfSome result (λ v. ArePlayed H.leads F.leads (C.begins self.now.crew.now) (C.plays self.now.crew.now) (C.leaves self.now.crew.now)
+            self.now.machine.now (members self.now.machine.now.calls.online) v.items) }
     {
         let count = all.len();
         let handles = Vec::with_capacity(alloc, count).ok()?;
@@ -238,15 +239,16 @@ fn run_scope<
 ) -> Option<Vec<Played<H, F>, Global>>
     requires machine { C.runs_on crew.now machine.now }
     requires members { AreMembers (C.begins crew.now) machine.now (members machine.now.calls.online) all.items }
-    ensures { IfSome result (λ v. ArePlayed H.leads F.leads (C.begins crew.now) (C.plays crew.now) (C.leaves crew.now) machine.now (members machine.now.calls.online) v.items) }
+    ensures { IfSome result (λ v. ArePlayed H.leads F.leads (C.begins crew.now) (C.plays crew.now) (C.leaves crew.now)
+        machine.now (members machine.now.calls.online) v.items) }
 {
     thread::scope(
         thread::scope_env(),
         rt,
         move |scope| -> Option<Vec<Played<H, F>, Global>>
             requires { C.runs_on crew.now machine.now × AreMembers (C.begins crew.now) machine.now (members machine.now.calls.online) all.items }
-            ensures { IfSome result (λ v. ArePlayed H.leads F.leads (C.begins crew.entry.now) (C.plays crew.entry.now) (C.leaves crew.entry.now) machine.entry.now
-                (members machine.entry.now.calls.online) v.items) }
+            ensures { IfSome result (λ v. ArePlayed H.leads F.leads (C.begins crew.entry.now) (C.plays crew.entry.now) (C.leaves crew.entry.now)
+                machine.entry.now (members machine.entry.now.calls.online) v.items) }
         {
             let run = Run {
                 rt,

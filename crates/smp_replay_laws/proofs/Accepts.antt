@@ -40,7 +40,7 @@ use Rattle.smp_replay_laws.proofs.Queues.{length-placed, order_told, placed_at, 
 use Rattle.smp_replay_laws.proofs.States.{FollowsBut, LeavesStops, but_placed, but_set, cpu_here, follows_but, follows_placed, follows_same}
 use Rattle.smp_replay_laws.proofs.States.{follows_set, leaves_all, leaves_cpu, leaves_place, leaves_then}
 
--- These events lead to a state that stands as the calls do, and leave all else as it was.
+-- These events lead to a state that agrees with the calls, and leave all else as it was.
 pub record Reaches (online : ℕ) (b : CallState) (s : StateValue) (es : List (ℕ × Event)) : Type 0 where
   pub t : StateValue
   pub runs : RunsTo s es t

@@ -79,7 +79,7 @@ module _ (a : CallState) (me : ℕ) where
   runs_exchange to n true = runs_appended to (a.held me)
   runs_exchange to n false = refl
 
--- where a CPU stands after the steps that end in several ways
+-- where a CPU is after the steps that end in several ways
 post_flags : (b c : Bool) (q : Posting) (p : Posted) → PostIs (cond b (ends note.Busy) (cond c (goes_to q post.Lock) (ends note.NoCpu))).next p
 post_flags true c q p = tt
 post_flags false true q p = tt

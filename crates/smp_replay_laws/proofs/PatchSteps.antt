@@ -157,7 +157,7 @@ answer_to : (old : ℕ) (new : Option ℕ) → answer_by (Some (patch_to old new
 answer_to old None = refl
 answer_to old (Some n) = refl
 
--- what the model wants of who has patched is what the machine answers
+-- what the model wants of the CPU that has patched is what the machine answers
 pub answers_patch : (u : Setup) (words : LabelWords) (work : Work) (count : ℕ) (stop : Stop) (made rest : List Change) → work.func < 4
     → stop.task.func ≡ work.func → stop.task.arg ≡ work.arg → PartIs words work.func made rest stop.patch
     → (made ≡ [] → count_at words work.func ≡ count) → ((change : Change) (more : List Change) → made ≡ change ∷ more → plan_at u work count ≡ change ∷ (more ++ rest))

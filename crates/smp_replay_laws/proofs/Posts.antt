@@ -66,7 +66,7 @@ module _ (online : ℕ) (a : CallState) (s : StateValue) (f : Follows online a s
 module _ (online : ℕ) (a : CallState) (at : Word → ℕ) (control : ℕ → ControlValue) (shown : Shows a at control) (me : ℕ) (below : me < cpus)
     (pasts : List Past)
     (s : StateValue) (f : Follows online a s) where
-  -- the events that the step of this stage tells lead to a state that stands as the calls that it tells
+  -- the events that the step of this stage tells lead to a state that agrees with the calls that it tells
   abbrev pub Accepted : Stage → Type 0
   Accepted stage = let seen = seen_then at (control me).drain me stage in Reaches online (tells a seen) s (events_of_step pasts seen)
 

@@ -1,4 +1,4 @@
--- A state of the model of events with one CPU or one record set, and the calls of the machine that it stands as.
+-- A state of the model of events with one CPU or one record set, and the calls of the machine with which it agrees.
 use Rattle.std.proofs.Common.{◌≡◌, ◌≢◌, ℕ, ◌<◌, length, length-set, refl, ap, sym, ◌∙◌, inl, inr, arith}
 use Rattle.std.proofs.lemmas.List.{get_or-set_same, get_or-set_other}
 use Rattle.std.proofs.lemmas.Bool.{cases_eq}
@@ -22,7 +22,7 @@ place_here s id p l b = get_or-set_same s.places id p Free (omega arith)
 pub place_else : (s : StateValue) (id : ℕ) (p : Place) (j : ℕ) → j ≢ id → place_at (with_place id p s) j ≡ place_at s j
 place_else s id p j ne = get_or-set_other s.places id j p Free ne
 
--- A state that stands as the calls of the machine do, but for those of one CPU.
+-- A state that agrees with the calls of the machine, but for those of one CPU.
 pub record FollowsBut (online me : ℕ) (a : CallState) (s : StateValue) : Type 0 where
   pub whole : s.setting.without ≡ nothing_left_out
   pub online_is : s.setting.online ≡ online

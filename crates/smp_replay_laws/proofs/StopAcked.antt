@@ -122,7 +122,7 @@ module _ (v : StopsValue) (p : StopState) (shown : StopShown p v) (me : ℕ) (be
       calling = cond (a + 1 == 3) (put p.calling me (carried me p.now.patching (p.calling me))) p.calling;
     }
 
-    -- who has called its function, has called it still
+    -- a CPU that has called its function has called it still
     carried_same : (g : Calling) → has_called (carried_call g) ≡ has_called g
     carried_same Idle = refl
     carried_same (Calls call) = refl

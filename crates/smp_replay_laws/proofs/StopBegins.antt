@@ -186,7 +186,7 @@ first_handles online cpu t x (command.Key key) e = tt
 first_handles online cpu t x (command.Site site) e = tt
 first_handles online cpu t x (command.Nudge key up) e = tt
 
--- where a CPU stands in the stop half once a command has begun
+-- where a CPU is in the stop half once a command has begun
 pub begun_at : StopControlValue → Option StopStage → StopControlValue
 begun_at x None = x
 begun_at x (Some stage) = record x { stage = Some stage }

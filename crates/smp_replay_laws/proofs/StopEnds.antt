@@ -196,7 +196,7 @@ module _ (v : StopsValue) (p : StopState) (shown : StopShown p v) (me : ℕ) (be
     not_mine (Refills n) k = ne_eqb n me k
     not_mine (Raises n) k = ne_eqb n me k
 
-    -- of a CPU that stands so in an open stop
+    -- of a CPU that is at this place in an open stop
     ends_so : (a answer : ℕ) (w : Work) (stood : Standing) → (p.now.stop x.slot).standing me ≡ stood → acked_of stood ≡ a → is_called stood ≡ false
         → is_of stood ≡ true
         → (p.now.stop x.slot).work ≡ w → Old.answer ≡ as_i32 answer → ((p.now.stop x.slot).phase ≢ 0 → a ≡ 4 → p.now.irq me ≡ true)

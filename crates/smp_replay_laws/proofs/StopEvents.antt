@@ -206,7 +206,7 @@ module _ (s : StateValue) (me : ℕ) (whole : s.setting.without ≡ nothing_left
     unfolding complete_by
     completes_one answer kind ran = rw (inside, lt-ltb source 32 below, completed_one (stop_at s source) me answer (cpu_at s me).irq kind ran) refl
 
-    -- after its function, or with the answer of who has run none
+    -- after its function, or with the answer of a CPU that has run none
     pub completes_round : (answer : ℤ) → (stop_at s source).task.kind ≢ One → 4 ≤ acked_by (stop_at s source) me
         → is_cpu (stop_at s source).raiser me ≡ false → (cpu_at s me).irq ≡ true → MayAnswer (stop_at s source) me answer
         → complete_by me answer s ≡ Ok (done_with answer)

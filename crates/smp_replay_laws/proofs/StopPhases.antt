@@ -81,7 +81,7 @@ module _ (v : StopsValue) (p : StopState) (shown : StopShown p v) (me : ℕ) (be
   at_stage : (w : Visit) (stage : RoundStage) → C.stage ≡ Some (Advance w stage) → SitsInRound U me C.changes w stage (shown.seat me)
   at_stage = sits v p shown me below pasts sized s whole cpus_are f quiet
 
-  -- who acknowledges RUN where it is active has called its function
+  -- a CPU that acknowledges RUN where it is active has called its function
   has_called_it : (x : Visit) (answer : ℕ) (ran : Bool) (w : Work) (g : Calling) → IsLoaded x w → w.kind ≢ Patch → RunsIf me x ran → IsAcking x answer ran g
       → x.acked + 1 ≡ 3 → has w.active me ≡ true → has_called g ≡ true
   has_called_it x answer true w Idle loaded kind runs acking three active = absurd (kind (sym loaded.kind ∙ acking))

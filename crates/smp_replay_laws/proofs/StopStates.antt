@@ -1,4 +1,4 @@
--- A state of the model with one stop or one CPU's part of the stops changed, and the stops of the machine that it stands as.
+-- A state of the model with one stop or one CPU's part of the stops changed, and the stops of the machine with which it agrees.
 use Rattle.std.proofs.Common.{◌≡◌, ◌≢◌, ℕ, ◌<◌, List, length, Some, ap, sym, ◌∙◌, subst, inl, inr, arith}
 use Rattle.std.proofs.lemmas.List.{get_or-set_same, get_or-set_other}
 use Rattle.std.proofs.lemmas.Bool.{cases_eq}

@@ -23,7 +23,7 @@ use Rattle.smp_replay_laws.specs.Stops.{CpuIs, FollowsStops, MemberIs, StopIs}
 use Rattle.smp_replay_laws.proofs.States.{cpu_else, cpu_here}
 use Rattle.smp_replay_laws.proofs.StopStates.{IsAlike, LeavesCalls, cpu_alike, follows_step, stop_else, stop_here, stops_set}
 
--- These events lead to a state that stands as the stops do, and leave the calls as they were.
+-- These events lead to a state that agrees with the stops, and leave the calls as they were.
 pub record ReachesStops (q : StopState) (at' : Word → ℕ) (pasts' : List Past) (s : StateValue) (es : List (ℕ × Event)) : Type 0 where
   pub t : StateValue
   pub runs : RunsTo s es t

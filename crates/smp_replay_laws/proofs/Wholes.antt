@@ -76,7 +76,7 @@ use Rattle.smp_replay_laws.proofs.Handles.{handles_step}
 use Rattle.smp_replay_laws.proofs.Pasts.{begun_same, keeps_past, past_else, past_here}
 use Rattle.smp_replay_laws.proofs.Posts.{Accepted, looks_step, posts_step, sends_step}
 
--- A core and a state of the model that stands as its calls and its stops do, between two steps.
+-- A core and a state of the model that agrees with its calls and its stops, between two steps.
 pub record StandsAll (core : CoreValue) (a : CallState) (p : StopState) (pasts : List Past) (s : StateValue) : Type 0 where
   pub whole : IsWhole core
   pub calls : Shown a core

@@ -1,4 +1,4 @@
--- A state of the model of events that stands as the calls of a machine do.
+-- A state of the model of events that agrees with the calls of a machine.
 use Rattle.std.specs.Prelude.{◌≡◌, ◌≢◌, ℕ, ◌<◌, Bool, true, false, List, map, length, Option, Some, None}
 use Rattle.smp_words.specs.Size.{cpus, records, owner}
 use Rattle.smp_words.specs.declared.call.Call.{Call as MachineCall}
@@ -85,7 +85,7 @@ BegunIs (SyncCall call) p = p.begun ≡ call.id
 BegunIs (AsyncCall call) p = p.begun ≡ call.id
 BegunIs _ p = Unit {0}
 
--- it has stored so much of the call that it posts
+-- what a CPU has stored of the call that it posts, by its next step
 abbrev pub PostIsAt : Posting → PostStage → Post → Type 0
 PostIsAt q post.LoadFlags p = Unit {0}
 PostIsAt q post.Lock p = Unit {0}
@@ -107,7 +107,7 @@ abbrev pub HandlesWithOn : Option Stage → Bool → Type 0
 HandlesWithOn (Some (stage.Handle at)) on = on ≡ true
 HandlesWithOn _ on = Unit {0}
 
--- What each CPU has kept of its steps fits where it stands.
+-- What each CPU has kept of its steps fits its place in its command.
 pub record KeepsPast (a : CallState) (control : ℕ → ControlValue) (pasts : List Past) : Type 0 where
   pub pasts_are : length pasts ≡ 32
   pub begun : (cpu : ℕ) → cpu < cpus → BegunIs (a.running cpu) (past_at pasts cpu)

@@ -32,7 +32,7 @@ abbrev pub PartIs : LabelWords → ℕ → List (Place × ℕ) → List (Place �
 PartIs words key [] rest told = told ≡ None
 PartIs words key (change ∷ made) rest told = HasLeft words key rest told
 
--- the same of who patches; a patch that has not begun has nothing told
+-- the same of the CPU that patches; nothing is told of a patch that has not begun
 abbrev pub PatchingIs : LabelWords → Patching → Option Patch → Type 0
 PatchingIs words Whole told = told ≡ None
 PatchingIs words (Patches cpu work count made rest) told = PartIs words work.func made rest told

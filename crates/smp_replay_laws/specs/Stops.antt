@@ -1,4 +1,4 @@
--- A state of the model of events that stands as the stops of a machine do, where none of them is a patch.
+-- A state of the model of events that agrees with the stops of a machine, where none of them is a patch.
 use Rattle.std.specs.Int.{w32, cast_signed}
 use Rattle.std.specs.Prelude.{◌≡◌, ◌≢◌, ℕ, ℤ, pos, ◌<◌, ◌%◌, ◌^◌, Bool, true, false, List, length, Option, Some, None}
 use Rattle.smp_words.specs.Size.{cpus}
@@ -27,7 +27,7 @@ use Rattle.smp_events.specs.declared.past.Past.{Past}
 abbrev pub told_work : Work → Task
 told_work w = record { kind = w.kind; mask = w.mask; active = w.active; func = w.func; arg = w.arg }
 
--- who is to raise the phase: the last to acknowledge, until it has stored the phase
+-- the CPU that is to raise the phase: the last to acknowledge, until it has stored the phase
 abbrev pub raiser_of : Raising → Option ℕ
 raiser_of Nobody = None
 raiser_of (Refills cpu) = Some cpu
@@ -111,7 +111,7 @@ pub record FollowsStops (p : StopState) (at : Word → ℕ) (pasts : List Past) 
   pub keys : (key : ℕ) → count_at s.words key ≡ at (Key key)
   pub sites : (site : ℕ) → site_at s.words site ≡ at (Site site)
 
--- it has stored so much of the stop that it begins
+-- what a CPU has stored of the stop that it begins, by the field that it stores next
 abbrev pub DraftIs : Work → Field → Draft → Type 0
 DraftIs w field.Kind d = Unit {0}
 DraftIs w field.Mask d = d.kind ≡ w.kind

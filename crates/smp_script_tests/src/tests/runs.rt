@@ -23,17 +23,73 @@ fn run<R: Threads + Wait + Sync, P: Pace + Sync>(
     (answer, writer.into_inner())
 }
 
-const FOUR: &[u8] =
-    b"smp 1 run\ncpus 4 0-3\ndo 0 100 many wait 0-3 1 0\ndo 0 100 many nowait 0-3 1 0\ndo 1 100 many wait 0-3 1 0\ndo 1 100 many nowait 0-3 1 0\ndo 2 100 many wait 0-3 1 0\ndo 2 100 many nowait 0-3 1 0\ndo 3 100 many wait 0-3 1 0\ndo 3 100 many nowait 0-3 1 0\n";
+const FOUR: &[u8] = b"\
+    smp 1 run\n\
+    cpus 4 0-3\n\
+    do 0 100 many wait 0-3 1 0\n\
+    do 0 100 many nowait 0-3 1 0\n\
+    do 1 100 many wait 0-3 1 0\n\
+    do 1 100 many nowait 0-3 1 0\n\
+    do 2 100 many wait 0-3 1 0\n\
+    do 2 100 many nowait 0-3 1 0\n\
+    do 3 100 many wait 0-3 1 0\n\
+    do 3 100 many nowait 0-3 1 0\n\
+    ";
 
-const FOUR_PRINT: &[u8] =
-    b"3 1-3\n4 1-3\n5 0,2-3\n6 0,2-3\n7 0-1,3\n8 0-1,3\n9 0-2\n10 0-2\ntally 0 1 200 200\ntally 0 2 200 200\ntally 0 3 200 200\ntally 1 0 200 200\ntally 1 2 200 200\ntally 1 3 200 200\ntally 2 0 200 200\ntally 2 1 200 200\ntally 2 3 200 200\ntally 3 0 200 200\ntally 3 1 200 200\ntally 3 2 200 200\ndrained\n";
+const FOUR_PRINT: &[u8] = b"\
+    3 1-3\n\
+    4 1-3\n\
+    5 0,2-3\n\
+    6 0,2-3\n\
+    7 0-1,3\n\
+    8 0-1,3\n\
+    9 0-2\n\
+    10 0-2\n\
+    tally 0 1 200 200\n\
+    tally 0 2 200 200\n\
+    tally 0 3 200 200\n\
+    tally 1 0 200 200\n\
+    tally 1 2 200 200\n\
+    tally 1 3 200 200\n\
+    tally 2 0 200 200\n\
+    tally 2 1 200 200\n\
+    tally 2 3 200 200\n\
+    tally 3 0 200 200\n\
+    tally 3 1 200 200\n\
+    tally 3 2 200 200\n\
+    drained\n\
+    ";
 
-const STOPS: &[u8] =
-    b"smp 1 run\ncpus 4 0,1,3\nlabels 1 0:0,0:1\ndo 0 1 set 0 on\ndo 0 1 set 0 on\ndo 1 1 two 3 1 2 7\ndo 3 1 one 2 5 5\ndo 3 1 sync 2 5 5\ndo 0 1 machine none 1 0\n";
+const STOPS: &[u8] = b"\
+    smp 1 run\n\
+    cpus 4 0,1,3\n\
+    labels 1 0:0,0:1\n\
+    do 0 1 set 0 on\n\
+    do 0 1 set 0 on\n\
+    do 1 1 two 3 1 2 7\n\
+    do 3 1 one 2 5 5\n\
+    do 3 1 sync 2 5 5\n\
+    do 0 1 machine none 1 0\n\
+    ";
 
-const STOPS_PRINT: &[u8] =
-    b"4 true\n5 false\n6 7\n7 E3\n8 E1\n9 0\ntally 0 1 0 0\ntally 0 3 0 0\ntally 1 0 0 0\ntally 1 3 0 0\ntally 3 0 0 0\ntally 3 1 0 0\nkey 0 on\nsite 0 JMP\nsite 1 NOP\ndrained\n";
+const STOPS_PRINT: &[u8] = b"\
+    4 true\n\
+    5 false\n\
+    6 7\n\
+    7 E3\n\
+    8 E1\n\
+    9 0\n\
+    tally 0 1 0 0\n\
+    tally 0 3 0 0\n\
+    tally 1 0 0 0\n\
+    tally 1 3 0 0\n\
+    tally 3 0 0 0\n\
+    tally 3 1 0 0\n\
+    key 0 on\n\
+    site 0 JMP\n\
+    site 1 NOP\n\
+    drained\n\
+    ";
 
 #[test]
 fn runs_of_four_cpus(rt: HostRuntime) {
@@ -52,10 +108,32 @@ fn stops_keys_and_refusals(rt: HostRuntime) {
 // Row by row: a key that stands so makes no stop; one raised from 0 or lowered to 0 turns; below 0 there is no count.
 #[test]
 fn keys_that_are_counted(rt: HostRuntime) {
-    let script: &[u8] =
-        b"smp 1 run\ncpus 2 0-1\nlabels 1 0:0\ndo 0 2 inc 0\ndo 0 1 dec 0\ndo 0 1 set 0 on\ndo 0 1 dec 0\ndo 0 1 dec 0\ndo 0 3 inc 0\ndo 0 1 set 0 off\n";
-    let print: &[u8] =
-        b"4 false\n5 false\n6 false\n7 true\n8 E13\n9 false\n10 true\ntally 0 1 0 0\ntally 1 0 0 0\nkey 0 off\nsite 0 NOP\ndrained\n";
+    let script: &[u8] = b"\
+        smp 1 run\n\
+        cpus 2 0-1\n\
+        labels 1 0:0\n\
+        do 0 2 inc 0\n\
+        do 0 1 dec 0\n\
+        do 0 1 set 0 on\n\
+        do 0 1 dec 0\n\
+        do 0 1 dec 0\n\
+        do 0 3 inc 0\n\
+        do 0 1 set 0 off\n\
+        ";
+    let print: &[u8] = b"\
+        4 false\n\
+        5 false\n\
+        6 false\n\
+        7 true\n\
+        8 E13\n\
+        9 false\n\
+        10 true\n\
+        tally 0 1 0 0\n\
+        tally 1 0 0 0\n\
+        key 0 off\n\
+        site 0 NOP\n\
+        drained\n\
+        ";
     let (answer, written) = run(&rt, rt.alloc(), script, &FreePace);
     assert_eq!(rt; answer, Ok(Outcome::Done));
     assert_eq!(rt; written.as_slice(), print);
@@ -64,10 +142,32 @@ fn keys_that_are_counted(rt: HostRuntime) {
 // 65,535 is the last count.
 #[test]
 fn a_key_that_is_full(rt: HostRuntime) {
-    let script: &[u8] =
-        b"smp 1 run\ncpus 2 0-1\nlabels 1 0:0\ndo 0 10000 inc 0\ndo 0 10000 inc 0\ndo 0 10000 inc 0\ndo 0 10000 inc 0\ndo 0 10000 inc 0\ndo 0 10000 inc 0\ndo 0 10000 inc 0\n";
-    let print: &[u8] =
-        b"4 false\n5 false\n6 false\n7 false\n8 false\n9 false\n10 E13\ntally 0 1 0 0\ntally 1 0 0 0\nkey 0 on\nsite 0 JMP\ndrained\n";
+    let script: &[u8] = b"\
+        smp 1 run\n\
+        cpus 2 0-1\n\
+        labels 1 0:0\n\
+        do 0 10000 inc 0\n\
+        do 0 10000 inc 0\n\
+        do 0 10000 inc 0\n\
+        do 0 10000 inc 0\n\
+        do 0 10000 inc 0\n\
+        do 0 10000 inc 0\n\
+        do 0 10000 inc 0\n\
+        ";
+    let print: &[u8] = b"\
+        4 false\n\
+        5 false\n\
+        6 false\n\
+        7 false\n\
+        8 false\n\
+        9 false\n\
+        10 E13\n\
+        tally 0 1 0 0\n\
+        tally 1 0 0 0\n\
+        key 0 on\n\
+        site 0 JMP\n\
+        drained\n\
+        ";
     let (answer, written) = run(&rt, rt.alloc(), script, &FreePace);
     assert_eq!(rt; answer, Ok(Outcome::Done));
     assert_eq!(rt; written.as_slice(), print);
@@ -76,10 +176,67 @@ fn a_key_that_is_full(rt: HostRuntime) {
 // Each family, each stop and each change of a key, with each refusal.
 #[test]
 fn each_request_and_its_refusals(rt: HostRuntime) {
-    let script: &[u8] =
-        b"smp 1 run\ncpus 4 0-1,3\nlabels 1 -\ndo 3 1 sync 2 5 5\ndo 0 2 sync 1 5 5\ndo 0 3 sync 0 5 5\ndo 1 9 user 1 3 5 5\ndo 1 1 user 0 2 5 5\ndo 0 1 any wait 2-3 5 5\ndo 3 1 any nowait 2-3 5 5\ndo 3 1 any wait 2 5 5\ndo 0 1 cond even wait 0-3 5 5\ndo 1 1 cond odd nowait 0-3 5 5\ndo 1 1 many wait 2 5 5\ndo 3 2 cond all wait 0-7 5 5\ndo 0 1 one 3 5 2147483647\ndo 0 1 one 2 5 1\ndo 1 1 two 1 1 5 1\ndo 1 1 two 1 2 5 1\ndo 1 1 two 0 3 5 9\ndo 3 1 machine 2 5 7\ndo 3 1 machine 1-3 5 7\ndo 0 1 set 1 on\ndo 0 1 inc 1\ndo 0 1 dec 4\ndo 0 1 dec 0\n";
-    let print: &[u8] =
-        b"4 E1\n5 ok\n6 ok\n7 ok\n8 E1\n9 3\n10 3\n11 E1\n12 0\n13 1,3\n14 -\n15 0-1,3\n16 2147483647\n17 E3\n18 E4\n19 E3\n20 9\n21 0\n22 7\n23 E4\n24 E4\n25 E4\n26 E13\ntally 0 1 2 2\ntally 0 3 1 1\ntally 1 0 0 0\ntally 1 3 10 10\ntally 3 0 2 2\ntally 3 1 2 2\nkey 0 off\ndrained\n";
+    let script: &[u8] = b"\
+        smp 1 run\n\
+        cpus 4 0-1,3\n\
+        labels 1 -\n\
+        do 3 1 sync 2 5 5\n\
+        do 0 2 sync 1 5 5\n\
+        do 0 3 sync 0 5 5\n\
+        do 1 9 user 1 3 5 5\n\
+        do 1 1 user 0 2 5 5\n\
+        do 0 1 any wait 2-3 5 5\n\
+        do 3 1 any nowait 2-3 5 5\n\
+        do 3 1 any wait 2 5 5\n\
+        do 0 1 cond even wait 0-3 5 5\n\
+        do 1 1 cond odd nowait 0-3 5 5\n\
+        do 1 1 many wait 2 5 5\n\
+        do 3 2 cond all wait 0-7 5 5\n\
+        do 0 1 one 3 5 2147483647\n\
+        do 0 1 one 2 5 1\n\
+        do 1 1 two 1 1 5 1\n\
+        do 1 1 two 1 2 5 1\n\
+        do 1 1 two 0 3 5 9\n\
+        do 3 1 machine 2 5 7\n\
+        do 3 1 machine 1-3 5 7\n\
+        do 0 1 set 1 on\n\
+        do 0 1 inc 1\n\
+        do 0 1 dec 4\n\
+        do 0 1 dec 0\n\
+        ";
+    let print: &[u8] = b"\
+        4 E1\n\
+        5 ok\n\
+        6 ok\n\
+        7 ok\n\
+        8 E1\n\
+        9 3\n\
+        10 3\n\
+        11 E1\n\
+        12 0\n\
+        13 1,3\n\
+        14 -\n\
+        15 0-1,3\n\
+        16 2147483647\n\
+        17 E3\n\
+        18 E4\n\
+        19 E3\n\
+        20 9\n\
+        21 0\n\
+        22 7\n\
+        23 E4\n\
+        24 E4\n\
+        25 E4\n\
+        26 E13\n\
+        tally 0 1 2 2\n\
+        tally 0 3 1 1\n\
+        tally 1 0 0 0\n\
+        tally 1 3 10 10\n\
+        tally 3 0 2 2\n\
+        tally 3 1 2 2\n\
+        key 0 off\n\
+        drained\n\
+        ";
     let (answer, written) = run(&rt, rt.alloc(), script, &FreePace);
     assert_eq!(rt; answer, Ok(Outcome::Done));
     assert_eq!(rt; written.as_slice(), print);
@@ -111,8 +268,16 @@ fn runs_of_all_cpus(rt: HostRuntime) -> Result<(), Fail> {
 #[test]
 fn two_handlers_at_once(rt: HostRuntime) {
     let script: &[u8] = b"smp 1 run\ncpus 3 0-2\ndo 2 1 many nowait 0-1 1 0\n";
-    let print: &[u8] =
-        b"3 0-1\ntally 0 1 0 0\ntally 0 2 0 0\ntally 1 0 0 0\ntally 1 2 0 0\ntally 2 0 1 1\ntally 2 1 1 1\ndrained\n";
+    let print: &[u8] = b"\
+        3 0-1\n\
+        tally 0 1 0 0\n\
+        tally 0 2 0 0\n\
+        tally 1 0 0 0\n\
+        tally 1 2 0 0\n\
+        tally 2 0 1 1\n\
+        tally 2 1 1 1\n\
+        drained\n\
+        ";
     let pace = Meets::new();
     let (answer, written) = run(&rt, rt.alloc(), script, &pace);
     assert_eq!(rt; answer, Ok(Outcome::Done));
@@ -161,8 +326,14 @@ fn waited_calls_have_ended(rt: HostRuntime) {
 // CPU 1 is in a function until CPU 0 has made all its calls: so `user 1` does not wait for the record of `user 0`.
 #[test]
 fn the_records_of_the_user_are_two(rt: HostRuntime) {
-    let script: &[u8] =
-        b"smp 1 run\ncpus 2 0-1\ndo 0 1 async 1 1 0\ndo 0 1 user 0 1 3 0\ndo 0 1 user 1 1 3 0\ndo 0 1 sync 0 2 0\n";
+    let script: &[u8] = b"\
+        smp 1 run\n\
+        cpus 2 0-1\n\
+        do 0 1 async 1 1 0\n\
+        do 0 1 user 0 1 3 0\n\
+        do 0 1 user 1 1 3 0\n\
+        do 0 1 sync 0 2 0\n\
+        ";
     let print: &[u8] = b"3 ok\n4 ok\n5 ok\n6 ok\ntally 0 1 3 3\ntally 1 0 0 0\ndrained\n";
     let pace = Lets::new();
     let (answer, written) = run(&rt, rt.alloc(), script, &pace);

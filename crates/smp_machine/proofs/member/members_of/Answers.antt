@@ -13,6 +13,6 @@ pub loop-number-preserved : goal.loop-number-preserved
 loop-number-preserved g c =
     let next = c.in_ok-next in (
       next.ensures.left,
-      below_next (g.C.Crew.begins c.args.crew.now) c.args.machine.now c.loop-number.number c.loop-number.all.items c.push_if.new.all.items next.next next.ensures.member
-          c.in_ok-push_if.ensures c.loop-number.invariant.1,
+      below_next (g.C.Crew.begins c.args.crew.now) c.args.machine.now c.loop-number.number c.loop-number.all.items c.push_if.new.all.items
+          next.next next.ensures.member c.in_ok-push_if.ensures c.loop-number.invariant.1,
     )

@@ -12,7 +12,8 @@ returns-then-take_work-clause-once g c on =
 
 pub returns-clause-works : goal.returns-clause-works
 returns-clause-works g c =
-    let took = works_take g.H.Handler.leads g.F.StopFunc.leads c.args.machine.now c.turn_and_tell-interrupted.new.me c.take_work.new.me c.turn_and_tell-interrupted.new.handler c.turn_and_tell-interrupted.new.run
-    c.take_work.result c.turn_and_tell-interrupted.new.me.stops.inside refl c.take_work.ensures in
+    let took = works_take g.H.Handler.leads g.F.StopFunc.leads c.args.machine.now c.turn_and_tell-interrupted.new.me c.take_work.new.me
+    c.turn_and_tell-interrupted.new.handler c.turn_and_tell-interrupted.new.run c.take_work.result
+    c.turn_and_tell-interrupted.new.me.stops.inside refl c.take_work.ensures in
     works_as g.H.Handler.leads g.F.StopFunc.leads (own_of c.args.me.now) c.turn_and_tell-interrupted.ensures.works.own_is
     (works_then g.H.Handler.leads g.F.StopFunc.leads c.turn_and_tell-interrupted.ensures.works took)

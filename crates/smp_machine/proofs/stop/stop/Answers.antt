@@ -35,5 +35,5 @@ returns-in-UntilQueued-clause-stopped g c =
 
 pub returns-in-UntilQueued-clause-own : goal.returns-in-UntilQueued-clause-own
 returns-in-UntilQueued-clause-own g c =
-    stop_itself g.H.Handler.leads g.F.StopFunc.leads (stop_moves c.args.holds) c.args.work.now _ c.is_shown.ensures.shown c.is_shown-in-UntilQueued.ensures.shown
-    c.requires.collected c.requires.outside (returns-in-UntilQueued-clause-stopped g c)
+    stop_itself g.H.Handler.leads g.F.StopFunc.leads (stop_moves c.args.holds) c.args.work.now _ c.is_shown.ensures.shown
+    c.is_shown-in-UntilQueued.ensures.shown c.requires.collected c.requires.outside (returns-in-UntilQueued-clause-stopped g c)

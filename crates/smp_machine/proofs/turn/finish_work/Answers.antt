@@ -20,8 +20,8 @@ returns-in-Left-clause-read g c =
 
 pub loop-preserved : goal.loop-preserved
 loop-preserved g c =
-    subst (λ (x : MachineCpuValue). Going g.H.Handler.leads g.F.StopFunc.leads c.args.me.now c.args.handler.now c.args.run.now x c.turn.new.handler c.turn.new.run)
-    (sym c.note_late.ensures)
+    subst (λ (x : MachineCpuValue). Going g.H.Handler.leads g.F.StopFunc.leads c.args.me.now c.args.handler.now c.args.run.now
+    x c.turn.new.handler c.turn.new.run) (sym c.note_late.ensures)
     (going_more g.H.Handler.leads g.F.StopFunc.leads c.args.me.now c.loop.me c.turn.new.me c.args.handler.now c.loop.handler c.turn.new.handler
     c.args.run.now c.loop.run c.turn.new.run c.turn.result c.loop.invariant c.turn.ensures.works c.turn.ensures.stops c.turn.ensures.passes
     c.in_default.not-Left)

@@ -22,7 +22,8 @@ returns-clause-ok g c = elim c.match-take.branch [
       let gone : new ≡ given cpu old =
       λ i. record {
         machine = b.machine.value;
-        left = (map-set is_some items cpu c.take.new.self ∙ ap (λ (o : Option MachineCpuValue). set (map is_some items) cpu (is_some o)) c.take.ensures.after) i;
+        left = (map-set is_some items cpu c.take.new.self
+            ∙ ap (λ (o : Option MachineCpuValue). set (map is_some items) cpu (is_some o)) c.take.ensures.after) i;
       } in
       rw (w.result-is) (subst (λ (v : BootValue). (w.in-Some.given ≡ fresh_place v.machine cpu) × (has v.machine.calls.online cpu ≡ true)
       × (is_left v cpu ≡ true) × (new ≡ given cpu v)) c.self.view_is

@@ -5,8 +5,8 @@ use Rattle.smp_machine.proofs.machine.Machine.call_any.Goals as goal
 
 pub returns : goal.returns
 returns g c =
-    subst (λ (p : MachineCpuValue). AnyAnswers g.H.Handler.leads c.args.self.now p c.args.handler.now c.any.new.me c.any.new.handler c.args.mask c.args.func c.args.info c.args.wait
-    c.any.result) c.me.view_is (record {
+    subst (λ (p : MachineCpuValue). AnyAnswers g.H.Handler.leads c.args.self.now p c.args.handler.now c.any.new.me c.any.new.handler c.args.mask c.args.func
+    c.args.info c.args.wait c.any.result) c.me.view_is (record {
       free = search rules;
       any = c.any.ensures.any;
       queued = c.any.ensures.queued;

@@ -5,8 +5,8 @@ use Rattle.smp_machine.proofs.machine.Machine.call_async.Goals as goal
 
 pub returns : goal.returns
 returns g c =
-    subst (λ (p : MachineCpuValue). AsyncAnswers g.H.Handler.leads c.args.self.now p c.args.handler.now c.single_async.new.me c.single_async.new.handler c.args.u c.args.dst c.args.func c.args.info
-    c.single_async.result) c.me.view_is (record {
+    subst (λ (p : MachineCpuValue). AsyncAnswers g.H.Handler.leads c.args.self.now p c.args.handler.now c.single_async.new.me c.single_async.new.handler
+    c.args.u c.args.dst c.args.func c.args.info c.single_async.result) c.me.view_is (record {
       free = search rules;
       record_is = c.single_async.ensures.record;
       queued = c.single_async.ensures.queued;

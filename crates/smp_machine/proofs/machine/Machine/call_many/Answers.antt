@@ -5,8 +5,8 @@ use Rattle.smp_machine.proofs.machine.Machine.call_many.Goals as goal
 
 pub returns : goal.returns
 returns g c =
-    subst (λ (p : MachineCpuValue). ManyAnswers g.H.Handler.leads c.args.self.now p c.args.handler.now c.many.new.me c.many.new.handler c.args.mask c.args.func c.args.info c.args.wait
-    (Ok c.many.result)) c.me.view_is (record {
+    subst (λ (p : MachineCpuValue). ManyAnswers g.H.Handler.leads c.args.self.now p c.args.handler.now c.many.new.me c.many.new.handler c.args.mask
+    c.args.func c.args.info c.args.wait (Ok c.many.result)) c.me.view_is (record {
       free = search rules;
       targets = c.many.ensures.targets;
       calls = c.many.ensures.calls;

@@ -5,8 +5,8 @@ use Rattle.smp_machine.proofs.machine.Machine.call_single.Goals as goal
 
 pub returns : goal.returns
 returns g c =
-    subst (λ (p : MachineCpuValue). SingleAnswers g.H.Handler.leads c.args.self.now p c.args.handler.now c.single.new.me c.single.new.handler c.args.dst c.args.func c.args.info c.args.wait
-    c.single.result) c.me.view_is (record {
+    subst (λ (p : MachineCpuValue). SingleAnswers g.H.Handler.leads c.args.self.now p c.args.handler.now c.single.new.me c.single.new.handler c.args.dst
+    c.args.func c.args.info c.args.wait c.single.result) c.me.view_is (record {
       free = search rules;
       queued = c.single.ensures.queued;
       here = c.single.ensures.here;

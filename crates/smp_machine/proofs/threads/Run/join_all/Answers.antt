@@ -18,7 +18,8 @@ loop-handle-preserved g c =
       moved_more (λ n q. IsPlayed hears runs (g.C.Crew.begins crew) (g.C.Crew.plays crew) (g.C.Crew.leaves crew) m n q) (λ n t. IsTaskOf m crew n t.promise)
           (members m.calls.online) _ _ h _ _ p step.0 (search rules)
           (λ n is. subst (λ (i : ℕ). IsPlayed hears runs (g.C.Crew.begins crew) (g.C.Crew.plays crew) (g.C.Crew.leaves crew) m i p) is.number_is
-          (subst (λ (x : MachineValue). IsPlayed hears runs (g.C.Crew.begins crew) (g.C.Crew.plays crew) (g.C.Crew.leaves crew) x h.promise.number p) is.machine_is
+          (subst (λ (x : MachineValue). IsPlayed hears runs (g.C.Crew.begins crew) (g.C.Crew.plays crew) (g.C.Crew.leaves crew)
+          x h.promise.number p) is.machine_is
           (subst (λ (w : _). IsPlayed hears runs (g.C.Crew.begins w) (g.C.Crew.plays w) (g.C.Crew.leaves w) h.promise.machine.now h.promise.number p) is.crew_is
           c.in_ok-played.ensures)))
           c.loop-handle.invariant.2,
