@@ -246,7 +246,9 @@ fn what_may_stand_there(rt: HostRuntime) -> Result<(), Fail> {
             "line 3 Word: a wrong word, or too few or too many fields
   never said owd
   field 3, NOTE: here stands `owd`
-    here may stand: E1, E2, E5, E7, E13, owed, queued, sent, done, locked, idle, call, handled, gate, taken, open, begun, entered, same, moved, run, ran, left, finished, pending, result, on, off, NOP, JMP, stop, lost
+    here may stand: E1, E2, E5, E7, E13, owed, queued, sent, done, locked, idle, call, handled, \
+        gate, taken, open, begun, entered, same, moved, run, ran, left, finished, pending, result, \
+        on, off, NOP, JMP, stop, lost
 ",
         ),
         (
