@@ -1,4 +1,5 @@
 use super::*;
+use crate::explore::Scripts;
 use clap::error::ErrorKind;
 use smp_explore::Most;
 use smp_replay::check_steps;
@@ -136,6 +137,38 @@ fn which_limit(rt: HostRuntime) -> Result<(), Fail> {
         assert_eq!(rt; ended, status);
     }
     Ok(())
+}
+
+// What is printed of two sends: the script of this outcome alone, where at most this many states are kept. And the status.
+fn outcome_alone(rt: &HostRuntime, states: usize, number: u32) -> (Vec<u8, Global>, u8) {
+    let text = b"smp 1 explore\ncpus 2 0-1\ncpu 0 send 1\ncpu 1 send 0\n".as_slice();
+    let bytes = usize::MAX;
+    let question = Question {
+        names: &["intr.0"],
+        most: Most { states, bytes },
+        scripts: Scripts::Only(number),
+    };
+    let mut writer = Watched::new(Vec::new(rt.alloc()));
+    let done = print_outcomes(rt, &question, text, &mut writer);
+    let status = status_of(done.map(|e| Answer::Explored(e)));
+    (writer.into_inner(), status)
+}
+
+// The sends have one outcome, and 4 states. At a limit standard error alone says which it is.
+#[test]
+fn the_script_of_an_outcome_alone(rt: HostRuntime) {
+    let script =
+        b"smp 1 replay\ncpus 2 0-1\nstart 0 send 1\nstep 0 1\nstart 1 send 0\nstep 1 1\n".as_slice();
+    let cases: [(usize, u32, &[u8], u8); 3] = [
+        (4, 1, script, 0),
+        (4, 2, b"".as_slice(), 2),
+        (3, 1, b"".as_slice(), 2),
+    ];
+    for (states, number, wanted, status) in cases {
+        let (text, ended) = outcome_alone(&rt, states, number);
+        assert_eq!(rt; text.as_slice(), wanted);
+        assert_eq!(rt; ended, status);
+    }
 }
 
 #[test]
