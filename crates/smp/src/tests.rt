@@ -139,14 +139,14 @@ fn which_limit(rt: HostRuntime) -> Result<(), Fail> {
     Ok(())
 }
 
-// What is printed of two sends: the script of this outcome alone, where at most this many states are kept. And the status.
-fn outcome_alone(rt: &HostRuntime, states: usize, number: u32) -> (Vec<u8, Global>, u8) {
+// What is printed of the outcomes of two sends, where at most this many states are kept, and the status.
+fn outcomes_of(rt: &HostRuntime, states: usize, scripts: Scripts<'_>) -> (Vec<u8, Global>, u8) {
     let text = b"smp 1 explore\ncpus 2 0-1\ncpu 0 send 1\ncpu 1 send 0\n".as_slice();
     let bytes = usize::MAX;
     let question = Question {
         names: &["intr.0"],
         most: Most { states, bytes },
-        scripts: Scripts::Only(number),
+        scripts,
     };
     let mut writer = Watched::new(Vec::new(rt.alloc()));
     let done = print_outcomes(rt, &question, text, &mut writer);
@@ -154,18 +154,21 @@ fn outcome_alone(rt: &HostRuntime, states: usize, number: u32) -> (Vec<u8, Globa
     (writer.into_inner(), status)
 }
 
-// The sends have one outcome, and 4 states. At a limit standard error alone says which it is.
+// There are 4 states, and one outcome. Where its script alone is asked for, standard error has the line of a limit.
 #[test]
-fn the_script_of_an_outcome_alone(rt: HostRuntime) {
+fn outcomes_of_two_sends(rt: HostRuntime) {
+    let all = b"outcome 1: intr.0 1, 1 final state, 2 steps\n1 outcome, 4 states\n".as_slice();
     let script =
         b"smp 1 replay\ncpus 2 0-1\nstart 0 send 1\nstep 0 1\nstart 1 send 0\nstep 1 1\n".as_slice();
-    let cases: [(usize, u32, &[u8], u8); 3] = [
-        (4, 1, script, 0),
-        (4, 2, b"".as_slice(), 2),
-        (3, 1, b"".as_slice(), 2),
+    let cases: [(usize, Scripts<'_>, &[u8], u8); 5] = [
+        (4, Scripts::Behind, all, 0),
+        (4, Scripts::Only(1), script, 0),
+        (4, Scripts::Only(2), b"".as_slice(), 2),
+        (3, Scripts::Behind, b"outcomes limit\n".as_slice(), 2),
+        (3, Scripts::Only(1), b"".as_slice(), 2),
     ];
-    for (states, number, wanted, status) in cases {
-        let (text, ended) = outcome_alone(&rt, states, number);
+    for (states, scripts, wanted, status) in cases {
+        let (text, ended) = outcomes_of(&rt, states, scripts);
         assert_eq!(rt; text.as_slice(), wanted);
         assert_eq!(rt; ended, status);
     }
