@@ -6,7 +6,7 @@ use std::alloc::Global;
 use std::io;
 use std::time::{Clock, Instant};
 
-/// Of so many states one looks at the clock.
+/// The clock is looked at once in this number of states.
 const EACH: u32 = 1024;
 
 /// What is counted beside the steps.

@@ -52,3 +52,8 @@ pub fn tell_end(rt: &HostRuntime, end: WalkEnd) -> io::Result<()> {
         WalkEnd::Cut => eprintln!(rt; "smp: the run is cut: it has made as many steps as it may"),
     }
 }
+
+/// Says which limit was met, where nothing else is printed: this line, which has its line feed.
+pub fn tell_limit(rt: &HostRuntime, line: &str) -> io::Result<()> {
+    eprint!(rt; "smp: {line}")
+}

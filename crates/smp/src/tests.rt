@@ -1,4 +1,5 @@
 use super::*;
+use crate::explore::Scripts;
 use clap::error::ErrorKind;
 use smp_explore::Most;
 use smp_replay::check_steps;
@@ -138,6 +139,41 @@ fn which_limit(rt: HostRuntime) -> Result<(), Fail> {
     Ok(())
 }
 
+// What is printed of the outcomes of two sends, where at most this many states are kept, and the status.
+fn outcomes_of(rt: &HostRuntime, states: usize, scripts: Scripts<'_>) -> (Vec<u8, Global>, u8) {
+    let text = b"smp 1 explore\ncpus 2 0-1\ncpu 0 send 1\ncpu 1 send 0\n".as_slice();
+    let bytes = usize::MAX;
+    let question = Question {
+        names: &["intr.0"],
+        most: Most { states, bytes },
+        scripts,
+    };
+    let mut writer = Watched::new(Vec::new(rt.alloc()));
+    let done = print_outcomes(rt, &question, text, &mut writer);
+    let status = status_of(done.map(|e| Answer::Explored(e)));
+    (writer.into_inner(), status)
+}
+
+// There are 4 states, and one outcome. Where its script alone is asked for, standard error has the line of a limit.
+#[test]
+fn outcomes_of_two_sends(rt: HostRuntime) {
+    let all = b"outcome 1: intr.0 1, 1 final state, 2 steps\n1 outcome, 4 states\n".as_slice();
+    let script =
+        b"smp 1 replay\ncpus 2 0-1\nstart 0 send 1\nstep 0 1\nstart 1 send 0\nstep 1 1\n".as_slice();
+    let cases: [(usize, Scripts<'_>, &[u8], u8); 5] = [
+        (4, Scripts::Behind, all, 0),
+        (4, Scripts::Only(1), script, 0),
+        (4, Scripts::Only(2), b"".as_slice(), 2),
+        (3, Scripts::Behind, b"outcomes limit\n".as_slice(), 2),
+        (3, Scripts::Only(1), b"".as_slice(), 2),
+    ];
+    for (states, scripts, wanted, status) in cases {
+        let (text, ended) = outcomes_of(&rt, states, scripts);
+        assert_eq!(rt; text.as_slice(), wanted);
+        assert_eq!(rt; ended, status);
+    }
+}
+
 #[test]
 fn from_a_file_or_standard_input(rt: HostRuntime) -> Result<(), Fail> {
     for name in [
@@ -246,7 +282,9 @@ fn what_may_stand_there(rt: HostRuntime) -> Result<(), Fail> {
             "line 3 Word: a wrong word, or too few or too many fields
   never said owd
   field 3, NOTE: here stands `owd`
-    here may stand: E1, E2, E5, E7, E13, owed, queued, sent, done, locked, idle, call, handled, gate, taken, open, begun, entered, same, moved, run, ran, left, finished, pending, result, on, off, NOP, JMP, stop, lost
+    here may stand: E1, E2, E5, E7, E13, owed, queued, sent, done, locked, idle, call, handled, \
+        gate, taken, open, begun, entered, same, moved, run, ran, left, finished, pending, result, \
+        on, off, NOP, JMP, stop, lost
 ",
         ),
         (

@@ -13,7 +13,7 @@ use Rattle.smp_show.specs.declared.trace.Row.{Row}
 use Rattle.smp_show.specs.declared.trace.What.{What}
 use Rattle.smp_show.specs.declared.trace.What.TheVariants.{Began, Stepped, Refused, Shown}
 
--- so many spaces
+-- this number of spaces
 abbrev pub blanks : ℕ → List ℕ
 blanks n = replicate n 32
 

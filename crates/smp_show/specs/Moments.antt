@@ -6,7 +6,7 @@ use Rattle.smp_script.specs.declared.directive.Directive.TheVariants as directiv
 use Rattle.smp_show.specs.declared.moments.Asked.TheVariants.{Turn, Show}
 use Rattle.smp_show.specs.declared.moments.Moment.{Moment}
 
--- so many steps of a CPU
+-- this number of steps of a CPU
 abbrev pub steps_at : ℕ → ℕ → ℕ → List Moment
 steps_at line cpu count = replicate count (record { line = line; asked = Turn (event.Step cpu) })
 

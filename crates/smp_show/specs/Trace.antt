@@ -58,7 +58,7 @@ looked_at core number line cpu Show = record { row = record { number = number; l
 abbrev pub looked : CoreValue → ℕ → Moment → Looked
 looked core number m = looked_at core number m.line (asked_cpu m.asked) m.asked
 
--- what is seen of a replay, after so many events, up to the first event that is refused
+-- what is seen of a replay up to the first event that is refused, where its first event has this number
 abbrev pub rows_of : CoreValue → ℕ → List Moment → List Row
 rows_of core number [] = []
 rows_of core number (m ∷ ms) =

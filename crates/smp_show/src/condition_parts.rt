@@ -166,15 +166,19 @@ pub fn part_name(part: Part) -> &'static str {
 pub fn part_text(part: Part) -> &'static str {
     match part {
         Part::Atom => {
-            "not, said, queue.C, place.R, or a word: gate, key.K, entry.I, site.I, flags.R, func.R, info.R, next.R, head.C, intr.C, hand.C, queued.S.D, ran.S.D, slot.S.NAME"
+            "not, said, queue.C, place.R, or a word: gate, key.K, entry.I, site.I, flags.R, \
+             func.R, info.R, next.R, head.C, intr.C, hand.C, queued.S.D, ran.S.D, slot.S.NAME"
         }
         Part::Negated => {
-            "said, queue.C, place.R, or a word: gate, key.K, entry.I, site.I, flags.R, func.R, info.R, next.R, head.C, intr.C, hand.C, queued.S.D, ran.S.D, slot.S.NAME"
+            "said, queue.C, place.R, or a word: gate, key.K, entry.I, site.I, flags.R, \
+             func.R, info.R, next.R, head.C, intr.C, hand.C, queued.S.D, ran.S.D, slot.S.NAME"
         }
         Part::Value(Subject::Word) => "a number from 0 to 18446744073709551615",
         Part::Value(Subject::Record) => "free, held, queued.C, batch.C, running.C",
         Part::Value(Subject::Said) => {
-            "E1, E2, E5, E7, E13, owed, queued, sent, done, locked, idle, call, handled, gate, taken, open, begun, entered, same, moved, run, ran, left, finished, pending, result, on, off, NOP, JMP, stop, lost"
+            "E1, E2, E5, E7, E13, owed, queued, sent, done, locked, idle, call, handled, gate, \
+             taken, open, begun, entered, same, moved, run, ran, left, finished, pending, result, \
+             on, off, NOP, JMP, stop, lost"
         }
         Part::Joint => "and, or, the end of the line",
     }

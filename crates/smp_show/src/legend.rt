@@ -98,7 +98,7 @@ pub fn write_head<A: Allocator>(
     )
 }
 
-/// What the styles stand for.
+/// What the styles mean.
 pub fn write_legend<A: Allocator>(out: &mut String<A>) -> Result<(), AllocError> {
     out.push_str(BOXES)?;
     out.push_str(STEPS)?;

@@ -23,7 +23,7 @@ pub struct Moment {
     pub asked: Asked,
 }
 
-// So many steps of a CPU.
+// This number of steps of a CPU.
 fn add_steps<A: Allocator>(
     found: &mut Vec<Moment, A>,
     line: usize,

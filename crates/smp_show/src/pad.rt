@@ -5,7 +5,7 @@ ghost use Rattle.smp_show.specs.Cells.{blanks, padded};
 
 use std::alloc::{AllocError, Allocator};
 
-// So many spaces.
+// This number of spaces.
 fn write_blanks<A: Allocator>(out: &mut String<A>, count: usize) -> Result<(), AllocError>
     ensures { OnOk result (string_bytes out.new ≡ string_bytes out.old ++ blanks count) }
 {
@@ -15,7 +15,7 @@ fn write_blanks<A: Allocator>(out: &mut String<A>, count: usize) -> Result<(), A
     Ok(())
 }
 
-/// A text, and spaces behind it up to this width. A longer text stands whole.
+/// A text, and spaces behind it up to this width. A longer text is left whole.
 pub fn write_padded<A: Allocator>(
     out: &mut String<A>,
     text: &str,

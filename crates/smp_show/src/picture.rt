@@ -54,7 +54,7 @@ struct Scene<'a> {
     mark: Option<usize>,
 }
 
-// What a step has found and put, where that has so many digits at most; else what it has put, or found.
+// What a step has found and put; where there is no room for both, what it has put.
 fn value<A: Allocator + Copy>(
     alloc: A,
     seen: Seen,

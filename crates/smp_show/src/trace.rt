@@ -73,7 +73,7 @@ fn turns_in(asked: Asked) -> usize
     }
 }
 
-// What comes of an event of that CPU and that line, after so many events.
+// What comes of the event of this number, of that CPU and that line.
 fn turn<A: Allocator>(core: &mut Core<A>, number: usize, line: usize, cpu: u32, event: Event) -> Row
     ensures row { result ≡ (turned core.old number line cpu event).row }
     ensures core { core.new ≡ (turned core.old number line cpu event).core }
@@ -94,7 +94,7 @@ fn turn<A: Allocator>(core: &mut Core<A>, number: usize, line: usize, cpu: u32, 
     }
 }
 
-// What comes of one thing that is asked for of that CPU, after so many events.
+// What comes of one thing that is asked for of that CPU, with this number of events before it.
 fn look<A: Allocator>(core: &mut Core<A>, number: usize, line: usize, cpu: u32, asked: Asked) -> Row
     ensures row { result ≡ (looked_at core.old number line cpu asked).row }
     ensures core { core.new ≡ (looked_at core.old number line cpu asked).core }
