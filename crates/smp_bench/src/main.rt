@@ -1,4 +1,4 @@
-//! Measures cross-processor calls and stops: `smp_bench time|count THREADS LIMIT [WORKLOAD]`.
+//! Measures cross-processor calls and stops: `smp_bench time|count THREADS LIMIT [WORKLOAD]`. `smp_bench --help` says more.
 //!
 //! `time` goes on for LIMIT milliseconds and prints for each workload its name, its threads, its operations and the
 //! nanoseconds of one operation: the median over batches, and what a tenth of the batches stays below. `count` makes
@@ -10,18 +10,21 @@ ghost use Rattle.smp_bench.specs.Threads.{IsLawful};
 mod alone;
 mod batch;
 mod error;
+mod grammar;
 mod meter;
 mod request;
 mod samples;
 mod seat;
+mod signs;
 mod stand;
 mod stops;
 mod threads;
+mod watch;
 mod workload;
 
 use crate::error::BenchError;
 use crate::meter::{Measured, Meter};
-use crate::request::{Limit, Request, USAGE, read_words};
+use crate::request::{Limit, Request, read_words};
 use crate::workload::Workload;
 use std::alloc::{AllocError, Global};
 use std::process::ExitCode;
@@ -110,24 +113,32 @@ fn run_all<R: Wait + Threads + Clock + Print + Eprint + Sync>(
     Ok(())
 }
 
-fn main(rt: HostRuntime) -> io::Result<ExitCode> {
-    let words: Result<Vec<String>, AllocError> = env::args(&rt)?.collect(rt.alloc());
-    let words = words?;
-    let texts: Result<Vec<&str>, AllocError> = words
-        .iter()
-        .skip(1)
-        .map(|w| w.as_str())
-        .collect(rt.alloc());
+/// Does what these words of the command line ask for, and answers the status.
+fn do_words<R: Wait + Threads + Clock + Print + Eprint + Sync>(
+    rt: &R,
+    alloc: Global,
+    words: &[String],
+) -> io::Result<u8> {
+    let texts: Result<Vec<&str>, AllocError> = words.iter().map(|w| w.as_str()).collect(alloc);
     let texts = texts?;
-    let Some(request) = read_words(texts.as_slice()) else {
-        eprintln!(rt; "{USAGE}")?;
-        return Ok(ExitCode::from(2));
+    let request = match read_words(alloc, texts.as_slice()) {
+        Ok(request) => request,
+        Err(error) => {
+            error.print(rt)?;
+            return Ok(if error.use_stderr() { 2 } else { 0 });
+        }
     };
-    match run_all(&rt, rt.alloc(), &request) {
-        Ok(()) => Ok(ExitCode::SUCCESS),
+    match run_all(rt, alloc, &request) {
+        Ok(()) => Ok(0),
         Err(error) => {
             eprintln!(rt; "smp_bench: {error}")?;
-            Ok(ExitCode::from(1))
+            Ok(2)
         }
     }
+}
+
+fn main(rt: HostRuntime) -> io::Result<ExitCode> {
+    let words: Result<Vec<String>, AllocError> = env::args(&rt)?.collect(rt.alloc());
+    let status = do_words(&rt, rt.alloc(), words?.as_slice())?;
+    Ok(ExitCode::from(status))
 }

@@ -1,5 +1,6 @@
 //! Threads at a machine, one for each of its CPUs.
 
+ghost use Rattle.smp_machine.specs.MachineCpu.{IsFull};
 ghost use Rattle.smp_machine.specs.Seats.{IsSameSeat};
 ghost use Rattle.smp_bench.specs.Threads.{IsLawful};
 
@@ -8,43 +9,18 @@ use crate::error::BenchError;
 use crate::meter::{Measured, Meter};
 use crate::request::Limit;
 use crate::seat::Counter;
+use crate::signs::Signs;
 use crate::stand::{Runs, Stand, label, poll};
+use crate::watch::watch;
 use crate::workload::Workload;
 use crossbeam_utils::{Backoff, CachePadded};
 use smp_machine::{Crew, Machine, Played, run_cpus};
 use smp_mask::CpuMask;
 use std::alloc::{AllocError, Global};
 use std::sync::Wait;
-use std::sync::atomic::{AtomicU64, Ordering};
+use std::thread;
 use std::thread::Threads;
 use std::time::Clock;
-
-/// What the threads share beside the machine.
-#[derive(Drop)]
-struct Progress {
-    /// Not 0 once the key is on, so that all may count.
-    counting: AtomicU64,
-    /// Not 0 once the first CPU is through.
-    over: AtomicU64,
-}
-
-impl Progress {
-    fn tell_counting(&self) {
-        self.counting.store(1, Ordering::SeqCst);
-    }
-
-    fn is_counting(&self) -> bool {
-        self.counting.load(Ordering::SeqCst) != 0
-    }
-
-    fn tell_over(&self) {
-        self.over.store(1, Ordering::SeqCst);
-    }
-
-    fn is_over(&self) -> bool {
-        self.over.load(Ordering::SeqCst) != 0
-    }
-}
 
 /// What a CPU waits for while it polls.
 #[derive(Clone, Copy)]
@@ -56,20 +32,20 @@ enum Until {
 }
 
 /// Whether a CPU need not poll any more.
-fn is_reached(progress: &Progress, until: Until) -> bool {
+fn is_reached(signs: &Signs, until: Until) -> bool {
     match until {
-        Until::Counting => progress.is_counting() || progress.is_over(),
-        Until::Over => progress.is_over(),
+        Until::Counting => signs.is_counting() || signs.is_over(),
+        Until::Over => signs.is_over(),
     }
 }
 
 /// Polls until this is reached.
-fn answer<R: Wait>(stand: &mut Stand<'_, R>, progress: &Progress, until: Until)
+fn answer<R: Wait>(stand: &mut Stand<'_, R>, signs: &Signs, until: Until)
     ensures { IsSameSeat stand.old stand.new }
 {
     let mut backoff = Backoff::new();
     for _ in stand.rt.forever() {
-        if is_reached(progress, until) {
+        if is_reached(signs, until) {
             return;
         }
         if poll(stand) {
@@ -91,7 +67,7 @@ fn count_batches<R: Wait>(stand: &mut Stand<'_, R>, batches: u32)
 }
 
 /// Counts the key up and down this number of times, or until the first CPU is through.
-fn count<R: Wait>(stand: &mut Stand<'_, R>, progress: &Progress, limit: Limit)
+fn count<R: Wait>(stand: &mut Stand<'_, R>, signs: &Signs, limit: Limit)
     ensures { IsSameSeat stand.old stand.new }
 {
     if let Some(batches) = batches_of(limit) {
@@ -99,7 +75,7 @@ fn count<R: Wait>(stand: &mut Stand<'_, R>, progress: &Progress, limit: Limit)
         return;
     }
     for _ in stand.rt.forever() {
-        if progress.is_over() {
+        if signs.is_over() {
             return;
         }
         count_batch(stand);
@@ -131,7 +107,7 @@ struct Bench<'a, T> {
     alloc: Global,
     workload: Workload,
     limit: Limit,
-    progress: &'a Progress,
+    signs: &'a Signs,
 }
 
 impl<'a, T: Clock + Eprint> Bench<'a, T> {
@@ -140,12 +116,12 @@ impl<'a, T: Clock + Eprint> Bench<'a, T> {
         ensures { IsSameSeat stand.old stand.new }
     {
         if self.workload != Workload::CountAll {
-            answer(stand, self.progress, Until::Over);
+            answer(stand, self.signs, Until::Over);
             return;
         }
-        answer(stand, self.progress, Until::Counting);
-        if self.progress.is_counting() {
-            count(stand, self.progress, self.limit);
+        answer(stand, self.signs, Until::Counting);
+        if self.signs.is_counting() {
+            count(stand, self.signs, self.limit);
         }
     }
 
@@ -156,7 +132,7 @@ impl<'a, T: Clock + Eprint> Bench<'a, T> {
         if self.workload == Workload::CountOne || self.workload == Workload::CountAll {
             // The key is on from here on. The first batch begins only now.
             let _ = stand.set_key(0, true);
-            self.progress.tell_counting();
+            self.signs.tell_counting();
             meter.lap(0);
         }
         repeat(stand, self.workload, meter);
@@ -188,7 +164,7 @@ impl<'a, T: Clock + Eprint> Crew<Counter, Runs> for Bench<'a, T> {
         }
         let measured = self.measure(seat);
         seat.functions.measured = Some(measured);
-        self.progress.tell_over();
+        self.signs.tell_over();
     }
 }
 
@@ -231,19 +207,28 @@ pub fn run<R: Wait + Threads + Clock + Eprint + Sync>(
     let count = workload.threads(threads);
     let (machine, boot) = Machine::new(alloc, 8, first_cpus(count)?, &label()?)?;
     // All threads look at it all the time, so that it must share no line with what one of them writes.
-    let shared = CachePadded::new(Progress {
-        counting: AtomicU64::new(0),
-        over: AtomicU64::new(0),
-    });
+    let shared = CachePadded::new(Signs::new());
     let bench = Bench {
         rt,
         alloc,
         workload,
         limit,
-        progress: &shared,
+        signs: &shared,
     };
-    match run_cpus(rt, alloc, &machine, boot, &bench) {
-        Ok(back) => sum_up(back),
-        Err(_) => Err(BenchError::NoThread),
-    }
+    thread::scope(
+        thread::scope_env(),
+        rt,
+        |scope| -> Result<(Measured, u64), BenchError>
+            requires { IsFull boot machine.now }
+        {
+            let name = workload.name();
+            let _watcher = scope.spawn(|| watch(rt, name, &machine, &shared)).ok();
+            let back = run_cpus(rt, alloc, &machine, boot, &bench);
+            shared.tell_over();
+            match back {
+                Ok(back) => sum_up(back),
+                Err(_) => Err(BenchError::NoThread),
+            }
+        },
+    )
 }

@@ -48,7 +48,7 @@ fn picked(mask: CpuMask, info: u64) -> CpuMask {
     picked
 }
 
-impl<'e, T: Clock + Eprint> Torturer<'e, T> {
+impl<'e, T: Clock> Torturer<'e, T> {
     /// Notes a call to each CPU of a mask.
     fn note_all(&mut self, kind: Kind, cpus: CpuMask, value: u64) {
         let sent = &mut self.deeds.sent;
@@ -57,16 +57,23 @@ impl<'e, T: Clock + Eprint> Torturer<'e, T> {
         }
     }
 
-    fn single<R: Wait>(&mut self, seat: &mut EarSeat<'_, R>, kind: Kind, wait: bool) -> bool
-        ensures { IsSameSeat seat.old seat.new }
-    {
-        let (dst, info) = (self.choice.cpu(), self.choice.value());
-        let made = seat.call_single(dst, kind.func(), info, wait);
-        self.deeds.sent.note(kind.func(), dst, info);
-        made.is_ok()
+    /// Whether this CPU sees what the handlers of these CPUs have stored for a number.
+    fn are_answered(&self, cpus: CpuMask, me: u32, number: u64) -> bool {
+        cpus.iter()
+            .all(|cpu| self.board.is_answered(cpu, me, number))
     }
 
-    fn user<R: Wait>(&mut self, seat: &mut EarSeat<'_, R>, kind: Kind) -> bool
+    fn single<R: Wait>(&mut self, seat: &mut EarSeat<'_, '_, R>, kind: Kind, wait: bool) -> bool
+        ensures { IsSameSeat seat.old seat.new }
+    {
+        let (me, dst, info) = (seat.number(), self.choice.cpu(), self.choice.value());
+        self.board.ask(me, info);
+        let made = seat.call_single(dst, kind.func(), info, wait);
+        self.deeds.sent.note(kind.func(), dst, info);
+        made.is_ok() && (!wait || self.board.is_answered(dst, me, info))
+    }
+
+    fn user<R: Wait>(&mut self, seat: &mut EarSeat<'_, '_, R>, kind: Kind) -> bool
         ensures { IsSameSeat seat.old seat.new }
     {
         let (u, dst, info) = (self.choice.below(2), self.choice.cpu(), self.choice.value());
@@ -86,39 +93,42 @@ impl<'e, T: Clock + Eprint> Torturer<'e, T> {
         false
     }
 
-    fn any<R: Wait>(&mut self, seat: &mut EarSeat<'_, R>, kind: Kind, wait: bool) -> bool
+    fn any<R: Wait>(&mut self, seat: &mut EarSeat<'_, '_, R>, kind: Kind, wait: bool) -> bool
         ensures { IsSameSeat seat.old seat.new }
     {
-        let (mask, info) = (self.choice.mask(), self.choice.value());
+        let (me, mask, info) = (seat.number(), self.choice.mask(), self.choice.value());
+        self.board.ask(me, info);
         match seat.call_any(mask, kind.func(), info, wait) {
             Ok(cpu) => {
                 self.deeds.sent.note(kind.func(), cpu, info);
-                mask.contains(cpu)
+                mask.contains(cpu) && (!wait || self.board.is_answered(cpu, me, info))
             }
             Err(error) => error == SmpError::NoCpu && mask.first().is_none(),
         }
     }
 
-    fn many<R: Wait>(&mut self, seat: &mut EarSeat<'_, R>, kind: Kind, wait: bool) -> bool
+    fn many<R: Wait>(&mut self, seat: &mut EarSeat<'_, '_, R>, kind: Kind, wait: bool) -> bool
         ensures { IsSameSeat seat.old seat.new }
     {
-        let (mask, info) = (self.choice.mask(), self.choice.value());
+        let (me, mask, info) = (seat.number(), self.choice.mask(), self.choice.value());
+        self.board.ask(me, info);
         let called = seat.call_many(mask, kind.func(), info, wait);
-        let wanted = mask.without(seat.number());
+        let wanted = mask.without(me);
         self.note_all(kind, wanted, info);
-        called == Ok(wanted)
+        called == Ok(wanted) && (!wait || self.are_answered(wanted, me, info))
     }
 
     /// Calls the CPUs of a mask whose numbers are even where the info is, and else the odd ones.
-    fn each<R: Wait>(&mut self, seat: &mut EarSeat<'_, R>, kind: Kind, wait: bool) -> bool
+    fn each<R: Wait>(&mut self, seat: &mut EarSeat<'_, '_, R>, kind: Kind, wait: bool) -> bool
         ensures { IsSameSeat seat.old seat.new }
     {
-        let (mask, info) = (self.choice.mask(), self.choice.value());
+        let (me, mask, info) = (seat.number(), self.choice.mask(), self.choice.value());
+        self.board.ask(me, info);
         let says = |cpu: u32, info: u64| u64::from(cpu % 2) == info % 2;
         let called = seat.each_cpu_cond(mask, kind.func(), info, &says, wait);
         let wanted = picked(mask, info);
         self.note_all(kind, wanted, info);
-        called == Ok(wanted)
+        called == Ok(wanted) && (!wait || self.are_answered(wanted, me, info))
     }
 
     /// An argument of a stop that names this CPU.
@@ -126,7 +136,7 @@ impl<'e, T: Clock + Eprint> Torturer<'e, T> {
         arg_of(number, self.choice.value())
     }
 
-    fn stop_one<R: Wait>(&mut self, seat: &mut EarSeat<'_, R>, kind: Kind) -> bool
+    fn stop_one<R: Wait>(&mut self, seat: &mut EarSeat<'_, '_, R>, kind: Kind) -> bool
         ensures { IsSameSeat seat.old seat.new }
     {
         let (dst, arg) = (self.choice.cpu(), self.arg(seat.number()));
@@ -135,7 +145,7 @@ impl<'e, T: Clock + Eprint> Torturer<'e, T> {
         answer == Ok(answer_to(arg))
     }
 
-    fn stop_two<R: Wait>(&mut self, seat: &mut EarSeat<'_, R>, kind: Kind) -> bool
+    fn stop_two<R: Wait>(&mut self, seat: &mut EarSeat<'_, '_, R>, kind: Kind) -> bool
         ensures { IsSameSeat seat.old seat.new }
     {
         let (a, b, arg) = (
@@ -151,7 +161,7 @@ impl<'e, T: Clock + Eprint> Torturer<'e, T> {
         answer == Ok(answer_to(arg))
     }
 
-    fn stop_machine<R: Wait>(&mut self, seat: &mut EarSeat<'_, R>, kind: Kind) -> bool
+    fn stop_machine<R: Wait>(&mut self, seat: &mut EarSeat<'_, '_, R>, kind: Kind) -> bool
         ensures { IsSameSeat seat.old seat.new }
     {
         let (active, arg) = (self.choice.mask(), self.arg(seat.number()));
@@ -161,14 +171,14 @@ impl<'e, T: Clock + Eprint> Torturer<'e, T> {
         answer == Ok(if runs { answer_to(arg) } else { 0 })
     }
 
-    fn set_key<R: Wait>(&mut self, seat: &mut EarSeat<'_, R>) -> bool
+    fn set_key<R: Wait>(&mut self, seat: &mut EarSeat<'_, '_, R>) -> bool
         ensures { IsSameSeat seat.old seat.new }
     {
         let (k, on) = (self.choice.below(KEYS), self.choice.flip());
         seat.set_key(k, on).is_ok()
     }
 
-    fn key_inc<R: Wait>(&mut self, seat: &mut EarSeat<'_, R>) -> bool
+    fn key_inc<R: Wait>(&mut self, seat: &mut EarSeat<'_, '_, R>) -> bool
         ensures { IsSameSeat seat.old seat.new }
     {
         let k = self.choice.below(KEYS);
@@ -178,7 +188,7 @@ impl<'e, T: Clock + Eprint> Torturer<'e, T> {
         }
     }
 
-    fn key_dec<R: Wait>(&mut self, seat: &mut EarSeat<'_, R>) -> bool
+    fn key_dec<R: Wait>(&mut self, seat: &mut EarSeat<'_, '_, R>) -> bool
         ensures { IsSameSeat seat.old seat.new }
     {
         let k = self.choice.below(KEYS);
@@ -188,7 +198,7 @@ impl<'e, T: Clock + Eprint> Torturer<'e, T> {
         }
     }
 
-    fn read_key<R: Wait>(&mut self, seat: &mut EarSeat<'_, R>) -> bool
+    fn read_key<R: Wait>(&mut self, seat: &mut EarSeat<'_, '_, R>) -> bool
         ensures { IsSameSeat seat.old seat.new }
     {
         let k = self.choice.below(KEYS);
@@ -196,7 +206,7 @@ impl<'e, T: Clock + Eprint> Torturer<'e, T> {
     }
 
     /// Between the two readings this CPU takes part in no stop, so that no patch comes between.
-    fn read_site<R: Wait>(&mut self, seat: &mut EarSeat<'_, R>) -> bool
+    fn read_site<R: Wait>(&mut self, seat: &mut EarSeat<'_, '_, R>) -> bool
         ensures { IsSameSeat seat.old seat.new }
     {
         let site = self.choice.below(SITES);
@@ -215,7 +225,7 @@ impl<'e, T: Clock + Eprint> Torturer<'e, T> {
     }
 
     /// Does one thing of this kind: whether it was answered as it should be.
-    pub fn make<R: Wait>(&mut self, seat: &mut EarSeat<'_, R>, kind: Kind) -> bool
+    pub fn make<R: Wait>(&mut self, seat: &mut EarSeat<'_, '_, R>, kind: Kind) -> bool
         ensures { IsSameSeat seat.old seat.new }
     {
         match kind {

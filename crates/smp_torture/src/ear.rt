@@ -2,43 +2,53 @@
 
 ghost use Rattle.std.specs.Prelude.{◌<◌};
 
+use crate::board::Board;
 use crate::deeds::Deeds;
+use crate::kind::Kind;
 use crate::sheet::Sheet;
 use smp_multi::StopFunc;
 use smp_queue::Handler;
 use smp_words::size::NR_CPUS;
 
-/// Notes each call that it hears, and keeps what its CPU has done at the end.
+/// Notes each call that it hears, answers those with wait, and keeps what its CPU has done at the end.
 #[derive(Drop)]
-pub struct Ear {
+pub struct Ear<'e> {
     pub own: u32,
+    pub board: &'e Board,
     pub heard: Sheet,
     /// Polls and waits in which it heard calls of other CPUs, modulo 2^64; those after its CPU's last act are one. Each is a
     /// batch of the queue, or more.
     pub batches: u64,
     /// Whether the current poll or wait has had none yet.
     pub fresh: bool,
+    /// Calls with wait that did not see what their source had stored before, modulo 2^64.
+    pub unseen: u64,
     pub deeds: Deeds,
 }
 
-impl Ear {
+impl<'e> Ear<'e> {
     /// The handler of this CPU, which has heard nothing.
-    pub fn new(own: u32) -> Ear {
+    pub fn new(own: u32, board: &'e Board) -> Ear<'e> {
         Ear {
             own,
+            board,
             heard: Sheet::new(),
             batches: 0,
             fresh: true,
+            unseen: 0,
             deeds: Deeds::new(),
         }
     }
 }
 
-impl Handler for Ear {
+impl<'e> Handler for Ear<'e> {
     ghost leads = { λ _ _ _. Unit {0} };
 
     fn call(&mut self, src: u32, func: u16, info: u64) {
         self.heard.note(func, src, info);
+        if Kind::waits(func) && !self.board.answer(self.own, src, info) {
+            self.unseen = self.unseen.wrapping_add(1);
+        }
         if self.fresh && src != self.own {
             self.batches = self.batches.wrapping_add(1);
             self.fresh = false;

@@ -16,8 +16,6 @@ pub enum TortureError {
     System,
     #[error("a thread could not be started")]
     NoThread,
-    #[error("usage: smp_torture [--threads 2..32] [--seconds 1..3600] [--seed N] [--weights KIND=W,..] [--quiet]")]
-    Usage,
 }
 
 impl From<SmpError> for TortureError {

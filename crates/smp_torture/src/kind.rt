@@ -101,4 +101,12 @@ impl Kind {
     {
         self.index() as u16
     }
+
+    /// Whether calls that name this function wait for it.
+    pub fn waits(func: u16) -> bool {
+        match Kind::ALL.get(func as usize) {
+            Some(Kind::SingleWait | Kind::AnyWait | Kind::ManyWait | Kind::EachWait) => true,
+            _ => false,
+        }
+    }
 }

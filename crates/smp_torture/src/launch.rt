@@ -4,14 +4,17 @@ ghost use Rattle.std.specs.Prelude.{IfOk};
 ghost use Rattle.smp_machine.specs.MachineCpu.{IsAt, IsFull};
 ghost use Rattle.smp_torture.specs.Ends.{AreAt};
 
+use crate::board::Board;
 use crate::ear::{Ear, Runs};
 use crate::error::TortureError;
 use crate::plan::Plan;
 use crate::report::Report;
 use crate::torturer::{EarSeat, Torturer};
+use crate::watch::watch;
 use smp_machine::{Cpu, Crew, Machine, MachineBoot, Played, run_cpus};
 use std::alloc::{AllocError, Global};
 use std::sync::Wait;
+use std::thread;
 use std::thread::Threads;
 use std::time::Clock;
 
@@ -27,19 +30,20 @@ pub struct Ended {
 struct Tortures<'e, T> {
     clock: &'e T,
     plan: &'e Plan,
+    board: &'e Board,
 }
 
-impl<'e, T: Clock + Eprint> Crew<Ear, Runs> for Tortures<'e, T> {
+impl<'e, T: Clock> Crew<Ear<'e>, Runs> for Tortures<'e, T> {
     ghost begins = { λ _ _ _ _. Unit {0} };
 
     ghost plays = { λ _ _ _. Unit {0} };
 
-    fn make(&self, cpu: u32) -> Result<(Ear, Runs), AllocError> {
-        Ok((Ear::new(cpu), Runs::new(cpu)))
+    fn make(&self, cpu: u32) -> Result<(Ear<'e>, Runs), AllocError> {
+        Ok((Ear::new(cpu, self.board), Runs::new(cpu)))
     }
 
-    fn play<R: Wait>(&self, seat: &mut EarSeat<'_, R>) {
-        let mut torturer = Torturer::new(self.clock, self.plan, seat.number());
+    fn play<R: Wait>(&self, seat: &mut EarSeat<'_, 'e, R>) {
+        let mut torturer = Torturer::new(self.clock, self.plan, self.board, seat.number());
         torturer.act_all(seat);
         seat.handler.fresh = true;
         seat.handler.deeds = torturer.deeds;
@@ -50,7 +54,7 @@ impl<'e, T: Clock + Eprint> Crew<Ear, Runs> for Tortures<'e, T> {
 fn reports_of(
     alloc: Global,
     machine: &Machine<Global>,
-    mut played: Vec<Played<Ear, Runs>, Global>,
+    mut played: Vec<Played<Ear<'_>, Runs>, Global>,
 ) -> Result<Ended, TortureError>
     requires { AreAt machine.now played.items }
     ensures { IfOk result (λ e. IsAt machine.now e.last) }
@@ -76,8 +80,34 @@ fn reports_of(
     Ok(Ended { last, reports })
 }
 
-/// Runs each CPU of a machine on a thread of its own: one of them, which no thread knows any more, and what all have done.
+/// Runs each CPU of a machine on a thread of its own, as `torture`, with these words beside it.
 #[tactic(auto, using(crate::proofs::Ending::all_at))]
+fn torture_all<R: Wait + Threads + Clock + Sync>(
+    rt: &R,
+    alloc: Global,
+    shared: (&Plan, &Board),
+    machine: &Machine<Global>,
+    boot: MachineBoot<Global>,
+) -> Result<Ended, TortureError>
+    requires { IsFull boot machine.now }
+    ensures { IfOk result (λ e. IsAt machine.now e.last) }
+{
+    let (plan, board) = shared;
+    let crew = Tortures {
+        clock: rt,
+        plan,
+        board,
+    };
+    let back = run_cpus(rt, alloc, machine, boot, &crew);
+    board.end();
+    match back {
+        Ok(played) => reports_of(alloc, machine, played),
+        Err(_) => Err(TortureError::NoThread),
+    }
+}
+
+/// Runs each CPU of a machine on a thread of its own, and one more thread that watches over them: a CPU that no thread knows any
+/// more, and what all have done. A torture goes on where no thread is to be had for the watch.
 pub fn torture<R: Wait + Threads + Clock + Eprint + Sync>(
     rt: &R,
     alloc: Global,
@@ -88,9 +118,16 @@ pub fn torture<R: Wait + Threads + Clock + Eprint + Sync>(
     requires { IsFull boot machine.now }
     ensures { IfOk result (λ e. IsAt machine.now e.last) }
 {
-    let crew = Tortures { clock: rt, plan };
-    match run_cpus(rt, alloc, machine, boot, &crew) {
-        Ok(played) => reports_of(alloc, machine, played),
-        Err(_) => Err(TortureError::NoThread),
-    }
+    let board = Board::new();
+    thread::scope(
+        thread::scope_env(),
+        rt,
+        |scope| -> Result<Ended, TortureError>
+            requires { IsFull boot machine.now }
+            ensures { IfOk result (λ e. IsAt machine.entry.now e.last) }
+        {
+            let _watcher = scope.spawn(|| watch(rt, machine, plan, &board)).ok();
+            torture_all(rt, alloc, (plan, &board), machine, boot)
+        },
+    )
 }

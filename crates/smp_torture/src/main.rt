@@ -2,18 +2,20 @@
 //!
 //! Each CPU is a thread. It draws what it does by weights, sleeps and polls among them, until the seconds have passed;
 //! then all poll until the last is done. At the end the calls that each CPU has sent are compared with those that the
-//! others' handlers have heard, and with the machine's own tally words. The exit status is 1 where a count is off.
+//! others' handlers have heard, and with the machine's own tally words. `smp_torture --help` has its options.
 #![tactic(auto)]
 
 ghost use Rattle.std.specs.Prelude.{IfOk};
 ghost use Rattle.smp_machine.specs.MachineCpu.{IsAt, IsFull};
 
 mod acts;
+mod board;
 mod cell;
 mod choice;
 mod deeds;
 mod ear;
 mod error;
+mod grammar;
 mod kind;
 mod launch;
 mod made;
@@ -24,6 +26,7 @@ mod sheet;
 mod table;
 mod torturer;
 mod verdict;
+mod watch;
 mod weights;
 
 use crate::acts::labels;
@@ -91,25 +94,41 @@ fn run<R: Wait + Threads + Clock + Print + Eprint + Sync>(
     Ok(print_table(rt, &request, reports.as_slice(), &audit)?)
 }
 
-/// Does what the words of the command line ask for.
-fn run_words<R: Wait + Threads + Clock + Print + Eprint + Sync>(
+/// Tortures as is asked for, and answers the status. Why it could not be done is said on standard error.
+fn do_request<R: Wait + Threads + Clock + Print + Eprint + Sync>(
+    rt: &R,
+    alloc: Global,
+    request: Request,
+) -> io::Result<u8> {
+    match run(rt, alloc, request) {
+        Ok(true) => Ok(0),
+        Ok(false) => Ok(1),
+        Err(error) => {
+            eprintln!(rt; "smp_torture: {error}")?;
+            Ok(2)
+        }
+    }
+}
+
+/// Does what these words of the command line ask for, and answers the status.
+fn do_words<R: Wait + Threads + Clock + Print + Eprint + Sync>(
     rt: &R,
     alloc: Global,
     words: &[String],
-) -> Result<bool, TortureError> {
+) -> io::Result<u8> {
     let texts: Result<Vec<&str>, AllocError> = words.iter().map(|w| w.as_str()).collect(alloc);
-    let request = read_words(alloc, texts?.as_slice())?;
-    run(rt, alloc, request)
+    let texts = texts?;
+    match read_words(alloc, texts.as_slice()) {
+        Ok(request) => do_request(rt, alloc, request),
+        Err(error) => {
+            error.print(rt)?;
+            Ok(if error.use_stderr() { 2 } else { 0 })
+        }
+    }
 }
 
 fn main(rt: HostRuntime) -> io::Result<ExitCode> {
     let words: Result<Vec<String>, AllocError> = env::args(&rt)?.collect(rt.alloc());
-    match run_words(&rt, rt.alloc(), words?.as_slice()) {
-        Ok(true) => Ok(ExitCode::SUCCESS),
-        Ok(false) => Ok(ExitCode::from(1)),
-        Err(error) => {
-            eprintln!(rt; "smp_torture: {error}")?;
-            Ok(ExitCode::from(2))
-        }
-    }
+    let status = do_words(&rt, rt.alloc(), words?.as_slice())?;
+    Ok(ExitCode::from(status))
 }

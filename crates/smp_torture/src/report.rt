@@ -23,12 +23,14 @@ pub struct Report {
     pub retries: u64,
     /// Polls and waits in which it heard calls of other CPUs, modulo 2^64; those after its last act are one.
     pub batches: u64,
+    /// Calls with wait that did not see what their source had stored before, modulo 2^64.
+    pub unseen: u64,
     ghost below: { number < 32 },
 }
 
 impl Report {
     /// What a CPU has left, in its handler and its stop function.
-    pub fn new(number: u32, handler: Ear, functions: Runs) -> Report
+    pub fn new(number: u32, handler: Ear<'_>, functions: Runs) -> Report
         requires { number < 32 }
         ensures { result.number ≡ number }
     {
@@ -45,6 +47,7 @@ impl Report {
             ran: functions.ran,
             retries,
             batches: handler.batches,
+            unseen: handler.unseen,
         }
     }
 

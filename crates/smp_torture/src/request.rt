@@ -3,12 +3,19 @@
 ghost use Rattle.std.specs.Prelude.{◌≡◌, ◌≤◌, IfSome, IfNone, IfOk};
 ghost use Rattle.smp_torture.specs.Ranges.{AreThreads, AreSeconds};
 
-use crate::error::TortureError;
+use crate::grammar::grammar;
 use crate::kind::{KINDS, Kind};
 use crate::weights::Weights;
 use clap::error::ErrorKind;
-use clap::{Arg, ArgAction, ArgMatches, Command};
-use std::alloc::{AllocError, Global};
+use clap::{ArgMatches, Error};
+use std::alloc::Global;
+
+/// What is said of weights that are none.
+const WEIGHTS: &str =
+    "invalid value for '--weights <KIND=W,..>': it is a list as single=4,stop-one=1 with weights from 0 to 65535, not all 0; --help names the kinds";
+
+/// What is said of a number that is none.
+const NUMBER: &str = "invalid value: --threads is 2 to 32, --seconds and --report are 1 to 3600";
 
 /// A torture: how many CPUs, each on a thread of its own, how long, and what they do.
 #[derive(Clone, Copy)]
@@ -17,6 +24,8 @@ pub struct Request {
     pub seconds: u32,
     pub seed: u64,
     pub weights: Weights,
+    /// The seconds between two reports on standard error.
+    pub report: u32,
     /// Whether to print only what does not depend on the schedule.
     pub quiet: bool,
     ghost lawful: { AreThreads threads × AreSeconds seconds },
@@ -34,22 +43,11 @@ fn within(low: u32, high: u32, number: u32) -> Option<u32>
     }
 }
 
-/// A word that is a number from `low` to `high`, or this number where there is no word.
-fn read_number(word: Option<&str>, usual: u32, low: u32, high: u32) -> Option<u32>
+/// The number behind an option, where it is from `low` to `high`.
+fn number(found: &ArgMatches<'_>, name: &str, low: u32, high: u32) -> Option<u32>
     ensures { IfSome result (λ n. (low ≤ n) × (n ≤ high)) }
 {
-    let number = match word {
-        Some(word) => word.parse::<u32>().ok()?,
-        None => usual,
-    };
-    within(low, high, number)
-}
-
-fn read_seed(word: Option<&str>) -> Option<u64> {
-    match word {
-        Some(word) => word.parse::<u64>().ok(),
-        None => Some(1),
-    }
+    within(low, high, found.get_one::<u32>(name)?)
 }
 
 /// A kind by its name, and the weight behind `=`.
@@ -72,39 +70,30 @@ fn read_weights(words: Option<&str>) -> Option<Weights> {
     Weights::new(of)
 }
 
-fn grammar<'a>(alloc: Global) -> Result<Command<'a>, AllocError> {
-    let mut command = Command::new(alloc, "smp_torture");
-    for name in ["threads", "seconds", "seed", "weights"] {
-        let arg = Arg::new(alloc, name).long(name).action(ArgAction::Set);
-        command = command.arg(arg)?;
-    }
-    let quiet = Arg::new(alloc, "quiet").long("quiet");
-    command.arg(quiet.action(ArgAction::SetTrue))
-}
-
-/// What the matches ask for.
-fn read_matches(found: &ArgMatches) -> Option<Request> {
-    let threads = read_number(found.get_str("threads"), 4, 2, 32)?;
-    let seconds = read_number(found.get_str("seconds"), 1, 1, 3600)?;
-    let seed = read_seed(found.get_str("seed"))?;
-    let weights = read_weights(found.get_str("weights"))?;
+/// What the matches ask for, with these weights. None where a number is out of its range, which the grammar refuses.
+fn read_matches(found: &ArgMatches<'_>, weights: Weights) -> Option<Request> {
+    let threads = number(found, "threads", 2, 32)?;
+    let seconds = number(found, "seconds", 1, 3600)?;
+    let report = number(found, "report", 1, 3600)?;
     Some(Request {
         threads,
         seconds,
-        seed,
+        seed: found.get_one::<u64>("seed").unwrap_or(1),
         weights,
+        report,
         quiet: found.get_flag("quiet"),
     })
 }
 
-/// What the words of the command line ask for, the program's own name first: `NoMemory` where a growth was refused, and
-/// `Usage` where they are no command line.
-pub fn read_words(alloc: Global, words: &[&str]) -> Result<Request, TortureError> {
-    match grammar(alloc)?.try_get_matches_from(words) {
-        Ok(found) => read_matches(&found).ok_or(TortureError::Usage),
-        Err(e) => match e.kind() {
-            ErrorKind::OutOfMemory => Err(TortureError::NoMemory),
-            _ => Err(TortureError::Usage),
-        },
+/// What the words of the command line ask for, the program's own name first. Where they are no command line, or ask for help
+/// or the version, the answer is what `clap` says.
+pub fn read_words<'a>(alloc: Global, words: &'a [&'a str]) -> Result<Request, Error> {
+    let found = grammar(alloc)?.try_get_matches_from(words)?;
+    let Some(weights) = read_weights(found.get_str("weights")) else {
+        return Err(grammar(alloc)?.error(ErrorKind::ValueValidation, WEIGHTS)?);
+    };
+    match read_matches(&found, weights) {
+        Some(request) => Ok(request),
+        None => Err(grammar(alloc)?.error(ErrorKind::ValueValidation, NUMBER)?),
     }
 }

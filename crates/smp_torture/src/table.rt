@@ -4,13 +4,24 @@ use crate::kind::Kind;
 use crate::made::Made;
 use crate::report::Report;
 use crate::request::Request;
-use crate::verdict::{are_no_strays, heard_of, is_right, is_tallied, made_of, queued_in, sent_of};
+use crate::verdict::{
+    are_no_strays, are_seen, heard_of, is_right, is_tallied, made_of, queued_in, sent_of,
+};
 use smp_queue::{Audit, Tally};
 use std::io;
 
 /// A verdict as a word.
 fn word(right: bool) -> &'static str {
     if right { "ok" } else { "OFF" }
+}
+
+/// What is said of a kind that was made, or is drawn, this often.
+fn word_of(count: u64, right: bool) -> &'static str {
+    if count == 0 && right {
+        "not made"
+    } else {
+        word(right)
+    }
 }
 
 /// The line of a kind, without what depends on the schedule: whether it is right.
@@ -21,7 +32,8 @@ fn print_kind_quietly<R: Print>(
     kind: Kind,
 ) -> io::Result<bool> {
     let right = is_right(reports, kind) && made_of(reports, kind).wrong == 0;
-    let (name, weight, said) = (kind.name(), request.weights.weight(kind), word(right));
+    let (name, weight) = (kind.name(), request.weights.weight(kind));
+    let said = word_of(u64::from(weight), right);
     println!(rt; "{name:<14}{weight:>8}  {said}")?;
     Ok(right)
 }
@@ -41,7 +53,11 @@ fn print_kind<R: Print>(
     } = made_of(reports, kind);
     let (sent, heard) = (sent_of(reports, kind).count, heard_of(reports, kind).count);
     let right = is_right(reports, kind) && wrong == 0;
-    let (name, weight, said) = (kind.name(), request.weights.weight(kind), word(right));
+    let (name, weight, said) = (
+        kind.name(),
+        request.weights.weight(kind),
+        word_of(count, right),
+    );
     let (mean, longest) = (nanos / count.max(1), longest / 1000);
     print!(rt; "{name:<14}{weight:>8}{count:>12}{wrong:>7}{sent:>13}{heard:>13}")?;
     println!(rt; "{mean:>12}{longest:>12}  {said}")?;
@@ -85,7 +101,7 @@ fn print_audit<R: Print>(
             if !request.quiet {
                 print_sums(rt, reports, tally)?;
             }
-            let right = is_tallied(reports, tally) && are_no_strays(reports);
+            let right = is_tallied(reports, tally) && are_no_strays(reports) && are_seen(reports);
             println!(rt; "audit drained {}", word(right))?;
             Ok(right)
         }

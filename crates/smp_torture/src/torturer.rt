@@ -2,6 +2,7 @@
 
 ghost use Rattle.smp_machine.specs.Seats.{IsSameSeat};
 
+use crate::board::Board;
 use crate::choice::Choice;
 use crate::deeds::Deeds;
 use crate::ear::{Ear, Runs};
@@ -12,23 +13,22 @@ use std::sync::Wait;
 use std::time::{Clock, Instant};
 
 /// The CPU at its machine, with its handler and its stop function.
-pub type EarSeat<'m, R> = Seat<'m, Global, R, Ear, Runs>;
+pub type EarSeat<'m, 'e, R> = Seat<'m, Global, R, Ear<'e>, Runs>;
 
 /// What a CPU makes at random, and what it has made.
 #[derive(Drop)]
 pub struct Torturer<'e, T> {
     pub clock: &'e T,
     pub plan: &'e Plan,
+    pub board: &'e Board,
     pub choice: Choice,
     pub deeds: Deeds,
     /// How much it has done, modulo 2^64.
     pub acts: u64,
-    /// The seconds of which standard error was told.
-    pub told: u64,
 }
 
 /// One turn; then, where there is a work to take, a poll.
-pub fn poll<R: Wait>(seat: &mut EarSeat<'_, R>)
+pub fn poll<R: Wait>(seat: &mut EarSeat<'_, '_, R>)
     ensures { IsSameSeat seat.old seat.new }
 {
     seat.handler.fresh = true;
@@ -38,21 +38,21 @@ pub fn poll<R: Wait>(seat: &mut EarSeat<'_, R>)
     }
 }
 
-impl<'e, T: Clock + Eprint> Torturer<'e, T> {
+impl<'e, T: Clock> Torturer<'e, T> {
     /// A CPU of this number that has done nothing.
-    pub fn new(clock: &'e T, plan: &'e Plan, number: u32) -> Torturer<'e, T> {
+    pub fn new(clock: &'e T, plan: &'e Plan, board: &'e Board, number: u32) -> Torturer<'e, T> {
         Torturer {
             clock,
             plan,
+            board,
             choice: Choice::new(plan.request.seed, number, plan.request.threads),
             deeds: Deeds::new(),
             acts: 0,
-            told: 0,
         }
     }
 
     /// Does one thing, and polls once, as often as not: how many seconds have passed. None where there is no clock.
-    fn act<R: Wait>(&mut self, seat: &mut EarSeat<'_, R>) -> Option<u64>
+    fn act<R: Wait>(&mut self, seat: &mut EarSeat<'_, '_, R>) -> Option<u64>
         ensures { IsSameSeat seat.old seat.new }
     {
         let kind = self.choice.kind(&self.plan.request.weights);
@@ -62,30 +62,20 @@ impl<'e, T: Clock + Eprint> Torturer<'e, T> {
         let after = Instant::now(self.clock).ok()?;
         self.deeds.made[kind.index()].note(right, after.duration_since(before));
         self.acts = self.acts.wrapping_add(1);
+        self.board.note_acts(seat.number(), self.acts);
         if self.choice.flip() {
             poll(seat);
         }
         Some(after.duration_since(self.plan.began).as_secs())
     }
 
-    /// CPU 0 tells standard error of each second that has passed.
-    fn tell(&mut self, number: u32, seconds: u64) {
-        if seconds > self.told && number == 0 {
-            self.told = seconds;
-            let (rt, acts) = (self.clock, self.acts);
-            eprintln!(rt; "smp_torture: {seconds} s, {acts} acts of CPU 0").is_ok();
-        }
-    }
-
     /// Does one thing after the other until the seconds have passed.
-    pub fn act_all<R: Wait>(&mut self, seat: &mut EarSeat<'_, R>)
+    pub fn act_all<R: Wait>(&mut self, seat: &mut EarSeat<'_, '_, R>)
         ensures { IsSameSeat seat.old seat.new }
     {
         for _ in seat.rt.forever() {
             match self.act(seat) {
-                Some(seconds) if seconds < u64::from(self.plan.request.seconds) => {
-                    self.tell(seat.number(), seconds);
-                }
+                Some(seconds) if seconds < u64::from(self.plan.request.seconds) => {}
                 _ => return,
             }
         }

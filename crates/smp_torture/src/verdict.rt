@@ -83,6 +83,11 @@ pub fn are_no_strays(reports: &[Report]) -> bool {
     reports.iter().all(|r| r.sent.strays() == 0 && r.heard.strays() == 0 && r.ran.strays() == 0)
 }
 
+/// Whether each call with wait saw what its source had stored before.
+pub fn are_seen(reports: &[Report]) -> bool {
+    reports.iter().all(|r| r.unseen == 0)
+}
+
 /// How many calls a CPU has queued for another: the tables know nothing of calls to itself, which run at once.
 fn queued_for(report: &Report, target: u32) -> u64 {
     let mut count = 0u64;
