@@ -24,13 +24,13 @@ wait_for-requires-clause-record g c = search (has_online, arith)
 pub queue-requires-clause-lawful : goal.queue-requires-clause-lawful
 queue-requires-clause-lawful g c = search (lawful_online, arith)
 
-pub returns-clause-queued : goal.returns-clause-queued
-returns-clause-queued g c =
-    queues_one g.H.Handler.leads c.many_record-k.result c.args.to c.args.job.class c.args.job.func c.args.job.info c.args.asked c.queue.result
-    c.queue.ensures.0 c.if-not-asked.false c.many_record-k.ensures (search rules) c.requires.sized c.wait_for.ensures.left c.queue.ensures.1
-
 pub returns-clause-at_once : goal.returns-clause-at_once
 returns-clause-at_once g c confirmed =
     queued_at_once c.args.me.now c.wait_for.new.me c.queue.new.me c.args.handler.now c.wait_for.new.handler c.many_record-k.result c.args.to
     c.args.job.class c.args.job.func c.args.job.info c.queue.result c.queue.ensures.0 c.wait_for.ensures.turns c.queue.ensures.1
     (subst (λ (j : ℕ). confirmed_at c.args.me.now j ≡ true) (sym c.many_record-k.ensures) confirmed)
+
+pub returns-clause-queued : goal.returns-clause-queued
+returns-clause-queued g c =
+    queues_one g.H.Handler.leads c.many_record-k.result c.args.to c.args.job.class c.args.job.func c.args.job.info c.args.asked c.queue.result
+    c.queue.ensures.0 c.if-not-asked.false c.many_record-k.ensures (search rules) c.requires.sized c.wait_for.ensures.left c.queue.ensures.1
