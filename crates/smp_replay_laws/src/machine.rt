@@ -7,7 +7,7 @@ ghost use Rattle.smp_core.specs.New.{new_core};
 ghost use Rattle.smp_core.specs.Runs.{IsReplay};
 ghost use Rattle.smp_event_steps.specs.declared.without.Setting.{Setting};
 ghost use Rattle.smp_words.specs.Limits.{AreLimits};
-ghost use Rattle.smp_replay_laws.specs.Accepted.{AreWordsOf, CallsAreAccepted, Fits, FitsPlain, IsAccepted, IsOf};
+ghost use Rattle.smp_replay_laws.specs.Accepted.{AreWordsOf, CallsAreAccepted, Fits, FitsCpus, IsAccepted, IsOf};
 
 use smp_core::events::{Replayed, replay};
 use smp_core::machine::Core;
@@ -27,8 +27,8 @@ pub fn replay_accepted<A: Allocator + Copy>(
     events: &[Event],
 ) -> Result<Replayed<A>, SmpError>
     ensures run { IfOk result (λ r. IsReplay (new_core nr online labels.now) events.now r.core r.seen.items r.stopped) }
-    ensures accepted { IfOk result (λ r. (u : Setting) (words : LabelWords) → AllByRecursion FitsPlain events.now → IsOf u online →
-        AreWordsOf words (new_core nr online labels.now).stops → IsAccepted u words r.seen.items r.core) }
+    ensures accepted { IfOk result (λ r. (u : Setting) (words : LabelWords) → AllByRecursion FitsCpus events.now → IsOf u online →
+        AreWordsOf u words (new_core nr online labels.now).stops → IsAccepted u words r.seen.items r.core) }
     ensures calls { IfOk result (λ r. (u : Setting) (words : LabelWords) → AllByRecursion Fits events.now → IsOf u online →
         CallsAreAccepted u words r.seen.items r.core) }
     ensures refused { IsErrOf result SmpError.BadArgument ↔ (¬ (AreLimits nr online)) }
