@@ -1,12 +1,12 @@
 -- The acknowledgement of the CPU that has made a patch is accepted.
-use Rattle.std.proofs.Common.{◌≡◌, ◌≢◌, ℕ, ◌+◌, ◌<◌, Bool, true, false, cond, List, [], ◌∷◌, ◌++◌, length, Option, Some, None, Ok, refl, ap, sym, ◌∙◌}
+use Rattle.std.proofs.Common.{◌≡◌, ℕ, ◌<◌, Bool, true, false, cond, List, [], ◌∷◌, length, Option, Some, None, Ok, refl, ap, sym, ◌∙◌}
 use Rattle.std.proofs.Common.{subst, inl, inr, arith}
 use Rattle.std.proofs.lemmas.Bool.{cases_eq, eq-eqb}
 use Rattle.std.proofs.lemmas.List.{append-nil, set-set}
-use Rattle.std.specs.Prelude.{slice_set, ◌==◌, pos}
+use Rattle.std.specs.Prelude.{slice_set, ◌==◌}
 use Rattle.smp_mask.specs.Mask.{has}
 use Rattle.smp_words.specs.Access.{one_less}
-use Rattle.smp_words.specs.Put.{put, put_word}
+use Rattle.smp_words.specs.Put.{put_word}
 use Rattle.smp_words.specs.Size.{cpus}
 use Rattle.smp_words.specs.declared.field.Field.TheVariants as field
 use Rattle.smp_words.specs.declared.word.Word.{Word}
@@ -14,9 +14,8 @@ use Rattle.smp_words.specs.declared.word.Word.TheVariants.{Slot}
 use Rattle.smp_words.specs.declared.work.Kind.TheVariants.{Patch}
 use Rattle.smp_words.specs.declared.work.Work.{Work}
 use Rattle.smp_words.proofs.Puts.{put_other, put_same}
-use Rattle.smp_stop_steps.specs.Labels.{Change, Patches, patch_answer}
+use Rattle.smp_stop_steps.specs.Labels.{Change, patch_answer}
 use Rattle.smp_stop_steps.specs.Seats.{Stands}
-use Rattle.smp_stop_steps.specs.Sits.{IsLoaded}
 use Rattle.smp_stop_steps.specs.Stages.{StopControlValue, StopOutcome, stop_goes, turn_ends, visit_acked}
 use Rattle.smp_stop_steps.specs.State.{Setup, StopState}
 use Rattle.smp_stop_steps.specs.Stop.{Standing, Called, Inside, Refills, Stop, acknowledged, is_called}
@@ -39,7 +38,7 @@ use Rattle.smp_event_steps.specs.Cpu.{handles_nothing}
 use Rattle.smp_event_steps.specs.Labels.{front_of, patch_now}
 use Rattle.smp_event_steps.specs.State.{StateValue, cpu_at, stop_at, with_stop}
 use Rattle.smp_event_steps.specs.Step.{goes, stop_goes as told_goes}
-use Rattle.smp_event_steps.specs.Stop.{acknowledged as acknowledged_in, at_last, has_run, late, with_acked}
+use Rattle.smp_event_steps.specs.Stop.{acknowledged as acknowledged_in, at_last, late, with_acked}
 use Rattle.smp_event_steps.specs.Stops.{next_store, patch_left, with_patch}
 use Rattle.smp_events.specs.Past.{past_at}
 use Rattle.smp_events.specs.Told.{with_on}

@@ -1,5 +1,5 @@
 -- Only the first CPU that is online makes a patch, and it makes one alone.
-use Rattle.std.proofs.Common.{◌≡◌, ◌≢◌, ℕ, true, List, Some, None, refl, ap, sym, ◌∙◌, subst}
+use Rattle.std.proofs.Common.{◌≡◌, ℕ, true, List, Some, None, refl, ap, sym, ◌∙◌, subst}
 use Rattle.std.proofs.lemmas.Bool.{eqb-true}
 use Rattle.smp_mask.specs.Mask.{has}
 use Rattle.smp_words.specs.declared.word.Word.{Word}
@@ -43,6 +43,10 @@ module _ (p : StopState) (slot c : ℕ) where
   inside_by (Alters j w count made rest) st e = subst IsInside (some_same j slot (sym st.0 ∙ e)) (ap is_inside st.1)
   inside_by (Closes j) st e = absurd (none_some slot (sym st.0 ∙ e))
 
+-- the CPU makes no patch
+abbrev pub MakesNone : Seat → Type 0
+MakesNone x = (j : ℕ) (w : Work) (count : ℕ) (made rest : List Change) → x ≡ Alters j w count made rest → ⊥
+
 module _ (u : Setup) (p : StopState) (at : Word → ℕ) (seat : ℕ → Seat) (source : ℕ → Source) (h : StopShows u p at seat source) where
   pub open_inside : (slot c : ℕ) → p.now.inside c ≡ Some slot → (p.now.stop slot).is_open ≡ true
   open_inside slot c e =
@@ -59,11 +63,7 @@ module _ (u : Setup) (p : StopState) (at : Word → ℕ) (seat : ℕ → Seat) (
   alone_is me first cpu slot ne inside kind active = ne (first_is slot cpu (open_inside slot cpu inside) kind active ∙ sym first)
 
   -- nobody patches while that CPU makes no patch
-  abbrev MakesNone : ℕ → Type 0
-  MakesNone me = (j : ℕ) (w : Work) (count : ℕ) (made rest : List Change) → seat me ≡ Alters j w count made rest → ⊥
-
-  pub nobody_patches : (me : ℕ) → me ≡ u.first → ((j : ℕ) (w : Work) (count : ℕ) (made rest : List Change) → seat me ≡ Alters j w count made rest → ⊥)
-      → p.now.patching ≡ Whole
+  pub nobody_patches : (me : ℕ) → me ≡ u.first → MakesNone (seat me) → p.now.patching ≡ Whole
   nobody_patches me first none = by_patching p.now.patching h.present.runner
     where
       by_patching : (g : Patching) → RunnerShows u.first g seat → g ≡ Whole
@@ -71,7 +71,7 @@ module _ (u : Setup) (p : StopState) (at : Word → ℕ) (seat : ℕ → Seat) (
       by_patching (Patches c w count made rest) r =
           absurd (none r.1.0 w count made rest (subst (λ (n : ℕ). seat n ≡ Alters r.1.0 w count made rest) (r.0 ∙ sym first) r.1.1))
 
-  pub elsewhere_none : (me : ℕ) → p.now.inside me ≡ None → (j : ℕ) (w : Work) (count : ℕ) (made rest : List Change) → seat me ≡ Alters j w count made rest → ⊥
+  pub elsewhere_none : (me : ℕ) → p.now.inside me ≡ None → MakesNone (seat me)
   elsewhere_none me out j w count made rest e =
       let st : Stands p.now me (Alters j w count made rest) = subst (Stands p.now me) e (h.present.stands me) in
       none_some j (sym out ∙ st.0)

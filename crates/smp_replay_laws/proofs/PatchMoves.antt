@@ -1,7 +1,7 @@
--- The steps of the CPU that makes a patch are accepted: its loads, and its stores.
-use Rattle.std.proofs.Common.{◌≡◌, ◌≢◌, ◌⊎◌, ℕ, ◌+◌, ◌<◌, ◌≤◌, Bool, true, false, ◌&&◌, cond, List, [], ◌∷◌, ◌++◌, length, length-set, Option, Some, None}
+-- The load of a key by which a patch begins, and each of its stores, are accepted.
+use Rattle.std.proofs.Common.{◌≡◌, ◌≢◌, ℕ, ◌<◌, true, ◌&&◌, cond, List, [], ◌∷◌, ◌++◌, length, length-set, Option, Some, None}
 use Rattle.std.proofs.Common.{Ok, refl, ap, sym, ◌∙◌, subst, inl, inr, arith}
-use Rattle.std.proofs.lemmas.Bool.{cases_eq, eq-eqb, ne_eqb}
+use Rattle.std.proofs.lemmas.Bool.{cases_eq, eq-eqb}
 use Rattle.std.proofs.lemmas.List.{append-nil}
 use Rattle.std.specs.Prelude.{slice_set, ◌==◌}
 use Rattle.smp_mask.specs.Mask.{has}
@@ -13,9 +13,6 @@ use Rattle.smp_labels.specs.declared.words.LabelWords.{LabelWords}
 use Rattle.smp_words.specs.Access.{at_after, seen_of, word_of}
 use Rattle.smp_words.specs.Put.{put_word}
 use Rattle.smp_words.specs.Size.{cpus}
-use Rattle.smp_words.specs.declared.access.Access.{Access}
-use Rattle.smp_words.specs.declared.field.Field.TheVariants as field
-use Rattle.smp_words.specs.declared.seen.Act.TheVariants as act
 use Rattle.smp_words.specs.declared.word.Word.{Word}
 use Rattle.smp_words.specs.declared.word.Word.TheVariants as word
 use Rattle.smp_words.specs.declared.work.Kind.TheVariants.{Patch}
@@ -53,8 +50,8 @@ use Rattle.smp_event_steps.specs.declared.stop.Patch.{Patch as ToldPatch}
 use Rattle.smp_event_steps.specs.declared.stop.Stop.{Stop as ToldStop}
 use Rattle.smp_event_steps.specs.declared.stop.Task.{Task}
 use Rattle.smp_event_steps.specs.Cpu.{handles_nothing}
-use Rattle.smp_event_steps.specs.Labels.{count_at, front_of, key_number, patch_now, popped, stored}
-use Rattle.smp_event_steps.specs.State.{StateValue, cpu_at, stop_at, with_stop}
+use Rattle.smp_event_steps.specs.Labels.{count_at, front_of, patch_now, popped, stored}
+use Rattle.smp_event_steps.specs.State.{StateValue, cpu_at, stop_at}
 use Rattle.smp_event_steps.specs.Step.{goes, label_goes, site_word}
 use Rattle.smp_event_steps.specs.Stop.{acked_by, has_run}
 use Rattle.smp_event_steps.specs.Stops.{next_store, patch_left, with_patch, with_word}
@@ -70,8 +67,7 @@ use Rattle.smp_replay_laws.proofs.PatchAlone.{alone_is, first_is, nobody_patches
 use Rattle.smp_replay_laws.proofs.PatchSteps.{AreEntries, count_found, makes_key, makes_site, part_leads, part_stored}
 use Rattle.smp_replay_laws.proofs.PatchWords.{IsStoreOf, IsThere, front_is, stored_entries, stored_keys, stored_keys_are, stored_sites, stored_sites_are}
 use Rattle.smp_replay_laws.proofs.Pasts.{past_else, past_here}
-use Rattle.smp_replay_laws.proofs.StopStages.{Accepted, at, c, else_if, past, seen_so, u}
-use Rattle.smp_replay_laws.proofs.StopStates.{IsAlike, IsAlone, cpu_alike, patch_else, stop_else, stop_here, stops_set}
+use Rattle.smp_replay_laws.proofs.StopStates.{IsAlike, IsAlone, cpu_alike, patch_else, stop_else, stop_here}
 use Rattle.smp_replay_laws.proofs.StopSteps.{ReachesStops, member_as, quiet_step}
 use Rattle.smp_replay_laws.proofs.StopTurns.{Made, seat_is, sits, st, then_if}
 
@@ -312,15 +308,15 @@ module _ (v : StopsValue) (p : StopState) (shown : StopShown p v) (me : ℕ) (be
     Left = popped (patch_left slot s) change.0
 
     abbrev Told : ToldStop
-    Told = record (stop_at s slot) { patch = Some (popped (patch_left slot s) change.0) }
+    Told = record (stop_at s slot) { patch = Some Left }
 
     abbrev T : StateValue
-    T = with_patch slot (popped (patch_left slot s) change.0) (with_word change.0 change.1 s)
+    T = with_patch slot Left (with_word change.0 change.1 s)
 
     here_told : stop_at T slot ≡ Told
     here_told = stop_here s slot Told f.stops_are (my.stop slot Is.0).below
 
-    has_left : HasLeft (stored change.0 change.1 s.words) w.func more (Some (popped (patch_left slot s) change.0))
+    has_left : HasLeft (stored change.0 change.1 s.words) w.func more (Some Left)
     has_left = part_stored s.words w.func (stop_at s slot) made more change (part slot w count made (change ∷ more) at_seat) lead
 
     module _ (q : StopState) (stops : (j : ℕ) → q.now.stop j ≡ p.now.stop j) (inside : (d : ℕ) → q.now.inside d ≡ p.now.inside d)
@@ -353,7 +349,7 @@ module _ (v : StopsValue) (p : StopState) (shown : StopShown p v) (me : ℕ) (be
 
       made_now : MadeIs T.words q.now.patching (q.calling me) (stop_at T slot).patch
       made_now = rw (patched_now, calling me, idle slot w count made (change ∷ more) at_seat, here_told)
-          (left_part (stored change.0 change.1 s.words) w.func made more change (Some (popped (patch_left slot s) change.0)) has_left)
+          (left_part (stored change.0 change.1 s.words) w.func made more change (Some Left) has_left)
 
       own : (j : ℕ) → q.now.inside me ≡ Some j → InsideIs q T Old me j
       own j e =
@@ -377,7 +373,7 @@ module _ (v : StopsValue) (p : StopState) (shown : StopShown p v) (me : ℕ) (be
         sites_are = stored_sites_are change.0 change.1 s.words ∙ f.sites_are;
         gate = f.gate ∙ sym gate;
         stops = λ j l. rw (stops j) (elim (cases_eq j slot) [
-          | inl e ↦ rw (e, here_told) (told_patched (p.now.stop slot) (stop_at s slot) (Some (popped (patch_left slot s) change.0))
+          | inl e ↦ rw (e, here_told) (told_patched (p.now.stop slot) (stop_at s slot) (Some Left)
               (f.stops slot (my.stop slot Is.0).below) (kind_is slot w Is.3 Is.4 on Is.0 Is.1) (none_called slot w Is.3 Is.4 on Is.0 Is.1))
           | inr ne ↦ rw (stop_else s slot Told j ne) (f.stops j l)
         ]);

@@ -23,7 +23,7 @@ use Rattle.smp_stop_steps.specs.State.{Present, Setup, StopState}
 use Rattle.smp_stop_steps.specs.Stop.{Standing, Inside, Raising, Nobody, Raises, Stop, acked as acked_of, raised, refilled}
 use Rattle.smp_stop_steps.specs.Table.{stop_number}
 use Rattle.smp_stop_steps.specs.Counts.{mask_weight}
-use Rattle.smp_stop_steps.specs.Tells.{acknowledges, plan_at, stored_shut, leaves}
+use Rattle.smp_stop_steps.specs.Tells.{acknowledges, stored_shut, leaves}
 use Rattle.smp_stop_steps.specs.Value.{StopShown, StopsValue, setup_of, stop_control_of}
 use Rattle.smp_stop_steps.specs.declared.known.Calling.{Calling}
 use Rattle.smp_stop_steps.specs.declared.known.Calling.TheVariants.{Idle, Calls, Carries}

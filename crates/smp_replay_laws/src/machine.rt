@@ -16,9 +16,9 @@ use smp_mask::{CpuMask, SmpError};
 use smp_words::command::Event;
 use std::alloc::Allocator;
 
-/// Replays these events on a new machine, up to the first that is refused. The events of calls that its steps tell are
-/// accepted. Where no stop is a patch, all events that they tell are accepted. E4 (`SmpError::BadArgument`) exactly where the
-/// limits of the machine are broken, and E6 (`SmpError::NoMemory`) where a growth is refused.
+/// Replays these events on a new machine, up to the first that is refused. All events that its steps tell are accepted, and so are
+/// those of calls alone. E4 (`SmpError::BadArgument`) exactly where the limits of the machine are broken, and E6
+/// (`SmpError::NoMemory`) where a growth is refused.
 pub fn replay_accepted<A: Allocator + Copy>(
     alloc: A,
     nr: u32,
