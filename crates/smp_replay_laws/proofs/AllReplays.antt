@@ -1,6 +1,6 @@
--- Each replay in which no stop is a patch is accepted.
+-- Each replay is accepted.
 use Rattle.std.proofs.lemmas.Bool.{false≢true}
-use Rattle.std.proofs.Common.{ℤ, ◌≡◌, ℕ, ◌+◌, ◌<◌, Bool, false, List, [], ◌∷◌, replicate, Option, Some, None, Err, refl, ap, sym, subst, inl, arith}
+use Rattle.std.proofs.Common.{ℤ, ◌≡◌, ℕ, ◌+◌, ◌<◌, Bool, false, List, [], ◌∷◌, replicate, Option, Some, None, Err, refl, ap, sym, ◌∙◌, subst, inl, arith}
 use Rattle.std.proofs.lemmas.List.{get_or-replicate, length-replicate}
 use Rattle.std.specs.Prelude.{slice_index_or}
 use Rattle.std.specs.List.{AllByRecursion}
@@ -38,14 +38,16 @@ use Rattle.smp_event_steps.specs.State.{StateValue, cpu_at}
 use Rattle.smp_events.specs.Past.{fresh, past_at}
 use Rattle.smp_events.specs.Traces.{all_fresh, events_of, events_of_step, kept}
 use Rattle.smp_events.specs.declared.past.Past.{Past}
-use Rattle.smp_replay_laws.specs.Accepted.{AreWordsOf, BeginsPlain, FitsPlain, ReplaysAreAccepted}
+use Rattle.smp_replay_laws.specs.Accepted.{AreWordsOf, BeginsOfCpus, FitsCpus, ReplaysAreAccepted}
 use Rattle.smp_replay_laws.specs.Stops.{FollowsStops, StopIs}
+use Rattle.smp_replay_laws.proofs.PatchSteps.{AreEntries}
 use Rattle.smp_replay_laws.proofs.Replays.{new_stands, runs_append}
 use Rattle.smp_replay_laws.proofs.Wholes.{StandsAll, call_stands, reached, reached_stops, start_stands, stop_stands, told_stops}
 use Rattle.smp_stop_steps.specs.New.{new_stops}
 use Rattle.smp_stop_steps.specs.Stages.{stop_outside}
 use Rattle.smp_stop_steps.specs.State.{StopState, no_stops}
 use Rattle.smp_stop_steps.specs.Table.{stop_number}
+use Rattle.smp_stop_steps.specs.Value.{StopShown, StopsValue, setup_of}
 use Rattle.smp_event_steps.specs.Stop.{closed}
 
 -- What the rest of a replay leaves.
@@ -77,7 +79,7 @@ Rest position rest = (core : CoreValue) (a : CallState) (p : StopState) (pasts :
 
 started_then : (position : ℕ) (rest : List Turned) → Rest (position + 1) rest → (core : CoreValue) (a : CallState) (p : StopState) (pasts : List Past)
     (s : StateValue)
-    → StandsAll core a p pasts s → (cpu : ℕ) (c : Command) → FitsCommand c → BeginsPlain c → (r : Option SmpError) → refusal_of core cpu c ≡ r
+    → StandsAll core a p pasts s → (cpu : ℕ) (c : Command) → FitsCommand c → BeginsOfCpus c → (r : Option SmpError) → refusal_of core cpu c ≡ r
     → let turn = start_turn core (started core cpu c) r in ReplayedAll a pasts s (replay_on position turn.core turn.answer (replay_from
     (position + 1) turn.core rest))
 started_then position rest on core a p pasts s k cpu c fits plain (Some why) e = refused core a p pasts s position why (replay_from (position + 1) core rest) k
@@ -107,7 +109,7 @@ stepped_then position rest on core a p pasts s k cpu None (Some stage) e f =
 
 replayed : (position : ℕ) (commands : List Turned) (core : CoreValue) (a : CallState) (p : StopState) (pasts : List Past) (s : StateValue)
     → StandsAll core a p pasts s
-    → AllByRecursion FitsPlain commands → ReplayedAll a pasts s (replay_from position core commands)
+    → AllByRecursion FitsCpus commands → ReplayedAll a pasts s (replay_from position core commands)
 replayed position [] core a p pasts s k all = record { t = s; stops = p; kept_then = pasts; run = refl; stands = k }
 replayed position (turned.Start cpu c ∷ rest) core a p pasts s k all =
     started_then position rest (λ core' a' p' pasts' s' k'. replayed
@@ -147,12 +149,13 @@ fresh_cpu_at u words cpu l = get_or-replicate 32 cpu fresh_cpu fresh_cpu (omega 
 fresh_past_at : (cpu : ℕ) → cpu < cpus → past_at all_fresh cpu ≡ fresh
 fresh_past_at cpu l = get_or-replicate 32 cpu fresh fresh (omega arith)
 
-opening_stops : (u : Setting) (words : LabelWords) (nr online : ℕ) (labels : Labels) → AreWordsOf words (new_stops nr online labels)
+opening_stops : (u : Setting) (words : LabelWords) (nr online : ℕ) (labels : Labels) → AreWordsOf u words (new_stops nr online labels)
     → FollowsStops no_stops (stop_number (new_stops nr online labels).table) all_fresh (opening u words)
 unfolding opening
 opening_stops u words nr online labels w = record {
   stops_are = length-replicate 32 (closed u.online);
   keys_are = w.keys_are;
+  sites_are = w.sites_are;
   gate = refl;
   stops = λ j l. rw (closed_at u.online j l) (closed_is u.online);
   cpus_are = λ cpu l. record {
@@ -172,6 +175,15 @@ opening_stops u words nr online labels w = record {
     three : {n : ℕ} → n ≡ 0 → n ≡ 3 → ⊥
     three e f = absurd (omega arith)
 
+opening_count : (u : Setting) (words : LabelWords) (n : ℕ) → u.keys ≡ n → (opening u words).setting.keys ≡ n
+unfolding opening
+opening_count u words n e = e
+
+opening_entries : (u : Setting) (words : LabelWords) (half : StopsValue) → AreWordsOf u words half → StopShown no_stops half
+    → AreEntries (setup_of half.online half.labels) (opening u words).words
+unfolding opening
+opening_entries u words half w shown j l = w.entries j ∙ shown.shows.present.entries.read j l
+
 pub replays_are_accepted : ReplaysAreAccepted
 replays_are_accepted nr online labels commands core steps stopped u words whole none fits is_replay is_of words_are =
     let first = new_core nr online labels in
@@ -184,6 +196,8 @@ replays_are_accepted nr online labels commands core steps stopped u words whole 
       follows = calls.follows;
       keeps = calls.keeps;
       follows_stops = opening_stops u words nr online labels words_are;
+      count = opening_count u words labels.keys words_are.count;
+      entries = opening_entries u words first.stops words_are none;
       elsewhere = calls.elsewhere;
       drafts = λ cpu l. rw (stop_outside_at nr online labels cpu) tt;
       handles = λ cpu. rw (outside_at cpu) tt;

@@ -10,6 +10,7 @@ pub mod Replays
 pub mod StopEvents
 pub mod StopStates
 pub mod StopSteps
+pub mod PatchAlone
 pub mod StopKinds
 pub mod StopMoves
 pub mod StopRuns
@@ -32,3 +33,6 @@ pub mod StopResults
 pub mod PatchFronts
 pub mod PatchSteps
 pub mod PatchWorks
+pub mod PatchWords
+pub mod PatchMoves
+pub mod PatchAcks

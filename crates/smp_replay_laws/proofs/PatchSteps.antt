@@ -13,7 +13,9 @@ use Rattle.smp_words.specs.declared.word.Word.{Word}
 use Rattle.smp_words.specs.declared.word.Word.TheVariants.{Key as KeyWord}
 use Rattle.smp_words.specs.declared.work.Kind.TheVariants.{Patch as APatch}
 use Rattle.smp_words.specs.declared.work.Work.{Work}
-use Rattle.smp_stop_steps.specs.Labels.{Change, LabelsShow, Patches, answer_for, labels_in, patch_answer}
+use Rattle.smp_stop_steps.specs.Labels.{Change, LabelsShow, Patching, Whole, Patches, answer_for, labels_in, patch_answer}
+use Rattle.smp_stop_steps.specs.declared.known.Calling.{Calling}
+use Rattle.smp_stop_steps.specs.declared.known.Calling.TheVariants.{Idle, Calls, Carries}
 use Rattle.smp_stop_steps.specs.State.{Setup}
 use Rattle.smp_stop_steps.specs.Tells.{plan_at}
 use Rattle.smp_event_steps.specs.declared.stop.Patch.{Patch}
@@ -25,7 +27,7 @@ use Rattle.smp_event_steps.specs.Stop.{acked_by, acknowledged, answer_by, answer
 use Rattle.smp_event_steps.specs.Stops.{ack_by, next_store, patch_by, patch_left, with_patch, with_word}
 use Rattle.smp_replay_laws.specs.Follows.{nothing_left_out}
 use Rattle.smp_replay_laws.specs.Patches.{HasLeft, Leads, PartIs}
-use Rattle.smp_replay_laws.specs.Stops.{as_i32}
+use Rattle.smp_replay_laws.specs.Stops.{MadeIs, as_i32}
 use Rattle.smp_replay_laws.proofs.PatchFronts.{plan_leads}
 use Rattle.std.specs.Prelude.{is_some, pos}
 
@@ -93,6 +95,26 @@ leads_stored (Key k) word words key patch [] l = l
 leads_stored (Key k) word words key patch (next ∷ rest) l = (l.0, leads_stored (Key k) word words key (popped patch next.0) rest l.1)
 leads_stored (Site i) word words key patch [] l = l
 leads_stored (Site i) word words key patch (next ∷ rest) l = (l.0, leads_stored (Site i) word words key (popped patch next.0) rest l.1)
+
+left_stored : (place : Place) (word : ℕ) (words : LabelWords) (key : ℕ) (rest : List Change) (told : Option Patch) → HasLeft words key rest told
+    → HasLeft (stored place word words) key rest told
+left_stored place word words key rest told k = record {
+  patch = k.patch;
+  told_is = k.told_is;
+  edge = k.edge;
+  leads = leads_stored place word words key k.patch rest k.leads;
+}
+
+-- nor what is told of the CPU that makes it
+pub made_stored : (place : Place) (word : ℕ) (words : LabelWords) (patching : Patching) (calling : Calling) (told : Option Patch)
+    → MadeIs words patching calling told → MadeIs (stored place word words) patching calling told
+made_stored place word words Whole Idle told k = k
+made_stored place word words Whole (Calls call) told k = k
+made_stored place word words patching (Carries answer) told k = k
+made_stored place word words (Patches cpu work count [] rest) Idle told k = k
+made_stored place word words (Patches cpu work count [] rest) (Calls call) told k = k
+made_stored place word words (Patches cpu work count (change ∷ made) rest) Idle told k = left_stored place word words work.func rest told k
+made_stored place word words (Patches cpu work count (change ∷ made) rest) (Calls call) told k = left_stored place word words work.func rest told k
 
 -- the model's entries are the machine's
 abbrev pub AreEntries : Setup → LabelWords → Type 0

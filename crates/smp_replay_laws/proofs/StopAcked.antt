@@ -1,7 +1,7 @@
 -- The step of a CPU that acknowledges a phase.
 use Rattle.std.proofs.Common.{◌≡◌, ◌≢◌, ℕ, ◌+◌, ◌<◌, Bool, true, false, not, ◌&&◌, cond, List, [], ◌∷◌, length, Option, Some, None, Ok}
-use Rattle.std.proofs.Common.{refl, ap, sym, ◌∙◌, subst, inl, inr, arith}
-use Rattle.std.proofs.lemmas.Bool.{cases_eq, ne_eqb, eqb-true}
+use Rattle.std.proofs.Common.{refl, ap, sym, ◌∙◌, subst, arith}
+use Rattle.std.proofs.lemmas.Bool.{ne_eqb, eqb-true}
 use Rattle.std.specs.Prelude.{slice_set, ◌==◌, pos}
 use Rattle.smp_mask.specs.Mask.{has}
 use Rattle.smp_words.specs.Access.{one_less}
@@ -46,7 +46,7 @@ use Rattle.smp_events.specs.Past.{past_at}
 use Rattle.smp_events.specs.Told.{with_on}
 use Rattle.smp_events.specs.declared.past.Past.{Past}
 use Rattle.smp_replay_laws.specs.Follows.{nothing_left_out}
-use Rattle.smp_replay_laws.specs.Stops.{AnswerIs, CpuIs, FollowsStops, OpenIs, PhaseIs, given_by, has_called, raiser_of}
+use Rattle.smp_replay_laws.specs.Stops.{AnswerIs, CpuIs, FollowsStops, OpenIs, PhaseIs, given_by, has_called, has_entered, raiser_of}
 use Rattle.smp_replay_laws.proofs.Accepts.{by}
 use Rattle.smp_replay_laws.proofs.StopAcks as acking
 use Rattle.smp_replay_laws.proofs.StopKinds.{Goes}
@@ -88,15 +88,9 @@ module _ (v : StopsValue) (p : StopState) (shown : StopShown p v) (me : ℕ) (be
   irq_here : (slot a l : ℕ) (w : Work) (t : Duty) → shown.seat me ≡ In slot w a l t → p.now.irq me ≡ irq_of (In slot w a l t)
   irq_here slot a l w t e = turns.irq_here v p shown me below pasts sized s whole cpus_are f quiet slot a l w t e
 
-  no_patch : (slot : ℕ) (w : Work) (count : ℕ) (made rest : List Change) → shown.seat me ≡ Alters slot w count made rest → ⊥
-  no_patch slot w count made rest e = turns.no_patch v p shown me below pasts sized s whole cpus_are f quiet slot w count made rest e
-
-  multi_is : (k : Kind) → k ≢ One → k ≢ Patch → k ≡ Multi
-  multi_is = turns.multi_is v p shown me below pasts sized s whole cpus_are f quiet
-
   -- a CPU acknowledges
   module _ (slot a : ℕ) (w : Work) (at_seat : shown.seat me ≡ In slot w a (a + 1) Rests) (kind : w.kind ≢ One) (x : Visit) (answer : ℕ) (ran : Bool)
-      (called : a + 1 ≡ 3 → has w.active me ≡ true → has_called (p.calling me) ≡ true) where
+      (called : a + 1 ≡ 3 → has w.active me ≡ true → (w.kind ≡ Multi) × (has_entered (p.calling me) ≡ true)) where
     abbrev here : Stands p.now me (In slot w a (a + 1) Rests)
     here = st slot a (a + 1) w Rests at_seat
 
@@ -123,22 +117,49 @@ module _ (v : StopsValue) (p : StopState) (shown : StopShown p v) (me : ℕ) (be
     }
 
     -- a CPU that has called its function has called it still
-    carried_same : (g : Calling) → has_called (carried_call g) ≡ has_called g
-    carried_same Idle = refl
-    carried_same (Calls call) = refl
-    carried_same (Carries n) = refl
+    carried_same : (k : Kind) (g : Calling) → has_called k (carried_call g) ≡ has_called k g
+    carried_same k Idle = refl
+    carried_same k (Carries n) = refl
+    carried_same One (Calls call) = refl
+    carried_same Multi (Calls call) = refl
+    carried_same Patch (Calls call) = refl
 
-    calls_same : (g : Patching) → RunnerShows U.first g shown.seat → has_called (carried me g (p.calling me)) ≡ has_called (p.calling me)
-    calls_same Whole r = carried_same (p.calling me)
-    calls_same (Patches d y count made rest) r = elim (cases_eq d me) [
-      | inl e ↦ absurd (no_patch r.1.0 y count made rest (subst (λ (n : ℕ). shown.seat n ≡ Alters r.1.0 y count made rest) e r.1.1))
-      | inr ne ↦ rw (ne_eqb d me ne) (carried_same (p.calling me))
-    ]
+    makes_none : (j : ℕ) (y : Work) (count : ℕ) (made rest : List Change) → shown.seat me ≡ Alters j y count made rest → ⊥
+    makes_none j y count made rest e = apart (sym at_seat ∙ e)
+      where
+        apart : In slot w a (a + 1) Rests ≡ Alters j y count made rest → ⊥
+        apart z = absurd cc
 
-    calling_same : (three : Bool) → has_called ((cond three (put p.calling me (carried me p.now.patching (p.calling me))) p.calling) me) ≡ has_called
-        (p.calling me)
-    calling_same true = ap has_called (put_same p.calling me _) ∙ calls_same p.now.patching shown.shows.present.runner
-    calling_same false = refl
+    not_mine : (d j : ℕ) (y : Work) (count : ℕ) (made rest : List Change) → shown.seat d ≡ Alters j y count made rest → d ≢ me
+    not_mine d j y count made rest at e = makes_none j y count made rest (subst (λ (n : ℕ). shown.seat n ≡ Alters j y count made rest) e at)
+
+    calls_same : (k : Kind) (g : Patching) → RunnerShows U.first g shown.seat → has_called k (carried me g (p.calling me)) ≡ has_called k (p.calling me)
+    calls_same k Whole r = carried_same k (p.calling me)
+    calls_same k (Patches d y count made rest) r = rw (ne_eqb d me (not_mine d r.1.0 y count made rest r.1.1)) (carried_same k (p.calling me))
+
+    calling_same : (k : Kind) (three : Bool) → has_called k ((cond three (put p.calling me (carried me p.now.patching (p.calling me))) p.calling) me)
+        ≡ has_called k (p.calling me)
+    calling_same k true = ap (has_called k) (put_same p.calling me _) ∙ calls_same k p.now.patching shown.shows.present.runner
+    calling_same k false = refl
+
+    -- of the active CPU of a patch nothing is changed here
+    patch_same : (three : Bool) → (a + 1 == 3) ≡ three → (p.now.stop slot).work.kind ≡ Patch → has (p.now.stop slot).work.active me ≡ true
+        → (cond three (put p.calling me (carried me p.now.patching (p.calling me))) p.calling) me ≡ p.calling me
+    patch_same true e patch active =
+        let k = called (eqb-true (a + 1) 3 e) (ap (λ (z : Work). has z.active me) (sym here.3) ∙ active) in
+        absurd (apart (sym k.0 ∙ (ap (λ (z : Work). z.kind) (sym here.3) ∙ patch)))
+      where
+        apart : Multi ≡ Patch → ⊥
+        apart z = absurd cc
+    patch_same false e patch active = refl
+
+    unpatched_same : (g : Patching) → RunnerShows U.first g shown.seat → unpatched me g ≡ g
+    unpatched_same Whole r = refl
+    unpatched_same (Patches d y count made rest) r = rw (ne_eqb d me (not_mine d r.1.0 y count made rest r.1.1)) refl
+
+    patching_same : (three : Bool) → cond three (unpatched me p.now.patching) p.now.patching ≡ p.now.patching
+    patching_same true = unpatched_same p.now.patching shown.shows.present.runner
+    patching_same false = refl
 
     calling_other : (three : Bool) (d : ℕ) → d ≢ me → (cond three (put p.calling me (carried me p.now.patching (p.calling me))) p.calling) d ≡ p.calling d
     calling_other true d ne = put_other p.calling me _ d ne
@@ -162,10 +183,7 @@ module _ (v : StopsValue) (p : StopState) (shown : StopShown p v) (me : ℕ) (be
     made = acking.ack_made U p At At' shown.seat shown.source shown.shows me below pasts sized s whole cpus_are f (λ j. refl)
         (λ j. refl) refl slot a w Idle here
         (λ e. kind (ap (λ (z : Work). z.kind) (sym here.3) ∙ e)) (λ two. irq_here slot a (a + 1) w Rests at_seat ∙ off_two a two)
-        (λ three active. (
-          multi_is (p.now.stop slot).work.kind (λ e. kind (ap (λ (z : Work). z.kind) (sym here.3) ∙ e)) (told_here slot a (a + 1) w Rests at_seat).kind,
-          called three (ap (λ (z : Work). has z.active me) (sym here.3) ∙ active),
-        ))
+        (λ three active. let k = called three (ap (λ (z : Work). has z.active me) (sym here.3) ∙ active) in (ap (λ (z : Work). z.kind) here.3 ∙ k.0, k.1))
       where
         off_two : (n : ℕ) → n + 1 ≡ 2 → irq_of (In slot w n (n + 1) Rests) ≡ false
         off_two n two =
@@ -188,6 +206,8 @@ module _ (v : StopsValue) (p : StopState) (shown : StopShown p v) (me : ℕ) (be
       calling_else = calling_other (a + 1 == 3);
       standing_else = λ d ne. put_other (p.now.stop slot).standing me (Inside (a + 1) (a + 1)) d ne;
       gate_is = refl;
+      work_is = refl;
+      patching_is = patching_same (a + 1 == 3);
     }
 
     goes_out : IsAcked true true
@@ -201,6 +221,8 @@ module _ (v : StopsValue) (p : StopState) (shown : StopShown p v) (me : ℕ) (be
       calling_else = calling_other (a + 1 == 3);
       standing_else = λ d ne. put_other (p.now.stop slot).standing me (Inside (a + 1) (a + 1)) d ne;
       gate_is = refl;
+      work_is = refl;
+      patching_is = patching_same (a + 1 == 3);
     }
 
     acked_now : (acknowledged (p.now.stop slot) me (a + 1) (At (Slot slot field.Ack))).standing me ≡ Inside (a + 1) (a + 1)
@@ -212,7 +234,7 @@ module _ (v : StopsValue) (p : StopState) (shown : StopShown p v) (me : ℕ) (be
         (acknowledged (p.now.stop slot) me (a + 1) (At (Slot slot field.Ack))) (a + 1)
         (raiser_of (cond (At (Slot slot field.Ack) == 1) (Refills me) (p.now.stop slot).raising))
         ((cond (a + 1 == 3) (put p.calling me (carried me p.now.patching (p.calling me))) p.calling) me) acked_now refl refl refl refl
-        (ap is_called here.1) (ap given_by here.1) (calling_same (a + 1 == 3)) old_is old_answer stays made
+        (ap is_called here.1) (ap given_by here.1) (calling_same (p.now.stop slot).work.kind (a + 1 == 3)) (patch_same (a + 1 == 3) refl) old_is old_answer stays made
 
     two_acks : a + 1 ≡ 4 → (At (Slot slot field.Ack) == 1) ≡ false
         → ReachesStops (Q true) At' (slice_set pasts me Old) s ((me, event.Stop (stops.Ack (a + 1))) ∷ ((me, event.Stop stops.On) ∷ []))
@@ -237,7 +259,7 @@ module _ (v : StopsValue) (p : StopState) (shown : StopShown p v) (me : ℕ) (be
         (told_acked U p At At' shown.seat shown.source shown.shows me below pasts sized s whole cpus_are f (λ j. refl) (λ j. refl) slot here.0 open_now
         (acknowledged (p.now.stop slot) me (a + 1) (At (Slot slot field.Ack))) (a + 1)
         (raiser_of (cond (At (Slot slot field.Ack) == 1) (Refills me) (p.now.stop slot).raising)) acked_now refl refl refl refl
-        (ap is_called here.1) (ap given_by here.1) goes_out.standing_else) (a + 1) acked_now (calling_same (a + 1 == 3)) old_is exit old_answer goes_out
+        (ap is_called here.1) (ap given_by here.1) goes_out.standing_else) (a + 1) acked_now (calling_same (p.now.stop slot).work.kind (a + 1 == 3)) (patch_same (a + 1 == 3) refl) refl old_is exit old_answer goes_out
         (λ d. refl) made
         (λ e. kind (ap (λ (z : Work). z.kind) (sym here.3) ∙ (ap (λ (z : Task). z.kind) (sym told.task) ∙ e))) (acked
         ∙ exit) (ap (λ (z : Option ℕ). is_cpu z me) none)

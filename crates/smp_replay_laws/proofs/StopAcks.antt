@@ -37,7 +37,7 @@ use Rattle.smp_event_steps.specs.Stop.{acked_by, has_run}
 use Rattle.smp_events.specs.Past.{past_at}
 use Rattle.smp_events.specs.declared.past.Past.{Past}
 use Rattle.smp_replay_laws.specs.Follows.{nothing_left_out}
-use Rattle.smp_replay_laws.specs.Stops.{CpuIs, FollowsStops, InsideIs, OpenIs, has_called, raiser_of}
+use Rattle.smp_replay_laws.specs.Stops.{CpuIs, FollowsStops, InsideIs, OpenIs, has_entered, raiser_of}
 use Rattle.smp_event_steps.specs.Stop.{acknowledged as acknowledged_in}
 use Rattle.smp_replay_laws.proofs.StopEvents.{acks_disabled, acks_other, acks_run}
 use Rattle.smp_replay_laws.proofs.StopKinds.{Goes}
@@ -123,7 +123,7 @@ module _ (u : Setup) (p : StopState) (at at' : Word → ℕ) (seat : ℕ → Sea
     no_raiser = was.raiser ∙ ap raiser_of nobody
 
     -- the last is to raise the phase
-    acknowledged_as : (last : Bool) → (at (Slot slot field.Ack) == 1) ≡ last → acknowledged_in me (a + 1) true (stop_at s slot)
+    pub acknowledged_as : (last : Bool) → (at (Slot slot field.Ack) == 1) ≡ last → acknowledged_in me (a + 1) true (stop_at s slot)
         ≡ record (stop_at s slot) {
           acked = slice_set (stop_at s slot).acked me (a + 1);
           raiser = raiser_of (cond last (Refills me)
@@ -145,7 +145,7 @@ module _ (u : Setup) (p : StopState) (at at' : Word → ℕ) (seat : ℕ → Sea
 
     -- the premises of each phase
     acks_as : (p.now.stop slot).work.kind ≢ One → (a + 1 ≡ 2 → p.now.irq me ≡ false)
-        → (a + 1 ≡ 3 → has (p.now.stop slot).work.active me ≡ true → ((p.now.stop slot).work.kind ≡ Multi) × (has_called (p.calling me) ≡ true))
+        → (a + 1 ≡ 3 → has (p.now.stop slot).work.active me ≡ true → ((p.now.stop slot).work.kind ≡ Multi) × (has_entered (p.calling me) ≡ true))
         → goes me (event.Stop (stops.Ack (a + 1))) s ≡ Ok (with_stop slot s (acknowledged_in me (a + 1) true (stop_at s slot)))
     unfolding stop_goes
     acks_as kind off called =
@@ -177,7 +177,7 @@ module _ (u : Setup) (p : StopState) (at at' : Word → ℕ) (seat : ℕ → Sea
         by_run : (cpu_at s me).inside ≡ Some slot → (stop_at s slot).task.kind ≢ One → acked_by (stop_at s slot) me < a + 1
             → (stop_at s slot).phase ≡ a + 1 → (a + 1 ≡ 2 → ⊥)
             → has (stop_at s slot).task.active me ≡ has (p.now.stop slot).work.active me
-            → (a + 1 ≡ 3 → has (p.now.stop slot).work.active me ≡ true → ((p.now.stop slot).work.kind ≡ Multi) × (has_called (p.calling me) ≡ true))
+            → (a + 1 ≡ 3 → has (p.now.stop slot).work.active me ≡ true → ((p.now.stop slot).work.kind ≡ Multi) × (has_entered (p.calling me) ≡ true))
             → (b : Bool) → (((a + 1) == 3) && has (stop_at s slot).task.active me) ≡ b
             → stop_goes me (stops.Ack (a + 1)) s ≡ Ok (with_stop slot s (acknowledged_in me (a + 1) true (stop_at s slot)))
         by_run in_told kind l phase not_two active_told called false e =
@@ -186,10 +186,10 @@ module _ (u : Setup) (p : StopState) (at at' : Word → ℕ) (seat : ℕ → Sea
             let k = and_parts ((a + 1) == 3) (has (stop_at s slot).task.active me) e in
             let three = eqb-true (a + 1) 3 k.0 in
             let c = called three (sym active_told ∙ k.1) in
-            acks_three in_told (ap (λ (z : Task). z.kind) was.task ∙ c.0) (a + 1) three l phase (i.ran ∙ c.1) k.1
+            acks_three in_told (ap (λ (z : Task). z.kind) was.task ∙ c.0) (a + 1) three l phase (i.ran ∙ rw c.0 c.1) k.1
 
     pub ack_made : (p.now.stop slot).work.kind ≢ One → (a + 1 ≡ 2 → p.now.irq me ≡ false)
-        → (a + 1 ≡ 3 → has (p.now.stop slot).work.active me ≡ true → ((p.now.stop slot).work.kind ≡ Multi) × (has_called (p.calling me) ≡ true))
+        → (a + 1 ≡ 3 → has (p.now.stop slot).work.active me ≡ true → ((p.now.stop slot).work.kind ≡ Multi) × (has_entered (p.calling me) ≡ true))
         → goes me (event.Stop (stops.Ack (a + 1))) s ≡ Ok (with_stop slot s (record (stop_at s slot) {
           acked = slice_set (stop_at s slot).acked me (a + 1);
           raiser = raiser_of (cond (at (Slot slot field.Ack) == 1) (Refills me) (p.now.stop slot).raising);

@@ -1,13 +1,12 @@
--- Each step of the stop half is accepted, where no stop is a patch.
-use Rattle.std.proofs.Common.{◌≡◌, ℕ, ◌<◌, ◌^◌, List, [], length, Some, Ok, sym, ◌∙◌}
+-- Each step of the stop half is accepted.
+use Rattle.std.proofs.Common.{◌≡◌, ℕ, ◌<◌, ◌^◌, List, length, Some, Ok, refl}
 use Rattle.smp_words.specs.Size.{cpus}
 use Rattle.smp_words.specs.declared.field.Field.TheVariants as field
 use Rattle.smp_words.specs.declared.word.Word.TheVariants.{Slot}
 use Rattle.smp_stop_steps.specs.Stages.{StopControlValue}
 use Rattle.smp_stop_steps.specs.State.{StopState}
 use Rattle.smp_stop_steps.specs.Table.{stop_number}
-use Rattle.smp_stop_steps.specs.Value.{StopShown, StopsValue, stop_control_of}
-use Rattle.smp_stop_steps.specs.declared.known.Duty.TheVariants.{Rests}
+use Rattle.smp_stop_steps.specs.Value.{StopShown, StopsValue, setup_of, stop_control_of}
 use Rattle.smp_stop_steps.specs.declared.stage.CompletionStage.{CompletionStage}
 use Rattle.smp_stop_steps.specs.declared.stage.CompletionStage.TheVariants as completion
 use Rattle.smp_stop_steps.specs.declared.stage.RoundStage.{RoundStage}
@@ -17,6 +16,8 @@ use Rattle.smp_replay_laws.proofs.StopTurns as turns
 use Rattle.smp_replay_laws.proofs.StopPhases as phases
 use Rattle.smp_replay_laws.proofs.StopEnds as ends
 use Rattle.smp_replay_laws.proofs.StopNudges as nudges
+use Rattle.smp_replay_laws.proofs.PatchMoves as patching
+use Rattle.smp_replay_laws.proofs.PatchSteps.{AreEntries}
 use Rattle.smp_stop_steps.specs.declared.stage.StopStage.{StopStage}
 use Rattle.smp_stop_steps.specs.declared.stage.StopStage.TheVariants.{TakeGate, OpenGate, Begin, Enter, EnterKind, EnterMask, EnterActive, ReadKey}
 use Rattle.smp_stop_steps.specs.declared.stage.StopStage.TheVariants.{ReadSite, NudgeKey, Advance, Complete, Close, LoadDone, LoadResult, ExchangeKey}
@@ -27,14 +28,12 @@ use Rattle.smp_events.specs.Past.{past_at}
 use Rattle.smp_events.specs.declared.past.Past.{Past}
 use Rattle.smp_replay_laws.specs.Follows.{nothing_left_out}
 use Rattle.smp_replay_laws.specs.Stops.{Drafts, FollowsStops}
-use Rattle.smp_replay_laws.proofs.StopTurns.{Made, calling_here, irq_here, keeps_here, no_patch, not_patch, opened_here, seat_is, sits, st, then_if}
-use Rattle.smp_replay_laws.proofs.StopTurns.{told_here, words_here}
-use Rattle.smp_replay_laws.proofs.StopStages.{Accepted, at, c, else_if, loads, past, seen_so, u}
+use Rattle.smp_replay_laws.proofs.StopTurns.{Made}
 
 module _ (v : StopsValue) (p : StopState) (shown : StopShown p v) (me : ℕ) (below : me < cpus) (pasts : List Past) (sized : length pasts ≡ 32)
     (s : StateValue) (whole : s.setting.without ≡ nothing_left_out) (cpus_are : length s.cpus ≡ 32) (f : FollowsStops p (stop_number v.table) pasts s)
     (quiet : handles_nothing (cpu_at s me) ≡ Ok tt) (results : (slot : ℕ) → stop_number v.table (Slot slot field.Result) < 2 ^ 32)
-    (online : s.setting.online ≡ v.online) where
+    (online : s.setting.online ≡ v.online) (count : s.setting.keys ≡ v.labels.keys) (entries : AreEntries (setup_of v.online v.labels) s.words) where
   abbrev C : StopControlValue
   C = stop_control_of v.controls me
 
@@ -48,17 +47,11 @@ module _ (v : StopsValue) (p : StopState) (shown : StopShown p v) (me : ℕ) (be
   in_round x (round.Look answer) e = turns.looks v p shown me below pasts sized s whole cpus_are f quiet x answer e
   in_round x (round.LoadFunc answer) e = turns.loads_func v p shown me below pasts sized s whole cpus_are f quiet x answer
   in_round x (round.LoadArg answer func) e = turns.loads_arg v p shown me below pasts sized s whole cpus_are f quiet x answer func e
-  in_round x (round.LoadKey key change) e =
-      let k = turns.sits v p shown me below pasts sized s whole cpus_are f quiet x (round.LoadKey key change) e in
-      let plain = not_patch v p shown me below pasts sized s whole cpus_are f quiet x.slot 2 3 k.1.0 Rests k.1.1.3 in
-      absurd (plain (sym k.1.1.0.kind ∙ k.0))
+  in_round x (round.LoadKey key change) e = patching.begins_patch v p shown me below pasts sized s whole cpus_are f quiet x key change e
   in_round x (round.LoadEntry key word site) e =
-      let k = turns.sits v p shown me below pasts sized s whole cpus_are f quiet x (round.LoadEntry key word site) e in
-      absurd (no_patch v p shown me below pasts sized s whole cpus_are f quiet x.slot k.0 k.1.count [] _ k.1.patch.2)
-  in_round x (round.StoreChange made) e =
-      let k = turns.sits v p shown me below pasts sized s whole cpus_are f quiet x (round.StoreChange made) e in
-      absurd (no_patch v p shown me below pasts sized s whole cpus_are f quiet x.slot k.0 k.1 k.6.0 k.6.1 k.6.4)
-  in_round x (round.Acknowledge answer ran) e = phases.acknowledges_phase v p shown me below pasts sized s whole cpus_are f quiet x answer ran e
+      stages.loads v p shown me below pasts sized s whole cpus_are f (Advance x (round.LoadEntry key word site)) (λ k. refl) (λ k. refl)
+  in_round x (round.StoreChange made) e = patching.stores_change v p shown me below pasts sized s whole cpus_are f quiet x made e entries
+  in_round x (round.Acknowledge answer ran) e = phases.acknowledges_phase v p shown me below pasts sized s whole cpus_are f quiet x answer ran e entries
   in_round x (round.Refill ran) e = phases.refills v p shown me below pasts sized s whole cpus_are f quiet x ran e
   in_round x (round.Raise ran) e = phases.raises_phase v p shown me below pasts sized s whole cpus_are f quiet x ran e
 
@@ -71,7 +64,7 @@ module _ (v : StopsValue) (p : StopState) (shown : StopShown p v) (me : ℕ) (be
   pub stop_accepted : (stage : StopStage) → C.stage ≡ Some stage → Drafts (Some stage) Old.draft → Does stage
   stop_accepted TakeGate e d = stages.takes_gate v p shown me below pasts sized s whole cpus_are f
   stop_accepted OpenGate e d = stages.opens_gate v p shown me below pasts sized s whole cpus_are f e
-  stop_accepted (Begin w g) e d = stages.begins v p shown me below pasts sized s whole cpus_are f w g e d online
+  stop_accepted (Begin w g) e d = stages.begins v p shown me below pasts sized s whole cpus_are f w g e d online count
   stop_accepted (Enter slot) e d = stages.enters v p shown me below pasts sized s whole cpus_are f slot e
   stop_accepted (EnterKind slot) e d = stages.enters_kind v p shown me below pasts sized s whole cpus_are f slot
   stop_accepted (EnterMask slot kind) e d = stages.enters_mask v p shown me below pasts sized s whole cpus_are f slot kind

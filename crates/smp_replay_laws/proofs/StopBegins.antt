@@ -13,10 +13,10 @@ use Rattle.smp_stop_steps.specs.Value.{stop_control_of}
 use Rattle.smp_stop_steps.specs.declared.stage.StopStage.{StopStage}
 use Rattle.smp_events.specs.Past.{after}
 use Rattle.smp_events.specs.declared.past.Past.{Past}
-use Rattle.smp_replay_laws.specs.Accepted.{BeginsPlain}
+use Rattle.smp_replay_laws.specs.Accepted.{BeginsOfCpus}
 use Rattle.smp_replay_laws.specs.Follows.{HandlesWithOn}
 use Rattle.smp_stop_steps.specs.Stages.{StopControlValue, stop_access}
-use Rattle.smp_replay_laws.specs.Stops.{DraftIs, Drafts, IsPlain}
+use Rattle.smp_replay_laws.specs.Stops.{DraftIs, Drafts, IsOfCpus}
 use Rattle.smp_words.specs.declared.field.Field.{Field}
 use Rattle.smp_words.specs.declared.field.Field.TheVariants as field
 use Rattle.smp_words.specs.declared.work.Work.{Work}
@@ -91,7 +91,7 @@ completion_drafts c x completion.StoreAnswer found d = tt
 completion_drafts c x completion.CountDown found d =
     if_drafts (found == 1) d (stop_goes (record c { visit = None }) (Close x.slot)) (stop_ends (record c { visit = None }) note.Finished) tt tt
 
-pub begin_drafts : (c : StopControlValue) (past : Past) (w : Work) (g : Field) → IsPlain w → DraftIs w g past.draft
+pub begin_drafts : (c : StopControlValue) (past : Past) (w : Work) (g : Field) → IsOfCpus w → DraftIs w g past.draft
     → Drafts (begun_next c w g).control.stage (after_draft past g (begun_value cpus w g)).draft
 begin_drafts c past w field.Kind plain d = (plain, kind_kept w.kind)
 begin_drafts c past w field.Mask plain d = (plain, (d, refl))
@@ -130,7 +130,7 @@ pub visit_drafts : (o : Option Visit) (stage : Visit → StopStage) (d : Draft) 
 visit_drafts None stage d k = tt
 visit_drafts (Some y) stage d k = k y
 
-pub first_drafts : (x : StopControlValue) (y : Command) → BeginsPlain y → (d : Draft) → Drafts (stop_first x y) d
+pub first_drafts : (x : StopControlValue) (y : Command) → BeginsOfCpus y → (d : Draft) → Drafts (stop_first x y) d
 first_drafts x (command.Begin w) pl d = (pl, tt)
 first_drafts x command.Gate pl d = tt
 first_drafts x command.Ungate pl d = tt
@@ -194,6 +194,10 @@ begun_at x (Some stage) = record x { stage = Some stage }
 pub begun_table : (v : StopsValue) (cpu : ℕ) (o : Option StopStage) → (stop_begun_if v cpu o).table ≡ v.table
 begun_table v cpu None = refl
 begun_table v cpu (Some stage) = refl
+
+pub begun_labels : (v : StopsValue) (cpu : ℕ) (o : Option StopStage) → (stop_begun_if v cpu o).labels ≡ v.labels
+begun_labels v cpu None = refl
+begun_labels v cpu (Some stage) = refl
 
 pub begun_here : (v : StopsValue) (cpu : ℕ) (o : Option StopStage) → length v.controls ≡ cpus → cpu < cpus
     → stop_control_of (stop_begun_if v cpu o).controls cpu ≡ begun_at (stop_control_of v.controls cpu) o

@@ -1,8 +1,9 @@
 -- The step of a CPU that runs the function of a stop of kind One, completes, closes or collects is accepted.
-use Rattle.std.proofs.Common.{◌≡◌, ◌≢◌, ℕ, ◌+◌, ◌<◌, ◌^◌, true, false, List, [], ◌∷◌, length, Option, Some, None, Ok, refl, ap, sym, ◌∙◌, subst, inl}
+use Rattle.std.proofs.Common.{◌≡◌, ◌≢◌, ℕ, ◌+◌, ◌<◌, ◌^◌, true, false, not, List, [], ◌∷◌, length, Option, Some, None, Ok, refl, ap, sym, ◌∙◌, subst, inl}
 use Rattle.std.proofs.Common.{inr, ◌⊎◌, arith}
-use Rattle.std.proofs.lemmas.Bool.{ne_eqb}
+use Rattle.std.proofs.lemmas.Bool.{and_right, ne_eqb}
 use Rattle.std.specs.Prelude.{slice_set, pos}
+use Rattle.smp_mask.specs.Mask.{has}
 use Rattle.smp_words.specs.Access.{one_less}
 use Rattle.smp_words.specs.Put.{put, put_word}
 use Rattle.smp_words.specs.Size.{cpus}
@@ -13,7 +14,7 @@ use Rattle.smp_words.specs.declared.work.Kind.{Kind}
 use Rattle.smp_words.specs.declared.work.Kind.TheVariants.{One, Multi, Patch}
 use Rattle.smp_words.specs.declared.work.Work.{Work}
 use Rattle.smp_words.proofs.Puts.{put_all, put_other, put_same}
-use Rattle.smp_stop_steps.specs.Callings.{IsCalling}
+use Rattle.smp_stop_steps.specs.Callings.{IsCalling, answer_in}
 use Rattle.smp_stop_steps.specs.Seats.{irq_of}
 use Rattle.smp_stop_steps.specs.Slots.{IsPhaseOf}
 use Rattle.smp_stop_steps.specs.Sits.{SitsInCompletion, SitsAt}
@@ -41,13 +42,18 @@ use Rattle.smp_event_steps.specs.declared.event.StopEvent.TheVariants as stops
 use Rattle.smp_event_steps.specs.Cpu.{handles_nothing, in_stop}
 use Rattle.smp_event_steps.specs.State.{StateValue, cpu_at, stop_at, with_cpu, with_stop}
 use Rattle.smp_event_steps.specs.Step.{goes}
-use Rattle.smp_event_steps.specs.Stop.{is_cpu}
+use Rattle.smp_event_steps.specs.declared.stop.Task.{Task}
+use Rattle.smp_event_steps.specs.Stop.{has_run, is_cpu}
 use Rattle.smp_events.specs.Past.{past_at}
 use Rattle.smp_events.specs.declared.past.Past.{Past}
 use Rattle.smp_events.specs.declared.told.Told.TheVariants as told
 use Rattle.smp_replay_laws.specs.Follows.{nothing_left_out}
-use Rattle.smp_replay_laws.specs.Stops.{AnswerIs, CpuIs, FollowsStops, as_i32, has_called, raiser_of}
+use Rattle.smp_replay_laws.specs.Stops.{AnswerIs, CpuIs, FollowsStops, InsideIs, MadeIs, as_i32, has_entered, raiser_of, told_work}
 use Rattle.smp_replay_laws.proofs.Accepts.{by}
+use Rattle.smp_replay_laws.proofs.PatchAlone.{open_inside}
+use Rattle.smp_replay_laws.proofs.PatchSteps.{others_answer}
+use Rattle.smp_replay_laws.proofs.StopEvents.{MayAnswer}
+use Rattle.smp_replay_laws.proofs.StopResults.{same_int}
 use Rattle.smp_replay_laws.proofs.StopKinds.{Goes, in_none, silent, told_still}
 use Rattle.smp_replay_laws.proofs.StopSources.{all_done, collects_told, result_gives}
 use Rattle.smp_replay_laws.proofs.StopTurns.{Made, calling_here, irq_here, keeps_here, opened_here, seat_is, st, then_if, words_here}
@@ -132,6 +138,8 @@ module _ (v : StopsValue) (p : StopState) (shown : StopShown p v) (me : ℕ) (be
         calling_else = λ d ne. put_other p.calling me _ d ne;
         standing_else = λ d ne. refl;
         gate_is = refl;
+        work_is = refl;
+        patching_is = refl;
       }) (inl kind) (ap (λ (z : Work). z.func) so.3 ∙ sym k.1.3) (sym words.written.arg))
     where
       may_one : (w : Work) (a : ℕ) → w.kind ≡ One → may_call me w (Inside a a) ≡ true
@@ -169,7 +177,61 @@ module _ (v : StopsValue) (p : StopState) (shown : StopShown p v) (me : ℕ) (be
         calling_else = λ d ne. refl;
         standing_else = λ d ne. put_other (p.now.stop slot).standing me (Answering x.acked x.answer) d ne;
         gate_is = refl;
+        work_is = refl;
+        patching_is = refl;
       }) refl refl))
+
+  -- a CPU that carries an answer may complete with it
+  may_carry : (slot : ℕ) (w : Work) → (p.now.stop slot).work ≡ w → w.kind ≢ One → p.now.inside me ≡ Some slot → (n : ℕ) → p.calling me ≡ Carries n
+      → has w.active me ≡ true → Old.answer ≡ as_i32 n → MayAnswer (stop_at s slot) me Old.answer
+  may_carry slot w work kind inside n calling active old = by_kind w.kind refl
+    where
+      i : InsideIs p s Old me slot
+      i = my.stop slot inside
+
+      task : (stop_at s slot).task ≡ told_work w
+      task = ((f.stops slot i.below).shows (open_inside U p At shown.seat shown.source shown.shows slot me inside)).task ∙ ap told_work work
+
+      by_kind : (k : Kind) → w.kind ≡ k → MayAnswer (stop_at s slot) me Old.answer
+      by_kind One e = absurd (kind e)
+      by_kind Multi e =
+          let ran : has_run (stop_at s slot) me ≡ true = i.ran ∙ rw (work, e, calling) refl in
+          rw ran refl
+      by_kind Patch e =
+          let kind_is : (p.now.stop slot).work.kind ≡ Patch = ap (λ (z : Work). z.kind) work ∙ e in
+          let active_is : has (p.now.stop slot).work.active me ≡ true = ap (λ (z : Work). has z.active me) work ∙ active in
+          let made = subst (λ (g : Calling). MadeIs s.words p.now.patching g (stop_at s slot).patch) calling (i.patch kind_is active_is) in
+          let told_active : has (stop_at s slot).task.active me ≡ true = ap (λ (z : Task). has z.active me) task ∙ active in
+          and_right (not (has_run (stop_at s slot) me)) _ (rw (told_active, made, old, same_int (as_i32 n)) refl)
+
+  ending_is : (y : Visit) (g : Calling) → IsEnding y g → g ≢ Idle → y.answer ≡ answer_in g
+  ending_is y Idle k ne = absurd (ne refl)
+  ending_is y (Calls call) k ne = k
+  ending_is y (Carries n) k ne = k
+
+  may_inside : (slot answer : ℕ) (w : Work) (a : ℕ) → (p.now.stop slot).work ≡ w → w.kind ≢ One → a ≡ 4 → p.now.inside me ≡ Some slot → Old.answer ≡ pos 0
+      → answer ≡ 0 → (g : Calling) → p.calling me ≡ g → IsCalling me (In slot w a a Rests) g → (g ≢ Idle → answer ≡ answer_in g)
+      → MayAnswer (stop_at s slot) me Old.answer
+  may_inside slot answer w a work kind four inside zero_now none Idle calling k ends =
+      let idle : has w.active me ≡ false = k (omega (arith, four)) in
+      let i = my.stop slot inside in
+      let task = ((f.stops slot i.below).shows (open_inside U p At shown.seat shown.source shown.shows slot me inside)).task in
+      let told_active : has (stop_at s slot).task.active me ≡ false = ap (λ (z : Task). has z.active me) task ∙ (ap (λ (z : Work). has z.active me) work
+      ∙ idle) in
+      and_right (not (has_run (stop_at s slot) me)) _ (rw (others_answer (stop_at s slot) me told_active, zero_now) refl)
+  may_inside slot answer w a work kind four inside zero_now none (Calls call) calling k ends = elim k.1.1 [
+    | inl one ↦ absurd (kind one)
+    | inr at ↦ let two = at.0 in absurd (omega (arith, four, two))
+  ]
+  may_inside slot answer w a work kind four inside zero_now none (Carries n) calling k ends =
+      let n_is : 0 ≡ n = sym none ∙ ends (λ z. absurd cc) in
+      may_carry slot w work kind inside n calling k.1 (zero_now ∙ ap as_i32 n_is)
+
+  may_give : (slot answer a : ℕ) (w : Work) → (p.now.stop slot).work ≡ w → w.kind ≢ One → p.now.inside me ≡ Some slot → Old.answer ≡ as_i32 answer
+      → (g : Calling) → p.calling me ≡ g → IsCalling me (Gives slot w a answer) g → MayAnswer (stop_at s slot) me Old.answer
+  may_give slot answer a w work kind inside given Idle calling k = absurd k
+  may_give slot answer a w work kind inside given (Calls call) calling k = absurd (kind k.1)
+  may_give slot answer a w work kind inside given (Carries n) calling k = may_carry slot w work kind inside n calling k.1 (given ∙ ap as_i32 (sym k.0))
 
   -- a CPU that completes
   module _ (x : Visit) (e : C.stage ≡ Some (Complete x completion.CountDown)) where
@@ -200,7 +262,8 @@ module _ (v : StopsValue) (p : StopState) (shown : StopShown p v) (me : ℕ) (be
     ends_so : (a answer : ℕ) (w : Work) (stood : Standing) → (p.now.stop x.slot).standing me ≡ stood → acked_of stood ≡ a → is_called stood ≡ false
         → is_of stood ≡ true
         → (p.now.stop x.slot).work ≡ w → Old.answer ≡ as_i32 answer → ((p.now.stop x.slot).phase ≢ 0 → a ≡ 4 → p.now.irq me ≡ true)
-        → ((p.now.stop x.slot).work.kind ≡ One → has_called (p.calling me) ≡ true) → (has_called (p.calling me) ≡ true) ⊎ (Old.answer ≡ pos 0)
+        → ((p.now.stop x.slot).work.kind ≡ One → has_entered (p.calling me) ≡ true)
+        → ((p.now.stop x.slot).work.kind ≢ One → a ≡ 4 → MayAnswer (stop_at s x.slot) me Old.answer)
         → ReachesStops (Q a answer) At' (slice_set pasts me Done) s (by me (told.One (event.Stop (stops.Complete Old.answer))))
     ends_so a answer w stood is acked_is not_called of work_is given irq one_called round_called =
         let slot = x.slot in
@@ -223,6 +286,8 @@ module _ (v : StopsValue) (p : StopState) (shown : StopShown p v) (me : ℕ) (be
           calling_else = λ d ne. put_other p.calling me Idle d ne;
           standing_else = λ d ne. put_other (p.now.stop slot).standing me (Completed a answer) d ne;
           gate_is = refl;
+          work_is = refl;
+          patching_is = refl;
         }) refl refl made
       where
         made_round : (o : (p.now.stop x.slot).is_open ≡ true) → (p.now.stop x.slot).work.kind ≢ One → (p.now.stop x.slot).phase ≢ 0
@@ -233,7 +298,8 @@ module _ (v : StopsValue) (p : StopState) (shown : StopShown p v) (me : ℕ) (be
         made_round o kind phase through =
             let four : acked_of ((p.now.stop x.slot).standing me) ≡ 4 = elim through.0 [ inl k ↦ k | inr k ↦ absurd (phase k) ] in
             complete_round U p At At' shown.seat shown.source shown.shows me below pasts sized s whole cpus_are f (λ j. refl) (λ j. refl) x.slot sees.0 o kind
-            (omega (arith, four)) (not_mine (p.now.stop x.slot).raising through.1) (irq phase (sym acked_is ∙ (sym (ap acked_of is) ∙ four))) round_called
+            (omega (arith, four)) (not_mine (p.now.stop x.slot).raising through.1) (irq phase (sym acked_is ∙ (sym (ap acked_of is) ∙ four)))
+            (round_called kind (sym acked_is ∙ (sym (ap acked_of is) ∙ four)))
 
         by_kind : (k : Kind) → (p.now.stop x.slot).work.kind ≡ k → IsPhaseOf (p.now.stop x.slot).work.kind (p.now.stop x.slot).phase
             → (p.now.stop x.slot).is_open ≡ true
@@ -259,15 +325,15 @@ module _ (v : StopsValue) (p : StopState) (shown : StopShown p v) (me : ℕ) (be
   counts_down x e =
       let k = ends_at x completion.CountDown e in
       elim k.1 [
-        | inl y ↦ inside_so k.0 y.3
+        | inl y ↦ inside_so k.0 y.0 y.3
         | inr y ↦ gives_so k.0 y
       ]
     where
       found : ℕ
       found = At (Slot x.slot field.Todo)
 
-      inside_so : (w : Work) → shown.seat me ≡ In x.slot w x.acked x.acked Rests → Does (Complete x completion.CountDown)
-      inside_so w at_seat =
+      inside_so : (w : Work) → x.answer ≡ 0 → shown.seat me ≡ In x.slot w x.acked x.acked Rests → Does (Complete x completion.CountDown)
+      inside_so w none at_seat =
           let slot = x.slot in
           let a = x.acked in
           let so = st v p shown me below pasts sized s whole cpus_are f quiet slot a a w Rests at_seat in
@@ -281,12 +347,13 @@ module _ (v : StopsValue) (p : StopState) (shown : StopShown p v) (me : ℕ) (be
           (λ phase four. irq_here v p shown me below pasts sized s whole cpus_are f quiet slot a a w Rests at_seat ∙ on_at a four)
           (λ kind. one_called (p.calling me) (carries x e) (one_acked 0 a a (p.now.stop slot).phase (one_phase (p.now.stop slot).work.kind
           (p.now.stop slot).phase kind words.kinds) keeps.1))
-          (inr zero_now))
+          (λ round four. may_inside x.slot x.answer w a so.3 (λ z. round (ap (λ (y : Work). y.kind) so.3 ∙ z)) four so.0 zero_now none (p.calling me) refl
+          (calling_here v p shown me below pasts sized s whole cpus_are f quiet slot a a w Rests at_seat) (ending_is x (p.calling me) (carries x e))))
         where
           on_at : (n : ℕ) → n ≡ 4 → irq_of (In x.slot w n n Rests) ≡ true
           on_at n four = rw four refl
 
-          one_called : (g : Calling) → IsEnding x g → x.acked ≡ 0 → has_called g ≡ true
+          one_called : (g : Calling) → IsEnding x g → x.acked ≡ 0 → has_entered g ≡ true
           one_called Idle k z = absurd (omega (arith, k.0))
           one_called (Calls call) k z = refl
           one_called (Carries n) k z = refl
@@ -301,9 +368,11 @@ module _ (v : StopsValue) (p : StopState) (shown : StopShown p v) (me : ℕ) (be
           (Slot slot field.Todo))))
           (slice_set pasts me (record Old { answer = pos 0 })) s (by me (told.One (event.Stop (stops.Complete Old.answer))))) (sym so.1)
           (ends_so x e x.acked x.answer w (Answering x.acked x.answer) so.1 refl refl refl so.3 given
-          (λ phase four. shown.shows.present.irq me ∙ ap irq_of at_seat) (λ kind. called) (inl called))
+          (λ phase four. shown.shows.present.irq me ∙ ap irq_of at_seat) (λ kind. called)
+          (λ round four. may_give slot x.answer x.acked w so.3 (λ z. round (ap (λ (y : Work). y.kind) so.3 ∙ z)) so.0 given (p.calling me) refl
+          (subst (λ (z : Seat). IsCalling me z (p.calling me)) at_seat (shown.shows.callings me))))
         where
-          called_so : (g : Calling) → IsCalling me (Gives x.slot w x.acked x.answer) g → has_called g ≡ true
+          called_so : (g : Calling) → IsCalling me (Gives x.slot w x.acked x.answer) g → has_entered g ≡ true
           called_so Idle k = absurd k
           called_so (Calls call) k = refl
           called_so (Carries n) k = refl
@@ -327,6 +396,8 @@ module _ (v : StopsValue) (p : StopState) (shown : StopShown p v) (me : ℕ) (be
         calling_else = λ d ne. refl;
         standing_else = λ d ne. refl;
         gate_is = refl;
+        work_is = refl;
+        patching_is = refl;
       } in
       subst (λ (z : StopState). ReachesStops z at' (slice_set pasts me Old) s []) (sym (then_if (p.now.stop slot).is_open q
       (stored_shut p slot field.Done 1) so.1))
@@ -354,4 +425,4 @@ module _ (v : StopsValue) (p : StopState) (shown : StopShown p v) (me : ℕ) (be
       (all_done U p At At shown.seat shown.source shown.shows me below pasts sized s whole cpus_are f (λ j. refl) (λ j. refl) q x open_now refl all)
       (result_gives U p At At shown.seat shown.source shown.shows me below pasts sized s whole cpus_are f (λ j. refl) (λ j. refl) q x open_now refl all refl
       (At (Slot me field.Result)) (results me) words.result)
-      (λ j. refl) (λ d. refl) (λ d. refl) (λ d. refl) refl
+      (λ j. refl) (λ d. refl) (λ d. refl) (λ d. refl) refl refl

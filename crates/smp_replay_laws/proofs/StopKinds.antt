@@ -2,10 +2,12 @@
 use Rattle.std.proofs.Common.{◌≡◌, ◌≢◌, ℕ, ◌<◌, Bool, true, false, List, [], ◌∷◌, length, Option, Some, None, refl, ap, sym, ◌∙◌, subst, inl, inr}
 use Rattle.std.proofs.lemmas.Bool.{cases_eq}
 use Rattle.std.specs.Prelude.{slice_set, pos}
+use Rattle.smp_mask.specs.Mask.{has}
 use Rattle.smp_words.specs.Put.{put}
 use Rattle.smp_words.specs.Size.{cpus}
 use Rattle.smp_words.specs.declared.word.Word.{Word}
 use Rattle.smp_words.specs.declared.word.Word.TheVariants.{Key, Site}
+use Rattle.smp_words.specs.declared.work.Kind.TheVariants.{Patch}
 use Rattle.smp_words.proofs.Puts.{put_same}
 use Rattle.smp_stop_steps.specs.Callings.{IsCalling}
 use Rattle.smp_stop_steps.specs.declared.known.Seat.{Seat}
@@ -26,7 +28,7 @@ use Rattle.smp_event_steps.specs.Stop.{has_run}
 use Rattle.smp_events.specs.Past.{past_at}
 use Rattle.smp_events.specs.declared.past.Past.{Past}
 use Rattle.smp_replay_laws.specs.Follows.{nothing_left_out}
-use Rattle.smp_replay_laws.specs.Stops.{AnswerIs, CpuIs, FollowsStops, InsideIs, MemberIs, PhaseIs, StopIs, has_called, raiser_of}
+use Rattle.smp_replay_laws.specs.Stops.{AnswerIs, CpuIs, FollowsStops, InsideIs, MadeIs, MemberIs, PhaseIs, StopIs, has_called, raiser_of}
 use Rattle.smp_replay_laws.proofs.StopEvents.{gives_gate, takes_gate}
 use Rattle.smp_replay_laws.proofs.StopSteps.{OneStop, ReachesStops, gate_step, quiet_step, same_step}
 
@@ -69,10 +71,12 @@ module _ (u : Setup) (p : StopState) (at at' : Word → ℕ) (seat : ℕ → Sea
     pub calling_else : (cpu : ℕ) → cpu ≢ me → q.calling cpu ≡ p.calling cpu
     pub standing_else : (cpu : ℕ) → cpu ≢ me → x.standing cpu ≡ (p.now.stop slot).standing cpu
     pub gate_is : q.gate ≡ p.gate
+    pub work_is : x.work ≡ (p.now.stop slot).work
+    pub patching_is : q.now.patching ≡ p.now.patching
 
   pub one_stop : (q : StopState) (slot : ℕ) (x : Stop) (inside : Option ℕ) (irq : Bool) (calling : Calling) (y : ToldStop) → Goes q slot x inside irq calling
-      → ((cpu : ℕ) → cpu ≢ me → has_run y cpu ≡ has_run (stop_at s slot) cpu) → OneStop p q me slot x (stop_at s slot) y
-  one_stop q slot x inside irq calling y g ran = record {
+      → ((cpu : ℕ) → cpu ≢ me → has_run y cpu ≡ has_run (stop_at s slot) cpu) → y.patch ≡ (stop_at s slot).patch → OneStop p q me slot x (stop_at s slot) y
+  one_stop q slot x inside irq calling y g ran patch = record {
     stop_is = g.stop_is;
     inside = g.inside_else;
     irq = g.irq_else;
@@ -80,6 +84,8 @@ module _ (u : Setup) (p : StopState) (at at' : Word → ℕ) (seat : ℕ → Sea
     standing = g.standing_else;
     ran = ran;
     gate = g.gate_is;
+    work = g.work_is;
+    patch = inl (g.patching_is, patch);
   }
 
   -- the stop of the slot after it
@@ -89,16 +95,19 @@ module _ (u : Setup) (p : StopState) (at at' : Word → ℕ) (seat : ℕ → Sea
   -- a CPU in this stop
   pub in_slot : (q : StopState) (t : StateValue) (past : Past) (slot : ℕ) (x : Stop) (irq : Bool) (calling : Calling)
       → Goes q slot x (Some slot) irq calling → slot < cpus
-      → (cpu_at t me).inside ≡ Some slot → (cpu_at t me).irq ≡ irq → has_run (stop_at t slot) me ≡ has_called calling → PhaseIs (x.standing me) past.phase
+      → (cpu_at t me).inside ≡ Some slot → (cpu_at t me).irq ≡ irq → has_run (stop_at t slot) me ≡ has_called (p.now.stop slot).work.kind calling
+      → ((p.now.stop slot).work.kind ≡ Patch → has (p.now.stop slot).work.active me ≡ true → MadeIs t.words p.now.patching calling (stop_at t slot).patch)
+      → PhaseIs (x.standing me) past.phase
       → AnswerIs (x.standing me) past.answer → (past.phase ≡ 3 → irq ≡ false) → CpuIs q t past me
-  in_slot q t past slot x irq calling g l inside_told irq_told ran phase answer reads = record {
+  in_slot q t past slot x irq calling g l inside_told irq_told ran patch phase answer reads = record {
     inside = inside_told ∙ sym g.inside_is;
     irq = irq_told ∙ sym g.irq_is;
     stop = λ other e.
         let same : slot ≡ other = some_same (sym g.inside_is ∙ e) in
         subst (λ (n : ℕ). InsideIs q t past me n) same (record {
           below = l;
-          ran = ran ∙ ap has_called (sym g.calling_is);
+          ran = rw (g.calling_is, work_now) ran;
+          patch = rw (g.calling_is, work_now, g.patching_is) patch;
           phase = subst (λ (z : Stop). PhaseIs (z.standing me) past.phase) (sym (stop_now q slot x g.stop_is)) phase;
           answer = subst (λ (z : Stop). AnswerIs (z.standing me) past.answer) (sym (stop_now q slot x g.stop_is)) answer;
         });
@@ -106,6 +115,9 @@ module _ (u : Setup) (p : StopState) (at at' : Word → ℕ) (seat : ℕ → Sea
     reads = λ e. g.irq_is ∙ reads e;
   }
     where
+      work_now : (q.now.stop slot).work ≡ (p.now.stop slot).work
+      work_now = ap (λ (z : Stop). z.work) (stop_now q slot x g.stop_is) ∙ g.work_is
+
       some_same : {a b : ℕ} → Some a ≡ Some b → a ≡ b
       some_same e = cc
 
@@ -134,6 +146,7 @@ module _ (u : Setup) (p : StopState) (at at' : Word → ℕ) (seat : ℕ → Sea
     stop = λ j e. let i = mine.stop j e in record {
       below = i.below;
       ran = i.ran;
+      patch = i.patch;
       phase = rw phase i.phase;
       answer = rw answer i.answer;
     };
@@ -144,7 +157,7 @@ module _ (u : Setup) (p : StopState) (at at' : Word → ℕ) (seat : ℕ → Sea
   -- a step that tells and changes nothing of the stops
   pub nothing_told : (past : Past) → past.phase ≡ (past_at pasts me).phase → past.answer ≡ (past_at pasts me).answer → Leads p past []
   nothing_told past phase answer = quiet_step p p at at' pasts s me past below sized cpus_are f keys sites refl (λ j. refl) (λ c ne. refl)
-      (λ c ne. refl) (λ c ne. refl)
+      (λ c ne. refl) (λ c ne. refl) (inl refl)
       (mine_past past phase answer)
 
   -- the members of a stop after a step of this CPU
@@ -172,8 +185,7 @@ module _ (u : Setup) (p : StopState) (at at' : Word → ℕ) (seat : ℕ → Sea
           phase = was.phase ∙ sym phase;
           raiser = was.raiser ∙ sym raiser;
           members = members_set x y e e was.members others (λ cpu ne m. m) (here (sym is_open ∙ o) (was.members me below));
-          kind = rw work was.kind;
-          patch = was.patch;
+          patch = rw work was.patch;
         };
   }
 
@@ -181,7 +193,7 @@ module _ (u : Setup) (p : StopState) (at at' : Word → ℕ) (seat : ℕ → Sea
   pub silent : (q : StopState) (past : Past) (slot : ℕ) (x : Stop) (inside : Option ℕ) (irq : Bool) (calling : Calling) → Goes q slot x inside irq calling
       → (slot < cpus → StopIs x (stop_at s slot)) → CpuIs q s past me → Leads q past []
   silent q past slot x inside irq calling g here my = same_step p q at at' pasts s me past below sized cpus_are f keys sites slot x
-      (one_stop q slot x inside irq calling (stop_at s slot) g (λ c ne. refl)) here my
+      (one_stop q slot x inside irq calling (stop_at s slot) g (λ c ne. refl) refl) here my
 
   -- the count is refilled
   pub refilled_step : (q : StopState) (past : Past) (slot : ℕ) (x : Stop) (a : ℕ) → p.now.inside me ≡ Some slot → (p.now.stop slot).standing me ≡ Inside a a
@@ -194,5 +206,5 @@ module _ (u : Setup) (p : StopState) (at at' : Word → ℕ) (seat : ℕ → Sea
       silent q past slot x (Some slot) (p.now.irq me) (p.calling me) g
       (λ _. told_still (p.now.stop slot) x (stop_at s slot) (f.stops slot i.below) is_open work phase raiser g.standing_else
       (λ o m. subst (λ (z : Standing). MemberIs z (stop_at s slot) me) (was ∙ sym now) m))
-      (in_slot q s past slot x (p.now.irq me) (p.calling me) g i.below (mine.inside ∙ inside) mine.irq i.ran
+      (in_slot q s past slot x (p.now.irq me) (p.calling me) g i.below (mine.inside ∙ inside) mine.irq i.ran i.patch
       (rw (now, past_phase) (rw was at i.phase)) (rw (now, past_answer) (rw was at i.answer)) (λ e. mine.reads (sym past_phase ∙ e)))

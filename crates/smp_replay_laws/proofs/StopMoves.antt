@@ -7,7 +7,8 @@ use Rattle.smp_mask.specs.Mask.{has}
 use Rattle.smp_words.specs.Size.{cpus}
 use Rattle.smp_words.specs.declared.word.Word.{Word}
 use Rattle.smp_words.specs.declared.word.Word.TheVariants.{Key, Site}
-use Rattle.smp_words.specs.declared.work.Kind.TheVariants.{One}
+use Rattle.smp_words.specs.declared.work.Kind.{Kind}
+use Rattle.smp_words.specs.declared.work.Kind.TheVariants.{One, Multi, Patch}
 use Rattle.smp_stop_steps.specs.Shows.{StopShows}
 use Rattle.smp_stop_steps.specs.State.{Setup, StopState}
 use Rattle.smp_stop_steps.specs.Stop.{Standing, Called, Inside, Stop, acked, is_called, stands}
@@ -27,12 +28,19 @@ use Rattle.smp_event_steps.specs.Stop.{acked_by, has_run}
 use Rattle.smp_events.specs.Past.{past_at}
 use Rattle.smp_events.specs.declared.past.Past.{Past}
 use Rattle.smp_replay_laws.specs.Follows.{nothing_left_out}
-use Rattle.smp_replay_laws.specs.Stops.{AnswerIs, CpuIs, FollowsStops, InsideIs, MemberIs, OpenIs, StopIs, given_by, has_called}
+use Rattle.smp_replay_laws.specs.Stops.{AnswerIs, CpuIs, FollowsStops, InsideIs, MadeIs, MemberIs, OpenIs, StopIs, given_by, has_called}
+use Rattle.smp_replay_laws.proofs.PatchAlone.{elsewhere_none, first_is, nobody_patches}
 use Rattle.smp_replay_laws.proofs.States.{cpu_here}
 use Rattle.smp_replay_laws.proofs.StopEvents.{enters_stop, turns_off}
 use Rattle.smp_replay_laws.proofs.StopKinds.{Goes, in_slot, members_set, one_stop, silent, told_still}
 use Rattle.smp_replay_laws.proofs.StopStates.{stop_here}
 use Rattle.smp_replay_laws.proofs.StopSteps.{ReachesStops, cpu_step, member_as, set_step}
+
+-- a CPU that has called nothing has called none of any kind
+pub none_called : (k : Kind) → has_called k Idle ≡ false
+none_called One = refl
+none_called Multi = refl
+none_called Patch = refl
 
 module _ (u : Setup) (p : StopState) (at at' : Word → ℕ) (seat : ℕ → Seat) (source : ℕ → Source) (h : StopShows u p at seat source) (me : ℕ)
     (below : me < cpus)
@@ -57,7 +65,7 @@ module _ (u : Setup) (p : StopState) (at at' : Word → ℕ) (seat : ℕ → Sea
       → p.calling me ≡ Idle → Is q slot (stands (p.now.stop slot) me (Inside 0 0)) (Some slot) (p.now.irq me) (p.calling me)
       → Leads q (past_at pasts me) ((me, event.Stop (stops.Enter slot)) ∷ [])
   unfolding stop_goes
-  enters_told q slot l none is_open called idle g =
+  enters_told q slot l inside_none is_open called idle g =
       let was = shown slot l is_open in
       let e = stop_at s slot in
       let x = stands (p.now.stop slot) me (Inside 0 0) in
@@ -71,6 +79,7 @@ module _ (u : Setup) (p : StopState) (at at' : Word → ℕ) (seat : ℕ → Sea
         acked_is = member.acked_is ∙ ap acked called;
         answer = member.answer ∙ ap given_by called;
         fresh = λ is. absurd cc;
+        unmade = λ is. absurd cc;
       }) in
       let told : StopIs x y = record {
         sized = record { entered = length-set e.entered me true ∙ size.entered; acked = size.acked; ran = size.ran; answers = size.answers };
@@ -81,29 +90,34 @@ module _ (u : Setup) (p : StopState) (at at' : Word → ℕ) (seat : ℕ → Sea
           raiser = was.raiser;
           members = members_set u p at at' seat source h me below pasts sized s whole cpus_are f keys sites (p.now.stop slot) x e y was.members g.standing_else
               (λ cpu ne m. member_as ((p.now.stop slot).standing cpu) e y cpu (rw
-              (get_or-set_other e.entered me cpu true false ne) refl) refl refl refl m) here;
-          kind = was.kind;
+              (get_or-set_other e.entered me cpu true false ne) refl) refl refl refl (λ is k. (k, refl)) m) here;
           patch = was.patch;
         };
       } in
       let t = with_cpu me (with_stop slot s y) c in
       let my_cpu = cpu_here (with_stop slot s y) me c cpus_are below in
-      let ran : has_run (stop_at t slot) me ≡ has_called (p.calling me) =
-      ap (λ (z : ToldStop). has_run z me) (stop_here s slot y f.stops_are l) ∙ (member.fresh called ∙ rw idle refl) in
+      let ran : has_run (stop_at t slot) me ≡ has_called (p.now.stop slot).work.kind (p.calling me) =
+      ap (λ (z : ToldStop). has_run z me) (stop_here s slot y f.stops_are l) ∙ (member.fresh called ∙ rw idle (sym (none_called (p.now.stop slot).work.kind))) in
+      let patch : (p.now.stop slot).work.kind ≡ Patch → has (p.now.stop slot).work.active me ≡ true
+      → MadeIs t.words p.now.patching (p.calling me) (stop_at t slot).patch = λ kind active.
+      let none_told : e.patch ≡ None = member.unmade called (ap (λ (z : Task). has z.active me) was.task ∙ active) in
+      let first = first_is u p at seat source h slot me is_open kind active in
+      let whole_now = nobody_patches u p at seat source h me first (elsewhere_none u p at seat source h me inside_none) in
+      rw (idle, stop_here s slot y f.stops_are l, whole_now) none_told in
       set_step p q at at' pasts s me (past_at pasts me) below sized cpus_are f keys sites slot x y c l
       (one_stop u p at at' seat source h me below pasts sized s whole cpus_are f keys sites q slot x (Some slot) (p.now.irq me) (p.calling me) y g
-      (λ cpu ne. refl)) told
+      (λ cpu ne. refl) refl) told
       ((me, event.Stop (stops.Enter slot)) ∷ []) (
         t,
         (
-          enters_stop s me whole slot (omega arith) (me_now.inside ∙ none) ((f.stops slot l).is_open ∙ is_open) (member.called
+          enters_stop s me whole slot (omega arith) (me_now.inside ∙ inside_none) ((f.stops slot l).is_open ∙ is_open) (member.called
               ∙ ap is_called called),
           refl,
         ),
       ) refl
       (in_slot u p at at' seat source h me below pasts sized s whole cpus_are f keys sites q t (past_at pasts me) slot x (p.now.irq me) (p.calling me) g l
-      (ap (λ (z : CpuState). z.inside) my_cpu) (ap (λ (z : CpuState). z.irq) my_cpu ∙ me_now.irq) ran
-      (rw (eq-eqb me me refl) (λ e. absurd (e refl))) (rw (eq-eqb me me refl) (me_now.answer none)) me_now.reads)
+      (ap (λ (z : CpuState). z.inside) my_cpu) (ap (λ (z : CpuState). z.irq) my_cpu ∙ me_now.irq) ran patch
+      (rw (eq-eqb me me refl) (λ e. absurd (e refl))) (rw (eq-eqb me me refl) (me_now.answer inside_none)) me_now.reads)
 
   -- a CPU looks at the phase: its interrupts go off with the second
   module _ (slot a found : ℕ) (inside : p.now.inside me ≡ Some slot) (stands_so : (p.now.stop slot).standing me ≡ Inside a a) (past : Past)
@@ -123,6 +137,7 @@ module _ (u : Setup) (p : StopState) (at at' : Word → ℕ) (seat : ℕ → Sea
           acked_is = m.acked_is ∙ ap acked stands_so;
           answer = m.answer ∙ ap given_by stands_so;
           fresh = λ is. absurd cc;
+          unmade = λ is. absurd cc;
         }))
 
     still : past.answer ≡ pos 0
@@ -135,7 +150,7 @@ module _ (u : Setup) (p : StopState) (at at' : Word → ℕ) (seat : ℕ → Sea
         (stands (p.now.stop slot) me (Inside a found)) (Some slot) (p.now.irq me) (p.calling me) g (λ _. told_looked q (p.now.irq me) (p.calling me) g)
         (in_slot u p at at' seat source h me below pasts sized s whole cpus_are f keys sites q s past slot (stands (p.now.stop slot) me
         (Inside a found)) (p.now.irq me)
-        (p.calling me) g i.below (me_now.inside ∙ inside) me_now.irq i.ran (rw (eq-eqb me me refl) phase) (rw (eq-eqb me me refl) still) reads)
+        (p.calling me) g i.below (me_now.inside ∙ inside) me_now.irq i.ran i.patch (rw (eq-eqb me me refl) phase) (rw (eq-eqb me me refl) still) reads)
 
     -- interrupts go off
     pub off_step : (q : StopState) → Is q slot (stands (p.now.stop slot) me (Inside a found)) (Some slot) false (p.calling me) → (found ≢ 0
@@ -153,7 +168,7 @@ module _ (u : Setup) (p : StopState) (at at' : Word → ℕ) (seat : ℕ → Sea
         cpu_step p q at at' pasts s me past below sized cpus_are f keys sites slot (stands (p.now.stop slot) me (Inside a found))
         (one_stop u p at at' seat source h me below pasts sized s whole cpus_are f keys sites q slot (stands (p.now.stop slot) me (Inside a found))
         (Some slot) false
-        (p.calling me) (stop_at s slot) g (λ cpu ne. refl)) (λ _. told_looked q false (p.calling me) g) c ((me, event.Stop stops.Off) ∷ []) (
+        (p.calling me) (stop_at s slot) g (λ cpu ne. refl) refl) (λ _. told_looked q false (p.calling me) g) c ((me, event.Stop stops.Off) ∷ []) (
           t,
           (
             turns_off s me whole slot (omega (arith, i.below)) (me_now.inside ∙ inside) kind_is (me_now.irq ∙ irq) (omega arith) (was.phase
@@ -162,5 +177,5 @@ module _ (u : Setup) (p : StopState) (at at' : Word → ℕ) (seat : ℕ → Sea
           ),
         ) refl
         (in_slot u p at at' seat source h me below pasts sized s whole cpus_are f keys sites q t past slot (stands (p.now.stop slot) me (Inside a found)) false
-        (p.calling me) g i.below (ap (λ (z : CpuState). z.inside) my_cpu ∙ (me_now.inside ∙ inside)) (ap (λ (z : CpuState). z.irq) my_cpu) i.ran
+        (p.calling me) g i.below (ap (λ (z : CpuState). z.inside) my_cpu ∙ (me_now.inside ∙ inside)) (ap (λ (z : CpuState). z.irq) my_cpu) i.ran i.patch
         (rw (eq-eqb me me refl) phase) (rw (eq-eqb me me refl) still) (λ e. refl))

@@ -39,7 +39,7 @@ use Rattle.smp_events.specs.declared.past.Past.{Past}
 use Rattle.smp_replay_laws.specs.Follows.{nothing_left_out}
 use Rattle.smp_replay_laws.specs.Stops.{CpuIs, FollowsStops, StopIs}
 use Rattle.smp_replay_laws.proofs.Accepts.{by}
-use Rattle.smp_replay_laws.proofs.StopKinds.{nothing_told}
+use Rattle.smp_replay_laws.proofs.PatchSteps.{made_stored}
 use Rattle.smp_replay_laws.proofs.StopKinds.{nothing_told}
 use Rattle.smp_replay_laws.proofs.StopStages.{Accepted}
 use Rattle.smp_replay_laws.proofs.StopSteps.{ReachesStops}
@@ -89,7 +89,8 @@ module _ (v : StopsValue) (p : StopState) (shown : StopShown p v) (me : ℕ) (be
 
   -- the count is stored
   module _ (q : StopState) (key new : ℕ) (small : key < 4) (stop : (j : ℕ) → q.now.stop j ≡ p.now.stop j) (inside : (d : ℕ) → q.now.inside d ≡ p.now.inside d)
-      (irq : (d : ℕ) → q.now.irq d ≡ p.now.irq d) (calling : (d : ℕ) → q.calling d ≡ p.calling d) (gate : q.gate ≡ p.gate) where
+      (irq : (d : ℕ) → q.now.irq d ≡ p.now.irq d) (calling : (d : ℕ) → q.calling d ≡ p.calling d) (gate : q.gate ≡ p.gate)
+      (patching : q.now.patching ≡ p.now.patching) where
     abbrev t : StateValue
     t = record s { words = stored (Key key) new s.words }
 
@@ -102,12 +103,16 @@ module _ (v : StopsValue) (p : StopState) (shown : StopShown p v) (me : ℕ) (be
       inside_told = refl;
       irq_told = refl;
       ran = λ j is l. refl;
+      work = λ j is. ap (λ (z : Stop). z.work) (stop j);
+      patch = λ j is l k. rw (stop j, patching, calling d) (λ kind active. made_stored (Key key) new s.words p.now.patching (p.calling d)
+          (stop_at s j).patch (k kind active));
     }
 
     follows_nudge : FollowsStops q (put_word At (word.Key key) new) (slice_set pasts me Old) (record s { words = stored (Key key) new s.words })
     follows_nudge = record {
       stops_are = f.stops_are;
       keys_are = length-set s.words.keys key new ∙ f.keys_are;
+      sites_are = f.sites_are;
       gate = f.gate ∙ sym gate;
       stops = λ j l. subst (λ (z : Stop). StopIs z (stop_at s j)) (sym (stop j)) (f.stops j l);
       cpus_are = λ d l. elim (cases_eq d me) [
@@ -128,7 +133,7 @@ module _ (v : StopsValue) (p : StopState) (shown : StopShown p v) (me : ℕ) (be
       t = record s { words = stored (Key key) new s.words };
       runs = (record s { words = stored (Key key) new s.words }, (made, refl));
       follows = follows_nudge;
-      leaves = record { setting = refl; places = refl; cpus_are = refl; calls = λ cpu. refl };
+      leaves = record { setting = refl; places = refl; entries = refl; cpus_are = refl; calls = λ cpu. refl };
     }
 
   nudge_made : (key found new : ℕ) → At (word.Key key) ≡ found → p.now.irq me ≡ true → IsNudge found new
@@ -143,7 +148,7 @@ module _ (v : StopsValue) (p : StopState) (shown : StopShown p v) (me : ℕ) (be
       (of_nudge key found put))
   nudge_by key found expected new true e is on small k =
       let same = eqb-true found expected e in
-      reaches_nudge (record p { nudged = moved_by p.nudged me key found new }) key new small (λ j. refl) (λ d. refl) (λ d. refl) (λ d. refl) refl
+      reaches_nudge (record p { nudged = moved_by p.nudged me key found new }) key new small (λ j. refl) (λ d. refl) (λ d. refl) (λ d. refl) refl refl
       (event.Label (labels.Nudge key (nat_lt found new))) (nudge_made key found new is on (subst (λ (n : ℕ). IsNudge n new) (sym same) k))
   nudge_by key found expected new false e is on small k =
       nothing_told U p At At shown.seat shown.source shown.shows me below pasts sized s whole cpus_are f (λ j. refl) (λ j. refl) Old refl refl

@@ -11,7 +11,7 @@ use Rattle.smp_words.specs.declared.field.Field.TheVariants as field
 use Rattle.smp_words.specs.declared.seen.Note.TheVariants as note
 use Rattle.smp_words.specs.declared.word.Word.{Word}
 use Rattle.smp_words.specs.declared.word.Word.TheVariants.{Slot}
-use Rattle.smp_words.specs.declared.work.Kind.TheVariants.{One, Patch}
+use Rattle.smp_words.specs.declared.work.Kind.TheVariants.{One, Multi, Patch}
 use Rattle.smp_words.specs.declared.work.Work.{Work}
 use Rattle.smp_words.proofs.Puts.{put_other, put_same}
 use Rattle.smp_stop_steps.specs.Seats.{Stands}
@@ -23,7 +23,7 @@ use Rattle.smp_stop_steps.specs.State.{Present, Setup, StopState}
 use Rattle.smp_stop_steps.specs.Stop.{Standing, Inside, Raising, Nobody, Raises, Stop, acked as acked_of, raised, refilled}
 use Rattle.smp_stop_steps.specs.Table.{stop_number}
 use Rattle.smp_stop_steps.specs.Counts.{mask_weight}
-use Rattle.smp_stop_steps.specs.Tells.{acknowledges, plan_at, stored_shut, leaves}
+use Rattle.smp_stop_steps.specs.Tells.{acknowledges, stored_shut, leaves}
 use Rattle.smp_stop_steps.specs.Value.{StopShown, StopsValue, setup_of, stop_control_of}
 use Rattle.smp_stop_steps.specs.declared.known.Calling.{Calling}
 use Rattle.smp_stop_steps.specs.declared.known.Calling.TheVariants.{Idle, Calls, Carries}
@@ -46,12 +46,14 @@ use Rattle.smp_events.specs.declared.past.Past.{Past}
 use Rattle.smp_events.specs.declared.told.Told.{Told}
 use Rattle.smp_events.specs.declared.told.Told.TheVariants as told
 use Rattle.smp_replay_laws.specs.Follows.{nothing_left_out}
-use Rattle.smp_replay_laws.specs.Stops.{AnswerIs, CpuIs, FollowsStops, PhaseIs, has_called, raiser_of}
+use Rattle.smp_replay_laws.specs.Stops.{AnswerIs, CpuIs, FollowsStops, PhaseIs, has_entered, raiser_of}
 use Rattle.smp_replay_laws.proofs.Accepts.{by}
+use Rattle.smp_replay_laws.proofs.PatchAcks.{acks_made}
+use Rattle.smp_replay_laws.proofs.PatchSteps.{AreEntries}
 use Rattle.smp_replay_laws.proofs.StopAcks as acking
 use Rattle.smp_replay_laws.proofs.StopKinds.{refilled_step}
 use Rattle.smp_replay_laws.proofs.StopAcked.{ack_by, old_is}
-use Rattle.smp_replay_laws.proofs.StopTurns.{Made, irq_here, keeps_here, no_patch, not_patch, opened_here, sits, st, then_if, told_here, words_here}
+use Rattle.smp_replay_laws.proofs.StopTurns.{Made, irq_here, keeps_here, opened_here, sits, st, then_if, told_here, words_here}
 use Rattle.smp_stop_steps.proofs.State.Acknowledged.{fills_me, sets_me}
 use Rattle.smp_stop_steps.proofs.Steps.Completions.{one_phase}
 use Rattle.smp_replay_laws.proofs.StopRounds.{leaves_told, raise_made, raises_told, told_raised}
@@ -82,21 +84,24 @@ module _ (v : StopsValue) (p : StopState) (shown : StopShown p v) (me : ℕ) (be
   at_stage = sits v p shown me below pasts sized s whole cpus_are f quiet
 
   -- a CPU that acknowledges RUN where it is active has called its function
-  has_called_it : (x : Visit) (answer : ℕ) (ran : Bool) (w : Work) (g : Calling) → IsLoaded x w → w.kind ≢ Patch → RunsIf me x ran → IsAcking x answer ran g
-      → x.acked + 1 ≡ 3 → has w.active me ≡ true → has_called g ≡ true
-  has_called_it x answer true w Idle loaded kind runs acking three active = absurd (kind (sym loaded.kind ∙ acking))
-  has_called_it x answer true w (Calls call) loaded kind runs acking three active = refl
-  has_called_it x answer true w (Carries n) loaded kind runs acking three active = absurd acking
-  has_called_it x answer false w g loaded kind runs acking three active =
+  has_called_it : (x : Visit) (answer : ℕ) (ran : Bool) (w : Work) (g : Calling) → IsLoaded x w → RunsIf me x ran → IsAcking x answer ran g
+      → x.acked + 1 ≡ 3 → has w.active me ≡ true → (w.kind ≡ Multi) × (has_entered g ≡ true)
+  has_called_it x answer true w Idle loaded runs acking three active = absurd (multi_patch (sym runs.1 ∙ acking))
+    where
+      multi_patch : Multi ≡ Patch → ⊥
+      multi_patch z = absurd cc
+  has_called_it x answer true w (Calls call) loaded runs acking three active = (sym loaded.kind ∙ runs.1, refl)
+  has_called_it x answer true w (Carries n) loaded runs acking three active = absurd acking
+  has_called_it x answer false w g loaded runs acking three active =
       absurd (true≢false (sym active ∙ (ap (λ (m : ℕ). has m me) (sym loaded.active) ∙ runs (omega arith))))
 
-  pub acknowledges_phase : (x : Visit) (answer : ℕ) (ran : Bool) → C.stage ≡ Some (Advance x (round.Acknowledge answer ran))
+  pub acknowledges_phase : (x : Visit) (answer : ℕ) (ran : Bool) → C.stage ≡ Some (Advance x (round.Acknowledge answer ran)) → AreEntries U s.words
       → Does (Advance x (round.Acknowledge answer ran))
-  acknowledges_phase x answer ran e =
+  acknowledges_phase x answer ran e entries =
       let k = at_stage x (round.Acknowledge answer ran) e in
       elim k.3 [
         | inl y ↦ here k.0 k.1 y.0 y.1
-        | inr y ↦ absurd (no_patch v p shown me below pasts sized s whole cpus_are f quiet x.slot k.0 y.2.0 (plan_at U k.0 y.2.0) [] y.2.2)
+        | inr y ↦ acks_made v p shown me below pasts sized s whole cpus_are f quiet x answer ran k.0 y.0 y.1 y.2.0 y.2.2 entries
       ]
     where
       here : (w : Work) → IsLoaded x w → shown.seat me ≡ In x.slot w x.acked (x.acked + 1) Rests → RunsIf me x ran
@@ -114,8 +119,7 @@ module _ (v : StopsValue) (p : StopState) (shown : StopShown p v) (me : ℕ) (be
           )) in
           let carries : IsAcking x answer ran (p.calling me) = subst (λ (o : Option StopStage). CarriesAt C.visit o (p.calling me)) e
           (shown.carries me below) in
-          let plain = not_patch v p shown me below pasts sized s whole cpus_are f quiet x.slot x.acked (x.acked + 1) w Rests at_seat in
-          let called = has_called_it x answer ran w (p.calling me) loaded plain runs carries in
+          let called = has_called_it x answer ran w (p.calling me) loaded runs carries in
           let found = At (Slot x.slot field.Ack) in
           let told = ack_by v p shown me below pasts sized s whole cpus_are f quiet x.slot x.acked w at_seat kind x answer ran called (found == 1)
           (x.acked + 1 == 4) ran refl refl refl in
@@ -151,6 +155,8 @@ module _ (v : StopsValue) (p : StopState) (shown : StopShown p v) (me : ℕ) (be
         calling_else = λ d ne. refl;
         standing_else = λ d ne. refl;
         gate_is = refl;
+        work_is = refl;
+        patching_is = refl;
       }) so.1 refl refl refl (ap raiser_of (sym raising)) refl refl)
 
   -- the phase is raised
@@ -220,6 +226,8 @@ module _ (v : StopsValue) (p : StopState) (shown : StopShown p v) (me : ℕ) (be
           calling_else = λ d ne. refl;
           standing_else = λ d ne. refl;
           gate_is = refl;
+          work_is = refl;
+          patching_is = refl;
         }) made
 
     two_raises : x.acked ≡ 4 → ReachesStops (Q true) At' (slice_set pasts me Old) s
@@ -233,7 +241,7 @@ module _ (v : StopsValue) (p : StopState) (shown : StopShown p v) (me : ℕ) (be
         (raised (p.now.stop x.slot) (x.acked + 1)) (record (stop_at s x.slot) { phase = x.acked + 1; raiser = None }) (p.calling me)
         (event.Stop (stops.Raise (x.acked + 1)))
         (told_raised U p At At' shown.seat shown.source shown.shows me below pasts sized s whole cpus_are f (λ j. refl) (λ j. refl) x.slot so.0 open_now
-        (raised (p.now.stop x.slot) (x.acked + 1)) (x.acked + 1) refl refl refl refl (λ d. refl)) x.acked so.1 refl old four
+        (raised (p.now.stop x.slot) (x.acked + 1)) (x.acked + 1) refl refl refl refl (λ d. refl)) x.acked so.1 refl (λ k on. refl) refl old four
         (subst (λ (z : Standing). AnswerIs z Old.answer) so.1 i.answer)
         (record {
           stop_is = λ j. refl;
@@ -245,6 +253,8 @@ module _ (v : StopsValue) (p : StopState) (shown : StopShown p v) (me : ℕ) (be
           calling_else = λ d ne. refl;
           standing_else = λ d ne. refl;
           gate_is = refl;
+          work_is = refl;
+          patching_is = refl;
         }) (λ d. refl) made (λ e. kind (sym (ap (λ (z : Task). z.kind) told.task) ∙ e))
         ((told.members me below).acked_is ∙ (ap acked_of so.1 ∙ four)) refl
         (irq_here v p shown me below pasts sized s whole cpus_are f quiet x.slot x.acked x.acked w Sets at_seat ∙ rw four refl)

@@ -3,10 +3,11 @@ use Rattle.std.proofs.Common.{◌≡◌, ◌≢◌, ℕ, ◌-◌, ◌<◌, ◌�
 use Rattle.std.proofs.Common.{◌∙◌, subst, arith}
 use Rattle.std.proofs.lemmas.List.{get_or-set_same, get_or-set_other}
 use Rattle.std.specs.Prelude.{slice_set, pos}
+use Rattle.smp_mask.specs.Mask.{has}
 use Rattle.smp_words.specs.Size.{cpus}
 use Rattle.smp_words.specs.declared.word.Word.{Word}
 use Rattle.smp_words.specs.declared.word.Word.TheVariants.{Key, Site}
-use Rattle.smp_words.specs.declared.work.Kind.TheVariants.{One}
+use Rattle.smp_words.specs.declared.work.Kind.TheVariants.{One, Patch}
 use Rattle.smp_stop_steps.specs.Shows.{StopShows}
 use Rattle.smp_stop_steps.specs.State.{Setup, StopState}
 use Rattle.smp_stop_steps.specs.Stop.{Inside, Stop, is_called}
@@ -83,15 +84,15 @@ module _ (u : Setup) (p : StopState) (at at' : Word → ℕ) (seat : ℕ → Sea
             (record (stop_at s slot) { acked = slice_set (stop_at s slot).acked me phase; raiser = raiser }) was.members others
             (λ cpu ne m. member_as ((p.now.stop slot).standing cpu) (stop_at s slot)
             (record (stop_at s slot) { acked = slice_set (stop_at s slot).acked me phase; raiser = raiser }) cpu refl
-            (get_or-set_other (stop_at s slot).acked me cpu phase 0 ne) refl refl m)
+            (get_or-set_other (stop_at s slot).acked me cpu phase 0 ne) refl refl (λ is k. (k, refl)) m)
             (rw stood (record {
               called = member.called ∙ called;
               acked_is = get_or-set_same (stop_at s slot).acked me phase 0 (rw size.acked (omega arith));
               answer = member.answer ∙ given;
               fresh = λ is. absurd cc;
+              unmade = λ is. absurd cc;
             }));
-        kind = rw work was.kind;
-        patch = was.patch;
+        patch = rw work was.patch;
       };
     }
 
@@ -100,7 +101,9 @@ module _ (u : Setup) (p : StopState) (at at' : Word → ℕ) (seat : ℕ → Sea
         → x.is_open ≡ (p.now.stop slot).is_open
         → x.work ≡ (p.now.stop slot).work → x.phase ≡ (p.now.stop slot).phase → raiser_of x.raising ≡ raiser
         → is_called ((p.now.stop slot).standing me) ≡ false
-        → given_by ((p.now.stop slot).standing me) ≡ None → has_called calling ≡ has_called (p.calling me) → (past_at pasts me).phase ≡ phase
+        → given_by ((p.now.stop slot).standing me) ≡ None
+        → has_called (p.now.stop slot).work.kind calling ≡ has_called (p.now.stop slot).work.kind (p.calling me)
+        → ((p.now.stop slot).work.kind ≡ Patch → has (p.now.stop slot).work.active me ≡ true → calling ≡ p.calling me) → (past_at pasts me).phase ≡ phase
         → (past_at pasts me).answer ≡ pos 0 → Is q slot x (Some slot) (p.now.irq me) calling
         → goes me (event.Stop (stops.Ack phase)) s ≡ Ok (with_stop slot s (record (stop_at s slot) {
           acked = slice_set
@@ -108,19 +111,22 @@ module _ (u : Setup) (p : StopState) (at at' : Word → ℕ) (seat : ℕ → Sea
           raiser = raiser;
         }))
         → Leads q (past_at pasts me) ((me, event.Stop (stops.Ack phase)) ∷ [])
-    acks_told q x phase raiser calling stood x_open work same raising called given calls past_phase past_answer g made =
+    acks_told q x phase raiser calling stood x_open work same raising called given calls patch past_phase past_answer g made =
         let y = record (stop_at s slot) { acked = slice_set (stop_at s slot).acked me phase; raiser = raiser } in
         let t = with_stop slot s y in
         stop_step p q at at' pasts s me (past_at pasts me) below sized cpus_are f keys sites slot x y (cpu_at s me) i.below
-        (one_stop u p at at' seat source h me below pasts sized s whole cpus_are f keys sites q slot x (Some slot) (p.now.irq me) calling y g (λ cpu ne. refl))
+        (one_stop u p at at' seat source h me below pasts sized s whole cpus_are f keys sites q slot x (Some slot) (p.now.irq me) calling y g (λ cpu ne. refl) refl)
         (told_acked x phase raiser stood x_open work same raising called given g.standing_else) ((me, event.Stop (stops.Ack phase)) ∷ []) (t, (made, refl))
         (in_slot u p at at' seat source h me below pasts sized s whole cpus_are f keys sites q t (past_at pasts me) slot x (p.now.irq me) calling g i.below
         (me_now.inside ∙ inside) me_now.irq (ap (λ (z : ToldStop). has_run z me) (stop_here s slot y f.stops_are i.below) ∙ (i.ran ∙ sym calls))
+        (λ kind active. rw (patch kind active, stop_here s slot y f.stops_are i.below) (i.patch kind active))
         (rw stood (λ _. past_phase)) (rw stood past_answer) me_now.reads)
 
     -- they go on where it has left
     module _ (q : StopState) (x : Stop) (y : ToldStop) (calling : Calling) (e : Event) (told : StopIs x y) (a : ℕ) (stood : x.standing me ≡ Inside a a)
-        (calls : has_called calling ≡ has_called (p.calling me)) (past_phase : (past_at pasts me).phase ≡ a) (last : a ≡ 4) (past_answer :
+        (calls : has_called (p.now.stop slot).work.kind calling ≡ has_called (p.now.stop slot).work.kind (p.calling me))
+        (patch : (p.now.stop slot).work.kind ≡ Patch → has (p.now.stop slot).work.active me ≡ true → calling ≡ p.calling me)
+        (unpatched : y.patch ≡ (stop_at s slot).patch) (past_phase : (past_at pasts me).phase ≡ a) (last : a ≡ 4) (past_answer :
         (past_at pasts me).answer ≡ pos 0)
         (g : Is q slot x (Some slot) true calling) (ran : (cpu : ℕ) → has_run y cpu ≡ has_run (stop_at s slot) cpu)
         (made : goes me e s ≡ Ok (with_stop slot s y)) (kind : y.task.kind ≢ One) (acked_told : acked_by y me ≡ 4) (raiser : is_cpu y.raiser me ≡ false)
@@ -137,11 +143,12 @@ module _ (u : Setup) (p : StopState) (at at' : Word → ℕ) (seat : ℕ → Sea
           (me_now.irq ∙ off) (subst (λ (z : ToldStop). 4 ≤ acked_by z me) (sym here) (omega (arith, acked_told)))
           (subst (λ (z : ToldStop). is_cpu z.raiser me ≡ false) (sym here) raiser) in
           set_step p q at at' pasts s me (past_at pasts me) below sized cpus_are f keys sites slot x y c i.below
-          (one_stop u p at at' seat source h me below pasts sized s whole cpus_are f keys sites q slot x (Some slot) true calling y g (λ cpu ne. ran cpu)) told
+          (one_stop u p at at' seat source h me below pasts sized s whole cpus_are f keys sites q slot x (Some slot) true calling y g (λ cpu ne. ran cpu) unpatched) told
           ((me, e) ∷ ((me, event.Stop stops.On) ∷ [])) (m, (made, (t, (on, refl)))) refl
           (in_slot u p at at' seat source h me below pasts sized s whole cpus_are f keys sites q t (past_at pasts me) slot x true calling g i.below
           (ap (λ (z : CpuState). z.inside) my_cpu ∙ (me_now.inside ∙ inside)) (ap (λ (z : CpuState). z.irq) my_cpu)
           (ap (λ (z : ToldStop). has_run z me) here ∙ (ran me ∙ (i.ran ∙ sym calls)))
+          (λ kind active. rw (patch kind active, here, unpatched) (i.patch kind active))
           (rw stood (λ _. past_phase)) (rw stood past_answer) (λ three. absurd (omega arith)))
 
     -- the phase is raised
@@ -159,9 +166,8 @@ module _ (u : Setup) (p : StopState) (at at' : Word → ℕ) (seat : ℕ → Sea
         phase = sym is;
         raiser = sym raising;
         members = λ cpu l. member_as (x.standing cpu) (stop_at s slot) (record (stop_at s slot) { phase = phase; raiser = None }) cpu refl refl refl refl
-            (rw (same cpu) (was.members cpu l));
-        kind = rw work was.kind;
-        patch = was.patch;
+            (λ is k. (k, refl)) (rw (same cpu) (was.members cpu l));
+        patch = rw work was.patch;
       };
     }
 
@@ -174,11 +180,12 @@ module _ (u : Setup) (p : StopState) (at at' : Word → ℕ) (seat : ℕ → Sea
         let t = with_stop slot s y in
         stop_step p q at at' pasts s me (past_at pasts me) below sized cpus_are f keys sites slot x y (cpu_at s me) i.below
         (one_stop u p at at' seat source h me below pasts sized s whole cpus_are f keys sites q slot x (Some slot) (p.now.irq me) (p.calling me) y g
-        (λ cpu ne. refl))
+        (λ cpu ne. refl) refl)
         (told_raised x phase x_open work is raising same) ((me, event.Stop (stops.Raise phase)) ∷ []) (t, (made, refl))
         (in_slot u p at at' seat source h me below pasts sized s whole cpus_are f keys sites q t (past_at pasts me) slot x (p.now.irq me)
         (p.calling me) g i.below
         (me_now.inside ∙ inside) me_now.irq (ap (λ (z : ToldStop). has_run z me) (stop_here s slot y f.stops_are i.below) ∙ i.ran)
+        (λ kind active. rw (stop_here s slot y f.stops_are i.below) (i.patch kind active))
         (rw (same me) i.phase) (rw (same me) i.answer) me_now.reads)
 
     pub raise_made : (phase : ℕ) → (p.now.stop slot).work.kind ≢ One → (p.now.stop slot).phase ≡ phase - 1 → raiser_of (p.now.stop slot).raising ≡ Some me

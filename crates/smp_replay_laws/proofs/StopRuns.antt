@@ -1,14 +1,14 @@
 -- A CPU runs the function of its stop, answers and completes.
-use Rattle.std.proofs.Common.{◌≡◌, ◌≢◌, ℕ, ◌<◌, ◌≤◌, Bool, true, false, not, List, [], ◌∷◌, length, length-set, Option, Some, None, Ok, refl, ap, sym}
+use Rattle.std.proofs.Common.{◌≡◌, ◌≢◌, ℕ, ◌<◌, ◌≤◌, Bool, true, false, List, [], ◌∷◌, length, length-set, Option, Some, None, Ok, refl, ap, sym}
 use Rattle.std.proofs.Common.{◌∙◌, inl, inr, ◌⊎◌, arith}
-use Rattle.std.proofs.lemmas.Bool.{eq-eqb, and_right}
+use Rattle.std.proofs.lemmas.Bool.{eq-eqb}
 use Rattle.std.proofs.lemmas.List.{get_or-set_same, get_or-set_other}
 use Rattle.std.specs.Prelude.{slice_set, pos}
 use Rattle.smp_mask.specs.Mask.{has}
 use Rattle.smp_words.specs.Size.{cpus}
 use Rattle.smp_words.specs.declared.word.Word.{Word}
 use Rattle.smp_words.specs.declared.word.Word.TheVariants.{Key, Site}
-use Rattle.smp_words.specs.declared.work.Kind.TheVariants.{One, Multi}
+use Rattle.smp_words.specs.declared.work.Kind.TheVariants.{One, Multi, Patch}
 use Rattle.smp_stop_steps.specs.Shows.{StopShows}
 use Rattle.smp_stop_steps.specs.State.{Setup, StopState}
 use Rattle.smp_stop_steps.specs.Stop.{Called, Inside, Answering, Completed, Stop, acked, is_called, stands}
@@ -28,9 +28,10 @@ use Rattle.smp_event_steps.specs.Stop.{acked_by, has_run, is_cpu}
 use Rattle.smp_events.specs.Past.{past_at}
 use Rattle.smp_events.specs.declared.past.Past.{Past}
 use Rattle.smp_replay_laws.specs.Follows.{nothing_left_out}
-use Rattle.smp_replay_laws.specs.Stops.{CpuIs, FollowsStops, InsideIs, IsSized, MemberIs, OpenIs, StopIs, as_i32, given_by, has_called, raiser_of}
+use Rattle.smp_replay_laws.specs.Stops.{CpuIs, FollowsStops, InsideIs, IsSized, MemberIs, OpenIs, StopIs, as_i32, given_by, has_called, has_entered, raiser_of}
 use Rattle.smp_replay_laws.proofs.States.{cpu_here}
 use Rattle.smp_replay_laws.proofs.StopEvents.{MayAnswer, completes_one, completes_round, runs_multi, runs_one}
+use Rattle.smp_replay_laws.proofs.StopMoves.{none_called}
 use Rattle.smp_replay_laws.proofs.StopKinds.{Goes, in_none, in_slot, members_set, one_stop, silent, told_still}
 use Rattle.smp_replay_laws.proofs.StopStates.{stop_here}
 use Rattle.smp_replay_laws.proofs.StopSteps.{ReachesStops, member_as, set_step, stop_step}
@@ -90,9 +91,14 @@ module _ (u : Setup) (p : StopState) (at at' : Word → ℕ) (seat : ℕ → Sea
               ran = slice_set
                   (stop_at s slot).ran me true;
             }) cpu refl refl refl
-            (get_or-set_other (stop_at s slot).ran me cpu true false ne) m)
-            (record { called = member.called; acked_is = member.acked_is; answer = member.answer; fresh = λ is. absurd (not_called a l (sym stood ∙ is)) });
-        kind = was.kind;
+            (get_or-set_other (stop_at s slot).ran me cpu true false ne) (λ is k. (k, refl)) m)
+            (record {
+              called = member.called;
+              acked_is = member.acked_is;
+              answer = member.answer;
+              fresh = λ is. absurd (not_called a l (sym stood ∙ is));
+              unmade = λ is. absurd (not_called a l (sym stood ∙ is));
+            });
         patch = was.patch;
       };
     }
@@ -101,7 +107,7 @@ module _ (u : Setup) (p : StopState) (at at' : Word → ℕ) (seat : ℕ → Sea
         not_called a l x = absurd cc
 
     pub runs_told : (q : StopState) (a l func arg : ℕ) (calling : Calling) → (p.now.stop slot).standing me ≡ Inside a l → p.calling me ≡ Idle
-        → has_called calling ≡ true
+        → has_entered calling ≡ true
         → Is q slot (p.now.stop slot) (Some slot) (p.now.irq me) calling
         → ((p.now.stop slot).work.kind ≡ One) ⊎ (((p.now.stop slot).work.kind ≡ Multi) × ((has (p.now.stop slot).work.active me ≡ true) × ((a ≡ 2) ×
         ((p.now.stop slot).phase ≡ 3))))
@@ -110,7 +116,15 @@ module _ (u : Setup) (p : StopState) (at at' : Word → ℕ) (seat : ℕ → Sea
     runs_told q a l func arg calling stood idle called g kinds func_is arg_is =
         let y = record (stop_at s slot) { ran = slice_set (stop_at s slot).ran me true } in
         let t = with_stop slot s y in
-        let not_yet : has_run (stop_at s slot) me ≡ false = i.ran ∙ ap has_called idle in
+        let not_yet : has_run (stop_at s slot) me ≡ false = i.ran ∙ rw idle (none_called (p.now.stop slot).work.kind) in
+        let no_patch : (p.now.stop slot).work.kind ≢ Patch = elim kinds [
+          | inl one ↦ λ z. absurd (one_patch (sym one ∙ z))
+          | inr k ↦ λ z. absurd (multi_patch (sym k.0 ∙ z))
+        ] in
+        let called_so : has_called (p.now.stop slot).work.kind calling ≡ true = elim kinds [
+          | inl one ↦ rw one called
+          | inr k ↦ rw k.0 called
+        ] in
         let in_told : (cpu_at s me).inside ≡ Some slot = me_now.inside ∙ inside in
         let task_func : (stop_at s slot).task.func ≡ func = ap (λ (z : Task). z.func) was.task ∙ func_is in
         let task_arg : (stop_at s slot).task.arg ≡ arg = ap (λ (z : Task). z.arg) was.task ∙ arg_is in
@@ -122,15 +136,21 @@ module _ (u : Setup) (p : StopState) (at at' : Word → ℕ) (seat : ℕ → Sea
         ] in
         stop_step p q at at' pasts s me (past_at pasts me) below sized cpus_are f keys sites slot (p.now.stop slot) y (cpu_at s me) i.below
         (one_stop u p at at' seat source h me below pasts sized s whole cpus_are f keys sites q slot (p.now.stop slot) (Some slot) (p.now.irq me) calling y g
-        (λ cpu ne. get_or-set_other (stop_at s slot).ran me cpu true false ne)) (told_entered a l stood) ((me, event.Stop (stops.Run func arg)) ∷ [])
+        (λ cpu ne. get_or-set_other (stop_at s slot).ran me cpu true false ne) refl) (told_entered a l stood) ((me, event.Stop (stops.Run func arg)) ∷ [])
         (t, (made, refl))
         (in_slot u p at at' seat source h me below pasts sized s whole cpus_are f keys sites q t (past_at pasts me) slot (p.now.stop slot)
         (p.now.irq me) calling g i.below
         in_told me_now.irq (ap (λ (z : ToldStop). has_run z me) (stop_here s slot y f.stops_are i.below)
-        ∙ (get_or-set_same (stop_at s slot).ran me true false (rw size.ran (omega arith)) ∙ sym called)) i.phase i.answer me_now.reads)
+        ∙ (get_or-set_same (stop_at s slot).ran me true false (rw size.ran (omega arith)) ∙ sym called_so)) (λ z. absurd (no_patch z)) i.phase i.answer me_now.reads)
       where
         at_two : (a : ℕ) → acked_by (stop_at s slot) me ≡ a → a ≡ 2 → acked_by (stop_at s slot) me < 3
         at_two a e two = omega (arith, e, two)
+
+        one_patch : One ≡ Patch → ⊥
+        one_patch z = absurd cc
+
+        multi_patch : Multi ≡ Patch → ⊥
+        multi_patch z = absurd cc
 
     -- an answer is stored
     pub answers_step : (q : StopState) (past : Past) (a l answer : ℕ) → (p.now.stop slot).standing me ≡ Inside a l
@@ -146,10 +166,11 @@ module _ (u : Setup) (p : StopState) (at at' : Word → ℕ) (seat : ℕ → Sea
           acked_is = m.acked_is ∙ ap acked stood;
           answer = m.answer ∙ ap given_by stood;
           fresh = λ is. absurd cc;
+          unmade = λ is. absurd cc;
         })))
         (in_slot u p at at' seat source h me below pasts sized s whole cpus_are f keys sites q s past slot (stands (p.now.stop slot) me
         (Answering a answer)) (p.now.irq me)
-        (p.calling me) g i.below (me_now.inside ∙ inside) me_now.irq i.ran (rw (eq-eqb me me refl) tt) (rw (eq-eqb me me refl) given) (λ x. me_now.reads
+        (p.calling me) g i.below (me_now.inside ∙ inside) me_now.irq i.ran i.patch (rw (eq-eqb me me refl) tt) (rw (eq-eqb me me refl) given) (λ x. me_now.reads
         (sym phase ∙ x)))
 
     -- the CPU completes
@@ -174,6 +195,7 @@ module _ (u : Setup) (p : StopState) (at at' : Word → ℕ) (seat : ℕ → Sea
           acked_is = member.acked_is ∙ acked_is;
           answer = get_or-set_same (stop_at s slot).answers me (Some told) None (rw size.answers (omega arith)) ∙ ap Some given;
           fresh = λ is. absurd cc;
+          unmade = λ is. absurd cc;
         }) in
         let told_so : StopIs x y = record {
           sized = record {
@@ -191,19 +213,18 @@ module _ (u : Setup) (p : StopState) (at at' : Word → ℕ) (seat : ℕ → Sea
             members = members_set u p at at' seat source h me below pasts sized s whole cpus_are f keys sites (p.now.stop slot) x
                 (stop_at s slot) y was.members g.standing_else
                 (λ cpu ne m. member_as ((p.now.stop slot).standing cpu) (stop_at s slot) y cpu refl refl
-                (get_or-set_other (stop_at s slot).answers me cpu (Some told) None ne) refl m) here;
-            kind = rw work was.kind;
-            patch = was.patch;
+                (get_or-set_other (stop_at s slot).answers me cpu (Some told) None ne) refl (λ is k. (k, refl)) m) here;
+            patch = rw work was.patch;
           };
         } in
         set_step p q at at' pasts s me past below sized cpus_are f keys sites slot x y c i.below
-        (one_stop u p at at' seat source h me below pasts sized s whole cpus_are f keys sites q slot x None (p.now.irq me) Idle y g (λ cpu ne. refl)) told_so
+        (one_stop u p at at' seat source h me below pasts sized s whole cpus_are f keys sites q slot x None (p.now.irq me) Idle y g (λ cpu ne. refl) refl) told_so
         ((me, event.Stop (stops.Complete told)) ∷ []) (t, (made, refl)) refl
         (in_none u p at at' seat source h me below pasts sized s whole cpus_are f keys sites q t past slot x (p.now.irq me) Idle g
         (ap (λ (z : CpuState). z.inside) my_cpu) (ap (λ (z : CpuState). z.irq) my_cpu ∙ me_now.irq) past_answer (λ x. me_now.reads (sym past_phase ∙ x)))
 
     -- so it does in a stop of kind One, and in a rendezvous
-    pub complete_one : (p.now.stop slot).work.kind ≡ One → has_called (p.calling me) ≡ true
+    pub complete_one : (p.now.stop slot).work.kind ≡ One → has_entered (p.calling me) ≡ true
         → goes me (event.Stop (stops.Complete (past_at pasts me).answer)) s
         ≡ Ok (with_cpu me (with_stop slot s (record (stop_at s slot) {
           answers = slice_set (stop_at s slot).answers me (Some
@@ -212,23 +233,19 @@ module _ (u : Setup) (p : StopState) (at at' : Word → ℕ) (seat : ℕ → Sea
     unfolding stop_goes
     complete_one kind called =
         completes_one s me whole slot (omega (arith, i.below)) (me_now.inside ∙ inside) (past_at pasts me).answer (ap (λ (z : Task). z.kind) was.task
-        ∙ kind) (i.ran ∙ called)
+        ∙ kind) (i.ran ∙ rw kind called)
 
     pub complete_round : (p.now.stop slot).work.kind ≢ One → 4 ≤ acked ((p.now.stop slot).standing me)
         → is_cpu (raiser_of (p.now.stop slot).raising) me ≡ false
-        → p.now.irq me ≡ true → (has_called (p.calling me) ≡ true) ⊎ ((past_at pasts me).answer ≡ pos 0)
+        → p.now.irq me ≡ true → MayAnswer (stop_at s slot) me (past_at pasts me).answer
         → goes me (event.Stop (stops.Complete (past_at pasts me).answer)) s
         ≡ Ok (with_cpu me (with_stop slot s (record (stop_at s slot) {
           answers = slice_set (stop_at s slot).answers me (Some
               (past_at pasts me).answer);
         })) (in_stop None (cpu_at s me)))
     unfolding stop_goes
-    complete_round kind high not_last on given =
+    complete_round kind high not_last on may =
         let acks = member.acked_is in
-        let may : MayAnswer (stop_at s slot) me (past_at pasts me).answer = elim given [
-          | inl called ↦ rw (i.ran ∙ called) refl
-          | inr zero ↦ rw (was.patch, zero) (and_right (not (has_run (stop_at s slot) me)) false refl)
-        ] in
         completes_round s me whole slot (omega (arith, i.below)) (me_now.inside ∙ inside) (past_at pasts me).answer
         (λ x. kind (sym (ap (λ (z : Task). z.kind) was.task) ∙ x)) (omega (arith, acks, high)) (ap (λ (z : Option ℕ). is_cpu z me) was.raiser
         ∙ not_last) (me_now.irq ∙ on) may

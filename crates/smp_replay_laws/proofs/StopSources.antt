@@ -32,7 +32,7 @@ use Rattle.smp_event_steps.specs.Stop.{answer_of, has_run}
 use Rattle.smp_events.specs.Past.{past_at}
 use Rattle.smp_events.specs.declared.past.Past.{Past}
 use Rattle.smp_replay_laws.specs.Follows.{nothing_left_out}
-use Rattle.smp_replay_laws.specs.Stops.{CpuIs, FollowsStops, IsPlain, MemberIs, OpenIs, StopIs, as_i32, given_by, told_work}
+use Rattle.smp_replay_laws.specs.Stops.{CpuIs, FollowsStops, MemberIs, OpenIs, StopIs, as_i32, given_by, told_work}
 use Rattle.smp_event_steps.specs.declared.event.LabelEvent.TheVariants as labels
 use Rattle.smp_event_steps.specs.Step.{label_goes}
 use Rattle.smp_event_steps.specs.Stop.{is_answer, is_same, first_phase as told_first, gives, is_work, offline_in, opening, unfinished}
@@ -40,15 +40,14 @@ use Rattle.smp_labels.specs.Keys.{is_on}
 use Rattle.smp_labels.specs.Kinds.{xor}
 use Rattle.smp_stop_steps.specs.Callings.{HasCompleted}
 use Rattle.smp_stop_steps.specs.Counts.{bit, mask_weight, sum_below}
-use Rattle.smp_stop_steps.specs.Seats.{Stands}
 use Rattle.smp_stop_steps.specs.Slots.{HasGiven, ResultShows}
 use Rattle.smp_stop_steps.specs.Stop.{first_phase, is_inside, is_of, opened}
-use Rattle.smp_stop_steps.specs.declared.known.Seat.TheVariants.{Free, In, Gives, Alters, Closes}
 use Rattle.smp_words.proofs.Puts.{put_all, put_other}
 use Rattle.smp_replay_laws.proofs.Counting.{first_none, first_some}
+use Rattle.smp_replay_laws.proofs.PatchAlone.{inside_by, open_inside}
 use Rattle.smp_replay_laws.proofs.StopEvents.{collects_result, opens_stop}
 use Rattle.smp_replay_laws.proofs.StopKinds.{Goes}
-use Rattle.smp_replay_laws.proofs.StopStates.{IsAlike, cpu_alike, follows_step, stop_else, stops_set}
+use Rattle.smp_replay_laws.proofs.StopStates.{IsAlike, cpu_alike, follows_step, patch_alike, stop_else, stops_set}
 use Rattle.smp_replay_laws.proofs.StopSteps.{ReachesStops}
 use Rattle.smp_replay_laws.proofs.StopResults.{as_i32-zero, differs, same_int}
 
@@ -59,12 +58,14 @@ member_new task c true l e = record {
   acked_is = get_or-replicate 32 c 0 0 (omega arith);
   answer = get_or-replicate 32 c None None (omega arith);
   fresh = λ is. get_or-replicate 32 c false false (omega arith);
+  unmade = λ is active. refl;
 }
 member_new task c false l e = record {
   called = rw e refl;
   acked_is = get_or-replicate 32 c 0 0 (omega arith);
   answer = get_or-replicate 32 c None None (omega arith);
   fresh = λ is. get_or-replicate 32 c false false (omega arith);
+  unmade = λ is active. refl;
 }
 
 phase_new : (k : Kind) → told_first k ≡ first_phase k
@@ -87,19 +88,19 @@ members_weight mask (suc k) =
     omega (arith, one, more, both)
 
 -- there is such a work, of CPUs that are online
-pub works : (u : Setting) (w : Work) (k : Kind) → w.kind ≡ k → k ≢ Patch → mask_weight cpus w.mask ≢ 0 → (k ≡ One → mask_weight cpus w.mask ≡ 1)
-    → is_work u (told_work w) ≡ true
-works u w One e ne some one =
+pub works : (u : Setting) (w : Work) (k : Kind) → w.kind ≡ k → mask_weight cpus w.mask ≢ 0 → (k ≡ One → mask_weight cpus w.mask ≡ 1)
+    → (k ≡ Patch → is_work u (told_work w) ≡ true) → is_work u (told_work w) ≡ true
+works u w One e some one patch =
     let m = members_weight w.mask cpus in
     let o = one refl in
     rw e (eq-eqb (length (members_below w.mask cpus)) 1 (m ∙ o))
-works u w Multi e ne some one =
+works u w Multi e some one patch =
     let m = members_weight w.mask cpus in
     rw e (lt-ltb 0 (length (members_below w.mask cpus)) (positive (length (members_below w.mask cpus)) (λ z. some (sym m ∙ z))))
   where
     positive : (n : ℕ) → n ≢ 0 → 0 < n
     positive n z = omega arith
-works u w Patch e ne some one = absurd (ne refl)
+works u w Patch e some one patch = patch refl
 
 pub onlines : (u : Setting) (mask : ℕ) → ((c : ℕ) → has mask c ≡ true → has u.online c ≡ true) → offline_in u mask ≡ None
 onlines u mask online = first_none (λ c. has mask c && not (has u.online c)) 0 32 (λ c l m. by_mask c (has mask c) refl)
@@ -126,42 +127,15 @@ module _ (u : Setup) (p : StopState) (at at' : Word → ℕ) (seat : ℕ → Sea
   shown slot l o = (f.stops slot l).shows o
 
   -- a CPU that is in a stop is inside it
-  in_is : (slot c : ℕ) (x : Seat) → Stands p.now c x → p.now.inside c ≡ Some slot → is_inside ((p.now.stop slot).standing c) ≡ true
-  in_is slot c Free st e = absurd (none (sym st ∙ e))
-    where
-      none : None ≡ Some slot → ⊥
-      none x = absurd cc
-  in_is slot c (In j w a l t) st e =
-      let same : j ≡ slot = some (sym st.0 ∙ e) in
-      subst (λ (n : ℕ). is_inside ((p.now.stop n).standing c) ≡ true) same (ap is_inside st.1)
-    where
-      some : Some j ≡ Some slot → j ≡ slot
-      some x = cc
-  in_is slot c (Gives j w a v) st e =
-      let same : j ≡ slot = some (sym st.0 ∙ e) in
-      subst (λ (n : ℕ). is_inside ((p.now.stop n).standing c) ≡ true) same (ap is_inside st.1)
-    where
-      some : Some j ≡ Some slot → j ≡ slot
-      some x = cc
-  in_is slot c (Alters j w count made rest) st e =
-      let same : j ≡ slot = some (sym st.0 ∙ e) in
-      subst (λ (n : ℕ). is_inside ((p.now.stop n).standing c) ≡ true) same (ap is_inside st.1)
-    where
-      some : Some j ≡ Some slot → j ≡ slot
-      some x = cc
-  in_is slot c (Closes j) st e = absurd (none (sym st.0 ∙ e))
-    where
-      none : None ≡ Some slot → ⊥
-      none x = absurd cc
-
   pub inside_is : (slot c : ℕ) → p.now.inside c ≡ Some slot → is_inside ((p.now.stop slot).standing c) ≡ true
-  inside_is slot c e = in_is slot c (seat c) (h.present.stands c) e
+  inside_is slot c e = inside_by p slot c (seat c) (h.present.stands c) e
 
   -- a stop of which no CPU is inside goes on, and all that is told of it
   module _ (q : StopState) (past : Past) (slot : ℕ) (x : Stop) (y : ToldStop) (below_slot : slot < cpus) (empty : (c : ℕ) → p.now.inside c ≡ Some slot → ⊥)
       (stop_is : (j : ℕ) → q.now.stop j ≡ put p.now.stop slot x j) (inside : (c : ℕ) → q.now.inside c ≡ p.now.inside c) (irq : (c : ℕ)
       → q.now.irq c ≡ p.now.irq c)
-      (calling : (c : ℕ) → q.calling c ≡ p.calling c) (gate : q.gate ≡ p.gate) (here : StopIs x y) (my : CpuIs p s past me) where
+      (calling : (c : ℕ) → q.calling c ≡ p.calling c) (gate : q.gate ≡ p.gate) (patching : q.now.patching ≡ p.now.patching) (here : StopIs x y)
+      (my : CpuIs p s past me) where
     alike : (c : ℕ) → IsAlike p q s (with_stop slot s y) c
     alike c = record {
       inside = inside c;
@@ -171,7 +145,13 @@ module _ (u : Setup) (p : StopState) (at at' : Word → ℕ) (seat : ℕ → Sea
       inside_told = refl;
       irq_told = refl;
       ran = λ j e l. ap (λ (z : ToldStop). has_run z c) (stop_else s slot y j (λ same. empty c (e ∙ ap Some same)));
+      work = work_as c;
+      patch = λ j e l. patch_alike p q s (with_stop slot s y) c j (work_as c j e) patching (calling c) refl
+          (ap (λ (z : ToldStop). z.patch) (stop_else s slot y j (λ same. empty c (e ∙ ap Some same))));
     }
+      where
+        work_as : (c j : ℕ) → p.now.inside c ≡ Some j → (q.now.stop j).work ≡ (p.now.stop j).work
+        work_as c j e = ap (λ (z : Stop). z.work) (stop_is j ∙ put_other p.now.stop slot x j (λ same. empty c (e ∙ ap Some same)))
 
     pub empty_step : (e : Event) → goes me e s ≡ Ok (with_stop slot s y) → Leads q past ((me, e) ∷ [])
     empty_step e made = record {
@@ -189,14 +169,15 @@ module _ (u : Setup) (p : StopState) (at at' : Word → ℕ) (seat : ℕ → Sea
         keys = keys;
         sites = sites;
       });
-      leaves = record { setting = refl; places = refl; cpus_are = refl; calls = λ cpu. refl };
+      leaves = record { setting = refl; places = refl; entries = refl; cpus_are = refl; calls = λ cpu. refl };
     }
 
   -- a source drafts its stop, of which nothing is told yet
   pub drafts_step : (q : StopState) (past : Past) (x : Stop) → (p.now.stop me).is_open ≡ false → x.is_open ≡ false
       → ((j : ℕ) → q.now.stop j ≡ put p.now.stop me x j) → ((c : ℕ) → x.standing c ≡ (p.now.stop me).standing c) → ((c : ℕ) → q.now.inside c ≡ p.now.inside c)
-      → ((c : ℕ) → q.now.irq c ≡ p.now.irq c) → ((c : ℕ) → q.calling c ≡ p.calling c) → q.gate ≡ p.gate → CpuIs p s past me → Leads q past []
-  drafts_step q past x shut x_shut stop_is standing inside irq calling gate my =
+      → ((c : ℕ) → q.now.irq c ≡ p.now.irq c) → ((c : ℕ) → q.calling c ≡ p.calling c) → q.gate ≡ p.gate → q.now.patching ≡ p.now.patching → CpuIs p s past me
+      → Leads q past []
+  drafts_step q past x shut x_shut stop_is standing inside irq calling gate patching my =
       let same = λ (c j : ℕ). ap (λ (z : Stop). z.standing c) (stop_is j)
       ∙ put_all (λ k (z : Stop). z.standing c ≡ (p.now.stop k).standing c) p.now.stop me x (standing c) (λ k other. refl) j in
       let alike : (c : ℕ) → IsAlike p q s s c =
@@ -207,8 +188,9 @@ module _ (u : Setup) (p : StopState) (at at' : Word → ℕ) (seat : ℕ → Sea
         standing = λ j e. same c j;
         inside_told = refl;
         irq_told = refl;
-        ran =
-            λ j e l. refl;
+        ran = λ j e l. refl;
+        work = works_as c;
+        patch = λ j e l. patch_alike p q s s c j (works_as c j e) patching (calling c) refl refl;
       } in
       record {
         t = s;
@@ -233,13 +215,20 @@ module _ (u : Setup) (p : StopState) (at at' : Word → ℕ) (seat : ℕ → Sea
           keys = keys;
           sites = sites;
         });
-        leaves = record { setting = refl; places = refl; cpus_are = refl; calls = λ cpu. refl };
+        leaves = record { setting = refl; places = refl; entries = refl; cpus_are = refl; calls = λ cpu. refl };
       }
+    where
+      works_as : (c j : ℕ) → p.now.inside c ≡ Some j → (q.now.stop j).work ≡ (p.now.stop j).work
+      works_as c j e =
+          let other : j ≢ me = λ same. absurd (false≢true (sym shut ∙ (ap (λ (n : ℕ). (p.now.stop n).is_open) (sym same)
+          ∙ open_inside u p at seat source h j c e))) in
+          ap (λ (z : Stop). z.work) (stop_is j ∙ put_other p.now.stop me x j other)
 
   -- an event that only looks
   pub reads_step : (q : StopState) (e : Event) → goes me e s ≡ Ok s → ((j : ℕ) → q.now.stop j ≡ p.now.stop j) → ((c : ℕ) → q.now.inside c ≡ p.now.inside c)
-      → ((c : ℕ) → q.now.irq c ≡ p.now.irq c) → ((c : ℕ) → q.calling c ≡ p.calling c) → q.gate ≡ p.gate → Leads q (past_at pasts me) ((me, e) ∷ [])
-  reads_step q e made stop inside irq calling gate =
+      → ((c : ℕ) → q.now.irq c ≡ p.now.irq c) → ((c : ℕ) → q.calling c ≡ p.calling c) → q.gate ≡ p.gate → q.now.patching ≡ p.now.patching
+      → Leads q (past_at pasts me) ((me, e) ∷ [])
+  reads_step q e made stop inside irq calling gate patching =
       let alike : (c : ℕ) → IsAlike p q s s c =
       λ c. record {
         inside = inside c;
@@ -249,6 +238,8 @@ module _ (u : Setup) (p : StopState) (at at' : Word → ℕ) (seat : ℕ → Sea
         inside_told = refl;
         irq_told = refl;
         ran = λ j is l. refl;
+        work = λ j is. ap (λ (z : Stop). z.work) (stop j);
+        patch = λ j is l. patch_alike p q s s c j (ap (λ (z : Stop). z.work) (stop j)) patching (calling c) refl refl;
       } in
       record {
         t = s;
@@ -265,7 +256,7 @@ module _ (u : Setup) (p : StopState) (at at' : Word → ℕ) (seat : ℕ → Sea
           keys = keys;
           sites = sites;
         });
-        leaves = record { setting = refl; places = refl; cpus_are = refl; calls = λ cpu. refl };
+        leaves = record { setting = refl; places = refl; entries = refl; cpus_are = refl; calls = λ cpu. refl };
       }
 
   xor_same : (b : Bool) → xor b b ≡ false
@@ -285,7 +276,7 @@ module _ (u : Setup) (p : StopState) (at at' : Word → ℕ) (seat : ℕ → Sea
   site_read site on = rw (me_now.irq ∙ on, f.sites site, jumps_on (at (Site site)), xor_same (is_on (at (Site site)))) refl
 
   -- a source opens its stop
-  module _ (q : StopState) (w : Work) (work : (p.now.stop me).work ≡ w) (plain : IsPlain w) (shut : (p.now.stop me).is_open ≡ false) where
+  module _ (q : StopState) (w : Work) (work : (p.now.stop me).work ≡ w) (shut : (p.now.stop me).is_open ≡ false) where
     told_opened : StopIs (opened (p.now.stop me) (p.now.stop me).work) (opening (told_work w))
     told_opened = record {
       sized = record {
@@ -300,8 +291,7 @@ module _ (u : Setup) (p : StopState) (at at' : Word → ℕ) (seat : ℕ → Sea
         phase = phase_new w.kind ∙ ap (λ (z : Work). first_phase z.kind) (sym work);
         raiser = refl;
         members = λ c l. rw work (member_new (told_work w) c (has w.mask c) l refl);
-        kind = rw work plain.kind;
-        patch = refl;
+        patch = λ kind. refl;
       };
     }
 
@@ -320,12 +310,12 @@ module _ (u : Setup) (p : StopState) (at at' : Word → ℕ) (seat : ℕ → Sea
 
     pub opens_told : (task : Task) → task ≡ told_work w → is_work s.setting (told_work w) ≡ true → offline_in s.setting w.mask ≡ None → p.gate ≡ Some me
         → ((j : ℕ) → q.now.stop j ≡ put p.now.stop me (opened (p.now.stop me) (p.now.stop me).work) j) → ((c : ℕ) → q.now.inside c ≡ p.now.inside c)
-        → ((c : ℕ) → q.now.irq c ≡ p.now.irq c) → ((c : ℕ) → q.calling c ≡ p.calling c) → q.gate ≡ p.gate
+        → ((c : ℕ) → q.now.irq c ≡ p.now.irq c) → ((c : ℕ) → q.calling c ≡ p.calling c) → q.gate ≡ p.gate → q.now.patching ≡ p.now.patching
         → Leads q (past_at pasts me) ((me, event.Stop (stops.Open task)) ∷ [])
     unfolding stop_goes
-    opens_told task is works online gate stop_is inside irq calling gate_is =
+    opens_told task is works online gate stop_is inside irq calling gate_is patching =
         rw is (empty_step q (past_at pasts me) me (opened (p.now.stop me) (p.now.stop me).work) (opening
-        (told_work w)) below nobody stop_is inside irq calling gate_is told_opened
+        (told_work w)) below nobody stop_is inside irq calling gate_is patching told_opened
         me_now (event.Stop (stops.Open (told_work w))) (opens_stop s me whole (told_work w) ((f.stops me below).is_open ∙ shut) (f.gate ∙ gate) works online))
 
   -- a source collects the result
@@ -349,17 +339,17 @@ module _ (u : Setup) (p : StopState) (at at' : Word → ℕ) (seat : ℕ → Sea
 
     pub collects_told : (answer : ℤ) → unfinished (stop_at s me) ≡ None → gives (stop_at s me) answer ≡ true
         → ((j : ℕ) → q.now.stop j ≡ put p.now.stop me x j) → ((c : ℕ) → q.now.inside c ≡ p.now.inside c)
-        → ((c : ℕ) → q.now.irq c ≡ p.now.irq c) → ((c : ℕ) → q.calling c ≡ p.calling c) → q.gate ≡ p.gate
+        → ((c : ℕ) → q.now.irq c ≡ p.now.irq c) → ((c : ℕ) → q.calling c ≡ p.calling c) → q.gate ≡ p.gate → q.now.patching ≡ p.now.patching
         → Leads q (past_at pasts me) ((me, event.Stop (stops.Collect answer)) ∷ [])
     unfolding stop_goes
-    collects_told answer done given stop_is inside irq calling gate_is =
+    collects_told answer done given stop_is inside irq calling gate_is patching =
         let k = f.stops me below in
         let told : StopIs x (record (stop_at s me) { is_open = false }) = record {
           sized = record { entered = k.sized.entered; acked = k.sized.acked; ran = k.sized.ran; answers = k.sized.answers };
           is_open = sym x_shut;
           shows = λ o. absurd (false≢true (sym x_shut ∙ o));
         } in
-        empty_step q (past_at pasts me) me x (record (stop_at s me) { is_open = false }) below over stop_is inside irq calling gate_is told
+        empty_step q (past_at pasts me) me x (record (stop_at s me) { is_open = false }) below over stop_is inside irq calling gate_is patching told
         me_now (event.Stop (stops.Collect answer)) (collects_result s me whole answer (k.is_open ∙ open_now) done given)
 
     -- all have completed

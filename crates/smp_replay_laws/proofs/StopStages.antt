@@ -24,7 +24,7 @@ use Rattle.smp_stop_steps.specs.Callings.{IsCalling}
 use Rattle.smp_stop_steps.specs.Seats.{Stands}
 use Rattle.smp_stop_steps.specs.Sits.{HoldsGate, SitsAt, SitsAtRest, SourceSits}
 use Rattle.smp_stop_steps.specs.Slots.{order}
-use Rattle.smp_stop_steps.specs.Sources.{DraftShows, IsDrafted, IsOfKind, SourceShows}
+use Rattle.smp_stop_steps.specs.Sources.{DraftShows, IsDrafted, IsOfKind, IsPatchWork, SourceShows}
 use Rattle.smp_stop_steps.specs.Stages.{StopControlValue, answer_at, stop_access, stop_outcome}
 use Rattle.smp_stop_steps.specs.State.{Present, Setup, StopState}
 use Rattle.smp_stop_steps.specs.declared.known.Reading.TheVariants.{ReadKey as ReadingKey}
@@ -46,14 +46,16 @@ use Rattle.smp_stop_steps.proofs.State.Phases.{is_open_inside}
 use Rattle.smp_event_steps.specs.declared.event.Event.TheVariants as event
 use Rattle.smp_event_steps.specs.declared.event.LabelEvent.TheVariants as labels
 use Rattle.smp_event_steps.specs.State.{StateValue}
+use Rattle.smp_event_steps.specs.Stop.{is_work}
 use Rattle.smp_events.specs.Past.{after, after_draft, past_at}
 use Rattle.smp_events.specs.Told.{of_gate, of_roll, task_of, told_of}
 use Rattle.smp_events.specs.declared.past.Draft.{Draft}
 use Rattle.smp_events.specs.declared.past.Past.{Past}
 use Rattle.smp_events.specs.declared.told.Told.TheVariants as told
 use Rattle.smp_replay_laws.specs.Follows.{nothing_left_out}
-use Rattle.smp_replay_laws.specs.Stops.{AnswerIs, CpuIs, DraftIs, Drafts, FollowsStops, IsPlain, told_work}
+use Rattle.smp_replay_laws.specs.Stops.{AnswerIs, CpuIs, DraftIs, Drafts, FollowsStops, IsOfCpus, told_work}
 use Rattle.smp_replay_laws.proofs.Accepts.{by}
+use Rattle.smp_replay_laws.proofs.PatchWorks.{none_before, works_patch}
 use Rattle.smp_replay_laws.proofs.StopKinds.{gate_given, gate_taken, idle_free, mine_past, nothing_told}
 use Rattle.smp_replay_laws.proofs.StopMoves.{enters_told}
 use Rattle.smp_replay_laws.proofs.StopSources.{drafts_step, key_read, onlines, opens_told, reads_step, site_read, works}
@@ -159,6 +161,8 @@ module _ (v : StopsValue) (p : StopState) (shown : StopShown p v) (me : ℕ) (be
         calling_else = λ d ne. refl;
         standing_else = λ d ne. put_other (p.now.stop slot).standing me (Inside 0 0) d ne;
         gate_is = refl;
+        work_is = refl;
+        patching_is = refl;
       }))
     where
       called_is : (x : Standing) → is_called x ≡ true → x ≡ Called
@@ -199,7 +203,7 @@ module _ (v : StopsValue) (p : StopState) (shown : StopShown p v) (me : ℕ) (be
       let d = drafting w g e in
       drafts_step u p at (put_word at (Slot me g) n) shown.seat shown.source shown.shows me below pasts sized s whole cpus_are f (λ k. refl) (λ k. refl)
       (record p { now = drafts p.now me g n }) (after_draft past g n) (record (p.now.stop me) { work = drafted g n (p.now.stop me).work }) d.shut d.shut
-      (λ j. refl) (λ d. refl) (λ d. refl) (λ d. refl) (λ d. refl) refl
+      (λ j. refl) (λ d. refl) (λ d. refl) (λ d. refl) (λ d. refl) refl refl
       (mine_past u p at (put_word at (Slot me g) n) shown.seat shown.source shown.shows me below pasts sized s whole cpus_are f (λ k. refl) (λ k. refl)
       (after_draft past g n) phase answer)
 
@@ -219,7 +223,7 @@ module _ (v : StopsValue) (p : StopState) (shown : StopShown p v) (me : ℕ) (be
   at_rest : (w : Work) (g : Field) → c.stage ≡ Some (Begin w g) → past.answer ≡ pos 0
   at_rest w g e = rest_in c.visit (sits (Begin w g) e)
 
-  begun_task : (w : Work) (d : Draft) → IsPlain w → DraftIs w field.Roll d → task_of d ≡ told_work w
+  begun_task : (w : Work) (d : Draft) → IsOfCpus w → DraftIs w field.Roll d → task_of d ≡ told_work w
   begun_task w d plain k =
       let m : d.mask % 2 ^ 32 ≡ w.mask = small d.mask w.mask k.1.0 plain.mask in
       let a : d.active % 2 ^ 32 ≡ w.active = small d.active w.active k.1.1.0 plain.active in
@@ -228,37 +232,46 @@ module _ (v : StopsValue) (p : StopState) (shown : StopShown p v) (me : ℕ) (be
       small : (m n : ℕ) → m ≡ n → n < 2 ^ 32 → m % 2 ^ 32 ≡ n
       small m n e l = omega arith
 
-  opens_so : (w : Work) → c.stage ≡ Some (Begin w field.Roll) → IsPlain w → DraftIs w field.Roll past.draft → s.setting.online ≡ v.online
+  opens_so : (w : Work) → c.stage ≡ Some (Begin w field.Roll) → IsOfCpus w → DraftIs w field.Roll past.draft → s.setting.online ≡ v.online → s.setting.keys ≡ v.labels.keys
       → ReachesStops (opens p me) (put_word at (Slot me field.Roll) w.mask) (slice_set pasts me past) s (by me (of_roll past me act.Store (seen_so
       (Begin w field.Roll))))
-  opens_so w e plain d online =
+  opens_so w e plain d online count =
       let k = drafting w field.Roll e in
       let same : (p.now.stop me).work ≡ w = drafted_all (p.now.stop me).work w k.told in
       opens_told u p at (put_word at (Slot me field.Roll) w.mask) shown.seat shown.source shown.shows me below pasts sized s whole cpus_are f
       (λ j. refl) (λ j. refl)
-      (opens p me) w same plain k.shut (task_of past.draft) (begun_task w past.draft plain d)
-      (works s.setting w w.kind refl plain.kind k.is_work.some (λ one. subst (λ (x : Kind). IsOfKind u w x) one k.is_work.kind))
+      (opens p me) w same k.shut (task_of past.draft) (begun_task w past.draft plain d)
+      (works s.setting w w.kind refl k.is_work.some (λ one. subst (λ (x : Kind). IsOfKind u w x) one k.is_work.kind)
+      (λ kind. a_patch kind (subst (λ (x : Kind). IsOfKind u w x) kind k.is_work.kind)))
       (onlines s.setting w.mask (λ j m. rw online (k.is_work.online j m))) k.holds
-      (λ j. refl) (λ j. refl) (λ j. refl) (λ j. refl) refl
+      (λ j. refl) (λ j. refl) (λ j. refl) (λ j. refl) refl refl
     where
+      a_patch : w.kind ≡ Patch → IsPatchWork u w → is_work s.setting (told_work w) ≡ true
+      a_patch kind k =
+          let setup = shown.shows.setup in
+          let first_below_32 = setup.below u.first setup.first in
+          works_patch s.setting v.online u.first w (omega (arith, first_below_32)) setup.first (λ c l. none_before v.online cpus c l) online kind k.all k.first
+          (subst (λ (n : ℕ). w.func < n) (sym count) k.key) k.change
+
       drafted_all : (x y : Work) → IsDrafted 10 x y → x ≡ y
       drafted_all x y k = search arith
 
-  pub begins : (w : Work) (g : Field) → c.stage ≡ Some (Begin w g) → Drafts (Some (Begin w g)) past.draft → s.setting.online ≡ v.online → Accepted (Begin w g)
-  begins w field.Kind e d on = stores_shut w field.Kind (stored_open p me me field.Kind (kind_word w.kind)) (kind_word w.kind) e refl refl
-  begins w field.Mask e d on = stores_shut w field.Mask (stored_open p me me field.Mask w.mask) w.mask e refl refl
-  begins w field.Active e d on = stores_shut w field.Active (stored_open p me me field.Active w.active) w.active e refl refl
-  begins w field.Func e d on = stores_shut w field.Func (stored_open p me me field.Func w.func) w.func e refl refl
-  begins w field.Arg e d on = stores_shut w field.Arg (stored_open p me me field.Arg w.arg) w.arg e refl refl
-  begins w field.Result e d on = stores_shut w field.Result (stored_open p me me field.Result 0) 0 e refl (sym (at_rest w field.Result e))
-  begins w field.Todo e d on = stores_shut w field.Todo (stored_open p me me field.Todo (mask_weight cpus w.mask)) (mask_weight cpus w.mask) e refl refl
-  begins w field.Done e d on = stores_shut w field.Done (stored_open p me me field.Done 0) 0 e refl refl
-  begins w field.Ack e d on = stores_shut w field.Ack (stored_open p me me field.Ack (mask_weight cpus w.mask)) (mask_weight cpus w.mask) e refl refl
-  begins w field.State e d on =
+  pub begins : (w : Work) (g : Field) → c.stage ≡ Some (Begin w g) → Drafts (Some (Begin w g)) past.draft → s.setting.online ≡ v.online
+      → s.setting.keys ≡ v.labels.keys → Accepted (Begin w g)
+  begins w field.Kind e d on count = stores_shut w field.Kind (stored_open p me me field.Kind (kind_word w.kind)) (kind_word w.kind) e refl refl
+  begins w field.Mask e d on count = stores_shut w field.Mask (stored_open p me me field.Mask w.mask) w.mask e refl refl
+  begins w field.Active e d on count = stores_shut w field.Active (stored_open p me me field.Active w.active) w.active e refl refl
+  begins w field.Func e d on count = stores_shut w field.Func (stored_open p me me field.Func w.func) w.func e refl refl
+  begins w field.Arg e d on count = stores_shut w field.Arg (stored_open p me me field.Arg w.arg) w.arg e refl refl
+  begins w field.Result e d on count = stores_shut w field.Result (stored_open p me me field.Result 0) 0 e refl (sym (at_rest w field.Result e))
+  begins w field.Todo e d on count = stores_shut w field.Todo (stored_open p me me field.Todo (mask_weight cpus w.mask)) (mask_weight cpus w.mask) e refl refl
+  begins w field.Done e d on count = stores_shut w field.Done (stored_open p me me field.Done 0) 0 e refl refl
+  begins w field.Ack e d on count = stores_shut w field.Ack (stored_open p me me field.Ack (mask_weight cpus w.mask)) (mask_weight cpus w.mask) e refl refl
+  begins w field.State e d on count =
       rw (first_low w.kind) (stores_shut w field.State (stored_open p me me field.State (first_phase w.kind)) (first_phase w.kind) e refl refl)
-  begins w field.Roll e d on = subst (λ (z : StopState). ReachesStops z (put_word at (Slot me field.Roll) w.mask) (slice_set pasts me past) s
+  begins w field.Roll e d on count = subst (λ (z : StopState). ReachesStops z (put_word at (Slot me field.Roll) w.mask) (slice_set pasts me past) s
       (by me (of_roll past me act.Store (seen_so (Begin w field.Roll)))))
-      (sym (else_if (p.now.stop me).is_open (stored_open p me me field.Roll w.mask) (opens p me) (drafting w field.Roll e).shut)) (opens_so w e d.0 d.1 on)
+      (sym (else_if (p.now.stop me).is_open (stored_open p me me field.Roll w.mask) (opens p me) (drafting w field.Roll e).shut)) (opens_so w e d.0 d.1 on count)
 
   -- a key and a site are read
   on_read : p.now.irq me ≡ true → (past.phase == 3) ≡ false
@@ -266,13 +279,13 @@ module _ (v : StopsValue) (p : StopState) (shown : StopShown p v) (me : ℕ) (be
 
   key_on : (k : ℕ) (q : StopState) → p.now.irq me ≡ true → ((j : ℕ) → q.now.stop j ≡ p.now.stop j) → ((d : ℕ) → q.now.inside d ≡ p.now.inside d)
       → ((d : ℕ) → q.now.irq d ≡ p.now.irq d) → ((d : ℕ) → q.calling d ≡ p.calling d) → q.gate ≡ p.gate
-      → ReachesStops q at (slice_set pasts me past) s (by me (cond (past.phase == 3) told.Nothing (told.One (event.Label (labels.Key k (is_on (at
+      → q.now.patching ≡ p.now.patching → ReachesStops q at (slice_set pasts me past) s (by me (cond (past.phase == 3) told.Nothing (told.One (event.Label (labels.Key k (is_on (at
       (Key k))))))))
-  key_on k q on stop inside irq calling gate = rw (on_read on)
+  key_on k q on stop inside irq calling gate patching = rw (on_read on)
       (reads_step u p at at shown.seat shown.source shown.shows me below pasts sized s whole cpus_are f (λ j. refl) (λ j. refl) q
       (event.Label (labels.Key k (is_on (at (Key k)))))
       (key_read u p at at shown.seat shown.source shown.shows me below pasts sized s whole cpus_are f (λ j. refl)
-      (λ j. refl) k on) stop inside irq calling gate)
+      (λ j. refl) k on) stop inside irq calling gate patching)
 
   irq_on : c.interrupts ≡ true → p.now.irq me ≡ true
   irq_on e = shown.shows.present.irq me ∙ (sym (shown.sits me below).irq ∙ e)
@@ -300,6 +313,7 @@ module _ (v : StopsValue) (p : StopState) (shown : StopShown p v) (me : ℕ) (be
       → ReachesStops (record p { now = key_loaded u p.now me k (at (Key k)) o }) at (slice_set pasts me past) s
       (by me (cond (past.phase == 3) told.Nothing (told.One (event.Label (labels.Key k (is_on (at (Key k))))))))
   key_in k w rest on None e = key_on k (record p { now = key_loaded u p.now me k (at (Key k)) None }) on (λ j. refl) (λ d. refl) (λ d. refl) (λ d. refl) refl
+      refl
   key_in k w rest on (Some j) e =
       let n = reads p.now me (ReadingKey k (is_on (at (Key k)))) in
       let not_run = and_left (is_at_run ((p.now.stop j).standing me)) (is_patch (p.now.stop j).work.kind) (not_at_run w rest j e) in
@@ -307,7 +321,7 @@ module _ (v : StopsValue) (p : StopState) (shown : StopShown p v) (me : ℕ) (be
       (by me (cond (past.phase == 3) told.Nothing (told.One (event.Label (labels.Key k (is_on (at (Key k)))))))))
       (sym (else_if (is_at_run ((p.now.stop j).standing me) && is_patch (p.now.stop j).work.kind)
       (record (p.now) { patching = patch_begun u me (p.now.stop j).work (at (Key k)) }) n not_run))
-      (key_on k (record p { now = n }) on (λ j. refl) (λ d. refl) (λ d. refl) (λ d. refl) refl)
+      (key_on k (record p { now = n }) on (λ j. refl) (λ d. refl) (λ d. refl) (λ d. refl) refl refl)
 
   pub reads_key : (k : ℕ) → c.stage ≡ Some (ReadKey k) → Accepted (ReadKey k)
   reads_key k e = let st = sits (ReadKey k) e in key_in k c.visit st.2 (irq_on st.0) (p.now.inside me) refl
@@ -321,4 +335,4 @@ module _ (v : StopsValue) (p : StopState) (shown : StopShown p v) (me : ℕ) (be
       reads_step u p at at shown.seat shown.source shown.shows me below pasts sized s whole cpus_are f (λ j. refl) (λ j. refl) _
       (event.Label (labels.Site k (is_on (at (Site k)))))
       (site_read u p at at shown.seat shown.source shown.shows me below pasts sized s whole cpus_are f (λ j. refl) (λ j. refl) k (irq_on st.0))
-      (λ j. refl) (λ d. refl) (λ d. refl) (λ d. refl) refl
+      (λ j. refl) (λ d. refl) (λ d. refl) (λ d. refl) refl refl

@@ -1,12 +1,15 @@
 -- A state of the model with one stop or one CPU's part of the stops changed, and the stops of the machine with which it agrees.
-use Rattle.std.proofs.Common.{◌≡◌, ◌≢◌, ℕ, ◌<◌, List, length, Some, ap, sym, ◌∙◌, subst, inl, inr, arith}
+use Rattle.std.proofs.Common.{◌≡◌, ◌≢◌, ℕ, ◌<◌, true, List, length, Some, ap, sym, ◌∙◌, subst, inl, inr, arith}
 use Rattle.std.proofs.lemmas.List.{get_or-set_same, get_or-set_other}
 use Rattle.std.proofs.lemmas.Bool.{cases_eq}
 use Rattle.std.specs.Prelude.{slice_set}
+use Rattle.smp_mask.specs.Mask.{has}
 use Rattle.smp_words.specs.Put.{put}
 use Rattle.smp_words.specs.Size.{cpus}
 use Rattle.smp_words.specs.declared.word.Word.{Word}
 use Rattle.smp_words.specs.declared.word.Word.TheVariants.{Key, Site}
+use Rattle.smp_words.specs.declared.work.Kind.TheVariants.{Patch}
+use Rattle.smp_words.specs.declared.work.Work.{Work}
 use Rattle.smp_words.proofs.Puts.{put_other, put_same}
 use Rattle.smp_stop_steps.specs.State.{StopState}
 use Rattle.smp_stop_steps.specs.Stop.{Standing, Stop}
@@ -16,7 +19,7 @@ use Rattle.smp_event_steps.specs.Stop.{closed, has_run}
 use Rattle.smp_events.specs.Past.{past_at}
 use Rattle.smp_events.specs.declared.past.Past.{Past}
 use Rattle.smp_replay_laws.specs.Follows.{calls_in}
-use Rattle.smp_replay_laws.specs.Stops.{AnswerIs, CpuIs, FollowsStops, InsideIs, PhaseIs, StopIs, has_called}
+use Rattle.smp_replay_laws.specs.Stops.{AnswerIs, CpuIs, FollowsStops, InsideIs, PatchIs, PhaseIs, StopIs}
 use Rattle.smp_replay_laws.proofs.Pasts.{past_else, past_here}
 
 pub stop_here : (s : StateValue) (source : ℕ) (x : ToldStop) → length s.stops ≡ 32 → source < cpus → stop_at (with_stop source s x) source ≡ x
@@ -29,6 +32,7 @@ stop_else s source x j ne = get_or-set_other s.stops source j x (closed 0) ne
 pub record LeavesCalls (s t : StateValue) : Type 0 where
   pub setting : t.setting ≡ s.setting
   pub places : t.places ≡ s.places
+  pub entries : t.words.entries ≡ s.words.entries
   pub cpus_are : length t.cpus ≡ length s.cpus
   pub calls : (cpu : ℕ) → calls_in (cpu_at t cpu) ≡ calls_in (cpu_at s cpu)
 
@@ -41,12 +45,31 @@ pub record IsAlike (p q : StopState) (s t : StateValue) (cpu : ℕ) : Type 0 whe
   pub inside_told : (cpu_at t cpu).inside ≡ (cpu_at s cpu).inside
   pub irq_told : (cpu_at t cpu).irq ≡ (cpu_at s cpu).irq
   pub ran : (source : ℕ) → p.now.inside cpu ≡ Some source → source < cpus → has_run (stop_at t source) cpu ≡ has_run (stop_at s source) cpu
+  pub work : (source : ℕ) → p.now.inside cpu ≡ Some source → (q.now.stop source).work ≡ (p.now.stop source).work
+  pub patch : (source : ℕ) → p.now.inside cpu ≡ Some source → source < cpus → PatchIs p s cpu source → PatchIs q t cpu source
+
+-- no other CPU makes a patch of a stop that it is in
+abbrev pub IsAlone : StopState → ℕ → Type 0
+IsAlone p me = (cpu source : ℕ) → cpu ≢ me → p.now.inside cpu ≡ Some source → (p.now.stop source).work.kind ≡ Patch
+    → has (p.now.stop source).work.active cpu ≡ true → ⊥
+
+-- a patch of which nothing is told, or another CPU's
+pub patch_alike : (p q : StopState) (s t : StateValue) (cpu source : ℕ) → (q.now.stop source).work ≡ (p.now.stop source).work
+    → q.now.patching ≡ p.now.patching → q.calling cpu ≡ p.calling cpu → t.words ≡ s.words → (stop_at t source).patch ≡ (stop_at s source).patch
+    → PatchIs p s cpu source → PatchIs q t cpu source
+patch_alike p q s t cpu source work patching calling words told k = rw (work, patching, calling, words, told) k
+
+pub patch_else : (p q : StopState) (s t : StateValue) (me cpu source : ℕ) → IsAlone p me → cpu ≢ me → p.now.inside cpu ≡ Some source
+    → (q.now.stop source).work ≡ (p.now.stop source).work → PatchIs q t cpu source
+patch_else p q s t me cpu source alone ne inside work kind active =
+    absurd (alone cpu source ne inside (sym (ap (λ (w : Work). w.kind) work) ∙ kind) (sym (ap (λ (w : Work). has w.active cpu) work) ∙ active))
 
 inside_alike : (p q : StopState) (s t : StateValue) (cpu : ℕ) (past : Past) → IsAlike p q s t cpu → (source : ℕ) → p.now.inside cpu ≡ Some source
     → InsideIs p s past cpu source → InsideIs q t past cpu source
 inside_alike p q s t cpu past k source e i = record {
   below = i.below;
-  ran = k.ran source e i.below ∙ (i.ran ∙ ap has_called (sym k.calling));
+  ran = k.ran source e i.below ∙ rw (k.calling, k.work source e) i.ran;
+  patch = k.patch source e i.below i.patch;
   phase = subst (λ (x : Standing). PhaseIs x past.phase) (sym (k.standing source e)) i.phase;
   answer = subst (λ (x : Standing). AnswerIs x past.answer) (sym (k.standing source e)) i.answer;
 }
@@ -78,6 +101,7 @@ module _ (p q : StopState) (at at' : Word → ℕ) (pasts : List Past) (s t : St
   follows_step k = record {
     stops_are = k.stops_are;
     keys_are = rw k.words f.keys_are;
+    sites_are = rw k.words f.sites_are;
     gate = k.gate;
     stops = k.stops;
     cpus_are = λ cpu l. elim (cases_eq cpu me) [

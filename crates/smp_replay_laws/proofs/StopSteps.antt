@@ -1,7 +1,9 @@
 -- The events of a step on the stops, and the state to which they lead.
-use Rattle.std.proofs.Common.{◌≡◌, ◌≢◌, ℕ, ◌<◌, false, List, [], ◌∷◌, length, length-set, Option, Some, None, Ok, refl, ap, sym, ◌∙◌, subst, inl, inr}
+use Rattle.std.proofs.Common.{◌≡◌, ◌≢◌, ◌⊎◌, ℕ, ◌<◌, true, false, List, [], ◌∷◌, length, length-set, Option, Some, None, Ok, refl, ap, sym, ◌∙◌, subst, inl}
+use Rattle.std.proofs.Common.{inr}
 use Rattle.std.proofs.lemmas.Bool.{cases_eq}
 use Rattle.std.specs.Prelude.{slice_set}
+use Rattle.smp_mask.specs.Mask.{has}
 use Rattle.smp_words.specs.Put.{put, put_word, same_word}
 use Rattle.smp_words.specs.Access.{put_if}
 use Rattle.smp_words.specs.Size.{cpus}
@@ -9,7 +11,7 @@ use Rattle.smp_words.specs.declared.word.Word.{Word}
 use Rattle.smp_words.specs.declared.word.Word.TheVariants.{Key, Site}
 use Rattle.smp_words.proofs.Puts.{put_all}
 use Rattle.smp_stop_steps.specs.State.{StopState}
-use Rattle.smp_stop_steps.specs.Stop.{Standing, Stop}
+use Rattle.smp_stop_steps.specs.Stop.{Standing, Called, Stop}
 use Rattle.smp_event_steps.specs.declared.event.Event.{Event}
 use Rattle.smp_event_steps.specs.declared.stop.Stop.{Stop as ToldStop}
 use Rattle.smp_event_steps.specs.Cpu.{CpuState}
@@ -19,9 +21,9 @@ use Rattle.smp_event_steps.specs.Step.{goes}
 use Rattle.smp_event_steps.specs.Stop.{acked_by, answer_of, has_run, is_called}
 use Rattle.smp_events.specs.declared.past.Past.{Past}
 use Rattle.smp_replay_laws.specs.Follows.{calls_in}
-use Rattle.smp_replay_laws.specs.Stops.{CpuIs, FollowsStops, MemberIs, StopIs}
+use Rattle.smp_replay_laws.specs.Stops.{CpuIs, FollowsStops, MemberIs, PatchIs, StopIs}
 use Rattle.smp_replay_laws.proofs.States.{cpu_else, cpu_here}
-use Rattle.smp_replay_laws.proofs.StopStates.{IsAlike, LeavesCalls, cpu_alike, follows_step, stop_else, stop_here, stops_set}
+use Rattle.smp_replay_laws.proofs.StopStates.{IsAlike, IsAlone, LeavesCalls, cpu_alike, follows_step, patch_alike, patch_else, stop_else, stop_here, stops_set}
 
 -- These events lead to a state that agrees with the stops, and leave the calls as they were.
 pub record ReachesStops (q : StopState) (at' : Word → ℕ) (pasts' : List Past) (s : StateValue) (es : List (ℕ × Event)) : Type 0 where
@@ -31,7 +33,7 @@ pub record ReachesStops (q : StopState) (at' : Word → ℕ) (pasts' : List Past
   pub leaves : LeavesCalls s t
 
 pub leaves_calls : (s : StateValue) → LeavesCalls s s
-leaves_calls s = record { setting = refl; places = refl; cpus_are = refl; calls = λ cpu. refl }
+leaves_calls s = record { setting = refl; places = refl; entries = refl; cpus_are = refl; calls = λ cpu. refl }
 
 -- words that a step leaves as they are
 pub word_kept : (at : Word → ℕ) (w u : Word) (put : Option ℕ) → same_word u w ≡ false → put_if put_word at w put u ≡ at u
@@ -41,12 +43,14 @@ word_kept at w u (Some n) e = rw e refl
 -- a member of a stop, where what is told of it is as before
 pub member_as : (x : Standing) (e f : ToldStop) (cpu : ℕ) → is_called f cpu ≡ is_called e cpu → acked_by f cpu ≡ acked_by e cpu
     → answer_of f cpu ≡ answer_of e cpu
-    → has_run f cpu ≡ has_run e cpu → MemberIs x e cpu → MemberIs x f cpu
-member_as x e f cpu called acked answer ran m = record {
+    → has_run f cpu ≡ has_run e cpu → (x ≡ Called → has f.task.active cpu ≡ true → (has e.task.active cpu ≡ true) × (f.patch ≡ e.patch)) → MemberIs x e cpu
+    → MemberIs x f cpu
+member_as x e f cpu called acked answer ran patch m = record {
   called = called ∙ m.called;
   acked_is = acked ∙ m.acked_is;
   answer = answer ∙ m.answer;
   fresh = λ is. ran ∙ m.fresh is;
+  unmade = λ is active. let k = patch is active in k.1 ∙ m.unmade is k.0;
 }
 
 -- What a step of one CPU on one stop changes.
@@ -58,15 +62,17 @@ pub record OneStop (p q : StopState) (me source : ℕ) (x : Stop) (e f : ToldSto
   pub standing : (cpu : ℕ) → cpu ≢ me → x.standing cpu ≡ (p.now.stop source).standing cpu
   pub ran : (cpu : ℕ) → cpu ≢ me → has_run f cpu ≡ has_run e cpu
   pub gate : q.gate ≡ p.gate
+  pub work : x.work ≡ (p.now.stop source).work
+  pub patch : ((q.now.patching ≡ p.now.patching) × (f.patch ≡ e.patch)) ⊎ IsAlone p me
 
 module _ (p q : StopState) (at at' : Word → ℕ) (pasts : List Past) (s : StateValue) (me : ℕ) (past : Past) (below : me < cpus) (sized : length pasts ≡ 32)
     (cpus_are : length s.cpus ≡ 32) (f : FollowsStops p at pasts s)
     (keys : (key : ℕ) → at' (Key key) ≡ at (Key key)) (sites : (site : ℕ) → at' (Site site) ≡ at (Site site)) where
   -- no stop and no CPU is told to be another
   pub quiet_step : q.gate ≡ p.gate → ((j : ℕ) → q.now.stop j ≡ p.now.stop j) → ((cpu : ℕ) → cpu ≢ me → q.now.inside cpu ≡ p.now.inside cpu)
-      → ((cpu : ℕ) → cpu ≢ me → q.now.irq cpu ≡ p.now.irq cpu) → ((cpu : ℕ) → cpu ≢ me → q.calling cpu ≡ p.calling cpu) → CpuIs q s past me
-      → ReachesStops q at' (slice_set pasts me past) s []
-  quiet_step gate stops inside irq calling mine = record {
+      → ((cpu : ℕ) → cpu ≢ me → q.now.irq cpu ≡ p.now.irq cpu) → ((cpu : ℕ) → cpu ≢ me → q.calling cpu ≡ p.calling cpu)
+      → (q.now.patching ≡ p.now.patching) ⊎ IsAlone p me → CpuIs q s past me → ReachesStops q at' (slice_set pasts me past) s []
+  quiet_step gate stops inside irq calling patching mine = record {
     t = s;
     runs = refl;
     follows = follows_step p q at at' pasts s s me past f (record {
@@ -84,6 +90,11 @@ module _ (p q : StopState) (at at' : Word → ℕ) (pasts : List Past) (s : Stat
         inside_told = refl;
         irq_told = refl;
         ran = λ j inside l. refl;
+        work = λ j inside. ap (λ (x : Stop). x.work) (stops j);
+        patch = λ j is l. elim patching [
+          | inl same ↦ patch_alike p q s s cpu j (ap (λ (x : Stop). x.work) (stops j)) same (calling cpu ne) refl refl
+          | inr alone ↦ λ k. patch_else p q s s me cpu j alone ne is (ap (λ (x : Stop). x.work) (stops j))
+        ];
       };
       words = refl;
       keys = keys;
@@ -114,14 +125,15 @@ module _ (p q : StopState) (at at' : Word → ℕ) (pasts : List Past) (s : Stat
             standing = λ j inside. refl;
             inside_told = refl;
             irq_told = refl;
-            ran =
-                λ j inside l. refl;
+            ran = λ j inside l. refl;
+            work = λ j inside. refl;
+            patch = λ j inside l k. k;
           };
           words = refl;
           keys = keys;
           sites = sites;
         });
-        leaves = record { setting = refl; places = refl; cpus_are = refl; calls = λ cpu. refl };
+        leaves = record { setting = refl; places = refl; entries = refl; cpus_are = refl; calls = λ cpu. refl };
       })
     where
       alike : (t : StateValue) → IsAlike p (record p { gate = gate }) s (record s { gate = gate }) me
@@ -132,8 +144,9 @@ module _ (p q : StopState) (at at' : Word → ℕ) (pasts : List Past) (s : Stat
         standing = λ j inside. refl;
         inside_told = refl;
         irq_told = refl;
-        ran =
-            λ j inside l. refl;
+        ran = λ j inside l. refl;
+        work = λ j inside. refl;
+        patch = λ j inside l k. k;
       }
 
   -- the stop of a source goes on, and what is told of it is the same
@@ -142,6 +155,17 @@ module _ (p q : StopState) (at at' : Word → ℕ) (pasts : List Past) (s : Stat
     standing_still : (cpu : ℕ) → cpu ≢ me → (j : ℕ) → (q.now.stop j).standing cpu ≡ (p.now.stop j).standing cpu
     standing_still cpu ne j = ap (λ (z : Stop). z.standing cpu) (k.stop_is j)
         ∙ put_all (λ i (z : Stop). z.standing cpu ≡ (p.now.stop i).standing cpu) p.now.stop source x (k.standing cpu ne) (λ i other. refl) j
+
+    work_still : (j : ℕ) → (q.now.stop j).work ≡ (p.now.stop j).work
+    work_still j = ap (λ (z : Stop). z.work) (k.stop_is j)
+        ∙ put_all (λ i (z : Stop). z.work ≡ (p.now.stop i).work) p.now.stop source x k.work (λ i other. refl) j
+
+    patch_still : (t : StateValue) → t.stops ≡ s.stops → t.words ≡ s.words → (cpu : ℕ) → cpu ≢ me → (j : ℕ) → p.now.inside cpu ≡ Some j → PatchIs p s cpu j
+        → PatchIs q t cpu j
+    patch_still t stops words cpu ne j is i = elim k.patch [
+      | inl same ↦ patch_alike p q s t cpu j (work_still j) same.0 (k.calling cpu ne) words (rw stops refl) i
+      | inr alone ↦ patch_else p q s t me cpu j alone ne is (work_still j)
+    ]
 
     stops_still : (j : ℕ) → j < cpus → StopIs (q.now.stop j) (stop_at s j)
     stops_still j l = subst (λ (z : Stop). StopIs z (stop_at s j)) (sym (k.stop_is j))
@@ -166,6 +190,8 @@ module _ (p q : StopState) (at at' : Word → ℕ) (pasts : List Past) (s : Stat
           inside_told = refl;
           irq_told = refl;
           ran = λ j inside l. refl;
+          work = λ j inside. work_still j;
+          patch = λ j inside l i. patch_still s refl refl cpu ne j inside i;
         };
         words = refl;
         keys = keys;
@@ -196,6 +222,8 @@ module _ (p q : StopState) (at at' : Word → ℕ) (pasts : List Past) (s : Stat
           inside_told = ap (λ (z : CpuState). z.inside) (cpu_else s me c cpu ne);
           irq_told = ap (λ (z : CpuState). z.irq) (cpu_else s me c cpu ne);
           ran = λ j inside l. refl;
+          work = λ j inside. work_still j;
+          patch = λ j inside l i. patch_still (with_cpu me s c) refl refl cpu ne j inside i;
         };
         words = refl;
         keys = keys;
@@ -204,6 +232,7 @@ module _ (p q : StopState) (at at' : Word → ℕ) (pasts : List Past) (s : Stat
       leaves = record {
         setting = refl;
         places = refl;
+        entries = refl;
         cpus_are = length-set s.cpus me c;
         calls = λ cpu. elim (cases_eq cpu me) [
           | inl e ↦ rw e (ap calls_in (cpu_here s me c cpus_are below) ∙ calls)
@@ -224,6 +253,23 @@ module _ (p q : StopState) (at at' : Word → ℕ) (pasts : List Past) (s : Stat
       | inl e ↦ rw (e, stop_here s source y f.stops_are m) (k.ran cpu ne)
       | inr other ↦ ap (λ (z : ToldStop). has_run z cpu) (stop_else s source y j other)
     ]
+
+    work_else : (j : ℕ) → (q.now.stop j).work ≡ (p.now.stop j).work
+    work_else j = ap (λ (z : Stop). z.work) (k.stop_is j)
+        ∙ put_all (λ i (z : Stop). z.work ≡ (p.now.stop i).work) p.now.stop source x k.work (λ i other. refl) j
+
+    patch_set : (t : StateValue) → t.stops ≡ (with_stop source s y).stops → t.words ≡ s.words → (cpu : ℕ) → cpu ≢ me → (j : ℕ) → p.now.inside cpu ≡ Some j
+        → PatchIs p s cpu j → PatchIs q t cpu j
+    patch_set t stops words cpu ne j is i = elim k.patch [
+      | inl same ↦ patch_alike p q s t cpu j (work_else j) same.0 (k.calling cpu ne) words (rw stops (told_else same.1)) i
+      | inr alone ↦ patch_else p q s t me cpu j alone ne is (work_else j)
+    ]
+      where
+        told_else : y.patch ≡ (stop_at s source).patch → (stop_at (with_stop source s y) j).patch ≡ (stop_at s j).patch
+        told_else same = elim (cases_eq j source) [
+          | inl e ↦ rw (e, stop_here s source y f.stops_are m) same
+          | inr other ↦ ap (λ (z : ToldStop). z.patch) (stop_else s source y j other)
+        ]
 
     abbrev pub after_set : StateValue
     after_set = with_cpu me (with_stop source s y) c
@@ -249,6 +295,8 @@ module _ (p q : StopState) (at at' : Word → ℕ) (pasts : List Past) (s : Stat
           inside_told = ap (λ (z : CpuState). z.inside) (cpu_else (with_stop source s y) me c cpu ne);
           irq_told = ap (λ (z : CpuState). z.irq) (cpu_else (with_stop source s y) me c cpu ne);
           ran = λ j inside l. ran_else cpu ne j;
+          work = λ j inside. work_else j;
+          patch = λ j inside l i. patch_set after_set refl refl cpu ne j inside i;
         };
         words = refl;
         keys = keys;
@@ -257,6 +305,7 @@ module _ (p q : StopState) (at at' : Word → ℕ) (pasts : List Past) (s : Stat
       leaves = record {
         setting = refl;
         places = refl;
+        entries = refl;
         cpus_are = length-set s.cpus me c;
         calls = λ cpu. elim (cases_eq cpu me) [
           | inl e ↦ rw e (ap calls_in (cpu_here (with_stop source s y) me c cpus_are below) ∙ calls)
@@ -286,10 +335,12 @@ module _ (p q : StopState) (at at' : Word → ℕ) (pasts : List Past) (s : Stat
           inside_told = refl;
           irq_told = refl;
           ran = λ j inside l. ran_else cpu ne j;
+          work = λ j inside. work_else j;
+          patch = λ j inside l i. patch_set (with_stop source s y) refl refl cpu ne j inside i;
         };
         words = refl;
         keys = keys;
         sites = sites;
       });
-      leaves = record { setting = refl; places = refl; cpus_are = refl; calls = λ cpu. refl };
+      leaves = record { setting = refl; places = refl; entries = refl; cpus_are = refl; calls = λ cpu. refl };
     }

@@ -1,7 +1,7 @@
 -- The step of a CPU in a turn of a rendezvous is accepted.
 use Rattle.std.proofs.Common.{◌≡◌, ◌≢◌, ℕ, ◌+◌, ◌<◌, ◌≤◌, Bool, true, false, ◌&&◌, cond, List, [], ◌∷◌, ◌++◌, length, Option, Some, None, Ok}
 use Rattle.std.proofs.Common.{refl, ap, sym, ◌∙◌, subst, inl, inr, ◌⊎◌, arith}
-use Rattle.std.proofs.lemmas.Bool.{false≢true, eqb-true, eqb-false}
+use Rattle.std.proofs.lemmas.Bool.{false≢true, true≢false, and_right, eqb-true, eqb-false}
 use Rattle.std.specs.Prelude.{slice_set, ◌==◌}
 use Rattle.smp_mask.specs.Mask.{has}
 use Rattle.smp_labels.specs.Keys.{change_of}
@@ -17,10 +17,9 @@ use Rattle.smp_words.specs.declared.work.Kind.TheVariants.{One, Multi, Patch}
 use Rattle.smp_words.specs.declared.work.Work.{Work}
 use Rattle.smp_words.proofs.Puts.{put_all, put_other, put_same}
 use Rattle.smp_stop_steps.specs.Callings.{IsCalling}
-use Rattle.smp_stop_steps.specs.Labels.{Change}
 use Rattle.smp_stop_steps.specs.Seats.{Stands, irq_of}
 use Rattle.smp_stop_steps.specs.Slots.{Keeps, OpenShows}
-use Rattle.smp_stop_steps.specs.Sits.{SitsInRound, SitsAt}
+use Rattle.smp_stop_steps.specs.Sits.{SitsAt, SitsAtRun, SitsInRound}
 use Rattle.smp_stop_steps.specs.Carries.{CarriesAt, IsQuiet}
 use Rattle.smp_stop_steps.specs.Stages.{StopControlValue, StopOutcome, looked_on, stop_ends, stop_goes}
 use Rattle.smp_stop_steps.specs.State.{Setup, StopState}
@@ -35,7 +34,7 @@ use Rattle.smp_stop_steps.specs.declared.known.Duty.TheVariants.{Rests}
 use Rattle.smp_stop_steps.specs.declared.stage.RoundStage.{RoundStage}
 use Rattle.smp_stop_steps.specs.declared.stage.RoundStage.TheVariants as round
 use Rattle.smp_stop_steps.specs.declared.known.Seat.{Seat}
-use Rattle.smp_stop_steps.specs.declared.known.Seat.TheVariants.{In, Alters}
+use Rattle.smp_stop_steps.specs.declared.known.Seat.TheVariants.{In}
 use Rattle.smp_stop_steps.specs.declared.stage.StopStage.{StopStage}
 use Rattle.smp_stop_steps.specs.declared.stage.StopStage.TheVariants.{Advance}
 use Rattle.smp_stop_steps.specs.declared.stage.Visit.{Visit}
@@ -53,7 +52,7 @@ use Rattle.smp_replay_laws.specs.Stops.{CpuIs, FollowsStops, InsideIs, OpenIs, P
 use Rattle.smp_replay_laws.proofs.Accepts.{by}
 use Rattle.smp_replay_laws.proofs.StopMoves.{looked_step, off_step}
 use Rattle.smp_replay_laws.proofs.StopRuns.{runs_told}
-use Rattle.smp_replay_laws.proofs.StopStages.{Accepted, loads, seen_so}
+use Rattle.smp_replay_laws.proofs.StopStages.{Accepted, else_if, loads, seen_so}
 use Rattle.smp_replay_laws.proofs.StopSteps.{ReachesStops}
 
 pub then_if : {A : Type 0} (b : Bool) (x y : A) → b ≡ true → cond b x y ≡ x
@@ -100,9 +99,6 @@ module _ (v : StopsValue) (p : StopState) (shown : StopShown p v) (me : ℕ) (be
 
     pub told_here : OpenIs (p.now.stop slot) (stop_at s slot)
     told_here = (f.stops slot i.below).shows opened_here
-
-    pub not_patch : w.kind ≢ Patch
-    not_patch = subst (λ (x : Work). x.kind ≢ Patch) st.3 told_here.kind
 
     pub words_here : OpenShows U.cpus (p.now.stop slot) (λ g. At (Slot slot g))
     words_here = (shown.shows.present.slots slot).shows opened_here
@@ -173,6 +169,8 @@ module _ (v : StopsValue) (p : StopState) (shown : StopShown p v) (me : ℕ) (be
           calling_else = λ d ne. refl;
           standing_else = λ d ne. put_other (p.now.stop slot).standing me (Inside a (At (Slot slot field.State))) d ne;
           gate_is = refl;
+          work_is = refl;
+          patching_is = refl;
         }) phase reads
 
     -- interrupts go off
@@ -191,6 +189,8 @@ module _ (v : StopsValue) (p : StopState) (shown : StopShown p v) (me : ℕ) (be
           calling_else = λ d ne. refl;
           standing_else = λ d ne. put_other (p.now.stop slot).standing me (Inside a (At (Slot slot field.State))) d ne;
           gate_is = refl;
+          work_is = refl;
+          patching_is = refl;
         }) phase (subst (λ (x : Work). x.kind ≢ One) (sym so.3) kind) (opened_here slot a a w Rests at_seat) (irq_here slot a a w Rests at_seat
         ∙ rw one refl) (omega arith)
         (sym (words_here slot a a w Rests at_seat).state ∙ two) quiet
@@ -282,6 +282,8 @@ module _ (v : StopsValue) (p : StopState) (shown : StopShown p v) (me : ℕ) (be
         calling_else = λ d ne. put_other p.calling me _ d ne;
         standing_else = λ d ne. refl;
         gate_is = refl;
+        work_is = refl;
+        patching_is = refl;
       })
       (inr (ap (λ (z : Work). z.kind) so.3 ∙ kind, (ap (λ (z : Work). has z.active me) so.3 ∙ active, (refl, phase))))
       (ap (λ (z : Work). z.func) so.3 ∙ sym is) (sym words.written.arg)
@@ -290,24 +292,16 @@ module _ (v : StopsValue) (p : StopState) (shown : StopShown p v) (me : ℕ) (be
       at_three l n phase three two (inl e) = absurd (omega arith)
       at_three l n phase three two (inr e) = e.1 ∙ three
 
-  pub multi_is : (k : Kind) → k ≢ One → k ≢ Patch → k ≡ Multi
-  multi_is One a b = absurd (a refl)
-  multi_is Multi a b = refl
-  multi_is Patch a b = absurd (b refl)
-
-  pub loads_arg : (x : Visit) (answer func : ℕ) → C.stage ≡ Some (Advance x (round.LoadArg answer func)) → Made (Advance x (round.LoadArg answer func))
-  loads_arg x answer func e =
-      let k = sits x (round.LoadArg answer func) e in
-      let w = k.1.0 in
-      let run = k.1.1 in
+  calls_function : (x : Visit) (answer func : ℕ) → C.stage ≡ Some (Advance x (round.LoadArg answer func)) → (w : Work) → SitsAtRun me x w (shown.seat me)
+      → func ≡ w.func → w.kind ≡ Multi → Made (Advance x (round.LoadArg answer func))
+  calls_function x answer func e w run func_is kind =
       let slot = x.slot in
-      let kind : w.kind ≡ Multi = multi_is w.kind (λ one. k.0 (run.0.kind ∙ one)) (not_patch slot 2 3 w Rests run.3) in
       let active : has w.active me ≡ true = ap (λ (m : ℕ). has m me) (sym run.0.active) ∙ run.2 in
       let so = st slot 2 3 w Rests run.3 in
       let carries : IsQuiet C.visit (p.calling me) = subst (λ (o : Option StopStage). CarriesAt C.visit o (p.calling me)) e (shown.carries me below) in
       let visit : C.visit ≡ Some x = (subst (λ (o : Option StopStage). SitsAt U me C o (shown.seat me)) e (shown.sits me below).seat).0 in
       let quiet_now : IsQuiet (Some x) (p.calling me) = subst (λ (o : Option Visit). IsQuiet o (p.calling me)) visit carries in
-      let r = runs_at slot w x answer func run.3 kind active k.1.2 quiet_now in
+      let r = runs_at slot w x answer func run.3 kind active func_is quiet_now in
       let may : may_call me (p.now.stop slot).work ((p.now.stop slot).standing me) ≡ true =
       ap (λ (z : Standing). may_call me (p.now.stop slot).work z) so.1 ∙ (ap (λ (z : Work). may_call me z (Inside 2 3)) so.3 ∙ may_at w kind active) in
       let multi : is_multi x.kind ≡ true = ap is_multi run.0.kind ∙ ap is_multi kind in
@@ -330,11 +324,42 @@ module _ (v : StopsValue) (p : StopState) (shown : StopShown p v) (me : ℕ) (be
       said_by slot q true func a b e r = r
       said_by slot q false func a b e r = absurd (false≢true e)
 
-  -- a CPU of a patch is in no stop that is told
-  pub no_patch : (slot : ℕ) (w : Work) (count : ℕ) (made rest : List Change) → shown.seat me ≡ Alters slot w count made rest → ⊥
-  no_patch slot w count made rest e =
-      let so = seat_is (Alters slot w count made rest) e in
-      let i = my.stop slot so.0 in
-      let o = is_open_inside U.cpus (p.now.stop slot) (λ g. At (Slot slot g)) (shown.shows.present.slots slot) me (Inside 2 3) so.1 refl in
-      let told = (f.stops slot i.below).shows o in
-      told.kind (ap (λ (z : Work). z.kind) so.3 ∙ so.4)
+  -- the argument of a patch is loaded, of which nothing is told
+  loads_change : (x : Visit) (answer func : ℕ) (w : Work) → SitsAtRun me x w (shown.seat me) → w.kind ≡ Patch → Made (Advance x (round.LoadArg answer func))
+  loads_change x answer func w run kind =
+      let slot = x.slot in
+      let so = st slot 2 3 w Rests run.3 in
+      let may : may_call me (p.now.stop slot).work ((p.now.stop slot).standing me) ≡ false =
+      ap (λ (z : Standing). may_call me (p.now.stop slot).work z) so.1 ∙ (ap (λ (z : Work). may_call me z (Inside 2 3)) so.3 ∙ may_not w kind) in
+      let multi : is_multi x.kind ≡ false = ap is_multi run.0.kind ∙ ap is_multi kind in
+      said_by slot (tells U p (seen_so v p shown me below pasts sized s whole cpus_are f (Advance x (round.LoadArg answer func))) answer)
+      (is_multi x.kind) func
+      (record { control = record C { stage = Some (Advance x (round.Acknowledge answer true)) }; note = None })
+      (Advance x (round.LoadKey func (change_of (At (Slot slot field.Arg))))) multi
+      (subst (λ (q : StopState). ReachesStops q At (slice_set pasts me Old) s []) (sym (else_if (may_call me (p.now.stop slot).work
+      ((p.now.stop slot).standing me))
+      (calls_now p me (p.now.stop slot).work (At (Slot slot field.Arg)) answer) p may))
+      (loads v p shown me below pasts sized s whole cpus_are f (Advance x (round.LoadArg answer func)) (λ k. refl) (λ k. refl)))
+    where
+      may_not : (w : Work) → w.kind ≡ Patch → may_call me w (Inside 2 3) ≡ false
+      may_not w kind = rw kind (and_right (has w.active me) false refl)
+
+      said_by : (slot : ℕ) (q : StopState) (multi : Bool) (func : ℕ) (a : StopOutcome) (next : StopStage) → multi ≡ false
+          → ReachesStops q At (slice_set pasts me Old) s []
+          → ReachesStops q At (slice_set pasts me Old) s (by me (of_arg (cond multi (record a {
+            note = Some (note.Run func (At
+                (Slot slot field.Arg)));
+          }) (stop_goes C next)).note))
+      said_by slot q true func a next e r = absurd (true≢false e)
+      said_by slot q false func a next e r = r
+
+  pub loads_arg : (x : Visit) (answer func : ℕ) → C.stage ≡ Some (Advance x (round.LoadArg answer func)) → Made (Advance x (round.LoadArg answer func))
+  loads_arg x answer func e =
+      let k = sits x (round.LoadArg answer func) e in
+      by_kind k.1.0 (λ one. k.0 (k.1.1.0.kind ∙ one)) k.1.1 k.1.2 k.1.0.kind refl
+    where
+      by_kind : (w : Work) → w.kind ≢ One → SitsAtRun me x w (shown.seat me) → func ≡ w.func → (k : Kind) → w.kind ≡ k → Made
+          (Advance x (round.LoadArg answer func))
+      by_kind w ne run func_is One is = absurd (ne is)
+      by_kind w ne run func_is Multi is = calls_function x answer func e w run func_is is
+      by_kind w ne run func_is Patch is = loads_change x answer func w run is

@@ -1,4 +1,4 @@
--- All events of a replay in which no stop is a patch are accepted.
+-- All events of a replay are accepted.
 use Rattle.std.proofs.Common.{map, ◌≡◌, ◌≢◌, ℕ, ◌-◌, ◌<◌, nat_lt, Bool, true, false, ◌==◌, cond, List, [], Option, Some, None, Ok, length}
 use Rattle.std.proofs.Common.{length-set, ◌%◌, refl, ap, sym, ◌∙◌, subst, inl, inr, ◌⊎◌, arith}
 use Rattle.std.proofs.lemmas.Bool.{cases_eq}
@@ -41,7 +41,7 @@ use Rattle.smp_event_steps.specs.State.{StateValue, cpu_at}
 use Rattle.smp_events.specs.Past.{after, past_at}
 use Rattle.smp_events.specs.Traces.{events_of_step, kept}
 use Rattle.smp_events.specs.declared.past.Past.{Past}
-use Rattle.smp_replay_laws.specs.Accepted.{BeginsPlain}
+use Rattle.smp_replay_laws.specs.Accepted.{BeginsOfCpus}
 use Rattle.smp_replay_laws.specs.Follows.{Follows, GoesElsewhere, HandlesWithOn, current_of, told_call, KeepsPast, PostIs}
 use Rattle.smp_replay_laws.proofs.Accepts.{Reaches}
 use Rattle.smp_stop_steps.specs.State.{StopState}
@@ -53,11 +53,12 @@ use Rattle.smp_replay_laws.specs.Stops.{CpuIs, Drafts, FollowsStops}
 use Rattle.smp_replay_laws.proofs.Replays.{start_elsewhere, start_posts, step_elsewhere}
 use Rattle.smp_replay_laws.proofs.States.{LeavesStops}
 use Rattle.smp_words.specs.declared.word.Word.{Word}
+use Rattle.smp_replay_laws.proofs.PatchSteps.{AreEntries}
 use Rattle.smp_replay_laws.proofs.StopStates.{LeavesCalls}
 use Rattle.smp_replay_laws.proofs.StopSteps.{ReachesStops}
 use Rattle.smp_replay_laws.proofs.StopAll.{stop_accepted}
 use Rattle.smp_replay_laws.proofs.StopBegins.{stage_drafts, first_drafts, first_apart, first_handles, begun_table, begun_here, begun_else}
-use Rattle.smp_replay_laws.proofs.StopBegins.{begun_drafts, begun_on, begun_none}
+use Rattle.smp_replay_laws.proofs.StopBegins.{begun_drafts, begun_on, begun_none, begun_labels}
 use Rattle.smp_call_steps.specs.Stands.{Rests, StandsAt, share_of}
 use Rattle.smp_event_steps.specs.Cpu.{handles_nothing}
 use Rattle.smp_replay_laws.specs.Follows.{CallsOfCpu}
@@ -84,6 +85,9 @@ pub record StandsAll (core : CoreValue) (a : CallState) (p : StopState) (pasts :
   pub follows : Follows core.online a s
   pub keeps : KeepsPast a (control_of core.controls) pasts
   pub follows_stops : FollowsStops p (stop_number core.stops.table) pasts s
+  -- the keys and the entries are those of the labels
+  pub count : s.setting.keys ≡ core.stops.labels.keys
+  pub entries : AreEntries (setup_of core.stops.online core.stops.labels) s.words
   pub elsewhere : (cpu : ℕ) → GoesElsewhere (control_of core.controls cpu).stage cpu
   pub drafts : (cpu : ℕ) → cpu < cpus → Drafts (stop_control_of core.stops.controls cpu).stage (past_at pasts cpu).draft
   -- inside `handle` interrupts are on, and no CPU is inside two commands
@@ -98,6 +102,7 @@ stop_moved p s t past new cpu k n c = record {
   stop = λ j e. let i = c.stop j e in record {
     below = i.below;
     ran = rw k.stops i.ran;
+    patch = rw (k.stops, k.words) i.patch;
     phase = rw n.phase i.phase;
     answer = rw n.answer i.answer;
   };
@@ -110,6 +115,7 @@ stops_moved : (p : StopState) (at : Word → ℕ) (pasts new : List Past) (s t :
 stops_moved p at pasts new s t k n f = record {
   stops_are = rw k.stops f.stops_are;
   keys_are = rw k.words f.keys_are;
+  sites_are = rw k.words f.sites_are;
   gate = k.gate ∙ f.gate;
   stops = λ j l. rw k.stops (f.stops j l);
   cpus_are = λ cpu l. stop_moved p s t (past_at pasts cpu) (past_at new cpu) cpu k (n cpu l) (f.cpus_are cpu l);
@@ -240,6 +246,8 @@ module _ (core : CoreValue) (a : CallState) (p : StopState) (pasts : List Past) 
               (keeps_past a (number_in core.words) (control_of core.controls) k.calls cpu pasts below k.keeps stage e);
           follows_stops = stops_moved p (stop_number core.stops.table) pasts (kept pasts
               (seen_at core cpu stage)) s reached.t reached.leaves kept_here k.follows_stops;
+          count = rw reached.leaves.setting k.count;
+          entries = rw reached.leaves.words k.entries;
           elsewhere = subst (λ (f : ℕ → ControlValue). (j : ℕ) → GoesElsewhere (f j).stage j) (sym by_name)
               (put_all (λ j x. GoesElsewhere x.stage j) (control_of core.controls) cpu next
               (step_elsewhere (control_of core.controls cpu).drain cpu stage (found_at core cpu stage) away) (λ j ne. k.elsewhere j));
@@ -281,7 +289,7 @@ module _ (core : CoreValue) (a : CallState) (p : StopState) (pasts : List Past) 
         (stop_control_of core.stops.controls cpu).changes stage))
         (kept pasts (stop_seen_at core.stops cpu stage)) s (events_of_step pasts (stop_seen_at core.stops cpu stage))
     reached_stops = stop_accepted core.stops p k.stops cpu stop_below pasts k.keeps.pasts_are s k.follows.whole k.follows.cpus_are k.follows_stops quiet
-        k.whole.stops.results (k.follows.online_is ∙ sym k.whole.sound.stops_online) stage e
+        k.whole.stops.results (k.follows.online_is ∙ sym k.whole.sound.stops_online) k.count k.entries stage e
         (subst (λ (x : Option StopStage). Drafts x (past_at pasts cpu).draft) e (k.drafts cpu stop_below))
 
     is_stop : is_call_word (stop_seen_at core.stops cpu stage).word ≡ false
@@ -330,6 +338,8 @@ module _ (core : CoreValue) (a : CallState) (p : StopState) (pasts : List Past) 
       };
       follows_stops = subst (λ (at : Word → ℕ). FollowsStops told_stops at (kept pasts (stop_seen_at core.stops cpu stage)) reached_stops.t)
           (sym named) reached_stops.follows;
+      count = rw reached_stops.leaves.setting k.count;
+      entries = rw reached_stops.leaves.entries k.entries;
       elsewhere = k.elsewhere;
       drafts = λ c l. elim (cases_eq c cpu) [
         | inl is ↦ rw (
@@ -357,7 +367,7 @@ module _ (core : CoreValue) (a : CallState) (p : StopState) (pasts : List Past) 
     })
 
   -- a command begins
-  pub start_stands : (c : Command) → FitsCommand c → BeginsPlain c → refusal_of core cpu c ≡ None → StandsAll (started core cpu c) a p pasts s
+  pub start_stands : (c : Command) → FitsCommand c → BeginsOfCpus c → refusal_of core cpu c ≡ None → StandsAll (started core cpu c) a p pasts s
   start_stands c fits plain e =
       let m = may_start core cpu c e in
       let low = start_below core cpu c k.whole.sound.limits e in
@@ -386,6 +396,8 @@ module _ (core : CoreValue) (a : CallState) (p : StopState) (pasts : List Past) 
               (λ l. start_posts core.online cpu c (past_at pasts cpu).post) (λ j ne l. k.keeps.posts j l));
         };
         follows_stops = rw (begun_table core.stops cpu first) k.follows_stops;
+        count = rw (begun_labels core.stops cpu first) k.count;
+        entries = rw (begun_labels core.stops cpu first) k.entries;
         elsewhere = subst (λ (f : ℕ → ControlValue). (j : ℕ) → GoesElsewhere (f j).stage j) (sym by_name)
             (put_all (λ j x. GoesElsewhere x.stage j) (control_of core.controls) cpu next (start_elsewhere core.nr core.online cpu c m.is_allowed)
             (λ j ne. k.elsewhere j));

@@ -1,5 +1,5 @@
 -- The events of a replay are accepted.
-use Rattle.std.specs.Prelude.{◌≡◌, ℕ, Bool, true, false, List, filter, length, Option}
+use Rattle.std.specs.Prelude.{◌≡◌, ℕ, Bool, true, false, List, filter, length, slice_index_or, Option}
 use Rattle.std.specs.List.{AllByRecursion}
 use Rattle.smp_labels.specs.Labels.{Labels}
 use Rattle.smp_labels.specs.declared.words.LabelWords.{LabelWords}
@@ -10,7 +10,7 @@ use Rattle.smp_words.specs.declared.command.Command.TheVariants as started
 use Rattle.smp_words.specs.declared.command.Event.{Event as Command}
 use Rattle.smp_words.specs.declared.command.Event.TheVariants as command
 use Rattle.smp_words.specs.declared.seen.Seen.{Seen}
-use Rattle.smp_words.specs.declared.word.Word.TheVariants.{Key, Site}
+use Rattle.smp_words.specs.declared.word.Word.TheVariants.{Key, Entry, Site}
 use Rattle.smp_call_steps.specs.Calls.{no_calls, tells_all}
 use Rattle.smp_stop_steps.specs.State.{StopState, no_stops}
 use Rattle.smp_stop_steps.specs.Table.{stop_number}
@@ -29,7 +29,7 @@ use Rattle.smp_event_steps.specs.State.{StateValue}
 use Rattle.smp_events.specs.Traces.{all_fresh, events_of}
 use Rattle.smp_events.specs.declared.past.Past.{Past}
 use Rattle.smp_replay_laws.specs.Follows.{Follows, nothing_left_out}
-use Rattle.smp_replay_laws.specs.Stops.{FollowsStops, IsPlain}
+use Rattle.smp_replay_laws.specs.Stops.{FollowsStops, IsOfCpus}
 
 -- an event is one of calls
 abbrev pub is_of_call : ℕ × Event → Bool
@@ -66,20 +66,23 @@ CallsOfReplaysAreAccepted = (nr online : ℕ) (labels : Labels) (commands : List
     → IsReplay (new_core nr online labels) commands core steps stopped
     → IsOf u online → CallsAreAccepted u words steps core
 
--- a stop that begins is no patch, and its masks are of CPUs
-abbrev pub BeginsPlain : Started → Type 0
-BeginsPlain (started.Begin work) = IsPlain work
-BeginsPlain _ = Unit {0}
+-- the masks of a stop that begins are of CPUs
+abbrev pub BeginsOfCpus : Started → Type 0
+BeginsOfCpus (started.Begin work) = IsOfCpus work
+BeginsOfCpus _ = Unit {0}
 
 -- the same of what a replay does, and the numbers of a command are of its types
-abbrev pub FitsPlain : Command → Type 0
-FitsPlain (command.Start cpu c) = FitsCommand c × BeginsPlain c
-FitsPlain (command.Step cpu) = Unit {0}
+abbrev pub FitsCpus : Command → Type 0
+FitsCpus (command.Start cpu c) = FitsCommand c × BeginsOfCpus c
+FitsCpus (command.Step cpu) = Unit {0}
 
--- the keys and sites are those of a stop half
-pub record AreWordsOf (words : LabelWords) (half : StopsValue) : Type 0 where
+-- a trace has the keys of a stop half, and its words are those of the half
+pub record AreWordsOf (u : Setting) (words : LabelWords) (half : StopsValue) : Type 0 where
+  pub count : u.keys ≡ half.labels.keys
   pub keys_are : length words.keys ≡ 4
+  pub sites_are : length words.sites ≡ 16
   pub keys : (key : ℕ) → count_at words key ≡ stop_number half.table (Key key)
+  pub entries : (site : ℕ) → slice_index_or words.entries site 0 ≡ stop_number half.table (Entry site)
   pub sites : (site : ℕ) → site_at words site ≡ stop_number half.table (Site site)
 
 -- The events that these steps tell are a run of the model of events. It leads to a state in which all of the calls, and all of the
@@ -94,9 +97,9 @@ pub record IsAccepted (u : Setting) (words : LabelWords) (steps : List Seen) (co
   pub pasts : List Past
   pub follows_stops : FollowsStops stops (stop_number core.stops.table) pasts end
 
--- Each replay from a machine in which nothing was begun, and in which no stop is a patch, is accepted.
+-- Each replay from a machine in which nothing was begun is accepted.
 abbrev pub ReplaysAreAccepted : Type 0
 ReplaysAreAccepted = (nr online : ℕ) (labels : Labels) (commands : List Command) (core : CoreValue) (steps : List Seen)
     (stopped : Option (ℕ × SmpError)) (u : Setting) (words : LabelWords) → let first = new_core nr online labels in
-    IsWhole first → StopShown no_stops first.stops → AllByRecursion FitsPlain commands → IsReplay first commands core steps stopped
-    → IsOf u online → AreWordsOf words first.stops → IsAccepted u words steps core
+    IsWhole first → StopShown no_stops first.stops → AllByRecursion FitsCpus commands → IsReplay first commands core steps stopped
+    → IsOf u online → AreWordsOf u words first.stops → IsAccepted u words steps core

@@ -1,27 +1,33 @@
--- A state of the model of events that agrees with the stops of a machine, where none of them is a patch.
+-- A state of the model of events that agrees with the stops of a machine.
 use Rattle.std.specs.Int.{w32, cast_signed}
 use Rattle.std.specs.Prelude.{◌≡◌, ◌≢◌, ℕ, ℤ, pos, ◌<◌, ◌%◌, ◌^◌, Bool, true, false, List, length, Option, Some, None}
+use Rattle.smp_labels.specs.declared.words.LabelWords.{LabelWords}
+use Rattle.smp_mask.specs.Mask.{has}
 use Rattle.smp_words.specs.Size.{cpus}
 use Rattle.smp_words.specs.declared.field.Field.{Field}
 use Rattle.smp_words.specs.declared.field.Field.TheVariants as field
 use Rattle.smp_words.specs.declared.word.Word.{Word}
 use Rattle.smp_words.specs.declared.word.Word.TheVariants.{Key, Site}
+use Rattle.smp_words.specs.declared.work.Kind.{Kind}
 use Rattle.smp_words.specs.declared.work.Kind.TheVariants.{Patch}
 use Rattle.smp_words.specs.declared.work.Work.{Work}
+use Rattle.smp_stop_steps.specs.Labels.{Patching}
 use Rattle.smp_stop_steps.specs.State.{StopState}
 use Rattle.smp_stop_steps.specs.Stop.{Raising, Nobody, Refills, Raises, Standing, Called, Inside, Answering, Completed, Stop, acked, is_called}
 use Rattle.smp_stop_steps.specs.declared.known.Calling.{Calling}
 use Rattle.smp_stop_steps.specs.declared.known.Calling.TheVariants.{Idle, Calls, Carries}
 use Rattle.smp_stop_steps.specs.declared.stage.StopStage.{StopStage}
 use Rattle.smp_stop_steps.specs.declared.stage.StopStage.TheVariants.{Begin}
+use Rattle.smp_event_steps.specs.declared.stop.Patch.{Patch as ToldPatch}
 use Rattle.smp_event_steps.specs.declared.stop.Stop.{Stop as ToldStop}
 use Rattle.smp_event_steps.specs.declared.stop.Task.{Task}
 use Rattle.smp_event_steps.specs.Labels.{count_at, site_at}
 use Rattle.smp_event_steps.specs.State.{StateValue, cpu_at, stop_at}
-use Rattle.smp_event_steps.specs.Stop.{acked_by, answer_of, has_run, is_called as is_called_in}
+use Rattle.smp_event_steps.specs.Stop.{acked_by, answer_by, answer_of, has_run, is_called as is_called_in}
 use Rattle.smp_events.specs.Past.{past_at}
 use Rattle.smp_events.specs.declared.past.Draft.{Draft}
 use Rattle.smp_events.specs.declared.past.Past.{Past}
+use Rattle.smp_replay_laws.specs.Patches.{PatchingIs}
 
 -- a work, as events tell it
 abbrev pub told_work : Work → Task
@@ -43,10 +49,15 @@ given_by (Completed a answer) = Some (as_i32 answer)
 given_by _ = None
 
 -- a CPU has entered the function of its stop
-abbrev pub has_called : Calling → Bool
-has_called Idle = false
-has_called (Calls call) = true
-has_called (Carries answer) = true
+abbrev pub has_entered : Calling → Bool
+has_entered Idle = false
+has_entered (Calls call) = true
+has_entered (Carries answer) = true
+
+-- the same by the kind of its stop: a patch calls no function
+abbrev pub has_called : Kind → Calling → Bool
+has_called Patch calling = false
+has_called _ calling = has_entered calling
 
 -- lists of one entry for each CPU
 pub record IsSized (stop : ToldStop) : Type 0 where
@@ -61,15 +72,15 @@ pub record MemberIs (standing : Standing) (told : ToldStop) (cpu : ℕ) : Type 0
   pub acked_is : acked_by told cpu ≡ acked standing
   pub answer : answer_of told cpu ≡ given_by standing
   pub fresh : standing ≡ Called → has_run told cpu ≡ false
+  pub unmade : standing ≡ Called → has told.task.active cpu ≡ true → told.patch ≡ None
 
--- An open stop that is no patch.
+-- An open stop.
 pub record OpenIs (stop : Stop) (told : ToldStop) : Type 0 where
   pub task : told.task ≡ told_work stop.work
   pub phase : told.phase ≡ stop.phase
   pub raiser : told.raiser ≡ raiser_of stop.raising
   pub members : (cpu : ℕ) → cpu < cpus → MemberIs (stop.standing cpu) told cpu
-  pub kind : stop.work.kind ≢ Patch
-  pub patch : told.patch ≡ None
+  pub patch : stop.work.kind ≢ Patch → told.patch ≡ None
 
 pub record StopIs (stop : Stop) (told : ToldStop) : Type 0 where
   pub sized : IsSized told
@@ -86,10 +97,20 @@ abbrev pub AnswerIs : Standing → ℤ → Type 0
 AnswerIs (Answering a answer) stored = stored ≡ as_i32 answer
 AnswerIs _ stored = stored ≡ pos 0
 
+-- what is told of a patch, of the CPU that makes it: what is left of it, and once it is acknowledged the answer
+abbrev pub MadeIs : LabelWords → Patching → Calling → Option ToldPatch → Type 0
+MadeIs words patching (Carries answer) told = answer_by told true ≡ as_i32 answer
+MadeIs words patching _ told = PatchingIs words patching told
+
+abbrev pub PatchIs : StopState → StateValue → ℕ → ℕ → Type 0
+PatchIs p s cpu source = (p.now.stop source).work.kind ≡ Patch → has (p.now.stop source).work.active cpu ≡ true
+    → MadeIs s.words p.now.patching (p.calling cpu) (stop_at s source).patch
+
 -- One CPU, in a stop: what it has done there.
 pub record InsideIs (p : StopState) (s : StateValue) (past : Past) (cpu source : ℕ) : Type 0 where
   pub below : source < cpus
-  pub ran : has_run (stop_at s source) cpu ≡ has_called (p.calling cpu)
+  pub ran : has_run (stop_at s source) cpu ≡ has_called (p.now.stop source).work.kind (p.calling cpu)
+  pub patch : PatchIs p s cpu source
   pub phase : PhaseIs ((p.now.stop source).standing cpu) past.phase
   pub answer : AnswerIs ((p.now.stop source).standing cpu) past.answer
 
@@ -105,6 +126,7 @@ pub record CpuIs (p : StopState) (s : StateValue) (past : Past) (cpu : ℕ) : Ty
 pub record FollowsStops (p : StopState) (at : Word → ℕ) (pasts : List Past) (s : StateValue) : Type 0 where
   pub stops_are : length s.stops ≡ 32
   pub keys_are : length s.words.keys ≡ 4
+  pub sites_are : length s.words.sites ≡ 16
   pub gate : s.gate ≡ p.gate
   pub stops : (source : ℕ) → source < cpus → StopIs (p.now.stop source) (stop_at s source)
   pub cpus_are : (cpu : ℕ) → cpu < cpus → CpuIs p s (past_at pasts cpu) cpu
@@ -120,12 +142,11 @@ DraftIs w field.Func d = (d.kind ≡ w.kind) × ((d.mask ≡ w.mask) × (d.activ
 DraftIs w field.Arg d = (d.kind ≡ w.kind) × ((d.mask ≡ w.mask) × ((d.active ≡ w.active) × (d.func ≡ w.func)))
 DraftIs w _ d = (d.kind ≡ w.kind) × ((d.mask ≡ w.mask) × ((d.active ≡ w.active) × ((d.func ≡ w.func) × (d.arg ≡ w.arg))))
 
--- the masks of a work are of CPUs, and it is no patch
-pub record IsPlain (w : Work) : Type 0 where
+-- the masks of a work are of CPUs
+pub record IsOfCpus (w : Work) : Type 0 where
   pub mask : w.mask < 2 ^ 32
   pub active : w.active < 2 ^ 32
-  pub kind : w.kind ≢ Patch
 
 abbrev pub Drafts : Option StopStage → Draft → Type 0
-Drafts (Some (Begin w f)) d = IsPlain w × DraftIs w f d
+Drafts (Some (Begin w f)) d = IsOfCpus w × DraftIs w f d
 Drafts _ d = Unit {0}

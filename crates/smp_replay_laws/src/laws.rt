@@ -3,18 +3,19 @@
 ghost use Rattle.smp_replay_laws.specs.Accepted.{CallsOfReplaysAreAccepted, ReplaysAreAccepted};
 ghost use Rattle.smp_replay_laws.specs.Patches.{PatchesStoreThePlan};
 
-/// Each replay of a machine in which nothing was begun is accepted, where no stop is a patch: the model of events has a run of the
-/// events that its steps tell, in any order of steps, whatever commands are refused on the way. So `smp judge` refuses nothing that
-/// the machine does.
+/// Each replay of a machine in which nothing was begun is accepted: the model of events has a run of the events that its steps tell,
+/// in any order of steps, whatever commands are refused on the way. So `smp judge` refuses nothing that the machine does. The trace
+/// is of the machine's keys and sites, and the masks of the stops are of CPUs.
 ///
 /// The state to which the run leads is that of the machine. It has the same queues, batches, calls that run, interrupts and places of
-/// records, the same gate, open stops, phases and answers, and the same keys and sites. So no step of the machine is left untold.
+/// records, the same gate, open stops, phases and answers, the same keys and sites, and the same stores left of a patch. So no step of
+/// the machine is left untold.
 pub fn replays_are_accepted()
     ensures { ReplaysAreAccepted }
 {}
 
-/// The events of calls of each replay are accepted, those of patches included, where the events of stops, keys and sites are left
-/// out: no queue, send, interrupt, take, begin, end or unlock that the machine makes is refused.
+/// The events of calls of each replay are accepted, where the events of stops, keys and sites are left out: no queue, send, interrupt,
+/// take, begin, end or unlock that the machine makes is refused.
 pub fn calls_of_replays_are_accepted()
     ensures { CallsOfReplaysAreAccepted }
 {}

@@ -7,7 +7,7 @@ ghost use Rattle.smp_core.specs.New.{new_core};
 ghost use Rattle.smp_core.specs.Runs.{IsReplay};
 ghost use Rattle.smp_event_steps.specs.declared.without.Setting.{Setting};
 ghost use Rattle.smp_words.specs.Limits.{AreLimits};
-ghost use Rattle.smp_replay_laws.specs.Accepted.{AreWordsOf, CallsAreAccepted, Fits, FitsPlain, IsAccepted, IsOf};
+ghost use Rattle.smp_replay_laws.specs.Accepted.{AreWordsOf, CallsAreAccepted, Fits, FitsCpus, IsAccepted, IsOf};
 
 use smp_core::events::{Replayed, replay};
 use smp_core::machine::Core;
@@ -16,9 +16,9 @@ use smp_mask::{CpuMask, SmpError};
 use smp_words::command::Event;
 use std::alloc::Allocator;
 
-/// Replays these events on a new machine, up to the first that is refused. The events of calls that its steps tell are
-/// accepted. Where no stop is a patch, all events that they tell are accepted. E4 (`SmpError::BadArgument`) exactly where the
-/// limits of the machine are broken, and E6 (`SmpError::NoMemory`) where a growth is refused.
+/// Replays these events on a new machine, up to the first that is refused. All events that its steps tell are accepted, and so are
+/// those of calls alone. E4 (`SmpError::BadArgument`) exactly where the limits of the machine are broken, and E6
+/// (`SmpError::NoMemory`) where a growth is refused.
 pub fn replay_accepted<A: Allocator + Copy>(
     alloc: A,
     nr: u32,
@@ -27,8 +27,8 @@ pub fn replay_accepted<A: Allocator + Copy>(
     events: &[Event],
 ) -> Result<Replayed<A>, SmpError>
     ensures run { IfOk result (λ r. IsReplay (new_core nr online labels.now) events.now r.core r.seen.items r.stopped) }
-    ensures accepted { IfOk result (λ r. (u : Setting) (words : LabelWords) → AllByRecursion FitsPlain events.now → IsOf u online →
-        AreWordsOf words (new_core nr online labels.now).stops → IsAccepted u words r.seen.items r.core) }
+    ensures accepted { IfOk result (λ r. (u : Setting) (words : LabelWords) → AllByRecursion FitsCpus events.now → IsOf u online →
+        AreWordsOf u words (new_core nr online labels.now).stops → IsAccepted u words r.seen.items r.core) }
     ensures calls { IfOk result (λ r. (u : Setting) (words : LabelWords) → AllByRecursion Fits events.now → IsOf u online →
         CallsAreAccepted u words r.seen.items r.core) }
     ensures refused { IsErrOf result SmpError.BadArgument ↔ (¬ (AreLimits nr online)) }

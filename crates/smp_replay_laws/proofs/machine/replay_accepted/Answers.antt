@@ -8,7 +8,7 @@ use Rattle.smp_core.specs.Runs.{IsReplay}
 use Rattle.smp_core.specs.Value.{CoreValue}
 use Rattle.smp_core.specs.Whole.{IsWhole}
 use Rattle.smp_event_steps.specs.declared.without.Setting.{Setting}
-use Rattle.smp_replay_laws.specs.Accepted.{AreWordsOf, CallsAreAccepted, Fits, FitsPlain, IsAccepted, IsOf}
+use Rattle.smp_replay_laws.specs.Accepted.{AreWordsOf, CallsAreAccepted, Fits, FitsCpus, IsAccepted, IsOf}
 use Rattle.smp_replay_laws.proofs.AllReplays.{replays_are_accepted}
 use Rattle.smp_replay_laws.proofs.Replays.{calls_of_replays_are_accepted}
 use Rattle.smp_replay_laws.proofs.machine.replay_accepted.Goals as goal
@@ -29,8 +29,8 @@ pub returns-clause-accepted : goal.returns-clause-accepted
 returns-clause-accepted g c =
     let made = c.in_ok-core.ensures.ok in
     ok_then c.replay.result (λ r. IsReplay (new_core c.args.nr c.args.online c.args.labels.now) c.args.events.now r.core r.seen.items r.stopped)
-    (λ r. (u : Setting) (words : LabelWords) → AllByRecursion FitsPlain c.args.events.now → IsOf u c.args.online →
-    AreWordsOf words (new_core c.args.nr c.args.online c.args.labels.now).stops → IsAccepted u words r.seen.items r.core)
+    (λ r. (u : Setting) (words : LabelWords) → AllByRecursion FitsCpus c.args.events.now → IsOf u c.args.online →
+    AreWordsOf u words (new_core c.args.nr c.args.online c.args.labels.now).stops → IsAccepted u words r.seen.items r.core)
     (λ r run u words fits is_of words_are.
     replays_are_accepted c.args.nr c.args.online c.args.labels.now c.args.events.now r.core r.seen.items r.stopped u words
     (subst IsWhole made c.is_whole.ensures) (subst (λ (k : CoreValue). StopShown no_stops k.stops) made c.in_ok-core.ensures.no_stops) fits
