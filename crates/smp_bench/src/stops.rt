@@ -14,7 +14,7 @@ use crate::stand::{Runs, Stand, label, poll};
 use crate::watch::watch;
 use crate::workload::Workload;
 use crossbeam_utils::{Backoff, CachePadded};
-use smp_machine::{Crew, Machine, Played, run_cpus};
+use smp_machine::{Crew, Machine, MachineBoot, Played, run_cpus};
 use smp_mask::CpuMask;
 use std::alloc::{AllocError, Global};
 use std::sync::Wait;
@@ -194,6 +194,33 @@ fn first_cpus(count: u32) -> Result<CpuMask, BenchError> {
     Ok(mask)
 }
 
+/// Runs the CPUs of a machine, each on a thread of its own, and one more thread that watches over them.
+fn measure_watched<R: Wait + Threads + Clock + Eprint + Sync>(
+    rt: &R,
+    machine: &Machine<Global>,
+    boot: MachineBoot<Global>,
+    bench: &Bench<'_, R>,
+) -> Result<(Measured, u64), BenchError>
+    requires { IsFull boot machine.now }
+{
+    let (name, signs) = (bench.workload.name(), bench.signs);
+    thread::scope(
+        thread::scope_env(),
+        rt,
+        |scope| -> Result<(Measured, u64), BenchError>
+            requires { IsFull boot machine.now }
+        {
+            let _watcher = scope.spawn(|| watch(rt, name, machine, signs)).ok();
+            let back = run_cpus(rt, bench.alloc, machine, boot, bench);
+            signs.tell_over();
+            match back {
+                Ok(back) => sum_up(back),
+                Err(_) => Err(BenchError::NoThread),
+            }
+        },
+    )
+}
+
 /// Runs a workload of up to 7 threads, one for each CPU of a machine with one key and two sites.
 pub fn run<R: Wait + Threads + Clock + Eprint + Sync>(
     rt: &R,
@@ -215,20 +242,5 @@ pub fn run<R: Wait + Threads + Clock + Eprint + Sync>(
         limit,
         signs: &shared,
     };
-    thread::scope(
-        thread::scope_env(),
-        rt,
-        |scope| -> Result<(Measured, u64), BenchError>
-            requires { IsFull boot machine.now }
-        {
-            let name = workload.name();
-            let _watcher = scope.spawn(|| watch(rt, name, &machine, &shared)).ok();
-            let back = run_cpus(rt, alloc, &machine, boot, &bench);
-            shared.tell_over();
-            match back {
-                Ok(back) => sum_up(back),
-                Err(_) => Err(BenchError::NoThread),
-            }
-        },
-    )
+    measure_watched(rt, &machine, boot, &bench)
 }
