@@ -36,3 +36,10 @@ pub mod PatchWorks
 pub mod PatchWords
 pub mod PatchMoves
 pub mod PatchAcks
+pub mod TextFields
+pub mod TextWords
+pub mod TextLines
+pub mod TextCpus
+pub mod TextHeads
+pub mod TextTraces
+pub mod TextRuns
