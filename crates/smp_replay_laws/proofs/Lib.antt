@@ -43,3 +43,6 @@ pub mod TextCpus
 pub mod TextHeads
 pub mod TextTraces
 pub mod TextRuns
+pub mod TextSteps
+pub mod TextRanges
+pub mod TextTold

@@ -3,3 +3,4 @@ pub mod Follows
 pub mod Stops
 pub mod Patches
 pub mod Texts
+pub mod Steps

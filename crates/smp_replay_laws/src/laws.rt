@@ -34,7 +34,7 @@ pub fn texts_of_events_read_back()
 {}
 
 /// The trace of each replay, as it is written, is judged lawful: with just the events of the replay, and with a state at its end that is
-/// that of the machine. The numbers of the events fit their fields, and the text is within the judge's limits.
+/// that of the machine. The numbers of the steps are of their types, and the text is within the judge's limits.
 pub fn texts_of_replays_are_lawful()
     ensures { TextsOfReplaysAreLawful }
 {}
