@@ -46,3 +46,6 @@ pub mod TextRuns
 pub mod TextSteps
 pub mod TextRanges
 pub mod TextTold
+pub mod TextCalls
+pub mod TextStops
+pub mod TextNotes

@@ -33,10 +33,10 @@ use Rattle.smp_judge.specs.Verdict.{verdict_of}
 use Rattle.smp_judge.proofs.Meaning.{runs_accepted}
 use Rattle.smp_events.specs.Traces.{all_fresh, events_of}
 use Rattle.smp_replay_laws.specs.Accepted.{AreWordsOf, FitsCpus, IsAccepted}
-use Rattle.smp_replay_laws.specs.Steps.{StepsFit}
+use Rattle.smp_replay_laws.specs.Steps.{ArgFits}
 use Rattle.smp_replay_laws.specs.Texts.{AreTold, ReadsBack, TextsOfReplaysAreLawful, labels_or, trace_text, traced}
 use Rattle.smp_replay_laws.proofs.AllReplays.{all_begun, replays_are_accepted}
-use Rattle.smp_replay_laws.proofs.TextTold.{fresh_pasts, replay_tells}
+use Rattle.smp_replay_laws.proofs.TextTold.{fresh_pasts, new_args, replay_tells}
 use Rattle.smp_replay_laws.proofs.TextTraces.{texts_read_back}
 use Rattle.smp_event_steps.specs.declared.without.Setting.{Setting}
 
@@ -75,19 +75,19 @@ run_is_lawful text u words events t b run =
 told_of_replay : (nr online : ℕ) (labels : Labels) (commands : List Command) (core : CoreValue) (steps : List Seen) (stopped : Option (ℕ × SmpError))
     → let first = new_core nr online labels in let u = setting_of online labels all_told in
     length labels.entries ≤ MOST_SITES → IsWhole first → StopShown no_stops first.stops → AllByRecursion FitsCpus commands
-    → IsReplay first commands core steps stopped → StepsFit steps → AreTold u (events_of all_fresh steps)
-told_of_replay nr online labels commands core steps stopped few whole none fits is_replay typed =
+    → AllByRecursion ArgFits commands → IsReplay first commands core steps stopped → AreTold u (events_of all_fresh steps)
+told_of_replay nr online labels commands core steps stopped few whole none fits args is_replay =
     let first = new_core nr online labels in
     let u = setting_of online labels all_told in
     let words = words_of labels in
     let begun = all_begun nr online labels u words whole none (record { online = refl; whole = refl }) (words_are nr online labels few) in
-    let made : Replayed = replay_made core steps stopped in
-    let tells : StepsFit (replay_from 0 first commands).seen → AreTold u (events_of all_fresh (replay_from 0 first commands).seen) =
-    replay_tells u 0 commands first no_calls no_stops all_fresh (opening u words) begun (record { online = refl; keys = refl; sites = refl }) fresh_pasts fits in
-    subst (λ (r : Replayed). StepsFit r.seen → AreTold u (events_of all_fresh r.seen)) (sym is_replay) tells typed
+    let told : AreTold u (events_of all_fresh (replay_from 0 first commands).seen) =
+    replay_tells u 0 commands first no_calls no_stops all_fresh (opening u words) begun (record { online = refl; keys = refl; sites = refl })
+    (new_args nr online labels) fresh_pasts fits args in
+    subst (λ (r : Replayed). AreTold u (events_of all_fresh r.seen)) (sym is_replay) told
 
 pub texts_are_lawful : TextsOfReplaysAreLawful
-texts_are_lawful text script commands core steps stopped lawful whole none fits is_replay typed within =
+texts_are_lawful text script commands core steps stopped lawful whole none fits args is_replay within =
     let labels = labels_or script.labels in
     let events = events_of all_fresh steps in
     let spelled = script_is_spelled Replay text script lawful in
@@ -96,7 +96,7 @@ texts_are_lawful text script commands core steps stopped lawful whole none fits 
     replays_are_accepted script.nr script.online labels commands core steps stopped (traced script) (words_of labels) whole none fits is_replay
     (record { online = refl; whole = refl }) (words_are script.nr script.online labels few) in
     let told : AreTold (traced script) events =
-    told_of_replay script.nr script.online labels commands core steps stopped few whole none fits is_replay typed in
+    told_of_replay script.nr script.online labels commands core steps stopped few whole none fits args is_replay in
     record {
       accepted = accepted;
       verdict = run_is_lawful (trace_text text script events) (traced script) (words_of labels) events accepted.end

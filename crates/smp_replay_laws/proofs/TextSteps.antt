@@ -30,7 +30,7 @@ use Rattle.smp_events.specs.Told.{of_slot, of_state, of_todo, of_unlock, told_of
 use Rattle.smp_events.specs.declared.past.Past.{Past}
 use Rattle.smp_events.specs.declared.told.Told.{Told}
 use Rattle.smp_events.specs.declared.told.Told.TheVariants as told
-use Rattle.smp_replay_laws.specs.Steps.{NoteFits, StepFits, WordFits}
+use Rattle.smp_replay_laws.specs.Steps.{NoteFits, PutFits, StepFits, WordFits}
 use Rattle.smp_replay_laws.specs.Texts.{EventFits, StopFits}
 
 -- what a CPU has kept has numbers of its types
@@ -235,29 +235,29 @@ answered p q a b c d e f k = record {
 flags_keep : (p : Past) (id put : ℕ) (n : Option Note) → PastFits p → PastFits (after_flags p id put n)
 flags_keep p id put n k = past_if (put == 0) (after_call_entry p id n) _ (entry_keeps p id n k) (answered p _ refl refl refl refl refl k.answer k)
 
-draft_keeps : (p : Past) (f : Field) (put : ℕ) → put < 2 ^ 64 → PastFits p → PastFits (after_draft p f put)
-draft_keeps p field.Kind put l k = answered p _ refl refl refl refl refl k.answer k
-draft_keeps p field.Mask put l k = answered p _ refl refl refl refl refl k.answer k
-draft_keeps p field.Active put l k = answered p _ refl refl refl refl refl k.answer k
-draft_keeps p field.Func put l k =
+draft_keeps : (p : Past) (source : ℕ) (f : Field) (put : ℕ) → PutFits (word.Slot source f) put → PastFits p → PastFits (after_draft p f put)
+draft_keeps p source field.Kind put l k = answered p _ refl refl refl refl refl k.answer k
+draft_keeps p source field.Mask put l k = answered p _ refl refl refl refl refl k.answer k
+draft_keeps p source field.Active put l k = answered p _ refl refl refl refl refl k.answer k
+draft_keeps p source field.Func put l k =
     record { begun = k.begun; post_func = k.post_func; post_info = k.post_info; draft_func = l; draft_arg = k.draft_arg; answer = k.answer }
-draft_keeps p field.Arg put l k =
+draft_keeps p source field.Arg put l k =
     record { begun = k.begun; post_func = k.post_func; post_info = k.post_info; draft_func = k.draft_func; draft_arg = l; answer = k.answer }
-draft_keeps p field.Result put l k = answered p _ refl refl refl refl refl (answer_fits put) k
-draft_keeps p _ put l k = k
+draft_keeps p source field.Result put l k = answered p _ refl refl refl refl refl (answer_fits put) k
+draft_keeps p source _ put l k = k
 
 load_keeps : (p : Past) (f : Field) (found : ℕ) (n : Option Note) → PastFits p → PastFits (after_slot_load p f found n)
 load_keeps p field.State found n k = past_if (is_new n) _ p (answered p _ refl refl refl refl refl k.answer k) k
 load_keeps p _ found n k = k
 
-slot_keeps : (p : Past) (f : Field) (a : Act) (s : Seen) → unwrap_or s.put 0 < 2 ^ 64 → PastFits p → PastFits (after_slot p f a s)
-slot_keeps p f act.Store s l k = draft_keeps p f (unwrap_or s.put 0) l k
-slot_keeps p f act.Load s l k = load_keeps p f (unwrap_or s.found 0) s.note k
-slot_keeps p field.Todo act.Sub s l k = answered p _ refl refl refl refl refl (omega arith) k
-slot_keeps p _ act.Sub s l k = k
-slot_keeps p f _ s l k = k
+slot_keeps : (p : Past) (source : ℕ) (f : Field) (a : Act) (s : Seen) → PutFits (word.Slot source f) (unwrap_or s.put 0) → PastFits p → PastFits (after_slot p f a s)
+slot_keeps p source f act.Store s l k = draft_keeps p source f (unwrap_or s.put 0) l k
+slot_keeps p source f act.Load s l k = load_keeps p f (unwrap_or s.found 0) s.note k
+slot_keeps p source field.Todo act.Sub s l k = answered p _ refl refl refl refl refl (omega arith) k
+slot_keeps p source _ act.Sub s l k = k
+slot_keeps p source f _ s l k = k
 
-store_keeps : (p : Past) (w : Word) (put : ℕ) (n : Option Note) → put < 2 ^ 64 → PastFits p → PastFits (after_store p w put n)
+store_keeps : (p : Past) (w : Word) (put : ℕ) (n : Option Note) → PutFits w put → PastFits p → PastFits (after_store p w put n)
 store_keeps p (word.Flags id) put n l k = flags_keep p id put n k
 store_keeps p (word.Func id) put n l k =
     record { begun = k.begun; post_func = l; post_info = k.post_info; draft_func = k.draft_func; draft_arg = k.draft_arg; answer = k.answer }
@@ -266,13 +266,13 @@ store_keeps p (word.Info id) put n l k =
 store_keeps p (word.Hand cpu) put n l k = entry_keeps p (put - 2) n k
 store_keeps p _ put n l k = k
 
-other_keeps : (p : Past) (a : Act) (s : Seen) → unwrap_or s.put 0 < 2 ^ 64 → PastFits p → PastFits (after_other p a s)
+other_keeps : (p : Past) (a : Act) (s : Seen) → PutFits s.word (unwrap_or s.put 0) → PastFits p → PastFits (after_other p a s)
 other_keeps p act.Store s l k = store_keeps p s.word (unwrap_or s.put 0) s.note l k
 other_keeps p _ s l k = k
 
-on_keeps : (p : Past) (w : Word) (s : Seen) → unwrap_or s.put 0 < 2 ^ 64 → PastFits p → PastFits (after_on p w s)
-on_keeps p (word.Slot source f) s l k = slot_keeps p f s.act s l k
-on_keeps p _ s l k = other_keeps p s.act s l k
+on_keeps : (p : Past) (w : Word) (s : Seen) → s.word ≡ w → PutFits w (unwrap_or s.put 0) → PastFits p → PastFits (after_on p w s)
+on_keeps p (word.Slot source f) s e l k = slot_keeps p source f s.act s l k
+on_keeps p w s e l k = other_keeps p s.act s (subst (λ (x : Word). PutFits x (unwrap_or s.put 0)) (sym e) l) k
 
 pub after_fits : (p : Past) (s : Seen) → PastFits p → StepFits s → PastFits (after p s)
-after_fits p s k f = on_keeps p s.word s f.put k
+after_fits p s k f = on_keeps p s.word s refl f.put k

@@ -309,10 +309,10 @@ module _ (core : CoreValue) (a : CallState) (p : StopState) (pasts : List Past) 
     abbrev Next : StopControlValue
     Next = (stop_outcome cpu (stop_control_of core.stops.controls cpu) stage (stop_found_at core.stops cpu stage)).control
 
-    by_name_stops : (c : ℕ) → stop_control_of (slice_set core.stops.controls cpu Next) c ≡ put (stop_control_of core.stops.controls) cpu Next c
+    pub by_name_stops : (c : ℕ) → stop_control_of (slice_set core.stops.controls cpu Next) c ≡ put (stop_control_of core.stops.controls) cpu Next c
     by_name_stops c = stop_controls_by_cpu core.stops.controls cpu c Next (stop_inside_below core.stops.controls cpu stage e)
 
-    named : stop_number (stop_stepped core.stops cpu stage).table
+    pub named : stop_number (stop_stepped core.stops cpu stage).table
         ≡ at_after (stop_number core.stops.table) (stop_access cpus cpu (stop_control_of core.stops.controls cpu).changes stage)
     named = stop_words_by_name core.stops.table k.whole.stops.table_is (stop_access cpus cpu (stop_control_of core.stops.controls cpu).changes stage)
         (stop_word_named (setup_of core.stops.online core.stops.labels) refl p core.stops.table core.stops.controls k.stops stops_sized k.whole.stops.table_is cpu stage e)

@@ -33,7 +33,7 @@ use Rattle.smp_events.specs.Front.{front_text}
 use Rattle.smp_events.specs.Traces.{all_fresh, events_of, lines_text}
 use Rattle.smp_replay_laws.specs.Accepted.{FitsCpus, IsAccepted}
 use Rattle.smp_replay_laws.specs.Follows.{nothing_left_out}
-use Rattle.smp_replay_laws.specs.Steps.{StepsFit}
+use Rattle.smp_replay_laws.specs.Steps.{ArgFits}
 
 -- the numbers of an event of calls are of its types
 abbrev pub CallFits : CallEvent → Type 0
@@ -128,10 +128,10 @@ pub record IsJudged (script : Script) (text : List ℕ) (steps : List Seen) (cor
   pub verdict : verdict_of text ≡ Ok (length (events_of all_fresh steps), accepted.end)
 
 -- The trace of each replay of a script, from a machine in which nothing was begun, is judged lawful within the limits of the judge,
--- where the numbers of its steps are of their types.
+-- where the numbers of its commands are of their types.
 abbrev pub TextsOfReplaysAreLawful : Type 0
 TextsOfReplaysAreLawful = (text : List ℕ) (script : Script) (commands : List Command) (core : CoreValue) (steps : List Seen)
     (stopped : Option (ℕ × SmpError)) → let first = new_core script.nr script.online (labels_or script.labels) in
     let trace = trace_text text script (events_of all_fresh steps) in
     script_of Replay text ≡ Ok script → IsWhole first → StopShown no_stops first.stops → AllByRecursion FitsCpus commands
-    → IsReplay first commands core steps stopped → StepsFit steps → IsWithin trace → IsJudged script trace steps core
+    → AllByRecursion ArgFits commands → IsReplay first commands core steps stopped → IsWithin trace → IsJudged script trace steps core
