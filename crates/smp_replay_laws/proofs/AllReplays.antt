@@ -38,7 +38,7 @@ use Rattle.smp_event_steps.specs.State.{StateValue, cpu_at}
 use Rattle.smp_events.specs.Past.{fresh, past_at}
 use Rattle.smp_events.specs.Traces.{all_fresh, events_of, events_of_step, kept}
 use Rattle.smp_events.specs.declared.past.Past.{Past}
-use Rattle.smp_replay_laws.specs.Accepted.{AreWordsOf, BeginsOfCpus, FitsCpus, ReplaysAreAccepted}
+use Rattle.smp_replay_laws.specs.Accepted.{AreWordsOf, BeginsOfCpus, FitsCpus, IsOf, ReplaysAreAccepted}
 use Rattle.smp_replay_laws.specs.Stops.{FollowsStops, StopIs}
 use Rattle.smp_replay_laws.proofs.PatchSteps.{AreEntries}
 use Rattle.smp_replay_laws.proofs.Replays.{new_stands, runs_append}
@@ -184,12 +184,14 @@ opening_entries : (u : Setting) (words : LabelWords) (half : StopsValue) → Are
 unfolding opening
 opening_entries u words half w shown j l = w.entries j ∙ shown.shows.present.entries.read j l
 
-pub replays_are_accepted : ReplaysAreAccepted
-replays_are_accepted nr online labels commands core steps stopped u words whole none fits is_replay is_of words_are =
+-- a machine in which nothing was begun, and the model as it opens
+pub all_begun : (nr online : ℕ) (labels : Labels) (u : Setting) (words : LabelWords) → let first = new_core nr online labels in
+    IsWhole first → StopShown no_stops first.stops → IsOf u online → AreWordsOf u words first.stops
+    → StandsAll first no_calls no_stops all_fresh (opening u words)
+all_begun nr online labels u words whole none is_of words_are =
     let first = new_core nr online labels in
-    let made : Replay = replay_made core steps stopped in
     let calls = new_stands nr online labels u words whole is_of.online is_of.whole in
-    let begun : StandsAll first no_calls no_stops all_fresh (opening u words) = record {
+    record {
       whole = whole;
       calls = calls.shown;
       stops = none;
@@ -202,8 +204,13 @@ replays_are_accepted nr online labels commands core steps stopped u words whole 
       drafts = λ cpu l. rw (stop_outside_at nr online labels cpu) tt;
       handles = λ cpu. rw (outside_at cpu) tt;
       apart = λ cpu. inl (ap (λ (c : ControlValue). c.stage) (outside_at cpu));
-    } in
-    let one = replayed 0 commands first no_calls no_stops all_fresh (opening u words) begun fits in
+    }
+
+pub replays_are_accepted : ReplaysAreAccepted
+replays_are_accepted nr online labels commands core steps stopped u words whole none fits is_replay is_of words_are =
+    let first = new_core nr online labels in
+    let made : Replay = replay_made core steps stopped in
+    let one = replayed 0 commands first no_calls no_stops all_fresh (opening u words) (all_begun nr online labels u words whole none is_of words_are) fits in
     let done : ReplayedAll no_calls all_fresh (opening u words) made = subst (λ (r : Replay). ReplayedAll no_calls all_fresh (opening u words) r)
     (sym is_replay) one in
     record {

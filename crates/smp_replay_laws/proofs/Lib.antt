@@ -36,3 +36,16 @@ pub mod PatchWorks
 pub mod PatchWords
 pub mod PatchMoves
 pub mod PatchAcks
+pub mod TextFields
+pub mod TextWords
+pub mod TextLines
+pub mod TextCpus
+pub mod TextHeads
+pub mod TextTraces
+pub mod TextRuns
+pub mod TextSteps
+pub mod TextRanges
+pub mod TextTold
+pub mod TextCalls
+pub mod TextStops
+pub mod TextNotes

@@ -219,6 +219,11 @@ unfolding begun_at
 begun_drafts x None d e k = rw e tt
 begun_drafts x (Some stage) d e k = k
 
+pub begun_fits : (P : Option StopStage → Type 0) (x : StopControlValue) (o : Option StopStage) → P x.stage → P o → P (begun_at x o).stage
+unfolding begun_at
+begun_fits P x None k l = k
+begun_fits P x (Some stage) k l = l
+
 pub begun_on : (x : StopControlValue) (o : Option StopStage) → (begun_at x o).interrupts ≡ x.interrupts
 unfolding begun_at
 begun_on x None = refl

@@ -178,7 +178,7 @@ module _ (core : CoreValue) (a : CallState) (p : StopState) (pasts : List Past) 
 
   -- the step of a CPU that is inside a command of the call half
   module _ (stage : Stage) (e : (control_of core.controls cpu).stage ≡ Some stage) where
-    below : cpu < cpus
+    pub below : cpu < cpus
     below = inside_below core.controls cpu stage sized e
 
     aims : AimsOnline core.online (Some stage)
@@ -264,14 +264,14 @@ module _ (core : CoreValue) (a : CallState) (p : StopState) (pasts : List Past) 
   -- the step of a CPU that is inside a command of the stop half
   module _ (stage : StopStage) (e : (stop_control_of core.stops.controls cpu).stage ≡ Some stage) (out : (control_of core.controls cpu).stage ≡ None)
       (whole : IsWhole (stops_stepped core cpu stage)) where
-    stop_below : cpu < cpus
+    pub stop_below : cpu < cpus
     stop_below = let l = stop_inside_below core.stops.controls cpu stage e in let n = stops_sized in omega (arith, l, n)
 
     rests : Rests (share_of a cpu)
     rests = subst (λ (x : Option Stage). StandsAt a.place (number_in core.words) (share_of a cpu) (control_of core.controls cpu).drain cpu x) out
         (k.calls.stands cpu)
 
-    quiet : handles_nothing (cpu_at s cpu) ≡ Ok tt
+    pub quiet : handles_nothing (cpu_at s cpu) ≡ Ok tt
     quiet =
         let mine = k.follows.calls cpu stop_below in
         let current : (cpu_at s cpu).current ≡ None = ap (λ (c : CallsOfCpu). c.current) mine ∙ ap current_of rests.running in
@@ -309,10 +309,10 @@ module _ (core : CoreValue) (a : CallState) (p : StopState) (pasts : List Past) 
     abbrev Next : StopControlValue
     Next = (stop_outcome cpu (stop_control_of core.stops.controls cpu) stage (stop_found_at core.stops cpu stage)).control
 
-    by_name_stops : (c : ℕ) → stop_control_of (slice_set core.stops.controls cpu Next) c ≡ put (stop_control_of core.stops.controls) cpu Next c
+    pub by_name_stops : (c : ℕ) → stop_control_of (slice_set core.stops.controls cpu Next) c ≡ put (stop_control_of core.stops.controls) cpu Next c
     by_name_stops c = stop_controls_by_cpu core.stops.controls cpu c Next (stop_inside_below core.stops.controls cpu stage e)
 
-    named : stop_number (stop_stepped core.stops cpu stage).table
+    pub named : stop_number (stop_stepped core.stops cpu stage).table
         ≡ at_after (stop_number core.stops.table) (stop_access cpus cpu (stop_control_of core.stops.controls cpu).changes stage)
     named = stop_words_by_name core.stops.table k.whole.stops.table_is (stop_access cpus cpu (stop_control_of core.stops.controls cpu).changes stage)
         (stop_word_named (setup_of core.stops.online core.stops.labels) refl p core.stops.table core.stops.controls k.stops stops_sized k.whole.stops.table_is cpu stage e)

@@ -2,3 +2,5 @@ pub mod Accepted
 pub mod Follows
 pub mod Stops
 pub mod Patches
+pub mod Texts
+pub mod Steps

@@ -2,6 +2,7 @@
 
 ghost use Rattle.smp_replay_laws.specs.Accepted.{CallsOfReplaysAreAccepted, ReplaysAreAccepted};
 ghost use Rattle.smp_replay_laws.specs.Patches.{PatchesStoreThePlan};
+ghost use Rattle.smp_replay_laws.specs.Texts.{TextsOfReplaysAreLawful, TextsReadBack};
 
 /// Each replay of a machine in which nothing was begun is accepted: the model of events has a run of the events that its steps tell,
 /// in any order of steps, whatever commands are refused on the way. So `smp judge` refuses nothing that the machine does. The trace
@@ -24,4 +25,16 @@ pub fn calls_of_replays_are_accepted()
 /// patch finds, and each that it leaves.
 pub fn patches_store_the_plan()
     ensures { PatchesStoreThePlan }
+{}
+
+/// The trace that `smp events` writes of any events reads back: the judge reads its head as the script's CPUs and labels, and from its
+/// lines just these events, in their order. The numbers of the events fit their fields, and the text is within the judge's limits.
+pub fn texts_of_events_read_back()
+    ensures { TextsReadBack }
+{}
+
+/// The trace of each replay, as it is written, is judged lawful: with just the events of the replay, and with a state at its end that is
+/// that of the machine. The numbers of the steps are of their types, and the text is within the judge's limits.
+pub fn texts_of_replays_are_lawful()
+    ensures { TextsOfReplaysAreLawful }
 {}

@@ -1,0 +1,122 @@
+-- The head of a trace is read as it was written.
+use Rattle.std.proofs.Common.{◌≡◌, ℕ, ◌+◌, ◌<◌, ◌≤◌, ◌^◌, Bool, true, false, List, [], ◌∷◌, ◌++◌, length, Option, Some, None, is_some, Result, Ok, codes}
+use Rattle.std.proofs.Common.{refl, sym, ap, ◌∙◌, append_assoc, append-nil, arith, inl, inr, subst}
+use Rattle.std.specs.Fmt.{decimal}
+use Rattle.std.specs.List.{join_with_byte, list_all}
+use Rattle.std.specs.Str.{bytes_eq}
+use Rattle.std.proofs.lemmas.Bool.{cases_Bool}
+use Rattle.std.proofs.lemmas.Bool.Decides.{nat_tests}
+use Rattle.std.proofs.lemmas.List.{length-append}
+use Rattle.smp_labels.specs.Labels.{AreLabels, Labels}
+use Rattle.smp_script.specs.Fields.{mask_of}
+use Rattle.smp_script.specs.Lines.{Line, fields_of, lines_of}
+use Rattle.smp_script.specs.Numbers.{is_decimal}
+use Rattle.smp_script.specs.Labels.{whole_labels}
+use Rattle.smp_script.specs.Script.{are_online, whole_cpus}
+use Rattle.smp_script.specs.Spelling.{is_field, items_text}
+use Rattle.smp_script.proofs.Spelled.ReadParts.{same_word}
+use Rattle.smp_script.proofs.Texts.Decimals.{is_decimal-decimal}
+use Rattle.smp_script.proofs.Texts.Joins.{fields_join}
+use Rattle.smp_script.proofs.Written.LabelWriting.{labels_fields}
+use Rattle.smp_event_steps.specs.declared.event.Event.{Event}
+use Rattle.smp_event_steps.specs.declared.without.Setting.{Setting}
+use Rattle.smp_judge.specs.Head.{SpotValue, all_told, is_labels, labels_at, needed, no_labels, online_at, titled, without_at}
+use Rattle.smp_judge.specs.Judged.{used_after}
+use Rattle.smp_events.specs.Text.{line_text}
+use Rattle.smp_events.specs.Traces.{lines_text}
+use Rattle.smp_replay_laws.specs.Texts.{AreShort, AreTold, IsTold, TakesAll}
+use Rattle.smp_replay_laws.proofs.TextCpus.{cpus_fields, cpus_told, cpus_words, labels_told, labels_words}
+use Rattle.smp_replay_laws.proofs.TextLines.{event_words, first_line, length_line, line_words, told_line, used_within}
+
+-- a line that a line feed ends
+abbrev pub ended : List ℕ → Line
+ended text = record { text = text; ended = true }
+
+-- where lines are, after so many and so many bytes
+abbrev pub spot : ℕ → ℕ → List Line → SpotValue
+spot number used lines = record { number = number; used = used; lines = lines }
+
+-- the title
+pub title_read : (rest : List Line) → titled (ended (codes "smp 2 trace") ∷ rest) ≡ Ok (spot 2 12 rest)
+unfolding titled needed used_after
+title_read rest = refl
+
+-- the line of the CPUs
+pub online_read : (nr online : ℕ) (mask : List ℕ) (rest : List Line) → 1 ≤ nr → nr ≤ 32 → is_field mask ≡ true → mask_of 32 mask ≡ Ok online
+    → are_online nr online ≡ true → length (join_with_byte 32 (cpus_words nr mask)) < 1024
+    → online_at (spot 2 12 (ended (join_with_byte 32 (cpus_words nr mask)) ∷ rest))
+    ≡ Ok (online, spot 3 (12 + (length (join_with_byte 32 (cpus_words nr mask)) + 1)) rest)
+unfolding online_at needed
+online_read nr online mask rest some few field is_mask are short =
+    let text = join_with_byte 32 (cpus_words nr mask) in
+    let used = used_within 2 12 text (omega arith) short (omega (arith, short)) in
+    let back = fields_join (codes "cpus") (decimal nr ∷ mask ∷ []) (cpus_fields nr mask few field) in
+    let read : whole_cpus 32 (fields_of text) ≡ Ok (nr, online) = ap (whole_cpus 32) back ∙ cpus_told nr online mask some few field is_mask are in
+    rw (used, read) refl
+
+-- the line of the labels
+pub labels_read : (labels : Labels) (used : ℕ) (rest : List Line) → AreLabels labels.keys labels.entries → used ≤ 4096
+    → length (join_with_byte 32 (labels_words labels)) < 1024
+    → labels_at (spot 3 used (ended (join_with_byte 32 (labels_words labels)) ∷ rest))
+    ≡ Ok (labels, spot 4 (used + (length (join_with_byte 32 (labels_words labels)) + 1)) rest)
+unfolding labels_at
+labels_read labels used rest are few short =
+    let text = join_with_byte 32 (labels_words labels) in
+    let more = used_within 3 used text (omega arith) short (omega (arith, short, few)) in
+    let back = fields_join (codes "labels") (decimal labels.keys ∷ items_text labels.entries ∷ []) (labels_fields labels are) in
+    let is : is_labels (fields_of text) ≡ true = ap is_labels back in
+    let read : whole_labels (fields_of text) ≡ Ok labels = ap whole_labels back ∙ labels_told labels are in
+    rw (more, is, read) refl
+
+-- a number is no word
+no_number : (n : ℕ) (word : List ℕ) → n < 2 ^ 64 → is_decimal word ≡ false → bytes_eq (decimal n) word ≡ false
+no_number n word small plain = elim (cases_Bool (bytes_eq (decimal n) word)) [
+  | inr other ↦ other
+  | inl spelled ↦
+      let same : decimal n ≡ word = same_word (decimal n) word spelled in
+      let bad : true ≡ false = sym (is_decimal-decimal n small) ∙ ap is_decimal same ∙ plain in
+      cc
+]
+
+-- a line with another first word is no line of labels
+not_labels : (word : List ℕ) (rest : List (List ℕ)) → bytes_eq word (codes "labels") ≡ false → is_labels (word ∷ rest) ≡ false
+not_labels word [] other = refl
+not_labels word (a ∷ []) other = refl
+not_labels word (a ∷ b ∷ []) other = other
+not_labels word (a ∷ b ∷ c ∷ cs) other = refl
+
+-- so many lines and bytes more are within the limits
+pub record HasRoom (number used : ℕ) (events : List (ℕ × Event)) : Type 0 where
+  pub lines : number + length events ≤ 1000001
+  pub bytes : used + length (lines_text events) ≤ 16777216
+  pub short : AreShort (lines_of (lines_text events))
+
+-- the first line of events is within the limits
+room_first : (u : Setting) (number used cpu : ℕ) (e : Event) (events : List (ℕ × Event)) → TakesAll u → IsTold u (cpu, e)
+    → HasRoom number used ((cpu, e) ∷ events)
+    → used_after number used (ended (told_line cpu e)) ≡ Ok (used + (length (told_line cpu e) + 1))
+room_first u number used cpu e events all told room =
+    let long : length (line_text cpu e ++ lines_text events) ≡ length (told_line cpu e) + 1 + length (lines_text events) =
+    length-append (line_text cpu e) (lines_text events) ∙ ap (λ k. k + length (lines_text events)) (length_line cpu e) in
+    let shorts : AreShort (ended (told_line cpu e) ∷ lines_of (lines_text events)) = subst AreShort (first_line u cpu e (lines_text events) all told) room.short in
+    used_within number used (told_line cpu e) (omega (arith, room.lines)) shorts.0 (omega (arith, long, room.bytes))
+
+-- the lines of events are no labels
+pub no_labels_read : (u : Setting) (number used : ℕ) (events : List (ℕ × Event)) → TakesAll u → AreTold u events → HasRoom number used events
+    → labels_at (spot number used (lines_of (lines_text events))) ≡ Ok (no_labels, spot number used (lines_of (lines_text events)))
+unfolding labels_at
+no_labels_read u number used [] all told room = refl
+no_labels_read u number used ((cpu, e) ∷ events) all told room =
+    let first = first_line u cpu e (lines_text events) all told.0 in
+    let other : bytes_eq (decimal cpu) (codes "labels") ≡ false = no_number cpu (codes "labels") (omega (arith, told.0.0)) refl in
+    rw (first, room_first u number used cpu e events all told.0 room, line_words u cpu e all told.0) (rw (not_labels (decimal cpu) (event_words e) other) refl)
+
+-- and leave nothing out
+pub without_read : (u : Setting) (number used : ℕ) (events : List (ℕ × Event)) → TakesAll u → AreTold u events → HasRoom number used events
+    → without_at (spot number used (lines_of (lines_text events))) ≡ Ok (all_told, spot number used (lines_of (lines_text events)))
+unfolding without_at
+without_read u number used [] all told room = refl
+without_read u number used ((cpu, e) ∷ events) all told room =
+    let first = first_line u cpu e (lines_text events) all told.0 in
+    let other : bytes_eq (decimal cpu) (codes "without") ≡ false = no_number cpu (codes "without") (omega (arith, told.0.0)) refl in
+    rw (first, room_first u number used cpu e events all told.0 room, line_words u cpu e all told.0, other) refl

@@ -1,0 +1,104 @@
+-- The trace of a replay is judged lawful.
+use Rattle.std.proofs.Common.{◌≡◌, ℕ, ◌+◌, ◌-◌, ◌≤◌, List, ◌++◌, map, length, replicate, Option, None, Some, Ok, refl, sym, ap, ◌∙◌, arith, subst}
+use Rattle.std.specs.List.{AllByRecursion}
+use Rattle.std.proofs.lemmas.List.{length-append, length-map, length-replicate}
+use Rattle.smp_labels.specs.Entries.{entry_word}
+use Rattle.smp_labels.specs.Labels.{Labels, first_site}
+use Rattle.smp_labels.specs.declared.entries.Entry.{Entry}
+use Rattle.smp_labels.specs.declared.words.LabelWords.{LabelWords}
+use Rattle.smp_labels.specs.declared.words.TheConstants.{MOST_SITES}
+use Rattle.smp_mask.specs.declared.error.SmpError.{SmpError}
+use Rattle.smp_words.specs.declared.command.Event.{Event as Command}
+use Rattle.smp_words.specs.declared.seen.Seen.{Seen}
+use Rattle.smp_call_steps.specs.Calls.{no_calls}
+use Rattle.smp_stop_steps.specs.State.{no_stops}
+use Rattle.smp_stop_steps.specs.Value.{StopShown}
+use Rattle.smp_core.specs.New.{new_core}
+use Rattle.smp_core.specs.Replay.{Replay as Replayed, replay_from}
+use Rattle.smp_core.specs.Runs.{IsReplay, replay_made}
+use Rattle.smp_core.specs.Value.{CoreValue}
+use Rattle.smp_core.specs.Whole.{IsWhole}
+use Rattle.smp_script.specs.Script.{Script, script_of}
+use Rattle.smp_script.specs.Spelling.{LabelsFit}
+use Rattle.smp_script.specs.declared.mode.Mode.TheVariants.{Replay}
+use Rattle.smp_script.proofs.Spelled.Readings.{script_is_spelled}
+use Rattle.smp_stop_steps.specs.New.{new_stops}
+use Rattle.smp_event_steps.specs.declared.event.Event.{Event}
+use Rattle.smp_event_steps.specs.Opened.{opening}
+use Rattle.smp_event_steps.specs.Runs.{Runs}
+use Rattle.smp_event_steps.specs.State.{StateValue}
+use Rattle.smp_judge.specs.Head.{all_told, setting_of, words_of}
+use Rattle.smp_judge.specs.Runs.{IsRunOf}
+use Rattle.smp_judge.specs.Verdict.{verdict_of}
+use Rattle.smp_judge.proofs.Meaning.{runs_accepted}
+use Rattle.smp_events.specs.Traces.{all_fresh, events_of}
+use Rattle.smp_replay_laws.specs.Accepted.{AreWordsOf, FitsCpus, IsAccepted}
+use Rattle.smp_replay_laws.specs.Steps.{ArgFits}
+use Rattle.smp_replay_laws.specs.Texts.{AreTold, ReadsBack, TextsOfReplaysAreLawful, labels_or, trace_text, traced}
+use Rattle.smp_replay_laws.proofs.AllReplays.{all_begun, replays_are_accepted}
+use Rattle.smp_replay_laws.proofs.TextTold.{fresh_pasts, new_args, replay_tells}
+use Rattle.smp_replay_laws.proofs.TextTraces.{texts_read_back}
+use Rattle.smp_event_steps.specs.declared.without.Setting.{Setting}
+
+-- the words of a trace's head are those of a new machine
+words_are : (nr online : ℕ) (labels : Labels) → length labels.entries ≤ MOST_SITES
+    → AreWordsOf (setting_of online labels all_told) (words_of labels) (new_stops nr online labels)
+unfolding words_of
+words_are nr online labels few = record {
+  count = refl;
+  keys_are = refl;
+  sites_are = length-append (map first_site labels.entries) (replicate (MOST_SITES - length labels.entries) 0)
+      ∙ rw (length-map labels.entries first_site, length-replicate {A = ℕ} (MOST_SITES - length labels.entries) 0) (omega (arith, few));
+  keys = λ key. refl;
+  entries = λ site. refl;
+  sites = λ site. refl;
+}
+
+few_sites : (labels : Option Labels) → LabelsFit labels → length (labels_or labels).entries ≤ MOST_SITES
+few_sites None fit = omega arith
+few_sites (Some labels) fit = fit.few_sites
+
+-- a text that reads back as a run is lawful
+pub run_is_lawful : (text : List ℕ) (u : Setting) (words : LabelWords) (events : List (ℕ × Event)) (t : StateValue) → ReadsBack text u words events
+    → Runs (opening u words) events t → verdict_of text ≡ Ok (length events, t)
+run_is_lawful text u words events t b run =
+    let same : Runs (opening b.head.setting b.head.words) b.told.events t = rw (b.setting_is, b.words_are, b.events_are) run in
+    let count : length b.told.events ≡ length events = ap length b.events_are in
+    runs_accepted text b.head (length events) t b.head_is (record {
+      told = b.told;
+      told_is = b.told_is;
+      run = same;
+      counted = omega (arith, count);
+    })
+
+-- the events of a replay may be told in a trace
+told_of_replay : (nr online : ℕ) (labels : Labels) (commands : List Command) (core : CoreValue) (steps : List Seen) (stopped : Option (ℕ × SmpError))
+    → let first = new_core nr online labels in let u = setting_of online labels all_told in
+    length labels.entries ≤ MOST_SITES → IsWhole first → StopShown no_stops first.stops → AllByRecursion FitsCpus commands
+    → AllByRecursion ArgFits commands → IsReplay first commands core steps stopped → AreTold u (events_of all_fresh steps)
+told_of_replay nr online labels commands core steps stopped few whole none fits args is_replay =
+    let first = new_core nr online labels in
+    let u = setting_of online labels all_told in
+    let words = words_of labels in
+    let begun = all_begun nr online labels u words whole none (record { online = refl; whole = refl }) (words_are nr online labels few) in
+    let told : AreTold u (events_of all_fresh (replay_from 0 first commands).seen) =
+    replay_tells u 0 commands first no_calls no_stops all_fresh (opening u words) begun (record { online = refl; keys = refl; sites = refl })
+    (new_args nr online labels) fresh_pasts fits args in
+    subst (λ (r : Replayed). AreTold u (events_of all_fresh r.seen)) (sym is_replay) told
+
+pub texts_are_lawful : TextsOfReplaysAreLawful
+texts_are_lawful text script commands core steps stopped lawful whole none fits args is_replay within =
+    let labels = labels_or script.labels in
+    let events = events_of all_fresh steps in
+    let spelled = script_is_spelled Replay text script lawful in
+    let few = few_sites script.labels spelled.2.labels in
+    let accepted : IsAccepted (traced script) (words_of labels) steps core =
+    replays_are_accepted script.nr script.online labels commands core steps stopped (traced script) (words_of labels) whole none fits is_replay
+    (record { online = refl; whole = refl }) (words_are script.nr script.online labels few) in
+    let told : AreTold (traced script) events =
+    told_of_replay script.nr script.online labels commands core steps stopped few whole none fits args is_replay in
+    record {
+      accepted = accepted;
+      verdict = run_is_lawful (trace_text text script events) (traced script) (words_of labels) events accepted.end
+          (texts_read_back text script events lawful told within) accepted.run;
+    }
