@@ -11,12 +11,9 @@ use Rattle.smp_script.specs.Lines.{Line, lines_of}
 use Rattle.smp_script.specs.Script.{Script, script_of}
 use Rattle.smp_script.specs.Spelling.{IsAnswer}
 use Rattle.smp_script.specs.declared.mode.Mode.TheVariants.{Replay}
-use Rattle.smp_stop_steps.specs.State.{no_stops}
-use Rattle.smp_stop_steps.specs.Value.{StopShown}
 use Rattle.smp_core.specs.New.{new_core}
 use Rattle.smp_core.specs.Runs.{IsReplay}
 use Rattle.smp_core.specs.Value.{CoreValue}
-use Rattle.smp_core.specs.Whole.{IsWhole}
 use Rattle.smp_event_steps.specs.declared.event.CallEvent.{CallEvent}
 use Rattle.smp_event_steps.specs.declared.event.CallEvent.TheVariants as calls
 use Rattle.smp_event_steps.specs.declared.event.Event.{Event}
@@ -133,5 +130,5 @@ abbrev pub TextsOfReplaysAreLawful : Type 0
 TextsOfReplaysAreLawful = (text : List ℕ) (script : Script) (commands : List Command) (core : CoreValue) (steps : List Seen)
     (stopped : Option (ℕ × SmpError)) → let first = new_core script.nr script.online (labels_or script.labels) in
     let trace = trace_text text script (events_of all_fresh steps) in
-    script_of Replay text ≡ Ok script → IsWhole first → StopShown no_stops first.stops → AllByRecursion FitsCpus commands
-    → AllByRecursion ArgFits commands → IsReplay first commands core steps stopped → IsWithin trace → IsJudged script trace steps core
+    script_of Replay text ≡ Ok script → AllByRecursion FitsCpus commands → AllByRecursion ArgFits commands
+    → IsReplay first commands core steps stopped → IsWithin trace → IsJudged script trace steps core
