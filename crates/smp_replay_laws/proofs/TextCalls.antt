@@ -24,7 +24,7 @@ use Rattle.smp_call_steps.specs.declared.post.PostStage.TheVariants as post
 use Rattle.smp_call_steps.specs.declared.stage.Outcome.{Outcome}
 use Rattle.smp_call_steps.specs.declared.stage.Stage.{Stage}
 use Rattle.smp_call_steps.specs.declared.stage.Stage.TheVariants.{Send, Done, Post, Handle}
-use Rattle.smp_replay_laws.specs.Steps.{NoteFits, StepFits}
+use Rattle.smp_replay_laws.proofs.TextSteps.{NoteFits, StepFits}
 
 note_if : (b : Bool) (x y : Outcome) → NoteFits x.note → NoteFits y.note → NoteFits (cond b x y).note
 note_if true x y k l = k

@@ -24,7 +24,8 @@ use Rattle.smp_judge.specs.Head.{SpotValue, all_told, is_labels, labels_at, need
 use Rattle.smp_judge.specs.Judged.{used_after}
 use Rattle.smp_events.specs.Text.{line_text}
 use Rattle.smp_events.specs.Traces.{lines_text}
-use Rattle.smp_replay_laws.specs.Texts.{AreShort, AreTold, IsTold, TakesAll}
+use Rattle.smp_replay_laws.specs.Texts.{AreShort, AreTold, IsTold}
+use Rattle.smp_replay_laws.proofs.TextWords.{TakesAll}
 use Rattle.smp_replay_laws.proofs.TextCpus.{cpus_fields, cpus_told, cpus_words, labels_told, labels_words}
 use Rattle.smp_replay_laws.proofs.TextLines.{event_words, first_line, length_line, line_words, told_line, used_within}
 

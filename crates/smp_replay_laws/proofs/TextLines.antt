@@ -17,9 +17,9 @@ use Rattle.smp_judge.specs.declared.halted.Halted.{Halted}
 use Rattle.smp_events.specs.Text.{event_text, line_text}
 use Rattle.smp_events.specs.Traces.{lines_text}
 use Rattle.smp_replay_laws.specs.Follows.{nothing_left_out}
-use Rattle.smp_replay_laws.specs.Texts.{AreShort, AreTold, IsTold, TakesAll}
+use Rattle.smp_replay_laws.specs.Texts.{AreShort, AreTold, IsTold}
+use Rattle.smp_replay_laws.proofs.TextWords.{TakesAll, joined_words, words_of, words_read}
 use Rattle.smp_replay_laws.proofs.TextFields.{member_told}
-use Rattle.smp_replay_laws.proofs.TextWords.{joined_words, words_of, words_read}
 
 -- what is behind the CPU of a line
 abbrev pub event_words : Event → List (List ℕ)

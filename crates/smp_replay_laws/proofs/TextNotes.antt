@@ -37,9 +37,8 @@ use Rattle.smp_stop_steps.specs.declared.stage.Visit.{Visit}
 use Rattle.smp_stop_steps.proofs.TheMachine.Named.{work_in}
 use Rattle.smp_stop_steps.proofs.TheMachine.Tables.{IsStopWord}
 use Rattle.smp_stop_steps.proofs.TheMachine.Values.{stop_word_named}
-use Rattle.smp_replay_laws.specs.Steps.{NoteFits, PutFits, StepFits, WordFits}
+use Rattle.smp_replay_laws.proofs.TextSteps.{NoteFits, PutFits, StepFits, WordFits, answer_fits}
 use Rattle.smp_replay_laws.proofs.TextCalls.{word_if}
-use Rattle.smp_replay_laws.proofs.TextSteps.{answer_fits}
 use Rattle.smp_replay_laws.proofs.TextStops.{ArgsFit, BeginFits}
 
 -- the number in the name of a word of the stop table

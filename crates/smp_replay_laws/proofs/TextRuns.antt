@@ -33,8 +33,7 @@ use Rattle.smp_judge.specs.Verdict.{verdict_of}
 use Rattle.smp_judge.proofs.Meaning.{runs_accepted}
 use Rattle.smp_events.specs.Traces.{all_fresh, events_of}
 use Rattle.smp_replay_laws.specs.Accepted.{AreWordsOf, FitsCpus, IsAccepted}
-use Rattle.smp_replay_laws.specs.Steps.{ArgFits}
-use Rattle.smp_replay_laws.specs.Texts.{AreTold, ReadsBack, TextsOfReplaysAreLawful, labels_or, trace_text, traced}
+use Rattle.smp_replay_laws.specs.Texts.{AreTold, ArgFits, ReadsBack, TextsOfReplaysAreLawful, labels_or, trace_text, traced}
 use Rattle.smp_replay_laws.proofs.AllReplays.{all_begun, replays_are_accepted}
 use Rattle.smp_replay_laws.proofs.TextCpus.{few_cpus, trace_mask}
 use Rattle.smp_replay_laws.proofs.TextNew.{labels_are, limits_are, new_none, new_whole}

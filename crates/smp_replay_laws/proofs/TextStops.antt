@@ -32,9 +32,8 @@ use Rattle.smp_stop_steps.specs.declared.stage.StopStage.{StopStage}
 use Rattle.smp_stop_steps.specs.declared.stage.StopStage.TheVariants.{TakeGate, OpenGate, Begin, Enter, EnterKind, EnterMask, EnterActive, ReadKey}
 use Rattle.smp_stop_steps.specs.declared.stage.StopStage.TheVariants.{ReadSite, NudgeKey, Advance, Complete, Close, LoadDone, LoadResult, ExchangeKey}
 use Rattle.smp_stop_steps.specs.declared.stage.Visit.{Visit}
-use Rattle.smp_replay_laws.specs.Steps.{NoteFits, PutFits, StepFits, WordFits}
+use Rattle.smp_replay_laws.proofs.TextSteps.{NoteFits, PutFits, StepFits, WordFits, answer_fits}
 use Rattle.smp_replay_laws.proofs.StopSteps.{word_kept}
-use Rattle.smp_replay_laws.proofs.TextSteps.{answer_fits}
 
 -- the function and the argument of a stop that begins
 abbrev pub BeginFits : Option StopStage → Type 0

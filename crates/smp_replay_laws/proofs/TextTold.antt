@@ -46,15 +46,14 @@ use Rattle.smp_events.specs.Told.{events_in, told_of}
 use Rattle.smp_events.specs.Traces.{all_fresh, events_of, events_of_step, kept}
 use Rattle.smp_events.specs.declared.past.Past.{Past}
 use Rattle.smp_replay_laws.specs.Accepted.{BeginsOfCpus, FitsCpus}
-use Rattle.smp_replay_laws.specs.Steps.{ArgFits, StepFits}
-use Rattle.smp_replay_laws.specs.Texts.{AreTold, EventFits, IsTold}
+use Rattle.smp_replay_laws.proofs.TextSteps.{InRange, PastFits, StepFits, after_fits, fresh_fits, told_fits}
+use Rattle.smp_replay_laws.specs.Texts.{AreTold, ArgFits, EventFits, IsTold}
 use Rattle.smp_replay_laws.proofs.Halves.{is_call_word, call_word}
 use Rattle.smp_replay_laws.proofs.Pasts.{past_else, past_here}
 use Rattle.smp_replay_laws.proofs.StopBegins.{begun_else, begun_fits, begun_here, begun_labels, begun_table}
 use Rattle.smp_replay_laws.proofs.TextCalls.{call_fits}
 use Rattle.smp_replay_laws.proofs.TextNotes.{stop_fits}
 use Rattle.smp_replay_laws.proofs.TextRanges.{stage_ranged}
-use Rattle.smp_replay_laws.proofs.TextSteps.{InRange, PastFits, after_fits, fresh_fits, told_fits}
 use Rattle.smp_replay_laws.proofs.TextStops.{ArgsFit, BeginFits, WorkFits, first_begins, stage_args, stage_begins}
 use Rattle.smp_replay_laws.proofs.Wholes.{StandsAll, below, by_name_stops, call_stands, named, quiet, reached, reached_stops, start_stands, stop_below, stop_stands, told_stops}
 

@@ -24,7 +24,8 @@ use Rattle.smp_judge.specs.Head.{words_of as label_words_of}
 use Rattle.smp_judge.specs.Runs.{told_by}
 use Rattle.smp_events.specs.Front.{front_text}
 use Rattle.smp_events.specs.Traces.{lines_text}
-use Rattle.smp_replay_laws.specs.Texts.{AreShort, AreTold, IsWithin, ReadsBack, TakesAll, labels_or, trace_text, traced}
+use Rattle.smp_replay_laws.specs.Texts.{AreShort, AreTold, IsWithin, ReadsBack, labels_or, trace_text, traced}
+use Rattle.smp_replay_laws.proofs.TextWords.{TakesAll}
 use Rattle.smp_replay_laws.proofs.TextCpus.{cpus_fields, cpus_words, few_cpus, labels_words, trace_mask}
 use Rattle.smp_replay_laws.proofs.TextHeads.{HasRoom, ended, labels_read, no_labels_read, online_read, spot, title_read, without_read}
 use Rattle.smp_replay_laws.proofs.TextLines.{count_lines, lines_tell}

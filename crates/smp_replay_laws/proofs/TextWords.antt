@@ -22,6 +22,12 @@ use Rattle.smp_replay_laws.specs.Follows.{nothing_left_out}
 use Rattle.smp_replay_laws.specs.Texts.{CallFits, EventFits, LabelFits, StopFits}
 use Rattle.smp_replay_laws.proofs.TextFields.{class_told, kind_told, mask_told, member_told, signed_field, signed_told, site_told, switch_told, way_told}
 
+-- a trace leaves nothing out, and its keys and sites have numbers of 32 bits
+pub record TakesAll (u : Setting) : Type 0 where
+  pub whole : u.without ≡ nothing_left_out
+  pub keys : u.keys ≤ 4294967295
+  pub sites : u.sites ≤ 4294967295
+
 -- the name of an event, and what is behind it
 pub record Words : Type 0 where
   pub name : List ℕ
