@@ -1,10 +1,8 @@
 -- The trace of a replay is judged lawful.
-use Rattle.std.proofs.Common.{◌≡◌, ℕ, ◌+◌, ◌-◌, ◌≤◌, List, ◌++◌, map, length, replicate, Option, None, Some, Ok, refl, sym, ap, ◌∙◌, arith, subst}
+use Rattle.std.proofs.Common.{◌≡◌, ℕ, ◌-◌, ◌≤◌, List, map, length, replicate, Option, Ok, refl, sym, ap, ◌∙◌, arith, subst}
 use Rattle.std.specs.List.{AllByRecursion}
 use Rattle.std.proofs.lemmas.List.{length-append, length-map, length-replicate}
-use Rattle.smp_labels.specs.Entries.{entry_word}
 use Rattle.smp_labels.specs.Labels.{Labels, first_site}
-use Rattle.smp_labels.specs.declared.entries.Entry.{Entry}
 use Rattle.smp_labels.specs.declared.words.LabelWords.{LabelWords}
 use Rattle.smp_labels.specs.declared.words.TheConstants.{MOST_SITES}
 use Rattle.smp_mask.specs.declared.error.SmpError.{SmpError}
@@ -15,11 +13,9 @@ use Rattle.smp_stop_steps.specs.State.{no_stops}
 use Rattle.smp_stop_steps.specs.Value.{StopShown}
 use Rattle.smp_core.specs.New.{new_core}
 use Rattle.smp_core.specs.Replay.{Replay as Replayed, replay_from}
-use Rattle.smp_core.specs.Runs.{IsReplay, replay_made}
+use Rattle.smp_core.specs.Runs.{IsReplay}
 use Rattle.smp_core.specs.Value.{CoreValue}
 use Rattle.smp_core.specs.Whole.{IsWhole}
-use Rattle.smp_script.specs.Script.{Script, script_of}
-use Rattle.smp_script.specs.Spelling.{LabelsFit}
 use Rattle.smp_script.specs.declared.mode.Mode.TheVariants.{Replay}
 use Rattle.smp_script.proofs.Spelled.Readings.{script_is_spelled}
 use Rattle.smp_stop_steps.specs.New.{new_stops}
@@ -28,7 +24,6 @@ use Rattle.smp_event_steps.specs.Opened.{opening}
 use Rattle.smp_event_steps.specs.Runs.{Runs}
 use Rattle.smp_event_steps.specs.State.{StateValue}
 use Rattle.smp_judge.specs.Head.{all_told, setting_of, words_of}
-use Rattle.smp_judge.specs.Runs.{IsRunOf}
 use Rattle.smp_judge.specs.Verdict.{verdict_of}
 use Rattle.smp_judge.proofs.Meaning.{runs_accepted}
 use Rattle.smp_events.specs.Traces.{all_fresh, events_of}
