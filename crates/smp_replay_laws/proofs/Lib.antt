@@ -49,3 +49,4 @@ pub mod TextTold
 pub mod TextCalls
 pub mod TextStops
 pub mod TextNotes
+pub mod TextNew

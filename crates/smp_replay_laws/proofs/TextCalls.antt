@@ -1,5 +1,5 @@
 -- The numbers of the steps of calls are of their types.
-use Rattle.std.proofs.Common.{◌≡◌, ℕ, ◌+◌, ◌-◌, ◌%◌, ◌<◌, ◌^◌, Bool, true, false, ◌==◌, nat_lt, cond, List, [], ◌∷◌, ◌++◌, Option, Some, None, refl, sym, ap, ◌∙◌, subst, arith}
+use Rattle.std.proofs.Common.{◌≡◌, ℕ, ◌%◌, ◌<◌, ◌^◌, Bool, true, false, ◌==◌, nat_lt, cond, List, ◌∷◌, Some, subst, arith}
 use Rattle.std.specs.List.{AllByRecursion}
 use Rattle.smp_words.specs.Access.{seen_of}
 use Rattle.smp_words.specs.Size.{cpus}
@@ -9,10 +9,10 @@ use Rattle.smp_words.specs.declared.seen.Seen.{Seen}
 use Rattle.smp_words.specs.declared.word.Word.{Word}
 use Rattle.smp_words.specs.declared.call.Call.{Call}
 use Rattle.smp_call_steps.specs.Calls.{CallState}
-use Rattle.smp_call_steps.specs.Drains.{DrainValue, handle_goes, handle_outcome}
+use Rattle.smp_call_steps.specs.Drains.{DrainValue, handle_goes}
 use Rattle.smp_call_steps.specs.Places.{IsCall, IsPlaced}
 use Rattle.smp_call_steps.specs.Posts.{post_outcome}
-use Rattle.smp_call_steps.specs.Stages.{ControlValue, access_of, outcome_of}
+use Rattle.smp_call_steps.specs.Stages.{access_of, outcome_of}
 use Rattle.smp_call_steps.specs.Stands.{HandleStands, PostStands, StandsAt, share_of}
 use Rattle.smp_call_steps.specs.Words.{nexts_in}
 use Rattle.smp_call_steps.specs.declared.handle.HandleStage.{HandleStage}
@@ -24,7 +24,7 @@ use Rattle.smp_call_steps.specs.declared.post.PostStage.TheVariants as post
 use Rattle.smp_call_steps.specs.declared.stage.Outcome.{Outcome}
 use Rattle.smp_call_steps.specs.declared.stage.Stage.{Stage}
 use Rattle.smp_call_steps.specs.declared.stage.Stage.TheVariants.{Send, Done, Post, Handle}
-use Rattle.smp_replay_laws.specs.Steps.{NoteFits, StepFits}
+use Rattle.smp_replay_laws.proofs.TextSteps.{NoteFits, StepFits}
 
 note_if : (b : Bool) (x y : Outcome) → NoteFits x.note → NoteFits y.note → NoteFits (cond b x y).note
 note_if true x y k l = k

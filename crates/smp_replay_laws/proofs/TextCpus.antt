@@ -1,6 +1,6 @@
 -- The lines in front of the events of a trace, by the script that they are of.
-use Rattle.std.proofs.Common.{◌≡◌, ℕ, ◌<◌, ◌≤◌, Bool, true, false, nat_lt, List, [], ◌∷◌, ◌++◌, length, Option, Some, None, is_some, Result, Ok, Err, codes, refl, sym, ap, ◌∙◌}
-use Rattle.std.proofs.Common.{append_assoc, append-nil, arith, if◌then◌else◌, inl, inr, subst, cond}
+use Rattle.std.proofs.Common.{◌≡◌, ℕ, ◌≤◌, true, nat_lt, List, [], ◌∷◌, Option, Some, None, Result, Ok, Err, codes, refl, sym, ap, ◌∙◌}
+use Rattle.std.proofs.Common.{arith, if◌then◌else◌, inl, inr}
 use Rattle.std.specs.Fmt.{decimal}
 use Rattle.std.specs.List.{join_with_byte, list_all}
 use Rattle.std.specs.Str.{bytes_eq}
@@ -15,9 +15,9 @@ use Rattle.smp_labels.specs.Labels.{AreLabels, Labels}
 use Rattle.smp_script.specs.Faults.{◌>>=◌, Fault, at_line}
 use Rattle.smp_script.specs.Fields.{mask_of, or_mask, stays_below}
 use Rattle.smp_script.specs.Labels.{is_labels, whole_labels}
-use Rattle.smp_script.specs.Lines.{Line, fields_of, lines_of}
+use Rattle.smp_script.specs.Lines.{Line, fields_of}
 use Rattle.smp_script.specs.Script.{are_online, labels_at, whole_cpus}
-use Rattle.smp_script.specs.Spelling.{IsMaskText, is_field, items_text, labels_before, line_before}
+use Rattle.smp_script.specs.Spelling.{is_field, items_text}
 use Rattle.smp_script.specs.Versions.{limit_of}
 use Rattle.smp_script.specs.declared.version.Version.{Version}
 use Rattle.smp_script.specs.declared.version.Version.TheVariants.{One, Two}

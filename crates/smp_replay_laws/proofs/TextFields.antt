@@ -18,7 +18,7 @@ use Rattle.smp_words.specs.declared.call.Class.{Class}
 use Rattle.smp_words.specs.declared.call.Class.TheVariants.{Sync, Async}
 use Rattle.smp_words.specs.declared.work.Kind.{Kind}
 use Rattle.smp_words.specs.declared.work.Kind.TheVariants as kinds
-use Rattle.smp_script.specs.Fields.{class_of, kind_of, mask_of, stays_below, way_of}
+use Rattle.smp_script.specs.Fields.{class_of, kind_of, stays_below, way_of}
 use Rattle.smp_script.specs.Numbers.{number_in, signed_of}
 use Rattle.smp_script.specs.Requests.{member_of, switch_of}
 use Rattle.smp_script.specs.Spelling.{IsAnswer, IsMaskText, is_field, lacks}

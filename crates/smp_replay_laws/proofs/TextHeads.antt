@@ -1,11 +1,10 @@
 -- The head of a trace is read as it was written.
-use Rattle.std.proofs.Common.{◌≡◌, ℕ, ◌+◌, ◌<◌, ◌≤◌, ◌^◌, Bool, true, false, List, [], ◌∷◌, ◌++◌, length, Option, Some, None, is_some, Result, Ok, codes}
-use Rattle.std.proofs.Common.{refl, sym, ap, ◌∙◌, append_assoc, append-nil, arith, inl, inr, subst}
+use Rattle.std.proofs.Common.{◌≡◌, ℕ, ◌+◌, ◌<◌, ◌≤◌, ◌^◌, true, false, List, [], ◌∷◌, ◌++◌, length, Ok, codes}
+use Rattle.std.proofs.Common.{refl, sym, ap, ◌∙◌, arith, inl, inr, subst}
 use Rattle.std.specs.Fmt.{decimal}
-use Rattle.std.specs.List.{join_with_byte, list_all}
+use Rattle.std.specs.List.{join_with_byte}
 use Rattle.std.specs.Str.{bytes_eq}
 use Rattle.std.proofs.lemmas.Bool.{cases_Bool}
-use Rattle.std.proofs.lemmas.Bool.Decides.{nat_tests}
 use Rattle.std.proofs.lemmas.List.{length-append}
 use Rattle.smp_labels.specs.Labels.{AreLabels, Labels}
 use Rattle.smp_script.specs.Fields.{mask_of}
@@ -24,7 +23,8 @@ use Rattle.smp_judge.specs.Head.{SpotValue, all_told, is_labels, labels_at, need
 use Rattle.smp_judge.specs.Judged.{used_after}
 use Rattle.smp_events.specs.Text.{line_text}
 use Rattle.smp_events.specs.Traces.{lines_text}
-use Rattle.smp_replay_laws.specs.Texts.{AreShort, AreTold, IsTold, TakesAll}
+use Rattle.smp_replay_laws.specs.Texts.{AreShort, AreTold, IsTold}
+use Rattle.smp_replay_laws.proofs.TextWords.{TakesAll}
 use Rattle.smp_replay_laws.proofs.TextCpus.{cpus_fields, cpus_told, cpus_words, labels_told, labels_words}
 use Rattle.smp_replay_laws.proofs.TextLines.{event_words, first_line, length_line, line_words, told_line, used_within}
 

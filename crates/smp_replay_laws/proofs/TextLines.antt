@@ -1,11 +1,11 @@
 -- The lines of events tell them.
-use Rattle.std.proofs.Common.{◌≡◌, ℕ, suc, ◌+◌, ◌<◌, ◌≤◌, ◌^◌, Bool, true, false, nat_lt, ◌==◌, List, [], ◌∷◌, ◌++◌, length, Some, Result, Ok, refl, sym, ap, ◌∙◌}
+use Rattle.std.proofs.Common.{◌≡◌, ℕ, suc, ◌+◌, ◌<◌, ◌≤◌, true, false, List, [], ◌∷◌, ◌++◌, length, Some, Result, Ok, refl, ap, ◌∙◌}
 use Rattle.std.proofs.Common.{append_assoc, arith, subst}
 use Rattle.std.specs.Fmt.{decimal}
-use Rattle.std.specs.List.{AllByRecursion, join_with_byte, list_all}
+use Rattle.std.specs.List.{join_with_byte, list_all}
 use Rattle.std.proofs.lemmas.Bool.Decides.{nat_tests}
 use Rattle.std.proofs.lemmas.List.{length-append}
-use Rattle.smp_script.specs.Lines.{Line, fields_of, lines_of}
+use Rattle.smp_script.specs.Lines.{fields_of, lines_of}
 use Rattle.smp_script.specs.Spelling.{is_field, lacks, line_before}
 use Rattle.smp_script.proofs.Texts.Decimals.{decimal_lacks, is_field-decimal}
 use Rattle.smp_script.proofs.Texts.Joins.{fields_join, lines_of-line, whole_fields}
@@ -14,12 +14,11 @@ use Rattle.smp_event_steps.specs.declared.without.Setting.{Setting}
 use Rattle.smp_judge.specs.Judged.{event_on, is_comment, used_after}
 use Rattle.smp_judge.specs.Runs.{Told, told_by}
 use Rattle.smp_judge.specs.declared.halted.Halted.{Halted}
-use Rattle.smp_events.specs.Text.{event_text, line_text}
+use Rattle.smp_events.specs.Text.{line_text}
 use Rattle.smp_events.specs.Traces.{lines_text}
-use Rattle.smp_replay_laws.specs.Follows.{nothing_left_out}
-use Rattle.smp_replay_laws.specs.Texts.{AreShort, AreTold, IsTold, TakesAll}
+use Rattle.smp_replay_laws.specs.Texts.{AreShort, AreTold, IsTold}
+use Rattle.smp_replay_laws.proofs.TextWords.{TakesAll, joined_words, words_of, words_read}
 use Rattle.smp_replay_laws.proofs.TextFields.{member_told}
-use Rattle.smp_replay_laws.proofs.TextWords.{joined_words, words_of, words_read}
 
 -- what is behind the CPU of a line
 abbrev pub event_words : Event → List (List ℕ)

@@ -1,5 +1,5 @@
 -- What is seen of a step of stops has numbers of its types, where the arguments of all slots have.
-use Rattle.std.proofs.Common.{◌≡◌, ℕ, ◌+◌, ◌%◌, ◌<◌, ◌^◌, Bool, true, false, ◌&&◌, ◌==◌, cond, List, length, Option, Some, None, refl, sym, ap, ◌∙◌, subst, arith}
+use Rattle.std.proofs.Common.{◌≡◌, ℕ, ◌+◌, ◌<◌, ◌^◌, Bool, true, false, ◌==◌, cond, List, length, Option, Some, None, refl, subst, arith}
 use Rattle.std.specs.Prelude.{unwrap_or}
 use Rattle.smp_mask.specs.Mask.{has}
 use Rattle.smp_labels.specs.Keys.{change_of, count_after, is_on}
@@ -9,7 +9,6 @@ use Rattle.smp_words.specs.Access.{put_by, word_of}
 use Rattle.smp_words.specs.Size.{cpus}
 use Rattle.smp_words.specs.declared.field.Field.{Field}
 use Rattle.smp_words.specs.declared.field.Field.TheVariants as field
-use Rattle.smp_words.specs.declared.seen.Note.{Note}
 use Rattle.smp_words.specs.declared.seen.Note.TheVariants as note
 use Rattle.smp_words.specs.declared.word.Word.{Word}
 use Rattle.smp_words.specs.declared.word.Word.TheVariants as word
@@ -17,10 +16,9 @@ use Rattle.smp_words.specs.declared.work.Work.{Work}
 use Rattle.smp_stop_steps.specs.Labels.{Change}
 use Rattle.smp_stop_steps.specs.Machine.{stop_found_at, stop_seen_at}
 use Rattle.smp_stop_steps.specs.declared.phase.TheConstants.{EXIT}
-use Rattle.smp_stop_steps.specs.Seats.{Stands}
 use Rattle.smp_stop_steps.specs.Sits.{SitsAt}
-use Rattle.smp_stop_steps.specs.Stages.{StopControlValue, StopOutcome, begun_next, change_at, completion_outcome, store_of, key_on, looked_on, nudge_of, nudge_on}
-use Rattle.smp_stop_steps.specs.Stages.{round_outcome, stop_access, stop_ends, stop_goes, stop_outcome, turn_ends, turn_note, visit_acked}
+use Rattle.smp_stop_steps.specs.Stages.{StopControlValue, StopOutcome, begun_next, change_at, store_of, key_on, nudge_of, nudge_on}
+use Rattle.smp_stop_steps.specs.Stages.{stop_access, stop_ends, stop_goes, stop_outcome}
 use Rattle.smp_stop_steps.specs.State.{StopState}
 use Rattle.smp_stop_steps.specs.Table.{stop_number}
 use Rattle.smp_stop_steps.specs.Tells.{is_multi}
@@ -31,15 +29,14 @@ use Rattle.smp_stop_steps.specs.declared.stage.CompletionStage.TheVariants as co
 use Rattle.smp_stop_steps.specs.declared.stage.RoundStage.{RoundStage}
 use Rattle.smp_stop_steps.specs.declared.stage.RoundStage.TheVariants as round
 use Rattle.smp_stop_steps.specs.declared.stage.StopStage.{StopStage}
-use Rattle.smp_stop_steps.specs.declared.stage.StopStage.TheVariants.{TakeGate, OpenGate, Begin, Enter, EnterKind, EnterMask, EnterActive, ReadKey}
-use Rattle.smp_stop_steps.specs.declared.stage.StopStage.TheVariants.{ReadSite, NudgeKey, Advance, Complete, Close, LoadDone, LoadResult, ExchangeKey}
+use Rattle.smp_stop_steps.specs.declared.stage.StopStage.TheVariants.{TakeGate, Begin, Enter, EnterKind, ReadKey}
+use Rattle.smp_stop_steps.specs.declared.stage.StopStage.TheVariants.{ReadSite, NudgeKey, Advance, Complete, LoadDone, LoadResult, ExchangeKey}
 use Rattle.smp_stop_steps.specs.declared.stage.Visit.{Visit}
 use Rattle.smp_stop_steps.proofs.TheMachine.Named.{work_in}
 use Rattle.smp_stop_steps.proofs.TheMachine.Tables.{IsStopWord}
 use Rattle.smp_stop_steps.proofs.TheMachine.Values.{stop_word_named}
-use Rattle.smp_replay_laws.specs.Steps.{NoteFits, PutFits, StepFits, WordFits}
+use Rattle.smp_replay_laws.proofs.TextSteps.{NoteFits, PutFits, StepFits, WordFits, answer_fits}
 use Rattle.smp_replay_laws.proofs.TextCalls.{word_if}
-use Rattle.smp_replay_laws.proofs.TextSteps.{answer_fits}
 use Rattle.smp_replay_laws.proofs.TextStops.{ArgsFit, BeginFits}
 
 -- the number in the name of a word of the stop table

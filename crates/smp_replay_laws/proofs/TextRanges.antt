@@ -1,6 +1,6 @@
 -- The phases, the keys and the sites of the steps of stops.
 use Rattle.std.proofs.Common.{◌≡◌, ◌≢◌, ℕ, zero, suc, ◌+◌, ◌-◌, ◌<◌, ◌≤◌, Bool, true, false, cond, List, [], ◌∷◌, ◌++◌, length, Option, Some, None, Ok, refl, ap, sym, ◌∙◌, subst}
-use Rattle.std.proofs.Common.{map, inl, inr, arith}
+use Rattle.std.proofs.Common.{inl, inr, arith}
 use Rattle.std.specs.Prelude.{◌==◌}
 use Rattle.std.specs.List.{AllByRecursion}
 use Rattle.std.proofs.lemmas.Bool.{ne_eqb}
@@ -13,17 +13,14 @@ use Rattle.smp_labels.specs.Plans.{plan_of, site_change, site_changes}
 use Rattle.smp_labels.specs.declared.entries.Entry.{Entry}
 use Rattle.smp_labels.specs.declared.patch.Place.TheVariants.{Key, Site}
 use Rattle.smp_labels.proofs.Patched.{left_in_form}
-use Rattle.smp_words.specs.Access.{seen_of, word_of}
+use Rattle.smp_words.specs.Access.{seen_of}
 use Rattle.smp_words.specs.Size.{cpus}
 use Rattle.smp_words.specs.declared.field.Field.{Field}
 use Rattle.smp_words.specs.declared.field.Field.TheVariants as field
-use Rattle.smp_words.specs.declared.seen.Seen.{Seen}
-use Rattle.smp_words.specs.declared.word.Word.{Word}
 use Rattle.smp_words.specs.declared.work.Kind.{Kind}
-use Rattle.smp_words.specs.declared.work.Kind.TheVariants.{One, Multi, Patch}
+use Rattle.smp_words.specs.declared.work.Kind.TheVariants.{One, Patch}
 use Rattle.smp_words.specs.declared.work.Work.{Work}
-use Rattle.smp_stop_steps.specs.Labels.{Change, LabelsShow, Patches, Patching, count_set, labels_in}
-use Rattle.smp_stop_steps.specs.Seats.{Stands}
+use Rattle.smp_stop_steps.specs.Labels.{Change, LabelsShow, Patching, count_set, labels_in}
 use Rattle.smp_stop_steps.specs.Sits.{SitsAt, SitsInRound}
 use Rattle.smp_stop_steps.specs.Slots.{begun_value}
 use Rattle.smp_stop_steps.specs.Stages.{StopControlValue, change_at, store_of}
@@ -34,14 +31,14 @@ use Rattle.smp_stop_steps.specs.Tells.{plan_at}
 use Rattle.smp_stop_steps.specs.Value.{StopShown, StopsValue, setup_of, stop_control_of}
 use Rattle.smp_stop_steps.specs.Machine.{stop_found_at, stop_seen_at}
 use Rattle.smp_stop_steps.specs.declared.known.Duty.TheVariants.{Rests, Sets}
-use Rattle.smp_stop_steps.specs.declared.known.Seat.TheVariants.{In, Alters}
+use Rattle.smp_stop_steps.specs.declared.known.Seat.TheVariants.{Alters}
 use Rattle.smp_stop_steps.specs.declared.stage.CompletionStage.{CompletionStage}
 use Rattle.smp_stop_steps.specs.declared.stage.CompletionStage.TheVariants as completion
 use Rattle.smp_stop_steps.specs.declared.stage.RoundStage.{RoundStage}
 use Rattle.smp_stop_steps.specs.declared.stage.RoundStage.TheVariants as round
 use Rattle.smp_stop_steps.specs.declared.stage.StopStage.{StopStage}
-use Rattle.smp_stop_steps.specs.declared.stage.StopStage.TheVariants.{TakeGate, OpenGate, Begin, Enter, EnterKind, EnterMask, EnterActive, ReadKey}
-use Rattle.smp_stop_steps.specs.declared.stage.StopStage.TheVariants.{ReadSite, NudgeKey, Advance, Complete, Close, LoadDone, LoadResult, ExchangeKey}
+use Rattle.smp_stop_steps.specs.declared.stage.StopStage.TheVariants.{Begin, ReadKey}
+use Rattle.smp_stop_steps.specs.declared.stage.StopStage.TheVariants.{ReadSite, NudgeKey, Advance, Complete, ExchangeKey}
 use Rattle.smp_stop_steps.specs.declared.stage.Visit.{Visit}
 use Rattle.smp_event_steps.specs.Cpu.{handles_nothing}
 use Rattle.smp_event_steps.specs.State.{StateValue, cpu_at}

@@ -1,10 +1,8 @@
 -- The trace of a replay is judged lawful.
-use Rattle.std.proofs.Common.{◌≡◌, ℕ, ◌+◌, ◌-◌, ◌≤◌, List, ◌++◌, map, length, replicate, Option, None, Some, Ok, refl, sym, ap, ◌∙◌, arith, subst}
+use Rattle.std.proofs.Common.{◌≡◌, ℕ, ◌-◌, ◌≤◌, List, map, length, replicate, Option, Ok, refl, sym, ap, ◌∙◌, arith, subst}
 use Rattle.std.specs.List.{AllByRecursion}
 use Rattle.std.proofs.lemmas.List.{length-append, length-map, length-replicate}
-use Rattle.smp_labels.specs.Entries.{entry_word}
 use Rattle.smp_labels.specs.Labels.{Labels, first_site}
-use Rattle.smp_labels.specs.declared.entries.Entry.{Entry}
 use Rattle.smp_labels.specs.declared.words.LabelWords.{LabelWords}
 use Rattle.smp_labels.specs.declared.words.TheConstants.{MOST_SITES}
 use Rattle.smp_mask.specs.declared.error.SmpError.{SmpError}
@@ -15,11 +13,9 @@ use Rattle.smp_stop_steps.specs.State.{no_stops}
 use Rattle.smp_stop_steps.specs.Value.{StopShown}
 use Rattle.smp_core.specs.New.{new_core}
 use Rattle.smp_core.specs.Replay.{Replay as Replayed, replay_from}
-use Rattle.smp_core.specs.Runs.{IsReplay, replay_made}
+use Rattle.smp_core.specs.Runs.{IsReplay}
 use Rattle.smp_core.specs.Value.{CoreValue}
 use Rattle.smp_core.specs.Whole.{IsWhole}
-use Rattle.smp_script.specs.Script.{Script, script_of}
-use Rattle.smp_script.specs.Spelling.{LabelsFit}
 use Rattle.smp_script.specs.declared.mode.Mode.TheVariants.{Replay}
 use Rattle.smp_script.proofs.Spelled.Readings.{script_is_spelled}
 use Rattle.smp_stop_steps.specs.New.{new_stops}
@@ -28,14 +24,14 @@ use Rattle.smp_event_steps.specs.Opened.{opening}
 use Rattle.smp_event_steps.specs.Runs.{Runs}
 use Rattle.smp_event_steps.specs.State.{StateValue}
 use Rattle.smp_judge.specs.Head.{all_told, setting_of, words_of}
-use Rattle.smp_judge.specs.Runs.{IsRunOf}
 use Rattle.smp_judge.specs.Verdict.{verdict_of}
 use Rattle.smp_judge.proofs.Meaning.{runs_accepted}
 use Rattle.smp_events.specs.Traces.{all_fresh, events_of}
 use Rattle.smp_replay_laws.specs.Accepted.{AreWordsOf, FitsCpus, IsAccepted}
-use Rattle.smp_replay_laws.specs.Steps.{ArgFits}
-use Rattle.smp_replay_laws.specs.Texts.{AreTold, ReadsBack, TextsOfReplaysAreLawful, labels_or, trace_text, traced}
+use Rattle.smp_replay_laws.specs.Texts.{AreTold, ArgFits, ReadsBack, TextsOfReplaysAreLawful, labels_or, trace_text, traced}
 use Rattle.smp_replay_laws.proofs.AllReplays.{all_begun, replays_are_accepted}
+use Rattle.smp_replay_laws.proofs.TextCpus.{few_cpus, trace_mask}
+use Rattle.smp_replay_laws.proofs.TextNew.{labels_are, limits_are, new_none, new_whole}
 use Rattle.smp_replay_laws.proofs.TextTold.{fresh_pasts, new_args, replay_tells}
 use Rattle.smp_replay_laws.proofs.TextTraces.{texts_read_back}
 use Rattle.smp_event_steps.specs.declared.without.Setting.{Setting}
@@ -53,10 +49,6 @@ words_are nr online labels few = record {
   entries = λ site. refl;
   sites = λ site. refl;
 }
-
-few_sites : (labels : Option Labels) → LabelsFit labels → length (labels_or labels).entries ≤ MOST_SITES
-few_sites None fit = omega arith
-few_sites (Some labels) fit = fit.few_sites
 
 -- a text that reads back as a run is lawful
 pub run_is_lawful : (text : List ℕ) (u : Setting) (words : LabelWords) (events : List (ℕ × Event)) (t : StateValue) → ReadsBack text u words events
@@ -87,16 +79,23 @@ told_of_replay nr online labels commands core steps stopped few whole none fits 
     subst (λ (r : Replayed). AreTold u (events_of all_fresh r.seen)) (sym is_replay) told
 
 pub texts_are_lawful : TextsOfReplaysAreLawful
-texts_are_lawful text script commands core steps stopped lawful whole none fits args is_replay within =
+texts_are_lawful text script commands core steps stopped lawful fits args is_replay within =
     let labels = labels_or script.labels in
     let events = events_of all_fresh steps in
     let spelled = script_is_spelled Replay text script lawful in
-    let few = few_sites script.labels spelled.2.labels in
+    let mask = spelled.0 in
+    let s = spelled.2 in
+    let are = labels_are script.labels s.labels in
+    let few = few_cpus script.version in
+    let limits = limits_are script.nr script.online mask s.some (omega (arith, s.within, few))
+    (trace_mask script.version mask script.online s.mask_is.reads) s.online in
+    let whole = new_whole script.nr script.online labels limits are in
+    let none = new_none script.nr script.online labels limits are in
     let accepted : IsAccepted (traced script) (words_of labels) steps core =
     replays_are_accepted script.nr script.online labels commands core steps stopped (traced script) (words_of labels) whole none fits is_replay
-    (record { online = refl; whole = refl }) (words_are script.nr script.online labels few) in
+    (record { online = refl; whole = refl }) (words_are script.nr script.online labels are.few_sites) in
     let told : AreTold (traced script) events =
-    told_of_replay script.nr script.online labels commands core steps stopped few whole none fits args is_replay in
+    told_of_replay script.nr script.online labels commands core steps stopped are.few_sites whole none fits args is_replay in
     record {
       accepted = accepted;
       verdict = run_is_lawful (trace_text text script events) (traced script) (words_of labels) events accepted.end

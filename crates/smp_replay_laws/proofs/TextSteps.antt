@@ -1,10 +1,10 @@
 -- The numbers of what a step tells, where its own numbers are of its types.
-use Rattle.std.proofs.Common.{◌≡◌, ℕ, suc, ℤ, pos, negsuc, ◌+◌, ◌-◌, ◌%◌, ◌<◌, ◌≤◌, ◌^◌, Bool, true, false, ◌&&◌, ◌==◌, nat_lt, cond, List, [], ◌∷◌, min, Option, Some, None}
-use Rattle.std.proofs.Common.{refl, sym, ap, ◌∙◌, inl, inr, arith, subst}
+use Rattle.std.proofs.Common.{◌≡◌, ℕ, ◌-◌, ◌%◌, ◌<◌, ◌≤◌, ◌^◌, Bool, true, false, ◌&&◌, ◌==◌, nat_lt, cond, Option, Some, None}
+use Rattle.std.proofs.Common.{refl, sym, arith, subst}
 use Rattle.std.specs.Prelude.{unwrap_or}
 use Rattle.std.specs.Int.{w32, cast_signed}
 use Rattle.std.specs.List.{AllByRecursion}
-use Rattle.std.proofs.lemmas.Bool.{cases_Bool, cases_lt}
+use Rattle.std.proofs.lemmas.Bool.{cases_lt}
 use Rattle.std.proofs.lemmas.Bool.Decides.{nat_tests}
 use Rattle.smp_mask.specs.Mask.{has}
 use Rattle.smp_labels.specs.Keys.{is_on}
@@ -30,8 +30,35 @@ use Rattle.smp_events.specs.Told.{of_slot, of_state, of_todo, of_unlock, told_of
 use Rattle.smp_events.specs.declared.past.Past.{Past}
 use Rattle.smp_events.specs.declared.told.Told.{Told}
 use Rattle.smp_events.specs.declared.told.Told.TheVariants as told
-use Rattle.smp_replay_laws.specs.Steps.{NoteFits, PutFits, StepFits, WordFits}
 use Rattle.smp_replay_laws.specs.Texts.{EventFits, StopFits}
+
+-- the number in a word's name is of its type, where an event tells it
+abbrev pub WordFits : Word → Type 0
+WordFits (word.Head cpu) = cpu < 2 ^ 32
+WordFits (word.Intr cpu) = cpu < 2 ^ 32
+WordFits (word.Slot source f) = source < 2 ^ 32
+WordFits _ = Unit {0}
+
+-- so are those of a note
+abbrev pub NoteFits : Option Note → Type 0
+NoteFits (Some (note.Call source func info)) = (func < 2 ^ 16) × (info < 2 ^ 64)
+NoteFits (Some (note.Run func arg)) = (func < 2 ^ 16) × (arg < 2 ^ 64)
+NoteFits (Some (note.Result answer)) = IsAnswer answer
+NoteFits _ = Unit {0}
+
+-- and what a step puts where a function or its argument is kept
+abbrev pub PutFits : Word → ℕ → Type 0
+PutFits (word.Func id) put = put < 2 ^ 64
+PutFits (word.Info id) put = put < 2 ^ 64
+PutFits (word.Slot source field.Func) put = put < 2 ^ 64
+PutFits (word.Slot source field.Arg) put = put < 2 ^ 64
+PutFits _ put = Unit {0}
+
+-- the numbers of a step are of its types
+pub record StepFits (s : Seen) : Type 0 where
+  pub word : WordFits s.word
+  pub put : PutFits s.word (unwrap_or s.put 0)
+  pub note : NoteFits s.note
 
 -- what a CPU has kept has numbers of its types
 pub record PastFits (p : Past) : Type 0 where

@@ -1,27 +1,24 @@
 -- The numbers of the steps of stops are of their types, where those of each stop that begins are.
-use Rattle.std.proofs.Common.{◌≡◌, ◌≢◌, ℕ, ◌+◌, ◌%◌, ◌<◌, ◌^◌, Bool, true, false, ◌&&◌, ◌==◌, cond, List, [], ◌∷◌, Option, Some, None, refl, sym, ap, ◌∙◌, subst, inl, inr}
-use Rattle.std.proofs.Common.{◌⊎◌, arith}
+use Rattle.std.proofs.Common.{◌≡◌, ℕ, ◌+◌, ◌<◌, ◌^◌, Bool, true, false, ◌==◌, cond, List, Option, Some, None, refl}
 use Rattle.smp_mask.specs.Mask.{has}
 use Rattle.smp_labels.specs.Keys.{change_of, count_after, is_on}
 use Rattle.smp_labels.specs.Kinds.{xor}
 use Rattle.smp_labels.specs.declared.patch.Place.TheVariants as place
-use Rattle.smp_words.specs.Access.{at_after, put_by, put_if, seen_of, word_of}
-use Rattle.smp_words.specs.Put.{put_word, same_word}
+use Rattle.smp_words.specs.Access.{at_after, put_by, word_of}
+use Rattle.smp_words.specs.Put.{same_word}
 use Rattle.smp_words.specs.Size.{cpus}
 use Rattle.smp_words.specs.declared.access.Access.{Access}
 use Rattle.smp_words.specs.declared.command.Command.{Command}
 use Rattle.smp_words.specs.declared.command.Command.TheVariants as command
 use Rattle.smp_words.specs.declared.field.Field.{Field}
 use Rattle.smp_words.specs.declared.field.Field.TheVariants as field
-use Rattle.smp_words.specs.declared.seen.Note.{Note}
 use Rattle.smp_words.specs.declared.seen.Note.TheVariants as note
 use Rattle.smp_words.specs.declared.word.Word.{Word}
 use Rattle.smp_words.specs.declared.word.Word.TheVariants as word
 use Rattle.smp_words.specs.declared.work.Work.{Work}
 use Rattle.smp_stop_steps.specs.Labels.{Change}
-use Rattle.smp_stop_steps.specs.Slots.{begun_value}
 use Rattle.smp_stop_steps.specs.Stages.{StopControlValue, StopOutcome, begun_next, change_at, completion_outcome, completes_from, key_on, looked_on, nudge_of}
-use Rattle.smp_stop_steps.specs.Stages.{nudge_on, round_outcome, stop_access, stop_ends, stop_goes, stop_outcome, turn_ends, turn_note, visit_acked}
+use Rattle.smp_stop_steps.specs.Stages.{nudge_on, round_outcome, stop_access, stop_ends, stop_goes, stop_outcome, turn_ends, visit_acked}
 use Rattle.smp_stop_steps.specs.Start.{answer_word, in_visit, stop_first}
 use Rattle.smp_stop_steps.specs.Tells.{is_multi}
 use Rattle.smp_stop_steps.specs.declared.stage.CompletionStage.{CompletionStage}
@@ -29,12 +26,10 @@ use Rattle.smp_stop_steps.specs.declared.stage.CompletionStage.TheVariants as co
 use Rattle.smp_stop_steps.specs.declared.stage.RoundStage.{RoundStage}
 use Rattle.smp_stop_steps.specs.declared.stage.RoundStage.TheVariants as round
 use Rattle.smp_stop_steps.specs.declared.stage.StopStage.{StopStage}
-use Rattle.smp_stop_steps.specs.declared.stage.StopStage.TheVariants.{TakeGate, OpenGate, Begin, Enter, EnterKind, EnterMask, EnterActive, ReadKey}
-use Rattle.smp_stop_steps.specs.declared.stage.StopStage.TheVariants.{ReadSite, NudgeKey, Advance, Complete, Close, LoadDone, LoadResult, ExchangeKey}
+use Rattle.smp_stop_steps.specs.declared.stage.StopStage.TheVariants.{TakeGate, Begin, Enter, EnterKind}
+use Rattle.smp_stop_steps.specs.declared.stage.StopStage.TheVariants.{NudgeKey, Advance, Complete, Close, LoadDone, LoadResult, ExchangeKey}
 use Rattle.smp_stop_steps.specs.declared.stage.Visit.{Visit}
-use Rattle.smp_replay_laws.specs.Steps.{NoteFits, PutFits, StepFits, WordFits}
 use Rattle.smp_replay_laws.proofs.StopSteps.{word_kept}
-use Rattle.smp_replay_laws.proofs.TextSteps.{answer_fits}
 
 -- the function and the argument of a stop that begins
 abbrev pub BeginFits : Option StopStage → Type 0

@@ -1,5 +1,5 @@
 -- The events of a replay have numbers that a trace may tell.
-use Rattle.std.proofs.Common.{◌≡◌, ◌≢◌, ℕ, ◌+◌, ◌<◌, ◌^◌, Bool, true, false, List, [], ◌∷◌, ◌++◌, map, length, replicate, Option, Some, None, refl, ap, sym, ◌∙◌, subst}
+use Rattle.std.proofs.Common.{◌≡◌, ℕ, ◌+◌, ◌<◌, true, List, [], ◌∷◌, ◌++◌, map, length, Option, Some, None, refl, ap, sym, ◌∙◌, subst}
 use Rattle.std.proofs.Common.{inl, inr, arith}
 use Rattle.std.specs.List.{AllByRecursion}
 use Rattle.std.proofs.lemmas.Bool.{cases_Bool, cases_eq, eq-eqb, ne_eqb, true≢false}
@@ -33,7 +33,7 @@ use Rattle.smp_stop_steps.specs.Start.{stop_first}
 use Rattle.smp_stop_steps.specs.Value.{stop_control_of}
 use Rattle.smp_stop_steps.specs.declared.stage.StopStage.{StopStage}
 use Rattle.smp_core.specs.Machine.{found_at, seen_at, step_at, stepped, stop_step, stops_stepped}
-use Rattle.smp_core.specs.Replay.{Replay, after_seen, replay_from, replay_on, start_turn, step_turn}
+use Rattle.smp_core.specs.Replay.{Replay, replay_from, replay_on, start_turn, step_turn}
 use Rattle.smp_core.specs.Start.{refusal_of, started}
 use Rattle.smp_core.specs.Value.{CoreValue}
 use Rattle.smp_core.specs.Whole.{IsWhole}
@@ -46,15 +46,14 @@ use Rattle.smp_events.specs.Told.{events_in, told_of}
 use Rattle.smp_events.specs.Traces.{all_fresh, events_of, events_of_step, kept}
 use Rattle.smp_events.specs.declared.past.Past.{Past}
 use Rattle.smp_replay_laws.specs.Accepted.{BeginsOfCpus, FitsCpus}
-use Rattle.smp_replay_laws.specs.Steps.{ArgFits, StepFits}
-use Rattle.smp_replay_laws.specs.Texts.{AreTold, EventFits, IsTold}
+use Rattle.smp_replay_laws.proofs.TextSteps.{InRange, PastFits, StepFits, after_fits, fresh_fits, told_fits}
+use Rattle.smp_replay_laws.specs.Texts.{AreTold, ArgFits, EventFits}
 use Rattle.smp_replay_laws.proofs.Halves.{is_call_word, call_word}
 use Rattle.smp_replay_laws.proofs.Pasts.{past_else, past_here}
 use Rattle.smp_replay_laws.proofs.StopBegins.{begun_else, begun_fits, begun_here, begun_labels, begun_table}
 use Rattle.smp_replay_laws.proofs.TextCalls.{call_fits}
 use Rattle.smp_replay_laws.proofs.TextNotes.{stop_fits}
 use Rattle.smp_replay_laws.proofs.TextRanges.{stage_ranged}
-use Rattle.smp_replay_laws.proofs.TextSteps.{InRange, PastFits, after_fits, fresh_fits, told_fits}
 use Rattle.smp_replay_laws.proofs.TextStops.{ArgsFit, BeginFits, WorkFits, first_begins, stage_args, stage_begins}
 use Rattle.smp_replay_laws.proofs.Wholes.{StandsAll, below, by_name_stops, call_stands, named, quiet, reached, reached_stops, start_stands, stop_below, stop_stands, told_stops}
 

@@ -1,16 +1,15 @@
 -- The trace of a script reads back.
-use Rattle.std.proofs.Common.{◌≡◌, ℕ, suc, ◌+◌, ◌<◌, ◌≤◌, Bool, true, false, List, [], ◌∷◌, ◌++◌, drop, length, Option, Some, None, is_some, Result, Ok, codes}
+use Rattle.std.proofs.Common.{◌≡◌, ℕ, suc, ◌+◌, ◌≤◌, true, false, List, [], ◌∷◌, ◌++◌, length, Option, Some, None, is_some, Ok, codes}
 use Rattle.std.proofs.Common.{refl, sym, ap, ◌∙◌, append_assoc, append-nil, arith, subst}
 use Rattle.std.specs.List.{join_with_byte, list_all}
 use Rattle.std.proofs.lemmas.List.{length-append}
-use Rattle.smp_labels.specs.Labels.{AreLabels, Labels}
-use Rattle.smp_labels.specs.declared.words.LabelWords.{LabelWords}
+use Rattle.smp_labels.specs.Labels.{Labels}
 use Rattle.smp_script.specs.Fields.{mask_of}
-use Rattle.smp_script.specs.Lines.{Line, lines_of}
+use Rattle.smp_script.specs.Lines.{lines_of}
 use Rattle.smp_script.specs.Modes.{mode_text}
 use Rattle.smp_script.specs.Script.{Script, are_online, script_of}
-use Rattle.smp_script.specs.Spelling.{IsSpelling, LabelsFit, is_field, labels_before, line_before, spelled_lines}
-use Rattle.smp_script.specs.Versions.{limit_of, version_text}
+use Rattle.smp_script.specs.Spelling.{LabelsFit, is_field, labels_before, line_before, spelled_lines}
+use Rattle.smp_script.specs.Versions.{version_text}
 use Rattle.smp_script.specs.declared.mode.Mode.TheVariants.{Replay}
 use Rattle.smp_script.specs.declared.version.Version.{Version}
 use Rattle.smp_script.specs.declared.version.Version.TheVariants.{One, Two}
@@ -18,13 +17,12 @@ use Rattle.smp_script.proofs.Spelled.Readings.{script_is_spelled}
 use Rattle.smp_script.proofs.Texts.Joins.{lines_of-line}
 use Rattle.smp_script.proofs.Written.LabelWriting.{labels_fields}
 use Rattle.smp_event_steps.specs.declared.event.Event.{Event}
-use Rattle.smp_event_steps.specs.declared.without.Setting.{Setting}
-use Rattle.smp_judge.specs.Head.{HeadValue, all_told, head_of, head_with, no_labels, setting_of}
+use Rattle.smp_judge.specs.Head.{all_told, head_of, head_with, no_labels, setting_of}
 use Rattle.smp_judge.specs.Head.{words_of as label_words_of}
-use Rattle.smp_judge.specs.Runs.{told_by}
 use Rattle.smp_events.specs.Front.{front_text}
 use Rattle.smp_events.specs.Traces.{lines_text}
-use Rattle.smp_replay_laws.specs.Texts.{AreShort, AreTold, IsWithin, ReadsBack, TakesAll, labels_or, trace_text, traced}
+use Rattle.smp_replay_laws.specs.Texts.{AreShort, AreTold, IsWithin, ReadsBack, labels_or, trace_text, traced}
+use Rattle.smp_replay_laws.proofs.TextWords.{TakesAll}
 use Rattle.smp_replay_laws.proofs.TextCpus.{cpus_fields, cpus_words, few_cpus, labels_words, trace_mask}
 use Rattle.smp_replay_laws.proofs.TextHeads.{HasRoom, ended, labels_read, no_labels_read, online_read, spot, title_read, without_read}
 use Rattle.smp_replay_laws.proofs.TextLines.{count_lines, lines_tell}

@@ -1,10 +1,8 @@
 -- The words of an event, and that they read back.
-use Rattle.std.proofs.Common.{◌≡◌, ℕ, ◌<◌, ◌≤◌, ◌^◌, Bool, true, false, nat_lt, List, [], ◌∷◌, ◌++◌, Ok, codes, refl, sym, ap, ◌∙◌, append_assoc, arith, subst}
+use Rattle.std.proofs.Common.{◌≡◌, ℕ, ◌<◌, ◌≤◌, true, List, [], ◌∷◌, Ok, codes, refl, append_assoc, arith}
 use Rattle.std.specs.Fmt.{decimal, signed_decimal}
 use Rattle.std.specs.List.{join_with_byte, list_all}
 use Rattle.std.proofs.lemmas.Bool.Decides.{nat_tests}
-use Rattle.smp_mask.specs.declared.error.Cause.{Cause}
-use Rattle.smp_mask.specs.Mask.{has}
 use Rattle.smp_event_steps.specs.declared.event.CallEvent.{CallEvent}
 use Rattle.smp_event_steps.specs.declared.event.CallEvent.TheVariants as calls
 use Rattle.smp_event_steps.specs.declared.event.Event.{Event}
@@ -16,11 +14,17 @@ use Rattle.smp_event_steps.specs.declared.event.StopEvent.TheVariants as stops
 use Rattle.smp_event_steps.specs.declared.without.Setting.{Setting}
 use Rattle.smp_script.specs.Spelling.{is_field}
 use Rattle.smp_script.proofs.Texts.Decimals.{is_field-decimal, number_in-decimal}
-use Rattle.smp_judge.specs.Reading.{below, event_of, named_of}
+use Rattle.smp_judge.specs.Reading.{below, named_of}
 use Rattle.smp_events.specs.Text.{call_text, class_text, event_text, kind_text, label_text, mask_text, site_text, stop_text, switch_text, way_text}
 use Rattle.smp_replay_laws.specs.Follows.{nothing_left_out}
 use Rattle.smp_replay_laws.specs.Texts.{CallFits, EventFits, LabelFits, StopFits}
-use Rattle.smp_replay_laws.proofs.TextFields.{class_told, kind_told, mask_told, member_told, signed_field, signed_told, site_told, switch_told, way_told}
+use Rattle.smp_replay_laws.proofs.TextFields.{class_told, kind_told, mask_told, signed_field, signed_told, site_told, switch_told, way_told}
+
+-- a trace leaves nothing out, and its keys and sites have numbers of 32 bits
+pub record TakesAll (u : Setting) : Type 0 where
+  pub whole : u.without ≡ nothing_left_out
+  pub keys : u.keys ≤ 4294967295
+  pub sites : u.sites ≤ 4294967295
 
 -- the name of an event, and what is behind it
 pub record Words : Type 0 where

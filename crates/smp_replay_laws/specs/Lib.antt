@@ -3,4 +3,3 @@ pub mod Follows
 pub mod Stops
 pub mod Patches
 pub mod Texts
-pub mod Steps

@@ -5,18 +5,17 @@ use Rattle.smp_labels.specs.Labels.{Labels}
 use Rattle.smp_labels.specs.declared.words.LabelWords.{LabelWords}
 use Rattle.smp_mask.specs.Mask.{has}
 use Rattle.smp_mask.specs.declared.error.SmpError.{SmpError}
+use Rattle.smp_words.specs.declared.command.Command.TheVariants as started
 use Rattle.smp_words.specs.declared.command.Event.{Event as Command}
+use Rattle.smp_words.specs.declared.command.Event.TheVariants as command
 use Rattle.smp_words.specs.declared.seen.Seen.{Seen}
 use Rattle.smp_script.specs.Lines.{Line, lines_of}
 use Rattle.smp_script.specs.Script.{Script, script_of}
 use Rattle.smp_script.specs.Spelling.{IsAnswer}
 use Rattle.smp_script.specs.declared.mode.Mode.TheVariants.{Replay}
-use Rattle.smp_stop_steps.specs.State.{no_stops}
-use Rattle.smp_stop_steps.specs.Value.{StopShown}
 use Rattle.smp_core.specs.New.{new_core}
 use Rattle.smp_core.specs.Runs.{IsReplay}
 use Rattle.smp_core.specs.Value.{CoreValue}
-use Rattle.smp_core.specs.Whole.{IsWhole}
 use Rattle.smp_event_steps.specs.declared.event.CallEvent.{CallEvent}
 use Rattle.smp_event_steps.specs.declared.event.CallEvent.TheVariants as calls
 use Rattle.smp_event_steps.specs.declared.event.Event.{Event}
@@ -32,8 +31,6 @@ use Rattle.smp_judge.specs.Verdict.{verdict_of}
 use Rattle.smp_events.specs.Front.{front_text}
 use Rattle.smp_events.specs.Traces.{all_fresh, events_of, lines_text}
 use Rattle.smp_replay_laws.specs.Accepted.{FitsCpus, IsAccepted}
-use Rattle.smp_replay_laws.specs.Follows.{nothing_left_out}
-use Rattle.smp_replay_laws.specs.Steps.{ArgFits}
 
 -- the numbers of an event of calls are of its types
 abbrev pub CallFits : CallEvent → Type 0
@@ -75,12 +72,6 @@ IsTold u (cpu, e) = (cpu < 32) × (has u.online cpu ≡ true) × EventFits u e
 
 abbrev pub AreTold : Setting → List (ℕ × Event) → Type 0
 AreTold u events = AllByRecursion (IsTold u) events
-
--- a trace leaves nothing out, and its keys and sites have numbers of 32 bits
-pub record TakesAll (u : Setting) : Type 0 where
-  pub whole : u.without ≡ nothing_left_out
-  pub keys : u.keys ≤ 4294967295
-  pub sites : u.sites ≤ 4294967295
 
 -- each line has at most 1024 bytes, with its line feed
 abbrev pub AreShort : List Line → Type 0
@@ -127,11 +118,16 @@ pub record IsJudged (script : Script) (text : List ℕ) (steps : List Seen) (cor
   pub accepted : IsAccepted (traced script) (words_of (labels_or script.labels)) steps core
   pub verdict : verdict_of text ≡ Ok (length (events_of all_fresh steps), accepted.end)
 
+-- the argument of a stop that begins is of 64 bits
+abbrev pub ArgFits : Command → Type 0
+ArgFits (command.Start cpu (started.Begin work)) = work.arg < 2 ^ 64
+ArgFits _ = Unit {0}
+
 -- The trace of each replay of a script, from a machine in which nothing was begun, is judged lawful within the limits of the judge,
 -- where the numbers of its commands are of their types.
 abbrev pub TextsOfReplaysAreLawful : Type 0
 TextsOfReplaysAreLawful = (text : List ℕ) (script : Script) (commands : List Command) (core : CoreValue) (steps : List Seen)
     (stopped : Option (ℕ × SmpError)) → let first = new_core script.nr script.online (labels_or script.labels) in
     let trace = trace_text text script (events_of all_fresh steps) in
-    script_of Replay text ≡ Ok script → IsWhole first → StopShown no_stops first.stops → AllByRecursion FitsCpus commands
-    → AllByRecursion ArgFits commands → IsReplay first commands core steps stopped → IsWithin trace → IsJudged script trace steps core
+    script_of Replay text ≡ Ok script → AllByRecursion FitsCpus commands → AllByRecursion ArgFits commands
+    → IsReplay first commands core steps stopped → IsWithin trace → IsJudged script trace steps core

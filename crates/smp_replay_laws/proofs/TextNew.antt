@@ -1,0 +1,137 @@
+-- The machine of a script, before its first command.
+use Rattle.std.proofs.Common.{◌≡◌, ℕ, zero, suc, ◌-◌, ◌<◌, ◌≤◌, Bool, true, false, nat_lt, List, [], ◌∷◌, ◌++◌, map, get_or, length, replicate, Option, Some, None, Result, Ok, Err, codes}
+use Rattle.std.proofs.Common.{refl, sym, ap, ◌∙◌, inl, inr, arith, cond}
+use Rattle.std.specs.Str.{bytes_eq}
+use Rattle.std.proofs.lemmas.Bool.{and_parts, cases_Bool, true≢false}
+use Rattle.std.proofs.lemmas.Bool.Decides.{nat_tests}
+use Rattle.std.proofs.lemmas.List.{length-append, length-map, length-replicate}
+use Rattle.smp_mask.specs.Mask.{has, members}
+use Rattle.smp_mask.specs.Reading.{mask_of_text}
+use Rattle.smp_mask.specs.declared.error.Cause.{Cause}
+use Rattle.smp_mask.specs.declared.error.Cause.TheVariants.{Mask}
+use Rattle.smp_mask.specs.declared.error.SmpError.{SmpError}
+use Rattle.smp_mask.specs.declared.mask.TheConstants.{NR_CPUS}
+use Rattle.smp_mask.proofs.Members.{item_member}
+use Rattle.smp_mask.proofs.Sets.{has_none}
+use Rattle.smp_mask.proofs.Walks.{accepted}
+use Rattle.smp_labels.specs.Entries.{entry_at, entry_word}
+use Rattle.smp_labels.specs.Labels.{AreLabels, Labels, first_site}
+use Rattle.smp_labels.specs.Law.{IsLawful, site_word}
+use Rattle.smp_labels.specs.declared.entries.Entry.{Entry}
+use Rattle.smp_labels.specs.declared.words.TheConstants.{MOST_KEYS, MOST_SITES}
+use Rattle.smp_labels.proofs.Filled.{filled_lawful}
+use Rattle.smp_labels.proofs.Lawful.{entry_at-word}
+use Rattle.smp_words.specs.Limits.{AreLimits}
+use Rattle.smp_words.specs.Size.{cpus, table_size}
+use Rattle.smp_words.specs.declared.field.Field.TheVariants as field
+use Rattle.smp_words.specs.declared.size.TheConstants.{SLOT_WORDS}
+use Rattle.smp_words.proofs.Zeros.{get_or-same, zero_at}
+use Rattle.smp_call_steps.specs.Calls.{no_calls}
+use Rattle.smp_call_steps.specs.Stages.{ControlValue}
+use Rattle.smp_call_steps.specs.Value.{outside}
+use Rattle.smp_call_steps.proofs.Machine.Starts.{new_shown}
+use Rattle.smp_stop_steps.specs.Labels.{labels_in}
+use Rattle.smp_stop_steps.specs.New.{new_stop_words, new_stops}
+use Rattle.smp_stop_steps.specs.Stages.{StopControlValue, stop_outside}
+use Rattle.smp_stop_steps.specs.State.{no_stops}
+use Rattle.smp_stop_steps.specs.Table.{slot_cell, stop_number}
+use Rattle.smp_stop_steps.specs.Value.{StopShown}
+use Rattle.smp_stop_steps.proofs.TheMachine.Opened.{opened_shown}
+use Rattle.smp_core.specs.New.{new_core}
+use Rattle.smp_core.specs.Whole.{IsWhole}
+use Rattle.smp_core.proofs.Offline.{new_apart}
+use Rattle.smp_core.proofs.OfflineStops.{new_stops_apart}
+use Rattle.smp_script.specs.Fields.{mask_of, or_mask, stays_below}
+use Rattle.smp_script.specs.Script.{are_online}
+use Rattle.smp_script.specs.Spelling.{LabelsFit}
+use Rattle.smp_script.proofs.Reader.Widths.{mask_below, member_below}
+use Rattle.smp_replay_laws.specs.Texts.{labels_or}
+
+-- the sites while all keys are off
+sites_off : (es : List Entry) (n i : ℕ)
+    → get_or (map first_site es ++ replicate n 0) i 0 ≡ site_word (λ _. 0) (entry_at (get_or (map entry_word es ++ replicate n 0) i 0))
+sites_off [] n i = rw (get_or-same {A = ℕ} 0 n i) refl
+sites_off (e ∷ es) n zero = rw (entry_at-word e) refl
+sites_off (e ∷ es) n (suc i) = sites_off es n i
+
+new_lawful : (labels : Labels) → AreLabels labels.keys labels.entries → IsLawful (labels_in (stop_number (new_stop_words labels)))
+new_lawful labels are = filled_lawful labels.keys labels.entries (map first_site labels.entries ++ replicate (MOST_SITES - length labels.entries) 0) are
+    (λ i. sites_off labels.entries (MOST_SITES - length labels.entries) i)
+
+pub new_none : (nr online : ℕ) (labels : Labels) → AreLimits nr online → AreLabels labels.keys labels.entries → StopShown no_stops (new_stops nr online labels)
+new_none nr online labels limits are = opened_shown online labels (new_stop_words labels) (replicate cpus stop_outside) limits.member
+    (λ cpu on. let l = limits.below cpu on in let w = limits.within in omega (arith, l, w)) are refl refl refl (new_lawful labels are) refl refl
+
+filled_sites : (word : Entry → ℕ) (es : List Entry) → length es ≤ MOST_SITES → length (map word es ++ replicate (MOST_SITES - length es) 0) ≡ MOST_SITES
+filled_sites word es few = length-append (map word es) (replicate (MOST_SITES - length es) 0)
+    ∙ rw (length-map es word, length-replicate {A = ℕ} (MOST_SITES - length es) 0) (omega (arith, few))
+
+pub new_whole : (nr online : ℕ) (labels : Labels) → AreLimits nr online → AreLabels labels.keys labels.entries → IsWhole (new_core nr online labels)
+new_whole nr online labels limits are =
+    let none = new_none nr online labels limits are in
+    let words = replicate table_size 0 in
+    let controls = replicate cpus outside in
+    record {
+      sound = record {
+        limits = limits;
+        table = record {
+          words_sized = length-replicate {A = ℕ} table_size 0;
+          controls_sized = length-replicate {A = ControlValue} cpus outside;
+          calls = no_calls;
+          shown = new_shown words controls refl refl;
+        };
+        stops_nr = refl;
+        stops_online = refl;
+        apart = new_apart online words controls refl refl;
+        stops_apart = new_stops_apart (new_stops nr online labels) none refl;
+      };
+      stops = record {
+        sized = length-replicate {A = StopControlValue} cpus stop_outside;
+        table_is = record {
+          slots = length-replicate {A = ℕ} SLOT_WORDS 0;
+          keys = length-replicate {A = ℕ} MOST_KEYS 0;
+          entries = filled_sites entry_word labels.entries are.few_sites;
+          sites = filled_sites first_site labels.entries are.few_sites;
+        };
+        phases = λ s. rw (zero_at SLOT_WORDS (slot_cell s field.State)) (omega arith);
+        results = λ s. rw (zero_at SLOT_WORDS (slot_cell s field.Result)) (omega arith);
+        answers = λ cpu. rw (get_or-same stop_outside cpus cpu) (record { visit = tt; stage = tt });
+        stops = no_stops;
+        shown = none;
+      };
+    }
+
+-- the labels of a script are lawful
+pub labels_are : (labels : Option Labels) → LabelsFit labels → AreLabels (labels_or labels).keys (labels_or labels).entries
+labels_are None fit = record { few_keys = omega arith; few_sites = omega arith; known = λ k d l. absurd (omega (arith, l)) }
+labels_are (Some labels) fit = fit
+
+-- a mask that was read is of CPUs
+read_so : (low : Bool) (mask m : ℕ) → ◌≡◌ {A = Result ℕ Cause} (cond low (Ok mask) (Err Mask)) (Ok m) → ◌≡◌ {A = Result ℕ SmpError} (Ok mask) (Ok m)
+read_so true mask m h = let same : mask ≡ m = cc in ap (λ n. Ok n) same
+read_so false mask m h = absurd cc
+
+list_read : (read : Result ℕ SmpError) (m : ℕ) → or_mask 32 read ≡ Ok m → read ≡ Ok m
+list_read (Ok mask) m h = read_so (stays_below 32 mask) mask m h
+list_read (Err error) m h = absurd cc
+
+are_cpus : (text : List ℕ) (m : ℕ) → mask_of 32 text ≡ Ok m → (cpu : ℕ) → has m cpu ≡ true → cpu < NR_CPUS
+are_cpus text m h cpu on = elim (cases_Bool (bytes_eq text (codes "-"))) [
+  | inl none ↦
+      let read : ◌≡◌ {A = Result ℕ Cause} (Ok 0) (Ok m) = rw none at h in
+      let zero_ : 0 ≡ m = cc in
+      absurd (true≢false (sym (ap (λ n. has n cpu) zero_ ∙ on) ∙ has_none cpu))
+  | inr some ↦ mask_below NR_CPUS text m (accepted NR_CPUS (omega arith) text m (list_read (mask_of_text NR_CPUS text) m (rw some at h))) cpu on
+]
+
+-- the CPUs of a script are those of a machine
+pub limits_are : (nr online : ℕ) (mask : List ℕ) → 1 ≤ nr → nr ≤ 32 → mask_of 32 mask ≡ Ok online → are_online nr online ≡ true → AreLimits nr online
+limits_are nr online mask some few read are =
+    let p = and_parts (nat_lt 0 (length (members online))) (stays_below nr online) are in
+    let long : 0 < length (members online) = grind (arith, nat_tests, p.0) in
+    record {
+      some = omega arith;
+      within = omega arith;
+      member = (get_or (members online) 0 0, (item_member online NR_CPUS 0 0 long).1);
+      below = member_below nr online (are_cpus mask online read) p.1;
+    }
