@@ -2,7 +2,7 @@
 
 ghost use Rattle.smp_replay_laws.specs.Accepted.{CallsOfReplaysAreAccepted, ReplaysAreAccepted};
 ghost use Rattle.smp_replay_laws.specs.Patches.{PatchesStoreThePlan};
-ghost use Rattle.smp_replay_laws.specs.Texts.{TextsOfReplaysAreLawful, TextsReadBack};
+ghost use Rattle.smp_replay_laws.specs.Texts.{TextsOfReplaysAreLawful, TextsReadBack, TracesAreLawful};
 
 /// Each replay of a machine in which nothing was begun is accepted: the model of events has a run of the events that its steps tell,
 /// in any order of steps, whatever commands are refused on the way. So `smp judge` refuses nothing that the machine does. The trace
@@ -37,4 +37,10 @@ pub fn texts_of_events_read_back()
 /// that of the machine. The numbers of the steps are of their types, and the text is within the judge's limits.
 pub fn texts_of_replays_are_lawful()
     ensures { TextsOfReplaysAreLawful }
+{}
+
+/// What `smp events` writes of a script is judged lawful by `smp judge`, within the judge's limits: the trace is that of the replay of
+/// the script's commands and steps, up to the first that is refused.
+pub fn traces_of_scripts_are_lawful()
+    ensures { TracesAreLawful }
 {}
