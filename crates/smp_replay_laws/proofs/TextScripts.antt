@@ -1,12 +1,9 @@
 -- The trace of a script is that of its replay, and is judged lawful.
-use Rattle.std.proofs.Common.{◌≡◌, ℕ, zero, suc, ℤ, pos, negsuc, ◌+◌, ◌%◌, ◌<◌, ◌≤◌, ◌^◌, Bool, true, false, ◌&&◌, nat_lt, cond, List, [], ◌∷◌, ◌++◌, map, replicate, length}
-use Rattle.std.proofs.Common.{Option, Some, None, Result, Ok, Err, refl, sym, ap, ◌∙◌, subst, inl, inr, arith}
+use Rattle.std.proofs.Common.{◌≡◌, ℕ, zero, suc, ℤ, pos, negsuc, ◌+◌, cond, List, [], ◌∷◌, ◌++◌, map}
+use Rattle.std.proofs.Common.{Option, Some, None, Result, Ok, Err, refl, sym, ap, subst}
 use Rattle.std.specs.Prelude.{FitsSigned}
 use Rattle.std.specs.Int.{w32}
-use Rattle.std.specs.List.{AllByRecursion, flat_map}
-use Rattle.std.proofs.lemmas.Bool.{cases_Bool, cases_lt}
-use Rattle.std.proofs.lemmas.Bool.Decides.{nat_tests}
-use Rattle.smp_mask.specs.Mask.{has}
+use Rattle.std.specs.List.{AllByRecursion}
 use Rattle.smp_mask.specs.declared.error.SmpError.{SmpError}
 use Rattle.smp_words.specs.declared.command.Command.{Command as Started}
 use Rattle.smp_words.specs.declared.command.Command.TheVariants as started
@@ -14,12 +11,11 @@ use Rattle.smp_words.specs.declared.command.Event.{Event as Command}
 use Rattle.smp_words.specs.declared.command.Event.TheVariants as command
 use Rattle.smp_words.specs.declared.seen.Seen.{Seen}
 use Rattle.smp_core.specs.New.{new_core}
-use Rattle.smp_core.specs.Replay.{Replay as Replayed, replay_from, replay_on, turn_of}
+use Rattle.smp_core.specs.Replay.{replay_from, replay_on, turn_of}
 use Rattle.smp_core.specs.Runs.{IsReplay, replay_made}
 use Rattle.smp_core.specs.Value.{CoreValue}
-use Rattle.smp_script.specs.Fields.{mask_of}
-use Rattle.smp_script.specs.Script.{Script, first_line, script_of}
-use Rattle.smp_script.specs.Spelling.{CommandFits, DirectiveFits, IsAnswer, IsSpelling, Masks, SpellLine, SpellMasks}
+use Rattle.smp_script.specs.Script.{first_line}
+use Rattle.smp_script.specs.Spelling.{CommandFits, DirectiveFits, IsAnswer, Masks, SpellLine, SpellMasks}
 use Rattle.smp_script.specs.Versions.{limit_of}
 use Rattle.smp_script.specs.declared.directive.Directive.{Directive}
 use Rattle.smp_script.specs.declared.directive.Directive.TheVariants as directive
@@ -27,7 +23,7 @@ use Rattle.smp_script.specs.declared.mode.Mode.TheVariants.{Replay}
 use Rattle.smp_script.specs.declared.version.Version.{Version}
 use Rattle.smp_script.proofs.Spelled.Readings.{script_is_spelled}
 use Rattle.smp_replay.specs.Output.{labels_or_none}
-use Rattle.smp_show.specs.Events.{steps_of, trace_of}
+use Rattle.smp_show.specs.Events.{steps_of}
 use Rattle.smp_show.specs.Moments.{moments_at, moments_of, steps_at}
 use Rattle.smp_show.specs.Replays.{rows_of_script}
 use Rattle.smp_show.specs.Trace.{asked_cpu, is_refused, looked_at, rows_of, turns_in, what_of}
@@ -36,8 +32,7 @@ use Rattle.smp_show.specs.declared.moments.Asked.TheVariants.{Turn, Show}
 use Rattle.smp_show.specs.declared.moments.Moment.{Moment}
 use Rattle.smp_show.specs.declared.trace.Row.{Row}
 use Rattle.smp_replay_laws.specs.Accepted.{FitsCpus}
-use Rattle.smp_replay_laws.specs.Stops.{IsOfCpus}
-use Rattle.smp_replay_laws.specs.Texts.{ArgFits, IsWithin, TracesAreLawful, command_in, commands_at, commands_of}
+use Rattle.smp_replay_laws.specs.Texts.{ArgFits, TracesAreLawful, command_in, commands_at, commands_of}
 use Rattle.smp_replay_laws.proofs.TextCpus.{trace_mask}
 use Rattle.smp_replay_laws.proofs.TextNew.{mask_fits}
 use Rattle.smp_replay_laws.proofs.TextRuns.{texts_are_lawful}
