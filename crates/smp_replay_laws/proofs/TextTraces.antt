@@ -179,7 +179,8 @@ head_read nr online mask (Some labels) events t = head_some nr online mask label
 
 -- a trace that is written reads back
 written_back : (nr online : ℕ) (mask : List ℕ) (labels : Option Labels) (events : List (ℕ × Event)) → IsTraced nr online mask labels events
-    → ReadsBack (written nr mask labels (lines_text events)) (setting_of online (labels_or_none labels) all_told) (label_words_of (labels_or_none labels)) events
+    → ReadsBack (written nr mask labels (lines_text events)) (setting_of online (labels_or_none labels) all_told)
+    (label_words_of (labels_or_none labels)) events
 written_back nr online mask labels events t =
     let h = head_read nr online mask labels events t in
     let u = setting_of online (labels_or_none labels) all_told in
