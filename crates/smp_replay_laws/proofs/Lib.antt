@@ -50,3 +50,4 @@ pub mod TextCalls
 pub mod TextStops
 pub mod TextNotes
 pub mod TextNew
+pub mod TextScripts

@@ -98,7 +98,8 @@ room_first : (u : Setting) (number used cpu : ℕ) (e : Event) (events : List (�
 room_first u number used cpu e events all told room =
     let long : length (line_text cpu e ++ lines_text events) ≡ length (told_line cpu e) + 1 + length (lines_text events) =
     length-append (line_text cpu e) (lines_text events) ∙ ap (λ k. k + length (lines_text events)) (length_line cpu e) in
-    let shorts : AreShort (ended (told_line cpu e) ∷ lines_of (lines_text events)) = subst AreShort (first_line u cpu e (lines_text events) all told) room.short in
+    let shorts : AreShort (ended (told_line cpu e) ∷ lines_of (lines_text events)) =
+    subst AreShort (first_line u cpu e (lines_text events) all told) room.short in
     used_within number used (told_line cpu e) (omega (arith, room.lines)) shorts.0 (omega (arith, long, room.bytes))
 
 -- the lines of events are no labels

@@ -61,7 +61,9 @@ line_tells u n cpu e all (small, online, fits) =
     let plain : is_comment (told_line cpu e) ≡ false = no_comment (decimal cpu) (32 ∷ join_with_byte 32 (event_words e))
     (is_field-decimal cpu (omega (arith, small))) (decimal_lacks 35 cpu refl (omega (arith, small))) in
     let reads = words_read u e all.whole all.keys all.sites fits in
-    rw (plain, line_words u cpu e all told) (rw (whole_fields (decimal cpu ∷ event_words e) (line_fields u cpu e all told), reads.read, member_told u.online cpu (omega (arith, small)) online) refl)
+    let whole = whole_fields (decimal cpu ∷ event_words e) (line_fields u cpu e all told) in
+    let member = member_told u.online cpu (omega (arith, small)) online in
+    rw (plain, line_words u cpu e all told) (rw (whole, reads.read, member) refl)
 
 -- a line within the limits
 pub used_within : (n used : ℕ) (text : List ℕ) → n ≤ 1000000 → length text < 1024 → used + length text < 16777216
@@ -88,7 +90,8 @@ lines_tell u n used ((cpu, e) ∷ events) all told few room short =
     let text = told_line cpu e in
     let rest = lines_text events in
     let first = first_line u cpu e rest all told.0 in
-    let long : length (line_text cpu e ++ rest) ≡ length text + 1 + length rest = length-append (line_text cpu e) rest ∙ ap (λ k. k + length rest) (length_line cpu e) in
+    let long : length (line_text cpu e ++ rest) ≡ length text + 1 + length rest =
+    length-append (line_text cpu e) rest ∙ ap (λ k. k + length rest) (length_line cpu e) in
     let shorts : AreShort (record { text = text; ended = true } ∷ lines_of rest) = subst AreShort first short in
     let more = used_within n used text (omega arith) shorts.0 (omega (arith, long, room)) in
     let ih = lines_tell u (n + 1) (used + (length text + 1)) events all told.1 (omega arith) (omega (arith, long, room)) shorts.1 in

@@ -1,9 +1,13 @@
 -- The machine of a script, before its first command.
-use Rattle.std.proofs.Common.{◌≡◌, ℕ, zero, suc, ◌-◌, ◌<◌, ◌≤◌, Bool, true, false, nat_lt, List, [], ◌∷◌, ◌++◌, map, get_or, length, replicate, Option, Some, None, Result, Ok, Err, codes}
-use Rattle.std.proofs.Common.{refl, sym, ap, ◌∙◌, inl, inr, arith, cond}
+use Rattle.std.proofs.Common.{◌≡◌, ℕ, zero, suc, ◌==◌, ◌+◌, ◌*◌, ◌/◌, ◌%◌, ◌^◌, ◌-◌, ◌<◌, ◌≤◌, Bool, true, false, nat_lt, List, [], ◌∷◌, ◌++◌, map, get_or}
+use Rattle.std.proofs.Common.{length, replicate, Option}
+use Rattle.std.proofs.Common.{Some, None, Result, Ok, Err, codes}
+use Rattle.std.proofs.Common.{refl, sym, ap, ◌∙◌, inl, inr, arith, subst, cond}
+use Rattle.std.specs.Int.{bit_at}
 use Rattle.std.specs.Str.{bytes_eq}
-use Rattle.std.proofs.lemmas.Bool.{and_parts, cases_Bool, true≢false}
+use Rattle.std.proofs.lemmas.Bool.{and_parts, cases_Bool, cases_lt, true≢false}
 use Rattle.std.proofs.lemmas.Bool.Decides.{nat_tests}
+use Rattle.std.proofs.lemmas.Nat.Bits.{bit_at_cat_low}
 use Rattle.std.proofs.lemmas.List.{length-append, length-map, length-replicate}
 use Rattle.smp_mask.specs.Mask.{has, members}
 use Rattle.smp_mask.specs.Reading.{mask_of_text}
@@ -12,7 +16,7 @@ use Rattle.smp_mask.specs.declared.error.Cause.TheVariants.{Mask}
 use Rattle.smp_mask.specs.declared.error.SmpError.{SmpError}
 use Rattle.smp_mask.specs.declared.mask.TheConstants.{NR_CPUS}
 use Rattle.smp_mask.proofs.Members.{item_member}
-use Rattle.smp_mask.proofs.Sets.{has_none}
+use Rattle.smp_mask.proofs.Sets.{has_above, has_none, same_members}
 use Rattle.smp_mask.proofs.Walks.{accepted}
 use Rattle.smp_labels.specs.Entries.{entry_at, entry_word}
 use Rattle.smp_labels.specs.Labels.{AreLabels, Labels, first_site}
@@ -44,8 +48,8 @@ use Rattle.smp_core.proofs.OfflineStops.{new_stops_apart}
 use Rattle.smp_script.specs.Fields.{mask_of, or_mask, stays_below}
 use Rattle.smp_script.specs.Script.{are_online}
 use Rattle.smp_script.specs.Spelling.{LabelsFit}
-use Rattle.smp_script.proofs.Reader.Widths.{mask_below, member_below}
-use Rattle.smp_replay_laws.specs.Texts.{labels_or}
+use Rattle.smp_script.proofs.Reader.Widths.{all_stay, mask_below, member_below}
+use Rattle.smp_replay.specs.Output.{labels_or_none}
 
 -- the sites while all keys are off
 sites_off : (es : List Entry) (n i : ℕ)
@@ -102,7 +106,7 @@ new_whole nr online labels limits are =
     }
 
 -- the labels of a script are lawful
-pub labels_are : (labels : Option Labels) → LabelsFit labels → AreLabels (labels_or labels).keys (labels_or labels).entries
+pub labels_are : (labels : Option Labels) → LabelsFit labels → AreLabels (labels_or_none labels).keys (labels_or_none labels).entries
 labels_are None fit = record { few_keys = omega arith; few_sites = omega arith; known = λ k d l. absurd (omega (arith, l)) }
 labels_are (Some labels) fit = fit
 
@@ -135,3 +139,46 @@ limits_are nr online mask some few read are =
       member = (get_or (members online) 0 0, (item_member online NR_CPUS 0 0 long).1);
       below = member_below nr online (are_cpus mask online read) p.1;
     }
+
+-- which stay below 32
+stays_by : (low : Bool) (mask m : ℕ) → stays_below 32 mask ≡ low → ◌≡◌ {A = Result ℕ Cause} (cond low (Ok mask) (Err Mask)) (Ok m) → stays_below 32 m ≡ true
+stays_by true mask m e h = let same : mask ≡ m = cc in subst (λ n. stays_below 32 n ≡ true) same e
+stays_by false mask m e h = absurd cc
+
+list_stays : (read : Result ℕ SmpError) (m : ℕ) → or_mask 32 read ≡ Ok m → stays_below 32 m ≡ true
+list_stays (Ok mask) m h = stays_by (stays_below 32 mask) mask m refl h
+list_stays (Err error) m h = absurd cc
+
+none_stays : stays_below 32 0 ≡ true
+none_stays = all_stay 32 0 (λ cpu on. absurd (true≢false (sym on ∙ has_none cpu)))
+
+stays_so : (text : List ℕ) (m : ℕ) → mask_of 32 text ≡ Ok m → stays_below 32 m ≡ true
+stays_so text m h = elim (cases_Bool (bytes_eq text (codes "-"))) [
+  | inl none ↦
+      let read : ◌≡◌ {A = Result ℕ Cause} (Ok 0) (Ok m) = rw none at h in
+      let zero_ : 0 ≡ m = cc in
+      subst (λ n. stays_below 32 n ≡ true) zero_ none_stays
+  | inr some ↦ list_stays (mask_of_text NR_CPUS text) m (rw some at h)
+]
+
+-- a mask of a trace is of CPUs below 32
+masks_below : (text : List ℕ) (m : ℕ) → mask_of 32 text ≡ Ok m → (cpu : ℕ) → has m cpu ≡ true → cpu < 32
+masks_below text m h = member_below 32 m (are_cpus text m h) (stays_so text m h)
+
+-- so it has 32 bits
+low_bit : (m c : ℕ) → c < 32 → bit_at (m % 2 ^ 32) c ≡ bit_at m c
+low_bit m c within =
+    let whole : m / 2 ^ 32 * 2 ^ 32 + m % 2 ^ 32 ≡ m = omega arith in
+    sym (bit_at_cat_low (m / 2 ^ 32) 32 (m % 2 ^ 32) c within) ∙ ap (λ n. bit_at n c) whole
+
+pub mask_fits : (text : List ℕ) (m : ℕ) → mask_of 32 text ≡ Ok m → m < 2 ^ 32
+mask_fits text m h =
+    let same : m ≡ m % 2 ^ 32 = same_members m (m % 2 ^ 32) (λ c. by_case c (has m c) refl) in
+    omega (arith, same)
+  where
+    by_case : (c : ℕ) (b : Bool) → has m c ≡ b → has m c ≡ has (m % 2 ^ 32) c
+    by_case c true e = ap (λ n. n == 1) (sym (low_bit m c (masks_below text m h c e)))
+    by_case c false e = elim (cases_lt c 32) [
+      | inl within ↦ ap (λ n. n == 1) (sym (low_bit m c within))
+      | inr above ↦ e ∙ sym (has_above 32 (m % 2 ^ 32) c (omega arith) above)
+    ]

@@ -28,7 +28,8 @@ use Rattle.smp_judge.specs.Verdict.{verdict_of}
 use Rattle.smp_judge.proofs.Meaning.{runs_accepted}
 use Rattle.smp_events.specs.Traces.{all_fresh, events_of}
 use Rattle.smp_replay_laws.specs.Accepted.{AreWordsOf, FitsCpus, IsAccepted}
-use Rattle.smp_replay_laws.specs.Texts.{AreTold, ArgFits, ReadsBack, TextsOfReplaysAreLawful, labels_or, trace_text, traced}
+use Rattle.smp_replay.specs.Output.{labels_or_none}
+use Rattle.smp_replay_laws.specs.Texts.{AreTold, ArgFits, ReadsBack, TextsOfReplaysAreLawful, trace_text, traced}
 use Rattle.smp_replay_laws.proofs.AllReplays.{all_begun, replays_are_accepted}
 use Rattle.smp_replay_laws.proofs.TextCpus.{few_cpus, trace_mask}
 use Rattle.smp_replay_laws.proofs.TextNew.{labels_are, limits_are, new_none, new_whole}
@@ -80,7 +81,7 @@ told_of_replay nr online labels commands core steps stopped few whole none fits 
 
 pub texts_are_lawful : TextsOfReplaysAreLawful
 texts_are_lawful text script commands core steps stopped lawful fits args is_replay within =
-    let labels = labels_or script.labels in
+    let labels = labels_or_none script.labels in
     let events = events_of all_fresh steps in
     let spelled = script_is_spelled Replay text script lawful in
     let mask = spelled.0 in

@@ -24,8 +24,10 @@ use Rattle.smp_event_steps.specs.declared.event.LabelEvent.TheVariants as labels
 use Rattle.smp_event_steps.specs.declared.event.StopEvent.{StopEvent}
 use Rattle.smp_event_steps.specs.declared.event.StopEvent.TheVariants as stops
 use Rattle.smp_event_steps.specs.declared.without.Setting.{Setting}
-use Rattle.smp_events.specs.Past.{after, after_on, after_call_entry, after_draft, after_flags, after_other, after_slot, after_slot_load, after_store, fresh, id_of, is_new, phase_of}
-use Rattle.smp_events.specs.Told.{events_in, of_ack, of_arg, of_flags, of_gate, of_hand, of_head, of_intr, of_key, of_nudge, of_ran, of_result, of_roll, of_site}
+use Rattle.smp_events.specs.Past.{after, after_on, after_call_entry, after_draft, after_flags, after_other, after_slot, after_slot_load, after_store}
+use Rattle.smp_events.specs.Past.{fresh, id_of, is_new, phase_of}
+use Rattle.smp_events.specs.Told.{events_in, of_ack, of_arg, of_flags, of_gate, of_hand, of_head, of_intr, of_key, of_nudge, of_ran, of_result, of_roll}
+use Rattle.smp_events.specs.Told.{of_site}
 use Rattle.smp_events.specs.Told.{of_slot, of_state, of_todo, of_unlock, told_of, told_on, with_on}
 use Rattle.smp_events.specs.declared.past.Past.{Past}
 use Rattle.smp_events.specs.declared.told.Told.{Told}
@@ -277,7 +279,8 @@ load_keeps : (p : Past) (f : Field) (found : ℕ) (n : Option Note) → PastFits
 load_keeps p field.State found n k = past_if (is_new n) _ p (answered p _ refl refl refl refl refl k.answer k) k
 load_keeps p _ found n k = k
 
-slot_keeps : (p : Past) (source : ℕ) (f : Field) (a : Act) (s : Seen) → PutFits (word.Slot source f) (unwrap_or s.put 0) → PastFits p → PastFits (after_slot p f a s)
+slot_keeps : (p : Past) (source : ℕ) (f : Field) (a : Act) (s : Seen) → PutFits (word.Slot source f) (unwrap_or s.put 0) → PastFits p
+    → PastFits (after_slot p f a s)
 slot_keeps p source f act.Store s l k = draft_keeps p source f (unwrap_or s.put 0) l k
 slot_keeps p source f act.Load s l k = load_keeps p f (unwrap_or s.found 0) s.note k
 slot_keeps p source field.Todo act.Sub s l k = answered p _ refl refl refl refl refl (omega arith) k

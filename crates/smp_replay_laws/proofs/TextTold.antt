@@ -55,7 +55,8 @@ use Rattle.smp_replay_laws.proofs.TextCalls.{call_fits}
 use Rattle.smp_replay_laws.proofs.TextNotes.{stop_fits}
 use Rattle.smp_replay_laws.proofs.TextRanges.{stage_ranged}
 use Rattle.smp_replay_laws.proofs.TextStops.{ArgsFit, BeginFits, WorkFits, first_begins, stage_args, stage_begins}
-use Rattle.smp_replay_laws.proofs.Wholes.{StandsAll, below, by_name_stops, call_stands, named, quiet, reached, reached_stops, start_stands, stop_below, stop_stands, told_stops}
+use Rattle.smp_replay_laws.proofs.Wholes.{StandsAll, below, by_name_stops, call_stands, named, quiet, reached, reached_stops, start_stands, stop_below}
+use Rattle.smp_replay_laws.proofs.Wholes.{stop_stands, told_stops}
 
 -- a trace is of this machine
 pub record IsOfCore (u : Setting) (core : CoreValue) : Type 0 where

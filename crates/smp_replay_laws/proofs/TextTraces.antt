@@ -21,7 +21,8 @@ use Rattle.smp_judge.specs.Head.{all_told, head_of, head_with, no_labels, settin
 use Rattle.smp_judge.specs.Head.{words_of as label_words_of}
 use Rattle.smp_events.specs.Front.{front_text}
 use Rattle.smp_events.specs.Traces.{lines_text}
-use Rattle.smp_replay_laws.specs.Texts.{AreShort, AreTold, IsWithin, ReadsBack, labels_or, trace_text, traced}
+use Rattle.smp_replay.specs.Output.{labels_or_none}
+use Rattle.smp_replay_laws.specs.Texts.{AreShort, AreTold, IsWithin, ReadsBack, trace_text, traced}
 use Rattle.smp_replay_laws.proofs.TextWords.{TakesAll}
 use Rattle.smp_replay_laws.proofs.TextCpus.{cpus_fields, cpus_words, few_cpus, labels_words, trace_mask}
 use Rattle.smp_replay_laws.proofs.TextHeads.{HasRoom, ended, labels_read, no_labels_read, online_read, spot, title_read, without_read}
@@ -77,10 +78,10 @@ pub record IsTraced (nr online : ℕ) (mask : List ℕ) (labels : Option Labels)
   pub mask_is : mask_of 32 mask ≡ Ok online
   pub online_are : are_online nr online ≡ true
   pub labels_are : LabelsFit labels
-  pub told : AreTold (setting_of online (labels_or labels) all_told) events
+  pub told : AreTold (setting_of online (labels_or_none labels) all_told) events
   pub within : IsWithin (written nr mask labels (lines_text events))
 
-takes_all : (online : ℕ) (labels : Option Labels) → LabelsFit labels → TakesAll (setting_of online (labels_or labels) all_told)
+takes_all : (online : ℕ) (labels : Option Labels) → LabelsFit labels → TakesAll (setting_of online (labels_or_none labels) all_told)
 takes_all online None fit = record { whole = refl; keys = omega arith; sites = omega arith }
 takes_all online (Some labels) fit = record { whole = refl; keys = omega (arith, fit.few_keys); sites = omega (arith, fit.few_sites) }
 
@@ -98,7 +99,7 @@ record HeadIs (nr online : ℕ) (mask : List ℕ) (labels : Option Labels) (even
   used : ℕ
   room : HasRoom number used events
   head_is : head_of (lines_of (written nr mask labels (lines_text events)))
-      ≡ Ok (head_with online (labels_or labels) all_told (spot number used (lines_of (lines_text events))))
+      ≡ Ok (head_with online (labels_or_none labels) all_told (spot number used (lines_of (lines_text events))))
 
 head_none : (nr online : ℕ) (mask : List ℕ) (events : List (ℕ × Event)) → IsTraced nr online mask None events → HeadIs nr online mask None events
 unfolding head_of
@@ -178,12 +179,13 @@ head_read nr online mask (Some labels) events t = head_some nr online mask label
 
 -- a trace that is written reads back
 written_back : (nr online : ℕ) (mask : List ℕ) (labels : Option Labels) (events : List (ℕ × Event)) → IsTraced nr online mask labels events
-    → ReadsBack (written nr mask labels (lines_text events)) (setting_of online (labels_or labels) all_told) (label_words_of (labels_or labels)) events
+    → ReadsBack (written nr mask labels (lines_text events)) (setting_of online (labels_or_none labels) all_told)
+    (label_words_of (labels_or_none labels)) events
 written_back nr online mask labels events t =
     let h = head_read nr online mask labels events t in
-    let u = setting_of online (labels_or labels) all_told in
+    let u = setting_of online (labels_or_none labels) all_told in
     record {
-      head = head_with online (labels_or labels) all_told (spot h.number h.used (lines_of (lines_text events)));
+      head = head_with online (labels_or_none labels) all_told (spot h.number h.used (lines_of (lines_text events)));
       head_is = h.head_is;
       setting_is = refl;
       words_are = refl;
@@ -199,7 +201,7 @@ title_fields Two = refl
 -- the trace of a script reads back
 pub texts_read_back : (text : List ℕ) (script : Script) (events : List (ℕ × Event)) → script_of Replay text ≡ Ok script
     → AreTold (traced script) events → IsWithin (trace_text text script events)
-    → ReadsBack (trace_text text script events) (traced script) (label_words_of (labels_or script.labels)) events
+    → ReadsBack (trace_text text script events) (traced script) (label_words_of (labels_or_none script.labels)) events
 texts_read_back text script events lawful told within =
     let spelled = script_is_spelled Replay text script lawful in
     let mask = spelled.0 in
@@ -212,7 +214,7 @@ texts_read_back text script events lawful told within =
     ap (λ t. front_text (is_some script.labels) (lines_of t) ++ body) s.text_is
     ∙ front_is title script.nr mask script.labels (spelled_lines spelled.1) body (title_fields script.version)
     (cpus_fields script.nr mask less s.mask_is.field) s.labels in
-    subst (λ t. ReadsBack t (traced script) (label_words_of (labels_or script.labels)) events) (sym front)
+    subst (λ t. ReadsBack t (traced script) (label_words_of (labels_or_none script.labels)) events) (sym front)
     (written_back script.nr script.online mask script.labels events (record {
       some = s.some;
       few = less;

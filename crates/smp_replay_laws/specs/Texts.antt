@@ -1,7 +1,6 @@
 -- The text of a replay: its head and a line for each event.
-use Rattle.std.specs.Prelude.{◌≡◌, ℕ, ◌<◌, ◌≤◌, ◌^◌, true, List, ◌++◌, length, Option, Some, None, is_some, Ok}
-use Rattle.std.specs.List.{AllByRecursion}
-use Rattle.smp_labels.specs.Labels.{Labels}
+use Rattle.std.specs.Prelude.{◌≡◌, ℕ, ◌<◌, ◌≤◌, ◌^◌, true, List, [], ◌∷◌, ◌++◌, length, Option, is_some, Ok}
+use Rattle.std.specs.List.{AllByRecursion, flat_map}
 use Rattle.smp_labels.specs.declared.words.LabelWords.{LabelWords}
 use Rattle.smp_mask.specs.Mask.{has}
 use Rattle.smp_mask.specs.declared.error.SmpError.{SmpError}
@@ -10,7 +9,7 @@ use Rattle.smp_words.specs.declared.command.Event.{Event as Command}
 use Rattle.smp_words.specs.declared.command.Event.TheVariants as command
 use Rattle.smp_words.specs.declared.seen.Seen.{Seen}
 use Rattle.smp_script.specs.Lines.{Line, lines_of}
-use Rattle.smp_script.specs.Script.{Script, script_of}
+use Rattle.smp_script.specs.Script.{Script, first_line, script_of}
 use Rattle.smp_script.specs.Spelling.{IsAnswer}
 use Rattle.smp_script.specs.declared.mode.Mode.TheVariants.{Replay}
 use Rattle.smp_core.specs.New.{new_core}
@@ -25,11 +24,18 @@ use Rattle.smp_event_steps.specs.declared.event.LabelEvent.TheVariants as labels
 use Rattle.smp_event_steps.specs.declared.event.StopEvent.{StopEvent}
 use Rattle.smp_event_steps.specs.declared.event.StopEvent.TheVariants as stops
 use Rattle.smp_event_steps.specs.declared.without.Setting.{Setting}
-use Rattle.smp_judge.specs.Head.{HeadValue, all_told, head_of, no_labels, setting_of, words_of}
+use Rattle.smp_replay.specs.Output.{labels_or_none}
+use Rattle.smp_judge.specs.Head.{HeadValue, all_told, head_of, setting_of, words_of}
 use Rattle.smp_judge.specs.Runs.{Told, told_by}
 use Rattle.smp_judge.specs.Verdict.{verdict_of}
 use Rattle.smp_events.specs.Front.{front_text}
 use Rattle.smp_events.specs.Traces.{all_fresh, events_of, lines_text}
+use Rattle.smp_show.specs.Events.{steps_of, trace_of}
+use Rattle.smp_show.specs.Moments.{moments_of}
+use Rattle.smp_show.specs.Replays.{rows_of_script}
+use Rattle.smp_show.specs.declared.moments.Asked.{Asked}
+use Rattle.smp_show.specs.declared.moments.Asked.TheVariants.{Turn, Show}
+use Rattle.smp_show.specs.declared.moments.Moment.{Moment}
 use Rattle.smp_replay_laws.specs.Accepted.{FitsCpus, IsAccepted}
 
 -- the numbers of an event of calls are of its types
@@ -83,14 +89,9 @@ pub record IsWithin (text : List ℕ) : Type 0 where
   pub count : length (lines_of text) ≤ 1000000
   pub lines : AreShort (lines_of text)
 
--- the labels of a script; none where it has no line of them
-abbrev pub labels_or : Option Labels → Labels
-labels_or None = no_labels
-labels_or (Some labels) = labels
-
 -- what the trace of a script's replay is of: the script's CPUs and labels, and nothing is left out
 abbrev pub traced : Script → Setting
-traced script = setting_of script.online (labels_or script.labels) all_told
+traced script = setting_of script.online (labels_or_none script.labels) all_told
 
 -- the trace of these events, behind the head that is made of the text of a script
 abbrev pub trace_text : List ℕ → Script → List (ℕ × Event) → List ℕ
@@ -110,12 +111,12 @@ pub record ReadsBack (text : List ℕ) (u : Setting) (words : LabelWords) (event
 abbrev pub TextsReadBack : Type 0
 TextsReadBack = (text : List ℕ) (script : Script) (events : List (ℕ × Event)) → script_of Replay text ≡ Ok script → AreTold (traced script) events
     → IsWithin (trace_text text script events)
-    → ReadsBack (trace_text text script events) (traced script) (words_of (labels_or script.labels)) events
+    → ReadsBack (trace_text text script events) (traced script) (words_of (labels_or_none script.labels)) events
 
 -- The trace of these steps is judged lawful, with just their events. The state at its end is one to which the model goes by them: it
 -- is as in the core.
 pub record IsJudged (script : Script) (text : List ℕ) (steps : List Seen) (core : CoreValue) : Type 0 where
-  pub accepted : IsAccepted (traced script) (words_of (labels_or script.labels)) steps core
+  pub accepted : IsAccepted (traced script) (words_of (labels_or_none script.labels)) steps core
   pub verdict : verdict_of text ≡ Ok (length (events_of all_fresh steps), accepted.end)
 
 -- the argument of a stop that begins is of 64 bits
@@ -127,7 +128,30 @@ ArgFits _ = Unit {0}
 -- where the numbers of its commands are of their types.
 abbrev pub TextsOfReplaysAreLawful : Type 0
 TextsOfReplaysAreLawful = (text : List ℕ) (script : Script) (commands : List Command) (core : CoreValue) (steps : List Seen)
-    (stopped : Option (ℕ × SmpError)) → let first = new_core script.nr script.online (labels_or script.labels) in
+    (stopped : Option (ℕ × SmpError)) → let first = new_core script.nr script.online (labels_or_none script.labels) in
     let trace = trace_text text script (events_of all_fresh steps) in
     script_of Replay text ≡ Ok script → AllByRecursion FitsCpus commands → AllByRecursion ArgFits commands
     → IsReplay first commands core steps stopped → IsWithin trace → IsJudged script trace steps core
+
+-- what is asked for at a moment, where it is a command or a step
+abbrev pub command_in : Asked → List Command
+command_in (Turn e) = e ∷ []
+command_in Show = []
+
+-- the commands and the steps of a script
+abbrev pub commands_at : List Moment → List Command
+commands_at moments = flat_map (λ m. command_in m.asked) moments
+
+abbrev pub commands_of : Script → List Command
+commands_of script = commands_at (moments_of (first_line script.labels) script.directives)
+
+-- The trace of a script is that of the replay of its commands and steps, and is judged lawful.
+pub record IsLawfulTrace (text : List ℕ) (script : Script) : Type 0 where
+  pub core : CoreValue
+  pub stopped : Option (ℕ × SmpError)
+  pub replay : IsReplay (new_core script.nr script.online (labels_or_none script.labels)) (commands_of script) core (steps_of (rows_of_script script)) stopped
+  pub judged : IsJudged script (trace_of text script) (steps_of (rows_of_script script)) core
+
+-- So is the trace of each script, within the limits of the judge.
+abbrev pub TracesAreLawful : Type 0
+TracesAreLawful = (text : List ℕ) (script : Script) → script_of Replay text ≡ Ok script → IsWithin (trace_of text script) → IsLawfulTrace text script

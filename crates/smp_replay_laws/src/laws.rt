@@ -2,7 +2,7 @@
 
 ghost use Rattle.smp_replay_laws.specs.Accepted.{CallsOfReplaysAreAccepted, ReplaysAreAccepted};
 ghost use Rattle.smp_replay_laws.specs.Patches.{PatchesStoreThePlan};
-ghost use Rattle.smp_replay_laws.specs.Texts.{TextsOfReplaysAreLawful, TextsReadBack};
+ghost use Rattle.smp_replay_laws.specs.Texts.{TextsOfReplaysAreLawful, TextsReadBack, TracesAreLawful};
 
 /// Each replay of a machine in which nothing was begun is accepted: the model of events has a run of the events that its steps tell,
 /// in any order of steps, whatever commands are refused on the way. So `smp judge` refuses nothing that the machine does. The trace
@@ -27,14 +27,21 @@ pub fn patches_store_the_plan()
     ensures { PatchesStoreThePlan }
 {}
 
-/// The trace that `smp events` writes of any events reads back: the judge reads its head as the script's CPUs and labels, and from its
-/// lines just these events, in their order. The numbers of the events fit their fields, and the text is within the judge's limits.
-pub fn texts_of_events_read_back()
-    ensures { TextsReadBack }
+/// What `smp events` writes of a script is judged lawful by `smp judge`, within the judge's limits. It is the trace of the replay of
+/// the script's commands and steps, up to the first that is refused. The judge counts just the events of that replay, and the state at
+/// its end is that of the machine.
+pub fn traces_of_scripts_are_lawful()
+    ensures { TracesAreLawful }
 {}
 
-/// The trace of each replay, as it is written, is judged lawful: with just the events of the replay, and with a state at its end that is
-/// that of the machine. The numbers of the steps are of their types, and the text is within the judge's limits.
+/// The trace of each replay on the machine of a script is judged lawful in the same way, whatever its commands are. The numbers of
+/// the commands are of their types, and the text is within the judge's limits.
 pub fn texts_of_replays_are_lawful()
     ensures { TextsOfReplaysAreLawful }
+{}
+
+/// The trace of any events reads back: the judge reads its head as the script's CPUs and labels, and from its lines just these events,
+/// in their order. The numbers of the events fit their fields, and the text is within the judge's limits.
+pub fn texts_of_events_read_back()
+    ensures { TextsReadBack }
 {}
