@@ -216,7 +216,8 @@ module _ {H : Type 0} (leads : H → Heard → H → Type 0) where
           | inr n ↦
               let other = ne_eqb c cpu n in
               let was = a.told c l h (sym (left_else left next cpu c step l other) ∙ gone) in
-              found_else done (many_record c) k (confirmed_at mid (many_record c)) (confirmed_at new (many_record c)) (g.confirmed_are (many_record c) (small_many c l))
+              found_else done (many_record c) k (confirmed_at mid (many_record c)) (confirmed_at new (many_record c))
+              (g.confirmed_are (many_record c) (small_many c l))
               (others_record c cpu k is_k n) ∙ (was ∙ sym (ap not (silent_else c other)))
         ];
         others = λ j b none. found_else done j k (confirmed_at mid j) (confirmed_at new j) (g.confirmed_are j b) (λ e. none cpu is_called (e ∙ is_k))

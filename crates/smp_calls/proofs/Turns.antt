@@ -1,5 +1,6 @@
 -- Handling twice is handling once, with the turns of both; and how often a CPU handles that waits.
-use Rattle.std.proofs.Common.{arith, ◌≡◌, ℕ, ◌+◌, length, length-append, Bool, true, false, Option, Some, None, List, [], ◌∷◌, ◌++◌, append_assoc, refl, sym, ap, ◌∙◌, subst}
+use Rattle.std.proofs.Common.{arith, ◌≡◌, ℕ, ◌+◌, length, length-append, Bool, true, false, Option, Some}
+use Rattle.std.proofs.Common.{None, List, [], ◌∷◌, ◌++◌, append_assoc, refl, sym, ap, ◌∙◌, subst}
 use Rattle.std.specs.List.{FoldsTo}
 use Rattle.std.proofs.lemmas.List.{append-nil}
 use Rattle.smp_call_steps.specs.Order.{order}

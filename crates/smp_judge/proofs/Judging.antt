@@ -43,10 +43,12 @@ pub judges_fault : (u : Setting) (n used events : ℕ) (lines : List Line) (s : 
     → Judges (Err why) new verdict
 judges_fault u n used events lines s l ls why new verdict v e used_is = judges why new verdict (sym v ∙ judged_fault u n used events lines s l ls why e used_is)
 
-pub judges_end : (u : Setting) (n used events : ℕ) (lines : List Line) (s : StateValue) (l : Line) (ls : List Line) (more : ℕ) (why : Halted) (new t : StateValue)
+pub judges_end : (u : Setting) (n used events : ℕ) (lines : List Line) (s : StateValue) (l : Line) (ls : List Line) (more : ℕ) (why : Halted)
+    (new t : StateValue)
     (verdict : Result (ℕ × StateValue) Halted) → judged u n used events lines s ≡ verdict → lines ≡ l ∷ ls → used_after n used l ≡ Ok more
     → Judges (Err why) t (line_goes u n events l.text s) → Judges (Err why) new verdict
-judges_end u n used events lines s l ls more (Fault m cause) new t verdict v e used_is g = sym v ∙ judged_end u n used events lines s l ls more (Fault m cause) e used_is g
+judges_end u n used events lines s l ls more (Fault m cause) new t verdict v e used_is g = sym v ∙ judged_end u n used events lines s l ls more
+    (Fault m cause) e used_is g
 judges_end u n used events lines s l ls more (Broken m cpu event reason) new t verdict v e used_is g =
     sym v ∙ judged_end u n used events lines s l ls more (Broken m cpu event reason) e used_is g
 judges_end u n used events lines s l ls more NoMemory new t verdict v e used_is g = tt

@@ -20,13 +20,16 @@ use smp_words::limits::are_limits;
 use std::alloc::Allocator;
 use std::marker::Model;
 
-/// The machine: its call table, its stop table and its stopper queues. Threads share it by reference.
+/// The machine: its call table, its stop table and its stopper queues. Threads share it by reference. Wherever it lies, what
+/// all threads read of it shares no cache line with what one of them writes beside it.
 #[derive(Drop)]
+#[repr(C)]
 pub struct Machine<A: Allocator> {
     pub(crate) calls: Hearing<A>,
     pub(crate) stops: StopTable<A>,
     pub(crate) queues: Stoppers<A>,
     pub(crate) stalls: Stalls,
+    after: [u64; 8],
 }
 
 impl<A: Allocator> Model for Machine<A> {
@@ -64,6 +67,7 @@ where
         stops,
         queues,
         stalls: Stalls::new(),
+        after: [0; 8],
     };
     match seat_all(alloc, &machine, call_cpus, stop_cpus, passes) {
         Ok(boot) => Ok((machine, boot)),

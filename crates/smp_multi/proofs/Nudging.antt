@@ -87,8 +87,16 @@ module _ (d e : SeatValue) (k : ℕ) (up : Bool) (table : e.table ≡ d.table) (
       let n = h.0 in
       (n, loads n h.1 (lives_at _ (Key k) n h.3), h.2, finds_count (loaded d k n) k n free h.3, same_view (nudged_known up k (loads_known k n d.known)) h.4)
   nudge_answers (Ok Lost) h =
-      let n = h.0 in
-      (n, h.1, loads n h.2 (lives_at _ (Key k) h.1 h.4), h.3, finds_count (loaded d k n) k h.1 free h.4, h.5, same_view (lost_known k (loads_known k n d.known)) h.6)
+      let n = h.0 in (
+        n,
+        h.1,
+        loads n h.2 (lives_at _ (Key k) h.1 h.4),
+        h.3,
+        finds_count (loaded d k n) k h.1 free h.4,
+        h.5,
+        same_view
+            (lost_known k (loads_known k n d.known)) h.6,
+      )
   nudge_answers (Ok Stop) h = let n = h.0 in let w = loads_known k n d.known in (n, loads n h.1 (lives_as w h.3), h.2, same_view w h.3)
   nudge_answers (Err (error.KeyRange x)) h = let n = h.0 in let w = loads_known k n d.known in (n, loads n h.1 (lives_as w h.4), h.2, h.3, same_view w h.4)
   nudge_answers (Err _) h = absurd h

@@ -54,12 +54,16 @@ use smp_words::work::{Kind, Work};
 use std::alloc::{AllocError, Allocator};
 use std::marker::Model;
 
-/// The stop table: its name, how many CPUs it has, and what it is made with. Threads share it by reference.
+/// The stop table: its name, how many CPUs it has, and what it is made with. Threads share it by reference. Wherever it lies,
+/// what all threads read of it shares no cache line with what one of them writes beside it.
 #[derive(Drop)]
+#[repr(C)]
 pub struct StopTable<A: Allocator> {
+    before: [u64; 8],
     pub(crate) owner: Owner<A>,
     nr: u32,
     setting: Setting,
+    after: [u64; 8],
 }
 
 impl<A: Allocator> Model for StopTable<A> {
@@ -104,7 +108,13 @@ where
         let seat = next_seat(owner.words(), &mut maker, number, is_online);
         waiting.push(cpu_if(seat, number))?;
     }
-    let table = StopTable { owner, nr, setting };
+    let table = StopTable {
+        before: [0; 8],
+        owner,
+        nr,
+        setting,
+        after: [0; 8],
+    };
     let boot = StopBoot {
         maker,
         online,

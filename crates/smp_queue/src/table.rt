@@ -59,13 +59,17 @@ use std::alloc::{AllocError, Allocator};
 use std::marker::Model;
 use std::sync::Wait;
 
-/// The call table: its name, how many CPUs it has, and those online. Threads share it by reference.
+/// The call table: its name, how many CPUs it has, and those online. Threads share it by reference. Wherever it lies, what
+/// all threads read of it shares no cache line with what one of them writes beside it.
 #[derive(Drop)]
+#[repr(C)]
 pub struct CallTable<A: Allocator> {
+    before: [u64; 8],
     owner: Owner<A>,
     nr: u32,
     online: CpuMask,
     alarms: Alarms,
+    after: [u64; 8],
 }
 
 impl<A: Allocator> Model for CallTable<A> {
@@ -114,10 +118,12 @@ where
         waiting.push(cpu_if(owner.words(), &mut maker, number, is_online))?;
     }
     let table = CallTable {
+        before: [0; 8],
         owner,
         nr,
         online,
         alarms: Alarms::new(),
+        after: [0; 8],
     };
     let boot = Boot {
         maker,

@@ -158,7 +158,8 @@ module _ (v : StopsValue) (p : StopState) (shown : StopShown p v) (me : ℕ) (be
         }
     acked_now = acked_patch me 3 (stop_at s slot) (Some (patch_left slot s))
         ∙ ap (λ (z : ToldStop). record z { patch = Some (patch_left slot s) })
-        (acking.acknowledged_as U p At At' shown.seat shown.source shown.shows me below pasts sized s whole cpus_are f (λ j. refl) (λ j. refl) refl slot 2 w Idle
+        (acking.acknowledged_as U p At At' shown.seat shown.source shown.shows me below pasts sized s whole cpus_are f (λ j. refl) (λ j. refl) refl slot 2 w
+        Idle
         sits (At (Slot slot field.Ack) == 1) refl)
 
     made : goes me (event.Stop (stops.Ack 3)) s ≡ Ok (with_stop slot s (record (stop_at s slot) {

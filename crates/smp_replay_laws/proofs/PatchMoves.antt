@@ -226,7 +226,8 @@ module _ (v : StopsValue) (p : StopState) (shown : StopShown p v) (me : ℕ) (be
       begun j (Calls call) e k = subst (λ (z : Patching). MadeIs s.words z (Calls call) (stop_at s j).patch) e k
       begun j (Carries n) e k = k
 
-  pub begins_patch : (x : Visit) (key : ℕ) (change : KeyChange) → C.stage ≡ Some (Advance x (round.LoadKey key change)) → Does (Advance x (round.LoadKey key change))
+  pub begins_patch : (x : Visit) (key : ℕ) (change : KeyChange) → C.stage ≡ Some (Advance x (round.LoadKey key change)) → Does
+      (Advance x (round.LoadKey key change))
   begins_patch x key change e =
       let k = at_stage x (round.LoadKey key change) e in
       let run = k.1.1 in

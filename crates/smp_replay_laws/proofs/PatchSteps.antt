@@ -182,7 +182,8 @@ answer_to old (Some n) = refl
 -- what the model wants of the CPU that has patched is what the machine answers
 pub answers_patch : (u : Setup) (words : LabelWords) (work : Work) (count : ℕ) (stop : Stop) (made rest : List Change) → work.func < 4
     → stop.task.func ≡ work.func → stop.task.arg ≡ work.arg → PartIs words work.func made rest stop.patch
-    → (made ≡ [] → count_at words work.func ≡ count) → ((change : Change) (more : List Change) → made ≡ change ∷ more → plan_at u work count ≡ change ∷ (more ++ rest))
+    → (made ≡ [] → count_at words work.func ≡ count) → ((change : Change) (more : List Change) → made ≡ change ∷ more → plan_at u work count ≡ change ∷
+    (more ++ rest))
     → answer_by (Some (patch_now words stop)) true ≡ as_i32 (patch_answer work count)
 answers_patch u words work count stop [] rest small func arg part first later =
     let k : key_number work.func ≡ work.func = omega (arith, small) in

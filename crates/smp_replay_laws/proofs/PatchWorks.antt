@@ -33,7 +33,8 @@ none_before mask (suc k) c l =
     least_by mask k (first_below mask k) (λ j m. none_before mask k j m) (first_below mask k == k) (has mask k) refl refl c l
 
 -- the first number that passes is found
-hit_from : (passes : ℕ → Bool) (f more c : ℕ) → c ≤ f → f < c + more → passes f ≡ true → ((j : ℕ) → j < f → passes j ≡ false) → first_from passes c more ≡ Some f
+hit_from : (passes : ℕ → Bool) (f more c : ℕ) → c ≤ f → f < c + more → passes f ≡ true → ((j : ℕ) → j < f → passes j ≡ false) → first_from passes c more ≡
+    Some f
 unfolding first_from
 hit_from passes f zero c l m passed before = absurd (omega (arith, l, m))
 hit_from passes f (suc more) c l m passed before = elim (cases_eq c f) [

@@ -234,7 +234,8 @@ module _ (v : StopsValue) (p : StopState) (shown : StopShown p v) (me : ℕ) (be
         (acknowledged (p.now.stop slot) me (a + 1) (At (Slot slot field.Ack))) (a + 1)
         (raiser_of (cond (At (Slot slot field.Ack) == 1) (Refills me) (p.now.stop slot).raising))
         ((cond (a + 1 == 3) (put p.calling me (carried me p.now.patching (p.calling me))) p.calling) me) acked_now refl refl refl refl
-        (ap is_called here.1) (ap given_by here.1) (calling_same (p.now.stop slot).work.kind (a + 1 == 3)) (patch_same (a + 1 == 3) refl) old_is old_answer stays made
+        (ap is_called here.1) (ap given_by here.1) (calling_same (p.now.stop slot).work.kind (a + 1 == 3)) (patch_same (a + 1 == 3) refl) old_is old_answer
+        stays made
 
     two_acks : a + 1 ≡ 4 → (At (Slot slot field.Ack) == 1) ≡ false
         → ReachesStops (Q true) At' (slice_set pasts me Old) s ((me, event.Stop (stops.Ack (a + 1))) ∷ ((me, event.Stop stops.On) ∷ []))
@@ -259,7 +260,8 @@ module _ (v : StopsValue) (p : StopState) (shown : StopShown p v) (me : ℕ) (be
         (told_acked U p At At' shown.seat shown.source shown.shows me below pasts sized s whole cpus_are f (λ j. refl) (λ j. refl) slot here.0 open_now
         (acknowledged (p.now.stop slot) me (a + 1) (At (Slot slot field.Ack))) (a + 1)
         (raiser_of (cond (At (Slot slot field.Ack) == 1) (Refills me) (p.now.stop slot).raising)) acked_now refl refl refl refl
-        (ap is_called here.1) (ap given_by here.1) goes_out.standing_else) (a + 1) acked_now (calling_same (p.now.stop slot).work.kind (a + 1 == 3)) (patch_same (a + 1 == 3) refl) refl old_is exit old_answer goes_out
+        (ap is_called here.1) (ap given_by here.1) goes_out.standing_else) (a + 1) acked_now (calling_same (p.now.stop slot).work.kind (a + 1 == 3))
+        (patch_same (a + 1 == 3) refl) refl old_is exit old_answer goes_out
         (λ d. refl) made
         (λ e. kind (ap (λ (z : Work). z.kind) (sym here.3) ∙ (ap (λ (z : Task). z.kind) (sym told.task) ∙ e))) (acked
         ∙ exit) (ap (λ (z : Option ℕ). is_cpu z me) none)

@@ -77,4 +77,5 @@ module _ (v : StopsValue) (p : StopState) (shown : StopShown p v) (me : ℕ) (be
   stop_accepted (ReadKey k) e d = stages.reads_key v p shown me below pasts sized s whole cpus_are f k e
   stop_accepted (ReadSite k) e d = stages.reads_site v p shown me below pasts sized s whole cpus_are f k e
   stop_accepted (NudgeKey k up) e d = stages.looks_key v p shown me below pasts sized s whole cpus_are f k up e
-  stop_accepted (ExchangeKey k expected new) e d = nudges.exchanges v p shown me below pasts sized s whole cpus_are f shown.shows.setup.few_keys k expected new e
+  stop_accepted (ExchangeKey k expected new) e d = nudges.exchanges v p shown me below pasts sized s whole cpus_are f shown.shows.setup.few_keys k expected
+      new e

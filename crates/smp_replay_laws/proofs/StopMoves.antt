@@ -97,7 +97,8 @@ module _ (u : Setup) (p : StopState) (at at' : Word → ℕ) (seat : ℕ → Sea
       let t = with_cpu me (with_stop slot s y) c in
       let my_cpu = cpu_here (with_stop slot s y) me c cpus_are below in
       let ran : has_run (stop_at t slot) me ≡ has_called (p.now.stop slot).work.kind (p.calling me) =
-      ap (λ (z : ToldStop). has_run z me) (stop_here s slot y f.stops_are l) ∙ (member.fresh called ∙ rw idle (sym (none_called (p.now.stop slot).work.kind))) in
+      ap (λ (z : ToldStop). has_run z me) (stop_here s slot y f.stops_are l) ∙
+      (member.fresh called ∙ rw idle (sym (none_called (p.now.stop slot).work.kind))) in
       let patch : (p.now.stop slot).work.kind ≡ Patch → has (p.now.stop slot).work.active me ≡ true
       → MadeIs t.words p.now.patching (p.calling me) (stop_at t slot).patch = λ kind active.
       let none_told : e.patch ≡ None = member.unmade called (ap (λ (z : Task). has z.active me) was.task ∙ active) in

@@ -115,7 +115,8 @@ module _ (u : Setup) (p : StopState) (at at' : Word → ℕ) (seat : ℕ → Sea
         let y = record (stop_at s slot) { acked = slice_set (stop_at s slot).acked me phase; raiser = raiser } in
         let t = with_stop slot s y in
         stop_step p q at at' pasts s me (past_at pasts me) below sized cpus_are f keys sites slot x y (cpu_at s me) i.below
-        (one_stop u p at at' seat source h me below pasts sized s whole cpus_are f keys sites q slot x (Some slot) (p.now.irq me) calling y g (λ cpu ne. refl) refl)
+        (one_stop u p at at' seat source h me below pasts sized s whole cpus_are f keys sites q slot x (Some slot) (p.now.irq me) calling y g
+        (λ cpu ne. refl) refl)
         (told_acked x phase raiser stood x_open work same raising called given g.standing_else) ((me, event.Stop (stops.Ack phase)) ∷ []) (t, (made, refl))
         (in_slot u p at at' seat source h me below pasts sized s whole cpus_are f keys sites q t (past_at pasts me) slot x (p.now.irq me) calling g i.below
         (me_now.inside ∙ inside) me_now.irq (ap (λ (z : ToldStop). has_run z me) (stop_here s slot y f.stops_are i.below) ∙ (i.ran ∙ sym calls))
@@ -143,7 +144,8 @@ module _ (u : Setup) (p : StopState) (at at' : Word → ℕ) (seat : ℕ → Sea
           (me_now.irq ∙ off) (subst (λ (z : ToldStop). 4 ≤ acked_by z me) (sym here) (omega (arith, acked_told)))
           (subst (λ (z : ToldStop). is_cpu z.raiser me ≡ false) (sym here) raiser) in
           set_step p q at at' pasts s me (past_at pasts me) below sized cpus_are f keys sites slot x y c i.below
-          (one_stop u p at at' seat source h me below pasts sized s whole cpus_are f keys sites q slot x (Some slot) true calling y g (λ cpu ne. ran cpu) unpatched) told
+          (one_stop u p at at' seat source h me below pasts sized s whole cpus_are f keys sites q slot x (Some slot) true calling y g (λ cpu ne. ran cpu)
+          unpatched) told
           ((me, e) ∷ ((me, event.Stop stops.On) ∷ [])) (m, (made, (t, (on, refl)))) refl
           (in_slot u p at at' seat source h me below pasts sized s whole cpus_are f keys sites q t (past_at pasts me) slot x true calling g i.below
           (ap (λ (z : CpuState). z.inside) my_cpu ∙ (me_now.inside ∙ inside)) (ap (λ (z : CpuState). z.irq) my_cpu)

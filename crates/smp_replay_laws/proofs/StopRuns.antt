@@ -141,7 +141,8 @@ module _ (u : Setup) (p : StopState) (at at' : Word → ℕ) (seat : ℕ → Sea
         (in_slot u p at at' seat source h me below pasts sized s whole cpus_are f keys sites q t (past_at pasts me) slot (p.now.stop slot)
         (p.now.irq me) calling g i.below
         in_told me_now.irq (ap (λ (z : ToldStop). has_run z me) (stop_here s slot y f.stops_are i.below)
-        ∙ (get_or-set_same (stop_at s slot).ran me true false (rw size.ran (omega arith)) ∙ sym called_so)) (λ z. absurd (no_patch z)) i.phase i.answer me_now.reads)
+        ∙ (get_or-set_same (stop_at s slot).ran me true false (rw size.ran (omega arith)) ∙ sym called_so)) (λ z. absurd (no_patch z)) i.phase i.answer
+        me_now.reads)
       where
         at_two : (a : ℕ) → acked_by (stop_at s slot) me ≡ a → a ≡ 2 → acked_by (stop_at s slot) me < 3
         at_two a e two = omega (arith, e, two)
@@ -218,7 +219,8 @@ module _ (u : Setup) (p : StopState) (at at' : Word → ℕ) (seat : ℕ → Sea
           };
         } in
         set_step p q at at' pasts s me past below sized cpus_are f keys sites slot x y c i.below
-        (one_stop u p at at' seat source h me below pasts sized s whole cpus_are f keys sites q slot x None (p.now.irq me) Idle y g (λ cpu ne. refl) refl) told_so
+        (one_stop u p at at' seat source h me below pasts sized s whole cpus_are f keys sites q slot x None (p.now.irq me) Idle y g (λ cpu ne. refl) refl)
+        told_so
         ((me, event.Stop (stops.Complete told)) ∷ []) (t, (made, refl)) refl
         (in_none u p at at' seat source h me below pasts sized s whole cpus_are f keys sites q t past slot x (p.now.irq me) Idle g
         (ap (λ (z : CpuState). z.inside) my_cpu) (ap (λ (z : CpuState). z.irq) my_cpu ∙ me_now.irq) past_answer (λ x. me_now.reads (sym past_phase ∙ x)))

@@ -232,7 +232,8 @@ module _ (v : StopsValue) (p : StopState) (shown : StopShown p v) (me : ℕ) (be
       small : (m n : ℕ) → m ≡ n → n < 2 ^ 32 → m % 2 ^ 32 ≡ n
       small m n e l = omega arith
 
-  opens_so : (w : Work) → c.stage ≡ Some (Begin w field.Roll) → IsOfCpus w → DraftIs w field.Roll past.draft → s.setting.online ≡ v.online → s.setting.keys ≡ v.labels.keys
+  opens_so : (w : Work) → c.stage ≡ Some (Begin w field.Roll) → IsOfCpus w → DraftIs w field.Roll past.draft → s.setting.online ≡ v.online → s.setting.keys
+      ≡ v.labels.keys
       → ReachesStops (opens p me) (put_word at (Slot me field.Roll) w.mask) (slice_set pasts me past) s (by me (of_roll past me act.Store (seen_so
       (Begin w field.Roll))))
   opens_so w e plain d online count =
@@ -271,7 +272,8 @@ module _ (v : StopsValue) (p : StopState) (shown : StopShown p v) (me : ℕ) (be
       rw (first_low w.kind) (stores_shut w field.State (stored_open p me me field.State (first_phase w.kind)) (first_phase w.kind) e refl refl)
   begins w field.Roll e d on count = subst (λ (z : StopState). ReachesStops z (put_word at (Slot me field.Roll) w.mask) (slice_set pasts me past) s
       (by me (of_roll past me act.Store (seen_so (Begin w field.Roll)))))
-      (sym (else_if (p.now.stop me).is_open (stored_open p me me field.Roll w.mask) (opens p me) (drafting w field.Roll e).shut)) (opens_so w e d.0 d.1 on count)
+      (sym (else_if (p.now.stop me).is_open (stored_open p me me field.Roll w.mask) (opens p me) (drafting w field.Roll e).shut))
+      (opens_so w e d.0 d.1 on count)
 
   -- a key and a site are read
   on_read : p.now.irq me ≡ true → (past.phase == 3) ≡ false
@@ -279,7 +281,8 @@ module _ (v : StopsValue) (p : StopState) (shown : StopShown p v) (me : ℕ) (be
 
   key_on : (k : ℕ) (q : StopState) → p.now.irq me ≡ true → ((j : ℕ) → q.now.stop j ≡ p.now.stop j) → ((d : ℕ) → q.now.inside d ≡ p.now.inside d)
       → ((d : ℕ) → q.now.irq d ≡ p.now.irq d) → ((d : ℕ) → q.calling d ≡ p.calling d) → q.gate ≡ p.gate
-      → q.now.patching ≡ p.now.patching → ReachesStops q at (slice_set pasts me past) s (by me (cond (past.phase == 3) told.Nothing (told.One (event.Label (labels.Key k (is_on (at
+      → q.now.patching ≡ p.now.patching → ReachesStops q at (slice_set pasts me past) s
+      (by me (cond (past.phase == 3) told.Nothing (told.One (event.Label (labels.Key k (is_on (at
       (Key k))))))))
   key_on k q on stop inside irq calling gate patching = rw (on_read on)
       (reads_step u p at at shown.seat shown.source shown.shows me below pasts sized s whole cpus_are f (λ j. refl) (λ j. refl) q

@@ -315,7 +315,8 @@ module _ (core : CoreValue) (a : CallState) (p : StopState) (pasts : List Past) 
     pub named : stop_number (stop_stepped core.stops cpu stage).table
         ≡ at_after (stop_number core.stops.table) (stop_access cpus cpu (stop_control_of core.stops.controls cpu).changes stage)
     named = stop_words_by_name core.stops.table k.whole.stops.table_is (stop_access cpus cpu (stop_control_of core.stops.controls cpu).changes stage)
-        (stop_word_named (setup_of core.stops.online core.stops.labels) refl p core.stops.table core.stops.controls k.stops stops_sized k.whole.stops.table_is cpu stage e)
+        (stop_word_named (setup_of core.stops.online core.stops.labels) refl p core.stops.table core.stops.controls k.stops stops_sized
+        k.whole.stops.table_is cpu stage e)
 
     drafts_next : Drafts (stop_outcome cpu (stop_control_of core.stops.controls cpu) stage (stop_found_at core.stops cpu stage)).control.stage
         (after (past_at pasts cpu) (stop_seen_at core.stops cpu stage)).draft

@@ -105,7 +105,8 @@ set_answered t old k (Err e) free ok err = refused_key t old k IsTruth e free er
 
 module _ {H F : Type 0} (hears : H → Heard → H → Type 0) (runs : F → Called → F → Type 0) where
   -- what a change of a count answers, and what it leaves
-  pub counted : (t : TableValue) (k : ℕ) (up : Bool) (old : MachineCpuValue) (h : H) (f : F) (new : MachineCpuValue) (h' : H) (f' : F) (made : Result Bool SmpError)
+  pub counted : (t : TableValue) (k : ℕ) (up : Bool) (old : MachineCpuValue) (h : H) (f : F) (new : MachineCpuValue) (h' : H) (f' : F)
+      (made : Result Bool SmpError)
       → old.stops.inside ≡ None → CountsOr hears runs t k up old h f new h' f' made
       → IsRefusedOr (key_refusal t.setting.labels.keys k) (IsCount (end_of up)) (answer_of Turned made)
   counted t k up old h f new h' f' (Ok turned) free c = has_key t.setting.labels.keys k (IsCount (end_of up)) (Turned turned) c.0.key tt

@@ -44,7 +44,8 @@ pub run_polled : (m : MachineValue) (lines : List Directive) (answers : List Ans
 run_polled m lines answers old mid new fresh number sent played none still waited =
     let this = old.calls.number in let calls = script_calls m.calls.online this lines in
     let all : HasSent calls (fresh_place m this) new =
-    subst (λ (p : MachineCpuValue). HasSent calls p new) fresh (sent_as (calls ++ []) calls old new (append-nil calls) (sent_then calls [] old mid new sent none)) in
+    subst (λ (p : MachineCpuValue). HasSent calls p new) fresh (sent_as (calls ++ []) calls old new (append-nil calls)
+    (sent_then calls [] old mid new sent none)) in
     let stops = flat_map stops_of played.made in
     let done : HasPlayed m lines answers old new = record {
       made = played.made;

@@ -77,7 +77,8 @@ module _ {H : Type 0} (leads : H → Heard → H → Type 0) where
       → HasSent (calls_to (λ _. call_by old.calls.number k class func info) (queue_of_one online old.calls.number dst)) old new
   by_one online dst k func info class wait old new h h' there other c =
       sent_as _ _ old new (ap (λ (l : List ℕ). calls_to (λ _. call_by old.calls.number k class func info) l)
-      (sym (one_queue online old.calls.number dst there other))) (sent_calls old new (λ _. call_by old.calls.number k class func info) c.0 (dst ∷ []) c.2.sent_is c.1)
+      (sym (one_queue online old.calls.number dst there other))) (sent_calls old new (λ _. call_by old.calls.number k class func info) c.0 (dst ∷ [])
+      c.2.sent_is c.1)
 
   -- to the own CPU, or to one that is not online
   by_none : (online dst : ℕ) (call : Call) (old new : MachineCpuValue) → queue_of_one online old.calls.number dst ≡ []

@@ -21,7 +21,8 @@ module _ (hears : Tlb → Heard → Tlb → Type 0) (leaves : (p : Tlb) (call : 
   is_back : (number : ℕ) (p : Played Tlb NoStop) → IsPlayed hears runs begins Flushes ends m number p → IsBack m p
   is_back number p b = record {
     at = b.at;
-    flushed = flushed_handled hears (λ (h : Tlb). h.entries.items) leaves b.played.cpu.calls p.cpu.calls b.played.handler p.handler (b.part refl) b.polled.handled;
+    flushed = flushed_handled hears (λ (h : Tlb). h.entries.items) leaves b.played.cpu.calls p.cpu.calls b.played.handler p.handler (b.part refl)
+        b.polled.handled;
   }
 
   pub are_back : (numbers : List ℕ) (back : List (Played Tlb NoStop)) → ArePlayed hears runs begins Flushes ends m numbers back → AreBack m back

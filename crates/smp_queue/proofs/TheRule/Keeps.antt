@@ -138,7 +138,8 @@ module _ {S : Type 0} (k : Setting) where
       begun j (Maker i l) e h = absurd h
       begun j (New i l) e h = absurd h
       begun j (Cpu w) e h = at_longer (set s.views id (Maker (n + 1) k)) (New n k ∷ []) j (Cpu w)
-          (set_else s.views id j (Maker (n + 1) k) (λ same. maker_else (some-injective (Maker m k) (Cpu w) (sym (at ∙ ap some is) ∙ (ap (get_elem? s.views) (sym same) ∙ e)))) ∙ e)
+          (set_else s.views id j (Maker (n + 1) k) (λ same. maker_else
+          (some-injective (Maker m k) (Cpu w) (sym (at ∙ ap some is) ∙ (ap (get_elem? s.views) (sym same) ∙ e)))) ∙ e)
 
       made : Ruled {S = S} k record { words = s.words; homes = s.homes; views = set s.views id (Maker (n + 1) k) ++ New n k ∷ [] }
       made = record {
@@ -388,7 +389,11 @@ fresh_sits k n low online =
     }
 
 pub fresh_seat_is : (m : SeatView) (k : Setting) (n : ℕ) → n < k.nr → has k.online n ≡ true → m ≡ New n k → IsCpuSeat m × Sits (known m)
-fresh_seat_is m k n low online e = (subst (λ (x : SeatView). IsCpuSeat x) (sym e) tt, subst (λ (x : SeatView). Sits (known x)) (sym e) (fresh_sits k n low online))
+fresh_seat_is m k n low online e = (
+  subst (λ (x : SeatView). IsCpuSeat x) (sym e) tt,
+  subst (λ (x : SeatView). Sits (known x)) (sym e)
+      (fresh_sits k n low online),
+)
 
 -- of the numbers from n on, none below m in the mask, the next in it is m
 pub next_is : (tries mask n m : ℕ) → n ≤ m → m < n + tries → has mask m ≡ true → ((cpu : ℕ) → n ≤ cpu → cpu < m → has mask cpu ≡ false)

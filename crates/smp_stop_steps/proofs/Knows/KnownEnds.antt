@@ -108,7 +108,8 @@ module _ (p : StopState) (at : Word → ℕ) (seat : ℕ → Seat) (source : ℕ
       let st = stands p at seat source v h sees (In s w a l Rests) is in
       let bounds = todo_bounds u p at seat source h s v.number w a l Rests here in
       let at' = put_word at (Slot s field.Todo) (found - 1) in
-      let shown' = counted_goes s w a 0 low (ap (λ (x : Standing). completes p v.number s x found) st.1) (subst (λ (x : Standing). StopShows u (completes p v.number s x found) at' (put seat v.number (cond (found == 1)
+      let shown' = counted_goes s w a 0 low (ap (λ (x : Standing). completes p v.number s x found) st.1)
+      (subst (λ (x : Standing). StopShows u (completes p v.number s x found) at' (put seat v.number (cond (found == 1)
       (Closes s) Free)) source) st.1 (todo_subtracted u p at seat source h s v.number w a l 0 here through)) in
       search (less_one found bounds.0 (small found bounds.1), is, shown', arith)
 
@@ -120,7 +121,8 @@ module _ (p : StopState) (at : Word → ℕ) (seat : ℕ → Seat) (source : ℕ
       let st = stands p at seat source v h sees (Gives s w a x) is in
       let bounds = todo_bounds_answered u p at seat source h s v.number w a x here in
       let at' = put_word at (Slot s field.Todo) (found - 1) in
-      let shown' = counted_goes s w a x low (ap (λ (y : Standing). completes p v.number s y found) st.1) (subst (λ (y : Standing). StopShows u (completes p v.number s y found) at' (put seat v.number (cond (found == 1)
+      let shown' = counted_goes s w a x low (ap (λ (y : Standing). completes p v.number s y found) st.1)
+      (subst (λ (y : Standing). StopShows u (completes p v.number s y found) at' (put seat v.number (cond (found == 1)
       (Closes s) Free)) source) st.1 (todo_subtracted_answered u p at seat source h s v.number w a x 0 here)) in
       search (less_one found bounds.0 (small found bounds.1), is, shown', arith)
 
@@ -133,6 +135,7 @@ module _ (p : StopState) (at : Word → ℕ) (seat : ℕ → Seat) (source : ℕ
       let known : slot_stored field.Done 1 v ≡ record v { seat = Free } = ap (λ b. cond b (drafted_known field.Done 1 v) (member_stored field.Done 1 v))
       idle in
       let shown' = goes_seat p seat source v sees (stored_open p v.number s field.Done 1) at' Free v.part
-      (told_so u v.number p (stored_open p v.number s field.Done 1) act.Store (Slot s field.Done) None (Some 1) plain) (subst (λ q. StopShows u q at' (put seat v.number
+      (told_so u v.number p (stored_open p v.number s field.Done 1) act.Store (Slot s field.Done) None (Some 1) plain)
+      (subst (λ q. StopShows u q at' (put seat v.number
       Free) source) plain (done_stored u p at seat source h s v.number 0 (sees.seat_is ∙ is))) record { mine = sees.part_is; others = λ c ne. refl } in
       search (known, shown', arith)

@@ -107,7 +107,8 @@ module _ (p : StopState) (at : Word → ℕ) (seat : ℕ → Seat) (source : ℕ
           let p' = record p { nudged = moved_by p.nudged v.number k found new } in
           let shown' = goes_still p seat source v sees p' (put_word at (Key k) new) (record (v.part) { nudged = counted v.part.nudged k found new })
           (told_so u v.number p p' act.Cas (Key k) (Some (at (Key k))) (Some new)
-          (ap (λ n. record p { nudged = moved_by p.nudged v.number k n new }) was)) (key_exchanged u p at seat source h v.number k found new sees.below online (irq_on on)
+          (ap (λ n. record p { nudged = moved_by p.nudged v.number k n new }) was))
+          (key_exchanged u p at seat source h v.number k found new sees.below online (irq_on on)
           was is 0) record {
             mine = search (counted_first, arith);
             others = search (put_other, arith);
@@ -130,7 +131,8 @@ module _ (p : StopState) (at : Word → ℕ) (seat : ℕ → Seat) (source : ℕ
       ap (λ x. key_loaded_by w.func found x v) is ∙ ap (λ k. cond (is_patch k) (record v { seat = next }) (key_read_known w.func found v)) kind in
       let p' = record p { now = patch } in
       let shown' = goes_seat p seat source v sees p' at next v.part
-      (told_so u v.number p p' act.Load (Key w.func) (Some found) None (ap (λ (n : Present). record p { now = n }) plain)) (subst (λ n. StopShows u (record p { now = n }) at (put seat
+      (told_so u v.number p p' act.Load (Key w.func) (Some found) None (ap (λ (n : Present). record p { now = n }) plain))
+      (subst (λ n. StopShows u (record p { now = n }) at (put seat
       v.number next) source) plain (key_loaded_first u p at seat source h v.number s w 0 (sees.seat_is ∙ is) kind active)) record {
         mine = sees.part_is;
         others = λ c ne. refl;

@@ -111,7 +111,8 @@ module _ (p : StopState) (at : Word → ℕ) (seat : ℕ → Seat) (source : ℕ
       let seen = p.looks v.number ++ found ∷ [] in
       let p' = told u p v.number act.Load (Slot s field.State) (Some found) None 0 in
       let shown' = goes_seat p seat source v sees p' at (In s w a found Rests) (record (v.part) { looks = v.part.looks ++ found ∷ [] })
-      (told_so u v.number p p' act.Load (Slot s field.State) (Some found) None refl) (state_loaded u p at seat source h s v.number w a l 0 (sees.seat_is ∙ is) more) record {
+      (told_so u v.number p p' act.Load (Slot s field.State) (Some found) None refl)
+      (state_loaded u p at seat source h s v.number w a l 0 (sees.seat_is ∙ is) more) record {
         mine = search (put_same, arith);
         others = λ c ne. ap (λ x. record (columns_of p c) { looks = x }) (put_other p.looks v.number seen c ne);
       } in
@@ -166,7 +167,8 @@ module _ (p : StopState) (at : Word → ℕ) (seat : ℕ → Seat) (source : ℕ
       let alone = carried_alone u.first p.now.patching seat v.number (p.calling v.number) (subst IsNoPatch (sym here) tt) h.present.runner in
       let shown' = goes_seat p seat source v sees p' at' next part (told_so u v.number p p' act.Sub (Slot s field.Ack) (Some found)
       (Some (one_less found)) (ap (λ (x : Standing). acknowledges p v.number s x found) st.1)) (subst (λ (x : Standing). StopShows u (acknowledges p v.number
-      s x found) at' (put seat v.number next) source) st.1 (ack_subtracted u p at seat source h s v.number w a 0 here (λ two. has_called w (p.calling v.number) (subst (HasCalled
+      s x found) at' (put seat v.number next) source) st.1 (ack_subtracted u p at seat source h s v.number w a 0 here
+      (λ two. has_called w (p.calling v.number) (subst (HasCalled
       v.number w) (sym sees.part_is.calling) (ready two))))) (acked_leaves (acknowledges_now p.now v.number s (a + 1) found) p'.calls p'.calling part
       (left_mine leaves_it n s (p.now.stop s).work w st.3 refl) (left_other leaves_it n s (p.now.stop s).work refl) (ran_mine (a + 1 == 3) (carried
       v.number p.now.patching (p.calling v.number)) (ap told_calling alone ∙ (told_carried (p.calling v.number) ∙ ap carried_call sees.part_is.calling)))
@@ -206,14 +208,16 @@ module _ (p : StopState) (at : Word → ℕ) (seat : ℕ → Seat) (source : ℕ
       call : StopCall
       call = record { func = w.func; arg = at (Slot s field.Arg); answer = 0 }
 
-      go : (b : Bool) → may_call v.number w (Inside a l) ≡ b → Loads (Slot s field.Arg) (cond b (record v { part = record (v.part) { calling = Calls call } }) v)
+      go : (b : Bool) → may_call v.number w (Inside a l) ≡ b → Loads (Slot s field.Arg)
+          (cond b (record v { part = record (v.part) { calling = Calls call } }) v)
       go false e = still p at seat source v h sees act.Load (Slot s field.Arg) (Some (at (Slot s field.Arg))) None (search (is_may, arith))
       go true e =
           let p' = record p { calling = put p.calling v.number (Calls call) } in
           let plain : told u p v.number act.Load (Slot s field.Arg) (Some (at (Slot s field.Arg))) None 0 ≡ p' =
           search (is_may, arith) in
           goes_still p seat source v sees p' at (record (v.part) { calling = Calls call })
-          (told_so u v.number p p' act.Load (Slot s field.Arg) (Some (at (Slot s field.Arg))) None plain) (subst (λ q. StopShows u q at seat source) plain (arg_loaded u p at seat source h s v.number w a l Rests here 0 refl))
+          (told_so u v.number p p' act.Load (Slot s field.Arg) (Some (at (Slot s field.Arg))) None plain)
+          (subst (λ q. StopShows u q at seat source) plain (arg_loaded u p at seat source h s v.number w a l Rests here 0 refl))
           (search (put_same, put_other, arith))
 
   pub refill : (s : ℕ) (w : Work) (a l : ℕ) → v.seat ≡ In s w a l Fills → is_drafting v.source ≡ false →
@@ -224,7 +228,8 @@ module _ (p : StopState) (at : Word → ℕ) (seat : ℕ → Seat) (source : ℕ
       let known : slot_stored field.Ack x v ≡ record v { seat = In s w a l Sets } =
       ap (λ b. cond b (drafted_known field.Ack x v) (member_stored field.Ack x v)) idle ∙ ap (λ y. record v { seat = refilled_by y }) is in
       let shown' = goes_seat p seat source v sees (stored_open p v.number s field.Ack x) at' (In s w a l Sets) v.part
-      (told_so u v.number p (stored_open p v.number s field.Ack x) act.Store (Slot s field.Ack) None (Some x) (stored_plain s field.Ack x w a l Fills is)) (subst (λ q. StopShows u q at' (put seat
+      (told_so u v.number p (stored_open p v.number s field.Ack x) act.Store (Slot s field.Ack) None (Some x) (stored_plain s field.Ack x w a l Fills is))
+      (subst (λ q. StopShows u q at' (put seat
       v.number (In s w a l Sets)) source) (stored_plain s field.Ack x w a l Fills is) (ack_stored u p at seat source h s v.number w a l 0 (sees.seat_is ∙
       is))) record { mine = sees.part_is; others = λ c ne. refl } in
       search (known, shown', arith)

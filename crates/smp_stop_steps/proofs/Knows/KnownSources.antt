@@ -196,7 +196,8 @@ module _ (p : StopState) (at : Word → ℕ) (seat : ℕ → Seat) (source : ℕ
       let begun = p.begun v.number ++ (p.now.stop v.number).work ∷ [] in
       let part = record (v.part) { begun = v.part.begun ++ work ∷ [] } in
       let opened = goes_source p seat source v sees (opens p v.number) at' (Owns work) (Owns work) part
-      (told_so u v.number p (opens p v.number) act.Store (Slot v.number field.Roll) None (Some work.mask) plain) (subst (λ q. StopShows u q at' seat (put source v.number (Owns work))) plain (roll_stored u p at seat source h v.number work 0 is)) (search (
+      (told_so u v.number p (opens p v.number) act.Store (Slot v.number field.Roll) None (Some work.mask) plain)
+      (subst (λ q. StopShows u q at' seat (put source v.number (Owns work))) plain (roll_stored u p at seat source h v.number work 0 is)) (search (
         put_same,
         same,
         put_other,
@@ -212,7 +213,8 @@ module _ (p : StopState) (at : Word → ℕ) (seat : ℕ → Seat) (source : ℕ
   looked b y = record v { source = y; moves = cond b (v.moves ++ own.NotDone ∷ []) v.moves }
 
   pub look_done : (w : Work) → v.source ≡ Owns w → Loads (Slot v.number field.Done) (done_known (at (Slot v.number field.Done)) v)
-  look_done w is = subst (λ o. Loads (Slot v.number field.Done) (looked (at (Slot v.number field.Done) == 0) (done_by (at (Slot v.number field.Done)) o))) (sym is)
+  look_done w is = subst (λ o. Loads (Slot v.number field.Done) (looked (at (Slot v.number field.Done) == 0) (done_by (at (Slot v.number field.Done)) o)))
+      (sym is)
       (search (go, arith))
     where
       there : source v.number ≡ Owns w
@@ -226,7 +228,8 @@ module _ (p : StopState) (at : Word → ℕ) (seat : ℕ → Seat) (source : ℕ
           let one : at (Slot v.number field.Done) ≡ 1 =
           search (done_is, h.present.slots, arith) in
           goes_source p seat source v sees p at (Collects w) (Collects w) v.part
-          (told_so u v.number p p act.Load (Slot v.number field.Done) (Some (at (Slot v.number field.Done))) None refl) (done_loaded u p at seat source h v.number w there one) unmoved_columns
+          (told_so u v.number p p act.Load (Slot v.number field.Done) (Some (at (Slot v.number field.Done))) None refl)
+          (done_loaded u p at seat source h v.number w there one) unmoved_columns
           refl tt
 
   pub collect : (w : Work) → v.source ≡ Collects w → Loads (Slot v.number field.Result) (collected_known (at (Slot v.number field.Result)) v)

@@ -114,7 +114,8 @@ module _ (u : Setup) (p : StopState) (at : Word → ℕ) (seat : ℕ → Seat) (
         stored = stored_more u.cpus at me work k f place d.stored;
         told = search (drafted_more, arith);
       } (past_same
-      (p.now.stop me) stop' (p.begun me) (p.collected me) (λ c. p.answers c me) refl (λ op. absurd (apart (sym op ∙ d.shut))) (λ c. refl) (active_outside work' (p.now.stop me).standing out)
+      (p.now.stop me) stop' (p.begun me) (p.collected me) (λ c. p.answers c me) refl (λ op. absurd (apart (sym op ∙ d.shut))) (λ c. refl)
+      (active_outside work' (p.now.stop me).standing out)
       (h.past me)) (λ
       j ne. refl) (λ j ne. refl) (λ c. outside_not ((p.now.stop me).standing c) (out c)) (λ c op l. apart (sym op ∙ d.shut)) (step_drafts u p.now at seat
       h.present me f v work' d.shut (not_roll f fresh)) in

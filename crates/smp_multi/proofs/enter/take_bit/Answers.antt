@@ -12,7 +12,8 @@ returns-clause-known c =
     let k = c.mask-found.ensures.known in
     let work = (k.0.stops.now.stop c.args.slot).work in
     let v = c.args.seat.now.known in
-    let same : c.has_bit.result ≡ has c.mask-found.result v.number = c.has_bit.ensures ∙ ap (has c.mask-found.result) (sym c.requires.free.seated.number_is) in (
+    let same : c.has_bit.result ≡ has c.mask-found.result v.number = c.has_bit.ensures ∙ ap (has c.mask-found.result) (sym c.requires.free.seated.number_is)
+    in (
       work,
       k.1 ∙ (entered_or c.args.slot work (has c.mask-found.result v.number) v
           ∙ ap (λ b. cond b (entered c.args.slot work v) (missed c.args.slot v)) (sym same)),

@@ -28,6 +28,7 @@ returns-else-exchange_count-clause-known c =
       subst (λ (v : Known). Moment v (Key c.args.k) found.0) loaded found.1,
       found_other found.0 count c.exchange_count.result found.2 lost,
       c.exchange_count.ensures.known
-          ∙ (ap (λ b. cond b (stepped 1 (record v { part = record (v.part) { nudged = counted v.part.nudged c.args.k count next } })) (lost_known c.args.k v)) lost
+          ∙ (ap (λ b. cond b (stepped 1 (record v { part = record (v.part) { nudged = counted v.part.nudged c.args.k count next } }))
+          (lost_known c.args.k v)) lost
           ∙ ap (lost_known c.args.k) loaded),
     )

@@ -15,7 +15,8 @@ loop-number-preserved g c =
     let key = words.key ∙ c.in_ok-owner.ensures.made.2 in
     let made = c.next_seat-seat.ensures in
     let seat = made.seat ∙ (λ i. cond b (Some (fresh_seat (words.table i) (key i) n)) None) in
-    seats_more table _ _ _ _ c.args.setting n c.loop-number.waiting.items c.push.new.self.items c.cpu_if.result c.loop-number.invariant (made.maker.0 ∙ words.table)
+    seats_more table _ _ _ _ c.args.setting n c.loop-number.waiting.items c.push.new.self.items c.cpu_if.result c.loop-number.invariant
+    (made.maker.0 ∙ words.table)
     (made.maker.1 ∙ ap (Maker (n + 1)) key) c.in_ok-push.ensures.items
     (c.cpu_if.ensures ∙ seat_kept b table c.args.setting n c.contains-is_online.ensures.member c.next_seat-seat.result seat)
 

@@ -22,7 +22,8 @@ store-requires-3 c =
     let p = c.args.posting.now in
     let v = c.args.seat.now.known in
     let known = locked_known v c.store.new.seat.known p.id c.flags.result p.class c.requires.outside c.store.ensures.known c.flags.ensures in
-    let known2 = func_known (stepped 1 v) c.store-2.new.seat.known c.store.new.seat.known p.id p.func (posting_of p.id p.class 0 0 0) c.store-2.ensures.known known in
+    let known2 = func_known (stepped 1 v) c.store-2.new.seat.known c.store.new.seat.known p.id p.func (posting_of p.id p.class 0 0 0)
+    c.store-2.ensures.known known in
     ready_post _ _ p post.StoreInfo _ (mine_moved _ _ _ _ _ c.requires.mine c.store-2.ensures.table known2 refl) (sym (ap (λ u. u.stage) known2)) tt refl tt
 
 pub returns-clause-known : goal.returns-clause-known

@@ -9,5 +9,6 @@ compare_exchange-requires c = let r = c.requires in let low = cell_below c.args.
   ap (λ d. d.table) c.seat.view_is ∙ r.table_is,
   omega arith,
   exchange_allowed _ _ _ _ c.seat.invariant.0 c.args.word c.cell.result c.args.expected c.args.number c.cell.ensures
-      (can_same _ _ _ (ap (λ d. d.known) c.seat.view_is) r.can) (reach_same c.args.words.shared.now.key _ _ (Exchange c.args.word c.args.expected c.args.number) (ap (λ d. d.known) c.seat.view_is) r.reaches),
+      (can_same _ _ _ (ap (λ d. d.known) c.seat.view_is) r.can) (reach_same c.args.words.shared.now.key _ _
+      (Exchange c.args.word c.args.expected c.args.number) (ap (λ d. d.known) c.seat.view_is) r.reaches),
 )

@@ -11,7 +11,8 @@ swap-requires c = let r = c.requires in let low = cell_below c.args.word c.cell.
   ap (λ d. d.table) c.seat.view_is ∙ r.table_is,
   omega arith,
   swap_allowed _ _ _ _ c.seat.invariant.0 c.args.word c.cell.result c.args.number c.cell.ensures
-      (can_same _ _ _ (ap (λ d. d.known) c.seat.view_is) r.can) (reach_same c.args.words.shared.now.key _ _ (Swap c.args.word c.args.number) (ap (λ d. d.known) c.seat.view_is) r.reaches),
+      (can_same _ _ _ (ap (λ d. d.known) c.seat.view_is) r.can) (reach_same c.args.words.shared.now.key _ _ (Swap c.args.word c.args.number)
+      (ap (λ d. d.known) c.seat.view_is) r.reaches),
 )
 
 -- the moment, of what the caller sees

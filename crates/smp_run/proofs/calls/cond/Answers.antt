@@ -23,5 +23,6 @@ returns-clause-sent g c =
 pub returns-clause-waited : goal.returns-clause-waited
 returns-clause-waited g c =
     let me = c.args.seat.now in let own = c.requires.seated in let call = c.each_cpu_cond-made in
-    waited_many _ (remote me.cpu.calls.number) c.args.func c.args.info _ c.args.wait me.cpu call.new.self.cpu _ _ call.result own.free call.ensures.answers.calls
+    waited_many _ (remote me.cpu.calls.number) c.args.func c.args.info _ c.args.wait me.cpu call.new.self.cpu _ _ call.result own.free
+    call.ensures.answers.calls
     call.ensures.answers.refused c.requires.waited

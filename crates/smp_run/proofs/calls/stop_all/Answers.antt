@@ -14,7 +14,8 @@ returns-clause-answer g c =
     let IsAlone : ℕ → ℕ → Type 0 = λ online number. IsActiveAlone online c.args.active number in
     rw c.number_or.ensures (all_answered me.cpu (IsAlone me.machine.calls.online me.cpu.calls.number) c.args.arg call.result c.requires.seated.free
     (own_answered _ long_stop (IsMachineWork me.machine.stops c.args.func c.args.arg c.args.active) me call.new.self _ _ c.args.func c.args.arg
-    call.result (λ alone. subst (λ (p : ℕ × ℕ). IsAlone p.0 p.1) (λ i. (sym same i, (sym this.calls ∙ this.stops) i)) alone) c.requires.small call.ensures.ok call.ensures.own)
+    call.result (λ alone. subst (λ (p : ℕ × ℕ). IsAlone p.0 p.1) (λ i. (sym same i, (sym this.calls ∙ this.stops) i)) alone) c.requires.small
+    call.ensures.ok call.ensures.own)
     call.ensures.err)
 
 pub returns-clause-sent : goal.returns-clause-sent

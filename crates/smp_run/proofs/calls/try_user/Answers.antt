@@ -5,7 +5,8 @@ use Rattle.smp_run.proofs.calls.try_user.Goals as goal
 pub returns-in-Ok-clause-sent : goal.returns-in-Ok-clause-sent
 returns-in-Ok-clause-sent g c =
     let me = c.args.seat.now in let call = c.call_async in
-    user_sent _ me.machine.calls.online c.args.dst c.args.u c.args.func c.args.info me.cpu call.new.self.cpu _ _ c.in-Ok.ensures.answers.queued c.in-Ok.ensures.answers.here
+    user_sent _ me.machine.calls.online c.args.dst c.args.u c.args.func c.args.info me.cpu call.new.self.cpu _ _ c.in-Ok.ensures.answers.queued
+    c.in-Ok.ensures.answers.here
 
 pub returns-in-Ok-clause-waited : goal.returns-in-Ok-clause-waited
 returns-in-Ok-clause-waited g c =

@@ -9,7 +9,8 @@ returns-clause-kinds c =
     let labels = c.args.labels.now in let keys = c.in_ok-keys.keys.items in let sites = c.in_ok-sites.sites.items in
     let by_keys = c.in_ok-keys.ensures.0 in let by_sites = c.in_ok-sites.ensures.read.0 in
     kinds_read labels keys sites c.read_sites.new.me.stops c.args.me.now.stops.part.readings c.words-words.ensures.known
-    (same_labels c.args.machine.now c.args.me.now c.read_keys.new.me c.read_sites.new.me labels c.requires.seated (ap (λ (x : CpuValue). x.setting) by_keys.stops_are)
+    (same_labels c.args.machine.now c.args.me.now c.read_keys.new.me c.read_sites.new.me labels c.requires.seated
+    (ap (λ (x : CpuValue). x.setting) by_keys.stops_are)
     (ap (λ (x : CpuValue). x.setting) by_sites.stops_are)
     c.requires.labels)
     (c.in_ok-keys.ensures.1 ∙ c.keys.ensures.value) (c.in_ok-sites.ensures.read.1 ∙ c.sites.ensures.value)

@@ -13,7 +13,8 @@ use Rattle.smp_shootdown.proofs.shoot.shoot_down.Goals as goal
 
 pub returns-clause-ended : goal.returns-clause-ended
 returns-clause-ended g c =
-    subst (λ (s : SeatValue Tlb NoStop). HaveEnded s.cpu.calls (many_call c.args.seat.now.cpu.calls.number Sync FLUSH c.args.space.now.id) (members c.in_ok-called.called))
+    subst (λ (s : SeatValue Tlb NoStop). HaveEnded s.cpu.calls (many_call c.args.seat.now.cpu.calls.number Sync FLUSH c.args.space.now.id)
+    (members c.in_ok-called.called))
     (sym c.seat.view_is) (c.in_ok-called.ensures.answers.ended refl)
 
 pub returns-clause-own : goal.returns-clause-own

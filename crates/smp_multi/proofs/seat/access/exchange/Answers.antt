@@ -31,9 +31,12 @@ pub returns-clause-known : goal.returns-clause-known
 returns-clause-known c =
     let told = c.compare_exchange.ensures.2.1 c.args.word c.cell.ensures in
     ap (λ (s : SeatView). carrying c.seat.inside.carried (known s)) told.1
-    ∙ (exchange_with c.seat.inside.carried (known c.seat.inside.raw.me.0) c.args.word c.compare_exchange.result (cond (c.compare_exchange.result == c.args.expected) (Some c.args.number) None)
-    ∙ ap (λ (v : Known). known_told v act.Cas c.args.word (Some c.compare_exchange.result) (cond (c.compare_exchange.result == c.args.expected) (Some c.args.number) None)) (ap (λ d. d.known) c.seat.view_is))
+    ∙ (exchange_with c.seat.inside.carried (known c.seat.inside.raw.me.0) c.args.word c.compare_exchange.result
+    (cond (c.compare_exchange.result == c.args.expected) (Some c.args.number) None)
+    ∙ ap (λ (v : Known). known_told v act.Cas c.args.word (Some c.compare_exchange.result)
+    (cond (c.compare_exchange.result == c.args.expected) (Some c.args.number) None)) (ap (λ d. d.known) c.seat.view_is))
 
 pub returns-clause-then : goal.returns-clause-then
 returns-clause-then c = subst (λ (v : Known). Moment v c.args.word c.compare_exchange.result) (ap (λ d. d.known) c.seat.view_is)
-    (moment_with c.seat.inside.carried (known c.seat.inside.raw.me.0) c.args.word c.compare_exchange.result (c.compare_exchange.ensures.2.1 c.args.word c.cell.ensures).0)
+    (moment_with c.seat.inside.carried (known c.seat.inside.raw.me.0) c.args.word c.compare_exchange.result
+    (c.compare_exchange.ensures.2.1 c.args.word c.cell.ensures).0)

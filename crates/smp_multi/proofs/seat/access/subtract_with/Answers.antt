@@ -32,4 +32,5 @@ returns-clause-known c =
     let told = c.take_one-found.ensures.2.1 c.args.word c.cell.ensures in
     ap (λ (s : SeatView). carrying c.args.answer (known s)) told.1
     ∙ (sub_with c.args.answer (known c.seat.inside.raw.me.0) c.args.word c.take_one-found.result (one_less c.take_one-found.result)
-    ∙ ap (λ (v : Known). known_told (carrying c.args.answer v) act.Sub c.args.word (Some c.take_one-found.result) (Some (one_less c.take_one-found.result))) (ap (λ d. d.known) c.seat.view_is))
+    ∙ ap (λ (v : Known). known_told (carrying c.args.answer v) act.Sub c.args.word (Some c.take_one-found.result) (Some (one_less c.take_one-found.result)))
+    (ap (λ d. d.known) c.seat.view_is))

@@ -11,7 +11,8 @@ pub invariant_of-me : goal.invariant_of-me
 invariant_of-me g c =
     let d = c.me.inside.seat in
     let kept = subst (λ (x : Option Visit). IsKept d.known c.me.inside.number x c.me.inside.holds c.me.inside.is_open) c.in-Some.is c.me.invariant in
-    let table = ap (λ (m : CpuValue). m.table) c.me.view_is ∙ (c.requires.table ∙ (sym (ap (λ (t : TableValue). t.table) c.self.view_is) ∙ sym c.words.ensures.table)) in
+    let table = ap (λ (m : CpuValue). m.table) c.me.view_is ∙ (c.requires.table ∙
+    (sym (ap (λ (t : TableValue). t.table) c.self.view_is) ∙ sym c.words.ensures.table)) in
     advance_kept g.F.StopFunc.leads _ d c.take_turn-turn.new.seat c.me.inside.number c.in-Some.visit c.take_turn-turn.result.0 c.me.inside.holds
     c.me.inside.is_open kept c.args.func.now c.take_turn-turn.new.func c.take_turn-turn.ensures.at table c.take_turn-turn.result.1
     c.take_turn-turn.ensures.answers c.take_turn-turn.ensures.lives
@@ -26,7 +27,8 @@ returns g c =
     let f = c.args.func.now in
     let h = c.take_turn-turn.new.func in
     let kept = subst (λ (x : Option Visit). IsKept d.known c.me.inside.number x c.me.inside.holds c.me.inside.is_open) c.in-Some.is c.me.invariant in
-    let table = ap (λ (m : CpuValue). m.table) c.me.view_is ∙ (c.requires.table ∙ (sym (ap (λ (t : TableValue). t.table) c.self.view_is) ∙ sym c.words.ensures.table)) in
+    let table = ap (λ (m : CpuValue). m.table) c.me.view_is ∙ (c.requires.table ∙
+    (sym (ap (λ (t : TableValue). t.table) c.self.view_is) ∙ sym c.words.ensures.table)) in
     let several : c.in-Some.visit.kind ≢ One = search rules in
     let more : c.in-Some.visit.acked ≢ EXIT = search rules in
     subst (λ (m : CpuValue). AdvanceAnswers leads m (cpu_of e) f h (Ok turn))

@@ -43,14 +43,16 @@ returns-clause-ok g c = elim c.match-enter.branch [
   | in-Some w ↦ let k = w.in-Some.ensures.known in
       let d = c.me.inside.seat in
       let table = c.enter.ensures.table
-      ∙ (c.words.ensures.table ∙ sym (ap (λ (m : CpuValue). m.table) c.me.view_is ∙ (c.requires.table ∙ sym (ap (λ (t : TableValue). t.table) c.self.view_is)))) in
+      ∙ (c.words.ensures.table ∙ sym (ap (λ (m : CpuValue). m.table) c.me.view_is ∙
+      (c.requires.table ∙ sym (ap (λ (t : TableValue). t.table) c.self.view_is)))) in
       subst (λ (r : Result Kind SmpError). IfOk r (λ kind. Enters c.args.self.now c.args.slot c.args.me.now (cpu.the_view c.match-enter.me-inside) kind))
       (sym w.result-is)
       (subst (λ (m : Inside). Enters c.args.self.now c.args.slot c.args.me.now (cpu.the_view m) w.in-Some.visit.kind) (sym w.me-inside-is)
       (subst (λ (m : CpuValue). Enters c.args.self.now c.args.slot m (cpu_of c.enter.new.seat) w.in-Some.visit.kind) c.me.view_is
       (subst (λ (t : TableValue). Enters t c.args.slot (cpu_of d)
       (cpu_of c.enter.new.seat) w.in-Some.visit.kind) c.self.view_is
-      (enters_answer (record { table = c.self.inside.owner.table.shared.table_id; nr = c.self.inside.nr; setting = c.self.inside.setting }) d c.enter.new.seat c.args.slot k.0 w.in-Some.visit (free g c).1 (idle g c) (there g c) table
+      (enters_answer (record { table = c.self.inside.owner.table.shared.table_id; nr = c.self.inside.nr; setting = c.self.inside.setting }) d
+      c.enter.new.seat c.args.slot k.0 w.in-Some.visit (free g c).1 (idle g c) (there g c) table
       k.1 k.2 k.3))))
   | in-None w ↦
       subst (λ (r : Result Kind SmpError). IfOk r (λ kind. Enters c.args.self.now c.args.slot c.args.me.now (cpu.the_view c.match-enter.me-inside) kind))
@@ -67,7 +69,8 @@ returns-clause-err g c =
           let d = c.me.inside.seat in
           let t = c.enter.ensures.then in
           let table = c.enter.ensures.table
-          ∙ (c.words.ensures.table ∙ sym (ap (λ (m : CpuValue). m.table) c.me.view_is ∙ (c.requires.table ∙ sym (ap (λ (t : TableValue). t.table) c.self.view_is)))) in
+          ∙ (c.words.ensures.table ∙ sym (ap (λ (m : CpuValue). m.table) c.me.view_is ∙
+          (c.requires.table ∙ sym (ap (λ (t : TableValue). t.table) c.self.view_is)))) in
           let known = w.in-None.ensures.known in
           let view : cpu_of c.enter.new.seat ≡ misses c.args.slot (cpu_of d) = λ i. cpu_of (record { table = table i; known = known i }) in
           let found = finds d (Slot c.args.slot field.Roll) t.0 (rests_ungiven _ _ c.me.invariant.rests) t.1 in

@@ -14,7 +14,8 @@ returns g c =
     let v = c.in-Some.visit in
     let kept = subst (λ (x : Option Visit). IsKept d.known c.me.inside.number x c.me.inside.holds c.me.inside.is_open) c.in-Some.is c.me.invariant in
     let table = c.finish.ensures.table
-    ∙ (c.words.ensures.table ∙ sym (ap (λ (m : CpuValue). m.table) c.me.view_is ∙ (c.requires.table ∙ sym (ap (λ (t : TableValue). t.table) c.self.view_is)))) in
+    ∙ (c.words.ensures.table ∙ sym (ap (λ (m : CpuValue). m.table) c.me.view_is ∙
+    (c.requires.table ∙ sym (ap (λ (t : TableValue). t.table) c.self.view_is)))) in
     let several : v.kind ≢ One = search rules in
     let left : v.acked ≡ EXIT = search rules in
     subst (λ (m : CpuValue). FinishAnswers m (cpu_of e) (Ok _)) c.me.view_is

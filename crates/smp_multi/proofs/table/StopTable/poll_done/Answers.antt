@@ -14,7 +14,8 @@ returns-then-not-is_done g c =
     let t = c.is_done.ensures.then in
     let kept = subst (λ b. IsKept d.known c.me.inside.number c.me.inside.visit c.me.inside.holds b) c.if-not-me.false c.me.invariant in
     let table = c.is_done.ensures.table
-    ∙ (c.words.ensures.table ∙ sym (ap (λ (m : CpuValue). m.table) c.me.view_is ∙ (c.requires.table ∙ sym (ap (λ (t : TableValue). t.table) c.self.view_is)))) in
+    ∙ (c.words.ensures.table ∙ sym (ap (λ (m : CpuValue). m.table) c.me.view_is ∙
+    (c.requires.table ∙ sym (ap (λ (t : TableValue). t.table) c.self.view_is)))) in
     subst (λ (m : CpuValue). PollAnswers m (cpu_of e) (Ok None)) c.me.view_is
     (poll_none d e c.me.inside.number c.me.inside.visit c.me.inside.holds t.0 c.is_done.result kept table c.is_done.ensures.known t.1 t.2
     c.if-not-is_done.true)
@@ -25,7 +26,8 @@ returns g c =
     let e = c.collect-word.new.seat in
     let kept = subst (λ b. IsKept d.known c.me.inside.number c.me.inside.visit c.me.inside.holds b) c.if-not-me.false c.me.invariant in
     let table = c.collect-word.ensures.table
-    ∙ (c.words-2.ensures.table ∙ sym (ap (λ (m : CpuValue). m.table) c.me.view_is ∙ (c.requires.table ∙ sym (ap (λ (t : TableValue). t.table) c.self.view_is)))) in
+    ∙ (c.words-2.ensures.table ∙ sym (ap (λ (m : CpuValue). m.table) c.me.view_is ∙
+    (c.requires.table ∙ sym (ap (λ (t : TableValue). t.table) c.self.view_is)))) in
     let small : SFits w32 c.cast_signed.result = search rules in
     let found = c.is_done.ensures.known ∙ ap (λ b. looked b d.known) c.if-not-is_done.false in
     subst (λ (z : ℤ). PollAnswers c.args.me.now (cpu_of e) (Ok (Some z))) (sym (to_z-of_z w32 c.cast_signed.result small))

@@ -13,7 +13,8 @@ returns g c =
     let e = c.run_one-answer.new.seat in
     let kept = subst (λ (x : Option Visit). IsKept d.known c.me.inside.number x c.me.inside.holds c.me.inside.is_open) c.in-Some.is c.me.invariant in
     let table = c.run_one-answer.ensures.table
-    ∙ (c.words.ensures.table ∙ sym (ap (λ (m : CpuValue). m.table) c.me.view_is ∙ (c.requires.table ∙ sym (ap (λ (t : TableValue). t.table) c.self.view_is)))) in
+    ∙ (c.words.ensures.table ∙ sym (ap (λ (m : CpuValue). m.table) c.me.view_is ∙
+    (c.requires.table ∙ sym (ap (λ (t : TableValue). t.table) c.self.view_is)))) in
     let one : c.in-Some.visit.kind ≡ One = search rules in
     let small : SFits w32 c.run_one-answer.result = search rules in
     let leads = g.F.StopFunc.leads in

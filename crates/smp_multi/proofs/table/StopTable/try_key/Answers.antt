@@ -13,7 +13,8 @@ returns g c =
     let e = c.try_key.new.seat in
     let kept = c.me.invariant in
     let table = c.try_key.ensures.table
-    ∙ (c.words.ensures.table ∙ sym (ap (λ (m : CpuValue). m.table) c.me.view_is ∙ (c.requires.table ∙ sym (ap (λ (t : TableValue). t.table) c.self.view_is)))) in
+    ∙ (c.words.ensures.table ∙ sym (ap (λ (m : CpuValue). m.table) c.me.view_is ∙
+    (c.requires.table ∙ sym (ap (λ (t : TableValue). t.table) c.self.view_is)))) in
     let setting = ap (λ (m : CpuValue). m.setting) c.me.view_is ∙ (c.requires.setting ∙ sym (ap (λ (t : TableValue). t.setting) c.self.view_is)) in
     let online = ap (has d.known.setting.online) kept.number_is ∙ kept.online in
     let on = ap (λ (m : CpuValue). m.irq) c.me.view_is ∙ (sym c.interrupts_on.ensures.value ∙ c.if-not-interrupts_on.false) in

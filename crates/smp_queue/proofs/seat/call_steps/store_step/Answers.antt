@@ -14,5 +14,6 @@ store-requires c = let r = c.requires in let low = cell_below c.args.word c.cell
   omega arith,
   store_allowed _ _ _ _ c.seat.invariant.0 c.args.word c.cell.result c.args.number c.cell.ensures
       (can_same _ _ _ (ap (λ d. d.known) c.seat.view_is) (in_handle_can r.at (Store c.args.word c.args.number) r.is_access))
-      (reach_same c.args.words.shared.now.key _ _ (Store c.args.word c.args.number) (ap (λ d. d.known) c.seat.view_is) (in_handle_reaches r.at c.args.words.shared.now.key (Store c.args.word c.args.number) r.is_access)),
+      (reach_same c.args.words.shared.now.key _ _ (Store c.args.word c.args.number) (ap (λ d. d.known) c.seat.view_is)
+      (in_handle_reaches r.at c.args.words.shared.now.key (Store c.args.word c.args.number) r.is_access)),
 )
