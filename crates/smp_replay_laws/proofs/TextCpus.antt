@@ -16,13 +16,13 @@ use Rattle.smp_script.specs.Faults.{◌>>=◌, Fault, at_line}
 use Rattle.smp_script.specs.Fields.{mask_of, or_mask, stays_below}
 use Rattle.smp_script.specs.Labels.{is_labels, whole_labels}
 use Rattle.smp_script.specs.Lines.{Line, fields_of}
-use Rattle.smp_script.specs.Script.{are_online, labels_at, whole_cpus}
+use Rattle.smp_script.specs.Script.{labels_at}
 use Rattle.smp_script.specs.Spelling.{is_field, items_text}
 use Rattle.smp_script.specs.Versions.{limit_of}
 use Rattle.smp_script.specs.declared.version.Version.{Version}
 use Rattle.smp_script.specs.declared.version.Version.TheVariants.{One, Two}
-use Rattle.smp_script.proofs.Texts.Decimals.{is_field-decimal, number_in-decimal}
-use Rattle.smp_script.proofs.Texts.Joins.{fields_join, lines_of-line, whole_fields}
+use Rattle.smp_script.proofs.Texts.Decimals.{is_field-decimal}
+use Rattle.smp_script.proofs.Texts.Joins.{fields_join, lines_of-line}
 use Rattle.smp_script.proofs.Written.LabelWriting.{labels_fields, labels_line_read}
 
 -- the words of the second line, and of the third where it is one of labels
@@ -65,10 +65,6 @@ few_cpus Two = omega arith
 -- the second line is read
 pub cpus_fields : (nr : ℕ) (mask : List ℕ) → nr ≤ 32 → is_field mask ≡ true → list_all is_field (cpus_words nr mask) ≡ true
 cpus_fields nr mask few field = rw (is_field-decimal nr (omega (arith, few)), field) refl
-
-pub cpus_told : (nr online : ℕ) (mask : List ℕ) → 1 ≤ nr → nr ≤ 32 → is_field mask ≡ true → mask_of 32 mask ≡ Ok online → are_online nr online ≡ true
-    → whole_cpus 32 (cpus_words nr mask) ≡ Ok (nr, online)
-cpus_told nr online mask some few field is_mask are = search (is_field-decimal, number_in-decimal, whole_fields, arith)
 
 -- and the third
 labels_found : (read : Result Labels Cause) (labels : Labels) (ls : List Line)

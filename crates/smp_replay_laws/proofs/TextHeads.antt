@@ -25,7 +25,8 @@ use Rattle.smp_events.specs.Text.{line_text}
 use Rattle.smp_events.specs.Traces.{lines_text}
 use Rattle.smp_replay_laws.specs.Texts.{AreShort, AreTold, IsTold}
 use Rattle.smp_replay_laws.proofs.TextWords.{TakesAll}
-use Rattle.smp_replay_laws.proofs.TextCpus.{cpus_fields, cpus_told, cpus_words, labels_told, labels_words}
+use Rattle.smp_script.proofs.Written.Writing.{cpus_are_read}
+use Rattle.smp_replay_laws.proofs.TextCpus.{cpus_fields, cpus_words, labels_told, labels_words}
 use Rattle.smp_replay_laws.proofs.TextLines.{event_words, first_line, length_line, line_words, told_line, used_within}
 
 -- a line that a line feed ends
@@ -51,7 +52,7 @@ online_read nr online mask rest some few field is_mask are short =
     let text = join_with_byte 32 (cpus_words nr mask) in
     let used = used_within 2 12 text (omega arith) short (omega (arith, short)) in
     let back = fields_join (codes "cpus") (decimal nr ∷ mask ∷ []) (cpus_fields nr mask few field) in
-    let read : whole_cpus 32 (fields_of text) ≡ Ok (nr, online) = ap (whole_cpus 32) back ∙ cpus_told nr online mask some few field is_mask are in
+    let read : whole_cpus 32 (fields_of text) ≡ Ok (nr, online) = ap (whole_cpus 32) back ∙ cpus_are_read 32 nr online mask some few (omega arith) field is_mask are in
     rw (used, read) refl
 
 -- the line of the labels

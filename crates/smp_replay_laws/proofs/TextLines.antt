@@ -18,7 +18,7 @@ use Rattle.smp_events.specs.Text.{line_text}
 use Rattle.smp_events.specs.Traces.{lines_text}
 use Rattle.smp_replay_laws.specs.Texts.{AreShort, AreTold, IsTold}
 use Rattle.smp_replay_laws.proofs.TextWords.{TakesAll, joined_words, words_of, words_read}
-use Rattle.smp_replay_laws.proofs.TextFields.{member_told}
+use Rattle.smp_script.proofs.Written.LineWriting.{member_read}
 
 -- what is behind the CPU of a line
 abbrev pub event_words : Event → List (List ℕ)
@@ -62,7 +62,7 @@ line_tells u n cpu e all (small, online, fits) =
     (is_field-decimal cpu (omega (arith, small))) (decimal_lacks 35 cpu refl (omega (arith, small))) in
     let reads = words_read u e all.whole all.keys all.sites fits in
     let whole = whole_fields (decimal cpu ∷ event_words e) (line_fields u cpu e all told) in
-    let member = member_told u.online cpu (omega (arith, small)) online in
+    let member = member_read u.online cpu (omega (arith, small)) online in
     rw (plain, line_words u cpu e all told) (rw (whole, reads.read, member) refl)
 
 -- a line within the limits

@@ -18,7 +18,9 @@ use Rattle.smp_judge.specs.Reading.{below, named_of}
 use Rattle.smp_events.specs.Text.{call_text, class_text, event_text, kind_text, label_text, mask_text, site_text, stop_text, switch_text, way_text}
 use Rattle.smp_replay_laws.specs.Follows.{nothing_left_out}
 use Rattle.smp_replay_laws.specs.Texts.{CallFits, EventFits, LabelFits, StopFits}
-use Rattle.smp_replay_laws.proofs.TextFields.{class_told, kind_told, mask_told, signed_field, signed_told, site_told, switch_told, way_told}
+use Rattle.smp_script.proofs.Written.CanonicalTexts.{mask_is_text}
+use Rattle.smp_script.proofs.Written.LineWriting.{signed_field, signed_read}
+use Rattle.smp_replay_laws.proofs.TextFields.{class_told, kind_told, site_told, switch_told, way_told}
 
 -- a trace leaves nothing out, and its keys and sites have numbers of 32 bits
 pub record TakesAll (u : Setting) : Type 0 where
@@ -113,15 +115,15 @@ stop_reads : (u : Setting) (e : StopEvent) → u.without ≡ nothing_left_out �
 unfolding named_of
 stop_reads u (stops.Open t) whole (m, a, f, g) =
     let k = kind_told t.kind in
-    let x = mask_told 32 t.mask (omega arith) m in
-    let y = mask_told 32 t.active (omega arith) a in
+    let x = mask_is_text 32 t.mask (omega arith) m in
+    let y = mask_is_text 32 t.active (omega arith) a in
     record { fields = search (numbers, k.0, x.field, y.field, arith); read = search (numbers, k.1, x.reads, y.reads, arith) }
 stop_reads u (stops.Enter source) whole f = record { fields = search (numbers, arith); read = search (numbers, arith) }
 stop_reads u (stops.Ack phase) whole f = record { fields = search (numbers, arith); read = search (numbers, arith) }
 stop_reads u (stops.Raise phase) whole f = record { fields = search (numbers, arith); read = rw whole (search (numbers, arith)) }
 stop_reads u (stops.Run func arg) whole f = record { fields = search (numbers, arith); read = search (numbers, arith) }
-stop_reads u (stops.Complete answer) whole f = record { fields = rw (signed_field answer f) refl; read = rw (signed_told answer f) refl }
-stop_reads u (stops.Collect answer) whole f = record { fields = rw (signed_field answer f) refl; read = rw (signed_told answer f) refl }
+stop_reads u (stops.Complete answer) whole f = record { fields = rw (signed_field answer f) refl; read = rw (signed_read answer f) refl }
+stop_reads u (stops.Collect answer) whole f = record { fields = rw (signed_field answer f) refl; read = rw (signed_read answer f) refl }
 stop_reads u stops.Gate whole f = record { fields = refl; read = rw whole refl }
 stop_reads u stops.Ungate whole f = record { fields = refl; read = rw whole refl }
 stop_reads u stops.Off whole f = record { fields = refl; read = rw whole refl }

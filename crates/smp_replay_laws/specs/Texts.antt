@@ -80,14 +80,14 @@ abbrev pub AreTold : Setting → List (ℕ × Event) → Type 0
 AreTold u events = AllByRecursion (IsTold u) events
 
 -- each line has at most 1024 bytes, with its line feed
-abbrev pub AreShort : List Line → Type 0
-AreShort lines = AllByRecursion (λ l. length l.text < 1024) lines
+abbrev pub AreReadable : List Line → Type 0
+AreReadable lines = AllByRecursion (λ l. length l.text < 1024) lines
 
 -- a text is within the limits of the judge
 pub record IsWithin (text : List ℕ) : Type 0 where
   pub bytes : length text ≤ 16777216
   pub count : length (lines_of text) ≤ 1000000
-  pub lines : AreShort (lines_of text)
+  pub lines : AreReadable (lines_of text)
 
 -- what the trace of a script's replay is of: the script's CPUs and labels, and nothing is left out
 abbrev pub traced : Script → Setting

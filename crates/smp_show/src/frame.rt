@@ -1,7 +1,8 @@
 //! Where things stand in a row of a picture: columns of events, lanes of CPUs.
 
 ghost use Rattle.std.specs.Prelude.{◌≡◌, ◌≤◌, ◌<◌, ◌^◌, ◌+◌, ◌*◌, IfOk};
-ghost use Rattle.smp_show.specs.Frame.{bottom_of, column_of, is_busy, is_event_of, lane_height, lanes_from, left_of, lowest_of, step_of, top_of, upper_of, FitsIn};
+ghost use Rattle.smp_show.specs.Frame.{bottom_of, column_of, is_busy, is_event_of, lane_height, lanes_from, left_of};
+ghost use Rattle.smp_show.specs.Frame.{lowest_of, step_of, top_of, upper_of, FitsIn};
 
 use crate::trace::{Row, What};
 use std::alloc::{AllocError, Allocator};

@@ -91,7 +91,7 @@ list_is_text limit m few narrow some =
     let long : (length (list_text m) == 0) ≡ false = some_text (list_text m) m read some in
     record { field = rw (long, spaces, feeds) refl; reads = rw (no_dash (list_text m) m read, read, stays) refl }
 
-mask_is_text : (limit m : ℕ) → limit ≤ NR_CPUS → m < 2 ^ limit → IsMaskText limit (mask_text m) m
+pub mask_is_text : (limit m : ℕ) → limit ≤ NR_CPUS → m < 2 ^ limit → IsMaskText limit (mask_text m) m
 mask_is_text limit m few set = elim (cases_Bool (m == 0)) [
   | inl none ↦
       let zero_ : m ≡ 0 = grind (arith, nat_tests, none) in

@@ -62,7 +62,7 @@ which_written Odd = (refl, refl)
 minus_field : (text : List ℕ) → is_field text ≡ true → is_field (45 ∷ text) ≡ true
 minus_field text h = grind (and_parts, nat_tests, arith)
 
-signed_field : (z : ℤ) → IsAnswer z → is_field (signed_decimal z) ≡ true
+pub signed_field : (z : ℤ) → IsAnswer z → is_field (signed_decimal z) ≡ true
 signed_field (pos n) h = is_field-decimal n (omega (arith, h))
 signed_field (negsuc n) h = minus_field (decimal (suc n)) (is_field-decimal (suc n) (omega (arith, h)))
 
@@ -70,12 +70,12 @@ plain_read : (text : List ℕ) (n : ℕ) → lacks 45 text ≡ true → number_i
 plain_read [] n h e = cc
 plain_read (b ∷ bs) n h e = grind arith
 
-signed_read : (z : ℤ) → IsAnswer z → signed_of (signed_decimal z) ≡ Ok z
+pub signed_read : (z : ℤ) → IsAnswer z → signed_of (signed_decimal z) ≡ Ok z
 signed_read (pos n) h = plain_read (decimal n) n (decimal_lacks 45 n refl (omega (arith, h)))
     (number_in-decimal 0 2147483647 n (omega arith) (omega (arith, h)) (omega (arith, h)))
 signed_read (negsuc n) h = grind (number_in-decimal, arith)
 
-member_read : (mask cpu : ℕ) → cpu < 2 ^ 32 → has mask cpu ≡ true → member_of mask (decimal cpu) ≡ Ok cpu
+pub member_read : (mask cpu : ℕ) → cpu < 2 ^ 32 → has mask cpu ≡ true → member_of mask (decimal cpu) ≡ Ok cpu
 member_read mask cpu h on = let read = number_in-decimal 0 4294967295 cpu (omega arith) (omega arith) (omega arith) in rw (read, on) refl
 
 -- `none` is no list

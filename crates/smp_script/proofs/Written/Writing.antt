@@ -82,7 +82,7 @@ lines_are_read setting n events earlier ((masks, d) ∷ lines) f s apart keys co
       rest,
     ) refl
 
-cpus_are_read : (limit : ℕ) (nr online : ℕ) (mask : List ℕ) → 1 ≤ nr → nr ≤ limit → limit ≤ NR_CPUS → is_field mask ≡ true → mask_of limit mask ≡ Ok online
+pub cpus_are_read : (limit : ℕ) (nr online : ℕ) (mask : List ℕ) → 1 ≤ nr → nr ≤ limit → limit ≤ NR_CPUS → is_field mask ≡ true → mask_of limit mask ≡ Ok online
     → are_online nr online ≡ true
     → whole_cpus limit (codes "cpus" ∷ decimal nr ∷ mask ∷ []) ≡ Ok (nr, online)
 cpus_are_read limit nr online mask some within few field is_mask are = search (is_field-decimal, number_in-decimal, whole_fields, arith)
