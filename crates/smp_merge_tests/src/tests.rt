@@ -49,6 +49,11 @@ fn once(cpu: u32, command: Command) -> Line {
     }
 }
 
+// A post of one call to this CPU.
+fn post_to(cpu: u32, to: u32) -> Line {
+    once(cpu, Command::Post(0, to, Class::Sync, 5, 42, 3))
+}
+
 fn is_all(found: Found, states: usize, steps: u64, depth: usize) -> bool {
     match found {
         Found::All(s, t, d) => s == states && t == steps && d == depth,
@@ -67,8 +72,7 @@ fn is_broken_by(found: Found, schedule: &[u32]) -> bool {
 // farthest is 27 steps away.
 #[test]
 fn three_posts(rt: HostRuntime) -> Result<(), SmpError> {
-    let post = Command::Post(0, 3, Class::Sync, 5, 42, 3);
-    let lines = [once(0, post), once(1, post), once(2, post)];
+    let lines = [post_to(0, 3), post_to(1, 3), post_to(2, 3)];
     let found = explored(rt.alloc(), "0-3", &lines, &Expected::Goes)?;
     assert!(rt; is_all(found, 156, 279, 10));
     Ok(())
@@ -79,7 +83,7 @@ fn three_posts(rt: HostRuntime) -> Result<(), SmpError> {
 #[test]
 fn posts_and_handles(rt: HostRuntime) -> Result<(), SmpError> {
     let lines = [
-        once(0, Command::Post(0, 2, Class::Sync, 5, 42, 3)),
+        post_to(0, 2),
         once(0, Command::Send(2)),
         once(1, Command::Post(0, 2, Class::Sync, 6, 43, 3)),
         once(1, Command::Send(2)),
@@ -98,7 +102,7 @@ fn posts_and_handles(rt: HostRuntime) -> Result<(), SmpError> {
 // A break is told by its single steps: all steps of a post.
 #[test]
 fn a_break(rt: HostRuntime) -> Result<(), SmpError> {
-    let lines = [once(1, Command::Post(0, 3, Class::Sync, 5, 42, 3))];
+    let lines = [post_to(1, 3)];
     let parts = [Part::Is(Atom::Queue(3, 1))];
     let found = explored(rt.alloc(), "0-3", &lines, &Expected::Never(&parts))?;
     assert!(rt; is_broken_by(found, [1, 1, 1, 1, 1, 1, 1, 1].as_slice()));
