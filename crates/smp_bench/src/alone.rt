@@ -2,10 +2,12 @@
 
 use crate::error::BenchError;
 use crate::meter::{Measured, Meter};
+use crate::request::Limit;
 use crate::seat::{Room, Seat, calls_run};
+use crate::workload::Workload;
 use smp_queue::CallTable;
 use std::alloc::Global;
-use std::time::Clock;
+use std::time::{Clock, CpuClock};
 
 /// The CPU that is called.
 const TARGET: u32 = 0;
@@ -27,7 +29,7 @@ fn round(sources: &mut [Seat], records: &[u32], target: &mut Seat) -> u32 {
 }
 
 /// Rounds until the meter says that it is enough.
-fn repeat<R: Clock + Eprint>(
+fn repeat<R: Clock + CpuClock + Eprint>(
     sources: &mut [Seat],
     records: &[u32],
     target: &mut Seat,
@@ -45,7 +47,7 @@ fn repeat<R: Clock + Eprint>(
 }
 
 /// Seats the target and this number of sources, and repeats rounds.
-fn measure<R: Clock + Eprint>(
+fn measure<R: Clock + CpuClock + Eprint>(
     room: &mut Room,
     alloc: Global,
     count: u32,
@@ -64,21 +66,27 @@ fn measure<R: Clock + Eprint>(
     Ok(())
 }
 
-/// Posts from this number of sources, each by each of these of its records.
-pub fn run<R: Clock + Eprint>(
+/// How many sources post.
+fn sources_of(workload: Workload) -> u32 {
+    if workload == Workload::PostOne {
+        1
+    } else {
+        MOST_SOURCES
+    }
+}
+
+/// Posts from each source of this workload, each by each of these of its records.
+pub fn run<R: Clock + CpuClock + Eprint>(
+    rt: &R,
     alloc: Global,
-    count: u32,
+    workload: Workload,
     records: &[u32],
-    mut meter: Meter<R>,
+    limit: Limit,
 ) -> Result<(Measured, u64), BenchError> {
+    let mut meter = Meter::new(rt, alloc, workload.name(), limit)?;
     let (table, mut boot) = CallTable::new(alloc, 6, "0-5".parse()?)?;
     let last = boot.cpu(5)?;
-    measure(
-        &mut Room::new(&table, boot),
-        alloc,
-        count,
-        records,
-        &mut meter,
-    )?;
+    let mut room = Room::new(&table, boot);
+    measure(&mut room, alloc, sources_of(workload), records, &mut meter)?;
     Ok((meter.close()?, calls_run(table.audit(last))?))
 }

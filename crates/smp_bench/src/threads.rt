@@ -4,6 +4,7 @@ ghost use Rattle.smp_bench.specs.Threads.{IsLawful};
 
 use crate::error::BenchError;
 use crate::meter::{Measured, Meter};
+use crate::request::Limit;
 use crate::seat::{Room, Seat, calls_run};
 use crate::workload::Workload;
 use crossbeam_utils::{Backoff, CachePadded};
@@ -15,7 +16,7 @@ use std::sync::Wait;
 use std::sync::atomic::{AtomicU64, Ordering};
 use std::thread;
 use std::thread::Threads;
-use std::time::Clock;
+use std::time::{Clock, CpuClock};
 
 /// Operations of one thread that are timed together.
 const BATCH: u32 = 100;
@@ -88,7 +89,7 @@ fn help<R: Wait>(rt: &R, seat: Seat, progress: &Progress, workload: Workload, ti
 }
 
 /// Calls with wait until the meter says that it is enough, and then tells the others to stop.
-fn call_and_wait<R: Wait + Clock + Eprint>(
+fn call_and_wait<R: Wait + Clock + CpuClock + Eprint>(
     rt: &R,
     seat: &mut Seat,
     others: Option<CpuMask>,
@@ -114,7 +115,7 @@ fn call_and_wait<R: Wait + Clock + Eprint>(
 
 /// Handles the calls of this number of sources until all have made their last. Tells them to stop where the meter says
 /// that it is enough.
-fn handle_all<R: Wait + Clock + Eprint>(
+fn handle_all<R: Wait + Clock + CpuClock + Eprint>(
     rt: &R,
     seat: &mut Seat,
     sources: u64,
@@ -146,7 +147,7 @@ fn handle_all<R: Wait + Clock + Eprint>(
 }
 
 /// What the first thread does, with all others started.
-fn lead<R: Wait + Clock + Eprint>(
+fn lead<R: Wait + Clock + CpuClock + Eprint>(
     rt: &R,
     seat: &mut Seat,
     workload: Workload,
@@ -163,7 +164,7 @@ fn lead<R: Wait + Clock + Eprint>(
 }
 
 /// Starts the helpers, and leads where all were started: whether they were.
-fn run_threads<'a, R: Wait + Threads + Clock + Eprint + Sync>(
+fn run_threads<'a, R: Wait + Threads + Clock + CpuClock + Eprint + Sync>(
     rt: &R,
     mut first: Seat<'a>,
     helpers: Vec<Seat<'a>, Global>,
@@ -202,7 +203,7 @@ fn run_threads<'a, R: Wait + Threads + Clock + Eprint + Sync>(
 }
 
 /// Seats one CPU for each thread, and runs the threads.
-fn measure<R: Wait + Threads + Clock + Eprint + Sync>(
+fn measure<R: Wait + Threads + Clock + CpuClock + Eprint + Sync>(
     room: &mut Room,
     rt: &R,
     alloc: Global,
@@ -225,25 +226,27 @@ fn measure<R: Wait + Threads + Clock + Eprint + Sync>(
     }
 }
 
-/// Runs a workload of 2 to 7 threads, one for each CPU.
-pub fn run<R: Wait + Threads + Clock + Eprint + Sync>(
+/// Runs a workload of calls, a CPU on each thread.
+pub fn run<R: Wait + Threads + Clock + CpuClock + Eprint + Sync>(
     rt: &R,
     alloc: Global,
     workload: Workload,
-    threads: u32,
-    mut meter: Meter<R>,
+    asked: u32,
+    limit: Limit,
 ) -> Result<(Measured, u64), BenchError>
-    requires { IsLawful threads }
+    requires { IsLawful asked }
 {
+    let mut meter = Meter::new(rt, alloc, workload.name(), limit)?;
     // One CPU more keeps the table's last value.
-    let (table, mut boot) = CallTable::new(alloc, 8, "0-7".parse()?)?;
-    let last = boot.cpu(7)?;
+    let (table, mut boot) = CallTable::new(alloc, 32, "0-31".parse()?)?;
+    let last = boot.cpu(31)?;
+    let mut room = Room::new(&table, boot);
     measure(
-        &mut Room::new(&table, boot),
+        &mut room,
         rt,
         alloc,
         workload,
-        threads,
+        workload.threads(asked),
         &mut meter,
     )?;
     Ok((meter.close()?, calls_run(table.audit(last))?))

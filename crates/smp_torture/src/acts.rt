@@ -63,11 +63,20 @@ impl<'e, T: Clock> Torturer<'e, T> {
             .all(|cpu| self.board.is_answered(cpu, me, number))
     }
 
+    /// A number to be told by a call of this CPU. Where the call waits, the number is stored before it.
+    fn told(&mut self, me: u32, wait: bool) -> u64 {
+        let number = self.choice.value();
+        if wait {
+            self.board.ask(me, number);
+        }
+        number
+    }
+
     fn single<R: Wait>(&mut self, seat: &mut EarSeat<'_, '_, R>, kind: Kind, wait: bool) -> bool
         ensures { IsSameSeat seat.old seat.new }
     {
-        let (me, dst, info) = (seat.number(), self.choice.cpu(), self.choice.value());
-        self.board.ask(me, info);
+        let (me, dst) = (seat.number(), self.choice.cpu());
+        let info = self.told(me, wait);
         let made = seat.call_single(dst, kind.func(), info, wait);
         self.deeds.sent.note(kind.func(), dst, info);
         made.is_ok() && (!wait || self.board.is_answered(dst, me, info))
@@ -96,8 +105,8 @@ impl<'e, T: Clock> Torturer<'e, T> {
     fn any<R: Wait>(&mut self, seat: &mut EarSeat<'_, '_, R>, kind: Kind, wait: bool) -> bool
         ensures { IsSameSeat seat.old seat.new }
     {
-        let (me, mask, info) = (seat.number(), self.choice.mask(), self.choice.value());
-        self.board.ask(me, info);
+        let (me, mask) = (seat.number(), self.choice.mask());
+        let info = self.told(me, wait);
         match seat.call_any(mask, kind.func(), info, wait) {
             Ok(cpu) => {
                 self.deeds.sent.note(kind.func(), cpu, info);
@@ -110,8 +119,8 @@ impl<'e, T: Clock> Torturer<'e, T> {
     fn many<R: Wait>(&mut self, seat: &mut EarSeat<'_, '_, R>, kind: Kind, wait: bool) -> bool
         ensures { IsSameSeat seat.old seat.new }
     {
-        let (me, mask, info) = (seat.number(), self.choice.mask(), self.choice.value());
-        self.board.ask(me, info);
+        let (me, mask) = (seat.number(), self.choice.mask());
+        let info = self.told(me, wait);
         let called = seat.call_many(mask, kind.func(), info, wait);
         let wanted = mask.without(me);
         self.note_all(kind, wanted, info);
@@ -122,8 +131,8 @@ impl<'e, T: Clock> Torturer<'e, T> {
     fn each<R: Wait>(&mut self, seat: &mut EarSeat<'_, '_, R>, kind: Kind, wait: bool) -> bool
         ensures { IsSameSeat seat.old seat.new }
     {
-        let (me, mask, info) = (seat.number(), self.choice.mask(), self.choice.value());
-        self.board.ask(me, info);
+        let (me, mask) = (seat.number(), self.choice.mask());
+        let info = self.told(me, wait);
         let says = |cpu: u32, info: u64| u64::from(cpu % 2) == info % 2;
         let called = seat.each_cpu_cond(mask, kind.func(), info, &says, wait);
         let wanted = picked(mask, info);

@@ -1,7 +1,7 @@
 //! What a CPU does at random.
 
-ghost use Rattle.std.specs.Prelude.{◌≡◌, ◌<◌};
-ghost use Rattle.smp_torture.specs.Kinds.{kinds, index_of};
+ghost use Rattle.std.specs.Prelude.{◌≡◌, ◌<◌, ◌↔◌, IsTrue};
+ghost use Rattle.smp_torture.specs.Kinds.{kinds, index_of, Waits};
 
 /// How many kinds there are.
 pub const KINDS: usize = 19;
@@ -103,7 +103,9 @@ impl Kind {
     }
 
     /// Whether calls that name this function wait for it.
-    pub fn waits(func: u16) -> bool {
+    pub fn waits(func: u16) -> bool
+        ensures { IsTrue result ↔ Waits func }
+    {
         match Kind::ALL.get(func as usize) {
             Some(Kind::SingleWait | Kind::AnyWait | Kind::ManyWait | Kind::EachWait) => true,
             _ => false,

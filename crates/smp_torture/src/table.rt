@@ -1,22 +1,31 @@
 //! What was done, as text.
 
+ghost use Rattle.std.specs.Prelude.{◌≡◌, ◌==◌, ◌&&◌, ◌↔◌, IsTrue, IfOk, All, if◌then◌else◌, codes};
+ghost use Rattle.smp_torture.specs.Kinds.{all_kinds, index_of};
+ghost use Rattle.smp_torture.specs.Verdicts.{IsRightOf, IsDrainedOf, IsAllRight};
+
 use crate::kind::Kind;
 use crate::made::Made;
 use crate::report::Report;
 use crate::request::Request;
 use crate::verdict::{
-    are_no_strays, are_seen, heard_of, is_right, is_tallied, made_of, queued_in, sent_of,
+    are_answered, are_no_strays, are_seen, heard_of, is_right, is_tallied, made_of, queued_in,
+    sent_of,
 };
 use smp_queue::{Audit, Tally};
 use std::io;
 
 /// A verdict as a word.
-fn word(right: bool) -> &'static str {
+fn word(right: bool) -> &'static str
+    ensures { result.now ≡ (if right then codes "ok" else codes "OFF") }
+{
     if right { "ok" } else { "OFF" }
 }
 
 /// What is said of a kind that was made, or is drawn, this often.
-fn word_of(count: u64, right: bool) -> &'static str {
+fn word_of(count: u64, right: bool) -> &'static str
+    ensures { result.now ≡ (if (count == 0) && right then codes "not made" else if right then codes "ok" else codes "OFF") }
+{
     if count == 0 && right {
         "not made"
     } else {
@@ -30,8 +39,10 @@ fn print_kind_quietly<R: Print>(
     request: &Request,
     reports: &[Report],
     kind: Kind,
-) -> io::Result<bool> {
-    let right = is_right(reports, kind) && made_of(reports, kind).wrong == 0;
+) -> io::Result<bool>
+    ensures { IfOk result (λ right. IsTrue right ↔ IsRightOf (index_of kind) reports.now) }
+{
+    let right = is_right(reports, kind) && are_answered(reports, kind);
     let (name, weight) = (kind.name(), request.weights.weight(kind));
     let said = word_of(u64::from(weight), right);
     println!(rt; "{name:<14}{weight:>8}  {said}")?;
@@ -44,7 +55,9 @@ fn print_kind<R: Print>(
     request: &Request,
     reports: &[Report],
     kind: Kind,
-) -> io::Result<bool> {
+) -> io::Result<bool>
+    ensures { IfOk result (λ right. IsTrue right ↔ IsRightOf (index_of kind) reports.now) }
+{
     let Made {
         count,
         wrong,
@@ -52,7 +65,7 @@ fn print_kind<R: Print>(
         longest,
     } = made_of(reports, kind);
     let (sent, heard) = (sent_of(reports, kind).count, heard_of(reports, kind).count);
-    let right = is_right(reports, kind) && wrong == 0;
+    let right = is_right(reports, kind) && are_answered(reports, kind);
     let (name, weight, said) = (
         kind.name(),
         request.weights.weight(kind),
@@ -65,7 +78,9 @@ fn print_kind<R: Print>(
 }
 
 /// The line of each kind: whether all are right.
-fn print_kinds<R: Print>(rt: &R, request: &Request, reports: &[Report]) -> io::Result<bool> {
+fn print_kinds<R: Print>(rt: &R, request: &Request, reports: &[Report]) -> io::Result<bool>
+    ensures { IfOk result (λ right. IsTrue right ↔ All (λ k. IsRightOf (index_of k) reports.now) all_kinds) }
+{
     let mut right = true;
     for kind in Kind::ALL {
         right = if request.quiet {
@@ -95,7 +110,9 @@ fn print_audit<R: Print>(
     request: &Request,
     reports: &[Report],
     audit: &Audit,
-) -> io::Result<bool> {
+) -> io::Result<bool>
+    ensures { IfOk result (λ right. IsTrue right ↔ IsDrainedOf audit.now reports.now) }
+{
     match audit {
         Audit::Drained(tally) => {
             if !request.quiet {
@@ -119,7 +136,9 @@ pub fn print_table<R: Print>(
     request: &Request,
     reports: &[Report],
     audit: &Audit,
-) -> io::Result<bool> {
+) -> io::Result<bool>
+    ensures { IfOk result (λ right. IsTrue right ↔ IsAllRight audit.now reports.now) }
+{
     let (threads, seconds, seed) = (request.threads, request.seconds, request.seed);
     println!(rt; "{threads} threads, {seconds} s, seed {seed}")?;
     if request.quiet {

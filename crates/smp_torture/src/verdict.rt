@@ -1,8 +1,8 @@
 //! Whether every handler heard what was sent to it.
 
-ghost use Rattle.std.specs.Prelude.{◌≡◌, ◌<◌, ◌↔◌, All, IsTrue};
+ghost use Rattle.std.specs.Prelude.{◌≡◌, ◌<◌, ◌↔◌, All, IsTrue, [], ◌∷◌};
 ghost use Rattle.smp_torture.specs.Kinds.{index_of};
-ghost use Rattle.smp_torture.specs.Verdicts.{heard_from, IsHeard, AreHeard};
+ghost use Rattle.smp_torture.specs.Verdicts.{heard_from, IsHeard, AreHeard, AreAnswered, AreNoStrays, AreSeen, IsTallied, queued_for};
 
 use crate::cell::Cell;
 use crate::kind::{KINDS, Kind};
@@ -47,6 +47,13 @@ pub fn is_right(reports: &[Report], kind: Kind) -> bool
         .all(|source| are_heard(source, reports, kind))
 }
 
+/// Whether what each CPU has made of a kind was answered as it should be.
+pub fn are_answered(reports: &[Report], kind: Kind) -> bool
+    ensures { IsTrue result ↔ AreAnswered (index_of kind) reports.now }
+{
+    reports.iter().all(|r| r.made(kind).wrong == 0)
+}
+
 /// What all CPUs have made of a kind.
 pub fn made_of(reports: &[Report], kind: Kind) -> Made {
     let mut all = Made::NONE;
@@ -78,38 +85,47 @@ pub fn heard_of(reports: &[Report], kind: Kind) -> Cell {
     all
 }
 
-/// Whether no CPU has heard a call of a function or a CPU that does not exist.
-pub fn are_no_strays(reports: &[Report]) -> bool {
+/// Whether no CPU has heard or made a call of a function or a CPU that does not exist.
+pub fn are_no_strays(reports: &[Report]) -> bool
+    ensures { IsTrue result ↔ AreNoStrays reports.now }
+{
     reports.iter().all(|r| r.sent.strays() == 0 && r.heard.strays() == 0 && r.ran.strays() == 0)
 }
 
 /// Whether each call with wait saw what its source had stored before.
-pub fn are_seen(reports: &[Report]) -> bool {
+pub fn are_seen(reports: &[Report]) -> bool
+    ensures { IsTrue result ↔ AreSeen reports.now }
+{
     reports.iter().all(|r| r.unseen == 0)
 }
 
 /// How many calls a CPU has queued for another: the tables know nothing of calls to itself, which run at once.
-fn queued_for(report: &Report, target: u32) -> u64 {
+fn queued_for(report: &Report, target: u32) -> u64
+    ensures { target < 32 → result ≡ queued_for report.now target }
+{
+    if target == report.number {
+        return 0;
+    }
     let mut count = 0u64;
-    if target != report.number {
-        for func in 0..CALLS {
-            count = count.wrapping_add(report.sent.cell(func, target).count);
-        }
+    for func in 0..CALLS {
+        count = count.wrapping_add(report.sent.cell(func, target).count);
     }
     count
 }
 
+/// Whether the tally words say the same of a CPU and each target.
+fn is_tallied_by(report: &Report, tally: &Tally) -> bool
+    ensures { IsTrue result ↔ IsTallied (report.now ∷ []) tally.now }
+{
+    let queued = &tally.queued[report.number as usize];
+    (0..NR_CPUS).all(|target| queued[target as usize] == queued_for(report, target))
+}
+
 /// Whether the tally words of the machine say the same of each pair of CPUs.
-pub fn is_tallied(reports: &[Report], tally: &Tally) -> bool {
-    for report in reports {
-        for target in 0..NR_CPUS {
-            let queued = tally.queued[report.number as usize][target as usize];
-            if queued != queued_for(report, target) {
-                return false;
-            }
-        }
-    }
-    true
+pub fn is_tallied(reports: &[Report], tally: &Tally) -> bool
+    ensures { IsTrue result ↔ IsTallied reports.now tally.now }
+{
+    reports.iter().all(|report| is_tallied_by(report, tally))
 }
 
 /// How many calls were queued, modulo 2^64.
