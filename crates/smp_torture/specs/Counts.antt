@@ -41,6 +41,10 @@ Notes func cpu value old new = ((func < kinds → cpu < 32 → new ≡ noted old
 abbrev pub no_made : Made
 no_made = record { count = 0; wrong = 0; nanos = 0; longest = 0 }
 
+-- what was made of a kind
+abbrev pub made_of : List Made → ℕ → Made
+made_of mades index = slice_index_or mades index no_made
+
 -- one more, that was answered as it should be or not, and took so long
 abbrev pub made_with : Made → Bool → ℕ → Made
 made_with m right took = record {

@@ -4,9 +4,8 @@ use Rattle.smp_queue.specs.declared.audit.Audit.{Audit}
 use Rattle.smp_queue.specs.declared.audit.Audit.TheVariants.{Drained, Left}
 use Rattle.smp_queue.specs.declared.audit.Tally.{Tally}
 use Rattle.smp_torture.specs.declared.cell.Cell.{Cell}
-use Rattle.smp_torture.specs.declared.made.Made.{Made}
 use Rattle.smp_torture.specs.declared.report.Report.{Report}
-use Rattle.smp_torture.specs.Counts.{cell_at, cell_sum, no_made}
+use Rattle.smp_torture.specs.Counts.{cell_at, cell_sum, made_of}
 use Rattle.smp_torture.specs.Kinds.{all_kinds, index_of}
 
 -- what a CPU has heard of a function from another, by its handler and by its stop function
@@ -21,13 +20,9 @@ IsHeard func source target = cell_at source.sent.cells func target.number ≡ he
 abbrev pub AreHeard : ℕ → List Report → Type 0
 AreHeard func reports = All (λ source. All (λ target. IsHeard func source target) reports) reports
 
--- what a CPU has made of a kind
-abbrev pub made_at : Report → ℕ → Made
-made_at r index = slice_index_or r.made index no_made
-
 -- each CPU's calls of a kind were answered as they should be
 abbrev pub AreAnswered : ℕ → List Report → Type 0
-AreAnswered index reports = All (λ r. (made_at r index).wrong ≡ 0) reports
+AreAnswered index reports = All (λ r. (made_of r.made index).wrong ≡ 0) reports
 
 -- no CPU has heard or made a call of a function or a CPU that does not exist
 abbrev pub AreNoStrays : List Report → Type 0
@@ -38,7 +33,7 @@ abbrev pub AreSeen : List Report → Type 0
 AreSeen reports = All (λ r. r.unseen ≡ 0) reports
 
 -- the calls of the first n functions that a CPU has made to another, modulo 2^64
-pub sent_below : Report → ℕ → ℕ → ℕ
+unfoldable pub sent_below : Report → ℕ → ℕ → ℕ
 sent_below r target zero = 0
 sent_below r target (suc n) = (sent_below r target n + (cell_at r.sent.cells n target).count) % 2 ^ 64
 
@@ -46,19 +41,23 @@ sent_below r target (suc n) = (sent_below r target n + (cell_at r.sent.cells n t
 abbrev pub queued_for : Report → ℕ → ℕ
 queued_for r target = if target == r.number then 0 else sent_below r target 9
 
--- the tally words say the same of each pair of CPUs
-abbrev pub IsTallied : List Report → Tally → Type 0
-IsTallied reports tally = All (λ r. (t : ℕ) → t < 32 → slice_index_or (slice_index_or tally.queued r.number []) t 0 ≡ queued_for r t) reports
+-- the tally words say the same of a CPU and of each target
+abbrev pub IsTalliedBy : Tally → Report → Type 0
+IsTalliedBy tally r = (t : ℕ) → t < 32 → slice_index_or (slice_index_or tally.queued r.number []) t 0 ≡ queued_for r t
+
+-- and so they do of each CPU
+abbrev pub AreTallied : Tally → List Report → Type 0
+AreTallied tally reports = All (λ r. IsTalliedBy tally r) reports
 
 -- a kind was heard as it was sent, and answered as it should be
-abbrev pub IsRightOf : ℕ → List Report → Type 0
+unfoldable pub IsRightOf : ℕ → List Report → Type 0
 IsRightOf index reports = AreHeard index reports × AreAnswered index reports
 
 -- all calls have run, and all that was noted beside the kinds is right
-pub IsDrainedOf : Audit → List Report → Type 0
-IsDrainedOf (Drained tally) reports = IsTallied reports tally × AreNoStrays reports × AreSeen reports
+abbrev pub IsDrainedOf : Audit → List Report → Type 0
+IsDrainedOf (Drained tally) reports = AreTallied tally reports × AreNoStrays reports × AreSeen reports
 IsDrainedOf (Left left) reports = ⊥
 
--- what the program's status 0 says of the reports and of the audit
-abbrev pub IsAllRight : Audit → List Report → Type 0
-IsAllRight audit reports = All (λ k. IsRightOf (index_of k) reports) all_kinds × IsDrainedOf audit reports
+-- so it is of all kinds
+abbrev pub AreAllRight : List Report → Type 0
+AreAllRight reports = All (λ k. IsRightOf (index_of k) reports) all_kinds

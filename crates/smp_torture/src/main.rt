@@ -35,6 +35,7 @@ use crate::launch::{Ended, torture};
 use crate::plan::Plan;
 use crate::request::{Request, read_words};
 use crate::table::print_table;
+use crate::verdict::{are_all_right, is_drained};
 use smp_machine::{Machine, MachineBoot};
 use smp_mask::CpuMask;
 use std::alloc::{AllocError, Global};
@@ -91,7 +92,8 @@ fn run<R: Wait + Threads + Clock + Print + Eprint + Sync>(
     let (machine, boot) = machine_of(alloc, request.threads)?;
     let Ended { last, reports } = torture_from_now(rt, alloc, &request, &machine, boot)?;
     let audit = machine.shutdown(last);
-    Ok(print_table(rt, &request, reports.as_slice(), &audit)?)
+    print_table(rt, &request, reports.as_slice(), &audit)?;
+    Ok(are_all_right(reports.as_slice()) && is_drained(reports.as_slice(), &audit))
 }
 
 /// Tortures as is asked for, and answers the status. Why it could not be done is said on standard error.

@@ -2,7 +2,7 @@
 
 ghost use Rattle.std.specs.Prelude.{◌≡◌, ◌<◌};
 ghost use Rattle.smp_torture.specs.Kinds.{index_of};
-ghost use Rattle.smp_torture.specs.Verdicts.{made_at};
+ghost use Rattle.smp_torture.specs.Counts.{made_of};
 
 use crate::deeds::Deeds;
 use crate::ear::{Ear, Runs};
@@ -35,8 +35,8 @@ impl Report {
     pub fn new(number: u32, handler: Ear<'_>, functions: Runs) -> Report
         requires { number < 32 }
         ensures number { result.number ≡ number }
-        ensures counts { (result.made ≡ handler.deeds.made) × (result.sent ≡ handler.deeds.sent) × (result.heard ≡ handler.heard)
-            × (result.ran ≡ functions.ran) × (result.unseen ≡ handler.unseen) }
+        ensures counts { (result.made ≡ handler.entry.deeds.made) × (result.sent ≡ handler.entry.deeds.sent) × (result.heard ≡ handler.entry.heard)
+            × (result.ran ≡ functions.ran) × (result.unseen ≡ handler.entry.unseen) }
     {
         let Deeds {
             made,
@@ -56,7 +56,7 @@ impl Report {
     }
 
     pub fn made(&self, kind: Kind) -> Made
-        ensures { result ≡ made_at self.now (index_of kind) }
+        ensures { result ≡ made_of self.now.made (index_of kind) }
     {
         self.made[kind.index()]
     }
