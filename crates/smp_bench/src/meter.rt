@@ -1,6 +1,6 @@
 //! Times the batches of a workload.
 
-ghost use Rattle.std.specs.Prelude.{◌≡◌, ◌-◌, ◌^◌, min};
+ghost use Rattle.std.specs.Prelude.{◌≡◌, ◌+◌, ◌-◌, ◌%◌, ◌^◌, min, false, IfOk};
 ghost use Rattle.std.specs.Duration.{as_nanos};
 
 use crate::error::BenchError;
@@ -36,7 +36,7 @@ pub struct Meter<'a, R: Clock + CpuClock + Eprint> {
     operations: u64,
     began: Instant,
     last: Instant,
-    /// The processor's time that the process had used then.
+    /// The processor's time that the process had used when the first batch began.
     used: Duration,
     /// The seconds of which standard error was told.
     told: u64,
@@ -89,7 +89,9 @@ impl<'a, R: Clock + CpuClock + Eprint> Meter<'a, R> {
     }
 
     /// Tells standard error of each second that has passed.
-    fn tell(&mut self, passed: Duration) -> Result<(), BenchError> {
+    fn tell(&mut self, passed: Duration) -> Result<(), BenchError>
+        ensures { (self.new.operations ≡ self.old.operations) × (self.new.failed ≡ self.old.failed) }
+    {
         let seconds = passed.as_secs();
         if seconds > self.told {
             self.told = seconds;
@@ -102,7 +104,10 @@ impl<'a, R: Clock + CpuClock + Eprint> Meter<'a, R> {
     }
 
     /// Notes a batch of this number of operations that ends now. Returns whether the workload goes on.
-    fn note(&mut self, operations: u32) -> Result<bool, BenchError> {
+    fn note(&mut self, operations: u32) -> Result<bool, BenchError>
+        ensures noted { IfOk result (λ _. self.new.operations ≡ (self.old.operations + operations) % 2 ^ 64) }
+        ensures failed { self.new.failed ≡ self.old.failed }
+    {
         let now = Instant::now(self.rt)?;
         if operations > 0 {
             let nanos = nanos_of(now.duration_since(self.last));
@@ -121,7 +126,9 @@ impl<'a, R: Clock + CpuClock + Eprint> Meter<'a, R> {
 
     /// A batch of this number of operations ends now. Returns whether the workload goes on. Where the clock, memory or standard
     /// error fails it does not, and `close` tells so.
-    pub fn lap(&mut self, operations: u32) -> bool {
+    pub fn lap(&mut self, operations: u32) -> bool
+        ensures { self.new.failed ≡ false → (self.old.failed ≡ false) × (self.new.operations ≡ (self.old.operations + operations) % 2 ^ 64) }
+    {
         match self.note(operations) {
             Ok(goes_on) => goes_on,
             Err(_) => {
@@ -131,8 +138,10 @@ impl<'a, R: Clock + CpuClock + Eprint> Meter<'a, R> {
         }
     }
 
-    /// What was measured.
-    pub fn close(self) -> Result<Measured, BenchError> {
+    /// What was measured. `System` where a batch could not be noted.
+    pub fn close(self) -> Result<Measured, BenchError>
+        ensures { IfOk result (λ m. (self.entry.failed ≡ false) × (m.operations ≡ self.entry.operations)) }
+    {
         if self.failed {
             return Err(BenchError::System);
         }
