@@ -1,8 +1,7 @@
 //! Posts and their handling by one thread.
 
 use crate::error::BenchError;
-use crate::meter::{Measured, Meter};
-use crate::request::Limit;
+use crate::meter::Meter;
 use crate::seat::{Room, Seat, calls_run};
 use crate::workload::Workload;
 use smp_queue::CallTable;
@@ -11,9 +10,6 @@ use std::time::{Clock, CpuClock};
 
 /// The CPU that is called.
 const TARGET: u32 = 0;
-
-/// Sources are the CPUs from 1 to this.
-const MOST_SOURCES: u32 = 4;
 
 /// How many handlings are timed together.
 const ROUNDS: u32 = 100;
@@ -46,47 +42,44 @@ fn repeat<R: Clock + CpuClock + Eprint>(
     }
 }
 
-/// Seats the target and this number of sources, and repeats rounds.
+/// Seats the target and the sources up to below this number, and repeats rounds.
 fn measure<R: Clock + CpuClock + Eprint>(
     room: &mut Room,
     alloc: Global,
-    count: u32,
+    end: u32,
     records: &[u32],
     meter: &mut Meter<R>,
 ) -> Result<(), BenchError> {
     let mut target = room.seat(TARGET)?;
-    let mut sources = Vec::new(alloc);
-    for number in 1..=MOST_SOURCES {
-        if number <= count {
-            sources.push(room.seat(number)?)?;
-        }
-    }
+    let mut sources = room.seats(alloc, end)?;
     meter.begin()?;
     repeat(sources.as_mut_slice(), records, &mut target, meter);
     Ok(())
 }
 
-/// How many sources post.
-fn sources_of(workload: Workload) -> u32 {
-    if workload == Workload::PostOne {
-        1
-    } else {
-        MOST_SOURCES
+/// The sources are the CPUs from 1 up to below this.
+fn end_of(workload: Workload) -> u32 {
+    match workload {
+        Workload::PostOne => 2,
+        _ => 5,
     }
 }
 
-/// Posts from each source of this workload, each by each of these of its records.
+/// Posts from each source of this workload, each by each of these of its records: how many calls have run.
 pub fn run<R: Clock + CpuClock + Eprint>(
-    rt: &R,
     alloc: Global,
     workload: Workload,
     records: &[u32],
-    limit: Limit,
-) -> Result<(Measured, u64), BenchError> {
-    let mut meter = Meter::new(rt, alloc, workload.name(), limit)?;
+    meter: &mut Meter<R>,
+) -> Result<u64, BenchError> {
     let (table, mut boot) = CallTable::new(alloc, 6, "0-5".parse()?)?;
     let last = boot.cpu(5)?;
-    let mut room = Room::new(&table, boot);
-    measure(&mut room, alloc, sources_of(workload), records, &mut meter)?;
-    Ok((meter.close()?, calls_run(table.audit(last))?))
+    measure(
+        &mut Room::new(&table, boot),
+        alloc,
+        end_of(workload),
+        records,
+        meter,
+    )?;
+    calls_run(table.audit(last))
 }

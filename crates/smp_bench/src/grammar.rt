@@ -45,9 +45,11 @@ struct Word<'a> {
 }
 
 // The program, with no word.
-fn program<'a>(alloc: Global) -> Result<Command<'a>, AllocError> {
-    let program = Command::new(alloc, "smp_bench").bin_name("smp_bench")?;
-    Ok(program.about(ABOUT).version(VERSION).after_help(MORE))
+fn program<'a>(alloc: Global) -> Command<'a> {
+    Command::new(alloc, "smp_bench")
+        .about(ABOUT)
+        .version(VERSION)
+        .after_help(MORE)
 }
 
 // A word of the command line.
@@ -92,7 +94,7 @@ fn words<'a>() -> [Word<'a>; 4] {
 
 /// All that the command line may have.
 pub fn grammar<'a>(alloc: Global) -> Result<Command<'a>, AllocError> {
-    let mut grammar = program(alloc)?;
+    let mut grammar = program(alloc);
     for word in words() {
         grammar = grammar.arg(arg_of(alloc, word))?;
     }

@@ -25,7 +25,7 @@ mod watch;
 mod workload;
 
 use crate::error::BenchError;
-use crate::meter::Measured;
+use crate::meter::{Measured, Meter};
 use crate::request::{Limit, Request, read_words};
 use crate::workload::Workload;
 use std::alloc::{AllocError, Global};
@@ -34,6 +34,38 @@ use std::sync::Wait;
 use std::thread::Threads;
 use std::time::{Clock, CpuClock};
 use std::{env, io};
+
+/// Runs a workload of calls on a new table: how many calls have run.
+fn run_calls<R: Wait + Threads + Clock + CpuClock + Eprint + Sync>(
+    rt: &R,
+    alloc: Global,
+    workload: Workload,
+    threads: u32,
+    meter: &mut Meter<R>,
+) -> Result<u64, BenchError>
+    requires { IsLawful threads }
+{
+    match workload {
+        Workload::PostOne => alone::run(alloc, workload, &[10], meter),
+        Workload::PostEight => alone::run(alloc, workload, &[10, 11], meter),
+        _ => threads::run(rt, alloc, workload, threads, meter),
+    }
+}
+
+/// Runs a workload of calls, and measures it.
+fn measure_calls<R: Wait + Threads + Clock + CpuClock + Eprint + Sync>(
+    rt: &R,
+    alloc: Global,
+    workload: Workload,
+    threads: u32,
+    limit: Limit,
+) -> Result<(Measured, u64), BenchError>
+    requires { IsLawful threads }
+{
+    let mut meter = Meter::new(rt, alloc, workload.name(), limit)?;
+    let calls = run_calls(rt, alloc, workload, threads, &mut meter)?;
+    Ok((meter.close()?, calls))
+}
 
 /// Runs a workload on a new table or machine: what was measured, and how many calls or stop functions have run.
 fn run<R: Wait + Threads + Clock + CpuClock + Eprint + Sync>(
@@ -45,13 +77,10 @@ fn run<R: Wait + Threads + Clock + CpuClock + Eprint + Sync>(
 ) -> Result<(Measured, u64), BenchError>
     requires { IsLawful threads }
 {
-    match workload {
-        Workload::PostOne => alone::run(rt, alloc, workload, &[10], limit),
-        Workload::PostEight => alone::run(rt, alloc, workload, &[10, 11], limit),
-        Workload::RoundTrip | Workload::Wake | Workload::Async | Workload::Many => {
-            threads::run(rt, alloc, workload, threads, limit)
-        }
-        _ => stops::run(rt, alloc, workload, threads, limit),
+    if workload.is_of_calls() {
+        measure_calls(rt, alloc, workload, threads, limit)
+    } else {
+        stops::run(rt, alloc, workload, threads, limit)
     }
 }
 
@@ -110,9 +139,7 @@ fn do_words<R: Wait + Threads + Clock + CpuClock + Print + Eprint + Sync>(
     alloc: Global,
     words: &[String],
 ) -> io::Result<u8> {
-    let texts: Result<Vec<&str>, AllocError> = words.iter().map(|w| w.as_str()).collect(alloc);
-    let texts = texts?;
-    let request = match read_words(alloc, texts.as_slice()) {
+    let request = match read_words(alloc, words) {
         Ok(request) => request,
         Err(error) => {
             error.print(rt)?;

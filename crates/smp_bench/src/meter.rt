@@ -10,7 +10,7 @@ use std::alloc::Global;
 use std::time::{Clock, CpuClock, Duration, Instant};
 
 /// What was measured: how many operations, and the times of their batches.
-#[derive(Clone, Copy, Debug, PartialEq, Eq)]
+#[derive(Clone, Copy)]
 pub struct Measured {
     pub operations: u64,
     pub times: Times,

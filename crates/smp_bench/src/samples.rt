@@ -12,7 +12,7 @@ pub fn tenths_of_one(nanos: u64, operations: u64) -> u64
 }
 
 /// Tenths of a nanosecond that one operation took.
-#[derive(Clone, Copy, Debug, PartialEq, Eq)]
+#[derive(Clone, Copy)]
 pub struct Times {
     /// Half of the batches stay below, or are the same.
     pub median: u64,

@@ -89,6 +89,15 @@ impl<'a> Seat<'a> {
     }
 }
 
+/// This number of CPUs, from 0 on.
+pub fn first_cpus(count: u32) -> Result<CpuMask, BenchError> {
+    let mut mask = CpuMask::empty();
+    for number in 0..count {
+        mask = mask.with(number)?;
+    }
+    Ok(mask)
+}
+
 /// The CPUs of a table that have no seat yet.
 #[derive(Drop)]
 pub struct Room<'a> {
@@ -113,6 +122,15 @@ impl<'a> Room<'a> {
             cpu,
             counter,
         })
+    }
+
+    /// The seats of the CPUs from 1 up to below this number.
+    pub fn seats(&mut self, alloc: Global, end: u32) -> Result<Vec<Seat<'a>, Global>, BenchError> {
+        let mut seats = Vec::new(alloc);
+        for number in 1..end {
+            seats.push(self.seat(number)?)?;
+        }
+        Ok(seats)
     }
 }
 

@@ -9,14 +9,13 @@ use crate::error::BenchError;
 use crate::meter::{Measured, Meter};
 use crate::request::Limit;
 use crate::rest::{call_all, rest_and_call, rest_to_the_end};
-use crate::seat::Counter;
+use crate::seat::{Counter, first_cpus};
 use crate::signs::Signs;
 use crate::stand::{Runs, Stand, label, poll};
 use crate::watch::watch;
 use crate::workload::Workload;
 use crossbeam_utils::{Backoff, CachePadded};
 use smp_machine::{Crew, Machine, MachineBoot, Played, run_cpus};
-use smp_mask::CpuMask;
 use std::alloc::{AllocError, Global};
 use std::sync::Wait;
 use std::thread;
@@ -206,15 +205,6 @@ fn sum_up(back: Vec<Played<Counter, Runs>, Global>) -> Result<(Measured, u64), B
         Some(measured) => Ok((measured, sum)),
         None => Err(BenchError::NoThread),
     }
-}
-
-/// This number of CPUs, from 0 on.
-fn first_cpus(count: u32) -> Result<CpuMask, BenchError> {
-    let mut mask = CpuMask::empty();
-    for number in 0..count {
-        mask = mask.with(number)?;
-    }
-    Ok(mask)
 }
 
 /// Runs the CPUs of a machine, each on a thread of its own, and one more thread that watches over them.

@@ -3,9 +3,8 @@
 ghost use Rattle.smp_bench.specs.Threads.{IsLawful};
 
 use crate::error::BenchError;
-use crate::meter::{Measured, Meter};
-use crate::request::Limit;
-use crate::seat::{Room, Seat, calls_run};
+use crate::meter::Meter;
+use crate::seat::{Room, Seat, calls_run, first_cpus};
 use crate::workload::Workload;
 use crossbeam_utils::{Backoff, CachePadded};
 use smp_mask::CpuMask;
@@ -212,12 +211,8 @@ fn measure<R: Wait + Threads + Clock + CpuClock + Eprint + Sync>(
     meter: &mut Meter<R>,
 ) -> Result<(), BenchError> {
     let first = room.seat(0)?;
-    let mut helpers = Vec::new(alloc);
-    let mut others = CpuMask::empty();
-    for number in 1..threads {
-        helpers.push(room.seat(number)?)?;
-        others = others.with(number)?;
-    }
+    let helpers = room.seats(alloc, threads)?;
+    let others = first_cpus(threads)?.without(0);
     meter.begin()?;
     if run_threads(rt, first, helpers, workload, others, meter) {
         Ok(())
@@ -226,28 +221,26 @@ fn measure<R: Wait + Threads + Clock + CpuClock + Eprint + Sync>(
     }
 }
 
-/// Runs a workload of calls, a CPU on each thread.
+/// Runs a workload of calls, a CPU on each thread: how many calls have run.
 pub fn run<R: Wait + Threads + Clock + CpuClock + Eprint + Sync>(
     rt: &R,
     alloc: Global,
     workload: Workload,
     asked: u32,
-    limit: Limit,
-) -> Result<(Measured, u64), BenchError>
+    meter: &mut Meter<R>,
+) -> Result<u64, BenchError>
     requires { IsLawful asked }
 {
-    let mut meter = Meter::new(rt, alloc, workload.name(), limit)?;
     // One CPU more keeps the table's last value.
     let (table, mut boot) = CallTable::new(alloc, 32, "0-31".parse()?)?;
     let last = boot.cpu(31)?;
-    let mut room = Room::new(&table, boot);
     measure(
-        &mut room,
+        &mut Room::new(&table, boot),
         rt,
         alloc,
         workload,
         workload.threads(asked),
-        &mut meter,
+        meter,
     )?;
-    Ok((meter.close()?, calls_run(table.audit(last))?))
+    calls_run(table.audit(last))
 }

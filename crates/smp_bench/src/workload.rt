@@ -1,13 +1,12 @@
 //! What is measured.
 
-ghost use Rattle.std.specs.Prelude.{◌≤◌, ◌≢◌, ◌→◌};
 ghost use Rattle.smp_bench.specs.Threads.{IsLawful, AreThreadsOf};
 
 /// How many workloads there are.
 const WORKLOADS: usize = 13;
 
 /// What is measured: one operation of it, and who takes part.
-#[derive(Clone, Copy, Debug, PartialEq, Eq)]
+#[derive(Clone, Copy, PartialEq, Eq)]
 pub enum Workload {
     /// One thread posts one call, sends and handles it. An operation is one call.
     PostOne,
@@ -73,6 +72,19 @@ impl Workload {
 
     pub fn name(self) -> &'static str {
         Workload::NAMES[self as usize]
+    }
+
+    /// Whether it is measured on a table of calls, and not on a machine.
+    pub fn is_of_calls(self) -> bool {
+        match self {
+            Workload::PostOne
+            | Workload::PostEight
+            | Workload::RoundTrip
+            | Workload::Wake
+            | Workload::Async
+            | Workload::Many => true,
+            _ => false,
+        }
     }
 
     /// How many threads it has, where this number is asked for. One CPU of a table of calls keeps the table's last value, so

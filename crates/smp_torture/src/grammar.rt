@@ -37,99 +37,88 @@ const USUAL: &str =
     "single=16,single-wait=16,async=16,any=16,any-wait=16,many=16,many-wait=16,each=16,each-wait=16,\
 stop-one=2,stop-two=2,stop-machine=2,set-key=2,key-inc=2,key-dec=2,read-key=16,read-site=16,sleep=2,poll=32";
 
-/// What stands behind an option.
+/// An option with a value, and what help says of it.
 #[derive(Clone, Copy)]
-enum Value {
-    /// A number from the least to the greatest.
-    Number { low: u64, high: u64 },
-    /// Kinds with their weights.
-    Weights,
-    /// Nothing: it is there or not.
-    Nothing,
-}
-
-/// An option, and what help says of it.
-#[derive(Clone, Copy)]
-struct Named {
+struct Named<'a> {
     name: &'static str,
-    value: Value,
+    /// What help writes for its value.
+    shown: &'static str,
+    value: ValueParser<'a>,
     /// What it is where no word says.
     usual: &'static str,
     help: &'static str,
 }
 
-const OPTIONS: [Named; 6] = [
+const OPTIONS: [Named<'static>; 5] = [
     Named {
         name: "threads",
-        value: Value::Number { low: 2, high: 32 },
+        shown: "N",
+        value: ValueParser::Unsigned(2, 32),
         usual: "4",
         help: "Makes N CPUs, each on a thread of its own, 2 to 32",
     },
     Named {
         name: "seconds",
-        value: Value::Number { low: 1, high: 3600 },
+        shown: "N",
+        value: ValueParser::Unsigned(1, 3600),
         usual: "1",
         help: "Ends after N seconds, 1 to 3600",
     },
     Named {
         name: "seed",
-        value: Value::Number {
-            low: 0,
-            high: u64::MAX,
-        },
+        shown: "N",
+        value: ValueParser::Unsigned(0, u64::MAX),
         usual: "1",
         help: "Draws by this number what each CPU does",
     },
     Named {
         name: "report",
-        value: Value::Number { low: 1, high: 3600 },
+        shown: "N",
+        value: ValueParser::Unsigned(1, 3600),
         usual: "1",
         help: "Tells standard error of it each N seconds, 1 to 3600",
     },
     Named {
         name: "weights",
-        value: Value::Weights,
+        shown: "KIND=W,..",
+        value: ValueParser::String,
         usual: USUAL,
         help: "Draws these kinds by these weights, 0 to 65535, and no other kind",
     },
-    Named {
-        name: "quiet",
-        value: Value::Nothing,
-        usual: "",
-        help: "Prints only what does not depend on the schedule",
-    },
 ];
 
-// An option.
-fn arg_of<'a>(alloc: Global, named: Named) -> Arg<'a> {
-    let arg = Arg::new(alloc, named.name)
+// An option with a value.
+fn arg_of<'a>(alloc: Global, named: Named<'a>) -> Arg<'a> {
+    Arg::new(alloc, named.name)
         .long(named.name)
-        .help(named.help);
-    match named.value {
-        Value::Number { low, high } => arg
-            .value_name("N")
-            .action(ArgAction::Set)
-            .value_parser(ValueParser::unsigned(low, high))
-            .default_value(named.usual),
-        Value::Weights => arg
-            .value_name("KIND=W,..")
-            .action(ArgAction::Set)
-            .default_value(named.usual),
-        Value::Nothing => arg.action(ArgAction::SetTrue),
-    }
+        .value_name(named.shown)
+        .help(named.help)
+        .action(ArgAction::Set)
+        .value_parser(named.value)
+        .default_value(named.usual)
+}
+
+// The option without a value.
+fn quiet<'a>(alloc: Global) -> Arg<'a> {
+    Arg::new(alloc, "quiet")
+        .long("quiet")
+        .help("Prints only what does not depend on the schedule")
+        .action(ArgAction::SetTrue)
 }
 
 // The program, with no option but help and version.
-fn program<'a>(alloc: Global) -> Result<Command<'a>, AllocError> {
-    let program = Command::new(alloc, "smp_torture").bin_name("smp_torture")?;
-    Ok(program.about(ABOUT).version(VERSION).after_help(MORE))
+fn program<'a>(alloc: Global) -> Command<'a> {
+    Command::new(alloc, "smp_torture")
+        .about(ABOUT)
+        .version(VERSION)
+        .after_help(MORE)
 }
 
 /// All that the command line may have.
 pub fn grammar<'a>(alloc: Global) -> Result<Command<'a>, AllocError> {
-    let mut grammar = program(alloc)?;
+    let mut grammar = program(alloc);
     for named in OPTIONS {
         grammar = grammar.arg(arg_of(alloc, named))?;
     }
-    Ok(grammar)
+    grammar.arg(quiet(alloc))
 }

@@ -7,7 +7,7 @@ ghost use Rattle.smp_torture.specs.Kinds.{kinds, index_of, Waits};
 pub const KINDS: usize = 19;
 
 /// What a CPU may do: a call, a stop, a change of a key, a reading, a sleep or polls.
-#[derive(Clone, Copy, Debug, PartialEq, Eq)]
+#[derive(Clone, Copy)]
 pub enum Kind {
     /// A call to one CPU, without wait and with it.
     Single,

@@ -94,13 +94,13 @@ fn refusal(alloc: Global, text: &'static str) -> Result<Error, AllocError> {
 }
 
 /// What `clap` finds in the words.
-fn matches_of<'a>(alloc: Global, words: &'a [&'a str]) -> Result<ArgMatches<'a>, Error> {
+fn matches_of<'a>(alloc: Global, words: &'a [String]) -> Result<ArgMatches<'a>, Error> {
     grammar(alloc)?.try_get_matches_from(words)
 }
 
 /// What the words of the command line ask for, the program's own name first. Where they are no command line, or ask for help
 /// or the version, the answer is what `clap` says.
-pub fn read_words<'a>(alloc: Global, words: &'a [&'a str]) -> Result<Request, Error> {
+pub fn read_words(alloc: Global, words: &[String]) -> Result<Request, Error> {
     let found = matches_of(alloc, words)?;
     match read_matches(&found) {
         Ok(request) => Ok(request),
