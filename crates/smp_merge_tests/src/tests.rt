@@ -28,7 +28,7 @@ fn explored(
         states: 10000,
         bytes: 100000000,
     };
-    let verdict = explore_merged(alloc, core, lines, expected, most, &mut Unwatched)?;
+    let verdict = explore_merged(alloc, core, lines, *expected, most, &mut Unwatched)?;
     Ok(match verdict {
         Verdict::All {
             states,
