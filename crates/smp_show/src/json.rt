@@ -159,10 +159,12 @@ fn write_arrows<A: Allocator>(
     choice: &Choice,
     arrows: &[Arrow],
 ) -> Result<(), AllocError> {
-    for (number, arrow) in arrows.iter().enumerate() {
+    let mut number = 0usize;
+    for arrow in arrows {
         if has_arrow(choice, arrow) {
             write_arrow(out, number, arrow)?;
         }
+        number = number.saturating_add(1);
     }
     Ok(())
 }
