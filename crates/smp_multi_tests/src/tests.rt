@@ -227,6 +227,23 @@ fn online_of(
     Ok(table.online())
 }
 
+/// Whether a table of these limits has these CPUs online, or is refused where they are not lawful.
+fn is_made(
+    alloc: Global,
+    nr: u32,
+    cpus: &str,
+    labels: &LabelMap,
+    is_lawful: bool,
+) -> Result<bool, SmpError> {
+    let online: CpuMask = cpus.parse()?;
+    let wanted = if is_lawful {
+        Ok(online)
+    } else {
+        Err(SmpError::BadArgument)
+    };
+    Ok(online_of(alloc, nr, online, labels) == wanted)
+}
+
 #[test]
 fn a_table_has_lawful_limits(rt: HostRuntime) -> Result<(), Fail> {
     let off = Entry {
@@ -247,31 +264,27 @@ fn a_table_has_lawful_limits(rt: HostRuntime) -> Result<(), Fail> {
         (2, "0-1", true),
         (32, "0-31", true),
     ] {
-        let online: CpuMask = cpus.parse()?;
-        let wanted = if is_lawful {
-            Ok(online)
-        } else {
-            Err(SmpError::BadArgument)
-        };
-        assert_eq!(rt;
-            online_of(rt.alloc(), nr, online, &labels),
-            wanted,
-            "{nr} {cpus}"
-        );
+        let is_right = is_made(rt.alloc(), nr, cpus, &labels, is_lawful)?;
+        assert!(rt; is_right, "{nr} {cpus}");
     }
+    Ok(())
+}
+
+/// A table that is made in this heap, and let go.
+fn table_in(heap: &LocalHeap, online: CpuMask) -> Result<(), SmpError> {
+    let (_table, _boot) = StopTable::new(heap, NR_CPUS, online, &LabelMap::empty())?;
     Ok(())
 }
 
 #[test]
 fn each_growth_may_be_refused(rt: HostRuntime) -> Result<(), Fail> {
     let online: CpuMask = "0-31".parse()?;
-    let none = LabelMap::empty();
     // No growth is smaller than 16 bytes, so that each is the first to be refused by some heap.
     for steps in 0..100_000usize {
         let size = steps * 16;
         let heap = LocalHeap::new(rt.alloc(), size)?;
-        match StopTable::new(&heap, NR_CPUS, online, &none) {
-            Ok(_) => {
+        match table_in(&heap, online) {
+            Ok(()) => {
                 // A table has 2,092 words of 8 bytes.
                 assert!(rt; size > 2_092 * 8, "{size} bytes");
                 return Ok(());

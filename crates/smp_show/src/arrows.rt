@@ -69,6 +69,30 @@ fn ends(frame: &Frame<'_>, from: &Row, to: &Row) -> (Ends, u64)
     }
 }
 
+// To which event an arrow goes on.
+fn write_far<A: Allocator + Copy>(
+    alloc: A,
+    out: &mut String<A>,
+    x: u64,
+    y: u64,
+    number: usize,
+) -> Result<(), AllocError> {
+    let label = format!(in alloc; "to {number}")?;
+    write_text(out, "far", x, y, label.as_str())
+}
+
+// From which event an arrow comes.
+fn write_near<A: Allocator + Copy>(
+    alloc: A,
+    out: &mut String<A>,
+    x: u64,
+    y: u64,
+    number: usize,
+) -> Result<(), AllocError> {
+    let label = format!(in alloc; "from {number}")?;
+    write_text(out, "near", x, y, label.as_str())
+}
+
 // The begin of an arrow whose end is in a later row: to the right edge, with the number of the event there.
 fn write_begin<A: Allocator + Copy>(
     alloc: A,
@@ -78,12 +102,9 @@ fn write_begin<A: Allocator + Copy>(
 ) -> Result<(), AllocError> {
     let (x, y) = point(frame, &arrow.from);
     let edge = frame.left(frame.last) + frame.step();
-    let style = arrow.style;
-    let number = arrow.to.number;
     let path = format!(in alloc; "M {x} {y} m 0 6 v 6 H {edge}")?;
-    write_path(out, style, path.as_str(), false)?;
-    let label = format!(in alloc; "to {number}")?;
-    write_text(out, "far", edge - 2, y + 21, label.as_str())
+    write_path(out, arrow.style, path.as_str(), false)?;
+    write_far(alloc, out, edge - 2, y + 21, arrow.to.number)
 }
 
 // The end of an arrow that begins in an earlier row: from the left edge, with the number of the event there.
@@ -94,12 +115,9 @@ fn write_end<A: Allocator + Copy>(
     arrow: &Arrow,
 ) -> Result<(), AllocError> {
     let (x, y) = point(frame, &arrow.to);
-    let style = arrow.style;
-    let number = arrow.from.number;
     let path = format!(in alloc; "M {LEFT} {y} m 0 15 H {x} v -7")?;
-    write_path(out, style, path.as_str(), true)?;
-    let label = format!(in alloc; "from {number}")?;
-    write_text(out, "near", LEFT + 2, y + 24, label.as_str())
+    write_path(out, arrow.style, path.as_str(), true)?;
+    write_near(alloc, out, LEFT + 2, y + 24, arrow.from.number)
 }
 
 /// Draws an arrow, or the part of it that is in this row, where both its CPUs have lanes.

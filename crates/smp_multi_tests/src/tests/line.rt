@@ -87,6 +87,21 @@ fn first_fault(drivers: &mut [Driver], parts: &[&[Line]]) -> Option<(usize, usiz
     None
 }
 
+/// Plays the parts of a case on this number of CPUs of a table, and shows each of them to a law: the first fault.
+fn play_on(
+    alloc: Global,
+    room: &mut Room,
+    cpus: u32,
+    parts: &[&[Line]],
+) -> Result<Option<(usize, usize)>, SmpError> {
+    let mut drivers = room.drive_all(alloc, cpus)?;
+    let fault = first_fault(drivers.as_mut_slice(), parts);
+    for driver in drivers.iter() {
+        laws::is_shown(driver.table, &driver.cpu);
+    }
+    Ok(fault)
+}
+
 /// Plays the parts of a case, one after the other, on this number of CPUs of a new table: the part and the index there of the
 /// first line that goes another way. Functions answer 9.
 pub fn play(
@@ -97,13 +112,9 @@ pub fn play(
     labels: &LabelMap,
     parts: &[&[Line]],
 ) -> Result<Option<(usize, usize)>, SmpError> {
-    let (table, boot) = StopTable::new(alloc, nr, online.parse()?, labels)?;
-    let mut drivers = Room::new(&table, boot).drive_all(alloc, cpus)?;
-    let fault = first_fault(drivers.as_mut_slice(), parts);
-    for driver in drivers.iter() {
-        laws::is_shown(driver.table, &driver.cpu);
-    }
-    Ok(fault)
+    let online = online.parse()?;
+    let (table, boot) = StopTable::new(alloc, nr, online, labels)?;
+    play_on(alloc, &mut Room::new(&table, boot), cpus, parts)
 }
 
 /// Plays a case on the CPUs of a table with no labels, which are all online: the first fault.

@@ -91,6 +91,19 @@ fn run_threads<R: Wait + Threads>(rt: &R, drivers: Vec<Driver, Global>, right: &
     }
 }
 
+/// Turns the key on, and then runs the other CPUs in threads: how many moved it as they should.
+fn nudge_by<R: Wait + Threads>(
+    rt: &R,
+    source: &mut Driver,
+    mut drivers: Vec<Driver, Global>,
+    work: Work,
+) -> u64 {
+    let answer = turn_on(source, drivers.as_mut_slice(), work);
+    let right = AtomicU64::new(if answer == Some(0) { 0 } else { 100 });
+    run_threads(rt, drivers, &right);
+    right.load(Ordering::SeqCst)
+}
+
 /// Turns the key on, and then runs the CPUs in threads: how many moved it as they should, and its count then.
 fn nudge_all<R: Wait + Threads>(
     rt: &R,
@@ -98,13 +111,11 @@ fn nudge_all<R: Wait + Threads>(
     room: &mut Room,
     work: Work,
 ) -> Result<(u64, u64), SmpError> {
+    let drivers = room.drive_all(alloc, CPUS)?;
     let mut source = room.drive(SOURCE)?;
-    let mut drivers = room.drive_all(alloc, CPUS)?;
-    let answer = turn_on(&mut source, drivers.as_mut_slice(), work);
-    let right = AtomicU64::new(if answer == Some(0) { 0 } else { 100 });
-    run_threads(rt, drivers, &right);
+    let right = nudge_by(rt, &mut source, drivers, work);
     let count = source.count_of_key()?;
-    Ok((right.load(Ordering::SeqCst), count))
+    Ok((right, count))
 }
 
 /// Runs the CPUs of a new table: how many moved the key as they should, and its count.
