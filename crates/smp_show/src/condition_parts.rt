@@ -29,9 +29,9 @@ pub enum Part {
     Joint,
 }
 
-const WORDS: [&str; 16] = [
+const WORDS: [&str; 15] = [
     "gate", "key", "entry", "site", "flags", "func", "info", "next", "head", "intr", "hand",
-    "queued", "ran", "slot", "queue", "place",
+    "queued", "ran", "slot", "queue",
 ];
 
 const PLACES: [&str; 5] = ["free", "held", "queued", "batch", "running"];
@@ -69,20 +69,28 @@ fn are_numbers<A: Allocator>(alloc: A, field: &[u8], is_short: bool) -> Result<b
     )
 }
 
+// What an atom of this word is about, where it has numbers behind it; none where it is none.
+fn subject_named(name: &[u8]) -> Option<Subject> {
+    if is_word(name, b"place") {
+        Some(Subject::Record)
+    } else if is_one_of(name, &WORDS) {
+        Some(Subject::Word)
+    } else {
+        None
+    }
+}
+
 // What an atom is about that begins so; none where none does.
 fn subject_of<A: Allocator + Copy>(alloc: A, field: &[u8]) -> Result<Option<Subject>, AllocError> {
     if is_word(field, b"said") {
         return Ok(Some(Subject::Said));
     }
-    let name = head(alloc, field)?;
-    if !is_one_of(name, &WORDS) || !are_numbers(alloc, field, false)? {
-        return Ok(None);
-    }
-    Ok(Some(if is_word(name, b"place") {
-        Subject::Record
+    let subject = subject_named(head(alloc, field)?);
+    Ok(if are_numbers(alloc, field, false)? {
+        subject
     } else {
-        Subject::Word
-    }))
+        None
+    })
 }
 
 // Whether a field is a value of this subject.

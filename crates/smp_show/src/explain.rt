@@ -64,7 +64,7 @@ fn place_in<A: Allocator>(alloc: A, text: &[u8]) -> Result<Place, AllocError> {
 }
 
 /// A line at fault, and the templates that it may keep to.
-#[derive(Clone, Copy)]
+#[derive(Drop)]
 struct Wrong<'a, A: Allocator> {
     place: Place,
     line: u32,
@@ -173,6 +173,19 @@ fn words_at<A: Allocator + Copy>(
     words.join(alloc, ", ")
 }
 
+// Adds what else one template may have at a field.
+fn push_other<A: Allocator + Copy>(
+    alloc: A,
+    texts: &mut Vec<String<A>, A>,
+    place: &Place,
+    template: &str,
+    at: usize,
+) -> Result<(), AllocError> {
+    let mut text = String::new(alloc);
+    write_other(&mut text, place, template, at)?;
+    push_new(texts, text)
+}
+
 // What may stand at a field, each once: first the words, then what else these templates may have there.
 fn all_at<A: Allocator + Copy>(
     alloc: A,
@@ -181,11 +194,10 @@ fn all_at<A: Allocator + Copy>(
     at: usize,
 ) -> Result<Vec<String<A>, A>, AllocError> {
     let mut texts = Vec::new(alloc);
-    push_new(&mut texts, words_at(alloc, place, found, at)?)?;
+    let words = words_at(alloc, place, found, at)?;
+    push_new(&mut texts, words)?;
     for template in found {
-        let mut text = String::new(alloc);
-        write_other(&mut text, place, template, at)?;
-        push_new(&mut texts, text)?;
+        push_other(alloc, &mut texts, place, template, at)?;
     }
     Ok(texts)
 }
@@ -203,6 +215,30 @@ fn write_number<A: Allocator>(
     }
 }
 
+// Each of these may stand at a field.
+fn write_texts<A: Allocator>(out: &mut String<A>, texts: &[String<A>]) -> Result<(), AllocError> {
+    for text in texts {
+        writeln!(out, "    here may stand: {text}")?;
+    }
+    Ok(())
+}
+
+// What these templates may have at a field, and the template where it is one alone.
+fn write_found<A: Allocator + Copy>(
+    alloc: A,
+    out: &mut String<A>,
+    place: &Place,
+    found: &[&str],
+    at: usize,
+) -> Result<(), AllocError> {
+    let texts = all_at(alloc, place, found, at)?;
+    write_texts(out, texts.as_slice())?;
+    match found {
+        [template] => writeln!(out, "    the line: {template}"),
+        _ => Ok(()),
+    }
+}
+
 // What a field at fault has, and what it may have.
 fn write_field<A: Allocator + Copy>(
     alloc: A,
@@ -213,13 +249,7 @@ fn write_field<A: Allocator + Copy>(
     let found = candidates(alloc, wrong, at)?;
     write_number(out, at, common_name(&wrong.place, &found, at))?;
     write_stands(out, wrong.fields, at)?;
-    for text in all_at(alloc, &wrong.place, &found, at)?.iter() {
-        writeln!(out, "    here may stand: {text}")?;
-    }
-    if let [template] = found.as_slice() {
-        writeln!(out, "    the line: {template}")?;
-    }
-    Ok(())
+    write_found(alloc, out, &wrong.place, found.as_slice(), at)
 }
 
 // What a field of a condition has, and what it may have.
@@ -254,14 +284,13 @@ fn field_of<A: Allocator + Copy>(
     requires { AreShort (map (λ f. f.now) wrong.now.fields.now) }
 {
     if is_replay {
-        let Wrong {
-            place,
-            line,
-            cause,
-            fields,
-            ..
-        } = *wrong;
-        return field_at_fault(alloc, place.limit, line, fields, cause);
+        return field_at_fault(
+            alloc,
+            wrong.place.limit,
+            wrong.line,
+            wrong.fields,
+            wrong.cause,
+        );
     }
     match wrong.cause {
         Cause::TooLong | Cause::Cut | Cause::SharedKey => Ok(None),
@@ -271,6 +300,24 @@ fn field_of<A: Allocator + Copy>(
 
 ghost use Rattle.std.specs.Prelude.{map};
 ghost use Rattle.smp_script.specs.Lines.{AreShort};
+
+// What is wrong with a line.
+fn write_wrong<A: Allocator + Copy>(
+    alloc: A,
+    out: &mut String<A>,
+    wrong: &Wrong<'_, A>,
+    is_replay: bool,
+) -> Result<(), AllocError>
+    requires { AreShort (map (λ f. f.now) wrong.now.fields.now) }
+{
+    if has_condition(&wrong.place, wrong.fields) {
+        return write_part(alloc, out, wrong);
+    }
+    match field_of(alloc, wrong, is_replay)? {
+        Some(at) => write_field(alloc, out, wrong, at),
+        None => Ok(()),
+    }
+}
 
 // What is wrong with a line that is there.
 fn write_line<A: Allocator + Copy>(
@@ -286,22 +333,17 @@ fn write_line<A: Allocator + Copy>(
     write_bytes(out, line)?;
     writeln!(out, "")?;
     let kind = kind_of(text);
+    let place = place_in(alloc, text)?;
     let fields = fields(alloc, line)?;
     let templates = templates_at(alloc, kind, fault.line)?;
     let wrong = Wrong {
-        place: place_in(alloc, text)?,
+        place,
         line: fault.line,
         cause: fault.cause,
         fields: fields.as_slice(),
         templates: templates.as_slice(),
     };
-    if has_condition(&wrong.place, wrong.fields) {
-        return write_part(alloc, out, &wrong);
-    }
-    match field_of(alloc, &wrong, kind == Some(TextKind::Replay))? {
-        Some(at) => write_field(alloc, out, &wrong, at),
-        None => Ok(()),
-    }
+    write_wrong(alloc, out, &wrong, kind == Some(TextKind::Replay))
 }
 
 /// What is said of a text by its first fault: the line and the cause, the line itself, the field at fault by its number

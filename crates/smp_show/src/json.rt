@@ -8,15 +8,14 @@ use crate::cell::cell;
 use crate::choice::Choice;
 use crate::frame::{column, last_column};
 use crate::mark::phase_name;
-use crate::show::{ending, rows};
+use crate::show::{Replay, ending, read_replay};
 use crate::spans::{Arrow, Drawn, Span, arrows, bands, commands};
 use crate::svg::{lane_cpus, moments_of};
 use crate::trace::{Row, What};
 use smp_mask::SmpError;
 use smp_script::line::parts;
-use smp_script::script::{Script, read_script};
-use smp_script::stream::{read_text, write_text};
-use smp_script::{Mode, Outcome, Watched};
+use smp_script::stream::write_text;
+use smp_script::{Outcome, Watched};
 use std::alloc::{AllocError, Allocator};
 use std::io::{Read, Write};
 use std::str::from_utf8;
@@ -154,22 +153,13 @@ fn write_spans<A: Allocator>(
     Ok(())
 }
 
-// What lasts from one event to another.
-fn write_lasting<A: Allocator + Copy>(
-    alloc: A,
+// The arrows that are chosen of these.
+fn write_arrows<A: Allocator>(
     out: &mut String<A>,
     choice: &Choice,
-    text: &[u8],
-    replayed: (&Script<A>, &[Row]),
+    arrows: &[Arrow],
 ) -> Result<(), AllocError> {
-    let (script, rows) = replayed;
-    let lines = parts(alloc, text, b'\n')?;
-    let moments = moments_of(alloc, script)?;
-    let boxes = commands(alloc, lines.as_slice(), moments.as_slice(), rows)?;
-    write_spans(out, choice, boxes.as_slice())?;
-    let bands = bands(alloc, rows, last_column(rows))?;
-    write_spans(out, choice, bands.as_slice())?;
-    for (number, arrow) in arrows(alloc, rows)?.iter().enumerate() {
+    for (number, arrow) in arrows.iter().enumerate() {
         if has_arrow(choice, arrow) {
             write_arrow(out, number, arrow)?;
         }
@@ -177,24 +167,79 @@ fn write_lasting<A: Allocator + Copy>(
     Ok(())
 }
 
+// The commands of a replay.
+fn write_boxes<A: Allocator + Copy>(
+    alloc: A,
+    out: &mut String<A>,
+    choice: &Choice,
+    replay: &Replay<A>,
+) -> Result<(), AllocError> {
+    let lines = parts(alloc, replay.text.as_slice(), b'\n')?;
+    let moments = moments_of(alloc, &replay.script)?;
+    let rows = replay.rows.as_slice();
+    let boxes = commands(alloc, lines.as_slice(), moments.as_slice(), rows)?;
+    write_spans(out, choice, boxes.as_slice())
+}
+
+// What else lasts from one event to another.
+fn write_lasting<A: Allocator + Copy>(
+    alloc: A,
+    out: &mut String<A>,
+    choice: &Choice,
+    rows: &[Row],
+) -> Result<(), AllocError> {
+    let bands = bands(alloc, rows, last_column(rows))?;
+    write_spans(out, choice, bands.as_slice())?;
+    let arrows = arrows(alloc, rows)?;
+    write_arrows(out, choice, arrows.as_slice())
+}
+
+// The tracks of the CPUs that have a lane.
+fn write_tracks<A: Allocator>(out: &mut String<A>, cpus: &[u32]) -> Result<(), AllocError> {
+    for cpu in cpus {
+        write_track(out, *cpu)?;
+    }
+    Ok(())
+}
+
+// What these events have done.
+fn write_events<A: Allocator + Copy>(
+    alloc: A,
+    out: &mut String<A>,
+    rows: &[Row],
+) -> Result<(), AllocError> {
+    for row in rows {
+        write_event(alloc, out, row)?;
+    }
+    Ok(())
+}
+
+// What is chosen of a script's replay, between the first line and the last.
+fn write_chosen<A: Allocator + Copy>(
+    alloc: A,
+    out: &mut String<A>,
+    choice: &Choice,
+    replay: &Replay<A>,
+) -> Result<(), AllocError> {
+    let rows = replay.rows.as_slice();
+    let cpus = lane_cpus(alloc, choice, &replay.script, rows)?;
+    write_tracks(out, cpus.as_slice())?;
+    write_boxes(alloc, out, choice, replay)?;
+    write_lasting(alloc, out, choice, rows)?;
+    let chosen = choice.chosen(alloc, rows)?;
+    write_events(alloc, out, chosen.as_slice())
+}
+
 // What is chosen of a script's replay.
 fn json<A: Allocator + Copy>(
     alloc: A,
     choice: &Choice,
-    text: &[u8],
-    script: &Script<A>,
-    rows: &[Row],
+    replay: &Replay<A>,
 ) -> Result<String<A>, AllocError> {
     let mut out = String::new(alloc);
     out.push_str("{\"displayTimeUnit\":\"ns\",\"traceEvents\":[\n")?;
     out.push_str("{\"name\":\"process_name\",\"ph\":\"M\",\"pid\":0,\"args\":{\"name\":\"smp\"}}")?;
-    for cpu in lane_cpus(alloc, choice, script, rows)?.iter() {
-        write_track(&mut out, *cpu)?;
-    }
-    write_lasting(alloc, &mut out, choice, text, (script, rows))?;
-    for row in choice.chosen(alloc, rows)?.iter() {
-        write_event(alloc, &mut out, row)?;
-    }
+    write_chosen(alloc, &mut out, choice, replay)?;
     out.push_str("\n]}\n")?;
     Ok(out)
 }
@@ -214,12 +259,10 @@ pub fn show_json<A: Allocator + Copy, R: Read, W: Write>(
     ensures kept { OnOk result (failed_of writer.new ≡ failed_of writer.old) }
     ensures flushed { OnOk result (flushed_of writer.new ≡ true) }
 {
-    let text = read_text(alloc, reader)?;
-    let script = read_script(alloc, Mode::Replay, text.as_slice())?;
-    let rows = rows(alloc, &script)?;
-    let Ok(told) = json(alloc, choice, text.as_slice(), &script, rows.as_slice()) else {
+    let replay = read_replay(alloc, reader)?;
+    let Ok(told) = json(alloc, choice, &replay) else {
         return Err(SmpError::NoMemory);
     };
     write_text(writer, told.as_bytes())?;
-    Ok(ending(rows.as_slice()))
+    Ok(ending(replay.rows.as_slice()))
 }

@@ -19,11 +19,11 @@ fn field_at<'a>(template: &'a str, place: usize) -> Option<&'a str> {
 
 /// What a line of this template may have at this place; none where it has ended.
 pub fn takes_at<'a>(place: &Place, template: &'a str, at: usize) -> Option<Takes<'a>> {
-    match field_at(template, at) {
-        Some("COND") => None,
-        Some(name) => Some(takes_of(place, template, name)),
-        None => None,
+    let name = field_at(template, at)?;
+    if name == "COND" {
+        return None;
     }
+    Some(takes_of(place, template, name))
 }
 
 /// The name of the field at this place, as the formats have it; none of a word, and behind the end.

@@ -1,9 +1,10 @@
 //! A replay with one column for each CPU.
 
 ghost use Rattle.std.specs.Prelude.{◌≡◌, ◌++◌, IfOk, OnOk, string_bytes};
+ghost use Rattle.std.specs.Fmt.{decimal};
 ghost use Rattle.std.specs.List.{flat_map};
 ghost use Rattle.smp_mask.specs.Mask.{members};
-ghost use Rattle.smp_show.specs.Cells.{apart, cell_at, front_text, head_cell, head_text, is_column, row_text, table_cell, told_text};
+ghost use Rattle.smp_show.specs.Cells.{apart, cell_at, front_text, head_cell, head_text, is_column, padded, row_text, table_cell, told_text};
 
 use crate::cell::cell;
 use crate::choice::Choice;
@@ -123,6 +124,19 @@ fn write_apart<A: Allocator>(
     write!(out, " CPU {cpu}: {text}")
 }
 
+// A number, and spaces behind it up to this width.
+fn write_number<A: Allocator + Copy>(
+    alloc: A,
+    out: &mut String<A>,
+    number: usize,
+    width: usize,
+) -> Result<(), AllocError>
+    ensures { OnOk result (string_bytes out.new ≡ string_bytes out.old ++ padded (decimal number) width) }
+{
+    let text = format!(in alloc; "{number}")?;
+    write_padded(out, text.as_str(), width)
+}
+
 /// The number of an event, its line's, and the line itself.
 pub fn write_front<A: Allocator + Copy>(
     alloc: A,
@@ -133,13 +147,9 @@ pub fn write_front<A: Allocator + Copy>(
 ) -> Result<(), AllocError>
     ensures { OnOk result (string_bytes out.new ≡ string_bytes out.old ++ front_text layout.now.script row.now.number row.now.line script.now) }
 {
-    let number = row.number;
-    let line = row.line;
-    let number = format!(in alloc; "{number}")?;
-    write_padded(out, number.as_str(), NUMBER)?;
+    write_number(alloc, out, row.number, NUMBER)?;
     write!(out, " ")?;
-    let line = format!(in alloc; "{line}")?;
-    write_padded(out, line.as_str(), LINE)?;
+    write_number(alloc, out, row.line, LINE)?;
     write!(out, " ")?;
     write_padded(out, script, layout.script)?;
     write!(out, " |")
@@ -177,6 +187,21 @@ fn write_row<A: Allocator + Copy>(
     write_told(alloc, out, layout, row, script, text.as_str())
 }
 
+// The names of the columns.
+fn write_names<A: Allocator + Copy>(
+    alloc: A,
+    out: &mut String<A>,
+    layout: &Layout<'_>,
+) -> Result<(), AllocError>
+    ensures { OnOk result (string_bytes out.new ≡ string_bytes out.old ++ flat_map (head_cell layout.now.column) layout.now.cpus.now) }
+{
+    for cpu in layout.cpus {
+        let name = format!(in alloc; "CPU {cpu}")?;
+        write_table_cell(out, name.as_str(), layout.column)?;
+    }
+    Ok(())
+}
+
 // The head of the table.
 fn write_head<A: Allocator + Copy>(
     alloc: A,
@@ -188,10 +213,7 @@ fn write_head<A: Allocator + Copy>(
     write!(out, "event  line ")?;
     write_padded(out, "script", layout.script)?;
     write!(out, " |")?;
-    for cpu in layout.cpus {
-        let name = format!(in alloc; "CPU {cpu}")?;
-        write_table_cell(out, name.as_str(), layout.column)?;
-    }
+    write_names(alloc, out, layout)?;
     writeln!(out, "")
 }
 

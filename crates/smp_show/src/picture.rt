@@ -192,6 +192,48 @@ fn write_folded<A: Allocator + Copy>(
     write_text(out, "near", 4, frame.foot() + FOLDED, text.as_str())
 }
 
+// What lasts from one column to another.
+fn write_spans<A: Allocator>(
+    out: &mut String<A>,
+    frame: &Frame<'_>,
+    spans: &[Span<'_>],
+) -> Result<(), AllocError> {
+    for one in spans {
+        write_span(out, frame, one)?;
+    }
+    Ok(())
+}
+
+// The arrows of a row.
+fn write_links<A: Allocator + Copy>(
+    alloc: A,
+    out: &mut String<A>,
+    frame: &Frame<'_>,
+    arrows: &[Arrow],
+) -> Result<(), AllocError> {
+    for arrow in arrows {
+        write_link(alloc, out, frame, arrow)?;
+    }
+    Ok(())
+}
+
+// The dots of these events, and the mark of one, where there is one.
+fn write_events<A: Allocator + Copy>(
+    alloc: A,
+    out: &mut String<A>,
+    frame: &Frame<'_>,
+    mark: Option<usize>,
+    events: &[Row],
+) -> Result<(), AllocError> {
+    if let Some(number) = mark {
+        write_mark(out, frame, number)?;
+    }
+    for row in events {
+        write_event(alloc, out, frame, row)?;
+    }
+    Ok(())
+}
+
 // One row of the picture.
 fn write_row<A: Allocator + Copy>(
     alloc: A,
@@ -202,22 +244,10 @@ fn write_row<A: Allocator + Copy>(
 ) -> Result<(), AllocError> {
     write_lanes(alloc, out, frame)?;
     write_axis(alloc, out, frame)?;
-    for one in scene.bands {
-        write_span(out, frame, one)?;
-    }
-    for one in scene.boxes {
-        write_span(out, frame, one)?;
-    }
-    for arrow in scene.arrows {
-        write_link(alloc, out, frame, arrow)?;
-    }
-    if let Some(number) = scene.mark {
-        write_mark(out, frame, number)?;
-    }
-    for row in events {
-        write_event(alloc, out, frame, row)?;
-    }
-    Ok(())
+    write_spans(out, frame, scene.bands)?;
+    write_spans(out, frame, scene.boxes)?;
+    write_links(alloc, out, frame, scene.arrows)?;
+    write_events(alloc, out, frame, scene.mark, events)
 }
 
 // The last column of a row that begins with this one.

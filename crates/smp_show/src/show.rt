@@ -23,7 +23,7 @@ use smp_script::line::parts;
 use smp_script::script::{Script, read_script};
 use smp_script::stream::{read_text, write_text};
 use smp_script::{Mode, Outcome, Watched};
-use std::alloc::Allocator;
+use std::alloc::{AllocError, Allocator};
 use std::io::{Read, Write};
 
 // A core with no calls and no stops, and with these labels.
@@ -49,12 +49,12 @@ pub fn rows<A: Allocator + Copy>(alloc: A, script: &Script<A>) -> Result<Vec<Row
     ensures rows { IfOk result (λ rows. rows.items ≡ rows_of_script (meaning_of script.now)) }
     ensures err { IfErr result (λ e. e ≡ SmpError.NoMemory) }
 {
-    let core = new_core(alloc, script.nr, script.online, &script.labels)?;
+    let mut core = new_core(alloc, script.nr, script.online, &script.labels)?;
     let first = if script.labels.is_some() { 4 } else { 3 };
     let Ok(moments) = moments(alloc, first, script.directives.as_slice()) else {
         return Err(SmpError::NoMemory);
     };
-    let Ok(rows) = trace(alloc, core, moments.as_slice()) else {
+    let Ok(rows) = trace(alloc, &mut core, moments.as_slice()) else {
         return Err(SmpError::NoMemory);
     };
     Ok(rows)
@@ -78,6 +78,41 @@ pub fn ending(rows: &[Row]) -> Outcome
     }
 }
 
+/// A script that was read, and what is seen of its replay.
+#[derive(Drop)]
+pub struct Replay<A: Allocator> {
+    pub text: Vec<u8, A>,
+    pub script: Script<A>,
+    pub rows: Vec<Row, A>,
+}
+
+/// Reads a script, and replays it.
+pub fn read_replay<A: Allocator + Copy, R: Read>(
+    alloc: A,
+    reader: &mut Watched<R>,
+) -> Result<Replay<A>, SmpError>
+    requires { failed_of reader.old ≡ false }
+    ensures order { failed_of reader.new ≡ true → result ≡ Err (SmpError.StreamFailed ReadSide) }
+    ensures rows { IfOk result (λ r. r.rows.items ≡ rows_of_script (meaning_of r.script)) }
+{
+    let text = read_text(alloc, reader)?;
+    let script = read_script(alloc, Mode::Replay, text.as_slice())?;
+    let rows = rows(alloc, &script)?;
+    Ok(Replay { text, script, rows })
+}
+
+// The table of what is chosen of a replay.
+fn table<A: Allocator + Copy>(
+    alloc: A,
+    choice: &Choice,
+    replay: &Replay<A>,
+) -> Result<String<A>, AllocError> {
+    let cpus = chosen_columns(alloc, choice, replay.script.online)?;
+    let chosen = choice.chosen(alloc, replay.rows.as_slice())?;
+    let lines = parts(alloc, replay.text.as_slice(), b'\n')?;
+    lanes(alloc, cpus.as_slice(), lines.as_slice(), chosen.as_slice())
+}
+
 /// Reads a script, and writes what is chosen of its replay with one column for each CPU.
 ///
 /// Refusals, in this order: `StreamFailed(Read)` where the reader failed, `BadScript` with the first fault where
@@ -93,23 +128,12 @@ pub fn show_lanes<A: Allocator + Copy, R: Read, W: Write>(
     ensures kept { OnOk result (failed_of writer.new ≡ failed_of writer.old) }
     ensures flushed { OnOk result (flushed_of writer.new ≡ true) }
 {
-    let text = read_text(alloc, reader)?;
-    let script = read_script(alloc, Mode::Replay, text.as_slice())?;
-    let rows = rows(alloc, &script)?;
-    let Ok(lines) = parts(alloc, text.as_slice(), b'\n') else {
-        return Err(SmpError::NoMemory);
-    };
-    let Ok(cpus) = chosen_columns(alloc, choice, script.online) else {
-        return Err(SmpError::NoMemory);
-    };
-    let Ok(chosen) = choice.chosen(alloc, rows.as_slice()) else {
-        return Err(SmpError::NoMemory);
-    };
-    let Ok(table) = lanes(alloc, cpus.as_slice(), lines.as_slice(), chosen.as_slice()) else {
+    let replay = read_replay(alloc, reader)?;
+    let Ok(table) = table(alloc, choice, &replay) else {
         return Err(SmpError::NoMemory);
     };
     write_text(writer, table.as_bytes())?;
-    Ok(ending(rows.as_slice()))
+    Ok(ending(replay.rows.as_slice()))
 }
 
 // The kind of script that a text is explained as: a run where its first line says so, else a replay.

@@ -8,13 +8,13 @@ use crate::choice::Choice;
 use crate::lanes::chosen_columns;
 use crate::moments::{Moment, moments};
 use crate::picture::{Replayed, picture};
-use crate::show::{ending, rows};
+use crate::show::{Replay, ending, read_replay};
 use crate::trace::Row;
 use smp_mask::SmpError;
 use smp_script::line::parts;
-use smp_script::script::{Script, read_script};
-use smp_script::stream::{read_text, write_text};
-use smp_script::{Mode, Outcome, Watched};
+use smp_script::script::Script;
+use smp_script::stream::write_text;
+use smp_script::{Outcome, Watched};
 use std::alloc::{AllocError, Allocator};
 use std::io::{Read, Write};
 
@@ -48,13 +48,12 @@ pub fn moments_of<A: Allocator + Copy>(
 fn draw<A: Allocator + Copy>(
     alloc: A,
     choice: &Choice,
-    text: &[u8],
-    script: &Script<A>,
-    rows: &[Row],
+    replay: &Replay<A>,
 ) -> Result<String<A>, AllocError> {
-    let lines = parts(alloc, text, b'\n')?;
-    let cpus = lane_cpus(alloc, choice, script, rows)?;
-    let moments = moments_of(alloc, script)?;
+    let rows = replay.rows.as_slice();
+    let lines = parts(alloc, replay.text.as_slice(), b'\n')?;
+    let cpus = lane_cpus(alloc, choice, &replay.script, rows)?;
+    let moments = moments_of(alloc, &replay.script)?;
     let replayed = Replayed {
         lines: lines.as_slice(),
         moments: moments.as_slice(),
@@ -78,12 +77,10 @@ pub fn show_svg<A: Allocator + Copy, R: Read, W: Write>(
     ensures kept { OnOk result (failed_of writer.new ≡ failed_of writer.old) }
     ensures flushed { OnOk result (flushed_of writer.new ≡ true) }
 {
-    let text = read_text(alloc, reader)?;
-    let script = read_script(alloc, Mode::Replay, text.as_slice())?;
-    let rows = rows(alloc, &script)?;
-    let Ok(picture) = draw(alloc, choice, text.as_slice(), &script, rows.as_slice()) else {
+    let replay = read_replay(alloc, reader)?;
+    let Ok(picture) = draw(alloc, choice, &replay) else {
         return Err(SmpError::NoMemory);
     };
     write_text(writer, picture.as_bytes())?;
-    Ok(ending(rows.as_slice()))
+    Ok(ending(replay.rows.as_slice()))
 }

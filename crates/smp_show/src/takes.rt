@@ -163,6 +163,25 @@ pub fn is_refused(place: &Place, takes: Takes<'_>, field: &[u8]) -> bool {
     }
 }
 
+// What a field may be, where it has no numbers in it; of a list of CPUs what stands before their limit.
+fn text_of<'a>(takes: Takes<'a>) -> &'a str {
+    match takes {
+        Takes::Word("..") => "the next of them, or the end of the line",
+        Takes::Word(word) => word,
+        Takes::OneOf(words) => words,
+        Takes::Number(..) => "a number from ",
+        Takes::Signed => "a number from -2147483648 to 2147483647",
+        Takes::Member => "a CPU that is online",
+        Takes::Mask => "-, or a list of CPUs below ",
+        Takes::MaskOrNone => "none, -, or a list of CPUs below ",
+        Takes::Online => "a list of CPUs below ",
+        Takes::Items => {
+            "-, or up to 16 items KEY:BRANCH joined by commas, KEY below KEYS, BRANCH 0 or 1"
+        }
+        Takes::Told(text) => text,
+    }
+}
+
 /// Writes what a field may be.
 pub fn write_takes<A: Allocator>(
     out: &mut String<A>,
@@ -170,25 +189,11 @@ pub fn write_takes<A: Allocator>(
     takes: Takes<'_>,
 ) -> Result<(), AllocError> {
     let limit = place.limit;
+    out.push_str(text_of(takes))?;
     match takes {
-        Takes::Word("..") => write!(out, "the next of them, or the end of the line"),
-        Takes::Word(word) => out.push_str(word),
-        Takes::OneOf(words) => out.push_str(words),
-        Takes::Number(low, high) => write!(out, "a number from {low} to {high}"),
-        Takes::Signed => write!(out, "a number from -2147483648 to 2147483647"),
-        Takes::Member => write!(out, "a CPU that is online"),
-        Takes::Mask => write!(out, "-, or a list of CPUs below {limit}, as 0-2,5"),
-        Takes::MaskOrNone => write!(out, "none, -, or a list of CPUs below {limit}, as 0-2,5"),
-        Takes::Online => {
-            write!(
-                out,
-                "a list of CPUs below {limit} and below NR, as 0-2,5, and not empty"
-            )
-        }
-        Takes::Items => write!(
-            out,
-            "-, or up to 16 items KEY:BRANCH joined by commas, KEY below KEYS, BRANCH 0 or 1"
-        ),
-        Takes::Told(text) => out.push_str(text),
+        Takes::Number(low, high) => write!(out, "{low} to {high}"),
+        Takes::Mask | Takes::MaskOrNone => write!(out, "{limit}, as 0-2,5"),
+        Takes::Online => write!(out, "{limit} and below NR, as 0-2,5, and not empty"),
+        _ => Ok(()),
     }
 }

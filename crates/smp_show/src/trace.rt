@@ -113,16 +113,16 @@ fn look<A: Allocator>(core: &mut Core<A>, number: usize, line: usize, cpu: u32, 
 /// What comes of each of these, one after the other, up to the first event that is refused.
 pub fn trace<A: Allocator, B: Allocator>(
     alloc: B,
-    mut core: Core<A>,
+    core: &mut Core<A>,
     moments: &[Moment],
 ) -> Result<Vec<Row, B>, AllocError>
-    ensures { IfOk result (λ rows. rows.items ≡ rows_of core 0 moments.now) }
+    ensures { IfOk result (λ rows. rows.items ≡ rows_of core.old 0 moments.now) }
 {
     let mut rows = Vec::new(alloc);
     let mut number = 0;
     for moment in moments {
         let cpu = asked_cpu(&moment.asked);
-        let row = look(&mut core, number, moment.line, cpu, moment.asked);
+        let row = look(core, number, moment.line, cpu, moment.asked);
         rows.push(row)?;
         if is_refused(row.what) {
             return Ok(rows);

@@ -70,6 +70,15 @@ impl<'a> Progress<'a> {
         }
     }
 
+    /// Begins a line of the search, with the name where one expectation is searched for alone.
+    fn tell_names(&self) -> io::Result<()> {
+        let names = self.names;
+        match names {
+            [one] => self.tell_name(*one),
+            _ => eprint!(self.rt; "smp: "),
+        }
+    }
+
     /// Tells of all that is broken and was not told of.
     fn tell_untold(&self) -> io::Result<()> {
         for named in self.broken.iter() {
@@ -97,11 +106,7 @@ impl<'a> Progress<'a> {
         }
         self.told = seconds;
         self.tell_broken(began)?;
-        let names = self.names;
-        match names {
-            [one] => self.tell_name(*one)?,
-            _ => eprint!(self.rt; "smp: ")?,
-        }
+        self.tell_names()?;
         match self.counted {
             Counted::States => eprintln!(self.rt; "{count} states, {steps} steps"),
             Counted::Runs => eprintln!(self.rt; "{count} runs, {steps} steps"),

@@ -1,5 +1,8 @@
 //! Why a text was not shown, explored or judged to its end.
 
+ghost use Rattle.std.specs.Prelude.{◌≡◌};
+ghost use Rattle.smp_commands.specs.Failures.{failure_of};
+
 use smp_mask::SmpError;
 use smp_show::fault::Fault;
 use smp_show::text_kind::TextKind;
@@ -30,7 +33,9 @@ pub enum Failure {
 }
 
 /// Why a call failed that reads from memory. Why its writer failed, if it did, is not known here.
-pub fn failure_of(error: SmpError) -> Failure {
+pub fn failure_of(error: SmpError) -> Failure
+    ensures { result ≡ failure_of error }
+{
     match error {
         SmpError::BadScript { line, cause } => Failure::Fault(Fault { line, cause }),
         SmpError::StreamFailed(_) => Failure::Unwritten(None),

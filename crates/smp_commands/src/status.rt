@@ -1,7 +1,7 @@
 //! How the program ends.
 
 ghost use Rattle.std.specs.Prelude.{◌≡◌};
-ghost use Rattle.smp.specs.Status.{status_of};
+ghost use Rattle.smp_commands.specs.Status.{status_of};
 
 use crate::failure::Failure;
 use smp_judge::Ruling;

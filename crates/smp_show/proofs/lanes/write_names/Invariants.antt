@@ -1,7 +1,7 @@
 use Rattle.std.proofs.Common.{◌≡◌, ◌++◌, take, string_bytes}
 use Rattle.std.specs.List.{flat_map}
 use Rattle.smp_show.specs.Cells.{head_cell}
-use Rattle.smp_show.proofs.lanes.write_head.Given as goal
+use Rattle.smp_show.proofs.lanes.write_names.Given as goal
 
 abbrev pub invariant-loop-cpu : goal.invariant-loop-cpu
 invariant-loop-cpu g l =

@@ -1,5 +1,8 @@
 //! What the words of the command line ask for.
 
+ghost use Rattle.std.specs.Prelude.{◌≡◌};
+ghost use Rattle.smp_commands.specs.Jobs.{kind_taken};
+
 use crate::explore::Scripts;
 use crate::grammar::grammar;
 use clap::error::ErrorKind;
@@ -75,7 +78,9 @@ pub enum Job<'a> {
 
 impl<'a> Job<'a> {
     /// The kind of text that it takes; none where it takes each.
-    pub fn takes(&self) -> Option<TextKind> {
+    pub fn takes(&self) -> Option<TextKind>
+        ensures { result ≡ kind_taken self.now }
+    {
         match self {
             Job::Show(..) | Job::Events | Job::Check(_) => Some(TextKind::Replay),
             Job::Explore(..) | Job::Outcomes(..) | Job::Write(_) => Some(TextKind::Exploration),
@@ -190,21 +195,38 @@ fn trace_of<'a>(matches: &ArgMatches<'a>) -> Result<&'a str, Wrong> {
     Ok(trace)
 }
 
-// What a subcommand does, by its name and the words behind it.
-fn job_of<'a>(name: &str, matches: &ArgMatches<'a>) -> Result<Job<'a>, Wrong> {
-    Ok(match name {
-        "lanes" => Job::Show(View::Lanes, choice_of(matches)?),
-        "svg" => Job::Show(View::Svg, choice_of(matches)?),
-        "json" => Job::Show(View::Json, choice_of(matches)?),
+// How a subcommand shows a script; none where it does not.
+fn view_of(name: &str) -> Option<View> {
+    match name {
+        "lanes" => Some(View::Lanes),
+        "svg" => Some(View::Svg),
+        "json" => Some(View::Json),
+        _ => None,
+    }
+}
+
+// What a subcommand does, whose options can't be wrong, by its name and the words behind it.
+fn plain_job<'a>(name: &str, matches: &ArgMatches<'a>) -> Job<'a> {
+    match name {
         "explain" => Job::Explain,
         "explore" => Job::Explore(Orders::All(most_of(matches)), scripts_of(matches)),
         "sample" => Job::Explore(Orders::Sampled(sample_of(matches)), scripts_of(matches)),
         "outcomes" => Job::Outcomes(most_of(matches), scripts_of(matches)),
         "script" => Job::Write(run_of(matches)),
         "events" => Job::Events,
-        "check" => Job::Check(trace_of(matches)?),
         _ => Job::Judge,
-    })
+    }
+}
+
+// What a subcommand does, by its name and the words behind it.
+fn job_of<'a>(name: &str, matches: &ArgMatches<'a>) -> Result<Job<'a>, Wrong> {
+    if let Some(view) = view_of(name) {
+        return Ok(Job::Show(view, choice_of(matches)?));
+    }
+    if name == "check" {
+        return Ok(Job::Check(trace_of(matches)?));
+    }
+    Ok(plain_job(name, matches))
 }
 
 // The name of a file, where it is not standard input.
@@ -231,19 +253,29 @@ fn refusal(alloc: Global, wrong: Wrong) -> Result<Error, AllocError> {
     grammar(alloc)?.error(ErrorKind::ValueValidation, wrong.text())
 }
 
+// What is said where there is no subcommand.
+fn no_subcommand(alloc: Global) -> Result<Error, AllocError> {
+    grammar(alloc)?.error(ErrorKind::MissingSubcommand, "there is no subcommand")
+}
+
+// What these ask for.
+fn request_of<'a>(alloc: Global, matches: &ArgMatches<'a>) -> Result<Request<'a>, Error> {
+    // The grammar asks for a subcommand.
+    let Some((name, found)) = matches.subcommand() else {
+        return Err(no_subcommand(alloc)?);
+    };
+    match job_of(name, found) {
+        Ok(job) => {
+            let words = words_of(alloc, found)?;
+            let file = file_of(found);
+            Ok(Request { job, file, words })
+        }
+        Err(wrong) => Err(refusal(alloc, wrong)?),
+    }
+}
+
 /// What the words ask for. Where they are no command line, or ask for help or the version, the answer is what `clap` says.
 pub fn read_words<'a>(alloc: Global, words: &'a [&'a str]) -> Result<Request<'a>, Error> {
     let matches = grammar(alloc)?.try_get_matches_from(words)?;
-    // The grammar asks for a subcommand.
-    let Some((name, found)) = matches.subcommand() else {
-        return Err(grammar(alloc)?.error(ErrorKind::MissingSubcommand, "there is no subcommand")?);
-    };
-    match job_of(name, found) {
-        Ok(job) => Ok(Request {
-            job,
-            file: file_of(found),
-            words: words_of(alloc, found)?,
-        }),
-        Err(wrong) => Err(refusal(alloc, wrong)?),
-    }
+    request_of(alloc, &matches)
 }

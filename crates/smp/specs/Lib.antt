@@ -1,2 +1,0 @@
--- the exit status
-pub mod Status

@@ -1,0 +1,5 @@
+//! Worked cases of the command line of `smp`.
+#![tactic(auto)]
+
+#[cfg(test)]
+mod tests;

@@ -1,0 +1,4 @@
+mod explained;
+mod limits;
+mod sends;
+mod words;
