@@ -1,5 +1,5 @@
 -- Numbers that are printed, modulo 2^64.
-use Rattle.std.specs.Prelude.{◌≡◌, ℕ, ◌+◌, ◌%◌, ◌^◌, fold, List, Result}
+use Rattle.std.specs.Prelude.{◌≡◌, ℕ, ◌+◌, ◌%◌, ◌^◌, fold, List}
 use Rattle.smp_queue.specs.declared.audit.Audit.{Audit}
 use Rattle.smp_queue.specs.declared.audit.Audit.TheVariants.{Drained, Left}
 

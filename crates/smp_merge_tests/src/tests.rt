@@ -1,12 +1,12 @@
 use smp_core::{Class, Command, Core, Note, Word};
-use smp_explore::{Atom, Expected, Line, Most, Part, Unwatched, Verdict};
+use smp_explore::{Atom, Conditions, Expected, Line, Most, Part, Unwatched, Verdict};
 use smp_mask::SmpError;
-use smp_merge::{explore_merged, is_blind};
+use smp_merge::{are_blind, explore_merged, is_blind};
 use std::alloc::Global;
 use std::test::*;
 
 // What a search said: how many states and steps there are, and how deep they are; or a schedule of a break. Nothing where
-// it met a limit, or the expectation is not blind.
+// it met a limit, or the expectations are not blind.
 #[derive(Drop)]
 enum Found {
     All(usize, u64, usize),
@@ -18,9 +18,9 @@ fn explored(
     alloc: Global,
     cpus: &str,
     lines: &[Line],
-    expected: &Expected<'_>,
+    expected: &[Expected<'_>],
 ) -> Result<Found, SmpError> {
-    if !is_blind(expected) {
+    if !are_blind(expected) {
         return Ok(Found::Nothing);
     }
     let core = Core::new(alloc, 4, cpus.parse()?)?;
@@ -28,16 +28,18 @@ fn explored(
         states: 10000,
         bytes: 100000000,
     };
-    let verdict = explore_merged(alloc, core, lines, expected, most, &mut Unwatched)?;
-    Ok(match verdict {
-        Verdict::All {
-            states,
-            steps,
-            depth,
-        } => Found::All(states, steps, depth),
-        Verdict::Broken(schedule) => Found::Broken(schedule),
-        Verdict::Limit(_) => Found::Nothing,
-    })
+    let all = Conditions { expected };
+    Ok(
+        match explore_merged(alloc, core, lines, all, most, &mut Unwatched)? {
+            Verdict::All {
+                states,
+                steps,
+                depth,
+            } => Found::All(states, steps, depth),
+            Verdict::Broken(schedule) => Found::Broken(schedule),
+            Verdict::Limit(_) => Found::Nothing,
+        },
+    )
 }
 
 // A line that is made once.
@@ -73,7 +75,7 @@ fn is_broken_by(found: Found, schedule: &[u32]) -> bool {
 #[test]
 fn three_posts(rt: HostRuntime) -> Result<(), SmpError> {
     let lines = [post_to(0, 3), post_to(1, 3), post_to(2, 3)];
-    let found = explored(rt.alloc(), "0-3", &lines, &Expected::Goes)?;
+    let found = explored(rt.alloc(), "0-3", &lines, &[Expected::Goes])?;
     assert!(rt; is_all(found, 156, 279, 10));
     Ok(())
 }
@@ -94,7 +96,7 @@ fn posts_and_handles(rt: HostRuntime) -> Result<(), SmpError> {
         },
         once(2, Command::Handle),
     ];
-    let found = explored(rt.alloc(), "0-2", &lines, &Expected::Goes)?;
+    let found = explored(rt.alloc(), "0-2", &lines, &[Expected::Goes])?;
     assert!(rt; is_all(found, 378, 703, 22));
     Ok(())
 }
@@ -104,7 +106,12 @@ fn posts_and_handles(rt: HostRuntime) -> Result<(), SmpError> {
 fn a_break(rt: HostRuntime) -> Result<(), SmpError> {
     let lines = [post_to(1, 3)];
     let parts = [Part::Is(Atom::Queue(3, 1))];
-    let found = explored(rt.alloc(), "0-3", &lines, &Expected::Never(&parts))?;
+    let found = explored(
+        rt.alloc(),
+        "0-3",
+        &lines,
+        &[Expected::Goes, Expected::Never(&parts)],
+    )?;
     assert!(rt; is_broken_by(found, [1, 1, 1, 1, 1, 1, 1, 1].as_slice()));
     Ok(())
 }

@@ -1,5 +1,5 @@
 -- What was made, what was sent, and what was heard.
-use Rattle.std.specs.Prelude.{◌≡◌, ℕ, zero, suc, ◌+◌, ◌*◌, ◌%◌, ◌^◌, ◌<◌, max, Bool, if◌then◌else◌, List, slice_index_or, slice_set}
+use Rattle.std.specs.Prelude.{◌≡◌, ℕ, ◌+◌, ◌*◌, ◌%◌, ◌^◌, ◌<◌, max, Bool, if◌then◌else◌, List, slice_index_or, slice_set}
 use Rattle.smp_torture.specs.declared.cell.Cell.{Cell}
 use Rattle.smp_torture.specs.declared.made.Made.{Made}
 use Rattle.smp_torture.specs.declared.sheet.Sheet.{Sheet}

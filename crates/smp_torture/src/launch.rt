@@ -1,6 +1,6 @@
 //! A thread for each CPU.
 
-ghost use Rattle.std.specs.Prelude.{IfOk};
+ghost use Rattle.std.specs.Prelude.{◌≡◌, IfOk};
 ghost use Rattle.smp_machine.specs.MachineCpu.{IsAt, IsFull};
 ghost use Rattle.smp_torture.specs.Ends.{AreAt};
 

@@ -138,8 +138,30 @@ fn do_words<R: Wait + Threads + Clock + Print + Eprint + Sync>(
     }
 }
 
-fn main(rt: HostRuntime) -> io::Result<ExitCode> {
-    let words: Result<Vec<String>, AllocError> = env::args(&rt)?.collect(rt.alloc());
-    let status = do_words(&rt, rt.alloc(), words?.as_slice())?;
-    Ok(ExitCode::from(status))
+/// The words of the command line.
+fn words_of(rt: &HostRuntime) -> io::Result<Vec<String>> {
+    let words: Result<Vec<String>, AllocError> = env::args(rt)?.collect(rt.alloc());
+    Ok(words?)
+}
+
+/// Says on standard error why the words could not be read, or nothing could be printed, and answers the status.
+fn tell<R: Eprint>(rt: &R, error: &io::Error) -> ExitCode {
+    let cause = match error.kind() {
+        io::ErrorKind::InvalidData => "invalid UTF-8 was detected in one or more arguments",
+        io::ErrorKind::OutOfMemory => "no memory",
+        _ => "nothing to print to",
+    };
+    eprintln!(rt; "error: {cause}").is_ok();
+    ExitCode::from(2)
+}
+
+fn main(rt: HostRuntime) -> ExitCode {
+    let words = match words_of(&rt) {
+        Ok(words) => words,
+        Err(error) => return tell(&rt, &error),
+    };
+    match do_words(&rt, rt.alloc(), words.as_slice()) {
+        Ok(status) => ExitCode::from(status),
+        Err(error) => tell(&rt, &error),
+    }
 }
