@@ -1,11 +1,12 @@
 -- Whether every CPU heard what was sent to it, and what the program answers.
-use Rattle.std.specs.Prelude.{◌≡◌, ℕ, zero, suc, ◌+◌, ◌%◌, ◌^◌, ◌<◌, ◌==◌, if◌then◌else◌, List, [], All, slice_index_or}
+use Rattle.std.specs.Prelude.{◌≡◌, ℕ, zero, suc, ◌+◌, ◌%◌, ◌^◌, ◌<◌, ◌==◌, if◌then◌else◌, List, [], All, fold, slice_index_or}
 use Rattle.smp_queue.specs.declared.audit.Audit.{Audit}
 use Rattle.smp_queue.specs.declared.audit.Audit.TheVariants.{Drained, Left}
 use Rattle.smp_queue.specs.declared.audit.Tally.{Tally}
 use Rattle.smp_torture.specs.declared.cell.Cell.{Cell}
+use Rattle.smp_torture.specs.declared.made.Made.{Made}
 use Rattle.smp_torture.specs.declared.report.Report.{Report}
-use Rattle.smp_torture.specs.Counts.{cell_at, cell_sum, made_of}
+use Rattle.smp_torture.specs.Counts.{cell_at, cell_sum, no_made, made_of, made_sum}
 use Rattle.smp_torture.specs.Kinds.{all_kinds, index_of}
 
 -- what a CPU has heard of a function from another, by its handler and by its stop function
@@ -23,6 +24,10 @@ AreHeard func reports = All (λ source. All (λ target. IsHeard func source targ
 -- each CPU's calls of a kind were answered as they should be
 abbrev pub AreAnswered : ℕ → List Report → Type 0
 AreAnswered index reports = All (λ r. (made_of r.made index).wrong ≡ 0) reports
+
+-- what all CPUs have made of a kind
+abbrev pub all_made : ℕ → List Report → Made
+all_made index reports = fold (λ m r. made_sum m (made_of r.made index)) no_made reports
 
 -- no CPU has heard or made a call of a function or a CPU that does not exist
 abbrev pub AreNoStrays : List Report → Type 0

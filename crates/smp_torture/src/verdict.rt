@@ -2,7 +2,8 @@
 
 ghost use Rattle.std.specs.Prelude.{◌≡◌, ◌<◌, ◌↔◌, All, IsTrue};
 ghost use Rattle.smp_torture.specs.Kinds.{index_of};
-ghost use Rattle.smp_torture.specs.Verdicts.{heard_from, IsHeard, AreHeard, AreAnswered, AreNoStrays, AreSeen, IsTalliedBy, AreTallied, queued_for, IsRightOf, AreAllRight, IsDrainedOf};
+ghost use Rattle.smp_torture.specs.Verdicts.{heard_from, queued_for, all_made, IsHeard, AreHeard, AreAnswered, AreNoStrays};
+ghost use Rattle.smp_torture.specs.Verdicts.{AreSeen, IsTalliedBy, AreTallied, IsRightOf, AreAllRight, IsDrainedOf};
 
 use crate::cell::Cell;
 use crate::kind::{KINDS, Kind};
@@ -55,7 +56,9 @@ fn are_answered(reports: &[Report], kind: Kind) -> bool
 }
 
 /// What all CPUs have made of a kind.
-pub fn made_of(reports: &[Report], kind: Kind) -> Made {
+pub fn made_of(reports: &[Report], kind: Kind) -> Made
+    ensures { result ≡ all_made (index_of kind) reports.now }
+{
     let mut all = Made::NONE;
     for report in reports {
         all = all.plus(report.made(kind));

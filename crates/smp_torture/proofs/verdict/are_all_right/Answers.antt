@@ -6,4 +6,5 @@ use Rattle.smp_torture.proofs.verdict.are_all_right.Goals as goal
 
 pub returns : goal.returns
 returns c =
-    subst (λ (ks : List Kind). IsTrue c.are_right.result ↔ All (λ k. IsRightOf (index_of k) c.args.reports.now) ks) c.as_slice.ensures c.are_right.ensures
+    subst (λ (ks : List Kind). IsTrue c.are_right.result ↔ All (λ k. IsRightOf (index_of k) c.args.reports.now) ks)
+    c.as_slice.ensures c.are_right.ensures
