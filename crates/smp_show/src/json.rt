@@ -145,10 +145,12 @@ fn write_spans<A: Allocator>(
     choice: &Choice,
     spans: &[Span<'_>],
 ) -> Result<(), AllocError> {
-    for (number, one) in spans.iter().enumerate() {
+    let mut number = 0usize;
+    for one in spans {
         if has_span(choice, one) {
             write_span(out, number, one)?;
         }
+        number = number.saturating_add(1);
     }
     Ok(())
 }
