@@ -1,17 +1,15 @@
 //! Posts and their handling by one thread.
 
 use crate::error::BenchError;
-use crate::meter::{Measured, Meter};
+use crate::meter::Meter;
 use crate::seat::{Room, Seat, calls_run};
+use crate::workload::Workload;
 use smp_queue::CallTable;
 use std::alloc::Global;
-use std::time::Clock;
+use std::time::{Clock, CpuClock};
 
 /// The CPU that is called.
 const TARGET: u32 = 0;
-
-/// Sources are the CPUs from 1 to this.
-const MOST_SOURCES: u32 = 4;
 
 /// How many handlings are timed together.
 const ROUNDS: u32 = 100;
@@ -27,7 +25,7 @@ fn round(sources: &mut [Seat], records: &[u32], target: &mut Seat) -> u32 {
 }
 
 /// Rounds until the meter says that it is enough.
-fn repeat<R: Clock + Eprint>(
+fn repeat<R: Clock + CpuClock + Eprint>(
     sources: &mut [Seat],
     records: &[u32],
     target: &mut Seat,
@@ -44,41 +42,44 @@ fn repeat<R: Clock + Eprint>(
     }
 }
 
-/// Seats the target and this number of sources, and repeats rounds.
-fn measure<R: Clock + Eprint>(
+/// Seats the target and the sources up to below this number, and repeats rounds.
+fn measure<R: Clock + CpuClock + Eprint>(
     room: &mut Room,
     alloc: Global,
-    count: u32,
+    end: u32,
     records: &[u32],
     meter: &mut Meter<R>,
 ) -> Result<(), BenchError> {
     let mut target = room.seat(TARGET)?;
-    let mut sources = Vec::new(alloc);
-    for number in 1..=MOST_SOURCES {
-        if number <= count {
-            sources.push(room.seat(number)?)?;
-        }
-    }
+    let mut sources = room.seats(alloc, end)?;
     meter.begin()?;
     repeat(sources.as_mut_slice(), records, &mut target, meter);
     Ok(())
 }
 
-/// Posts from this number of sources, each by each of these of its records.
-pub fn run<R: Clock + Eprint>(
+/// The sources are the CPUs from 1 up to below this.
+fn end_of(workload: Workload) -> u32 {
+    match workload {
+        Workload::PostOne => 2,
+        _ => 5,
+    }
+}
+
+/// Posts from each source of this workload, each by each of these of its records: how many calls have run.
+pub fn run<R: Clock + CpuClock + Eprint>(
     alloc: Global,
-    count: u32,
+    workload: Workload,
     records: &[u32],
-    mut meter: Meter<R>,
-) -> Result<(Measured, u64), BenchError> {
+    meter: &mut Meter<R>,
+) -> Result<u64, BenchError> {
     let (table, mut boot) = CallTable::new(alloc, 6, "0-5".parse()?)?;
     let last = boot.cpu(5)?;
     measure(
         &mut Room::new(&table, boot),
         alloc,
-        count,
+        end_of(workload),
         records,
-        &mut meter,
+        meter,
     )?;
-    Ok((meter.close()?, calls_run(table.audit(last))?))
+    calls_run(table.audit(last))
 }

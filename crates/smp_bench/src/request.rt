@@ -7,15 +7,15 @@ use crate::grammar::grammar;
 use crate::workload::Workload;
 use clap::error::ErrorKind;
 use clap::{ArgMatches, Error};
-use std::alloc::Global;
+use std::alloc::{AllocError, Global};
 
 /// Threads of one workload: a source and a target at least.
 const FEWEST_THREADS: u32 = 2;
 
-const MOST_THREADS: u32 = 7;
+const MOST_THREADS: u32 = 32;
 
 /// How long a workload goes on.
-#[derive(Clone, Copy, Debug, PartialEq, Eq)]
+#[derive(Clone, Copy)]
 pub enum Limit {
     /// At least this number of operations, and less than a whole batch more.
     Operations(u32),
@@ -40,23 +40,8 @@ impl Request {
     }
 }
 
-/// A word that `clap` takes and that is wrong all the same.
-#[derive(Clone, Copy, Debug, PartialEq, Eq)]
-enum Wrong {
-    Mode,
-    Threads,
-    Workload,
-}
-
-impl Wrong {
-    fn text(self) -> &'static str {
-        match self {
-            Wrong::Mode => "invalid value for '<MODE>': it is time or count",
-            Wrong::Threads => "invalid value for '<THREADS>': it is a number from 2 to 7",
-            Wrong::Workload => "invalid value for '[WORKLOAD]': --help names the workloads",
-        }
-    }
-}
+/// What is said of a number that the grammar refuses.
+const NUMBER: &str = "invalid value for '<THREADS>': it is a number from 2 to 32";
 
 /// The number of threads, where it is one.
 fn read_threads(found: &ArgMatches<'_>) -> Option<u32>
@@ -68,40 +53,45 @@ fn read_threads(found: &ArgMatches<'_>) -> Option<u32>
     }
 }
 
-fn read_limit(found: &ArgMatches<'_>) -> Option<Limit> {
-    let number = found.get_one::<u32>("LIMIT")?;
+/// The grammar takes no mode but time and count.
+fn read_limit(found: &ArgMatches<'_>) -> Limit {
+    let number = found.get_one::<u32>("LIMIT").unwrap_or(0);
     match found.get_str("MODE") {
-        Some("time") => Some(Limit::Milliseconds(number)),
-        Some("count") => Some(Limit::Operations(number)),
-        _ => None,
+        Some("count") => Limit::Operations(number),
+        _ => Limit::Milliseconds(number),
     }
 }
 
-/// The only workload that is asked for; none where all are.
-fn read_workload(found: &ArgMatches<'_>) -> Result<Option<Workload>, Wrong> {
-    let Some(word) = found.get_str("WORKLOAD") else {
-        return Ok(None);
-    };
-    match Workload::ALL.iter().find(|w| w.name() == word) {
-        Some(workload) => Ok(Some(*workload)),
-        None => Err(Wrong::Workload),
-    }
+/// The workload of this name. The grammar takes no other names.
+fn workload_of(name: &str) -> Option<Workload> {
+    Workload::ALL.iter().find(|w| w.name() == name).copied()
 }
 
-fn read_matches(found: &ArgMatches<'_>) -> Result<Request, Wrong> {
-    Ok(Request {
-        limit: read_limit(found).ok_or(Wrong::Mode)?,
-        threads: read_threads(found).ok_or(Wrong::Threads)?,
-        only: read_workload(found)?,
+/// What the matches ask for. None where there are too many threads or too few, which the grammar refuses.
+fn read_matches(found: &ArgMatches<'_>) -> Option<Request> {
+    Some(Request {
+        limit: read_limit(found),
+        threads: read_threads(found)?,
+        only: found.get_str("WORKLOAD").and_then(workload_of),
     })
+}
+
+/// The error of `clap` that says this.
+fn refusal(alloc: Global, text: &'static str) -> Result<Error, AllocError> {
+    grammar(alloc)?.error(ErrorKind::ValueValidation, text)
+}
+
+/// What `clap` finds in the words.
+fn matches_of<'a>(alloc: Global, words: &'a [String]) -> Result<ArgMatches<'a>, Error> {
+    grammar(alloc)?.try_get_matches_from(words)
 }
 
 /// What the words of the command line ask for, the program's own name first. Where they are no command line, or ask for help
 /// or the version, the answer is what `clap` says.
-pub fn read_words<'a>(alloc: Global, words: &'a [&'a str]) -> Result<Request, Error> {
-    let found = grammar(alloc)?.try_get_matches_from(words)?;
+pub fn read_words(alloc: Global, words: &[String]) -> Result<Request, Error> {
+    let found = matches_of(alloc, words)?;
     match read_matches(&found) {
-        Ok(request) => Ok(request),
-        Err(wrong) => Err(grammar(alloc)?.error(ErrorKind::ValueValidation, wrong.text())?),
+        Some(request) => Ok(request),
+        None => Err(refusal(alloc, NUMBER)?),
     }
 }

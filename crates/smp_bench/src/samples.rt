@@ -3,17 +3,16 @@
 ghost use Rattle.std.specs.Prelude.{◌≡◌, ◌<◌, ◌≤◌, ◌/◌, ◌*◌, ◌^◌, length, slice_index, IsSorted, IsPermutation};
 ghost use Rattle.std.specs.Ordering.{nat_cmp};
 
-/// Tenths of a nanosecond that one operation took, rounded down, in a batch of this number. A batch of more than 58 years
-/// counts as one of these.
-pub fn tenths_of_one(nanos: u64, operations: u32) -> u64
+/// Tenths of a nanosecond that one operation took, rounded down, of this number. More than 58 years count as these.
+pub fn tenths_of_one(nanos: u64, operations: u64) -> u64
     requires { 0 < operations }
     ensures { nanos * 10 < 2 ^ 64 → result ≡ nanos * 10 / operations }
 {
-    nanos.saturating_mul(10) / operations as u64
+    nanos.saturating_mul(10) / operations
 }
 
 /// Tenths of a nanosecond that one operation took.
-#[derive(Clone, Copy, Debug, PartialEq, Eq)]
+#[derive(Clone, Copy)]
 pub struct Times {
     /// Half of the batches stay below, or are the same.
     pub median: u64,

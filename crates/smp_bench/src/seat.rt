@@ -1,6 +1,7 @@
 //! One CPU of a workload, and what a table says at its end.
 
-ghost use Rattle.std.specs.Prelude.{◌≡◌};
+ghost use Rattle.std.specs.Prelude.{◌≡◌, IfOk};
+ghost use Rattle.smp_bench.specs.Sums.{row_added, total_of, HaveRun};
 
 use crate::error::BenchError;
 use smp_calls::{call_many, call_single};
@@ -88,6 +89,15 @@ impl<'a> Seat<'a> {
     }
 }
 
+/// This number of CPUs, from 0 on.
+pub fn first_cpus(count: u32) -> Result<CpuMask, BenchError> {
+    let mut mask = CpuMask::empty();
+    for number in 0..count {
+        mask = mask.with(number)?;
+    }
+    Ok(mask)
+}
+
 /// The CPUs of a table that have no seat yet.
 #[derive(Drop)]
 pub struct Room<'a> {
@@ -113,21 +123,43 @@ impl<'a> Room<'a> {
             counter,
         })
     }
+
+    /// The seats of the CPUs from 1 up to below this number.
+    pub fn seats(&mut self, alloc: Global, end: u32) -> Result<Vec<Seat<'a>, Global>, BenchError> {
+        let mut seats = Vec::new(alloc);
+        for number in 1..end {
+            seats.push(self.seat(number)?)?;
+        }
+        Ok(seats)
+    }
+}
+
+/// A number with those of a row added, modulo 2^64.
+fn added(sum: u64, row: &[u64]) -> u64
+    ensures { result ≡ row_added sum row.now }
+{
+    let mut all = sum;
+    for ran in row {
+        all = all.wrapping_add(*ran);
+    }
+    all
 }
 
 /// All calls that have run, modulo 2^64.
-fn sum_of(tally: &Tally) -> u64 {
+fn sum_of(tally: &Tally) -> u64
+    ensures { result ≡ total_of tally.now.ran }
+{
     let mut sum = 0u64;
     for row in &tally.ran {
-        for ran in row {
-            sum = sum.wrapping_add(*ran);
-        }
+        sum = added(sum, row.as_slice());
     }
     sum
 }
 
 /// How many calls have run, where all that were queued have.
-pub fn calls_run(audit: Audit) -> Result<u64, BenchError> {
+pub fn calls_run(audit: Audit) -> Result<u64, BenchError>
+    ensures { IfOk result (λ calls. HaveRun audit calls) }
+{
     match audit {
         Audit::Drained(tally) => Ok(sum_of(&tally)),
         Audit::Left(_) => Err(BenchError::NotDrained),

@@ -1,5 +1,6 @@
 //! One CPU of a machine, with what it calls.
 
+ghost use Rattle.std.specs.Prelude.{◌≡◌, ◌+◌, ◌%◌, ◌^◌};
 ghost use Rattle.smp_machine.specs.Seats.{IsSameSeat};
 
 use crate::error::BenchError;
@@ -31,7 +32,9 @@ impl Runs {
     }
 
     /// How many stop functions have run here, and changes of the key's count were made without a stop, modulo 2^64.
-    pub fn done(&self) -> u64 {
+    pub fn done(&self) -> u64
+        ensures { result ≡ (self.now.calls + self.now.nudges) % 2 ^ 64 }
+    {
         self.calls.wrapping_add(self.nudges)
     }
 }

@@ -8,19 +8,19 @@ use crate::batch::{batches_of, count_batch, run_batch};
 use crate::error::BenchError;
 use crate::meter::{Measured, Meter};
 use crate::request::Limit;
-use crate::seat::Counter;
+use crate::rest::{call_all, rest_and_call, rest_to_the_end};
+use crate::seat::{Counter, first_cpus};
 use crate::signs::Signs;
 use crate::stand::{Runs, Stand, label, poll};
 use crate::watch::watch;
 use crate::workload::Workload;
 use crossbeam_utils::{Backoff, CachePadded};
 use smp_machine::{Crew, Machine, MachineBoot, Played, run_cpus};
-use smp_mask::CpuMask;
 use std::alloc::{AllocError, Global};
 use std::sync::Wait;
 use std::thread;
 use std::thread::Threads;
-use std::time::Clock;
+use std::time::{Clock, CpuClock};
 
 /// What a CPU waits for while it polls.
 #[derive(Clone, Copy)]
@@ -83,8 +83,18 @@ fn count<R: Wait>(stand: &mut Stand<'_, R>, signs: &Signs, limit: Limit)
     unreachable!()
 }
 
+/// Polls until the key is on, and then counts it.
+fn count_with_all<R: Wait>(stand: &mut Stand<'_, R>, signs: &Signs, limit: Limit)
+    ensures { IsSameSeat stand.old stand.new }
+{
+    answer(stand, signs, Until::Counting);
+    if signs.is_counting() {
+        count(stand, signs, limit);
+    }
+}
+
 /// Makes batches until the meter says that it is enough.
-fn repeat<R: Wait, T: Clock + Eprint>(
+fn repeat<R: Wait, T: Clock + CpuClock + Eprint>(
     stand: &mut Stand<'_, R>,
     workload: Workload,
     meter: &mut Meter<T>,
@@ -110,18 +120,15 @@ struct Bench<'a, T> {
     signs: &'a Signs,
 }
 
-impl<'a, T: Clock + Eprint> Bench<'a, T> {
+impl<'a, T: Clock + CpuClock + Eprint> Bench<'a, T> {
     /// What a CPU beside the first does.
     fn help<R: Wait>(&self, stand: &mut Stand<'_, R>)
         ensures { IsSameSeat stand.old stand.new }
     {
-        if self.workload != Workload::CountAll {
-            answer(stand, self.signs, Until::Over);
-            return;
-        }
-        answer(stand, self.signs, Until::Counting);
-        if self.signs.is_counting() {
-            count(stand, self.signs, self.limit);
+        match self.workload {
+            Workload::Rest => rest_to_the_end(stand, self.signs),
+            Workload::CountAll => count_with_all(stand, self.signs, self.limit),
+            _ => answer(stand, self.signs, Until::Over),
         }
     }
 
@@ -129,6 +136,10 @@ impl<'a, T: Clock + Eprint> Bench<'a, T> {
     fn lead<R: Wait>(&self, stand: &mut Stand<'_, R>, meter: &mut Meter<T>)
         ensures { IsSameSeat stand.old stand.new }
     {
+        if self.workload == Workload::Rest {
+            rest_and_call(self.rt, stand, self.signs, meter);
+            return;
+        }
         if self.workload == Workload::CountOne || self.workload == Workload::CountAll {
             // The key is on from here on. The first batch begins only now.
             let _ = stand.set_key(0, true);
@@ -148,7 +159,7 @@ impl<'a, T: Clock + Eprint> Bench<'a, T> {
     }
 }
 
-impl<'a, T: Clock + Eprint> Crew<Counter, Runs> for Bench<'a, T> {
+impl<'a, T: Clock + CpuClock + Eprint> Crew<Counter, Runs> for Bench<'a, T> {
     ghost begins = { λ _ _ _ _. Unit {0} };
 
     ghost plays = { λ _ _ _. Unit {0} };
@@ -163,8 +174,13 @@ impl<'a, T: Clock + Eprint> Crew<Counter, Runs> for Bench<'a, T> {
             return;
         }
         let measured = self.measure(seat);
+        let failed = measured.is_err();
         seat.functions.measured = Some(measured);
         self.signs.tell_over();
+        if failed {
+            // CPUs that rest look for that sign once they are called.
+            call_all(seat);
+        }
     }
 }
 
@@ -173,8 +189,14 @@ fn sum_up(back: Vec<Played<Counter, Runs>, Global>) -> Result<(Measured, u64), B
     let mut first = None;
     let mut sum = 0u64;
     for played in back {
-        let Played { functions, .. } = played;
-        sum = sum.wrapping_add(functions.done());
+        let Played {
+            handler,
+            functions,
+            ..
+        } = played;
+        sum = sum
+            .wrapping_add(handler.calls)
+            .wrapping_add(functions.done());
         if let Some(measured) = functions.measured {
             first = Some(measured?);
         }
@@ -185,17 +207,8 @@ fn sum_up(back: Vec<Played<Counter, Runs>, Global>) -> Result<(Measured, u64), B
     }
 }
 
-/// This number of CPUs, from 0 on.
-fn first_cpus(count: u32) -> Result<CpuMask, BenchError> {
-    let mut mask = CpuMask::empty();
-    for number in 0..count {
-        mask = mask.with(number)?;
-    }
-    Ok(mask)
-}
-
 /// Runs the CPUs of a machine, each on a thread of its own, and one more thread that watches over them.
-fn measure_watched<R: Wait + Threads + Clock + Eprint + Sync>(
+fn measure_watched<R: Wait + Threads + Clock + CpuClock + Eprint + Sync>(
     rt: &R,
     machine: &Machine<Global>,
     boot: MachineBoot<Global>,
@@ -210,7 +223,10 @@ fn measure_watched<R: Wait + Threads + Clock + Eprint + Sync>(
         |scope| -> Result<(Measured, u64), BenchError>
             requires { IsFull boot machine.now }
         {
-            let _watcher = scope.spawn(|| watch(rt, name, machine, signs)).ok();
+            // CPUs that rest make no stops, in which some could keep others waiting.
+            if bench.workload != Workload::Rest {
+                let _watcher = scope.spawn(|| watch(rt, name, machine, signs)).ok();
+            }
             let back = run_cpus(rt, bench.alloc, machine, boot, bench);
             signs.tell_over();
             match back {
@@ -221,8 +237,8 @@ fn measure_watched<R: Wait + Threads + Clock + Eprint + Sync>(
     )
 }
 
-/// Runs a workload of up to 7 threads, one for each CPU of a machine with one key and two sites.
-pub fn run<R: Wait + Threads + Clock + Eprint + Sync>(
+/// Runs a workload of a thread for each CPU of a machine with one key and two sites.
+pub fn run<R: Wait + Threads + Clock + CpuClock + Eprint + Sync>(
     rt: &R,
     alloc: Global,
     workload: Workload,
@@ -232,7 +248,7 @@ pub fn run<R: Wait + Threads + Clock + Eprint + Sync>(
     requires { IsLawful threads }
 {
     let count = workload.threads(threads);
-    let (machine, boot) = Machine::new(alloc, 8, first_cpus(count)?, &label()?)?;
+    let (machine, boot) = Machine::new(alloc, 32, first_cpus(count)?, &label()?)?;
     // All threads look at it all the time, so that it must share no line with what one of them writes.
     let shared = CachePadded::new(Signs::new());
     let bench = Bench {

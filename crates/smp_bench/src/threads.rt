@@ -3,8 +3,8 @@
 ghost use Rattle.smp_bench.specs.Threads.{IsLawful};
 
 use crate::error::BenchError;
-use crate::meter::{Measured, Meter};
-use crate::seat::{Room, Seat, calls_run};
+use crate::meter::Meter;
+use crate::seat::{Room, Seat, calls_run, first_cpus};
 use crate::workload::Workload;
 use crossbeam_utils::{Backoff, CachePadded};
 use smp_mask::CpuMask;
@@ -15,7 +15,7 @@ use std::sync::Wait;
 use std::sync::atomic::{AtomicU64, Ordering};
 use std::thread;
 use std::thread::Threads;
-use std::time::Clock;
+use std::time::{Clock, CpuClock};
 
 /// Operations of one thread that are timed together.
 const BATCH: u32 = 100;
@@ -88,7 +88,7 @@ fn help<R: Wait>(rt: &R, seat: Seat, progress: &Progress, workload: Workload, ti
 }
 
 /// Calls with wait until the meter says that it is enough, and then tells the others to stop.
-fn call_and_wait<R: Wait + Clock + Eprint>(
+fn call_and_wait<R: Wait + Clock + CpuClock + Eprint>(
     rt: &R,
     seat: &mut Seat,
     others: Option<CpuMask>,
@@ -114,7 +114,7 @@ fn call_and_wait<R: Wait + Clock + Eprint>(
 
 /// Handles the calls of this number of sources until all have made their last. Tells them to stop where the meter says
 /// that it is enough.
-fn handle_all<R: Wait + Clock + Eprint>(
+fn handle_all<R: Wait + Clock + CpuClock + Eprint>(
     rt: &R,
     seat: &mut Seat,
     sources: u64,
@@ -146,7 +146,7 @@ fn handle_all<R: Wait + Clock + Eprint>(
 }
 
 /// What the first thread does, with all others started.
-fn lead<R: Wait + Clock + Eprint>(
+fn lead<R: Wait + Clock + CpuClock + Eprint>(
     rt: &R,
     seat: &mut Seat,
     workload: Workload,
@@ -163,7 +163,7 @@ fn lead<R: Wait + Clock + Eprint>(
 }
 
 /// Starts the helpers, and leads where all were started: whether they were.
-fn run_threads<'a, R: Wait + Threads + Clock + Eprint + Sync>(
+fn run_threads<'a, R: Wait + Threads + Clock + CpuClock + Eprint + Sync>(
     rt: &R,
     mut first: Seat<'a>,
     helpers: Vec<Seat<'a>, Global>,
@@ -202,7 +202,7 @@ fn run_threads<'a, R: Wait + Threads + Clock + Eprint + Sync>(
 }
 
 /// Seats one CPU for each thread, and runs the threads.
-fn measure<R: Wait + Threads + Clock + Eprint + Sync>(
+fn measure<R: Wait + Threads + Clock + CpuClock + Eprint + Sync>(
     room: &mut Room,
     rt: &R,
     alloc: Global,
@@ -211,12 +211,8 @@ fn measure<R: Wait + Threads + Clock + Eprint + Sync>(
     meter: &mut Meter<R>,
 ) -> Result<(), BenchError> {
     let first = room.seat(0)?;
-    let mut helpers = Vec::new(alloc);
-    let mut others = CpuMask::empty();
-    for number in 1..threads {
-        helpers.push(room.seat(number)?)?;
-        others = others.with(number)?;
-    }
+    let helpers = room.seats(alloc, threads)?;
+    let others = first_cpus(threads)?.without(0);
     meter.begin()?;
     if run_threads(rt, first, helpers, workload, others, meter) {
         Ok(())
@@ -225,26 +221,26 @@ fn measure<R: Wait + Threads + Clock + Eprint + Sync>(
     }
 }
 
-/// Runs a workload of 2 to 7 threads, one for each CPU.
-pub fn run<R: Wait + Threads + Clock + Eprint + Sync>(
+/// Runs a workload of calls, a CPU on each thread: how many calls have run.
+pub fn run<R: Wait + Threads + Clock + CpuClock + Eprint + Sync>(
     rt: &R,
     alloc: Global,
     workload: Workload,
-    threads: u32,
-    mut meter: Meter<R>,
-) -> Result<(Measured, u64), BenchError>
-    requires { IsLawful threads }
+    asked: u32,
+    meter: &mut Meter<R>,
+) -> Result<u64, BenchError>
+    requires { IsLawful asked }
 {
     // One CPU more keeps the table's last value.
-    let (table, mut boot) = CallTable::new(alloc, 8, "0-7".parse()?)?;
-    let last = boot.cpu(7)?;
+    let (table, mut boot) = CallTable::new(alloc, 32, "0-31".parse()?)?;
+    let last = boot.cpu(31)?;
     measure(
         &mut Room::new(&table, boot),
         rt,
         alloc,
         workload,
-        threads,
-        &mut meter,
+        workload.threads(asked),
+        meter,
     )?;
-    Ok((meter.close()?, calls_run(table.audit(last))?))
+    calls_run(table.audit(last))
 }

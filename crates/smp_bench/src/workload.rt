@@ -1,7 +1,12 @@
 //! What is measured.
 
+ghost use Rattle.smp_bench.specs.Threads.{IsLawful, AreThreadsOf};
+
+/// How many workloads there are.
+const WORKLOADS: usize = 13;
+
 /// What is measured: one operation of it, and who takes part.
-#[derive(Clone, Copy, Debug, PartialEq, Eq)]
+#[derive(Clone, Copy, PartialEq, Eq)]
 pub enum Workload {
     /// One thread posts one call, sends and handles it. An operation is one call.
     PostOne,
@@ -27,10 +32,12 @@ pub enum Workload {
     CountAll,
     /// A CPU polls, and finds neither an interrupt nor a work.
     Idle,
+    /// All threads have nothing to do and sleep, until the first calls all others, with wait. An operation is one such rest.
+    Rest,
 }
 
 impl Workload {
-    pub const ALL: [Workload; 12] = [
+    pub const ALL: [Workload; WORKLOADS] = [
         Workload::PostOne,
         Workload::PostEight,
         Workload::RoundTrip,
@@ -43,30 +50,53 @@ impl Workload {
         Workload::CountOne,
         Workload::CountAll,
         Workload::Idle,
+        Workload::Rest,
+    ];
+
+    /// The names of all, in the order of [`Workload::ALL`].
+    pub const NAMES: [&'static str; WORKLOADS] = [
+        "post-1",
+        "post-8",
+        "trip",
+        "wake",
+        "async",
+        "many",
+        "stop",
+        "stop-one",
+        "set-key",
+        "key-inc-1",
+        "key-inc",
+        "idle",
+        "rest",
     ];
 
     pub fn name(self) -> &'static str {
+        Workload::NAMES[self as usize]
+    }
+
+    /// Whether it is measured on a table of calls, and not on a machine.
+    pub fn is_of_calls(self) -> bool {
         match self {
-            Workload::PostOne => "post-1",
-            Workload::PostEight => "post-8",
-            Workload::RoundTrip => "trip",
-            Workload::Wake => "wake",
-            Workload::Async => "async",
-            Workload::Many => "many",
-            Workload::Stop => "stop",
-            Workload::StopOne => "stop-one",
-            Workload::SetKey => "set-key",
-            Workload::CountOne => "key-inc-1",
-            Workload::CountAll => "key-inc",
-            Workload::Idle => "idle",
+            Workload::PostOne
+            | Workload::PostEight
+            | Workload::RoundTrip
+            | Workload::Wake
+            | Workload::Async
+            | Workload::Many => true,
+            _ => false,
         }
     }
 
-    /// How many threads it has, where this number is asked for.
-    pub fn threads(self, asked: u32) -> u32 {
+    /// How many threads it has, where this number is asked for. One CPU of a table of calls keeps the table's last value, so
+    /// 31 are the most of a workload of calls.
+    pub fn threads(self, asked: u32) -> u32
+        requires { IsLawful asked }
+        ensures { AreThreadsOf asked result }
+    {
         match self {
             Workload::PostOne | Workload::PostEight | Workload::CountOne | Workload::Idle => 1,
             Workload::RoundTrip | Workload::Wake | Workload::StopOne => 2,
+            Workload::Async | Workload::Many => asked.min(31),
             _ => asked,
         }
     }

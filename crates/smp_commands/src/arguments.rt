@@ -125,6 +125,16 @@ fn most_of(matches: &ArgMatches<'_>) -> Most {
     }
 }
 
+// How every order is gone through.
+fn orders_of(matches: &ArgMatches<'_>) -> Orders {
+    let most = most_of(matches);
+    if matches.get_flag("merge") {
+        Orders::Merged(most)
+    } else {
+        Orders::All(most)
+    }
+}
+
 fn sample_of(matches: &ArgMatches<'_>) -> Sample {
     Sample {
         seed: seed_of(matches),
@@ -209,7 +219,7 @@ fn view_of(name: &str) -> Option<View> {
 fn plain_job<'a>(name: &str, matches: &ArgMatches<'a>) -> Job<'a> {
     match name {
         "explain" => Job::Explain,
-        "explore" => Job::Explore(Orders::All(most_of(matches)), scripts_of(matches)),
+        "explore" => Job::Explore(orders_of(matches), scripts_of(matches)),
         "sample" => Job::Explore(Orders::Sampled(sample_of(matches)), scripts_of(matches)),
         "outcomes" => Job::Outcomes(most_of(matches), scripts_of(matches)),
         "script" => Job::Write(run_of(matches)),

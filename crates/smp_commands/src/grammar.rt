@@ -29,6 +29,7 @@ enum Value {
     /// A number from the first to the second; the last is what it is where no word says.
     Number(u64, u64, Option<&'static str>),
     Text,
+    Nothing,
 }
 
 /// An option, and what help says of it.
@@ -55,6 +56,13 @@ const MEMORY: Choice = Choice {
     value: "MIB",
     takes: Value::Number(1, MOST_32, None),
     help: "Keeps states of at most MIB times 2^20 bytes, 1 to 4294967295; no limit without it",
+};
+
+const MERGE: Choice = Choice {
+    name: "merge",
+    value: "",
+    takes: Value::Nothing,
+    help: "Makes private steps together with the step before them: fewer states, and a search for each expectation",
 };
 
 const SEED: Choice = Choice {
@@ -230,16 +238,18 @@ const JUDGE: Named = Named {
 fn option<'a>(alloc: Global, choice: Choice) -> Arg<'a> {
     let arg = Arg::new(alloc, choice.name)
         .long(choice.name)
-        .value_name(choice.value)
-        .help(choice.help)
-        .action(ArgAction::Set);
+        .help(choice.help);
+    if let Value::Nothing = choice.takes {
+        return arg.action(ArgAction::SetTrue);
+    }
+    let arg = arg.value_name(choice.value).action(ArgAction::Set);
     match choice.takes {
         Value::Number(low, high, None) => arg.value_parser(ValueParser::unsigned(low, high)),
         Value::Number(low, high, Some(usual)) => {
             arg.value_parser(ValueParser::unsigned(low, high))
                 .default_value(usual)
         }
-        Value::Text => arg,
+        Value::Text | Value::Nothing => arg,
     }
 }
 
@@ -339,7 +349,7 @@ pub fn grammar<'a>(alloc: Global) -> Result<Command<'a>, AllocError> {
         (SVG, &[FROM, TO, CPUS, MARK]),
         (JSON, &[FROM, TO, CPUS]),
         (EXPLAIN, &[]),
-        (EXPLORE, &[STATES, MEMORY, ONLY, SCRIPTS]),
+        (EXPLORE, &[MERGE, STATES, MEMORY, ONLY, SCRIPTS]),
         (SAMPLE, &[SEED, RUNS, STEPS, ONLY, SCRIPTS]),
         (OUTCOMES, &[STATES, MEMORY, OUTCOME, OUTCOMES_TO]),
         (SCRIPT, &[SEED, RUN, STEPS]),

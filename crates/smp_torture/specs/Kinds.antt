@@ -1,5 +1,5 @@
 -- Kinds, and their weights.
-use Rattle.std.specs.Prelude.{◌≡◌, ◌≢◌, ℕ, List, length, slice_index_or}
+use Rattle.std.specs.Prelude.{◌≡◌, ◌⊎◌, ℕ, List, [], ◌∷◌, slice_index_or}
 use Rattle.smp_torture.specs.declared.kind.Kind.{Kind}
 use Rattle.smp_torture.specs.declared.kind.Kind.TheVariants.{Single, SingleWait, Async, Any, AnyWait, Many, ManyWait, Each, EachWait}
 use Rattle.smp_torture.specs.declared.kind.Kind.TheVariants.{StopOne, StopTwo, StopMachine, SetKey, KeyInc, KeyDec, ReadKey, ReadSite, Sleep, Poll}
@@ -29,6 +29,15 @@ index_of ReadKey = 15
 index_of ReadSite = 16
 index_of Sleep = 17
 index_of Poll = 18
+
+-- all kinds
+abbrev pub all_kinds : List Kind
+all_kinds = Single ∷ SingleWait ∷ Async ∷ Any ∷ AnyWait ∷ Many ∷ ManyWait ∷ Each ∷ EachWait ∷ StopOne ∷ StopTwo ∷ StopMachine ∷ SetKey ∷ KeyInc
+    ∷ KeyDec ∷ ReadKey ∷ ReadSite ∷ Sleep ∷ Poll ∷ []
+
+-- the functions whose calls wait: those of the kinds single-wait, any-wait, many-wait and each-wait
+abbrev pub Waits : ℕ → Type 0
+Waits func = (func ≡ 1) ⊎ (func ≡ 4) ⊎ (func ≡ 6) ⊎ (func ≡ 8)
 
 -- the weight of a kind
 abbrev pub weight_of : List ℕ → Kind → ℕ

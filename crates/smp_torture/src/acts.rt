@@ -63,11 +63,21 @@ impl<'e, T: Clock> Torturer<'e, T> {
             .all(|cpu| self.board.is_answered(cpu, me, number))
     }
 
-    fn single<R: Wait>(&mut self, seat: &mut EarSeat<'_, '_, R>, kind: Kind, wait: bool) -> bool
+    /// A number to be told by a call of this CPU. Where the call waits, the number is stored before it.
+    fn told(&mut self, me: u32, wait: bool) -> u64 {
+        let number = self.choice.value();
+        if wait {
+            self.board.ask(me, number);
+        }
+        number
+    }
+
+    fn single<R: Wait>(&mut self, seat: &mut EarSeat<'_, '_, R>, kind: Kind) -> bool
         ensures { IsSameSeat seat.old seat.new }
     {
-        let (me, dst, info) = (seat.number(), self.choice.cpu(), self.choice.value());
-        self.board.ask(me, info);
+        let (me, dst) = (seat.number(), self.choice.cpu());
+        let wait = Kind::waits(kind.func());
+        let info = self.told(me, wait);
         let made = seat.call_single(dst, kind.func(), info, wait);
         self.deeds.sent.note(kind.func(), dst, info);
         made.is_ok() && (!wait || self.board.is_answered(dst, me, info))
@@ -93,11 +103,12 @@ impl<'e, T: Clock> Torturer<'e, T> {
         false
     }
 
-    fn any<R: Wait>(&mut self, seat: &mut EarSeat<'_, '_, R>, kind: Kind, wait: bool) -> bool
+    fn any<R: Wait>(&mut self, seat: &mut EarSeat<'_, '_, R>, kind: Kind) -> bool
         ensures { IsSameSeat seat.old seat.new }
     {
-        let (me, mask, info) = (seat.number(), self.choice.mask(), self.choice.value());
-        self.board.ask(me, info);
+        let (me, mask) = (seat.number(), self.choice.mask());
+        let wait = Kind::waits(kind.func());
+        let info = self.told(me, wait);
         match seat.call_any(mask, kind.func(), info, wait) {
             Ok(cpu) => {
                 self.deeds.sent.note(kind.func(), cpu, info);
@@ -107,11 +118,12 @@ impl<'e, T: Clock> Torturer<'e, T> {
         }
     }
 
-    fn many<R: Wait>(&mut self, seat: &mut EarSeat<'_, '_, R>, kind: Kind, wait: bool) -> bool
+    fn many<R: Wait>(&mut self, seat: &mut EarSeat<'_, '_, R>, kind: Kind) -> bool
         ensures { IsSameSeat seat.old seat.new }
     {
-        let (me, mask, info) = (seat.number(), self.choice.mask(), self.choice.value());
-        self.board.ask(me, info);
+        let (me, mask) = (seat.number(), self.choice.mask());
+        let wait = Kind::waits(kind.func());
+        let info = self.told(me, wait);
         let called = seat.call_many(mask, kind.func(), info, wait);
         let wanted = mask.without(me);
         self.note_all(kind, wanted, info);
@@ -119,11 +131,12 @@ impl<'e, T: Clock> Torturer<'e, T> {
     }
 
     /// Calls the CPUs of a mask whose numbers are even where the info is, and else the odd ones.
-    fn each<R: Wait>(&mut self, seat: &mut EarSeat<'_, '_, R>, kind: Kind, wait: bool) -> bool
+    fn each<R: Wait>(&mut self, seat: &mut EarSeat<'_, '_, R>, kind: Kind) -> bool
         ensures { IsSameSeat seat.old seat.new }
     {
-        let (me, mask, info) = (seat.number(), self.choice.mask(), self.choice.value());
-        self.board.ask(me, info);
+        let (me, mask) = (seat.number(), self.choice.mask());
+        let wait = Kind::waits(kind.func());
+        let info = self.told(me, wait);
         let says = |cpu: u32, info: u64| u64::from(cpu % 2) == info % 2;
         let called = seat.each_cpu_cond(mask, kind.func(), info, &says, wait);
         let wanted = picked(mask, info);
@@ -178,23 +191,18 @@ impl<'e, T: Clock> Torturer<'e, T> {
         seat.set_key(k, on).is_ok()
     }
 
-    fn key_inc<R: Wait>(&mut self, seat: &mut EarSeat<'_, '_, R>) -> bool
+    fn count<R: Wait>(&mut self, seat: &mut EarSeat<'_, '_, R>, up: bool) -> bool
         ensures { IsSameSeat seat.old seat.new }
     {
         let k = self.choice.below(KEYS);
-        match seat.key_inc(k) {
+        let (counted, edge) = if up {
+            (seat.key_inc(k), Edge::Full)
+        } else {
+            (seat.key_dec(k), Edge::Zero)
+        };
+        match counted {
             Ok(_) => true,
-            Err(error) => error == SmpError::KeyRange(Edge::Full),
-        }
-    }
-
-    fn key_dec<R: Wait>(&mut self, seat: &mut EarSeat<'_, '_, R>) -> bool
-        ensures { IsSameSeat seat.old seat.new }
-    {
-        let k = self.choice.below(KEYS);
-        match seat.key_dec(k) {
-            Ok(_) => true,
-            Err(error) => error == SmpError::KeyRange(Edge::Zero),
+            Err(error) => error == SmpError::KeyRange(edge),
         }
     }
 
@@ -229,21 +237,17 @@ impl<'e, T: Clock> Torturer<'e, T> {
         ensures { IsSameSeat seat.old seat.new }
     {
         match kind {
-            Kind::Single => self.single(seat, kind, false),
-            Kind::SingleWait => self.single(seat, kind, true),
+            Kind::Single | Kind::SingleWait => self.single(seat, kind),
             Kind::Async => self.user(seat, kind),
-            Kind::Any => self.any(seat, kind, false),
-            Kind::AnyWait => self.any(seat, kind, true),
-            Kind::Many => self.many(seat, kind, false),
-            Kind::ManyWait => self.many(seat, kind, true),
-            Kind::Each => self.each(seat, kind, false),
-            Kind::EachWait => self.each(seat, kind, true),
+            Kind::Any | Kind::AnyWait => self.any(seat, kind),
+            Kind::Many | Kind::ManyWait => self.many(seat, kind),
+            Kind::Each | Kind::EachWait => self.each(seat, kind),
             Kind::StopOne => self.stop_one(seat, kind),
             Kind::StopTwo => self.stop_two(seat, kind),
             Kind::StopMachine => self.stop_machine(seat, kind),
             Kind::SetKey => self.set_key(seat),
-            Kind::KeyInc => self.key_inc(seat),
-            Kind::KeyDec => self.key_dec(seat),
+            Kind::KeyInc => self.count(seat, true),
+            Kind::KeyDec => self.count(seat, false),
             Kind::ReadKey => self.read_key(seat),
             Kind::ReadSite => self.read_site(seat),
             Kind::Sleep => self.sleep(),

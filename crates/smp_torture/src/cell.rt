@@ -4,7 +4,7 @@ ghost use Rattle.std.specs.Prelude.{◌≡◌};
 ghost use Rattle.smp_torture.specs.Counts.{cell_with, cell_sum};
 
 /// How many calls there were, and the sum of their values, both modulo 2^64.
-#[derive(Clone, Copy, Debug, PartialEq, Eq)]
+#[derive(Clone, Copy, PartialEq, Eq)]
 pub struct Cell {
     pub count: u64,
     pub sum: u64,

@@ -1,6 +1,6 @@
 //! What calls and stops run on a CPU.
 
-ghost use Rattle.std.specs.Prelude.{◌<◌};
+ghost use Rattle.std.specs.Prelude.{◌≡◌, ◌+◌, ◌%◌, ◌/◌, pos};
 
 use crate::board::Board;
 use crate::deeds::Deeds;
@@ -42,7 +42,11 @@ impl<'e> Ear<'e> {
 }
 
 impl<'e> Handler for Ear<'e> {
-    ghost leads = { λ _ _ _. Unit {0} };
+    ghost use Rattle.std.specs.Prelude.{◌≡◌};
+    ghost use Rattle.smp_torture.specs.Counts.{Notes};
+
+    // Each call that it hears is noted once, with its source.
+    ghost leads = { λ old call new. Notes call.func call.src call.info old.heard new.heard × (new.own ≡ old.own) };
 
     fn call(&mut self, src: u32, func: u16, info: u64) {
         self.heard.note(func, src, info);
@@ -74,24 +78,32 @@ impl Runs {
 }
 
 /// The argument of a stop by this CPU.
-pub fn arg_of(source: u32, random: u64) -> u64 {
+pub fn arg_of(source: u32, random: u64) -> u64
+    ensures { result % 32 ≡ source % 32 }
+{
     random - random % u64::from(NR_CPUS) + u64::from(source % NR_CPUS)
 }
 
 /// The CPU that made the stop of an argument.
 pub fn source_of(arg: u64) -> u32
-    ensures { result < 32 }
+    ensures { result ≡ arg % 32 }
 {
     (arg % u64::from(NR_CPUS)) as u32
 }
 
 /// What a stop function answers: it is never 0.
-pub fn answer_to(arg: u64) -> i32 {
+pub fn answer_to(arg: u64) -> i32
+    ensures { result ≡ pos (arg / 32 % 1_000_000 + 1) }
+{
     (arg / u64::from(NR_CPUS) % 1_000_000) as i32 + 1
 }
 
 impl StopFunc for Runs {
-    ghost leads = { λ _ _ _. Unit {0} };
+    ghost use Rattle.std.specs.Prelude.{◌≡◌, ◌%◌};
+    ghost use Rattle.smp_torture.specs.Counts.{Notes};
+
+    // Each stop function that runs here is noted once, with the CPU that made the stop.
+    ghost leads = { λ old call new. (call.cpu ≡ old.own → Notes call.func (call.arg % 32) call.arg old.ran new.ran) × (new.own ≡ old.own) };
 
     fn run(&mut self, cpu: u32, func: u16, arg: u64) -> i32 {
         if cpu == self.own {

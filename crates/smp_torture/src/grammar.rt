@@ -11,18 +11,18 @@ const ABOUT: &str =
     "Tortures a machine by random calls and stops from all of its CPUs, and counts what was heard.";
 
 /// What help says of the kinds and of the statuses.
-const MORE: &str = "Kinds, with the weights that they have where --weights is not there:
-  single 16, single-wait 16    a call to one CPU
-  async 16                     a call by a record of the user, again while the record is busy
-  any 16, any-wait 16          a call to some CPU of a mask
-  many 16, many-wait 16        a call to all other CPUs of a mask
-  each 16, each-wait 16        a call to each CPU of a mask of which a condition holds
-  stop-one 2, stop-two 2       a stop of one CPU, or of two
-  stop-machine 2               a stop of all CPUs
-  set-key 2                    a key is turned on or off
-  key-inc 2, key-dec 2         a key is counted up or down
-  read-key 16, read-site 16    a key is read, or a key and one of its sites, which have to agree
-  sleep 2, poll 32             the CPU sleeps, or polls
+const MORE: &str = "Kinds:
+  single, single-wait    a call to one CPU
+  async                  a call by a record of the user, again while the record is busy
+  any, any-wait          a call to some CPU of a mask
+  many, many-wait        a call to all other CPUs of a mask
+  each, each-wait        a call to each CPU of a mask of which a condition holds
+  stop-one, stop-two     a stop of one CPU, or of two
+  stop-machine           a stop of all CPUs
+  set-key                a key is turned on or off
+  key-inc, key-dec       a key is counted up or down
+  read-key, read-site    a key is read, or a key and one of its sites, which have to agree
+  sleep, poll            the CPU sleeps, or polls
 
 Standard error is told each second what was done, and which CPUs keep others waiting in a stop.
 
@@ -31,78 +31,94 @@ Exit statuses:
   1  a count is off, or the machine is not drained
   2  it could not be done: standard error says why";
 
-/// An option with a number.
+/// The weights where no word says: each call and reading as often as each other, stops, changes of keys and sleeps less often,
+/// and polls more often.
+const USUAL: &str =
+    "single=16,single-wait=16,async=16,any=16,any-wait=16,many=16,many-wait=16,each=16,each-wait=16,\
+stop-one=2,stop-two=2,stop-machine=2,set-key=2,key-inc=2,key-dec=2,read-key=16,read-site=16,sleep=2,poll=32";
+
+/// An option with a value, and what help says of it.
 #[derive(Clone, Copy)]
-struct Number {
+struct Named<'a> {
     name: &'static str,
-    /// The least and the greatest that it may be.
-    low: u64,
-    high: u64,
+    /// What help writes for its value.
+    shown: &'static str,
+    value: ValueParser<'a>,
     /// What it is where no word says.
     usual: &'static str,
     help: &'static str,
 }
 
-const NUMBERS: [Number; 4] = [
-    Number {
+const OPTIONS: [Named<'static>; 5] = [
+    Named {
         name: "threads",
-        low: 2,
-        high: 32,
+        shown: "N",
+        value: ValueParser::Unsigned(2, 32),
         usual: "4",
         help: "Makes N CPUs, each on a thread of its own, 2 to 32",
     },
-    Number {
+    Named {
         name: "seconds",
-        low: 1,
-        high: 3600,
+        shown: "N",
+        value: ValueParser::Unsigned(1, 3600),
         usual: "1",
         help: "Ends after N seconds, 1 to 3600",
     },
-    Number {
+    Named {
         name: "seed",
-        low: 0,
-        high: u64::MAX,
+        shown: "N",
+        value: ValueParser::Unsigned(0, u64::MAX),
         usual: "1",
         help: "Draws by this number what each CPU does",
     },
-    Number {
+    Named {
         name: "report",
-        low: 1,
-        high: 3600,
+        shown: "N",
+        value: ValueParser::Unsigned(1, 3600),
         usual: "1",
         help: "Tells standard error of it each N seconds, 1 to 3600",
     },
+    Named {
+        name: "weights",
+        shown: "KIND=W,..",
+        value: ValueParser::String,
+        usual: USUAL,
+        help: "Draws these kinds by these weights, 0 to 65535, and no other kind",
+    },
 ];
 
-// An option with a number.
-fn number_arg<'a>(alloc: Global, number: Number) -> Arg<'a> {
-    Arg::new(alloc, number.name)
-        .long(number.name)
-        .value_name("N")
-        .help(number.help)
+// An option with a value.
+fn arg_of<'a>(alloc: Global, named: Named<'a>) -> Arg<'a> {
+    Arg::new(alloc, named.name)
+        .long(named.name)
+        .value_name(named.shown)
+        .help(named.help)
         .action(ArgAction::Set)
-        .value_parser(ValueParser::unsigned(number.low, number.high))
-        .default_value(number.usual)
+        .value_parser(named.value)
+        .default_value(named.usual)
+}
+
+// The option without a value.
+fn quiet<'a>(alloc: Global) -> Arg<'a> {
+    Arg::new(alloc, "quiet")
+        .long("quiet")
+        .help("Prints only what does not depend on the schedule")
+        .action(ArgAction::SetTrue)
+}
+
+// The program, with no option but help and version.
+fn program<'a>(alloc: Global) -> Command<'a> {
+    Command::new(alloc, "smp_torture")
+        .about(ABOUT)
+        .version(VERSION)
+        .after_help(MORE)
 }
 
 /// All that the command line may have.
 pub fn grammar<'a>(alloc: Global) -> Result<Command<'a>, AllocError> {
-    let mut grammar = Command::new(alloc, "smp_torture")
-        .bin_name("smp_torture")?
-        .about(ABOUT)
-        .version(VERSION)
-        .after_help(MORE);
-    for number in NUMBERS {
-        grammar = grammar.arg(number_arg(alloc, number))?;
+    let mut grammar = program(alloc);
+    for named in OPTIONS {
+        grammar = grammar.arg(arg_of(alloc, named))?;
     }
-    let weights = Arg::new(alloc, "weights")
-        .long("weights")
-        .value_name("KIND=W,..")
-        .help("Draws these kinds by these weights, 0 to 65535, and no other kind")
-        .action(ArgAction::Set);
-    let quiet = Arg::new(alloc, "quiet")
-        .long("quiet")
-        .help("Prints only what does not depend on the schedule")
-        .action(ArgAction::SetTrue);
-    grammar.arg(weights)?.arg(quiet)
+    grammar.arg(quiet(alloc))
 }

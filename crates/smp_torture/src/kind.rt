@@ -1,13 +1,13 @@
 //! What a CPU does at random.
 
-ghost use Rattle.std.specs.Prelude.{◌≡◌, ◌<◌};
-ghost use Rattle.smp_torture.specs.Kinds.{kinds, index_of};
+ghost use Rattle.std.specs.Prelude.{◌≡◌, ◌<◌, ◌↔◌, IsTrue};
+ghost use Rattle.smp_torture.specs.Kinds.{kinds, index_of, Waits};
 
 /// How many kinds there are.
 pub const KINDS: usize = 19;
 
 /// What a CPU may do: a call, a stop, a change of a key, a reading, a sleep or polls.
-#[derive(Clone, Copy, Debug, PartialEq, Eq)]
+#[derive(Clone, Copy)]
 pub enum Kind {
     /// A call to one CPU, without wait and with it.
     Single,
@@ -103,7 +103,9 @@ impl Kind {
     }
 
     /// Whether calls that name this function wait for it.
-    pub fn waits(func: u16) -> bool {
+    pub fn waits(func: u16) -> bool
+        ensures { IsTrue result ↔ Waits func }
+    {
         match Kind::ALL.get(func as usize) {
             Some(Kind::SingleWait | Kind::AnyWait | Kind::ManyWait | Kind::EachWait) => true,
             _ => false,

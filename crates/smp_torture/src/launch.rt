@@ -1,6 +1,6 @@
 //! A thread for each CPU.
 
-ghost use Rattle.std.specs.Prelude.{IfOk};
+ghost use Rattle.std.specs.Prelude.{◌≡◌, IfOk};
 ghost use Rattle.smp_machine.specs.MachineCpu.{IsAt, IsFull};
 ghost use Rattle.smp_torture.specs.Ends.{AreAt};
 
@@ -50,6 +50,33 @@ impl<'e, T: Clock> Crew<Ear<'e>, Runs> for Tortures<'e, T> {
     }
 }
 
+/// Puts what a CPU has done behind what others have: the CPU.
+fn put_report(
+    reports: &mut Vec<Report, Global>,
+    played: Played<Ear<'_>, Runs>,
+) -> Result<Cpu<Global>, TortureError>
+    ensures { IfOk result (λ cpu. cpu ≡ played.entry.cpu) }
+{
+    let Played {
+        cpu,
+        handler,
+        functions,
+    } = played;
+    reports.push(Report::new(cpu.number(), handler, functions))?;
+    Ok(cpu)
+}
+
+/// Puts what each of these CPUs has done behind what others have.
+fn put_reports(
+    reports: &mut Vec<Report, Global>,
+    played: Vec<Played<Ear<'_>, Runs>, Global>,
+) -> Result<(), TortureError> {
+    for one in played {
+        put_report(reports, one)?;
+    }
+    Ok(())
+}
+
 /// One of the CPUs that have played their parts, and what all have done.
 fn reports_of(
     alloc: Global,
@@ -60,23 +87,12 @@ fn reports_of(
     ensures { IfOk result (λ e. IsAt machine.now e.last) }
 {
     let _ = machine;
-    let mut reports = Vec::with_capacity(alloc, played.len())?;
     let Some(back) = played.pop() else {
         return Err(TortureError::NoThread);
     };
-    let Played {
-        cpu: last,
-        handler,
-        functions,
-    } = back;
-    reports.push(Report::new(last.number(), handler, functions))?;
-    for Played {
-        cpu,
-        handler,
-        functions,
-    } in played {
-        reports.push(Report::new(cpu.number(), handler, functions))?;
-    }
+    let mut reports = Vec::new(alloc);
+    let last = put_report(&mut reports, back)?;
+    put_reports(&mut reports, played)?;
     Ok(Ended { last, reports })
 }
 

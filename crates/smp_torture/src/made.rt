@@ -1,5 +1,9 @@
 //! What a CPU has made of one kind.
 
+ghost use Rattle.std.specs.Prelude.{◌≡◌, ◌-◌, ◌^◌, min};
+ghost use Rattle.std.specs.Duration.{as_nanos};
+ghost use Rattle.smp_torture.specs.Counts.{made_with, made_sum};
+
 use std::time::Duration;
 
 /// What a CPU has made of one kind, modulo 2^64.
@@ -22,7 +26,9 @@ impl Made {
     };
 
     /// One more that took so long.
-    pub fn note(&mut self, right: bool, took: Duration) {
+    pub fn note(&mut self, right: bool, took: Duration)
+        ensures { self.new ≡ made_with self.old right (min (as_nanos took) (2 ^ 64 - 1)) }
+    {
         let nanos = u64::try_from(took.as_nanos()).unwrap_or(u64::MAX);
         self.count = self.count.wrapping_add(1);
         self.wrong = self.wrong.wrapping_add(u64::from(!right));
@@ -31,7 +37,9 @@ impl Made {
     }
 
     /// What both have made.
-    pub fn plus(self, other: Made) -> Made {
+    pub fn plus(self, other: Made) -> Made
+        ensures { result ≡ made_sum self other }
+    {
         Made {
             count: self.count.wrapping_add(other.count),
             wrong: self.wrong.wrapping_add(other.wrong),

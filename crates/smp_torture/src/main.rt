@@ -33,10 +33,13 @@ use crate::acts::labels;
 use crate::error::TortureError;
 use crate::launch::{Ended, torture};
 use crate::plan::Plan;
+use crate::report::Report;
 use crate::request::{Request, read_words};
 use crate::table::print_table;
+use crate::verdict::{are_all_right, is_drained};
 use smp_machine::{Machine, MachineBoot};
 use smp_mask::CpuMask;
+use smp_queue::Audit;
 use std::alloc::{AllocError, Global};
 use std::process::ExitCode;
 use std::sync::Wait;
@@ -82,16 +85,26 @@ fn torture_from_now<R: Wait + Threads + Clock + Eprint + Sync>(
     torture(rt, alloc, &plan, machine, boot)
 }
 
+/// Tortures a new machine: what all CPUs have done, and the audit of its calls.
+fn torture_new<R: Wait + Threads + Clock + Eprint + Sync>(
+    rt: &R,
+    alloc: Global,
+    request: &Request,
+) -> Result<(Vec<Report, Global>, Audit), TortureError> {
+    let (machine, boot) = machine_of(alloc, request.threads)?;
+    let Ended { last, reports } = torture_from_now(rt, alloc, request, &machine, boot)?;
+    Ok((reports, machine.shutdown(last)))
+}
+
 /// Tortures a new machine, and prints what was done: whether all counts are right.
 fn run<R: Wait + Threads + Clock + Print + Eprint + Sync>(
     rt: &R,
     alloc: Global,
     request: Request,
 ) -> Result<bool, TortureError> {
-    let (machine, boot) = machine_of(alloc, request.threads)?;
-    let Ended { last, reports } = torture_from_now(rt, alloc, &request, &machine, boot)?;
-    let audit = machine.shutdown(last);
-    Ok(print_table(rt, &request, reports.as_slice(), &audit)?)
+    let (reports, audit) = torture_new(rt, alloc, &request)?;
+    print_table(rt, &request, reports.as_slice(), &audit)?;
+    Ok(are_all_right(reports.as_slice()) && is_drained(reports.as_slice(), &audit))
 }
 
 /// Tortures as is asked for, and answers the status. Why it could not be done is said on standard error.
@@ -116,9 +129,7 @@ fn do_words<R: Wait + Threads + Clock + Print + Eprint + Sync>(
     alloc: Global,
     words: &[String],
 ) -> io::Result<u8> {
-    let texts: Result<Vec<&str>, AllocError> = words.iter().map(|w| w.as_str()).collect(alloc);
-    let texts = texts?;
-    match read_words(alloc, texts.as_slice()) {
+    match read_words(alloc, words) {
         Ok(request) => do_request(rt, alloc, request),
         Err(error) => {
             error.print(rt)?;
@@ -127,8 +138,30 @@ fn do_words<R: Wait + Threads + Clock + Print + Eprint + Sync>(
     }
 }
 
-fn main(rt: HostRuntime) -> io::Result<ExitCode> {
-    let words: Result<Vec<String>, AllocError> = env::args(&rt)?.collect(rt.alloc());
-    let status = do_words(&rt, rt.alloc(), words?.as_slice())?;
-    Ok(ExitCode::from(status))
+/// The words of the command line.
+fn words_of(rt: &HostRuntime) -> io::Result<Vec<String>> {
+    let words: Result<Vec<String>, AllocError> = env::args(rt)?.collect(rt.alloc());
+    Ok(words?)
+}
+
+/// Says on standard error why the words could not be read, or nothing could be printed, and answers the status.
+fn tell<R: Eprint>(rt: &R, error: &io::Error) -> ExitCode {
+    let cause = match error.kind() {
+        io::ErrorKind::InvalidData => "invalid UTF-8 was detected in one or more arguments",
+        io::ErrorKind::OutOfMemory => "no memory",
+        _ => "nothing to print to",
+    };
+    eprintln!(rt; "error: {cause}").is_ok();
+    ExitCode::from(2)
+}
+
+fn main(rt: HostRuntime) -> ExitCode {
+    let words = match words_of(&rt) {
+        Ok(words) => words,
+        Err(error) => return tell(&rt, &error),
+    };
+    match do_words(&rt, rt.alloc(), words.as_slice()) {
+        Ok(status) => ExitCode::from(status),
+        Err(error) => tell(&rt, &error),
+    }
 }

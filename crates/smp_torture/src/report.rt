@@ -1,6 +1,8 @@
 //! What one CPU has made, sent and heard.
 
 ghost use Rattle.std.specs.Prelude.{◌≡◌, ◌<◌};
+ghost use Rattle.smp_torture.specs.Kinds.{index_of};
+ghost use Rattle.smp_torture.specs.Counts.{made_of};
 
 use crate::deeds::Deeds;
 use crate::ear::{Ear, Runs};
@@ -32,7 +34,9 @@ impl Report {
     /// What a CPU has left, in its handler and its stop function.
     pub fn new(number: u32, handler: Ear<'_>, functions: Runs) -> Report
         requires { number < 32 }
-        ensures { result.number ≡ number }
+        ensures number { result.number ≡ number }
+        ensures counts { (result.made ≡ handler.entry.deeds.made) × (result.sent ≡ handler.entry.deeds.sent) × (result.heard ≡ handler.entry.heard)
+            × (result.ran ≡ functions.ran) × (result.unseen ≡ handler.entry.unseen) }
     {
         let Deeds {
             made,
@@ -51,7 +55,9 @@ impl Report {
         }
     }
 
-    pub fn made(&self, kind: Kind) -> Made {
+    pub fn made(&self, kind: Kind) -> Made
+        ensures { result ≡ made_of self.now.made (index_of kind) }
+    {
         self.made[kind.index()]
     }
 }

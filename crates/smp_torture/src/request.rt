@@ -8,7 +8,7 @@ use crate::kind::{KINDS, Kind};
 use crate::weights::Weights;
 use clap::error::ErrorKind;
 use clap::{ArgMatches, Error};
-use std::alloc::Global;
+use std::alloc::{AllocError, Global};
 
 /// What is said of weights that are none.
 const WEIGHTS: &str =
@@ -57,11 +57,8 @@ fn read_weight(word: &str) -> Option<(Kind, u16)> {
     Some((kind, number.parse::<u16>().ok()?))
 }
 
-/// The weights that are named, and 0 for each other kind (as `kernel/scftorture.c`); the usual ones where none is.
-fn read_weights(words: Option<&str>) -> Option<Weights> {
-    let Some(words) = words else {
-        return Some(Weights::usual());
-    };
+/// The weights that are named, and 0 for each other kind (as `kernel/scftorture.c`).
+fn read_weights(words: &str) -> Option<Weights> {
     let mut of = [0u16; KINDS];
     for word in words.split(',') {
         let (kind, weight) = read_weight(word)?;
@@ -71,7 +68,7 @@ fn read_weights(words: Option<&str>) -> Option<Weights> {
 }
 
 /// What the matches ask for, with these weights. None where a number is out of its range, which the grammar refuses.
-fn read_matches(found: &ArgMatches<'_>, weights: Weights) -> Option<Request> {
+fn with_weights(found: &ArgMatches<'_>, weights: Weights) -> Option<Request> {
     let threads = number(found, "threads", 2, 32)?;
     let seconds = number(found, "seconds", 1, 3600)?;
     let report = number(found, "report", 1, 3600)?;
@@ -85,15 +82,28 @@ fn read_matches(found: &ArgMatches<'_>, weights: Weights) -> Option<Request> {
     })
 }
 
+/// What the matches ask for, or what is said of them.
+fn read_matches(found: &ArgMatches<'_>) -> Result<Request, &'static str> {
+    let weights = read_weights(found.get_str("weights").unwrap_or("")).ok_or(WEIGHTS)?;
+    with_weights(found, weights).ok_or(NUMBER)
+}
+
+/// The error of `clap` that says this.
+fn refusal(alloc: Global, text: &'static str) -> Result<Error, AllocError> {
+    grammar(alloc)?.error(ErrorKind::ValueValidation, text)
+}
+
+/// What `clap` finds in the words.
+fn matches_of<'a>(alloc: Global, words: &'a [String]) -> Result<ArgMatches<'a>, Error> {
+    grammar(alloc)?.try_get_matches_from(words)
+}
+
 /// What the words of the command line ask for, the program's own name first. Where they are no command line, or ask for help
 /// or the version, the answer is what `clap` says.
-pub fn read_words<'a>(alloc: Global, words: &'a [&'a str]) -> Result<Request, Error> {
-    let found = grammar(alloc)?.try_get_matches_from(words)?;
-    let Some(weights) = read_weights(found.get_str("weights")) else {
-        return Err(grammar(alloc)?.error(ErrorKind::ValueValidation, WEIGHTS)?);
-    };
-    match read_matches(&found, weights) {
-        Some(request) => Ok(request),
-        None => Err(grammar(alloc)?.error(ErrorKind::ValueValidation, NUMBER)?),
+pub fn read_words(alloc: Global, words: &[String]) -> Result<Request, Error> {
+    let found = matches_of(alloc, words)?;
+    match read_matches(&found) {
+        Ok(request) => Ok(request),
+        Err(text) => Err(refusal(alloc, text)?),
     }
 }

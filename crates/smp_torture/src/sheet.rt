@@ -1,8 +1,8 @@
 //! What one CPU has sent, or has heard.
 
-ghost use Rattle.std.specs.Prelude.{◌≡◌, ◌<◌, IfSome, IfNone, slice_set};
+ghost use Rattle.std.specs.Prelude.{◌≡◌, ◌<◌, IfSome, IfNone, replicate};
 ghost use Rattle.smp_torture.specs.Kinds.{kinds};
-ghost use Rattle.smp_torture.specs.Counts.{place_of, cell_at, cell_with};
+ghost use Rattle.smp_torture.specs.Counts.{no_cell, place_of, cell_at, strayed, Notes};
 
 use crate::cell::Cell;
 use crate::kind::KINDS;
@@ -33,7 +33,9 @@ fn place(func: u16, cpu: u32) -> Option<usize>
 
 impl Sheet {
     /// Nothing sent, or heard.
-    pub fn new() -> Sheet {
+    pub fn new() -> Sheet
+        ensures { (result.cells ≡ replicate 608 no_cell) × (result.strays ≡ 0) }
+    {
         Sheet {
             cells: [Cell::NONE; CELLS],
             strays: 0,
@@ -42,8 +44,7 @@ impl Sheet {
 
     /// Notes a call of this function and value, to or from this CPU.
     pub fn note(&mut self, func: u16, cpu: u32, value: u64)
-        ensures { func < kinds → cpu < 32 → self.new.cells
-            ≡ slice_set self.old.cells (place_of func cpu) (cell_with (cell_at self.old.cells func cpu) value) }
+        ensures { Notes func cpu value self.old self.new }
     {
         match place(func, cpu) {
             Some(at) => self.cells[at] = self.cells[at].with(value),
@@ -52,7 +53,9 @@ impl Sheet {
     }
 
     /// Notes a call that nobody has made.
-    pub fn stray(&mut self) {
+    pub fn stray(&mut self)
+        ensures { self.new ≡ strayed self.old }
+    {
         self.strays = self.strays.wrapping_add(1);
     }
 

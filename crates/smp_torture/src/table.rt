@@ -1,22 +1,29 @@
 //! What was done, as text.
 
+ghost use Rattle.std.specs.Prelude.{◌≡◌, ◌==◌, ◌&&◌, if◌then◌else◌, codes};
+
 use crate::kind::Kind;
 use crate::made::Made;
 use crate::report::Report;
 use crate::request::Request;
-use crate::verdict::{
-    are_no_strays, are_seen, heard_of, is_right, is_tallied, made_of, queued_in, sent_of,
-};
+use crate::verdict::{heard_of, is_drained, is_right_of, made_of, queued_in, sent_of};
 use smp_queue::{Audit, Tally};
 use std::io;
 
+/// The columns that depend on the schedule.
+const COLUMNS: &str = "        made  wrong         sent        heard     mean ns  longest us";
+
 /// A verdict as a word.
-fn word(right: bool) -> &'static str {
+fn word(right: bool) -> &'static str
+    ensures { result.now ≡ (if right then codes "ok" else codes "OFF") }
+{
     if right { "ok" } else { "OFF" }
 }
 
 /// What is said of a kind that was made, or is drawn, this often.
-fn word_of(count: u64, right: bool) -> &'static str {
+fn word_of(count: u64, right: bool) -> &'static str
+    ensures { result.now ≡ (if (count == 0) && right then codes "not made" else if right then codes "ok" else codes "OFF") }
+{
     if count == 0 && right {
         "not made"
     } else {
@@ -24,27 +31,25 @@ fn word_of(count: u64, right: bool) -> &'static str {
     }
 }
 
-/// The line of a kind, without what depends on the schedule: whether it is right.
+/// The line of a kind, without what depends on the schedule.
 fn print_kind_quietly<R: Print>(
     rt: &R,
     request: &Request,
     reports: &[Report],
     kind: Kind,
-) -> io::Result<bool> {
-    let right = is_right(reports, kind) && made_of(reports, kind).wrong == 0;
+) -> io::Result<()> {
     let (name, weight) = (kind.name(), request.weights.weight(kind));
-    let said = word_of(u64::from(weight), right);
-    println!(rt; "{name:<14}{weight:>8}  {said}")?;
-    Ok(right)
+    let said = word_of(u64::from(weight), is_right_of(reports, kind));
+    println!(rt; "{name:<14}{weight:>8}  {said}")
 }
 
-/// The line of a kind: whether it is right.
+/// The line of a kind.
 fn print_kind<R: Print>(
     rt: &R,
     request: &Request,
     reports: &[Report],
     kind: Kind,
-) -> io::Result<bool> {
+) -> io::Result<()> {
     let Made {
         count,
         wrong,
@@ -52,29 +57,24 @@ fn print_kind<R: Print>(
         longest,
     } = made_of(reports, kind);
     let (sent, heard) = (sent_of(reports, kind).count, heard_of(reports, kind).count);
-    let right = is_right(reports, kind) && wrong == 0;
-    let (name, weight, said) = (
-        kind.name(),
-        request.weights.weight(kind),
-        word_of(count, right),
-    );
+    let (name, weight) = (kind.name(), request.weights.weight(kind));
     let (mean, longest) = (nanos / count.max(1), longest / 1000);
-    print!(rt; "{name:<14}{weight:>8}{count:>12}{wrong:>7}{sent:>13}{heard:>13}")?;
-    println!(rt; "{mean:>12}{longest:>12}  {said}")?;
-    Ok(right)
+    let said = word_of(count, is_right_of(reports, kind));
+    println!(rt;
+        "{name:<14}{weight:>8}{count:>12}{wrong:>7}{sent:>13}{heard:>13}{mean:>12}{longest:>12}  {said}"
+    )
 }
 
-/// The line of each kind: whether all are right.
-fn print_kinds<R: Print>(rt: &R, request: &Request, reports: &[Report]) -> io::Result<bool> {
-    let mut right = true;
+/// The line of each kind.
+fn print_kinds<R: Print>(rt: &R, request: &Request, reports: &[Report]) -> io::Result<()> {
     for kind in Kind::ALL {
-        right = if request.quiet {
-            print_kind_quietly(rt, request, reports, kind)? && right
+        if request.quiet {
+            print_kind_quietly(rt, request, reports, kind)?;
         } else {
-            print_kind(rt, request, reports, kind)? && right
-        };
+            print_kind(rt, request, reports, kind)?;
+        }
     }
-    Ok(right)
+    Ok(())
 }
 
 /// The line of the retries and the interrupts.
@@ -89,46 +89,35 @@ fn print_sums<R: Print>(rt: &R, reports: &[Report], tally: &Tally) -> io::Result
     println!(rt; "queued {queued}, batches {batches}, coalesced {coalesced}, retries {retries}")
 }
 
-/// The line of the audit: whether it is right.
-fn print_audit<R: Print>(
-    rt: &R,
-    request: &Request,
-    reports: &[Report],
-    audit: &Audit,
-) -> io::Result<bool> {
+/// The line of the audit.
+fn print_audit<R: Print>(rt: &R, reports: &[Report], audit: &Audit) -> io::Result<()> {
     match audit {
-        Audit::Drained(tally) => {
-            if !request.quiet {
-                print_sums(rt, reports, tally)?;
-            }
-            let right = is_tallied(reports, tally) && are_no_strays(reports) && are_seen(reports);
-            println!(rt; "audit drained {}", word(right))?;
-            Ok(right)
-        }
+        Audit::Drained(_) => println!(rt; "audit drained {}", word(is_drained(reports, audit))),
         Audit::Left(left) => {
             let (heads, locked, handling) = (left.heads, left.locked, left.handling);
-            println!(rt; "audit left {heads} heads, {locked} locked, {handling} handling OFF")?;
-            Ok(false)
+            println!(rt; "audit left {heads} heads, {locked} locked, {handling} handling OFF")
         }
     }
 }
 
-/// Prints what was done: whether all counts are right.
+/// The lines above those of the kinds.
+fn print_head<R: Print>(rt: &R, request: &Request) -> io::Result<()> {
+    let (threads, seconds, seed) = (request.threads, request.seconds, request.seed);
+    let columns = if request.quiet { "" } else { COLUMNS };
+    println!(rt; "{threads} threads, {seconds} s, seed {seed}\nkind            weight{columns}")
+}
+
+/// Prints what was done.
 pub fn print_table<R: Print>(
     rt: &R,
     request: &Request,
     reports: &[Report],
     audit: &Audit,
-) -> io::Result<bool> {
-    let (threads, seconds, seed) = (request.threads, request.seconds, request.seed);
-    println!(rt; "{threads} threads, {seconds} s, seed {seed}")?;
-    if request.quiet {
-        println!(rt; "kind            weight")?;
-    } else {
-        print!(rt; "kind            weight        made  wrong         sent        heard")?;
-        println!(rt; "     mean ns  longest us")?;
+) -> io::Result<()> {
+    print_head(rt, request)?;
+    print_kinds(rt, request, reports)?;
+    if let (Audit::Drained(tally), false) = (audit, request.quiet) {
+        print_sums(rt, reports, tally)?;
     }
-    let kinds = print_kinds(rt, request, reports)?;
-    let drained = print_audit(rt, request, reports, audit)?;
-    Ok(kinds && drained)
+    print_audit(rt, reports, audit)
 }

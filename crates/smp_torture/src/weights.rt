@@ -35,16 +35,6 @@ impl Weights {
         Some(Weights { of, some })
     }
 
-    /// Each call and reading as often as each other, stops, changes of keys and sleeps less often, and polls more often.
-    pub fn usual() -> Weights {
-        Weights {
-            of: [
-                16, 16, 16, 16, 16, 16, 16, 16, 16, 2, 2, 2, 2, 2, 2, 16, 16, 2, 32,
-            ],
-            some: Kind::Poll,
-        }
-    }
-
     pub fn weight(&self, kind: Kind) -> u16
         ensures { result ≡ weight_of self.now.of kind }
     {

@@ -1,4 +1,5 @@
-use Rattle.std.proofs.Common.{List, subst}
+use Rattle.std.proofs.Common.{List, subst, sym}
+use Rattle.smp_machine.specs.MachineCpu.{MachineCpuValue, IsAt}
 use Rattle.smp_torture.specs.Ends.{AreAt}
 use Rattle.smp_torture.proofs.Ending.{last_at}
 use Rattle.smp_torture.proofs.launch.reports_of.Goals as goal
@@ -6,4 +7,5 @@ use Rattle.smp_torture.proofs.launch.reports_of.Goals as goal
 pub returns : goal.returns
 returns c =
     let m = c.args.machine.now in
-    last_at m c.pop.new.self.items c.in-Some.back (subst (λ (xs : List _). AreAt m xs) c.in-Some.ensures.items c.requires)
+    subst (λ (x : MachineCpuValue). IsAt m x) (sym c.in_ok-last.ensures)
+    (last_at m c.pop.new.self.items c.in-Some.back (subst (λ (xs : List _). AreAt m xs) c.in-Some.ensures.items c.requires))
