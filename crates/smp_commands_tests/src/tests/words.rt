@@ -96,20 +96,24 @@ fn words_that_are_none_of_this_program(rt: HostRuntime) {
     }
 }
 
+// The file that these words name, where they are taken: none for standard input.
+fn file_of<'a>(alloc: Global, words: &'a [&'a str]) -> Result<Option<&'a str>, ErrorKind> {
+    match read_words(alloc, words) {
+        Ok(request) => Ok(request.file),
+        Err(error) => Err(error.kind()),
+    }
+}
+
 #[test]
-fn from_a_file_or_standard_input(rt: HostRuntime) -> Result<(), Fail> {
+fn from_a_file_or_standard_input(rt: HostRuntime) {
     for name in [
         "lanes", "svg", "explain", "explore", "sample", "script", "events", "judge",
     ] {
-        let words = ["smp", name, "file"];
-        let request = read_words(rt.alloc(), &words).ok().ok_or("words")?;
-        assert_eq!(rt; request.file, Some("file"));
-        let words = ["smp", name, "-"];
-        let request = read_words(rt.alloc(), &words).ok().ok_or("words")?;
-        assert_eq!(rt; request.file, None);
-        let words = ["smp", name];
-        let request = read_words(rt.alloc(), &words).ok().ok_or("words")?;
-        assert_eq!(rt; request.file, None);
+        assert_eq!(rt;
+            file_of(rt.alloc(), &["smp", name, "file"]),
+            Ok(Some("file"))
+        );
+        assert_eq!(rt; file_of(rt.alloc(), &["smp", name, "-"]), Ok(None));
+        assert_eq!(rt; file_of(rt.alloc(), &["smp", name]), Ok(None));
     }
-    Ok(())
 }
