@@ -23,7 +23,7 @@ use Rattle.smp_judge.specs.Head.{SpotValue, all_told, is_labels, labels_at, need
 use Rattle.smp_judge.specs.Judged.{used_after}
 use Rattle.smp_events.specs.Text.{line_text}
 use Rattle.smp_events.specs.Traces.{lines_text}
-use Rattle.smp_replay_laws.specs.Texts.{AreShort, AreTold, IsTold}
+use Rattle.smp_replay_laws.specs.Texts.{AreReadable, AreTold, IsTold}
 use Rattle.smp_replay_laws.proofs.TextWords.{TakesAll}
 use Rattle.smp_script.proofs.Written.Writing.{cpus_are_read}
 use Rattle.smp_replay_laws.proofs.TextCpus.{cpus_fields, cpus_words, labels_told, labels_words}
@@ -90,7 +90,7 @@ not_labels word (a ∷ b ∷ c ∷ cs) other = refl
 pub record HasRoom (number used : ℕ) (events : List (ℕ × Event)) : Type 0 where
   pub lines : number + length events ≤ 1000001
   pub bytes : used + length (lines_text events) ≤ 16777216
-  pub short : AreShort (lines_of (lines_text events))
+  pub short : AreReadable (lines_of (lines_text events))
 
 -- the first line of events is within the limits
 room_first : (u : Setting) (number used cpu : ℕ) (e : Event) (events : List (ℕ × Event)) → TakesAll u → IsTold u (cpu, e)
@@ -99,8 +99,8 @@ room_first : (u : Setting) (number used cpu : ℕ) (e : Event) (events : List (�
 room_first u number used cpu e events all told room =
     let long : length (line_text cpu e ++ lines_text events) ≡ length (told_line cpu e) + 1 + length (lines_text events) =
     length-append (line_text cpu e) (lines_text events) ∙ ap (λ k. k + length (lines_text events)) (length_line cpu e) in
-    let shorts : AreShort (ended (told_line cpu e) ∷ lines_of (lines_text events)) =
-    subst AreShort (first_line u cpu e (lines_text events) all told) room.short in
+    let shorts : AreReadable (ended (told_line cpu e) ∷ lines_of (lines_text events)) =
+    subst AreReadable (first_line u cpu e (lines_text events) all told) room.short in
     used_within number used (told_line cpu e) (omega (arith, room.lines)) shorts.0 (omega (arith, long, room.bytes))
 
 -- the lines of events are no labels

@@ -16,7 +16,7 @@ use Rattle.smp_judge.specs.Runs.{Told, told_by}
 use Rattle.smp_judge.specs.declared.halted.Halted.{Halted}
 use Rattle.smp_events.specs.Text.{line_text}
 use Rattle.smp_events.specs.Traces.{lines_text}
-use Rattle.smp_replay_laws.specs.Texts.{AreShort, AreTold, IsTold}
+use Rattle.smp_replay_laws.specs.Texts.{AreReadable, AreTold, IsTold}
 use Rattle.smp_replay_laws.proofs.TextWords.{TakesAll, joined_words, words_of, words_read}
 use Rattle.smp_script.proofs.Written.LineWriting.{member_read}
 
@@ -82,7 +82,7 @@ told_so events used = Ok (record { events = events; used = used })
 
 -- the lines of events tell just these
 pub lines_tell : (u : Setting) (n used : ℕ) (events : List (ℕ × Event)) → TakesAll u → AreTold u events → n + length events ≤ 1000001
-    → used + length (lines_text events) ≤ 16777216 → AreShort (lines_of (lines_text events))
+    → used + length (lines_text events) ≤ 16777216 → AreReadable (lines_of (lines_text events))
     → told_by u n used (lines_of (lines_text events)) ≡ Ok (record { events = events; used = used + length (lines_text events) })
 unfolding told_by
 lines_tell u n used [] all told few room short = let none : used ≡ used + 0 = omega arith in ap (λ (k : ℕ). told_so [] k) none
@@ -92,7 +92,7 @@ lines_tell u n used ((cpu, e) ∷ events) all told few room short =
     let first = first_line u cpu e rest all told.0 in
     let long : length (line_text cpu e ++ rest) ≡ length text + 1 + length rest =
     length-append (line_text cpu e) rest ∙ ap (λ k. k + length rest) (length_line cpu e) in
-    let shorts : AreShort (record { text = text; ended = true } ∷ lines_of rest) = subst AreShort first short in
+    let shorts : AreReadable (record { text = text; ended = true } ∷ lines_of rest) = subst AreReadable first short in
     let more = used_within n used text (omega arith) shorts.0 (omega (arith, long, room)) in
     let ih = lines_tell u (n + 1) (used + (length text + 1)) events all told.1 (omega arith) (omega (arith, long, room)) shorts.1 in
     let sum : used + (length text + 1) + length rest ≡ used + length (line_text cpu e ++ rest) = omega (arith, long) in

@@ -22,7 +22,7 @@ use Rattle.smp_judge.specs.Head.{words_of as label_words_of}
 use Rattle.smp_events.specs.Front.{front_text}
 use Rattle.smp_events.specs.Traces.{lines_text}
 use Rattle.smp_replay.specs.Output.{labels_or_none}
-use Rattle.smp_replay_laws.specs.Texts.{AreShort, AreTold, IsWithin, ReadsBack, trace_text, traced}
+use Rattle.smp_replay_laws.specs.Texts.{AreReadable, AreTold, IsWithin, ReadsBack, trace_text, traced}
 use Rattle.smp_replay_laws.proofs.TextWords.{TakesAll}
 use Rattle.smp_replay_laws.proofs.TextCpus.{cpus_fields, cpus_words, few_cpus, labels_words, trace_mask}
 use Rattle.smp_replay_laws.proofs.TextHeads.{HasRoom, ended, labels_read, no_labels_read, online_read, spot, title_read, without_read}
@@ -112,7 +112,7 @@ head_none nr online mask events t =
     let lines : lines_of (written nr mask None body) ≡ ended (codes "smp 2 trace") ∷ ended cpus ∷ lines_of body = lines_written nr mask None body c in
     let long : length (written nr mask None body) ≡ 12 + (length cpus + 1 + length body) =
     length_before trace_words (line_before (cpus_words nr mask) body) ∙ ap (λ k. 12 + k) (length_before (cpus_words nr mask) body) in
-    let short : AreShort (ended (codes "smp 2 trace") ∷ ended cpus ∷ lines_of body) = subst AreShort lines t.within.lines in
+    let short : AreReadable (ended (codes "smp 2 trace") ∷ ended cpus ∷ lines_of body) = subst AreReadable lines t.within.lines in
     let count : length (lines_of (written nr mask None body)) ≡ suc (suc (length (lines_of body))) = ap length lines in
     let counted = count_lines u events all t.told in
     let room : HasRoom 3 (12 + (length cpus + 1)) events = record {
@@ -150,7 +150,7 @@ head_some nr online mask labels events t =
     length_before trace_words (line_before (cpus_words nr mask) (line_before (labels_words labels) body))
     ∙ ap (λ k. 12 + k) (length_before (cpus_words nr mask) (line_before (labels_words labels) body)
     ∙ ap (λ k. length cpus + 1 + k) (length_before (labels_words labels) body)) in
-    let short : AreShort (ended (codes "smp 2 trace") ∷ ended cpus ∷ ended third ∷ lines_of body) = subst AreShort lines t.within.lines in
+    let short : AreReadable (ended (codes "smp 2 trace") ∷ ended cpus ∷ ended third ∷ lines_of body) = subst AreReadable lines t.within.lines in
     let count : length (lines_of (written nr mask (Some labels) body)) ≡ suc (suc (suc (length (lines_of body)))) = ap length lines in
     let counted = count_lines u events all t.told in
     let before = 12 + (length cpus + 1) in
