@@ -10,12 +10,12 @@ use smp_script::Watched;
 use std::alloc::Global;
 use std::test::*;
 
-// What is told of two sends, where no more is kept than this, and the status of the program.
-fn told(alloc: Global, states: usize, bytes: usize) -> Result<(Vec<u8, Global>, u8), SmpError> {
+// What is told of two sends by these orders, and the status of the program.
+fn told(alloc: Global, orders: Orders) -> Result<(Vec<u8, Global>, u8), SmpError> {
     let text = b"smp 1 explore\ncpus 2 0-1\ncpu 0 send 1\ncpu 1 send 0\n".as_slice();
     let mut reader = Watched::new(text);
     let mut writer = Watched::new(Vec::new(alloc));
-    let task = Task::Judge(Orders::All(Most { states, bytes }));
+    let task = Task::Judge(orders);
     let ending = explore_script(alloc, task, &mut reader, &mut writer, &mut Unwatched)?;
     Ok((writer.into_inner(), status_of(Ok(Answer::Explored(ending)))))
 }
@@ -42,10 +42,26 @@ fn which_limit(rt: HostRuntime) -> Result<(), Fail> {
         (1, 0, b"goes limit of memory\n".as_slice(), 2),
     ];
     for (states, bytes, wanted, status) in cases {
-        let (text, ended) = told(rt.alloc(), states, bytes)?;
+        let (text, ended) = told(rt.alloc(), Orders::All(Most { states, bytes }))?;
         assert_eq!(rt; text.as_slice(), wanted);
         assert_eq!(rt; ended, status);
     }
+    Ok(())
+}
+
+// A send is one step that others see, so merged moves are the single steps.
+#[test]
+fn merged_moves_of_two_sends(rt: HostRuntime) -> Result<(), Fail> {
+    let most = Most {
+        states: 4,
+        bytes: usize::MAX,
+    };
+    let (text, ended) = told(rt.alloc(), Orders::Merged(most))?;
+    assert_eq!(rt;
+        text.as_slice(),
+        b"goes holds, 4 merged, 4 moves, 2 deep\n".as_slice()
+    );
+    assert_eq!(rt; ended, 0);
     Ok(())
 }
 

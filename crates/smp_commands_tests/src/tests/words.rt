@@ -1,7 +1,11 @@
 //! Words of the command line, and what they ask for.
 
 use clap::error::ErrorKind;
+use smp_commands::arguments::Job;
+use smp_commands::explore::Scripts;
 use smp_commands::read_words;
+use smp_explore::Most;
+use smp_report::Orders;
 use std::alloc::Global;
 use std::test::*;
 
@@ -116,4 +120,28 @@ fn from_a_file_or_standard_input(rt: HostRuntime) {
         assert_eq!(rt; file_of(rt.alloc(), &["smp", name, "-"]), Ok(None));
         assert_eq!(rt; file_of(rt.alloc(), &["smp", name]), Ok(None));
     }
+}
+
+// Whether these words ask for an exploration by these orders.
+fn is_asked(alloc: Global, words: &[&str], orders: Orders) -> bool {
+    match read_words(alloc, words) {
+        Ok(request) => request.job == Job::Explore(orders, Scripts::Behind),
+        Err(_) => false,
+    }
+}
+
+#[test]
+fn merged_moves_only_where_they_are_asked_for(rt: HostRuntime) {
+    let most = Most {
+        states: 100_000,
+        bytes: usize::MAX,
+    };
+    assert!(rt; is_asked(rt.alloc(), &["smp", "explore"], Orders::All(most)));
+    assert!(rt;
+        is_asked(
+            rt.alloc(),
+            &["smp", "explore", "--merge"],
+            Orders::Merged(most)
+        )
+    );
 }
