@@ -12,7 +12,7 @@ use std::alloc::{AllocError, Global};
 
 /// What is said of weights that are none.
 const WEIGHTS: &str =
-    "invalid value for '--weights <KIND=W,..>': it is a list as single=4,stop-one=1 with weights from 0 to 65535, not all 0; --help names the kinds";
+    "invalid value for '--weights <KIND=W,..>': it is a list as single=4,stop-one=1 with weights from 0 to 65535, not all 0, and no kind twice; --help names the kinds";
 
 /// What is said of a number that is none.
 const NUMBER: &str = "invalid value: --threads is 2 to 32, --seconds and --report are 1 to 3600";
@@ -57,11 +57,16 @@ fn read_weight(word: &str) -> Option<(Kind, u16)> {
     Some((kind, number.parse::<u16>().ok()?))
 }
 
-/// The weights that are named, and 0 for each other kind (as `kernel/scftorture.c`).
+/// The weights that are named, each once, and 0 for each other kind (as `kernel/scftorture.c`).
 fn read_weights(words: &str) -> Option<Weights> {
     let mut of = [0u16; KINDS];
+    let mut is_named = [false; KINDS];
     for word in words.split(',') {
         let (kind, weight) = read_weight(word)?;
+        if is_named[kind.index()] {
+            return None;
+        }
+        is_named[kind.index()] = true;
         of[kind.index()] = weight;
     }
     Weights::new(of)
