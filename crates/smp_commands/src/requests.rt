@@ -166,7 +166,11 @@ fn do_request(rt: &HostRuntime, request: &Request<'_>) -> io::Result<Result<Answ
     Ok(done)
 }
 
-/// Does what the words of the command line ask for, and answers the status.
+/// Does what the words of the command line ask for, the program's own name first, and answers the status: 0 where it is done, 1
+/// where the answer is no, 2 where it could not be done.
+///
+/// What is found goes to standard output, and why it could not be done to standard error. The error is that of a stream to
+/// which help, the version or such a reason could not be written.
 pub fn do_words(rt: &HostRuntime, words: &[&str]) -> io::Result<u8> {
     let request = match read_words(rt.alloc(), words) {
         Ok(request) => request,

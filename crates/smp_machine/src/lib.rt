@@ -2,13 +2,13 @@
 //!
 //! | Call of a [`Machine`] | What it waits for | CPUs that must poll | Where it takes effect | In the kernel |
 //! |---|---|---|---|---|
-//! | `call_single`, `call_any` | the record's last call; with `wait` its own | the CPU called | the exchange that queues the call | `smp_call_function_single`, `_any` |
+//! | `call_single`, `call_any` | the record's last call; with `wait` its own | the CPU called | the exchange that queues it | `smp_call_function_single`, `_any` |
 //! | `call_async` | no call | the CPU called | the exchange that queues the call | `smp_call_function_single_async` |
-//! | `call_many`, `each_cpu_cond` | the records' last calls; with `wait` its own | the CPUs called | the exchange of each call | `smp_call_function_many`, `on_each_cpu_cond_mask` |
+//! | `call_many`, `each_cpu_cond` | as `call_single`, for each record | the CPUs called | the exchange of each call | `smp_call_function_many`, `on_each_cpu_cond_mask` |
 //! | `stop_one`, `stop_two` | the gate, then its stop | its CPUs, and the CPU that holds the gate | the store of its roll | `stop_one_cpu`, `stop_two_cpus` |
 //! | `stop_machine` | the gate, then its stop | all online CPUs | the store of its roll | `stop_machine` |
 //! | `set_key` | the gate, then its stop | all online CPUs | the patch, or the load of the count | `static_key_enable`, `static_key_disable` |
-//! | `key_inc`, `key_dec` | nothing, or as `set_key` | none, or all online CPUs | the exchange of the count, or the patch | `static_key_slow_inc`, `static_key_slow_dec` |
+//! | `key_inc`, `key_dec` | nothing, or as `set_key` | none, or all online CPUs | the exchange of the count, or the patch | `static_key_slow_inc`, `_dec` |
 //! | `read_key`, `read_site` | nothing | none | the load | `static_key_enabled`, `arch_static_branch` |
 //! | `turn` | nothing | none | its own steps | one pass of `multi_cpu_stop` |
 //! | `poll` | the stop that it takes part in | the CPUs of that stop | its own steps | an interrupt, and the stopper thread |

@@ -52,7 +52,8 @@ online_read nr online mask rest some few field is_mask are short =
     let text = join_with_byte 32 (cpus_words nr mask) in
     let used = used_within 2 12 text (omega arith) short (omega (arith, short)) in
     let back = fields_join (codes "cpus") (decimal nr ∷ mask ∷ []) (cpus_fields nr mask few field) in
-    let read : whole_cpus 32 (fields_of text) ≡ Ok (nr, online) = ap (whole_cpus 32) back ∙ cpus_are_read 32 nr online mask some few (omega arith) field is_mask are in
+    let read : whole_cpus 32 (fields_of text) ≡ Ok (nr, online) =
+    ap (whole_cpus 32) back ∙ cpus_are_read 32 nr online mask some few (omega arith) field is_mask are in
     rw (used, read) refl
 
 -- the line of the labels

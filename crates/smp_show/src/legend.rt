@@ -44,8 +44,10 @@ const DOTS: &str = "<defs>
 <path id=\"lost\" d=\"M 0 -6 L 6 0 L 0 6 L -6 0 Z\" fill=\"#ffffff\" stroke=\"#000000\" stroke-width=\"1.5\"/>
 <circle id=\"run\" r=\"7\" fill=\"#d55e00\" stroke=\"#000000\"/>
 <path id=\"error\" d=\"M -5 -5 L 5 5 M 5 -5 L -5 5\" stroke=\"#d55e00\" stroke-width=\"3\"/>
-<marker id=\"call-head\" markerWidth=\"8\" markerHeight=\"8\" refX=\"6\" refY=\"4\" orient=\"auto\" markerUnits=\"userSpaceOnUse\"><path d=\"M 0 0 L 8 4 L 0 8 Z\" fill=\"#0072b2\"/></marker>
-<marker id=\"interrupt-head\" markerWidth=\"8\" markerHeight=\"8\" refX=\"6\" refY=\"4\" orient=\"auto\" markerUnits=\"userSpaceOnUse\"><path d=\"M 0 0 L 8 4 L 0 8 Z\" fill=\"#d55e00\"/></marker>
+<marker id=\"call-head\" markerWidth=\"8\" markerHeight=\"8\" refX=\"6\" refY=\"4\" orient=\"auto\" markerUnits=\"userSpaceOnUse\">\
+<path d=\"M 0 0 L 8 4 L 0 8 Z\" fill=\"#0072b2\"/></marker>
+<marker id=\"interrupt-head\" markerWidth=\"8\" markerHeight=\"8\" refX=\"6\" refY=\"4\" orient=\"auto\" markerUnits=\"userSpaceOnUse\">\
+<path d=\"M 0 0 L 8 4 L 0 8 Z\" fill=\"#d55e00\"/></marker>
 </defs>
 ";
 
@@ -76,7 +78,8 @@ const LINKS: &str =
     "<path class=\"call\" d=\"M 12 69 L 42 69\" marker-end=\"url(#call-head)\"/><text class=\"key\" x=\"50\" y=\"73\">a call to its run</text>
 <path class=\"interrupt\" d=\"M 188 69 L 218 69\" marker-end=\"url(#interrupt-head)\"/><text class=\"key\" x=\"226\" y=\"73\">a send to its swap</text>
 <rect class=\"off\" x=\"372\" y=\"62\" width=\"22\" height=\"14\"/><text class=\"key\" x=\"400\" y=\"73\">interrupts off</text>
-<rect class=\"odd\" x=\"514\" y=\"62\" width=\"14\" height=\"14\"/><rect class=\"even\" x=\"528\" y=\"62\" width=\"14\" height=\"14\"/><text class=\"key\" x=\"548\" y=\"73\">phases of a stop</text>
+<rect class=\"odd\" x=\"514\" y=\"62\" width=\"14\" height=\"14\"/>\
+<rect class=\"even\" x=\"528\" y=\"62\" width=\"14\" height=\"14\"/><text class=\"key\" x=\"548\" y=\"73\">phases of a stop</text>
 ";
 
 /// The begin of a picture, with its size, and its styles.

@@ -12,7 +12,8 @@ use std::alloc::{AllocError, Global};
 
 /// What is said of weights that are none.
 const WEIGHTS: &str =
-    "invalid value for '--weights <KIND=W,..>': it is a list as single=4,stop-one=1 with weights from 0 to 65535, not all 0, and no kind twice; --help names the kinds";
+    "invalid value for '--weights <KIND=W,..>': it is a list as single=4,stop-one=1 with weights from 0 to 65535, not all 0, \
+     and no kind twice; --help names the kinds";
 
 /// What is said of a number that is none.
 const NUMBER: &str = "invalid value: --threads is 2 to 32, --seconds and --report are 1 to 3600";
