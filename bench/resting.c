@@ -1,5 +1,5 @@
 /*
- * A stop of many CPUs on few processors in plain C, with three ways to wait: what it would gain if CPUs slept between the
+ * A stop of many CPUs on few processors in plain C, with four ways to wait: what it would gain if CPUs slept between the
  * phases of a stop. It makes the steps that wait in stops.c, and no others: the gate, a work for each CPU, the phases with
  * their count, and the end. No proof covers this file.
  *
@@ -7,8 +7,9 @@
  *   ./resting CPUS WAY SECONDS SOURCES
  *
  * The first SOURCES of the CPUs stop all of them again and again; the others wait for works. WAY 0: they poll, as `poll`. 1:
- * they sleep until a work is put, and poll in the stop, as `rest`. 2: they also sleep until the next phase; who stores that
- * rings for all.
+ * they sleep until a work is put, and poll in the stop, as `rest`. 2: they also sleep until the next phase; the CPU that
+ * stores it rings for all. 3: as 1, and a source sleeps until the gate is free; the CPU that gives it up rings for those
+ * that are marked, as after `Machine::sleep_after`.
  *
  * It prints how many stops were made, the mean of one with its wait for the gate, the longest, and the processor time of all
  * threads for each stop.
@@ -27,7 +28,7 @@
 
 #define MOST 32
 
-enum way { POLLS, RESTS, SLEEPS };
+enum way { POLLS, RESTS, SLEEPS, SLEEPS_AT_GATE };
 
 static struct {
 	_Alignas(64) atomic_uint rings;
@@ -39,6 +40,7 @@ static struct {
 } queues[MOST];
 
 static _Alignas(64) atomic_uint gate;
+static _Alignas(64) atomic_uint marked;
 static _Alignas(64) atomic_uint state;
 static _Alignas(64) atomic_uint ack;
 static _Alignas(64) atomic_uint todo, done;
@@ -105,6 +107,15 @@ static void ring_all(unsigned but)
 			ring(cpu);
 }
 
+static void ring_marked(void)
+{
+	unsigned marks = atomic_load(&marked);
+
+	for (unsigned cpu = 0; cpu < cpus; cpu++)
+		if (marks >> cpu & 1)
+			ring(cpu);
+}
+
 /* Acknowledges a phase, and stores the next one as the last. */
 static void acknowledge(unsigned cpu, unsigned phase)
 {
@@ -155,15 +166,50 @@ static bool poll(unsigned cpu)
 	return true;
 }
 
+static bool try_gate(unsigned cpu)
+{
+	unsigned free = 0;
+
+	return atomic_compare_exchange_strong(&gate, &free, cpu + 1);
+}
+
+/* One try for the gate with the alarm set, and a sleep where it was in vain and no work came. */
+static bool try_gate_or_sleep(unsigned cpu)
+{
+	bool taken, found = false;
+	unsigned noted;
+
+	atomic_fetch_or(&marked, 1u << cpu);
+	noted = set_alarm(cpu);
+	taken = try_gate(cpu);
+	if (!taken)
+		found = poll(cpu);
+	if (taken || found)
+		leave_alarm(cpu);
+	else
+		sleep_on_alarm(cpu, noted);
+	atomic_fetch_and(&marked, ~(1u << cpu));
+	return taken;
+}
+
+static void take_gate(unsigned cpu)
+{
+	unsigned step = 0;
+
+	while (!try_gate(cpu)) {
+		poll(cpu);
+		if (!snooze(&step) || way != SLEEPS_AT_GATE)
+			continue;
+		if (try_gate_or_sleep(cpu))
+			return;
+	}
+}
+
 static void stop_all(unsigned cpu)
 {
-	unsigned step = 0, free = 0;
+	unsigned step;
 
-	while (!atomic_compare_exchange_strong(&gate, &free, cpu + 1)) {
-		free = 0;
-		poll(cpu);
-		snooze(&step);
-	}
+	take_gate(cpu);
 	atomic_store(&ack, cpus);
 	atomic_store(&todo, cpus);
 	atomic_store(&done, 0);
@@ -178,6 +224,8 @@ static void stop_all(unsigned cpu)
 		snooze(&step);
 	}
 	atomic_store(&gate, 0);
+	if (way == SLEEPS_AT_GATE)
+		ring_marked();
 }
 
 /* Stops all until it is told to end, and then polls until all sources have. */

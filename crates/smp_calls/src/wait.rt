@@ -5,7 +5,6 @@ ghost use Rattle.smp_call_steps.specs.Start.{has_record};
 ghost use Rattle.smp_queue.specs.Cpu.{confirmed_at, confirms, looks};
 ghost use Rattle.smp_calls.specs.Families.{IsSized, Leaves, Awaits, owes_at};
 
-use crossbeam_utils::Backoff;
 use smp_queue::{CallCpu, CallTable, Handler};
 use std::alloc::Allocator;
 use std::sync::Wait;
@@ -23,18 +22,18 @@ pub(crate) fn is_done<A: Allocator>(table: &CallTable<A>, me: &mut CallCpu, k: u
     }
 }
 
-/// Handles the CPU's own interrupt, if one is pending.
+/// Handles the CPU's own interrupt, if one is pending; whether one was.
 pub(crate) fn handle_own<A: Allocator, R: Wait, H: Handler>(
     table: &CallTable<A>,
     rt: &R,
     me: &mut CallCpu,
     handler: &mut H,
-)
+) -> bool
     requires { me.old.table ≡ table.now.table }
     ensures left { Leaves H.leads me.old handler.old me.new handler.new [] [] (owes_at me.old) (confirmed_at me.old) }
     ensures once { (me.new.steps ≡ me.old.steps) × (length me.new.part.asked ≡ length me.old.part.asked + 1) }
 {
-    table.handle(me, handler);
+    table.handle(me, handler).interrupted
 }
 
 /// Waits until the record is unlocked, and handles the CPU's own interrupts meanwhile, once after each look at the record that
@@ -52,13 +51,14 @@ pub(crate) fn wait_for<A: Allocator, R: Wait, H: Handler>(
     ensures left { Leaves H.leads me.old handler.old me.new handler.new [] [] (owes_at me.old) (λ j. j == k || confirmed_at me.old j) }
     ensures turns { Awaits k me.old handler.old me.new handler.new }
 {
-    let backoff = Backoff::new();
+    let mut pause = table.pause(me);
     for _ in rt.forever() {
+        pause.before_look();
         if is_done(table, me, k) {
             return;
         }
-        handle_own(table, rt, me, handler);
-        backoff.snooze();
+        let interrupted = handle_own(table, rt, me, handler);
+        pause.after_look(rt, interrupted);
     }
     unreachable!()
 }

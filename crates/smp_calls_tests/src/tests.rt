@@ -2,6 +2,7 @@ ghost use Rattle.std.specs.Prelude.{◌≡◌, IfOk};
 
 mod conditions;
 mod resting;
+mod sleeping;
 mod threads;
 mod users;
 mod waiting;

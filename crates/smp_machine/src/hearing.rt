@@ -24,7 +24,7 @@ use smp_calls::{
     Within, call_any, call_async, call_many, call_many_within, call_single, each_cpu_cond,
 };
 use smp_mask::{CpuMask, SmpError};
-use smp_queue::{Alarm, Audit, Boot, CallCpu, CallTable, Handler};
+use smp_queue::{Alarm, Audit, Boot, CallCpu, CallTable, Handler, Pause};
 use smp_words::call::Class;
 use std::alloc::Allocator;
 use std::marker::Model;
@@ -65,6 +65,13 @@ impl<A: Allocator> Hearing<A> {
         self.table.online()
     }
 
+    /// Lets CPUs sleep while they wait: [`CallTable::sleep_after`].
+    pub(crate) fn sleep_after(&mut self, looks: u32)
+        ensures { self.new ≡ self.old }
+    {
+        self.table.sleep_after(looks);
+    }
+
     /// What is left of calls: [`CallTable::audit`].
     pub(crate) fn audit(self, last: CallCpu) -> Audit
         requires { last.table ≡ self.table }
@@ -89,6 +96,16 @@ pub(crate) fn set_alarm<'m, A: Allocator>(
 /// Wakes a CPU that sleeps: [`CallTable::wake`].
 pub(crate) fn wake<A: Allocator>(machine: &Machine<A>, cpu: u32) {
     machine.calls.table.wake(cpu);
+}
+
+/// A wait of a CPU: [`CallTable::pause`].
+pub(crate) fn pause<'m, A: Allocator>(machine: &'m Machine<A>, me: &MachineCpu<A>) -> Pause<'m> {
+    machine.calls.table.pause(&me.calls)
+}
+
+/// Wakes the CPUs that wait asleep: [`CallTable::wake_waiting`].
+pub(crate) fn wake_waiting<A: Allocator>(machine: &Machine<A>) {
+    machine.calls.table.wake_waiting();
 }
 
 /// Handles the CPU's own interrupt, with interrupts on: whether one was pending.

@@ -2,9 +2,9 @@
 //!
 //! | Call of a [`Machine`] | What it waits for | CPUs that must poll | Where it takes effect | In the kernel |
 //! |---|---|---|---|---|
-//! | `call_single`, `call_any` | the record's last call; with `wait` its own | the CPU called | the exchange that queues it | `smp_call_function_single`, `_any` |
-//! | `call_async` | no call | the CPU called | the exchange that queues the call | `smp_call_function_single_async` |
-//! | `call_many`, `each_cpu_cond` | as `call_single`, for each record | the CPUs called | the exchange of each call | `smp_call_function_many`, `on_each_cpu_cond_mask` |
+//! | `call_single`, `call_any` | the record's last call; with `wait` its own | the CPU called | the call's exchange | `smp_call_function_single`, `_any` |
+//! | `call_async` | no call | the CPU called | the call's exchange | `smp_call_function_single_async` |
+//! | `call_many`, `each_cpu_cond` | as `call_single`, each record | the CPUs called | each call's exchange | `smp_call_function_many`, `on_each_cpu_cond` |
 //! | `stop_one`, `stop_two` | the gate, then its stop | its CPUs, and the CPU that holds the gate | the store of its roll | `stop_one_cpu`, `stop_two_cpus` |
 //! | `stop_machine` | the gate, then its stop | all online CPUs | the store of its roll | `stop_machine` |
 //! | `set_key` | the gate, then its stop | all online CPUs | the patch, or the load of the count | `static_key_enable`, `static_key_disable` |

@@ -113,6 +113,17 @@ impl<A: Allocator> Machine<A> {
         self.calls.online()
     }
 
+    /// Lets CPUs of this machine sleep while they wait. After this number of looks in vain, a CPU sleeps between two looks for the
+    /// end of its call ([`smp_queue::CallTable::sleep_after`]), for the gate, or for the end of its stop
+    /// (`kernel/sched/completion.c: wait_for_completion`). A CPU that takes part in a stop polls. So do all CPUs of a new machine.
+    ///
+    /// It is asked for before threads share the machine. It makes no step, and does not wait.
+    pub fn sleep_after(&mut self, looks: u32)
+        ensures { self.new ≡ self.old }
+    {
+        self.calls.sleep_after(looks);
+    }
+
     /// Gives up the machine and one of its CPUs, and answers what is left of calls, as [`smp_queue::CallTable::audit`]. Other CPUs of
     /// the machine are useless afterwards.
     ///

@@ -77,12 +77,18 @@ fn note_all<A: Allocator>(machine: &Machine<A>, me: &mut MachineCpu<A>)
     }
 }
 
-/// At each 65,536th turn that this CPU makes in vain, sets the flags of the CPUs whose queues have a work.
-pub(crate) fn note_late<A: Allocator>(machine: &Machine<A>, me: &mut MachineCpu<A>, turns: u32)
+/// At each 65,536th turn that this CPU makes in vain, and at each where it may sleep, sets the flags of the CPUs whose queues
+/// have a work.
+pub(crate) fn note_late<A: Allocator>(
+    machine: &Machine<A>,
+    me: &mut MachineCpu<A>,
+    turns: u32,
+    may_sleep: bool,
+)
     requires at { IsAt machine.now me.old }
     ensures { me.new ≡ me.old }
 {
-    if turns % PATIENCE == 0 {
+    if may_sleep || turns % PATIENCE == 0 {
         note_all(machine, me);
     }
 }
@@ -102,7 +108,7 @@ fn late_of(stalls: &Stalls, online: CpuMask) -> CpuMask
 
 impl<A: Allocator> Machine<A> {
     /// The CPUs that keep another one waiting in a stop. A CPU that waits looks at all queues at each 65,536th turn that it makes
-    /// in vain. It notes the CPUs that have a work there. Each of them is named until it takes a work.
+    /// in vain, and before it sleeps. It notes the CPUs that have a work there. Each of them is named until it takes a work.
     ///
     /// It is for a thread that watches over the others. It makes no step of a table, and does not wait. The notes are loaded one
     /// by one, so a CPU may be named for a moment after it has taken its work. No clause promises that a CPU is named: another

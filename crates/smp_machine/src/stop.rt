@@ -19,7 +19,7 @@ ghost use Rattle.smp_machine.specs.Stops.{MayBegin, item, AreShown, HasCollected
 ghost use Rattle.smp_machine.specs.WorkQueue.{IsKnown};
 ghost use Rattle.smp_machine.specs.Works.{Works};
 
-use crate::hearing::wake;
+use crate::hearing::{pause, wake, wake_waiting};
 use crate::machine::Machine;
 use crate::machine_cpu::MachineCpu;
 use crate::poll::poll;
@@ -56,13 +56,14 @@ pub(crate) fn take_gate<A: Allocator, R: Wait, H: Handler, F: StopFunc>(
         (with_moves (Took ∷ []) (with_gate true (own_of me.old))) }
     ensures outside { me.new.stops.inside ≡ None }
 {
-    let backoff = Backoff::new();
+    let mut waits = pause(machine, me);
     for _ in rt.forever() {
+        waits.before_look();
         if try_gate(machine, me) {
             return;
         }
-        poll(machine, rt, me, handler, run);
-        backoff.snooze();
+        let found = poll(machine, rt, me, handler, run);
+        waits.after_look(rt, found);
     }
     unreachable!()
 }
@@ -74,7 +75,7 @@ pub(crate) fn give_gate<A: Allocator>(machine: &Machine<A>, me: &mut MachineCpu<
     ensures { me.new ≡ record me.old { stops = gives_gate me.old.stops } }
 {
     match machine.stops.open_gate(&mut me.stops) {
-        Ok(()) => {}
+        Ok(()) => wake_waiting(machine),
         Err(_) => unreachable!(),
     }
 }
@@ -196,18 +197,17 @@ pub(crate) fn collect<A: Allocator, R: Wait, H: Handler, F: StopFunc>(
     requires begun { me.old.stops.pending ≢ None }
     ensures { HasCollected H.leads F.leads me.old handler.old run.old me.new handler.new run.new result }
 {
-    let backoff = Backoff::new();
+    let mut waits = pause(machine, me);
     let mut polls = 0u32;
     for _ in rt.forever() {
-        match look_done(machine, me) {
+        waits.before_look();
+        let found = match look_done(machine, me) {
             Some(answer) => return answer,
-            None => {
-                poll(machine, rt, me, handler, run);
-                backoff.snooze();
-            }
-        }
+            None => poll(machine, rt, me, handler, run),
+        };
         polls = polls.wrapping_add(1);
-        note_late(machine, me, polls);
+        note_late(machine, me, polls, waits.may_sleep());
+        waits.after_look(rt, found);
     }
     unreachable!()
 }

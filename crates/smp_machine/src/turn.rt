@@ -8,7 +8,7 @@ ghost use Rattle.smp_machine.specs.MachineCpu.{IsAt, HasNotLeft};
 ghost use Rattle.smp_machine.specs.Works.{Works, LooksIfOn, LooksOnceMore, GoesRound, TurnsStop, ReadsAnew};
 
 use crate::cpu::Cpu;
-use crate::hearing::hear;
+use crate::hearing::{hear, wake_waiting};
 use crate::machine::Machine;
 use crate::machine_cpu::MachineCpu;
 use crate::stalls::note_late;
@@ -74,7 +74,11 @@ pub(crate) fn step<A: Allocator, F: StopFunc>(
     if !me.stops.in_stop() {
         return Turn::Same;
     }
-    go_on(&machine.stops, &mut me.stops, run)
+    let turn = go_on(&machine.stops, &mut me.stops, run);
+    if let Turn::Left = turn {
+        wake_waiting(machine);
+    }
+    turn
 }
 
 /// Handles the own interrupt where interrupts are on, and then makes one turn of the work in hand, if any: the turn, and
@@ -139,7 +143,7 @@ pub(crate) fn finish_work<A: Allocator, R: Wait, H: Handler, F: StopFunc>(
             _ => backoff.snooze(),
         }
         turns = turns.wrapping_add(1);
-        note_late(machine, me, turns);
+        note_late(machine, me, turns, false);
     }
     unreachable!()
 }

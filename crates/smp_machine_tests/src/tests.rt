@@ -4,6 +4,7 @@ mod keys;
 mod line;
 mod member;
 mod rests;
+mod sleeping;
 mod stops;
 mod turns;
 mod users;

@@ -24,7 +24,7 @@ made_with (Maker n k) = k
 made_with (New n k) = k
 made_with (Cpu v) = v.setting
 
--- the least number from n on that a mask has, where one of so many has it
+-- the least number from n to n + k that a mask has, where one of them has it
 unfoldable pub next_from : ℕ → ℕ → ℕ → ℕ
 next_from zero mask n = n
 next_from (suc k) mask n = if has mask n then n else next_from k mask (n + 1)

@@ -108,13 +108,13 @@ pub record IsMine (table : TableId) (seat : SeatValue) (p : Posting) : Type 0 wh
   pub is_call : IsCall (posted p)
   pub to_in_range : p.to < cpus
 
--- a CPU that is about to count a call, and so many that it has queued for the same CPU
+-- a CPU that is about to count a call, and how many it has queued for the same CPU
 pub record IsCounting (v : Known) (p : Posting) (number count : ℕ) : Type 0 where
   pub stage : v.stage ≡ Some (Post (uncounted p) post.Count)
   pub number_is : v.number ≡ number
   pub count_is : count ≡ length (sent_to p.to v.part.sent) % 2 ^ 64
 
--- so many calls that a CPU has queued for a call's destination
+-- how many calls a CPU has queued for a call's destination
 pub record IsTallied (v : Known) (p : Posting) (number count : ℕ) : Type 0 where
   pub number_is : v.number ≡ number
   pub count_is : count ≡ length (sent_to p.to v.part.sent) % 2 ^ 64

@@ -1,17 +1,20 @@
 //! Where CPUs sleep while nothing is for them. No step of a table is made here, and no word of one is read.
 //!
 //! A CPU sets its alarm, then looks whether anything is for it, and sleeps only where it found nothing. The other CPUs ring
-//! its alarm behind the step that leaves it something. So either the look finds that, or the alarm rings after it was set.
+//! its alarm after the step that leaves it something. So either the look finds that, or the alarm rings after it was set.
 
 use crossbeam_utils::sync::{EventCount, Key};
 use smp_words::size::NR_CPUS;
 use std::array;
 use std::sync::Wait;
+use std::sync::atomic::{AtomicU32, Ordering};
 
-/// An alarm for each CPU.
+/// An alarm for each CPU, and which CPUs wait for another one's step.
 #[derive(Drop)]
 pub(crate) struct Alarms {
     each: [EventCount; NR_CPUS as usize],
+    /// A bit for each CPU, set while it waits with its alarm set.
+    waiting: AtomicU32,
 }
 
 impl Alarms {
@@ -19,6 +22,7 @@ impl Alarms {
     pub(crate) fn new() -> Alarms {
         Alarms {
             each: array::from_fn(|_| EventCount::new()),
+            waiting: AtomicU32::new(0),
         }
     }
 
@@ -34,9 +38,38 @@ impl Alarms {
         }
     }
 
+    /// Sets the alarm of a CPU that waits for another one's step.
+    pub(crate) fn set_waiting(&self, cpu: u32) -> WaitAlarm<'_> {
+        let bit = 1 << (cpu % NR_CPUS);
+        self.waiting.fetch_or(bit, Ordering::SeqCst);
+        let bit = WaitBit { alarms: self, bit };
+        WaitAlarm {
+            alarm: self.set(cpu),
+            bit,
+        }
+    }
+
     /// Rings the alarm of a CPU, if it is set.
     pub(crate) fn ring(&self, cpu: u32) {
         self.of(cpu).notify_one();
+    }
+
+    /// Rings the alarm of each CPU that waits with its alarm set.
+    pub(crate) fn ring_waiting(&self) {
+        let waiting = self.waiting.load(Ordering::SeqCst);
+        if waiting != 0 {
+            self.ring_each(waiting);
+        }
+    }
+
+    /// Rings the alarms of these CPUs.
+    #[inline(never)]
+    fn ring_each(&self, waiting: u32) {
+        for cpu in 0..NR_CPUS {
+            if waiting & (1 << cpu) != 0 {
+                self.ring(cpu);
+            }
+        }
     }
 }
 
@@ -51,5 +84,33 @@ impl<'a> Alarm<'a> {
     pub fn sleep<R: Wait>(self, rt: &R) {
         let Alarm { key } = self;
         key.wait(rt);
+    }
+}
+
+/// The bit of a CPU that waits. Drop it to clear it.
+pub(crate) struct WaitBit<'a> {
+    alarms: &'a Alarms,
+    bit: u32,
+}
+
+impl Drop for WaitBit<'_> {
+    fn drop(self) {
+        let Self { alarms, bit } = self;
+        alarms.waiting.fetch_and(!bit, Ordering::SeqCst);
+    }
+}
+
+/// The alarm of a CPU that waits for another one's step. Drop it to stay awake.
+#[derive(Drop)]
+pub(crate) struct WaitAlarm<'a> {
+    alarm: Alarm<'a>,
+    bit: WaitBit<'a>,
+}
+
+impl<'a> WaitAlarm<'a> {
+    /// Sleeps until the alarm rings.
+    pub(crate) fn sleep<R: Wait>(self, rt: &R) {
+        let WaitAlarm { alarm, bit: _bit } = self;
+        alarm.sleep(rt);
     }
 }

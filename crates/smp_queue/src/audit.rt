@@ -18,7 +18,7 @@ pub struct Left {
     pub heads: u32,
     /// Records that are locked.
     pub locked: u32,
-    /// CPUs that stand inside `handle`.
+    /// CPUs that are inside `handle`.
     pub handling: u32,
 }
 

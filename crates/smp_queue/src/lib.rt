@@ -19,12 +19,13 @@
 //!
 //! Where the row's call may run together with the column's, on two threads: `-` where no lock is needed, `x` where the
 //! types refuse it, since `new` makes the table, `audit` takes it, and `Boot::cpu` takes the one `Boot` by `&mut`. The
-//! first five take the `CallCpu` of who calls by `&mut`, so that `-` is of two CPUs: one makes a single call at a time.
+//! first five take the caller's `CallCpu` by `&mut`. So `-` is about two CPUs, and a CPU makes one call at a time.
 //!
-//! `wake` and `set_alarm` make no step. They may run together with all calls but `new` and `audit`.
+//! `wake`, `wake_waiting`, `set_alarm` and `pause` make no step. They may run together with all calls but `new` and `audit`.
+//! `sleep_after` takes the table by `&mut`, so it comes before threads share the table.
 //!
-//! At which step a call takes effect, whether it may wait and who must poll stands at each call. A CPU polls where it
-//! calls `handle` time and again. One that calls `rest` in its place sleeps until an interrupt is sent to it.
+//! Each call says at which step it takes effect, whether it may wait, and which CPUs must poll. A CPU polls where it calls
+//! `handle` time and again. One that calls `rest` in its place sleeps until an interrupt is sent to it.
 #![tactic(auto)]
 
 mod accesses;
@@ -37,6 +38,7 @@ mod cpu;
 mod handle;
 mod handler;
 pub mod laws;
+mod pause;
 mod post;
 mod reverse;
 mod rule;
@@ -52,5 +54,6 @@ pub use closing::ClosedTable;
 pub use cpu::CallCpu;
 pub use handle::Handled;
 pub use handler::{Handler, Heard};
+pub use pause::Pause;
 pub use seat::call_steps;
 pub use table::CallTable;

@@ -1,6 +1,6 @@
 //! The steps of a post (`kernel/smp.c: generic_exec_single`, `lib/llist.c: llist_add_batch`).
 //!
-//! A record is written before it is linked, and linked by one compare-exchange of the head: whoever takes the
+//! A record is written before it is linked, and linked by one compare-exchange of the head. So the CPU that takes the
 //! queue finds every record in it complete.
 
 ghost use Rattle.std.specs.Prelude.{◌≡◌, ◌≢◌, ◌+◌, ◌*◌, ◌<◌, ◌%◌, ◌^◌, ◌==◌, true, length, if◌then◌else◌, IfSome, IfNone, Some, None};

@@ -44,6 +44,7 @@ use crate::closing::ClosedTable;
 use crate::cpu::CallCpu;
 use crate::handle::{Handled, handle};
 use crate::handler::Handler;
+use crate::pause::Pause;
 use crate::post::{append, append_until_won, is_locked, write_record};
 use crate::seat::{SeatMaker, lay, next_seat, note_call, store};
 use smp_call_steps::known::Setting;
@@ -69,6 +70,8 @@ pub struct CallTable<A: Allocator> {
     nr: u32,
     online: CpuMask,
     alarms: Alarms,
+    /// After how many looks in vain a call that waits sleeps; it never does where this is none.
+    sleep_after: Option<u32>,
     after: [u64; 8],
 }
 
@@ -123,6 +126,7 @@ where
         nr,
         online,
         alarms: Alarms::new(),
+        sleep_after: None,
         after: [0; 8],
     };
     let boot = Boot {
@@ -240,6 +244,29 @@ impl<A: Allocator> CallTable<A> {
     /// It makes no step, and does not wait.
     pub fn set_alarm(&self, me: &CallCpu) -> Alarm<'_> {
         self.alarms.set(me.number)
+    }
+
+    /// Lets calls of this table sleep while they wait. After this number of looks in vain, a CPU that waits sleeps between two
+    /// looks. It is woken by an interrupt, and by each batch that any CPU has run, since that may have ended its call. A new
+    /// table's calls poll all the time, as Linux's do.
+    ///
+    /// It is asked for before threads share the table. It makes no step, and does not wait.
+    pub fn sleep_after(&mut self, looks: u32)
+        ensures { self.new ≡ self.old }
+    {
+        self.sleep_after = Some(looks);
+    }
+
+    /// A wait of a CPU, for a caller that waits in a loop of its own. What it waits for has to wake it
+    /// ([`CallTable::wake_waiting`]). It makes no step, and does not wait.
+    pub fn pause(&self, me: &CallCpu) -> Pause<'_> {
+        Pause::new(&self.alarms, me.number, self.sleep_after)
+    }
+
+    /// Wakes the CPUs that wait asleep ([`CallTable::pause`]): call it after a step that may end a wait. A CPU that is woken for
+    /// nothing sleeps again. It makes no step, and does not wait.
+    pub fn wake_waiting(&self) {
+        self.alarms.ring_waiting();
     }
 
     /// The refusals of a post that come before its record is written, and else the call that it queues: E4, E2
@@ -382,6 +409,9 @@ impl<A: Allocator> CallTable<A> {
         let words = self.owner.words();
         let handled = handle(words, &mut me.seat, me.number, &mut me.ran, handler);
         me.is_shown();
+        if handled.interrupted {
+            self.wake_waiting();
+        }
         handled
     }
 

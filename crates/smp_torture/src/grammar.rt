@@ -98,11 +98,20 @@ fn arg_of<'a>(alloc: Global, named: Named<'a>) -> Arg<'a> {
         .default_value(named.usual)
 }
 
-// The option without a value.
-fn quiet<'a>(alloc: Global) -> Arg<'a> {
-    Arg::new(alloc, "quiet")
-        .long("quiet")
-        .help("Prints only what does not depend on the schedule")
+/// The options without a value: their names, and what help says of them.
+const FLAGS: [(&str, &str); 2] = [
+    (
+        "waits-sleep",
+        "Lets CPUs sleep while they wait, after 100 looks in vain",
+    ),
+    ("quiet", "Prints only what does not depend on the schedule"),
+];
+
+// An option without a value.
+fn flag_of<'a>(alloc: Global, name: &'static str, help: &'static str) -> Arg<'a> {
+    Arg::new(alloc, name)
+        .long(name)
+        .help(help)
         .action(ArgAction::SetTrue)
 }
 
@@ -120,5 +129,8 @@ pub fn grammar<'a>(alloc: Global) -> Result<Command<'a>, AllocError> {
     for named in OPTIONS {
         grammar = grammar.arg(arg_of(alloc, named))?;
     }
-    grammar.arg(quiet(alloc))
+    for (name, help) in FLAGS {
+        grammar = grammar.arg(flag_of(alloc, name, help))?;
+    }
+    Ok(grammar)
 }

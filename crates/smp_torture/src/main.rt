@@ -56,15 +56,22 @@ fn first_cpus(count: u32) -> Result<CpuMask, TortureError> {
     Ok(mask)
 }
 
-/// A new machine of this number of CPUs, all of them online, and its CPUs.
+/// After how many looks in vain a CPU sleeps that waits, where it sleeps at all.
+const LOOKS: u32 = 100;
+
+/// A new machine, all of whose CPUs are online, and its CPUs.
 fn machine_of(
     alloc: Global,
-    threads: u32,
+    request: &Request,
 ) -> Result<(Machine<Global>, MachineBoot<Global>), TortureError>
     ensures { IfOk result (λ t. IsFull t.1 t.0) }
 {
-    let online = first_cpus(threads)?;
-    Ok(Machine::new(alloc, threads, online, &labels()?)?)
+    let online = first_cpus(request.threads)?;
+    let (mut machine, boot) = Machine::new(alloc, request.threads, online, &labels()?)?;
+    if request.sleeps {
+        machine.sleep_after(LOOKS);
+    }
+    Ok((machine, boot))
 }
 
 /// Tortures this machine from now on: a CPU of it, and what all have done.
@@ -91,7 +98,7 @@ fn torture_new<R: Wait + Threads + Clock + Eprint + Sync>(
     alloc: Global,
     request: &Request,
 ) -> Result<(Vec<Report, Global>, Audit), TortureError> {
-    let (machine, boot) = machine_of(alloc, request.threads)?;
+    let (machine, boot) = machine_of(alloc, request)?;
     let Ended { last, reports } = torture_from_now(rt, alloc, request, &machine, boot)?;
     Ok((reports, machine.shutdown(last)))
 }

@@ -27,6 +27,8 @@ pub struct Request {
     pub weights: Weights,
     /// The seconds between two reports on standard error.
     pub report: u32,
+    /// Whether CPUs sleep while they wait.
+    pub sleeps: bool,
     /// Whether to print only what does not depend on the schedule.
     pub quiet: bool,
     ghost lawful: { AreThreads threads × AreSeconds seconds },
@@ -84,6 +86,7 @@ fn with_weights(found: &ArgMatches<'_>, weights: Weights) -> Option<Request> {
         seed: found.get_one::<u64>("seed").unwrap_or(1),
         weights,
         report,
+        sleeps: found.get_flag("waits-sleep"),
         quiet: found.get_flag("quiet"),
     })
 }

@@ -21,6 +21,6 @@ loop-preserved g c =
     let hears = g.H.Handler.leads in
     let runs = g.F.StopFunc.leads in
     let missed = works_missed hears runs c.loop.me c.try_gate.new.me c.loop.handler c.loop.run (c.try_gate.ensures.held c.if-try_gate.false) in record {
-      works = works_after hears runs (λ o. o) c.loop.invariant.works (works_after hears runs (λ o. o) missed c.poll.ensures.works);
-      outside = c.poll.ensures.outside;
+      works = works_after hears runs (λ o. o) c.loop.invariant.works (works_after hears runs (λ o. o) missed c.poll-found.ensures.works);
+      outside = c.poll-found.ensures.outside;
     }

@@ -1,0 +1,119 @@
+//! A CPU that waits asleep is woken once its call has run.
+
+use super::*;
+use crossbeam_utils::Backoff;
+use std::thread;
+use std::thread::Threads;
+
+/// How often the CPU calls and waits.
+const CALLS: u64 = 100_000;
+
+/// How many looks without progress show that a wake-up was lost.
+const LOOKS: u32 = 1_000_000;
+
+/// Counts calls.
+#[derive(Drop)]
+struct Count {
+    calls: u64,
+}
+
+impl Handler for Count {
+    ghost leads = { λ _ _ _. Unit {0} };
+
+    fn call(&mut self, _src: u32, _func: u16, _info: u64) {
+        self.calls = self.calls.wrapping_add(1);
+    }
+}
+
+/// A CPU that counts its calls.
+type Counter<'a, R> = Caller<'a, Global, R, Count>;
+
+/// How far the CPUs are.
+#[derive(Drop)]
+struct Progress {
+    /// How many calls have ended.
+    ended: AtomicU64,
+    /// How many calls the CPU has heard that was called; 0 until it has ended.
+    heard: AtomicU64,
+}
+
+/// Calls CPU 1 and waits, again and again.
+fn call_each<R: Wait>(mut zero: Counter<'_, R>, progress: &Progress) {
+    for ended in 1..CALLS + 1 {
+        if zero.call_single(1, 1, 0, true).is_ok() {
+            progress.ended.store(ended, Ordering::SeqCst);
+        }
+    }
+}
+
+/// Rests until it was called so often.
+fn rest_until_called<R: Wait>(mut one: Counter<'_, R>, progress: &Progress) {
+    for _ in one.rt.forever() {
+        if one.handler.calls >= CALLS {
+            break;
+        }
+        one.rest();
+    }
+    progress.heard.store(one.handler.calls, Ordering::SeqCst);
+}
+
+/// Looks until all calls have ended. Where nothing has changed for many looks, a wake-up was lost: it wakes both CPUs, so that
+/// the test fails and does not hang. How often that was.
+fn watch<R: Wait>(rt: &R, table: &CallTable<Global>, progress: &Progress) -> u32 {
+    let backoff = Backoff::new();
+    let mut lost = 0u32;
+    let mut last = 0;
+    let mut looks = 0;
+    for _ in rt.forever() {
+        let ended = progress.ended.load(Ordering::SeqCst);
+        if ended == CALLS && progress.heard.load(Ordering::SeqCst) != 0 {
+            return lost;
+        }
+        looks = if ended == last { looks + 1 } else { 0 };
+        last = ended;
+        if looks >= LOOKS {
+            lost = lost.saturating_add(1);
+            looks = 0;
+            table.wake(0);
+            table.wake(1);
+        }
+        backoff.snooze();
+    }
+    unreachable!()
+}
+
+/// Both CPUs on threads of their own: how many calls have ended, how many were heard, and how many wake-ups were lost.
+fn call_a_thread<'a, R: Wait + Threads + Sync>(
+    zero: Counter<'a, R>,
+    one: Counter<'a, R>,
+) -> (u64, u64, u32) {
+    let (table, rt) = (zero.table, zero.rt);
+    let progress = Progress {
+        ended: AtomicU64::new(0),
+        heard: AtomicU64::new(0),
+    };
+    let shared = &progress;
+    let mut lost = 0;
+    thread::scope(thread::scope_env(), rt, |scope| {
+        let rests = move || rest_until_called(one, shared);
+        let calls = move || call_each(zero, shared);
+        if scope.spawn(rests).is_ok() && scope.spawn(calls).is_ok() {
+            lost = watch(rt, table, shared);
+        }
+    });
+    (
+        progress.ended.load(Ordering::SeqCst),
+        progress.heard.load(Ordering::SeqCst),
+        lost,
+    )
+}
+
+#[test]
+fn a_cpu_that_waits_asleep_is_woken_once_its_call_has_run(rt: HostRuntime) -> Result<(), Fail> {
+    let (mut table, mut boot) = CallTable::new(rt.alloc(), 2, "0-1".parse()?)?;
+    table.sleep_after(0);
+    let zero = Caller::new(&table, &rt, boot.cpu(0)?, Count { calls: 0 });
+    let one = Caller::new(&table, &rt, boot.cpu(1)?, Count { calls: 0 });
+    assert_eq!(rt; call_a_thread(zero, one), (CALLS, CALLS, 0));
+    Ok(())
+}
