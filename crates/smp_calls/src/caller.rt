@@ -28,7 +28,7 @@ use std::sync::Wait;
 pub struct Caller<'a, A: Allocator, R: Wait, H: Handler + Drop> {
     /// The CPU's table.
     pub table: &'a CallTable<A>,
-    /// By which its calls wait.
+    /// The runtime by which its calls wait.
     pub rt: &'a R,
     /// The CPU itself, for the other calls of its table.
     pub cpu: CallCpu,

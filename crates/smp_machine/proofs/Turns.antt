@@ -51,6 +51,14 @@ module _ {H : Type 0} (hears : H → Heard → H → Type 0) where
         once = (false, refl);
       }))
 
+  -- the look has found what `handle` answers
+  pub told_once : (interrupted : Bool) (p : MachineCpuValue) (calls : CallCpuValue) (h i : H)
+      → (interrupted ≡ true → (batch : List Call) × (calls ≡ drains batch (asks true p.calls)) × Grows hears h (order batch) i)
+      → (interrupted ≡ false → (calls ≡ asks false p.calls) × (i ≡ h))
+      → calls.part.asked ≡ p.calls.part.asked ++ interrupted ∷ []
+  told_once true p calls h i took idle = ap (λ (x : CallCpuValue). x.part.asked) (took refl).1
+  told_once false p calls h i took idle = ap (λ (x : CallCpuValue). x.part.asked) (idle refl).0
+
   pub looks_on : (old new : MachineCpuValue) (h i : H) → old.stops.irq ≡ true → LooksOnce hears old h new i → LooksIfOn hears old h new i
   looks_on old new h i on l = record { rest = l.rest; once = λ _. l.once; off = λ off. absurd (true≢false (sym on ∙ off)) }
 

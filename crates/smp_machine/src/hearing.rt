@@ -1,7 +1,7 @@
 //! The calls of a machine, and all that may run a handler. The call table is private to this page: each function that
 //! lends a CPU with a handler to it asks for that CPU's interrupts on. So no handler runs with interrupts off.
 
-ghost use Rattle.std.specs.Prelude.{◌≡◌, ◌≢◌, ◌⊎◌, ◌<◌, ◌↔◌, ℕ, true, false, None, Some, [], ◌∷◌, if◌then◌else◌, IfOk, IfErr, OnOk, IsErrOf};
+ghost use Rattle.std.specs.Prelude.{◌≡◌, ◌≢◌, ◌⊎◌, ◌<◌, ◌↔◌, ◌++◌, ℕ, true, false, None, Some, [], ◌∷◌, if◌then◌else◌, IfOk, IfErr, OnOk, IsErrOf};
 ghost use Rattle.smp_mask.specs.Mask.{has, members};
 ghost use Rattle.smp_words.specs.Limits.{AreLimits};
 ghost use Rattle.smp_words.specs.Size.{cpus};
@@ -116,7 +116,8 @@ pub(crate) fn hear<A: Allocator, H: Handler>(
 ) -> bool
     requires at { IsAt machine.now me.old }
     requires irq { me.old.stops.irq ≡ true }
-    ensures { LooksOnce H.leads me.old handler.old me.new handler.new }
+    ensures looks { LooksOnce H.leads me.old handler.old me.new handler.new }
+    ensures told { me.new.calls.part.asked ≡ me.old.calls.part.asked ++ result ∷ [] }
 {
     machine
         .calls

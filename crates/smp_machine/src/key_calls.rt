@@ -23,7 +23,7 @@ use std::alloc::Allocator;
 use std::sync::Wait;
 
 impl<A: Allocator> Machine<A> {
-    /// Turns a key on or off (`kernel/jump_label.c: static_key_enable`, `static_key_disable`): false where it stood so,
+    /// Turns a key on or off (`kernel/jump_label.c: static_key_enable`, `static_key_disable`): false where it was so already,
     /// which makes no stop; true where it has turned it, with all its sites, in a stop of all online CPUs. Off brings any
     /// count to 0.
     ///

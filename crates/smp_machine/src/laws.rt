@@ -78,7 +78,7 @@ pub fn queues_keep_order()
 {}
 
 /// A CPU takes the works of its queue one behind the other, from a queue that keeps its rule, and enters the stop of the source
-/// by whom the work was put (`kernel/stop_machine.c: cpu_stopper_thread`).
+/// that put the work (`kernel/stop_machine.c: cpu_stopper_thread`).
 pub fn works_are_taken()
     ensures { WorksAreTaken }
 {}

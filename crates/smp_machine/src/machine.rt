@@ -115,7 +115,8 @@ impl<A: Allocator> Machine<A> {
 
     /// Lets CPUs of this machine sleep while they wait. After this number of looks in vain, a CPU sleeps between two looks for the
     /// end of its call ([`smp_queue::CallTable::sleep_after`]), for the gate, or for the end of its stop
-    /// (`kernel/sched/completion.c: wait_for_completion`). A CPU that takes part in a stop polls. So do all CPUs of a new machine.
+    /// (`kernel/sched/completion.c: wait_for_completion`). A CPU that takes part in a stop polls, and so does one whose patch of a
+    /// key ends. All CPUs of a new machine poll.
     ///
     /// It is asked for before threads share the machine. It makes no step, and does not wait.
     pub fn sleep_after(&mut self, looks: u32)

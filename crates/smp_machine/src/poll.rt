@@ -1,6 +1,6 @@
 //! A poll: what a CPU does while it waits, and each idle CPU over and over.
 
-ghost use Rattle.std.specs.Prelude.{◌≡◌, true, None};
+ghost use Rattle.std.specs.Prelude.{◌≡◌, ◌∷◌, ◌++◌, true, false, None, []};
 ghost use Rattle.smp_machine.specs.Own.{own_of};
 ghost use Rattle.smp_machine.specs.MachineCpu.{IsAt};
 ghost use Rattle.smp_machine.specs.Polls.{Polls};
@@ -18,7 +18,8 @@ use std::alloc::Allocator;
 use std::sync::Wait;
 
 /// A turn; then, where a work can be taken, turns until it is completed. Afterwards no work is in hand. It may wait; the
-/// CPUs of the work's mask must poll. Whether an interrupt or a work was taken.
+/// CPUs of the work's mask must poll. It answers false only where no work was in hand, and it has looked for an interrupt and
+/// found none, and then has taken no work.
 #[tactic(auto, using(crate::proofs::Polls::works_poll))]
 pub(crate) fn poll<A: Allocator, R: Wait, H: Handler, F: StopFunc>(
     machine: &Machine<A>,
@@ -32,16 +33,18 @@ pub(crate) fn poll<A: Allocator, R: Wait, H: Handler, F: StopFunc>(
     ensures polls { Polls H.leads F.leads machine.now me.old handler.old run.old me.new handler.new run.new }
     ensures outside { me.new.stops.inside ≡ None }
     ensures once { me.old.stops.irq ≡ true → LooksOnceOrMore me.old.calls me.new.calls }
+    ensures told { result ≡ false → me.new.calls.part.asked ≡ me.old.calls.part.asked ++ false ∷ [] }
 {
+    let was_in_hand = me.in_hand();
     let (_, interrupted) = turn_and_tell(machine, me, handler, run);
     if take_work(machine, rt, me) {
         finish_work(machine, rt, me, handler, run);
         return true;
     }
-    interrupted
+    was_in_hand || interrupted
 }
 
-/// A poll; then, where that took neither an interrupt nor a work, it sleeps until the CPU's alarm rings.
+/// A poll; then, where that found neither an interrupt nor a work, it sleeps until the CPU's alarm rings.
 fn rest<A: Allocator, R: Wait, H: Handler, F: StopFunc>(
     machine: &Machine<A>,
     rt: &R,
@@ -83,7 +86,7 @@ impl<A: Allocator> Machine<A> {
         poll(self, rt, &mut me.place, handler, run);
     }
 
-    /// A poll, as [`Machine::poll`]; then, where that took neither an interrupt nor a work, it sleeps until another CPU sends
+    /// A poll, as [`Machine::poll`]; then, where that found neither an interrupt nor a work, it sleeps until another CPU sends
     /// one to this CPU, or wakes it ([`Machine::wake`]). It is what an idle CPU repeats that is to leave its processor to others
     /// (`kernel/sched/idle.c: do_idle`).
     ///
@@ -105,8 +108,9 @@ impl<A: Allocator> Machine<A> {
         rest(self, rt, &mut me.place, handler, run);
     }
 
-    /// Wakes a CPU that sleeps in [`Machine::rest`], and does nothing where it is awake: for what a CPU is to see beside its
-    /// interrupts and works, as the end of a program. It makes no step, and does not wait.
+    /// Wakes a CPU that sleeps, in [`Machine::rest`] or while it waits, and does nothing where it is awake. A CPU that looks at
+    /// something else and then rests can miss it in between. So what it is to see beside its interrupts and works, as the end of
+    /// a program, is told by a call, which stays pending. It makes no step, and does not wait.
     pub fn wake(&self, cpu: u32) {
         wake(self, cpu);
     }

@@ -20,7 +20,7 @@ use std::sync::Wait;
 pub struct Seat<'m, A: Allocator, R: Wait, H: Handler + Drop, F: StopFunc + Drop> {
     /// The machine of the CPU.
     pub machine: &'m Machine<A>,
-    /// By which its calls wait.
+    /// The runtime by which its calls wait.
     pub rt: &'m R,
     /// The CPU itself, for the other calls of its machine.
     pub cpu: Cpu<A>,

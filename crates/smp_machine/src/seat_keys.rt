@@ -17,7 +17,7 @@ use std::sync::Wait;
 
 impl<'m, A: Allocator, R: Wait, H: Handler + Drop, F: StopFunc + Drop> Seat<'m, A, R, H, F> {
     /// Turns a key on or off, as [`crate::Machine::set_key`] (`kernel/jump_label.c: static_key_enable`,
-    /// `static_key_disable`): false where it stood so, which makes no stop; true where it has turned it, with all its sites,
+    /// `static_key_disable`): false where it was so already, which makes no stop; true where it has turned it, with all its sites,
     /// in a stop of all online CPUs. Off brings any count to 0.
     ///
     /// It takes effect in the patch, at `RUN` of its stop; where the key is so already, at the load of its count. It waits

@@ -53,7 +53,7 @@ impl Stalls {
 /// Sets the flag of this CPU where its queue has a work. The CPU may have taken the work before the flag was set, and then it
 /// does not clear it. So the queue is looked at once more, and the flag is cleared where the queue is empty then.
 ///
-/// A flag that a third CPU sets in between is cleared too. That CPU looks again while it waits.
+/// A flag that a third CPU sets in between is cleared too. That CPU looks again while it waits, unless it sleeps.
 fn note_one<A: Allocator>(machine: &Machine<A>, me: &mut MachineCpu<A>, cpu: u32)
     requires at { IsAt machine.now me.old }
     requires within { cpu < cpus }
@@ -107,8 +107,9 @@ fn late_of(stalls: &Stalls, online: CpuMask) -> CpuMask
 }
 
 impl<A: Allocator> Machine<A> {
-    /// The CPUs that keep another one waiting in a stop. A CPU that waits looks at all queues at each 65,536th turn that it makes
-    /// in vain, and before it sleeps. It notes the CPUs that have a work there. Each of them is named until it takes a work.
+    /// The CPUs that keep another one waiting in a stop. A CPU that waits for its stop, or takes part in one, looks at all queues at
+    /// each 65,536th turn that it makes in vain, and before it sleeps. It notes the CPUs that have a work there. Each of them is
+    /// named until it takes a work. A CPU that sleeps does not look again, so one that stalls later may not be named.
     ///
     /// It is for a thread that watches over the others. It makes no step of a table, and does not wait. The notes are loaded one
     /// by one, so a CPU may be named for a moment after it has taken its work. No clause promises that a CPU is named: another

@@ -1,6 +1,6 @@
 //! Turns: a CPU handles its own interrupt and goes on with the work in hand.
 
-ghost use Rattle.std.specs.Prelude.{◌≡◌, ◌≢◌, true, false, None};
+ghost use Rattle.std.specs.Prelude.{◌≡◌, ◌≢◌, ◌∷◌, ◌++◌, true, false, None, []};
 ghost use Rattle.smp_multi.specs.Advance.{IsInRound};
 ghost use Rattle.smp_multi.specs.Cpu.{IsAt as IsAtStops};
 ghost use Rattle.smp_machine.specs.Own.{own_of};
@@ -25,7 +25,8 @@ pub(crate) fn handle_if_on<A: Allocator, H: Handler>(
     handler: &mut H,
 ) -> bool
     requires at { IsAt machine.now me.old }
-    ensures { LooksIfOn H.leads me.old handler.old me.new handler.new }
+    ensures looks { LooksIfOn H.leads me.old handler.old me.new handler.new }
+    ensures told { me.old.stops.irq ≡ true → me.new.calls.part.asked ≡ me.old.calls.part.asked ++ result ∷ [] }
 {
     me.stops.interrupts_on() && hear(machine, me, handler)
 }
@@ -94,6 +95,7 @@ pub(crate) fn turn_and_tell<A: Allocator, H: Handler, F: StopFunc>(
     ensures works { Works H.leads F.leads me.old handler.old run.old me.new handler.new run.new (own_of me.old) }
     ensures stops { TurnsStop F.leads me.old.stops run.old me.new.stops run.new result.0 }
     ensures once { me.old.stops.irq ≡ true → LooksOnceMore me.old.calls me.new.calls }
+    ensures told { me.old.stops.irq ≡ true → me.new.calls.part.asked ≡ me.old.calls.part.asked ++ result.1 ∷ [] }
     ensures off { me.old.stops.irq ≡ false → (me.new.calls ≡ me.old.calls) × (handler.new ≡ handler.old) }
     ensures passes { me.new.passes ≡ me.old.passes }
 {

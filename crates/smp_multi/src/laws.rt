@@ -52,7 +52,7 @@ pub fn own_answers_agree()
 
 /// By how much the patch of a stop moves its key, by the number of its change and the count that it finds, and what it
 /// answers: 0 takes the count to 0, 1 makes it 1 where it is 0, 2 adds 1 and 3 takes 1 away. The answer is 1 where the count
-/// stands at that end of its range, 65,535 or 0, and then nothing moves; else it is 0.
+/// is at that end of its range, 65,535 or 0, and then nothing moves; else it is 0.
 pub fn patches_move_counts()
     ensures { PatchesMoveCounts }
 {}

@@ -19,8 +19,8 @@
 //!
 //! Where the row's call may run together with the one of the column's number, on two threads: `-` where no lock is
 //! needed; `g` where the gate orders them, since each is E4 without it; `x` where the types refuse it, since `new` makes
-//! the table, and `StopBoot::cpu` takes the one `StopBoot` by `&mut`. All but the last two take the `StopCpu` of who calls
-//! by `&mut`, so that `-` is of two CPUs: one makes a single call at a time.
+//! the table, and `StopBoot::cpu` takes the one `StopBoot` by `&mut`. All but the last two take the caller's `StopCpu`
+//! by `&mut`. So `-` is about two CPUs, and a CPU makes one call at a time.
 //!
 //! No call waits. What its CPU or another has to do for the stop to go on is in the third column.
 //!

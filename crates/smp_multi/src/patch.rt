@@ -111,7 +111,7 @@ fn load_plan(
     plan
 }
 
-/// What a patch answers: 1 where the count stands at the end of its range, so that there is no next one.
+/// What a patch answers: 1 where the count is at the end of its range, so that there is no next one.
 fn answer_for(next: Option<u64>) -> u64
     ensures { result ≡ answer_of_patch next }
 {
@@ -122,7 +122,7 @@ fn answer_for(next: Option<u64>) -> u64
 }
 
 /// Makes the patch of a stop, acknowledges `RUN`, and stores the next phase as the last. It answers 1 where the key's
-/// count stands at the end of its range, so that nothing is stored, else 0.
+/// count is at the end of its range, so that nothing is stored, else 0.
 pub(crate) fn patch_on(words: Words<'_>, seat: &mut CpuSeat, visit: Visit) -> Visit
     requires { AtRun words.shared.now.table_id seat.old visit Patch }
     ensures at { AtTurn words.entry.shared.now.table_id seat.new result result.acked Rests }

@@ -39,7 +39,7 @@ pub(crate) fn read_key(words: Words<'_>, seat: &mut CpuSeat, k: u32) -> bool
     is_on(load_count(words, seat, k))
 }
 
-/// What stands at a site.
+/// What a site is.
 pub(crate) fn read_site(words: Words<'_>, seat: &mut CpuSeat, i: u32) -> SiteKind
     requires at { MayRead words.shared.now.table_id seat.old }
     requires low { i < MOST_SITES }

@@ -9,11 +9,11 @@
 //! | kind, mask, active, func, arg of a slot | its CPUs, inside the stop | the source, before the roll | none | the store of the roll, and its fetch_and |
 //! | its `roll` | none | the source, which opens the stop | fetch_and by each CPU, of its own bit | the bit: with it the CPU is in the stop |
 //! | its `state` | its CPUs, inside the stop | the source before the roll; the last CPU to acknowledge a phase | none | the count of acknowledgements |
-//! | its `ack` | none | the source before the roll; the last to acknowledge | fetch_sub by each of its CPUs, once a phase | who finds 1 is the last |
+//! | its `ack` | none | the source before the roll; the last to acknowledge | fetch_sub by each of its CPUs, once a phase | the CPU that finds 1 is the last |
 //! | its `result` | the source, once done is set | the source before the roll; its CPUs, before they count themselves | none | the counts, then done |
-//! | its `todo` | none | the source before the roll | fetch_sub by each of its CPUs, once | who finds 1 is the last |
+//! | its `todo` | none | the source before the roll | fetch_sub by each of its CPUs, once | the CPU that finds 1 is the last |
 //! | its `done` | the source | the source before the roll; the last CPU to complete | none | the count of completions |
-//! | keys and sites | CPUs with interrupts on; who patches | who patches | compare-exchange of a key by an online CPU with interrupts on | the phases |
+//! | keys and sites | CPUs with interrupts on; the CPU that patches | the CPU that patches | compare-exchange of a key by an online CPU with interrupts on | the phases |
 //! | entries | the runner of a patch | none | none | they stay |
 //!
 //! The source's stores into its slot wait until all CPUs of its last stop have completed. The last CPU to acknowledge a
@@ -170,7 +170,7 @@ impl<A: Allocator> StopTable<A> {
         self.setting.labels.keys()
     }
 
-    /// Takes the gate (`stop_cpus_mutex`), at one compare-exchange; false where that has found a holder, who may be this
+    /// Takes the gate (`stop_cpus_mutex`), at one compare-exchange; false where that has found a holder, which may be this
     /// CPU. It does not wait.
     pub fn try_gate(&self, me: &mut StopCpu) -> bool
         requires { IsAt self.now me.old }
@@ -344,7 +344,7 @@ impl<A: Allocator> StopTable<A> {
         Ok(read::read_key(self.owner.words(), &mut me.seat, k))
     }
 
-    /// What stands at a site, a NOP or a jump (`arch_static_branch`, `arch_static_branch_jump`), at a load of its word. E4
+    /// What a site is, a NOP or a jump (`arch_static_branch`, `arch_static_branch_jump`), at a load of its word. E4
     /// where the table has no such site, or this CPU has its interrupts off, which makes no step. One lawful table says
     /// all that the CPU has read since its interrupts last went on. It does not wait.
     pub fn read_site(&self, me: &mut StopCpu, i: u32) -> Result<SiteKind, SmpError>

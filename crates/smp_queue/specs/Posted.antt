@@ -26,8 +26,7 @@ IsFree c k calls = calls.place (record_of c.number k) ≡ place.Free
 abbrev pub call_by : CpuValue → ℕ → Class → ℕ → ℕ → Call
 call_by c k class func info = record { id = record_of c.number k; class = class; func = func; info = info }
 
--- Of all that was ever queued for a CPU, this one's calls are those that it had queued there before, and then this call
--- with this mark: that it stands first in the batch or the queue that has it, or behind others.
+-- this CPU's calls for a target are those that it had queued there before, and then this call; the mark says whether it is first there
 abbrev pub IsMarked : CpuValue → ℕ → Call → Bool → CallState → Type 0
 IsMarked old to call first calls =
     marked_from old.number (history_of (calls.taken to) (calls.queue to)) ≡ sent_to to old.part.sent ++ mark first call ∷ []

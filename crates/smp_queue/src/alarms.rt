@@ -38,11 +38,14 @@ impl Alarms {
         }
     }
 
-    /// Sets the alarm of a CPU that waits for another one's step.
+    /// Sets the alarm of a CPU that waits for another one's step. Where the CPU waits within a wait, the outer one keeps its bit.
     pub(crate) fn set_waiting(&self, cpu: u32) -> WaitAlarm<'_> {
         let bit = 1 << (cpu % NR_CPUS);
-        self.waiting.fetch_or(bit, Ordering::SeqCst);
-        let bit = WaitBit { alarms: self, bit };
+        let before = self.waiting.fetch_or(bit, Ordering::SeqCst);
+        let bit = WaitBit {
+            alarms: self,
+            bit: bit & !before,
+        };
         WaitAlarm {
             alarm: self.set(cpu),
             bit,
@@ -80,14 +83,14 @@ pub struct Alarm<'a> {
 }
 
 impl<'a> Alarm<'a> {
-    /// Sleeps until the alarm rings. It has slept already where the alarm has rung since it was set.
+    /// Sleeps until the alarm rings. It returns at once where the alarm has rung since it was set.
     pub fn sleep<R: Wait>(self, rt: &R) {
         let Alarm { key } = self;
         key.wait(rt);
     }
 }
 
-/// The bit of a CPU that waits. Drop it to clear it.
+/// The bit that a wait has set, 0 where it was set before. Drop it to clear that bit.
 pub(crate) struct WaitBit<'a> {
     alarms: &'a Alarms,
     bit: u32,

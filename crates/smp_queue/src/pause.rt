@@ -41,7 +41,7 @@ impl<'t> Pause<'t> {
     /// Call it before each look. It sets the CPU's alarm, where the CPU may sleep. It makes no step, and does not wait.
     #[inline(always)]
     pub fn before_look(&mut self) {
-        if self.may_sleep() {
+        if self.alarm.is_none() && self.may_sleep() {
             self.alarm = Some(self.alarms.set_waiting(self.cpu));
         }
     }

@@ -6,7 +6,7 @@
 //! | Word | Loads | Stores | Exchanges | What orders them |
 //! |---|---|---|---|---|
 //! | `head.c` | each CPU but c, before its first exchange | none | compare-exchange by each CPU but c; swap by c | each won exchange and each swap |
-//! | `intr.c` | none | 1 by each CPU | swap with 0 by c | the swap answers all stores of 1 before it; whoever found an empty queue still owes a store |
+//! | `intr.c` | none | 1 by each CPU | swap with 0 by c | the swap answers all stores of 1 before it; a CPU that found an empty queue still owes a store |
 //! | `hand.c` | none | c | none | c alone |
 //! | `queued.s.d` | s | s | none | s alone |
 //! | `ran.d.s` | d | d | none | d alone |
@@ -230,8 +230,9 @@ impl<A: Allocator> CallTable<A> {
         Ok(())
     }
 
-    /// Wakes a CPU that sleeps in [`CallTable::rest`], and does nothing where it is awake. A CPU that is woken with no
-    /// interrupt pending runs nothing.
+    /// Wakes a CPU that sleeps, in [`CallTable::rest`] or in a call that waits. It does nothing where the CPU has no alarm set. So
+    /// for what a CPU is to see beside its interrupts, it has to set its alarm before it looks ([`CallTable::set_alarm`]). A CPU
+    /// that is woken with no interrupt pending runs nothing.
     ///
     /// It makes no step, does not wait, and nobody must poll.
     pub fn wake(&self, cpu: u32) {
@@ -246,9 +247,9 @@ impl<A: Allocator> CallTable<A> {
         self.alarms.set(me.number)
     }
 
-    /// Lets calls of this table sleep while they wait. After this number of looks in vain, a CPU that waits sleeps between two
-    /// looks. It is woken by an interrupt, and by each batch that any CPU has run, since that may have ended its call. A new
-    /// table's calls poll all the time, as Linux's do.
+    /// Lets waiting calls of this table sleep; `call_many_within` of `smp_calls` still polls, since it counts its polls. After this
+    /// number of looks in vain, a CPU that waits sleeps between two looks. It is woken by an interrupt, and whenever some CPU has
+    /// run a whole batch, since its call may have been in it. A new table's calls poll all the time, as Linux's do.
     ///
     /// It is asked for before threads share the table. It makes no step, and does not wait.
     pub fn sleep_after(&mut self, looks: u32)
