@@ -12,7 +12,7 @@ use Rattle.smp_queue.specs.Cpu.{CpuValue}
 use Rattle.smp_queue.specs.declared.handler.Heard.{Heard}
 use Rattle.smp_queue.specs.Handling.{Grows, heard_of}
 use Rattle.smp_shootdown.specs.declared.tlb.Entry.{Entry}
-use Rattle.smp_shootdown.specs.Tlb.{without, left_by, IsGone, AreFlushed, IsFlushed}
+use Rattle.smp_shootdown.specs.Tlb.{without, left_by, left_by_all, IsGone, AreFlushed, IsFlushed}
 
 apart : (a b : ℕ) → not (a == b) ≡ true → a ≢ b
 apart a b h e = let k = ap not (eq-eqb a b e) in let bad : true ≡ false = sym h ∙ k in cc
@@ -45,6 +45,17 @@ flushed_more calls call entries h =
     (left_flushed (call.func == 1) calls call.info entries h)
     (λ is. rw (eq-eqb call.func 1 is) (gone call.info entries))
 
+-- what one call more leaves
+left_more : (calls : List Call) (call : Call) (entries : List Entry)
+    → left_by_all (calls ++ call ∷ []) entries ≡ left_by (heard_of call) (left_by_all calls entries)
+unfolding left_by_all
+left_more [] call entries = refl
+left_more (c ∷ cs) call entries = left_more cs call (left_by (heard_of c) entries)
+
+left_none : (entries : List Entry) → entries ≡ left_by_all [] entries
+unfolding left_by_all
+left_none entries = refl
+
 -- by a handler whose calls leave just what `left_by` says
 module _ {H : Type 0} (leads : H → Heard → H → Type 0) (entries : H → List Entry)
     (leaves : (p : H) (call : Heard) (q : H) → leads p call q → entries q ≡ left_by call (entries p)) where
@@ -66,3 +77,14 @@ module _ {H : Type 0} (leads : H → Heard → H → Type 0) (entries : H → Li
   flushed_handled old new before after h made =
       subst (λ cs. AreFlushed cs (entries after)) (sym made.ran_is)
       (flushed_all old.part.ran before (orders (batches made.turns)) after h made.grows)
+
+  left_one : (before : H) (xs : List Call) (q : H) (call : Call) (v : H) → entries q ≡ left_by_all xs (entries before) → leads q (heard_of call) v
+      → entries v ≡ left_by_all (xs ++ call ∷ []) (entries before)
+  left_one before xs q call v h led = leaves q (heard_of call) v led ∙ (ap (left_by (heard_of call)) h ∙ sym (left_more xs call (entries before)))
+
+  -- of a CPU that has handled meanwhile, the entries that are left
+  pub left_handled : (old new : CpuValue) (before after : H) (made : Handles leads old before new after)
+      → entries after ≡ left_by_all (orders (batches made.turns)) (entries before)
+  left_handled old new before after made =
+      chained_keeps (λ p call q. leads p (heard_of call) q) (λ xs q. entries q ≡ left_by_all xs (entries before)) (left_one before)
+      (orders (batches made.turns)) before after (left_none (entries before)) made.grows

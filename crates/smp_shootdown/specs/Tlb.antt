@@ -1,7 +1,8 @@
 -- What a TLB holds, and what a call takes out of it.
-use Rattle.std.specs.Prelude.{◌≡◌, ◌≢◌, ℕ, ◌==◌, not, if◌then◌else◌, List, filter, All}
+use Rattle.std.specs.Prelude.{◌≡◌, ◌≢◌, ℕ, ◌==◌, not, if◌then◌else◌, List, [], ◌∷◌, ◌++◌, filter, All}
 use Rattle.smp_words.specs.declared.call.Call.{Call}
 use Rattle.smp_queue.specs.Cpu.{CpuValue}
+use Rattle.smp_queue.specs.Handling.{heard_of}
 use Rattle.smp_queue.specs.declared.handler.Heard.{Heard}
 use Rattle.smp_shootdown.specs.declared.tlb.Entry.{Entry}
 
@@ -16,6 +17,17 @@ IsGone space entries = All (λ e. e.space ≢ space) entries
 -- what a call leaves: function 1 drops the address space that its info names, any other nothing
 abbrev pub left_by : Heard → List Entry → List Entry
 left_by call entries = if call.func == 1 then without call.info entries else entries
+
+-- what these calls leave, one after the other
+unfoldable pub left_by_all : List Call → List Entry → List Entry
+left_by_all [] entries = entries
+left_by_all (call ∷ calls) entries = left_by_all calls (left_by (heard_of call) entries)
+
+-- a TLB has lost what the calls flush that its CPU has run meanwhile, then what is of this address space, and nothing else
+pub record Loses (space : ℕ) (old new : CpuValue) (before after : List Entry) : Type 0 where
+  pub heard : List Call
+  pub ran_is : new.part.ran ≡ old.part.ran ++ heard
+  pub left : after ≡ without space (left_by_all heard before)
 
 -- no entry is of an address space that one of these calls flushes
 abbrev pub AreFlushed : List Call → List Entry → Type 0

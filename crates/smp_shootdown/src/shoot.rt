@@ -8,7 +8,7 @@ ghost use Rattle.smp_calls.specs.Targets.{is_target};
 ghost use Rattle.smp_machine.specs.Calls.{RefusedInHand};
 ghost use Rattle.smp_machine.specs.Seats.{IsSameSeat};
 ghost use Rattle.smp_shootdown.specs.Once.{CallsOnce};
-ghost use Rattle.smp_shootdown.specs.Tlb.{IsGone, IsFlushed};
+ghost use Rattle.smp_shootdown.specs.Tlb.{IsGone, IsFlushed, Loses};
 
 use crate::space::AddressSpace;
 use crate::tlb::{FLUSH, Tlb};
@@ -22,7 +22,7 @@ use std::sync::Wait;
 /// the other CPUs that were called (`arch/arm/kernel/smp_tlb.c: flush_tlb_mm`).
 ///
 /// It may wait as `Seat::call_many` does, for its calls and for the last call by the record of each destination; the users
-/// must poll. Meanwhile it runs the flushes that were queued for it.
+/// must poll. Meanwhile it runs the flushes that were queued for it. Entries of other spaces stay, but for those flushes.
 ///
 /// E4 (`SmpError::BadArgument`) where a work of a stop is in hand.
 pub fn shoot_down<'a, R: Wait>(
@@ -36,6 +36,8 @@ pub fn shoot_down<'a, R: Wait>(
     ensures ended { IfOk result (λ called. HaveEnded seat.new.cpu.calls
         (many_call seat.old.cpu.calls.number Class.Sync FLUSH space.now.id) (members called)) }
     ensures own { IfOk result (λ _. IsGone space.now.id seat.new.handler.entries.items) }
+    ensures loses { IfOk result (λ _. Loses space.now.id seat.old.cpu.calls seat.new.cpu.calls
+        seat.old.handler.entries.items seat.new.handler.entries.items) }
     ensures flushed { IsFlushed seat.old.cpu.calls seat.old.handler.entries.items → IsFlushed seat.new.cpu.calls seat.new.handler.entries.items }
     ensures refused { IfErr result (λ e. RefusedInHand e seat.old.cpu seat.old.handler seat.new.cpu seat.new.handler) }
     ensures same { IsSameSeat seat.old seat.new }

@@ -1,14 +1,16 @@
-use Rattle.std.proofs.Common.{refl, sym, subst}
+use Rattle.std.proofs.Common.{◌≡◌, refl, sym, ap, ◌∙◌, subst}
 use Rattle.smp_mask.specs.Mask.{members}
 use Rattle.smp_words.specs.declared.call.Class.TheVariants.{Sync}
 use Rattle.smp_calls.specs.Ended.{HaveEnded}
 use Rattle.smp_calls.specs.Records.{many_call}
 use Rattle.smp_machine.specs.Seats.{SeatValue}
 use Rattle.smp_machine.specs.declared.idle.NoStop.{NoStop}
-use Rattle.smp_shootdown.specs.Tlb.{IsGone, IsFlushed, AreFlushed}
+use Rattle.smp_call_steps.specs.Histories.{orders}
+use Rattle.smp_calls.specs.Handles.{batches}
+use Rattle.smp_shootdown.specs.Tlb.{IsGone, IsFlushed, AreFlushed, Loses, without}
 use Rattle.smp_shootdown.specs.declared.tlb.Tlb.{Tlb}
 use Rattle.smp_shootdown.specs.declared.tlb.TheConstants.{FLUSH}
-use Rattle.smp_shootdown.proofs.Flushed.{flushed_handled, still_flushed, gone}
+use Rattle.smp_shootdown.proofs.Flushed.{flushed_handled, left_handled, still_flushed, gone}
 use Rattle.smp_shootdown.proofs.shoot.shoot_down.Goals as goal
 
 pub returns-clause-ended : goal.returns-clause-ended
@@ -30,3 +32,16 @@ returns-clause-flushed g c flushed =
     let inside = subst (λ (s : SeatValue Tlb NoStop). IsFlushed s.cpu.calls s.handler.entries.items) (sym c.seat.view_is) called in
     subst (λ es. AreFlushed c.seat.inside.cpu.calls.part.ran es) (sym c.flush.ensures)
     (still_flushed c.seat.inside.cpu.calls.part.ran c.args.space.now.id c.seat.inside.handler.entries.items inside)
+
+pub returns-clause-loses : goal.returns-clause-loses
+returns-clause-loses g c =
+    let old = c.args.seat.now in
+    let mid = c.call_many.new.self in
+    let made = c.in_ok-called.ensures.answers.calls.2.handled in
+    let left = left_handled _ (λ (h : Tlb). h.entries.items) (λ p call q led. led) old.cpu.calls mid.cpu.calls old.handler mid.handler made in
+    let lost : Loses c.args.space.now.id old.cpu.calls mid.cpu.calls old.handler.entries.items (without c.args.space.now.id mid.handler.entries.items) =
+    record { heard = orders (batches made.turns); ran_is = made.ran_is; left = ap (without c.args.space.now.id) left } in
+    let inside =
+    subst (λ (s : SeatValue Tlb NoStop). Loses c.args.space.now.id old.cpu.calls s.cpu.calls old.handler.entries.items
+    (without c.args.space.now.id s.handler.entries.items)) (sym c.seat.view_is) lost in
+    subst (λ es. Loses c.args.space.now.id old.cpu.calls c.seat.inside.cpu.calls old.handler.entries.items es) (sym c.flush.ensures) inside
