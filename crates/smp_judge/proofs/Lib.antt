@@ -3,3 +3,4 @@ pub mod Faulted
 pub mod Judging
 pub mod Meaning
 pub mod Texts
+pub mod Written

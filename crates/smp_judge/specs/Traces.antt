@@ -1,12 +1,15 @@
 -- A trace from a reader, and its verdict to a writer.
-use Rattle.std.specs.Prelude.{◌≡◌, ℕ, ◌<◌, ◌≤◌, ◌⊎◌, List, length, Option, Result, Ok, Err}
+use Rattle.std.specs.Prelude.{◌≡◌, ℕ, ◌<◌, ◌≤◌, ◌⊎◌, Bool, true, List, length, Option, Some, None, Result, Ok, Err}
 use Rattle.std.specs.Io.KnownBytes.{Appends, Consumes, IsAtEnd}
 use Rattle.smp_mask.specs.declared.error.SmpError.{SmpError}
 use Rattle.smp_mask.specs.declared.error.SmpError.TheVariants as errors
+use Rattle.smp_mask.specs.declared.error.Side.TheVariants as sides
 use Rattle.smp_mask.specs.declared.error.Cause.{Cause}
+use Rattle.smp_script.specs.Streams.{TookFront}
 use Rattle.smp_event_steps.specs.declared.event.Event.{Event}
 use Rattle.smp_event_steps.specs.declared.reason.Reason.{Reason}
 use Rattle.smp_event_steps.specs.State.{StateValue}
+use Rattle.smp_judge.specs.declared.halted.Halted.{Halted}
 use Rattle.smp_judge.specs.declared.halted.Halted.TheVariants as halted
 use Rattle.smp_judge.specs.declared.trace.Ruling.{Ruling}
 use Rattle.smp_judge.specs.declared.trace.Ruling.TheVariants as rulings
@@ -21,6 +24,7 @@ pub record GaveTrace (before after : Option (List ℕ)) (text : List ℕ) : Type
   pub last : IsAtEnd after ⊎ (16777216 < length text)
   pub limit : length text ≤ 16777217
 
+-- whether a verdict is that the trace is lawful
 abbrev pub ruling_of : {A : Type 0} → Verdict A → Ruling
 ruling_of (Lawful events state) = rulings.Lawful
 ruling_of (Broken line cpu event why) = rulings.Broken
@@ -51,9 +55,26 @@ pub record AtFault (before after : Option (List ℕ)) (line : ℕ) (cause : Caus
   pub read : GaveTrace before after text
   pub verdict : verdict_of text ≡ Err (halted.Fault line cause)
 
--- What a call of `judge_trace` did, by its answer.
-abbrev pub Judged : Option (List ℕ) → Option (List ℕ) → Option (List ℕ) → Option (List ℕ) → Result Ruling SmpError → Type 0
-Judged before after held holds (Ok rulings.Lawful) = WroteLawful before after held holds
-Judged before after held holds (Ok rulings.Broken) = WroteBroken before after held holds
-Judged before after held holds (Err (errors.BadScript line cause)) = AtFault before after line cause
-Judged before after held holds (Err _) = Unit {0}
+-- what is printed of the verdict on a trace, and nothing where a line of it is at fault
+abbrev pub printed_of : Result (ℕ × StateValue) Halted → Option (List ℕ)
+printed_of (Ok (events, state)) = Some (lawful_text events state)
+printed_of (Err (halted.Broken line cpu event why)) = Some (broken_text line cpu event why)
+printed_of (Err _) = None
+
+-- What was read has a verdict, and the writer took a front of what is printed of it.
+pub record WroteFront (before after held holds : Option (List ℕ)) : Type 0 where
+  pub text : List ℕ
+  pub printed : List ℕ
+  pub read : GaveTrace before after text
+  pub verdict : printed_of (verdict_of text) ≡ Some printed
+  pub written : TookFront held holds printed
+
+-- What a call of `judge_trace` did, by its answer. `same` says that the writer is as it was, `reader` and `writer` whether each has failed.
+abbrev pub Judged : Option (List ℕ) → Option (List ℕ) → Option (List ℕ) → Option (List ℕ) → Type 0 → Bool → Bool → Result Ruling SmpError → Type 0
+Judged before after held holds same reader writer (Ok rulings.Lawful) = WroteLawful before after held holds
+Judged before after held holds same reader writer (Ok rulings.Broken) = WroteBroken before after held holds
+Judged before after held holds same reader writer (Err (errors.BadScript line cause)) = AtFault before after line cause × same
+Judged before after held holds same reader writer (Err (errors.StreamFailed sides.Read)) = (reader ≡ true) × same
+Judged before after held holds same reader writer (Err (errors.StreamFailed sides.Write)) = WroteFront before after held holds × (writer ≡ true)
+Judged before after held holds same reader writer (Err errors.NoMemory) = same
+Judged before after held holds same reader writer (Err _) = ⊥

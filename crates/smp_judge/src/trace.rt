@@ -62,7 +62,8 @@ fn ruling_of<A: Allocator>(verdict: &Verdict<A>) -> Ruling
 /// Reads a trace until a read answers 0 bytes or more are there than a trace may have, judges it, and writes its verdict.
 ///
 /// Refusals, in this order: `StreamFailed(Read)` where the reader failed, `BadScript` with the first fault, `NoMemory` where
-/// a growth was refused, `StreamFailed(Write)` where the writer failed. Only at the last has anything been written.
+/// a growth was refused, `StreamFailed(Write)` where the writer failed. Only at the last has anything been written:
+/// a front of the verdict.
 pub fn judge_trace<A: Allocator + Copy, R: Read, W: Write>(
     alloc: A,
     reader: &mut Watched<R>,
@@ -72,7 +73,9 @@ pub fn judge_trace<A: Allocator + Copy, R: Read, W: Write>(
     requires writes { failed_of writer.old ≡ false }
     ensures order { failed_of reader.new ≡ true → result ≡ Err (SmpError.StreamFailed ReadSide) }
     ensures judged { Judged (R.remaining (inner_of reader.old)) (R.remaining (inner_of reader.new))
-        (W.contents (inner_of writer.old)) (W.contents (inner_of writer.new)) result }
+        (W.contents (inner_of writer.old)) (W.contents (inner_of writer.new)) (writer.new ≡ writer.old)
+        (failed_of reader.new) (failed_of writer.new) result }
+    ensures kept { OnOk result (failed_of writer.new ≡ false) }
     ensures flushed { OnOk result (flushed_of writer.new ≡ true) }
 {
     let text = read_trace(alloc, reader)?;
