@@ -93,7 +93,7 @@ IsCount edge (Turned turned) = Unit {0}
 IsCount edge (Refused (error.KeyRange e)) = e ≡ edge
 IsCount edge _ = ⊥
 
--- what a call by this CPU answers, of a machine with these CPUs online and so many keys
+-- what a call by this CPU answers, of a machine with these CPUs online and this number of keys
 abbrev pub IsAnswer : ℕ → ℕ → ℕ → Request → Answer → Type 0
 IsAnswer online keys this (Single wait dst func info) answer = IsRefusedOr (call_refusal online dst) IsDone answer
 IsAnswer online keys this (User u dst func info) answer = IsRefusedOr (call_refusal online dst) IsDone answer

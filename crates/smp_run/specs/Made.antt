@@ -74,7 +74,7 @@ Makes t request answer old new = (stops : List Stop) × AreStopsOf t request ans
 abbrev pub IsMaking : MachineValue → ℕ → Request → Making → Type 0
 IsMaking m this request x = IsAnswer m.calls.online (keys_at m) this request x.answer × AreStopsOf m.stops request x.answer x.stops
 
--- a request so many times; the answer is the last one's
+-- a request this number of times; the answer is the last one's
 pub record AreMakings (m : MachineValue) (this : ℕ) (request : Request) (count : ℕ) (answer : Answer) (makings : List Making) : Type 0 where
   pub sized : length makings ≡ count
   pub each : AllByRecursion (IsMaking m this request) makings

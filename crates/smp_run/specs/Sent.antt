@@ -82,7 +82,7 @@ request_calls online this (Cond which wait mask func info) =
     calls_to (many_call this (class_for wait) func info) (cpus_with (λ c. is_target mask online this false c && says which c))
 request_calls online this _ = []
 
--- a list so many times
+-- a list this number of times
 unfoldable pub repeated : {A : Type 0} → ℕ → List A → List A
 repeated zero xs = []
 repeated (suc n) xs = repeated n xs ++ xs
