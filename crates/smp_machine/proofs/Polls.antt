@@ -126,6 +126,12 @@ module _ {H F : Type 0} (hears : H → Heard → H → Type 0) (leads : F → Ca
   works_take m old new h f there (Some stop) is t = works_as hears leads (own_of old) (ap own_of (t.in_hand (some_not is)).0)
       (subst (λ (x : MachineCpuValue). Works hears leads old h f x h f (own_of x)) (sym (t.in_hand (some_not is)).0) (works_none hears leads old h f))
 
+  -- a turn and a take
+  pub works_turned : (m : MachineValue) (old mid new : MachineCpuValue) (h h₁ : H) (f f₁ : F) (there : Bool)
+      → Works hears leads old h f mid h₁ f₁ (own_of old) → TakesWork m mid new there → Works hears leads old h f new h₁ f₁ (own_of old)
+  works_turned m old mid new h h₁ f f₁ there a t =
+      works_as hears leads (own_of old) a.own_is (works_then hears leads a (works_take m mid new h₁ f₁ there mid.stops.inside refl t))
+
   -- a turn, a take, and turns until the work is completed
   pub works_poll : (m : MachineValue) (old mid taken new : MachineCpuValue) (h h₁ h₂ : H) (f f₁ f₂ : F) (there : Bool)
       → Works hears leads old h f mid h₁ f₁ (own_of old) → TakesWork m mid taken there → Works hears leads taken h₁ f₁ new h₂ f₂ (own_of taken)

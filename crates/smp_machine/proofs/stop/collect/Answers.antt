@@ -22,10 +22,10 @@ loop-preserved g c =
     let hears = g.H.Handler.leads in
     let runs = g.F.StopFunc.leads in
     let looked = works_looked hears runs c.loop.me c.look_done.new.me c.loop.handler c.loop.run c.in-None-look_done.ensures in record {
-      works = subst (λ (x : MachineCpuValue). Works hears runs c.args.me.now c.args.handler.now c.args.run.now x c.poll.new.handler c.poll.new.run
+      works = subst (λ (x : MachineCpuValue). Works hears runs c.args.me.now c.args.handler.now c.args.run.now x c.poll-found.new.handler c.poll-found.new.run
           (own_of c.args.me.now)) (sym c.note_late.ensures)
-          (works_after hears runs (λ o. o) c.loop.invariant.works (works_after hears runs (λ o. o) looked c.poll.ensures.works));
-      outside = ap (λ (x : MachineCpuValue). x.stops.inside) c.note_late.ensures ∙ c.poll.ensures.outside;
+          (works_after hears runs (λ o. o) c.loop.invariant.works (works_after hears runs (λ o. o) looked c.poll-found.ensures.works));
+      outside = ap (λ (x : MachineCpuValue). x.stops.inside) c.note_late.ensures ∙ c.poll-found.ensures.outside;
     }
 
 pub returns-in-Some-look_done : goal.returns-in-Some-look_done
