@@ -218,7 +218,7 @@ fn write_number<A: Allocator>(
 // Each of these may stand at a field.
 fn write_texts<A: Allocator>(out: &mut String<A>, texts: &[String<A>]) -> Result<(), AllocError> {
     for text in texts {
-        writeln!(out, "    here may stand: {text}")?;
+        writeln!(out, "    here may be: {text}")?;
     }
     Ok(())
 }
@@ -262,7 +262,7 @@ fn write_part<A: Allocator + Copy>(
     write_number(out, at, Some(part_name(part)))?;
     write_stands(out, wrong.fields, at)?;
     let text = part_text(part);
-    writeln!(out, "    here may stand: {text}")
+    writeln!(out, "    here may be: {text}")
 }
 
 // Whether the line is one of an exploration with a condition.
