@@ -188,7 +188,7 @@ const JSON: Named = Named {
 
 const EXPLAIN: Named = Named {
     name: "explain",
-    about: "Says what the first fault of a text is, and what may stand there",
+    about: "Says what the first fault of a text is, and what may be there",
     behind: Behind::File,
 };
 

@@ -1,1 +1,4 @@
 mod Traced
+mod Titles
+mod LinesOn
+mod Chosen

@@ -1,7 +1,9 @@
--- The field that a fault of a line lies in.
-use Rattle.std.specs.Prelude.{◌≡◌, ℕ, List, map, Option, Some, None}
+-- The field that a fault of a line lies in, and a line by its number.
+use Rattle.std.specs.Prelude.{◌≡◌, ℕ, ◌-◌, List, map, Option, Some, None, option_map}
+use Rattle.std.specs.List.{slice_get}
 use Rattle.smp_mask.specs.declared.error.Cause.{Cause}
 use Rattle.smp_mask.specs.declared.error.Cause.TheVariants.{Word, Number, Range, Mask}
+use Rattle.smp_script.specs.Lines.{Line}
 use Rattle.smp_script.specs.Shapes.{shape_of, shapes_of}
 use Rattle.smp_show.specs.declared.forms.Form.{Form as TheForm}
 use Rattle.smp_show.specs.Forms.{form_of}
@@ -24,3 +26,7 @@ IsPlace limit line fields Number place = RefusedAt limit line fields place
 IsPlace limit line fields Range place = RefusedAt limit line fields place
 IsPlace limit line fields Mask place = RefusedAt limit line fields place
 IsPlace limit line fields _ place = place ≡ None
+
+-- the text of line n, counted from 1; number 0 is taken as 1
+abbrev pub text_at : List Line → ℕ → Option (List ℕ)
+text_at lines n = option_map (λ l. l.text) (slice_get lines (n - 1))

@@ -2,7 +2,7 @@
 
 ghost use Rattle.std.specs.Prelude.{◌≡◌, IfOk};
 ghost use Rattle.std.specs.List.{filter};
-ghost use Rattle.smp_show.specs.Choice.{has_cpu, is_chosen};
+ghost use Rattle.smp_show.specs.Choice.{has_cpu, is_chosen, marked_in};
 
 use crate::trace::Row;
 use smp_mask::CpuMask;
@@ -67,8 +67,10 @@ impl Choice {
         Ok(found)
     }
 
-    /// The number of the marked event, where one of these rows is it.
-    pub fn marked(&self, rows: &[Row]) -> Option<usize> {
+    /// The number of the marked event: the one that the mark names, whether a row has it or not, or the last row's.
+    pub fn marked(&self, rows: &[Row]) -> Option<usize>
+        ensures { result ≡ marked_in self.now.mark rows.now }
+    {
         match self.mark? {
             Mark::Event(number) => Some(number),
             Mark::Last => {

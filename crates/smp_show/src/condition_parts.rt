@@ -1,4 +1,4 @@
-//! The field of a condition that a fault lies in, and what may stand there.
+//! The field of a condition that a fault lies in, and what may be there.
 
 use smp_mask::Cause;
 use smp_script::decimal::number;

@@ -1,6 +1,7 @@
-//! What is wrong with a text, and what may stand in its place.
+//! What is wrong with a text, and what may be in its place.
 
-ghost use Rattle.std.specs.Prelude.{◌<◌, ◌^◌, length};
+ghost use Rattle.std.specs.Prelude.{◌≡◌, ◌<◌, ◌^◌, IfOk, IfSome, None, length, string_bytes};
+ghost use Rattle.smp_show.specs.Explains.{SaysLine, no_fault_text};
 
 use crate::condition_parts::{part_at_fault, part_name, part_text};
 use crate::fault::{Fault, field_at_fault, limit, line_text};
@@ -186,7 +187,7 @@ fn push_other<A: Allocator + Copy>(
     push_new(texts, text)
 }
 
-// What may stand at a field, each once: first the words, then what else these templates may have there.
+// What may be at a field, each once: first the words, then what else these templates may have there.
 fn all_at<A: Allocator + Copy>(
     alloc: A,
     place: &Place,
@@ -215,10 +216,10 @@ fn write_number<A: Allocator>(
     }
 }
 
-// Each of these may stand at a field.
+// Each of these may be at a field.
 fn write_texts<A: Allocator>(out: &mut String<A>, texts: &[String<A>]) -> Result<(), AllocError> {
     for text in texts {
-        writeln!(out, "    here may stand: {text}")?;
+        writeln!(out, "    here may be: {text}")?;
     }
     Ok(())
 }
@@ -262,7 +263,7 @@ fn write_part<A: Allocator + Copy>(
     write_number(out, at, Some(part_name(part)))?;
     write_stands(out, wrong.fields, at)?;
     let text = part_text(part);
-    writeln!(out, "    here may stand: {text}")
+    writeln!(out, "    here may be: {text}")
 }
 
 // Whether the line is one of an exploration with a condition.
@@ -346,28 +347,44 @@ fn write_line<A: Allocator + Copy>(
     write_wrong(alloc, out, &wrong, kind == Some(TextKind::Replay))
 }
 
+// What is said of a fault behind the number of its line.
+fn details<A: Allocator + Copy>(
+    alloc: A,
+    text: &[u8],
+    fault: Fault,
+) -> Result<String<A>, AllocError> {
+    let mut out = String::new(alloc);
+    let cause = fault.cause;
+    let meaning = cause_text(kind_of(text), cause);
+    writeln!(out, "{cause}: {meaning}")?;
+    if let Some(line) = line_text(text, fault.line) {
+        // a text that is too long is at fault as a whole
+        if fault.line > 0 && line.len() <= MAX_BYTES {
+            write_line(alloc, &mut out, text, fault, line)?;
+        }
+    }
+    Ok(out)
+}
+
 /// What is said of a text by its first fault: the line and the cause, the line itself, the field at fault by its number
-/// and its name, what stands there, what may stand there, and the line that it belongs to. The kind of the text is that
+/// and its name, what is there, what may be there, and the line that it belongs to. The kind of the text is that
 /// of its first line.
 pub fn explanation<A: Allocator + Copy>(
     alloc: A,
     text: &[u8],
     found: Option<Fault>,
-) -> Result<String<A>, AllocError> {
+) -> Result<String<A>, AllocError>
+    ensures none { IfOk result (λ said. found ≡ None → string_bytes said ≡ no_fault_text) }
+    ensures line { IfOk result (λ said. IfSome found (λ f. SaysLine f.line (string_bytes said))) }
+{
     let mut out = String::new(alloc);
     let Some(fault) = found else {
         writeln!(out, "no fault")?;
         return Ok(out);
     };
     let line = fault.line;
-    let cause = fault.cause;
-    let meaning = cause_text(kind_of(text), cause);
-    writeln!(out, "line {line} {cause}: {meaning}")?;
-    if let Some(line) = line_text(text, line) {
-        // a text that is too long is at fault as a whole
-        if fault.line > 0 && line.len() <= MAX_BYTES {
-            write_line(alloc, &mut out, text, fault, line)?;
-        }
-    }
+    let more = details(alloc, text, fault)?;
+    write!(out, "line {line} ")?;
+    out.push_str(more.as_str())?;
     Ok(out)
 }

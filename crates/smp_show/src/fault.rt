@@ -1,10 +1,10 @@
 //! The first fault of a script, and the field of a replay that it lies in.
 
-ghost use Rattle.std.specs.Prelude.{◌≡◌, ◌<◌, ◌^◌, ◌≤◌, Err, IfOk, IfSome, IsOk, None, length, map};
+ghost use Rattle.std.specs.Prelude.{◌≡◌, ◌<◌, ◌^◌, ◌≤◌, Err, IfErr, IfOk, IfSome, IsOk, None, length, map, option_map};
 ghost use Rattle.smp_script.specs.FirstFault.{IsFirstFault, setting_in, limit_in};
-ghost use Rattle.smp_script.specs.Lines.{AreShort};
+ghost use Rattle.smp_script.specs.Lines.{AreShort, lines_of};
 ghost use Rattle.smp_script.specs.Script.{script_of};
-ghost use Rattle.smp_show.specs.Places.{IsPlace, RefusedAt};
+ghost use Rattle.smp_show.specs.Places.{IsPlace, RefusedAt, text_at};
 ghost use Rattle.smp_script.specs.Shapes.{shapes_of};
 ghost use Rattle.smp_show.specs.Shapes.{reach_of, replay_setting};
 
@@ -31,7 +31,9 @@ pub fn first_fault<A: Allocator + Copy>(
     text: &[u8],
 ) -> Result<Option<Fault>, SmpError>
     ensures none { IfOk result (λ found. found ≡ None → IsOk (script_of mode text.now)) }
+    ensures fault { IfOk result (λ found. IfSome found (λ f. script_of mode text.now ≡ Err (f.line, f.cause))) }
     ensures first { IfOk result (λ found. IfSome found (λ f. IsFirstFault (setting_in mode text.now) text.now f.line f.cause)) }
+    ensures err { IfErr result (λ e. e ≡ SmpError.NoMemory) }
 {
     match read_script(alloc, mode, text) {
         Ok(_) => Ok(None),
@@ -57,9 +59,10 @@ pub fn limit<A: Allocator>(alloc: A, text: &[u8]) -> Result<u32, AllocError>
     }
 }
 
-/// The line of this number, counted from 1; nothing where there is none.
+/// The line of this number, counted from 1; nothing where there is none. Number 0 is taken as 1.
 pub fn line_text(text: &[u8], line: u32) -> Option<&[u8]>
-    ensures { IfSome result (λ found. length found.now ≤ length text.now) }
+    ensures value { option_map (λ found. found.now) result ≡ text_at (lines_of text.now) line }
+    ensures within { IfSome result (λ found. length found.now ≤ length text.now) }
 {
     let mut rest = text;
     for _line in 1..line {

@@ -1,8 +1,9 @@
 //! A replay in the trace-event format, which Perfetto and chrome://tracing read. An event lasts a microsecond.
 
 ghost use Rattle.std.specs.Prelude.{◌≡◌, Err, OnOk, true, false};
-ghost use Rattle.smp_script.specs.Watched.{failed_of, flushed_of};
+ghost use Rattle.smp_script.specs.Watched.{inner_of, failed_of, flushed_of};
 ghost use Rattle.smp_mask.specs.declared.error.Side.TheVariants.{Read as ReadSide};
+ghost use Rattle.smp_show.specs.Shows.{Shows};
 
 use crate::cell::cell;
 use crate::choice::Choice;
@@ -251,7 +252,8 @@ fn json<A: Allocator + Copy>(
 /// Reads a script, and writes what is chosen of its replay in the trace-event format.
 ///
 /// Refusals, in this order: `StreamFailed(Read)` where the reader failed, `BadScript` with the first fault where
-/// the script is not lawful, `NoMemory` where a growth was refused, `StreamFailed(Write)` where the writer failed.
+/// the script is not lawful, `NoMemory` where a growth was refused, `StreamFailed(Write)` where the writer failed. Only at
+/// the last has anything been written.
 pub fn show_json<A: Allocator + Copy, R: Read, W: Write>(
     alloc: A,
     choice: &Choice,
@@ -260,6 +262,9 @@ pub fn show_json<A: Allocator + Copy, R: Read, W: Write>(
 ) -> Result<Outcome, SmpError>
     requires reads { failed_of reader.old ≡ false }
     ensures order { failed_of reader.new ≡ true → result ≡ Err (SmpError.StreamFailed ReadSide) }
+    ensures shows { Shows (R.remaining (inner_of reader.old)) (R.remaining (inner_of reader.new))
+        (W.contents (inner_of writer.old)) (W.contents (inner_of writer.new)) (writer.new ≡ writer.old)
+        (failed_of reader.new) (failed_of writer.new) result }
     ensures kept { OnOk result (failed_of writer.new ≡ failed_of writer.old) }
     ensures flushed { OnOk result (flushed_of writer.new ≡ true) }
 {

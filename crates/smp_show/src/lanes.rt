@@ -4,6 +4,7 @@ ghost use Rattle.std.specs.Prelude.{◌≡◌, ◌++◌, IfOk, OnOk, string_byte
 ghost use Rattle.std.specs.Fmt.{decimal};
 ghost use Rattle.std.specs.List.{flat_map};
 ghost use Rattle.smp_mask.specs.Mask.{members};
+ghost use Rattle.smp_show.specs.Choice.{chosen_of};
 ghost use Rattle.smp_show.specs.Cells.{apart, cell_at, front_text, head_cell, head_text, is_column, padded, row_text, table_cell, told_text};
 
 use crate::cell::cell;
@@ -50,7 +51,9 @@ pub fn chosen_columns<A: Allocator + Copy>(
     alloc: A,
     choice: &Choice,
     online: CpuMask,
-) -> Result<Vec<u32, A>, AllocError> {
+) -> Result<Vec<u32, A>, AllocError>
+    ensures { IfOk result (λ cpus. cpus.items ≡ chosen_of choice.now online) }
+{
     match choice.cpus {
         Some(cpus) => columns(alloc, online.and(cpus)),
         None => columns(alloc, online),
@@ -101,8 +104,8 @@ fn write_cells<A: Allocator>(
     Ok(())
 }
 
-// Whether the CPU has a column.
-fn is_column(cpus: &[u32], cpu: u32) -> bool
+/// Whether the CPU has a column.
+pub(crate) fn is_column(cpus: &[u32], cpu: u32) -> bool
     ensures { result ≡ is_column cpus.now cpu }
 {
     cpus.iter().any(|c| *c == cpu)

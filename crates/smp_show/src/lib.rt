@@ -12,7 +12,7 @@
 //! - `text_kind`: The kinds of texts.
 //! - `forms`, `shapes`, `fits`, `fault`: The first fault of a script, and the field of a replay that it lies in.
 //! - `templates`, `takes`, `keeps`, `condition_parts`, `stands`, `explain`: What is wrong with a text of any kind, and what
-//!   may stand in its place.
+//!   may be in its place.
 #![tactic(auto)]
 
 mod areas;

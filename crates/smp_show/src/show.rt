@@ -1,13 +1,18 @@
 //! A script from a reader, and what is shown of it to a writer.
 
-ghost use Rattle.std.specs.Prelude.{◌≡◌, ◌≤◌, IfOk, IfErr, true, false, Err, OnOk};
+ghost use Rattle.std.specs.Prelude.{◌≡◌, ◌≤◌, IfOk, IfErr, true, false, Err, Ok, OnOk};
 ghost use Rattle.smp_words.specs.Limits.{AreLimits};
 ghost use Rattle.smp_script.specs.Watched.{inner_of, failed_of, flushed_of};
 ghost use Rattle.smp_script.specs.MeaningOf.{meaning_of};
 ghost use Rattle.smp_mask.specs.declared.error.Side.TheVariants.{Read as ReadSide};
 ghost use Rattle.smp_core.specs.New.{new_core};
 ghost use Rattle.smp_replay.specs.Output.{labels_or_none};
-ghost use Rattle.smp_show.specs.Replays.{ending_of, has_refused, rows_of_script};
+ghost use Rattle.smp_script.specs.Script.{script_of};
+ghost use Rattle.smp_script.specs.Streams.{Gave};
+ghost use Rattle.smp_show.specs.Explains.{Explains};
+ghost use Rattle.smp_show.specs.Kinds.{mode_of};
+ghost use Rattle.smp_show.specs.Shows.{Shows};
+ghost use Rattle.smp_show.specs.Replays.{IsReplayError, ending_of, has_refused, rows_of_script};
 
 use crate::choice::Choice;
 use crate::explain::explanation;
@@ -87,13 +92,19 @@ pub struct Replay<A: Allocator> {
 }
 
 /// Reads a script, and replays it.
+///
+/// Refusals, in this order: `StreamFailed(Read)` where the reader failed, `BadScript` with the first fault where
+/// the script is not lawful, `NoMemory` where a growth was refused.
 pub fn read_replay<A: Allocator + Copy, R: Read>(
     alloc: A,
     reader: &mut Watched<R>,
 ) -> Result<Replay<A>, SmpError>
     requires { failed_of reader.old ≡ false }
     ensures order { failed_of reader.new ≡ true → result ≡ Err (SmpError.StreamFailed ReadSide) }
+    ensures read { IfOk result (λ r. Gave (R.remaining (inner_of reader.old)) (R.remaining (inner_of reader.new)) r.text.items) }
+    ensures lawful { IfOk result (λ r. script_of Mode.Replay r.text.items ≡ Ok (meaning_of r.script)) }
     ensures rows { IfOk result (λ r. r.rows.items ≡ rows_of_script (meaning_of r.script)) }
+    ensures err { IfErr result (IsReplayError (R.remaining (inner_of reader.old)) (R.remaining (inner_of reader.new)) (failed_of reader.new)) }
 {
     let text = read_text(alloc, reader)?;
     let script = read_script(alloc, Mode::Replay, text.as_slice())?;
@@ -116,7 +127,8 @@ fn table<A: Allocator + Copy>(
 /// Reads a script, and writes what is chosen of its replay with one column for each CPU.
 ///
 /// Refusals, in this order: `StreamFailed(Read)` where the reader failed, `BadScript` with the first fault where
-/// the script is not lawful, `NoMemory` where a growth was refused, `StreamFailed(Write)` where the writer failed.
+/// the script is not lawful, `NoMemory` where a growth was refused, `StreamFailed(Write)` where the writer failed. Only at
+/// the last has anything been written.
 pub fn show_lanes<A: Allocator + Copy, R: Read, W: Write>(
     alloc: A,
     choice: &Choice,
@@ -125,6 +137,9 @@ pub fn show_lanes<A: Allocator + Copy, R: Read, W: Write>(
 ) -> Result<Outcome, SmpError>
     requires reads { failed_of reader.old ≡ false }
     ensures order { failed_of reader.new ≡ true → result ≡ Err (SmpError.StreamFailed ReadSide) }
+    ensures shows { Shows (R.remaining (inner_of reader.old)) (R.remaining (inner_of reader.new))
+        (W.contents (inner_of writer.old)) (W.contents (inner_of writer.new)) (writer.new ≡ writer.old)
+        (failed_of reader.new) (failed_of writer.new) result }
     ensures kept { OnOk result (failed_of writer.new ≡ failed_of writer.old) }
     ensures flushed { OnOk result (flushed_of writer.new ≡ true) }
 {
@@ -137,17 +152,20 @@ pub fn show_lanes<A: Allocator + Copy, R: Read, W: Write>(
 }
 
 // The kind of script that a text is explained as: a run where its first line says so, else a replay.
-fn mode_of(text: &[u8]) -> Mode {
+fn mode_of(text: &[u8]) -> Mode
+    ensures { result ≡ mode_of text.now }
+{
     match kind_of(text) {
         Some(TextKind::Run) => Mode::Run,
         _ => Mode::Replay,
     }
 }
 
-/// Reads a script of either kind, and writes what its first fault is and what may stand there: `Done` where it has none.
+/// Reads a script of either kind, and writes what its first fault is and what may be there. It ends with `Done` where the
+/// script is lawful, else with `Stopped`.
 ///
 /// Refusals, in this order: `StreamFailed(Read)` where the reader failed, `NoMemory` where a growth was refused,
-/// `StreamFailed(Write)` where the writer failed.
+/// `StreamFailed(Write)` where the writer failed. Only at the last has anything been written.
 pub fn explain_script<A: Allocator + Copy, R: Read, W: Write>(
     alloc: A,
     reader: &mut Watched<R>,
@@ -155,6 +173,9 @@ pub fn explain_script<A: Allocator + Copy, R: Read, W: Write>(
 ) -> Result<Outcome, SmpError>
     requires reads { failed_of reader.old ≡ false }
     ensures order { failed_of reader.new ≡ true → result ≡ Err (SmpError.StreamFailed ReadSide) }
+    ensures explains { Explains (R.remaining (inner_of reader.old)) (R.remaining (inner_of reader.new))
+        (W.contents (inner_of writer.old)) (W.contents (inner_of writer.new)) (writer.new ≡ writer.old)
+        (failed_of reader.new) (failed_of writer.new) result }
     ensures kept { OnOk result (failed_of writer.new ≡ failed_of writer.old) }
     ensures flushed { OnOk result (flushed_of writer.new ≡ true) }
 {

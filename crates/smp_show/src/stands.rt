@@ -32,7 +32,7 @@ fn hint(field: &[u8]) -> &'static str {
         [.., b'\r'] =>
             ": a carriage return is its end; a line ends in a line feed alone, not in CR LF",
         [0xEF, 0xBB, 0xBF, ..] => ": a byte-order mark is in front",
-        _ if field.contains(&b'\t') => ": there is a tab, and only a space parts two fields",
+        _ if field.contains(&b'\t') => ": there is a tab, and only a space separates two fields",
         [b'#', ..] => ": only explorations and traces have comments, from line 3 on",
         _ => "",
     }
@@ -49,10 +49,10 @@ pub fn write_stands<A: Allocator>(
             writeln!(out, "the line is empty")
         }
         Some(field) if field.is_empty() => {
-            writeln!(out, "here stands nothing: one space parts two fields")
+            writeln!(out, "here is nothing: one space separates two fields")
         }
         Some(field) => {
-            write!(out, "here stands `")?;
+            write!(out, "here is `")?;
             write_bytes(out, field)?;
             let hint = hint(field);
             writeln!(out, "`{hint}")

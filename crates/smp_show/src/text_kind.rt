@@ -1,5 +1,8 @@
 //! The kinds of texts, which their first lines tell.
 
+ghost use Rattle.std.specs.Prelude.{◌≡◌};
+ghost use Rattle.smp_show.specs.Kinds.{kind_named, kind_of, kind_text, trimmed};
+
 use smp_script::line::{is_word, next_line, split_part};
 
 /// The kind of a text.
@@ -20,7 +23,9 @@ impl TextKind {
     ];
 
     /// Its word in the first line.
-    pub fn word(self) -> &'static str {
+    pub fn word(self) -> &'static str
+        ensures { result.now ≡ kind_text self }
+    {
         match self {
             TextKind::Replay => "replay",
             TextKind::Run => "run",
@@ -52,7 +57,9 @@ impl TextKind {
 }
 
 // A word without the carriage return behind it, if there is one.
-fn trimmed(word: &[u8]) -> &[u8] {
+fn trimmed(word: &[u8]) -> &[u8]
+    ensures { result.now ≡ trimmed word.now }
+{
     match word {
         [front @ .., b'\r'] => front,
         _ => word,
@@ -60,22 +67,36 @@ fn trimmed(word: &[u8]) -> &[u8] {
 }
 
 // The kind of this word.
-fn kind_named(word: &[u8]) -> Option<TextKind> {
-    for kind in TextKind::ALL {
-        if is_word(word, kind.word().as_bytes()) {
-            return Some(kind);
-        }
+fn kind_named(word: &[u8]) -> Option<TextKind>
+    ensures { result ≡ kind_named word.now }
+{
+    if is_word(word, TextKind::Replay.word().as_bytes()) {
+        Some(TextKind::Replay)
+    } else if is_word(word, TextKind::Run.word().as_bytes()) {
+        Some(TextKind::Run)
+    } else if is_word(word, TextKind::Exploration.word().as_bytes()) {
+        Some(TextKind::Exploration)
+    } else if is_word(word, TextKind::Trace.word().as_bytes()) {
+        Some(TextKind::Trace)
+    } else {
+        None
     }
-    None
 }
 
 /// The kind that the first line of a text names, whatever its version is; none where it names no kind.
-pub fn kind_of(text: &[u8]) -> Option<TextKind> {
+#[tactic(auto, using(crate::proofs::Titles::other_word, crate::proofs::Titles::too_many))]
+pub fn kind_of(text: &[u8]) -> Option<TextKind>
+    ensures { result ≡ kind_of text.now }
+{
     let title = next_line(text)?.text;
     let (smp, rest) = split_part(title, b' ')?;
     let (_, kind) = split_part(rest, b' ')?;
     if !is_word(smp, b"smp") {
         return None;
     }
-    kind_named(trimmed(kind))
+    match split_part(kind, b' ') {
+        // a field too many
+        Some(_) => None,
+        None => kind_named(trimmed(kind)),
+    }
 }

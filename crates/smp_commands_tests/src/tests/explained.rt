@@ -21,8 +21,8 @@ fn what_may_stand_there(rt: HostRuntime) -> Result<(), Fail> {
             "smp 1 replay\ncpus 2 0-1\nstart 0 post 0 1 synk 7 42 1\n",
             "line 3 Word: a wrong word, or too few or too many fields
   start 0 post 0 1 synk 7 42 1
-  field 6, CLASS: here stands `synk`
-    here may stand: sync, async
+  field 6, CLASS: here is `synk`
+    here may be: sync, async
     the line: start CPU post K DST CLASS FUNC INFO TRIES
 ",
         ),
@@ -31,7 +31,7 @@ fn what_may_stand_there(rt: HostRuntime) -> Result<(), Fail> {
             "line 3 Word: a wrong word, or too few or too many fields
   start 0 post 0 1 sync 7 42
   field 9, TRIES: here the line ends
-    here may stand: a number from 0 to 4294967295
+    here may be: a number from 0 to 4294967295
     the line: start CPU post K DST CLASS FUNC INFO TRIES
 ",
         ),
@@ -39,16 +39,16 @@ fn what_may_stand_there(rt: HostRuntime) -> Result<(), Fail> {
             "smp 1 replay\ncpus 2 0-1\nstat 0 handle\n",
             "line 3 Word: a wrong word, or too few or too many fields
   stat 0 handle
-  field 1: here stands `stat`
-    here may stand: labels, start, step, show
+  field 1: here is `stat`
+    here may be: labels, start, step, show
 ",
         ),
         (
             "smp 1 replay\r\ncpus 2 0-1\r\n",
             "line 1 Word: a wrong word, or too few or too many fields
   smp 1 replay\\r
-  field 3: here stands `replay\\r`: a carriage return is its end; a line ends in a line feed alone, not in CR LF
-    here may stand: replay
+  field 3: here is `replay\\r`: a carriage return is its end; a line ends in a line feed alone, not in CR LF
+    here may be: replay
     the line: smp VERSION replay
 ",
         ),
@@ -56,16 +56,16 @@ fn what_may_stand_there(rt: HostRuntime) -> Result<(), Fail> {
             "smp 1 replay\ncpus 2 0-1\n# a comment\n",
             "line 3 Word: a wrong word, or too few or too many fields
   # a comment
-  field 1: here stands `#`: only explorations and traces have comments, from line 3 on
-    here may stand: labels, start, step, show
+  field 1: here is `#`: only explorations and traces have comments, from line 3 on
+    here may be: labels, start, step, show
 ",
         ),
         (
             "smp 1 replay\ncpus 2 0-1\nstep 0 0\n",
             "line 3 Range: a number outside the range of its field
   step 0 0
-  field 3, N: here stands `0`
-    here may stand: a number from 1 to 10000
+  field 3, N: here is `0`
+    here may be: a number from 1 to 10000
     the line: step CPU N
 ",
         ),
@@ -73,8 +73,8 @@ fn what_may_stand_there(rt: HostRuntime) -> Result<(), Fail> {
             "smp 1 run\ncpus 2 0-1\ndo 3 1 one 1 7 9\n",
             "line 3 Range: a number outside the range of its field
   do 3 1 one 1 7 9
-  field 2, CPU: here stands `3`
-    here may stand: a CPU that is online
+  field 2, CPU: here is `3`
+    here may be: a CPU that is online
     the line: do CPU N one DST FUNC ARG
 ",
         ),
@@ -82,8 +82,8 @@ fn what_may_stand_there(rt: HostRuntime) -> Result<(), Fail> {
             "smp 1 run\ncpus 2 0-1\ndo 1 1 set 0 up\n",
             "line 3 Word: a wrong word, or too few or too many fields
   do 1 1 set 0 up
-  field 6: here stands `up`
-    here may stand: on, off
+  field 6: here is `up`
+    here may be: on, off
 ",
         ),
         (
@@ -96,8 +96,8 @@ fn what_may_stand_there(rt: HostRuntime) -> Result<(), Fail> {
             "smp 1 explore\ncpus 2 0-1\nnever said owd\n",
             "line 3 Word: a wrong word, or too few or too many fields
   never said owd
-  field 3, NOTE: here stands `owd`
-    here may stand: E1, E2, E5, E7, E13, owed, queued, sent, done, locked, idle, call, handled, \
+  field 3, NOTE: here is `owd`
+    here may be: E1, E2, E5, E7, E13, owed, queued, sent, done, locked, idle, call, handled, \
         gate, taken, open, begun, entered, same, moved, run, ran, left, finished, pending, result, \
         on, off, NOP, JMP, stop, lost
 ",
@@ -106,8 +106,8 @@ fn what_may_stand_there(rt: HostRuntime) -> Result<(), Fail> {
             "smp 1 explore\ncpus 2 0-1\ncpu 0 repeat x handle\n",
             "line 3 Number: a field that is no decimal number
   cpu 0 repeat x handle
-  field 4, N: here stands `x`
-    here may stand: a number from 0 to 4294967295
+  field 4, N: here is `x`
+    here may be: a number from 0 to 4294967295
     the line: cpu C repeat N handle
 ",
         ),
@@ -115,8 +115,8 @@ fn what_may_stand_there(rt: HostRuntime) -> Result<(), Fail> {
             "smp 2 trace\ncpus 2 0-1\n0 queue 1 1 sink 7 42\n",
             "line 3 Word: a wrong word, or too few or too many fields
   0 queue 1 1 sink 7 42
-  field 5, CLASS: here stands `sink`
-    here may stand: sync, async
+  field 5, CLASS: here is `sink`
+    here may be: sync, async
     the line: C queue R D CLASS FUNC INFO
 ",
         ),
@@ -124,8 +124,8 @@ fn what_may_stand_there(rt: HostRuntime) -> Result<(), Fail> {
             "smp 2 replays\n",
             "line 1 Word: a wrong word, or too few or too many fields
   smp 2 replays
-  field 3: here stands `replays`
-    here may stand: replay, run, explore, trace
+  field 3: here is `replays`
+    here may be: replay, run, explore, trace
 ",
         ),
         ("smp 1 explore\ncpus 2 0-1\ncpu 0 send 1\n", "no fault\n"),
