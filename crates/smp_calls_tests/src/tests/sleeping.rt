@@ -69,7 +69,11 @@ fn watch<R: Wait>(rt: &R, table: &CallTable<Global>, progress: &Progress) -> u32
         if ended == CALLS && progress.heard.load(Ordering::SeqCst) != 0 {
             return lost;
         }
-        looks = if ended == last { looks + 1 } else { 0 };
+        looks = if ended == last {
+            looks.saturating_add(1)
+        } else {
+            0
+        };
         last = ended;
         if looks >= LOOKS {
             lost = lost.saturating_add(1);

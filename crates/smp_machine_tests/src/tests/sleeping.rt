@@ -70,7 +70,11 @@ impl Sleepers {
             if made == rounds {
                 return;
             }
-            polls = if made == last { polls + 1 } else { 0 };
+            polls = if made == last {
+                polls.saturating_add(1)
+            } else {
+                0
+            };
             last = made;
             if polls >= POLLS {
                 polls = 0;
@@ -97,8 +101,8 @@ impl Crew<Counts, Runs> for Sleepers {
     fn play<R: Wait>(&self, seat: &mut Counter<'_, R>) {
         let all = seat.online();
         if seat.number() == 0 {
-            let others = u64::from(all.weight()) - 1;
-            self.watch(seat, others * ROUNDS);
+            let others = u64::from(all.weight()).wrapping_sub(1);
+            self.watch(seat, others.wrapping_mul(ROUNDS));
             return;
         }
         for _ in 0..ROUNDS {
