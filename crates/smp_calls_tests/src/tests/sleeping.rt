@@ -63,7 +63,7 @@ fn watch<R: Wait>(rt: &R, table: &CallTable<Global>, progress: &Progress) -> u32
     let backoff = Backoff::new();
     let mut lost = 0u32;
     let mut last = 0;
-    let mut looks = 0;
+    let mut looks = 0u32;
     for _ in rt.forever() {
         let ended = progress.ended.load(Ordering::SeqCst);
         if ended == CALLS && progress.heard.load(Ordering::SeqCst) != 0 {

@@ -64,7 +64,7 @@ impl Sleepers {
     /// fails and does not hang.
     fn watch<R: Wait>(&self, seat: &mut Counter<'_, R>, rounds: u64) {
         let backoff = Backoff::new();
-        let (mut last, mut polls) = (0, 0);
+        let (mut last, mut polls) = (0, 0u32);
         for _ in seat.rt.forever() {
             let made = self.rounds.load(Ordering::SeqCst);
             if made == rounds {
