@@ -1,5 +1,8 @@
 //! CPUs of one machine, each on a thread of its own.
 
+ghost use Rattle.std.specs.Prelude.{IfOk};
+ghost use Rattle.smp_machine.specs.MachineCpu.{IsFull};
+
 use super::line::{Part, play_parts};
 use super::member::{Ear, Member, Teller};
 use super::*;
@@ -85,8 +88,37 @@ impl<'a> Crew<Ear<'a>, Teller<'a>> for Case<'a> {
     }
 }
 
-/// Runs the CPUs of a machine of these labels on threads, each with its parts, from CPU 0 on: how many saw what they
-/// should. The CPU above them, where there is one, is offline.
+/// A machine of these labels, and its CPUs. The CPU above them, where there is one, is offline.
+fn new_machine(
+    alloc: Global,
+    online: &str,
+    labels: &LabelMap,
+) -> Result<(Machine<Global>, MachineBoot<Global>), SmpError>
+    ensures { IfOk result (λ t. IsFull t.1 t.0) }
+{
+    let online: CpuMask = online.parse()?;
+    let cpus = online.weight();
+    let nr = if cpus < NR_CPUS { cpus + 1 } else { NR_CPUS };
+    Machine::new(alloc, nr, online, labels)
+}
+
+/// Runs the CPUs of a machine on threads, each with its parts, from CPU 0 on: how many saw what they should.
+fn run_plays<R: Wait + Threads + Sync>(
+    rt: &R,
+    alloc: Global,
+    machine: &Machine<Global>,
+    boot: MachineBoot<Global>,
+    plays: &[&[Part]],
+) -> Result<u64, SmpError>
+    requires { IsFull boot machine.now }
+{
+    let hall = Hall::new();
+    let case = Case { hall: &hall, plays };
+    run_cpus(rt, alloc, machine, boot, &case)?;
+    Ok(hall.right.load(Ordering::SeqCst))
+}
+
+/// Runs the CPUs of a new machine of these labels: how many saw what they should.
 pub fn in_threads<R: Wait + Threads + Sync>(
     rt: &R,
     alloc: Global,
@@ -94,12 +126,19 @@ pub fn in_threads<R: Wait + Threads + Sync>(
     labels: &LabelMap,
     plays: &[&[Part]],
 ) -> Result<u64, SmpError> {
-    let online: CpuMask = online.parse()?;
-    let cpus = online.weight();
-    let nr = if cpus < NR_CPUS { cpus + 1 } else { NR_CPUS };
-    let (machine, boot) = Machine::new(alloc, nr, online, labels)?;
-    let hall = Hall::new();
-    let case = Case { hall: &hall, plays };
-    run_cpus(rt, alloc, &machine, boot, &case)?;
-    Ok(hall.right.load(Ordering::SeqCst))
+    let (machine, boot) = new_machine(alloc, online, labels)?;
+    run_plays(rt, alloc, &machine, boot, plays)
+}
+
+/// The same, where CPUs sleep after the first look in vain while they wait.
+pub fn in_threads_asleep<R: Wait + Threads + Sync>(
+    rt: &R,
+    alloc: Global,
+    online: &str,
+    labels: &LabelMap,
+    plays: &[&[Part]],
+) -> Result<u64, SmpError> {
+    let (mut machine, boot) = new_machine(alloc, online, labels)?;
+    machine.sleep_after(1);
+    run_plays(rt, alloc, &machine, boot, plays)
 }
