@@ -34,7 +34,7 @@ LoadedAt nexts (Some (Handle (handle.AsyncInfo id next func))) = nexts id ≡ li
 LoadedAt nexts (Some (Handle (handle.BeginAsync call next))) = nexts call.id ≡ link_to next
 LoadedAt nexts _ = Unit {0}
 
--- The next words of all that is left to run of the batch that a CPU has taken last, wherever the CPU stands: until it is
+-- The next words of all that is left to run of the batch that a CPU has taken last, wherever the CPU is: until it is
 -- reversed a record leads to the one before it in the batch, 0 for the oldest; from then on to the one after it that is
 -- left, 0 for the newest; and one between the two chains has the link that the CPU has loaded there.
 pub record BatchLinks (nexts : ℕ → ℕ) (batch left : List Call) (stage : Option Stage) : Type 0 where

@@ -52,7 +52,7 @@ running_at (handle.CountSync walk call next) = call ∷ []
 running_at (handle.EndSync walk call next) = call ∷ []
 running_at _ = []
 
--- the same of where a CPU stands
+-- the same of where a CPU is
 
 abbrev pub down_link : Option Stage → ℕ
 down_link (Some (Handle stage)) = down_at stage

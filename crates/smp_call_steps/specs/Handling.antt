@@ -47,7 +47,7 @@ counted_sync walk call next v = record v { stage = Some (Handle (handle.EndSync 
 abbrev pub begun_async : Call → Option ℕ → Known → Known
 begun_async call next v = record v { stage = Some (Handle (handle.CountAsync call next)); part = runs_next (AsyncCall call) v.part }
 
--- a CPU whose call has ended, and that stands there
+-- a CPU whose call has ended, and that is there
 abbrev pub ended_call : HandleStage → Call → Known → Known
 ended_call stage call v = record v { stage = Some (Handle stage); part = part_ended call v.part }
 

@@ -1,4 +1,4 @@
--- What a CPU knows of the calls: where it stands, as far as its steps have told, and its own part of the call state.
+-- What a CPU knows of the calls: where it is, as far as its steps have told, and its own part of the call state.
 use Rattle.std.specs.Prelude.{◌≡◌, ◌≢◌, ℕ, ◌+◌, ◌*◌, ◌%◌, ◌^◌, ◌<◌, Bool, true, false, ◌==◌, if◌then◌else◌, Option, Some, None, List, [], ◌∷◌, ◌++◌, length}
 use Rattle.std.specs.Prelude.{slice_index_or}
 use Rattle.smp_words.specs.Size.{cpus, records, owner}
@@ -43,7 +43,7 @@ abbrev pub told_handle : HandleStage → Option Stage
 told_handle handle.Enter = None
 told_handle stage = Some (Handle stage)
 
--- where a CPU stands, as far as its steps have told: one that has made no step of its command yet stands outside
+-- where a CPU is, as far as its steps have told: one that has made no step of its command yet is outside
 abbrev pub told_stage : Option Stage → Option Stage
 told_stage None = None
 told_stage (Some (Send to)) = None
@@ -116,7 +116,7 @@ stage_outside act.Store w (Some n) s = stage_of_store w n s
 stage_outside act.Cas w put s = stage_of_exchange put s
 stage_outside _ w put s = s
 
--- where a CPU stands after a step of its own: inside handle by the step table, else by what the step told
+-- where a CPU is after a step of its own: inside handle by the step table, else by what the step told
 abbrev pub stage_after : Option Stage → DrainValue → Act → Word → Option ℕ → Option ℕ → Option Stage
 stage_after (Some (Handle stage)) d act w found put = (handle_outcome d stage (number_or_zero found)).next
 stage_after (Some (Post p stage)) d act w found put = stage_outside act w put (Some (Post p stage))
@@ -242,7 +242,7 @@ pub record GoesOn (a : CallState) (control : ℕ → ControlValue) (me : ℕ) (a
 abbrev pub posting_of : ℕ → Class → ℕ → ℕ → ℕ → Posting
 posting_of id class func info to = record { id = id; to = to; is_online = true; class = class; func = func; info = info; tries = 0 }
 
--- a CPU that stands at this step of a post
+-- a CPU that is at this step of a post
 abbrev pub standing : Posting → PostStage → Known → Known
 standing p stage v = record v { stage = Some (Post p stage) }
 
@@ -254,7 +254,7 @@ outside_known v = record v { stage = None }
 abbrev pub confirmed_known : ℕ → Known → Known
 confirmed_known id v = record v { part = part_confirmed id v.part }
 
--- a CPU that has made so many steps more outside handle
+-- a CPU that has made this number of steps more outside handle
 abbrev pub stepped : ℕ → Known → Known
 stepped n v = record v { steps = v.steps + n }
 

@@ -10,7 +10,7 @@ use Rattle.smp_call_steps.specs.Stands.{Stands, share_of, held_of, HandIs}
 use Rattle.smp_call_steps.specs.Names.{Word}
 
 pub record Shows (a : CallState) (at : Word → ℕ) (control : ℕ → ControlValue) : Type 0 where
-  -- each CPU holds what its stage says, and stands where it may
+  -- each CPU holds what its stage says, and is where it may be
   pub held : (cpu : ℕ) → a.held cpu ≡ held_of (control cpu).stage
   pub stands : (cpu : ℕ) → Stands a.place at (share_of a cpu) cpu (control cpu)
   pub hands : (cpu : ℕ) → HandIs (control cpu).stage (hands_in at cpu)

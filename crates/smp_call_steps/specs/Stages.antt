@@ -5,7 +5,7 @@ use Rattle.smp_call_steps.specs.Drains.{DrainValue, source_at, handle_access, ha
 use Rattle.smp_call_steps.specs.Names.{Word, Intr, Queued, Ran, Flags, Access, Load, Store, Outcome, Stage, Send, Done, Post, Handle}
 use Rattle.smp_call_steps.specs.Names.note
 
--- where a CPU stands: its stage, none outside a command, and its drain
+-- where a CPU is: its stage, none outside a command, and its drain
 pub record ControlValue : Type 0 where
   pub stage : Option Stage
   pub drain : DrainValue
@@ -29,7 +29,7 @@ abbrev pub drain_of : DrainValue → Stage → ℕ → DrainValue
 drain_of d (Handle stage) found = drain_after d stage found
 drain_of d _ found = d
 
--- where the CPU stands after the step
+-- where the CPU is after the step
 abbrev pub control_after : ControlValue → Stage → ℕ → ControlValue
 control_after c stage found = record { stage = (outcome_of c.drain stage found).next; drain = drain_of c.drain stage found }
 

@@ -1,4 +1,4 @@
--- What contracts see of where CPUs stand, and what a table of words shows.
+-- What contracts see of where CPUs are, and what a table of words shows.
 use Rattle.std.specs.Prelude.{ℕ, None, List, slice_index_or}
 use Rattle.smp_call_steps.specs.Drains.{no_drain}
 use Rattle.smp_call_steps.specs.Stages.{ControlValue}
@@ -10,7 +10,7 @@ use Rattle.smp_call_steps.specs.Shows.{Shows}
 abbrev pub outside : ControlValue
 outside = record { stage = None; drain = no_drain }
 
--- where a CPU stands; outside where there is no such CPU
+-- where a CPU is; outside where there is no such CPU
 abbrev pub control_of : List ControlValue → ℕ → ControlValue
 control_of controls cpu = slice_index_or controls cpu outside
 

@@ -1,4 +1,4 @@
-//! Where a CPU stands: its stage, and how many calls it has reversed of its batch.
+//! Where a CPU is: its stage, and how many calls it has reversed of its batch.
 
 ghost use Rattle.std.specs.Prelude.{◌≡◌, ◌↔◌, true};
 ghost use Rattle.smp_call_steps.specs.Stages.{control_after, outcome_of, FitsStage};
@@ -12,7 +12,7 @@ use smp_words::same::Same;
 use smp_words::seen::Note;
 use std::marker::Model;
 
-/// Where a CPU stands.
+/// Where a CPU is inside its command.
 #[derive(Drop)]
 pub struct Control {
     /// None outside a command.

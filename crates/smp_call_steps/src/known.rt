@@ -69,17 +69,17 @@ pub struct Part {
     pub running: Running,
     /// The calls that it has run.
     pub ran: LinkedList<Call>,
-    /// Of each CPU, whether it is owed an interrupt.
+    /// For each CPU, whether it is owed an interrupt.
     pub owes: LinkedList<bool>,
     /// Whether it has accepted an interrupt and not yet taken its queue.
     pub accepted: bool,
     /// For each time that it took its interrupt word, whether an interrupt was pending.
     pub asked: LinkedList<bool>,
-    /// Of each record, whether its last call is seen confirmed.
+    /// For each record, whether its last call is seen confirmed.
     pub confirmed: LinkedList<bool>,
 }
 
-/// What a CPU knows: what its table is made with, where it stands, as far as its steps have told, its own part of the
+/// What a CPU knows: what its table is made with, where it is, as far as its steps have told, its own part of the
 /// calls, and what it has done to other CPUs.
 pub struct Known {
     /// What its table is made with.

@@ -81,7 +81,7 @@ pub fn drain_order()
     ensures asyncs_last { (batch : List Call) → AsyncsLast batch }
 {}
 
-/// Of each class, the calls that have ended at a CPU are the first of those that were ever queued for it, in that order.
+/// For each class, the calls that have ended at a CPU are the first of those that were ever queued for it, in that order.
 pub fn runs_in_queue_order()
     ensures { RunInQueueOrder }
 {}

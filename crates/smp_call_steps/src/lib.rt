@@ -5,13 +5,13 @@
 //! whole list at once and runs it, SYNC calls first. Its laws are of any words that show calls, so that they hold
 //! of the pure machine and of words that threads share alike.
 //!
-//! - `stage`: Where a CPU stands inside its command.
+//! - `stage`: Where a CPU is inside its command.
 //! - `post`: Posting: a CPU queues one call by a record of its own (`kernel/smp.c: generic_exec_single`,
 //!   `lib/llist.c: llist_add_batch`).
 //! - `handle`: Handling: a CPU takes its interrupt and, where there was one, its whole queue, and runs it
 //!   (`kernel/smp.c: __flush_smp_call_function_queue`).
 //! - `drain`: What follows each step of `handle`.
-//! - `control`: Where a CPU stands: its stage, and how many calls it has reversed of its batch.
+//! - `control`: Where a CPU is: its stage, and how many calls it has reversed of its batch.
 //! - `kept`: How a CPU's place is kept in a list of which most CPUs are outside a command.
 //! - `start`: When a command of the call half may start, and where it begins.
 //! - `table`: The words of a call table as a list, and what an access does to them.

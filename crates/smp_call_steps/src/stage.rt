@@ -1,4 +1,4 @@
-//! Where a CPU stands inside its command.
+//! Where a CPU is inside its command.
 
 ghost use Rattle.std.specs.Prelude.{◌≡◌, ◌↔◌, true};
 ghost use Rattle.smp_call_steps.specs.Posts.{go_on, ends};

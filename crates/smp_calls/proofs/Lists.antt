@@ -14,7 +14,7 @@ use Rattle.smp_calls.specs.Rounds.{only_if}
 abbrev pub one_if : Bool → ℕ
 one_if b = cond b 1 0
 
--- how often a number stands in a list
+-- how often a number is in a list
 pub times : ℕ → List ℕ → ℕ
 times c [] = 0
 times c (x ∷ xs) = cond (x == c) 1 0 + times c xs
@@ -24,7 +24,7 @@ unfolding times
 times-append c [] ys = omega arith
 times-append c (x ∷ xs) ys = omega (arith, times-append c xs ys)
 
--- a member stands once in the list of the members below k, where it is below k
+-- a member is once in the list of the members below k, where it is below k
 times_member : (m c k : ℕ) → times c (members_below m k) ≡ cond (nat_lt c k && has m c) 1 0
 unfolding times members_below
 times_member m c zero = grind (arith, nat_tests)
@@ -61,7 +61,7 @@ unfolding members_below
 filter_members m n p zero same = refl
 filter_members m n p (suc k) same = search (filter-append, last, filter_members m n p k same, arith)
 
--- what does not stand in a list is not filtered out
+-- what is not in a list is not filtered out
 filter_without : (c : ℕ) (xs : List ℕ) → times c xs ≡ 0 → filter (λ x. not (x == c)) xs ≡ xs
 unfolding times
 filter_without c [] none = refl

@@ -27,7 +27,7 @@ pub or_false : (b : Bool) → (b || false) ≡ b
 or_false true = refl
 or_false false = refl
 
--- false is what stands there, or would where nothing does
+-- false is what is there, or would be where nothing is
 pub set_false : (xs : List Bool) (i : ℕ) → get_or (set xs i false) i false ≡ false
 set_false [] i = refl
 set_false (x ∷ xs) zero = refl

@@ -8,7 +8,7 @@ ghost use Rattle.smp_calls.specs.Records.{single_record as single_record_in, cla
 use smp_words::call::Class;
 use smp_words::size::{FIRST_TARGETS, USER};
 
-/// The record for a call to one CPU that is waited for. It stands for the one on the caller's stack in
+/// The record for a call to one CPU that is waited for. It takes the place of the one on the caller's stack in
 /// `kernel/smp.c: smp_call_function_single`.
 pub const SYNC_RECORD: u32 = 0;
 
@@ -28,7 +28,7 @@ pub fn many_record(to: u32) -> u32
     if to < FIRST_TARGETS { to + 2 } else { to + 4 }
 }
 
-/// The record of the user with this number, 0 or 1, by which [`crate::call_async`] calls: 10 and 11. It stands for a
+/// The record of the user with this number, 0 or 1, by which [`crate::call_async`] calls: 10 and 11. It takes the place of a
 /// `call_single_data_t` of the caller's own. It makes no step, and does not wait.
 pub fn user_record(u: u32) -> u32
     requires { u < 2 }

@@ -23,7 +23,7 @@ pub enum Failure {
     NoWord,
     /// No outcome has the number that was named.
     NoOutcome,
-    /// No expectation stands on the line that was named.
+    /// There is no expectation on the line that was named.
     NoExpectation,
     /// The text is of another kind than the command takes.
     OtherKind(TextKind),

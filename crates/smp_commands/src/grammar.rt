@@ -10,7 +10,7 @@ const VERSION: &str = "0.1.0-dev";
 const ABOUT: &str =
     "Shows, explains, explores, checks and judges texts of cross-processor calls and stops.";
 
-/// What stands behind the help of the program and of each subcommand.
+/// What comes behind the help of the program and of each subcommand.
 const STATUSES: &str = "Exit statuses:
   0  done: all lines were run, there is no fault, all expectations hold, the trace is lawful, the steps are the same
   1  the answer is no: a refused event, a fault explained, a broken expectation, an unlawful trace, a step that differs
@@ -149,7 +149,7 @@ const OUTCOMES_TO: Choice = Choice {
     help: "Writes the script of each outcome into a file in this folder, as FOLDER/outcome-1.smp",
 };
 
-/// What stands behind the options of a subcommand.
+/// What comes behind the options of a subcommand.
 #[derive(Clone, Copy)]
 enum Behind {
     /// The file alone.

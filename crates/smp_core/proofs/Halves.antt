@@ -180,7 +180,7 @@ stop_notes_kept core cpu stage p shown =
 pub calls_kept : (core : CoreValue) (cpu : ℕ) (stage : StopStage) → CallsTold core (stop_seen_at core.stops cpu stage) (stops_stepped core cpu stage)
 calls_kept core cpu stage a shown = subst (λ b. Shown b core) (sym (stop_step_apart a cpu _ (stop_seen_at core.stops cpu stage).note _ _ stage)) shown
 
--- a step of a CPU that stands in the stop half: its stage, what is seen of it, and what it tells
+-- a step of a CPU that is in the stop half: its stage, what is seen of it, and what it tells
 pub record IsStopStep (core : CoreValue) (cpu : ℕ) (seen : Seen) (new : StopsValue) : Type 0 where
   pub stage : StopStage
   pub at_stage : (stop_control_of core.stops.controls cpu).stage ≡ Some stage

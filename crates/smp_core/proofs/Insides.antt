@@ -21,7 +21,7 @@ use Rattle.smp_core.specs.Start.{refusal_of, started}
 use Rattle.smp_core.specs.Value.{CoreValue}
 use Rattle.smp_core.proofs.Starts.{may_start, start_below}
 
--- where a CPU stands that was put at a stage of a half
+-- where a CPU is that was put at a stage of a half
 calls_begun : (controls : List ControlValue) (cpu : ℕ) (stage : Option Stage) → cpu < length controls →
     (control_of (slice_set controls cpu (control_at (control_of controls cpu) stage)) cpu).stage ≡ stage
 calls_begun controls cpu stage below =

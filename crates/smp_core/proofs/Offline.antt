@@ -153,7 +153,7 @@ module _ (online : ℕ) where
         is_on true f = f
         is_on false f = absurd (let none : None ≡ Some stage = sym (before.outside cpu f) ∙ e in cc)
 
-    -- a CPU that is online comes to stand elsewhere
+    -- a CPU that is online comes to be elsewhere
     stands_apart : (words' : List ℕ) (b : CallState) (c : ControlValue) → cpu < cpus → has online cpu ≡ true → AimsOnline online c.stage
         → ValuesShow b words' (slice_set controls cpu c)
         → ((j : ℕ) → has online j ≡ false → IsQuiet (number_in words') j) → ((j : ℕ) → has online j ≡ false → part_of b j ≡ part_of no_calls j)

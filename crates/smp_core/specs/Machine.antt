@@ -1,4 +1,4 @@
--- One step of a core: what it does to the words, what is seen of it, and where the CPU stands after it.
+-- One step of a core: what it does to the words, what is seen of it, and where the CPU is after it.
 use Rattle.std.specs.Prelude.{ℕ, Bool, true, false, Option, Some, None, [], ◌∷◌, slice_set}
 use Rattle.smp_words.specs.Layout.{number_in}
 use Rattle.smp_words.specs.Access.{word_of, words_after, seen_of}
@@ -53,7 +53,7 @@ call_step core cpu stage = record { seen = seen_at core cpu stage; core = steppe
 abbrev pub stop_step : CoreValue → ℕ → StopStage → Stepped
 stop_step core cpu stage = record { seen = stop_seen_at core.stops cpu stage; core = stops_stepped core cpu stage; answer = answer_at stage }
 
--- of a CPU that stands so: none outside a command
+-- of a CPU at such a place: none outside a command
 abbrev pub step_at : CoreValue → ℕ → Option Stage → Option StopStage → Option Stepped
 step_at core cpu (Some stage) _ = Some (call_step core cpu stage)
 step_at core cpu None (Some stage) = Some (stop_step core cpu stage)

@@ -13,7 +13,7 @@ use Rattle.smp_call_steps.specs.declared.post.PostStage.TheVariants as post
 use Rattle.smp_call_steps.specs.declared.stage.Stage.{Stage}
 use Rattle.smp_call_steps.specs.declared.stage.Stage.TheVariants.{Send, Post}
 
--- where a CPU stands so, what it queues or sends goes to a CPU that is online
+-- where a CPU is at such a stage, what it queues or sends goes to a CPU that is online
 abbrev pub AimsOnline : ℕ → Option Stage → Type 0
 AimsOnline online (Some (Send to)) = has online to ≡ true
 AimsOnline online (Some (Post p post.LoadFlags)) = p.is_online ≡ true → has online p.to ≡ true

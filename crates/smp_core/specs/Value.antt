@@ -8,7 +8,7 @@ use Rattle.smp_stop_steps.specs.Value.{StopsValue}
 use Rattle.smp_words.specs.declared.word.Word.{Word}
 use Rattle.smp_call_steps.specs.Value.{ValuesShow}
 
--- the number of CPUs, those online, the words, where each CPU stands, and the stop half
+-- the number of CPUs, those online, the words, where each CPU is, and the stop half
 pub record CoreValue : Type 0 where
   pub nr : ℕ
   pub online : ℕ

@@ -285,7 +285,7 @@ shows_begun_loose id func info elsewhere a b e =
     let p = passed a.irq (loose_with a.current (record { id = id; func = func; info = info }) elsewhere a) reason.InterruptsOff b e in
     shows_loose_with a.current id func info elsewhere a b refl p.1
 
--- one more, as words of so many bits count
+-- one more, as words of this number of bits count
 next_mod : (n m : ℕ) → (n % m + 1) % m ≡ (n + 1) % m
 next_mod n m =
     let e : n + 1 ≡ (n % m + 1) + n / m * m = omega (arith, mod-add-div' n m) in

@@ -80,7 +80,7 @@ same_class Sync Sync = true
 same_class Async Async = true
 same_class _ _ = false
 
--- the calls of a class, as they stand in a list
+-- the calls of a class, as they are in a list
 abbrev pub calls_of : Class → List Call → List Call
 calls_of class calls = filter (λ call. same_class class call.class) calls
 

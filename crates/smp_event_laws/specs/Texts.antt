@@ -8,7 +8,7 @@ use Rattle.smp_judge.specs.Verdict.{verdict_of}
 use Rattle.smp_event_laws.specs.Lawful.{AreLabels}
 use Rattle.smp_event_laws.specs.Traces.{IsTrace}
 
--- The lines behind the head of a text tell so many events, which lead here, and its labels are lawful at first.
+-- The lines behind the head of a text tell this number of events, which lead here, and its labels are lawful at first.
 pub record IsTraceOf (text : List ℕ) (count : ℕ) (t : StateValue) : Type 0 where
   pub head : HeadValue
   pub head_is : head_of (lines_of text) ≡ Ok head

@@ -5,7 +5,7 @@ use Rattle.smp_event_steps.specs.declared.call.Place.{Place}
 use Rattle.smp_event_steps.specs.declared.call.Place.TheVariants.{Free}
 use Rattle.smp_event_steps.specs.Opened.{places_free}
 
--- so many were made
+-- this number of them were made
 pub all_made : {X : Type 0} (x : X) (xs : List X) (n m : ℕ) → xs ≡ replicate n x → n ≤ m → m ≤ n → xs ≡ replicate m x
 all_made x xs n m made most least = let same : n ≡ m = omega arith in made ∙ ap (λ (k : ℕ). replicate k x) same
 

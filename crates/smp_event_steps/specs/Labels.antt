@@ -56,7 +56,7 @@ abbrev pub patch_or : Option Patch → Patch → Patch
 patch_or (Some patch) other = patch
 patch_or None other = other
 
--- what is left of the patch of a stop; as the count stands, where that is not known yet
+-- what is left of the patch of a stop; by the count as it is, where that is not known yet
 abbrev pub patch_now : LabelWords → Stop → Patch
 patch_now words stop = patch_or stop.patch (patch_for words (key_number stop.task.func) stop.task.arg)
 

@@ -8,7 +8,7 @@ use Rattle.smp_event_steps.specs.Cpu.{fresh_cpu}
 use Rattle.smp_event_steps.specs.State.{StateValue}
 use Rattle.smp_event_steps.specs.Stop.{closed}
 
--- so many records that are free
+-- this number of records that are free
 unfoldable pub places_free : ℕ → List Place
 places_free n = replicate n Free
 

@@ -14,7 +14,7 @@ use Rattle.smp_event_steps.specs.declared.stop.Task.{Task}
 use Rattle.smp_event_steps.specs.declared.stop.Patch.{Patch}
 use Rattle.smp_event_steps.specs.declared.without.Setting.{Setting}
 
--- the first number from c on that passes, of so many
+-- the first number from c on that passes, of this number of them
 unfoldable pub first_from : (ℕ → Bool) → ℕ → ℕ → Option ℕ
 first_from passes c zero = None
 first_from passes c (suc more) = if passes c then Some c else first_from passes (c + 1) more

@@ -72,7 +72,7 @@ fn site_from(words: &LabelWords, key: u64, from: u32) -> Option<u32>
     None
 }
 
-/// What a patch of a key is to store, as its count stands.
+/// What a patch of a key is to store, by its count as it is now.
 fn patch_for(words: &LabelWords, key: u32, change: u64) -> Patch
     ensures { result ≡ patch_for words.now key change }
 {
@@ -95,7 +95,7 @@ fn patch_for(words: &LabelWords, key: u32, change: u64) -> Patch
     }
 }
 
-/// What is left of the patch of a stop; as the count stands, where that is not known yet.
+/// What is left of the patch of a stop; by the count as it is, where that is not known yet.
 pub(crate) fn patch_now(words: &LabelWords, stop: &Stop) -> Patch
     ensures { result ≡ patch_now words.now stop.now }
 {

@@ -2,7 +2,7 @@
 
 ghost use Rattle.std.specs.Prelude.{◌≡◌, slice_index_or, slice_set};
 
-/// What stands at a number; the default from 32 on.
+/// What is at a number; the default from 32 on.
 pub(crate) fn at<T: Copy>(list: &[T; 32], cpu: u32, default: T) -> T
     ensures { result ≡ slice_index_or list.now cpu default }
 {

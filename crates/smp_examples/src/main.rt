@@ -1,7 +1,7 @@
 //! Takes each example of the folder that it is run in, and compares what it prints with what is expected of it.
 //!
 //! An example is a text `NAME.smp`, and `NAME.smp.stdout` is what it prints. `NAME.smp.args` is the word by which it is
-//! taken. The examples stand in `data`, so that the gate compares all of them: those of `smp_runner` at its top, and those of
+//! taken. The examples are in `data`, so that the gate compares all of them: those of `smp_runner` at its top, and those of
 //! `smp` in the folder `smp`.
 //!
 //! - `kind`: How an example is taken.

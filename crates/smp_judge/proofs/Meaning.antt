@@ -183,7 +183,7 @@ pub is_meant : (text : List ℕ) → IsMeant text (verdict_of text)
 unfolding verdict_of
 is_meant text = meant_with (head_of (lines_of text))
 
--- so many events, and this state at the end
+-- how many events there are, and the state at the end
 abbrev ends_at : ℕ → StateValue → Result (ℕ × StateValue) Halted
 ends_at k s = Ok (k, s)
 

@@ -77,7 +77,7 @@ after_event n events (Some (cpu, event)) s = told_goes n cpu event s >>= λ t. O
 unfoldable pub line_goes : Setting → ℕ → ℕ → List ℕ → StateValue → Result (ℕ × StateValue) Halted
 line_goes u n events text s = event_on u n text >>= λ event. after_event n events event s
 
--- the lines from number n on, with so many bytes and events before them: how many events there are in all, and the state at the end
+-- the lines from number n on, with these numbers of bytes and events before them: how many events there are in all, and the state at the end
 unfoldable pub judged : Setting → ℕ → ℕ → ℕ → List Line → StateValue → Result (ℕ × StateValue) Halted
 judged u n used events [] s = Ok (events, s)
 judged u n used events (l ∷ ls) s = used_after n used l >>= λ more. line_goes u n events l.text s >>= λ made. judged u (n + 1) more made.0 ls made.1

@@ -1,4 +1,4 @@
--- What the lines of a trace tell: which spellings stand for which event. A wrong word is seen first, then the fields are read from left
+-- What the lines of a trace tell: which spellings are read as which event. A wrong word is seen first, then the fields are read from left
 -- to right. So reading an event tells twice what is wrong: outside a wrong word or number of fields, inside what is wrong with its
 -- other fields.
 use Rattle.std.specs.Prelude.{ℕ, Bool, true, false, not, ◌&&◌, nat_lt, if◌then◌else◌, List, [], ◌∷◌, Result, Ok, Err, codes}

@@ -25,7 +25,7 @@ abbrev pub with_told : Option (ℕ × Event) → Told → Told
 with_told None rest = rest
 with_told (Some e) rest = record { events = e ∷ rest.events; used = rest.used }
 
--- what these lines tell, of which the first has number n and comes after so many bytes; or the first line at fault
+-- what these lines tell, of which the first has number n and comes after that number of bytes; or the first line at fault
 unfoldable pub told_by : Setting → ℕ → ℕ → List Line → Result Told Halted
 told_by u n used [] = Ok (record { events = []; used = used })
 told_by u n used (l ∷ ls) = used_after n used l >>= λ more. event_on u n l.text >>= λ e. told_by u (n + 1) more ls >>= λ rest. Ok (with_told e rest)
@@ -95,6 +95,6 @@ MeansWith (Err why) verdict = verdict ≡ Err why
 abbrev pub IsMeant : List ℕ → Result (ℕ × StateValue) Halted → Type 0
 IsMeant text verdict = MeansWith (head_of (lines_of text)) verdict
 
--- the lines behind a head are a run, of so many events and to this state
+-- the lines behind a head are a run, of that number of events and to this state
 abbrev pub IsRunOf : HeadValue → ℕ → StateValue → Type 0
 IsRunOf h count t = AreRun h.setting h.spot.number h.spot.used 0 h.spot.lines (opening h.setting h.words) count t

@@ -174,7 +174,7 @@ left_text heads locked busy =
     if (heads == 0) && (locked == 0) && (busy == 0) then codes "drained" ++ 10 ∷ []
     else codes "left " ++ decimal heads ++ codes " " ++ decimal locked ++ codes " " ++ decimal busy ++ 10 ∷ []
 
--- what is printed of a lawful trace with so many events that ends in this state
+-- what is printed of a lawful trace with that number of events that ends in this state
 abbrev pub lawful_text : ℕ → StateValue → List ℕ
 lawful_text events s =
     codes "lawful " ++ decimal events ++ codes " events\n" ++ texts_below (tallies_of s) 32 ++ texts_below (queue_text s) 32 ++ texts_below (stop_text s) 32

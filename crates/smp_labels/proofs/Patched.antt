@@ -91,11 +91,11 @@ patch_distinct : (key word : ℕ) (entries : List ℕ) → AreDistinct (patch_of
 patch_distinct key word entries = (changes_leave_key key (is_on word) 0 entries key, changes_distinct key (is_on word) 0 entries)
 
 module _ (key word : ℕ) (entries : List ℕ) (t : Table) where
-  -- the key has its new word, and the others stand
+  -- the key has its new word, and the others are as before
   patched_key : (k : ℕ) → (applied (patch_of key word entries) t).key k ≡ put t.key key word k
   patched_key k = place_kept (site_changes key (is_on word) 0 entries) (stored (Key key) word t) (Key k) (changes_leave_key key (is_on word) 0 entries k)
 
-  -- the sites of other keys stand
+  -- the sites of other keys are as before
   patched_other : AreEntriesOf entries t → (i : ℕ) → is_of key (entry_at (t.entry i)) ≡ false → (applied (patch_of key word entries) t).site i ≡ t.site i
   patched_other are i other =
       let loaded : is_of key (entry_at (get_or entries i 0)) ≡ false = elim (cases_lt i MOST_SITES) [

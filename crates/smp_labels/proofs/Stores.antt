@@ -53,7 +53,7 @@ leave_out_front : (p : Place) (front rest : List (Place × ℕ)) → LeaveOut p 
 leave_out_front p [] rest out = tt
 leave_out_front p (change ∷ front) rest out = (out.0, leave_out_front p front rest out.1)
 
--- a place that is left out stands as it was
+-- a place that is left out is as it was
 pub place_kept : (changes : List (Place × ℕ)) (t : Table) (p : Place) → LeaveOut p changes → word_at (applied changes t) p ≡ word_at t p
 place_kept [] t p out = refl
 place_kept (change ∷ rest) t p out = place_kept rest (stored change.0 change.1 t) p out.1 ∙ stored_other change.0 p change.1 t out.0
@@ -67,7 +67,7 @@ pub distinct_front : (front rest : List (Place × ℕ)) → AreDistinct (front +
 distinct_front [] rest distinct = tt
 distinct_front (change ∷ front) rest distinct = (leave_out_front change.0 front rest distinct.0, distinct_front front rest distinct.1)
 
--- where no place is changed twice, each change stands
+-- where no place is changed twice, each change lasts
 pub all_made : (changes : List (Place × ℕ)) (t : Table) → AreDistinct changes → All (λ change. word_at (applied changes t) change.0 ≡ change.1) changes
 all_made [] t distinct k d within = absurd (omega arith)
 all_made (change ∷ rest) t distinct zero d within = place_kept rest (stored change.0 change.1 t) change.0 distinct.0 ∙ stored_same change.0 change.1 t

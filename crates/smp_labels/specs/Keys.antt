@@ -24,7 +24,7 @@ change_word On = 1
 change_word Up = 2
 change_word Down = 3
 
--- the count after a change; none where it stands at that end of its range
+-- the count after a change; none where it is at that end of its range
 abbrev pub count_after : Change → ℕ → Option ℕ
 count_after Off n = Some 0
 count_after On n = Some (if n == 0 then 1 else n)

@@ -58,7 +58,7 @@ pub record AreEntriesOf (entries : List ℕ) (t : Table) : Type 0 where
   pub few : length entries ≤ MOST_SITES
   pub read : (i : ℕ) → i < MOST_SITES → t.entry i ≡ slice_index entries i
 
--- the new table is the lawful one with this key at this count: all other keys, all entries and the sites of other keys stand as before
+-- the new table is the lawful one with this key at this count: all other keys, all entries and the sites of other keys are as before
 pub record SetsKey (key count : ℕ) (old new : Table) : Type 0 where
   pub lawful : IsLawful new
   pub set : new.key key ≡ count

@@ -57,7 +57,7 @@ impl Change {
         self as u64
     }
 
-    /// The count after the change; none where the count stands at that end of its range: `Up` at
+    /// The count after the change; none where the count is at that end of its range: `Up` at
     /// [`MOST_COUNT`], `Down` at 0.
     pub fn count_after(self, count: u64) -> Option<u64>
         ensures { result ≡ count_after self count }

@@ -3,7 +3,7 @@
 ghost use Rattle.std.specs.Prelude.{◌≡◌};
 ghost use Rattle.smp_labels.specs.Kinds.{kind_of, kind_word, kind_at};
 
-/// What stands at a site, as Linux's `enum jump_label_type` (`include/linux/jump_label.h`).
+/// What is at a site, as Linux's `enum jump_label_type` (`include/linux/jump_label.h`).
 #[derive(Clone, Copy, Debug, PartialEq, Eq)]
 pub enum SiteKind {
     /// The code goes on: `JUMP_LABEL_NOP`, 0.

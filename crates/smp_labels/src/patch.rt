@@ -39,7 +39,7 @@ impl Default for Place {
 /// The words that change a key's count, in the order in which they are stored: none where the count
 /// stays; the key's word alone where the key is on or off as before; else the key's word, then the word
 /// of each of its sites, ascending, as `kernel/jump_label.c: jump_label_update`. `BadArgument` where
-/// `key` is not below [`MOST_KEYS`], then `KeyRange` where the count stands at that end of its range.
+/// `key` is not below [`MOST_KEYS`], then `KeyRange` where the count is at that end of its range.
 ///
 /// The words must be lawful. With all stored they are lawful again, and nothing but the key and its
 /// sites has changed; until then only what is stored has changed. So the words of the plan are to be

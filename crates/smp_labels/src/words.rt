@@ -19,11 +19,11 @@ pub const MOST_SITES: usize = 16;
 /// (`include/linux/jump_label.h`) and in the code at the sites.
 #[derive(Clone, Copy, Debug, PartialEq, Eq)]
 pub struct LabelWords {
-    /// Of each key, its count: it is on where that is above 0.
+    /// The count of each key: it is on where that is above 0.
     pub keys: [u64; MOST_KEYS],
-    /// Of each site, [`Entry::word`], and 0 after the last.
+    /// [`Entry::word`] of each site, and 0 after the last.
     pub entries: [u64; MOST_SITES],
-    /// Of each site, [`crate::SiteKind::word`], and 0 where there is no entry.
+    /// [`crate::SiteKind::word`] of each site, and 0 where there is no entry.
     pub sites: [u64; MOST_SITES],
 }
 

@@ -204,7 +204,7 @@ module _ {H F : Type 0} (hears : H → Heard → H → Type 0) (runs : F → Cal
         outside = ap (λ (c : CpuValue). c.inside) is ∙ (ap (λ (c : CpuValue). c.inside) l.is ∙ outside);
       }
 
-  -- it stands at the end of its range
+  -- it is at the end of its range
   pub at_gate_refused : (x : SmpError) (p m new : MachineCpuValue) (h : H) (f : F) → Nudges k up p.stops m.stops (Err x) → m ≡ record p { stops = m.stops }
       → p.stops.inside ≡ None → new ≡ record m { stops = gives_gate m.stops }
       → CountsBy hears runs (LooksFrom [] k up) t k up p h f new h f (Err x)

@@ -13,7 +13,7 @@ use Rattle.smp_multi.specs.Names.{ReadKey, ReadSite}
 use Rattle.smp_stop_steps.specs.Labels.{Agrees}
 use Rattle.smp_machine.specs.ReadLaws.{KindsFollowKeys, is_jump}
 
--- what holds of all of a list holds of one that stands in it
+-- what holds of all of a list holds of one that is in it
 all_at : {X : Type 0} (P : X → Type 0) (before after : List X) (x : X) → AllByRecursion P (before ++ x ∷ after) → P x
 all_at P [] after x all = all.0
 all_at P (y ∷ before) after x all = all_at P before after x all.1

@@ -94,7 +94,7 @@ seated_more m n calls calls' stops stops' passes passes' waiting waiting' x b lo
       ];
     }))))
 
--- what stands at a CPU that is online, once all are seated
+-- what is at a CPU that is online, once all are seated
 seat_is : (m : MachineValue) (n : ℕ) (calls : call.BootValue) (stops : stop.BootValue) (passes : List PassesValue) (waiting : List (Option MachineCpuValue))
     → AreLimits m.calls.nr m.calls.online → cpus ≤ n → AreSeated m n calls stops passes waiting → (cpu : ℕ) → has m.calls.online cpu ≡ true
     → (cpu < length waiting) × (get_or waiting cpu None ≡ Some (fresh_place m cpu))

@@ -72,6 +72,7 @@ fn seat_if<A: Allocator>(
         calls,
         stops,
         passes,
+        source: number,
     };
     Some(Cpu { place })
 }

@@ -17,6 +17,8 @@ pub(crate) struct MachineCpu<A: Allocator> {
     pub(crate) calls: CallCpu,
     pub(crate) stops: StopCpu,
     pub(crate) passes: Passes<A>,
+    /// The source of the work that it has taken last: the CPU to wake once that is completed.
+    pub(crate) source: u32,
 }
 
 impl<A: Allocator> Model for MachineCpu<A> {

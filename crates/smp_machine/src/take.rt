@@ -24,6 +24,7 @@ pub(crate) fn take_next<A: Allocator, R: Wait>(
 {
     let item = machine.queues.take(rt, &mut me.passes)?;
     machine.stalls.answers(me.calls.number());
+    me.source = item.slot;
     match machine.stops.enter(&mut me.stops, item.slot) {
         Ok(_) => Some(item.slot),
         Err(_) => None,

@@ -8,7 +8,7 @@ ghost use Rattle.smp_machine.specs.MachineCpu.{IsAt, HasNotLeft};
 ghost use Rattle.smp_machine.specs.Works.{Works, LooksIfOn, LooksOnceMore, GoesRound, TurnsStop, ReadsAnew};
 
 use crate::cpu::Cpu;
-use crate::hearing::{hear, wake_waiting};
+use crate::hearing::{hear, wake};
 use crate::machine::Machine;
 use crate::machine_cpu::MachineCpu;
 use crate::stalls::note_late;
@@ -77,7 +77,7 @@ pub(crate) fn step<A: Allocator, F: StopFunc>(
     }
     let turn = go_on(&machine.stops, &mut me.stops, run);
     if let Turn::Left = turn {
-        wake_waiting(machine);
+        wake(machine, me.source);
     }
     turn
 }

@@ -42,7 +42,7 @@ pub enum SmpError {
     /// The reader or the writer failed.
     #[error("E12 {0} failed")]
     StreamFailed(Side),
-    /// A key's count stands at that end of its range.
+    /// A key's count is at that end of its range.
     #[error("E13 key {0}")]
     KeyRange(Edge),
 }
@@ -84,7 +84,7 @@ pub enum Side {
     Write,
 }
 
-/// Which end of its range a key's count stands at.
+/// Which end of its range a key's count is at.
 #[derive(Clone, Copy, Debug, PartialEq, Eq, Error)]
 pub enum Edge {
     /// It can't go up.

@@ -9,7 +9,7 @@ use crate::item::Item;
 use crate::mask::{CpuMask, NR_CPUS};
 use std::str::FromStr;
 
-/// Where in a CPU list the reader stands, with the numbers of the item that it is in.
+/// Where in a CPU list the reader is, with the numbers of the item that it is in.
 #[derive(Clone, Copy)]
 enum Place {
     /// Before the first byte.

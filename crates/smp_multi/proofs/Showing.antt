@@ -39,7 +39,7 @@ pending_shown u gate stop word me y z shows e = subst (λ x. IsPending stop (pen
     go (Owns w) s = (s.is_open, s.work_is)
     go (Collects w) s = (s.0.is_open, s.0.work_is)
 
--- the answer of a function stands in no word before it is given
+-- the answer of a function is in no word before it is given
 abbrev pub HasNotGiven : Seat → Type 0
 HasNotGiven (Gives s w a x) = ⊥
 HasNotGiven _ = Unit {0}

@@ -33,7 +33,7 @@ use Rattle.smp_multi.specs.Cells.{place_of, number_in}
 use Rattle.smp_multi.specs.Rule.{Ruled, SeatKnows}
 use Rattle.smp_multi.proofs.Cells.{offset_low}
 
--- nothing stands past the end of a list
+-- nothing is past the end of a list
 past : (xs : List ℕ) (i : ℕ) → length xs ≤ i → get_or xs i 0 ≡ 0
 past [] i l = refl
 past (x ∷ xs) zero l = absurd (omega arith)

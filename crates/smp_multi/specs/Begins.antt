@@ -9,11 +9,11 @@ use Rattle.smp_multi.specs.Names.own
 use Rattle.smp_multi.specs.Cells.{cells}
 use Rattle.smp_multi.specs.Seat.{SeatValue}
 
--- with so many fields of this work stored
+-- with this number of fields of this work stored
 abbrev pub draft_at : ℕ → Work → Source
 draft_at k w = cond (k == 0) Shut (Drafts (told_work k w) k)
 
--- a CPU that holds the gate, and has stored so many fields of this work in its own slot
+-- a CPU that holds the gate, and has stored this number of fields of this work in its own slot
 pub record Begins (table : TableId) (seat : SeatValue) (number : ℕ) (work : Work) (k : ℕ) : Type 0 where
   pub table_is : seat.table ≡ table
   pub sized : table.words ≡ cells

@@ -62,7 +62,7 @@ abbrev pub moved_with : Work → ℕ → List Change → List Moved → List Mov
 moved_with w count [] l = l
 moved_with w count (change ∷ made) l = counted l w.func count (count_set w count)
 
--- it has made so many stores of those that were to be made
+-- it has made this number of the stores that were to be made
 abbrev pub stored_to : ℕ → Seat → Known → Known
 stored_to i (Alters s w count made rest) v = record v {
   seat = Alters s w count (made ++ take i rest) (drop i rest);

@@ -13,7 +13,7 @@
 //! | its `result` | the source, once done is set | the source before the roll; its CPUs, before they count themselves | none | the counts, then done |
 //! | its `todo` | none | the source before the roll | fetch_sub by each of its CPUs, once | the CPU that finds 1 is the last |
 //! | its `done` | the source | the source before the roll; the last CPU to complete | none | the count of completions |
-//! | keys and sites | CPUs with interrupts on; the CPU that patches | the CPU that patches | compare-exchange of a key by an online CPU with interrupts on | the phases |
+//! | keys and sites | CPUs with interrupts on; a CPU that patches | the same CPU | compare-exchange of a key by an online CPU with interrupts on | the phases |
 //! | entries | the runner of a patch | none | none | they stay |
 //!
 //! The source's stores into its slot wait until all CPUs of its last stop have completed. The last CPU to acknowledge a

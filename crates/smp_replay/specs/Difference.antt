@@ -15,7 +15,7 @@ pub record StartsLine (text : List ℕ) (start at : ℕ) : Type 0 where
   pub first : (start ≡ 0) ⊎ (slice_index_or text (start - 1) 0 ≡ 10)
   pub none : (k : ℕ) → start ≤ k → k < at → slice_index_or text k 0 ≢ 10
 
--- Two texts are the same up to a place and differ there: no byte is 256, which stands for the end. It is in this line.
+-- Two texts are the same up to a place and differ there: no byte is 256, which marks the end. It is in this line.
 pub record DiffersFirst (one two : List ℕ) (d : Difference) : Type 0 where
   pub same : take d.at one ≡ take d.at two
   pub differs : slice_index_or one d.at 256 ≢ slice_index_or two d.at 256

@@ -35,7 +35,7 @@ after_answer core position text (Err error) = record { core = core; position = p
 unfoldable pub event_after : Progress → Event → Progress
 event_after p e = if p.stopped then p else after_answer (turn_of p.core e).core p.position p.text (turn_of p.core e).answer
 
--- after so many steps more
+-- after this number of steps more
 unfoldable pub steps_after : Progress → ℕ → ℕ → Progress
 steps_after p cpu zero = p
 steps_after p cpu (suc n) = event_after (steps_after p cpu n) (event.Step cpu)

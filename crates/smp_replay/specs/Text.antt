@@ -29,7 +29,7 @@ value_text acts.Store found put = decimal (unwrap_or put 0)
 value_text acts.Cas found put = cas_text (unwrap_or found 0) put
 value_text _ found put = decimal (unwrap_or found 0)
 
--- a note stands behind a semicolon
+-- a note comes behind a semicolon
 abbrev pub after_step : Option Note → List ℕ
 after_step None = codes ""
 after_step (Some note) = codes " ; " ++ note_text note

@@ -79,7 +79,7 @@ fn write_cas<A: Allocator>(
     }
 }
 
-// Of a store the number put, of all else the number found.
+// The number put, for a store; the number found, for all else.
 fn write_value<A: Allocator>(
     out: &mut String<A>,
     act: Act,
@@ -138,7 +138,7 @@ fn write_note<A: Allocator>(out: &mut String<A>, note: Note) -> Result<(), Alloc
     }
 }
 
-// A note stands behind a semicolon.
+// A note comes behind a semicolon.
 fn write_after<A: Allocator>(out: &mut String<A>, note: Option<Note>) -> Result<(), AllocError>
     ensures { OnOk result (string_bytes out.new ≡ string_bytes out.old ++ after_step note) }
 {

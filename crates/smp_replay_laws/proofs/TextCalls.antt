@@ -78,7 +78,7 @@ module _ (a : CallState) (at : Word → ℕ) (d : DrainValue) (me found : ℕ) w
       record { word = tt; put = tt; note = call_note call (first_call a me call _ k.1.batch all) }
   handle_fits _ l k all = record { word = tt; put = tt; note = tt }
 
-  -- the step of a CPU that stands so
+  -- the step of a CPU at such a place
   pub call_fits : (stage : Stage) → StandsAt a.place at (share_of a me) d me (Some stage)
       → AllByRecursion (IsPlaced a.place (place.Batch me)) (a.batch me) → StepFits (saw stage)
   call_fits (Send to) k all = record { word = let l = k.1 in omega (arith, l); put = tt; note = tt }

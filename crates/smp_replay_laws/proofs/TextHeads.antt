@@ -33,7 +33,7 @@ use Rattle.smp_replay_laws.proofs.TextLines.{event_words, first_line, length_lin
 abbrev pub ended : List ℕ → Line
 ended text = record { text = text; ended = true }
 
--- where lines are, after so many and so many bytes
+-- where lines are, after these numbers of lines and bytes
 abbrev pub spot : ℕ → ℕ → List Line → SpotValue
 spot number used lines = record { number = number; used = used; lines = lines }
 
@@ -87,7 +87,7 @@ not_labels word (a ∷ []) other = refl
 not_labels word (a ∷ b ∷ []) other = other
 not_labels word (a ∷ b ∷ c ∷ cs) other = refl
 
--- so many lines and bytes more are within the limits
+-- these numbers of lines and bytes more are within the limits
 pub record HasRoom (number used : ℕ) (events : List (ℕ × Event)) : Type 0 where
   pub lines : number + length events ≤ 1000001
   pub bytes : used + length (lines_text events) ≤ 16777216

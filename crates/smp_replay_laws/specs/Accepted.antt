@@ -59,7 +59,7 @@ pub record CallsAreAccepted (u : Setting) (words : LabelWords) (steps : List See
   pub shown : Shown (tells_all no_calls steps) core
   pub follows : Follows core.online (tells_all no_calls steps) end
 
--- Of each replay, from a machine in which nothing was begun, the events of calls are accepted.
+-- For each replay, from a machine in which nothing was begun, the events of calls are accepted.
 abbrev pub CallsOfReplaysAreAccepted : Type 0
 CallsOfReplaysAreAccepted = (nr online : ℕ) (labels : Labels) (commands : List Command) (core : CoreValue) (steps : List Seen)
     (stopped : Option (ℕ × SmpError)) (u : Setting) (words : LabelWords) → IsWhole (new_core nr online labels) → AllByRecursion Fits commands

@@ -107,7 +107,7 @@ pub record ReadsBack (text : List ℕ) (u : Setting) (words : LabelWords) (event
   pub told_is : told_by head.setting head.spot.number head.spot.used head.spot.lines ≡ Ok told
   pub events_are : told.events ≡ events
 
--- Of each script, the trace of events whose numbers fit reads back as these events, within the limits of the judge.
+-- For each script, the trace of events whose numbers fit reads back as these events, within the limits of the judge.
 abbrev pub TextsReadBack : Type 0
 TextsReadBack = (text : List ℕ) (script : Script) (events : List (ℕ × Event)) → script_of Replay text ≡ Ok script → AreTold (traced script) events
     → IsWithin (trace_text text script events)

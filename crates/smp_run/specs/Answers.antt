@@ -117,7 +117,7 @@ abbrev pub IsLineAnswer : ℕ → ℕ → Directive → Answer → Type 0
 IsLineAnswer online keys (Do cpu count request) answer = IsAnswer online keys cpu request answer
 IsLineAnswer online keys _ answer = ⊥
 
--- of each of the first n lines that are of such a CPU, its answer stands at the line's place
+-- of each of the first n lines that are of such a CPU, its answer is at the line's place
 abbrev pub AnsweredBelow : ℕ → ℕ → (ℕ → Type 0) → List Directive → List Answer → ℕ → Type 0
 AnsweredBelow online keys Mine lines answers n = (i : ℕ) (l : Directive) (a : Answer) → i < n → Mine (cpu_of (slice_index_or lines i l))
     → IsLineAnswer online keys (slice_index_or lines i l) (slice_index_or answers i a)

@@ -61,6 +61,6 @@ abbrev pub audit_text : Audit → List ℕ
 audit_text (Drained t) = codes "drained\n"
 audit_text (Left left) = codes "left " ++ decimal left.heads ++ codes " " ++ decimal left.locked ++ codes " " ++ decimal left.handling ++ codes "\n"
 
--- what stands after the lines: the tallies where the audit is Drained, the keys, the sites, and how the audit ended
+-- what comes after the lines: the tallies where the audit is Drained, the keys, the sites, and how the audit ended
 abbrev pub ending_text : ℕ → List Bool → List SiteKind → Audit → List ℕ
 ending_text online keys sites ending = tallies_text online ending ++ (numbered key_text 0 keys ++ (numbered site_text 0 sites ++ audit_text ending))

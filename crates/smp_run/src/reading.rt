@@ -11,7 +11,7 @@ use smp_machine::laws::interrupts_are_on;
 use smp_machine::{Cpu, Machine};
 use std::alloc::{AllocError, Global};
 
-/// Which keys are on, and what stands at each site.
+/// Which keys are on, and what is at each site.
 #[derive(Drop)]
 pub(crate) struct LabelReadings {
     pub(crate) keys: Vec<bool, Global>,
@@ -31,7 +31,7 @@ fn read_key(machine: &Machine<Global>, me: &mut Cpu<Global>, k: u32) -> bool
     }
 }
 
-/// What stands at a site.
+/// What is at a site.
 fn read_site(machine: &Machine<Global>, me: &mut Cpu<Global>, i: u32) -> SiteKind
     requires seated { IsSeated machine.now me.old }
     requires site { i < sites_at machine.now }

@@ -186,7 +186,7 @@ fn write_audit<A: Allocator>(out: &mut String<A>, audit: &Audit) -> Result<(), A
     }
 }
 
-/// What stands after the lines: the tallies where the audit is Drained, the keys, the sites, and how it ended.
+/// What comes after the lines: the tallies where the audit is Drained, the keys, the sites, and how it ended.
 pub(crate) fn write_ending<A: Allocator>(
     out: &mut String<A>,
     online: CpuMask,

@@ -1,4 +1,4 @@
--- What a line asks for, and which spellings stand for which command of a replay. A wrong word is seen first, then the
+-- What a line asks for, and which spellings are read as which command of a replay. A wrong word is seen first, then the
 -- fields are read from left to right.
 use Rattle.std.specs.Prelude.{ℕ, ℤ, Bool, not, ◌==◌, if◌then◌else◌, List, [], ◌∷◌, length, codes, Result, Ok, Err}
 use Rattle.std.specs.List.{list_all}
@@ -125,7 +125,7 @@ command_of limit cpu name arguments =
     if bytes_eq name (codes "post") then posts_of cpu arguments
     else (if bytes_eq name (codes "begin") then begins_of limit cpu arguments else start_short cpu name arguments)
 
--- what stands after `start`
+-- what comes after `start`
 abbrev pub start_of : ℕ → List (List ℕ) → Result Directive Cause
 start_of limit (cpu ∷ name ∷ arguments) = command_of limit cpu name arguments
 start_of limit _ = Err Word
@@ -137,12 +137,12 @@ step_of cpu count = do
   n ← number_in 1 10000 count
   Ok (Step c n)
 
--- what stands after `step`
+-- what comes after `step`
 abbrev pub steps_of : List (List ℕ) → Result Directive Cause
 steps_of (cpu ∷ count ∷ []) = step_of cpu count
 steps_of _ = Err Word
 
--- nothing stands after `show`
+-- nothing comes after `show`
 abbrev pub show_of : List (List ℕ) → Result Directive Cause
 show_of [] = Ok Show
 show_of _ = Err Word

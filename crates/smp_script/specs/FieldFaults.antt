@@ -61,7 +61,7 @@ SignedFault field Number = is_signed field ≡ false
 SignedFault field Range = (is_signed field ≡ true) × (is_far field ≡ true)
 SignedFault field _ = ⊥
 
--- what is wrong with a field that has to be the items of a labels line, of so many keys
+-- what is wrong with a field that has to be the items of a labels line, of this number of keys
 abbrev pub ItemsFault : ℕ → List ℕ → Cause → Type 0
 ItemsFault keys field Number = list_all has_number (items_of field) ≡ false
 ItemsFault keys field Range = (list_all has_number (items_of field) ≡ true)

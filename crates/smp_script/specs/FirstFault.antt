@@ -14,7 +14,7 @@ use Rattle.smp_script.specs.Lines.{Line, fields_of, lines_of}
 use Rattle.smp_script.specs.Shapes.{Form, is_one_of, shape_of}
 use Rattle.smp_script.specs.Versions.{limit_of, version_text}
 
--- what is wrong with line n, where the lines up to it make so many events, and where it shares a key or not, by rank: its place
+-- what is wrong with line n, where the lines up to it make this number of events, and where it shares a key or not, by rank: its place
 -- in the order of a line's faults
 pub data LineFault (s : Setting) (n events : ℕ) (shared : Type 0) (line : Line) : ℕ → Cause → Type 0 where
   past_lines : 2000 < n → LineFault s n events shared line 0 TooLong
@@ -25,7 +25,7 @@ pub data LineFault (s : Setting) (n events : ℕ) (shared : Type 0) (line : Line
   shared_key : shared → LineFault s n events shared line (3 + length (fields_of line.text)) SharedKey
   past_events : 100000 < events → LineFault s n events shared line (4 + length (fields_of line.text)) TooLong
 
--- how many events a line makes: `start` one, `step CPU N` so many
+-- how many events a line makes: `start` one, `step CPU N` as many as its number
 abbrev pub events_in : List (List ℕ) → ℕ
 events_in (name ∷ cpu ∷ third ∷ rest) = if bytes_eq name (codes "step") then value_of third else (if bytes_eq name (codes "start") then 1 else 0)
 events_in _ = 0

@@ -62,7 +62,7 @@ entry_of text = entry_in (item_of text)
 abbrev pub items_of : List ℕ → List (List ℕ)
 items_of text = if bytes_eq text (codes "-") then [] else parts_of 44 text
 
--- the labels of so many keys and these items, of which each is one
+-- the labels of this number of keys and these items, of which each is one
 abbrev pub entries_in : ℕ → List (List ℕ) → Result Labels Cause
 entries_in keys items =
     if list_all has_number items then

@@ -14,7 +14,7 @@ abbrev pub value_after : ℕ → List ℕ → ℕ
 value_after n [] = n
 value_after n (b ∷ bs) = value_after (n * 10 + (b - 48)) bs
 
--- some digits, the first of which is not 0 unless it stands alone
+-- some digits, the first of which is not 0 unless it is alone
 abbrev pub is_decimal : List ℕ → Bool
 is_decimal [] = false
 is_decimal (b ∷ bs) = list_all is_digit (b ∷ bs) && (not (b == 48) || (length bs == 0))
@@ -30,7 +30,7 @@ abbrev pub minus : ℕ → Result ℤ Cause
 minus zero = Err Number
 minus (suc n) = Ok (negsuc n)
 
--- what stands after a minus sign
+-- what comes after a minus sign
 abbrev pub negative_of : List ℕ → Result ℤ Cause
 negative_of digits = number_in 0 2147483648 digits >>= minus
 

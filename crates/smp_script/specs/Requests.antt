@@ -1,4 +1,4 @@
--- What a `do` line asks for: which spellings stand for which call. A wrong word is seen first, then the fields are read
+-- What a `do` line asks for: which spellings are read as which call. A wrong word is seen first, then the fields are read
 -- from left to right. So reading an operation tells twice what is wrong: outside a wrong word or number of fields, inside
 -- what is wrong with its other fields.
 use Rattle.std.specs.Prelude.{ℕ, Bool, true, false, if◌then◌else◌, List, [], ◌∷◌, Option, Some, None, Result, Ok, Err, codes}
@@ -148,7 +148,7 @@ repeated online cpu count read = do
   asked ← read
   Ok (Do c n asked)
 
--- what stands after `do`
+-- what comes after `do`
 abbrev pub do_of : ℕ → ℕ → List (List ℕ) → Result Directive Cause
 do_of limit online (cpu ∷ count ∷ name ∷ arguments) = operation_of limit name arguments >>= repeated online cpu count
 do_of limit online _ = Err Word

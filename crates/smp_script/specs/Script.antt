@@ -35,7 +35,7 @@ events_of (Step cpu count) = count
 events_of Show = 0
 events_of (Do cpu count request) = 0
 
--- what the lines from number n on ask for, after so many events, and after these earlier lines
+-- what the lines from number n on ask for, after this number of events, and after these earlier lines
 unfoldable pub directives_of : Setting → ℕ → ℕ → List Directive → List Line → Result (List Directive) Fault
 directives_of s n events earlier [] = Ok []
 directives_of s n events earlier (l ∷ ls) =
@@ -46,7 +46,7 @@ directives_of s n events earlier (l ∷ ls) =
     else (directives_of s (n + 1) (events + events_of d) (earlier ++ d ∷ []) ls >>= λ ds. Ok (d ∷ ds))))
     else Err (n, Cut))
 
--- the line that has to stand at the front, as number n
+-- the line that has to come first, as number n
 abbrev pub line_at : ℕ → List Line → Result (List ℕ × List Line) Fault
 line_at n [] = Err (n, Cut)
 line_at n (l ∷ ls) = if l.ended then Ok (l.text, ls) else Err (n, Cut)

@@ -25,7 +25,7 @@ pub data Form : Type 0 where
   member : ℕ → Form
   items : Form
 
--- a number of so many bits
+-- a number of this number of bits
 abbrev pub bits : ℕ → Form
 bits n = number 0 (2 ^ n - 1)
 
@@ -124,7 +124,7 @@ func_info = bits 16 ∷ bits 64 ∷ []
 abbrev pub func_arg : List Form
 func_arg = bits 16 ∷ number 0 2147483647 ∷ []
 
--- the operations: each name, and what stands behind it, where CPUs have to be below the limit
+-- the operations: each name, and what comes behind it, where CPUs have to be below the limit
 abbrev pub operations : ℕ → List (List ℕ × List Form)
 operations limit =
     (codes "sync", bits 32 ∷ func_info)
@@ -141,7 +141,7 @@ operations limit =
     ∷ (codes "dec", bits 32 ∷ [])
     ∷ []
 
--- `do CPU N NAME` and what stands behind it, where the CPU has to be one of those online
+-- `do CPU N NAME` and what comes behind it, where the CPU has to be one of those online
 abbrev pub operation : ℕ → List ℕ × List Form → List Form
 operation cpus op = word (codes "do") ∷ member cpus ∷ number 1 10000 ∷ word op.0 ∷ op.1
 

@@ -90,7 +90,7 @@ abbrev pub active_text : List ℕ → Option ℕ → List ℕ
 active_text text None = codes "none"
 active_text text (Some mask) = text
 
--- an operation's name and what stands behind it, with these texts for its masks
+-- an operation's name and what comes behind it, with these texts for its masks
 abbrev pub request_words : Masks → Request → List (List ℕ)
 request_words masks (request.Single wait dst func info) =
     (if wait then codes "sync" else codes "async") ∷ decimal dst ∷ decimal func ∷ decimal info ∷ []

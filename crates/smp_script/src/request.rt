@@ -11,7 +11,7 @@ pub enum Which {
     Odd,
 }
 
-/// A call that a CPU makes. What it waits for stands first, the function and what it is given last.
+/// A call that a CPU makes. What it waits for comes first, the function and what it is given last.
 #[derive(Clone, Copy, Debug, PartialEq, Eq)]
 pub enum Request {
     /// `sync` or `async`: a function on that CPU, with wait or without.

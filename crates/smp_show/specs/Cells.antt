@@ -1,4 +1,4 @@
--- What stands in the table of a replay, with one column for each CPU.
+-- What is in the table of a replay, with one column for each CPU.
 use Rattle.std.specs.Prelude.{ℕ, ◌-◌, Bool, true, false, ◌||◌, ◌==◌, if◌then◌else◌, List, [], ◌∷◌, ◌++◌, length, replicate, Option, Some, None, codes}
 use Rattle.std.specs.Fmt.{decimal}
 use Rattle.std.specs.List.{flat_map, list_any}
@@ -52,7 +52,7 @@ step_cell seen = step_text seen ++ meaning_of seen.note
 abbrev pub refused_text : SmpError → List ℕ
 refused_text error = codes "refused: E" ++ decimal (error_number error) ++ codes ", " ++ error_text error
 
--- what stands in the column of its CPU
+-- what is in the column of its CPU
 abbrev pub cell_of : What → List ℕ
 cell_of Began = codes "starts"
 cell_of (Stepped seen) = step_cell seen

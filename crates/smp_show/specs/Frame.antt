@@ -1,4 +1,4 @@
--- Where things stand in a row of a picture, in pixels.
+-- Where things are in a row of a picture, in pixels.
 use Rattle.std.specs.Prelude.{ℕ, ◌+◌, ◌*◌, ◌==◌, ◌≤◌, Bool, true, false, if◌then◌else◌, min, nat_lt, List, [], ◌∷◌, ◌-◌, length, Option, Some, None}
 use Rattle.std.specs.List.{list_any, slice_get}
 use Rattle.smp_show.specs.declared.frame.Lane.{Lane}

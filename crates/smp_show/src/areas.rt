@@ -35,7 +35,7 @@ fn span(frame: &Frame<'_>, cpu: u32, first: u32, last: u32, below: u64, height: 
     }
 }
 
-// What stands behind the first two fields of a line.
+// What comes behind the first two fields of a line.
 fn behind_two(line: &[u8]) -> &[u8] {
     match split_part(line, b' ') {
         Some((_, rest)) => match split_part(rest, b' ') {

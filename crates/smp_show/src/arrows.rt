@@ -9,7 +9,7 @@ use crate::spans::Arrow;
 use crate::trace::Row;
 use std::alloc::{AllocError, Allocator};
 
-/// How far below its lane's upper edge a dot stands.
+/// How far below its lane's upper edge a dot is.
 const DOT: u64 = 32;
 
 /// The middle of an event's column, at the height of its lane's dots.

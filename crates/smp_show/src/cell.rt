@@ -1,4 +1,4 @@
-//! What stands in the column of a CPU.
+//! What is in the column of a CPU.
 
 ghost use Rattle.std.specs.Prelude.{◌≡◌, ◌++◌, IfOk, OnOk, string_bytes};
 ghost use Rattle.smp_show.specs.Cells.{cell_of, error_text, meaning_of, refused_text, step_cell};
@@ -10,7 +10,7 @@ use smp_replay::text::write_step;
 use smp_script::errors::number_of;
 use std::alloc::{AllocError, Allocator};
 
-/// What an error means, where it refuses an event or stands in a note.
+/// What an error means, where it refuses an event or is part of a note.
 pub fn error_text(error: SmpError) -> &'static str
     ensures { result.now ≡ error_text error }
 {
@@ -62,7 +62,7 @@ fn write_refused<A: Allocator>(out: &mut String<A>, error: SmpError) -> Result<(
     write!(out, "refused: E{number}, {meaning}")
 }
 
-// What stands in the column of its CPU.
+// What is in the column of its CPU.
 fn write_cell<A: Allocator>(out: &mut String<A>, what: What) -> Result<(), AllocError>
     ensures { OnOk result (string_bytes out.new ≡ string_bytes out.old ++ cell_of what) }
 {
@@ -74,7 +74,7 @@ fn write_cell<A: Allocator>(out: &mut String<A>, what: What) -> Result<(), Alloc
     }
 }
 
-/// What stands in the column of its CPU.
+/// What is in the column of its CPU.
 pub fn cell<A: Allocator>(alloc: A, what: What) -> Result<String<A>, AllocError>
     ensures { IfOk result (λ text. string_bytes text ≡ cell_of what) }
 {

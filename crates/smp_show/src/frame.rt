@@ -1,4 +1,4 @@
-//! Where things stand in a row of a picture: columns of events, lanes of CPUs.
+//! Where things are in a row of a picture: columns of events, lanes of CPUs.
 
 ghost use Rattle.std.specs.Prelude.{◌≡◌, ◌≤◌, ◌<◌, ◌^◌, ◌+◌, ◌*◌, IfOk};
 ghost use Rattle.smp_show.specs.Frame.{bottom_of, column_of, is_busy, is_event_of, lane_height, lanes_from, left_of};

@@ -68,7 +68,7 @@ fn script_line<'a>(lines: &[&'a [u8]], line: usize) -> &'a str {
     }
 }
 
-// What stands in the column of that CPU: nothing where the row is of another.
+// What is in the column of that CPU: nothing where the row is of another.
 fn cell_at<'a>(row: &Row, text: &'a str, cpu: u32) -> &'a str
     ensures { result.now ≡ cell_at row.now.cpu text.now cpu }
 {

@@ -7,7 +7,7 @@
 //! - `moments`, `trace`: What a script asks for, moment by moment, and what is seen of it.
 //! - `lanes`, `slim`, `cell`, `pad`: A replay with one column for each CPU, or one mark.
 //! - `picture`, `areas`, `arrows`, `legend`, `element`: A replay as a picture.
-//! - `frame`, `spans`, `link`, `quiet`, `mark`: Where things stand in it, what is drawn from one event to another, what opens
+//! - `frame`, `spans`, `link`, `quiet`, `mark`: Where things are in it, what is drawn from one event to another, what opens
 //!   and closes that, what is drawn small, and the names of styles.
 //! - `text_kind`: The kinds of texts.
 //! - `forms`, `shapes`, `fits`, `fault`: The first fault of a script, and the field of a replay that it lies in.

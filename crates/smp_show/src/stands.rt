@@ -1,4 +1,4 @@
-//! What stands in a line or a field, with bytes that can't be printed by their names.
+//! What is in a line or a field, with bytes that can't be printed by their names.
 
 use std::alloc::{AllocError, Allocator};
 
@@ -38,7 +38,7 @@ fn hint(field: &[u8]) -> &'static str {
     }
 }
 
-/// What stands in the field at this place: its bytes, that it is empty, or that the line ends before it.
+/// What is in the field at this place: its bytes, that it is empty, or that the line ends before it.
 pub fn write_stands<A: Allocator>(
     out: &mut String<A>,
     fields: &[&[u8]],

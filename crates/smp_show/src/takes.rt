@@ -49,7 +49,7 @@ const U32: Takes<'static> = Takes::Number(0, u32::MAX as u64);
 
 const U64: Takes<'static> = Takes::Number(0, u64::MAX);
 
-/// Whether a field of a template is a word as it stands there.
+/// Whether a field of a template is a word as it is written.
 fn is_literal(field: &str) -> bool {
     match field {
         "NOP" | "JMP" | ".." => true,
@@ -163,7 +163,7 @@ pub fn is_refused(place: &Place, takes: Takes<'_>, field: &[u8]) -> bool {
     }
 }
 
-// What a field may be, where it has no numbers in it; of a list of CPUs what stands before their limit.
+// What a field may be, where it has no numbers in it; for a list of CPUs, what comes before their limit.
 fn text_of<'a>(takes: Takes<'a>) -> &'a str {
     match takes {
         Takes::Word("..") => "the next of them, or the end of the line",

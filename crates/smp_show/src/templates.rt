@@ -1,9 +1,9 @@
-//! The lines that each kind of text may have: words as they stand there, and names of fields in capitals.
+//! The lines that each kind of text may have: words as they are written, and names of fields in capitals.
 
 use crate::text_kind::TextKind;
 use std::alloc::{AllocError, Allocator};
 
-/// What a CPU may begin, as it stands behind `start CPU` in a replay and behind `cpu C` in an exploration.
+/// What a CPU may begin, as it comes behind `start CPU` in a replay and behind `cpu C` in an exploration.
 const COMMANDS: [&str; 16] = [
     "post K DST CLASS FUNC INFO TRIES",
     "send DST",

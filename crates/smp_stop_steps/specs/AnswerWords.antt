@@ -65,7 +65,7 @@ abbrev pub VisitFits : Option Visit → Type 0
 VisitFits None = Unit {0}
 VisitFits (Some v) = IsI32Word v.answer
 
--- so are those that a CPU has where it stands
+-- so are those that a CPU has where it is
 pub record HasI32Answers (c : StopControlValue) : Type 0 where
   pub visit : VisitFits c.visit
   pub stage : StageFits c.stage

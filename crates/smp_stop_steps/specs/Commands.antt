@@ -1,4 +1,4 @@
--- What a command's steps take from the command, where its note stands, and when interrupts go off.
+-- What a command's steps take from the command, where its note is, and when interrupts go off.
 use Rattle.std.specs.Prelude.{◌≡◌, ◌≢◌, ◌⊎◌, ℕ, ◌+◌, ◌++◌, Bool, true, false, [], ◌∷◌, Option, Some, None}
 use Rattle.smp_words.specs.Access.{word_of}
 use Rattle.smp_words.specs.Kinds.{kind_word}

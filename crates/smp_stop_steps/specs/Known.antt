@@ -77,12 +77,12 @@ columns_of p c = record {
   patched = p.patched c;
 }
 
--- the list has the first n values of f, and d stands for what is past its end
+-- the list has the first n values of f, and d is what is past its end
 pub record AreFirst {A : Type 0} (n : ℕ) (f : ℕ → A) (d : A) (list : List A) : Type 0 where
   pub sized : length list ≡ n
   pub each : (i : ℕ) → i < n → f i ≡ slice_index_or list i d
 
--- a CPU's part is these columns; the calls of stop functions are told at no step, and stand alone
+-- a CPU's part is these columns; the calls of stop functions are told at no step, and are apart
 pub record IsPart (c : Columns) (part : Part) : Type 0 where
   pub holds : c.holds ≡ part.holds
   pub begun : c.begun ≡ part.begun

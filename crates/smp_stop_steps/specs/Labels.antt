@@ -27,7 +27,7 @@ pub data Patching : Type 0 where
 abbrev pub count_set : Work → ℕ → ℕ
 count_set work count = count_left (change_of work.arg) count
 
--- what it answers: 1 where that count stands at the end of its range, so that nothing changes, else 0
+-- what it answers: 1 where that count is at the end of its range, so that nothing changes, else 0
 abbrev pub answer_for : Option ℕ → ℕ
 answer_for None = 1
 answer_for (Some new) = 0
@@ -42,7 +42,7 @@ state_left On = Some true
 state_left Up = Some true
 state_left Down = None
 
--- a key of this word stands as the patch of this work has left it
+-- a key of this word is as the patch of this work has left it
 abbrev pub StandsSet : Work → ℕ → Type 0
 StandsSet work word = IfSome (state_left (change_of work.arg)) (λ on. is_on word ≡ on)
 

@@ -30,7 +30,7 @@ pub record PresentShows (u : Setup) (n : Present) (at : Word → ℕ) (seat : �
   pub labels : LabelsShow n.patching (labels_in at)
   pub read : (c : ℕ) → u.online c ≡ true → n.irq c ≡ true → AllByRecursion (Agrees (labels_in at)) (n.readings c)
 
--- from the runner's acknowledgement of RUN until the source has left its own patch, the key stands as it was set
+-- from the runner's acknowledgement of RUN until the source has left its own patch, the key is as it was set
 abbrev pub OwnsKey : ℕ → Present → (ℕ → ℕ) → ℕ → Type 0
 OwnsKey first n key s =
     (n.stop s).is_open ≡ true → (n.stop s).work.kind ≡ Patch → is_inside ((n.stop s).standing s) ≡ true → RUN ≤ acked ((n.stop s).standing first) →

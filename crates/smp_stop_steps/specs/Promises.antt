@@ -70,7 +70,7 @@ IsPatchedAlone u p = (c : ℕ) (work : Work) (count : ℕ) (made rest : List Cha
 abbrev pub PatchesAlone : Type 0
 PatchesAlone = (u : Setup) (p : StopState) (at : Word → ℕ) (seat : ℕ → Seat) (source : ℕ → Source) → StopShows u p at seat source → IsPatchedAlone u p
 
--- a law of each CPU, by where it stands
+-- a law of each CPU, by where it is
 abbrev pub OfEachCpu : (Setup → StopState → (Word → ℕ) → StopControlValue → ℕ → Type 0) → Type 0
 OfEachCpu law = (u : Setup) (p : StopState) (at : Word → ℕ) (seat : ℕ → Seat) (source : ℕ → Source) → StopShows u p at seat source →
     (c : StopControlValue) (me : ℕ) → Sits u me (at Gate) c (seat me) (source me) → law u p at c me
@@ -96,7 +96,7 @@ pub record Nudges (u : Setup) (p : StopState) (me expected new : ℕ) : Type 0 w
 abbrev pub NudgesStand : Type 0
 NudgesStand = OfEachCpu (λ u p at c me. (k expected new : ℕ) → c.stage ≡ Some (ExchangeKey k expected new) → Nudges u p me expected new)
 
--- a nudge that is refused at the end of the range: the count stands there, and the load has read the key
+-- a nudge that is refused at the end of the range: the count is there, and the load has read the key
 pub record StandsAtEdge (old new : StopState) (at : Word → ℕ) (me k : ℕ) (up : Bool) : Type 0 where
   pub edge : at (Key k) ≡ (if up then 65535 else 0)
   pub read : new.now.readings me ≡ old.now.readings me ++ ReadKey k up ∷ []

@@ -1,4 +1,4 @@
--- Which seat and which source a CPU's stage stands for.
+-- Which seat and which source a CPU's stage means.
 use Rattle.std.specs.Prelude.{◌≡◌, ◌≢◌, ◌⊎◌, ℕ, ◌+◌, ◌<◌, ◌≤◌, Bool, true, false, Option, Some, None, List, [], ◌∷◌, ◌++◌, length, take}
 use Rattle.smp_stop_steps.specs.Names.{has, is_on, change_of, IsKeyWord, patch_of, site_changes, MOST_SITES, CompletionStage, RoundStage, StopStage, OpenGate}
 use Rattle.smp_stop_steps.specs.Names.{Begin, Enter, EnterKind, EnterMask, EnterActive, Advance, Complete, Close, LoadDone, LoadResult, NudgeKey, ExchangeKey}

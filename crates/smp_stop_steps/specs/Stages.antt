@@ -78,7 +78,7 @@ stop_access n me changes (ReadSite i) = Load (Site i)
 stop_access n me changes (NudgeKey k up) = Load (Key k)
 stop_access n me changes (ExchangeKey k expected new) = Exchange (Key k) expected new
 
--- where a CPU stands in the stop half: its stage, none outside such a command; the stop that it is in; the changes of
+-- where a CPU is in the stop half: its stage, none outside such a command; the stop that it is in; the changes of
 -- its patch; whether its interrupts are on, and whether its own stop is open
 pub record StopControlValue : Type 0 where
   pub stage : Option StopStage
@@ -91,7 +91,7 @@ pub record StopControlValue : Type 0 where
 abbrev pub stop_outside : StopControlValue
 stop_outside = record { stage = None; visit = None; changes = []; interrupts = true; is_open = false }
 
--- where it stands after a step, and the note of that step
+-- where it is after a step, and the note of that step
 pub record StopOutcome : Type 0 where
   pub control : StopControlValue
   pub note : Option Note

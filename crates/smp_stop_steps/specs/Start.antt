@@ -77,7 +77,7 @@ abbrev pub may_finish : Option Visit → Bool
 may_finish None = false
 may_finish (Some v) = v.acked == EXIT
 
--- the refusals of a CPU that stands so; none for a command of the other half but a handle with interrupts off
+-- the refusals of a CPU at such a place; none for a command of the other half but a handle with interrupts off
 abbrev pub refusal_on : Terms → StopControlValue → Command → Option SmpError
 refusal_on t c command.Handle = unless c.interrupts error.BadArgument
 refusal_on t c command.Ungate = unless t.holds_gate error.BadArgument

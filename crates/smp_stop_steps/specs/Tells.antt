@@ -89,7 +89,7 @@ acknowledges_now n me s p found =
     let acked = record n { stop = put n.stop s (acknowledged (n.stop s) me p found); patching = cond (p == RUN) (unpatched me n.patching) n.patching } in
     cond (p == EXIT && not (found == 1)) (leaves acked me s (n.stop s).work) acked
 
--- a CPU that stands so may call the function of this work: of a stop of kind One, or of its Multi stop at RUN
+-- a CPU at such a place may call the function of this work: of a stop of kind One, or of its Multi stop at RUN
 abbrev pub may_call : ℕ → Work → Standing → Bool
 may_call me w (Inside a l) = is_one w.kind || ((a == DISABLE_IRQ && l == RUN) && calls_at_run me w)
 may_call me w _ = false

@@ -18,7 +18,7 @@ unfoldable pub first_below : ℕ → ℕ → ℕ
 first_below mask zero = zero
 first_below mask (suc k) = let first = first_below mask k in if first == k then (if has mask k then k else suc k) else first
 
--- how many CPUs there are and those online, the labels, the words, and where each CPU stands
+-- how many CPUs there are and those online, the labels, the words, and where each CPU is
 pub record StopsValue : Type 0 where
   pub nr : ℕ
   pub online : ℕ
@@ -35,7 +35,7 @@ setup_of online labels = record {
   entries = map entry_word labels.entries;
 }
 
--- where a CPU stands; outside where there is no such CPU
+-- where a CPU is; outside where there is no such CPU
 abbrev pub stop_control_of : List StopControlValue → ℕ → StopControlValue
 stop_control_of controls cpu = slice_index_or controls cpu stop_outside
 

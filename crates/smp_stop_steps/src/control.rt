@@ -1,4 +1,4 @@
-//! Where a CPU stands in the stop half: which step it makes next, and what it knows of the stop that it is in.
+//! Where a CPU is in the stop half: which step it makes next, and what it knows of the stop that it is in.
 
 ghost use Rattle.std.specs.Prelude.{◌≡◌, ◌↔◌, ◌<◌, ℕ, true, Some, None, length};
 ghost use Rattle.smp_labels.specs.Keys.{count_after};
@@ -19,7 +19,7 @@ use smp_words::seen::Note;
 use smp_words::work::{Kind, Work};
 use std::marker::Model;
 
-/// Where a CPU stands in the stop half.
+/// Where a CPU is in the stop half.
 #[derive(Drop)]
 pub struct StopControl {
     /// None outside a command of the stop half.

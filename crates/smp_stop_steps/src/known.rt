@@ -130,7 +130,7 @@ pub struct Part {
     /// The works that it has begun, and the results that it has collected.
     pub begun: LinkedList<Work>,
     pub collected: LinkedList<u64>,
-    /// Of each source, what it has answered to its stops.
+    /// For each source, what it has answered to its stops.
     pub answers: LinkedList<LinkedList<u64>>,
     /// The phases that it has looked at.
     pub looks: LinkedList<u64>,

@@ -89,7 +89,7 @@ pub fn notes_fit()
 
 ghost use Rattle.smp_stop_steps.specs.AnswerWords.{AnswersAreI32s, AnswersAreTaken};
 
-/// Where each result word, and each answer that a CPU has where it stands, is the word of an `i32`, each step keeps that.
+/// Where each result word, and each answer that a CPU has where it is, is the word of an `i32`, each step keeps that.
 /// What the function of a command is to answer stays what the command says, until it is called, and `run F A` tells that
 /// answer. `result V` is the `i32` of the whole word that is collected: nothing of an answer is cut, and none spills.
 pub fn answers_are_i32s()
@@ -181,7 +181,7 @@ pub fn edges_are_read()
 {}
 
 /// A patch acknowledges when it has made all stores that lead from the count that it found. Its answer is 1 where that
-/// count stands at the end of its range, where it stores nothing, else 0.
+/// count is at the end of its range, where it stores nothing, else 0.
 pub fn patches_answer()
     ensures { PatchesAnswer }
 {}

@@ -7,13 +7,13 @@
 //!
 //! - `mask`: Masks as the words of a slot have them: bit c for CPU c.
 //! - `phase`: The phases of a stop of several CPUs.
-//! - `stage`: Where a CPU stands inside a command of the stop half.
+//! - `stage`: Where a CPU is inside a command of the stop half.
 //! - `accesses`: What a CPU does to which word, at each stage of the stop half.
-//! - `control`: Where a CPU stands in the stop half: which step it makes next, and what it knows of the stop that
+//! - `control`: Where a CPU is in the stop half: which step it makes next, and what it knows of the stop that
 //!   it is in; `control::turn`: its turn in a stop.
 //! - `start`: When a command of the stop half may start, and where it begins.
 //! - `table`: The words of a stop table, and what an access does to them.
-//! - `machine`: The stop half of a pure machine: its words, and where each CPU stands, one atomic step at a time.
+//! - `machine`: The stop half of a pure machine: its words, and where each CPU is, one atomic step at a time.
 //! - `control::kept`, `table::kept`, `machine::kept`: The same kept in little, for a search that keeps many states.
 //! - `known`: Where a CPU is with the stops, and what it knows of them.
 //! - `laws`: The laws of the stop half, each as a function that does nothing and whose contract is the law.

@@ -1,4 +1,4 @@
-//! The stop half of a pure machine: its words, and where each CPU stands, one atomic step at a time.
+//! The stop half of a pure machine: its words, and where each CPU is, one atomic step at a time.
 
 ghost use Rattle.std.specs.Prelude.{◌≡◌, ◌↔◌, ◌≤◌, true, MatchOption};
 
@@ -140,7 +140,7 @@ impl<A: Allocator> Stops<A> {
         })
     }
 
-    /// Whether the two are the same: the words, and where each CPU stands.
+    /// Whether the two are the same: the words, and where each CPU is.
     pub fn is_same(&self, other: &Self) -> bool
         ensures { result ≡ true ↔ self.now ≡ other.now }
     {
@@ -150,7 +150,7 @@ impl<A: Allocator> Stops<A> {
             && are_same(&self.controls, &other.controls)
     }
 
-    /// Where this CPU stands; none outside a command of the stop half, or where there is no such CPU.
+    /// Where this CPU is; none outside a command of the stop half, or where there is no such CPU.
     pub fn stage(&self, cpu: u32) -> Option<StopStage>
         ensures { result ≡ (stop_control_of self.now.controls cpu).stage }
     {
@@ -164,7 +164,7 @@ impl<A: Allocator> Stops<A> {
     ghost use Rattle.smp_stop_steps.specs.Start.{terms_of, stop_refusal, stop_started};
     ghost use Rattle.smp_stop_steps.specs.Table.{stop_number_of};
 
-    /// What a refusal depends on beside where the CPU stands.
+    /// What a refusal depends on beside where the CPU is.
     fn terms(&self, cpu: u32) -> Terms
         ensures { result ≡ terms_of self.now cpu }
     {

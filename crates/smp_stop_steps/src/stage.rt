@@ -1,4 +1,4 @@
-//! Where a CPU stands inside a command of the stop half.
+//! Where a CPU is inside a command of the stop half.
 
 ghost use Rattle.std.specs.Prelude.{◌≡◌, ◌≤◌, ◌↔◌, true};
 ghost use Rattle.smp_stop_steps.specs.Kept.{own_visit};

@@ -17,7 +17,7 @@ use smp_words::field::Field;
 use smp_words::size::{FIRST_TARGETS, NR_CPUS};
 use smp_words::work::{Kind, Work};
 
-/// What a refusal depends on beside where the CPU stands: the CPUs online, how many keys and sites there are, and
+/// What a refusal depends on beside where the CPU is: the CPUs online, how many keys and sites there are, and
 /// whether the CPU holds the gate.
 #[derive(Clone, Copy)]
 pub struct Terms {
@@ -81,7 +81,7 @@ impl Terms {
         unless(mask & mask_word(self.online) == mask, SmpError::NoStopper)
     }
 
-    /// The own refusal of a command of the stop half by a CPU that stands so, and of a handle while interrupts are
+    /// The own refusal of a command of the stop half by a CPU at such a place, and of a handle while interrupts are
     /// off; none where it may start, and for another command.
     pub fn refusal(self, control: &StopControl, command: &Command) -> Option<SmpError>
         ensures { result ≡ refusal_on self control.now command.now }

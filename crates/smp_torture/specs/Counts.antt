@@ -9,7 +9,7 @@ use Rattle.smp_torture.specs.Kinds.{kinds}
 abbrev pub no_cell : Cell
 no_cell = record { count = 0; sum = 0 }
 
--- where the calls of a function stand, to or from a CPU
+-- where the calls of a function are, to or from a CPU
 abbrev pub place_of : ℕ → ℕ → ℕ
 place_of func cpu = 32 * func + cpu
 

@@ -19,7 +19,7 @@ pub struct Sheet {
     strays: u64,
 }
 
-/// Where the calls of a function to or from a CPU stand; nowhere where one of them does not exist.
+/// Where the calls of a function to or from a CPU are; nowhere where one of them does not exist.
 fn place(func: u16, cpu: u32) -> Option<usize>
     ensures some { IfSome result (λ at. (func < kinds) × (cpu < 32) × (at < 608) × (at ≡ place_of func cpu)) }
     ensures none { IfNone result (¬ ((func < kinds) × (cpu < 32))) }

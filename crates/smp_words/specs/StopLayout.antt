@@ -10,7 +10,7 @@ use Rattle.smp_words.specs.declared.word.Word.TheVariants as word
 abbrev pub slot_word : ℕ → Field → Option ℕ
 slot_word s f = if nat_lt s NR_CPUS then Some (SLOTS + FIELDS * s + place_of f) else None
 
--- one word for each of so many keys or sites
+-- one word for each of this number of keys or sites
 abbrev pub label_word : ℕ → ℕ → ℕ → Option ℕ
 label_word base most i = if nat_lt i most then Some (base + i) else None
 

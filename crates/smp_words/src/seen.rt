@@ -76,7 +76,7 @@ pub enum Note {
     Nop,
     /// The site jumps.
     Jmp,
-    /// The key's count stands at that end of its range.
+    /// The key's count is at that end of its range.
     KeyRange,
     /// The key would go on or off, which takes a stop.
     Stop,

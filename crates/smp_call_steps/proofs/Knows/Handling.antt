@@ -103,7 +103,7 @@ module _ {v : Known} (l : Lives v) where
   pub lives_front : (call : Call) (rest : List Call) → v.part.batch ≡ call ∷ rest → call.id < records
   lives_front call rest e = search (same_share, arith)
 
--- what a CPU that stands here knows after a step
+-- what a CPU that is here knows after a step
 pub told_at : (queue : List Call) (v : Known) (s : Option Stage) (act : Act) (w : Word) (found put : Option ℕ) → v.stage ≡ s →
     known_taking queue v act w found put
     ≡ record v {

@@ -1,4 +1,4 @@
--- A CPU may stand at any stage that its steps so far leave open.
+-- A CPU may be at any stage that its steps so far leave open.
 use Rattle.std.proofs.Common.{arith, ◌≡◌, ℕ, ◌%◌, ◌<◌, true, false, ◌==◌, Option, Some, None, sym, subst, refl, ap, ◌∙◌, ◌⊎◌, inl, inr}
 use Rattle.smp_words.specs.Put.{put}
 use Rattle.smp_words.specs.Size.{records, owner}
@@ -50,7 +50,7 @@ told_knows places at p post.StoreInfo k f = k
 told_knows places at p (post.Exchange link tries) k f = (k.0, record { flags_are = k.1.flags_are; func_is = k.1.func_is; info_is = k.1.info_is }, k.2)
 told_knows places at p _ k f = (k.0, record { flags_are = k.1.flags_are; func_is = k.1.func_is; info_is = k.1.info_is })
 
--- a CPU that may stand outside, or at a step of a post: it has nothing taken and nothing loaded, and its handling word is 0
+-- a CPU that may be outside, or at a step of a post: it has nothing taken and nothing loaded, and its handling word is 0
 pub record Idle (a : CallState) (at : Word → ℕ) (d : DrainValue) (me : ℕ) : Type 0 where
   pub rests : Rests (share_of a me)
   pub hand : at (Hand me) ≡ 0
@@ -154,7 +154,7 @@ module _ {a : CallState} {at : Word → ℕ} {control : ℕ → ControlValue} {v
   pub aims_held : (st : Stage) → MayStep v st → a.held me ≡ held_of (Some st)
   aims_held st aims = known_held ∙ (ap held_of (sym (aims_told st aims)) ∙ held_told (Some st))
 
-  -- the CPU may stand there, and it knows what it knew
+  -- the CPU may be there, and it knows what it knew
   pub restages : (st : Stage) → MayStep v st → Shows a at (put control me (record { stage = Some st; drain = v.drain }))
   restages st aims =
       subst (λ (d : DrainValue). Shows a at (put control me (record { stage = Some st; drain = d }))) sees.drain
@@ -167,7 +167,7 @@ module _ {a : CallState} {at : Word → ℕ} {control : ℕ → ControlValue} {v
   access_known (Post p st) aims = search (aims_held, arith)
   access_known (Handle h) aims = ap (handle_access me h) (s.tallied.ran_are me (source_at h) ∙ (λ i. ran_tally (sees.part i) (source_at h)))
 
--- where a CPU stands outside, its confirmed records are unlocked
+-- where a CPU is outside, its confirmed records are unlocked
 pub confirmed_unlocked : (v : Known) (id n : ℕ) → Moment v (Flags id) n → v.stage ≡ None → owner id ≡ v.number → id < records → is_confirmed v id ≡ true
     → (n % 2 == 1) ≡ false
 confirmed_unlocked v id n m out own small conf = search (free_outside, arith)

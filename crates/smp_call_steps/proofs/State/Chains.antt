@@ -38,7 +38,7 @@ chain_read (suc n) nexts (suc id) calls s l =
     let older : chain_in nexts n (nexts m.newest.id) ≡ ids m.older = chain_read n nexts (nexts m.newest.id) m.older (omega arith) m.leads in
     search (m, ids-append, chain_in-more, same, older, arith)
 
--- where a reader of a chain stands: what is left, and the records that were passed
+-- where a reader of a chain is: what is left, and the records that were passed
 pub record Follows (nexts : ℕ → ℕ) (first link : ℕ) (passed : List ℕ) (rounds : ℕ) : Type 0 where
   pub rest : List Call
   pub leads : Leads nexts link rest 0
@@ -50,7 +50,7 @@ pub record Follows (nexts : ℕ → ℕ) (first link : ℕ) (passed : List ℕ) 
 pub follows_all : (nexts : ℕ → ℕ) (first : ℕ) → HasChain nexts first → Follows nexts first first [] 0
 follows_all nexts first h = search (append-nil, arith)
 
--- what a reader needs of a link that is no end, and where it stands after it
+-- what a reader needs of a link that is no end, and where it is after it
 pub record Passes (nexts : ℕ → ℕ) (first link : ℕ) (passed : List ℕ) (rounds : ℕ) : Type 0 where
   pub below : link ≤ records
   pub room : length passed < records

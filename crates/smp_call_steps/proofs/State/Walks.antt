@@ -1,4 +1,4 @@
--- A chain that leads from the oldest call to the newest, and where a CPU stands that goes along it.
+-- A chain that leads from the oldest call to the newest, and where a CPU is that goes along it.
 use Rattle.std.proofs.Common.{◌≡◌, ◌≢◌, ℕ, ◌+◌, ◌-◌, false, cond, Option, Some, None, List, [], ◌∷◌, ◌++◌, length, sym, subst, refl, ap, ◌∙◌, arith}
 use Rattle.std.proofs.Common.{append_assoc}
 use Rattle.std.proofs.lemmas.List.{append-nil}
@@ -50,7 +50,7 @@ pub apart_across : (xs ys : List Call) → IsApart (xs ++ ys) → AllByRecursion
 apart_across [] ys a = tt
 apart_across (x ∷ xs) ys a = (every_right (λ call. call.id ≢ x.id) xs ys a.0, apart_across xs ys a.1)
 
--- nor is one in what stands left of it
+-- nor is one in what is left of it
 pub absent_before : (xs : List Call) (call : Call) (ys : List Call) → IsApart (xs ++ call ∷ ys) → IsAbsent call.id xs
 absent_before [] call ys a = tt
 absent_before (x ∷ xs) call ys a =
@@ -161,7 +161,7 @@ walks_last P nexts s d walk last here rest w e all =
 pub same_record : (id : ℕ) (call : Call) → id + 1 ≡ call.id + 1 → call.id ≡ id
 same_record id call e = omega arith
 
--- where a CPU stands that goes on along the chain
+-- where a CPU is that goes on along the chain
 
 pub second_goes : (nexts : ℕ → ℕ) (s : Share) (d : DrainValue) (next : Option ℕ) (rest : List Call) → Ends nexts s d (link_to next) [] rest Nothing
     → HandleStands nexts s d (second_on next)

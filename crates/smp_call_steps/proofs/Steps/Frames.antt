@@ -1,4 +1,4 @@
--- What a step leaves to another CPU: a CPU stands where it stood.
+-- What a step leaves to another CPU: a CPU is where it was.
 use Rattle.std.proofs.Common.{arith, ◌≡◌, ◌≢◌, ℕ, ◌+◌, Option, Some, List, [], ◌∷◌, sym, subst, refl, ◌∙◌}
 use Rattle.std.specs.List.{AllByRecursion}
 use Rattle.smp_words.specs.Size.{owner}
@@ -147,6 +147,6 @@ module _ {cpu : ℕ} {places places' : ℕ → RecPlace} {at at' : Word → ℕ}
   StandsAt-kept s d (Some (Handle stage)) b h = (h.0, HandleStands-kept s d stage b h.1)
   StandsAt-kept s d _ b h = h
 
-  -- a CPU to which a step leaves its records stands where it stood
+  -- a CPU to which a step leaves its records is where it was
   pub Stands-kept : (s : Share) (c : ControlValue) → AllPlaced places (place.Batch cpu) s.batch → Stands places at s cpu c → Stands places' at' s cpu c
   Stands-kept s c b h = StandsAt-kept s c.drain c.stage b h

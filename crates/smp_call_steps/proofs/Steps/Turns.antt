@@ -1,4 +1,4 @@
--- What a step of one CPU leaves to all CPUs: what they hold, where they stand, and their handling words.
+-- What a step of one CPU leaves to all CPUs: what they hold, where they are, and their handling words.
 use Rattle.std.proofs.Common.{◌≡◌, ◌≢◌, ℕ, ◌<◌, Option, Some, None, sym, subst, ap, ◌∙◌}
 use Rattle.smp_words.specs.Size.{cpus}
 use Rattle.smp_words.specs.Put.{put}
@@ -26,7 +26,7 @@ module _ {a : CallState} {at : Word → ℕ} {control : ℕ → ControlValue} (m
   pub held_after : (c : ControlValue) → a.held me ≡ held_of c.stage → (cpu : ℕ) → a.held cpu ≡ held_of (put control me c cpu).stage
   held_after c here = put_all (λ cpu x. a.held cpu ≡ held_of x.stage) control me c here (λ cpu _. s.held cpu)
 
-  -- the others stand where they stood
+  -- the others are where they were
   pub stands_after : (at' : Word → ℕ) (place' : ℕ → RecPlace) (share' : ℕ → Share) (c : ControlValue) →
       ((cpu : ℕ) → cpu ≢ me → share' cpu ≡ share_of a cpu) → ((cpu : ℕ) → cpu ≢ me → LeavesTo cpu a.place place' at at') → Stands place' at' (share' me) me c →
       (cpu : ℕ) → Stands place' at' (share' cpu) cpu (put control me c cpu)

@@ -46,7 +46,7 @@ fn call_each<R: Wait>(mut zero: Counter<'_, R>, progress: &Progress) {
     }
 }
 
-/// Rests until it was called so often.
+/// Rests until it has heard all calls.
 fn rest_until_called<R: Wait>(mut one: Counter<'_, R>, progress: &Progress) {
     for _ in one.rt.forever() {
         if one.handler.calls >= CALLS {
@@ -116,7 +116,9 @@ fn call_a_thread<'a, R: Wait + Threads + Sync>(
 fn a_cpu_that_waits_asleep_is_woken_once_its_call_has_run(rt: HostRuntime) -> Result<(), Fail> {
     let (mut table, mut boot) = CallTable::new(rt.alloc(), 2, "0-1".parse()?)?;
     table.sleep_after(0);
-    let zero = Caller::new(&table, &rt, boot.cpu(0)?, Count { calls: 0 });
+    let zero = boot.cpu(0)?;
+    assert_eq!(rt; table.pause(&zero).may_sleep(), true);
+    let zero = Caller::new(&table, &rt, zero, Count { calls: 0 });
     let one = Caller::new(&table, &rt, boot.cpu(1)?, Count { calls: 0 });
     assert_eq!(rt; call_a_thread(zero, one), (CALLS, CALLS, 0));
     Ok(())

@@ -8,7 +8,7 @@ pub enum Line {
     Begin(u32, Command),
     // The CPU makes a step, which shows this.
     Sees(Seen),
-    // The CPU makes so many steps.
+    // The CPU makes this number of steps.
     Steps(u32, u32),
     // The CPU begins the command, whose step of this number has this note.
     Goes(u32, Command, u32, Note),
@@ -18,7 +18,7 @@ pub enum Line {
     Stands(u32, RecPlace),
     // The CPU's queue holds these records and no others, the older one first.
     Queue(u32, Option<u32>, Option<u32>),
-    // So many calls from the first CPU to the second were queued, and so many ran.
+    // How many calls from the first CPU to the second were queued, and how many ran.
     Tally(u32, u32, (u64, u64)),
     // The word holds this number; none where there is no such word.
     Holds(Word, Option<u64>),
@@ -65,7 +65,7 @@ fn queue_is<A: Allocator>(
     (ids.get(0).copied(), ids.get(1).copied(), ids.get(2)) == (first, second, None)
 }
 
-// Makes so many steps: the note of the last.
+// Makes this number of steps: the note of the last.
 fn last_note<A: Allocator>(
     core: &mut Core<A>,
     cpu: u32,

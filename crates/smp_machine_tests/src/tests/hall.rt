@@ -130,7 +130,7 @@ pub fn in_threads<R: Wait + Threads + Sync>(
     run_plays(rt, alloc, &machine, boot, plays)
 }
 
-/// The same, where CPUs sleep after the first look in vain while they wait.
+/// Runs the CPUs of a new machine that sleep while they wait, after one look in vain: how many saw what they should.
 pub fn in_threads_asleep<R: Wait + Threads + Sync>(
     rt: &R,
     alloc: Global,

@@ -1,4 +1,4 @@
--- A step of a CPU inside handle that tells nothing of the calls: where it stands then, and what it knows.
+-- A step of a CPU inside handle that tells nothing of the calls: where it is then, and what it knows.
 use Rattle.std.proofs.Common.{arith, ◌≡◌, ℕ, ◌%◌, Option, Some, List, refl, ap, ◌∙◌, sym, subst}
 use Rattle.atomic_table.specs.Seated.{TableId}
 use Rattle.smp_words.specs.Access.{word_of}

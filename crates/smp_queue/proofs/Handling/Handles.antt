@@ -1,4 +1,4 @@
--- A CPU inside handle: when it may make its next step, and where it stands after it.
+-- A CPU inside handle: when it may make its next step, and where it is after it.
 use Rattle.std.proofs.Common.{arith, ◌≡◌, Some, refl, ap, ◌∙◌, subst}
 use Rattle.atomic_table.specs.Seated.{TableId}
 use Rattle.smp_words.specs.Access.{word_of}

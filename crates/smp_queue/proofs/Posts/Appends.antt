@@ -9,7 +9,7 @@ use Rattle.smp_queue.specs.Appends.{Appends}
 use Rattle.smp_queue.proofs.Posts.Ready.{mine_moved}
 use Rattle.smp_queue.specs.post
 
--- it stands before its next try, at the last of the numbers that it has found, and else knows what it knew
+-- it is before its next try, at the last of the numbers that it has found, and else knows what it knew
 pub record Tries (table : TableId) (before seat : SeatValue) (p : Posting) (link : ℕ) (found : Found) : Type 0 where
   pub table_is : seat.table ≡ table
   pub known_is : seat.known ≡ standing (counted p) post.LoadHead (lost_tries found before.known)

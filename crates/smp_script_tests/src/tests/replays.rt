@@ -367,7 +367,7 @@ fn each_write_fails_in_turn(rt: HostRuntime) {
     }
 }
 
-// Whether a heap of so many blocks of 16 bytes is enough for a call; `None` where it answers anything but its
+// Whether a heap of this number of blocks of 16 bytes is enough for a call; `None` where it answers anything but its
 // output, or the want of memory with nothing written, or keeps some of the heap.
 fn is_enough(rt: &HostRuntime, blocks: usize) -> Result<Option<bool>, Fail> {
     let heap = LocalHeap::new(rt.alloc(), blocks.wrapping_mul(16))?;

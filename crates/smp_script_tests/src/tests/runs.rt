@@ -105,7 +105,7 @@ fn stops_keys_and_refusals(rt: HostRuntime) {
     assert_eq!(rt; written.as_slice(), STOPS_PRINT);
 }
 
-// Row by row: a key that stands so makes no stop; one raised from 0 or lowered to 0 turns; below 0 there is no count.
+// Row by row: a key that is so already makes no stop; one raised from 0 or lowered to 0 turns; below 0 there is no count.
 #[test]
 fn keys_that_are_counted(rt: HostRuntime) {
     let script: &[u8] = b"\

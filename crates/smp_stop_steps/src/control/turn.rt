@@ -114,7 +114,7 @@ impl StopControl {
         self.go_on(StopStage::Advance(visit, next))
     }
 
-    /// The first load of a patch. Where the count stands at the end of its range nothing is stored, and the answer is 1;
+    /// The first load of a patch. Where the count is at the end of its range nothing is stored, and the answer is 1;
     /// else the count is stored where it changes, and the entries are loaded first where the key goes on or off.
     fn key_on(&mut self, visit: Visit, key: u16, change: Change, found: u64) -> Option<Note>
         ensures note { result ≡ (round_outcome 0 self.old visit (RoundStage.LoadKey key change) found).note }

@@ -20,11 +20,11 @@ returns-then-is_done-clause-turns g c = waiting_ended c.args.k c.args.me.now c.l
 pub loop-preserved : goal.loop-preserved
 loop-preserved g c =
     let before = c.loop.invariant.0 in
-    let handled =
-    subst (λ (x : CpuValue). Leaves g.H.Handler.leads x c.loop.handler c.handle_own-interrupted.new.me c.handle_own-interrupted.new.handler [] [] (owes_at x) (confirmed_at x))
+    let new = c.handle_own-interrupted.new in
+    let handled = subst (λ (x : CpuValue). Leaves g.H.Handler.leads x c.loop.handler new.me new.handler [] [] (owes_at x) (confirmed_at x))
     c.if-is_done.ensures.known c.handle_own-interrupted.ensures.left in (
       leaves_as g.H.Handler.leads (owes_at c.args.me.now) (confirmed_at c.args.me.now)
           (leaves_then g.H.Handler.leads before (leaves_looked g.H.Handler.leads {old = c.loop.me} refl handled)) before.owes_are before.confirmed_are,
-      waiting_more c.args.k c.args.me.now c.loop.me c.is_done.new.me c.handle_own-interrupted.new.me c.args.handler.now c.loop.handler c.handle_own-interrupted.new.handler
+      waiting_more c.args.k c.args.me.now c.loop.me c.is_done.new.me new.me c.args.handler.now c.loop.handler new.handler
           c.loop.invariant.1 (c.if-is_done.ensures.locked refl) c.if-is_done.ensures.known c.handle_own-interrupted.ensures.once,
     )

@@ -53,10 +53,10 @@ impl Write for Narrow {
     }
 }
 
-/// Gives one byte a read of a text in which a piece stands again and again.
+/// Gives one byte a read of a text in which a piece comes again and again.
 #[derive(Drop)]
 pub struct Again<'a> {
-    /// What stands before the pieces; later what is left of the piece in hand.
+    /// What comes before the pieces; later what is left of the piece in hand.
     pub left: &'a [u8],
     pub piece: &'a [u8],
     pub times: u32,

@@ -55,7 +55,7 @@ start-requires-clause-allowed g c = (may_start (before g c) c.args.cpu c.args.co
 fits : (g : given.Over) (c : goal.After-start-arg-1 g) → FitsCommand c.args.command
 fits g c = search rules
 
--- where the CPU stands after it
+-- where the CPU is after it
 begun : (g : given.Over) (c : goal.After-start-arg-1 g) → c.begin.new.self
     ≡ control_at (control_of c.self.inside.controls.items c.args.cpu) (first_stage c.self.inside.online c.args.cpu c.args.command)
 begun g c =

@@ -13,7 +13,7 @@ use Rattle.smp_machine.specs.MachineCpu.{MachineCpuValue}
 use Rattle.smp_machine.specs.ReadLaws.{KindsFollowKeys, is_jump}
 use Rattle.smp_machine_tests.proofs.tests.users.turn_and_look.Goals as goal
 
--- a site's reading stands last, and the key's is still there
+-- a site's reading is last, and the key's is still there
 answer_read : KindsFollowKeys → (setting : Setting) (mid new : CpuValue) (k i : ℕ) (on : Bool) (r : Result SiteKind SmpError) → mid.setting ≡ setting
     → Reads mid (ReadKey k on) → SiteAnswers i mid new r
     → IfOk r (λ kind. (e : Entry) → e ≡ slice_index_or setting.labels.entries i e → e.key ≡ k → jumps kind ≡ is_jump on e.branch)
