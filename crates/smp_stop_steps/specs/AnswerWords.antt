@@ -3,9 +3,7 @@ use Rattle.std.specs.Int.{w32, cast_signed}
 use Rattle.std.specs.Prelude.{◌≡◌, ◌⊎◌, ℕ, ℤ, ◌^◌, ◌<◌, Option, Some, None, FitsSigned}
 use Rattle.smp_stop_steps.specs.Names.{word_of, CompletionStage, RoundStage, StopStage, Advance, Complete, Visit, Note, Word, Slot}
 use Rattle.smp_stop_steps.specs.Stages.{StopControlValue, StopOutcome, stop_access, stop_outcome, answer_at}
-use Rattle.smp_stop_steps.specs.Start.{stop_first}
-use Rattle.smp_stop_steps.specs.State.{Setup}
-use Rattle.smp_stop_steps.specs.Steps.{at_then}
+use Rattle.smp_stop_steps.specs.{Start.stop_first, State.Setup, Steps.at_then}
 use Rattle.smp_stop_steps.specs.Names.completion
 use Rattle.smp_stop_steps.specs.Names.round
 use Rattle.smp_stop_steps.specs.Names.command

@@ -1,12 +1,8 @@
 -- Where a command of the stop half may begin.
 use Rattle.std.specs.Prelude.{◌≡◌, ◌≢◌, ℕ, ◌+◌, ◌<◌, true, false, Some, None, length, slice_set}
 use Rattle.smp_stop_steps.specs.Names.{StopStage, TakeGate, OpenGate, Begin, Enter, Advance, Complete, LoadDone, NudgeKey, One, Gate, EXIT}
-use Rattle.smp_stop_steps.specs.State.{Setup}
-use Rattle.smp_stop_steps.specs.Sources.{IsWork}
-use Rattle.smp_stop_steps.specs.Stages.{StopControlValue, stop_goes}
-use Rattle.smp_stop_steps.specs.Table.{stop_number}
-use Rattle.smp_stop_steps.specs.Value.{StopsValue, setup_of, stop_control_of}
-use Rattle.smp_stop_steps.specs.declared.stage.StopStage.TheVariants.{ReadKey, ReadSite}
+use Rattle.smp_stop_steps.specs.{State.Setup, Sources.IsWork, Stages.StopControlValue, Stages.stop_goes, Table.stop_number, Value.StopsValue, Value.setup_of}
+use Rattle.smp_stop_steps.specs.{Value.stop_control_of, declared.stage.StopStage.TheVariants.ReadKey, declared.stage.StopStage.TheVariants.ReadSite}
 use Rattle.smp_stop_steps.specs.Names.field
 use Rattle.smp_stop_steps.specs.Names.completion
 use Rattle.smp_stop_steps.specs.Names.round

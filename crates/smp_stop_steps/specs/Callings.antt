@@ -1,10 +1,8 @@
 -- How far a CPU is with the function of the stop that it is in, by its seat.
 use Rattle.std.specs.Prelude.{◌≡◌, ◌⊎◌, ℕ, ◌≤◌, true, false}
-use Rattle.smp_stop_steps.specs.Names.{has, One, Work, DISABLE_IRQ, RUN}
 use Rattle.smp_stop_steps.specs.Seats.{Seat, Free, In, Gives, Alters, Closes, Duty, Rests}
 use Rattle.smp_stop_steps.specs.State.{StopCall, Calling, Idle, Calls, Carries, Present}
-use Rattle.smp_stop_steps.specs.Stop.{Standing, Completed, Last}
-use Rattle.smp_stop_steps.specs.Tells.{calls_at_run}
+use Rattle.smp_stop_steps.specs.{Names.has, Names.One, Names.Work, Names.DISABLE_IRQ, Names.RUN, Stop.Standing, Stop.Completed, Stop.Last, Tells.calls_at_run}
 
 -- the answer that it completes with: 0 where it has called no function
 abbrev pub answer_in : Calling → ℕ

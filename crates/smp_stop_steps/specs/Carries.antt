@@ -1,9 +1,7 @@
 -- How far a CPU is with its function, by its stage: that it has called it, and with which answer it completes.
 use Rattle.std.specs.Prelude.{◌≡◌, ℕ, Bool, true, false, Option, Some, None}
 use Rattle.smp_stop_steps.specs.Names.{StopStage, Advance, Complete, EnterKind, EnterMask, EnterActive, Visit, Patch, EXIT}
-use Rattle.smp_stop_steps.specs.Callings.{answer_in}
-use Rattle.smp_stop_steps.specs.Stages.{StopControlValue}
-use Rattle.smp_stop_steps.specs.State.{Calling, Idle, Calls, Carries}
+use Rattle.smp_stop_steps.specs.{Callings.answer_in, Stages.StopControlValue, State.Calling, State.Idle, State.Calls, State.Carries}
 use Rattle.smp_stop_steps.specs.Names.completion
 use Rattle.smp_stop_steps.specs.Names.round
 

@@ -1,12 +1,7 @@
 -- Who is to store done.
 use Rattle.std.specs.Prelude.{◌≡◌, ℕ, true}
 use Rattle.smp_stop_steps.specs.Names.{Word, Slot}
-use Rattle.smp_stop_steps.specs.Callings.{HasCompleted}
-use Rattle.smp_stop_steps.specs.Seats.{Seat, Closes}
-use Rattle.smp_stop_steps.specs.Shows.{StopShows}
-use Rattle.smp_stop_steps.specs.Sources.{Source}
-use Rattle.smp_stop_steps.specs.State.{Setup, StopState}
-use Rattle.smp_stop_steps.specs.Stop.{Last}
+use Rattle.smp_stop_steps.specs.{Callings.HasCompleted, Seats.Seat, Seats.Closes, Shows.StopShows, Sources.Source, State.Setup, State.StopState, Stop.Last}
 use Rattle.smp_stop_steps.specs.Names.field
 
 -- this CPU, and no other, is before its store of done in this slot: the last to complete, and it has completed

@@ -1,26 +1,15 @@
 -- What a command's steps take from the command, where its note is, and when interrupts go off.
 use Rattle.std.specs.Prelude.{◌≡◌, ◌≢◌, ◌⊎◌, ℕ, ◌+◌, ◌++◌, Bool, true, false, [], ◌∷◌, Option, Some, None}
-use Rattle.smp_words.specs.Access.{word_of}
-use Rattle.smp_words.specs.Kinds.{kind_word}
-use Rattle.smp_words.specs.declared.access.Access.{Access}
 use Rattle.smp_words.specs.declared.access.Access.TheVariants.{Load, Store, Exchange}
-use Rattle.smp_words.specs.declared.command.Command.{Command}
-use Rattle.smp_words.specs.declared.command.Command.TheVariants as command
-use Rattle.smp_words.specs.declared.field.Field.{Field}
-use Rattle.smp_words.specs.declared.field.Field.TheVariants as field
-use Rattle.smp_words.specs.declared.seen.Note.{Note}
-use Rattle.smp_words.specs.declared.seen.Note.TheVariants as note
 use Rattle.smp_words.specs.declared.word.Word.TheVariants.{Gate, Slot, Key, Site}
-use Rattle.smp_words.specs.declared.work.Kind.TheVariants.{One}
-use Rattle.smp_words.specs.declared.work.Work.{Work}
-use Rattle.smp_stop_steps.specs.Counts.{mask_weight}
-use Rattle.smp_stop_steps.specs.Promises.{OfEachCpu}
-use Rattle.smp_stop_steps.specs.Stages.{StopControlValue, stop_access, stop_outcome}
-use Rattle.smp_stop_steps.specs.Start.{stop_first}
-use Rattle.smp_stop_steps.specs.Steps.{state_after}
-use Rattle.smp_stop_steps.specs.declared.stage.StopStage.{StopStage}
-use Rattle.smp_stop_steps.specs.declared.stage.StopStage.TheVariants.{Begin, NudgeKey, ExchangeKey}
-use Rattle.smp_stop_steps.specs.declared.stage.Visit.{Visit}
+use Rattle.smp_words.specs.{Access.word_of, Kinds.kind_word, declared.access.Access.Access, declared.command.Command.Command, declared.field.Field.Field}
+use Rattle.smp_words.specs.{declared.seen.Note.Note, declared.work.Kind.TheVariants.One, declared.work.Work.Work}
+use Rattle.smp_stop_steps.specs.{Counts.mask_weight, Promises.OfEachCpu, Stages.StopControlValue, Stages.stop_access, Stages.stop_outcome, Start.stop_first}
+use Rattle.smp_stop_steps.specs.{Steps.state_after, declared.stage.StopStage.StopStage, declared.stage.StopStage.TheVariants.Begin}
+use Rattle.smp_stop_steps.specs.{declared.stage.StopStage.TheVariants.NudgeKey, declared.stage.StopStage.TheVariants.ExchangeKey, declared.stage.Visit.Visit}
+use Rattle.smp_words.specs.declared.command.Command.TheVariants as command
+use Rattle.smp_words.specs.declared.field.Field.TheVariants as field
+use Rattle.smp_words.specs.declared.seen.Note.TheVariants as note
 
 -- the first access of a command, by a CPU in this stop or in none, is to the word that the command names
 abbrev pub FirstAccess : ℕ → Option Visit → Command → Access → Type 0

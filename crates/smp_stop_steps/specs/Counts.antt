@@ -1,7 +1,6 @@
 -- How many CPUs have a property, as sums over all CPUs.
 use Rattle.std.specs.Prelude.{ℕ, zero, suc, ◌+◌, Bool, true, false, ◌==◌, cond}
-use Rattle.smp_stop_steps.specs.Names.{has}
-use Rattle.smp_stop_steps.specs.Stop.{Standing, Outside, Called, Inside, Answering, Completed, is_of}
+use Rattle.smp_stop_steps.specs.{Names.has, Stop.Standing, Stop.Outside, Stop.Called, Stop.Inside, Stop.Answering, Stop.Completed, Stop.is_of}
 
 -- the sum of f over the numbers below n
 unfoldable pub sum_below : (ℕ → ℕ) → ℕ → ℕ

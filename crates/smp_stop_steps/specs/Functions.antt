@@ -1,17 +1,9 @@
 -- When a stop function runs, that it runs once, and what becomes of its answer.
 use Rattle.std.specs.Prelude.{◌≡◌, ◌⊎◌, ℕ, true, Some}
 use Rattle.smp_stop_steps.specs.Names.{has, put, DISABLE_IRQ, RUN, StopStage, One, Multi, Work, Word, Gate}
-use Rattle.smp_stop_steps.specs.Callings.{IsCallOf, with_answer}
-use Rattle.smp_stop_steps.specs.Carries.{CarriesIn}
-use Rattle.smp_stop_steps.specs.Promises.{RunsAlone}
-use Rattle.smp_stop_steps.specs.Seats.{Seat, In, Duty}
-use Rattle.smp_stop_steps.specs.Shows.{StopShows}
-use Rattle.smp_stop_steps.specs.Sits.{Sits}
-use Rattle.smp_stop_steps.specs.Sources.{Source}
-use Rattle.smp_stop_steps.specs.Stages.{StopControlValue, answer_at}
-use Rattle.smp_stop_steps.specs.State.{Setup, StopState, StopCall, Calls}
-use Rattle.smp_stop_steps.specs.Steps.{FunctionGoes, note_then, state_after}
-use Rattle.smp_stop_steps.specs.Stop.{Inside}
+use Rattle.smp_stop_steps.specs.{Callings.IsCallOf, Callings.with_answer, Carries.CarriesIn, Promises.RunsAlone, Seats.Seat, Seats.In, Seats.Duty}
+use Rattle.smp_stop_steps.specs.{Shows.StopShows, Sits.Sits, Sources.Source, Stages.StopControlValue, Stages.answer_at, State.Setup, State.StopState}
+use Rattle.smp_stop_steps.specs.{State.StopCall, State.Calls, Steps.FunctionGoes, Steps.note_then, Steps.state_after, Stop.Inside}
 
 -- a CPU that is active in its Multi stop, at RUN, which it has not acknowledged, while the whole mask has acknowledged
 -- DISABLE_IRQ and has its interrupts off

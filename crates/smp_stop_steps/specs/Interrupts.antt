@@ -1,11 +1,7 @@
 -- When a CPU's interrupts are off.
 use Rattle.std.specs.Prelude.{◌≡◌, ◌≢◌, ℕ, ◌≤◌, true, false, None}
 use Rattle.smp_stop_steps.specs.Names.{DISABLE_IRQ, EXIT, Word}
-use Rattle.smp_stop_steps.specs.Seats.{Seat, Rests, duty_of}
-use Rattle.smp_stop_steps.specs.Shows.{StopShows}
-use Rattle.smp_stop_steps.specs.Sources.{Source}
-use Rattle.smp_stop_steps.specs.State.{Setup, StopState}
-use Rattle.smp_stop_steps.specs.Stop.{Stop, Inside}
+use Rattle.smp_stop_steps.specs.{Seats.Seat, Seats.Rests, Seats.duty_of, Shows.StopShows, Sources.Source, State.Setup, State.StopState, Stop.Stop, Stop.Inside}
 
 -- the CPU has not left the stop: it has not acknowledged EXIT, or is to set the phase after it
 abbrev pub HasNotLeft : Stop → ℕ → ℕ → Type 0

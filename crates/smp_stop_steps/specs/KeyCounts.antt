@@ -1,8 +1,6 @@
 -- The count law: a key's word is what all CPUs together have moved it.
 use Rattle.std.specs.Prelude.{◌≡◌, ℕ, ◌+◌, ◌-◌}
-use Rattle.smp_stop_steps.specs.Names.{put}
-use Rattle.smp_stop_steps.specs.Counts.{sum_below}
-use Rattle.smp_stop_steps.specs.State.{Moved}
+use Rattle.smp_stop_steps.specs.{Names.put, Counts.sum_below, State.Moved}
 
 -- the count was moved from the old word to the new one
 abbrev pub moves : Moved → ℕ → ℕ → Moved

@@ -1,15 +1,10 @@
 -- What a CPU knows of the stops: where it is with them, as far as its steps have told, and its own part of their state.
 use Rattle.std.specs.Prelude.{◌≡◌, ◌≢◌, ◌⊎◌, ℕ, ◌+◌, ◌<◌, nat_lt, Bool, false, ◌==◌, cond, Option, Some, None, List, [], ◌∷◌, ◌++◌, length, replicate}
 use Rattle.std.specs.Prelude.{slice_index_or}
-use Rattle.smp_stop_steps.specs.Callings.{with_answer}
 use Rattle.smp_stop_steps.specs.Names.{MOST_KEYS, cpus, put, One, Seen, Work, Word, Slot}
-use Rattle.smp_stop_steps.specs.Seats.{Seat, Free}
-use Rattle.smp_stop_steps.specs.Shows.{StopShows}
 use Rattle.smp_stop_steps.specs.Sources.{Source, Shut, Drafts, Owns, Collects}
-use Rattle.smp_stop_steps.specs.Labels.{Reading}
 use Rattle.smp_stop_steps.specs.State.{Calling, Idle, Calls, Carries, Setup, StopState, Moved, unmoved}
-use Rattle.smp_stop_steps.specs.Tells.{tells}
-use Rattle.smp_stop_steps.specs.Value.{setup_of}
+use Rattle.smp_stop_steps.specs.{Callings.with_answer, Seats.Seat, Seats.Free, Shows.StopShows, Labels.Reading, Tells.tells, Value.setup_of}
 use Rattle.smp_stop_steps.specs.Names.field
 pub use Rattle.smp_stop_steps.specs.declared.known.Attempt.{Attempt}
 pub use Rattle.smp_stop_steps.specs.declared.known.Known.{Known}

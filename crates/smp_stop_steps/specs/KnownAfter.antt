@@ -1,14 +1,11 @@
 -- What a CPU knows after a step of its own, as the step tells it.
 use Rattle.std.specs.Prelude.{ℕ, ◌+◌, Bool, true, false, ◌==◌, ◌&&◌, ◌||◌, not, cond, Option, Some, None, List, [], ◌∷◌, ◌++◌, slice_index_or, slice_set}
 use Rattle.smp_stop_steps.specs.Names.{has, is_on, Act, Field, One, Work, Word, Gate, Slot, Key, Site, DISABLE_IRQ, RUN, EXIT, OVER}
-use Rattle.smp_stop_steps.specs.KeyCounts.{moves}
 use Rattle.smp_stop_steps.specs.Known.{Known, Part, setup_in, noting, attempting, stepped}
-use Rattle.smp_stop_steps.specs.Labels.{Reading, ReadKey, ReadSite}
 use Rattle.smp_stop_steps.specs.Seats.{Seat, Free, In, Gives, Alters, Closes, Rests, Fills, Sets}
-use Rattle.smp_stop_steps.specs.Stop.{Inside}
-use Rattle.smp_stop_steps.specs.Sources.{Source, Shut, Drafts, Owns, Collects}
-use Rattle.smp_stop_steps.specs.State.{Moved, unmoved, Carries, Calls, Idle}
 use Rattle.smp_stop_steps.specs.Tells.{carried_call, may_call, drafted, first_readings, is_one, is_patch, calls_at_run, plan_at}
+use Rattle.smp_stop_steps.specs.{KeyCounts.moves, Labels.Reading, Labels.ReadKey, Labels.ReadSite, Stop.Inside, Sources.Source, Sources.Shut, Sources.Drafts}
+use Rattle.smp_stop_steps.specs.{Sources.Owns, Sources.Collects, State.Moved, State.unmoved, State.Carries, State.Calls, State.Idle}
 use Rattle.smp_stop_steps.specs.Names.act
 use Rattle.smp_stop_steps.specs.Names.field
 use Rattle.smp_stop_steps.specs.declared.known.OwnMove.TheVariants as own

@@ -1,17 +1,9 @@
 -- What each step that a CPU may make by what it knows keeps, beside the stops that it tells.
 use Rattle.std.specs.Prelude.{◌≡◌, ℕ, ◌+◌, Some, None}
 use Rattle.smp_stop_steps.specs.Names.{word_of, at_after, seen_of, Word, Work}
-use Rattle.smp_stop_steps.specs.Known.{Known, Sees, setup_in}
-use Rattle.smp_stop_steps.specs.KnownAfter.{known_entering}
-use Rattle.smp_stop_steps.specs.Labels.{Change, Whole}
 use Rattle.smp_stop_steps.specs.Moves.{Move, Refill, Raise, Close, MayStep, known_access}
-use Rattle.smp_stop_steps.specs.Patchers.{IsNextOfPatch, label_stored}
-use Rattle.smp_stop_steps.specs.Premises.{MaySee}
-use Rattle.smp_stop_steps.specs.Promises.{KeysStand}
-use Rattle.smp_stop_steps.specs.Seats.{Seat}
-use Rattle.smp_stop_steps.specs.Shows.{StopShows}
-use Rattle.smp_stop_steps.specs.Sources.{Source}
-use Rattle.smp_stop_steps.specs.State.{StopState}
+use Rattle.smp_stop_steps.specs.{Known.Known, Known.Sees, Known.setup_in, KnownAfter.known_entering, Labels.Change, Labels.Whole, Patchers.IsNextOfPatch}
+use Rattle.smp_stop_steps.specs.{Patchers.label_stored, Premises.MaySee, Promises.KeysStand, Seats.Seat, Shows.StopShows, Sources.Source, State.StopState}
 
 -- who may make it, that a store to a label is the next of the CPU's patch, and that outside a patch no key is turned
 pub record KeepsMoveLaws (p : StopState) (at : Word → ℕ) (v : Known) (m : Move) : Type 0 where

@@ -1,10 +1,7 @@
 -- The label words, and a patch in progress.
 use Rattle.std.specs.Prelude.{◌≡◌, ℕ, Bool, true, false, Option, Some, None, IfSome, List, [], ◌∷◌}
-use Rattle.smp_labels.specs.Keys.{count_left}
-use Rattle.smp_labels.specs.declared.keys.Change.{Change as KeyChange}
 use Rattle.smp_labels.specs.declared.keys.Change.TheVariants.{Off, On, Up, Down}
-use Rattle.smp_labels.specs.Law.{Table, IsLawful}
-use Rattle.smp_labels.specs.Plans.{applied, SetsKey}
+use Rattle.smp_labels.specs.{Keys.count_left, declared.keys.Change.Change as KeyChange, Law.Table, Law.IsLawful, Plans.applied, Plans.SetsKey}
 use Rattle.smp_stop_steps.specs.Names.{is_on, change_of, count_after, Place, Work, Word, Key, Entry, Site}
 pub use Rattle.smp_stop_steps.specs.declared.known.Reading.{Reading}
 pub use Rattle.smp_stop_steps.specs.declared.known.Reading.TheVariants.{ReadKey, ReadSite}

@@ -2,8 +2,7 @@
 use Rattle.std.specs.Prelude.{◌≡◌, ◌≢◌, ◌⊎◌, ℕ, true}
 use Rattle.smp_stop_steps.specs.Names.{has, DISABLE_IRQ, RUN, EXIT, OVER}
 use Rattle.smp_stop_steps.specs.Stop.{Standing, Inside, Answering, Raising, Nobody, Refills, Raises, Stop, acked, is_of}
-use Rattle.smp_stop_steps.specs.Counts.{count_behind, weight}
-use Rattle.smp_stop_steps.specs.Slots.{IsLevel, IsDone}
+use Rattle.smp_stop_steps.specs.{Counts.count_behind, Counts.weight, Slots.IsLevel, Slots.IsDone}
 
 -- the phase law, of an open stop of several CPUs: each CPU of the mask has acknowledged the phase or the one before
 -- it, at OVER the one before; the count is the number of those that have not acknowledged it, but from the refill until

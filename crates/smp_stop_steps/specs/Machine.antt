@@ -2,12 +2,9 @@
 use Rattle.std.specs.Prelude.{◌≡◌, ℕ, ◌≤◌, Option, Some, List, length, slice_set}
 use Rattle.smp_labels.specs.Labels.{Labels}
 use Rattle.smp_stop_steps.specs.Names.{cpus, word_of, seen_of, Access, Seen, StopStage, Slot, OVER}
-use Rattle.smp_stop_steps.specs.AnswerWords.{AreI32Words, HasI32Answers}
-use Rattle.smp_stop_steps.specs.State.{StopState}
-use Rattle.smp_stop_steps.specs.Tells.{tells}
-use Rattle.smp_stop_steps.specs.Stages.{StopControlValue, StopOutcome, stop_access, stop_outcome, answer_at}
-use Rattle.smp_stop_steps.specs.Table.{StopWords, stop_number, stop_words_after}
 use Rattle.smp_stop_steps.specs.Value.{StopsValue, StopShown, StopsShow, IsStopTable, setup_of, stop_control_of}
+use Rattle.smp_stop_steps.specs.{AnswerWords.AreI32Words, AnswerWords.HasI32Answers, State.StopState, Tells.tells, Stages.StopControlValue, Stages.StopOutcome}
+use Rattle.smp_stop_steps.specs.{Stages.stop_access, Stages.stop_outcome, Stages.answer_at, Table.StopWords, Table.stop_number, Table.stop_words_after}
 use Rattle.smp_stop_steps.specs.Names.field
 
 -- the access that a CPU makes at this stage, and what it finds

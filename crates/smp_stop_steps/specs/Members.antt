@@ -1,8 +1,7 @@
 -- What a begin is refused for, said of the members of its masks and of its numbers.
 use Rattle.std.specs.Prelude.{◌≡◌, ℕ, ◌<◌, ◌≤◌, ◌^◌, Bool, true, false, ◌==◌, Option, Some, None}
 use Rattle.smp_stop_steps.specs.Names.{has, SmpError, Kind, One, Multi, Patch, Work}
-use Rattle.smp_stop_steps.specs.Start.{begin_refusal}
-use Rattle.smp_stop_steps.specs.declared.start.Terms.{Terms}
+use Rattle.smp_stop_steps.specs.{Start.begin_refusal, declared.start.Terms.Terms}
 use Rattle.smp_stop_steps.specs.Names.error
 
 -- the mask has this CPU and no other

@@ -1,12 +1,8 @@
 -- A stop half as it is made.
 use Rattle.std.specs.Prelude.{ℕ, ◌-◌, List, ◌++◌, length, map, replicate}
-use Rattle.smp_labels.specs.Entries.{entry_word}
-use Rattle.smp_labels.specs.Labels.{Labels, first_site}
+use Rattle.smp_labels.specs.{Entries.entry_word, Labels.Labels, Labels.first_site}
 use Rattle.smp_words.specs.declared.size.TheConstants.{SLOT_WORDS}
-use Rattle.smp_stop_steps.specs.Names.{MOST_KEYS, MOST_SITES, cpus}
-use Rattle.smp_stop_steps.specs.Stages.{stop_outside}
-use Rattle.smp_stop_steps.specs.Table.{StopWords}
-use Rattle.smp_stop_steps.specs.Value.{StopsValue}
+use Rattle.smp_stop_steps.specs.{Names.MOST_KEYS, Names.MOST_SITES, Names.cpus, Stages.stop_outside, Table.StopWords, Value.StopsValue}
 
 -- the words of a stop table with a free gate, free slots, and all keys off
 abbrev pub new_stop_words : Labels → StopWords

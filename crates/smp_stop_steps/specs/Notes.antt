@@ -2,18 +2,9 @@
 use Rattle.std.specs.Int.{w32, cast_signed}
 use Rattle.std.specs.Prelude.{◌≡◌, ◌≢◌, ◌⊎◌, ℕ, ℤ, ◌+◌, ◌%◌, ◌^◌, Bool, true, false, Option, Some, None, List, [], ◌∷◌, ◌++◌}
 use Rattle.smp_stop_steps.specs.Names.{has, put, Note, Seen, Word, Gate, Slot, Key, Entry, Site, Work, StopStage}
-use Rattle.smp_stop_steps.specs.KeyCounts.{moved_by}
-use Rattle.smp_stop_steps.specs.Labels.{Reading, ReadKey, ReadSite}
-use Rattle.smp_stop_steps.specs.Carries.{CarriesIn}
-use Rattle.smp_stop_steps.specs.Seats.{Seat}
-use Rattle.smp_stop_steps.specs.Shows.{StopShows}
-use Rattle.smp_stop_steps.specs.Sits.{Sits}
-use Rattle.smp_stop_steps.specs.Sources.{Source}
-use Rattle.smp_stop_steps.specs.Stages.{StopControlValue}
-use Rattle.smp_stop_steps.specs.State.{Setup, StopState, StopCall, Moved, Calls}
-use Rattle.smp_stop_steps.specs.Steps.{note_then, state_after}
-use Rattle.smp_stop_steps.specs.Stop.{Inside, Refills, Last, Ended, acked}
-use Rattle.smp_stop_steps.specs.Tells.{first_readings, tells}
+use Rattle.smp_stop_steps.specs.{KeyCounts.moved_by, Labels.ReadSite, Carries.CarriesIn, Stages.StopControlValue, Steps.state_after, Tells.first_readings}
+use Rattle.smp_stop_steps.specs.{Labels.Reading, Labels.ReadKey, Shows.StopShows, Sources.Source, State.Setup, State.StopState, State.StopCall, Steps.note_then}
+use Rattle.smp_stop_steps.specs.{Seats.Seat, Sits.Sits, State.Moved, State.Calls, Stop.Inside, Stop.Refills, Stop.Last, Stop.Ended, Stop.acked, Tells.tells}
 use Rattle.smp_stop_steps.specs.Names.note
 
 -- what only a step with a note of its own may change: the gate, the works begun, the results collected, interrupts that go

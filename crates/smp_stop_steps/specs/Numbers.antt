@@ -1,8 +1,7 @@
 -- The words of a stop table are those that have a number there.
 use Rattle.std.specs.Prelude.{◌≡◌, ℕ, Bool, true, false, Option, Some, None}
 use Rattle.smp_words.specs.StopLayout.{stop_index_of}
-use Rattle.smp_stop_steps.specs.Names.{Word}
-use Rattle.smp_stop_steps.specs.Table.{StopWords, stop_number_of}
+use Rattle.smp_stop_steps.specs.{Names.Word, Table.StopWords, Table.stop_number_of}
 
 abbrev pub is_there : Option ℕ → Bool
 is_there None = false

@@ -1,8 +1,6 @@
 -- What was begun, answered and collected: the results of stops.
 use Rattle.std.specs.Prelude.{◌≡◌, ◌≢◌, ℕ, false, cond, List, [], ◌∷◌, ◌++◌}
-use Rattle.smp_stop_steps.specs.Names.{has, One, Work}
-use Rattle.smp_stop_steps.specs.Stop.{Standing, Completed, Stop, answer_of}
-use Rattle.smp_stop_steps.specs.Laws.{IsResult}
+use Rattle.smp_stop_steps.specs.{Names.has, Names.One, Names.Work, Stop.Standing, Stop.Completed, Stop.Stop, Stop.answer_of, Laws.IsResult}
 
 -- a stop that was collected: its work, what each CPU of its mask answered, and its result
 pub record Past : Type 0 where

@@ -3,14 +3,8 @@ use Rattle.std.specs.Prelude.{◌≡◌, ℕ, Bool, true, false, Option, Some, N
 use Rattle.smp_labels.specs.Law.{IsLawful}
 use Rattle.smp_words.specs.declared.access.Access.TheVariants.{Store}
 use Rattle.smp_stop_steps.specs.Names.{has, StopStage, DISABLE_IRQ, RUN, Patch, Work, Word, Key, Site, Access}
-use Rattle.smp_stop_steps.specs.Labels.{Change, Patching, Patches, labels_in}
-use Rattle.smp_stop_steps.specs.Promises.{OfEachCpu, RunsAlone}
-use Rattle.smp_stop_steps.specs.Seats.{Seat}
-use Rattle.smp_stop_steps.specs.Shows.{StopShows}
-use Rattle.smp_stop_steps.specs.Sources.{Source}
-use Rattle.smp_stop_steps.specs.Stages.{stop_access}
-use Rattle.smp_stop_steps.specs.State.{Setup, StopState}
-use Rattle.smp_stop_steps.specs.Stop.{Inside}
+use Rattle.smp_stop_steps.specs.{Labels.Change, Labels.Patching, Labels.Patches, Labels.labels_in, Promises.OfEachCpu, Promises.RunsAlone, Seats.Seat}
+use Rattle.smp_stop_steps.specs.{Shows.StopShows, Sources.Source, Stages.stop_access, State.Setup, State.StopState, Stop.Inside}
 use Rattle.smp_stop_steps.specs.Names.place
 
 -- a patch has made its first store and not its last

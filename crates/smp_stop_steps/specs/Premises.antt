@@ -1,12 +1,8 @@
 -- Who may make which step of the stop half: what holds of the stops before it.
 use Rattle.std.specs.Prelude.{◌≡◌, ◌≢◌, ◌⊎◌, ℕ, ◌+◌, Bool, true, false, Option, Some, None}
 use Rattle.smp_stop_steps.specs.Names.{has, word_of, seen_of, StopStage, Field, Act, Word, Gate, Slot, Key, Entry, Site}
-use Rattle.smp_stop_steps.specs.Callings.{HasCompleted}
-use Rattle.smp_stop_steps.specs.Laws.{IsThrough}
-use Rattle.smp_stop_steps.specs.Promises.{OfEachCpu}
-use Rattle.smp_stop_steps.specs.Stages.{stop_access}
-use Rattle.smp_stop_steps.specs.State.{StopState}
 use Rattle.smp_stop_steps.specs.Stop.{Stop, Inside, Called, Refills, Raises, Last, acked}
+use Rattle.smp_stop_steps.specs.{Callings.HasCompleted, Laws.IsThrough, Promises.OfEachCpu, Stages.stop_access, State.StopState}
 use Rattle.smp_stop_steps.specs.Names.field
 use Rattle.smp_stop_steps.specs.Names.act
 

@@ -1,14 +1,9 @@
 -- What holds between what is now, the words, and where each CPU is.
-use Rattle.std.specs.Prelude.{◌≡◌, ℕ, ◌≤◌, true, Some}
-use Rattle.std.specs.List.{AllByRecursion}
+use Rattle.std.specs.{Prelude.◌≡◌, Prelude.ℕ, Prelude.◌≤◌, Prelude.true, Prelude.Some, List.AllByRecursion}
 use Rattle.smp_labels.specs.Plans.{AreEntriesOf}
-use Rattle.smp_stop_steps.specs.Names.{Patch, Word, Slot, RUN}
-use Rattle.smp_stop_steps.specs.Stop.{acked, is_inside}
-use Rattle.smp_stop_steps.specs.Slots.{SlotShows}
 use Rattle.smp_stop_steps.specs.Labels.{Patching, Whole, Patches, LabelsShow, labels_in, Agrees, StandsSet}
-use Rattle.smp_stop_steps.specs.State.{Setup, Present}
-use Rattle.smp_stop_steps.specs.Seats.{Seat, Alters, Stands, irq_of}
-use Rattle.smp_stop_steps.specs.Sources.{IsPatchWork}
+use Rattle.smp_stop_steps.specs.{Names.Patch, Names.Word, Names.Slot, Names.RUN, Stop.acked, Stop.is_inside, Slots.SlotShows, State.Setup, State.Present}
+use Rattle.smp_stop_steps.specs.{Seats.Seat, Seats.Alters, Seats.Stands, Seats.irq_of, Sources.IsPatchWork}
 
 -- who patches is the first online CPU, inside the function of a patch
 abbrev pub RunnerShows : ℕ → Patching → (ℕ → Seat) → Type 0

@@ -1,24 +1,14 @@
 -- The laws of the stop half, of any number of CPUs and of any words that show stops.
 use Rattle.std.specs.Prelude.{◌≡◌, ◌≢◌, ℕ, ◌<◌, Bool, true, false, if◌then◌else◌, Some, List, [], ◌∷◌, ◌++◌}
 use Rattle.std.specs.List.{AllByRecursion}
-use Rattle.smp_labels.specs.Law.{IsLawful}
-use Rattle.smp_labels.specs.Plans.{AreEntriesOf}
+use Rattle.smp_labels.specs.{Law.IsLawful, Plans.AreEntriesOf}
 use Rattle.smp_words.specs.declared.seen.Note.TheVariants.{KeyRange}
 use Rattle.smp_stop_steps.specs.Names.{has, is_on, StopStage, Advance, NudgeKey, ExchangeKey, Visit, Patch, Work, Word, Gate, Slot, Key, Site}
-use Rattle.smp_stop_steps.specs.Stop.{Inside}
-use Rattle.smp_stop_steps.specs.Laws.{PhaseLaw, FunctionLaw}
-use Rattle.smp_stop_steps.specs.KeyCounts.{CountShows}
 use Rattle.smp_stop_steps.specs.Labels.{labels_in, Agrees, Change, Whole, Patches, ReadKey, patch_answer}
-use Rattle.smp_stop_steps.specs.State.{Setup, IsSetup, StopState, no_stops}
-use Rattle.smp_stop_steps.specs.Seats.{Seat, Free}
-use Rattle.smp_stop_steps.specs.Sources.{Source, Shut}
-use Rattle.smp_stop_steps.specs.Shows.{StopShows}
-use Rattle.smp_stop_steps.specs.Stages.{StopControlValue, stop_outcome}
-use Rattle.smp_stop_steps.specs.Carries.{CarriesIn}
-use Rattle.smp_stop_steps.specs.Sits.{Sits, IsNudge}
-use Rattle.smp_stop_steps.specs.Steps.{StopStep, CallStep, at_then, state_after}
-use Rattle.smp_stop_steps.specs.Tells.{plan_at, first_readings}
-use Rattle.smp_stop_steps.specs.declared.stage.RoundStage.TheVariants.{Acknowledge}
+use Rattle.smp_stop_steps.specs.{Stop.Inside, Laws.PhaseLaw, Laws.FunctionLaw, KeyCounts.CountShows, State.Setup, State.IsSetup, State.StopState}
+use Rattle.smp_stop_steps.specs.{State.no_stops, Seats.Seat, Seats.Free, Sources.Source, Sources.Shut, Shows.StopShows, Stages.StopControlValue}
+use Rattle.smp_stop_steps.specs.{Stages.stop_outcome, Carries.CarriesIn, Sits.Sits, Sits.IsNudge, Steps.StopStep, Steps.CallStep, Steps.at_then}
+use Rattle.smp_stop_steps.specs.{Steps.state_after, Tells.plan_at, Tells.first_readings, declared.stage.RoundStage.TheVariants.Acknowledge}
 use Rattle.smp_stop_steps.specs.Names.field
 
 -- at first: words with all slots and the gate free and a lawful label table with all keys off show that nothing was begun

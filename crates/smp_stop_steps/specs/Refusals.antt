@@ -1,12 +1,7 @@
 -- What a command of the stop half is refused for, said of the state of the stops.
 use Rattle.std.specs.Prelude.{◌≡◌, ◌≢◌, ◌⊎◌, ℕ, ◌<◌, true, false, Option, Some, None, length}
-use Rattle.smp_stop_steps.specs.Names.{has, SmpError, cpus, Command, One, Work}
-use Rattle.smp_stop_steps.specs.Counts.{mask_weight}
-use Rattle.smp_stop_steps.specs.Sources.{IsOfKind}
-use Rattle.smp_stop_steps.specs.Start.{stop_refusal}
-use Rattle.smp_stop_steps.specs.State.{Setup, StopState}
-use Rattle.smp_stop_steps.specs.Stop.{acked}
-use Rattle.smp_stop_steps.specs.Value.{StopsValue, StopShown, setup_of, stop_control_of}
+use Rattle.smp_stop_steps.specs.{Names.has, Names.SmpError, Names.Command, Names.One, Names.Work, State.Setup, Stop.acked, Value.StopShown, Value.setup_of}
+use Rattle.smp_stop_steps.specs.{Names.cpus, Counts.mask_weight, Sources.IsOfKind, Start.stop_refusal, State.StopState, Value.StopsValue, Value.stop_control_of}
 use Rattle.smp_stop_steps.specs.Names.error
 use Rattle.smp_stop_steps.specs.Names.command
 

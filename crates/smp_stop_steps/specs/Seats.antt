@@ -1,9 +1,7 @@
 -- Where a CPU is with the stops.
 use Rattle.std.specs.Prelude.{◌≡◌, ℕ, Bool, true, false, ◌==◌, ◌||◌, nat_lt, cond, Some, None}
-use Rattle.smp_stop_steps.specs.Names.{Patch, DISABLE_IRQ, RUN, EXIT}
 use Rattle.smp_stop_steps.specs.Stop.{Inside, Answering, Raising, Nobody, Refills, Raises, Last}
-use Rattle.smp_stop_steps.specs.Labels.{Patches}
-use Rattle.smp_stop_steps.specs.State.{Present}
+use Rattle.smp_stop_steps.specs.{Names.Patch, Names.DISABLE_IRQ, Names.RUN, Names.EXIT, Labels.Patches, State.Present}
 pub use Rattle.smp_stop_steps.specs.declared.known.Seat.{Seat}
 pub use Rattle.smp_stop_steps.specs.declared.known.Seat.TheVariants.{Free, In, Gives, Alters, Closes}
 pub use Rattle.smp_stop_steps.specs.declared.known.Duty.{Duty}

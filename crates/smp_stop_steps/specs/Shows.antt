@@ -1,13 +1,8 @@
 -- What holds between the stops, the words of the stop table, and where each CPU is, between any two steps.
 use Rattle.std.specs.Prelude.{◌≡◌, ℕ, ◌+◌, Option, Some, None}
 use Rattle.smp_stop_steps.specs.Names.{Word, Gate, Slot, Key}
-use Rattle.smp_stop_steps.specs.State.{Setup, IsSetup, StopState}
-use Rattle.smp_stop_steps.specs.Callings.{IsCalling, AreClosing}
-use Rattle.smp_stop_steps.specs.Seats.{Seat}
-use Rattle.smp_stop_steps.specs.Sources.{Source, SourceShows}
-use Rattle.smp_stop_steps.specs.Past.{HasPast}
-use Rattle.smp_stop_steps.specs.Present.{PresentShows, OwnsKey}
-use Rattle.smp_stop_steps.specs.KeyCounts.{CountShows}
+use Rattle.smp_stop_steps.specs.{State.Setup, State.IsSetup, State.StopState, Callings.IsCalling, Callings.AreClosing, Seats.Seat, Sources.Source}
+use Rattle.smp_stop_steps.specs.{Sources.SourceShows, Past.HasPast, Present.PresentShows, Present.OwnsKey, KeyCounts.CountShows}
 
 -- the holder of the gate + 1, or 0
 abbrev pub gate_word : Option ℕ → ℕ

@@ -3,14 +3,10 @@ use Rattle.std.specs.Prelude.{◌≡◌, ◌≢◌, ◌⊎◌, ℕ, ◌+◌, ◌
 use Rattle.smp_stop_steps.specs.Names.{has, is_on, change_of, IsKeyWord, patch_of, site_changes, MOST_SITES, CompletionStage, RoundStage, StopStage, OpenGate}
 use Rattle.smp_stop_steps.specs.Names.{Begin, Enter, EnterKind, EnterMask, EnterActive, Advance, Complete, Close, LoadDone, LoadResult, NudgeKey, ExchangeKey}
 use Rattle.smp_stop_steps.specs.Names.{Visit, One, Multi, Patch, Work, DISABLE_IRQ, RUN, EXIT}
-use Rattle.smp_stop_steps.specs.Labels.{Change, count_set, patch_answer}
-use Rattle.smp_stop_steps.specs.Tells.{plan_at}
-use Rattle.smp_stop_steps.specs.Slots.{order}
-use Rattle.smp_stop_steps.specs.State.{Setup}
 use Rattle.smp_stop_steps.specs.Seats.{Seat, Free, In, Gives, Alters, Closes, Duty, Rests, Fills, Sets, irq_of}
 use Rattle.smp_stop_steps.specs.Sources.{Source, Shut, Drafts, Owns, Collects}
-use Rattle.smp_stop_steps.specs.Stages.{StopControlValue}
-use Rattle.smp_stop_steps.specs.declared.stage.StopStage.TheVariants.{ReadKey, ReadSite}
+use Rattle.smp_stop_steps.specs.{Labels.Change, Labels.count_set, Labels.patch_answer, Tells.plan_at, Slots.order, State.Setup, Stages.StopControlValue}
+use Rattle.smp_stop_steps.specs.{declared.stage.StopStage.TheVariants.ReadKey, declared.stage.StopStage.TheVariants.ReadSite}
 use Rattle.smp_stop_steps.specs.Names.place
 use Rattle.smp_stop_steps.specs.Names.completion
 use Rattle.smp_stop_steps.specs.Names.round

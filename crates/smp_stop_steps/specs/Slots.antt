@@ -1,7 +1,6 @@
 -- What the words of one slot show of its stop.
 use Rattle.std.specs.Prelude.{◌≡◌, ◌≢◌, ◌⊎◌, ℕ, ◌+◌, ◌<◌, ◌≤◌, true, ◌&&◌, cond}
-use Rattle.smp_words.specs.Put.{same_field}
-use Rattle.smp_words.specs.Kinds.{kind_word}
+use Rattle.smp_words.specs.{Put.same_field, Kinds.kind_word}
 use Rattle.smp_stop_steps.specs.Names.{has, Field, Kind, One, Multi, Patch, Work, EXIT, OVER}
 use Rattle.smp_stop_steps.specs.Stop.{Standing, Outside, Called, Inside, Answering, Completed, Raising, Nobody, Refills, Raises, Ending, Running, Last, Ended}
 use Rattle.smp_stop_steps.specs.Stop.{Stop, is_of, is_called, first_phase}

@@ -1,10 +1,7 @@
 -- Where a source is with its own stop.
 use Rattle.std.specs.Prelude.{◌≡◌, ◌≢◌, ℕ, ◌<◌, ◌^◌, true, false, ◌==◌, Option, Some, ◌≤◌}
 use Rattle.smp_stop_steps.specs.Names.{has, Field, Kind, One, Multi, Patch, Work}
-use Rattle.smp_stop_steps.specs.Stop.{Stop, Ended}
-use Rattle.smp_stop_steps.specs.Counts.{mask_weight}
-use Rattle.smp_stop_steps.specs.Slots.{IsStored}
-use Rattle.smp_stop_steps.specs.State.{Setup}
+use Rattle.smp_stop_steps.specs.{Stop.Stop, Stop.Ended, Counts.mask_weight, Slots.IsStored, State.Setup}
 pub use Rattle.smp_stop_steps.specs.declared.known.Source.{Source}
 pub use Rattle.smp_stop_steps.specs.declared.known.Source.TheVariants.{Shut, Drafts, Owns, Collects}
 

@@ -1,22 +1,16 @@
 -- The steps of the commands of the stop half, one after another.
 use Rattle.std.specs.Int.{w32, cast_signed}
-use Rattle.std.specs.Prelude.{ℕ, ◌+◌, ◌-◌, ◌*◌, ◌%◌, ◌^◌, ◌<◌, ◌≤◌, Bool, true, false, ◌==◌, ◌&&◌, ◌||◌, if◌then◌else◌, Option, Some, None, List, [], ◌∷◌}
-use Rattle.std.specs.Prelude.{◌++◌, length}
-use Rattle.smp_labels.specs.Entries.{entry_at, IsEntryWord}
-use Rattle.smp_labels.specs.Kinds.{xor}
-use Rattle.smp_labels.specs.declared.keys.Change.{Change as KeyChange}
-use Rattle.smp_labels.specs.declared.keys.Change.TheVariants.{Up, Down}
-use Rattle.smp_labels.specs.Plans.{site_change}
+use Rattle.std.specs.Prelude.{ℕ, ◌+◌, ◌-◌, ◌*◌, ◌%◌, ◌^◌, ◌<◌, ◌≤◌, Bool, true, false, ◌==◌, ◌&&◌, ◌||◌, if◌then◌else◌, Option, Some, None, List, [], ◌∷◌, ◌++◌}
+use Rattle.std.specs.Prelude.{length}
+use Rattle.smp_labels.specs.{Entries.entry_at, Entries.IsEntryWord, Kinds.xor, declared.keys.Change.Change as KeyChange, declared.keys.Change.TheVariants.Up}
+use Rattle.smp_labels.specs.{declared.keys.Change.TheVariants.Down, Plans.site_change}
 use Rattle.smp_words.specs.Kinds.{kind_at}
 use Rattle.smp_words.specs.declared.access.Access.TheVariants.{Load, Store, Exchange, Sub, And}
 use Rattle.smp_stop_steps.specs.Names.{has, is_on, change_of, count_after, Place, MOST_SITES, Access, Note, Field, CompletionStage, RoundStage, StopStage}
 use Rattle.smp_stop_steps.specs.Names.{TakeGate, OpenGate, Begin, Enter, EnterKind, EnterMask, EnterActive, Advance, Complete, Close, LoadDone, LoadResult}
 use Rattle.smp_stop_steps.specs.Names.{NudgeKey, ExchangeKey, Visit, Kind, Work, Word, Gate, Slot, Key, Entry, Site, DISABLE_IRQ, RUN, EXIT}
-use Rattle.smp_stop_steps.specs.Counts.{mask_weight}
-use Rattle.smp_stop_steps.specs.Slots.{begun_value}
-use Rattle.smp_stop_steps.specs.Labels.{Change}
-use Rattle.smp_stop_steps.specs.Tells.{is_multi}
 use Rattle.smp_stop_steps.specs.declared.stage.StopStage.TheVariants.{ReadKey, ReadSite}
+use Rattle.smp_stop_steps.specs.{Counts.mask_weight, Slots.begun_value, Labels.Change, Tells.is_multi}
 use Rattle.smp_stop_steps.specs.Names.place
 use Rattle.smp_stop_steps.specs.Names.note
 use Rattle.smp_stop_steps.specs.Names.field

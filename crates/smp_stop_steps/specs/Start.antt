@@ -1,18 +1,12 @@
 -- When a command of the stop half may start, and where it begins.
-use Rattle.std.specs.Int.{cast_unsigned, w32}
-use Rattle.std.specs.Int.Bits.{bit_and}
 use Rattle.std.specs.Prelude.{ℕ, ℤ, ◌+◌, ◌^◌, Bool, true, false, ◌==◌, ◌&&◌, ◌||◌, not, nat_lt, if◌then◌else◌, Option, Some, None, length}
+use Rattle.std.specs.{Int.cast_unsigned, Int.w32, Int.Bits.bit_and}
 use Rattle.smp_words.specs.declared.size.TheConstants.{FIRST_TARGETS}
-use Rattle.smp_stop_steps.specs.Names.{SmpError, cpus, Command, StopStage, TakeGate, OpenGate, Begin, Enter, Advance, Complete, LoadDone, NudgeKey, Visit}
-use Rattle.smp_stop_steps.specs.Names.{Kind, One, Multi, Patch, Work, Gate, EXIT}
-use Rattle.smp_stop_steps.specs.Counts.{mask_weight}
-use Rattle.smp_stop_steps.specs.Stages.{StopControlValue, completes_from}
-use Rattle.smp_stop_steps.specs.Table.{stop_number}
-use Rattle.smp_stop_steps.specs.Tells.{is_one}
+use Rattle.smp_stop_steps.specs.Names.{SmpError, cpus, Command, StopStage, TakeGate, OpenGate, Begin, Enter, Advance, Complete, LoadDone, NudgeKey, Visit, Kind}
+use Rattle.smp_stop_steps.specs.Names.{One, Multi, Patch, Work, Gate, EXIT}
 use Rattle.smp_stop_steps.specs.Value.{StopsValue, first_below, stop_control_of}
-use Rattle.smp_stop_steps.specs.Begins.{stop_begun}
-use Rattle.smp_stop_steps.specs.declared.stage.StopStage.TheVariants.{ReadKey, ReadSite}
-use Rattle.smp_stop_steps.specs.declared.start.Terms.{Terms}
+use Rattle.smp_stop_steps.specs.{Counts.mask_weight, Stages.StopControlValue, Stages.completes_from, Table.stop_number, Tells.is_one, Begins.stop_begun}
+use Rattle.smp_stop_steps.specs.{declared.stage.StopStage.TheVariants.ReadKey, declared.stage.StopStage.TheVariants.ReadSite, declared.start.Terms.Terms}
 use Rattle.smp_stop_steps.specs.Names.error
 use Rattle.smp_stop_steps.specs.Names.command
 use Rattle.smp_stop_steps.specs.Names.field

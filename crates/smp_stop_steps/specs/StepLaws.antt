@@ -1,18 +1,9 @@
 -- What each step that a stop half may make next keeps, beside the stops that it tells.
 use Rattle.std.specs.Prelude.{◌≡◌, ℕ, Some, None}
-use Rattle.smp_stop_steps.specs.Names.{word_of, seen_of, StopStage, Word}
-use Rattle.smp_stop_steps.specs.AnswerWords.{KeepsAnswers}
-use Rattle.smp_stop_steps.specs.Labels.{Change}
-use Rattle.smp_stop_steps.specs.Machine.{stop_seen_at}
-use Rattle.smp_stop_steps.specs.Notes.{NoteFits, StopNoteFits}
-use Rattle.smp_stop_steps.specs.Patchers.{IsNextOfPatch, label_stored}
-use Rattle.smp_stop_steps.specs.Premises.{MaySee}
-use Rattle.smp_stop_steps.specs.Stages.{StopControlValue, answer_at, stop_access}
-use Rattle.smp_stop_steps.specs.State.{Setup, StopState}
-use Rattle.smp_stop_steps.specs.Steps.{FunctionGoes, note_then, state_after}
-use Rattle.smp_stop_steps.specs.Table.{stop_number}
-use Rattle.smp_stop_steps.specs.Tells.{tells}
-use Rattle.smp_stop_steps.specs.Value.{StopsValue, StopShown, setup_of, stop_control_of}
+use Rattle.smp_stop_steps.specs.{Names.word_of, Names.seen_of, Names.StopStage, Names.Word, AnswerWords.KeepsAnswers, Labels.Change, Machine.stop_seen_at}
+use Rattle.smp_stop_steps.specs.{Notes.NoteFits, Notes.StopNoteFits, Patchers.IsNextOfPatch, Patchers.label_stored, Premises.MaySee, Stages.StopControlValue}
+use Rattle.smp_stop_steps.specs.{Stages.answer_at, Stages.stop_access, State.Setup, State.StopState, Steps.FunctionGoes, Steps.note_then, Steps.state_after}
+use Rattle.smp_stop_steps.specs.{Table.stop_number, Tells.tells, Value.StopsValue, Value.StopShown, Value.setup_of, Value.stop_control_of}
 
 -- of the step of a CPU at this stage: who may make it, what it does of functions, that a store to a label is one of a patch,
 -- that its note says what it has changed, and that answers and results stay those of i32s

@@ -1,15 +1,9 @@
 -- What is to be proved of each step of a command of the stop half.
 use Rattle.std.specs.Prelude.{◌≡◌, ◌≢◌, ◌⊎◌, ℕ, Bool, true, false, Option, Some, List, [], ◌∷◌, ◌++◌}
 use Rattle.smp_stop_steps.specs.Names.{put, word_of, at_after, seen_of, StopStage, Note, One, Patch, Word, Gate}
-use Rattle.smp_stop_steps.specs.Callings.{HasCalled, answer_in}
 use Rattle.smp_stop_steps.specs.State.{Setup, StopState, Calling, Idle, Calls, StopCall}
-use Rattle.smp_stop_steps.specs.Tells.{called_more, carried, tells}
-use Rattle.smp_stop_steps.specs.Seats.{Seat}
-use Rattle.smp_stop_steps.specs.Sources.{Source}
-use Rattle.smp_stop_steps.specs.Shows.{StopShows}
-use Rattle.smp_stop_steps.specs.Stages.{StopControlValue, stop_access, stop_outcome, answer_at}
-use Rattle.smp_stop_steps.specs.Carries.{CarriesIn}
-use Rattle.smp_stop_steps.specs.Sits.{Sits}
+use Rattle.smp_stop_steps.specs.{Callings.HasCalled, Callings.answer_in, Tells.called_more, Stages.StopControlValue, Stages.stop_access, Stages.stop_outcome}
+use Rattle.smp_stop_steps.specs.{Tells.carried, Tells.tells, Seats.Seat, Sources.Source, Shows.StopShows, Stages.answer_at, Carries.CarriesIn, Sits.Sits}
 use Rattle.smp_stop_steps.specs.Names.note
 
 -- the state after a step of a CPU at this stage

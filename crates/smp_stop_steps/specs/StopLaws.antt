@@ -1,18 +1,8 @@
 -- All laws of the stop half, of these stops and these words.
 use Rattle.std.specs.Prelude.{◌≡◌, ◌≢◌, ℕ, true}
-use Rattle.smp_stop_steps.specs.Names.{DISABLE_IRQ, RUN, Word, Slot, Key}
-use Rattle.smp_stop_steps.specs.Closings.{HasLast}
-use Rattle.smp_stop_steps.specs.Functions.{HasFunctions}
-use Rattle.smp_stop_steps.specs.Interrupts.{InterruptLaw}
-use Rattle.smp_stop_steps.specs.KeyCounts.{CountShows}
-use Rattle.smp_stop_steps.specs.Laws.{PhaseLaw}
-use Rattle.smp_stop_steps.specs.Patchers.{IsLawfulOutside, HasPatcher}
-use Rattle.smp_stop_steps.specs.Promises.{RunsAlone, ReadsLawful, IsPatchedAlone}
-use Rattle.smp_stop_steps.specs.Seats.{Seat}
-use Rattle.smp_stop_steps.specs.Shows.{StopShows}
-use Rattle.smp_stop_steps.specs.Sources.{Source}
-use Rattle.smp_stop_steps.specs.State.{Setup, StopState}
-use Rattle.smp_stop_steps.specs.Stop.{Inside}
+use Rattle.smp_stop_steps.specs.{Names.DISABLE_IRQ, Names.RUN, Closings.HasLast, Patchers.HasPatcher, Promises.RunsAlone, Promises.ReadsLawful, Shows.StopShows}
+use Rattle.smp_stop_steps.specs.{Names.Word, Names.Slot, Names.Key, Laws.PhaseLaw, Seats.Seat, Sources.Source, State.Setup, State.StopState, Stop.Inside}
+use Rattle.smp_stop_steps.specs.{Functions.HasFunctions, Interrupts.InterruptLaw, KeyCounts.CountShows, Patchers.IsLawfulOutside, Promises.IsPatchedAlone}
 use Rattle.smp_stop_steps.specs.Names.field
 
 pub record KeepsStopLaws (u : Setup) (p : StopState) (at : Word → ℕ) : Type 0 where

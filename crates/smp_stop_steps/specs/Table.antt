@@ -1,9 +1,7 @@
 -- The words of a stop table, and what an access does to them.
 use Rattle.std.specs.Prelude.{ℕ, ◌+◌, ◌*◌, nat_lt, if◌then◌else◌, Option, Some, None, List, slice_index, slice_set}
-use Rattle.smp_words.specs.Put.{place_of}
 use Rattle.smp_words.specs.Layout.{number_at, number_if, put_at}
-use Rattle.smp_words.specs.Access.{put_by, put_if}
-use Rattle.smp_words.specs.declared.size.TheConstants.{NR_CPUS, FIELDS}
+use Rattle.smp_words.specs.{Put.place_of, Access.put_by, Access.put_if, declared.size.TheConstants.NR_CPUS, declared.size.TheConstants.FIELDS}
 use Rattle.smp_stop_steps.specs.Names.{MOST_KEYS, MOST_SITES, word_of, Access, Field, Word, Gate, Slot, Key, Entry, Site}
 
 -- the gate, the words of all slots, and those of the labels

@@ -1,17 +1,10 @@
 -- What contracts are to see of the stop half of a machine, and the stops that it shows.
 use Rattle.std.specs.Prelude.{◌≡◌, ℕ, zero, suc, ◌<◌, ◌≤◌, ◌==◌, if◌then◌else◌, List, length, map, slice_index_or}
-use Rattle.smp_labels.specs.Entries.{entry_word}
-use Rattle.smp_labels.specs.Labels.{Labels}
+use Rattle.smp_labels.specs.{Entries.entry_word, Labels.Labels}
 use Rattle.smp_words.specs.declared.size.TheConstants.{SLOT_WORDS}
 use Rattle.smp_stop_steps.specs.Names.{has, MOST_KEYS, MOST_SITES, cpus, Gate}
-use Rattle.smp_stop_steps.specs.State.{Setup, StopState}
-use Rattle.smp_stop_steps.specs.Carries.{CarriesIn}
-use Rattle.smp_stop_steps.specs.Seats.{Seat}
-use Rattle.smp_stop_steps.specs.Sources.{Source, Shut}
-use Rattle.smp_stop_steps.specs.Shows.{StopShows}
-use Rattle.smp_stop_steps.specs.Stages.{StopControlValue, stop_outside}
-use Rattle.smp_stop_steps.specs.Sits.{Sits}
-use Rattle.smp_stop_steps.specs.Table.{StopWords, stop_number}
+use Rattle.smp_stop_steps.specs.{State.Setup, State.StopState, Carries.CarriesIn, Seats.Seat, Sources.Source, Sources.Shut, Shows.StopShows}
+use Rattle.smp_stop_steps.specs.{Stages.StopControlValue, Stages.stop_outside, Sits.Sits, Table.StopWords, Table.stop_number}
 
 -- the least member of a mask below k, or k where there is none
 unfoldable pub first_below : ℕ → ℕ → ℕ

@@ -1,9 +1,8 @@
 -- A roll without one of its CPUs.
 use Rattle.std.proofs.Common.{◌≡◌, ◌≢◌, ℕ, ◌<◌, ◌≤◌, false, ◌==◌, ap, inl, inr, arith, bit_and}
-use Rattle.std.specs.Int.{bit_at, w64}
-use Rattle.std.proofs.lemmas.Bool.{cases_lt}
-use Rattle.std.proofs.lemmas.Bool.Decides.{nat_tests}
 use Rattle.std.proofs.lemmas.Nat.Bits.{bit_at-lt, bit_at_and, bit_at_clear_same, bit_at_clear_other, same_from_bits}
+use Rattle.std.proofs.{lemmas.Bool.cases_lt, lemmas.Bool.Decides.nat_tests}
+use Rattle.std.specs.Int.{bit_at, w64}
 use Rattle.smp_stop_steps.specs.{has, all_but}
 
 pub clear_same : (n k : ℕ) → k < 64 → has (bit_and n (all_but k)) k ≡ false

@@ -1,13 +1,10 @@
 -- The bits of a mask: how many of them are set, and the least.
 use Rattle.std.proofs.Common.{◌≡◌, ℕ, zero, suc, ◌+◌, ◌*◌, ◌%◌, ◌^◌, ◌<◌, ◌≤◌, true, false, ◌≢◌, ◌==◌, ap, sym, ◌∙◌, refl, inl, inr, eq-eqb, ne_eqb, arith}
-use Rattle.std.proofs.lemmas.Bool.{cases_lt}
-use Rattle.std.proofs.lemmas.Nat.{mod-pow-add, ones-le, ones_cat, pow_pos}
-use Rattle.std.proofs.lemmas.Nat.Bits.{bit_at-lt}
-use Rattle.std.specs.Int.{bit_at}
-use Rattle.std.specs.Int.Count.{ones}
-use lib.Count.{ones_step}
+use Rattle.std.proofs.{lemmas.Bool.cases_lt, lemmas.Nat.mod-pow-add, lemmas.Nat.ones-le, lemmas.Nat.ones_cat, lemmas.Nat.pow_pos, lemmas.Nat.Bits.bit_at-lt}
+use Rattle.std.specs.{Int.bit_at, Int.Count.ones}
 use Rattle.smp_mask.specs.Mask.{IsLeast}
 use Rattle.smp_stop_steps.specs.{has, sum_below, bit, mask_weight, first_below}
+use lib.Count.{ones_step}
 
 bit_is : (mask k : ℕ) → bit (has mask k) ≡ ones (bit_at mask k)
 bit_is mask k = let low = bit_at-lt mask k in go (bit_at mask k) low

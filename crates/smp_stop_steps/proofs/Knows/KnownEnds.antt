@@ -3,18 +3,13 @@ use Rattle.std.proofs.Common.{◌≡◌, ◌≢◌, ℕ, ◌-◌, ◌<◌, false
 use Rattle.smp_words.specs.Access.{one_less}
 use Rattle.smp_words.proofs.Puts.{put_same, put_other}
 use Rattle.smp_stop_steps.specs.{put, put_word, cpus, IsCalling, answer_in, with_answer, Seat, Free, In, Gives, Closes, Rests, StopShows, Source, Setup}
-use Rattle.smp_stop_steps.specs.{StopState, Calling, Idle, Standing, told, stored_open, stored_shut, completes, completes_with, told_calling, Sees}
-use Rattle.smp_stop_steps.specs.{GoesOnBy, Act}
-use Rattle.smp_stop_steps.specs.{columns_of, AreFirst, setup_in, is_drafting, drafted_known, slot_stored, member_stored, given_by, completed_by}
-use Rattle.smp_stop_steps.specs.{completed_with, Work, Word, Slot}
-use Rattle.smp_stop_steps.proofs.Steps.Callings.{answer_replaced, calling_given}
-use Rattle.smp_stop_steps.specs.Known.{AreTold, Known}
-use Rattle.smp_stop_steps.specs.Moves.{IsThrough}
+use Rattle.smp_stop_steps.specs.{StopState, Calling, Idle, Standing, told, stored_open, stored_shut, completes, completes_with, told_calling, Sees, GoesOnBy}
+use Rattle.smp_stop_steps.specs.{Act, columns_of, AreFirst, setup_in, is_drafting, drafted_known, slot_stored, member_stored, given_by, completed_by}
+use Rattle.smp_stop_steps.specs.{completed_with, Work, Word, Slot, Known.AreTold, Known.Known, Moves.IsThrough}
 use Rattle.smp_stop_steps.proofs.Steps.Completions.{result_stored, todo_subtracted, todo_subtracted_answered, done_stored}
-use Rattle.smp_stop_steps.proofs.Steps.Facts.{todo_bounds, todo_bounds_answered}
-use Rattle.smp_stop_steps.proofs.Knows.KnownRounds.{open_at, stands, small}
 use Rattle.smp_stop_steps.proofs.Knows.Parts.{Leaves, first_put, goes_seat, seen_by, told_so}
-use Rattle.smp_stop_steps.proofs.Steps.StageSteps.{less_one}
+use Rattle.smp_stop_steps.proofs.{Steps.Callings.answer_replaced, Steps.Callings.calling_given, Steps.Facts.todo_bounds, Steps.Facts.todo_bounds_answered}
+use Rattle.smp_stop_steps.proofs.{Knows.KnownRounds.open_at, Knows.KnownRounds.stands, Knows.KnownRounds.small, Steps.StageSteps.less_one}
 use Rattle.smp_stop_steps.specs.act
 use Rattle.smp_stop_steps.specs.field
 

@@ -1,21 +1,17 @@
 -- The steps on labels of a CPU that knows v: readings, nudges, and patches.
-use Rattle.std.proofs.Common.{arith, ◌≡◌, ℕ, ◌<◌, eqb-true, Bool, true, false, ◌==◌, ◌&&◌, cond, Option, Some, None, List, [], ◌∷◌, ◌++◌, sym, subst}
-use Rattle.std.proofs.Common.{refl, ap, ◌∙◌}
+use Rattle.std.proofs.Common.{arith, ◌≡◌, ℕ, ◌<◌, eqb-true, Bool, true, false, ◌==◌, ◌&&◌, cond, Option, Some, None, List, [], ◌∷◌, ◌++◌, sym, subst, refl, ap}
+use Rattle.std.proofs.Common.{◌∙◌}
 use Rattle.smp_labels.proofs.Patched.{plan_key_first}
 use Rattle.smp_words.specs.Access.{put_if}
 use Rattle.smp_words.proofs.Puts.{at_test, put_same, put_other}
 use Rattle.smp_stop_steps.specs.{has, is_on, Place, MOST_KEYS, word_of, at_after, seen_of, put, put_word, moves, moved_by, Change, Patches, Reading, ReadKey}
 use Rattle.smp_stop_steps.specs.{ReadSite, count_set, Seat, Free, In, Gives, Alters, Closes, Duty, Rests, irq_of, StopShows, IsNudge, Source, store_of, Setup}
-use Rattle.smp_stop_steps.specs.{StopState, Moved, unmoved, told, is_patch, is_at_run, reads, key_loaded, key_patched, patched_more, patch_begun, plan_at}
-use Rattle.smp_stop_steps.specs.{Sees, GoesOnBy, Act, AreFirst, setup_in, reads_more, key_loaded_by, key_known, key_read_known, counted, learned, Patch, Work}
-use Rattle.smp_stop_steps.specs.{Word, Key, Site}
-use Rattle.smp_stop_steps.specs.State.{Present}
-use Rattle.smp_stop_steps.specs.Known.{Known}
-use Rattle.smp_stop_steps.specs.Moves.{entering}
-use Rattle.smp_stop_steps.proofs.Knows.KnownRounds.{stands, reads_now}
-use Rattle.smp_stop_steps.proofs.Knows.KnownSources.{still}
+use Rattle.smp_stop_steps.specs.{StopState, Moved, unmoved, told, is_patch, is_at_run, reads, key_loaded, key_patched, patched_more, patch_begun, plan_at, Sees}
+use Rattle.smp_stop_steps.specs.{GoesOnBy, Act, AreFirst, setup_in, reads_more, key_loaded_by, key_known, key_read_known, counted, learned, Patch, Work, Word}
+use Rattle.smp_stop_steps.specs.{Key, Site, State.Present, Known.Known, Moves.entering}
 use Rattle.smp_stop_steps.proofs.Knows.Parts.{Leaves, first_put, goes_seat, goes_still, noted, seen_by, told_so}
 use Rattle.smp_stop_steps.proofs.Steps.Patching.{key_read, site_read, key_loaded_first, key_stored, site_stored, key_exchanged}
+use Rattle.smp_stop_steps.proofs.{Knows.KnownRounds.stands, Knows.KnownRounds.reads_now, Knows.KnownSources.still}
 use Rattle.smp_stop_steps.specs.place
 use Rattle.smp_stop_steps.specs.act
 use Rattle.smp_stop_steps.specs.declared.known.OwnMove.TheVariants as own

@@ -1,27 +1,19 @@
 -- The steps of a CPU that knows v: it enters a stop, and goes through its phases.
-use Rattle.std.proofs.Common.{◌≡◌, ◌≢◌, ℕ, ◌+◌, ◌-◌, ◌<◌, ◌≤◌, ◌^◌, Bool, true, false, ◌==◌, ◌&&◌, not, cond, Option, Some, None, List, [], ◌∷◌, ◌++◌}
-use Rattle.std.proofs.Common.{sym, subst}
-use Rattle.std.proofs.Common.{refl, ap, ◌∙◌, arith, bit_and}
+use Rattle.std.proofs.Common.{◌≡◌, ◌≢◌, ℕ, ◌+◌, ◌-◌, ◌<◌, ◌≤◌, ◌^◌, Bool, true, false, ◌==◌, ◌&&◌, not, cond, Option, Some, None, List, [], ◌∷◌, ◌++◌, sym}
+use Rattle.std.proofs.Common.{subst, refl, ap, ◌∙◌, arith, bit_and}
 use Rattle.smp_words.specs.Access.{one_less}
 use Rattle.smp_words.proofs.Puts.{put_same, put_other}
-use Rattle.smp_stop_steps.specs.{HasCalled, has, put, put_word, cpus, mask_weight, Change, Reading, Seat, Free, In, Alters, Duty, Rests, Fills, Sets, Stands}
-use Rattle.smp_stop_steps.specs.{StopShows, Source, all_but, Setup, StopState, StopCall, Calling, Calls, Standing, Inside, acknowledged, raised, told, enters}
-use Rattle.smp_stop_steps.specs.{acknowledges, acknowledges_now, raises, stored_open, stored_shut, with_stop, leaves, unpatched, carried, may_call}
-use Rattle.smp_stop_steps.specs.{carried_call, told_calling, Sees, GoesOnBy, Act, columns_of, setup_in, Part, called_by, ran_since, is_drafting, drafted_known}
-use Rattle.smp_stop_steps.specs.{slot_stored, member_stored, entered_known, refilled_by, raised_by, looked_known, acked_by, read_since, Field, Work, Word, Slot}
-use Rattle.smp_stop_steps.proofs.Steps.Same.{word_same}
-use Rattle.smp_stop_steps.proofs.Steps.Callings.{carried_alone}
+use Rattle.smp_stop_steps.specs.{HasCalled, mask_weight, stored_open, stored_shut, columns_of, is_drafting, slot_stored, refilled_by, looked_known, Known.Known}
+use Rattle.smp_stop_steps.specs.{has, put, Seat, Free, In, Duty, Rests, Fills, Sets, Setup, Calls, told, leaves, Sees, Act, Part, Field, Work, Word, Slot}
+use Rattle.smp_stop_steps.specs.{put_word, StopShows, all_but, StopState, StopCall, Standing, with_stop, unpatched, called_by, ran_since, raised_by, read_since}
+use Rattle.smp_stop_steps.specs.{cpus, Change, Alters, Stands, Source, Calling, Inside, raised, enters, raises, carried, may_call, GoesOnBy, setup_in, acked_by}
+use Rattle.smp_stop_steps.specs.{Reading, acknowledged, acknowledges, acknowledges_now, carried_call, told_calling, drafted_known, member_stored, entered_known}
 use Rattle.smp_stop_steps.specs.State.{Present, Carries}
-use Rattle.smp_stop_steps.specs.Known.{Known}
-use Rattle.smp_stop_steps.proofs.Basics.Bits.{clear_same, clear_other, clear_none}
-use Rattle.smp_stop_steps.proofs.Steps.Completions.{roll_cleared}
-use Rattle.smp_stop_steps.proofs.State.Moves.{IsNoPatch}
-use Rattle.smp_stop_steps.proofs.Steps.Facts.{high_none, arg_loaded, ack_bounds, ack_bounds_patched}
-use Rattle.smp_stop_steps.proofs.Knows.KnownSources.{still}
 use Rattle.smp_stop_steps.proofs.Knows.Parts.{Leaves, attempted, goes_seat, goes_still, seen_by, told_so}
-use Rattle.smp_stop_steps.proofs.State.Phases.{is_open_inside}
 use Rattle.smp_stop_steps.proofs.Steps.Rounds.{state_loaded, ack_subtracted, ack_subtracted_patched, ack_stored, state_stored}
-use Rattle.smp_stop_steps.proofs.Steps.StageSteps.{less_one}
+use Rattle.smp_stop_steps.proofs.{Steps.Same.word_same, Steps.Callings.carried_alone, Basics.Bits.clear_same, Basics.Bits.clear_other, Basics.Bits.clear_none}
+use Rattle.smp_stop_steps.proofs.{Steps.Completions.roll_cleared, State.Moves.IsNoPatch, Steps.Facts.high_none, Steps.Facts.arg_loaded, Steps.Facts.ack_bounds}
+use Rattle.smp_stop_steps.proofs.{Steps.Facts.ack_bounds_patched, Knows.KnownSources.still, State.Phases.is_open_inside, Steps.StageSteps.less_one}
 use Rattle.smp_stop_steps.specs.act
 use Rattle.smp_stop_steps.specs.field
 

@@ -1,13 +1,12 @@
 -- The steps of a source that knows v: the gate, begin, and the ends of its own stop.
-use Rattle.std.proofs.Common.{◌≡◌, ◌≢◌, ℕ, ◌+◌, ◌<◌, nat_lt, lt-ltb, eqb-true, eq-eqb, ne_eqb, Bool, true, false, ◌==◌, cond, Option, Some, None, [], ◌∷◌}
-use Rattle.std.proofs.Common.{◌++◌, sym, subst, refl, ap, ◌∙◌, arith}
+use Rattle.std.proofs.Common.{◌≡◌, ◌≢◌, ℕ, ◌+◌, ◌<◌, nat_lt, lt-ltb, eqb-true, eq-eqb, ne_eqb, Bool, true, false, ◌==◌, cond, Option, Some, None, [], ◌∷◌, ◌++◌}
+use Rattle.std.proofs.Common.{sym, subst, refl, ap, ◌∙◌, arith}
 use Rattle.smp_words.specs.Access.{put_if}
 use Rattle.smp_words.proofs.Puts.{put_all, put_same, put_other}
 use Rattle.smp_stop_steps.specs.{put, put_word, cpus, Seat, StopShows, DoneShows, begun_value, order, Source, Shut, Drafts, Owns, Collects, SourceShows}
 use Rattle.smp_stop_steps.specs.{DraftShows, IsDrafted, IsWork, Setup, StopState, Standing, Ending, told, drafted, drafts, opens, stored_open, stored_shut}
 use Rattle.smp_stop_steps.specs.{Sees, GoesOnBy, Act, IsBegun, told_source, told_work, holds_it, setup_in, is_drafting, drafted_known, draft_known, opened_by}
-use Rattle.smp_stop_steps.specs.{slot_stored, gate_known, done_by, done_known, collected_known, Field, One, Work, Word, Gate, Slot}
-use Rattle.smp_stop_steps.specs.Known.{Known}
+use Rattle.smp_stop_steps.specs.{slot_stored, gate_known, done_by, done_known, collected_known, Field, One, Work, Word, Gate, Slot, Known.Known}
 use Rattle.smp_stop_steps.proofs.Knows.Parts.{Leaves, goes, goes_source, goes_still, noted, seen_by, told_so}
 use Rattle.smp_stop_steps.proofs.Steps.Sources.{gate_taken, gate_opened, field_stored, roll_stored, done_loaded, result_loaded, kind_back, work_ext}
 use Rattle.smp_stop_steps.specs.act

@@ -1,15 +1,13 @@
 -- Each step that a CPU may make is counted once, but for the stores that are due.
 use Rattle.std.proofs.Common.{◌≡◌, ℕ, ◌+◌, ◌==◌, ◌&&◌, not, Bool, true, false, cond, Option, Some, None, refl, ap, ◌∙◌, arith}
+use Rattle.smp_stop_steps.specs.{begun_value, cpus, has, mask_weight, seen_of, Seat, Free, In, Gives, Alters, Closes, Source, Shut, Drafts, Owns, Collects}
+use Rattle.smp_stop_steps.specs.{Field, Work, acked_by, called_by, completed_by, drafted_known, entered_known, gate_known, is_drafting, key_known}
+use Rattle.smp_stop_steps.specs.{key_loaded_by, learned, is_due, is_due_field, member_stored, opened_by, order, raised_by, slot_known, slot_stored, told_work}
+use Rattle.smp_stop_steps.specs.{Act, Word, Slot, Known.Known, Known.stepped, KnownLaws.KnownStepsCount, KnownLaws.weight_of}
+use Rattle.smp_stop_steps.specs.Moves.{Move, TakeGate, OpenGate, Draft, DraftMore, Open, Enter, Look, Acknowledge, AcknowledgePatch, Refill, Raise, Give, Count}
+use Rattle.smp_stop_steps.specs.Moves.{CountGiven, Close, LookDone, Collect, ReadKey, ReadSite, Nudge, BeginPatch, Alter, LoadArg, LoadField, LoadEntry}
+use Rattle.smp_stop_steps.specs.Moves.{MayStep, known_access}
 use Rattle.smp_labels.specs.declared.patch.Place.TheVariants as place
-use Rattle.smp_stop_steps.specs.{begun_value, cpus, has, mask_weight, seen_of, Seat, Free, In, Gives, Alters, Closes, Source, Shut, Drafts, Owns}
-use Rattle.smp_stop_steps.specs.{Collects, Field, Work}
-use Rattle.smp_stop_steps.specs.{acked_by, called_by, completed_by, drafted_known, entered_known, gate_known, is_drafting, key_known, key_loaded_by, learned}
-use Rattle.smp_stop_steps.specs.{is_due, is_due_field, member_stored, opened_by, order, raised_by, slot_known, slot_stored, told_work, Act, Word, Slot}
-use Rattle.smp_stop_steps.specs.Known.{Known, stepped}
-use Rattle.smp_stop_steps.specs.KnownLaws.{KnownStepsCount, weight_of}
-use Rattle.smp_stop_steps.specs.Moves.{Move, TakeGate, OpenGate, Draft, DraftMore, Open, Enter, Look, Acknowledge, AcknowledgePatch, Refill, Raise, Give}
-use Rattle.smp_stop_steps.specs.Moves.{Count, CountGiven, Close, LookDone, Collect, ReadKey, ReadSite, Nudge, BeginPatch, Alter, LoadArg, LoadField}
-use Rattle.smp_stop_steps.specs.Moves.{LoadEntry, MayStep, known_access}
 use Rattle.smp_stop_steps.specs.act
 use Rattle.smp_stop_steps.specs.field
 

@@ -1,11 +1,9 @@
 -- What a step of a CPU leaves to it and to all others.
 use Rattle.std.proofs.Common.{◌≡◌, ◌≢◌, ℕ, ◌+◌, ◌<◌, Bool, true, false, cond, List, Option, None, get_or, set, replicate, inl, refl, ap, subst, ◌∙◌, sym, arith}
 use Rattle.std.proofs.lemmas.List.{length-set, length-replicate, get_or-set_same, get_or-set_other}
-use Rattle.smp_words.proofs.Puts.{at_test, put_same, put_other}
-use Rattle.smp_words.proofs.Zeros.{get_or-same}
-use Rattle.smp_stop_steps.specs.{put, cpus, Word, Part, Setting, fresh, columns_of, AreFirst, AreTold, Columns, IsPart, Sees, GoesOnBy, IsBegun, Act}
-use Rattle.smp_stop_steps.specs.{Seen, Setup, told, told_source, setup_in, Seat}
-use Rattle.smp_stop_steps.specs.{Free, StopShows, Source, Shut, StopState, no_stops}
+use Rattle.smp_words.proofs.{Puts.at_test, Puts.put_same, Puts.put_other, Zeros.get_or-same}
+use Rattle.smp_stop_steps.specs.{put, cpus, Word, Part, Setting, fresh, columns_of, AreFirst, AreTold, Columns, IsPart, Sees, GoesOnBy, IsBegun, Act, Seen}
+use Rattle.smp_stop_steps.specs.{Setup, told, told_source, setup_in, Seat, Free, StopShows, Source, Shut, StopState, no_stops}
 use Rattle.smp_stop_steps.specs.Known.{Attempt, Known, OwnMove, stepped}
 
 -- the list of a function's first values, with one changed

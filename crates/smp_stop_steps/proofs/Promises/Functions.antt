@@ -2,9 +2,7 @@
 use Rattle.std.proofs.Common.{◌≡◌, ℕ, true, sym, refl, ◌∙◌, arith}
 use Rattle.smp_stop_steps.specs.{IsLast, IsClosing, HasFunctions, Seat, Closes, StopShows, DoneShows, Source, Setup, StopState, Ending, Running, Last, Ended}
 use Rattle.smp_stop_steps.specs.{Inside, is_multi, Kind as KindOf, Multi, Word, Slot, RunsAlone}
-use Rattle.smp_stop_steps.proofs.Basics.Bools.{both_true}
-use Rattle.smp_stop_steps.proofs.State.Ends.{function_law}
-use Rattle.smp_stop_steps.proofs.State.Patched.{all_off}
+use Rattle.smp_stop_steps.proofs.{Basics.Bools.both_true, State.Ends.function_law, State.Patched.all_off}
 use Rattle.smp_stop_steps.specs.field
 
 multi_kind : (k : KindOf) → is_multi k ≡ true → k ≡ Multi

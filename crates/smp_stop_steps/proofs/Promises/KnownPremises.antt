@@ -1,30 +1,20 @@
 -- Each step that a CPU may make by what it knows keeps what the steps of the commands keep.
-use Rattle.std.proofs.Common.{◌≡◌, ℕ, ◌+◌, ◌∷◌, [], Bool, true, false, ◌==◌, cond, Some, None, List, inl, inr, sym, subst, refl, ap, ◌∙◌, arith}
-use Rattle.std.proofs.Common.{bit_and, eqb-true}
-use Rattle.smp_stop_steps.specs.{word_of, at_after, seen_of, Access, Field, Work, Word, Gate, Slot, Key, Site, HasCompleted, MayStore, MayStoreIf}
-use Rattle.smp_stop_steps.specs.{MaySee, IsAtRun}
-use Rattle.smp_stop_steps.specs.{unfinished, Seat, In, Alters, Closes, Duty, Rests, Sets, Stands, StopShows, DoneShows, Source, Shut, Drafts, Owns}
-use Rattle.smp_stop_steps.specs.{Collects, SourceShows, OwnerShows, DraftShows, IsNextOfPatch, label_stored, store_of, KeysStand, Change, Whole, Patches}
-use Rattle.smp_stop_steps.specs.{Place, Setup, StopState, Standing, Inside, Ended, acked, is_of, irq_of, Sees, setup_in, told_source, told_work, order}
-use Rattle.smp_stop_steps.specs.{IsNudge, all_but, begun_value, cpus, mask_weight, put_word}
+use Rattle.std.proofs.Common.{◌≡◌, ℕ, ◌+◌, ◌∷◌, [], Bool, true, false, ◌==◌, cond, Some, None, List, inl, inr, sym, subst, refl, ap, ◌∙◌, arith, bit_and}
+use Rattle.std.proofs.Common.{eqb-true}
+use Rattle.smp_stop_steps.specs.{word_of, at_after, seen_of, Access, Field, Work, Word, Gate, Slot, Key, Site, HasCompleted, MayStore, MayStoreIf, MaySee}
+use Rattle.smp_stop_steps.specs.{IsAtRun, unfinished, Seat, In, Alters, Closes, Duty, Rests, Sets, Stands, StopShows, DoneShows, Source, Shut, Drafts, Owns}
+use Rattle.smp_stop_steps.specs.{Collects, SourceShows, OwnerShows, DraftShows, IsNextOfPatch, label_stored, store_of, KeysStand, Change, Whole, Patches, Place}
+use Rattle.smp_stop_steps.specs.{Setup, StopState, Standing, Inside, Ended, acked, is_of, irq_of, Sees, setup_in, told_source, told_work, order, IsNudge}
+use Rattle.smp_stop_steps.specs.{all_but, begun_value, cpus, mask_weight, put_word, Known.Known, KnownLaws.KeepsMoveLaws, Laws.IsThrough}
+use Rattle.smp_stop_steps.specs.Moves.{Move, TakeGate, OpenGate, Draft, DraftMore, Open, Enter, Look, Acknowledge, AcknowledgePatch, Refill, Raise, Give, Count}
+use Rattle.smp_stop_steps.specs.Moves.{CountGiven, Close, LookDone, Collect, ReadKey, ReadSite, Nudge, BeginPatch, Alter, LoadArg, LoadField, LoadEntry}
+use Rattle.smp_stop_steps.specs.Moves.{MayStep, known_access, IsPlain, IsThrough as IsThroughAll}
 use Rattle.smp_words.specs.Access.{one_less, put_if}
 use Rattle.smp_words.proofs.Puts.{at_test}
-use Rattle.smp_stop_steps.specs.Known.{Known}
-use Rattle.smp_stop_steps.specs.KnownLaws.{KeepsMoveLaws}
-use Rattle.smp_stop_steps.specs.Laws.{IsThrough}
-use Rattle.smp_stop_steps.specs.Moves.{Move, TakeGate, OpenGate, Draft, DraftMore, Open, Enter, Look, Acknowledge, AcknowledgePatch, Refill, Raise, Give}
-use Rattle.smp_stop_steps.specs.Moves.{Count, CountGiven, Close, LookDone, Collect, ReadKey, ReadSite, Nudge, BeginPatch, Alter, LoadArg, LoadField}
-use Rattle.smp_stop_steps.specs.Moves.{LoadEntry, MayStep, known_access, IsPlain}
-use Rattle.smp_stop_steps.specs.Moves.{IsThrough as IsThroughAll}
-use Rattle.smp_stop_steps.proofs.Basics.Counts.{sum_zero}
-use Rattle.smp_stop_steps.proofs.Knows.KnownRounds.{stands, open_at}
 use Rattle.smp_stop_steps.proofs.Knows.KnownSources.{holder, is_draft, is_owns, is_collects}
 use Rattle.smp_stop_steps.proofs.State.Acknowledged.{fills_me, rests_me, sets_me}
-use Rattle.smp_stop_steps.proofs.State.Gates.{gate_free}
-use Rattle.smp_stop_steps.proofs.State.Phases.{keeps_inside}
-use Rattle.smp_stop_steps.proofs.State.Raises.{all_acknowledged, in_machine}
-use Rattle.smp_stop_steps.proofs.State.Works.{called_is}
-use Rattle.smp_stop_steps.proofs.Steps.Completions.{one_phase}
+use Rattle.smp_stop_steps.proofs.{Basics.Counts.sum_zero, Knows.KnownRounds.stands, Knows.KnownRounds.open_at, State.Gates.gate_free, State.Phases.keeps_inside}
+use Rattle.smp_stop_steps.proofs.{State.Raises.all_acknowledged, State.Raises.in_machine, State.Works.called_is, Steps.Completions.one_phase}
 use Rattle.smp_stop_steps.specs.field
 use Rattle.smp_stop_steps.specs.place
 

@@ -4,12 +4,8 @@ use Rattle.std.proofs.lemmas.List.{append-nil}
 use Rattle.smp_labels.specs.Law.{IsLawful, Table}
 use Rattle.smp_stop_steps.specs.{Change, Patching, LabelsShow, labels_in, is_between, IsLawfulOutside, HasPatcher, IsNextOfPatch, label_stored, Seat, Alters}
 use Rattle.smp_stop_steps.specs.{StopShows, SitsAt, SitsInRound, Source, StopControlValue, change_at, completion_access, round_access, stop_access, store_of}
-use Rattle.smp_stop_steps.specs.{Setup, StopState, RoundStage, CompletionStage, StopStage, Visit, Word, Gate}
-use Rattle.smp_stop_steps.specs.Sits.{Sits}
-use Rattle.smp_stop_steps.proofs.State.Ends.{function_law}
-use Rattle.smp_stop_steps.proofs.State.Patched.{all_off}
-use Rattle.smp_stop_steps.proofs.Steps.Facts.{patcher_active}
-use Rattle.smp_stop_steps.proofs.Steps.RoundSteps.{change_here}
+use Rattle.smp_stop_steps.specs.{Setup, StopState, RoundStage, CompletionStage, StopStage, Visit, Word, Gate, Sits.Sits}
+use Rattle.smp_stop_steps.proofs.{State.Ends.function_law, State.Patched.all_off, Steps.Facts.patcher_active, Steps.RoundSteps.change_here}
 use Rattle.smp_stop_steps.specs.round
 
 -- between its first and its last store alone a patch leaves the table unlawful

@@ -1,20 +1,15 @@
 -- Who may make which step: what holds of the stops before it.
 use Rattle.std.proofs.Common.{◌≡◌, ℕ, ◌+◌, [], true, false, ⊎_elim, Some, None, sym, subst, refl, ◌∙◌, arith, eqb-true}
 use Rattle.smp_stop_steps.specs.{word_of, seen_of, Access, Field, Work, Word, Gate, Slot, HasCompleted, patch_answer, IsThrough, MayStore, MayStoreIf, MaySee}
-use Rattle.smp_stop_steps.specs.{unfinished, plan_at, Seat, In, Alters, Closes, Duty, Rests, Sets, Stands, StopShows, RunsIf, HoldsGate, IsLoaded}
-use Rattle.smp_stop_steps.specs.{IsThroughAll, SitsAt, SitsInCompletion, SitsInRound, SourceSits, DoneShows, Source, Owns, Collects, SourceShows, OwnerShows}
+use Rattle.smp_stop_steps.specs.{unfinished, plan_at, Seat, In, Alters, Closes, Duty, Rests, Sets, Stands, StopShows, RunsIf, HoldsGate, IsLoaded, IsThroughAll}
+use Rattle.smp_stop_steps.specs.{SitsAt, SitsInCompletion, SitsInRound, SourceSits, DoneShows, Source, Owns, Collects, SourceShows, OwnerShows}
 use Rattle.smp_stop_steps.specs.{StopControlValue, completion_access, round_access, stop_access, Setup, StopState, Standing, Inside, Ended, is_of}
-use Rattle.smp_stop_steps.specs.{CompletionStage, RoundStage, StopStage, TakeGate, OpenGate, Begin, Enter, EnterKind, EnterMask, EnterActive, Advance}
-use Rattle.smp_stop_steps.specs.{Complete, Close, LoadDone, LoadResult, NudgeKey, ExchangeKey, Visit}
-use Rattle.smp_stop_steps.proofs.State.Gates.{gate_free, gate_mine}
-use Rattle.smp_stop_steps.specs.Sits.{Sits}
+use Rattle.smp_stop_steps.specs.{CompletionStage, RoundStage, StopStage, TakeGate, OpenGate, Begin, Enter, EnterKind, EnterMask, EnterActive, Advance, Complete}
+use Rattle.smp_stop_steps.specs.{Close, LoadDone, LoadResult, NudgeKey, ExchangeKey, Visit, Sits.Sits}
 use Rattle.smp_stop_steps.specs.declared.stage.StopStage.TheVariants.{ReadKey, ReadSite}
-use Rattle.smp_stop_steps.proofs.Steps.Completions.{one_phase}
-use Rattle.smp_stop_steps.proofs.Basics.Counts.{sum_zero}
-use Rattle.smp_stop_steps.proofs.State.Phases.{is_open_inside, keeps_inside}
-use Rattle.smp_stop_steps.proofs.State.Raises.{all_acknowledged, in_machine}
-use Rattle.smp_stop_steps.proofs.State.Works.{called_is}
 use Rattle.smp_stop_steps.proofs.State.Acknowledged.{fills_me, rests_me, sets_me}
+use Rattle.smp_stop_steps.proofs.{State.Gates.gate_free, State.Gates.gate_mine, Basics.Counts.sum_zero, State.Raises.in_machine, State.Works.called_is}
+use Rattle.smp_stop_steps.proofs.{Steps.Completions.one_phase, State.Phases.is_open_inside, State.Phases.keeps_inside, State.Raises.all_acknowledged}
 use Rattle.smp_stop_steps.specs.field
 use Rattle.smp_stop_steps.specs.round
 

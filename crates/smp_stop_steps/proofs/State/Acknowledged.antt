@@ -5,13 +5,10 @@ use Rattle.smp_words.proofs.Puts.{at_test, put_same, put_other}
 use Rattle.smp_words.specs.declared.field.Field.TheVariants.{Ack, State}
 use Rattle.smp_stop_steps.specs.{put, put_word, weight, Agrees, Reading, labels_in, IsNot, PresentShows, Fills, In, Rests, Seat, Sets, Stands, Duty, irq_of}
 use Rattle.smp_stop_steps.specs.{duty_of, AckShows, Setup, Inside, Nobody, Raises, Raising, Refills, Standing, acknowledged, is_inside, raised, refilled}
-use Rattle.smp_stop_steps.specs.{stands, Field, Work, Slot, Word}
+use Rattle.smp_stop_steps.specs.{stands, Field, Work, Slot, Word, State.Present, Stop.Stop}
 use Rattle.smp_stop_steps.proofs.State.Moves.{IsNoPatch, SaveMe, moved, moves, slot_put, slot_same}
 use Rattle.smp_stop_steps.proofs.State.Phases.{acknowledges_slot, is_open_inside, keeps_inside, none_raises, refills_slot}
-use Rattle.smp_stop_steps.proofs.State.Raises.{raises_slot}
-use Rattle.smp_stop_steps.proofs.State.Works.{looks_slot}
-use Rattle.smp_stop_steps.specs.State.{Present}
-use Rattle.smp_stop_steps.specs.Stop.{Stop}
+use Rattle.smp_stop_steps.proofs.{State.Raises.raises_slot, State.Works.looks_slot}
 
 -- nobody raises while one of the mask is behind
 pub nobody_raises : (cpus : ℕ) (stop : Stop) (ack me a l : ℕ) (r : Raising) → stop.standing me ≡ Inside a l → me < cpus → a ≢ stop.phase →

@@ -4,12 +4,9 @@ use Rattle.smp_words.proofs.Puts.{at_test, put_all, put_same, put_other}
 use Rattle.smp_words.specs.declared.field.Field.TheVariants.{Done, Result, Roll, Todo}
 use Rattle.smp_stop_steps.specs.{put, behind, count_unfinished, mask_weight, unfinished, FunctionLaw, IsAnswer, IsResult, IsThrough, DoneShows, HasGiven}
 use Rattle.smp_stop_steps.specs.{IsStored, Keeps, ResultShows, SlotShows, put_field, Completed, Ending, Inside, Last, Outside, Standing, answer_of, closed}
-use Rattle.smp_stop_steps.specs.{completed, ended, is_called, is_of, opened, Field, Work, has}
-use Rattle.smp_stop_steps.proofs.Basics.Counts.{sum_put, sum_same, sum_zero}
-use Rattle.smp_stop_steps.proofs.State.Phases.{is_open_inside, keeps_inside}
-use Rattle.smp_stop_steps.proofs.State.Raises.{in_machine, level_of}
-use Rattle.smp_stop_steps.proofs.State.Works.{ack_kept, outside_is, result_kept}
-use Rattle.smp_stop_steps.specs.Stop.{Stop}
+use Rattle.smp_stop_steps.specs.{completed, ended, is_called, is_of, opened, Field, Work, has, Stop.Stop}
+use Rattle.smp_stop_steps.proofs.{Basics.Counts.sum_put, Basics.Counts.sum_same, Basics.Counts.sum_zero, State.Phases.is_open_inside, State.Phases.keeps_inside}
+use Rattle.smp_stop_steps.proofs.{State.Raises.in_machine, State.Raises.level_of, State.Works.ack_kept, State.Works.outside_is, State.Works.result_kept}
 
 -- what an answering CPU has: its parts, whichever way it answers
 abbrev IsUnfinished : Standing → Type 0

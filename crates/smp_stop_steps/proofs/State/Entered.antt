@@ -5,17 +5,13 @@ use Rattle.smp_words.specs.Put.{same_field}
 use Rattle.smp_words.specs.declared.field.Field.TheVariants.{Done, Result, Roll, Todo}
 use Rattle.smp_labels.specs.Plans.{stored}
 use Rattle.smp_stop_steps.specs.{put, put_word, count_unfinished, unfinished, IsAnswer, IsNot, IsThrough, PresentShows, Closes, Free, Gives, In, Rests, Seat}
-use Rattle.smp_stop_steps.specs.{Stands, irq_of, duty_of, DoneShows, IsStored, OpenShows, SlotShows, put_field, IsOfKind, IsPatchWork, IsWork, Setup}
-use Rattle.smp_stop_steps.specs.{Answering, Called, Completed, Ending, Inside, Last, Outside, Raising, Standing, closed, completed, ended, is_inside, is_of}
-use Rattle.smp_stop_steps.specs.{opened, stands, Field, Patch, Kind as KindOf, Work, Slot, Word, has}
-use Rattle.smp_stop_steps.proofs.Basics.Counts.{sum_zero}
+use Rattle.smp_stop_steps.specs.{Stands, irq_of, duty_of, DoneShows, IsStored, OpenShows, SlotShows, put_field, IsOfKind, IsPatchWork, IsWork, Setup, Answering}
+use Rattle.smp_stop_steps.specs.{Called, Completed, Ending, Inside, Last, Outside, Raising, Standing, closed, completed, ended, is_inside, is_of, opened}
+use Rattle.smp_stop_steps.specs.{stands, Field, Patch, Kind as KindOf, Work, Slot, Word, has, State.Present, Stop.Stop}
 use Rattle.smp_stop_steps.proofs.State.Ends.{all_outside, answer_of_it, answer_unfinished, collects_slot, completes_slot, finishes_slot, opens_slot}
 use Rattle.smp_stop_steps.proofs.State.Moves.{IsNoPatch, SaveMe, moved, moves, slot_put, slot_same, source_moves}
-use Rattle.smp_stop_steps.proofs.State.Phases.{is_open_inside}
-use Rattle.smp_stop_steps.proofs.State.Raises.{in_machine}
 use Rattle.smp_stop_steps.proofs.State.Works.{answers_slot, enters_slot, not_raising}
-use Rattle.smp_stop_steps.specs.State.{Present}
-use Rattle.smp_stop_steps.specs.Stop.{Stop}
+use Rattle.smp_stop_steps.proofs.{Basics.Counts.sum_zero, State.Phases.is_open_inside, State.Raises.in_machine}
 
 module _ (u : Setup) (p : Present) (at : Word → ℕ) (seat : ℕ → Seat) (h : PresentShows u p at seat) (s : ℕ) where
   abbrev w : Field → ℕ

@@ -4,10 +4,9 @@ use Rattle.std.specs.List.{AllByRecursion}
 use Rattle.smp_words.proofs.Puts.{at_test, put_all, put_other}
 use Rattle.smp_words.specs.Put.{same_field}
 use Rattle.smp_labels.specs.Plans.{AreEntriesOf}
-use Rattle.smp_stop_steps.specs.{put, put_word, Agrees, LabelsShow, Patching, Reading, labels_in, PresentShows, RunnerShows, Alters, Seat, Stands, Duty}
-use Rattle.smp_stop_steps.specs.{irq_of, duty_of, SlotShows, put_field, IsPatchWork, Setup, Last, Standing, is_inside, leaves, Field, Patch, Work, Slot, Word}
-use Rattle.smp_stop_steps.specs.State.{Present}
-use Rattle.smp_stop_steps.specs.Stop.{Stop}
+use Rattle.smp_stop_steps.specs.{put, put_word, Agrees, LabelsShow, Patching, Reading, labels_in, PresentShows, RunnerShows, Alters, Seat, Stands, Duty, irq_of}
+use Rattle.smp_stop_steps.specs.{duty_of, SlotShows, put_field, IsPatchWork, Setup, Last, Standing, is_inside, leaves, Field, Patch, Work, Slot, Word}
+use Rattle.smp_stop_steps.specs.{State.Present, Stop.Stop}
 
 -- what a step on a slot leaves to one CPU
 pub record LeavesTo (c : ℕ) (old new : Stop) : Type 0 where

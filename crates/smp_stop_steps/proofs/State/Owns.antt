@@ -1,11 +1,8 @@
 -- A source's own key, until it has left its Patch stop.
 use Rattle.std.proofs.Common.{◌≡◌, ℕ, ◌≤◌, true, ◌&&◌, subst, arith, List}
-use Rattle.smp_stop_steps.specs.{put_word, Change, StandsSet, OwnsKey, PresentShows, Alters, Seat, Setup, Inside, is_inside, is_of, Patch, Work, Key, Word}
-use Rattle.smp_stop_steps.specs.{has}
-use Rattle.smp_stop_steps.proofs.State.Ends.{function_law}
-use Rattle.smp_stop_steps.proofs.State.Phases.{is_open_inside}
-use Rattle.smp_stop_steps.proofs.State.Raises.{level_of}
+use Rattle.smp_stop_steps.specs.{put_word, Change, StandsSet, OwnsKey, PresentShows, Alters, Seat, Setup, Inside, is_inside, is_of, Patch, Work, Key, Word, has}
 use Rattle.smp_stop_steps.specs.State.{Present}
+use Rattle.smp_stop_steps.proofs.{State.Ends.function_law, State.Phases.is_open_inside, State.Raises.level_of}
 
 module _ (u : Setup) (p : Present) (at : Word → ℕ) (seat : ℕ → Seat) (h : PresentShows u p at seat) where
   pub mask_is : (s c : ℕ) → (p.stop s).is_open ≡ true → is_of ((p.stop s).standing c) ≡ has (p.stop s).work.mask c

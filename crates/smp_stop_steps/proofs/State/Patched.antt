@@ -3,18 +3,14 @@ use Rattle.std.proofs.lemmas.Bool.{cases_lt}
 use Rattle.std.proofs.Common.{◌≡◌, ◌≢◌, ℕ, ◌≤◌, true, false, nat_lt, ◌==◌, ◌||◌, sym, subst, refl, ap, ◌∙◌, ◌⊎◌, arith, le-ltb, eqb-true, ne_eqb, Some, List}
 use Rattle.std.proofs.Common.{[], ◌∷◌, ◌++◌, lt-ltb, IfSome}
 use Rattle.std.specs.List.{AllByRecursion}
-use Rattle.smp_labels.specs.declared.keys.Change.{Change as KeyChange}
+use Rattle.smp_labels.specs.Plans.{AreEntriesOf, SetsKey, applied, stored}
+use Rattle.smp_labels.specs.{declared.keys.Change.Change as KeyChange, Keys.count_left, Law.IsLawful}
 use Rattle.smp_words.proofs.Puts.{put_all, at_test, put_same}
 use Rattle.smp_labels.proofs.Stores.{applied-append}
-use Rattle.smp_labels.specs.Keys.{count_left}
-use Rattle.smp_labels.specs.Law.{IsLawful}
-use Rattle.smp_labels.specs.Plans.{AreEntriesOf, SetsKey, applied, stored}
-use Rattle.smp_stop_steps.specs.{put, Agrees, Change, LabelsShow, Patches, Patching, Reading, Whole, labels_in, StandsSet, count_set, state_left}
-use Rattle.smp_stop_steps.specs.{PresentShows, RunnerShows, Alters, In, Rests, Seat, Stands, irq_of, Keeps, SlotShows, Setup, Inside, Standing, acked, is_of}
-use Rattle.smp_stop_steps.specs.{Field, Patch, Work, Key, Slot, Word, is_on, change_of, has}
-use Rattle.smp_stop_steps.proofs.State.Ends.{function_law}
-use Rattle.smp_stop_steps.proofs.State.Phases.{is_open_inside}
-use Rattle.smp_stop_steps.specs.State.{Present}
+use Rattle.smp_stop_steps.specs.{put, Agrees, Change, LabelsShow, Patches, Patching, Reading, Whole, labels_in, StandsSet, count_set, state_left, PresentShows}
+use Rattle.smp_stop_steps.specs.{RunnerShows, Alters, In, Rests, Seat, Stands, irq_of, Keeps, SlotShows, Setup, Inside, Standing, acked, is_of, Field, Patch}
+use Rattle.smp_stop_steps.specs.{Work, Key, Slot, Word, is_on, change_of, has, State.Present}
+use Rattle.smp_stop_steps.proofs.{State.Ends.function_law, State.Phases.is_open_inside}
 
 -- what a change leaves is on or off as it says
 stands_left : (change : KeyChange) (n : ℕ) → IfSome (state_left change) (λ on. is_on (count_left change n) ≡ on)

@@ -3,9 +3,8 @@ use Rattle.std.proofs.Common.{◌≡◌, ◌≢◌, ℕ, ◌+◌, ◌-◌, ◌<�
 use Rattle.smp_words.proofs.Puts.{at_test, put_all, put_same, put_other}
 use Rattle.smp_words.specs.declared.field.Field.TheVariants.{Ack}
 use Rattle.smp_stop_steps.specs.{put, behind, count_behind, count_unfinished, weight, AckShows, DoneShows, Keeps, ResultShows, SlotShows, put_field, Ending}
-use Rattle.smp_stop_steps.specs.{Inside, Nobody, Raising, Refills, Standing, acked, acknowledged, is_of, refilled, Field}
+use Rattle.smp_stop_steps.specs.{Inside, Nobody, Raising, Refills, Standing, acked, acknowledged, is_of, refilled, Field, Stop.Stop}
 use Rattle.smp_stop_steps.proofs.Basics.Counts.{sum_put, sum_same, sum_zero}
-use Rattle.smp_stop_steps.specs.Stop.{Stop}
 
 abbrev IsZero : ℕ → Type 0
 IsZero n = n ≡ 0

@@ -2,10 +2,8 @@
 use Rattle.std.proofs.Common.{◌≡◌, ◌≢◌, ℕ, ◌+◌, ◌<◌, ◌≤◌, true, ◌⊎◌, arith, ⊎_elim, ne_eqb}
 use Rattle.smp_words.specs.declared.field.Field.TheVariants.{Ack, State}
 use Rattle.smp_stop_steps.specs.{behind, count_behind, one, weight, PhaseLaw, AckShows, IsLevel, IsPhaseOf, Keeps, SlotShows, put_field, Inside, Raises}
-use Rattle.smp_stop_steps.specs.{Raising, Standing, acked, is_of, raised, Field, Kind as KindOf}
-use Rattle.smp_stop_steps.proofs.Basics.Counts.{sum_same, sum_zero}
-use Rattle.smp_stop_steps.proofs.State.Phases.{has_acknowledged}
-use Rattle.smp_stop_steps.specs.Stop.{Stop}
+use Rattle.smp_stop_steps.specs.{Raising, Standing, acked, is_of, raised, Field, Kind as KindOf, Stop.Stop}
+use Rattle.smp_stop_steps.proofs.{Basics.Counts.sum_same, Basics.Counts.sum_zero, State.Phases.has_acknowledged}
 
 pub in_machine : (cpus p c : ℕ) (s : Standing) → is_of s ≡ true → Keeps cpus p c s → c < cpus
 in_machine cpus p c s of k = search arith

@@ -4,10 +4,8 @@ use Rattle.smp_words.proofs.Puts.{put_all, put_same, put_other}
 use Rattle.smp_words.specs.declared.field.Field.TheVariants.{Done, Result, Roll, State}
 use Rattle.smp_stop_steps.specs.{put, behind, count_behind, count_unfinished, mask_weight, one, unfinished, weight, IsNot, IsThrough, AckShows, DoneShows}
 use Rattle.smp_stop_steps.specs.{HasGiven, Keeps, ResultShows, SlotShows, put_field, Answering, Called, Ending, Inside, Outside, Raising, Standing, is_called}
-use Rattle.smp_stop_steps.specs.{is_of, stands, Field, has}
-use Rattle.smp_stop_steps.proofs.Basics.Counts.{sum_same}
-use Rattle.smp_stop_steps.proofs.State.Phases.{is_open_inside, keeps_inside}
-use Rattle.smp_stop_steps.specs.Stop.{Stop}
+use Rattle.smp_stop_steps.specs.{is_of, stands, Field, has, Stop.Stop}
+use Rattle.smp_stop_steps.proofs.{Basics.Counts.sum_same, State.Phases.is_open_inside, State.Phases.keeps_inside}
 
 -- a CPU whose standing changes to one that counts the same
 module _ (cpus : ℕ) (standing : ℕ → Standing) (me p : ℕ) (to : Standing) (same : behind p to ≡ behind p (standing me)) (of : is_of to ≡ is_of (standing me))

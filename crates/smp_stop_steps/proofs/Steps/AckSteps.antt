@@ -5,15 +5,11 @@ use Rattle.smp_words.proofs.Puts.{at_test}
 use Rattle.smp_words.specs.declared.field.Field.TheVariants.{Ack}
 use Rattle.smp_stop_steps.specs.{put, put_word, mask_weight, patch_answer, Alters, Fills, In, Rests, Seat, Sets, StopShows, HasRun, RunsIf, IsLoaded, OwnsIf}
 use Rattle.smp_stop_steps.specs.{Source, StopControlValue, stop_goes, turn_ends, visit_acked, Setup, StopState, Calling, StopStep, at_then, state_after, told}
-use Rattle.smp_stop_steps.specs.{plan_at, Advance, StopStage, Visit, Work, Gate, Slot, Word, has, CarriesIn, CarriesAt, IsAcking, HasCalled}
-use Rattle.smp_stop_steps.proofs.Basics.Bools.{or_false, or_true}
-use Rattle.smp_stop_steps.proofs.Steps.Same.{moved_seat}
+use Rattle.smp_stop_steps.specs.{plan_at, Advance, StopStage, Visit, Work, Gate, Slot, Word, has, CarriesIn, CarriesAt, IsAcking, HasCalled, Sits.Sits}
 use Rattle.smp_stop_steps.proofs.Steps.Facts.{ack_bounds, ack_bounds_patched, patcher_active}
-use Rattle.smp_stop_steps.proofs.Steps.RoundSteps.{ack_small}
 use Rattle.smp_stop_steps.proofs.Steps.Rounds.{ack_stored, ack_subtracted, ack_subtracted_patched, state_stored}
-use Rattle.smp_stop_steps.proofs.Steps.StageSteps.{less_one}
-use Rattle.smp_stop_steps.specs.Sits.{Sits}
-use Rattle.smp_stop_steps.proofs.Steps.Stages.{in_round, round_source}
+use Rattle.smp_stop_steps.proofs.{Basics.Bools.or_false, Basics.Bools.or_true, Steps.Same.moved_seat, Steps.RoundSteps.ack_small, Steps.StageSteps.less_one}
+use Rattle.smp_stop_steps.proofs.{Steps.Stages.in_round, Steps.Stages.round_source}
 use Rattle.smp_stop_steps.specs.act
 use Rattle.smp_stop_steps.specs.round
 

@@ -1,24 +1,18 @@
 -- Each step of a CPU's command leaves its function where the next stage says, and the functions of all others.
 use Rattle.std.proofs.Common.{◌≡◌, ◌≢◌, ℕ, ◌+◌, Bool, true, false, eq-eqb, eqb-true, ◌==◌, cond, ◌⊎◌, inl, inr, Option, Some, None, [], ◌∷◌, sym, subst, refl}
 use Rattle.std.proofs.Common.{ap, ◌∙◌, arith}
-use Rattle.smp_labels.specs.Kinds.{xor}
-use Rattle.smp_labels.specs.declared.keys.Change.{Change as KeyChange}
+use Rattle.smp_labels.specs.{Kinds.xor, declared.keys.Change.Change as KeyChange}
 use Rattle.smp_words.proofs.Puts.{put_same, put_other}
-use Rattle.smp_stop_steps.specs.{count_after, is_on, word_of, seen_of, put, Field, Kind as KindOf, One, Multi, Patch, Work, Word, Gate, Slot, Key, IsCalling}
-use Rattle.smp_stop_steps.specs.{answer_in, HasCalled, CarriesAt, CarriesIn, IsQuiet, IsAcking, IsEnding, Change, patch_answer, Seat, In, Gives, Alters}
-use Rattle.smp_stop_steps.specs.{Rests, Stands, Duty, StopShows, IsLoaded, RunsIf, SitsAtRun, IsThroughAll, Source, StopControlValue, answer_at, turn_note}
-use Rattle.smp_stop_steps.specs.{key_on, nudge_of, nudge_on, stop_goes, store_of, turn_ends, visit_acked, Setup, StopState, Calling, Idle, Calls, StopCall}
-use Rattle.smp_stop_steps.specs.{CallStep, control_then, state_after, told_of, is_run, note_then, Standing, Inside, acknowledges, called_more, calls_now}
-use Rattle.smp_stop_steps.specs.{carried, carried_call, completes, completes_with, gate_told, key_told, may_call, plan_at, stored_open, stored_shut, tells}
-use Rattle.smp_stop_steps.specs.{told, StopStage, TakeGate, OpenGate, Begin, Enter, EnterKind, EnterMask, EnterActive, Advance, Complete, Close, LoadDone}
-use Rattle.smp_stop_steps.specs.{LoadResult, NudgeKey, ExchangeKey, Visit}
-use Rattle.smp_stop_steps.proofs.Steps.Completions.{one_phase}
-use Rattle.smp_stop_steps.proofs.State.Phases.{is_open_inside, keeps_inside}
-use Rattle.smp_stop_steps.specs.Sits.{Sits}
-use Rattle.smp_stop_steps.specs.declared.stage.StopStage.TheVariants.{ReadKey, ReadSite}
-use Rattle.smp_stop_steps.proofs.Steps.Callings.{carried_alone, idle_alters, idle_patch}
-use Rattle.smp_stop_steps.proofs.State.Moves.{IsNoPatch}
-use Rattle.smp_stop_steps.proofs.Steps.Stages.{at_seat}
+use Rattle.smp_stop_steps.specs.{count_after, patch_answer, IsThroughAll, visit_acked, control_then, state_after, acknowledges, carried_call, completes_with}
+use Rattle.smp_stop_steps.specs.{is_on, IsCalling, answer_in, HasCalled, CarriesAt, called_more, stored_open, stored_shut, EnterActive, LoadResult, ExchangeKey}
+use Rattle.smp_stop_steps.specs.{word_of, seen_of, IsQuiet, Calling, CallStep, Standing, key_told, may_call, TakeGate, OpenGate, Complete, LoadDone, NudgeKey}
+use Rattle.smp_stop_steps.specs.{put, One, Work, Word, Gate, Slot, Key, Seat, In, Duty, Setup, Idle, Calls, tells, told, Begin, Enter, Close, Visit}
+use Rattle.smp_stop_steps.specs.{Field, CarriesIn, StopShows, SitsAtRun, answer_at, turn_note, stop_goes, turn_ends, StopState, note_then, calls_now, completes}
+use Rattle.smp_stop_steps.specs.{Kind as KindOf, StopControlValue, declared.stage.StopStage.TheVariants.ReadKey, declared.stage.StopStage.TheVariants.ReadSite}
+use Rattle.smp_stop_steps.specs.{Multi, Patch, Change, Gives, Alters, Rests, Stands, RunsIf, Source, key_on, told_of, is_run, Inside, carried, plan_at, Advance}
+use Rattle.smp_stop_steps.specs.{IsAcking, IsEnding, IsLoaded, nudge_of, nudge_on, store_of, StopCall, gate_told, StopStage, EnterKind, EnterMask, Sits.Sits}
+use Rattle.smp_stop_steps.proofs.{Steps.Completions.one_phase, State.Phases.is_open_inside, State.Phases.keeps_inside, Steps.Callings.carried_alone}
+use Rattle.smp_stop_steps.proofs.{Steps.Callings.idle_alters, Steps.Callings.idle_patch, State.Moves.IsNoPatch, Steps.Stages.at_seat}
 use Rattle.smp_stop_steps.specs.place
 use Rattle.smp_stop_steps.specs.field
 use Rattle.smp_stop_steps.specs.act

@@ -2,10 +2,8 @@
 use Rattle.std.proofs.Common.{◌≡◌, ◌≢◌, ℕ, ◌+◌, Bool, true, false, ◌&&◌, ◌⊎◌, cond, List, ne_eqb, sym, subst, ap, ◌∙◌, arith}
 use Rattle.smp_words.proofs.Puts.{at_test, put_all, put_both, put_other}
 use Rattle.smp_stop_steps.specs.{put, Kind as KindOf, One, Patch, Work, with_answer, IsCalling, answer_in, HasCalled, AreClosing, HasCompleted, Change}
-use Rattle.smp_stop_steps.specs.{Patching, RunnerShows, StopShows, Source, Word, Seat, Free, In, Gives, Alters, Closes, Duty, Rests, Setup, StopState}
-use Rattle.smp_stop_steps.specs.{Calling, Idle, Last, carried, carried_call, has, is_multi}
-use Rattle.smp_stop_steps.specs.State.{Present, Calls, Carries}
-use Rattle.smp_stop_steps.specs.Stop.{Stop}
+use Rattle.smp_stop_steps.specs.{Patching, RunnerShows, StopShows, Source, Word, Seat, Free, In, Gives, Alters, Closes, Duty, Rests, Setup, StopState, Calling}
+use Rattle.smp_stop_steps.specs.{Idle, Last, carried, carried_call, has, is_multi, State.Present, State.Calls, State.Carries, Stop.Stop}
 use Rattle.smp_stop_steps.proofs.State.Moves.{IsNoPatch}
 
 module _ (seat : ℕ → Seat) (calling : ℕ → Calling) (h : (c : ℕ) → IsCalling c (seat c) (calling c)) (me : ℕ) (next : Seat) where

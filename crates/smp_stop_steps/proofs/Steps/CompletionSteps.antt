@@ -5,19 +5,16 @@ use Rattle.smp_words.specs.declared.field.Field.TheVariants.{Roll, Todo}
 use Rattle.smp_stop_steps.specs.{IsCalling, answer_in, put, put_word, one, Closes, Free, Gives, In, Rests, Seat, irq_of, StopShows, IsLoaded, IsThroughAll}
 use Rattle.smp_stop_steps.specs.{OwnsIf, SitsAtRest, Source, StopControlValue, all_but, stop_ends, stop_goes, Setup, StopState, Calling, StopStep, at_then}
 use Rattle.smp_stop_steps.specs.{state_after, Advance, Begin, Close, Complete, Enter, EnterActive, EnterKind, EnterMask, LoadDone, LoadResult, OpenGate}
-use Rattle.smp_stop_steps.specs.{TakeGate, NudgeKey, ExchangeKey, StopStage, Visit, One, Work, Gate, Slot, Word, has, CarriesIn, CarriesAt, IsEnding}
+use Rattle.smp_stop_steps.specs.{TakeGate, NudgeKey, ExchangeKey, StopStage, Visit, One, Work, Gate, Slot, Word, has, CarriesIn, CarriesAt, IsEnding, Sits.Sits}
+use Rattle.smp_stop_steps.specs.declared.stage.StopStage.TheVariants.{ReadKey, ReadSite}
 use Rattle.smp_stop_steps.proofs.Steps.Same.{word_same, moved_seat, still}
-use Rattle.smp_stop_steps.proofs.Steps.AckSteps.{acknowledge, raise, refill}
-use Rattle.smp_stop_steps.proofs.Basics.Bits.{clear_none, clear_other, clear_same}
 use Rattle.smp_stop_steps.proofs.Steps.Completions.{done_stored, on_now, result_stored, roll_cleared, roll_stale, todo_subtracted, todo_subtracted_answered}
 use Rattle.smp_stop_steps.proofs.Steps.Facts.{high_none, todo_bounds, todo_bounds_answered, arg_loaded, work_words}
 use Rattle.smp_stop_steps.proofs.Steps.RoundSteps.{ack_small, load_arg, load_entry, load_func, load_key, look, store_change}
 use Rattle.smp_stop_steps.proofs.Steps.StageSteps.{begin_step, enter_active, enter_kind, enter_mask, less_one, load_done, load_result, open_gate, read_key}
 use Rattle.smp_stop_steps.proofs.Steps.StageSteps.{read_site, take_gate, nudge_key, exchange_key}
-use Rattle.smp_stop_steps.specs.Sits.{Sits}
-use Rattle.smp_stop_steps.specs.declared.stage.StopStage.TheVariants.{ReadKey, ReadSite}
-use Rattle.smp_stop_steps.proofs.Steps.Callings.{calling_given}
-use Rattle.smp_stop_steps.proofs.Steps.Stages.{at_seat, at_source}
+use Rattle.smp_stop_steps.proofs.{Steps.AckSteps.acknowledge, Steps.AckSteps.raise, Steps.AckSteps.refill, Basics.Bits.clear_none, Basics.Bits.clear_other}
+use Rattle.smp_stop_steps.proofs.{Basics.Bits.clear_same, Steps.Callings.calling_given, Steps.Stages.at_seat, Steps.Stages.at_source}
 use Rattle.smp_stop_steps.specs.note
 use Rattle.smp_stop_steps.specs.completion
 use Rattle.smp_stop_steps.specs.round

@@ -3,26 +3,17 @@ use Rattle.std.proofs.Common.{◌≡◌, ◌≢◌, ℕ, ◌-◌, ◌≤◌, Boo
 use Rattle.std.proofs.Common.{Option, Some, None, List, [], ◌∷◌, ◌++◌}
 use Rattle.smp_words.proofs.Puts.{at_test, put_all, put_same, put_other}
 use Rattle.smp_words.specs.declared.field.Field.TheVariants.{Done, Result, Roll, Todo}
-use Rattle.smp_stop_steps.specs.{IsCalling, AreClosing, HasCompleted, StandsSet, put, put_word, one, unfinished, IsAnswer, HasPast, answer_now, OwnsKey}
-use Rattle.smp_stop_steps.specs.{Closes, Free, Gives, In, Rests, Seat, Stands, irq_of, duty_of, StopShows, DoneShows, IsDone, IsLevel, IsPhaseOf, Source}
-use Rattle.smp_stop_steps.specs.{Setup, StopState, Idle, Answering, Called, Completed, Ended, Inside, Standing, acked, completed, ended, is_inside, is_of}
-use Rattle.smp_stop_steps.specs.{stands, Last, completes_with, enters, told, called_more, Field, One, Patch, Kind as KindOf, Work, Key, Slot, Word, has}
-use Rattle.smp_stop_steps.proofs.Basics.Bools.{or_true}
-use Rattle.smp_stop_steps.proofs.Steps.Callings.{calling_same, IsNotClosing, idle_free, closing_kept, idle_closes, closing_seat, calling_next}
-use Rattle.smp_stop_steps.proofs.Steps.Callings.{given_quiet}
-use Rattle.smp_stop_steps.proofs.Basics.Counts.{sum_zero}
-use Rattle.smp_stop_steps.proofs.State.Ends.{answer_of_it, answer_unfinished}
+use Rattle.smp_stop_steps.specs.{IsCalling, AreClosing, HasCompleted, StandsSet, put, put_word, one, unfinished, IsAnswer, HasPast, answer_now, OwnsKey, Closes}
+use Rattle.smp_stop_steps.specs.{Free, Gives, In, Rests, Seat, Stands, irq_of, duty_of, StopShows, DoneShows, IsDone, IsLevel, IsPhaseOf, Source, Setup}
+use Rattle.smp_stop_steps.specs.{StopState, Idle, Answering, Called, Completed, Ended, Inside, Standing, acked, completed, ended, is_inside, is_of, stands}
+use Rattle.smp_stop_steps.specs.{Last, completes_with, enters, told, called_more, Field, One, Patch, Kind as KindOf, Work, Key, Slot, Word, has, Stop.Stop}
+use Rattle.smp_stop_steps.proofs.Steps.Callings.{calling_same, IsNotClosing, idle_free, closing_kept, idle_closes, closing_seat, calling_next, given_quiet}
 use Rattle.smp_stop_steps.proofs.State.Entered.{step_answers, step_completes, step_enters, step_finishes}
 use Rattle.smp_stop_steps.proofs.Steps.Kept.{MovesInside, StaysOpen, after, moves_early, moves_given, open_step, open_step_with, other_slots, owns_kept}
 use Rattle.smp_stop_steps.proofs.Steps.Kept.{past_answers}
-use Rattle.smp_stop_steps.proofs.State.Moves.{IsNoPatch}
-use Rattle.smp_stop_steps.proofs.State.Pasts.{active_put, past_completes}
-use Rattle.smp_stop_steps.proofs.State.Phases.{is_open_inside, keeps_inside}
-use Rattle.smp_stop_steps.proofs.State.Raises.{in_machine}
-use Rattle.smp_stop_steps.proofs.Steps.Rounds.{acked_most_phase}
-use Rattle.smp_stop_steps.proofs.State.Works.{called_is}
-use Rattle.smp_stop_steps.specs.Stop.{Stop}
-use Rattle.smp_stop_steps.proofs.State.Acknowledged.{rests_me}
+use Rattle.smp_stop_steps.proofs.{Basics.Bools.or_true, Basics.Counts.sum_zero, State.Ends.answer_of_it, State.Ends.answer_unfinished, State.Moves.IsNoPatch}
+use Rattle.smp_stop_steps.proofs.{State.Pasts.active_put, State.Pasts.past_completes, State.Phases.is_open_inside, State.Phases.keeps_inside}
+use Rattle.smp_stop_steps.proofs.{State.Raises.in_machine, Steps.Rounds.acked_most_phase, State.Works.called_is, State.Acknowledged.rests_me}
 use Rattle.smp_stop_steps.specs.act
 
 pub one_phase : (k : KindOf) (p : ℕ) → k ≡ One → IsPhaseOf k p → p ≡ 0

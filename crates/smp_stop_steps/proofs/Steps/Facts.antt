@@ -4,15 +4,12 @@ use Rattle.std.proofs.Common.{None}
 use Rattle.std.proofs.lemmas.Nat.Bits.{bit_at-zero}
 use Rattle.smp_words.proofs.Puts.{put_all}
 use Rattle.smp_words.specs.declared.field.Field.TheVariants.{Ack, Arg, Roll, State, Todo}
-use Rattle.smp_labels.specs.Law.{IsLawful}
-use Rattle.smp_labels.specs.Plans.{AreEntriesOf}
-use Rattle.smp_stop_steps.specs.{IsCalling, told, may_call, calls_now, behind, count_behind, sum_below, unfinished, Change, labels_in, Alters, Free, Gives}
-use Rattle.smp_stop_steps.specs.{In, Rests, Seat, Stands, Duty, StopShows, IsWritten, Keeps, OpenShows, Shut, Source, IsSetup, Setup, StopState, no_stops}
-use Rattle.smp_stop_steps.specs.{StopCall, Calls, Answering, Called, Completed, Inside, Outside, Standing, is_called, Work, Gate, Slot, Key, Word, has}
-use Rattle.smp_stop_steps.proofs.State.KeyCounts.{opened_count}
-use Rattle.smp_stop_steps.proofs.Basics.Counts.{sum_zero}
+use Rattle.smp_labels.specs.{Law.IsLawful, Plans.AreEntriesOf}
+use Rattle.smp_stop_steps.specs.{IsCalling, told, may_call, calls_now, behind, count_behind, sum_below, unfinished, Change, labels_in, Alters, Free, Gives, In}
+use Rattle.smp_stop_steps.specs.{Rests, Seat, Stands, Duty, StopShows, IsWritten, Keeps, OpenShows, Shut, Source, IsSetup, Setup, StopState, no_stops, StopCall}
+use Rattle.smp_stop_steps.specs.{Calls, Answering, Called, Completed, Inside, Outside, Standing, is_called, Work, Gate, Slot, Key, Word, has}
 use Rattle.smp_stop_steps.proofs.State.Phases.{is_open_inside, keeps_inside, none_raises}
-use Rattle.smp_stop_steps.proofs.State.Acknowledged.{nobody_raises}
+use Rattle.smp_stop_steps.proofs.{State.KeyCounts.opened_count, Basics.Counts.sum_zero, State.Acknowledged.nobody_raises}
 use Rattle.smp_stop_steps.specs.act
 
 -- a sum of numbers of at most 1

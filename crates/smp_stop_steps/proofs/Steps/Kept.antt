@@ -2,12 +2,9 @@
 use Rattle.std.proofs.Common.{◌≡◌, ◌≢◌, ℕ, ◌≤◌, Bool, true, ◌==◌, cond, sym, subst, refl, ap, ◌∙◌, Option, List, arith}
 use Rattle.smp_words.proofs.Puts.{at_test, put_all}
 use Rattle.smp_stop_steps.specs.{CountShows, put, put_word, Patching, Reading, StandsSet, HasPast, OnlyActiveAnswer, answer_now, answer_of, OwnsKey}
-use Rattle.smp_stop_steps.specs.{PresentShows, Seat, StopShows}
-use Rattle.smp_stop_steps.specs.{Collects, Drafts, Owns, Shut, Source, SourceShows, AreClosing, IsCalling, Calling, Setup, StopCall, StopState, Ended}
-use Rattle.smp_stop_steps.specs.{Standing, acked, is_inside, Field, Patch, Work, Gate, Key, Slot, Word}
+use Rattle.smp_stop_steps.specs.{PresentShows, Seat, StopShows, Collects, Drafts, Owns, Shut, Source, SourceShows, AreClosing, IsCalling, Calling, Setup}
+use Rattle.smp_stop_steps.specs.{StopCall, StopState, Ended, Standing, acked, is_inside, Field, Patch, Work, Gate, Key, Slot, Word, State.Present, Stop.Stop}
 use Rattle.smp_stop_steps.proofs.State.Moves.{field_false}
-use Rattle.smp_stop_steps.specs.State.{Present}
-use Rattle.smp_stop_steps.specs.Stop.{Stop}
 
 module _ (u : Setup) (gate : Option ℕ) (s : ℕ) where
   -- a source whose slot is as it was

@@ -1,28 +1,20 @@
 -- What the note of each step of a CPU's command says of the state.
 use Rattle.std.proofs.Common.{◌≡◌, ◌≢◌, ℕ, ◌+◌, Bool, true, false, eq-eqb, eqb-true, ◌==◌, ◌&&◌, not, cond, ◌⊎◌, inl, inr, Option, Some, None, ⊎_elim, sym}
 use Rattle.std.proofs.Common.{subst, refl, ap, ◌∙◌, arith}
-use Rattle.smp_labels.specs.Kinds.{xor}
-use Rattle.smp_labels.specs.declared.keys.Change.{Change as KeyChange}
+use Rattle.smp_labels.specs.{Kinds.xor, declared.keys.Change.Change as KeyChange}
 use Rattle.smp_words.proofs.Puts.{at_test, put_same}
 use Rattle.smp_stop_steps.specs.{has, change_of, count_after, is_on, word_of, seen_of, put, Field, Note, Work, Word, Gate, Slot, Key, Site, CarriesIn, Change}
-use Rattle.smp_stop_steps.specs.{ReadKey, ReadSite, StaysStill, HasRead, NoteFits, heard_of, Seat, In, Gives, Rests, Sets, Stands, irq_of, StopShows}
-use Rattle.smp_stop_steps.specs.{gate_word, HasRun, IsLoaded, IsNudge, IsThroughAll, RunsIf, SitsAt, SourceSits, begun_value, Source, Owns, OwnerShows}
-use Rattle.smp_stop_steps.specs.{SourceShows, StopControlValue, answer_at, begun_next, key_on, looked_on, nudge_of, nudge_on, stop_ends, stop_goes, store_of}
-use Rattle.smp_stop_steps.specs.{visit_acked, Setup, StopState, StopCall, Calls, FunctionGoes, note_then, state_after, Standing, Inside, Ended, acked}
-use Rattle.smp_stop_steps.specs.{acknowledged, opened, raised, stands as stands_at, answered_by, drafts, acknowledges, completes_with, calls_now, gate_told}
-use Rattle.smp_stop_steps.specs.{is_multi, is_patch, key_loaded, key_told, leaves, looked_by, looks, looks_now, may_call, patch_begun, reads, stored_open}
-use Rattle.smp_stop_steps.specs.{stored_shut, tells, unpatched, with_stop, StopStage, TakeGate, OpenGate, Begin, Enter, EnterKind, EnterMask, EnterActive}
-use Rattle.smp_stop_steps.specs.{Advance, Complete, Close, LoadDone, LoadResult, NudgeKey, ExchangeKey, Visit}
-use Rattle.smp_stop_steps.specs.Sits.{Sits}
-use Rattle.smp_stop_steps.specs.State.{Present}
-use Rattle.smp_stop_steps.specs.Stop.{Stop}
+use Rattle.smp_stop_steps.specs.{ReadKey, ReadSite, StaysStill, HasRead, NoteFits, heard_of, Seat, In, Gives, Rests, Sets, Stands, irq_of, StopShows, gate_word}
+use Rattle.smp_stop_steps.specs.{HasRun, IsLoaded, IsNudge, IsThroughAll, RunsIf, SitsAt, SourceSits, begun_value, Source, Owns, OwnerShows, SourceShows}
+use Rattle.smp_stop_steps.specs.{StopControlValue, answer_at, begun_next, key_on, looked_on, nudge_of, nudge_on, stop_ends, stop_goes, store_of, visit_acked}
+use Rattle.smp_stop_steps.specs.{Setup, StopState, StopCall, Calls, FunctionGoes, note_then, state_after, Standing, Inside, Ended, acked, acknowledged, opened}
+use Rattle.smp_stop_steps.specs.{raised, stands as stands_at, answered_by, drafts, acknowledges, completes_with, calls_now, gate_told, is_multi, is_patch}
+use Rattle.smp_stop_steps.specs.{key_loaded, key_told, leaves, looked_by, looks, looks_now, may_call, patch_begun, reads, stored_open, stored_shut, tells}
+use Rattle.smp_stop_steps.specs.{unpatched, with_stop, StopStage, TakeGate, OpenGate, Begin, Enter, EnterKind, EnterMask, EnterActive, Advance, Complete, Close}
+use Rattle.smp_stop_steps.specs.{LoadDone, LoadResult, NudgeKey, ExchangeKey, Visit, Sits.Sits, State.Present, Stop.Stop}
 use Rattle.smp_stop_steps.specs.declared.stage.StopStage.TheVariants.{ReadKey as ReadsKey, ReadSite as ReadsSite}
-use Rattle.smp_stop_steps.proofs.Basics.Counts.{put_own}
-use Rattle.smp_stop_steps.proofs.State.Gates.{gate_free, gate_mine}
-use Rattle.smp_stop_steps.proofs.State.Phases.{is_open_inside}
-use Rattle.smp_stop_steps.proofs.Steps.CallSteps.{call_step}
-use Rattle.smp_stop_steps.proofs.Steps.Facts.{patcher_active}
-use Rattle.smp_stop_steps.proofs.Steps.Patching.{not_run}
+use Rattle.smp_stop_steps.proofs.{Basics.Counts.put_own, State.Gates.gate_free, State.Gates.gate_mine, State.Phases.is_open_inside, Steps.CallSteps.call_step}
+use Rattle.smp_stop_steps.proofs.{Steps.Facts.patcher_active, Steps.Patching.not_run}
 use Rattle.smp_stop_steps.specs.field
 use Rattle.smp_stop_steps.specs.act
 use Rattle.smp_stop_steps.specs.note

@@ -5,13 +5,9 @@ use Rattle.std.proofs.lemmas.Bool.{cases_lt}
 use Rattle.smp_labels.specs.declared.keys.Change.TheVariants.{Up, Down}
 use Rattle.smp_words.proofs.Puts.{at_test, put_same}
 use Rattle.smp_stop_steps.specs.{is_on, count_after, IsKeyWord, Change, Patches, ReadKey, Whole, IsPatched, KeysStand, Nudges, ReadsOwnPatch, StandsAtEdge}
-use Rattle.smp_stop_steps.specs.{Seat, StopShows, SitsAtRest, Source, StopControlValue, nudge_on, Setup, StopState, at_then, state_after, is_patch}
-use Rattle.smp_stop_steps.specs.{key_loaded, patch_begun, reads, StopStage, Advance, ExchangeKey, NudgeKey, Visit, Patch, Work, Word, Gate, Key}
-use Rattle.smp_stop_steps.proofs.State.Patched.{lawful_when_on, nobody_patches}
-use Rattle.smp_stop_steps.proofs.Steps.Patching.{not_run}
-use Rattle.smp_stop_steps.specs.Sits.{Sits}
-use Rattle.smp_stop_steps.specs.State.{Present}
-use Rattle.smp_stop_steps.proofs.Steps.Stages.{at_seat}
+use Rattle.smp_stop_steps.specs.{Seat, StopShows, SitsAtRest, Source, StopControlValue, nudge_on, Setup, StopState, at_then, state_after, is_patch, key_loaded}
+use Rattle.smp_stop_steps.specs.{patch_begun, reads, StopStage, Advance, ExchangeKey, NudgeKey, Visit, Patch, Work, Word, Gate, Key, Sits.Sits, State.Present}
+use Rattle.smp_stop_steps.proofs.{State.Patched.lawful_when_on, State.Patched.nobody_patches, Steps.Patching.not_run, Steps.Stages.at_seat}
 use Rattle.smp_stop_steps.specs.note
 use Rattle.smp_stop_steps.specs.round
 

@@ -3,18 +3,15 @@ use Rattle.std.specs.List.{AllByRecursion}
 use Rattle.std.proofs.Common.{◌≡◌, ℕ, Bool, true, false, eqb-true, sym, subst, refl, ap, ◌∙◌, arith, Option, Some, None, List, [], ◌∷◌, ◌++◌, ◌<◌, IfSome}
 use Rattle.smp_words.proofs.Puts.{at_test}
 use Rattle.smp_labels.proofs.Patched.{plan_leads, left_in_form, count_lawful}
-use Rattle.smp_labels.specs.Law.{Table}
-use Rattle.smp_labels.specs.Plans.{AreEntriesOf, applied}
+use Rattle.smp_labels.specs.{Law.Table, Plans.AreEntriesOf, Plans.applied}
 use Rattle.smp_stop_steps.specs.{IsCalling, AreClosing, IsNudge, CountShows, moved_by, put, put_word, Change, Patches, Patching, ReadKey, Reading, labels_in}
 use Rattle.smp_stop_steps.specs.{Agrees, LabelsShow, count_set, OwnsKey, PresentShows, Alters, In, Rests, Seat, Stands, StopShows, Source, Setup, StopState}
 use Rattle.smp_stop_steps.specs.{Moved, Inside, Standing, is_at_run, key_loaded, reads, told, plan_at, Field, Patch, Work, Entry, Gate, Key, Site, Slot, Word}
 use Rattle.smp_stop_steps.specs.{is_on, change_of, has}
 use Rattle.smp_stop_steps.proofs.Steps.Callings.{calling_same, closing_seat, idle_patch, idle_alters, IsNotClosing}
 use Rattle.smp_stop_steps.proofs.State.KeyCounts.{counts_nudged, counts_patched}
-use Rattle.smp_stop_steps.proofs.Steps.Kept.{source_same}
-use Rattle.smp_stop_steps.proofs.State.Owns.{owns_stores}
 use Rattle.smp_stop_steps.proofs.State.Patched.{off_inside, patch_starts, patch_stores, reads_label, nobody_patches, lawful_when_on}
-use Rattle.smp_stop_steps.proofs.State.Phases.{is_open_inside}
+use Rattle.smp_stop_steps.proofs.{Steps.Kept.source_same, State.Owns.owns_stores, State.Phases.is_open_inside}
 use Rattle.smp_stop_steps.specs.act
 use Rattle.smp_stop_steps.specs.place
 

@@ -1,28 +1,19 @@
 -- The steps of a turn of `multi_cpu_stop`, by a CPU's stage.
 use Rattle.std.proofs.Common.{◌≡◌, ◌≢◌, ℕ, ◌+◌, ◌^◌, ◌<◌, ◌≤◌, Bool, true, false, nat_lt, eq-eqb, ne_eqb, eqb-true, ◌==◌, ◌&&◌, ◌||◌, cond, sym, subst, refl}
-use Rattle.std.proofs.Common.{ap, ◌∙◌, inl, inr, arith, Option, Some, None, List, [], ◌∷◌, ◌++◌, length, take, get_or, length-append, length-take-le}
-use Rattle.std.proofs.Common.{take_all, append_assoc}
-use Rattle.std.proofs.lemmas.Bool.{cases_lt}
-use Rattle.std.proofs.lemmas.List.{take_more, get_or_past, append-nil}
+use Rattle.std.proofs.Common.{ap, ◌∙◌, inl, inr, arith, Option, Some, None, List, [], ◌∷◌, ◌++◌, length, take, get_or, length-append, length-take-le, take_all}
+use Rattle.std.proofs.Common.{append_assoc}
+use Rattle.std.proofs.{lemmas.Bool.cases_lt, lemmas.List.take_more, lemmas.List.get_or_past, lemmas.List.append-nil}
 use Rattle.smp_labels.proofs.Patched.{plan_same, plan_tests, plan_key_first}
-use Rattle.smp_labels.specs.Kinds.{xor}
-use Rattle.smp_labels.specs.declared.keys.Change.{Change as KeyChange}
+use Rattle.smp_labels.specs.{Kinds.xor, declared.keys.Change.Change as KeyChange, Entries.entry_at, Keys.count_or, Plans.site_change, Plans.plan_of}
 use Rattle.smp_words.proofs.Puts.{at_test}
 use Rattle.smp_words.specs.declared.field.Field.TheVariants.{Arg, State}
-use Rattle.smp_labels.specs.Entries.{entry_at}
-use Rattle.smp_labels.specs.Keys.{count_or}
-use Rattle.smp_labels.specs.Plans.{site_change, plan_of}
-use Rattle.smp_stop_steps.specs.{at_after, seen_of, word_of, put, Change, count_set, answer_for, patch_answer, Alters, In, Rests, Seat, irq_of, StopShows}
-use Rattle.smp_stop_steps.specs.{IsLoaded, OwnsIf, SitsAtRun, changes_of, SitsAtEntry, Source, StopControlValue, change_at, entry_on, stop_ends, stop_goes}
-use Rattle.smp_stop_steps.specs.{store_of, key_on, Setup, StopState, StopStep, state_after, is_multi, tells, told, plan_at, Advance, Visit, Multi, One, Patch}
-use Rattle.smp_stop_steps.specs.{Kind as KindOf, Work, Entry, Gate, Key, Slot, Word, is_on, change_of, count_after, patch_of, site_changes, MOST_SITES, has}
-use Rattle.smp_stop_steps.proofs.Steps.Same.{moved_seat, still}
-use Rattle.smp_stop_steps.proofs.Steps.Facts.{arg_loaded, inside_keeps, state_near, work_words}
-use Rattle.smp_stop_steps.proofs.Steps.Patching.{key_loaded_first, key_stored, site_stored}
-use Rattle.smp_stop_steps.proofs.Steps.Rounds.{look_irq, state_loaded}
-use Rattle.smp_stop_steps.specs.Sits.{Sits}
-use Rattle.smp_stop_steps.proofs.Steps.Stages.{in_round, round_source}
-use Rattle.smp_stop_steps.proofs.Basics.Bools.{both_true}
+use Rattle.smp_stop_steps.specs.{at_after, count_set, Rests, StopShows, SitsAtRun, change_at, stop_ends, stop_goes, StopState, change_of, MOST_SITES, Sits.Sits}
+use Rattle.smp_stop_steps.specs.{seen_of, word_of, Change, Alters, irq_of, IsLoaded, OwnsIf, entry_on, store_of, StopStep, is_multi, plan_at, Advance, patch_of}
+use Rattle.smp_stop_steps.specs.{put, In, Seat, Source, key_on, Setup, tells, told, Visit, Multi, One, Patch, Work, Entry, Gate, Key, Slot, Word, is_on, has}
+use Rattle.smp_stop_steps.specs.{answer_for, patch_answer, changes_of, SitsAtEntry, StopControlValue, state_after, Kind as KindOf, count_after, site_changes}
+use Rattle.smp_stop_steps.proofs.{Steps.Same.moved_seat, Steps.Same.still, Steps.Facts.arg_loaded, Steps.Facts.inside_keeps, Steps.Facts.state_near}
+use Rattle.smp_stop_steps.proofs.{Steps.Facts.work_words, Steps.Patching.key_loaded_first, Steps.Patching.key_stored, Steps.Patching.site_stored}
+use Rattle.smp_stop_steps.proofs.{Steps.Rounds.look_irq, Steps.Rounds.state_loaded, Steps.Stages.in_round, Steps.Stages.round_source, Basics.Bools.both_true}
 use Rattle.smp_stop_steps.specs.act
 use Rattle.smp_stop_steps.specs.note
 use Rattle.smp_stop_steps.specs.round

@@ -1,29 +1,23 @@
 -- The kinds of step of a round: a CPU looks at the phase, acknowledges it, refills the count, and stores the next phase.
-use Rattle.std.proofs.Common.{◌≡◌, ◌≢◌, ℕ, ◌+◌, ◌-◌, ◌≤◌, Bool, true, false, not, nat_lt, lt-ltb, le-ltb, eqb-true, eq-eqb, ne_eqb, ◌==◌, ◌&&◌, ◌||◌, cond}
-use Rattle.std.proofs.Common.{sym, subst, refl, ap, ◌∙◌, ◌⊎◌, arith, Some, None, List, [], ◌∷◌, ◌++◌, Option, IfSome}
+use Rattle.std.proofs.Common.{◌≡◌, ◌≢◌, ℕ, ◌+◌, ◌-◌, ◌≤◌, Bool, true, false, not, nat_lt, lt-ltb, le-ltb, eqb-true, eq-eqb, ne_eqb, ◌==◌, ◌&&◌, ◌||◌, cond, sym}
+use Rattle.std.proofs.Common.{subst, refl, ap, ◌∙◌, ◌⊎◌, arith, Some, None, List, [], ◌∷◌, ◌++◌, Option, IfSome}
 use Rattle.std.proofs.lemmas.Bool.{cases_lt}
 use Rattle.std.specs.List.{AllByRecursion}
 use Rattle.smp_words.proofs.Puts.{at_test, put_all, put_same, put_other}
 use Rattle.smp_words.specs.declared.field.Field.TheVariants.{Ack, State}
 use Rattle.smp_stop_steps.specs.{HasCalled, IsCalling, AreClosing, put, put_word, mask_weight, weight, Agrees, Change, Patches, Patching, Reading, Whole}
-use Rattle.smp_stop_steps.specs.{labels_in, StandsSet, reading_of, state_left, patch_answer, OwnsKey, PresentShows, RunnerShows, Alters, Fills}
-use Rattle.smp_stop_steps.specs.{In, Rests, Seat, Sets, Stands, Duty, irq_of, duty_of, StopShows, AckShows, IsLevel, Keeps, OpenShows, IsPhaseOf, Source}
-use Rattle.smp_stop_steps.specs.{Setup, StopCall, StopState, Calling, Inside, Nobody, Raises, Raising, Standing, acked, acknowledged, is_inside, raised}
-use Rattle.smp_stop_steps.specs.{refilled, stands, first_readings, is_patch, leaves, told, unpatched, with_stop, called_more, carried, One, Patch}
-use Rattle.smp_stop_steps.specs.{Kind as KindOf, Work, Key, Slot, Word, is_on, change_of, has}
+use Rattle.smp_stop_steps.specs.{labels_in, StandsSet, reading_of, state_left, patch_answer, OwnsKey, PresentShows, RunnerShows, Alters, Fills, In, Rests, Seat}
+use Rattle.smp_stop_steps.specs.{Sets, Stands, Duty, irq_of, duty_of, StopShows, AckShows, IsLevel, Keeps, OpenShows, IsPhaseOf, Source, Setup, StopCall}
+use Rattle.smp_stop_steps.specs.{StopState, Calling, Inside, Nobody, Raises, Raising, Standing, acked, acknowledged, is_inside, raised, refilled, stands}
+use Rattle.smp_stop_steps.specs.{first_readings, is_patch, leaves, told, unpatched, with_stop, called_more, carried, One, Patch, Kind as KindOf, Work, Key}
+use Rattle.smp_stop_steps.specs.{Slot, Word, is_on, change_of, has, State.Present, State.Carries, Stop.Stop}
 use Rattle.smp_stop_steps.proofs.Basics.Bools.{both_true, or_false, or_true}
 use Rattle.smp_stop_steps.proofs.Steps.Callings.{calling_same, calling_looked, IsNotClosing, calling_turned, closing_kept, calling_acked, idle_patch}
 use Rattle.smp_stop_steps.proofs.Steps.Callings.{carried_alone, calling_next, calling_ran}
 use Rattle.smp_stop_steps.proofs.Steps.Kept.{MovesInside, StaysOpen, after, moves_early, moves_given, open_step, other_slots, owns_kept, put_twice}
-use Rattle.smp_stop_steps.proofs.State.Moves.{IsNoPatch, SaveMe}
-use Rattle.smp_stop_steps.proofs.State.Pasts.{active_put}
-use Rattle.smp_stop_steps.proofs.State.Owns.{owns_at_leave}
-use Rattle.smp_stop_steps.proofs.State.Patched.{patch_ends}
-use Rattle.smp_stop_steps.proofs.State.Phases.{is_open_inside, keeps_inside}
 use Rattle.smp_stop_steps.proofs.State.Acknowledged.{step_acknowledges, step_looks, step_raises, step_refills, sets_me}
-use Rattle.smp_stop_steps.proofs.State.Works.{weight_of_mask}
-use Rattle.smp_stop_steps.specs.State.{Present, Carries}
-use Rattle.smp_stop_steps.specs.Stop.{Stop}
+use Rattle.smp_stop_steps.proofs.{State.Moves.IsNoPatch, State.Moves.SaveMe, State.Pasts.active_put, State.Owns.owns_at_leave, State.Patched.patch_ends}
+use Rattle.smp_stop_steps.proofs.{State.Phases.is_open_inside, State.Phases.keeps_inside, State.Works.weight_of_mask}
 use Rattle.smp_stop_steps.specs.act
 
 -- a look changes whether interrupts are on at phase 2 alone

@@ -1,7 +1,6 @@
 -- A step that leaves a CPU's seat or its source as it was.
 use Rattle.std.proofs.Common.{◌≡◌, ℕ, Bool, true, false, cond, sym, subst, refl, ap}
-use Rattle.smp_words.proofs.Puts.{at_test}
-use Rattle.smp_words.proofs.SameWords.{same_word-true}
+use Rattle.smp_words.proofs.{Puts.at_test, SameWords.same_word-true}
 use Rattle.smp_stop_steps.specs.{put, put_word, same_word, Word, Seat, StopShows, Source, Setup, StopState}
 
 -- a put of what is there

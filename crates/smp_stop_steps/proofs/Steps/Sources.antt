@@ -1,23 +1,16 @@
 -- The kinds of step of a source: the gate, the stores of begin, and the looks for the result.
 use Rattle.std.proofs.Common.{◌≡◌, ◌≢◌, ℕ, ◌+◌, ◌<◌, Bool, true, false, eq-eqb, ◌==◌, cond, sym, subst, refl, ap, ◌∙◌, arith, Some, None, List, [], ◌∷◌, ◌++◌}
-use Rattle.smp_words.proofs.Puts.{at_test, put_all, put_both, put_same, put_other}
-use Rattle.smp_words.proofs.SameWords.{one_place}
-use Rattle.smp_words.specs.Put.{place_of, same_field}
-use Rattle.smp_words.specs.Kinds.{kind_at, kind_word}
+use Rattle.smp_words.proofs.{Puts.at_test, Puts.put_all, Puts.put_both, Puts.put_same, Puts.put_other, SameWords.one_place}
 use Rattle.smp_words.specs.declared.field.Field.TheVariants.{Ack, Active, Arg, Done, Func, Kind, Mask, Result, Roll, State, Todo}
+use Rattle.smp_words.specs.{Put.place_of, Put.same_field, Kinds.kind_at, Kinds.kind_word}
 use Rattle.smp_stop_steps.specs.{HasCompleted, CountShows, put, put_word, unfinished, HasPast, answer_now, PresentShows, Seat, Closes, StopShows, DoneShows}
 use Rattle.smp_stop_steps.specs.{IsStored, begun_value, order, Collects, DraftShows, Drafts, IsDrafted, OwnerShows, Owns, Shut, Source, SourceShows, Setup}
 use Rattle.smp_stop_steps.specs.{StopState, Called, Ended, Ending, Last, Outside, Standing, answer_of, closed, is_inside, is_of, opened, drafted, drafts}
-use Rattle.smp_stop_steps.specs.{stored_shut, told, Field, Kind as KindOf, Work, Gate, Key, Slot, Word, has}
-use Rattle.smp_stop_steps.proofs.State.Gates.{gate_free}
-use Rattle.smp_stop_steps.proofs.Basics.Counts.{sum_zero}
-use Rattle.smp_stop_steps.proofs.State.Ends.{all_outside, collects_slot}
+use Rattle.smp_stop_steps.specs.{stored_shut, told, Field, Kind as KindOf, Work, Gate, Key, Slot, Word, has, Stop.Stop}
 use Rattle.smp_stop_steps.proofs.State.Entered.{step_collects, step_drafts, step_opens}
 use Rattle.smp_stop_steps.proofs.Steps.Kept.{after, other_slots, past_same, source_same}
-use Rattle.smp_stop_steps.proofs.State.Owns.{mask_is}
-use Rattle.smp_stop_steps.proofs.State.Pasts.{active_outside, past_collects, past_opens}
-use Rattle.smp_stop_steps.proofs.State.Raises.{in_machine}
-use Rattle.smp_stop_steps.specs.Stop.{Stop}
+use Rattle.smp_stop_steps.proofs.{State.Gates.gate_free, Basics.Counts.sum_zero, State.Ends.all_outside, State.Ends.collects_slot, State.Owns.mask_is}
+use Rattle.smp_stop_steps.proofs.{State.Pasts.active_outside, State.Pasts.past_collects, State.Pasts.past_opens, State.Raises.in_machine}
 use Rattle.smp_stop_steps.specs.act
 
 pub kind_back : (k : KindOf) → kind_at (kind_word k) ≡ k

@@ -3,21 +3,16 @@ use Rattle.std.proofs.Common.{◌≡◌, ◌≢◌, ℕ, ◌+◌, ◌-◌, ◌^�
 use Rattle.std.proofs.Common.{Option, Some, None}
 use Rattle.smp_labels.proofs.Patched.{left_in_form, xor_same}
 use Rattle.smp_labels.specs.Kinds.{xor}
-use Rattle.smp_words.specs.Access.{one_less, put_if}
-use Rattle.smp_words.specs.Kinds.{kind_at}
 use Rattle.smp_words.specs.declared.field.Field.TheVariants.{Ack, Active, Arg, Done, Func, Kind, Mask, Result, Roll, State, Todo}
+use Rattle.smp_words.specs.{Access.one_less, Access.put_if, Kinds.kind_at}
 use Rattle.smp_stop_steps.specs.{is_on, count_after, IsKeyWord, put, put_word, In, Rests, Seat, StopShows, OwnsIf, SitsAt, SitsAtRest, SourceSits, IsNudge}
 use Rattle.smp_stop_steps.specs.{begun_value, order, Collects, Drafts, Owns, Shut, Source, StopControlValue, stop_ends, stop_goes, nudge_on, nudge_of, Setup}
 use Rattle.smp_stop_steps.specs.{StopState, StopStep, at_then, state_after, gate_told, told, Field, Begin, EnterActive, EnterKind, EnterMask, LoadDone}
-use Rattle.smp_stop_steps.specs.{LoadResult, OpenGate, TakeGate, NudgeKey, ExchangeKey, StopStage, Kind as KindOf, Work, Gate, Slot, Key, Word}
-use Rattle.smp_stop_steps.proofs.State.Gates.{gate_mine}
-use Rattle.smp_stop_steps.proofs.Steps.Same.{moved_source, still}
-use Rattle.smp_stop_steps.proofs.State.Patched.{lawful_when_on}
-use Rattle.smp_stop_steps.proofs.Steps.Facts.{work_words}
+use Rattle.smp_stop_steps.specs.{LoadResult, OpenGate, TakeGate, NudgeKey, ExchangeKey, StopStage, Kind as KindOf, Work, Gate, Slot, Key, Word, Sits.Sits}
+use Rattle.smp_stop_steps.specs.declared.stage.StopStage.TheVariants.{ReadKey, ReadSite}
 use Rattle.smp_stop_steps.proofs.Steps.Patching.{key_read, site_read, key_exchanged}
 use Rattle.smp_stop_steps.proofs.Steps.Sources.{done_loaded, field_stored, gate_opened, gate_taken, kind_back, result_loaded, roll_stored}
-use Rattle.smp_stop_steps.specs.Sits.{Sits}
-use Rattle.smp_stop_steps.specs.declared.stage.StopStage.TheVariants.{ReadKey, ReadSite}
+use Rattle.smp_stop_steps.proofs.{State.Gates.gate_mine, Steps.Same.moved_source, Steps.Same.still, State.Patched.lawful_when_on, Steps.Facts.work_words}
 use Rattle.smp_stop_steps.specs.act
 use Rattle.smp_stop_steps.specs.note
 

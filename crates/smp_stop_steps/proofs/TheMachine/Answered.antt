@@ -1,12 +1,11 @@
 -- Answers of stop functions where a command begins, and after a step of a stop half.
-use Rattle.std.specs.Int.{w32, cast_signed}
+use Rattle.std.specs.{Int.w32, Int.cast_signed, Prelude.slice_set}
 use Rattle.std.proofs.Common.{◌≡◌, ℕ, ℤ, ◌<◌, Option, Some, None, List, length, refl, rules, FitsSigned, arith}
 use Rattle.std.proofs.lemmas.Int.{to_z-of_z}
-use Rattle.std.specs.Prelude.{slice_set}
 use Rattle.smp_words.proofs.Puts.{at_test}
 use Rattle.smp_words.specs.Commands.{FitsCommand}
-use Rattle.smp_stop_steps.specs.{Command, AnswersAreTaken, BeginsWith, HasI32Answers, IsI32Word, StageFits, VisitFits, StopControlValue, answer_word}
-use Rattle.smp_stop_steps.specs.{in_visit, stop_first, stop_control_of, Advance, Complete, Visit}
+use Rattle.smp_stop_steps.specs.{Command, AnswersAreTaken, BeginsWith, HasI32Answers, IsI32Word, StageFits, VisitFits, StopControlValue, answer_word, in_visit}
+use Rattle.smp_stop_steps.specs.{stop_first, stop_control_of, Advance, Complete, Visit}
 use Rattle.smp_stop_steps.proofs.TheMachine.Values.{stop_controls_by_cpu}
 use Rattle.smp_stop_steps.specs.completion
 use Rattle.smp_stop_steps.specs.round

@@ -5,12 +5,9 @@ use Rattle.smp_words.proofs.Puts.{at_test, put_all}
 use Rattle.smp_words.specs.declared.field.Field.TheVariants.{Kind}
 use Rattle.smp_stop_steps.specs.{put, MayBegin, Rests, Seat, StopShows, OwnsIf, SitsAtRest, SitsIn, SourceSits, Shut, Source, StopControlValue, stop_goes}
 use Rattle.smp_stop_steps.specs.{Setup, StopState, StopWords, stop_number, StopsShow, stop_control_of, Advance, Begin, Complete, Enter, LoadDone, OpenGate}
-use Rattle.smp_stop_steps.specs.{NudgeKey, TakeGate, StopStage, Visit, Gate, Word, CarriesIn, Calling}
-use Rattle.smp_stop_steps.proofs.State.Gates.{gate_mine}
-use Rattle.smp_stop_steps.proofs.Steps.Same.{put_same_fn}
-use Rattle.smp_stop_steps.proofs.TheMachine.Values.{stop_controls_by_cpu}
-use Rattle.smp_stop_steps.specs.Sits.{Sits}
+use Rattle.smp_stop_steps.specs.{NudgeKey, TakeGate, StopStage, Visit, Gate, Word, CarriesIn, Calling, Sits.Sits}
 use Rattle.smp_stop_steps.specs.declared.stage.StopStage.TheVariants.{ReadKey, ReadSite}
+use Rattle.smp_stop_steps.proofs.{State.Gates.gate_mine, Steps.Same.put_same_fn, TheMachine.Values.stop_controls_by_cpu}
 use Rattle.smp_stop_steps.specs.completion
 use Rattle.smp_stop_steps.specs.round
 

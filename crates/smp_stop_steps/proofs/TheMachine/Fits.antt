@@ -1,14 +1,11 @@
 -- Tests of what a command asks for: what they mean of numbers and masks, and of a work.
 use Rattle.std.proofs.Common.{◌≡◌, ◌≢◌, ℕ, zero, suc, ◌<◌, ◌^◌, Bool, true, false, ◌==◌, ◌&&◌, not, nat_lt, lt-ltb, lit<, cond, sym, refl, ◌∙◌, ◌⊎◌, inl, inr}
 use Rattle.std.proofs.Common.{arith, Option, Some, None, bit_and, eqb-true, eq-eqb, ne_eqb}
-use Rattle.std.proofs.Math.Pow.{pow-lt}
-use Rattle.std.proofs.lemmas.Bool.{ltb-true}
-use Rattle.std.proofs.lemmas.Bool.Decides.{nat_tests}
 use Rattle.std.proofs.lemmas.Nat.Bits.{bit_at-lt, bit_at_and, bit_at-pow_same, bit_at-pow_other}
+use Rattle.std.proofs.{Math.Pow.pow-lt, lemmas.Bool.ltb-true, lemmas.Bool.Decides.nat_tests}
 use Rattle.smp_mask.proofs.Sets.{has_above, has_and, same_members}
 use Rattle.smp_stop_steps.specs.{has, SmpError, cpus, Kind, One, Work, mask_weight, IsOfKind, IsPatchWork, fits_kind, fits_patch, fits_work, terms_of, unless}
-use Rattle.smp_stop_steps.specs.{Setup, is_one, StopsValue, first_below, setup_of}
-use Rattle.smp_stop_steps.specs.declared.start.Terms.{Terms}
+use Rattle.smp_stop_steps.specs.{Setup, is_one, StopsValue, first_below, setup_of, declared.start.Terms.Terms}
 
 -- no error: the test has passed
 pub passed : (b : Bool) (e : SmpError) → unless b e ≡ None → b ≡ true

@@ -1,13 +1,9 @@
 -- What the code of a step makes of the stop half of a machine.
-use Rattle.std.proofs.Common.{◌≡◌, ℕ, Some, List, sym, subst, refl, arith}
-use Rattle.std.proofs.lemmas.List.{length-set}
-use Rattle.smp_stop_steps.specs.{StopState, tells, StopControlValue, stop_outcome, answer_at, StopWords, stop_number, StopsValue, StopsShow, IsStopTable}
-use Rattle.smp_stop_steps.specs.{setup_of, stop_control_of, AreSoundStops, stop_found_at, stop_seen_at, stop_stepped, AreI32Words, HasI32Answers, Seen}
-use Rattle.smp_stop_steps.specs.{StopStage}
-use Rattle.smp_stop_steps.proofs.Steps.StateWords.{ArePhases}
-use Rattle.smp_stop_steps.proofs.Steps.AnswerWords.{keeps_answers}
-use Rattle.smp_stop_steps.proofs.TheMachine.Answered.{answers_set}
+use Rattle.std.proofs.{Common.◌≡◌, Common.ℕ, Common.Some, Common.List, Common.sym, Common.subst, Common.refl, Common.arith, lemmas.List.length-set}
+use Rattle.smp_stop_steps.specs.{StopState, tells, answer_at, StopWords, stop_number, StopsValue, StopsShow, IsStopTable, setup_of, AreI32Words, StopStage}
+use Rattle.smp_stop_steps.specs.{StopControlValue, stop_outcome, stop_control_of, AreSoundStops, stop_found_at, stop_seen_at, stop_stepped, HasI32Answers, Seen}
 use Rattle.smp_stop_steps.proofs.TheMachine.Values.{stop_inside_below, stop_value_shown, stop_table_shown, stop_phases_kept, stop_results_kept}
+use Rattle.smp_stop_steps.proofs.{Steps.StateWords.ArePhases, Steps.AnswerWords.keeps_answers, TheMachine.Answered.answers_set}
 
 pub record StopMade (v : StopsValue) (cpu : ℕ) (stage : StopStage) (seen : Seen) (table' : StopWords) (controls' : List StopControlValue) : Type 0 where
   pub at_stage : (stop_control_of v.controls cpu).stage ≡ Some stage

@@ -1,14 +1,11 @@
 -- What a begin is refused for, of the members of its masks.
-use Rattle.std.proofs.Common.{◌≡◌, ◌≢◌, ◌⊎◌, ℕ, zero, suc, ◌+◌, ◌<◌, ◌≤◌, ◌^◌, Bool, true, false, ◌==◌, ◌&&◌, not, nat_lt, cond, inl, inr, sym, subst}
-use Rattle.std.proofs.Common.{refl, ap, ◌∙◌}
-use Rattle.std.proofs.Common.{arith, eq-eqb, ne_eqb, lt-ltb, bit_and, Some}
-use Rattle.std.proofs.lemmas.Bool.{cases_eq, cases_lt, ltb-true}
-use Rattle.std.proofs.lemmas.Bool.Decides.{nat_tests}
+use Rattle.std.proofs.Common.{◌≡◌, ◌≢◌, ◌⊎◌, ℕ, zero, suc, ◌+◌, ◌<◌, ◌≤◌, ◌^◌, Bool, true, false, ◌==◌, ◌&&◌, not, nat_lt, cond, inl, inr, sym, subst, refl, ap}
+use Rattle.std.proofs.Common.{◌∙◌, arith, eq-eqb, ne_eqb, lt-ltb, bit_and, Some}
+use Rattle.std.proofs.{lemmas.Bool.cases_eq, lemmas.Bool.cases_lt, lemmas.Bool.ltb-true, lemmas.Bool.Decides.nat_tests}
 use Rattle.smp_mask.proofs.Sets.{has_above, same_members}
 use Rattle.smp_stop_steps.specs.{has, cpus, Kind, One, Multi, Patch, Work, sum_below, bit, mask_weight, first_below, fits_kind, fits_patch, fits_work}
-use Rattle.smp_stop_steps.specs.{begin_refusal, unless}
+use Rattle.smp_stop_steps.specs.{begin_refusal, unless, declared.start.Terms.Terms}
 use Rattle.smp_stop_steps.specs.Members.{IsAlone, IsPatchOf, HasItsCpus, FitsMembers, RefusesByMembers}
-use Rattle.smp_stop_steps.specs.declared.start.Terms.{Terms}
 use Rattle.smp_stop_steps.proofs.TheMachine.Fits.{both, is_same, of_both, one_bit, some_outside, within}
 use Rattle.smp_stop_steps.proofs.TheMachine.Opened.{first_is}
 use Rattle.smp_stop_steps.specs.error

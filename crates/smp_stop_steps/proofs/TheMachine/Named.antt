@@ -1,17 +1,12 @@
 -- The word of each access of the stop half is in its table, and no step takes the gate from its holder.
 use Rattle.std.proofs.Common.{◌≡◌, ◌≢◌, ℕ, ◌+◌, ◌<◌, ◌≤◌, Bool, true, false, sym, subst, ◌∙◌, inl, inr, arith, ne_eqb, Some, List, [], ◌∷◌, ◌++◌, length}
-use Rattle.std.proofs.lemmas.Bool.{cases_lt}
-use Rattle.std.proofs.lemmas.List.{append-nil}
+use Rattle.std.proofs.{lemmas.Bool.cases_lt, lemmas.List.append-nil}
 use Rattle.std.specs.List.{AllByRecursion}
 use Rattle.smp_stop_steps.specs.{plan_at, word_of, cpus, Change, Alters, Fills, Gives, In, Rests, Seat, Sets, Stands, Duty, StopShows, SitsInCompletion}
 use Rattle.smp_stop_steps.specs.{SitsInRound, Collects, Drafts, IsWork, Owns, Shut, Source, SourceShows, StopControlValue, change_at, completion_access}
 use Rattle.smp_stop_steps.specs.{label_word, round_access, stop_access, store_of, Setup, StopState, at_then, CompletionStage, RoundStage, StopStage, Visit}
-use Rattle.smp_stop_steps.specs.{Patch, Work, Gate, Slot, Word, site_changes, MOST_KEYS, MOST_SITES}
-use Rattle.smp_stop_steps.proofs.State.Phases.{is_open_inside}
-use Rattle.smp_stop_steps.proofs.Steps.RoundSteps.{change_here}
-use Rattle.smp_stop_steps.proofs.TheMachine.Tables.{IsStopWord}
-use Rattle.smp_stop_steps.specs.Sits.{Sits}
-use Rattle.smp_stop_steps.proofs.Steps.Stages.{at_seat}
+use Rattle.smp_stop_steps.specs.{Patch, Work, Gate, Slot, Word, site_changes, MOST_KEYS, MOST_SITES, Sits.Sits}
+use Rattle.smp_stop_steps.proofs.{State.Phases.is_open_inside, Steps.RoundSteps.change_here, TheMachine.Tables.IsStopWord, Steps.Stages.at_seat}
 use Rattle.smp_stop_steps.specs.round
 
 -- the changes of a patch are of words in the table

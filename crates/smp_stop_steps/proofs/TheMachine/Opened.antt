@@ -1,10 +1,7 @@
 -- A stop half as it is made shows that nothing was begun.
 use Rattle.std.proofs.Common.{◌≡◌, ◌≢◌, ℕ, zero, suc, ◌-◌, ◌<◌, true, false, List, [], ◌∷◌, ◌++◌, length, map, get_or, replicate, refl, arith, eq-eqb, ne_eqb}
 use Rattle.std.proofs.lemmas.List.{length-map}
-use Rattle.smp_labels.specs.Entries.{entry_word}
-use Rattle.smp_labels.specs.Labels.{Labels, AreLabels}
-use Rattle.smp_labels.specs.Law.{IsLawful}
-use Rattle.smp_labels.specs.declared.entries.Entry.{Entry}
+use Rattle.smp_labels.specs.{Entries.entry_word, Labels.Labels, Labels.AreLabels, Law.IsLawful, declared.entries.Entry.Entry}
 use Rattle.smp_words.specs.declared.size.TheConstants.{SLOT_WORDS}
 use Rattle.smp_words.proofs.Zeros.{get_or-same, zero_at}
 use Rattle.smp_stop_steps.specs.{has, MOST_SITES, MOST_KEYS, cpus, labels_in, no_stops, Free, Shut, StopControlValue, stop_outside, StopWords, stop_number}

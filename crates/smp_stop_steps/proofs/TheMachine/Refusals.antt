@@ -1,17 +1,13 @@
 -- Each refusal of a command of the stop half is that of the state of the stops.
 use Rattle.std.proofs.Common.{◌≡◌, ◌≢◌, ℕ, ◌+◌, ◌<◌, Bool, true, false, ◌&&◌, nat_lt, lt-ltb, sym, subst, ap, ◌∙◌, arith, Option, Some, None, bit_and, eq-eqb}
 use Rattle.std.proofs.Common.{ne_eqb}
-use Rattle.std.proofs.lemmas.Bool.{ltb-true}
-use Rattle.std.proofs.lemmas.List.{length-map}
+use Rattle.std.proofs.{lemmas.Bool.ltb-true, lemmas.List.length-map}
 use Rattle.smp_stop_steps.specs.{SmpError, cpus, Command, Kind, One, Work, Gate, BeginRefuses, IsRefusal, MayAdvance, MayEnter, MayFinish, MayRun}
-use Rattle.smp_stop_steps.specs.{RefusesByState, Refuses, Stands, gate_word, OwnsIf, SitsAt, SitsAtRest, SourceSits, StopControlValue, begin_refusal}
-use Rattle.smp_stop_steps.specs.{has_slot, is_free, may_advance, may_finish, may_run, refusal_on, terms_of, unless, Setup, StopState, Inside, stop_number}
-use Rattle.smp_stop_steps.specs.{is_one, StopsValue, StopShown, setup_of, stop_control_of, StopStage, Visit}
-use Rattle.smp_stop_steps.specs.declared.start.Terms.{Terms}
-use Rattle.smp_stop_steps.proofs.State.Gates.{gate_mine}
-use Rattle.smp_stop_steps.proofs.State.Phases.{is_open_inside, keeps_inside}
-use Rattle.smp_stop_steps.proofs.Steps.Completions.{one_phase}
+use Rattle.smp_stop_steps.specs.{RefusesByState, Refuses, Stands, gate_word, OwnsIf, SitsAt, SitsAtRest, SourceSits, StopControlValue, begin_refusal, has_slot}
+use Rattle.smp_stop_steps.specs.{is_free, may_advance, may_finish, may_run, refusal_on, terms_of, unless, Setup, StopState, Inside, stop_number, is_one}
+use Rattle.smp_stop_steps.specs.{StopsValue, StopShown, setup_of, stop_control_of, StopStage, Visit, declared.start.Terms.Terms}
 use Rattle.smp_stop_steps.proofs.TheMachine.Fits.{both, is_kind, is_one_kind, is_same, ne_false, not_one, not_true, of_both, some_outside, within, work_fits}
+use Rattle.smp_stop_steps.proofs.{State.Gates.gate_mine, State.Phases.is_open_inside, State.Phases.keeps_inside, Steps.Completions.one_phase}
 use Rattle.smp_stop_steps.specs.error
 
 -- a test that says when a command may start

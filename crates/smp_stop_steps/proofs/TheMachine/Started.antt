@@ -5,8 +5,7 @@ use Rattle.smp_words.specs.Commands.{FitsCommand}
 use Rattle.smp_stop_steps.specs.{has, cpus, Command, AnswersFit, MayBeginAt, stop_begun, IsSoundHalf, stop_begun_if, stop_first, stop_refusal, stop_started}
 use Rattle.smp_stop_steps.specs.{StopsValue, setup_of, stop_control_of, StopStage}
 use Rattle.smp_stop_steps.proofs.TheMachine.Answered.{answers_set, first_fits}
-use Rattle.smp_stop_steps.proofs.TheMachine.Begun.{begun_value_shown}
-use Rattle.smp_stop_steps.proofs.TheMachine.Starting.{may_begin}
+use Rattle.smp_stop_steps.proofs.{TheMachine.Begun.begun_value_shown, TheMachine.Starting.may_begin}
 
 module _ (v : StopsValue) (sound : IsSoundHalf v) (cpu : ℕ) (low : cpu < cpus) (outside : (stop_control_of v.controls cpu).stage ≡ None) where
   -- at a stage at which a CPU outside a command may begin

@@ -1,13 +1,11 @@
 -- A command of the stop half that may start may begin at its first stage.
 use Rattle.std.proofs.Common.{◌≡◌, ℕ, ◌+◌, ◌<◌, ◌^◌, Bool, true, false, ◌==◌, ◌&&◌, nat_lt, cond, arith, Option, Some, None, bit_and}
-use Rattle.std.proofs.lemmas.Bool.{ltb-true}
-use Rattle.std.proofs.lemmas.List.{length-map}
+use Rattle.std.proofs.{lemmas.Bool.ltb-true, lemmas.List.length-map}
 use Rattle.smp_words.specs.Commands.{FitsCommand}
-use Rattle.smp_stop_steps.specs.{has, cpus, MayBegin, MayBeginAt, IsWork, StopControlValue, completes_from, begin_refusal, refusal_on, stop_first}
-use Rattle.smp_stop_steps.specs.{stop_refusal, terms_of, has_slot, is_free, in_visit, may_advance, may_run, may_finish, Setup, stop_number, StopsValue}
-use Rattle.smp_stop_steps.specs.{setup_of, stop_control_of, Command, StopStage, Advance, Complete, Visit, Work, Gate}
+use Rattle.smp_stop_steps.specs.{has, cpus, MayBegin, MayBeginAt, IsWork, StopControlValue, completes_from, begin_refusal, refusal_on, stop_first, stop_refusal}
+use Rattle.smp_stop_steps.specs.{terms_of, has_slot, is_free, in_visit, may_advance, may_run, may_finish, Setup, stop_number, StopsValue, setup_of}
+use Rattle.smp_stop_steps.specs.{stop_control_of, Command, StopStage, Advance, Complete, Visit, Work, Gate, declared.start.Terms.Terms}
 use Rattle.smp_stop_steps.proofs.TheMachine.Fits.{both, if_passed, is_kind, is_one_kind, is_same, ne_false, not_one, not_true, passed, within}
-use Rattle.smp_stop_steps.specs.declared.start.Terms.{Terms}
 use Rattle.smp_stop_steps.specs.completion
 use Rattle.smp_stop_steps.specs.round
 

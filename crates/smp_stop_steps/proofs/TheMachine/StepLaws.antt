@@ -2,12 +2,8 @@
 use Rattle.std.proofs.Common.{◌≡◌, ℕ, ◌<◌, List, Option, Some, length, arith}
 use Rattle.smp_stop_steps.specs.{word_of, Note, Change, NoteFits, StopNoteFits, stop_access, store_of, note_then, state_after, StopStage, cpus, StopState}
 use Rattle.smp_stop_steps.specs.{StepsKeepLaws, StopNoteTold, stop_number, StopsValue, StopShown, setup_of, stop_control_of, AreSoundStops}
-use Rattle.smp_stop_steps.proofs.Steps.AnswerWords.{keeps_answers}
-use Rattle.smp_stop_steps.proofs.Steps.CallSteps.{call_step}
-use Rattle.smp_stop_steps.proofs.Steps.NoteSteps.{note_fits}
-use Rattle.smp_stop_steps.proofs.Promises.Patchers.{stores_patch}
-use Rattle.smp_stop_steps.proofs.Promises.Premises.{may_see}
-use Rattle.smp_stop_steps.proofs.TheMachine.Values.{stop_inside_below}
+use Rattle.smp_stop_steps.proofs.{Steps.AnswerWords.keeps_answers, Steps.CallSteps.call_step, Steps.NoteSteps.note_fits, Promises.Patchers.stores_patch}
+use Rattle.smp_stop_steps.proofs.{Promises.Premises.may_see, TheMachine.Values.stop_inside_below}
 
 pub steps_keep_laws : (v : StopsValue) (p : StopState) → AreSoundStops v.online v.labels v.table v.controls → StopShown p v → StepsKeepLaws v p
 steps_keep_laws v p sound shown cpu stage e =

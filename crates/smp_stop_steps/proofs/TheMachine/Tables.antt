@@ -1,16 +1,12 @@
 -- The words of a stop table as a function from names: a store in the table is a put at the name.
-use Rattle.std.proofs.Common.{◌≡◌, ◌≢◌, ℕ, ◌+◌, ◌*◌, ◌<◌, ◌≤◌, Bool, true, false, ◌==◌, cond, Option, Some, None, List, length, refl, ap, arith, lt-ltb}
-use Rattle.std.proofs.Common.{le-ltb, ne_eqb}
-use Rattle.std.proofs.lemmas.Bool.{eq-eqb, cases_lt}
-use Rattle.std.proofs.lemmas.List.{get_or-set_same, get_or-set_other, length-set}
-use Rattle.std.specs.Int.Bits.{bit_and}
-use Rattle.std.specs.Prelude.{slice_set, slice_index}
-use Rattle.smp_words.specs.Put.{place_of}
-use Rattle.smp_words.specs.Access.{one_less, put_if}
-use Rattle.smp_words.specs.Layout.{number_at, put_at}
-use Rattle.smp_words.proofs.SameWords.{same_word-true, same_word-itself, one_place}
+use Rattle.std.proofs.Common.{◌≡◌, ◌≢◌, ℕ, ◌+◌, ◌*◌, ◌<◌, ◌≤◌, Bool, true, false, ◌==◌, cond, Option, Some, None, List, length, refl, ap, arith, lt-ltb, le-ltb}
+use Rattle.std.proofs.Common.{ne_eqb}
+use Rattle.std.proofs.{lemmas.Bool.eq-eqb, lemmas.Bool.cases_lt, lemmas.List.get_or-set_same, lemmas.List.get_or-set_other, lemmas.List.length-set}
+use Rattle.std.specs.{Int.Bits.bit_and, Prelude.slice_set, Prelude.slice_index}
 use Rattle.smp_words.specs.declared.access.Access.TheVariants.{Load, Store, Swap, Exchange, Sub, And}
 use Rattle.smp_words.specs.declared.size.TheConstants.{NR_CPUS, FIELDS, SLOT_WORDS}
+use Rattle.smp_words.specs.{Put.place_of, Access.one_less, Access.put_if, Layout.number_at, Layout.put_at}
+use Rattle.smp_words.proofs.SameWords.{same_word-true, same_word-itself, one_place}
 use Rattle.smp_stop_steps.specs.{MOST_KEYS, MOST_SITES, put_word, word_of, at_after, cpus, StopWords, slot_cell, stop_number, stop_put, stop_words_after}
 use Rattle.smp_stop_steps.specs.{IsStopTable, Access, Field, Word, Gate, Slot, Key, Entry, Site}
 

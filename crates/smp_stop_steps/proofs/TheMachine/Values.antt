@@ -1,28 +1,21 @@
 -- A step, over a stop table and a list of controls.
 use Rattle.std.proofs.Common.{◌≡◌, ◌≢◌, ℕ, ◌+◌, ◌<◌, ◌≤◌, Bool, cond, sym, subst, ap, ◌∙◌, arith, Option, Some, List, [], ◌∷◌, length, length-append}
 use Rattle.std.proofs.Common.{length-take-le, take, ◌^◌}
-use Rattle.std.proofs.lemmas.List.{get_or-set_same, get_or-set_other, get_or_past}
-use Rattle.std.proofs.lemmas.Bool.{cases_lt}
+use Rattle.std.proofs.{lemmas.List.get_or-set_same, lemmas.List.get_or-set_other, lemmas.List.get_or_past, lemmas.Bool.cases_lt}
 use Rattle.std.specs.Prelude.{slice_set}
 use Rattle.smp_words.proofs.Puts.{at_test}
 use Rattle.smp_labels.proofs.Stores.{entries_kept}
-use Rattle.smp_labels.specs.Entries.{IsEntryWord, entry_at}
-use Rattle.smp_labels.specs.Law.{Table}
-use Rattle.smp_labels.specs.Plans.{site_change}
-use Rattle.smp_stop_steps.specs.{CarriesIn, AreI32Words, HasI32Answers, word_of, put, cpus, LabelsShow, Patches, Patching, Whole, labels_in, Rests, HoldsGate}
-use Rattle.smp_stop_steps.specs.{SitsAt, SitsInRound, changes_of, FitsAccess, FitsRound, FitsStop, StopControlValue, round_access, stop_access, Setup}
-use Rattle.smp_stop_steps.specs.{StopState, at_then, control_then, state_after, StopWords, stop_number, stop_words_after, IsStopTable, StopsShow}
-use Rattle.smp_stop_steps.specs.{stop_control_of, RoundStage, Advance, Begin, Close, Complete, Enter, EnterActive, EnterKind, EnterMask, LoadDone, LoadResult}
-use Rattle.smp_stop_steps.specs.{OpenGate, TakeGate, NudgeKey, ExchangeKey, StopStage, Visit, Work, Entry, Gate, Word, is_on, site_changes, MOST_SITES}
-use Rattle.smp_stop_steps.proofs.Steps.CallSteps.{call_step}
-use Rattle.smp_stop_steps.proofs.Steps.CompletionSteps.{stop_step_shown}
-use Rattle.smp_stop_steps.proofs.Steps.Facts.{work_words}
+use Rattle.smp_labels.specs.{Entries.IsEntryWord, Entries.entry_at, Law.Table, Plans.site_change}
+use Rattle.smp_stop_steps.specs.{CarriesIn, labels_in, HoldsGate, FitsRound, StopState, StopWords, StopsShow, RoundStage, EnterKind, LoadResult, MOST_SITES}
+use Rattle.smp_stop_steps.specs.{AreI32Words, HasI32Answers, put, StopControlValue, round_access, control_then, stop_words_after, stop_control_of, site_changes}
+use Rattle.smp_stop_steps.specs.{word_of, Patches, Patching, Whole, FitsStop, Complete, EnterMask, LoadDone, OpenGate, TakeGate, NudgeKey, StopStage, Sits.Sits}
+use Rattle.smp_stop_steps.specs.{cpus, Rests, SitsAt, Setup, at_then, Advance, Begin, Close, Enter, Visit, Work, Entry, Gate, Word, is_on}
+use Rattle.smp_stop_steps.specs.{LabelsShow, SitsInRound, changes_of, FitsAccess, stop_access, state_after, stop_number, IsStopTable, EnterActive, ExchangeKey}
+use Rattle.smp_stop_steps.specs.declared.stage.StopStage.TheVariants.{ReadKey, ReadSite}
 use Rattle.smp_stop_steps.proofs.TheMachine.Named.{gate_stays, stage_named, work_in}
-use Rattle.smp_stop_steps.proofs.Steps.AnswerWords.{keeps_answers}
 use Rattle.smp_stop_steps.proofs.Steps.StateWords.{ArePhases, phases_after}
 use Rattle.smp_stop_steps.proofs.TheMachine.Tables.{IsStopWord, stop_words_by_name, table_after}
-use Rattle.smp_stop_steps.specs.Sits.{Sits}
-use Rattle.smp_stop_steps.specs.declared.stage.StopStage.TheVariants.{ReadKey, ReadSite}
+use Rattle.smp_stop_steps.proofs.{Steps.CallSteps.call_step, Steps.CompletionSteps.stop_step_shown, Steps.Facts.work_words, Steps.AnswerWords.keeps_answers}
 use Rattle.smp_stop_steps.specs.completion
 use Rattle.smp_stop_steps.specs.round
 

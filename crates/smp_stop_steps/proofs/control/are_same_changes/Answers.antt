@@ -1,5 +1,4 @@
-use Rattle.std.proofs.Common.{refl, arith}
-use Rattle.std.proofs.lemmas.List.{same_lists}
+use Rattle.std.proofs.{Common.refl, Common.arith, lemmas.List.same_lists}
 use Rattle.smp_stop_steps.proofs.control.are_same_changes.Goals as goal
 
 pub returns : goal.returns

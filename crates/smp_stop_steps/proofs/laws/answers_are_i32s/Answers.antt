@@ -1,5 +1,4 @@
-use Rattle.smp_stop_steps.proofs.Steps.AnswerWords.{keeps_answers}
-use Rattle.smp_stop_steps.proofs.TheMachine.Answered.{answers_are_taken}
+use Rattle.smp_stop_steps.proofs.{Steps.AnswerWords.keeps_answers, TheMachine.Answered.answers_are_taken}
 use Rattle.smp_stop_steps.proofs.laws.answers_are_i32s.Goals as goal
 
 pub returns-clause-steps : goal.returns-clause-steps

@@ -1,5 +1,4 @@
-use Rattle.smp_stop_steps.proofs.Steps.CallSteps.{call_step}
-use Rattle.smp_stop_steps.proofs.Steps.CompletionSteps.{stop_step_shown}
+use Rattle.smp_stop_steps.proofs.{Steps.CallSteps.call_step, Steps.CompletionSteps.stop_step_shown}
 use Rattle.smp_stop_steps.proofs.laws.steps_are_told.Goals as goal
 
 pub returns : goal.returns

@@ -1,7 +1,6 @@
 use Rattle.std.proofs.Common.{◌≡◌, ℕ, Bool, true, false, nat_lt, cond, Some, None, List, refl}
-use Rattle.smp_words.specs.Layout.{number_if}
-use Rattle.smp_words.specs.StopLayout.{stop_index_of}
 use Rattle.smp_words.specs.declared.size.TheConstants.{NR_CPUS, MOST_KEYS, MOST_SITES}
+use Rattle.smp_words.specs.{Layout.number_if, StopLayout.stop_index_of}
 use Rattle.smp_stop_steps.specs.{Word, is_there, StopWords, stop_number_of}
 use Rattle.smp_words.specs.declared.word.Word.TheVariants as word
 use Rattle.smp_stop_steps.proofs.laws.words_have_numbers.Goals as goal

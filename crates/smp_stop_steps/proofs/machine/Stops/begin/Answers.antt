@@ -3,8 +3,7 @@ use Rattle.std.proofs.lemmas.List.{get_or_read, length-set}
 use Rattle.std.specs.Prelude.{slice_set}
 use Rattle.smp_stop_steps.specs.{StopState, StopControlValue, stop_goes, stop_outside, MayBeginAt, StopsValue, StopsShow, setup_of, stop_control_of}
 use Rattle.smp_stop_steps.specs.{HasI32Answers}
-use Rattle.smp_stop_steps.proofs.TheMachine.Answered.{answers_set}
-use Rattle.smp_stop_steps.proofs.TheMachine.Begun.{begun_value_shown}
+use Rattle.smp_stop_steps.proofs.{TheMachine.Answered.answers_set, TheMachine.Begun.begun_value_shown}
 use Rattle.smp_stop_steps.proofs.machine.Stops.begin.Goals as goal
 use Rattle.smp_stop_steps.proofs.machine.Stops.begin.Given as given
 

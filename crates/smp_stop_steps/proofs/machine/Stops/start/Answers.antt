@@ -2,8 +2,7 @@ use Rattle.std.proofs.Common.{◌≡◌, List, Some, length, sym, subst, ◌∙�
 use Rattle.std.proofs.lemmas.List.{get_or_read}
 use Rattle.smp_words.specs.Commands.{FitsCommand}
 use Rattle.smp_stop_steps.specs.{cpus, StopControlValue, stop_outside, stop_first, StopsValue, stop_control_of, StageFits}
-use Rattle.smp_stop_steps.proofs.TheMachine.Answered.{first_fits}
-use Rattle.smp_stop_steps.proofs.TheMachine.Starting.{may_begin}
+use Rattle.smp_stop_steps.proofs.{TheMachine.Answered.first_fits, TheMachine.Starting.may_begin}
 use Rattle.smp_stop_steps.proofs.machine.Stops.start.Goals as goal
 
 pub begin-requires-clause-may : goal.begin-requires-clause-may
