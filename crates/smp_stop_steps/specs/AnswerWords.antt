@@ -1,14 +1,9 @@
 -- Answers of stop functions, as words have them: the 32 bits of an i32, from the command to the result that is collected.
 use Rattle.std.specs.Int.{w32, cast_signed}
 use Rattle.std.specs.Prelude.{◌≡◌, ◌⊎◌, ℕ, ℤ, ◌^◌, ◌<◌, Option, Some, None, FitsSigned}
-use Rattle.smp_stop_steps.specs.Names.{word_of, CompletionStage, RoundStage, StopStage, Advance, Complete, Visit, Note, Word, Slot}
+use Rattle.smp_stop_steps.specs.Names.{word_of, CompletionStage, RoundStage, StopStage, Advance, Complete, Visit, Note, Word, Slot, Command, Field}
 use Rattle.smp_stop_steps.specs.Stages.{StopControlValue, StopOutcome, stop_access, stop_outcome, answer_at}
 use Rattle.smp_stop_steps.specs.{Start.stop_first, State.Setup, Steps.at_then}
-use Rattle.smp_stop_steps.specs.Names.completion
-use Rattle.smp_stop_steps.specs.Names.round
-use Rattle.smp_stop_steps.specs.Names.command
-use Rattle.smp_stop_steps.specs.Names.field
-use Rattle.smp_stop_steps.specs.Names.note
 
 -- the 32 bits of an i32
 abbrev pub IsI32Word : ℕ → Type 0
@@ -16,19 +11,19 @@ IsI32Word n = n < 2 ^ 32
 
 -- each result word has those of one
 abbrev pub AreI32Words : (Word → ℕ) → Type 0
-AreI32Words at = (s : ℕ) → IsI32Word (at (Slot s field.Result))
+AreI32Words at = (s : ℕ) → IsI32Word (at (Slot s Field.Result))
 
 -- what the function that a turn may still call is to answer
 abbrev pub asked_in_turn : RoundStage → Option ℕ
-asked_in_turn (round.Look answer) = Some answer
-asked_in_turn (round.LoadFunc answer) = Some answer
-asked_in_turn (round.LoadArg answer func) = Some answer
+asked_in_turn (RoundStage.Look answer) = Some answer
+asked_in_turn (RoundStage.LoadFunc answer) = Some answer
+asked_in_turn (RoundStage.LoadArg answer func) = Some answer
 asked_in_turn _ = None
 
 -- and that of a stop of kind One
 abbrev pub asked_in_completion : CompletionStage → Option ℕ
-asked_in_completion (completion.LoadFunc answer) = Some answer
-asked_in_completion (completion.LoadArg answer func) = Some answer
+asked_in_completion (CompletionStage.LoadFunc answer) = Some answer
+asked_in_completion (CompletionStage.LoadArg answer func) = Some answer
 asked_in_completion _ = None
 
 -- what the function that a CPU may still call is to answer
@@ -39,15 +34,15 @@ asked_at _ = None
 
 -- the answers of a stage are of i32s: that of its visit, and what its function is to answer, or has answered
 abbrev pub TurnFits : RoundStage → Type 0
-TurnFits (round.Look answer) = IsI32Word answer
-TurnFits (round.LoadFunc answer) = IsI32Word answer
-TurnFits (round.LoadArg answer func) = IsI32Word answer
-TurnFits (round.Acknowledge answer ran) = IsI32Word answer
+TurnFits (RoundStage.Look answer) = IsI32Word answer
+TurnFits (RoundStage.LoadFunc answer) = IsI32Word answer
+TurnFits (RoundStage.LoadArg answer func) = IsI32Word answer
+TurnFits (RoundStage.Acknowledge answer ran) = IsI32Word answer
 TurnFits _ = Unit {0}
 
 abbrev pub CompletionFits : CompletionStage → Type 0
-CompletionFits (completion.LoadFunc answer) = IsI32Word answer
-CompletionFits (completion.LoadArg answer func) = IsI32Word answer
+CompletionFits (CompletionStage.LoadFunc answer) = IsI32Word answer
+CompletionFits (CompletionStage.LoadArg answer func) = IsI32Word answer
 CompletionFits _ = Unit {0}
 
 abbrev pub AnswersFit : StopStage → Type 0
@@ -75,8 +70,8 @@ IsKept stage (Some next) = (asked_at next ≡ asked_at stage) ⊎ (asked_at next
 
 -- a function that is called gives that answer, and what is collected is the word of the result that the step says
 abbrev pub NoteAnswers : StopStage → ℕ → Option Note → Type 0
-NoteAnswers stage found (Some (note.Run func arg)) = (asked_at stage ≡ Some (answer_at stage)) × IsI32Word (answer_at stage)
-NoteAnswers stage found (Some (note.Result result)) = IsI32Word found × (cast_signed w32 found ≡ result)
+NoteAnswers stage found (Some (Note.Run func arg)) = (asked_at stage ≡ Some (answer_at stage)) × IsI32Word (answer_at stage)
+NoteAnswers stage found (Some (Note.Result result)) = IsI32Word found × (cast_signed w32 found ≡ result)
 NoteAnswers stage found _ = Unit {0}
 
 -- what follows a step that finds this number
@@ -101,4 +96,4 @@ BeginsWith answer (Some stage) = (word : ℕ) × (asked_at stage ≡ Some word) 
 
 abbrev pub AnswersAreTaken : Type 0
 AnswersAreTaken = (c : StopControlValue) (v : Visit) (answer : ℤ) → c.visit ≡ Some v → FitsSigned w32 answer →
-    BeginsWith answer (stop_first c (command.Advance answer)) × BeginsWith answer (stop_first c (command.RunOne answer))
+    BeginsWith answer (stop_first c (Command.Advance answer)) × BeginsWith answer (stop_first c (Command.RunOne answer))

@@ -1,9 +1,7 @@
 -- How far a CPU is with its function, by its stage: that it has called it, and with which answer it completes.
 use Rattle.std.specs.Prelude.{◌≡◌, ℕ, Bool, true, false, Option, Some, None}
-use Rattle.smp_stop_steps.specs.Names.{StopStage, Advance, Complete, EnterKind, EnterMask, EnterActive, Visit, Patch, EXIT}
+use Rattle.smp_stop_steps.specs.Names.{StopStage, Advance, Complete, EnterKind, EnterMask, EnterActive, Visit, Patch, EXIT, CompletionStage, RoundStage}
 use Rattle.smp_stop_steps.specs.{Callings.answer_in, Stages.StopControlValue, State.Calling, State.Idle, State.Calls, State.Carries}
-use Rattle.smp_stop_steps.specs.Names.completion
-use Rattle.smp_stop_steps.specs.Names.round
 
 -- it calls no function now, and its visit has the answer that it carries
 abbrev pub IsQuiet : Option Visit → Calling → Type 0
@@ -25,9 +23,9 @@ IsEnding v Idle = (v.acked ≡ EXIT) × (v.answer ≡ 0)
 IsEnding v f = v.answer ≡ answer_in f
 
 abbrev pub CarriesAt : Option Visit → Option StopStage → Calling → Type 0
-CarriesAt visit (Some (Advance v (round.Acknowledge answer ran))) f = IsAcking v answer ran f
-CarriesAt visit (Some (Complete v completion.StoreAnswer)) f = IsEnding v f
-CarriesAt visit (Some (Complete v completion.CountDown)) f = IsEnding v f
+CarriesAt visit (Some (Advance v (RoundStage.Acknowledge answer ran))) f = IsAcking v answer ran f
+CarriesAt visit (Some (Complete v CompletionStage.StoreAnswer)) f = IsEnding v f
+CarriesAt visit (Some (Complete v CompletionStage.CountDown)) f = IsEnding v f
 CarriesAt visit (Some (EnterKind slot)) f = f ≡ Idle
 CarriesAt visit (Some (EnterMask slot kind)) f = f ≡ Idle
 CarriesAt visit (Some (EnterActive slot kind mask)) f = f ≡ Idle

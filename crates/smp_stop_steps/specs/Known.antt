@@ -1,11 +1,10 @@
 -- What a CPU knows of the stops: where it is with them, as far as its steps have told, and its own part of their state.
 use Rattle.std.specs.Prelude.{◌≡◌, ◌≢◌, ◌⊎◌, ℕ, ◌+◌, ◌<◌, nat_lt, Bool, false, ◌==◌, cond, Option, Some, None, List, [], ◌∷◌, ◌++◌, length, replicate}
 use Rattle.std.specs.Prelude.{slice_index_or}
-use Rattle.smp_stop_steps.specs.Names.{MOST_KEYS, cpus, put, One, Seen, Work, Word, Slot}
+use Rattle.smp_stop_steps.specs.Names.{MOST_KEYS, cpus, put, One, Seen, Work, Word, Slot, Field}
 use Rattle.smp_stop_steps.specs.Sources.{Source, Shut, Drafts, Owns, Collects}
 use Rattle.smp_stop_steps.specs.State.{Calling, Idle, Calls, Carries, Setup, StopState, Moved, unmoved}
 use Rattle.smp_stop_steps.specs.{Callings.with_answer, Seats.Seat, Seats.Free, Shows.StopShows, Labels.Reading, Tells.tells, Value.setup_of}
-use Rattle.smp_stop_steps.specs.Names.field
 pub use Rattle.smp_stop_steps.specs.declared.known.Attempt.{Attempt}
 pub use Rattle.smp_stop_steps.specs.declared.known.Known.{Known}
 pub use Rattle.smp_stop_steps.specs.declared.known.OwnMove.{OwnMove}
@@ -133,7 +132,7 @@ stepped n v = record v { steps = v.steps + n }
 
 -- the same stops; where the step stores an answer, with that answer of this CPU's function, which no step tells before
 abbrev pub AreAlike : ℕ → Seen → StopState → StopState → Type 0
-AreAlike me seen p q = (q ≡ p) ⊎ ((s x : ℕ) × (seen.word ≡ Slot s field.Result) × (seen.put ≡ Some x)
+AreAlike me seen p q = (q ≡ p) ⊎ ((s x : ℕ) × (seen.word ≡ Slot s Field.Result) × (seen.put ≡ Some x)
     × (q ≡ record p { calling = put p.calling me (with_answer x (p.calling me)) }))
 
 -- these stops are those that the step tells, of the stops before it

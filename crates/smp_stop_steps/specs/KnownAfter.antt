@@ -6,17 +6,15 @@ use Rattle.smp_stop_steps.specs.Seats.{Seat, Free, In, Gives, Alters, Closes, Re
 use Rattle.smp_stop_steps.specs.Tells.{carried_call, may_call, drafted, first_readings, is_one, is_patch, calls_at_run, plan_at}
 use Rattle.smp_stop_steps.specs.{KeyCounts.moves, Labels.Reading, Labels.ReadKey, Labels.ReadSite, Stop.Inside, Sources.Source, Sources.Shut, Sources.Drafts}
 use Rattle.smp_stop_steps.specs.{Sources.Owns, Sources.Collects, State.Moved, State.unmoved, State.Carries, State.Calls, State.Idle}
-use Rattle.smp_stop_steps.specs.Names.act
-use Rattle.smp_stop_steps.specs.Names.field
 use Rattle.smp_stop_steps.specs.declared.known.OwnMove.TheVariants as own
 
 -- with its moves: what each step at the gate, at its own stop and at keys tells is one more of them, and no other is
 
 -- of the gate
 abbrev pub gate_known : Act → Option ℕ → Known → Known
-gate_known act.Cas (Some n) v = noting own.Took (record v { part = record (v.part) { holds = true } })
-gate_known act.Cas None v = noting own.Busy v
-gate_known act.Store put v = noting own.Gave (record v { part = record (v.part) { holds = false } })
+gate_known Act.Cas (Some n) v = noting own.Took (record v { part = record (v.part) { holds = true } })
+gate_known Act.Cas None v = noting own.Busy v
+gate_known Act.Store put v = noting own.Gave (record v { part = record (v.part) { holds = false } })
 gate_known _ put v = v
 
 -- of its own slot, before its stop is open
@@ -30,7 +28,7 @@ is_drafting _ = false
 
 -- the first field is stored
 abbrev pub draft_known : ℕ → Known → Known
-draft_known n v = record v { source = Drafts (drafted field.Kind n no_work) 1 }
+draft_known n v = record v { source = Drafts (drafted Field.Kind n no_work) 1 }
 
 -- one more
 abbrev pub drafts_more : Field → ℕ → Source → Source
@@ -109,15 +107,15 @@ completed_by found x v = v
 
 -- a store to a slot, by who drafts and by who is in its stop
 abbrev pub member_stored : Field → ℕ → Known → Known
-member_stored field.Ack n v = record v { seat = refilled_by v.seat }
-member_stored field.State n v = raised_by n v.seat v
-member_stored field.Result n v = record v { seat = given_by n v.seat }
-member_stored field.Done n v = record v { seat = Free }
+member_stored Field.Ack n v = record v { seat = refilled_by v.seat }
+member_stored Field.State n v = raised_by n v.seat v
+member_stored Field.Result n v = record v { seat = given_by n v.seat }
+member_stored Field.Done n v = record v { seat = Free }
 member_stored _ n v = v
 
 abbrev pub slot_stored : Field → ℕ → Known → Known
-slot_stored field.Kind n v = draft_known n v
-slot_stored field.Roll n v = opened_by v.source v
+slot_stored Field.Kind n v = draft_known n v
+slot_stored Field.Roll n v = opened_by v.source v
 slot_stored f n v = cond (is_drafting v.source) (drafted_known f n v) (member_stored f n v)
 
 -- of its own stop
@@ -138,14 +136,14 @@ entered_known s w there v = attempting s there (cond there (record v { seat = In
 
 -- a step on a slot; one that enters learns this work
 abbrev pub slot_known : Work → Known → ℕ → Act → Field → Option ℕ → Option ℕ → Known
-slot_known w v s act.Store f found (Some n) = slot_stored f n v
-slot_known w v s act.And field.Roll (Some found) put = entered_known s w (has found v.number) v
-slot_known w v s act.Load field.State (Some found) put = looked_known found v
-slot_known w v s act.Load field.Arg (Some found) put = called_by found v.seat v
-slot_known w v s act.Load field.Done (Some found) put = done_known found v
-slot_known w v s act.Load field.Result (Some found) put = collected_known found v
-slot_known w v s act.Sub field.Ack (Some found) put = acked_by found v.seat v
-slot_known w v s act.Sub field.Todo (Some found) put = completed_by found v.seat v
+slot_known w v s Act.Store f found (Some n) = slot_stored f n v
+slot_known w v s Act.And Field.Roll (Some found) put = entered_known s w (has found v.number) v
+slot_known w v s Act.Load Field.State (Some found) put = looked_known found v
+slot_known w v s Act.Load Field.Arg (Some found) put = called_by found v.seat v
+slot_known w v s Act.Load Field.Done (Some found) put = done_known found v
+slot_known w v s Act.Load Field.Result (Some found) put = collected_known found v
+slot_known w v s Act.Sub Field.Ack (Some found) put = acked_by found v.seat v
+slot_known w v s Act.Sub Field.Todo (Some found) put = completed_by found v.seat v
 slot_known w v s _ f found put = v
 
 -- of labels
@@ -182,15 +180,15 @@ abbrev pub key_stored_by : ℕ → ℕ → Known → Known
 key_stored_by k n v = record v { seat = altered_by v.seat; part = record (v.part) { patched = patched_from v.seat k n v.part.patched } }
 
 abbrev pub key_known : Act → ℕ → Option ℕ → Option ℕ → Known → Known
-key_known act.Load k (Some found) put v = key_loaded_by k found v.seat v
-key_known act.Store k found (Some n) v = key_stored_by k n v
-key_known act.Cas k (Some found) (Some n) v = record v { part = record (v.part) { nudged = counted v.part.nudged k found n } }
-key_known act.Cas k (Some found) None v = noting (own.Lost k) v
+key_known Act.Load k (Some found) put v = key_loaded_by k found v.seat v
+key_known Act.Store k found (Some n) v = key_stored_by k n v
+key_known Act.Cas k (Some found) (Some n) v = record v { part = record (v.part) { nudged = counted v.part.nudged k found n } }
+key_known Act.Cas k (Some found) None v = noting (own.Lost k) v
 key_known _ k found put v = v
 
 abbrev pub site_known : Act → ℕ → Option ℕ → Known → Known
-site_known act.Load i (Some found) v = reads_more (ReadSite i (is_on found)) v
-site_known act.Store i found v = record v { seat = altered_by v.seat }
+site_known Act.Load i (Some found) v = reads_more (ReadSite i (is_on found)) v
+site_known Act.Store i found v = record v { seat = altered_by v.seat }
 site_known _ i found v = v
 
 -- what a step of its own tells a CPU, beside that it has made it; one that enters learns this work
@@ -204,13 +202,13 @@ learned w v act _ found put = v
 -- the stores that only the CPU that was the last of its stop makes: the count again and the next phase, and done; each of them is
 -- due at its own seat, and once
 abbrev pub is_due_field : Field → Bool
-is_due_field field.Ack = true
-is_due_field field.State = true
-is_due_field field.Done = true
+is_due_field Field.Ack = true
+is_due_field Field.State = true
+is_due_field Field.Done = true
 is_due_field _ = false
 
 abbrev pub is_due : Bool → Act → Word → Bool
-is_due drafting act.Store (Slot s f) = is_due_field f && not drafting
+is_due drafting Act.Store (Slot s f) = is_due_field f && not drafting
 is_due drafting _ _ = false
 
 -- what a CPU knows after a step of its own: what the step tells, and one step more, but for a store that is due

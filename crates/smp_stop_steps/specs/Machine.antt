@@ -1,11 +1,10 @@
 -- One step of the stop half of a machine, and what every such half keeps.
 use Rattle.std.specs.Prelude.{◌≡◌, ℕ, ◌≤◌, Option, Some, List, length, slice_set}
 use Rattle.smp_labels.specs.Labels.{Labels}
-use Rattle.smp_stop_steps.specs.Names.{cpus, word_of, seen_of, Access, Seen, StopStage, Slot, OVER}
+use Rattle.smp_stop_steps.specs.Names.{cpus, word_of, seen_of, Access, Seen, StopStage, Slot, OVER, Field}
 use Rattle.smp_stop_steps.specs.Value.{StopsValue, StopShown, StopsShow, IsStopTable, setup_of, stop_control_of}
 use Rattle.smp_stop_steps.specs.{AnswerWords.AreI32Words, AnswerWords.HasI32Answers, State.StopState, Tells.tells, Stages.StopControlValue, Stages.StopOutcome}
 use Rattle.smp_stop_steps.specs.{Stages.stop_access, Stages.stop_outcome, Stages.answer_at, Table.StopWords, Table.stop_number, Table.stop_words_after}
-use Rattle.smp_stop_steps.specs.Names.field
 
 -- the access that a CPU makes at this stage, and what it finds
 abbrev pub stop_access_at : StopsValue → ℕ → StopStage → Access
@@ -45,7 +44,7 @@ StopTold old cpu stage new = (p : StopState) → StopShown p old → StopShown (
 pub record AreSoundStops (online : ℕ) (labels : Labels) (table : StopWords) (controls : List StopControlValue) : Type 0 where
   pub sized : length controls ≡ cpus
   pub table_is : IsStopTable table
-  pub phases : (s : ℕ) → stop_number table (Slot s field.State) ≤ OVER
+  pub phases : (s : ℕ) → stop_number table (Slot s Field.State) ≤ OVER
   pub results : AreI32Words (stop_number table)
   pub answers : (cpu : ℕ) → HasI32Answers (stop_control_of controls cpu)
   pub stops : StopState

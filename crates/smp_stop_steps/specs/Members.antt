@@ -2,7 +2,6 @@
 use Rattle.std.specs.Prelude.{◌≡◌, ℕ, ◌<◌, ◌≤◌, ◌^◌, Bool, true, false, ◌==◌, Option, Some, None}
 use Rattle.smp_stop_steps.specs.Names.{has, SmpError, Kind, One, Multi, Patch, Work}
 use Rattle.smp_stop_steps.specs.{Start.begin_refusal, declared.start.Terms.Terms}
-use Rattle.smp_stop_steps.specs.Names.error
 
 -- the mask has this CPU and no other
 abbrev pub IsAlone : ℕ → ℕ → Type 0
@@ -34,9 +33,9 @@ pub record FitsMembers (t : Terms) (work : Work) : Type 0 where
 -- not online
 abbrev pub RefusesByMembers : Terms → Work → Bool → Option SmpError → Type 0
 RefusesByMembers t work is_open None = (is_open ≡ false) × FitsMembers t work × ((c : ℕ) → has work.mask c ≡ true → has t.online c ≡ true)
-RefusesByMembers t work is_open (Some error.SlotBusy) = is_open ≡ true
-RefusesByMembers t work is_open (Some error.BadArgument) = (is_open ≡ false) × (FitsMembers t work → ⊥)
-RefusesByMembers t work is_open (Some error.NoStopper) =
+RefusesByMembers t work is_open (Some SmpError.SlotBusy) = is_open ≡ true
+RefusesByMembers t work is_open (Some SmpError.BadArgument) = (is_open ≡ false) × (FitsMembers t work → ⊥)
+RefusesByMembers t work is_open (Some SmpError.NoStopper) =
     (is_open ≡ false) × FitsMembers t work × ((c : ℕ) × (has work.mask c ≡ true) × (has t.online c ≡ false))
 RefusesByMembers t work is_open (Some _) = ⊥
 

@@ -8,7 +8,6 @@ use Rattle.smp_stop_steps.specs.Seats.{Seat, Free, In, Gives, Alters, Closes, Re
 use Rattle.smp_stop_steps.specs.{Counts.mask_weight, KnownAfter.is_drafting, KnownAfter.known_entering, KnownAfter.no_work, Callings.HasCalled, Labels.Change}
 use Rattle.smp_stop_steps.specs.{Shows.StopShows, Sits.IsNudge, Slots.begun_value, Slots.order, Sources.Source, Sources.Shut, Sources.Drafts, Sources.Owns}
 use Rattle.smp_stop_steps.specs.{Sources.Collects, Sources.IsWork, Stages.all_but, Stages.store_of, State.Idle, State.StopState, State.no_stops, Tells.plan_at}
-use Rattle.smp_stop_steps.specs.Names.field
 
 pub data Move : Type 0 where
   TakeGate : Move
@@ -43,10 +42,10 @@ pub data Move : Type 0 where
 
 -- a load of this field tells nothing
 abbrev pub IsPlain : Field → Type 0
-IsPlain field.Kind = Unit {0}
-IsPlain field.Mask = Unit {0}
-IsPlain field.Active = Unit {0}
-IsPlain field.Func = Unit {0}
+IsPlain Field.Kind = Unit {0}
+IsPlain Field.Mask = Unit {0}
+IsPlain Field.Active = Unit {0}
+IsPlain Field.Func = Unit {0}
 IsPlain _ = ⊥
 
 -- it is through all phases, or in a stop of kind One
@@ -58,8 +57,8 @@ abbrev pub MayStep : Known → Move → Type 0
 MayStep v TakeGate = Unit {0}
 MayStep v OpenGate = (v.part.holds ≡ true) × (is_drafting v.source ≡ false)
 MayStep v (Draft w) = (v.source ≡ Shut) × (v.part.holds ≡ true) × IsWork (setup_in v.setting) w
-MayStep v (DraftMore w f) = (v.source ≡ Drafts (told_work (order f) w) (order f)) × IsWork (setup_in v.setting) w × (order f ≢ 0) × (order f < order field.Roll)
-MayStep v (Open w) = (v.source ≡ Drafts (told_work (order field.Roll) w) (order field.Roll)) × IsWork (setup_in v.setting) w
+MayStep v (DraftMore w f) = (v.source ≡ Drafts (told_work (order f) w) (order f)) × IsWork (setup_in v.setting) w × (order f ≢ 0) × (order f < order Field.Roll)
+MayStep v (Open w) = (v.source ≡ Drafts (told_work (order Field.Roll) w) (order Field.Roll)) × IsWork (setup_in v.setting) w
 MayStep v (Enter s) = v.seat ≡ Free
 MayStep v (Look s w a l) = (v.seat ≡ In s w a l Rests) × (a ≢ EXIT)
 MayStep v (Acknowledge s w a) = (v.seat ≡ In s w a (a + 1) Rests) × (a ≡ DISABLE_IRQ → HasCalled v.number w v.part.calling)
@@ -86,27 +85,27 @@ MayStep v (LoadEntry s w count made rest i) = v.seat ≡ Alters s w count made r
 abbrev pub known_access : Known → Move → Access
 known_access v TakeGate = Exchange Gate 0 (v.number + 1)
 known_access v OpenGate = Store Gate 0
-known_access v (Draft w) = Store (Slot v.number field.Kind) (begun_value cpus w field.Kind)
+known_access v (Draft w) = Store (Slot v.number Field.Kind) (begun_value cpus w Field.Kind)
 known_access v (DraftMore w f) = Store (Slot v.number f) (begun_value cpus w f)
-known_access v (Open w) = Store (Slot v.number field.Roll) w.mask
-known_access v (Enter s) = And (Slot s field.Roll) (all_but v.number)
-known_access v (Look s w a l) = Load (Slot s field.State)
-known_access v (Acknowledge s w a) = Sub (Slot s field.Ack)
-known_access v (AcknowledgePatch s w count made) = Sub (Slot s field.Ack)
-known_access v (Refill s w a l) = Store (Slot s field.Ack) (mask_weight cpus w.mask)
-known_access v (Raise s w a l) = Store (Slot s field.State) (a + 1)
-known_access v (Give s w a l x) = Store (Slot s field.Result) x
-known_access v (Count s w a l) = Sub (Slot s field.Todo)
-known_access v (CountGiven s w a x) = Sub (Slot s field.Todo)
-known_access v (Close s) = Store (Slot s field.Done) 1
-known_access v (LookDone w) = Load (Slot v.number field.Done)
-known_access v (Collect w) = Load (Slot v.number field.Result)
+known_access v (Open w) = Store (Slot v.number Field.Roll) w.mask
+known_access v (Enter s) = And (Slot s Field.Roll) (all_but v.number)
+known_access v (Look s w a l) = Load (Slot s Field.State)
+known_access v (Acknowledge s w a) = Sub (Slot s Field.Ack)
+known_access v (AcknowledgePatch s w count made) = Sub (Slot s Field.Ack)
+known_access v (Refill s w a l) = Store (Slot s Field.Ack) (mask_weight cpus w.mask)
+known_access v (Raise s w a l) = Store (Slot s Field.State) (a + 1)
+known_access v (Give s w a l x) = Store (Slot s Field.Result) x
+known_access v (Count s w a l) = Sub (Slot s Field.Todo)
+known_access v (CountGiven s w a x) = Sub (Slot s Field.Todo)
+known_access v (Close s) = Store (Slot s Field.Done) 1
+known_access v (LookDone w) = Load (Slot v.number Field.Done)
+known_access v (Collect w) = Load (Slot v.number Field.Result)
 known_access v (ReadKey k) = Load (Key k)
 known_access v (ReadSite i) = Load (Site i)
 known_access v (Nudge k found new) = Exchange (Key k) found new
 known_access v (BeginPatch s w) = Load (Key w.func)
 known_access v (Alter s w count made change rest) = store_of change
-known_access v (LoadArg s w a l) = Load (Slot s field.Arg)
+known_access v (LoadArg s w a l) = Load (Slot s Field.Arg)
 known_access v (LoadField s w a l f) = Load (Slot s f)
 known_access v (LoadEntry s w count made rest i) = Load (Entry i)
 

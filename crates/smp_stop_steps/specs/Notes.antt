@@ -5,7 +5,6 @@ use Rattle.smp_stop_steps.specs.Names.{has, put, Note, Seen, Word, Gate, Slot, K
 use Rattle.smp_stop_steps.specs.{KeyCounts.moved_by, Labels.ReadSite, Carries.CarriesIn, Stages.StopControlValue, Steps.state_after, Tells.first_readings}
 use Rattle.smp_stop_steps.specs.{Labels.Reading, Labels.ReadKey, Shows.StopShows, Sources.Source, State.Setup, State.StopState, State.StopCall, Steps.note_then}
 use Rattle.smp_stop_steps.specs.{Seats.Seat, Sits.Sits, State.Moved, State.Calls, Stop.Inside, Stop.Refills, Stop.Last, Stop.Ended, Stop.acked, Tells.tells}
-use Rattle.smp_stop_steps.specs.Names.note
 
 -- what only a step with a note of its own may change: the gate, the works begun, the results collected, interrupts that go
 -- on, the readings, and the nudges
@@ -92,28 +91,28 @@ StaysStill p q me = (s : ℕ) → p.now.inside me ≡ Some s → IsStill p q me 
 -- what a step of the stop half that says this has changed
 abbrev pub NoteFits : StopState → StopState → ℕ → Option Note → Type 0
 NoteFits p q me None = IsSilent p q me × StaysStill p q me
-NoteFits p q me (Some note.Gate) = (p.gate ≡ None) × (heard_of q ≡ record (heard_of p) { gate = Some me })
-NoteFits p q me (Some note.Taken) = (p.gate ≢ None) × IsUnheard p q
-NoteFits p q me (Some note.Open) = (p.gate ≡ Some me) × (heard_of q ≡ record (heard_of p) { gate = None })
-NoteFits p q me (Some note.Begun) = HasBegun p q me
-NoteFits p q me (Some note.Stale) = (q.now.inside me ≡ None) × IsUnheard p q
-NoteFits p q me (Some note.Entered) = HasAcked q me 0 × IsUnheard p q
-NoteFits p q me (Some note.Same) = ((a : ℕ) × HasAcked q me a) × IsUnheard p q
-NoteFits p q me (Some (note.Moved phase)) = HasAckedAs q me phase false × (phase ≢ 4) × IsUnheard p q
-NoteFits p q me (Some note.Ran) = HasAckedAs q me 3 true × IsUnheard p q
-NoteFits p q me (Some note.Left) = HasLeft p q me
-NoteFits p q me (Some (note.Run func arg)) = ((call : StopCall) × (q.calling me ≡ Calls call) × (call.func ≡ func) × (call.arg ≡ arg)) × IsUnheard p q
-NoteFits p q me (Some note.Finished) = HasFinished p q me
-NoteFits p q me (Some note.Pending) = ((p.now.stop me).is_open ≡ true) × ((p.now.stop me).ending ≢ Ended) × IsUnheard p q
-NoteFits p q me (Some (note.Result result)) = HasCollected p q me result
-NoteFits p q me (Some note.On) = (k : ℕ) × HasRead p q me (ReadKey k true)
-NoteFits p q me (Some note.Off) = (k : ℕ) × HasRead p q me (ReadKey k false)
-NoteFits p q me (Some note.Jmp) = (i : ℕ) × HasRead p q me (ReadSite i true)
-NoteFits p q me (Some note.Nop) = (i : ℕ) × HasRead p q me (ReadSite i false)
-NoteFits p q me (Some note.KeyRange) = (k : ℕ) × (on : Bool) × HasRead p q me (ReadKey k on)
-NoteFits p q me (Some note.Stop) = (k : ℕ) × (on : Bool) × HasRead p q me (ReadKey k on)
-NoteFits p q me (Some note.Done) = HasNudged p q me
-NoteFits p q me (Some note.Lost) = IsUnheard p q
+NoteFits p q me (Some Note.Gate) = (p.gate ≡ None) × (heard_of q ≡ record (heard_of p) { gate = Some me })
+NoteFits p q me (Some Note.Taken) = (p.gate ≢ None) × IsUnheard p q
+NoteFits p q me (Some Note.Open) = (p.gate ≡ Some me) × (heard_of q ≡ record (heard_of p) { gate = None })
+NoteFits p q me (Some Note.Begun) = HasBegun p q me
+NoteFits p q me (Some Note.Stale) = (q.now.inside me ≡ None) × IsUnheard p q
+NoteFits p q me (Some Note.Entered) = HasAcked q me 0 × IsUnheard p q
+NoteFits p q me (Some Note.Same) = ((a : ℕ) × HasAcked q me a) × IsUnheard p q
+NoteFits p q me (Some (Note.Moved phase)) = HasAckedAs q me phase false × (phase ≢ 4) × IsUnheard p q
+NoteFits p q me (Some Note.Ran) = HasAckedAs q me 3 true × IsUnheard p q
+NoteFits p q me (Some Note.Left) = HasLeft p q me
+NoteFits p q me (Some (Note.Run func arg)) = ((call : StopCall) × (q.calling me ≡ Calls call) × (call.func ≡ func) × (call.arg ≡ arg)) × IsUnheard p q
+NoteFits p q me (Some Note.Finished) = HasFinished p q me
+NoteFits p q me (Some Note.Pending) = ((p.now.stop me).is_open ≡ true) × ((p.now.stop me).ending ≢ Ended) × IsUnheard p q
+NoteFits p q me (Some (Note.Result result)) = HasCollected p q me result
+NoteFits p q me (Some Note.On) = (k : ℕ) × HasRead p q me (ReadKey k true)
+NoteFits p q me (Some Note.Off) = (k : ℕ) × HasRead p q me (ReadKey k false)
+NoteFits p q me (Some Note.Jmp) = (i : ℕ) × HasRead p q me (ReadSite i true)
+NoteFits p q me (Some Note.Nop) = (i : ℕ) × HasRead p q me (ReadSite i false)
+NoteFits p q me (Some Note.KeyRange) = (k : ℕ) × (on : Bool) × HasRead p q me (ReadKey k on)
+NoteFits p q me (Some Note.Stop) = (k : ℕ) × (on : Bool) × HasRead p q me (ReadKey k on)
+NoteFits p q me (Some Note.Done) = HasNudged p q me
+NoteFits p q me (Some Note.Lost) = IsUnheard p q
 NoteFits p q me (Some _) = ⊥
 
 -- the same of each step of a CPU's command

@@ -2,10 +2,9 @@
 use Rattle.std.specs.Prelude.{◌≡◌, ℕ, Bool, true, false, Option, Some, None, List, ◌∷◌}
 use Rattle.smp_labels.specs.Law.{IsLawful}
 use Rattle.smp_words.specs.declared.access.Access.TheVariants.{Store}
-use Rattle.smp_stop_steps.specs.Names.{has, StopStage, DISABLE_IRQ, RUN, Patch, Work, Word, Key, Site, Access}
+use Rattle.smp_stop_steps.specs.Names.{has, StopStage, DISABLE_IRQ, RUN, Patch, Work, Word, Key, Site, Access, Place}
 use Rattle.smp_stop_steps.specs.{Labels.Change, Labels.Patching, Labels.Patches, Labels.labels_in, Promises.OfEachCpu, Promises.RunsAlone, Seats.Seat}
 use Rattle.smp_stop_steps.specs.{Shows.StopShows, Sources.Source, Stages.stop_access, State.Setup, State.StopState, Stop.Inside}
-use Rattle.smp_stop_steps.specs.Names.place
 
 -- a patch has made its first store and not its last
 abbrev pub is_between : Patching → Bool
@@ -46,8 +45,8 @@ pub record IsNextOfPatch (p : StopState) (me : ℕ) (change : Change) : Type 0 w
 
 -- the store to a key or a site that an access makes
 abbrev pub label_stored : Access → Option Change
-label_stored (Store (Key k) n) = Some (place.Key k, n)
-label_stored (Store (Site i) n) = Some (place.Site i, n)
+label_stored (Store (Key k) n) = Some (Place.Key k, n)
+label_stored (Store (Site i) n) = Some (Place.Site i, n)
 label_stored _ = None
 
 abbrev pub LabelStoresPatch : Type 0

@@ -3,17 +3,16 @@ use Rattle.std.specs.Prelude.{◌≡◌, ◌≢◌, ℕ, ◌<◌, Bool, true, fa
 use Rattle.std.specs.List.{AllByRecursion}
 use Rattle.smp_labels.specs.{Law.IsLawful, Plans.AreEntriesOf}
 use Rattle.smp_words.specs.declared.seen.Note.TheVariants.{KeyRange}
-use Rattle.smp_stop_steps.specs.Names.{has, is_on, StopStage, Advance, NudgeKey, ExchangeKey, Visit, Patch, Work, Word, Gate, Slot, Key, Site}
+use Rattle.smp_stop_steps.specs.Names.{has, is_on, StopStage, Advance, NudgeKey, ExchangeKey, Visit, Patch, Work, Word, Gate, Slot, Key, Site, Field}
 use Rattle.smp_stop_steps.specs.Labels.{labels_in, Agrees, Change, Whole, Patches, ReadKey, patch_answer}
 use Rattle.smp_stop_steps.specs.{Stop.Inside, Laws.PhaseLaw, Laws.FunctionLaw, KeyCounts.CountShows, State.Setup, State.IsSetup, State.StopState}
 use Rattle.smp_stop_steps.specs.{State.no_stops, Seats.Seat, Seats.Free, Sources.Source, Sources.Shut, Shows.StopShows, Stages.StopControlValue}
 use Rattle.smp_stop_steps.specs.{Stages.stop_outcome, Carries.CarriesIn, Sits.Sits, Sits.IsNudge, Steps.StopStep, Steps.CallStep, Steps.at_then}
 use Rattle.smp_stop_steps.specs.{Steps.state_after, Tells.plan_at, Tells.first_readings, declared.stage.RoundStage.TheVariants.Acknowledge}
-use Rattle.smp_stop_steps.specs.Names.field
 
 -- at first: words with all slots and the gate free and a lawful label table with all keys off show that nothing was begun
 abbrev pub NothingBegun : Type 0
-NothingBegun = (u : Setup) (at : Word → ℕ) → IsSetup u → at Gate ≡ 0 → ((s : ℕ) → at (Slot s field.Roll) ≡ 0) →
+NothingBegun = (u : Setup) (at : Word → ℕ) → IsSetup u → at Gate ≡ 0 → ((s : ℕ) → at (Slot s Field.Roll) ≡ 0) →
     AreEntriesOf u.entries (labels_in at) → IsLawful (labels_in at) →
     ((k : ℕ) → at (Key k) ≡ 0) → StopShows u no_stops at (λ _. Free) (λ _. Shut)
 
@@ -26,7 +25,7 @@ StepsAreTold = (u : Setup) (p : StopState) (at : Word → ℕ) (seat : ℕ → S
 -- the phase law, of each open stop of several CPUs
 abbrev pub KeepThePhaseLaw : Type 0
 KeepThePhaseLaw = (u : Setup) (p : StopState) (at : Word → ℕ) (seat : ℕ → Seat) (source : ℕ → Source) → StopShows u p at seat source →
-    (s : ℕ) → (p.now.stop s).is_open ≡ true → (p.now.stop s).phase ≢ 0 → PhaseLaw u.cpus (p.now.stop s) (at (Slot s field.Ack))
+    (s : ℕ) → (p.now.stop s).is_open ≡ true → (p.now.stop s).phase ≢ 0 → PhaseLaw u.cpus (p.now.stop s) (at (Slot s Field.Ack))
 
 -- the function law: while a CPU has looked at phase 3 and not acknowledged it, every CPU of the mask has acknowledged 2,
 -- and has its interrupts off

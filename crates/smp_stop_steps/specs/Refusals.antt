@@ -2,8 +2,6 @@
 use Rattle.std.specs.Prelude.{◌≡◌, ◌≢◌, ◌⊎◌, ℕ, ◌<◌, true, false, Option, Some, None, length}
 use Rattle.smp_stop_steps.specs.{Names.has, Names.SmpError, Names.Command, Names.One, Names.Work, State.Setup, Stop.acked, Value.StopShown, Value.setup_of}
 use Rattle.smp_stop_steps.specs.{Names.cpus, Counts.mask_weight, Sources.IsOfKind, Start.stop_refusal, State.StopState, Value.StopsValue, Value.stop_control_of}
-use Rattle.smp_stop_steps.specs.Names.error
-use Rattle.smp_stop_steps.specs.Names.command
 
 -- no refusal where the command may start, else just this one
 abbrev pub Refuses : Type 0 → SmpError → Option SmpError → Type 0
@@ -46,26 +44,26 @@ pub record FitsGate (u : Setup) (p : StopState) (me : ℕ) (work : Work) : Type 
 -- where a CPU of it is not online
 abbrev pub BeginRefuses : Setup → StopState → ℕ → Work → Option SmpError → Type 0
 BeginRefuses u p me work None = ((p.now.stop me).is_open ≡ false) × FitsGate u p me work × ((c : ℕ) → has work.mask c ≡ true → u.online c ≡ true)
-BeginRefuses u p me work (Some error.SlotBusy) = (p.now.stop me).is_open ≡ true
-BeginRefuses u p me work (Some error.BadArgument) = ((p.now.stop me).is_open ≡ false) × (FitsGate u p me work → ⊥)
-BeginRefuses u p me work (Some error.NoStopper) =
+BeginRefuses u p me work (Some SmpError.SlotBusy) = (p.now.stop me).is_open ≡ true
+BeginRefuses u p me work (Some SmpError.BadArgument) = ((p.now.stop me).is_open ≡ false) × (FitsGate u p me work → ⊥)
+BeginRefuses u p me work (Some SmpError.NoStopper) =
     ((p.now.stop me).is_open ≡ false) × FitsGate u p me work × ((c : ℕ) × (has work.mask c ≡ true) × (u.online c ≡ false))
 BeginRefuses u p me work (Some _) = ⊥
 
 -- the refusal of a command by a CPU that is outside a command; none of a command of the other half, but of a handle while
 -- interrupts are off
 abbrev pub IsRefusal : Setup → ℕ → StopState → ℕ → Command → Option SmpError → Type 0
-IsRefusal u nr p me command.Handle r = Refuses (p.now.irq me ≡ true) error.BadArgument r
-IsRefusal u nr p me command.Ungate r = Refuses (p.gate ≡ Some me) error.BadArgument r
-IsRefusal u nr p me (command.Begin work) r = BeginRefuses u p me work r
-IsRefusal u nr p me (command.Enter slot) r = Refuses (MayEnter nr p me slot) error.Stale r
-IsRefusal u nr p me (command.Advance answer) r = Refuses (MayAdvance p me) error.BadArgument r
-IsRefusal u nr p me (command.RunOne answer) r = Refuses (MayRun p me) error.BadArgument r
-IsRefusal u nr p me command.Finish r = Refuses (MayFinish p me) error.BadArgument r
-IsRefusal u nr p me command.Poll r = Refuses ((p.now.stop me).is_open ≡ true) error.BadArgument r
-IsRefusal u nr p me (command.Key k) r = Refuses ((p.now.irq me ≡ true) × (k < u.keys)) error.BadArgument r
-IsRefusal u nr p me (command.Site i) r = Refuses ((p.now.irq me ≡ true) × (i < length u.entries)) error.BadArgument r
-IsRefusal u nr p me (command.Nudge k up) r = Refuses ((p.now.irq me ≡ true) × (k < u.keys)) error.BadArgument r
+IsRefusal u nr p me Command.Handle r = Refuses (p.now.irq me ≡ true) SmpError.BadArgument r
+IsRefusal u nr p me Command.Ungate r = Refuses (p.gate ≡ Some me) SmpError.BadArgument r
+IsRefusal u nr p me (Command.Begin work) r = BeginRefuses u p me work r
+IsRefusal u nr p me (Command.Enter slot) r = Refuses (MayEnter nr p me slot) SmpError.Stale r
+IsRefusal u nr p me (Command.Advance answer) r = Refuses (MayAdvance p me) SmpError.BadArgument r
+IsRefusal u nr p me (Command.RunOne answer) r = Refuses (MayRun p me) SmpError.BadArgument r
+IsRefusal u nr p me Command.Finish r = Refuses (MayFinish p me) SmpError.BadArgument r
+IsRefusal u nr p me Command.Poll r = Refuses ((p.now.stop me).is_open ≡ true) SmpError.BadArgument r
+IsRefusal u nr p me (Command.Key k) r = Refuses ((p.now.irq me ≡ true) × (k < u.keys)) SmpError.BadArgument r
+IsRefusal u nr p me (Command.Site i) r = Refuses ((p.now.irq me ≡ true) × (i < length u.entries)) SmpError.BadArgument r
+IsRefusal u nr p me (Command.Nudge k up) r = Refuses ((p.now.irq me ≡ true) × (k < u.keys)) SmpError.BadArgument r
 IsRefusal u nr p me _ r = r ≡ None
 
 -- so each refusal of the half, whatever stops it shows

@@ -2,14 +2,11 @@
 use Rattle.std.specs.Prelude.{◌≡◌, ◌≢◌, ◌⊎◌, ℕ, ◌+◌, ◌<◌, ◌≤◌, Bool, true, false, Option, Some, None, List, [], ◌∷◌, ◌++◌, length, take}
 use Rattle.smp_stop_steps.specs.Names.{has, is_on, change_of, IsKeyWord, patch_of, site_changes, MOST_SITES, CompletionStage, RoundStage, StopStage, OpenGate}
 use Rattle.smp_stop_steps.specs.Names.{Begin, Enter, EnterKind, EnterMask, EnterActive, Advance, Complete, Close, LoadDone, LoadResult, NudgeKey, ExchangeKey}
-use Rattle.smp_stop_steps.specs.Names.{Visit, One, Multi, Patch, Work, DISABLE_IRQ, RUN, EXIT}
+use Rattle.smp_stop_steps.specs.Names.{Visit, One, Multi, Patch, Work, DISABLE_IRQ, RUN, EXIT, Place}
 use Rattle.smp_stop_steps.specs.Seats.{Seat, Free, In, Gives, Alters, Closes, Duty, Rests, Fills, Sets, irq_of}
 use Rattle.smp_stop_steps.specs.Sources.{Source, Shut, Drafts, Owns, Collects}
 use Rattle.smp_stop_steps.specs.{Labels.Change, Labels.count_set, Labels.patch_answer, Tells.plan_at, Slots.order, State.Setup, Stages.StopControlValue}
 use Rattle.smp_stop_steps.specs.{declared.stage.StopStage.TheVariants.ReadKey, declared.stage.StopStage.TheVariants.ReadSite}
-use Rattle.smp_stop_steps.specs.Names.place
-use Rattle.smp_stop_steps.specs.Names.completion
-use Rattle.smp_stop_steps.specs.Names.round
 
 -- what a visit has loaded of its work
 pub record IsLoaded (v : Visit) (work : Work) : Type 0 where
@@ -36,7 +33,7 @@ SitsAtPatch u v work count made x = IsLoaded v work × (v.acked ≡ DISABLE_IRQ)
 
 -- with this many entries loaded
 abbrev pub changes_of : Setup → Work → ℕ → ℕ → List Change
-changes_of u work word site = (place.Key work.func, word) ∷ site_changes work.func (is_on word) 0 (take site u.entries)
+changes_of u work word site = (Place.Key work.func, word) ∷ site_changes work.func (is_on word) 0 (take site u.entries)
 
 -- a number that may be exchanged for a key's: one more or one less, with which the key is on or off as before
 pub record IsNudge (found new : ℕ) : Type 0 where
@@ -63,34 +60,34 @@ pub record HasRun (me : ℕ) (v : Visit) (ran : Bool) : Type 0 where
   pub active : v.acked ≡ RUN → has v.active me ≡ ran
 
 abbrev pub SitsInRound : Setup → ℕ → List Change → Visit → RoundStage → Seat → Type 0
-SitsInRound u me changes v (round.Look answer) x = (v.kind ≢ One) × (v.acked ≢ EXIT) × SitsIn v v.acked Rests x
-SitsInRound u me changes v (round.LoadFunc answer) x = (v.kind ≢ One) × ((work : Work) × SitsAtRun me v work x)
-SitsInRound u me changes v (round.LoadArg answer func) x = (v.kind ≢ One) × ((work : Work) × SitsAtRun me v work x × (func ≡ work.func))
-SitsInRound u me changes v (round.LoadKey key change) x =
+SitsInRound u me changes v (RoundStage.Look answer) x = (v.kind ≢ One) × (v.acked ≢ EXIT) × SitsIn v v.acked Rests x
+SitsInRound u me changes v (RoundStage.LoadFunc answer) x = (v.kind ≢ One) × ((work : Work) × SitsAtRun me v work x)
+SitsInRound u me changes v (RoundStage.LoadArg answer func) x = (v.kind ≢ One) × ((work : Work) × SitsAtRun me v work x × (func ≡ work.func))
+SitsInRound u me changes v (RoundStage.LoadKey key change) x =
     (v.kind ≡ Patch) × ((work : Work) × SitsAtRun me v work x × (key ≡ work.func) × (change ≡ change_of work.arg))
-SitsInRound u me changes v (round.LoadEntry key word site) x =
+SitsInRound u me changes v (RoundStage.LoadEntry key word site) x =
     (work : Work) × SitsAtEntry u v work key word x × (site ≤ length u.entries) × (site < MOST_SITES) × (changes ≡ changes_of u work word site)
-SitsInRound u me changes v (round.StoreChange made) x =
+SitsInRound u me changes v (RoundStage.StoreChange made) x =
     (work : Work) × (count : ℕ) × IsLoaded v work × (v.acked ≡ DISABLE_IRQ) × (made < length changes) × (changes ≡ plan_at u work count) ×
     ((before after : List Change) × (changes ≡ before ++ after) × (length before ≡ made) × (x ≡ Alters v.slot work count before after))
-SitsInRound u me changes v (round.Acknowledge answer ran) x =
+SitsInRound u me changes v (RoundStage.Acknowledge answer ran) x =
     (work : Work) × IsLoaded v work × (v.acked ≤ RUN) ×
     (((x ≡ In v.slot work v.acked (v.acked + 1) Rests) × RunsIf me v ran) ⊎
     ((v.acked ≡ DISABLE_IRQ) × (ran ≡ true) × ((count : ℕ) × (answer ≡ patch_answer work count) × (x ≡ Alters v.slot work count (plan_at u work count) []))))
-SitsInRound u me changes v (round.Refill ran) x = (work : Work) × IsLoaded v work × (x ≡ In v.slot work v.acked v.acked Fills) × HasRun me v ran
-SitsInRound u me changes v (round.Raise ran) x = (work : Work) × IsLoaded v work × (x ≡ In v.slot work v.acked v.acked Sets) × HasRun me v ran
+SitsInRound u me changes v (RoundStage.Refill ran) x = (work : Work) × IsLoaded v work × (x ≡ In v.slot work v.acked v.acked Fills) × HasRun me v ran
+SitsInRound u me changes v (RoundStage.Raise ran) x = (work : Work) × IsLoaded v work × (x ≡ In v.slot work v.acked v.acked Sets) × HasRun me v ran
 
 -- it is through all phases, or in a stop of kind One
 abbrev pub IsThroughAll : Visit → Type 0
 IsThroughAll v = (v.acked ≡ EXIT) ⊎ (v.kind ≡ One)
 
 abbrev pub SitsInCompletion : Visit → CompletionStage → Seat → Type 0
-SitsInCompletion v completion.CountDown x =
+SitsInCompletion v CompletionStage.CountDown x =
     (work : Work) × (((v.answer ≡ 0) × IsLoaded v work × IsThroughAll v × (x ≡ In v.slot work v.acked v.acked Rests)) ⊎
     (x ≡ Gives v.slot work v.acked v.answer))
-SitsInCompletion v completion.StoreAnswer x = (v.answer ≢ 0) × IsThroughAll v × SitsIn v v.acked Rests x
-SitsInCompletion v (completion.LoadFunc answer) x = (v.kind ≡ One) × SitsIn v v.acked Rests x
-SitsInCompletion v (completion.LoadArg answer func) x =
+SitsInCompletion v CompletionStage.StoreAnswer x = (v.answer ≢ 0) × IsThroughAll v × SitsIn v v.acked Rests x
+SitsInCompletion v (CompletionStage.LoadFunc answer) x = (v.kind ≡ One) × SitsIn v v.acked Rests x
+SitsInCompletion v (CompletionStage.LoadArg answer func) x =
     (v.kind ≡ One) × ((work : Work) × IsLoaded v work × (x ≡ In v.slot work v.acked v.acked Rests) × (func ≡ work.func))
 
 -- its seat at this stage

@@ -5,7 +5,6 @@ use Rattle.smp_stop_steps.specs.Names.{has, Field, Kind, One, Multi, Patch, Work
 use Rattle.smp_stop_steps.specs.Stop.{Standing, Outside, Called, Inside, Answering, Completed, Raising, Nobody, Refills, Raises, Ending, Running, Last, Ended}
 use Rattle.smp_stop_steps.specs.Stop.{Stop, is_of, is_called, first_phase}
 use Rattle.smp_stop_steps.specs.Counts.{count_behind, count_unfinished, weight, mask_weight}
-use Rattle.smp_stop_steps.specs.Names.field
 
 -- the words of a slot, with one changed
 abbrev pub put_field : (Field → ℕ) → Field → ℕ → Field → ℕ
@@ -13,11 +12,11 @@ put_field word g n f = cond (same_field f g true) n (word f)
 
 -- the words of the work are its numbers
 pub record IsWritten (word : Field → ℕ) (work : Work) : Type 0 where
-  pub kind : word field.Kind ≡ kind_word work.kind
-  pub mask : word field.Mask ≡ work.mask
-  pub active : word field.Active ≡ work.active
-  pub func : word field.Func ≡ work.func
-  pub arg : word field.Arg ≡ work.arg
+  pub kind : word Field.Kind ≡ kind_word work.kind
+  pub mask : word Field.Mask ≡ work.mask
+  pub active : word Field.Active ≡ work.active
+  pub func : word Field.Func ≡ work.func
+  pub arg : word Field.Arg ≡ work.arg
 
 -- a CPU of the mask has acknowledged the phase or the one before it
 abbrev pub IsLevel : ℕ → ℕ → Type 0
@@ -66,49 +65,49 @@ IsPhaseOf Patch p = p ≢ 0
 -- the words of an open stop
 pub record OpenShows (cpus : ℕ) (stop : Stop) (word : Field → ℕ) : Type 0 where
   pub written : IsWritten word stop.work
-  pub state : word field.State ≡ stop.phase
+  pub state : word Field.State ≡ stop.phase
   pub bound : stop.phase ≤ OVER
   pub kinds : IsPhaseOf stop.work.kind stop.phase
-  pub ack : stop.phase ≢ 0 → AckShows cpus stop.phase stop.standing stop.raising (word field.Ack)
+  pub ack : stop.phase ≢ 0 → AckShows cpus stop.phase stop.standing stop.raising (word Field.Ack)
   pub calm : stop.phase ≡ 0 → stop.raising ≡ Nobody
-  pub todo : word field.Todo ≡ count_unfinished cpus stop.standing
-  pub done : DoneShows cpus stop.standing stop.ending (word field.Done)
-  pub result : ResultShows stop.standing (word field.Result)
+  pub todo : word Field.Todo ≡ count_unfinished cpus stop.standing
+  pub done : DoneShows cpus stop.standing stop.ending (word Field.Done)
+  pub result : ResultShows stop.standing (word Field.Result)
 
 -- the words of a slot: its roll has those that have not entered, and where no stop is open all are outside
 pub record SlotShows (cpus : ℕ) (stop : Stop) (word : Field → ℕ) : Type 0 where
   pub members : (c : ℕ) → is_of (stop.standing c) ≡ (stop.is_open && has stop.work.mask c)
-  pub roll : (c : ℕ) → has (word field.Roll) c ≡ is_called (stop.standing c)
+  pub roll : (c : ℕ) → has (word Field.Roll) c ≡ is_called (stop.standing c)
   pub keeps : (c : ℕ) → Keeps cpus stop.phase c (stop.standing c)
   pub shows : stop.is_open ≡ true → OpenShows cpus stop word
 
 -- what begin stores in a field
 abbrev pub begun_value : ℕ → Work → Field → ℕ
-begun_value cpus work field.Kind = kind_word work.kind
-begun_value cpus work field.Mask = work.mask
-begun_value cpus work field.Active = work.active
-begun_value cpus work field.Func = work.func
-begun_value cpus work field.Arg = work.arg
-begun_value cpus work field.Result = 0
-begun_value cpus work field.Todo = mask_weight cpus work.mask
-begun_value cpus work field.Done = 0
-begun_value cpus work field.Ack = mask_weight cpus work.mask
-begun_value cpus work field.State = first_phase work.kind
-begun_value cpus work field.Roll = work.mask
+begun_value cpus work Field.Kind = kind_word work.kind
+begun_value cpus work Field.Mask = work.mask
+begun_value cpus work Field.Active = work.active
+begun_value cpus work Field.Func = work.func
+begun_value cpus work Field.Arg = work.arg
+begun_value cpus work Field.Result = 0
+begun_value cpus work Field.Todo = mask_weight cpus work.mask
+begun_value cpus work Field.Done = 0
+begun_value cpus work Field.Ack = mask_weight cpus work.mask
+begun_value cpus work Field.State = first_phase work.kind
+begun_value cpus work Field.Roll = work.mask
 
 -- the place of a field among the stores of begin
 abbrev pub order : Field → ℕ
-order field.Kind = 0
-order field.Mask = 1
-order field.Active = 2
-order field.Func = 3
-order field.Arg = 4
-order field.Result = 5
-order field.Todo = 6
-order field.Done = 7
-order field.Ack = 8
-order field.State = 9
-order field.Roll = 10
+order Field.Kind = 0
+order Field.Mask = 1
+order Field.Active = 2
+order Field.Func = 3
+order Field.Arg = 4
+order Field.Result = 5
+order Field.Todo = 6
+order Field.Done = 7
+order Field.Ack = 8
+order Field.State = 9
+order Field.Roll = 10
 
 -- begin has stored its first k fields
 abbrev pub IsStored : ℕ → (Field → ℕ) → Work → ℕ → Type 0

@@ -3,15 +3,10 @@ use Rattle.std.specs.Prelude.{ℕ, ℤ, ◌+◌, ◌^◌, Bool, true, false, ◌
 use Rattle.std.specs.{Int.cast_unsigned, Int.w32, Int.Bits.bit_and}
 use Rattle.smp_words.specs.declared.size.TheConstants.{FIRST_TARGETS}
 use Rattle.smp_stop_steps.specs.Names.{SmpError, cpus, Command, StopStage, TakeGate, OpenGate, Begin, Enter, Advance, Complete, LoadDone, NudgeKey, Visit, Kind}
-use Rattle.smp_stop_steps.specs.Names.{One, Multi, Patch, Work, Gate, EXIT}
+use Rattle.smp_stop_steps.specs.Names.{One, Multi, Patch, Work, Gate, EXIT, Field, CompletionStage, RoundStage}
 use Rattle.smp_stop_steps.specs.Value.{StopsValue, first_below, stop_control_of}
 use Rattle.smp_stop_steps.specs.{Counts.mask_weight, Stages.StopControlValue, Stages.completes_from, Table.stop_number, Tells.is_one, Begins.stop_begun}
 use Rattle.smp_stop_steps.specs.{declared.stage.StopStage.TheVariants.ReadKey, declared.stage.StopStage.TheVariants.ReadSite, declared.start.Terms.Terms}
-use Rattle.smp_stop_steps.specs.Names.error
-use Rattle.smp_stop_steps.specs.Names.command
-use Rattle.smp_stop_steps.specs.Names.field
-use Rattle.smp_stop_steps.specs.Names.completion
-use Rattle.smp_stop_steps.specs.Names.round
 
 -- what the half of this value is asked for before a CPU starts a command
 abbrev pub terms_of : StopsValue → ℕ → Terms
@@ -47,9 +42,9 @@ unless test refused = if test then None else Some refused
 
 -- the refusals of begin: the own stop is open; the gate is not held, or the work is none; a CPU of it is not online
 abbrev pub begin_refusal : Terms → Work → Bool → Option SmpError
-begin_refusal t work true = Some error.SlotBusy
+begin_refusal t work true = Some SmpError.SlotBusy
 begin_refusal t work false =
-    if t.holds_gate && fits_work t work then unless (bit_and work.mask t.online == work.mask) error.NoStopper else Some error.BadArgument
+    if t.holds_gate && fits_work t work then unless (bit_and work.mask t.online == work.mask) SmpError.NoStopper else Some SmpError.BadArgument
 
 -- the CPU is in no stop
 abbrev pub is_free : Option Visit → Bool
@@ -73,17 +68,17 @@ may_finish (Some v) = v.acked == EXIT
 
 -- the refusals of a CPU at such a place; none for a command of the other half but a handle with interrupts off
 abbrev pub refusal_on : Terms → StopControlValue → Command → Option SmpError
-refusal_on t c command.Handle = unless c.interrupts error.BadArgument
-refusal_on t c command.Ungate = unless t.holds_gate error.BadArgument
-refusal_on t c (command.Begin work) = begin_refusal t work c.is_open
-refusal_on t c (command.Enter slot) = unless (is_free c.visit && has_slot t.nr slot) error.Stale
-refusal_on t c (command.Advance answer) = unless (may_advance c.visit) error.BadArgument
-refusal_on t c (command.RunOne answer) = unless (may_run c.visit) error.BadArgument
-refusal_on t c command.Finish = unless (may_finish c.visit) error.BadArgument
-refusal_on t c command.Poll = unless c.is_open error.BadArgument
-refusal_on t c (command.Key k) = unless (c.interrupts && nat_lt k t.keys) error.BadArgument
-refusal_on t c (command.Site i) = unless (c.interrupts && nat_lt i t.sites) error.BadArgument
-refusal_on t c (command.Nudge k up) = unless (c.interrupts && nat_lt k t.keys) error.BadArgument
+refusal_on t c Command.Handle = unless c.interrupts SmpError.BadArgument
+refusal_on t c Command.Ungate = unless t.holds_gate SmpError.BadArgument
+refusal_on t c (Command.Begin work) = begin_refusal t work c.is_open
+refusal_on t c (Command.Enter slot) = unless (is_free c.visit && has_slot t.nr slot) SmpError.Stale
+refusal_on t c (Command.Advance answer) = unless (may_advance c.visit) SmpError.BadArgument
+refusal_on t c (Command.RunOne answer) = unless (may_run c.visit) SmpError.BadArgument
+refusal_on t c Command.Finish = unless (may_finish c.visit) SmpError.BadArgument
+refusal_on t c Command.Poll = unless c.is_open SmpError.BadArgument
+refusal_on t c (Command.Key k) = unless (c.interrupts && nat_lt k t.keys) SmpError.BadArgument
+refusal_on t c (Command.Site i) = unless (c.interrupts && nat_lt i t.sites) SmpError.BadArgument
+refusal_on t c (Command.Nudge k up) = unless (c.interrupts && nat_lt k t.keys) SmpError.BadArgument
 refusal_on t c _ = None
 
 abbrev pub stop_refusal : StopsValue → ℕ → Command → Option SmpError
@@ -100,17 +95,17 @@ in_visit (Some v) stage = Some (stage v)
 
 -- where a command begins; none for one of the other half
 abbrev pub stop_first : StopControlValue → Command → Option StopStage
-stop_first c command.Gate = Some TakeGate
-stop_first c command.Ungate = Some OpenGate
-stop_first c (command.Begin work) = Some (Begin work field.Kind)
-stop_first c (command.Enter slot) = Some (Enter slot)
-stop_first c (command.Advance answer) = in_visit c.visit (λ v. Advance v (round.Look (answer_word answer)))
-stop_first c (command.RunOne answer) = in_visit c.visit (λ v. Complete v (completion.LoadFunc (answer_word answer)))
-stop_first c command.Finish = in_visit c.visit (λ v. Complete v (completes_from v))
-stop_first c command.Poll = Some LoadDone
-stop_first c (command.Key k) = Some (ReadKey k)
-stop_first c (command.Site i) = Some (ReadSite i)
-stop_first c (command.Nudge k up) = Some (NudgeKey k up)
+stop_first c Command.Gate = Some TakeGate
+stop_first c Command.Ungate = Some OpenGate
+stop_first c (Command.Begin work) = Some (Begin work Field.Kind)
+stop_first c (Command.Enter slot) = Some (Enter slot)
+stop_first c (Command.Advance answer) = in_visit c.visit (λ v. Advance v (RoundStage.Look (answer_word answer)))
+stop_first c (Command.RunOne answer) = in_visit c.visit (λ v. Complete v (CompletionStage.LoadFunc (answer_word answer)))
+stop_first c Command.Finish = in_visit c.visit (λ v. Complete v (completes_from v))
+stop_first c Command.Poll = Some LoadDone
+stop_first c (Command.Key k) = Some (ReadKey k)
+stop_first c (Command.Site i) = Some (ReadSite i)
+stop_first c (Command.Nudge k up) = Some (NudgeKey k up)
 stop_first c _ = None
 
 -- the half with the CPU at the beginning of a command, where that is one of this half

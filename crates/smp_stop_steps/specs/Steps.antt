@@ -4,7 +4,6 @@ use Rattle.smp_stop_steps.specs.Names.{put, word_of, at_after, seen_of, StopStag
 use Rattle.smp_stop_steps.specs.State.{Setup, StopState, Calling, Idle, Calls, StopCall}
 use Rattle.smp_stop_steps.specs.{Callings.HasCalled, Callings.answer_in, Tells.called_more, Stages.StopControlValue, Stages.stop_access, Stages.stop_outcome}
 use Rattle.smp_stop_steps.specs.{Tells.carried, Tells.tells, Seats.Seat, Sources.Source, Shows.StopShows, Stages.answer_at, Carries.CarriesIn, Sits.Sits}
-use Rattle.smp_stop_steps.specs.Names.note
 
 -- the state after a step of a CPU at this stage
 abbrev pub state_after : Setup → StopState → (Word → ℕ) → StopControlValue → ℕ → StopStage → StopState
@@ -40,7 +39,7 @@ abbrev pub told_of : StopState → Told
 told_of p = record { calling = p.calling; calls = p.calls; answers = p.answers }
 
 abbrev pub is_run : Option Note → Bool
-is_run (Some (note.Run func arg)) = true
+is_run (Some (Note.Run func arg)) = true
 is_run _ = false
 
 -- the step tells nothing of functions
@@ -53,7 +52,7 @@ pub record CallsIt (p q : StopState) (me : ℕ) (said : Option Note) (answer : �
   pub call : StopCall
   pub idle : p.calling me ≡ Idle
   pub calls : told_of q ≡ record (told_of p) { calling = put p.calling me (Calls call) }
-  pub says : said ≡ Some (note.Run call.func call.arg)
+  pub says : said ≡ Some (Note.Run call.func call.arg)
   pub answers : call.answer ≡ answer
 
 -- it acknowledges RUN: where it is active it has called its function; the call is in its list, and it carries the answer

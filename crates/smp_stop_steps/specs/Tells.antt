@@ -8,8 +8,6 @@ use Rattle.smp_stop_steps.specs.Stop.{Standing, Inside, Answering, Stop, stands,
 use Rattle.smp_stop_steps.specs.KeyCounts.{moved_by}
 use Rattle.smp_stop_steps.specs.Labels.{Change, Patching, Whole, Patches, Reading, ReadKey, ReadSite, count_set, patch_answer, state_left, reading_of}
 use Rattle.smp_stop_steps.specs.State.{Setup, Present, StopState, StopCall, Moved, Calling, Idle, Calls, Carries}
-use Rattle.smp_stop_steps.specs.Names.act
-use Rattle.smp_stop_steps.specs.Names.field
 
 abbrev pub is_one : Kind → Bool
 is_one One = true
@@ -33,17 +31,17 @@ with_stop n s stop = record n { stop = put n.stop s stop }
 
 -- the gate: taken where the exchange won, given up by a store
 abbrev pub gate_told : StopState → ℕ → Act → Option ℕ → StopState
-gate_told p me act.Cas (Some new) = record p { gate = Some me }
-gate_told p me act.Store _ = record p { gate = None }
+gate_told p me Act.Cas (Some new) = record p { gate = Some me }
+gate_told p me Act.Store _ = record p { gate = None }
 gate_told p me _ _ = p
 
 -- a store of begin, before it opens its stop
 abbrev pub drafted : Field → ℕ → Work → Work
-drafted field.Kind n w = record w { kind = kind_at n }
-drafted field.Mask n w = record w { mask = n }
-drafted field.Active n w = record w { active = n }
-drafted field.Func n w = record w { func = n }
-drafted field.Arg n w = record w { arg = n }
+drafted Field.Kind n w = record w { kind = kind_at n }
+drafted Field.Mask n w = record w { mask = n }
+drafted Field.Active n w = record w { active = n }
+drafted Field.Func n w = record w { func = n }
+drafted Field.Arg n w = record w { arg = n }
 drafted _ n w = w
 
 abbrev pub drafts : Present → ℕ → Field → ℕ → Present
@@ -153,25 +151,25 @@ collects p s result = record p { now = with_stop p.now s (closed (p.now.stop s))
 
 -- a store to a slot: one of its stop where that is open, else one of begin
 abbrev pub stored_open : StopState → ℕ → ℕ → Field → ℕ → StopState
-stored_open p me s field.Ack v = record p { now = with_stop p.now s (refilled (p.now.stop s) me) }
-stored_open p me s field.State v = record p { now = raises p.now me s v }
-stored_open p me s field.Result v = record p { now = answers_now p.now me s v }
-stored_open p me s field.Done v = record p { now = with_stop p.now s (ended (p.now.stop s)) }
+stored_open p me s Field.Ack v = record p { now = with_stop p.now s (refilled (p.now.stop s) me) }
+stored_open p me s Field.State v = record p { now = raises p.now me s v }
+stored_open p me s Field.Result v = record p { now = answers_now p.now me s v }
+stored_open p me s Field.Done v = record p { now = with_stop p.now s (ended (p.now.stop s)) }
 stored_open p me s _ v = p
 
 abbrev pub stored_shut : StopState → ℕ → Field → ℕ → StopState
-stored_shut p s field.Roll v = opens p s
+stored_shut p s Field.Roll v = opens p s
 stored_shut p s f v = record p { now = drafts p.now s f v }
 
 abbrev pub slot_told : StopState → ℕ → ℕ → Act → Field → Option ℕ → Option ℕ → ℕ → StopState
-slot_told p me s act.Store f _ (Some v) answer = cond (p.now.stop s).is_open (stored_open p me s f v) (stored_shut p s f v)
-slot_told p me s act.And field.Roll (Some found) _ answer = cond (has found me) (record p { now = enters p.now me s }) p
-slot_told p me s act.Load field.State (Some found) _ answer = looks p me s found
-slot_told p me s act.Load field.Arg (Some found) _ answer =
+slot_told p me s Act.Store f _ (Some v) answer = cond (p.now.stop s).is_open (stored_open p me s f v) (stored_shut p s f v)
+slot_told p me s Act.And Field.Roll (Some found) _ answer = cond (has found me) (record p { now = enters p.now me s }) p
+slot_told p me s Act.Load Field.State (Some found) _ answer = looks p me s found
+slot_told p me s Act.Load Field.Arg (Some found) _ answer =
     cond (may_call me (p.now.stop s).work ((p.now.stop s).standing me)) (calls_now p me (p.now.stop s).work found answer) p
-slot_told p me s act.Load field.Result (Some found) _ answer = collects p s found
-slot_told p me s act.Sub field.Ack (Some found) _ answer = acknowledges p me s ((p.now.stop s).standing me) found
-slot_told p me s act.Sub field.Todo (Some found) _ answer = completes p me s ((p.now.stop s).standing me) found
+slot_told p me s Act.Load Field.Result (Some found) _ answer = collects p s found
+slot_told p me s Act.Sub Field.Ack (Some found) _ answer = acknowledges p me s ((p.now.stop s).standing me) found
+slot_told p me s Act.Sub Field.Todo (Some found) _ answer = completes p me s ((p.now.stop s).standing me) found
 slot_told p me s _ _ _ _ answer = p
 
 -- the CPU is at RUN, which it has not acknowledged
@@ -209,16 +207,16 @@ key_patched Whole f me k new = f
 
 -- a step on a key: a load, a store of a patch, or a compare-exchange, which tells something where it won
 abbrev pub key_told : Setup → StopState → ℕ → ℕ → Act → Option ℕ → Option ℕ → StopState
-key_told u p me k act.Load (Some found) _ = record p { now = key_loaded u p.now me k found (p.now.inside me) }
-key_told u p me k act.Store _ (Some new) =
+key_told u p me k Act.Load (Some found) _ = record p { now = key_loaded u p.now me k found (p.now.inside me) }
+key_told u p me k Act.Store _ (Some new) =
     record p { now = record (p.now) { patching = patched_more p.now.patching }; patched = key_patched p.now.patching p.patched me k new }
-key_told u p me k act.Cas (Some found) (Some new) = record p { nudged = moved_by p.nudged me k found new }
+key_told u p me k Act.Cas (Some found) (Some new) = record p { nudged = moved_by p.nudged me k found new }
 key_told u p me k _ _ _ = p
 
 -- a step on a site
 abbrev pub site_told : Present → ℕ → Act → ℕ → Option ℕ → Present
-site_told n me act.Load i (Some found) = reads n me (ReadSite i (is_on found))
-site_told n me act.Store i _ = record n { patching = patched_more n.patching }
+site_told n me Act.Load i (Some found) = reads n me (ReadSite i (is_on found))
+site_told n me Act.Store i _ = record n { patching = patched_more n.patching }
 site_told n me _ _ _ = n
 
 abbrev pub told : Setup → StopState → ℕ → Act → Word → Option ℕ → Option ℕ → ℕ → StopState

@@ -12,8 +12,6 @@ use Rattle.smp_stop_steps.specs.{Key, Site, State.Present, Known.Known, Moves.en
 use Rattle.smp_stop_steps.proofs.Knows.Parts.{Leaves, first_put, goes_seat, goes_still, noted, seen_by, told_so}
 use Rattle.smp_stop_steps.proofs.Steps.Patching.{key_read, site_read, key_loaded_first, key_stored, site_stored, key_exchanged}
 use Rattle.smp_stop_steps.proofs.{Knows.KnownRounds.stands, Knows.KnownRounds.reads_now, Knows.KnownSources.still}
-use Rattle.smp_stop_steps.specs.place
-use Rattle.smp_stop_steps.specs.act
 use Rattle.smp_stop_steps.specs.declared.known.OwnMove.TheVariants as own
 
 -- where interrupts are on, a CPU does not stand at the function
@@ -37,10 +35,10 @@ module _ (p : StopState) (at : Word → ℕ) (seat : ℕ → Seat) (source : ℕ
   Goes a w found new at' known = GoesOnBy v.setting p seat source v.number at' known (seen_by v.number a w found new)
 
   abbrev Loads : Word → Known → Type 0
-  Loads w known = Goes act.Load w (Some (at w)) None at known
+  Loads w known = Goes Act.Load w (Some (at w)) None at known
 
   abbrev Stores : Word → ℕ → Known → Type 0
-  Stores w n known = Goes act.Store w None (Some n) (put_word at w n) known
+  Stores w n known = Goes Act.Store w None (Some n) (put_word at w n) known
 
   abbrev IsOn : Type 0
   IsOn = irq_of v.seat ≡ true
@@ -78,7 +76,7 @@ module _ (p : StopState) (at : Word → ℕ) (seat : ℕ → Seat) (source : ℕ
       subst (λ q. Loads (Key k) q) (sym plain.1)
       (noted p seat source v sees at (record v { part = part }) (v.moves ++ own.Found k found ∷ [])
       (goes_still p seat source v sees p' at part
-      (told_so u v.number p p' act.Load (Key k) (Some found) None (ap (λ (n : Present). record p { now = n }) plain.0))
+      (told_so u v.number p p' Act.Load (Key k) (Some found) None (ap (λ (n : Present). record p { now = n }) plain.0))
       (subst (λ n. StopShows u (record p { now = n }) at seat source) plain.0 (key_read u p at seat source h v.number k 0 (irq_on on)))
       (reads_leaves r)))
 
@@ -87,22 +85,22 @@ module _ (p : StopState) (at : Word → ℕ) (seat : ℕ → Seat) (source : ℕ
       let r = ReadSite i (is_on (at (Site i))) in
       let p' = record p { now = reads p.now v.number r } in
       goes_still p seat source v sees p' at (record (v.part) { readings = v.part.readings ++ r ∷ [] })
-      (told_so u v.number p p' act.Load (Site i) (Some (at (Site i))) None refl) (site_read u p at seat source h v.number i 0) (reads_leaves r)
+      (told_so u v.number p p' Act.Load (Site i) (Some (at (Site i))) None refl) (site_read u p at seat source h v.number i 0) (reads_leaves r)
 
   pub nudge : (k found new : ℕ) → IsOn → has v.setting.online v.number ≡ true → k < MOST_KEYS → IsNudge found new →
       let set = cond (at (Key k) == found) (Some new) None in
-      Goes act.Cas (Key k) (Some (at (Key k))) set (put_if put_word at (Key k) set) (key_known act.Cas k (Some (at (Key k))) set v)
+      Goes Act.Cas (Key k) (Some (at (Key k))) set (put_if put_word at (Key k) set) (key_known Act.Cas k (Some (at (Key k))) set v)
   nudge k found new on online low is = go (at (Key k) == found) refl
     where
       go : (b : Bool) → (at (Key k) == found) ≡ b → let set = cond b (Some new) None in
-          Goes act.Cas (Key k) (Some (at (Key k))) set (put_if put_word at (Key k) set) (key_known act.Cas k (Some (at (Key k))) set v)
-      go false e = noted p seat source v sees at v (v.moves ++ own.Lost k ∷ []) (still p at seat source v h sees act.Cas (Key k) (Some (at (Key k))) None refl)
+          Goes Act.Cas (Key k) (Some (at (Key k))) set (put_if put_word at (Key k) set) (key_known Act.Cas k (Some (at (Key k))) set v)
+      go false e = noted p seat source v sees at v (v.moves ++ own.Lost k ∷ []) (still p at seat source v h sees Act.Cas (Key k) (Some (at (Key k))) None refl)
       go true e =
           let was : at (Key k) ≡ found = eqb-true (at (Key k)) found e in
           let parts = sees.part_is in
           let p' = record p { nudged = moved_by p.nudged v.number k found new } in
           let shown' = goes_still p seat source v sees p' (put_word at (Key k) new) (record (v.part) { nudged = counted v.part.nudged k found new })
-          (told_so u v.number p p' act.Cas (Key k) (Some (at (Key k))) (Some new)
+          (told_so u v.number p p' Act.Cas (Key k) (Some (at (Key k))) (Some new)
           (ap (λ n. record p { nudged = moved_by p.nudged v.number k n new }) was))
           (key_exchanged u p at seat source h v.number k found new sees.below online (irq_on on)
           was is 0) record {
@@ -127,7 +125,7 @@ module _ (p : StopState) (at : Word → ℕ) (seat : ℕ → Seat) (source : ℕ
       ap (λ x. key_loaded_by w.func found x v) is ∙ ap (λ k. cond (is_patch k) (record v { seat = next }) (key_read_known w.func found v)) kind in
       let p' = record p { now = patch } in
       let shown' = goes_seat p seat source v sees p' at next v.part
-      (told_so u v.number p p' act.Load (Key w.func) (Some found) None (ap (λ (n : Present). record p { now = n }) plain))
+      (told_so u v.number p p' Act.Load (Key w.func) (Some found) None (ap (λ (n : Present). record p { now = n }) plain))
       (subst (λ n. StopShows u (record p { now = n }) at (put seat
       v.number next) source) plain (key_loaded_first u p at seat source h v.number s w 0 (sees.seat_is ∙ is) kind active)) record {
         mine = sees.part_is;
@@ -151,24 +149,24 @@ module _ (p : StopState) (at : Word → ℕ) (seat : ℕ → Seat) (source : ℕ
       let a = store_of (x, n) in
       let seen = seen_of v.number a (at (word_of a)) None in
       GoesOnBy v.setting p seat source v.number (at_after at a) (learned (entering p (word_of a)) v seen.act seen.word seen.found seen.put) seen
-  alter s w count made rest (place.Key k) n is plan low =
-      let next = Alters s w count (made ++ (place.Key k, n) ∷ []) rest in
+  alter s w count made rest (Place.Key k) n is plan low =
+      let next = Alters s w count (made ++ (Place.Key k, n) ∷ []) rest in
       let at' = put_word at (Key k) n in
-      let st = stands p at seat source v h sees (Alters s w count made ((place.Key k, n) ∷ rest)) is in
+      let st = stands p at seat source v h sees (Alters s w count made ((Place.Key k, n) ∷ rest)) is in
       let first = plan_key_first w.func count (count_set w count) u.entries made k n rest plan in
-      let more = Patches v.number w count (made ++ (place.Key k, n) ∷ []) rest in
+      let more = Patches v.number w count (made ++ (Place.Key k, n) ∷ []) rest in
       let p' = record p { now = record (p.now) { patching = more }; patched = moved_by p.patched v.number k count n } in
-      let plain : told u p v.number act.Store (Key k) None (Some n) 0 ≡ p' =
+      let plain : told u p v.number Act.Store (Key k) None (Some n) 0 ≡ p' =
       ap (λ y. record p { now = record (p.now) { patching = patched_more y }; patched = key_patched y p.patched v.number k n }) st.5 in
       let shown' = goes_seat p seat source v sees p' at' next (record (v.part) { patched = counted v.part.patched k count n })
-      (told_so u v.number p p' act.Store (Key k) None (Some n) plain) (subst (λ q. StopShows u q at'
+      (told_so u v.number p p' Act.Store (Key k) None (Some n) plain) (subst (λ q. StopShows u q at'
       (put seat v.number next) source) plain (key_stored u p at seat source h v.number s w count made rest k n 0 sees.below (sees.seat_is ∙ is) first.0
       first.1)) (patched_leaves k count n p'.now (subst (λ i. i < MOST_KEYS) (sym first.1) low) (λ c. refl)) in
       search (is, shown', arith)
-  alter s w count made rest (place.Site i) n is plan low =
-      let next = Alters s w count (made ++ (place.Site i, n) ∷ []) rest in
-      let p' = told u p v.number act.Store (Site i) None (Some n) 0 in
+  alter s w count made rest (Place.Site i) n is plan low =
+      let next = Alters s w count (made ++ (Place.Site i, n) ∷ []) rest in
+      let p' = told u p v.number Act.Store (Site i) None (Some n) 0 in
       let shown' = goes_seat p seat source v sees p' (put_word at (Site i) n) next v.part
-      (told_so u v.number p p' act.Store (Site i) None (Some n) refl) (site_stored u p at seat source h v.number s w count made rest i n 0
+      (told_so u v.number p p' Act.Store (Site i) None (Some n) refl) (site_stored u p at seat source h v.number s w count made rest i n 0
       (sees.seat_is ∙ is)) record { mine = sees.part_is; others = λ c ne. refl } in
       search (is, shown', arith)

@@ -1,7 +1,7 @@
 -- Each step that a CPU may make by what it knows goes on to stops of which all know their part.
 use Rattle.std.proofs.Common.{ℕ, Some, None, refl}
 use Rattle.smp_stop_steps.specs.{word_of, at_after, seen_of, Sees, GoesOnBy, Seen, setup_in, slot_known, learned, known_entering, is_drafting, is_due, Seat}
-use Rattle.smp_stop_steps.specs.{StopShows, Source, StopState, Field, Word, Slot, Entry, Known.Known}
+use Rattle.smp_stop_steps.specs.{StopShows, Source, StopState, Field, Word, Slot, Entry, Known.Known, Act}
 use Rattle.smp_stop_steps.specs.Moves.{Move, TakeGate, OpenGate, Draft, DraftMore, Open, Enter, Look, Acknowledge, AcknowledgePatch, Refill, Raise, Give, Count}
 use Rattle.smp_stop_steps.specs.Moves.{CountGiven, Close, LookDone, Collect, ReadKey, ReadSite, Nudge, BeginPatch, Alter, LoadArg, LoadField, LoadEntry}
 use Rattle.smp_stop_steps.specs.Moves.{MayStep, known_access, entering, IsPlain}
@@ -10,8 +10,6 @@ use Rattle.smp_stop_steps.proofs.Knows.KnownLabels.{read_key, read_site, nudge, 
 use Rattle.smp_stop_steps.proofs.Knows.KnownRounds.{enter, load_arg, look, acknowledge, acknowledge_patch, refill, raise}
 use Rattle.smp_stop_steps.proofs.Knows.KnownSources.{still, take_gate, open_gate, draft, draft_more, open_stop, look_done, collect}
 use Rattle.smp_stop_steps.proofs.Knows.Parts.{counted_step, seen_by}
-use Rattle.smp_stop_steps.specs.act
-use Rattle.smp_stop_steps.specs.field
 
 module _ (p : StopState) (at : Word → ℕ) (seat : ℕ → Seat) (source : ℕ → Source) (v : Known) (h : StopShows (setup_in v.setting) p at seat source)
     (sees : Sees p seat source v) where
@@ -19,18 +17,18 @@ module _ (p : StopState) (at : Word → ℕ) (seat : ℕ → Seat) (source : ℕ
   Goes seen at' w = GoesOnBy v.setting p seat source v.number at' w seen
 
   load_field : (s : ℕ) (f : Field) → IsPlain f
-      → Goes (seen_by v.number act.Load (Slot s f) (Some (at (Slot s f))) None) at (slot_known (p.now.stop s).work v s act.Load f (Some (at (Slot s f))) None)
-  load_field s field.Kind i = still p at seat source v h sees act.Load (Slot s field.Kind) (Some (at (Slot s field.Kind))) None refl
-  load_field s field.Mask i = still p at seat source v h sees act.Load (Slot s field.Mask) (Some (at (Slot s field.Mask))) None refl
-  load_field s field.Active i = still p at seat source v h sees act.Load (Slot s field.Active) (Some (at (Slot s field.Active))) None refl
-  load_field s field.Func i = still p at seat source v h sees act.Load (Slot s field.Func) (Some (at (Slot s field.Func))) None refl
-  load_field s field.Arg i = absurd i
-  load_field s field.State i = absurd i
-  load_field s field.Ack i = absurd i
-  load_field s field.Roll i = absurd i
-  load_field s field.Todo i = absurd i
-  load_field s field.Result i = absurd i
-  load_field s field.Done i = absurd i
+      → Goes (seen_by v.number Act.Load (Slot s f) (Some (at (Slot s f))) None) at (slot_known (p.now.stop s).work v s Act.Load f (Some (at (Slot s f))) None)
+  load_field s Field.Kind i = still p at seat source v h sees Act.Load (Slot s Field.Kind) (Some (at (Slot s Field.Kind))) None refl
+  load_field s Field.Mask i = still p at seat source v h sees Act.Load (Slot s Field.Mask) (Some (at (Slot s Field.Mask))) None refl
+  load_field s Field.Active i = still p at seat source v h sees Act.Load (Slot s Field.Active) (Some (at (Slot s Field.Active))) None refl
+  load_field s Field.Func i = still p at seat source v h sees Act.Load (Slot s Field.Func) (Some (at (Slot s Field.Func))) None refl
+  load_field s Field.Arg i = absurd i
+  load_field s Field.State i = absurd i
+  load_field s Field.Ack i = absurd i
+  load_field s Field.Roll i = absurd i
+  load_field s Field.Todo i = absurd i
+  load_field s Field.Result i = absurd i
+  load_field s Field.Done i = absurd i
 
   -- what each step tells
   tells_move : (m : Move) → MayStep v m →
@@ -61,7 +59,7 @@ module _ (p : StopState) (at : Word → ℕ) (seat : ℕ → Seat) (source : ℕ
   tells_move (Alter s w count made change rest) m = alter p at seat source v h sees s w count made rest change.0 change.1 m.0 m.1 m.2
   tells_move (LoadArg s w a l) m = load_arg p at seat source v h sees s w a l m
   tells_move (LoadField s w a l f) m = load_field s f m.0
-  tells_move (LoadEntry s w count made rest i) m = still p at seat source v h sees act.Load (Entry i) (Some (at (Entry i))) None refl
+  tells_move (LoadEntry s w count made rest i) m = still p at seat source v h sees Act.Load (Entry i) (Some (at (Entry i))) None refl
 
   -- and that it is counted, where it is not due
   pub known_move : (m : Move) → MayStep v m →

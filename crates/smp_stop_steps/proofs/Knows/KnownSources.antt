@@ -9,8 +9,6 @@ use Rattle.smp_stop_steps.specs.{Sees, GoesOnBy, Act, IsBegun, told_source, told
 use Rattle.smp_stop_steps.specs.{slot_stored, gate_known, done_by, done_known, collected_known, Field, One, Work, Word, Gate, Slot, Known.Known}
 use Rattle.smp_stop_steps.proofs.Knows.Parts.{Leaves, goes, goes_source, goes_still, noted, seen_by, told_so}
 use Rattle.smp_stop_steps.proofs.Steps.Sources.{gate_taken, gate_opened, field_stored, roll_stored, done_loaded, result_loaded, kind_back, work_ext}
-use Rattle.smp_stop_steps.specs.act
-use Rattle.smp_stop_steps.specs.field
 use Rattle.smp_stop_steps.specs.declared.known.OwnMove.TheVariants as own
 
 pub holder : (g : Option ℕ) (me : ℕ) → holds_it g me ≡ true → g ≡ Some me
@@ -85,10 +83,10 @@ module _ (p : StopState) (at : Word → ℕ) (seat : ℕ → Seat) (source : ℕ
   Goes a w found new at' known = GoesOnBy v.setting p seat source v.number at' known (seen_by v.number a w found new)
 
   abbrev Loads : Word → Known → Type 0
-  Loads w known = Goes act.Load w (Some (at w)) None at known
+  Loads w known = Goes Act.Load w (Some (at w)) None at known
 
   abbrev Stores : Word → ℕ → Known → Type 0
-  Stores w n known = Goes act.Store w None (Some n) (put_word at w n) known
+  Stores w n known = Goes Act.Store w None (Some n) (put_word at w n) known
 
   -- a step that leaves all columns
   pub unmoved_columns : Leaves v.number p p v.part
@@ -104,28 +102,28 @@ module _ (p : StopState) (at : Word → ℕ) (seat : ℕ → Seat) (source : ℕ
   holds_alone g b mine others = search arith
 
   pub take_gate : let new = cond (at Gate == 0) (Some (v.number + 1)) None in
-      Goes act.Cas Gate (Some (at Gate)) new (put_if put_word at Gate new) (gate_known act.Cas new v)
+      Goes Act.Cas Gate (Some (at Gate)) new (put_if put_word at Gate new) (gate_known Act.Cas new v)
   take_gate = go (at Gate == 0) refl
     where
       go : (b : Bool) → (at Gate == 0) ≡ b → let new = cond b (Some (v.number + 1)) None in
-          Goes act.Cas Gate (Some (at Gate)) new (put_if put_word at Gate new) (gate_known act.Cas new v)
-      go false e = noted p seat source v sees at v (v.moves ++ own.Busy ∷ []) (still act.Cas Gate (Some (at Gate)) None refl)
+          Goes Act.Cas Gate (Some (at Gate)) new (put_if put_word at Gate new) (gate_known Act.Cas new v)
+      go false e = noted p seat source v sees at v (v.moves ++ own.Busy ∷ []) (still Act.Cas Gate (Some (at Gate)) None refl)
       go true e =
           let p' = record p { gate = Some v.number } in
           let part = record (v.part) { holds = true } in
           noted p seat source v sees (put_word at Gate (v.number + 1)) (record v { part = part }) (v.moves ++ own.Took ∷ [])
           (goes_still p seat source v sees p' (put_word at Gate (v.number + 1)) part
-          (told_so u v.number p p' act.Cas Gate (Some (at Gate)) (Some (v.number + 1)) refl)
+          (told_so u v.number p p' Act.Cas Gate (Some (at Gate)) (Some (v.number + 1)) refl)
           (gate_taken u p at seat source h v.number 0 (eqb-true (at Gate) 0 e))
           (search (holds_alone, eq-eqb, ne_eqb, arith)))
 
-  pub open_gate : v.part.holds ≡ true → is_drafting v.source ≡ false → Stores Gate 0 (gate_known act.Store (Some 0) v)
+  pub open_gate : v.part.holds ≡ true → is_drafting v.source ≡ false → Stores Gate 0 (gate_known Act.Store (Some 0) v)
   open_gate holds idle =
       let mine : p.gate ≡ Some v.number = holder p.gate v.number (sees.part_is.holds ∙ holds) in
       let p' = record p { gate = None } in
       let part = record (v.part) { holds = false } in
       noted p seat source v sees (put_word at Gate 0) (record v { part = part }) (v.moves ++ own.Gave ∷ [])
-      (goes_still p seat source v sees p' (put_word at Gate 0) part (told_so u v.number p p' act.Store Gate None (Some 0) refl)
+      (goes_still p seat source v sees p' (put_word at Gate 0) part (told_so u v.number p p' Act.Store Gate None (Some 0) refl)
       (gate_opened u p at seat source h v.number 0 mine (not_draft (source v.number) v.source sees.source_is idle))
       (holds_alone None false refl (λ c ne. sym (ap (λ g. holds_it g c) mine ∙ ne_eqb v.number c (λ same. ne (sym same))))))
 
@@ -151,11 +149,11 @@ module _ (p : StopState) (at : Word → ℕ) (seat : ℕ → Seat) (source : ℕ
       let next = Drafts work (order f + 1) in
       let x = begun_value cpus work f in
       let p' = record p { now = drafts p.now v.number f x } in
-      let plain : told u p v.number act.Store (Slot v.number f) None (Some x) 0 ≡ p' =
+      let plain : told u p v.number Act.Store (Slot v.number f) None (Some x) 0 ≡ p' =
       ap (λ b. cond b (stored_open p v.number v.number f x) (stored_shut p v.number f x)) d.shut ∙ shut_drafts p v.number f x low in
       let at' = put_word at (Slot v.number f) x in
       goes p seat source v sees p' at' seat (put drafting v.number next) v.seat (told_source next) v.part
-      (told_so u v.number p p' act.Store (Slot v.number f) None (Some x) plain)
+      (told_so u v.number p p' Act.Store (Slot v.number f) None (Some x) plain)
       (subst (λ q. StopShows u q at' seat (put drafting v.number next)) plain
       (field_stored u p at seat drafting (restaged (Drafts work (order f)) d) v.number work (order f) f 0 (put_same source v.number (Drafts work (order f)))
       refl low))
@@ -164,9 +162,9 @@ module _ (p : StopState) (at : Word → ℕ) (seat : ℕ → Seat) (source : ℕ
       (λ c ne. refl) (λ c ne. put_other drafting v.number next c ne ∙ put_other source v.number (Drafts work (order f)) c ne)
 
   pub draft : (work : Work) → v.source ≡ Shut → v.part.holds ≡ true → IsWork u work →
-      Stores (Slot v.number field.Kind) (begun_value cpus work field.Kind) (draft_known (begun_value cpus work field.Kind) v)
+      Stores (Slot v.number Field.Kind) (begun_value cpus work Field.Kind) (draft_known (begun_value cpus work Field.Kind) v)
   draft work shut holds is =
-      let shown' = field_goes work field.Kind (search (holder, is, arith)) (omega arith) in
+      let shown' = field_goes work Field.Kind (search (holder, is, arith)) (omega arith) in
       search (kind_back work.kind, shown', arith)
 
   pub draft_more : (work : Work) (f : Field) → v.source ≡ Drafts (told_work (order f) work) (order f) → IsWork u work → order f ≢ 0 → order f < 10 →
@@ -182,20 +180,20 @@ module _ (p : StopState) (at : Word → ℕ) (seat : ℕ → Seat) (source : ℕ
       search (work, is, d.shut, d.holds, d.stored, d.told, value_same, drafted_same, arith) in
       subst (λ (q : Known). Stores (Slot v.number f) x q) (sym known) (field_goes work f same low)
 
-  pub open_stop : (work : Work) → v.source ≡ Drafts (told_work 10 work) 10 → Stores (Slot v.number field.Roll) work.mask (opened_by v.source v)
+  pub open_stop : (work : Work) → v.source ≡ Drafts (told_work 10 work) 10 → Stores (Slot v.number Field.Roll) work.mask (opened_by v.source v)
   open_stop work e =
       let y = is_draft (source v.number) work 10 (sees.source_is ∙ e) in
       let is : source v.number ≡ Drafts work 10 = y.is ∙ ap (λ z. Drafts z 10) y.same in
       let d : DraftShows u p.gate (p.now.stop v.number) (λ f. at (Slot v.number f)) v.number work 10 = source_here (Drafts work 10) is in
       let t = d.told in
       let same : (p.now.stop v.number).work ≡ work = search (work_ext, work, t.kind, t.mask, t.active, t.func, t.arg, arith) in
-      let at' = put_word at (Slot v.number field.Roll) work.mask in
-      let plain : told u p v.number act.Store (Slot v.number field.Roll) None (Some work.mask) 0 ≡ opens p v.number =
-      ap (λ b. cond b (stored_open p v.number v.number field.Roll work.mask) (stored_shut p v.number field.Roll work.mask)) d.shut in
+      let at' = put_word at (Slot v.number Field.Roll) work.mask in
+      let plain : told u p v.number Act.Store (Slot v.number Field.Roll) None (Some work.mask) 0 ≡ opens p v.number =
+      ap (λ b. cond b (stored_open p v.number v.number Field.Roll work.mask) (stored_shut p v.number Field.Roll work.mask)) d.shut in
       let begun = p.begun v.number ++ (p.now.stop v.number).work ∷ [] in
       let part = record (v.part) { begun = v.part.begun ++ work ∷ [] } in
       let opened = goes_source p seat source v sees (opens p v.number) at' (Owns work) (Owns work) part
-      (told_so u v.number p (opens p v.number) act.Store (Slot v.number field.Roll) None (Some work.mask) plain)
+      (told_so u v.number p (opens p v.number) Act.Store (Slot v.number Field.Roll) None (Some work.mask) plain)
       (subst (λ q. StopShows u q at' seat (put source v.number (Owns work))) plain (roll_stored u p at seat source h v.number work 0 is)) (search (
         put_same,
         same,
@@ -211,33 +209,33 @@ module _ (p : StopState) (at : Word → ℕ) (seat : ℕ → Seat) (source : ℕ
   abbrev looked : Bool → Source → Known
   looked b y = record v { source = y; moves = cond b (v.moves ++ own.NotDone ∷ []) v.moves }
 
-  pub look_done : (w : Work) → v.source ≡ Owns w → Loads (Slot v.number field.Done) (done_known (at (Slot v.number field.Done)) v)
-  look_done w is = subst (λ o. Loads (Slot v.number field.Done) (looked (at (Slot v.number field.Done) == 0) (done_by (at (Slot v.number field.Done)) o)))
+  pub look_done : (w : Work) → v.source ≡ Owns w → Loads (Slot v.number Field.Done) (done_known (at (Slot v.number Field.Done)) v)
+  look_done w is = subst (λ o. Loads (Slot v.number Field.Done) (looked (at (Slot v.number Field.Done) == 0) (done_by (at (Slot v.number Field.Done)) o)))
       (sym is)
       (search (go, arith))
     where
       there : source v.number ≡ Owns w
       there = is_owns (source v.number) w (sees.source_is ∙ is)
 
-      go : (b : Bool) → (at (Slot v.number field.Done) == 0) ≡ b → Loads (Slot v.number field.Done) (looked b (cond b (Owns w) (Collects w)))
-      go true e = subst (λ o. Loads (Slot v.number field.Done) (looked true o)) is
+      go : (b : Bool) → (at (Slot v.number Field.Done) == 0) ≡ b → Loads (Slot v.number Field.Done) (looked b (cond b (Owns w) (Collects w)))
+      go true e = subst (λ o. Loads (Slot v.number Field.Done) (looked true o)) is
           (noted p seat source v sees at v (v.moves ++ own.NotDone ∷ [])
-          (still act.Load (Slot v.number field.Done) (Some (at (Slot v.number field.Done))) None refl))
+          (still Act.Load (Slot v.number Field.Done) (Some (at (Slot v.number Field.Done))) None refl))
       go false e =
-          let one : at (Slot v.number field.Done) ≡ 1 =
+          let one : at (Slot v.number Field.Done) ≡ 1 =
           search (done_is, h.present.slots, arith) in
           goes_source p seat source v sees p at (Collects w) (Collects w) v.part
-          (told_so u v.number p p act.Load (Slot v.number field.Done) (Some (at (Slot v.number field.Done))) None refl)
+          (told_so u v.number p p Act.Load (Slot v.number Field.Done) (Some (at (Slot v.number Field.Done))) None refl)
           (done_loaded u p at seat source h v.number w there one) unmoved_columns
           refl tt
 
-  pub collect : (w : Work) → v.source ≡ Collects w → Loads (Slot v.number field.Result) (collected_known (at (Slot v.number field.Result)) v)
+  pub collect : (w : Work) → v.source ≡ Collects w → Loads (Slot v.number Field.Result) (collected_known (at (Slot v.number Field.Result)) v)
   collect w is =
-      let found = at (Slot v.number field.Result) in
+      let found = at (Slot v.number Field.Result) in
       let there = is_collects (source v.number) w (sees.source_is ∙ is) in
-      let p' = told u p v.number act.Load (Slot v.number field.Result) (Some found) None 0 in
+      let p' = told u p v.number Act.Load (Slot v.number Field.Result) (Some found) None 0 in
       let part = record (v.part) { collected = v.part.collected ++ found ∷ [] } in
       noted p seat source v sees at (record v { source = Shut; part = part }) (v.moves ++ own.Collected found ∷ [])
       (goes_source p seat source v sees p' at Shut Shut part
-      (told_so u v.number p p' act.Load (Slot v.number field.Result) (Some found) None refl) (result_loaded u p at seat source h v.number w 0 there)
+      (told_so u v.number p p' Act.Load (Slot v.number Field.Result) (Some found) None refl) (result_loaded u p at seat source h v.number w 0 there)
       (search (put_same, put_other, arith)) refl tt)

@@ -1,15 +1,13 @@
 -- Each step that a CPU may make is counted once, but for the stores that are due.
 use Rattle.std.proofs.Common.{◌≡◌, ℕ, ◌+◌, ◌==◌, ◌&&◌, not, Bool, true, false, cond, Option, Some, None, refl, ap, ◌∙◌, arith}
-use Rattle.smp_stop_steps.specs.{begun_value, cpus, has, mask_weight, seen_of, Seat, Free, In, Gives, Alters, Closes, Source, Shut, Drafts, Owns, Collects}
+use Rattle.smp_stop_steps.specs.{begun_value, cpus, has, mask_weight, seen_of, Seat, Free, In, Gives, Alters, Closes, Source, Shut, Drafts, Owns, Collects, Act}
 use Rattle.smp_stop_steps.specs.{Field, Work, acked_by, called_by, completed_by, drafted_known, entered_known, gate_known, is_drafting, key_known}
 use Rattle.smp_stop_steps.specs.{key_loaded_by, learned, is_due, is_due_field, member_stored, opened_by, order, raised_by, slot_known, slot_stored, told_work}
-use Rattle.smp_stop_steps.specs.{Act, Word, Slot, Known.Known, Known.stepped, KnownLaws.KnownStepsCount, KnownLaws.weight_of}
+use Rattle.smp_stop_steps.specs.{Slot, Known.Known, Known.stepped, KnownLaws.KnownStepsCount, KnownLaws.weight_of}
 use Rattle.smp_stop_steps.specs.Moves.{Move, TakeGate, OpenGate, Draft, DraftMore, Open, Enter, Look, Acknowledge, AcknowledgePatch, Refill, Raise, Give, Count}
 use Rattle.smp_stop_steps.specs.Moves.{CountGiven, Close, LookDone, Collect, ReadKey, ReadSite, Nudge, BeginPatch, Alter, LoadArg, LoadField, LoadEntry}
 use Rattle.smp_stop_steps.specs.Moves.{MayStep, known_access}
 use Rattle.smp_labels.specs.declared.patch.Place.TheVariants as place
-use Rattle.smp_stop_steps.specs.act
-use Rattle.smp_stop_steps.specs.field
 
 -- what a step tells has no part in how many there were
 
@@ -18,7 +16,7 @@ either true x y n e f = e
 either false x y n e f = f
 
 module _ (v : Known) where
-  gate : (put : Option ℕ) → (gate_known act.Cas put v).steps ≡ v.steps
+  gate : (put : Option ℕ) → (gate_known Act.Cas put v).steps ≡ v.steps
   gate (Some n) = refl
   gate None = refl
 
@@ -63,7 +61,7 @@ module _ (v : Known) where
   key_loaded k found (Alters s w count made rest) = refl
   key_loaded k found (Closes s) = refl
 
-  nudged : (k found : ℕ) (put : Option ℕ) → (key_known act.Cas k (Some found) put v).steps ≡ v.steps
+  nudged : (k found : ℕ) (put : Option ℕ) → (key_known Act.Cas k (Some found) put v).steps ≡ v.steps
   nudged k found (Some n) = refl
   nudged k found None = refl
 
@@ -73,46 +71,46 @@ module _ (v : Known) where
 
   -- a store to a slot, of a CPU that drafts or not
   member : (f : Field) (n : ℕ) → (member_stored f n v).steps ≡ v.steps
-  member field.Kind n = refl
-  member field.Mask n = refl
-  member field.Active n = refl
-  member field.Func n = refl
-  member field.Arg n = refl
-  member field.State n = raised n v.seat
-  member field.Ack n = refl
-  member field.Roll n = refl
-  member field.Todo n = refl
-  member field.Result n = refl
-  member field.Done n = refl
+  member Field.Kind n = refl
+  member Field.Mask n = refl
+  member Field.Active n = refl
+  member Field.Func n = refl
+  member Field.Arg n = refl
+  member Field.State n = raised n v.seat
+  member Field.Ack n = refl
+  member Field.Roll n = refl
+  member Field.Todo n = refl
+  member Field.Result n = refl
+  member Field.Done n = refl
 
   drafted : (f : Field) (n : ℕ) → (cond (is_drafting v.source) (drafted_known f n v) (member_stored f n v)).steps ≡ v.steps
   drafted f n = either (is_drafting v.source) (drafted_known f n v) (member_stored f n v) v.steps refl (member f n)
 
   stored : (f : Field) (n : ℕ) → (slot_stored f n v).steps ≡ v.steps
-  stored field.Kind n = refl
-  stored field.Mask n = drafted field.Mask n
-  stored field.Active n = drafted field.Active n
-  stored field.Func n = drafted field.Func n
-  stored field.Arg n = drafted field.Arg n
-  stored field.State n = drafted field.State n
-  stored field.Ack n = drafted field.Ack n
-  stored field.Roll n = opened v.source
-  stored field.Todo n = drafted field.Todo n
-  stored field.Result n = drafted field.Result n
-  stored field.Done n = drafted field.Done n
+  stored Field.Kind n = refl
+  stored Field.Mask n = drafted Field.Mask n
+  stored Field.Active n = drafted Field.Active n
+  stored Field.Func n = drafted Field.Func n
+  stored Field.Arg n = drafted Field.Arg n
+  stored Field.State n = drafted Field.State n
+  stored Field.Ack n = drafted Field.Ack n
+  stored Field.Roll n = opened v.source
+  stored Field.Todo n = drafted Field.Todo n
+  stored Field.Result n = drafted Field.Result n
+  stored Field.Done n = drafted Field.Done n
 
-  loaded : (w : Work) (s n : ℕ) (f : Field) → (slot_known w v s act.Load f (Some n) None).steps ≡ v.steps
-  loaded w s n field.Kind = refl
-  loaded w s n field.Mask = refl
-  loaded w s n field.Active = refl
-  loaded w s n field.Func = refl
-  loaded w s n field.Arg = called n v.seat
-  loaded w s n field.State = refl
-  loaded w s n field.Ack = refl
-  loaded w s n field.Roll = refl
-  loaded w s n field.Todo = refl
-  loaded w s n field.Result = refl
-  loaded w s n field.Done = refl
+  loaded : (w : Work) (s n : ℕ) (f : Field) → (slot_known w v s Act.Load f (Some n) None).steps ≡ v.steps
+  loaded w s n Field.Kind = refl
+  loaded w s n Field.Mask = refl
+  loaded w s n Field.Active = refl
+  loaded w s n Field.Func = refl
+  loaded w s n Field.Arg = called n v.seat
+  loaded w s n Field.State = refl
+  loaded w s n Field.Ack = refl
+  loaded w s n Field.Roll = refl
+  loaded w s n Field.Todo = refl
+  loaded w s n Field.Result = refl
+  loaded w s n Field.Done = refl
 
   told : (m : Move) (found : ℕ) (w : Work) → let seen = seen_of v.number (known_access v m) found None in
       (learned w v seen.act seen.word seen.found seen.put).steps ≡ v.steps
@@ -125,12 +123,12 @@ module _ (v : Known) where
   told (Look s x a l) found w = refl
   told (Acknowledge s x a) found w = acked found v.seat
   told (AcknowledgePatch s x count made) found w = acked found v.seat
-  told (Refill s x a l) found w = stored field.Ack (mask_weight cpus x.mask)
-  told (Raise s x a l) found w = stored field.State (a + 1)
-  told (Give s x a l n) found w = stored field.Result n
+  told (Refill s x a l) found w = stored Field.Ack (mask_weight cpus x.mask)
+  told (Raise s x a l) found w = stored Field.State (a + 1)
+  told (Give s x a l n) found w = stored Field.Result n
   told (Count s x a l) found w = completed found v.seat
   told (CountGiven s x a n) found w = completed found v.seat
-  told (Close s) found w = stored field.Done 1
+  told (Close s) found w = stored Field.Done 1
   told (LookDone x) found w = refl
   told (Collect x) found w = refl
   told (ReadKey k) found w = key_loaded k found v.seat
@@ -151,8 +149,8 @@ module _ (v : Known) where
 
   -- a store to a slot, of a CPU that drafts, is none that is due
   drafts : (f : Field) (y : Source) (w : Work) (k : ℕ) → y ≡ Drafts w k
-      → let one : ℕ = 1 in cond (is_due (is_drafting y) act.Store (Slot v.number f)) 0 one ≡ one
-  drafts f y w k is = ap (λ (z : Source). cond (is_due (is_drafting z) act.Store (Slot v.number f)) 0 1) is ∙ none (is_due_field f)
+      → let one : ℕ = 1 in cond (is_due (is_drafting y) Act.Store (Slot v.number f)) 0 one ≡ one
+  drafts f y w k is = ap (λ (z : Source). cond (is_due (is_drafting z) Act.Store (Slot v.number f)) 0 1) is ∙ none (is_due_field f)
     where
       none : (b : Bool) → let one : ℕ = 1 in cond (b && false) 0 one ≡ one
       none true = refl

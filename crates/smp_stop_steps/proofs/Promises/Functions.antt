@@ -1,9 +1,8 @@
 -- When a stop function runs, and who is to store done.
 use Rattle.std.proofs.Common.{◌≡◌, ℕ, true, sym, refl, ◌∙◌, arith}
 use Rattle.smp_stop_steps.specs.{IsLast, IsClosing, HasFunctions, Seat, Closes, StopShows, DoneShows, Source, Setup, StopState, Ending, Running, Last, Ended}
-use Rattle.smp_stop_steps.specs.{Inside, is_multi, Kind as KindOf, Multi, Word, Slot, RunsAlone}
+use Rattle.smp_stop_steps.specs.{Inside, is_multi, Kind as KindOf, Multi, Word, Slot, RunsAlone, Field}
 use Rattle.smp_stop_steps.proofs.{Basics.Bools.both_true, State.Ends.function_law, State.Patched.all_off}
-use Rattle.smp_stop_steps.specs.field
 
 multi_kind : (k : KindOf) → is_multi k ≡ true → k ≡ Multi
 multi_kind k e = search arith
@@ -21,7 +20,7 @@ module _ (u : Setup) (p : StopState) (at : Word → ℕ) (seat : ℕ → Seat) (
       one_last : (c : ℕ) → (p.now.stop s).ending ≡ Last c → (d : ℕ) → seat d ≡ Closes s → d ≡ c
       one_last c e d is = search (h.present.stands, arith)
 
-      go : (e : Ending) → (p.now.stop s).ending ≡ e → DoneShows u.cpus (p.now.stop s).standing e (at (Slot s field.Done)) → (c : ℕ) × IsLast p seat s c
+      go : (e : Ending) → (p.now.stop s).ending ≡ e → DoneShows u.cpus (p.now.stop s).standing e (at (Slot s Field.Done)) → (c : ℕ) × IsLast p seat s c
       go Running e d = absurd (d.1 (sym ((h.present.slots s).shows op).todo ∙ none))
       go (Last c) e d = let k = h.closing s c op e in (c, record { ending = e; completed = k.1; closes = k.0; alone = one_last c e })
       go Ended e d = absurd (let one = d.0 in omega arith)

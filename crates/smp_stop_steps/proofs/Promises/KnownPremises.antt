@@ -15,8 +15,6 @@ use Rattle.smp_stop_steps.proofs.Knows.KnownSources.{holder, is_draft, is_owns, 
 use Rattle.smp_stop_steps.proofs.State.Acknowledged.{fills_me, rests_me, sets_me}
 use Rattle.smp_stop_steps.proofs.{Basics.Counts.sum_zero, Knows.KnownRounds.stands, Knows.KnownRounds.open_at, State.Gates.gate_free, State.Phases.keeps_inside}
 use Rattle.smp_stop_steps.proofs.{State.Raises.all_acknowledged, State.Raises.in_machine, State.Works.called_is, Steps.Completions.one_phase}
-use Rattle.smp_stop_steps.specs.field
-use Rattle.smp_stop_steps.specs.place
 
 -- a word that is no label
 abbrev IsOther : Word → Type 0
@@ -73,7 +71,7 @@ module _ (p : StopState) (at : Word → ℕ) (seat : ℕ → Seat) (source : ℕ
   phase_is : (s a : ℕ) → (p.now.stop s).standing me ≡ Inside a (a + 1) → (p.now.stop s).phase ≡ a + 1
   phase_is s a is = search (keeps_inside, h.present.slots, arith)
 
-  raised : (s : ℕ) (w : Work) (a l : ℕ) → v.seat ≡ In s w a l Sets → MayStore p me s field.State (a + 1)
+  raised : (s : ℕ) (w : Work) (a l : ℕ) → v.seat ≡ In s w a l Sets → MayStore p me s Field.State (a + 1)
   raised s w a l is = search (at_seat, opened, h.present.slots, sets_me, all_acknowledged, keeps_inside, arith)
 
   through : (s : ℕ) (w : Work) (a l : ℕ) → IsThroughAll w a → v.seat ≡ In s w a l Rests → IsThrough (p.now.stop s) me a
@@ -96,16 +94,16 @@ module _ (p : StopState) (at : Word → ℕ) (seat : ℕ → Seat) (source : ℕ
   at_run_patching s w count made rest is = let st = at_seat (Alters s w count made rest) is in (s, st.0, st.1)
 
   altering : (change : Change) → IsAtRun p me → IsPremised (store_of change)
-  altering (place.Key k, n) run = run
-  altering (place.Site i, n) run = run
+  altering (Place.Key k, n) run = run
+  altering (Place.Site i, n) run = run
 
   ended : (w : Work) → v.source ≡ Collects w → IsPremised (known_access v (Collect w))
   ended w is =
       let there = is_collects (source me) w (sees.source_is ∙ is) in
       let o : OwnerShows u (p.now.stop me) w × ((p.now.stop me).ending ≡ Ended) = source_is (Collects w) there in
       let op = o.0.is_open in
-      let d : DoneShows u.cpus (p.now.stop me).standing Ended (slot me field.Done) = subst (λ e. DoneShows u.cpus (p.now.stop me).standing e
-      (slot me field.Done)) o.1 ((h.present.slots me).shows op).done in (
+      let d : DoneShows u.cpus (p.now.stop me).standing Ended (slot me Field.Done) = subst (λ e. DoneShows u.cpus (p.now.stop me).standing e
+      (slot me Field.Done)) o.1 ((h.present.slots me).shows op).done in (
         refl,
         op,
         λ d' of.
@@ -121,19 +119,19 @@ module _ (p : StopState) (at : Word → ℕ) (seat : ℕ → Seat) (source : ℕ
   may_see : (m : Move) → MayStep v m → IsPremised (known_access v m)
   may_see TakeGate m = search (gate_free, h.gate, eqb-true, arith)
   may_see OpenGate m = gate_is m.0
-  may_see (Draft w) m = stored_shut (begun_value cpus w field.Kind) field.Kind (source_is Shut (is_shut (source me) (sees.source_is ∙ m.0))) (gate_is m.1)
+  may_see (Draft w) m = stored_shut (begun_value cpus w Field.Kind) Field.Kind (source_is Shut (is_shut (source me) (sees.source_is ∙ m.0))) (gate_is m.1)
   may_see (DraftMore w f) m = drafting w (order f) (begun_value cpus w f) f m.0
-  may_see (Open w) m = drafting w (order field.Roll) w.mask field.Roll m.0
+  may_see (Open w) m = drafting w (order Field.Roll) w.mask Field.Roll m.0
   may_see (Enter s) m = search (at_seat, called_is, h.present.slots, arith)
   may_see (Look s w a l) m = (at_seat (In s w a l Rests) m.0).0
   may_see (Acknowledge s w a) m = let st = at_seat (In s w a (a + 1) Rests) m.0 in (st.0, (a, st.1, phase_is s a st.1))
   may_see (AcknowledgePatch s w count made) m = let st = at_seat (Alters s w count made []) m in (st.0, (2, st.1, phase_is s 2 st.1))
   may_see (Refill s w a l) m = search (at_seat, stored_open, opened, fills_me, arith)
-  may_see (Raise s w a l) m = stored_open s (a + 1) field.State (opened s w a l Sets m.0) (raised s w a l m.0)
-  may_see (Give s w a l x) m = stored_open s x field.Result (opened s w a l Rests m.0) (through_there s w a l m.1 m.0)
+  may_see (Raise s w a l) m = stored_open s (a + 1) Field.State (opened s w a l Sets m.0) (raised s w a l m.0)
+  may_see (Give s w a l x) m = stored_open s x Field.Result (opened s w a l Rests m.0) (through_there s w a l m.1 m.0)
   may_see (Count s w a l) m = through_there s w a l m.1 m.0
   may_see (CountGiven s w a x) m = search (at_seat, keeps_inside, h.present.slots, rests_me, arith)
-  may_see (Close s) m = let st = at_seat (Closes s) m.0 in stored_open s 1 field.Done st.1 (refl, st.2)
+  may_see (Close s) m = let st = at_seat (Closes s) m.0 in stored_open s 1 Field.Done st.1 (refl, st.2)
   may_see (LookDone w) m =
       let o : OwnerShows u (p.now.stop me) w = source_is (Owns w) (is_owns (source me) w (sees.source_is ∙ m)) in (refl, o.is_open)
   may_see (Collect w) m = ended w m
@@ -151,8 +149,8 @@ module _ (p : StopState) (at : Word → ℕ) (seat : ℕ → Seat) (source : ℕ
     where
       next_is : (x : Place) (n : ℕ) (change : Change) → label_stored (store_of (x, n)) ≡ Some change
           → p.now.patching ≡ Patches me w count made ((x, n) ∷ rest) → IsNextOfPatch p me change
-      next_is (place.Key k) n change e is = search arith
-      next_is (place.Site i) n change e is = search arith
+      next_is (Place.Key k) n change e is = search arith
+      next_is (Place.Site i) n change e is = search arith
   labels TakeGate m change e = cc
   labels OpenGate m change e = cc
   labels (Draft w) m change e = cc
@@ -204,19 +202,19 @@ module _ (p : StopState) (at : Word → ℕ) (seat : ℕ → Seat) (source : ℕ
   stands_still : (m : Move) → MayStep v m → p.now.patching ≡ Whole → KeysStand at (at_after at (known_access v m))
   stands_still TakeGate may whole = gate (at Gate == 0)
   stands_still OpenGate may whole = other Gate 0 tt
-  stands_still (Draft w) may whole = other (Slot me field.Kind) (begun_value cpus w field.Kind) tt
+  stands_still (Draft w) may whole = other (Slot me Field.Kind) (begun_value cpus w Field.Kind) tt
   stands_still (DraftMore w f) may whole = other (Slot me f) (begun_value cpus w f) tt
-  stands_still (Open w) may whole = other (Slot me field.Roll) w.mask tt
-  stands_still (Enter s) may whole = other (Slot s field.Roll) (bit_and (at (Slot s field.Roll)) (all_but me)) tt
+  stands_still (Open w) may whole = other (Slot me Field.Roll) w.mask tt
+  stands_still (Enter s) may whole = other (Slot s Field.Roll) (bit_and (at (Slot s Field.Roll)) (all_but me)) tt
   stands_still (Look s w a l) may whole = same
-  stands_still (Acknowledge s w a) may whole = other (Slot s field.Ack) (one_less (at (Slot s field.Ack))) tt
-  stands_still (AcknowledgePatch s w count made) may whole = other (Slot s field.Ack) (one_less (at (Slot s field.Ack))) tt
-  stands_still (Refill s w a l) may whole = other (Slot s field.Ack) (mask_weight cpus w.mask) tt
-  stands_still (Raise s w a l) may whole = other (Slot s field.State) (a + 1) tt
-  stands_still (Give s w a l x) may whole = other (Slot s field.Result) x tt
-  stands_still (Count s w a l) may whole = other (Slot s field.Todo) (one_less (at (Slot s field.Todo))) tt
-  stands_still (CountGiven s w a x) may whole = other (Slot s field.Todo) (one_less (at (Slot s field.Todo))) tt
-  stands_still (Close s) may whole = other (Slot s field.Done) 1 tt
+  stands_still (Acknowledge s w a) may whole = other (Slot s Field.Ack) (one_less (at (Slot s Field.Ack))) tt
+  stands_still (AcknowledgePatch s w count made) may whole = other (Slot s Field.Ack) (one_less (at (Slot s Field.Ack))) tt
+  stands_still (Refill s w a l) may whole = other (Slot s Field.Ack) (mask_weight cpus w.mask) tt
+  stands_still (Raise s w a l) may whole = other (Slot s Field.State) (a + 1) tt
+  stands_still (Give s w a l x) may whole = other (Slot s Field.Result) x tt
+  stands_still (Count s w a l) may whole = other (Slot s Field.Todo) (one_less (at (Slot s Field.Todo))) tt
+  stands_still (CountGiven s w a x) may whole = other (Slot s Field.Todo) (one_less (at (Slot s Field.Todo))) tt
+  stands_still (Close s) may whole = other (Slot s Field.Done) 1 tt
   stands_still (LookDone w) may whole = same
   stands_still (Collect w) may whole = same
   stands_still (ReadKey k) may whole = same

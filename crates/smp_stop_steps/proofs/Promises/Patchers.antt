@@ -6,7 +6,6 @@ use Rattle.smp_stop_steps.specs.{Change, Patching, LabelsShow, labels_in, is_bet
 use Rattle.smp_stop_steps.specs.{StopShows, SitsAt, SitsInRound, Source, StopControlValue, change_at, completion_access, round_access, stop_access, store_of}
 use Rattle.smp_stop_steps.specs.{Setup, StopState, RoundStage, CompletionStage, StopStage, Visit, Word, Gate, Sits.Sits}
 use Rattle.smp_stop_steps.proofs.{State.Ends.function_law, State.Patched.all_off, Steps.Facts.patcher_active, Steps.RoundSteps.change_here}
-use Rattle.smp_stop_steps.specs.round
 
 -- between its first and its last store alone a patch leaves the table unlawful
 pub lawful_outside : (x : Patching) (t : Table) → LabelsShow x t → is_between x ≡ false → IsLawful t
@@ -26,7 +25,7 @@ module _ (u : Setup) (p : StopState) (at : Word → ℕ) (seat : ℕ → Seat) (
     stored_itself : (x : Change) → label_stored (store_of x) ≡ Some x
     stored_itself x = search arith
 
-    store_is_next : (v : Visit) (made : ℕ) → SitsInRound u me c.changes v (round.StoreChange made) (seat me) → (change : Change) →
+    store_is_next : (v : Visit) (made : ℕ) → SitsInRound u me c.changes v (RoundStage.StoreChange made) (seat me) → (change : Change) →
         label_stored (store_of (change_at c.changes made)) ≡ Some change → IsNext change
     store_is_next v made s change e = go s.6.0 s.6.1 s.6.2 s.6.3 s.6.4
       where
@@ -36,15 +35,15 @@ module _ (u : Setup) (p : StopState) (at : Word → ℕ) (seat : ℕ → Seat) (
 
     in_round : (v : Visit) (stage : RoundStage) → SitsInRound u me c.changes v stage (seat me) → (change : Change) →
         label_stored (round_access u.cpus c.changes v stage) ≡ Some change → IsNext change
-    in_round v (round.StoreChange made) s change e = store_is_next v made s change e
-    in_round v (round.Look answer) s change e = cc
-    in_round v (round.LoadFunc answer) s change e = cc
-    in_round v (round.LoadArg answer func) s change e = cc
-    in_round v (round.LoadKey key to) s change e = cc
-    in_round v (round.LoadEntry key word site) s change e = cc
-    in_round v (round.Acknowledge answer ran) s change e = cc
-    in_round v (round.Refill ran) s change e = cc
-    in_round v (round.Raise ran) s change e = cc
+    in_round v (RoundStage.StoreChange made) s change e = store_is_next v made s change e
+    in_round v (RoundStage.Look answer) s change e = cc
+    in_round v (RoundStage.LoadFunc answer) s change e = cc
+    in_round v (RoundStage.LoadArg answer func) s change e = cc
+    in_round v (RoundStage.LoadKey key to) s change e = cc
+    in_round v (RoundStage.LoadEntry key word site) s change e = cc
+    in_round v (RoundStage.Acknowledge answer ran) s change e = cc
+    in_round v (RoundStage.Refill ran) s change e = cc
+    in_round v (RoundStage.Raise ran) s change e = cc
 
     in_completion : (v : Visit) (stage : CompletionStage) (change : Change) → label_stored (completion_access v stage) ≡ Some change → IsNext change
     in_completion v stage change e = search arith

@@ -10,7 +10,6 @@ use Rattle.smp_stop_steps.specs.declared.stage.StopStage.TheVariants.{ReadKey, R
 use Rattle.smp_stop_steps.proofs.State.Acknowledged.{fills_me, rests_me, sets_me}
 use Rattle.smp_stop_steps.proofs.{State.Gates.gate_free, State.Gates.gate_mine, Basics.Counts.sum_zero, State.Raises.in_machine, State.Works.called_is}
 use Rattle.smp_stop_steps.proofs.{Steps.Completions.one_phase, State.Phases.is_open_inside, State.Phases.keeps_inside, State.Raises.all_acknowledged}
-use Rattle.smp_stop_steps.specs.field
 use Rattle.smp_stop_steps.specs.round
 
 completed_is : (x : Standing) → is_of x ≡ true → unfinished x ≡ 0 → HasCompleted x
@@ -44,7 +43,7 @@ module _ (u : Setup) (p : StopState) (at : Word → ℕ) (seat : ℕ → Seat) (
   through : (j : ℕ) (w : Work) (v : Visit) → IsLoaded v w → IsThroughAll v → seat me ≡ In j w v.acked v.acked Rests → IsThrough (p.now.stop j) me v.acked
   through j w v loaded all is = search (stands, v.acked, h.present.slots, open_in, one_phase, rests_me, arith)
 
-  raised : (j : ℕ) (w : Work) (a : ℕ) → seat me ≡ In j w a a Sets → MayStore p me j field.State (a + 1)
+  raised : (j : ℕ) (w : Work) (a : ℕ) → seat me ≡ In j w a a Sets → MayStore p me j Field.State (a + 1)
   raised j w a is = search (stands, open_in, h.present.slots, sets_me, all_acknowledged, arith)
 
   in_round : (v : Visit) (stage : RoundStage) → SitsInRound u me c.changes v stage (seat me) → May (round_access u.cpus c.changes v stage)
@@ -63,7 +62,7 @@ module _ (u : Setup) (p : StopState) (at : Word → ℕ) (seat : ℕ → Seat) (
       phase : (a : ℕ) → (p.now.stop v.slot).standing me ≡ Inside a (a + 1) → (p.now.stop v.slot).phase ≡ a + 1
       phase a is = search (keeps_inside, h.present.slots, arith)
   in_round v (round.Refill ran) x = search (stands, v.acked, stored_open, open_in, fills_me, arith)
-  in_round v (round.Raise ran) x = stored_open v.slot (v.acked + 1) field.State (open_in v.slot x.0 v.acked v.acked Sets x.2) (raised v.slot x.0 v.acked x.2)
+  in_round v (round.Raise ran) x = stored_open v.slot (v.acked + 1) Field.State (open_in v.slot x.0 v.acked v.acked Sets x.2) (raised v.slot x.0 v.acked x.2)
 
   in_completion : (v : Visit) (stage : CompletionStage) → SitsInCompletion v stage (seat me) → May (completion_access v stage)
   in_completion v stage x = search (stands, v.acked, stored_open, open_in, through, keeps_inside, h.present.slots, rests_me, arith)
@@ -79,13 +78,13 @@ module _ (u : Setup) (p : StopState) (at : Word → ℕ) (seat : ℕ → Seat) (
   at_stage (EnterActive j kind mask) x y g = (stands (In j x.0 0 0 Rests) x.1).0
   at_stage (Advance v stage) x y g = in_round v stage x.1
   at_stage (Complete v stage) x y g = in_completion v stage x.1
-  at_stage (Close j) x y g = let st = stands (Closes j) x.1 in stored_open j 1 field.Done st.1 (refl, st.2)
+  at_stage (Close j) x y g = let st = stands (Closes j) x.1 in stored_open j 1 Field.Done st.1 (refl, st.2)
   at_stage LoadDone x y g = let o : OwnerShows u (p.now.stop me) y.1.0 = source_is (Owns y.1.0) y.1.1 in (refl, o.is_open)
   at_stage LoadResult x y g =
       let o : OwnerShows u (p.now.stop me) y.1.0 × ((p.now.stop me).ending ≡ Ended) = source_is (Collects y.1.0) y.1.1 in
       let op = o.0.is_open in
-      let d : DoneShows u.cpus (p.now.stop me).standing Ended (slot me field.Done) = subst (λ e. DoneShows u.cpus (p.now.stop me).standing e
-      (slot me field.Done)) o.1 ((h.present.slots me).shows op).done in (
+      let d : DoneShows u.cpus (p.now.stop me).standing Ended (slot me Field.Done) = subst (λ e. DoneShows u.cpus (p.now.stop me).standing e
+      (slot me Field.Done)) o.1 ((h.present.slots me).shows op).done in (
         refl,
         op,
         λ d' of.

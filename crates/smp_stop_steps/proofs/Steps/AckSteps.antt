@@ -5,12 +5,11 @@ use Rattle.smp_words.proofs.Puts.{at_test}
 use Rattle.smp_words.specs.declared.field.Field.TheVariants.{Ack}
 use Rattle.smp_stop_steps.specs.{put, put_word, mask_weight, patch_answer, Alters, Fills, In, Rests, Seat, Sets, StopShows, HasRun, RunsIf, IsLoaded, OwnsIf}
 use Rattle.smp_stop_steps.specs.{Source, StopControlValue, stop_goes, turn_ends, visit_acked, Setup, StopState, Calling, StopStep, at_then, state_after, told}
-use Rattle.smp_stop_steps.specs.{plan_at, Advance, StopStage, Visit, Work, Gate, Slot, Word, has, CarriesIn, CarriesAt, IsAcking, HasCalled, Sits.Sits}
+use Rattle.smp_stop_steps.specs.{plan_at, Advance, StopStage, Visit, Work, Gate, Slot, Word, has, CarriesIn, CarriesAt, IsAcking, HasCalled, Sits.Sits, Act}
 use Rattle.smp_stop_steps.proofs.Steps.Facts.{ack_bounds, ack_bounds_patched, patcher_active}
 use Rattle.smp_stop_steps.proofs.Steps.Rounds.{ack_stored, ack_subtracted, ack_subtracted_patched, state_stored}
 use Rattle.smp_stop_steps.proofs.{Basics.Bools.or_false, Basics.Bools.or_true, Steps.Same.moved_seat, Steps.RoundSteps.ack_small, Steps.StageSteps.less_one}
 use Rattle.smp_stop_steps.proofs.{Steps.Stages.in_round, Steps.Stages.round_source}
-use Rattle.smp_stop_steps.specs.act
 use Rattle.smp_stop_steps.specs.round
 
 module _ (u : Setup) (p : StopState) (at : Word → ℕ) (seat : ℕ → Seat) (source : ℕ → Source) (h : StopShows u p at seat source) (c : StopControlValue) (me : ℕ)
@@ -81,8 +80,8 @@ module _ (u : Setup) (p : StopState) (at : Word → ℕ) (seat : ℕ → Seat) (
       let work = r.1.0 in
       let loaded = r.1.1 in
       let next = In v.slot work v.acked v.acked Sets in
-      let shows' = subst (λ m. StopShows u (told u p me act.Store (Slot v.slot Ack) None (Some (mask_weight u.cpus m)) 0) (put_word at (Slot v.slot Ack)
-      (mask_weight u.cpus m)) (put seat me next) (put source me (source me))) (sym loaded.mask) (moved_seat u seat source me (told u p me act.Store (Slot
+      let shows' = subst (λ m. StopShows u (told u p me Act.Store (Slot v.slot Ack) None (Some (mask_weight u.cpus m)) 0) (put_word at (Slot v.slot Ack)
+      (mask_weight u.cpus m)) (put seat me next) (put source me (source me))) (sym loaded.mask) (moved_seat u seat source me (told u p me Act.Store (Slot
       v.slot Ack) None (Some (mask_weight u.cpus work.mask)) 0) (put_word at (Slot v.slot Ack) (mask_weight u.cpus work.mask)) next (ack_stored u p at
       seat source h v.slot me work v.acked v.acked 0 r.1.2)) in
       search (shows', round_source, arith)

@@ -9,9 +9,6 @@ use Rattle.smp_stop_steps.specs.{nudge_on, round_access, round_outcome, stop_acc
 use Rattle.smp_stop_steps.specs.{is_multi, EXIT, CompletionStage, RoundStage, StopStage, Advance, Begin, Close, Complete, Enter, EnterActive, EnterKind}
 use Rattle.smp_stop_steps.specs.{EnterMask, ExchangeKey, LoadDone, LoadResult, NudgeKey, OpenGate, TakeGate, Visit}
 use Rattle.smp_stop_steps.specs.declared.stage.StopStage.TheVariants.{ReadKey, ReadSite}
-use Rattle.smp_stop_steps.specs.field
-use Rattle.smp_stop_steps.specs.note
-use Rattle.smp_stop_steps.specs.completion
 use Rattle.smp_stop_steps.specs.round
 
 either : (b : Bool) (n m : ℕ) → IsI32Word n → IsI32Word m → IsI32Word (cond b n m)
@@ -31,10 +28,10 @@ module _ (at : Word → ℕ) (h : AreI32Words at) where
   begun_after cpus me work f = search (either, arith)
 
   completion_after : (v : Visit) → IsI32Word v.answer → (st : CompletionStage) → AreI32Words (at_after at (completion_access v st))
-  completion_after v small (completion.LoadFunc answer) = h
-  completion_after v small (completion.LoadArg answer func) = h
-  completion_after v small completion.StoreAnswer = λ s. either (s == v.slot) v.answer (at (Slot s field.Result)) small (h s)
-  completion_after v small completion.CountDown = λ s. h s
+  completion_after v small (CompletionStage.LoadFunc answer) = h
+  completion_after v small (CompletionStage.LoadArg answer func) = h
+  completion_after v small CompletionStage.StoreAnswer = λ s. either (s == v.slot) v.answer (at (Slot s Field.Result)) small (h s)
+  completion_after v small CompletionStage.CountDown = λ s. h s
 
   round_after : (n : ℕ) (changes : List Change) (v : Visit) (st : RoundStage) → AreI32Words (at_after at (round_access n changes v st))
   round_after n changes v (round.Look answer) = h
@@ -85,7 +82,7 @@ module _ (me : ℕ) (c : StopControlValue) (stage : StopStage) (found : ℕ) (h 
   begun work f = search (goes, arith)
 
   turn_said : (p : ℕ) (ran : Bool) → NoteAnswers stage found (Some (turn_note p ran))
-  turn_said p ran = said (p == EXIT) note.Left (cond ran note.Ran (note.Moved p)) tt (said ran note.Ran (note.Moved p) tt tt)
+  turn_said p ran = said (p == EXIT) Note.Left (cond ran Note.Ran (Note.Moved p)) tt (said ran Note.Ran (Note.Moved p) tt tt)
 
   nudged : (k : ℕ) (x : Option ℕ) → AnswersGo stage found (nudge_on c k found x)
   nudged k x = search (ends, choose, goes, arith)
@@ -114,7 +111,7 @@ module _ (me : ℕ) (c : StopControlValue) (v : Visit) (found : ℕ) (h : HasI32
   stored stage made n = search arith
 
   called : (answer func : ℕ) → IsI32Word answer → (b : Bool) → AnswersGo (Advance v (round.LoadArg answer func)) found
-      (cond b record { control = record c { stage = Some (Advance v (round.Acknowledge answer true)) }; note = Some (note.Run func found) }
+      (cond b record { control = record c { stage = Some (Advance v (round.Acknowledge answer true)) }; note = Some (Note.Run func found) }
       (stop_goes c (Advance v (round.LoadKey func (change_of found)))))
   called answer func fits b = search arith
 
@@ -129,11 +126,11 @@ module _ (me : ℕ) (c : StopControlValue) (v : Visit) (found : ℕ) (h : HasI32
   round_goes (round.Refill ran) x = goes me c (Advance v (round.Refill ran)) found h (Advance v (round.Raise ran)) x (inr refl)
   round_goes (round.Raise ran) x = turn_over (Advance v (round.Raise ran)) c.visit h.visit v.acked ran
 
-  given : (answer func : ℕ) → IsI32Word answer → (b : Bool) → AnswersGo (Complete v (completion.LoadArg answer func)) found
+  given : (answer func : ℕ) → IsI32Word answer → (b : Bool) → AnswersGo (Complete v (CompletionStage.LoadArg answer func)) found
       (let w = record v { answer = answer } in
       record {
-        control = record c { stage = Some (Complete w (cond b completion.CountDown completion.StoreAnswer)); visit = Some w };
-        note = Some (note.Run func found);
+        control = record c { stage = Some (Complete w (cond b CompletionStage.CountDown CompletionStage.StoreAnswer)); visit = Some w };
+        note = Some (Note.Run func found);
       })
   given answer func fits b = search arith
 

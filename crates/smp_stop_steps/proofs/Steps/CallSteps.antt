@@ -6,16 +6,13 @@ use Rattle.smp_words.proofs.Puts.{put_same, put_other}
 use Rattle.smp_stop_steps.specs.{count_after, patch_answer, IsThroughAll, visit_acked, control_then, state_after, acknowledges, carried_call, completes_with}
 use Rattle.smp_stop_steps.specs.{is_on, IsCalling, answer_in, HasCalled, CarriesAt, called_more, stored_open, stored_shut, EnterActive, LoadResult, ExchangeKey}
 use Rattle.smp_stop_steps.specs.{word_of, seen_of, IsQuiet, Calling, CallStep, Standing, key_told, may_call, TakeGate, OpenGate, Complete, LoadDone, NudgeKey}
-use Rattle.smp_stop_steps.specs.{put, One, Work, Word, Gate, Slot, Key, Seat, In, Duty, Setup, Idle, Calls, tells, told, Begin, Enter, Close, Visit}
+use Rattle.smp_stop_steps.specs.{put, One, Work, Word, Gate, Slot, Key, Seat, In, Duty, Setup, Idle, Calls, tells, told, Begin, Enter, Close, Visit, Place, Act}
 use Rattle.smp_stop_steps.specs.{Field, CarriesIn, StopShows, SitsAtRun, answer_at, turn_note, stop_goes, turn_ends, StopState, note_then, calls_now, completes}
 use Rattle.smp_stop_steps.specs.{Kind as KindOf, StopControlValue, declared.stage.StopStage.TheVariants.ReadKey, declared.stage.StopStage.TheVariants.ReadSite}
 use Rattle.smp_stop_steps.specs.{Multi, Patch, Change, Gives, Alters, Rests, Stands, RunsIf, Source, key_on, told_of, is_run, Inside, carried, plan_at, Advance}
 use Rattle.smp_stop_steps.specs.{IsAcking, IsEnding, IsLoaded, nudge_of, nudge_on, store_of, StopCall, gate_told, StopStage, EnterKind, EnterMask, Sits.Sits}
 use Rattle.smp_stop_steps.proofs.{Steps.Completions.one_phase, State.Phases.is_open_inside, State.Phases.keeps_inside, Steps.Callings.carried_alone}
 use Rattle.smp_stop_steps.proofs.{Steps.Callings.idle_alters, Steps.Callings.idle_patch, State.Moves.IsNoPatch, Steps.Stages.at_seat}
-use Rattle.smp_stop_steps.specs.place
-use Rattle.smp_stop_steps.specs.field
-use Rattle.smp_stop_steps.specs.act
 use Rattle.smp_stop_steps.specs.note
 use Rattle.smp_stop_steps.specs.completion
 use Rattle.smp_stop_steps.specs.round
@@ -33,10 +30,10 @@ store_calling p me s v f b = search (open_calling, shut_calling, arith)
 either_calling : (p q : StopState) (b : Bool) → told_of q ≡ told_of p → told_of (cond b q p) ≡ told_of p
 either_calling p q b e = search arith
 
-gate_calling : (p : StopState) (me n : ℕ) (b : Bool) → told_of (gate_told p me act.Cas (cond b (Some n) None)) ≡ told_of p
+gate_calling : (p : StopState) (me n : ℕ) (b : Bool) → told_of (gate_told p me Act.Cas (cond b (Some n) None)) ≡ told_of p
 gate_calling p me n b = search arith
 
-nudge_calling : (u : Setup) (p : StopState) (me k found n : ℕ) (b : Bool) → told_of (key_told u p me k act.Cas (Some found) (cond b (Some n) None)) ≡ told_of p
+nudge_calling : (u : Setup) (p : StopState) (me k found n : ℕ) (b : Bool) → told_of (key_told u p me k Act.Cas (Some found) (cond b (Some n) None)) ≡ told_of p
 nudge_calling u p me k found n b = search arith
 
 patch_calling : (u : Setup) (p : StopState) (at : Word → ℕ) (me : ℕ) (x : Change) →
@@ -89,15 +86,15 @@ module _ (u : Setup) (p : StopState) (at : Word → ℕ) (seat : ℕ → Seat) (
 
     -- load of the argument of a function that the CPU may call
     called : (s : ℕ) (w : Work) (a l answer : ℕ) → seat me ≡ In s w a l Rests → may_call me w (Inside a l) ≡ true →
-        let found = at (Slot s field.Arg) in
-        let p' = told u p me act.Load (Slot s field.Arg) (Some found) None answer in
+        let found = at (Slot s Field.Arg) in
+        let p' = told u p me Act.Load (Slot s Field.Arg) (Some found) None answer in
         p' ≡ calls_now p me (p.now.stop s).work found answer
     called s w a l answer is may = search (h.present.stands, arith)
 
-    calls : (stage : StopStage) (s : ℕ) (w : Work) (a l answer : ℕ) → state_after u p at c me stage ≡ told u p me act.Load (Slot s field.Arg)
-        (Some (at (Slot s field.Arg))) None answer →
+    calls : (stage : StopStage) (s : ℕ) (w : Work) (a l answer : ℕ) → state_after u p at c me stage ≡ told u p me Act.Load (Slot s Field.Arg)
+        (Some (at (Slot s Field.Arg))) None answer →
         seat me ≡ In s w a l Rests → may_call me w (Inside a l) ≡ true → f ≡ Idle → answer_at stage ≡ answer → note_then u at c me stage ≡ Some
-        (note.Run w.func (at (Slot s field.Arg))) →
+        (note.Run w.func (at (Slot s Field.Arg))) →
         ((call : StopCall) → call.answer ≡ answer → CarriesIn (control_then u at c me stage) (Calls call)) → Now stage
     calls stage s w a l answer is_told is may idle answered says mine = search (h.present.stands, stage, called, put_same, put_other, arith)
 
@@ -135,7 +132,7 @@ module _ (u : Setup) (p : StopState) (at : Word → ℕ) (seat : ℕ → Seat) (
         go kind idle (Some new) = either (at (Key key) == new) (xor (is_on (at (Key key))) (is_on new))
           where
             either : (b d : Bool) → CarriesIn (cond b (stop_goes (record c { changes = [] }) (Advance v (round.Acknowledge 0 true)))
-                (stop_goes (record c { changes = (place.Key key, new) ∷ [] }) (Advance v (cond d (round.LoadEntry key new 0) (round.StoreChange
+                (stop_goes (record c { changes = (Place.Key key, new) ∷ [] }) (Advance v (cond d (round.LoadEntry key new 0) (round.StoreChange
                 0))))).control f
             either true d = acking 0 kind idle
             either false true = q
@@ -160,7 +157,7 @@ module _ (u : Setup) (p : StopState) (at : Word → ℕ) (seat : ℕ → Seat) (
         stage = Advance v (round.Acknowledge answer ran)
 
         found : ℕ
-        found = at (Slot v.slot field.Ack)
+        found = at (Slot v.slot Field.Ack)
 
         -- the CPU's function after it, where it stood so
         after : (a : ℕ) → (p.now.stop v.slot).standing me ≡ Inside v.acked a → told_of (state_after u p at c me stage) ≡ record (told_of p) {
@@ -213,7 +210,7 @@ module _ (u : Setup) (p : StopState) (at : Word → ℕ) (seat : ℕ → Seat) (
     count_down e = let x = (at_seat s (Complete v completion.CountDown) e).1 in either x.0 x.1
       where
         found : ℕ
-        found = at (Slot v.slot field.Todo)
+        found = at (Slot v.slot Field.Todo)
 
         q : IsEnding v f
         q = at_stage (Complete v completion.CountDown) e
@@ -268,7 +265,7 @@ module _ (u : Setup) (p : StopState) (at : Word → ℕ) (seat : ℕ → Seat) (
   call_step (Complete v (completion.LoadArg answer func)) e = one_arg v answer func e
   call_step (Complete v completion.StoreAnswer) e = search (plain, store_calling, at_stage, arith)
   call_step (Complete v completion.CountDown) e = count_down v e
-  call_step (Close slot) e = plain (Close slot) (store_calling p me slot 1 field.Done (p.now.stop slot).is_open) refl (at_stage (Close slot) e)
+  call_step (Close slot) e = plain (Close slot) (store_calling p me slot 1 Field.Done (p.now.stop slot).is_open) refl (at_stage (Close slot) e)
   call_step LoadDone e = search (plain, at_stage, arith)
   call_step LoadResult e = plain LoadResult refl refl (at_stage LoadResult e)
   call_step (ReadKey k) e = plain (ReadKey k) refl (search arith) (at_stage (ReadKey k) e)

@@ -4,7 +4,7 @@ use Rattle.std.proofs.Common.{Option, Some, None, bit_and}
 use Rattle.smp_words.specs.declared.field.Field.TheVariants.{Roll, Todo}
 use Rattle.smp_stop_steps.specs.{IsCalling, answer_in, put, put_word, one, Closes, Free, Gives, In, Rests, Seat, irq_of, StopShows, IsLoaded, IsThroughAll}
 use Rattle.smp_stop_steps.specs.{OwnsIf, SitsAtRest, Source, StopControlValue, all_but, stop_ends, stop_goes, Setup, StopState, Calling, StopStep, at_then}
-use Rattle.smp_stop_steps.specs.{state_after, Advance, Begin, Close, Complete, Enter, EnterActive, EnterKind, EnterMask, LoadDone, LoadResult, OpenGate}
+use Rattle.smp_stop_steps.specs.{state_after, Advance, Begin, Close, Complete, Enter, EnterActive, EnterKind, EnterMask, LoadDone, LoadResult, OpenGate, Note}
 use Rattle.smp_stop_steps.specs.{TakeGate, NudgeKey, ExchangeKey, StopStage, Visit, One, Work, Gate, Slot, Word, has, CarriesIn, CarriesAt, IsEnding, Sits.Sits}
 use Rattle.smp_stop_steps.specs.declared.stage.StopStage.TheVariants.{ReadKey, ReadSite}
 use Rattle.smp_stop_steps.proofs.Steps.Same.{word_same, moved_seat, still}
@@ -15,7 +15,6 @@ use Rattle.smp_stop_steps.proofs.Steps.StageSteps.{begin_step, enter_active, ent
 use Rattle.smp_stop_steps.proofs.Steps.StageSteps.{read_site, take_gate, nudge_key, exchange_key}
 use Rattle.smp_stop_steps.proofs.{Steps.AckSteps.acknowledge, Steps.AckSteps.raise, Steps.AckSteps.refill, Basics.Bits.clear_none, Basics.Bits.clear_other}
 use Rattle.smp_stop_steps.proofs.{Basics.Bits.clear_same, Steps.Callings.calling_given, Steps.Stages.at_seat, Steps.Stages.at_source}
-use Rattle.smp_stop_steps.specs.note
 use Rattle.smp_stop_steps.specs.completion
 use Rattle.smp_stop_steps.specs.round
 
@@ -32,7 +31,7 @@ module _ (u : Setup) (p : StopState) (at : Word → ℕ) (seat : ℕ → Seat) (
 
       go : c.visit ≡ None → seat me ≡ Free → OwnsIf c.is_open (source me) → (b : Bool) → has (at (Slot slot Roll)) me ≡ b →
           (x : Seat) × (StopShows u (state_after u p at c me (Enter slot)) (at_then u at c me (Enter slot)) (put seat me x) (put source me (source me))) ×
-          Sits u me (at Gate) (cond b (stop_goes c (EnterKind slot)) (stop_ends c note.Stale)).control x (source me)
+          Sits u me (at Gate) (cond b (stop_goes c (EnterKind slot)) (stop_ends c Note.Stale)).control x (source me)
       go visit is y true found =
           let next = In slot (p.now.stop slot).work 0 0 Rests in (
             next,
@@ -109,7 +108,7 @@ module _ (u : Setup) (p : StopState) (at : Word → ℕ) (seat : ℕ → Seat) (
         }
 
     counted_sits : OwnsIf c.is_open (source me) → c.interrupts ≡ true → (b : Bool) →
-        Sits u me (at Gate) (cond b (stop_goes (record c { visit = None }) (Close v.slot)) (stop_ends (record c { visit = None }) note.Finished)).control
+        Sits u me (at Gate) (cond b (stop_goes (record c { visit = None }) (Close v.slot)) (stop_ends (record c { visit = None }) Note.Finished)).control
         (cond b (Closes v.slot) Free) (source me)
     counted_sits y on b = search arith
 

@@ -4,7 +4,7 @@ use Rattle.std.proofs.Common.{Option, Some, None, List, [], ◌∷◌, ◌++◌}
 use Rattle.smp_words.proofs.Puts.{at_test, put_all, put_same, put_other}
 use Rattle.smp_words.specs.declared.field.Field.TheVariants.{Done, Result, Roll, Todo}
 use Rattle.smp_stop_steps.specs.{IsCalling, AreClosing, HasCompleted, StandsSet, put, put_word, one, unfinished, IsAnswer, HasPast, answer_now, OwnsKey, Closes}
-use Rattle.smp_stop_steps.specs.{Free, Gives, In, Rests, Seat, Stands, irq_of, duty_of, StopShows, DoneShows, IsDone, IsLevel, IsPhaseOf, Source, Setup}
+use Rattle.smp_stop_steps.specs.{Free, Gives, In, Rests, Seat, Stands, irq_of, duty_of, StopShows, DoneShows, IsDone, IsLevel, IsPhaseOf, Source, Setup, Act}
 use Rattle.smp_stop_steps.specs.{StopState, Idle, Answering, Called, Completed, Ended, Inside, Standing, acked, completed, ended, is_inside, is_of, stands}
 use Rattle.smp_stop_steps.specs.{Last, completes_with, enters, told, called_more, Field, One, Patch, Kind as KindOf, Work, Key, Slot, Word, has, Stop.Stop}
 use Rattle.smp_stop_steps.proofs.Steps.Callings.{calling_same, IsNotClosing, idle_free, closing_kept, idle_closes, closing_seat, calling_next, given_quiet}
@@ -14,7 +14,6 @@ use Rattle.smp_stop_steps.proofs.Steps.Kept.{past_answers}
 use Rattle.smp_stop_steps.proofs.{Basics.Bools.or_true, Basics.Counts.sum_zero, State.Ends.answer_of_it, State.Ends.answer_unfinished, State.Moves.IsNoPatch}
 use Rattle.smp_stop_steps.proofs.{State.Pasts.active_put, State.Pasts.past_completes, State.Phases.is_open_inside, State.Phases.keeps_inside}
 use Rattle.smp_stop_steps.proofs.{State.Raises.in_machine, Steps.Rounds.acked_most_phase, State.Works.called_is, State.Acknowledged.rests_me}
-use Rattle.smp_stop_steps.specs.act
 
 pub one_phase : (k : KindOf) (p : ℕ) → k ≡ One → IsPhaseOf k p → p ≡ 0
 one_phase k p e h = search arith
@@ -26,7 +25,7 @@ module _ (u : Setup) (p : StopState) (at : Word → ℕ) (seat : ℕ → Seat) (
   -- fetch_and of the roll, that found the own bit
   pub roll_cleared : (n answer : ℕ) → seat me ≡ Free → has (at (Slot s Roll)) me ≡ true → has n me ≡ false →
       ((c : ℕ) → c ≢ me → has n c ≡ has (at (Slot s Roll)) c) →
-      StopShows u (told u p me act.And (Slot s Roll) (Some (at (Slot s Roll))) (Some n) answer) (put_word at (Slot s Roll) n)
+      StopShows u (told u p me Act.And (Slot s Roll) (Some (at (Slot s Roll))) (Some n) answer) (put_word at (Slot s Roll) n)
       (put seat me (In s (p.now.stop s).work 0 0 Rests)) source
   roll_cleared n answer is found clears others =
       let to = Inside 0 0 in
@@ -59,7 +58,7 @@ module _ (u : Setup) (p : StopState) (at : Word → ℕ) (seat : ℕ → Seat) (
 
   -- fetch_and of the roll, that did not find it: E7
   pub roll_stale : (new : Option ℕ) (answer : ℕ) → has (at (Slot s Roll)) me ≡ false →
-      StopShows u (told u p me act.And (Slot s Roll) (Some (at (Slot s Roll))) new answer) at seat source
+      StopShows u (told u p me Act.And (Slot s Roll) (Some (at (Slot s Roll))) new answer) at seat source
   roll_stale new answer missing = subst (λ b. StopShows u (cond b (record p { now = enters p.now me s }) p) at seat source) (sym missing) h
 
   module _ (job : Work) (a l : ℕ) (is : seat me ≡ In s job a l Rests) (through : (a ≡ 4) ⊎ (job.kind ≡ One)) where
@@ -80,7 +79,7 @@ module _ (u : Setup) (p : StopState) (at : Word → ℕ) (seat : ℕ → Seat) (
 
     -- store of an answer that is not 0
     pub result_stored : (v answer : ℕ) → v ≢ 0 → IsCalling me (Gives s job a v) (p.calling me) →
-        StopShows u (told u p me act.Store (Slot s Result) None (Some v) answer) (put_word at (Slot s Result) v) (put seat me (Gives s job a v)) source
+        StopShows u (told u p me Act.Store (Slot s Result) None (Some v) answer) (put_word at (Slot s Result) v) (put seat me (Gives s job a v)) source
     result_stored v answer some calls =
         let to = Answering a v in
         let stop' = stands (p.now.stop s) me to in
@@ -190,7 +189,7 @@ module _ (u : Setup) (p : StopState) (at : Word → ℕ) (seat : ℕ → Seat) (
   -- fetch_sub of todo, by who answers 0
   pub todo_subtracted : (job : Work) (a l answer : ℕ) → seat me ≡ In s job a l Rests → (a ≡ 4) ⊎ (job.kind ≡ One) →
       let found = at (Slot s Todo) in
-      StopShows u (told u p me act.Sub (Slot s Todo) (Some found) (Some (found - 1)) answer) (put_word at (Slot s Todo) (found - 1))
+      StopShows u (told u p me Act.Sub (Slot s Todo) (Some found) (Some (found - 1)) answer) (put_word at (Slot s Todo) (found - 1))
       (put seat me (cond (found == 1) (Closes s) Free)) source
   todo_subtracted job a l answer is through =
       let now = st job a l is through in
@@ -203,7 +202,7 @@ module _ (u : Setup) (p : StopState) (at : Word → ℕ) (seat : ℕ → Seat) (
   -- and by who has stored its answer
   pub todo_subtracted_answered : (job : Work) (a v answer : ℕ) → seat me ≡ Gives s job a v →
       let found = at (Slot s Todo) in
-      StopShows u (told u p me act.Sub (Slot s Todo) (Some found) (Some (found - 1)) answer) (put_word at (Slot s Todo) (found - 1))
+      StopShows u (told u p me Act.Sub (Slot s Todo) (Some found) (Some (found - 1)) answer) (put_word at (Slot s Todo) (found - 1))
       (put seat me (cond (found == 1) (Closes s) Free)) source
   todo_subtracted_answered job a v answer is =
       let now : Stands p.now me (Gives s job a v) = subst (Stands p.now me) is (h.present.stands me) in
@@ -215,7 +214,7 @@ module _ (u : Setup) (p : StopState) (at : Word → ℕ) (seat : ℕ → Seat) (
       search (now.1, shown', arith)
 
   -- store of done by the last
-  pub done_stored : (answer : ℕ) → seat me ≡ Closes s → StopShows u (told u p me act.Store (Slot s Done) None (Some 1) answer) (put_word at (Slot s Done) 1)
+  pub done_stored : (answer : ℕ) → seat me ≡ Closes s → StopShows u (told u p me Act.Store (Slot s Done) None (Some 1) answer) (put_word at (Slot s Done) 1)
       (put seat me Free) source
   done_stored answer is =
       let now : Stands p.now me (Closes s) = subst (Stands p.now me) is (h.present.stands me) in

@@ -7,10 +7,9 @@ use Rattle.smp_words.specs.declared.field.Field.TheVariants.{Ack, Arg, Roll, Sta
 use Rattle.smp_labels.specs.{Law.IsLawful, Plans.AreEntriesOf}
 use Rattle.smp_stop_steps.specs.{IsCalling, told, may_call, calls_now, behind, count_behind, sum_below, unfinished, Change, labels_in, Alters, Free, Gives, In}
 use Rattle.smp_stop_steps.specs.{Rests, Seat, Stands, Duty, StopShows, IsWritten, Keeps, OpenShows, Shut, Source, IsSetup, Setup, StopState, no_stops, StopCall}
-use Rattle.smp_stop_steps.specs.{Calls, Answering, Called, Completed, Inside, Outside, Standing, is_called, Work, Gate, Slot, Key, Word, has}
+use Rattle.smp_stop_steps.specs.{Calls, Answering, Called, Completed, Inside, Outside, Standing, is_called, Work, Gate, Slot, Key, Word, has, Act}
 use Rattle.smp_stop_steps.proofs.State.Phases.{is_open_inside, keeps_inside, none_raises}
 use Rattle.smp_stop_steps.proofs.{State.KeyCounts.opened_count, Basics.Counts.sum_zero, State.Acknowledged.nobody_raises}
-use Rattle.smp_stop_steps.specs.act
 
 -- a sum of numbers of at most 1
 sum_most : (f : ℕ → ℕ) (n : ℕ) → ((c : ℕ) → f c ≤ 1) → sum_below f n ≤ n
@@ -41,7 +40,7 @@ module _ (u : Setup) (p : StopState) (at : Word → ℕ) (seat : ℕ → Seat) (
     work_words = subst (IsWritten (λ f. at (Slot s f))) st.3 shown.written
 
     -- with the load of the argument a CPU that may call the function calls it
-    pub arg_loaded : (answer : ℕ) → t ≡ Rests → StopShows u (told u p me act.Load (Slot s Arg) (Some (at (Slot s Arg))) None answer) at seat source
+    pub arg_loaded : (answer : ℕ) → t ≡ Rests → StopShows u (told u p me Act.Load (Slot s Arg) (Some (at (Slot s Arg))) None answer) at seat source
     arg_loaded answer rests = go (may_call me (p.now.stop s).work ((p.now.stop s).standing me)) refl
       where
         called : StopCall

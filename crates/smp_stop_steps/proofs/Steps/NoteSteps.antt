@@ -5,30 +5,25 @@ use Rattle.smp_labels.specs.{Kinds.xor, declared.keys.Change.Change as KeyChange
 use Rattle.smp_words.proofs.Puts.{at_test, put_same}
 use Rattle.smp_stop_steps.specs.{has, change_of, count_after, is_on, word_of, seen_of, put, Field, Note, Work, Word, Gate, Slot, Key, Site, CarriesIn, Change}
 use Rattle.smp_stop_steps.specs.{ReadKey, ReadSite, StaysStill, HasRead, NoteFits, heard_of, Seat, In, Gives, Rests, Sets, Stands, irq_of, StopShows, gate_word}
-use Rattle.smp_stop_steps.specs.{HasRun, IsLoaded, IsNudge, IsThroughAll, RunsIf, SitsAt, SourceSits, begun_value, Source, Owns, OwnerShows, SourceShows}
+use Rattle.smp_stop_steps.specs.{HasRun, IsLoaded, IsNudge, IsThroughAll, RunsIf, SitsAt, SourceSits, begun_value, Source, Owns, OwnerShows, SourceShows, Act}
 use Rattle.smp_stop_steps.specs.{StopControlValue, answer_at, begun_next, key_on, looked_on, nudge_of, nudge_on, stop_ends, stop_goes, store_of, visit_acked}
 use Rattle.smp_stop_steps.specs.{Setup, StopState, StopCall, Calls, FunctionGoes, note_then, state_after, Standing, Inside, Ended, acked, acknowledged, opened}
 use Rattle.smp_stop_steps.specs.{raised, stands as stands_at, answered_by, drafts, acknowledges, completes_with, calls_now, gate_told, is_multi, is_patch}
 use Rattle.smp_stop_steps.specs.{key_loaded, key_told, leaves, looked_by, looks, looks_now, may_call, patch_begun, reads, stored_open, stored_shut, tells}
 use Rattle.smp_stop_steps.specs.{unpatched, with_stop, StopStage, TakeGate, OpenGate, Begin, Enter, EnterKind, EnterMask, EnterActive, Advance, Complete, Close}
-use Rattle.smp_stop_steps.specs.{LoadDone, LoadResult, NudgeKey, ExchangeKey, Visit, Sits.Sits, State.Present, Stop.Stop}
+use Rattle.smp_stop_steps.specs.{LoadDone, LoadResult, NudgeKey, ExchangeKey, Visit, Sits.Sits, State.Present, Stop.Stop, CompletionStage, RoundStage}
 use Rattle.smp_stop_steps.specs.declared.stage.StopStage.TheVariants.{ReadKey as ReadsKey, ReadSite as ReadsSite}
 use Rattle.smp_stop_steps.proofs.{Basics.Counts.put_own, State.Gates.gate_free, State.Gates.gate_mine, State.Phases.is_open_inside, Steps.CallSteps.call_step}
 use Rattle.smp_stop_steps.proofs.{Steps.Facts.patcher_active, Steps.Patching.not_run}
-use Rattle.smp_stop_steps.specs.field
-use Rattle.smp_stop_steps.specs.act
-use Rattle.smp_stop_steps.specs.note
-use Rattle.smp_stop_steps.specs.completion
-use Rattle.smp_stop_steps.specs.round
 
 -- steps after which nothing is heard
 either_heard : (p q : StopState) (b : Bool) → heard_of q ≡ heard_of p → heard_of (cond b q p) ≡ heard_of p
 either_heard p q b e = search arith
 
-ack_heard : (p : StopState) (me s n : ℕ) (b : Bool) → heard_of (cond b (stored_open p me s field.Ack n) (stored_shut p s field.Ack n)) ≡ heard_of p
+ack_heard : (p : StopState) (me s n : ℕ) (b : Bool) → heard_of (cond b (stored_open p me s Field.Ack n) (stored_shut p s Field.Ack n)) ≡ heard_of p
 ack_heard p me s n b = search arith
 
-result_heard : (p : StopState) (me s n : ℕ) (b : Bool) → heard_of (cond b (stored_open p me s field.Result n) (stored_shut p s field.Result n)) ≡ heard_of p
+result_heard : (p : StopState) (me s n : ℕ) (b : Bool) → heard_of (cond b (stored_open p me s Field.Result n) (stored_shut p s Field.Result n)) ≡ heard_of p
 result_heard p me s n b = search arith
 
 patch_heard : (u : Setup) (p : StopState) (at : Word → ℕ) (me : ℕ) (x : Change) →
@@ -55,10 +50,10 @@ answered_acked x n = search arith
 either_still : (p q : StopState) (me : ℕ) (b : Bool) → StaysStill p q me → StaysStill p (cond b q p) me
 either_still p q me b h = search (same_still, arith)
 
-ack_still : (p : StopState) (me slot n : ℕ) (b : Bool) → StaysStill p (cond b (stored_open p me slot field.Ack n) (stored_shut p slot field.Ack n)) me
+ack_still : (p : StopState) (me slot n : ℕ) (b : Bool) → StaysStill p (cond b (stored_open p me slot Field.Ack n) (stored_shut p slot Field.Ack n)) me
 ack_still p me slot n b s in_ = search (put_acked, draft_still, arith)
 
-result_still : (p : StopState) (me slot n : ℕ) (b : Bool) → StaysStill p (cond b (stored_open p me slot field.Result n) (stored_shut p slot field.Result n)) me
+result_still : (p : StopState) (me slot n : ℕ) (b : Bool) → StaysStill p (cond b (stored_open p me slot Field.Result n) (stored_shut p slot Field.Result n)) me
 result_still p me slot n b s in_ = search (put_acked, put_same, answered_acked, draft_still, arith)
 
 loaded_still : (u : Setup) (p : StopState) (me key found : ℕ) (x : Option ℕ) → StaysStill p (record p { now = key_loaded u p.now me key found x }) me
@@ -69,7 +64,7 @@ patch_still : (u : Setup) (p : StopState) (at : Word → ℕ) (me : ℕ) (x : Ch
 patch_still u p at me x s in_ = search arith
 
 -- who says that it runs a function has called it
-run_called : (p q : StopState) (me func arg answer : ℕ) → FunctionGoes p q me (Some (note.Run func arg)) answer →
+run_called : (p q : StopState) (me func arg answer : ℕ) → FunctionGoes p q me (Some (Note.Run func arg)) answer →
     (call : StopCall) × (q.calling me ≡ Calls call) × (call.func ≡ func) × (call.arg ≡ arg)
 run_called p q me func arg answer h6 = search (arg, put_same, arith)
 
@@ -96,7 +91,7 @@ module _ (u : Setup) (p : StopState) (at : Word → ℕ) (seat : ℕ → Seat) (
   gated : Fits TakeGate
   gated = go (at Gate == 0) refl
     where
-      go : (b : Bool) → (at Gate == 0) ≡ b → NoteFits p (gate_told p me act.Cas (cond b (Some (me + 1)) None)) me (Some (cond b note.Gate note.Taken))
+      go : (b : Bool) → (at Gate == 0) ≡ b → NoteFits p (gate_told p me Act.Cas (cond b (Some (me + 1)) None)) me (Some (cond b Note.Gate Note.Taken))
       go true e = (gate_free p.gate (sym h.gate ∙ eqb-true (at Gate) 0 e), refl)
       go false e = (λ none. let bad : true ≡ false = sym (eq-eqb (at Gate) 0 (h.gate ∙ ap gate_word none)) ∙ e in cc, refl)
 
@@ -107,27 +102,27 @@ module _ (u : Setup) (p : StopState) (at : Word → ℕ) (seat : ℕ → Seat) (
       here = put_same p.now.stop me (opened (p.now.stop me) (p.now.stop me).work)
 
       go : (p.now.stop me).is_open ≡ false → (f : Field) → NoteFits p (stored_shut p me f (begun_value u.cpus work f)) me (begun_next c work f).note
-      go shut field.Kind = (inl refl, draft_still p me me (begun_value u.cpus work field.Kind) field.Kind)
-      go shut field.Mask = (inl refl, draft_still p me me (begun_value u.cpus work field.Mask) field.Mask)
-      go shut field.Active = (inl refl, draft_still p me me (begun_value u.cpus work field.Active) field.Active)
-      go shut field.Func = (inl refl, draft_still p me me (begun_value u.cpus work field.Func) field.Func)
-      go shut field.Arg = (inl refl, draft_still p me me (begun_value u.cpus work field.Arg) field.Arg)
-      go shut field.Result = (inl refl, draft_still p me me (begun_value u.cpus work field.Result) field.Result)
-      go shut field.Todo = (inl refl, draft_still p me me (begun_value u.cpus work field.Todo) field.Todo)
-      go shut field.Done = (inl refl, draft_still p me me (begun_value u.cpus work field.Done) field.Done)
-      go shut field.Ack = (inl refl, draft_still p me me (begun_value u.cpus work field.Ack) field.Ack)
-      go shut field.State = (inl refl, draft_still p me me (begun_value u.cpus work field.State) field.State)
-      go shut field.Roll = search (here, arith)
+      go shut Field.Kind = (inl refl, draft_still p me me (begun_value u.cpus work Field.Kind) Field.Kind)
+      go shut Field.Mask = (inl refl, draft_still p me me (begun_value u.cpus work Field.Mask) Field.Mask)
+      go shut Field.Active = (inl refl, draft_still p me me (begun_value u.cpus work Field.Active) Field.Active)
+      go shut Field.Func = (inl refl, draft_still p me me (begun_value u.cpus work Field.Func) Field.Func)
+      go shut Field.Arg = (inl refl, draft_still p me me (begun_value u.cpus work Field.Arg) Field.Arg)
+      go shut Field.Result = (inl refl, draft_still p me me (begun_value u.cpus work Field.Result) Field.Result)
+      go shut Field.Todo = (inl refl, draft_still p me me (begun_value u.cpus work Field.Todo) Field.Todo)
+      go shut Field.Done = (inl refl, draft_still p me me (begun_value u.cpus work Field.Done) Field.Done)
+      go shut Field.Ack = (inl refl, draft_still p me me (begun_value u.cpus work Field.Ack) Field.Ack)
+      go shut Field.State = (inl refl, draft_still p me me (begun_value u.cpus work Field.State) Field.State)
+      go shut Field.Roll = search (here, arith)
 
   entering : (slot : ℕ) → c.stage ≡ Some (Enter slot) → Fits (Enter slot)
   entering slot e = search (seat_at, h.present.stands, arith)
 
   module _ (v : Visit) where
-    looked : (answer : ℕ) → c.stage ≡ Some (Advance v (round.Look answer)) → Fits (Advance v (round.Look answer))
-    looked answer e = let x = (seat_at (Advance v (round.Look answer)) e).1.2 in go x.0 x.2 (found == v.acked) (found == 2) refl refl
+    looked : (answer : ℕ) → c.stage ≡ Some (Advance v (RoundStage.Look answer)) → Fits (Advance v (RoundStage.Look answer))
+    looked answer e = let x = (seat_at (Advance v (RoundStage.Look answer)) e).1.2 in go x.0 x.2 (found == v.acked) (found == 2) refl refl
       where
         found : ℕ
-        found = at (Slot v.slot field.State)
+        found = at (Slot v.slot Field.State)
 
         after : Bool → StopState
         after d = record (looks p me v.slot found) { now = record (looks_now p.now me v.slot found) { irq = cond d (put p.now.irq me false) p.now.irq } }
@@ -136,7 +131,7 @@ module _ (u : Setup) (p : StopState) (at : Word → ℕ) (seat : ℕ → Seat) (
         still d j in_ = search (put_acked, found, put_same, looked_acked, arith)
 
         go : (work : Work) → seat me ≡ In v.slot work v.acked v.acked Rests → (b d : Bool) → (found == v.acked) ≡ b → (found == 2) ≡ d →
-            NoteFits p (after d) me (cond b (stop_ends c note.Same) (looked_on me c v answer found)).note
+            NoteFits p (after d) me (cond b (stop_ends c Note.Same) (looked_on me c v answer found)).note
         go work is false true e two = (inr (inl refl), still true)
         go work is false false e two = (inl refl, still false)
         go work is true d e two = ((v.acked, record { slot = v.slot; inside = st.0; stands = stood }), quiet d two)
@@ -161,25 +156,25 @@ module _ (u : Setup) (p : StopState) (at : Word → ℕ) (seat : ℕ → Seat) (
                 ap (λ f. record (heard_of p) { irq = f }) (put_own p.now.irq me false off)
 
     arg_heard : (slot answer : ℕ) → heard_of (cond (may_call me (p.now.stop slot).work ((p.now.stop slot).standing me))
-        (calls_now p me (p.now.stop slot).work (at (Slot slot field.Arg)) answer) p) ≡ heard_of p
+        (calls_now p me (p.now.stop slot).work (at (Slot slot Field.Arg)) answer) p) ≡ heard_of p
     arg_heard slot answer = search (either_heard, arith)
 
     arg_still : (slot answer : ℕ) → StaysStill p (cond (may_call me (p.now.stop slot).work ((p.now.stop slot).standing me))
-        (calls_now p me (p.now.stop slot).work (at (Slot slot field.Arg)) answer) p) me
+        (calls_now p me (p.now.stop slot).work (at (Slot slot Field.Arg)) answer) p) me
     arg_still slot answer = search (either_still, arith)
 
-    arg : (answer func : ℕ) → c.stage ≡ Some (Advance v (round.LoadArg answer func)) → Fits (Advance v (round.LoadArg answer func))
+    arg : (answer func : ℕ) → c.stage ≡ Some (Advance v (RoundStage.LoadArg answer func)) → Fits (Advance v (RoundStage.LoadArg answer func))
     arg answer func e = go (is_multi v.kind) refl
       where
         stage : StopStage
-        stage = Advance v (round.LoadArg answer func)
+        stage = Advance v (RoundStage.LoadArg answer func)
 
         found : ℕ
-        found = at (Slot v.slot field.Arg)
+        found = at (Slot v.slot Field.Arg)
 
         said : Bool → Option Note
-        said b = (cond b (record { control = record c { stage = Some (Advance v (round.Acknowledge answer true)) }; note = Some (note.Run func found) })
-            (stop_goes c (Advance v (round.LoadKey func (change_of found))))).note
+        said b = (cond b (record { control = record c { stage = Some (Advance v (RoundStage.Acknowledge answer true)) }; note = Some (Note.Run func found) })
+            (stop_goes c (Advance v (RoundStage.LoadKey func (change_of found))))).note
 
         go : (b : Bool) → is_multi v.kind ≡ b → NoteFits p (state_after u p at c me stage) me (said b)
         go true is = (
@@ -189,9 +184,9 @@ module _ (u : Setup) (p : StopState) (at : Word → ℕ) (seat : ℕ → Seat) (
         )
         go false is = (inl (arg_heard v.slot answer), arg_still v.slot answer)
 
-    load_key : (key : ℕ) (change : KeyChange) → c.stage ≡ Some (Advance v (round.LoadKey key change)) → Fits (Advance v (round.LoadKey key change))
+    load_key : (key : ℕ) (change : KeyChange) → c.stage ≡ Some (Advance v (RoundStage.LoadKey key change)) → Fits (Advance v (RoundStage.LoadKey key change))
     load_key key change e =
-        subst (NoteFits p (state_after u p at c me (Advance v (round.LoadKey key change))) me) (sym (none (count_after change found)))
+        subst (NoteFits p (state_after u p at c me (Advance v (RoundStage.LoadKey key change))) me) (sym (none (count_after change found)))
         (inl unheard, loaded_still u p me key found (p.now.inside me))
       where
         found : ℕ
@@ -214,7 +209,7 @@ module _ (u : Setup) (p : StopState) (at : Word → ℕ) (seat : ℕ → Seat) (
       phase = v.acked + 1
 
       abbrev acked_stop : Stop
-      acked_stop = acknowledged (p.now.stop v.slot) me phase (at (Slot v.slot field.Ack))
+      acked_stop = acknowledged (p.now.stop v.slot) me phase (at (Slot v.slot Field.Ack))
 
       acked_here : put p.now.stop v.slot acked_stop v.slot ≡ acked_stop
       acked_here = put_same p.now.stop v.slot acked_stop
@@ -230,13 +225,13 @@ module _ (u : Setup) (p : StopState) (at : Word → ℕ) (seat : ℕ → Seat) (
 
       -- after it, where the CPU leaves the stop or not
       abbrev acked_after : Bool → StopState
-      acked_after b = record (acknowledges p me v.slot (Inside v.acked phase) (at (Slot v.slot field.Ack))) {
+      acked_after b = record (acknowledges p me v.slot (Inside v.acked phase) (at (Slot v.slot Field.Ack))) {
         now = cond b (leaves acked_now me v.slot (p.now.stop v.slot).work) acked_now;
       }
 
       module _ (in_ : p.now.inside me ≡ Some v.slot) (st : (p.now.stop v.slot).standing me ≡ Inside v.acked phase) (off : (p.now.irq me ≡ false) ⊎ (phase ≢ 4))
           (run : HasRun me (visit_acked v answer ran) ran) (active : v.active ≡ (p.now.stop v.slot).work.active) where
-        acked_turn : (r : Bool) → ran ≡ r → phase ≢ 4 → NoteFits p (acked_after false) me (Some (cond r note.Ran (note.Moved phase)))
+        acked_turn : (r : Bool) → ran ≡ r → phase ≢ 4 → NoteFits p (acked_after false) me (Some (cond r Note.Ran (Note.Moved phase)))
         acked_turn true r ne = (
           record {
             acked = record { slot = v.slot; inside = in_; stands = acked_stands ∙ ap (λ n. Inside n n) (run.at_run r) };
@@ -254,12 +249,12 @@ module _ (u : Setup) (p : StopState) (at : Word → ℕ) (seat : ℕ → Seat) (
         )
 
         -- the last to acknowledge is to set the next phase
-        acked_still : (at (Slot v.slot field.Ack) == 1) ≡ true → StaysStill p (acked_after false) me
+        acked_still : (at (Slot v.slot Field.Ack) == 1) ≡ true → StaysStill p (acked_after false) me
         acked_still one j is = search (acked_here, one, arith)
 
-        acked_fits : (b d : Bool) → (at (Slot v.slot field.Ack) == 1) ≡ b → (phase == 4) ≡ d → NoteFits p (acked_after (d && not b)) me
-            (cond b (stop_goes acked_control (Advance (visit_acked v answer ran) (round.Refill ran)))
-            (stop_ends (record acked_control { interrupts = cond d true c.interrupts }) (cond d note.Left (cond ran note.Ran (note.Moved phase))))).note
+        acked_fits : (b d : Bool) → (at (Slot v.slot Field.Ack) == 1) ≡ b → (phase == 4) ≡ d → NoteFits p (acked_after (d && not b)) me
+            (cond b (stop_goes acked_control (Advance (visit_acked v answer ran) (RoundStage.Refill ran)))
+            (stop_ends (record acked_control { interrupts = cond d true c.interrupts }) (cond d Note.Left (cond ran Note.Ran (Note.Moved phase))))).note
         acked_fits true true one four = (inl refl, acked_still one)
         acked_fits true false one four = (inl refl, acked_still one)
         acked_fits false true one four =
@@ -271,13 +266,13 @@ module _ (u : Setup) (p : StopState) (at : Word → ℕ) (seat : ℕ → Seat) (
             }
         acked_fits false false one four = search (acked_turn, eq-eqb, arith)
 
-        ack_fits : Fits (Advance v (round.Acknowledge answer ran))
+        ack_fits : Fits (Advance v (RoundStage.Acknowledge answer ran))
         ack_fits = search (st, acked_fits, arith)
 
       run_of : (b : Bool) → RunsIf me v b → HasRun me (visit_acked v answer b) b
       run_of b runs = search arith
 
-      acknowledge : c.stage ≡ Some (Advance v (round.Acknowledge answer ran)) → Fits (Advance v (round.Acknowledge answer ran))
+      acknowledge : c.stage ≡ Some (Advance v (RoundStage.Acknowledge answer ran)) → Fits (Advance v (RoundStage.Acknowledge answer ran))
       acknowledge e = search (seat_at, v.acked, stands, ack_fits, run_of, h.present.irq, eqb-true, eq-eqb, patcher_active, v.active, arith)
 
     -- who sets the phase after EXIT leaves with it
@@ -302,7 +297,7 @@ module _ (u : Setup) (p : StopState) (at : Word → ℕ) (seat : ℕ → Seat) (
         raised_active = ap (λ (x : Stop). has x.work.active me) raised_here ∙ (ap (λ (w : Work). has w.active me) same ∙ ap (λ m. has m me) (sym
             loaded.active))
 
-        raised_turn : (r : Bool) → ran ≡ r → v.acked ≢ 4 → NoteFits p (raised_after false) me (Some (cond r note.Ran (note.Moved v.acked)))
+        raised_turn : (r : Bool) → ran ≡ r → v.acked ≢ 4 → NoteFits p (raised_after false) me (Some (cond r Note.Ran (Note.Moved v.acked)))
         raised_turn true r ne = (
           record {
             acked = record { slot = v.slot; inside = in_; stands = raised_stands ∙ ap (λ n. Inside n n) (run.at_run r) };
@@ -317,7 +312,7 @@ module _ (u : Setup) (p : StopState) (at : Word → ℕ) (seat : ℕ → Seat) (
         )
 
         raised_fits : (d f : Bool) → (v.acked == 4) ≡ d → (v.acked + 1 == 5) ≡ f → NoteFits p (raised_after f) me
-            (Some (cond d note.Left (cond ran note.Ran (note.Moved v.acked))))
+            (Some (cond d Note.Left (cond ran Note.Ran (Note.Moved v.acked))))
         raised_fits true true four five =
             let is_four : v.acked ≡ 4 = eqb-true v.acked 4 four in
             record {
@@ -329,14 +324,14 @@ module _ (u : Setup) (p : StopState) (at : Word → ℕ) (seat : ℕ → Seat) (
         raised_fits false true four five = search (eqb-true, eq-eqb, v.acked, arith)
         raised_fits false false four five = search (raised_turn, eq-eqb, v.acked, arith)
 
-      raise : c.stage ≡ Some (Advance v (round.Raise ran)) → Fits (Advance v (round.Raise ran))
+      raise : c.stage ≡ Some (Advance v (RoundStage.Raise ran)) → Fits (Advance v (RoundStage.Raise ran))
       raise e = search (seat_at, stands, v.acked, is_open_inside, h.present.slots, raised_fits, arith)
 
-    count_down : c.stage ≡ Some (Complete v completion.CountDown) → Fits (Complete v completion.CountDown)
-    count_down e = let x = (seat_at (Complete v completion.CountDown) e).1 in either x.0 x.1
+    count_down : c.stage ≡ Some (Complete v CompletionStage.CountDown) → Fits (Complete v CompletionStage.CountDown)
+    count_down e = let x = (seat_at (Complete v CompletionStage.CountDown) e).1 in either x.0 x.1
       where
         found : ℕ
-        found = at (Slot v.slot field.Todo)
+        found = at (Slot v.slot Field.Todo)
 
         -- the last to complete is to store done
         still : (a x : ℕ) → p.now.inside me ≡ Some v.slot → acked ((p.now.stop v.slot).standing me) ≡ a → (found == 1) ≡ true →
@@ -345,28 +340,28 @@ module _ (u : Setup) (p : StopState) (at : Word → ℕ) (seat : ℕ → Seat) (
 
         go : (a x : ℕ) → p.now.inside me ≡ Some v.slot → acked ((p.now.stop v.slot).standing me) ≡ a → (b : Bool) → (found == 1) ≡ b →
             NoteFits p (completes_with p me v.slot a x found) me
-            (cond b (stop_goes (record c { visit = None }) (Close v.slot)) (stop_ends (record c { visit = None }) note.Finished)).note
+            (cond b (stop_goes (record c { visit = None }) (Close v.slot)) (stop_ends (record c { visit = None }) Note.Finished)).note
         go a x in_ was true one = (inl refl, still a x in_ was one)
         go a x in_ was false one = record { same = refl; outside = put_same p.now.inside me None; finished = inl (v.slot, in_) }
 
         either : (work : Work) → (((v.answer ≡ 0) × IsLoaded v work × IsThroughAll v × (seat me ≡ In v.slot work v.acked v.acked Rests)) ⊎
-            (seat me ≡ Gives v.slot work v.acked v.answer)) → Fits (Complete v completion.CountDown)
+            (seat me ≡ Gives v.slot work v.acked v.answer)) → Fits (Complete v CompletionStage.CountDown)
         either work h1 = search (stands, v.acked, found, go, arith)
 
   close : (slot : ℕ) → c.stage ≡ Some (Close slot) → Fits (Close slot)
   close slot e = search (stands, seat_at, put_same, arith)
 
   load_done : c.stage ≡ Some LoadDone → Fits LoadDone
-  load_done e = go (at (Slot me field.Done) == 0) refl
+  load_done e = go (at (Slot me Field.Done) == 0) refl
     where
       owner : OwnerShows u (p.now.stop me) (source_at LoadDone e).1.0
       owner = source_is (Owns (source_at LoadDone e).1.0) (source_at LoadDone e).1.1
 
-      not_ended : at (Slot me field.Done) ≡ 0 → (p.now.stop me).ending ≢ Ended
+      not_ended : at (Slot me Field.Done) ≡ 0 → (p.now.stop me).ending ≢ Ended
       not_ended none is = search (h.present.slots, none, arith)
 
-      go : (b : Bool) → (at (Slot me field.Done) == 0) ≡ b → NoteFits p p me (cond b (stop_ends c note.Pending) (stop_goes c LoadResult)).note
-      go true none = (owner.is_open, not_ended (eqb-true (at (Slot me field.Done)) 0 none), refl)
+      go : (b : Bool) → (at (Slot me Field.Done) == 0) ≡ b → NoteFits p p me (cond b (stop_ends c Note.Pending) (stop_goes c LoadResult)).note
+      go true none = (owner.is_open, not_ended (eqb-true (at (Slot me Field.Done)) 0 none), refl)
       go false some = (inl refl, same_still p me)
 
   -- the load of a key by a CPU with its interrupts on is a reading
@@ -388,14 +383,14 @@ module _ (u : Setup) (p : StopState) (at : Word → ℕ) (seat : ℕ → Seat) (
       after : StopState
       after = record p { now = key_loaded u p.now me key (at (Key key)) (p.now.inside me) }
 
-      go : (b : Bool) → is_on (at (Key key)) ≡ b → NoteFits p after me (Some (cond b note.On note.Off))
+      go : (b : Bool) → is_on (at (Key key)) ≡ b → NoteFits p after me (Some (cond b Note.On Note.Off))
       go true is = (key, subst (λ b. HasRead p after me (ReadKey key b)) is (key_read key (seat_at (ReadsKey key) e).0))
       go false is = (key, subst (λ b. HasRead p after me (ReadKey key b)) is (key_read key (seat_at (ReadsKey key) e).0))
 
   read_site : (site : ℕ) → Fits (ReadsSite site)
   read_site site = go (is_on (at (Site site)))
     where
-      go : (b : Bool) → NoteFits p (record p { now = reads p.now me (ReadSite site b) }) me (Some (cond b note.Jmp note.Nop))
+      go : (b : Bool) → NoteFits p (record p { now = reads p.now me (ReadSite site b) }) me (Some (cond b Note.Jmp Note.Nop))
       go true = (site, refl)
       go false = (site, refl)
 
@@ -414,7 +409,7 @@ module _ (u : Setup) (p : StopState) (at : Word → ℕ) (seat : ℕ → Seat) (
       go : (o : Option ℕ) → NoteFits p after me (nudge_on c key found o).note
       go None = (key, is_on found, read)
       go (Some new) = elim (xor (is_on found) (is_on new)) as
-          (λ b. NoteFits p after me (cond b (stop_ends c note.Stop) (stop_goes c (ExchangeKey key found new))).note) [
+          (λ b. NoteFits p after me (cond b (stop_ends c Note.Stop) (stop_goes c (ExchangeKey key found new))).note) [
             | true ↦ (key, is_on found, read)
             | false ↦ (inr (inr (key, is_on found, read)), loaded_still u p me key found (p.now.inside me))
           ]
@@ -428,8 +423,8 @@ module _ (u : Setup) (p : StopState) (at : Word → ℕ) (seat : ℕ → Seat) (
       one : IsNudge expected new
       one = (seat_at (ExchangeKey key expected new) e).3
 
-      go : (b : Bool) → (found == expected) ≡ b → NoteFits p (key_told u p me key act.Cas (Some found) (cond b (Some new) None)) me
-          (Some (cond b note.Done note.Lost))
+      go : (b : Bool) → (found == expected) ≡ b → NoteFits p (key_told u p me key Act.Cas (Some found) (cond b (Some new) None)) me
+          (Some (cond b Note.Done Note.Lost))
       go true same = record {
         key = key;
         found = found;
@@ -447,19 +442,19 @@ module _ (u : Setup) (p : StopState) (at : Word → ℕ) (seat : ℕ → Seat) (
   note_fits (EnterKind slot) e = (inl refl, same_still p me)
   note_fits (EnterMask slot kind) e = (inl refl, same_still p me)
   note_fits (EnterActive slot kind mask) e = search (seat_at, stands, arith)
-  note_fits (Advance v (round.Look answer)) e = looked v answer e
-  note_fits (Advance v (round.LoadFunc answer)) e = (inl refl, same_still p me)
-  note_fits (Advance v (round.LoadArg answer func)) e = arg v answer func e
-  note_fits (Advance v (round.LoadKey key change)) e = load_key v key change e
-  note_fits (Advance v (round.LoadEntry key word site)) e = (inl refl, same_still p me)
-  note_fits (Advance v (round.StoreChange made)) e = search (patch_heard, patch_still, arith)
-  note_fits (Advance v (round.Acknowledge answer ran)) e = acknowledge v answer ran e
-  note_fits (Advance v (round.Refill ran)) e = search (ack_heard, ack_still, arith)
-  note_fits (Advance v (round.Raise ran)) e = raise v ran e
-  note_fits (Complete v (completion.LoadFunc answer)) e = (inl refl, same_still p me)
-  note_fits (Complete v (completion.LoadArg answer func)) e = search (run_called, goes, arg_heard, arith)
-  note_fits (Complete v completion.StoreAnswer) e = search (result_heard, result_still, arith)
-  note_fits (Complete v completion.CountDown) e = count_down v e
+  note_fits (Advance v (RoundStage.Look answer)) e = looked v answer e
+  note_fits (Advance v (RoundStage.LoadFunc answer)) e = (inl refl, same_still p me)
+  note_fits (Advance v (RoundStage.LoadArg answer func)) e = arg v answer func e
+  note_fits (Advance v (RoundStage.LoadKey key change)) e = load_key v key change e
+  note_fits (Advance v (RoundStage.LoadEntry key word site)) e = (inl refl, same_still p me)
+  note_fits (Advance v (RoundStage.StoreChange made)) e = search (patch_heard, patch_still, arith)
+  note_fits (Advance v (RoundStage.Acknowledge answer ran)) e = acknowledge v answer ran e
+  note_fits (Advance v (RoundStage.Refill ran)) e = search (ack_heard, ack_still, arith)
+  note_fits (Advance v (RoundStage.Raise ran)) e = raise v ran e
+  note_fits (Complete v (CompletionStage.LoadFunc answer)) e = (inl refl, same_still p me)
+  note_fits (Complete v (CompletionStage.LoadArg answer func)) e = search (run_called, goes, arg_heard, arith)
+  note_fits (Complete v CompletionStage.StoreAnswer) e = search (result_heard, result_still, arith)
+  note_fits (Complete v CompletionStage.CountDown) e = count_down v e
   note_fits (Close slot) e = close slot e
   note_fits LoadDone e = load_done e
   note_fits LoadResult e = search (put_same, arith)

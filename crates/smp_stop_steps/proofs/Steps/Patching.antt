@@ -7,13 +7,11 @@ use Rattle.smp_labels.specs.{Law.Table, Plans.AreEntriesOf, Plans.applied}
 use Rattle.smp_stop_steps.specs.{IsCalling, AreClosing, IsNudge, CountShows, moved_by, put, put_word, Change, Patches, Patching, ReadKey, Reading, labels_in}
 use Rattle.smp_stop_steps.specs.{Agrees, LabelsShow, count_set, OwnsKey, PresentShows, Alters, In, Rests, Seat, Stands, StopShows, Source, Setup, StopState}
 use Rattle.smp_stop_steps.specs.{Moved, Inside, Standing, is_at_run, key_loaded, reads, told, plan_at, Field, Patch, Work, Entry, Gate, Key, Site, Slot, Word}
-use Rattle.smp_stop_steps.specs.{is_on, change_of, has}
+use Rattle.smp_stop_steps.specs.{is_on, change_of, has, Act, Place}
 use Rattle.smp_stop_steps.proofs.Steps.Callings.{calling_same, closing_seat, idle_patch, idle_alters, IsNotClosing}
 use Rattle.smp_stop_steps.proofs.State.KeyCounts.{counts_nudged, counts_patched}
 use Rattle.smp_stop_steps.proofs.State.Patched.{off_inside, patch_starts, patch_stores, reads_label, nobody_patches, lawful_when_on}
 use Rattle.smp_stop_steps.proofs.{Steps.Kept.source_same, State.Owns.owns_stores, State.Phases.is_open_inside}
-use Rattle.smp_stop_steps.specs.act
-use Rattle.smp_stop_steps.specs.place
 
 module _ (u : Setup) (p : StopState) (at : Word → ℕ) (seat : ℕ → Seat) (source : ℕ → Source) (h : StopShows u p at seat source) (me : ℕ) where
   -- a step that leaves the stops
@@ -33,7 +31,7 @@ module _ (u : Setup) (p : StopState) (at : Word → ℕ) (seat : ℕ → Seat) (
   not_run s on in_ = search (run_is, off_inside, h.present.stands, h.present.irq, arith)
 
   -- load of a key, where interrupts are on: a reading
-  pub key_read : (k answer : ℕ) → p.now.irq me ≡ true → StopShows u (told u p me act.Load (Key k) (Some (at (Key k))) None answer) at seat source
+  pub key_read : (k answer : ℕ) → p.now.irq me ≡ true → StopShows u (told u p me Act.Load (Key k) (Some (at (Key k))) None answer) at seat source
   key_read k answer on = go (p.now.inside me) refl
     where
       read : StopShows u (record p { now = reads p.now me (ReadKey k (is_on (at (Key k)))) }) at seat source
@@ -43,7 +41,7 @@ module _ (u : Setup) (p : StopState) (at : Word → ℕ) (seat : ℕ → Seat) (
       go x e = search (read, not_run, arith)
 
   -- load of a site, where interrupts are on: a reading
-  pub site_read : (i answer : ℕ) → StopShows u (told u p me act.Load (Site i) (Some (at (Site i))) None answer) at seat source
+  pub site_read : (i answer : ℕ) → StopShows u (told u p me Act.Load (Site i) (Some (at (Site i))) None answer) at seat source
   site_read i answer = search (label_step, h.owns, reads_label, h.present, h.callings, arith)
 
   entries_same : (at' : Word → ℕ) → ((i : ℕ) → at' (Entry i) ≡ at (Entry i)) → AreEntriesOf u.entries (labels_in at')
@@ -68,7 +66,7 @@ module _ (u : Setup) (p : StopState) (at : Word → ℕ) (seat : ℕ → Seat) (
     stands_kept : (x : Option Bool) (m n : ℕ) → is_on n ≡ is_on m → IfSome x (λ b. is_on m ≡ b) → IfSome x (λ b. is_on n ≡ b)
     stands_kept x m n e s = search arith
 
-    pub key_exchanged : (answer : ℕ) → StopShows u (told u p me act.Cas (Key k) (Some found) (Some new) answer) at' seat source
+    pub key_exchanged : (answer : ℕ) → StopShows u (told u p me Act.Cas (Key k) (Some found) (Some new) answer) at' seat source
     key_exchanged answer =
         let whole = nobody_patches u p.now at seat h.present me online on in
         let lawful = lawful_when_on u p.now at seat h.present me online on in
@@ -92,7 +90,7 @@ module _ (u : Setup) (p : StopState) (at : Word → ℕ) (seat : ℕ → Seat) (
     -- load of the key of a patch, by the CPU that is to make it: what the patch leads from is found now
     pub key_loaded_first : (answer : ℕ) → seat me ≡ In s job 2 3 Rests → job.kind ≡ Patch → has job.active me ≡ true →
         let found = at (Key job.func) in
-        StopShows u (told u p me act.Load (Key job.func) (Some found) None answer) at (put seat me (Alters s job found [] (plan_at u job found))) source
+        StopShows u (told u p me Act.Load (Key job.func) (Some found) None answer) at (put seat me (Alters s job found [] (plan_at u job found))) source
     key_loaded_first answer is kind active =
         let st : Stands p.now me (In s job 2 3 Rests) = subst (Stands p.now me) is (h.present.stands me) in
         let found = at (Key job.func) in
@@ -114,32 +112,32 @@ module _ (u : Setup) (p : StopState) (at : Word → ℕ) (seat : ℕ → Seat) (
     alters_calling count made rest made' rest' is = search (calling_same, h.callings, idle_alters, arith)
 
     -- store of the key by a patch, its first store: the count goes from what the patch has found
-    pub key_stored : (count : ℕ) (made rest : List Change) (k n answer : ℕ) → me < u.cpus → seat me ≡ Alters s job count made ((place.Key k, n) ∷ rest) →
+    pub key_stored : (count : ℕ) (made rest : List Change) (k n answer : ℕ) → me < u.cpus → seat me ≡ Alters s job count made ((Place.Key k, n) ∷ rest) →
         made ≡ [] → k ≡ job.func →
-        StopShows u (told u p me act.Store (Key k) None (Some n) answer) (put_word at (Key k) n)
-        (put seat me (Alters s job count (made ++ (place.Key k, n) ∷ []) rest)) source
+        StopShows u (told u p me Act.Store (Key k) None (Some n) answer) (put_word at (Key k) n)
+        (put seat me (Alters s job count (made ++ (Place.Key k, n) ∷ []) rest)) source
     key_stored count made rest k n answer below is none here =
-        let st : Stands p.now me (Alters s job count made ((place.Key k, n) ∷ rest)) = subst (Stands p.now me) is (h.present.stands me) in
-        let l : LabelsShow (Patches me job count made ((place.Key k, n) ∷ rest)) (labels_in at) = search arith in
+        let st : Stands p.now me (Alters s job count made ((Place.Key k, n) ∷ rest)) = subst (Stands p.now me) is (h.present.stands me) in
+        let l : LabelsShow (Patches me job count made ((Place.Key k, n) ∷ rest)) (labels_in at) = search arith in
         let was : at (Key k) ≡ count = ap (λ (t : Table). t.key k) (l.2 ∙ ap (λ m. applied m l.0) none) ∙ (ap l.0.key here ∙ l.3) in
-        let made' = made ++ (place.Key k, n) ∷ [] in
+        let made' = made ++ (Place.Key k, n) ∷ [] in
         let at' = put_word at (Key k) n in
         let shown' = label_step p.now.readings (Patches me job count made' rest) p.nudged (moved_by p.patched me k count n) at' (put seat me (Alters s job
-        count made' rest)) refl (λ j f. refl) (λ j. owns_stores u p.now at seat h.present j me s k n job count made ((place.Key k, n) ∷ rest) is (h.owns
+        count made' rest)) refl (λ j f. refl) (λ j. owns_stores u p.now at seat h.present j me s k n job count made ((Place.Key k, n) ∷ rest) is (h.owns
         j)) (counts_patched u.cpus p.nudged p.patched at me k count n below was h.counts) (patch_stores u p.now at seat h.present s me job count made rest
-        (place.Key k, n) at' is refl h.present.slots (entries_same at' (λ i. refl))) (alters_calling count made ((place.Key k, n) ∷ rest) made' rest is)
+        (Place.Key k, n) at' is refl h.present.slots (entries_same at' (λ i. refl))) (alters_calling count made ((Place.Key k, n) ∷ rest) made' rest is)
         (closing_seat p.now seat me (Alters s job count made' rest) h.closing (subst IsNotClosing (sym is) tt)) in
         search (st.5, shown', arith)
 
     -- store of a site by a patch
-    pub site_stored : (count : ℕ) (made rest : List Change) (i n answer : ℕ) → seat me ≡ Alters s job count made ((place.Site i, n) ∷ rest) →
-        StopShows u (told u p me act.Store (Site i) None (Some n) answer) (put_word at (Site i) n)
-        (put seat me (Alters s job count (made ++ (place.Site i, n) ∷ []) rest)) source
+    pub site_stored : (count : ℕ) (made rest : List Change) (i n answer : ℕ) → seat me ≡ Alters s job count made ((Place.Site i, n) ∷ rest) →
+        StopShows u (told u p me Act.Store (Site i) None (Some n) answer) (put_word at (Site i) n)
+        (put seat me (Alters s job count (made ++ (Place.Site i, n) ∷ []) rest)) source
     site_stored count made rest i n answer is =
-        let st : Stands p.now me (Alters s job count made ((place.Site i, n) ∷ rest)) = subst (Stands p.now me) is (h.present.stands me) in
-        let made' = made ++ (place.Site i, n) ∷ [] in
+        let st : Stands p.now me (Alters s job count made ((Place.Site i, n) ∷ rest)) = subst (Stands p.now me) is (h.present.stands me) in
+        let made' = made ++ (Place.Site i, n) ∷ [] in
         let at' = put_word at (Site i) n in
         let shown' = label_step p.now.readings (Patches me job count made' rest) p.nudged p.patched at' (put seat me (Alters s job count made' rest)) refl
-        (search arith) h.owns h.counts (search (patch_stores, entries_same, arith)) (alters_calling count made ((place.Site i, n) ∷ rest) made' rest is)
+        (search arith) h.owns h.counts (search (patch_stores, entries_same, arith)) (alters_calling count made ((Place.Site i, n) ∷ rest) made' rest is)
         (search (closing_seat, IsNotClosing, arith)) in
         search (st.5, shown', arith)

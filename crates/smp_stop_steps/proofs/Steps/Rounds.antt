@@ -5,7 +5,7 @@ use Rattle.std.proofs.lemmas.Bool.{cases_lt}
 use Rattle.std.specs.List.{AllByRecursion}
 use Rattle.smp_words.proofs.Puts.{at_test, put_all, put_same, put_other}
 use Rattle.smp_words.specs.declared.field.Field.TheVariants.{Ack, State}
-use Rattle.smp_stop_steps.specs.{HasCalled, IsCalling, AreClosing, put, put_word, mask_weight, weight, Agrees, Change, Patches, Patching, Reading, Whole}
+use Rattle.smp_stop_steps.specs.{HasCalled, IsCalling, AreClosing, put, put_word, mask_weight, weight, Agrees, Change, Patches, Patching, Reading, Whole, Act}
 use Rattle.smp_stop_steps.specs.{labels_in, StandsSet, reading_of, state_left, patch_answer, OwnsKey, PresentShows, RunnerShows, Alters, Fills, In, Rests, Seat}
 use Rattle.smp_stop_steps.specs.{Sets, Stands, Duty, irq_of, duty_of, StopShows, AckShows, IsLevel, Keeps, OpenShows, IsPhaseOf, Source, Setup, StopCall}
 use Rattle.smp_stop_steps.specs.{StopState, Calling, Inside, Nobody, Raises, Raising, Standing, acked, acknowledged, is_inside, raised, refilled, stands}
@@ -18,7 +18,6 @@ use Rattle.smp_stop_steps.proofs.Steps.Kept.{MovesInside, StaysOpen, after, move
 use Rattle.smp_stop_steps.proofs.State.Acknowledged.{step_acknowledges, step_looks, step_raises, step_refills, sets_me}
 use Rattle.smp_stop_steps.proofs.{State.Moves.IsNoPatch, State.Moves.SaveMe, State.Pasts.active_put, State.Owns.owns_at_leave, State.Patched.patch_ends}
 use Rattle.smp_stop_steps.proofs.{State.Phases.is_open_inside, State.Phases.keeps_inside, State.Works.weight_of_mask}
-use Rattle.smp_stop_steps.specs.act
 
 -- a look changes whether interrupts are on at phase 2 alone
 pub look_irq : (l a n p : ℕ) → n ≡ p → IsLevel p a → ((l ≡ a) ⊎ ((l ≡ a + 1) × (p ≡ l))) → n ≢ 2 → nat_lt l 2 ≡ nat_lt n 2
@@ -49,7 +48,7 @@ module _ (u : Setup) (p : StopState) (at : Word → ℕ) (seat : ℕ → Seat) (
   -- load of the state, by a CPU that has not acknowledged the last phase
   pub state_loaded : (job : Work) (a l answer : ℕ) → seat me ≡ In s job a l Rests → a ≢ 4 →
       let found = at (Slot s State) in
-      StopShows u (told u p me act.Load (Slot s State) (Some found) None answer) at (put seat me (In s job a found Rests)) source
+      StopShows u (told u p me Act.Load (Slot s State) (Some found) None answer) at (put seat me (In s job a found Rests)) source
   state_loaded job a l answer is more =
       let found = at (Slot s State) in
       let st = here job a l Rests is in
@@ -227,7 +226,7 @@ module _ (u : Setup) (p : StopState) (at : Word → ℕ) (seat : ℕ → Seat) (
 
     -- fetch_sub of the count, by a CPU that has looked at a new phase and runs no patch
     pub ack_subtracted : seat me ≡ In s job a (a + 1) Rests → (a ≡ 2 → HasCalled me job (p.calling me)) →
-        StopShows u (told u p me act.Sub (Slot s Ack) (Some found) (Some (found - 1)) answer) (put_word at (Slot s Ack) (found - 1)) (put seat me next) source
+        StopShows u (told u p me Act.Sub (Slot s Ack) (Some found) (Some (found - 1)) answer) (put_word at (Slot s Ack) (found - 1)) (put seat me next) source
     ack_subtracted is ready =
         let st = here job a (a + 1) Rests is in
         let idle : IsNoPatch (seat me) = subst IsNoPatch (sym is) tt in
@@ -252,7 +251,7 @@ module _ (u : Setup) (p : StopState) (at : Word → ℕ) (seat : ℕ → Seat) (
   -- the same at phase 3, by the CPU that has made all stores of its patch
   pub ack_subtracted_patched : (job : Work) (count : ℕ) (made : List Change) (answer : ℕ) → seat me ≡ Alters s job count made [] →
       let found = at (Slot s Ack) in
-      StopShows u (told u p me act.Sub (Slot s Ack) (Some found) (Some (found - 1)) answer) (put_word at (Slot s Ack) (found - 1))
+      StopShows u (told u p me Act.Sub (Slot s Ack) (Some found) (Some (found - 1)) answer) (put_word at (Slot s Ack) (found - 1))
       (put seat me (In s job 3 3 (cond (found == 1) Fills Rests))) source
   ack_subtracted_patched job count made answer is =
       let found = at (Slot s Ack) in
@@ -272,7 +271,7 @@ module _ (u : Setup) (p : StopState) (at : Word → ℕ) (seat : ℕ → Seat) (
   -- store of the count by the one that emptied it: the weight of the mask
   pub ack_stored : (job : Work) (a l answer : ℕ) → seat me ≡ In s job a l Fills →
       let v = mask_weight u.cpus job.mask in
-      StopShows u (told u p me act.Store (Slot s Ack) None (Some v) answer) (put_word at (Slot s Ack) v) (put seat me (In s job a l Sets)) source
+      StopShows u (told u p me Act.Store (Slot s Ack) None (Some v) answer) (put_word at (Slot s Ack) v) (put seat me (In s job a l Sets)) source
   ack_stored job a l answer is =
       let st = here job a l Fills is in
       let open_ = is_open job a l Fills is in
@@ -297,7 +296,7 @@ module _ (u : Setup) (p : StopState) (at : Word → ℕ) (seat : ℕ → Seat) (
 
   -- store of the next phase by the one that refilled the count; from 4 to 5 it leaves
   pub state_stored : (job : Work) (a l answer : ℕ) → seat me ≡ In s job a l Sets →
-      StopShows u (told u p me act.Store (Slot s State) None (Some (a + 1)) answer) (put_word at (Slot s State) (a + 1)) (put seat me (In s job a l Rests))
+      StopShows u (told u p me Act.Store (Slot s State) None (Some (a + 1)) answer) (put_word at (Slot s State) (a + 1)) (put seat me (In s job a l Rests))
       source
   state_stored job a l answer is =
       let st = here job a l Sets is in

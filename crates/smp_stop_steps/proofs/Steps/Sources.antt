@@ -4,14 +4,13 @@ use Rattle.smp_words.proofs.{Puts.at_test, Puts.put_all, Puts.put_both, Puts.put
 use Rattle.smp_words.specs.declared.field.Field.TheVariants.{Ack, Active, Arg, Done, Func, Kind, Mask, Result, Roll, State, Todo}
 use Rattle.smp_words.specs.{Put.place_of, Put.same_field, Kinds.kind_at, Kinds.kind_word}
 use Rattle.smp_stop_steps.specs.{HasCompleted, CountShows, put, put_word, unfinished, HasPast, answer_now, PresentShows, Seat, Closes, StopShows, DoneShows}
-use Rattle.smp_stop_steps.specs.{IsStored, begun_value, order, Collects, DraftShows, Drafts, IsDrafted, OwnerShows, Owns, Shut, Source, SourceShows, Setup}
+use Rattle.smp_stop_steps.specs.{IsStored, begun_value, order, Collects, DraftShows, Drafts, IsDrafted, OwnerShows, Owns, Shut, Source, SourceShows, Setup, Act}
 use Rattle.smp_stop_steps.specs.{StopState, Called, Ended, Ending, Last, Outside, Standing, answer_of, closed, is_inside, is_of, opened, drafted, drafts}
 use Rattle.smp_stop_steps.specs.{stored_shut, told, Field, Kind as KindOf, Work, Gate, Key, Slot, Word, has, Stop.Stop}
 use Rattle.smp_stop_steps.proofs.State.Entered.{step_collects, step_drafts, step_opens}
 use Rattle.smp_stop_steps.proofs.Steps.Kept.{after, other_slots, past_same, source_same}
 use Rattle.smp_stop_steps.proofs.{State.Gates.gate_free, Basics.Counts.sum_zero, State.Ends.all_outside, State.Ends.collects_slot, State.Owns.mask_is}
 use Rattle.smp_stop_steps.proofs.{State.Pasts.active_outside, State.Pasts.past_collects, State.Pasts.past_opens, State.Raises.in_machine}
-use Rattle.smp_stop_steps.specs.act
 
 pub kind_back : (k : KindOf) → kind_at (kind_word k) ≡ k
 kind_back k = search arith
@@ -91,7 +90,7 @@ module _ (u : Setup) (p : StopState) (at : Word → ℕ) (seat : ℕ → Seat) (
   -- store of a field of a stop that is not yet open
   pub field_stored : (work : Work) (k : ℕ) (f : Field) (answer : ℕ) → source me ≡ Drafts work k → order f ≡ k → k < 10 →
       let v = begun_value u.cpus work f in
-      StopShows u (told u p me act.Store (Slot me f) None (Some v) answer) (put_word at (Slot me f) v) seat (put source me (Drafts work (k + 1)))
+      StopShows u (told u p me Act.Store (Slot me f) None (Some v) answer) (put_word at (Slot me f) v) seat (put source me (Drafts work (k + 1)))
   field_stored work k f answer is place low =
       let d = draft work k is in
       let v = begun_value u.cpus work f in
@@ -119,7 +118,7 @@ module _ (u : Setup) (p : StopState) (at : Word → ℕ) (seat : ℕ → Seat) (
 
   -- store of the roll: the stop is open
   pub roll_stored : (work : Work) (answer : ℕ) → source me ≡ Drafts work 10 →
-      StopShows u (told u p me act.Store (Slot me Roll) None (Some work.mask) answer) (put_word at (Slot me Roll) work.mask) seat (put source me (Owns work))
+      StopShows u (told u p me Act.Store (Slot me Roll) None (Some work.mask) answer) (put_word at (Slot me Roll) work.mask) seat (put source me (Owns work))
   roll_stored work answer is =
       let d = draft work 10 is in
       let at' = put_word at (Slot me Roll) work.mask in
@@ -150,7 +149,7 @@ module _ (u : Setup) (p : StopState) (at : Word → ℕ) (seat : ℕ → Seat) (
 
   -- load of the result, after that: collect
   pub result_loaded : (work : Work) (answer : ℕ) → source me ≡ Collects work →
-      StopShows u (told u p me act.Load (Slot me Result) (Some (at (Slot me Result))) None answer) at seat (put source me Shut)
+      StopShows u (told u p me Act.Load (Slot me Result) (Some (at (Slot me Result))) None answer) at seat (put source me Shut)
   result_loaded work answer is =
       let o : OwnerShows u (p.now.stop me) work × ((p.now.stop me).ending ≡ Ended) = subst (SourceShows u p.gate (p.now.stop me) w me) is (h.sources me) in
       let d : DoneShows u.cpus (p.now.stop me).standing Ended (at (Slot me Done)) = search arith in
@@ -172,10 +171,10 @@ module _ (u : Setup) (p : StopState) (at : Word → ℕ) (seat : ℕ → Seat) (
       all {b} x e z = search arith
 
   -- compare-exchange of the gate, that won
-  pub gate_taken : (answer : ℕ) → at Gate ≡ 0 → StopShows u (told u p me act.Cas Gate (Some 0) (Some (me + 1)) answer) (put_word at Gate (me + 1)) seat source
+  pub gate_taken : (answer : ℕ) → at Gate ≡ 0 → StopShows u (told u p me Act.Cas Gate (Some 0) (Some (me + 1)) answer) (put_word at Gate (me + 1)) seat source
   gate_taken answer free = search (h.sources, gate_free, arith)
 
   -- store of 0 to the gate by its holder, which begins no stop
   pub gate_opened : (answer : ℕ) → p.gate ≡ Some me → ((work : Work) (k : ℕ) → source me ≢ Drafts work k) →
-      StopShows u (told u p me act.Store Gate None (Some 0) answer) (put_word at Gate 0) seat source
+      StopShows u (told u p me Act.Store Gate None (Some 0) answer) (put_word at Gate 0) seat source
   gate_opened answer holds idle = search (h.sources, arith)

@@ -5,16 +5,14 @@ use Rattle.smp_labels.proofs.Patched.{left_in_form, xor_same}
 use Rattle.smp_labels.specs.Kinds.{xor}
 use Rattle.smp_words.specs.declared.field.Field.TheVariants.{Ack, Active, Arg, Done, Func, Kind, Mask, Result, Roll, State, Todo}
 use Rattle.smp_words.specs.{Access.one_less, Access.put_if, Kinds.kind_at}
-use Rattle.smp_stop_steps.specs.{is_on, count_after, IsKeyWord, put, put_word, In, Rests, Seat, StopShows, OwnsIf, SitsAt, SitsAtRest, SourceSits, IsNudge}
+use Rattle.smp_stop_steps.specs.{is_on, count_after, IsKeyWord, put, put_word, In, Rests, Seat, StopShows, OwnsIf, SitsAt, SitsAtRest, SourceSits, IsNudge, Act}
 use Rattle.smp_stop_steps.specs.{begun_value, order, Collects, Drafts, Owns, Shut, Source, StopControlValue, stop_ends, stop_goes, nudge_on, nudge_of, Setup}
-use Rattle.smp_stop_steps.specs.{StopState, StopStep, at_then, state_after, gate_told, told, Field, Begin, EnterActive, EnterKind, EnterMask, LoadDone}
+use Rattle.smp_stop_steps.specs.{StopState, StopStep, at_then, state_after, gate_told, told, Field, Begin, EnterActive, EnterKind, EnterMask, LoadDone, Note}
 use Rattle.smp_stop_steps.specs.{LoadResult, OpenGate, TakeGate, NudgeKey, ExchangeKey, StopStage, Kind as KindOf, Work, Gate, Slot, Key, Word, Sits.Sits}
 use Rattle.smp_stop_steps.specs.declared.stage.StopStage.TheVariants.{ReadKey, ReadSite}
 use Rattle.smp_stop_steps.proofs.Steps.Patching.{key_read, site_read, key_exchanged}
 use Rattle.smp_stop_steps.proofs.Steps.Sources.{done_loaded, field_stored, gate_opened, gate_taken, kind_back, result_loaded, roll_stored}
 use Rattle.smp_stop_steps.proofs.{State.Gates.gate_mine, Steps.Same.moved_source, Steps.Same.still, State.Patched.lawful_when_on, Steps.Facts.work_words}
-use Rattle.smp_stop_steps.specs.act
-use Rattle.smp_stop_steps.specs.note
 
 -- a nudge moves a count by one
 one_apart : (up : Bool) (n new : ℕ) → count_after (nudge_of up) n ≡ Some new → (new ≡ n + 1) ⊎ (n ≡ new + 1)
@@ -30,7 +28,7 @@ module _ (u : Setup) (p : StopState) (at : Word → ℕ) (seat : ℕ → Seat) (
   AtRest = SitsAtRest c.visit (seat me)
 
   gate_is_taken : (b : Bool) → (at Gate == 0) ≡ b →
-      StopShows u (gate_told p me act.Cas (cond b (Some (me + 1)) None)) (put_if put_word at Gate (cond b (Some (me + 1)) None)) seat source
+      StopShows u (gate_told p me Act.Cas (cond b (Some (me + 1)) None)) (put_if put_word at Gate (cond b (Some (me + 1)) None)) seat source
   gate_is_taken true e = gate_taken u p at seat source h me 0 (eqb-true (at Gate) 0 e)
   gate_is_taken false e = h
 
@@ -61,12 +59,12 @@ module _ (u : Setup) (p : StopState) (at : Word → ℕ) (seat : ℕ → Seat) (
 
   -- a store but the last
   drafts_step : (work : Work) (f g : Field) → c.stage ≡ Some (Begin work f) → order f < 10 → order g ≡ order f + 1 →
-      (StopShows u (told u p me act.Store (Slot me f) None (Some (begun_value u.cpus work f)) 0) (put_word at (Slot me f) (begun_value u.cpus work f))
+      (StopShows u (told u p me Act.Store (Slot me f) None (Some (begun_value u.cpus work f)) 0) (put_word at (Slot me f) (begun_value u.cpus work f))
       (put seat me (seat me)) (put source me (Drafts work (order g)))) ×
       Sits u me (at Gate) (record c { stage = Some (Begin work g) }) (seat me) (Drafts work (order g))
   drafts_step work f g e low next =
       let y = begins_source work f e in
-      let p' = told u p me act.Store (Slot me f) None (Some (begun_value u.cpus work f)) 0 in
+      let p' = told u p me Act.Store (Slot me f) None (Some (begun_value u.cpus work f)) 0 in
       let at' = put_word at (Slot me f) (begun_value u.cpus work f) in (
         moved_source u seat source me p' at' (Drafts work (order g))
             (subst (λ k. StopShows u p' at' seat (put source me (Drafts work k))) (sym next) (field_stored u p at seat source h me work (order f) f 0 y.1
@@ -142,7 +140,7 @@ module _ (u : Setup) (p : StopState) (at : Word → ℕ) (seat : ℕ → Seat) (
       go x y fits None e = record { below = s.below; irq = s.irq; seat = x.3; source = y; gate_held = tt }
       go x y fits (Some new) e = either (xor (is_on (at (Key k))) (is_on new)) refl
         where
-          either : (b : Bool) → xor (is_on (at (Key k))) (is_on new) ≡ b → Sits u me (at Gate) (cond b (stop_ends c note.Stop)
+          either : (b : Bool) → xor (is_on (at (Key k))) (is_on new) ≡ b → Sits u me (at Gate) (cond b (stop_ends c Note.Stop)
               (stop_goes c (ExchangeKey k (at (Key k)) new))).control (seat me) (source me)
           either true z = record { below = s.below; irq = s.irq; seat = x.3; source = y; gate_held = tt }
           either false z = search (one_apart, xor_same, left_in_form, arith)
@@ -156,7 +154,7 @@ module _ (u : Setup) (p : StopState) (at : Word → ℕ) (seat : ℕ → Seat) (
       search (shows', arith)
     where
       go : u.online me ≡ true → p.now.irq me ≡ true → IsNudge expected new → (b : Bool) → (at (Key k) == expected) ≡ b →
-          StopShows u (told u p me act.Cas (Key k) (Some (at (Key k))) (cond b (Some new) None) 0)
+          StopShows u (told u p me Act.Cas (Key k) (Some (at (Key k))) (cond b (Some new) None) 0)
           (put_if put_word at (Key k) (cond b (Some new) None)) seat source
       go online on nudge true z = key_exchanged u p at seat source h me k (at (Key k)) new s.below online on refl (search arith) 0
       go online on nudge false z = h
@@ -173,7 +171,7 @@ module _ (u : Setup) (p : StopState) (at : Word → ℕ) (seat : ℕ → Seat) (
       open_done work own ne = search (h.sources, h.present.slots, eq-eqb, arith)
 
       go : AtRest → c.is_open ≡ true → (work : Work) → source me ≡ Owns work → (b : Bool) → (at (Slot me Done) == 0) ≡ b →
-          (y : Source) × (StopShows u p at (put seat me (seat me)) (put source me y)) × Sits u me (at Gate) (cond b (stop_ends c note.Pending)
+          (y : Source) × (StopShows u p at (put seat me (seat me)) (put source me y)) × Sits u me (at Gate) (cond b (stop_ends c Note.Pending)
           (stop_goes c LoadResult)).control (seat me) y
       go x op work own true z = (
         source me,

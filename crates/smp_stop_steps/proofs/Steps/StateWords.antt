@@ -6,13 +6,10 @@ use Rattle.smp_stop_steps.specs.{change_at, completion_access, label_word, round
 use Rattle.smp_stop_steps.specs.{RoundStage, Advance, Begin, Close, Complete, Enter, EnterActive, EnterKind, EnterMask, LoadDone, LoadResult, OpenGate}
 use Rattle.smp_stop_steps.specs.{TakeGate, NudgeKey, ExchangeKey, StopStage, Visit, Kind, Work, Gate, Slot, Key, Word, Place}
 use Rattle.smp_stop_steps.specs.declared.stage.StopStage.TheVariants.{ReadKey, ReadSite}
-use Rattle.smp_stop_steps.specs.field
-use Rattle.smp_stop_steps.specs.completion
-use Rattle.smp_stop_steps.specs.round
 
 -- each state word is a phase, or 5
 abbrev pub ArePhases : (Word → ℕ) → Type 0
-ArePhases at = (s : ℕ) → at (Slot s field.State) ≤ 5
+ArePhases at = (s : ℕ) → at (Slot s Field.State) ≤ 5
 
 either : (b : Bool) (n m : ℕ) → n ≤ 5 → m ≤ 5 → cond b n m ≤ 5
 either b n m l k = search arith
@@ -34,10 +31,10 @@ module _ (at : Word → ℕ) (h : ArePhases at) where
   begun_after cpus me work f = search (either, first_small, arith)
 
   completion_after : (v : Visit) (st : CompletionStage) → ArePhases (at_after at (completion_access v st))
-  completion_after v (completion.LoadFunc answer) = h
-  completion_after v (completion.LoadArg answer func) = h
-  completion_after v completion.StoreAnswer = λ s. h s
-  completion_after v completion.CountDown = λ s. h s
+  completion_after v (CompletionStage.LoadFunc answer) = h
+  completion_after v (CompletionStage.LoadArg answer func) = h
+  completion_after v CompletionStage.StoreAnswer = λ s. h s
+  completion_after v CompletionStage.CountDown = λ s. h s
 
 -- a step of a CPU
 
@@ -48,15 +45,15 @@ module _ (u : Setup) (p : StopState) (at : Word → ℕ) (seat : ℕ → Seat) (
   raised_small w x = search (w.acked, v.present.stands, v.present.slots, arith)
 
   round_after : (w : Visit) (st : RoundStage) → SitsInRound u me c.changes w st (seat me) → ArePhases (at_after at (round_access u.cpus c.changes w st))
-  round_after w (round.Look answer) x = h
-  round_after w (round.LoadFunc answer) x = h
-  round_after w (round.LoadArg answer func) x = h
-  round_after w (round.LoadKey key change) x = h
-  round_after w (round.LoadEntry key word site) x = h
-  round_after w (round.StoreChange made) x = let change : Change = change_at c.changes made in label_after at h change.0 change.1
-  round_after w (round.Acknowledge answer ran) x = λ s. h s
-  round_after w (round.Refill ran) x = λ s. h s
-  round_after w (round.Raise ran) x = λ s. either (s == w.slot) (w.acked + 1) (at (Slot s field.State)) (raised_small w (x.0, x.1, x.2)) (h s)
+  round_after w (RoundStage.Look answer) x = h
+  round_after w (RoundStage.LoadFunc answer) x = h
+  round_after w (RoundStage.LoadArg answer func) x = h
+  round_after w (RoundStage.LoadKey key change) x = h
+  round_after w (RoundStage.LoadEntry key word site) x = h
+  round_after w (RoundStage.StoreChange made) x = let change : Change = change_at c.changes made in label_after at h change.0 change.1
+  round_after w (RoundStage.Acknowledge answer ran) x = λ s. h s
+  round_after w (RoundStage.Refill ran) x = λ s. h s
+  round_after w (RoundStage.Raise ran) x = λ s. either (s == w.slot) (w.acked + 1) (at (Slot s Field.State)) (raised_small w (x.0, x.1, x.2)) (h s)
 
   pub phases_after : (st : StopStage) → SitsAt u me c (Some st) (seat me) → ArePhases (at_after at (stop_access u.cpus me c.changes st))
   phases_after TakeGate x = gate_after at h (at Gate == 0) (me + 1)

@@ -5,10 +5,8 @@ use Rattle.std.proofs.lemmas.Int.{to_z-of_z}
 use Rattle.smp_words.proofs.Puts.{at_test}
 use Rattle.smp_words.specs.Commands.{FitsCommand}
 use Rattle.smp_stop_steps.specs.{Command, AnswersAreTaken, BeginsWith, HasI32Answers, IsI32Word, StageFits, VisitFits, StopControlValue, answer_word, in_visit}
-use Rattle.smp_stop_steps.specs.{stop_first, stop_control_of, Advance, Complete, Visit}
+use Rattle.smp_stop_steps.specs.{stop_first, stop_control_of, Advance, Complete, Visit, CompletionStage, RoundStage}
 use Rattle.smp_stop_steps.proofs.TheMachine.Values.{stop_controls_by_cpu}
-use Rattle.smp_stop_steps.specs.completion
-use Rattle.smp_stop_steps.specs.round
 
 -- the word of an i32
 word_fits : (answer : ℤ) → FitsSigned w32 answer → IsI32Word (answer_word answer)
@@ -16,8 +14,8 @@ word_fits answer f = search rules
 
 -- a command with an answer begins with its word
 begins_with : (answer : ℤ) → FitsSigned w32 answer → (x : Option Visit) (v : Visit) → x ≡ Some v →
-    BeginsWith answer (in_visit x (λ w. Advance w (round.Look (answer_word answer))))
-    × BeginsWith answer (in_visit x (λ w. Complete w (completion.LoadFunc (answer_word answer))))
+    BeginsWith answer (in_visit x (λ w. Advance w (RoundStage.Look (answer_word answer))))
+    × BeginsWith answer (in_visit x (λ w. Complete w (CompletionStage.LoadFunc (answer_word answer))))
 begins_with answer f None v e = cc
 begins_with answer f (Some w) v e =
     let both : (word : ℕ) × (Some (answer_word answer) ≡ Some word) × IsI32Word word × (cast_signed w32 word ≡ answer) =

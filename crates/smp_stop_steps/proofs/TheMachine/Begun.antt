@@ -5,11 +5,9 @@ use Rattle.smp_words.proofs.Puts.{at_test, put_all}
 use Rattle.smp_words.specs.declared.field.Field.TheVariants.{Kind}
 use Rattle.smp_stop_steps.specs.{put, MayBegin, Rests, Seat, StopShows, OwnsIf, SitsAtRest, SitsIn, SourceSits, Shut, Source, StopControlValue, stop_goes}
 use Rattle.smp_stop_steps.specs.{Setup, StopState, StopWords, stop_number, StopsShow, stop_control_of, Advance, Begin, Complete, Enter, LoadDone, OpenGate}
-use Rattle.smp_stop_steps.specs.{NudgeKey, TakeGate, StopStage, Visit, Gate, Word, CarriesIn, Calling, Sits.Sits}
+use Rattle.smp_stop_steps.specs.{NudgeKey, TakeGate, StopStage, Visit, Gate, Word, CarriesIn, Calling, Sits.Sits, CompletionStage, RoundStage}
 use Rattle.smp_stop_steps.specs.declared.stage.StopStage.TheVariants.{ReadKey, ReadSite}
 use Rattle.smp_stop_steps.proofs.{State.Gates.gate_mine, Steps.Same.put_same_fn, TheMachine.Values.stop_controls_by_cpu}
-use Rattle.smp_stop_steps.specs.completion
-use Rattle.smp_stop_steps.specs.round
 
 module _ (u : Setup) (p : StopState) (at : Word → ℕ) (seat : ℕ → Seat) (source : ℕ → Source) (h : StopShows u p at seat source) (c : StopControlValue) (me : ℕ)
     (s : Sits u me (at Gate) c (seat me) (source me)) (outside : c.stage ≡ None) where
@@ -35,10 +33,10 @@ module _ (u : Setup) (p : StopState) (at : Word → ℕ) (seat : ℕ → Seat) (
   begun_shown OpenGate m = begun_same OpenGate (search (at_rest, owns_if, arith))
   begun_shown (Begin work Kind) m = search (owns_if, h.sources, put_all, gate_mine, at_rest, arith)
   begun_shown (Enter slot) m = begun_same (Enter slot) (search (at_rest, owns_if, arith))
-  begun_shown (Advance v (round.Look answer)) m = begun_same (Advance v (round.Look answer)) (search (in_visit, owns_if, arith))
-  begun_shown (Complete v (completion.LoadFunc answer)) m = begun_same (Complete v (completion.LoadFunc answer)) (search (in_visit, owns_if, arith))
-  begun_shown (Complete v completion.StoreAnswer) m = begun_same (Complete v completion.StoreAnswer) (search (in_visit, owns_if, inl, arith))
-  begun_shown (Complete v completion.CountDown) m = begun_same (Complete v completion.CountDown) (search (in_visit, owns_if, inl, arith))
+  begun_shown (Advance v (RoundStage.Look answer)) m = begun_same (Advance v (RoundStage.Look answer)) (search (in_visit, owns_if, arith))
+  begun_shown (Complete v (CompletionStage.LoadFunc answer)) m = begun_same (Complete v (CompletionStage.LoadFunc answer)) (search (in_visit, owns_if, arith))
+  begun_shown (Complete v CompletionStage.StoreAnswer) m = begun_same (Complete v CompletionStage.StoreAnswer) (search (in_visit, owns_if, inl, arith))
+  begun_shown (Complete v CompletionStage.CountDown) m = begun_same (Complete v CompletionStage.CountDown) (search (in_visit, owns_if, inl, arith))
   begun_shown LoadDone m = begun_same LoadDone (search (at_rest, owns_if, arith))
   begun_shown (ReadKey k) m = begun_same (ReadKey k) (search (at_rest, owns_if, arith))
   begun_shown (ReadSite i) m = begun_same (ReadSite i) (search (at_rest, owns_if, arith))

@@ -3,12 +3,11 @@ use Rattle.std.proofs.Common.{◌≡◌, ◌≢◌, ◌⊎◌, ℕ, zero, suc, �
 use Rattle.std.proofs.Common.{◌∙◌, arith, eq-eqb, ne_eqb, lt-ltb, bit_and, Some}
 use Rattle.std.proofs.{lemmas.Bool.cases_eq, lemmas.Bool.cases_lt, lemmas.Bool.ltb-true, lemmas.Bool.Decides.nat_tests}
 use Rattle.smp_mask.proofs.Sets.{has_above, same_members}
-use Rattle.smp_stop_steps.specs.{has, cpus, Kind, One, Multi, Patch, Work, sum_below, bit, mask_weight, first_below, fits_kind, fits_patch, fits_work}
+use Rattle.smp_stop_steps.specs.{has, cpus, Kind, One, Multi, Patch, Work, sum_below, bit, mask_weight, first_below, fits_kind, fits_patch, fits_work, SmpError}
 use Rattle.smp_stop_steps.specs.{begin_refusal, unless, declared.start.Terms.Terms}
 use Rattle.smp_stop_steps.specs.Members.{IsAlone, IsPatchOf, HasItsCpus, FitsMembers, RefusesByMembers}
 use Rattle.smp_stop_steps.proofs.TheMachine.Fits.{both, is_same, of_both, one_bit, some_outside, within}
 use Rattle.smp_stop_steps.proofs.TheMachine.Opened.{first_is}
-use Rattle.smp_stop_steps.specs.error
 
 -- the members of a mask of 32 CPUs are below 32
 member_low : (mask c : ℕ) → mask < 2 ^ 32 → has mask c ≡ true → c < 32
@@ -177,7 +176,7 @@ module _ (t : Terms) (work : Work) (low_online : t.online < 2 ^ 32) (low : work.
   refuses_members false = go (t.holds_gate && fits_work t work) refl (bit_and work.mask t.online == work.mask) refl
     where
       go : (b : Bool) → (t.holds_gate && fits_work t work) ≡ b → (d : Bool) → (bit_and work.mask t.online == work.mask) ≡ d
-          → RefusesByMembers t work false (cond b (unless d error.NoStopper) (Some error.BadArgument))
+          → RefusesByMembers t work false (cond b (unless d SmpError.NoStopper) (Some SmpError.BadArgument))
       go false e d f = (refl, λ m. no_member e (of_both t.holds_gate (fits_work t work) m.holds (of_members m)))
       go true e true f =
           let b = both t.holds_gate (fits_work t work) e in

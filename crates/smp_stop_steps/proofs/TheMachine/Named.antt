@@ -7,7 +7,6 @@ use Rattle.smp_stop_steps.specs.{SitsInRound, Collects, Drafts, IsWork, Owns, Sh
 use Rattle.smp_stop_steps.specs.{label_word, round_access, stop_access, store_of, Setup, StopState, at_then, CompletionStage, RoundStage, StopStage, Visit}
 use Rattle.smp_stop_steps.specs.{Patch, Work, Gate, Slot, Word, site_changes, MOST_KEYS, MOST_SITES, Sits.Sits}
 use Rattle.smp_stop_steps.proofs.{State.Phases.is_open_inside, Steps.RoundSteps.change_here, TheMachine.Tables.IsStopWord, Steps.Stages.at_seat}
-use Rattle.smp_stop_steps.specs.round
 
 -- the changes of a patch are of words in the table
 abbrev pub IsNamedChange : Change → Type 0
@@ -81,12 +80,12 @@ module _ (u : Setup) (p : StopState) (at : Word → ℕ) (seat : ℕ → Seat) (
 
       round_named : (v : Visit) (stage : RoundStage) → SitsInRound u me c.changes v stage (seat me) →
           IsStopWord (word_of (round_access u.cpus c.changes v stage))
-      round_named v (round.Look answer) x = below_in v.slot x.2.0 v.acked v.acked Rests x.2.2
-      round_named v (round.LoadFunc answer) x = below_in v.slot x.1.0 2 3 Rests x.1.1.3
-      round_named v (round.LoadArg answer func) x = below_in v.slot x.1.0 2 3 Rests x.1.1.3
-      round_named v (round.LoadKey key change) x = search (h.present.stands, key_below, open_in, arith)
-      round_named v (round.LoadEntry key word site) x = x.3
-      round_named v (round.StoreChange made) x = go x.0 x.1 x.4 x.5 x.6.0 x.6.1 x.6.2 x.6.3 x.6.4
+      round_named v (RoundStage.Look answer) x = below_in v.slot x.2.0 v.acked v.acked Rests x.2.2
+      round_named v (RoundStage.LoadFunc answer) x = below_in v.slot x.1.0 2 3 Rests x.1.1.3
+      round_named v (RoundStage.LoadArg answer func) x = below_in v.slot x.1.0 2 3 Rests x.1.1.3
+      round_named v (RoundStage.LoadKey key change) x = search (h.present.stands, key_below, open_in, arith)
+      round_named v (RoundStage.LoadEntry key word site) x = x.3
+      round_named v (RoundStage.StoreChange made) x = go x.0 x.1 x.4 x.5 x.6.0 x.6.1 x.6.2 x.6.3 x.6.4
         where
           go : (work : Work) (count : ℕ) → made < length c.changes → c.changes ≡ plan_at u work count → (before after : List Change) →
               c.changes ≡ before ++ after → length before ≡ made →
@@ -94,9 +93,9 @@ module _ (u : Setup) (p : StopState) (at : Word → ℕ) (seat : ℕ → Seat) (
           go work count low plan before [] are long is = search (append-nil, arith)
           go work count low plan before (change ∷ rest) are long is =
               search (h.present.stands, key_below, open_alters, change_here, IsStopWord, named_store, at_split, work.func, sites_named, arith)
-      round_named v (round.Acknowledge answer ran) x = search (v.acked, below_in, below_alters, arith)
-      round_named v (round.Refill ran) x = below_in v.slot x.0 v.acked v.acked Fills x.2
-      round_named v (round.Raise ran) x = below_in v.slot x.0 v.acked v.acked Sets x.2
+      round_named v (RoundStage.Acknowledge answer ran) x = search (v.acked, below_in, below_alters, arith)
+      round_named v (RoundStage.Refill ran) x = below_in v.slot x.0 v.acked v.acked Fills x.2
+      round_named v (RoundStage.Raise ran) x = below_in v.slot x.0 v.acked v.acked Sets x.2
 
       completion_named : (v : Visit) (stage : CompletionStage) → SitsInCompletion v stage (seat me) → IsStopWord (word_of (completion_access v stage))
       completion_named v stage x = search (below_in, v.acked, below_gives, arith)

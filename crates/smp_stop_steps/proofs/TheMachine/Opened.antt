@@ -5,9 +5,8 @@ use Rattle.smp_labels.specs.{Entries.entry_word, Labels.Labels, Labels.AreLabels
 use Rattle.smp_words.specs.declared.size.TheConstants.{SLOT_WORDS}
 use Rattle.smp_words.proofs.Zeros.{get_or-same, zero_at}
 use Rattle.smp_stop_steps.specs.{has, MOST_SITES, MOST_KEYS, cpus, labels_in, no_stops, Free, Shut, StopControlValue, stop_outside, StopWords, stop_number}
-use Rattle.smp_stop_steps.specs.{slot_cell, StopsShow, setup_of, first_below}
+use Rattle.smp_stop_steps.specs.{slot_cell, StopsShow, setup_of, first_below, Field}
 use Rattle.smp_stop_steps.proofs.Steps.Facts.{no_stops_shown}
-use Rattle.smp_stop_steps.specs.field
 
 -- the least member, where there is one
 pub first_is : (mask k : ℕ) → (first_below mask k ≡ k → (c : ℕ) → c < k → has mask c ≡ false) × (first_below mask k ≢ k → (first_below mask k < k) ×
@@ -40,7 +39,7 @@ opened_shown online labels t controls member below are gate slots entries lawful
   source = λ _. Shut;
   shows = no_stops_shown (setup_of online labels) (stop_number t)
       record { first = first_online online member below; below = below; few = omega arith; few_keys = are.few_keys; named = named_entry labels.entries }
-      gate (λ s. rw slots (zero_at SLOT_WORDS (slot_cell s field.Roll)))
+      gate (λ s. rw slots (zero_at SLOT_WORDS (slot_cell s Field.Roll)))
       (search (length-map, read_zeros, arith))
       lawful (λ k. rw off (get_or-same 0 MOST_KEYS k));
   sits = λ cpu low. rw outside (rw (get_or-same stop_outside cpus cpu) record { below = low; irq = refl; seat = refl; source = refl; gate_held = tt });

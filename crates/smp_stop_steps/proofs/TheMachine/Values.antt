@@ -9,15 +9,13 @@ use Rattle.smp_labels.specs.{Entries.IsEntryWord, Entries.entry_at, Law.Table, P
 use Rattle.smp_stop_steps.specs.{CarriesIn, labels_in, HoldsGate, FitsRound, StopState, StopWords, StopsShow, RoundStage, EnterKind, LoadResult, MOST_SITES}
 use Rattle.smp_stop_steps.specs.{AreI32Words, HasI32Answers, put, StopControlValue, round_access, control_then, stop_words_after, stop_control_of, site_changes}
 use Rattle.smp_stop_steps.specs.{word_of, Patches, Patching, Whole, FitsStop, Complete, EnterMask, LoadDone, OpenGate, TakeGate, NudgeKey, StopStage, Sits.Sits}
-use Rattle.smp_stop_steps.specs.{cpus, Rests, SitsAt, Setup, at_then, Advance, Begin, Close, Enter, Visit, Work, Entry, Gate, Word, is_on}
+use Rattle.smp_stop_steps.specs.{cpus, Rests, SitsAt, Setup, at_then, Advance, Begin, Close, Enter, Visit, Work, Entry, Gate, Word, is_on, CompletionStage}
 use Rattle.smp_stop_steps.specs.{LabelsShow, SitsInRound, changes_of, FitsAccess, stop_access, state_after, stop_number, IsStopTable, EnterActive, ExchangeKey}
 use Rattle.smp_stop_steps.specs.declared.stage.StopStage.TheVariants.{ReadKey, ReadSite}
 use Rattle.smp_stop_steps.proofs.TheMachine.Named.{gate_stays, stage_named, work_in}
 use Rattle.smp_stop_steps.proofs.Steps.StateWords.{ArePhases, phases_after}
 use Rattle.smp_stop_steps.proofs.TheMachine.Tables.{IsStopWord, stop_words_by_name, table_after}
 use Rattle.smp_stop_steps.proofs.{Steps.CallSteps.call_step, Steps.CompletionSteps.stop_step_shown, Steps.Facts.work_words, Steps.AnswerWords.keeps_answers}
-use Rattle.smp_stop_steps.specs.completion
-use Rattle.smp_stop_steps.specs.round
 
 -- the controls by CPU, with one of them set
 pub stop_controls_by_cpu : (controls : List StopControlValue) (me cpu : ℕ) (x : StopControlValue) → me < length controls →
@@ -119,14 +117,14 @@ module _ (u : Setup) (few : u.cpus ≡ cpus) (p : StopState) (t : StopWords) (co
 
       round_fits : (w : Visit) (st : RoundStage) → SitsInRound u me c.changes w st (v.seat me) →
           FitsRound c w st (at (word_of (round_access u.cpus c.changes w st)))
-      round_fits w (round.Look answer) x = tt
-      round_fits w (round.LoadFunc answer) x =
+      round_fits w (RoundStage.Look answer) x = tt
+      round_fits w (RoundStage.LoadFunc answer) x =
           let work = x.1.0 in
           let same = (work_words u p at v.seat v.source v.shows w.slot me work 2 3 Rests x.1.1.3).func in
           let f = (work_in u p at v.seat v.source v.shows few v.shut me w.slot work 2 3 Rests x.1.1.3).func in subst (λ n. n < 2 ^ 16) (sym same) f
-      round_fits w (round.LoadArg answer func) x = tt
-      round_fits w (round.LoadKey key change) x = tt
-      round_fits w (round.LoadEntry key word site) x = (entry_fits site x.3, x.3, long x.0 word site x.2 x.4)
+      round_fits w (RoundStage.LoadArg answer func) x = tt
+      round_fits w (RoundStage.LoadKey key change) x = tt
+      round_fits w (RoundStage.LoadEntry key word site) x = (entry_fits site x.3, x.3, long x.0 word site x.2 x.4)
         where
           entry_fits : (site : ℕ) → site < MOST_SITES → IsEntryWord (at (Entry site))
           entry_fits site low = (lawful p.now.patching v.shows.present.labels).entries site low
@@ -140,10 +138,10 @@ module _ (u : Setup) (few : u.cpus ≡ cpus) (p : StopState) (t : StopWords) (co
           long : (work : Work) (word site : ℕ) → site ≤ length u.entries → c.changes ≡ changes_of u work word site → length c.changes ≤ site + 1
           long work word site within are = let l = changes_long work.func (is_on word) 0 (take site u.entries) in let t = length-take-le site u.entries
               within in let e = ap length are in omega arith
-      round_fits w (round.StoreChange made) x = x.4
-      round_fits w (round.Acknowledge answer ran) x = x.2
-      round_fits w (round.Refill ran) x = tt
-      round_fits w (round.Raise ran) x = tt
+      round_fits w (RoundStage.StoreChange made) x = x.4
+      round_fits w (RoundStage.Acknowledge answer ran) x = x.2
+      round_fits w (RoundStage.Refill ran) x = tt
+      round_fits w (RoundStage.Raise ran) x = tt
 
       go : (st : StopStage) → c.stage ≡ Some st → FitsStop c st (at (word_of (stop_access u.cpus me c.changes st)))
       go TakeGate e = tt
@@ -154,14 +152,14 @@ module _ (u : Setup) (few : u.cpus ≡ cpus) (p : StopState) (t : StopWords) (co
       go (EnterMask slot kind) e = tt
       go (EnterActive slot kind mask) e = tt
       go (Advance w st) e = round_fits w st (seat_at (Advance w st) e).1
-      go (Complete w (completion.LoadFunc answer)) e =
-          let x = (seat_at (Complete w (completion.LoadFunc answer)) e).1 in
+      go (Complete w (CompletionStage.LoadFunc answer)) e =
+          let x = (seat_at (Complete w (CompletionStage.LoadFunc answer)) e).1 in
           let work = x.1.0 in
           let same = (work_words u p at v.seat v.source v.shows w.slot me work w.acked w.acked Rests x.1.2).func in
           let f = (work_in u p at v.seat v.source v.shows few v.shut me w.slot work w.acked w.acked Rests x.1.2).func in subst (λ n. n < 2 ^ 16) (sym same) f
-      go (Complete w (completion.LoadArg answer func)) e = tt
-      go (Complete w completion.StoreAnswer) e = tt
-      go (Complete w completion.CountDown) e = tt
+      go (Complete w (CompletionStage.LoadArg answer func)) e = tt
+      go (Complete w CompletionStage.StoreAnswer) e = tt
+      go (Complete w CompletionStage.CountDown) e = tt
       go (Close slot) e = tt
       go LoadDone e = tt
       go LoadResult e = tt
