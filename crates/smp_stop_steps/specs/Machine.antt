@@ -19,8 +19,7 @@ moved_on controls cpu found stage = stop_outcome cpu (stop_control_of controls c
 
 -- what is seen of the step
 abbrev pub stop_seen_at : StopsValue → ℕ → StopStage → Seen
-stop_seen_at v cpu stage =
-    let found = stop_found_at v cpu stage in
+stop_seen_at v cpu stage = let found = stop_found_at v cpu stage in
     seen_of cpu (stop_access_at v cpu stage) found (stop_outcome cpu (stop_control_of v.controls cpu) stage found).note
 
 -- the half after it

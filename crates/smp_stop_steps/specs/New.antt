@@ -6,8 +6,7 @@ use Rattle.smp_stop_steps.specs.{Names.MOST_KEYS, Names.MOST_SITES, Names.cpus, 
 
 -- the words of a stop table with a free gate, free slots, and all keys off
 abbrev pub new_stop_words : Labels → StopWords
-new_stop_words labels =
-    let unused : List ℕ = replicate (MOST_SITES - length labels.entries) 0 in
+new_stop_words labels = let unused : List ℕ = replicate (MOST_SITES - length labels.entries) 0 in
     record {
       gate = 0;
       slots = replicate SLOT_WORDS 0;

@@ -70,8 +70,7 @@ SitsInRound u me changes v (RoundStage.LoadEntry key word site) x =
 SitsInRound u me changes v (RoundStage.StoreChange made) x =
     (work : Work) × (count : ℕ) × IsLoaded v work × (v.acked ≡ DISABLE_IRQ) × (made < length changes) × (changes ≡ plan_at u work count) ×
     ((before after : List Change) × (changes ≡ before ++ after) × (length before ≡ made) × (x ≡ Alters v.slot work count before after))
-SitsInRound u me changes v (RoundStage.Acknowledge answer ran) x =
-    (work : Work) × IsLoaded v work × (v.acked ≤ RUN) ×
+SitsInRound u me changes v (RoundStage.Acknowledge answer ran) x = (work : Work) × IsLoaded v work × (v.acked ≤ RUN) ×
     (((x ≡ In v.slot work v.acked (v.acked + 1) Rests) × RunsIf me v ran) ⊎
     ((v.acked ≡ DISABLE_IRQ) × (ran ≡ true) × ((count : ℕ) × (answer ≡ patch_answer work count) × (x ≡ Alters v.slot work count (plan_at u work count) []))))
 SitsInRound u me changes v (RoundStage.Refill ran) x = (work : Work) × IsLoaded v work × (x ≡ In v.slot work v.acked v.acked Fills) × HasRun me v ran
@@ -102,8 +101,7 @@ SitsAt u me c (Some (Close slot)) x = (c.visit ≡ None) × (x ≡ Closes slot)
 SitsAt u me c (Some (ReadKey k)) x = (c.interrupts ≡ true) × (k < u.keys) × SitsAtRest c.visit x
 SitsAt u me c (Some (ReadSite i)) x = (c.interrupts ≡ true) × (i < length u.entries) × SitsAtRest c.visit x
 SitsAt u me c (Some (NudgeKey k up)) x = (c.interrupts ≡ true) × (u.online me ≡ true) × (k < u.keys) × SitsAtRest c.visit x
-SitsAt u me c (Some (ExchangeKey k expected new)) x =
-    (c.interrupts ≡ true) × (u.online me ≡ true) × (k < u.keys) × IsNudge expected new × SitsAtRest c.visit x
+SitsAt u me c (Some (ExchangeKey k expected new)) x = (c.interrupts ≡ true) × (u.online me ≡ true) × (k < u.keys) × IsNudge expected new × SitsAtRest c.visit x
 SitsAt u me c _ x = SitsAtRest c.visit x
 
 -- a source whose stop is open or not

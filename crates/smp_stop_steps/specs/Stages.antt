@@ -115,8 +115,7 @@ turn_ends c p ran = stop_ends (record c { interrupts = if p == EXIT then true el
 
 -- a new phase: at DISABLE_IRQ interrupts go off, at RUN an active CPU runs its function
 abbrev pub looked_on : ℕ → StopControlValue → Visit → ℕ → ℕ → StopOutcome
-looked_on me c v answer p =
-    stop_goes (record c { interrupts = if p == DISABLE_IRQ then false else c.interrupts })
+looked_on me c v answer p = stop_goes (record c { interrupts = if p == DISABLE_IRQ then false else c.interrupts })
     (Advance v (if p == RUN && has v.active me then RoundStage.LoadFunc answer else RoundStage.Acknowledge answer false))
 
 -- the visit once the phase is acknowledged
@@ -124,22 +123,19 @@ abbrev pub visit_acked : Visit → ℕ → Bool → Visit
 visit_acked v answer ran = record v { acked = v.acked + 1; answer = if ran then answer else v.answer }
 
 abbrev pub acked_on : StopControlValue → Visit → Bool → ℕ → StopOutcome
-acked_on c v ran found =
-    if found == 1 then stop_goes (record c { visit = Some v }) (Advance v (RoundStage.Refill ran))
+acked_on c v ran found = if found == 1 then stop_goes (record c { visit = Some v }) (Advance v (RoundStage.Refill ran))
     else turn_ends (record c { visit = Some v }) v.acked ran
 
 -- a patch with this loaded entry, and the next one, or its stores
 abbrev pub entry_on : StopControlValue → Visit → ℕ → ℕ → ℕ → ℕ → StopOutcome
-entry_on c v key word site found =
-    stop_goes (record c { changes = c.changes ++ site_change key (is_on word) site (entry_at found) })
+entry_on c v key word site found = stop_goes (record c { changes = c.changes ++ site_change key (is_on word) site (entry_at found) })
     (Advance v (if found == 0 || site + 1 == MOST_SITES then RoundStage.StoreChange 0 else RoundStage.LoadEntry key word (site + 1)))
 
 -- the first load of a patch: at the end of its range nothing is stored, and the answer is 1; nothing where the count
 -- stays; the key alone where it is on or off as before; else the entries are loaded first
 abbrev pub key_on : StopControlValue → Visit → ℕ → ℕ → Option ℕ → StopOutcome
 key_on c v key found None = stop_goes (record c { changes = [] }) (Advance v (RoundStage.Acknowledge 1 true))
-key_on c v key found (Some new) =
-    if found == new then stop_goes (record c { changes = [] }) (Advance v (RoundStage.Acknowledge 0 true))
+key_on c v key found (Some new) = if found == new then stop_goes (record c { changes = [] }) (Advance v (RoundStage.Acknowledge 0 true))
     else stop_goes (record c { changes = (Place.Key key, new) ∷ [] })
     (Advance v (if xor (is_on found) (is_on new) then RoundStage.LoadEntry key new 0 else RoundStage.StoreChange 0))
 
@@ -163,8 +159,7 @@ completes_from v = if v.answer == 0 then CompletionStage.CountDown else Completi
 
 abbrev pub completion_outcome : StopControlValue → Visit → CompletionStage → ℕ → StopOutcome
 completion_outcome c v (CompletionStage.LoadFunc answer) found = stop_goes c (Complete v (CompletionStage.LoadArg answer found))
-completion_outcome c v (CompletionStage.LoadArg answer func) found =
-    let w = record v { answer = answer } in
+completion_outcome c v (CompletionStage.LoadArg answer func) found = let w = record v { answer = answer } in
     record { control = record c { stage = Some (Complete w (completes_from w)); visit = Some w }; note = Some (Note.Run func found) }
 completion_outcome c v CompletionStage.StoreAnswer found = stop_goes c (Complete v CompletionStage.CountDown)
 completion_outcome c v CompletionStage.CountDown found =

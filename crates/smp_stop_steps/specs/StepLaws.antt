@@ -24,6 +24,5 @@ StepsKeepLaws v p = (cpu : ℕ) (stage : StopStage) → (stop_control_of v.contr
 
 -- whatever stops the half shows, the note of this step says what it has changed of them
 abbrev pub StopNoteTold : StopsValue → ℕ → StopStage → Type 0
-StopNoteTold v cpu stage =
-    let seen = stop_seen_at v cpu stage in
+StopNoteTold v cpu stage = let seen = stop_seen_at v cpu stage in
     (p : StopState) → StopShown p v → StopNoteFits p (tells (setup_of v.online v.labels) p seen (answer_at stage)) seen.cpu seen.word seen.note

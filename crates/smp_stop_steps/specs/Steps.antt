@@ -7,8 +7,7 @@ use Rattle.smp_stop_steps.specs.{Tells.carried, Tells.tells, Seats.Seat, Sources
 
 -- the state after a step of a CPU at this stage
 abbrev pub state_after : Setup → StopState → (Word → ℕ) → StopControlValue → ℕ → StopStage → StopState
-state_after u p at c me stage =
-    let access = stop_access u.cpus me c.changes stage in
+state_after u p at c me stage = let access = stop_access u.cpus me c.changes stage in
     let found = at (word_of access) in
     tells u p (seen_of me access found (stop_outcome me c stage found).note) (answer_at stage)
 

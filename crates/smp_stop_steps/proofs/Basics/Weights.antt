@@ -18,8 +18,7 @@ bit_is mask k = let low = bit_at-lt mask k in go (bit_at mask k) low
 pub weight_ones : (k mask : ℕ) → mask_weight k mask ≡ ones (mask % 2 ^ k)
 unfolding sum_below
 weight_ones zero mask = search (ones-le, arith)
-weight_ones (suc k) mask =
-    let next : suc k ≡ 1 + k = omega arith in
+weight_ones (suc k) mask = let next : suc k ≡ 1 + k = omega arith in
     let low : mask % 2 ^ k < 2 ^ k = omega (arith, pow_pos k) in
     let top : ones (mask % 2 ^ suc k) ≡ ones (bit_at mask k * 2 ^ k + mask % 2 ^ k) = ap (λ e. ones (mask % 2 ^ e)) next ∙ ap ones (mod-pow-add mask 1 k) in
     let one = bit_is mask k in

@@ -46,8 +46,7 @@ module _ (p : StopState) (at : Word → ℕ) (seat : ℕ → Seat) (source : ℕ
 
   pub give : (s : ℕ) (w : Work) (a l x : ℕ) → v.seat ≡ In s w a l Rests → IsThrough w a → x ≢ 0 → is_drafting v.source ≡ false → v.part.calling ≢ Idle →
       Stores (Slot s Field.Result) x (slot_stored Field.Result x v)
-  give s w a l x is through some idle runs =
-      let at' = put_word at (Slot s Field.Result) x in
+  give s w a l x is through some idle runs = let at' = put_word at (Slot s Field.Result) x in
       let here = sees.seat_is ∙ is in
       let f = p.calling v.number in
       let g = with_answer x f in
@@ -70,8 +69,7 @@ module _ (p : StopState) (at : Word → ℕ) (seat : ℕ → Seat) (source : ℕ
 
   completed_leaves : (s : ℕ) (w : Work) (a x found : ℕ) → s < cpus → Leaves v.number p (completes_with p v.number s a x found) (completed_with found s w x
       v).part
-  completed_leaves s w a x found low =
-      let k = sees.part_is in
+  completed_leaves s w a x found low = let k = sees.part_is in
       let more = p.answers v.number s ++ x ∷ [] in
       let mine = put (p.answers v.number) s more in
       let grown : AreFirst cpus mine [] (set v.part.answers s more) = first_put cpus (p.answers v.number) [] v.part.answers s more k.answers low in
@@ -87,16 +85,14 @@ module _ (p : StopState) (at : Word → ℕ) (seat : ℕ → Seat) (source : ℕ
       told u p v.number Act.Sub (Slot s Field.Todo) (Some found) (Some (one_less found)) 0 ≡ p' →
       StopShows u p' at' (put seat v.number (cond (found == 1) (Closes s) Free)) source →
       Goes Act.Sub (Slot s Field.Todo) (Some found) (Some (one_less found)) at' (completed_with found s w x v)
-  counted_goes s w a x low plain shown =
-      let found = at (Slot s Field.Todo) in
+  counted_goes s w a x low plain shown = let found = at (Slot s Field.Todo) in
       let p' = completes_with p v.number s a x found in
       goes_seat p seat source v sees p' (put_word at (Slot s Field.Todo) (found - 1)) (cond (found == 1) (Closes s) Free) (completed_with found s w x v).part
       (told_so u v.number p p' Act.Sub (Slot s Field.Todo) (Some found) (Some (one_less found)) plain) shown (completed_leaves s w a x found low)
 
   pub count : (s : ℕ) (w : Work) (a l : ℕ) → v.seat ≡ In s w a l Rests → IsThrough w a → s < cpus →
       Subs (Slot s Field.Todo) (completed_by (at (Slot s Field.Todo)) v.seat v)
-  count s w a l is through low =
-      let found = at (Slot s Field.Todo) in
+  count s w a l is through low = let found = at (Slot s Field.Todo) in
       let here = sees.seat_is ∙ is in
       let st = stands p at seat source v h sees (In s w a l Rests) is in
       let bounds = todo_bounds u p at seat source h s v.number w a l Rests here in
@@ -108,8 +104,7 @@ module _ (p : StopState) (at : Word → ℕ) (seat : ℕ → Seat) (source : ℕ
 
   pub count_given : (s : ℕ) (w : Work) (a x : ℕ) → v.seat ≡ Gives s w a x → s < cpus →
       Subs (Slot s Field.Todo) (completed_by (at (Slot s Field.Todo)) v.seat v)
-  count_given s w a x is low =
-      let found = at (Slot s Field.Todo) in
+  count_given s w a x is low = let found = at (Slot s Field.Todo) in
       let here = sees.seat_is ∙ is in
       let st = stands p at seat source v h sees (Gives s w a x) is in
       let bounds = todo_bounds_answered u p at seat source h s v.number w a x here in
@@ -120,8 +115,7 @@ module _ (p : StopState) (at : Word → ℕ) (seat : ℕ → Seat) (source : ℕ
       search (less_one found bounds.0 (small found bounds.1), is, shown', arith)
 
   pub close : (s : ℕ) → v.seat ≡ Closes s → is_drafting v.source ≡ false → Stores (Slot s Field.Done) 1 (slot_stored Field.Done 1 v)
-  close s is idle =
-      let at' = put_word at (Slot s Field.Done) 1 in
+  close s is idle = let at' = put_word at (Slot s Field.Done) 1 in
       let st = stands p at seat source v h sees (Closes s) is in
       let plain : told u p v.number Act.Store (Slot s Field.Done) None (Some 1) 0 ≡ stored_open p v.number s Field.Done 1 =
       ap (λ b. cond b (stored_open p v.number s Field.Done 1) (stored_shut p s Field.Done 1)) st.1 in

@@ -21,8 +21,7 @@ not_at_run s w a l t on = search (at_test, arith)
 -- the counts of one CPU, with one moved
 counted_first : (f : ℕ → ℕ → Moved) (me k old new : ℕ) (list : List Moved) → AreFirst MOST_KEYS (f me) unmoved list → k < MOST_KEYS →
     AreFirst MOST_KEYS (moved_by f me k old new me) unmoved (counted list k old new)
-counted_first f me k old new list h low =
-    let mine = put (f me) k (moves (f me k) old new) in
+counted_first f me k old new list h low = let mine = put (f me) k (moves (f me k) old new) in
     let shown' = first_put MOST_KEYS (f me) unmoved list k (moves (f me k) old new) h low in
     search (put_same f me mine, ← h.each k low, shown', arith)
 
@@ -54,12 +53,10 @@ module _ (p : StopState) (at : Word → ℕ) (seat : ℕ → Seat) (source : ℕ
       (key_loaded u p.now v.number k found (p.now.inside v.number) ≡ reads p.now v.number (ReadKey k (is_on found))) × (key_loaded_by k found x v ≡
       key_read_known k found v)
   key_plain k found Free e on = (ap (λ i. key_loaded u p.now v.number k found i) (stands p at seat source v h sees Free e), refl)
-  key_plain k found (In s w a l t) e on =
-      let calm = not_at_run s w a l t on in
+  key_plain k found (In s w a l t) e on = let calm = not_at_run s w a l t on in
       let patch = record (p.now) { patching = patch_begun u v.number (p.now.stop s).work found } in
       let plain = reads p.now v.number (ReadKey k (is_on found)) in (search arith)
-  key_plain k found (Gives s w a x) e on =
-      let st = stands p at seat source v h sees (Gives s w a x) e in
+  key_plain k found (Gives s w a x) e on = let st = stands p at seat source v h sees (Gives s w a x) e in
       let patch = record (p.now) { patching = patch_begun u v.number (p.now.stop s).work found } in
       let plain = reads p.now v.number (ReadKey k (is_on found)) in
       (ap (λ i. key_loaded u p.now v.number k found i) st.0 ∙ ap (λ y. cond (is_at_run y && is_patch (p.now.stop s).work.kind) patch plain) st.1, refl)
@@ -67,8 +64,7 @@ module _ (p : StopState) (at : Word → ℕ) (seat : ℕ → Seat) (source : ℕ
   key_plain k found (Closes s) e on = (ap (λ i. key_loaded u p.now v.number k found i) (stands p at seat source v h sees (Closes s) e).0, refl)
 
   pub read_key : (k : ℕ) → IsOn → Loads (Key k) (key_loaded_by k (at (Key k)) v.seat v)
-  read_key k on =
-      let found = at (Key k) in
+  read_key k on = let found = at (Key k) in
       let r = ReadKey k (is_on found) in
       let plain = key_plain k found v.seat refl on in
       let p' = record p { now = reads p.now v.number r } in
@@ -81,8 +77,7 @@ module _ (p : StopState) (at : Word → ℕ) (seat : ℕ → Seat) (source : ℕ
       (reads_leaves r)))
 
   pub read_site : (i : ℕ) → Loads (Site i) (reads_more (ReadSite i (is_on (at (Site i)))) v)
-  read_site i =
-      let r = ReadSite i (is_on (at (Site i))) in
+  read_site i = let r = ReadSite i (is_on (at (Site i))) in
       let p' = record p { now = reads p.now v.number r } in
       goes_still p seat source v sees p' at (record (v.part) { readings = v.part.readings ++ r ∷ [] })
       (told_so u v.number p p' Act.Load (Site i) (Some (at (Site i))) None refl) (site_read u p at seat source h v.number i 0) (reads_leaves r)
@@ -95,8 +90,7 @@ module _ (p : StopState) (at : Word → ℕ) (seat : ℕ → Seat) (source : ℕ
       go : (b : Bool) → (at (Key k) == found) ≡ b → let set = cond b (Some new) None in
           Goes Act.Cas (Key k) (Some (at (Key k))) set (put_if put_word at (Key k) set) (key_known Act.Cas k (Some (at (Key k))) set v)
       go false e = noted p seat source v sees at v (v.moves ++ own.Lost k ∷ []) (still p at seat source v h sees Act.Cas (Key k) (Some (at (Key k))) None refl)
-      go true e =
-          let was : at (Key k) ≡ found = eqb-true (at (Key k)) found e in
+      go true e = let was : at (Key k) ≡ found = eqb-true (at (Key k)) found e in
           let parts = sees.part_is in
           let p' = record p { nudged = moved_by p.nudged v.number k found new } in
           let shown' = goes_still p seat source v sees p' (put_word at (Key k) new) (record (v.part) { nudged = counted v.part.nudged k found new })
@@ -113,8 +107,7 @@ module _ (p : StopState) (at : Word → ℕ) (seat : ℕ → Seat) (source : ℕ
 
   pub begin_patch : (s : ℕ) (w : Work) → v.seat ≡ In s w 2 3 Rests → w.kind ≡ Patch → has w.active v.number ≡ true →
       Loads (Key w.func) (key_loaded_by w.func (at (Key w.func)) v.seat v)
-  begin_patch s w is kind active =
-      let found = at (Key w.func) in
+  begin_patch s w is kind active = let found = at (Key w.func) in
       let r = ReadKey w.func (is_on found) in
       let next = Alters s w found [] (plan_at u w found) in
       let st = stands p at seat source v h sees (In s w 2 3 Rests) is in
@@ -149,8 +142,7 @@ module _ (p : StopState) (at : Word → ℕ) (seat : ℕ → Seat) (source : ℕ
       let a = store_of (x, n) in
       let seen = seen_of v.number a (at (word_of a)) None in
       GoesOnBy v.setting p seat source v.number (at_after at a) (learned (entering p (word_of a)) v seen.act seen.word seen.found seen.put) seen
-  alter s w count made rest (Place.Key k) n is plan low =
-      let next = Alters s w count (made ++ (Place.Key k, n) ∷ []) rest in
+  alter s w count made rest (Place.Key k) n is plan low = let next = Alters s w count (made ++ (Place.Key k, n) ∷ []) rest in
       let at' = put_word at (Key k) n in
       let st = stands p at seat source v h sees (Alters s w count made ((Place.Key k, n) ∷ rest)) is in
       let first = plan_key_first w.func count (count_set w count) u.entries made k n rest plan in
@@ -163,8 +155,7 @@ module _ (p : StopState) (at : Word → ℕ) (seat : ℕ → Seat) (source : ℕ
       (put seat v.number next) source) plain (key_stored u p at seat source h v.number s w count made rest k n 0 sees.below (sees.seat_is ∙ is) first.0
       first.1)) (patched_leaves k count n p'.now (subst (λ i. i < MOST_KEYS) (sym first.1) low) (λ c. refl)) in
       search (is, shown', arith)
-  alter s w count made rest (Place.Site i) n is plan low =
-      let next = Alters s w count (made ++ (Place.Site i, n) ∷ []) rest in
+  alter s w count made rest (Place.Site i) n is plan low = let next = Alters s w count (made ++ (Place.Site i, n) ∷ []) rest in
       let p' = told u p v.number Act.Store (Site i) None (Some n) 0 in
       let shown' = goes_seat p seat source v sees p' (put_word at (Site i) n) next v.part
       (told_so u v.number p p' Act.Store (Site i) None (Some n) refl) (site_stored u p at seat source h v.number s w count made rest i n 0

@@ -66,8 +66,7 @@ module _ (p : StopState) (at : Word → ℕ) (seat : ℕ → Seat) (source : ℕ
       let a = known_access v m in
       let seen = seen_of v.number a (at (word_of a)) None in
       Goes seen (at_after at a) (known_entering (entering p (word_of a)) v seen.act seen.word seen.found seen.put)
-  known_move m may =
-      let a = known_access v m in
+  known_move m may = let a = known_access v m in
       let seen = seen_of v.number a (at (word_of a)) None in
       counted_step p seat source v sees (at_after at a) (learned (entering p (word_of a)) v seen.act seen.word seen.found seen.put)
       (is_due (is_drafting v.source) seen.act seen.word) (tells_move m may)

@@ -71,8 +71,7 @@ module _ (p : StopState) (at : Word → ℕ) (seat : ℕ → Seat) (source : ℕ
           let n = bit_and (at (Slot s Field.Roll)) (all_but v.number) in
           Goes Act.And (Slot s Field.Roll) (Some (at (Slot s Field.Roll))) (Some n) (put_word at (Slot s Field.Roll) n)
           (entered_known s (p.now.stop s).work b v)
-      go true found =
-          let n = bit_and (at (Slot s Field.Roll)) (all_but v.number) in
+      go true found = let n = bit_and (at (Slot s Field.Roll)) (all_but v.number) in
           let at' = put_word at (Slot s Field.Roll) n in
           let next = In s (p.now.stop s).work 0 0 Rests in
           let p' = record p { now = enters p.now v.number s } in
@@ -84,8 +83,7 @@ module _ (p : StopState) (at : Word → ℕ) (seat : ℕ → Seat) (source : ℕ
           (roll_cleared u p at seat source h s v.number n 0 (sees.seat_is ∙ free) found (clear_same (at (Slot s Field.Roll)) v.number low)
           (λ c ne. clear_other (at (Slot s Field.Roll)) v.number c low ne (high_none u p at seat source h s c))))
           record { mine = sees.part_is; others = λ c ne. refl })
-      go false missing =
-          let n = bit_and (at (Slot s Field.Roll)) (all_but v.number) in
+      go false missing = let n = bit_and (at (Slot s Field.Roll)) (all_but v.number) in
           let entered = record p { now = enters p.now v.number s } in
           attempted p seat source v sees (put_word at (Slot s Field.Roll) n) v (v.attempts ++ record { slot = s; entered = false } ∷ [])
           (subst (λ m. Goes Act.And (Slot s Field.Roll) (Some (at (Slot s Field.Roll))) (Some n) (put_word at (Slot s Field.Roll) m) v)
@@ -96,8 +94,7 @@ module _ (p : StopState) (at : Word → ℕ) (seat : ℕ → Seat) (source : ℕ
   -- a round
 
   pub look : (s : ℕ) (w : Work) (a l : ℕ) → v.seat ≡ In s w a l Rests → a ≢ 4 → Loads (Slot s Field.State) (looked_known (at (Slot s Field.State)) v)
-  look s w a l is more =
-      let found = at (Slot s Field.State) in
+  look s w a l is more = let found = at (Slot s Field.State) in
       let seen = p.looks v.number ++ found ∷ [] in
       let p' = told u p v.number Act.Load (Slot s Field.State) (Some found) None 0 in
       let shown' = goes_seat p seat source v sees p' at (In s w a found Rests) (record (v.part) { looks = v.part.looks ++ found ∷ [] })
@@ -140,8 +137,7 @@ module _ (p : StopState) (at : Word → ℕ) (seat : ℕ → Seat) (source : ℕ
 
   pub acknowledge : (s : ℕ) (w : Work) (a : ℕ) → v.seat ≡ In s w a (a + 1) Rests → (a ≡ 2 → HasCalled v.number w v.part.calling) →
       Subs (Slot s Field.Ack) (acked_by (at (Slot s Field.Ack)) v.seat v)
-  acknowledge s w a is ready =
-      let found = at (Slot s Field.Ack) in
+  acknowledge s w a is ready = let found = at (Slot s Field.Ack) in
       let here = sees.seat_is ∙ is in
       let st = stands (In s w a (a + 1) Rests) is in
       let bounds = ack_bounds u p at seat source h s v.number w a here in
@@ -167,8 +163,7 @@ module _ (p : StopState) (at : Word → ℕ) (seat : ℕ → Seat) (source : ℕ
 
   pub acknowledge_patch : (s : ℕ) (w : Work) (count : ℕ) (made : List Change) → v.seat ≡ Alters s w count made [] →
       Subs (Slot s Field.Ack) (acked_by (at (Slot s Field.Ack)) v.seat v)
-  acknowledge_patch s w count made is =
-      let found = at (Slot s Field.Ack) in
+  acknowledge_patch s w count made is = let found = at (Slot s Field.Ack) in
       let here = sees.seat_is ∙ is in
       let st = stands (Alters s w count made []) is in
       let bounds = ack_bounds_patched u p at seat source h s v.number w count made here in
@@ -201,8 +196,7 @@ module _ (p : StopState) (at : Word → ℕ) (seat : ℕ → Seat) (source : ℕ
       go : (b : Bool) → may_call v.number w (Inside a l) ≡ b → Loads (Slot s Field.Arg)
           (cond b (record v { part = record (v.part) { calling = Calls call } }) v)
       go false e = still p at seat source v h sees Act.Load (Slot s Field.Arg) (Some (at (Slot s Field.Arg))) None (search (is_may, arith))
-      go true e =
-          let p' = record p { calling = put p.calling v.number (Calls call) } in
+      go true e = let p' = record p { calling = put p.calling v.number (Calls call) } in
           let plain : told u p v.number Act.Load (Slot s Field.Arg) (Some (at (Slot s Field.Arg))) None 0 ≡ p' =
           search (is_may, arith) in
           goes_still p seat source v sees p' at (record (v.part) { calling = Calls call })
@@ -212,8 +206,7 @@ module _ (p : StopState) (at : Word → ℕ) (seat : ℕ → Seat) (source : ℕ
 
   pub refill : (s : ℕ) (w : Work) (a l : ℕ) → v.seat ≡ In s w a l Fills → is_drafting v.source ≡ false →
       Stores (Slot s Field.Ack) (mask_weight cpus w.mask) (slot_stored Field.Ack (mask_weight cpus w.mask) v)
-  refill s w a l is idle =
-      let x = mask_weight cpus w.mask in
+  refill s w a l is idle = let x = mask_weight cpus w.mask in
       let at' = put_word at (Slot s Field.Ack) x in
       let known : slot_stored Field.Ack x v ≡ record v { seat = In s w a l Sets } =
       ap (λ b. cond b (drafted_known Field.Ack x v) (member_stored Field.Ack x v)) idle ∙ ap (λ y. record v { seat = refilled_by y }) is in
@@ -226,8 +219,7 @@ module _ (p : StopState) (at : Word → ℕ) (seat : ℕ → Seat) (source : ℕ
 
   pub raise : (s : ℕ) (w : Work) (a l : ℕ) → v.seat ≡ In s w a l Sets → is_drafting v.source ≡ false →
       Stores (Slot s Field.State) (a + 1) (slot_stored Field.State (a + 1) v)
-  raise s w a l is idle =
-      let x = a + 1 in
+  raise s w a l is idle = let x = a + 1 in
       let at' = put_word at (Slot s Field.State) x in
       let st = stands (In s w a l Sets) is in
       let part = read_since (x == 5) s w v in

@@ -108,8 +108,7 @@ module _ (p : StopState) (at : Word → ℕ) (seat : ℕ → Seat) (source : ℕ
       go : (b : Bool) → (at Gate == 0) ≡ b → let new = cond b (Some (v.number + 1)) None in
           Goes Act.Cas Gate (Some (at Gate)) new (put_if put_word at Gate new) (gate_known Act.Cas new v)
       go false e = noted p seat source v sees at v (v.moves ++ own.Busy ∷ []) (still Act.Cas Gate (Some (at Gate)) None refl)
-      go true e =
-          let p' = record p { gate = Some v.number } in
+      go true e = let p' = record p { gate = Some v.number } in
           let part = record (v.part) { holds = true } in
           noted p seat source v sees (put_word at Gate (v.number + 1)) (record v { part = part }) (v.moves ++ own.Took ∷ [])
           (goes_still p seat source v sees p' (put_word at Gate (v.number + 1)) part
@@ -118,8 +117,7 @@ module _ (p : StopState) (at : Word → ℕ) (seat : ℕ → Seat) (source : ℕ
           (search (holds_alone, eq-eqb, ne_eqb, arith)))
 
   pub open_gate : v.part.holds ≡ true → is_drafting v.source ≡ false → Stores Gate 0 (gate_known Act.Store (Some 0) v)
-  open_gate holds idle =
-      let mine : p.gate ≡ Some v.number = holder p.gate v.number (sees.part_is.holds ∙ holds) in
+  open_gate holds idle = let mine : p.gate ≡ Some v.number = holder p.gate v.number (sees.part_is.holds ∙ holds) in
       let p' = record p { gate = None } in
       let part = record (v.part) { holds = false } in
       noted p seat source v sees (put_word at Gate 0) (record v { part = part }) (v.moves ++ own.Gave ∷ [])
@@ -134,8 +132,7 @@ module _ (p : StopState) (at : Word → ℕ) (seat : ℕ → Seat) (source : ℕ
 
   -- the source may be taken for another of which the same is told
   restaged : (y : Source) → SourceIs y → StopShows u p at seat (put source v.number y)
-  restaged y it =
-      let sources' = put_all (λ j x. SourceShows u p.gate (p.now.stop j) (λ f. at (Slot j f)) j x) source v.number y it (λ j ne. h.sources j) in
+  restaged y it = let sources' = put_all (λ j x. SourceShows u p.gate (p.now.stop j) (λ f. at (Slot j f)) j x) source v.number y it (λ j ne. h.sources j) in
       search (sources', arith)
 
   source_here : (y : Source) → source v.number ≡ y → SourceIs y
@@ -144,8 +141,7 @@ module _ (p : StopState) (at : Word → ℕ) (seat : ℕ → Seat) (source : ℕ
   -- a field is stored, by a source that drafts this work
   field_goes : (work : Work) (f : Field) → DraftShows u p.gate (p.now.stop v.number) (λ f. at (Slot v.number f)) v.number work (order f) → order f < 10 →
       Stores (Slot v.number f) (begun_value cpus work f) (record v { source = Drafts (told_work (order f + 1) work) (order f + 1) })
-  field_goes work f d low =
-      let drafting = put source v.number (Drafts work (order f)) in
+  field_goes work f d low = let drafting = put source v.number (Drafts work (order f)) in
       let next = Drafts work (order f + 1) in
       let x = begun_value cpus work f in
       let p' = record p { now = drafts p.now v.number f x } in
@@ -163,14 +159,12 @@ module _ (p : StopState) (at : Word → ℕ) (seat : ℕ → Seat) (source : ℕ
 
   pub draft : (work : Work) → v.source ≡ Shut → v.part.holds ≡ true → IsWork u work →
       Stores (Slot v.number Field.Kind) (begun_value cpus work Field.Kind) (draft_known (begun_value cpus work Field.Kind) v)
-  draft work shut holds is =
-      let shown' = field_goes work Field.Kind (search (holder, is, arith)) (omega arith) in
+  draft work shut holds is = let shown' = field_goes work Field.Kind (search (holder, is, arith)) (omega arith) in
       search (kind_back work.kind, shown', arith)
 
   pub draft_more : (work : Work) (f : Field) → v.source ≡ Drafts (told_work (order f) work) (order f) → IsWork u work → order f ≢ 0 → order f < 10 →
       Stores (Slot v.number f) (begun_value cpus work f) (slot_stored f (begun_value cpus work f) v)
-  draft_more work f e is ne low =
-      let x = begun_value cpus work f in
+  draft_more work f e is ne low = let x = begun_value cpus work f in
       let k = order f in
       let y = is_draft (source v.number) work k (sees.source_is ∙ e) in
       let d : DraftShows u p.gate (p.now.stop v.number) (λ f. at (Slot v.number f)) v.number y.work k = source_here (Drafts y.work k) y.is in
@@ -181,8 +175,7 @@ module _ (p : StopState) (at : Word → ℕ) (seat : ℕ → Seat) (source : ℕ
       subst (λ (q : Known). Stores (Slot v.number f) x q) (sym known) (field_goes work f same low)
 
   pub open_stop : (work : Work) → v.source ≡ Drafts (told_work 10 work) 10 → Stores (Slot v.number Field.Roll) work.mask (opened_by v.source v)
-  open_stop work e =
-      let y = is_draft (source v.number) work 10 (sees.source_is ∙ e) in
+  open_stop work e = let y = is_draft (source v.number) work 10 (sees.source_is ∙ e) in
       let is : source v.number ≡ Drafts work 10 = y.is ∙ ap (λ z. Drafts z 10) y.same in
       let d : DraftShows u p.gate (p.now.stop v.number) (λ f. at (Slot v.number f)) v.number work 10 = source_here (Drafts work 10) is in
       let t = d.told in
@@ -221,8 +214,7 @@ module _ (p : StopState) (at : Word → ℕ) (seat : ℕ → Seat) (source : ℕ
       go true e = subst (λ o. Loads (Slot v.number Field.Done) (looked true o)) is
           (noted p seat source v sees at v (v.moves ++ own.NotDone ∷ [])
           (still Act.Load (Slot v.number Field.Done) (Some (at (Slot v.number Field.Done))) None refl))
-      go false e =
-          let one : at (Slot v.number Field.Done) ≡ 1 =
+      go false e = let one : at (Slot v.number Field.Done) ≡ 1 =
           search (done_is, h.present.slots, arith) in
           goes_source p seat source v sees p at (Collects w) (Collects w) v.part
           (told_so u v.number p p Act.Load (Slot v.number Field.Done) (Some (at (Slot v.number Field.Done))) None refl)
@@ -230,8 +222,7 @@ module _ (p : StopState) (at : Word → ℕ) (seat : ℕ → Seat) (source : ℕ
           refl tt
 
   pub collect : (w : Work) → v.source ≡ Collects w → Loads (Slot v.number Field.Result) (collected_known (at (Slot v.number Field.Result)) v)
-  collect w is =
-      let found = at (Slot v.number Field.Result) in
+  collect w is = let found = at (Slot v.number Field.Result) in
       let there = is_collects (source v.number) w (sees.source_is ∙ is) in
       let p' = told u p v.number Act.Load (Slot v.number Field.Result) (Some found) None 0 in
       let part = record (v.part) { collected = v.part.collected ++ found ∷ [] } in

@@ -190,7 +190,6 @@ module _ (v : Known) where
   weighs (LoadEntry s x count made rest i) may found = refl
 
 pub known_steps_count : KnownStepsCount
-known_steps_count v m may found w =
-    let seen = seen_of v.number (known_access v m) found None in
+known_steps_count v m may found w = let seen = seen_of v.number (known_access v m) found None in
     one_unless v (is_due (is_drafting v.source) seen.act seen.word) (weight_of m) (learned w v seen.act seen.word seen.found seen.put)
     (weighs v m may found) (told v m found w)

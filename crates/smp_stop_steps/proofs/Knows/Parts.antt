@@ -42,21 +42,19 @@ module _ (p : StopState) (seat : ℕ → Seat) (source : ℕ → Source) (v : Kn
   -- no other knows a CPU's own moves, its attempts to enter a stop, and how many steps it has made
   listed : {seen : Seen} (at' : Word → ℕ) (w : Known) (moves : List OwnMove) (attempts : List Attempt) (steps : ℕ) → By seen at' w
       → By seen at' (record w { moves = moves; attempts = attempts; steps = steps })
-  listed {seen} at' w moves attempts steps g =
-      let s = g.goes.mine in
+  listed {seen} at' w moves attempts steps g = let s = g.goes.mine in
       record {
-        goes =
-            record {
-              stops = g.goes.stops;
-              seats = g.goes.seats;
-              sources = g.goes.sources;
-              shown = g.goes.shown;
-              mine = record { below = s.below; seat_is = s.seat_is; source_is = s.source_is; is_begun = s.is_begun; part_is = s.part_is };
-              number_is = g.goes.number_is;
-              setting_is = g.goes.setting_is;
-              others = g.goes.others;
-              still = g.goes.still;
-            };
+        goes = record {
+          stops = g.goes.stops;
+          seats = g.goes.seats;
+          sources = g.goes.sources;
+          shown = g.goes.shown;
+          mine = record { below = s.below; seat_is = s.seat_is; source_is = s.source_is; is_begun = s.is_begun; part_is = s.part_is };
+          number_is = g.goes.number_is;
+          setting_is = g.goes.setting_is;
+          others = g.goes.others;
+          still = g.goes.still;
+        };
         told = g.told;
       }
 
@@ -78,24 +76,23 @@ module _ (p : StopState) (seat : ℕ → Seat) (source : ℕ → Source) (v : Kn
       ((c : ℕ) → c ≢ v.number → seat' c ≡ seat c) → ((c : ℕ) → c ≢ v.number → source' c ≡ source c) →
       By seen at' (record v { seat = x; source = y; part = part })
   goes {seen} p' at' seat' source' x y part is shown leaves here there begun seats sources = record {
-    goes =
-        record {
-          stops = p';
-          seats = seat';
-          sources = source';
-          shown = shown;
-          mine = record { below = sees.below; seat_is = here; source_is = there; is_begun = begun; part_is = leaves.mine };
-          number_is = refl;
-          setting_is = refl;
-          others = λ o ne s. record {
-            below = s.below;
-            seat_is = seats o.number ne ∙ s.seat_is;
-            source_is = ap told_source (sources o.number ne) ∙ s.source_is;
-            is_begun = subst IsBegun (sym (sources o.number ne)) s.is_begun;
-            part_is = subst (λ (c : Columns). IsPart c o.part) (sym (leaves.others o.number ne)) s.part_is;
-          };
-          still = λ c ne. (seats c ne, sources c ne);
-        };
+    goes = record {
+      stops = p';
+      seats = seat';
+      sources = source';
+      shown = shown;
+      mine = record { below = sees.below; seat_is = here; source_is = there; is_begun = begun; part_is = leaves.mine };
+      number_is = refl;
+      setting_is = refl;
+      others = λ o ne s. record {
+        below = s.below;
+        seat_is = seats o.number ne ∙ s.seat_is;
+        source_is = ap told_source (sources o.number ne) ∙ s.source_is;
+        is_begun = subst IsBegun (sym (sources o.number ne)) s.is_begun;
+        part_is = subst (λ (c : Columns). IsPart c o.part) (sym (leaves.others o.number ne)) s.part_is;
+      };
+      still = λ c ne. (seats c ne, sources c ne);
+    };
     told = is;
   }
 

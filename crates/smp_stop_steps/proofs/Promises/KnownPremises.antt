@@ -62,8 +62,7 @@ module _ (p : StopState) (at : Word → ℕ) (seat : ℕ → Seat) (source : ℕ
   stored_shut n f shut gate = subst (λ b. MayStoreIf b p me me f n) (sym shut) (refl, gate)
 
   drafting : (w : Work) (k n : ℕ) (f : Field) → v.source ≡ Drafts (told_work k w) k → MayStoreIf (p.now.stop me).is_open p me me f n
-  drafting w k n f e =
-      let y = is_draft (source me) w k (sees.source_is ∙ e) in
+  drafting w k n f e = let y = is_draft (source me) w k (sees.source_is ∙ e) in
       let d : DraftShows u p.gate (p.now.stop me) (slot me) me y.work k = source_is (Drafts y.work k) y.is in
       stored_shut n f d.shut d.holds
 
@@ -79,8 +78,7 @@ module _ (p : StopState) (at : Word → ℕ) (seat : ℕ → Seat) (source : ℕ
 
   through_there : (s : ℕ) (w : Work) (a l : ℕ) → IsThroughAll w a → v.seat ≡ In s w a l Rests
       → (p.now.inside me ≡ Some s) × IsThrough (p.now.stop s) me (acked ((p.now.stop s).standing me))
-  through_there s w a l all is =
-      let st = at_seat (In s w a l Rests) is in
+  through_there s w a l all is = let st = at_seat (In s w a l Rests) is in
       (st.0, subst (λ (z : Standing). IsThrough (p.now.stop s) me (acked z)) (sym st.1) (through s w a l all is))
 
   irq_on : irq_of v.seat ≡ true → p.now.irq me ≡ true
@@ -98,8 +96,7 @@ module _ (p : StopState) (at : Word → ℕ) (seat : ℕ → Seat) (source : ℕ
   altering (Place.Site i, n) run = run
 
   ended : (w : Work) → v.source ≡ Collects w → IsPremised (known_access v (Collect w))
-  ended w is =
-      let there = is_collects (source me) w (sees.source_is ∙ is) in
+  ended w is = let there = is_collects (source me) w (sees.source_is ∙ is) in
       let o : OwnerShows u (p.now.stop me) w × ((p.now.stop me).ending ≡ Ended) = source_is (Collects w) there in
       let op = o.0.is_open in
       let d : DoneShows u.cpus (p.now.stop me).standing Ended (slot me Field.Done) = subst (λ e. DoneShows u.cpus (p.now.stop me).standing e
@@ -132,8 +129,7 @@ module _ (p : StopState) (at : Word → ℕ) (seat : ℕ → Seat) (source : ℕ
   may_see (Count s w a l) m = through_there s w a l m.1 m.0
   may_see (CountGiven s w a x) m = search (at_seat, keeps_inside, h.present.slots, rests_me, arith)
   may_see (Close s) m = let st = at_seat (Closes s) m.0 in stored_open s 1 Field.Done st.1 (refl, st.2)
-  may_see (LookDone w) m =
-      let o : OwnerShows u (p.now.stop me) w = source_is (Owns w) (is_owns (source me) w (sees.source_is ∙ m)) in (refl, o.is_open)
+  may_see (LookDone w) m = let o : OwnerShows u (p.now.stop me) w = source_is (Owns w) (is_owns (source me) w (sees.source_is ∙ m)) in (refl, o.is_open)
   may_see (Collect w) m = ended w m
   may_see (ReadKey k) m = inl (irq_on m)
   may_see (ReadSite i) m = inl (irq_on m)

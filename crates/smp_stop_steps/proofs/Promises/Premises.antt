@@ -80,8 +80,7 @@ module _ (u : Setup) (p : StopState) (at : Word → ℕ) (seat : ℕ → Seat) (
   at_stage (Complete v stage) x y g = in_completion v stage x.1
   at_stage (Close j) x y g = let st = stands (Closes j) x.1 in stored_open j 1 Field.Done st.1 (refl, st.2)
   at_stage LoadDone x y g = let o : OwnerShows u (p.now.stop me) y.1.0 = source_is (Owns y.1.0) y.1.1 in (refl, o.is_open)
-  at_stage LoadResult x y g =
-      let o : OwnerShows u (p.now.stop me) y.1.0 × ((p.now.stop me).ending ≡ Ended) = source_is (Collects y.1.0) y.1.1 in
+  at_stage LoadResult x y g = let o : OwnerShows u (p.now.stop me) y.1.0 × ((p.now.stop me).ending ≡ Ended) = source_is (Collects y.1.0) y.1.1 in
       let op = o.0.is_open in
       let d : DoneShows u.cpus (p.now.stop me).standing Ended (slot me Field.Done) = subst (λ e. DoneShows u.cpus (p.now.stop me).standing e
       (slot me Field.Done)) o.1 ((h.present.slots me).shows op).done in (

@@ -50,8 +50,7 @@ module _ (u : Setup) (p : Present) (at : Word → ℕ) (seat : ℕ → Seat) (h 
       irq' me ≡ irq_of next → (u.online me ≡ true → irq_of next ≡ true → AllByRecursion (Agrees (labels_in at)) (readings' me)) →
       PresentShows u (moved p s (acknowledged (p.stop s) me (a + 1) (at (Slot s Ack))) p.inside irq' readings') (put_word at (Slot s Ack)
       (at (Slot s Ack) - 1)) (put seat me next)
-  step_acknowledges job a is off read =
-      let found = at (Slot s Ack) in
+  step_acknowledges job a is off read = let found = at (Slot s Ack) in
       let stop' = acknowledged (p.stop s) me (a + 1) found in
       let w : Field → ℕ = λ f. at (Slot s f) in
       let st : Stands p me (In s job a (a + 1) Rests) = subst (Stands p me) is (h.stands me) in
@@ -76,8 +75,7 @@ module _ (u : Setup) (p : Present) (at : Word → ℕ) (seat : ℕ → Seat) (h 
       irq' me ≡ irq_of (In s job a l Sets) → (u.online me ≡ true → irq_of (In s job a l Sets) ≡ true → AllByRecursion (Agrees (labels_in at)) (readings' me)) →
       PresentShows u (moved p s (refilled (p.stop s) me) p.inside irq' readings') (put_word at (Slot s Ack) (weight u.cpus (p.stop s).standing))
       (put seat me (In s job a l Sets))
-  step_refills job a l is phase off read =
-      let w : Field → ℕ = λ f. at (Slot s f) in
+  step_refills job a l is phase off read = let w : Field → ℕ = λ f. at (Slot s f) in
       let st : Stands p me (In s job a l Fills) = subst (Stands p me) is (h.stands me) in
       let open_ = is_open_inside u.cpus (p.stop s) w (h.slots s) me (Inside a l) st.1 refl in
       let mine = fills_me me (p.stop s).raising st.2 in
@@ -95,8 +93,7 @@ module _ (u : Setup) (p : Present) (at : Word → ℕ) (seat : ℕ → Seat) (h 
       (readings' me)) →
       PresentShows u (moved p s (raised (p.stop s) ((p.stop s).phase + 1)) p.inside irq' readings') (put_word at (Slot s State) ((p.stop s).phase + 1))
       (put seat me (In s job a l Rests))
-  step_raises job a l is phase off read =
-      let w : Field → ℕ = λ f. at (Slot s f) in
+  step_raises job a l is phase off read = let w : Field → ℕ = λ f. at (Slot s f) in
       let n = (p.stop s).phase + 1 in
       let st : Stands p me (In s job a l Sets) = subst (Stands p me) is (h.stands me) in
       let open_ = is_open_inside u.cpus (p.stop s) w (h.slots s) me (Inside a l) st.1 refl in
@@ -114,8 +111,7 @@ module _ (u : Setup) (p : Present) (at : Word → ℕ) (seat : ℕ → Seat) (h 
       let next = In s job a (at (Slot s State)) Rests in
       irq' me ≡ irq_of next → (u.online me ≡ true → irq_of next ≡ true → AllByRecursion (Agrees (labels_in at)) (readings' me)) →
       PresentShows u (moved p s (stands (p.stop s) me (Inside a (at (Slot s State)))) p.inside irq' readings') at (put seat me next)
-  step_looks job a l is more off read =
-      let w : Field → ℕ = λ f. at (Slot s f) in
+  step_looks job a l is more off read = let w : Field → ℕ = λ f. at (Slot s f) in
       let to = Inside a (at (Slot s State)) in
       let stop' = stands (p.stop s) me to in
       let st : Stands p me (In s job a l Rests) = subst (Stands p me) is (h.stands me) in

@@ -38,8 +38,7 @@ module _ (p a v : ℕ) where
 module _ (cpus : ℕ) (standing : ℕ → Standing) (me a v todo : ℕ) (small : me < cpus) (is : IsUnfinished (standing me)) (was : todo ≡ count_unfinished cpus
     standing) where
   one_less : count_unfinished cpus (put standing me (Completed a v)) + 1 ≡ todo
-  one_less =
-      let s = sum_put (λ c. unfinished (standing c)) (λ c. unfinished (put standing me (Completed a v) c)) me cpus small (search (put_other, arith)) in
+  one_less = let s = sum_put (λ c. unfinished (standing c)) (λ c. unfinished (put standing me (Completed a v) c)) me cpus small (search (put_other, arith)) in
       let now : unfinished (put standing me (Completed a v) me) ≡ 0 = ap unfinished (put_same standing me (Completed a v)) in
       let then : unfinished (standing me) ≡ 1 = is in
       omega arith
@@ -55,8 +54,7 @@ module _ (cpus : ℕ) (stop : Stop) (word : Field → ℕ) (g : SlotShows cpus s
   -- fetch_sub of todo
   pub completes_slot : (a v : ℕ) → IsAnswer (stop.standing me) a v → IsThrough stop me a →
       SlotShows cpus (completed stop me a v (word Todo)) (put_field word Todo (word Todo - 1))
-  completes_slot a v is through =
-      let to = Completed a v in
+  completes_slot a v is through = let to = Completed a v in
       let of = answer_of_it stop.phase a v (stop.standing me) is in
       let o = g.shows (is_open_inside cpus stop word g me (stop.standing me) refl of) in
       let small = in_machine cpus stop.phase me (stop.standing me) of (g.keeps me) in

@@ -20,8 +20,7 @@ module _ (u : Setup) (p : Present) (at : Word → ℕ) (seat : ℕ → Seat) (h 
   -- store of the roll
   pub step_opens : (work : Work) → (p.stop s).is_open ≡ false → IsWork u work → IsStored u.cpus w work 10 →
       PresentShows u (moved p s (opened (p.stop s) work) p.inside p.irq p.readings) (put_word at (Slot s Roll) work.mask) seat
-  step_opens work shut is_work stored =
-      source_moves u p at (put_word at (Slot s Roll) work.mask) seat s (opened (p.stop s) work) h
+  step_opens work shut is_work stored = source_moves u p at (put_word at (Slot s Roll) work.mask) seat s (opened (p.stop s) work) h
       (slot_put u.cpus p.stop at s Roll work.mask (opened (p.stop s) work) h.slots (opens_slot u.cpus (p.stop s) w (h.slots s) work is_work.below
       is_work.some stored)) refl
       (search (nobody, calls, apart, arith))
@@ -42,8 +41,7 @@ module _ (u : Setup) (p : Present) (at : Word → ℕ) (seat : ℕ → Seat) (h 
   -- store of a field but the roll, where no stop is open
   pub step_drafts : (f : Field) (n : ℕ) (work : Work) → (p.stop s).is_open ≡ false → same_field f Roll true ≡ false →
       PresentShows u (moved p s (record (p.stop s) { work = work }) p.inside p.irq p.readings) (put_word at (Slot s f) n) seat
-  step_drafts f n work shut other =
-      let out = all_outside u.cpus (p.stop s) w (h.slots s) shut in
+  step_drafts f n work shut other = let out = all_outside u.cpus (p.stop s) w (h.slots s) shut in
       let stop' : Stop = record (p.stop s) { work = work } in
       source_moves u p at (put_word at (Slot s f) n) seat s stop' h
       (slot_put u.cpus p.stop at s f n stop' h.slots (drafted_slot f n work shut out other)) refl
@@ -66,8 +64,7 @@ module _ (u : Setup) (p : Present) (at : Word → ℕ) (seat : ℕ → Seat) (h 
 
   -- load of the result, after done was found
   pub step_collects : (p.stop s).is_open ≡ true → at (Slot s Done) ≡ 1 → PresentShows u (moved p s (closed (p.stop s)) p.inside p.irq p.readings) at seat
-  step_collects open_ found =
-      source_moves u p at at seat s (closed (p.stop s)) h
+  step_collects open_ found = source_moves u p at at seat s (closed (p.stop s)) h
       (slot_same u.cpus p.stop at s (closed (p.stop s)) h.slots (collects_slot u.cpus (p.stop s) w (h.slots s) open_ found).1) refl
       (search (gone, apart, running, arith))
       (λ bad kind. absurd (apart bad))
@@ -82,8 +79,7 @@ module _ (u : Setup) (p : Present) (at : Word → ℕ) (seat : ℕ → Seat) (h 
       inside_unfinished x e = search arith
 
       gone : count_unfinished u.cpus (p.stop s).standing ≡ 0 → (c : ℕ) → is_inside ((p.stop s).standing c) ≡ true → ⊥
-      gone z c i =
-          let both = inside_unfinished ((p.stop s).standing c) i in
+      gone z c i = let both = inside_unfinished ((p.stop s).standing c) i in
           let zero_ = sum_zero (λ c. unfinished ((p.stop s).standing c)) u.cpus z c (search (in_machine, h.slots, arith)) in
           omega arith
 
@@ -102,8 +98,7 @@ module _ (u : Setup) (p : Present) (at : Word → ℕ) (seat : ℕ → Seat) (h 
         c) →
         PresentShows u (moved p s (stands (p.stop s) me (Inside 0 0)) (put p.inside me (Some s)) p.irq p.readings) (put_word at (Slot s Roll) n)
         (put seat me (In s (p.stop s).work 0 0 Rests))
-    step_enters n is found clears others =
-        let to = Inside 0 0 in
+    step_enters n is found clears others = let to = Inside 0 0 in
         let stop' = stands (p.stop s) me to in
         let st : Stands p me Free = subst (Stands p me) is (h.stands me) in
         moves u p at (put_word at (Slot s Roll) n) seat s me stop' (put p.inside me (Some s)) p.irq p.readings (In s (p.stop s).work 0 0 Rests) h
@@ -128,8 +123,7 @@ module _ (u : Setup) (p : Present) (at : Word → ℕ) (seat : ℕ → Seat) (h 
         irq_of (seat me) ≡ true → IsNoPatch (seat me) →
         PresentShows u (moved p s (completed (p.stop s) me a v (at (Slot s Todo))) (put p.inside me None) p.irq p.readings)
         (put_word at (Slot s Todo) (at (Slot s Todo) - 1)) (put seat me (cond (at (Slot s Todo) == 1) (Closes s) Free))
-    step_completes a v in_ is turn through on mine =
-        let found = at (Slot s Todo) in
+    step_completes a v in_ is turn through on mine = let found = at (Slot s Todo) in
         let stop' = completed (p.stop s) me a v found in
         let of = answer_of_it (p.stop s).phase a v ((p.stop s).standing me) is in
         let open_ = is_open_inside u.cpus (p.stop s) w (h.slots s) me ((p.stop s).standing me) refl of in
@@ -152,8 +146,7 @@ module _ (u : Setup) (p : Present) (at : Word → ℕ) (seat : ℕ → Seat) (h 
         irq_after b = search arith
 
         not_last : (c : ℕ) → me < u.cpus → DoneShows u.cpus (p.stop s).standing (Last c) (at (Slot s Done)) → ⊥
-        not_last c small d =
-            let z = sum_zero (λ c. unfinished ((p.stop s).standing c)) u.cpus d.1 me small in
+        not_last c small d = let z = sum_zero (λ c. unfinished ((p.stop s).standing c)) u.cpus d.1 me small in
             let u = answer_unfinished (p.stop s).phase a v ((p.stop s).standing me) is in omega arith
 
         now : (b : Bool) → (p.stop s).is_open ≡ true →
@@ -164,8 +157,7 @@ module _ (u : Setup) (p : Present) (at : Word → ℕ) (seat : ℕ → Seat) (h 
     -- store of done by the last
     pub step_finishes : seat me ≡ Closes s →
         PresentShows u (moved p s (ended (p.stop s)) p.inside p.irq p.readings) (put_word at (Slot s Done) 1) (put seat me Free)
-    step_finishes is =
-        let st : Stands p me (Closes s) = subst (Stands p me) is (h.stands me) in
+    step_finishes is = let st : Stands p me (Closes s) = subst (Stands p me) is (h.stands me) in
         moves u p at (put_word at (Slot s Done) 1) seat s me (ended (p.stop s)) p.inside p.irq p.readings Free h
         (slot_put u.cpus p.stop at s Done 1 (ended (p.stop s)) h.slots (finishes_slot u.cpus (p.stop s) w (h.slots s) me st.2)) refl
         (search arith)
@@ -182,8 +174,7 @@ module _ (u : Setup) (p : Present) (at : Word → ℕ) (seat : ℕ → Seat) (h 
         irq_of (seat me) ≡ true →
         PresentShows u (moved p s (stands (p.stop s) me (Answering a v)) p.inside p.irq p.readings) (put_word at (Slot s Result) v)
         (put seat me (Gives s job a v))
-    step_answers job a l v is some through quiet on =
-        let to = Answering a v in
+    step_answers job a l v is some through quiet on = let to = Answering a v in
         let stop' = stands (p.stop s) me to in
         let st : Stands p me (In s job a l Rests) = subst (Stands p me) is (h.stands me) in
         moves u p at (put_word at (Slot s Result) v) seat s me stop' p.inside p.irq p.readings (Gives s job a v) h

@@ -22,14 +22,12 @@ module _ (n : ℕ) (f : ℕ → ℕ → Moved) (me k old new : ℕ) (low : me < 
   elsewhere j ne c = search (at_test, put_other, arith)
 
   up_moved : ups n f' k ≡ ups n f k + (new - old)
-  up_moved =
-      let s = sum_put (λ c. (f c k).up) (λ c. (f' c k).up) me n low (λ c ne. ap (λ (m : Moved). m.up) (others c ne)) in
+  up_moved = let s = sum_put (λ c. (f c k).up) (λ c. (f' c k).up) me n low (λ c ne. ap (λ (m : Moved). m.up) (others c ne)) in
       let g : (f' me k).up ≡ (f me k).up + (new - old) = ap (λ (m : Moved). m.up) here in
       omega arith
 
   down_moved : downs n f' k ≡ downs n f k + (old - new)
-  down_moved =
-      let s = sum_put (λ c. (f c k).down) (λ c. (f' c k).down) me n low (λ c ne. ap (λ (m : Moved). m.down) (others c ne)) in
+  down_moved = let s = sum_put (λ c. (f c k).down) (λ c. (f' c k).down) me n low (λ c ne. ap (λ (m : Moved). m.down) (others c ne)) in
       let g : (f' me k).down ≡ (f me k).down + (old - new) = ap (λ (m : Moved). m.down) here in
       omega arith
 

@@ -32,8 +32,7 @@ field_false f g = search arith
 pub slot_put : (cpus : ℕ) (stop : ℕ → Stop) (at : Word → ℕ) (s : ℕ) (g : Field) (n : ℕ) (stop' : Stop) →
     ((j : ℕ) → SlotShows cpus (stop j) (λ f. at (Slot j f))) → SlotShows cpus stop' (put_field (λ f. at (Slot s f)) g n) →
     (j : ℕ) → SlotShows cpus (put stop s stop' j) (λ f. put_word at (Slot s g) n (Slot j f))
-slot_put cpus stop at s g n stop' old new j =
-    at_test j s (λ b. SlotShows cpus (cond b stop' (stop j)) (λ f. cond (same_field f g b) n (at (Slot j f))))
+slot_put cpus stop at s g n stop' old new j = at_test j s (λ b. SlotShows cpus (cond b stop' (stop j)) (λ f. cond (same_field f g b) n (at (Slot j f))))
     (λ e. let P : ℕ → Type 0 = λ k. SlotShows cpus stop' (put_field (λ f. at (Slot k f)) g n) in subst P (sym e) new)
     (λ ne. subst (SlotShows cpus (stop j)) (λ t f. cond (sym (field_false f g) t) n (at (Slot j f))) (old j))
 

@@ -48,8 +48,7 @@ module _ (past : List Past) (stop : Stop) (begun : List Work) (collected : List 
     pub past_completes : (me a v found : ℕ) → answer_now (stop.standing me) ≡ [] →
         (stop.work.kind ≢ One → has stop.work.active me ≡ false → v ≡ 0) →
         PastShows past (completed stop me a v found) begun collected (put answers me (answers me ++ v ∷ []))
-    past_completes me a v found none_ mine =
-        let active = active_put stop me (Completed a v) mine h.active in
+    past_completes me a v found none_ mine = let active = active_put stop me (Completed a v) mine h.active in
         search (at_test, h.answers_are, append-nil, active, arith)
 
     -- collect: what was collected grows by a result of the answers of its mask

@@ -30,8 +30,7 @@ off_inside p c s a l seat st in_ is m ne = search (off_at, le-ltb, arith)
 module _ (u : Setup) (p : Present) (at : Word → ℕ) (seat : ℕ → Seat) (h : PresentShows u p at seat) (s me : ℕ) where
   -- while a function runs, its whole mask has interrupts off
   pub all_off : (p.stop s).standing me ≡ Inside 2 3 → (c : ℕ) → has (p.stop s).work.mask c ≡ true → p.irq c ≡ false
-  all_off is c of =
-      let w : Field → ℕ = λ f. at (Slot s f) in
+  all_off is c of = let w : Field → ℕ = λ f. at (Slot s f) in
       let f = function_law u.cpus (p.stop s) w (h.slots s) me is in
       let of_it : is_of ((p.stop s).standing c) ≡ true = search (h.slots, arith) in
       h.irq c ∙ go ((p.stop s).standing c) refl of_it f.at_run (f.all_disabled c of) ((h.slots s).keeps c)
@@ -54,8 +53,7 @@ module _ (u : Setup) (p : Present) (at : Word → ℕ) (seat : ℕ → Seat) (h 
       let count = at (Key job.func) in
       (IsLawful (labels_in at) → SetsKey job.func (count_set job count) (labels_in at) (applied plan (labels_in at))) →
       PresentShows u (patches (Patches me job count [] plan)) at (put seat me (Alters s job count [] plan))
-  patch_starts job plan is kind active leads =
-      let mine : me ≡ u.first = search (eqb-true, h.works, arith) in
+  patch_starts job plan is kind active leads = let mine : me ≡ u.first = search (eqb-true, h.works, arith) in
       let whole : p.patching ≡ Whole = go p.patching h.runner mine in
       let lawful : IsLawful (labels_in at) = subst (λ x. LabelsShow x (labels_in at)) whole h.labels in
       let count = at (Key job.func) in
@@ -106,8 +104,7 @@ module _ (u : Setup) (p : Present) (at : Word → ℕ) (seat : ℕ → Seat) (h 
   -- all is stored: the table is lawful again, before the acknowledgement
   pub patch_ends : (job : Work) (count : ℕ) (made : List Change) → seat me ≡ Alters s job count made [] →
       PresentShows u (patches Whole) at (put seat me (In s job 2 3 Rests)) × StandsSet job (at (Key job.func))
-  patch_ends job count made is =
-      let st : Stands p me (Alters s job count made []) = subst (Stands p me) is (h.stands me) in
+  patch_ends job count made is = let st : Stands p me (Alters s job count made []) = subst (Stands p me) is (h.stands me) in
       let l : LabelsShow (Patches me job count made []) (labels_in at) = subst (λ x. LabelsShow x (labels_in at)) st.5 h.labels in
       let next = In s job 2 3 Rests in (
         record {

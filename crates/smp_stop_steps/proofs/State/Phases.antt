@@ -27,8 +27,7 @@ none_raises cpus p standing me a l is small ne zero_ =
 -- one CPU goes from the phase before to the phase: one fewer is behind
 pub one_fewer : (cpus p : ℕ) (standing : ℕ → Standing) (me a l : ℕ) → standing me ≡ Inside a l → me < cpus → a ≢ p →
     count_behind cpus p (put standing me (Inside p p)) + 1 ≡ count_behind cpus p standing
-one_fewer cpus p standing me a l is small ne =
-    let s = sum_put (λ c. behind p (standing c)) (λ c. behind p (put standing me (Inside p p) c)) me cpus small
+one_fewer cpus p standing me a l is small ne = let s = sum_put (λ c. behind p (standing c)) (λ c. behind p (put standing me (Inside p p) c)) me cpus small
     (λ j other. ap (behind p) (put_other standing me (Inside p p) j other)) in
     let was : behind p (standing me) ≡ 1 = ap (behind p) is ∙ behind_one p a l ne in
     let now : behind p (put standing me (Inside p p) me) ≡ 0 = ap (behind p) (put_same standing me (Inside p p)) ∙ behind_zero p p in

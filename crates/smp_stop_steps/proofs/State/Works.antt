@@ -58,8 +58,7 @@ module _ (cpus : ℕ) (stop : Stop) (word : Field → ℕ) (g : SlotShows cpus s
   -- an answer that is not 0 goes into the result word
   pub answers_slot : (a l v : ℕ) → stop.standing me ≡ Inside a l → v ≢ 0 → IsThrough stop me a →
       SlotShows cpus (stands stop me (Answering a v)) (put_field word Result v)
-  answers_slot a l v is some through =
-      let to = Answering a v in
+  answers_slot a l v is some through = let to = Answering a v in
       let o = g.shows (is_open_inside cpus stop word g me (Inside a l) is refl) in
       let k = keeps_inside cpus stop word g me (Inside a l) is in
       record {

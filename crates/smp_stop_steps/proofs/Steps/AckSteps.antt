@@ -24,8 +24,7 @@ module _ (u : Setup) (p : StopState) (at : Word → ℕ) (seat : ℕ → Seat) (
 
   pub acknowledge : CarriesIn c (p.calling me) → (answer : ℕ) (ran : Bool) → c.stage ≡ Some (Advance v (round.Acknowledge answer ran)) →
       StopStep u p at seat source c me (Advance v (round.Acknowledge answer ran))
-  acknowledge k answer ran e =
-      let r = in_round s v (round.Acknowledge answer ran) e in
+  acknowledge k answer ran e = let r = in_round s v (round.Acknowledge answer ran) e in
       either r.1.0 r.1.1 r.1.2 r.1.3 (round_source s v (round.Acknowledge answer ran) e)
     where
       -- who acknowledges RUN has called its function, or is not to call one
@@ -46,8 +45,7 @@ module _ (u : Setup) (p : StopState) (at : Word → ℕ) (seat : ℕ → Seat) (
           ((seat me ≡ In v.slot work v.acked (v.acked + 1) Rests) × RunsIf me v ran) ⊎ ((v.acked ≡ 2) × (ran ≡ true) ×
           ((count : ℕ) × (answer ≡ patch_answer work count) × (seat me ≡ Alters v.slot work count (plan_at u work count) []))) →
           OwnsIf c.is_open (source me) → StopStep u p at seat source c me (Advance v (round.Acknowledge answer ran))
-      either work loaded most (inl (is, calm)) y =
-          let next = In v.slot work (v.acked + 1) (v.acked + 1) (cond (at (Slot v.slot Ack) == 1) Fills Rests) in
+      either work loaded most (inl (is, calm)) y = let next = In v.slot work (v.acked + 1) (v.acked + 1) (cond (at (Slot v.slot Ack) == 1) Fills Rests) in
           let bounds = ack_bounds u p at seat source h v.slot me work v.acked is in
           let less = less_one (at (Slot v.slot Ack)) bounds.0 (ack_small (at (Slot v.slot Ack)) u.cpus h.setup.few bounds.1) in
           record {
@@ -75,8 +73,7 @@ module _ (u : Setup) (p : StopState) (at : Word → ℕ) (seat : ℕ → Seat) (
           search (shows', acked_sits, le-ltb, patch_run, arith)
 
   pub refill : (ran : Bool) → c.stage ≡ Some (Advance v (round.Refill ran)) → StopStep u p at seat source c me (Advance v (round.Refill ran))
-  refill ran e =
-      let r = in_round s v (round.Refill ran) e in
+  refill ran e = let r = in_round s v (round.Refill ran) e in
       let work = r.1.0 in
       let loaded = r.1.1 in
       let next = In v.slot work v.acked v.acked Sets in
@@ -87,8 +84,7 @@ module _ (u : Setup) (p : StopState) (at : Word → ℕ) (seat : ℕ → Seat) (
       search (shows', round_source, arith)
 
   pub raise : (ran : Bool) → c.stage ≡ Some (Advance v (round.Raise ran)) → StopStep u p at seat source c me (Advance v (round.Raise ran))
-  raise ran e =
-      let r = in_round s v (round.Raise ran) e in
+  raise ran e = let r = in_round s v (round.Raise ran) e in
       let work = r.1.0 in
       let next = In v.slot work v.acked v.acked Rests in
       let shows' = moved_seat u seat source me (state_after u p at c me (Advance v (round.Raise ran))) (at_then u at c me (Advance v (round.Raise ran))) next

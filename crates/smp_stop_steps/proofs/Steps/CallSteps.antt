@@ -111,8 +111,7 @@ module _ (u : Setup) (p : StopState) (at : Word → ℕ) (seat : ℕ → Seat) (
         go visit some work run same Patch is = search (h.present.stands, plain, q, arith)
 
     load_key : (key : ℕ) (change : KeyChange) → c.stage ≡ Some (Advance v (round.LoadKey key change)) → Now (Advance v (round.LoadKey key change))
-    load_key key change e =
-        let x = at_seat s (Advance v (round.LoadKey key change)) e in
+    load_key key change e = let x = at_seat s (Advance v (round.LoadKey key change)) e in
         let run = x.1.1.1 in
         let patch = sym run.0.kind ∙ x.1.0 in
         let idle = idle_patch me v.slot x.1.1.0 3 Rests f patch (calling_at (In v.slot x.1.1.0 2 3 Rests) run.3) in
@@ -235,8 +234,7 @@ module _ (u : Setup) (p : StopState) (at : Word → ℕ) (seat : ℕ → Seat) (
         either : (work : Work) → (((v.answer ≡ 0) × IsLoaded v work × IsThroughAll v × (seat me ≡ In v.slot work v.acked v.acked Rests)) ⊎
             (seat me ≡ Gives v.slot work v.acked v.answer)) → Now (Complete v completion.CountDown)
         either work (inl (none, loaded, all, is)) = search (v.acked, h.present.stands, done, found, none, left_one, q, none_acked, arith)
-        either work (inr is) =
-            let st : Stands p.now me (Gives v.slot work v.acked v.answer) = subst (Stands p.now me) is (h.present.stands me) in
+        either work (inr is) = let st : Stands p.now me (Gives v.slot work v.acked v.answer) = subst (Stands p.now me) is (h.present.stands me) in
             done v.acked v.answer (ap (λ (x : Standing). told_of (completes p me v.slot x found)) st.1) st.0 refl
             (λ _. given_called work v.acked v.answer f (calling_at (Gives v.slot work v.acked v.answer) is))
 

@@ -21,8 +21,7 @@ use Rattle.smp_stop_steps.specs.round
 module _ (u : Setup) (p : StopState) (at : Word → ℕ) (seat : ℕ → Seat) (source : ℕ → Source) (h : StopShows u p at seat source) (c : StopControlValue) (me : ℕ)
     (s : Sits u me (at Gate) c (seat me) (source me)) where
   enter : (slot : ℕ) → c.stage ≡ Some (Enter slot) → StopStep u p at seat source c me (Enter slot)
-  enter slot e =
-      let x = at_seat s (Enter slot) e in
+  enter slot e = let x = at_seat s (Enter slot) e in
       let g = go x.0 x.1 (at_source s (Enter slot) e) (has (at (Slot slot Roll)) me) refl in
       record { seat_after = g.0; source_after = source me; shows = g.1; sits = g.2 }
     where
@@ -32,14 +31,13 @@ module _ (u : Setup) (p : StopState) (at : Word → ℕ) (seat : ℕ → Seat) (
       go : c.visit ≡ None → seat me ≡ Free → OwnsIf c.is_open (source me) → (b : Bool) → has (at (Slot slot Roll)) me ≡ b →
           (x : Seat) × (StopShows u (state_after u p at c me (Enter slot)) (at_then u at c me (Enter slot)) (put seat me x) (put source me (source me))) ×
           Sits u me (at Gate) (cond b (stop_goes c (EnterKind slot)) (stop_ends c Note.Stale)).control x (source me)
-      go visit is y true found =
-          let next = In slot (p.now.stop slot).work 0 0 Rests in (
-            next,
-            moved_seat u seat source me (state_after u p at c me (Enter slot)) (at_then u at c me (Enter slot)) next
-                (roll_cleared u p at seat source h slot me (bit_and (at (Slot slot Roll)) (all_but me)) 0 is found (clear_same (at (Slot slot Roll)) me low)
-                (λ d ne. clear_other (at (Slot slot Roll)) me d low ne (high_none u p at seat source h slot d))),
-            record { below = s.below; irq = s.irq ∙ ap irq_of is; seat = ((p.now.stop slot).work, refl); source = y; gate_held = tt },
-          )
+      go visit is y true found = let next = In slot (p.now.stop slot).work 0 0 Rests in (
+        next,
+        moved_seat u seat source me (state_after u p at c me (Enter slot)) (at_then u at c me (Enter slot)) next
+            (roll_cleared u p at seat source h slot me (bit_and (at (Slot slot Roll)) (all_but me)) 0 is found (clear_same (at (Slot slot Roll)) me low)
+            (λ d ne. clear_other (at (Slot slot Roll)) me d low ne (high_none u p at seat source h slot d))),
+        record { below = s.below; irq = s.irq ∙ ap irq_of is; seat = ((p.now.stop slot).work, refl); source = y; gate_held = tt },
+      )
       go visit is y false missing = (
         seat me,
         still u seat source me (state_after u p at c me (Enter slot)) (at_then u at c me (Enter slot))
@@ -51,8 +49,7 @@ module _ (u : Setup) (p : StopState) (at : Word → ℕ) (seat : ℕ → Seat) (
       )
 
   close : (slot : ℕ) → c.stage ≡ Some (Close slot) → StopStep u p at seat source c me (Close slot)
-  close slot e =
-      let x = at_seat s (Close slot) e in
+  close slot e = let x = at_seat s (Close slot) e in
       let shows' = moved_seat u seat source me (state_after u p at c me (Close slot)) (at_then u at c me (Close slot)) Free (search (done_stored, arith)) in
       search (shows', at_source, arith)
 
@@ -64,8 +61,7 @@ module _ (u : Setup) (p : StopState) (at : Word → ℕ) (seat : ℕ → Seat) (
 
     one_arg : (answer func : ℕ) → c.stage ≡ Some (Complete v (completion.LoadArg answer func)) → StopStep u p at seat source c me
         (Complete v (completion.LoadArg answer func))
-    one_arg answer func e =
-        let x = at_seat s (Complete v (completion.LoadArg answer func)) e in
+    one_arg answer func e = let x = at_seat s (Complete v (completion.LoadArg answer func)) e in
         let shows' = still u seat source me (state_after u p at c me (Complete v (completion.LoadArg answer func))) at (arg_loaded u p at seat source h v.slot
         me x.1.1.0 v.acked v.acked Rests x.1.1.2 answer refl) in
         let sits' = go x.1.0 x.1.1.0 x.1.1.1 x.1.1.2 (at_source s (Complete v (completion.LoadArg answer func)) e) (answer == 0) refl in
@@ -88,8 +84,7 @@ module _ (u : Setup) (p : StopState) (at : Word → ℕ) (seat : ℕ → Seat) (
 
     store_answer : CarriesIn c (p.calling me) → c.stage ≡ Some (Complete v completion.StoreAnswer) → StopStep u p at seat source c me
         (Complete v completion.StoreAnswer)
-    store_answer k e =
-        let x = at_seat s (Complete v completion.StoreAnswer) e in
+    store_answer k e = let x = at_seat s (Complete v completion.StoreAnswer) e in
         let some = x.1.0 in
         let work = x.1.2.0 in
         let is : seat me ≡ In v.slot work v.acked v.acked Rests = x.1.2.2 in
@@ -118,8 +113,7 @@ module _ (u : Setup) (p : StopState) (at : Word → ℕ) (seat : ℕ → Seat) (
         either : (work : Work) → (((v.answer ≡ 0) × IsLoaded v work × IsThroughAll v × (seat me ≡ In v.slot work v.acked v.acked Rests)) ⊎
             (seat me ≡ Gives v.slot work v.acked v.answer)) →
             OwnsIf c.is_open (source me) → StopStep u p at seat source c me (Complete v completion.CountDown)
-        either work (inl (none, loaded, all, is)) y =
-            let found = at (Slot v.slot Todo) in
+        either work (inl (none, loaded, all, is)) y = let found = at (Slot v.slot Todo) in
             let through = through_of work loaded all in
             let next = cond (found == 1) (Closes v.slot) Free in
             let bounds = todo_bounds u p at seat source h v.slot me work v.acked v.acked Rests is in
@@ -129,8 +123,7 @@ module _ (u : Setup) (p : StopState) (at : Word → ℕ) (seat : ℕ → Seat) (
             (put_word at (Slot v.slot Todo) (found - 1)) next (todo_subtracted u p at seat source h v.slot me work v.acked v.acked 0 is through)) in
             let sits' = counted_sits y (s.irq ∙ on_now u p at seat source h v.slot me work v.acked v.acked is through) (found == 1) in
             search (shows', sits', arith)
-        either work (inr is) y =
-            let found = at (Slot v.slot Todo) in
+        either work (inr is) y = let found = at (Slot v.slot Todo) in
             let next = cond (found == 1) (Closes v.slot) Free in
             let bounds = todo_bounds_answered u p at seat source h v.slot me work v.acked v.answer is in
             let less = less_one found bounds.0 (ack_small found u.cpus h.setup.few bounds.1) in

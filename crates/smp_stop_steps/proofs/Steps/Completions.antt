@@ -27,8 +27,7 @@ module _ (u : Setup) (p : StopState) (at : Word → ℕ) (seat : ℕ → Seat) (
       ((c : ℕ) → c ≢ me → has n c ≡ has (at (Slot s Roll)) c) →
       StopShows u (told u p me Act.And (Slot s Roll) (Some (at (Slot s Roll))) (Some n) answer) (put_word at (Slot s Roll) n)
       (put seat me (In s (p.now.stop s).work 0 0 Rests)) source
-  roll_cleared n answer is found clears others =
-      let to = Inside 0 0 in
+  roll_cleared n answer is found clears others = let to = Inside 0 0 in
       let stop' = stands (p.now.stop s) me to in
       let inside' = put p.now.inside me (Some s) in
       let called : (p.now.stop s).standing me ≡ Called = called_is ((p.now.stop s).standing me) (sym ((h.present.slots s).roll me) ∙ found) in
@@ -80,8 +79,7 @@ module _ (u : Setup) (p : StopState) (at : Word → ℕ) (seat : ℕ → Seat) (
     -- store of an answer that is not 0
     pub result_stored : (v answer : ℕ) → v ≢ 0 → IsCalling me (Gives s job a v) (p.calling me) →
         StopShows u (told u p me Act.Store (Slot s Result) None (Some v) answer) (put_word at (Slot s Result) v) (put seat me (Gives s job a v)) source
-    result_stored v answer some calls =
-        let to = Answering a v in
+    result_stored v answer some calls = let to = Answering a v in
         let stop' = stands (p.now.stop s) me to in
         let at' = put_word at (Slot s Result) v in
         let inside : MovesInside ((p.now.stop s).standing me) to = search arith in
@@ -103,8 +101,7 @@ module _ (u : Setup) (p : StopState) (at : Word → ℕ) (seat : ℕ → Seat) (
       ((p.now.stop s).work.kind ≢ One → has (p.now.stop s).work.active me ≡ false → v ≡ 0) →
       let found = at (Slot s Todo) in
       StopShows u (completes_with p me s a v found) (put_word at (Slot s Todo) (found - 1)) (put seat me (cond (found == 1) (Closes s) Free)) source
-  completes_shown job a v in_ is turn done on idle calm none mine =
-      let found = at (Slot s Todo) in
+  completes_shown job a v in_ is turn done on idle calm none mine = let found = at (Slot s Todo) in
       let to = Completed a v in
       let stop' = completed (p.now.stop s) me a v found in
       let inside' = put p.now.inside me None in
@@ -176,8 +173,7 @@ module _ (u : Setup) (p : StopState) (at : Word → ℕ) (seat : ℕ → Seat) (
 
       ended_not : (p.now.stop s).ending ≡ Ended → DoneShows u.cpus (p.now.stop s).standing Ended (at (Slot s Done)) → is_of ((p.now.stop s).standing me) ≡
           true → ⊥
-      ended_not e d of =
-          let z = sum_zero (λ c. unfinished ((p.now.stop s).standing c)) u.cpus d.1 me (search (in_machine, h.present.slots, arith)) in
+      ended_not e d of = let z = sum_zero (λ c. unfinished ((p.now.stop s).standing c)) u.cpus d.1 me (search (in_machine, h.present.slots, arith)) in
           let one_ = answer_unfinished (p.now.stop s).phase a v ((p.now.stop s).standing me) is in omega arith
 
       here_more : (x : List ℕ) (c : ℕ) → put p.answers me (put (p.answers me) s x) c s ≡ put (λ c. p.answers c s) me x c
@@ -191,8 +187,7 @@ module _ (u : Setup) (p : StopState) (at : Word → ℕ) (seat : ℕ → Seat) (
       let found = at (Slot s Todo) in
       StopShows u (told u p me Act.Sub (Slot s Todo) (Some found) (Some (found - 1)) answer) (put_word at (Slot s Todo) (found - 1))
       (put seat me (cond (found == 1) (Closes s) Free)) source
-  todo_subtracted job a l answer is through =
-      let now = st job a l is through in
+  todo_subtracted job a l answer is through = let now = st job a l is through in
       let shown' = completes_shown job a 0 now.0 (subst (λ x. IsAnswer x a 0) (sym now.1) (refl, refl)) now.2 (is_done job a l is through) (search (
         on_now,
         arith,
@@ -204,8 +199,7 @@ module _ (u : Setup) (p : StopState) (at : Word → ℕ) (seat : ℕ → Seat) (
       let found = at (Slot s Todo) in
       StopShows u (told u p me Act.Sub (Slot s Todo) (Some found) (Some (found - 1)) answer) (put_word at (Slot s Todo) (found - 1))
       (put seat me (cond (found == 1) (Closes s) Free)) source
-  todo_subtracted_answered job a v answer is =
-      let now : Stands p.now me (Gives s job a v) = subst (Stands p.now me) is (h.present.stands me) in
+  todo_subtracted_answered job a v answer is = let now : Stands p.now me (Gives s job a v) = subst (Stands p.now me) is (h.present.stands me) in
       let k = keeps_inside u.cpus (p.now.stop s) w (h.present.slots s) me (Answering a v) now.1 in
       let shown' = completes_shown job a v now.0 (subst (λ x. IsAnswer x a v) (sym now.1) (refl, refl)) now.2 k.2 (ap irq_of is) (subst IsNoPatch (sym is) tt)
       (subst IsNotClosing (sym is) tt) (ap answer_now now.1)
@@ -216,8 +210,7 @@ module _ (u : Setup) (p : StopState) (at : Word → ℕ) (seat : ℕ → Seat) (
   -- store of done by the last
   pub done_stored : (answer : ℕ) → seat me ≡ Closes s → StopShows u (told u p me Act.Store (Slot s Done) None (Some 1) answer) (put_word at (Slot s Done) 1)
       (put seat me Free) source
-  done_stored answer is =
-      let now : Stands p.now me (Closes s) = subst (Stands p.now me) is (h.present.stands me) in
+  done_stored answer is = let now : Stands p.now me (Closes s) = subst (Stands p.now me) is (h.present.stands me) in
       let stop' = ended (p.now.stop s) in
       let stays : StaysOpen (p.now.stop s) stop' = record { was = now.1; now = now.1; work = refl; end = λ _. refl; given = λ c. refl; active = λ a. a } in
       let shown' = open_step u p at seat source h s stop' p.now.inside p.now.irq p.now.readings p.now.patching (put_word at (Slot s Done) 1) (put seat me

@@ -49,8 +49,7 @@ module _ (u : Setup) (p : StopState) (at : Word → ℕ) (seat : ℕ → Seat) (
         go : (b : Bool) → may_call me (p.now.stop s).work ((p.now.stop s).standing me) ≡ b →
             StopShows u (cond b (calls_now p me (p.now.stop s).work (at (Slot s Arg)) answer) p) at seat source
         go false e = h
-        go true e =
-            let callings' = put_all (λ c x. IsCalling c (seat c) x) p.calling me (Calls called) (search (called, arith)) (λ c ne. h.callings c) in
+        go true e = let callings' = put_all (λ c x. IsCalling c (seat c) x) p.calling me (Calls called) (search (called, arith)) (λ c ne. h.callings c) in
             search (callings', arith)
 
     -- the CPU is of the mask, and of the machine
@@ -63,8 +62,7 @@ module _ (u : Setup) (p : StopState) (at : Word → ℕ) (seat : ℕ → Seat) (
 
     -- todo is not 0, and at most the number of CPUs
     pub todo_bounds : (0 < at (Slot s Todo)) × (at (Slot s Todo) ≤ u.cpus)
-    todo_bounds =
-        let most = sum_most (λ c. unfinished ((p.now.stop s).standing c)) u.cpus (λ c. unfinished_most ((p.now.stop s).standing c)) in
+    todo_bounds = let most = sum_most (λ c. unfinished ((p.now.stop s).standing c)) u.cpus (λ c. unfinished_most ((p.now.stop s).standing c)) in
         let is_todo = shown.todo in (
           more (at (Slot s Todo)) (λ z. let none = sum_zero (λ c. unfinished ((p.now.stop s).standing c)) u.cpus (sym is_todo ∙ z) me inside_keeps.0 in
               let one_ : unfinished ((p.now.stop s).standing me) ≡ 1 = ap unfinished st.1 in omega arith),
@@ -100,8 +98,7 @@ module _ (u : Setup) (p : StopState) (at : Word → ℕ) (seat : ℕ → Seat) (
 
   -- the same of todo, for who has stored its answer
   pub todo_bounds_answered : (job : Work) (a v : ℕ) → seat me ≡ Gives s job a v → (0 < at (Slot s Todo)) × (at (Slot s Todo) ≤ u.cpus)
-  todo_bounds_answered job a v is =
-      let now : Stands p.now me (Gives s job a v) = subst (Stands p.now me) is (h.present.stands me) in
+  todo_bounds_answered job a v is = let now : Stands p.now me (Gives s job a v) = subst (Stands p.now me) is (h.present.stands me) in
       let o = (h.present.slots s).shows (is_open_inside u.cpus (p.now.stop s) (λ f. at (Slot s f)) (h.present.slots s) me (Answering a v) now.1 refl) in
       let k = keeps_inside u.cpus (p.now.stop s) (λ f. at (Slot s f)) (h.present.slots s) me (Answering a v) now.1 in
       let most = sum_most (λ c. unfinished ((p.now.stop s).standing c)) u.cpus (λ c. unfinished_most ((p.now.stop s).standing c)) in

@@ -79,8 +79,7 @@ module _ (u : Setup) (p : StopState) (at : Word → ℕ) (seat : ℕ → Seat) (
         answers = answers';
         looks = looks';
         calls = calls';
-        calling =
-            calling';
+        calling = calling';
       }) at' seat' source
   open_step_with looks' calls' calling' answers' was now work end gate keys slots past own present callings closing = record {
     setup = h.setup;

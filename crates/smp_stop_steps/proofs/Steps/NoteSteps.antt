@@ -150,8 +150,7 @@ module _ (u : Setup) (p : StopState) (at : Word → ℕ) (seat : ℕ → Seat) (
 
             quiet : (d : Bool) → (found == 2) ≡ d → heard_of (after d) ≡ heard_of p
             quiet false two = refl
-            quiet true two =
-                let is_two : v.acked ≡ 2 = sym same ∙ eqb-true found 2 two in
+            quiet true two = let is_two : v.acked ≡ 2 = sym same ∙ eqb-true found 2 two in
                 let off : p.now.irq me ≡ false = h.present.irq me ∙ (ap irq_of is ∙ ap (λ n. irq_of (In v.slot work n n Rests)) is_two) in
                 ap (λ f. record (heard_of p) { irq = f }) (put_own p.now.irq me false off)
 
@@ -185,8 +184,7 @@ module _ (u : Setup) (p : StopState) (at : Word → ℕ) (seat : ℕ → Seat) (
         go false is = (inl (arg_heard v.slot answer), arg_still v.slot answer)
 
     load_key : (key : ℕ) (change : KeyChange) → c.stage ≡ Some (Advance v (RoundStage.LoadKey key change)) → Fits (Advance v (RoundStage.LoadKey key change))
-    load_key key change e =
-        subst (NoteFits p (state_after u p at c me (Advance v (RoundStage.LoadKey key change))) me) (sym (none (count_after change found)))
+    load_key key change e = subst (NoteFits p (state_after u p at c me (Advance v (RoundStage.LoadKey key change))) me) (sym (none (count_after change found)))
         (inl unheard, loaded_still u p me key found (p.now.inside me))
       where
         found : ℕ
@@ -257,8 +255,7 @@ module _ (u : Setup) (p : StopState) (at : Word → ℕ) (seat : ℕ → Seat) (
             (stop_ends (record acked_control { interrupts = cond d true c.interrupts }) (cond d Note.Left (cond ran Note.Ran (Note.Moved phase))))).note
         acked_fits true true one four = (inl refl, acked_still one)
         acked_fits true false one four = (inl refl, acked_still one)
-        acked_fits false true one four =
-            let is_four : phase ≡ 4 = eqb-true phase 4 four in
+        acked_fits false true one four = let is_four : phase ≡ 4 = eqb-true phase 4 four in
             record {
               acked = record { slot = v.slot; inside = in_; stands = acked_stands ∙ ap (λ n. Inside n n) is_four };
               off = ⊎_elim (λ (o : p.now.irq me ≡ false). o) (λ (ne : phase ≢ 4). absurd (ne is_four)) off;
@@ -313,8 +310,7 @@ module _ (u : Setup) (p : StopState) (at : Word → ℕ) (seat : ℕ → Seat) (
 
         raised_fits : (d f : Bool) → (v.acked == 4) ≡ d → (v.acked + 1 == 5) ≡ f → NoteFits p (raised_after f) me
             (Some (cond d Note.Left (cond ran Note.Ran (Note.Moved v.acked))))
-        raised_fits true true four five =
-            let is_four : v.acked ≡ 4 = eqb-true v.acked 4 four in
+        raised_fits true true four five = let is_four : v.acked ≡ 4 = eqb-true v.acked 4 four in
             record {
               acked = record { slot = v.slot; inside = in_; stands = raised_stands ∙ ap (λ n. Inside n n) is_four };
               off = h.present.irq me ∙ (ap irq_of is ∙ ap (λ n. irq_of (In v.slot work n n Sets)) is_four);

@@ -33,8 +33,7 @@ module _ (u : Setup) (p : StopState) (at : Word → ℕ) (seat : ℕ → Seat) (
 
       go : (x : Option ℕ) → p.now.inside me ≡ x → Reads k (key_loaded u p.now me k (at (Key k)) x)
       go None e = read
-      go (Some j) e =
-          let begun = record (p.now) { patching = patch_begun u me (p.now.stop j).work (at (Key k)) } in
+      go (Some j) e = let begun = record (p.now) { patching = patch_begun u me (p.now.stop j).work (at (Key k)) } in
           subst (λ b. Reads k (cond (b && is_patch (p.now.stop j).work.kind) begun (reads p.now me (ReadKey k (is_on (at (Key k)))))))
           (sym (not_run u p at seat source h me j on e)) read
 

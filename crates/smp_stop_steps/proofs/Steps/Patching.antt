@@ -67,8 +67,7 @@ module _ (u : Setup) (p : StopState) (at : Word → ℕ) (seat : ℕ → Seat) (
     stands_kept x m n e s = search arith
 
     pub key_exchanged : (answer : ℕ) → StopShows u (told u p me Act.Cas (Key k) (Some found) (Some new) answer) at' seat source
-    key_exchanged answer =
-        let whole = nobody_patches u p.now at seat h.present me online on in
+    key_exchanged answer = let whole = nobody_patches u p.now at seat h.present me online on in
         let lawful = lawful_when_on u p.now at seat h.present me online on in
         let same : is_on new ≡ is_on (at (Key k)) = nudge.same ∙ ap is_on (sym was) in
         label_step p.now.readings p.now.patching (moved_by p.nudged me k found new) p.patched at' seat refl (λ j f. refl)
@@ -91,8 +90,7 @@ module _ (u : Setup) (p : StopState) (at : Word → ℕ) (seat : ℕ → Seat) (
     pub key_loaded_first : (answer : ℕ) → seat me ≡ In s job 2 3 Rests → job.kind ≡ Patch → has job.active me ≡ true →
         let found = at (Key job.func) in
         StopShows u (told u p me Act.Load (Key job.func) (Some found) None answer) at (put seat me (Alters s job found [] (plan_at u job found))) source
-    key_loaded_first answer is kind active =
-        let st : Stands p.now me (In s job 2 3 Rests) = subst (Stands p.now me) is (h.present.stands me) in
+    key_loaded_first answer is kind active = let st : Stands p.now me (In s job 2 3 Rests) = subst (Stands p.now me) is (h.present.stands me) in
         let found = at (Key job.func) in
         let plan = plan_at u job found in
         let seat' = put seat me (Alters s job found [] plan) in

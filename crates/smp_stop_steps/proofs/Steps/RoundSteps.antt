@@ -30,16 +30,14 @@ change_here (x ∷ before) change rest = search (change_here before change rest,
 -- the changes of one entry more
 changes-push : (key : ℕ) (on : Bool) (i : ℕ) (xs : List ℕ) (x : ℕ) → site_changes key on i (xs ++ x ∷ []) ≡ site_changes key on i xs ++ site_change key on
     (i + length xs) (entry_at x)
-changes-push key on i [] x =
-    append-nil (site_change key on i (entry_at x)) ∙ ap (λ n. site_change key on n (entry_at x)) (let e : i ≡ i + 0 = omega arith in e)
+changes-push key on i [] x = append-nil (site_change key on i (entry_at x)) ∙ ap (λ n. site_change key on n (entry_at x)) (let e : i ≡ i + 0 = omega arith in e)
 changes-push key on i (y ∷ xs) x = search (changes-push key on (i + 1) xs x, append_assoc, arith)
 
 module _ (u : Setup) (p : StopState) (at : Word → ℕ) (seat : ℕ → Seat) (source : ℕ → Source) (h : StopShows u p at seat source) (c : StopControlValue) (me : ℕ)
     (s : Sits u me (at Gate) c (seat me) (source me)) (v : Visit) where
   -- load of the state
   pub look : (answer : ℕ) → c.stage ≡ Some (Advance v (round.Look answer)) → StopStep u p at seat source c me (Advance v (round.Look answer))
-  look answer e =
-      let r = in_round s v (round.Look answer) e in
+  look answer e = let r = in_round s v (round.Look answer) e in
       let y = round_source s v (round.Look answer) e in
       let work = r.1.2.0 in
       let is : seat me ≡ In v.slot work v.acked v.acked Rests = r.1.2.2 in
@@ -75,8 +73,7 @@ module _ (u : Setup) (p : StopState) (at : Word → ℕ) (seat : ℕ → Seat) (
       go work is visit loaded more y false other false f = search (next, eq-eqb, v.acked, below, off, not_three, arith)
 
   pub load_func : (answer : ℕ) → c.stage ≡ Some (Advance v (round.LoadFunc answer)) → StopStep u p at seat source c me (Advance v (round.LoadFunc answer))
-  load_func answer e =
-      let r = in_round s v (round.LoadFunc answer) e in
+  load_func answer e = let r = in_round s v (round.LoadFunc answer) e in
       let run = r.1.1.1 in
       record {
         seat_after = seat me;
@@ -93,8 +90,7 @@ module _ (u : Setup) (p : StopState) (at : Word → ℕ) (seat : ℕ → Seat) (
 
   pub load_arg : (answer func : ℕ) → c.stage ≡ Some (Advance v (round.LoadArg answer func)) → StopStep u p at seat source c me
       (Advance v (round.LoadArg answer func))
-  load_arg answer func e =
-      let r = in_round s v (round.LoadArg answer func) e in
+  load_arg answer func e = let r = in_round s v (round.LoadArg answer func) e in
       let run = r.1.1.1 in
       let shows' = still u seat source me (state_after u p at c me (Advance v (round.LoadArg answer func))) at (arg_loaded u p at seat source h v.slot me
       r.1.1.0 2 3 Rests run.3 answer refl) in
@@ -105,8 +101,7 @@ module _ (u : Setup) (p : StopState) (at : Word → ℕ) (seat : ℕ → Seat) (
           (k : KindOf) → v.kind ≡ k →
           Sits u me (at Gate) (cond (is_multi k) (record {
             control = record c { stage = Some (Advance v (round.Acknowledge answer true)) };
-            note =
-                Some (note.Run func (at (Slot v.slot Arg)));
+            note = Some (note.Run func (at (Slot v.slot Arg)));
           }) (stop_goes c (Advance v (round.LoadKey func (change_of (at (Slot v.slot Arg))))))).control
           (seat me) (source me)
       go visit some work run same y One k = absurd (some k)
@@ -116,8 +111,7 @@ module _ (u : Setup) (p : StopState) (at : Word → ℕ) (seat : ℕ → Seat) (
   -- the first load of a patch
   pub load_key : (key : ℕ) (change : KeyChange) → c.stage ≡ Some (Advance v (round.LoadKey key change)) → StopStep u p at seat source c me
       (Advance v (round.LoadKey key change))
-  load_key key change e =
-      let r = in_round s v (round.LoadKey key change) e in
+  load_key key change e = let r = in_round s v (round.LoadKey key change) e in
       let work = r.1.1.0 in
       let run = r.1.1.1 in
       let same : key ≡ work.func = r.1.1.2 in
@@ -184,31 +178,27 @@ module _ (u : Setup) (p : StopState) (at : Word → ℕ) (seat : ℕ → Seat) (
           -- one entry more
           grown : site < length u.entries → c.changes ++ site_change work.func (is_on word) site (entry_at (at (Entry site))) ≡ changes_of u work word
               (site + 1)
-          grown more =
-              let sized : length (take site u.entries) ≡ site = length-take-le site u.entries (omega arith) in
+          grown more = let sized : length (take site u.entries) ≡ site = length-take-le site u.entries (omega arith) in
               let long : 0 + length (take site u.entries) ≡ site = omega arith in
               let pushed = changes-push work.func (is_on word) 0 (take site u.entries) (get_or u.entries site 0) in
               search (here, get_or, take_more, arith)
 
           go : (b : Bool) → (site + 1 == MOST_SITES) ≡ b → site < length u.entries → Sits u me (at Gate) (entry_on c v work.func word site
               (at (Entry site))).control (seat me) (source me)
-          go b last more =
-              let some : (at (Entry site) == 0) ≡ false = ne_eqb (at (Entry site)) 0 (λ z. h.setup.named site more (sym here ∙ z)) in
+          go b last more = let some : (at (Entry site) == 0) ≡ false = ne_eqb (at (Entry site)) 0 (λ z. h.setup.named site more (sym here ∙ z)) in
               let changes' = c.changes ++ site_change work.func (is_on word) site (entry_at (at (Entry site))) in
               search (either, arith)
             where
               either : (b : Bool) → (site + 1 == MOST_SITES) ≡ b → site < length u.entries →
                   Sits u me (at Gate) (stop_goes (record c { changes = c.changes ++ site_change work.func (is_on word) site (entry_at (at (Entry site))) })
                   (Advance v (cond b (round.StoreChange 0) (round.LoadEntry work.func word (site + 1))))).control (seat me) (source me)
-              either true last more =
-                  whole visit work patch y (c.changes ++ site_change work.func (is_on word) site (entry_at (at (Entry site))))
+              either true last more = whole visit work patch y (c.changes ++ site_change work.func (is_on word) site (entry_at (at (Entry site))))
                   (search (grown, take_all, arith))
               either false last more = search (grown, arith)
 
   -- a store of a patch
   pub store_change : (made : ℕ) → c.stage ≡ Some (Advance v (round.StoreChange made)) → StopStep u p at seat source c me (Advance v (round.StoreChange made))
-  store_change made e =
-      let r = in_round s v (round.StoreChange made) e in
+  store_change made e = let r = in_round s v (round.StoreChange made) e in
       go r.0 r.1.0 r.1.1 r.1.2 r.1.3 r.1.4 r.1.5 r.1.6.0 r.1.6.1 r.1.6.2 r.1.6.3 r.1.6.4 (round_source s v (round.StoreChange made) e)
     where
       go : c.visit ≡ Some v → (work : Work) (count : ℕ) → IsLoaded v work → v.acked ≡ 2 → made < length c.changes → c.changes ≡ plan_at u work count →
@@ -253,8 +243,7 @@ module _ (u : Setup) (p : StopState) (at : Word → ℕ) (seat : ℕ → Seat) (
               seat me ≡ Alters v.slot work count before (change ∷ rest) → OwnsIf c.is_open (source me) → (b : Bool) → (made + 1 == length c.changes) ≡ b →
               Sits u me (at Gate) (stop_goes c (Advance v (cond b (round.Acknowledge 0 true) (round.StoreChange (made + 1))))).control
               (Alters v.slot work count (before ++ change ∷ []) rest) (source me)
-          ends visit work count loaded two low plan before change [] are long is y true last =
-              let irq' = s.irq ∙ ap irq_of is in
+          ends visit work count loaded two low plan before change [] are long is y true last = let irq' = s.irq ∙ ap irq_of is in
               search (irq', made_some, no_change, arith)
           ends visit work count loaded two low plan before change (x ∷ rest) are long is y true last = absurd (search (eqb-true, length-append, arith))
           ends visit work count loaded two low plan before change rest are long is y false last =

@@ -49,8 +49,7 @@ module _ (u : Setup) (p : StopState) (at : Word → ℕ) (seat : ℕ → Seat) (
   pub state_loaded : (job : Work) (a l answer : ℕ) → seat me ≡ In s job a l Rests → a ≢ 4 →
       let found = at (Slot s State) in
       StopShows u (told u p me Act.Load (Slot s State) (Some found) None answer) at (put seat me (In s job a found Rests)) source
-  state_loaded job a l answer is more =
-      let found = at (Slot s State) in
+  state_loaded job a l answer is more = let found = at (Slot s State) in
       let st = here job a l Rests is in
       let k = keeps job a l Rests is in
       let o = shown job a l Rests is in
@@ -122,8 +121,7 @@ module _ (u : Setup) (p : StopState) (at : Word → ℕ) (seat : ℕ → Seat) (
           (cond (b && c) (reading_of job.func (state_left (change_of job.arg))) [])
       go false e c f = tt
       go true e false f = tt
-      go true e true f =
-          let st = here job a l t is in
+      go true e true f = let st = here job a l t is in
           let same : s ≡ me = eqb-true s me f in
           let in_ : is_inside ((p.now.stop s).standing s) ≡ true = subst (λ k. is_inside ((p.now.stop s).standing k) ≡ true) (sym same) (ap is_inside st.1) in
           let kind : (p.now.stop s).work.kind ≡ Patch = ap (λ (w : Work). w.kind) st.3 ∙ kind_patch job.kind e in
@@ -174,8 +172,7 @@ module _ (u : Setup) (p : StopState) (at : Word → ℕ) (seat : ℕ → Seat) (
         (b : Bool) → (a + 1 == 4 && not (found == 1)) ≡ b →
         StopShows u (record p { now = cond b (leaves (acked_now x) me s (p.now.stop s).work) (acked_now x); calls = calls'; calling = calling' })
         (put_word at (Slot s Ack) (found - 1)) (put seat me next) source
-    ack_shown x seat0 calls' calling' present is off same st op known agrees callings idle true e =
-        let irq' = put p.now.irq me true in
+    ack_shown x seat0 calls' calling' present is off same st op known agrees callings idle true e = let irq' = put p.now.irq me true in
         let readings' = put p.now.readings me (first_readings me s (p.now.stop s).work) in
         let at' = put_word at (Slot s Ack) (found - 1) in
         let to = Inside (a + 1) (a + 1) in
@@ -191,8 +188,7 @@ module _ (u : Setup) (p : StopState) (at : Word → ℕ) (seat : ℕ → Seat) (
         IsCalling c (y c) (calling' c)) (sym same) callings) (subst (AreClosing (record (acked_now x) { irq = irq'; readings = readings' })) (sym same)
         (closing_kept p.now seat me next h.closing idle s acked_stop (λ c ne. put_other (p.now.stop s).standing me to c ne) refl refl)) in
         search (← same, shown', arith)
-    ack_shown x seat0 calls' calling' present is off same st op known agrees callings idle false e =
-        let at' = put_word at (Slot s Ack) (found - 1) in
+    ack_shown x seat0 calls' calling' present is off same st op known agrees callings idle false e = let at' = put_word at (Slot s Ack) (found - 1) in
         let to = Inside (a + 1) (a + 1) in
         let turned : p.now.irq me ≡ irq_of next = off ∙ sym (leaves_irq (found == 1) ∙ ap (λ b. cond b true (nat_lt (a + 1) 2)) e) in
         let shown' = open_step u p at seat source h s acked_stop p.now.inside p.now.irq p.now.readings x at' (put seat0 me next) p.looks calls' calling'
@@ -227,8 +223,7 @@ module _ (u : Setup) (p : StopState) (at : Word → ℕ) (seat : ℕ → Seat) (
     -- fetch_sub of the count, by a CPU that has looked at a new phase and runs no patch
     pub ack_subtracted : seat me ≡ In s job a (a + 1) Rests → (a ≡ 2 → HasCalled me job (p.calling me)) →
         StopShows u (told u p me Act.Sub (Slot s Ack) (Some found) (Some (found - 1)) answer) (put_word at (Slot s Ack) (found - 1)) (put seat me next) source
-    ack_subtracted is ready =
-        let st = here job a (a + 1) Rests is in
+    ack_subtracted is ready = let st = here job a (a + 1) Rests is in
         let idle : IsNoPatch (seat me) = subst IsNoPatch (sym is) tt in
         let phase : (p.now.stop s).phase ≡ a + 1 = search arith in
         let many : job.kind ≢ One = search (several, shown, arith) in
@@ -253,8 +248,7 @@ module _ (u : Setup) (p : StopState) (at : Word → ℕ) (seat : ℕ → Seat) (
       let found = at (Slot s Ack) in
       StopShows u (told u p me Act.Sub (Slot s Ack) (Some found) (Some (found - 1)) answer) (put_word at (Slot s Ack) (found - 1))
       (put seat me (In s job 3 3 (cond (found == 1) Fills Rests))) source
-  ack_subtracted_patched job count made answer is =
-      let found = at (Slot s Ack) in
+  ack_subtracted_patched job count made answer is = let found = at (Slot s Ack) in
       let st : Stands p.now me (Alters s job count made []) = subst (Stands p.now me) is (h.present.stands me) in
       let ends = patch_ends u p.now at seat h.present s me job count made is in
       let seat0 = put seat me (In s job 2 3 Rests) in
@@ -272,8 +266,7 @@ module _ (u : Setup) (p : StopState) (at : Word → ℕ) (seat : ℕ → Seat) (
   pub ack_stored : (job : Work) (a l answer : ℕ) → seat me ≡ In s job a l Fills →
       let v = mask_weight u.cpus job.mask in
       StopShows u (told u p me Act.Store (Slot s Ack) None (Some v) answer) (put_word at (Slot s Ack) v) (put seat me (In s job a l Sets)) source
-  ack_stored job a l answer is =
-      let st = here job a l Fills is in
+  ack_stored job a l answer is = let st = here job a l Fills is in
       let open_ = is_open job a l Fills is in
       let o = shown job a l Fills is in
       let v = mask_weight u.cpus job.mask in
@@ -298,8 +291,7 @@ module _ (u : Setup) (p : StopState) (at : Word → ℕ) (seat : ℕ → Seat) (
   pub state_stored : (job : Work) (a l answer : ℕ) → seat me ≡ In s job a l Sets →
       StopShows u (told u p me Act.Store (Slot s State) None (Some (a + 1)) answer) (put_word at (Slot s State) (a + 1)) (put seat me (In s job a l Rests))
       source
-  state_stored job a l answer is =
-      let st = here job a l Sets is in
+  state_stored job a l answer is = let st = here job a l Sets is in
       let open_ = is_open job a l Sets is in
       let o = shown job a l Sets is in
       let stop' = raised (p.now.stop s) (a + 1) in
@@ -334,8 +326,7 @@ module _ (u : Setup) (p : StopState) (at : Word → ℕ) (seat : ℕ → Seat) (
             now = cond b (leaves (with_stop p.now s (raised (p.now.stop s) (a + 1))) me s (p.now.stop s).work)
                 (with_stop p.now s (raised (p.now.stop s) (a + 1)));
           }) (put_word at (Slot s State) (a + 1)) (put seat me (In s job a l Rests)) source
-      go true e st phase looked busy stays own =
-          let irq' = put p.now.irq me true in
+      go true e st phase looked busy stays own = let irq' = put p.now.irq me true in
           let first = first_readings me s (p.now.stop s).work in
           let readings' = put p.now.readings me first in
           let five : a ≡ 4 = let x = eqb-true (a + 1) 5 e in omega arith in

@@ -29,8 +29,7 @@ shut_told p s f v l = search arith
 
 -- the field of a place among the stores of begin
 field_of : ℕ → Field
-field_of n =
-    cond (n == 0) Kind (cond (n == 1) Mask (cond (n == 2) Active (cond (n == 3) Func (cond (n == 4) Arg (
+field_of n = cond (n == 0) Kind (cond (n == 1) Mask (cond (n == 2) Active (cond (n == 3) Func (cond (n == 4) Arg (
     cond (n == 5) Result (cond (n == 6) Todo (cond (n == 7) Done (cond (n == 8) Ack (cond (n == 9) State Roll)))))))))
 
 field_of-order : (f : Field) → field_of (order f) ≡ f
@@ -91,8 +90,7 @@ module _ (u : Setup) (p : StopState) (at : Word → ℕ) (seat : ℕ → Seat) (
   pub field_stored : (work : Work) (k : ℕ) (f : Field) (answer : ℕ) → source me ≡ Drafts work k → order f ≡ k → k < 10 →
       let v = begun_value u.cpus work f in
       StopShows u (told u p me Act.Store (Slot me f) None (Some v) answer) (put_word at (Slot me f) v) seat (put source me (Drafts work (k + 1)))
-  field_stored work k f answer is place low =
-      let d = draft work k is in
+  field_stored work k f answer is place low = let d = draft work k is in
       let v = begun_value u.cpus work f in
       let at' = put_word at (Slot me f) v in
       let fresh : order f < 10 = omega arith in
@@ -119,8 +117,7 @@ module _ (u : Setup) (p : StopState) (at : Word → ℕ) (seat : ℕ → Seat) (
   -- store of the roll: the stop is open
   pub roll_stored : (work : Work) (answer : ℕ) → source me ≡ Drafts work 10 →
       StopShows u (told u p me Act.Store (Slot me Roll) None (Some work.mask) answer) (put_word at (Slot me Roll) work.mask) seat (put source me (Owns work))
-  roll_stored work answer is =
-      let d = draft work 10 is in
+  roll_stored work answer is = let d = draft work 10 is in
       let at' = put_word at (Slot me Roll) work.mask in
       let same : (p.now.stop me).work ≡ work = search (work_ext, d.told.kind, d.told.mask, d.told.active, d.told.func, d.told.arg, arith) in
       let stop' = opened (p.now.stop me) work in

@@ -36,18 +36,16 @@ module _ (u : Setup) (p : StopState) (at : Word → ℕ) (seat : ℕ → Seat) (
   not_drafting {y} o work k e = search (c.is_open, arith)
 
   pub take_gate : c.stage ≡ Some TakeGate → StopStep u p at seat source c me TakeGate
-  take_gate e =
-      let shows' = still u seat source me (state_after u p at c me TakeGate) (at_then u at c me TakeGate) (gate_is_taken (at Gate == 0) refl) in
+  take_gate e = let shows' = still u seat source me (state_after u p at c me TakeGate) (at_then u at c me TakeGate) (gate_is_taken (at Gate == 0) refl) in
       search (shows', arith)
 
   pub open_gate : c.stage ≡ Some OpenGate → StopStep u p at seat source c me OpenGate
-  open_gate e =
-      let shows' = still u seat source me (state_after u p at c me OpenGate) (at_then u at c me OpenGate) (search (
-        gate_opened,
-        gate_mine,
-        not_drafting,
-        arith,
-      )) in
+  open_gate e = let shows' = still u seat source me (state_after u p at c me OpenGate) (at_then u at c me OpenGate) (search (
+    gate_opened,
+    gate_mine,
+    not_drafting,
+    arith,
+  )) in
       search (shows', arith)
 
   -- begin
@@ -62,8 +60,7 @@ module _ (u : Setup) (p : StopState) (at : Word → ℕ) (seat : ℕ → Seat) (
       (StopShows u (told u p me Act.Store (Slot me f) None (Some (begun_value u.cpus work f)) 0) (put_word at (Slot me f) (begun_value u.cpus work f))
       (put seat me (seat me)) (put source me (Drafts work (order g)))) ×
       Sits u me (at Gate) (record c { stage = Some (Begin work g) }) (seat me) (Drafts work (order g))
-  drafts_step work f g e low next =
-      let y = begins_source work f e in
+  drafts_step work f g e low next = let y = begins_source work f e in
       let p' = told u p me Act.Store (Slot me f) None (Some (begun_value u.cpus work f)) 0 in
       let at' = put_word at (Slot me f) (begun_value u.cpus work f) in (
         moved_source u seat source me p' at' (Drafts work (order g))
@@ -83,16 +80,14 @@ module _ (u : Setup) (p : StopState) (at : Word → ℕ) (seat : ℕ → Seat) (
   begin_step work Done e = let d = drafts_step work Done Ack e (omega arith) refl in search (d, arith)
   begin_step work Ack e = let d = drafts_step work Ack State e (omega arith) refl in search (d, arith)
   begin_step work State e = let d = drafts_step work State Roll e (omega arith) refl in search (d, arith)
-  begin_step work Roll e =
-      let y = begins_source work Roll e in
+  begin_step work Roll e = let y = begins_source work Roll e in
       let shows = moved_source u seat source me (state_after u p at c me (Begin work Roll)) (at_then u at c me (Begin work Roll)) (Owns work)
       (roll_stored u p at seat source h me work 0 y.1) in
       let rest = begins_seat work Roll e in
       search (shows, rest, arith)
 
   pub enter_kind : (slot : ℕ) → c.stage ≡ Some (EnterKind slot) → StopStep u p at seat source c me (EnterKind slot)
-  enter_kind slot e =
-      let x : (work : Work) × (seat me ≡ In slot work 0 0 Rests) = subst (λ (st : Option StopStage). SitsAt u me c st (seat me)) e s.seat in
+  enter_kind slot e = let x : (work : Work) × (seat me ≡ In slot work 0 0 Rests) = subst (λ (st : Option StopStage). SitsAt u me c st (seat me)) e s.seat in
       let y : OwnsIf c.is_open (source me) = subst (λ (st : Option StopStage). SourceSits c.is_open st (source me)) e s.source in
       let w = work_words u p at seat source h slot me x.0 0 0 Rests x.1 in
       record {
@@ -103,8 +98,7 @@ module _ (u : Setup) (p : StopState) (at : Word → ℕ) (seat : ℕ → Seat) (
       }
 
   pub enter_mask : (slot : ℕ) (kind : KindOf) → c.stage ≡ Some (EnterMask slot kind) → StopStep u p at seat source c me (EnterMask slot kind)
-  enter_mask slot kind e =
-      let x : (work : Work) × (seat me ≡ In slot work 0 0 Rests) × (kind ≡ work.kind) = search arith in
+  enter_mask slot kind e = let x : (work : Work) × (seat me ≡ In slot work 0 0 Rests) × (kind ≡ work.kind) = search arith in
       let y : OwnsIf c.is_open (source me) = subst (λ (st : Option StopStage). SourceSits c.is_open st (source me)) e s.source in
       let w = work_words u p at seat source h slot me x.0 0 0 Rests x.1 in
       let shows' = still u seat source me (state_after u p at c me (EnterMask slot kind)) at h in
@@ -120,8 +114,7 @@ module _ (u : Setup) (p : StopState) (at : Word → ℕ) (seat : ℕ → Seat) (
       search (shows', arith)
 
   pub read_site : (i : ℕ) → c.stage ≡ Some (ReadSite i) → StopStep u p at seat source c me (ReadSite i)
-  read_site i e =
-      let shows' = still u seat source me (state_after u p at c me (ReadSite i)) at (site_read u p at seat source h me i 0) in
+  read_site i e = let shows' = still u seat source me (state_after u p at c me (ReadSite i)) at (site_read u p at seat source h me i 0) in
       search (shows', arith)
 
   -- the load of a nudge is a reading
@@ -147,8 +140,7 @@ module _ (u : Setup) (p : StopState) (at : Word → ℕ) (seat : ℕ → Seat) (
 
   -- its compare-exchange
   pub exchange_key : (k expected new : ℕ) → c.stage ≡ Some (ExchangeKey k expected new) → StopStep u p at seat source c me (ExchangeKey k expected new)
-  exchange_key k expected new e =
-      let x : (c.interrupts ≡ true) × (u.online me ≡ true) × (k < u.keys) × IsNudge expected new × AtRest = search arith in
+  exchange_key k expected new e = let x : (c.interrupts ≡ true) × (u.online me ≡ true) × (k < u.keys) × IsNudge expected new × AtRest = search arith in
       let shows' = still u seat source me (state_after u p at c me (ExchangeKey k expected new)) (at_then u at c me (ExchangeKey k expected new)) (search
       (go, x.3, arith)) in
       search (shows', arith)
@@ -161,8 +153,7 @@ module _ (u : Setup) (p : StopState) (at : Word → ℕ) (seat : ℕ → Seat) (
 
   -- the looks of a source
   pub load_done : c.stage ≡ Some LoadDone → StopStep u p at seat source c me LoadDone
-  load_done e =
-      let x : AtRest = subst (λ (st : Option StopStage). SitsAt u me c st (seat me)) e s.seat in
+  load_done e = let x : AtRest = subst (λ (st : Option StopStage). SitsAt u me c st (seat me)) e s.seat in
       let y : (c.is_open ≡ true) × ((work : Work) × (source me ≡ Owns work)) = search arith in
       let g = go x y.0 y.1.0 y.1.1 (at (Slot me Done) == 0) refl in
       record { seat_after = seat me; source_after = g.0; shows = g.1; sits = g.2 }
@@ -185,7 +176,6 @@ module _ (u : Setup) (p : StopState) (at : Word → ℕ) (seat : ℕ → Seat) (
       )
 
   pub load_result : c.stage ≡ Some LoadResult → StopStep u p at seat source c me LoadResult
-  load_result e =
-      let y : (c.is_open ≡ true) × ((work : Work) × (source me ≡ Collects work)) = search arith in
+  load_result e = let y : (c.is_open ≡ true) × ((work : Work) × (source me ≡ Collects work)) = search arith in
       let shows' = moved_source u seat source me (state_after u p at c me LoadResult) at Shut (result_loaded u p at seat source h me y.1.0 0 y.1.1) in
       search (shows', arith)

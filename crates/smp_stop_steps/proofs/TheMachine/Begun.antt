@@ -53,8 +53,7 @@ pub begun_value_shown : (u : Setup) (p : StopState) (t : StopWords) (controls : 
     me < length controls → (stage : StopStage) →
     (stop_control_of controls me).stage ≡ None → MayBegin u me (stop_number t Gate) (stop_control_of controls me) stage →
     StopsShow u p t (slice_set controls me (stop_goes (stop_control_of controls me) stage).control)
-begun_value_shown u p t controls v me below low stage outside m =
-    let c = stop_control_of controls me in
+begun_value_shown u p t controls v me below low stage outside m = let c = stop_control_of controls me in
     let b = begun_shown u p (stop_number t) v.seat v.source v.shows c me (v.sits me below) outside stage m in
     record {
       seat = v.seat;

@@ -96,8 +96,7 @@ module _ (v : StopsValue) (cpu : ℕ) where
 
   -- and the other way round
   patch_fits : (work : Work) → IsPatchWork u work → fits_patch t work ≡ true
-  patch_fits work is =
-      let first = first_below v.online cpus in
+  patch_fits work is = let first = first_below v.online cpus in
       let mask : work.mask ≡ v.online = same_members work.mask v.online is.all in
       let active : work.active ≡ 2 ^ first = same_members work.active (2 ^ first) (λ c. is.first c ∙ sym (one_bit first c)) in
       let change = is.change in

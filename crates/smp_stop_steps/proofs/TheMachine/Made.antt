@@ -18,8 +18,7 @@ module _ (v : StopsValue) (sound : AreSoundStops v.online v.labels v.table v.con
   made_told p shown = search (v.online, stop_value_shown, v.table, sound.sized, sound.table_is, arith)
 
   pub made_sound : AreSoundStops v.online v.labels table' controls'
-  made_sound =
-      let table_is' = subst IsStopTable (sym m.is_table) (stop_table_shown (setup_of v.online v.labels) refl sound.stops v.table v.controls sound.shown
+  made_sound = let table_is' = subst IsStopTable (sym m.is_table) (stop_table_shown (setup_of v.online v.labels) refl sound.stops v.table v.controls sound.shown
       sound.sized sound.table_is cpu stage m.at_stage) in
       let phases' = subst (λ (t : StopWords). ArePhases (stop_number t)) (sym m.is_table) (stop_phases_kept (setup_of v.online v.labels) refl sound.stops
       v.table v.controls sound.shown sound.sized sound.table_is cpu stage m.at_stage sound.phases) in

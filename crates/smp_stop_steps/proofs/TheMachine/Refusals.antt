@@ -89,26 +89,25 @@ module _ (v : StopsValue) (p : StopState) (shown : StopShown p v) (me : ℕ) (lo
 
   begins : (work : Work) (b : Bool) → (p.now.stop me).is_open ≡ b → BeginRefuses u p me work (begin_refusal t work b)
   begins work true is = is
-  begins work false shut =
-      search (
-        bit_and,
-        work.mask,
-        both,
-        holds,
-        ne_false,
-        not_true,
-        is_kind,
-        work.kind,
-        false_true,
-        of_both,
-        held,
-        work_fits,
-        within,
-        v.online,
-        is_same,
-        some_outside,
-        arith,
-      )
+  begins work false shut = search (
+    bit_and,
+    work.mask,
+    both,
+    holds,
+    ne_false,
+    not_true,
+    is_kind,
+    work.kind,
+    false_true,
+    of_both,
+    held,
+    work_fits,
+    within,
+    v.online,
+    is_same,
+    some_outside,
+    arith,
+  )
 
   reads : (n limit : ℕ) → Refuses ((p.now.irq me ≡ true) × (n < limit)) error.BadArgument (unless (c.interrupts && nat_lt n limit) error.BadArgument)
   reads n limit = search (refuses, nat_lt, both, c.interrupts, irq, ltb-true, false_true, of_both, lt-ltb, arith)

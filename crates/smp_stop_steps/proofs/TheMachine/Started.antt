@@ -10,8 +10,7 @@ use Rattle.smp_stop_steps.proofs.{TheMachine.Begun.begun_value_shown, TheMachine
 module _ (v : StopsValue) (sound : IsSoundHalf v) (cpu : ℕ) (low : cpu < cpus) (outside : (stop_control_of v.controls cpu).stage ≡ None) where
   -- at a stage at which a CPU outside a command may begin
   begun_sound : (stage : StopStage) → MayBeginAt v cpu stage → AnswersFit stage → IsSoundHalf (stop_begun v cpu stage)
-  begun_sound stage may fits =
-      let sized : length v.controls ≡ cpus = sound.sized in
+  begun_sound stage may fits = let sized : length v.controls ≡ cpus = sound.sized in
       let long : cpu < length v.controls = omega (arith, low, sized) in
       record {
         sized = length-set v.controls cpu _ ∙ sized;

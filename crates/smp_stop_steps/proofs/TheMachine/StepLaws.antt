@@ -6,8 +6,7 @@ use Rattle.smp_stop_steps.proofs.{Steps.AnswerWords.keeps_answers, Steps.CallSte
 use Rattle.smp_stop_steps.proofs.{Promises.Premises.may_see, TheMachine.Values.stop_inside_below}
 
 pub steps_keep_laws : (v : StopsValue) (p : StopState) → AreSoundStops v.online v.labels v.table v.controls → StopShown p v → StepsKeepLaws v p
-steps_keep_laws v p sound shown cpu stage e =
-    let u = setup_of v.online v.labels in
+steps_keep_laws v p sound shown cpu stage e = let u = setup_of v.online v.labels in
     let at = stop_number v.table in
     let c = stop_control_of v.controls cpu in
     let below : cpu < cpus = let low = stop_inside_below v.controls cpu stage e in omega arith in
@@ -30,8 +29,7 @@ noted p q me said n changes stage f = search (patch_noted, arith)
 
 pub note_told : (v : StopsValue) (cpu : ℕ) (stage : StopStage) → length v.controls ≡ cpus → (stop_control_of v.controls cpu).stage ≡ Some stage →
     StopNoteTold v cpu stage
-note_told v cpu stage sized e p shown =
-    let u = setup_of v.online v.labels in
+note_told v cpu stage sized e p shown = let u = setup_of v.online v.labels in
     let c = stop_control_of v.controls cpu in
     let below : cpu < cpus = let low = stop_inside_below v.controls cpu stage e in omega arith in
     let fits = note_fits u p (stop_number v.table) shown.seat shown.source shown.shows c cpu (shown.sits cpu below) (shown.carries cpu below) stage e in

@@ -37,8 +37,7 @@ change_long key on i x = search arith
 
 changes_long : (key : ℕ) (on : Bool) (i : ℕ) (xs : List ℕ) → length (site_changes key on i xs) ≤ length xs
 changes_long key on i [] = omega arith
-changes_long key on i (x ∷ xs) =
-    let a = change_long key on i x in
+changes_long key on i (x ∷ xs) = let a = change_long key on i x in
     let b = changes_long key on (i + 1) xs in
     let c = length-append (site_change key on i (entry_at x)) (site_changes key on (i + 1) xs) in omega arith
 
@@ -60,8 +59,7 @@ module _ (u : Setup) (few : u.cpus ≡ cpus) (p : StopState) (t : StopWords) (co
   -- after the step the words show the stops that it tells
   pub stop_value_shown : StopsShow u (state_after u p at c me stage) (stop_words_after t (stop_access u.cpus me c.changes stage))
       (slice_set controls me (control_then u at c me stage))
-  stop_value_shown =
-      let one = stop_step_shown u p at v.seat v.source v.shows c me (v.sits me below) (v.carries me below) stage e in
+  stop_value_shown = let one = stop_step_shown u p at v.seat v.source v.shows c me (v.sits me below) (v.carries me below) stage e in
       let calls = call_step u p at v.seat v.source v.shows c me (v.sits me below) (v.carries me below) stage e in
       let access = stop_access u.cpus me c.changes stage in
       let names = stop_words_by_name t is access stop_word_named in
@@ -99,8 +97,7 @@ module _ (u : Setup) (few : u.cpus ≡ cpus) (p : StopState) (t : StopWords) (co
 
   -- and no state word is more than 5
   pub stop_phases_kept : ArePhases at → ArePhases (stop_number (stop_words_after t (stop_access u.cpus me c.changes stage)))
-  stop_phases_kept h =
-      subst ArePhases (sym (stop_words_by_name t is (stop_access u.cpus me c.changes stage) stop_word_named))
+  stop_phases_kept h = subst ArePhases (sym (stop_words_by_name t is (stop_access u.cpus me c.changes stage) stop_word_named))
       (phases_after u p at v.seat v.source v.shows h c me stage (subst (λ (x : Option StopStage). SitsAt u me c x (v.seat me)) e (v.sits me below).seat))
 
   -- each result word stays that of an i32
@@ -118,8 +115,7 @@ module _ (u : Setup) (few : u.cpus ≡ cpus) (p : StopState) (t : StopWords) (co
       round_fits : (w : Visit) (st : RoundStage) → SitsInRound u me c.changes w st (v.seat me) →
           FitsRound c w st (at (word_of (round_access u.cpus c.changes w st)))
       round_fits w (RoundStage.Look answer) x = tt
-      round_fits w (RoundStage.LoadFunc answer) x =
-          let work = x.1.0 in
+      round_fits w (RoundStage.LoadFunc answer) x = let work = x.1.0 in
           let same = (work_words u p at v.seat v.source v.shows w.slot me work 2 3 Rests x.1.1.3).func in
           let f = (work_in u p at v.seat v.source v.shows few v.shut me w.slot work 2 3 Rests x.1.1.3).func in subst (λ n. n < 2 ^ 16) (sym same) f
       round_fits w (RoundStage.LoadArg answer func) x = tt
@@ -152,8 +148,7 @@ module _ (u : Setup) (few : u.cpus ≡ cpus) (p : StopState) (t : StopWords) (co
       go (EnterMask slot kind) e = tt
       go (EnterActive slot kind mask) e = tt
       go (Advance w st) e = round_fits w st (seat_at (Advance w st) e).1
-      go (Complete w (CompletionStage.LoadFunc answer)) e =
-          let x = (seat_at (Complete w (CompletionStage.LoadFunc answer)) e).1 in
+      go (Complete w (CompletionStage.LoadFunc answer)) e = let x = (seat_at (Complete w (CompletionStage.LoadFunc answer)) e).1 in
           let work = x.1.0 in
           let same = (work_words u p at v.seat v.source v.shows w.slot me work w.acked w.acked Rests x.1.2).func in
           let f = (work_in u p at v.seat v.source v.shows few v.shut me w.slot work w.acked w.acked Rests x.1.2).func in subst (λ n. n < 2 ^ 16) (sym same) f

@@ -10,8 +10,7 @@ use Rattle.smp_stop_steps.proofs.machine.Stops.begin.Given as given
 -- the control of this CPU, once it is at the stage
 here : (g : given.Over) (c : goal.After-self-1 g) → c.begin.new.self ≡ (stop_goes (stop_control_of c.self.inside.controls.items c.args.cpu)
     c.args.stage).control
-here g c =
-    let items = c.self.inside.controls.items in
+here g c = let items = c.self.inside.controls.items in
     let sized = c.self.invariant.sized in
     let read : c.index_mut.result.now ≡ stop_control_of items c.args.cpu = get_or_read items c.args.cpu c.index_mut.result.now
     (omega (arith, c.requires.cpu)) c.index_mut.ensures.value stop_outside in
@@ -21,8 +20,7 @@ here g c =
 shown_after : (g : given.Over) (c : goal.After-self-1 g) (p : StopState) → StopsShow (setup_of c.self.inside.online c.self.inside.labels) p
     c.self.inside.table c.self.inside.controls.items →
     StopsShow (setup_of c.self.inside.online c.self.inside.labels) p c.self.inside.table (slice_set c.self.inside.controls.items c.args.cpu c.begin.new.self)
-shown_after g c p shown =
-    let items = c.self.inside.controls.items in
+shown_after g c p shown = let items = c.self.inside.controls.items in
     let sized = c.self.invariant.sized in
     let kept : items ≡ c.args.self.now.controls = ap (λ (v : StopsValue). v.controls) c.self.view_is in
     let outside : (stop_control_of items c.args.cpu).stage ≡ None = ap (λ (x : List StopControlValue). (stop_control_of x c.args.cpu).stage) kept ∙
@@ -33,8 +31,7 @@ shown_after g c p shown =
       labels = c.self.inside.labels;
       table = c.self.inside.table;
       controls = items;
-    } c.args.cpu c.args.stage =
-    subst (λ (v : StopsValue). MayBeginAt v c.args.cpu c.args.stage) (sym c.self.view_is) c.requires.may in
+    } c.args.cpu c.args.stage = subst (λ (v : StopsValue). MayBeginAt v c.args.cpu c.args.stage) (sym c.self.view_is) c.requires.may in
     rw (here g c) (begun_value_shown (setup_of c.self.inside.online c.self.inside.labels) p c.self.inside.table items shown c.args.cpu c.requires.cpu
     (omega (arith, c.requires.cpu)) c.args.stage outside may)
 

@@ -6,8 +6,7 @@ use Rattle.smp_stop_steps.proofs.{TheMachine.Answered.first_fits, TheMachine.Sta
 use Rattle.smp_stop_steps.proofs.machine.Stops.start.Goals as goal
 
 pub begin-requires-clause-may : goal.begin-requires-clause-may
-begin-requires-clause-may g c =
-    let items = c.self.inside.controls.items in
+begin-requires-clause-may g c = let items = c.self.inside.controls.items in
     let sized : length items ≡ cpus = c.self.invariant.sized in
     let kept : items ≡ c.args.self.now.controls = ap (λ (v : StopsValue). v.controls) c.self.view_is in
     let here : c.index.result.now ≡ stop_control_of items c.args.cpu = get_or_read items c.args.cpu c.index.result.now (omega (arith, c.requires.cpu))
@@ -22,8 +21,7 @@ begin-requires-clause-may g c =
 
 -- the answer of the command is an i32, and so are those of the CPU's visit
 pub begin-requires-clause-answers : goal.begin-requires-clause-answers
-begin-requires-clause-answers g c =
-    let items = c.self.inside.controls.items in
+begin-requires-clause-answers g c = let items = c.self.inside.controls.items in
     let sized : length items ≡ cpus = c.self.invariant.sized in
     let here : c.index.result.now ≡ stop_control_of items c.args.cpu = get_or_read items c.args.cpu c.index.result.now (omega (arith, c.requires.cpu))
     c.index.ensures stop_outside in
