@@ -19,11 +19,10 @@ pub weight_ones : (k mask : ℕ) → mask_weight k mask ≡ ones (mask % 2 ^ k)
 unfolding sum_below
 weight_ones zero mask = search (ones-le, arith)
 weight_ones (suc k) mask = let next : suc k ≡ 1 + k = omega arith in
-    let low : mask % 2 ^ k < 2 ^ k = omega (arith, pow_pos k) in
     let top : ones (mask % 2 ^ suc k) ≡ ones (bit_at mask k * 2 ^ k + mask % 2 ^ k) = ap (λ e. ones (mask % 2 ^ e)) next ∙ ap ones (mod-pow-add mask 1 k) in
     let one = bit_is mask k in
     let rest = weight_ones k mask in
-    let both = ones_cat k (bit_at mask k) (mask % 2 ^ k) low in
+    let both = ones_cat k (bit_at mask k) (mask % 2 ^ k) (omega (arith, pow_pos k)) in
     omega arith
 
 -- the least CPU of a mask, with one CPU more
@@ -55,8 +54,7 @@ first_at mask n (suc k) least low = elim (cases_lt n k) [
   | inl before ↦ let e = first_at mask n k least before in first_kept mask k (λ same. omega arith) ∙ e
   | inr from ↦
       let here : n ≡ k = omega arith in
-      let past : first_below mask k ≡ k = first_past mask k (λ c low. missing from c low) in
-      first_found mask k past (ap (λ i. has mask i) (sym here) ∙ least.passing) ∙ sym here
+      first_found mask k (first_past mask k (λ c low. missing from c low)) (ap (λ i. has mask i) (sym here) ∙ least.passing) ∙ sym here
 ]
   where
     missing : k ≤ n → (c : ℕ) → c < k → has mask c ≡ false

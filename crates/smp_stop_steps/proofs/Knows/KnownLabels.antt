@@ -21,9 +21,8 @@ not_at_run s w a l t on = search (at_test, arith)
 -- the counts of one CPU, with one moved
 counted_first : (f : ℕ → ℕ → Moved) (me k old new : ℕ) (list : List Moved) → AreFirst MOST_KEYS (f me) unmoved list → k < MOST_KEYS →
     AreFirst MOST_KEYS (moved_by f me k old new me) unmoved (counted list k old new)
-counted_first f me k old new list h low = let mine = put (f me) k (moves (f me k) old new) in
-    let shown' = first_put MOST_KEYS (f me) unmoved list k (moves (f me k) old new) h low in
-    search (put_same f me mine, ← h.each k low, shown', arith)
+counted_first f me k old new list h low = let shown' = first_put MOST_KEYS (f me) unmoved list k (moves (f me k) old new) h low in
+    search (put_same f me (put (f me) k (moves (f me k) old new)), ← h.each k low, shown', arith)
 
 module _ (p : StopState) (at : Word → ℕ) (seat : ℕ → Seat) (source : ℕ → Source) (v : Known) (h : StopShows (setup_in v.setting) p at seat source)
     (sees : Sees p seat source v) where
@@ -54,12 +53,8 @@ module _ (p : StopState) (at : Word → ℕ) (seat : ℕ → Seat) (source : ℕ
       key_read_known k found v)
   key_plain k found Free e on = (ap (λ i. key_loaded u p.now v.number k found i) (stands p at seat source v h sees Free e), refl)
   key_plain k found (In s w a l t) e on = let calm = not_at_run s w a l t on in
-      let patch = record (p.now) { patching = patch_begun u v.number (p.now.stop s).work found } in
       let plain = reads p.now v.number (ReadKey k (is_on found)) in (search arith)
-  key_plain k found (Gives s w a x) e on = let st = stands p at seat source v h sees (Gives s w a x) e in
-      let patch = record (p.now) { patching = patch_begun u v.number (p.now.stop s).work found } in
-      let plain = reads p.now v.number (ReadKey k (is_on found)) in
-      (ap (λ i. key_loaded u p.now v.number k found i) st.0 ∙ ap (λ y. cond (is_at_run y && is_patch (p.now.stop s).work.kind) patch plain) st.1, refl)
+  key_plain k found (Gives s w a x) e on = search (stands, arith)
   key_plain k found (Alters s w count made rest) e on = cc
   key_plain k found (Closes s) e on = (ap (λ i. key_loaded u p.now v.number k found i) (stands p at seat source v h sees (Closes s) e).0, refl)
 
@@ -91,7 +86,6 @@ module _ (p : StopState) (at : Word → ℕ) (seat : ℕ → Seat) (source : ℕ
           Goes Act.Cas (Key k) (Some (at (Key k))) set (put_if put_word at (Key k) set) (key_known Act.Cas k (Some (at (Key k))) set v)
       go false e = noted p seat source v sees at v (v.moves ++ own.Lost k ∷ []) (still p at seat source v h sees Act.Cas (Key k) (Some (at (Key k))) None refl)
       go true e = let was : at (Key k) ≡ found = eqb-true (at (Key k)) found e in
-          let parts = sees.part_is in
           let p' = record p { nudged = moved_by p.nudged v.number k found new } in
           let shown' = goes_still p seat source v sees p' (put_word at (Key k) new) (record (v.part) { nudged = counted v.part.nudged k found new })
           (told_so u v.number p p' Act.Cas (Key k) (Some (at (Key k))) (Some new)
@@ -108,9 +102,7 @@ module _ (p : StopState) (at : Word → ℕ) (seat : ℕ → Seat) (source : ℕ
   pub begin_patch : (s : ℕ) (w : Work) → v.seat ≡ In s w 2 3 Rests → w.kind ≡ Patch → has w.active v.number ≡ true →
       Loads (Key w.func) (key_loaded_by w.func (at (Key w.func)) v.seat v)
   begin_patch s w is kind active = let found = at (Key w.func) in
-      let r = ReadKey w.func (is_on found) in
       let next = Alters s w found [] (plan_at u w found) in
-      let st = stands p at seat source v h sees (In s w 2 3 Rests) is in
       let patch = record (p.now) { patching = patch_begun u v.number (p.now.stop s).work found } in
       let plain : key_loaded u p.now v.number w.func found (p.now.inside v.number) ≡ patch =
       search arith in
@@ -133,9 +125,8 @@ module _ (p : StopState) (at : Word → ℕ) (seat : ℕ → Seat) (source : ℕ
             count n;
       })
   patched_leaves k count n now low same = let parts = sees.part_is in
-      let readings' = same v.number ∙ parts.readings in
       let patched' = counted_first p.patched v.number k count n v.part.patched parts.patched low in
-      search (readings', patched', put_other, arith)
+      search ((same v.number ∙ parts.readings), patched', put_other, arith)
 
   pub alter : (s : ℕ) (w : Work) (count : ℕ) (made rest : List Change) (x : Place) (n : ℕ) → v.seat ≡ Alters s w count made ((x, n) ∷ rest) →
       plan_at u w count ≡ made ++ (x, n) ∷ rest → w.func < MOST_KEYS →
@@ -155,9 +146,8 @@ module _ (p : StopState) (at : Word → ℕ) (seat : ℕ → Seat) (source : ℕ
       (put seat v.number next) source) plain (key_stored u p at seat source h v.number s w count made rest k n 0 sees.below (sees.seat_is ∙ is) first.0
       first.1)) (patched_leaves k count n p'.now (subst (λ i. i < MOST_KEYS) (sym first.1) low) (λ c. refl)) in
       search (is, shown', arith)
-  alter s w count made rest (Place.Site i) n is plan low = let next = Alters s w count (made ++ (Place.Site i, n) ∷ []) rest in
-      let p' = told u p v.number Act.Store (Site i) None (Some n) 0 in
-      let shown' = goes_seat p seat source v sees p' (put_word at (Site i) n) next v.part
+  alter s w count made rest (Place.Site i) n is plan low = let p' = told u p v.number Act.Store (Site i) None (Some n) 0 in
+      let shown' = goes_seat p seat source v sees p' (put_word at (Site i) n) (Alters s w count (made ++ (Place.Site i, n) ∷ []) rest) v.part
       (told_so u v.number p p' Act.Store (Site i) None (Some n) refl) (site_stored u p at seat source h v.number s w count made rest i n 0
       (sees.seat_is ∙ is)) record { mine = sees.part_is; others = λ c ne. refl } in
       search (is, shown', arith)

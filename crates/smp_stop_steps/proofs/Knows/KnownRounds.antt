@@ -95,13 +95,12 @@ module _ (p : StopState) (at : Word → ℕ) (seat : ℕ → Seat) (source : ℕ
 
   pub look : (s : ℕ) (w : Work) (a l : ℕ) → v.seat ≡ In s w a l Rests → a ≢ 4 → Loads (Slot s Field.State) (looked_known (at (Slot s Field.State)) v)
   look s w a l is more = let found = at (Slot s Field.State) in
-      let seen = p.looks v.number ++ found ∷ [] in
       let p' = told u p v.number Act.Load (Slot s Field.State) (Some found) None 0 in
       let shown' = goes_seat p seat source v sees p' at (In s w a found Rests) (record (v.part) { looks = v.part.looks ++ found ∷ [] })
       (told_so u v.number p p' Act.Load (Slot s Field.State) (Some found) None refl)
       (state_loaded u p at seat source h s v.number w a l 0 (sees.seat_is ∙ is) more) record {
         mine = search (put_same, arith);
-        others = λ c ne. ap (λ x. record (columns_of p c) { looks = x }) (put_other p.looks v.number seen c ne);
+        others = λ c ne. ap (λ x. record (columns_of p c) { looks = x }) (put_other p.looks v.number (p.looks v.number ++ found ∷ []) c ne);
       } in
       search (is, shown', arith)
 

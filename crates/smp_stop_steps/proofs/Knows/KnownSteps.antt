@@ -150,11 +150,7 @@ module _ (v : Known) where
   -- a store to a slot, of a CPU that drafts, is none that is due
   drafts : (f : Field) (y : Source) (w : Work) (k : ℕ) → y ≡ Drafts w k
       → let one : ℕ = 1 in cond (is_due (is_drafting y) Act.Store (Slot v.number f)) 0 one ≡ one
-  drafts f y w k is = ap (λ (z : Source). cond (is_due (is_drafting z) Act.Store (Slot v.number f)) 0 1) is ∙ none (is_due_field f)
-    where
-      none : (b : Bool) → let one : ℕ = 1 in cond (b && false) 0 one ≡ one
-      none true = refl
-      none false = refl
+  drafts f y w k is = search arith
 
   -- of one that does not, each store of a field that is due
   rests : is_drafting v.source ≡ false → let none : ℕ = 0 in cond (not (is_drafting v.source)) none 1 ≡ none
@@ -190,6 +186,4 @@ module _ (v : Known) where
   weighs (LoadEntry s x count made rest i) may found = refl
 
 pub known_steps_count : KnownStepsCount
-known_steps_count v m may found w = let seen = seen_of v.number (known_access v m) found None in
-    one_unless v (is_due (is_drafting v.source) seen.act seen.word) (weight_of m) (learned w v seen.act seen.word seen.found seen.put)
-    (weighs v m may found) (told v m found w)
+known_steps_count v m may found w = search (one_unless, weighs, told, arith)

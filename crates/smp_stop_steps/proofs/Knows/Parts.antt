@@ -100,21 +100,17 @@ module _ (p : StopState) (seat : ℕ → Seat) (source : ℕ → Source) (v : Kn
   pub goes_seat : {seen : Seen} (p' : StopState) (at' : Word → ℕ) (x : Seat) (part : Part) → Told p' seen →
       StopShows (setup_in v.setting) p' at' (put seat v.number x) source →
       Leaves v.number p p' part → By seen at' (record v { seat = x; part = part })
-  goes_seat {seen} p' at' x part is shown leaves = goes p' at' (put seat v.number x) source x v.source part is shown leaves (put_same seat v.number x)
-      sees.source_is sees.is_begun (λ c ne. put_other seat v.number x c ne) (λ c ne. refl)
+  goes_seat {seen} p' at' x part is shown leaves = search (goes, put_same, put_other, arith)
 
   -- one that moves its source alone
   pub goes_source : {seen : Seen} (p' : StopState) (at' : Word → ℕ) (y known : Source) (part : Part) → Told p' seen →
       StopShows (setup_in v.setting) p' at' seat (put source v.number y) →
       Leaves v.number p p' part → told_source y ≡ known → IsBegun y →
       By seen at' (record v { source = known; part = part })
-  goes_source {seen} p' at' y known part told shown leaves is begun = goes p' at' seat (put source v.number y) v.seat known part told shown leaves
-      sees.seat_is (ap told_source (put_same source v.number y) ∙ is) (subst IsBegun (sym (put_same source v.number y)) begun) (λ c ne. refl)
-      (λ c ne. put_other source v.number y c ne)
+  goes_source {seen} p' at' y known part told shown leaves is begun = search (goes, put_same, put_other, arith)
 
   -- one that moves neither
   pub goes_still : {seen : Seen} (p' : StopState) (at' : Word → ℕ) (part : Part) → Told p' seen →
       StopShows (setup_in v.setting) p' at' seat source → Leaves v.number p p' part →
       By seen at' (record v { part = part })
-  goes_still {seen} p' at' part is shown leaves = goes p' at' seat source v.seat v.source part is shown leaves sees.seat_is sees.source_is sees.is_begun
-      (λ c ne. refl) (λ c ne. refl)
+  goes_still {seen} p' at' part is shown leaves = search (goes, arith)

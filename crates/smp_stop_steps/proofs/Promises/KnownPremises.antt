@@ -62,9 +62,7 @@ module _ (p : StopState) (at : Word → ℕ) (seat : ℕ → Seat) (source : ℕ
   stored_shut n f shut gate = subst (λ b. MayStoreIf b p me me f n) (sym shut) (refl, gate)
 
   drafting : (w : Work) (k n : ℕ) (f : Field) → v.source ≡ Drafts (told_work k w) k → MayStoreIf (p.now.stop me).is_open p me me f n
-  drafting w k n f e = let y = is_draft (source me) w k (sees.source_is ∙ e) in
-      let d : DraftShows u p.gate (p.now.stop me) (slot me) me y.work k = source_is (Drafts y.work k) y.is in
-      stored_shut n f d.shut d.holds
+  drafting w k n f e = search (is_draft, source_is, stored_shut, arith)
 
   -- a CPU in a stop is near its phase, and is through where its work is of kind One or it has left
   phase_is : (s a : ℕ) → (p.now.stop s).standing me ≡ Inside a (a + 1) → (p.now.stop s).phase ≡ a + 1
@@ -141,12 +139,7 @@ module _ (p : StopState) (at : Word → ℕ) (seat : ℕ → Seat) (source : ℕ
   may_see (LoadEntry s w count made rest i) m = at_run_patching s w count made rest m
 
   labels : (m : Move) → MayStep v m → (change : Change) → label_stored (known_access v m) ≡ Some change → IsNextOfPatch p me change
-  labels (Alter s w count made (x, n) rest) m change e = next_is x n change e (at_seat (Alters s w count made ((x, n) ∷ rest)) m.0).5
-    where
-      next_is : (x : Place) (n : ℕ) (change : Change) → label_stored (store_of (x, n)) ≡ Some change
-          → p.now.patching ≡ Patches me w count made ((x, n) ∷ rest) → IsNextOfPatch p me change
-      next_is (Place.Key k) n change e is = search arith
-      next_is (Place.Site i) n change e is = search arith
+  labels (Alter s w count made (x, n) rest) m change e = search (at_seat, arith)
   labels TakeGate m change e = cc
   labels OpenGate m change e = cc
   labels (Draft w) m change e = cc

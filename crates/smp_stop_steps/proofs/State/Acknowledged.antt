@@ -54,7 +54,6 @@ module _ (u : Setup) (p : Present) (at : Word → ℕ) (seat : ℕ → Seat) (h 
       let stop' = acknowledged (p.stop s) me (a + 1) found in
       let w : Field → ℕ = λ f. at (Slot s f) in
       let st : Stands p me (In s job a (a + 1) Rests) = subst (Stands p me) is (h.stands me) in
-      let k = keeps_inside u.cpus (p.stop s) w (h.slots s) me (Inside a (a + 1)) st.1 in
       let o = (h.slots s).shows (is_open_inside u.cpus (p.stop s) w (h.slots s) me (Inside a (a + 1)) st.1 refl) in
       let no : (p.stop s).raising ≡ Nobody = search (nobody_raises, o.ack, arith) in
       moves u p at (put_word at (Slot s Ack) (found - 1)) seat s me stop' p.inside irq' readings' (In s job (a + 1) (a + 1) (cond (found == 1) Fills Rests)) h
@@ -75,9 +74,8 @@ module _ (u : Setup) (p : Present) (at : Word → ℕ) (seat : ℕ → Seat) (h 
       irq' me ≡ irq_of (In s job a l Sets) → (u.online me ≡ true → irq_of (In s job a l Sets) ≡ true → AllByRecursion (Agrees (labels_in at)) (readings' me)) →
       PresentShows u (moved p s (refilled (p.stop s) me) p.inside irq' readings') (put_word at (Slot s Ack) (weight u.cpus (p.stop s).standing))
       (put seat me (In s job a l Sets))
-  step_refills job a l is phase off read = let w : Field → ℕ = λ f. at (Slot s f) in
-      let st : Stands p me (In s job a l Fills) = subst (Stands p me) is (h.stands me) in
-      let open_ = is_open_inside u.cpus (p.stop s) w (h.slots s) me (Inside a l) st.1 refl in
+  step_refills job a l is phase off read = let st : Stands p me (In s job a l Fills) = subst (Stands p me) is (h.stands me) in
+      let open_ = is_open_inside u.cpus (p.stop s) (λ f. at (Slot s f)) (h.slots s) me (Inside a l) st.1 refl in
       let mine = fills_me me (p.stop s).raising st.2 in
       moves u p at (put_word at (Slot s Ack) (weight u.cpus (p.stop s).standing)) seat s me (refilled (p.stop s) me) p.inside irq' readings'
       (In s job a l Sets) h

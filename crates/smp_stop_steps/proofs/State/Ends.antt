@@ -40,7 +40,6 @@ module _ (cpus : ℕ) (standing : ℕ → Standing) (me a v todo : ℕ) (small :
   one_less : count_unfinished cpus (put standing me (Completed a v)) + 1 ≡ todo
   one_less = let s = sum_put (λ c. unfinished (standing c)) (λ c. unfinished (put standing me (Completed a v) c)) me cpus small (search (put_other, arith)) in
       let now : unfinished (put standing me (Completed a v) me) ≡ 0 = ap unfinished (put_same standing me (Completed a v)) in
-      let then : unfinished (standing me) ≡ 1 = is in
       omega arith
 
   some_left : count_unfinished cpus standing ≢ 0

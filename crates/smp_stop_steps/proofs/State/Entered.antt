@@ -98,14 +98,12 @@ module _ (u : Setup) (p : Present) (at : Word → ℕ) (seat : ℕ → Seat) (h 
         c) →
         PresentShows u (moved p s (stands (p.stop s) me (Inside 0 0)) (put p.inside me (Some s)) p.irq p.readings) (put_word at (Slot s Roll) n)
         (put seat me (In s (p.stop s).work 0 0 Rests))
-    step_enters n is found clears others = let to = Inside 0 0 in
-        let stop' = stands (p.stop s) me to in
-        let st : Stands p me Free = subst (Stands p me) is (h.stands me) in
+    step_enters n is found clears others = let stop' = stands (p.stop s) me (Inside 0 0) in
         moves u p at (put_word at (Slot s Roll) n) seat s me stop' (put p.inside me (Some s)) p.irq p.readings (In s (p.stop s).work 0 0 Rests) h
         (slot_put u.cpus p.stop at s Roll n stop' h.slots (enters_slot u.cpus (p.stop s) w (h.slots s) me n found clears others)) refl
         (search (put_other, arith))
         (save (Some s)) (search (put_same, at_test, quiet, arith))
-        (at_home stop' (Some s) (λ j i. absurd (let bad : None ≡ Some j = sym st ∙ h.homes j me i in cc)) (λ _. refl))
+        (at_home stop' (Some s) (λ j i. absurd (let bad : None ≡ Some j = sym (subst (Stands p me) is (h.stands me)) ∙ h.homes j me i in cc)) (λ _. refl))
         (h.irq me ∙ ap irq_of is)
         (λ on i. h.read me on (h.irq me ∙ ap irq_of is))
         (subst IsNoPatch (sym is) tt)
@@ -174,8 +172,7 @@ module _ (u : Setup) (p : Present) (at : Word → ℕ) (seat : ℕ → Seat) (h 
         irq_of (seat me) ≡ true →
         PresentShows u (moved p s (stands (p.stop s) me (Answering a v)) p.inside p.irq p.readings) (put_word at (Slot s Result) v)
         (put seat me (Gives s job a v))
-    step_answers job a l v is some through quiet on = let to = Answering a v in
-        let stop' = stands (p.stop s) me to in
+    step_answers job a l v is some through quiet on = let stop' = stands (p.stop s) me (Answering a v) in
         let st : Stands p me (In s job a l Rests) = subst (Stands p me) is (h.stands me) in
         moves u p at (put_word at (Slot s Result) v) seat s me stop' p.inside p.irq p.readings (Gives s job a v) h
         (slot_put u.cpus p.stop at s Result v stop' h.slots (answers_slot u.cpus (p.stop s) w (h.slots s) me a l v st.1 some (through, quiet))) refl

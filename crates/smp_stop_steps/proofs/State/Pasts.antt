@@ -30,8 +30,7 @@ module _ (y : Past) where
 -- a CPU goes elsewhere in its stop: with an answer only where it is active, or in a stop of one CPU
 pub active_put : (stop : Stop) (me : ℕ) (to : Standing) → (stop.work.kind ≢ One → has stop.work.active me ≡ false → answer_of to ≡ 0) →
     OnlyActiveAnswer stop.work (λ c. answer_of (stop.standing c)) → OnlyActiveAnswer stop.work (λ c. answer_of (put stop.standing me to c))
-active_put stop me to mine others many =
-    put_all (λ c x. has stop.work.active c ≡ false → answer_of x ≡ 0) stop.standing me to (mine many) (λ c ne. others many c)
+active_put stop me to mine others many = search (put_all, stop.work.active, stop.standing, arith)
 
 -- where nobody is in a stop, nobody has an answer
 pub active_outside : (work : Work) (standing : ℕ → Standing) → ((c : ℕ) → standing c ≡ Outside) → OnlyActiveAnswer work (λ c. answer_of (standing c))
@@ -48,8 +47,7 @@ module _ (past : List Past) (stop : Stop) (begun : List Work) (collected : List 
     pub past_completes : (me a v found : ℕ) → answer_now (stop.standing me) ≡ [] →
         (stop.work.kind ≢ One → has stop.work.active me ≡ false → v ≡ 0) →
         PastShows past (completed stop me a v found) begun collected (put answers me (answers me ++ v ∷ []))
-    past_completes me a v found none_ mine = let active = active_put stop me (Completed a v) mine h.active in
-        search (at_test, h.answers_are, append-nil, active, arith)
+    past_completes me a v found none_ mine = search (active_put, at_test, append-nil, arith)
 
     -- collect: what was collected grows by a result of the answers of its mask
     pub past_collects : (result : ℕ) → stop.is_open ≡ true → IsResult stop.work.mask (λ c. answer_of (stop.standing c)) result →

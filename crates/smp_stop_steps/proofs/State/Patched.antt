@@ -30,10 +30,7 @@ off_inside p c s a l seat st in_ is m ne = search (off_at, le-ltb, arith)
 module _ (u : Setup) (p : Present) (at : Word → ℕ) (seat : ℕ → Seat) (h : PresentShows u p at seat) (s me : ℕ) where
   -- while a function runs, its whole mask has interrupts off
   pub all_off : (p.stop s).standing me ≡ Inside 2 3 → (c : ℕ) → has (p.stop s).work.mask c ≡ true → p.irq c ≡ false
-  all_off is c of = let w : Field → ℕ = λ f. at (Slot s f) in
-      let f = function_law u.cpus (p.stop s) w (h.slots s) me is in
-      let of_it : is_of ((p.stop s).standing c) ≡ true = search (h.slots, arith) in
-      h.irq c ∙ go ((p.stop s).standing c) refl of_it f.at_run (f.all_disabled c of) ((h.slots s).keeps c)
+  all_off is c of = search (function_law, go, arith)
     where
       go : (x : Standing) → (p.stop s).standing c ≡ x → is_of x ≡ true → (p.stop s).phase ≡ 3 → (acked x ≡ 2) ⊎ (acked x ≡ 3) →
           Keeps u.cpus (p.stop s).phase c x → irq_of (seat c) ≡ false
@@ -56,8 +53,7 @@ module _ (u : Setup) (p : Present) (at : Word → ℕ) (seat : ℕ → Seat) (h 
   patch_starts job plan is kind active leads = let mine : me ≡ u.first = search (eqb-true, h.works, arith) in
       let whole : p.patching ≡ Whole = go p.patching h.runner mine in
       let lawful : IsLawful (labels_in at) = subst (λ x. LabelsShow x (labels_in at)) whole h.labels in
-      let count = at (Key job.func) in
-      let next = Alters s job count [] plan in
+      let next = Alters s job (at (Key job.func)) [] plan in
       record {
         slots = h.slots;
         stands = search (put_all, alters_other, h.stands, arith);
@@ -82,20 +78,17 @@ module _ (u : Setup) (p : Present) (at : Word → ℕ) (seat : ℕ → Seat) (h 
   patch_stores job count made rest change at' is table slots entries =
       let st : Stands p me (Alters s job count made (change ∷ rest)) = subst (Stands p me) is (h.stands me) in
       let open_ = is_open_inside u.cpus (p.stop s) (λ f. at (Slot s f)) (h.slots s) me (Inside 2 3) st.1 refl in
-      let r : RunnerShows u.first (Patches me job count made (change ∷ rest)) seat = subst (λ x. RunnerShows u.first x seat) st.5 h.runner in
-      let made' = made ++ change ∷ [] in
-      let next = Alters s job count made' rest in
-      let kind : (p.stop s).work.kind ≡ Patch = ap (λ (w : Work). w.kind) st.3 ∙ st.4 in
+      let next = Alters s job count (made ++ change ∷ []) rest in
       record {
         slots = slots;
         stands = search (put_all, alters_other, h.stands, arith);
         homes = h.homes;
         irq = put_all (λ c y. p.irq c ≡ irq_of y) seat me next (h.irq me ∙ ap irq_of is) (λ c ne. h.irq c);
         works = h.works;
-        runner = (r.0, (s, put_same seat me next));
+        runner = ((subst (λ x. RunnerShows u.first x seat) st.5 h.runner).0, (s, put_same seat me next));
         entries = entries;
         labels = search (applied-append, arith);
-        read = λ c on_ i. absurd (no (sym i ∙ all_off st.1 c ((h.works s open_ kind).all c ∙ on_)));
+        read = λ c on_ i. absurd (no (sym i ∙ all_off st.1 c ((h.works s open_ (ap (λ (w : Work). w.kind) st.3 ∙ st.4)).all c ∙ on_)));
       }
     where
       no : true ≡ false → ⊥

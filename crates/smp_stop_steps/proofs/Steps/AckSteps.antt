@@ -75,10 +75,9 @@ module _ (u : Setup) (p : StopState) (at : Word → ℕ) (seat : ℕ → Seat) (
   pub refill : (ran : Bool) → c.stage ≡ Some (Advance v (round.Refill ran)) → StopStep u p at seat source c me (Advance v (round.Refill ran))
   refill ran e = let r = in_round s v (round.Refill ran) e in
       let work = r.1.0 in
-      let loaded = r.1.1 in
       let next = In v.slot work v.acked v.acked Sets in
       let shows' = subst (λ m. StopShows u (told u p me Act.Store (Slot v.slot Ack) None (Some (mask_weight u.cpus m)) 0) (put_word at (Slot v.slot Ack)
-      (mask_weight u.cpus m)) (put seat me next) (put source me (source me))) (sym loaded.mask) (moved_seat u seat source me (told u p me Act.Store (Slot
+      (mask_weight u.cpus m)) (put seat me next) (put source me (source me))) (sym r.1.1.mask) (moved_seat u seat source me (told u p me Act.Store (Slot
       v.slot Ack) None (Some (mask_weight u.cpus work.mask)) 0) (put_word at (Slot v.slot Ack) (mask_weight u.cpus work.mask)) next (ack_stored u p at
       seat source h v.slot me work v.acked v.acked 0 r.1.2)) in
       search (shows', round_source, arith)

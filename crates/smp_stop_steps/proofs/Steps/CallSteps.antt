@@ -87,8 +87,7 @@ module _ (u : Setup) (p : StopState) (at : Word → ℕ) (seat : ℕ → Seat) (
     -- load of the argument of a function that the CPU may call
     called : (s : ℕ) (w : Work) (a l answer : ℕ) → seat me ≡ In s w a l Rests → may_call me w (Inside a l) ≡ true →
         let found = at (Slot s Field.Arg) in
-        let p' = told u p me Act.Load (Slot s Field.Arg) (Some found) None answer in
-        p' ≡ calls_now p me (p.now.stop s).work found answer
+        (told u p me Act.Load (Slot s Field.Arg) (Some found) None answer) ≡ calls_now p me (p.now.stop s).work found answer
     called s w a l answer is may = search (h.present.stands, arith)
 
     calls : (stage : StopStage) (s : ℕ) (w : Work) (a l answer : ℕ) → state_after u p at c me stage ≡ told u p me Act.Load (Slot s Field.Arg)
@@ -99,23 +98,10 @@ module _ (u : Setup) (p : StopState) (at : Word → ℕ) (seat : ℕ → Seat) (
     calls stage s w a l answer is_told is may idle answered says mine = search (h.present.stands, stage, called, put_same, put_other, arith)
 
     load_arg : (answer func : ℕ) → c.stage ≡ Some (Advance v (round.LoadArg answer func)) → Now (Advance v (round.LoadArg answer func))
-    load_arg answer func e = let x = at_seat s (Advance v (round.LoadArg answer func)) e in go x.0 x.1.0 x.1.1.0 x.1.1.1 x.1.1.2 v.kind refl
-      where
-        q : IsQuiet c.visit f
-        q = at_stage (Advance v (round.LoadArg answer func)) e
-
-        go : c.visit ≡ Some v → v.kind ≢ One → (work : Work) → SitsAtRun me v work (seat me) → func ≡ work.func → (kind : KindOf) → v.kind ≡ kind →
-            Now (Advance v (round.LoadArg answer func))
-        go visit some work run same One is = absurd (some is)
-        go visit some work run same Multi is = search (work.active, calls, quiet_early, quiet, q, calling_at, arith)
-        go visit some work run same Patch is = search (h.present.stands, plain, q, arith)
+    load_arg answer func e = search (at_seat, at_stage, calls, quiet_early, quiet, calling_at, plain, arith)
 
     load_key : (key : ℕ) (change : KeyChange) → c.stage ≡ Some (Advance v (round.LoadKey key change)) → Now (Advance v (round.LoadKey key change))
-    load_key key change e = let x = at_seat s (Advance v (round.LoadKey key change)) e in
-        let run = x.1.1.1 in
-        let patch = sym run.0.kind ∙ x.1.0 in
-        let idle = idle_patch me v.slot x.1.1.0 3 Rests f patch (calling_at (In v.slot x.1.1.0 2 3 Rests) run.3) in
-        plain (Advance v (round.LoadKey key change)) refl (silent (count_after change (at (Key key)))) (go x.1.0 idle (count_after change (at (Key key))))
+    load_key key change e = search (at_seat, idle_patch, calling_at, plain, silent, go, arith)
       where
         q : IsQuiet c.visit f
         q = at_stage (Advance v (round.LoadKey key change)) e
@@ -194,8 +180,7 @@ module _ (u : Setup) (p : StopState) (at : Word → ℕ) (seat : ℕ → Seat) (
         either : (work : Work) → IsLoaded v work →
             (((seat me ≡ In v.slot work v.acked (v.acked + 1) Rests) × RunsIf me v ran) ⊎ ((v.acked ≡ 2) × (ran ≡ true) ×
             ((count : ℕ) × (answer ≡ patch_answer work count) × (seat me ≡ Alters v.slot work count (plan_at u work count) [])))) → Now stage
-        either work loaded (inl (is, runs)) =
-            search (v.acked, h.present.stands, carried_alone, IsNoPatch, at_stage, stage, done, after, has_called, eqb-true, ran_on, stays, arith)
+        either work loaded (inl (is, runs)) = search (carried_alone, at_stage, stage, done, after, has_called, eqb-true, ran_on, stays, arith)
         either work loaded (inr (two, r, (n, answers, is))) = search (h.present.stands, v.acked, eq-eqb, done, after, arith)
 
     -- the completion

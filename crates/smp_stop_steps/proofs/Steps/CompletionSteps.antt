@@ -64,8 +64,7 @@ module _ (u : Setup) (p : StopState) (at : Word → ℕ) (seat : ℕ → Seat) (
     one_arg answer func e = let x = at_seat s (Complete v (completion.LoadArg answer func)) e in
         let shows' = still u seat source me (state_after u p at c me (Complete v (completion.LoadArg answer func))) at (arg_loaded u p at seat source h v.slot
         me x.1.1.0 v.acked v.acked Rests x.1.1.2 answer refl) in
-        let sits' = go x.1.0 x.1.1.0 x.1.1.1 x.1.1.2 (at_source s (Complete v (completion.LoadArg answer func)) e) (answer == 0) refl in
-        search (shows', sits', arith)
+        search (shows', (go x.1.0 x.1.1.0 x.1.1.1 x.1.1.2 (at_source s (Complete v (completion.LoadArg answer func)) e) (answer == 0) refl), arith)
       where
         go : v.kind ≡ One → (work : Work) → IsLoaded v work → seat me ≡ In v.slot work v.acked v.acked Rests → OwnsIf c.is_open (source me) → (b : Bool) →
             (answer == 0) ≡ b →
@@ -121,8 +120,7 @@ module _ (u : Setup) (p : StopState) (at : Word → ℕ) (seat : ℕ → Seat) (
             let shows' = subst (λ n. StopShows u (state_after u p at c me (Complete v completion.CountDown)) (put_word at (Slot v.slot Todo) n) (put seat me
             next) (put source me (source me))) (sym less) (moved_seat u seat source me (state_after u p at c me (Complete v completion.CountDown))
             (put_word at (Slot v.slot Todo) (found - 1)) next (todo_subtracted u p at seat source h v.slot me work v.acked v.acked 0 is through)) in
-            let sits' = counted_sits y (s.irq ∙ on_now u p at seat source h v.slot me work v.acked v.acked is through) (found == 1) in
-            search (shows', sits', arith)
+            search (shows', (counted_sits y (s.irq ∙ on_now u p at seat source h v.slot me work v.acked v.acked is through) (found == 1)), arith)
         either work (inr is) y = let found = at (Slot v.slot Todo) in
             let next = cond (found == 1) (Closes v.slot) Free in
             let bounds = todo_bounds_answered u p at seat source h v.slot me work v.acked v.answer is in
@@ -130,8 +128,7 @@ module _ (u : Setup) (p : StopState) (at : Word → ℕ) (seat : ℕ → Seat) (
             let shows' = subst (λ n. StopShows u (state_after u p at c me (Complete v completion.CountDown)) (put_word at (Slot v.slot Todo) n) (put seat me
             next) (put source me (source me))) (sym less) (moved_seat u seat source me (state_after u p at c me (Complete v completion.CountDown))
             (put_word at (Slot v.slot Todo) (found - 1)) next (todo_subtracted_answered u p at seat source h v.slot me work v.acked v.answer 0 is)) in
-            let sits' = counted_sits y (s.irq ∙ ap irq_of is) (found == 1) in
-            search (shows', sits', arith)
+            search (shows', (counted_sits y (s.irq ∙ ap irq_of is) (found == 1)), arith)
 
   -- any step of any command
   pub stop_step_shown : CarriesIn c (p.calling me) → (stage : StopStage) → c.stage ≡ Some stage → StopStep u p at seat source c me stage

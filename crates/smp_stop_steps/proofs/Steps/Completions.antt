@@ -31,9 +31,8 @@ module _ (u : Setup) (p : StopState) (at : Word → ℕ) (seat : ℕ → Seat) (
       let stop' = stands (p.now.stop s) me to in
       let inside' = put p.now.inside me (Some s) in
       let called : (p.now.stop s).standing me ≡ Called = called_is ((p.now.stop s).standing me) (sym ((h.present.slots s).roll me) ∙ found) in
-      let open_ = is_open_inside u.cpus (p.now.stop s) w (h.present.slots s) me Called called refl in
       let k = keeps_inside u.cpus (p.now.stop s) w (h.present.slots s) me Called called in
-      let stays : StaysOpen (p.now.stop s) stop' = search (open_, put_all, active_put, arith) in
+      let stays : StaysOpen (p.now.stop s) stop' = search (put_all, active_put, arith) in
       let at' = put_word at (Slot s Roll) n in
       let shown' = open_step u p at seat source h s stop' inside' p.now.irq p.now.readings p.now.patching at' (put seat me (In s (p.now.stop s).work 0 0
       Rests)) p.looks p.calls p.calling stays refl (λ k. refl) (other_slots at s Roll n) (own k.1) (step_enters u p.now at seat h.present s me n is found
@@ -104,16 +103,13 @@ module _ (u : Setup) (p : StopState) (at : Word → ℕ) (seat : ℕ → Seat) (
   completes_shown job a v in_ is turn done on idle calm none mine = let found = at (Slot s Todo) in
       let to = Completed a v in
       let stop' = completed (p.now.stop s) me a v found in
-      let inside' = put p.now.inside me None in
       let of = answer_of_it (p.now.stop s).phase a v ((p.now.stop s).standing me) is in
       let open_ = is_open_inside u.cpus (p.now.stop s) w (h.present.slots s) me ((p.now.stop s).standing me) refl of in
-      let o = (h.present.slots s).shows open_ in
       let answers' = put p.answers me (put (p.answers me) s (p.answers me s ++ v ∷ [])) in
-      let calls' = called_more p.calls me (p.calling me) in
-      open_step_with u p at seat source h s stop' inside' p.now.irq p.now.readings p.now.patching (put_word at (Slot s Todo) (found - 1))
+      open_step_with u p at seat source h s stop' (put p.now.inside me None) p.now.irq p.now.readings p.now.patching (put_word at (Slot s Todo) (found - 1))
       (put seat me (cond (found == 1) (Closes s) Free))
-      p.looks calls' (put p.calling me Idle) answers' open_ open_ refl
-      (λ e. absurd (ended_not e (subst (λ x. DoneShows u.cpus (p.now.stop s).standing x (at (Slot s Done))) e o.done) of))
+      p.looks (called_more p.calls me (p.calling me)) (put p.calling me Idle) answers' open_ open_ refl
+      (λ e. absurd (ended_not e (subst (λ x. DoneShows u.cpus (p.now.stop s).standing x (at (Slot s Done))) e ((h.present.slots s).shows open_).done) of))
       refl (λ k. refl) (other_slots at s Todo (found - 1))
       (λ j. at_test j s (λ b. HasPast (cond b stop' (p.now.stop j)) (p.begun j) (p.collected j) (λ c. answers' c j))
       (λ e. let P : ℕ → Type 0 = λ k. HasPast stop' (p.begun k) (p.collected k) (λ c. answers' c k) in

@@ -49,8 +49,7 @@ module _ (u : Setup) (p : StopState) (at : Word → ℕ) (seat : ℕ → Seat) (
         go : (b : Bool) → may_call me (p.now.stop s).work ((p.now.stop s).standing me) ≡ b →
             StopShows u (cond b (calls_now p me (p.now.stop s).work (at (Slot s Arg)) answer) p) at seat source
         go false e = h
-        go true e = let callings' = put_all (λ c x. IsCalling c (seat c) x) p.calling me (Calls called) (search (called, arith)) (λ c ne. h.callings c) in
-            search (callings', arith)
+        go true e = search ((put_all (λ c x. IsCalling c (seat c) x) p.calling me (Calls called) (search (called, arith)) (λ c ne. h.callings c)), arith)
 
     -- the CPU is of the mask, and of the machine
     pub inside_keeps : Keeps u.cpus (p.now.stop s).phase me (Inside a l)

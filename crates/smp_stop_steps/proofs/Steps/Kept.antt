@@ -55,8 +55,7 @@ owns_kept first n key s stop' inside' irq' readings' patching' stays early own j
     3 ≤ acked (x.standing first) → StandsSet x.work (key x.work.func))
     (λ e op kind in_ late.
     let i = early.inside (subst (λ k. is_inside (stop'.standing k) ≡ true) e in_) in
-    let o = own s stays.was (ap (λ (w : Work). w.kind) (sym stays.work) ∙ kind) i (early.late late) in
-    subst (λ (w : Work). StandsSet w (key w.func)) (sym stays.work) o)
+    subst (λ (w : Work). StandsSet w (key w.func)) (sym stays.work) (own s stays.was (ap (λ (w : Work). w.kind) (sym stays.work) ∙ kind) i (early.late late)))
     (λ ne op kind in_ late. own j op kind in_ late)
 
 -- the past, by the answers of each CPU

@@ -89,11 +89,7 @@ module _ (u : Setup) (p : StopState) (at : Word → ℕ) (seat : ℕ → Seat) (
   goes stage e = (call_step u p at seat source h c me s k stage e).goes
 
   gated : Fits TakeGate
-  gated = go (at Gate == 0) refl
-    where
-      go : (b : Bool) → (at Gate == 0) ≡ b → NoteFits p (gate_told p me Act.Cas (cond b (Some (me + 1)) None)) me (Some (cond b Note.Gate Note.Taken))
-      go true e = (gate_free p.gate (sym h.gate ∙ eqb-true (at Gate) 0 e), refl)
-      go false e = (λ none. let bad : true ≡ false = sym (eq-eqb (at Gate) 0 (h.gate ∙ ap gate_word none)) ∙ e in cc, refl)
+  gated = search (gate_free, eqb-true, eq-eqb, arith)
 
   begun : (work : Work) (f : Field) → c.stage ≡ Some (Begin work f) → Fits (Begin work f)
   begun work f e = search (go, arith)
@@ -184,8 +180,7 @@ module _ (u : Setup) (p : StopState) (at : Word → ℕ) (seat : ℕ → Seat) (
         go false is = (inl (arg_heard v.slot answer), arg_still v.slot answer)
 
     load_key : (key : ℕ) (change : KeyChange) → c.stage ≡ Some (Advance v (RoundStage.LoadKey key change)) → Fits (Advance v (RoundStage.LoadKey key change))
-    load_key key change e = subst (NoteFits p (state_after u p at c me (Advance v (RoundStage.LoadKey key change))) me) (sym (none (count_after change found)))
-        (inl unheard, loaded_still u p me key found (p.now.inside me))
+    load_key key change e = search (none, found, unheard, loaded_still, arith)
       where
         found : ℕ
         found = at (Key key)
@@ -291,8 +286,7 @@ module _ (u : Setup) (p : StopState) (at : Word → ℕ) (seat : ℕ → Seat) (
         raised_stands = ap (λ (x : Stop). x.standing me) raised_here ∙ st
 
         raised_active : has (put p.now.stop v.slot raised_stop v.slot).work.active me ≡ has v.active me
-        raised_active = ap (λ (x : Stop). has x.work.active me) raised_here ∙ (ap (λ (w : Work). has w.active me) same ∙ ap (λ m. has m me) (sym
-            loaded.active))
+        raised_active = search (raised_here, arith)
 
         raised_turn : (r : Bool) → ran ≡ r → v.acked ≢ 4 → NoteFits p (raised_after false) me (Some (cond r Note.Ran (Note.Moved v.acked)))
         raised_turn true r ne = (
@@ -324,41 +318,13 @@ module _ (u : Setup) (p : StopState) (at : Word → ℕ) (seat : ℕ → Seat) (
       raise e = search (seat_at, stands, v.acked, is_open_inside, h.present.slots, raised_fits, arith)
 
     count_down : c.stage ≡ Some (Complete v CompletionStage.CountDown) → Fits (Complete v CompletionStage.CountDown)
-    count_down e = let x = (seat_at (Complete v CompletionStage.CountDown) e).1 in either x.0 x.1
-      where
-        found : ℕ
-        found = at (Slot v.slot Field.Todo)
-
-        -- the last to complete is to store done
-        still : (a x : ℕ) → p.now.inside me ≡ Some v.slot → acked ((p.now.stop v.slot).standing me) ≡ a → (found == 1) ≡ true →
-            StaysStill p (completes_with p me v.slot a x found) me
-        still a x in_ was one j is = search (found, put_acked, put_same, one, arith)
-
-        go : (a x : ℕ) → p.now.inside me ≡ Some v.slot → acked ((p.now.stop v.slot).standing me) ≡ a → (b : Bool) → (found == 1) ≡ b →
-            NoteFits p (completes_with p me v.slot a x found) me
-            (cond b (stop_goes (record c { visit = None }) (Close v.slot)) (stop_ends (record c { visit = None }) Note.Finished)).note
-        go a x in_ was true one = (inl refl, still a x in_ was one)
-        go a x in_ was false one = record { same = refl; outside = put_same p.now.inside me None; finished = inl (v.slot, in_) }
-
-        either : (work : Work) → (((v.answer ≡ 0) × IsLoaded v work × IsThroughAll v × (seat me ≡ In v.slot work v.acked v.acked Rests)) ⊎
-            (seat me ≡ Gives v.slot work v.acked v.answer)) → Fits (Complete v CompletionStage.CountDown)
-        either work h1 = search (stands, v.acked, found, go, arith)
+    count_down e = search (seat_at, put_acked, put_same, stands, arith)
 
   close : (slot : ℕ) → c.stage ≡ Some (Close slot) → Fits (Close slot)
   close slot e = search (stands, seat_at, put_same, arith)
 
   load_done : c.stage ≡ Some LoadDone → Fits LoadDone
-  load_done e = go (at (Slot me Field.Done) == 0) refl
-    where
-      owner : OwnerShows u (p.now.stop me) (source_at LoadDone e).1.0
-      owner = source_is (Owns (source_at LoadDone e).1.0) (source_at LoadDone e).1.1
-
-      not_ended : at (Slot me Field.Done) ≡ 0 → (p.now.stop me).ending ≢ Ended
-      not_ended none is = search (h.present.slots, none, arith)
-
-      go : (b : Bool) → (at (Slot me Field.Done) == 0) ≡ b → NoteFits p p me (cond b (stop_ends c Note.Pending) (stop_goes c LoadResult)).note
-      go true none = (owner.is_open, not_ended (eqb-true (at (Slot me Field.Done)) 0 none), refl)
-      go false some = (inl refl, same_still p me)
+  load_done e = search (source_at, source_is, eqb-true, same_still, arith)
 
   -- the load of a key by a CPU with its interrupts on is a reading
   key_read : (key : ℕ) → c.interrupts ≡ true → HasRead p (record p { now = key_loaded u p.now me key (at (Key key)) (p.now.inside me) }) me

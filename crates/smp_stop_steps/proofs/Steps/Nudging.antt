@@ -46,8 +46,7 @@ module _ (u : Setup) (p : StopState) (at : Word → ℕ) (seat : ℕ → Seat) (
   edge_is_read k up e refused =
       let x : (c.interrupts ≡ true) × (u.online me ≡ true) × (k < u.keys) × SitsAtRest c.visit (seat me) = at_seat s (NudgeKey k up) e in
       let on = on_now x.0 in
-      let fits = (lawful_when_on u p.now at seat h.present me x.1 on).keys k (omega arith) in
-      let found = stands up fits refused in
+      let found = stands up ((lawful_when_on u p.now at seat h.present me x.1 on).keys k (omega arith)) refused in
       record { edge = found; read = nudge_reads k up on ∙ ap (λ b. p.now.readings me ++ ReadKey k b ∷ []) (shows up found) }
     where
       -- a nudge that goes on has another note

@@ -96,7 +96,6 @@ module _ (u : Setup) (p : StopState) (at : Word → ℕ) (seat : ℕ → Seat) (
         let seat' = put seat me (Alters s job found [] plan) in
         let open_ = is_open_inside u.cpus (p.now.stop s) (λ f. at (Slot s f)) (h.present.slots s) me (Inside 2 3) st.1 refl in
         let below : job.func < u.keys = subst (λ (w : Work). w.func < u.keys) st.3 (h.present.works s open_ (ap (λ (w : Work). w.kind) st.3 ∙ kind)).key in
-        let few = h.setup.few_keys in
         let shown = label_step p.now.readings (Patches me job found [] plan) p.nudged p.patched at seat' refl (λ j f. refl) h.owns h.counts
         (patch_starts u p.now at seat h.present s me job plan is kind active
         (λ lawful. plan_leads job.func (count_set job found) u.entries (labels_in at) (left_in_form (change_of job.arg) found
@@ -115,7 +114,6 @@ module _ (u : Setup) (p : StopState) (at : Word → ℕ) (seat : ℕ → Seat) (
         StopShows u (told u p me Act.Store (Key k) None (Some n) answer) (put_word at (Key k) n)
         (put seat me (Alters s job count (made ++ (Place.Key k, n) ∷ []) rest)) source
     key_stored count made rest k n answer below is none here =
-        let st : Stands p.now me (Alters s job count made ((Place.Key k, n) ∷ rest)) = subst (Stands p.now me) is (h.present.stands me) in
         let l : LabelsShow (Patches me job count made ((Place.Key k, n) ∷ rest)) (labels_in at) = search arith in
         let was : at (Key k) ≡ count = ap (λ (t : Table). t.key k) (l.2 ∙ ap (λ m. applied m l.0) none) ∙ (ap l.0.key here ∙ l.3) in
         let made' = made ++ (Place.Key k, n) ∷ [] in
@@ -125,17 +123,16 @@ module _ (u : Setup) (p : StopState) (at : Word → ℕ) (seat : ℕ → Seat) (
         j)) (counts_patched u.cpus p.nudged p.patched at me k count n below was h.counts) (patch_stores u p.now at seat h.present s me job count made rest
         (Place.Key k, n) at' is refl h.present.slots (entries_same at' (λ i. refl))) (alters_calling count made ((Place.Key k, n) ∷ rest) made' rest is)
         (closing_seat p.now seat me (Alters s job count made' rest) h.closing (subst IsNotClosing (sym is) tt)) in
-        search (st.5, shown', arith)
+        search ((subst (Stands p.now me) is (h.present.stands me)).5, shown', arith)
 
     -- store of a site by a patch
     pub site_stored : (count : ℕ) (made rest : List Change) (i n answer : ℕ) → seat me ≡ Alters s job count made ((Place.Site i, n) ∷ rest) →
         StopShows u (told u p me Act.Store (Site i) None (Some n) answer) (put_word at (Site i) n)
         (put seat me (Alters s job count (made ++ (Place.Site i, n) ∷ []) rest)) source
     site_stored count made rest i n answer is =
-        let st : Stands p.now me (Alters s job count made ((Place.Site i, n) ∷ rest)) = subst (Stands p.now me) is (h.present.stands me) in
         let made' = made ++ (Place.Site i, n) ∷ [] in
         let at' = put_word at (Site i) n in
         let shown' = label_step p.now.readings (Patches me job count made' rest) p.nudged p.patched at' (put seat me (Alters s job count made' rest)) refl
         (search arith) h.owns h.counts (search (patch_stores, entries_same, arith)) (alters_calling count made ((Place.Site i, n) ∷ rest) made' rest is)
         (search (closing_seat, IsNotClosing, arith)) in
-        search (st.5, shown', arith)
+        search ((subst (Stands p.now me) is (h.present.stands me)).5, shown', arith)

@@ -38,13 +38,12 @@ module _ (u : Setup) (p : StopState) (at : Word → ℕ) (seat : ℕ → Seat) (
   -- load of the state
   pub look : (answer : ℕ) → c.stage ≡ Some (Advance v (round.Look answer)) → StopStep u p at seat source c me (Advance v (round.Look answer))
   look answer e = let r = in_round s v (round.Look answer) e in
-      let y = round_source s v (round.Look answer) e in
       let work = r.1.2.0 in
       let is : seat me ≡ In v.slot work v.acked v.acked Rests = r.1.2.2 in
       let found = at (Slot v.slot State) in
       let shows' = moved_seat u seat source me (state_after u p at c me (Advance v (round.Look answer))) at (In v.slot work v.acked found Rests) (state_loaded
       u p at seat source h v.slot me work v.acked v.acked 0 is r.1.1) in
-      let sits' = go work is r.0 r.1.2.1 r.1.1 y (found == v.acked) refl (found == 3 && has v.active me) refl in
+      let sits' = go work is r.0 r.1.2.1 r.1.1 (round_source s v (round.Look answer) e) (found == v.acked) refl (found == 3 && has v.active me) refl in
       search (shows', sits', arith)
     where
       not_three : (a : ℕ) (b : Bool) → a ≡ 3 → ((a == 3) && b) ≡ false → b ≡ false
@@ -94,8 +93,7 @@ module _ (u : Setup) (p : StopState) (at : Word → ℕ) (seat : ℕ → Seat) (
       let run = r.1.1.1 in
       let shows' = still u seat source me (state_after u p at c me (Advance v (round.LoadArg answer func))) at (arg_loaded u p at seat source h v.slot me
       r.1.1.0 2 3 Rests run.3 answer refl) in
-      let sits' = go r.0 r.1.0 r.1.1.0 run r.1.1.2 (round_source s v (round.LoadArg answer func) e) v.kind refl in
-      search (shows', sits', arith)
+      search (shows', (go r.0 r.1.0 r.1.1.0 run r.1.1.2 (round_source s v (round.LoadArg answer func) e) v.kind refl), arith)
     where
       go : c.visit ≡ Some v → v.kind ≢ One → (work : Work) → SitsAtRun me v work (seat me) → func ≡ work.func → OwnsIf c.is_open (source me) →
           (k : KindOf) → v.kind ≡ k →
@@ -114,14 +112,12 @@ module _ (u : Setup) (p : StopState) (at : Word → ℕ) (seat : ℕ → Seat) (
   load_key key change e = let r = in_round s v (round.LoadKey key change) e in
       let work = r.1.1.0 in
       let run = r.1.1.1 in
-      let same : key ≡ work.func = r.1.1.2 in
-      let kind : work.kind ≡ Patch = sym run.0.kind ∙ r.1.0 in
       let active : has work.active me ≡ true = ap (λ m. has m me) (sym run.0.active) ∙ run.2 in
       let found = at (Key work.func) in
       let next = Alters v.slot work found [] (plan_at u work found) in
       let shows' = moved_seat u seat source me (state_after u p at c me (Advance v (round.LoadKey key change))) at next (subst (λ k. StopShows u (told u p me
-      act.Load (Key k) (Some (at (Key k))) None 0) at (put seat me next) source) (sym same) (key_loaded_first u p at seat source h me v.slot work 0 run.3
-      kind active)) in
+      act.Load (Key k) (Some (at (Key k))) None 0) at (put seat me next) source) (sym r.1.1.2) (key_loaded_first u p at seat source h me v.slot work 0 run.3
+      (sym run.0.kind ∙ r.1.0) active)) in
       search (shows', next, found, go, round_source, arith)
     where
       -- where the plan is empty, all of it is made
@@ -179,15 +175,12 @@ module _ (u : Setup) (p : StopState) (at : Word → ℕ) (seat : ℕ → Seat) (
           grown : site < length u.entries → c.changes ++ site_change work.func (is_on word) site (entry_at (at (Entry site))) ≡ changes_of u work word
               (site + 1)
           grown more = let sized : length (take site u.entries) ≡ site = length-take-le site u.entries (omega arith) in
-              let long : 0 + length (take site u.entries) ≡ site = omega arith in
               let pushed = changes-push work.func (is_on word) 0 (take site u.entries) (get_or u.entries site 0) in
               search (here, get_or, take_more, arith)
 
           go : (b : Bool) → (site + 1 == MOST_SITES) ≡ b → site < length u.entries → Sits u me (at Gate) (entry_on c v work.func word site
               (at (Entry site))).control (seat me) (source me)
-          go b last more = let some : (at (Entry site) == 0) ≡ false = ne_eqb (at (Entry site)) 0 (λ z. h.setup.named site more (sym here ∙ z)) in
-              let changes' = c.changes ++ site_change work.func (is_on word) site (entry_at (at (Entry site))) in
-              search (either, arith)
+          go b last more = search (ne_eqb, here, either, arith)
             where
               either : (b : Bool) → (site + 1 == MOST_SITES) ≡ b → site < length u.entries →
                   Sits u me (at Gate) (stop_goes (record c { changes = c.changes ++ site_change work.func (is_on word) site (entry_at (at (Entry site))) })
@@ -198,8 +191,7 @@ module _ (u : Setup) (p : StopState) (at : Word → ℕ) (seat : ℕ → Seat) (
 
   -- a store of a patch
   pub store_change : (made : ℕ) → c.stage ≡ Some (Advance v (round.StoreChange made)) → StopStep u p at seat source c me (Advance v (round.StoreChange made))
-  store_change made e = let r = in_round s v (round.StoreChange made) e in
-      go r.0 r.1.0 r.1.1 r.1.2 r.1.3 r.1.4 r.1.5 r.1.6.0 r.1.6.1 r.1.6.2 r.1.6.3 r.1.6.4 (round_source s v (round.StoreChange made) e)
+  store_change made e = search (in_round, go, round_source, arith)
     where
       go : c.visit ≡ Some v → (work : Work) (count : ℕ) → IsLoaded v work → v.acked ≡ 2 → made < length c.changes → c.changes ≡ plan_at u work count →
           (before after : List Change) → c.changes ≡ before ++ after → length before ≡ made →
@@ -232,43 +224,13 @@ module _ (u : Setup) (p : StopState) (at : Word → ℕ) (seat : ℕ → Seat) (
 
           -- a patch that stores something did not find the end of the range
           made_some : (work : Work) (count : ℕ) → plan_at u work count ≢ [] → 0 ≡ patch_answer work count
-          made_some work count some = found (count_after (change_of work.arg) count) refl
-            where
-              found : (o : Option ℕ) → count_after (change_of work.arg) count ≡ o → 0 ≡ answer_for (count_after (change_of work.arg) count)
-              found None e = absurd (search (plan_same, eq-eqb, arith))
-              found (Some new) e = sym (ap answer_for e)
+          made_some work count some = search (work.arg, plan_same, eq-eqb, arith)
 
           ends : c.visit ≡ Some v → (work : Work) (count : ℕ) → IsLoaded v work → v.acked ≡ 2 → made < length c.changes → c.changes ≡ plan_at u work count →
               (before : List Change) (change : Change) (rest : List Change) → c.changes ≡ before ++ change ∷ rest → length before ≡ made →
               seat me ≡ Alters v.slot work count before (change ∷ rest) → OwnsIf c.is_open (source me) → (b : Bool) → (made + 1 == length c.changes) ≡ b →
               Sits u me (at Gate) (stop_goes c (Advance v (cond b (round.Acknowledge 0 true) (round.StoreChange (made + 1))))).control
               (Alters v.slot work count (before ++ change ∷ []) rest) (source me)
-          ends visit work count loaded two low plan before change [] are long is y true last = let irq' = s.irq ∙ ap irq_of is in
-              search (irq', made_some, no_change, arith)
+          ends visit work count loaded two low plan before change [] are long is y true last = search (made_some, no_change, arith)
           ends visit work count loaded two low plan before change (x ∷ rest) are long is y true last = absurd (search (eqb-true, length-append, arith))
-          ends visit work count loaded two low plan before change rest are long is y false last =
-              let on : made + 1 ≢ length c.changes = λ z. let bad : true ≡ false = sym (eq-eqb (made + 1) (length c.changes) z) ∙ last in cc in
-              record {
-                below = s.below;
-                irq = s.irq ∙ ap irq_of is;
-                seat = (
-                  visit,
-                  (
-                    work,
-                    count,
-                    loaded,
-                    two,
-                    omega arith,
-                    plan,
-                    (
-                      before ++ change ∷ [],
-                      rest,
-                      are ∙ sym (append_assoc before (change ∷ []) rest),
-                      length-append before (change ∷ []) ∙ (let z = long in omega arith),
-                      refl,
-                    ),
-                  ),
-                );
-                source = y;
-                gate_held = tt;
-              }
+          ends visit work count loaded two low plan before change rest are long is y false last = search (eq-eqb, append_assoc, length-append, arith)

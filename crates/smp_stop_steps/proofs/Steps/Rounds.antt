@@ -50,7 +50,6 @@ module _ (u : Setup) (p : StopState) (at : Word → ℕ) (seat : ℕ → Seat) (
       let found = at (Slot s State) in
       StopShows u (told u p me Act.Load (Slot s State) (Some found) None answer) at (put seat me (In s job a found Rests)) source
   state_loaded job a l answer is more = let found = at (Slot s State) in
-      let st = here job a l Rests is in
       let k = keeps job a l Rests is in
       let o = shown job a l Rests is in
       let to = Inside a found in
@@ -81,7 +80,7 @@ module _ (u : Setup) (p : StopState) (at : Word → ℕ) (seat : ℕ → Seat) (
       (calling_looked me s job a l found (p.calling me) (λ two three. o.state ∙ near k.2 two three) (subst (λ x. IsCalling me x (p.calling me)) is
       (h.callings me)))) (closing_kept p.now seat me next h.closing (subst IsNotClosing (sym is) tt) s stop' (λ c ne. put_other (p.now.stop s).standing me
       to c ne) refl refl) in
-      search (st.1, shown', arith)
+      search ((here job a l Rests is).1, shown', arith)
     where
       near : (l ≡ a) ⊎ ((l ≡ a + 1) × ((p.now.stop s).phase ≡ l)) → a ≡ 2 → l ≡ 3 → (p.now.stop s).phase ≡ 3
       near k two three = search arith
@@ -175,7 +174,6 @@ module _ (u : Setup) (p : StopState) (at : Word → ℕ) (seat : ℕ → Seat) (
     ack_shown x seat0 calls' calling' present is off same st op known agrees callings idle true e = let irq' = put p.now.irq me true in
         let readings' = put p.now.readings me (first_readings me s (p.now.stop s).work) in
         let at' = put_word at (Slot s Ack) (found - 1) in
-        let to = Inside (a + 1) (a + 1) in
         let shown' = open_step u p at seat source h s acked_stop p.now.inside irq' readings' x at' (put seat0 me next) p.looks calls' calling' (search
         (put_all, active_put, arith)) refl (λ k. refl) (other_slots at s Ack (found - 1)) (owns_acked x irq' readings' st known)
         (step_acknowledges u (record (p.now) { patching = x }) at seat0 present s me irq' readings' record {
@@ -186,7 +184,7 @@ module _ (u : Setup) (p : StopState) (at : Word → ℕ) (seat : ℕ → Seat) (
         (λ b. cond b true (nat_lt (a + 1) 2)) e)) (λ _ _. subst (AllByRecursion (Agrees (labels_in at))) (sym (put_same p.now.readings me (first_readings
         me s (p.now.stop s).work))) (agrees (eqb-true (a + 1) 4 (both_true (a + 1 == 4) (not (found == 1)) e).0)))) (subst (λ (y : ℕ → Seat). (c : ℕ) →
         IsCalling c (y c) (calling' c)) (sym same) callings) (subst (AreClosing (record (acked_now x) { irq = irq'; readings = readings' })) (sym same)
-        (closing_kept p.now seat me next h.closing idle s acked_stop (λ c ne. put_other (p.now.stop s).standing me to c ne) refl refl)) in
+        (closing_kept p.now seat me next h.closing idle s acked_stop (λ c ne. put_other (p.now.stop s).standing me (Inside (a + 1) (a + 1)) c ne) refl refl)) in
         search (← same, shown', arith)
     ack_shown x seat0 calls' calling' present is off same st op known agrees callings idle false e = let at' = put_word at (Slot s Ack) (found - 1) in
         let to = Inside (a + 1) (a + 1) in
@@ -224,7 +222,6 @@ module _ (u : Setup) (p : StopState) (at : Word → ℕ) (seat : ℕ → Seat) (
     pub ack_subtracted : seat me ≡ In s job a (a + 1) Rests → (a ≡ 2 → HasCalled me job (p.calling me)) →
         StopShows u (told u p me Act.Sub (Slot s Ack) (Some found) (Some (found - 1)) answer) (put_word at (Slot s Ack) (found - 1)) (put seat me next) source
     ack_subtracted is ready = let st = here job a (a + 1) Rests is in
-        let idle : IsNoPatch (seat me) = subst IsNoPatch (sym is) tt in
         let phase : (p.now.stop s).phase ≡ a + 1 = search arith in
         let many : job.kind ≢ One = search (several, shown, arith) in
         let off : p.now.irq me ≡ nat_lt (a + 1) 2 = search (h.present.irq, or_false, nat_lt, ne_eqb, arith) in
@@ -232,7 +229,7 @@ module _ (u : Setup) (p : StopState) (at : Word → ℕ) (seat : ℕ → Seat) (
         kind mine two. absurd (active kind mine two st.3)) (λ four. subst (λ (w : Work). AllByRecursion (Agrees (labels_in at)) (first_readings me s w))
         (sym st.3) (leave_agrees job a (a + 1) Rests is (omega arith))) (acked_calling (a + 1 == 3) refl is many ready) (subst IsNotClosing (sym is) tt)
         (a + 1 == 4 && not (found == 1)) refl in
-        search (st.1, still (a + 1 == 3) idle, shown', arith)
+        search (st.1, still (a + 1 == 3) (subst IsNoPatch (sym is) tt), shown', arith)
       where
         several : (k : KindOf) → k ≡ One → IsPhaseOf k (p.now.stop s).phase → (p.now.stop s).phase ≡ a + 1 → ⊥
         several k e z phase = search arith
@@ -248,18 +245,16 @@ module _ (u : Setup) (p : StopState) (at : Word → ℕ) (seat : ℕ → Seat) (
       let found = at (Slot s Ack) in
       StopShows u (told u p me Act.Sub (Slot s Ack) (Some found) (Some (found - 1)) answer) (put_word at (Slot s Ack) (found - 1))
       (put seat me (In s job 3 3 (cond (found == 1) Fills Rests))) source
-  ack_subtracted_patched job count made answer is = let found = at (Slot s Ack) in
-      let st : Stands p.now me (Alters s job count made []) = subst (Stands p.now me) is (h.present.stands me) in
+  ack_subtracted_patched job count made answer is = let st : Stands p.now me (Alters s job count made []) = subst (Stands p.now me) is (h.present.stands me) in
       let ends = patch_ends u p.now at seat h.present s me job count made is in
       let seat0 = put seat me (In s job 2 3 Rests) in
-      let next = In s job 3 3 (cond (found == 1) Fills Rests) in
+      let next = In s job 3 3 (cond ((at (Slot s Ack)) == 1) Fills Rests) in
       let open_ = is_open_inside u.cpus (p.now.stop s) (λ f. at (Slot s f)) (h.present.slots s) me (Inside 2 3) st.1 refl in
       let runner : RunnerShows u.first (Patches me job count made []) seat = subst (λ x. RunnerShows u.first x seat) st.5 h.present.runner in
       let works = h.present.works s open_ (ap (λ (w : Work). w.kind) st.3 ∙ st.4) in
-      let active : has job.active me ≡ true = ap (λ (w : Work). has w.active me) (sym st.3) ∙ (works.first me ∙ eq-eqb me u.first runner.0) in
       let shown' = ack_shown job 2 answer Whole seat0 (calls_then job 2 answer) (put p.calling me (Carries (patch_answer job count))) ends.0 (search
       (put_same, arith)) (h.present.irq me ∙ ap irq_of is) (put_twice seat me (In s job 2 3 Rests) next) st.1 open_ (search arith) (λ four. absurd (let
-      z : ⊥ = omega (arith, four) in z)) (search (calling_next, h.callings, active, arith)) (subst IsNotClosing (sym is) tt) false refl in
+      z : ⊥ = omega (arith, four) in z)) (search (calling_next, h.callings, arith)) (subst IsNotClosing (sym is) tt) false refl in
       search (st.1, st.5, eq-eqb me me refl, shown', arith)
 
   -- store of the count by the one that emptied it: the weight of the mask
@@ -295,14 +290,9 @@ module _ (u : Setup) (p : StopState) (at : Word → ℕ) (seat : ℕ → Seat) (
       let open_ = is_open job a l Sets is in
       let o = shown job a l Sets is in
       let stop' = raised (p.now.stop s) (a + 1) in
-      let next = In s job a l Rests in
       let busy : (p.now.stop s).phase ≢ 0 = λ z. one (p.now.stop s).raising st.2 (o.calm z) in
-      let mine = sets_me me (p.now.stop s).raising st.2 in
       let ack : AckShows u.cpus (p.now.stop s).phase (p.now.stop s).standing (Raises me) (at (Slot s Ack)) =
-      subst (λ r. AckShows u.cpus (p.now.stop s).phase (p.now.stop s).standing r (at (Slot s Ack))) mine (o.ack busy) in
-      let level : Inside (p.now.stop s).phase (p.now.stop s).phase ≡ Inside a l = sym ack.2 ∙ st.1 in
-      let phase : (p.now.stop s).phase ≡ a = cc in
-      let looked : (p.now.stop s).phase ≡ l = cc in
+      subst (λ r. AckShows u.cpus (p.now.stop s).phase (p.now.stop s).standing r (at (Slot s Ack))) (sets_me me (p.now.stop s).raising st.2) (o.ack busy) in
       let stays : StaysOpen (p.now.stop s) stop' = record { was = open_; now = open_; work = refl; end = λ e. e; given = λ c. refl; active = λ a. a } in
       let own = λ (irq' : ℕ → Bool) (readings' : ℕ → List Reading).
       owns_kept u.first p.now (λ k. at (Key k)) s stop' p.now.inside irq' readings' p.now.patching stays record { inside = λ i. i; late = λ i. i } h.owns in

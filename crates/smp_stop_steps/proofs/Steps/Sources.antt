@@ -92,12 +92,11 @@ module _ (u : Setup) (p : StopState) (at : Word → ℕ) (seat : ℕ → Seat) (
       StopShows u (told u p me Act.Store (Slot me f) None (Some v) answer) (put_word at (Slot me f) v) seat (put source me (Drafts work (k + 1)))
   field_stored work k f answer is place low = let d = draft work k is in
       let v = begun_value u.cpus work f in
-      let at' = put_word at (Slot me f) v in
       let fresh : order f < 10 = omega arith in
       let work' = drafted f v (p.now.stop me).work in
       let stop' : Stop = record (p.now.stop me) { work = work' } in
       let out = all_outside u.cpus (p.now.stop me) w (h.present.slots me) d.shut in
-      let shown' = source_step stop' p.begun p.collected at' (Drafts work (k + 1)) refl (other_slots at me f v) (λ k. refl) record {
+      let shown' = source_step stop' p.begun p.collected (put_word at (Slot me f) v) (Drafts work (k + 1)) refl (other_slots at me f v) (λ k. refl) record {
         shut = d.shut;
         holds = d.holds;
         is_work = d.is_work;

@@ -36,8 +36,7 @@ module _ (u : Setup) (p : StopState) (at : Word → ℕ) (seat : ℕ → Seat) (
   not_drafting {y} o work k e = search (c.is_open, arith)
 
   pub take_gate : c.stage ≡ Some TakeGate → StopStep u p at seat source c me TakeGate
-  take_gate e = let shows' = still u seat source me (state_after u p at c me TakeGate) (at_then u at c me TakeGate) (gate_is_taken (at Gate == 0) refl) in
-      search (shows', arith)
+  take_gate e = search ((still u seat source me (state_after u p at c me TakeGate) (at_then u at c me TakeGate) (gate_is_taken (at Gate == 0) refl)), arith)
 
   pub open_gate : c.stage ≡ Some OpenGate → StopStep u p at seat source c me OpenGate
   open_gate e = let shows' = still u seat source me (state_after u p at c me OpenGate) (at_then u at c me OpenGate) (search (
@@ -83,8 +82,7 @@ module _ (u : Setup) (p : StopState) (at : Word → ℕ) (seat : ℕ → Seat) (
   begin_step work Roll e = let y = begins_source work Roll e in
       let shows = moved_source u seat source me (state_after u p at c me (Begin work Roll)) (at_then u at c me (Begin work Roll)) (Owns work)
       (roll_stored u p at seat source h me work 0 y.1) in
-      let rest = begins_seat work Roll e in
-      search (shows, rest, arith)
+      search (shows, (begins_seat work Roll e), arith)
 
   pub enter_kind : (slot : ℕ) → c.stage ≡ Some (EnterKind slot) → StopStep u p at seat source c me (EnterKind slot)
   enter_kind slot e = let x : (work : Work) × (seat me ≡ In slot work 0 0 Rests) = subst (λ (st : Option StopStage). SitsAt u me c st (seat me)) e s.seat in
@@ -101,8 +99,7 @@ module _ (u : Setup) (p : StopState) (at : Word → ℕ) (seat : ℕ → Seat) (
   enter_mask slot kind e = let x : (work : Work) × (seat me ≡ In slot work 0 0 Rests) × (kind ≡ work.kind) = search arith in
       let y : OwnsIf c.is_open (source me) = subst (λ (st : Option StopStage). SourceSits c.is_open st (source me)) e s.source in
       let w = work_words u p at seat source h slot me x.0 0 0 Rests x.1 in
-      let shows' = still u seat source me (state_after u p at c me (EnterMask slot kind)) at h in
-      search (shows', arith)
+      search ((still u seat source me (state_after u p at c me (EnterMask slot kind)) at h), arith)
 
   pub enter_active : (slot : ℕ) (kind : KindOf) (mask : ℕ) → c.stage ≡ Some (EnterActive slot kind mask) → StopStep u p at seat source c me
       (EnterActive slot kind mask)
@@ -110,12 +107,10 @@ module _ (u : Setup) (p : StopState) (at : Word → ℕ) (seat : ℕ → Seat) (
 
   pub read_key : (k : ℕ) → c.stage ≡ Some (ReadKey k) → StopStep u p at seat source c me (ReadKey k)
   read_key k e =
-      let shows' = still u seat source me (state_after u p at c me (ReadKey k)) at (key_read u p at seat source h me k 0 (search (h.present.irq, arith))) in
-      search (shows', arith)
+      search ((still u seat source me (state_after u p at c me (ReadKey k)) at (key_read u p at seat source h me k 0 (search (h.present.irq, arith)))), arith)
 
   pub read_site : (i : ℕ) → c.stage ≡ Some (ReadSite i) → StopStep u p at seat source c me (ReadSite i)
-  read_site i e = let shows' = still u seat source me (state_after u p at c me (ReadSite i)) at (site_read u p at seat source h me i 0) in
-      search (shows', arith)
+  read_site i e = search ((still u seat source me (state_after u p at c me (ReadSite i)) at (site_read u p at seat source h me i 0)), arith)
 
   -- the load of a nudge is a reading
   pub nudge_key : (k : ℕ) (up : Bool) → c.stage ≡ Some (NudgeKey k up) → StopStep u p at seat source c me (NudgeKey k up)
@@ -123,9 +118,8 @@ module _ (u : Setup) (p : StopState) (at : Word → ℕ) (seat : ℕ → Seat) (
       let x : (c.interrupts ≡ true) × (u.online me ≡ true) × (k < u.keys) × AtRest = subst (λ (st : Option StopStage). SitsAt u me c st (seat me)) e s.seat in
       let y : OwnsIf c.is_open (source me) = subst (λ (st : Option StopStage). SourceSits c.is_open st (source me)) e s.source in
       let on : p.now.irq me ≡ true = h.present.irq me ∙ (sym s.irq ∙ x.0) in
-      let fits = (lawful_when_on u p.now at seat h.present me x.1 on).keys k (omega arith) in
       let shows' = still u seat source me (state_after u p at c me (NudgeKey k up)) at (key_read u p at seat source h me k 0 on) in
-      search (shows', go x y fits (count_after (nudge_of up) (at (Key k))) refl, arith)
+      search (shows', go x y ((lawful_when_on u p.now at seat h.present me x.1 on).keys k (omega arith)) (count_after (nudge_of up) (at (Key k))) refl, arith)
     where
       go : (c.interrupts ≡ true) × (u.online me ≡ true) × (k < u.keys) × AtRest → OwnsIf c.is_open (source me) → IsKeyWord (at (Key k)) → (o : Option ℕ) →
           count_after (nudge_of up) (at (Key k)) ≡ o →
@@ -177,5 +171,4 @@ module _ (u : Setup) (p : StopState) (at : Word → ℕ) (seat : ℕ → Seat) (
 
   pub load_result : c.stage ≡ Some LoadResult → StopStep u p at seat source c me LoadResult
   load_result e = let y : (c.is_open ≡ true) × ((work : Work) × (source me ≡ Collects work)) = search arith in
-      let shows' = moved_source u seat source me (state_after u p at c me LoadResult) at Shut (result_loaded u p at seat source h me y.1.0 0 y.1.1) in
-      search (shows', arith)
+      search ((moved_source u seat source me (state_after u p at c me LoadResult) at Shut (result_loaded u p at seat source h me y.1.0 0 y.1.1)), arith)

@@ -17,9 +17,7 @@ begins_with : (answer : ℤ) → FitsSigned w32 answer → (x : Option Visit) (v
     BeginsWith answer (in_visit x (λ w. Advance w (RoundStage.Look (answer_word answer))))
     × BeginsWith answer (in_visit x (λ w. Complete w (CompletionStage.LoadFunc (answer_word answer))))
 begins_with answer f None v e = cc
-begins_with answer f (Some w) v e = let both : (word : ℕ) × (Some (answer_word answer) ≡ Some word) × IsI32Word word × (cast_signed w32 word ≡ answer) =
-    (answer_word answer, refl, word_fits answer f, to_z-of_z w32 answer f) in
-    (both, both)
+begins_with answer f (Some w) v e = search (word_fits, to_z-of_z, arith)
 
 pub answers_are_taken : AnswersAreTaken
 answers_are_taken c v answer e f = begins_with answer f c.visit v e

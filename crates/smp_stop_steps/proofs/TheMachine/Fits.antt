@@ -99,7 +99,6 @@ module _ (v : StopsValue) (cpu : ℕ) where
   patch_fits work is = let first = first_below v.online cpus in
       let mask : work.mask ≡ v.online = same_members work.mask v.online is.all in
       let active : work.active ≡ 2 ^ first = same_members work.active (2 ^ first) (λ c. is.first c ∙ sym (one_bit first c)) in
-      let change = is.change in
       search (of_both, nat_lt, eq-eqb, lt-ltb, arith)
 
   kind_fits : (work : Work) (k : Kind) → IsOfKind u work k → fits_kind t work k ≡ true

@@ -28,5 +28,4 @@ module _ (v : StopsValue) (sound : AreSoundStops v.online v.labels v.table v.con
       (stop_outcome cpu (stop_control_of v.controls cpu) stage (stop_found_at v cpu stage)).control (stop_inside_below v.controls cpu stage m.at_stage)
       sound.answers (keeps_answers (setup_of v.online v.labels) (stop_number v.table) sound.results (stop_control_of v.controls cpu) cpu (sound.answers
       cpu) stage m.at_stage).goes.control) in
-      let stops' = tells (setup_of v.online v.labels) sound.stops (stop_seen_at v cpu stage) (answer_at stage) in
-      search (table_is', phases', results', answers', stops', length-set, made_told sound.stops sound.shown, arith)
+      search (table_is', phases', results', answers', length-set, made_told sound.stops sound.shown, arith)

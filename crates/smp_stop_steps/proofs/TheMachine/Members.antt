@@ -26,9 +26,7 @@ module _ (mask : ℕ) where
       go : (mask_weight k mask ≢ 0 → (c : ℕ) × (c < k) × (has mask c ≡ true)) → (b : Bool) → has mask k ≡ b
           → (c : ℕ) × (c < suc k) × (has mask c ≡ true)
       go before true e = (k, omega arith, e)
-      go before false e = let none : bit (has mask k) ≡ 0 = ap bit e in
-          let m = before (λ z. some (omega (arith, none, z))) in
-          (m.0, (let low = m.1 in omega arith), m.2)
+      go before false e = search arith
 
   member_weight : (k c : ℕ) → c < k → has mask c ≡ true → mask_weight k mask ≢ 0
   unfolding sum_below
@@ -39,11 +37,7 @@ module _ (mask : ℕ) where
   ]
 
   none_below : (k : ℕ) → mask_weight k mask ≡ 0 → (c : ℕ) → c < k → has mask c ≡ false
-  none_below k z c low = go (has mask c) refl
-    where
-      go : (b : Bool) → has mask c ≡ b → b ≡ false
-      go false e = refl
-      go true e = absurd (member_weight k c low e z)
+  none_below k z c low = search (member_weight, arith)
 
   one_below : (k : ℕ) → mask_weight k mask ≡ 1 → (c : ℕ) × (c < k) × ((d : ℕ) → d < k → has mask d ≡ (d == c))
   unfolding sum_below
@@ -51,22 +45,18 @@ module _ (mask : ℕ) where
   one_below (suc k) one = go (one_below k) (has mask k) refl
     where
       at_top : has mask k ≡ true → (d : ℕ) → (d < k) ⊎ (k ≤ d) → d < suc k → has mask d ≡ (d == k)
-      at_top e d (inl below) low = let here : bit (has mask k) ≡ 1 = ap bit e in
-          none_below k (omega (arith, one, here)) d below ∙ sym (ne_eqb d k (λ same. omega (arith, same, below)))
+      at_top e d (inl below) low = search (none_below, ne_eqb, arith)
       at_top e d (inr from) low = let same : d ≡ k = omega arith in ap (has mask) same ∙ (e ∙ sym (eq-eqb d k same))
 
       below_top : (c : ℕ) → c < k → has mask k ≡ false → ((d : ℕ) → d < k → has mask d ≡ (d == c)) → (d : ℕ) → (d < k) ⊎ (k ≤ d) → d < suc k
           → has mask d ≡ (d == c)
       below_top c low e all d (inl below) l = all d below
-      below_top c low e all d (inr from) l = let same : d ≡ k = omega arith in
-          ap (has mask) same ∙ (e ∙ sym (ne_eqb d c (λ z. omega (arith, z, low, same))))
+      below_top c low e all d (inr from) l = search (ne_eqb, arith)
 
       go : (mask_weight k mask ≡ 1 → (c : ℕ) × (c < k) × ((d : ℕ) → d < k → has mask d ≡ (d == c))) → (b : Bool) → has mask k ≡ b
           → (c : ℕ) × (c < suc k) × ((d : ℕ) → d < suc k → has mask d ≡ (d == c))
       go before true e = (k, omega arith, λ d l. at_top e d (cases_lt d k) l)
-      go before false e = let none : bit (has mask k) ≡ 0 = ap bit e in
-          let m = before (omega (arith, one, none)) in
-          (m.0, (let low = m.1 in omega arith), λ d l. below_top m.0 m.1 e m.2 d (cases_lt d k) l)
+      go before false e = search (below_top, cases_lt, arith)
 
   alone_weight : (k c : ℕ) → IsAlone mask c → mask_weight k mask ≡ bit (nat_lt c k)
   unfolding sum_below
@@ -99,8 +89,7 @@ first_least mask zero c low member = absurd (omega arith)
 first_least mask (suc k) c low member = go (λ l. first_least mask k c l member) (cases_eq (first_below mask k) k) (cases_eq c k)
   where
     go : (c < k → first_below mask k ≤ c) → (first_below mask k ≡ k) ⊎ (first_below mask k ≢ k) → (c ≡ k) ⊎ (c ≢ k) → first_below mask (suc k) ≤ c
-    go before (inl e) (inl d) = let m : has mask k ≡ true = subst (λ n. has mask n ≡ true) d member in
-        rw (eq-eqb (first_below mask k) k e) (rw m (omega arith))
+    go before (inl e) (inl d) = search (eq-eqb, arith)
     go before (inl e) (inr d) = absurd (no_member ((first_is mask k).0 e c (omega arith)) member)
     go before (inr ne) (inl d) = let s = ((first_is mask k).1 ne).0 in rw (ne_eqb (first_below mask k) k ne) (omega arith)
     go before (inr ne) (inr d) = let s = before (omega arith) in rw (ne_eqb (first_below mask k) k ne) (omega arith)
@@ -120,18 +109,7 @@ module _ (t : Terms) (work : Work) (low_online : t.online < 2 ^ 32) (low : work.
   least_first d on = first_least t.online 32 d (member_low t.online d low_online on) on
 
   patch_of : fits_patch t work ≡ true → IsPatchOf t work
-  patch_of e = let a = both ((work.mask == t.online && work.active == 2 ^ first) && nat_lt work.func t.keys) (nat_lt work.arg 4) e in
-      let b = both (work.mask == t.online && work.active == 2 ^ first) (nat_lt work.func t.keys) a.0 in
-      let m = both (work.mask == t.online) (work.active == 2 ^ first) b.0 in
-      record {
-        all = λ d. ap (λ n. has n d) (is_same work.mask t.online m.0);
-        first = first;
-        online = online_first;
-        least = least_first;
-        runs = λ d. ap (λ n. has n d) (is_same work.active (2 ^ first) m.1) ∙ one_bit first d;
-        key = ltb-true work.func t.keys b.1;
-        change = ltb-true work.arg 4 a.1;
-      }
+  patch_of e = search (both, is_same, online_first, least_first, one_bit, ltb-true, arith)
 
   of_patch : IsPatchOf t work → fits_patch t work ≡ true
   of_patch p = let same : p.first ≡ first = (let x = p.least first online_first in let y = least_first p.first p.online in omega arith) in
@@ -152,23 +130,11 @@ module _ (t : Terms) (work : Work) (low_online : t.online < 2 ^ 32) (low : work.
   of_kind Patch h = of_patch h
 
   members_of : t.holds_gate ≡ true → fits_work t work ≡ true → FitsMembers t work
-  members_of holds e = let b = both (not (mask_weight cpus work.mask == 0)) (fits_kind t work work.kind) e in
-      let some = weight_member work.mask 32 (λ z. no_member (ap not (eq-eqb (mask_weight cpus work.mask) 0 z)) b.0) in
-      record { holds = holds; some = (some.0, some.2); kind = kind_of work.kind b.1 }
+  members_of holds e = search (both, weight_member, no_member, eq-eqb, kind_of, arith)
 
   of_members : FitsMembers t work → fits_work t work ≡ true
-  of_members f = let some = member_weight work.mask 32 f.some.0 (member_low work.mask f.some.0 low f.some.1) f.some.1 in
-      of_both (not (mask_weight cpus work.mask == 0)) (fits_kind t work work.kind) (ap not (ne_eqb (mask_weight cpus work.mask) 0 some))
-      (of_kind work.kind f.kind)
+  of_members f = search (member_weight, member_low, of_both, ne_eqb, of_kind, f.kind, arith)
 
   pub refuses_members : (is_open : Bool) → RefusesByMembers t work is_open (begin_refusal t work is_open)
   refuses_members true = refl
-  refuses_members false = go (t.holds_gate && fits_work t work) refl (bit_and work.mask t.online == work.mask) refl
-    where
-      go : (b : Bool) → (t.holds_gate && fits_work t work) ≡ b → (d : Bool) → (bit_and work.mask t.online == work.mask) ≡ d
-          → RefusesByMembers t work false (cond b (unless d SmpError.NoStopper) (Some SmpError.BadArgument))
-      go false e d f = (refl, λ m. no_member e (of_both t.holds_gate (fits_work t work) m.holds (of_members m)))
-      go true e true f = let b = both t.holds_gate (fits_work t work) e in
-          (refl, members_of b.0 b.1, within work.mask t.online (is_same (bit_and work.mask t.online) work.mask f))
-      go true e false f = let b = both t.holds_gate (fits_work t work) e in
-          (refl, members_of b.0 b.1, some_outside work.mask t.online (λ same. no_member f (eq-eqb (bit_and work.mask t.online) work.mask same)))
+  refuses_members false = search (bit_and, no_member, of_both, of_members, both, members_of, within, is_same, some_outside, eq-eqb, arith)

@@ -53,8 +53,7 @@ module _ (u : Setup) (p : StopState) (at : Word → ℕ) (seat : ℕ → Seat) (
     below_alters s work count made rest is = open_below s (open_alters s work count made rest is)
 
     pub work_in : (s : ℕ) (work : Work) (a l : ℕ) (t : Duty) → seat me ≡ In s work a l t → IsWork u work
-    work_in s work a l t is = let st : Stands p.now me (In s work a l t) = subst (Stands p.now me) is (h.present.stands me) in
-        subst (IsWork u) st.3 (open_work s (open_in s work a l t is))
+    work_in s work a l t is = subst (IsWork u) (subst (Stands p.now me) is (h.present.stands me)).3 (open_work s (open_in s work a l t is))
 
     -- the key of a patch is one of the table
     key_below : (s : ℕ) (work : Work) → (p.now.stop s).is_open ≡ true → (p.now.stop s).work ≡ work → work.kind ≡ Patch → work.func < MOST_KEYS

@@ -61,8 +61,7 @@ module _ (u : Setup) (few : u.cpus ≡ cpus) (p : StopState) (t : StopWords) (co
       (slice_set controls me (control_then u at c me stage))
   stop_value_shown = let one = stop_step_shown u p at v.seat v.source v.shows c me (v.sits me below) (v.carries me below) stage e in
       let calls = call_step u p at v.seat v.source v.shows c me (v.sits me below) (v.carries me below) stage e in
-      let access = stop_access u.cpus me c.changes stage in
-      let names = stop_words_by_name t is access stop_word_named in
+      let names = stop_words_by_name t is (stop_access u.cpus me c.changes stage) stop_word_named in
       record {
         seat = put v.seat me one.seat_after;
         source = put v.source me one.source_after;
@@ -132,8 +131,7 @@ module _ (u : Setup) (few : u.cpus ≡ cpus) (p : StopState) (t : StopWords) (co
               }
 
           long : (work : Work) (word site : ℕ) → site ≤ length u.entries → c.changes ≡ changes_of u work word site → length c.changes ≤ site + 1
-          long work word site within are = let l = changes_long work.func (is_on word) 0 (take site u.entries) in let t = length-take-le site u.entries
-              within in let e = ap length are in omega arith
+          long work word site within are = search (changes_long, work.func, take, length-take-le, arith)
       round_fits w (RoundStage.StoreChange made) x = x.4
       round_fits w (RoundStage.Acknowledge answer ran) x = x.2
       round_fits w (RoundStage.Refill ran) x = tt
