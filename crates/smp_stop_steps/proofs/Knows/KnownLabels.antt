@@ -6,7 +6,7 @@ use Rattle.smp_words.specs.Access.{put_if}
 use Rattle.smp_words.proofs.Puts.{at_test, put_same, put_other}
 use Rattle.smp_stop_steps.specs.{has, is_on, Place, MOST_KEYS, word_of, at_after, seen_of, put, put_word, moves, moved_by, Change, Patches, Reading, ReadKey}
 use Rattle.smp_stop_steps.specs.{ReadSite, count_set, Seat, Free, In, Gives, Alters, Closes, Duty, Rests, irq_of, StopShows, IsNudge, Source, store_of, Setup}
-use Rattle.smp_stop_steps.specs.{StopState, Moved, unmoved, told, is_patch, is_at_run, reads, key_loaded, key_patched, patched_more, patch_begun, plan_at, Sees}
+use Rattle.smp_stop_steps.specs.{StopState, Moved, unmoved, told, is_patch, reads, key_loaded, key_patched, patched_more, patch_begun, plan_at, Sees}
 use Rattle.smp_stop_steps.specs.{GoesOnBy, Act, AreFirst, setup_in, reads_more, key_loaded_by, key_known, key_read_known, counted, learned, Patch, Work, Word}
 use Rattle.smp_stop_steps.specs.{Key, Site, State.Present, Known.Known, Moves.entering}
 use Rattle.smp_stop_steps.proofs.Knows.Parts.{Leaves, first_put, goes_seat, goes_still, noted, seen_by, told_so}

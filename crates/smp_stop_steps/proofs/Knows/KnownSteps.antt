@@ -1,8 +1,8 @@
 -- Each step that a CPU may make is counted once, but for the stores that are due.
-use Rattle.std.proofs.Common.{◌≡◌, ℕ, ◌+◌, ◌==◌, ◌&&◌, not, Bool, true, false, cond, Option, Some, None, refl, ap, ◌∙◌, arith}
+use Rattle.std.proofs.Common.{◌≡◌, ℕ, ◌+◌, ◌==◌, not, Bool, true, false, cond, Option, Some, None, refl, ap, ◌∙◌, arith}
 use Rattle.smp_stop_steps.specs.{begun_value, cpus, has, mask_weight, seen_of, Seat, Free, In, Gives, Alters, Closes, Source, Shut, Drafts, Owns, Collects, Act}
 use Rattle.smp_stop_steps.specs.{Field, Work, acked_by, called_by, completed_by, drafted_known, entered_known, gate_known, is_drafting, key_known}
-use Rattle.smp_stop_steps.specs.{key_loaded_by, learned, is_due, is_due_field, member_stored, opened_by, order, raised_by, slot_known, slot_stored, told_work}
+use Rattle.smp_stop_steps.specs.{key_loaded_by, learned, is_due, member_stored, opened_by, order, raised_by, slot_known, slot_stored, told_work}
 use Rattle.smp_stop_steps.specs.{Slot, Known.Known, Known.stepped, KnownLaws.KnownStepsCount, KnownLaws.weight_of}
 use Rattle.smp_stop_steps.specs.Moves.{Move, TakeGate, OpenGate, Draft, DraftMore, Open, Enter, Look, Acknowledge, AcknowledgePatch, Refill, Raise, Give, Count}
 use Rattle.smp_stop_steps.specs.Moves.{CountGiven, Close, LookDone, Collect, ReadKey, ReadSite, Nudge, BeginPatch, Alter, LoadArg, LoadField, LoadEntry}

@@ -3,7 +3,7 @@ use Rattle.std.proofs.Common.{◌≡◌, ℕ, ◌+◌, ◌∷◌, [], Bool, true
 use Rattle.std.proofs.Common.{eqb-true}
 use Rattle.smp_stop_steps.specs.{word_of, at_after, seen_of, Access, Field, Work, Word, Gate, Slot, Key, Site, HasCompleted, MayStore, MayStoreIf, MaySee}
 use Rattle.smp_stop_steps.specs.{IsAtRun, unfinished, Seat, In, Alters, Closes, Duty, Rests, Sets, Stands, StopShows, DoneShows, Source, Shut, Drafts, Owns}
-use Rattle.smp_stop_steps.specs.{Collects, SourceShows, OwnerShows, DraftShows, IsNextOfPatch, label_stored, store_of, KeysStand, Change, Whole, Patches, Place}
+use Rattle.smp_stop_steps.specs.{Collects, SourceShows, OwnerShows, IsNextOfPatch, label_stored, store_of, KeysStand, Change, Whole, Place}
 use Rattle.smp_stop_steps.specs.{Setup, StopState, Standing, Inside, Ended, acked, is_of, irq_of, Sees, setup_in, told_source, told_work, order, IsNudge}
 use Rattle.smp_stop_steps.specs.{all_but, begun_value, cpus, mask_weight, put_word, Known.Known, KnownLaws.KeepsMoveLaws, Laws.IsThrough}
 use Rattle.smp_stop_steps.specs.Moves.{Move, TakeGate, OpenGate, Draft, DraftMore, Open, Enter, Look, Acknowledge, AcknowledgePatch, Refill, Raise, Give, Count}

@@ -7,7 +7,7 @@ use Rattle.smp_stop_steps.specs.{put, put_word, weight, Agrees, Reading, labels_
 use Rattle.smp_stop_steps.specs.{duty_of, AckShows, Setup, Inside, Nobody, Raises, Raising, Refills, Standing, acknowledged, is_inside, raised, refilled}
 use Rattle.smp_stop_steps.specs.{stands, Field, Work, Slot, Word, State.Present, Stop.Stop}
 use Rattle.smp_stop_steps.proofs.State.Moves.{IsNoPatch, SaveMe, moved, moves, slot_put, slot_same}
-use Rattle.smp_stop_steps.proofs.State.Phases.{acknowledges_slot, is_open_inside, keeps_inside, none_raises, refills_slot}
+use Rattle.smp_stop_steps.proofs.State.Phases.{acknowledges_slot, is_open_inside, none_raises, refills_slot}
 use Rattle.smp_stop_steps.proofs.{State.Raises.raises_slot, State.Works.looks_slot}
 
 -- nobody raises while one of the mask is behind

@@ -3,7 +3,7 @@ use Rattle.std.proofs.Common.{◌≡◌, ◌≢◌, ℕ, Bool, true, false, cond
 use Rattle.std.proofs.lemmas.List.{append-nil}
 use Rattle.smp_words.proofs.Puts.{at_test, put_all}
 use Rattle.smp_stop_steps.specs.{put, IsResult, AllPast, PastShows, OnlyActiveAnswer, answer_now, answers_of, results_of, works_of, Outside, answer_of, closed}
-use Rattle.smp_stop_steps.specs.{Standing, Completed, completed, opened, One, Work, has, Past.Past, Stop.Stop}
+use Rattle.smp_stop_steps.specs.{Standing, completed, opened, One, Work, has, Past.Past, Stop.Stop}
 
 module _ (y : Past) where
   all_push : (xs : List Past) → AllPast xs → IsResult y.work.mask y.answer y.result → OnlyActiveAnswer y.work y.answer → AllPast (xs ++ y ∷ [])

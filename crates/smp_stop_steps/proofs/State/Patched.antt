@@ -8,7 +8,7 @@ use Rattle.smp_labels.specs.{declared.keys.Change.Change as KeyChange, Keys.coun
 use Rattle.smp_words.proofs.Puts.{put_all, at_test, put_same}
 use Rattle.smp_labels.proofs.Stores.{applied-append}
 use Rattle.smp_stop_steps.specs.{put, Agrees, Change, LabelsShow, Patches, Patching, Reading, Whole, labels_in, StandsSet, count_set, state_left, PresentShows}
-use Rattle.smp_stop_steps.specs.{RunnerShows, Alters, In, Rests, Seat, Stands, irq_of, Keeps, SlotShows, Setup, Inside, Standing, acked, is_of, Field, Patch}
+use Rattle.smp_stop_steps.specs.{RunnerShows, Alters, In, Rests, Seat, Stands, irq_of, Keeps, SlotShows, Setup, Inside, Standing, acked, is_of, Patch}
 use Rattle.smp_stop_steps.specs.{Work, Key, Slot, Word, is_on, change_of, has, State.Present}
 use Rattle.smp_stop_steps.proofs.{State.Ends.function_law, State.Phases.is_open_inside}
 

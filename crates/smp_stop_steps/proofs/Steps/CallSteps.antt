@@ -1,18 +1,18 @@
 -- Each step of a CPU's command leaves its function where the next stage says, and the functions of all others.
 use Rattle.std.proofs.Common.{◌≡◌, ◌≢◌, ℕ, ◌+◌, Bool, true, false, eq-eqb, eqb-true, ◌==◌, cond, ◌⊎◌, inl, inr, Option, Some, None, [], ◌∷◌, sym, subst, refl}
-use Rattle.std.proofs.Common.{ap, ◌∙◌, arith}
+use Rattle.std.proofs.Common.{ap, arith}
 use Rattle.smp_labels.specs.{Kinds.xor, declared.keys.Change.Change as KeyChange}
 use Rattle.smp_words.proofs.Puts.{put_same, put_other}
 use Rattle.smp_stop_steps.specs.{count_after, patch_answer, IsThroughAll, visit_acked, control_then, state_after, acknowledges, carried_call, completes_with}
 use Rattle.smp_stop_steps.specs.{is_on, IsCalling, answer_in, HasCalled, CarriesAt, called_more, stored_open, stored_shut, EnterActive, LoadResult, ExchangeKey}
 use Rattle.smp_stop_steps.specs.{word_of, seen_of, IsQuiet, Calling, CallStep, Standing, key_told, may_call, TakeGate, OpenGate, Complete, LoadDone, NudgeKey}
 use Rattle.smp_stop_steps.specs.{put, One, Work, Word, Gate, Slot, Key, Seat, In, Duty, Setup, Idle, Calls, tells, told, Begin, Enter, Close, Visit, Place, Act}
-use Rattle.smp_stop_steps.specs.{Field, CarriesIn, StopShows, SitsAtRun, answer_at, turn_note, stop_goes, turn_ends, StopState, note_then, calls_now, completes}
-use Rattle.smp_stop_steps.specs.{Kind as KindOf, StopControlValue, declared.stage.StopStage.TheVariants.ReadKey, declared.stage.StopStage.TheVariants.ReadSite}
-use Rattle.smp_stop_steps.specs.{Multi, Patch, Change, Gives, Alters, Rests, Stands, RunsIf, Source, key_on, told_of, is_run, Inside, carried, plan_at, Advance}
+use Rattle.smp_stop_steps.specs.{Field, CarriesIn, StopShows, answer_at, turn_note, stop_goes, turn_ends, StopState, note_then, calls_now, completes}
+use Rattle.smp_stop_steps.specs.{StopControlValue, declared.stage.StopStage.TheVariants.ReadKey, declared.stage.StopStage.TheVariants.ReadSite}
+use Rattle.smp_stop_steps.specs.{Patch, Change, Gives, Alters, Rests, Stands, RunsIf, Source, key_on, told_of, is_run, Inside, carried, plan_at, Advance}
 use Rattle.smp_stop_steps.specs.{IsAcking, IsEnding, IsLoaded, nudge_of, nudge_on, store_of, StopCall, gate_told, StopStage, EnterKind, EnterMask, Sits.Sits}
 use Rattle.smp_stop_steps.proofs.{Steps.Completions.one_phase, State.Phases.is_open_inside, State.Phases.keeps_inside, Steps.Callings.carried_alone}
-use Rattle.smp_stop_steps.proofs.{Steps.Callings.idle_alters, Steps.Callings.idle_patch, State.Moves.IsNoPatch, Steps.Stages.at_seat}
+use Rattle.smp_stop_steps.proofs.{Steps.Callings.idle_alters, Steps.Callings.idle_patch, Steps.Stages.at_seat}
 use Rattle.smp_stop_steps.specs.note
 use Rattle.smp_stop_steps.specs.completion
 use Rattle.smp_stop_steps.specs.round

@@ -10,7 +10,7 @@ use Rattle.smp_words.specs.declared.field.Field.TheVariants.{Arg, State}
 use Rattle.smp_stop_steps.specs.{at_after, count_set, Rests, StopShows, SitsAtRun, change_at, stop_ends, stop_goes, StopState, change_of, MOST_SITES, Sits.Sits}
 use Rattle.smp_stop_steps.specs.{seen_of, word_of, Change, Alters, irq_of, IsLoaded, OwnsIf, entry_on, store_of, StopStep, is_multi, plan_at, Advance, patch_of}
 use Rattle.smp_stop_steps.specs.{put, In, Seat, Source, key_on, Setup, tells, told, Visit, Multi, One, Patch, Work, Entry, Gate, Key, Slot, Word, is_on, has}
-use Rattle.smp_stop_steps.specs.{answer_for, patch_answer, changes_of, SitsAtEntry, StopControlValue, state_after, Kind as KindOf, count_after, site_changes}
+use Rattle.smp_stop_steps.specs.{patch_answer, changes_of, SitsAtEntry, StopControlValue, state_after, Kind as KindOf, count_after, site_changes}
 use Rattle.smp_stop_steps.proofs.{Steps.Same.moved_seat, Steps.Same.still, Steps.Facts.arg_loaded, Steps.Facts.inside_keeps, Steps.Facts.state_near}
 use Rattle.smp_stop_steps.proofs.{Steps.Facts.work_words, Steps.Patching.key_loaded_first, Steps.Patching.key_stored, Steps.Patching.site_stored}
 use Rattle.smp_stop_steps.proofs.{Steps.Rounds.look_irq, Steps.Rounds.state_loaded, Steps.Stages.in_round, Steps.Stages.round_source, Basics.Bools.both_true}

@@ -10,7 +10,7 @@ use Rattle.smp_stop_steps.specs.{labels_in, StandsSet, reading_of, state_left, p
 use Rattle.smp_stop_steps.specs.{Sets, Stands, Duty, irq_of, duty_of, StopShows, AckShows, IsLevel, Keeps, OpenShows, IsPhaseOf, Source, Setup, StopCall}
 use Rattle.smp_stop_steps.specs.{StopState, Calling, Inside, Nobody, Raises, Raising, Standing, acked, acknowledged, is_inside, raised, refilled, stands}
 use Rattle.smp_stop_steps.specs.{first_readings, is_patch, leaves, told, unpatched, with_stop, called_more, carried, One, Patch, Kind as KindOf, Work, Key}
-use Rattle.smp_stop_steps.specs.{Slot, Word, is_on, change_of, has, State.Present, State.Carries, Stop.Stop}
+use Rattle.smp_stop_steps.specs.{Slot, Word, is_on, change_of, State.Present, State.Carries, Stop.Stop}
 use Rattle.smp_stop_steps.proofs.Basics.Bools.{both_true, or_false, or_true}
 use Rattle.smp_stop_steps.proofs.Steps.Callings.{calling_same, calling_looked, IsNotClosing, calling_turned, closing_kept, calling_acked, idle_patch}
 use Rattle.smp_stop_steps.proofs.Steps.Callings.{carried_alone, calling_next, calling_ran}

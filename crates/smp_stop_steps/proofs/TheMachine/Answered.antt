@@ -1,6 +1,6 @@
 -- Answers of stop functions where a command begins, and after a step of a stop half.
-use Rattle.std.specs.{Int.w32, Int.cast_signed, Prelude.slice_set}
-use Rattle.std.proofs.Common.{◌≡◌, ℕ, ℤ, ◌<◌, Option, Some, None, List, length, refl, rules, FitsSigned, arith}
+use Rattle.std.specs.{Int.w32, Prelude.slice_set}
+use Rattle.std.proofs.Common.{◌≡◌, ℕ, ℤ, ◌<◌, Option, Some, None, List, length, rules, FitsSigned, arith}
 use Rattle.std.proofs.lemmas.Int.{to_z-of_z}
 use Rattle.smp_words.proofs.Puts.{at_test}
 use Rattle.smp_words.specs.Commands.{FitsCommand}

@@ -1,10 +1,10 @@
 -- What a begin is refused for, of the members of its masks.
-use Rattle.std.proofs.Common.{◌≡◌, ◌≢◌, ◌⊎◌, ℕ, zero, suc, ◌+◌, ◌<◌, ◌≤◌, ◌^◌, Bool, true, false, ◌==◌, ◌&&◌, not, nat_lt, cond, inl, inr, sym, subst, refl, ap}
-use Rattle.std.proofs.Common.{◌∙◌, arith, eq-eqb, ne_eqb, lt-ltb, bit_and, Some}
+use Rattle.std.proofs.Common.{◌≡◌, ◌≢◌, ◌⊎◌, ℕ, zero, suc, ◌+◌, ◌<◌, ◌≤◌, ◌^◌, Bool, true, false, ◌==◌, ◌&&◌, nat_lt, inl, inr, sym, refl, ap}
+use Rattle.std.proofs.Common.{◌∙◌, arith, eq-eqb, ne_eqb, lt-ltb, bit_and}
 use Rattle.std.proofs.{lemmas.Bool.cases_eq, lemmas.Bool.cases_lt, lemmas.Bool.ltb-true, lemmas.Bool.Decides.nat_tests}
 use Rattle.smp_mask.proofs.Sets.{has_above, same_members}
-use Rattle.smp_stop_steps.specs.{has, cpus, Kind, One, Multi, Patch, Work, sum_below, bit, mask_weight, first_below, fits_kind, fits_patch, fits_work, SmpError}
-use Rattle.smp_stop_steps.specs.{begin_refusal, unless, declared.start.Terms.Terms}
+use Rattle.smp_stop_steps.specs.{has, cpus, Kind, One, Multi, Patch, Work, sum_below, bit, mask_weight, first_below, fits_kind, fits_patch, fits_work}
+use Rattle.smp_stop_steps.specs.{begin_refusal, declared.start.Terms.Terms}
 use Rattle.smp_stop_steps.specs.Members.{IsAlone, IsPatchOf, HasItsCpus, FitsMembers, RefusesByMembers}
 use Rattle.smp_stop_steps.proofs.TheMachine.Fits.{both, is_same, of_both, one_bit, some_outside, within}
 use Rattle.smp_stop_steps.proofs.TheMachine.Opened.{first_is}

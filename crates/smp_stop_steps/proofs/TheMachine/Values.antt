@@ -9,7 +9,7 @@ use Rattle.smp_labels.specs.{Entries.IsEntryWord, Entries.entry_at, Law.Table, P
 use Rattle.smp_stop_steps.specs.{CarriesIn, labels_in, HoldsGate, FitsRound, StopState, StopWords, StopsShow, RoundStage, EnterKind, LoadResult, MOST_SITES}
 use Rattle.smp_stop_steps.specs.{AreI32Words, HasI32Answers, put, StopControlValue, round_access, control_then, stop_words_after, stop_control_of, site_changes}
 use Rattle.smp_stop_steps.specs.{word_of, Patches, Patching, Whole, FitsStop, Complete, EnterMask, LoadDone, OpenGate, TakeGate, NudgeKey, StopStage, Sits.Sits}
-use Rattle.smp_stop_steps.specs.{cpus, Rests, SitsAt, Setup, at_then, Advance, Begin, Close, Enter, Visit, Work, Entry, Gate, Word, is_on, CompletionStage}
+use Rattle.smp_stop_steps.specs.{cpus, Rests, SitsAt, Setup, at_then, Advance, Begin, Close, Enter, Visit, Work, Entry, Gate, Word, CompletionStage}
 use Rattle.smp_stop_steps.specs.{LabelsShow, SitsInRound, changes_of, FitsAccess, stop_access, state_after, stop_number, IsStopTable, EnterActive, ExchangeKey}
 use Rattle.smp_stop_steps.specs.declared.stage.StopStage.TheVariants.{ReadKey, ReadSite}
 use Rattle.smp_stop_steps.proofs.TheMachine.Named.{gate_stays, stage_named, work_in}
