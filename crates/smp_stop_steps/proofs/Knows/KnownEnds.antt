@@ -48,15 +48,13 @@ module _ (p : StopState) (at : Word → ℕ) (seat : ℕ → Seat) (source : ℕ
       Stores (Slot s Field.Result) x (slot_stored Field.Result x v)
   give s w a l x is through some idle runs = let at' = put_word at (Slot s Field.Result) x in
       let here = sees.seat_is ∙ is in
-      let f = p.calling v.number in
-      let g = with_answer x f in
+      let g = with_answer x (p.calling v.number) in
       let p0 = answering x in
       let h0 = answers_so s w a l x here in
       let mine : p0.calling v.number ≡ g = put_same p.calling v.number g in
       let calls : IsCalling v.number (Gives s w a x) (p0.calling v.number) = search (calling_given, answers, arith) in
       let known : slot_stored Field.Result x v ≡ record v { seat = Gives s w a x } =
       ap (λ b. cond b (drafted_known Field.Result x v) (member_stored Field.Result x v)) idle ∙ ap (λ y. record v { seat = given_by x y }) is in
-      let k = sees.part_is in
       let plain = ap (λ b. cond b (stored_open p0 v.number s Field.Result x) (stored_shut p0 s Field.Result x)) (open_at p at seat source v h sees s w a l
       Rests is) in
       let shown' = goes_seat p seat source v sees (stored_open p0 v.number s Field.Result x) at' (Gives s w a x) v.part
@@ -96,9 +94,8 @@ module _ (p : StopState) (at : Word → ℕ) (seat : ℕ → Seat) (source : ℕ
       let here = sees.seat_is ∙ is in
       let st = stands p at seat source v h sees (In s w a l Rests) is in
       let bounds = todo_bounds u p at seat source h s v.number w a l Rests here in
-      let at' = put_word at (Slot s Field.Todo) (found - 1) in
       let shown' = counted_goes s w a 0 low (ap (λ (x : Standing). completes p v.number s x found) st.1)
-      (subst (λ (x : Standing). StopShows u (completes p v.number s x found) at' (put seat v.number (cond (found == 1)
+      (subst (λ (x : Standing). StopShows u (completes p v.number s x found) (put_word at (Slot s Field.Todo) (found - 1)) (put seat v.number (cond (found == 1)
       (Closes s) Free)) source) st.1 (todo_subtracted u p at seat source h s v.number w a l 0 here through)) in
       search (less_one found bounds.0 (small found bounds.1), is, shown', arith)
 
@@ -108,17 +105,15 @@ module _ (p : StopState) (at : Word → ℕ) (seat : ℕ → Seat) (source : ℕ
       let here = sees.seat_is ∙ is in
       let st = stands p at seat source v h sees (Gives s w a x) is in
       let bounds = todo_bounds_answered u p at seat source h s v.number w a x here in
-      let at' = put_word at (Slot s Field.Todo) (found - 1) in
       let shown' = counted_goes s w a x low (ap (λ (y : Standing). completes p v.number s y found) st.1)
-      (subst (λ (y : Standing). StopShows u (completes p v.number s y found) at' (put seat v.number (cond (found == 1)
+      (subst (λ (y : Standing). StopShows u (completes p v.number s y found) (put_word at (Slot s Field.Todo) (found - 1)) (put seat v.number (cond (found == 1)
       (Closes s) Free)) source) st.1 (todo_subtracted_answered u p at seat source h s v.number w a x 0 here)) in
       search (less_one found bounds.0 (small found bounds.1), is, shown', arith)
 
   pub close : (s : ℕ) → v.seat ≡ Closes s → is_drafting v.source ≡ false → Stores (Slot s Field.Done) 1 (slot_stored Field.Done 1 v)
   close s is idle = let at' = put_word at (Slot s Field.Done) 1 in
-      let st = stands p at seat source v h sees (Closes s) is in
       let plain : told u p v.number Act.Store (Slot s Field.Done) None (Some 1) 0 ≡ stored_open p v.number s Field.Done 1 =
-      ap (λ b. cond b (stored_open p v.number s Field.Done 1) (stored_shut p s Field.Done 1)) st.1 in
+      ap (λ b. cond b (stored_open p v.number s Field.Done 1) (stored_shut p s Field.Done 1)) (stands p at seat source v h sees (Closes s) is).1 in
       let known : slot_stored Field.Done 1 v ≡ record v { seat = Free } = ap (λ b. cond b (drafted_known Field.Done 1 v) (member_stored Field.Done 1 v))
       idle in
       let shown' = goes_seat p seat source v sees (stored_open p v.number s Field.Done 1) at' Free v.part

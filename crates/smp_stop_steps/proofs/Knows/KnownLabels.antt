@@ -125,8 +125,7 @@ module _ (p : StopState) (at : Word → ℕ) (seat : ℕ → Seat) (source : ℕ
             count n;
       })
   patched_leaves k count n now low same = let parts = sees.part_is in
-      let patched' = counted_first p.patched v.number k count n v.part.patched parts.patched low in
-      search ((same v.number ∙ parts.readings), patched', put_other, arith)
+      search ((same v.number ∙ parts.readings), (counted_first p.patched v.number k count n v.part.patched parts.patched low), put_other, arith)
 
   pub alter : (s : ℕ) (w : Work) (count : ℕ) (made rest : List Change) (x : Place) (n : ℕ) → v.seat ≡ Alters s w count made ((x, n) ∷ rest) →
       plan_at u w count ≡ made ++ (x, n) ∷ rest → w.func < MOST_KEYS →

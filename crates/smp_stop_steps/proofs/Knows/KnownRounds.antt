@@ -186,18 +186,15 @@ module _ (p : StopState) (at : Word → ℕ) (seat : ℕ → Seat) (source : ℕ
       st : Stands p.now v.number (In s w a l Rests)
       st = stands (In s w a l Rests) is
 
-      is_may : may_call v.number (p.now.stop s).work ((p.now.stop s).standing v.number) ≡ may_call v.number w (Inside a l)
-      is_may = ap (λ (x : Work). may_call v.number x ((p.now.stop s).standing v.number)) st.3 ∙ ap (may_call v.number w) st.1
-
       call : StopCall
       call = record { func = w.func; arg = at (Slot s Field.Arg); answer = 0 }
 
       go : (b : Bool) → may_call v.number w (Inside a l) ≡ b → Loads (Slot s Field.Arg)
           (cond b (record v { part = record (v.part) { calling = Calls call } }) v)
-      go false e = still p at seat source v h sees Act.Load (Slot s Field.Arg) (Some (at (Slot s Field.Arg))) None (search (is_may, arith))
+      go false e = still p at seat source v h sees Act.Load (Slot s Field.Arg) (Some (at (Slot s Field.Arg))) None (search arith)
       go true e = let p' = record p { calling = put p.calling v.number (Calls call) } in
           let plain : told u p v.number Act.Load (Slot s Field.Arg) (Some (at (Slot s Field.Arg))) None 0 ≡ p' =
-          search (is_may, arith) in
+          search arith in
           goes_still p seat source v sees p' at (record (v.part) { calling = Calls call })
           (told_so u v.number p p' Act.Load (Slot s Field.Arg) (Some (at (Slot s Field.Arg))) None plain)
           (subst (λ q. StopShows u q at seat source) plain (arg_loaded u p at seat source h s v.number w a l Rests here 0 refl))

@@ -132,8 +132,7 @@ module _ (p : StopState) (at : Word → ℕ) (seat : ℕ → Seat) (source : ℕ
 
   -- the source may be taken for another of which the same is told
   restaged : (y : Source) → SourceIs y → StopShows u p at seat (put source v.number y)
-  restaged y it = let sources' = put_all (λ j x. SourceShows u p.gate (p.now.stop j) (λ f. at (Slot j f)) j x) source v.number y it (λ j ne. h.sources j) in
-      search (sources', arith)
+  restaged y it = search ((put_all (λ j x. SourceShows u p.gate (p.now.stop j) (λ f. at (Slot j f)) j x) source v.number y it (λ j ne. h.sources j)), arith)
 
   source_here : (y : Source) → source v.number ≡ y → SourceIs y
   source_here y e = subst SourceIs e (h.sources v.number)
@@ -159,8 +158,7 @@ module _ (p : StopState) (at : Word → ℕ) (seat : ℕ → Seat) (source : ℕ
 
   pub draft : (work : Work) → v.source ≡ Shut → v.part.holds ≡ true → IsWork u work →
       Stores (Slot v.number Field.Kind) (begun_value cpus work Field.Kind) (draft_known (begun_value cpus work Field.Kind) v)
-  draft work shut holds is = let shown' = field_goes work Field.Kind (search (holder, is, arith)) (omega arith) in
-      search (kind_back work.kind, shown', arith)
+  draft work shut holds is = search (kind_back work.kind, (field_goes work Field.Kind (search (holder, is, arith)) (omega arith)), arith)
 
   pub draft_more : (work : Work) (f : Field) → v.source ≡ Drafts (told_work (order f) work) (order f) → IsWork u work → order f ≢ 0 → order f < 10 →
       Stores (Slot v.number f) (begun_value cpus work f) (slot_stored f (begun_value cpus work f) v)
@@ -194,8 +192,7 @@ module _ (p : StopState) (at : Word → ℕ) (seat : ℕ → Seat) (source : ℕ
         arith,
       )) refl tt
       in
-      let shown' = noted p seat source v sees at' (record v { source = Owns work; part = part }) (v.moves ++ own.Began work ∷ []) opened in
-      search (e, shown', arith)
+      search (e, (noted p seat source v sees at' (record v { source = Owns work; part = part }) (v.moves ++ own.Began work ∷ []) opened), arith)
 
   -- the end of its stop
 

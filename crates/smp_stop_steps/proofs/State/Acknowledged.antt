@@ -58,16 +58,10 @@ module _ (u : Setup) (p : Present) (at : Word → ℕ) (seat : ℕ → Seat) (h 
       let no : (p.stop s).raising ≡ Nobody = search (nobody_raises, o.ack, arith) in
       moves u p at (put_word at (Slot s Ack) (found - 1)) seat s me stop' p.inside irq' readings' (In s job (a + 1) (a + 1) (cond (found == 1) Fills Rests)) h
       (slot_put u.cpus p.stop at s Ack (found - 1) stop' h.slots (acknowledges_slot u.cpus (p.stop s) w (h.slots s) me a st.1)) refl
-      (search (put_other, other_turn, arith))
-      save (search (at_test, put_same, own_turn, work_here, arith))
+      (search (put_other, arith))
+      save (search (at_test, put_same, work_here, arith))
       (home_stays stop' a (a + 1) st.1 st.0) off read
       (subst IsNoPatch (sym is) tt) (λ op kind. h.works s op kind)
-    where
-      other_turn : (c : ℕ) → c ≢ me → (b : Bool) → duty_of (cond b (Refills me) Nobody) c ≡ Rests
-      other_turn c ne b = search (ne_eqb, arith)
-
-      own_turn : (b : Bool) → duty_of (cond b (Refills me) Nobody) me ≡ cond b Fills Rests
-      own_turn b = search (eq-eqb, arith)
 
   -- store of the count, by the one that found 1
   pub step_refills : (job : Work) (a l : ℕ) → seat me ≡ In s job a l Fills → (p.stop s).phase ≢ 0 →

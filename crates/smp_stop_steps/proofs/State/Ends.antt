@@ -96,14 +96,8 @@ module _ (cpus : ℕ) (stop : Stop) (word : Field → ℕ) (g : SlotShows cpus s
   -- done is 1: all have completed, and the result word is the result of their answers
   pub collects_slot : stop.is_open ≡ true → word Done ≡ 1 →
       IsResult stop.work.mask (λ c. answer_of (stop.standing c)) (word Result) × SlotShows cpus (closed stop) word
-  collects_slot open_ found = search (answered, g.roll, not_called, each, no, arith)
+  collects_slot open_ found = search (answered, g.roll, not_called, each, arith)
     where
-      no : false ≡ true → ⊥
-      no e = cc
-
-      mask_is : (c : ℕ) → is_of (stop.standing c) ≡ has stop.work.mask c
-      mask_is c = subst (λ b. is_of (stop.standing c) ≡ (b && has stop.work.mask c)) open_ (g.members c)
-
       each : count_unfinished cpus stop.standing ≡ 0 → (c : ℕ) → is_of (stop.standing c) ≡ true → unfinished (stop.standing c) ≡ 0
       each z c of = sum_zero (λ c. unfinished (stop.standing c)) cpus z c (in_machine cpus stop.phase c (stop.standing c) of (g.keeps c))
 
@@ -118,4 +112,4 @@ module _ (cpus : ℕ) (stop : Stop) (word : Field → ℕ) (g : SlotShows cpus s
 
       answered : count_unfinished cpus stop.standing ≡ 0 → ResultShows stop.standing (word Result) →
           IsResult stop.work.mask (λ c. answer_of (stop.standing c)) (word Result)
-      answered z h = search (given, mask_is, each, given_of, arith)
+      answered z h = search (given, each, given_of, arith)

@@ -23,14 +23,11 @@ module _ (u : Setup) (p : Present) (at : Word → ℕ) (seat : ℕ → Seat) (h 
   step_opens work shut is_work stored = source_moves u p at (put_word at (Slot s Roll) work.mask) seat s (opened (p.stop s) work) h
       (slot_put u.cpus p.stop at s Roll work.mask (opened (p.stop s) work) h.slots (opens_slot u.cpus (p.stop s) w (h.slots s) work is_work.below
       is_work.some stored)) refl
-      (search (nobody, calls, apart, arith))
+      (search (nobody, calls, arith))
       (λ _ kind. patch_of_kind work.kind kind is_work.kind)
     where
       patch_of_kind : (k : KindOf) → k ≡ Patch → IsOfKind u work k → IsPatchWork u work
       patch_of_kind k e is = search arith
-
-      apart : true ≡ false → ⊥
-      apart e = cc
 
       nobody : {x : Standing} → x ≡ Outside → is_inside x ≡ true → ⊥
       nobody e i = cc
@@ -54,26 +51,20 @@ module _ (u : Setup) (p : Present) (at : Word → ℕ) (seat : ℕ → Seat) (h 
       nobody : {x : Standing} → x ≡ Outside → is_inside x ≡ true → ⊥
       nobody e i = cc
 
-      turned : (f : Field) → same_field f Roll true ≡ false → same_field Roll f true ≡ false
-      turned f e = search (at_test, eq-eqb, arith)
-
       drafted_slot : (f : Field) (n : ℕ) (work : Work) → (p.stop s).is_open ≡ false → ((c : ℕ) → (p.stop s).standing c ≡ Outside) →
           same_field f Roll true ≡ false →
           SlotShows u.cpus (record (p.stop s) { work = work }) (put_field w f n)
-      drafted_slot f n work shut out other = search (turned, h.slots, apart, arith)
+      drafted_slot f n work shut out other = search (h.slots, apart, arith)
 
   -- load of the result, after done was found
   pub step_collects : (p.stop s).is_open ≡ true → at (Slot s Done) ≡ 1 → PresentShows u (moved p s (closed (p.stop s)) p.inside p.irq p.readings) at seat
   step_collects open_ found = source_moves u p at at seat s (closed (p.stop s)) h
       (slot_same u.cpus p.stop at s (closed (p.stop s)) h.slots (collects_slot u.cpus (p.stop s) w (h.slots s) open_ found).1) refl
-      (search (gone, apart, running, arith))
+      (search (gone, apart, arith))
       (λ bad kind. absurd (apart bad))
     where
       apart : false ≡ true → ⊥
       apart e = cc
-
-      running : (c : ℕ) (e : Ending) → e ≡ Last c → DoneShows u.cpus (p.stop s).standing e (at (Slot s Done)) → ⊥
-      running c e e' d = search arith
 
       inside_unfinished : (x : Standing) → is_inside x ≡ true → (is_of x ≡ true) × (unfinished x ≡ 1)
       inside_unfinished x e = search arith
@@ -109,11 +100,8 @@ module _ (u : Setup) (p : Present) (at : Word → ℕ) (seat : ℕ → Seat) (h 
         (subst IsNoPatch (sym is) tt)
         (λ op kind. h.works s op kind)
       where
-        turns : (r : Raising) → IsNot me r → duty_of r me ≡ Rests
-        turns r ne = search (ne_eqb, arith)
-
         quiet : (p.stop s).standing me ≡ Called → OpenShows u.cpus (p.stop s) w → duty_of (p.stop s).raising me ≡ Rests
-        quiet called o = search (turns, o.calm, not_raising, o.ack, arith)
+        quiet called o = search (o.calm, not_raising, o.ack, arith)
 
     -- fetch_sub of todo
     pub step_completes : (a v : ℕ) → p.inside me ≡ Some s → IsAnswer ((p.stop s).standing me) a v → duty_of (p.stop s).raising me ≡ Rests →
@@ -128,24 +116,17 @@ module _ (u : Setup) (p : Present) (at : Word → ℕ) (seat : ℕ → Seat) (h 
         let o = (h.slots s).shows open_ in
         moves u p at (put_word at (Slot s Todo) (found - 1)) seat s me stop' (put p.inside me None) p.irq p.readings (cond (found == 1) (Closes s) Free) h
         (slot_put u.cpus p.stop at s Todo (found - 1) stop' h.slots (completes_slot u.cpus (p.stop s) w (h.slots s) me a v is through)) refl
-        (search (put_other, not_last, in_machine, arith))
+        (search (put_other, in_machine, arith))
         (save None)
         (now (found == 1) open_)
-        (search (at_home, h.homes, apart, put_same, arith))
+        (search (at_home, h.homes, put_same, arith))
         (h.irq me ∙ (on ∙ sym (irq_after (found == 1))))
         (λ o i. h.read me o (h.irq me ∙ on))
         mine
         (λ op kind. h.works s op kind)
       where
-        apart : false ≡ true → ⊥
-        apart e = cc
-
         irq_after : (b : Bool) → irq_of (cond b (Closes s) Free) ≡ true
         irq_after b = search arith
-
-        not_last : (c : ℕ) → me < u.cpus → DoneShows u.cpus (p.stop s).standing (Last c) (at (Slot s Done)) → ⊥
-        not_last c small d = let z = sum_zero (λ c. unfinished ((p.stop s).standing c)) u.cpus d.1 me small in
-            let u = answer_unfinished (p.stop s).phase a v ((p.stop s).standing me) is in omega arith
 
         now : (b : Bool) → (p.stop s).is_open ≡ true →
             Stands (moved p s (record (p.stop s) { standing = put (p.stop s).standing me (Completed a v); ending = cond b (Last me) (p.stop s).ending })

@@ -129,11 +129,8 @@ module _ (u : Setup) (p : Present) (at : Word → ℕ) (seat : ℕ → Seat) (h 
 
   -- one more reading, which agrees
   pub reads_label : (r : Reading) → Agrees (labels_in at) r → PresentShows u (record p { readings = put p.readings me (p.readings me ++ r ∷ []) }) at seat
-  reads_label r agrees = search (still, h.stands, put_all, one_more, h.read, arith)
+  reads_label r agrees = search (h.stands, put_all, one_more, h.read, arith)
     where
       one_more : (xs : List Reading) → AllByRecursion (Agrees (labels_in at)) xs → AllByRecursion (Agrees (labels_in at)) (xs ++ r ∷ [])
       one_more [] a = (agrees, tt)
       one_more (x ∷ xs) a = (a.0, one_more xs a.1)
-
-      still : (c : ℕ) (y : Seat) → Stands p c y → Stands (record p { readings = put p.readings me (p.readings me ++ r ∷ []) }) c y
-      still c y st = search arith

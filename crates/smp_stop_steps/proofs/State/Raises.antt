@@ -38,17 +38,10 @@ module _ (cpus : ℕ) (stop : Stop) (word : Field → ℕ) (g : SlotShows cpus s
   raises_slot me is open_ ne = search (g.shows, all_acknowledged, g.keeps, keeps_on, sum_same, behind_next, raised_kind, arith)
 
   pub phase_law : stop.is_open ≡ true → stop.phase ≢ 0 → PhaseLaw cpus stop (word Ack)
-  phase_law open_ ne = let o = g.shows open_ in search (level_of, g.keeps, ends, acked_most, either, o.ack, at_five, arith)
+  phase_law open_ ne = let o = g.shows open_ in search (level_of, g.keeps, ends, acked_most, o.ack, at_five, arith)
     where
       ends : (a : ℕ) → stop.phase ≡ 5 → a ≤ 4 → IsLevel stop.phase a → a ≡ 4
       ends a e m l = ⊎_elim (λ (t : a ≡ stop.phase). omega arith) (λ (t : a + 1 ≡ stop.phase). omega arith) l
 
-      either : (r : Raising) → stop.raising ≡ r → AckShows cpus stop.phase stop.standing r (word Ack) →
-          ((word Ack ≡ count_behind cpus stop.phase stop.standing) ⊎ ((r : ℕ) × (stop.raising ≡ Raises r) × (word Ack ≡ weight cpus stop.standing)))
-      either r e h = search arith
-
-      four : (r : ℕ) → stop.phase ≡ 5 → stop.standing r ≡ Inside stop.phase stop.phase → ⊥
-      four r e is = search (g.keeps, arith)
-
       at_five : (r : Raising) → stop.phase ≡ 5 → AckShows cpus stop.phase stop.standing r (word Ack) → word Ack ≡ weight cpus stop.standing
-      at_five r e h = search (sum_same, behind_next, ends, acked_most, g.keeps, level_of, four, arith)
+      at_five r e h = search (sum_same, behind_next, ends, acked_most, g.keeps, level_of, arith)

@@ -151,9 +151,6 @@ module _ (u : Setup) (p : StopState) (at : Word → ℕ) (seat : ℕ → Seat) (
         }
         after a st = ap (λ (x : Standing). told_of (acknowledges p me v.slot x found)) st
 
-        silent : is_run (note_then u at c me stage) ≡ false
-        silent = search (found, arith)
-
         done : (b : Bool) (g : Calling) → told_of (state_after u p at c me stage) ≡ record (told_of p) {
           calling = cond b (put p.calling me g) p.calling;
           calls = cond b (called_more p.calls me f) p.calls;
@@ -161,13 +158,10 @@ module _ (u : Setup) (p : StopState) (at : Word → ℕ) (seat : ℕ → Seat) (
             g ≡ carried me p.now.patching f → p.now.inside me ≡ Some v.slot → (b ≡ true → HasCalled me (p.now.stop v.slot).work f ⊎
             ((p.now.stop v.slot).work.kind ≡ Patch)) →
             (b ≡ true → IsQuiet (Some (visit_acked v answer ran)) g) → (b ≡ false → IsQuiet (Some (visit_acked v answer ran)) f) → Now stage
-        done true g same is in_ ready y n = search (stage, put_same, acked_control, found, put_other, called, calls, silent, arith)
-        done false g same is in_ ready y n = search (stage, acked_control, found, silent, arith)
+        done true g same is in_ ready y n = search (stage, put_same, acked_control, found, put_other, called, calls, arith)
+        done false g same is in_ ready y n = search (stage, acked_control, found, arith)
 
         -- who acknowledges RUN has called its function, or is not to call one
-        has_called : (w work : Work) → w ≡ work → IsLoaded v work → (b : Bool) → RunsIf me v b → (g : Calling) → IsAcking v answer b g → v.acked ≡ 2 →
-            HasCalled me w g
-        has_called w work same loaded b runs g is two = search arith
 
         -- who has called its function carries its answer, any other what it carried
         ran_on : (b : Bool) (g : Calling) → ran ≡ b → RunsIf me v b → IsAcking v answer b g → IsQuiet (Some (visit_acked v answer b)) (carried_call g)
@@ -180,7 +174,7 @@ module _ (u : Setup) (p : StopState) (at : Word → ℕ) (seat : ℕ → Seat) (
         either : (work : Work) → IsLoaded v work →
             (((seat me ≡ In v.slot work v.acked (v.acked + 1) Rests) × RunsIf me v ran) ⊎ ((v.acked ≡ 2) × (ran ≡ true) ×
             ((count : ℕ) × (answer ≡ patch_answer work count) × (seat me ≡ Alters v.slot work count (plan_at u work count) [])))) → Now stage
-        either work loaded (inl (is, runs)) = search (carried_alone, at_stage, stage, done, after, has_called, eqb-true, ran_on, stays, arith)
+        either work loaded (inl (is, runs)) = search (carried_alone, at_stage, stage, done, after, eqb-true, ran_on, stays, arith)
         either work loaded (inr (two, r, (n, answers, is))) = search (h.present.stands, v.acked, eq-eqb, done, after, arith)
 
     -- the completion
@@ -196,9 +190,6 @@ module _ (u : Setup) (p : StopState) (at : Word → ℕ) (seat : ℕ → Seat) (
         found : ℕ
         found = at (Slot v.slot Field.Todo)
 
-        q : IsEnding v f
-        q = at_stage (Complete v completion.CountDown) e
-
         ending : (g : Calling) → IsEnding v g → v.answer ≡ answer_in g
         ending g is = search arith
 
@@ -208,7 +199,7 @@ module _ (u : Setup) (p : StopState) (at : Word → ℕ) (seat : ℕ → Seat) (
         done : (a x : ℕ) → told_of (state_after u p at c me (Complete v completion.CountDown)) ≡ told_of (completes_with p me v.slot a x found) →
             p.now.inside me ≡ Some v.slot → x ≡ v.answer →
             ((p.now.stop v.slot).work.kind ≡ One → f ≢ Idle) → Now (Complete v completion.CountDown)
-        done a x same in_ answers called = search (put_same, found, put_other, called, calls, ending, q, silent, arith)
+        done a x same in_ answers called = search (put_same, found, put_other, called, calls, ending, silent, arith)
 
         left_one : (g : Calling) → IsEnding v g → v.acked ≡ 0 → g ≢ Idle
         left_one g is none = search arith
@@ -218,7 +209,7 @@ module _ (u : Setup) (p : StopState) (at : Word → ℕ) (seat : ℕ → Seat) (
 
         either : (work : Work) → (((v.answer ≡ 0) × IsLoaded v work × IsThroughAll v × (seat me ≡ In v.slot work v.acked v.acked Rests)) ⊎
             (seat me ≡ Gives v.slot work v.acked v.answer)) → Now (Complete v completion.CountDown)
-        either work (inl (none, loaded, all, is)) = search (v.acked, h.present.stands, done, found, none, left_one, q, none_acked, arith)
+        either work (inl (none, loaded, all, is)) = search (v.acked, h.present.stands, done, found, none, left_one, none_acked, arith)
         either work (inr is) = let st : Stands p.now me (Gives v.slot work v.acked v.answer) = subst (Stands p.now me) is (h.present.stands me) in
             done v.acked v.answer (ap (λ (x : Standing). told_of (completes p me v.slot x found)) st.1) st.0 refl
             (λ _. given_called work v.acked v.answer f (calling_at (Gives v.slot work v.acked v.answer) is))

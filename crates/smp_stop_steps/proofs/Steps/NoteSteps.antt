@@ -94,9 +94,6 @@ module _ (u : Setup) (p : StopState) (at : Word → ℕ) (seat : ℕ → Seat) (
   begun : (work : Work) (f : Field) → c.stage ≡ Some (Begin work f) → Fits (Begin work f)
   begun work f e = search (go, arith)
     where
-      here : put p.now.stop me (opened (p.now.stop me) (p.now.stop me).work) me ≡ opened (p.now.stop me) (p.now.stop me).work
-      here = put_same p.now.stop me (opened (p.now.stop me) (p.now.stop me).work)
-
       go : (p.now.stop me).is_open ≡ false → (f : Field) → NoteFits p (stored_shut p me f (begun_value u.cpus work f)) me (begun_next c work f).note
       go shut Field.Kind = (inl refl, draft_still p me me (begun_value u.cpus work Field.Kind) Field.Kind)
       go shut Field.Mask = (inl refl, draft_still p me me (begun_value u.cpus work Field.Mask) Field.Mask)
@@ -108,7 +105,7 @@ module _ (u : Setup) (p : StopState) (at : Word → ℕ) (seat : ℕ → Seat) (
       go shut Field.Done = (inl refl, draft_still p me me (begun_value u.cpus work Field.Done) Field.Done)
       go shut Field.Ack = (inl refl, draft_still p me me (begun_value u.cpus work Field.Ack) Field.Ack)
       go shut Field.State = (inl refl, draft_still p me me (begun_value u.cpus work Field.State) Field.State)
-      go shut Field.Roll = search (here, arith)
+      go shut Field.Roll = search arith
 
   entering : (slot : ℕ) → c.stage ≡ Some (Enter slot) → Fits (Enter slot)
   entering slot e = search (seat_at, h.present.stands, arith)
@@ -188,13 +185,8 @@ module _ (u : Setup) (p : StopState) (at : Word → ℕ) (seat : ℕ → Seat) (
         none : (o : Option ℕ) → (key_on c v key found o).note ≡ None
         none o = search (found, arith)
 
-        patch : (b : Bool) → b ≡ true → heard_of (record p {
-          now = cond b (record (p.now) { patching = patch_begun u me (p.now.stop v.slot).work found }) (reads p.now me (ReadKey key (is_on found)));
-        }) ≡ heard_of p
-        patch b is = search arith
-
         unheard : heard_of (record p { now = key_loaded u p.now me key found (p.now.inside me) }) ≡ heard_of p
-        unheard = search (seat_at, stands, found, patch, arith)
+        unheard = search (seat_at, stands, found, arith)
 
     -- the acknowledgement of a phase
     module _ (answer : ℕ) (ran : Bool) where

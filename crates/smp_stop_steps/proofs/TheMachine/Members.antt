@@ -48,15 +48,10 @@ module _ (mask : ℕ) where
       at_top e d (inl below) low = search (none_below, ne_eqb, arith)
       at_top e d (inr from) low = let same : d ≡ k = omega arith in ap (has mask) same ∙ (e ∙ sym (eq-eqb d k same))
 
-      below_top : (c : ℕ) → c < k → has mask k ≡ false → ((d : ℕ) → d < k → has mask d ≡ (d == c)) → (d : ℕ) → (d < k) ⊎ (k ≤ d) → d < suc k
-          → has mask d ≡ (d == c)
-      below_top c low e all d (inl below) l = all d below
-      below_top c low e all d (inr from) l = search (ne_eqb, arith)
-
       go : (mask_weight k mask ≡ 1 → (c : ℕ) × (c < k) × ((d : ℕ) → d < k → has mask d ≡ (d == c))) → (b : Bool) → has mask k ≡ b
           → (c : ℕ) × (c < suc k) × ((d : ℕ) → d < suc k → has mask d ≡ (d == c))
       go before true e = (k, omega arith, λ d l. at_top e d (cases_lt d k) l)
-      go before false e = search (below_top, cases_lt, arith)
+      go before false e = search (cases_lt, arith)
 
   alone_weight : (k c : ℕ) → IsAlone mask c → mask_weight k mask ≡ bit (nat_lt c k)
   unfolding sum_below
