@@ -1,5 +1,5 @@
 -- Opening, completing and collecting, and the function law.
-use Rattle.std.proofs.Common.{◌≡◌, ◌≢◌, ℕ, ◌+◌, ◌-◌, ◌<◌, true, false, ◌==◌, ◌&&◌, cond, sym, subst, refl, ap, ◌∙◌, ◌⊎◌, arith}
+use Rattle.std.proofs.Common.{◌≡◌, ◌≢◌, ℕ, ◌+◌, ◌-◌, ◌<◌, true, false, ◌==◌, ◌&&◌, cond, sym, refl, ap, ◌∙◌, ◌⊎◌, arith}
 use Rattle.smp_words.proofs.Puts.{at_test, put_all, put_same, put_other}
 use Rattle.smp_words.specs.declared.field.Field.TheVariants.{Done, Result, Roll, Todo}
 use Rattle.smp_stop_steps.specs.{put, behind, count_unfinished, mask_weight, unfinished, FunctionLaw, IsAnswer, IsResult, IsThrough, DoneShows, HasGiven}

@@ -1,14 +1,14 @@
 -- Entering, completing, opening and collecting, among all slots and CPUs.
-use Rattle.std.proofs.Common.{◌≡◌, ◌≢◌, ℕ, ◌-◌, ◌<◌, Bool, true, false, ◌==◌, cond, sym, subst, refl, ap, ◌∙◌, ◌⊎◌, arith, ne_eqb, eq-eqb, Option, Some, None}
+use Rattle.std.proofs.Common.{◌≡◌, ◌≢◌, ℕ, ◌-◌, Bool, true, false, ◌==◌, cond, sym, subst, refl, ap, ◌∙◌, ◌⊎◌, arith, Option, Some, None}
 use Rattle.smp_words.proofs.Puts.{at_test, put_same, put_other}
 use Rattle.smp_words.specs.Put.{same_field}
 use Rattle.smp_words.specs.declared.field.Field.TheVariants.{Done, Result, Roll, Todo}
 use Rattle.smp_labels.specs.Plans.{stored}
 use Rattle.smp_stop_steps.specs.{put, put_word, count_unfinished, unfinished, IsAnswer, IsNot, IsThrough, PresentShows, Closes, Free, Gives, In, Rests, Seat}
-use Rattle.smp_stop_steps.specs.{Stands, irq_of, duty_of, DoneShows, IsStored, OpenShows, SlotShows, put_field, IsOfKind, IsPatchWork, IsWork, Setup, Answering}
-use Rattle.smp_stop_steps.specs.{Called, Completed, Ending, Inside, Last, Outside, Raising, Standing, closed, completed, ended, is_inside, is_of, opened}
+use Rattle.smp_stop_steps.specs.{Stands, irq_of, duty_of, IsStored, OpenShows, SlotShows, put_field, IsOfKind, IsPatchWork, IsWork, Setup, Answering}
+use Rattle.smp_stop_steps.specs.{Called, Completed, Inside, Last, Outside, Standing, closed, completed, ended, is_inside, is_of, opened}
 use Rattle.smp_stop_steps.specs.{stands, Field, Patch, Kind as KindOf, Work, Slot, Word, has, State.Present, Stop.Stop}
-use Rattle.smp_stop_steps.proofs.State.Ends.{all_outside, answer_of_it, answer_unfinished, collects_slot, completes_slot, finishes_slot, opens_slot}
+use Rattle.smp_stop_steps.proofs.State.Ends.{all_outside, answer_of_it, collects_slot, completes_slot, finishes_slot, opens_slot}
 use Rattle.smp_stop_steps.proofs.State.Moves.{IsNoPatch, SaveMe, moved, moves, slot_put, slot_same, source_moves}
 use Rattle.smp_stop_steps.proofs.State.Works.{answers_slot, enters_slot, not_raising}
 use Rattle.smp_stop_steps.proofs.{Basics.Counts.sum_zero, State.Phases.is_open_inside, State.Raises.in_machine}

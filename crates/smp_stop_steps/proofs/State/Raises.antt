@@ -1,7 +1,7 @@
 -- Raising the phase, and the phase law.
-use Rattle.std.proofs.Common.{◌≡◌, ◌≢◌, ℕ, ◌+◌, ◌<◌, ◌≤◌, true, ◌⊎◌, arith, ⊎_elim, ne_eqb}
+use Rattle.std.proofs.Common.{◌≡◌, ◌≢◌, ℕ, ◌+◌, ◌<◌, ◌≤◌, true, arith, ⊎_elim, ne_eqb}
 use Rattle.smp_words.specs.declared.field.Field.TheVariants.{Ack, State}
-use Rattle.smp_stop_steps.specs.{behind, count_behind, one, weight, PhaseLaw, AckShows, IsLevel, IsPhaseOf, Keeps, SlotShows, put_field, Inside, Raises}
+use Rattle.smp_stop_steps.specs.{behind, count_behind, one, weight, PhaseLaw, AckShows, IsLevel, IsPhaseOf, Keeps, SlotShows, put_field, Raises}
 use Rattle.smp_stop_steps.specs.{Raising, Standing, acked, is_of, raised, Field, Kind as KindOf, Stop.Stop}
 use Rattle.smp_stop_steps.proofs.{Basics.Counts.sum_same, Basics.Counts.sum_zero, State.Phases.has_acknowledged}
 

@@ -7,7 +7,7 @@ use Rattle.smp_stop_steps.specs.{has, change_of, count_after, is_on, word_of, se
 use Rattle.smp_stop_steps.specs.{ReadKey, ReadSite, StaysStill, HasRead, NoteFits, heard_of, Seat, In, Rests, Sets, Stands, irq_of, StopShows}
 use Rattle.smp_stop_steps.specs.{HasRun, IsLoaded, IsNudge, RunsIf, SitsAt, SourceSits, begun_value, Source, SourceShows, Act}
 use Rattle.smp_stop_steps.specs.{StopControlValue, answer_at, begun_next, key_on, looked_on, nudge_of, nudge_on, stop_ends, stop_goes, store_of, visit_acked}
-use Rattle.smp_stop_steps.specs.{Setup, StopState, StopCall, Calls, FunctionGoes, note_then, state_after, Standing, Inside, acked, acknowledged, opened}
+use Rattle.smp_stop_steps.specs.{Setup, StopState, StopCall, Calls, FunctionGoes, note_then, state_after, Standing, Inside, acked, acknowledged}
 use Rattle.smp_stop_steps.specs.{raised, stands as stands_at, answered_by, drafts, acknowledges, calls_now, is_multi, is_patch}
 use Rattle.smp_stop_steps.specs.{key_loaded, key_told, leaves, looked_by, looks, looks_now, may_call, patch_begun, reads, stored_open, stored_shut, tells}
 use Rattle.smp_stop_steps.specs.{unpatched, with_stop, StopStage, TakeGate, OpenGate, Begin, Enter, EnterKind, EnterMask, EnterActive, Advance, Complete, Close}
