@@ -1,8 +1,9 @@
 //! A thread for each CPU.
 
-ghost use Rattle.std.specs.Prelude.{◌≡◌, IfOk};
+ghost use Rattle.std.specs.Prelude.{◌≡◌, ◌∷◌, ◌++◌, [], IfOk};
+ghost use Rattle.smp_mask.specs.Mask.{members};
 ghost use Rattle.smp_machine.specs.MachineCpu.{IsAt, IsFull};
-ghost use Rattle.smp_torture.specs.Ends.{AreAt};
+ghost use Rattle.smp_torture.specs.Ends.{AreAt, reported, returned};
 
 use crate::board::Board;
 use crate::ear::{Ear, Runs};
@@ -18,7 +19,7 @@ use std::thread;
 use std::thread::Threads;
 use std::time::Clock;
 
-/// What is left of a torture: one CPU, and what all CPUs have done.
+/// What is left of a torture: the last CPU, and what each CPU has done, in the order of their numbers.
 #[derive(Drop)]
 pub struct Ended {
     pub last: Cpu<Global>,
@@ -55,7 +56,8 @@ fn put_report(
     reports: &mut Vec<Report, Global>,
     played: Played<Ear<'_>, Runs>,
 ) -> Result<Cpu<Global>, TortureError>
-    ensures { IfOk result (λ cpu. cpu ≡ played.entry.cpu) }
+    ensures cpu { IfOk result (λ cpu. cpu ≡ played.entry.cpu) }
+    ensures report { IfOk result (λ _. reported reports.new.items ≡ reported reports.old.items ++ played.entry.cpu.calls.number ∷ []) }
 {
     let Played {
         cpu,
@@ -70,34 +72,38 @@ fn put_report(
 fn put_reports(
     reports: &mut Vec<Report, Global>,
     played: Vec<Played<Ear<'_>, Runs>, Global>,
-) -> Result<(), TortureError> {
+) -> Result<(), TortureError>
+    ensures { IfOk result (λ _. reported reports.new.items ≡ reported reports.old.items ++ returned played.entry.items) }
+{
     for one in played {
         put_report(reports, one)?;
     }
     Ok(())
 }
 
-/// One of the CPUs that have played their parts, and what all have done.
+/// The last of the CPUs that have played their parts, and what each has done.
+#[tactic(auto, using(crate::proofs::Ending::last_returned))]
 fn reports_of(
     alloc: Global,
     machine: &Machine<Global>,
     mut played: Vec<Played<Ear<'_>, Runs>, Global>,
 ) -> Result<Ended, TortureError>
-    requires { AreAt machine.now played.items }
-    ensures { IfOk result (λ e. IsAt machine.now e.last) }
+    requires at { AreAt machine.now played.items }
+    ensures at { IfOk result (λ e. IsAt machine.now e.last) }
+    ensures each { IfOk result (λ e. reported e.reports.items ≡ returned played.entry.items) }
 {
     let _ = machine;
     let Some(back) = played.pop() else {
         return Err(TortureError::NoThread);
     };
     let mut reports = Vec::new(alloc);
-    let last = put_report(&mut reports, back)?;
     put_reports(&mut reports, played)?;
+    let last = put_report(&mut reports, back)?;
     Ok(Ended { last, reports })
 }
 
 /// Runs each CPU of a machine on a thread of its own, as `torture`, with these words beside it.
-#[tactic(auto, using(crate::proofs::Ending::all_at))]
+#[tactic(auto, using(crate::proofs::Ending::all_at, crate::proofs::Ending::all_returned))]
 fn torture_all<R: Wait + Threads + Clock + Sync>(
     rt: &R,
     alloc: Global,
@@ -106,7 +112,8 @@ fn torture_all<R: Wait + Threads + Clock + Sync>(
     boot: MachineBoot<Global>,
 ) -> Result<Ended, TortureError>
     requires { IsFull boot machine.now }
-    ensures { IfOk result (λ e. IsAt machine.now e.last) }
+    ensures at { IfOk result (λ e. IsAt machine.now e.last) }
+    ensures each { IfOk result (λ e. reported e.reports.items ≡ members machine.now.calls.online) }
 {
     let (plan, board) = shared;
     let crew = Tortures {
@@ -132,7 +139,8 @@ pub fn torture<R: Wait + Threads + Clock + Eprint + Sync>(
     boot: MachineBoot<Global>,
 ) -> Result<Ended, TortureError>
     requires { IsFull boot machine.now }
-    ensures { IfOk result (λ e. IsAt machine.now e.last) }
+    ensures at { IfOk result (λ e. IsAt machine.now e.last) }
+    ensures each { IfOk result (λ e. reported e.reports.items ≡ members machine.now.calls.online) }
 {
     let board = Board::new();
     thread::scope(
@@ -140,7 +148,8 @@ pub fn torture<R: Wait + Threads + Clock + Eprint + Sync>(
         rt,
         |scope| -> Result<Ended, TortureError>
             requires { IsFull boot machine.now }
-            ensures { IfOk result (λ e. IsAt machine.entry.now e.last) }
+            ensures at { IfOk result (λ e. IsAt machine.entry.now e.last) }
+            ensures each { IfOk result (λ e. reported e.reports.items ≡ members machine.entry.now.calls.online) }
         {
             let _watcher = scope.spawn(|| watch(rt, machine, plan, &board)).ok();
             torture_all(rt, alloc, (plan, &board), machine, boot)

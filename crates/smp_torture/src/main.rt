@@ -5,8 +5,10 @@
 //! others' handlers have heard, and with the machine's own tally words. `smp_torture --help` has its options.
 #![tactic(auto)]
 
-ghost use Rattle.std.specs.Prelude.{IfOk};
+ghost use Rattle.std.specs.Prelude.{◌≡◌, IfOk};
+ghost use Rattle.smp_mask.specs.Mask.{members};
 ghost use Rattle.smp_machine.specs.MachineCpu.{IsAt, IsFull};
+ghost use Rattle.smp_torture.specs.Ends.{AreFirst, HasEach, reported};
 
 mod acts;
 mod board;
@@ -48,7 +50,9 @@ use std::time::{Clock, Instant};
 use std::{env, io};
 
 /// This number of CPUs, from 0 on.
-fn first_cpus(count: u32) -> Result<CpuMask, TortureError> {
+fn first_cpus(count: u32) -> Result<CpuMask, TortureError>
+    ensures { IfOk result (λ mask. AreFirst count mask) }
+{
     let mut mask = CpuMask::empty();
     for number in 0..count {
         mask = mask.with(number)?;
@@ -64,7 +68,8 @@ fn machine_of(
     alloc: Global,
     request: &Request,
 ) -> Result<(Machine<Global>, MachineBoot<Global>), TortureError>
-    ensures { IfOk result (λ t. IsFull t.1 t.0) }
+    ensures full { IfOk result (λ t. IsFull t.1 t.0) }
+    ensures online { IfOk result (λ t. AreFirst request.now.threads t.0.calls.online) }
 {
     let online = first_cpus(request.threads)?;
     let (mut machine, boot) = Machine::new(alloc, request.threads, online, &labels()?)?;
@@ -83,7 +88,8 @@ fn torture_from_now<R: Wait + Threads + Clock + Eprint + Sync>(
     boot: MachineBoot<Global>,
 ) -> Result<Ended, TortureError>
     requires { IsFull boot machine.now }
-    ensures { IfOk result (λ e. IsAt machine.now e.last) }
+    ensures at { IfOk result (λ e. IsAt machine.now e.last) }
+    ensures each { IfOk result (λ e. reported e.reports.items ≡ members machine.now.calls.online) }
 {
     let plan = Plan {
         request: *request,
@@ -92,12 +98,15 @@ fn torture_from_now<R: Wait + Threads + Clock + Eprint + Sync>(
     torture(rt, alloc, &plan, machine, boot)
 }
 
-/// Tortures a new machine: what all CPUs have done, and the audit of its calls.
+/// Tortures a new machine: what each of its CPUs has done, and the audit of its calls.
+#[tactic(auto, using(crate::proofs::Ending::first_members))]
 fn torture_new<R: Wait + Threads + Clock + Eprint + Sync>(
     rt: &R,
     alloc: Global,
     request: &Request,
-) -> Result<(Vec<Report, Global>, Audit), TortureError> {
+) -> Result<(Vec<Report, Global>, Audit), TortureError>
+    ensures { IfOk result (λ t. HasEach request.now.threads t.0.items) }
+{
     let (machine, boot) = machine_of(alloc, request)?;
     let Ended { last, reports } = torture_from_now(rt, alloc, request, &machine, boot)?;
     Ok((reports, machine.shutdown(last)))

@@ -4,8 +4,8 @@ use Rattle.smp_torture.specs.Ends.{AreAt}
 use Rattle.smp_torture.proofs.Ending.{last_at}
 use Rattle.smp_torture.proofs.launch.reports_of.Goals as goal
 
-pub returns : goal.returns
-returns c =
+pub returns-clause-at : goal.returns-clause-at
+returns-clause-at c =
     let m = c.args.machine.now in
-    subst (λ (x : MachineCpuValue). IsAt m x) (sym c.in_ok-last.ensures)
-    (last_at m c.pop.new.self.items c.in-Some.back (subst (λ (xs : List _). AreAt m xs) c.in-Some.ensures.items c.requires))
+    subst (λ (x : MachineCpuValue). IsAt m x) (sym c.in_ok-last.ensures.cpu)
+    (last_at m c.pop.new.self.items c.in-Some.back (subst (λ (xs : List _). AreAt m xs) c.in-Some.ensures.items c.requires.at))
