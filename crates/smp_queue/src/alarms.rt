@@ -15,6 +15,8 @@ pub(crate) struct Alarms {
     each: [EventCount; NR_CPUS as usize],
     /// A bit for each CPU, set while it waits with its alarm set.
     waiting: AtomicU32,
+    /// The CPU that is woken first, modulo 32: the next one each time, so that none is always the last.
+    first: AtomicU32,
 }
 
 impl Alarms {
@@ -23,6 +25,7 @@ impl Alarms {
         Alarms {
             each: array::from_fn(|_| EventCount::new()),
             waiting: AtomicU32::new(0),
+            first: AtomicU32::new(0),
         }
     }
 
@@ -65,10 +68,12 @@ impl Alarms {
         }
     }
 
-    /// Rings the alarms of these CPUs.
+    /// Rings the alarms of these CPUs, each time from another one on.
     #[inline(never)]
     fn ring_each(&self, waiting: u32) {
-        for cpu in 0..NR_CPUS {
+        let first = self.first.fetch_add(1, Ordering::SeqCst);
+        for place in 0..NR_CPUS {
+            let cpu = first.wrapping_add(place) % NR_CPUS;
             if waiting & (1 << cpu) != 0 {
                 self.ring(cpu);
             }
