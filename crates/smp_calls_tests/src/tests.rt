@@ -196,6 +196,115 @@ fn table_of(
     Ok((table, cpu))
 }
 
+/// These CPUs, which are not given out.
+fn two_of(boot: &mut Boot<Global>, first: u32, second: u32) -> Result<(CallCpu, CallCpu), SmpError>
+    ensures ok { IfOk result (λ c. (c.0.table ≡ boot.old.table.table) × (c.1.table ≡ boot.old.table.table)) }
+    ensures left { IfOk result (λ _. boot.new.table ≡ boot.old.table) }
+{
+    let first = boot.cpu(first)?;
+    let second = boot.cpu(second)?;
+    Ok((first, second))
+}
+
+/// A new table, and its CPUs 0 and 1.
+fn table_and_two(
+    alloc: Global,
+    nr: u32,
+    online: &str,
+) -> Result<(CallTable<Global>, CallCpu, CallCpu), SmpError>
+    ensures { IfOk result (λ t. (t.1.table ≡ t.0.table) × (t.2.table ≡ t.0.table)) }
+{
+    let (table, mut boot) = CallTable::new(alloc, nr, online.parse()?)?;
+    let (zero, one) = two_of(&mut boot, 0, 1)?;
+    Ok((table, zero, one))
+}
+
+/// A new table, and three of its CPUs.
+fn table_and_three(
+    alloc: Global,
+    nr: u32,
+    online: &str,
+    numbers: [u32; 3],
+) -> Result<(CallTable<Global>, CallCpu, CallCpu, CallCpu), SmpError>
+    ensures { IfOk result (λ t. (t.1.table ≡ t.0.table) × (t.2.table ≡ t.0.table) × (t.3.table ≡ t.0.table)) }
+{
+    let (table, mut boot) = CallTable::new(alloc, nr, online.parse()?)?;
+    let (first, second) = two_of(&mut boot, numbers[0], numbers[1])?;
+    let third = boot.cpu(numbers[2])?;
+    Ok((table, first, second, third))
+}
+
+/// The CPUs of a table that are not given out.
+#[derive(Drop)]
+struct Room<'a> {
+    table: &'a CallTable<Global>,
+    boot: Boot<Global>,
+    alloc: Global,
+    ghost own: { boot.table.table ≡ table.now.table },
+}
+
+impl<'a> Room<'a> {
+    fn new(table: &'a CallTable<Global>, boot: Boot<Global>, alloc: Global) -> Room<'a>
+        requires { boot.table.table ≡ table.now.table }
+    {
+        Room { table, boot, alloc }
+    }
+
+    /// This CPU, with its handler.
+    fn drive(&mut self, number: u32) -> Result<Driver<'a>, SmpError> {
+        let cpu = self.boot.cpu(number)?;
+        Ok(Driver::new(self.table, cpu, self.alloc))
+    }
+
+    /// Adds this CPU, with its handler.
+    fn drive_one(
+        &mut self,
+        drivers: &mut Vec<Driver<'a>, Global>,
+        number: u32,
+    ) -> Result<(), SmpError> {
+        let driver = self.drive(number)?;
+        if drivers.push(driver).is_err() {
+            return Err(SmpError::NoMemory);
+        }
+        Ok(())
+    }
+
+    /// These CPUs, each with its handler.
+    fn drive_all(&mut self, numbers: &[u32]) -> Result<Vec<Driver<'a>, Global>, SmpError> {
+        let mut drivers = Vec::new(self.alloc);
+        for number in numbers {
+            self.drive_one(&mut drivers, *number)?;
+        }
+        Ok(drivers)
+    }
+}
+
+/// Three CPUs of one table.
+#[derive(Drop)]
+struct Three<'a> {
+    first: Driver<'a>,
+    second: Driver<'a>,
+    third: Driver<'a>,
+}
+
+impl<'a> Three<'a> {
+    fn new(
+        table: &'a CallTable<Global>,
+        first: CallCpu,
+        second: CallCpu,
+        third: CallCpu,
+        alloc: Global,
+    ) -> Three<'a>
+        requires { (first.table ≡ table.now.table) × (second.table ≡ table.now.table) × (third.table ≡ table.now.table) }
+    {
+        Three {
+            first: Driver::new(table, first, alloc),
+            second: Driver::new(table, second, alloc),
+            third: Driver::new(table, third, alloc),
+        }
+    }
+}
+
 #[test]
 fn the_only_cpu_calls_itself(rt: HostRuntime) -> Result<(), Fail> {
     for nr in [1, 8, 32] {
@@ -237,13 +346,19 @@ fn no_calls() -> Tally {
 #[test]
 fn calls_to_one_cpu_are_refused_in_order(rt: HostRuntime) -> Result<(), Fail> {
     for nr in [4, 8, 32] {
-        let (table, mut boot) = CallTable::new(rt.alloc(), nr, "0-1,3".parse()?)?;
-        let mut zero = Driver::new(&table, boot.cpu(0)?, rt.alloc());
-        is_refused_in_order(&rt, &mut zero);
-        calls_by_users_in_order(&rt, &mut zero);
-        let mut one = Driver::new(&table, boot.cpu(1)?, rt.alloc());
-        runs_the_call_of(&rt, &mut one, &mut zero);
+        let (table, boot) = CallTable::new(rt.alloc(), nr, "0-1,3".parse()?)?;
+        calls_one_cpu(&rt, &mut Room::new(&table, boot, rt.alloc()))?;
     }
+    Ok(())
+}
+
+fn calls_one_cpu<R: Wait + Abort>(rt: &R, room: &mut Room) -> Result<(), SmpError> {
+    let mut zero = room.drive(0)?;
+    is_refused_in_order(rt, &mut zero);
+    calls_itself_at_once(rt, &mut zero);
+    calls_by_users_in_order(rt, &mut zero);
+    let mut one = room.drive(1)?;
+    runs_the_call_of(rt, &mut one, &mut zero);
     Ok(())
 }
 
@@ -253,6 +368,9 @@ fn is_refused_in_order<R: Wait + Abort>(rt: &R, zero: &mut Driver) {
         assert_eq!(rt; answer, (dst, Err(SmpError::NoCpu)));
     }
     assert_eq!(rt; zero.is_done(0), Ok(true));
+}
+
+fn calls_itself_at_once<R: Wait + Abort>(rt: &R, zero: &mut Driver) {
     assert_eq!(rt; zero.single(rt, 0, 1, true), Ok(()));
     assert_eq!(rt; zero.times(0, 1), 1);
 }
@@ -291,12 +409,12 @@ fn calls_any<R: Wait + Abort>(rt: &R, zero: &mut Driver) {
         ("", Err(SmpError::NoCpu)),
         ("1,3", Ok(1)),
     ] {
-        assert_eq!(rt; any_of(rt, zero, mask), called, "{mask}");
+        assert_eq!(rt; any_of(rt, zero, mask, 1), called, "{mask}");
     }
 }
 
-fn any_of<R: Wait>(rt: &R, driver: &mut Driver, mask: &str) -> Result<u32, SmpError> {
-    driver.any(rt, mask.parse()?, 1, false)
+fn any_of<R: Wait>(rt: &R, driver: &mut Driver, mask: &str, func: u16) -> Result<u32, SmpError> {
+    driver.any(rt, mask.parse()?, func, false)
 }
 
 /// Notes that a CPU is asked: those that were are the digits of the number, to this base.

@@ -18,6 +18,15 @@ struct Count {
     over: bool,
 }
 
+impl Count {
+    fn new() -> Count {
+        Count {
+            calls: 0,
+            over: false,
+        }
+    }
+}
+
 impl Handler for Count {
     ghost leads = { λ _ _ _. Unit {0} };
 
@@ -128,13 +137,9 @@ fn call_a_thread<'a, R: Wait + Threads + Sync>(
 
 #[test]
 fn a_cpu_that_rests_is_woken_by_each_call(rt: HostRuntime) -> Result<(), Fail> {
-    let (table, mut boot) = CallTable::new(rt.alloc(), 2, "0-1".parse()?)?;
-    let count = || Count {
-        calls: 0,
-        over: false,
-    };
-    let mut zero = Caller::new(&table, &rt, boot.cpu(0)?, count());
-    let one = Caller::new(&table, &rt, boot.cpu(1)?, count());
+    let (table, zero, one) = table_and_two(rt.alloc(), 2, "0-1")?;
+    let mut zero = Caller::new(&table, &rt, zero, Count::new());
+    let one = Caller::new(&table, &rt, one, Count::new());
     assert_eq!(rt; call_a_thread(&mut zero, one), (CALLS, CALLS, true));
     Ok(())
 }

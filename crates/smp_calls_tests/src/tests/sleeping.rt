@@ -114,12 +114,11 @@ fn call_a_thread<'a, R: Wait + Threads + Sync>(
 
 #[test]
 fn a_cpu_that_waits_asleep_is_woken_once_its_call_has_run(rt: HostRuntime) -> Result<(), Fail> {
-    let (mut table, mut boot) = CallTable::new(rt.alloc(), 2, "0-1".parse()?)?;
+    let (mut table, zero, one) = table_and_two(rt.alloc(), 2, "0-1")?;
     table.sleep_after(0);
-    let zero = boot.cpu(0)?;
     assert_eq!(rt; table.pause(&zero).may_sleep(), true);
     let zero = Caller::new(&table, &rt, zero, Count { calls: 0 });
-    let one = Caller::new(&table, &rt, boot.cpu(1)?, Count { calls: 0 });
+    let one = Caller::new(&table, &rt, one, Count { calls: 0 });
     assert_eq!(rt; call_a_thread(zero, one), (CALLS, CALLS, 0));
     Ok(())
 }

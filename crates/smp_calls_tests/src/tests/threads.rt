@@ -1,6 +1,6 @@
 //! Each family between threads that poll.
 
-ghost use Rattle.std.specs.Prelude.{◌≡◌};
+ghost use Rattle.std.specs.Prelude.{◌≡◌, IfOk};
 
 use super::*;
 use crossbeam_utils::Backoff;
@@ -119,65 +119,23 @@ fn run<R: Wait>(mut driver: Driver, rt: &R, all: CpuMask, progress: &Progress) {
     }
 }
 
-/// The CPUs of a table that are not given out.
-#[derive(Drop)]
-struct Room<'a> {
-    table: &'a CallTable<Global>,
-    boot: Boot<Global>,
-    ghost own: { boot.table.table ≡ table.now.table },
-}
-
-impl<'a> Room<'a> {
-    fn new(table: &'a CallTable<Global>, boot: Boot<Global>) -> Room<'a>
-        requires { boot.table.table ≡ table.now.table }
-    {
-        Room { table, boot }
-    }
-
-    /// Adds this CPU, with its handler.
-    fn drive_one(
-        &mut self,
-        drivers: &mut Vec<Driver<'a>, Global>,
-        alloc: Global,
-        number: u32,
-    ) -> Result<(), SmpError> {
-        let cpu = self.boot.cpu(number)?;
-        let driver = Driver::new(self.table, cpu, alloc);
-        if drivers.push(driver).is_err() {
-            return Err(SmpError::NoMemory);
-        }
-        Ok(())
-    }
-
-    /// These CPUs, each with its handler.
-    fn drive_all(
-        &mut self,
-        alloc: Global,
-        numbers: &[u32],
-    ) -> Result<Vec<Driver<'a>, Global>, SmpError> {
-        let mut drivers = Vec::new(alloc);
-        for number in numbers {
-            self.drive_one(&mut drivers, alloc, *number)?;
-        }
-        Ok(drivers)
-    }
-}
-
-/// Runs each of the CPUs on a thread of its own, to the end.
+/// Runs each of the CPUs on a thread of its own, to the end: how many heard what they should.
 fn run_threads<R: Wait + Threads + Sync>(
     rt: &R,
     drivers: Vec<Driver, Global>,
     all: CpuMask,
-    progress: &Progress,
-) {
+) -> u64 {
+    let progress = Progress::new();
+    let shared = &progress;
     let mut started = true;
     thread::scope(thread::scope_env(), rt, |scope| {
         for driver in drivers {
-            let spawned = scope.spawn(move || run(driver, rt, all, progress));
+            let spawned = scope.spawn(move || run(driver, rt, all, shared));
             started = started && spawned.is_ok();
         }
-        progress.start.settle(started);
+        shared.start.settle(started);
     });
+    progress.right.load(Ordering::SeqCst)
 }
 
 fn mask_of(numbers: &[u32]) -> Result<CpuMask, SmpError> {
@@ -186,6 +144,20 @@ fn mask_of(numbers: &[u32]) -> Result<CpuMask, SmpError> {
         mask = mask.with(*number)?;
     }
     Ok(mask)
+}
+
+/// A new table on which one CPU more than these is online, what is left of its CPUs, and that one.
+fn table_and_last(
+    alloc: Global,
+    nr: u32,
+    all: CpuMask,
+    last: u32,
+) -> Result<(CallTable<Global>, Boot<Global>, CallCpu), SmpError>
+    ensures { IfOk result (λ t. (t.1.table.table ≡ t.0.table) × (t.2.table ≡ t.0.table)) }
+{
+    let (table, mut boot) = CallTable::new(alloc, nr, all.with(last)?)?;
+    let last = boot.cpu(last)?;
+    Ok((table, boot, last))
 }
 
 /// Runs these four CPUs of a new table in threads: how many heard what they should, and what is left. One CPU
@@ -198,12 +170,10 @@ fn run_all<R: Wait + Threads + Sync>(
     last: u32,
 ) -> Result<(u64, Audit), SmpError> {
     let all = mask_of(&callers)?;
-    let progress = Progress::new();
-    let (table, mut boot) = CallTable::new(alloc, nr, all.with(last)?)?;
-    let last = boot.cpu(last)?;
-    let drivers = Room::new(&table, boot).drive_all(alloc, &callers)?;
-    run_threads(rt, drivers, all, &progress);
-    Ok((progress.right.load(Ordering::SeqCst), table.audit(last)))
+    let (table, boot, last) = table_and_last(alloc, nr, all, last)?;
+    let drivers = Room::new(&table, boot, alloc).drive_all(&callers)?;
+    let right = run_threads(rt, drivers, all);
+    Ok((right, table.audit(last)))
 }
 
 const DRAINED: Left = Left {

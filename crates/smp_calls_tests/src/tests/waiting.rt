@@ -59,9 +59,9 @@ fn is_heard_while_waiting<R: Wait + Threads + Sync>(
 
 #[test]
 fn a_cpu_that_waits_hears_its_own_calls(rt: HostRuntime) -> Result<(), Fail> {
-    let (table, mut boot) = CallTable::new(rt.alloc(), 2, "0-1".parse()?)?;
-    let mut zero = Driver::new(&table, boot.cpu(0)?, rt.alloc());
-    let mut one = Driver::new(&table, boot.cpu(1)?, rt.alloc());
+    let (table, zero, one) = table_and_two(rt.alloc(), 2, "0-1")?;
+    let mut zero = Driver::new(&table, zero, rt.alloc());
+    let mut one = Driver::new(&table, one, rt.alloc());
     assert_eq!(rt; one.by_user(&rt, 0, 0, 3), Ok(()));
     assert!(rt; is_heard_while_waiting(&rt, &mut zero, one));
     assert_eq!(rt; zero.times(1, 3), 1);

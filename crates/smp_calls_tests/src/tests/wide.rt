@@ -1,22 +1,6 @@
 //! Tables on which CPUs call others by their further records.
 
-ghost use Rattle.std.specs.Prelude.{◌≡◌, IfOk};
-
 use super::*;
-
-/// A new table of 32 CPUs, and three of them.
-fn table_and_three(
-    alloc: Global,
-    numbers: [u32; 3],
-) -> Result<(CallTable<Global>, CallCpu, CallCpu, CallCpu), SmpError>
-    ensures { IfOk result (λ t. (t.1.table ≡ t.0.table) × (t.2.table ≡ t.0.table) × (t.3.table ≡ t.0.table)) }
-{
-    let (table, mut boot) = CallTable::new(alloc, 32, "0-31".parse()?)?;
-    let first = boot.cpu(numbers[0])?;
-    let second = boot.cpu(numbers[1])?;
-    let third = boot.cpu(numbers[2])?;
-    Ok((table, first, second, third))
-}
 
 /// Of all records that the CPU may call by, these are done or not, and the others are not or are.
 fn records_are(rt: &impl Abort, cpu: &mut Driver, these: &[u32], done: bool) {
@@ -29,14 +13,12 @@ fn records_are(rt: &impl Abort, cpu: &mut Driver, these: &[u32], done: bool) {
 #[test]
 fn many_lock_the_record_for_each_destination(rt: HostRuntime) -> Result<(), Fail> {
     let others: CpuMask = "3,20".parse()?;
-    let (table, two, three, twenty) = table_and_three(rt.alloc(), [2, 3, 20])?;
-    let mut two = Driver::new(&table, two, rt.alloc());
-    let mut three = Driver::new(&table, three, rt.alloc());
-    let mut twenty = Driver::new(&table, twenty, rt.alloc());
-    locks_two_records(&rt, &mut two, others);
-    each_frees_its_record(&rt, &mut two, &mut three, &mut twenty);
-    calls_both_again(&rt, &mut two, &mut three, &mut twenty, others);
-    has_called_both_twice(&rt, &mut two, &mut three, &mut twenty);
+    let (table, two, three, twenty) = table_and_three(rt.alloc(), 32, "0-31", [2, 3, 20])?;
+    let mut cpus = Three::new(&table, two, three, twenty, rt.alloc());
+    locks_two_records(&rt, &mut cpus.first, others);
+    each_frees_its_record(&rt, &mut cpus);
+    calls_both_again(&rt, &mut cpus, others);
+    has_called_both_twice(&rt, &mut cpus);
     Ok(())
 }
 
@@ -47,12 +29,8 @@ fn locks_two_records<R: Wait + Abort>(rt: &R, two: &mut Driver, others: CpuMask)
     records_are(rt, two, &[5, 24], false);
 }
 
-fn each_frees_its_record(
-    rt: &impl Abort,
-    two: &mut Driver,
-    three: &mut Driver,
-    twenty: &mut Driver,
-) {
+fn each_frees_its_record(rt: &impl Abort, cpus: &mut Three) {
+    let (two, three, twenty) = (&mut cpus.first, &mut cpus.second, &mut cpus.third);
     twenty.poll();
     assert_eq!(rt; (two.is_done(5), two.is_done(24)), (Ok(false), Ok(true)));
     three.poll();
@@ -60,25 +38,16 @@ fn each_frees_its_record(
 }
 
 /// Both records are free for the next calls.
-fn calls_both_again<R: Wait + Abort>(
-    rt: &R,
-    two: &mut Driver,
-    three: &mut Driver,
-    twenty: &mut Driver,
-    others: CpuMask,
-) {
+fn calls_both_again<R: Wait + Abort>(rt: &R, cpus: &mut Three, others: CpuMask) {
+    let (two, three, twenty) = (&mut cpus.first, &mut cpus.second, &mut cpus.third);
     assert!(rt; two.many(rt, others, 1, false) == others);
     three.poll();
     twenty.poll();
     assert_eq!(rt; (three.times(2, 1), twenty.times(2, 1)), (2, 2));
 }
 
-fn has_called_both_twice(
-    rt: &impl Abort,
-    two: &mut Driver,
-    three: &mut Driver,
-    twenty: &mut Driver,
-) {
+fn has_called_both_twice(rt: &impl Abort, cpus: &mut Three) {
+    let (two, three, twenty) = (&mut cpus.first, &mut cpus.second, &mut cpus.third);
     assert_eq!(rt; (two.tally(3), three.tally(2)), ((2, 0), (0, 2)));
     assert_eq!(rt; (two.tally(20), twenty.tally(2)), ((2, 0), (0, 2)));
 }

@@ -26,13 +26,19 @@ fn heard(driver: &Driver) -> [usize; 3] {
 }
 
 /// CPU 1 polls after the first call and after the second, CPU 2 after the second alone, so that the second is not made to it.
-fn poll_in_between<R: Wait + Abort>(rt: &R, zero: &mut Driver, one: &mut Driver, two: &mut Driver) {
+fn poll_in_between<R: Wait + Abort>(rt: &R, cpus: &mut Three) {
+    let (zero, one, two) = (&mut cpus.first, &mut cpus.second, &mut cpus.third);
     assert_eq!(rt; call_both(rt, zero, 1), come_to("1-2", "1-2"));
     one.poll();
     assert_eq!(rt; call_both(rt, zero, 2), come_to("1", "1-2"));
     one.poll();
     two.poll();
     assert_eq!(rt; (heard(one), heard(two)), ([1, 1, 0], [1, 0, 0]));
+}
+
+/// CPUs 1 and 2 poll after the third call, which is made to both.
+fn poll_after_the_third<R: Wait + Abort>(rt: &R, cpus: &mut Three) {
+    let (zero, one, two) = (&mut cpus.first, &mut cpus.second, &mut cpus.third);
     assert_eq!(rt; call_both(rt, zero, 3), come_to("1-2", "1-2"));
     one.poll();
     two.poll();
@@ -42,11 +48,10 @@ fn poll_in_between<R: Wait + Abort>(rt: &R, zero: &mut Driver, one: &mut Driver,
 #[test]
 fn cpus_that_do_not_poll_are_named(rt: HostRuntime) -> Result<(), Fail> {
     for nr in [3, 8, 32] {
-        let (table, mut boot) = CallTable::new(rt.alloc(), nr, "0-2".parse()?)?;
-        let mut zero = Driver::new(&table, boot.cpu(0)?, rt.alloc());
-        let mut one = Driver::new(&table, boot.cpu(1)?, rt.alloc());
-        let mut two = Driver::new(&table, boot.cpu(2)?, rt.alloc());
-        poll_in_between(&rt, &mut zero, &mut one, &mut two);
+        let (table, zero, one, two) = table_and_three(rt.alloc(), nr, "0-2", [0, 1, 2])?;
+        let mut cpus = Three::new(&table, zero, one, two, rt.alloc());
+        poll_in_between(&rt, &mut cpus);
+        poll_after_the_third(&rt, &mut cpus);
     }
     Ok(())
 }
@@ -84,9 +89,9 @@ fn call_one_that_polls<R: Wait + Threads + Sync>(
 
 #[test]
 fn a_cpu_that_polls_is_not_named(rt: HostRuntime) -> Result<(), Fail> {
-    let (table, mut boot) = CallTable::new(rt.alloc(), 2, "0-1".parse()?)?;
-    let mut zero = Driver::new(&table, boot.cpu(0)?, rt.alloc());
-    let one = Driver::new(&table, boot.cpu(1)?, rt.alloc());
+    let (table, zero, one) = table_and_two(rt.alloc(), 2, "0-1")?;
+    let mut zero = Driver::new(&table, zero, rt.alloc());
+    let one = Driver::new(&table, one, rt.alloc());
     assert_eq!(rt; call_one_that_polls(&rt, &mut zero, one), come_to("1", ""));
     Ok(())
 }
