@@ -424,6 +424,24 @@ fn note_asked(asked: &AtomicU64, base: u64, cpu: u32) {
     asked.store(after, Ordering::SeqCst);
 }
 
+/// Calls function 1 on CPUs of the mask, where those of the other mask are wanted: who was called, and who was asked, as
+/// the digits of a number to this base that begins with 9.
+fn call_wanted<R: Wait>(
+    rt: &R,
+    driver: &mut Driver,
+    mask: CpuMask,
+    wanted: CpuMask,
+    base: u64,
+) -> (CpuMask, u64) {
+    let asked = AtomicU64::new(9);
+    let cond = |cpu: u32, _: u64| {
+        note_asked(&asked, base, cpu);
+        wanted.contains(cpu)
+    };
+    let called = driver.each(rt, mask, 1, &cond, false);
+    (called, asked.load(Ordering::SeqCst))
+}
+
 #[test]
 fn the_condition_is_asked_of_the_others_and_then_of_this_cpu(rt: HostRuntime) -> Result<(), Fail> {
     let all: CpuMask = "0-7".parse()?;
@@ -435,14 +453,9 @@ fn the_condition_is_asked_of_the_others_and_then_of_this_cpu(rt: HostRuntime) ->
 }
 
 fn asks_of_eight<R: Wait + Abort>(rt: &R, two: &mut Driver, all: CpuMask, even: CpuMask) {
-    // The CPUs asked, as the digits of a number that begins with 9.
-    let asked = AtomicU64::new(9);
-    let cond = |cpu: u32, _: u64| {
-        note_asked(&asked, 10, cpu);
-        cpu % 2 == 0
-    };
-    assert!(rt; two.each(rt, all, 1, &cond, false) == even);
-    assert_eq!(rt; asked.load(Ordering::SeqCst), 901_345_672);
+    let (called, asked) = call_wanted(rt, two, all, even, 10);
+    assert!(rt; called == even);
+    assert_eq!(rt; asked, 901_345_672);
     let calls = (two.times(2, 1), two.tally(4), two.tally(5));
     assert_eq!(rt; calls, (1, (1, 0), (0, 0)));
 }

@@ -14,17 +14,9 @@ fn the_condition_is_asked_of_cpus_of_the_mask_that_are_online(rt: HostRuntime) -
 }
 
 fn asks_of_three<R: Wait + Abort>(rt: &R, zero: &mut Driver, mask: CpuMask, called: CpuMask) {
-    // The CPUs asked, as the digits of a number that begins with 9.
-    let asked = AtomicU64::new(9);
-    let cond = |cpu: u32, _: u64| {
-        note_asked(&asked, 10, cpu);
-        true
-    };
-    assert!(rt; zero.each(rt, mask, 1, &cond, false) == called);
-    assert_eq!(rt;
-        (asked.load(Ordering::SeqCst), zero.times(0, 1)),
-        (9_135, 0)
-    );
+    let (answer, asked) = call_wanted(rt, zero, mask, mask, 10);
+    assert!(rt; answer == called);
+    assert_eq!(rt; (asked, zero.times(0, 1)), (9_135, 0));
 }
 
 /// Handles the calls of a CPU, and notes how often it has heard function 1 from CPU 0.

@@ -108,7 +108,7 @@ fn calls_the_last<R: Wait + Abort>(
 
 /// The number where the others are asked in order, and then this CPU.
 fn asked_last(all: CpuMask, this: u32) -> u64 {
-    let asked = AtomicU64::new(1);
+    let asked = AtomicU64::new(9);
     for cpu in all.without(this).iter() {
         note_asked(&asked, 33, cpu);
     }
@@ -129,13 +129,9 @@ fn the_condition_is_asked_of_thirty_one_others_and_then_of_this_cpu(
 }
 
 fn asks_of_thirty_two<R: Wait + Abort>(rt: &R, twenty: &mut Driver, all: CpuMask, fourth: CpuMask) {
-    let asked = AtomicU64::new(1);
-    let cond = |cpu: u32, _: u64| {
-        note_asked(&asked, 33, cpu);
-        cpu % 4 == 0
-    };
-    assert!(rt; twenty.each(rt, all, 1, &cond, false) == fourth);
-    assert_eq!(rt; asked.load(Ordering::SeqCst), asked_last(all, 20));
+    let (called, asked) = call_wanted(rt, twenty, all, fourth, 33);
+    assert!(rt; called == fourth);
+    assert_eq!(rt; asked, asked_last(all, 20));
     let tallies = (twenty.tally(4), twenty.tally(28), twenty.tally(31));
     assert_eq!(rt;
         (twenty.times(20, 1), tallies),
