@@ -1,14 +1,7 @@
 -- Fields, read from left to right up to the first at fault.
-use Rattle.std.proofs.Common.{◌≡◌, ℕ, ◌+◌, ◌<◌, ◌≤◌, true, false, nat_le, List, length, Some, Result, Ok, Err, refl, sym, ◌∙◌, inl, inr, arith}
-use Rattle.std.specs.Prelude.{slice_get}
-use Rattle.std.proofs.lemmas.Bool.{cases_lt, cases_Bool}
-use Rattle.std.proofs.lemmas.Bool.Decides.{nat_tests}
-use Rattle.smp_mask.specs.declared.error.Cause.{Cause}
-use Rattle.smp_mask.specs.declared.error.Cause.TheVariants.{Number, Range}
-use Rattle.smp_script.specs.Faults.{◌>>=◌}
-use Rattle.smp_script.specs.Numbers.{is_decimal, number_in}
-use Rattle.smp_script.specs.Shapes.{Form, number}
-use Rattle.smp_script.specs.FieldFaults.{FieldFault, NumberFault, field_at, value_of}
+use Rattle.smp_script.proofs.Names.{◌≡◌, ℕ, ◌+◌, ◌<◌, ◌≤◌, true, false, nat_le, List, length, Some, Result, Ok, Err, refl, sym, ◌∙◌, inl, inr, arith, slice_get}
+use Rattle.smp_script.proofs.Names.{cases_lt, cases_Bool, nat_tests, Cause, Number, Range, ◌>>=◌, is_decimal, number_in, Form, number, FieldFault, NumberFault}
+use Rattle.smp_script.proofs.Names.{field_at, value_of}
 
 -- nothing is wrong with the first n fields
 abbrev pub Clean : List Form → List (List ℕ) → ℕ → Type 0

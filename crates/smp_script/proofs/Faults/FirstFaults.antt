@@ -1,28 +1,11 @@
 -- The first fault of a text, line by line.
-use Rattle.std.proofs.Common.{◌≡◌, ℕ, zero, suc, ◌+◌, ◌<◌, ◌≤◌, true, false, nat_lt, List, [], ◌∷◌, ◌++◌, length, drop, get_or, Option, Some, None}
-use Rattle.std.proofs.Common.{Result, Ok}
-use Rattle.std.proofs.Common.{Err, refl, sym, ap, ◌∙◌, inl, inr, arith, subst, add-one}
-use Rattle.std.specs.Prelude.{slice_get}
-use Rattle.std.proofs.lemmas.Bool.{cases_Bool, cases_lt}
-use Rattle.std.proofs.lemmas.Bool.Decides.{nat_tests}
-use Rattle.std.proofs.lemmas.List.Sums.{sum_by_more}
-use Rattle.std.proofs.lemmas.Option.{get_or_from_slice_get, slice_get_within}
-use Rattle.smp_mask.specs.declared.error.Cause.{Cause}
-use Rattle.smp_mask.specs.declared.error.Cause.TheVariants.{TooLong, Cut, SharedKey}
-use Rattle.smp_script.specs.declared.directive.Directive.{Directive}
-use Rattle.smp_script.specs.declared.mode.Mode.{Mode}
-use Rattle.smp_script.specs.declared.setting.Setting.{Setting}
-use Rattle.smp_script.specs.Keys.{shares}
-use Rattle.smp_script.specs.Modes.{setting_of}
-use Rattle.smp_script.specs.Lines.{Line, fields_of, lines_of}
-use Rattle.smp_script.specs.Faults.{Fault, ◌>>=◌, at_line}
-use Rattle.smp_script.specs.Commands.{line_directive}
-use Rattle.smp_script.specs.Script.{Script, directives_of, events_of, first_line, labels_at, line_at, script_of, title_of, whole_cpus}
-use Rattle.smp_labels.specs.Labels.{Labels}
-use Rattle.smp_script.specs.Labels.{is_labels, whole_labels}
-use Rattle.smp_script.specs.Shapes.{requests, shapes_of}
-use Rattle.smp_script.specs.FirstFault.{IsFault, IsFirstFault, LineFault, SharesKey, past_bytes, no_line, in_line, events_in, events_to, limit_in}
-use Rattle.smp_script.specs.FirstFault.{online_in, setting_in}
+use Rattle.smp_script.proofs.Names.{◌≡◌, ℕ, zero, suc, ◌+◌, ◌<◌, ◌≤◌, true, false, nat_lt, List, [], ◌∷◌, ◌++◌, length, drop, get_or, Option, Some, None}
+use Rattle.smp_script.proofs.Names.{Result, Ok, Err, refl, sym, ap, ◌∙◌, inl, inr, arith, subst, add-one, slice_get, cases_Bool, cases_lt, nat_tests}
+use Rattle.smp_script.proofs.Names.{sum_by_more, get_or_from_slice_get, slice_get_within, Cause, TooLong, Cut, SharedKey, Directive, Mode, Setting, shares}
+use Rattle.smp_script.proofs.Names.{setting_of, Line, fields_of, lines_of, Fault, ◌>>=◌, at_line, line_directive, Script, directives_of, events_of, first_line}
+use Rattle.smp_script.proofs.Names.{labels_at, line_at, script_of, title_of, whole_cpus, Labels, is_labels, whole_labels, requests, shapes_of, IsFault}
+use Rattle.smp_script.proofs.Names.{IsFirstFault, LineFault, SharesKey, past_bytes, no_line, in_line, events_in, events_to, limit_in, online_in, setting_in}
+use Rattle.smp_script.proofs.Names.{Version, limit_of}
 use Rattle.smp_script.proofs.Faults.LineShapes.{IsQuiet, TellsLine}
 use Rattle.smp_script.proofs.Rows.Rows.{bind_assoc}
 use Rattle.smp_script.proofs.Faults.RequestLines.{IsSound, Spells, line_told}
@@ -33,8 +16,6 @@ use Rattle.smp_script.proofs.Faults.OnlineFaults.{cpus_told, mask_cpus}
 use Rattle.smp_script.proofs.Faults.LineFaults.{FirstOf, RightLine, end_first, events_first, lines_first, read_first, read_right, right_line, shared_first}
 use Rattle.smp_script.proofs.Spelled.Readings.{after_first, after_labels, after_line, after_second, after_table, after_title, title_ok, whole_mask}
 use Rattle.smp_script.proofs.Reader.Widths.{AreCpus}
-use Rattle.smp_script.specs.declared.version.Version.{Version}
-use Rattle.smp_script.specs.Versions.{limit_of}
 use Rattle.smp_script.proofs.Reader.Versions.{limit_told, limit_within, online_told}
 
 -- no line before line n has a fault

@@ -1,18 +1,8 @@
 -- The labels line, and what is wrong with it.
-use Rattle.std.proofs.Common.{◌≡◌, ℕ, ◌≤◌, true, false, ◌==◌, nat_lt, List, [], ◌∷◌, length, drop, map, Result, Err, codes, refl, sym, ◌∙◌, inl, inr, arith}
-use Rattle.std.proofs.Common.{subst}
-use Rattle.std.specs.Prelude.{find}
-use Rattle.std.specs.List.{list_all}
-use Rattle.std.proofs.lemmas.Bool.{cases_Bool}
-use Rattle.std.proofs.lemmas.Bool.Decides.{nat_tests}
-use Rattle.smp_mask.specs.declared.error.Cause.{Cause}
-use Rattle.smp_mask.specs.declared.error.Cause.TheVariants.{Word, Number, Range}
-use Rattle.smp_labels.specs.declared.words.TheConstants.{MOST_KEYS, MOST_SITES}
-use Rattle.smp_script.specs.Commands.{are_whole, whole_directive}
-use Rattle.smp_script.specs.Labels.{entries_in, entry_of, has_number, is_below, is_item, is_labels, items_of, labels_in, labels_of, whole_labels}
-use Rattle.smp_script.specs.Shapes.{items, labels, requests, has_shape}
-use Rattle.smp_script.specs.declared.setting.Setting.{Setting}
-use Rattle.smp_script.specs.FieldFaults.{ItemsFault, value_of}
+use Rattle.smp_script.proofs.Names.{◌≡◌, ℕ, ◌≤◌, true, false, ◌==◌, nat_lt, List, [], ◌∷◌, length, drop, map, Result, Err, codes, refl, sym, ◌∙◌, inl, inr}
+use Rattle.smp_script.proofs.Names.{arith, subst, find, list_all, cases_Bool, nat_tests, Cause, Word, Number, Range, MOST_KEYS, MOST_SITES, are_whole}
+use Rattle.smp_script.proofs.Names.{whole_directive, entries_in, entry_of, has_number, is_below, is_item, is_labels, items_of, labels_in, labels_of}
+use Rattle.smp_script.proofs.Names.{whole_labels, items, labels, requests, has_shape, Setting, ItemsFault, value_of}
 use Rattle.smp_script.proofs.Faults.FieldFaults.{Judged, fine, faulty, Tells, none_yet, reads_last, reads_number}
 use Rattle.smp_script.proofs.Faults.LineShapes.{IsQuiet, TellsLine, shapeless, shaped, no_whole, passes_word, skips, skips_word}
 use Rattle.smp_script.proofs.Faults.RequestLines.{IsSound, Spells, line_told, no_labels, no_request}

@@ -1,14 +1,8 @@
 -- The faults of one line, by what reading its fields tells.
-use Rattle.std.proofs.Common.{◌≡◌, ℕ, ◌+◌, ◌<◌, ◌≤◌, Bool, true, false, List, [], ◌∷◌, length, Some, Result, Ok, Err, refl, sym, ◌∙◌, inl, inr, arith, subst}
-use Rattle.std.specs.Prelude.{find, slice_get}
-use Rattle.std.proofs.lemmas.Bool.{cases_Bool, cases_lt, and_parts}
-use Rattle.std.proofs.lemmas.Option.{slice_get_within}
-use Rattle.smp_mask.specs.declared.error.Cause.{Cause}
-use Rattle.smp_mask.specs.declared.error.Cause.TheVariants.{TooLong, Cut, Word, SharedKey}
-use Rattle.smp_script.specs.declared.setting.Setting.{Setting}
-use Rattle.smp_script.specs.Lines.{Line, fields_of}
-use Rattle.smp_script.specs.Shapes.{Form, has_shape, has_word, shape_of, shapes_of}
-use Rattle.smp_script.specs.FirstFault.{LineFault, past_lines, unended, no_shape, wrong_field, shared_key, past_events}
+use Rattle.smp_script.proofs.Names.{◌≡◌, ℕ, ◌+◌, ◌<◌, ◌≤◌, Bool, true, false, List, [], ◌∷◌, length, Some, Result, Ok, Err, refl, sym, ◌∙◌, inl, inr, arith}
+use Rattle.smp_script.proofs.Names.{subst, find, slice_get, cases_Bool, cases_lt, and_parts, slice_get_within, Cause, TooLong, Cut, Word, SharedKey, Setting}
+use Rattle.smp_script.proofs.Names.{Line, fields_of, Form, has_shape, has_word, shape_of, shapes_of, LineFault, past_lines, unended, no_shape, wrong_field}
+use Rattle.smp_script.proofs.Names.{shared_key, past_events}
 use Rattle.smp_script.proofs.Faults.FieldFaults.{Clean, FirstWrong}
 use Rattle.smp_script.proofs.Faults.LineShapes.{TellsLine, shapeless, shaped}
 

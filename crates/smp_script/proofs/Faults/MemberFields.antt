@@ -1,12 +1,6 @@
 -- The number of a CPU that is online, and what is wrong with its field.
-use Rattle.std.proofs.Common.{◌≡◌, ℕ, ◌<◌, true, false, List, Err, refl, sym, ◌∙◌, inl, inr, arith}
-use Rattle.std.proofs.lemmas.Bool.{cases_Bool}
-use Rattle.smp_mask.specs.Mask.{has}
-use Rattle.smp_mask.specs.declared.error.Cause.{Cause}
-use Rattle.smp_mask.specs.declared.error.Cause.TheVariants.{Number, Range}
-use Rattle.smp_script.specs.FieldFaults.{MemberFault, NumberFault, value_of}
-use Rattle.smp_script.specs.Numbers.{is_decimal, number_in}
-use Rattle.smp_script.specs.Requests.{member_of}
+use Rattle.smp_script.proofs.Names.{◌≡◌, ℕ, ◌<◌, true, false, List, Err, refl, sym, ◌∙◌, inl, inr, arith, cases_Bool, has, Cause, Number, Range, MemberFault}
+use Rattle.smp_script.proofs.Names.{NumberFault, value_of, is_decimal, number_in, member_of}
 use Rattle.smp_script.proofs.Faults.FieldFaults.{Judged, fine, faulty, is_read, is_wrong, number_read}
 use Rattle.smp_script.proofs.Reader.Widths.{AreCpus}
 

@@ -1,19 +1,9 @@
 -- A text has one first fault at most.
-use Rattle.std.proofs.Common.{◌≡◌, ℕ, true, List, Result, Ok, Err, refl, arith}
-use Rattle.std.specs.Prelude.{is_ok}
-use Rattle.std.proofs.lemmas.Bool.{cases_order}
-use Rattle.std.proofs.lemmas.Option.{slice_get_within}
-use Rattle.smp_mask.specs.declared.error.Cause.{Cause}
-use Rattle.smp_mask.specs.declared.error.Cause.TheVariants.{Number, Range, Mask}
-use Rattle.smp_script.specs.Lines.{Line, lines_of}
-use Rattle.smp_script.specs.Faults.{Fault}
-use Rattle.smp_script.specs.Script.{Script, script_of}
-use Rattle.smp_script.specs.Shapes.{Form, word, words, number, signed, cpu_list, active, online, member, items}
-use Rattle.smp_script.specs.FieldFaults.{field_at, value_of, ActiveFault, FieldFault, ItemsFault, MaskFault, MemberFault, NumberFault, OnlineFault, SignedFault}
-use Rattle.smp_script.specs.FirstFault.{LineFault, past_lines, unended, no_shape, wrong_field, shared_key, past_events, IsFault, IsFirstFault}
-use Rattle.smp_script.specs.FirstFault.{past_bytes, no_line, in_line, setting_in}
-use Rattle.smp_script.specs.declared.mode.Mode.{Mode}
-use Rattle.smp_script.specs.declared.setting.Setting.{Setting}
+use Rattle.smp_script.proofs.Names.{◌≡◌, ℕ, true, List, Result, Ok, Err, refl, arith, is_ok, cases_order, slice_get_within, Cause, Number, Range, Mask, Line}
+use Rattle.smp_script.proofs.Names.{lines_of, Fault, Script, script_of, Form, word, words, number, signed, cpu_list, active, online, member, items, field_at}
+use Rattle.smp_script.proofs.Names.{value_of, ActiveFault, FieldFault, ItemsFault, MaskFault, MemberFault, NumberFault, OnlineFault, SignedFault, LineFault}
+use Rattle.smp_script.proofs.Names.{past_lines, unended, no_shape, wrong_field, shared_key, past_events, IsFault, IsFirstFault, past_bytes, no_line, in_line}
+use Rattle.smp_script.proofs.Names.{setting_in, Mode, Setting}
 use Rattle.smp_script.proofs.Faults.LineFaults.{place_within}
 use Rattle.smp_script.proofs.Faults.FirstFaults.{TellsText, script_tells}
 

@@ -1,22 +1,8 @@
 -- The mask of the CPUs online, and what is wrong with its field.
-use Rattle.std.proofs.Common.{◌≡◌, ℕ, ◌≤◌, true, false, ◌==◌, nat_lt, List, [], ◌∷◌, length, drop, Result, Ok, Err, codes, refl, sym, ◌∙◌, inl, inr}
-use Rattle.std.proofs.Common.{arith}
-use Rattle.std.proofs.Common.{subst}
-use Rattle.std.specs.Str.{bytes_eq}
-use Rattle.std.proofs.lemmas.Bool.{cases_Bool, cases_lt, and_parts}
-use Rattle.std.proofs.lemmas.Bool.Decides.{nat_tests}
-use Rattle.smp_mask.specs.CpuList.{IsMaskOf}
-use Rattle.smp_mask.specs.Mask.{has, members}
-use Rattle.smp_mask.specs.declared.error.Cause.{Cause}
-use Rattle.smp_mask.specs.declared.error.Cause.TheVariants.{Mask, Range}
-use Rattle.smp_mask.specs.declared.mask.TheConstants.{NR_CPUS}
-use Rattle.smp_mask.proofs.Members.{item_member, none_below}
-use Rattle.smp_mask.proofs.Sets.{has_none}
-use Rattle.smp_script.specs.Fields.{mask_of}
-use Rattle.smp_script.specs.Commands.{are_whole}
-use Rattle.smp_script.specs.Script.{are_online, cpus_of, table_of, whole_cpus}
-use Rattle.smp_script.specs.Shapes.{online, cpus, has_shape}
-use Rattle.smp_script.specs.FieldFaults.{IsOutside, OnlineFault, value_of}
+use Rattle.smp_script.proofs.Names.{◌≡◌, ℕ, ◌≤◌, true, false, ◌==◌, nat_lt, List, [], ◌∷◌, length, drop, Result, Ok, Err, codes, refl, sym, ◌∙◌, inl, inr}
+use Rattle.smp_script.proofs.Names.{arith, subst, bytes_eq, cases_Bool, cases_lt, and_parts, nat_tests, IsMaskOf, has, members, Cause, Mask, Range, NR_CPUS}
+use Rattle.smp_script.proofs.Names.{item_member, none_below, has_none, mask_of, are_whole, are_online, cpus_of, table_of, whole_cpus, online, cpus, has_shape}
+use Rattle.smp_script.proofs.Names.{IsOutside, OnlineFault, value_of}
 use Rattle.smp_script.proofs.Faults.FieldFaults.{Tells, none_yet, passes, reads_number}
 use Rattle.smp_script.proofs.Faults.LineShapes.{IsQuiet, TellsLine, shapeless, shaped, no_whole, passes_word, skips_word}
 use Rattle.smp_script.proofs.Reader.Widths.{AreCpus, mask_below, one_above, one_mask, some_fails, wider}

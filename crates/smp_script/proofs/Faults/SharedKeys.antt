@@ -1,15 +1,9 @@
 -- Keys that lines of two CPUs have: in a text, and among what was read.
-use Rattle.std.proofs.Common.{◌≡◌, ◌≢◌, ℕ, zero, suc, ◌+◌, ◌<◌, Bool, true, false, not, ◌||◌, ◌==◌, List, [], ◌∷◌, ◌++◌, take, get_or, Option, Some, None}
-use Rattle.std.proofs.Common.{refl, sym, ap, ◌∙◌, inl, inr, arith, subst}
-use Rattle.std.specs.Prelude.{slice_get}
-use Rattle.std.specs.List.{list_any}
-use Rattle.std.proofs.lemmas.Bool.{cases_Bool, and_parts, eqb-true, eq-eqb, ne_eqb}
-use Rattle.std.proofs.lemmas.List.Folds.{list_any-append, list_any_more}
-use Rattle.std.proofs.lemmas.Option.{get_or_from_slice_get, slice_get_within}
-use Rattle.smp_script.specs.declared.directive.Directive.{Directive}
-use Rattle.smp_script.specs.FirstFault.{SharesKey, key_in}
-use Rattle.smp_script.specs.Keys.{KeyUse, is_shared, key_of, shares}
-use Rattle.smp_script.specs.Lines.{Line, fields_of, lines_of}
+use Rattle.smp_script.proofs.Names.{◌≡◌, ◌≢◌, ℕ, zero, suc, ◌+◌, ◌<◌, Bool, true, false, not, ◌||◌, ◌==◌, List, [], ◌∷◌, ◌++◌, take, get_or, Option, Some, None}
+use Rattle.smp_script.proofs.Names.{refl, sym, ap, ◌∙◌, inl, inr, arith, subst, slice_get, list_any, cases_Bool, and_parts, eqb-true, eq-eqb, list_any-append}
+use Rattle.smp_script.proofs.Names.{list_any_more, get_or_from_slice_get, slice_get_within, Directive, SharesKey, key_in, KeyUse, is_shared, key_of, shares}
+use Rattle.smp_script.proofs.Names.{Line, fields_of, lines_of}
+use Rattle.std.proofs.lemmas.Bool.{ne_eqb}
 
 -- the line has that key, for another CPU
 abbrev pub has_shared : Option KeyUse → Line → Bool

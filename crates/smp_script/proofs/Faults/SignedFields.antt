@@ -1,11 +1,7 @@
 -- Numbers that may have a minus sign, and what is wrong with their fields.
-use Rattle.std.proofs.Common.{◌≡◌, ℕ, zero, suc, pos, negsuc, true, false, ◌==◌, nat_lt, nat_le, List, [], ◌∷◌, Ok, Err, refl, sym, ◌∙◌, inl, inr, arith}
-use Rattle.std.proofs.lemmas.Bool.{cases_Bool}
-use Rattle.std.proofs.lemmas.Bool.Decides.{nat_tests}
-use Rattle.smp_mask.specs.declared.error.Cause.{Cause}
-use Rattle.smp_mask.specs.declared.error.Cause.TheVariants.{Number, Range}
-use Rattle.smp_script.specs.Numbers.{is_decimal, minus, negative_of, number_in, signed_of}
-use Rattle.smp_script.specs.FieldFaults.{SignedFault, is_far, is_signed, value_of}
+use Rattle.smp_script.proofs.Names.{◌≡◌, ℕ, zero, suc, pos, negsuc, true, false, ◌==◌, nat_lt, nat_le, List, [], ◌∷◌, Ok, Err, refl, sym, ◌∙◌, inl, inr, arith}
+use Rattle.smp_script.proofs.Names.{cases_Bool, nat_tests, Cause, Number, Range, is_decimal, minus, negative_of, number_in, signed_of, SignedFault, is_far}
+use Rattle.smp_script.proofs.Names.{is_signed, value_of}
 use Rattle.smp_script.proofs.Faults.FieldFaults.{Judged, fine, faulty}
 
 right_signed : (text : List ℕ) → is_signed text ≡ true → is_far text ≡ false → (cause : Cause) → SignedFault text cause → ⊥

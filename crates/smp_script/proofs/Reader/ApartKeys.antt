@@ -1,9 +1,6 @@
 -- Lines that have no key which another line has for another CPU.
-use Rattle.std.proofs.Common.{◌≡◌, Bool, true, false, ◌||◌, List, [], ◌∷◌, ◌++◌, refl, sym, ◌∙◌}
-use Rattle.std.specs.List.{AllByRecursion}
-use Rattle.std.proofs.lemmas.List.Folds.{list_any-append}
-use Rattle.smp_script.specs.declared.directive.Directive.{Directive}
-use Rattle.smp_script.specs.Keys.{is_shared, key_of, shares}
+use Rattle.smp_script.proofs.Names.{◌≡◌, Bool, true, false, ◌||◌, List, [], ◌∷◌, ◌++◌, refl, sym, ◌∙◌, AllByRecursion, list_any-append, Directive, is_shared}
+use Rattle.smp_script.proofs.Names.{key_of, shares}
 
 neither : (a b : Bool) → (a || (b || false)) ≡ false → (a ≡ false) × (b ≡ false)
 neither false false h = (refl, refl)

@@ -1,18 +1,8 @@
 -- The lines of a script, one by one.
-use Rattle.std.proofs.Common.{◌≡◌, ℕ, ◌+◌, ◌≤◌, ◌<◌, List, [], ◌∷◌, ◌++◌, Result, Ok, Err, true, false, refl, sym, ap, ◌∙◌, arith, append_assoc}
-use Rattle.std.proofs.Common.{append-nil, sum_by}
-use Rattle.std.proofs.lemmas.List.Sums.{sum_by-append}
-use Rattle.std.proofs.lemmas.Bool.Decides.{nat_tests}
-use Rattle.smp_mask.specs.declared.error.Cause.TheVariants.{TooLong, Cut, SharedKey}
-use Rattle.smp_mask.specs.declared.error.SmpError.{SmpError}
+use Rattle.smp_script.proofs.Names.{◌≡◌, ℕ, ◌+◌, ◌≤◌, ◌<◌, List, [], ◌∷◌, ◌++◌, Result, Ok, Err, true, false, refl, sym, ap, ◌∙◌, arith, append_assoc}
+use Rattle.smp_script.proofs.Names.{append-nil, sum_by, sum_by-append, nat_tests, TooLong, Cut, SharedKey, SmpError, Directive, Setting, shares, Line, Fault}
+use Rattle.smp_script.proofs.Names.{◌>>=◌, at_line, Fails, line_directive, events_of, directives_of}
 use Rattle.smp_mask.specs.declared.error.SmpError.TheVariants as errors
-use Rattle.smp_script.specs.declared.directive.Directive.{Directive}
-use Rattle.smp_script.specs.declared.setting.Setting.{Setting}
-use Rattle.smp_script.specs.Keys.{shares}
-use Rattle.smp_script.specs.Lines.{Line}
-use Rattle.smp_script.specs.Faults.{Fault, ◌>>=◌, at_line, Fails}
-use Rattle.smp_script.specs.Commands.{line_directive}
-use Rattle.smp_script.specs.Script.{events_of, directives_of}
 
 -- the directives in front, and then what is read
 abbrev pub with_front : List Directive → Result (List Directive) Fault → Result (List Directive) Fault

@@ -1,16 +1,8 @@
 -- The items of a labels line.
-use Rattle.std.proofs.Common.{◌≡◌, ℕ, ◌<◌, ◌≤◌, Bool, true, false, arith, rules, All, ◌&&◌, List, [], ◌∷◌, map, Option, Some, None, Ok, Err}
-use Rattle.std.proofs.Common.{length, codes, refl, sym, ap, ◌∙◌}
-use Rattle.std.specs.List.{join_with_byte, list_all}
-use Rattle.std.specs.Str.{bytes_eq}
-use Rattle.std.proofs.lemmas.List.{length-map}
-use Rattle.std.proofs.lemmas.Bool.{and_parts}
-use Rattle.std.proofs.lemmas.Bool.Decides.{nat_tests}
-use Rattle.smp_labels.specs.Labels.{AreLabels}
-use Rattle.smp_labels.specs.declared.words.TheConstants.{MOST_KEYS, MOST_SITES}
-use Rattle.smp_mask.specs.declared.error.Cause.TheVariants.{Range}
-use Rattle.smp_script.specs.Lines.{parts_of}
-use Rattle.smp_script.specs.Labels.{Item, entries_in, entry_in, has_number, entry_of, is_among, is_below, item_in, item_of}
+use Rattle.smp_script.proofs.Names.{◌≡◌, ℕ, ◌<◌, ◌≤◌, Bool, true, false, arith, rules, ◌&&◌, List, [], ◌∷◌, map, Option, Some, None, Ok, Err, length, codes}
+use Rattle.smp_script.proofs.Names.{refl, sym, ap, ◌∙◌, join_with_byte, list_all, bytes_eq, length-map, and_parts, nat_tests, AreLabels, MOST_KEYS, MOST_SITES}
+use Rattle.smp_script.proofs.Names.{Range, parts_of, Item, entries_in, entry_in, has_number, entry_of, is_among, is_below, item_in, item_of}
+use Rattle.std.proofs.Common.{All}
 use Rattle.smp_script.proofs.Texts.Splits.{first_of, join_parts}
 
 pub all_map : {X Y : Type 0} (p : Y → Bool) (f : X → Y) (xs : List X) → list_all p (map f xs) ≡ list_all (λ x. p (f x)) xs

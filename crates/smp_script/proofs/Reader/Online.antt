@@ -1,11 +1,6 @@
 -- Which CPUs are online.
-use Rattle.std.proofs.Common.{◌≡◌, ℕ, ◌<◌, ◌≤◌, ◌^◌, length, true, arith, get_or}
-use Rattle.smp_mask.specs.Mask.{members}
-use Rattle.smp_mask.specs.declared.mask.TheConstants.{NR_CPUS}
-use Rattle.smp_mask.proofs.Members.{item_member}
-use Rattle.smp_mask.proofs.Sets.{member_below as is_cpu}
+use Rattle.smp_script.proofs.Names.{◌≡◌, ℕ, ◌<◌, ◌≤◌, ◌^◌, length, true, arith, get_or, members, NR_CPUS, item_member, is_cpu, stays_below}
 use Rattle.smp_words.specs.Limits.{AreLimits}
-use Rattle.smp_script.specs.Fields.{stays_below}
 use Rattle.smp_script.proofs.Reader.Widths.{member_below}
 
 -- some CPU online and none from nr on are a core's limits

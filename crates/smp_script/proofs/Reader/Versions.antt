@@ -1,15 +1,6 @@
 -- How many CPUs the versions may speak of.
-use Rattle.std.proofs.Common.{◌≡◌, ℕ, ◌≤◌, List, ◌∷◌, [], drop, Ok, codes, refl, ap, arith}
-use Rattle.smp_mask.specs.declared.mask.TheConstants.{NR_CPUS}
-use Rattle.smp_script.specs.declared.version.Version.{Version}
-use Rattle.smp_script.specs.declared.version.Version.TheVariants.{One, Two}
-use Rattle.smp_script.specs.Lines.{Line, fields_of, lines_of}
-use Rattle.smp_script.specs.Versions.{limit_of, version_text}
-use Rattle.smp_script.specs.declared.mode.Mode.{Mode}
-use Rattle.smp_script.specs.Fields.{mask_of}
-use Rattle.smp_script.specs.FieldFaults.{field_at}
-use Rattle.smp_script.specs.FirstFault.{limit_in, online_in, online_word}
-use Rattle.smp_script.specs.Modes.{mode_text}
+use Rattle.smp_script.proofs.Names.{◌≡◌, ℕ, ◌≤◌, List, ◌∷◌, [], drop, Ok, codes, refl, ap, arith, NR_CPUS, Version, One, Two, Line, fields_of, lines_of}
+use Rattle.smp_script.proofs.Names.{limit_of, version_text, Mode, mask_of, field_at, limit_in, online_in, online_word, mode_text}
 
 -- no more than there can be
 pub limit_within : (version : Version) → limit_of version ≤ NR_CPUS

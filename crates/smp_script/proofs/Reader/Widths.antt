@@ -1,18 +1,9 @@
 -- CPU lists by how wide they are: a list of CPUs below a limit is a wider list whose mask stays below it.
-use Rattle.std.proofs.Common.{◌≡◌, ℕ, zero, suc, ◌<◌, ◌≤◌, Bool, true, false, ◌&&◌, nat_lt, nat_le, List, [], ◌∷◌, ◌++◌, length, get_or, Ok, refl, sym, ap, ◌∙◌}
-use Rattle.std.proofs.Common.{inl, inr, arith, subst}
-use Rattle.std.specs.List.{list_all}
-use Rattle.std.proofs.lemmas.Bool.{cases_Bool, cases_lt, and_parts, or_cases, or_right}
-use Rattle.std.proofs.lemmas.Bool.Decides.{nat_tests}
-use Rattle.smp_mask.specs.CpuList.{AreItems, IsListOf, IsMaskOf, highest, is_within, lowest, names}
-use Rattle.smp_mask.specs.Mask.{has, members_below}
-use Rattle.smp_mask.specs.Reading.{mask_of_text}
-use Rattle.smp_mask.specs.declared.mask.TheConstants.{NR_CPUS}
+use Rattle.smp_script.proofs.Names.{◌≡◌, ℕ, zero, suc, ◌<◌, ◌≤◌, Bool, true, false, ◌&&◌, nat_lt, nat_le, List, [], ◌∷◌, ◌++◌, length, get_or, Ok, refl, sym}
+use Rattle.smp_script.proofs.Names.{ap, ◌∙◌, inl, inr, arith, subst, list_all, cases_Bool, cases_lt, and_parts, or_cases, or_right, nat_tests, AreItems}
+use Rattle.smp_script.proofs.Names.{IsListOf, IsMaskOf, highest, is_within, lowest, names, has, members_below, mask_of_text, NR_CPUS, item_member, same_members}
+use Rattle.smp_script.proofs.Names.{accepted, stays_below}
 use Rattle.smp_mask.proofs.Accepts.{reads_list, with_items}
-use Rattle.smp_mask.proofs.Members.{item_member}
-use Rattle.smp_mask.proofs.Sets.{same_members}
-use Rattle.smp_mask.proofs.Walks.{accepted}
-use Rattle.smp_script.specs.Fields.{stays_below}
 
 -- all members are CPUs
 abbrev pub AreCpus : ℕ → Type 0

@@ -1,21 +1,8 @@
 -- A field of a form: what it says, how it is read, and what is wrong with it.
-use Rattle.std.proofs.Common.{◌≡◌, ℕ, zero, suc, ℤ, pos, negsuc, cond, ◌<◌, ◌≤◌, ◌^◌, ◌==◌, true, List, [], ◌∷◌, Option, Some, None}
-use Rattle.std.proofs.Common.{Result, Ok, Err, codes, refl, sym}
-use Rattle.std.proofs.Common.{inl, inr, arith, subst}
-use Rattle.std.specs.Fmt.{decimal, signed_decimal}
-use Rattle.std.specs.Str.{bytes_eq}
-use Rattle.std.proofs.lemmas.Bool.{cases_Bool, or_cases}
-use Rattle.std.proofs.lemmas.Bool.Decides.{nat_tests}
-use Rattle.smp_mask.specs.Mask.{has}
-use Rattle.smp_mask.specs.declared.error.Cause.{Cause}
-use Rattle.smp_mask.specs.declared.error.Cause.TheVariants.{Word, Range}
-use Rattle.smp_mask.specs.declared.mask.TheConstants.{NR_CPUS}
-use Rattle.smp_script.specs.Fields.{mask_of, word32}
-use Rattle.smp_script.specs.FieldFaults.{FieldFault, field_at}
-use Rattle.smp_script.specs.Numbers.{number_in, minus, signed_of}
-use Rattle.smp_script.specs.Requests.{active_of, member_of}
-use Rattle.smp_script.specs.Shapes.{Form, word, words, number, signed, cpu_list, active, online, member, items, has_word, is_one_of}
-use Rattle.smp_script.specs.Spelling.{IsAnswer}
+use Rattle.smp_script.proofs.Names.{◌≡◌, ℕ, zero, suc, ℤ, pos, negsuc, cond, ◌<◌, ◌≤◌, ◌^◌, ◌==◌, true, List, [], ◌∷◌, Option, Some, None, Result, Ok, Err}
+use Rattle.smp_script.proofs.Names.{codes, refl, sym, inl, inr, arith, subst, decimal, signed_decimal, bytes_eq, cases_Bool, or_cases, nat_tests, has, Cause}
+use Rattle.smp_script.proofs.Names.{Word, Range, NR_CPUS, mask_of, word32, FieldFault, field_at, number_in, minus, signed_of, active_of, member_of, Form, word}
+use Rattle.smp_script.proofs.Names.{words, number, signed, cpu_list, active, online, member, items, has_word, is_one_of, IsAnswer}
 use Rattle.smp_script.proofs.Faults.FieldFaults.{Judged, fine, number_judged}
 use Rattle.smp_script.proofs.Faults.MaskFields.{active_judged, mask_judged}
 use Rattle.smp_script.proofs.Faults.MemberFields.{member_judged}

@@ -1,24 +1,10 @@
 -- The rows of a replay: what its lines ask for, by their shapes.
-use Rattle.std.proofs.Common.{◌≡◌, ℕ, ℤ, ◌≤◌, false, List, [], ◌∷◌, Result, codes, refl, arith, inl, inr}
-use Rattle.std.specs.List.{AllByRecursion}
-use Rattle.std.specs.Str.{bytes_eq}
-use Rattle.std.proofs.lemmas.Bool.{cases_Bool}
-use Rattle.smp_mask.specs.declared.error.Cause.{Cause}
-use Rattle.smp_words.specs.declared.call.Class.{Class}
-use Rattle.smp_words.specs.declared.call.Class.TheVariants.{Sync, Async}
+use Rattle.smp_script.proofs.Names.{◌≡◌, ℕ, ℤ, ◌≤◌, false, List, [], ◌∷◌, Result, codes, refl, arith, inl, inr, AllByRecursion, bytes_eq, cases_Bool, Cause}
+use Rattle.smp_script.proofs.Names.{Class, Sync, Async, Post, Send, Done, Handle, Gate, Ungate, Begin, Enter, Advance, RunOne, Finish, Poll, Key, Site, Nudge}
+use Rattle.smp_script.proofs.Names.{Kind, OneKind, Multi, Patch, Directive, Start, Step, Show, begins_of, command_of, posts_of, replay_line, show_of}
+use Rattle.smp_script.proofs.Names.{start_begin, start_of, start_post, steps_of, answered, bare, begin, numbered, nudge, post, show, step, decimal, NR_CPUS}
+use Rattle.smp_script.proofs.Names.{Replay, value_of}
 use Rattle.smp_words.specs.declared.command.Command.{Command}
-use Rattle.smp_words.specs.declared.command.Command.TheVariants.{Post, Send, Done, Handle, Gate, Ungate, Begin, Enter, Advance, RunOne, Finish, Poll, Key, Site}
-use Rattle.smp_words.specs.declared.command.Command.TheVariants.{Nudge}
-use Rattle.smp_words.specs.declared.work.Kind.{Kind}
-use Rattle.smp_words.specs.declared.work.Kind.TheVariants.{One as OneKind, Multi, Patch}
-use Rattle.smp_script.specs.declared.directive.Directive.{Directive}
-use Rattle.smp_script.specs.declared.directive.Directive.TheVariants.{Start, Step, Show}
-use Rattle.smp_script.specs.Commands.{begins_of, command_of, posts_of, replay_line, show_of, start_begin, start_of, start_post, steps_of}
-use Rattle.smp_script.specs.Shapes.{answered, bare, begin, numbered, nudge, post, show, step}
-use Rattle.std.specs.Fmt.{decimal}
-use Rattle.smp_mask.specs.declared.mask.TheConstants.{NR_CPUS}
-use Rattle.smp_script.specs.declared.mode.Mode.TheVariants.{Replay}
-use Rattle.smp_script.specs.FieldFaults.{value_of}
 use Rattle.smp_script.proofs.Rows.Forms.{Known}
 use Rattle.smp_script.proofs.Rows.Words.{AreWords, masked_twice, plain}
 use Rattle.smp_script.proofs.Texts.Decimals.{value_of_decimal}

@@ -1,16 +1,8 @@
 -- Rows: a shape, and what a line of that shape asks for by what its fields say. What holds of each row is shown once, by its forms.
-use Rattle.std.proofs.Common.{◌≡◌, ℕ, zero, suc, ◌==◌, Bool, true, false, not, ◌&&◌, cond, List, [], ◌∷◌, map, length, length-drop, drop, Some, None}
-use Rattle.std.proofs.Common.{Result, Ok, Err, refl, sym, ap, ◌∙◌, inl, inr, arith, subst}
-use Rattle.std.specs.Prelude.{slice_get, slice_index_or, Option}
-use Rattle.std.specs.List.{AllByRecursion}
-use Rattle.std.specs.Str.{bytes_eq}
-use Rattle.std.proofs.lemmas.Bool.{cases_Bool, and_parts}
-use Rattle.smp_mask.specs.declared.error.Cause.{Cause}
-use Rattle.smp_mask.specs.declared.error.Cause.TheVariants.{Word}
-use Rattle.smp_script.specs.Commands.{are_whole}
-use Rattle.smp_script.specs.Faults.{◌>>=◌}
-use Rattle.smp_script.specs.FieldFaults.{FieldFault}
-use Rattle.smp_script.specs.Shapes.{Form, word, words, online, items, has_shape, has_word, is_one_of}
+use Rattle.smp_script.proofs.Names.{◌≡◌, ℕ, zero, suc, ◌==◌, Bool, true, false, not, ◌&&◌, cond, List, [], ◌∷◌, map, length, length-drop, drop, Some, None}
+use Rattle.smp_script.proofs.Names.{Result, Ok, Err, refl, sym, ap, ◌∙◌, inl, inr, arith, subst, slice_get, slice_index_or, Option, AllByRecursion, bytes_eq}
+use Rattle.smp_script.proofs.Names.{cases_Bool, and_parts, Cause, Word, are_whole, ◌>>=◌, FieldFault, Form, word, words, online, items, has_shape, has_word}
+use Rattle.smp_script.proofs.Names.{is_one_of}
 use Rattle.smp_script.proofs.Faults.FieldFaults.{Clean, Judged, Tells, none_yet, reads_field}
 use Rattle.smp_script.proofs.Faults.LineShapes.{TellsLine, shapeless, shaped, skips}
 use Rattle.smp_script.proofs.Rows.Forms.{ForField, Known, Said, Sound, form_judged, form_said, read_form}

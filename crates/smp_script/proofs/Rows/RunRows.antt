@@ -1,28 +1,11 @@
 -- The rows of a run: what its lines ask for, by their shapes.
-use Rattle.std.proofs.Common.{◌≡◌, ℕ, ◌<◌, ◌≤◌, ◌^◌, Bool, true, false, List, [], ◌∷◌, map, Result, Ok, Err, codes, refl, arith, inl, inr}
-use Rattle.std.proofs.Common.{sym, ap, ◌∙◌}
-use Rattle.std.specs.Fmt.{decimal}
-use Rattle.std.specs.List.{AllByRecursion}
-use Rattle.std.specs.Str.{bytes_eq}
-use Rattle.std.proofs.lemmas.Bool.{cases_Bool}
-use Rattle.smp_mask.specs.declared.error.Cause.{Cause}
-use Rattle.smp_mask.specs.declared.error.Cause.TheVariants.{Word}
-use Rattle.smp_mask.specs.declared.mask.TheConstants.{NR_CPUS}
-use Rattle.smp_script.specs.declared.directive.Directive.{Directive}
-use Rattle.smp_script.specs.declared.directive.Directive.TheVariants.{Do}
-use Rattle.smp_script.specs.declared.mode.Mode.TheVariants.{Run}
+use Rattle.smp_script.proofs.Names.{◌≡◌, ℕ, ◌<◌, ◌≤◌, ◌^◌, Bool, true, false, List, [], ◌∷◌, map, Result, Ok, Err, codes, refl, arith, inl, inr, sym, ap, ◌∙◌}
+use Rattle.smp_script.proofs.Names.{decimal, AllByRecursion, bytes_eq, cases_Bool, Cause, Word, NR_CPUS, Directive, Do, Run, Which, All, Even, Odd, run_line}
+use Rattle.smp_script.proofs.Names.{◌>>=◌, value_of, among, do_of, member_of, operation_of, repeated, wait_of, which_of, Form, active, bits, cpu_list, func_arg}
+use Rattle.smp_script.proofs.Names.{func_info, number, operation, operations, is_one_of, switch, wait, which, mask_of, word16, word64, number_in}
 use Rattle.smp_script.specs.declared.request.Request.{Request}
 use Rattle.smp_script.specs.declared.request.Request.TheVariants as request
-use Rattle.smp_script.specs.declared.request.Which.{Which}
-use Rattle.smp_script.specs.declared.request.Which.TheVariants.{All, Even, Odd}
-use Rattle.smp_script.specs.Commands.{run_line}
-use Rattle.smp_script.specs.Faults.{◌>>=◌}
-use Rattle.smp_script.specs.FieldFaults.{value_of}
-use Rattle.smp_script.specs.Requests.{among, do_of, member_of, operation_of, repeated, wait_of, which_of}
-use Rattle.smp_script.specs.Shapes.{Form, active, bits, cpu_list, func_arg, func_info, number, operation, operations, is_one_of, switch, wait, which}
 use Rattle.smp_script.proofs.Reader.Widths.{AreCpus}
-use Rattle.smp_script.specs.Fields.{mask_of, word16, word64}
-use Rattle.smp_script.specs.Numbers.{number_in}
 use Rattle.smp_script.proofs.Rows.Forms.{ForEach, Known, of_one}
 use Rattle.smp_script.proofs.Rows.Rows.{◌⨾◌, IsRow, Makes, Row, are_rows, bind_assoc, by_text, choose, cond_bind, cond_same, read_rows}
 use Rattle.smp_script.proofs.Rows.Words.{AreWords, masked, plain}

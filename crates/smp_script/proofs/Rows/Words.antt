@@ -1,12 +1,6 @@
 -- The fields of a line that is read are its words, as it is written.
-use Rattle.std.proofs.Common.{◌≡◌, ℕ, zero, suc, Bool, true, List, [], ◌∷◌, Some, Ok, subst}
-use Rattle.std.specs.Prelude.{slice_get}
-use Rattle.std.proofs.lemmas.Bool.{and_parts}
-use Rattle.std.specs.List.{list_all}
-use Rattle.smp_script.specs.declared.directive.Directive.{Directive}
-use Rattle.smp_script.specs.declared.mode.Mode.{Mode}
-use Rattle.smp_script.specs.Fields.{mask_of}
-use Rattle.smp_script.specs.Spelling.{DirectiveFits, IsMaskText, Masks, SpellLine, directive_words, is_field}
+use Rattle.smp_script.proofs.Names.{◌≡◌, ℕ, zero, suc, Bool, true, List, [], ◌∷◌, Some, Ok, subst, slice_get, and_parts, list_all, Directive, Mode, mask_of}
+use Rattle.smp_script.proofs.Names.{DirectiveFits, IsMaskText, Masks, SpellLine, directive_words, is_field}
 use Rattle.smp_script.proofs.Faults.LineShapes.{Matches}
 
 -- these fields are the words of a line, with these texts for its masks

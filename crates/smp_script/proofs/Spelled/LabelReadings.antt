@@ -1,24 +1,10 @@
 -- What a labels line is that is read.
-use Rattle.std.proofs.Common.{◌≡◌, ℕ, ◌<◌, ◌≤◌, true, false, nat_lt, nat_le, ◌&&◌, List, [], ◌∷◌, ◌++◌, map, length, Option, Some, None, Result, Ok}
-use Rattle.std.proofs.Common.{codes, refl, sym, ap, ◌∙◌, inl, inr, arith, subst}
-use Rattle.std.specs.Fmt.{decimal}
-use Rattle.std.specs.List.{join_with_byte, list_all}
-use Rattle.std.specs.Str.{bytes_eq}
-use Rattle.std.proofs.lemmas.List.{map-id}
-use Rattle.std.proofs.lemmas.Bool.{cases_Bool, and_parts}
-use Rattle.std.proofs.lemmas.Bool.Decides.{nat_tests}
-use Rattle.smp_mask.specs.declared.error.Cause.TheVariants.{Cut, Word}
-use Rattle.smp_labels.specs.Labels.{AreLabels, Labels}
-use Rattle.smp_labels.specs.declared.words.TheConstants.{MOST_KEYS, MOST_SITES}
-use Rattle.smp_script.specs.Lines.{Line, fields_of, lines_of, parts_of}
-use Rattle.smp_script.specs.Numbers.{is_decimal, number_in, value_after}
-use Rattle.smp_script.specs.Faults.{Fault, ◌>>=◌, at_line}
-use Rattle.smp_script.specs.Commands.{are_whole}
-use Rattle.smp_script.specs.Labels.{entries_in, entry_in, entry_of, is_among, is_below, is_item, is_labels, item_in, items_of, labels_in, labels_of}
-use Rattle.smp_script.specs.Labels.{whole_labels}
-use Rattle.smp_script.specs.Fields.{word32}
-use Rattle.smp_script.specs.Script.{labels_at}
-use Rattle.smp_script.specs.Spelling.{LabelsFit, item_text, items_text, labels_before, line_before}
+use Rattle.smp_script.proofs.Names.{◌≡◌, ℕ, ◌<◌, ◌≤◌, true, false, nat_lt, nat_le, ◌&&◌, List, [], ◌∷◌, ◌++◌, map, length, Option, Some, None, Result, Ok}
+use Rattle.smp_script.proofs.Names.{codes, refl, sym, ap, ◌∙◌, inl, inr, arith, subst, decimal, join_with_byte, list_all, bytes_eq, map-id, cases_Bool}
+use Rattle.smp_script.proofs.Names.{and_parts, nat_tests, Cut, Word, AreLabels, Labels, MOST_KEYS, MOST_SITES, Line, fields_of, lines_of, parts_of, is_decimal}
+use Rattle.smp_script.proofs.Names.{number_in, value_after, Fault, ◌>>=◌, at_line, are_whole, entries_in, entry_in, entry_of, is_among, is_below, is_item}
+use Rattle.smp_script.proofs.Names.{is_labels, item_in, items_of, labels_in, labels_of, whole_labels, word32, labels_at, LabelsFit, item_text, items_text}
+use Rattle.smp_script.proofs.Names.{labels_before, line_before}
 use Rattle.smp_script.proofs.Texts.Decimals.{number_in-ok}
 use Rattle.smp_script.proofs.Spelled.ReadParts.{both, guarded, placed_ok, same_word}
 use Rattle.smp_script.proofs.Reader.Items.{make_labels}

@@ -1,14 +1,7 @@
 -- What a line is that is read.
-use Rattle.std.proofs.Common.{◌≡◌, ℕ, true, false, ◌==◌, List, [], ◌∷◌, length, Ok, refl, sym, ap, ◌∙◌, arith}
-use Rattle.std.specs.List.{join_with_byte, list_all}
-use Rattle.smp_mask.specs.declared.error.Cause.TheVariants.{Word}
-use Rattle.smp_script.specs.declared.directive.Directive.{Directive}
-use Rattle.smp_script.specs.declared.mode.Mode.{Mode}
-use Rattle.smp_script.specs.declared.mode.Mode.TheVariants.{Replay, Run}
-use Rattle.smp_script.specs.declared.setting.Setting.{Setting}
-use Rattle.smp_script.specs.Commands.{are_whole, directive_of, line_directive, mode_line}
-use Rattle.smp_script.specs.Lines.{fields_of}
-use Rattle.smp_script.specs.Spelling.{DirectiveFits, Masks, SpellLine, directive_words, is_field, lacks}
+use Rattle.smp_script.proofs.Names.{◌≡◌, ℕ, true, false, ◌==◌, List, [], ◌∷◌, length, Ok, refl, sym, ap, ◌∙◌, arith, join_with_byte, list_all, Word, Directive}
+use Rattle.smp_script.proofs.Names.{Mode, Replay, Run, Setting, are_whole, directive_of, line_directive, mode_line, fields_of, DirectiveFits, Masks, SpellLine}
+use Rattle.smp_script.proofs.Names.{directive_words, is_field, lacks}
 use Rattle.smp_script.proofs.Spelled.ReadParts.{guarded}
 use Rattle.smp_script.proofs.Rows.ReplayRows.{replay_are, replay_rows, replay_same}
 use Rattle.smp_script.proofs.Rows.Rows.{rows_said}

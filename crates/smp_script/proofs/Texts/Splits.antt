@@ -1,10 +1,6 @@
 -- Fields and lines, put together again.
-use Rattle.std.proofs.Common.{◌≡◌, ℕ, true, false, ◌==◌, List, [], ◌∷◌, ◌++◌, refl, sym, ap, ◌∙◌, inl, inr, arith}
-use Rattle.std.specs.List.{join_with_byte, list_all}
-use Rattle.std.proofs.lemmas.Bool.{cases_Bool}
-use Rattle.std.proofs.lemmas.Bool.Decides.{nat_tests}
-use Rattle.smp_script.specs.Lines.{Line, lines_of, onto_line, parts_of}
-use Rattle.smp_script.specs.Spelling.{lacks}
+use Rattle.smp_script.proofs.Names.{◌≡◌, ℕ, true, false, ◌==◌, List, [], ◌∷◌, ◌++◌, refl, sym, ap, ◌∙◌, inl, inr, arith, join_with_byte, list_all, cases_Bool}
+use Rattle.smp_script.proofs.Names.{nat_tests, Line, lines_of, onto_line, parts_of, lacks}
 
 -- the parts of a text, from the first
 pub record First (mark : ℕ) (bs : List ℕ) : Type 0 where

@@ -1,21 +1,11 @@
 -- The labels line, as it is written.
-use Rattle.std.proofs.Common.{◌≡◌, ℕ, suc, ◌<◌, ◌≤◌, true, false, nat_lt, ◌==◌, List, [], ◌∷◌, map, length, All, Option, Some, None, Ok, codes, refl, sym, ap}
-use Rattle.std.proofs.Common.{◌∙◌, inl, inr, arith}
-use Rattle.std.specs.Fmt.{decimal}
-use Rattle.std.specs.List.{AllByRecursion, join_with_byte, list_all}
-use Rattle.std.specs.Str.{bytes_eq}
-use Rattle.std.proofs.lemmas.List.{length-map, nil_from_length}
-use Rattle.std.proofs.lemmas.Bool.{cases_Bool, and_parts}
-use Rattle.std.proofs.lemmas.Bool.Decides.{nat_tests}
-use Rattle.smp_labels.specs.Labels.{AreLabels, Labels}
+use Rattle.smp_script.proofs.Names.{◌≡◌, ℕ, suc, ◌<◌, ◌≤◌, true, false, nat_lt, ◌==◌, List, [], ◌∷◌, map, length, Option, Some, None, Ok, codes, refl, sym, ap}
+use Rattle.smp_script.proofs.Names.{◌∙◌, inl, inr, arith, decimal, AllByRecursion, join_with_byte, list_all, bytes_eq, length-map, nil_from_length, cases_Bool}
+use Rattle.smp_script.proofs.Names.{and_parts, nat_tests, AreLabels, Labels, MOST_KEYS, MOST_SITES, fields_of, lines_of, is_digit, word32, Item, entry_of}
+use Rattle.smp_script.proofs.Names.{has_number, is_below, is_item, is_labels, item_of, items_of, labels_in, whole_labels, labels_at, is_field, item_text}
+use Rattle.smp_script.proofs.Names.{items_text, labels_before, lacks}
+use Rattle.std.proofs.Common.{All}
 use Rattle.smp_labels.specs.declared.entries.Entry.{Entry}
-use Rattle.smp_labels.specs.declared.words.TheConstants.{MOST_KEYS, MOST_SITES}
-use Rattle.smp_script.specs.Lines.{fields_of, lines_of}
-use Rattle.smp_script.specs.Numbers.{is_digit}
-use Rattle.smp_script.specs.Fields.{word32}
-use Rattle.smp_script.specs.Labels.{Item, entry_of, has_number, is_below, is_item, is_labels, item_of, items_of, labels_in, whole_labels}
-use Rattle.smp_script.specs.Script.{labels_at}
-use Rattle.smp_script.specs.Spelling.{is_field, item_text, items_text, labels_before, lacks}
 use Rattle.smp_script.proofs.Texts.Decimals.{decimal_lacks, is_decimal-decimal, is_field-decimal, number_in-decimal, value_of_decimal}
 use Rattle.smp_script.proofs.Texts.Joins.{fields_join, lacks-append, lines_of-line, parts_front, parts_join, whole_fields}
 use Rattle.smp_script.proofs.Spelled.ReadParts.{same_word}

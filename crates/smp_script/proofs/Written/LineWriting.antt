@@ -1,34 +1,11 @@
 -- The lines of a script that ask for something, as they are written.
-use Rattle.std.proofs.Common.{◌≡◌, ℕ, suc, ℤ, pos, negsuc, ◌<◌, ◌^◌, Bool, true, false, List, [], ◌∷◌, Some}
-use Rattle.std.proofs.Common.{Result, Ok, Err, codes, refl, sym, ap, ◌∙◌, inl, inr, arith}
-use Rattle.std.specs.Fmt.{decimal, signed_decimal}
-use Rattle.std.specs.List.{list_all}
-use Rattle.std.specs.Str.{bytes_eq}
-use Rattle.std.proofs.lemmas.Bool.{cases_Bool, and_parts}
-use Rattle.std.proofs.lemmas.Bool.Decides.{nat_tests}
-use Rattle.smp_mask.specs.Mask.{has}
-use Rattle.smp_mask.specs.Reading.{read_from}
-use Rattle.smp_mask.specs.declared.error.Cause.{Cause}
-use Rattle.smp_mask.specs.declared.error.Cause.TheVariants.{Mask}
-use Rattle.smp_words.specs.declared.call.Class.{Class}
-use Rattle.smp_words.specs.declared.call.Class.TheVariants.{Sync, Async}
-use Rattle.smp_words.specs.declared.command.Command.TheVariants.{Post, Begin}
-use Rattle.smp_words.specs.declared.command.Command.TheVariants.{Nudge}
-use Rattle.smp_words.specs.declared.work.Kind.{Kind}
-use Rattle.smp_words.specs.declared.work.Kind.TheVariants.{One as OneKind, Multi, Patch}
-use Rattle.smp_script.specs.declared.directive.Directive.{Directive}
-use Rattle.smp_script.specs.declared.directive.Directive.TheVariants.{Start, Do}
-use Rattle.smp_script.specs.declared.mode.Mode.{Mode}
-use Rattle.smp_script.specs.declared.mode.Mode.TheVariants.{Replay, Run}
+use Rattle.smp_script.proofs.Names.{◌≡◌, ℕ, suc, ℤ, pos, negsuc, ◌<◌, ◌^◌, Bool, true, false, List, [], ◌∷◌, Some, Result, Ok, Err, codes, refl, sym, ap, ◌∙◌}
+use Rattle.smp_script.proofs.Names.{inl, inr, arith, decimal, signed_decimal, list_all, bytes_eq, cases_Bool, and_parts, nat_tests, has, read_from, Cause, Mask}
+use Rattle.smp_script.proofs.Names.{Class, Sync, Async, Post, Begin, Nudge, Kind, OneKind, Multi, Patch, Directive, Start, Do, Mode, Replay, Run, Which, All}
+use Rattle.smp_script.proofs.Names.{Even, Odd, directive_of, start_begin, start_post, class_of, kind_of, mask_of, way_of, number_in, signed_of, member_of}
+use Rattle.smp_script.proofs.Names.{repeated, switch_of, wait_of, which_of, DirectiveFits, IsAnswer, Masks, SpellLine, class_text, directive_words, is_field}
+use Rattle.smp_script.proofs.Names.{kind_text, lacks, switch_text, wait_text, way_text, which_text}
 use Rattle.smp_script.specs.declared.request.Request.TheVariants as request
-use Rattle.smp_script.specs.declared.request.Which.{Which}
-use Rattle.smp_script.specs.declared.request.Which.TheVariants.{All, Even, Odd}
-use Rattle.smp_script.specs.Commands.{directive_of, start_begin, start_post}
-use Rattle.smp_script.specs.Fields.{class_of, kind_of, mask_of, way_of}
-use Rattle.smp_script.specs.Numbers.{number_in, signed_of}
-use Rattle.smp_script.specs.Requests.{member_of, repeated, switch_of, wait_of, which_of}
-use Rattle.smp_script.specs.Spelling.{DirectiveFits, IsAnswer, Masks, SpellLine, class_text, directive_words, is_field, kind_text, lacks}
-use Rattle.smp_script.specs.Spelling.{switch_text, wait_text, way_text, which_text}
 use Rattle.smp_script.proofs.Spelled.ReadParts.{same_word}
 use Rattle.smp_script.proofs.Texts.Decimals.{decimal_lacks, is_field-decimal, number_in-decimal}
 

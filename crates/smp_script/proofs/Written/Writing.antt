@@ -1,34 +1,15 @@
 -- The lines of a script, as they are written.
-use Rattle.std.proofs.Common.{◌≡◌, ℕ, ◌+◌, ◌<◌, ◌≤◌, true, false, nat_lt, List, [], ◌∷◌, ◌++◌, map, length, sum_by}
-use Rattle.std.proofs.Common.{Option, Some, None, Ok, codes, refl, sym, ap, ◌∙◌, arith, subst}
-use Rattle.std.specs.Fmt.{decimal}
-use Rattle.std.specs.List.{AllByRecursion, join_with_byte, list_all}
-use Rattle.std.proofs.lemmas.Bool.Decides.{nat_tests}
-use Rattle.std.proofs.lemmas.List.Sums.{sum_by-cons}
-use Rattle.smp_mask.specs.declared.mask.TheConstants.{NR_CPUS}
-use Rattle.smp_labels.specs.Labels.{Labels}
-use Rattle.smp_script.specs.declared.directive.Directive.{Directive}
-use Rattle.smp_script.specs.declared.directive.Directive.TheVariants.{Start}
-use Rattle.smp_script.specs.declared.mode.Mode.{Mode}
-use Rattle.smp_script.specs.declared.mode.Mode.TheVariants.{Replay, Run}
-use Rattle.smp_script.specs.declared.setting.Setting.{Setting}
-use Rattle.smp_script.specs.Keys.{AreApart, shares}
-use Rattle.smp_script.specs.Modes.{mode_text, setting_of}
+use Rattle.smp_script.proofs.Names.{◌≡◌, ℕ, ◌+◌, ◌<◌, ◌≤◌, true, false, nat_lt, List, [], ◌∷◌, ◌++◌, map, length, sum_by, Option, Some, None, Ok, codes, refl}
+use Rattle.smp_script.proofs.Names.{sym, ap, ◌∙◌, arith, subst, decimal, AllByRecursion, join_with_byte, list_all, nat_tests, sum_by-cons, NR_CPUS, Labels}
+use Rattle.smp_script.proofs.Names.{Directive, Start, Mode, Replay, Run, Setting, AreApart, shares, mode_text, setting_of, fields_of, lines_of, mask_of}
+use Rattle.smp_script.proofs.Names.{is_labels, line_directive, Script, are_online, directives_of, events_of, first_line, labels_at, script_of, title_of}
+use Rattle.smp_script.proofs.Names.{whole_cpus, DirectiveFits, IsSpelling, LabelsFit, Masks, SpellLine, directive_words, is_field, labels_before, line_before}
+use Rattle.smp_script.proofs.Names.{spelled_lines, Version, One, limit_of, version_text}
 use Rattle.smp_script.proofs.Reader.ApartKeys.{apart_at_first, apart_both}
 use Rattle.smp_script.proofs.Written.LineWriting.{line_written}
-use Rattle.smp_script.specs.Lines.{fields_of, lines_of}
-use Rattle.smp_script.specs.Fields.{mask_of}
-use Rattle.smp_script.specs.Labels.{is_labels}
-use Rattle.smp_script.specs.Commands.{line_directive}
-use Rattle.smp_script.specs.Script.{Script, are_online, directives_of, events_of, first_line, labels_at, script_of, title_of, whole_cpus}
-use Rattle.smp_script.specs.Spelling.{DirectiveFits, IsSpelling, LabelsFit, Masks, SpellLine, directive_words, is_field}
-use Rattle.smp_script.specs.Spelling.{labels_before, line_before, spelled_lines}
 use Rattle.smp_script.proofs.Texts.Decimals.{is_field-decimal, number_in-decimal}
 use Rattle.smp_script.proofs.Written.LabelWriting.{labels_line_read}
 use Rattle.smp_script.proofs.Texts.Joins.{fields_join, lines_of-line, whole_fields}
-use Rattle.smp_script.specs.declared.version.Version.{Version}
-use Rattle.smp_script.specs.declared.version.Version.TheVariants.{One}
-use Rattle.smp_script.specs.Versions.{limit_of, version_text}
 use Rattle.smp_script.proofs.Reader.Versions.{limit_within}
 
 fields_back : (ts : List (List ℕ)) → 0 < length ts → list_all is_field ts ≡ true → fields_of (join_with_byte 32 ts) ≡ ts

@@ -1,5 +1,4 @@
-use Rattle.std.proofs.Common.{◌∙◌, sym, ap}
-use Rattle.smp_script.specs.Labels.{item_in}
+use Rattle.smp_script.proofs.Names.{◌∙◌, sym, ap, item_in}
 use Rattle.smp_script.proofs.Reader.Items.{no_branch}
 use Rattle.smp_script.proofs.labels.split_item.Goals as goal
 

@@ -1,5 +1,4 @@
-use Rattle.std.proofs.Common.{subst}
-use Rattle.smp_script.specs.FirstFault.{setting_in}
+use Rattle.smp_script.proofs.Names.{subst, setting_in}
 use Rattle.smp_script.proofs.Faults.FirstFaults.{TellsText, script_tells}
 use Rattle.smp_script.proofs.Faults.OneFault.{has_none, is_read, is_refused}
 use Rattle.smp_script.proofs.laws.first_faults_are_told.Goals as goal

@@ -1,5 +1,4 @@
-use Rattle.std.proofs.Common.{◌+◌, add-one, arith}
-use Rattle.std.proofs.lemmas.List.{take_rest}
+use Rattle.smp_script.proofs.Names.{◌+◌, add-one, arith, take_rest}
 use Rattle.smp_script.proofs.Texts.Fronts.{parts_none, parts_some}
 use Rattle.smp_script.proofs.line.split_part.Goals as goal
 
