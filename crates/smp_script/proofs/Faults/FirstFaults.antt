@@ -36,15 +36,13 @@ in_that_line setting text n line here m k cause e (in_line n' {line = other} fou
 
 -- the first fault of a line is that of the text where no line before has one
 line_first : (setting : Setting) (text : List ℕ) (n : ℕ) (line : Line) (cause : Cause) → slice_get (lines_of text) n ≡ Some line
-    → NoneBefore setting text (n + 1)
-    → FirstOf setting (n + 1) (events_to text (n + 1)) (SharesKey text n) line cause → IsFirstFault setting text (n + 1) cause
-line_first setting text n line cause here none f =
-    record {
-      rank = f.rank;
-      fault = in_line n here f.fault;
-      before = none;
-      least = λ k other below g. f.least k other below (in_that_line setting text n line here (n + 1) k other refl g);
-    }
+    → NoneBefore setting text (n + 1) → FirstOf setting (n + 1) (events_to text (n + 1)) (SharesKey text n) line cause → IsFirstFault setting text (n + 1) cause
+line_first setting text n line cause here none f = record {
+  rank = f.rank;
+  fault = in_line n here f.fault;
+  before = none;
+  least = λ k other below g. f.least k other below (in_that_line setting text n line here (n + 1) k other refl g);
+}
 
 line_right : (setting : Setting) (text : List ℕ) (n : ℕ) (line : Line) → slice_get (lines_of text) n ≡ Some line → NoneBefore setting text (n + 1)
     → ((k : ℕ) (cause : Cause) → LineFault setting (n + 1) (events_to text (n + 1)) (SharesKey text n) line k cause → ⊥) → NoneBefore setting text (n + 1 + 1)
@@ -55,21 +53,19 @@ line_right setting text n line here none right m k cause below f = elim (cases_l
 
 -- a line that is missing has no fault of rank 0
 none_missing : (setting : Setting) (text : List ℕ) (n : ℕ) → length (lines_of text) ≤ n → (m k : ℕ) (cause : Cause) → m ≡ n + 1 → k < 1
-    → IsFault setting text m k cause
-    → ⊥
+    → IsFault setting text m k cause → ⊥
 none_missing setting text n short m k cause e below (past_bytes f) = omega (arith, e)
 none_missing setting text n short m k cause e below (no_line f few) = omega arith
 none_missing setting text n short m k cause e below (in_line n' {line = other} found f) = omega (arith, e, slice_get_within (lines_of text) n' other found)
 
 missing_first : (setting : Setting) (text : List ℕ) (n : ℕ) → length (lines_of text) ≤ n → n ≤ 1 → NoneBefore setting text (n + 1)
     → IsFirstFault setting text (n + 1) Cut
-missing_first setting text n short few none =
-    record {
-      rank = 1;
-      fault = no_line (omega arith) (omega arith);
-      before = none;
-      least = λ k other below f. none_missing setting text n short (n + 1) k other refl below f;
-    }
+missing_first setting text n short few none = record {
+  rank = 1;
+  fault = no_line (omega arith) (omega arith);
+  before = none;
+  least = λ k other below f. none_missing setting text n short (n + 1) k other refl below f;
+}
 
 -- after the last line there is no fault
 none_after : (setting : Setting) (text : List ℕ) (n : ℕ) → length (lines_of text) ≤ n → 2 ≤ n → (m k : ℕ) (cause : Cause) → n < m
@@ -160,10 +156,8 @@ quiet_line setting text n l b here few ended right s =
 front_tells : {B : Type 0} (setting : Setting) (text : List ℕ) (n : ℕ) (l : Line) (read : Result B Cause) (then : B → Result Script Fault)
     → slice_get (lines_of text) n ≡ Some l → n + 1 ≤ 2000 → l.ended ≡ true → Reached setting text n 0 []
     → TellsLine (shapes_of setting (n + 1)) (fields_of l.text) (λ b. IsQuiet (fields_of l.text)) read
-    → ((b : B) → read ≡ Ok b → Reached setting text (n + 1) 0 [] → TellsText setting text (then b))
-    → TellsText setting text (at_line (n + 1) read >>= then)
-front_tells setting text n l (Err cause) then here few ended s told rest =
-    line_first setting text n l cause here s.clear
+    → ((b : B) → read ≡ Ok b → Reached setting text (n + 1) 0 [] → TellsText setting text (then b)) → TellsText setting text (at_line (n + 1) read >>= then)
+front_tells setting text n l (Err cause) then here few ended s told rest = line_first setting text n l cause here s.clear
     (read_first setting (n + 1) (events_to text (n + 1)) (SharesKey text n) l (λ b. IsQuiet (fields_of l.text)) (Err cause) cause few ended told refl)
 front_tells setting text n l (Ok b) then here few ended s told rest =
     rest b refl (quiet_line setting text n l b here few ended (read_right setting (n + 1) l (λ x. IsQuiet (fields_of l.text)) (Ok b) b told refl) s)
@@ -172,8 +166,7 @@ front_tells setting text n l (Ok b) then here few ended s told rest =
 stands_tells : (setting : Setting) (text : List ℕ) (n : ℕ) (ls : List Line) (then : List ℕ × List Line → Result Script Fault) → drop n (lines_of text) ≡ ls
     → n ≤ 1 → Reached setting text n 0 []
     → ((l : Line) (rest : List Line) → Behind (lines_of text) n l rest → drop n (lines_of text) ≡ l ∷ rest → l.ended ≡ true
-    → TellsText setting text (then (l.text, rest)))
-    → TellsText setting text (line_at (n + 1) ls >>= then)
+    → TellsText setting text (then (l.text, rest))) → TellsText setting text (line_at (n + 1) ls >>= then)
 stands_tells setting text n [] then e few s go = missing_first setting text n (none_behind (lines_of text) n e) few s.clear
 stands_tells setting text n (l ∷ ls) then e few s go =
     let left = behind_of (lines_of text) n l ls e in
@@ -186,8 +179,7 @@ stands_tells setting text n (l ∷ ls) then e few s go =
 -- a line that is read, and then the rest
 read_tells : (setting : Setting) (text : List ℕ) (l : Line) (ls : List Line) (n events : ℕ) (earlier : List Directive) (d : Directive)
     → slice_get (lines_of text) n ≡ Some l → n + 1 ≤ 2000 → l.ended ≡ true → RightLine setting (n + 1) l (Spells setting (fields_of l.text)) d
-    → Reached setting text n events earlier
-    → (Reached setting text (n + 1) (events + events_of d) (earlier ++ d ∷ [])
+    → Reached setting text n events earlier → (Reached setting text (n + 1) (events + events_of d) (earlier ++ d ∷ [])
     → TellsText setting text (directives_of setting (n + 1 + 1) (events + events_of d) (earlier ++ d ∷ []) ls))
     → TellsText setting text (after_line setting (n + 1) events earlier ls d)
 read_tells setting text l ls n events earlier d here few ended right s rest =
@@ -217,13 +209,11 @@ read_tells setting text l ls n events earlier d here few ended right s rest =
 -- one line from the third on, and then the rest
 line_tells : (setting : Setting) → IsSound setting → (text : List ℕ) (l : Line) (ls : List Line) (n events : ℕ) (earlier : List Directive)
     → slice_get (lines_of text) n ≡ Some l → 2 ≤ n → (n ≡ 2 → is_labels (fields_of l.text) ≡ false) → n + 1 ≤ 2000 → l.ended ≡ true
-    → Reached setting text n events earlier
-    → ((d : Directive) → Reached setting text (n + 1) (events + events_of d) (earlier ++ d ∷ [])
+    → Reached setting text n events earlier → ((d : Directive) → Reached setting text (n + 1) (events + events_of d) (earlier ++ d ∷ [])
     → TellsText setting text (directives_of setting (n + 1 + 1) (events + events_of d) (earlier ++ d ∷ []) ls))
     → (r : Result Directive Cause) → line_directive setting l.text ≡ r
     → TellsText setting text (at_line (n + 1) r >>= after_line setting (n + 1) events earlier ls)
-line_tells setting sound text l ls n events earlier here h unlabelled few ended s rest (Err cause) e =
-    line_first setting text n l cause here s.clear
+line_tells setting sound text l ls n events earlier here h unlabelled few ended s rest (Err cause) e = line_first setting text n l cause here s.clear
     (read_first setting (n + 1) (events_to text (n + 1)) (SharesKey text n) l (Spells setting (fields_of l.text)) (line_directive setting l.text) cause
     few ended (line_shapes setting sound n l h unlabelled) e)
 line_tells setting sound text l ls n events earlier here h unlabelled few ended s rest (Ok d) e = search (read_right, line_shapes, read_tells, arith)

@@ -50,8 +50,7 @@ labels_rest setting (k ∷ i ∷ []) whole =
     let some_k : (length k == 0) ≡ false = grind (arith, whole) in
     elim (cases_Bool (list_all is_item (items_of i))) [
       | inl good ↦ shaped labels (labels_in k (items_of i)) (rw (good, some_k) refl) refl (items_told k i good)
-      | inr bad ↦ shapeless
-          (skips (codes "labels" ∷ k ∷ i ∷ []) labels (requests setting) (rw bad refl) ∙ no_labels setting (k ∷ i ∷ []))
+      | inr bad ↦ shapeless (skips (codes "labels" ∷ k ∷ i ∷ []) labels (requests setting) (rw bad refl) ∙ no_labels setting (k ∷ i ∷ []))
           (itemless k (items_of i) bad)
     ]
 labels_rest setting (k ∷ i ∷ x ∷ rest) whole = shapeless (no_labels setting (k ∷ i ∷ x ∷ rest)) refl

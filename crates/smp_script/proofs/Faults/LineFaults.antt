@@ -54,8 +54,7 @@ only_ends setting n events shared line h e k cause below _ = omega arith
 
 -- a line of this shape whose first fields are right
 clean_to : (setting : Setting) (n events : ℕ) (shared : Type 0) (line : Line) (shape : List Form) (i : ℕ) → n ≤ 2000 → line.ended ≡ true
-    → shape_of setting n (fields_of line.text) ≡ Some shape
-    → i ≤ length (fields_of line.text) → Clean shape (fields_of line.text) i
+    → shape_of setting n (fields_of line.text) ≡ Some shape → i ≤ length (fields_of line.text) → Clean shape (fields_of line.text) i
     → NoneBelow setting n events shared line (3 + i)
 clean_to setting n events shared line shape i h e s within clean k cause below (past_lines f) = omega arith
 clean_to setting n events shared line shape i h e s within clean k cause below (unended f) = let bad : true ≡ false = sym e ∙ f in cc
@@ -92,8 +91,7 @@ all_clean setting n events shared line shape h e s clean apart under k cause f =
 
 -- the first fault of a line that is not read
 shape_first : (setting : Setting) (n events : ℕ) (shared : Type 0) (line : Line) (shape : List Form) (cause : Cause) → n ≤ 2000 → line.ended ≡ true
-    → shape_of setting n (fields_of line.text) ≡ Some shape → FirstWrong shape (fields_of line.text) cause
-    → FirstOf setting n events shared line cause
+    → shape_of setting n (fields_of line.text) ≡ Some shape → FirstWrong shape (fields_of line.text) cause → FirstOf setting n events shared line cause
 shape_first setting n events shared line shape cause h e s w =
     let within = place_within setting n (fields_of line.text) shape w.place w.form s w.wants in
     record {
@@ -103,8 +101,7 @@ shape_first setting n events shared line shape cause h e s w =
     }
 
 pub read_first : {B : Type 0} (setting : Setting) (n events : ℕ) (shared : Type 0) (line : Line) (holds : B → Type 0) (read : Result B Cause) (cause : Cause)
-    → n ≤ 2000 → line.ended ≡ true
-    → TellsLine (shapes_of setting n) (fields_of line.text) holds read → read ≡ Err cause
+    → n ≤ 2000 → line.ended ≡ true → TellsLine (shapes_of setting n) (fields_of line.text) holds read → read ≡ Err cause
     → FirstOf setting n events shared line cause
 read_first {B} setting n events shared line holds read cause h e (shapeless s is) bad =
     let same : Word ≡ cause = let t : ◌≡◌ {A = Result B Cause} (Err Word) (Err cause) = sym is ∙ bad in cc in
@@ -142,9 +139,8 @@ shared_first setting n events shared line holds b h e r is =
 
 pub events_first : {B : Type 0} (setting : Setting) (n events : ℕ) (shared : Type 0) (line : Line) (holds : B → Type 0) (b : B) → n ≤ 2000
     → line.ended ≡ true → RightLine setting n line holds b → (shared → ⊥) → 100000 < events → FirstOf setting n events shared line TooLong
-events_first setting n events shared line holds b h e r apart over =
-    record {
-      rank = 4 + length (fields_of line.text);
-      fault = past_events over;
-      least = clean_past setting n events shared line r.shape h e r.has r.clean apart;
-    }
+events_first setting n events shared line holds b h e r apart over = record {
+  rank = 4 + length (fields_of line.text);
+  fault = past_events over;
+  least = clean_past setting n events shared line r.shape h e r.has r.clean apart;
+}

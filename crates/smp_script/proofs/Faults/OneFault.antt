@@ -90,8 +90,7 @@ one_cause setting text n m c d a b e = search (cases_order, fault_cause, arith)
 
 -- a text with a first fault is refused with it
 refused_with : (setting : Setting) (text : List ℕ) (n : ℕ) (cause : Cause) → IsFirstFault setting text n cause → (r : Result Script Fault)
-    → TellsText setting text r
-    → r ≡ Err (n, cause)
+    → TellsText setting text r → r ≡ Err (n, cause)
 refused_with setting text n cause h (Ok script) tells = absurd (tells n h.rank cause h.fault)
 refused_with setting text n cause h (Err fault) tells =
     let line = one_line setting text n fault.0 cause fault.1 h tells in

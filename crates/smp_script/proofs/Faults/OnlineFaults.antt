@@ -87,8 +87,7 @@ cpus_shapes limit (a ∷ nr ∷ mask ∷ []) few whole = elim (cases_Bool (bytes
 cpus_shapes limit _ few whole = shapeless refl refl
 
 -- what reading the second line tells
-pub cpus_told : (limit : ℕ) (fields : List (List ℕ)) → limit ≤ NR_CPUS
-    → TellsLine (cpus limit ∷ []) fields (λ t. IsQuiet fields) (whole_cpus limit fields)
+pub cpus_told : (limit : ℕ) (fields : List (List ℕ)) → limit ≤ NR_CPUS → TellsLine (cpus limit ∷ []) fields (λ t. IsQuiet fields) (whole_cpus limit fields)
 cpus_told limit fields few = elim (cases_Bool (are_whole fields)) [
   | inl whole ↦ rw whole (cpus_shapes limit fields few whole)
   | inr empty ↦ shapeless (rw (no_cpus limit fields empty) refl) (rw empty refl)

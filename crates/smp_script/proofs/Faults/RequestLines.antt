@@ -22,8 +22,7 @@ mode_told : (mode : Mode) (limit mask : ℕ) → limit ≤ NR_CPUS → AreCpus m
     → TellsLine (mode_requests mode limit mask) (a ∷ rest) (AreWords mode limit mask (a ∷ rest)) (mode_line mode limit mask a rest)
 mode_told Replay limit mask few cpus a rest whole =
     rw (replay_same limit a rest) (rows_told (AreWords Replay limit mask) (replay_rows limit) (a ∷ rest) (replay_are limit mask) (replay_known limit few) whole)
-mode_told Run limit mask few cpus a rest whole =
-    rw (run_same limit mask a rest)
+mode_told Run limit mask few cpus a rest whole = rw (run_same limit mask a rest)
     (rows_told (AreWords Run limit mask) (run_rows limit mask) (a ∷ rest) (run_are limit mask) (run_known limit mask few cpus) whole)
 
 has_words : (mode : Mode) (limit mask : ℕ) → list_all has_texts (mode_requests mode limit mask) ≡ true

@@ -28,8 +28,7 @@ is_cut {setting} {n} {events} {front} l ls s e h ended = search (nat_tests, arit
 -- a line that is no directive's
 pub is_bad : {setting : Setting} {n events : ℕ} {front : List Directive} {lines : List Line} {all : Result (List Directive) Fault} (l : Line) (ls : List Line)
     → Stands setting n events front lines all → lines ≡ l ∷ ls → n ≤ 2000 → l.ended ≡ true → (d : SmpError)
-    → Fails d (at_line n (line_directive setting l.text))
-    → Fails d all
+    → Fails d (at_line n (line_directive setting l.text)) → Fails d all
 unfolding directives_of
 is_bad l ls s e h ended errors.NoMemory f = tt
 is_bad {setting} {n} {events} {front} l ls s e h ended (errors.BadScript k cause) f = search (nat_tests, arith)
@@ -63,7 +62,6 @@ unfolding directives_of
 goes_on {setting} {n} {events} {front} l ls s e h ended directive f apart fits = search (nat_tests, front_push, sum_by-append, arith)
 
 pub ends : {setting : Setting} {n events : ℕ} {front : List Directive} {lines : List Line} {all : Result (List Directive) Fault}
-    → Stands setting n events front lines all
-    → lines ≡ [] → all ≡ Ok front
+    → Stands setting n events front lines all → lines ≡ [] → all ≡ Ok front
 unfolding directives_of
 ends {setting} {n} {events} {front} s e = sym s.told ∙ ap (λ x. with_front front (directives_of setting n events front x)) e ∙ ap Ok (append-nil front)

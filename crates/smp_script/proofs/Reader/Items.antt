@@ -40,8 +40,7 @@ many_items f keys xs numbers many = search (all_map, length-map, nat_tests, arit
 
 -- the items of a lawful map
 pub good_items : {X : Type 0} (f : X → List ℕ) (keys : ℕ) (xs : List X) → list_all (λ x. has_number (f x)) xs ≡ true → length xs ≤ MOST_SITES
-    → list_all (λ x. is_below keys (f x)) xs ≡ true
-    → entries_in keys (map f xs) ≡ Ok (record { keys = keys; entries = map entry_of (map f xs) })
+    → list_all (λ x. is_below keys (f x)) xs ≡ true → entries_in keys (map f xs) ≡ Ok (record { keys = keys; entries = map entry_of (map f xs) })
 good_items f keys xs numbers few below = search (all_map, length-map, nat_tests, arith)
 
 -- they make a map

@@ -28,8 +28,7 @@ bare_command = by_text ((codes "handle", Handle) ∷ (codes "gate", Gate) ∷ (c
 
 -- the rows, where CPUs of masks have to be below the limit
 abbrev pub replay_rows : ℕ → List (Row Directive)
-replay_rows limit =
-    record { forms = post; make = λ start cpu name k dst class func info tries. Start cpu (Post k dst (class_in class) func info tries) }
+replay_rows limit = record { forms = post; make = λ start cpu name k dst class func info tries. Start cpu (Post k dst (class_in class) func info tries) }
     ∷ record {
       forms = begin limit;
       make = λ start cpu name kind mask active func arg.
@@ -101,8 +100,7 @@ step_counts n few = value_of_decimal n (omega arith)
 
 -- what the rows make are such lines
 pub replay_are : (limit mask : ℕ) → AllByRecursion (IsRow (AreWords Replay limit mask)) (replay_rows limit)
-replay_are limit mask =
-    are_rows (AreWords Replay limit mask) (replay_rows limit) (omega arith) (
+replay_are limit mask = are_rows (AreWords Replay limit mask) (replay_rows limit) (omega arith) (
     search (plain, arith)
     ⨾ (λ cpu a b. (λ text m read other o reads. search (masked_twice 4 5 text m other o, arith))
     ⨾ (λ text m read other o reads. search (masked_twice 4 5 text m other o, arith))

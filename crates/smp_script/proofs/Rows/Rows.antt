@@ -166,8 +166,7 @@ tells_also shape fields holds (Err cause) told all = told
 
 row_told : {R : Type 0} (P : List (List ℕ) → R → Type 0) (row : Row R) (fields : List (List ℕ)) → IsRow P row → AllByRecursion Known row.forms
     → has_shape fields row.forms ≡ true → Tells row.forms fields (P fields) (reads row.forms row.make fields)
-row_told {R} P row fields is known has =
-    tells_also row.forms fields (P fields) (reads row.forms row.make fields)
+row_told {R} P row fields is known has = tells_also row.forms fields (P fields) (reads row.forms row.make fields)
     (reads_told R row.forms fields 0 row.forms row.make fields refl refl has known (none_yet row.forms fields))
     (λ r read. reads_said row.forms row.make P fields r is.sound has read is.all)
 

@@ -24,8 +24,7 @@ named cpus name forms make = record { forms = operation cpus (name, forms); make
 
 -- the rows, where CPUs of masks have to be below the limit, and the CPU of the line is one of these
 abbrev pub run_rows : ℕ → ℕ → List (Row Directive)
-run_rows limit cpus =
-    named cpus (codes "sync") (bits 32 ∷ func_info) (λ cpu count dst func info. Do cpu count (request.Single true dst func info))
+run_rows limit cpus = named cpus (codes "sync") (bits 32 ∷ func_info) (λ cpu count dst func info. Do cpu count (request.Single true dst func info))
     ∷ named cpus (codes "async") (bits 32 ∷ func_info) (λ cpu count dst func info. Do cpu count (request.Single false dst func info))
     ∷ named cpus (codes "user") (number 0 1 ∷ bits 32 ∷ func_info) (λ cpu count user dst func info. Do cpu count (request.User user dst func info))
     ∷ named cpus (codes "any") (wait ∷ cpu_list limit ∷ func_info) (λ cpu count w mask func info. Do cpu count (request.Any (waits w) mask func info))
@@ -61,8 +60,7 @@ two_words c w inner then flat same = simp (cond_bind, same)
 
 cond_same_words : (limit cpus : ℕ) (cpu count c w m func info : List ℕ) → Named limit cpus cpu count (c ∷ w ∷ m ∷ func ∷ info ∷ []) (codes "cond")
 unfolding repeated
-cond_same_words limit cpus cpu count c w m func info =
-    two_words c w (λ x b. among (request.Cond x b) limit m func info) (repeated cpus cpu count) (λ x b.
+cond_same_words limit cpus cpu count c w m func info = two_words c w (λ x b. among (request.Cond x b) limit m func info) (repeated cpus cpu count) (λ x b.
     member_of cpus cpu >>= λ p. number_in 1 10000 count >>= λ n. mask_of limit m >>= λ s. word16 func >>= λ f. word64 info >>= λ i.
     Ok (Do p n (request.Cond x b s f i))) (λ x b. simp bind_assoc)
 
@@ -126,8 +124,7 @@ value32 n small = value_of_decimal n (omega arith)
 
 -- what the rows make are such lines
 pub run_are : (limit cpus : ℕ) → AllByRecursion (IsRow (AreWords Run limit cpus)) (run_rows limit cpus)
-run_are limit cpus =
-    are_rows (AreWords Run limit cpus) (run_rows limit cpus) (omega arith) (
+run_are limit cpus = are_rows (AreWords Run limit cpus) (run_rows limit cpus) (omega arith) (
     search (plain, arith) ⨾ search (plain, arith) ⨾ search (plain, arith)
     ⨾ search (masked 5, arith) ⨾ search (masked 5, arith)
     ⨾ (λ cpu small on count lo hi. search (masked 6, arith) ⨾ search (masked 6, arith) ⨾ search (masked 6, arith) ⨾ tt)

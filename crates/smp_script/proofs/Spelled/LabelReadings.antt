@@ -80,11 +80,7 @@ labels_in_ok keys field m h =
     let e = entries_ok a.value (items_of field) m a.then in
     let same : list_all (λ t. is_below a.value t) (items_of field) ≡ true = e.1 in
     let fit = make_labels (λ t. t) a.value (items_of field) n.2 e.0 same in
-    subst (λ x. AreTexts keys field x) e.2 (record {
-      keys_are = n.0;
-      items_are = sym (field_back a.value field n.2 e.1);
-      fit = rw map-id at fit;
-    })
+    subst (λ x. AreTexts keys field x) e.2 (record { keys_are = n.0; items_are = sym (field_back a.value field n.2 e.1); fit = rw map-id at fit })
 
 labels_words : (fields : List (List ℕ)) (m : Labels) → is_labels fields ≡ true → labels_of fields ≡ Ok m
     → (fields ≡ codes "labels" ∷ decimal m.keys ∷ items_text m.entries ∷ []) × AreLabels m.keys m.entries

@@ -44,16 +44,10 @@ directive_ok : (setting : Setting) (fields : List (List ℕ)) (d : Directive) �
 directive_ok setting [] d whole h = cc
 directive_ok setting (word ∷ rest) d whole h = words_ok setting.mode setting.limit setting.online word rest d whole h
 
-pub line_ok : (setting : Setting) (text : List ℕ) (d : Directive) → lacks 10 text ≡ true → line_directive setting text ≡ Ok d
-    → IsLine setting text d
+pub line_ok : (setting : Setting) (text : List ℕ) (d : Directive) → lacks 10 text ≡ true → line_directive setting text ≡ Ok d → IsLine setting text d
 unfolding line_directive
 line_ok setting text d on_line h =
     let fields = fields_of text in
     let g = guarded (are_whole fields) (directive_of setting fields) Word d h in
     let w = directive_ok setting fields d g.0 g.1 in
-    record {
-      masks = w.masks;
-      text_is = sym (join_parts 32 text) ∙ ap (join_with_byte 32) w.words;
-      spell = w.spell (line_fields text on_line g.0);
-      fit = w.fit;
-    }
+    record { masks = w.masks; text_is = sym (join_parts 32 text) ∙ ap (join_with_byte 32) w.words; spell = w.spell (line_fields text on_line g.0); fit = w.fit }

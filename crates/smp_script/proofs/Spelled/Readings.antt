@@ -28,8 +28,7 @@ pub record AreLines (setting : Setting) (n events : ℕ) (earlier : List Directi
 
 -- what follows a line
 abbrev pub after_line : Setting → ℕ → ℕ → List Directive → List Line → Directive → Result (List Directive) Fault
-after_line setting n events earlier ls d =
-    cond (shares earlier d) (Err (n, SharedKey)) (cond (nat_lt 100000 (events + events_of d)) (Err (n, TooLong))
+after_line setting n events earlier ls d = cond (shares earlier d) (Err (n, SharedKey)) (cond (nat_lt 100000 (events + events_of d)) (Err (n, TooLong))
     (directives_of setting (n + 1) (events + events_of d) (earlier ++ d ∷ []) ls >>= λ rest. Ok (d ∷ rest)))
 
 pub lines_ok : (setting : Setting) (n events : ℕ) (earlier : List Directive) (ls : List Line) (bs : List ℕ) (ds : List Directive) → lines_of bs ≡ ls
@@ -182,11 +181,10 @@ script_is_spelled mode text script h = elim (cases_Bool (nat_lt 65536 (length te
         record {
           text_is = text_of mode b.value text a.value.0 c.value.0 one.rest two.rest d.value.0 cpus.mask m.value.0
               (spelled_lines body.lines) one.text_is first_is two.text_is second_is after_is;
-          mask_is =
-              record {
-                field = mask_field (decimal d.value.0) cpus.mask (ap (list_all is_field) (sym cpus.words) ∙ line_fields c.value.0 two.on_line whole.0);
-                reads = cpus.mask_is;
-              };
+          mask_is = record {
+            field = mask_field (decimal d.value.0) cpus.mask (ap (list_all is_field) (sym cpus.words) ∙ line_fields c.value.0 two.on_line whole.0);
+            reads = cpus.mask_is;
+          };
           lines_are = body.lines_are;
           masks_are = body.spell;
           some = cpus.some;

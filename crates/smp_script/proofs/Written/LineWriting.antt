@@ -77,8 +77,7 @@ Written mode limit mask masks d = (list_all is_field (directive_words masks d) �
 
 ruleset numbers = (is_field-decimal, number_in-decimal, member_read, signed_field, signed_read)
 
-replay_written : (limit mask : ℕ) (masks : Masks) (d : Directive) → DirectiveFits Replay mask d → SpellLine limit (masks, d)
-    → Written Replay limit mask masks d
+replay_written : (limit mask : ℕ) (masks : Masks) (d : Directive) → DirectiveFits Replay mask d → SpellLine limit (masks, d) → Written Replay limit mask masks d
 unfolding start_post start_begin
 replay_written limit mask masks (Start cpu (Begin work)) f s =
     let k = kind_written work.kind in
@@ -91,8 +90,7 @@ replay_written limit mask masks (Start cpu (Nudge key up)) f s =
     search (numbers, w.0, w.1, arith)
 replay_written limit mask masks _ f s = search (numbers, arith)
 
-run_written : (limit mask : ℕ) (masks : Masks) (d : Directive) → DirectiveFits Run mask d → SpellLine limit (masks, d)
-    → Written Run limit mask masks d
+run_written : (limit mask : ℕ) (masks : Masks) (d : Directive) → DirectiveFits Run mask d → SpellLine limit (masks, d) → Written Run limit mask masks d
 unfolding repeated
 run_written limit mask masks (Do cpu count (request.Any wait set func info)) f s =
     let w = wait_written wait in

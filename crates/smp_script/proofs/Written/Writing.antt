@@ -64,8 +64,7 @@ lines_are_read setting n events earlier ((masks, d) ∷ lines) f s apart keys co
     ) refl
 
 pub cpus_are_read : (limit : ℕ) (nr online : ℕ) (mask : List ℕ) → 1 ≤ nr → nr ≤ limit → limit ≤ NR_CPUS → is_field mask ≡ true → mask_of limit mask ≡ Ok online
-    → are_online nr online ≡ true
-    → whole_cpus limit (codes "cpus" ∷ decimal nr ∷ mask ∷ []) ≡ Ok (nr, online)
+    → are_online nr online ≡ true → whole_cpus limit (codes "cpus" ∷ decimal nr ∷ mask ∷ []) ≡ Ok (nr, online)
 cpus_are_read limit nr online mask some within few field is_mask are = search (is_field-decimal, number_in-decimal, whole_fields, arith)
 
 longer : (n : ℕ) → n ≤ 65536 → nat_lt 65536 n ≡ false
@@ -77,8 +76,7 @@ not_labels masks _ = refl
 
 -- lines of a script are no labels line
 no_labels_line : (setting : Setting) (lines : List (Masks × Directive)) → AllByRecursion (Fits setting) (asked lines)
-    → AllByRecursion (SpellLine setting.limit) lines
-    → labels_at (lines_of (spelled_lines lines)) ≡ Ok (None, lines_of (spelled_lines lines))
+    → AllByRecursion (SpellLine setting.limit) lines → labels_at (lines_of (spelled_lines lines)) ≡ Ok (None, lines_of (spelled_lines lines))
 unfolding spelled_lines
 no_labels_line setting [] f s = refl
 no_labels_line setting ((masks, d) ∷ lines) f s = search (words_are_fields, lines_of-line, fields_back, some_words, not_labels, arith)
