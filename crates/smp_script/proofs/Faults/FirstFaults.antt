@@ -87,9 +87,7 @@ behind_of : {A : Type 0} (xs : List A) (n : ℕ) (x : A) (rest : List A) → dro
 behind_of [] zero x rest h = cc
 behind_of [] (suc n) x rest h = cc
 behind_of (y ∷ ys) zero x rest h = record { here = let same : y ≡ x = cc in ap Some same; next = cc }
-behind_of (y ∷ ys) (suc n) x rest h =
-    let more = behind_of ys n x rest h in
-    record { here = more.here; next = rw add-one (rw add-one at more.next) }
+behind_of (y ∷ ys) (suc n) x rest h = search (add-one, behind_of ys n x rest h, arith)
 
 none_behind : {A : Type 0} (xs : List A) (n : ℕ) → drop n xs ≡ [] → length xs ≤ n
 none_behind [] n h = omega arith

@@ -83,9 +83,7 @@ ForField _ P = Unit {0}
 
 minus_ok : (b : ℕ) (bs : List ℕ) (n : ℕ) (z : ℤ) → b ≡ 45 → bs ≡ decimal n → n ≤ 2147483648 → minus n ≡ Ok z → (b ∷ bs ≡ signed_decimal z) × IsAnswer z
 minus_ok b bs zero z here is small h = cc
-minus_ok b bs (suc n) z here is small h =
-    let same : negsuc n ≡ z = cc in
-    subst (λ y. (b ∷ bs ≡ signed_decimal y) × IsAnswer y) same (rw (here, is) refl, omega arith)
+minus_ok b bs (suc n) z here is small h = search (arith)
 
 signed_ok : (text : List ℕ) (z : ℤ) → signed_of text ≡ Ok z → (text ≡ signed_decimal z) × IsAnswer z
 signed_ok [] z h = cc
@@ -103,33 +101,17 @@ signed_ok (b ∷ bs) z h = elim (cases_Bool (b == 45)) [
 ]
 
 member_ok : (mask : ℕ) (text : List ℕ) (c : ℕ) → member_of mask text ≡ Ok c → (text ≡ decimal c) × (c < 2 ^ 32) × (has mask c ≡ true)
-member_ok mask text c h =
-    let a = both (word32 text) (λ cpu. cond (has mask cpu) (Ok cpu) (Err Range)) c h in
-    let g = guarded (has mask a.value) (Ok a.value) Range c a.then in
-    let same : a.value ≡ c = let t = g.1 in cc in
-    let n = read32 text a.value a.first in
-    subst (λ x. (text ≡ decimal x) × (x < 2 ^ 32) × (has mask x ≡ true)) same (n.0, n.1, g.0)
+member_ok mask text c h = search (both, guarded, read32, arith)
 
 active_said : (limit : ℕ) (P : List ℕ → Option ℕ → Type 0) (text : List ℕ) (set : Option ℕ) → active_of limit text ≡ Ok set → ForField (active limit) P
     → P text set
-active_said limit P text set h all = elim (cases_Bool (bytes_eq text (codes "none"))) [
-  | inl none ↦
-      let e : ◌≡◌ {A = Result (Option ℕ) Cause} (Ok None) (Ok set) = rw none at h in
-      let same : None ≡ set = cc in
-      rw (same_word text (codes "none") none, ← same) all.0
-  | inr other ↦
-      let a = both (mask_of limit text) (λ m. Ok (Some m)) set (rw other at h) in
-      let same : Some a.value ≡ set = let t = a.then in cc in
-      rw (← same) (all.1 text a.value a.first)
-]
+active_said limit P text set h all = search (cases_Bool, same_word, both, arith)
 
 -- a field that is read is one of them
 pub form_said : (form : Form) (P : List ℕ → Said form → Type 0) (text : List ℕ) (x : Said form) → Sound form → has_word form text ≡ true
     → read_form form text ≡ Ok x → ForField form P → P text x
 form_said (word w) P text x sound right h all = rw (same_word text w right) all
-form_said (words ws) P text x sound right h all =
-    let same : text ≡ x = cc in
-    rw (← same) (of_one (λ w. P w w) ws text all right)
+form_said (words ws) P text x sound right h all = search (of_one, arith)
 form_said (number low high) P text n sound right h all =
     let is = number_in-ok low high text n sound h in
     rw is.0 (all n is.1 is.2)
@@ -138,8 +120,6 @@ form_said signed P text z sound right h all =
     rw is.0 (all z is.1)
 form_said (cpu_list limit) P text m sound right h all = all text m h
 form_said (active limit) P text set sound right h all = active_said limit P text set h all
-form_said (member mask) P text cpu sound right h all =
-    let is = member_ok mask text cpu h in
-    rw is.0 (all cpu is.1 is.2)
+form_said (member mask) P text cpu sound right h all = search (member_ok, arith)
 form_said (online limit) P text x sound right h all = absurd sound
 form_said items P text x sound right h all = absurd sound

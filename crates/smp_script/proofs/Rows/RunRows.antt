@@ -66,12 +66,7 @@ cond_same_words limit cpus cpu count c w m func info = two_words c w (λ x b. am
 
 named_three : (limit cpus : ℕ) (cpu count a b c : List ℕ) → ForEach (Named limit cpus cpu count (a ∷ b ∷ c ∷ [])) (names limit)
 unfolding repeated
-named_three limit cpus cpu count a b c =
-    let is_sync : Named limit cpus cpu count (a ∷ b ∷ c ∷ []) (codes "sync") = simp (bind_assoc, cond_bind) in
-    let is_async : Named limit cpus cpu count (a ∷ b ∷ c ∷ []) (codes "async") = simp (bind_assoc, cond_bind) in
-    let is_one : Named limit cpus cpu count (a ∷ b ∷ c ∷ []) (codes "one") = simp (bind_assoc, cond_bind) in
-    let is_machine : Named limit cpus cpu count (a ∷ b ∷ c ∷ []) (codes "machine") = simp (bind_assoc, cond_bind) in
-    (is_sync, (is_async, (refl, (refl, (refl, (refl, (is_one, (refl, (is_machine, (refl, (refl, (refl, tt))))))))))))
+named_three limit cpus cpu count a b c = search (bind_assoc, cond_bind, arith)
 
 named_four : (limit cpus : ℕ) (cpu count a b c d : List ℕ) → ForEach (Named limit cpus cpu count (a ∷ b ∷ c ∷ d ∷ [])) (names limit)
 unfolding repeated
@@ -89,9 +84,7 @@ named_same limit cpus cpu count (a ∷ []) = simp (bind_assoc, cond_bind) assump
 named_same limit cpus cpu count (a ∷ b ∷ []) = simp (bind_assoc, cond_bind) assumption
 named_same limit cpus cpu count (a ∷ b ∷ c ∷ []) = named_three limit cpus cpu count a b c
 named_same limit cpus cpu count (a ∷ b ∷ c ∷ d ∷ []) = named_four limit cpus cpu count a b c d
-named_same limit cpus cpu count (a ∷ b ∷ c ∷ d ∷ e ∷ []) =
-    let is_cond = cond_same_words limit cpus cpu count a b c d e in
-    (refl, (refl, (refl, (refl, (refl, (is_cond, (refl, (refl, (refl, (refl, (refl, (refl, tt))))))))))))
+named_same limit cpus cpu count (a ∷ b ∷ c ∷ d ∷ e ∷ []) = search (cond_same_words, arith)
 named_same limit cpus cpu count (a ∷ b ∷ c ∷ d ∷ e ∷ f ∷ rest) = assumption
 
 -- a name that is none of these
