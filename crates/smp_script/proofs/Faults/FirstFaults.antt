@@ -155,8 +155,7 @@ front_tells : {B : Type 0} (setting : Setting) (text : List ℕ) (n : ℕ) (l : 
     → slice_get (lines_of text) n ≡ Some l → n + 1 ≤ 2000 → l.ended ≡ true → Reached setting text n 0 []
     → TellsLine (shapes_of setting (n + 1)) (fields_of l.text) (λ b. IsQuiet (fields_of l.text)) read
     → ((b : B) → read ≡ Ok b → Reached setting text (n + 1) 0 [] → TellsText setting text (then b)) → TellsText setting text (at_line (n + 1) read >>= then)
-front_tells setting text n l (Err cause) then here few ended s told rest = line_first setting text n l cause here s.clear
-    (read_first setting (n + 1) (events_to text (n + 1)) (SharesKey text n) l (λ b. IsQuiet (fields_of l.text)) (Err cause) cause few ended told refl)
+front_tells setting text n l (Err cause) then here few ended s told rest = search (line_first, read_first, arith)
 front_tells setting text n l (Ok b) then here few ended s told rest =
     rest b refl (quiet_line setting text n l b here few ended (read_right setting (n + 1) l (λ x. IsQuiet (fields_of l.text)) (Ok b) b told refl) s)
 

@@ -59,8 +59,7 @@ line_cause : (setting : Setting) (n events : ℕ) (shared : Type 0) (line : Line
 line_cause setting n events shared line k m c d e (past_lines f) (past_lines g) = refl
 line_cause setting n events shared line k m c d e (unended f) (unended g) = refl
 line_cause setting n events shared line k m c d e (no_shape f) (no_shape g) = refl
-line_cause setting n events shared line k m c d e (wrong_field i {shape = a} {form = v} s w f) (wrong_field j {shape = b} {form = u} t x g) =
-    search (field_cause, arith)
+line_cause setting n events shared line k m c d e (wrong_field i {shape = a} {form = v} s w f) (wrong_field j {shape = b} {form = u} t x g) = search (field_cause, arith)
 line_cause setting n events shared line k m c d e (wrong_field i {shape = a} {form = v} s w f) (past_events g) = search (place_within, arith)
 line_cause setting n events shared line k m c d e (wrong_field i {shape = a} {form = v} s w f) (shared_key g) = search (place_within, arith)
 line_cause setting n events shared line k m c d e (shared_key f) (shared_key g) = refl
