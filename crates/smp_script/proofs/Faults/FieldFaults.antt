@@ -62,9 +62,8 @@ number_read low high text = elim (cases_Bool (is_decimal text)) [
 
 -- a field that has to be a number, and what is read after it
 pub reads_number : {B : Type 0} (shape : List Form) (fields : List (List ℕ)) (holds : B → Type 0) (i low high : ℕ) (then : ℕ → Result B Cause)
-    → slice_get shape i ≡ Some (number low high) → Clean shape fields i
-    → (Clean shape fields (i + 1) → Tells shape fields holds (then (value_of (field_at fields i))))
-    → Tells shape fields holds (number_in low high (field_at fields i) >>= then)
+    → slice_get shape i ≡ Some (number low high) → Clean shape fields i → (Clean shape fields (i + 1)
+    → Tells shape fields holds (then (value_of (field_at fields i)))) → Tells shape fields holds (number_in low high (field_at fields i) >>= then)
 reads_number shape fields holds i low high then wants clean more = grind (number_read, passes, arith)
 
 -- a field is read, or what is wrong with it

@@ -121,9 +121,8 @@ read_right {B} setting n line holds read b (shapeless s is) good = let t : ◌�
 read_right setting n line holds read b (shaped shape by_shape s is told) good = search arith
 
 -- it has no fault, unless another CPU has its key, or it makes too many events
-pub right_line : {B : Type 0} (setting : Setting) (n events : ℕ) (shared : Type 0) (line : Line) (holds : B → Type 0) (b : B) → n ≤ 2000
-    → line.ended ≡ true → RightLine setting n line holds b → (shared → ⊥) → events ≤ 100000
-    → (k : ℕ) (cause : Cause) → LineFault setting n events shared line k cause → ⊥
+pub right_line : {B : Type 0} (setting : Setting) (n events : ℕ) (shared : Type 0) (line : Line) (holds : B → Type 0) (b : B) → n ≤ 2000 → line.ended ≡ true
+    → RightLine setting n line holds b → (shared → ⊥) → events ≤ 100000 → (k : ℕ) (cause : Cause) → LineFault setting n events shared line k cause → ⊥
 right_line setting n events shared line holds b h e r apart under = all_clean setting n events shared line r.shape h e r.has r.clean apart under
 
 pub shared_first : {B : Type 0} (setting : Setting) (n events : ℕ) (shared : Type 0) (line : Line) (holds : B → Type 0) (b : B) → n ≤ 2000

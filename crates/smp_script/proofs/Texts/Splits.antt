@@ -64,9 +64,8 @@ never : (b : ℕ) (ls : List Line) → onto_line b ls ≡ [] → ⊥
 never b [] h = cc
 never b (l ∷ ls) h = cc
 
-onto_begins : (b : ℕ) (bs : List ℕ) (l : Line) (ls : List Line) (all : List Line) → (b == 10) ≡ false → all ≡ lines_of bs
-    → ((m : Line) (ms : List Line) → all ≡ m ∷ ms → m.ended ≡ true → Begins bs m.text ms) → onto_line b all ≡ l ∷ ls → l.ended ≡ true
-    → Begins (b ∷ bs) l.text ls
+onto_begins : (b : ℕ) (bs : List ℕ) (l : Line) (ls : List Line) (all : List Line) → (b == 10) ≡ false → all ≡ lines_of bs → ((m : Line) (ms : List Line)
+    → all ≡ m ∷ ms → m.ended ≡ true → Begins bs m.text ms) → onto_line b all ≡ l ∷ ls → l.ended ≡ true → Begins (b ∷ bs) l.text ls
 onto_begins b bs l ls [] other e more h ended = search (head_same, arith)
 onto_begins b bs l ls (m ∷ ms) other e more h ended =
     let head : record { text = b ∷ m.text; ended = m.ended } ≡ l = head_same _ _ _ _ h in

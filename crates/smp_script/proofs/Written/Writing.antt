@@ -42,9 +42,8 @@ asked lines = map (λ l. l.1) lines
 -- the lines of a script are read
 pub lines_are_read : (setting : Setting) (n events : ℕ) (earlier : List Directive) (lines : List (Masks × Directive))
     → AllByRecursion (Fits setting) (asked lines) → AllByRecursion (SpellLine setting.limit) lines
-    → AllByRecursion (λ d. shares earlier d ≡ false) (asked lines) → AreApart (asked lines)
-    → n + length (asked lines) ≤ 2001 → events + sum_by events_of (asked lines) ≤ 100000
-    → directives_of setting n events earlier (lines_of (spelled_lines lines)) ≡ Ok (asked lines)
+    → AllByRecursion (λ d. shares earlier d ≡ false) (asked lines) → AreApart (asked lines) → n + length (asked lines) ≤ 2001
+    → events + sum_by events_of (asked lines) ≤ 100000 → directives_of setting n events earlier (lines_of (spelled_lines lines)) ≡ Ok (asked lines)
 unfolding directives_of spelled_lines
 lines_are_read setting n events earlier [] f s apart keys count total = refl
 lines_are_read setting n events earlier ((masks, d) ∷ lines) f s apart keys count total =
