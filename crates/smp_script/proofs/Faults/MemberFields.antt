@@ -9,15 +9,10 @@ right_member mask text good is Number f = let bad : true ≡ false = sym good �
 right_member mask text good is Range f = let bad : true ≡ false = sym is ∙ f.1 in cc
 right_member mask text good is _ f = f
 
--- a number past all CPUs is that of none
-far_is_none : (mask far : ℕ) → AreCpus mask → 4294967295 < far → has mask far ≡ false
-far_is_none mask far cpus past = search (cases_Bool, arith)
-
 wrong_member : (mask : ℕ) (text : List ℕ) → AreCpus mask → (cause : Cause) → number_in 0 4294967295 text ≡ Err cause → NumberFault 0 4294967295 text cause
     → Judged (MemberFault mask text) (member_of mask text)
 wrong_member mask text cpus Number e f = faulty Number (rw e refl) f
-wrong_member mask text cpus Range e f =
-    faulty Range (rw e refl) (f.0, elim f.1 [ inl under ↦ absurd (omega arith) | inr over ↦ far_is_none mask (value_of text) cpus over ])
+wrong_member mask text cpus Range e f = faulty Range (rw e refl) (f.0, elim f.1 [ inl under ↦ absurd (omega arith) | inr over ↦ search (cases_Bool, arith) ])
 wrong_member mask text cpus _ e f = absurd f
 
 -- a CPU is read, or what is wrong with its field

@@ -16,7 +16,6 @@ number_cause low high text _ _ f g = search
 online_cause : (limit nr : ℕ) (text : List ℕ) (c d : Cause) → OnlineFault limit nr text c → OnlineFault limit nr text d → c ≡ d
 online_cause limit nr text Mask Range f g = absurd (f g.0 g.1)
 online_cause limit nr text Range Mask f g = absurd (g f.0 f.1)
-online_cause limit nr text Mask Mask f g = refl
 online_cause limit nr text _ _ f g = search
 
 signed_cause : (text : List ℕ) (c d : Cause) → SignedFault text c → SignedFault text d → c ≡ d
@@ -44,40 +43,23 @@ member_cause mask text _ _ f g = search
 
 field_cause : (fields : List (List ℕ)) (i : ℕ) (form : Form) (c d : Cause) → FieldFault fields i form c → FieldFault fields i form d → c ≡ d
 field_cause fields i (word w) c d f g = absurd f
-field_cause fields i (words ws) c d f g = absurd f
-field_cause fields i (number low high) c d f g = number_cause low high (field_at fields i) c d f g
-field_cause fields i signed c d f g = signed_cause (field_at fields i) c d f g
-field_cause fields i (cpu_list limit) c d f g = mask_cause limit (field_at fields i) c d f g
-field_cause fields i (active limit) c d f g = active_cause limit (field_at fields i) c d f g
-field_cause fields i (member mask) c d f g = member_cause mask (field_at fields i) c d f g
-field_cause fields i items c d f g = items_cause (value_of (field_at fields 1)) (field_at fields i) c d f g
-field_cause fields i (online limit) c d f g = online_cause limit (value_of (field_at fields 1)) (field_at fields i) c d f g
+field_cause fields i _ c d f g = search (number_cause, signed_cause, mask_cause, active_cause, member_cause, items_cause, online_cause, arith)
 
 -- two faults of one rank in a line have one cause
 line_cause : (setting : Setting) (n events : ℕ) (shared : Type 0) (line : Line) (k m : ℕ) (c d : Cause) → k ≡ m → LineFault setting n events shared line k c
     → LineFault setting n events shared line m d → c ≡ d
-line_cause setting n events shared line k m c d e (past_lines f) (past_lines g) = refl
-line_cause setting n events shared line k m c d e (unended f) (unended g) = refl
-line_cause setting n events shared line k m c d e (no_shape f) (no_shape g) = refl
 line_cause setting n events shared line k m c d e (wrong_field i {shape = a} {form = v} s w f) (wrong_field j {shape = b} {form = u} t x g) = search (field_cause, arith)
-line_cause setting n events shared line k m c d e (wrong_field i {shape = a} {form = v} s w f) (past_events g) = search (place_within, arith)
-line_cause setting n events shared line k m c d e (wrong_field i {shape = a} {form = v} s w f) (shared_key g) = search (place_within, arith)
-line_cause setting n events shared line k m c d e (shared_key f) (shared_key g) = refl
-line_cause setting n events shared line k m c d e (shared_key f) (wrong_field j {shape = b} {form = u} t x g) = search (place_within, arith)
-line_cause setting n events shared line k m c d e (past_events f) (past_events g) = refl
-line_cause setting n events shared line k m c d e (past_events f) (wrong_field j {shape = b} {form = u} t x g) = search (place_within, arith)
-line_cause setting n events shared line k m c d e _ _ = absurd (omega (arith, e))
+line_cause setting n events shared line k m c d e (wrong_field i {shape = a} {form = v} s w f) _ = search (place_within, arith)
+line_cause setting n events shared line k m c d e _ (wrong_field j {shape = b} {form = u} t x g) = search (place_within, arith)
+line_cause setting n events shared line k m c d e _ _ = search arith
 
 -- and in a text
 fault_cause : (setting : Setting) (text : List ℕ) (n k m l : ℕ) (c d : Cause) → n ≡ m → k ≡ l → IsFault setting text n k c → IsFault setting text m l d → c ≡ d
 fault_cause setting text n k m l c d e r (past_bytes f) (past_bytes g) = refl
-fault_cause setting text n k m l c d e r (past_bytes f) _ = absurd (omega (arith, r))
-fault_cause setting text n k m l c d e r (no_line f few) (no_line g less) = refl
-fault_cause setting text n k m l c d e r (no_line f few) (past_bytes g) = absurd (omega (arith, r))
-fault_cause setting text n k m l c d e r (no_line f few) (in_line j {line = b} there g) = absurd (omega (arith, e, slice_get_within (lines_of text) j b there))
-fault_cause setting text n k m l c d e r (in_line i {line = a} here f) (past_bytes g) = absurd (omega (arith, e))
-fault_cause setting text n k m l c d e r (in_line i {line = a} here f) (no_line g few) = absurd (omega (arith, e, slice_get_within (lines_of text) i a here))
 fault_cause setting text n k m l c d e r (in_line i {line = a} here f) (in_line j {line = b} there g) = search (line_cause, arith)
+fault_cause setting text n k m l c d e r (in_line i {line = a} here f) (no_line g few) = absurd (omega (arith, e, slice_get_within (lines_of text) i a here))
+fault_cause setting text n k m l c d e r (no_line f few) (in_line j {line = b} there g) = absurd (omega (arith, e, slice_get_within (lines_of text) j b there))
+fault_cause setting text n k m l c d e r _ _ = search arith
 
 -- first faults are in one line
 one_line : (setting : Setting) (text : List ℕ) (n m : ℕ) (c d : Cause) → IsFirstFault setting text n c → IsFirstFault setting text m d → n ≡ m

@@ -71,10 +71,6 @@ table_told limit nr mask few =
       | outside m read off wrong ↦ rw (read, off) (record { place = 2; form = online limit; wants = refl; wrong = wrong; before = two })
     ])
 
--- a line with an empty field is none
-no_cpus : (limit : ℕ) (fields : List (List ℕ)) → are_whole fields ≡ false → has_shape fields (cpus limit) ≡ false
-no_cpus limit fields empty = no_whole fields (cpus limit) refl empty
-
 cpus_shapes : (limit : ℕ) (fields : List (List ℕ)) → limit ≤ NR_CPUS → are_whole fields ≡ true
     → TellsLine (cpus limit ∷ []) fields (λ t. IsQuiet fields) (cpus_of limit fields)
 cpus_shapes limit (a ∷ nr ∷ mask ∷ []) few whole = elim (cases_Bool (bytes_eq a (codes "cpus"))) [
@@ -90,11 +86,8 @@ cpus_shapes limit _ few whole = shapeless refl refl
 pub cpus_told : (limit : ℕ) (fields : List (List ℕ)) → limit ≤ NR_CPUS → TellsLine (cpus limit ∷ []) fields (λ t. IsQuiet fields) (whole_cpus limit fields)
 cpus_told limit fields few = elim (cases_Bool (are_whole fields)) [
   | inl whole ↦ rw whole (cpus_shapes limit fields few whole)
-  | inr empty ↦ shapeless (rw (no_cpus limit fields empty) refl) (rw empty refl)
+  | inr empty ↦ shapeless (rw (no_whole fields (cpus limit) refl empty) refl) (rw empty refl)
 ]
-
-no_cpu : AreCpus 0
-no_cpu cpu on = let bad : false ≡ true = sym (has_none cpu) ∙ on in cc
 
 -- the CPUs of a mask that was read are CPUs
 pub mask_cpus : (limit : ℕ) (text : List ℕ) (m : ℕ) → limit ≤ NR_CPUS → mask_of limit text ≡ Ok m → AreCpus m
@@ -102,7 +95,7 @@ mask_cpus limit text m few h = elim (cases_Bool (bytes_eq text (codes "-"))) [
   | inl dash ↦
       let e : ◌≡◌ {A = Result ℕ Cause} (Ok 0) (Ok m) = rw dash at h in
       let same : 0 ≡ m = cc in
-      subst AreCpus same no_cpu
+      subst AreCpus same (λ cpu on. let bad : false ≡ true = sym (has_none cpu) ∙ on in cc)
   | inr other ↦ elim (list_read limit text few other) [
     | a_list n read is ↦
         let e : ◌≡◌ {A = Result ℕ Cause} (Ok n) (Ok m) = sym read ∙ h in

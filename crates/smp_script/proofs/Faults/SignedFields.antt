@@ -9,15 +9,12 @@ right_signed text good near Number f = let bad : true ≡ false = sym good ∙ f
 right_signed text good near Range f = let bad : true ≡ false = sym f.1 ∙ near in cc
 right_signed text good near _ f = f
 
-low_test : (n : ℕ) → nat_le 0 n ≡ true
-low_test n = grind (arith, nat_tests)
-
 -- how a number is read that is not too far
 number_near : (high : ℕ) (text : List ℕ) → is_decimal text ≡ true → nat_lt high (value_of text) ≡ false → number_in 0 high text ≡ Ok (value_of text)
-number_near high text good near = search (nat_tests, low_test, arith)
+number_near high text good near = search (nat_tests, arith)
 
 number_far : (high : ℕ) (text : List ℕ) → is_decimal text ≡ true → nat_lt high (value_of text) ≡ true → number_in 0 high text ≡ Err Range
-number_far high text good far = search (nat_tests, low_test, arith)
+number_far high text good far = search (nat_tests, arith)
 
 plain_judged : (b : ℕ) (bs : List ℕ) → (b == 45) ≡ false → Judged (SignedFault (b ∷ bs)) (signed_of (b ∷ bs))
 plain_judged b bs plain = elim (cases_Bool (is_decimal (b ∷ bs))) [

@@ -50,13 +50,7 @@ Known _ = Unit {0}
 pub form_judged : (fields : List (List ℕ)) (i : ℕ) (form : Form) → Known form → Judged (FieldFault fields i form) (read_form form (field_at fields i))
 form_judged fields i (word w) known = fine tt refl (λ cause f. f)
 form_judged fields i (words ws) known = fine (field_at fields i) refl (λ cause f. f)
-form_judged fields i (number low high) known = number_judged low high (field_at fields i)
-form_judged fields i signed known = signed_judged (field_at fields i)
-form_judged fields i (cpu_list limit) known = mask_judged limit (field_at fields i) known
-form_judged fields i (active limit) known = active_judged limit (field_at fields i) known
-form_judged fields i (member mask) known = member_judged mask (field_at fields i) known
-form_judged fields i (online limit) known = absurd known
-form_judged fields i items known = absurd known
+form_judged fields i _ known = search (number_judged, signed_judged, mask_judged, active_judged, member_judged, arith)
 
 -- of each of these words
 abbrev pub ForEach : (List ℕ → Type 0) → List (List ℕ) → Type 0
@@ -120,6 +114,4 @@ form_said signed P text z sound right h all =
     rw is.0 (all z is.1)
 form_said (cpu_list limit) P text m sound right h all = all text m h
 form_said (active limit) P text set sound right h all = active_said limit P text set h all
-form_said (member mask) P text cpu sound right h all = search (member_ok, arith)
-form_said (online limit) P text x sound right h all = absurd sound
-form_said items P text x sound right h all = absurd sound
+form_said _ P text x sound right h all = search (member_ok, arith)

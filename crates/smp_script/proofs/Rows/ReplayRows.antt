@@ -95,9 +95,6 @@ replay_same limit word rest = elim (cases_Bool (bytes_eq word (codes "start"))) 
   ]
 ]
 
-step_counts : (n : ℕ) → n ≤ 10000 → value_of (decimal n) ≡ n
-step_counts n few = value_of_decimal n (omega arith)
-
 -- what the rows make are such lines
 pub replay_are : (limit mask : ℕ) → AllByRecursion (IsRow (AreWords Replay limit mask)) (replay_rows limit)
 replay_are limit mask = are_rows (AreWords Replay limit mask) (replay_rows limit) (omega arith) (
@@ -105,7 +102,7 @@ replay_are limit mask = are_rows (AreWords Replay limit mask) (replay_rows limit
     ⨾ (λ cpu a b. (λ text m read other o reads. search (masked_twice 4 5 text m other o, arith))
     ⨾ (λ text m read other o reads. search (masked_twice 4 5 text m other o, arith))
     ⨾ (λ text m read other o reads. search (masked_twice 4 5 text m other o, arith)) ⨾ tt)
-    ⨾ search (plain, arith) ⨾ search (plain, arith) ⨾ search (plain, arith) ⨾ search (plain, arith) ⨾ search (plain, step_counts, arith)
+    ⨾ search (plain, arith) ⨾ search (plain, arith) ⨾ search (plain, arith) ⨾ search (plain, arith) ⨾ search (plain, value_of_decimal, arith)
     ⨾ search (plain, arith) ⨾ tt)
 
 pub replay_known : (limit : ℕ) → limit ≤ NR_CPUS → AllByRecursion (λ row. AllByRecursion Known row.forms) (replay_rows limit)

@@ -112,9 +112,6 @@ run_same limit cpus word rest = elim (cases_Bool (bytes_eq word (codes "do"))) [
   | inr other ↦ simp (other, cond_same)
 ]
 
-value32 : (n : ℕ) → n < 2 ^ 32 → value_of (decimal n) ≡ n
-value32 n small = value_of_decimal n (omega arith)
-
 -- what the rows make are such lines
 pub run_are : (limit cpus : ℕ) → AllByRecursion (IsRow (AreWords Run limit cpus)) (run_rows limit cpus)
 run_are limit cpus = are_rows (AreWords Run limit cpus) (run_rows limit cpus) (omega arith) (
@@ -122,7 +119,7 @@ run_are limit cpus = are_rows (AreWords Run limit cpus) (run_rows limit cpus) (o
     ⨾ search (masked 5, arith) ⨾ search (masked 5, arith)
     ⨾ (λ cpu small on count lo hi. search (masked 6, arith) ⨾ search (masked 6, arith) ⨾ search (masked 6, arith) ⨾ tt)
     ⨾ search (plain, arith) ⨾ search (plain, arith) ⨾ search (masked 4, plain, arith)
-    ⨾ search (plain, value32, arith) ⨾ search (plain, value32, arith) ⨾ search (plain, value32, arith) ⨾ tt)
+    ⨾ search (plain, value_of_decimal, arith) ⨾ search (plain, value_of_decimal, arith) ⨾ search (plain, value_of_decimal, arith) ⨾ tt)
 
 pub run_known : (limit cpus : ℕ) → limit ≤ NR_CPUS → AreCpus cpus → AllByRecursion (λ row. AllByRecursion Known row.forms) (run_rows limit cpus)
 run_known limit cpus few are = assumption

@@ -16,8 +16,7 @@ class_written Async = (refl, refl)
 
 kind_written : (k : Kind) → (is_field (kind_text k) ≡ true) × (kind_of (kind_text k) ≡ Ok k)
 kind_written OneKind = (refl, refl)
-kind_written Multi = (refl, refl)
-kind_written Patch = (refl, refl)
+kind_written _ = (refl, refl)
 
 way_written : (up : Bool) → (is_field (way_text up) ≡ true) × (way_of (way_text up) ≡ Ok up)
 way_written true = (refl, refl)
@@ -33,8 +32,7 @@ switch_written false = (refl, refl)
 
 which_written : (c : Which) → (is_field (which_text c) ≡ true) × (which_of (which_text c) ≡ Ok c)
 which_written All = (refl, refl)
-which_written Even = (refl, refl)
-which_written Odd = (refl, refl)
+which_written _ = (refl, refl)
 
 minus_field : (text : List ℕ) → is_field text ≡ true → is_field (45 ∷ text) ≡ true
 minus_field text h = grind (and_parts, nat_tests, arith)
@@ -80,33 +78,25 @@ ruleset numbers = (is_field-decimal, number_in-decimal, member_read, signed_fiel
 replay_written : (limit mask : ℕ) (masks : Masks) (d : Directive) → DirectiveFits Replay mask d → SpellLine limit (masks, d) → Written Replay limit mask masks d
 unfolding start_post start_begin
 replay_written limit mask masks (Start cpu (Begin work)) f s =
-    let k = kind_written work.kind in
-    search (numbers, k.0, k.1, s.0.field, s.1.field, s.0.reads, s.1.reads, arith)
+    search (numbers, (kind_written work.kind).0, (kind_written work.kind).1, s.0.field, s.1.field, s.0.reads, s.1.reads, arith)
 replay_written limit mask masks (Start cpu (Post number dst class func info tries)) f s =
-    let c = class_written class in
-    search (numbers, c.0, c.1, arith)
-replay_written limit mask masks (Start cpu (Nudge key up)) f s =
-    let w = way_written up in
-    search (numbers, w.0, w.1, arith)
+    search (numbers, (class_written class).0, (class_written class).1, arith)
+replay_written limit mask masks (Start cpu (Nudge key up)) f s = search (numbers, (way_written up).0, (way_written up).1, arith)
 replay_written limit mask masks _ f s = search (numbers, arith)
 
 run_written : (limit mask : ℕ) (masks : Masks) (d : Directive) → DirectiveFits Run mask d → SpellLine limit (masks, d) → Written Run limit mask masks d
 unfolding repeated
 run_written limit mask masks (Do cpu count (request.Any wait set func info)) f s =
-    let w = wait_written wait in
-    search (numbers, w.0, w.1, s.field, s.reads, arith)
+    search (numbers, (wait_written wait).0, (wait_written wait).1, s.field, s.reads, arith)
 run_written limit mask masks (Do cpu count (request.Many wait set func info)) f s =
-    let w = wait_written wait in
-    search (numbers, w.0, w.1, s.field, s.reads, arith)
+    search (numbers, (wait_written wait).0, (wait_written wait).1, s.field, s.reads, arith)
 run_written limit mask masks (Do cpu count (request.Cond which wait set func info)) f s =
     let c = which_written which in
     let w = wait_written wait in
     search (numbers, c.0, c.1, w.0, w.1, s.field, s.reads, arith)
 run_written limit mask masks (Do cpu count (request.Machine (Some set) func n)) f s =
     search (numbers, not_none limit masks.active set s.reads, s.field, s.reads, arith)
-run_written limit mask masks (Do cpu count (request.Set key on)) f s =
-    let w = switch_written on in
-    search (numbers, w.0, w.1, arith)
+run_written limit mask masks (Do cpu count (request.Set key on)) f s = search (numbers, (switch_written on).0, (switch_written on).1, arith)
 run_written limit mask masks (Do cpu count (request.Single true dst func info)) f s = search (numbers, arith)
 run_written limit mask masks _ f s = search (numbers, arith)
 
