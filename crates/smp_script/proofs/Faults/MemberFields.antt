@@ -1,5 +1,5 @@
 -- The number of a CPU that is online, and what is wrong with its field.
-use Rattle.smp_script.proofs.Names.{◌≡◌, ℕ, ◌<◌, true, false, List, Err, refl, sym, ◌∙◌, inl, inr, arith, cases_Bool, has, Cause, Number, Range, MemberFault}
+use Rattle.smp_script.proofs.Names.{◌≡◌, ℕ, true, false, List, Err, refl, sym, ◌∙◌, inl, inr, arith, cases_Bool, has, Cause, Number, Range, MemberFault}
 use Rattle.smp_script.proofs.Names.{NumberFault, value_of, is_decimal, number_in, member_of}
 use Rattle.smp_script.proofs.Faults.FieldFaults.{Judged, fine, faulty, is_read, is_wrong, number_read}
 use Rattle.smp_script.proofs.Reader.Widths.{AreCpus}

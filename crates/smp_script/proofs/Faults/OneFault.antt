@@ -1,9 +1,8 @@
 -- A text has one first fault at most.
 use Rattle.smp_script.proofs.Names.{◌≡◌, ℕ, true, List, Result, Ok, Err, refl, arith, is_ok, cases_order, slice_get_within, Cause, Number, Range, Mask, Line}
-use Rattle.smp_script.proofs.Names.{lines_of, Fault, Script, script_of, Form, word, words, number, signed, cpu_list, active, online, member, items, field_at}
-use Rattle.smp_script.proofs.Names.{value_of, ActiveFault, FieldFault, ItemsFault, MaskFault, MemberFault, NumberFault, OnlineFault, SignedFault, LineFault}
-use Rattle.smp_script.proofs.Names.{past_lines, unended, no_shape, wrong_field, shared_key, past_events, IsFault, IsFirstFault, past_bytes, no_line, in_line}
-use Rattle.smp_script.proofs.Names.{setting_in, Mode, Setting}
+use Rattle.smp_script.proofs.Names.{lines_of, Fault, Script, script_of, Form, word, ActiveFault, FieldFault, ItemsFault, MaskFault, MemberFault, NumberFault}
+use Rattle.smp_script.proofs.Names.{OnlineFault, SignedFault, LineFault, wrong_field, IsFault, IsFirstFault, past_bytes, no_line, in_line, setting_in, Mode}
+use Rattle.smp_script.proofs.Names.{Setting}
 use Rattle.smp_script.proofs.Faults.LineFaults.{place_within}
 use Rattle.smp_script.proofs.Faults.FirstFaults.{TellsText, script_tells}
 

@@ -1,8 +1,8 @@
 -- The mask of the CPUs online, and what is wrong with its field.
 use Rattle.smp_script.proofs.Names.{◌≡◌, ℕ, ◌≤◌, true, false, ◌==◌, nat_lt, List, [], ◌∷◌, length, drop, Result, Ok, Err, codes, refl, sym, ◌∙◌, inl, inr}
 use Rattle.smp_script.proofs.Names.{arith, subst, bytes_eq, cases_Bool, cases_lt, and_parts, nat_tests, IsMaskOf, has, members, Cause, Mask, Range, NR_CPUS}
-use Rattle.smp_script.proofs.Names.{item_member, none_below, has_none, mask_of, are_whole, are_online, cpus_of, table_of, whole_cpus, online, cpus, has_shape}
-use Rattle.smp_script.proofs.Names.{IsOutside, OnlineFault, value_of}
+use Rattle.smp_script.proofs.Names.{item_member, none_below, has_none, mask_of, are_whole, are_online, cpus_of, table_of, whole_cpus, online, cpus, IsOutside}
+use Rattle.smp_script.proofs.Names.{OnlineFault, value_of}
 use Rattle.smp_script.proofs.Faults.FieldFaults.{Tells, none_yet, passes, reads_number}
 use Rattle.smp_script.proofs.Faults.LineShapes.{IsQuiet, TellsLine, shapeless, shaped, no_whole, passes_word, skips_word}
 use Rattle.smp_script.proofs.Reader.Widths.{AreCpus, mask_below, one_above, one_mask, some_fails, wider}

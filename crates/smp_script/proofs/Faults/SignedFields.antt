@@ -1,5 +1,5 @@
 -- Numbers that may have a minus sign, and what is wrong with their fields.
-use Rattle.smp_script.proofs.Names.{◌≡◌, ℕ, zero, suc, pos, negsuc, true, false, ◌==◌, nat_lt, nat_le, List, [], ◌∷◌, Ok, Err, refl, sym, ◌∙◌, inl, inr, arith}
+use Rattle.smp_script.proofs.Names.{◌≡◌, ℕ, zero, suc, pos, negsuc, true, false, ◌==◌, nat_lt, List, [], ◌∷◌, Ok, Err, refl, sym, ◌∙◌, inl, inr, arith}
 use Rattle.smp_script.proofs.Names.{cases_Bool, nat_tests, Cause, Number, Range, is_decimal, minus, negative_of, number_in, signed_of, SignedFault, is_far}
 use Rattle.smp_script.proofs.Names.{is_signed, value_of}
 use Rattle.smp_script.proofs.Faults.FieldFaults.{Judged, fine, faulty}

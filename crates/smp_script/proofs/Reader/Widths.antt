@@ -72,16 +72,10 @@ items_wider : (limit : ℕ) (items : _) → limit ≤ NR_CPUS → AreItems limit
 items_wider limit [] few h = tt
 items_wider limit (i ∷ is) few h = ((h.0.0, omega (arith, h.0.1, few)), items_wider limit is few h.1)
 
-named_first : (i : _) (is : _) → lowest i ≤ highest i → names (i ∷ is) (highest i) ≡ true
-named_first i is up = search (nat_tests, arith)
-
-named_later : (i : _) (is : _) (cpu : ℕ) → names is cpu ≡ true → names (i ∷ is) cpu ≡ true
-named_later i is cpu h = or_right (is_within cpu i) (names is cpu) h
-
 items_narrower : (limit : ℕ) (items : _) → AreItems NR_CPUS items → ((cpu : ℕ) → names items cpu ≡ true → cpu < limit) → AreItems limit items
 items_narrower limit [] h below = tt
 items_narrower limit (i ∷ is) h below =
-    ((h.0.0, below (highest i) (named_first i is h.0.0)), items_narrower limit is h.1 (λ cpu e. below cpu (named_later i is cpu e)))
+    ((h.0.0, below (highest i) (search (nat_tests, h.0.0, arith))), items_narrower limit is h.1 (λ cpu e. below cpu (or_right (is_within cpu i) (names is cpu) e)))
 
 -- a list of CPUs below the limit is a wider one, of the same mask
 pub wider : (limit : ℕ) (text : List ℕ) (m : ℕ) → limit ≤ NR_CPUS → IsMaskOf limit text m → IsMaskOf NR_CPUS text m

@@ -1,8 +1,8 @@
 -- A field of a form: what it says, how it is read, and what is wrong with it.
-use Rattle.smp_script.proofs.Names.{◌≡◌, ℕ, zero, suc, ℤ, pos, negsuc, cond, ◌<◌, ◌≤◌, ◌^◌, ◌==◌, true, List, [], ◌∷◌, Option, Some, None, Result, Ok, Err}
-use Rattle.smp_script.proofs.Names.{codes, refl, sym, inl, inr, arith, subst, decimal, signed_decimal, bytes_eq, cases_Bool, or_cases, nat_tests, has, Cause}
-use Rattle.smp_script.proofs.Names.{Word, Range, NR_CPUS, mask_of, word32, FieldFault, field_at, number_in, minus, signed_of, active_of, member_of, Form, word}
-use Rattle.smp_script.proofs.Names.{words, number, signed, cpu_list, active, online, member, items, has_word, is_one_of, IsAnswer}
+use Rattle.smp_script.proofs.Names.{◌≡◌, ℕ, zero, suc, ℤ, pos, ◌<◌, ◌≤◌, ◌^◌, ◌==◌, true, List, [], ◌∷◌, Option, Some, None, Result, Ok, Err, codes, refl, sym}
+use Rattle.smp_script.proofs.Names.{inl, inr, arith, subst, decimal, signed_decimal, bytes_eq, cases_Bool, or_cases, nat_tests, has, Cause, Word, NR_CPUS}
+use Rattle.smp_script.proofs.Names.{mask_of, FieldFault, field_at, number_in, minus, signed_of, active_of, member_of, Form, word, words, number, signed}
+use Rattle.smp_script.proofs.Names.{cpu_list, active, online, member, items, has_word, is_one_of, IsAnswer}
 use Rattle.smp_script.proofs.Faults.FieldFaults.{Judged, fine, number_judged}
 use Rattle.smp_script.proofs.Faults.MaskFields.{active_judged, mask_judged}
 use Rattle.smp_script.proofs.Faults.MemberFields.{member_judged}
@@ -112,6 +112,5 @@ form_said (number low high) P text n sound right h all =
 form_said signed P text z sound right h all =
     let is = signed_ok text z h in
     rw is.0 (all z is.1)
-form_said (cpu_list limit) P text m sound right h all = all text m h
 form_said (active limit) P text set sound right h all = active_said limit P text set h all
 form_said _ P text x sound right h all = search (member_ok, arith)

@@ -2,8 +2,7 @@
 use Rattle.smp_script.proofs.Names.{◌≡◌, ℕ, ℤ, ◌≤◌, false, List, [], ◌∷◌, Result, codes, refl, arith, inl, inr, AllByRecursion, bytes_eq, cases_Bool, Cause}
 use Rattle.smp_script.proofs.Names.{Class, Sync, Async, Post, Send, Done, Handle, Gate, Ungate, Begin, Enter, Advance, RunOne, Finish, Poll, Key, Site, Nudge}
 use Rattle.smp_script.proofs.Names.{Kind, OneKind, Multi, Patch, Directive, Start, Step, Show, begins_of, command_of, posts_of, replay_line, show_of}
-use Rattle.smp_script.proofs.Names.{start_begin, start_of, start_post, steps_of, answered, bare, begin, numbered, nudge, post, show, step, decimal, NR_CPUS}
-use Rattle.smp_script.proofs.Names.{Replay, value_of}
+use Rattle.smp_script.proofs.Names.{start_begin, start_of, start_post, steps_of, answered, bare, begin, numbered, nudge, post, show, step, NR_CPUS, Replay}
 use Rattle.smp_words.specs.declared.command.Command.{Command}
 use Rattle.smp_script.proofs.Rows.Forms.{Known}
 use Rattle.smp_script.proofs.Rows.Words.{AreWords, masked_twice, plain}

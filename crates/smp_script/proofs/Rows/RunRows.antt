@@ -1,8 +1,8 @@
 -- The rows of a run: what its lines ask for, by their shapes.
-use Rattle.smp_script.proofs.Names.{◌≡◌, ℕ, ◌<◌, ◌≤◌, ◌^◌, Bool, true, false, List, [], ◌∷◌, map, Result, Ok, Err, codes, refl, arith, inl, inr, sym, ap, ◌∙◌}
-use Rattle.smp_script.proofs.Names.{decimal, AllByRecursion, bytes_eq, cases_Bool, Cause, Word, NR_CPUS, Directive, Do, Run, Which, All, Even, Odd, run_line}
-use Rattle.smp_script.proofs.Names.{◌>>=◌, value_of, among, do_of, member_of, operation_of, repeated, wait_of, which_of, Form, active, bits, cpu_list, func_arg}
-use Rattle.smp_script.proofs.Names.{func_info, number, operation, operations, is_one_of, switch, wait, which, mask_of, word16, word64, number_in}
+use Rattle.smp_script.proofs.Names.{◌≡◌, ℕ, ◌≤◌, Bool, true, false, List, [], ◌∷◌, map, Result, Ok, Err, codes, refl, arith, inl, inr, sym, ap, ◌∙◌}
+use Rattle.smp_script.proofs.Names.{AllByRecursion, bytes_eq, cases_Bool, Cause, Word, NR_CPUS, Directive, Do, Run, Which, All, Even, Odd, run_line, ◌>>=◌}
+use Rattle.smp_script.proofs.Names.{among, do_of, member_of, operation_of, repeated, wait_of, which_of, Form, active, bits, cpu_list, func_arg, func_info}
+use Rattle.smp_script.proofs.Names.{number, operation, operations, is_one_of, switch, wait, which, mask_of, word16, word64, number_in}
 use Rattle.smp_script.specs.declared.request.Request.{Request}
 use Rattle.smp_script.specs.declared.request.Request.TheVariants as request
 use Rattle.smp_script.proofs.Reader.Widths.{AreCpus}

@@ -24,8 +24,6 @@ key_back keys key few h =
 -- an item is its entry's text
 parts_back : (keys : ℕ) (text : List ℕ) (ps : List (List ℕ)) → keys ≤ MOST_KEYS → parts_of 58 text ≡ ps → is_among keys (item_in ps) ≡ true
     → item_text (entry_in (item_in ps)) ≡ text
-parts_back keys text [] few e h = cc
-parts_back keys text (key ∷ []) few e h = cc
 parts_back keys text (key ∷ branch ∷ []) few e h =
     let joined : join_with_byte 58 (key ∷ branch ∷ []) ≡ text = ap (join_with_byte 58) (sym e) ∙ join_parts 58 text in
     elim (cases_Bool (bytes_eq branch (codes "0"))) [
@@ -41,7 +39,7 @@ parts_back keys text (key ∷ branch ∷ []) few e h =
         | inr no_on ↦ let bad : false ≡ true = rw (no_off, no_on) at h in cc
       ]
     ]
-parts_back keys text (key ∷ branch ∷ other ∷ rest) few e h = cc
+parts_back keys text _ few e h = cc
 
 items_back : (keys : ℕ) (texts : List (List ℕ)) → keys ≤ MOST_KEYS → list_all (is_below keys) texts ≡ true → map item_text (map entry_of texts) ≡ texts
 items_back keys [] few h = refl
@@ -84,13 +82,10 @@ labels_in_ok keys field m h =
 
 labels_words : (fields : List (List ℕ)) (m : Labels) → is_labels fields ≡ true → labels_of fields ≡ Ok m
     → (fields ≡ codes "labels" ∷ decimal m.keys ∷ items_text m.entries ∷ []) × AreLabels m.keys m.entries
-labels_words [] m is h = cc
-labels_words (word ∷ []) m is h = cc
-labels_words (word ∷ keys ∷ []) m is h = cc
 labels_words (word ∷ keys ∷ items ∷ []) m is h =
     let t = labels_in_ok keys items m h in
     (rw (same_word word (codes "labels") is, t.keys_are, t.items_are) refl, t.fit)
-labels_words (word ∷ keys ∷ items ∷ other ∷ rest) m is h = cc
+labels_words _ m is h = cc
 
 -- a text by its labels line, where it begins with one
 pub record BeginsLabels (bs : List ℕ) (third : Option Labels × List Line) : Type 0 where

@@ -1,10 +1,10 @@
 -- The lines of a script that ask for something, as they are written.
 use Rattle.smp_script.proofs.Names.{◌≡◌, ℕ, suc, ℤ, pos, negsuc, ◌<◌, ◌^◌, Bool, true, false, List, [], ◌∷◌, Some, Result, Ok, Err, codes, refl, sym, ap, ◌∙◌}
 use Rattle.smp_script.proofs.Names.{inl, inr, arith, decimal, signed_decimal, list_all, bytes_eq, cases_Bool, and_parts, nat_tests, has, read_from, Cause, Mask}
-use Rattle.smp_script.proofs.Names.{Class, Sync, Async, Post, Begin, Nudge, Kind, OneKind, Multi, Patch, Directive, Start, Do, Mode, Replay, Run, Which, All}
-use Rattle.smp_script.proofs.Names.{Even, Odd, directive_of, start_begin, start_post, class_of, kind_of, mask_of, way_of, number_in, signed_of, member_of}
-use Rattle.smp_script.proofs.Names.{repeated, switch_of, wait_of, which_of, DirectiveFits, IsAnswer, Masks, SpellLine, class_text, directive_words, is_field}
-use Rattle.smp_script.proofs.Names.{kind_text, lacks, switch_text, wait_text, way_text, which_text}
+use Rattle.smp_script.proofs.Names.{Class, Sync, Async, Post, Begin, Nudge, Kind, OneKind, Directive, Start, Do, Mode, Replay, Run, Which, All, directive_of}
+use Rattle.smp_script.proofs.Names.{start_begin, start_post, class_of, kind_of, mask_of, way_of, number_in, signed_of, member_of, repeated, switch_of, wait_of}
+use Rattle.smp_script.proofs.Names.{which_of, DirectiveFits, IsAnswer, Masks, SpellLine, class_text, directive_words, is_field, kind_text, lacks, switch_text}
+use Rattle.smp_script.proofs.Names.{wait_text, way_text, which_text}
 use Rattle.smp_script.specs.declared.request.Request.TheVariants as request
 use Rattle.smp_script.proofs.Spelled.ReadParts.{same_word}
 use Rattle.smp_script.proofs.Texts.Decimals.{decimal_lacks, is_field-decimal, number_in-decimal}
