@@ -38,12 +38,9 @@ items_told keys field good =
     reads_last labels fields (λ m. IsQuiet fields) 2 items (entries_in (value_of keys) (items_of field)) refl two refl (λ m. (refl, refl))
     (items_judged (value_of keys) field)))
 
-itemless : (keys : List ℕ) (texts : List (List ℕ)) → list_all is_item texts ≡ false → labels_in keys texts ≡ Err Word
-unfolding labels_in
-itemless keys texts h = rw h refl
-
 labels_rest : (setting : Setting) (rest : List (List ℕ)) → are_whole (codes "labels" ∷ rest) ≡ true
     → TellsLine (labels ∷ requests setting) (codes "labels" ∷ rest) (λ m. IsQuiet (codes "labels" ∷ rest)) (labels_of (codes "labels" ∷ rest))
+unfolding labels_in
 labels_rest setting [] whole = shapeless (no_labels setting []) refl
 labels_rest setting (k ∷ []) whole = shapeless (no_labels setting (k ∷ [])) refl
 labels_rest setting (k ∷ i ∷ []) whole =
@@ -51,7 +48,7 @@ labels_rest setting (k ∷ i ∷ []) whole =
     elim (cases_Bool (list_all is_item (items_of i))) [
       | inl good ↦ shaped labels (labels_in k (items_of i)) (rw (good, some_k) refl) refl (items_told k i good)
       | inr bad ↦ shapeless (skips (codes "labels" ∷ k ∷ i ∷ []) labels (requests setting) (rw bad refl) ∙ no_labels setting (k ∷ i ∷ []))
-          (itemless k (items_of i) bad)
+          (rw bad refl)
     ]
 labels_rest setting (k ∷ i ∷ x ∷ rest) whole = shapeless (no_labels setting (k ∷ i ∷ x ∷ rest)) refl
 

@@ -9,16 +9,12 @@ use Rattle.smp_script.proofs.Faults.LineShapes.{TellsLine, shapeless, shaped}
 -- a shape has as many fields as the line
 find_passes : {A : Type 0} (p : A → Bool) (xs : List A) (x : A) → find p xs ≡ Some x → p x ≡ true
 find_passes p [] x h = cc
-find_passes p (y ∷ ys) x h = elim (cases_Bool (p y)) [
-  | inl here ↦ let same : Some y ≡ Some x = rw here at h in let one : y ≡ x = cc in subst (λ z. p z ≡ true) one here
-  | inr other ↦ find_passes p ys x (rw other at h)
-]
+find_passes p (y ∷ ys) x h = grind (arith, cases_Bool, find_passes p ys x)
 
 same_length : (fields : List (List ℕ)) (shape : List Form) → has_shape fields shape ≡ true → length shape ≡ length fields
 same_length [] [] h = refl
-same_length [] (form ∷ forms) h = cc
-same_length (field ∷ fields) [] h = cc
 same_length (field ∷ fields) (form ∷ forms) h = omega (arith, same_length fields forms (and_parts (has_shape fields forms) (has_word form field) h).0)
+same_length _ _ h = cc
 
 shape_length : (setting : Setting) (n : ℕ) (fields : List (List ℕ)) (shape : List Form) → shape_of setting n fields ≡ Some shape → length shape ≡ length fields
 shape_length setting n fields shape s = same_length fields shape (find_passes (has_shape fields) (shapes_of setting n) shape s)

@@ -21,10 +21,6 @@ or_nothing : (b : Bool) → (b || false) ≡ b
 or_nothing true = refl
 or_nothing false = refl
 
-or_true : (b : Bool) → (b || true) ≡ true
-or_true true = refl
-or_true false = refl
-
 line_more : (text : List ℕ) (n : ℕ) (line : Line) → slice_get (lines_of text) n ≡ Some line → (mine : Option KeyUse)
     → list_any (has_shared mine) (take (n + 1) (lines_of text)) ≡ (list_any (has_shared mine) (take n (lines_of text)) || has_shared mine line)
 line_more text n line here mine =
@@ -68,7 +64,7 @@ meets : (lines : List Line) (n place : ℕ) (mine : Option KeyUse) (line : Line)
 meets [] n place mine line below there is = cc
 meets (l ∷ ls) zero place mine line below there is = absurd (omega arith)
 meets (l ∷ ls) (suc n) zero mine line below there is = search arith
-meets (l ∷ ls) (suc n) (suc place) mine line below there is = grind (or_true, meets ls n place mine line (omega arith) there is, arith)
+meets (l ∷ ls) (suc n) (suc place) mine line below there is = grind (cases_Bool, meets ls n place mine line (omega arith) there is, arith)
 
 -- two uses of one key by two CPUs
 record Both (mine theirs : Option KeyUse) : Type 0 where

@@ -18,9 +18,7 @@ number_far high text good far = search (nat_tests, arith)
 
 plain_judged : (b : ℕ) (bs : List ℕ) → (b == 45) ≡ false → Judged (SignedFault (b ∷ bs)) (signed_of (b ∷ bs))
 plain_judged b bs plain = elim (cases_Bool (is_decimal (b ∷ bs))) [
-  | inr bad ↦
-      let read : number_in 0 2147483647 (b ∷ bs) ≡ Err Number = rw bad refl in
-      faulty Number (rw (plain, read) refl) (rw (plain, bad) refl)
+  | inr bad ↦ faulty Number (rw (plain, bad) refl) (rw (plain, bad) refl)
   | inl good ↦ elim (cases_Bool (nat_lt 2147483647 (value_of (b ∷ bs)))) [
     | inl far ↦ faulty Range (rw (plain, number_far 2147483647 (b ∷ bs) good far) refl) (rw (plain, good) refl, rw (plain, far) refl)
     | inr near ↦ fine (pos (value_of (b ∷ bs))) (rw (plain, number_near 2147483647 (b ∷ bs) good near) refl)
@@ -40,9 +38,7 @@ negated b bs (suc n) sign good near e =
 
 negative_judged : (b : ℕ) (bs : List ℕ) → (b == 45) ≡ true → Judged (SignedFault (b ∷ bs)) (negative_of bs)
 negative_judged b bs sign = elim (cases_Bool (is_decimal bs)) [
-  | inr bad ↦
-      let read : number_in 0 2147483648 bs ≡ Err Number = rw bad refl in
-      faulty Number (rw read refl) (rw (sign, bad) refl)
+  | inr bad ↦ faulty Number (rw bad refl) (rw (sign, bad) refl)
   | inl good ↦ elim (cases_Bool (nat_lt 2147483648 (value_of bs))) [
     | inl far ↦
         let some : (value_of bs == 0) ≡ false = grind (arith, nat_tests, far) in
@@ -54,8 +50,6 @@ negative_judged b bs sign = elim (cases_Bool (is_decimal bs)) [
 pub signed_judged : (text : List ℕ) → Judged (SignedFault text) (signed_of text)
 signed_judged [] = faulty Number refl refl
 signed_judged (b ∷ bs) = elim (cases_Bool (b == 45)) [
-  | inl sign ↦
-      let same : signed_of (b ∷ bs) ≡ negative_of bs = rw sign refl in
-      rw same (negative_judged b bs sign)
+  | inl sign ↦ rw sign (negative_judged b bs sign)
   | inr plain ↦ plain_judged b bs plain
 ]

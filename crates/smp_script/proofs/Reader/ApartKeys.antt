@@ -4,8 +4,7 @@ use Rattle.smp_script.proofs.Names.{key_of, shares}
 
 neither : (a b : Bool) → (a || (b || false)) ≡ false → (a ≡ false) × (b ≡ false)
 neither false false h = (refl, refl)
-neither false true h = cc
-neither true b h = cc
+neither _ _ h = cc
 
 one_more : (earlier : List Directive) (d e : Directive) → shares (earlier ++ d ∷ []) e ≡ (shares earlier e || (is_shared (key_of e) (key_of d) || false))
 one_more earlier d e = list_any-append (λ x. is_shared (key_of e) (key_of x)) earlier (d ∷ [])

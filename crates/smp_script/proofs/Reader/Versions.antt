@@ -14,9 +14,8 @@ limit_told mode text l ls One e f = rw (e, f) refl
 limit_told mode text l ls Two e f = rw (e, f) refl
 
 second_word : (ls rest : List Line) (l : Line) → drop 1 ls ≡ l ∷ rest → online_word ls ≡ field_at (fields_of l.text) 2
-second_word [] rest l e = cc
-second_word (t ∷ []) rest l e = cc
 second_word (t ∷ m ∷ ms) rest l e = let same : m ≡ l = cc in ap (λ x. field_at (fields_of x.text) 2) same
+second_word _ rest l e = cc
 
 -- and the second which are online
 pub online_told : (text : List ℕ) (l : Line) (ls : List Line) (version : Version) (mask : ℕ) → drop 1 (lines_of text) ≡ l ∷ ls

@@ -58,10 +58,8 @@ begin_same limit cpu _ = simp cond_same
 
 short_same : (limit : ℕ) (cpu name : List ℕ) (arguments : List (List ℕ)) → bytes_eq name (codes "post") ≡ false → bytes_eq name (codes "begin") ≡ false
     → ByRow limit (codes "start" ∷ cpu ∷ name ∷ arguments) (command_of limit cpu name arguments)
-short_same limit cpu name [] no_post no_begin = simp (no_post, no_begin, cond_bind)
-short_same limit cpu name (a ∷ []) no_post no_begin = simp (no_post, no_begin, cond_bind)
 short_same limit cpu name (a ∷ b ∷ []) no_post no_begin = simp (no_post, no_begin, cond_bind)
-short_same limit cpu name _ no_post no_begin = simp (no_post, no_begin, cond_same)
+short_same limit cpu name _ no_post no_begin = simp (no_post, no_begin, cond_bind, cond_same)
 
 start_same : (limit : ℕ) (rest : List (List ℕ)) → ByRow limit (codes "start" ∷ rest) (start_of limit rest)
 start_same limit (cpu ∷ name ∷ arguments) = elim (cases_Bool (bytes_eq name (codes "post"))) [

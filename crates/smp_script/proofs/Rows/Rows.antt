@@ -51,13 +51,12 @@ ForAll (form ∷ forms) make P = ForField form (λ text x. ForAll forms (make x)
 pub reads_said : {R : Type 0} (forms : List Form) (make : Makes forms R) (P : List (List ℕ) → R → Type 0) (texts : List (List ℕ)) (r : R)
     → AllByRecursion Sound forms → has_shape texts forms ≡ true → reads forms make texts ≡ Ok r → ForAll forms make P → P texts r
 reads_said [] make P [] r sound has h all = let same : make ≡ r = cc in subst (P []) same all
-reads_said [] make P (text ∷ texts) r sound has h all = cc
-reads_said (form ∷ forms) make P [] r sound has h all = cc
 reads_said (form ∷ forms) make P (text ∷ texts) r sound has h all =
     let parts = and_parts (has_shape texts forms) (has_word form text) has in
     let a = both (read_form form text) (λ x. reads forms (make x) texts) r h in
     reads_said forms (make a.value) (λ more x. P (text ∷ more) x) texts r sound.1 parts.0 a.then
     (form_said form (λ t x. ForAll forms (make x) (λ more y. P (t ∷ more) y)) text a.value sound.0 parts.1 a.first all)
+reads_said _ make P _ r sound has h all = cc
 
 -- the first of the words that the text is
 abbrev pub choose : {X : Type 0} → List (List ℕ) → List ℕ → (List ℕ → X) → X → X

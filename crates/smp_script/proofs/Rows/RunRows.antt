@@ -79,13 +79,12 @@ named_four limit cpus cpu count a b c d =
 
 named_same : (limit cpus : ℕ) (cpu count : List ℕ) (arguments : List (List ℕ)) → ForEach (Named limit cpus cpu count arguments) (names limit)
 unfolding repeated
-named_same limit cpus cpu count [] = assumption
 named_same limit cpus cpu count (a ∷ []) = simp (bind_assoc, cond_bind) assumption
 named_same limit cpus cpu count (a ∷ b ∷ []) = simp (bind_assoc, cond_bind) assumption
 named_same limit cpus cpu count (a ∷ b ∷ c ∷ []) = named_three limit cpus cpu count a b c
 named_same limit cpus cpu count (a ∷ b ∷ c ∷ d ∷ []) = named_four limit cpus cpu count a b c d
 named_same limit cpus cpu count (a ∷ b ∷ c ∷ d ∷ e ∷ []) = search (cond_same_words, arith)
-named_same limit cpus cpu count (a ∷ b ∷ c ∷ d ∷ e ∷ f ∷ rest) = assumption
+named_same limit cpus cpu count _ = assumption
 
 -- a name that is none of these
 not_word : (ws : List (List ℕ)) (name : List ℕ) → is_one_of ws name ≡ false → (w : List ℕ) → is_one_of ws w ≡ true → bytes_eq name w ≡ false

@@ -34,10 +34,7 @@ number_in-decimal low high n above below small = search (digits_value-decimal, o
 
 lacks_digits : (c : ℕ) (ds : List ℕ) → is_digit c ≡ false → AreDigits ds → lacks c ds ≡ true
 lacks_digits c [] h a = refl
-lacks_digits c (d ∷ ds) h a =
-    let rest : AreDigits ds = grind (arith, a) in
-    let other : (d == c) ≡ false = grind (arith, nat_tests, a, h) in
-    rw (other, lacks_digits c ds h rest) refl
+lacks_digits c (d ∷ ds) h a = grind (arith, nat_tests, lacks_digits c ds)
 
 -- it has no byte that is no digit
 pub decimal_lacks : (c n : ℕ) → is_digit c ≡ false → n < 2 ^ 64 → lacks c (decimal n) ≡ true

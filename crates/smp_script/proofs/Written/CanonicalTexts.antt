@@ -79,12 +79,8 @@ list_is_text limit m few narrow some =
 
 pub mask_is_text : (limit m : ℕ) → limit ≤ NR_CPUS → m < 2 ^ limit → IsMaskText limit (mask_text m) m
 mask_is_text limit m few set = elim (cases_Bool (m == 0)) [
-  | inl none ↦
-      let zero_ : m ≡ 0 = grind (arith, nat_tests, none) in
-      rw zero_ (record { field = refl; reads = refl })
-  | inr some ↦
-      let more : m ≡ 0 → ⊥ = grind (arith, nat_tests, some) in
-      rw some (list_is_text limit m few set more)
+  | inl none ↦ let zero_ : m ≡ 0 = grind (arith, nat_tests, none) in rw zero_ (record { field = refl; reads = refl })
+  | inr some ↦ rw some (list_is_text limit m few set (grind (arith, nat_tests, some)))
 ]
 
 line_is_spelled : (limit : ℕ) (d : Directive) → limit ≤ NR_CPUS → LineHasSets limit d → SpellLine limit (line_masks d, d)

@@ -105,13 +105,9 @@ spelling_is_read mode mask lines script text s =
     let limit = limit_of script.version in
     let few = limit_within script.version in
     let nr_field : is_field (decimal script.nr) ≡ true = is_field-decimal script.nr (omega (arith, s.within, few)) in
-    let short : nat_lt 65536 (length text) ≡ false = longer (length text) s.bytes in
     let words : list_all is_field (codes "cpus" ∷ decimal script.nr ∷ mask ∷ []) ≡ true = rw (nr_field, s.mask_is.field) refl in
-    let rest = labels_before script.labels (spelled_lines lines) in
     let first = lines_of-line (codes "smp" ∷ version_text script.version ∷ mode_text mode ∷ [])
     (line_before (codes "cpus" ∷ decimal script.nr ∷ mask ∷ []) (labels_before script.labels (spelled_lines lines))) (title_fields mode script.version) in
-    let title : title_of mode (fields_of (join_with_byte 32 (codes "smp" ∷ version_text script.version ∷ mode_text mode ∷ []))) ≡ Ok script.version =
-    title_read mode script.version in
     let second = lines_of-line (codes "cpus" ∷ decimal script.nr ∷ mask ∷ []) (labels_before script.labels (spelled_lines lines)) words in
     let table : whole_cpus limit (fields_of (join_with_byte 32 (codes "cpus" ∷ decimal script.nr ∷ mask ∷ []))) ≡ Ok (script.nr, script.online) =
     ap (whole_cpus limit) (fields_join (codes "cpus") (decimal script.nr ∷ mask ∷ []) words)
@@ -123,4 +119,4 @@ spelling_is_read mode mask lines script text s =
     let events : sum_by events_of (asked lines) ≤ 100000 = subst (λ ds. sum_by events_of ds ≤ 100000) (sym s.lines_are) s.events in
     let third = third_read setting script.labels lines s.labels fit s.masks_are in
     let body = lines_are_read setting (first_line script.labels) 0 [] lines fit s.masks_are (apart_at_first (asked lines)) keys count (omega (arith, events)) in
-    rw (short, s.text_is, first, title, second, table) (rw (third, body, s.lines_are) refl)
+    rw (longer (length text) s.bytes, s.text_is, first, title_read mode script.version, second, table) (rw (third, body, s.lines_are) refl)
