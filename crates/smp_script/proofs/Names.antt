@@ -17,7 +17,7 @@ pub use Rattle.std.specs.List.{AllByRecursion, join_with_byte, list_all, list_an
 pub use Rattle.smp_mask.proofs.Members.{road, none_below, item_member}
 pub use Rattle.smp_mask.proofs.Sets.{none_empty, member_below as is_cpu, same_members, has_none}
 pub use Rattle.smp_mask.proofs.Walks.{accepted, refused}
-pub use Rattle.smp_mask.specs.CpuList.{AreItems, IsListOf, IsMaskOf, highest, is_within, lowest, names}
+pub use Rattle.smp_mask.specs.CpuList.{AreItems, IsListOf, IsMaskOf, highest, is_within, names}
 unfoldable pub use Rattle.smp_mask.specs.Mask.{members_below}
 pub use Rattle.smp_mask.specs.Mask.{has, members}
 unfoldable pub use Rattle.smp_mask.specs.Reading.{read_from}

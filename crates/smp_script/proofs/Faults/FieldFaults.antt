@@ -43,19 +43,12 @@ right_number low high text good above below _ f = f
 pub number_read : (low high : ℕ) (text : List ℕ) → NumberRead low high text
 number_read low high text = elim (cases_Bool (is_decimal text)) [
   | inr bad ↦ is_wrong Number (rw bad refl) bad
-  | inl good ↦ elim (cases_lt (value_of text) low) [
-    | inl under ↦
-        let test : nat_le low (value_of text) ≡ false = grind (arith, nat_tests) in
-        is_wrong Range (rw (good, test) refl) (good, inl under)
-    | inr above ↦ elim (cases_lt high (value_of text)) [
-      | inl over ↦
-          let test : nat_le low (value_of text) ≡ true = grind (arith, nat_tests) in
-          let past : nat_le (value_of text) high ≡ false = grind (arith, nat_tests) in
-          is_wrong Range (rw (good, test, past) refl) (good, inr over)
-      | inr below ↦
-          let test : nat_le low (value_of text) ≡ true = grind (arith, nat_tests) in
-          let within : nat_le (value_of text) high ≡ true = grind (arith, nat_tests) in
-          is_read good (rw (good, test, within) refl) (right_number low high text good above below)
+  | inl good ↦ elim (cases_Bool (nat_le low (value_of text))) [
+    | inr under ↦ is_wrong Range (rw (good, under) refl) (good, inl (grind (arith, nat_tests, under)))
+    | inl above ↦ elim (cases_Bool (nat_le (value_of text) high)) [
+      | inr over ↦ is_wrong Range (rw (good, above, over) refl) (good, inr (grind (arith, nat_tests, over)))
+      | inl below ↦ is_read good (rw (good, above, below) refl)
+          (right_number low high text good (grind (arith, nat_tests, above)) (grind (arith, nat_tests, below)))
     ]
   ]
 ]

@@ -93,9 +93,8 @@ module _ (setting : Setting) (text : List ℕ) where
 
   -- a line that is missing has no fault of rank 0
   none_missing : (n : ℕ) → length (lines_of text) ≤ n → (m k : ℕ) (cause : Cause) → m ≡ n + 1 → k < 1 → IsFault setting text m k cause → ⊥
-  none_missing n short m k cause e below (past_bytes f) = omega (arith, e)
-  none_missing n short m k cause e below (no_line f few) = omega arith
   none_missing n short m k cause e below (in_line n' {line = other} found f) = omega (arith, e, slice_get_within (lines_of text) n' other found)
+  none_missing n short m k cause e below _ = omega (arith, e)
 
   missing_first : (n : ℕ) → length (lines_of text) ≤ n → n ≤ 1 → NoneBefore (n + 1) → IsFirstFault setting text (n + 1) Cut
   missing_first n short few none = record {

@@ -1,8 +1,8 @@
 -- The labels line, and what is wrong with it.
-use Rattle.smp_script.proofs.Names.{◌≡◌, ℕ, ◌≤◌, true, false, ◌==◌, nat_lt, List, [], ◌∷◌, length, drop, map, Result, Err, codes, refl, sym, ◌∙◌, inl, inr}
-use Rattle.smp_script.proofs.Names.{arith, subst, find, list_all, cases_Bool, nat_tests, Cause, Word, Number, Range, MOST_KEYS, MOST_SITES, are_whole}
-use Rattle.smp_script.proofs.Names.{whole_directive, entries_in, entry_of, has_number, is_below, is_item, is_labels, items_of, labels_in, labels_of}
-use Rattle.smp_script.proofs.Names.{whole_labels, items, labels, requests, has_shape, Setting, ItemsFault, value_of}
+use Rattle.smp_script.proofs.Names.{◌≡◌, ℕ, ◌≤◌, true, false, ◌==◌, nat_lt, List, [], ◌∷◌, length, drop, map, Result, codes, refl, sym, ◌∙◌, inl, inr, arith}
+use Rattle.smp_script.proofs.Names.{subst, find, list_all, cases_Bool, nat_tests, Cause, Number, Range, MOST_KEYS, MOST_SITES, are_whole, whole_directive}
+use Rattle.smp_script.proofs.Names.{entries_in, entry_of, has_number, is_below, is_item, is_labels, items_of, labels_in, labels_of, whole_labels, items, labels}
+use Rattle.smp_script.proofs.Names.{requests, has_shape, Setting, ItemsFault, value_of}
 use Rattle.smp_script.proofs.Faults.FieldFaults.{Judged, fine, faulty, Tells, none_yet, reads_last, reads_number}
 use Rattle.smp_script.proofs.Faults.LineShapes.{IsQuiet, TellsLine, shapeless, shaped, no_whole, passes_word, skips, skips_word}
 use Rattle.smp_script.proofs.Faults.RequestLines.{IsSound, Spells, line_told, no_labels, no_request}
@@ -47,8 +47,7 @@ labels_rest setting (k ∷ i ∷ []) whole =
     let some_k : (length k == 0) ≡ false = grind (arith, whole) in
     elim (cases_Bool (list_all is_item (items_of i))) [
       | inl good ↦ shaped labels (labels_in k (items_of i)) (rw (good, some_k) refl) refl (items_told k i good)
-      | inr bad ↦ shapeless (skips (codes "labels" ∷ k ∷ i ∷ []) labels (requests setting) (rw bad refl) ∙ no_labels setting (k ∷ i ∷ []))
-          (rw bad refl)
+      | inr bad ↦ shapeless (skips (codes "labels" ∷ k ∷ i ∷ []) labels (requests setting) (rw bad refl) ∙ no_labels setting (k ∷ i ∷ [])) (rw bad refl)
     ]
 labels_rest setting (k ∷ i ∷ x ∷ rest) whole = shapeless (no_labels setting (k ∷ i ∷ x ∷ rest)) refl
 

@@ -1,7 +1,7 @@
 -- The faults of one line, by what reading its fields tells.
-use Rattle.smp_script.proofs.Names.{◌≡◌, ℕ, ◌+◌, ◌<◌, ◌≤◌, Bool, true, false, List, [], ◌∷◌, length, Some, Result, Ok, Err, refl, sym, ◌∙◌, inl, inr, arith}
-use Rattle.smp_script.proofs.Names.{subst, find, slice_get, cases_Bool, cases_lt, and_parts, slice_get_within, Cause, TooLong, Cut, Word, SharedKey, Setting}
-use Rattle.smp_script.proofs.Names.{Line, fields_of, Form, has_shape, has_word, shape_of, shapes_of, LineFault, past_lines, unended, no_shape, wrong_field}
+use Rattle.smp_script.proofs.Names.{◌≡◌, ℕ, ◌+◌, ◌<◌, ◌≤◌, Bool, true, false, List, [], ◌∷◌, length, Some, Result, Ok, Err, refl, sym, ◌∙◌, arith, subst, find}
+use Rattle.smp_script.proofs.Names.{slice_get, cases_Bool, cases_lt, and_parts, slice_get_within, Cause, TooLong, Cut, Word, SharedKey, Setting, Line}
+use Rattle.smp_script.proofs.Names.{fields_of, Form, has_shape, has_word, shape_of, shapes_of, LineFault, past_lines, unended, no_shape, wrong_field}
 use Rattle.smp_script.proofs.Names.{shared_key, past_events}
 use Rattle.smp_script.proofs.Faults.FieldFaults.{Clean, FirstWrong}
 use Rattle.smp_script.proofs.Faults.LineShapes.{TellsLine, shapeless, shaped}

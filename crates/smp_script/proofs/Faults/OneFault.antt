@@ -47,7 +47,8 @@ field_cause fields i _ c d f g = search (number_cause, signed_cause, mask_cause,
 -- two faults of one rank in a line have one cause
 line_cause : (setting : Setting) (n events : ℕ) (shared : Type 0) (line : Line) (k m : ℕ) (c d : Cause) → k ≡ m → LineFault setting n events shared line k c
     → LineFault setting n events shared line m d → c ≡ d
-line_cause setting n events shared line k m c d e (wrong_field i {shape = a} {form = v} s w f) (wrong_field j {shape = b} {form = u} t x g) = search (field_cause, arith)
+line_cause setting n events shared line k m c d e (wrong_field i {shape = a} {form = v} s w f) (wrong_field j {shape = b} {form = u} t x g) =
+    search (field_cause, arith)
 line_cause setting n events shared line k m c d e (wrong_field i {shape = a} {form = v} s w f) _ = search (place_within, arith)
 line_cause setting n events shared line k m c d e _ (wrong_field j {shape = b} {form = u} t x g) = search (place_within, arith)
 line_cause setting n events shared line k m c d e _ _ = search arith

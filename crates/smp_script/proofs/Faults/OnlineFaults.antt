@@ -92,14 +92,11 @@ cpus_told limit fields few = elim (cases_Bool (are_whole fields)) [
 -- the CPUs of a mask that was read are CPUs
 pub mask_cpus : (limit : ℕ) (text : List ℕ) (m : ℕ) → limit ≤ NR_CPUS → mask_of limit text ≡ Ok m → AreCpus m
 mask_cpus limit text m few h = elim (cases_Bool (bytes_eq text (codes "-"))) [
-  | inl dash ↦
-      let e : ◌≡◌ {A = Result ℕ Cause} (Ok 0) (Ok m) = rw dash at h in
-      let same : 0 ≡ m = cc in
+  | inl dash ↦ let same : 0 ≡ m = let e : ◌≡◌ {A = Result ℕ Cause} (Ok 0) (Ok m) = rw dash at h in cc in
       subst AreCpus same (λ cpu on. let bad : false ≡ true = sym (has_none cpu) ∙ on in cc)
   | inr other ↦ elim (list_read limit text few other) [
     | a_list n read is ↦
-        let e : ◌≡◌ {A = Result ℕ Cause} (Ok n) (Ok m) = sym read ∙ h in
-        let same : n ≡ m = cc in
+        let same : n ≡ m = let e : ◌≡◌ {A = Result ℕ Cause} (Ok n) (Ok m) = sym read ∙ h in cc in
         subst AreCpus same (are_cpus limit text n few is)
     | no_list read none ↦ let e : ◌≡◌ {A = Result ℕ Cause} (Err Mask) (Ok m) = sym read ∙ h in cc
   ]

@@ -1,6 +1,6 @@
 -- Keys that lines of two CPUs have: in a text, and among what was read.
 use Rattle.smp_script.proofs.Names.{◌≡◌, ◌≢◌, ℕ, zero, suc, ◌+◌, ◌<◌, Bool, true, false, not, ◌||◌, ◌==◌, List, [], ◌∷◌, ◌++◌, take, get_or, Option, Some, None}
-use Rattle.smp_script.proofs.Names.{refl, sym, ap, ◌∙◌, inl, inr, arith, subst, slice_get, list_any, cases_Bool, and_parts, eqb-true, eq-eqb, list_any-append}
+use Rattle.smp_script.proofs.Names.{refl, sym, ap, ◌∙◌, inl, inr, arith, slice_get, list_any, cases_Bool, and_parts, eqb-true, eq-eqb, list_any-append}
 use Rattle.smp_script.proofs.Names.{list_any_more, get_or_from_slice_get, slice_get_within, Directive, SharesKey, key_in, KeyUse, is_shared, key_of, shares}
 use Rattle.smp_script.proofs.Names.{Line, fields_of, lines_of}
 use Rattle.std.proofs.lemmas.Bool.{ne_eqb}
@@ -110,7 +110,7 @@ pub not_shares : (text : List ℕ) (n : ℕ) (line : Line) (earlier : List Direc
 not_shares text n line earlier d here e a h s =
     let same : Some s.line ≡ Some line = sym s.here ∙ here in
     let one : s.line ≡ line = cc in
-    let mine : key_of d ≡ Some (s.cpu, s.key) = sym e ∙ subst (λ l. key_in (fields_of l.text) ≡ Some (s.cpu, s.key)) one s.uses in
+    let mine : key_of d ≡ Some (s.cpu, s.key) = sym e ∙ rw one at s.uses in
     let is : has_shared (key_of d) s.earlier ≡ true = rw (mine, s.used, eq-eqb s.key s.key refl, ne_eqb s.cpu s.other s.apart) refl in
     let bad : false ≡ true = sym h ∙ sym (a (key_of d)) ∙ meets (lines_of text) n s.place (key_of d) s.earlier s.is_before s.there is in
     cc

@@ -1,6 +1,6 @@
 -- Lines that have no key which another line has for another CPU.
-use Rattle.smp_script.proofs.Names.{◌≡◌, Bool, true, false, ◌||◌, List, [], ◌∷◌, ◌++◌, refl, sym, ◌∙◌, AllByRecursion, list_any-append, Directive, is_shared}
-use Rattle.smp_script.proofs.Names.{key_of, shares}
+use Rattle.smp_script.proofs.Names.{◌≡◌, Bool, false, ◌||◌, List, [], ◌∷◌, ◌++◌, refl, sym, ◌∙◌, AllByRecursion, list_any-append, Directive, is_shared, key_of}
+use Rattle.smp_script.proofs.Names.{shares}
 
 neither : (a b : Bool) → (a || (b || false)) ≡ false → (a ≡ false) × (b ≡ false)
 neither false false h = (refl, refl)

@@ -64,24 +64,30 @@ cond_same_words limit cpus cpu count c w m func info = two_words c w (λ x b. am
     member_of cpus cpu >>= λ p. number_in 1 10000 count >>= λ n. mask_of limit m >>= λ s. word16 func >>= λ f. word64 info >>= λ i.
     Ok (Do p n (request.Cond x b s f i))) (λ x b. simp bind_assoc)
 
-named_three : (limit cpus : ℕ) (cpu count a b c : List ℕ) → ForEach (Named limit cpus cpu count (a ∷ b ∷ c ∷ [])) (names limit)
-unfolding repeated
-named_three limit cpus cpu count a b c = search (bind_assoc, cond_bind, arith)
-
 named_four : (limit cpus : ℕ) (cpu count a b c d : List ℕ) → ForEach (Named limit cpus cpu count (a ∷ b ∷ c ∷ d ∷ [])) (names limit)
 unfolding repeated
-named_four limit cpus cpu count a b c d =
-    let is_user : Named limit cpus cpu count (a ∷ b ∷ c ∷ d ∷ []) (codes "user") = simp (bind_assoc, cond_bind) in
-    let is_any : Named limit cpus cpu count (a ∷ b ∷ c ∷ d ∷ []) (codes "any") = simp (bind_assoc, cond_bind) in
-    let is_many : Named limit cpus cpu count (a ∷ b ∷ c ∷ d ∷ []) (codes "many") = simp (bind_assoc, cond_bind) in
-    let is_two : Named limit cpus cpu count (a ∷ b ∷ c ∷ d ∷ []) (codes "two") = simp (bind_assoc, cond_bind) in
-    (refl, (refl, (is_user, (is_any, (is_many, (refl, (refl, (is_two, (refl, (refl, (refl, (refl, tt))))))))))))
+named_four limit cpus cpu count a b c d = (
+  refl,
+  (
+    refl,
+    (
+      simp (bind_assoc, cond_bind),
+      (
+        simp (bind_assoc, cond_bind),
+        (
+          simp (bind_assoc, cond_bind),
+          (refl, (refl, (simp (bind_assoc, cond_bind), (refl, (refl, (refl, (refl, tt))))))),
+        ),
+      ),
+    ),
+  ),
+)
 
 named_same : (limit cpus : ℕ) (cpu count : List ℕ) (arguments : List (List ℕ)) → ForEach (Named limit cpus cpu count arguments) (names limit)
 unfolding repeated
 named_same limit cpus cpu count (a ∷ []) = simp (bind_assoc, cond_bind) assumption
 named_same limit cpus cpu count (a ∷ b ∷ []) = simp (bind_assoc, cond_bind) assumption
-named_same limit cpus cpu count (a ∷ b ∷ c ∷ []) = named_three limit cpus cpu count a b c
+named_same limit cpus cpu count (a ∷ b ∷ c ∷ []) = search (bind_assoc, cond_bind, arith)
 named_same limit cpus cpu count (a ∷ b ∷ c ∷ d ∷ []) = named_four limit cpus cpu count a b c d
 named_same limit cpus cpu count (a ∷ b ∷ c ∷ d ∷ e ∷ []) = search (cond_same_words, arith)
 named_same limit cpus cpu count _ = assumption

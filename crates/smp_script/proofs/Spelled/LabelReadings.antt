@@ -1,10 +1,9 @@
 -- What a labels line is that is read.
-use Rattle.smp_script.proofs.Names.{◌≡◌, ℕ, ◌<◌, ◌≤◌, true, false, nat_lt, nat_le, ◌&&◌, List, [], ◌∷◌, ◌++◌, map, length, Option, Some, None, Result, Ok}
-use Rattle.smp_script.proofs.Names.{codes, refl, sym, ap, ◌∙◌, inl, inr, arith, subst, decimal, join_with_byte, list_all, bytes_eq, map-id, cases_Bool}
-use Rattle.smp_script.proofs.Names.{and_parts, nat_tests, Cut, Word, AreLabels, Labels, MOST_KEYS, MOST_SITES, Line, fields_of, lines_of, parts_of, is_decimal}
-use Rattle.smp_script.proofs.Names.{number_in, value_after, Fault, ◌>>=◌, at_line, are_whole, entries_in, entry_in, entry_of, is_among, is_below, is_item}
-use Rattle.smp_script.proofs.Names.{is_labels, item_in, items_of, labels_in, labels_of, whole_labels, word32, labels_at, LabelsFit, item_text, items_text}
-use Rattle.smp_script.proofs.Names.{labels_before, line_before}
+use Rattle.smp_script.proofs.Names.{◌≡◌, ℕ, ◌≤◌, true, false, nat_lt, ◌&&◌, List, [], ◌∷◌, ◌++◌, map, length, Option, Some, None, Result, Ok, codes, refl, sym}
+use Rattle.smp_script.proofs.Names.{ap, ◌∙◌, inl, inr, arith, subst, decimal, join_with_byte, list_all, bytes_eq, map-id, cases_Bool, and_parts, nat_tests, Cut}
+use Rattle.smp_script.proofs.Names.{Word, AreLabels, Labels, MOST_KEYS, MOST_SITES, Line, fields_of, lines_of, parts_of, is_decimal, number_in, value_after}
+use Rattle.smp_script.proofs.Names.{Fault, ◌>>=◌, at_line, are_whole, entries_in, entry_in, entry_of, is_among, is_below, is_item, is_labels, item_in, items_of}
+use Rattle.smp_script.proofs.Names.{labels_in, labels_of, whole_labels, word32, labels_at, LabelsFit, item_text, items_text, labels_before, line_before}
 use Rattle.smp_script.proofs.Texts.Decimals.{number_in-ok}
 use Rattle.smp_script.proofs.Spelled.ReadParts.{both, guarded, placed_ok, same_word}
 use Rattle.smp_script.proofs.Reader.Items.{make_labels}
@@ -14,11 +13,7 @@ use Rattle.smp_script.proofs.Texts.Splits.{first_of, join_parts, line_back}
 key_back : (keys : ℕ) (key : List ℕ) → keys ≤ MOST_KEYS → (is_decimal key && nat_lt (value_after 0 key) keys) ≡ true
     → (word32 key ≡ Ok (value_after 0 key)) × (key ≡ decimal (value_after 0 key))
 key_back keys key few h =
-    let parts = and_parts (is_decimal key) (nat_lt (value_after 0 key) keys) h in
-    let small : value_after 0 key < keys = grind (arith, nat_tests, parts.1) in
-    let low : nat_le 0 (value_after 0 key) ≡ true = grind (arith, nat_tests) in
-    let high : nat_le (value_after 0 key) 4294967295 ≡ true = grind (arith, nat_tests, small, few) in
-    let read : word32 key ≡ Ok (value_after 0 key) = rw (parts.0, low, high) refl in
+    let read : word32 key ≡ Ok (value_after 0 key) = grind (arith, nat_tests, and_parts, h, few) in
     (read, (number_in-ok 0 4294967295 key (value_after 0 key) (omega arith) read).0)
 
 -- an item is its entry's text

@@ -1,7 +1,7 @@
 -- What a line is that is read.
-use Rattle.smp_script.proofs.Names.{not, and_parts, ◌≡◌, ℕ, true, false, ◌==◌, List, [], ◌∷◌, length, Ok, refl, sym, ap, ◌∙◌, arith, join_with_byte, list_all}
-use Rattle.smp_script.proofs.Names.{Word, Directive, Mode, Replay, Run, Setting, are_whole, directive_of, line_directive, mode_line, fields_of, DirectiveFits}
-use Rattle.smp_script.proofs.Names.{Masks, SpellLine, directive_words, is_field, lacks}
+use Rattle.smp_script.proofs.Names.{not, and_parts, ◌≡◌, ℕ, true, ◌==◌, List, [], ◌∷◌, length, Ok, refl, sym, ap, ◌∙◌, join_with_byte, list_all, Word}
+use Rattle.smp_script.proofs.Names.{Directive, Mode, Replay, Run, Setting, are_whole, directive_of, line_directive, mode_line, fields_of, DirectiveFits, Masks}
+use Rattle.smp_script.proofs.Names.{SpellLine, directive_words, is_field, lacks}
 use Rattle.smp_script.proofs.Spelled.ReadParts.{guarded}
 use Rattle.smp_script.proofs.Rows.ReplayRows.{replay_are, replay_rows, replay_same}
 use Rattle.smp_script.proofs.Rows.Rows.{rows_said}

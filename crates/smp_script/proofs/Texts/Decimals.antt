@@ -1,5 +1,5 @@
 -- Decimal numbers, as they are written.
-use Rattle.smp_script.proofs.Names.{◌≡◌, ℕ, ◌<◌, ◌≤◌, ◌^◌, true, false, ◌==◌, List, [], ◌∷◌, length, get_or, Ok, refl, sym, ap, ◌∙◌, arith, decimal, list_all}
+use Rattle.smp_script.proofs.Names.{◌≡◌, ℕ, ◌<◌, ◌≤◌, ◌^◌, true, false, List, [], ◌∷◌, length, get_or, Ok, refl, sym, ap, ◌∙◌, arith, decimal, list_all}
 use Rattle.smp_script.proofs.Names.{cases_lt, cases_Bool, nat_tests, is_digit, is_decimal, value_after, number_in, lacks, is_field}
 use Rattle.std.proofs.lemmas.Fmt.{decimal_digit, decimal_nonempty, digits_decimal, digits_value-decimal, first_decimal, decimal-digits_value}
 use Rattle.std.proofs.lemmas.Str.Parse.{IsDigitsTest, IsNumeralModel, numerals_by_fold}

@@ -1,6 +1,5 @@
 -- Lines and fields, from the front.
-use Rattle.smp_script.proofs.Names.{◌≡◌, ℕ, suc, zero, ◌<◌, true, false, ◌==◌, List, [], ◌∷◌, length, take, drop, get_or, refl, arith, nat_tests, lines_of}
-use Rattle.smp_script.proofs.Names.{parts_of}
+use Rattle.smp_script.proofs.Names.{◌≡◌, ℕ, suc, zero, ◌<◌, true, false, List, [], ◌∷◌, length, take, drop, get_or, refl, arith, nat_tests, lines_of, parts_of}
 
 -- a text with no such byte is one part
 pub parts_none : (mark : ℕ) (bs : List ℕ) → ((i : ℕ) → i < length bs → get_or bs i 0 ≡ mark → ⊥) → parts_of mark bs ≡ bs ∷ []

@@ -1,6 +1,6 @@
 -- Fields and lines, as they are written.
-use Rattle.smp_script.proofs.Names.{◌≡◌, ℕ, true, false, ◌&&◌, ◌==◌, List, [], ◌∷◌, ◌++◌, length, refl, ap, ◌∙◌, arith, join_with_byte, list_all, nat_tests}
-use Rattle.smp_script.proofs.Names.{fields_of, lines_of, parts_of, are_whole, lacks, is_field, line_before}
+use Rattle.smp_script.proofs.Names.{◌≡◌, ℕ, true, ◌&&◌, List, [], ◌∷◌, ◌++◌, refl, arith, join_with_byte, list_all, nat_tests, fields_of, lines_of, parts_of}
+use Rattle.smp_script.proofs.Names.{are_whole, lacks, is_field, line_before}
 
 -- a text with no such byte is one part
 pub parts_plain : (mark : ℕ) (t : List ℕ) → lacks mark t ≡ true → parts_of mark t ≡ t ∷ []

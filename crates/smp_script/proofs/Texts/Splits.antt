@@ -37,15 +37,7 @@ parts_lack_marks mark (b ∷ bs) = grind (first_of, cases_Bool, parts_lack_marks
 -- nor a byte that the text lacks
 pub parts_lack : (mark c : ℕ) (bs : List ℕ) → lacks c bs ≡ true → list_all (lacks c) (parts_of mark bs) ≡ true
 parts_lack mark c [] h = refl
-parts_lack mark c (b ∷ bs) h =
-    let here : (b == c) ≡ false = grind (arith, h) in
-    let more : lacks c bs ≡ true = grind (arith, h) in
-    let rest = first_of mark bs in
-    let others : list_all (lacks c) (rest.part ∷ rest.others) ≡ true = ap (list_all (lacks c)) (sym rest.are) ∙ parts_lack mark c bs more in
-    elim (cases_Bool (b == mark)) [
-      | inl same ↦ rw same (parts_lack mark c bs more)
-      | inr other ↦ rw (other, rest.are) (rw here others)
-    ]
+parts_lack mark c (b ∷ bs) h = grind (first_of, cases_Bool, parts_lack mark c bs, arith)
 
 -- a text by its first line, which a line feed ends
 pub record Begins (bs text : List ℕ) (others : List Line) : Type 0 where
