@@ -36,9 +36,8 @@ pub data NumberRead (low high : ℕ) (text : List ℕ) : Type 0 where
 
 right_number : (low high : ℕ) (text : List ℕ) → is_decimal text ≡ true → low ≤ value_of text → value_of text ≤ high → (cause : Cause)
     → NumberFault low high text cause → ⊥
-right_number low high text good above below Number f = let bad : true ≡ false = sym good ∙ f in cc
-right_number low high text good above below Range f = elim f.1 [ inl under ↦ omega arith | inr over ↦ omega arith ]
-right_number low high text good above below _ f = f
+right_number low high text good above below Number f = cc
+right_number low high text good above below _ f = grind arith
 
 pub number_read : (low high : ℕ) (text : List ℕ) → NumberRead low high text
 number_read low high text = elim (cases_Bool (is_decimal text)) [

@@ -11,8 +11,7 @@ use Rattle.smp_script.proofs.Spelled.ReadParts.{same_word}
 right_items : (keys : ℕ) (field : List ℕ) → list_all has_number (items_of field) ≡ true → length (items_of field) ≤ MOST_SITES
     → list_all (is_below keys) (items_of field) ≡ true → (cause : Cause) → ItemsFault keys field cause → ⊥
 right_items keys field good few below Number f = let bad : true ≡ false = sym good ∙ f in cc
-right_items keys field good few below Range (all, inl many) = omega arith
-right_items keys field good few below Range (all, inr past) = let bad : true ≡ false = sym below ∙ past in cc
+right_items keys field good few below Range f = grind arith
 right_items keys field good few below _ f = f
 
 items_judged : (keys : ℕ) (field : List ℕ) → Judged (ItemsFault keys field) (entries_in keys (items_of field))

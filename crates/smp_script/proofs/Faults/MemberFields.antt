@@ -6,8 +6,7 @@ use Rattle.smp_script.proofs.Reader.Widths.{AreCpus}
 
 right_member : (mask : ℕ) (text : List ℕ) → is_decimal text ≡ true → has mask (value_of text) ≡ true → (cause : Cause) → MemberFault mask text cause → ⊥
 right_member mask text good is Number f = let bad : true ≡ false = sym good ∙ f in cc
-right_member mask text good is Range f = let bad : true ≡ false = sym is ∙ f.1 in cc
-right_member mask text good is _ f = f
+right_member mask text good is _ f = grind arith
 
 wrong_member : (mask : ℕ) (text : List ℕ) → AreCpus mask → (cause : Cause) → number_in 0 4294967295 text ≡ Err cause → NumberFault 0 4294967295 text cause
     → Judged (MemberFault mask text) (member_of mask text)

@@ -40,9 +40,11 @@ member_cause mask text Number Number f g = refl
 member_cause mask text Range Range f g = refl
 member_cause mask text _ _ f g = search
 
+ruleset causes = (number_cause, signed_cause, mask_cause, active_cause, member_cause, items_cause, online_cause)
+
 field_cause : (fields : List (List ℕ)) (i : ℕ) (form : Form) (c d : Cause) → FieldFault fields i form c → FieldFault fields i form d → c ≡ d
 field_cause fields i (word w) c d f g = absurd f
-field_cause fields i _ c d f g = search (number_cause, signed_cause, mask_cause, active_cause, member_cause, items_cause, online_cause, arith)
+field_cause fields i _ c d f g = search (causes, arith)
 
 -- two faults of one rank in a line have one cause
 line_cause : (setting : Setting) (n events : ℕ) (shared : Type 0) (line : Line) (k m : ℕ) (c d : Cause) → k ≡ m → LineFault setting n events shared line k c

@@ -6,8 +6,7 @@ use Rattle.smp_script.proofs.Faults.FieldFaults.{Judged, fine, faulty}
 
 right_signed : (text : List ℕ) → is_signed text ≡ true → is_far text ≡ false → (cause : Cause) → SignedFault text cause → ⊥
 right_signed text good near Number f = let bad : true ≡ false = sym good ∙ f in cc
-right_signed text good near Range f = let bad : true ≡ false = sym f.1 ∙ near in cc
-right_signed text good near _ f = f
+right_signed text good near _ f = grind arith
 
 -- how a number is read that is not too far
 number_near : (high : ℕ) (text : List ℕ) → is_decimal text ≡ true → nat_lt high (value_of text) ≡ false → number_in 0 high text ≡ Ok (value_of text)

@@ -46,11 +46,13 @@ Known (online limit) = ⊥
 Known items = ⊥
 Known _ = Unit {0}
 
+ruleset judged = (number_judged, signed_judged, mask_judged, active_judged, member_judged)
+
 -- a field is read, or what is wrong with it
 pub form_judged : (fields : List (List ℕ)) (i : ℕ) (form : Form) → Known form → Judged (FieldFault fields i form) (read_form form (field_at fields i))
 form_judged fields i (word w) known = fine tt refl (λ cause f. f)
 form_judged fields i (words ws) known = fine (field_at fields i) refl (λ cause f. f)
-form_judged fields i _ known = search (number_judged, signed_judged, mask_judged, active_judged, member_judged, arith)
+form_judged fields i _ known = search (judged, arith)
 
 -- of each of these words
 abbrev pub ForEach : (List ℕ → Type 0) → List (List ℕ) → Type 0
@@ -89,9 +91,7 @@ signed_ok (b ∷ bs) z h = elim (cases_Bool (b == 45)) [
       minus_ok b bs a.value z here n.0 n.2 a.then
   | inr plain ↦
       let a = both (number_in 0 2147483647 (b ∷ bs)) (λ n. Ok (pos n)) z (rw plain at h) in
-      let n = number_in-ok 0 2147483647 (b ∷ bs) a.value (omega arith) a.first in
-      let same : pos a.value ≡ z = let t = a.then in cc in
-      subst (λ y. (b ∷ bs ≡ signed_decimal y) × IsAnswer y) same (n.0, omega (arith, n.2))
+      search (number_in-ok 0 2147483647 (b ∷ bs) a.value, a.first, a.then, arith)
 ]
 
 member_ok : (mask : ℕ) (text : List ℕ) (c : ℕ) → member_of mask text ≡ Ok c → (text ≡ decimal c) × (c < 2 ^ 32) × (has mask c ≡ true)
@@ -113,4 +113,5 @@ form_said signed P text z sound right h all =
     let is = signed_ok text z h in
     rw is.0 (all z is.1)
 form_said (active limit) P text set sound right h all = active_said limit P text set h all
-form_said _ P text x sound right h all = search (member_ok, arith)
+form_said (member mask) P text cpu sound right h all = search (member_ok, arith)
+form_said _ P text x sound right h all = search arith

@@ -125,10 +125,8 @@ tries_shape (form ∷ forms) (text ∷ texts) then or sound whole =
           rw many (choose_word form text (λ t. tries forms texts (λ ts. then (t ∷ ts)) or) or sound.0 parts.0
           ∙ ap (λ x. cond (has_word form text) x or) more ∙ both_tests (has_word form text) (has_shape texts forms) (then (text ∷ texts)) or)
       | inr other ↦
-          let none : false ≡ cond (has_shape texts forms) true false =
-          rw other at (tries_shape {X = Bool} forms texts (λ ts. true) false sound.1 parts.1) in
-          let no : has_shape texts forms ≡ false = grind (arith, none) in
-          rw (other, no) refl
+          let none = rw other at (tries_shape {X = Bool} forms texts (λ ts. true) false sound.1 parts.1) in
+          grind (arith, other, none)
     ]
 
 -- a shape, and what is made of its fields

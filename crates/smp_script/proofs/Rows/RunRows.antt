@@ -66,22 +66,12 @@ cond_same_words limit cpus cpu count c w m func info = two_words c w (λ x b. am
 
 named_four : (limit cpus : ℕ) (cpu count a b c d : List ℕ) → ForEach (Named limit cpus cpu count (a ∷ b ∷ c ∷ d ∷ [])) (names limit)
 unfolding repeated
-named_four limit cpus cpu count a b c d = (
-  refl,
-  (
-    refl,
-    (
-      simp (bind_assoc, cond_bind),
-      (
-        simp (bind_assoc, cond_bind),
-        (
-          simp (bind_assoc, cond_bind),
-          (refl, (refl, (simp (bind_assoc, cond_bind), (refl, (refl, (refl, (refl, tt))))))),
-        ),
-      ),
-    ),
-  ),
-)
+named_four limit cpus cpu count a b c d =
+    let is_user : Named limit cpus cpu count (a ∷ b ∷ c ∷ d ∷ []) (codes "user") = simp (bind_assoc, cond_bind) in
+    let is_any : Named limit cpus cpu count (a ∷ b ∷ c ∷ d ∷ []) (codes "any") = simp (bind_assoc, cond_bind) in
+    let is_many : Named limit cpus cpu count (a ∷ b ∷ c ∷ d ∷ []) (codes "many") = simp (bind_assoc, cond_bind) in
+    let is_two : Named limit cpus cpu count (a ∷ b ∷ c ∷ d ∷ []) (codes "two") = simp (bind_assoc, cond_bind) in
+    (refl, (refl, (is_user, (is_any, (is_many, (refl, (refl, (is_two, (refl, (refl, (refl, (refl, tt))))))))))))
 
 named_same : (limit cpus : ℕ) (cpu count : List ℕ) (arguments : List (List ℕ)) → ForEach (Named limit cpus cpu count arguments) (names limit)
 unfolding repeated
