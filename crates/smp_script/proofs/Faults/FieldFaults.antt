@@ -1,7 +1,7 @@
 -- Fields, read from left to right up to the first at fault.
-use Rattle.smp_script.proofs.Names.{◌≡◌, ℕ, ◌+◌, ◌<◌, ◌≤◌, true, false, nat_le, List, length, Some, Result, Ok, Err, refl, sym, ◌∙◌, inl, inr, arith, slice_get}
-use Rattle.smp_script.proofs.Names.{cases_lt, cases_Bool, nat_tests, Cause, Number, Range, ◌>>=◌, is_decimal, number_in, Form, number, FieldFault, NumberFault}
-use Rattle.smp_script.proofs.Names.{field_at, value_of}
+use Rattle.smp_script.proofs.Names.{◌≡◌, ℕ, ◌+◌, ◌<◌, ◌≤◌, true, nat_le, List, length, Some, Result, Ok, Err, refl, inl, inr, arith, slice_get, cases_lt}
+use Rattle.smp_script.proofs.Names.{cases_Bool, nat_tests, Cause, Number, Range, ◌>>=◌, is_decimal, number_in, Form, number, FieldFault, NumberFault, field_at}
+use Rattle.smp_script.proofs.Names.{value_of}
 
 -- nothing is wrong with the first n fields
 abbrev pub Clean : List Form → List (List ℕ) → ℕ → Type 0

@@ -51,9 +51,8 @@ module _ {setting : Setting} {n events : ℕ} {front : List Directive} {lines : 
   is_past h ended directive f apart past = search (nat_tests, arith)
 
   -- one directive more
-  pub goes_on : n ≤ 2000 → l.ended ≡ true → (directive : Directive) → at_line n (line_directive setting l.text) ≡ Ok directive
-      → shares front directive ≡ false → events + events_of directive ≤ 100000
-      → Stands setting (n + 1) (events + events_of directive) (front ++ directive ∷ []) ls all
+  pub goes_on : n ≤ 2000 → l.ended ≡ true → (directive : Directive) → at_line n (line_directive setting l.text) ≡ Ok directive → shares front directive ≡ false
+      → events + events_of directive ≤ 100000 → Stands setting (n + 1) (events + events_of directive) (front ++ directive ∷ []) ls all
   unfolding directives_of
   goes_on h ended directive f apart fits = search (nat_tests, front_push, sum_by-append, arith)
 
