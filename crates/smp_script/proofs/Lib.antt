@@ -1,3 +1,5 @@
+-- words, from one place
+pub mod Names
 -- lines, fields and decimal numbers: taken apart, and put together
 pub mod Texts
 -- what the functions that read rest on

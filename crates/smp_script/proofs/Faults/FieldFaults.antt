@@ -1,14 +1,7 @@
 -- Fields, read from left to right up to the first at fault.
-use Rattle.std.proofs.Common.{◌≡◌, ℕ, ◌+◌, ◌<◌, ◌≤◌, true, false, nat_le, List, length, Some, Result, Ok, Err, refl, sym, ◌∙◌, inl, inr, arith}
-use Rattle.std.specs.Prelude.{slice_get}
-use Rattle.std.proofs.lemmas.Bool.{cases_lt, cases_Bool}
-use Rattle.std.proofs.lemmas.Bool.Decides.{nat_tests}
-use Rattle.smp_mask.specs.declared.error.Cause.{Cause}
-use Rattle.smp_mask.specs.declared.error.Cause.TheVariants.{Number, Range}
-use Rattle.smp_script.specs.Faults.{◌>>=◌}
-use Rattle.smp_script.specs.Numbers.{is_decimal, number_in}
-use Rattle.smp_script.specs.Shapes.{Form, number}
-use Rattle.smp_script.specs.FieldFaults.{FieldFault, NumberFault, field_at, value_of}
+use Rattle.smp_script.proofs.Names.{◌≡◌, ℕ, ◌+◌, ◌<◌, ◌≤◌, true, nat_le, List, length, Some, Result, Ok, Err, refl, inl, inr, arith, slice_get, cases_lt}
+use Rattle.smp_script.proofs.Names.{cases_Bool, nat_tests, Cause, Number, Range, ◌>>=◌, is_decimal, number_in, Form, number, FieldFault, NumberFault, field_at}
+use Rattle.smp_script.proofs.Names.{value_of}
 
 -- nothing is wrong with the first n fields
 abbrev pub Clean : List Form → List (List ℕ) → ℕ → Type 0
@@ -43,35 +36,26 @@ pub data NumberRead (low high : ℕ) (text : List ℕ) : Type 0 where
 
 right_number : (low high : ℕ) (text : List ℕ) → is_decimal text ≡ true → low ≤ value_of text → value_of text ≤ high → (cause : Cause)
     → NumberFault low high text cause → ⊥
-right_number low high text good above below Number f = let bad : true ≡ false = sym good ∙ f in cc
-right_number low high text good above below Range f = elim f.1 [ inl under ↦ omega arith | inr over ↦ omega arith ]
-right_number low high text good above below _ f = f
+right_number low high text good above below Number f = cc
+right_number low high text good above below _ f = grind arith
 
 pub number_read : (low high : ℕ) (text : List ℕ) → NumberRead low high text
 number_read low high text = elim (cases_Bool (is_decimal text)) [
   | inr bad ↦ is_wrong Number (rw bad refl) bad
-  | inl good ↦ elim (cases_lt (value_of text) low) [
-    | inl under ↦
-        let test : nat_le low (value_of text) ≡ false = grind (arith, nat_tests) in
-        is_wrong Range (rw (good, test) refl) (good, inl under)
-    | inr above ↦ elim (cases_lt high (value_of text)) [
-      | inl over ↦
-          let test : nat_le low (value_of text) ≡ true = grind (arith, nat_tests) in
-          let past : nat_le (value_of text) high ≡ false = grind (arith, nat_tests) in
-          is_wrong Range (rw (good, test, past) refl) (good, inr over)
-      | inr below ↦
-          let test : nat_le low (value_of text) ≡ true = grind (arith, nat_tests) in
-          let within : nat_le (value_of text) high ≡ true = grind (arith, nat_tests) in
-          is_read good (rw (good, test, within) refl) (right_number low high text good above below)
+  | inl good ↦ elim (cases_Bool (nat_le low (value_of text))) [
+    | inr under ↦ is_wrong Range (rw (good, under) refl) (good, inl (grind (arith, nat_tests, under)))
+    | inl above ↦ elim (cases_Bool (nat_le (value_of text) high)) [
+      | inr over ↦ is_wrong Range (rw (good, above, over) refl) (good, inr (grind (arith, nat_tests, over)))
+      | inl below ↦ is_read good (rw (good, above, below) refl)
+          (right_number low high text good (grind (arith, nat_tests, above)) (grind (arith, nat_tests, below)))
     ]
   ]
 ]
 
 -- a field that has to be a number, and what is read after it
 pub reads_number : {B : Type 0} (shape : List Form) (fields : List (List ℕ)) (holds : B → Type 0) (i low high : ℕ) (then : ℕ → Result B Cause)
-    → slice_get shape i ≡ Some (number low high) → Clean shape fields i
-    → (Clean shape fields (i + 1) → Tells shape fields holds (then (value_of (field_at fields i))))
-    → Tells shape fields holds (number_in low high (field_at fields i) >>= then)
+    → slice_get shape i ≡ Some (number low high) → Clean shape fields i → (Clean shape fields (i + 1)
+    → Tells shape fields holds (then (value_of (field_at fields i)))) → Tells shape fields holds (number_in low high (field_at fields i) >>= then)
 reads_number shape fields holds i low high then wants clean more = grind (number_read, passes, arith)
 
 -- a field is read, or what is wrong with it

@@ -1,18 +1,8 @@
 -- The labels line, and what is wrong with it.
-use Rattle.std.proofs.Common.{◌≡◌, ℕ, ◌≤◌, true, false, ◌==◌, nat_lt, List, [], ◌∷◌, length, drop, map, Result, Err, codes, refl, sym, ◌∙◌, inl, inr, arith}
-use Rattle.std.proofs.Common.{subst}
-use Rattle.std.specs.Prelude.{find}
-use Rattle.std.specs.List.{list_all}
-use Rattle.std.proofs.lemmas.Bool.{cases_Bool}
-use Rattle.std.proofs.lemmas.Bool.Decides.{nat_tests}
-use Rattle.smp_mask.specs.declared.error.Cause.{Cause}
-use Rattle.smp_mask.specs.declared.error.Cause.TheVariants.{Word, Number, Range}
-use Rattle.smp_labels.specs.declared.words.TheConstants.{MOST_KEYS, MOST_SITES}
-use Rattle.smp_script.specs.Commands.{are_whole, whole_directive}
-use Rattle.smp_script.specs.Labels.{entries_in, entry_of, has_number, is_below, is_item, is_labels, items_of, labels_in, labels_of, whole_labels}
-use Rattle.smp_script.specs.Shapes.{items, labels, requests, has_shape}
-use Rattle.smp_script.specs.declared.setting.Setting.{Setting}
-use Rattle.smp_script.specs.FieldFaults.{ItemsFault, value_of}
+use Rattle.smp_script.proofs.Names.{◌≡◌, ℕ, ◌≤◌, true, false, ◌==◌, nat_lt, List, [], ◌∷◌, length, drop, map, Result, codes, refl, sym, ◌∙◌, inl, inr, arith}
+use Rattle.smp_script.proofs.Names.{subst, find, list_all, cases_Bool, nat_tests, Cause, Number, Range, MOST_KEYS, MOST_SITES, are_whole, whole_directive}
+use Rattle.smp_script.proofs.Names.{entries_in, entry_of, has_number, is_below, is_item, is_labels, items_of, labels_in, labels_of, whole_labels, items, labels}
+use Rattle.smp_script.proofs.Names.{requests, has_shape, Setting, ItemsFault, value_of}
 use Rattle.smp_script.proofs.Faults.FieldFaults.{Judged, fine, faulty, Tells, none_yet, reads_last, reads_number}
 use Rattle.smp_script.proofs.Faults.LineShapes.{IsQuiet, TellsLine, shapeless, shaped, no_whole, passes_word, skips, skips_word}
 use Rattle.smp_script.proofs.Faults.RequestLines.{IsSound, Spells, line_told, no_labels, no_request}
@@ -21,8 +11,7 @@ use Rattle.smp_script.proofs.Spelled.ReadParts.{same_word}
 right_items : (keys : ℕ) (field : List ℕ) → list_all has_number (items_of field) ≡ true → length (items_of field) ≤ MOST_SITES
     → list_all (is_below keys) (items_of field) ≡ true → (cause : Cause) → ItemsFault keys field cause → ⊥
 right_items keys field good few below Number f = let bad : true ≡ false = sym good ∙ f in cc
-right_items keys field good few below Range (all, inl many) = omega arith
-right_items keys field good few below Range (all, inr past) = let bad : true ≡ false = sym below ∙ past in cc
+right_items keys field good few below Range f = grind arith
 right_items keys field good few below _ f = f
 
 items_judged : (keys : ℕ) (field : List ℕ) → Judged (ItemsFault keys field) (entries_in keys (items_of field))
@@ -48,21 +37,16 @@ items_told keys field good =
     reads_last labels fields (λ m. IsQuiet fields) 2 items (entries_in (value_of keys) (items_of field)) refl two refl (λ m. (refl, refl))
     (items_judged (value_of keys) field)))
 
-itemless : (keys : List ℕ) (texts : List (List ℕ)) → list_all is_item texts ≡ false → labels_in keys texts ≡ Err Word
-unfolding labels_in
-itemless keys texts h = rw h refl
-
 labels_rest : (setting : Setting) (rest : List (List ℕ)) → are_whole (codes "labels" ∷ rest) ≡ true
     → TellsLine (labels ∷ requests setting) (codes "labels" ∷ rest) (λ m. IsQuiet (codes "labels" ∷ rest)) (labels_of (codes "labels" ∷ rest))
+unfolding labels_in
 labels_rest setting [] whole = shapeless (no_labels setting []) refl
 labels_rest setting (k ∷ []) whole = shapeless (no_labels setting (k ∷ [])) refl
 labels_rest setting (k ∷ i ∷ []) whole =
     let some_k : (length k == 0) ≡ false = grind (arith, whole) in
     elim (cases_Bool (list_all is_item (items_of i))) [
       | inl good ↦ shaped labels (labels_in k (items_of i)) (rw (good, some_k) refl) refl (items_told k i good)
-      | inr bad ↦ shapeless
-          (skips (codes "labels" ∷ k ∷ i ∷ []) labels (requests setting) (rw bad refl) ∙ no_labels setting (k ∷ i ∷ []))
-          (itemless k (items_of i) bad)
+      | inr bad ↦ shapeless (skips (codes "labels" ∷ k ∷ i ∷ []) labels (requests setting) (rw bad refl) ∙ no_labels setting (k ∷ i ∷ [])) (rw bad refl)
     ]
 labels_rest setting (k ∷ i ∷ x ∷ rest) whole = shapeless (no_labels setting (k ∷ i ∷ x ∷ rest)) refl
 

@@ -1,30 +1,20 @@
 -- The faults of one line, by what reading its fields tells.
-use Rattle.std.proofs.Common.{◌≡◌, ℕ, ◌+◌, ◌<◌, ◌≤◌, Bool, true, false, List, [], ◌∷◌, length, Some, Result, Ok, Err, refl, sym, ◌∙◌, inl, inr, arith, subst}
-use Rattle.std.specs.Prelude.{find, slice_get}
-use Rattle.std.proofs.lemmas.Bool.{cases_Bool, cases_lt, and_parts}
-use Rattle.std.proofs.lemmas.Option.{slice_get_within}
-use Rattle.smp_mask.specs.declared.error.Cause.{Cause}
-use Rattle.smp_mask.specs.declared.error.Cause.TheVariants.{TooLong, Cut, Word, SharedKey}
-use Rattle.smp_script.specs.declared.setting.Setting.{Setting}
-use Rattle.smp_script.specs.Lines.{Line, fields_of}
-use Rattle.smp_script.specs.Shapes.{Form, has_shape, has_word, shape_of, shapes_of}
-use Rattle.smp_script.specs.FirstFault.{LineFault, past_lines, unended, no_shape, wrong_field, shared_key, past_events}
+use Rattle.smp_script.proofs.Names.{◌≡◌, ℕ, ◌+◌, ◌<◌, ◌≤◌, Bool, true, false, List, [], ◌∷◌, length, Some, Result, Ok, Err, refl, sym, ◌∙◌, arith, subst, find}
+use Rattle.smp_script.proofs.Names.{slice_get, cases_Bool, cases_lt, and_parts, slice_get_within, Cause, TooLong, Cut, Word, SharedKey, Setting, Line}
+use Rattle.smp_script.proofs.Names.{fields_of, Form, has_shape, has_word, shape_of, shapes_of, LineFault, past_lines, unended, no_shape, wrong_field}
+use Rattle.smp_script.proofs.Names.{shared_key, past_events}
 use Rattle.smp_script.proofs.Faults.FieldFaults.{Clean, FirstWrong}
 use Rattle.smp_script.proofs.Faults.LineShapes.{TellsLine, shapeless, shaped}
 
 -- a shape has as many fields as the line
 find_passes : {A : Type 0} (p : A → Bool) (xs : List A) (x : A) → find p xs ≡ Some x → p x ≡ true
 find_passes p [] x h = cc
-find_passes p (y ∷ ys) x h = elim (cases_Bool (p y)) [
-  | inl here ↦ let same : Some y ≡ Some x = rw here at h in let one : y ≡ x = cc in subst (λ z. p z ≡ true) one here
-  | inr other ↦ find_passes p ys x (rw other at h)
-]
+find_passes p (y ∷ ys) x h = grind (arith, cases_Bool, find_passes p ys x)
 
 same_length : (fields : List (List ℕ)) (shape : List Form) → has_shape fields shape ≡ true → length shape ≡ length fields
 same_length [] [] h = refl
-same_length [] (form ∷ forms) h = cc
-same_length (field ∷ fields) [] h = cc
 same_length (field ∷ fields) (form ∷ forms) h = omega (arith, same_length fields forms (and_parts (has_shape fields forms) (has_word form field) h).0)
+same_length _ _ h = cc
 
 shape_length : (setting : Setting) (n : ℕ) (fields : List (List ℕ)) (shape : List Form) → shape_of setting n fields ≡ Some shape → length shape ≡ length fields
 shape_length setting n fields shape s = same_length fields shape (find_passes (has_shape fields) (shapes_of setting n) shape s)
@@ -60,8 +50,7 @@ only_ends setting n events shared line h e k cause below _ = omega arith
 
 -- a line of this shape whose first fields are right
 clean_to : (setting : Setting) (n events : ℕ) (shared : Type 0) (line : Line) (shape : List Form) (i : ℕ) → n ≤ 2000 → line.ended ≡ true
-    → shape_of setting n (fields_of line.text) ≡ Some shape
-    → i ≤ length (fields_of line.text) → Clean shape (fields_of line.text) i
+    → shape_of setting n (fields_of line.text) ≡ Some shape → i ≤ length (fields_of line.text) → Clean shape (fields_of line.text) i
     → NoneBelow setting n events shared line (3 + i)
 clean_to setting n events shared line shape i h e s within clean k cause below (past_lines f) = omega arith
 clean_to setting n events shared line shape i h e s within clean k cause below (unended f) = let bad : true ≡ false = sym e ∙ f in cc
@@ -98,8 +87,7 @@ all_clean setting n events shared line shape h e s clean apart under k cause f =
 
 -- the first fault of a line that is not read
 shape_first : (setting : Setting) (n events : ℕ) (shared : Type 0) (line : Line) (shape : List Form) (cause : Cause) → n ≤ 2000 → line.ended ≡ true
-    → shape_of setting n (fields_of line.text) ≡ Some shape → FirstWrong shape (fields_of line.text) cause
-    → FirstOf setting n events shared line cause
+    → shape_of setting n (fields_of line.text) ≡ Some shape → FirstWrong shape (fields_of line.text) cause → FirstOf setting n events shared line cause
 shape_first setting n events shared line shape cause h e s w =
     let within = place_within setting n (fields_of line.text) shape w.place w.form s w.wants in
     record {
@@ -109,8 +97,7 @@ shape_first setting n events shared line shape cause h e s w =
     }
 
 pub read_first : {B : Type 0} (setting : Setting) (n events : ℕ) (shared : Type 0) (line : Line) (holds : B → Type 0) (read : Result B Cause) (cause : Cause)
-    → n ≤ 2000 → line.ended ≡ true
-    → TellsLine (shapes_of setting n) (fields_of line.text) holds read → read ≡ Err cause
+    → n ≤ 2000 → line.ended ≡ true → TellsLine (shapes_of setting n) (fields_of line.text) holds read → read ≡ Err cause
     → FirstOf setting n events shared line cause
 read_first {B} setting n events shared line holds read cause h e (shapeless s is) bad =
     let same : Word ≡ cause = let t : ◌≡◌ {A = Result B Cause} (Err Word) (Err cause) = sym is ∙ bad in cc in
@@ -130,9 +117,8 @@ read_right {B} setting n line holds read b (shapeless s is) good = let t : ◌�
 read_right setting n line holds read b (shaped shape by_shape s is told) good = search arith
 
 -- it has no fault, unless another CPU has its key, or it makes too many events
-pub right_line : {B : Type 0} (setting : Setting) (n events : ℕ) (shared : Type 0) (line : Line) (holds : B → Type 0) (b : B) → n ≤ 2000
-    → line.ended ≡ true → RightLine setting n line holds b → (shared → ⊥) → events ≤ 100000
-    → (k : ℕ) (cause : Cause) → LineFault setting n events shared line k cause → ⊥
+pub right_line : {B : Type 0} (setting : Setting) (n events : ℕ) (shared : Type 0) (line : Line) (holds : B → Type 0) (b : B) → n ≤ 2000 → line.ended ≡ true
+    → RightLine setting n line holds b → (shared → ⊥) → events ≤ 100000 → (k : ℕ) (cause : Cause) → LineFault setting n events shared line k cause → ⊥
 right_line setting n events shared line holds b h e r apart under = all_clean setting n events shared line r.shape h e r.has r.clean apart under
 
 pub shared_first : {B : Type 0} (setting : Setting) (n events : ℕ) (shared : Type 0) (line : Line) (holds : B → Type 0) (b : B) → n ≤ 2000
@@ -148,9 +134,8 @@ shared_first setting n events shared line holds b h e r is =
 
 pub events_first : {B : Type 0} (setting : Setting) (n events : ℕ) (shared : Type 0) (line : Line) (holds : B → Type 0) (b : B) → n ≤ 2000
     → line.ended ≡ true → RightLine setting n line holds b → (shared → ⊥) → 100000 < events → FirstOf setting n events shared line TooLong
-events_first setting n events shared line holds b h e r apart over =
-    record {
-      rank = 4 + length (fields_of line.text);
-      fault = past_events over;
-      least = clean_past setting n events shared line r.shape h e r.has r.clean apart;
-    }
+events_first setting n events shared line holds b h e r apart over = record {
+  rank = 4 + length (fields_of line.text);
+  fault = past_events over;
+  least = clean_past setting n events shared line r.shape h e r.has r.clean apart;
+}

@@ -1,22 +1,8 @@
 -- Which shape the fields of a line have, and what reading them by that shape tells.
-use Rattle.std.proofs.Common.{◌≡◌, ℕ, ◌+◌, Bool, true, false, not, ◌==◌, List, [], ◌∷◌, length, Some, None, Result, Err, refl}
-use Rattle.std.proofs.Common.{◌∙◌, arith}
-use Rattle.std.specs.Prelude.{find, slice_get}
-use Rattle.std.specs.Str.{bytes_eq}
-use Rattle.std.proofs.lemmas.Bool.{cases_Bool, and_parts, and_right}
-use Rattle.std.proofs.lemmas.Bool.Decides.{nat_tests}
-use Rattle.std.specs.List.{list_all}
-use Rattle.smp_mask.specs.declared.error.Cause.{Cause}
-use Rattle.smp_mask.specs.declared.error.Cause.TheVariants.{Word}
-use Rattle.smp_script.specs.declared.directive.Directive.{Directive}
-use Rattle.smp_script.specs.Commands.{are_whole}
-use Rattle.smp_script.specs.Script.{events_of}
-use Rattle.smp_script.specs.Shapes.{Form, word}
-use Rattle.smp_script.specs.Shapes.{has_shape, has_word}
-use Rattle.smp_script.specs.FirstFault.{events_in}
+use Rattle.smp_script.proofs.Names.{◌≡◌, ℕ, ◌+◌, Bool, true, false, not, ◌==◌, List, [], ◌∷◌, length, Some, None, Result, Err, refl, ◌∙◌, arith, find}
+use Rattle.smp_script.proofs.Names.{slice_get, bytes_eq, cases_Bool, and_parts, and_right, nat_tests, list_all, Cause, Word, Directive, are_whole, events_of}
+use Rattle.smp_script.proofs.Names.{Form, word, has_shape, has_word, events_in, key_of, key_in}
 use Rattle.smp_script.proofs.Faults.FieldFaults.{Clean, Tells, passes}
-use Rattle.smp_script.specs.Keys.{key_of}
-use Rattle.smp_script.specs.FirstFault.{key_in}
 
 -- what reading the fields of a line tells: they have no shape, or one by which they are read
 pub data TellsLine {B : Type 0} (shapes : List (List Form)) (fields : List (List ℕ)) (holds : B → Type 0) (read : Result B Cause) : Type 0 where

@@ -1,17 +1,7 @@
 -- Masks, and what is wrong with their fields.
-use Rattle.std.proofs.Common.{◌≡◌, ◌≢◌, ℕ, ◌≤◌, Some, None, true, false, List, Result, Ok, Err, codes, refl, sym, ap, ◌∙◌, inl, inr, arith}
-use Rattle.std.specs.Str.{bytes_eq}
-use Rattle.std.proofs.lemmas.Bool.{cases_Bool}
-use Rattle.smp_mask.specs.CpuList.{IsMaskOf}
-use Rattle.smp_mask.specs.Reading.{mask_of_text}
-use Rattle.smp_mask.specs.declared.error.Cause.{Cause}
-use Rattle.smp_mask.specs.declared.error.Cause.TheVariants.{Mask}
-use Rattle.smp_mask.specs.declared.error.SmpError.{SmpError}
-use Rattle.smp_mask.specs.declared.mask.TheConstants.{NR_CPUS}
-use Rattle.smp_mask.proofs.Walks.{accepted, refused}
-use Rattle.smp_script.specs.Fields.{mask_of, stays_below}
-use Rattle.smp_script.specs.FieldFaults.{ActiveFault, IsMask, MaskFault}
-use Rattle.smp_script.specs.Requests.{active_of}
+use Rattle.smp_script.proofs.Names.{◌≡◌, ◌≢◌, ℕ, ◌≤◌, Some, None, true, false, List, Result, Ok, Err, codes, refl, sym, ap, ◌∙◌, inl, inr, arith, bytes_eq}
+use Rattle.smp_script.proofs.Names.{cases_Bool, IsMaskOf, mask_of_text, Cause, Mask, SmpError, NR_CPUS, accepted, refused, mask_of, stays_below, ActiveFault}
+use Rattle.smp_script.proofs.Names.{IsMask, MaskFault, active_of}
 use Rattle.smp_script.proofs.Faults.FieldFaults.{Judged, fine, faulty}
 use Rattle.smp_script.proofs.Spelled.ReadParts.{same_word}
 use Rattle.smp_script.proofs.Reader.Widths.{narrower, too_wide, wider}

@@ -1,29 +1,17 @@
 -- The number of a CPU that is online, and what is wrong with its field.
-use Rattle.std.proofs.Common.{◌≡◌, ℕ, ◌<◌, true, false, List, Err, refl, sym, ◌∙◌, inl, inr, arith}
-use Rattle.std.proofs.lemmas.Bool.{cases_Bool}
-use Rattle.smp_mask.specs.Mask.{has}
-use Rattle.smp_mask.specs.declared.error.Cause.{Cause}
-use Rattle.smp_mask.specs.declared.error.Cause.TheVariants.{Number, Range}
-use Rattle.smp_script.specs.FieldFaults.{MemberFault, NumberFault, value_of}
-use Rattle.smp_script.specs.Numbers.{is_decimal, number_in}
-use Rattle.smp_script.specs.Requests.{member_of}
+use Rattle.smp_script.proofs.Names.{◌≡◌, ℕ, true, false, List, Err, refl, sym, ◌∙◌, inl, inr, arith, cases_Bool, has, Cause, Number, Range, MemberFault}
+use Rattle.smp_script.proofs.Names.{NumberFault, value_of, is_decimal, number_in, member_of}
 use Rattle.smp_script.proofs.Faults.FieldFaults.{Judged, fine, faulty, is_read, is_wrong, number_read}
 use Rattle.smp_script.proofs.Reader.Widths.{AreCpus}
 
 right_member : (mask : ℕ) (text : List ℕ) → is_decimal text ≡ true → has mask (value_of text) ≡ true → (cause : Cause) → MemberFault mask text cause → ⊥
 right_member mask text good is Number f = let bad : true ≡ false = sym good ∙ f in cc
-right_member mask text good is Range f = let bad : true ≡ false = sym is ∙ f.1 in cc
-right_member mask text good is _ f = f
-
--- a number past all CPUs is that of none
-far_is_none : (mask far : ℕ) → AreCpus mask → 4294967295 < far → has mask far ≡ false
-far_is_none mask far cpus past = search (cases_Bool, arith)
+right_member mask text good is _ f = grind arith
 
 wrong_member : (mask : ℕ) (text : List ℕ) → AreCpus mask → (cause : Cause) → number_in 0 4294967295 text ≡ Err cause → NumberFault 0 4294967295 text cause
     → Judged (MemberFault mask text) (member_of mask text)
 wrong_member mask text cpus Number e f = faulty Number (rw e refl) f
-wrong_member mask text cpus Range e f =
-    faulty Range (rw e refl) (f.0, elim f.1 [ inl under ↦ absurd (omega arith) | inr over ↦ far_is_none mask (value_of text) cpus over ])
+wrong_member mask text cpus Range e f = faulty Range (rw e refl) (f.0, elim f.1 [ inl under ↦ absurd (omega arith) | inr over ↦ search (cases_Bool, arith) ])
 wrong_member mask text cpus _ e f = absurd f
 
 -- a CPU is read, or what is wrong with its field

@@ -1,19 +1,8 @@
 -- A text has one first fault at most.
-use Rattle.std.proofs.Common.{◌≡◌, ℕ, true, List, Result, Ok, Err, refl, arith}
-use Rattle.std.specs.Prelude.{is_ok}
-use Rattle.std.proofs.lemmas.Bool.{cases_order}
-use Rattle.std.proofs.lemmas.Option.{slice_get_within}
-use Rattle.smp_mask.specs.declared.error.Cause.{Cause}
-use Rattle.smp_mask.specs.declared.error.Cause.TheVariants.{Number, Range, Mask}
-use Rattle.smp_script.specs.Lines.{Line, lines_of}
-use Rattle.smp_script.specs.Faults.{Fault}
-use Rattle.smp_script.specs.Script.{Script, script_of}
-use Rattle.smp_script.specs.Shapes.{Form, word, words, number, signed, cpu_list, active, online, member, items}
-use Rattle.smp_script.specs.FieldFaults.{field_at, value_of, ActiveFault, FieldFault, ItemsFault, MaskFault, MemberFault, NumberFault, OnlineFault, SignedFault}
-use Rattle.smp_script.specs.FirstFault.{LineFault, past_lines, unended, no_shape, wrong_field, shared_key, past_events, IsFault, IsFirstFault}
-use Rattle.smp_script.specs.FirstFault.{past_bytes, no_line, in_line, setting_in}
-use Rattle.smp_script.specs.declared.mode.Mode.{Mode}
-use Rattle.smp_script.specs.declared.setting.Setting.{Setting}
+use Rattle.smp_script.proofs.Names.{◌≡◌, ℕ, true, List, Result, Ok, Err, refl, arith, is_ok, cases_order, slice_get_within, Cause, Number, Range, Mask, Line}
+use Rattle.smp_script.proofs.Names.{lines_of, Fault, Script, script_of, Form, word, ActiveFault, FieldFault, ItemsFault, MaskFault, MemberFault, NumberFault}
+use Rattle.smp_script.proofs.Names.{OnlineFault, SignedFault, LineFault, wrong_field, IsFault, IsFirstFault, past_bytes, no_line, in_line, setting_in, Mode}
+use Rattle.smp_script.proofs.Names.{Setting}
 use Rattle.smp_script.proofs.Faults.LineFaults.{place_within}
 use Rattle.smp_script.proofs.Faults.FirstFaults.{TellsText, script_tells}
 
@@ -26,7 +15,6 @@ number_cause low high text _ _ f g = search
 online_cause : (limit nr : ℕ) (text : List ℕ) (c d : Cause) → OnlineFault limit nr text c → OnlineFault limit nr text d → c ≡ d
 online_cause limit nr text Mask Range f g = absurd (f g.0 g.1)
 online_cause limit nr text Range Mask f g = absurd (g f.0 f.1)
-online_cause limit nr text Mask Mask f g = refl
 online_cause limit nr text _ _ f g = search
 
 signed_cause : (text : List ℕ) (c d : Cause) → SignedFault text c → SignedFault text d → c ≡ d
@@ -52,43 +40,28 @@ member_cause mask text Number Number f g = refl
 member_cause mask text Range Range f g = refl
 member_cause mask text _ _ f g = search
 
+ruleset causes = (number_cause, signed_cause, mask_cause, active_cause, member_cause, items_cause, online_cause)
+
 field_cause : (fields : List (List ℕ)) (i : ℕ) (form : Form) (c d : Cause) → FieldFault fields i form c → FieldFault fields i form d → c ≡ d
 field_cause fields i (word w) c d f g = absurd f
-field_cause fields i (words ws) c d f g = absurd f
-field_cause fields i (number low high) c d f g = number_cause low high (field_at fields i) c d f g
-field_cause fields i signed c d f g = signed_cause (field_at fields i) c d f g
-field_cause fields i (cpu_list limit) c d f g = mask_cause limit (field_at fields i) c d f g
-field_cause fields i (active limit) c d f g = active_cause limit (field_at fields i) c d f g
-field_cause fields i (member mask) c d f g = member_cause mask (field_at fields i) c d f g
-field_cause fields i items c d f g = items_cause (value_of (field_at fields 1)) (field_at fields i) c d f g
-field_cause fields i (online limit) c d f g = online_cause limit (value_of (field_at fields 1)) (field_at fields i) c d f g
+field_cause fields i _ c d f g = search (causes, arith)
 
 -- two faults of one rank in a line have one cause
 line_cause : (setting : Setting) (n events : ℕ) (shared : Type 0) (line : Line) (k m : ℕ) (c d : Cause) → k ≡ m → LineFault setting n events shared line k c
     → LineFault setting n events shared line m d → c ≡ d
-line_cause setting n events shared line k m c d e (past_lines f) (past_lines g) = refl
-line_cause setting n events shared line k m c d e (unended f) (unended g) = refl
-line_cause setting n events shared line k m c d e (no_shape f) (no_shape g) = refl
 line_cause setting n events shared line k m c d e (wrong_field i {shape = a} {form = v} s w f) (wrong_field j {shape = b} {form = u} t x g) =
     search (field_cause, arith)
-line_cause setting n events shared line k m c d e (wrong_field i {shape = a} {form = v} s w f) (past_events g) = search (place_within, arith)
-line_cause setting n events shared line k m c d e (wrong_field i {shape = a} {form = v} s w f) (shared_key g) = search (place_within, arith)
-line_cause setting n events shared line k m c d e (shared_key f) (shared_key g) = refl
-line_cause setting n events shared line k m c d e (shared_key f) (wrong_field j {shape = b} {form = u} t x g) = search (place_within, arith)
-line_cause setting n events shared line k m c d e (past_events f) (past_events g) = refl
-line_cause setting n events shared line k m c d e (past_events f) (wrong_field j {shape = b} {form = u} t x g) = search (place_within, arith)
-line_cause setting n events shared line k m c d e _ _ = absurd (omega (arith, e))
+line_cause setting n events shared line k m c d e (wrong_field i {shape = a} {form = v} s w f) _ = search (place_within, arith)
+line_cause setting n events shared line k m c d e _ (wrong_field j {shape = b} {form = u} t x g) = search (place_within, arith)
+line_cause setting n events shared line k m c d e _ _ = search arith
 
 -- and in a text
 fault_cause : (setting : Setting) (text : List ℕ) (n k m l : ℕ) (c d : Cause) → n ≡ m → k ≡ l → IsFault setting text n k c → IsFault setting text m l d → c ≡ d
 fault_cause setting text n k m l c d e r (past_bytes f) (past_bytes g) = refl
-fault_cause setting text n k m l c d e r (past_bytes f) _ = absurd (omega (arith, r))
-fault_cause setting text n k m l c d e r (no_line f few) (no_line g less) = refl
-fault_cause setting text n k m l c d e r (no_line f few) (past_bytes g) = absurd (omega (arith, r))
-fault_cause setting text n k m l c d e r (no_line f few) (in_line j {line = b} there g) = absurd (omega (arith, e, slice_get_within (lines_of text) j b there))
-fault_cause setting text n k m l c d e r (in_line i {line = a} here f) (past_bytes g) = absurd (omega (arith, e))
-fault_cause setting text n k m l c d e r (in_line i {line = a} here f) (no_line g few) = absurd (omega (arith, e, slice_get_within (lines_of text) i a here))
 fault_cause setting text n k m l c d e r (in_line i {line = a} here f) (in_line j {line = b} there g) = search (line_cause, arith)
+fault_cause setting text n k m l c d e r (in_line i {line = a} here f) (no_line g few) = absurd (omega (arith, e, slice_get_within (lines_of text) i a here))
+fault_cause setting text n k m l c d e r (no_line f few) (in_line j {line = b} there g) = absurd (omega (arith, e, slice_get_within (lines_of text) j b there))
+fault_cause setting text n k m l c d e r _ _ = search arith
 
 -- first faults are in one line
 one_line : (setting : Setting) (text : List ℕ) (n m : ℕ) (c d : Cause) → IsFirstFault setting text n c → IsFirstFault setting text m d → n ≡ m
@@ -100,8 +73,7 @@ one_cause setting text n m c d a b e = search (cases_order, fault_cause, arith)
 
 -- a text with a first fault is refused with it
 refused_with : (setting : Setting) (text : List ℕ) (n : ℕ) (cause : Cause) → IsFirstFault setting text n cause → (r : Result Script Fault)
-    → TellsText setting text r
-    → r ≡ Err (n, cause)
+    → TellsText setting text r → r ≡ Err (n, cause)
 refused_with setting text n cause h (Ok script) tells = absurd (tells n h.rank cause h.fault)
 refused_with setting text n cause h (Err fault) tells =
     let line = one_line setting text n fault.0 cause fault.1 h tells in

@@ -1,22 +1,8 @@
 -- The mask of the CPUs online, and what is wrong with its field.
-use Rattle.std.proofs.Common.{◌≡◌, ℕ, ◌≤◌, true, false, ◌==◌, nat_lt, List, [], ◌∷◌, length, drop, Result, Ok, Err, codes, refl, sym, ◌∙◌, inl, inr}
-use Rattle.std.proofs.Common.{arith}
-use Rattle.std.proofs.Common.{subst}
-use Rattle.std.specs.Str.{bytes_eq}
-use Rattle.std.proofs.lemmas.Bool.{cases_Bool, cases_lt, and_parts}
-use Rattle.std.proofs.lemmas.Bool.Decides.{nat_tests}
-use Rattle.smp_mask.specs.CpuList.{IsMaskOf}
-use Rattle.smp_mask.specs.Mask.{has, members}
-use Rattle.smp_mask.specs.declared.error.Cause.{Cause}
-use Rattle.smp_mask.specs.declared.error.Cause.TheVariants.{Mask, Range}
-use Rattle.smp_mask.specs.declared.mask.TheConstants.{NR_CPUS}
-use Rattle.smp_mask.proofs.Members.{item_member, none_below}
-use Rattle.smp_mask.proofs.Sets.{has_none}
-use Rattle.smp_script.specs.Fields.{mask_of}
-use Rattle.smp_script.specs.Commands.{are_whole}
-use Rattle.smp_script.specs.Script.{are_online, cpus_of, table_of, whole_cpus}
-use Rattle.smp_script.specs.Shapes.{online, cpus, has_shape}
-use Rattle.smp_script.specs.FieldFaults.{IsOutside, OnlineFault, value_of}
+use Rattle.smp_script.proofs.Names.{◌≡◌, ℕ, ◌≤◌, true, false, ◌==◌, nat_lt, List, [], ◌∷◌, length, drop, Result, Ok, Err, codes, refl, sym, ◌∙◌, inl, inr}
+use Rattle.smp_script.proofs.Names.{arith, subst, bytes_eq, cases_Bool, cases_lt, and_parts, nat_tests, IsMaskOf, has, members, Cause, Mask, Range, NR_CPUS}
+use Rattle.smp_script.proofs.Names.{item_member, none_below, has_none, mask_of, are_whole, are_online, cpus_of, table_of, whole_cpus, online, cpus, IsOutside}
+use Rattle.smp_script.proofs.Names.{OnlineFault, value_of}
 use Rattle.smp_script.proofs.Faults.FieldFaults.{Tells, none_yet, passes, reads_number}
 use Rattle.smp_script.proofs.Faults.LineShapes.{IsQuiet, TellsLine, shapeless, shaped, no_whole, passes_word, skips_word}
 use Rattle.smp_script.proofs.Reader.Widths.{AreCpus, mask_below, one_above, one_mask, some_fails, wider}
@@ -85,10 +71,6 @@ table_told limit nr mask few =
       | outside m read off wrong ↦ rw (read, off) (record { place = 2; form = online limit; wants = refl; wrong = wrong; before = two })
     ])
 
--- a line with an empty field is none
-no_cpus : (limit : ℕ) (fields : List (List ℕ)) → are_whole fields ≡ false → has_shape fields (cpus limit) ≡ false
-no_cpus limit fields empty = no_whole fields (cpus limit) refl empty
-
 cpus_shapes : (limit : ℕ) (fields : List (List ℕ)) → limit ≤ NR_CPUS → are_whole fields ≡ true
     → TellsLine (cpus limit ∷ []) fields (λ t. IsQuiet fields) (cpus_of limit fields)
 cpus_shapes limit (a ∷ nr ∷ mask ∷ []) few whole = elim (cases_Bool (bytes_eq a (codes "cpus"))) [
@@ -101,27 +83,20 @@ cpus_shapes limit (a ∷ nr ∷ mask ∷ []) few whole = elim (cases_Bool (bytes
 cpus_shapes limit _ few whole = shapeless refl refl
 
 -- what reading the second line tells
-pub cpus_told : (limit : ℕ) (fields : List (List ℕ)) → limit ≤ NR_CPUS
-    → TellsLine (cpus limit ∷ []) fields (λ t. IsQuiet fields) (whole_cpus limit fields)
+pub cpus_told : (limit : ℕ) (fields : List (List ℕ)) → limit ≤ NR_CPUS → TellsLine (cpus limit ∷ []) fields (λ t. IsQuiet fields) (whole_cpus limit fields)
 cpus_told limit fields few = elim (cases_Bool (are_whole fields)) [
   | inl whole ↦ rw whole (cpus_shapes limit fields few whole)
-  | inr empty ↦ shapeless (rw (no_cpus limit fields empty) refl) (rw empty refl)
+  | inr empty ↦ shapeless (rw (no_whole fields (cpus limit) refl empty) refl) (rw empty refl)
 ]
-
-no_cpu : AreCpus 0
-no_cpu cpu on = let bad : false ≡ true = sym (has_none cpu) ∙ on in cc
 
 -- the CPUs of a mask that was read are CPUs
 pub mask_cpus : (limit : ℕ) (text : List ℕ) (m : ℕ) → limit ≤ NR_CPUS → mask_of limit text ≡ Ok m → AreCpus m
 mask_cpus limit text m few h = elim (cases_Bool (bytes_eq text (codes "-"))) [
-  | inl dash ↦
-      let e : ◌≡◌ {A = Result ℕ Cause} (Ok 0) (Ok m) = rw dash at h in
-      let same : 0 ≡ m = cc in
-      subst AreCpus same no_cpu
+  | inl dash ↦ let same : 0 ≡ m = let e : ◌≡◌ {A = Result ℕ Cause} (Ok 0) (Ok m) = rw dash at h in cc in
+      subst AreCpus same (λ cpu on. let bad : false ≡ true = sym (has_none cpu) ∙ on in cc)
   | inr other ↦ elim (list_read limit text few other) [
     | a_list n read is ↦
-        let e : ◌≡◌ {A = Result ℕ Cause} (Ok n) (Ok m) = sym read ∙ h in
-        let same : n ≡ m = cc in
+        let same : n ≡ m = let e : ◌≡◌ {A = Result ℕ Cause} (Ok n) (Ok m) = sym read ∙ h in cc in
         subst AreCpus same (are_cpus limit text n few is)
     | no_list read none ↦ let e : ◌≡◌ {A = Result ℕ Cause} (Err Mask) (Ok m) = sym read ∙ h in cc
   ]

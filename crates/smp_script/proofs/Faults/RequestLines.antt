@@ -1,15 +1,7 @@
 -- What reading a line tells that is no title, no table and no labels.
-use Rattle.std.proofs.Common.{◌≡◌, ℕ, ◌≤◌, Bool, true, false, ◌&&◌, List, [], ◌∷◌, None, codes, refl, inl, inr}
-use Rattle.std.specs.Prelude.{find}
-use Rattle.std.specs.List.{list_all}
-use Rattle.std.proofs.lemmas.Bool.{cases_Bool}
-use Rattle.smp_mask.specs.declared.mask.TheConstants.{NR_CPUS}
-use Rattle.smp_script.specs.declared.directive.Directive.{Directive}
-use Rattle.smp_script.specs.declared.mode.Mode.{Mode}
-use Rattle.smp_script.specs.declared.mode.Mode.TheVariants.{Replay, Run}
-use Rattle.smp_script.specs.declared.setting.Setting.{Setting}
-use Rattle.smp_script.specs.Commands.{are_whole, directive_of, mode_line, whole_directive}
-use Rattle.smp_script.specs.Shapes.{has_shape, mode_requests, requests}
+use Rattle.smp_script.proofs.Names.{◌≡◌, ℕ, ◌≤◌, Bool, true, false, ◌&&◌, List, [], ◌∷◌, None, codes, refl, inl, inr, find, list_all, cases_Bool, NR_CPUS}
+use Rattle.smp_script.proofs.Names.{Directive, Mode, Replay, Run, Setting, are_whole, directive_of, mode_line, whole_directive, has_shape, mode_requests}
+use Rattle.smp_script.proofs.Names.{requests}
 use Rattle.smp_script.proofs.Faults.LineShapes.{TellsLine, shapeless, has_texts, none_whole}
 use Rattle.smp_script.proofs.Reader.Widths.{AreCpus}
 use Rattle.smp_script.proofs.Rows.ReplayRows.{replay_are, replay_known, replay_rows, replay_same}
@@ -30,8 +22,7 @@ mode_told : (mode : Mode) (limit mask : ℕ) → limit ≤ NR_CPUS → AreCpus m
     → TellsLine (mode_requests mode limit mask) (a ∷ rest) (AreWords mode limit mask (a ∷ rest)) (mode_line mode limit mask a rest)
 mode_told Replay limit mask few cpus a rest whole =
     rw (replay_same limit a rest) (rows_told (AreWords Replay limit mask) (replay_rows limit) (a ∷ rest) (replay_are limit mask) (replay_known limit few) whole)
-mode_told Run limit mask few cpus a rest whole =
-    rw (run_same limit mask a rest)
+mode_told Run limit mask few cpus a rest whole = rw (run_same limit mask a rest)
     (rows_told (AreWords Run limit mask) (run_rows limit mask) (a ∷ rest) (run_are limit mask) (run_known limit mask few cpus) whole)
 
 has_words : (mode : Mode) (limit mask : ℕ) → list_all has_texts (mode_requests mode limit mask) ≡ true

@@ -1,15 +1,9 @@
 -- Keys that lines of two CPUs have: in a text, and among what was read.
-use Rattle.std.proofs.Common.{◌≡◌, ◌≢◌, ℕ, zero, suc, ◌+◌, ◌<◌, Bool, true, false, not, ◌||◌, ◌==◌, List, [], ◌∷◌, ◌++◌, take, get_or, Option, Some, None}
-use Rattle.std.proofs.Common.{refl, sym, ap, ◌∙◌, inl, inr, arith, subst}
-use Rattle.std.specs.Prelude.{slice_get}
-use Rattle.std.specs.List.{list_any}
-use Rattle.std.proofs.lemmas.Bool.{cases_Bool, and_parts, eqb-true, eq-eqb, ne_eqb}
-use Rattle.std.proofs.lemmas.List.Folds.{list_any-append, list_any_more}
-use Rattle.std.proofs.lemmas.Option.{get_or_from_slice_get, slice_get_within}
-use Rattle.smp_script.specs.declared.directive.Directive.{Directive}
-use Rattle.smp_script.specs.FirstFault.{SharesKey, key_in}
-use Rattle.smp_script.specs.Keys.{KeyUse, is_shared, key_of, shares}
-use Rattle.smp_script.specs.Lines.{Line, fields_of, lines_of}
+use Rattle.smp_script.proofs.Names.{◌≡◌, ◌≢◌, ℕ, zero, suc, ◌+◌, ◌<◌, Bool, true, false, not, ◌||◌, ◌==◌, List, [], ◌∷◌, ◌++◌, take, get_or, Option, Some, None}
+use Rattle.smp_script.proofs.Names.{refl, sym, ap, ◌∙◌, inl, inr, arith, slice_get, list_any, cases_Bool, and_parts, eqb-true, eq-eqb, list_any-append}
+use Rattle.smp_script.proofs.Names.{list_any_more, get_or_from_slice_get, slice_get_within, Directive, SharesKey, key_in, KeyUse, is_shared, key_of, shares}
+use Rattle.smp_script.proofs.Names.{Line, fields_of, lines_of}
+use Rattle.std.proofs.lemmas.Bool.{ne_eqb}
 
 -- the line has that key, for another CPU
 abbrev pub has_shared : Option KeyUse → Line → Bool
@@ -26,10 +20,6 @@ unshared (Some one) = refl
 or_nothing : (b : Bool) → (b || false) ≡ b
 or_nothing true = refl
 or_nothing false = refl
-
-or_true : (b : Bool) → (b || true) ≡ true
-or_true true = refl
-or_true false = refl
 
 line_more : (text : List ℕ) (n : ℕ) (line : Line) → slice_get (lines_of text) n ≡ Some line → (mine : Option KeyUse)
     → list_any (has_shared mine) (take (n + 1) (lines_of text)) ≡ (list_any (has_shared mine) (take n (lines_of text)) || has_shared mine line)
@@ -74,7 +64,7 @@ meets : (lines : List Line) (n place : ℕ) (mine : Option KeyUse) (line : Line)
 meets [] n place mine line below there is = cc
 meets (l ∷ ls) zero place mine line below there is = absurd (omega arith)
 meets (l ∷ ls) (suc n) zero mine line below there is = search arith
-meets (l ∷ ls) (suc n) (suc place) mine line below there is = grind (or_true, meets ls n place mine line (omega arith) there is, arith)
+meets (l ∷ ls) (suc n) (suc place) mine line below there is = grind (cases_Bool, meets ls n place mine line (omega arith) there is, arith)
 
 -- two uses of one key by two CPUs
 record Both (mine theirs : Option KeyUse) : Type 0 where
@@ -120,7 +110,7 @@ pub not_shares : (text : List ℕ) (n : ℕ) (line : Line) (earlier : List Direc
 not_shares text n line earlier d here e a h s =
     let same : Some s.line ≡ Some line = sym s.here ∙ here in
     let one : s.line ≡ line = cc in
-    let mine : key_of d ≡ Some (s.cpu, s.key) = sym e ∙ subst (λ l. key_in (fields_of l.text) ≡ Some (s.cpu, s.key)) one s.uses in
+    let mine : key_of d ≡ Some (s.cpu, s.key) = sym e ∙ rw one at s.uses in
     let is : has_shared (key_of d) s.earlier ≡ true = rw (mine, s.used, eq-eqb s.key s.key refl, ne_eqb s.cpu s.other s.apart) refl in
     let bad : false ≡ true = sym h ∙ sym (a (key_of d)) ∙ meets (lines_of text) n s.place (key_of d) s.earlier s.is_before s.there is in
     cc

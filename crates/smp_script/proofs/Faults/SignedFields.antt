@@ -1,33 +1,23 @@
 -- Numbers that may have a minus sign, and what is wrong with their fields.
-use Rattle.std.proofs.Common.{◌≡◌, ℕ, zero, suc, pos, negsuc, true, false, ◌==◌, nat_lt, nat_le, List, [], ◌∷◌, Ok, Err, refl, sym, ◌∙◌, inl, inr, arith}
-use Rattle.std.proofs.lemmas.Bool.{cases_Bool}
-use Rattle.std.proofs.lemmas.Bool.Decides.{nat_tests}
-use Rattle.smp_mask.specs.declared.error.Cause.{Cause}
-use Rattle.smp_mask.specs.declared.error.Cause.TheVariants.{Number, Range}
-use Rattle.smp_script.specs.Numbers.{is_decimal, minus, negative_of, number_in, signed_of}
-use Rattle.smp_script.specs.FieldFaults.{SignedFault, is_far, is_signed, value_of}
+use Rattle.smp_script.proofs.Names.{◌≡◌, ℕ, zero, suc, pos, negsuc, true, false, ◌==◌, nat_lt, List, [], ◌∷◌, Ok, Err, refl, sym, ◌∙◌, inl, inr, arith}
+use Rattle.smp_script.proofs.Names.{cases_Bool, nat_tests, Cause, Number, Range, is_decimal, minus, negative_of, number_in, signed_of, SignedFault, is_far}
+use Rattle.smp_script.proofs.Names.{is_signed, value_of}
 use Rattle.smp_script.proofs.Faults.FieldFaults.{Judged, fine, faulty}
 
 right_signed : (text : List ℕ) → is_signed text ≡ true → is_far text ≡ false → (cause : Cause) → SignedFault text cause → ⊥
 right_signed text good near Number f = let bad : true ≡ false = sym good ∙ f in cc
-right_signed text good near Range f = let bad : true ≡ false = sym f.1 ∙ near in cc
-right_signed text good near _ f = f
-
-low_test : (n : ℕ) → nat_le 0 n ≡ true
-low_test n = grind (arith, nat_tests)
+right_signed text good near _ f = grind arith
 
 -- how a number is read that is not too far
 number_near : (high : ℕ) (text : List ℕ) → is_decimal text ≡ true → nat_lt high (value_of text) ≡ false → number_in 0 high text ≡ Ok (value_of text)
-number_near high text good near = search (nat_tests, low_test, arith)
+number_near high text good near = search (nat_tests, arith)
 
 number_far : (high : ℕ) (text : List ℕ) → is_decimal text ≡ true → nat_lt high (value_of text) ≡ true → number_in 0 high text ≡ Err Range
-number_far high text good far = search (nat_tests, low_test, arith)
+number_far high text good far = search (nat_tests, arith)
 
 plain_judged : (b : ℕ) (bs : List ℕ) → (b == 45) ≡ false → Judged (SignedFault (b ∷ bs)) (signed_of (b ∷ bs))
 plain_judged b bs plain = elim (cases_Bool (is_decimal (b ∷ bs))) [
-  | inr bad ↦
-      let read : number_in 0 2147483647 (b ∷ bs) ≡ Err Number = rw bad refl in
-      faulty Number (rw (plain, read) refl) (rw (plain, bad) refl)
+  | inr bad ↦ faulty Number (rw (plain, bad) refl) (rw (plain, bad) refl)
   | inl good ↦ elim (cases_Bool (nat_lt 2147483647 (value_of (b ∷ bs)))) [
     | inl far ↦ faulty Range (rw (plain, number_far 2147483647 (b ∷ bs) good far) refl) (rw (plain, good) refl, rw (plain, far) refl)
     | inr near ↦ fine (pos (value_of (b ∷ bs))) (rw (plain, number_near 2147483647 (b ∷ bs) good near) refl)
@@ -47,9 +37,7 @@ negated b bs (suc n) sign good near e =
 
 negative_judged : (b : ℕ) (bs : List ℕ) → (b == 45) ≡ true → Judged (SignedFault (b ∷ bs)) (negative_of bs)
 negative_judged b bs sign = elim (cases_Bool (is_decimal bs)) [
-  | inr bad ↦
-      let read : number_in 0 2147483648 bs ≡ Err Number = rw bad refl in
-      faulty Number (rw read refl) (rw (sign, bad) refl)
+  | inr bad ↦ faulty Number (rw bad refl) (rw (sign, bad) refl)
   | inl good ↦ elim (cases_Bool (nat_lt 2147483648 (value_of bs))) [
     | inl far ↦
         let some : (value_of bs == 0) ≡ false = grind (arith, nat_tests, far) in
@@ -61,8 +49,6 @@ negative_judged b bs sign = elim (cases_Bool (is_decimal bs)) [
 pub signed_judged : (text : List ℕ) → Judged (SignedFault text) (signed_of text)
 signed_judged [] = faulty Number refl refl
 signed_judged (b ∷ bs) = elim (cases_Bool (b == 45)) [
-  | inl sign ↦
-      let same : signed_of (b ∷ bs) ≡ negative_of bs = rw sign refl in
-      rw same (negative_judged b bs sign)
+  | inl sign ↦ rw sign (negative_judged b bs sign)
   | inr plain ↦ plain_judged b bs plain
 ]

@@ -1,18 +1,8 @@
 -- The first line, and what is wrong with it.
-use Rattle.std.proofs.Common.{◌≡◌, ℕ, true, List, [], ◌∷◌, drop, Ok, codes, refl}
-use Rattle.std.proofs.Common.{inl, inr}
-use Rattle.std.specs.Str.{bytes_eq}
-use Rattle.std.proofs.lemmas.Bool.{cases_Bool}
-use Rattle.smp_script.specs.Script.{title_of}
-use Rattle.smp_script.specs.Shapes.{title, versions}
-use Rattle.smp_script.specs.Versions.{version_text}
-use Rattle.smp_script.specs.declared.version.Version.{Version}
-use Rattle.smp_script.specs.declared.version.Version.TheVariants.{One, Two}
+use Rattle.smp_script.proofs.Names.{◌≡◌, ℕ, true, List, [], ◌∷◌, drop, Ok, codes, refl, inl, inr, bytes_eq, cases_Bool, title_of, title, versions, version_text}
+use Rattle.smp_script.proofs.Names.{Version, One, Two, Mode, Replay, Run, mode_text}
 use Rattle.smp_script.proofs.Spelled.ReadParts.{same_word}
 use Rattle.smp_script.proofs.Faults.FieldFaults.{Tells, none_yet, passes}
-use Rattle.smp_script.specs.declared.mode.Mode.{Mode}
-use Rattle.smp_script.specs.declared.mode.Mode.TheVariants.{Replay, Run}
-use Rattle.smp_script.specs.Modes.{mode_text}
 use Rattle.smp_script.proofs.Faults.LineShapes.{IsQuiet, TellsLine, shapeless, shaped, passes_word, skips_word}
 
 mode_same : (mode : Mode) → bytes_eq (mode_text mode) (mode_text mode) ≡ true

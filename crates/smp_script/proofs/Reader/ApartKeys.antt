@@ -1,14 +1,10 @@
 -- Lines that have no key which another line has for another CPU.
-use Rattle.std.proofs.Common.{◌≡◌, Bool, true, false, ◌||◌, List, [], ◌∷◌, ◌++◌, refl, sym, ◌∙◌}
-use Rattle.std.specs.List.{AllByRecursion}
-use Rattle.std.proofs.lemmas.List.Folds.{list_any-append}
-use Rattle.smp_script.specs.declared.directive.Directive.{Directive}
-use Rattle.smp_script.specs.Keys.{is_shared, key_of, shares}
+use Rattle.smp_script.proofs.Names.{◌≡◌, Bool, false, ◌||◌, List, [], ◌∷◌, ◌++◌, refl, sym, ◌∙◌, AllByRecursion, list_any-append, Directive, is_shared, key_of}
+use Rattle.smp_script.proofs.Names.{shares}
 
 neither : (a b : Bool) → (a || (b || false)) ≡ false → (a ≡ false) × (b ≡ false)
 neither false false h = (refl, refl)
-neither false true h = cc
-neither true b h = cc
+neither _ _ h = cc
 
 one_more : (earlier : List Directive) (d e : Directive) → shares (earlier ++ d ∷ []) e ≡ (shares earlier e || (is_shared (key_of e) (key_of d) || false))
 one_more earlier d e = list_any-append (λ x. is_shared (key_of e) (key_of x)) earlier (d ∷ [])

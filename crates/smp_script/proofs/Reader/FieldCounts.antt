@@ -1,8 +1,5 @@
 -- Lists of arguments that are too short or too long.
-use Rattle.std.proofs.Common.{◌≡◌, ◌<◌, ◌⊎◌, List, [], ◌∷◌, map, length, Err, refl, arith, ℕ, inl, inr}
-use Rattle.smp_mask.specs.declared.error.Cause.TheVariants.{Word}
-use Rattle.smp_script.specs.Commands.{begins_of, posts_of, start_of}
-use Rattle.smp_script.specs.Requests.{do_of}
+use Rattle.smp_script.proofs.Names.{◌≡◌, ◌<◌, ◌⊎◌, List, [], ◌∷◌, map, length, Err, refl, arith, ℕ, inl, inr, Word, begins_of, posts_of, start_of, do_of}
 
 -- a post has six
 pub not_six : {X : Type 0} (f : X → List ℕ) (cpu : List ℕ) (xs : List X) → (length xs < 6) ⊎ (6 < length xs) → Err Word ≡ posts_of cpu (map f xs)

@@ -1,9 +1,6 @@
 -- Fields that are not empty.
-use Rattle.std.proofs.Common.{◌≡◌, ℕ, zero, suc, ◌<◌, ◌≤◌, ◌^◌, inl, inr, arith, List, [], ◌∷◌, map, length, not, ◌==◌, ◌&&◌, refl, ap}
-use Rattle.std.specs.List.{list_all, AllByRecursion}
-use Rattle.std.proofs.lemmas.Bool.{cases_Bool}
-use Rattle.smp_script.specs.Lines.{AreShort, fields_of, onto_first}
-use Rattle.smp_script.specs.Commands.{are_whole}
+use Rattle.smp_script.proofs.Names.{◌≡◌, ℕ, zero, suc, ◌<◌, ◌≤◌, ◌^◌, inl, inr, arith, List, [], ◌∷◌, map, length, not, ◌==◌, ◌&&◌, refl, ap, list_all}
+use Rattle.smp_script.proofs.Names.{AllByRecursion, cases_Bool, AreShort, fields_of, onto_first, are_whole}
 
 pub are_whole_map : {X : Type 0} (f : X → List ℕ) (fs : List X) → are_whole (map f fs) ≡ list_all (λ x. not (length (f x) == 0)) fs
 are_whole_map f [] = refl

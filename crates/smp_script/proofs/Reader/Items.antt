@@ -1,16 +1,8 @@
 -- The items of a labels line.
-use Rattle.std.proofs.Common.{◌≡◌, ℕ, ◌<◌, ◌≤◌, Bool, true, false, arith, rules, All, ◌&&◌, List, [], ◌∷◌, map, Option, Some, None, Ok, Err}
-use Rattle.std.proofs.Common.{length, codes, refl, sym, ap, ◌∙◌}
-use Rattle.std.specs.List.{join_with_byte, list_all}
-use Rattle.std.specs.Str.{bytes_eq}
-use Rattle.std.proofs.lemmas.List.{length-map}
-use Rattle.std.proofs.lemmas.Bool.{and_parts}
-use Rattle.std.proofs.lemmas.Bool.Decides.{nat_tests}
-use Rattle.smp_labels.specs.Labels.{AreLabels}
-use Rattle.smp_labels.specs.declared.words.TheConstants.{MOST_KEYS, MOST_SITES}
-use Rattle.smp_mask.specs.declared.error.Cause.TheVariants.{Range}
-use Rattle.smp_script.specs.Lines.{parts_of}
-use Rattle.smp_script.specs.Labels.{Item, entries_in, entry_in, has_number, entry_of, is_among, is_below, item_in, item_of}
+use Rattle.smp_script.proofs.Names.{◌≡◌, ℕ, ◌<◌, ◌≤◌, Bool, true, false, arith, rules, ◌&&◌, List, [], ◌∷◌, map, Option, Some, None, Ok, Err, length, codes}
+use Rattle.smp_script.proofs.Names.{refl, sym, ap, ◌∙◌, join_with_byte, list_all, bytes_eq, length-map, and_parts, nat_tests, AreLabels, MOST_KEYS, MOST_SITES}
+use Rattle.smp_script.proofs.Names.{Range, parts_of, Item, entries_in, entry_in, has_number, entry_of, is_among, is_below, item_in}
+use Rattle.std.proofs.Common.{All}
 use Rattle.smp_script.proofs.Texts.Splits.{first_of, join_parts}
 
 pub all_map : {X Y : Type 0} (p : Y → Bool) (f : X → Y) (xs : List X) → list_all p (map f xs) ≡ list_all (λ x. p (f x)) xs
@@ -35,11 +27,7 @@ below_known keys (Some (text, branch)) few h = search (and_parts, nat_tests, ari
 -- entries of items whose keys are below a number are below it
 pub entries_below : (keys : ℕ) (items : List (List ℕ)) → keys ≤ MOST_KEYS → list_all (is_below keys) items ≡ true → All (λ e. e.key < keys) (map entry_of items)
 entries_below keys [] few h = search rules
-entries_below keys (i ∷ is) few h =
-    let parts = and_parts (is_below keys i) (list_all (is_below keys) is) h in
-    let here = below_known keys (item_of i) few parts.0 in
-    let rest = entries_below keys is few parts.1 in
-    search rules
+entries_below keys (i ∷ is) few h = search (rules, and_parts, below_known, entries_below keys is few)
 
 -- more items than a table has sites
 pub many_items : {X : Type 0} (f : X → List ℕ) (keys : ℕ) (xs : List X) → list_all (λ x. has_number (f x)) xs ≡ true → MOST_SITES < length xs
@@ -48,8 +36,7 @@ many_items f keys xs numbers many = search (all_map, length-map, nat_tests, arit
 
 -- the items of a lawful map
 pub good_items : {X : Type 0} (f : X → List ℕ) (keys : ℕ) (xs : List X) → list_all (λ x. has_number (f x)) xs ≡ true → length xs ≤ MOST_SITES
-    → list_all (λ x. is_below keys (f x)) xs ≡ true
-    → entries_in keys (map f xs) ≡ Ok (record { keys = keys; entries = map entry_of (map f xs) })
+    → list_all (λ x. is_below keys (f x)) xs ≡ true → entries_in keys (map f xs) ≡ Ok (record { keys = keys; entries = map entry_of (map f xs) })
 good_items f keys xs numbers few below = search (all_map, length-map, nat_tests, arith)
 
 -- they make a map

@@ -1,15 +1,6 @@
 -- How many CPUs the versions may speak of.
-use Rattle.std.proofs.Common.{◌≡◌, ℕ, ◌≤◌, List, ◌∷◌, [], drop, Ok, codes, refl, ap, arith}
-use Rattle.smp_mask.specs.declared.mask.TheConstants.{NR_CPUS}
-use Rattle.smp_script.specs.declared.version.Version.{Version}
-use Rattle.smp_script.specs.declared.version.Version.TheVariants.{One, Two}
-use Rattle.smp_script.specs.Lines.{Line, fields_of, lines_of}
-use Rattle.smp_script.specs.Versions.{limit_of, version_text}
-use Rattle.smp_script.specs.declared.mode.Mode.{Mode}
-use Rattle.smp_script.specs.Fields.{mask_of}
-use Rattle.smp_script.specs.FieldFaults.{field_at}
-use Rattle.smp_script.specs.FirstFault.{limit_in, online_in, online_word}
-use Rattle.smp_script.specs.Modes.{mode_text}
+use Rattle.smp_script.proofs.Names.{◌≡◌, ℕ, ◌≤◌, List, ◌∷◌, [], drop, Ok, codes, refl, ap, arith, NR_CPUS, Version, One, Two, Line, fields_of, lines_of}
+use Rattle.smp_script.proofs.Names.{limit_of, version_text, Mode, mask_of, field_at, limit_in, online_in, online_word, mode_text}
 
 -- no more than there can be
 pub limit_within : (version : Version) → limit_of version ≤ NR_CPUS
@@ -23,9 +14,8 @@ limit_told mode text l ls One e f = rw (e, f) refl
 limit_told mode text l ls Two e f = rw (e, f) refl
 
 second_word : (ls rest : List Line) (l : Line) → drop 1 ls ≡ l ∷ rest → online_word ls ≡ field_at (fields_of l.text) 2
-second_word [] rest l e = cc
-second_word (t ∷ []) rest l e = cc
 second_word (t ∷ m ∷ ms) rest l e = let same : m ≡ l = cc in ap (λ x. field_at (fields_of x.text) 2) same
+second_word _ rest l e = cc
 
 -- and the second which are online
 pub online_told : (text : List ℕ) (l : Line) (ls : List Line) (version : Version) (mask : ℕ) → drop 1 (lines_of text) ≡ l ∷ ls

@@ -1,18 +1,9 @@
 -- CPU lists by how wide they are: a list of CPUs below a limit is a wider list whose mask stays below it.
-use Rattle.std.proofs.Common.{◌≡◌, ℕ, zero, suc, ◌<◌, ◌≤◌, Bool, true, false, ◌&&◌, nat_lt, nat_le, List, [], ◌∷◌, ◌++◌, length, get_or, Ok, refl, sym, ap, ◌∙◌}
-use Rattle.std.proofs.Common.{inl, inr, arith, subst}
-use Rattle.std.specs.List.{list_all}
-use Rattle.std.proofs.lemmas.Bool.{cases_Bool, cases_lt, and_parts, or_cases, or_right}
-use Rattle.std.proofs.lemmas.Bool.Decides.{nat_tests}
-use Rattle.smp_mask.specs.CpuList.{AreItems, IsListOf, IsMaskOf, highest, is_within, lowest, names}
-use Rattle.smp_mask.specs.Mask.{has, members_below}
-use Rattle.smp_mask.specs.Reading.{mask_of_text}
-use Rattle.smp_mask.specs.declared.mask.TheConstants.{NR_CPUS}
+use Rattle.smp_script.proofs.Names.{◌≡◌, ℕ, zero, suc, ◌<◌, ◌≤◌, Bool, true, false, ◌&&◌, nat_lt, List, [], ◌∷◌, ◌++◌, length, get_or, Ok, refl, sym, ap, ◌∙◌}
+use Rattle.smp_script.proofs.Names.{inl, inr, arith, subst, list_all, cases_Bool, cases_lt, and_parts, or_cases, or_right, nat_tests, AreItems, IsListOf}
+use Rattle.smp_script.proofs.Names.{IsMaskOf, highest, is_within, names, has, members_below, mask_of_text, NR_CPUS, item_member, same_members, accepted}
+use Rattle.smp_script.proofs.Names.{stays_below}
 use Rattle.smp_mask.proofs.Accepts.{reads_list, with_items}
-use Rattle.smp_mask.proofs.Members.{item_member}
-use Rattle.smp_mask.proofs.Sets.{same_members}
-use Rattle.smp_mask.proofs.Walks.{accepted}
-use Rattle.smp_script.specs.Fields.{stays_below}
 
 -- all members are CPUs
 abbrev pub AreCpus : ℕ → Type 0
@@ -22,9 +13,7 @@ AreCpus m = (cpu : ℕ) → has m cpu ≡ true → cpu < NR_CPUS
 names_below : (w : ℕ) (items : _) → AreItems w items → (cpu : ℕ) → names items cpu ≡ true → cpu < w
 names_below w [] h cpu e = cc
 names_below w (i ∷ is) h cpu e = elim (or_cases (is_within cpu i) (names is cpu) e) [
-  | inl here ↦
-      let parts = and_parts (nat_le (lowest i) cpu) (nat_le cpu (highest i)) here in
-      grind (arith, nat_tests, h.0, parts.1)
+  | inl here ↦ grind (arith, nat_tests, h.0, and_parts, here)
   | inr more ↦ names_below w is h.1 cpu more
 ]
 
@@ -39,9 +28,7 @@ pub some_fails : (p : ℕ → Bool) (xs : List ℕ) → list_all p xs ≡ false 
 some_fails p [] h = cc
 some_fails p (x ∷ xs) h = elim (cases_Bool (p x)) [
   | inr fails ↦ (0, omega arith, fails)
-  | inl passes_ ↦
-      let more = some_fails p xs (rw passes_ at h) in
-      (suc more.0, omega (arith, more.1), more.2)
+  | inl passes_ ↦ let more = some_fails p xs (rw passes_ at h) in (suc more.0, omega (arith, more.1), more.2)
 ]
 
 all-append : {X : Type 0} (p : X → Bool) (xs ys : List X) → list_all p (xs ++ ys) ≡ (list_all p xs && list_all p ys)
@@ -58,16 +45,11 @@ unfolding members_below
 one_above nr mask zero cpu h member above = absurd (omega arith)
 one_above nr mask (suc k) cpu h member above = elim (cases_lt cpu k) [
   | inl before ↦
-      let front = one_above nr mask k cpu before member above in
-      elim (cases_Bool (has mask k)) [
-        | inl here ↦ rw (here, all-append (λ c. nat_lt c nr) (members_below mask k) (k ∷ []), front) refl
-        | inr other ↦ rw (other, all-append (λ c. nat_lt c nr) (members_below mask k) [], front) refl
-      ]
+      grind (arith, cases_Bool, all-append, one_above nr mask k cpu before member above)
   | inr at ↦
       let same : cpu ≡ k = omega arith in
       let here : has mask k ≡ true = rw (← same) member in
-      let past : nat_lt k nr ≡ false = grind (arith, nat_tests) in
-      rw (here, all-append (λ c. nat_lt c nr) (members_below mask k) (k ∷ []), past) (off (list_all (λ c. nat_lt c nr) (members_below mask k)))
+      grind (arith, nat_tests, here, all-append, off)
 ]
 
 -- a mask stays below a limit exactly where all its members do
@@ -81,16 +63,12 @@ items_wider : (limit : ℕ) (items : _) → limit ≤ NR_CPUS → AreItems limit
 items_wider limit [] few h = tt
 items_wider limit (i ∷ is) few h = ((h.0.0, omega (arith, h.0.1, few)), items_wider limit is few h.1)
 
-named_first : (i : _) (is : _) → lowest i ≤ highest i → names (i ∷ is) (highest i) ≡ true
-named_first i is up = search (nat_tests, arith)
-
-named_later : (i : _) (is : _) (cpu : ℕ) → names is cpu ≡ true → names (i ∷ is) cpu ≡ true
-named_later i is cpu h = or_right (is_within cpu i) (names is cpu) h
-
 items_narrower : (limit : ℕ) (items : _) → AreItems NR_CPUS items → ((cpu : ℕ) → names items cpu ≡ true → cpu < limit) → AreItems limit items
 items_narrower limit [] h below = tt
-items_narrower limit (i ∷ is) h below =
-    ((h.0.0, below (highest i) (named_first i is h.0.0)), items_narrower limit is h.1 (λ cpu e. below cpu (named_later i is cpu e)))
+items_narrower limit (i ∷ is) h below = (
+  (h.0.0, below (highest i) (search (nat_tests, h.0.0, arith))),
+  items_narrower limit is h.1 (λ cpu e. below cpu (or_right (is_within cpu i) (names is cpu) e)),
+)
 
 -- a list of CPUs below the limit is a wider one, of the same mask
 pub wider : (limit : ℕ) (text : List ℕ) (m : ℕ) → limit ≤ NR_CPUS → IsMaskOf limit text m → IsMaskOf NR_CPUS text m

@@ -1,21 +1,8 @@
 -- A field of a form: what it says, how it is read, and what is wrong with it.
-use Rattle.std.proofs.Common.{◌≡◌, ℕ, zero, suc, ℤ, pos, negsuc, cond, ◌<◌, ◌≤◌, ◌^◌, ◌==◌, true, List, [], ◌∷◌, Option, Some, None}
-use Rattle.std.proofs.Common.{Result, Ok, Err, codes, refl, sym}
-use Rattle.std.proofs.Common.{inl, inr, arith, subst}
-use Rattle.std.specs.Fmt.{decimal, signed_decimal}
-use Rattle.std.specs.Str.{bytes_eq}
-use Rattle.std.proofs.lemmas.Bool.{cases_Bool, or_cases}
-use Rattle.std.proofs.lemmas.Bool.Decides.{nat_tests}
-use Rattle.smp_mask.specs.Mask.{has}
-use Rattle.smp_mask.specs.declared.error.Cause.{Cause}
-use Rattle.smp_mask.specs.declared.error.Cause.TheVariants.{Word, Range}
-use Rattle.smp_mask.specs.declared.mask.TheConstants.{NR_CPUS}
-use Rattle.smp_script.specs.Fields.{mask_of, word32}
-use Rattle.smp_script.specs.FieldFaults.{FieldFault, field_at}
-use Rattle.smp_script.specs.Numbers.{number_in, minus, signed_of}
-use Rattle.smp_script.specs.Requests.{active_of, member_of}
-use Rattle.smp_script.specs.Shapes.{Form, word, words, number, signed, cpu_list, active, online, member, items, has_word, is_one_of}
-use Rattle.smp_script.specs.Spelling.{IsAnswer}
+use Rattle.smp_script.proofs.Names.{◌≡◌, ℕ, zero, suc, ℤ, pos, ◌<◌, ◌≤◌, ◌^◌, ◌==◌, true, List, [], ◌∷◌, Option, Some, None, Result, Ok, Err, codes, refl, sym}
+use Rattle.smp_script.proofs.Names.{inl, inr, arith, subst, decimal, signed_decimal, bytes_eq, cases_Bool, or_cases, nat_tests, has, Cause, Word, NR_CPUS}
+use Rattle.smp_script.proofs.Names.{mask_of, FieldFault, field_at, number_in, minus, signed_of, active_of, member_of, Form, word, words, number, signed}
+use Rattle.smp_script.proofs.Names.{cpu_list, active, online, member, items, has_word, is_one_of, IsAnswer}
 use Rattle.smp_script.proofs.Faults.FieldFaults.{Judged, fine, number_judged}
 use Rattle.smp_script.proofs.Faults.MaskFields.{active_judged, mask_judged}
 use Rattle.smp_script.proofs.Faults.MemberFields.{member_judged}
@@ -59,17 +46,13 @@ Known (online limit) = ⊥
 Known items = ⊥
 Known _ = Unit {0}
 
+ruleset judged = (number_judged, signed_judged, mask_judged, active_judged, member_judged)
+
 -- a field is read, or what is wrong with it
 pub form_judged : (fields : List (List ℕ)) (i : ℕ) (form : Form) → Known form → Judged (FieldFault fields i form) (read_form form (field_at fields i))
 form_judged fields i (word w) known = fine tt refl (λ cause f. f)
 form_judged fields i (words ws) known = fine (field_at fields i) refl (λ cause f. f)
-form_judged fields i (number low high) known = number_judged low high (field_at fields i)
-form_judged fields i signed known = signed_judged (field_at fields i)
-form_judged fields i (cpu_list limit) known = mask_judged limit (field_at fields i) known
-form_judged fields i (active limit) known = active_judged limit (field_at fields i) known
-form_judged fields i (member mask) known = member_judged mask (field_at fields i) known
-form_judged fields i (online limit) known = absurd known
-form_judged fields i items known = absurd known
+form_judged fields i _ known = search (judged, arith)
 
 -- of each of these words
 abbrev pub ForEach : (List ℕ → Type 0) → List (List ℕ) → Type 0
@@ -96,9 +79,7 @@ ForField _ P = Unit {0}
 
 minus_ok : (b : ℕ) (bs : List ℕ) (n : ℕ) (z : ℤ) → b ≡ 45 → bs ≡ decimal n → n ≤ 2147483648 → minus n ≡ Ok z → (b ∷ bs ≡ signed_decimal z) × IsAnswer z
 minus_ok b bs zero z here is small h = cc
-minus_ok b bs (suc n) z here is small h =
-    let same : negsuc n ≡ z = cc in
-    subst (λ y. (b ∷ bs ≡ signed_decimal y) × IsAnswer y) same (rw (here, is) refl, omega arith)
+minus_ok b bs (suc n) z here is small h = search (arith)
 
 signed_ok : (text : List ℕ) (z : ℤ) → signed_of text ≡ Ok z → (text ≡ signed_decimal z) × IsAnswer z
 signed_ok [] z h = cc
@@ -110,49 +91,27 @@ signed_ok (b ∷ bs) z h = elim (cases_Bool (b == 45)) [
       minus_ok b bs a.value z here n.0 n.2 a.then
   | inr plain ↦
       let a = both (number_in 0 2147483647 (b ∷ bs)) (λ n. Ok (pos n)) z (rw plain at h) in
-      let n = number_in-ok 0 2147483647 (b ∷ bs) a.value (omega arith) a.first in
-      let same : pos a.value ≡ z = let t = a.then in cc in
-      subst (λ y. (b ∷ bs ≡ signed_decimal y) × IsAnswer y) same (n.0, omega (arith, n.2))
+      search (number_in-ok 0 2147483647 (b ∷ bs) a.value, a.first, a.then, arith)
 ]
 
 member_ok : (mask : ℕ) (text : List ℕ) (c : ℕ) → member_of mask text ≡ Ok c → (text ≡ decimal c) × (c < 2 ^ 32) × (has mask c ≡ true)
-member_ok mask text c h =
-    let a = both (word32 text) (λ cpu. cond (has mask cpu) (Ok cpu) (Err Range)) c h in
-    let g = guarded (has mask a.value) (Ok a.value) Range c a.then in
-    let same : a.value ≡ c = let t = g.1 in cc in
-    let n = read32 text a.value a.first in
-    subst (λ x. (text ≡ decimal x) × (x < 2 ^ 32) × (has mask x ≡ true)) same (n.0, n.1, g.0)
+member_ok mask text c h = search (both, guarded, read32, arith)
 
 active_said : (limit : ℕ) (P : List ℕ → Option ℕ → Type 0) (text : List ℕ) (set : Option ℕ) → active_of limit text ≡ Ok set → ForField (active limit) P
     → P text set
-active_said limit P text set h all = elim (cases_Bool (bytes_eq text (codes "none"))) [
-  | inl none ↦
-      let e : ◌≡◌ {A = Result (Option ℕ) Cause} (Ok None) (Ok set) = rw none at h in
-      let same : None ≡ set = cc in
-      rw (same_word text (codes "none") none, ← same) all.0
-  | inr other ↦
-      let a = both (mask_of limit text) (λ m. Ok (Some m)) set (rw other at h) in
-      let same : Some a.value ≡ set = let t = a.then in cc in
-      rw (← same) (all.1 text a.value a.first)
-]
+active_said limit P text set h all = search (cases_Bool, same_word, both, arith)
 
 -- a field that is read is one of them
 pub form_said : (form : Form) (P : List ℕ → Said form → Type 0) (text : List ℕ) (x : Said form) → Sound form → has_word form text ≡ true
     → read_form form text ≡ Ok x → ForField form P → P text x
 form_said (word w) P text x sound right h all = rw (same_word text w right) all
-form_said (words ws) P text x sound right h all =
-    let same : text ≡ x = cc in
-    rw (← same) (of_one (λ w. P w w) ws text all right)
+form_said (words ws) P text x sound right h all = search (of_one, arith)
 form_said (number low high) P text n sound right h all =
     let is = number_in-ok low high text n sound h in
     rw is.0 (all n is.1 is.2)
 form_said signed P text z sound right h all =
     let is = signed_ok text z h in
     rw is.0 (all z is.1)
-form_said (cpu_list limit) P text m sound right h all = all text m h
 form_said (active limit) P text set sound right h all = active_said limit P text set h all
-form_said (member mask) P text cpu sound right h all =
-    let is = member_ok mask text cpu h in
-    rw is.0 (all cpu is.1 is.2)
-form_said (online limit) P text x sound right h all = absurd sound
-form_said items P text x sound right h all = absurd sound
+form_said (member mask) P text cpu sound right h all = search (member_ok, arith)
+form_said _ P text x sound right h all = search arith

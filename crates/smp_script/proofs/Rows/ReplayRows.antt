@@ -1,24 +1,9 @@
 -- The rows of a replay: what its lines ask for, by their shapes.
-use Rattle.std.proofs.Common.{◌≡◌, ℕ, ℤ, ◌≤◌, false, List, [], ◌∷◌, Result, codes, refl, arith, inl, inr}
-use Rattle.std.specs.List.{AllByRecursion}
-use Rattle.std.specs.Str.{bytes_eq}
-use Rattle.std.proofs.lemmas.Bool.{cases_Bool}
-use Rattle.smp_mask.specs.declared.error.Cause.{Cause}
-use Rattle.smp_words.specs.declared.call.Class.{Class}
-use Rattle.smp_words.specs.declared.call.Class.TheVariants.{Sync, Async}
+use Rattle.smp_script.proofs.Names.{◌≡◌, ℕ, ℤ, ◌≤◌, false, List, [], ◌∷◌, Result, codes, refl, arith, inl, inr, AllByRecursion, bytes_eq, cases_Bool, Cause}
+use Rattle.smp_script.proofs.Names.{Class, Sync, Async, Post, Send, Done, Handle, Gate, Ungate, Begin, Enter, Advance, RunOne, Finish, Poll, Key, Site, Nudge}
+use Rattle.smp_script.proofs.Names.{Kind, OneKind, Multi, Patch, Directive, Start, Step, Show, begins_of, command_of, posts_of, replay_line, show_of}
+use Rattle.smp_script.proofs.Names.{start_begin, start_of, start_post, steps_of, answered, bare, begin, numbered, nudge, post, show, step, NR_CPUS, Replay}
 use Rattle.smp_words.specs.declared.command.Command.{Command}
-use Rattle.smp_words.specs.declared.command.Command.TheVariants.{Post, Send, Done, Handle, Gate, Ungate, Begin, Enter, Advance, RunOne, Finish, Poll, Key, Site}
-use Rattle.smp_words.specs.declared.command.Command.TheVariants.{Nudge}
-use Rattle.smp_words.specs.declared.work.Kind.{Kind}
-use Rattle.smp_words.specs.declared.work.Kind.TheVariants.{One as OneKind, Multi, Patch}
-use Rattle.smp_script.specs.declared.directive.Directive.{Directive}
-use Rattle.smp_script.specs.declared.directive.Directive.TheVariants.{Start, Step, Show}
-use Rattle.smp_script.specs.Commands.{begins_of, command_of, posts_of, replay_line, show_of, start_begin, start_of, start_post, steps_of}
-use Rattle.smp_script.specs.Shapes.{answered, bare, begin, numbered, nudge, post, show, step}
-use Rattle.std.specs.Fmt.{decimal}
-use Rattle.smp_mask.specs.declared.mask.TheConstants.{NR_CPUS}
-use Rattle.smp_script.specs.declared.mode.Mode.TheVariants.{Replay}
-use Rattle.smp_script.specs.FieldFaults.{value_of}
 use Rattle.smp_script.proofs.Rows.Forms.{Known}
 use Rattle.smp_script.proofs.Rows.Words.{AreWords, masked_twice, plain}
 use Rattle.smp_script.proofs.Texts.Decimals.{value_of_decimal}
@@ -42,8 +27,7 @@ bare_command = by_text ((codes "handle", Handle) ∷ (codes "gate", Gate) ∷ (c
 
 -- the rows, where CPUs of masks have to be below the limit
 abbrev pub replay_rows : ℕ → List (Row Directive)
-replay_rows limit =
-    record { forms = post; make = λ start cpu name k dst class func info tries. Start cpu (Post k dst (class_in class) func info tries) }
+replay_rows limit = record { forms = post; make = λ start cpu name k dst class func info tries. Start cpu (Post k dst (class_in class) func info tries) }
     ∷ record {
       forms = begin limit;
       make = λ start cpu name kind mask active func arg.
@@ -74,10 +58,8 @@ begin_same limit cpu _ = simp cond_same
 
 short_same : (limit : ℕ) (cpu name : List ℕ) (arguments : List (List ℕ)) → bytes_eq name (codes "post") ≡ false → bytes_eq name (codes "begin") ≡ false
     → ByRow limit (codes "start" ∷ cpu ∷ name ∷ arguments) (command_of limit cpu name arguments)
-short_same limit cpu name [] no_post no_begin = simp (no_post, no_begin, cond_bind)
-short_same limit cpu name (a ∷ []) no_post no_begin = simp (no_post, no_begin, cond_bind)
 short_same limit cpu name (a ∷ b ∷ []) no_post no_begin = simp (no_post, no_begin, cond_bind)
-short_same limit cpu name _ no_post no_begin = simp (no_post, no_begin, cond_same)
+short_same limit cpu name _ no_post no_begin = simp (no_post, no_begin, cond_bind, cond_same)
 
 start_same : (limit : ℕ) (rest : List (List ℕ)) → ByRow limit (codes "start" ∷ rest) (start_of limit rest)
 start_same limit (cpu ∷ name ∷ arguments) = elim (cases_Bool (bytes_eq name (codes "post"))) [
@@ -110,18 +92,14 @@ replay_same limit word rest = elim (cases_Bool (bytes_eq word (codes "start"))) 
   ]
 ]
 
-step_counts : (n : ℕ) → n ≤ 10000 → value_of (decimal n) ≡ n
-step_counts n few = value_of_decimal n (omega arith)
-
 -- what the rows make are such lines
 pub replay_are : (limit mask : ℕ) → AllByRecursion (IsRow (AreWords Replay limit mask)) (replay_rows limit)
-replay_are limit mask =
-    are_rows (AreWords Replay limit mask) (replay_rows limit) (omega arith) (
+replay_are limit mask = are_rows (AreWords Replay limit mask) (replay_rows limit) (omega arith) (
     search (plain, arith)
     ⨾ (λ cpu a b. (λ text m read other o reads. search (masked_twice 4 5 text m other o, arith))
     ⨾ (λ text m read other o reads. search (masked_twice 4 5 text m other o, arith))
     ⨾ (λ text m read other o reads. search (masked_twice 4 5 text m other o, arith)) ⨾ tt)
-    ⨾ search (plain, arith) ⨾ search (plain, arith) ⨾ search (plain, arith) ⨾ search (plain, arith) ⨾ search (plain, step_counts, arith)
+    ⨾ search (plain, arith) ⨾ search (plain, arith) ⨾ search (plain, arith) ⨾ search (plain, arith) ⨾ search (plain, value_of_decimal, arith)
     ⨾ search (plain, arith) ⨾ tt)
 
 pub replay_known : (limit : ℕ) → limit ≤ NR_CPUS → AllByRecursion (λ row. AllByRecursion Known row.forms) (replay_rows limit)

@@ -1,16 +1,8 @@
 -- Rows: a shape, and what a line of that shape asks for by what its fields say. What holds of each row is shown once, by its forms.
-use Rattle.std.proofs.Common.{◌≡◌, ℕ, zero, suc, ◌==◌, Bool, true, false, not, ◌&&◌, cond, List, [], ◌∷◌, map, length, length-drop, drop, Some, None}
-use Rattle.std.proofs.Common.{Result, Ok, Err, refl, sym, ap, ◌∙◌, inl, inr, arith, subst}
-use Rattle.std.specs.Prelude.{slice_get, slice_index_or, Option}
-use Rattle.std.specs.List.{AllByRecursion}
-use Rattle.std.specs.Str.{bytes_eq}
-use Rattle.std.proofs.lemmas.Bool.{cases_Bool, and_parts}
-use Rattle.smp_mask.specs.declared.error.Cause.{Cause}
-use Rattle.smp_mask.specs.declared.error.Cause.TheVariants.{Word}
-use Rattle.smp_script.specs.Commands.{are_whole}
-use Rattle.smp_script.specs.Faults.{◌>>=◌}
-use Rattle.smp_script.specs.FieldFaults.{FieldFault}
-use Rattle.smp_script.specs.Shapes.{Form, word, words, online, items, has_shape, has_word, is_one_of}
+use Rattle.smp_script.proofs.Names.{◌≡◌, ℕ, zero, suc, ◌==◌, Bool, true, false, not, ◌&&◌, cond, List, [], ◌∷◌, map, length, length-drop, drop, Some, None}
+use Rattle.smp_script.proofs.Names.{Result, Ok, Err, refl, sym, ap, ◌∙◌, inl, inr, arith, subst, slice_get, slice_index_or, Option, AllByRecursion, bytes_eq}
+use Rattle.smp_script.proofs.Names.{cases_Bool, and_parts, Cause, Word, are_whole, ◌>>=◌, FieldFault, Form, word, words, online, items, has_shape, has_word}
+use Rattle.smp_script.proofs.Names.{is_one_of}
 use Rattle.smp_script.proofs.Faults.FieldFaults.{Clean, Judged, Tells, none_yet, reads_field}
 use Rattle.smp_script.proofs.Faults.LineShapes.{TellsLine, shapeless, shaped, skips}
 use Rattle.smp_script.proofs.Rows.Forms.{ForField, Known, Said, Sound, form_judged, form_said, read_form}
@@ -59,13 +51,12 @@ ForAll (form ∷ forms) make P = ForField form (λ text x. ForAll forms (make x)
 pub reads_said : {R : Type 0} (forms : List Form) (make : Makes forms R) (P : List (List ℕ) → R → Type 0) (texts : List (List ℕ)) (r : R)
     → AllByRecursion Sound forms → has_shape texts forms ≡ true → reads forms make texts ≡ Ok r → ForAll forms make P → P texts r
 reads_said [] make P [] r sound has h all = let same : make ≡ r = cc in subst (P []) same all
-reads_said [] make P (text ∷ texts) r sound has h all = cc
-reads_said (form ∷ forms) make P [] r sound has h all = cc
 reads_said (form ∷ forms) make P (text ∷ texts) r sound has h all =
     let parts = and_parts (has_shape texts forms) (has_word form text) has in
     let a = both (read_form form text) (λ x. reads forms (make x) texts) r h in
     reads_said forms (make a.value) (λ more x. P (text ∷ more) x) texts r sound.1 parts.0 a.then
     (form_said form (λ t x. ForAll forms (make x) (λ more y. P (t ∷ more) y)) text a.value sound.0 parts.1 a.first all)
+reads_said _ make P _ r sound has h all = cc
 
 -- the first of the words that the text is
 abbrev pub choose : {X : Type 0} → List (List ℕ) → List ℕ → (List ℕ → X) → X → X
@@ -134,10 +125,8 @@ tries_shape (form ∷ forms) (text ∷ texts) then or sound whole =
           rw many (choose_word form text (λ t. tries forms texts (λ ts. then (t ∷ ts)) or) or sound.0 parts.0
           ∙ ap (λ x. cond (has_word form text) x or) more ∙ both_tests (has_word form text) (has_shape texts forms) (then (text ∷ texts)) or)
       | inr other ↦
-          let none : false ≡ cond (has_shape texts forms) true false =
-          rw other at (tries_shape {X = Bool} forms texts (λ ts. true) false sound.1 parts.1) in
-          let no : has_shape texts forms ≡ false = grind (arith, none) in
-          rw (other, no) refl
+          let none = rw other at (tries_shape {X = Bool} forms texts (λ ts. true) false sound.1 parts.1) in
+          grind (arith, other, none)
     ]
 
 -- a shape, and what is made of its fields
@@ -174,8 +163,7 @@ tells_also shape fields holds (Err cause) told all = told
 
 row_told : {R : Type 0} (P : List (List ℕ) → R → Type 0) (row : Row R) (fields : List (List ℕ)) → IsRow P row → AllByRecursion Known row.forms
     → has_shape fields row.forms ≡ true → Tells row.forms fields (P fields) (reads row.forms row.make fields)
-row_told {R} P row fields is known has =
-    tells_also row.forms fields (P fields) (reads row.forms row.make fields)
+row_told {R} P row fields is known has = tells_also row.forms fields (P fields) (reads row.forms row.make fields)
     (reads_told R row.forms fields 0 row.forms row.make fields refl refl has known (none_yet row.forms fields))
     (λ r read. reads_said row.forms row.make P fields r is.sound has read is.all)
 

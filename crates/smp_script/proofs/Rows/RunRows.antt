@@ -1,28 +1,11 @@
 -- The rows of a run: what its lines ask for, by their shapes.
-use Rattle.std.proofs.Common.{◌≡◌, ℕ, ◌<◌, ◌≤◌, ◌^◌, Bool, true, false, List, [], ◌∷◌, map, Result, Ok, Err, codes, refl, arith, inl, inr}
-use Rattle.std.proofs.Common.{sym, ap, ◌∙◌}
-use Rattle.std.specs.Fmt.{decimal}
-use Rattle.std.specs.List.{AllByRecursion}
-use Rattle.std.specs.Str.{bytes_eq}
-use Rattle.std.proofs.lemmas.Bool.{cases_Bool}
-use Rattle.smp_mask.specs.declared.error.Cause.{Cause}
-use Rattle.smp_mask.specs.declared.error.Cause.TheVariants.{Word}
-use Rattle.smp_mask.specs.declared.mask.TheConstants.{NR_CPUS}
-use Rattle.smp_script.specs.declared.directive.Directive.{Directive}
-use Rattle.smp_script.specs.declared.directive.Directive.TheVariants.{Do}
-use Rattle.smp_script.specs.declared.mode.Mode.TheVariants.{Run}
+use Rattle.smp_script.proofs.Names.{◌≡◌, ℕ, ◌≤◌, Bool, true, false, List, [], ◌∷◌, map, Result, Ok, Err, codes, refl, arith, inl, inr, sym, ap, ◌∙◌}
+use Rattle.smp_script.proofs.Names.{AllByRecursion, bytes_eq, cases_Bool, Cause, Word, NR_CPUS, Directive, Do, Run, Which, All, Even, Odd, run_line, ◌>>=◌}
+use Rattle.smp_script.proofs.Names.{among, do_of, member_of, operation_of, repeated, wait_of, which_of, Form, active, bits, cpu_list, func_arg, func_info}
+use Rattle.smp_script.proofs.Names.{number, operation, operations, is_one_of, switch, wait, which, mask_of, word16, word64, number_in}
 use Rattle.smp_script.specs.declared.request.Request.{Request}
 use Rattle.smp_script.specs.declared.request.Request.TheVariants as request
-use Rattle.smp_script.specs.declared.request.Which.{Which}
-use Rattle.smp_script.specs.declared.request.Which.TheVariants.{All, Even, Odd}
-use Rattle.smp_script.specs.Commands.{run_line}
-use Rattle.smp_script.specs.Faults.{◌>>=◌}
-use Rattle.smp_script.specs.FieldFaults.{value_of}
-use Rattle.smp_script.specs.Requests.{among, do_of, member_of, operation_of, repeated, wait_of, which_of}
-use Rattle.smp_script.specs.Shapes.{Form, active, bits, cpu_list, func_arg, func_info, number, operation, operations, is_one_of, switch, wait, which}
 use Rattle.smp_script.proofs.Reader.Widths.{AreCpus}
-use Rattle.smp_script.specs.Fields.{mask_of, word16, word64}
-use Rattle.smp_script.specs.Numbers.{number_in}
 use Rattle.smp_script.proofs.Rows.Forms.{ForEach, Known, of_one}
 use Rattle.smp_script.proofs.Rows.Rows.{◌⨾◌, IsRow, Makes, Row, are_rows, bind_assoc, by_text, choose, cond_bind, cond_same, read_rows}
 use Rattle.smp_script.proofs.Rows.Words.{AreWords, masked, plain}
@@ -41,8 +24,7 @@ named cpus name forms make = record { forms = operation cpus (name, forms); make
 
 -- the rows, where CPUs of masks have to be below the limit, and the CPU of the line is one of these
 abbrev pub run_rows : ℕ → ℕ → List (Row Directive)
-run_rows limit cpus =
-    named cpus (codes "sync") (bits 32 ∷ func_info) (λ cpu count dst func info. Do cpu count (request.Single true dst func info))
+run_rows limit cpus = named cpus (codes "sync") (bits 32 ∷ func_info) (λ cpu count dst func info. Do cpu count (request.Single true dst func info))
     ∷ named cpus (codes "async") (bits 32 ∷ func_info) (λ cpu count dst func info. Do cpu count (request.Single false dst func info))
     ∷ named cpus (codes "user") (number 0 1 ∷ bits 32 ∷ func_info) (λ cpu count user dst func info. Do cpu count (request.User user dst func info))
     ∷ named cpus (codes "any") (wait ∷ cpu_list limit ∷ func_info) (λ cpu count w mask func info. Do cpu count (request.Any (waits w) mask func info))
@@ -78,19 +60,9 @@ two_words c w inner then flat same = simp (cond_bind, same)
 
 cond_same_words : (limit cpus : ℕ) (cpu count c w m func info : List ℕ) → Named limit cpus cpu count (c ∷ w ∷ m ∷ func ∷ info ∷ []) (codes "cond")
 unfolding repeated
-cond_same_words limit cpus cpu count c w m func info =
-    two_words c w (λ x b. among (request.Cond x b) limit m func info) (repeated cpus cpu count) (λ x b.
+cond_same_words limit cpus cpu count c w m func info = two_words c w (λ x b. among (request.Cond x b) limit m func info) (repeated cpus cpu count) (λ x b.
     member_of cpus cpu >>= λ p. number_in 1 10000 count >>= λ n. mask_of limit m >>= λ s. word16 func >>= λ f. word64 info >>= λ i.
     Ok (Do p n (request.Cond x b s f i))) (λ x b. simp bind_assoc)
-
-named_three : (limit cpus : ℕ) (cpu count a b c : List ℕ) → ForEach (Named limit cpus cpu count (a ∷ b ∷ c ∷ [])) (names limit)
-unfolding repeated
-named_three limit cpus cpu count a b c =
-    let is_sync : Named limit cpus cpu count (a ∷ b ∷ c ∷ []) (codes "sync") = simp (bind_assoc, cond_bind) in
-    let is_async : Named limit cpus cpu count (a ∷ b ∷ c ∷ []) (codes "async") = simp (bind_assoc, cond_bind) in
-    let is_one : Named limit cpus cpu count (a ∷ b ∷ c ∷ []) (codes "one") = simp (bind_assoc, cond_bind) in
-    let is_machine : Named limit cpus cpu count (a ∷ b ∷ c ∷ []) (codes "machine") = simp (bind_assoc, cond_bind) in
-    (is_sync, (is_async, (refl, (refl, (refl, (refl, (is_one, (refl, (is_machine, (refl, (refl, (refl, tt))))))))))))
 
 named_four : (limit cpus : ℕ) (cpu count a b c d : List ℕ) → ForEach (Named limit cpus cpu count (a ∷ b ∷ c ∷ d ∷ [])) (names limit)
 unfolding repeated
@@ -103,15 +75,12 @@ named_four limit cpus cpu count a b c d =
 
 named_same : (limit cpus : ℕ) (cpu count : List ℕ) (arguments : List (List ℕ)) → ForEach (Named limit cpus cpu count arguments) (names limit)
 unfolding repeated
-named_same limit cpus cpu count [] = assumption
 named_same limit cpus cpu count (a ∷ []) = simp (bind_assoc, cond_bind) assumption
 named_same limit cpus cpu count (a ∷ b ∷ []) = simp (bind_assoc, cond_bind) assumption
-named_same limit cpus cpu count (a ∷ b ∷ c ∷ []) = named_three limit cpus cpu count a b c
+named_same limit cpus cpu count (a ∷ b ∷ c ∷ []) = search (bind_assoc, cond_bind, arith)
 named_same limit cpus cpu count (a ∷ b ∷ c ∷ d ∷ []) = named_four limit cpus cpu count a b c d
-named_same limit cpus cpu count (a ∷ b ∷ c ∷ d ∷ e ∷ []) =
-    let is_cond = cond_same_words limit cpus cpu count a b c d e in
-    (refl, (refl, (refl, (refl, (refl, (is_cond, (refl, (refl, (refl, (refl, (refl, (refl, tt))))))))))))
-named_same limit cpus cpu count (a ∷ b ∷ c ∷ d ∷ e ∷ f ∷ rest) = assumption
+named_same limit cpus cpu count (a ∷ b ∷ c ∷ d ∷ e ∷ []) = search (cond_same_words, arith)
+named_same limit cpus cpu count _ = assumption
 
 -- a name that is none of these
 not_word : (ws : List (List ℕ)) (name : List ℕ) → is_one_of ws name ≡ false → (w : List ℕ) → is_one_of ws w ≡ true → bytes_eq name w ≡ false
@@ -138,18 +107,14 @@ run_same limit cpus word rest = elim (cases_Bool (bytes_eq word (codes "do"))) [
   | inr other ↦ simp (other, cond_same)
 ]
 
-value32 : (n : ℕ) → n < 2 ^ 32 → value_of (decimal n) ≡ n
-value32 n small = value_of_decimal n (omega arith)
-
 -- what the rows make are such lines
 pub run_are : (limit cpus : ℕ) → AllByRecursion (IsRow (AreWords Run limit cpus)) (run_rows limit cpus)
-run_are limit cpus =
-    are_rows (AreWords Run limit cpus) (run_rows limit cpus) (omega arith) (
+run_are limit cpus = are_rows (AreWords Run limit cpus) (run_rows limit cpus) (omega arith) (
     search (plain, arith) ⨾ search (plain, arith) ⨾ search (plain, arith)
     ⨾ search (masked 5, arith) ⨾ search (masked 5, arith)
     ⨾ (λ cpu small on count lo hi. search (masked 6, arith) ⨾ search (masked 6, arith) ⨾ search (masked 6, arith) ⨾ tt)
     ⨾ search (plain, arith) ⨾ search (plain, arith) ⨾ search (masked 4, plain, arith)
-    ⨾ search (plain, value32, arith) ⨾ search (plain, value32, arith) ⨾ search (plain, value32, arith) ⨾ tt)
+    ⨾ search (plain, value_of_decimal, arith) ⨾ search (plain, value_of_decimal, arith) ⨾ search (plain, value_of_decimal, arith) ⨾ tt)
 
 pub run_known : (limit cpus : ℕ) → limit ≤ NR_CPUS → AreCpus cpus → AllByRecursion (λ row. AllByRecursion Known row.forms) (run_rows limit cpus)
 run_known limit cpus few are = assumption

@@ -1,24 +1,9 @@
 -- What a labels line is that is read.
-use Rattle.std.proofs.Common.{◌≡◌, ℕ, ◌<◌, ◌≤◌, true, false, nat_lt, nat_le, ◌&&◌, List, [], ◌∷◌, ◌++◌, map, length, Option, Some, None, Result, Ok}
-use Rattle.std.proofs.Common.{codes, refl, sym, ap, ◌∙◌, inl, inr, arith, subst}
-use Rattle.std.specs.Fmt.{decimal}
-use Rattle.std.specs.List.{join_with_byte, list_all}
-use Rattle.std.specs.Str.{bytes_eq}
-use Rattle.std.proofs.lemmas.List.{map-id}
-use Rattle.std.proofs.lemmas.Bool.{cases_Bool, and_parts}
-use Rattle.std.proofs.lemmas.Bool.Decides.{nat_tests}
-use Rattle.smp_mask.specs.declared.error.Cause.TheVariants.{Cut, Word}
-use Rattle.smp_labels.specs.Labels.{AreLabels, Labels}
-use Rattle.smp_labels.specs.declared.words.TheConstants.{MOST_KEYS, MOST_SITES}
-use Rattle.smp_script.specs.Lines.{Line, fields_of, lines_of, parts_of}
-use Rattle.smp_script.specs.Numbers.{is_decimal, number_in, value_after}
-use Rattle.smp_script.specs.Faults.{Fault, ◌>>=◌, at_line}
-use Rattle.smp_script.specs.Commands.{are_whole}
-use Rattle.smp_script.specs.Labels.{entries_in, entry_in, entry_of, is_among, is_below, is_item, is_labels, item_in, items_of, labels_in, labels_of}
-use Rattle.smp_script.specs.Labels.{whole_labels}
-use Rattle.smp_script.specs.Fields.{word32}
-use Rattle.smp_script.specs.Script.{labels_at}
-use Rattle.smp_script.specs.Spelling.{LabelsFit, item_text, items_text, labels_before, line_before}
+use Rattle.smp_script.proofs.Names.{◌≡◌, ℕ, ◌≤◌, true, false, nat_lt, ◌&&◌, List, [], ◌∷◌, ◌++◌, map, length, Option, Some, None, Result, Ok, codes, refl, sym}
+use Rattle.smp_script.proofs.Names.{ap, ◌∙◌, inl, inr, arith, subst, decimal, join_with_byte, list_all, bytes_eq, map-id, cases_Bool, and_parts, nat_tests, Cut}
+use Rattle.smp_script.proofs.Names.{Word, AreLabels, Labels, MOST_KEYS, MOST_SITES, Line, fields_of, lines_of, parts_of, is_decimal, number_in, value_after}
+use Rattle.smp_script.proofs.Names.{Fault, ◌>>=◌, at_line, are_whole, entries_in, entry_in, entry_of, is_among, is_below, is_item, is_labels, item_in, items_of}
+use Rattle.smp_script.proofs.Names.{labels_in, labels_of, whole_labels, word32, labels_at, LabelsFit, item_text, items_text, labels_before, line_before}
 use Rattle.smp_script.proofs.Texts.Decimals.{number_in-ok}
 use Rattle.smp_script.proofs.Spelled.ReadParts.{both, guarded, placed_ok, same_word}
 use Rattle.smp_script.proofs.Reader.Items.{make_labels}
@@ -28,18 +13,12 @@ use Rattle.smp_script.proofs.Texts.Splits.{first_of, join_parts, line_back}
 key_back : (keys : ℕ) (key : List ℕ) → keys ≤ MOST_KEYS → (is_decimal key && nat_lt (value_after 0 key) keys) ≡ true
     → (word32 key ≡ Ok (value_after 0 key)) × (key ≡ decimal (value_after 0 key))
 key_back keys key few h =
-    let parts = and_parts (is_decimal key) (nat_lt (value_after 0 key) keys) h in
-    let small : value_after 0 key < keys = grind (arith, nat_tests, parts.1) in
-    let low : nat_le 0 (value_after 0 key) ≡ true = grind (arith, nat_tests) in
-    let high : nat_le (value_after 0 key) 4294967295 ≡ true = grind (arith, nat_tests, small, few) in
-    let read : word32 key ≡ Ok (value_after 0 key) = rw (parts.0, low, high) refl in
+    let read : word32 key ≡ Ok (value_after 0 key) = grind (arith, nat_tests, and_parts, h, few) in
     (read, (number_in-ok 0 4294967295 key (value_after 0 key) (omega arith) read).0)
 
 -- an item is its entry's text
 parts_back : (keys : ℕ) (text : List ℕ) (ps : List (List ℕ)) → keys ≤ MOST_KEYS → parts_of 58 text ≡ ps → is_among keys (item_in ps) ≡ true
     → item_text (entry_in (item_in ps)) ≡ text
-parts_back keys text [] few e h = cc
-parts_back keys text (key ∷ []) few e h = cc
 parts_back keys text (key ∷ branch ∷ []) few e h =
     let joined : join_with_byte 58 (key ∷ branch ∷ []) ≡ text = ap (join_with_byte 58) (sym e) ∙ join_parts 58 text in
     elim (cases_Bool (bytes_eq branch (codes "0"))) [
@@ -55,7 +34,7 @@ parts_back keys text (key ∷ branch ∷ []) few e h =
         | inr no_on ↦ let bad : false ≡ true = rw (no_off, no_on) at h in cc
       ]
     ]
-parts_back keys text (key ∷ branch ∷ other ∷ rest) few e h = cc
+parts_back keys text _ few e h = cc
 
 items_back : (keys : ℕ) (texts : List (List ℕ)) → keys ≤ MOST_KEYS → list_all (is_below keys) texts ≡ true → map item_text (map entry_of texts) ≡ texts
 items_back keys [] few h = refl
@@ -94,21 +73,14 @@ labels_in_ok keys field m h =
     let e = entries_ok a.value (items_of field) m a.then in
     let same : list_all (λ t. is_below a.value t) (items_of field) ≡ true = e.1 in
     let fit = make_labels (λ t. t) a.value (items_of field) n.2 e.0 same in
-    subst (λ x. AreTexts keys field x) e.2 (record {
-      keys_are = n.0;
-      items_are = sym (field_back a.value field n.2 e.1);
-      fit = rw map-id at fit;
-    })
+    subst (λ x. AreTexts keys field x) e.2 (record { keys_are = n.0; items_are = sym (field_back a.value field n.2 e.1); fit = rw map-id at fit })
 
 labels_words : (fields : List (List ℕ)) (m : Labels) → is_labels fields ≡ true → labels_of fields ≡ Ok m
     → (fields ≡ codes "labels" ∷ decimal m.keys ∷ items_text m.entries ∷ []) × AreLabels m.keys m.entries
-labels_words [] m is h = cc
-labels_words (word ∷ []) m is h = cc
-labels_words (word ∷ keys ∷ []) m is h = cc
 labels_words (word ∷ keys ∷ items ∷ []) m is h =
     let t = labels_in_ok keys items m h in
     (rw (same_word word (codes "labels") is, t.keys_are, t.items_are) refl, t.fit)
-labels_words (word ∷ keys ∷ items ∷ other ∷ rest) m is h = cc
+labels_words _ m is h = cc
 
 -- a text by its labels line, where it begins with one
 pub record BeginsLabels (bs : List ℕ) (third : Option Labels × List Line) : Type 0 where

@@ -1,14 +1,7 @@
 -- What a line is that is read.
-use Rattle.std.proofs.Common.{◌≡◌, ℕ, true, false, ◌==◌, List, [], ◌∷◌, length, Ok, refl, sym, ap, ◌∙◌, arith}
-use Rattle.std.specs.List.{join_with_byte, list_all}
-use Rattle.smp_mask.specs.declared.error.Cause.TheVariants.{Word}
-use Rattle.smp_script.specs.declared.directive.Directive.{Directive}
-use Rattle.smp_script.specs.declared.mode.Mode.{Mode}
-use Rattle.smp_script.specs.declared.mode.Mode.TheVariants.{Replay, Run}
-use Rattle.smp_script.specs.declared.setting.Setting.{Setting}
-use Rattle.smp_script.specs.Commands.{are_whole, directive_of, line_directive, mode_line}
-use Rattle.smp_script.specs.Lines.{fields_of}
-use Rattle.smp_script.specs.Spelling.{DirectiveFits, Masks, SpellLine, directive_words, is_field, lacks}
+use Rattle.smp_script.proofs.Names.{not, and_parts, ◌≡◌, ℕ, true, ◌==◌, List, [], ◌∷◌, length, Ok, refl, sym, ap, ◌∙◌, join_with_byte, list_all, Word}
+use Rattle.smp_script.proofs.Names.{Directive, Mode, Replay, Run, Setting, are_whole, directive_of, line_directive, mode_line, fields_of, DirectiveFits, Masks}
+use Rattle.smp_script.proofs.Names.{SpellLine, directive_words, is_field, lacks}
 use Rattle.smp_script.proofs.Spelled.ReadParts.{guarded}
 use Rattle.smp_script.proofs.Rows.ReplayRows.{replay_are, replay_rows, replay_same}
 use Rattle.smp_script.proofs.Rows.Rows.{rows_said}
@@ -20,13 +13,10 @@ use Rattle.smp_script.proofs.Texts.Splits.{join_parts, parts_lack, parts_lack_ma
 pub are_fields : (ts : List (List ℕ)) → are_whole ts ≡ true → list_all (lacks 32) ts ≡ true → list_all (lacks 10) ts ≡ true → list_all is_field ts ≡ true
 are_fields [] whole spaces feeds = refl
 are_fields (t ∷ ts) whole spaces feeds =
-    let some : (length t == 0) ≡ false = grind (arith, whole) in
-    let space : lacks 32 t ≡ true = grind (arith, spaces) in
-    let feed : lacks 10 t ≡ true = grind (arith, feeds) in
-    let w : are_whole ts ≡ true = grind (arith, whole) in
-    let s : list_all (lacks 32) ts ≡ true = grind (arith, spaces) in
-    let f : list_all (lacks 10) ts ≡ true = grind (arith, feeds) in
-    rw (some, space, feed, are_fields ts w s f) refl
+    let w = and_parts (not (length t == 0)) (are_whole ts) whole in
+    let s = and_parts (lacks 32 t) (list_all (lacks 32) ts) spaces in
+    let f = and_parts (lacks 10 t) (list_all (lacks 10) ts) feeds in
+    rw (w.0, s.0, f.0, are_fields ts w.1 s.1 f.1) refl
 
 pub line_fields : (text : List ℕ) → lacks 10 text ≡ true → are_whole (fields_of text) ≡ true → list_all is_field (fields_of text) ≡ true
 line_fields text on_line whole = are_fields (fields_of text) whole (parts_lack_marks 32 text) (parts_lack 32 10 text on_line)
@@ -51,16 +41,10 @@ directive_ok : (setting : Setting) (fields : List (List ℕ)) (d : Directive) �
 directive_ok setting [] d whole h = cc
 directive_ok setting (word ∷ rest) d whole h = words_ok setting.mode setting.limit setting.online word rest d whole h
 
-pub line_ok : (setting : Setting) (text : List ℕ) (d : Directive) → lacks 10 text ≡ true → line_directive setting text ≡ Ok d
-    → IsLine setting text d
+pub line_ok : (setting : Setting) (text : List ℕ) (d : Directive) → lacks 10 text ≡ true → line_directive setting text ≡ Ok d → IsLine setting text d
 unfolding line_directive
 line_ok setting text d on_line h =
     let fields = fields_of text in
     let g = guarded (are_whole fields) (directive_of setting fields) Word d h in
     let w = directive_ok setting fields d g.0 g.1 in
-    record {
-      masks = w.masks;
-      text_is = sym (join_parts 32 text) ∙ ap (join_with_byte 32) w.words;
-      spell = w.spell (line_fields text on_line g.0);
-      fit = w.fit;
-    }
+    record { masks = w.masks; text_is = sym (join_parts 32 text) ∙ ap (join_with_byte 32) w.words; spell = w.spell (line_fields text on_line g.0); fit = w.fit }

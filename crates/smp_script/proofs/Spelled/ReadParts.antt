@@ -1,11 +1,6 @@
 -- What was read, part by part.
-use Rattle.std.proofs.Common.{◌≡◌, ℕ, ◌<◌, ◌^◌, Bool, true, false, List, Result, Ok, Err, cond, refl, arith}
-use Rattle.std.specs.Fmt.{decimal}
-use Rattle.std.specs.Str.{bytes_eq}
-use Rattle.std.proofs.lemmas.Slice.Eq.{bytes_eq-Decides}
-use Rattle.smp_mask.specs.declared.error.Cause.{Cause}
-use Rattle.smp_script.specs.Faults.{◌>>=◌, at_line}
-use Rattle.smp_script.specs.Fields.{word32}
+use Rattle.smp_script.proofs.Names.{◌≡◌, ℕ, ◌<◌, ◌^◌, Bool, true, false, List, Result, Ok, Err, cond, refl, arith, decimal, bytes_eq, bytes_eq-Decides, Cause}
+use Rattle.smp_script.proofs.Names.{◌>>=◌, at_line, word32}
 use Rattle.smp_script.proofs.Texts.Decimals.{number_in-ok}
 
 -- what was read before something was read after it

@@ -1,37 +1,17 @@
 -- What a text is that reads as a script.
-use Rattle.std.proofs.Common.{◌≡◌, ℕ, ◌+◌, ◌≤◌, ◌&&◌, true, false, nat_lt, List, [], ◌∷◌, ◌++◌, map, length, sum_by, Option, Some, None, Result, Ok, Err, codes}
-use Rattle.std.proofs.Common.{cond}
-use Rattle.std.proofs.Common.{refl, sym, ap, ◌∙◌, inl, inr, arith, subst}
-use Rattle.std.specs.Fmt.{decimal}
-use Rattle.std.specs.List.{AllByRecursion, join_with_byte, list_all}
-use Rattle.std.specs.Str.{bytes_eq}
-use Rattle.std.proofs.lemmas.Bool.{cases_Bool, and_parts}
-use Rattle.std.proofs.lemmas.Bool.Decides.{nat_tests}
-use Rattle.std.proofs.lemmas.List.Sums.{sum_by-cons}
-use Rattle.smp_mask.specs.declared.mask.TheConstants.{NR_CPUS}
-use Rattle.smp_mask.specs.declared.error.Cause.TheVariants.{TooLong, Cut, Word, SharedKey}
-use Rattle.smp_labels.specs.Labels.{Labels}
-use Rattle.smp_script.specs.declared.directive.Directive.{Directive}
-use Rattle.smp_script.specs.declared.mode.Mode.{Mode}
-use Rattle.smp_script.specs.declared.setting.Setting.{Setting}
-use Rattle.smp_script.specs.FieldFaults.{field_at}
-use Rattle.smp_script.specs.Keys.{AreApart, shares}
-use Rattle.smp_script.specs.Modes.{mode_text, setting_of}
+use Rattle.smp_script.proofs.Names.{◌≡◌, ℕ, ◌+◌, ◌≤◌, ◌&&◌, true, false, nat_lt, List, [], ◌∷◌, ◌++◌, map, length, sum_by, Option, Some, None, Result, Ok, Err}
+use Rattle.smp_script.proofs.Names.{codes, cond, refl, sym, ap, ◌∙◌, inl, inr, arith, subst, decimal, AllByRecursion, join_with_byte, list_all, bytes_eq}
+use Rattle.smp_script.proofs.Names.{cases_Bool, and_parts, nat_tests, sum_by-cons, NR_CPUS, TooLong, Cut, Word, SharedKey, Labels, Directive, Mode, Setting}
+use Rattle.smp_script.proofs.Names.{field_at, AreApart, shares, mode_text, setting_of, Line, fields_of, lines_of, Fault, ◌>>=◌, at_line, mask_of, are_whole}
+use Rattle.smp_script.proofs.Names.{line_directive, Script, are_online, cpus_of, directives_of, events_of, first_line, labels_at, line_at, script_of, table_of}
+use Rattle.smp_script.proofs.Names.{title_of, whole_cpus, DirectiveFits, IsSpelling, Masks, SpellLine, directive_words, is_field, labels_before, line_before}
+use Rattle.smp_script.proofs.Names.{spelled_lines, Version, limit_of, version_of, version_text}
 use Rattle.smp_script.proofs.Reader.ApartKeys.{apart_from}
-use Rattle.smp_script.specs.Lines.{Line, fields_of, lines_of}
-use Rattle.smp_script.specs.Faults.{Fault, ◌>>=◌, at_line}
-use Rattle.smp_script.specs.Fields.{mask_of}
-use Rattle.smp_script.specs.Commands.{are_whole, line_directive}
-use Rattle.smp_script.specs.Script.{Script, are_online, cpus_of, directives_of, events_of, first_line, labels_at, line_at, script_of, table_of, title_of}
-use Rattle.smp_script.specs.Script.{whole_cpus}
-use Rattle.smp_script.specs.Spelling.{DirectiveFits, IsSpelling, Masks, SpellLine, directive_words, is_field, labels_before, line_before, spelled_lines}
 use Rattle.smp_script.proofs.Texts.Decimals.{number_in-ok}
 use Rattle.smp_script.proofs.Spelled.ReadParts.{both, guarded, placed_ok, same_word}
 use Rattle.smp_script.proofs.Spelled.LineReadings.{line_fields, line_ok}
 use Rattle.smp_script.proofs.Spelled.LabelReadings.{labels_ok}
 use Rattle.smp_script.proofs.Texts.Splits.{Begins, join_parts, line_back, no_line}
-use Rattle.smp_script.specs.declared.version.Version.{Version}
-use Rattle.smp_script.specs.Versions.{limit_of, version_of, version_text}
 use Rattle.smp_script.proofs.Reader.Versions.{limit_within}
 
 -- a text whose lines read as these is their spelling, within the limits
@@ -48,8 +28,7 @@ pub record AreLines (setting : Setting) (n events : ℕ) (earlier : List Directi
 
 -- what follows a line
 abbrev pub after_line : Setting → ℕ → ℕ → List Directive → List Line → Directive → Result (List Directive) Fault
-after_line setting n events earlier ls d =
-    cond (shares earlier d) (Err (n, SharedKey)) (cond (nat_lt 100000 (events + events_of d)) (Err (n, TooLong))
+after_line setting n events earlier ls d = cond (shares earlier d) (Err (n, SharedKey)) (cond (nat_lt 100000 (events + events_of d)) (Err (n, TooLong))
     (directives_of setting (n + 1) (events + events_of d) (earlier ++ d ∷ []) ls >>= λ rest. Ok (d ∷ rest)))
 
 pub lines_ok : (setting : Setting) (n events : ℕ) (earlier : List Directive) (ls : List Line) (bs : List ℕ) (ds : List Directive) → lines_of bs ≡ ls
@@ -202,11 +181,10 @@ script_is_spelled mode text script h = elim (cases_Bool (nat_lt 65536 (length te
         record {
           text_is = text_of mode b.value text a.value.0 c.value.0 one.rest two.rest d.value.0 cpus.mask m.value.0
               (spelled_lines body.lines) one.text_is first_is two.text_is second_is after_is;
-          mask_is =
-              record {
-                field = mask_field (decimal d.value.0) cpus.mask (ap (list_all is_field) (sym cpus.words) ∙ line_fields c.value.0 two.on_line whole.0);
-                reads = cpus.mask_is;
-              };
+          mask_is = record {
+            field = mask_field (decimal d.value.0) cpus.mask (ap (list_all is_field) (sym cpus.words) ∙ line_fields c.value.0 two.on_line whole.0);
+            reads = cpus.mask_is;
+          };
           lines_are = body.lines_are;
           masks_are = body.spell;
           some = cpus.some;

@@ -1,14 +1,8 @@
 -- Decimal numbers, as they are written.
-use Rattle.std.proofs.Common.{◌≡◌, ℕ, ◌<◌, ◌≤◌, ◌^◌, true, false, ◌==◌, List, [], ◌∷◌, length, get_or, Ok, refl, sym, ap, ◌∙◌}
-use Rattle.std.proofs.Common.{arith}
-use Rattle.std.specs.Fmt.{decimal}
-use Rattle.std.specs.List.{list_all}
-use Rattle.std.proofs.lemmas.Bool.{cases_lt, cases_Bool}
-use Rattle.std.proofs.lemmas.Bool.Decides.{nat_tests}
+use Rattle.smp_script.proofs.Names.{◌≡◌, ℕ, ◌<◌, ◌≤◌, ◌^◌, true, false, List, [], ◌∷◌, length, get_or, Ok, refl, sym, ap, ◌∙◌, arith, decimal, list_all}
+use Rattle.smp_script.proofs.Names.{cases_lt, cases_Bool, nat_tests, is_digit, is_decimal, value_after, number_in, lacks, is_field}
 use Rattle.std.proofs.lemmas.Fmt.{decimal_digit, decimal_nonempty, digits_decimal, digits_value-decimal, first_decimal, decimal-digits_value}
 use Rattle.std.proofs.lemmas.Str.Parse.{IsDigitsTest, IsNumeralModel, numerals_by_fold}
-use Rattle.smp_script.specs.Numbers.{is_digit, is_decimal, value_after, number_in}
-use Rattle.smp_script.specs.Spelling.{lacks, is_field}
 
 abbrev AreDigits : List ℕ → Type 0
 AreDigits ds = list_all is_digit ds ≡ true
@@ -40,10 +34,7 @@ number_in-decimal low high n above below small = search (digits_value-decimal, o
 
 lacks_digits : (c : ℕ) (ds : List ℕ) → is_digit c ≡ false → AreDigits ds → lacks c ds ≡ true
 lacks_digits c [] h a = refl
-lacks_digits c (d ∷ ds) h a =
-    let rest : AreDigits ds = grind (arith, a) in
-    let other : (d == c) ≡ false = grind (arith, nat_tests, a, h) in
-    rw (other, lacks_digits c ds h rest) refl
+lacks_digits c (d ∷ ds) h a = grind (arith, nat_tests, lacks_digits c ds)
 
 -- it has no byte that is no digit
 pub decimal_lacks : (c n : ℕ) → is_digit c ≡ false → n < 2 ^ 64 → lacks c (decimal n) ≡ true

@@ -1,9 +1,6 @@
 -- Digits, from the front.
-use Rattle.std.proofs.Common.{◌≡◌, ℕ, ◌+◌, ◌-◌, ◌*◌, ◌<◌, ◌≤◌, Bool, true, ◌&&◌, min, List, [], ◌∷◌, ◌++◌, length, take, get_or, refl, arith}
-use Rattle.std.specs.List.{list_all}
-use Rattle.std.proofs.lemmas.Bool.Decides.{nat_tests}
-use Rattle.std.proofs.lemmas.List.{take_more}
-use Rattle.smp_script.specs.Numbers.{is_digit, value_after}
+use Rattle.smp_script.proofs.Names.{◌≡◌, ℕ, ◌+◌, ◌-◌, ◌*◌, ◌<◌, ◌≤◌, Bool, true, ◌&&◌, min, List, [], ◌∷◌, ◌++◌, length, take, get_or, refl, arith, list_all}
+use Rattle.smp_script.proofs.Names.{nat_tests, take_more, is_digit, value_after}
 
 value_after_push : (n : ℕ) (xs : List ℕ) (b : ℕ) → value_after n (xs ++ b ∷ []) ≡ value_after n xs * 10 + (b - 48)
 value_after_push n [] b = refl

@@ -1,42 +1,26 @@
 -- Fields and lines, as they are written.
-use Rattle.std.proofs.Common.{◌≡◌, ℕ, true, false, ◌&&◌, ◌==◌, List, [], ◌∷◌, ◌++◌, length, refl, ap, ◌∙◌, arith}
-use Rattle.std.specs.List.{join_with_byte, list_all}
-use Rattle.std.proofs.lemmas.Bool.Decides.{nat_tests}
-use Rattle.smp_script.specs.Lines.{fields_of, lines_of, parts_of}
-use Rattle.smp_script.specs.Commands.{are_whole}
-use Rattle.smp_script.specs.Spelling.{lacks, is_field, line_before}
+use Rattle.smp_script.proofs.Names.{◌≡◌, ℕ, true, ◌&&◌, List, [], ◌∷◌, ◌++◌, refl, arith, join_with_byte, list_all, nat_tests, fields_of, lines_of, parts_of}
+use Rattle.smp_script.proofs.Names.{are_whole, lacks, is_field, line_before}
 
 -- a text with no such byte is one part
 pub parts_plain : (mark : ℕ) (t : List ℕ) → lacks mark t ≡ true → parts_of mark t ≡ t ∷ []
 parts_plain mark [] h = refl
-parts_plain mark (b ∷ bs) h =
-    let here : (b == mark) ≡ false = grind (arith, h) in
-    let rest : lacks mark bs ≡ true = grind (arith, h) in
-    rw (here, parts_plain mark bs rest) refl
+parts_plain mark (b ∷ bs) h = grind (arith, parts_plain mark bs)
 
 -- such a byte ends the first part
 pub parts_front : (mark : ℕ) (t rest : List ℕ) → lacks mark t ≡ true → parts_of mark (t ++ mark ∷ rest) ≡ t ∷ parts_of mark rest
 parts_front mark [] rest h = search (nat_tests, arith)
-parts_front mark (b ∷ bs) rest h =
-    let here : (b == mark) ≡ false = grind (arith, h) in
-    let more : lacks mark bs ≡ true = grind (arith, h) in
-    rw (here, parts_front mark bs rest more) refl
+parts_front mark (b ∷ bs) rest h = grind (arith, parts_front mark bs rest)
 
 -- parts that are joined are read
 pub parts_join : (mark : ℕ) (t : List ℕ) (ts : List (List ℕ)) → list_all (lacks mark) (t ∷ ts) ≡ true → parts_of mark (join_with_byte mark (t ∷ ts)) ≡ t ∷ ts
 parts_join mark t [] h = search (parts_plain, arith)
-parts_join mark t (u ∷ us) h =
-    let here : lacks mark t ≡ true = grind (arith, h) in
-    let rest : list_all (lacks mark) (u ∷ us) ≡ true = grind (arith, h) in
-    parts_front mark t (join_with_byte mark (u ∷ us)) here ∙ ap (λ fs. t ∷ fs) (parts_join mark u us rest)
+parts_join mark t (u ∷ us) h = grind (arith, parts_front, parts_join mark u us)
 
 -- fields have no space
 lack_spaces : (ts : List (List ℕ)) → list_all is_field ts ≡ true → list_all (lacks 32) ts ≡ true
 lack_spaces [] h = refl
-lack_spaces (t ∷ ts) h =
-    let here : lacks 32 t ≡ true = grind (arith, h) in
-    let rest : list_all is_field ts ≡ true = grind (arith, h) in
-    rw (here, lack_spaces ts rest) refl
+lack_spaces (t ∷ ts) h = grind (arith, lack_spaces ts)
 
 -- fields that are joined are read
 pub fields_join : (t : List ℕ) (ts : List (List ℕ)) → list_all is_field (t ∷ ts) ≡ true → fields_of (join_with_byte 32 (t ∷ ts)) ≡ t ∷ ts
@@ -45,10 +29,7 @@ fields_join t ts h = parts_join 32 t ts (lack_spaces (t ∷ ts) h)
 -- fields are not empty
 pub whole_fields : (ts : List (List ℕ)) → list_all is_field ts ≡ true → are_whole ts ≡ true
 whole_fields [] h = refl
-whole_fields (t ∷ ts) h =
-    let here : (length t == 0) ≡ false = grind (arith, h) in
-    let rest : list_all is_field ts ≡ true = grind (arith, h) in
-    rw (here, whole_fields ts rest) refl
+whole_fields (t ∷ ts) h = grind (arith, whole_fields ts)
 
 pub lacks-append : (c : ℕ) (xs ys : List ℕ) → lacks c (xs ++ ys) ≡ (lacks c xs && lacks c ys)
 lacks-append c [] ys = refl
@@ -58,17 +39,11 @@ lacks-append c (x ∷ xs) ys = grind (arith, lacks-append c xs ys)
 lacks-join : (ts : List (List ℕ)) → list_all is_field ts ≡ true → lacks 10 (join_with_byte 32 ts) ≡ true
 lacks-join [] h = refl
 lacks-join (t ∷ []) h = grind (arith, h)
-lacks-join (t ∷ u ∷ us) h =
-    let here : lacks 10 t ≡ true = grind (arith, h) in
-    let rest : list_all is_field (u ∷ us) ≡ true = grind (arith, h) in
-    rw (lacks-append 10 t (32 ∷ join_with_byte 32 (u ∷ us)), here, lacks-join (u ∷ us) rest) refl
+lacks-join (t ∷ u ∷ us) h = grind (arith, lacks-append, lacks-join (u ∷ us))
 
 lines_front : (t rest : List ℕ) → lacks 10 t ≡ true → lines_of (t ++ 10 ∷ rest) ≡ record { text = t; ended = true } ∷ lines_of rest
 lines_front [] rest h = refl
-lines_front (b ∷ bs) rest h =
-    let here : (b == 10) ≡ false = grind (arith, h) in
-    let more : lacks 10 bs ≡ true = grind (arith, h) in
-    rw (here, lines_front bs rest more) refl
+lines_front (b ∷ bs) rest h = grind (arith, lines_front bs rest)
 
 -- a line that is written is the first
 pub lines_of-line : (ts : List (List ℕ)) (rest : List ℕ) → list_all is_field ts ≡ true

@@ -1,10 +1,6 @@
 -- Fields and lines, put together again.
-use Rattle.std.proofs.Common.{◌≡◌, ℕ, true, false, ◌==◌, List, [], ◌∷◌, ◌++◌, refl, sym, ap, ◌∙◌, inl, inr, arith}
-use Rattle.std.specs.List.{join_with_byte, list_all}
-use Rattle.std.proofs.lemmas.Bool.{cases_Bool}
-use Rattle.std.proofs.lemmas.Bool.Decides.{nat_tests}
-use Rattle.smp_script.specs.Lines.{Line, lines_of, onto_line, parts_of}
-use Rattle.smp_script.specs.Spelling.{lacks}
+use Rattle.smp_script.proofs.Names.{◌≡◌, ℕ, true, false, ◌==◌, List, [], ◌∷◌, ◌++◌, refl, sym, ap, ◌∙◌, inl, inr, arith, join_with_byte, list_all, cases_Bool}
+use Rattle.smp_script.proofs.Names.{nat_tests, Line, lines_of, onto_line, parts_of, lacks}
 
 -- the parts of a text, from the first
 pub record First (mark : ℕ) (bs : List ℕ) : Type 0 where
@@ -41,15 +37,7 @@ parts_lack_marks mark (b ∷ bs) = grind (first_of, cases_Bool, parts_lack_marks
 -- nor a byte that the text lacks
 pub parts_lack : (mark c : ℕ) (bs : List ℕ) → lacks c bs ≡ true → list_all (lacks c) (parts_of mark bs) ≡ true
 parts_lack mark c [] h = refl
-parts_lack mark c (b ∷ bs) h =
-    let here : (b == c) ≡ false = grind (arith, h) in
-    let more : lacks c bs ≡ true = grind (arith, h) in
-    let rest = first_of mark bs in
-    let others : list_all (lacks c) (rest.part ∷ rest.others) ≡ true = ap (list_all (lacks c)) (sym rest.are) ∙ parts_lack mark c bs more in
-    elim (cases_Bool (b == mark)) [
-      | inl same ↦ rw same (parts_lack mark c bs more)
-      | inr other ↦ rw (other, rest.are) (rw here others)
-    ]
+parts_lack mark c (b ∷ bs) h = grind (first_of, cases_Bool, parts_lack mark c bs, arith)
 
 -- a text by its first line, which a line feed ends
 pub record Begins (bs text : List ℕ) (others : List Line) : Type 0 where
@@ -68,9 +56,8 @@ never : (b : ℕ) (ls : List Line) → onto_line b ls ≡ [] → ⊥
 never b [] h = cc
 never b (l ∷ ls) h = cc
 
-onto_begins : (b : ℕ) (bs : List ℕ) (l : Line) (ls : List Line) (all : List Line) → (b == 10) ≡ false → all ≡ lines_of bs
-    → ((m : Line) (ms : List Line) → all ≡ m ∷ ms → m.ended ≡ true → Begins bs m.text ms) → onto_line b all ≡ l ∷ ls → l.ended ≡ true
-    → Begins (b ∷ bs) l.text ls
+onto_begins : (b : ℕ) (bs : List ℕ) (l : Line) (ls : List Line) (all : List Line) → (b == 10) ≡ false → all ≡ lines_of bs → ((m : Line) (ms : List Line)
+    → all ≡ m ∷ ms → m.ended ≡ true → Begins bs m.text ms) → onto_line b all ≡ l ∷ ls → l.ended ≡ true → Begins (b ∷ bs) l.text ls
 onto_begins b bs l ls [] other e more h ended = search (head_same, arith)
 onto_begins b bs l ls (m ∷ ms) other e more h ended =
     let head : record { text = b ∷ m.text; ended = m.ended } ≡ l = head_same _ _ _ _ h in

@@ -1,29 +1,15 @@
 -- The canonical text of a script.
-use Rattle.std.proofs.Common.{◌≡◌, ℕ, map, ◌<◌, ◌≤◌, ◌^◌, ◌+◌, Bool, true, false, ◌==◌, cond, List, [], ◌∷◌, length, Option, Some, None, Result, Ok}
-use Rattle.std.proofs.Common.{codes, refl, sym, ap, ◌∙◌, inl, inr, arith}
-use Rattle.std.specs.Str.{bytes_eq}
-use Rattle.std.proofs.lemmas.Bool.{cases_Bool}
-use Rattle.std.proofs.lemmas.Bool.Decides.{nat_tests}
-use Rattle.std.proofs.lemmas.Slice.Eq.{bytes_eq-Decides}
+use Rattle.smp_script.proofs.Names.{◌≡◌, ℕ, map, ◌<◌, ◌≤◌, ◌^◌, ◌+◌, Bool, true, false, ◌==◌, cond, List, [], ◌∷◌, length, Option, Some, None, Result, Ok}
+use Rattle.smp_script.proofs.Names.{codes, refl, sym, ap, ◌∙◌, inl, inr, arith, bytes_eq, cases_Bool, nat_tests, bytes_eq-Decides, after, digit, longer}
+use Rattle.smp_script.proofs.Names.{mask_of_text, or_refused, read_from, NR_CPUS, SmpError, none_below, Script, are_online, script_of, IsLawful, IsMaskText}
+use Rattle.smp_script.proofs.Names.{LineHasSets, SpellLine, canonical_lines, canonical_text, lacks, line_masks, mask_text, Directive, Start, Do, Mode, Begin}
+use Rattle.smp_script.proofs.Names.{AllByRecursion, is_cpu, stays_below, limit_of}
 use Rattle.smp_mask.specs.ListText.{list_text}
-use Rattle.smp_mask.specs.Reading.{after, digit, longer, mask_of_text, or_refused, read_from, step}
-use Rattle.smp_mask.specs.declared.mask.TheConstants.{NR_CPUS}
-use Rattle.smp_mask.specs.declared.error.SmpError.{SmpError}
+use Rattle.smp_mask.specs.Reading.{step}
 use Rattle.smp_mask.proofs.Canonical.{reads_back}
-use Rattle.smp_mask.proofs.Members.{none_below}
-use Rattle.smp_script.specs.Script.{Script, are_online, script_of}
-use Rattle.smp_script.specs.Spelling.{IsLawful, IsMaskText, LineHasSets, SpellLine, canonical_lines, canonical_text, lacks, line_masks, mask_text}
-use Rattle.smp_script.specs.declared.directive.Directive.{Directive}
-use Rattle.smp_script.specs.declared.directive.Directive.TheVariants.{Start, Do}
-use Rattle.smp_script.specs.declared.mode.Mode.{Mode}
 use Rattle.smp_script.specs.declared.request.Request.TheVariants as request
-use Rattle.smp_words.specs.declared.command.Command.TheVariants.{Begin}
-use Rattle.std.specs.List.{AllByRecursion}
 use Rattle.smp_script.proofs.Written.Writing.{spelling_is_read}
 use Rattle.std.proofs.Math.Nat.{pow-le-pow_right}
-use Rattle.smp_mask.proofs.Sets.{member_below as is_cpu}
-use Rattle.smp_script.specs.Fields.{stays_below}
-use Rattle.smp_script.specs.Versions.{limit_of}
 use Rattle.smp_script.proofs.Reader.Versions.{limit_within}
 use Rattle.smp_script.proofs.Reader.Widths.{all_stay}
 
@@ -93,12 +79,8 @@ list_is_text limit m few narrow some =
 
 pub mask_is_text : (limit m : ℕ) → limit ≤ NR_CPUS → m < 2 ^ limit → IsMaskText limit (mask_text m) m
 mask_is_text limit m few set = elim (cases_Bool (m == 0)) [
-  | inl none ↦
-      let zero_ : m ≡ 0 = grind (arith, nat_tests, none) in
-      rw zero_ (record { field = refl; reads = refl })
-  | inr some ↦
-      let more : m ≡ 0 → ⊥ = grind (arith, nat_tests, some) in
-      rw some (list_is_text limit m few set more)
+  | inl none ↦ let zero_ : m ≡ 0 = grind (arith, nat_tests, none) in rw zero_ (record { field = refl; reads = refl })
+  | inr some ↦ rw some (list_is_text limit m few set (grind (arith, nat_tests, some)))
 ]
 
 line_is_spelled : (limit : ℕ) (d : Directive) → limit ≤ NR_CPUS → LineHasSets limit d → SpellLine limit (line_masks d, d)

@@ -1,21 +1,11 @@
 -- The labels line, as it is written.
-use Rattle.std.proofs.Common.{◌≡◌, ℕ, suc, ◌<◌, ◌≤◌, true, false, nat_lt, ◌==◌, List, [], ◌∷◌, map, length, All, Option, Some, None, Ok, codes, refl, sym, ap}
-use Rattle.std.proofs.Common.{◌∙◌, inl, inr, arith}
-use Rattle.std.specs.Fmt.{decimal}
-use Rattle.std.specs.List.{AllByRecursion, join_with_byte, list_all}
-use Rattle.std.specs.Str.{bytes_eq}
-use Rattle.std.proofs.lemmas.List.{length-map, nil_from_length}
-use Rattle.std.proofs.lemmas.Bool.{cases_Bool, and_parts}
-use Rattle.std.proofs.lemmas.Bool.Decides.{nat_tests}
-use Rattle.smp_labels.specs.Labels.{AreLabels, Labels}
+use Rattle.smp_script.proofs.Names.{◌≡◌, ℕ, suc, ◌<◌, ◌≤◌, true, false, nat_lt, ◌==◌, List, [], ◌∷◌, map, length, Option, Some, None, Ok, codes, refl, sym, ap}
+use Rattle.smp_script.proofs.Names.{◌∙◌, inl, inr, arith, decimal, AllByRecursion, join_with_byte, list_all, bytes_eq, length-map, nil_from_length, cases_Bool}
+use Rattle.smp_script.proofs.Names.{and_parts, nat_tests, AreLabels, Labels, MOST_KEYS, MOST_SITES, fields_of, lines_of, is_digit, word32, Item, entry_of}
+use Rattle.smp_script.proofs.Names.{has_number, is_below, is_item, is_labels, item_of, items_of, labels_in, whole_labels, labels_at, is_field, item_text}
+use Rattle.smp_script.proofs.Names.{items_text, labels_before, lacks}
+use Rattle.std.proofs.Common.{All}
 use Rattle.smp_labels.specs.declared.entries.Entry.{Entry}
-use Rattle.smp_labels.specs.declared.words.TheConstants.{MOST_KEYS, MOST_SITES}
-use Rattle.smp_script.specs.Lines.{fields_of, lines_of}
-use Rattle.smp_script.specs.Numbers.{is_digit}
-use Rattle.smp_script.specs.Fields.{word32}
-use Rattle.smp_script.specs.Labels.{Item, entry_of, has_number, is_below, is_item, is_labels, item_of, items_of, labels_in, whole_labels}
-use Rattle.smp_script.specs.Script.{labels_at}
-use Rattle.smp_script.specs.Spelling.{is_field, item_text, items_text, labels_before, lacks}
 use Rattle.smp_script.proofs.Texts.Decimals.{decimal_lacks, is_decimal-decimal, is_field-decimal, number_in-decimal, value_of_decimal}
 use Rattle.smp_script.proofs.Texts.Joins.{fields_join, lacks-append, lines_of-line, parts_front, parts_join, whole_fields}
 use Rattle.smp_script.proofs.Spelled.ReadParts.{same_word}
@@ -68,25 +58,16 @@ heads_same h = cc
 word_read : (n : ℕ) → n < 4 → word32 (decimal n) ≡ Ok n
 word_read n small = number_in-decimal 0 4294967295 n (omega arith) (omega arith) (omega arith)
 
-is_item_read : (e : Entry) → e.key < 4 → is_item (item_text e) ≡ true
-is_item_read e small = rw (item_read e small) refl
-
-has_number_read : (e : Entry) → e.key < 4 → has_number (item_text e) ≡ true
-has_number_read e small = rw (item_read e small) (is_decimal-decimal e.key (omega arith))
-
 below_read : (keys : ℕ) (e : Entry) → e.key < 4 → e.key < keys → is_below keys (item_text e) ≡ true
 below_read keys e small under = search (value_of_decimal, nat_tests, item_read, is_decimal-decimal, arith)
 
-entry_read : (e : Entry) → e.key < 4 → entry_of (item_text e) ≡ e
-entry_read e small = rw (item_read e small) (rw (word_read e.key small) refl)
-
 all_items : (es : List Entry) → AreSmall es → list_all is_item (map item_text es) ≡ true
 all_items [] small = refl
-all_items (e ∷ es) small = rw (is_item_read e small.0, all_items es small.1) refl
+all_items (e ∷ es) small = rw (item_read e small.0, all_items es small.1) refl
 
 all_numbers : (es : List Entry) → AreSmall es → list_all has_number (map item_text es) ≡ true
 all_numbers [] small = refl
-all_numbers (e ∷ es) small = rw (has_number_read e small.0, all_numbers es small.1) refl
+all_numbers (e ∷ es) small = rw (item_read e small.0, is_decimal-decimal e.key (omega (arith, small.0)), all_numbers es small.1) refl
 
 all_below : (keys : ℕ) (es : List Entry) → AreSmall es → AllByRecursion (λ e. e.key < keys) es → list_all (is_below keys) (map item_text es) ≡ true
 all_below keys [] small under = refl
@@ -94,7 +75,7 @@ all_below keys (e ∷ es) small under = rw (below_read keys e small.0 under.0, a
 
 all_entries : (es : List Entry) → AreSmall es → map entry_of (map item_text es) ≡ es
 all_entries [] small = refl
-all_entries (e ∷ es) small = rw (entry_read e small.0, all_entries es small.1) refl
+all_entries (e ∷ es) small = rw (item_read e small.0) (rw (word_read e.key small.0, all_entries es small.1) refl)
 
 smaller : (keys : ℕ) (es : List Entry) → keys ≤ 4 → AllByRecursion (λ e. e.key < keys) es → AreSmall es
 smaller keys [] few h = tt

@@ -1,34 +1,11 @@
 -- The lines of a script that ask for something, as they are written.
-use Rattle.std.proofs.Common.{◌≡◌, ℕ, suc, ℤ, pos, negsuc, ◌<◌, ◌^◌, Bool, true, false, List, [], ◌∷◌, Some}
-use Rattle.std.proofs.Common.{Result, Ok, Err, codes, refl, sym, ap, ◌∙◌, inl, inr, arith}
-use Rattle.std.specs.Fmt.{decimal, signed_decimal}
-use Rattle.std.specs.List.{list_all}
-use Rattle.std.specs.Str.{bytes_eq}
-use Rattle.std.proofs.lemmas.Bool.{cases_Bool, and_parts}
-use Rattle.std.proofs.lemmas.Bool.Decides.{nat_tests}
-use Rattle.smp_mask.specs.Mask.{has}
-use Rattle.smp_mask.specs.Reading.{read_from}
-use Rattle.smp_mask.specs.declared.error.Cause.{Cause}
-use Rattle.smp_mask.specs.declared.error.Cause.TheVariants.{Mask}
-use Rattle.smp_words.specs.declared.call.Class.{Class}
-use Rattle.smp_words.specs.declared.call.Class.TheVariants.{Sync, Async}
-use Rattle.smp_words.specs.declared.command.Command.TheVariants.{Post, Begin}
-use Rattle.smp_words.specs.declared.command.Command.TheVariants.{Nudge}
-use Rattle.smp_words.specs.declared.work.Kind.{Kind}
-use Rattle.smp_words.specs.declared.work.Kind.TheVariants.{One as OneKind, Multi, Patch}
-use Rattle.smp_script.specs.declared.directive.Directive.{Directive}
-use Rattle.smp_script.specs.declared.directive.Directive.TheVariants.{Start, Do}
-use Rattle.smp_script.specs.declared.mode.Mode.{Mode}
-use Rattle.smp_script.specs.declared.mode.Mode.TheVariants.{Replay, Run}
+use Rattle.smp_script.proofs.Names.{◌≡◌, ℕ, suc, ℤ, pos, negsuc, ◌<◌, ◌^◌, Bool, true, false, List, [], ◌∷◌, Some, Result, Ok, Err, codes, refl, sym, ap, ◌∙◌}
+use Rattle.smp_script.proofs.Names.{inl, inr, arith, decimal, signed_decimal, list_all, bytes_eq, cases_Bool, and_parts, nat_tests, has, read_from, Cause, Mask}
+use Rattle.smp_script.proofs.Names.{Class, Sync, Async, Post, Begin, Nudge, Kind, OneKind, Directive, Start, Do, Mode, Replay, Run, Which, All, directive_of}
+use Rattle.smp_script.proofs.Names.{start_begin, start_post, class_of, kind_of, mask_of, way_of, number_in, signed_of, member_of, repeated, switch_of, wait_of}
+use Rattle.smp_script.proofs.Names.{which_of, DirectiveFits, IsAnswer, Masks, SpellLine, class_text, directive_words, is_field, kind_text, lacks, switch_text}
+use Rattle.smp_script.proofs.Names.{wait_text, way_text, which_text}
 use Rattle.smp_script.specs.declared.request.Request.TheVariants as request
-use Rattle.smp_script.specs.declared.request.Which.{Which}
-use Rattle.smp_script.specs.declared.request.Which.TheVariants.{All, Even, Odd}
-use Rattle.smp_script.specs.Commands.{directive_of, start_begin, start_post}
-use Rattle.smp_script.specs.Fields.{class_of, kind_of, mask_of, way_of}
-use Rattle.smp_script.specs.Numbers.{number_in, signed_of}
-use Rattle.smp_script.specs.Requests.{member_of, repeated, switch_of, wait_of, which_of}
-use Rattle.smp_script.specs.Spelling.{DirectiveFits, IsAnswer, Masks, SpellLine, class_text, directive_words, is_field, kind_text, lacks}
-use Rattle.smp_script.specs.Spelling.{switch_text, wait_text, way_text, which_text}
 use Rattle.smp_script.proofs.Spelled.ReadParts.{same_word}
 use Rattle.smp_script.proofs.Texts.Decimals.{decimal_lacks, is_field-decimal, number_in-decimal}
 
@@ -39,8 +16,7 @@ class_written Async = (refl, refl)
 
 kind_written : (k : Kind) → (is_field (kind_text k) ≡ true) × (kind_of (kind_text k) ≡ Ok k)
 kind_written OneKind = (refl, refl)
-kind_written Multi = (refl, refl)
-kind_written Patch = (refl, refl)
+kind_written _ = (refl, refl)
 
 way_written : (up : Bool) → (is_field (way_text up) ≡ true) × (way_of (way_text up) ≡ Ok up)
 way_written true = (refl, refl)
@@ -56,8 +32,7 @@ switch_written false = (refl, refl)
 
 which_written : (c : Which) → (is_field (which_text c) ≡ true) × (which_of (which_text c) ≡ Ok c)
 which_written All = (refl, refl)
-which_written Even = (refl, refl)
-which_written Odd = (refl, refl)
+which_written _ = (refl, refl)
 
 minus_field : (text : List ℕ) → is_field text ≡ true → is_field (45 ∷ text) ≡ true
 minus_field text h = grind (and_parts, nat_tests, arith)
@@ -100,38 +75,28 @@ Written mode limit mask masks d = (list_all is_field (directive_words masks d) �
 
 ruleset numbers = (is_field-decimal, number_in-decimal, member_read, signed_field, signed_read)
 
-replay_written : (limit mask : ℕ) (masks : Masks) (d : Directive) → DirectiveFits Replay mask d → SpellLine limit (masks, d)
-    → Written Replay limit mask masks d
+replay_written : (limit mask : ℕ) (masks : Masks) (d : Directive) → DirectiveFits Replay mask d → SpellLine limit (masks, d) → Written Replay limit mask masks d
 unfolding start_post start_begin
 replay_written limit mask masks (Start cpu (Begin work)) f s =
-    let k = kind_written work.kind in
-    search (numbers, k.0, k.1, s.0.field, s.1.field, s.0.reads, s.1.reads, arith)
+    search (numbers, (kind_written work.kind).0, (kind_written work.kind).1, s.0.field, s.1.field, s.0.reads, s.1.reads, arith)
 replay_written limit mask masks (Start cpu (Post number dst class func info tries)) f s =
-    let c = class_written class in
-    search (numbers, c.0, c.1, arith)
-replay_written limit mask masks (Start cpu (Nudge key up)) f s =
-    let w = way_written up in
-    search (numbers, w.0, w.1, arith)
+    search (numbers, (class_written class).0, (class_written class).1, arith)
+replay_written limit mask masks (Start cpu (Nudge key up)) f s = search (numbers, (way_written up).0, (way_written up).1, arith)
 replay_written limit mask masks _ f s = search (numbers, arith)
 
-run_written : (limit mask : ℕ) (masks : Masks) (d : Directive) → DirectiveFits Run mask d → SpellLine limit (masks, d)
-    → Written Run limit mask masks d
+run_written : (limit mask : ℕ) (masks : Masks) (d : Directive) → DirectiveFits Run mask d → SpellLine limit (masks, d) → Written Run limit mask masks d
 unfolding repeated
 run_written limit mask masks (Do cpu count (request.Any wait set func info)) f s =
-    let w = wait_written wait in
-    search (numbers, w.0, w.1, s.field, s.reads, arith)
+    search (numbers, (wait_written wait).0, (wait_written wait).1, s.field, s.reads, arith)
 run_written limit mask masks (Do cpu count (request.Many wait set func info)) f s =
-    let w = wait_written wait in
-    search (numbers, w.0, w.1, s.field, s.reads, arith)
+    search (numbers, (wait_written wait).0, (wait_written wait).1, s.field, s.reads, arith)
 run_written limit mask masks (Do cpu count (request.Cond which wait set func info)) f s =
     let c = which_written which in
     let w = wait_written wait in
     search (numbers, c.0, c.1, w.0, w.1, s.field, s.reads, arith)
 run_written limit mask masks (Do cpu count (request.Machine (Some set) func n)) f s =
     search (numbers, not_none limit masks.active set s.reads, s.field, s.reads, arith)
-run_written limit mask masks (Do cpu count (request.Set key on)) f s =
-    let w = switch_written on in
-    search (numbers, w.0, w.1, arith)
+run_written limit mask masks (Do cpu count (request.Set key on)) f s = search (numbers, (switch_written on).0, (switch_written on).1, arith)
 run_written limit mask masks (Do cpu count (request.Single true dst func info)) f s = search (numbers, arith)
 run_written limit mask masks _ f s = search (numbers, arith)
 

@@ -1,34 +1,15 @@
 -- The lines of a script, as they are written.
-use Rattle.std.proofs.Common.{◌≡◌, ℕ, ◌+◌, ◌<◌, ◌≤◌, true, false, nat_lt, List, [], ◌∷◌, ◌++◌, map, length, sum_by}
-use Rattle.std.proofs.Common.{Option, Some, None, Ok, codes, refl, sym, ap, ◌∙◌, arith, subst}
-use Rattle.std.specs.Fmt.{decimal}
-use Rattle.std.specs.List.{AllByRecursion, join_with_byte, list_all}
-use Rattle.std.proofs.lemmas.Bool.Decides.{nat_tests}
-use Rattle.std.proofs.lemmas.List.Sums.{sum_by-cons}
-use Rattle.smp_mask.specs.declared.mask.TheConstants.{NR_CPUS}
-use Rattle.smp_labels.specs.Labels.{Labels}
-use Rattle.smp_script.specs.declared.directive.Directive.{Directive}
-use Rattle.smp_script.specs.declared.directive.Directive.TheVariants.{Start}
-use Rattle.smp_script.specs.declared.mode.Mode.{Mode}
-use Rattle.smp_script.specs.declared.mode.Mode.TheVariants.{Replay, Run}
-use Rattle.smp_script.specs.declared.setting.Setting.{Setting}
-use Rattle.smp_script.specs.Keys.{AreApart, shares}
-use Rattle.smp_script.specs.Modes.{mode_text, setting_of}
+use Rattle.smp_script.proofs.Names.{◌≡◌, ℕ, ◌+◌, ◌<◌, ◌≤◌, true, false, nat_lt, List, [], ◌∷◌, ◌++◌, map, length, sum_by, Option, Some, None, Ok, codes, refl}
+use Rattle.smp_script.proofs.Names.{sym, ap, ◌∙◌, arith, subst, decimal, AllByRecursion, join_with_byte, list_all, nat_tests, sum_by-cons, NR_CPUS, Labels}
+use Rattle.smp_script.proofs.Names.{Directive, Start, Mode, Replay, Run, Setting, AreApart, shares, mode_text, setting_of, fields_of, lines_of, mask_of}
+use Rattle.smp_script.proofs.Names.{is_labels, line_directive, Script, are_online, directives_of, events_of, first_line, labels_at, script_of, title_of}
+use Rattle.smp_script.proofs.Names.{whole_cpus, DirectiveFits, IsSpelling, LabelsFit, Masks, SpellLine, directive_words, is_field, labels_before, line_before}
+use Rattle.smp_script.proofs.Names.{spelled_lines, Version, One, limit_of, version_text}
 use Rattle.smp_script.proofs.Reader.ApartKeys.{apart_at_first, apart_both}
 use Rattle.smp_script.proofs.Written.LineWriting.{line_written}
-use Rattle.smp_script.specs.Lines.{fields_of, lines_of}
-use Rattle.smp_script.specs.Fields.{mask_of}
-use Rattle.smp_script.specs.Labels.{is_labels}
-use Rattle.smp_script.specs.Commands.{line_directive}
-use Rattle.smp_script.specs.Script.{Script, are_online, directives_of, events_of, first_line, labels_at, script_of, title_of, whole_cpus}
-use Rattle.smp_script.specs.Spelling.{DirectiveFits, IsSpelling, LabelsFit, Masks, SpellLine, directive_words, is_field}
-use Rattle.smp_script.specs.Spelling.{labels_before, line_before, spelled_lines}
 use Rattle.smp_script.proofs.Texts.Decimals.{is_field-decimal, number_in-decimal}
 use Rattle.smp_script.proofs.Written.LabelWriting.{labels_line_read}
 use Rattle.smp_script.proofs.Texts.Joins.{fields_join, lines_of-line, whole_fields}
-use Rattle.smp_script.specs.declared.version.Version.{Version}
-use Rattle.smp_script.specs.declared.version.Version.TheVariants.{One}
-use Rattle.smp_script.specs.Versions.{limit_of, version_text}
 use Rattle.smp_script.proofs.Reader.Versions.{limit_within}
 
 fields_back : (ts : List (List ℕ)) → 0 < length ts → list_all is_field ts ≡ true → fields_of (join_with_byte 32 ts) ≡ ts
@@ -61,9 +42,8 @@ asked lines = map (λ l. l.1) lines
 -- the lines of a script are read
 pub lines_are_read : (setting : Setting) (n events : ℕ) (earlier : List Directive) (lines : List (Masks × Directive))
     → AllByRecursion (Fits setting) (asked lines) → AllByRecursion (SpellLine setting.limit) lines
-    → AllByRecursion (λ d. shares earlier d ≡ false) (asked lines) → AreApart (asked lines)
-    → n + length (asked lines) ≤ 2001 → events + sum_by events_of (asked lines) ≤ 100000
-    → directives_of setting n events earlier (lines_of (spelled_lines lines)) ≡ Ok (asked lines)
+    → AllByRecursion (λ d. shares earlier d ≡ false) (asked lines) → AreApart (asked lines) → n + length (asked lines) ≤ 2001
+    → events + sum_by events_of (asked lines) ≤ 100000 → directives_of setting n events earlier (lines_of (spelled_lines lines)) ≡ Ok (asked lines)
 unfolding directives_of spelled_lines
 lines_are_read setting n events earlier [] f s apart keys count total = refl
 lines_are_read setting n events earlier ((masks, d) ∷ lines) f s apart keys count total =
@@ -83,8 +63,7 @@ lines_are_read setting n events earlier ((masks, d) ∷ lines) f s apart keys co
     ) refl
 
 pub cpus_are_read : (limit : ℕ) (nr online : ℕ) (mask : List ℕ) → 1 ≤ nr → nr ≤ limit → limit ≤ NR_CPUS → is_field mask ≡ true → mask_of limit mask ≡ Ok online
-    → are_online nr online ≡ true
-    → whole_cpus limit (codes "cpus" ∷ decimal nr ∷ mask ∷ []) ≡ Ok (nr, online)
+    → are_online nr online ≡ true → whole_cpus limit (codes "cpus" ∷ decimal nr ∷ mask ∷ []) ≡ Ok (nr, online)
 cpus_are_read limit nr online mask some within few field is_mask are = search (is_field-decimal, number_in-decimal, whole_fields, arith)
 
 longer : (n : ℕ) → n ≤ 65536 → nat_lt 65536 n ≡ false
@@ -96,8 +75,7 @@ not_labels masks _ = refl
 
 -- lines of a script are no labels line
 no_labels_line : (setting : Setting) (lines : List (Masks × Directive)) → AllByRecursion (Fits setting) (asked lines)
-    → AllByRecursion (SpellLine setting.limit) lines
-    → labels_at (lines_of (spelled_lines lines)) ≡ Ok (None, lines_of (spelled_lines lines))
+    → AllByRecursion (SpellLine setting.limit) lines → labels_at (lines_of (spelled_lines lines)) ≡ Ok (None, lines_of (spelled_lines lines))
 unfolding spelled_lines
 no_labels_line setting [] f s = refl
 no_labels_line setting ((masks, d) ∷ lines) f s = search (words_are_fields, lines_of-line, fields_back, some_words, not_labels, arith)
@@ -127,13 +105,9 @@ spelling_is_read mode mask lines script text s =
     let limit = limit_of script.version in
     let few = limit_within script.version in
     let nr_field : is_field (decimal script.nr) ≡ true = is_field-decimal script.nr (omega (arith, s.within, few)) in
-    let short : nat_lt 65536 (length text) ≡ false = longer (length text) s.bytes in
     let words : list_all is_field (codes "cpus" ∷ decimal script.nr ∷ mask ∷ []) ≡ true = rw (nr_field, s.mask_is.field) refl in
-    let rest = labels_before script.labels (spelled_lines lines) in
     let first = lines_of-line (codes "smp" ∷ version_text script.version ∷ mode_text mode ∷ [])
     (line_before (codes "cpus" ∷ decimal script.nr ∷ mask ∷ []) (labels_before script.labels (spelled_lines lines))) (title_fields mode script.version) in
-    let title : title_of mode (fields_of (join_with_byte 32 (codes "smp" ∷ version_text script.version ∷ mode_text mode ∷ []))) ≡ Ok script.version =
-    title_read mode script.version in
     let second = lines_of-line (codes "cpus" ∷ decimal script.nr ∷ mask ∷ []) (labels_before script.labels (spelled_lines lines)) words in
     let table : whole_cpus limit (fields_of (join_with_byte 32 (codes "cpus" ∷ decimal script.nr ∷ mask ∷ []))) ≡ Ok (script.nr, script.online) =
     ap (whole_cpus limit) (fields_join (codes "cpus") (decimal script.nr ∷ mask ∷ []) words)
@@ -145,4 +119,4 @@ spelling_is_read mode mask lines script text s =
     let events : sum_by events_of (asked lines) ≤ 100000 = subst (λ ds. sum_by events_of ds ≤ 100000) (sym s.lines_are) s.events in
     let third = third_read setting script.labels lines s.labels fit s.masks_are in
     let body = lines_are_read setting (first_line script.labels) 0 [] lines fit s.masks_are (apart_at_first (asked lines)) keys count (omega (arith, events)) in
-    rw (short, s.text_is, first, title, second, table) (rw (third, body, s.lines_are) refl)
+    rw (longer (length text) s.bytes, s.text_is, first, title_read mode script.version, second, table) (rw (third, body, s.lines_are) refl)

@@ -1,6 +1,4 @@
-use Rattle.std.proofs.Common.{◌≡◌, ◌^◌, take, min, true}
-use Rattle.std.specs.List.{list_all}
-use Rattle.smp_script.specs.Numbers.{value_after, is_digit}
+use Rattle.smp_script.proofs.Names.{◌≡◌, ◌^◌, take, min, true, list_all, value_after, is_digit}
 use Rattle.smp_script.proofs.decimal.number.Given as goal
 
 abbrev pub invariant-loop-byte : goal.invariant-loop-byte

@@ -1,6 +1,4 @@
-use Rattle.std.proofs.Common.{◌≡◌, true, ◌∙◌, sym, refl, codes}
-use Rattle.std.specs.Str.{bytes_eq}
-use Rattle.smp_mask.proofs.Sets.{none_empty}
+use Rattle.smp_script.proofs.Names.{◌≡◌, true, ◌∙◌, sym, refl, codes, bytes_eq, none_empty}
 use Rattle.smp_script.proofs.field.read_mask.Goals as goal
 
 pub returns-then-is_word : goal.returns-then-is_word

@@ -1,7 +1,6 @@
-use Rattle.std.proofs.Common.{nat_lt, rules, tests}
+use Rattle.smp_script.proofs.Names.{nat_lt, rules, tests, road}
 use Rattle.std.proofs.lemmas.Iterator.Consumers.{YieldsList-at}
 use Rattle.std.proofs.lemmas.Iterator.Search.{all_from_yields_List}
-use Rattle.smp_mask.proofs.Members.{road}
 use Rattle.smp_script.proofs.field.stays_below.Goals as goal
 
 pub returns : goal.returns

@@ -1,7 +1,4 @@
-use Rattle.std.proofs.Common.{◌≡◌, ◌∙◌, sym, ap, map, Ok, true, false, arith, subst}
-use Rattle.std.proofs.lemmas.List.{take_all}
-use Rattle.smp_labels.specs.Labels.{AreLabels}
-use Rattle.smp_script.specs.Labels.{entry_of}
+use Rattle.smp_script.proofs.Names.{◌≡◌, ◌∙◌, sym, ap, map, Ok, true, false, arith, subst, take_all, AreLabels, entry_of}
 use Rattle.smp_script.proofs.Reader.Items.{good_items, make_labels}
 use Rattle.smp_script.proofs.labels.read_entries.Goals as goal
 

@@ -1,5 +1,4 @@
-use Rattle.std.proofs.Common.{◌≡◌, map, take}
-use Rattle.smp_script.specs.Labels.{entry_of}
+use Rattle.smp_script.proofs.Names.{◌≡◌, map, take, entry_of}
 use Rattle.smp_script.proofs.labels.read_entries.Given as goal
 
 abbrev pub invariant-loop-item : goal.invariant-loop-item

@@ -7,5 +7,4 @@ pub returns-clause-canonical : goal.returns-clause-canonical
 returns-clause-canonical c = canonical_is_read
 
 pub returns-clause-only : goal.returns-clause-only
-returns-clause-only c = λ mode text script.
-    (script_is_spelled mode text script, λ s. spelling_is_read mode s.0 s.1 script text s.2)
+returns-clause-only c = λ mode text script. (script_is_spelled mode text script, λ s. spelling_is_read mode s.0 s.1 script text s.2)

@@ -1,6 +1,4 @@
-use Rattle.std.proofs.Common.{◌+◌, rules, add-one, arith, length}
-use Rattle.std.proofs.lemmas.List.{take_rest}
-use Rattle.std.proofs.Math.Seq.{drop-length}
+use Rattle.smp_script.proofs.Names.{◌+◌, rules, add-one, arith, length, take_rest, drop-length}
 use Rattle.smp_script.proofs.Texts.Fronts.{lines_some, lines_none}
 use Rattle.smp_script.proofs.line.next_line.Goals as goal
 

@@ -1,5 +1,4 @@
-use Rattle.std.proofs.Common.{◌≡◌, ◌++◌, map, length}
-use Rattle.smp_script.specs.Lines.{parts_of}
+use Rattle.smp_script.proofs.Names.{◌≡◌, ◌++◌, map, length, parts_of}
 use Rattle.smp_script.proofs.line.parts.Given as goal
 
 abbrev pub invariant-loop-part : goal.invariant-loop-part

@@ -1,5 +1,4 @@
-use Rattle.std.proofs.Common.{◌<◌, ◌∙◌, length, sym, arith}
-use Rattle.smp_mask.specs.Mask.{members}
+use Rattle.smp_script.proofs.Names.{◌<◌, ◌∙◌, length, sym, arith, members}
 use Rattle.smp_script.proofs.Reader.Online.{limits_are}
 use Rattle.smp_script.proofs.script.are_online.Goals as goal
 

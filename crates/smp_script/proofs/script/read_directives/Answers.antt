@@ -1,8 +1,7 @@
-use Rattle.std.proofs.Common.{[], arith, refl, sym, ◌∙◌}
+use Rattle.smp_script.proofs.Names.{[], arith, refl, sym, ◌∙◌, lines_of}
 use Rattle.std.proofs.lemmas.Result.{err_from_is_err_and}
 use Rattle.smp_script.proofs.Reader.Directives.{too_many, is_cut, is_bad, is_of_another, is_past, goes_on, ends}
 use Rattle.smp_script.proofs.Spelled.Readings.{lines_ok}
-use Rattle.smp_script.specs.Lines.{lines_of}
 use Rattle.smp_script.proofs.script.read_directives.Goals as goal
 
 pub returns-then-line-gt-MAX_LINES-clause-value : goal.returns-then-line-gt-MAX_LINES-clause-value

@@ -1,6 +1,4 @@
-use Rattle.std.proofs.Common.{◌<◌, ◌^◌, [], length}
-use Rattle.smp_script.specs.Lines.{lines_of}
-use Rattle.smp_script.specs.Script.{directives_of}
+use Rattle.smp_script.proofs.Names.{◌<◌, ◌^◌, [], length, lines_of, directives_of}
 use Rattle.smp_script.proofs.Reader.Directives.{Stands}
 use Rattle.smp_script.proofs.script.read_directives.Given as goal
 

@@ -1,6 +1,4 @@
-use Rattle.std.proofs.Common.{◌≡◌, ◌-◌, ◌≤◌, false, vec_len}
-use Rattle.std.specs.Io.KnownBytes.{Consumes}
-use Rattle.smp_script.specs.Watched.{inner_of, failed_of}
+use Rattle.smp_script.proofs.Names.{◌≡◌, ◌-◌, ◌≤◌, false, vec_len, Consumes, inner_of, failed_of}
 use Rattle.smp_script.proofs.stream.read_text.Given as goal
 
 abbrev pub invariant-pieces : goal.invariant-pieces

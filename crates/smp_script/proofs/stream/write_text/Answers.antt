@@ -1,6 +1,4 @@
-use Rattle.std.proofs.Common.{◌∙◌}
-use Rattle.std.proofs.lemmas.List.{take_rest}
-use Rattle.std.proofs.Math.Seq.{take-add}
+use Rattle.smp_script.proofs.Names.{◌∙◌, take_rest, take-add}
 use Rattle.smp_script.proofs.Reader.Streams.{appends_both, took_some}
 use Rattle.smp_script.proofs.stream.write_text.Goals as goal
 

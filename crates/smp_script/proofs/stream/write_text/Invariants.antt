@@ -1,6 +1,4 @@
-use Rattle.std.proofs.Common.{◌≡◌, ◌-◌, length, take}
-use Rattle.std.specs.Io.KnownBytes.{Appends}
-use Rattle.smp_script.specs.Watched.{inner_of, failed_of}
+use Rattle.smp_script.proofs.Names.{◌≡◌, ◌-◌, length, take, Appends, inner_of, failed_of}
 use Rattle.smp_script.proofs.stream.write_text.Given as goal
 
 abbrev pub invariant-pieces : goal.invariant-pieces
