@@ -424,8 +424,8 @@ fn note_asked(asked: &AtomicU64, base: u64, cpu: u32) {
     asked.store(after, Ordering::SeqCst);
 }
 
-/// Calls function 1 on CPUs of the mask, where those of the other mask are wanted: who was called, and who was asked, as
-/// the digits of a number to this base that begins with 9.
+/// Calls function 1 on CPUs of the mask, where those of the other mask are wanted. It answers which CPUs were called, and which
+/// were asked, as the digits of a number to this base that begins with 9.
 fn call_wanted<R: Wait>(
     rt: &R,
     driver: &mut Driver,
