@@ -2,7 +2,7 @@
  * refused in turn. A call writes a front of the text and no byte behind it. It says that memory was refused exactly where that
  * is so, and gives all memory back. The status is 0 where all of that holds. Linked with --wrap for malloc, realloc and free. */
 #define main of_example
-#include "../../crates/smp_c/examples/smp.c"
+#include "../../crates/trace_c/examples/smp.c"
 #undef main
 
 enum { MARK = 0x5a, BEHIND = 64 };

@@ -1,5 +1,5 @@
+use explore::{Atom, Conditions, Expected, Line, Most, Part, Unwatched, Verdict};
 use smp_core::{Class, Command, Core, Note, Word};
-use smp_explore::{Atom, Conditions, Expected, Line, Most, Part, Unwatched, Verdict};
 use smp_mask::SmpError;
 use smp_merge::{are_blind, explore_merged, is_blind};
 use std::alloc::Global;

@@ -18,21 +18,21 @@ use Rattle.smp_call_steps.specs.declared.known.Running.{Running}
 use Rattle.smp_call_steps.specs.declared.known.Running.TheVariants.{Nothing, SyncCall, CountedCall, AsyncCall}
 use Rattle.smp_call_steps.specs.declared.place.RecPlace.{RecPlace}
 use Rattle.smp_call_steps.specs.declared.place.RecPlace.TheVariants as machine
-use Rattle.smp_event_steps.specs.declared.call.Call.{Call}
-use Rattle.smp_event_steps.specs.declared.call.Place.TheVariants.{Free, Queue, Batch, Run}
-use Rattle.smp_event_steps.specs.declared.call.Progress.TheVariants.{Unlocked, Runs, Ended}
-use Rattle.smp_event_steps.specs.declared.event.CallEvent.TheVariants as calls
-use Rattle.smp_event_steps.specs.declared.event.Event.{Event}
-use Rattle.smp_event_steps.specs.declared.event.Event.TheVariants as event
-use Rattle.smp_event_steps.specs.Calls.{moved}
-use Rattle.smp_event_steps.specs.Cpu.{CpuState, at_call, counted, interrupted, is_empty, left_batch, noted, order, pushed, sent, taken}
-use Rattle.smp_event_steps.specs.Runs.{Runs as RunsTo}
-use Rattle.smp_event_steps.specs.State.{StateValue, cpu_at, place_at, with_cpu, with_place}
-use Rattle.smp_event_steps.specs.Step.{call_goes, goes}
-use Rattle.smp_events.specs.Past.{id_of}
-use Rattle.smp_events.specs.Told.{events_in}
-use Rattle.smp_events.specs.declared.told.Told.{Told}
-use Rattle.smp_events.specs.declared.told.Told.TheVariants as told
+use Rattle.trace_model.specs.declared.call.Call.{Call}
+use Rattle.trace_model.specs.declared.call.Place.TheVariants.{Free, Queue, Batch, Run}
+use Rattle.trace_model.specs.declared.call.Progress.TheVariants.{Unlocked, Runs, Ended}
+use Rattle.trace_model.specs.declared.event.CallEvent.TheVariants as calls
+use Rattle.trace_model.specs.declared.event.Event.{Event}
+use Rattle.trace_model.specs.declared.event.Event.TheVariants as event
+use Rattle.trace_model.specs.Calls.{moved}
+use Rattle.trace_model.specs.Cpu.{CpuState, at_call, counted, interrupted, is_empty, left_batch, noted, order, pushed, sent, taken}
+use Rattle.trace_model.specs.Runs.{Runs as RunsTo}
+use Rattle.trace_model.specs.State.{StateValue, cpu_at, place_at, with_cpu, with_place}
+use Rattle.trace_model.specs.Step.{call_goes, goes}
+use Rattle.trace_events.specs.Past.{id_of}
+use Rattle.trace_events.specs.Told.{events_in}
+use Rattle.trace_events.specs.declared.told.Told.{Told}
+use Rattle.trace_events.specs.declared.told.Told.TheVariants as told
 use Rattle.smp_replay_laws.specs.Follows.{CallsOfCpu, Follows, calls_in, calls_of, current_of, place_of, told_call}
 use Rattle.smp_replay_laws.proofs.Events.{IsNext, Rests, accepts as accepts_interrupt, begins_async as enters_unlocked, ends_call, idles, queues_call}
 use Rattle.smp_replay_laws.proofs.Events.{sees_free, sends_to, takes_queue, unlocks_async, unlocks_sync, begins_sync as enters_front}

@@ -30,14 +30,14 @@ use Rattle.smp_core.specs.Start.{refusal_of, started}
 use Rattle.smp_core.specs.Value.{CoreValue}
 use Rattle.smp_core.specs.Whole.{IsWhole}
 use Rattle.smp_core.proofs.Whole.{step_whole}
-use Rattle.smp_event_steps.specs.declared.without.Setting.{Setting}
-use Rattle.smp_event_steps.specs.Cpu.{CpuState, fresh_cpu}
-use Rattle.smp_event_steps.specs.Opened.{opening}
-use Rattle.smp_event_steps.specs.Runs.{Runs}
-use Rattle.smp_event_steps.specs.State.{StateValue, cpu_at}
-use Rattle.smp_events.specs.Past.{fresh, past_at}
-use Rattle.smp_events.specs.Traces.{all_fresh, events_of, events_of_step, kept}
-use Rattle.smp_events.specs.declared.past.Past.{Past}
+use Rattle.trace_model.specs.declared.without.Setting.{Setting}
+use Rattle.trace_model.specs.Cpu.{CpuState, fresh_cpu}
+use Rattle.trace_model.specs.Opened.{opening}
+use Rattle.trace_model.specs.Runs.{Runs}
+use Rattle.trace_model.specs.State.{StateValue, cpu_at}
+use Rattle.trace_events.specs.Past.{fresh, past_at}
+use Rattle.trace_events.specs.Traces.{all_fresh, events_of, events_of_step, kept}
+use Rattle.trace_events.specs.declared.past.Past.{Past}
 use Rattle.smp_replay_laws.specs.Accepted.{AreWordsOf, BeginsOfCpus, FitsCpus, IsOf, ReplaysAreAccepted}
 use Rattle.smp_replay_laws.specs.Stops.{FollowsStops, StopIs}
 use Rattle.smp_replay_laws.proofs.PatchSteps.{AreEntries}
@@ -48,7 +48,7 @@ use Rattle.smp_stop_steps.specs.Stages.{stop_outside}
 use Rattle.smp_stop_steps.specs.State.{StopState, no_stops}
 use Rattle.smp_stop_steps.specs.Table.{stop_number}
 use Rattle.smp_stop_steps.specs.Value.{StopShown, StopsValue, setup_of}
-use Rattle.smp_event_steps.specs.Stop.{closed}
+use Rattle.trace_model.specs.Stop.{closed}
 
 -- What the rest of a replay leaves.
 pub record ReplayedAll (a : CallState) (pasts : List Past) (s : StateValue) (r : Replay) : Type 0 where

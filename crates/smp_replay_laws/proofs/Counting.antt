@@ -12,8 +12,8 @@ use Rattle.smp_stop_steps.specs.Stop.{Standing, Inside, acked, is_of}
 use Rattle.smp_words.proofs.Puts.{put_other, put_same}
 use Rattle.smp_stop_steps.proofs.Basics.Counts.{sum_zero}
 use Rattle.smp_stop_steps.proofs.State.Phases.{behind_zero, has_acknowledged}
-use Rattle.smp_event_steps.specs.declared.stop.Stop.{Stop as ToldStop}
-use Rattle.smp_event_steps.specs.Stop.{acked_by, first_from, late}
+use Rattle.trace_model.specs.declared.stop.Stop.{Stop as ToldStop}
+use Rattle.trace_model.specs.Stop.{acked_by, first_from, late}
 
 -- the first number that passes a test, or none
 pub first_none : (passes : ℕ → Bool) (c n : ℕ) → ((k : ℕ) → c ≤ k → k < c + n → passes k ≡ false) → first_from passes c n ≡ None

@@ -5,16 +5,16 @@ use Rattle.smp_mask.specs.Mask.{has}
 use Rattle.smp_words.specs.Size.{cpus}
 use Rattle.smp_words.specs.declared.call.Class.{Class}
 use Rattle.smp_words.specs.declared.call.Class.TheVariants.{Sync, Async}
-use Rattle.smp_event_steps.specs.declared.call.Call.{Call}
-use Rattle.smp_event_steps.specs.declared.call.Current.{Current}
-use Rattle.smp_event_steps.specs.declared.call.Place.TheVariants.{Free, Batch, Run}
-use Rattle.smp_event_steps.specs.declared.call.Progress.TheVariants.{Unlocked, Runs, Ended}
-use Rattle.smp_event_steps.specs.declared.reason.Reason.{Reason}
-use Rattle.smp_event_steps.specs.declared.without.Without.{Without}
-use Rattle.smp_event_steps.specs.Calls.{accept_by, begin_by, end_by, idle_by, joined, moved, queue_by, send_by, take_by, unlock_by}
-use Rattle.smp_event_steps.specs.Cpu.{CpuState, accepted, as_idle, at_call, begun, counted, ended, handles_nothing, interrupted, left_batch, may_take}
-use Rattle.smp_event_steps.specs.Cpu.{sent, taken, unlocked}
-use Rattle.smp_event_steps.specs.State.{StateValue, cpu_at, freed, place_at, with_cpu, with_place}
+use Rattle.trace_model.specs.declared.call.Call.{Call}
+use Rattle.trace_model.specs.declared.call.Current.{Current}
+use Rattle.trace_model.specs.declared.call.Place.TheVariants.{Free, Batch, Run}
+use Rattle.trace_model.specs.declared.call.Progress.TheVariants.{Unlocked, Runs, Ended}
+use Rattle.trace_model.specs.declared.reason.Reason.{Reason}
+use Rattle.trace_model.specs.declared.without.Without.{Without}
+use Rattle.trace_model.specs.Calls.{accept_by, begin_by, end_by, idle_by, joined, moved, queue_by, send_by, take_by, unlock_by}
+use Rattle.trace_model.specs.Cpu.{CpuState, accepted, as_idle, at_call, begun, counted, ended, handles_nothing, interrupted, left_batch, may_take}
+use Rattle.trace_model.specs.Cpu.{sent, taken, unlocked}
+use Rattle.trace_model.specs.State.{StateValue, cpu_at, freed, place_at, with_cpu, with_place}
 use Rattle.smp_replay_laws.specs.Follows.{nothing_left_out}
 use Rattle.smp_replay_laws.proofs.States.{cpu_here}
 

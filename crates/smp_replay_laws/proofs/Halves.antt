@@ -36,13 +36,13 @@ use Rattle.smp_stop_steps.specs.declared.stage.StopStage.{StopStage}
 use Rattle.smp_stop_steps.specs.declared.stage.StopStage.TheVariants.{TakeGate, OpenGate, Begin, Enter, EnterKind, EnterMask, EnterActive, Advance}
 use Rattle.smp_stop_steps.specs.declared.stage.StopStage.TheVariants.{Complete, Close, LoadDone, LoadResult, ReadKey, ReadSite, NudgeKey, ExchangeKey}
 use Rattle.smp_stop_steps.specs.declared.stage.Visit.{Visit}
-use Rattle.smp_event_steps.specs.declared.event.StopEvent.{StopEvent}
-use Rattle.smp_event_steps.specs.declared.event.StopEvent.TheVariants as stops
-use Rattle.smp_events.specs.Past.{id_of, is_new, phase_of}
-use Rattle.smp_events.specs.Told.{of_ack, of_arg, of_flags, of_gate, of_hand, of_head, of_intr, of_key, of_nudge, of_ran, of_result, of_roll, of_site}
-use Rattle.smp_events.specs.Told.{of_slot, of_state, of_todo, of_unlock, told_on, with_on}
-use Rattle.smp_events.specs.declared.past.Past.{Past}
-use Rattle.smp_events.specs.declared.told.Told.{Told}
+use Rattle.trace_model.specs.declared.event.StopEvent.{StopEvent}
+use Rattle.trace_model.specs.declared.event.StopEvent.TheVariants as stops
+use Rattle.trace_events.specs.Past.{id_of, is_new, phase_of}
+use Rattle.trace_events.specs.Told.{of_ack, of_arg, of_flags, of_gate, of_hand, of_head, of_intr, of_key, of_nudge, of_ran, of_result, of_roll, of_site}
+use Rattle.trace_events.specs.Told.{of_slot, of_state, of_todo, of_unlock, told_on, with_on}
+use Rattle.trace_events.specs.declared.past.Past.{Past}
+use Rattle.trace_events.specs.declared.told.Told.{Told}
 use Rattle.smp_replay_laws.specs.Accepted.{call_events}
 use Rattle.smp_replay_laws.proofs.Accepts.{by}
 

@@ -22,10 +22,10 @@ use Rattle.smp_call_steps.specs.declared.place.RecPlace.TheVariants as machine
 use Rattle.smp_call_steps.specs.declared.stage.Stage.TheVariants.{Handle}
 use Rattle.smp_call_steps.proofs.State.Walks.{ends_async, ends_front, same_record, walks_front, walks_rest, walks_sync}
 use Rattle.smp_call_steps.proofs.Steps.Turns.{holds_nothing, stands_at}
-use Rattle.smp_event_steps.specs.State.{StateValue, cpu_at}
-use Rattle.smp_events.specs.Past.{past_at}
-use Rattle.smp_events.specs.Told.{of_intr}
-use Rattle.smp_events.specs.declared.past.Past.{Past}
+use Rattle.trace_model.specs.State.{StateValue, cpu_at}
+use Rattle.trace_events.specs.Past.{past_at}
+use Rattle.trace_events.specs.Told.{of_intr}
+use Rattle.trace_events.specs.declared.past.Past.{Past}
 use Rattle.smp_replay_laws.specs.Follows.{BegunIs, Follows}
 use Rattle.smp_replay_laws.proofs.Accepts.{Reaches, accepts_told, begins_async_told, begins_sync_told, by, ends_async_told, ends_sync_told, id_told}
 use Rattle.smp_replay_laws.proofs.Accepts.{idles_told, loads, rests_told, still, takes_told, unlocks_told}

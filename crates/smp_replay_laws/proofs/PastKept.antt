@@ -11,9 +11,9 @@ use Rattle.smp_words.specs.declared.seen.Note.TheVariants as note
 use Rattle.smp_words.specs.declared.seen.Seen.{Seen}
 use Rattle.smp_words.specs.declared.word.Word.{Word}
 use Rattle.smp_words.specs.declared.word.Word.TheVariants as word
-use Rattle.smp_events.specs.Past.{after, after_call_entry, after_draft, after_on, after_other, after_slot, after_slot_load, after_slot_sub}
-use Rattle.smp_events.specs.Past.{after_store, is_new}
-use Rattle.smp_events.specs.declared.past.Past.{Past}
+use Rattle.trace_events.specs.Past.{after, after_call_entry, after_draft, after_on, after_other, after_slot, after_slot_load, after_slot_sub}
+use Rattle.trace_events.specs.Past.{after_store, is_new}
+use Rattle.trace_events.specs.declared.past.Past.{Past}
 use Rattle.smp_replay_laws.proofs.Halves.{is_call_word}
 
 -- what a CPU keeps of the calls that it posts and begins

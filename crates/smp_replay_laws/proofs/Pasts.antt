@@ -42,10 +42,10 @@ use Rattle.smp_call_steps.specs.declared.stage.Stage.TheVariants.{Send, Done, Po
 use Rattle.smp_call_steps.proofs.Knows.Parts.{part_else}
 use Rattle.smp_call_steps.proofs.State.Walks.{ends_front, walks_front}
 use Rattle.smp_call_steps.proofs.Steps.Turns.{holds_nothing, stands_at}
-use Rattle.smp_events.specs.Past.{after, after_flags, fresh, past_at}
-use Rattle.smp_events.specs.Traces.{kept}
-use Rattle.smp_events.specs.declared.past.Past.{Past}
-use Rattle.smp_events.specs.declared.past.Post.{Post as Posted}
+use Rattle.trace_events.specs.Past.{after, after_flags, fresh, past_at}
+use Rattle.trace_events.specs.Traces.{kept}
+use Rattle.trace_events.specs.declared.past.Past.{Past}
+use Rattle.trace_events.specs.declared.past.Post.{Post as Posted}
 use Rattle.smp_replay_laws.specs.Follows.{BegunIs, KeepsPast, PostIs, PostIsAt}
 use Rattle.smp_replay_laws.proofs.Accepts.{id_told}
 

@@ -29,22 +29,22 @@ use Rattle.smp_stop_steps.specs.declared.stage.RoundStage.TheVariants as round
 use Rattle.smp_stop_steps.specs.declared.stage.StopStage.{StopStage}
 use Rattle.smp_stop_steps.specs.declared.stage.StopStage.TheVariants.{Advance}
 use Rattle.smp_stop_steps.specs.declared.stage.Visit.{Visit}
-use Rattle.smp_event_steps.specs.declared.event.Event.TheVariants as event
-use Rattle.smp_event_steps.specs.declared.event.StopEvent.TheVariants as stops
-use Rattle.smp_event_steps.specs.declared.stop.Patch.{Patch as ToldPatch}
-use Rattle.smp_event_steps.specs.declared.stop.Stop.{Stop as ToldStop}
-use Rattle.smp_event_steps.specs.declared.stop.Task.{Task}
-use Rattle.smp_event_steps.specs.Cpu.{handles_nothing}
-use Rattle.smp_event_steps.specs.Labels.{front_of, patch_now}
-use Rattle.smp_event_steps.specs.State.{StateValue, cpu_at, stop_at, with_stop}
-use Rattle.smp_event_steps.specs.Step.{goes, stop_goes as told_goes}
-use Rattle.smp_event_steps.specs.Stop.{acknowledged as acknowledged_in, at_last, late, with_acked}
-use Rattle.smp_event_steps.specs.Stops.{next_store, patch_left, with_patch}
-use Rattle.smp_events.specs.Past.{past_at}
-use Rattle.smp_events.specs.Told.{with_on}
-use Rattle.smp_events.specs.declared.past.Past.{Past}
-use Rattle.smp_events.specs.declared.told.Told.{Told}
-use Rattle.smp_events.specs.declared.told.Told.TheVariants as told
+use Rattle.trace_model.specs.declared.event.Event.TheVariants as event
+use Rattle.trace_model.specs.declared.event.StopEvent.TheVariants as stops
+use Rattle.trace_model.specs.declared.stop.Patch.{Patch as ToldPatch}
+use Rattle.trace_model.specs.declared.stop.Stop.{Stop as ToldStop}
+use Rattle.trace_model.specs.declared.stop.Task.{Task}
+use Rattle.trace_model.specs.Cpu.{handles_nothing}
+use Rattle.trace_model.specs.Labels.{front_of, patch_now}
+use Rattle.trace_model.specs.State.{StateValue, cpu_at, stop_at, with_stop}
+use Rattle.trace_model.specs.Step.{goes, stop_goes as told_goes}
+use Rattle.trace_model.specs.Stop.{acknowledged as acknowledged_in, at_last, late, with_acked}
+use Rattle.trace_model.specs.Stops.{next_store, patch_left, with_patch}
+use Rattle.trace_events.specs.Past.{past_at}
+use Rattle.trace_events.specs.Told.{with_on}
+use Rattle.trace_events.specs.declared.past.Past.{Past}
+use Rattle.trace_events.specs.declared.told.Told.{Told}
+use Rattle.trace_events.specs.declared.told.Told.TheVariants as told
 use Rattle.smp_replay_laws.specs.Follows.{nothing_left_out}
 use Rattle.smp_replay_laws.specs.Patches.{Leads}
 use Rattle.smp_replay_laws.specs.Stops.{AnswerIs, CpuIs, FollowsStops, InsideIs, MadeIs, StopIs, given_by, raiser_of, told_work}

@@ -8,10 +8,10 @@ use Rattle.smp_labels.specs.Entries.{entry_at}
 use Rattle.smp_labels.specs.Keys.{count_or, is_on}
 use Rattle.smp_labels.specs.Kinds.{xor}
 use Rattle.smp_labels.specs.Plans.{plan_of, site_change, site_changes}
-use Rattle.smp_event_steps.specs.declared.stop.Patch.{Patch}
-use Rattle.smp_event_steps.specs.Labels.{is_site, patch_to, site_from}
-use Rattle.smp_event_steps.specs.Stop.{first_from}
-use Rattle.smp_event_steps.proofs.Least.{first_hit, first_miss}
+use Rattle.trace_model.specs.declared.stop.Patch.{Patch}
+use Rattle.trace_model.specs.Labels.{is_site, patch_to, site_from}
+use Rattle.trace_model.specs.Stop.{first_from}
+use Rattle.trace_model.proofs.Least.{first_hit, first_miss}
 use Rattle.smp_replay_laws.specs.Patches.{Leads}
 
 module _ (w : LabelWords) (key count : ℕ) where

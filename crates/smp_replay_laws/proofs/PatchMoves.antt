@@ -43,22 +43,22 @@ use Rattle.smp_stop_steps.specs.declared.stage.StopStage.TheVariants.{Advance}
 use Rattle.smp_stop_steps.specs.declared.stage.Visit.{Visit}
 use Rattle.smp_stop_steps.proofs.State.Phases.{keeps_inside}
 use Rattle.smp_stop_steps.proofs.Steps.RoundSteps.{change_here}
-use Rattle.smp_event_steps.specs.declared.event.Event.{Event}
-use Rattle.smp_event_steps.specs.declared.event.Event.TheVariants as event
-use Rattle.smp_event_steps.specs.declared.event.LabelEvent.TheVariants as labels
-use Rattle.smp_event_steps.specs.declared.stop.Patch.{Patch as ToldPatch}
-use Rattle.smp_event_steps.specs.declared.stop.Stop.{Stop as ToldStop}
-use Rattle.smp_event_steps.specs.declared.stop.Task.{Task}
-use Rattle.smp_event_steps.specs.Cpu.{handles_nothing}
-use Rattle.smp_event_steps.specs.Labels.{count_at, front_of, patch_now, popped, stored}
-use Rattle.smp_event_steps.specs.State.{StateValue, cpu_at, stop_at}
-use Rattle.smp_event_steps.specs.Step.{goes, label_goes, site_word}
-use Rattle.smp_event_steps.specs.Stop.{acked_by, has_run}
-use Rattle.smp_event_steps.specs.Stops.{next_store, patch_left, with_patch, with_word}
-use Rattle.smp_events.specs.Past.{after, past_at}
-use Rattle.smp_events.specs.Told.{told_of}
-use Rattle.smp_events.specs.declared.past.Past.{Past}
-use Rattle.smp_events.specs.declared.told.Told.TheVariants as told
+use Rattle.trace_model.specs.declared.event.Event.{Event}
+use Rattle.trace_model.specs.declared.event.Event.TheVariants as event
+use Rattle.trace_model.specs.declared.event.LabelEvent.TheVariants as labels
+use Rattle.trace_model.specs.declared.stop.Patch.{Patch as ToldPatch}
+use Rattle.trace_model.specs.declared.stop.Stop.{Stop as ToldStop}
+use Rattle.trace_model.specs.declared.stop.Task.{Task}
+use Rattle.trace_model.specs.Cpu.{handles_nothing}
+use Rattle.trace_model.specs.Labels.{count_at, front_of, patch_now, popped, stored}
+use Rattle.trace_model.specs.State.{StateValue, cpu_at, stop_at}
+use Rattle.trace_model.specs.Step.{goes, label_goes, site_word}
+use Rattle.trace_model.specs.Stop.{acked_by, has_run}
+use Rattle.trace_model.specs.Stops.{next_store, patch_left, with_patch, with_word}
+use Rattle.trace_events.specs.Past.{after, past_at}
+use Rattle.trace_events.specs.Told.{told_of}
+use Rattle.trace_events.specs.declared.past.Past.{Past}
+use Rattle.trace_events.specs.declared.told.Told.TheVariants as told
 use Rattle.smp_replay_laws.specs.Follows.{nothing_left_out}
 use Rattle.smp_replay_laws.specs.Patches.{HasLeft, Leads, PartIs, PatchingIs}
 use Rattle.smp_replay_laws.specs.Stops.{CpuIs, FollowsStops, InsideIs, MadeIs, OpenIs, PhaseIs, StopIs, told_work}

@@ -18,13 +18,13 @@ use Rattle.smp_stop_steps.specs.declared.known.Calling.{Calling}
 use Rattle.smp_stop_steps.specs.declared.known.Calling.TheVariants.{Idle, Calls, Carries}
 use Rattle.smp_stop_steps.specs.State.{Setup}
 use Rattle.smp_stop_steps.specs.Tells.{plan_at}
-use Rattle.smp_event_steps.specs.declared.stop.Patch.{Patch}
-use Rattle.smp_event_steps.specs.declared.stop.Stop.{Stop}
-use Rattle.smp_event_steps.specs.declared.without.Without.{Without}
-use Rattle.smp_event_steps.specs.Labels.{count_at, key_number, patch_for, patch_now, patch_or, patch_to, popped, stored}
-use Rattle.smp_event_steps.specs.State.{StateValue, cpu_at, stop_at, with_stop}
-use Rattle.smp_event_steps.specs.Stop.{acked_by, acknowledged, answer_by, answer_wanted}
-use Rattle.smp_event_steps.specs.Stops.{ack_by, next_store, patch_by, patch_left, with_patch, with_word}
+use Rattle.trace_model.specs.declared.stop.Patch.{Patch}
+use Rattle.trace_model.specs.declared.stop.Stop.{Stop}
+use Rattle.trace_model.specs.declared.without.Without.{Without}
+use Rattle.trace_model.specs.Labels.{count_at, key_number, patch_for, patch_now, patch_or, patch_to, popped, stored}
+use Rattle.trace_model.specs.State.{StateValue, cpu_at, stop_at, with_stop}
+use Rattle.trace_model.specs.Stop.{acked_by, acknowledged, answer_by, answer_wanted}
+use Rattle.trace_model.specs.Stops.{ack_by, next_store, patch_by, patch_left, with_patch, with_word}
 use Rattle.smp_replay_laws.specs.Follows.{nothing_left_out}
 use Rattle.smp_replay_laws.specs.Patches.{HasLeft, Leads, PartIs}
 use Rattle.smp_replay_laws.specs.Stops.{MadeIs, as_i32}

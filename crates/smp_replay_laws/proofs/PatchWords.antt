@@ -14,10 +14,10 @@ use Rattle.smp_labels.specs.Kinds.{kind_of, kind_word}
 use Rattle.smp_labels.specs.declared.kinds.SiteKind.{SiteKind}
 use Rattle.smp_labels.specs.declared.kinds.SiteKind.TheVariants.{Nop, Jmp}
 use Rattle.smp_stop_steps.specs.Stages.{label_word}
-use Rattle.smp_event_steps.specs.declared.stop.Patch.{Patch}
-use Rattle.smp_event_steps.specs.Labels.{count_at, entry_of, front_of, is_site, key_number, site_at, site_from, site_front, site_store, stored}
-use Rattle.smp_event_steps.specs.Step.{site_word}
-use Rattle.smp_event_steps.specs.Stop.{first_from}
+use Rattle.trace_model.specs.declared.stop.Patch.{Patch}
+use Rattle.trace_model.specs.Labels.{count_at, entry_of, front_of, is_site, key_number, site_at, site_from, site_front, site_store, stored}
+use Rattle.trace_model.specs.Step.{site_word}
+use Rattle.trace_model.specs.Stop.{first_from}
 
 -- the number that is found is in the range
 found_below : (p : ℕ → Bool) (c n f : ℕ) → first_from p c n ≡ Some f → (f < c + n) × (0 < n)

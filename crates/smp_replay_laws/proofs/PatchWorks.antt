@@ -8,8 +8,8 @@ use Rattle.smp_mask.proofs.Sets.{same_members}
 use Rattle.smp_words.specs.declared.work.Kind.TheVariants.{Patch}
 use Rattle.smp_words.specs.declared.work.Work.{Work}
 use Rattle.smp_stop_steps.specs.Value.{first_below}
-use Rattle.smp_event_steps.specs.declared.without.Setting.{Setting}
-use Rattle.smp_event_steps.specs.Stop.{first_from, first_of, is_work}
+use Rattle.trace_model.specs.declared.without.Setting.{Setting}
+use Rattle.trace_model.specs.Stop.{first_from, first_of, is_work}
 use Rattle.smp_replay_laws.specs.Stops.{told_work}
 
 -- no member is less than the least

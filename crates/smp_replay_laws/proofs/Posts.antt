@@ -25,12 +25,12 @@ use Rattle.smp_call_steps.specs.declared.post.PostStage.TheVariants as post
 use Rattle.smp_call_steps.specs.declared.stage.Stage.{Stage}
 use Rattle.smp_call_steps.specs.declared.stage.Stage.TheVariants.{Send, Done, Post}
 use Rattle.smp_core.specs.Offline.{AimsOnline}
-use Rattle.smp_event_steps.specs.declared.call.Place.TheVariants.{Free}
-use Rattle.smp_event_steps.specs.State.{StateValue}
-use Rattle.smp_events.specs.Past.{past_at}
-use Rattle.smp_events.specs.Told.{of_flags, of_head}
-use Rattle.smp_events.specs.Traces.{events_of_step}
-use Rattle.smp_events.specs.declared.past.Past.{Past}
+use Rattle.trace_model.specs.declared.call.Place.TheVariants.{Free}
+use Rattle.trace_model.specs.State.{StateValue}
+use Rattle.trace_events.specs.Past.{past_at}
+use Rattle.trace_events.specs.Told.{of_flags, of_head}
+use Rattle.trace_events.specs.Traces.{events_of_step}
+use Rattle.trace_events.specs.declared.past.Past.{Past}
 use Rattle.smp_replay_laws.specs.Follows.{Follows, PostIsAt, place_of}
 use Rattle.smp_replay_laws.proofs.Accepts.{Reaches, by, id_told, loads, queues_told, quiet, sends_told, still}
 

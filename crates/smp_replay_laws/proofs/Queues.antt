@@ -16,11 +16,11 @@ use Rattle.smp_call_steps.specs.Places.{HasRecord, IsPlaced}
 use Rattle.smp_call_steps.specs.declared.place.RecPlace.{RecPlace}
 use Rattle.smp_call_steps.specs.declared.place.RecPlace.TheVariants as machine
 use Rattle.smp_call_steps.proofs.State.Places.{has_record-true, true-has_record}
-use Rattle.smp_event_steps.specs.declared.call.Call.{Call}
-use Rattle.smp_event_steps.specs.declared.call.Place.{Place}
-use Rattle.smp_event_steps.specs.declared.call.Place.TheVariants.{Free, Batch}
-use Rattle.smp_event_steps.specs.Calls.{placed}
-use Rattle.smp_event_steps.specs.Cpu.{is_class, of_class, order}
+use Rattle.trace_model.specs.declared.call.Call.{Call}
+use Rattle.trace_model.specs.declared.call.Place.{Place}
+use Rattle.trace_model.specs.declared.call.Place.TheVariants.{Free, Batch}
+use Rattle.trace_model.specs.Calls.{placed}
+use Rattle.trace_model.specs.Cpu.{is_class, of_class, order}
 use Rattle.smp_replay_laws.specs.Follows.{place_of, told_call}
 
 -- the calls of a class

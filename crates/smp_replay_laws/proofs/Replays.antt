@@ -52,17 +52,17 @@ use Rattle.smp_core.specs.Value.{CoreValue, Shown}
 use Rattle.smp_core.specs.Whole.{IsWhole}
 use Rattle.smp_core.proofs.Starts.{may_start, start_below, started_shown}
 use Rattle.smp_core.proofs.Whole.{start_whole, step_whole}
-use Rattle.smp_event_steps.specs.declared.event.Event.{Event}
-use Rattle.smp_event_steps.specs.declared.without.Setting.{Setting}
-use Rattle.smp_event_steps.specs.Cpu.{CpuState, fresh_cpu}
-use Rattle.smp_event_steps.specs.Opened.{opening, places_free}
-use Rattle.smp_event_steps.specs.Runs.{Runs}
-use Rattle.smp_event_steps.specs.State.{StateValue, cpu_at}
-use Rattle.smp_event_steps.specs.declared.call.Place.TheVariants.{Free}
-use Rattle.smp_events.specs.Past.{after, fresh, past_at}
-use Rattle.smp_events.specs.Traces.{all_fresh, events_of, events_of_step, kept}
-use Rattle.smp_events.specs.declared.past.Past.{Past}
-use Rattle.smp_events.specs.declared.past.Post.{Post as Posted}
+use Rattle.trace_model.specs.declared.event.Event.{Event}
+use Rattle.trace_model.specs.declared.without.Setting.{Setting}
+use Rattle.trace_model.specs.Cpu.{CpuState, fresh_cpu}
+use Rattle.trace_model.specs.Opened.{opening, places_free}
+use Rattle.trace_model.specs.Runs.{Runs}
+use Rattle.trace_model.specs.State.{StateValue, cpu_at}
+use Rattle.trace_model.specs.declared.call.Place.TheVariants.{Free}
+use Rattle.trace_events.specs.Past.{after, fresh, past_at}
+use Rattle.trace_events.specs.Traces.{all_fresh, events_of, events_of_step, kept}
+use Rattle.trace_events.specs.declared.past.Past.{Past}
+use Rattle.trace_events.specs.declared.past.Post.{Post as Posted}
 use Rattle.smp_replay_laws.specs.Accepted.{CallsOfReplaysAreAccepted, Fits, call_events, is_of_call}
 use Rattle.smp_replay_laws.specs.Follows.{Follows, GoesElsewhere, KeepsPast, PostIs, calls_in, nothing_left_out}
 use Rattle.smp_replay_laws.proofs.Accepts.{Reaches}

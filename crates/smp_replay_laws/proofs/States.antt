@@ -4,10 +4,10 @@ use Rattle.std.proofs.lemmas.List.{get_or-set_same, get_or-set_other}
 use Rattle.std.proofs.lemmas.Bool.{cases_eq}
 use Rattle.smp_words.specs.Size.{cpus, records}
 use Rattle.smp_call_steps.specs.Calls.{CallState}
-use Rattle.smp_event_steps.specs.declared.call.Place.{Place}
-use Rattle.smp_event_steps.specs.declared.call.Place.TheVariants.{Free}
-use Rattle.smp_event_steps.specs.Cpu.{CpuState, fresh_cpu}
-use Rattle.smp_event_steps.specs.State.{StateValue, cpu_at, place_at, with_cpu, with_place}
+use Rattle.trace_model.specs.declared.call.Place.{Place}
+use Rattle.trace_model.specs.declared.call.Place.TheVariants.{Free}
+use Rattle.trace_model.specs.Cpu.{CpuState, fresh_cpu}
+use Rattle.trace_model.specs.State.{StateValue, cpu_at, place_at, with_cpu, with_place}
 use Rattle.smp_replay_laws.specs.Follows.{Follows, calls_in, calls_of, nothing_left_out, place_of}
 
 pub cpu_here : (s : StateValue) (cpu : ℕ) (c : CpuState) → length s.cpus ≡ 32 → cpu < cpus → cpu_at (with_cpu cpu s c) cpu ≡ c

@@ -22,10 +22,10 @@ use Rattle.smp_stop_steps.specs.declared.stage.StopStage.{StopStage}
 use Rattle.smp_stop_steps.specs.declared.stage.StopStage.TheVariants.{TakeGate, OpenGate, Begin, Enter, EnterKind, EnterMask, EnterActive, ReadKey}
 use Rattle.smp_stop_steps.specs.declared.stage.StopStage.TheVariants.{ReadSite, NudgeKey, Advance, Complete, Close, LoadDone, LoadResult, ExchangeKey}
 use Rattle.smp_stop_steps.specs.declared.stage.Visit.{Visit}
-use Rattle.smp_event_steps.specs.Cpu.{handles_nothing}
-use Rattle.smp_event_steps.specs.State.{StateValue, cpu_at}
-use Rattle.smp_events.specs.Past.{past_at}
-use Rattle.smp_events.specs.declared.past.Past.{Past}
+use Rattle.trace_model.specs.Cpu.{handles_nothing}
+use Rattle.trace_model.specs.State.{StateValue, cpu_at}
+use Rattle.trace_events.specs.Past.{past_at}
+use Rattle.trace_events.specs.declared.past.Past.{Past}
 use Rattle.smp_replay_laws.specs.Follows.{nothing_left_out}
 use Rattle.smp_replay_laws.specs.Stops.{Drafts, FollowsStops}
 use Rattle.smp_replay_laws.proofs.StopTurns.{Made}

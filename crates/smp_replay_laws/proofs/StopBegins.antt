@@ -11,8 +11,8 @@ use Rattle.smp_words.specs.declared.command.Command.TheVariants as command
 use Rattle.smp_call_steps.specs.Start.{first_stage}
 use Rattle.smp_stop_steps.specs.Value.{stop_control_of}
 use Rattle.smp_stop_steps.specs.declared.stage.StopStage.{StopStage}
-use Rattle.smp_events.specs.Past.{after}
-use Rattle.smp_events.specs.declared.past.Past.{Past}
+use Rattle.trace_events.specs.Past.{after}
+use Rattle.trace_events.specs.declared.past.Past.{Past}
 use Rattle.smp_replay_laws.specs.Accepted.{BeginsOfCpus}
 use Rattle.smp_replay_laws.specs.Follows.{HandlesWithOn}
 use Rattle.smp_stop_steps.specs.Stages.{StopControlValue, stop_access}
@@ -40,8 +40,8 @@ use Rattle.smp_labels.specs.Kinds.{xor}
 use Rattle.smp_words.specs.Kinds.{kind_at, kind_word}
 use Rattle.smp_words.specs.declared.work.Kind.{Kind}
 use Rattle.smp_words.specs.declared.work.Kind.TheVariants.{One, Multi, Patch}
-use Rattle.smp_events.specs.Past.{after_draft}
-use Rattle.smp_events.specs.declared.past.Draft.{Draft}
+use Rattle.trace_events.specs.Past.{after_draft}
+use Rattle.trace_events.specs.declared.past.Draft.{Draft}
 use Rattle.smp_mask.specs.Mask.{has}
 use Rattle.smp_stop_steps.proofs.TheMachine.Values.{stop_controls_by_cpu}
 

@@ -37,16 +37,16 @@ use Rattle.smp_stop_steps.specs.declared.stage.StopStage.{StopStage}
 use Rattle.smp_stop_steps.specs.declared.stage.StopStage.TheVariants.{Complete, Close, LoadDone, LoadResult}
 use Rattle.smp_stop_steps.specs.declared.stage.Visit.{Visit}
 use Rattle.smp_stop_steps.proofs.State.Phases.{is_open_inside}
-use Rattle.smp_event_steps.specs.declared.event.Event.TheVariants as event
-use Rattle.smp_event_steps.specs.declared.event.StopEvent.TheVariants as stops
-use Rattle.smp_event_steps.specs.Cpu.{handles_nothing, in_stop}
-use Rattle.smp_event_steps.specs.State.{StateValue, cpu_at, stop_at, with_cpu, with_stop}
-use Rattle.smp_event_steps.specs.Step.{goes}
-use Rattle.smp_event_steps.specs.declared.stop.Task.{Task}
-use Rattle.smp_event_steps.specs.Stop.{has_run, is_cpu}
-use Rattle.smp_events.specs.Past.{past_at}
-use Rattle.smp_events.specs.declared.past.Past.{Past}
-use Rattle.smp_events.specs.declared.told.Told.TheVariants as told
+use Rattle.trace_model.specs.declared.event.Event.TheVariants as event
+use Rattle.trace_model.specs.declared.event.StopEvent.TheVariants as stops
+use Rattle.trace_model.specs.Cpu.{handles_nothing, in_stop}
+use Rattle.trace_model.specs.State.{StateValue, cpu_at, stop_at, with_cpu, with_stop}
+use Rattle.trace_model.specs.Step.{goes}
+use Rattle.trace_model.specs.declared.stop.Task.{Task}
+use Rattle.trace_model.specs.Stop.{has_run, is_cpu}
+use Rattle.trace_events.specs.Past.{past_at}
+use Rattle.trace_events.specs.declared.past.Past.{Past}
+use Rattle.trace_events.specs.declared.told.Told.TheVariants as told
 use Rattle.smp_replay_laws.specs.Follows.{nothing_left_out}
 use Rattle.smp_replay_laws.specs.Stops.{AnswerIs, CpuIs, FollowsStops, InsideIs, MadeIs, as_i32, has_entered, raiser_of, told_work}
 use Rattle.smp_replay_laws.proofs.Accepts.{by}

@@ -4,21 +4,21 @@ use Rattle.std.proofs.lemmas.Bool.{true≢false, false≢true, eq-eqb, lt-ltb, l
 use Rattle.std.specs.Prelude.{slice_set, ◌==◌}
 use Rattle.std.specs.Ordering.{int_eq}
 use Rattle.smp_mask.specs.Mask.{has}
-use Rattle.smp_script.specs.Faults.{◌>>=◌}
+use Rattle.smp_words.specs.FirstFault.{◌>>=◌}
 use Rattle.smp_words.specs.declared.work.Kind.{Kind}
 use Rattle.smp_words.specs.declared.work.Kind.TheVariants.{One, Multi, Patch as APatch}
-use Rattle.smp_event_steps.specs.declared.reason.Reason.{Reason}
-use Rattle.smp_event_steps.specs.declared.reason.Reason.TheVariants as reason
-use Rattle.smp_event_steps.specs.declared.stop.Stop.{Stop}
-use Rattle.smp_event_steps.specs.declared.stop.Task.{Task}
-use Rattle.smp_event_steps.specs.declared.without.Setting.{Setting}
-use Rattle.smp_event_steps.specs.declared.without.Without.{Without}
-use Rattle.smp_event_steps.specs.Cpu.{handles_nothing}
-use Rattle.smp_event_steps.specs.State.{StateValue, cpu_at, stop_at, with_stop}
-use Rattle.smp_event_steps.specs.Stop.{acked_by, acknowledged, answer_wanted, collected, completed, entered, gives, has_run, is_called, is_cpu}
-use Rattle.smp_event_steps.specs.Stop.{is_work, may_complete, offline_in, opened, opening, raised, ran_function, unfinished, unless_offline}
-use Rattle.smp_event_steps.specs.Stops.{ack_by, collect_by, complete_by, enter_by, gate_by, in_round, off_by, on_by, open_by, raise_by, run_by}
-use Rattle.smp_event_steps.specs.Stops.{stop_of, ungate_by, with_inside, with_irq}
+use Rattle.trace_model.specs.declared.reason.Reason.{Reason}
+use Rattle.trace_model.specs.declared.reason.Reason.TheVariants as reason
+use Rattle.trace_model.specs.declared.stop.Stop.{Stop}
+use Rattle.trace_model.specs.declared.stop.Task.{Task}
+use Rattle.trace_model.specs.declared.without.Setting.{Setting}
+use Rattle.trace_model.specs.declared.without.Without.{Without}
+use Rattle.trace_model.specs.Cpu.{handles_nothing}
+use Rattle.trace_model.specs.State.{StateValue, cpu_at, stop_at, with_stop}
+use Rattle.trace_model.specs.Stop.{acked_by, acknowledged, answer_wanted, collected, completed, entered, gives, has_run, is_called, is_cpu}
+use Rattle.trace_model.specs.Stop.{is_work, may_complete, offline_in, opened, opening, raised, ran_function, unfinished, unless_offline}
+use Rattle.trace_model.specs.Stops.{ack_by, collect_by, complete_by, enter_by, gate_by, in_round, off_by, on_by, open_by, raise_by, run_by}
+use Rattle.trace_model.specs.Stops.{stop_of, ungate_by, with_inside, with_irq}
 use Rattle.smp_replay_laws.specs.Follows.{nothing_left_out}
 
 passes : {A : Type 0} (b : Bool) (x y : A) → b ≡ true → cond b x y ≡ x

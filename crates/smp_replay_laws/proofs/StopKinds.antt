@@ -18,15 +18,15 @@ use Rattle.smp_stop_steps.specs.State.{Setup, StopState}
 use Rattle.smp_stop_steps.specs.Stop.{Standing, Inside, Stop}
 use Rattle.smp_stop_steps.specs.declared.known.Calling.{Calling}
 use Rattle.smp_stop_steps.specs.declared.known.Calling.TheVariants.{Idle, Calls, Carries}
-use Rattle.smp_event_steps.specs.declared.event.Event.{Event}
-use Rattle.smp_event_steps.specs.declared.event.Event.TheVariants as event
-use Rattle.smp_event_steps.specs.declared.event.StopEvent.TheVariants as stops
-use Rattle.smp_event_steps.specs.declared.stop.Stop.{Stop as ToldStop}
-use Rattle.smp_event_steps.specs.State.{StateValue, cpu_at, stop_at}
-use Rattle.smp_event_steps.specs.Step.{goes, stop_goes}
-use Rattle.smp_event_steps.specs.Stop.{has_run}
-use Rattle.smp_events.specs.Past.{past_at}
-use Rattle.smp_events.specs.declared.past.Past.{Past}
+use Rattle.trace_model.specs.declared.event.Event.{Event}
+use Rattle.trace_model.specs.declared.event.Event.TheVariants as event
+use Rattle.trace_model.specs.declared.event.StopEvent.TheVariants as stops
+use Rattle.trace_model.specs.declared.stop.Stop.{Stop as ToldStop}
+use Rattle.trace_model.specs.State.{StateValue, cpu_at, stop_at}
+use Rattle.trace_model.specs.Step.{goes, stop_goes}
+use Rattle.trace_model.specs.Stop.{has_run}
+use Rattle.trace_events.specs.Past.{past_at}
+use Rattle.trace_events.specs.declared.past.Past.{Past}
 use Rattle.smp_replay_laws.specs.Follows.{nothing_left_out}
 use Rattle.smp_replay_laws.specs.Stops.{AnswerIs, CpuIs, FollowsStops, InsideIs, MadeIs, MemberIs, PhaseIs, StopIs, has_called, raiser_of}
 use Rattle.smp_replay_laws.proofs.StopEvents.{gives_gate, takes_gate}

@@ -16,17 +16,17 @@ use Rattle.smp_stop_steps.specs.declared.known.Calling.{Calling}
 use Rattle.smp_stop_steps.specs.declared.known.Calling.TheVariants.{Idle}
 use Rattle.smp_stop_steps.specs.declared.known.Seat.{Seat}
 use Rattle.smp_stop_steps.specs.declared.known.Source.{Source}
-use Rattle.smp_event_steps.specs.declared.event.Event.{Event}
-use Rattle.smp_event_steps.specs.declared.event.Event.TheVariants as event
-use Rattle.smp_event_steps.specs.declared.event.StopEvent.TheVariants as stops
-use Rattle.smp_event_steps.specs.declared.stop.Stop.{Stop as ToldStop}
-use Rattle.smp_event_steps.specs.declared.stop.Task.{Task}
-use Rattle.smp_event_steps.specs.Cpu.{CpuState, handles_nothing, in_stop, with_interrupts}
-use Rattle.smp_event_steps.specs.State.{StateValue, cpu_at, stop_at, with_cpu, with_stop}
-use Rattle.smp_event_steps.specs.Step.{stop_goes}
-use Rattle.smp_event_steps.specs.Stop.{acked_by, has_run}
-use Rattle.smp_events.specs.Past.{past_at}
-use Rattle.smp_events.specs.declared.past.Past.{Past}
+use Rattle.trace_model.specs.declared.event.Event.{Event}
+use Rattle.trace_model.specs.declared.event.Event.TheVariants as event
+use Rattle.trace_model.specs.declared.event.StopEvent.TheVariants as stops
+use Rattle.trace_model.specs.declared.stop.Stop.{Stop as ToldStop}
+use Rattle.trace_model.specs.declared.stop.Task.{Task}
+use Rattle.trace_model.specs.Cpu.{CpuState, handles_nothing, in_stop, with_interrupts}
+use Rattle.trace_model.specs.State.{StateValue, cpu_at, stop_at, with_cpu, with_stop}
+use Rattle.trace_model.specs.Step.{stop_goes}
+use Rattle.trace_model.specs.Stop.{acked_by, has_run}
+use Rattle.trace_events.specs.Past.{past_at}
+use Rattle.trace_events.specs.declared.past.Past.{Past}
 use Rattle.smp_replay_laws.specs.Follows.{nothing_left_out}
 use Rattle.smp_replay_laws.specs.Stops.{AnswerIs, CpuIs, FollowsStops, InsideIs, MadeIs, MemberIs, OpenIs, StopIs, given_by, has_called}
 use Rattle.smp_replay_laws.proofs.PatchAlone.{elsewhere_none, first_is, nobody_patches}

@@ -13,11 +13,11 @@ use Rattle.smp_words.specs.declared.word.Word.TheVariants as word
 use Rattle.smp_labels.specs.declared.patch.Place.TheVariants.{Key}
 use Rattle.smp_labels.specs.declared.words.LabelWords.{LabelWords}
 use Rattle.smp_labels.specs.Keys.{IsKeyWord}
-use Rattle.smp_event_steps.specs.Labels.{count_at, nudged, stored}
+use Rattle.trace_model.specs.Labels.{count_at, nudged, stored}
 use Rattle.smp_stop_steps.specs.KeyCounts.{moved_by}
 use Rattle.smp_replay_laws.proofs.StopStates.{IsAlike, cpu_alike}
 use Rattle.smp_replay_laws.proofs.Pasts.{past_else, past_here}
-use Rattle.smp_event_steps.specs.Step.{label_goes}
+use Rattle.trace_model.specs.Step.{label_goes}
 use Rattle.smp_stop_steps.specs.Sits.{IsNudge, SitsAt}
 use Rattle.smp_stop_steps.specs.Stages.{StopControlValue}
 use Rattle.smp_stop_steps.specs.State.{Setup, StopState}
@@ -27,15 +27,15 @@ use Rattle.smp_stop_steps.specs.Tells.{key_told}
 use Rattle.smp_stop_steps.specs.Value.{StopShown, StopsValue, setup_of, stop_control_of}
 use Rattle.smp_stop_steps.specs.declared.stage.StopStage.{StopStage}
 use Rattle.smp_stop_steps.specs.declared.stage.StopStage.TheVariants.{ExchangeKey}
-use Rattle.smp_event_steps.specs.declared.event.Event.{Event}
-use Rattle.smp_event_steps.specs.declared.event.Event.TheVariants as event
-use Rattle.smp_event_steps.specs.declared.event.LabelEvent.TheVariants as labels
-use Rattle.smp_event_steps.specs.State.{StateValue, stop_at}
-use Rattle.smp_event_steps.specs.Step.{goes}
+use Rattle.trace_model.specs.declared.event.Event.{Event}
+use Rattle.trace_model.specs.declared.event.Event.TheVariants as event
+use Rattle.trace_model.specs.declared.event.LabelEvent.TheVariants as labels
+use Rattle.trace_model.specs.State.{StateValue, stop_at}
+use Rattle.trace_model.specs.Step.{goes}
 use Rattle.std.proofs.lemmas.List.{get_or-set_same, get_or-set_other}
-use Rattle.smp_events.specs.Past.{past_at}
-use Rattle.smp_events.specs.Told.{of_nudge}
-use Rattle.smp_events.specs.declared.past.Past.{Past}
+use Rattle.trace_events.specs.Past.{past_at}
+use Rattle.trace_events.specs.Told.{of_nudge}
+use Rattle.trace_events.specs.declared.past.Past.{Past}
 use Rattle.smp_replay_laws.specs.Follows.{nothing_left_out}
 use Rattle.smp_replay_laws.specs.Stops.{CpuIs, FollowsStops, StopIs}
 use Rattle.smp_replay_laws.proofs.Accepts.{by}

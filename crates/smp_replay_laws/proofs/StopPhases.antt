@@ -34,17 +34,17 @@ use Rattle.smp_stop_steps.specs.declared.known.Seat.TheVariants.{In}
 use Rattle.smp_stop_steps.specs.declared.stage.StopStage.{StopStage}
 use Rattle.smp_stop_steps.specs.declared.stage.StopStage.TheVariants.{Advance}
 use Rattle.smp_stop_steps.specs.declared.stage.Visit.{Visit}
-use Rattle.smp_event_steps.specs.declared.event.Event.TheVariants as event
-use Rattle.smp_event_steps.specs.declared.event.StopEvent.TheVariants as stops
-use Rattle.smp_event_steps.specs.declared.stop.Task.{Task}
-use Rattle.smp_event_steps.specs.Cpu.{handles_nothing}
-use Rattle.smp_event_steps.specs.State.{StateValue, cpu_at, stop_at, with_stop}
-use Rattle.smp_event_steps.specs.Step.{goes}
-use Rattle.smp_events.specs.Past.{past_at, phase_of}
-use Rattle.smp_events.specs.Told.{with_on}
-use Rattle.smp_events.specs.declared.past.Past.{Past}
-use Rattle.smp_events.specs.declared.told.Told.{Told}
-use Rattle.smp_events.specs.declared.told.Told.TheVariants as told
+use Rattle.trace_model.specs.declared.event.Event.TheVariants as event
+use Rattle.trace_model.specs.declared.event.StopEvent.TheVariants as stops
+use Rattle.trace_model.specs.declared.stop.Task.{Task}
+use Rattle.trace_model.specs.Cpu.{handles_nothing}
+use Rattle.trace_model.specs.State.{StateValue, cpu_at, stop_at, with_stop}
+use Rattle.trace_model.specs.Step.{goes}
+use Rattle.trace_events.specs.Past.{past_at, phase_of}
+use Rattle.trace_events.specs.Told.{with_on}
+use Rattle.trace_events.specs.declared.past.Past.{Past}
+use Rattle.trace_events.specs.declared.told.Told.{Told}
+use Rattle.trace_events.specs.declared.told.Told.TheVariants as told
 use Rattle.smp_replay_laws.specs.Follows.{nothing_left_out}
 use Rattle.smp_replay_laws.specs.Stops.{AnswerIs, CpuIs, FollowsStops, PhaseIs, has_entered, raiser_of}
 use Rattle.smp_replay_laws.proofs.Accepts.{by}

@@ -20,22 +20,22 @@ use Rattle.smp_stop_steps.specs.Stop.{Standing, Outside, Called, Inside, Answeri
 use Rattle.smp_stop_steps.specs.declared.known.Calling.{Calling}
 use Rattle.smp_stop_steps.specs.declared.known.Seat.{Seat}
 use Rattle.smp_stop_steps.specs.declared.known.Source.{Source}
-use Rattle.smp_event_steps.specs.declared.event.Event.{Event}
-use Rattle.smp_event_steps.specs.declared.event.Event.TheVariants as event
-use Rattle.smp_event_steps.specs.declared.event.StopEvent.TheVariants as stops
-use Rattle.smp_event_steps.specs.declared.stop.Stop.{Stop as ToldStop}
-use Rattle.smp_event_steps.specs.declared.stop.Task.{Task}
-use Rattle.smp_event_steps.specs.declared.without.Setting.{Setting}
-use Rattle.smp_event_steps.specs.State.{StateValue, stop_at, with_stop}
-use Rattle.smp_event_steps.specs.Step.{goes, stop_goes}
-use Rattle.smp_event_steps.specs.Stop.{answer_of, has_run}
-use Rattle.smp_events.specs.Past.{past_at}
-use Rattle.smp_events.specs.declared.past.Past.{Past}
+use Rattle.trace_model.specs.declared.event.Event.{Event}
+use Rattle.trace_model.specs.declared.event.Event.TheVariants as event
+use Rattle.trace_model.specs.declared.event.StopEvent.TheVariants as stops
+use Rattle.trace_model.specs.declared.stop.Stop.{Stop as ToldStop}
+use Rattle.trace_model.specs.declared.stop.Task.{Task}
+use Rattle.trace_model.specs.declared.without.Setting.{Setting}
+use Rattle.trace_model.specs.State.{StateValue, stop_at, with_stop}
+use Rattle.trace_model.specs.Step.{goes, stop_goes}
+use Rattle.trace_model.specs.Stop.{answer_of, has_run}
+use Rattle.trace_events.specs.Past.{past_at}
+use Rattle.trace_events.specs.declared.past.Past.{Past}
 use Rattle.smp_replay_laws.specs.Follows.{nothing_left_out}
 use Rattle.smp_replay_laws.specs.Stops.{CpuIs, FollowsStops, MemberIs, OpenIs, StopIs, as_i32, given_by, told_work}
-use Rattle.smp_event_steps.specs.declared.event.LabelEvent.TheVariants as labels
-use Rattle.smp_event_steps.specs.Step.{label_goes}
-use Rattle.smp_event_steps.specs.Stop.{is_answer, is_same, first_phase as told_first, gives, is_work, offline_in, opening, unfinished}
+use Rattle.trace_model.specs.declared.event.LabelEvent.TheVariants as labels
+use Rattle.trace_model.specs.Step.{label_goes}
+use Rattle.trace_model.specs.Stop.{is_answer, is_same, first_phase as told_first, gives, is_work, offline_in, opening, unfinished}
 use Rattle.smp_labels.specs.Keys.{is_on}
 use Rattle.smp_labels.specs.Kinds.{xor}
 use Rattle.smp_stop_steps.specs.Callings.{HasCompleted}

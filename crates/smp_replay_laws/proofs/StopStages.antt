@@ -43,15 +43,15 @@ use Rattle.smp_stop_steps.specs.declared.stage.StopStage.TheVariants.{ReadSite, 
 use Rattle.smp_stop_steps.specs.declared.stage.Visit.{Visit}
 use Rattle.smp_stop_steps.proofs.State.Gates.{gate_free, gate_mine}
 use Rattle.smp_stop_steps.proofs.State.Phases.{is_open_inside}
-use Rattle.smp_event_steps.specs.declared.event.Event.TheVariants as event
-use Rattle.smp_event_steps.specs.declared.event.LabelEvent.TheVariants as labels
-use Rattle.smp_event_steps.specs.State.{StateValue}
-use Rattle.smp_event_steps.specs.Stop.{is_work}
-use Rattle.smp_events.specs.Past.{after, after_draft, past_at}
-use Rattle.smp_events.specs.Told.{of_gate, of_roll, task_of, told_of}
-use Rattle.smp_events.specs.declared.past.Draft.{Draft}
-use Rattle.smp_events.specs.declared.past.Past.{Past}
-use Rattle.smp_events.specs.declared.told.Told.TheVariants as told
+use Rattle.trace_model.specs.declared.event.Event.TheVariants as event
+use Rattle.trace_model.specs.declared.event.LabelEvent.TheVariants as labels
+use Rattle.trace_model.specs.State.{StateValue}
+use Rattle.trace_model.specs.Stop.{is_work}
+use Rattle.trace_events.specs.Past.{after, after_draft, past_at}
+use Rattle.trace_events.specs.Told.{of_gate, of_roll, task_of, told_of}
+use Rattle.trace_events.specs.declared.past.Draft.{Draft}
+use Rattle.trace_events.specs.declared.past.Past.{Past}
+use Rattle.trace_events.specs.declared.told.Told.TheVariants as told
 use Rattle.smp_replay_laws.specs.Follows.{nothing_left_out}
 use Rattle.smp_replay_laws.specs.Stops.{AnswerIs, CpuIs, DraftIs, Drafts, FollowsStops, IsOfCpus, told_work}
 use Rattle.smp_replay_laws.proofs.Accepts.{by}

@@ -13,11 +13,11 @@ use Rattle.smp_words.specs.declared.work.Work.{Work}
 use Rattle.smp_words.proofs.Puts.{put_other, put_same}
 use Rattle.smp_stop_steps.specs.State.{StopState}
 use Rattle.smp_stop_steps.specs.Stop.{Standing, Stop}
-use Rattle.smp_event_steps.specs.declared.stop.Stop.{Stop as ToldStop}
-use Rattle.smp_event_steps.specs.State.{StateValue, cpu_at, stop_at, with_stop}
-use Rattle.smp_event_steps.specs.Stop.{closed, has_run}
-use Rattle.smp_events.specs.Past.{past_at}
-use Rattle.smp_events.specs.declared.past.Past.{Past}
+use Rattle.trace_model.specs.declared.stop.Stop.{Stop as ToldStop}
+use Rattle.trace_model.specs.State.{StateValue, cpu_at, stop_at, with_stop}
+use Rattle.trace_model.specs.Stop.{closed, has_run}
+use Rattle.trace_events.specs.Past.{past_at}
+use Rattle.trace_events.specs.declared.past.Past.{Past}
 use Rattle.smp_replay_laws.specs.Follows.{calls_in}
 use Rattle.smp_replay_laws.specs.Stops.{AnswerIs, CpuIs, FollowsStops, InsideIs, PatchIs, PhaseIs, StopIs}
 use Rattle.smp_replay_laws.proofs.Pasts.{past_else, past_here}

@@ -12,14 +12,14 @@ use Rattle.smp_words.specs.declared.word.Word.TheVariants.{Key, Site}
 use Rattle.smp_words.proofs.Puts.{put_all}
 use Rattle.smp_stop_steps.specs.State.{StopState}
 use Rattle.smp_stop_steps.specs.Stop.{Standing, Called, Stop}
-use Rattle.smp_event_steps.specs.declared.event.Event.{Event}
-use Rattle.smp_event_steps.specs.declared.stop.Stop.{Stop as ToldStop}
-use Rattle.smp_event_steps.specs.Cpu.{CpuState}
-use Rattle.smp_event_steps.specs.Runs.{Runs as RunsTo}
-use Rattle.smp_event_steps.specs.State.{StateValue, cpu_at, stop_at, with_cpu, with_stop}
-use Rattle.smp_event_steps.specs.Step.{goes}
-use Rattle.smp_event_steps.specs.Stop.{acked_by, answer_of, has_run, is_called}
-use Rattle.smp_events.specs.declared.past.Past.{Past}
+use Rattle.trace_model.specs.declared.event.Event.{Event}
+use Rattle.trace_model.specs.declared.stop.Stop.{Stop as ToldStop}
+use Rattle.trace_model.specs.Cpu.{CpuState}
+use Rattle.trace_model.specs.Runs.{Runs as RunsTo}
+use Rattle.trace_model.specs.State.{StateValue, cpu_at, stop_at, with_cpu, with_stop}
+use Rattle.trace_model.specs.Step.{goes}
+use Rattle.trace_model.specs.Stop.{acked_by, answer_of, has_run, is_called}
+use Rattle.trace_events.specs.declared.past.Past.{Past}
 use Rattle.smp_replay_laws.specs.Follows.{calls_in}
 use Rattle.smp_replay_laws.specs.Stops.{CpuIs, FollowsStops, MemberIs, PatchIs, StopIs}
 use Rattle.smp_replay_laws.proofs.States.{cpu_else, cpu_here}

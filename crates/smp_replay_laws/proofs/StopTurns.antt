@@ -39,14 +39,14 @@ use Rattle.smp_stop_steps.specs.declared.stage.StopStage.{StopStage}
 use Rattle.smp_stop_steps.specs.declared.stage.StopStage.TheVariants.{Advance}
 use Rattle.smp_stop_steps.specs.declared.stage.Visit.{Visit}
 use Rattle.smp_stop_steps.proofs.State.Phases.{is_open_inside, keeps_inside}
-use Rattle.smp_event_steps.specs.declared.event.Event.TheVariants as event
-use Rattle.smp_event_steps.specs.declared.event.StopEvent.TheVariants as stops
-use Rattle.smp_event_steps.specs.Cpu.{handles_nothing}
-use Rattle.smp_event_steps.specs.State.{StateValue, cpu_at, stop_at}
-use Rattle.smp_events.specs.Past.{is_new, past_at, phase_of}
-use Rattle.smp_events.specs.Told.{of_arg}
-use Rattle.smp_events.specs.declared.past.Past.{Past}
-use Rattle.smp_events.specs.declared.told.Told.TheVariants as told
+use Rattle.trace_model.specs.declared.event.Event.TheVariants as event
+use Rattle.trace_model.specs.declared.event.StopEvent.TheVariants as stops
+use Rattle.trace_model.specs.Cpu.{handles_nothing}
+use Rattle.trace_model.specs.State.{StateValue, cpu_at, stop_at}
+use Rattle.trace_events.specs.Past.{is_new, past_at, phase_of}
+use Rattle.trace_events.specs.Told.{of_arg}
+use Rattle.trace_events.specs.declared.past.Past.{Past}
+use Rattle.trace_events.specs.declared.told.Told.TheVariants as told
 use Rattle.smp_replay_laws.specs.Follows.{nothing_left_out}
 use Rattle.smp_replay_laws.specs.Stops.{CpuIs, FollowsStops, InsideIs, OpenIs, PhaseIs}
 use Rattle.smp_replay_laws.proofs.Accepts.{by}

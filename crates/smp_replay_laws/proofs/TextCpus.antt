@@ -12,7 +12,8 @@ use Rattle.smp_mask.specs.declared.error.Cause.{Cause}
 use Rattle.smp_mask.specs.declared.error.SmpError.{SmpError}
 use Rattle.smp_mask.specs.declared.mask.TheConstants.{NR_CPUS}
 use Rattle.smp_labels.specs.Labels.{AreLabels, Labels}
-use Rattle.smp_script.specs.Faults.{◌>>=◌, Fault, at_line}
+use Rattle.smp_words.specs.FirstFault.{◌>>=◌}
+use Rattle.smp_script.specs.Faults.{Fault, at_line}
 use Rattle.smp_script.specs.Fields.{mask_of, or_mask, stays_below}
 use Rattle.smp_script.specs.Labels.{is_labels, whole_labels}
 use Rattle.smp_script.specs.Lines.{Line, fields_of}

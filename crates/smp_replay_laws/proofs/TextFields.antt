@@ -7,8 +7,8 @@ use Rattle.smp_words.specs.declared.work.Kind.TheVariants as kinds
 use Rattle.smp_script.specs.Fields.{class_of, kind_of, way_of}
 use Rattle.smp_script.specs.Requests.{switch_of}
 use Rattle.smp_script.specs.Spelling.{is_field}
-use Rattle.smp_judge.specs.Reading.{jump_of}
-use Rattle.smp_events.specs.Text.{class_text, kind_text, site_text, switch_text, way_text}
+use Rattle.trace_judge.specs.Reading.{jump_of}
+use Rattle.trace_events.specs.Text.{class_text, kind_text, site_text, switch_text, way_text}
 
 pub class_told : (c : Class) → (is_field (class_text c) ≡ true) × (class_of (class_text c) ≡ Ok c)
 class_told Sync = (refl, refl)

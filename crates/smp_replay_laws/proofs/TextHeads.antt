@@ -17,12 +17,12 @@ use Rattle.smp_script.proofs.Spelled.ReadParts.{same_word}
 use Rattle.smp_script.proofs.Texts.Decimals.{is_decimal-decimal}
 use Rattle.smp_script.proofs.Texts.Joins.{fields_join}
 use Rattle.smp_script.proofs.Written.LabelWriting.{labels_fields}
-use Rattle.smp_event_steps.specs.declared.event.Event.{Event}
-use Rattle.smp_event_steps.specs.declared.without.Setting.{Setting}
-use Rattle.smp_judge.specs.Head.{SpotValue, all_told, is_labels, labels_at, needed, no_labels, online_at, titled, without_at}
-use Rattle.smp_judge.specs.Judged.{used_after}
-use Rattle.smp_events.specs.Text.{line_text}
-use Rattle.smp_events.specs.Traces.{lines_text}
+use Rattle.trace_model.specs.declared.event.Event.{Event}
+use Rattle.trace_model.specs.declared.without.Setting.{Setting}
+use Rattle.trace_judge.specs.Head.{SpotValue, all_told, is_labels, labels_at, needed, no_labels, online_at, titled, without_at}
+use Rattle.trace_judge.specs.Judged.{used_after}
+use Rattle.trace_events.specs.Text.{line_text}
+use Rattle.trace_events.specs.Traces.{lines_text}
 use Rattle.smp_replay_laws.specs.Texts.{AreReadable, AreTold, IsTold}
 use Rattle.smp_replay_laws.proofs.TextWords.{TakesAll}
 use Rattle.smp_script.proofs.Written.Writing.{cpus_are_read}

@@ -9,13 +9,13 @@ use Rattle.smp_script.specs.Lines.{fields_of, lines_of}
 use Rattle.smp_script.specs.Spelling.{is_field, lacks, line_before}
 use Rattle.smp_script.proofs.Texts.Decimals.{decimal_lacks, is_field-decimal}
 use Rattle.smp_script.proofs.Texts.Joins.{fields_join, lines_of-line, whole_fields}
-use Rattle.smp_event_steps.specs.declared.event.Event.{Event}
-use Rattle.smp_event_steps.specs.declared.without.Setting.{Setting}
-use Rattle.smp_judge.specs.Judged.{event_on, is_comment, used_after}
-use Rattle.smp_judge.specs.Runs.{Told, told_by}
-use Rattle.smp_judge.specs.declared.halted.Halted.{Halted}
-use Rattle.smp_events.specs.Text.{line_text}
-use Rattle.smp_events.specs.Traces.{lines_text}
+use Rattle.trace_model.specs.declared.event.Event.{Event}
+use Rattle.trace_model.specs.declared.without.Setting.{Setting}
+use Rattle.trace_judge.specs.Judged.{event_on, is_comment, used_after}
+use Rattle.trace_judge.specs.Runs.{Told, told_by}
+use Rattle.trace_judge.specs.declared.halted.Halted.{Halted}
+use Rattle.trace_events.specs.Text.{line_text}
+use Rattle.trace_events.specs.Traces.{lines_text}
 use Rattle.smp_replay_laws.specs.Texts.{AreReadable, AreTold, IsTold}
 use Rattle.smp_replay_laws.proofs.TextWords.{TakesAll, joined_words, words_of, words_read}
 use Rattle.smp_script.proofs.Written.LineWriting.{member_read}

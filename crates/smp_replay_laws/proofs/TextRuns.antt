@@ -19,14 +19,14 @@ use Rattle.smp_core.specs.Whole.{IsWhole}
 use Rattle.smp_script.specs.declared.mode.Mode.TheVariants.{Replay}
 use Rattle.smp_script.proofs.Spelled.Readings.{script_is_spelled}
 use Rattle.smp_stop_steps.specs.New.{new_stops}
-use Rattle.smp_event_steps.specs.declared.event.Event.{Event}
-use Rattle.smp_event_steps.specs.Opened.{opening}
-use Rattle.smp_event_steps.specs.Runs.{Runs}
-use Rattle.smp_event_steps.specs.State.{StateValue}
-use Rattle.smp_judge.specs.Head.{all_told, setting_of, words_of}
-use Rattle.smp_judge.specs.Verdict.{verdict_of}
-use Rattle.smp_judge.proofs.Meaning.{runs_accepted}
-use Rattle.smp_events.specs.Traces.{all_fresh, events_of}
+use Rattle.trace_model.specs.declared.event.Event.{Event}
+use Rattle.trace_model.specs.Opened.{opening}
+use Rattle.trace_model.specs.Runs.{Runs}
+use Rattle.trace_model.specs.State.{StateValue}
+use Rattle.trace_judge.specs.Head.{all_told, setting_of, words_of}
+use Rattle.trace_judge.specs.Verdict.{verdict_of}
+use Rattle.trace_judge.proofs.Meaning.{runs_accepted}
+use Rattle.trace_events.specs.Traces.{all_fresh, events_of}
 use Rattle.smp_replay_laws.specs.Accepted.{AreWordsOf, FitsCpus, IsAccepted}
 use Rattle.smp_replay.specs.Output.{labels_or_none}
 use Rattle.smp_replay_laws.specs.Texts.{AreTold, ArgFits, ReadsBack, TextsOfReplaysAreLawful, trace_text, traced}
@@ -35,7 +35,7 @@ use Rattle.smp_replay_laws.proofs.TextCpus.{few_cpus, trace_mask}
 use Rattle.smp_replay_laws.proofs.TextNew.{labels_are, limits_are, new_none, new_whole}
 use Rattle.smp_replay_laws.proofs.TextTold.{fresh_pasts, new_args, replay_tells}
 use Rattle.smp_replay_laws.proofs.TextTraces.{texts_read_back}
-use Rattle.smp_event_steps.specs.declared.without.Setting.{Setting}
+use Rattle.trace_model.specs.declared.without.Setting.{Setting}
 
 -- the words of a trace's head are those of a new machine
 words_are : (nr online : ℕ) (labels : Labels) → length labels.entries ≤ MOST_SITES

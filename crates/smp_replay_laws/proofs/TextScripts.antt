@@ -23,14 +23,14 @@ use Rattle.smp_script.specs.declared.mode.Mode.TheVariants.{Replay}
 use Rattle.smp_script.specs.declared.version.Version.{Version}
 use Rattle.smp_script.proofs.Spelled.Readings.{script_is_spelled}
 use Rattle.smp_replay.specs.Output.{labels_or_none}
-use Rattle.smp_show.specs.Events.{steps_of}
-use Rattle.smp_show.specs.Moments.{moments_at, moments_of, steps_at}
-use Rattle.smp_show.specs.Replays.{rows_of_script}
-use Rattle.smp_show.specs.Trace.{asked_cpu, is_refused, looked_at, rows_of, turns_in, what_of}
-use Rattle.smp_show.specs.declared.moments.Asked.{Asked}
-use Rattle.smp_show.specs.declared.moments.Asked.TheVariants.{Turn, Show}
-use Rattle.smp_show.specs.declared.moments.Moment.{Moment}
-use Rattle.smp_show.specs.declared.trace.Row.{Row}
+use Rattle.view.specs.Events.{steps_of}
+use Rattle.view.specs.Moments.{moments_at, moments_of, steps_at}
+use Rattle.view.specs.Replays.{rows_of_script}
+use Rattle.view.specs.Trace.{asked_cpu, is_refused, looked_at, rows_of, turns_in, what_of}
+use Rattle.view.specs.declared.moments.Asked.{Asked}
+use Rattle.view.specs.declared.moments.Asked.TheVariants.{Turn, Show}
+use Rattle.view.specs.declared.moments.Moment.{Moment}
+use Rattle.view.specs.declared.trace.Row.{Row}
 use Rattle.smp_replay_laws.specs.Accepted.{FitsCpus}
 use Rattle.smp_replay_laws.specs.Texts.{ArgFits, TracesAreLawful, command_in, commands_at, commands_of}
 use Rattle.smp_replay_laws.proofs.TextCpus.{trace_mask}

@@ -18,20 +18,20 @@ use Rattle.smp_words.specs.declared.seen.Note.TheVariants as note
 use Rattle.smp_words.specs.declared.seen.Seen.{Seen}
 use Rattle.smp_words.specs.declared.word.Word.{Word}
 use Rattle.smp_words.specs.declared.word.Word.TheVariants as word
-use Rattle.smp_event_steps.specs.declared.event.CallEvent.TheVariants as calls
-use Rattle.smp_event_steps.specs.declared.event.Event.TheVariants.{Call, Stop, Label}
-use Rattle.smp_event_steps.specs.declared.event.LabelEvent.TheVariants as labels
-use Rattle.smp_event_steps.specs.declared.event.StopEvent.{StopEvent}
-use Rattle.smp_event_steps.specs.declared.event.StopEvent.TheVariants as stops
-use Rattle.smp_event_steps.specs.declared.without.Setting.{Setting}
-use Rattle.smp_events.specs.Past.{after, after_on, after_call_entry, after_draft, after_flags, after_other, after_slot, after_slot_load, after_store}
-use Rattle.smp_events.specs.Past.{fresh, id_of, is_new, phase_of}
-use Rattle.smp_events.specs.Told.{events_in, of_ack, of_arg, of_flags, of_gate, of_hand, of_head, of_intr, of_key, of_nudge, of_ran, of_result, of_roll}
-use Rattle.smp_events.specs.Told.{of_site}
-use Rattle.smp_events.specs.Told.{of_slot, of_state, of_todo, of_unlock, told_of, told_on, with_on}
-use Rattle.smp_events.specs.declared.past.Past.{Past}
-use Rattle.smp_events.specs.declared.told.Told.{Told}
-use Rattle.smp_events.specs.declared.told.Told.TheVariants as told
+use Rattle.trace_model.specs.declared.event.CallEvent.TheVariants as calls
+use Rattle.trace_model.specs.declared.event.Event.TheVariants.{Call, Stop, Label}
+use Rattle.trace_model.specs.declared.event.LabelEvent.TheVariants as labels
+use Rattle.trace_model.specs.declared.event.StopEvent.{StopEvent}
+use Rattle.trace_model.specs.declared.event.StopEvent.TheVariants as stops
+use Rattle.trace_model.specs.declared.without.Setting.{Setting}
+use Rattle.trace_events.specs.Past.{after, after_on, after_call_entry, after_draft, after_flags, after_other, after_slot, after_slot_load, after_store}
+use Rattle.trace_events.specs.Past.{fresh, id_of, is_new, phase_of}
+use Rattle.trace_events.specs.Told.{events_in, of_ack, of_arg, of_flags, of_gate, of_hand, of_head, of_intr, of_key, of_nudge, of_ran, of_result, of_roll}
+use Rattle.trace_events.specs.Told.{of_site}
+use Rattle.trace_events.specs.Told.{of_slot, of_state, of_todo, of_unlock, told_of, told_on, with_on}
+use Rattle.trace_events.specs.declared.past.Past.{Past}
+use Rattle.trace_events.specs.declared.told.Told.{Told}
+use Rattle.trace_events.specs.declared.told.Told.TheVariants as told
 use Rattle.smp_replay_laws.specs.Texts.{EventFits, StopFits}
 
 -- the number in a word's name is of its type, where an event tells it

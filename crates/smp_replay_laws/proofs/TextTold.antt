@@ -38,13 +38,13 @@ use Rattle.smp_core.specs.Start.{refusal_of, started}
 use Rattle.smp_core.specs.Value.{CoreValue}
 use Rattle.smp_core.specs.Whole.{IsWhole}
 use Rattle.smp_core.proofs.Whole.{step_whole}
-use Rattle.smp_event_steps.specs.declared.event.Event.{Event}
-use Rattle.smp_event_steps.specs.declared.without.Setting.{Setting}
-use Rattle.smp_event_steps.specs.State.{StateValue}
-use Rattle.smp_events.specs.Past.{after, fresh, past_at}
-use Rattle.smp_events.specs.Told.{events_in, told_of}
-use Rattle.smp_events.specs.Traces.{all_fresh, events_of, events_of_step, kept}
-use Rattle.smp_events.specs.declared.past.Past.{Past}
+use Rattle.trace_model.specs.declared.event.Event.{Event}
+use Rattle.trace_model.specs.declared.without.Setting.{Setting}
+use Rattle.trace_model.specs.State.{StateValue}
+use Rattle.trace_events.specs.Past.{after, fresh, past_at}
+use Rattle.trace_events.specs.Told.{events_in, told_of}
+use Rattle.trace_events.specs.Traces.{all_fresh, events_of, events_of_step, kept}
+use Rattle.trace_events.specs.declared.past.Past.{Past}
 use Rattle.smp_replay_laws.specs.Accepted.{BeginsOfCpus, FitsCpus}
 use Rattle.smp_replay_laws.proofs.TextSteps.{InRange, PastFits, StepFits, after_fits, fresh_fits, told_fits}
 use Rattle.smp_replay_laws.specs.Texts.{AreTold, ArgFits, EventFits}

@@ -16,11 +16,11 @@ use Rattle.smp_script.specs.declared.version.Version.TheVariants.{One, Two}
 use Rattle.smp_script.proofs.Spelled.Readings.{script_is_spelled}
 use Rattle.smp_script.proofs.Texts.Joins.{lines_of-line}
 use Rattle.smp_script.proofs.Written.LabelWriting.{labels_fields}
-use Rattle.smp_event_steps.specs.declared.event.Event.{Event}
-use Rattle.smp_judge.specs.Head.{all_told, head_of, head_with, no_labels, setting_of}
-use Rattle.smp_judge.specs.Head.{words_of as label_words_of}
-use Rattle.smp_events.specs.Front.{front_text}
-use Rattle.smp_events.specs.Traces.{lines_text}
+use Rattle.trace_model.specs.declared.event.Event.{Event}
+use Rattle.trace_judge.specs.Head.{all_told, head_of, head_with, no_labels, setting_of}
+use Rattle.trace_judge.specs.Head.{words_of as label_words_of}
+use Rattle.trace_events.specs.Front.{front_text}
+use Rattle.trace_events.specs.Traces.{lines_text}
 use Rattle.smp_replay.specs.Output.{labels_or_none}
 use Rattle.smp_replay_laws.specs.Texts.{AreReadable, AreTold, IsWithin, ReadsBack, trace_text, traced}
 use Rattle.smp_replay_laws.proofs.TextWords.{TakesAll}

@@ -3,19 +3,19 @@ use Rattle.std.proofs.Common.{◌≡◌, ℕ, ◌<◌, ◌≤◌, true, List, []
 use Rattle.std.specs.Fmt.{decimal, signed_decimal}
 use Rattle.std.specs.List.{join_with_byte, list_all}
 use Rattle.std.proofs.lemmas.Bool.Decides.{nat_tests}
-use Rattle.smp_event_steps.specs.declared.event.CallEvent.{CallEvent}
-use Rattle.smp_event_steps.specs.declared.event.CallEvent.TheVariants as calls
-use Rattle.smp_event_steps.specs.declared.event.Event.{Event}
-use Rattle.smp_event_steps.specs.declared.event.Event.TheVariants as event
-use Rattle.smp_event_steps.specs.declared.event.LabelEvent.{LabelEvent}
-use Rattle.smp_event_steps.specs.declared.event.LabelEvent.TheVariants as labels
-use Rattle.smp_event_steps.specs.declared.event.StopEvent.{StopEvent}
-use Rattle.smp_event_steps.specs.declared.event.StopEvent.TheVariants as stops
-use Rattle.smp_event_steps.specs.declared.without.Setting.{Setting}
+use Rattle.trace_model.specs.declared.event.CallEvent.{CallEvent}
+use Rattle.trace_model.specs.declared.event.CallEvent.TheVariants as calls
+use Rattle.trace_model.specs.declared.event.Event.{Event}
+use Rattle.trace_model.specs.declared.event.Event.TheVariants as event
+use Rattle.trace_model.specs.declared.event.LabelEvent.{LabelEvent}
+use Rattle.trace_model.specs.declared.event.LabelEvent.TheVariants as labels
+use Rattle.trace_model.specs.declared.event.StopEvent.{StopEvent}
+use Rattle.trace_model.specs.declared.event.StopEvent.TheVariants as stops
+use Rattle.trace_model.specs.declared.without.Setting.{Setting}
 use Rattle.smp_script.specs.Spelling.{is_field}
 use Rattle.smp_script.proofs.Texts.Decimals.{is_field-decimal, number_in-decimal}
-use Rattle.smp_judge.specs.Reading.{below, named_of}
-use Rattle.smp_events.specs.Text.{call_text, class_text, event_text, kind_text, label_text, mask_text, site_text, stop_text, switch_text, way_text}
+use Rattle.trace_judge.specs.Reading.{below, named_of}
+use Rattle.trace_events.specs.Text.{call_text, class_text, event_text, kind_text, label_text, mask_text, site_text, stop_text, switch_text, way_text}
 use Rattle.smp_replay_laws.specs.Follows.{nothing_left_out}
 use Rattle.smp_replay_laws.specs.Texts.{CallFits, EventFits, LabelFits, StopFits}
 use Rattle.smp_script.proofs.Written.CanonicalTexts.{mask_is_text}

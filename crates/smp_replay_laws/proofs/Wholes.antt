@@ -37,10 +37,10 @@ use Rattle.smp_core.specs.Value.{CoreValue, Shown}
 use Rattle.smp_core.specs.Whole.{IsWhole}
 use Rattle.smp_core.proofs.Starts.{may_start, start_below, started_shown}
 use Rattle.smp_core.proofs.Whole.{start_whole, step_whole}
-use Rattle.smp_event_steps.specs.State.{StateValue, cpu_at}
-use Rattle.smp_events.specs.Past.{after, past_at}
-use Rattle.smp_events.specs.Traces.{events_of_step, kept}
-use Rattle.smp_events.specs.declared.past.Past.{Past}
+use Rattle.trace_model.specs.State.{StateValue, cpu_at}
+use Rattle.trace_events.specs.Past.{after, past_at}
+use Rattle.trace_events.specs.Traces.{events_of_step, kept}
+use Rattle.trace_events.specs.declared.past.Past.{Past}
 use Rattle.smp_replay_laws.specs.Accepted.{BeginsOfCpus}
 use Rattle.smp_replay_laws.specs.Follows.{Follows, GoesElsewhere, HandlesWithOn, current_of, told_call, KeepsPast, PostIs}
 use Rattle.smp_replay_laws.proofs.Accepts.{Reaches}
@@ -60,7 +60,7 @@ use Rattle.smp_replay_laws.proofs.StopAll.{stop_accepted}
 use Rattle.smp_replay_laws.proofs.StopBegins.{stage_drafts, first_drafts, first_apart, first_handles, begun_table, begun_here, begun_else}
 use Rattle.smp_replay_laws.proofs.StopBegins.{begun_drafts, begun_on, begun_none, begun_labels}
 use Rattle.smp_call_steps.specs.Stands.{Rests, StandsAt, share_of}
-use Rattle.smp_event_steps.specs.Cpu.{handles_nothing}
+use Rattle.trace_model.specs.Cpu.{handles_nothing}
 use Rattle.smp_replay_laws.specs.Follows.{CallsOfCpu}
 use Rattle.smp_stop_steps.specs.Stages.{stop_outcome}
 use Rattle.smp_stop_steps.specs.Start.{stop_first, terms_of}

@@ -19,15 +19,15 @@ use Rattle.smp_core.specs.New.{new_core}
 use Rattle.smp_core.specs.Runs.{IsReplay}
 use Rattle.smp_core.specs.Value.{CoreValue, Shown}
 use Rattle.smp_core.specs.Whole.{IsWhole}
-use Rattle.smp_event_steps.specs.declared.event.Event.{Event}
-use Rattle.smp_event_steps.specs.declared.event.Event.TheVariants as event
-use Rattle.smp_event_steps.specs.declared.without.Setting.{Setting}
-use Rattle.smp_event_steps.specs.Labels.{count_at, site_at}
-use Rattle.smp_event_steps.specs.Opened.{opening}
-use Rattle.smp_event_steps.specs.Runs.{Runs}
-use Rattle.smp_event_steps.specs.State.{StateValue}
-use Rattle.smp_events.specs.Traces.{all_fresh, events_of}
-use Rattle.smp_events.specs.declared.past.Past.{Past}
+use Rattle.trace_model.specs.declared.event.Event.{Event}
+use Rattle.trace_model.specs.declared.event.Event.TheVariants as event
+use Rattle.trace_model.specs.declared.without.Setting.{Setting}
+use Rattle.trace_model.specs.Labels.{count_at, site_at}
+use Rattle.trace_model.specs.Opened.{opening}
+use Rattle.trace_model.specs.Runs.{Runs}
+use Rattle.trace_model.specs.State.{StateValue}
+use Rattle.trace_events.specs.Traces.{all_fresh, events_of}
+use Rattle.trace_events.specs.declared.past.Past.{Past}
 use Rattle.smp_replay_laws.specs.Follows.{Follows, nothing_left_out}
 use Rattle.smp_replay_laws.specs.Stops.{FollowsStops, IsOfCpus}
 

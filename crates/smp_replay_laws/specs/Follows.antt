@@ -13,17 +13,17 @@ use Rattle.smp_call_steps.specs.declared.post.PostStage.{PostStage}
 use Rattle.smp_call_steps.specs.declared.post.PostStage.TheVariants as post
 use Rattle.smp_call_steps.specs.declared.stage.Stage.{Stage}
 use Rattle.smp_call_steps.specs.declared.stage.Stage.TheVariants as stage
-use Rattle.smp_event_steps.specs.declared.call.Call.{Call}
-use Rattle.smp_event_steps.specs.declared.call.Current.{Current}
-use Rattle.smp_event_steps.specs.declared.call.Place.{Place}
-use Rattle.smp_event_steps.specs.declared.call.Place.TheVariants.{Free, Queue, Batch, Run}
-use Rattle.smp_event_steps.specs.declared.call.Progress.TheVariants.{Runs, Ended}
-use Rattle.smp_event_steps.specs.declared.without.Without.{Without}
-use Rattle.smp_event_steps.specs.Cpu.{CpuState, at_call}
-use Rattle.smp_event_steps.specs.State.{StateValue, cpu_at, place_at}
-use Rattle.smp_events.specs.Past.{past_at}
-use Rattle.smp_events.specs.declared.past.Past.{Past}
-use Rattle.smp_events.specs.declared.past.Post.{Post}
+use Rattle.trace_model.specs.declared.call.Call.{Call}
+use Rattle.trace_model.specs.declared.call.Current.{Current}
+use Rattle.trace_model.specs.declared.call.Place.{Place}
+use Rattle.trace_model.specs.declared.call.Place.TheVariants.{Free, Queue, Batch, Run}
+use Rattle.trace_model.specs.declared.call.Progress.TheVariants.{Runs, Ended}
+use Rattle.trace_model.specs.declared.without.Without.{Without}
+use Rattle.trace_model.specs.Cpu.{CpuState, at_call}
+use Rattle.trace_model.specs.State.{StateValue, cpu_at, place_at}
+use Rattle.trace_events.specs.Past.{past_at}
+use Rattle.trace_events.specs.declared.past.Past.{Past}
+use Rattle.trace_events.specs.declared.past.Post.{Post}
 
 -- a trace leaves out no group of events
 abbrev pub nothing_left_out : Without

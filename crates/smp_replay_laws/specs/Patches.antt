@@ -5,8 +5,8 @@ use Rattle.smp_labels.specs.Plans.{plan_of}
 use Rattle.smp_labels.specs.declared.patch.Place.{Place}
 use Rattle.smp_labels.specs.declared.words.LabelWords.{LabelWords}
 use Rattle.smp_stop_steps.specs.Labels.{Patching, Whole, Patches}
-use Rattle.smp_event_steps.specs.declared.stop.Patch.{Patch}
-use Rattle.smp_event_steps.specs.Labels.{front_of, patch_to, popped}
+use Rattle.trace_model.specs.declared.stop.Patch.{Patch}
+use Rattle.trace_model.specs.Labels.{front_of, patch_to, popped}
 
 -- what is left of a patch of a key are these stores: the first of them is next, and what is left then are the others
 abbrev pub Leads : LabelWords → ℕ → Patch → List (Place × ℕ) → Type 0

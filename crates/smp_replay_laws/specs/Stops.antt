@@ -18,15 +18,15 @@ use Rattle.smp_stop_steps.specs.declared.known.Calling.{Calling}
 use Rattle.smp_stop_steps.specs.declared.known.Calling.TheVariants.{Idle, Calls, Carries}
 use Rattle.smp_stop_steps.specs.declared.stage.StopStage.{StopStage}
 use Rattle.smp_stop_steps.specs.declared.stage.StopStage.TheVariants.{Begin}
-use Rattle.smp_event_steps.specs.declared.stop.Patch.{Patch as ToldPatch}
-use Rattle.smp_event_steps.specs.declared.stop.Stop.{Stop as ToldStop}
-use Rattle.smp_event_steps.specs.declared.stop.Task.{Task}
-use Rattle.smp_event_steps.specs.Labels.{count_at, site_at}
-use Rattle.smp_event_steps.specs.State.{StateValue, cpu_at, stop_at}
-use Rattle.smp_event_steps.specs.Stop.{acked_by, answer_by, answer_of, has_run, is_called as is_called_in}
-use Rattle.smp_events.specs.Past.{past_at}
-use Rattle.smp_events.specs.declared.past.Draft.{Draft}
-use Rattle.smp_events.specs.declared.past.Past.{Past}
+use Rattle.trace_model.specs.declared.stop.Patch.{Patch as ToldPatch}
+use Rattle.trace_model.specs.declared.stop.Stop.{Stop as ToldStop}
+use Rattle.trace_model.specs.declared.stop.Task.{Task}
+use Rattle.trace_model.specs.Labels.{count_at, site_at}
+use Rattle.trace_model.specs.State.{StateValue, cpu_at, stop_at}
+use Rattle.trace_model.specs.Stop.{acked_by, answer_by, answer_of, has_run, is_called as is_called_in}
+use Rattle.trace_events.specs.Past.{past_at}
+use Rattle.trace_events.specs.declared.past.Draft.{Draft}
+use Rattle.trace_events.specs.declared.past.Past.{Past}
 use Rattle.smp_replay_laws.specs.Patches.{PatchingIs}
 
 -- a work, as events tell it

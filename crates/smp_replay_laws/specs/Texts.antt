@@ -15,27 +15,27 @@ use Rattle.smp_script.specs.declared.mode.Mode.TheVariants.{Replay}
 use Rattle.smp_core.specs.New.{new_core}
 use Rattle.smp_core.specs.Runs.{IsReplay}
 use Rattle.smp_core.specs.Value.{CoreValue}
-use Rattle.smp_event_steps.specs.declared.event.CallEvent.{CallEvent}
-use Rattle.smp_event_steps.specs.declared.event.CallEvent.TheVariants as calls
-use Rattle.smp_event_steps.specs.declared.event.Event.{Event}
-use Rattle.smp_event_steps.specs.declared.event.Event.TheVariants as event
-use Rattle.smp_event_steps.specs.declared.event.LabelEvent.{LabelEvent}
-use Rattle.smp_event_steps.specs.declared.event.LabelEvent.TheVariants as labels
-use Rattle.smp_event_steps.specs.declared.event.StopEvent.{StopEvent}
-use Rattle.smp_event_steps.specs.declared.event.StopEvent.TheVariants as stops
-use Rattle.smp_event_steps.specs.declared.without.Setting.{Setting}
+use Rattle.trace_model.specs.declared.event.CallEvent.{CallEvent}
+use Rattle.trace_model.specs.declared.event.CallEvent.TheVariants as calls
+use Rattle.trace_model.specs.declared.event.Event.{Event}
+use Rattle.trace_model.specs.declared.event.Event.TheVariants as event
+use Rattle.trace_model.specs.declared.event.LabelEvent.{LabelEvent}
+use Rattle.trace_model.specs.declared.event.LabelEvent.TheVariants as labels
+use Rattle.trace_model.specs.declared.event.StopEvent.{StopEvent}
+use Rattle.trace_model.specs.declared.event.StopEvent.TheVariants as stops
+use Rattle.trace_model.specs.declared.without.Setting.{Setting}
 use Rattle.smp_replay.specs.Output.{labels_or_none}
-use Rattle.smp_judge.specs.Head.{HeadValue, all_told, head_of, setting_of, words_of}
-use Rattle.smp_judge.specs.Runs.{Told, told_by}
-use Rattle.smp_judge.specs.Verdict.{verdict_of}
-use Rattle.smp_events.specs.Front.{front_text}
-use Rattle.smp_events.specs.Traces.{all_fresh, events_of, lines_text}
-use Rattle.smp_show.specs.Events.{steps_of, trace_of}
-use Rattle.smp_show.specs.Moments.{moments_of}
-use Rattle.smp_show.specs.Replays.{rows_of_script}
-use Rattle.smp_show.specs.declared.moments.Asked.{Asked}
-use Rattle.smp_show.specs.declared.moments.Asked.TheVariants.{Turn, Show}
-use Rattle.smp_show.specs.declared.moments.Moment.{Moment}
+use Rattle.trace_judge.specs.Head.{HeadValue, all_told, head_of, setting_of, words_of}
+use Rattle.trace_judge.specs.Runs.{Told, told_by}
+use Rattle.trace_judge.specs.Verdict.{verdict_of}
+use Rattle.trace_events.specs.Front.{front_text}
+use Rattle.trace_events.specs.Traces.{all_fresh, events_of, lines_text}
+use Rattle.view.specs.Events.{steps_of, trace_of}
+use Rattle.view.specs.Moments.{moments_of}
+use Rattle.view.specs.Replays.{rows_of_script}
+use Rattle.view.specs.declared.moments.Asked.{Asked}
+use Rattle.view.specs.declared.moments.Asked.TheVariants.{Turn, Show}
+use Rattle.view.specs.declared.moments.Moment.{Moment}
 use Rattle.smp_replay_laws.specs.Accepted.{FitsCpus, IsAccepted}
 
 -- the numbers of an event of calls are of its types

@@ -5,7 +5,7 @@ ghost use Rattle.std.specs.List.{AllByRecursion};
 ghost use Rattle.smp_labels.specs.declared.words.LabelWords.{LabelWords};
 ghost use Rattle.smp_core.specs.New.{new_core};
 ghost use Rattle.smp_core.specs.Runs.{IsReplay};
-ghost use Rattle.smp_event_steps.specs.declared.without.Setting.{Setting};
+ghost use Rattle.trace_model.specs.declared.without.Setting.{Setting};
 ghost use Rattle.smp_words.specs.Limits.{AreLimits};
 ghost use Rattle.smp_replay_laws.specs.Accepted.{AreWordsOf, CallsAreAccepted, Fits, FitsCpus, IsAccepted, IsOf};
 

@@ -46,7 +46,8 @@ pub use Rattle.smp_script.specs.declared.version.Version.TheVariants.{One, Two}
 unfoldable pub use Rattle.smp_script.specs.Commands.{line_directive, start_begin, start_post}
 pub use Rattle.smp_script.specs.Commands.{directive_of, are_whole, begins_of, posts_of, start_of, whole_directive, mode_line, command_of, replay_line, show_of}
 pub use Rattle.smp_script.specs.Commands.{steps_of, run_line}
-pub use Rattle.smp_script.specs.Faults.{Fault, ◌>>=◌, at_line, Fails}
+pub use Rattle.smp_words.specs.FirstFault.{◌>>=◌}
+pub use Rattle.smp_script.specs.Faults.{Fault, at_line, Fails}
 pub use Rattle.smp_script.specs.FieldFaults.{field_at, ActiveFault, IsMask, MaskFault, IsOutside, OnlineFault, value_of, FieldFault, ItemsFault, MemberFault}
 pub use Rattle.smp_script.specs.FieldFaults.{NumberFault, SignedFault, is_far, is_signed}
 pub use Rattle.smp_script.specs.Fields.{word32, mask_of, stays_below, class_of, kind_of, way_of, word16, word64}

@@ -16,7 +16,7 @@ use Rattle.smp_script.specs.declared.setting.Setting.{Setting}
 use Rattle.smp_script.specs.Lines.{fields_of}
 use Rattle.smp_script.specs.Requests.{do_of}
 use Rattle.smp_script.specs.Numbers.{number_in, signed_of}
-use Rattle.smp_script.specs.Faults.{◌>>=◌}
+use Rattle.smp_words.specs.FirstFault.{◌>>=◌}
 use Rattle.smp_script.specs.Fields.{word16, word32, word64, class_of, kind_of, mask_of, way_of}
 
 -- `start CPU post K DST CLASS FUNC INFO TRIES`

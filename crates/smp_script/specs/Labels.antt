@@ -10,7 +10,7 @@ use Rattle.smp_labels.specs.declared.entries.Entry.{Entry}
 use Rattle.smp_labels.specs.declared.words.TheConstants.{MOST_KEYS, MOST_SITES}
 use Rattle.smp_script.specs.Lines.{parts_of}
 use Rattle.smp_script.specs.Numbers.{is_decimal, number_in, value_after}
-use Rattle.smp_script.specs.Faults.{◌>>=◌}
+use Rattle.smp_words.specs.FirstFault.{◌>>=◌}
 use Rattle.smp_script.specs.Fields.{word32}
 use Rattle.smp_script.specs.Commands.{are_whole}
 

@@ -13,7 +13,7 @@ use Rattle.smp_script.specs.declared.request.Request.TheVariants as request
 use Rattle.smp_script.specs.declared.request.Which.{Which}
 use Rattle.smp_script.specs.declared.request.Which.TheVariants.{All, Even, Odd}
 use Rattle.smp_script.specs.Numbers.{number_in}
-use Rattle.smp_script.specs.Faults.{◌>>=◌}
+use Rattle.smp_words.specs.FirstFault.{◌>>=◌}
 use Rattle.smp_script.specs.Fields.{word16, word32, word64, mask_of}
 
 -- `wait` or `nowait`: whether it is `wait`

@@ -12,7 +12,8 @@ use Rattle.smp_script.specs.Keys.{shares}
 use Rattle.smp_script.specs.Lines.{fields_of, Line, lines_of}
 use Rattle.smp_script.specs.Modes.{mode_text, setting_of}
 use Rattle.smp_script.specs.Numbers.{number_in}
-use Rattle.smp_script.specs.Faults.{◌>>=◌, Fault, at_line}
+use Rattle.smp_words.specs.FirstFault.{◌>>=◌}
+use Rattle.smp_script.specs.Faults.{Fault, at_line}
 use Rattle.smp_script.specs.Versions.{limit_of, version_of}
 use Rattle.smp_script.specs.declared.version.Version.{Version}
 use Rattle.smp_script.specs.Fields.{stays_below, mask_of}

@@ -11,3 +11,5 @@ pub mod Access
 pub mod Flags
 pub mod Kinds
 pub mod Commands
+-- faults
+pub mod FirstFault

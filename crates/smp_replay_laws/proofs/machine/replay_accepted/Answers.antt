@@ -7,7 +7,7 @@ use Rattle.smp_core.specs.New.{new_core}
 use Rattle.smp_core.specs.Runs.{IsReplay}
 use Rattle.smp_core.specs.Value.{CoreValue}
 use Rattle.smp_core.specs.Whole.{IsWhole}
-use Rattle.smp_event_steps.specs.declared.without.Setting.{Setting}
+use Rattle.trace_model.specs.declared.without.Setting.{Setting}
 use Rattle.smp_replay_laws.specs.Accepted.{AreWordsOf, CallsAreAccepted, Fits, FitsCpus, IsAccepted, IsOf}
 use Rattle.smp_replay_laws.proofs.AllReplays.{replays_are_accepted}
 use Rattle.smp_replay_laws.proofs.Replays.{calls_of_replays_are_accepted}

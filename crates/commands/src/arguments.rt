@@ -1,0 +1,291 @@
+//! What the words of the command line ask for.
+
+ghost use Rattle.std.specs.Prelude.{◌≡◌};
+ghost use Rattle.commands.specs.Jobs.{kind_taken};
+
+use crate::grammar::grammar;
+use crate::searches::Scripts;
+use clap::error::ErrorKind;
+use clap::{ArgMatches, Error};
+use explore::Most;
+use smp_mask::CpuMask;
+use smp_report::{Orders, Run, Sample};
+use std::alloc::{AllocError, Global};
+use view::text_kind::TextKind;
+use view::{Choice, Mark};
+
+/// How many bytes there are in one MiB.
+const MIB: usize = 1_048_576;
+
+/// A list of CPUs has no more bytes than this.
+const MOST_LIST: usize = 1000;
+
+/// A value that `clap` takes and that is wrong all the same.
+#[derive(Clone, Copy)]
+enum Wrong {
+    Cpus,
+    Mark,
+    Input,
+}
+
+impl Wrong {
+    fn text(self) -> &'static str {
+        match self {
+            Wrong::Cpus => {
+                "invalid value for '--cpus <LIST>': it is a list of CPUs from 0 to 31 that is not empty, as 0-2,5"
+            }
+            Wrong::Mark => {
+                "invalid value for '--mark <EVENT>': it is last, or a number from 0 to 4294967295"
+            }
+            Wrong::Input => {
+                "invalid value for '<TRACE>': only one of FILE and TRACE can be standard input"
+            }
+        }
+    }
+}
+
+/// How a script is shown.
+#[derive(Clone, Copy, Debug, PartialEq, Eq)]
+pub enum View {
+    /// Its replay, with one column for each CPU.
+    Lanes,
+    /// A picture of its replay.
+    Svg,
+    /// Its replay in the trace-event format.
+    Json,
+}
+
+/// What to do with a text.
+#[derive(Clone, Copy, Debug, PartialEq, Eq)]
+pub enum Job<'a> {
+    /// Shows what is chosen of a script's replay.
+    Show(View, Choice),
+    /// Says what is wrong with a text of any kind.
+    Explain,
+    /// Judges what an exploration expects.
+    Explore(Orders, Scripts<'a>),
+    /// Finds all final numbers of words of an exploration.
+    Outcomes(Most, Scripts<'a>),
+    /// Writes down one run of an exploration.
+    Write(Run),
+    /// Judges a trace.
+    Judge,
+    /// Tells the events of a script's replay.
+    Events,
+    /// Holds the trace of steps of this name against a script's replay.
+    Check(&'a str),
+}
+
+impl<'a> Job<'a> {
+    /// The kind of text that it takes; none where it takes each.
+    pub fn takes(&self) -> Option<TextKind>
+        ensures { result ≡ kind_taken self.now }
+    {
+        match self {
+            Job::Show(..) | Job::Events | Job::Check(_) => Some(TextKind::Replay),
+            Job::Explore(..) | Job::Outcomes(..) | Job::Write(_) => Some(TextKind::Exploration),
+            Job::Judge => Some(TextKind::Trace),
+            Job::Explain => None,
+        }
+    }
+}
+
+/// What to do with the text of a file.
+#[derive(Drop)]
+pub struct Request<'a> {
+    pub job: Job<'a>,
+    /// The name of the file; none for standard input.
+    pub file: Option<&'a str>,
+    /// The words behind it.
+    pub words: Vec<&'a str>,
+}
+
+// The number behind a word; that of the grammar where the word is not there.
+fn number(matches: &ArgMatches<'_>, name: &str) -> u32 {
+    matches.get_one::<u32>(name).unwrap_or(0)
+}
+
+// How many bytes of states are kept: no word, no limit.
+fn bytes_of(matches: &ArgMatches<'_>) -> usize {
+    match matches.get_one::<u32>("memory") {
+        Some(count) => count as usize * MIB,
+        None => usize::MAX,
+    }
+}
+
+fn seed_of(matches: &ArgMatches<'_>) -> u64 {
+    matches.get_one::<u64>("seed").unwrap_or(0)
+}
+
+// How much an exploration keeps.
+fn most_of(matches: &ArgMatches<'_>) -> Most {
+    Most {
+        states: number(matches, "states") as usize,
+        bytes: bytes_of(matches),
+    }
+}
+
+// How every order is gone through.
+fn orders_of(matches: &ArgMatches<'_>) -> Orders {
+    let most = most_of(matches);
+    if matches.get_flag("merge") {
+        Orders::Merged(most)
+    } else {
+        Orders::All(most)
+    }
+}
+
+fn sample_of(matches: &ArgMatches<'_>) -> Sample {
+    Sample {
+        seed: seed_of(matches),
+        runs: number(matches, "runs"),
+        steps: number(matches, "steps"),
+    }
+}
+
+fn run_of(matches: &ArgMatches<'_>) -> Run {
+    Run {
+        seed: seed_of(matches),
+        number: number(matches, "run"),
+        steps: number(matches, "steps"),
+    }
+}
+
+// Whither the scripts of broken expectations go.
+fn scripts_of<'a>(matches: &ArgMatches<'a>) -> Scripts<'a> {
+    match (matches.get_one::<u32>("only"), matches.get_str("scripts")) {
+        (Some(line), _) => Scripts::Only(line),
+        (None, Some(folder)) => Scripts::Folder(folder),
+        (None, None) => Scripts::Behind,
+    }
+}
+
+// The CPUs behind `--cpus`; none where it is not there.
+fn cpus_of(matches: &ArgMatches<'_>) -> Result<Option<CpuMask>, Wrong> {
+    let Some(list) = matches.get_str("cpus") else {
+        return Ok(None);
+    };
+    if list.len() > MOST_LIST {
+        return Err(Wrong::Cpus);
+    }
+    match CpuMask::parse(list.as_bytes()) {
+        Ok(cpus) if cpus.first().is_some() => Ok(Some(cpus)),
+        _ => Err(Wrong::Cpus),
+    }
+}
+
+// The event behind `--mark`; none where it is not there.
+fn mark_of(matches: &ArgMatches<'_>) -> Result<Option<Mark>, Wrong> {
+    match matches.get_str("mark") {
+        None => Ok(None),
+        Some("last") => Ok(Some(Mark::Last)),
+        Some(number) => match number.parse::<u32>() {
+            Ok(number) => Ok(Some(Mark::Event(number as usize))),
+            Err(_) => Err(Wrong::Mark),
+        },
+    }
+}
+
+// What is shown of a replay.
+fn choice_of(matches: &ArgMatches<'_>) -> Result<Choice, Wrong> {
+    Ok(Choice {
+        from: number(matches, "from") as usize,
+        to: matches.get_one::<u32>("to").unwrap_or(u32::MAX) as usize,
+        cpus: cpus_of(matches)?,
+        mark: mark_of(matches)?,
+    })
+}
+
+// The trace that is held against a script, where not both are standard input.
+fn trace_of<'a>(matches: &ArgMatches<'a>) -> Result<&'a str, Wrong> {
+    let trace = matches.get_str("TRACE").unwrap_or("-");
+    if trace == "-" && file_of(matches).is_none() {
+        return Err(Wrong::Input);
+    }
+    Ok(trace)
+}
+
+// How a subcommand shows a script; none where it does not.
+fn view_of(name: &str) -> Option<View> {
+    match name {
+        "lanes" => Some(View::Lanes),
+        "svg" => Some(View::Svg),
+        "json" => Some(View::Json),
+        _ => None,
+    }
+}
+
+// What a subcommand does, whose options can't be wrong, by its name and the words behind it.
+fn plain_job<'a>(name: &str, matches: &ArgMatches<'a>) -> Job<'a> {
+    match name {
+        "explain" => Job::Explain,
+        "explore" => Job::Explore(orders_of(matches), scripts_of(matches)),
+        "sample" => Job::Explore(Orders::Sampled(sample_of(matches)), scripts_of(matches)),
+        "outcomes" => Job::Outcomes(most_of(matches), scripts_of(matches)),
+        "script" => Job::Write(run_of(matches)),
+        "events" => Job::Events,
+        _ => Job::Judge,
+    }
+}
+
+// What a subcommand does, by its name and the words behind it.
+fn job_of<'a>(name: &str, matches: &ArgMatches<'a>) -> Result<Job<'a>, Wrong> {
+    if let Some(view) = view_of(name) {
+        return Ok(Job::Show(view, choice_of(matches)?));
+    }
+    if name == "check" {
+        return Ok(Job::Check(trace_of(matches)?));
+    }
+    Ok(plain_job(name, matches))
+}
+
+// The name of a file, where it is not standard input.
+fn file_of<'a>(matches: &ArgMatches<'a>) -> Option<&'a str> {
+    match matches.get_str("FILE") {
+        Some("-") => None,
+        name => name,
+    }
+}
+
+// The words behind the file.
+fn words_of<'a>(alloc: Global, matches: &ArgMatches<'a>) -> Result<Vec<&'a str>, AllocError> {
+    let mut words = Vec::new(alloc);
+    if let Some(found) = matches.get_strs("WORD") {
+        for word in found {
+            words.push(*word)?;
+        }
+    }
+    Ok(words)
+}
+
+// What is said of a value that is wrong.
+fn refusal(alloc: Global, wrong: Wrong) -> Result<Error, AllocError> {
+    grammar(alloc)?.error(ErrorKind::ValueValidation, wrong.text())
+}
+
+// What is said where there is no subcommand.
+fn no_subcommand(alloc: Global) -> Result<Error, AllocError> {
+    grammar(alloc)?.error(ErrorKind::MissingSubcommand, "there is no subcommand")
+}
+
+// What these ask for.
+fn request_of<'a>(alloc: Global, matches: &ArgMatches<'a>) -> Result<Request<'a>, Error> {
+    // The grammar asks for a subcommand.
+    let Some((name, found)) = matches.subcommand() else {
+        return Err(no_subcommand(alloc)?);
+    };
+    match job_of(name, found) {
+        Ok(job) => {
+            let words = words_of(alloc, found)?;
+            let file = file_of(found);
+            Ok(Request { job, file, words })
+        }
+        Err(wrong) => Err(refusal(alloc, wrong)?),
+    }
+}
+
+/// What the words ask for. Where they are no command line, or ask for help or the version, the answer is what `clap` says.
+pub fn read_words<'a>(alloc: Global, words: &'a [&'a str]) -> Result<Request<'a>, Error> {
+    let matches = grammar(alloc)?.try_get_matches_from(words)?;
+    request_of(alloc, &matches)
+}

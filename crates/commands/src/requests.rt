@@ -1,0 +1,183 @@
+//! Does what the words of the command line ask for.
+
+ghost use Rattle.std.specs.Prelude.{◌≡◌, false};
+ghost use Rattle.smp_script.specs.Watched.{failed_of};
+
+use crate::arguments::{Job, Request, View, read_words};
+use crate::check::check_trace;
+use crate::explain::explain_text;
+use crate::failure::{Failure, failure_of};
+use crate::outcomes::{Question, print_outcomes};
+use crate::searches::Search;
+use crate::status::{Answer, status_of};
+use crate::streams::{Remembering, read_text};
+use crate::tell::{tell, tell_end};
+use explore::Unwatched;
+use smp_mask::SmpError;
+use smp_report::{Ending, Run, Task, explore_script};
+use smp_script::{Outcome, Watched};
+use std::io;
+use std::io::Write;
+use trace_judge::{Ruling, judge_trace};
+use view::text_kind::kind_of;
+use view::{Choice, show_events, show_json, show_lanes, show_svg};
+
+/// Shows a script.
+fn show<W: Write>(
+    rt: &HostRuntime,
+    view: View,
+    choice: &Choice,
+    text: &[u8],
+    writer: &mut Watched<W>,
+) -> Result<Outcome, SmpError> {
+    let mut reader = Watched::new(text);
+    match view {
+        View::Lanes => show_lanes(rt.alloc(), choice, &mut reader, writer),
+        View::Svg => show_svg(rt.alloc(), choice, &mut reader, writer),
+        View::Json => show_json(rt.alloc(), choice, &mut reader, writer),
+    }
+}
+
+/// Writes down one run of an exploration, and says how it ended.
+fn write_run<W: Write>(
+    rt: &HostRuntime,
+    run: Run,
+    text: &[u8],
+    writer: &mut Watched<W>,
+) -> Result<Ending, SmpError>
+    requires { failed_of writer.old ≡ false }
+{
+    let mut reader = Watched::new(text);
+    let ending = explore_script(
+        rt.alloc(),
+        Task::Write(run),
+        &mut reader,
+        writer,
+        &mut Unwatched,
+    )?;
+    if let Ending::Written(end) = ending {
+        tell_end(rt, end).is_ok();
+    }
+    Ok(ending)
+}
+
+// How a text was shown or explained.
+fn shown(done: Result<Outcome, SmpError>) -> Result<Answer, Failure> {
+    match done {
+        Ok(outcome) => Ok(Answer::Shown(outcome)),
+        Err(error) => Err(failure_of(error)),
+    }
+}
+
+// How a run of an exploration was written down.
+fn written(done: Result<Ending, SmpError>) -> Result<Answer, Failure> {
+    match done {
+        Ok(ending) => Ok(Answer::Explored(ending)),
+        Err(error) => Err(failure_of(error)),
+    }
+}
+
+// How a trace was judged.
+fn judged(done: Result<Ruling, SmpError>) -> Result<Answer, Failure> {
+    match done {
+        Ok(ruling) => Ok(Answer::Judged(ruling)),
+        Err(error) => Err(failure_of(error)),
+    }
+}
+
+/// Shows, explains or judges a script or a trace, and writes what is found.
+fn do_script<W: Write>(
+    rt: &HostRuntime,
+    job: &Job<'_>,
+    text: &[u8],
+    writer: &mut Watched<W>,
+) -> Result<Answer, Failure>
+    requires { failed_of writer.old ≡ false }
+{
+    match job {
+        Job::Show(view, choice) => shown(show(rt, *view, choice, text, writer)),
+        Job::Events => shown(show_events(rt.alloc(), &mut Watched::new(text), writer)),
+        Job::Check(trace) => Ok(Answer::Shown(check_trace(rt, trace, text, writer)?)),
+        Job::Judge => judged(judge_trace(rt.alloc(), &mut Watched::new(text), writer)),
+        _ => shown(explain_text(rt.alloc(), text, writer)),
+    }
+}
+
+/// Does this with a text, and writes what is found.
+fn do_text<W: Write>(
+    rt: &HostRuntime,
+    request: &Request<'_>,
+    text: &[u8],
+    writer: &mut Watched<W>,
+) -> Result<Answer, Failure>
+    requires { failed_of writer.old ≡ false }
+{
+    match &request.job {
+        Job::Write(run) => written(write_run(rt, *run, text, writer)),
+        Job::Outcomes(most, scripts) => {
+            let question = Question {
+                names: request.words.as_slice(),
+                most: *most,
+                scripts: *scripts,
+            };
+            Ok(Answer::Explored(print_outcomes(rt, &question, text, writer)?))
+        }
+        Job::Explore(orders, scripts) => {
+            let search = Search {
+                orders: *orders,
+                text,
+                scripts: *scripts,
+            };
+            Ok(Answer::Explored(search.run(rt, writer)?))
+        }
+        job => do_script(rt, job, text, writer),
+    }
+}
+
+/// Does this with a text of the kind that it takes, and writes what is found to standard output.
+fn do_kind(rt: &HostRuntime, request: &Request<'_>, text: &[u8]) -> Result<Answer, Failure> {
+    match (request.job.takes(), kind_of(text)) {
+        (Some(taken), Some(kind)) if taken != kind => return Err(Failure::OtherKind(kind)),
+        _ => {}
+    }
+    let mut writer = Watched::new(Remembering::new(rt.stdout()));
+    let done = do_text(rt, request, text, &mut writer);
+    match done {
+        Err(Failure::Unwritten(_)) => Err(Failure::Unwritten(writer.into_inner().reason())),
+        done => done,
+    }
+}
+
+/// Does what is asked for. Why it was not done is said on standard error.
+fn do_request(rt: &HostRuntime, request: &Request<'_>) -> io::Result<Result<Answer, Failure>> {
+    let name = request.file.unwrap_or("standard input");
+    let text = match read_text(rt, request.file) {
+        Ok(text) => text,
+        Err(reason) => {
+            let failure = Failure::Unread(reason);
+            tell(rt, name, &[], failure)?;
+            return Ok(Err(failure));
+        }
+    };
+    let done = do_kind(rt, request, text.as_slice());
+    if let Err(failure) = done {
+        tell(rt, name, text.as_slice(), failure)?;
+    }
+    Ok(done)
+}
+
+/// Does what the words of the command line ask for, the program's own name first, and answers the status: 0 where it is done, 1
+/// where the answer is no, 2 where it could not be done.
+///
+/// What is found goes to standard output, and why it could not be done to standard error. The error is that of a stream to
+/// which help, the version or such a reason could not be written.
+pub fn do_words(rt: &HostRuntime, words: &[&str]) -> io::Result<u8> {
+    let request = match read_words(rt.alloc(), words) {
+        Ok(request) => request,
+        Err(error) => {
+            error.print(rt)?;
+            return Ok(if error.use_stderr() { 2 } else { 0 });
+        }
+    };
+    Ok(status_of(do_request(rt, &request)?))
+}

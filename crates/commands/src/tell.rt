@@ -1,0 +1,59 @@
+//! Why a text was not shown, explored or judged to its end, on standard error.
+
+use crate::failure::Failure;
+use explore::WalkEnd;
+use std::io;
+use view::explain::explanation;
+use view::fault::Fault;
+use view::text_kind::TextKind;
+
+// The fault of a text of this name, as `smp explain` explains it.
+fn tell_fault(rt: &HostRuntime, name: &str, text: &[u8], fault: Fault) -> io::Result<()> {
+    match explanation(rt.alloc(), text, Some(fault)) {
+        Ok(said) => eprint!(rt; "smp: {name}: {said}"),
+        Err(_) => eprintln!(rt; "smp: no memory"),
+    }
+}
+
+// The kind of a text that is of another kind than is taken, and what takes it.
+fn tell_kind(rt: &HostRuntime, name: &str, kind: TextKind) -> io::Result<()> {
+    let (what, takers) = (kind.name(), kind.takers());
+    eprintln!(rt; "smp: {name}: line 1 is that of {what}: {takers}")
+}
+
+/// Says why this text, which has this name, was not shown, explored or judged to its end.
+pub fn tell(rt: &HostRuntime, name: &str, text: &[u8], failure: Failure) -> io::Result<()> {
+    match failure {
+        Failure::Unread(reason) => eprintln!(rt; "smp: {name}: {reason}"),
+        Failure::Unwritten(Some(reason)) => eprintln!(rt; "smp: standard output: {reason}"),
+        Failure::Unwritten(None) => eprintln!(rt; "smp: standard output takes no more"),
+        Failure::NoTrace(reason) => eprintln!(rt; "smp: the trace of steps: {reason}"),
+        Failure::Unsaved(reason) => eprintln!(rt; "smp: a file of a script: {reason}"),
+        Failure::NoWord => eprintln!(rt;
+            "smp: a WORD is none of this table; head.2 and queued.0.1 are such words"
+        ),
+        Failure::NoOutcome => eprintln!(rt; "smp: {name}: no outcome has the number of --only"),
+        Failure::NoExpectation => {
+            eprintln!(rt; "smp: {name}: there is no expectation on the line of --only")
+        }
+        Failure::OtherKind(kind) => tell_kind(rt, name, kind),
+        Failure::Fault(fault) => tell_fault(rt, name, text, fault),
+        Failure::NoMemory => eprintln!(rt; "smp: no memory"),
+    }
+}
+
+/// Says how a run ended that was written down.
+pub fn tell_end(rt: &HostRuntime, end: WalkEnd) -> io::Result<()> {
+    match end {
+        WalkEnd::Over => eprintln!(rt; "smp: the run has ended: all programs are over"),
+        WalkEnd::Broken => {
+            eprintln!(rt; "smp: the run is stuck: no CPU can move, and a program is not over")
+        }
+        WalkEnd::Cut => eprintln!(rt; "smp: the run is cut: it has made as many steps as it may"),
+    }
+}
+
+/// Says which limit was met, where nothing else is printed: this line, which has its line feed.
+pub fn tell_limit(rt: &HostRuntime, line: &str) -> io::Result<()> {
+    eprint!(rt; "smp: {line}")
+}

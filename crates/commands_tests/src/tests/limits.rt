@@ -1,0 +1,101 @@
+//! What is told of a search that meets a limit, and the status.
+
+use commands::outcomes::{Question, print_outcomes};
+use commands::searches::Scripts;
+use commands::status::{Answer, status_of};
+use explore::{Most, Unwatched};
+use smp_mask::SmpError;
+use smp_report::{Orders, Task, explore_script};
+use smp_script::Watched;
+use std::alloc::Global;
+use std::test::*;
+
+// What is told of two sends by these orders, and the status of the program.
+fn told(alloc: Global, orders: Orders) -> Result<(Vec<u8, Global>, u8), SmpError> {
+    let text = b"smp 1 explore\ncpus 2 0-1\ncpu 0 send 1\ncpu 1 send 0\n".as_slice();
+    let mut reader = Watched::new(text);
+    let mut writer = Watched::new(Vec::new(alloc));
+    let task = Task::Judge(orders);
+    let ending = explore_script(alloc, task, &mut reader, &mut writer, &mut Unwatched)?;
+    Ok((writer.into_inner(), status_of(Ok(Answer::Explored(ending)))))
+}
+
+// There are 4 states, of 448 bytes and more each. Where both limits are met that of the states is told.
+#[test]
+fn which_limit(rt: HostRuntime) -> Result<(), Fail> {
+    let cases: [(usize, usize, &[u8], u8); 6] = [
+        (
+            4,
+            1_048_576,
+            b"goes holds, 4 states, 4 steps, 2 deep\n".as_slice(),
+            0,
+        ),
+        (
+            4,
+            usize::MAX,
+            b"goes holds, 4 states, 4 steps, 2 deep\n".as_slice(),
+            0,
+        ),
+        (3, usize::MAX, b"goes limit\n".as_slice(), 2),
+        (4, 1024, b"goes limit of memory\n".as_slice(), 2),
+        (0, 0, b"goes limit\n".as_slice(), 2),
+        (1, 0, b"goes limit of memory\n".as_slice(), 2),
+    ];
+    for (states, bytes, wanted, status) in cases {
+        let (text, ended) = told(rt.alloc(), Orders::All(Most { states, bytes }))?;
+        assert_eq!(rt; text.as_slice(), wanted);
+        assert_eq!(rt; ended, status);
+    }
+    Ok(())
+}
+
+// A send is one step that others see, so merged moves are the single steps.
+#[test]
+fn merged_moves_of_two_sends(rt: HostRuntime) -> Result<(), Fail> {
+    let most = Most {
+        states: 4,
+        bytes: usize::MAX,
+    };
+    let (text, ended) = told(rt.alloc(), Orders::Merged(most))?;
+    assert_eq!(rt;
+        text.as_slice(),
+        b"goes holds, 4 merged, 4 moves, 2 deep\n".as_slice()
+    );
+    assert_eq!(rt; ended, 0);
+    Ok(())
+}
+
+// What is printed of the outcomes of two sends, where at most this many states are kept, and the status.
+fn outcomes_of(rt: &HostRuntime, states: usize, scripts: Scripts<'_>) -> (Vec<u8, Global>, u8) {
+    let text = b"smp 1 explore\ncpus 2 0-1\ncpu 0 send 1\ncpu 1 send 0\n".as_slice();
+    let bytes = usize::MAX;
+    let question = Question {
+        names: &["intr.0"],
+        most: Most { states, bytes },
+        scripts,
+    };
+    let mut writer = Watched::new(Vec::new(rt.alloc()));
+    let done = print_outcomes(rt, &question, text, &mut writer);
+    let status = status_of(done.map(|e| Answer::Explored(e)));
+    (writer.into_inner(), status)
+}
+
+// There are 4 states, and one outcome. Where its script alone is asked for, standard error has the line of a limit.
+#[test]
+fn outcomes_of_two_sends(rt: HostRuntime) {
+    let all = b"outcome 1: intr.0 1, 1 final state, 2 steps\n1 outcome, 4 states\n".as_slice();
+    let script =
+        b"smp 1 replay\ncpus 2 0-1\nstart 0 send 1\nstep 0 1\nstart 1 send 0\nstep 1 1\n".as_slice();
+    let cases: [(usize, Scripts<'_>, &[u8], u8); 5] = [
+        (4, Scripts::Behind, all, 0),
+        (4, Scripts::Only(1), script, 0),
+        (4, Scripts::Only(2), b"".as_slice(), 2),
+        (3, Scripts::Behind, b"outcomes limit\n".as_slice(), 2),
+        (3, Scripts::Only(1), b"".as_slice(), 2),
+    ];
+    for (states, scripts, wanted, status) in cases {
+        let (text, ended) = outcomes_of(&rt, states, scripts);
+        assert_eq!(rt; text.as_slice(), wanted);
+        assert_eq!(rt; ended, status);
+    }
+}

@@ -1,0 +1,147 @@
+//! Words of the command line, and what they ask for.
+
+use clap::error::ErrorKind;
+use commands::arguments::Job;
+use commands::read_words;
+use commands::searches::Scripts;
+use explore::Most;
+use smp_report::Orders;
+use std::alloc::Global;
+use std::test::*;
+
+// What these words are refused as; none where they are taken.
+fn refused(alloc: Global, words: &[&str]) -> Option<ErrorKind> {
+    read_words(alloc, words).err().map(|e| e.kind())
+}
+
+#[test]
+fn words_that_are_none_of_this_program(rt: HostRuntime) {
+    let cases: [(&[&str], ErrorKind); 26] = [
+        (&["smp"], ErrorKind::MissingSubcommand),
+        (&["smp", "jump"], ErrorKind::InvalidSubcommand),
+        (&["smp", "lanes", "one", "two"], ErrorKind::UnknownArgument),
+        (
+            &["smp", "explain", "--states", "9"],
+            ErrorKind::UnknownArgument,
+        ),
+        (
+            &["smp", "explore", "one", "two"],
+            ErrorKind::UnknownArgument,
+        ),
+        (
+            &["smp", "explore", "--stats", "9"],
+            ErrorKind::UnknownArgument,
+        ),
+        (
+            &["smp", "explore", "--states", "many"],
+            ErrorKind::ValueValidation,
+        ),
+        (
+            &["smp", "explore", "--states", "0"],
+            ErrorKind::ValueValidation,
+        ),
+        (
+            &["smp", "explore", "--states", "4294967296"],
+            ErrorKind::ValueValidation,
+        ),
+        (
+            &["smp", "explore", "--memory", "many"],
+            ErrorKind::ValueValidation,
+        ),
+        (
+            &["smp", "explore", "--memory", "0"],
+            ErrorKind::ValueValidation,
+        ),
+        (
+            &["smp", "explore", "--memory", "4294967296"],
+            ErrorKind::ValueValidation,
+        ),
+        (
+            &["smp", "explore", "--seed", "1"],
+            ErrorKind::UnknownArgument,
+        ),
+        (
+            &["smp", "explore", "--states", "5", "--states", "6"],
+            ErrorKind::ArgumentConflict,
+        ),
+        (
+            &["smp", "sample", "--memory", "64"],
+            ErrorKind::UnknownArgument,
+        ),
+        (
+            &["smp", "sample", "--runs", "0"],
+            ErrorKind::ValueValidation,
+        ),
+        (
+            &["smp", "sample", "--steps", "0"],
+            ErrorKind::ValueValidation,
+        ),
+        (
+            &["smp", "sample", "--seed", "18446744073709551616"],
+            ErrorKind::ValueValidation,
+        ),
+        (
+            &["smp", "script", "--runs", "7"],
+            ErrorKind::UnknownArgument,
+        ),
+        (
+            &["smp", "script", "--run", "4294967296"],
+            ErrorKind::ValueValidation,
+        ),
+        (&["smp", "check", "one"], ErrorKind::MissingRequiredArgument),
+        (&["smp", "check", "-", "-"], ErrorKind::ValueValidation),
+        (&["smp", "--help"], ErrorKind::DisplayHelp),
+        (&["smp", "svg", "-h"], ErrorKind::DisplayHelp),
+        (&["smp", "--version"], ErrorKind::DisplayVersion),
+        (&["smp", "judge", "-V"], ErrorKind::DisplayVersion),
+    ];
+    for (words, kind) in cases {
+        assert_eq!(rt; refused(rt.alloc(), words), Some(kind));
+    }
+}
+
+// The file that these words name, where they are taken: none for standard input.
+fn file_of<'a>(alloc: Global, words: &'a [&'a str]) -> Result<Option<&'a str>, ErrorKind> {
+    match read_words(alloc, words) {
+        Ok(request) => Ok(request.file),
+        Err(error) => Err(error.kind()),
+    }
+}
+
+#[test]
+fn from_a_file_or_standard_input(rt: HostRuntime) {
+    for name in [
+        "lanes", "svg", "explain", "explore", "sample", "script", "events", "judge",
+    ] {
+        assert_eq!(rt;
+            file_of(rt.alloc(), &["smp", name, "file"]),
+            Ok(Some("file"))
+        );
+        assert_eq!(rt; file_of(rt.alloc(), &["smp", name, "-"]), Ok(None));
+        assert_eq!(rt; file_of(rt.alloc(), &["smp", name]), Ok(None));
+    }
+}
+
+// Whether these words ask for an exploration by these orders.
+fn is_asked(alloc: Global, words: &[&str], orders: Orders) -> bool {
+    match read_words(alloc, words) {
+        Ok(request) => request.job == Job::Explore(orders, Scripts::Behind),
+        Err(_) => false,
+    }
+}
+
+#[test]
+fn merged_moves_only_where_they_are_asked_for(rt: HostRuntime) {
+    let most = Most {
+        states: 100_000,
+        bytes: usize::MAX,
+    };
+    assert!(rt; is_asked(rt.alloc(), &["smp", "explore"], Orders::All(most)));
+    assert!(rt;
+        is_asked(
+            rt.alloc(),
+            &["smp", "explore", "--merge"],
+            Orders::Merged(most)
+        )
+    );
+}

@@ -1,5 +1,0 @@
-use Rattle.smp_event_laws.proofs.Texts.{accepted_are_traces}
-use Rattle.smp_event_laws.proofs.laws.accepted_texts_are_traces.Goals as goal
-
-pub returns : goal.returns
-returns c = accepted_are_traces

@@ -1,5 +1,0 @@
-use Rattle.smp_event_laws.proofs.Traces.{begin_in_order}
-use Rattle.smp_event_laws.proofs.laws.calls_begin_in_order.Goals as goal
-
-pub returns : goal.returns
-returns c = begin_in_order

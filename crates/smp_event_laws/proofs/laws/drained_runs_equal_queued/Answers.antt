@@ -1,9 +1,0 @@
-use Rattle.smp_event_laws.proofs.Drained.{drained_equals}
-use Rattle.smp_event_laws.proofs.Traces.{counts_are}
-use Rattle.smp_event_laws.proofs.laws.drained_runs_equal_queued.Goals as goal
-
-pub returns-clause-counts : goal.returns-clause-counts
-returns-clause-counts c = counts_are
-
-pub returns-clause-drained : goal.returns-clause-drained
-returns-clause-drained c = drained_equals

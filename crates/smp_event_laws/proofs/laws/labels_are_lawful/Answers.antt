@@ -1,8 +1,0 @@
-use Rattle.smp_event_laws.proofs.Lawful.{labels_are_lawful, reads_are_lawful}
-use Rattle.smp_event_laws.proofs.laws.labels_are_lawful.Goals as goal
-
-pub returns-clause-outside : goal.returns-clause-outside
-returns-clause-outside c = labels_are_lawful
-
-pub returns-clause-read : goal.returns-clause-read
-returns-clause-read c = reads_are_lawful

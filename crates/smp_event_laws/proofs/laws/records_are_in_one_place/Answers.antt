@@ -1,9 +1,0 @@
-use Rattle.smp_event_laws.proofs.Placed.{in_one_place}
-use Rattle.smp_event_laws.proofs.Turns.{records_take_turns}
-use Rattle.smp_event_laws.proofs.laws.records_are_in_one_place.Goals as goal
-
-pub returns-clause-turns : goal.returns-clause-turns
-returns-clause-turns c = records_take_turns
-
-pub returns-clause-place : goal.returns-clause-place
-returns-clause-place c = in_one_place

@@ -1,6 +1,0 @@
-use Rattle.std.proofs.Common.{arith}
-use Rattle.smp_event_steps.proofs.Opened.{free_all}
-use Rattle.smp_event_steps.proofs.open.free_places.Goals as goal
-
-pub returns : goal.returns
-returns g c = free_all _ c.loop-id._id 65536 c.loop-id.invariant (omega arith) (omega arith)

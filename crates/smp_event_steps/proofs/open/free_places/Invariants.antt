@@ -1,7 +1,0 @@
--- So many have been made.
-use Rattle.std.proofs.Common.{◌≡◌, replicate}
-use Rattle.smp_event_steps.specs.declared.call.Place.TheVariants.{Free}
-use Rattle.smp_event_steps.proofs.open.free_places.Given as goal
-
-abbrev pub invariant-loop-id : goal.invariant-loop-id
-invariant-loop-id g l = l.places.items ≡ replicate l._id Free

@@ -1,7 +1,0 @@
--- So many have been made.
-use Rattle.std.proofs.Common.{◌≡◌, replicate}
-use Rattle.smp_event_steps.specs.Cpu.{fresh_cpu}
-use Rattle.smp_event_steps.proofs.open.fresh_cpus.Given as goal
-
-abbrev pub invariant-loop-cpu : goal.invariant-loop-cpu
-invariant-loop-cpu g l = l.cpus.items ≡ replicate l._cpu fresh_cpu

@@ -1,8 +1,0 @@
--- None of the CPUs that were tried passes.
-use Rattle.std.proofs.Common.{◌≡◌, ◌-◌}
-use Rattle.smp_mask.specs.Mask.{has}
-use Rattle.smp_event_steps.specs.Stop.{first_from, first_of}
-use Rattle.smp_event_steps.proofs.stop.first_of.Given as goal
-
-abbrev pub invariant-loop-cpu : goal.invariant-loop-cpu
-invariant-loop-cpu l = first_from (λ c. has l.mask c) l.cpu (32 - l.cpu) ≡ first_of l.mask

@@ -1,9 +1,0 @@
--- Where a record is.
-use Rattle.std.specs.Prelude.{ℕ, Bool, false, ◌==◌}
-use Rattle.smp_event_steps.specs.declared.call.Place.{Place}
-use Rattle.smp_event_steps.specs.declared.call.Place.TheVariants.{Batch}
-
--- it is in the batch of a CPU
-abbrev pub is_batch : Place → ℕ → Bool
-is_batch (Batch d) cpu = d == cpu
-is_batch _ cpu = false

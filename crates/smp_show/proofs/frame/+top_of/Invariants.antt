@@ -1,5 +1,0 @@
-use Rattle.std.proofs.Common.{length}
-use Rattle.smp_show.proofs.frame.+top_of.Given as goal
-
-abbrev pub decreases-top_of : goal.decreases-top_of
-decreases-top_of l = length l.lanes.now

@@ -1,0 +1,8 @@
+-- One thing done after another, up to the first fault.
+use Rattle.std.specs.Prelude.{Result, Ok, Err}
+
+-- the first, and then what follows from it; where the first is at fault, its fault
+infixl 10 ◌>>=◌
+abbrev pub ◌>>=◌ : {A B E : Type 0} → Result A E → (A → Result B E) → Result B E
+(Ok x) >>= f = f x
+(Err e) >>= f = Err e

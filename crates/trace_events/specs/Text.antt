@@ -1,0 +1,108 @@
+-- The lines of events, as a trace has them.
+use Rattle.std.specs.Prelude.{ℕ, Bool, true, false, ◌==◌, if◌then◌else◌, List, [], ◌∷◌, ◌++◌, codes}
+use Rattle.std.specs.Fmt.{decimal, signed_decimal}
+use Rattle.std.specs.List.{flat_map}
+use Rattle.smp_mask.specs.ListText.{list_text}
+use Rattle.trace_model.specs.declared.event.CallEvent.{CallEvent}
+use Rattle.trace_model.specs.declared.event.CallEvent.TheVariants as calls
+use Rattle.trace_model.specs.declared.event.Event.{Event}
+use Rattle.trace_model.specs.declared.event.Event.TheVariants as event
+use Rattle.trace_model.specs.declared.event.LabelEvent.{LabelEvent}
+use Rattle.trace_model.specs.declared.event.LabelEvent.TheVariants as labels
+use Rattle.trace_model.specs.declared.event.StopEvent.{StopEvent}
+use Rattle.trace_model.specs.declared.event.StopEvent.TheVariants as stops
+use Rattle.trace_model.specs.declared.stop.Task.{Task}
+use Rattle.smp_words.specs.declared.call.Class.{Class}
+use Rattle.smp_words.specs.declared.call.Class.TheVariants.{Sync, Async}
+use Rattle.smp_words.specs.declared.work.Kind.{Kind}
+use Rattle.smp_words.specs.declared.work.Kind.TheVariants as kinds
+use Rattle.trace_events.specs.Told.{events_in}
+use Rattle.trace_events.specs.declared.told.Told.{Told}
+
+-- names
+abbrev pub class_text : Class → List ℕ
+class_text Sync = codes "sync"
+class_text Async = codes "async"
+
+abbrev pub kind_text : Kind → List ℕ
+kind_text kinds.One = codes "one"
+kind_text kinds.Multi = codes "multi"
+kind_text kinds.Patch = codes "patch"
+
+abbrev pub site_text : Bool → List ℕ
+site_text true = codes "JMP"
+site_text false = codes "NOP"
+
+abbrev pub switch_text : Bool → List ℕ
+switch_text true = codes "on"
+switch_text false = codes "off"
+
+abbrev pub way_text : Bool → List ℕ
+way_text true = codes "up"
+way_text false = codes "down"
+
+-- a mask as a CPU list, `-` where it is empty
+abbrev pub mask_text : ℕ → List ℕ
+mask_text mask = if mask == 0 then codes "-" else list_text mask
+
+-- `queue R D CLASS FUNC INFO`
+abbrev pub queue_text : ℕ → ℕ → Class → ℕ → ℕ → List ℕ
+queue_text id to class func info =
+    codes "queue " ++ decimal id ++ codes " " ++ decimal to ++ codes " " ++ class_text class ++ codes " " ++ decimal func ++ codes " " ++ decimal info
+
+-- an event of calls
+abbrev pub call_text : CallEvent → List ℕ
+call_text (calls.Queue id to class func info) = queue_text id to class func info
+call_text (calls.Free id) = codes "free " ++ decimal id
+call_text (calls.Send to) = codes "send " ++ decimal to
+call_text calls.Accept = codes "accept"
+call_text calls.Idle = codes "idle"
+call_text calls.Take = codes "take"
+call_text (calls.Unlock id) = codes "unlock " ++ decimal id
+call_text (calls.Begin id func info) = codes "begin " ++ decimal id ++ codes " " ++ decimal func ++ codes " " ++ decimal info
+call_text (calls.End id) = codes "end " ++ decimal id
+
+-- `open KIND MASK ACTIVE FUNC ARG`
+abbrev pub open_text : Task → List ℕ
+open_text t =
+    codes "open " ++ kind_text t.kind ++ codes " " ++ mask_text t.mask ++ codes " " ++ mask_text t.active ++
+    codes " " ++ decimal t.func ++ codes " " ++ decimal t.arg
+
+-- an event of stops
+abbrev pub stop_text : StopEvent → List ℕ
+stop_text stops.Gate = codes "gate"
+stop_text stops.Ungate = codes "ungate"
+stop_text (stops.Open task) = open_text task
+stop_text (stops.Enter source) = codes "enter " ++ decimal source
+stop_text (stops.Ack phase) = codes "ack " ++ decimal phase
+stop_text (stops.Raise phase) = codes "raise " ++ decimal phase
+stop_text stops.Off = codes "off"
+stop_text stops.On = codes "on"
+stop_text (stops.Run func arg) = codes "run " ++ decimal func ++ codes " " ++ decimal arg
+stop_text (stops.Complete answer) = codes "complete " ++ signed_decimal answer
+stop_text (stops.Collect answer) = codes "collect " ++ signed_decimal answer
+
+-- a number and a name behind the name of an event
+abbrev pub named_text : List ℕ → ℕ → List ℕ → List ℕ
+named_text event number name = event ++ codes " " ++ decimal number ++ codes " " ++ name
+
+-- an event of keys and sites
+abbrev pub label_text : LabelEvent → List ℕ
+label_text (labels.Set key count) = codes "set " ++ decimal key ++ codes " " ++ decimal count
+label_text (labels.Turn site jumps) = named_text (codes "turn") site (site_text jumps)
+label_text (labels.Key key on) = named_text (codes "key") key (switch_text on)
+label_text (labels.Site site jumps) = named_text (codes "site") site (site_text jumps)
+label_text (labels.Nudge key up) = named_text (codes "nudge") key (way_text up)
+
+abbrev pub event_text : Event → List ℕ
+event_text (event.Call call) = call_text call
+event_text (event.Stop stop) = stop_text stop
+event_text (event.Label label) = label_text label
+
+-- the line of an event of a CPU
+abbrev pub line_text : ℕ → Event → List ℕ
+line_text cpu e = decimal cpu ++ codes " " ++ event_text e ++ 10 ∷ []
+
+-- the lines of what a step of a CPU tells
+abbrev pub told_text : ℕ → Told → List ℕ
+told_text cpu told = flat_map (line_text cpu) (events_in told)

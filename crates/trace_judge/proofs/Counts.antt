@@ -1,0 +1,13 @@
+-- Lists of arguments that are too long.
+use Rattle.std.proofs.Common.{◌≡◌, ◌<◌, List, [], ◌∷◌, map, length, Err, refl, arith, ℕ}
+use Rattle.smp_mask.specs.declared.error.Cause.TheVariants.{Word}
+use Rattle.trace_model.specs.declared.without.Setting.{Setting}
+use Rattle.trace_judge.specs.Reading.{short_of}
+
+-- no event but `queue` and `open` has more than three
+pub too_many : {X : Type 0} (f : X → List ℕ) (u : Setting) (name : List ℕ) (xs : List X) → 3 < length xs → Err Word ≡ short_of u name (map f xs)
+too_many f u name [] h = absurd (omega arith)
+too_many f u name (a ∷ []) h = absurd (omega arith)
+too_many f u name (a ∷ b ∷ []) h = absurd (omega arith)
+too_many f u name (a ∷ b ∷ c ∷ []) h = absurd (omega arith)
+too_many f u name (a ∷ b ∷ c ∷ d ∷ xs) h = refl

@@ -1,0 +1,7 @@
+-- So much is written.
+use Rattle.std.proofs.Common.{◌≡◌, ◌++◌, string_bytes}
+use Rattle.trace_judge.specs.Text.{stop_text, texts_below}
+use Rattle.trace_judge.proofs.text.write_stops.Given as goal
+
+abbrev pub invariant-loop-source : goal.invariant-loop-source
+invariant-loop-source g l = string_bytes l.out ≡ string_bytes l.initial.out ++ texts_below (stop_text l.state) l.source

@@ -1,0 +1,64 @@
+//! The laws of calls, of stops and of labels. They hold of every trace that the model accepts: of events that lead from a state
+//! in which nothing has happened to another. Each law is said over what the events show. These functions do nothing.
+
+ghost use Rattle.trace_laws.specs.Drained.{DrainedEquals};
+ghost use Rattle.trace_laws.specs.Lawful.{LabelsAreLawful, ReadsAreLawful};
+ghost use Rattle.trace_laws.specs.Places.{InOnePlace};
+ghost use Rattle.trace_laws.specs.Rounds.{FunctionsRunAtRun, PatchesStoreAtRun};
+ghost use Rattle.trace_laws.specs.Texts.{AcceptedAreTraces};
+ghost use Rattle.trace_laws.specs.Traces.{BeginInOrder, BeginOnce, CountsAre, EndOnce, OfEachTrace, IsTrace};
+ghost use Rattle.trace_laws.specs.Turns.{RecordsTakeTurns};
+ghost use Rattle.trace_model.specs.declared.event.Event.{Event};
+ghost use Rattle.trace_model.specs.declared.without.Setting.{Setting};
+ghost use Rattle.trace_model.specs.State.{StateValue};
+ghost use Rattle.smp_labels.specs.declared.words.LabelWords.{LabelWords};
+ghost use Rattle.std.specs.Prelude.{ℕ, List};
+
+/// A text that the judge accepts is a trace, to which the laws below apply: the lines behind its head tell events that lead to the
+/// state of the verdict, and its labels are lawful at first.
+pub fn accepted_texts_are_traces()
+    ensures { AcceptedAreTraces }
+{}
+
+/// A call begins at most once, on the CPU that it was queued for, with its record, function and argument: what a CPU's `begin`
+/// events tell, with the calls that it still holds, are the calls that were queued for it, in some order. And it ends at most
+/// once: the records of a CPU's `begin` events are those of its `end` events, in that order, and that of the call that runs.
+pub fn calls_run_once()
+    ensures begin { OfEachTrace BeginOnce }
+    ensures end { OfEachTrace EndOnce }
+{}
+
+/// Calls begin in the order of the queues that a CPU takes: at each `take` the calls that were queued since the one before,
+/// SYNC ones first, each class as it was queued.
+pub fn calls_begin_in_order()
+    ensures { OfEachTrace BeginInOrder }
+{}
+
+/// A CPU's counts are those of the events, modulo 2^64. Once all is drained, each call has ended, and for each pair of CPUs the
+/// calls that ran are as many as those that were queued.
+pub fn drained_runs_equal_queued()
+    ensures counts { OfEachTrace CountsAre }
+    ensures drained { OfEachTrace DrainedEquals }
+{}
+
+/// Each record is in one place: it is free, or it is once in one queue, in one batch, or of one call that runs. Where the order and
+/// the unlocks are told, it is queued and unlocked in turn, and seen free only between an unlock and the next call.
+pub fn records_are_in_one_place()
+    ensures turns { RecordsTakeTurns }
+    ensures place { (u : Setting) (words : LabelWords) (es : List (ℕ × Event)) (t : StateValue) → IsTrace u words es t → InOnePlace t }
+{}
+
+/// A function runs once, in the stop that its CPU is in, with the argument that was opened. That of a rendezvous runs only at RUN,
+/// and so a patch stores: the CPU is active and has not acknowledged RUN, and each CPU of the mask is in this stop, has
+/// acknowledged DISABLE_IRQ and not EXIT, has its interrupts off, and runs no call.
+pub fn functions_run_at_run()
+    ensures run { FunctionsRunAtRun }
+    ensures store { PatchesStoreAtRun }
+{}
+
+/// Each site has the kind of its key's state and its branch, but while a patch is at RUN; then all CPUs online are held in its stop.
+/// So a CPU that is online and reads a key or a site finds all of them so, and what it reads is what the events have stored.
+pub fn labels_are_lawful()
+    ensures outside { LabelsAreLawful }
+    ensures read { ReadsAreLawful }
+{}
