@@ -10,9 +10,10 @@ use Rattle.smp_call_steps.specs.Posts.{post_outcome}
 use Rattle.smp_call_steps.specs.Stages.{access_of, outcome_of}
 use Rattle.smp_call_steps.specs.Start.{first_stage}
 use Rattle.smp_call_steps.specs.StepLaws.{OfEachStep, seen_then}
-use Rattle.smp_call_steps.specs.Names.{Word, Head, Intr, Hand, Flags, Access, Load, Store, Note, Posting, PostStage, Stage, Post}
+use Rattle.smp_call_steps.specs.Names.{Word, Head, Intr, Hand, Flags, Access, Load, Store, Note, Posting, PostStage, Stage, Send, Done, Post, Handle}
 use Rattle.smp_call_steps.specs.Names.note
 use Rattle.smp_call_steps.specs.Names.post
+use Rattle.smp_call_steps.specs.Names.handle
 
 -- the posting of a post: by the source's record of that number, to that CPU, with that class, function, info and tries
 abbrev pub IsPostingOf : ℕ → ℕ → Command → Posting → Type 0
@@ -20,10 +21,15 @@ IsPostingOf online cpu (command.Post k to class func info tries) p = (p.id ≡ r
     × ((p.class ≡ class) × ((p.func ≡ func) × ((p.info ≡ info) × (p.tries ≡ tries))))))
 IsPostingOf online cpu _ p = ⊥
 
--- a post begins with the posting that it names
-abbrev pub BeginsPosting : ℕ → ℕ → Command → Option Stage → Type 0
-BeginsPosting online cpu command (Some (Post p stage)) = IsPostingOf online cpu command p
-BeginsPosting online cpu command _ = Unit {0}
+-- Where a command begins: a post with the load of its record's flags, as a posting of just its numbers; a send, a question
+-- and a handling with their first steps. A command of the other half begins nowhere here.
+abbrev pub BeginsAs : ℕ → ℕ → Command → Option Stage → Type 0
+BeginsAs online cpu (command.Post k to class func info tries) first =
+    (p : Posting) × (first ≡ Some (Post p post.LoadFlags)) × IsPostingOf online cpu (command.Post k to class func info tries) p
+BeginsAs online cpu (command.Send to) first = first ≡ Some (Send to)
+BeginsAs online cpu (command.Done k) first = first ≡ Some (Done (record_of cpu k))
+BeginsAs online cpu command.Handle first = first ≡ Some (Handle handle.Enter)
+BeginsAs online cpu _ first = first ≡ None
 
 -- the first access of a command is to the word that it names
 abbrev pub FirstAccess : ℕ → Command → Access → Type 0
@@ -40,7 +46,7 @@ BeginsAt cpu command (Some stage) = (at : Word → ℕ) → FirstAccess cpu comm
 
 abbrev pub CommandsBeginSo : Type 0
 CommandsBeginSo = (online cpu : ℕ) (command : Command) → let first = first_stage online cpu command in
-    BeginsAt cpu command first × BeginsPosting online cpu command first
+    BeginsAt cpu command first × BeginsAs online cpu command first
 
 -- a post stays the same post until it ends
 abbrev pub IsOfPost : Posting → Option Stage → Type 0

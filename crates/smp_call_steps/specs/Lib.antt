@@ -32,8 +32,10 @@ pub mod Premises
 pub mod Notes
 pub mod Tries
 pub mod StepLaws
--- what a command takes from its arguments, and what it is refused for
+-- what a command takes from its arguments, how it ends, which words it touches in which order, and what it is refused for
 pub mod Begins
+pub mod Endings
+pub mod Touches
 pub mod Refusals
 pub mod Drained
 -- the laws

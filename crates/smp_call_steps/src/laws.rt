@@ -107,6 +107,8 @@ pub fn confirmed_calls_have_run()
 ghost use Rattle.smp_call_steps.specs.StepLaws.{OfEachStep, IsPremised, KeepsRecords, KeepsFunctions, KeepsQueues, NoteHolds, TriesGoOn};
 ghost use Rattle.smp_call_steps.specs.StepLaws.{KnownStepsKeepLaws};
 ghost use Rattle.smp_call_steps.specs.Begins.{CommandsBeginSo, PostsStay, PostsQueueTheirCalls, PostsTryAsOften, NotesEndCommands};
+ghost use Rattle.smp_call_steps.specs.Endings.{CommandsEndSo, NotesAreOfTheFound, IdleWithoutInterrupt};
+ghost use Rattle.smp_call_steps.specs.Touches.{WordsInOrder};
 ghost use Rattle.smp_call_steps.specs.Refusals.{RefusalsAreOfTheNumbers};
 ghost use Rattle.smp_call_steps.specs.Drained.{DrainedRunsAll, QueuesAreShort};
 
@@ -163,7 +165,8 @@ pub fn refusals_are_of_the_numbers()
     ensures { RefusalsAreOfTheNumbers }
 {}
 
-/// The first step of a command is to the word that the command names, and a post has the numbers of its command.
+/// The first step of a command is to the word that the command names. A post begins with the load of its record's flags, and
+/// its posting has just the numbers of the command.
 pub fn commands_begin_so()
     ensures { CommandsBeginSo }
 {}
@@ -182,6 +185,24 @@ pub fn posts_try_as_often()
 /// The step that ends a command has a note. No other step has one, but that with which a call begins to run.
 pub fn notes_end_commands()
     ensures { NotesEndCommands }
+{}
+
+/// A command ends at these stages, by what was found there, and at no other; everywhere else a step of the same command
+/// follows. So a post that finds its record locked ends, and so does one whose tries are used up.
+pub fn commands_end_so()
+    ensures { CommandsEndSo }
+{}
+
+/// The note of a step says what the step has found: `busy` and `locked` a locked record, `nocpu` a CPU that is not online,
+/// `owed` an empty queue. `idle` is said only by a handling that found no interrupt.
+pub fn notes_are_of_the_found()
+    ensures says { NotesAreOfTheFound }
+    ensures idle { IdleWithoutInterrupt }
+{}
+
+/// The steps of a command touch their words in one order, whatever these hold.
+pub fn words_are_touched_in_order()
+    ensures { WordsInOrder }
 {}
 
 /// On a drained machine the calls that have run are the calls that were queued, for each source and CPU.

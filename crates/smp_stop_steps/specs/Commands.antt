@@ -5,9 +5,13 @@ use Rattle.smp_words.specs.declared.word.Word.TheVariants.{Gate, Slot, Key, Site
 use Rattle.smp_words.specs.{Access.word_of, Kinds.kind_word, declared.access.Access.Access, declared.command.Command.Command, declared.field.Field.Field}
 use Rattle.smp_words.specs.{declared.seen.Note.Note, declared.work.Kind.TheVariants.One, declared.work.Work.Work}
 use Rattle.smp_stop_steps.specs.{Counts.mask_weight, Promises.OfEachCpu, Stages.StopControlValue, Stages.stop_access, Stages.stop_outcome, Start.stop_first}
-use Rattle.smp_stop_steps.specs.{Steps.state_after, declared.stage.StopStage.StopStage, declared.stage.StopStage.TheVariants.Begin}
-use Rattle.smp_stop_steps.specs.{declared.stage.StopStage.TheVariants.NudgeKey, declared.stage.StopStage.TheVariants.ExchangeKey, declared.stage.Visit.Visit}
+use Rattle.smp_stop_steps.specs.{Steps.state_after, declared.stage.StopStage.StopStage, declared.stage.Visit.Visit}
+use Rattle.smp_stop_steps.specs.declared.stage.StopStage.TheVariants.{TakeGate, OpenGate, Begin, Enter, Advance, Complete, LoadDone, ReadKey, ReadSite}
+use Rattle.smp_stop_steps.specs.declared.stage.StopStage.TheVariants.{NudgeKey, ExchangeKey}
+use Rattle.std.specs.Int.{w32, cast_unsigned}
 use Rattle.smp_words.specs.declared.command.Command.TheVariants as command
+use Rattle.smp_stop_steps.specs.declared.stage.RoundStage.TheVariants as round
+use Rattle.smp_stop_steps.specs.declared.stage.CompletionStage.TheVariants as completion
 use Rattle.smp_words.specs.declared.field.Field.TheVariants as field
 use Rattle.smp_words.specs.declared.seen.Note.TheVariants as note
 
@@ -31,15 +35,26 @@ abbrev pub BeginsAt : ℕ → StopControlValue → Command → Option StopStage 
 BeginsAt cpu c command None = Unit {0}
 BeginsAt cpu c command (Some stage) = (n : ℕ) → FirstAccess cpu c.visit command (stop_access n cpu c.changes stage)
 
--- a begin and a nudge begin with the work, and the key and the way, of the command
-abbrev pub BeginsWhat : Command → Option StopStage → Type 0
-BeginsWhat (command.Begin work) first = first ≡ Some (Begin work field.Kind)
-BeginsWhat (command.Nudge k up) first = first ≡ Some (NudgeKey k up)
-BeginsWhat _ first = Unit {0}
+-- A command begins with its own first step, and with its own numbers: a turn with a look, a completion with the store of its answer
+-- where that is not 0. A command of the other half begins nowhere here.
+abbrev pub BeginsWhat : Option Visit → Command → Option StopStage → Type 0
+BeginsWhat visit command.Gate first = first ≡ Some TakeGate
+BeginsWhat visit command.Ungate first = first ≡ Some OpenGate
+BeginsWhat visit (command.Begin work) first = first ≡ Some (Begin work field.Kind)
+BeginsWhat visit (command.Enter slot) first = first ≡ Some (Enter slot)
+BeginsWhat (Some v) (command.Advance answer) first = first ≡ Some (Advance v (round.Look (cast_unsigned w32 answer)))
+BeginsWhat (Some v) (command.RunOne answer) first = first ≡ Some (Complete v (completion.LoadFunc (cast_unsigned w32 answer)))
+BeginsWhat (Some v) command.Finish first = (v.answer ≡ 0 → first ≡ Some (Complete v completion.CountDown)) ×
+    (v.answer ≢ 0 → first ≡ Some (Complete v completion.StoreAnswer))
+BeginsWhat visit command.Poll first = first ≡ Some LoadDone
+BeginsWhat visit (command.Key k) first = first ≡ Some (ReadKey k)
+BeginsWhat visit (command.Site i) first = first ≡ Some (ReadSite i)
+BeginsWhat visit (command.Nudge k up) first = first ≡ Some (NudgeKey k up)
+BeginsWhat visit _ first = first ≡ None
 
 abbrev pub CommandsBeginSo : Type 0
 CommandsBeginSo = (cpu : ℕ) (c : StopControlValue) (command : Command) → let first = stop_first c command in
-    BeginsAt cpu c command first × BeginsWhat command first
+    BeginsAt cpu c command first × BeginsWhat c.visit command first
 
 -- what a begin of this work stores in each field, where there are n CPUs
 abbrev pub Stores : ℕ → Work → Field → ℕ → Type 0

@@ -45,6 +45,8 @@ pub mod Start
 pub mod Refusals
 pub mod Members
 pub mod Commands
+pub mod Endings
+pub mod Touches
 pub mod StepLaws
 pub mod KnownLaws
 pub mod Kept

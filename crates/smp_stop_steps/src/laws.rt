@@ -253,8 +253,8 @@ pub fn known_steps_count()
 ghost use Rattle.smp_stop_steps.specs.Commands.{CommandsBeginSo, BeginsStoreTheWork, WorksAreBegun, NudgesGoSo, NotesEndCommands};
 ghost use Rattle.smp_stop_steps.specs.Commands.{InterruptsGoOffAtDisable};
 
-/// The first step of a command is to the word that the command names: the gate, the own slot, the slot of the stop that the
-/// CPU is in, the key or the site.
+/// The first step of a command is its own, and to the word that the command names: the gate, the own slot, the slot of the
+/// stop that the CPU is in, the key or the site.
 pub fn commands_begin_so()
     ensures { CommandsBeginSo }
 {}
@@ -274,6 +274,29 @@ pub fn nudges_go_so()
 /// The step that ends a command has a note. No other step has one, but that after which a function runs.
 pub fn notes_end_commands()
     ensures { NotesEndCommands }
+{}
+
+ghost use Rattle.smp_stop_steps.specs.Endings.{CommandsEndSo, NotesAreOfTheFound, PhasesAreAckedOnce};
+ghost use Rattle.smp_stop_steps.specs.Touches.{WordsInOrder, PatchesInOrder};
+
+/// A command ends at these stages, by what was found there, and at no other; everywhere else a step of the same command
+/// follows. So a gate that is taken ends its command, and so does a poll that finds nothing.
+pub fn commands_end_so()
+    ensures { CommandsEndSo }
+{}
+
+/// The note of a step says what the step has found. A turn says `same` just where it finds again the phase that it has
+/// acknowledged, and `moved` with the phase that it acknowledges now; it acknowledges one phase by its subtraction alone.
+pub fn notes_are_of_the_found()
+    ensures says { NotesAreOfTheFound }
+    ensures phases { PhasesAreAckedOnce }
+{}
+
+/// The steps of a command touch their words in one order. A patch loads its entries before its first store, and stores the
+/// key's word before its sites, which ascend.
+pub fn words_are_touched_in_order()
+    ensures words { WordsInOrder }
+    ensures patches { PatchesInOrder }
 {}
 
 /// A CPU's interrupts go off only by a load that finds `DISABLE_IRQ` in the state word of its stop.
