@@ -3,7 +3,7 @@
  * order, the same waiting, all atomics sequentially consistent. No proof covers this file, and it refuses less.
  *
  *   cc -O2 -pthread -o calls bench/calls.c
- *   ./calls time|count THREADS LIMIT [WORKLOAD]     as crates/load
+ *   ./calls time|count THREADS LIMIT [WORKLOAD]     as `load bench`
  *
  * Other layouts and steps, to see what they cost:
  *   -DAPART=N    head, interrupt and handling words begin N words apart (1: side by side)

@@ -4,7 +4,7 @@
  * covers this file, and it refuses less. No calls are queued here, so a CPU that handles finds no interrupt.
  *
  *   cc -O2 -pthread -o stops bench/stops.c
- *   ./stops time|count THREADS LIMIT [WORKLOAD]     as crates/load
+ *   ./stops time|count THREADS LIMIT [WORKLOAD]     as `load bench`
  *
  *   -DSHIFT=N    the words begin N words after the beginning of a cache line
  */

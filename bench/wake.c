@@ -1,6 +1,6 @@
 /*
  * A wake-up in plain C, to compare times with: one thread asks another, which sleeps where nothing was asked, and polls until
- * it has answered, as `wake` of load. No proof covers this file.
+ * it has answered, as `wake` of `load bench`. No proof covers this file.
  *
  *   cc -O2 -pthread -o wake bench/wake.c
  *   ./wake time|count 2 LIMIT [WORKLOAD]

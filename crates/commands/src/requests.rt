@@ -13,14 +13,15 @@ use crate::status::{Answer, status_of};
 use crate::streams::{Remembering, read_text};
 use crate::tell::{tell, tell_end};
 use explore::Unwatched;
+use explore_text::{Ending, Run, Task, explore_script};
 use smp_mask::SmpError;
-use smp_report::{Ending, Run, Task, explore_script};
 use smp_script::{Outcome, Watched};
 use std::io;
 use std::io::Write;
+use trace_events::show_events;
 use trace_judge::{Ruling, judge_trace};
 use view::text_kind::kind_of;
-use view::{Choice, show_events, show_json, show_lanes, show_svg};
+use view::{Choice, show_json, show_lanes, show_svg};
 
 /// Shows a script.
 fn show<W: Write>(

@@ -4,7 +4,7 @@ ghost use Rattle.std.specs.Prelude.{◌≡◌};
 ghost use Rattle.commands.specs.Status.{status_of};
 
 use crate::failure::Failure;
-use smp_report::Ending;
+use explore_text::Ending;
 use smp_script::Outcome;
 use trace_judge::Ruling;
 

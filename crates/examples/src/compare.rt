@@ -6,16 +6,17 @@ ghost use Rattle.smp_script.specs.Watched.{failed_of};
 
 use crate::kind::Kind;
 use explore::Unwatched;
+use explore_text::explore_script;
 use smp_mask::SmpError;
 use smp_replay::replay_script;
-use smp_report::explore_script;
 use smp_run::{FreePace, run_script};
 use smp_script::Watched;
 use std::alloc::Global;
 use std::sync::Wait;
 use std::thread::Threads;
+use trace_events::show_events;
 use trace_judge::judge_trace;
-use view::{Choice, show_events, show_lanes};
+use view::{Choice, show_lanes};
 
 // Whether these are the same bytes.
 fn are_same(printed: &[u8], expected: &[u8]) -> bool

@@ -1,7 +1,7 @@
 //! How an example is taken.
 
 use explore::Most;
-use smp_report::{Orders, Run, Sample, Task};
+use explore_text::{Orders, Run, Sample, Task};
 
 /// All orders, where there are no more than 10,000 states.
 const ALL: Task = Task::Judge(Orders::All(Most {

@@ -1,4 +1,5 @@
-//! Takes each example of the folder that it is run in, and compares what it prints with what is expected of it.
+//! Makes a search of the program's own. Then it takes each example of the folder that it is run in, and compares what it prints
+//! with what is expected of it.
 //!
 //! An example is a text `NAME.smp`, and `NAME.smp.stdout` is what it prints. `NAME.smp.args` is the word by which it is
 //! taken. The examples are in `data`, so that the gate compares all of them: those of `smp_runner` at its top, and those of
@@ -6,13 +7,16 @@
 //!
 //! - `kind`: How an example is taken.
 //! - `compare`: What an example prints, beside what it is to print.
+//! - `wake_up`: A search through every order in which a CPU falls asleep while others wake it.
 #![tactic(auto)]
 
 mod compare;
 mod kind;
+mod wake_up;
 
 use crate::compare::prints;
 use crate::kind::kind_of;
+use crate::wake_up::print_orders;
 use smp_mask::SmpError;
 use std::fs::{File, read_dir};
 use std::io;
@@ -98,8 +102,9 @@ fn compare_all<T: Threads + Wait + Sync>(
 }
 
 fn main(rt: HostRuntime) -> io::Result<ExitCode> {
+    let searched = print_orders(&rt, rt.alloc())?;
     let runner = compare_all(&rt, &rt, ".", "")?;
     let smp = compare_all(&rt, &rt, "smp", "smp/")?;
-    let all = runner && smp;
+    let all = searched && runner && smp;
     Ok(ExitCode::from(if all { 0 } else { 1 }))
 }

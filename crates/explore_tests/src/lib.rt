@@ -1,4 +1,4 @@
-//! Worked cases of the search, worked explorations, and texts with faults.
+//! Worked cases of the search and of merged moves, worked explorations, and texts with faults.
 #![tactic(auto)]
 
 #[cfg(test)]

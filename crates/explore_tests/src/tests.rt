@@ -1,2 +1,3 @@
+mod merged_moves;
 mod programs;
 mod search;

@@ -1,13 +1,13 @@
-//! Why a workload could not be measured.
+//! Why a load came to no end.
 
 use smp_mask::SmpError;
 use std::alloc::{AllocError, AllocFailed};
 use std::io;
 use thiserror::Error;
 
-/// Why a workload could not be measured.
+/// Why a workload could not be measured, or a torture came to no end.
 #[derive(Debug, Drop, Error)]
-pub enum BenchError {
+pub enum LoadError {
     #[error("{0}")]
     Table(SmpError),
     #[error("no memory")]
@@ -22,26 +22,26 @@ pub enum BenchError {
     NotDrained,
 }
 
-impl From<SmpError> for BenchError {
-    fn from(error: SmpError) -> BenchError {
-        BenchError::Table(error)
+impl From<SmpError> for LoadError {
+    fn from(error: SmpError) -> LoadError {
+        LoadError::Table(error)
     }
 }
 
-impl From<AllocError> for BenchError {
-    fn from(_: AllocError) -> BenchError {
-        BenchError::NoMemory
+impl From<AllocError> for LoadError {
+    fn from(_: AllocError) -> LoadError {
+        LoadError::NoMemory
     }
 }
 
-impl<T: Drop> From<AllocFailed<T>> for BenchError {
-    fn from(_: AllocFailed<T>) -> BenchError {
-        BenchError::NoMemory
+impl<T: Drop> From<AllocFailed<T>> for LoadError {
+    fn from(_: AllocFailed<T>) -> LoadError {
+        LoadError::NoMemory
     }
 }
 
-impl From<io::Error> for BenchError {
-    fn from(_: io::Error) -> BenchError {
-        BenchError::System
+impl From<io::Error> for LoadError {
+    fn from(_: io::Error) -> LoadError {
+        LoadError::System
     }
 }

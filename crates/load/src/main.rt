@@ -1,33 +1,24 @@
-//! Measures cross-processor calls and stops: `load time|count THREADS LIMIT [WORKLOAD]`. `load --help` says more.
+//! Loads the library's machine with calls and stops, by threads: `load bench` measures them, and `load torture` makes them at
+//! random and checks what was heard. `load --help` says more.
 //!
-//! `time` goes on for LIMIT milliseconds and prints for each workload its name, its threads, its operations and the
-//! nanoseconds of one operation: the median over batches, what a tenth of the batches stays below, and the processor's time
-//! of the whole process. `count` makes LIMIT operations and prints the calls that have run in place of the times, so that
-//! it prints the same each time.
+//! - `grammar`, `request`: What the command line may have, and what it asks for.
+//! - `bench`: Workloads, and what is measured of them.
+//! - `torture`: Random work on all CPUs, and what is counted of it.
+//! - `watch`: The thread that tells standard error what goes on.
+//! - `cpus`, `flag`, `error`: What both commands use.
 #![tactic(auto)]
 
-ghost use Rattle.load.specs.Threads.{IsLawful};
-
-mod alone;
-mod batch;
+mod bench;
+mod cpus;
 mod error;
+mod flag;
 mod grammar;
-mod meter;
 mod request;
-mod rest;
-mod samples;
-mod seat;
-mod signs;
-mod stand;
-mod stops;
-mod threads;
+mod torture;
 mod watch;
-mod workload;
 
-use crate::error::BenchError;
-use crate::meter::{Measured, Meter};
-use crate::request::{Limit, Request, read_words};
-use crate::workload::Workload;
+use crate::error::LoadError;
+use crate::request::{Request, read_words};
 use std::alloc::{AllocError, Global};
 use std::process::ExitCode;
 use std::sync::Wait;
@@ -35,102 +26,35 @@ use std::thread::Threads;
 use std::time::{Clock, CpuClock};
 use std::{env, io};
 
-/// Runs a workload of calls on a new table: how many calls have run.
-fn run_calls<R: Wait + Threads + Clock + CpuClock + Eprint + Sync>(
-    rt: &R,
-    alloc: Global,
-    workload: Workload,
-    threads: u32,
-    meter: &mut Meter<R>,
-) -> Result<u64, BenchError>
-    requires { IsLawful threads }
-{
-    match workload {
-        Workload::PostOne => alone::run(alloc, workload, &[10], meter),
-        Workload::PostEight => alone::run(alloc, workload, &[10, 11], meter),
-        _ => threads::run(rt, alloc, workload, threads, meter),
-    }
-}
-
-/// Runs a workload of calls, and measures it.
-fn measure_calls<R: Wait + Threads + Clock + CpuClock + Eprint + Sync>(
-    rt: &R,
-    alloc: Global,
-    workload: Workload,
-    threads: u32,
-    limit: Limit,
-) -> Result<(Measured, u64), BenchError>
-    requires { IsLawful threads }
-{
-    let mut meter = Meter::new(rt, alloc, workload.name(), limit)?;
-    let calls = run_calls(rt, alloc, workload, threads, &mut meter)?;
-    Ok((meter.close()?, calls))
-}
-
-/// Runs a workload on a new table or machine: what was measured, and how many calls or stop functions have run.
-fn run<R: Wait + Threads + Clock + CpuClock + Eprint + Sync>(
-    rt: &R,
-    alloc: Global,
-    workload: Workload,
-    threads: u32,
-    limit: Limit,
-) -> Result<(Measured, u64), BenchError>
-    requires { IsLawful threads }
-{
-    if workload.is_of_calls() {
-        measure_calls(rt, alloc, workload, threads, limit)
-    } else {
-        stops::run(rt, alloc, workload, threads, limit)
-    }
-}
-
-/// Prints the line of a workload: with the calls that have run where operations are counted, else with the times of one.
-fn print_line<R: Print>(
-    rt: &R,
-    workload: Workload,
-    request: &Request,
-    measured: Measured,
-    calls: u64,
-) -> io::Result<()> {
-    let (name, threads) = (workload.name(), workload.threads(request.threads));
-    let Measured {
-        operations,
-        times,
-        used,
-    } = measured;
-    print!(rt; "{name} {threads} {operations}")?;
-    if let Limit::Operations(_) = request.limit {
-        return println!(rt; " {calls}");
-    }
-    for tenths in [times.median, times.lowest_tenth, used] {
-        print!(rt; " {}.{}", tenths / 10, tenths % 10)?;
-    }
-    println!(rt; "")
-}
-
-/// Runs a workload and prints its line.
-fn report<R: Wait + Threads + Clock + CpuClock + Print + Eprint + Sync>(
-    rt: &R,
-    alloc: Global,
-    workload: Workload,
-    request: &Request,
-) -> Result<(), BenchError> {
-    let (measured, calls) = run(rt, alloc, workload, request.threads, request.limit)?;
-    print_line(rt, workload, request, measured, calls)?;
-    Ok(())
-}
-
-fn run_all<R: Wait + Threads + Clock + CpuClock + Print + Eprint + Sync>(
+/// Does what is asked for: whether all counts are right.
+fn do_request<R: Wait + Threads + Clock + CpuClock + Print + Eprint + Sync>(
     rt: &R,
     alloc: Global,
     request: &Request,
-) -> Result<(), BenchError> {
-    for workload in Workload::ALL {
-        if request.asks(workload) {
-            report(rt, alloc, workload, request)?;
+) -> Result<bool, LoadError> {
+    if let Some(asked) = &request.bench {
+        bench::run_all(rt, alloc, asked)?;
+    }
+    match &request.torture {
+        Some(asked) => torture::run(rt, alloc, asked),
+        None => Ok(true),
+    }
+}
+
+/// Does what is asked for, and answers the status. Why it could not be done is said on standard error.
+fn status_of<R: Wait + Threads + Clock + CpuClock + Print + Eprint + Sync>(
+    rt: &R,
+    alloc: Global,
+    request: &Request,
+) -> io::Result<u8> {
+    match do_request(rt, alloc, request) {
+        Ok(true) => Ok(0),
+        Ok(false) => Ok(1),
+        Err(error) => {
+            eprintln!(rt; "load: {error}")?;
+            Ok(2)
         }
     }
-    Ok(())
 }
 
 /// Does what these words of the command line ask for, and answers the status.
@@ -139,18 +63,11 @@ fn do_words<R: Wait + Threads + Clock + CpuClock + Print + Eprint + Sync>(
     alloc: Global,
     words: &[String],
 ) -> io::Result<u8> {
-    let request = match read_words(alloc, words) {
-        Ok(request) => request,
+    match read_words(alloc, words) {
+        Ok(request) => status_of(rt, alloc, &request),
         Err(error) => {
             error.print(rt)?;
-            return Ok(if error.use_stderr() { 2 } else { 0 });
-        }
-    };
-    match run_all(rt, alloc, &request) {
-        Ok(()) => Ok(0),
-        Err(error) => {
-            eprintln!(rt; "load: {error}")?;
-            Ok(2)
+            Ok(if error.use_stderr() { 2 } else { 0 })
         }
     }
 }

@@ -14,3 +14,5 @@ pub mod Readings
 pub mod Text
 -- a run as a whole, and a call of `run_script`
 pub mod Runs
+-- how the program ends
+pub mod Status

@@ -1,4 +1,4 @@
-//! Runs: each CPU of a script on a thread of its own.
+//! Runs: each CPU of a script on a thread of its own. And what the program `smp_runner` does, which replays or runs a script.
 //!
 //! - `script`: A script from a reader, and what its run prints to a writer.
 //! - `run`: A script, from its lines to the text of its answers.
@@ -8,16 +8,20 @@
 //! - `reading`: What a CPU reads of the labels at the end.
 //! - `pace`: What a caller may do inside handlers, and where a CPU ends.
 //! - `text`: The lines of a run's output.
+//! - `command_line`, `runner`, `status`: What the words of `smp_runner` ask for, how that is done, and how the program ends.
 #![tactic(auto)]
 
 pub mod answer;
 mod calls;
+pub mod command_line;
 mod driver;
 mod launch;
 mod pace;
 mod reading;
 mod run;
+pub mod runner;
 mod script;
+pub mod status;
 mod text;
 
 pub use answer::Answer;

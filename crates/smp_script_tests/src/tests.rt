@@ -1,2 +1,3 @@
 mod replays;
+mod runner;
 mod runs;

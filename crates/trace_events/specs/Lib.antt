@@ -4,5 +4,10 @@ pub mod Told
 -- lines
 pub mod Text
 pub mod Front
--- the trace of a replay
+-- the trace of steps
 pub mod Traces
+-- a script's replay, row by row, and its trace
+pub mod Moments
+pub mod Rows
+pub mod Replays
+pub mod ScriptTrace

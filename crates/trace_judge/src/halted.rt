@@ -4,7 +4,7 @@ use smp_mask::Cause;
 use trace_model::{Event, Reason};
 
 /// Why a trace was not judged to its end.
-#[derive(Clone, Copy, Debug, PartialEq, Eq)]
+#[derive(Clone, Copy)]
 pub enum Halted {
     /// The line of this number is at fault.
     Fault(u32, Cause),

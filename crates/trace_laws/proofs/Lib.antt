@@ -1,26 +1,21 @@
-pub mod AtRun
-pub mod Binds
-pub mod CallEvents
-pub mod Cpus
-pub mod Drained
-pub mod Joins
-pub mod LabelWords
-pub mod Lawful
-pub mod Others
-pub mod PatchAcks
-pub mod PatchEvents
-pub mod PatchStores
-pub mod Patches
-pub mod Placed
-pub mod Places
-pub mod Rests
-pub mod RoundEnds
-pub mod RoundEvents
-pub mod RoundPhases
-pub mod Rounds
-pub mod Shifts
-pub mod Shown
-pub mod States
-pub mod Texts
-pub mod Traces
-pub mod Turns
+-- words, from one place
+pub mod Names
+pub mod ReplayNames
+-- what the events of a trace show of the calls of each CPU
+pub mod Calls
+-- where each record is
+pub mod Records
+-- what holds of CPUs in stops
+pub mod Stops
+-- what holds of keys and sites
+pub mod Labels
+-- the events of calls of a replay
+pub mod ReplayCalls
+-- its stops
+pub mod ReplayStops
+-- its patches
+pub mod ReplayPatches
+-- all of it
+pub mod WholeReplays
+-- its text
+pub mod ReplayTexts

@@ -4,7 +4,7 @@ use Rattle.trace_model.specs.declared.event.Event.{Event}
 use Rattle.trace_model.specs.declared.without.Setting.{Setting}
 use Rattle.trace_model.specs.Ending.{busy_of, heads_of, locked_of, queued_by, ran_of}
 use Rattle.trace_model.specs.State.{StateValue}
-use Rattle.trace_laws.specs.Events.{ends, id_of, queued}
+use Rattle.trace_laws.specs.CallEvents.{ends, id_of, queued}
 
 -- no call is queued, no record is locked, and no CPU handles an interrupt: the verdict says `drained`
 pub record IsDrained (t : StateValue) : Type 0 where

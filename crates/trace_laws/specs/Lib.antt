@@ -1,9 +1,18 @@
-pub mod Drained
-pub mod Events
-pub mod History
-pub mod Lawful
+-- what events tell of calls, of records, of stops and of labels
+pub mod CallEvents
+pub mod CallHistory
 pub mod Places
-pub mod Rounds
-pub mod Texts
+pub mod RecordTurns
+pub mod StopEvents
+pub mod LawfulLabels
+-- the laws of traces, and of accepted texts
 pub mod Traces
-pub mod Turns
+pub mod Drained
+pub mod AcceptedTexts
+-- a state of the model that agrees with a machine
+pub mod AgreeingCalls
+pub mod AgreeingStops
+pub mod AgreeingPatches
+-- the laws of replays, and of their texts
+pub mod AcceptedReplays
+pub mod ReplayTexts

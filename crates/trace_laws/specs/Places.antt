@@ -9,7 +9,7 @@ use Rattle.trace_model.specs.declared.call.Progress.{Progress}
 use Rattle.trace_model.specs.declared.call.Progress.TheVariants.{Unlocked, Runs, Ended}
 use Rattle.trace_model.specs.Cpu.{CpuState}
 use Rattle.trace_model.specs.State.{StateValue, cpu_at, place_at}
-use Rattle.trace_laws.specs.Events.{only_if, same_class}
+use Rattle.trace_laws.specs.CallEvents.{only_if, same_class}
 
 -- the call of this record
 abbrev pub is_record : ℕ → Call → Bool

@@ -9,8 +9,8 @@ use Rattle.trace_model.specs.Ending.{queued_by, ran_of}
 use Rattle.trace_model.specs.Opened.{opening}
 use Rattle.trace_model.specs.Runs.{Runs}
 use Rattle.trace_model.specs.State.{StateValue, cpu_at}
-use Rattle.trace_laws.specs.Events.{Begin, begin_of, begins, calls_of, ends, id_of, queue_from, queued, taken_from}
-use Rattle.trace_laws.specs.History.{held, is_from, running, waiting}
+use Rattle.trace_laws.specs.CallEvents.{Begin, begin_of, begins, calls_of, ends, id_of, queue_from, queued, taken_from}
+use Rattle.trace_laws.specs.CallHistory.{held, is_from, running, waiting}
 
 -- these events lead here, from a state in which nothing has happened
 abbrev pub IsTrace : Setting → LabelWords → List (ℕ × Event) → StateValue → Type 0

@@ -2,12 +2,12 @@
 //! in which nothing has happened to another. Each law is said over what the events show. These functions do nothing.
 
 ghost use Rattle.trace_laws.specs.Drained.{DrainedEquals};
-ghost use Rattle.trace_laws.specs.Lawful.{LabelsAreLawful, ReadsAreLawful};
+ghost use Rattle.trace_laws.specs.LawfulLabels.{LabelsAreLawful, ReadsAreLawful};
 ghost use Rattle.trace_laws.specs.Places.{InOnePlace};
-ghost use Rattle.trace_laws.specs.Rounds.{FunctionsRunAtRun, PatchesStoreAtRun};
-ghost use Rattle.trace_laws.specs.Texts.{AcceptedAreTraces};
+ghost use Rattle.trace_laws.specs.StopEvents.{FunctionsRunAtRun, PatchesStoreAtRun};
+ghost use Rattle.trace_laws.specs.AcceptedTexts.{AcceptedAreTraces};
 ghost use Rattle.trace_laws.specs.Traces.{BeginInOrder, BeginOnce, CountsAre, EndOnce, OfEachTrace, IsTrace};
-ghost use Rattle.trace_laws.specs.Turns.{RecordsTakeTurns};
+ghost use Rattle.trace_laws.specs.RecordTurns.{RecordsTakeTurns};
 ghost use Rattle.trace_model.specs.declared.event.Event.{Event};
 ghost use Rattle.trace_model.specs.declared.without.Setting.{Setting};
 ghost use Rattle.trace_model.specs.State.{StateValue};

@@ -3,7 +3,7 @@
 use crate::reason::Reason;
 
 /// Why an event was not made: no run of the model has it, or memory ran out.
-#[derive(Clone, Copy, Debug, PartialEq, Eq)]
+#[derive(Clone, Copy)]
 pub enum Halt {
     Broken(Reason),
     NoMemory,

@@ -3,7 +3,7 @@
 use smp_words::work::Kind;
 
 /// Why no run of the model has an event at this point: the first of the event's premises that does not hold.
-#[derive(Clone, Copy, Debug, PartialEq, Eq)]
+#[derive(Clone, Copy)]
 pub enum Reason {
     RecordFree(u16),
     RecordQueued(u16, u32),

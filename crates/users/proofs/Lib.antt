@@ -4,3 +4,7 @@ pub mod Ending
 pub mod Others
 -- a key and one of its sites
 pub mod Looking
+-- what a TLB holds after some calls
+pub mod Flushed
+-- the TLBs of CPUs that have played their parts
+pub mod Crews

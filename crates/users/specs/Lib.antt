@@ -1,4 +1,6 @@
 -- CPUs at the end of a program
 pub mod Ends
--- the steps of a CPU that sleeps, and of those that wake it
-pub mod Alarm
+-- what a TLB holds, and what a call takes out of it
+pub mod Tlb
+-- what a CPU has queued and sent
+pub mod Once

@@ -1,4 +1,3 @@
-mod Traced
 mod Titles
 mod LinesOn
 mod Chosen

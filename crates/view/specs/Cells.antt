@@ -9,9 +9,9 @@ use Rattle.smp_words.specs.declared.seen.Note.TheVariants as notes
 use Rattle.smp_words.specs.declared.seen.Seen.{Seen}
 use Rattle.smp_script.specs.Errors.{error_number}
 use Rattle.smp_replay.specs.Text.{step_text}
-use Rattle.view.specs.declared.trace.Row.{Row}
-use Rattle.view.specs.declared.trace.What.{What}
-use Rattle.view.specs.declared.trace.What.TheVariants.{Began, Stepped, Refused, Shown}
+use Rattle.trace_events.specs.declared.rows.Row.{Row}
+use Rattle.trace_events.specs.declared.rows.What.{What}
+use Rattle.trace_events.specs.declared.rows.What.TheVariants.{Began, Stepped, Refused, Shown}
 
 -- this number of spaces
 abbrev pub blanks : ℕ → List ℕ

@@ -5,9 +5,9 @@ use Rattle.smp_mask.specs.Mask.{has, members}
 use Rattle.view.specs.declared.choice.Choice.{Choice}
 use Rattle.view.specs.declared.choice.Mark.{Mark}
 use Rattle.view.specs.declared.choice.Mark.TheVariants.{Event, Last}
-use Rattle.view.specs.declared.trace.Row.{Row}
+use Rattle.trace_events.specs.declared.rows.Row.{Row}
 use Rattle.view.specs.Cells.{is_column}
-use Rattle.view.specs.Trace.{is_refused}
+use Rattle.trace_events.specs.Rows.{is_refused}
 
 abbrev pub has_cpu : Option ℕ → ℕ → Bool
 has_cpu None cpu = true

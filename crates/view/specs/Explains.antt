@@ -1,16 +1,21 @@
 -- What a call of `explain_script` reads and writes.
-use Rattle.std.specs.Prelude.{◌≡◌, ℕ, Bool, true, List, [], ◌∷◌, ◌++◌, Option, Result, Ok, Err, codes}
+use Rattle.std.specs.Prelude.{◌≡◌, ℕ, ◌-◌, Bool, true, List, [], ◌∷◌, ◌++◌, Option, option_map, slice_get, Result, Ok, Err, codes}
 use Rattle.std.specs.Fmt.{decimal}
 use Rattle.std.specs.Io.KnownBytes.{Appends}
 use Rattle.smp_mask.specs.declared.error.SmpError.{SmpError}
 use Rattle.smp_mask.specs.declared.error.SmpError.TheVariants as errors
 use Rattle.smp_mask.specs.declared.error.Side.TheVariants as sides
 use Rattle.smp_script.specs.Faults.{Fault}
+use Rattle.smp_script.specs.Lines.{Line}
 use Rattle.smp_script.specs.Script.{Script, script_of}
 use Rattle.smp_script.specs.Streams.{Gave}
 use Rattle.smp_script.specs.declared.outcome.Outcome.{Outcome}
 use Rattle.smp_script.specs.declared.outcome.Outcome.TheVariants.{Done, Stopped}
 use Rattle.view.specs.Kinds.{mode_of}
+
+-- the text of line n, counted from 1; number 0 is taken as 1
+abbrev pub text_at : List Line → ℕ → Option (List ℕ)
+text_at lines n = option_map (λ l. l.text) (slice_get lines (n - 1))
 
 -- how an explanation ends: `Done` exactly where a script is lawful
 abbrev pub ending_for : Result Script Fault → Outcome

@@ -2,9 +2,9 @@
 use Rattle.std.specs.Prelude.{ℕ, ◌+◌, ◌*◌, ◌==◌, ◌≤◌, Bool, true, false, if◌then◌else◌, min, nat_lt, List, [], ◌∷◌, ◌-◌, length, Option, Some, None}
 use Rattle.std.specs.List.{list_any, slice_get}
 use Rattle.view.specs.declared.frame.Lane.{Lane}
-use Rattle.view.specs.declared.trace.Row.{Row}
-use Rattle.view.specs.declared.trace.What.{What}
-use Rattle.view.specs.declared.trace.What.TheVariants.{Shown}
+use Rattle.trace_events.specs.declared.rows.Row.{Row}
+use Rattle.trace_events.specs.declared.rows.What.{What}
+use Rattle.trace_events.specs.declared.rows.What.TheVariants.{Shown}
 
 -- the column of an event
 abbrev pub column_of : Row → ℕ

@@ -9,7 +9,7 @@ use Rattle.smp_script.specs.Streams.{Gave}
 use Rattle.smp_script.specs.declared.mode.Mode.TheVariants.{Replay}
 use Rattle.smp_script.specs.declared.outcome.Outcome.{Outcome}
 use Rattle.smp_replay.specs.Replays.{Refused}
-use Rattle.view.specs.Replays.{ending_of, rows_of_script}
+use Rattle.trace_events.specs.Replays.{ending_of, rows_of_script}
 
 -- What was read is a lawful script, the writer took some bytes, and the script's replay ended so.
 pub record Shown (before after held holds : Option (List ℕ)) (ending : Outcome) : Type 0 where

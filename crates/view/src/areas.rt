@@ -5,8 +5,8 @@ ghost use Rattle.view.specs.Frame.{bottom_of, left_of, step_of, upper_of};
 
 use crate::element::{Area, write_area, write_text};
 use crate::frame::{Frame, LANE};
-use crate::mark::phase_name;
-use crate::spans::{Drawn, Span};
+use crate::spans_arrows::{Drawn, Span};
+use crate::style_names::phase_name;
 use smp_script::line::split_part;
 use std::alloc::{AllocError, Allocator};
 use std::str::from_utf8;

@@ -5,9 +5,9 @@ ghost use Rattle.view.specs.Frame.{bottom_of, column_of, dot_of, middle_of, IsNe
 
 use crate::element::{Ends, write_arrow, write_path, write_text};
 use crate::frame::{Frame, LEFT, column};
-use crate::spans::Arrow;
-use crate::trace::Row;
+use crate::spans_arrows::Arrow;
 use std::alloc::{AllocError, Allocator};
+use trace_events::rows::Row;
 
 /// How far below its lane's upper edge a dot is.
 const DOT: u64 = 32;

@@ -3,12 +3,12 @@
 ghost use Rattle.std.specs.Prelude.{◌≡◌, ◌++◌, IfOk, OnOk, string_bytes};
 ghost use Rattle.view.specs.Cells.{cell_of, error_text, meaning_of, refused_text, step_cell};
 
-use crate::trace::What;
 use smp_core::{Note, Seen};
 use smp_mask::SmpError;
 use smp_replay::text::write_step;
 use smp_script::errors::number_of;
 use std::alloc::{AllocError, Allocator};
+use trace_events::rows::What;
 
 /// What an error means, where it refuses an event or is part of a note.
 pub fn error_text(error: SmpError) -> &'static str

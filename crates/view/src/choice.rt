@@ -4,9 +4,9 @@ ghost use Rattle.std.specs.Prelude.{◌≡◌, IfOk};
 ghost use Rattle.std.specs.List.{filter};
 ghost use Rattle.view.specs.Choice.{has_cpu, is_chosen, marked_in};
 
-use crate::trace::Row;
 use smp_mask::CpuMask;
 use std::alloc::{AllocError, Allocator};
+use trace_events::rows::Row;
 
 /// An event that is marked.
 #[derive(Clone, Copy, Debug, PartialEq, Eq)]

@@ -6,7 +6,7 @@ use smp_script::line::{is_word, parts};
 use std::alloc::{AllocError, Allocator};
 
 /// What an atom is about.
-#[derive(Clone, Copy, PartialEq, Eq)]
+#[derive(Clone, Copy)]
 pub enum Subject {
     /// A word or a queue, which has a number.
     Word,
@@ -17,7 +17,7 @@ pub enum Subject {
 }
 
 /// The part of a condition that a field is.
-#[derive(Clone, Copy, PartialEq, Eq)]
+#[derive(Clone, Copy)]
 pub enum Part {
     /// An atom begins, with `not` or without it.
     Atom,
@@ -146,8 +146,12 @@ pub fn part_at_fault<A: Allocator + Copy>(
     fields: &[&[u8]],
     cause: Cause,
 ) -> Result<(usize, Part), AllocError> {
+    let [_, rest @ ..] = fields else {
+        return Ok((0, Part::Atom));
+    };
     let mut part = Part::Atom;
-    for (at, field) in fields.iter().enumerate().skip(1) {
+    let mut at = 1usize;
+    for field in rest {
         if is_refused(alloc, part, cause, field)? {
             return Ok((at, part));
         }
@@ -155,8 +159,9 @@ pub fn part_at_fault<A: Allocator + Copy>(
             Some(next) => part = next,
             None => return Ok((at, part)),
         }
+        at = at.saturating_add(1);
     }
-    Ok((fields.len(), part))
+    Ok((at, part))
 }
 
 /// The name of a part, as the formats have it.

@@ -1,13 +1,13 @@
 //! What is wrong with a text, and what may be in its place.
 
-ghost use Rattle.std.specs.Prelude.{◌≡◌, ◌<◌, ◌^◌, IfOk, IfSome, None, length, string_bytes};
+ghost use Rattle.std.specs.Prelude.{◌≡◌, IfOk, IfSome, None, string_bytes};
 ghost use Rattle.view.specs.Explains.{SaysLine, no_fault_text};
 
 use crate::condition_parts::{part_at_fault, part_name, part_text};
-use crate::fault::{Fault, field_at_fault, limit, line_text};
-use crate::keeps::{front, has_shape, is_open, length_of, name_at, refused_at, takes_at};
-use crate::stands::{write_bytes, write_stands};
-use crate::takes::{Place, Takes, write_takes};
+use crate::fault::{Fault, limit, line_text};
+use crate::field_domain::{Domain, TextSetting, write_domain};
+use crate::match_template::{domain_at, front, has_shape, is_open, length_of, name_at, refused_at};
+use crate::print_bytes::{write_bytes, write_content};
 use crate::templates::templates_at;
 use crate::text_kind::{TextKind, kind_of};
 use smp_mask::{Cause, CpuMask};
@@ -56,8 +56,8 @@ fn online_in(text: &[u8]) -> CpuMask {
 }
 
 // What the first two lines of a text settle.
-fn place_in<A: Allocator>(alloc: A, text: &[u8]) -> Result<Place, AllocError> {
-    Ok(Place {
+fn setting_in<A: Allocator>(alloc: A, text: &[u8]) -> Result<TextSetting, AllocError> {
+    Ok(TextSetting {
         kind: kind_of(text).unwrap_or(TextKind::Replay),
         limit: limit(alloc, text)?,
         online: online_in(text),
@@ -67,8 +67,7 @@ fn place_in<A: Allocator>(alloc: A, text: &[u8]) -> Result<Place, AllocError> {
 /// A line at fault, and the templates that it may keep to.
 #[derive(Drop)]
 struct Wrong<'a, A: Allocator> {
-    place: Place,
-    line: u32,
+    setting: TextSetting,
     cause: Cause,
     fields: &'a [&'a [u8]],
     templates: &'a [String<A>],
@@ -80,15 +79,16 @@ impl<'a, A: Allocator> Wrong<'a, A> {
         matches!(self.cause, Cause::Number | Cause::Range | Cause::Mask)
     }
 
-    // The field at fault by the templates, counted from 0.
-    fn field_by_templates(&self) -> usize {
+    // The field at fault, counted from 0: of a wrong word or number of fields the first at which the line leaves all templates,
+    // else the first that is refused.
+    fn field_at_fault(&self) -> usize {
         let mut furthest = 0usize;
         for template in self.templates {
             let template = template.as_str();
-            if self.is_of_a_value() && has_shape(&self.place, template, self.fields) {
-                return refused_at(&self.place, template, self.fields);
+            if self.is_of_a_value() && has_shape(&self.setting, template, self.fields) {
+                return refused_at(&self.setting, template, self.fields);
             }
-            furthest = furthest.max(front(&self.place, template, self.fields));
+            furthest = furthest.max(front(&self.setting, template, self.fields));
         }
         furthest
     }
@@ -96,9 +96,9 @@ impl<'a, A: Allocator> Wrong<'a, A> {
     // Whether the line keeps to a template up to this field.
     fn keeps(&self, template: &str, at: usize) -> bool {
         if self.is_of_a_value() {
-            return has_shape(&self.place, template, self.fields);
+            return has_shape(&self.setting, template, self.fields);
         }
-        front(&self.place, template, self.fields) >= at
+        front(&self.setting, template, self.fields) >= at
             && (length_of(template) >= at || is_open(template))
     }
 }
@@ -119,12 +119,12 @@ fn candidates<'a, A: Allocator + Copy>(
 }
 
 // The name of a field, where all of these templates have the same there.
-fn common_name<'a>(place: &Place, found: &[&'a str], at: usize) -> Option<&'a str> {
+fn common_name<'a>(setting: &TextSetting, found: &[&'a str], at: usize) -> Option<&'a str> {
     let [first, rest @ ..] = found else {
         return None;
     };
-    let name = name_at(place, first, at);
-    if rest.iter().all(|other| name_at(place, other, at) == name) {
+    let name = name_at(setting, first, at);
+    if rest.iter().all(|other| name_at(setting, other, at) == name) {
         name
     } else {
         None
@@ -134,13 +134,13 @@ fn common_name<'a>(place: &Place, found: &[&'a str], at: usize) -> Option<&'a st
 // What one template may have at a field that is no word of its own; nothing of such a word.
 fn write_other<A: Allocator>(
     out: &mut String<A>,
-    place: &Place,
+    setting: &TextSetting,
     template: &str,
     at: usize,
 ) -> Result<(), AllocError> {
-    match takes_at(place, template, at) {
-        Some(Takes::Word(_)) => Ok(()),
-        Some(takes) => write_takes(out, place, takes),
+    match domain_at(setting, template, at) {
+        Some(Domain::Word(_)) => Ok(()),
+        Some(domain) => write_domain(out, setting, domain),
         None => write!(out, "the end of the line"),
     }
 }
@@ -159,13 +159,13 @@ fn push_new<A: Allocator>(
 // The words that these templates may have at a field, each once.
 fn words_at<A: Allocator + Copy>(
     alloc: A,
-    place: &Place,
+    setting: &TextSetting,
     found: &[&str],
     at: usize,
 ) -> Result<String<A>, AllocError> {
     let mut words: Vec<&str, A> = Vec::new(alloc);
     for template in found {
-        if let Some(Takes::Word(word)) = takes_at(place, template, at) {
+        if let Some(Domain::Word(word)) = domain_at(setting, template, at) {
             if !words.iter().any(|other| *other == word) {
                 words.push(word)?;
             }
@@ -178,27 +178,27 @@ fn words_at<A: Allocator + Copy>(
 fn push_other<A: Allocator + Copy>(
     alloc: A,
     texts: &mut Vec<String<A>, A>,
-    place: &Place,
+    setting: &TextSetting,
     template: &str,
     at: usize,
 ) -> Result<(), AllocError> {
     let mut text = String::new(alloc);
-    write_other(&mut text, place, template, at)?;
+    write_other(&mut text, setting, template, at)?;
     push_new(texts, text)
 }
 
 // What may be at a field, each once: first the words, then what else these templates may have there.
 fn all_at<A: Allocator + Copy>(
     alloc: A,
-    place: &Place,
+    setting: &TextSetting,
     found: &[&str],
     at: usize,
 ) -> Result<Vec<String<A>, A>, AllocError> {
     let mut texts = Vec::new(alloc);
-    let words = words_at(alloc, place, found, at)?;
+    let words = words_at(alloc, setting, found, at)?;
     push_new(&mut texts, words)?;
     for template in found {
-        push_other(alloc, &mut texts, place, template, at)?;
+        push_other(alloc, &mut texts, setting, template, at)?;
     }
     Ok(texts)
 }
@@ -228,11 +228,11 @@ fn write_texts<A: Allocator>(out: &mut String<A>, texts: &[String<A>]) -> Result
 fn write_found<A: Allocator + Copy>(
     alloc: A,
     out: &mut String<A>,
-    place: &Place,
+    setting: &TextSetting,
     found: &[&str],
     at: usize,
 ) -> Result<(), AllocError> {
-    let texts = all_at(alloc, place, found, at)?;
+    let texts = all_at(alloc, setting, found, at)?;
     write_texts(out, texts.as_slice())?;
     match found {
         [template] => writeln!(out, "    the line: {template}"),
@@ -248,9 +248,9 @@ fn write_field<A: Allocator + Copy>(
     at: usize,
 ) -> Result<(), AllocError> {
     let found = candidates(alloc, wrong, at)?;
-    write_number(out, at, common_name(&wrong.place, &found, at))?;
-    write_stands(out, wrong.fields, at)?;
-    write_found(alloc, out, &wrong.place, found.as_slice(), at)
+    write_number(out, at, common_name(&wrong.setting, &found, at))?;
+    write_content(out, wrong.fields, at)?;
+    write_found(alloc, out, &wrong.setting, found.as_slice(), at)
 }
 
 // What a field of a condition has, and what it may have.
@@ -261,62 +261,33 @@ fn write_part<A: Allocator + Copy>(
 ) -> Result<(), AllocError> {
     let (at, part) = part_at_fault(alloc, wrong.fields, wrong.cause)?;
     write_number(out, at, Some(part_name(part)))?;
-    write_stands(out, wrong.fields, at)?;
+    write_content(out, wrong.fields, at)?;
     let text = part_text(part);
     writeln!(out, "    here may be: {text}")
 }
 
 // Whether the line is one of an exploration with a condition.
-fn has_condition(place: &Place, fields: &[&[u8]]) -> bool {
+fn has_condition(setting: &TextSetting, fields: &[&[u8]]) -> bool {
     match fields {
-        [first, _, ..] if place.kind == TextKind::Exploration => {
+        [first, _, ..] if setting.kind == TextKind::Exploration => {
             is_word(first, b"always") || is_word(first, b"never") || is_word(first, b"finally")
         }
         _ => false,
     }
 }
 
-// The field that a fault lies in. That of a replay is proved to be the one that its reader refuses.
-fn field_of<A: Allocator + Copy>(
-    alloc: A,
-    wrong: &Wrong<'_, A>,
-    is_replay: bool,
-) -> Result<Option<usize>, AllocError>
-    requires { AreShort (map (λ f. f.now) wrong.now.fields.now) }
-{
-    if is_replay {
-        return field_at_fault(
-            alloc,
-            wrong.place.limit,
-            wrong.line,
-            wrong.fields,
-            wrong.cause,
-        );
-    }
-    match wrong.cause {
-        Cause::TooLong | Cause::Cut | Cause::SharedKey => Ok(None),
-        _ => Ok(Some(wrong.field_by_templates())),
-    }
-}
-
-ghost use Rattle.std.specs.Prelude.{map};
-ghost use Rattle.smp_script.specs.Lines.{AreShort};
-
 // What is wrong with a line.
 fn write_wrong<A: Allocator + Copy>(
     alloc: A,
     out: &mut String<A>,
     wrong: &Wrong<'_, A>,
-    is_replay: bool,
-) -> Result<(), AllocError>
-    requires { AreShort (map (λ f. f.now) wrong.now.fields.now) }
-{
-    if has_condition(&wrong.place, wrong.fields) {
+) -> Result<(), AllocError> {
+    if has_condition(&wrong.setting, wrong.fields) {
         return write_part(alloc, out, wrong);
     }
-    match field_of(alloc, wrong, is_replay)? {
-        Some(at) => write_field(alloc, out, wrong, at),
-        None => Ok(()),
+    match wrong.cause {
+        Cause::TooLong | Cause::Cut | Cause::SharedKey => Ok(()),
+        _ => write_field(alloc, out, wrong, wrong.field_at_fault()),
     }
 }
 
@@ -327,24 +298,21 @@ fn write_line<A: Allocator + Copy>(
     text: &[u8],
     fault: Fault,
     line: &[u8],
-) -> Result<(), AllocError>
-    requires { length line.now < 2 ^ 32 }
-{
+) -> Result<(), AllocError> {
     write!(out, "  ")?;
     write_bytes(out, line)?;
     writeln!(out, "")?;
     let kind = kind_of(text);
-    let place = place_in(alloc, text)?;
+    let setting = setting_in(alloc, text)?;
     let fields = fields(alloc, line)?;
     let templates = templates_at(alloc, kind, fault.line)?;
     let wrong = Wrong {
-        place,
-        line: fault.line,
+        setting,
         cause: fault.cause,
         fields: fields.as_slice(),
         templates: templates.as_slice(),
     };
-    write_wrong(alloc, out, &wrong, kind == Some(TextKind::Replay))
+    write_wrong(alloc, out, &wrong)
 }
 
 // What is said of a fault behind the number of its line.

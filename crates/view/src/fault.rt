@@ -1,15 +1,11 @@
-//! The first fault of a script, and the field of a replay that it lies in.
+//! The first fault of a script, and the line of a text that it lies in.
 
-ghost use Rattle.std.specs.Prelude.{◌≡◌, ◌<◌, ◌^◌, ◌≤◌, Err, IfErr, IfOk, IfSome, IsOk, None, length, map, option_map};
+ghost use Rattle.std.specs.Prelude.{◌≡◌, Err, IfErr, IfOk, IfSome, IsOk, None, option_map};
 ghost use Rattle.smp_script.specs.FirstFault.{IsFirstFault, setting_in, limit_in};
-ghost use Rattle.smp_script.specs.Lines.{AreShort, lines_of};
+ghost use Rattle.smp_script.specs.Lines.{lines_of};
 ghost use Rattle.smp_script.specs.Script.{script_of};
-ghost use Rattle.view.specs.Places.{IsPlace, RefusedAt, text_at};
-ghost use Rattle.smp_script.specs.Shapes.{shapes_of};
-ghost use Rattle.view.specs.Shapes.{reach_of, replay_setting};
+ghost use Rattle.view.specs.Explains.{text_at};
 
-use crate::fits::{reach, shape_found, wrong_field};
-use crate::shapes::shapes;
 use smp_mask::{Cause, SmpError};
 use smp_script::Mode;
 use smp_script::laws::first_faults_are_told;
@@ -61,8 +57,7 @@ pub fn limit<A: Allocator>(alloc: A, text: &[u8]) -> Result<u32, AllocError>
 
 /// The line of this number, counted from 1; nothing where there is none. Number 0 is taken as 1.
 pub fn line_text(text: &[u8], line: u32) -> Option<&[u8]>
-    ensures value { option_map (λ found. found.now) result ≡ text_at (lines_of text.now) line }
-    ensures within { IfSome result (λ found. length found.now ≤ length text.now) }
+    ensures { option_map (λ found. found.now) result ≡ text_at (lines_of text.now) line }
 {
     let mut rest = text;
     for _line in 1..line {
@@ -70,57 +65,4 @@ pub fn line_text(text: &[u8], line: u32) -> Option<&[u8]>
     }
     let found = next_line(rest)?;
     Some(found.text)
-}
-
-// The first field at which the line leaves all shapes.
-fn lost_field<A: Allocator + Copy>(
-    alloc: A,
-    limit: u32,
-    line: u32,
-    fields: &[&[u8]],
-) -> Result<usize, AllocError>
-    ensures { IfOk result (λ place. place ≡ reach_of (map (λ f. f.now) fields.now) (shapes_of (replay_setting limit 0) line)) }
-{
-    let shapes = shapes(alloc, line)?;
-    reach(alloc, limit, shapes.as_slice(), fields)
-}
-
-// The first field that the reader refuses, of a line that has a shape.
-fn refused_field<A: Allocator + Copy>(
-    alloc: A,
-    limit: u32,
-    line: u32,
-    fields: &[&[u8]],
-) -> Result<Option<usize>, AllocError>
-    requires { AreShort (map (λ f. f.now) fields.now) }
-    ensures { IfOk result (λ place. RefusedAt limit line (map (λ f. f.now) fields.now) place) }
-{
-    let shapes = shapes(alloc, line)?;
-    let found = shape_found(alloc, limit, shapes.as_slice(), fields)?;
-    match found {
-        Some(forms) => Ok(Some(wrong_field(fields, forms.as_slice()))),
-        None => Ok(None),
-    }
-}
-
-/// The field that a fault of this line lies in, counted from 0. Of a wrong word or number of fields the first at which the
-/// line leaves all shapes; of a field that is no number, no mask or out of range the first that the reader refuses; nothing
-/// of all else.
-pub fn field_at_fault<A: Allocator + Copy>(
-    alloc: A,
-    limit: u32,
-    line: u32,
-    fields: &[&[u8]],
-    cause: Cause,
-) -> Result<Option<usize>, AllocError>
-    requires { AreShort (map (λ f. f.now) fields.now) }
-    ensures { IfOk result (λ place. IsPlace limit line (map (λ f. f.now) fields.now) cause place) }
-{
-    match cause {
-        Cause::Word => Ok(Some(lost_field(alloc, limit, line, fields)?)),
-        Cause::Number => refused_field(alloc, limit, line, fields),
-        Cause::Range => refused_field(alloc, limit, line, fields),
-        Cause::Mask => refused_field(alloc, limit, line, fields),
-        _ => Ok(None),
-    }
 }

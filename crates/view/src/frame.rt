@@ -4,8 +4,8 @@ ghost use Rattle.std.specs.Prelude.{◌≡◌, ◌≤◌, ◌<◌, ◌^◌, ◌+
 ghost use Rattle.view.specs.Frame.{bottom_of, column_of, is_busy, is_event_of, lane_height, lanes_from, left_of};
 ghost use Rattle.view.specs.Frame.{lowest_of, step_of, top_of, upper_of, FitsIn};
 
-use crate::trace::{Row, What};
 use std::alloc::{AllocError, Allocator};
+use trace_events::rows::{Row, What};
 
 /// The width of a picture, in pixels, as all lengths here.
 pub const WIDTH: u64 = 900;

@@ -8,11 +8,10 @@ ghost use Rattle.view.specs.Shows.{Shows};
 use crate::cell::cell;
 use crate::choice::Choice;
 use crate::frame::{column, last_column};
-use crate::mark::phase_name;
-use crate::show::{Replay, ending, read_replay};
-use crate::spans::{Arrow, Drawn, Span, arrows, bands, commands};
+use crate::show::{Replay, read_replay};
+use crate::spans_arrows::{Arrow, Drawn, Span, arrows, bands, commands};
+use crate::style_names::phase_name;
 use crate::svg::{lane_cpus, moments_of};
-use crate::trace::{Row, What};
 use smp_mask::SmpError;
 use smp_script::line::parts;
 use smp_script::stream::write_text;
@@ -20,6 +19,8 @@ use smp_script::{Outcome, Watched};
 use std::alloc::{AllocError, Allocator};
 use std::io::{Read, Write};
 use std::str::from_utf8;
+use trace_events::replay::ending;
+use trace_events::rows::{Row, What};
 
 // A text between quotes.
 fn write_quoted<A: Allocator>(out: &mut String<A>, text: &str) -> Result<(), AllocError> {

@@ -9,12 +9,12 @@ ghost use Rattle.view.specs.Cells.{apart, cell_at, front_text, head_cell, head_t
 
 use crate::cell::cell;
 use crate::choice::Choice;
+use crate::narrow_lanes::{write_narrow, write_narrow_head};
 use crate::pad::write_padded;
-use crate::slim::{write_slim, write_slim_head};
-use crate::trace::Row;
 use smp_mask::CpuMask;
 use std::alloc::{AllocError, Allocator};
 use std::str::from_utf8;
+use trace_events::rows::Row;
 
 /// The width of an event's number, and of a line's.
 const NUMBER: usize = 6;
@@ -29,10 +29,10 @@ pub struct Layout<'a> {
     pub cpus: &'a [u32],
 }
 
-/// A table has no more columns of text than this, where it has a slim form.
+/// A table has no more columns of text than this, where it has a narrow form.
 const MOST_WIDTH: usize = 160;
 
-/// A line of the script is cut in the slim form from here on.
+/// A line of the script is cut in the narrow form from here on.
 const MOST_SCRIPT: usize = 40;
 
 /// The CPUs of a mask, ascending.
@@ -257,23 +257,23 @@ fn wide_table<A: Allocator + Copy>(
     Ok(out)
 }
 
-// The front of a line of the script that finds room in the slim form.
+// The front of a line of the script that finds room in the narrow form.
 fn cut(line: &str) -> &str {
     line.get(..MOST_SCRIPT).unwrap_or(line)
 }
 
 // The table with a mark for each CPU.
-fn slim_table<A: Allocator + Copy>(
+fn narrow_table<A: Allocator + Copy>(
     alloc: A,
     layout: &Layout<'_>,
     lines: &[&[u8]],
     rows: &[Row],
 ) -> Result<String<A>, AllocError> {
     let mut out = String::new(alloc);
-    write_slim_head(&mut out, layout)?;
+    write_narrow_head(&mut out, layout)?;
     for row in rows {
         let script = cut(script_line(lines, row.line));
-        write_slim(alloc, &mut out, layout, row, script)?;
+        write_narrow(alloc, &mut out, layout, row, script)?;
     }
     Ok(out)
 }
@@ -301,5 +301,5 @@ pub fn lanes<A: Allocator + Copy>(
         column,
         cpus,
     };
-    slim_table(alloc, &layout, lines, rows)
+    narrow_table(alloc, &layout, lines, rows)
 }

@@ -3,16 +3,15 @@
 //!
 //! - `show`, `svg`, `json`: A script from a reader, and what is shown of it to a writer.
 //! - `choice`: Which events are shown.
-//! - `events`: A replay as a trace of events.
-//! - `moments`, `trace`: What a script asks for, moment by moment, and what is seen of it.
-//! - `lanes`, `slim`, `cell`, `pad`: A replay with one column for each CPU, or one mark.
+//! - `lanes`, `narrow_lanes`, `cell`, `pad`: A replay with one column for each CPU, or one mark.
 //! - `picture`, `areas`, `arrows`, `legend`, `element`: A replay as a picture.
-//! - `frame`, `spans`, `link`, `quiet`, `mark`: Where things are in it, what is drawn from one event to another, what opens
-//!   and closes that, what is drawn small, and the names of styles.
+//! - `frame`, `spans_arrows`, `style_names`: Where things are in it, what is drawn from one event to another, and in which style.
+//! - `open_close`, `idle_handles`: What one step opens and a later one closes, and handles that find no interrupt.
 //! - `text_kind`: The kinds of texts.
-//! - `forms`, `shapes`, `fits`, `fault`: The first fault of a script, and the field of a replay that it lies in.
-//! - `templates`, `takes`, `keeps`, `condition_parts`, `stands`, `explain`: What is wrong with a text of any kind, and what
-//!   may be in its place.
+//! - `fault`: The first fault of a script.
+//! - `templates`, `match_template`, `field_domain`, `condition_parts`: The lines that a text may have, how far a line keeps to
+//!   one, what a field of it may be, and the same of a condition.
+//! - `print_bytes`, `explain`: What is wrong with a text of any kind, and what may be in its place.
 #![tactic(auto)]
 
 mod areas;
@@ -21,35 +20,28 @@ pub mod cell;
 pub mod choice;
 mod condition_parts;
 mod element;
-pub mod events;
 pub mod explain;
 pub mod fault;
-pub mod fits;
-pub mod forms;
+mod field_domain;
 pub mod frame;
+mod idle_handles;
 mod json;
-mod keeps;
 pub mod lanes;
 mod legend;
-pub mod link;
-mod mark;
-pub mod moments;
+mod match_template;
+mod narrow_lanes;
+pub mod open_close;
 mod pad;
 pub mod picture;
-mod quiet;
-pub mod shapes;
+mod print_bytes;
 pub mod show;
-mod slim;
-mod spans;
-mod stands;
+mod spans_arrows;
+mod style_names;
 pub mod svg;
-mod takes;
 mod templates;
 pub mod text_kind;
-pub mod trace;
 
 pub use choice::{Choice, Mark};
-pub use events::show_events;
 pub use json::show_json;
 pub use show::{explain_script, show_lanes};
 pub use svg::show_svg;

@@ -11,15 +11,15 @@ use crate::element::{write_dot, write_text};
 use crate::frame::{
     Frame, MOST_COLUMNS, MOST_WIDE, WIDTH, column, is_busy, lanes_of, last_column, lowest,
 };
+use crate::idle_handles::not_idle;
 use crate::legend::{FIRST_BASE, write_axis, write_head, write_lanes, write_legend};
-use crate::mark::dot;
-use crate::moments::Moment;
-use crate::quiet::loud;
-use crate::spans::{Arrow, Span, arrows, bands, commands};
-use crate::trace::{Row, What};
+use crate::spans_arrows::{Arrow, Span, arrows, bands, commands};
+use crate::style_names::dot;
 use smp_core::Seen;
 use smp_mask::CpuMask;
 use std::alloc::{AllocError, Allocator};
+use trace_events::moments::Moment;
+use trace_events::rows::{Row, What};
 
 /// What is between the lowest lane of a row and the highest of the next: room for the numbers of its events.
 const BETWEEN: u64 = 34;
@@ -44,12 +44,12 @@ pub struct Replayed<'a> {
 }
 
 /// What is drawn: the events, but for those of handles that find nothing, and what lasts from one event to another.
-#[derive(Clone, Copy)]
-struct Scene<'a> {
-    rows: &'a [Row],
-    bands: &'a [Span<'a>],
-    boxes: &'a [Span<'a>],
-    arrows: &'a [Arrow],
+#[derive(Drop)]
+struct Scene<'a, A: Allocator> {
+    rows: Vec<Row, A>,
+    bands: Vec<Span<'static>, A>,
+    boxes: Vec<Span<'a>, A>,
+    arrows: Vec<Arrow, A>,
     /// The number of the event that is marked.
     mark: Option<usize>,
 }
@@ -149,7 +149,7 @@ fn lasts(spans: &[Span<'_>], cpu: u32, first: u32, last: u32) -> bool {
 fn row_cpus<A: Allocator>(
     alloc: A,
     cpus: &[u32],
-    scene: &Scene<'_>,
+    scene: &Scene<'_, A>,
     events: &[Row],
     reach: (u32, u32),
 ) -> Result<Vec<u32, A>, AllocError> {
@@ -158,8 +158,8 @@ fn row_cpus<A: Allocator>(
     for cpu in cpus {
         let cpu = *cpu;
         if is_busy(events, cpu)
-            || lasts(scene.boxes, cpu, first, last)
-            || lasts(scene.bands, cpu, first, last)
+            || lasts(scene.boxes.as_slice(), cpu, first, last)
+            || lasts(scene.bands.as_slice(), cpu, first, last)
         {
             found.push(cpu)?;
         }
@@ -239,14 +239,14 @@ fn write_row<A: Allocator + Copy>(
     alloc: A,
     out: &mut String<A>,
     frame: &Frame<'_>,
-    scene: &Scene<'_>,
+    scene: &Scene<'_, A>,
     events: &[Row],
 ) -> Result<(), AllocError> {
     write_lanes(alloc, out, frame)?;
     write_axis(alloc, out, frame)?;
-    write_spans(out, frame, scene.bands)?;
-    write_spans(out, frame, scene.boxes)?;
-    write_links(alloc, out, frame, scene.arrows)?;
+    write_spans(out, frame, scene.bands.as_slice())?;
+    write_spans(out, frame, scene.boxes.as_slice())?;
+    write_links(alloc, out, frame, scene.arrows.as_slice())?;
     write_events(alloc, out, frame, scene.mark, events)
 }
 
@@ -269,7 +269,7 @@ fn write_rows<A: Allocator + Copy>(
     alloc: A,
     out: &mut String<A>,
     cpus: &[u32],
-    scene: &Scene<'_>,
+    scene: &Scene<'_, A>,
     reach: (u32, u32),
 ) -> Result<u64, AllocError>
     requires { reach.1 ≤ 100000 }
@@ -279,7 +279,7 @@ fn write_rows<A: Allocator + Copy>(
     let mut base = FIRST_BASE;
     'rows: while first <= last {
         let end = end_of_row(wide, first, last);
-        let events = events_in(alloc, scene.rows, first, end)?;
+        let events = events_in(alloc, scene.rows.as_slice(), first, end)?;
         let among = row_cpus(alloc, cpus, scene, events.as_slice(), (first, end))?;
         let lanes = lanes_of(alloc, among.as_slice(), events.as_slice())?;
         let frame = Frame {
@@ -309,6 +309,40 @@ fn reach_of(rows: &[Row]) -> (u32, u32)
     (first, last_column(rows))
 }
 
+// What is drawn of what is chosen of a replay.
+fn scene_of<'a, A: Allocator + Copy>(
+    alloc: A,
+    choice: &Choice,
+    replayed: &Replayed<'a>,
+) -> Result<Scene<'a, A>, AllocError> {
+    let Replayed {
+        lines,
+        moments,
+        rows,
+    } = *replayed;
+    let not_idle = not_idle(alloc, moments, rows)?;
+    Ok(Scene {
+        rows: choice.chosen(alloc, not_idle.as_slice())?,
+        bands: bands(alloc, rows, last_column(rows))?,
+        boxes: commands(alloc, lines, moments, rows)?,
+        arrows: arrows(alloc, rows)?,
+        mark: choice.marked(rows),
+    })
+}
+
+// All rows of the picture, and the place below them.
+fn write_scene<A: Allocator + Copy>(
+    alloc: A,
+    out: &mut String<A>,
+    choice: &Choice,
+    cpus: &[u32],
+    replayed: &Replayed<'_>,
+) -> Result<u64, AllocError> {
+    let scene = scene_of(alloc, choice, replayed)?;
+    let chosen = choice.chosen(alloc, replayed.rows)?;
+    write_rows(alloc, out, cpus, &scene, reach_of(chosen.as_slice()))
+}
+
 /// The picture of what is chosen of a replay: its head, and rows of events. A row has a lane for each CPU of which something is
 /// in it, and in the lanes bands, boxes, arrows, and a dot for each event that is chosen. A handle that finds nothing is a bar
 /// without dots.
@@ -318,26 +352,8 @@ pub fn picture<A: Allocator + Copy>(
     cpus: &[u32],
     replayed: &Replayed<'_>,
 ) -> Result<String<A>, AllocError> {
-    let Replayed {
-        lines,
-        moments,
-        rows,
-    } = *replayed;
-    let reach = reach_of(choice.chosen(alloc, rows)?.as_slice());
-    let loud = loud(alloc, moments, rows)?;
-    let events = choice.chosen(alloc, loud.as_slice())?;
-    let boxes = commands(alloc, lines, moments, rows)?;
-    let bands = bands(alloc, rows, last_column(rows))?;
-    let arrows = arrows(alloc, rows)?;
-    let scene = Scene {
-        rows: events.as_slice(),
-        bands: bands.as_slice(),
-        boxes: boxes.as_slice(),
-        arrows: arrows.as_slice(),
-        mark: choice.marked(rows),
-    };
     let mut body = String::new(alloc);
-    let below = write_rows(alloc, &mut body, cpus, &scene, reach)?;
+    let below = write_scene(alloc, &mut body, choice, cpus, replayed)?;
     let mut out = String::new(alloc);
     write_head(&mut out, WIDTH, below)?;
     write_legend(&mut out)?;

@@ -1,87 +1,31 @@
 //! A script from a reader, and what is shown of it to a writer.
 
 ghost use Rattle.std.specs.Prelude.{◌≡◌, ◌≤◌, IfOk, IfErr, true, false, Err, Ok, OnOk};
-ghost use Rattle.smp_words.specs.Limits.{AreLimits};
 ghost use Rattle.smp_script.specs.Watched.{inner_of, failed_of, flushed_of};
 ghost use Rattle.smp_script.specs.MeaningOf.{meaning_of};
 ghost use Rattle.smp_mask.specs.declared.error.Side.TheVariants.{Read as ReadSide};
-ghost use Rattle.smp_core.specs.New.{new_core};
-ghost use Rattle.smp_replay.specs.Output.{labels_or_none};
 ghost use Rattle.smp_script.specs.Script.{script_of};
 ghost use Rattle.smp_script.specs.Streams.{Gave};
 ghost use Rattle.view.specs.Explains.{Explains};
 ghost use Rattle.view.specs.Kinds.{mode_of};
 ghost use Rattle.view.specs.Shows.{Shows};
-ghost use Rattle.view.specs.Replays.{IsReplayError, ending_of, has_refused, rows_of_script};
+ghost use Rattle.trace_events.specs.Replays.{rows_of_script};
+ghost use Rattle.view.specs.Replays.{IsReplayError};
 
 use crate::choice::Choice;
 use crate::explain::explanation;
 use crate::fault::first_fault;
 use crate::lanes::{chosen_columns, lanes};
-use crate::moments::moments;
 use crate::text_kind::{TextKind, kind_of};
-use crate::trace::{Row, is_refused, trace};
-use smp_core::Core;
-use smp_labels::LabelMap;
-use smp_mask::{CpuMask, SmpError};
+use smp_mask::SmpError;
 use smp_script::line::parts;
 use smp_script::script::{Script, read_script};
 use smp_script::stream::{read_text, write_text};
 use smp_script::{Mode, Outcome, Watched};
 use std::alloc::{AllocError, Allocator};
 use std::io::{Read, Write};
-
-// A core with no calls and no stops, and with these labels.
-fn new_core<A: Allocator + Copy>(
-    alloc: A,
-    nr: u32,
-    online: CpuMask,
-    labels: &Option<LabelMap>,
-) -> Result<Core<A>, SmpError>
-    requires { AreLimits nr online }
-    ensures core { IfOk result (λ core. core ≡ new_core nr online (labels_or_none labels.now)) }
-    ensures err { IfErr result (λ e. e ≡ SmpError.NoMemory) }
-{
-    match labels {
-        Some(labels) => Core::with_labels(alloc, nr, online, labels),
-        None => Core::new(alloc, nr, online),
-    }
-}
-
-/// What is seen of a script's replay, on a table with no calls and no stops.
-pub fn rows<A: Allocator + Copy>(alloc: A, script: &Script<A>) -> Result<Vec<Row, A>, SmpError>
-    requires { AreLimits script.now.nr script.now.online }
-    ensures rows { IfOk result (λ rows. rows.items ≡ rows_of_script (meaning_of script.now)) }
-    ensures err { IfErr result (λ e. e ≡ SmpError.NoMemory) }
-{
-    let mut core = new_core(alloc, script.nr, script.online, &script.labels)?;
-    let first = if script.labels.is_some() { 4 } else { 3 };
-    let Ok(moments) = moments(alloc, first, script.directives.as_slice()) else {
-        return Err(SmpError::NoMemory);
-    };
-    let Ok(rows) = trace(alloc, &mut core, moments.as_slice()) else {
-        return Err(SmpError::NoMemory);
-    };
-    Ok(rows)
-}
-
-// Whether an event was refused.
-fn has_refused(rows: &[Row]) -> bool
-    ensures { result ≡ has_refused rows.now }
-{
-    rows.iter().any(|row| is_refused(row.what))
-}
-
-/// How a replay ended: whether an event was refused.
-pub fn ending(rows: &[Row]) -> Outcome
-    ensures { result ≡ ending_of rows.now }
-{
-    if has_refused(rows) {
-        Outcome::Stopped
-    } else {
-        Outcome::Done
-    }
-}
+use trace_events::replay::{ending, rows_of_script};
+use trace_events::rows::Row;
 
 /// A script that was read, and what is seen of its replay.
 #[derive(Drop)]
@@ -108,7 +52,7 @@ pub fn read_replay<A: Allocator + Copy, R: Read>(
 {
     let text = read_text(alloc, reader)?;
     let script = read_script(alloc, Mode::Replay, text.as_slice())?;
-    let rows = rows(alloc, &script)?;
+    let rows = rows_of_script(alloc, &script)?;
     Ok(Replay { text, script, rows })
 }
 

@@ -5,15 +5,13 @@ ghost use Rattle.smp_script.specs.Watched.{inner_of, failed_of, flushed_of};
 ghost use Rattle.smp_mask.specs.declared.error.Side.TheVariants.{Read as ReadSide};
 ghost use Rattle.smp_script.specs.Script.{first_line};
 ghost use Rattle.view.specs.Choice.{is_named, lanes_of};
-ghost use Rattle.view.specs.Moments.{moments_of};
+ghost use Rattle.trace_events.specs.Moments.{moments_of};
 ghost use Rattle.view.specs.Shows.{Shows};
 
 use crate::choice::Choice;
 use crate::lanes::{chosen_columns, is_column};
-use crate::moments::{Moment, moments};
 use crate::picture::{Replayed, picture};
-use crate::show::{Replay, ending, read_replay};
-use crate::trace::{Row, is_refused};
+use crate::show::{Replay, read_replay};
 use smp_mask::SmpError;
 use smp_script::line::parts;
 use smp_script::script::Script;
@@ -21,6 +19,9 @@ use smp_script::stream::write_text;
 use smp_script::{Outcome, Watched};
 use std::alloc::{AllocError, Allocator};
 use std::io::{Read, Write};
+use trace_events::moments::{Moment, moments};
+use trace_events::replay::ending;
+use trace_events::rows::{Row, is_refused};
 
 // Whether a refused event names a CPU that is chosen, and is none of these.
 fn is_named(choice: &Choice, cpus: &[u32], row: &Row) -> bool

@@ -6,7 +6,7 @@ ghost use Rattle.view.specs.Kinds.{kind_named, kind_of, kind_text, trimmed};
 use smp_script::line::{is_word, next_line, split_part};
 
 /// The kind of a text.
-#[derive(Clone, Copy, Debug, PartialEq, Eq)]
+#[derive(Clone, Copy, PartialEq, Eq)]
 pub enum TextKind {
     Replay,
     Run,

@@ -3,7 +3,7 @@
 use commands::explain::explain_text;
 use smp_mask::SmpError;
 use smp_script::{Outcome, Watched};
-use std::alloc::Global;
+use std::alloc::{AllocError, Global};
 use std::str::from_utf8;
 use std::test::*;
 
@@ -133,6 +133,101 @@ fn what_may_stand_there(rt: HostRuntime) -> Result<(), Fail> {
     for (text, expected) in cases {
         let (said, _) = explained(rt.alloc(), text.as_bytes())?;
         assert_eq!(rt; from_utf8(said.as_slice()).unwrap_or("?"), expected);
+    }
+    Ok(())
+}
+
+// A text of this head and this line, with `?` in place of the line's field of this number, counted from 1.
+fn changed(
+    alloc: Global,
+    head: &str,
+    line: &str,
+    number: usize,
+) -> Result<String<Global>, AllocError> {
+    let mut fields: Vec<&str, Global> = Vec::new(alloc);
+    let mut at = 0usize;
+    for field in line.split(' ') {
+        at = at.saturating_add(1);
+        fields.push(if at == number { "?" } else { field })?;
+    }
+    let line = fields.join(alloc, " ")?;
+    let line = line.as_str();
+    format!(in alloc; "{head}{line}\n")
+}
+
+// Whether what is explained of a text has these words.
+fn says(alloc: Global, text: &str, words: &str) -> Result<bool, SmpError> {
+    let (said, _) = explained(alloc, text.as_bytes())?;
+    Ok(from_utf8(said.as_slice()).unwrap_or("").contains(words))
+}
+
+// The number of the first field of a line that is not named as the one at fault where it is `?`.
+fn first_unnamed(rt: &HostRuntime, head: &str, line: &str) -> Result<Option<usize>, Fail> {
+    let mut number = 0usize;
+    for _field in line.split(' ') {
+        number = number.saturating_add(1);
+        let text = changed(rt.alloc(), head, line, number)?;
+        let words = format!(in rt.alloc(); "\n  field {number}")?;
+        if !says(rt.alloc(), text.as_str(), words.as_str())? {
+            return Ok(Some(number));
+        }
+    }
+    Ok(None)
+}
+
+// No field is `?` in any kind of text.
+#[test]
+fn the_changed_field_is_named(rt: HostRuntime) -> Result<(), Fail> {
+    let replay = "smp 2 replay\ncpus 2 0-1\n";
+    let run = "smp 1 run\ncpus 2 0-1\n";
+    let exploration = "smp 1 explore\ncpus 2 0-1\n";
+    let trace = "smp 2 trace\ncpus 2 0-1\n";
+    let cases: [(&str, &str); 42] = [
+        ("", "smp 1 replay"),
+        ("smp 2 trace\n", "cpus 2 0-1"),
+        (replay, "labels 1 0:1,0:0"),
+        (replay, "start 0 post 0 1 sync 7 42 1"),
+        (replay, "start 0 send 1"),
+        (replay, "start 0 done 0"),
+        (replay, "start 1 handle"),
+        (replay, "start 0 gate"),
+        (replay, "start 0 begin multi 0-1 - 7 9"),
+        (replay, "start 1 enter 0"),
+        (replay, "start 1 advance -3"),
+        (replay, "start 1 runone 5"),
+        (replay, "start 1 finish"),
+        (replay, "start 0 key 0"),
+        (replay, "start 0 site 1"),
+        (replay, "start 0 nudge 0 up"),
+        (replay, "step 0 2"),
+        (replay, "show"),
+        (run, "labels 1 0:1"),
+        (run, "do 0 1 sync 1 7 42"),
+        (run, "do 0 1 user 0 1 7 42"),
+        (run, "do 0 1 any wait 0-1 7 42"),
+        (run, "do 0 1 many nowait - 7 42"),
+        (run, "do 0 1 cond even wait 0-1 7 42"),
+        (run, "do 0 1 one 1 7 9"),
+        (run, "do 0 1 two 0 1 7 9"),
+        (run, "do 0 1 machine none 7 9"),
+        (run, "do 0 1 machine 0-1 7 9"),
+        (run, "do 0 1 set 0 on"),
+        (run, "do 0 1 inc 0"),
+        (exploration, "cpu 0 post 0 1 async 7 42 1"),
+        (exploration, "cpu 0 repeat 3 gate"),
+        (exploration, "never gate 1 and not said sent"),
+        (exploration, "finally place.0 queued.1"),
+        (trace, "0 queue 1 1 sync 7 42"),
+        (trace, "0 free 1"),
+        (trace, "1 begin 1 7 42"),
+        (trace, "0 open multi 0-1 0 7 9"),
+        (trace, "0 ack 2"),
+        (trace, "0 raise 2"),
+        (trace, "0 set 0 1"),
+        (trace, "0 turn 0 JMP"),
+    ];
+    for (head, line) in cases {
+        assert_eq!(rt; first_unnamed(&rt, head, line)?, None, "{line}");
     }
     Ok(())
 }

@@ -6,7 +6,7 @@ use smp_replay::difference::difference_text;
 use smp_script::{Outcome, Watched};
 use std::alloc::Global;
 use std::test::*;
-use view::show_events;
+use trace_events::show_events;
 
 // A send, and what the machine prints for it.
 const SEND: &[u8] =

@@ -5,7 +5,7 @@ use commands::arguments::Job;
 use commands::read_words;
 use commands::searches::Scripts;
 use explore::Most;
-use smp_report::Orders;
+use explore_text::Orders;
 use std::alloc::Global;
 use std::test::*;
 

@@ -86,7 +86,7 @@ fn broken(
 const NOTHING: &[Expected<'static>] = &[Expected::Goes];
 
 // A command that is made once.
-fn once(cpu: u32, command: Command) -> Line {
+pub fn once(cpu: u32, command: Command) -> Line {
     Line {
         cpu,
         command,

@@ -1,4 +1,4 @@
-use Rattle.trace_laws.proofs.Traces.{begin_once, end_once}
+use Rattle.trace_laws.proofs.Calls.ShownByTraces.{begin_once, end_once}
 use Rattle.trace_laws.proofs.laws.calls_run_once.Goals as goal
 
 pub returns-clause-begin : goal.returns-clause-begin

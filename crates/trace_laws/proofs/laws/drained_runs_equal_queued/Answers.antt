@@ -1,5 +1,5 @@
-use Rattle.trace_laws.proofs.Drained.{drained_equals}
-use Rattle.trace_laws.proofs.Traces.{counts_are}
+use Rattle.trace_laws.proofs.Calls.Drained.{drained_equals}
+use Rattle.trace_laws.proofs.Calls.ShownByTraces.{counts_are}
 use Rattle.trace_laws.proofs.laws.drained_runs_equal_queued.Goals as goal
 
 pub returns-clause-counts : goal.returns-clause-counts

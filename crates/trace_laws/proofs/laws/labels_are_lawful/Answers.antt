@@ -1,4 +1,4 @@
-use Rattle.trace_laws.proofs.Lawful.{labels_are_lawful, reads_are_lawful}
+use Rattle.trace_laws.proofs.Labels.LawfulLabels.{labels_are_lawful, reads_are_lawful}
 use Rattle.trace_laws.proofs.laws.labels_are_lawful.Goals as goal
 
 pub returns-clause-outside : goal.returns-clause-outside

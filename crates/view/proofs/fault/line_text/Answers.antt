@@ -6,20 +6,20 @@ use Rattle.view.proofs.fault.line_text.Goals as goal
 
 pub loop-line-preserved : goal.loop-line-preserved
 loop-line-preserved c =
-    (search rules, (search rules, (search rules, one_on _ _ _ _ _ _ c.loop-line.invariant.1.1.1 c.in_ok-rest.ensures.lines (omega arith))))
+    (search rules, (search rules, one_on _ _ _ _ _ _ c.loop-line.invariant.1.1 c.in_ok-rest.ensures.lines (omega arith)))
 
-pub returns-in_err-rest-clause-value : goal.returns-in_err-rest-clause-value
-returns-in_err-rest-clause-value c =
+pub returns-in_err-rest : goal.returns-in_err-rest
+returns-in_err-rest c =
     let none : slice_get (lines_of c.args.text.now) (c.args.line - 1) ≡ None =
-    past_end _ _ _ _ c.loop-line.invariant.1.1.1 c.in_err-rest.ensures.lines (omega arith) in
+    past_end _ _ _ _ c.loop-line.invariant.1.1 c.in_err-rest.ensures.lines (omega arith) in
     rw none (search rules)
 
-pub returns-in_err-found-clause-value : goal.returns-in_err-found-clause-value
-returns-in_err-found-clause-value c =
+pub returns-in_err-found : goal.returns-in_err-found
+returns-in_err-found c =
     let none : slice_get (lines_of c.args.text.now) (c.args.line - 1) ≡ None =
-    past_end _ _ _ _ c.loop-line.invariant.1.1.1 c.in_err-found.ensures.lines (omega arith) in
+    past_end _ _ _ _ c.loop-line.invariant.1.1 c.in_err-found.ensures.lines (omega arith) in
     rw none (search rules)
 
-pub returns-clause-value : goal.returns-clause-value
-returns-clause-value c =
-    sym (ap (option_map (λ l. l.text)) (first_left _ _ (c.args.line - 1) _ _ _ c.loop-line.invariant.1.1.1 c.in_ok-found.ensures.lines (omega arith)))
+pub returns : goal.returns
+returns c =
+    sym (ap (option_map (λ l. l.text)) (first_left _ _ (c.args.line - 1) _ _ _ c.loop-line.invariant.1.1 c.in_ok-found.ensures.lines (omega arith)))

@@ -1,0 +1,2 @@
+-- the steps of a CPU that sleeps, and of those that wake it
+pub mod Alarm

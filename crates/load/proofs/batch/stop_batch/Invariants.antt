@@ -1,5 +1,0 @@
-use Rattle.smp_machine.specs.Seats.{IsSameSeat}
-use Rattle.load.proofs.batch.stop_batch.Given as goal
-
-abbrev pub invariant-loop-i : goal.invariant-loop-i
-invariant-loop-i g l = IsSameSeat l.initial.stand l.stand

@@ -1,6 +1,0 @@
-use Rattle.std.proofs.Common.{◌≡◌, take}
-use Rattle.load.specs.Sums.{row_added}
-use Rattle.load.proofs.seat.added.Given as goal
-
-abbrev pub invariant-loop-ran : goal.invariant-loop-ran
-invariant-loop-ran l = l.all ≡ row_added l.sum (take l.ran-index l.row)

@@ -1,5 +1,0 @@
-use Rattle.smp_machine.specs.Seats.{IsSameSeat}
-use Rattle.load.proofs.stops.count.Given as goal
-
-abbrev pub invariant-loop : goal.invariant-loop
-invariant-loop g l = IsSameSeat l.initial.stand l.stand

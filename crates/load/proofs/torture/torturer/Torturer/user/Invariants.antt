@@ -1,0 +1,5 @@
+use Rattle.smp_machine.specs.Seats.{IsSameSeat}
+use Rattle.load.proofs.torture.torturer.Torturer.user.Given as goal
+
+abbrev pub invariant-loop : goal.invariant-loop
+invariant-loop g l = IsSameSeat l.initial.seat l.seat

@@ -1,6 +1,0 @@
-use Rattle.std.proofs.Common.{◌∙◌}
-use Rattle.smp_torture.proofs.Ending.{first_members}
-use Rattle.smp_torture.proofs.torture_new.Goals as goal
-
-pub returns : goal.returns
-returns g c mask first = c.in_ok-last.ensures.each ∙ first_members _ _ _ c.in_ok-machine.ensures.online first

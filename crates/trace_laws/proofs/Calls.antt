@@ -1,0 +1,10 @@
+pub mod CallEvents
+pub mod CpuSteps
+pub mod OtherEvents
+pub mod StateSteps
+pub mod ShownByRuns
+pub mod ShownByTraces
+pub mod Drained
+pub mod TwoSteps
+pub mod MadeSteps
+pub mod AcceptedTexts

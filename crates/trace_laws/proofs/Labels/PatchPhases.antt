@@ -1,0 +1,251 @@
+-- A CPU acknowledges a phase, or raises it: what holds of patches still does.
+use Rattle.trace_laws.proofs.Names.{APatch, Bool, Err, Kind, List, None, Ok, Option, Patch, Place, Reason, Result, Seen, Some, StateValue, Stop, Task, ack_by}
+use Rattle.trace_laws.proofs.Names.{acked, acked_by, acknowledged, acks_as, acks_at_run, and_parts, ap, arith, at_last, cases_Bool, eq-eqb, eqb-true, false}
+use Rattle.trace_laws.proofs.Names.{get_or-set_other, get_or-set_same, has, if◌then◌else◌, in_round, inl, inr, is_some, key_number, late, may_ack, min}
+use Rattle.trace_laws.proofs.Names.{next_store, not, on_stop, patch_for, patch_left, patch_or, patch_over, raise_by, raised, raised_by, refl, set-set}
+use Rattle.trace_laws.proofs.Names.{slice_index_or, slice_set, stop_at, switched, switched_on, sym, true, with_acked, with_irq, with_stop, ℕ, ◌&&◌, ◌+◌, ◌-◌}
+use Rattle.trace_laws.proofs.Names.{◌<◌, ◌==◌, ◌>>=◌, ◌^◌, ◌∙◌, ◌≡◌, ◌≢◌, ◌⊎◌}
+use Rattle.trace_model.specs.declared.reason.Reason.TheVariants as reason
+use Rattle.trace_model.specs.Labels.{front_of}
+use Rattle.trace_laws.proofs.Labels.Patches.{Labelled, Live, PatchAt, StopGoes, labelled_same, stop_labelled}
+use Rattle.trace_laws.proofs.Labels.StoredWords.{AllOk, Partial, front_none, over_ok, some_is}
+use Rattle.trace_laws.proofs.Stops.StopEvents.{actor_below, acts_at, in_round_is, ne_truth, stop_same}
+use Rattle.trace_laws.proofs.{Calls.MadeSteps.both_made, Calls.MadeSteps.passed, Labels.PatchEvents.labelled_end, Stops.CpusInStops.Rounds}
+use Rattle.trace_laws.proofs.{Stops.CpusInStops.stop_changed, Stops.Phases.late_none, Stops.Phases.raised_is}
+
+-- A patch is over: its CPU may acknowledge RUN.
+pub record IsOver (s : StateValue) (source actor phase : ℕ) : Type 0 where
+  pub at : phase ≡ 3
+  pub kind_is : (stop_at s source).task.kind ≡ APatch
+  pub active : has (stop_at s source).task.active actor ≡ true
+  pub none : next_store source s ≡ None
+
+-- What a CPU that may acknowledge has shown of a patch.
+pub record MayAck (s t : StateValue) (source actor phase : ℕ) : Type 0 where
+  pub patch : Option Patch
+  pub is : t ≡ with_stop source s (record (stop_at s source) { patch = patch })
+  pub how : (patch ≡ (stop_at s source).patch) × (phase ≡ 3 → (stop_at s source).task.kind ≡ APatch → has (stop_at s source).task.active actor ≡ true → ⊥)
+      ⊎ (patch ≡ Some (patch_left source s)) × IsOver s source actor phase
+
+same_stop : (source : ℕ) (s : StateValue) → s ≡ with_stop source s (record (stop_at s source) { patch = (stop_at s source).patch })
+same_stop source s = sym (stop_same source s)
+
+may_here : (s t : StateValue) (source actor phase : ℕ) → s ≡ t → (phase ≡ 3 → (stop_at s source).task.kind ≡ APatch →
+    has (stop_at s source).task.active actor ≡ true → ⊥)
+    → MayAck s t source actor phase
+may_here s t source actor phase same idle = record { patch = (stop_at s source).patch; is = sym same ∙ same_stop source s; how = inl (refl, idle) }
+
+may_over : (next : Option (Place × ℕ)) (s t : StateValue) (source actor phase : ℕ) → next_store source s ≡ next → phase ≡ 3 →
+    (stop_at s source).task.kind ≡ APatch
+    → has (stop_at s source).task.active actor ≡ true → patch_over next source (patch_left source s) s ≡ Ok t → MayAck s t source actor phase
+may_over next s t source actor phase h1 h2 h3 h4 h5 = search arith
+
+may_kind : (kind : Kind) (s t : StateValue) (source actor phase : ℕ) → (stop_at s source).task.kind ≡ kind → phase ≡ 3 →
+    has (stop_at s source).task.active actor ≡ true
+    → acks_as kind actor source s ≡ Ok t → MayAck s t source actor phase
+may_kind kind s t source actor phase h1 h2 h3 h4 = search (may_over, passed, may_here, arith)
+
+may_tests : (two runs : Bool) (s t : StateValue) (source actor phase : ℕ) (test : Result (Unit {0}) Reason) → (phase == 2) ≡ two
+    → ((phase == 3) && has (stop_at s source).task.active actor) ≡ runs
+    → (if two then (test >>= λ v. Ok s) else (if runs then acks_at_run actor source s else Ok s)) ≡ Ok t → MayAck s t source actor phase
+may_tests two runs s t source actor phase test h1 h2 h3 = search (both_made, may_here, eqb-true, and_parts, may_kind, eq-eqb, ne_truth, arith)
+
+pub may_is : (s t : StateValue) (source actor phase : ℕ) → may_ack actor source phase s ≡ Ok t
+    → MayAck s t source actor phase × ((acked_by (stop_at s source) actor < phase) × ((stop_at s source).phase ≡ phase))
+may_is s t source actor phase h1 = search (both_made, may_tests, acts_at, arith)
+
+-- A stop with the same patch, but for its phase.
+pub record SameBut (stop to : Stop) : Type 0 where
+  pub is_open : to.is_open ≡ stop.is_open
+  pub task : to.task ≡ stop.task
+  pub patch : to.patch ≡ stop.patch
+  pub acked : to.acked ≡ stop.acked
+
+-- what is to follow of a stop once a CPU has acknowledged, the last or not
+last_open : (who : Option ℕ) (actor : ℕ) (raises : Bool) (stop : Stop) → SameBut stop (at_last who actor raises stop)
+last_open (Some other) actor raises stop = record { is_open = refl; task = refl; patch = refl; acked = refl }
+last_open None actor true stop = record { is_open = refl; task = refl; patch = refl; acked = refl }
+last_open None actor false stop = record { is_open = refl; task = refl; patch = refl; acked = refl }
+
+last_phase : (who : Option ℕ) (actor : ℕ) (raises : Bool) (stop : Stop) → ((at_last who actor raises stop).phase ≡ stop.phase)
+    ⊎ ((who ≡ None) × ((at_last who actor raises stop).phase ≡ min (stop.phase + 1) (2 ^ 32 - 1)))
+last_phase (Some other) actor raises stop = inl refl
+last_phase None actor true stop = inl refl
+last_phase None actor false stop = inr (refl, refl)
+
+-- the phase after is 3 only where it was 3, or where nobody is late at 2
+three_after : (who : Option ℕ) (actor : ℕ) (raises : Bool) (stop : Stop) (phase : ℕ) → stop.phase ≡ phase → (at_last who actor raises stop).phase ≡ 3 →
+    (phase ≡ 3) ⊎ (phase ≡ 2)
+three_after who actor raises stop phase h1 h2 = search (last_phase, arith)
+
+low_after : (who : Option ℕ) (actor : ℕ) (raises : Bool) (stop : Stop) (phase : ℕ) → stop.phase ≡ phase → (at_last who actor raises stop).phase < 3 → phase < 3
+low_after who actor raises stop phase h1 h2 = search (last_phase, arith)
+
+-- A CPU acknowledges a phase: what becomes of the patch of its stop.
+pub record Acks (s : StateValue) (source actor phase : ℕ) (patch : Option Patch) : Type 0 where
+  pub low : source < 32
+  pub below : actor < 32
+  pub at : (stop_at s source).phase ≡ phase
+  pub more : acked_by (stop_at s source) actor < phase
+  pub how : (patch ≡ (stop_at s source).patch) × (phase ≡ 3 → (stop_at s source).task.kind ≡ APatch → has (stop_at s source).task.active actor ≡ true → ⊥)
+      ⊎ (patch ≡ Some (patch_left source s)) × IsOver s source actor phase
+
+abbrev ack_to : ℕ → ℕ → Bool → Option Patch → Stop → Stop
+ack_to actor phase raises patch stop =
+    let mid = with_acked actor phase (record stop { patch = patch }) in at_last (late mid phase) actor raises mid
+
+ack_patch : (s : StateValue) (source actor phase : ℕ) (raises : Bool) (patch : Option Patch) → Labelled s → Acks s source actor phase patch
+    → PatchAt s.setting (ack_to actor phase raises patch (stop_at s source))
+ack_patch s source actor phase raises patch h1 h2 = search (last_open, some_is, front_none, low_after, arith)
+
+acked_other : (stop : Stop) (actor phase cpu : ℕ) → cpu ≢ actor → slice_index_or (slice_set stop.acked actor phase) cpu 0 ≡ acked_by stop cpu
+acked_other stop actor phase cpu ne = get_or-set_other stop.acked actor cpu phase 0 ne
+
+-- the CPU that has acknowledged RUN is not the one that patches
+not_early : (seen : ℕ → Seen) (work : ℕ → Option Task) (s : StateValue) (source actor phase : ℕ) (raises : Bool) (patch : Option Patch) (q : Patch) →
+    Rounds seen work s
+    → Acks s source actor phase patch → phase ≡ 3 → has (stop_at s source).task.active actor ≡ true →
+    Live (ack_to actor phase raises patch (stop_at s source)) q → ⊥
+not_early seen work s source actor phase raises patch q h1 h2 h3 h4 h5 = search (last_open, get_or-set_same, arith)
+
+-- where the CPU is not the one that patches, the patch goes on as it was
+live_before : (s : StateValue) (source actor phase : ℕ) (raises : Bool) (patch : Option Patch) (q : Patch) → Acks s source actor phase patch → phase ≡ 3
+    → patch ≡ (stop_at s source).patch → (has (stop_at s source).task.active actor ≡ true → ⊥) →
+    Live (ack_to actor phase raises patch (stop_at s source)) q → Live (stop_at s source) q
+live_before s source actor phase raises patch q h1 h2 h3 h4 h5 = search (last_open, acked_other, arith)
+
+live_after : (s : StateValue) (source actor phase : ℕ) (raises : Bool) (patch : Option Patch) (q : Patch) → Labelled s → Acks s source actor phase patch
+    → patch ≡ (stop_at s source).patch → (has (stop_at s source).task.active actor ≡ true → ⊥) → Live (stop_at s source) q
+    → Live (ack_to actor phase raises patch (stop_at s source)) q
+live_after s source actor phase raises patch q l a same idle live =
+    let stop = stop_at s source in
+    let mid = with_acked actor phase (record stop { patch = patch }) in
+    let who = late mid phase in
+    let b = last_open who actor raises mid in
+    let task : (at_last who actor raises mid).task ≡ stop.task = b.task in
+    let acked : (at_last who actor raises mid).acked ≡ slice_set stop.acked actor phase = b.acked in
+    let all = (l.patches source a.low).all live.is_open live.kind_is in
+    let ne : all.cpu ≢ actor = λ e. idle (let x = all.active in rw e at x) in
+    let early = live.early all.cpu all.below all.active in
+    let kept = acked_other stop actor phase all.cpu ne in
+    record {
+      is_open = b.is_open ∙ live.is_open;
+      kind_is = ap (λ x. x.kind) task ∙ live.kind_is;
+      at = elim (last_phase who actor raises mid) [
+        | inl x ↦ x ∙ live.at
+        | inr x ↦ absurd (let h = late_none mid phase all.cpu x.0 all.below all.member in let z = live.at in let y = a.at in omega arith)
+      ];
+      known = b.patch ∙ same ∙ live.known;
+      turns = live.turns;
+      early = λ cpu low active.
+          let old : has stop.task.active cpu ≡ true = rw task at active in
+          let other : cpu ≢ actor = λ e. idle (rw e at old) in
+          let h = live.early cpu low old in
+          let is : acked_by (at_last who actor raises mid) cpu ≡ acked_by stop cpu = ap (λ (xs : List ℕ). slice_index_or xs cpu 0) acked ∙
+          acked_other stop actor phase cpu other in
+          rw is h;
+    }
+
+ack_rests : (seen : ℕ → Seen) (work : ℕ → Option Task) (s : StateValue) (source actor phase : ℕ) (raises : Bool) (patch : Option Patch) →
+    Rounds seen work s → Labelled s
+    → Acks s source actor phase patch → ((p : Patch) → Live (stop_at s source) p → ⊥) → (q : Patch) →
+    Live (ack_to actor phase raises patch (stop_at s source)) q → ⊥
+ack_rests seen work s source actor phase raises patch h1 h2 h3 h4 q h5 = search (last_open, three_after, cases_Bool, not_early, live_before, ne_truth, arith)
+
+ack_next : (seen : ℕ → Seen) (work : ℕ → Option Task) (s : StateValue) (source actor phase : ℕ) (raises : Bool) (patch : Option Patch) → Rounds seen work s →
+    Labelled s
+    → Acks s source actor phase patch → (p : Patch) → Live (stop_at s source) p → Partial s.words (stop_at s source).task.func p
+    → let to = ack_to actor phase raises patch (stop_at s source) in
+    (Live to p × (to.task.func ≡ (stop_at s source).task.func)) ⊎ (AllOk s.words × ((q : Patch) → Live to q → ⊥))
+ack_next seen work s source actor phase raises patch r l a p live part =
+    let stop = stop_at s source in
+    let mid = with_acked actor phase (record stop { patch = patch }) in
+    let b = last_open (late mid phase) actor raises mid in
+    let three : phase ≡ 3 = sym a.at ∙ live.at in
+    elim a.how [
+      | inl h ↦ (let idle = h.1 three live.kind_is in inl (live_after s source actor phase raises patch p l a h.0 idle live, ap (λ x. x.func) b.task))
+      | inr h ↦
+          (let known : stop.patch ≡ Some p = live.known in
+          let left : patch_left source s ≡ p = ap (λ x. patch_or x (patch_for s.words (key_number stop.task.func) stop.task.arg)) known in
+          let over : front_of s.words stop.task.func p ≡ None = ap (λ x. front_of s.words stop.task.func x) (sym left) ∙ h.1.none in
+          inr (over_ok s.words stop.task.func p live.turns over part, (λ q m. not_early seen work s source actor phase raises patch q r a three h.1.active m)))
+    ]
+
+ack_goes : (seen : ℕ → Seen) (work : ℕ → Option Task) (s : StateValue) (source actor phase : ℕ) (raises : Bool) (patch : Option Patch) → Rounds seen work s →
+    Labelled s
+    → Acks s source actor phase patch → StopGoes s source (ack_to actor phase raises patch (stop_at s source))
+ack_goes seen work s source actor phase raises patch r l a = record {
+  patch = ack_patch s source actor phase raises patch l a;
+  rests = λ none q live. ack_rests seen work s source actor phase raises patch r l a none q live;
+  goes = λ p live part. ack_next seen work s source actor phase raises patch r l a p live part;
+}
+
+-- interrupts are of no patch
+irq_labelled : (s : StateValue) (cpu : ℕ) (on : Bool) → Labelled s → Labelled (with_irq cpu on s)
+irq_labelled s cpu on l = labelled_same s (with_irq cpu on s) refl refl refl l
+
+if_labelled : (test : Bool) (x y : StateValue) → Labelled x → Labelled y → Labelled (if test then x else y)
+if_labelled true x y p q = p
+if_labelled false x y p q = q
+
+switched_labelled : (s : StateValue) (cpu source phase : ℕ) → Labelled s → Labelled (switched cpu source phase s)
+switched_labelled s cpu source phase h1 = search (if_labelled, irq_labelled, arith)
+
+ack_from : (seen : ℕ → Seen) (work : ℕ → Option Task) (s m : StateValue) (source actor phase : ℕ) → Rounds seen work s → Labelled s → source < 32 → actor < 32
+    → (k : MayAck s m source actor phase) → acked_by (stop_at s source) actor < phase → (stop_at s source).phase ≡ phase → Labelled (acked actor source phase m)
+unfolding acknowledged
+ack_from seen work s m source actor phase r l low below k more at =
+    let stop = stop_at s source in
+    let known = record stop { patch = k.patch } in
+    let raises = not m.setting.without.raises in
+    let to = ack_to actor phase raises k.patch stop in
+    let is : m ≡ with_stop source s known = k.is in
+    let st : stop_at m source ≡ known = ap (λ x. stop_at x source) is ∙ stop_changed source s known (rw r.stops_are low) in
+    let a : Acks s source actor phase k.patch = record { low = low; below = below; at = at; more = more; how = k.how } in
+    let u = with_stop source m (acknowledged actor phase raises (stop_at m source)) in
+    let stops : u.stops ≡ slice_set s.stops source to =
+    ap (λ x. slice_set m.stops source (acknowledged actor phase raises x)) st ∙ ap (λ x. slice_set x.stops source to) is ∙ set-set s.stops source known to in
+    let words : u.words ≡ s.words = ap (λ x. x.words) is in
+    let setting : u.setting ≡ s.setting = ap (λ x. x.setting) is in
+    switched_labelled u actor source phase (labelled_same (with_stop source s to) u words stops setting
+    (stop_labelled seen work s source to r l (ack_goes seen work s source actor phase raises k.patch r l a) low))
+
+pub ack_labelled : (seen : ℕ → Seen) (work : ℕ → Option Task) (s t : StateValue) (actor phase : ℕ) → Rounds seen work s → Labelled s →
+    ack_by actor phase s ≡ Ok t → Labelled t
+unfolding ack_by
+ack_labelled seen work s t actor phase r l e =
+    let m = both_made (in_round actor s) (λ source. may_ack actor source phase s >>= λ x. Ok (acked actor source phase x)) t e in
+    let i = in_round_is s actor m.0 m.1.0 in
+    let n = both_made (may_ack actor m.0 phase s) (λ x. Ok (acked actor m.0 phase x)) t m.1.1 in
+    let k = may_is s n.0 m.0 actor phase n.1.0 in
+    labelled_end (acked actor m.0 phase n.0) t (cc)
+    (ack_from seen work s n.0 m.0 actor phase r l i.low (actor_below s actor m.0 r.cpus_are i.inside) k.0 k.1.0 k.1.1)
+
+-- a phase is raised
+raise_goes : (seen : ℕ → Seen) (work : ℕ → Option Task) (s : StateValue) (source phase : ℕ) → Rounds seen work s → Labelled s → source < 32
+    → is_some (stop_at s source).raiser ≡ true → (stop_at s source).phase ≡ phase - 1 →
+    StopGoes s source (record (stop_at s source) { phase = phase; raiser = None })
+raise_goes seen work s source phase h1 h2 h3 h4 h5 = search arith
+
+pub raise_labelled : (seen : ℕ → Seen) (work : ℕ → Option Task) (s t : StateValue) (actor phase : ℕ) → Rounds seen work s → Labelled s →
+    raise_by actor phase s ≡ Ok t → Labelled t
+unfolding raise_by raised
+raise_labelled seen work s t actor phase r l e =
+    let made = λ (source : ℕ). let stop = stop_at s source in
+    let x : Result Stop Reason = if stop.phase == phase - 1 then raised_by stop.raiser actor phase stop else Err (reason.PhaseIs stop.phase) in x in
+    let m = both_made (in_round actor s) (λ source. on_stop source s (made source) >>= λ x. Ok (switched_on actor phase x)) t e in
+    let source = m.0 in
+    let stop = stop_at s source in
+    let i = in_round_is s actor source m.1.0 in
+    let n = both_made (on_stop source s (made source)) (λ x. Ok (switched_on actor phase x)) t m.1.1 in
+    let k = both_made (made source) (λ x. Ok (with_stop source s x)) n.0 n.1.0 in
+    let p = passed (stop.phase == phase - 1) (raised_by stop.raiser actor phase stop) (reason.PhaseIs stop.phase) k.0 k.1.0 in
+    let at = eqb-true stop.phase (phase - 1) p.0 in
+    let o = raised_is stop.raiser actor phase stop k.0 p.1 in
+    let to = record stop { phase = phase; raiser = None } in
+    let u = with_stop source s to in
+    let end : u ≡ n.0 = ap (λ x. with_stop source s x) o.1 ∙ cc in
+    let same : switched_on actor phase u ≡ t = ap (λ x. switched_on actor phase x) end ∙ cc in
+    let after = stop_labelled seen work s source to r l (raise_goes seen work s source phase r l i.low o.0 at) i.low in
+    labelled_end (switched_on actor phase u) t same
+    (if_labelled (u.setting.without.switches && (phase == 5)) (with_irq actor true u) u (irq_labelled u actor true after) after)

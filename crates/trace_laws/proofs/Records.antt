@@ -1,0 +1,4 @@
+pub mod RecordMoves
+pub mod EventPlaces
+pub mod OnePlace
+pub mod RecordTurns

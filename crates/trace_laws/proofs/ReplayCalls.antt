@@ -1,0 +1,10 @@
+pub mod ChangedStates
+pub mod CallEvents
+pub mod TakenQueues
+pub mod StepEvents
+pub mod PostSteps
+pub mod HandleSteps
+pub mod KeptPasts
+pub mod OtherHalf
+pub mod EventsByHalf
+pub mod AcceptedCalls

@@ -1,0 +1,208 @@
+-- What events of stops make of a state that leaves nothing out, where their premises hold.
+use Rattle.trace_laws.proofs.Names.{APatch, Bool, Err, Kind, Multi, None, Ok, One, Option, Reason, Result, Setting, Some, StateValue, Stop, Task, ack_by}
+use Rattle.trace_laws.proofs.Names.{acked_by, acknowledged, answer_wanted, ap, collect_by, collected, complete_by, completed, cond, cpu_at, enter_by, entered}
+use Rattle.trace_laws.proofs.Names.{eq-eqb, false, false≢true, gate_by, gives, handles_nothing, has, has_run, in_round, int_eq, is_called, is_cpu, is_work}
+use Rattle.trace_laws.proofs.Names.{le-ltb, lt-leb, lt-ltb, may_complete, not, off_by, offline_in, on_by, open_by, opened, raise_by, raised, ran_function, refl}
+use Rattle.trace_laws.proofs.Names.{run_by, slice_set, stop_at, stop_of, true, true≢false, unfinished, ungate_by, unless_offline, with_inside, with_irq}
+use Rattle.trace_laws.proofs.Names.{with_stop, ℕ, ℤ, ◌&&◌, ◌-◌, ◌<◌, ◌==◌, ◌>>=◌, ◌∙◌, ◌≡◌, ◌≢◌, ◌≤◌}
+use Rattle.trace_laws.proofs.ReplayNames.{Without, nothing_left_out, opening}
+use Rattle.trace_model.specs.declared.reason.Reason.TheVariants as reason
+
+passes : {A : Type 0} (b : Bool) (x y : A) → b ≡ true → cond b x y ≡ x
+passes true x y e = refl
+passes false x y e = absurd (false≢true e)
+
+opened_made : (u : Setting) (task : Task) → is_work u task ≡ true → offline_in u task.mask ≡ None → opened u task ≡ Ok (opening task)
+unfolding opened
+opened_made u task work online =
+    passes (is_work u task) (unless_offline (offline_in u task.mask) (opening task)) (Err reason.NoSuchWork) work
+    ∙ ap (λ (x : Option ℕ). unless_offline x (opening task)) online
+
+-- the function of a stop is entered
+ran_one : (stop : Stop) (me func arg : ℕ) → stop.task.kind ≡ One → has_run stop me ≡ false → stop.task.func ≡ func → stop.task.arg ≡ arg
+    → ran_function me func arg stop ≡ Ok (record stop { ran = slice_set stop.ran me true })
+unfolding ran_function
+ran_one stop me func arg kind not_yet f a = rw (kind, not_yet, eq-eqb stop.task.func func f, eq-eqb stop.task.arg arg a) refl
+
+ran_multi : (stop : Stop) (me func arg : ℕ) → stop.task.kind ≡ Multi → has stop.task.active me ≡ true → acked_by stop me < 3 → stop.phase ≡ 3
+    → has_run stop me ≡ false
+    → stop.task.func ≡ func → stop.task.arg ≡ arg → ran_function me func arg stop ≡ Ok (record stop { ran = slice_set stop.ran me true })
+unfolding ran_function
+ran_multi stop me func arg kind active low at not_yet f a =
+    rw (kind, active, lt-leb 3 (acked_by stop me) low, at, not_yet, eq-eqb stop.task.func func f, eq-eqb stop.task.arg arg a) refl
+
+-- a CPU that may answer so completes
+abbrev pub MayAnswer : Stop → ℕ → ℤ → Type 0
+MayAnswer stop me answer = (not (has_run stop me) && not (int_eq answer (answer_wanted stop me))) ≡ false
+
+fails : {A : Type 0} (b : Bool) (x y : A) → b ≡ false → cond b x y ≡ y
+fails true x y e = absurd (true≢false e)
+fails false x y e = refl
+
+completed_one : (stop : Stop) (me : ℕ) (answer : ℤ) (irq : Bool) → stop.task.kind ≡ One → has_run stop me ≡ true
+    → completed me answer irq stop ≡ Ok (record stop { answers = slice_set stop.answers me (Some answer) })
+unfolding completed
+completed_one stop me answer irq kind ran = rw (kind, ran) refl
+
+may_round : (kind : Kind) (stop : Stop) (me : ℕ) (irq : Bool) → kind ≢ One → 4 ≤ acked_by stop me → is_cpu stop.raiser me ≡ false → irq ≡ true
+    → may_complete kind me irq stop ≡ Ok tt
+may_round One stop me irq ne high not_last on = absurd (ne refl)
+may_round Multi stop me irq ne high not_last on = rw (le-ltb (acked_by stop me) 4 high, not_last, on) refl
+may_round APatch stop me irq ne high not_last on = rw (le-ltb (acked_by stop me) 4 high, not_last, on) refl
+
+then_made : {A : Type 0} (first : Result (Unit {0}) Reason) (next : Unit {0} → Result A Reason) → first ≡ Ok tt → (first >>= next) ≡ next tt
+then_made first next e = ap (λ (x : Result (Unit {0}) Reason). x >>= next) e
+
+completed_round : (stop : Stop) (me : ℕ) (answer : ℤ) (irq : Bool) → stop.task.kind ≢ One → 4 ≤ acked_by stop me → is_cpu stop.raiser me ≡ false → irq ≡ true
+    → MayAnswer stop me answer → completed me answer irq stop ≡ Ok (record stop { answers = slice_set stop.answers me (Some answer) })
+unfolding completed
+completed_round stop me answer irq ne high not_last on may =
+    let made = Ok (record stop { answers = slice_set stop.answers me (Some answer) }) in
+    let wrong = Err (reason.AnswerIs (answer_wanted stop me)) in
+    then_made (may_complete stop.task.kind me irq stop)
+    (λ u. cond (not (has_run stop me) && not (int_eq answer (answer_wanted stop me))) wrong made)
+    (may_round stop.task.kind stop me irq ne high not_last on)
+    ∙ fails (not (has_run stop me) && not (int_eq answer (answer_wanted stop me))) wrong made may
+
+module _ (s : StateValue) (me : ℕ) (whole : s.setting.without ≡ nothing_left_out) where
+  pub takes_gate : s.gate ≡ None → gate_by me s ≡ Ok (record s { gate = Some me })
+  unfolding gate_by
+  takes_gate e = rw e refl
+
+  pub gives_gate : s.gate ≡ Some me → ungate_by me s ≡ Ok (record s { gate = None })
+  unfolding ungate_by
+  gives_gate e = rw (e, eq-eqb me me refl) refl
+
+  pub opens_stop : (task : Task) → (stop_at s me).is_open ≡ false → s.gate ≡ Some me → is_work s.setting task ≡ true → offline_in s.setting task.mask ≡ None
+      → open_by me task s ≡ Ok (with_stop me s (opening task))
+  unfolding open_by
+  opens_stop task shut gate work online = rw (shut, opened_made s.setting task work online, ap (λ (w : Without). w.gate) whole, gate, eq-eqb me me refl) refl
+
+  pub enters_stop : (source : ℕ) → source < 32 → (cpu_at s me).inside ≡ None → (stop_at s source).is_open ≡ true → is_called (stop_at s source) me ≡ true
+      → enter_by me source s ≡ Ok (with_inside me (Some source) (with_stop source s (record (stop_at s source) {
+        entered = slice_set
+            (stop_at s source).entered me true;
+      })))
+  unfolding enter_by entered
+  enters_stop source l none is_open called = rw (none, lt-ltb source 32 l, is_open, called) refl
+
+  -- the CPU is in a rendezvous
+  module _ (source : ℕ) (below : source < 32) (inside : (cpu_at s me).inside ≡ Some source) where
+    is_in : stop_of me s ≡ Ok source
+    is_in = rw (inside, lt-ltb source 32 below) refl
+
+    rounds : (kind : Kind) → (stop_at s source).task.kind ≡ kind → kind ≢ One → in_round me s ≡ Ok source
+    rounds One e ne = absurd (ne refl)
+    rounds Multi e ne = rw (inside, lt-ltb source 32 below, e) refl
+    rounds APatch e ne = rw (inside, lt-ltb source 32 below, e) refl
+
+    pub turns_off : (stop_at s source).task.kind ≢ One → (cpu_at s me).irq ≡ true → acked_by (stop_at s source) me < 2 → (stop_at s source).phase ≡ 2
+        → handles_nothing (cpu_at s me) ≡ Ok tt → off_by me s ≡ Ok (with_irq me false s)
+    unfolding off_by
+    turns_off kind on low at quiet = rw (rounds (stop_at s source).task.kind refl kind, on, lt-leb 2 (acked_by (stop_at s source) me) low, at, quiet) refl
+
+    pub turns_on : (stop_at s source).task.kind ≢ One → (cpu_at s me).irq ≡ false → 4 ≤ acked_by (stop_at s source) me
+        → is_cpu (stop_at s source).raiser me ≡ false
+        → on_by me s ≡ Ok (with_irq me true s)
+    unfolding on_by
+    turns_on kind off high not_last = rw (rounds (stop_at s source).task.kind refl kind, off, le-ltb (acked_by (stop_at s source) me) 4 high, not_last) refl
+
+    pub raises_phase : (phase : ℕ) → (stop_at s source).task.kind ≢ One → (stop_at s source).phase ≡ phase - 1 → (stop_at s source).raiser ≡ Some me
+        → raise_by me phase s ≡ Ok (with_stop source s (record (stop_at s source) { phase = phase; raiser = None }))
+    unfolding raise_by raised
+    raises_phase phase kind at last =
+        rw (
+          rounds (stop_at s source).task.kind refl kind,
+          eq-eqb (stop_at s source).phase (phase - 1) at,
+          last,
+          eq-eqb me me refl,
+          ap (λ
+              (w : Without). w.switches) whole,
+        ) refl
+
+    -- the function of a stop of kind One, and that of a rendezvous
+    pub runs_one : (func arg : ℕ) → (stop_at s source).task.kind ≡ One → has_run (stop_at s source) me ≡ false → (stop_at s source).task.func ≡ func
+        → (stop_at s source).task.arg ≡ arg → run_by me func arg s ≡ Ok (with_stop source s (record (stop_at s source) {
+          ran = slice_set
+              (stop_at s source).ran me true;
+        }))
+    unfolding run_by
+    runs_one func arg kind not_yet f a = rw (inside, lt-ltb source 32 below, kind, ran_one (stop_at s source) me func arg kind not_yet f a) refl
+
+    pub runs_multi : (func arg : ℕ) → (stop_at s source).task.kind ≡ Multi → has (stop_at s source).task.active me ≡ true → acked_by (stop_at s source) me < 3
+        → (stop_at s source).phase ≡ 3 → has_run (stop_at s source) me ≡ false → (stop_at s source).task.func ≡ func → (stop_at s source).task.arg ≡ arg
+        → run_by me func arg s ≡ Ok (with_stop source s (record (stop_at s source) { ran = slice_set (stop_at s source).ran me true }))
+    unfolding run_by
+    runs_multi func arg kind active low at not_yet f a =
+        rw (inside, lt-ltb source 32 below, kind, ran_multi (stop_at s source) me func arg kind active low at not_yet f a) refl
+
+    -- a phase is acknowledged, which the CPU has not acknowledged, and which is that of the stop
+    pub acks_other : (phase : ℕ) → (stop_at s source).task.kind ≢ One → acked_by (stop_at s source) me < phase → (stop_at s source).phase ≡ phase
+        → (phase == 2) ≡ false
+        → ((phase == 3) && has (stop_at s source).task.active me) ≡ false
+        → ack_by me phase s ≡ Ok (with_stop source s (acknowledged me phase true (stop_at s source)))
+    unfolding ack_by
+    acks_other phase kind low at not_two not_run =
+        rw (
+          rounds (stop_at s source).task.kind refl kind,
+          lt-leb phase (acked_by (stop_at s source) me) low,
+          eq-eqb (stop_at s source).phase phase at,
+          not_two,
+          not_run,
+          ap (λ (w : Without). w.switches) whole,
+          ap (λ (w : Without). w.raises) whole,
+        ) refl
+
+    pub acks_disabled : (stop_at s source).task.kind ≢ One → acked_by (stop_at s source) me < 2 → (stop_at s source).phase ≡ 2 → (cpu_at s me).irq ≡ false
+        → ack_by me 2 s ≡ Ok (with_stop source s (acknowledged me 2 true (stop_at s source)))
+    unfolding ack_by
+    acks_disabled kind low at off =
+        rw (
+          rounds (stop_at s source).task.kind refl kind,
+          lt-leb 2 (acked_by (stop_at s source) me) low,
+          eq-eqb (stop_at s source).phase 2 at,
+          ap (λ (w : Without). w.switches) whole,
+          ap (λ (w : Without). w.raises) whole,
+          off,
+        ) refl
+
+    pub acks_run : (stop_at s source).task.kind ≡ Multi → acked_by (stop_at s source) me < 3 → (stop_at s source).phase ≡ 3
+        → has_run (stop_at s source) me ≡ true
+        → has (stop_at s source).task.active me ≡ true → ack_by me 3 s ≡ Ok (with_stop source s (acknowledged me 3 true (stop_at s source)))
+    unfolding ack_by
+    acks_run kind low at ran active =
+        rw (
+          inside,
+          lt-ltb source 32 below,
+          kind,
+          lt-leb 3 (acked_by (stop_at s source) me) low,
+          eq-eqb (stop_at s source).phase 3 at,
+          active,
+          kind,
+          ran,
+          ap (λ (w : Without). w.switches) whole,
+          ap (λ (w : Without). w.raises) whole,
+        ) refl
+
+    -- a CPU completes
+    abbrev pub done_with : ℤ → StateValue
+    done_with answer = with_inside me None (with_stop source s (record (stop_at s source) { answers = slice_set (stop_at s source).answers me (Some answer) }))
+
+    pub completes_one : (answer : ℤ) → (stop_at s source).task.kind ≡ One → has_run (stop_at s source) me ≡ true
+        → complete_by me answer s ≡ Ok (done_with answer)
+    unfolding complete_by
+    completes_one answer kind ran = rw (inside, lt-ltb source 32 below, completed_one (stop_at s source) me answer (cpu_at s me).irq kind ran) refl
+
+    -- after its function, or with the answer of a CPU that has run none
+    pub completes_round : (answer : ℤ) → (stop_at s source).task.kind ≢ One → 4 ≤ acked_by (stop_at s source) me
+        → is_cpu (stop_at s source).raiser me ≡ false → (cpu_at s me).irq ≡ true → MayAnswer (stop_at s source) me answer
+        → complete_by me answer s ≡ Ok (done_with answer)
+    unfolding complete_by
+    completes_round answer ne high not_last on may =
+        rw (inside, lt-ltb source 32 below, completed_round (stop_at s source) me answer (cpu_at s me).irq ne high not_last on may) refl
+
+  -- a source collects
+  pub collects_result : (answer : ℤ) → (stop_at s me).is_open ≡ true → unfinished (stop_at s me) ≡ None → gives (stop_at s me) answer ≡ true
+      → collect_by me answer s ≡ Ok (with_stop me s (record (stop_at s me) { is_open = false }))
+  unfolding collect_by collected
+  collects_result answer is_open all given = rw (is_open, all, given) refl

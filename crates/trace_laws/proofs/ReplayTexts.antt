@@ -1,0 +1,15 @@
+pub mod CallNumbers
+pub mod StopNumbers
+pub mod NoteNumbers
+pub mod PhasesAndKeys
+pub mod ToldNumbers
+pub mod ToldEvents
+pub mod NewMachine
+pub mod FrontLines
+pub mod FieldNames
+pub mod Heads
+pub mod EventLines
+pub mod ReadBack
+pub mod EventWords
+pub mod JudgedReplays
+pub mod JudgedScripts

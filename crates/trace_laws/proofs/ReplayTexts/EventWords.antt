@@ -1,0 +1,148 @@
+-- The words of an event, and that they read back.
+use Rattle.trace_laws.proofs.Names.{CallEvent, Event, LabelEvent, List, Ok, Setting, StopEvent, [], append_assoc, arith, codes, decimal, join_with_byte}
+use Rattle.trace_laws.proofs.Names.{list_all, nat_tests, refl, true, ℕ, ◌<◌, ◌∷◌, ◌≡◌, ◌≤◌}
+use Rattle.trace_laws.proofs.ReplayNames.{EventFits, StopFits, class_text, is_field, is_field-decimal, kind_text, nothing_left_out, site_text, switch_text}
+use Rattle.trace_laws.proofs.ReplayNames.{way_text}
+use Rattle.std.specs.Fmt.{signed_decimal}
+use Rattle.smp_script.proofs.{Texts.Decimals.number_in-decimal, Written.CanonicalTexts.mask_is_text, Written.LineWriting.signed_field}
+use Rattle.smp_script.proofs.{Written.LineWriting.signed_read}
+use Rattle.trace_model.specs.declared.event.CallEvent.TheVariants as calls
+use Rattle.trace_model.specs.declared.event.Event.TheVariants as event
+use Rattle.trace_model.specs.declared.event.LabelEvent.TheVariants as labels
+use Rattle.trace_model.specs.declared.event.StopEvent.TheVariants as stops
+use Rattle.trace_judge.specs.{Reading.below, Reading.named_of}
+use Rattle.trace_events.specs.Text.{call_text, event_text, label_text, mask_text, stop_text}
+use Rattle.trace_laws.proofs.ReplayTexts.FieldNames.{class_told, kind_told, site_told, switch_told, way_told}
+use Rattle.trace_laws.specs.{ReplayTexts.CallFits, ReplayTexts.LabelFits}
+
+-- a trace leaves nothing out, and its keys and sites have numbers of 32 bits
+pub record TakesAll (u : Setting) : Type 0 where
+  pub whole : u.without ≡ nothing_left_out
+  pub keys : u.keys ≤ 4294967295
+  pub sites : u.sites ≤ 4294967295
+
+-- the name of an event, and what is behind it
+pub record Words : Type 0 where
+  pub name : List ℕ
+  pub arguments : List (List ℕ)
+
+abbrev pub call_words : CallEvent → Words
+call_words (calls.Queue id to class func info) =
+    record { name = codes "queue"; arguments = decimal id ∷ decimal to ∷ class_text class ∷ decimal func ∷ decimal info ∷ [] }
+call_words (calls.Free id) = record { name = codes "free"; arguments = decimal id ∷ [] }
+call_words (calls.Send to) = record { name = codes "send"; arguments = decimal to ∷ [] }
+call_words calls.Accept = record { name = codes "accept"; arguments = [] }
+call_words calls.Idle = record { name = codes "idle"; arguments = [] }
+call_words calls.Take = record { name = codes "take"; arguments = [] }
+call_words (calls.Unlock id) = record { name = codes "unlock"; arguments = decimal id ∷ [] }
+call_words (calls.Begin id func info) = record { name = codes "begin"; arguments = decimal id ∷ decimal func ∷ decimal info ∷ [] }
+call_words (calls.End id) = record { name = codes "end"; arguments = decimal id ∷ [] }
+
+abbrev pub stop_words : StopEvent → Words
+stop_words stops.Gate = record { name = codes "gate"; arguments = [] }
+stop_words stops.Ungate = record { name = codes "ungate"; arguments = [] }
+stop_words (stops.Open t) =
+    record { name = codes "open"; arguments = kind_text t.kind ∷ mask_text t.mask ∷ mask_text t.active ∷ decimal t.func ∷ decimal t.arg ∷ [] }
+stop_words (stops.Enter source) = record { name = codes "enter"; arguments = decimal source ∷ [] }
+stop_words (stops.Ack phase) = record { name = codes "ack"; arguments = decimal phase ∷ [] }
+stop_words (stops.Raise phase) = record { name = codes "raise"; arguments = decimal phase ∷ [] }
+stop_words stops.Off = record { name = codes "off"; arguments = [] }
+stop_words stops.On = record { name = codes "on"; arguments = [] }
+stop_words (stops.Run func arg) = record { name = codes "run"; arguments = decimal func ∷ decimal arg ∷ [] }
+stop_words (stops.Complete answer) = record { name = codes "complete"; arguments = signed_decimal answer ∷ [] }
+stop_words (stops.Collect answer) = record { name = codes "collect"; arguments = signed_decimal answer ∷ [] }
+
+abbrev pub label_words : LabelEvent → Words
+label_words (labels.Set key count) = record { name = codes "set"; arguments = decimal key ∷ decimal count ∷ [] }
+label_words (labels.Turn site jumps) = record { name = codes "turn"; arguments = decimal site ∷ site_text jumps ∷ [] }
+label_words (labels.Key key on) = record { name = codes "key"; arguments = decimal key ∷ switch_text on ∷ [] }
+label_words (labels.Site site jumps) = record { name = codes "site"; arguments = decimal site ∷ site_text jumps ∷ [] }
+label_words (labels.Nudge key up) = record { name = codes "nudge"; arguments = decimal key ∷ way_text up ∷ [] }
+
+abbrev pub words_of : Event → Words
+words_of (event.Call call) = call_words call
+words_of (event.Stop stop) = stop_words stop
+words_of (event.Label label) = label_words label
+
+-- the text of an event is its words with a space between each two
+call_joined : (e : CallEvent) → call_text e ≡ join_with_byte 32 ((call_words e).name ∷ (call_words e).arguments)
+call_joined _ = search (append_assoc, arith)
+
+stop_joined : (e : StopEvent) → stop_text e ≡ join_with_byte 32 ((stop_words e).name ∷ (stop_words e).arguments)
+stop_joined _ = search (append_assoc, arith)
+
+label_joined : (e : LabelEvent) → label_text e ≡ join_with_byte 32 ((label_words e).name ∷ (label_words e).arguments)
+label_joined _ = search (append_assoc, arith)
+
+pub joined_words : (e : Event) → event_text e ≡ join_with_byte 32 ((words_of e).name ∷ (words_of e).arguments)
+joined_words (event.Call call) = call_joined call
+joined_words (event.Stop stop) = stop_joined stop
+joined_words (event.Label label) = label_joined label
+
+-- words that are fields, and are read as the event
+pub record Reads (u : Setting) (w : Words) (e : Event) : Type 0 where
+  pub fields : list_all is_field (w.name ∷ w.arguments) ≡ true
+  pub read : named_of u w.name w.arguments ≡ Ok (Ok e)
+
+-- a number below a limit is read
+below_told : (limit n : ℕ) → limit ≤ 4294967295 → n < limit → below limit (decimal n) ≡ Ok n
+below_told limit n few small = search (number_in-decimal, nat_tests, arith)
+
+ruleset numbers = (is_field-decimal, number_in-decimal)
+
+call_reads : (u : Setting) (e : CallEvent) → u.without ≡ nothing_left_out → CallFits e → Reads u (call_words e) (event.Call e)
+unfolding named_of
+call_reads u (calls.Queue id to class func info) whole f =
+    let c = class_told class in
+    record { fields = search (numbers, c.0, arith); read = search (numbers, c.1, arith) }
+call_reads u (calls.Free id) whole f = record { fields = search (numbers, arith); read = search (numbers, arith) }
+call_reads u (calls.Send to) whole f = record { fields = search (numbers, arith); read = rw whole (search (numbers, arith)) }
+call_reads u (calls.Unlock id) whole f = record { fields = search (numbers, arith); read = rw whole (search (numbers, arith)) }
+call_reads u (calls.Begin id func info) whole f = record { fields = search (numbers, arith); read = search (numbers, arith) }
+call_reads u (calls.End id) whole f = record { fields = search (numbers, arith); read = search (numbers, arith) }
+call_reads u calls.Accept whole f = record { fields = refl; read = rw whole refl }
+call_reads u calls.Idle whole f = record { fields = refl; read = rw whole refl }
+call_reads u calls.Take whole f = record { fields = refl; read = rw whole refl }
+
+stop_reads : (u : Setting) (e : StopEvent) → u.without ≡ nothing_left_out → StopFits e → Reads u (stop_words e) (event.Stop e)
+unfolding named_of
+stop_reads u (stops.Open t) whole (m, a, f, g) =
+    let k = kind_told t.kind in
+    let x = mask_is_text 32 t.mask (omega arith) m in
+    let y = mask_is_text 32 t.active (omega arith) a in
+    record { fields = search (numbers, k.0, x.field, y.field, arith); read = search (numbers, k.1, x.reads, y.reads, arith) }
+stop_reads u (stops.Enter source) whole f = record { fields = search (numbers, arith); read = search (numbers, arith) }
+stop_reads u (stops.Ack phase) whole f = record { fields = search (numbers, arith); read = search (numbers, arith) }
+stop_reads u (stops.Raise phase) whole f = record { fields = search (numbers, arith); read = rw whole (search (numbers, arith)) }
+stop_reads u (stops.Run func arg) whole f = record { fields = search (numbers, arith); read = search (numbers, arith) }
+stop_reads u (stops.Complete answer) whole f = record { fields = rw (signed_field answer f) refl; read = rw (signed_read answer f) refl }
+stop_reads u (stops.Collect answer) whole f = record { fields = rw (signed_field answer f) refl; read = rw (signed_read answer f) refl }
+stop_reads u stops.Gate whole f = record { fields = refl; read = rw whole refl }
+stop_reads u stops.Ungate whole f = record { fields = refl; read = rw whole refl }
+stop_reads u stops.Off whole f = record { fields = refl; read = rw whole refl }
+stop_reads u stops.On whole f = record { fields = refl; read = rw whole refl }
+
+label_reads : (u : Setting) (e : LabelEvent) → u.keys ≤ 4294967295 → u.sites ≤ 4294967295 → LabelFits u e
+    → Reads u (label_words e) (event.Label e)
+unfolding named_of
+label_reads u (labels.Set key count) few sites f =
+    record { fields = search (numbers, arith); read = search (below_told u.keys key few f.0, numbers, arith) }
+label_reads u (labels.Turn site jumps) few sites f =
+    let w = site_told jumps in
+    record { fields = search (numbers, w.0, arith); read = rw (w.1, below_told u.sites site sites f) refl }
+label_reads u (labels.Key key on) few sites f =
+    let w = switch_told on in
+    record { fields = search (numbers, w.0, arith); read = rw (w.1, below_told u.keys key few f) refl }
+label_reads u (labels.Site site jumps) few sites f =
+    let w = site_told jumps in
+    record { fields = search (numbers, w.0, arith); read = rw (w.1, below_told u.sites site sites f) refl }
+label_reads u (labels.Nudge key up) few sites f =
+    let w = way_told up in
+    record { fields = search (numbers, w.0, arith); read = rw (w.1, below_told u.keys key few f) refl }
+
+-- the words of an event are read as it
+pub words_read : (u : Setting) (e : Event) → u.without ≡ nothing_left_out → u.keys ≤ 4294967295 → u.sites ≤ 4294967295 → EventFits u e
+    → Reads u (words_of e) e
+words_read u (event.Call call) whole few sites f = call_reads u call whole f
+words_read u (event.Stop stop) whole few sites f = stop_reads u stop whole f
+words_read u (event.Label label) whole few sites f = label_reads u label few sites f

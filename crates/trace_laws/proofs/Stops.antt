@@ -1,0 +1,6 @@
+pub mod CpusInStops
+pub mod StopEvents
+pub mod Phases
+pub mod Ends
+pub mod QuietCpus
+pub mod AtRun

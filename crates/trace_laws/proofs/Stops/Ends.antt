@@ -1,0 +1,373 @@
+-- A function runs, a CPU completes, and a source opens a stop and collects: what holds of CPUs in stops still does.
+use Rattle.trace_laws.proofs.Names.{APatch, Bool, Err, Kind, Multi, None, Ok, One, Option, Reason, Result, Seen, Setting, Some, StateValue, Stop, Task}
+use Rattle.trace_laws.proofs.Names.{acked_by, and_parts, answer_of, answer_wanted, ap, arith, cases_eq, cases_lt, collect_by, collected, collected_with}
+use Rattle.trace_laws.proofs.Names.{complete_by, completed, cpu_at, eq-eqb, eqb-true, false, first_from, get_or-replicate, get_or-set_other, get_or-set_same}
+use Rattle.trace_laws.proofs.Names.{gives, has, has_run, if◌then◌else◌, in_stop, inl, inr, int_eq, is_none, is_work, length-replicate, length-set, may_complete}
+use Rattle.trace_laws.proofs.Names.{may_open, may_run, ne_eqb, not, offline_in, on_stop, open_by, opened, ran_function, refl, run_as, run_by, set_past}
+use Rattle.trace_laws.proofs.Names.{slice_index_or, slice_set, stop_at, stop_of, suc, sym, true, unfinished, unless_offline, with_inside, with_stop, zero, ℕ, ℤ}
+use Rattle.trace_laws.proofs.Names.{◌&&◌, ◌+◌, ◌<◌, ◌==◌, ◌>>=◌, ◌∙◌, ◌≡◌, ◌≢◌, ◌≤◌}
+use Rattle.trace_model.specs.declared.reason.Reason.TheVariants as reason
+use Rattle.trace_model.specs.{Stop.first_phase, Stop.least, Stop.opening}
+use Rattle.trace_laws.proofs.Stops.CpusInStops.{Change, Rounds, StopChange, changed, changed_to, is_round, member_of, put_seen, stop_only}
+use Rattle.trace_laws.proofs.Stops.StopEvents.{actor_below, away_left, away_same, cpu_same, ne_truth, open_below, rounds_end, stop_of_is, through_is, view_same}
+use Rattle.trace_laws.proofs.{Calls.MadeSteps.both_made, Calls.MadeSteps.failed, Calls.MadeSteps.passed}
+
+abbrev pub ran_seen : Seen → Seen
+ran_seen v = record v { ran = true }
+
+-- A function runs: what is changed.
+ran_change : (seen : ℕ → Seen) (work : ℕ → Option Task) (s : StateValue) (source actor : ℕ) → Rounds seen work s → source < 32 →
+    (cpu_at s actor).inside ≡ Some source
+    → let stop = stop_at s source in
+    Change seen work s source actor ran_seen (record stop { ran = slice_set stop.ran actor true }) (cpu_at s actor)
+ran_change seen work s source actor r low is =
+    let stop = stop_at s source in
+    let below = actor_below s actor source r.cpus_are is in
+    let old = r.at source low actor below in
+    let st = r.stop source low in
+    let q = r.cpu actor below in
+    let here = old.in_stop is in
+    let now : slice_index_or (slice_set stop.ran actor true) actor false ≡ true = get_or-set_same stop.ran actor true false (rw st.ran_are below) in
+    record {
+      stop_is = record {
+        entered_are = st.entered_are;
+        acked_are = st.acked_are;
+        ran_are = length-set stop.ran actor true ∙ st.ran_are;
+        answers_are = st.answers_are;
+        work_is = st.work_is;
+      };
+      cpu_is = record { quiet = q.quiet; below = q.below; inside_is = q.inside_is; irq_is = q.irq_is };
+      others = λ cpu cpu_low ne.
+          let kept : slice_index_or (slice_set stop.ran actor true) cpu false ≡ slice_index_or stop.ran cpu false =
+          get_or-set_other stop.ran actor cpu true false ne in
+          view_same s.setting.without.raises source cpu (seen cpu) (member_of cpu stop) (member_of cpu (record stop { ran = slice_set stop.ran actor true }))
+          (cpu_at s cpu).inside (cpu_at s cpu).irq
+          (rw kept refl) (r.at source low cpu cpu_low);
+      elsewhere = λ other other_low ne.
+          away_same s.setting.without.raises source other actor (seen actor) (ran_seen (seen actor)) (member_of actor (stop_at s other))
+          (cpu_at s actor).inside (cpu_at s actor).irq (cpu_at s actor).irq is ne
+          (r.at other other_low actor below);
+      here = record {
+        in_stop = λ e. record { is_open = here.is_open; entered = here.entered; unanswered = here.unanswered; member = here.member };
+        is_in = old.is_in;
+        out = λ e. absurd (ne_truth (slice_index_or stop.entered actor false) here.entered e);
+        up_to = old.up_to;
+        all = old.all;
+        last = old.last;
+        nobody = old.nobody;
+        answered = old.answered;
+        disabled = old.disabled;
+        acked_is = old.acked_is;
+        ran_is = λ e. now;
+      };
+    }
+
+-- a stop and a CPU in it are changed, and the CPU is as it was
+change_stop : (seen : ℕ → Seen) (work : ℕ → Option Task) (s : StateValue) (source actor : ℕ) (f : Seen → Seen) (stop : Stop) → Rounds seen work s
+    → Change seen work s source actor f stop (cpu_at s actor) → Rounds (put_seen actor f seen) work (with_stop source s stop)
+change_stop seen work s source actor f stop r ch =
+    rounds_end (put_seen actor f seen) work (changed_to source actor s stop (cpu_at s actor)) (with_stop source s stop) (cpu_same actor
+    (with_stop source s stop))
+    (changed seen work s source actor f stop (cpu_at s actor) r ch)
+
+-- What a function that runs shows.
+pub record Ran (stop : Stop) (cpu func arg : ℕ) : Type 0 where
+  pub once : has_run stop cpu ≡ false
+  pub func_is : stop.task.func ≡ func
+  pub arg_is : stop.task.arg ≡ arg
+  pub may : may_run stop.task.kind cpu stop ≡ Ok tt
+
+pub ran_is : (stop to : Stop) (cpu func arg : ℕ) → ran_function cpu func arg stop ≡ Ok to
+    → Ran stop cpu func arg × (record stop { ran = slice_set stop.ran cpu true } ≡ to)
+unfolding ran_function
+ran_is stop to cpu func arg e =
+    let new = record stop { ran = slice_set stop.ran cpu true } in
+    let last : Result Stop Reason = if (stop.task.func == func) && (stop.task.arg == arg) then Ok new else Err (reason.CallIs stop.task.func stop.task.arg) in
+    let m = both_made (may_run stop.task.kind cpu stop) (λ u. if has_run stop cpu then Err reason.FunctionHasRun else last) to e in
+    let p = failed (has_run stop cpu) last reason.FunctionHasRun to m.1.1 in
+    let q = passed ((stop.task.func == func) && (stop.task.arg == arg)) (Ok new) (reason.CallIs stop.task.func stop.task.arg) to p.1 in
+    let b = and_parts (stop.task.func == func) (stop.task.arg == arg) q.0 in
+    (record { once = p.0; func_is = eqb-true stop.task.func func b.0; arg_is = eqb-true stop.task.arg arg b.1; may = m.1.0 }, cc)
+
+-- A function runs in the stop that the CPU is in.
+pub record RunsIn (s : StateValue) (cpu func arg : ℕ) : Type 0 where
+  pub source : ℕ
+  pub low : source < 32
+  pub inside : (cpu_at s cpu).inside ≡ Some source
+  pub ran : Ran (stop_at s source) cpu func arg
+  pub no_patch : (stop_at s source).task.kind ≡ APatch → ⊥
+
+run_as_made : (kind : Kind) (source cpu func arg : ℕ) (s t : StateValue) → run_as kind source cpu func arg s ≡ Ok t
+    → (on_stop source s (ran_function cpu func arg (stop_at s source)) ≡ Ok t) × (kind ≡ APatch → ⊥)
+run_as_made APatch source cpu func arg s t e = absurd cc
+run_as_made One source cpu func arg s t e = (e, (λ k. absurd cc))
+run_as_made Multi source cpu func arg s t e = (e, (λ k. absurd cc))
+
+pub run_is : (s t : StateValue) (cpu func arg : ℕ) → run_by cpu func arg s ≡ Ok t
+    → (i : RunsIn s cpu func arg) × (let stop = stop_at s i.source in with_stop i.source s (record stop { ran = slice_set stop.ran cpu true }) ≡ t)
+unfolding run_by
+run_is s t cpu func arg e =
+    let m = both_made (stop_of cpu s) (λ source. run_as (stop_at s source).task.kind source cpu func arg s) t e in
+    let o = stop_of_is s cpu m.0 m.1.0 in
+    let stop = stop_at s m.0 in
+    let a = run_as_made stop.task.kind m.0 cpu func arg s t m.1.1 in
+    let n = both_made (ran_function cpu func arg stop) (λ x. Ok (with_stop m.0 s x)) t a.0 in
+    let r = ran_is stop n.0 cpu func arg n.1.0 in
+    (record { source = m.0; low = o.1; inside = o.0; ran = r.0; no_patch = a.1 }, ap (λ x. with_stop m.0 s x) r.1 ∙ cc)
+
+pub run_rounds : (seen : ℕ → Seen) (work : ℕ → Option Task) (s t : StateValue) (actor func arg : ℕ) → Rounds seen work s → run_by actor func arg s ≡ Ok t
+    → Rounds (put_seen actor ran_seen seen) work t
+run_rounds seen work s t actor func arg r e =
+    let i = run_is s t actor func arg e in
+    let source = i.0.source in
+    let stop = stop_at s source in
+    let to = record stop { ran = slice_set stop.ran actor true } in
+    rounds_end (put_seen actor ran_seen seen) work (with_stop source s to) t i.1
+    (change_stop seen work s source actor ran_seen to r (ran_change seen work s source actor r i.0.low i.0.inside))
+
+abbrev pub left_seen : Seen → Seen
+left_seen v = record v { inside = None }
+
+-- A CPU completes: what is changed.
+completed_change : (seen : ℕ → Seen) (work : ℕ → Option Task) (s : StateValue) (source actor : ℕ) (answer : ℤ) → Rounds seen work s → source < 32
+    → (cpu_at s actor).inside ≡ Some source → (is_round (stop_at s source).task.kind ≡ true → 4 ≤ acked_by (stop_at s source) actor)
+    → let stop = stop_at s source in
+    Change seen work s source actor left_seen (record stop { answers = slice_set stop.answers actor (Some answer) }) (in_stop None (cpu_at s actor))
+completed_change seen work s source actor answer r low is past =
+    let stop = stop_at s source in
+    let below = actor_below s actor source r.cpus_are is in
+    let old = r.at source low actor below in
+    let st = r.stop source low in
+    let q = r.cpu actor below in
+    let here = old.in_stop is in
+    let now : slice_index_or (slice_set stop.answers actor (Some answer)) actor None ≡ Some answer = get_or-set_same stop.answers actor (Some answer) None
+    (rw st.answers_are below) in
+    record {
+      stop_is = record {
+        entered_are = st.entered_are;
+        acked_are = st.acked_are;
+        ran_are = st.ran_are;
+        answers_are = length-set stop.answers actor (Some answer) ∙ st.answers_are;
+        work_is = st.work_is;
+      };
+      cpu_is = record { quiet = q.quiet; below = λ x e. absurd cc; inside_is = refl; irq_is = q.irq_is };
+      others = λ cpu cpu_low ne.
+          let kept : slice_index_or (slice_set stop.answers actor
+          (Some answer)) cpu None ≡ slice_index_or stop.answers cpu None = get_or-set_other stop.answers actor cpu (Some answer) None ne in
+          view_same s.setting.without.raises source cpu (seen cpu) (member_of cpu stop) (member_of cpu (record stop {
+            answers = slice_set stop.answers actor
+                (Some answer);
+          })) (cpu_at s cpu).inside (cpu_at s cpu).irq
+          (rw kept refl) (r.at source low cpu cpu_low);
+      elsewhere = λ other other_low ne.
+          away_left s.setting.without.raises source other actor (seen actor) (left_seen (seen actor)) (member_of actor (stop_at s other))
+          (cpu_at s actor).inside (cpu_at s actor).irq (cpu_at s actor).irq is ne
+          (r.at other other_low actor below);
+      here = record {
+        in_stop = λ e. absurd cc;
+        is_in = λ o e n. absurd (let f : Some answer ≡ None = sym now ∙ n in cc);
+        out = λ e. absurd (ne_truth (slice_index_or stop.entered actor false) here.entered e);
+        up_to = old.up_to;
+        all = old.all;
+        last = old.last;
+        nobody = old.nobody;
+        answered = λ k four. absurd (let z = past k in omega arith);
+        disabled = λ e k two four. absurd cc;
+        acked_is = λ e. absurd cc;
+        ran_is = λ e. absurd cc;
+      };
+    }
+
+may_complete_past : (kind : Kind) (cpu : ℕ) (irq : Bool) (stop : Stop) (u : Unit {0}) → may_complete kind cpu irq stop ≡ Ok u → is_round kind ≡ true →
+    4 ≤ acked_by stop cpu
+may_complete_past kind cpu irq stop u h1 h2 = search (both_made, through_is, arith)
+
+pub completed_is : (stop to : Stop) (cpu : ℕ) (answer : ℤ) (irq : Bool) → completed cpu answer irq stop ≡ Ok to
+    → (is_round stop.task.kind ≡ true → 4 ≤ acked_by stop cpu) × (record stop { answers = slice_set stop.answers cpu (Some answer) } ≡ to)
+unfolding completed
+completed_is stop to cpu answer irq e =
+    let new = record stop { answers = slice_set stop.answers cpu (Some answer) } in
+    let test = not (has_run stop cpu) && not (int_eq answer (answer_wanted stop cpu)) in
+    let m = both_made (may_complete stop.task.kind cpu irq stop) (λ u. if test then Err (reason.AnswerIs (answer_wanted stop cpu)) else Ok new) to e in
+    let p = failed test (Ok new) (reason.AnswerIs (answer_wanted stop cpu)) to m.1.1 in
+    (may_complete_past stop.task.kind cpu irq stop m.0 m.1.0, cc)
+
+pub complete_rounds : (seen : ℕ → Seen) (work : ℕ → Option Task) (s t : StateValue) (actor : ℕ) (answer : ℤ) → Rounds seen work s →
+    complete_by actor answer s ≡ Ok t
+    → Rounds (put_seen actor left_seen seen) work t
+unfolding complete_by
+complete_rounds seen work s t actor answer r e =
+    let made = λ (source : ℕ). completed actor answer (cpu_at s actor).irq (stop_at s source) in
+    let m = both_made (stop_of actor s) (λ source. on_stop source s (made source) >>= λ x. Ok (with_inside actor None x)) t e in
+    let o = stop_of_is s actor m.0 m.1.0 in
+    let stop = stop_at s m.0 in
+    let n = both_made (on_stop m.0 s (made m.0)) (λ x. Ok (with_inside actor None x)) t m.1.1 in
+    let k = both_made (made m.0) (λ x. Ok (with_stop m.0 s x)) n.0 n.1.0 in
+    let c = completed_is stop k.0 actor answer (cpu_at s actor).irq k.1.0 in
+    let to = record stop { answers = slice_set stop.answers actor (Some answer) } in
+    let end : with_stop m.0 s to ≡ n.0 = ap (λ x. with_stop m.0 s x) c.1 ∙ cc in
+    let same : changed_to m.0 actor s to (in_stop None (cpu_at s actor)) ≡ t = ap (λ x. with_inside actor None x) end ∙ cc in
+    rounds_end (put_seen actor left_seen seen) work (changed_to m.0 actor s to (in_stop None (cpu_at s actor))) t same
+    (changed seen work s m.0 actor left_seen to (in_stop None (cpu_at s actor)) r (completed_change seen work s m.0 actor answer r o.1 o.0 c.0))
+
+-- where the least that passes is none, none passes
+first_none_by : (passes : ℕ → Bool) (c more n : ℕ) (test : Bool) → passes c ≡ test → (if test then Some c else first_from passes (c + 1) more) ≡ None
+    → (first_from passes (c + 1) more ≡ None → (c ≡ n → ⊥) → passes n ≡ false) → passes n ≡ false
+first_none_by passes c more n test h1 h2 h3 = search (cases_eq, arith)
+
+pub first_none : (passes : ℕ → Bool) (c more : ℕ) → first_from passes c more ≡ None → (n : ℕ) → c ≤ n → n < c + more → passes n ≡ false
+unfolding first_from
+first_none passes c zero e n le lt = absurd (omega arith)
+first_none passes c (suc more) e n le lt =
+    first_none_by passes c more n (passes c) refl e (λ f ne. first_none passes (c + 1) more f n (omega arith) (omega arith))
+
+pub least_none : (passes : ℕ → Bool) → least passes ≡ None → (n : ℕ) → n < 32 → passes n ≡ false
+least_none passes e n below = first_none passes 0 32 e n (omega arith) (omega arith)
+
+pub collected_is : (who : Option ℕ) (stop to : Stop) (answer : ℤ) → collected_with who answer stop ≡ Ok to → (who ≡ None) ×
+    (record stop { is_open = false } ≡ to)
+collected_is (Some c) stop to answer e = absurd cc
+collected_is None stop to answer e =
+    let p = passed (gives stop answer) (Ok (record stop { is_open = false })) (reason.AnswersDoNotGive answer) to e in (refl, cc)
+
+pub none_is : (answer : Option ℤ) (mask : Bool) → (mask && is_none answer) ≡ false → mask ≡ true → answer ≡ None → ⊥
+none_is None true e m n = cc
+none_is None false e m n = cc
+none_is (Some x) mask e m n = cc
+
+-- A stop is closed: what is changed.
+closed_change : (seen : ℕ → Seen) (work : ℕ → Option Task) (s : StateValue) (source : ℕ) → Rounds seen work s → source < 32 →
+    unfinished (stop_at s source) ≡ None
+    → StopChange seen (work source) s source (record (stop_at s source) { is_open = false })
+closed_change seen work s source r low none =
+    let stop = stop_at s source in
+    let st = r.stop source low in
+    record {
+      stop_is = record { entered_are = st.entered_are; acked_are = st.acked_are; ran_are = st.ran_are; answers_are = st.answers_are; work_is = λ e. absurd cc };
+      each = λ cpu below.
+          let old = r.at source low cpu below in
+          let over = least_none (λ c. has stop.task.mask c && is_none (answer_of stop c)) none cpu below in
+          let gone = λ (e : (cpu_at s cpu).inside ≡ Some source). let i = old.in_stop e in none_is (answer_of stop cpu)
+          (has stop.task.mask cpu) over i.member i.unanswered in
+          record {
+            in_stop = λ e. absurd (gone e);
+            is_in = λ o e n. absurd cc;
+            out = λ e. let x = old.out e in record { acked = x.acked; ran = x.ran; unanswered = x.unanswered };
+            up_to = old.up_to;
+            all = old.all;
+            last = old.last;
+            nobody = old.nobody;
+            answered = old.answered;
+            disabled = λ e k two four. absurd (gone e);
+            acked_is = λ e. absurd (gone e);
+            ran_is = λ e. absurd (gone e);
+          };
+    }
+
+pub collect_rounds : (seen : ℕ → Seen) (work : ℕ → Option Task) (s t : StateValue) (source : ℕ) (answer : ℤ) → Rounds seen work s →
+    collect_by source answer s ≡ Ok t
+    → Rounds seen work t
+unfolding collect_by collected
+collect_rounds seen work s t source answer r e =
+    let stop = stop_at s source in
+    let made = collected_with (unfinished stop) answer stop in
+    let p = passed stop.is_open (on_stop source s made) (reason.StopNotOpen source) t e in
+    let low = open_below s source r.stops_are p.0 in
+    let m = both_made made (λ x. Ok (with_stop source s x)) t p.1 in
+    let c = collected_is (unfinished stop) stop m.0 answer m.1.0 in
+    let to = record stop { is_open = false } in
+    rounds_end seen work (with_stop source s to) t (ap (λ x. with_stop source s x) c.1 ∙ cc)
+    (stop_only seen work work s source to r (closed_change seen work s source r low c.0) (λ other ne. refl))
+
+-- A stop is opened: what is changed.
+pub offline_none : (who : Option ℕ) (stop to : Stop) → unless_offline who stop ≡ Ok to → stop ≡ to
+offline_none None stop to e = cc
+offline_none (Some c) stop to e = absurd cc
+
+pub opened_is : (u : Setting) (task : Task) (to : Stop) → opened u task ≡ Ok to → opening task ≡ to
+unfolding opened
+opened_is u task to e =
+    let p = passed (is_work u task) (unless_offline (offline_in u task.mask) (opening task)) reason.NoSuchWork to e in
+    offline_none (offline_in u task.mask) (opening task) to p.1
+
+first_low : (kind : Kind) → 2 ≤ first_phase kind → ⊥
+first_low One h = omega arith
+first_low Multi h = omega arith
+first_low APatch h = omega arith
+
+opened_change : (seen : ℕ → Seen) (work : ℕ → Option Task) (s : StateValue) (source : ℕ) (task : Task) → Rounds seen work s → source < 32 →
+    (stop_at s source).is_open ≡ false
+    → StopChange seen (Some task) s source (opening task)
+opened_change seen work s source task r low shut =
+    let stop = stop_at s source in
+    record {
+      stop_is = record {
+        entered_are = length-replicate 32 false;
+        acked_are = length-replicate {A = ℕ} 32 0;
+        ran_are = length-replicate 32 false;
+        answers_are = length-replicate {A = Option ℤ} 32 None;
+        work_is = λ e. refl;
+      };
+      each = λ cpu below.
+          let old = r.at source low cpu below in
+          let new = opening task in
+          let entered : slice_index_or new.entered cpu false ≡ false = get_or-replicate 32 cpu false false below in
+          let acked : acked_by new cpu ≡ 0 = get_or-replicate 32 cpu 0 0 below in
+          let ran : has_run new cpu ≡ false = get_or-replicate 32 cpu false false below in
+          let answer : answer_of new cpu ≡ None = get_or-replicate 32 cpu None None below in
+          let gone = λ (e : (cpu_at s cpu).inside ≡ Some source). let i = old.in_stop e in ne_truth stop.is_open i.is_open shut in
+          record {
+            in_stop = λ e. absurd (gone e);
+            is_in = λ o e n. absurd (ne_truth (slice_index_or new.entered cpu false) e entered);
+            out = λ e. record { acked = acked; ran = ran; unanswered = answer };
+            up_to = λ k three. omega arith;
+            all = λ k m two. absurd (first_low task.kind two);
+            last = λ e m. absurd cc;
+            nobody = λ e. refl;
+            answered = λ k four. answer;
+            disabled = λ e k two four. absurd (gone e);
+            acked_is = λ e. absurd (gone e);
+            ran_is = λ e. absurd (gone e);
+          };
+    }
+
+abbrev pub put_work : ℕ → Task → (ℕ → Option Task) → ℕ → Option Task
+put_work source task work other = if source == other then Some task else work other
+
+work_here : (source : ℕ) (task : Task) (work : ℕ → Option Task) → put_work source task work source ≡ Some task
+work_here source task work = let t : (source == source) ≡ true = eq-eqb source source refl in rw t refl
+
+work_elsewhere : (source : ℕ) (task : Task) (work : ℕ → Option Task) (other : ℕ) → other ≢ source → put_work source task work other ≡ work other
+work_elsewhere source task work other ne = let t : (source == other) ≡ false = ne_eqb source other (λ e. ne (sym e)) in rw t refl
+
+-- past the last source nothing is opened
+opened_past : (seen : ℕ → Seen) (work : ℕ → Option Task) (s : StateValue) (source : ℕ) (task : Task) → Rounds seen work s → 32 ≤ source
+    → Rounds seen (put_work source task work) (with_stop source s (opening task))
+opened_past seen work s source task r past =
+    let same : with_stop source s (opening task) ≡ s = ap (λ stops. record s { stops = stops }) (set_past s.stops source (opening task)
+    (rw r.stops_are past)) in
+    rounds_end seen (put_work source task work) s (with_stop source s (opening task)) (sym same) (record {
+      cpus_are = r.cpus_are;
+      stops_are = r.stops_are;
+      at = r.at;
+      cpu = r.cpu;
+      stop = λ other low.
+          let e : put_work source task work other ≡ work other = work_elsewhere source task work other (λ x. absurd (omega arith)) in rw e (r.stop other low);
+    })
+
+pub open_rounds : (seen : ℕ → Seen) (work : ℕ → Option Task) (s t : StateValue) (source : ℕ) (task : Task) → Rounds seen work s → open_by source task s ≡ Ok t
+    → Rounds seen (put_work source task work) t
+unfolding open_by
+open_rounds seen work s t source task r e =
+    let next = on_stop source s (opened s.setting task) in
+    let p = failed (stop_at s source).is_open (may_open s.setting.without.gate source s >>= λ u. next) (reason.StopOpen source) t e in
+    let m = both_made (may_open s.setting.without.gate source s) (λ u. next) t p.1 in
+    let n = both_made (opened s.setting task) (λ x. Ok (with_stop source s x)) t m.1.1 in
+    let o = opened_is s.setting task n.0 n.1.0 in
+    rounds_end seen (put_work source task work) (with_stop source s (opening task)) t (ap (λ x. with_stop source s x) o ∙ cc)
+    (elim (cases_lt source 32) [
+      | inl low ↦ (let w : put_work source task work source ≡ Some task = work_here source task work in
+          stop_only seen work (put_work source task work) s source (opening task) r (rw w (opened_change seen work s source task r low p.0))
+          (work_elsewhere source task work))
+      | inr past ↦ opened_past seen work s source task r past
+    ])

@@ -1,0 +1,301 @@
+-- Each event of stops keeps what holds of CPUs in stops.
+use Rattle.trace_laws.proofs.Names.{APatch, Bool, Err, Kind, Multi, None, Ok, One, Option, Reason, Result, Seen, Some, StateValue, Stop, Task, acked_by}
+use Rattle.trace_laws.proofs.Names.{and_parts, ap, arith, at_phase, cases_lt, closed, cpu_at, enter_by, enter_from, entered, entered_open, eqb-true, false}
+use Rattle.trace_laws.proofs.Names.{fresh_cpu, get_or-set_other, get_or-set_same, get_or_past, handles_nothing, has, if◌then◌else◌, in_round, in_stop, inl, inr}
+use Rattle.trace_laws.proofs.Names.{is_called, is_cpu, length, length-set, lt-ltb, ltb-false, ltb-true, may_off, nat_lt, not, off_by, on_by, on_stop, refl}
+use Rattle.trace_laws.proofs.Names.{set_past, slice_index_or, slice_set, stop_at, stop_of, subst, sym, through, true, with_cpu, with_inside, with_interrupts}
+use Rattle.trace_laws.proofs.Names.{with_irq, with_stop, ℕ, ◌&&◌, ◌-◌, ◌<◌, ◌==◌, ◌>>=◌, ◌∙◌, ◌≡◌, ◌≢◌, ◌≤◌, ◌⊎◌}
+use Rattle.std.proofs.{lemmas.Bool.leb-false, lemmas.List.set-get_or}
+use Rattle.trace_model.specs.declared.reason.Reason.TheVariants as reason
+use Rattle.trace_model.specs.{Stops.stop_in, Stops.unless_one}
+use Rattle.trace_laws.proofs.Stops.CpusInStops.{Change, Member, RoundAt, Rounds, changed, changed_to, is_round, member_of, put_seen, seen_elsewhere}
+use Rattle.trace_laws.proofs.{Calls.MadeSteps.both_made, Calls.MadeSteps.failed, Calls.MadeSteps.passed}
+
+-- the stop that a CPU is in
+in_is : (inside : Option ℕ) (cpu source : ℕ) → stop_in inside cpu ≡ Ok source → (inside ≡ Some source) × (source < 32)
+in_is inside cpu source h1 = search (passed, ltb-true, arith)
+
+pub stop_of_is : (s : StateValue) (cpu source : ℕ) → stop_of cpu s ≡ Ok source → ((cpu_at s cpu).inside ≡ Some source) × (source < 32)
+stop_of_is s cpu source e = in_is (cpu_at s cpu).inside cpu source e
+
+round_kind : (kind : Kind) (source other : ℕ) → unless_one kind source ≡ Ok other → (is_round kind ≡ true) × (source ≡ other)
+round_kind One source other e = absurd cc
+round_kind Multi source other e = (refl, cc)
+round_kind APatch source other e = (refl, cc)
+
+-- A CPU is in a rendezvous.
+pub record InRound (s : StateValue) (cpu source : ℕ) : Type 0 where
+  pub inside : (cpu_at s cpu).inside ≡ Some source
+  pub low : source < 32
+  pub round : is_round (stop_at s source).task.kind ≡ true
+
+pub in_round_is : (s : StateValue) (cpu source : ℕ) → in_round cpu s ≡ Ok source → InRound s cpu source
+in_round_is s cpu source h1 = search (both_made, stop_of_is, round_kind, arith)
+
+-- a CPU in a stop is one that there can be
+pub actor_below : (s : StateValue) (cpu source : ℕ) → length s.cpus ≡ 32 → (cpu_at s cpu).inside ≡ Some source → cpu < 32
+actor_below s cpu source h1 h2 = search (cases_lt, get_or_past, arith)
+
+-- it is in no other stop
+pub other_stop : (inside : Option ℕ) (source other : ℕ) → inside ≡ Some source → other ≢ source → inside ≡ Some other → ⊥
+other_stop inside source other is ne e = ne (let f : Some other ≡ Some source = sym e ∙ is in cc)
+
+-- of a CPU in one stop, other stops stay as they were
+pub away_same : (left_out : Bool) (source other cpu : ℕ) (v v' : Seen) (w : Member) (inside : Option ℕ) (irq irq' : Bool) → inside ≡ Some source →
+    other ≢ source
+    → RoundAt left_out other cpu v w inside irq → RoundAt left_out other cpu v' w inside irq'
+away_same left_out source other cpu v v' w inside irq irq' h1 h2 h3 = search (other_stop, arith)
+
+-- when it leaves
+pub away_left : (left_out : Bool) (source other cpu : ℕ) (v v' : Seen) (w : Member) (inside : Option ℕ) (irq irq' : Bool) → inside ≡ Some source →
+    other ≢ source
+    → RoundAt left_out other cpu v w inside irq → RoundAt left_out other cpu v' w None irq'
+away_left left_out source other cpu v v' w inside irq irq' h1 h2 h3 = search (other_stop, arith)
+
+-- and when it enters
+away_entered : (left_out : Bool) (source other cpu : ℕ) (v v' : Seen) (w : Member) (inside : Option ℕ) (irq irq' : Bool) → inside ≡ None → other ≢ source
+    → RoundAt left_out other cpu v w inside irq → RoundAt left_out other cpu v' w (Some source) irq'
+away_entered left_out source other cpu v v' w inside irq irq' h1 h2 h3 = search (other_stop, arith)
+
+-- what holds of a state holds of an equal one
+pub rounds_end : (seen : ℕ → Seen) (work : ℕ → Option Task) (s t : StateValue) → s ≡ t → Rounds seen work s → Rounds seen work t
+rounds_end seen work s t same r = subst (λ (x : StateValue). Rounds seen work x) same r
+
+pub view_same : (left_out : Bool) (source cpu : ℕ) (v : Seen) (w w' : Member) (inside : Option ℕ) (irq : Bool) → w ≡ w' →
+    RoundAt left_out source cpu v w inside irq
+    → RoundAt left_out source cpu v w' inside irq
+view_same left_out source cpu v w w' inside irq same r = subst (λ (x : Member). RoundAt left_out source cpu v x inside irq) same r
+
+-- a CPU goes on as it was
+pub cpu_same : (actor : ℕ) (s : StateValue) → with_cpu actor s (cpu_at s actor) ≡ s
+cpu_same actor s = ap (λ cpus. record s { cpus = cpus }) (set-get_or s.cpus actor fresh_cpu)
+
+pub stop_same : (source : ℕ) (s : StateValue) → with_stop source s (stop_at s source) ≡ s
+stop_same source s = ap (λ stops. record s { stops = stops }) (set-get_or s.stops source (closed 0))
+
+-- two names are not one where one is apart
+pub ne_truth : (b : Bool) → b ≡ true → b ≡ false → ⊥
+ne_truth b t f = cc
+
+-- a CPU enters
+not_entered : (mask entered : Bool) → (mask && not entered) ≡ true → (mask ≡ true) × (entered ≡ false)
+not_entered true false e = (refl, refl)
+not_entered true true e = absurd cc
+not_entered false entered e = absurd cc
+
+abbrev pub enters : ℕ → Seen → Seen
+enters source v = record { inside = Some source; acked = 0; ran = false; irq = v.irq }
+
+no_stop : (inside : Option ℕ) (cpu : ℕ) (why : Reason) → ((x : ℕ) → inside ≡ Some x → x < 32) → stop_in inside cpu ≡ Err why → inside ≡ None
+no_stop None cpu why below e = refl
+no_stop (Some x) cpu why below e = let t : nat_lt x 32 ≡ true = lt-ltb x 32 (below x refl) in absurd (let f : Ok x ≡ Err why = rw t at e in cc)
+
+entered_change : (seen : ℕ → Seen) (work : ℕ → Option Task) (s : StateValue) (source actor : ℕ) → Rounds seen work s → source < 32 → actor < 32
+    → (cpu_at s actor).inside ≡ None → (stop_at s source).is_open ≡ true → is_called (stop_at s source) actor ≡ true
+    → let stop = stop_at s source in
+    Change seen work s source actor (enters source) (record stop { entered = slice_set stop.entered actor true }) (in_stop (Some source) (cpu_at s actor))
+entered_change seen work s source actor r low below none opened_is called =
+    let stop = stop_at s source in
+    let old = r.at source low actor below in
+    let st = r.stop source low in
+    let q = r.cpu actor below in
+    let c = not_entered (has stop.task.mask actor) (slice_index_or stop.entered actor false) called in
+    let out = old.out c.1 in
+    let now : slice_index_or (slice_set stop.entered actor true) actor false ≡ true = get_or-set_same stop.entered actor true false (rw st.entered_are below) in
+    record {
+      stop_is = record {
+        entered_are = length-set stop.entered actor true ∙ st.entered_are;
+        acked_are = st.acked_are;
+        ran_are = st.ran_are;
+        answers_are = st.answers_are;
+        work_is = st.work_is;
+      };
+      cpu_is = record {
+        quiet = q.quiet;
+        below = λ x e. let same : source ≡ x = cc in subst (λ y. y < 32) same low;
+        inside_is = refl;
+        irq_is = q.irq_is;
+      };
+      others = λ cpu cpu_low ne.
+          let kept : slice_index_or (slice_set stop.entered actor true) cpu false ≡ slice_index_or stop.entered cpu false =
+          get_or-set_other stop.entered actor cpu true false ne in
+          view_same s.setting.without.raises source cpu (seen cpu) (member_of cpu stop) (member_of cpu
+          (record stop { entered = slice_set stop.entered actor true })) (cpu_at s cpu).inside (cpu_at s cpu).irq
+          (rw kept refl) (r.at source low cpu cpu_low);
+      elsewhere = λ other other_low ne.
+          away_entered s.setting.without.raises source other actor (seen actor) (enters source (seen actor)) (member_of actor (stop_at s other))
+          (cpu_at s actor).inside (cpu_at s actor).irq (cpu_at s actor).irq none ne
+          (r.at other other_low actor below);
+      here = record {
+        in_stop = λ e. record { is_open = opened_is; entered = now; unanswered = out.unanswered; member = c.0 };
+        is_in = λ o e n. refl;
+        out = λ e. absurd (ne_truth (slice_index_or (slice_set stop.entered actor true) actor false) now e);
+        up_to = old.up_to;
+        all = old.all;
+        last = old.last;
+        nobody = old.nobody;
+        answered = old.answered;
+        disabled = λ e k two four. absurd (let z = out.acked in omega arith);
+        acked_is = λ e. out.acked;
+        ran_is = λ e. out.ran;
+      };
+    }
+
+-- a stop that is open is one that there can be
+pub open_below : (s : StateValue) (source : ℕ) → length s.stops ≡ 32 → (stop_at s source).is_open ≡ true → source < 32
+open_below s source h1 h2 = search (cases_lt, get_or_past, arith)
+
+-- past the last CPU nothing is entered
+entered_past : (s : StateValue) (source actor : ℕ) → length (stop_at s source).entered ≡ 32 → length s.cpus ≡ 32 → 32 ≤ actor
+    → let stop = stop_at s source in
+    with_inside actor (Some source) (with_stop source s (record stop { entered = slice_set stop.entered actor true })) ≡ s
+entered_past s source actor long cpus past =
+    let stop = stop_at s source in
+    let e : slice_set stop.entered actor true ≡ stop.entered = set_past stop.entered actor true (rw long past) in
+    let m : with_stop source s (record stop { entered = slice_set stop.entered actor true }) ≡ s = ap (λ xs. with_stop source s
+    (record stop { entered = xs })) e ∙ stop_same source s in
+    let c : with_inside actor (Some source) s ≡ s = ap (λ cpus. record s { cpus = cpus }) (set_past s.cpus actor (in_stop (Some source) (cpu_at s actor))
+    (rw cpus past)) in
+    ap (λ x. with_inside actor (Some source) x) m ∙ c
+
+seen_past : (actor : ℕ) (f : Seen → Seen) (seen : ℕ → Seen) → 32 ≤ actor → (cpu : ℕ) → cpu < 32 → put_seen actor f seen cpu ≡ seen cpu
+seen_past actor f seen past cpu below = seen_elsewhere actor cpu f seen (λ e. absurd (omega arith))
+
+-- or where the events of each CPU tell the same
+pub rounds_seen : (seen seen' : ℕ → Seen) (work : ℕ → Option Task) (s : StateValue) → ((cpu : ℕ) → cpu < 32 → seen' cpu ≡ seen cpu) → Rounds seen work s →
+    Rounds seen' work s
+rounds_seen seen seen' work s h1 h2 = search arith
+
+enter_open : (seen : ℕ → Seen) (work : ℕ → Option Task) (s t : StateValue) (source actor : ℕ) → Rounds seen work s → (cpu_at s actor).inside ≡ None
+    → entered_open actor source s ≡ Ok t → Rounds (put_seen actor (enters source) seen) work t
+unfolding entered
+enter_open seen work s t source actor r none e =
+    let stop = stop_at s source in
+    let made = on_stop source s (entered actor stop) in
+    let p = passed (nat_lt source 32 && stop.is_open) (made >>= λ x. Ok (with_inside actor (Some source) x)) (reason.StopNotOpen source) t e in
+    let q = and_parts (nat_lt source 32) stop.is_open p.0 in
+    let low = ltb-true source 32 q.0 in
+    let m = both_made made (λ x. Ok (with_inside actor (Some source) x)) t p.1 in
+    let n = both_made (entered actor stop) (λ x. Ok (with_stop source s x)) m.0 m.1.0 in
+    let to = record stop { entered = slice_set stop.entered actor true } in
+    let k = passed (is_called stop actor) (Ok to) (reason.NotCalled actor) n.0 n.1.0 in
+    let a : to ≡ n.0 = cc in
+    let b : with_stop source s n.0 ≡ m.0 = cc in
+    let same : with_inside actor (Some source) (with_stop source s to) ≡ t = ap (λ x. with_inside actor (Some source) (with_stop source s x)) a ∙
+    ap (λ x. with_inside actor (Some source) x) b ∙ cc in
+    rounds_end (put_seen actor (enters source) seen) work (with_inside actor (Some source) (with_stop source s to)) t same
+    (elim (cases_lt actor 32) [
+      | inl below ↦ changed seen work s source actor (enters source) to (in_stop (Some source) (cpu_at s actor)) r
+          (entered_change seen work s source actor r low below none q.1 k.0)
+      | inr past ↦ rounds_end (put_seen actor (enters source) seen) work s (with_inside actor (Some source) (with_stop source s to))
+          (sym (entered_past s source actor (r.stop source low).entered_are r.cpus_are past))
+          (rounds_seen seen (put_seen actor (enters source) seen) work s (seen_past actor (enters source) seen past) r)
+    ])
+
+any_below : (seen : ℕ → Seen) (work : ℕ → Option Task) (s : StateValue) (actor x : ℕ) → Rounds seen work s → (cpu_at s actor).inside ≡ Some x → x < 32
+any_below seen work s actor x r e = (r.cpu actor (actor_below s actor x r.cpus_are e)).below x e
+
+pub enter_as : (seen : ℕ → Seen) (work : ℕ → Option Task) (s t : StateValue) (source actor : ℕ) (inside : Result ℕ Reason) → Rounds seen work s →
+    stop_of actor s ≡ inside
+    → enter_from inside actor source s ≡ Ok t → Rounds (put_seen actor (enters source) seen) work t
+enter_as seen work s t source actor (Ok x) r is e = absurd cc
+enter_as seen work s t source actor (Err why) r is e =
+    enter_open seen work s t source actor r (no_stop (cpu_at s actor).inside actor why (λ x i. any_below seen work s actor x r i) is) e
+
+pub enter_rounds : (seen : ℕ → Seen) (work : ℕ → Option Task) (s t : StateValue) (source actor : ℕ) → Rounds seen work s → enter_by actor source s ≡ Ok t
+    → Rounds (put_seen actor (enters source) seen) work t
+unfolding enter_by
+enter_rounds seen work s t source actor r e = enter_as seen work s t source actor (stop_of actor s) r refl e
+
+at_it : (now phase : ℕ) (same early : Bool) (why other : Reason) (u : Unit {0}) → (now == phase) ≡ same
+    → (if same then Ok tt else (if early then Err why else Err other)) ≡ Ok u → now ≡ phase
+at_it now phase true early why other u is e = eqb-true now phase is
+at_it now phase false true why other u is e = absurd cc
+at_it now phase false false why other u is e = absurd cc
+
+-- a CPU may act on a phase
+pub acts_at : (stop : Stop) (cpu phase : ℕ) (u : Unit {0}) → at_phase stop cpu phase ≡ Ok u → (acked_by stop cpu < phase) × (stop.phase ≡ phase)
+acts_at stop cpu phase u h1 = search (failed, leb-false, at_it, arith)
+
+abbrev pub off_seen : Seen → Seen
+off_seen v = record v { irq = false }
+
+abbrev pub on_seen : Seen → Seen
+on_seen v = record v { irq = true }
+
+-- what is changed where a CPU in a stop changes its interrupts alone
+pub irq_change : (seen : ℕ → Seen) (work : ℕ → Option Task) (s : StateValue) (source actor : ℕ) (f : Seen → Seen) (on : Bool) → Rounds seen work s → source < 32
+    → (cpu_at s actor).inside ≡ Some source → (f (seen actor)).inside ≡ (seen actor).inside → (s.setting.without.switches ≡ false → on ≡ (f (seen actor)).irq)
+    → (f (seen actor)).acked ≡ (seen actor).acked → (f (seen actor)).ran ≡ (seen actor).ran
+    → (on ≡ false → handles_nothing (cpu_at s actor) ≡ Ok tt) → (on ≡ false ⊎ 4 ≤ acked_by (stop_at s source) actor)
+    → Change seen work s source actor f (stop_at s source) (with_interrupts on (cpu_at s actor))
+irq_change seen work s source actor f on r low is inside irq acked_kept ran_kept quiet may =
+    let below = actor_below s actor source r.cpus_are is in
+    let old = r.at source low actor below in
+    let q = r.cpu actor below in
+    record {
+      stop_is = r.stop source low;
+      cpu_is = record {
+        quiet = λ off. quiet off;
+        below = q.below;
+        inside_is = q.inside_is ∙ sym inside;
+        irq_is = irq;
+      };
+      others = λ cpu cpu_low ne. r.at source low cpu cpu_low;
+      elsewhere = λ other other_low ne.
+          away_same s.setting.without.raises source other actor (seen actor) (f (seen actor)) (member_of actor (stop_at s other)) (cpu_at s actor).inside
+          (cpu_at s actor).irq on is ne
+          (r.at other other_low actor below);
+      here = record {
+        in_stop = old.in_stop;
+        is_in = old.is_in;
+        out = old.out;
+        up_to = old.up_to;
+        all = old.all;
+        last = old.last;
+        nobody = old.nobody;
+        answered = old.answered;
+        disabled = λ e k two four. elim may [ inl off ↦ off | inr past ↦ absurd (omega arith) ];
+        acked_is = λ e. old.acked_is e ∙ sym acked_kept;
+        ran_is = λ e. old.ran_is e ∙ sym ran_kept;
+      };
+    }
+
+pub irq_changed : (seen : ℕ → Seen) (work : ℕ → Option Task) (s : StateValue) (source actor : ℕ) (f : Seen → Seen) (on : Bool) → Rounds seen work s
+    → Change seen work s source actor f (stop_at s source) (with_interrupts on (cpu_at s actor)) → Rounds (put_seen actor f seen) work (with_irq actor on s)
+irq_changed seen work s source actor f on r ch =
+    rounds_end (put_seen actor f seen) work (changed_to source actor s (stop_at s source) (with_interrupts on (cpu_at s actor))) (with_irq actor on s)
+    (ap (λ x. with_cpu actor x (with_interrupts on (cpu_at s actor))) (stop_same source s))
+    (changed seen work s source actor f (stop_at s source) (with_interrupts on (cpu_at s actor)) r ch)
+
+pub off_rounds : (seen : ℕ → Seen) (work : ℕ → Option Task) (s t : StateValue) (actor : ℕ) → Rounds seen work s → off_by actor s ≡ Ok t →
+    Rounds (put_seen actor off_seen seen) work t
+unfolding off_by
+off_rounds seen work s t actor r e =
+    let m = both_made (in_round actor s) (λ source. may_off actor source s >>= λ u. Ok (with_irq actor false s)) t e in
+    let i = in_round_is s actor m.0 m.1.0 in
+    let n = both_made (may_off actor m.0 s) (λ u. Ok (with_irq actor false s)) t m.1.1 in
+    let p = passed (cpu_at s actor).irq (at_phase (stop_at s m.0) actor 2 >>= λ u. handles_nothing (cpu_at s actor)) reason.InterruptsOff n.0 n.1.0 in
+    let h = both_made (at_phase (stop_at s m.0) actor 2) (λ u. handles_nothing (cpu_at s actor)) n.0 p.1 in
+    rounds_end (put_seen actor off_seen seen) work (with_irq actor false s) t (cc)
+    (irq_changed seen work s m.0 actor off_seen false r
+    (irq_change seen work s m.0 actor off_seen false r i.low i.inside refl (λ told. refl) refl refl (λ off. h.1.1) (inl refl)))
+
+pub through_is : (stop : Stop) (cpu : ℕ) (u : Unit {0}) → through stop cpu ≡ Ok u → 4 ≤ acked_by stop cpu
+through_is stop cpu u e =
+    let next : Result (Unit {0}) Reason = if is_cpu stop.raiser cpu then Err (reason.PhaseIs stop.phase) else Ok tt in
+    let p = failed (nat_lt (acked_by stop cpu) 4) next (reason.NotAcknowledged cpu 4) u e in ltb-false (acked_by stop cpu) 4 p.0
+
+pub on_rounds : (seen : ℕ → Seen) (work : ℕ → Option Task) (s t : StateValue) (actor : ℕ) → Rounds seen work s → on_by actor s ≡ Ok t →
+    Rounds (put_seen actor on_seen seen) work t
+unfolding on_by
+on_rounds seen work s t actor r e =
+    let next = λ (source : ℕ). through (stop_at s source) actor >>= λ u. Ok (with_irq actor true s) in
+    let m = both_made (in_round actor s) (λ source. if (cpu_at s actor).irq then Err reason.InterruptsOn else next source) t e in
+    let i = in_round_is s actor m.0 m.1.0 in
+    let p = failed (cpu_at s actor).irq (next m.0) reason.InterruptsOn t m.1.1 in
+    let n = both_made (through (stop_at s m.0) actor) (λ u. Ok (with_irq actor true s)) t p.1 in
+    rounds_end (put_seen actor on_seen seen) work (with_irq actor true s) t (cc)
+    (irq_changed seen work s m.0 actor on_seen true r
+    (irq_change seen work s m.0 actor on_seen true r i.low i.inside refl (λ told. refl) refl refl (λ off. absurd cc) (inr (through_is
+    (stop_at s m.0) actor n.0 n.1.0))))

@@ -1,0 +1,2 @@
+pub mod AllEvents
+pub mod AcceptedReplays

@@ -1,7 +1,0 @@
-use Rattle.std.proofs.Common.{◌≡◌, drop}
-use Rattle.std.specs.List.{find}
-use Rattle.view.specs.Link.{closed_by}
-use Rattle.view.proofs.link.closing.Given as goal
-
-abbrev pub invariant-loop-row : goal.invariant-loop-row
-invariant-loop-row l = find (λ r. closed_by l.link r.what) (drop l.row-index l.rows) ≡ find (λ r. closed_by l.link r.what) l.rows

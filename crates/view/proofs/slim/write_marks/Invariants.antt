@@ -1,7 +1,0 @@
-use Rattle.std.proofs.Common.{◌≡◌, ◌++◌, take, string_bytes}
-use Rattle.std.specs.List.{flat_map}
-use Rattle.view.specs.Slim.{mark_of}
-use Rattle.view.proofs.slim.write_marks.Given as goal
-
-abbrev pub invariant-loop-cpu : goal.invariant-loop-cpu
-invariant-loop-cpu g l = string_bytes l.out ≡ string_bytes l.initial.out ++ flat_map (mark_of l.row_cpu) (take l.cpu-index l.cpus)

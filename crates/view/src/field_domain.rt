@@ -1,0 +1,217 @@
+//! What a field may be, by its name in a template.
+
+use crate::text_kind::TextKind;
+use smp_mask::CpuMask;
+use smp_script::decimal::{number, read_i32};
+use smp_script::field::{read_mask, read_member};
+use smp_script::line::{is_word, split_part};
+use std::alloc::{AllocError, Allocator};
+
+/// What the first two lines of a text settle.
+#[derive(Clone, Copy)]
+pub struct TextSetting {
+    pub kind: TextKind,
+    /// CPUs have numbers below this.
+    pub limit: u32,
+    pub online: CpuMask,
+}
+
+/// What a field may be.
+#[derive(Clone, Copy)]
+pub enum Domain<'a> {
+    /// This word.
+    Word(&'a str),
+    /// One of these, with a comma and a space between each two.
+    OneOf(&'static str),
+    Number(u64, u64),
+    Signed,
+    /// A CPU that is online.
+    Member,
+    Mask,
+    MaskOrNone,
+    Online,
+    Items,
+    /// What is told so of it.
+    Told(&'static str),
+}
+
+const GROUPS: &str = "gate, interrupts, order, raises, switches, unlocks";
+
+const CONDITION: &str =
+    "atoms as `WORD N`, `queue.C N`, `setting.R PLACE` or `said NOTE`, each with `not` in front or without it, joined by and, or";
+
+// Numbers of 16, 32 and 64 bits.
+const U16: Domain<'static> = Domain::Number(0, u16::MAX as u64);
+
+const U32: Domain<'static> = Domain::Number(0, u32::MAX as u64);
+
+const U64: Domain<'static> = Domain::Number(0, u64::MAX);
+
+/// Whether a field of a template is a word as it is written.
+fn is_literal(field: &str) -> bool {
+    match field {
+        "NOP" | "JMP" | ".." => true,
+        _ => !field.as_bytes().iter().any(|b| b.is_ascii_uppercase()),
+    }
+}
+
+// A count behind a name of these.
+fn count_in(kind: TextKind) -> Domain<'static> {
+    match kind {
+        TextKind::Replay | TextKind::Run => Domain::Number(1, 10_000),
+        TextKind::Exploration => U32,
+        TextKind::Trace => U16,
+    }
+}
+
+// What `FUNC`, `ARG` and `ACTIVE` may be.
+fn argument_in(kind: TextKind, name: &str) -> Domain<'static> {
+    match (name, kind) {
+        ("FUNC", TextKind::Trace) => U64,
+        ("FUNC", _) => U16,
+        ("ARG", TextKind::Run) => Domain::Number(0, i32::MAX as u64),
+        ("ACTIVE", TextKind::Run) => Domain::MaskOrNone,
+        ("ACTIVE", _) => Domain::Mask,
+        _ => U64,
+    }
+}
+
+// What names CPUs.
+fn cpus_in(setting: &TextSetting, template: &str, name: &str) -> Domain<'static> {
+    match (name, setting.kind) {
+        ("NR", _) => Domain::Number(1, u64::from(setting.limit)),
+        ("MASK", _) if template.starts_with("cpus ") => Domain::Online,
+        ("MASK", _) => Domain::Mask,
+        ("C", TextKind::Run) => Domain::OneOf("all, even, odd"),
+        ("C", _) | ("CPU", TextKind::Run) => Domain::Member,
+        _ => U32,
+    }
+}
+
+// What is one of some words.
+fn words_in(kind: TextKind, name: &str) -> Domain<'static> {
+    match (name, kind) {
+        ("VERSION", TextKind::Trace) => Domain::OneOf("2"),
+        ("VERSION", _) => Domain::OneOf("1, 2"),
+        ("CLASS", _) => Domain::OneOf("sync, async"),
+        ("KIND", _) => Domain::OneOf("one, multi, patch"),
+        ("W", _) => Domain::OneOf("wait, nowait"),
+        _ => Domain::OneOf(GROUPS),
+    }
+}
+
+/// What the field of this name may be in a line of this template.
+pub fn domain_of<'a>(setting: &TextSetting, template: &str, name: &'a str) -> Domain<'a> {
+    if is_literal(name) {
+        return Domain::Word(name);
+    }
+    match name {
+        "VERSION" | "CLASS" | "KIND" | "W" | "GROUP" => words_in(setting.kind, name),
+        "NR" | "MASK" | "C" | "CPU" => cpus_in(setting, template, name),
+        "FUNC" | "INFO" | "ARG" | "ACTIVE" => argument_in(setting.kind, name),
+        "KEYS" => Domain::Number(0, 4),
+        "ITEMS" => Domain::Items,
+        "N" => count_in(setting.kind),
+        "U" => Domain::Number(0, 1),
+        "R" => U16,
+        "P" if template.contains("raise") => Domain::Number(2, 5),
+        "P" => Domain::Number(1, 4),
+        "RET" | "V" => Domain::Signed,
+        "COND" => Domain::Told(CONDITION),
+        _ => U32,
+    }
+}
+
+// Whether a field is one of these words.
+fn is_among(words: &str, field: &[u8]) -> bool {
+    words
+        .split(", ")
+        .any(|word| is_word(field, word.as_bytes()))
+}
+
+// Whether this is `KEY:BRANCH`.
+fn is_item(item: &[u8]) -> bool {
+    match split_part(item, b':') {
+        Some((_, branch)) => is_word(branch, b"0") || is_word(branch, b"1"),
+        None => false,
+    }
+}
+
+// Whether this is `-`, or each of the parts between commas is an item.
+fn are_items(field: &[u8]) -> bool {
+    let mut rest = field;
+    while let Some((item, after)) = split_part(rest, b',') {
+        if !is_item(item) {
+            return false;
+        }
+        rest = after;
+    }
+    is_word(field, b"-") || is_item(rest)
+}
+
+/// Whether a field has the right word, where it has to have one; else whether it is not empty.
+pub fn has_word(takes: Domain<'_>, field: &[u8]) -> bool {
+    match takes {
+        Domain::Word("..") => true,
+        Domain::Word(word) => is_word(field, word.as_bytes()),
+        Domain::OneOf(words) => is_among(words, field),
+        Domain::Items => are_items(field),
+        _ => !field.is_empty(),
+    }
+}
+
+/// A list of CPUs has fewer bytes than this: a line has no more.
+const MOST_BYTES: usize = 65_536;
+
+// Whether this is a list of CPUs, or `-`.
+fn is_mask(limit: u32, field: &[u8]) -> bool {
+    field.len() <= MOST_BYTES && read_mask(limit, field).is_ok()
+}
+
+/// Whether a field that has the right word is refused all the same.
+pub fn is_refused(setting: &TextSetting, takes: Domain<'_>, field: &[u8]) -> bool {
+    match takes {
+        Domain::Word(_) | Domain::OneOf(_) => false,
+        Domain::Number(low, high) => number(field, low, high).is_err(),
+        Domain::Signed => read_i32(field).is_err(),
+        Domain::Member => read_member(setting.online, field).is_err(),
+        Domain::Mask => !is_mask(setting.limit, field),
+        Domain::MaskOrNone => !is_word(field, b"none") && !is_mask(setting.limit, field),
+        Domain::Online | Domain::Items | Domain::Told(_) => true,
+    }
+}
+
+// What a field may be, where it has no numbers in it; for a list of CPUs, what comes before their limit.
+fn text_of<'a>(takes: Domain<'a>) -> &'a str {
+    match takes {
+        Domain::Word("..") => "the next of them, or the end of the line",
+        Domain::Word(word) => word,
+        Domain::OneOf(words) => words,
+        Domain::Number(..) => "a number from ",
+        Domain::Signed => "a number from -2147483648 to 2147483647",
+        Domain::Member => "a CPU that is online",
+        Domain::Mask => "-, or a list of CPUs below ",
+        Domain::MaskOrNone => "none, -, or a list of CPUs below ",
+        Domain::Online => "a list of CPUs below ",
+        Domain::Items => {
+            "-, or up to 16 items KEY:BRANCH joined by commas, KEY below KEYS, BRANCH 0 or 1"
+        }
+        Domain::Told(text) => text,
+    }
+}
+
+/// Writes what a field may be.
+pub fn write_domain<A: Allocator>(
+    out: &mut String<A>,
+    setting: &TextSetting,
+    takes: Domain<'_>,
+) -> Result<(), AllocError> {
+    let limit = setting.limit;
+    out.push_str(text_of(takes))?;
+    match takes {
+        Domain::Number(low, high) => write!(out, "{low} to {high}"),
+        Domain::Mask | Domain::MaskOrNone => write!(out, "{limit}, as 0-2,5"),
+        Domain::Online => write!(out, "{limit} and below NR, as 0-2,5, and not empty"),
+        _ => Ok(()),
+    }
+}
