@@ -6,26 +6,26 @@
 //! - `streams`: A text that is read, and what is written.
 //! - `explain`: What is wrong with a text.
 //! - `check`: Whether a trace of steps is what the machine prints for a script.
-//! - `explore`, `outcomes`: What an exploration expects, and how it may end.
-//! - `named`: Expectations by their names.
-//! - `failure`, `tell`: Why a text was not shown, explored or judged to its end, and how that is told.
+//! - `searches`, `outcomes`: What an exploration expects, and how it may end.
+//! - `expectation_names`: Expectations by their names.
+//! - `failure`, `failure_text`: Why a text was not shown, explored or judged to its end, and how that is told.
 //! - `progress`: How far a search is, told on standard error.
 //! - `status`: How the program ends.
 #![tactic(auto)]
 
 pub mod arguments;
 mod check;
+mod expectation_names;
 pub mod explain;
 pub mod failure;
+mod failure_text;
 mod grammar;
-mod named;
 pub mod outcomes;
 mod progress;
 pub mod requests;
 pub mod searches;
 pub mod status;
 mod streams;
-mod tell;
 
 pub use arguments::read_words;
 pub use requests::do_words;

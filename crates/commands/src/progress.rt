@@ -1,6 +1,6 @@
 //! How far a search is, told on standard error.
 
-use crate::named::Named;
+use crate::expectation_names::Named;
 use explore::Watch;
 use std::alloc::Global;
 use std::io;

@@ -12,3 +12,4 @@ pub mod StepLaws
 pub mod Machine
 -- the laws
 pub mod Promises
+pub mod Headline

@@ -3,7 +3,7 @@ use Rattle.std.proofs.Common.{arith, ◌≡◌, ◌≢◌, ℕ, ◌==◌, Bool, 
 use Rattle.std.specs.List.{AllByRecursion}
 use Rattle.smp_words.specs.Size.{owner}
 use Rattle.smp_call_steps.specs.{CallState, Sending, batches, Marked, mark, marked, others_marked, batches_marked, history_of, sent_to, marked_from}
-use Rattle.smp_call_steps.specs.{calls_from, HasRecord, IsPlaced, IsThere, locked_by, NothingCalled, StepsAreTold, KeepThePlaceLaw, calls_to, RunAtMostOnce}
+use Rattle.smp_call_steps.specs.{calls_from, HasRecord, IsPlaced, IsThere, locked_by, NothingCalled, StepsAreTold, calls_to, RunAtMostOnce}
 use Rattle.smp_call_steps.specs.{if_class, of_class, IsPrefix, ControlValue, Call, Class, Sync, Async, Word, RecPlace}
 use Rattle.smp_call_steps.specs.Shows.{Shows}
 use Rattle.smp_call_steps.proofs.State.Counts.{held_place}
@@ -26,18 +26,12 @@ placed_there places p id (call ∷ rest) all (inl e) = subst (λ (k : ℕ). plac
 placed_there places p id (call ∷ rest) all (inr h) = placed_there places p id rest all.1 h
 
 module _ (a : CallState) (at : Word → ℕ) (control : ℕ → ControlValue) (s : Shows a at control) where
-  only_there : (id : ℕ) (p : RecPlace) → p ≢ place.Free → IsThere a.held a.queue a.batch a.running id p → a.place id ≡ p
+  pub only_there : (id : ℕ) (p : RecPlace) → p ≢ place.Free → IsThere a.held a.queue a.batch a.running id p → a.place id ≡ p
   only_there id place.Free ne h = absurd (ne refl)
   only_there id place.Held ne h = held_place s (owner id) id h
   only_there id (place.Queued cpu) ne h = placed_there a.place (place.Queued cpu) id (a.queue cpu) (s.placed.queued cpu) h
   only_there id (place.Batch cpu) ne h = placed_there a.place (place.Batch cpu) id (a.batch cpu) (s.placed.batched cpu) h
   only_there id (place.Running cpu) ne h = placed_there a.place (place.Running cpu) id (locked_by (a.running cpu)) (s.placed.runs cpu) h
-
-pub keep_the_place_law : KeepThePlaceLaw
-keep_the_place_law a at control s = (
-  (λ id. record { is_there = s.placed.is_there id; only = only_there a at control s id; is_locked = s.written.locks id }),
-  (λ cpu. (s.placed.queue_apart cpu, s.placed.batch_apart cpu)),
-)
 
 -- of a class and of a source, one after the other
 
@@ -60,7 +54,7 @@ module _ (source : ℕ) where
   class_from Async Sync call rest e h = search (drops, arith)
   class_from Async Async call rest e h = search (keeps, arith)
 
-  from_class : (class : Class) (calls : List Call) → of_class class (calls_from source calls) ≡ calls_from source (of_class class calls)
+  pub from_class : (class : Class) (calls : List Call) → of_class class (calls_from source calls) ≡ calls_from source (of_class class calls)
   from_class class [] = refl
   from_class class (call ∷ rest) = class_from class call.class call rest refl (from_class class rest)
 
@@ -70,13 +64,13 @@ module _ (source : ℕ) where
   from_one true x xs ys e = ap (λ (k : List Call). x ∷ k) e
   from_one false x xs ys e = e
 
-  from-append : (xs ys : List Call) → calls_from source (xs ++ ys) ≡ calls_from source xs ++ calls_from source ys
+  pub from-append : (xs ys : List Call) → calls_from source (xs ++ ys) ≡ calls_from source xs ++ calls_from source ys
   from-append [] ys = refl
   from-append (x ∷ xs) ys = from_one (owner x.id == source) x xs ys (from-append xs ys)
 
 -- calls without their marks
 
-abbrev unmarked : List Marked → List Call
+abbrev pub unmarked : List Marked → List Call
 unmarked [] = []
 unmarked (m ∷ rest) = m.call ∷ unmarked rest
 
@@ -89,11 +83,11 @@ unmarked_if : (b : Bool) (m : Marked) (ms : List Marked) (calls : List Call) →
 unmarked_if true m ms calls e = ap (λ (k : List Call). m.call ∷ k) e
 unmarked_if false m ms calls e = e
 
-unmarked_sent : (cpu : ℕ) (sent : List Sending) → unmarked (sent_to cpu sent) ≡ calls_to cpu sent
+pub unmarked_sent : (cpu : ℕ) (sent : List Sending) → unmarked (sent_to cpu sent) ≡ calls_to cpu sent
 unmarked_sent cpu [] = refl
 unmarked_sent cpu (s ∷ rest) = unmarked_if (s.to == cpu) (mark s.is_first s.call) (sent_to cpu rest) (calls_to cpu rest) (unmarked_sent cpu rest)
 
-unmarked_from : (source : ℕ) (ms : List Marked) → unmarked (marked_from source ms) ≡ calls_from source (unmarked ms)
+pub unmarked_from : (source : ℕ) (ms : List Marked) → unmarked (marked_from source ms) ≡ calls_from source (unmarked ms)
 unmarked_from source [] = refl
 unmarked_from source (m ∷ rest) = search (unmarked_if, unmarked_from source rest, arith)
 
@@ -105,11 +99,11 @@ unmarked_all : (calls : List Call) → unmarked (marked calls) ≡ calls
 unmarked_all [] = refl
 unmarked_all (call ∷ rest) = ap (λ (k : List Call). call ∷ k) (unmarked_others rest)
 
-unmarked_batches : (taken : List (List Call)) → unmarked (batches_marked taken) ≡ batches taken
+pub unmarked_batches : (taken : List (List Call)) → unmarked (batches_marked taken) ≡ batches taken
 unmarked_batches [] = refl
 unmarked_batches (batch ∷ rest) = search (unmarked-append, unmarked_all, unmarked_batches rest, arith)
 
-unmarked_history : (taken : List (List Call)) (queue : List Call) → unmarked (history_of taken queue) ≡ batches taken ++ queue
+pub unmarked_history : (taken : List (List Call)) (queue : List Call) → unmarked (history_of taken queue) ≡ batches taken ++ queue
 unmarked_history taken queue = search (unmarked-append, unmarked_batches, unmarked_all, arith)
 
 pub run_at_most_once : RunAtMostOnce

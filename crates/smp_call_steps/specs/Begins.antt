@@ -1,17 +1,18 @@
 -- What a command's steps take from the command, and how it ends.
-use Rattle.std.specs.Prelude.{◌≡◌, ◌≢◌, ◌⊎◌, ℕ, ◌<◌, ◌-◌, ◌++◌, [], ◌∷◌, Option, Some, None}
+use Rattle.std.specs.Prelude.{◌≡◌, ◌≢◌, ◌⊎◌, ℕ, ◌<◌, ◌-◌, ◌++◌, [], ◌∷◌, Option, Some, None, IfSome}
 use Rattle.smp_mask.specs.Mask.{has}
+use Rattle.smp_words.specs.Commands.{FirstAccess, EndsSo}
 use Rattle.smp_words.specs.Size.{record_of}
 use Rattle.smp_words.specs.declared.command.Command.{Command}
 use Rattle.smp_words.specs.declared.command.Command.TheVariants as command
 use Rattle.smp_call_steps.specs.Calls.{CallState, tells}
 use Rattle.smp_call_steps.specs.Drains.{DrainValue}
+use Rattle.smp_call_steps.specs.Functions.{is_call}
 use Rattle.smp_call_steps.specs.Posts.{post_outcome}
 use Rattle.smp_call_steps.specs.Stages.{access_of, outcome_of}
 use Rattle.smp_call_steps.specs.Start.{first_stage}
 use Rattle.smp_call_steps.specs.StepLaws.{OfEachStep, seen_then}
-use Rattle.smp_call_steps.specs.Names.{Word, Head, Intr, Hand, Flags, Access, Load, Store, Note, Posting, PostStage, Stage, Send, Done, Post, Handle}
-use Rattle.smp_call_steps.specs.Names.note
+use Rattle.smp_call_steps.specs.Names.{Word, Head, Posting, PostStage, Stage, Send, Done, Post, Handle}
 use Rattle.smp_call_steps.specs.Names.post
 use Rattle.smp_call_steps.specs.Names.handle
 
@@ -31,22 +32,9 @@ BeginsAs online cpu (command.Done k) first = first ≡ Some (Done (record_of cpu
 BeginsAs online cpu command.Handle first = first ≡ Some (Handle handle.Enter)
 BeginsAs online cpu _ first = first ≡ None
 
--- the first access of a command is to the word that it names
-abbrev pub FirstAccess : ℕ → Command → Access → Type 0
-FirstAccess cpu (command.Post k to class func info tries) access = access ≡ Load (Flags (record_of cpu k))
-FirstAccess cpu (command.Send to) access = access ≡ Store (Intr to) 1
-FirstAccess cpu (command.Done k) access = access ≡ Load (Flags (record_of cpu k))
-FirstAccess cpu command.Handle access = access ≡ Store (Hand cpu) 1
-FirstAccess cpu _ access = ⊥
-
--- where it begins, it begins so
-abbrev pub BeginsAt : ℕ → Command → Option Stage → Type 0
-BeginsAt cpu command None = Unit {0}
-BeginsAt cpu command (Some stage) = (at : Word → ℕ) → FirstAccess cpu command (access_of at cpu stage)
-
 abbrev pub CommandsBeginSo : Type 0
 CommandsBeginSo = (online cpu : ℕ) (command : Command) → let first = first_stage online cpu command in
-    BeginsAt cpu command first × BeginsAs online cpu command first
+    IfSome first (λ stage. (at : Word → ℕ) → FirstAccess cpu None command (access_of at cpu stage)) × BeginsAs online cpu command first
 
 -- a post stays the same post until it ends
 abbrev pub IsOfPost : Posting → Option Stage → Type 0
@@ -78,17 +66,5 @@ MayTry p _ found next = Unit {0}
 abbrev pub PostsTryAsOften : Type 0
 PostsTryAsOften = (p : Posting) (stage : PostStage) (found : ℕ) → MayTry p stage found (post_outcome p stage found).next
 
--- whether a note tells of a call that runs
-abbrev pub IsOfCall : Option Note → Type 0
-IsOfCall (Some (note.Call source func info)) = Unit {0}
-IsOfCall _ = ⊥
-
--- A command ends with the step that has its note, and only there; in the middle a step may say that a call runs, and nothing else.
-abbrev pub EndsSo : Option Note → Option Stage → Type 0
-EndsSo None None = ⊥
-EndsSo None (Some stage) = Unit {0}
-EndsSo (Some n) None = IsOfCall (Some n) → ⊥
-EndsSo (Some n) (Some stage) = IsOfCall (Some n)
-
 abbrev pub NotesEndCommands : Type 0
-NotesEndCommands = (d : DrainValue) (stage : Stage) (found : ℕ) → let o = outcome_of d stage found in EndsSo o.note o.next
+NotesEndCommands = (d : DrainValue) (stage : Stage) (found : ℕ) → let o = outcome_of d stage found in EndsSo is_call o.note o.next

@@ -5,13 +5,8 @@ use Rattle.smp_call_steps.specs.Histories.{calls_from, sent_to}
 use Rattle.smp_call_steps.specs.Shows.{Shows}
 use Rattle.smp_call_steps.specs.Stages.{ControlValue}
 use Rattle.smp_call_steps.specs.Words.{queued_in, ran_in}
-use Rattle.smp_call_steps.specs.Names.{Word, Head, Flags, Hand}
-
--- no queue has a call, no record is locked, and nobody is inside handle
-pub record IsDrained (at : Word → ℕ) : Type 0 where
-  pub heads : (cpu : ℕ) → at (Head cpu) ≡ 0
-  pub flags : (id : ℕ) → at (Flags id) ≡ 0
-  pub hands : (cpu : ℕ) → at (Hand cpu) ≡ 0
+use Rattle.smp_call_steps.specs.Names.{Word}
+pub use Rattle.smp_call_steps.specs.Headline.{IsDrained}
 
 -- As many calls of each source as it has queued for a CPU have run there, and so say the tally words.
 pub record RunsAsQueued (a : CallState) (at : Word → ℕ) (source cpu : ℕ) : Type 0 where

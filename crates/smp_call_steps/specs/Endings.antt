@@ -1,6 +1,6 @@
 -- Where a command ends, what the note of each step is, and when a handling is idle.
 use Rattle.std.specs.Prelude.{◌≡◌, ◌≢◌, ℕ, ◌%◌, ◌==◌, Bool, true, false, ◌||◌, not, Option, Some, None}
-use Rattle.smp_words.specs.Size.{owner}
+use Rattle.smp_words.specs.{Commands.Either, Commands.Follows, Size.owner}
 use Rattle.smp_call_steps.specs.Drains.{DrainValue}
 use Rattle.smp_call_steps.specs.Stages.{outcome_of}
 use Rattle.smp_call_steps.specs.Names.{Note, Call, Stage, Send, Done, Post, Handle}
@@ -30,19 +30,8 @@ IsSameCommand (Post p stage) (Post q next) = q ≡ p
 IsSameCommand (Handle stage) (Handle next) = Unit {0}
 IsSameCommand _ _ = ⊥
 
--- no step follows where the command ends; everywhere else one of the same command does
-abbrev pub Follows : Stage → Bool → Option Stage → Type 0
-Follows stage true next = next ≡ None
-Follows stage false None = ⊥
-Follows stage false (Some next) = IsSameCommand stage next
-
 abbrev pub CommandsEndSo : Type 0
-CommandsEndSo = (d : DrainValue) (stage : Stage) (found : ℕ) → Follows stage (ends_here stage found) (outcome_of d stage found).next
-
--- a note that is said just where a fact holds, and another one elsewhere
-pub record Either (fact : Bool) (said : Option Note) (here there : Option Note) : Type 0 where
-  pub where_true : fact ≡ true → said ≡ here
-  pub where_false : fact ≡ false → said ≡ there
+CommandsEndSo = (d : DrainValue) (stage : Stage) (found : ℕ) → Follows IsSameCommand stage (ends_here stage found) (outcome_of d stage found).next
 
 -- the note of a call as its function begins to run
 abbrev pub runs_note : Call → Option Note

@@ -4,7 +4,7 @@ use Rattle.std.specs.List.{AllByRecursion}
 use Rattle.smp_words.specs.Size.{owner}
 use Rattle.smp_call_steps.specs.Calls.{CallState}
 use Rattle.smp_call_steps.specs.Counts.{calls_by, batches, async_call}
-use Rattle.smp_call_steps.specs.QueueOrder.{of_class}
+use Rattle.smp_call_steps.specs.Order.{of_class}
 use Rattle.smp_call_steps.specs.Shows.{Shows}
 use Rattle.smp_call_steps.specs.Stages.{ControlValue}
 use Rattle.smp_call_steps.specs.Names.{Call, Class, Sync, Async, Word}

@@ -37,6 +37,11 @@ abbrev pub sent_to : ℕ → List Sending → List Marked
 sent_to cpu [] = []
 sent_to cpu (s ∷ rest) = if s.to == cpu then mark s.is_first s.call ∷ sent_to cpu rest else sent_to cpu rest
 
+-- the calls that went to this CPU, in the order in which they were sent
+abbrev pub calls_to : ℕ → List Sending → List Call
+calls_to cpu [] = []
+calls_to cpu (s ∷ rest) = if s.to == cpu then s.call ∷ calls_to cpu rest else calls_to cpu rest
+
 -- the marked calls of this source
 abbrev pub marked_from : ℕ → List Marked → List Marked
 marked_from source [] = []

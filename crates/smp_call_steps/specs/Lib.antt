@@ -37,6 +37,7 @@ pub mod Begins
 pub mod Endings
 pub mod Touches
 pub mod Refusals
+pub mod Headline
 pub mod Drained
 -- the laws
 pub mod Promises

@@ -1,5 +1,5 @@
 -- The order in which a batch runs: its SYNC calls, then its ASYNC calls, each oldest first.
-use Rattle.std.specs.Prelude.{List, [], ◌∷◌, ◌++◌}
+use Rattle.std.specs.Prelude.{◌≡◌, List, [], ◌∷◌, ◌++◌}
 use Rattle.smp_call_steps.specs.Names.{Call, Class, Sync, Async}
 
 -- the call where its class is SYNC
@@ -25,3 +25,19 @@ async_calls (call ∷ rest) = if_async call.class call ++ async_calls rest
 -- the drain order of a batch
 abbrev pub order : List Call → List Call
 order calls = sync_calls calls ++ async_calls calls
+
+-- the call where its class is this one
+abbrev pub if_class : Class → Class → Call → List Call
+if_class Sync Sync call = call ∷ []
+if_class Sync Async call = []
+if_class Async Sync call = []
+if_class Async Async call = call ∷ []
+
+-- the calls of this class, in the order of the list
+abbrev pub of_class : Class → List Call → List Call
+of_class class [] = []
+of_class class (call ∷ rest) = if_class class call.class call ++ of_class class rest
+
+-- the list begins with these calls
+abbrev pub IsPrefix : List Call → List Call → Type 0
+IsPrefix front calls = (rest : List Call) × (calls ≡ front ++ rest)

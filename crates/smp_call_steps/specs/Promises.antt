@@ -1,17 +1,16 @@
 -- What the laws of the call half promise, of whatever words show calls.
-use Rattle.std.specs.Prelude.{◌≡◌, ◌≢◌, ℕ, ◌==◌, ◌⊎◌, if◌then◌else◌, None, List, [], ◌∷◌}
+use Rattle.std.specs.Prelude.{◌≡◌, ℕ, ◌⊎◌, None}
 use Rattle.smp_words.specs.Access.{word_of, at_after, seen_of}
-use Rattle.smp_call_steps.specs.Calls.{CallState, Sending, no_calls}
+use Rattle.smp_call_steps.specs.Calls.{CallState, no_calls}
 use Rattle.smp_call_steps.specs.Drains.{no_drain}
-use Rattle.smp_call_steps.specs.Histories.{calls_from, Recorded, Tallied}
+use Rattle.smp_call_steps.specs.Headline.{InOnePlace}
+use Rattle.smp_call_steps.specs.Histories.{calls_from, calls_to, Recorded, Tallied}
 use Rattle.smp_call_steps.specs.Known.{Sees, MayStep, known_access, known_tells, GoesOn}
-use Rattle.smp_call_steps.specs.Places.{IsApart, IsThere}
-use Rattle.smp_call_steps.specs.QueueOrder.{of_class, IsPrefix}
+use Rattle.smp_call_steps.specs.Order.{of_class, IsPrefix}
 use Rattle.smp_call_steps.specs.Shows.{Shows}
 use Rattle.smp_call_steps.specs.Stages.{ControlValue}
-use Rattle.smp_call_steps.specs.Words.{FlagsShow, IsEmpty, IsNoticed, flags_in, queued_in, ran_in}
-use Rattle.smp_call_steps.specs.Names.{Call, Class, Word, Access, RecPlace, Stage}
-use Rattle.smp_call_steps.specs.Names.place
+use Rattle.smp_call_steps.specs.Words.{IsEmpty, IsNoticed, queued_in, ran_in}
+use Rattle.smp_call_steps.specs.Names.{Class, Word, Access, Stage}
 use Rattle.smp_call_steps.specs.declared.known.Known.{Known}
 
 -- words that are all 0, with each CPU outside a command, show that nothing was called
@@ -26,16 +25,9 @@ StepsAreTold = (a : CallState) (at : Word → ℕ) (control : ℕ → ControlVal
     (stage : Stage) → MayStep v stage → (access : Access) → known_access v stage ≡ access →
     GoesOn a control v.number (at_after at access) (known_tells (a.queue v.number) v (seen_of v.number access (at (word_of access)) None))
 
--- a record is in exactly one place: free, held by its source, or locked in one queue, one batch or one running SYNC call
-pub record HasOnePlace (a : CallState) (flags : ℕ → ℕ) (id : ℕ) : Type 0 where
-  pub is_there : IsThere a.held a.queue a.batch a.running id (a.place id)
-  pub only : (p : RecPlace) → p ≢ place.Free → IsThere a.held a.queue a.batch a.running id p → a.place id ≡ p
-  pub is_locked : FlagsShow (a.place id) (flags id)
-
--- and no queue and no batch has it twice
+-- each record is in exactly one place
 abbrev pub KeepThePlaceLaw : Type 0
-KeepThePlaceLaw = (a : CallState) (at : Word → ℕ) (control : ℕ → ControlValue) → Shows a at control →
-    ((id : ℕ) → HasOnePlace a (flags_in at) id) × ((cpu : ℕ) → IsApart (a.queue cpu) × IsApart (a.batch cpu))
+KeepThePlaceLaw = (a : CallState) (at : Word → ℕ) (control : ℕ → ControlValue) → Shows a at control → InOnePlace a at
 
 -- where a queue is not empty, its CPU has an interrupt pending, has accepted one, or is owed one
 abbrev pub KeepTheInterruptLaw : Type 0
@@ -51,11 +43,6 @@ KeepTheQueueHistory = (a : CallState) (at : Word → ℕ) (control : ℕ → Con
 abbrev pub KeepTheTallyLaw : Type 0
 KeepTheTallyLaw = (a : CallState) (at : Word → ℕ) (control : ℕ → ControlValue) → Shows a at control →
     Tallied (queued_in at) (ran_in at) a.sent a.held a.ran a.running
-
--- the calls that went to this CPU, in the order in which they were sent
-abbrev pub calls_to : ℕ → List Sending → List Call
-calls_to cpu [] = []
-calls_to cpu (s ∷ rest) = if s.to == cpu then s.call ∷ calls_to cpu rest else calls_to cpu rest
 
 -- Each call that was sent runs at most once, on its target, in queue order per class: of each source and class, the
 -- calls that have ended at a CPU are the first of those that this source has sent to it.

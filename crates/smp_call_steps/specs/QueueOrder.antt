@@ -1,28 +1,12 @@
 -- In which order calls run: a batch by class, and of each class as they were queued.
-use Rattle.std.specs.Prelude.{◌≡◌, ℕ, List, [], ◌∷◌, ◌++◌}
+use Rattle.std.specs.Prelude.{◌≡◌, ℕ, List, ◌∷◌, ◌++◌}
 use Rattle.std.specs.List.{AllByRecursion}
-use Rattle.smp_call_steps.specs.Order.{order}
+use Rattle.smp_call_steps.specs.Order.{IsPrefix, of_class, order}
 use Rattle.smp_call_steps.specs.Calls.{CallState}
 use Rattle.smp_call_steps.specs.Counts.{batches}
 use Rattle.smp_call_steps.specs.Shows.{Shows}
 use Rattle.smp_call_steps.specs.Stages.{ControlValue}
-use Rattle.smp_call_steps.specs.Names.{Call, Class, Sync, Async, Word}
-
--- the call where its class is this one
-abbrev pub if_class : Class → Class → Call → List Call
-if_class Sync Sync call = call ∷ []
-if_class Sync Async call = []
-if_class Async Sync call = []
-if_class Async Async call = call ∷ []
-
--- the calls of this class, in the order of the list
-abbrev pub of_class : Class → List Call → List Call
-of_class class [] = []
-of_class class (call ∷ rest) = if_class class call.class call ++ of_class class rest
-
--- the list begins with these calls
-abbrev pub IsPrefix : List Call → List Call → Type 0
-IsPrefix front calls = (rest : List Call) × (calls ≡ front ++ rest)
+use Rattle.smp_call_steps.specs.Names.{Call, Class, Async, Word}
 
 -- in the drain order of a batch the calls of each class keep the order of the batch
 abbrev pub KeepsClasses : List Call → Type 0

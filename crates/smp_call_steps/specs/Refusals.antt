@@ -1,17 +1,13 @@
 -- What a command of the call half is refused for, by its numbers.
-use Rattle.std.specs.Prelude.{◌≡◌, ◌≢◌, ◌⊎◌, ℕ, ◌<◌, ◌≤◌, ◌+◌, true, Option, Some, None}
+use Rattle.std.specs.Prelude.{◌≡◌, ◌≢◌, ◌⊎◌, ℕ, ◌<◌, ◌≤◌, ◌+◌, true, Option, None}
 use Rattle.smp_mask.specs.Mask.{has}
 use Rattle.smp_mask.specs.declared.error.SmpError.{SmpError}
 use Rattle.smp_mask.specs.declared.error.SmpError.TheVariants as error
+use Rattle.smp_words.specs.Commands.{Refuses}
 use Rattle.smp_words.specs.declared.command.Command.{Command}
 use Rattle.smp_words.specs.declared.command.Command.TheVariants as command
 use Rattle.smp_call_steps.specs.Names.{Class, Sync, Async}
 use Rattle.smp_call_steps.specs.Start.{command_refusal}
-
--- no refusal where the command may start, else just this one
-abbrev pub Refuses : Type 0 → SmpError → Option SmpError → Type 0
-Refuses may e None = may
-Refuses may e (Some refused) = (refused ≡ e) × (may → ⊥)
 
 -- record 0 carries SYNC calls, and 1, 10 and 11 ASYNC calls
 abbrev pub CarriesClass : ℕ → Class → Type 0

@@ -1,5 +1,5 @@
 -- The order in which the steps of a command touch their words.
-use Rattle.std.specs.Prelude.{◌≡◌, ℕ, Option, Some, None}
+use Rattle.std.specs.Prelude.{◌≡◌, ℕ, Option, IsSomeAnd}
 use Rattle.smp_words.specs.{Access.word_of, Flags.class_of, Size.owner}
 use Rattle.smp_call_steps.specs.Drains.{DrainValue}
 use Rattle.smp_call_steps.specs.Stages.{access_of, outcome_of}
@@ -9,8 +9,7 @@ use Rattle.smp_call_steps.specs.Names.handle
 
 -- the step that follows is to this word, whatever the words hold then
 abbrev pub IsTo : ℕ → Option Stage → Word → Type 0
-IsTo me None word = ⊥
-IsTo me (Some next) word = (at : Word → ℕ) → word_of (access_of at me next) ≡ word
+IsTo me next word = IsSomeAnd next (λ stage. (at : Word → ℕ) → word_of (access_of at me stage) ≡ word)
 
 -- A post touches flags, flags, func, info, its tally word, the head, the next word, and the head again, in this order; one that
 -- gives up touches its tally word and then its flags. A handling touches its interrupt word, and then the head of its queue. Of

@@ -1,6 +1,7 @@
 -- What the words show of the calls: flags, functions, infos, chains, interrupts and handling words.
-use Rattle.std.specs.Prelude.{◌≡◌, ℕ, ◌+◌, ◌%◌, ◌⊎◌, Bool, true, false, Option, Some, List, [], ◌∷◌}
+use Rattle.std.specs.Prelude.{◌≡◌, ℕ, ◌+◌, ◌%◌, ◌⊎◌, Bool, true, Option, Some, List, [], ◌∷◌}
 use Rattle.std.specs.List.{AllByRecursion}
+pub use Rattle.smp_words.specs.Bit.{bit}
 use Rattle.smp_words.specs.Flags.{flags_of}
 use Rattle.smp_call_steps.specs.Places.{locked_by}
 use Rattle.smp_call_steps.specs.Calls.{Holding, Running}
@@ -88,10 +89,6 @@ last_batch (batch ∷ (next ∷ rest)) = last_batch (next ∷ rest)
 -- the links of held records
 pub record Linked (nexts : ℕ → ℕ) (held : ℕ → Option Holding) (linked : ℕ → Option ℕ) : Type 0 where
   pub held_links : (cpu : ℕ) → LinkIs nexts (held cpu) (linked cpu)
-
-abbrev pub bit : Bool → ℕ
-bit true = 1
-bit false = 0
 
 abbrev pub IsEmpty : List Call → Type 0
 IsEmpty [] = Unit {0}

@@ -78,7 +78,7 @@ module _ (u : Setup) (p : StopState) (me answer found : ℕ) (note : Option Note
   in_handle (handle.CountAsync call next) ran = refl
   in_handle handle.Leave ran = refl
 
-  call_step_apart : (at : Word → ℕ) (stage : Stage) → stops.tells u p (seen_of me (access_of at me stage) found note) answer ≡ p
+  pub call_step_apart : (at : Word → ℕ) (stage : Stage) → stops.tells u p (seen_of me (access_of at me stage) found note) answer ≡ p
   call_step_apart at (Send to) = refl
   call_step_apart at (Done id) = refl
   call_step_apart at (Post x stage) = in_post x stage _

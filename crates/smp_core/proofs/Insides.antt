@@ -22,7 +22,7 @@ use Rattle.smp_core.specs.Value.{CoreValue}
 use Rattle.smp_core.proofs.Starts.{may_start, start_below}
 
 -- where a CPU is that was put at a stage of a half
-calls_begun : (controls : List ControlValue) (cpu : ℕ) (stage : Option Stage) → cpu < length controls →
+pub calls_begun : (controls : List ControlValue) (cpu : ℕ) (stage : Option Stage) → cpu < length controls →
     (control_of (slice_set controls cpu (control_at (control_of controls cpu) stage)) cpu).stage ≡ stage
 calls_begun controls cpu stage below =
     ap (λ (c : ControlValue). c.stage) (get_or-set_same controls cpu (control_at (control_of controls cpu) stage) outside below)

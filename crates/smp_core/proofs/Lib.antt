@@ -7,8 +7,11 @@ pub mod Saying
 pub mod Kept
 pub mod Offline
 pub mod OfflineStops
+pub mod Joined
 pub mod Whole
+pub mod Headline
 -- a list of events
+pub mod OfflineEvents
 pub mod Replays
 -- what a kept core takes
 pub mod Weights

@@ -41,7 +41,7 @@ use Rattle.smp_call_steps.proofs.Machine.Accesses.{access_in_table}
 use Rattle.smp_call_steps.proofs.Machine.Cores.{controls_by_cpu, inside_below, made_shown, words_by_name}
 use Rattle.smp_call_steps.proofs.Machine.Starts.{else_none, new_shown}
 use Rattle.smp_call_steps.proofs.State.Batches.{no_chain}
-use Rattle.smp_core.specs.Offline.{AimsOnline, IsApart, HasDoneNothing, IsSeenTo, LeavesOffline}
+use Rattle.smp_core.specs.Offline.{AimsOnline, AreIdle, IsApart, HasDoneNothing, IsSeenTo, LeavesOffline}
 
 -- where a CPU aims at CPUs that are online, so does it after its step
 
@@ -107,7 +107,7 @@ module _ (online : ℕ) where
   ReachesOnline (Load w) = Unit {0}
   ReachesOnline access = OnlineAt (word_of access)
 
-  apart : (to cpu : ℕ) → has online to ≡ true → has online cpu ≡ false → cpu ≢ to
+  pub apart : (to cpu : ℕ) → has online to ≡ true → has online cpu ≡ false → cpu ≢ to
   apart to cpu on off e = true≢false (sym on ∙ (ap (has online) (sym e) ∙ off))
 
   quiet_put : (at : Word → ℕ) (w : Word) (x cpu : ℕ) → OnlineAt w → has online cpu ≡ false → IsQuiet at cpu → IsQuiet (put_word at w x) cpu
@@ -146,7 +146,7 @@ module _ (online : ℕ) where
 
   module _ (words : List ℕ) (controls : List ControlValue) (cpu : ℕ) (sized : length controls ≡ cpus) (before : IsApart online words controls) where
     -- a CPU inside a command is online
-    inside_online : (stage : Stage) → (control_of controls cpu).stage ≡ Some stage → has online cpu ≡ true
+    pub inside_online : (stage : Stage) → (control_of controls cpu).stage ≡ Some stage → has online cpu ≡ true
     inside_online stage e = is_on (has online cpu) refl
       where
         is_on : (b : Bool) → has online cpu ≡ b → has online cpu ≡ true
@@ -222,31 +222,47 @@ empty_is : (calls : List Call) → IsEmpty calls → calls ≡ []
 empty_is [] e = refl
 empty_is (call ∷ rest) e = absurd e
 
+-- in no calls nothing is done
+none_idle : (cpu : ℕ) → HasDoneNothing no_calls cpu
+none_idle cpu = record {
+  queue = refl;
+  pending = refl;
+  accepted = refl;
+  held = refl;
+  taken = refl;
+  batch = refl;
+  running = refl;
+  ran = refl;
+  sent = refl;
+  asked = refl;
+  owes = λ to small. refl;
+}
+
 -- what that says of the calls
 module _ (online : ℕ) (words : List ℕ) (controls : List ControlValue) (h : IsApart online words controls) where
+  -- calls that are shown there, in which a CPU that is not online has the part that it has in others, in which it has done nothing
+  pub still_idle : (a b : CallState) → ValuesShow b words controls → (cpu : ℕ) → has online cpu ≡ false → part_of b cpu ≡ part_of a cpu →
+      HasDoneNothing a cpu → HasDoneNothing b cpu
+  still_idle a b s cpu off e n = record {
+    queue = no_chain (nexts_in (number_in words)) (number_in words (Head cpu)) (b.queue cpu) (h.quiet cpu off).0 (s.chained.chain cpu);
+    pending = not_pending (b.pending cpu) (sym (h.quiet cpu off).1 ∙ s.noticed.words cpu);
+    accepted = ap (λ (p : Part). p.accepted) e ∙ n.accepted;
+    held = s.held cpu ∙ ap held_of (h.outside cpu off);
+    taken = ap (λ (p : Part). p.taken) e ∙ n.taken;
+    batch = ap (λ (p : Part). p.batch) e ∙ n.batch;
+    running = ap (λ (p : Part). p.running) e ∙ n.running;
+    ran = ap (λ (p : Part). p.ran) e ∙ n.ran;
+    sent = ap (λ (p : Part). p.sent) e ∙ n.sent;
+    asked = ap (λ (p : Part). p.asked) e ∙ n.asked;
+    owes = λ to small. sym (row-at cpus to (b.owes cpu) false small)
+        ∙ (ap (λ (p : Part). get_or p.owes to false) e ∙ (row-at cpus to (a.owes cpu) false small ∙ n.owes to small));
+  }
+
   abbrev a : CallState
   a = h.calls
 
-  s : ValuesShow h.calls words controls
-  s = h.shown
-
-  owes_none : (cpu to : ℕ) → has online cpu ≡ false → to < cpus → a.owes cpu to ≡ false
-  owes_none cpu to off small = sym (row-at cpus to (a.owes cpu) false small)
-      ∙ (ap (λ (p : Part). get_or p.owes to false) (h.idle cpu off) ∙ row-at cpus to (λ _. false) false small)
-
-  done_nothing : (cpu : ℕ) → has online cpu ≡ false → HasDoneNothing a cpu
-  done_nothing cpu off = record {
-    queue = no_chain (nexts_in (number_in words)) (number_in words (Head cpu)) (a.queue cpu) (h.quiet cpu off).0 (s.chained.chain cpu);
-    pending = not_pending (a.pending cpu) (sym (h.quiet cpu off).1 ∙ s.noticed.words cpu);
-    accepted = ap (λ (p : Part). p.accepted) (h.idle cpu off);
-    held = s.held cpu ∙ ap held_of (h.outside cpu off);
-    taken = ap (λ (p : Part). p.taken) (h.idle cpu off);
-    batch = ap (λ (p : Part). p.batch) (h.idle cpu off);
-    running = ap (λ (p : Part). p.running) (h.idle cpu off);
-    ran = ap (λ (p : Part). p.ran) (h.idle cpu off);
-    sent = ap (λ (p : Part). p.sent) (h.idle cpu off);
-    owes = λ to small. owes_none cpu to off small;
-  }
+  done_nothing : AreIdle online a
+  done_nothing cpu off = still_idle no_calls a h.shown cpu off (h.idle cpu off) (none_idle cpu)
 
   seen_to : (cpu : ℕ) → cpu < cpus → IsEmpty (a.queue cpu) ⊎ IsNoticed a.pending a.accepted a.owes cpu → IsSeenTo online a cpu
   seen_to cpu small (inl e) = inl (empty_is (a.queue cpu) e)
@@ -256,7 +272,7 @@ module _ (online : ℕ) (words : List ℕ) (controls : List ControlValue) (h : I
     where
       owed_online : (b : Bool) → has online source ≡ b → has online source ≡ true
       owed_online true f = f
-      owed_online false f = absurd (true≢false (sym e ∙ owes_none source cpu f small))
+      owed_online false f = absurd (true≢false (sym e ∙ (done_nothing source f).owes cpu small))
 
   pub leaves_offline : LeavesOffline online words controls
-  leaves_offline = record { calls = a; shown = s; nothing = done_nothing; seen_to = λ cpu small. seen_to cpu small (s.noticed.noticed cpu) }
+  leaves_offline = record { calls = a; shown = h.shown; nothing = done_nothing; seen_to = λ cpu small. seen_to cpu small (h.shown.noticed.noticed cpu) }

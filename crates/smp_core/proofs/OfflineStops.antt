@@ -53,7 +53,7 @@ use Rattle.smp_stop_steps.specs.declared.stage.StopStage.TheVariants.{Close, Loa
 use Rattle.smp_stop_steps.specs.declared.stage.Visit.{Visit}
 use Rattle.smp_stop_steps.proofs.TheMachine.Begun.{begun_value_shown}
 use Rattle.smp_stop_steps.proofs.TheMachine.Starting.{may_begin}
-use Rattle.smp_core.specs.OfflineStops.{AreStopsApart, HasNoStop, LeavesOfflineStops, StopPart, stop_part_of}
+use Rattle.smp_core.specs.OfflineStops.{AreInNoStop, AreStopsApart, LeavesOfflineStops, StopPart, stop_part_of}
 
 -- a step leaves the part of each other CPU, but for the gate
 
@@ -162,7 +162,7 @@ module _ (u : Setup) (p : StopState) (me c : ℕ) (ne : c ≢ me) where
   -- by the stages
 
   module _ (n : ℕ) (changes : List Change) (found : ℕ) (said : Option Note) where
-    abbrev After : StopStage → StopState
+    abbrev pub After : StopStage → StopState
     After stage = tells u p (seen_of me (stop_access n me changes stage) found said) (answer_at stage)
 
     round_else : (v : Visit) (stage : RoundStage) → Same (After (Advance v stage))
@@ -185,14 +185,14 @@ module _ (u : Setup) (p : StopState) (me c : ℕ) (ne : c ≢ me) where
     completion_else v completion.CountDown = completes_else v.slot found ((p.now.stop v.slot).standing me)
 
     -- of another CPU that has no part
-    abbrev HasNone : StopState → Type 0
+    abbrev pub HasNone : StopState → Type 0
     HasNone q = stop_part_of q c ≡ stop_part_of no_stops c
 
     gate_else : HasNone p → (b : Bool) → HasNone (gate_told p me act.Cas (cond b (Some (me + 1)) None))
     gate_else h true = rw (ne_eqb me c (λ same. ne (sym same))) (ap (λ (x : StopPart). record x { holds = false }) h)
     gate_else h false = h
 
-    stage_else : HasNone p → (stage : StopStage) → HasNone (After stage)
+    pub stage_else : HasNone p → (stage : StopStage) → HasNone (After stage)
     stage_else h TakeGate = gate_else h (found == 0)
     stage_else h OpenGate = ap (λ (x : StopPart). record x { holds = false }) h
     stage_else h (Begin work f) = own_else (begun_value n work f) f (p.now.stop me).is_open ∙ h
@@ -213,14 +213,14 @@ module _ (u : Setup) (p : StopState) (me c : ℕ) (ne : c ≢ me) where
 -- a step, and the beginning of a command, of a CPU that is online
 
 module _ (v : StopsValue) (cpu : ℕ) (before : AreStopsApart v) where
-  inside_online : (stage : StopStage) → (stop_control_of v.controls cpu).stage ≡ Some stage → has v.online cpu ≡ true
+  pub inside_online : (stage : StopStage) → (stop_control_of v.controls cpu).stage ≡ Some stage → has v.online cpu ≡ true
   inside_online stage e = is_on (has v.online cpu) refl
     where
       is_on : (b : Bool) → has v.online cpu ≡ b → has v.online cpu ≡ true
       is_on true f = f
       is_on false f = absurd (let none : None ≡ Some stage = sym (ap (λ (x : StopControlValue). x.stage) (before.outside cpu f)) ∙ e in cc)
 
-  apart : (j : ℕ) → has v.online cpu ≡ true → has v.online j ≡ false → j ≢ cpu
+  pub apart : (j : ℕ) → has v.online cpu ≡ true → has v.online j ≡ false → j ≢ cpu
   apart j on none e = true≢false (sym on ∙ (ap (has v.online) (sym e) ∙ none))
 
   still_outside : (control : StopControlValue) → has v.online cpu ≡ true → (j : ℕ) → has v.online j ≡ false →
@@ -320,7 +320,7 @@ module _ (v : StopsValue) (h : AreStopsApart v) where
   own_shut c none = subst (SourceShows (setup_of v.online v.labels) p.gate (p.now.stop c) (λ f. stop_number v.table (Slot c f)) c)
       (source_shut c none (nat_lt c cpus) refl) (h.shown.shows.sources c)
 
-  has_no_stop : (c : ℕ) → has v.online c ≡ false → HasNoStop p c
+  pub has_no_stop : AreInNoStop v.online h.stops
   has_no_stop c none = let e = h.idle c none in record {
     gate = not_holder p.gate c (ap (λ (x : StopPart). x.holds) e);
     inside = ap (λ (x : StopPart). x.inside) e;

@@ -1,9 +1,10 @@
 -- One more event of a replay.
-use Rattle.std.proofs.Common.{◌≡◌, ℕ, ◌+◌, ◌<◌, ◌≤◌, List, [], ◌∷◌, ◌++◌, Option, Some, None, Result, Ok, Err, length, length-append, get_or, drop, sym, subst}
+use Rattle.std.proofs.Common.{◌≡◌, ℕ, false, ◌+◌, ◌<◌, ◌≤◌, List, [], ◌∷◌, ◌++◌, Option, Some, None, Result, Ok, Err, length, length-append, get_or, drop, sym, subst}
 use Rattle.std.proofs.Common.{◌∙◌, ap, refl, append_assoc, append-nil, arith}
 use Rattle.std.proofs.lemmas.List.{drop_more, drop_all}
 use Rattle.smp_call_steps.specs.Calls.{CallState, tells, tells_all, tells_if}
 use Rattle.smp_call_steps.specs.Functions.{SaysWhatBegins}
+use Rattle.smp_call_steps.specs.Parts.{part_of}
 use Rattle.smp_call_steps.proofs.StepLaws.Saying.{says_none, says_then}
 use Rattle.smp_core.specs.Value.{CoreValue, Shown}
 use Rattle.smp_call_steps.specs.Value.{control_of}
@@ -13,7 +14,7 @@ use Rattle.smp_stop_steps.specs.Notes.{AllNotesFit, StopNoteFits}
 use Rattle.smp_core.specs.Replay.{Replay, answers_from, answers_on, replay_from, replay_on, after_seen, seen_list, start_turn, step_turn, turn_of}
 use Rattle.smp_core.specs.Start.{refusal_of, started}
 use Rattle.smp_stop_steps.specs.Start.{stop_begun_if, stop_first}
-use Rattle.smp_stop_steps.specs.State.{Setup, StopState}
+use Rattle.smp_stop_steps.specs.State.{Setup, StopState, no_stops}
 use Rattle.smp_stop_steps.specs.Tells as stops
 use Rattle.smp_stop_steps.specs.Tells.{tells_all as tells_stops, tells_if as stops_if}
 use Rattle.smp_stop_steps.specs.Value.{StopsValue, StopShown, setup_of, stop_control_of}
@@ -23,7 +24,13 @@ use Rattle.smp_words.specs.declared.command.Event.{Event}
 use Rattle.smp_words.specs.declared.command.Event.TheVariants as event
 use Rattle.smp_call_steps.specs.declared.stage.Stage.{Stage}
 use Rattle.smp_stop_steps.specs.declared.stage.StopStage.{StopStage}
+use Rattle.smp_mask.specs.Mask.{has}
 use Rattle.smp_mask.specs.declared.error.SmpError.{SmpError}
+use Rattle.smp_core.specs.Offline.{AreIdle}
+use Rattle.smp_core.specs.OfflineStops.{AreInNoStop, stop_part_of}
+use Rattle.smp_core.specs.Whole.{IsWhole}
+use Rattle.smp_core.proofs.Offline.{still_idle}
+use Rattle.smp_core.proofs.OfflineEvents.{has_no_part, in_no_stop, turn_keeps, turn_keeps_stops, turn_online}
 
 -- the replay so far, and then that of the rest, is the replay of all
 pub record GoesOn (first core : CoreValue) (events : List Event) (at : ℕ) (seen : List Seen) : Type 0 where
@@ -37,6 +44,11 @@ pub record GoesOn (first core : CoreValue) (events : List Event) (at : ℕ) (see
   pub setup : setup_in core ≡ setup_in first
   pub stops : (p : StopState) → StopShown p first.stops → StopShown (tells_stops (setup_in first) p seen answers) core.stops
   pub notes : (p : StopState) → StopShown p first.stops → AllNotesFit (setup_in first) p seen answers
+  -- CPUs that are not online keep their part
+  pub online : core.online ≡ first.online
+  pub idle : (calls : CallState) → Shown calls first → (j : ℕ) → has first.online j ≡ false → part_of (tells_all calls seen) j ≡ part_of calls j
+  pub idle_stops : (p : StopState) (j : ℕ) → has first.online j ≡ false → stop_part_of p j ≡ stop_part_of no_stops j →
+      stop_part_of (tells_stops (setup_in first) p seen answers) j ≡ stop_part_of no_stops j
 
 pub tells_all-append : (a : CallState) (xs : List Seen) (s : Option Seen) → tells_all a (xs ++ seen_list s) ≡ tells_if (tells_all a xs) s
 tells_all-append a [] None = refl
@@ -121,6 +133,9 @@ starts first events seen none = rw none (record {
   setup = refl;
   stops = λ p shown. shown;
   notes = λ p shown. tt;
+  online = refl;
+  idle = λ calls shown j off. refl;
+  idle_stops = λ p j off none. none;
 })
 
 answers_next : (core : CoreValue) (events : List Event) (at : ℕ) (d : Event) → at < length events →
@@ -134,10 +149,10 @@ GoesOn-more : (first core core' : CoreValue) (events : List Event) (at : ℕ) (d
     ((calls : CallState) → Shown calls core → Shown (tells_if calls s) core') →
     ((calls : CallState) → Shown calls core → SaysWhatBegins calls (seen_list s) (tells_if calls s)) →
     ((p : StopState) → StopShown p core.stops → StopShown (stops_if (setup_in core) p s (turn_of core (get_or events at d)).answered) core'.stops) →
-    ((p : StopState) → StopShown p core.stops → NoteFitsIf (setup_in core) p s (turn_of core (get_or events at d)).answered) →
+    ((p : StopState) → StopShown p core.stops → NoteFitsIf (setup_in core) p s (turn_of core (get_or events at d)).answered) → IsWhole core →
     GoesOn first core events at seen → GoesOn first core' events (at + 1) seen'
 unfolding answer_list
-GoesOn-more first core core' events at d seen seen' s l answer is_core is_seen told said stops notes g =
+GoesOn-more first core core' events at d seen seen' s l answer is_core is_seen told said stops notes whole g =
     let event = get_or events at d in
     let answered = (turn_of core event).answered in
     let answers = g.answers in
@@ -162,29 +177,50 @@ GoesOn-more first core core' events at d seen seen' s l answer is_core is_seen t
       said = λ calls shown. rw (is_seen, tells_all-append calls seen s)
           (says_then calls (tells_all calls seen) (tells_if (tells_all calls seen) s) seen (seen_list s) (g.said calls shown)
           (said (tells_all calls seen) (g.told calls shown)));
+      online = ap (λ (c : CoreValue). c.online) is_core ∙ (turn_online core event ∙ g.online);
+      idle = λ calls shown j off. rw (is_seen, tells_all-append calls seen s)
+          (turn_keeps core whole j (rw g.online off) event s answer (tells_all calls seen) (g.told calls shown) ∙ g.idle calls shown j off);
+      idle_stops = λ p j off none. rw (is_seen, tells_stops-append (setup_in first) p seen answers s answered g.paired, ← g.setup)
+          (turn_keeps_stops core whole j (rw g.online off) event s answer (tells_stops (setup_in core) p seen answers)
+          (rw (← g.setup) at (g.idle_stops p j off none)));
     }
 
--- the core shows the stops that these steps tell, and their notes say what they have changed
+-- the core shows the stops that these steps tell, and their notes say what they have changed; CPUs that are not online stay in no stop
 abbrev pub IsToldBy : CoreValue → CoreValue → List Event → List Seen → StopState → Type 0
 IsToldBy first core events seen p = StopShown (tells_stops (setup_in first) p seen (answers_from first events)) core.stops ×
-    AllNotesFit (setup_in first) p seen (answers_from first events)
+    AllNotesFit (setup_in first) p seen (answers_from first events) ×
+    (AreInNoStop first.online p → AreInNoStop first.online (tells_stops (setup_in first) p seen (answers_from first events)))
+
+-- all so far, by the answers so far
+told_so_far : (first core : CoreValue) (events : List Event) (at : ℕ) (seen : List Seen) (g : GoesOn first core events at seen) → IsWhole core →
+    answers_from core (drop at events) ≡ [] → (p : StopState) → StopShown p first.stops → IsToldBy first core events seen p
+told_so_far first core events at seen g whole none p shown =
+    let whole_answers : g.answers ≡ answers_from first events = sym (append-nil g.answers) ∙ (ap (λ (x : List ℕ). g.answers ++ x) (sym none) ∙ g.answered) in
+    rw (← whole_answers) (
+      g.stops p shown,
+      g.notes p shown,
+      λ idle j off. in_no_stop core whole (tells_stops (setup_in first) p seen g.answers)
+          (g.stops p shown) (λ c out. g.idle_stops p c (rw g.online at out) (has_no_part p c (idle c (rw g.online at out)))) j (rw g.online off),
+    )
+
+-- and CPUs that are not online stay idle
+pub idle_so_far : (first core : CoreValue) (events : List Event) (at : ℕ) (seen : List Seen) → GoesOn first core events at seen → IsWhole core →
+    (calls : CallState) → Shown calls first → AreIdle first.online calls → AreIdle first.online (tells_all calls seen)
+idle_so_far first core events at seen g whole calls shown idle j off = still_idle core.online core.words core.controls whole.sound.apart calls
+    (tells_all calls seen) (g.told calls shown) j (rw g.online off) (g.idle calls shown j off) (idle j off)
 
 -- where the next event is refused, the answers so far are those of all
 GoesOn-refused : (first core core' : CoreValue) (events : List Event) (at : ℕ) (d : Event) (seen : List Seen) (e : SmpError) → at < length events →
-    Err e ≡ (turn_of core (get_or events at d)).answer → core' ≡ core → GoesOn first core events at seen →
+    Err e ≡ (turn_of core (get_or events at d)).answer → core' ≡ core → IsWhole core → GoesOn first core events at seen →
     (p : StopState) → StopShown p first.stops → IsToldBy first core' events seen p
-GoesOn-refused first core core' events at d seen e l answer same g p shown =
+GoesOn-refused first core core' events at d seen e l answer same whole g p shown =
     let none : answers_from core (drop at events) ≡ [] = answers_next core events at d l ∙ rw (← answer) refl in
-    let whole : g.answers ≡ answers_from first events = sym (append-nil g.answers) ∙ (ap (λ (x : List ℕ). g.answers ++ x) (sym none) ∙ g.answered) in
-    rw (same, ← whole) (g.stops p shown, g.notes p shown)
+    rw same (told_so_far first core events at seen g whole none p shown)
 
 -- and so they are at the end
-pub GoesOn-all : (first core : CoreValue) (events : List Event) (at : ℕ) (seen : List Seen) → length events ≤ at → GoesOn first core events at seen →
-    (p : StopState) → StopShown p first.stops → IsToldBy first core events seen p
-GoesOn-all first core events at seen l g p shown =
-    let none : answers_from core (drop at events) ≡ [] = ap (answers_from core) (drop_all at events l) in
-    let whole : g.answers ≡ answers_from first events = sym (append-nil g.answers) ∙ (ap (λ (x : List ℕ). g.answers ++ x) (sym none) ∙ g.answered) in
-    rw (← whole) (g.stops p shown, g.notes p shown)
+pub GoesOn-all : (first core : CoreValue) (events : List Event) (at : ℕ) (seen : List Seen) → length events ≤ at → IsWhole core →
+    GoesOn first core events at seen → (p : StopState) → StopShown p first.stops → IsToldBy first core events seen p
+GoesOn-all first core events at seen l whole g p shown = told_so_far first core events at seen g whole (ap (answers_from core) (drop_all at events l)) p shown
 
 -- the same of the event that was read there
 pub goes_on : (first core core' : CoreValue) (events : List Event) (at : ℕ) (event : Event) (seen seen' : List Seen) (s : Option Seen) → at < length events
@@ -193,13 +229,13 @@ pub goes_on : (first core core' : CoreValue) (events : List Event) (at : ℕ) (e
     ((calls : CallState) → Shown calls core → Shown (tells_if calls s) core') →
     ((calls : CallState) → Shown calls core → SaysWhatBegins calls (seen_list s) (tells_if calls s)) →
     ((p : StopState) → StopShown p core.stops → StopShown (stops_if (setup_in core) p s (turn_of core event).answered) core'.stops) →
-    IfSome s (λ seen. StopNotesFit core seen (turn_of core event).answered) →
+    IfSome s (λ seen. StopNotesFit core seen (turn_of core event).answered) → IsWhole core →
     GoesOn first core events at seen → GoesOn first core' events (at + 1) seen'
-goes_on first core core' events at event seen seen' s l e answer is_core is_seen told said stops notes g =
+goes_on first core core' events at event seen seen' s l e answer is_core is_seen told said stops notes whole g =
     GoesOn-more first core core' events at event seen seen' s l (subst (λ (x : Event). Ok s ≡ (turn_of core x).answer) e answer)
     (subst (λ (x : Event). core' ≡ (turn_of core x).core) e is_core) is_seen told said
     (subst (λ (x : Event). (p : StopState) → StopShown p core.stops → StopShown (stops_if (setup_in core) p s (turn_of core x).answered) core'.stops) e stops)
-    (subst (λ (x : Event). (p : StopState) → StopShown p core.stops → NoteFitsIf (setup_in core) p s (turn_of core x).answered) e (fits s notes)) g
+    (subst (λ (x : Event). (p : StopState) → StopShown p core.stops → NoteFitsIf (setup_in core) p s (turn_of core x).answered) e (fits s notes)) whole g
   where
     fits : (o : Option Seen) → IfSome o (λ seen. StopNotesFit core seen (turn_of core event).answered) → (p : StopState) → StopShown p core.stops →
         NoteFitsIf (setup_in core) p o (turn_of core event).answered
@@ -208,7 +244,7 @@ goes_on first core core' events at event seen seen' s l e answer is_core is_seen
 
 pub ends_refused : (first core core' : CoreValue) (events : List Event) (at : ℕ) (event : Event) (seen : List Seen) (refused : SmpError) → at < length events
     → event ≡ get_or events at event →
-    Err refused ≡ (turn_of core event).answer → core' ≡ core → GoesOn first core events at seen →
+    Err refused ≡ (turn_of core event).answer → core' ≡ core → IsWhole core → GoesOn first core events at seen →
     (p : StopState) → StopShown p first.stops → IsToldBy first core' events seen p
-ends_refused first core core' events at event seen refused l e answer same g =
-    GoesOn-refused first core core' events at event seen refused l (subst (λ (x : Event). Err refused ≡ (turn_of core x).answer) e answer) same g
+ends_refused first core core' events at event seen refused l e answer same whole g =
+    GoesOn-refused first core core' events at event seen refused l (subst (λ (x : Event). Err refused ≡ (turn_of core x).answer) e answer) same whole g

@@ -26,6 +26,7 @@ use Rattle.smp_core.specs.Sound.{IsSound}
 use Rattle.smp_core.specs.Start.{refusal_of, started}
 use Rattle.smp_core.specs.Value.{CoreValue}
 use Rattle.smp_core.specs.Whole.{IsWhole, KeepsLaws}
+use Rattle.smp_core.proofs.Joined.{handles_shown, joined_started, joined_stepped, joined_stop_stepped}
 use Rattle.smp_core.proofs.Offline.{leaves_offline, start_apart, step_apart}
 use Rattle.smp_core.proofs.OfflineStops.{leaves_offline_stops, start_stops_apart, started_told, step_stops_apart}
 use Rattle.smp_core.proofs.Starts.{may_start, start_below, started_nr, started_online, started_shown}
@@ -41,6 +42,7 @@ module _ (nr online : ℕ) (words : List ℕ) (controls : List ControlValue) (v 
     stops_online = sound.stops_online;
     apart = sound.apart;
     stops_apart = step_stops_apart v cpu sound.stops_apart stage e told;
+    joined = joined_stop_stepped controls v.controls cpu stage _ e sound.joined;
   }
 
   after : (v' : StopsValue) (seen : Option Seen) (o : Option StopStage) → (stop_control_of v.controls cpu).stage ≡ o →
@@ -78,6 +80,7 @@ module _ (core : CoreValue) (cpu : ℕ) (w : IsWhole core) where
           stops_online = w.sound.stops_online;
           apart = step_apart core.online core.words core.controls cpu table.controls_sized w.sound.apart stage table.words_sized e;
           stops_apart = w.sound.stops_apart;
+          joined = joined_stepped core.controls cpu table.controls_sized core.stops.controls stage (found_at core cpu stage) e w.sound.joined;
         };
         stops = w.stops;
       }
@@ -126,6 +129,7 @@ module _ (core : CoreValue) (cpu : ℕ) (w : IsWhole core) where
               (started_shown w.sound.apart.calls core cpu c w.sound.limits table.controls_sized allowed fits w.sound.apart.shown);
           stops_apart = start_stops_apart core.stops cpu w.sound.stops_apart c online
               (started_told core.stops w.stops cpu low m.is_stop_outside below online c fits m.is_stop_allowed);
+          joined = joined_started core.controls core.stops cpu core.online c table.controls_sized low m.is_stop_outside m.is_stop_allowed w.sound.joined;
         };
         stops = started_sound core.stops w.stops cpu low m.is_stop_outside below online c fits m.is_stop_allowed;
       }
@@ -142,4 +146,5 @@ whole_keeps core w =
       stops = p;
       shows_stops = shown;
       stop_laws = keeps_laws _ p (stop_number core.stops.table) shown.seat shown.source shown.shows;
+      handles = handles_shown core.controls core.stops w.sound.table.controls_sized w.sound.joined p shown;
     }

@@ -3,11 +3,13 @@ pub mod Value
 pub mod Sound
 pub mod Offline
 pub mod OfflineStops
+pub mod Joined
 pub mod New
 -- its commands and its steps
 pub mod Start
 pub mod Machine
 pub mod Whole
+pub mod Headline
 -- a list of events
 pub mod Replay
 pub mod Runs

@@ -30,7 +30,7 @@ pub record IsApart (online : ℕ) (words : List ℕ) (controls : List ControlVal
   pub quiet : (cpu : ℕ) → has online cpu ≡ false → (number_in words (Head cpu) ≡ 0) × (number_in words (Intr cpu) ≡ 0)
   pub idle : (cpu : ℕ) → has online cpu ≡ false → part_of calls cpu ≡ part_of no_calls cpu
 
--- nothing is queued, pending, accepted, held, taken or run at a CPU; it has sent nothing and owes nobody an interrupt
+-- nothing is queued, pending, accepted, held, taken or run at a CPU; it has sent nothing, has looked for no interrupt and owes nobody one
 pub record HasDoneNothing (a : CallState) (cpu : ℕ) : Type 0 where
   pub queue : a.queue cpu ≡ []
   pub pending : a.pending cpu ≡ false
@@ -41,7 +41,12 @@ pub record HasDoneNothing (a : CallState) (cpu : ℕ) : Type 0 where
   pub running : a.running cpu ≡ Nothing
   pub ran : a.ran cpu ≡ []
   pub sent : a.sent cpu ≡ []
+  pub asked : a.asked cpu ≡ []
   pub owes : (to : ℕ) → to < cpus → a.owes cpu to ≡ false
+
+-- CPUs that are not online have done nothing
+abbrev pub AreIdle : ℕ → CallState → Type 0
+AreIdle online a = (cpu : ℕ) → has online cpu ≡ false → HasDoneNothing a cpu
 
 -- a CPU's queue is empty, or it has an interrupt pending or accepted, or a CPU that is online owes it one
 abbrev pub IsSeenTo : ℕ → CallState → ℕ → Type 0
@@ -53,5 +58,5 @@ IsSeenTo online a cpu = (a.queue cpu ≡ []) ⊎ ((a.pending cpu ≡ true) ⊎ (
 pub record LeavesOffline (online : ℕ) (words : List ℕ) (controls : List ControlValue) : Type 0 where
   pub calls : CallState
   pub shown : ValuesShow calls words controls
-  pub nothing : (cpu : ℕ) → has online cpu ≡ false → HasDoneNothing calls cpu
+  pub nothing : AreIdle online calls
   pub seen_to : (cpu : ℕ) → cpu < cpus → IsSeenTo online calls cpu

@@ -73,12 +73,16 @@ pub record HasNoStop (p : StopState) (cpu : ℕ) : Type 0 where
   pub nudged : (k : ℕ) → p.nudged cpu k ≡ unmoved
   pub patched : (k : ℕ) → p.patched cpu k ≡ unmoved
 
+-- CPUs that are not online have no part in these stops
+abbrev pub AreInNoStop : ℕ → StopState → Type 0
+AreInNoStop online p = (cpu : ℕ) → has online cpu ≡ false → HasNoStop p cpu
+
 -- the words and the stages show stops in which CPUs that are not online have no part; they are outside a command; the gate's word and
 -- the rolls have none of them, and each open stop is of CPUs that are online
 pub record LeavesOfflineStops (online : ℕ) (v : StopsValue) : Type 0 where
   pub stops : StopState
   pub shown : StopShown stops v
-  pub nothing : (cpu : ℕ) → has online cpu ≡ false → HasNoStop stops cpu
+  pub nothing : AreInNoStop online stops
   pub outside : (cpu : ℕ) → has online cpu ≡ false → (stop_control_of v.controls cpu).stage ≡ None
   pub gate : (cpu : ℕ) → has online cpu ≡ false → stop_number v.table Gate ≢ cpu + 1
   pub rolls : (s cpu : ℕ) → has online cpu ≡ false → has (stop_number v.table (Slot s Roll)) cpu ≡ false

@@ -1,5 +1,8 @@
 -- What every core keeps, said of its value, and the laws that it has.
+use Rattle.std.specs.Prelude.{ℕ}
 use Rattle.smp_call_steps.specs.Calls.{CallState}
+use Rattle.smp_call_steps.specs.Value.{control_of}
+use Rattle.smp_core.specs.Joined.{HandlesWithOn}
 use Rattle.smp_core.specs.Machine.{setup_in}
 use Rattle.smp_core.specs.Offline.{LeavesOffline}
 use Rattle.smp_core.specs.OfflineStops.{LeavesOfflineStops}
@@ -16,7 +19,8 @@ pub record IsWhole (core : CoreValue) : Type 0 where
   pub sound : IsSound core.nr core.online core.words core.controls core.stops
   pub stops : IsSoundHalf core.stops
 
--- its words and stages show calls and stops, and these keep all laws; CPUs that are not online have no part in the calls and in the stops
+-- its words and stages show calls and stops, and these keep all laws; CPUs that are not online have no part in them; inside `handle`
+-- interrupts are on
 pub record KeepsLaws (core : CoreValue) : Type 0 where
   pub calls : CallState
   pub shows_calls : Shown calls core
@@ -25,3 +29,4 @@ pub record KeepsLaws (core : CoreValue) : Type 0 where
   pub stops : StopState
   pub shows_stops : StopShown stops core.stops
   pub stop_laws : KeepsStopLaws (setup_in core) stops (stop_number core.stops.table)
+  pub handles : (cpu : ℕ) → HandlesWithOn (control_of core.controls cpu).stage (stops.now.irq cpu)

@@ -4,6 +4,8 @@ ghost use Rattle.std.specs.Prelude.{◌≡◌, ◌++◌, IfOk, IfErr, OnOk, OnEr
 ghost use Rattle.smp_call_steps.specs.Calls.{CallState, tells_all};
 ghost use Rattle.smp_call_steps.specs.Functions.{SaysWhatBegins};
 ghost use Rattle.smp_core.specs.Value.{Shown};
+ghost use Rattle.smp_core.specs.Offline.{AreIdle};
+ghost use Rattle.smp_core.specs.OfflineStops.{AreInNoStop};
 ghost use Rattle.smp_core.specs.Runs.{IsReplay};
 ghost use Rattle.smp_core.specs.Replay.{answers_from, seen_list};
 ghost use Rattle.smp_core.specs.Machine.{setup_in};
@@ -27,7 +29,8 @@ pub struct Replayed<A: Allocator> {
     pub stopped: Option<(usize, SmpError)>,
 }
 
-/// Runs the events one after the other, up to the first that is refused. E6 where a growth is refused.
+/// Runs the events one after the other, up to the first that is refused. CPUs that are not online do nothing in them. E6
+/// where a growth is refused.
 pub fn replay<A: Allocator>(
     alloc: A,
     mut core: Core<A>,
@@ -40,10 +43,16 @@ pub fn replay<A: Allocator>(
         StopShown (tells_stops (setup_in core) p r.seen.items (answers_from core events.now)) r.core.stops) }
     ensures stop_notes { IfOk result (λ r. (p : StopState) → StopShown p core.stops →
         AllNotesFit (setup_in core) p r.seen.items (answers_from core events.now)) }
+    // CPUs that are not online do nothing: where they had done nothing, as at first, so they have in all that is told.
+    ensures offline { IfOk result (λ r. (calls : CallState) → Shown calls core → AreIdle core.online calls →
+        AreIdle core.online (tells_all calls r.seen.items)) }
+    ensures offline_stops { IfOk result (λ r. (p : StopState) → StopShown p core.stops → AreInNoStop core.online p →
+        AreInNoStop core.online (tells_stops (setup_in core) p r.seen.items (answers_from core events.now))) }
     ensures err { IfErr result (λ e. e ≡ SmpError.NoMemory) }
 {
     let mut seen = Vec::new(alloc);
     for (position, event) in events.iter().enumerate() {
+        core.is_whole();
         match core.apply(*event) {
             Ok(step) => note_step(&mut seen, step)?,
             Err(error) => {
@@ -55,6 +64,7 @@ pub fn replay<A: Allocator>(
             }
         }
     }
+    core.is_whole();
     Ok(Replayed {
         core,
         seen,

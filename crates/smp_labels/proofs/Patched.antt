@@ -14,8 +14,10 @@ use Rattle.smp_labels.specs.declared.keys.Change.TheVariants.{Off, On, Up, Down}
 use Rattle.smp_labels.specs.Kinds.{xor, kind_of, kind_word}
 use Rattle.smp_labels.specs.Entries.{entry_at}
 use Rattle.smp_labels.specs.Law.{Table, site_word, IsLawful}
-use Rattle.smp_labels.specs.Plans.{put, stored, applied, is_of, site_change, site_changes, patch_of, plan_of, AreEntriesOf, SetsKey, StandsPartWay}
-use Rattle.smp_labels.proofs.Stores.{applied-append, put_same, put_other, entries_kept, LeaveOut, leave_out_each, leave_out-append, place_kept, AreDistinct}
+use Rattle.smp_words.specs.Put.{put}
+use Rattle.smp_words.proofs.Puts.{put_same, put_other}
+use Rattle.smp_labels.specs.Plans.{stored, applied, is_of, site_change, site_changes, patch_of, plan_of, AreEntriesOf, SetsKey, StandsPartWay}
+use Rattle.smp_labels.proofs.Stores.{applied-append, entries_kept, LeaveOut, leave_out_each, leave_out-append, place_kept, AreDistinct}
 use Rattle.smp_labels.proofs.Stores.{distinct_front, all_made}
 
 -- the change of a site is of no other place

@@ -1,21 +1,16 @@
 -- What stores leave of a table.
-use Rattle.std.proofs.Common.{◌≡◌, ◌≢◌, ℕ, zero, suc, cond, List, [], ◌∷◌, ◌++◌, refl, sym, ap, ◌∙◌, ne_eqb, eq-eqb, arith}
+use Rattle.std.proofs.Common.{◌≡◌, ◌≢◌, ℕ, zero, suc, List, [], ◌∷◌, ◌++◌, refl, sym, ap, ◌∙◌, arith}
 use Rattle.std.specs.List.{All}
+use Rattle.smp_words.proofs.Puts.{put_same, put_other}
 use Rattle.smp_labels.specs.declared.patch.Place.{Place}
 use Rattle.smp_labels.specs.declared.patch.Place.TheVariants.{Key, Site}
 use Rattle.smp_labels.specs.Law.{Table}
-use Rattle.smp_labels.specs.Plans.{put, stored, applied, word_at}
+use Rattle.smp_labels.specs.Plans.{stored, applied, word_at}
 
 -- the first stores, and then the others
 pub applied-append : (front rest : List (Place × ℕ)) (t : Table) → applied (front ++ rest) t ≡ applied rest (applied front t)
 applied-append [] rest t = refl
 applied-append (change ∷ front) rest t = applied-append front rest (stored change.0 change.1 t)
-
-pub put_same : (f : ℕ → ℕ) (i word : ℕ) → put f i word i ≡ word
-put_same f i word = ap (λ b. cond b word (f i)) (eq-eqb i i refl)
-
-pub put_other : (f : ℕ → ℕ) (i word j : ℕ) → j ≢ i → put f i word j ≡ f j
-put_other f i word j other = ap (λ b. cond b word (f j)) (ne_eqb j i other)
 
 stored_same : (p : Place) (word : ℕ) (t : Table) → word_at (stored p word t) p ≡ word
 stored_same (Key k) word t = put_same t.key k word

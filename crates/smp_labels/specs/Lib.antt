@@ -5,4 +5,5 @@ pub mod Labels
 pub mod Law
 pub mod Sites
 pub mod Plans
+pub mod PlanOrder
 pub mod Words

@@ -1,5 +1,6 @@
 -- The plan of a patch, and what it makes of a table.
 use Rattle.std.specs.Prelude.{◌≡◌, ◌≢◌, ℕ, ◌+◌, ◌<◌, ◌≤◌, ◌==◌, Bool, false, if◌then◌else◌, Option, Some, None, List, [], ◌∷◌, ◌++◌, length, slice_index, All}
+use Rattle.smp_words.specs.Put.{put}
 use Rattle.smp_labels.specs.declared.entries.Entry.{Entry}
 use Rattle.smp_labels.specs.declared.patch.Place.{Place}
 use Rattle.smp_labels.specs.declared.patch.Place.TheVariants.{Key, Site}
@@ -8,10 +9,6 @@ use Rattle.smp_labels.specs.Keys.{is_on}
 use Rattle.smp_labels.specs.Kinds.{xor, kind_of, kind_word}
 use Rattle.smp_labels.specs.Entries.{entry_at}
 use Rattle.smp_labels.specs.Law.{Table, IsLawful}
-
--- words by their numbers, with one changed
-abbrev pub put : (ℕ → ℕ) → ℕ → ℕ → ℕ → ℕ
-put f i word j = if j == i then word else f j
 
 -- the table after one store
 abbrev pub stored : Place → ℕ → Table → Table

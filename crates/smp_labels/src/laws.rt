@@ -1,9 +1,12 @@
 //! The label law in its cases, as a function that does nothing and whose contract is the law.
 
-ghost use Rattle.std.specs.Prelude.{◌≡◌, ◌≢◌, ℕ, ◌+◌, ◌<◌, ◌≤◌, None, Some};
+ghost use Rattle.std.specs.Prelude.{◌≡◌, ◌≢◌, ℕ, ◌+◌, ◌*◌, ◌<◌, ◌≤◌, true, false, None, Some};
+ghost use Rattle.smp_labels.specs.Entries.{entry_at, entry_word};
 ghost use Rattle.smp_labels.specs.Keys.{change_of, change_word, count_after, edge_of};
 ghost use Rattle.smp_labels.specs.Kinds.{kind_word};
+ghost use Rattle.smp_labels.specs.PlanOrder.{PlansAreInOrder};
 ghost use Rattle.smp_labels.specs.Sites.{SitesJump};
+ghost use Rattle.smp_labels.specs.declared.entries.Entry.{Entry};
 ghost use Rattle.smp_labels.specs.declared.keys.Change.TheVariants.{Off, On, Up, Down};
 ghost use Rattle.smp_labels.specs.declared.kinds.SiteKind.TheVariants.{Nop, Jmp};
 ghost use Rattle.smp_mask.specs.declared.error.Edge.TheVariants.{Full, Zero};
@@ -28,4 +31,16 @@ pub fn counts_change_so()
     ensures on { (count_after On 0 ≡ Some 1) × ((n : ℕ) → n ≢ 0 → count_after On n ≡ Some n) }
     ensures up { ((n : ℕ) → n < 65535 → count_after Up n ≡ Some (n + 1)) × (count_after Up 65535 ≡ None) × (edge_of Up ≡ Full) }
     ensures down { (count_after Down 0 ≡ None) × ((n : ℕ) → count_after Down (n + 1) ≡ Some n) × (edge_of Down ≡ Zero) }
+{}
+
+/// The word of an entry with key k: 2k + 1 with branch 0, and 2k + 2 with branch 1. Each is read back, and 0 is of no entry.
+pub fn entries_have_numbers()
+    ensures words { (k : ℕ) → (entry_word (record { key = k; branch = false }) ≡ 2 * k + 1) × (entry_word (record { key = k; branch = true }) ≡ 2 * k + 2) }
+    ensures read { (e : Entry) → entry_at (entry_word e) ≡ Some e }
+    ensures none { entry_at 0 ≡ None }
+{}
+
+/// A patch stores the key's word first, and then the words of its sites, ascending (`kernel/jump_label.c: jump_label_update`).
+pub fn plans_are_in_order()
+    ensures { PlansAreInOrder }
 {}

@@ -10,10 +10,10 @@ use crate::keys::{is_key_word, is_on};
 use crate::kinds::kind_of;
 
 /// How many keys a table can have: their numbers are 0 to `MOST_KEYS - 1`.
-pub const MOST_KEYS: usize = 4;
+pub const MOST_KEYS: usize = smp_words::size::MOST_KEYS as usize;
 
 /// How many sites a table can have: their numbers are 0 to `MOST_SITES - 1`.
-pub const MOST_SITES: usize = 16;
+pub const MOST_SITES: usize = smp_words::size::MOST_SITES as usize;
 
 /// The words of a label table: what Linux keeps in `struct static_key`, in `struct jump_entry`
 /// (`include/linux/jump_label.h`) and in the code at the sites.

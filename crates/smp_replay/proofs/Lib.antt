@@ -1,4 +1,3 @@
 mod Differences
 pub mod Showings
 pub mod Progresses
-pub mod Endings

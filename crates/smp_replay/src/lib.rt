@@ -4,12 +4,14 @@
 //! - `playback`: Runs what a script asks for, and keeps what it prints.
 //! - `show`: What `show` prints.
 //! - `text`: The lines of a replay's output.
+//! - `laws`: What the lines of a replay say.
 //! - `check`: Whether the steps of another implementation are those of a script.
 //! - `difference`: The first line in which two texts differ.
 #![tactic(auto)]
 
 pub mod check;
 pub mod difference;
+pub mod laws;
 mod playback;
 mod replay;
 pub mod show;
@@ -17,5 +19,5 @@ pub mod text;
 
 pub use check::check_steps;
 pub use difference::first_difference;
-pub use playback::{Printed, print_script};
+pub use playback::{Printed, new_core, print_script};
 pub use replay::replay_script;

@@ -113,8 +113,8 @@ pub struct Printed<A: Allocator> {
     pub stopped: bool,
 }
 
-// A core with no calls and no stops, and with these labels.
-fn new_core<A: Allocator + Copy>(
+/// A core with no calls and no stops, and with these labels. E6 where a growth is refused.
+pub fn new_core<A: Allocator + Copy>(
     alloc: A,
     nr: u32,
     online: CpuMask,

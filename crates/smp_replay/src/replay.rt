@@ -2,12 +2,14 @@
 
 ghost use Rattle.std.specs.Prelude.{◌≡◌, true, false, Err, OnOk};
 ghost use Rattle.smp_mask.specs.declared.error.Side.TheVariants.{Read as ReadSide};
+ghost use Rattle.smp_script.specs.Transforms.{HasFault, Makes};
 ghost use Rattle.smp_script.specs.Watched.{inner_of, failed_of, flushed_of};
-ghost use Rattle.smp_replay.specs.Replays.{Replays, outcome_of};
+ghost use Rattle.smp_script.specs.declared.mode.Mode.TheVariants.{Replay};
+ghost use Rattle.smp_replay.specs.Replays.{IsReplayed, Replays, outcome_of};
 
-use crate::playback::print_script;
+use crate::playback::{Printed, print_script};
 use smp_mask::SmpError;
-use smp_script::stream::{read_text, write_text};
+use smp_script::stream::{read_text, write_made};
 use smp_script::{Outcome, Watched};
 use std::alloc::Allocator;
 use std::io::{Read, Write};
@@ -20,6 +22,14 @@ fn ending(stopped: bool) -> Outcome
     } else {
         Outcome::Done
     }
+}
+
+// What a replay of the script in this text prints, and how it ends.
+fn replayed<A: Allocator + Copy>(alloc: A, text: &[u8]) -> Result<(Vec<u8, A>, Outcome), SmpError>
+    ensures { Makes IsReplayed (HasFault Replay) text.now result }
+{
+    let Printed { text: out, stopped } = print_script(alloc, text)?;
+    Ok((out.into_bytes(), ending(stopped)))
 }
 
 /// Reads a script until a read answers 0 bytes or more are there than a script may have, runs it on a table with
@@ -45,8 +55,5 @@ pub fn replay_script<A: Allocator + Copy, R: Read, W: Write>(
     ensures flushed { OnOk result (flushed_of writer.new ≡ true) }
 {
     let text = read_text(alloc, reader)?;
-    let output = print_script(alloc, text.as_slice())?;
-    let printed = output.text.as_bytes();
-    write_text(writer, printed)?;
-    Ok(ending(output.stopped))
+    write_made(writer, replayed(alloc, text.as_slice()))
 }

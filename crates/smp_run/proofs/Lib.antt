@@ -18,9 +18,9 @@ mod Echoing
 mod Sending
 mod Making
 mod Waiting
+-- what stays of a seat
+mod Stays
 -- lines of a run
 mod Lines
 -- what a CPU has done in a run
 mod Running
--- how a run ends
-mod Endings

@@ -73,7 +73,7 @@ module _ {H F : Type 0} (hears : H → Heard → H → Type 0) (runs : F → Cal
   still_quiet m old new h h' f f' (inl (own, w, outside)) seated = still_worked m old new h h' f f' own w outside seated
   still_quiet m old new h h' f f' (inr same) seated = still_same m old new same seated
 
-  seated_quiet : (old new : SeatValue H F) → QuietSeat old new → IsSameSeat old new → IsSeated old.machine old.cpu → IsSeated new.machine new.cpu
+  pub seated_quiet : (old new : SeatValue H F) → QuietSeat old new → IsSameSeat old new → IsSeated old.machine old.cpu → IsSeated new.machine new.cpu
   seated_quiet old new q same seated =
       seated_still old new same
       (still_quiet old.machine old.cpu new.cpu old.handler new.handler old.functions new.functions q seated)
@@ -94,11 +94,6 @@ module _ {H F : Type 0} (hears : H → Heard → H → Type 0) (runs : F → Cal
   quiet_stopped moves P old new (Ok v) ok kept = inl (_, ok.2.works, ok.2.outside)
   quiet_stopped moves P old new (Err e) ok kept = inr (ap (λ (s : SeatValue H F). s.cpu) kept)
 
-  pub seated_stopped : (moves : Work → ℕ → List OwnMove) (P : Work → Type 0) (old new : SeatValue H F) (made : Result ℤ SmpError)
-      → IfOk made (λ v. (work : Work) × P work × SeatStopped hears runs moves work old new v) → IfErr made (λ _. new ≡ old)
-      → IsSameSeat old new → IsSeated old.machine old.cpu → IsSeated new.machine new.cpu
-  seated_stopped moves P old new made ok kept same seated = seated_quiet old new (quiet_stopped moves P old new made ok kept) same seated
-
   pub sent_stopped : (moves : Work → ℕ → List OwnMove) (P : Work → Type 0) (old new : SeatValue H F) (made : Result ℤ SmpError)
       → IfOk made (λ v. (work : Work) × P work × SeatStopped hears runs moves work old new v) → IfErr made (λ _. new ≡ old)
       → HasSent [] old.cpu new.cpu
@@ -111,11 +106,6 @@ module _ {H F : Type 0} (hears : H → Heard → H → Type 0) (runs : F → Cal
   quiet_set k on old new (Ok false) sets outside kept = inl (_, sets.works, outside)
   quiet_set k on old new (Ok true) sets outside kept = inl (_, sets.stopped.works, outside)
   quiet_set k on old new (Err e) sets outside kept = inr (ap (λ (s : SeatValue H F). s.cpu) kept)
-
-  pub seated_set : (k : ℕ) (on : Bool) (old new : SeatValue H F) (made : Result Bool SmpError)
-      → IfOk made (λ turned. SeatSets hears runs k on old new turned) → IfOk made (λ _. new.cpu.stops.inside ≡ None) → IfErr made (λ _. new ≡ old)
-      → IsSameSeat old new → IsSeated old.machine old.cpu → IsSeated new.machine new.cpu
-  seated_set k on old new made sets outside kept same seated = seated_quiet old new (quiet_set k on old new made sets outside kept) same seated
 
   pub sent_set : (k : ℕ) (on : Bool) (old new : SeatValue H F) (made : Result Bool SmpError)
       → IfOk made (λ turned. SeatSets hears runs k on old new turned) → IfOk made (λ _. new.cpu.stops.inside ≡ None) → IfErr made (λ _. new ≡ old)
@@ -143,17 +133,6 @@ module _ {H F : Type 0} (hears : H → Heard → H → Type 0) (runs : F → Cal
   quiet_counted k up old new (Err (error.BadMask n)) c = absurd c.1
   quiet_counted k up old new (Err (error.StreamFailed n)) c = absurd c.1
 
-  pub seated_counted : (k : ℕ) (up : Bool) (old new : SeatValue H F) (made : Result Bool SmpError) → SeatCounts hears runs k up old new made
-      → IsSameSeat old new → IsSeated old.machine old.cpu → IsSeated new.machine new.cpu
-  seated_counted k up old new made c same seated = seated_quiet old new (quiet_counted k up old new made c) same seated
-
   pub sent_counted : (k : ℕ) (up : Bool) (old new : SeatValue H F) (made : Result Bool SmpError) → SeatCounts hears runs k up old new made
       → HasSent [] old.cpu new.cpu
   sent_counted k up old new made c = sent_quietly old new (quiet_counted k up old new made c)
-
-  -- a stretch of work of a seat
-  pub seated_worked : (old new : SeatValue H F) (own : Own) → Works hears runs old.cpu old.handler old.functions new.cpu new.handler new.functions own
-      → new.cpu.stops.inside ≡ None → IsSameSeat old new → IsSeated old.machine old.cpu → IsSeated new.machine new.cpu
-  seated_worked old new own w outside same seated =
-      seated_still old new same
-      (still_worked old.machine old.cpu new.cpu old.handler new.handler old.functions new.functions own w outside seated)

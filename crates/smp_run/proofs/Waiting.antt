@@ -1,5 +1,5 @@
 -- Calls that wait have ended.
-use Rattle.std.proofs.Common.{◌≡◌, ◌≢◌, ◌⊎◌, ℕ, ℤ, zero, suc, ◌<◌, inl, inr, not, ◌&&◌, ◌||◌, ◌==◌, Bool, true, false, None, Some, Option, Result, Ok}
+use Rattle.std.proofs.Common.{◌≡◌, ◌≢◌, ◌⊎◌, ℕ, zero, suc, ◌<◌, inl, inr, not, ◌&&◌, ◌||◌, ◌==◌, Bool, true, false, None, Some, Option, Result, Ok}
 use Rattle.std.proofs.Common.{Err, IfOk, IfErr}
 use Rattle.std.proofs.Common.{if◌then◌else◌, List, [], ◌∷◌, ◌++◌, slice_index_or, slice_set, refl, sym, ap, ◌∙◌, subst}
 use Rattle.std.proofs.lemmas.Bool.{cases_eq, or_right}
@@ -18,16 +18,14 @@ use Rattle.smp_calls.specs.Families.{CallsBy, CallsHere, CallsMany, CallsOne, Ca
 use Rattle.smp_calls.specs.Queued.{Queued, is_used, sendings}
 use Rattle.smp_calls.specs.Records.{call_by, class_for, many_call, user_record}
 use Rattle.smp_calls.specs.Targets.{HasNone}
-use Rattle.smp_multi.specs.Names.{Work}
 use Rattle.smp_multi.specs.declared.func.Called.{Called}
 use Rattle.smp_machine.specs.Calls.{RefusedInHand}
-use Rattle.smp_multi.specs.Names.{OwnMove}
 use Rattle.smp_machine.specs.Own.{Own}
 use Rattle.smp_machine.specs.MachineCpu.{MachineCpuValue}
-use Rattle.smp_machine.specs.Seats.{SeatCounts, SeatSets, SeatStopped, SeatValue}
+use Rattle.smp_machine.specs.Seats.{SeatValue}
 use Rattle.smp_machine.specs.Works.{Works}
 use Rattle.smp_run.specs.Sent.{HasWaited, is_sync, is_waited}
-use Rattle.smp_run.proofs.Staying.{Quiet, QuietSeat, quiet_counted, quiet_set, quiet_stopped}
+use Rattle.smp_run.proofs.Staying.{Quiet, QuietSeat}
 
 waited_then : (was : Bool) (id : ℕ) (xs ys : List Sending) → is_waited was id (xs ++ ys) ≡ is_waited (is_waited was id xs) id ys
 waited_then was id [] ys = refl
@@ -207,19 +205,5 @@ module _ {H F : Type 0} (hears : H → Heard → H → Type 0) (runs : F → Cal
   waited_quiet old new h h' f f' (inl (own, w, outside)) was = waited_worked old new h h' f f' own w was
   waited_quiet old new h h' f f' (inr same) was = subst (λ (p : MachineCpuValue). HasWaited p) (sym same) was
 
-  waited_quietly : (old new : SeatValue H F) → QuietSeat hears runs old new → HasWaited old.cpu → HasWaited new.cpu
+  pub waited_quietly : (old new : SeatValue H F) → QuietSeat hears runs old new → HasWaited old.cpu → HasWaited new.cpu
   waited_quietly old new q was = waited_quiet old.cpu new.cpu old.handler new.handler old.functions new.functions q was
-
-  pub waited_stopped : (moves : Work → ℕ → List OwnMove) (P : Work → Type 0) (old new : SeatValue H F) (made : Result ℤ SmpError)
-      → IfOk made (λ v. (work : Work) × P work × SeatStopped hears runs moves work old new v) → IfErr made (λ _. new ≡ old)
-      → HasWaited old.cpu → HasWaited new.cpu
-  waited_stopped moves P old new made ok kept was = waited_quietly old new (quiet_stopped hears runs moves P old new made ok kept) was
-
-  pub waited_set : (k : ℕ) (on : Bool) (old new : SeatValue H F) (made : Result Bool SmpError)
-      → IfOk made (λ turned. SeatSets hears runs k on old new turned) → IfOk made (λ _. new.cpu.stops.inside ≡ None) → IfErr made (λ _. new ≡ old)
-      → HasWaited old.cpu → HasWaited new.cpu
-  waited_set k on old new made sets outside kept was = waited_quietly old new (quiet_set hears runs k on old new made sets outside kept) was
-
-  pub waited_counted : (k : ℕ) (up : Bool) (old new : SeatValue H F) (made : Result Bool SmpError) → SeatCounts hears runs k up old new made
-      → HasWaited old.cpu → HasWaited new.cpu
-  waited_counted k up old new made c was = waited_quietly old new (quiet_counted hears runs k up old new made c) was

@@ -2,8 +2,9 @@
 pub mod Answers
 -- which calls they ask for
 pub mod Sent
--- a CPU between two lines
+-- a CPU between two lines, and a seat between two calls
 pub mod Seats
+pub mod Stays
 -- which stops its lines ask for
 pub mod Made
 -- what threads are given and give back

@@ -1,10 +1,5 @@
 -- A run as a whole, and what a call of `run_script` reads and writes.
-use Rattle.std.specs.Prelude.{◌≡◌, ℕ, ◌<◌, ◌%◌, ◌^◌, ◌==◌, Bool, true, false, List, [], ◌++◌, filter, length, slice_index_or, Option, Some, None}
-use Rattle.std.specs.Prelude.{Result, Ok, Err}
-use Rattle.std.specs.Io.KnownBytes.{Appends}
-use Rattle.smp_mask.specs.declared.error.SmpError.{SmpError}
-use Rattle.smp_mask.specs.declared.error.SmpError.TheVariants as errors
-use Rattle.smp_mask.specs.declared.error.Side.TheVariants as sides
+use Rattle.std.specs.Prelude.{◌≡◌, ℕ, ◌<◌, ◌%◌, ◌^◌, ◌==◌, Bool, true, false, List, [], ◌++◌, filter, length, slice_index_or, Option, Some, None, Ok}
 use Rattle.smp_labels.specs.Labels.{Labels}
 use Rattle.smp_labels.specs.declared.kinds.SiteKind.{SiteKind}
 use Rattle.smp_machine.specs.MachineCpu.{MachineValue, MachineCpuValue}
@@ -14,13 +9,12 @@ use Rattle.smp_queue.specs.Audit.{Audited, IfDrained, AreEqual, tally_at}
 use Rattle.smp_queue.specs.declared.audit.Tally.{Tally}
 use Rattle.smp_queue.specs.declared.audit.Audit.{Audit}
 use Rattle.smp_queue.specs.declared.audit.Audit.TheVariants as audit
-use Rattle.smp_script.specs.Faults.{Fault}
 use Rattle.smp_script.specs.declared.directive.Directive.{Directive}
 use Rattle.smp_script.specs.declared.mode.Mode.TheVariants.{Run}
 use Rattle.smp_script.specs.declared.outcome.Outcome.{Outcome}
 use Rattle.smp_script.specs.declared.outcome.Outcome.TheVariants.{Done, Left}
 use Rattle.smp_script.specs.Script.{Script, first_line, script_of}
-use Rattle.smp_script.specs.Streams.{Gave, TookFront}
+use Rattle.smp_script.specs.Transforms.{HasFault, Transforming, Transforms}
 use Rattle.smp_words.specs.Size.{cpus}
 use Rattle.smp_run.specs.Answers.{IsLineAnswer}
 use Rattle.smp_run.specs.Driven.{HasRun, IsBack}
@@ -82,44 +76,14 @@ abbrev pub outcome_of : Bool → Outcome
 outcome_of true = Left
 outcome_of false = Done
 
--- What was read is a lawful script, and the writer took a front of what a run of it prints.
-pub record WroteFront (before after held holds : Option (List ℕ)) : Type 0 where
-  pub text : List ℕ
+-- The text is a lawful script, a run of it prints this, and calls are left or none.
+pub record IsRun (text out : List ℕ) (ending : Outcome) : Type 0 where
   pub script : Script
-  pub output : List ℕ
   pub left : Bool
-  pub read : Gave before after text
   pub lawful : script_of Run text ≡ Ok script
-  pub printed : Printed script output left
-  pub written : TookFront held holds output
+  pub printed : Printed script out left
+  pub ended : ending ≡ outcome_of left
 
--- What was read is a lawful script, what was written is what a run of it prints, and calls are left or none.
-pub record Ran (before after held holds : Option (List ℕ)) (left : Bool) : Type 0 where
-  pub text : List ℕ
-  pub script : Script
-  pub output : List ℕ
-  pub read : Gave before after text
-  pub lawful : script_of Run text ≡ Ok script
-  pub printed : Printed script output left
-  pub written : Appends held holds output
-
--- What was read is no lawful script, and this is its first fault.
-pub record Refused (before after : Option (List ℕ)) (fault : Fault) : Type 0 where
-  pub text : List ℕ
-  pub read : Gave before after text
-  pub first : script_of Run text ≡ Err fault
-
--- What a call of `run_script` did, by its answer. `before` and `after` are what the reader has left and
--- `held` and `holds` what the writer has, where known; `same` says that the writer is as it was.
-abbrev pub Runs : Option (List ℕ) → Option (List ℕ) → Option (List ℕ) → Option (List ℕ) → Type 0 → Bool → Bool → Result Outcome SmpError → Type 0
--- what was read is a lawful script, and what was written is what a run of it prints: Left exactly where the audit is
-Runs before after held holds same reader writer (Ok Done) = Ran before after held holds false
-Runs before after held holds same reader writer (Ok Left) = Ran before after held holds true
-Runs before after held holds same reader writer (Ok _) = ⊥
--- what was read is no lawful script, and this is its first fault
-Runs before after held holds same reader writer (Err (errors.BadScript n cause)) = Refused before after (n, cause) × same
-Runs before after held holds same reader writer (Err (errors.StreamFailed sides.Read)) = (reader ≡ true) × same
--- what was read is a lawful script, and the writer has failed, and has taken a front of what a run of it prints
-Runs before after held holds same reader writer (Err (errors.StreamFailed sides.Write)) = WroteFront before after held holds × (writer ≡ true)
-Runs before after held holds same reader writer (Err errors.NoMemory) = same
-Runs before after held holds same reader writer (Err _) = ⊥
+-- What a call of `run_script` did, by its answer: what was read is a script, and what was written is what a run of it prints.
+abbrev pub Runs : Transforming Outcome
+Runs = Transforms 65536 IsRun (HasFault Run)

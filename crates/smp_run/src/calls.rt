@@ -3,14 +3,14 @@
 ghost use Rattle.std.specs.Prelude.{◌≡◌, ◌<◌, ◌≤◌, ◌^◌, ◌&&◌, true, false, [], IfSome, MatchOption};
 ghost use Rattle.smp_mask.specs.declared.error.Edge.TheVariants.{Full, Zero};
 ghost use Rattle.smp_calls.specs.Targets.{is_target};
-ghost use Rattle.smp_machine.specs.Seats.{IsSameSeat};
 ghost use Rattle.smp_machine.specs.Stops.{IsActiveAlone};
 ghost use Rattle.smp_script.specs.Spelling.{RequestFits};
 ghost use Rattle.smp_run.specs.Answers.{IsAnswer, IsAnyAnswer, IsCount, IsCpus, IsDone, IsRefusedOr, IsStopAnswer, IsTruth};
 ghost use Rattle.smp_run.specs.Answers.{answer_of, call_refusal, key_refusal, one_refusal, two_refusal, says as says_of};
 ghost use Rattle.smp_run.specs.Made.{HasMade, Makes};
-ghost use Rattle.smp_run.specs.Seats.{IsSeated, keys_at};
-ghost use Rattle.smp_run.specs.Sent.{HasSent, HasWaited, request_calls};
+ghost use Rattle.smp_run.specs.Seats.{keys_at};
+ghost use Rattle.smp_run.specs.Sent.{HasSent, request_calls};
+ghost use Rattle.smp_run.specs.Stays.{IsAtRest, Stays};
 
 use crate::answer::Answer;
 use crate::pace::{Pace, RunSeat};
@@ -29,47 +29,13 @@ fn says(which: Which, cpu: u32) -> bool
     }
 }
 
-fn done_or(made: Result<(), SmpError>) -> Answer
-    ensures { result ≡ answer_of (λ _. Answer.Done) made }
+/// What was made, told as an answer, or why it was refused.
+fn answer_or<T, F: FnOnce(T) -> Answer>(made: Result<T, SmpError>, told: F) -> Answer
+    requires { F.IsAlwaysCallable told }
+    ensures { (make : T → Answer) → ((x : T) (answer : Answer) → F.post told x answer → answer ≡ make x) → result ≡ answer_of make made }
 {
     match made {
-        Ok(()) => Answer::Done,
-        Err(error) => Answer::Refused(error),
-    }
-}
-
-fn cpu_or(made: Result<u32, SmpError>) -> Answer
-    ensures { result ≡ answer_of Answer.Cpu made }
-{
-    match made {
-        Ok(cpu) => Answer::Cpu(cpu),
-        Err(error) => Answer::Refused(error),
-    }
-}
-
-fn cpus_or(made: Result<CpuMask, SmpError>) -> Answer
-    ensures { result ≡ answer_of Answer.Cpus made }
-{
-    match made {
-        Ok(cpus) => Answer::Cpus(cpus),
-        Err(error) => Answer::Refused(error),
-    }
-}
-
-fn number_or(made: Result<i32, SmpError>) -> Answer
-    ensures { result ≡ answer_of Answer.Number made }
-{
-    match made {
-        Ok(answer) => Answer::Number(answer),
-        Err(error) => Answer::Refused(error),
-    }
-}
-
-fn turned_or(made: Result<bool, SmpError>) -> Answer
-    ensures { result ≡ answer_of Answer.Turned made }
-{
-    match made {
-        Ok(turned) => Answer::Turned(turned),
+        Ok(x) => told(x),
         Err(error) => Answer::Refused(error),
     }
 }
@@ -83,20 +49,17 @@ fn number_of<R: Wait, P: Pace>(seat: &RunSeat<'_, '_, R, P>) -> u32
 }
 
 /// A poll of the machine: the CPU handles its own interrupt, and takes part in a stop that calls it.
-#[tactic(auto, using(crate::proofs::Staying::seated_worked, crate::proofs::Staying::sent_worked, crate::proofs::Making::made_polled, crate::proofs::Waiting::waited_worked))]
+#[tactic(auto, using(crate::proofs::Staying::sent_worked, crate::proofs::Making::made_polled))]
 pub(crate) fn poll<R: Wait, P: Pace>(seat: &mut RunSeat<'_, '_, R, P>)
-    requires seated { IsSeated seat.old.machine seat.old.cpu }
-    requires waited { HasWaited seat.old.cpu }
-    ensures seated { IsSeated seat.new.machine seat.new.cpu }
-    ensures waited { HasWaited seat.new.cpu }
-    ensures same { IsSameSeat seat.old seat.new }
+    requires rest { IsAtRest seat.old }
+    ensures stays { Stays seat.old seat.new }
     ensures sent { HasSent [] seat.old.cpu seat.new.cpu }
     ensures stops { HasMade [] seat.old.cpu seat.new.cpu }
 {
     seat.poll();
 }
 
-#[tactic(auto, using(crate::proofs::Staying::seated_called, crate::proofs::Calling::single_answered, crate::proofs::Making::made_called))]
+#[tactic(auto, using(crate::proofs::Making::made_called))]
 fn single<R: Wait, P: Pace>(
     seat: &mut RunSeat<'_, '_, R, P>,
     wait: bool,
@@ -104,22 +67,19 @@ fn single<R: Wait, P: Pace>(
     func: u16,
     info: u64,
 ) -> Answer
-    requires seated { IsSeated seat.old.machine seat.old.cpu }
-    requires waited { HasWaited seat.old.cpu }
-    ensures seated { IsSeated seat.new.machine seat.new.cpu }
-    ensures waited { HasWaited seat.new.cpu }
-    ensures same { IsSameSeat seat.old seat.new }
+    requires rest { IsAtRest seat.old }
+    ensures stays { Stays seat.old seat.new }
     ensures answer { IsRefusedOr (call_refusal seat.old.machine.calls.online dst) IsDone result }
     ensures sent { HasSent (request_calls seat.old.machine.calls.online seat.old.cpu.calls.number (Request.Single wait dst func info))
         seat.old.cpu seat.new.cpu }
     ensures stops { HasMade [] seat.old.cpu seat.new.cpu }
 {
     let made = seat.call_single(dst, func, info, wait);
-    done_or(made)
+    answer_or(made, |_| Answer::Done)
 }
 
 /// One call by a record of the user; none where the record is busy.
-#[tactic(auto, using(crate::proofs::Staying::seated_called, crate::proofs::Calling::call_made, crate::proofs::Calling::user_refused, crate::proofs::Sending::user_sent, crate::proofs::Sending::sent_none, crate::proofs::Making::made_called))]
+#[tactic(auto, using(crate::proofs::Calling::user_refused, crate::proofs::Sending::sent_none, crate::proofs::Making::made_called))]
 fn try_user<R: Wait, P: Pace>(
     seat: &mut RunSeat<'_, '_, R, P>,
     u: u32,
@@ -127,12 +87,9 @@ fn try_user<R: Wait, P: Pace>(
     func: u16,
     info: u64,
 ) -> Option<Answer>
-    requires seated { IsSeated seat.old.machine seat.old.cpu }
-    requires waited { HasWaited seat.old.cpu }
+    requires rest { IsAtRest seat.old }
     requires which { u ≤ 1 }
-    ensures seated { IsSeated seat.new.machine seat.new.cpu }
-    ensures waited { HasWaited seat.new.cpu }
-    ensures same { IsSameSeat seat.old seat.new }
+    ensures stays { Stays seat.old seat.new }
     ensures answer { IfSome result (IsRefusedOr (call_refusal seat.old.machine.calls.online dst) IsDone) }
     ensures sent { MatchOption result (HasSent [] seat.old.cpu seat.new.cpu)
         (λ _. HasSent (request_calls seat.old.machine.calls.online seat.old.cpu.calls.number (Request.User u dst func info))
@@ -147,6 +104,7 @@ fn try_user<R: Wait, P: Pace>(
 }
 
 /// A call by record `u` of the user, tried again after a poll while the record is busy.
+#[tactic(auto, using(crate::proofs::Stays::stays_first, crate::proofs::Stays::stays_on))]
 fn user<R: Wait, P: Pace>(
     seat: &mut RunSeat<'_, '_, R, P>,
     u: u32,
@@ -154,12 +112,9 @@ fn user<R: Wait, P: Pace>(
     func: u16,
     info: u64,
 ) -> Answer
-    requires seated { IsSeated seat.old.machine seat.old.cpu }
-    requires waited { HasWaited seat.old.cpu }
+    requires rest { IsAtRest seat.old }
     requires which { u ≤ 1 }
-    ensures seated { IsSeated seat.new.machine seat.new.cpu }
-    ensures waited { HasWaited seat.new.cpu }
-    ensures same { IsSameSeat seat.old seat.new }
+    ensures stays { Stays seat.old seat.new }
     ensures answer { IsRefusedOr (call_refusal seat.old.machine.calls.online dst) IsDone result }
     ensures sent { HasSent (request_calls seat.old.machine.calls.online seat.old.cpu.calls.number (Request.User u dst func info))
         seat.old.cpu seat.new.cpu }
@@ -176,7 +131,7 @@ fn user<R: Wait, P: Pace>(
     unreachable!()
 }
 
-#[tactic(auto, using(crate::proofs::Staying::seated_called, crate::proofs::Calling::any_answered, crate::proofs::Making::made_called))]
+#[tactic(auto, using(crate::proofs::Making::made_called))]
 fn any<R: Wait, P: Pace>(
     seat: &mut RunSeat<'_, '_, R, P>,
     wait: bool,
@@ -184,11 +139,8 @@ fn any<R: Wait, P: Pace>(
     func: u16,
     info: u64,
 ) -> Answer
-    requires seated { IsSeated seat.old.machine seat.old.cpu }
-    requires waited { HasWaited seat.old.cpu }
-    ensures seated { IsSeated seat.new.machine seat.new.cpu }
-    ensures waited { HasWaited seat.new.cpu }
-    ensures same { IsSameSeat seat.old seat.new }
+    requires rest { IsAtRest seat.old }
+    ensures stays { Stays seat.old seat.new }
     ensures answer { IsAnyAnswer mask seat.old.machine.calls.online seat.old.cpu.calls.number result }
     ensures sent { HasSent (request_calls seat.old.machine.calls.online seat.old.cpu.calls.number (Request.Any wait mask func info))
         seat.old.cpu seat.new.cpu }
@@ -196,10 +148,10 @@ fn any<R: Wait, P: Pace>(
 {
     let _online = seat.online();
     let made = seat.call_any(mask, func, info, wait);
-    cpu_or(made)
+    answer_or(made, |cpu| Answer::Cpu(cpu))
 }
 
-#[tactic(auto, using(crate::proofs::Staying::seated_called, crate::proofs::Calling::many_answered, crate::proofs::Making::made_called))]
+#[tactic(auto, using(crate::proofs::Making::made_called))]
 fn many<R: Wait, P: Pace>(
     seat: &mut RunSeat<'_, '_, R, P>,
     wait: bool,
@@ -207,21 +159,18 @@ fn many<R: Wait, P: Pace>(
     func: u16,
     info: u64,
 ) -> Answer
-    requires seated { IsSeated seat.old.machine seat.old.cpu }
-    requires waited { HasWaited seat.old.cpu }
-    ensures seated { IsSeated seat.new.machine seat.new.cpu }
-    ensures waited { HasWaited seat.new.cpu }
-    ensures same { IsSameSeat seat.old seat.new }
+    requires rest { IsAtRest seat.old }
+    ensures stays { Stays seat.old seat.new }
     ensures answer { IsCpus (is_target mask seat.old.machine.calls.online seat.old.cpu.calls.number false) result }
     ensures sent { HasSent (request_calls seat.old.machine.calls.online seat.old.cpu.calls.number (Request.Many wait mask func info))
         seat.old.cpu seat.new.cpu }
     ensures stops { HasMade [] seat.old.cpu seat.new.cpu }
 {
     let made = seat.call_many(mask, func, info, wait);
-    cpus_or(made)
+    answer_or(made, |cpus| Answer::Cpus(cpus))
 }
 
-#[tactic(auto, using(crate::proofs::Staying::seated_called, crate::proofs::Calling::cond_answered, crate::proofs::Making::made_called))]
+#[tactic(auto, using(crate::proofs::Making::made_called))]
 fn cond<R: Wait, P: Pace>(
     seat: &mut RunSeat<'_, '_, R, P>,
     which: Which,
@@ -230,11 +179,8 @@ fn cond<R: Wait, P: Pace>(
     func: u16,
     info: u64,
 ) -> Answer
-    requires seated { IsSeated seat.old.machine seat.old.cpu }
-    requires waited { HasWaited seat.old.cpu }
-    ensures seated { IsSeated seat.new.machine seat.new.cpu }
-    ensures waited { HasWaited seat.new.cpu }
-    ensures same { IsSameSeat seat.old seat.new }
+    requires rest { IsAtRest seat.old }
+    ensures stays { Stays seat.old seat.new }
     ensures answer { IsCpus (λ c. is_target mask seat.old.machine.calls.online seat.old.cpu.calls.number true c && says_of which c) result }
     ensures sent { HasSent (request_calls seat.old.machine.calls.online seat.old.cpu.calls.number (Request.Cond which wait mask func info))
         seat.old.cpu seat.new.cpu }
@@ -244,17 +190,13 @@ fn cond<R: Wait, P: Pace>(
         ensures { result ≡ says_of which cpu }
     { says(which, cpu) };
     let made = seat.each_cpu_cond(mask, func, info, &asked, wait);
-    cpus_or(made)
+    answer_or(made, |cpus| Answer::Cpus(cpus))
 }
 
-#[tactic(auto, using(crate::proofs::Staying::seated_stopped, crate::proofs::Refusals::one_answered, crate::proofs::Waiting::waited_stopped))]
 fn one<R: Wait, P: Pace>(seat: &mut RunSeat<'_, '_, R, P>, dst: u32, func: u16, arg: u64) -> Answer
-    requires seated { IsSeated seat.old.machine seat.old.cpu }
-    requires waited { HasWaited seat.old.cpu }
+    requires rest { IsAtRest seat.old }
     requires small { arg < 2 ^ 31 }
-    ensures seated { IsSeated seat.new.machine seat.new.cpu }
-    ensures waited { HasWaited seat.new.cpu }
-    ensures same { IsSameSeat seat.old seat.new }
+    ensures stays { Stays seat.old seat.new }
     ensures answer { IsRefusedOr (one_refusal seat.old.machine.calls.online dst) (IsStopAnswer (dst ≡ seat.old.cpu.calls.number) arg) result }
     ensures sent { HasSent [] seat.old.cpu seat.new.cpu }
     ensures made { Makes seat.old.machine.stops (Request.One dst func arg) result seat.old.cpu seat.new.cpu }
@@ -262,10 +204,9 @@ fn one<R: Wait, P: Pace>(seat: &mut RunSeat<'_, '_, R, P>, dst: u32, func: u16, 
     let _online = seat.online();
     let _this = number_of(seat);
     let made = seat.stop_one(dst, func, arg);
-    number_or(made)
+    answer_or(made, |answer| Answer::Number(answer))
 }
 
-#[tactic(auto, using(crate::proofs::Staying::seated_stopped, crate::proofs::Refusals::two_answered, crate::proofs::Waiting::waited_stopped))]
 fn two<R: Wait, P: Pace>(
     seat: &mut RunSeat<'_, '_, R, P>,
     a: u32,
@@ -273,12 +214,9 @@ fn two<R: Wait, P: Pace>(
     func: u16,
     arg: u64,
 ) -> Answer
-    requires seated { IsSeated seat.old.machine seat.old.cpu }
-    requires waited { HasWaited seat.old.cpu }
+    requires rest { IsAtRest seat.old }
     requires small { arg < 2 ^ 31 }
-    ensures seated { IsSeated seat.new.machine seat.new.cpu }
-    ensures waited { HasWaited seat.new.cpu }
-    ensures same { IsSameSeat seat.old seat.new }
+    ensures stays { Stays seat.old seat.new }
     ensures answer { IsRefusedOr (two_refusal seat.old.machine.calls.online a b) (IsStopAnswer (a ≡ seat.old.cpu.calls.number) arg) result }
     ensures sent { HasSent [] seat.old.cpu seat.new.cpu }
     ensures made { Makes seat.old.machine.stops (Request.Two a b func arg) result seat.old.cpu seat.new.cpu }
@@ -286,22 +224,18 @@ fn two<R: Wait, P: Pace>(
     let _online = seat.online();
     let _this = number_of(seat);
     let made = seat.stop_two(a, b, func, arg);
-    number_or(made)
+    answer_or(made, |answer| Answer::Number(answer))
 }
 
-#[tactic(auto, using(crate::proofs::Staying::seated_stopped, crate::proofs::Refusals::all_answered, crate::proofs::Waiting::waited_stopped))]
 fn stop_all<R: Wait, P: Pace>(
     seat: &mut RunSeat<'_, '_, R, P>,
     active: Option<CpuMask>,
     func: u16,
     arg: u64,
 ) -> Answer
-    requires seated { IsSeated seat.old.machine seat.old.cpu }
-    requires waited { HasWaited seat.old.cpu }
+    requires rest { IsAtRest seat.old }
     requires small { arg < 2 ^ 31 }
-    ensures seated { IsSeated seat.new.machine seat.new.cpu }
-    ensures waited { HasWaited seat.new.cpu }
-    ensures same { IsSameSeat seat.old seat.new }
+    ensures stays { Stays seat.old seat.new }
     ensures answer { IsStopAnswer (IsActiveAlone seat.old.machine.calls.online active seat.old.cpu.calls.number) arg result }
     ensures sent { HasSent [] seat.old.cpu seat.new.cpu }
     ensures made { Makes seat.old.machine.stops (Request.Machine active func arg) result seat.old.cpu seat.new.cpu }
@@ -309,62 +243,47 @@ fn stop_all<R: Wait, P: Pace>(
     let _online = seat.online();
     let _this = number_of(seat);
     let made = seat.stop_machine(func, arg, active);
-    number_or(made)
+    answer_or(made, |answer| Answer::Number(answer))
 }
 
-#[tactic(auto, using(crate::proofs::Staying::seated_set, crate::proofs::Refusals::set_answered, crate::proofs::Waiting::waited_set))]
 fn set<R: Wait, P: Pace>(seat: &mut RunSeat<'_, '_, R, P>, k: u32, on: bool) -> Answer
-    requires seated { IsSeated seat.old.machine seat.old.cpu }
-    requires waited { HasWaited seat.old.cpu }
-    ensures seated { IsSeated seat.new.machine seat.new.cpu }
-    ensures waited { HasWaited seat.new.cpu }
-    ensures same { IsSameSeat seat.old seat.new }
+    requires rest { IsAtRest seat.old }
+    ensures stays { Stays seat.old seat.new }
     ensures answer { IsRefusedOr (key_refusal (keys_at seat.old.machine) k) IsTruth result }
     ensures sent { HasSent [] seat.old.cpu seat.new.cpu }
     ensures made { Makes seat.old.machine.stops (Request.Set k on) result seat.old.cpu seat.new.cpu }
 {
     let made = seat.set_key(k, on);
-    turned_or(made)
+    answer_or(made, |turned| Answer::Turned(turned))
 }
 
-#[tactic(auto, using(crate::proofs::Staying::seated_counted, crate::proofs::Refusals::counted, crate::proofs::Waiting::waited_counted))]
 fn inc<R: Wait, P: Pace>(seat: &mut RunSeat<'_, '_, R, P>, k: u32) -> Answer
-    requires seated { IsSeated seat.old.machine seat.old.cpu }
-    requires waited { HasWaited seat.old.cpu }
-    ensures seated { IsSeated seat.new.machine seat.new.cpu }
-    ensures waited { HasWaited seat.new.cpu }
-    ensures same { IsSameSeat seat.old seat.new }
+    requires rest { IsAtRest seat.old }
+    ensures stays { Stays seat.old seat.new }
     ensures answer { IsRefusedOr (key_refusal (keys_at seat.old.machine) k) (IsCount Full) result }
     ensures sent { HasSent [] seat.old.cpu seat.new.cpu }
     ensures made { Makes seat.old.machine.stops (Request.Inc k) result seat.old.cpu seat.new.cpu }
 {
     let made = seat.key_inc(k);
-    turned_or(made)
+    answer_or(made, |turned| Answer::Turned(turned))
 }
 
-#[tactic(auto, using(crate::proofs::Staying::seated_counted, crate::proofs::Refusals::counted, crate::proofs::Waiting::waited_counted))]
 fn dec<R: Wait, P: Pace>(seat: &mut RunSeat<'_, '_, R, P>, k: u32) -> Answer
-    requires seated { IsSeated seat.old.machine seat.old.cpu }
-    requires waited { HasWaited seat.old.cpu }
-    ensures seated { IsSeated seat.new.machine seat.new.cpu }
-    ensures waited { HasWaited seat.new.cpu }
-    ensures same { IsSameSeat seat.old seat.new }
+    requires rest { IsAtRest seat.old }
+    ensures stays { Stays seat.old seat.new }
     ensures answer { IsRefusedOr (key_refusal (keys_at seat.old.machine) k) (IsCount Zero) result }
     ensures sent { HasSent [] seat.old.cpu seat.new.cpu }
     ensures made { Makes seat.old.machine.stops (Request.Dec k) result seat.old.cpu seat.new.cpu }
 {
     let made = seat.key_dec(k);
-    turned_or(made)
+    answer_or(made, |turned| Answer::Turned(turned))
 }
 
 /// What a request asks for, once, and its answer.
 pub(crate) fn make<R: Wait, P: Pace>(seat: &mut RunSeat<'_, '_, R, P>, request: Request) -> Answer
-    requires seated { IsSeated seat.old.machine seat.old.cpu }
-    requires waited { HasWaited seat.old.cpu }
+    requires rest { IsAtRest seat.old }
     requires fits { RequestFits request }
-    ensures seated { IsSeated seat.new.machine seat.new.cpu }
-    ensures waited { HasWaited seat.new.cpu }
-    ensures same { IsSameSeat seat.old seat.new }
+    ensures stays { Stays seat.old seat.new }
     ensures answer { IsAnswer seat.old.machine.calls.online (keys_at seat.old.machine) seat.old.cpu.calls.number request result }
     ensures sent { HasSent (request_calls seat.old.machine.calls.online seat.old.cpu.calls.number request) seat.old.cpu seat.new.cpu }
     ensures made { Makes seat.old.machine.stops request result seat.old.cpu seat.new.cpu }

@@ -8,6 +8,7 @@ ghost use Rattle.smp_run.specs.Driven.{IsReady, MakesLines};
 ghost use Rattle.smp_run.specs.Made.{AreMakings, HasMade, HasPlayed, IsLineMade, Making, stops_of};
 ghost use Rattle.smp_run.specs.Seats.{AreLines, IsRunLine, IsSeated, keys_at};
 ghost use Rattle.smp_run.specs.Sent.{HasSent, HasWaited, line_calls, repeated, request_calls, script_calls};
+ghost use Rattle.smp_run.specs.Stays.{IsAtRest, Stays};
 
 use crate::answer::Answer;
 use crate::calls::make;
@@ -32,13 +33,10 @@ fn repeat<R: Wait, P: Pace>(
     count: u32,
     request: &Request,
 ) -> Answer
-    requires seated { IsSeated seat.old.machine seat.old.cpu }
-    requires waited { HasWaited seat.old.cpu }
+    requires rest { IsAtRest seat.old }
     requires count { 1 ≤ count }
     requires fits { RequestFits request.now }
-    ensures seated { IsSeated seat.new.machine seat.new.cpu }
-    ensures waited { HasWaited seat.new.cpu }
-    ensures same { IsSameSeat seat.old seat.new }
+    ensures stays { Stays seat.old seat.new }
     ensures answer { IsAnswer seat.old.machine.calls.online (keys_at seat.old.machine) seat.old.cpu.calls.number request.now result }
     ensures sent { HasSent (repeated count (request_calls seat.old.machine.calls.online seat.old.cpu.calls.number request.now))
         seat.old.cpu seat.new.cpu }
@@ -52,17 +50,15 @@ fn repeat<R: Wait, P: Pace>(
 }
 
 /// Answers a line, where it is the CPU's own.
+#[tactic(auto, using(crate::proofs::Stays::stays_first))]
 fn answer_if<R: Wait, P: Pace>(
     seat: &mut RunSeat<'_, '_, R, P>,
     line: &Directive,
     answer: &mut Answer,
 )
-    requires seated { IsSeated seat.old.machine seat.old.cpu }
-    requires waited { HasWaited seat.old.cpu }
+    requires rest { IsAtRest seat.old }
     requires lawful { IsRunLine seat.old.machine.calls.online line.now }
-    ensures seated { IsSeated seat.new.machine seat.new.cpu }
-    ensures waited { HasWaited seat.new.cpu }
-    ensures same { IsSameSeat seat.old seat.new }
+    ensures stays { Stays seat.old seat.new }
     ensures answered { cpu_of line.now ≡ seat.old.cpu.calls.number →
         IsLineAnswer seat.old.machine.calls.online (keys_at seat.old.machine) line.now answer.new }
     ensures sent { HasSent (line_calls seat.old.machine.calls.online seat.old.cpu.calls.number line.now) seat.old.cpu seat.new.cpu }
@@ -84,13 +80,10 @@ fn answer_all<R: Wait, P: Pace>(
     lines: &[Directive],
     answers: &mut [Answer],
 )
-    requires seated { IsSeated seat.old.machine seat.old.cpu }
-    requires waited { HasWaited seat.old.cpu }
+    requires rest { IsAtRest seat.old }
     requires lawful { AreLines seat.old.machine.calls.online lines.now }
     requires sized { length answers.old ≡ length lines.now }
-    ensures seated { IsSeated seat.new.machine seat.new.cpu }
-    ensures waited { HasWaited seat.new.cpu }
-    ensures same { IsSameSeat seat.old seat.new }
+    ensures stays { Stays seat.old seat.new }
     ensures answered { Answered seat.old.machine.calls.online (keys_at seat.old.machine)
         (λ c. c ≡ seat.old.cpu.calls.number) lines.now answers.new }
     ensures sent { HasSent (script_calls seat.old.machine.calls.online seat.old.cpu.calls.number lines.now) seat.old.cpu seat.new.cpu }

@@ -5,7 +5,6 @@ ghost use Rattle.std.specs.List.{flat_map};
 ghost use Rattle.smp_mask.specs.Mask.{members};
 ghost use Rattle.smp_words.specs.Size.{cpus};
 ghost use Rattle.smp_queue.specs.Audit.{tally_at, AreEqual, IfDrained};
-ghost use Rattle.smp_script.specs.Spelling.{mask_text, switch_text};
 ghost use Rattle.smp_run.specs.Text.{answer_text, audit_text, ending_text, key_text, kind_text, line_text, numbered};
 ghost use Rattle.smp_run.specs.Text.{pair_text, site_text, tallies_text, tally_text};
 
@@ -15,17 +14,8 @@ use smp_labels::SiteKind;
 use smp_mask::CpuMask;
 use smp_queue::{Audit, Tally};
 use smp_script::errors::number_of;
+use smp_script::spelling::{switch_name, write_mask};
 use std::alloc::{AllocError, Allocator};
-
-/// A mask, `-` where it is empty.
-fn write_mask<A: Allocator>(out: &mut String<A>, mask: CpuMask) -> Result<(), AllocError>
-    ensures { OnOk result (string_bytes out.new ≡ string_bytes out.old ++ mask_text mask) }
-{
-    if mask.bits() == 0 {
-        return write!(out, "-");
-    }
-    write!(out, "{mask}")
-}
 
 fn write_answer<A: Allocator>(out: &mut String<A>, answer: Answer) -> Result<(), AllocError>
     ensures { OnOk result (string_bytes out.new ≡ string_bytes out.old ++ answer_text answer) }
@@ -140,7 +130,7 @@ fn write_tallies<A: Allocator>(
 fn write_key<A: Allocator>(out: &mut String<A>, k: usize, on: bool) -> Result<(), AllocError>
     ensures { OnOk result (string_bytes out.new ≡ string_bytes out.old ++ key_text k on) }
 {
-    let state = if on { "on" } else { "off" };
+    let state = switch_name(on);
     writeln!(out, "key {k} {state}")
 }
 

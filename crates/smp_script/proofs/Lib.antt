@@ -4,6 +4,8 @@ pub mod Names
 pub mod Texts
 -- what the functions that read rest on
 pub mod Reader
+-- what is read, made and written
+pub mod Transforms
 -- lines by their rows: a shape, and what is made of its fields
 pub mod Rows
 -- a script as it is written reads back
@@ -12,3 +14,5 @@ pub mod Written
 pub mod Spelled
 -- the first fault of any other text
 pub mod Faults
+-- the texts of notes read back
+pub mod NoteTexts

@@ -6,3 +6,5 @@ pub mod Decimals
 pub mod Joins
 -- put together again
 pub mod Splits
+-- by name
+pub mod Named

@@ -16,6 +16,7 @@ pub mod MeaningOf
 -- devices, and errors
 pub mod Watched
 pub mod Streams
+pub mod Transforms
 pub mod Errors
 -- how scripts are written, and what is wrong with texts that are none
 pub mod Spelling
@@ -24,3 +25,5 @@ pub mod FieldFaults
 pub mod FirstFault
 -- how words and notes are printed
 pub mod Printed
+-- the front of a text that goes with one
+pub mod Front

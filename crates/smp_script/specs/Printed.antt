@@ -1,5 +1,5 @@
 -- Words and notes as they are printed.
-use Rattle.std.specs.Prelude.{ℕ, List, ◌++◌, codes}
+use Rattle.std.specs.Prelude.{ℕ, ◌<◌, ◌^◌, Bool, true, false, List, ◌++◌, codes}
 use Rattle.std.specs.Fmt.{decimal, signed_decimal}
 use Rattle.smp_words.specs.declared.field.Field.{Field}
 use Rattle.smp_words.specs.declared.field.Field.TheVariants as fields
@@ -7,6 +7,7 @@ use Rattle.smp_words.specs.declared.word.Word.{Word}
 use Rattle.smp_words.specs.declared.word.Word.TheVariants as words
 use Rattle.smp_words.specs.declared.seen.Note.{Note}
 use Rattle.smp_words.specs.declared.seen.Note.TheVariants as notes
+use Rattle.smp_script.specs.Spelling.{IsAnswer}
 
 -- a name with one number, and with two
 abbrev pub named : List ℕ → ℕ → List ℕ
@@ -46,6 +47,11 @@ word_text (words.Key key) = named (codes "key.") key
 word_text (words.Entry site) = named (codes "entry.") site
 word_text (words.Site site) = named (codes "site.") site
 
+-- what a site has
+abbrev pub site_text : Bool → List ℕ
+site_text true = codes "JMP"
+site_text false = codes "NOP"
+
 -- what a step says
 abbrev pub note_text : Note → List ℕ
 note_text notes.Busy = codes "E2"
@@ -80,3 +86,12 @@ note_text notes.Jmp = codes "JMP"
 note_text notes.KeyRange = codes "E13"
 note_text notes.Stop = codes "stop"
 note_text notes.Lost = codes "lost"
+
+-- the numbers of a note fit their types
+abbrev pub NoteFits : Note → Type 0
+NoteFits (notes.Call source func info) = (source < 2 ^ 32) × (func < 2 ^ 16) × (info < 2 ^ 64)
+NoteFits (notes.Handled count) = count < 2 ^ 32
+NoteFits (notes.Moved phase) = phase < 2 ^ 32
+NoteFits (notes.Run func arg) = (func < 2 ^ 16) × (arg < 2 ^ 64)
+NoteFits (notes.Result result) = IsAnswer result
+NoteFits _ = Unit {0}

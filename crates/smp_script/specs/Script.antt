@@ -92,7 +92,7 @@ abbrev pub first_line : Option Labels → ℕ
 first_line None = 3
 first_line (Some labels) = 4
 
--- what a script of that kind asks for, or its first fault
+-- what a script of that kind asks for, or its first fault: laws.rt says of each text which, by Spelling and FirstFault
 unfoldable pub script_of : Mode → List ℕ → Result Script Fault
 script_of mode text =
     if nat_lt 65536 (length text) then Err (0, TooLong)

@@ -5,12 +5,14 @@
 //! - `request`: What a `do` line asks a CPU to call.
 //! - `command`: What a `start` line asks for.
 //! - `mode`, `version`: Kinds of scripts, and their versions.
-//! - `laws`: How each script is written, and what the first fault of any other text is.
+//! - `laws`: How each script is written, what the first fault of any other text is, and the names and numbers that are printed.
 //! - `line`, `decimal`, `field`: Lines, their fields, and what fields say.
 //! - `watched`: A reader or a writer that remembers whether it ever failed.
 //! - `stream`: The bytes of a reader, and bytes to a writer.
 //! - `outcome`: How a script ended.
 //! - `errors`: The numbers of errors.
+//! - `spelling`: The names that scripts, traces and reports share.
+//! - `front`: The front lines of a text that goes with a script or an exploration.
 #![tactic(auto)]
 
 mod call_operation;
@@ -19,6 +21,7 @@ pub mod decimal;
 pub mod directive;
 pub mod errors;
 pub mod field;
+pub mod front;
 mod key;
 mod labels;
 pub mod laws;
@@ -29,6 +32,7 @@ pub mod outcome;
 pub mod request;
 pub mod script;
 mod setting;
+pub mod spelling;
 mod stop_operation;
 pub mod stream;
 pub mod version;

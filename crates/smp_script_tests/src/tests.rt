@@ -1,3 +1,4 @@
 mod replays;
 mod runner;
 mod runs;
+mod watched;

@@ -4,4 +4,5 @@ pub mod Premises
 pub mod Interrupts
 pub mod Patchers
 pub mod StopLaws
+pub mod Headline
 pub mod KnownPremises

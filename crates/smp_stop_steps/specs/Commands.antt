@@ -1,11 +1,12 @@
 -- What a command's steps take from the command, where its note is, and when interrupts go off.
-use Rattle.std.specs.Prelude.{◌≡◌, ◌≢◌, ◌⊎◌, ℕ, ◌+◌, ◌++◌, Bool, true, false, [], ◌∷◌, Option, Some, None}
-use Rattle.smp_words.specs.declared.access.Access.TheVariants.{Load, Store, Exchange}
-use Rattle.smp_words.specs.declared.word.Word.TheVariants.{Gate, Slot, Key, Site}
+use Rattle.std.specs.Prelude.{◌≡◌, ◌≢◌, ◌⊎◌, ℕ, ◌+◌, ◌++◌, Bool, true, false, [], ◌∷◌, Option, Some, None, IfSome, option_map}
+use Rattle.smp_words.specs.declared.access.Access.TheVariants.{Load, Store}
+use Rattle.smp_words.specs.Commands.{FirstAccess, EndsSo}
+use Rattle.smp_words.specs.declared.word.Word.TheVariants.{Slot}
 use Rattle.smp_words.specs.{Access.word_of, Kinds.kind_word, declared.access.Access.Access, declared.command.Command.Command, declared.field.Field.Field}
 use Rattle.smp_words.specs.{declared.seen.Note.Note, declared.work.Kind.TheVariants.One, declared.work.Work.Work}
 use Rattle.smp_stop_steps.specs.{Counts.mask_weight, Promises.OfEachCpu, Stages.StopControlValue, Stages.stop_access, Stages.stop_outcome, Start.stop_first}
-use Rattle.smp_stop_steps.specs.{Steps.state_after, declared.stage.StopStage.StopStage, declared.stage.Visit.Visit}
+use Rattle.smp_stop_steps.specs.{Steps.is_run, Steps.state_after, declared.stage.StopStage.StopStage, declared.stage.Visit.Visit}
 use Rattle.smp_stop_steps.specs.declared.stage.StopStage.TheVariants.{TakeGate, OpenGate, Begin, Enter, Advance, Complete, LoadDone, ReadKey, ReadSite}
 use Rattle.smp_stop_steps.specs.declared.stage.StopStage.TheVariants.{NudgeKey, ExchangeKey}
 use Rattle.std.specs.Int.{w32, cast_unsigned}
@@ -14,26 +15,6 @@ use Rattle.smp_stop_steps.specs.declared.stage.RoundStage.TheVariants as round
 use Rattle.smp_stop_steps.specs.declared.stage.CompletionStage.TheVariants as completion
 use Rattle.smp_words.specs.declared.field.Field.TheVariants as field
 use Rattle.smp_words.specs.declared.seen.Note.TheVariants as note
-
--- the first access of a command, by a CPU in this stop or in none, is to the word that the command names
-abbrev pub FirstAccess : ℕ → Option Visit → Command → Access → Type 0
-FirstAccess cpu visit command.Gate access = access ≡ Exchange Gate 0 (cpu + 1)
-FirstAccess cpu visit command.Ungate access = access ≡ Store Gate 0
-FirstAccess cpu visit (command.Begin work) access = access ≡ Store (Slot cpu field.Kind) (kind_word work.kind)
-FirstAccess cpu visit (command.Enter slot) access = word_of access ≡ Slot slot field.Roll
-FirstAccess cpu (Some v) (command.Advance answer) access = access ≡ Load (Slot v.slot field.State)
-FirstAccess cpu (Some v) (command.RunOne answer) access = access ≡ Load (Slot v.slot field.Func)
-FirstAccess cpu (Some v) command.Finish access = (word_of access ≡ Slot v.slot field.Result) ⊎ (word_of access ≡ Slot v.slot field.Todo)
-FirstAccess cpu visit command.Poll access = access ≡ Load (Slot cpu field.Done)
-FirstAccess cpu visit (command.Key k) access = access ≡ Load (Key k)
-FirstAccess cpu visit (command.Site i) access = access ≡ Load (Site i)
-FirstAccess cpu visit (command.Nudge k up) access = access ≡ Load (Key k)
-FirstAccess cpu visit _ access = ⊥
-
--- where it begins, it begins so
-abbrev pub BeginsAt : ℕ → StopControlValue → Command → Option StopStage → Type 0
-BeginsAt cpu c command None = Unit {0}
-BeginsAt cpu c command (Some stage) = (n : ℕ) → FirstAccess cpu c.visit command (stop_access n cpu c.changes stage)
 
 -- A command begins with its own first step, and with its own numbers: a turn with a look, a completion with the store of its answer
 -- where that is not 0. A command of the other half begins nowhere here.
@@ -54,7 +35,8 @@ BeginsWhat visit _ first = first ≡ None
 
 abbrev pub CommandsBeginSo : Type 0
 CommandsBeginSo = (cpu : ℕ) (c : StopControlValue) (command : Command) → let first = stop_first c command in
-    BeginsAt cpu c command first × BeginsWhat c.visit command first
+    IfSome first (λ stage. (n : ℕ) → FirstAccess cpu (option_map (λ v. v.slot) c.visit) command (stop_access n cpu c.changes stage))
+    × BeginsWhat c.visit command first
 
 -- what a begin of this work stores in each field, where there are n CPUs
 abbrev pub Stores : ℕ → Work → Field → ℕ → Type 0
@@ -109,21 +91,9 @@ abbrev pub NudgesGoSo : Type 0
 NudgesGoSo = (me : ℕ) (c : StopControlValue) (k : ℕ) (up : Bool) (found : ℕ) → let o = stop_outcome me c (NudgeKey k up) found in
     NudgesBy k up found o.control.stage × SaysStop up found o.note
 
--- whether a note tells of a function that runs
-abbrev pub IsOfRun : Option Note → Type 0
-IsOfRun (Some (note.Run func arg)) = Unit {0}
-IsOfRun _ = ⊥
-
--- A command ends with the step that has its note, and only there; in the middle a step may say that a function runs, and nothing else.
-abbrev pub EndsSo : Option Note → Option StopStage → Type 0
-EndsSo None None = ⊥
-EndsSo None (Some stage) = Unit {0}
-EndsSo (Some n) None = IsOfRun (Some n) → ⊥
-EndsSo (Some n) (Some stage) = IsOfRun (Some n)
-
 abbrev pub NotesEndCommands : Type 0
 NotesEndCommands = (me : ℕ) (c : StopControlValue) (stage : StopStage) (found : ℕ) → let o = stop_outcome me c stage found in
-    EndsSo o.note o.control.stage
+    EndsSo is_run o.note o.control.stage
 
 -- Interrupts go off only by a load that finds phase 2 in the state word of the stop that the CPU is in. So they are on while it is
 -- in PREPARE, in a stop of one CPU, and in no stop.

@@ -1,15 +1,12 @@
 -- How many CPUs have a property, as sums over all CPUs.
-use Rattle.std.specs.Prelude.{ℕ, zero, suc, ◌+◌, Bool, true, false, ◌==◌, cond}
+use Rattle.std.specs.Prelude.{ℕ, zero, suc, ◌+◌, ◌==◌, cond}
+pub use Rattle.smp_words.specs.Bit.{bit}
 use Rattle.smp_stop_steps.specs.{Names.has, Stop.Standing, Stop.Outside, Stop.Called, Stop.Inside, Stop.Answering, Stop.Completed, Stop.is_of}
 
 -- the sum of f over the numbers below n
 unfoldable pub sum_below : (ℕ → ℕ) → ℕ → ℕ
 sum_below f zero = 0
 sum_below f (suc n) = f n + sum_below f n
-
-abbrev pub bit : Bool → ℕ
-bit true = 1
-bit false = 0
 
 -- 1 for a CPU of the mask that has not acknowledged p
 abbrev pub behind : ℕ → Standing → ℕ

@@ -1,6 +1,7 @@
 -- Where a command of the stop half ends, and what the note of each step is.
 use Rattle.std.specs.Int.{w32, cast_signed}
 use Rattle.std.specs.Prelude.{◌≡◌, ◌≢◌, ℕ, ◌+◌, ◌%◌, ◌^◌, ◌<◌, ◌≤◌, ◌==◌, Bool, true, false, ◌||◌, not, nat_lt, Option, Some, None}
+use Rattle.smp_words.specs.Commands.{Either, Follows}
 use Rattle.smp_stop_steps.specs.{Stages.StopControlValue, Stages.stop_outcome, Tells.is_multi}
 use Rattle.smp_stop_steps.specs.Names.{has, Note, StopStage, TakeGate, OpenGate, Begin, Enter, EnterKind, EnterMask, EnterActive, Advance, Complete, Close}
 use Rattle.smp_stop_steps.specs.Names.{LoadDone, LoadResult, NudgeKey, ExchangeKey, Visit}
@@ -50,20 +51,9 @@ IsSameCommand LoadDone LoadResult = Unit {0}
 IsSameCommand (NudgeKey k up) (ExchangeKey j expected new) = j ≡ k
 IsSameCommand _ _ = ⊥
 
--- no step follows where the command ends; everywhere else one of the same command does
-abbrev pub Follows : StopStage → Bool → Option StopStage → Type 0
-Follows stage true next = next ≡ None
-Follows stage false None = ⊥
-Follows stage false (Some next) = IsSameCommand stage next
-
 abbrev pub CommandsEndSo : Type 0
 CommandsEndSo = (me : ℕ) (c : StopControlValue) (stage : StopStage) (found : ℕ) →
-    Follows stage (ends_here me stage found) (stop_outcome me c stage found).control.stage
-
--- a note that is said just where a fact holds, and another one elsewhere
-pub record Either (fact : Bool) (said : Option Note) (here there : Option Note) : Type 0 where
-  pub where_true : fact ≡ true → said ≡ here
-  pub where_false : fact ≡ false → said ≡ there
+    Follows IsSameCommand stage (ends_here me stage found) (stop_outcome me c stage found).control.stage
 
 -- the note of a turn that has acknowledged this phase: phase 4 is EXIT
 pub record SaysPhase (phase : ℕ) (ran : Bool) (said : Option Note) : Type 0 where

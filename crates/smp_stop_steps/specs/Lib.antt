@@ -33,6 +33,7 @@ pub mod Premises
 pub mod Interrupts
 pub mod Patchers
 pub mod StopLaws
+pub mod Headline
 -- the machine: the words of a stop table, and a list of controls
 pub mod Table
 pub mod Numbers

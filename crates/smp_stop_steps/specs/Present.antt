@@ -18,7 +18,7 @@ pub record PresentShows (u : Setup) (n : Present) (at : Word → ℕ) (seat : �
   pub homes : (s c : ℕ) → is_inside ((n.stop s).standing c) ≡ true → n.inside c ≡ Some s
   pub irq : (c : ℕ) → n.irq c ≡ irq_of (seat c)
   -- patches
-  pub works : (s : ℕ) → (n.stop s).is_open ≡ true → (n.stop s).work.kind ≡ Patch → IsPatchWork u (n.stop s).work
+  pub works : (s : ℕ) → (n.stop s).is_open ≡ true → (n.stop s).work.kind ≡ Patch → IsPatchWork u.online u.first u.keys (n.stop s).work
   pub runner : RunnerShows u.first n.patching seat
   -- the label law
   pub entries : AreEntriesOf u.entries (labels_in at)

@@ -1,12 +1,8 @@
 -- What a command of the stop half is refused for, said of the state of the stops.
-use Rattle.std.specs.Prelude.{◌≡◌, ◌≢◌, ◌⊎◌, ℕ, ◌<◌, true, false, Option, Some, None, length}
-use Rattle.smp_stop_steps.specs.{Names.has, Names.SmpError, Names.Command, Names.One, Names.Work, State.Setup, Stop.acked, Value.StopShown, Value.setup_of}
-use Rattle.smp_stop_steps.specs.{Names.cpus, Counts.mask_weight, Sources.IsOfKind, Start.stop_refusal, State.StopState, Value.StopsValue, Value.stop_control_of}
-
--- no refusal where the command may start, else just this one
-abbrev pub Refuses : Type 0 → SmpError → Option SmpError → Type 0
-Refuses may e None = may
-Refuses may e (Some refused) = (refused ≡ e) × (may → ⊥)
+use Rattle.std.specs.Prelude.{◌≡◌, ◌≢◌, ◌⊎◌, ℕ, ◌<◌, true, Option, Some, None, length}
+use Rattle.smp_words.specs.Commands.{Refuses}
+use Rattle.smp_stop_steps.specs.{Members.BeginRefuses, Names.SmpError, Names.Command, Names.One, State.Setup, Stop.acked, Value.StopShown, Value.setup_of}
+use Rattle.smp_stop_steps.specs.{Names.cpus, Start.stop_refusal, State.StopState, Value.StopsValue, Value.stop_control_of}
 
 -- the CPU is in a stop of several CPUs, and has not acknowledged EXIT there
 pub record MayAdvance (p : StopState) (me : ℕ) : Type 0 where
@@ -34,28 +30,12 @@ pub record MayEnter (nr : ℕ) (p : StopState) (me slot : ℕ) : Type 0 where
   pub small : slot < cpus
   pub named : (slot < 8) ⊎ (slot < nr)
 
--- it holds the gate, and the work has some CPUs, as many as its kind may have; a patch is of all CPUs online
-pub record FitsGate (u : Setup) (p : StopState) (me : ℕ) (work : Work) : Type 0 where
-  pub holds : p.gate ≡ Some me
-  pub some : mask_weight u.cpus work.mask ≢ 0
-  pub kind : IsOfKind u work work.kind
-
--- begin: E8 where the own stop is open; else E4 where the gate is another's, or nobody's, or the work is none; else E3
--- where a CPU of it is not online
-abbrev pub BeginRefuses : Setup → StopState → ℕ → Work → Option SmpError → Type 0
-BeginRefuses u p me work None = ((p.now.stop me).is_open ≡ false) × FitsGate u p me work × ((c : ℕ) → has work.mask c ≡ true → u.online c ≡ true)
-BeginRefuses u p me work (Some SmpError.SlotBusy) = (p.now.stop me).is_open ≡ true
-BeginRefuses u p me work (Some SmpError.BadArgument) = ((p.now.stop me).is_open ≡ false) × (FitsGate u p me work → ⊥)
-BeginRefuses u p me work (Some SmpError.NoStopper) =
-    ((p.now.stop me).is_open ≡ false) × FitsGate u p me work × ((c : ℕ) × (has work.mask c ≡ true) × (u.online c ≡ false))
-BeginRefuses u p me work (Some _) = ⊥
-
 -- the refusal of a command by a CPU that is outside a command; none of a command of the other half, but of a handle while
 -- interrupts are off
 abbrev pub IsRefusal : Setup → ℕ → StopState → ℕ → Command → Option SmpError → Type 0
 IsRefusal u nr p me Command.Handle r = Refuses (p.now.irq me ≡ true) SmpError.BadArgument r
 IsRefusal u nr p me Command.Ungate r = Refuses (p.gate ≡ Some me) SmpError.BadArgument r
-IsRefusal u nr p me (Command.Begin work) r = BeginRefuses u p me work r
+IsRefusal u nr p me (Command.Begin work) r = BeginRefuses (p.gate ≡ Some me) u.online u.keys work (p.now.stop me).is_open r
 IsRefusal u nr p me (Command.Enter slot) r = Refuses (MayEnter nr p me slot) SmpError.Stale r
 IsRefusal u nr p me (Command.Advance answer) r = Refuses (MayAdvance p me) SmpError.BadArgument r
 IsRefusal u nr p me (Command.RunOne answer) r = Refuses (MayRun p me) SmpError.BadArgument r

@@ -1,8 +1,8 @@
 -- Which seat and which source a CPU's stage means.
-use Rattle.std.specs.Prelude.{◌≡◌, ◌≢◌, ◌⊎◌, ℕ, ◌+◌, ◌<◌, ◌≤◌, Bool, true, false, Option, Some, None, List, [], ◌∷◌, ◌++◌, length, take}
-use Rattle.smp_stop_steps.specs.Names.{has, is_on, change_of, IsKeyWord, patch_of, site_changes, MOST_SITES, CompletionStage, RoundStage, StopStage, OpenGate}
+use Rattle.std.specs.Prelude.{◌≡◌, ◌≢◌, ◌⊎◌, ℕ, ◌+◌, ◌<◌, ◌≤◌, Bool, true, false, Option, Some, None, List, [], ◌++◌, length, take}
+use Rattle.smp_stop_steps.specs.Names.{has, is_on, change_of, IsKeyWord, patch_of, MOST_SITES, CompletionStage, RoundStage, StopStage, OpenGate}
 use Rattle.smp_stop_steps.specs.Names.{Begin, Enter, EnterKind, EnterMask, EnterActive, Advance, Complete, Close, LoadDone, LoadResult, NudgeKey, ExchangeKey}
-use Rattle.smp_stop_steps.specs.Names.{Visit, One, Multi, Patch, Work, DISABLE_IRQ, RUN, EXIT, Place}
+use Rattle.smp_stop_steps.specs.Names.{Visit, One, Multi, Patch, Work, DISABLE_IRQ, RUN, EXIT}
 use Rattle.smp_stop_steps.specs.Seats.{Seat, Free, In, Gives, Alters, Closes, Duty, Rests, Fills, Sets, irq_of}
 use Rattle.smp_stop_steps.specs.Sources.{Source, Shut, Drafts, Owns, Collects}
 use Rattle.smp_stop_steps.specs.{Labels.Change, Labels.count_set, Labels.patch_answer, Tells.plan_at, Slots.order, State.Setup, Stages.StopControlValue}
@@ -33,7 +33,7 @@ SitsAtPatch u v work count made x = IsLoaded v work × (v.acked ≡ DISABLE_IRQ)
 
 -- with this many entries loaded
 abbrev pub changes_of : Setup → Work → ℕ → ℕ → List Change
-changes_of u work word site = (Place.Key work.func, word) ∷ site_changes work.func (is_on word) 0 (take site u.entries)
+changes_of u work word site = patch_of work.func word (take site u.entries)
 
 -- a number that may be exchanged for a key's: one more or one less, with which the key is on or off as before
 pub record IsNudge (found new : ℕ) : Type 0 where

@@ -1,22 +1,22 @@
 -- Where a source is with its own stop.
-use Rattle.std.specs.Prelude.{◌≡◌, ◌≢◌, ℕ, ◌<◌, ◌^◌, true, false, ◌==◌, Option, Some, ◌≤◌}
+use Rattle.std.specs.Prelude.{◌≡◌, ◌≢◌, ℕ, ◌<◌, ◌^◌, Bool, true, false, ◌==◌, Option, Some, ◌≤◌}
 use Rattle.smp_stop_steps.specs.Names.{has, Field, Kind, One, Multi, Patch, Work}
 use Rattle.smp_stop_steps.specs.{Stop.Stop, Stop.Ended, Counts.mask_weight, Slots.IsStored, State.Setup}
 pub use Rattle.smp_stop_steps.specs.declared.known.Source.{Source}
 pub use Rattle.smp_stop_steps.specs.declared.known.Source.TheVariants.{Shut, Drafts, Owns, Collects}
 
 -- a patch is of all online CPUs, its function runs on the first of them, and it makes one of the four changes to a key's count
-pub record IsPatchWork (u : Setup) (work : Work) : Type 0 where
-  pub all : (c : ℕ) → has work.mask c ≡ u.online c
-  pub first : (c : ℕ) → has work.active c ≡ (c == u.first)
-  pub key : work.func < u.keys
+pub record IsPatchWork (online : ℕ → Bool) (front keys : ℕ) (work : Work) : Type 0 where
+  pub all : (c : ℕ) → has work.mask c ≡ online c
+  pub first : (c : ℕ) → has work.active c ≡ (c == front)
+  pub key : work.func < keys
   pub change : work.arg ≤ 3
 
 -- a stop of kind One is of one CPU
 abbrev pub IsOfKind : Setup → Work → Kind → Type 0
 IsOfKind u work One = mask_weight u.cpus work.mask ≡ 1
 IsOfKind u work Multi = Unit {0}
-IsOfKind u work Patch = IsPatchWork u work
+IsOfKind u work Patch = IsPatchWork u.online u.first u.keys work
 
 -- a work that begin takes: its CPUs are online, and there are some
 pub record IsWork (u : Setup) (work : Work) : Type 0 where

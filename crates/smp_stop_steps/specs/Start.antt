@@ -22,17 +22,17 @@ terms_of v cpu = record {
 abbrev pub has_slot : ℕ → ℕ → Bool
 has_slot nr slot = nat_lt slot cpus && (nat_lt slot FIRST_TARGETS || nat_lt slot nr)
 
--- a patch is of all online CPUs, its function runs on the first of them, and it makes one of the four changes to a key's count
+-- whether a work is a patch's, as the code tests it: what this means is IsPatchWork
 abbrev pub fits_patch : Terms → Work → Bool
 fits_patch t work = ((work.mask == t.online && work.active == 2 ^ first_below t.online cpus) && nat_lt work.func t.keys) && nat_lt work.arg 4
 
--- a stop of kind One is of one CPU
+-- whether it has as many CPUs as its kind may have
 abbrev pub fits_kind : Terms → Work → Kind → Bool
 fits_kind t work One = mask_weight cpus work.mask == 1
 fits_kind t work Multi = true
 fits_kind t work Patch = fits_patch t work
 
--- a work has some CPUs
+-- whether it has some CPUs, those of its kind
 abbrev pub fits_work : Terms → Work → Bool
 fits_work t work = not (mask_weight cpus work.mask == 0) && fits_kind t work work.kind
 
@@ -40,7 +40,7 @@ fits_work t work = not (mask_weight cpus work.mask == 0) && fits_kind t work wor
 abbrev pub unless : Bool → SmpError → Option SmpError
 unless test refused = if test then None else Some refused
 
--- the refusals of begin: the own stop is open; the gate is not held, or the work is none; a CPU of it is not online
+-- the refusals of begin, as the code computes them: what they mean is BeginRefuses, of members
 abbrev pub begin_refusal : Terms → Work → Bool → Option SmpError
 begin_refusal t work true = Some SmpError.SlotBusy
 begin_refusal t work false =

@@ -1,5 +1,5 @@
 -- The order in which the steps of a command of the stop half touch their words.
-use Rattle.std.specs.Prelude.{◌≡◌, ◌≢◌, ◌⊎◌, ℕ, ◌+◌, ◌++◌, true, false, [], ◌∷◌, List, Option, Some, None}
+use Rattle.std.specs.Prelude.{◌≡◌, ◌≢◌, ◌⊎◌, ℕ, ◌+◌, ◌++◌, true, false, [], ◌∷◌, List, Option, Some, None, IsSomeAnd}
 use Rattle.smp_stop_steps.specs.{Labels.Change, Stages.StopControlValue, Stages.stop_access, Stages.stop_outcome, Tells.is_multi}
 use Rattle.smp_stop_steps.specs.Names.{has, word_of, Place, Word, Slot, Key, Field, StopStage, Begin, Enter, EnterKind, EnterMask, Advance, Complete}
 use Rattle.smp_stop_steps.specs.Names.{LoadDone, Visit}
@@ -9,8 +9,7 @@ use Rattle.smp_stop_steps.specs.Names.completion
 
 -- the step that follows is to this word, whatever the patch of this CPU is
 abbrev pub IsTo : ℕ → Option StopStage → Word → Type 0
-IsTo me None word = ⊥
-IsTo me (Some next) word = (n : ℕ) (changes : List Change) → word_of (stop_access n me changes next) ≡ word
+IsTo me next word = IsSomeAnd next (λ stage. (n : ℕ) (changes : List Change) → word_of (stop_access n me changes stage) ≡ word)
 
 -- A begin stores kind, mask, active, func, arg, result, todo, done, ack, state and roll, in this order.
 abbrev pub StoresThen : ℕ → Field → Option StopStage → Type 0

@@ -1,4 +1,5 @@
 -- CPUs and records
+pub mod Bit
 pub mod Size
 pub mod Limits
 -- words by name, and the number of each

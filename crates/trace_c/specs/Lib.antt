@@ -1,4 +1,4 @@
 -- what is reported of an input, and what is left in the caller's memory
 pub mod Reports
--- what a call of each export finds
-pub mod Found
+-- what each export reports
+pub mod Exports

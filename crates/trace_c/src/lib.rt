@@ -16,7 +16,7 @@ mod report;
 ghost use Rattle.trace_judge.specs.Verdict.{verdict_of};
 ghost use Rattle.smp_script.specs.Script.{script_of};
 ghost use Rattle.smp_script.specs.declared.mode.Mode.TheVariants.{Replay};
-ghost use Rattle.trace_c.specs.Found.{IsChecked, IsJudged, IsReplayed};
+ghost use Rattle.trace_c.specs.Exports.{IsChecked, IsJudged, IsReplayed};
 ghost use Rattle.trace_c.specs.Reports.{Answers};
 
 use crate::answer::{SmpAnswer, give};

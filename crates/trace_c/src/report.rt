@@ -4,7 +4,7 @@ ghost use Rattle.std.specs.Prelude.{◌≡◌};
 ghost use Rattle.trace_judge.specs.Verdict.{verdict_of};
 ghost use Rattle.smp_script.specs.Script.{script_of};
 ghost use Rattle.smp_script.specs.declared.mode.Mode.TheVariants.{Replay};
-ghost use Rattle.trace_c.specs.Found.{IsChecked, IsJudged, IsReplayed, no, yes};
+ghost use Rattle.trace_c.specs.Exports.{IsChecked, IsJudged, IsReplayed, no, yes};
 ghost use Rattle.trace_c.specs.Reports.{Finds, report_of};
 
 use smp_mask::SmpError;

@@ -1,2 +1,1 @@
 mod Masks
-mod Traced

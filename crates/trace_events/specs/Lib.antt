@@ -1,6 +1,6 @@
 -- what a CPU has done before, and the events that its next step tells
 pub mod Past
-pub mod Told
+pub mod StepEvents
 -- lines
 pub mod Text
 pub mod Front

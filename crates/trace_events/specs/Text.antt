@@ -1,8 +1,7 @@
 -- The lines of events, as a trace has them.
-use Rattle.std.specs.Prelude.{ℕ, Bool, true, false, ◌==◌, if◌then◌else◌, List, [], ◌∷◌, ◌++◌, codes}
+use Rattle.std.specs.Prelude.{ℕ, List, [], ◌∷◌, ◌++◌, codes}
 use Rattle.std.specs.Fmt.{decimal, signed_decimal}
 use Rattle.std.specs.List.{flat_map}
-use Rattle.smp_mask.specs.ListText.{list_text}
 use Rattle.trace_model.specs.declared.event.CallEvent.{CallEvent}
 use Rattle.trace_model.specs.declared.event.CallEvent.TheVariants as calls
 use Rattle.trace_model.specs.declared.event.Event.{Event}
@@ -13,37 +12,10 @@ use Rattle.trace_model.specs.declared.event.StopEvent.{StopEvent}
 use Rattle.trace_model.specs.declared.event.StopEvent.TheVariants as stops
 use Rattle.trace_model.specs.declared.stop.Task.{Task}
 use Rattle.smp_words.specs.declared.call.Class.{Class}
-use Rattle.smp_words.specs.declared.call.Class.TheVariants.{Sync, Async}
-use Rattle.smp_words.specs.declared.work.Kind.{Kind}
-use Rattle.smp_words.specs.declared.work.Kind.TheVariants as kinds
-use Rattle.trace_events.specs.Told.{events_in}
-use Rattle.trace_events.specs.declared.told.Told.{Told}
-
--- names
-abbrev pub class_text : Class → List ℕ
-class_text Sync = codes "sync"
-class_text Async = codes "async"
-
-abbrev pub kind_text : Kind → List ℕ
-kind_text kinds.One = codes "one"
-kind_text kinds.Multi = codes "multi"
-kind_text kinds.Patch = codes "patch"
-
-abbrev pub site_text : Bool → List ℕ
-site_text true = codes "JMP"
-site_text false = codes "NOP"
-
-abbrev pub switch_text : Bool → List ℕ
-switch_text true = codes "on"
-switch_text false = codes "off"
-
-abbrev pub way_text : Bool → List ℕ
-way_text true = codes "up"
-way_text false = codes "down"
-
--- a mask as a CPU list, `-` where it is empty
-abbrev pub mask_text : ℕ → List ℕ
-mask_text mask = if mask == 0 then codes "-" else list_text mask
+use Rattle.smp_script.specs.Printed.{site_text}
+use Rattle.smp_script.specs.Spelling.{class_text, kind_text, mask_text, switch_text, way_text}
+use Rattle.trace_events.specs.StepEvents.{events_in}
+use Rattle.trace_events.specs.declared.step_events.StepEvents.{StepEvents}
 
 -- `queue R D CLASS FUNC INFO`
 abbrev pub queue_text : ℕ → ℕ → Class → ℕ → ℕ → List ℕ
@@ -104,5 +76,5 @@ abbrev pub line_text : ℕ → Event → List ℕ
 line_text cpu e = decimal cpu ++ codes " " ++ event_text e ++ 10 ∷ []
 
 -- the lines of what a step of a CPU tells
-abbrev pub told_text : ℕ → Told → List ℕ
+abbrev pub told_text : ℕ → StepEvents → List ℕ
 told_text cpu told = flat_map (line_text cpu) (events_in told)

@@ -5,7 +5,7 @@ use Rattle.trace_model.specs.declared.event.Event.{Event}
 use Rattle.smp_words.specs.declared.seen.Seen.{Seen}
 use Rattle.trace_events.specs.Past.{after, fresh, past_at}
 use Rattle.trace_events.specs.Text.{line_text}
-use Rattle.trace_events.specs.Told.{events_in, told_of}
+use Rattle.trace_events.specs.StepEvents.{events_in, told_of}
 use Rattle.trace_events.specs.declared.past.Past.{Past}
 
 -- no CPU has done anything

@@ -3,35 +3,15 @@
 ghost use Rattle.std.specs.Prelude.{◌≡◌, IfOk, IfErr};
 ghost use Rattle.smp_words.specs.Limits.{AreLimits};
 ghost use Rattle.smp_script.specs.MeaningOf.{meaning_of};
-ghost use Rattle.smp_core.specs.New.{new_core};
-ghost use Rattle.smp_replay.specs.Output.{labels_or_none};
 ghost use Rattle.trace_events.specs.Replays.{ending_of, has_refused, rows_of_script};
 
 use crate::moments::moments;
 use crate::rows::{Row, is_refused, rows_of};
-use smp_core::Core;
-use smp_labels::LabelMap;
-use smp_mask::{CpuMask, SmpError};
+use smp_mask::SmpError;
+use smp_replay::new_core;
 use smp_script::Outcome;
 use smp_script::script::Script;
 use std::alloc::Allocator;
-
-// A core with no calls and no stops, and with these labels.
-fn new_core<A: Allocator + Copy>(
-    alloc: A,
-    nr: u32,
-    online: CpuMask,
-    labels: &Option<LabelMap>,
-) -> Result<Core<A>, SmpError>
-    requires { AreLimits nr online }
-    ensures core { IfOk result (λ core. core ≡ new_core nr online (labels_or_none labels.now)) }
-    ensures err { IfErr result (λ e. e ≡ SmpError.NoMemory) }
-{
-    match labels {
-        Some(labels) => Core::with_labels(alloc, nr, online, labels),
-        None => Core::new(alloc, nr, online),
-    }
-}
 
 /// What is seen of a script's replay, on a table with no calls and no stops.
 pub fn rows_of_script<A: Allocator + Copy>(

@@ -2,15 +2,16 @@
 
 ghost use Rattle.std.specs.Prelude.{◌≡◌, ◌++◌, true, false, Err, IfOk, OnOk};
 ghost use Rattle.smp_mask.specs.declared.error.Side.TheVariants.{Read as ReadSide};
+ghost use Rattle.smp_script.specs.Transforms.{HasFault, Makes};
 ghost use Rattle.smp_script.specs.Watched.{inner_of, failed_of, flushed_of};
-ghost use Rattle.trace_events.specs.ScriptTrace.{Traces, step_in, steps_of};
+ghost use Rattle.trace_events.specs.ScriptTrace.{IsTraced, Traces, step_in, steps_of};
 
 use crate::replay::{ending, rows_of_script};
 use crate::rows::{Row, What};
 use crate::trace::trace;
 use smp_mask::SmpError;
 use smp_script::script::read_script;
-use smp_script::stream::{read_text, write_text};
+use smp_script::stream::{read_text, write_made};
 use smp_script::{Mode, Outcome, Watched};
 use smp_words::Seen;
 use std::alloc::{AllocError, Allocator};
@@ -38,6 +39,22 @@ fn steps_of<A: Allocator>(alloc: A, rows: &[Row]) -> Result<Vec<Seen, A>, AllocE
     Ok(steps)
 }
 
+// The trace of the replay of the script in this text, and how the replay ended.
+fn traced<A: Allocator + Copy>(alloc: A, text: &[u8]) -> Result<(Vec<u8, A>, Outcome), SmpError>
+    ensures { Makes IsTraced (HasFault Mode.Replay) text.now result }
+{
+    let script = read_script(alloc, Mode::Replay, text)?;
+    let rows = rows_of_script(alloc, &script)?;
+    let Ok(steps) = steps_of(alloc, rows.as_slice()) else {
+        return Err(SmpError::NoMemory);
+    };
+    let has_labels = script.labels.is_some();
+    let Ok(told) = trace(alloc, has_labels, text, steps.as_slice()) else {
+        return Err(SmpError::NoMemory);
+    };
+    Ok((told, ending(rows.as_slice())))
+}
+
 /// Reads a script, and writes the events of its replay as a trace: up to a refused event, where one is.
 ///
 /// Refusals, in this order: `StreamFailed(Read)` where the reader failed, `BadScript` with the first fault where
@@ -58,15 +75,5 @@ pub fn show_events<A: Allocator + Copy, R: Read, W: Write>(
     ensures flushed { OnOk result (flushed_of writer.new ≡ true) }
 {
     let text = read_text(alloc, reader)?;
-    let script = read_script(alloc, Mode::Replay, text.as_slice())?;
-    let rows = rows_of_script(alloc, &script)?;
-    let Ok(steps) = steps_of(alloc, rows.as_slice()) else {
-        return Err(SmpError::NoMemory);
-    };
-    let has_labels = script.labels.is_some();
-    let Ok(told) = trace(alloc, has_labels, text.as_slice(), steps.as_slice()) else {
-        return Err(SmpError::NoMemory);
-    };
-    write_text(writer, told.as_slice())?;
-    Ok(ending(rows.as_slice()))
+    write_made(writer, traced(alloc, text.as_slice()))
 }

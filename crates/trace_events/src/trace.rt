@@ -5,10 +5,10 @@ ghost use Rattle.smp_script.specs.Lines.{lines_of};
 ghost use Rattle.trace_events.specs.Front.{front_text};
 ghost use Rattle.trace_events.specs.Traces.{all_fresh, events_of, events_of_step, kept, lines_text};
 
-use crate::front::front_of;
 use crate::past::{Past, after, fresh, keep, past_at};
+use crate::step_events::tell;
 use crate::text::write_told;
-use crate::told::tell;
+use smp_script::front::front_of;
 use smp_words::Seen;
 use std::alloc::{AllocError, Allocator};
 
@@ -48,7 +48,7 @@ pub fn trace<A: Allocator + Copy>(
 ) -> Result<Vec<u8, A>, AllocError>
     ensures { IfOk result (λ out. out.items ≡ front_text has_labels (lines_of script.now) ++ lines_text (events_of all_fresh steps.now)) }
 {
-    let mut out = front_of(alloc, has_labels, script)?;
+    let mut out = front_of(alloc, b"smp 2 trace\n", has_labels, script)?;
     let mut lines = String::new(alloc);
     write_steps(&mut lines, steps)?;
     out.extend_from_slice(lines.as_bytes())?;

@@ -4,15 +4,15 @@ use Rattle.smp_mask.specs.declared.error.Cause.{Cause}
 use Rattle.smp_mask.specs.declared.error.SmpError.{SmpError}
 use Rattle.smp_mask.specs.declared.error.SmpError.TheVariants as errors
 use Rattle.smp_script.specs.Faults.{Fails, at_line as placed}
-use Rattle.trace_judge.specs.declared.halted.Halted.{Halted}
-use Rattle.trace_judge.specs.declared.halted.Halted.TheVariants as halted
-use Rattle.trace_judge.specs.Head.{halted_of, Sees}
+use Rattle.trace_judge.specs.declared.early_end.EarlyEnd.{EarlyEnd}
+use Rattle.trace_judge.specs.declared.early_end.EarlyEnd.TheVariants as early_end
+use Rattle.trace_judge.specs.Head.{early_end_of, Sees}
 use Rattle.trace_judge.specs.Judged.{at_line}
 
 -- the same line is at fault
-told_at : {X : Type 0} → Result X (ℕ × Cause) → Result X Halted
+told_at : {X : Type 0} → Result X (ℕ × Cause) → Result X EarlyEnd
 told_at (Ok x) = Ok x
-told_at (Err fault) = Err (halted.Fault fault.0 fault.1)
+told_at (Err fault) = Err (early_end.Fault fault.0 fault.1)
 
 told_same : {X : Type 0} (n : ℕ) (r : Result X Cause) → told_at (placed n r) ≡ at_line n r
 unfolding told_at
@@ -24,7 +24,7 @@ unfolding told_at
 sees_ok n r x e = sym (told_same n r) ∙ ap told_at e
 
 pub sees_err : {X : Type 0} (n : ℕ) (r : Result X Cause) (error : SmpError) → Fails error (placed n r) →
-    Sees (λ (x : X). x) (Err (halted_of error)) (at_line n r)
+    Sees (λ (x : X). x) (Err (early_end_of error)) (at_line n r)
 unfolding told_at
 sees_err n r (errors.BadScript m cause) e = sym (told_same n r) ∙ ap told_at e
 sees_err n r errors.NoMemory e = tt

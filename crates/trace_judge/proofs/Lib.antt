@@ -3,4 +3,3 @@ pub mod Faulted
 pub mod Judging
 pub mod Meaning
 pub mod Texts
-pub mod Written

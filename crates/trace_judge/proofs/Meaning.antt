@@ -12,8 +12,8 @@ use Rattle.trace_model.specs.Opened.{opening}
 use Rattle.trace_model.specs.Runs.{Runs}
 use Rattle.trace_model.specs.State.{StateValue}
 use Rattle.trace_model.specs.Step.{goes}
-use Rattle.trace_judge.specs.declared.halted.Halted.{Halted}
-use Rattle.trace_judge.specs.declared.halted.Halted.TheVariants as halted
+use Rattle.trace_judge.specs.declared.early_end.EarlyEnd.{EarlyEnd}
+use Rattle.trace_judge.specs.declared.early_end.EarlyEnd.TheVariants as early_end
 use Rattle.trace_judge.specs.Head.{HeadValue, head_of}
 use Rattle.trace_judge.specs.Judged.{after_event, at_line, broken_at, bytes_of, event_on, is_comment, is_too_long, judged, line_goes, told_goes, used_after}
 use Rattle.trace_judge.specs.Reading.{whole_event}
@@ -21,28 +21,28 @@ use Rattle.trace_judge.specs.Runs.{AreRun, GoesTo, HasFault, IsAtFault, IsBroken
 use Rattle.trace_judge.specs.Verdict.{judged_behind, verdict_of}
 
 -- what comes of a line that goes on so far
-abbrev next_gives : Setting → ℕ → ℕ → List Line → ℕ × StateValue → Result (ℕ × StateValue) Halted
+abbrev next_gives : Setting → ℕ → ℕ → List Line → ℕ × StateValue → Result (ℕ × StateValue) EarlyEnd
 next_gives u n more ls made = judged u (n + 1) more made.0 ls made.1
 
 -- a fault of a line is of its number
-used_fault_by : (long ended : Bool) (n used : ℕ) (why : Halted)
-    → (if long then Err (halted.Fault n TooLong) else (if ended then Ok used else Err (halted.Fault n Cut))) ≡ Err why
-    → (cause : Cause) × (why ≡ halted.Fault n cause)
+used_fault_by : (long ended : Bool) (n used : ℕ) (why : EarlyEnd)
+    → (if long then Err (early_end.Fault n TooLong) else (if ended then Ok used else Err (early_end.Fault n Cut))) ≡ Err why
+    → (cause : Cause) × (why ≡ early_end.Fault n cause)
 used_fault_by true ended n used why e = (TooLong, cc)
 used_fault_by false true n used why e = absurd cc
 used_fault_by false false n used why e = (Cut, cc)
 
-used_fault : (n used : ℕ) (l : Line) (why : Halted) → used_after n used l ≡ Err why → (cause : Cause) × (why ≡ halted.Fault n cause)
+used_fault : (n used : ℕ) (l : Line) (why : EarlyEnd) → used_after n used l ≡ Err why → (cause : Cause) × (why ≡ early_end.Fault n cause)
 unfolding used_after
 used_fault n used l why e = used_fault_by (is_too_long n used l) l.ended n (used + bytes_of l) why e
 
-event_fault_by : (comment : Bool) (n : ℕ) (read : Result (ℕ × Event) Cause) (why : Halted)
-    → (if comment then Ok None else (at_line n read >>= λ event. Ok (Some event))) ≡ Err why → (cause : Cause) × (why ≡ halted.Fault n cause)
+event_fault_by : (comment : Bool) (n : ℕ) (read : Result (ℕ × Event) Cause) (why : EarlyEnd)
+    → (if comment then Ok None else (at_line n read >>= λ event. Ok (Some event))) ≡ Err why → (cause : Cause) × (why ≡ early_end.Fault n cause)
 event_fault_by true n read why e = absurd cc
 event_fault_by false n (Ok event) why e = absurd cc
 event_fault_by false n (Err cause) why e = (cause, cc)
 
-event_fault : (u : Setting) (n : ℕ) (text : List ℕ) (why : Halted) → event_on u n text ≡ Err why → (cause : Cause) × (why ≡ halted.Fault n cause)
+event_fault : (u : Setting) (n : ℕ) (text : List ℕ) (why : EarlyEnd) → event_on u n text ≡ Err why → (cause : Cause) × (why ≡ early_end.Fault n cause)
 unfolding event_on
 event_fault u n text why e = event_fault_by (is_comment text) n (whole_event u (fields_of text)) why e
 
@@ -80,7 +80,7 @@ goes_here u n used l ls s = record {
 
 -- a line that goes on keeps what the verdict on those behind it means
 means_on : (u : Setting) (n used more before between : ℕ) (l : Line) (ls : List Line) (s m : StateValue) (e : Option (ℕ × Event))
-    (verdict : Result (ℕ × StateValue) Halted) → used_after n used l ≡ Ok more → event_on u n l.text ≡ Ok e
+    (verdict : Result (ℕ × StateValue) EarlyEnd) → used_after n used l ≡ Ok more → event_on u n l.text ≡ Ok e
     → ((told : Told) (t : StateValue) → Runs m told.events t → Runs s (with_told e told).events t)
     → ((told : Told) → (with_told e told).used ≡ told.used)
     → ((told : Told) → before + length (with_told e told).events ≡ between + length told.events)
@@ -92,7 +92,7 @@ means_on u n used more before between l ls s m e (Ok end) f told runs keeps coun
   run = runs r.told end.1 r.run;
   counted = counts r.told ∙ r.counted;
 }
-means_on u n used more before between l ls s m e (Err (halted.Broken line cpu event why)) f told runs keeps counts r = record {
+means_on u n used more before between l ls s m e (Err (early_end.Broken line cpu event why)) f told runs keeps counts r = record {
   before = r.before;
   more = r.more;
   this = r.this;
@@ -102,19 +102,19 @@ means_on u n used more before between l ls s m e (Err (halted.Broken line cpu ev
   told = r.told;
   refused = r.refused;
 }
-means_on u n used more before between l ls s m e (Err (halted.Fault line cause)) f told runs keeps counts r = record {
+means_on u n used more before between l ls s m e (Err (early_end.Fault line cause)) f told runs keeps counts r = record {
   before = r.before;
   this = r.this;
   state = r.state;
   goes_to = goes_on u n used more l ls s m line r.before r.this r.state e f told (λ x. runs x r.state) keeps r.goes_to;
   fault = r.fault;
 }
-means_on u n used more before between l ls s m e (Err halted.NoMemory) f told runs keeps counts r = r
+means_on u n used more before between l ls s m e (Err early_end.NoMemory) f told runs keeps counts r = r
 
 -- a line at fault is the end
-means_fault : (u : Setting) (n used before : ℕ) (l : Line) (ls : List Line) (s : StateValue) (why : Halted) (cause : Cause)
-    → why ≡ halted.Fault n cause → HasFault u n used l cause → Means u n used before (l ∷ ls) s (Err why)
-means_fault u n used before l ls s why cause e fault = subst (λ (w : Halted). Means u n used before (l ∷ ls) s (Err w)) (sym e) (record {
+means_fault : (u : Setting) (n used before : ℕ) (l : Line) (ls : List Line) (s : StateValue) (why : EarlyEnd) (cause : Cause)
+    → why ≡ early_end.Fault n cause → HasFault u n used l cause → Means u n used before (l ∷ ls) s (Err why)
+means_fault u n used before l ls s why cause e fault = subst (λ (w : EarlyEnd). Means u n used before (l ∷ ls) s (Err w)) (sym e) (record {
   before = used;
   this = l;
   state = s;
@@ -145,7 +145,7 @@ means_step u n used more before l ls s cpu event f told rest (Err why) g = recor
 -- a line tells an event, or none, or is at fault
 means_told : (u : Setting) (n used more before : ℕ) (l : Line) (ls : List Line) (s : StateValue) → used_after n used l ≡ Ok more
     → ((between : ℕ) (m : StateValue) → Means u (n + 1) more between ls m (judged u (n + 1) more between ls m))
-    → (told : Result (Option (ℕ × Event)) Halted) → event_on u n l.text ≡ told
+    → (told : Result (Option (ℕ × Event)) EarlyEnd) → event_on u n l.text ≡ told
     → Means u n used before (l ∷ ls) s ((told >>= λ e. after_event n before e s) >>= next_gives u n more ls)
 unfolding told_goes
 means_told u n used more before l ls s f rest (Ok None) e =
@@ -159,7 +159,7 @@ means_told u n used more before l ls s f rest (Err why) e =
 -- a line is within the limits, or at fault
 means_fits : (u : Setting) (n used before : ℕ) (l : Line) (ls : List Line) (s : StateValue)
     → ((more between : ℕ) (m : StateValue) → Means u (n + 1) more between ls m (judged u (n + 1) more between ls m))
-    → (fits : Result ℕ Halted) → used_after n used l ≡ fits
+    → (fits : Result ℕ EarlyEnd) → used_after n used l ≡ fits
     → Means u n used before (l ∷ ls) s (fits >>= λ more. line_goes u n before l.text s >>= next_gives u n more ls)
 unfolding line_goes
 means_fits u n used before l ls s rest (Ok more) f = means_told u n used more before l ls s f (rest more) (event_on u n l.text) refl
@@ -174,8 +174,8 @@ means u n used before [] s = record { told = record { events = []; used = used }
 means u n used before (l ∷ ls) s = means_fits u n used before l ls s (λ more between m. means u (n + 1) more between ls m) (used_after n used l) refl
 
 -- a verdict behind a head
-meant_with : (head : Result HeadValue Halted) → MeansWith head (head >>= judged_behind)
-meant_with (Ok h) = means h.setting h.spot.number h.spot.used 0 h.spot.lines (opening h.setting h.words)
+meant_with : (head : Result HeadValue EarlyEnd) → MeansWith head (head >>= judged_behind)
+meant_with (Ok h) = means h.setting h.cursor.number h.cursor.used 0 h.cursor.lines (opening h.setting h.words)
 meant_with (Err why) = refl
 
 -- the verdict on a text is what it means
@@ -184,7 +184,7 @@ unfolding verdict_of
 is_meant text = meant_with (head_of (lines_of text))
 
 -- how many events there are, and the state at the end
-abbrev ends_at : ℕ → StateValue → Result (ℕ × StateValue) Halted
+abbrev ends_at : ℕ → StateValue → Result (ℕ × StateValue) EarlyEnd
 ends_at k s = Ok (k, s)
 
 -- no line is left: the events are those so far
@@ -208,7 +208,7 @@ accepts_rest : (u : Setting) (n used more before : ℕ) (l : Line) (ls : List Li
     → used_after n used l ≡ Ok more → event_on u n l.text ≡ Ok e
     → ((rest : Told) → told_by u (n + 1) more ls ≡ Ok rest → (between : ℕ) (m : StateValue) → Runs m rest.events t
     → judged u (n + 1) more between ls m ≡ Ok (between + length rest.events, t))
-    → (found : Result Told Halted) → told_by u (n + 1) more ls ≡ found → (found >>= λ rest. Ok (with_told e rest)) ≡ Ok told → Runs s told.events t
+    → (found : Result Told EarlyEnd) → told_by u (n + 1) more ls ≡ found → (found >>= λ rest. Ok (with_told e rest)) ≡ Ok told → Runs s told.events t
     → judged u n used before (l ∷ ls) s ≡ Ok (before + length told.events, t)
 accepts_rest u n used more before l ls s t e told f told_is ih (Ok rest) r made run =
     let q : with_told e rest ≡ told = cc in
@@ -219,7 +219,7 @@ accepts_rest u n used more before l ls s t e told f told_is ih (Err why) r made 
 accepts_told : (u : Setting) (n used more before : ℕ) (l : Line) (ls : List Line) (s t : StateValue) (told : Told) → used_after n used l ≡ Ok more
     → ((rest : Told) → told_by u (n + 1) more ls ≡ Ok rest → (between : ℕ) (m : StateValue) → Runs m rest.events t
     → judged u (n + 1) more between ls m ≡ Ok (between + length rest.events, t))
-    → (found : Result (Option (ℕ × Event)) Halted) → event_on u n l.text ≡ found
+    → (found : Result (Option (ℕ × Event)) EarlyEnd) → event_on u n l.text ≡ found
     → (found >>= λ e. told_by u (n + 1) more ls >>= λ rest. Ok (with_told e rest)) ≡ Ok told → Runs s told.events t
     → judged u n used before (l ∷ ls) s ≡ Ok (before + length told.events, t)
 accepts_told u n used more before l ls s t told f ih (Ok e) told_is made run =
@@ -229,7 +229,7 @@ accepts_told u n used more before l ls s t told f ih (Err why) told_is made run 
 accepts_fits : (u : Setting) (n used before : ℕ) (l : Line) (ls : List Line) (s t : StateValue) (told : Told)
     → ((more : ℕ) (rest : Told) → told_by u (n + 1) more ls ≡ Ok rest → (between : ℕ) (m : StateValue) → Runs m rest.events t
     → judged u (n + 1) more between ls m ≡ Ok (between + length rest.events, t))
-    → (fits : Result ℕ Halted) → used_after n used l ≡ fits
+    → (fits : Result ℕ EarlyEnd) → used_after n used l ≡ fits
     → (fits >>= λ more. event_on u n l.text >>= λ e. told_by u (n + 1) more ls >>= λ rest. Ok (with_told e rest)) ≡ Ok told → Runs s told.events t
     → judged u n used before (l ∷ ls) s ≡ Ok (before + length told.events, t)
 accepts_fits u n used before l ls s t told ih (Ok more) f made run =
@@ -247,5 +247,5 @@ pub runs_accepted : (text : List ℕ) (h : HeadValue) (count : ℕ) (t : StateVa
     → verdict_of text ≡ Ok (count, t)
 unfolding verdict_of
 runs_accepted text h count t head r =
-    rw head (accepts h.setting h.spot.number h.spot.used 0 h.spot.lines (opening h.setting h.words) t r.told r.told_is r.run
+    rw head (accepts h.setting h.cursor.number h.cursor.used 0 h.cursor.lines (opening h.setting h.words) t r.told r.told_is r.run
     ∙ ap (λ (k : ℕ). ends_at k t) r.counted)

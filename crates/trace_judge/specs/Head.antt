@@ -17,26 +17,26 @@ use Rattle.smp_script.specs.Lines.{Line, fields_of, lines_of}
 use Rattle.smp_script.specs.Script.{whole_cpus}
 use Rattle.trace_model.specs.declared.without.Setting.{Setting}
 use Rattle.trace_model.specs.declared.without.Without.{Without}
-use Rattle.trace_judge.specs.declared.halted.Halted.{Halted}
-use Rattle.trace_judge.specs.declared.halted.Halted.TheVariants.{Fault, NoMemory}
+use Rattle.trace_judge.specs.declared.early_end.EarlyEnd.{EarlyEnd}
+use Rattle.trace_judge.specs.declared.early_end.EarlyEnd.TheVariants.{Fault, NoMemory}
 use Rattle.trace_judge.specs.Judged.{at_line, used_after}
 
 -- where a trace is read to: the number of the next line, how many bytes were used, and the lines that are left
-pub record SpotValue : Type 0 where
+pub record CursorValue : Type 0 where
   pub number : ℕ
   pub used : ℕ
   pub lines : List Line
 
 -- behind the next line
-abbrev pub behind : SpotValue → ℕ → List Line → SpotValue
+abbrev pub behind : CursorValue → ℕ → List Line → CursorValue
 behind s used lines = record { number = s.number + 1; used = used; lines = lines }
 
 -- the fields of the line that has to be next
-abbrev pub needed_from : SpotValue → List Line → Result (List ℕ × SpotValue) Halted
+abbrev pub needed_from : CursorValue → List Line → Result (List ℕ × CursorValue) EarlyEnd
 needed_from s [] = Err (Fault s.number Cut)
 needed_from s (l ∷ ls) = used_after s.number s.used l >>= λ used. Ok (l.text, behind s used ls)
 
-unfoldable pub needed : SpotValue → Result (List ℕ × SpotValue) Halted
+unfoldable pub needed : CursorValue → Result (List ℕ × CursorValue) EarlyEnd
 needed s = needed_from s s.lines
 
 -- line 1
@@ -44,12 +44,12 @@ abbrev pub is_title : List (List ℕ) → Bool
 is_title (a ∷ b ∷ c ∷ []) = bytes_eq a (codes "smp") && bytes_eq b (codes "2") && bytes_eq c (codes "trace")
 is_title _ = false
 
-unfoldable pub titled : List Line → Result SpotValue Halted
+unfoldable pub titled : List Line → Result CursorValue EarlyEnd
 titled lines = needed (record { number = 1; used = 0; lines = lines }) >>= λ found.
     if is_title (fields_of found.0) then Ok found.1 else Err (Fault 1 Word)
 
 -- line 2: the CPUs that are online
-unfoldable pub online_at : SpotValue → Result (ℕ × SpotValue) Halted
+unfoldable pub online_at : CursorValue → Result (ℕ × CursorValue) EarlyEnd
 online_at s = needed s >>= λ found. at_line 2 (whole_cpus 32 (fields_of found.0)) >>= λ table. Ok (table.1, found.1)
 
 -- `labels KEYS ITEMS`
@@ -61,13 +61,13 @@ abbrev pub no_labels : Labels
 no_labels = record { keys = 0; entries = [] }
 
 -- the labels, where the next line, which is line 3, has some
-abbrev pub labels_from : SpotValue → List Line → Result (Labels × SpotValue) Halted
+abbrev pub labels_from : CursorValue → List Line → Result (Labels × CursorValue) EarlyEnd
 labels_from s [] = Ok (no_labels, s)
 labels_from s (l ∷ ls) = used_after s.number s.used l >>= λ used.
     if is_labels (fields_of l.text) then (at_line 3 (whole_labels (fields_of l.text)) >>= λ labels. Ok (labels, behind s used ls))
     else Ok (no_labels, s)
 
-unfoldable pub labels_at : SpotValue → Result (Labels × SpotValue) Halted
+unfoldable pub labels_at : CursorValue → Result (Labels × CursorValue) EarlyEnd
 labels_at s = labels_from s s.lines
 
 -- a word is the first of these, and what is left behind it
@@ -117,19 +117,19 @@ abbrev pub whole_groups : List (List ℕ) → Result Without Cause
 whole_groups names = if are_whole names then some_groups names else Err Word
 
 -- what is left out, where the next line says so
-abbrev pub without_from : SpotValue → ℕ → List Line → List ℕ → List (List ℕ) → Result (Without × SpotValue) Halted
+abbrev pub without_from : CursorValue → ℕ → List Line → List ℕ → List (List ℕ) → Result (Without × CursorValue) EarlyEnd
 without_from s used ls word names =
     if bytes_eq word (codes "without") then (at_line s.number (whole_groups names) >>= λ w. Ok (w, behind s used ls)) else Ok (all_told, s)
 
-abbrev pub without_in : SpotValue → ℕ → List Line → List (List ℕ) → Result (Without × SpotValue) Halted
+abbrev pub without_in : CursorValue → ℕ → List Line → List (List ℕ) → Result (Without × CursorValue) EarlyEnd
 without_in s used ls [] = Ok (all_told, s)
 without_in s used ls (word ∷ names) = without_from s used ls word names
 
-abbrev pub without_line : SpotValue → List Line → Result (Without × SpotValue) Halted
+abbrev pub without_line : CursorValue → List Line → Result (Without × CursorValue) EarlyEnd
 without_line s [] = Ok (all_told, s)
 without_line s (l ∷ ls) = used_after s.number s.used l >>= λ used. without_in s used ls (fields_of l.text)
 
-unfoldable pub without_at : SpotValue → Result (Without × SpotValue) Halted
+unfoldable pub without_at : CursorValue → Result (Without × CursorValue) EarlyEnd
 without_at s = without_line s s.lines
 
 -- the words of labels while all keys are off
@@ -144,25 +144,25 @@ words_of labels = record {
 pub record HeadValue : Type 0 where
   pub setting : Setting
   pub words : LabelWords
-  pub spot : SpotValue
+  pub cursor : CursorValue
 
 abbrev pub setting_of : ℕ → Labels → Without → Setting
 setting_of online labels without = record { online = online; keys = labels.keys; sites = length labels.entries; without = without }
 
-abbrev pub head_with : ℕ → Labels → Without → SpotValue → HeadValue
-head_with online labels without spot = record { setting = setting_of online labels without; words = words_of labels; spot = spot }
+abbrev pub head_with : ℕ → Labels → Without → CursorValue → HeadValue
+head_with online labels without cursor = record { setting = setting_of online labels without; words = words_of labels; cursor = cursor }
 
-unfoldable pub head_of : List Line → Result HeadValue Halted
+unfoldable pub head_of : List Line → Result HeadValue EarlyEnd
 head_of lines = titled lines >>= λ second. online_at second >>= λ cpus. labels_at cpus.1 >>= λ labels. without_at labels.1 >>= λ without.
     Ok (head_with cpus.0 labels.0 without.0 without.1)
 
 -- what a function reads is so, seen by view, unless memory ran out
-abbrev pub Sees : {X Y : Type 0} → (X → Y) → Result X Halted → Result Y Halted → Type 0
+abbrev pub Sees : {X Y : Type 0} → (X → Y) → Result X EarlyEnd → Result Y EarlyEnd → Type 0
 Sees view (Ok x) read = read ≡ Ok (view x)
 Sees view (Err NoMemory) read = Unit {0}
 Sees view (Err why) read = read ≡ Err why
 
 -- a fault of the reader of scripts, as one of a trace
-abbrev pub halted_of : SmpError → Halted
-halted_of (errors.BadScript line cause) = Fault line cause
-halted_of _ = NoMemory
+abbrev pub early_end_of : SmpError → EarlyEnd
+early_end_of (errors.BadScript line cause) = Fault line cause
+early_end_of _ = NoMemory

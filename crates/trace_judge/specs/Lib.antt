@@ -1,9 +1,9 @@
 pub mod Head
+pub mod HeadView
 pub mod Judged
+pub mod Phrases
 pub mod Reading
 pub mod Runs
-pub mod SpotOf
 pub mod Text
 pub mod Traces
 pub mod Verdict
-pub mod Words

@@ -1,9 +1,8 @@
 -- What is printed of a trace.
 use Rattle.std.specs.Prelude.{ℕ, zero, suc, ◌+◌, Bool, true, false, ◌&&◌, ◌==◌, if◌then◌else◌, List, [], ◌∷◌, ◌++◌, Option, Some, None, codes}
 use Rattle.std.specs.Fmt.{decimal, signed_decimal}
-use Rattle.smp_mask.specs.ListText.{list_text}
-use Rattle.smp_words.specs.declared.work.Kind.{Kind}
-use Rattle.smp_words.specs.declared.work.Kind.TheVariants.{One, Multi, Patch}
+use Rattle.smp_script.specs.Printed.{site_text}
+use Rattle.smp_script.specs.Spelling.{kind_text, mask_text, switch_text}
 use Rattle.trace_model.specs.declared.event.CallEvent.{CallEvent}
 use Rattle.trace_model.specs.declared.event.CallEvent.TheVariants as calls
 use Rattle.trace_model.specs.declared.event.StopEvent.{StopEvent}
@@ -55,20 +54,6 @@ event_name (event.Call call) = call_name call
 event_name (event.Stop stop) = stop_name stop
 event_name (event.Label label) = label_name label
 
--- the name of a kind, of a site's word and of a key's state
-abbrev pub kind_name : Kind → List ℕ
-kind_name One = codes "one"
-kind_name Multi = codes "multi"
-kind_name Patch = codes "patch"
-
-abbrev pub site_name : Bool → List ℕ
-site_name true = codes "JMP"
-site_name false = codes "NOP"
-
-abbrev pub switch_name : Bool → List ℕ
-switch_name true = codes "on"
-switch_name false = codes "off"
-
 -- why an event is none
 abbrev pub reason_text : Reason → List ℕ
 reason_text (reason.RecordFree id) = codes "record " ++ decimal id ++ codes " is free"
@@ -97,7 +82,7 @@ reason_text (reason.StopNotOpen source) = codes "stop " ++ decimal source ++ cod
 reason_text (reason.IsInStop cpu source) = codes "CPU " ++ decimal cpu ++ codes " is in stop " ++ decimal source
 reason_text (reason.NotCalled cpu) = codes "CPU " ++ decimal cpu ++ codes " is not called"
 reason_text (reason.InNoStop cpu) = codes "CPU " ++ decimal cpu ++ codes " is in no stop"
-reason_text (reason.StopIsOf source kind) = codes "stop " ++ decimal source ++ codes " is of kind " ++ kind_name kind
+reason_text (reason.StopIsOf source kind) = codes "stop " ++ decimal source ++ codes " is of kind " ++ kind_text kind
 reason_text (reason.NotAcknowledged cpu phase) = codes "CPU " ++ decimal cpu ++ codes " has not acknowledged " ++ decimal phase
 reason_text (reason.Acknowledged cpu phase) = codes "CPU " ++ decimal cpu ++ codes " has acknowledged " ++ decimal phase
 reason_text (reason.PhaseIs phase) = codes "the phase is " ++ decimal phase
@@ -109,10 +94,10 @@ reason_text (reason.AnswerIs answer) = codes "its answer is " ++ signed_decimal 
 reason_text (reason.NotCompleted cpu) = codes "CPU " ++ decimal cpu ++ codes " has not completed"
 reason_text (reason.AnswersDoNotGive answer) = codes "the answers do not give " ++ signed_decimal answer
 reason_text (reason.KeyToBe key count) = codes "key " ++ decimal key ++ codes " is to be " ++ decimal count
-reason_text (reason.SiteToBe site jumps) = codes "site " ++ decimal site ++ codes " is to be " ++ site_name jumps
+reason_text (reason.SiteToBe site jumps) = codes "site " ++ decimal site ++ codes " is to be " ++ site_text jumps
 reason_text reason.PatchOver = codes "the patch is over"
-reason_text (reason.KeyIs key on) = codes "key " ++ decimal key ++ codes " is " ++ switch_name on
-reason_text (reason.SiteIs site jumps) = codes "site " ++ decimal site ++ codes " is " ++ site_name jumps
+reason_text (reason.KeyIs key on) = codes "key " ++ decimal key ++ codes " is " ++ switch_text on
+reason_text (reason.SiteIs site jumps) = codes "site " ++ decimal site ++ codes " is " ++ site_text jumps
 reason_text (reason.CountIs key count) = codes "the count of key " ++ decimal key ++ codes " is " ++ decimal count
 
 -- the line of an event that no run has
@@ -153,15 +138,11 @@ queue_text s cpu =
     else codes "queue " ++ decimal cpu ++ codes " " ++ decimal (queue_length s cpu) ++
     why_text s.setting.without.interrupts (cpu_at s cpu).accepted (cpu_at s cpu).pending (owed_by s cpu) ++ 10 ∷ []
 
--- a mask as a CPU list, `-` where it is empty
-abbrev pub mask_text : ℕ → List ℕ
-mask_text mask = if mask == 0 then codes "-" else list_text mask
-
 -- a stop that is open: its phase, and those for whom it waits
 abbrev pub open_text : ℕ → Stop → List ℕ
 open_text source stop =
     if stop.is_open then
-    codes "stop " ++ decimal source ++ codes " " ++ kind_name stop.task.kind ++ codes " " ++ decimal stop.phase ++
+    codes "stop " ++ decimal source ++ codes " " ++ kind_text stop.task.kind ++ codes " " ++ decimal stop.phase ++
     codes " " ++ mask_text (waiting stop) ++ 10 ∷ []
     else codes ""
 

@@ -3,11 +3,11 @@
 ghost use Rattle.std.specs.Prelude.{◌≡◌, ◌+◌, ◌≤◌, ◌<◌, ◌^◌, length, IfOk, IfSome};
 ghost use Rattle.smp_script.specs.LineOf.{line_of};
 ghost use Rattle.smp_script.specs.Lines.{lines_of};
-ghost use Rattle.trace_judge.specs.Judged.{event_on, halted, is_comment, judged, line_goes, told_goes, used_after, Judges, Lines, Reads};
+ghost use Rattle.trace_judge.specs.Judged.{early_end, event_on, is_comment, judged, line_goes, told_goes, used_after, Judges, Lines, Reads};
 
-use crate::halted::Halted;
+use crate::cursor::Cursor;
+use crate::early_end::EarlyEnd;
 use crate::reading::read_event;
-use crate::spot::Spot;
 use smp_mask::Cause;
 use smp_script::line::{Line, fields, next_line};
 use std::alloc::Allocator;
@@ -24,17 +24,17 @@ pub const MOST_TRACE_BYTES: u32 = 16_777_216;
 
 /// How many bytes are used up to the end of a line, or what is wrong with it as a line.
 #[tactic(auto, unfolding(crate::specs::Judged::used_after))]
-pub(crate) fn used_after(number: u32, used: u32, line: &Line<'_>) -> Result<u32, Halted>
+pub(crate) fn used_after(number: u32, used: u32, line: &Line<'_>) -> Result<u32, EarlyEnd>
     requires { used ≤ 16777216 }
     ensures used { result ≡ used_after number used (line_of line.now) }
     ensures within { IfOk result (λ more. (more ≤ 16777216) × (number ≤ 1000000) × (length line.now.text.now ≤ 1024)) }
 {
     let size = line.text.len().min(2000) as u32 + if line.is_ended { 1 } else { 0 };
     if number > MOST_LINES || size > MOST_LINE_BYTES || used + size > MOST_TRACE_BYTES {
-        return Err(Halted::Fault(number, Cause::TooLong));
+        return Err(EarlyEnd::Fault(number, Cause::TooLong));
     }
     if !line.is_ended {
-        return Err(Halted::Fault(number, Cause::Cut));
+        return Err(EarlyEnd::Fault(number, Cause::Cut));
     }
     Ok(used + size)
 }
@@ -56,7 +56,7 @@ fn event_on<A: Allocator>(
     setting: &Setting,
     number: u32,
     text: &[u8],
-) -> Result<Option<(u32, Event)>, Halted>
+) -> Result<Option<(u32, Event)>, EarlyEnd>
     requires { length text.now < 2 ^ 32 }
     ensures value { Reads result (event_on setting.now number text.now) }
     ensures below { IfOk result (λ told. IfSome told (λ p. p.0 < 32)) }
@@ -65,21 +65,21 @@ fn event_on<A: Allocator>(
         return Ok(None);
     }
     let Ok(fields) = fields(alloc, text) else {
-        return Err(Halted::NoMemory);
+        return Err(EarlyEnd::NoMemory);
     };
     match read_event(setting, fields.as_slice()) {
         Ok(event) => Ok(Some(event)),
-        Err(cause) => Err(Halted::Fault(number, cause)),
+        Err(cause) => Err(EarlyEnd::Fault(number, cause)),
     }
 }
 
 /// Why a line is the end of a trace, where its event was not made.
-fn halted(number: u32, cpu: u32, event: Event, halt: Halt) -> Halted
-    ensures { result ≡ halted number cpu event halt }
+fn early_end(number: u32, cpu: u32, event: Event, halt: Halt) -> EarlyEnd
+    ensures { result ≡ early_end number cpu event halt }
 {
     match halt {
-        Halt::Broken(reason) => Halted::Broken(number, cpu, event, reason),
-        Halt::NoMemory => Halted::NoMemory,
+        Halt::Broken(reason) => EarlyEnd::Broken(number, cpu, event, reason),
+        Halt::NoMemory => EarlyEnd::NoMemory,
     }
 }
 
@@ -91,7 +91,7 @@ fn told<A: Allocator + Copy>(
     number: u32,
     cpu: u32,
     event: Event,
-) -> Result<(), Halted>
+) -> Result<(), EarlyEnd>
     requires { cpu < 32 }
     ensures { Lines result state.new (told_goes number cpu event state.old) }
 {
@@ -99,7 +99,7 @@ fn told<A: Allocator + Copy>(
     let made = state.event(alloc, cpu, event);
     match made {
         Ok(()) => Ok(()),
-        Err(halt) => Err(halted(number, cpu, told, halt)),
+        Err(halt) => Err(early_end(number, cpu, told, halt)),
     }
 }
 
@@ -111,7 +111,7 @@ fn line<A: Allocator + Copy>(
     state: &mut State<A>,
     told_before: (u32, u32),
     text: &[u8],
-) -> Result<u32, Halted>
+) -> Result<u32, EarlyEnd>
     requires short { length text.now < 2 ^ 32 }
     requires few { told_before.1 ≤ told_before.0 }
     requires number { told_before.0 ≤ 1000000 }
@@ -132,16 +132,16 @@ pub(crate) fn lines<A: Allocator + Copy>(
     alloc: A,
     setting: &Setting,
     state: &mut State<A>,
-    spot: Spot<'_>,
-) -> Result<u32, Halted>
-    requires first { spot.number ≤ 5 }
-    requires before { spot.used ≤ 16777216 }
-    ensures { Judges result state.new (judged setting.now spot.entry.number spot.entry.used 0 (lines_of spot.entry.rest.now) state.old) }
+    cursor: Cursor<'_>,
+) -> Result<u32, EarlyEnd>
+    requires first { cursor.number ≤ 5 }
+    requires before { cursor.used ≤ 16777216 }
+    ensures { Judges result state.new (judged setting.now cursor.entry.number cursor.entry.used 0 (lines_of cursor.entry.rest.now) state.old) }
 {
-    let mut number = spot.number;
-    let mut used = spot.used;
+    let mut number = cursor.number;
+    let mut used = cursor.used;
     let mut events = 0;
-    let mut rest = spot.rest;
+    let mut rest = cursor.rest;
     while let Some(next) = next_line(rest) {
         match used_after(number, used, &next) {
             Ok(more) => used = more,

@@ -4,15 +4,15 @@ ghost use Rattle.std.specs.Prelude.{◌≡◌, ◌+◌, ◌≤◌, map, length, 
 ghost use Rattle.smp_script.specs.Commands.{are_whole};
 ghost use Rattle.smp_script.specs.Labels.{whole_labels};
 ghost use Rattle.smp_script.specs.Lines.{AreShort, lines_of};
-ghost use Rattle.trace_judge.specs.Head.{all_told, groups_of, halted_of, head_of, is_labels, is_left_out, is_next};
+ghost use Rattle.trace_judge.specs.Head.{all_told, early_end_of, groups_of, head_of, is_labels, is_left_out, is_next};
 ghost use Rattle.trace_judge.specs.Head.{is_title, labels_at, needed, online_at, past, some_groups, titled, whole_groups};
 ghost use Rattle.trace_judge.specs.Head.{without_at, words_of, Sees};
 ghost use Rattle.trace_judge.specs.Judged.{at_line, Reads};
-ghost use Rattle.trace_judge.specs.SpotOf.{head_value, spot_of};
+ghost use Rattle.trace_judge.specs.HeadView.{cursor_of, head_value};
 
 use crate::body::used_after;
-use crate::halted::Halted;
-use crate::spot::Spot;
+use crate::cursor::Cursor;
+use crate::early_end::EarlyEnd;
 use smp_labels::{LabelMap, LabelWords};
 use smp_mask::{Cause, CpuMask, SmpError};
 use smp_script::directive::are_all_whole;
@@ -26,26 +26,26 @@ use trace_model::{Setting, Without};
 pub struct Head<'a> {
     pub setting: Setting,
     pub words: LabelWords,
-    pub spot: Spot<'a>,
+    pub cursor: Cursor<'a>,
 }
 
 /// The line that has to be next.
 #[tactic(auto, unfolding(crate::specs::Head::needed))]
-fn needed(spot: Spot<'_>) -> Result<(&[u8], Spot<'_>), Halted>
-    requires number { spot.number ≤ 2 }
-    requires used { spot.used ≤ 16777216 }
-    ensures value { Sees (λ p. (p.0.now, spot_of p.1)) result (needed (spot_of spot.entry)) }
+fn needed(cursor: Cursor<'_>) -> Result<(&[u8], Cursor<'_>), EarlyEnd>
+    requires number { cursor.number ≤ 2 }
+    requires used { cursor.used ≤ 16777216 }
+    ensures value { Sees (λ p. (p.0.now, cursor_of p.1)) result (needed (cursor_of cursor.entry)) }
     ensures short { IfOk result (λ p. length p.0.now ≤ 1024) }
-    ensures within { IfOk result (λ p. (p.1.used ≤ 16777216) × (p.1.number ≡ spot.entry.number + 1)) }
+    ensures within { IfOk result (λ p. (p.1.used ≤ 16777216) × (p.1.number ≡ cursor.entry.number + 1)) }
 {
-    let Some(line) = next_line(spot.rest) else {
-        return Err(Halted::Fault(spot.number, Cause::Cut));
+    let Some(line) = next_line(cursor.rest) else {
+        return Err(EarlyEnd::Fault(cursor.number, Cause::Cut));
     };
-    let used = used_after(spot.number, spot.used, &line)?;
+    let used = used_after(cursor.number, cursor.used, &line)?;
     Ok((
         line.text,
-        Spot {
-            number: spot.number + 1,
+        Cursor {
+            number: cursor.number + 1,
             used,
             rest: line.rest,
         },
@@ -66,40 +66,40 @@ fn is_title(fields: &[&[u8]]) -> bool
 
 /// Line 1 is `smp 2 trace`.
 #[tactic(auto, unfolding(crate::specs::Head::titled))]
-fn titled<A: Allocator>(alloc: A, text: &[u8]) -> Result<Spot<'_>, Halted>
-    ensures value { Sees (λ s. spot_of s) result (titled (lines_of text.now)) }
+fn titled<A: Allocator>(alloc: A, text: &[u8]) -> Result<Cursor<'_>, EarlyEnd>
+    ensures value { Sees (λ s. cursor_of s) result (titled (lines_of text.now)) }
     ensures within { IfOk result (λ s. (s.used ≤ 16777216) × (s.number ≡ 2)) }
 {
-    let first = Spot {
+    let first = Cursor {
         number: 1,
         used: 0,
         rest: text,
     };
     let (title, second) = needed(first)?;
     let Ok(words) = fields(alloc, title) else {
-        return Err(Halted::NoMemory);
+        return Err(EarlyEnd::NoMemory);
     };
     if !is_title(words.as_slice()) {
-        return Err(Halted::Fault(1, Cause::Word));
+        return Err(EarlyEnd::Fault(1, Cause::Word));
     }
     Ok(second)
 }
 
 /// Line 2 is `cpus NR MASK`: the CPUs that are online.
 #[tactic(auto, unfolding(crate::specs::Head::online_at))]
-fn online_at<A: Allocator>(alloc: A, second: Spot<'_>) -> Result<(CpuMask, Spot<'_>), Halted>
+fn online_at<A: Allocator>(alloc: A, second: Cursor<'_>) -> Result<(CpuMask, Cursor<'_>), EarlyEnd>
     requires number { second.number ≡ 2 }
     requires used { second.used ≤ 16777216 }
-    ensures value { Sees (λ p. (p.0, spot_of p.1)) result (online_at (spot_of second.entry)) }
+    ensures value { Sees (λ p. (p.0, cursor_of p.1)) result (online_at (cursor_of second.entry)) }
     ensures within { IfOk result (λ p. (p.1.used ≤ 16777216) × (p.1.number ≡ 3)) }
 {
     let (line, third) = needed(second)?;
     let Ok(words) = fields(alloc, line) else {
-        return Err(Halted::NoMemory);
+        return Err(EarlyEnd::NoMemory);
     };
     match read_whole_cpus(32, words.as_slice()) {
         Ok((_, online)) => Ok((online, third)),
-        Err(cause) => Err(Halted::Fault(2, cause)),
+        Err(cause) => Err(EarlyEnd::Fault(2, cause)),
     }
 }
 
@@ -114,32 +114,35 @@ fn is_labels(fields: &[&[u8]]) -> bool
 }
 
 /// A fault of the reader of scripts, as one of a trace.
-fn halted_of(error: SmpError) -> Halted
-    ensures { result ≡ halted_of error }
+fn early_end_of(error: SmpError) -> EarlyEnd
+    ensures { result ≡ early_end_of error }
 {
     match error {
-        SmpError::BadScript { line, cause } => Halted::Fault(line, cause),
-        _ => Halted::NoMemory,
+        SmpError::BadScript { line, cause } => EarlyEnd::Fault(line, cause),
+        _ => EarlyEnd::NoMemory,
     }
 }
 
 /// The labels of line 3.
 #[tactic(auto, using(crate::proofs::Faulted::sees_ok, crate::proofs::Faulted::sees_err))]
-fn labels_of<A: Allocator>(alloc: A, fields: &[&[u8]]) -> Result<LabelMap, Halted>
+fn labels_of<A: Allocator>(alloc: A, fields: &[&[u8]]) -> Result<LabelMap, EarlyEnd>
     ensures { Sees (λ m. m) result (at_line 3 (whole_labels (map (λ f. f.now) fields.now))) }
 {
     match read_labels_line(alloc, fields) {
         Ok(labels) => Ok(labels),
-        Err(error) => Err(halted_of(error)),
+        Err(error) => Err(early_end_of(error)),
     }
 }
 
 /// The labels, where line 3 has some.
 #[tactic(auto, unfolding(crate::specs::Head::labels_at))]
-fn labels_at<A: Allocator + Copy>(alloc: A, third: Spot<'_>) -> Result<(LabelMap, Spot<'_>), Halted>
+fn labels_at<A: Allocator + Copy>(
+    alloc: A,
+    third: Cursor<'_>,
+) -> Result<(LabelMap, Cursor<'_>), EarlyEnd>
     requires number { third.number ≡ 3 }
     requires used { third.used ≤ 16777216 }
-    ensures value { Sees (λ p. (p.0, spot_of p.1)) result (labels_at (spot_of third.entry)) }
+    ensures value { Sees (λ p. (p.0, cursor_of p.1)) result (labels_at (cursor_of third.entry)) }
     ensures within { IfOk result (λ p. (p.1.used ≤ 16777216) × (p.1.number ≤ 4)) }
 {
     let Some(line) = next_line(third.rest) else {
@@ -147,13 +150,13 @@ fn labels_at<A: Allocator + Copy>(alloc: A, third: Spot<'_>) -> Result<(LabelMap
     };
     let used = used_after(third.number, third.used, &line)?;
     let Ok(words) = fields(alloc, line.text) else {
-        return Err(Halted::NoMemory);
+        return Err(EarlyEnd::NoMemory);
     };
     if !is_labels(words.as_slice()) {
         return Ok((LabelMap::empty(), third));
     }
     let labels = labels_of(alloc, words.as_slice())?;
-    let behind = Spot {
+    let behind = Cursor {
         number: third.number + 1,
         used,
         rest: line.rest,
@@ -252,35 +255,38 @@ fn all_told() -> Without
 
 /// What is left out, where the next line says so.
 #[tactic(auto, unfolding(crate::specs::Head::without_at))]
-fn without_at<A: Allocator + Copy>(alloc: A, spot: Spot<'_>) -> Result<(Without, Spot<'_>), Halted>
-    requires number { spot.number ≤ 4 }
-    requires used { spot.used ≤ 16777216 }
-    ensures value { Sees (λ p. (p.0, spot_of p.1)) result (without_at (spot_of spot.entry)) }
+fn without_at<A: Allocator + Copy>(
+    alloc: A,
+    cursor: Cursor<'_>,
+) -> Result<(Without, Cursor<'_>), EarlyEnd>
+    requires number { cursor.number ≤ 4 }
+    requires used { cursor.used ≤ 16777216 }
+    ensures value { Sees (λ p. (p.0, cursor_of p.1)) result (without_at (cursor_of cursor.entry)) }
     ensures within { IfOk result (λ p. (p.1.used ≤ 16777216) × (p.1.number ≤ 5)) }
 {
-    let Some(line) = next_line(spot.rest) else {
-        return Ok((all_told(), spot));
+    let Some(line) = next_line(cursor.rest) else {
+        return Ok((all_told(), cursor));
     };
-    let used = used_after(spot.number, spot.used, &line)?;
+    let used = used_after(cursor.number, cursor.used, &line)?;
     let Ok(words) = fields(alloc, line.text) else {
-        return Err(Halted::NoMemory);
+        return Err(EarlyEnd::NoMemory);
     };
     let [word, names @ ..] = words.as_slice() else {
-        return Ok((all_told(), spot));
+        return Ok((all_told(), cursor));
     };
     if !is_word(word, b"without") {
-        return Ok((all_told(), spot));
+        return Ok((all_told(), cursor));
     }
     match whole_groups(names) {
         Ok(without) => {
-            let behind = Spot {
-                number: spot.number + 1,
+            let behind = Cursor {
+                number: cursor.number + 1,
                 used,
                 rest: line.rest,
             };
             Ok((without, behind))
         }
-        Err(cause) => Err(Halted::Fault(spot.number, cause)),
+        Err(cause) => Err(EarlyEnd::Fault(cursor.number, cause)),
     }
 }
 
@@ -294,20 +300,20 @@ fn words_of(labels: &LabelMap) -> LabelWords
 
 /// The head of a trace.
 #[tactic(auto, unfolding(crate::specs::Head::head_of))]
-pub(crate) fn read_head<A: Allocator + Copy>(alloc: A, text: &[u8]) -> Result<Head<'_>, Halted>
+pub(crate) fn read_head<A: Allocator + Copy>(alloc: A, text: &[u8]) -> Result<Head<'_>, EarlyEnd>
     ensures value { Sees (λ h. head_value h) result (head_of (lines_of text.now)) }
-    ensures within { IfOk result (λ h. (h.spot.used ≤ 16777216) × (h.spot.number ≤ 5)) }
+    ensures within { IfOk result (λ h. (h.cursor.used ≤ 16777216) × (h.cursor.number ≤ 5)) }
 {
     let second = titled(alloc, text)?;
     let (online, third) = match online_at(alloc, second) {
         Ok(found) => found,
         Err(why) => return Err(why),
     };
-    let (labels, spot) = match labels_at(alloc, third) {
+    let (labels, cursor) = match labels_at(alloc, third) {
         Ok(found) => found,
         Err(why) => return Err(why),
     };
-    let (without, spot) = match without_at(alloc, spot) {
+    let (without, cursor) = match without_at(alloc, cursor) {
         Ok(found) => found,
         Err(why) => return Err(why),
     };
@@ -319,6 +325,6 @@ pub(crate) fn read_head<A: Allocator + Copy>(alloc: A, text: &[u8]) -> Result<He
             without,
         },
         words: words_of(&labels),
-        spot,
+        cursor,
     })
 }

@@ -2,23 +2,23 @@
 //! which law it breaks.
 //!
 //! - `trace`: A trace from a reader, and its verdict to a writer.
-//! - `verdict`: The verdict on a text; `text`, `words`: what is printed of it.
-//! - `head`, `spot`: The head of a trace, and where it is read to.
+//! - `verdict`: The verdict on a text; `text`, `phrase`: what is printed of it.
+//! - `head`, `cursor`: The head of a trace, and where it is read to.
 //! - `body`, `reading`: The lines behind it, and the event that each tells.
 //! - `laws`: What the verdict means.
-//! - `halted`: Why a trace was not judged to its end.
+//! - `early_end`: Why a trace was not judged to its end.
 #![tactic(auto)]
 
 pub mod body;
-pub mod halted;
+mod cursor;
+pub mod early_end;
 mod head;
 pub mod laws;
+mod phrase;
 mod reading;
-mod spot;
 pub mod text;
 pub mod trace;
 pub mod verdict;
-mod words;
 
 pub use trace::{Ruling, judge_trace};
 pub use verdict::{Verdict, judge};

@@ -2,11 +2,11 @@
 
 ghost use Rattle.std.specs.Prelude.{◌≡◌, ◌<◌, ◌++◌, OnOk, string_bytes};
 ghost use Rattle.trace_judge.specs.Text.{broken_text, call_name, event_name, label_name, lawful_text, left_text};
-ghost use Rattle.trace_judge.specs.Text.{mask_text, open_text, owed_text, queue_text, reason_text, stop_name, stop_text};
+ghost use Rattle.trace_judge.specs.Text.{open_text, owed_text, queue_text, reason_text, stop_name, stop_text};
 ghost use Rattle.trace_judge.specs.Text.{tallies_of, tally_text, texts_below, why_text};
 
-use crate::words::{kind_name, words_of, write_words};
-use smp_mask::CpuMask;
+use crate::phrase::{phrase_of, write_phrase};
+use smp_script::spelling::{kind_name, write_mask};
 use std::alloc::{AllocError, Allocator};
 use trace_model::{CallEvent, Event, LabelEvent, Reason, State, Stop, StopEvent};
 
@@ -74,7 +74,7 @@ fn event_name(event: Event) -> &'static str
 fn write_reason<A: Allocator>(out: &mut String<A>, why: Reason) -> Result<(), AllocError>
     ensures { OnOk result (string_bytes out.new ≡ string_bytes out.old ++ reason_text why) }
 {
-    write_words(out, words_of(why))
+    write_phrase(out, phrase_of(why))
 }
 
 /// The line of an event that no run has.
@@ -213,16 +213,6 @@ fn write_queues<A: Allocator, B: Allocator + Copy>(
         write_queue(out, state, cpu)?;
     }
     Ok(())
-}
-
-/// A mask as a CPU list, `-` where it is empty.
-fn write_mask<A: Allocator>(out: &mut String<A>, mask: CpuMask) -> Result<(), AllocError>
-    ensures { OnOk result (string_bytes out.new ≡ string_bytes out.old ++ mask_text mask) }
-{
-    if mask.bits() == 0 {
-        return write!(out, "-");
-    }
-    write!(out, "{mask}")
 }
 
 /// A stop that is open.

@@ -5,7 +5,7 @@ ghost use Rattle.trace_judge.specs.Head.{Sees};
 ghost use Rattle.trace_judge.specs.Verdict.{verdict_of, verdict_text, Answers};
 
 use crate::body::lines;
-use crate::halted::Halted;
+use crate::early_end::EarlyEnd;
 use crate::head::read_head;
 use crate::text::{write_broken, write_lawful};
 use smp_mask::SmpError;
@@ -23,7 +23,7 @@ pub enum Verdict<A: Allocator> {
 
 /// How many events a trace has, and the state at its end.
 #[tactic(auto, unfolding(crate::specs::Verdict::verdict_of))]
-fn judge_lines<A: Allocator + Copy>(alloc: A, text: &[u8]) -> Result<(u32, State<A>), Halted>
+fn judge_lines<A: Allocator + Copy>(alloc: A, text: &[u8]) -> Result<(u32, State<A>), EarlyEnd>
     ensures { Sees (λ v. v) result (verdict_of text.now) }
 {
     let head = match read_head(alloc, text) {
@@ -31,9 +31,9 @@ fn judge_lines<A: Allocator + Copy>(alloc: A, text: &[u8]) -> Result<(u32, State
         Err(why) => return Err(why),
     };
     let Ok(mut state) = State::open_all(alloc, head.setting, head.words) else {
-        return Err(Halted::NoMemory);
+        return Err(EarlyEnd::NoMemory);
     };
-    let events = lines(alloc, &head.setting, &mut state, head.spot)?;
+    let events = lines(alloc, &head.setting, &mut state, head.cursor)?;
     Ok((events, state))
 }
 
@@ -46,9 +46,9 @@ pub fn judge<A: Allocator + Copy>(alloc: A, text: &[u8]) -> Result<Verdict<A>, S
 {
     match judge_lines(alloc, text) {
         Ok((events, state)) => Ok(Verdict::Lawful(events, state)),
-        Err(Halted::Broken(line, cpu, event, why)) => Ok(Verdict::Broken(line, cpu, event, why)),
-        Err(Halted::Fault(line, cause)) => Err(SmpError::BadScript { line, cause }),
-        Err(Halted::NoMemory) => Err(SmpError::NoMemory),
+        Err(EarlyEnd::Broken(line, cpu, event, why)) => Ok(Verdict::Broken(line, cpu, event, why)),
+        Err(EarlyEnd::Fault(line, cause)) => Err(SmpError::BadScript { line, cause }),
+        Err(EarlyEnd::NoMemory) => Err(SmpError::NoMemory),
     }
 }
 

@@ -79,9 +79,9 @@ pub use Rattle.trace_model.specs.declared.stop.Stop.{Stop}
 pub use Rattle.trace_model.specs.declared.stop.Task.{Task}
 pub use Rattle.trace_model.specs.declared.without.Setting.{Setting}
 unfoldable pub use Rattle.trace_judge.specs.Head.{head_of, labels_at, online_at, titled, without_at, words_of}
-pub use Rattle.trace_judge.specs.Head.{SpotValue, head_with, is_labels, no_labels}
+pub use Rattle.trace_judge.specs.Head.{CursorValue, head_with, is_labels, no_labels}
 unfoldable pub use Rattle.trace_judge.specs.Judged.{used_after}
-pub use Rattle.trace_judge.specs.declared.halted.Halted.{Halted}
+pub use Rattle.trace_judge.specs.declared.early_end.EarlyEnd.{EarlyEnd}
 unfoldable pub use Rattle.trace_laws.specs.CallEvents.{begins, ends, notes, queue_from, queued, taken_from}
 pub use Rattle.trace_laws.specs.CallEvents.{begin_of, id_of, notes_now, only_if, queue_next, queued_now, taken_now, takes_now}
 pub use Rattle.trace_laws.specs.CallHistory.{CallsShown, Shows, held, is_from, is_to, ran_at, running, waiting}

@@ -97,6 +97,7 @@ pub use Rattle.smp_core.proofs.Starts.{may_start, start_below, started_shown}
 pub use Rattle.smp_core.proofs.Whole.{start_whole, step_whole}
 pub use Rattle.smp_core.specs.Machine.{call_step, found_at, seen_at, step_at, stepped, stop_step, stops_stepped}
 pub use Rattle.smp_core.specs.New.{new_core}
+pub use Rattle.smp_core.specs.Joined.{HandlesWithOn}
 pub use Rattle.smp_core.specs.Offline.{AimsOnline}
 pub use Rattle.smp_core.specs.Replay.{Replay, after_seen, replay_from, replay_on, start_turn, step_turn}
 pub use Rattle.smp_core.specs.Runs.{IsReplay, replay_made}
@@ -110,7 +111,8 @@ pub use Rattle.smp_script.proofs.Written.LabelWriting.{labels_fields}
 pub use Rattle.smp_script.specs.Fields.{mask_of, or_mask, stays_below}
 pub use Rattle.smp_script.specs.Script.{are_online}
 unfoldable pub use Rattle.smp_script.specs.Spelling.{line_before}
-pub use Rattle.smp_script.specs.Spelling.{IsAnswer, LabelsFit, is_field, items_text}
+pub use Rattle.smp_script.specs.Printed.{site_text}
+pub use Rattle.smp_script.specs.Spelling.{IsAnswer, LabelsFit, class_text, is_field, items_text, kind_text, mask_text, switch_text, way_text}
 pub use Rattle.smp_script.specs.Versions.{limit_of}
 pub use Rattle.smp_script.specs.declared.version.Version.{Version}
 pub use Rattle.smp_script.specs.declared.version.Version.TheVariants.{One, Two}
@@ -127,16 +129,16 @@ pub use Rattle.trace_model.specs.declared.without.Without.{Without}
 pub use Rattle.trace_judge.specs.Head.{all_told, setting_of}
 pub use Rattle.trace_events.specs.Past.{after, after_call_entry, after_draft, after_flags, after_on, after_other, after_slot, after_slot_load, after_store}
 pub use Rattle.trace_events.specs.Past.{fresh, id_of, is_new, past_at, phase_of}
-pub use Rattle.trace_events.specs.Text.{class_text, kind_text, line_text, site_text, switch_text, way_text}
-pub use Rattle.trace_events.specs.Told.{events_in, of_ack, of_arg, of_flags, of_gate, of_hand, of_head, of_intr, of_key, of_nudge, of_ran, of_result, of_roll}
-pub use Rattle.trace_events.specs.Told.{of_site, of_slot, of_state, of_todo, of_unlock, told_of, told_on, with_on}
+pub use Rattle.trace_events.specs.Text.{line_text}
+pub use Rattle.trace_events.specs.StepEvents.{events_in, of_ack, of_arg, of_flags, of_gate, of_hand, of_head, of_intr, of_key, of_nudge, of_ran, of_result}
+pub use Rattle.trace_events.specs.StepEvents.{of_roll, of_site, of_slot, of_state, of_todo, of_unlock, told_of, told_on, with_on}
 pub use Rattle.trace_events.specs.Traces.{all_fresh, events_of, events_of_step, kept, lines_text}
 pub use Rattle.trace_events.specs.declared.past.Draft.{Draft}
 pub use Rattle.trace_events.specs.declared.past.Past.{Past}
 pub use Rattle.trace_events.specs.declared.past.Post.{Post as Posted}
-pub use Rattle.trace_events.specs.declared.told.Told.{Told}
+pub use Rattle.trace_events.specs.declared.step_events.StepEvents.{StepEvents}
 pub use Rattle.trace_laws.specs.AcceptedReplays.{AreWordsOf, BeginsOfCpus, FitsCpus, call_events}
-pub use Rattle.trace_laws.specs.AgreeingCalls.{BegunIs, CallsOfCpu, Follows, GoesElsewhere, HandlesWithOn, KeepsPast, PostIs, PostIsAt, calls_in, calls_of}
+pub use Rattle.trace_laws.specs.AgreeingCalls.{BegunIs, CallsOfCpu, Follows, GoesElsewhere, KeepsPast, PostIs, PostIsAt, calls_in, calls_of}
 pub use Rattle.trace_laws.specs.AgreeingCalls.{current_of, nothing_left_out, place_of, told_call}
 pub use Rattle.trace_laws.specs.AgreeingPatches.{HasLeft, Leads, PartIs}
 pub use Rattle.trace_laws.specs.AgreeingStops.{AnswerIs, CpuIs, DraftIs, Drafts, FollowsStops, InsideIs, IsOfCpus, IsSized, MadeIs, MemberIs, OpenIs, PatchIs}

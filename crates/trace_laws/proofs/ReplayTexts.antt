@@ -6,7 +6,6 @@ pub mod ToldNumbers
 pub mod ToldEvents
 pub mod NewMachine
 pub mod FrontLines
-pub mod FieldNames
 pub mod Heads
 pub mod EventLines
 pub mod ReadBack

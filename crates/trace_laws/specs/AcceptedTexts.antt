@@ -13,7 +13,7 @@ pub record IsTraceOf (text : List ℕ) (count : ℕ) (t : StateValue) : Type 0 w
   pub head : HeadValue
   pub head_is : head_of (lines_of text) ≡ Ok head
   pub told : Told
-  pub told_is : told_by head.setting head.spot.number head.spot.used head.spot.lines ≡ Ok told
+  pub told_is : told_by head.setting head.cursor.number head.cursor.used head.cursor.lines ≡ Ok told
   pub count_is : length told.events ≡ count
   pub labels : AreLabels head.setting head.words
   pub trace : IsTrace head.setting head.words told.events t

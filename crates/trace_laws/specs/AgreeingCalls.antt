@@ -102,11 +102,6 @@ abbrev pub GoesElsewhere : Option Stage → ℕ → Type 0
 GoesElsewhere (Some (stage.Post q at)) me = q.to ≢ me
 GoesElsewhere _ me = Unit {0}
 
--- inside `handle` interrupts are on
-abbrev pub HandlesWithOn : Option Stage → Bool → Type 0
-HandlesWithOn (Some (stage.Handle at)) on = on ≡ true
-HandlesWithOn _ on = Unit {0}
-
 -- What each CPU has kept of its steps fits its place in its command.
 pub record KeepsPast (a : CallState) (control : ℕ → ControlValue) (pasts : List Past) : Type 0 where
   pub pasts_are : length pasts ≡ 32

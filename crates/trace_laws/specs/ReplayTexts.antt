@@ -104,7 +104,7 @@ pub record ReadsBack (text : List ℕ) (u : Setting) (words : LabelWords) (event
   pub setting_is : head.setting ≡ u
   pub words_are : head.words ≡ words
   pub told : Told
-  pub told_is : told_by head.setting head.spot.number head.spot.used head.spot.lines ≡ Ok told
+  pub told_is : told_by head.setting head.cursor.number head.cursor.used head.cursor.lines ≡ Ok told
   pub events_are : told.events ≡ events
 
 -- For each script, the trace of events whose numbers fit reads back as these events, within the limits of the judge.

@@ -1,5 +1,4 @@
 -- a replay
-pub mod Replays
 pub mod Shows
 -- what is shown of it
 pub mod Choice

@@ -1,25 +1,15 @@
 //! A replay in the trace-event format, which Perfetto and chrome://tracing read. An event lasts a microsecond.
 
-ghost use Rattle.std.specs.Prelude.{◌≡◌, Err, OnOk, true, false};
-ghost use Rattle.smp_script.specs.Watched.{inner_of, failed_of, flushed_of};
-ghost use Rattle.smp_mask.specs.declared.error.Side.TheVariants.{Read as ReadSide};
-ghost use Rattle.view.specs.Shows.{Shows};
-
 use crate::cell::cell;
 use crate::choice::Choice;
 use crate::frame::{column, last_column};
-use crate::show::{Replay, read_replay};
+use crate::show::Replay;
 use crate::spans_arrows::{Arrow, Drawn, Span, arrows, bands, commands};
 use crate::style_names::phase_name;
 use crate::svg::{lane_cpus, moments_of};
-use smp_mask::SmpError;
 use smp_script::line::parts;
-use smp_script::stream::write_text;
-use smp_script::{Outcome, Watched};
 use std::alloc::{AllocError, Allocator};
-use std::io::{Read, Write};
 use std::str::from_utf8;
-use trace_events::replay::ending;
 use trace_events::rows::{Row, What};
 
 // A text between quotes.
@@ -178,9 +168,9 @@ fn write_boxes<A: Allocator + Copy>(
     alloc: A,
     out: &mut String<A>,
     choice: &Choice,
-    replay: &Replay<A>,
+    replay: &Replay<'_, A>,
 ) -> Result<(), AllocError> {
-    let lines = parts(alloc, replay.text.as_slice(), b'\n')?;
+    let lines = parts(alloc, replay.text, b'\n')?;
     let moments = moments_of(alloc, &replay.script)?;
     let rows = replay.rows.as_slice();
     let boxes = commands(alloc, lines.as_slice(), moments.as_slice(), rows)?;
@@ -225,7 +215,7 @@ fn write_chosen<A: Allocator + Copy>(
     alloc: A,
     out: &mut String<A>,
     choice: &Choice,
-    replay: &Replay<A>,
+    replay: &Replay<'_, A>,
 ) -> Result<(), AllocError> {
     let rows = replay.rows.as_slice();
     let cpus = lane_cpus(alloc, choice, &replay.script, rows)?;
@@ -236,11 +226,11 @@ fn write_chosen<A: Allocator + Copy>(
     write_events(alloc, out, chosen.as_slice())
 }
 
-// What is chosen of a script's replay.
-fn json<A: Allocator + Copy>(
+/// What is chosen of a script's replay.
+pub(crate) fn json<A: Allocator + Copy>(
     alloc: A,
     choice: &Choice,
-    replay: &Replay<A>,
+    replay: &Replay<'_, A>,
 ) -> Result<String<A>, AllocError> {
     let mut out = String::new(alloc);
     out.push_str("{\"displayTimeUnit\":\"ns\",\"traceEvents\":[\n")?;
@@ -248,31 +238,4 @@ fn json<A: Allocator + Copy>(
     write_chosen(alloc, &mut out, choice, replay)?;
     out.push_str("\n]}\n")?;
     Ok(out)
-}
-
-/// Reads a script, and writes what is chosen of its replay in the trace-event format.
-///
-/// Refusals, in this order: `StreamFailed(Read)` where the reader failed, `BadScript` with the first fault where
-/// the script is not lawful, `NoMemory` where a growth was refused, `StreamFailed(Write)` where the writer failed. Only at
-/// the last has anything been written.
-pub fn show_json<A: Allocator + Copy, R: Read, W: Write>(
-    alloc: A,
-    choice: &Choice,
-    reader: &mut Watched<R>,
-    writer: &mut Watched<W>,
-) -> Result<Outcome, SmpError>
-    requires reads { failed_of reader.old ≡ false }
-    ensures order { failed_of reader.new ≡ true → result ≡ Err (SmpError.StreamFailed ReadSide) }
-    ensures shows { Shows (R.remaining (inner_of reader.old)) (R.remaining (inner_of reader.new))
-        (W.contents (inner_of writer.old)) (W.contents (inner_of writer.new)) (writer.new ≡ writer.old)
-        (failed_of reader.new) (failed_of writer.new) result }
-    ensures kept { OnOk result (failed_of writer.new ≡ failed_of writer.old) }
-    ensures flushed { OnOk result (flushed_of writer.new ≡ true) }
-{
-    let replay = read_replay(alloc, reader)?;
-    let Ok(told) = json(alloc, choice, &replay) else {
-        return Err(SmpError::NoMemory);
-    };
-    write_text(writer, told.as_bytes())?;
-    Ok(ending(replay.rows.as_slice()))
 }

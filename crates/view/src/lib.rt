@@ -1,7 +1,7 @@
 //! Shows a script: its replay with one column for each CPU, a picture of it, or what is wrong with a script that is not
 //! lawful.
 //!
-//! - `show`, `svg`, `json`: A script from a reader, and what is shown of it to a writer.
+//! - `show`: A script from a reader, and what is shown of it to a writer; `svg`, `json`: as a picture, and as trace events.
 //! - `choice`: Which events are shown.
 //! - `lanes`, `narrow_lanes`, `cell`, `pad`: A replay with one column for each CPU, or one mark.
 //! - `picture`, `areas`, `arrows`, `legend`, `element`: A replay as a picture.
@@ -42,6 +42,4 @@ mod templates;
 pub mod text_kind;
 
 pub use choice::{Choice, Mark};
-pub use json::show_json;
-pub use show::{explain_script, show_lanes};
-pub use svg::show_svg;
+pub use show::{explain_script, explained, show_json, show_lanes, show_svg};

@@ -1,26 +1,18 @@
-//! A script from a reader, and its picture to a writer.
+//! The picture of a script's replay.
 
-ghost use Rattle.std.specs.Prelude.{◌≡◌, Err, IfOk, OnOk, true, false};
-ghost use Rattle.smp_script.specs.Watched.{inner_of, failed_of, flushed_of};
-ghost use Rattle.smp_mask.specs.declared.error.Side.TheVariants.{Read as ReadSide};
+ghost use Rattle.std.specs.Prelude.{◌≡◌, IfOk};
 ghost use Rattle.smp_script.specs.Script.{first_line};
 ghost use Rattle.view.specs.Choice.{is_named, lanes_of};
 ghost use Rattle.trace_events.specs.Moments.{moments_of};
-ghost use Rattle.view.specs.Shows.{Shows};
 
 use crate::choice::Choice;
 use crate::lanes::{chosen_columns, is_column};
 use crate::picture::{Replayed, picture};
-use crate::show::{Replay, read_replay};
-use smp_mask::SmpError;
+use crate::show::Replay;
 use smp_script::line::parts;
 use smp_script::script::Script;
-use smp_script::stream::write_text;
-use smp_script::{Outcome, Watched};
 use std::alloc::{AllocError, Allocator};
-use std::io::{Read, Write};
 use trace_events::moments::{Moment, moments};
-use trace_events::replay::ending;
 use trace_events::rows::{Row, is_refused};
 
 // Whether a refused event names a CPU that is chosen, and is none of these.
@@ -60,14 +52,14 @@ pub fn moments_of<A: Allocator + Copy>(
     moments(alloc, first, script.directives.as_slice())
 }
 
-// The picture of a script's replay.
-fn draw<A: Allocator + Copy>(
+/// The picture of a script's replay.
+pub(crate) fn draw<A: Allocator + Copy>(
     alloc: A,
     choice: &Choice,
-    replay: &Replay<A>,
+    replay: &Replay<'_, A>,
 ) -> Result<String<A>, AllocError> {
     let rows = replay.rows.as_slice();
-    let lines = parts(alloc, replay.text.as_slice(), b'\n')?;
+    let lines = parts(alloc, replay.text, b'\n')?;
     let cpus = lane_cpus(alloc, choice, &replay.script, rows)?;
     let moments = moments_of(alloc, &replay.script)?;
     let replayed = Replayed {
@@ -76,31 +68,4 @@ fn draw<A: Allocator + Copy>(
         rows,
     };
     picture(alloc, choice, cpus.as_slice(), &replayed)
-}
-
-/// Reads a script, and writes a picture of what is chosen of its replay.
-///
-/// Refusals, in this order: `StreamFailed(Read)` where the reader failed, `BadScript` with the first fault where
-/// the script is not lawful, `NoMemory` where a growth was refused, `StreamFailed(Write)` where the writer failed. Only at
-/// the last has anything been written.
-pub fn show_svg<A: Allocator + Copy, R: Read, W: Write>(
-    alloc: A,
-    choice: &Choice,
-    reader: &mut Watched<R>,
-    writer: &mut Watched<W>,
-) -> Result<Outcome, SmpError>
-    requires reads { failed_of reader.old ≡ false }
-    ensures order { failed_of reader.new ≡ true → result ≡ Err (SmpError.StreamFailed ReadSide) }
-    ensures shows { Shows (R.remaining (inner_of reader.old)) (R.remaining (inner_of reader.new))
-        (W.contents (inner_of writer.old)) (W.contents (inner_of writer.new)) (writer.new ≡ writer.old)
-        (failed_of reader.new) (failed_of writer.new) result }
-    ensures kept { OnOk result (failed_of writer.new ≡ failed_of writer.old) }
-    ensures flushed { OnOk result (flushed_of writer.new ≡ true) }
-{
-    let replay = read_replay(alloc, reader)?;
-    let Ok(picture) = draw(alloc, choice, &replay) else {
-        return Err(SmpError::NoMemory);
-    };
-    write_text(writer, picture.as_bytes())?;
-    Ok(ending(replay.rows.as_slice()))
 }

@@ -43,6 +43,21 @@ impl<A: Allocator> Core<A> {
         let _nr = self.nr;
     }
 
+    ghost use Rattle.std.specs.Prelude.{◌≡◌, ◌≢◌, ℕ, true};
+    ghost use Rattle.smp_core.specs.Joined.{HandlesWithOn, IsInOneHalf};
+    ghost use Rattle.smp_words.specs.declared.word.Word.TheVariants.{Hand};
+
+    /// What joins the two halves, at any time. A CPU inside `handle` has its interrupts on, in whatever stops the core shows,
+    /// and so has one whose handling word is not 0. No CPU is inside a command of each half at once. It makes no step, and
+    /// does not wait.
+    pub fn joins_halves(&self)
+        ensures handles { (p : StopState) → StopShown p self.now.stops → (cpu : ℕ) → HandlesWithOn (control_of self.now.controls cpu).stage (p.now.irq cpu) }
+        ensures hand { (p : StopState) → StopShown p self.now.stops → (cpu : ℕ) → number_in self.now.words (Hand cpu) ≢ 0 → p.now.irq cpu ≡ true }
+        ensures in_one { (cpu : ℕ) → IsInOneHalf self.now.controls self.now.stops.controls cpu }
+    {
+        let _nr = self.nr;
+    }
+
     /// And a state of the stops that keeps all laws.
     pub fn shows_stops(&self)
         ensures { (p : StopState) × StopShown p self.now.stops }

@@ -10,15 +10,15 @@ use Rattle.smp_script.proofs.Spelled.ReadParts.{same_word}
 use Rattle.smp_script.proofs.Texts.Decimals.{decimal_lacks, is_field-decimal, number_in-decimal}
 
 -- words from a list are fields, and are read as what they stand for
-class_written : (c : Class) → (is_field (class_text c) ≡ true) × (class_of (class_text c) ≡ Ok c)
+pub class_written : (c : Class) → (is_field (class_text c) ≡ true) × (class_of (class_text c) ≡ Ok c)
 class_written Sync = (refl, refl)
 class_written Async = (refl, refl)
 
-kind_written : (k : Kind) → (is_field (kind_text k) ≡ true) × (kind_of (kind_text k) ≡ Ok k)
+pub kind_written : (k : Kind) → (is_field (kind_text k) ≡ true) × (kind_of (kind_text k) ≡ Ok k)
 kind_written OneKind = (refl, refl)
 kind_written _ = (refl, refl)
 
-way_written : (up : Bool) → (is_field (way_text up) ≡ true) × (way_of (way_text up) ≡ Ok up)
+pub way_written : (up : Bool) → (is_field (way_text up) ≡ true) × (way_of (way_text up) ≡ Ok up)
 way_written true = (refl, refl)
 way_written false = (refl, refl)
 
@@ -26,7 +26,7 @@ wait_written : (b : Bool) → (is_field (wait_text b) ≡ true) × (wait_of (wai
 wait_written true = (refl, refl)
 wait_written false = (refl, refl)
 
-switch_written : (b : Bool) → (is_field (switch_text b) ≡ true) × (switch_of (switch_text b) ≡ Ok b)
+pub switch_written : (b : Bool) → (is_field (switch_text b) ≡ true) × (switch_of (switch_text b) ≡ Ok b)
 switch_written true = (refl, refl)
 switch_written false = (refl, refl)
 

@@ -26,7 +26,7 @@ module _ (u : Setup) (p : Present) (at : Word → ℕ) (seat : ℕ → Seat) (h 
       (search (nobody, calls, arith))
       (λ _ kind. patch_of_kind work.kind kind is_work.kind)
     where
-      patch_of_kind : (k : KindOf) → k ≡ Patch → IsOfKind u work k → IsPatchWork u work
+      patch_of_kind : (k : KindOf) → k ≡ Patch → IsOfKind u work k → IsPatchWork u.online u.first u.keys work
       patch_of_kind k e is = search arith
 
       nobody : {x : Standing} → x ≡ Outside → is_inside x ≡ true → ⊥

@@ -81,7 +81,7 @@ pub moves : (u : Setup) (p : Present) (at at' : Word → ℕ) (seat : ℕ → Se
     Stands (moved p s stop' inside' irq' readings') me next → ((j : ℕ) → is_inside ((put p.stop s stop' j).standing me) ≡ true → inside' me ≡ Some j) →
     irq' me ≡ irq_of next → (u.online me ≡ true → irq_of next ≡ true → AllByRecursion (Agrees (labels_in at)) (readings' me)) →
     IsNoPatch (seat me) →
-    (stop'.is_open ≡ true → stop'.work.kind ≡ Patch → IsPatchWork u stop'.work) →
+    (stop'.is_open ≡ true → stop'.work.kind ≡ Patch → IsPatchWork u.online u.first u.keys stop'.work) →
     PresentShows u (moved p s stop' inside' irq' readings') at' (put seat me next)
 moves u p at at' seat s me stop' inside' irq' readings' next h slots same leaves save stands_ here off read mine works = record {
   slots = slots;
@@ -91,7 +91,7 @@ moves u p at at' seat s me stop' inside' irq' readings' next h slots same leaves
       (λ e of. ap inside' e ∙ here j (subst (λ c. is_inside ((put p.stop s stop' j).standing c) ≡ true) e of))
       (λ ne. home_kept p s me stop' inside' irq' readings' c (leaves c ne) (save.inside c ne) (λ j. h.homes j c) j);
   irq = put_all (λ c x. irq' c ≡ irq_of x) seat me next off (λ c ne. save.irq c ne ∙ h.irq c);
-  works = put_all (λ j x. x.is_open ≡ true → x.work.kind ≡ Patch → IsPatchWork u x.work) p.stop s stop' works (λ j ne. h.works j);
+  works = put_all (λ j x. x.is_open ≡ true → x.work.kind ≡ Patch → IsPatchWork u.online u.first u.keys x.work) p.stop s stop' works (λ j ne. h.works j);
   runner = runner_kept u.first p.patching seat me next mine h.runner;
   entries = subst (AreEntriesOf u.entries) (sym same) h.entries;
   labels = subst (LabelsShow p.patching) (sym same) h.labels;
@@ -103,14 +103,14 @@ pub source_moves : (u : Setup) (p : Present) (at at' : Word → ℕ) (seat : ℕ
     PresentShows u p at seat →
     ((j : ℕ) → SlotShows u.cpus (put p.stop s stop' j) (λ f. at' (Slot j f))) → labels_in at' ≡ labels_in at →
     ((c : ℕ) → LeavesTo c (p.stop s) stop') →
-    (stop'.is_open ≡ true → stop'.work.kind ≡ Patch → IsPatchWork u stop'.work) →
+    (stop'.is_open ≡ true → stop'.work.kind ≡ Patch → IsPatchWork u.online u.first u.keys stop'.work) →
     PresentShows u (moved p s stop' p.inside p.irq p.readings) at' seat
 source_moves u p at at' seat s stop' h slots same leaves works = record {
   slots = slots;
   stands = λ c. stands_kept p s s stop' p.inside p.irq p.readings c (leaves c) refl (seat c) (h.stands c);
   homes = λ j c. home_kept p s s stop' p.inside p.irq p.readings c (leaves c) refl (λ j. h.homes j c) j;
   irq = h.irq;
-  works = put_all (λ j x. x.is_open ≡ true → x.work.kind ≡ Patch → IsPatchWork u x.work) p.stop s stop' works (λ j ne. h.works j);
+  works = put_all (λ j x. x.is_open ≡ true → x.work.kind ≡ Patch → IsPatchWork u.online u.first u.keys x.work) p.stop s stop' works (λ j ne. h.works j);
   runner = h.runner;
   entries = subst (AreEntriesOf u.entries) (sym same) h.entries;
   labels = subst (LabelsShow p.patching) (sym same) h.labels;

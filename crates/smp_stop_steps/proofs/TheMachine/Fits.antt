@@ -4,8 +4,8 @@ use Rattle.std.proofs.Common.{arith, Option, Some, None, bit_and, eqb-true, eq-e
 use Rattle.std.proofs.lemmas.Nat.Bits.{bit_at-lt, bit_at_and, bit_at-pow_same, bit_at-pow_other}
 use Rattle.std.proofs.{Math.Pow.pow-lt, lemmas.Bool.ltb-true, lemmas.Bool.Decides.nat_tests}
 use Rattle.smp_mask.proofs.Sets.{has_above, has_and, same_members}
-use Rattle.smp_stop_steps.specs.{has, SmpError, cpus, Kind, One, Work, mask_weight, IsOfKind, IsPatchWork, fits_kind, fits_patch, fits_work, terms_of, unless}
-use Rattle.smp_stop_steps.specs.{Setup, is_one, StopsValue, first_below, setup_of, declared.start.Terms.Terms}
+use Rattle.smp_stop_steps.specs.{has, SmpError, cpus, Kind, One, Multi, Patch, Work, mask_weight, IsOfKind, IsPatchWork, fits_kind, fits_patch, terms_of}
+use Rattle.smp_stop_steps.specs.{unless, is_one, StopsValue, first_below, setup_of, declared.start.Terms.Terms}
 
 -- no error: the test has passed
 pub passed : (b : Bool) (e : SmpError) → unless b e ≡ None → b ≡ true
@@ -80,29 +80,20 @@ not_one k e = search arith
 pub is_one_kind : (k : Kind) → is_one k ≡ true → k ≡ One
 is_one_kind k e = search arith
 
-module _ (v : StopsValue) (cpu : ℕ) where
-  abbrev u : Setup
-  u = setup_of v.online v.labels
-
-  abbrev t : Terms
-  t = terms_of v cpu
-
-  -- a work that fits is one that begin takes
-  is_patch : (work : Work) → fits_patch t work ≡ true → IsPatchWork u work
-  is_patch work e = search (both, v.online, nat_lt, work.func, work.arg, is_same, work.mask, work.active, ltb-true, one_bit, v.labels.keys, arith)
-
-  pub is_kind : (work : Work) (k : Kind) → fits_kind t work k ≡ true → IsOfKind u work k
-  is_kind work k e = search (is_same, is_patch, arith)
+module _ (t : Terms) (work : Work) where
+  -- a patch that fits is one that begin takes
+  pub is_patch_work : fits_patch t work ≡ true → IsPatchWork (has t.online) (first_below t.online cpus) t.keys work
+  is_patch_work e = search (both, t.online, nat_lt, work.func, work.arg, is_same, work.mask, work.active, ltb-true, one_bit, t.keys, arith)
 
   -- and the other way round
-  patch_fits : (work : Work) → IsPatchWork u work → fits_patch t work ≡ true
-  patch_fits work is = let first = first_below v.online cpus in
-      let mask : work.mask ≡ v.online = same_members work.mask v.online is.all in
+  pub patch_fits : IsPatchWork (has t.online) (first_below t.online cpus) t.keys work → fits_patch t work ≡ true
+  patch_fits is = let first = first_below t.online cpus in
+      let mask : work.mask ≡ t.online = same_members work.mask t.online is.all in
       let active : work.active ≡ 2 ^ first = same_members work.active (2 ^ first) (λ c. is.first c ∙ sym (one_bit first c)) in
       search (of_both, nat_lt, eq-eqb, lt-ltb, arith)
 
-  kind_fits : (work : Work) (k : Kind) → IsOfKind u work k → fits_kind t work k ≡ true
-  kind_fits work k is = search (eq-eqb, patch_fits, arith)
-
-  pub work_fits : (work : Work) → mask_weight cpus work.mask ≢ 0 → IsOfKind u work work.kind → fits_work t work ≡ true
-  work_fits work some is = search (of_both, ne_eqb, kind_fits, work.kind, arith)
+-- a work that fits is one that begin takes
+pub is_kind : (v : StopsValue) (cpu : ℕ) (work : Work) (k : Kind) → fits_kind (terms_of v cpu) work k ≡ true → IsOfKind (setup_of v.online v.labels) work k
+is_kind v cpu work One e = is_same (mask_weight cpus work.mask) 1 e
+is_kind v cpu work Multi e = tt
+is_kind v cpu work Patch e = is_patch_work (terms_of v cpu) work e

@@ -1,12 +1,14 @@
 -- Each refusal of a command of the stop half is that of the state of the stops.
-use Rattle.std.proofs.Common.{◌≡◌, ◌≢◌, ℕ, ◌+◌, ◌<◌, Bool, true, false, ◌&&◌, nat_lt, lt-ltb, sym, subst, ap, ◌∙◌, arith, Option, Some, None, bit_and, eq-eqb}
+use Rattle.std.proofs.Common.{◌≡◌, ◌≢◌, ℕ, ◌+◌, ◌<◌, Bool, true, false, ◌&&◌, nat_lt, lt-ltb, sym, subst, ap, ◌∙◌, arith, Option, Some, None, eq-eqb}
 use Rattle.std.proofs.Common.{ne_eqb}
 use Rattle.std.proofs.{lemmas.Bool.ltb-true, lemmas.List.length-map}
-use Rattle.smp_stop_steps.specs.{SmpError, cpus, Command, Kind, One, Work, Gate, BeginRefuses, IsRefusal, MayAdvance, MayEnter, MayFinish, MayRun}
-use Rattle.smp_stop_steps.specs.{RefusesByState, Refuses, Stands, gate_word, OwnsIf, SitsAt, SitsAtRest, SourceSits, StopControlValue, begin_refusal, has_slot}
+use Rattle.smp_stop_steps.specs.{SmpError, cpus, Command, Kind, One, Work, Gate, Members.BeginRefuses, IsRefusal, MayAdvance, MayEnter, MayFinish, MayRun}
+use Rattle.smp_words.specs.Commands.{Refuses}
+use Rattle.smp_stop_steps.specs.{RefusesByState, Stands, gate_word, OwnsIf, SitsAt, SitsAtRest, SourceSits, StopControlValue, begin_refusal, has_slot}
 use Rattle.smp_stop_steps.specs.{is_free, may_advance, may_finish, may_run, refusal_on, terms_of, unless, Setup, StopState, Inside, stop_number, is_one}
 use Rattle.smp_stop_steps.specs.{StopsValue, StopShown, setup_of, stop_control_of, StopStage, Visit, declared.start.Terms.Terms}
-use Rattle.smp_stop_steps.proofs.TheMachine.Fits.{both, is_kind, is_one_kind, is_same, ne_false, not_one, not_true, of_both, some_outside, within, work_fits}
+use Rattle.smp_stop_steps.proofs.TheMachine.Fits.{both, is_one_kind, is_same, ne_false, not_one, not_true, of_both}
+use Rattle.smp_stop_steps.proofs.TheMachine.Members.{refuses_members}
 use Rattle.smp_stop_steps.proofs.{State.Gates.gate_mine, State.Phases.is_open_inside, State.Phases.keeps_inside, Steps.Completions.one_phase}
 use Rattle.smp_stop_steps.specs.error
 
@@ -87,27 +89,10 @@ module _ (v : StopsValue) (p : StopState) (shown : StopShown p v) (me : ℕ) (lo
   finishes : (o : Option Visit) → c.visit ≡ o → Refuses (MayFinish p me) error.BadArgument (unless (may_finish o) error.BadArgument)
   finishes o e = search (not_both, visits, refuses, none_acked, is_same, false_true, eq-eqb, same_slot, arith)
 
-  begins : (work : Work) (b : Bool) → (p.now.stop me).is_open ≡ b → BeginRefuses u p me work (begin_refusal t work b)
-  begins work true is = is
-  begins work false shut = search (
-    bit_and,
-    work.mask,
-    both,
-    holds,
-    ne_false,
-    not_true,
-    is_kind,
-    work.kind,
-    false_true,
-    of_both,
-    held,
-    work_fits,
-    within,
-    v.online,
-    is_same,
-    some_outside,
-    arith,
-  )
+  begins : (work : Work) (b : Bool) → b ≡ (p.now.stop me).is_open
+      → BeginRefuses (p.gate ≡ Some me) u.online u.keys work (p.now.stop me).is_open (begin_refusal t work b)
+  begins work b is = subst (λ (x : Bool). BeginRefuses (p.gate ≡ Some me) u.online u.keys work x (begin_refusal t work b)) is
+      (refuses_members t work shown.shows.setup.below u.first shown.shows.setup.first (p.gate ≡ Some me) holds held b)
 
   reads : (n limit : ℕ) → Refuses ((p.now.irq me ≡ true) × (n < limit)) error.BadArgument (unless (c.interrupts && nat_lt n limit) error.BadArgument)
   reads n limit = search (refuses, nat_lt, both, c.interrupts, irq, ltb-true, false_true, of_both, lt-ltb, arith)

@@ -1,5 +1,5 @@
 -- A text that is accepted is a trace.
-use Rattle.trace_laws.proofs.Names.{AreLabels, Bool, Cause, Entry, Err, Halted, HaveKinds, Labels, Line, List, MOST_KEYS, Ok, Result, Some, SpotValue}
+use Rattle.trace_laws.proofs.Names.{AreLabels, Bool, Cause, CursorValue, EarlyEnd, Entry, Err, HaveKinds, Labels, Line, List, MOST_KEYS, Ok, Result, Some}
 use Rattle.trace_laws.proofs.Names.{StateValue, [], and_parts, ap, arith, cases_lt, entry_at, entry_at-word, entry_word, false, fields_of, first_site, get_or}
 use Rattle.trace_laws.proofs.Names.{get_or-replicate, get_or_past, head_of, head_with, if◌then◌else◌, inl, inr, is_labels, is_on, kind_of, kind_word, labels_at}
 use Rattle.trace_laws.proofs.Names.{leb-true, length, length-append, length-map, length-replicate, lines_of, list_all, ltb-false, map, no_labels, online_at}
@@ -68,7 +68,7 @@ on_line n (Err cause) a e = absurd cc
 few_none : Few no_labels
 few_none = record { keys = omega arith; sites = omega arith }
 
-few_line : (test : Bool) (s : SpotValue) (used : ℕ) (ls : List Line) (fields : List (List ℕ)) (found : Labels × SpotValue)
+few_line : (test : Bool) (s : CursorValue) (used : ℕ) (ls : List Line) (fields : List (List ℕ)) (found : Labels × CursorValue)
     → (if test then (at_line 3 (whole_labels fields) >>= λ labels. Ok (labels, behind s used ls)) else Ok (no_labels, s)) ≡ Ok found → Few found.0
 few_line true s used ls fields found e =
     let a = both (at_line 3 (whole_labels fields)) (λ labels. Ok (labels, behind s used ls)) found e in
@@ -77,10 +77,10 @@ few_line true s used ls fields found e =
 few_line false s used ls fields found e =
     let same : (no_labels, s) ≡ found = ok_is (no_labels, s) found e in subst (λ (x : Labels). Few x) (ap (λ x. x.0) same) few_none
 
-few_from : (s : SpotValue) (lines : List Line) (found : Labels × SpotValue) → labels_from s lines ≡ Ok found → Few found.0
+few_from : (s : CursorValue) (lines : List Line) (found : Labels × CursorValue) → labels_from s lines ≡ Ok found → Few found.0
 few_from s [] found e = let same : (no_labels, s) ≡ found = ok_is (no_labels, s) found e in subst (λ (x : Labels). Few x) (ap (λ x. x.0) same) few_none
 few_from s (l ∷ ls) found e =
-    let next = λ (used : ℕ). let r : Result (Labels × SpotValue) Halted =
+    let next = λ (used : ℕ). let r : Result (Labels × CursorValue) EarlyEnd =
     if is_labels (fields_of l.text) then (at_line 3 (whole_labels (fields_of l.text)) >>= λ labels. Ok (labels, behind s used ls)) else Ok
     (no_labels, s) in r in
     let a = both (used_after s.number s.used l) next found e in
@@ -132,8 +132,8 @@ words_long labels few = (
 head_labels : (lines : List Line) (h : HeadValue) → head_of lines ≡ Ok h → AreLabels h.setting h.words
 unfolding head_of labels_at
 head_labels lines h e =
-    let last = λ (online : ℕ) (labels : Labels × SpotValue). without_at labels.1 >>= λ without. Ok (head_with online labels.0 without.0 without.1) in
-    let third = λ (cpus : ℕ × SpotValue). labels_from cpus.1 cpus.1.lines >>= last cpus.0 in
+    let last = λ (online : ℕ) (labels : Labels × CursorValue). without_at labels.1 >>= λ without. Ok (head_with online labels.0 without.0 without.1) in
+    let third = λ (cpus : ℕ × CursorValue). labels_from cpus.1 cpus.1.lines >>= last cpus.0 in
     let a = both (titled lines) (λ second. online_at second >>= third) h e in
     let b = both (online_at a.0) third h a.1.1 in
     let c = both (labels_from b.0.1 b.0.1.lines) (last b.0.0) h b.1.1 in
@@ -148,7 +148,7 @@ head_labels lines h e =
       lawful = words_lawful c.0.0 few.sites;
     })
 
-run_of : (text : List ℕ) (count : ℕ) (t : StateValue) (head : Result HeadValue Halted) → head_of (lines_of text) ≡ head → MeansWith head (Ok (count, t)) →
+run_of : (text : List ℕ) (count : ℕ) (t : StateValue) (head : Result HeadValue EarlyEnd) → head_of (lines_of text) ≡ head → MeansWith head (Ok (count, t)) →
     IsTraceOf text count t
 run_of text count t (Ok h) e m = record {
   head = h;

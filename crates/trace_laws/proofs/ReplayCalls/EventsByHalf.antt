@@ -1,7 +1,7 @@
 -- Steps of the call half tell events of calls, and those of the stop half tell others.
 use Rattle.trace_laws.proofs.Names.{arith, Bool, List, None, Option, Place, Some, StopEvent, [], cond, false, false≢true, refl, true, true≢false, ℕ, ◌≡◌}
 use Rattle.trace_laws.proofs.ReplayNames.{Act, CallState, Change, CompletionStage, Field, HandleStage, Note, Past, PostStage, Posting, RoundStage, Seen, Stage}
-use Rattle.trace_laws.proofs.ReplayNames.{StopStage, Told, Visit, Word, access_of, call_events, change_at, label_word, of_ack, of_arg, of_flags, of_gate}
+use Rattle.trace_laws.proofs.ReplayNames.{StepEvents, StopStage, Visit, Word, access_of, call_events, change_at, label_word, of_ack, of_arg, of_flags, of_gate}
 use Rattle.trace_laws.proofs.ReplayNames.{of_hand, of_head, of_intr, of_key, of_nudge, of_ran, of_result, of_roll, of_site, of_slot, of_state, of_todo}
 use Rattle.trace_laws.proofs.ReplayNames.{of_unlock, stop_access, told_on, with_on, word_of}
 use Rattle.smp_labels.specs.declared.patch.Place.TheVariants as place
@@ -22,17 +22,17 @@ is_call_word (word.Site i) = false
 is_call_word _ = true
 
 module _ (me : ℕ) where
-  abbrev AllCalls : Told → Type 0
+  abbrev AllCalls : StepEvents → Type 0
   AllCalls t = call_events (by me t) ≡ by me t
 
-  abbrev NoCalls : Told → Type 0
+  abbrev NoCalls : StepEvents → Type 0
   NoCalls t = call_events (by me t) ≡ []
 
-  all_if : (b : Bool) (t u : Told) → AllCalls t → AllCalls u → AllCalls (cond b t u)
+  all_if : (b : Bool) (t u : StepEvents) → AllCalls t → AllCalls u → AllCalls (cond b t u)
   all_if true t u x y = x
   all_if false t u x y = y
 
-  no_if : (b : Bool) (t u : Told) → NoCalls t → NoCalls u → NoCalls (cond b t u)
+  no_if : (b : Bool) (t u : StepEvents) → NoCalls t → NoCalls u → NoCalls (cond b t u)
   no_if true t u x y = x
   no_if false t u x y = y
 

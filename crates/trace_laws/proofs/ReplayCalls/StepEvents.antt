@@ -4,15 +4,15 @@ use Rattle.trace_laws.proofs.Names.{ap, arith, at_call, call_goes, cond, counted
 use Rattle.trace_laws.proofs.Names.{left_batch, map, map-append, moved, ne_eqb, noted, order, place_at, pushed, refl, sent, subst, taken, true, with_cpu}
 use Rattle.trace_laws.proofs.Names.{with_place, ℕ, ◌%◌, ◌++◌, ◌<◌, ◌==◌, ◌∙◌, ◌∷◌, ◌≡◌, ◌≢◌}
 use Rattle.trace_laws.proofs.ReplayNames.{AsyncCall, CallState, CallsOfCpu, CountedCall, Follows, Holding, MachineCall, Nothing, RecPlace, Running, Runs}
-use Rattle.trace_laws.proofs.ReplayNames.{RunsTo, SyncCall, Told, accepts, appended, calls_in, calls_of, confirms, cpus, current_of, events_in, has_record}
-use Rattle.trace_laws.proofs.ReplayNames.{id_of, place_of, place_taken, put, put_all, put_other, put_same, records, told_call}
+use Rattle.trace_laws.proofs.ReplayNames.{RunsTo, StepEvents, SyncCall, accepts, appended, calls_in, calls_of, confirms, cpus, current_of, events_in}
+use Rattle.trace_laws.proofs.ReplayNames.{has_record, id_of, place_of, place_taken, put, put_all, put_other, put_same, records, told_call}
 use Rattle.smp_words.specs.Size.{owner}
 use Rattle.smp_call_steps.specs.Calls.{begins_async, begins_sync, ends_async, ends_sync, sends, takes}
 use Rattle.smp_call_steps.specs.declared.place.RecPlace.TheVariants as machine
 use Rattle.smp_call_steps.specs.{Places.IsThere, Places.Placed, Words.FlagsShow}
 use Rattle.trace_model.specs.declared.event.CallEvent.TheVariants as calls
 use Rattle.trace_model.specs.declared.event.Event.TheVariants as event
-use Rattle.trace_events.specs.declared.told.Told.TheVariants as told
+use Rattle.trace_events.specs.declared.step_events.StepEvents.TheVariants as told
 use Rattle.trace_laws.proofs.ReplayCalls.CallEvents.{IsNext, Rests, accepts as accepts_interrupt, begins_async as enters_unlocked, begins_sync as enters_front}
 use Rattle.trace_laws.proofs.ReplayCalls.CallEvents.{ends_call, idles, queues_call, sees_free, sends_to, takes_queue, unlocks_async, unlocks_sync}
 use Rattle.trace_laws.proofs.ReplayCalls.ChangedStates.{FollowsBut, LeavesStops, but_placed, but_set, cpu_here, follows_but, follows_placed, follows_same}
@@ -27,7 +27,7 @@ pub record Reaches (online : ℕ) (b : CallState) (s : StateValue) (es : List (�
   pub leaves : LeavesStops s t
 
 -- the events of a CPU that a step tells
-abbrev pub by : ℕ → Told → List (ℕ × Event)
+abbrev pub by : ℕ → StepEvents → List (ℕ × Event)
 by me told = map (λ e. (me, e)) (events_in told)
 
 -- the number of a record is told as it is

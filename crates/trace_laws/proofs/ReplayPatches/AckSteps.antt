@@ -3,8 +3,8 @@ use Rattle.trace_laws.proofs.Names.{Bool, List, None, Ok, Option, Some, Task, []
 use Rattle.trace_laws.proofs.Names.{has, inl, inr, late, next_store, patch_left, refl, set-set, slice_set, stop_at, subst, sym, true, with_acked, with_patch}
 use Rattle.trace_laws.proofs.Names.{with_stop, ℕ, ◌==◌, ◌∙◌, ◌∷◌, ◌≡◌}
 use Rattle.trace_laws.proofs.ReplayNames.{Advance, Alters, AnswerIs, Called, Carries, Change, CpuIs, Idle, In, Inside, InsideIs, Leads, MadeIs, Patch, Refills}
-use Rattle.trace_laws.proofs.ReplayNames.{Rests, Slot, Standing, Stands, Stop, StopIs, StopOutcome, StopStage, StopState, Told, ToldPatch, ToldStop, Visit}
-use Rattle.trace_laws.proofs.ReplayNames.{Word, Work, acknowledged, acknowledged_in, acknowledges, carried, front_of, given_by, is_called, one_less}
+use Rattle.trace_laws.proofs.ReplayNames.{Rests, Slot, Standing, Stands, StepEvents, Stop, StopIs, StopOutcome, StopStage, StopState, ToldPatch, ToldStop}
+use Rattle.trace_laws.proofs.ReplayNames.{Visit, Word, Work, acknowledged, acknowledged_in, acknowledges, carried, front_of, given_by, is_called, one_less}
 use Rattle.trace_laws.proofs.ReplayNames.{patch_answer, patch_now, plan_at, put_other, put_same, put_word, raiser_of, stop_goes, told_work, turn_ends}
 use Rattle.trace_laws.proofs.ReplayNames.{visit_acked, with_on}
 use Rattle.smp_words.specs.declared.field.Field.TheVariants as field
@@ -12,7 +12,7 @@ use Rattle.smp_stop_steps.specs.declared.stage.RoundStage.TheVariants as round
 use Rattle.trace_model.specs.declared.event.Event.TheVariants as event
 use Rattle.trace_model.specs.declared.event.StopEvent.TheVariants as stops
 use Rattle.trace_model.specs.Step.{stop_goes as told_goes}
-use Rattle.trace_events.specs.declared.told.Told.TheVariants as told
+use Rattle.trace_events.specs.declared.step_events.StepEvents.TheVariants as told
 use Rattle.trace_laws.proofs.ReplayPatches.PatchSteps as patching
 use Rattle.trace_laws.proofs.ReplayStops.AckEvents as acking
 use Rattle.trace_laws.proofs.{ReplayCalls.StepEvents.by, ReplayPatches.PatchEvents.AreEntries, ReplayPatches.PatchEvents.acks_patch}
@@ -217,7 +217,7 @@ module _ (known : Here) where
       (by me (with_on (stops.Ack Old.phase) (cond (found == 1) goes_on rests).note))) (sym st.1)
       (subst (λ (n : ℕ). ReachesStops (acknowledges p me x.slot (Inside 2 3) found) (put_word At (Slot x.slot field.Ack) (one_less found))
       (slice_set pasts me Old) s (by me (with_on (stops.Ack n) (cond (found == 1) goes_on rests).note))) (sym old)
-      (subst (λ (z : Told). ReachesStops (acknowledges p me x.slot (Inside 2 3) found) (put_word At (Slot x.slot field.Ack) (one_less found))
+      (subst (λ (z : StepEvents). ReachesStops (acknowledges p me x.slot (Inside 2 3) found) (put_word At (Slot x.slot field.Ack) (one_less found))
       (slice_set pasts me Old) s (by me z)) (sym (said_by (found == 1) goes_on rests refl said)) (acks x.slot w count at_seat entries)))
     where
       said_by : (last : Bool) (a b : StopOutcome) → with_on (stops.Ack 3) a.note ≡ told.One (event.Stop (stops.Ack 3))

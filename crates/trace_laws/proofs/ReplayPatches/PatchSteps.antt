@@ -16,7 +16,7 @@ use Rattle.smp_stop_steps.specs.declared.stage.RoundStage.TheVariants as round
 use Rattle.smp_stop_steps.specs.{Tells.patched_more, Tells.tells}
 use Rattle.trace_model.specs.declared.event.Event.TheVariants as event
 use Rattle.trace_model.specs.declared.event.LabelEvent.TheVariants as labels
-use Rattle.trace_events.specs.declared.told.Told.TheVariants as told
+use Rattle.trace_events.specs.declared.step_events.StepEvents.TheVariants as told
 use Rattle.trace_laws.proofs.ReplayPatches.OnePatcher.{alone_is, first_is, nobody_patches, open_inside}
 use Rattle.trace_laws.proofs.ReplayPatches.PatchEvents.{AreEntries, count_found, makes_key, makes_site, part_leads, part_stored}
 use Rattle.trace_laws.proofs.ReplayPatches.StoredWords.{IsStoreOf, IsThere, front_is, stored_entries, stored_keys, stored_keys_are, stored_sites}
@@ -73,7 +73,7 @@ module _ (known : Here) where
     pub alone_now : IsAlone p me
     alone_now = alone_is U p At shown.seat shown.source shown.shows me first_now
 
-    pub patch_work : IsPatchWork U (p.now.stop slot).work
+    pub patch_work : IsPatchWork U.online U.first U.keys (p.now.stop slot).work
     patch_work = shown.shows.present.works slot open_now kind_is
 
     pub small : w.func < 4

@@ -1,14 +1,14 @@
 -- What a command of the stop half begins with, and what its CPU keeps of the stop that it begins.
 use Rattle.trace_laws.proofs.Names.{Bool, Kind, Multi, None, One, Option, Some, arith, cond, false, has, is_on, length, refl, true, xor, ℕ, ◌<◌, ◌==◌, ◌∙◌, ◌≡◌}
-use Rattle.trace_laws.proofs.Names.{◌≢◌, ◌⊎◌}
-use Rattle.trace_laws.proofs.ReplayNames.{BeginsOfCpus, Command, CompletionStage, Draft, DraftIs, Drafts, ExchangeKey, Field, HandlesWithOn, IsOfCpus, Past}
-use Rattle.trace_laws.proofs.ReplayNames.{Patch, RoundStage, SmpError, StopControlValue, StopOutcome, StopStage, StopsValue, Visit, Work, after, after_draft}
-use Rattle.trace_laws.proofs.ReplayNames.{begun_next, begun_value, completion_outcome, cpus, first_stage, in_visit, key_on, kind_word, nudge_on, put_other}
+use Rattle.trace_laws.proofs.Names.{◌≢◌}
+use Rattle.trace_laws.proofs.ReplayNames.{BeginsOfCpus, Command, CompletionStage, Draft, DraftIs, Drafts, ExchangeKey, Field, IsOfCpus, Past}
+use Rattle.trace_laws.proofs.ReplayNames.{Patch, RoundStage, StopControlValue, StopOutcome, StopStage, StopsValue, Visit, Work, after, after_draft}
+use Rattle.trace_laws.proofs.ReplayNames.{begun_next, begun_value, completion_outcome, cpus, in_visit, key_on, kind_word, nudge_on, put_other}
 use Rattle.trace_laws.proofs.ReplayNames.{put_same, round_outcome, seen_of, stop_access, stop_control_of, stop_controls_by_cpu, stop_ends, stop_first}
 use Rattle.trace_laws.proofs.ReplayNames.{stop_goes, stop_outcome}
 use Rattle.smp_words.specs.declared.seen.Note.TheVariants as note
 use Rattle.smp_words.specs.Kinds.{kind_at}
-use Rattle.smp_stop_steps.specs.{Start.refusal_on, Start.stop_begun_if, Start.unless, declared.start.Terms.Terms}
+use Rattle.smp_stop_steps.specs.{Start.stop_begun_if}
 
 -- what is kept of a stop that a CPU begins, after its next field
 pub kind_kept : (w : Kind) → kind_at (kind_word w) ≡ w
@@ -53,17 +53,6 @@ visit_drafts (Some y) stage d k = k y
 pub first_drafts : (x : StopControlValue) (y : Command) → BeginsOfCpus y → (d : Draft) → Drafts (stop_first x y) d
 first_drafts x y h1 d = search (visit_drafts, arith)
 
-pub first_apart : (online cpu : ℕ) (x : StopControlValue) (y : Command) → (first_stage online cpu y ≡ None) ⊎ (stop_first x y ≡ None)
-first_apart online cpu x y = search arith
-
-pub unless_none : (b : Bool) (e : SmpError) → unless b e ≡ None → b ≡ true
-unless_none true e x = refl
-unless_none false e x = absurd cc
-
-pub first_handles : (online cpu : ℕ) (t : Terms) (x : StopControlValue) (y : Command) → refusal_on t x y ≡ None
-    → HandlesWithOn (first_stage online cpu y) x.interrupts
-first_handles online cpu t x y h1 = search (unless_none, arith)
-
 -- where a CPU is in the stop half once a command has begun
 pub begun_at : StopControlValue → Option StopStage → StopControlValue
 begun_at x None = x
@@ -98,13 +87,3 @@ pub begun_fits : (P : Option StopStage → Type 0) (x : StopControlValue) (o : O
 unfolding begun_at
 begun_fits P x None k l = k
 begun_fits P x (Some stage) k l = l
-
-pub begun_on : (x : StopControlValue) (o : Option StopStage) → (begun_at x o).interrupts ≡ x.interrupts
-unfolding begun_at
-begun_on x None = refl
-begun_on x (Some stage) = refl
-
-pub begun_none : (x : StopControlValue) (o : Option StopStage) → x.stage ≡ None → o ≡ None → (begun_at x o).stage ≡ None
-unfolding begun_at
-begun_none x None e k = e
-begun_none x (Some stage) e k = absurd cc

@@ -15,7 +15,7 @@ use Rattle.smp_stop_steps.specs.{Callings.answer_in, Carries.IsEnding, Laws.IsNo
 use Rattle.smp_stop_steps.specs.{Stop.completed, Stop.ended}
 use Rattle.trace_model.specs.declared.event.Event.TheVariants as event
 use Rattle.trace_model.specs.declared.event.StopEvent.TheVariants as stops
-use Rattle.trace_events.specs.declared.told.Told.TheVariants as told
+use Rattle.trace_events.specs.declared.step_events.StepEvents.TheVariants as told
 use Rattle.trace_laws.proofs.ReplayStops.FunctionRuns.{answers_step, complete_one, complete_round, completes_told, runs_told}
 use Rattle.trace_laws.proofs.ReplayStops.StepKinds.{Goes, in_none, silent, told_still}
 use Rattle.trace_laws.proofs.ReplayStops.TurnSteps.{Made, calling_here, irq_here, keeps_here, opened_here, seat_is, st, then_if, words_here}

@@ -3,9 +3,9 @@ use Rattle.trace_laws.proofs.Names.{Bool, Multi, None, Ok, One, Option, Some, Ta
 use Rattle.trace_laws.proofs.Names.{nat_lt, ne_eqb, refl, slice_set, stop_at, subst, sym, true, true≢false, with_stop, ℕ, ◌+◌, ◌<◌, ◌==◌, ◌∙◌, ◌∷◌, ◌≡◌, ◌≢◌}
 use Rattle.trace_laws.proofs.Names.{◌≤◌}
 use Rattle.trace_laws.proofs.ReplayNames.{AckShows, Advance, AnswerIs, Calling, CarriesAt, Idle, In, Inside, Nobody, OpenShows, PhaseIs, Present, Raises}
-use Rattle.trace_laws.proofs.ReplayNames.{Raising, Rests, RoundStage, Sets, SitsInRound, Slot, Standing, Stands, Stop, StopStage, StopState, Told, Visit, Word}
-use Rattle.trace_laws.proofs.ReplayNames.{Work, acked_of, acknowledges, cpus, has_entered, leaves, mask_weight, one_less, one_phase, phase_of, put, put_other}
-use Rattle.trace_laws.proofs.ReplayNames.{put_same, put_word, raiser_of, stop_ends, stored_shut, visit_acked, with_on}
+use Rattle.trace_laws.proofs.ReplayNames.{Raising, Rests, RoundStage, Sets, SitsInRound, Slot, Standing, Stands, StepEvents, Stop, StopStage, StopState, Visit}
+use Rattle.trace_laws.proofs.ReplayNames.{Word, Work, acked_of, acknowledges, cpus, has_entered, leaves, mask_weight, one_less, one_phase, phase_of, put}
+use Rattle.trace_laws.proofs.ReplayNames.{put_other, put_same, put_word, raiser_of, stop_ends, stored_shut, visit_acked, with_on}
 use Rattle.smp_words.specs.declared.field.Field.TheVariants as field
 use Rattle.smp_words.specs.declared.seen.Note.TheVariants as note
 use Rattle.smp_stop_steps.proofs.{State.Acknowledged.fills_me, State.Acknowledged.sets_me}
@@ -14,7 +14,7 @@ use Rattle.smp_stop_steps.specs.{Carries.IsAcking, Sits.IsLoaded, Sits.RunsIf, S
 use Rattle.smp_stop_steps.specs.{declared.known.Duty.TheVariants.Fills}
 use Rattle.trace_model.specs.declared.event.Event.TheVariants as event
 use Rattle.trace_model.specs.declared.event.StopEvent.TheVariants as stops
-use Rattle.trace_events.specs.declared.told.Told.TheVariants as told
+use Rattle.trace_events.specs.declared.step_events.StepEvents.TheVariants as told
 use Rattle.trace_laws.proofs.ReplayStops.AckEvents as acking
 use Rattle.trace_laws.proofs.ReplayStops.PhaseEvents.{leaves_told, raise_made, raises_told, told_raised}
 use Rattle.trace_laws.proofs.ReplayStops.TurnSteps.{Made, irq_here, keeps_here, opened_here, sits, st, then_if, told_here, words_here}
@@ -229,7 +229,7 @@ module _ (known : Here) where
       let two = subst (λ (b : Bool). ReachesStops (q b) at' (slice_set pasts me Old) s (by me (with_on (stops.Raise n) said))) (over_is x.acked) one in
       let three = subst (λ (m : ℕ). ReachesStops (q (n == 5)) at' (slice_set pasts me Old) s (by me (with_on (stops.Raise m) said))) (sym (phase_small n
       (omega (arith, high)))) two in
-      let four = subst (λ (z : Told). ReachesStops (q (n == 5)) at' (slice_set pasts me Old) s (by me z))
+      let four = subst (λ (z : StepEvents). ReachesStops (q (n == 5)) at' (slice_set pasts me Old) s (by me z))
       (sym (then_if (nat_lt 1 n) (with_on (stops.Raise (phase_of n)) said) told.Nothing (lt-ltb 1 n some))) three in
       subst (λ (z : StopState). ReachesStops z at' (slice_set pasts me Old) s (by me (cond (nat_lt 1 n) (with_on (stops.Raise
       (phase_of n)) said) told.Nothing)))

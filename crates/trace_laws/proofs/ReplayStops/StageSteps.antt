@@ -17,8 +17,8 @@ use Rattle.smp_stop_steps.specs.Tells.{drafted, drafts, gate_told, opens, stored
 use Rattle.smp_stop_steps.specs.{Sits.HoldsGate, Sits.SitsAtRest, Sits.SourceSits, Slots.order}
 use Rattle.trace_model.specs.declared.event.Event.TheVariants as event
 use Rattle.trace_model.specs.declared.event.LabelEvent.TheVariants as labels
-use Rattle.trace_events.specs.declared.told.Told.TheVariants as told
-use Rattle.trace_events.specs.Told.{task_of}
+use Rattle.trace_events.specs.declared.step_events.StepEvents.TheVariants as told
+use Rattle.trace_events.specs.StepEvents.{task_of}
 use Rattle.trace_laws.proofs.ReplayStops.SourceEvents.{drafts_step, key_read, onlines, opens_told, reads_step, site_read, works}
 use Rattle.trace_laws.proofs.ReplayStops.StepKinds.{gate_given, gate_taken, idle_free, mine_past, nothing_told}
 use Rattle.trace_laws.proofs.{ReplayCalls.StepEvents.by, ReplayPatches.BegunPatches.none_before, ReplayPatches.BegunPatches.works_patch, ReplayStops.Here.Here}
@@ -183,7 +183,7 @@ module _ (known : Here) where
       (onlines s.setting w.mask (λ j m. rw online (k.is_work.online j m))) k.holds
       (λ j. refl) (λ j. refl) (λ j. refl) (λ j. refl) refl refl
     where
-      a_patch : w.kind ≡ Patch → IsPatchWork u w → is_work s.setting (told_work w) ≡ true
+      a_patch : w.kind ≡ Patch → IsPatchWork u.online u.first u.keys w → is_work s.setting (told_work w) ≡ true
       a_patch kind k =
           let setup = shown.shows.setup in
           let first_below_32 = setup.below u.first setup.first in

@@ -12,7 +12,7 @@ use Rattle.smp_stop_steps.specs.declared.stage.RoundStage.TheVariants as round
 use Rattle.smp_stop_steps.specs.{Sits.SitsAtRun, Tells.looked_by, Tells.tells}
 use Rattle.trace_model.specs.declared.event.Event.TheVariants as event
 use Rattle.trace_model.specs.declared.event.StopEvent.TheVariants as stops
-use Rattle.trace_events.specs.declared.told.Told.TheVariants as told
+use Rattle.trace_events.specs.declared.step_events.StepEvents.TheVariants as told
 use Rattle.trace_laws.proofs.ReplayStops.StageSteps.{Accepted, else_if, loads, seen_so}
 use Rattle.trace_laws.proofs.{ReplayCalls.StepEvents.by, ReplayStops.FunctionRuns.runs_told, ReplayStops.Here.Here, ReplayStops.Here.my, ReplayStops.Here.parts}
 use Rattle.trace_laws.proofs.{ReplayStops.Moves.looked_step, ReplayStops.Moves.off_step, ReplayStops.StepEvents.ReachesStops}

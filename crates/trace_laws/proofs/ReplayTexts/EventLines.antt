@@ -1,5 +1,5 @@
 -- The lines of events tell them.
-use Rattle.trace_laws.proofs.Names.{Event, Halted, List, Ok, Result, Setting, Some, [], ap, append_assoc, arith, decimal, false, fields_of, join_with_byte}
+use Rattle.trace_laws.proofs.Names.{EarlyEnd, Event, List, Ok, Result, Setting, Some, [], ap, append_assoc, arith, decimal, false, fields_of, join_with_byte}
 use Rattle.trace_laws.proofs.Names.{length, length-append, lines_of, list_all, nat_tests, refl, subst, suc, true, used_after, ℕ, ◌++◌, ◌+◌, ◌<◌, ◌∙◌, ◌∷◌, ◌≡◌}
 use Rattle.trace_laws.proofs.Names.{◌≤◌}
 use Rattle.trace_laws.proofs.ReplayNames.{AreReadable, AreTold, IsTold, fields_join, is_field, is_field-decimal, line_before, line_text, lines_of-line}
@@ -66,7 +66,7 @@ unfolding line_before
 length_line cpu e = rw (joined_words e) (search (append_assoc, length-append, arith))
 
 -- what lines tell, read
-abbrev told_so : List (ℕ × Event) → ℕ → Result Told Halted
+abbrev told_so : List (ℕ × Event) → ℕ → Result Told EarlyEnd
 told_so events used = Ok (record { events = events; used = used })
 
 -- the lines of events tell just these

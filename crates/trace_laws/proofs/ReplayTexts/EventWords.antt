@@ -1,18 +1,17 @@
 -- The words of an event, and that they read back.
-use Rattle.trace_laws.proofs.Names.{CallEvent, Event, LabelEvent, List, Ok, Setting, StopEvent, [], append_assoc, arith, codes, decimal, join_with_byte}
-use Rattle.trace_laws.proofs.Names.{list_all, nat_tests, refl, true, ℕ, ◌<◌, ◌∷◌, ◌≡◌, ◌≤◌}
-use Rattle.trace_laws.proofs.ReplayNames.{EventFits, StopFits, class_text, is_field, is_field-decimal, kind_text, nothing_left_out, site_text, switch_text}
-use Rattle.trace_laws.proofs.ReplayNames.{way_text}
+use Rattle.trace_laws.proofs.Names.{Bool, CallEvent, Event, LabelEvent, List, Ok, Setting, StopEvent, [], append_assoc, arith, codes, decimal, false}
+use Rattle.trace_laws.proofs.Names.{join_with_byte, list_all, nat_tests, refl, true, ℕ, ◌<◌, ◌∷◌, ◌≡◌, ◌≤◌}
+use Rattle.trace_laws.proofs.ReplayNames.{EventFits, StopFits, class_text, is_field, is_field-decimal, kind_text, mask_text, nothing_left_out, site_text}
+use Rattle.trace_laws.proofs.ReplayNames.{switch_text, way_text}
 use Rattle.std.specs.Fmt.{signed_decimal}
-use Rattle.smp_script.proofs.{Texts.Decimals.number_in-decimal, Written.CanonicalTexts.mask_is_text, Written.LineWriting.signed_field}
-use Rattle.smp_script.proofs.{Written.LineWriting.signed_read}
+use Rattle.smp_script.proofs.{Texts.Decimals.number_in-decimal, Written.CanonicalTexts.mask_is_text}
+use Rattle.smp_script.proofs.Written.LineWriting.{class_written, kind_written, signed_field, signed_read, switch_written, way_written}
 use Rattle.trace_model.specs.declared.event.CallEvent.TheVariants as calls
 use Rattle.trace_model.specs.declared.event.Event.TheVariants as event
 use Rattle.trace_model.specs.declared.event.LabelEvent.TheVariants as labels
 use Rattle.trace_model.specs.declared.event.StopEvent.TheVariants as stops
-use Rattle.trace_judge.specs.{Reading.below, Reading.named_of}
-use Rattle.trace_events.specs.Text.{call_text, event_text, label_text, mask_text, stop_text}
-use Rattle.trace_laws.proofs.ReplayTexts.FieldNames.{class_told, kind_told, site_told, switch_told, way_told}
+use Rattle.trace_judge.specs.{Reading.below, Reading.jump_of, Reading.named_of}
+use Rattle.trace_events.specs.Text.{call_text, event_text, label_text, stop_text}
 use Rattle.trace_laws.specs.{ReplayTexts.CallFits, ReplayTexts.LabelFits}
 
 -- a trace leaves nothing out, and its keys and sites have numbers of 32 bits
@@ -79,6 +78,11 @@ joined_words (event.Call call) = call_joined call
 joined_words (event.Stop stop) = stop_joined stop
 joined_words (event.Label label) = label_joined label
 
+-- the name of what a site has is a field, and is read as that
+site_written : (jumps : Bool) → (is_field (site_text jumps) ≡ true) × (jump_of (site_text jumps) ≡ Ok jumps)
+site_written true = (refl, refl)
+site_written false = (refl, refl)
+
 -- words that are fields, and are read as the event
 pub record Reads (u : Setting) (w : Words) (e : Event) : Type 0 where
   pub fields : list_all is_field (w.name ∷ w.arguments) ≡ true
@@ -93,7 +97,7 @@ ruleset numbers = (is_field-decimal, number_in-decimal)
 call_reads : (u : Setting) (e : CallEvent) → u.without ≡ nothing_left_out → CallFits e → Reads u (call_words e) (event.Call e)
 unfolding named_of
 call_reads u (calls.Queue id to class func info) whole f =
-    let c = class_told class in
+    let c = class_written class in
     record { fields = search (numbers, c.0, arith); read = search (numbers, c.1, arith) }
 call_reads u (calls.Free id) whole f = record { fields = search (numbers, arith); read = search (numbers, arith) }
 call_reads u (calls.Send to) whole f = record { fields = search (numbers, arith); read = rw whole (search (numbers, arith)) }
@@ -107,7 +111,7 @@ call_reads u calls.Take whole f = record { fields = refl; read = rw whole refl }
 stop_reads : (u : Setting) (e : StopEvent) → u.without ≡ nothing_left_out → StopFits e → Reads u (stop_words e) (event.Stop e)
 unfolding named_of
 stop_reads u (stops.Open t) whole (m, a, f, g) =
-    let k = kind_told t.kind in
+    let k = kind_written t.kind in
     let x = mask_is_text 32 t.mask (omega arith) m in
     let y = mask_is_text 32 t.active (omega arith) a in
     record { fields = search (numbers, k.0, x.field, y.field, arith); read = search (numbers, k.1, x.reads, y.reads, arith) }
@@ -128,16 +132,16 @@ unfolding named_of
 label_reads u (labels.Set key count) few sites f =
     record { fields = search (numbers, arith); read = search (below_told u.keys key few f.0, numbers, arith) }
 label_reads u (labels.Turn site jumps) few sites f =
-    let w = site_told jumps in
+    let w = site_written jumps in
     record { fields = search (numbers, w.0, arith); read = rw (w.1, below_told u.sites site sites f) refl }
 label_reads u (labels.Key key on) few sites f =
-    let w = switch_told on in
+    let w = switch_written on in
     record { fields = search (numbers, w.0, arith); read = rw (w.1, below_told u.keys key few f) refl }
 label_reads u (labels.Site site jumps) few sites f =
-    let w = site_told jumps in
+    let w = site_written jumps in
     record { fields = search (numbers, w.0, arith); read = rw (w.1, below_told u.sites site sites f) refl }
 label_reads u (labels.Nudge key up) few sites f =
-    let w = way_told up in
+    let w = way_written up in
     record { fields = search (numbers, w.0, arith); read = rw (w.1, below_told u.keys key few f) refl }
 
 -- the words of an event are read as it

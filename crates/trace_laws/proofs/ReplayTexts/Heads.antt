@@ -1,5 +1,5 @@
 -- The head of a trace is read as it was written.
-use Rattle.trace_laws.proofs.Names.{Event, Labels, Line, List, Ok, Setting, SpotValue, [], ap, arith, bytes_eq, cases_Bool, codes, decimal, false, fields_of}
+use Rattle.trace_laws.proofs.Names.{CursorValue, Event, Labels, Line, List, Ok, Setting, [], ap, arith, bytes_eq, cases_Bool, codes, decimal, false, fields_of}
 use Rattle.trace_laws.proofs.Names.{inl, inr, is_decimal, is_labels, join_with_byte, labels_at, length, length-append, lines_of, no_labels, online_at, refl}
 use Rattle.trace_laws.proofs.Names.{sym, titled, true, used_after, whole_labels, without_at, ℕ, ◌+◌, ◌<◌, ◌^◌, ◌∙◌, ◌∷◌, ◌≡◌, ◌≤◌}
 use Rattle.trace_laws.proofs.ReplayNames.{AreLabels, AreReadable, AreTold, IsTold, all_told, are_online, fields_join, is_field, items_text, labels_fields}
@@ -16,19 +16,19 @@ abbrev pub ended : List ℕ → Line
 ended text = record { text = text; ended = true }
 
 -- where lines are, after these numbers of lines and bytes
-abbrev pub spot : ℕ → ℕ → List Line → SpotValue
-spot number used lines = record { number = number; used = used; lines = lines }
+abbrev pub cursor : ℕ → ℕ → List Line → CursorValue
+cursor number used lines = record { number = number; used = used; lines = lines }
 
 -- the title
-pub title_read : (rest : List Line) → titled (ended (codes "smp 2 trace") ∷ rest) ≡ Ok (spot 2 12 rest)
+pub title_read : (rest : List Line) → titled (ended (codes "smp 2 trace") ∷ rest) ≡ Ok (cursor 2 12 rest)
 unfolding titled needed used_after
 title_read rest = refl
 
 -- the line of the CPUs
 pub online_read : (nr online : ℕ) (mask : List ℕ) (rest : List Line) → 1 ≤ nr → nr ≤ 32 → is_field mask ≡ true → mask_of 32 mask ≡ Ok online
     → are_online nr online ≡ true → length (join_with_byte 32 (cpus_words nr mask)) < 1024
-    → online_at (spot 2 12 (ended (join_with_byte 32 (cpus_words nr mask)) ∷ rest))
-    ≡ Ok (online, spot 3 (12 + (length (join_with_byte 32 (cpus_words nr mask)) + 1)) rest)
+    → online_at (cursor 2 12 (ended (join_with_byte 32 (cpus_words nr mask)) ∷ rest))
+    ≡ Ok (online, cursor 3 (12 + (length (join_with_byte 32 (cpus_words nr mask)) + 1)) rest)
 unfolding online_at needed
 online_read nr online mask rest some few field is_mask are short =
     let text = join_with_byte 32 (cpus_words nr mask) in
@@ -41,8 +41,8 @@ online_read nr online mask rest some few field is_mask are short =
 -- the line of the labels
 pub labels_read : (labels : Labels) (used : ℕ) (rest : List Line) → AreLabels labels.keys labels.entries → used ≤ 4096
     → length (join_with_byte 32 (labels_words labels)) < 1024
-    → labels_at (spot 3 used (ended (join_with_byte 32 (labels_words labels)) ∷ rest))
-    ≡ Ok (labels, spot 4 (used + (length (join_with_byte 32 (labels_words labels)) + 1)) rest)
+    → labels_at (cursor 3 used (ended (join_with_byte 32 (labels_words labels)) ∷ rest))
+    ≡ Ok (labels, cursor 4 (used + (length (join_with_byte 32 (labels_words labels)) + 1)) rest)
 unfolding labels_at
 labels_read labels used rest are few short =
     let text = join_with_byte 32 (labels_words labels) in
@@ -80,7 +80,7 @@ room_first u number used cpu e events h1 h2 h3 = search (told_line, length-appen
 
 -- the lines of events are no labels
 pub no_labels_read : (u : Setting) (number used : ℕ) (events : List (ℕ × Event)) → TakesAll u → AreTold u events → HasRoom number used events
-    → labels_at (spot number used (lines_of (lines_text events))) ≡ Ok (no_labels, spot number used (lines_of (lines_text events)))
+    → labels_at (cursor number used (lines_of (lines_text events))) ≡ Ok (no_labels, cursor number used (lines_of (lines_text events)))
 unfolding labels_at
 no_labels_read u number used [] all told room = refl
 no_labels_read u number used ((cpu, e) ∷ events) all told room =
@@ -90,7 +90,7 @@ no_labels_read u number used ((cpu, e) ∷ events) all told room =
 
 -- and leave nothing out
 pub without_read : (u : Setting) (number used : ℕ) (events : List (ℕ × Event)) → TakesAll u → AreTold u events → HasRoom number used events
-    → without_at (spot number used (lines_of (lines_text events))) ≡ Ok (all_told, spot number used (lines_of (lines_text events)))
+    → without_at (cursor number used (lines_of (lines_text events))) ≡ Ok (all_told, cursor number used (lines_of (lines_text events)))
 unfolding without_at
 without_read u number used [] all told room = refl
 without_read u number used ((cpu, e) ∷ events) all told room =

@@ -16,7 +16,7 @@ use Rattle.smp_words.specs.declared.field.Field.TheVariants as field
 use Rattle.smp_words.specs.Limits.{AreLimits}
 use Rattle.smp_stop_steps.proofs.TheMachine.Opened.{opened_shown}
 use Rattle.smp_stop_steps.specs.New.{new_stop_words}
-use Rattle.smp_core.proofs.{Offline.new_apart, OfflineStops.new_stops_apart}
+use Rattle.smp_core.proofs.{Joined.new_joined, Offline.new_apart, OfflineStops.new_stops_apart}
 use Rattle.smp_script.proofs.{Reader.Widths.all_stay, Reader.Widths.mask_below, Reader.Widths.member_below}
 
 -- the sites while all keys are off
@@ -56,6 +56,7 @@ new_whole nr online labels limits are =
         stops_online = refl;
         apart = new_apart online words controls refl refl;
         stops_apart = new_stops_apart (new_stops nr online labels) none refl;
+        joined = new_joined controls (new_stops nr online labels).controls refl;
       };
       stops = record {
         sized = length-replicate {A = StopControlValue} cpus stop_outside;

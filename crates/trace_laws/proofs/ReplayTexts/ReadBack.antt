@@ -9,7 +9,7 @@ use Rattle.smp_script.specs.{declared.mode.Mode.TheVariants.Replay}
 use Rattle.trace_judge.specs.Head.{words_of as label_words_of}
 use Rattle.trace_events.specs.Front.{front_text}
 use Rattle.trace_laws.proofs.ReplayTexts.FrontLines.{cpus_fields, cpus_words, few_cpus, labels_words, trace_mask}
-use Rattle.trace_laws.proofs.ReplayTexts.Heads.{HasRoom, ended, labels_read, no_labels_read, online_read, spot, title_read, without_read}
+use Rattle.trace_laws.proofs.ReplayTexts.Heads.{HasRoom, cursor, ended, labels_read, no_labels_read, online_read, title_read, without_read}
 use Rattle.trace_laws.proofs.{ReplayTexts.EventLines.count_lines, ReplayTexts.EventLines.lines_tell, ReplayTexts.EventWords.TakesAll}
 use Rattle.trace_laws.specs.ReplayTexts.{IsWithin}
 
@@ -84,7 +84,7 @@ record HeadIs (nr online : ℕ) (mask : List ℕ) (labels : Option Labels) (even
   used : ℕ
   room : HasRoom number used events
   head_is : head_of (lines_of (written nr mask labels (lines_text events)))
-      ≡ Ok (head_with online (labels_or_none labels) all_told (spot number used (lines_of (lines_text events))))
+      ≡ Ok (head_with online (labels_or_none labels) all_told (cursor number used (lines_of (lines_text events))))
 
 head_none : (nr online : ℕ) (mask : List ℕ) (events : List (ℕ × Event)) → IsTraced nr online mask None events → HeadIs nr online mask None events
 unfolding head_of
@@ -170,7 +170,7 @@ written_back nr online mask labels events t =
     let h = head_read nr online mask labels events t in
     let u = setting_of online (labels_or_none labels) all_told in
     record {
-      head = head_with online (labels_or_none labels) all_told (spot h.number h.used (lines_of (lines_text events)));
+      head = head_with online (labels_or_none labels) all_told (cursor h.number h.used (lines_of (lines_text events)));
       head_is = h.head_is;
       setting_is = refl;
       words_are = refl;

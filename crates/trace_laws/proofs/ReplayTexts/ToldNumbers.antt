@@ -1,7 +1,7 @@
 -- The numbers of what a step tells, where its own numbers are of its types.
 use Rattle.trace_laws.proofs.Names.{AllByRecursion, Bool, None, Option, Setting, Some, StopEvent, arith, cases_lt, cond, false, has, nat_lt, nat_tests, refl}
 use Rattle.trace_laws.proofs.Names.{subst, sym, true, unwrap_or, w32, ℕ, ◌%◌, ◌&&◌, ◌-◌, ◌<◌, ◌==◌, ◌^◌, ◌≡◌, ◌≤◌}
-use Rattle.trace_laws.proofs.ReplayNames.{Act, EventFits, Field, IsAnswer, Note, Past, Seen, StopFits, Told, Word, after, after_call_entry, after_draft}
+use Rattle.trace_laws.proofs.ReplayNames.{Act, EventFits, Field, IsAnswer, Note, Past, Seen, StepEvents, StopFits, Word, after, after_call_entry, after_draft}
 use Rattle.trace_laws.proofs.ReplayNames.{after_flags, after_on, after_other, after_slot, after_slot_load, after_store, events_in, fresh, id_of, is_new, of_ack}
 use Rattle.trace_laws.proofs.ReplayNames.{of_arg, of_flags, of_gate, of_hand, of_head, of_intr, of_key, of_nudge, of_ran, of_result, of_roll, of_slot, of_state}
 use Rattle.trace_laws.proofs.ReplayNames.{of_todo, of_unlock, phase_of, told_of, told_on, with_on}
@@ -13,7 +13,7 @@ use Rattle.smp_words.specs.declared.word.Word.TheVariants as word
 use Rattle.trace_model.specs.declared.event.CallEvent.TheVariants as calls
 use Rattle.trace_model.specs.declared.event.StopEvent.TheVariants as stops
 use Rattle.trace_model.specs.{declared.event.Event.TheVariants.Call, declared.event.Event.TheVariants.Stop}
-use Rattle.trace_events.specs.declared.told.Told.TheVariants as told
+use Rattle.trace_events.specs.declared.step_events.StepEvents.TheVariants as told
 
 -- the number in a word's name is of its type, where an event tells it
 abbrev pub WordFits : Word → Type 0
@@ -83,11 +83,11 @@ InRange u p _ s = Unit {0}
 pub answer_fits : (n : ℕ) → IsAnswer (cast_signed w32 (n % 2 ^ 32))
 answer_fits n = search (cases_lt, nat_tests, arith)
 
-abbrev pub Fit : Setting → Told → Type 0
+abbrev pub Fit : Setting → StepEvents → Type 0
 Fit u t = AllByRecursion (EventFits u) (events_in t)
 
 module _ (u : Setting) where
-  fit_if : (b : Bool) (t o : Told) → Fit u t → Fit u o → Fit u (cond b t o)
+  fit_if : (b : Bool) (t o : StepEvents) → Fit u t → Fit u o → Fit u (cond b t o)
   fit_if true t o x y = x
   fit_if false t o x y = y
 

@@ -1,11 +1,11 @@
 -- Each replay is accepted.
 use Rattle.trace_laws.proofs.Names.{AllByRecursion, CpuState, Err, LabelWords, Labels, List, None, Option, Runs, Setting, Some, StateValue, [], ap, arith}
-use Rattle.trace_laws.proofs.Names.{closed, cpu_at, false, false≢true, fresh_cpu, get_or-replicate, inl, length-replicate, opening, refl, replicate}
+use Rattle.trace_laws.proofs.Names.{closed, cpu_at, false, false≢true, fresh_cpu, get_or-replicate, length-replicate, opening, refl, replicate}
 use Rattle.trace_laws.proofs.Names.{slice_index_or, subst, sym, ℕ, ◌+◌, ◌<◌, ◌∙◌, ◌∷◌, ◌≡◌}
-use Rattle.trace_laws.proofs.ReplayNames.{AreWordsOf, BeginsOfCpus, CallState, Command, ControlValue, CoreValue, FitsCommand, FitsCpus, FollowsStops, IsWhole}
+use Rattle.trace_laws.proofs.ReplayNames.{AreWordsOf, BeginsOfCpus, CallState, Command, CoreValue, FitsCommand, FitsCpus, FollowsStops, IsWhole}
 use Rattle.trace_laws.proofs.ReplayNames.{Past, Replay, Seen, SmpError, Stage, StopIs, StopShown, StopStage, StopState, StopsValue, Turned, after_seen}
 use Rattle.trace_laws.proofs.ReplayNames.{all_fresh, control_of, cpus, events_of, events_of_step, fresh, get_or-same, kept, new_core, new_stops, no_calls}
-use Rattle.trace_laws.proofs.ReplayNames.{no_stops, outside, past_at, refusal_of, replay_from, replay_made, replay_on, seen_at, setup_of, start_turn, started}
+use Rattle.trace_laws.proofs.ReplayNames.{no_stops, past_at, refusal_of, replay_from, replay_made, replay_on, seen_at, setup_of, start_turn, started}
 use Rattle.trace_laws.proofs.ReplayNames.{step_at, step_turn, step_whole, stepped, stop_control_of, stop_number, stop_outside, stop_seen_at, stop_step}
 use Rattle.trace_laws.proofs.ReplayNames.{stops_stepped, tells, tells_all}
 use Rattle.smp_mask.specs.declared.error.SmpError.TheVariants as error
@@ -82,9 +82,6 @@ replayed position (turned.Step cpu ∷ rest) core a p pasts s k all =
 stop_outside_at : (nr online : ℕ) (labels : Labels) (cpu : ℕ) → stop_control_of (new_stops nr online labels).controls cpu ≡ stop_outside
 stop_outside_at nr online labels cpu = get_or-same stop_outside cpus cpu
 
-outside_at : (cpu : ℕ) → control_of (replicate cpus outside) cpu ≡ outside
-outside_at cpu = get_or-same outside cpus cpu
-
 closed_at : (online j : ℕ) → j < cpus → slice_index_or (replicate 32 (closed online)) j (closed 0) ≡ closed online
 closed_at online j l = get_or-replicate 32 j (closed online) (closed 0) (omega arith)
 
@@ -151,8 +148,6 @@ all_begun nr online labels u words whole none is_of words_are =
       entries = opening_entries u words first.stops words_are none;
       elsewhere = calls.elsewhere;
       drafts = λ cpu l. rw (stop_outside_at nr online labels cpu) tt;
-      handles = λ cpu. rw (outside_at cpu) tt;
-      apart = λ cpu. inl (ap (λ (c : ControlValue). c.stage) (outside_at cpu));
     }
 
 pub replays_are_accepted : ReplaysAreAccepted

@@ -1,26 +1,26 @@
 -- All events of a replay are accepted.
-use Rattle.trace_laws.proofs.Names.{Bool, List, None, Ok, Option, Some, StateValue, [], ap, arith, cases_eq, cond, cpu_at, false, handles_nothing, has, inl}
-use Rattle.trace_laws.proofs.Names.{inr, length, length-set, map, refl, slice_set, subst, sym, true, ℕ, ◌-◌, ◌<◌, ◌∙◌, ◌≡◌, ◌≢◌, ◌⊎◌}
-use Rattle.trace_laws.proofs.ReplayNames.{AimsOnline, BeginsOfCpus, CallState, CallsOfCpu, Command, ControlValue, CoreValue, CpuIs, Done, Drafts, DrainValue}
-use Rattle.trace_laws.proofs.ReplayNames.{FitsCommand, Follows, FollowsStops, GoesElsewhere, Handle, HandleStage, HandlesWithOn, IsWhole, KeepsPast, Outcome}
-use Rattle.trace_laws.proofs.ReplayNames.{Past, Post, PostIs, PostStage, Posting, Seen, Send, Shown, Stage, StandsAt, StopControlValue, StopShown, StopStage}
+use Rattle.trace_laws.proofs.Names.{List, None, Ok, Option, Some, StateValue, [], ap, arith, cases_eq, cpu_at, false, handles_nothing, has, inl}
+use Rattle.trace_laws.proofs.Names.{inr, length, length-set, map, refl, slice_set, subst, sym, true, ℕ, ◌-◌, ◌<◌, ◌∙◌, ◌≡◌}
+use Rattle.trace_laws.proofs.ReplayNames.{AimsOnline, BeginsOfCpus, CallState, CallsOfCpu, Command, ControlValue, CoreValue, CpuIs, Done, Drafts}
+use Rattle.trace_laws.proofs.ReplayNames.{FitsCommand, Follows, FollowsStops, GoesElsewhere, Handle, HandlesWithOn, IsWhole, KeepsPast}
+use Rattle.trace_laws.proofs.ReplayNames.{Past, Post, PostIs, Seen, Send, Shown, Stage, StandsAt, StopControlValue, StopShown, StopStage}
 use Rattle.trace_laws.proofs.ReplayNames.{StopState, Word, access_of, after, answer_at, at_after, call_step, control_after, control_at, control_of}
-use Rattle.trace_laws.proofs.ReplayNames.{controls_by_cpu, cpus, current_of, events_of_step, first_stage, found_at, handle_outcome, inside_below, kept}
-use Rattle.trace_laws.proofs.ReplayNames.{made_shown, may_start, number_in, outcome_of, past_at, post_outcome, put, put_all, put_other, put_same, refusal_of}
+use Rattle.trace_laws.proofs.ReplayNames.{controls_by_cpu, cpus, current_of, events_of_step, first_stage, found_at, inside_below, kept}
+use Rattle.trace_laws.proofs.ReplayNames.{made_shown, may_start, number_in, past_at, put, put_all, put_other, put_same, refusal_of}
 use Rattle.trace_laws.proofs.ReplayNames.{seen_at, setup_of, share_of, start_below, start_whole, started, started_shown, step_whole, stepped, stop_access}
 use Rattle.trace_laws.proofs.ReplayNames.{stop_control_of, stop_controls_by_cpu, stop_first, stop_found_at, stop_number, stop_outcome, stop_seen_at}
 use Rattle.trace_laws.proofs.ReplayNames.{stop_word_named, stops_stepped, tells, told_call}
 use Rattle.smp_call_steps.proofs.Machine.Starts.{online_below}
 use Rattle.smp_call_steps.specs.Stands.{Rests}
 use Rattle.smp_stop_steps.proofs.{TheMachine.Made.made_told, TheMachine.Tables.stop_words_by_name, TheMachine.Values.stop_inside_below}
-use Rattle.smp_stop_steps.specs.{Machine.stop_stepped, Start.terms_of, Tells.tells as tells_stops}
+use Rattle.smp_stop_steps.specs.{Machine.stop_stepped, Tells.tells as tells_stops}
 use Rattle.smp_core.proofs.OfflineStops.{started_told}
 use Rattle.trace_laws.proofs.ReplayCalls.EventsByHalf.{call_word, is_call_word, stop_tells, stop_word}
 use Rattle.trace_laws.proofs.ReplayCalls.KeptPasts.{begun_same, keeps_past, past_else, past_here}
 use Rattle.trace_laws.proofs.ReplayCalls.OtherHalf.{KeepsCalls, KeepsStops, call_keeps, stop_keeps}
 use Rattle.trace_laws.proofs.ReplayCalls.PostSteps.{Accepted, looks_step, posts_step, sends_step}
-use Rattle.trace_laws.proofs.ReplayStops.BegunStops.{begun_drafts, begun_else, begun_here, begun_labels, begun_none, begun_on, begun_table, first_apart}
-use Rattle.trace_laws.proofs.ReplayStops.BegunStops.{first_drafts, first_handles, stage_drafts}
+use Rattle.trace_laws.proofs.ReplayStops.BegunStops.{begun_drafts, begun_else, begun_here, begun_labels, begun_table}
+use Rattle.trace_laws.proofs.ReplayStops.BegunStops.{first_drafts, stage_drafts}
 use Rattle.trace_laws.proofs.{ReplayCalls.AcceptedCalls.start_elsewhere, ReplayCalls.AcceptedCalls.start_posts, ReplayCalls.AcceptedCalls.step_elsewhere}
 use Rattle.trace_laws.proofs.{ReplayCalls.ChangedStates.LeavesStops, ReplayCalls.HandleSteps.handles_step, ReplayCalls.StepEvents.Reaches}
 use Rattle.trace_laws.proofs.{ReplayPatches.PatchEvents.AreEntries, ReplayStops.AllSteps.stop_accepted, ReplayStops.ChangedStates.LeavesCalls}
@@ -40,9 +40,6 @@ pub record StandsAll (core : CoreValue) (a : CallState) (p : StopState) (pasts :
   pub entries : AreEntries (setup_of core.stops.online core.stops.labels) s.words
   pub elsewhere : (cpu : ℕ) → GoesElsewhere (control_of core.controls cpu).stage cpu
   pub drafts : (cpu : ℕ) → cpu < cpus → Drafts (stop_control_of core.stops.controls cpu).stage (past_at pasts cpu).draft
-  -- inside `handle` interrupts are on, and no CPU is inside two commands
-  pub handles : (cpu : ℕ) → HandlesWithOn (control_of core.controls cpu).stage (stop_control_of core.stops.controls cpu).interrupts
-  pub apart : (cpu : ℕ) → ((control_of core.controls cpu).stage ≡ None) ⊎ ((stop_control_of core.stops.controls cpu).stage ≡ None)
 
 -- a step of the call half leaves the stops as they were
 stop_moved : (p : StopState) (s t : StateValue) (past new : Past) (cpu : ℕ) → LeavesStops s t → KeepsStops past new → CpuIs p s past cpu → CpuIs p t new cpu
@@ -77,20 +74,6 @@ stops_moved p at pasts new s t k n f = record {
 calls_left : (online : ℕ) (a : CallState) (s t : StateValue) → LeavesCalls s t → Follows online a s → Follows online a t
 calls_left online a s t h1 h2 = search arith
 
--- a CPU handles still, with its interrupts on
-handles_if : (b : Bool) (on : Bool) (x y : Outcome) → HandlesWithOn x.next on → HandlesWithOn y.next on → HandlesWithOn (cond b x y).next on
-handles_if true on x y k l = k
-handles_if false on x y k l = l
-
-posts_handle : (q : Posting) (stage : PostStage) (found : ℕ) (on : Bool) → HandlesWithOn (post_outcome q stage found).next on
-posts_handle q stage found on = search (handles_if, arith)
-
-handles_on : (d : DrainValue) (stage : HandleStage) (found : ℕ) (on : Bool) → on ≡ true → HandlesWithOn (handle_outcome d stage found).next on
-handles_on d stage found on h1 = search (handles_if, arith)
-
-step_handles : (d : DrainValue) (stage : Stage) (found : ℕ) (on : Bool) → HandlesWithOn (Some stage) on → HandlesWithOn (outcome_of d stage found).next on
-step_handles d stage found on h1 = search (posts_handle, handles_on, arith)
-
 module _ (core : CoreValue) (a : CallState) (p : StopState) (pasts : List Past) (s : StateValue) (k : StandsAll core a p pasts s) (cpu : ℕ) where
   sized : length core.controls ≡ cpus
   sized = k.whole.sound.table.controls_sized
@@ -116,7 +99,7 @@ module _ (core : CoreValue) (a : CallState) (p : StopState) (pasts : List Past) 
     posted = subst (λ (x : Option Stage). PostIs x (past_at pasts cpu).post) e (k.keeps.posts cpu below)
 
     handled : HandlesWithOn (Some stage) (stop_control_of core.stops.controls cpu).interrupts
-    handled = subst (λ (x : Option Stage). HandlesWithOn x (stop_control_of core.stops.controls cpu).interrupts) e (k.handles cpu)
+    handled = subst (λ (x : Option Stage). HandlesWithOn x (stop_control_of core.stops.controls cpu).interrupts) e (k.whole.sound.joined.handles cpu)
 
     abbrev Goes : Stage → Type 0
     Goes x = Accepted core.online a (number_in core.words) (control_of core.controls) k.calls cpu below pasts s k.follows x
@@ -148,15 +131,6 @@ module _ (core : CoreValue) (a : CallState) (p : StopState) (pasts : List Past) 
       | inr ne ↦ rw (past_else pasts cpu (after (past_at pasts cpu) (seen_at core cpu stage)) c ne) (record { phase = refl; answer = refl; draft = refl })
     ]
 
-    stop_none : (stop_control_of core.stops.controls cpu).stage ≡ None
-    stop_none = elim (k.apart cpu) [
-      | inl none ↦ absurd (some_none stage (sym e ∙ none))
-      | inr none ↦ none
-    ]
-      where
-        some_none : (x : Stage) → Some x ≡ None → ⊥
-        some_none x z = absurd cc
-
     pub call_stands : StandsAll (stepped core cpu stage) (tells a (seen_at core cpu stage)) p (kept pasts (seen_at core cpu stage)) reached.t
     call_stands =
         let access = access_of (number_in core.words) cpu stage in
@@ -177,13 +151,6 @@ module _ (core : CoreValue) (a : CallState) (p : StopState) (pasts : List Past) 
               (put_all (λ j x. GoesElsewhere x.stage j) (control_of core.controls) cpu next
               (step_elsewhere (control_of core.controls cpu).drain cpu stage (found_at core cpu stage) away) (λ j ne. k.elsewhere j));
           drafts = λ c l. rw (kept_here c l).draft (k.drafts c l);
-          handles = subst (λ (f : ℕ → ControlValue). (j : ℕ) → HandlesWithOn (f j).stage (stop_control_of core.stops.controls j).interrupts) (sym by_name)
-              (put_all (λ j x. HandlesWithOn x.stage (stop_control_of core.stops.controls j).interrupts) (control_of core.controls) cpu next
-              (step_handles (control_of core.controls cpu).drain stage (found_at core cpu stage) (stop_control_of core.stops.controls cpu).interrupts handled)
-              (λ j ne. k.handles j));
-          apart = subst (λ (f : ℕ → ControlValue). (j : ℕ) → ((f j).stage ≡ None) ⊎ ((stop_control_of core.stops.controls j).stage ≡ None)) (sym by_name)
-              (put_all (λ j x. (x.stage ≡ None) ⊎ ((stop_control_of core.stops.controls j).stage ≡ None)) (control_of core.controls) cpu next
-              (inr stop_none) (λ j ne. k.apart j));
         }
 
   -- the step of a CPU that is inside a command of the stop half
@@ -297,16 +264,6 @@ module _ (core : CoreValue) (a : CallState) (p : StopState) (pasts : List Past) 
           past_else pasts cpu (after (past_at pasts cpu) (stop_seen_at core.stops cpu stage)) c ne,
         ) (k.drafts c l)
       ];
-      handles = λ c. elim (cases_eq c cpu) [
-        | inl is ↦ subst (λ (n : ℕ). HandlesWithOn (control_of core.controls n).stage (stop_control_of
-            (slice_set core.stops.controls cpu Next) n).interrupts) (sym is)
-            (rw out tt)
-        | inr ne ↦ rw (by_name_stops c, put_other (stop_control_of core.stops.controls) cpu Next c ne) (k.handles c)
-      ];
-      apart = λ c. elim (cases_eq c cpu) [
-        | inl is ↦ inl (subst (λ (n : ℕ). (control_of core.controls n).stage ≡ None) (sym is) out)
-        | inr ne ↦ rw (by_name_stops c, put_other (stop_control_of core.stops.controls) cpu Next c ne) (k.apart c)
-      ];
     })
 
   -- a command begins
@@ -323,9 +280,6 @@ module _ (core : CoreValue) (a : CallState) (p : StopState) (pasts : List Past) 
       let next = control_at (control_of core.controls cpu) (first_stage core.online cpu c) in
       let by_name : control_of (slice_set core.controls cpu next) ≡ put
       (control_of core.controls) cpu next = controls_by_cpu core.controls cpu next sized low in
-      let mine : control_of (slice_set core.controls cpu next) cpu ≡ next = ap (λ (f : ℕ → ControlValue). f cpu) by_name
-      ∙ put_same (control_of core.controls) cpu next in
-      let other = λ (n : ℕ) (ne : n ≢ cpu). ap (λ (f : ℕ → ControlValue). f n) by_name ∙ put_other (control_of core.controls) cpu next n ne in
       record {
         whole = start_whole core cpu k.whole c fits e;
         calls = started_shown a core cpu c k.whole.sound.limits sized e fits k.calls;
@@ -348,16 +302,5 @@ module _ (core : CoreValue) (a : CallState) (p : StopState) (pasts : List Past) 
           | inl is ↦ rw (is, here) (begun_drafts control first (past_at pasts cpu).draft m.is_stop_outside (first_drafts control c plain
               (past_at pasts cpu).draft))
           | inr ne ↦ rw (begun_else core.stops cpu first n stops_sized low ne) (k.drafts n l)
-        ];
-        handles = λ n. elim (cases_eq n cpu) [
-          | inl is ↦ rw (is, here, mine, begun_on control first) (first_handles core.online cpu (terms_of core.stops cpu) control c m.is_stop_allowed)
-          | inr ne ↦ rw (begun_else core.stops cpu first n stops_sized low ne, other n ne) (k.handles n)
-        ];
-        apart = λ n. elim (cases_eq n cpu) [
-          | inl is ↦ rw (is, here, mine) (elim (first_apart core.online cpu control c) [
-            | inl none ↦ inl none
-            | inr none ↦ inr (begun_none control first m.is_stop_outside none)
-          ])
-          | inr ne ↦ rw (begun_else core.stops cpu first n stops_sized low ne, other n ne) (k.apart n)
         ];
       }

@@ -1,5 +1,5 @@
-use Rattle.smp_call_steps.proofs.Promises.{keep_the_place_law}
+use Rattle.smp_call_steps.proofs.Headline.{in_one_place}
 use Rattle.smp_call_steps.proofs.laws.place_law.Goals as goal
 
 pub returns : goal.returns
-returns c a at control s = keep_the_place_law a at control s
+returns c a at control s = in_one_place s

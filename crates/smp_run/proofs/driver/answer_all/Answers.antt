@@ -6,29 +6,28 @@ use Rattle.smp_run.specs.Seats.{keys_at}
 use Rattle.smp_run.proofs.Answering.{answered_more}
 use Rattle.smp_run.proofs.Making.{lines_more, lines_none, lines_then, made_same}
 use Rattle.smp_run.proofs.Sending.{script_more, sent_none}
+use Rattle.smp_run.proofs.Stays.{stays_first, stays_on}
 use Rattle.smp_run.proofs.driver.answer_all.Goals as goal
 
 pub loop-at-init : goal.loop-at-init
 loop-at-init g c =
     let me = c.args.seat.now.cpu in let m = c.args.seat.now.machine in (
-      record { machine_is = refl; number_is = refl },
+      stays_first c.args.seat.now c.requires.rest,
       c.requires.sized,
       (λ i l a below mine. absurd (omega (arith, below))),
       sent_none me me refl,
       ([], lines_none m me.calls.number c.args.lines.now c.args.answers.now, made_same me me refl),
-      c.requires.seated,
-      c.requires.waited,
     )
 
 pub loop-at-preserved : goal.loop-at-preserved
 loop-at-preserved g c =
-    let was = c.loop-at.invariant in let same = was.0 in let call = c.answer_if.ensures in let more = call.same in let made = was.4 in
+    let was = c.loop-at.invariant in let same = was.0.same in let call = c.answer_if.ensures in let made = was.4 in
     let first = c.args.seat.now in let m = first.machine in let this = first.cpu.calls.number in let mid = c.loop-at.seat in
     let lines = c.args.lines.now in let line = c.index-lines-at.result in let answer = c.answer_if.new.answer in let new = c.answer_if.new.seat.cpu in
     let told : IsLineMade m this line answer call.made.0 =
     subst (λ (n : ℕ). IsLineMade m n line answer call.made.0) same.number_is
     (subst (λ (x : MachineValue). IsLineMade x mid.cpu.calls.number line answer call.made.0) same.machine_is call.made.1) in (
-      record { machine_is = more.machine_is ∙ same.machine_is; number_is = more.number_is ∙ same.number_is },
+      stays_on first mid c.answer_if.new.seat was.0 call.stays,
       search rules,
       answered_more m.calls.online (keys_at m) this lines c.loop-at.answers c.loop-at.at line answer
           c.loop-at-test.true was.1
@@ -43,8 +42,6 @@ loop-at-preserved g c =
         lines_more m this lines c.loop-at.answers c.loop-at.at line answer made.0 call.made.0 c.loop-at-test.true was.1 c.index-lines-at.is told made.1,
         lines_then made.0 call.made.0 first.cpu mid.cpu new made.2 call.made.2,
       ),
-      call.seated,
-      call.waited,
     )
 
 pub returns-clause-played : goal.returns-clause-played

@@ -4,16 +4,22 @@ use Rattle.smp_machine.specs.MachineCpu.{MachineValue, MachineCpuValue}
 use Rattle.smp_run.specs.Driven.{MakesLines}
 use Rattle.smp_run.specs.Seats.{IsSeated}
 use Rattle.smp_run.specs.declared.answer.Answer.{Answer}
+use Rattle.smp_run.proofs.Stays.{rest_like}
 use Rattle.smp_run.proofs.driver.make_lines.Goals as goal
+
+pub answer_all-requires-clause-rest : goal.answer_all-requires-clause-rest
+answer_all-requires-clause-rest g c =
+    let taken = c.take_answers-answers in
+    rest_like c.args.seat.now taken.new.seat taken.ensures.machine taken.ensures.cpu c.requires.seated c.requires.waited
 
 pub returns-clause-makes : goal.returns-clause-makes
 returns-clause-makes g c =
     let first = c.args.seat.now in let lines = c.args.lines.now in let taken = c.take_answers-answers in let call = c.answer_all in
     let mid = taken.new.seat in let told = call.new.answers in let new = call.new.seat.cpu in let made = call.ensures in let left = c.leave_answers in
     let here : MakesLines mid.machine lines told mid.cpu new = record {
-      seated = subst (λ (x : MachineValue). IsSeated x new) made.same.machine_is made.seated;
-      waited = made.waited;
-      number_is = made.same.number_is;
+      seated = subst (λ (x : MachineValue). IsSeated x new) made.stays.same.machine_is made.stays.rest.seated;
+      waited = made.stays.rest.waited;
+      number_is = made.stays.same.number_is;
       answered = made.answered;
       sent = made.sent;
       played = made.played;

@@ -6,8 +6,8 @@ use Rattle.trace_judge.proofs.body.lines.Given as goal
 
 abbrev pub invariant-loop-next : goal.invariant-loop-next
 invariant-loop-next g l =
-    (judged l.setting l.number l.used l.events (lines_of l.rest) l.state ≡ judged l.setting l.fn.spot.number l.fn.spot.used 0 (lines_of l.fn.spot.rest.now)
-    l.initial.state)
+    (judged l.setting l.number l.used l.events (lines_of l.rest) l.state
+    ≡ judged l.setting l.fn.cursor.number l.fn.cursor.used 0 (lines_of l.fn.cursor.rest.now) l.initial.state)
     × (l.used ≤ 16777216) × (l.number ≤ 1000001) × (l.events ≤ l.number)
 
 abbrev pub decreases-loop-next : goal.decreases-loop-next

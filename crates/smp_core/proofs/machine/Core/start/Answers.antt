@@ -8,6 +8,7 @@ use Rattle.smp_core.specs.Start.{refusal_of}
 use Rattle.smp_call_steps.specs.Start.{first_stage, control_at}
 use Rattle.smp_core.specs.Value.{CoreValue}
 use Rattle.smp_call_steps.specs.Value.{ValuesShow, control_of, outside}
+use Rattle.smp_core.proofs.Joined.{joined_started}
 use Rattle.smp_core.proofs.Offline.{start_apart}
 use Rattle.smp_core.proofs.OfflineStops.{start_stops_apart}
 use Rattle.smp_core.proofs.Starts.{may_start, started_shown, started_nr, started_online, start_below}
@@ -96,6 +97,11 @@ invariant_of-self g c =
           let m = may_start (before g c.before) c.args.cpu c.args.command (allowed g c.before) in
           rw c.start.ensures.started (start_stops_apart c.self.inside.stops c.args.cpu c.self.invariant.stops_apart c.args.command
           (rw c.self.invariant.stops_online m.is_online) (rw c.start.ensures.started at c.start.ensures.told));
+      joined =
+          let m = may_start (before g c.before) c.args.cpu c.args.command (allowed g c.before) in
+          let low = start_below (before g c.before) c.args.cpu c.args.command c.self.invariant.limits (allowed g c.before) in
+          rw (begun g c.before, c.start.ensures.started) (joined_started c.self.inside.controls.items c.self.inside.stops c.args.cpu
+          c.self.inside.online c.args.command c.self.invariant.table.controls_sized low m.is_stop_outside m.is_stop_allowed c.self.invariant.joined);
     }
 
 pub returns-clause-told : goal.returns-clause-told

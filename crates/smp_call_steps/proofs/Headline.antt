@@ -1,0 +1,143 @@
+-- The headline, of calls.
+use Rattle.std.proofs.Common.{◌≡◌, ◌≢◌, ℕ, ◌%◌, ◌==◌, Bool, true, false, cond, List, [], ◌∷◌, ◌++◌, IsPermutation, sym, subst, refl, ap, ◌∙◌, append_assoc, arith}
+use Rattle.std.proofs.lemmas.List.Sorted.{IsPermutation-refl, IsPermutation-sym, IsPermutation-cons, IsPermutation-trans, IsPermutation-append, IsPermutation-middle}
+use Rattle.smp_words.specs.Size.{owner}
+use Rattle.smp_call_steps.specs.{CallState, ControlValue, Call, Class, Sync, Async, Word, RecPlace, IsThere, FlagsShow, flags_in, batches, orders}
+use Rattle.smp_call_steps.specs.{calls_from, calls_to, if_sync, if_async, sync_calls, async_calls, order, of_class, IsPrefix, running_call, history_of}
+use Rattle.smp_call_steps.specs.Headline.{IsAt, HasOnePlace, InOnePlace, begun, waiting, joined, RunOnce, RunInOrder, IsDrained, RunEqualQueued}
+use Rattle.smp_call_steps.specs.Shows.{Shows}
+use Rattle.smp_call_steps.proofs.Promises.{from_class, from-append, only_there, unmarked, unmarked_sent, unmarked_from, unmarked_history, unmarked_batches}
+use Rattle.smp_call_steps.proofs.State.Drained.{Still, all_ran, all_sent, equal_tallies}
+use Rattle.smp_call_steps.proofs.State.QueueOrder.{of_class-append, orders_keep}
+use Rattle.smp_call_steps.proofs.Steps.Own.{holder_owns}
+use Rattle.smp_call_steps.specs.place
+
+-- where a record is
+
+unlocked_free : (p : RecPlace) (flags : ℕ) → FlagsShow p flags → flags ≡ 0 → p ≡ place.Free
+unlocked_free place.Free flags h e = refl
+unlocked_free _ flags h e = absurd (let odd : flags % 2 ≡ 1 = h in search (e, arith))
+
+locked : (p : RecPlace) (flags : ℕ) → FlagsShow p flags → p ≢ place.Free → flags % 2 ≡ 1
+locked place.Free flags h ne = absurd (ne refl)
+locked _ flags h ne = h
+
+module _ {a : CallState} {at : Word → ℕ} {control : ℕ → ControlValue} (s : Shows a at control) where
+  here : (id : ℕ) (p : RecPlace) → FlagsShow p (flags_in at id) → IsThere a.held a.queue a.batch a.running id p → IsAt a (flags_in at) id p
+  here id place.Free f h = f
+  here id place.Held f h = h
+  here id (place.Queued cpu) f h = h
+  here id (place.Batch cpu) f h = h
+  here id (place.Running cpu) f h = h
+
+  only : (id : ℕ) (p : RecPlace) → IsAt a (flags_in at) id p → p ≡ a.place id
+  only id place.Free h = sym (unlocked_free (a.place id) (flags_in at id) (s.written.locks id) h)
+  only id place.Held h = sym (only_there a at control s id place.Held (λ e. cc) h)
+  only id (place.Queued cpu) h = sym (only_there a at control s id (place.Queued cpu) (λ e. cc) h)
+  only id (place.Batch cpu) h = sym (only_there a at control s id (place.Batch cpu) (λ e. cc) h)
+  only id (place.Running cpu) h = sym (only_there a at control s id (place.Running cpu) (λ e. cc) h)
+
+  one_place : (id : ℕ) → HasOnePlace a (flags_in at) id
+  one_place id = record {
+    here = here id (a.place id) (s.written.locks id) (s.placed.is_there id);
+    only = only id;
+    locked = locked (a.place id) (flags_in at id) (s.written.locks id);
+    held = λ cpu h. holder_owns s cpu id h;
+  }
+
+  pub in_one_place : InOnePlace a at
+  in_one_place = record { each = one_place; queue_apart = s.placed.queue_apart; batch_apart = s.placed.batch_apart }
+
+-- what a drain order has of a source
+
+module _ (source : ℕ) where
+  abbrev from : List Call → List Call
+  from calls = calls_from source calls
+
+  first : (b : Bool) (x : Call) (xs ys : List Call) → IsPermutation xs ys → IsPermutation (cond b (x ∷ xs) xs) (cond b (x ∷ ys) ys)
+  first true x xs ys h = IsPermutation-cons x xs ys h
+  first false x xs ys h = h
+
+  later : (b : Bool) (x : Call) (xs us vs : List Call) → IsPermutation xs (us ++ vs) → IsPermutation (cond b (x ∷ xs) xs) (us ++ cond b (x ∷ vs) vs)
+  later true x xs us vs h = IsPermutation-trans _ _ _ (IsPermutation-cons x xs (us ++ vs) h) (IsPermutation-sym _ _ (IsPermutation-middle us x vs))
+  later false x xs us vs h = h
+
+  by_class : (class : Class) (x : Call) (rest : List Call) → IsPermutation (from rest) (from (order rest))
+      → IsPermutation (from (x ∷ rest)) (from ((if_sync class x ++ sync_calls rest) ++ (if_async class x ++ async_calls rest)))
+  by_class Sync x rest h = first (owner x.id == source) x (from rest) (from (order rest)) h
+  by_class Async x rest h = subst (IsPermutation (from (x ∷ rest))) (sym (from-append source (sync_calls rest) (x ∷ async_calls rest)))
+      (later (owner x.id == source) x (from rest) (from (sync_calls rest)) (from (async_calls rest))
+      (subst (IsPermutation (from rest)) (from-append source (sync_calls rest) (async_calls rest)) h))
+
+  from_order : (calls : List Call) → IsPermutation (from calls) (from (order calls))
+  from_order [] = IsPermutation-refl []
+  from_order (x ∷ rest) = by_class x.class x rest (from_order rest)
+
+  from_orders : (taken : List (List Call)) → IsPermutation (from (batches taken)) (from (orders taken))
+  from_orders [] = IsPermutation-refl []
+  from_orders (batch ∷ rest) = subst (λ xs. IsPermutation xs (from (orders (batch ∷ rest)))) (sym (from-append source batch (batches rest)))
+      (subst (IsPermutation (from batch ++ from (batches rest))) (sym (from-append source (order batch) (orders rest)))
+      (IsPermutation-append (from batch) (from (order batch)) (from (batches rest)) (from (orders rest)) (from_order batch) (from_orders rest)))
+
+module _ {a : CallState} {at : Word → ℕ} {control : ℕ → ControlValue} (s : Shows a at control) where
+  -- what joined a queue is what was sent
+  joins : (source cpu : ℕ) → calls_from source (joined a cpu) ≡ calls_to cpu (a.sent source)
+  joins source cpu = sym (sym (unmarked_sent cpu (a.sent source)) ∙ (ap unmarked (s.recorded.in_order source cpu) ∙
+      (unmarked_from source (history_of (a.taken cpu) (a.queue cpu)) ∙ ap (calls_from source) (unmarked_history (a.taken cpu) (a.queue cpu)))))
+
+  -- and it is, in drain order, what has begun and what waits
+  parts : (cpu : ℕ) → orders (a.taken cpu) ++ a.queue cpu ≡ begun a cpu ++ waiting a cpu
+  parts cpu = let run : List Call = running_call (a.running cpu) in
+      ap (λ xs. xs ++ a.queue cpu) (sym (s.recorded.drained cpu) ∙ sym (append_assoc (a.ran cpu) run (a.batch cpu)))
+      ∙ append_assoc (begun a cpu) (a.batch cpu) (a.queue cpu)
+
+  pub run_once : RunOnce a
+  run_once source cpu =
+      let from : List Call → List Call = calls_from source in
+      let apart : from (joined a cpu) ≡ from (batches (a.taken cpu)) ++ from (a.queue cpu) = from-append source (batches (a.taken cpu)) (a.queue cpu) in
+      let whole : from (orders (a.taken cpu)) ++ from (a.queue cpu) ≡ from (begun a cpu ++ waiting a cpu) =
+      sym (from-append source (orders (a.taken cpu)) (a.queue cpu)) ∙ ap from (parts cpu) in
+      subst (λ xs. IsPermutation xs (from (begun a cpu ++ waiting a cpu))) (sym apart ∙ joins source cpu)
+      (subst (IsPermutation (from (batches (a.taken cpu)) ++ from (a.queue cpu))) whole
+      (IsPermutation-append (from (batches (a.taken cpu))) (from (orders (a.taken cpu))) (from (a.queue cpu)) (from (a.queue cpu))
+      (from_orders source (a.taken cpu)) (IsPermutation-refl (from (a.queue cpu)))))
+
+  begins : (cpu : ℕ) (class : Class) → IsPrefix (of_class class (begun a cpu)) (of_class class (joined a cpu))
+  begins cpu class =
+      let of : List Call → List Call = of_class class in
+      let run : List Call = running_call (a.running cpu) in
+      let taken : of (batches (a.taken cpu)) ≡ of (begun a cpu) ++ of (a.batch cpu) =
+      sym (orders_keep class (a.taken cpu)) ∙ (ap of (sym (s.recorded.drained cpu) ∙ sym (append_assoc (a.ran cpu) run (a.batch cpu)))
+      ∙ of_class-append class (begun a cpu) (a.batch cpu)) in (
+        of (a.batch cpu) ++ of (a.queue cpu),
+        of_class-append class (batches (a.taken cpu)) (a.queue cpu) ∙ (ap (λ xs. xs ++ of (a.queue cpu)) taken
+            ∙ append_assoc (of (begun a cpu)) (of (a.batch cpu)) (of (a.queue cpu))),
+      )
+
+  pub run_in_order : RunInOrder a
+  run_in_order = record { begin = begins; join = joins }
+
+  still : IsDrained at → Still at
+  still d = record { unlocked = λ id. let e = d.flags id in search (e, arith); outside = d.hands }
+
+  pub run_equal_queued : RunEqualQueued a at
+  run_equal_queued d source cpu =
+      let from : List Call → List Call = calls_from source in
+      let sent : calls_to cpu (a.sent source) ≡ from (batches (a.taken cpu)) =
+      sym (unmarked_sent cpu (a.sent source)) ∙ (ap unmarked (all_sent s (still d) source cpu) ∙
+      (unmarked_from source _ ∙ ap from (unmarked_batches (a.taken cpu)))) in
+      record {
+        calls = subst (λ xs. IsPermutation xs (from (a.ran cpu))) (sym sent) (subst (λ xs. IsPermutation (from (batches (a.taken cpu))) (from xs))
+            (sym (all_ran s (still d) cpu)) (from_orders source (a.taken cpu)));
+        counts = equal_tallies s (still d) source cpu;
+      }
+
+  -- of each source and class, the calls that have begun on a CPU are the first of those that the source has sent to it
+  pub run_as_sent : (source cpu : ℕ) (class : Class) → IsPrefix (of_class class (calls_from source (begun a cpu))) (of_class class (calls_to cpu (a.sent source)))
+  run_as_sent source cpu class =
+      let p = begins cpu class in (
+        calls_from source p.0,
+        ap (of_class class) (sym (joins source cpu)) ∙ (from_class source class (joined a cpu) ∙ (ap (calls_from source) p.1 ∙
+            (from-append source (of_class class (begun a cpu)) p.0
+            ∙ ap (λ (xs : List Call). xs ++ calls_from source p.0) (sym (from_class source class (begun a cpu)))))),
+      )

@@ -1,0 +1,21 @@
+-- The headline, of a replay on a new machine.
+use Rattle.std.proofs.Common.{IfOk, Result, Ok, Err, List}
+use Rattle.smp_words.specs.declared.command.Event.{Event}
+use Rattle.smp_words.specs.declared.seen.Seen.{Seen}
+use Rattle.smp_stop_steps.specs.Table.{stop_number}
+use Rattle.smp_stop_steps.specs.Value.{StopShown}
+use Rattle.smp_stop_steps.specs.StopLaws.{KeepsStopLaws}
+use Rattle.smp_stop_steps.proofs.Promises.StopLaws.{keeps_laws}
+use Rattle.smp_core.specs.Headline.{stops_after}
+use Rattle.smp_core.specs.Machine.{setup_in}
+use Rattle.smp_core.specs.Value.{CoreValue}
+
+-- what holds of a value that came
+pub ok_then : {T E : Type 0} (r : Result T E) (P Q : T → Type 0) → ((x : T) → P x → Q x) → IfOk r P → IfOk r Q
+ok_then (Ok x) P Q f k = f x k
+ok_then (Err e) P Q f k = tt
+
+-- the laws of the stops that a replay tells
+pub laws_after : (first core : CoreValue) (events : List Event) (seen : List Seen) → StopShown (stops_after first events seen) core.stops
+    → KeepsStopLaws (setup_in core) (stops_after first events seen) (stop_number core.stops.table)
+laws_after first core events seen shown = keeps_laws (setup_in core) (stops_after first events seen) (stop_number core.stops.table) shown.seat shown.source shown.shows

@@ -1,0 +1,148 @@
+-- CPUs that are not online have no part in what a list of events tells.
+use Rattle.std.proofs.Common.{◌≡◌, ◌≢◌, ℕ, false, Option, Some, None, Ok, Err, refl, sym, subst, ap, ne_eqb}
+use Rattle.smp_mask.specs.Mask.{has}
+use Rattle.smp_mask.specs.declared.error.SmpError.{SmpError}
+use Rattle.smp_mask.specs.declared.error.SmpError.TheVariants as error
+use Rattle.smp_words.specs.declared.command.Command.{Command}
+use Rattle.smp_words.specs.declared.command.Event.{Event}
+use Rattle.smp_words.specs.declared.command.Event.TheVariants as event
+use Rattle.smp_words.specs.declared.seen.Seen.{Seen}
+use Rattle.smp_words.specs.Layout.{number_in}
+use Rattle.smp_call_steps.specs.Calls.{CallState, tells, tells_if}
+use Rattle.smp_call_steps.specs.Parts.{part_of}
+use Rattle.smp_call_steps.specs.Value.{control_of}
+use Rattle.smp_call_steps.specs.declared.stage.Stage.{Stage}
+use Rattle.smp_call_steps.proofs.Knows.Parts.{part_else}
+use Rattle.smp_stop_steps.specs.Known.{holds_it}
+use Rattle.smp_stop_steps.specs.Stages.{answer_at, stop_outcome}
+use Rattle.smp_stop_steps.specs.State.{StopState, no_stops}
+use Rattle.smp_stop_steps.specs.Tells as stops
+use Rattle.smp_stop_steps.specs.Tells.{tells_if as stops_if}
+use Rattle.smp_stop_steps.specs.Value.{StopShown, stop_control_of}
+use Rattle.smp_stop_steps.specs.Machine.{stop_found_at, stop_seen_at}
+use Rattle.smp_stop_steps.specs.declared.stage.StopStage.{StopStage}
+use Rattle.smp_words.specs.Size.{cpus}
+use Rattle.smp_core.specs.Machine.{found_at, seen_at, setup_in, step_at}
+use Rattle.smp_core.specs.OfflineStops.{AreInNoStop, HasNoStop, stop_part_of}
+use Rattle.smp_core.specs.Replay.{start_turn, step_turn, turn_of}
+use Rattle.smp_core.specs.Start.{refusal_of, started}
+use Rattle.smp_core.specs.Value.{CoreValue, Shown}
+use Rattle.smp_core.specs.Whole.{IsWhole}
+use Rattle.smp_core.proofs.Halves.{call_step_apart, stop_step_apart}
+use Rattle.smp_core.proofs.Offline.{apart, inside_online}
+use Rattle.smp_core.proofs.OfflineStops.{apart as stops_apart, has_no_stop, inside_online as stops_inside_online, stage_else}
+
+-- an event keeps the CPUs online
+start_online : (core : CoreValue) (cpu : ℕ) (c : Command) (refused : Option SmpError) → (start_turn core (started core cpu c) refused).core.online ≡ core.online
+start_online core cpu c (Some e) = refl
+start_online core cpu c None = refl
+
+step_online : (core : CoreValue) (cpu : ℕ) (x : Option Stage) (y : Option StopStage) → (step_turn core (step_at core cpu x y)).core.online ≡ core.online
+step_online core cpu (Some stage) y = refl
+step_online core cpu None (Some stage) = refl
+step_online core cpu None None = refl
+
+pub turn_online : (core : CoreValue) (event : Event) → (turn_of core event).core.online ≡ core.online
+turn_online core (event.Start cpu c) = start_online core cpu c (refusal_of core cpu c)
+turn_online core (event.Step cpu) = step_online core cpu (control_of core.controls cpu).stage (stop_control_of core.stops.controls cpu).stage
+
+-- in no stop a CPU has the part of no stops
+not_held : (g : Option ℕ) (c : ℕ) → g ≢ Some c → holds_it g c ≡ false
+not_held None c ne = refl
+not_held (Some d) c ne = ne_eqb d c (λ same. ne (ap Some same))
+
+pub has_no_part : (p : StopState) (c : ℕ) → HasNoStop p c → stop_part_of p c ≡ stop_part_of no_stops c
+has_no_part p c h = λ i. record {
+  holds = not_held p.gate c h.gate i;
+  inside = h.inside i;
+  irq = h.irq i;
+  readings = h.readings i;
+  begun = h.begun i;
+  collected = h.collected i;
+  answers = λ s. h.answers s i;
+  looks = h.looks i;
+  calls = h.calls i;
+  calling = h.calling i;
+  nudged = λ k. h.nudged k i;
+  patched = λ k. h.patched k i;
+}
+
+-- an event leaves the part of each CPU that is not online
+
+module _ (core : CoreValue) (w : IsWhole core) (j : ℕ) (off : has core.online j ≡ false) where
+  stops_off : has core.stops.online j ≡ false
+  stops_off = rw w.sound.stops_online off
+
+  abbrev Keeps : CallState → Option Seen → Type 0
+  Keeps a s = part_of (tells_if a s) j ≡ part_of a j
+
+  abbrev HasNone : StopState → Type 0
+  HasNone p = stop_part_of p j ≡ stop_part_of no_stops j
+
+  -- where a command begins, nothing is seen
+  start_keeps : (new : CoreValue) (refused : Option SmpError) (s : Option Seen) → Ok s ≡ (start_turn core new refused).answer → s ≡ None
+  start_keeps new None s is = let e : Ok s ≡ Ok None = is in cc
+  start_keeps new (Some refused) s is = absurd (let e : Ok s ≡ Err refused = is in cc)
+
+  module _ (cpu : ℕ) where
+    call_keeps : (stage : Stage) → (control_of core.controls cpu).stage ≡ Some stage → (a : CallState) → Shown a core →
+        part_of (tells a (seen_at core cpu stage)) j ≡ part_of a j
+    call_keeps stage e a shown = part_else cpu (control_of core.controls cpu).drain shown stage j
+        (apart core.online cpu j (inside_online core.online core.words core.controls cpu w.sound.table.controls_sized w.sound.apart stage e) off)
+
+    stop_keeps : (stage : StopStage) → (stop_control_of core.stops.controls cpu).stage ≡ Some stage → (p : StopState) → HasNone p →
+        HasNone (stops.tells (setup_in core) p (stop_seen_at core.stops cpu stage) (answer_at stage))
+    stop_keeps stage e p h =
+        let before = w.sound.stops_apart in
+        stage_else (setup_in core) p cpu j (stops_apart core.stops cpu before j (stops_inside_online core.stops cpu before stage e) stops_off)
+        cpus (stop_control_of core.stops.controls cpu).changes (stop_found_at core.stops cpu stage)
+        (stop_outcome cpu (stop_control_of core.stops.controls cpu) stage (stop_found_at core.stops cpu stage)).note h stage
+
+    step_keeps : (x : Option Stage) (y : Option StopStage) → (control_of core.controls cpu).stage ≡ x → (stop_control_of core.stops.controls cpu).stage ≡ y →
+        (s : Option Seen) → Ok s ≡ (step_turn core (step_at core cpu x y)).answer → (a : CallState) → Shown a core → Keeps a s
+    step_keeps (Some stage) y e f s is a shown =
+        let same : s ≡ Some (seen_at core cpu stage) = let o : Ok s ≡ Ok (Some (seen_at core cpu stage)) = is in cc in
+        subst (Keeps a) (sym same) (call_keeps stage e a shown)
+    step_keeps None (Some stage) e f s is a shown =
+        let same : s ≡ Some (stop_seen_at core.stops cpu stage) = let o : Ok s ≡ Ok (Some (stop_seen_at core.stops cpu stage)) = is in cc in
+        subst (Keeps a) (sym same) (ap (λ (b : CallState). part_of b j) (stop_step_apart a cpu (stop_found_at core.stops cpu stage)
+        (stop_seen_at core.stops cpu stage).note cpus (stop_control_of core.stops.controls cpu).changes stage))
+    step_keeps None None e f s is a shown = absurd (let bad : Ok s ≡ Err error.IdleStep = is in cc)
+
+    step_keeps_stops : (x : Option Stage) (y : Option StopStage) → (stop_control_of core.stops.controls cpu).stage ≡ y → (s : Option Seen) →
+        let turn = step_turn core (step_at core cpu x y) in
+        Ok s ≡ turn.answer → (p : StopState) → HasNone p → HasNone (stops_if (setup_in core) p s turn.answered)
+    step_keeps_stops (Some stage) y f s is p h =
+        let same : s ≡ Some (seen_at core cpu stage) = let o : Ok s ≡ Ok (Some (seen_at core cpu stage)) = is in cc in
+        subst (λ (o : Option Seen). HasNone (stops_if (setup_in core) p o 0)) (sym same)
+        (subst HasNone (sym (call_step_apart (setup_in core) p cpu 0 (found_at core cpu stage) (seen_at core cpu stage).note
+        (number_in core.words) stage)) h)
+    step_keeps_stops None (Some stage) f s is p h =
+        let same : s ≡ Some (stop_seen_at core.stops cpu stage) = let o : Ok s ≡ Ok (Some (stop_seen_at core.stops cpu stage)) = is in cc in
+        subst (λ (o : Option Seen). HasNone (stops_if (setup_in core) p o (answer_at stage))) (sym same) (stop_keeps stage f p h)
+    step_keeps_stops None None f s is p h = absurd (let bad : Ok s ≡ Err error.IdleStep = is in cc)
+
+  pub turn_keeps : (event : Event) (s : Option Seen) → Ok s ≡ (turn_of core event).answer → (a : CallState) → Shown a core →
+      part_of (tells_if a s) j ≡ part_of a j
+  turn_keeps (event.Start cpu c) s is a shown = subst (Keeps a) (sym (start_keeps (started core cpu c) (refusal_of core cpu c) s is)) refl
+  turn_keeps (event.Step cpu) s is a shown =
+      step_keeps cpu (control_of core.controls cpu).stage (stop_control_of core.stops.controls cpu).stage refl refl s is a shown
+
+  pub turn_keeps_stops : (event : Event) (s : Option Seen) → Ok s ≡ (turn_of core event).answer → (p : StopState) →
+      stop_part_of p j ≡ stop_part_of no_stops j →
+      stop_part_of (stops_if (setup_in core) p s (turn_of core event).answered) j ≡ stop_part_of no_stops j
+  turn_keeps_stops (event.Start cpu c) s is p h =
+      subst (λ (o : Option Seen). HasNone (stops_if (setup_in core) p o (turn_of core (event.Start cpu c)).answered))
+      (sym (start_keeps (started core cpu c) (refusal_of core cpu c) s is)) h
+  turn_keeps_stops (event.Step cpu) s is p h =
+      step_keeps_stops cpu (control_of core.controls cpu).stage (stop_control_of core.stops.controls cpu).stage refl s is p h
+
+-- stops that a core shows, in which the CPUs that are not online have the part of no stops
+pub in_no_stop : (core : CoreValue) → IsWhole core → (p : StopState) → StopShown p core.stops →
+    ((j : ℕ) → has core.online j ≡ false → stop_part_of p j ≡ stop_part_of no_stops j) → AreInNoStop core.online p
+in_no_stop core w p shown idle c off = has_no_stop core.stops record {
+  stops = p;
+  shown = shown;
+  outside = w.sound.stops_apart.outside;
+  idle = λ j none. idle j (subst (λ (o : ℕ). has o j ≡ false) w.sound.stops_online none);
+} c (rw w.sound.stops_online off)
