@@ -18,6 +18,7 @@ use Rattle.smp_multi.specs.Cpu.{CallsNone, IsKept, answers, call_with, calls_wit
 use Rattle.smp_multi.specs.Places.{work_in}
 use Rattle.smp_multi.specs.Seat.{SeatValue}
 use Rattle.smp_multi.specs.StepCounts.{completing}
+use Rattle.smp_multi.proofs.Kept.{owned_idle}
 
 -- who calls none completes with the answer that it carries, and calls none with 0
 quiet_answer : (v : Visit) (x : ℕ) (f : Calling) → CallsNone (Some v) x f → answer_in (with_answer x f) ≡ x
@@ -34,10 +35,6 @@ is_several : (k : Kind) → k ≢ One → is_one k ≡ false
 is_several One ne = absurd (ne refl)
 is_several Multi ne = refl
 is_several Patch ne = refl
-
-owned_idle : (b : Bool) (y : Source) → OwnsIf b y → is_drafting y ≡ false
-owned_idle true y o = ap is_drafting o.1
-owned_idle false y o = ap is_drafting o
 
 module _ (t : TableId) (d : SeatValue) (number : ℕ) (v : Visit) (holds is_open : Bool) (k : IsKept d.known number (Some v) holds is_open)
     (several : v.kind ≢ One) (left : v.acked ≡ EXIT) where

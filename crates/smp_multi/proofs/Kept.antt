@@ -193,13 +193,14 @@ idle_before v x slot acked looked w t l is early quiet = go (l.stops.calling v.n
     go (Calls call) k e = absurd (let P : Calling → Type 0 = λ f. CallsNone (Some x) v.carried f in subst P (sym e) quiet)
     go (Carries answer) k e = absurd (let late = k.0 in omega (arith, late, early))
 
--- a CPU that has run the function of a stop of one CPU
-pub ran_view : (d e : SeatValue) (slot : ℕ) (w : Work) (x n : ℕ) → w.kind ≡ One → d.known.part.calling ≡ Idle → e.table ≡ d.table
+-- a CPU that has run the function of a stop of one CPU, whatever it was calling
+pub ran_view : (d e : SeatValue) (slot : ℕ) (w : Work) (x n : ℕ) → w.kind ≡ One → (f : Calling)
+    → part_with d.known.carried d.known ≡ record (d.known.part) { calling = f } → e.table ≡ d.table
     → e.known ≡ stepped n (completed_with 0 slot w x (carrying 0 d.known)) → cpu_of e ≡ makes n (answers slot x (runs (call_with w x) (cpu_of d)))
-ran_view d e slot w x n one idle table same =
+ran_view d e slot w x n one f part table same =
     (λ i. cpu_of (record { table = table i; known = same i })) ∙ (
     ap (λ (k : Kind). cpu_of (record { table = d.table; known = stepped n (completed_with 0 slot (record w { kind = k }) x (carrying 0 d.known)) })) one ∙
-    ap (λ (k : Part). makes n (answers slot x (runs (call_with w x) (record (cpu_of d) { part = k })))) (sym (idle_part d.known.carried d.known idle)))
+    ap (λ (k : Part). makes n (answers slot x (runs (call_with w x) (record (cpu_of d) { part = k })))) (sym part))
 
 -- one stop more, before those that have this last answer
 given_more : (b : Bool) (n : ℕ) (answers before : List ℕ) (v : ℕ) → answers ≡ before ++ v ∷ []
@@ -345,6 +346,11 @@ enters_answer t d e slot work visit free idle there table same calls of = record
   is = entered_view d e slot work free idle table same;
 }
 
+-- a source between two calls drafts no stop
+pub owned_idle : (b : Bool) (y : Source) → OwnsIf b y → is_drafting y ≡ false
+owned_idle true y o = ap is_drafting o.1
+owned_idle false y o = ap is_drafting o
+
 -- a CPU that is to run the function of a stop of one CPU
 pub at_one : (t : TableId) (d : SeatValue) (number : ℕ) (visit : Visit) (holds is_open : Bool) → IsKept d.known number (Some visit) holds is_open
     → visit.kind ≡ One → d.table ≡ t → t.words ≡ cells → AtOne t d visit.slot
@@ -361,10 +367,6 @@ at_one t d number visit holds is_open kept one table sized =
       seat_is = is ∙ sym (ap (λ (x : Seat). In visit.slot (work_in x) 0 0 Rests) is);
       one = ap (λ (x : Seat). (work_in x).kind) is ∙ kind;
     }
-  where
-    owned_idle : (b : Bool) (y : Source) → OwnsIf b y → is_drafting y ≡ false
-    owned_idle true y o = ap is_drafting o.1
-    owned_idle false y o = ap is_drafting o
 
 -- its answer
 pub run_answers : {F : Type 0} (leads : F → Called → F → Type 0) (d e : SeatValue) (number : ℕ) (visit : Visit) (holds is_open : Bool) (before after : F)
@@ -379,7 +381,7 @@ run_answers {F} leads d e number visit holds is_open before after v kept one tab
     let none = no_phase d.known visit.slot visit.acked visit.acked w kept.lives kept.rests.2 kind in
     let idle = idle_before d.known visit visit.slot visit.acked visit.acked w Rests kept.lives kept.rests.2 (omega (arith, none)) kept.quiet in (
       record { stop = record { slot = visit.slot; work = w; acked = visit.acked }; is = ap inside_of kept.rests.2; one = kind },
-      ran_view d e visit.slot w (answer_word v) n kind idle table
+      ran_view d e visit.slot w (answer_word v) n kind Idle (idle_part d.known.carried d.known idle) table
           (same ∙ ap (λ (x : Work). stepped n (completed_with 0 visit.slot x (answer_word v) (carrying 0 d.known))) work),
       subst (λ (x : Work). leads before (called d.known.number x.func x.arg v) after) work heard,
     )

@@ -23,6 +23,7 @@ pub mod Kept
 pub mod Advancing
 pub mod Finishing
 pub mod Showing
+pub mod Calls
 -- readings and nudges of keys
 pub mod Reading
 pub mod Nudging

@@ -438,7 +438,7 @@ module _ (k : Known) (s : ℕ) (w : Work) (count : ℕ) (is : k.seat ≡ In s w 
 
 -- a turn with a patch
 
-work_looked : (n : ℕ) (x : Seat) → work_in (looked_to n x) ≡ work_in x
+pub work_looked : (n : ℕ) (x : Seat) → work_in (looked_to n x) ≡ work_in x
 work_looked n Free = refl
 work_looked n (In s w a l t) = refl
 work_looked n (Gives s w a x) = refl

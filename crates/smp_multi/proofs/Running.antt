@@ -42,7 +42,7 @@ one_called t d e slot n a table same = record {
 }
 
 -- a CPU that calls a function is not idle
-calls_some : (f : Calling) (call : StopCall) → f ≡ Calls call → f ≢ Idle
+pub calls_some : (f : Calling) (call : StopCall) → f ≡ Calls call → f ≢ Idle
 calls_some f call e none = absurd (no_call (sym e ∙ none))
   where
     no_call : Calls call ≢ Idle

@@ -53,13 +53,16 @@ patches w count c = record c { part = record (c.part) { patched = patched_with w
 abbrev pub reads_anew : Inside → CpuValue → CpuValue
 reads_anew stop c = record c { part = record (c.part) { readings = first_readings c.number stop.slot stop.work } }
 
+-- one that has called the function of its Multi stop at RUN, with this answer
+abbrev pub runs_at_run : Inside → ℤ → CpuValue → CpuValue
+runs_at_run stop v c = makes 4 (carries (answer_word v) (runs (call_of stop v) (acknowledges stop RUN false c)))
+
 -- an active CPU at RUN: it has called the function of its Multi stop once, or has made its patch, which leads from the count
 -- that its load has found in the key
 abbrev pub RunsAt : {F : Type 0} → (F → Called → F → Type 0) → Inside → CpuValue → CpuValue → F → F → Kind → Type 0
 RunsAt leads stop old new before after One = ⊥
 RunsAt leads stop old new before after Multi =
-    (answer : ℤ)
-    × (new ≡ makes 4 (carries (answer_word answer) (runs (call_of stop answer) (acknowledges stop RUN false old))))
+    (answer : ℤ) × (new ≡ runs_at_run stop answer old)
     × leads before (called old.number stop.work.func stop.work.arg answer) after
 RunsAt leads stop old new before after Patch =
     (count : ℕ) × (new ≡ makes (5 + patching old.setting stop.work count)

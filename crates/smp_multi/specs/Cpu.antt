@@ -45,6 +45,12 @@ pub record CpuValue : Type 0 where
   pub attempts : List Attempt
   pub steps : ℕ
 
+-- a CPU that has come to call the function of its stop, and that call
+pub record AnsweringValue : Type 0 where
+  pub cpu : CpuValue
+  pub func : ℕ
+  pub arg : ℕ
+
 abbrev pub inside_of : Seat → Option Inside
 inside_of (In s w a l t) = Some (record { slot = s; work = w; acked = a })
 inside_of (Gives s w a x) = Some (record { slot = s; work = w; acked = a })

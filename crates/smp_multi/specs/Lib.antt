@@ -22,8 +22,12 @@ pub mod Cpu
 pub mod Table
 pub mod Answers
 pub mod Advance
+-- the same step by step, with the CPU by value
+pub mod AtCall
+pub mod ByValue
 -- what holds while threads run
 pub mod Laws
+pub mod CallLaws
 -- readings and nudges of keys
 pub mod Reads
 pub mod Nudges

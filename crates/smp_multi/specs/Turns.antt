@@ -46,3 +46,7 @@ TurnAnswers leads old new v v' f g (Moved p) = (p ≡ v.acked + 1) × (p ≢ EXI
 TurnAnswers leads old new v v' f g Ran = (v.acked ≡ DISABLE_IRQ) × (has v.active old.number ≡ true) × HasRun leads old new v v' f g v.kind
 TurnAnswers leads old new v v' f g Left = (v.acked ≡ RUN) × (new ≡ stepped 2 (passed_known EXIT old))
     × (v' ≡ visit_acked v 0 false) × (g ≡ f)
+
+-- no function is called
+abbrev pub no_call : Unit {0} → Called → Unit {0} → Type 0
+no_call f call g = ⊥

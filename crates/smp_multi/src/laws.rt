@@ -1,10 +1,12 @@
 //! What holds of running threads, at any time, of each CPU's value.
 
+ghost use Rattle.smp_multi.specs.CallLaws.{CallsAlone, CallsAreListed, StepsAreCalls};
 ghost use Rattle.smp_multi.specs.LabelLaws.{LabelsAreLawful, CountsAreSums};
 ghost use Rattle.smp_multi.specs.Laws.{IsShown, FunctionsRunAlone};
 ghost use Rattle.smp_multi.specs.PatchLaws.{PatchesMoveCounts};
 ghost use Rattle.smp_multi.specs.Polls.{OwnAnswersAgree};
 
+use crate::answering::Answering;
 use crate::cpu::StopCpu;
 use crate::table::StopTable;
 use std::alloc::Allocator;
@@ -20,9 +22,31 @@ pub fn is_shown<A: Allocator>(table: &StopTable<A>, cpu: &StopCpu)
 
 /// The function law: from its look at `RUN` to its acknowledgement, as long as that is what a CPU knows, whatever steps
 /// other threads make, the phase is `RUN`, and every CPU of the mask has acknowledged `DISABLE_IRQ` and has its interrupts
-/// off. A CPU calls the function of a Multi stop, and makes a patch, only there (`seat/run_steps.rt`).
+/// off. A CPU calls the function of a Multi stop, and makes a patch, only there (`turn.rt`).
 pub fn functions_run_alone()
     ensures { FunctionsRunAlone }
+{}
+
+/// The function law of a CPU whose function is to be called ([`Answering`]): its value is its part of stops that words of its
+/// table show, and the call is that of the stop that it is in. In a Multi stop it is active, and has not acknowledged `RUN`.
+/// As long as it has not answered, whatever steps other threads make, every CPU of the mask has acknowledged `DISABLE_IRQ`
+/// and has its interrupts off.
+pub fn calls_are_alone(answering: &Answering)
+    ensures { CallsAlone answering.now }
+{
+    let _number = answering.number;
+}
+
+/// Each call of a stop function is listed once, with the function and the argument of its work, and the answer: by `advance`
+/// at `Ran` of a Multi stop, by `run_one`, and by `answer`.
+pub fn calls_are_listed()
+    ensures { CallsAreListed }
+{}
+
+/// Steps by value leave what calls leave: `turn` to a call and `answer` what `advance` leaves at `Ran`, and `begin_one` and
+/// `answer` what `run_one` leaves.
+pub fn steps_are_calls()
+    ensures { StepsAreCalls }
 {}
 
 /// The label law: while no CPU is between the first and the last store of a patch, the label table is lawful, whatever CPUs

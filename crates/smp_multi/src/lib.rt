@@ -11,7 +11,7 @@
 //! | 2 | `open_gate` | | g | g | - | - | - | - | - | x |
 //! | 3 | `begin` | | | g | - | - | - | - | - | x |
 //! | 4 | `enter` | | | | - | - | - | - | - | x |
-//! | 5 | `run_one`, `advance`, `finish` | | | | | - | - | - | - | x |
+//! | 5 | `run_one`, `advance`, `finish`, `begin_one`, `turn`, `answer` | | | | | - | - | - | - | x |
 //! | 6 | `poll_done` | | | | | | - | - | - | x |
 //! | 7 | `read_key`, `read_site`, `try_key` | | | | | | | - | - | x |
 //! | 8 | `StopBoot::cpu` | | | | | | | | x | x |
@@ -20,7 +20,7 @@
 //! Where the row's call may run together with the one of the column's number, on two threads: `-` where no lock is
 //! needed; `g` where the gate orders them, since each is E4 without it; `x` where the types refuse it, since `new` makes
 //! the table, and `StopBoot::cpu` takes the one `StopBoot` by `&mut`. All but the last two take the caller's `StopCpu`
-//! by `&mut`. So `-` is about two CPUs, and a CPU makes one call at a time.
+//! by `&mut` or by value. So `-` is about two CPUs, and a CPU makes one call at a time.
 //!
 //! No call waits. What its CPU or another has to do for the stop to go on is in the third column.
 //!
@@ -32,6 +32,9 @@
 //! | `enter` | the fetch_and of the roll | nobody | `cpu_stopper_thread` |
 //! | `run_one` | the fetch_sub of the count | nobody | `cpu_stopper_thread` |
 //! | `advance` | the load of the phase, and the fetch_sub that acknowledges it | each CPU of the mask, until it has left | `multi_cpu_stop` |
+//! | `turn` | as `advance`, up to the call of a function | as `advance` | `multi_cpu_stop` |
+//! | `begin_one` | the load of the argument | nobody | `cpu_stopper_thread` |
+//! | `answer` | the fetch_sub of `RUN`, or of the count | nobody | `multi_cpu_stop`, `cpu_stopper_thread` |
 //! | `finish` | the fetch_sub of the count | nobody | `cpu_stop_signal_done` |
 //! | `poll_done` | the load of the result | the source, until it is Some | `wait_for_completion` |
 //! | `read_key`, `read_site` | the load | nobody | `static_key_enabled`, `arch_static_branch` |
@@ -39,6 +42,8 @@
 #![tactic(auto)]
 
 mod accesses;
+mod answer;
+mod answering;
 mod begin;
 mod boot;
 mod cell;
@@ -55,12 +60,12 @@ mod read;
 mod round;
 mod rule;
 mod run;
-mod run_multi;
 mod seat;
 mod seat_view;
 mod table;
 mod turn;
 
+pub use answering::{Answering, Turned};
 pub use boot::StopBoot;
 pub use cpu::StopCpu;
 pub use func::{Called, StopFunc};

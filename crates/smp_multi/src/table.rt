@@ -28,20 +28,23 @@ ghost use Rattle.smp_stop_steps.specs.Known.{fresh};
 ghost use Rattle.smp_multi.specs.Lives.{Lives};
 ghost use Rattle.smp_multi.specs.Advance.{AdvanceAnswers, FinishAnswers};
 ghost use Rattle.smp_multi.specs.Answers.{BeginAnswers, Enters, RefusesEntry, RunAnswers, PollAnswers};
+ghost use Rattle.smp_multi.specs.ByValue.{Answered, OneAnswers, TurnedAnswers};
 ghost use Rattle.smp_multi.specs.Cpu.{IsAt, IsFull, fresh_cpu, gives_gate, misses_gate, takes_gate};
 ghost use Rattle.smp_multi.specs.Laws.{FindsHeld};
 ghost use Rattle.smp_multi.specs.Nudges.{NudgeAnswers};
 ghost use Rattle.smp_multi.specs.Reads.{KeyAnswers, SiteAnswers};
 
 use crate::accesses::Owner;
+use crate::answering::{Answering, Turned, come_to_one, give_answer, turn_once};
 use crate::boot::StopBoot;
 use crate::cpu::StopCpu;
 use crate::func::StopFunc;
 use crate::gate::{leave_gate, take_gate};
 use crate::nudge::Nudge;
 use crate::poll::{collect, is_done};
+use crate::run::take_turn;
 use crate::seat::{CpuSeat, lay, next_seat};
-use crate::turn::{Turn, take_turn};
+use crate::turn::Turn;
 use crate::{begin, complete, enter, nudge, read, run};
 use smp_labels::{LabelMap, SiteKind};
 use smp_mask::{CpuMask, SmpError};
@@ -294,6 +297,34 @@ impl<A: Allocator> StopTable<A> {
         let (visit, turn) = take_turn(self.owner.words(), &mut me.seat, me.number, visit, func);
         me.visit = Some(visit);
         Ok(turn)
+    }
+
+    /// As [`StopTable::run_one`] up to the call: the function is the caller's to call. The CPU comes back by
+    /// [`StopTable::answer`]. Err gives it back where it has entered no such stop, which makes no step. It does not wait.
+    pub fn begin_one(&self, me: StopCpu) -> Result<Answering, StopCpu>
+        requires { IsAt self.now me }
+        ensures { OneAnswers me result }
+    {
+        come_to_one(self.owner.words(), me)
+    }
+
+    /// As [`StopTable::advance`], but it calls no function: at `RUN` an active CPU of a Multi stop comes back as `Call`, and
+    /// the function is the caller's to call. Every CPU of the mask has its interrupts off until [`StopTable::answer`] takes
+    /// the answer. Err gives the CPU back where it is in no such stop or has left it, which makes no step.
+    pub fn turn(&self, me: StopCpu) -> Result<Turned, StopCpu>
+        requires { IsAt self.now me }
+        ensures { TurnedAnswers me result }
+    {
+        turn_once(self.owner.words(), me)
+    }
+
+    /// The function that was to be called has given this answer: the CPU acknowledges `RUN` with it, at that fetch_sub, or
+    /// completes its stop of one CPU with it, at the fetch_sub of its count. It does not wait.
+    pub fn answer(&self, answering: Answering, answer: i32) -> StopCpu
+        requires { IsAt self.now answering.cpu }
+        ensures { Answered answering answer result }
+    {
+        give_answer(self.owner.words(), answering, answer)
     }
 
     /// Completes the stop of several CPUs that this CPU has left, with its function's answer, 0 where it called none, at the

@@ -1,18 +1,17 @@
-//! One turn of a stop of several CPUs (`multi_cpu_stop`).
+//! One turn of a stop of several CPUs (`multi_cpu_stop`), up to the call of a function.
 
 ghost use Rattle.std.specs.Prelude.{◌≡◌, ◌≢◌, ◌<◌, ◌==◌, ◌&&◌};
 ghost use Rattle.smp_mask.specs.Mask.{has};
+ghost use Rattle.smp_multi.specs.AtCall.{Goes};
 ghost use Rattle.smp_multi.specs.Lives.{Lives};
 ghost use Rattle.smp_multi.specs.Names.{One, Rests};
 ghost use Rattle.smp_multi.specs.Rounds.{AtTurn};
-ghost use Rattle.smp_multi.specs.Turns.{TurnAnswers};
 
 use crate::accesses::Words;
-use crate::func::StopFunc;
 use crate::patch::patch_on;
 use crate::round::{look, move_on};
-use crate::run_multi::run_on;
 use crate::seat::CpuSeat;
+use crate::seat::run_steps::begin_run;
 use smp_stop_steps::mask::has_bit;
 use smp_stop_steps::phase::{EXIT, RUN};
 use smp_stop_steps::stage::Visit;
@@ -31,6 +30,15 @@ pub enum Turn {
     Left,
 }
 
+/// Where a turn has come to.
+#[derive(Clone, Copy)]
+pub(crate) enum Go {
+    /// It is over: the visit after it, and what it has done.
+    Over(Visit, Turn),
+    /// This function is to be called, with this argument.
+    Call(u16, u64),
+}
+
 /// Whether this phase is the one in which the CPU calls its function.
 fn calls_at(state: u64, visit: Visit, number: u32) -> bool
     requires { number < 64 }
@@ -39,39 +47,32 @@ fn calls_at(state: u64, visit: Visit, number: u32) -> bool
     state == u64::from(RUN) && has_bit(visit.active, number)
 }
 
-/// One turn.
-pub(crate) fn take_turn<F: StopFunc>(
-    words: Words<'_>,
-    seat: &mut CpuSeat,
-    number: u32,
-    visit: Visit,
-    func: &mut F,
-) -> (Visit, Turn)
+/// One turn, or the part of it before the call of the function.
+pub(crate) fn begin_turn(words: Words<'_>, seat: &mut CpuSeat, number: u32, visit: Visit) -> Go
     requires at { AtTurn words.shared.now.table_id seat.old visit visit.acked Rests }
     requires more { visit.acked ≢ EXIT }
     requires several { visit.kind ≢ One }
     requires number { seat.old.known.number ≡ number }
     requires below { number < 64 }
-    ensures at { AtTurn words.entry.shared.now.table_id seat.new result.0 result.0.acked Rests }
     ensures lives { Lives seat.new.known }
-    ensures answers { TurnAnswers F.leads seat.old.known seat.new.known visit result.0 func.old func.new result.1 }
+    ensures goes { Goes words.entry.shared.now.table_id seat.old.known seat.new visit result }
 {
     let state = look(words, seat, visit);
     if state == u64::from(visit.acked) {
-        return (visit, Turn::Same);
+        return Go::Over(visit, Turn::Same);
     }
     if calls_at(state, visit, number) {
-        let visit = if visit.kind == Kind::Patch {
-            patch_on(words, seat, visit)
-        } else {
-            run_on(words, seat, number, visit, func)
-        };
-        return (visit, Turn::Ran);
+        if visit.kind == Kind::Patch {
+            let visit = patch_on(words, seat, visit);
+            return Go::Over(visit, Turn::Ran);
+        }
+        let (func, arg) = begin_run(words, seat, visit);
+        return Go::Call(func, arg);
     }
     let visit = move_on(words, seat, visit);
     if visit.acked == EXIT {
-        (visit, Turn::Left)
+        Go::Over(visit, Turn::Left)
     } else {
-        (visit, Turn::Moved(visit.acked))
+        Go::Over(visit, Turn::Moved(visit.acked))
     }
 }

@@ -6,6 +6,7 @@ mod meetings;
 mod nudges;
 mod patches;
 mod rounds;
+mod steps;
 mod threads;
 mod witness;
 

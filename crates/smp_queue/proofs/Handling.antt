@@ -4,3 +4,4 @@ pub mod Entering
 pub mod Going
 pub mod Ahead
 pub mod Running
+pub mod Passing

@@ -6,5 +6,6 @@ pub mod Posts
 pub mod Empty
 -- a CPU inside handle
 pub mod Handling
+pub mod Chains
 -- what an audit and the laws tell
 pub mod Audits

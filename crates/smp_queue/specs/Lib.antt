@@ -16,8 +16,14 @@ pub mod Empty
 pub mod Audit
 -- a handler, and what handling makes of it
 pub mod Handling
+-- handling, a call at a time
+pub mod ServingValue
+pub mod Serving
+pub mod HandsOut
+pub mod Chain
 -- what holds while threads run
 pub mod Laws
+pub mod Out
 pub mod Posted
 -- what is refused, by numbers
 pub mod Refusals

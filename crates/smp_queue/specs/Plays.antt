@@ -2,10 +2,14 @@
 use Rattle.std.specs.Prelude.{◌≡◌, ℕ, ◌==◌, if◌then◌else◌, Some, None}
 use Rattle.atomic_table.specs.Table.{Me, Step}
 use Rattle.smp_call_steps.specs.Known.{known_told, known_taking, noted_known, Moment}
-use Rattle.smp_queue.specs.Names.{Word, SeatView, Cpu}
+use Rattle.smp_queue.specs.Names.{Word, SeatView, Cpu, Known}
 use Rattle.smp_queue.specs.Names.act
 use Rattle.smp_queue.specs.Cells.{cell_of}
 use Rattle.smp_queue.specs.Rule.{known, Sits}
+
+-- a CPU sits at words by which this number is in this cell
+abbrev pub SitsWith : Known → ℕ → ℕ → Type 0
+SitsWith v cell n = (s : Sits v) × ((w : Word) → cell_of w ≡ Some cell → s.lives.at w ≡ n)
 
 module _ {S : Type 0} where
   abbrev pub AfterLoad : Step S → Me S SeatView → ℕ → Me S SeatView → Type 0
@@ -35,6 +39,10 @@ module _ {S : Type 0} where
 
   abbrev pub stored : Step S → Me S SeatView → ℕ → Me S SeatView → Type 0
   stored st m n m' = Sits (known m'.0) × AfterStore st m n m'
+
+  -- a store that begins, counts or ends a call: what is stored is in the words right after it
+  abbrev pub call_stored : Step S → Me S SeatView → ℕ → Me S SeatView → Type 0
+  call_stored st m n m' = stored st m n m' × SitsWith (known m'.0) st.word st.first
 
   abbrev pub exchanged : Step S → Me S SeatView → ℕ → Me S SeatView → Type 0
   exchanged st m n m' = Sits (known m'.0) × AfterExchange st m n m'

@@ -4,7 +4,7 @@
 //! The interrupt is taken before the queue: a call that is queued later finds either its queue not yet taken or
 //! an interrupt word that may be set again.
 
-ghost use Rattle.std.specs.Prelude.{◌≡◌, ◌<◌, true, false, None, List, if◌then◌else◌, length};
+ghost use Rattle.std.specs.Prelude.{◌≡◌, ◌<◌, true, false, None, List, [], if◌then◌else◌, length};
 ghost use Rattle.smp_words.specs.Size.{cpus};
 ghost use Rattle.smp_call_steps.specs.Order.{order};
 ghost use Rattle.smp_call_steps.specs.Drains.{reverse_on};
@@ -13,17 +13,22 @@ ghost use Rattle.smp_call_steps.specs.Handling.{handling, accepted_known, taken_
 ghost use Rattle.smp_words.specs.declared.call.Call.{Call};
 ghost use Rattle.smp_call_steps.specs.declared.handle.HandleStage.{HandleStage};
 ghost use Rattle.smp_call_steps.specs.declared.handle.HandleStage.TheVariants as handle;
+ghost use Rattle.smp_call_steps.specs.declared.known.Running.TheVariants.{Nothing};
 ghost use Rattle.smp_queue.specs.Seat.{InHandle, IsOutside};
 ghost use Rattle.smp_queue.specs.Cpu.{cpu_of};
 ghost use Rattle.smp_queue.specs.Handling.{AreRan, Grows, asks, drains};
+ghost use Rattle.smp_queue.specs.Serving.{Begins, IsAt, HasRun, HasRunAll, on, begins_at};
 
 use crate::accesses::Words;
 use crate::handler::Handler;
 use crate::reverse::reverse;
-use crate::run::{run_async_calls, run_sync_calls};
+use crate::run::{Pass, Passed, Place, next_async, pass_on};
+use crate::seat::call_steps::{begin_call, end_call};
 use crate::seat::{CpuSeat, store, swap};
 use smp_call_steps::drain::linked;
+use smp_call_steps::handle::Walk;
 use smp_words::Word;
+use smp_words::size::owner_of;
 
 /// What `handle` has done.
 #[derive(Clone, Copy, Debug, PartialEq, Eq)]
@@ -66,6 +71,96 @@ fn leave(words: Words, seat: &mut CpuSeat, number: u32)
     store(words, seat, Word::Hand(number), 0);
 }
 
+/// Goes on to the next call of the batch; where none is left, the CPU leaves.
+pub(crate) fn go_on(
+    words: Words,
+    seat: &mut CpuSeat,
+    number: u32,
+    pass: Pass,
+    here: Option<u32>,
+) -> Option<Place>
+    requires me { seat.old.known.number ≡ number }
+    requires at { InHandle words.shared.now.table_id seat.old (on pass here) }
+    ensures { IsAt words.entry.shared.now.table_id (cpu_of seat.old) seat.new result }
+{
+    match pass_on(words, seat, pass, here) {
+        Passed::At(place) => Some(place),
+        Passed::Over(Some(id)) => Some(next_async(words, seat, id)),
+        Passed::Over(None) => {
+            leave(words, seat, number);
+            None
+        }
+    }
+}
+
+/// A batch that was taken: its first call, and how many it has.
+#[derive(Clone, Copy)]
+pub(crate) struct Batch {
+    pub(crate) first: Option<Place>,
+    pub(crate) calls: u32,
+}
+
+/// Takes the interrupt and, where there was one, the queue.
+pub(crate) fn begin(words: Words, seat: &mut CpuSeat, number: u32) -> Option<Batch>
+    requires { IsOutside words.shared.now.table_id seat.old number }
+    ensures { Begins words.entry.shared.now.table_id seat.old seat.new result }
+{
+    if !enter(words, seat, number) {
+        leave(words, seat, number);
+        return None;
+    }
+    let newest = take(words, seat, number);
+    let (oldest, calls) = reverse(words, seat, newest);
+    let walk = Walk {
+        first: oldest,
+        last: None,
+    };
+    let first = go_on(words, seat, number, Pass::First(walk), oldest);
+    Some(Batch { first, calls })
+}
+
+/// Runs one call, between the step that begins it and those that count and end it, and goes on to the next.
+fn run_one<H: Handler>(
+    words: Words,
+    seat: &mut CpuSeat,
+    number: u32,
+    counts: &mut [u64],
+    place: Place,
+    handler: &mut H,
+) -> Option<Place>
+    requires me { seat.old.known.number ≡ number }
+    requires at { InHandle words.shared.now.table_id seat.old (begins_at place) }
+    requires counts { AreRan counts.old seat.old.known }
+    ensures { HasRun H.leads words.entry.shared.now.table_id seat.old seat.new place.call result counts.new handler.old handler.new }
+{
+    let begun = begin_call(words, seat, number, place, handler);
+    let call = place.call;
+    handler.call(owner_of(call.id), call.func, call.info);
+    end_call(words, seat, number, counts, place, handler, begun);
+    go_on(words, seat, number, place.pass, place.next)
+}
+
+/// Runs the calls of a batch, one after another.
+fn run_batch<H: Handler>(
+    words: Words,
+    seat: &mut CpuSeat,
+    number: u32,
+    counts: &mut [u64],
+    first: Option<Place>,
+    handler: &mut H,
+)
+    requires me { seat.old.known.number ≡ number }
+    requires at { IsAt words.shared.now.table_id (cpu_of seat.old) seat.old first }
+    requires idle { seat.old.known.part.running ≡ Nothing }
+    requires counts { AreRan counts.old seat.old.known }
+    ensures { HasRunAll H.leads words.entry.shared.now.table_id seat.old seat.new counts.new handler.old handler.new }
+{
+    let mut here = first;
+    while let Some(place) = here {
+        here = run_one(words, seat, number, counts, place, handler);
+    }
+}
+
 /// Takes the interrupt and, where there was one, the queue, and runs that.
 pub(crate) fn handle<H: Handler>(
     words: Words,
@@ -83,20 +178,17 @@ pub(crate) fn handle<H: Handler>(
         × (Grows H.leads handler.old (order batch) handler.new) × (result.ran ≡ length batch) }
     ensures idle { result.interrupted ≡ false → (cpu_of seat.new ≡ asks false (cpu_of seat.old)) × (handler.new ≡ handler.old) × (result.ran ≡ 0) }
 {
-    if !enter(words, seat, number) {
-        leave(words, seat, number);
-        return Handled {
+    match begin(words, seat, number) {
+        None => Handled {
             ran: 0,
             interrupted: false,
-        };
-    }
-    let newest = take(words, seat, number);
-    let (oldest, ran) = reverse(words, seat, newest);
-    let left = run_sync_calls(words, seat, number, counts, oldest, handler);
-    run_async_calls(words, seat, number, counts, left, handler);
-    leave(words, seat, number);
-    Handled {
-        ran,
-        interrupted: true,
+        },
+        Some(batch) => {
+            run_batch(words, seat, number, counts, batch.first, handler);
+            Handled {
+                ran: batch.calls,
+                interrupted: true,
+            }
+        }
     }
 }

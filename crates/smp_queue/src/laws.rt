@@ -1,5 +1,7 @@
-//! What a post and a question for a record are refused for, by their numbers. These functions do nothing.
+//! What a post and a question for a record are refused for, by their numbers, and what handling a call at a time comes to.
+//! These functions do nothing.
 
+ghost use Rattle.smp_queue.specs.Chain.{StepsAreHandle};
 ghost use Rattle.smp_queue.specs.Refusals.{MisuseIsOfTheNumbers, RecordsAreThoseOfTheNumbers};
 
 /// A post is refused with E4 (`SmpError::BadArgument`) just where its record may not carry such a call, it has no tries, or it is to the own CPU.
@@ -12,4 +14,10 @@ pub fn misuse_is_of_the_numbers()
 /// A question for a record is refused with E4 (`SmpError::BadArgument`) just where the CPU has no record of that number.
 pub fn records_are_those_of_the_numbers()
     ensures { RecordsAreThoseOfTheNumbers }
+{}
+
+/// Calls that `CallTable::begin_handle` and `CallTable::resume` hand out one after another, up to `Next::Done`, are just those
+/// of the batch that was taken, each once, in drain order. They leave of the CPU what `CallTable::handle` leaves.
+pub fn steps_are_handle()
+    ensures { StepsAreHandle }
 {}

@@ -1,20 +1,44 @@
-//! How a CPU runs its batch, along its chain: SYNC calls first, each function followed by the unlock of its record,
-//! then ASYNC calls, each unlocked first (`kernel/smp.c: __flush_smp_call_function_queue`).
+//! How a CPU goes along the chain of its batch, from one call to the next: SYNC calls first, whose records it takes out of
+//! the chain, then the ASYNC calls that are left (`kernel/smp.c: __flush_smp_call_function_queue`).
 
 ghost use Rattle.std.specs.Prelude.{◌≡◌, Some, None};
-ghost use Rattle.smp_call_steps.specs.Drains.{first_on, second_on};
+ghost use Rattle.smp_call_steps.specs.Drains.{first_on};
 ghost use Rattle.smp_call_steps.specs.declared.handle.HandleStage.TheVariants as handle;
 ghost use Rattle.smp_queue.specs.Seat.{InHandle};
-ghost use Rattle.smp_queue.specs.Handling.{AreRan, HasRunAll};
+ghost use Rattle.smp_queue.specs.Serving.{PassesOn, on, begins_at};
 
 use crate::accesses::Words;
-use crate::handler::Handler;
-use crate::seat::call_steps::{run_async, run_sync};
 use crate::seat::{CpuSeat, load, store};
 use smp_call_steps::drain::linked;
 use smp_call_steps::handle::{Walk, link_of};
 use smp_words::call::Class;
 use smp_words::{Call, Word};
+
+/// A pass over a batch.
+#[derive(Clone, Copy)]
+pub(crate) enum Pass {
+    /// The first, over the SYNC calls.
+    First(Walk),
+    /// The second, over the ASYNC calls.
+    Second,
+}
+
+/// A call of a batch, and where its CPU goes on after it.
+#[derive(Clone, Copy)]
+pub(crate) struct Place {
+    pub(crate) pass: Pass,
+    pub(crate) call: Call,
+    pub(crate) next: Option<u32>,
+}
+
+/// How far a CPU has come in the first pass.
+#[derive(Clone, Copy)]
+pub(crate) enum Passed {
+    /// It is at a SYNC call.
+    At(Place),
+    /// The pass is over, and the second one begins here.
+    Over(Option<u32>),
+}
 
 /// Loads a SYNC call, and takes its record out of the chain.
 fn unlink(words: Words, seat: &mut CpuSeat, walk: Walk, id: u32, next: Option<u32>) -> (Walk, Call)
@@ -45,23 +69,13 @@ fn unlink(words: Words, seat: &mut CpuSeat, walk: Walk, id: u32, next: Option<u3
     }
 }
 
-/// Runs the SYNC calls from this record on: the first ASYNC record that is left.
-pub(crate) fn run_sync_calls<H: Handler>(
-    words: Words,
-    seat: &mut CpuSeat,
-    number: u32,
-    counts: &mut [u64],
-    first: Option<u32>,
-    handler: &mut H,
-) -> Option<u32>
-    requires me { seat.old.known.number ≡ number }
-    requires at { InHandle words.shared.now.table_id seat.old (first_on (record { first = first; last = None }) first) }
-    requires counts { AreRan counts.old seat.old.known }
-    ensures at { InHandle words.entry.shared.now.table_id seat.new (second_on result) }
-    ensures ran { HasRunAll H.leads seat.old seat.new counts.new handler.old handler.new }
+/// Goes along the chain to the next SYNC call.
+fn next_sync(words: Words, seat: &mut CpuSeat, first: Walk, from: Option<u32>) -> Passed
+    requires at { InHandle words.shared.now.table_id seat.old (first_on first from) }
+    ensures { PassesOn words.entry.shared.now.table_id seat.old seat.new result }
 {
-    let mut walk = Walk { first, last: None };
-    let mut here = first;
+    let mut walk = first;
+    let mut here = from;
     while let Some(id) = here {
         let link = load(words, seat, Word::Next(id));
         let next = linked(link);
@@ -69,8 +83,11 @@ pub(crate) fn run_sync_calls<H: Handler>(
         match Class::of_flags(flags) {
             Class::Sync => {
                 let (left, call) = unlink(words, seat, walk, id, next);
-                run_sync(words, seat, number, counts, left, call, next, handler);
-                walk = left;
+                return Passed::At(Place {
+                    pass: Pass::First(left),
+                    call,
+                    next,
+                });
             }
             Class::Async => {
                 walk = Walk {
@@ -81,37 +98,39 @@ pub(crate) fn run_sync_calls<H: Handler>(
         }
         here = next;
     }
-    walk.first
+    Passed::Over(walk.first)
 }
 
-/// Runs the ASYNC calls from this record on.
-pub(crate) fn run_async_calls<H: Handler>(
-    words: Words,
-    seat: &mut CpuSeat,
-    number: u32,
-    counts: &mut [u64],
-    first: Option<u32>,
-    handler: &mut H,
-)
-    requires me { seat.old.known.number ≡ number }
-    requires at { InHandle words.shared.now.table_id seat.old (second_on first) }
-    requires counts { AreRan counts.old seat.old.known }
-    ensures at { InHandle words.entry.shared.now.table_id seat.new handle.Leave }
-    ensures ran { HasRunAll H.leads seat.old seat.new counts.new handler.old handler.new }
+/// Goes on with the first pass, where the CPU is in it.
+pub(crate) fn pass_on(words: Words, seat: &mut CpuSeat, pass: Pass, here: Option<u32>) -> Passed
+    requires at { InHandle words.shared.now.table_id seat.old (on pass here) }
+    ensures { PassesOn words.entry.shared.now.table_id seat.old seat.new result }
 {
-    let mut here = first;
-    while let Some(id) = here {
-        let link = load(words, seat, Word::Next(id));
-        let next = linked(link);
-        let func = load(words, seat, Word::Func(id));
-        let info = load(words, seat, Word::Info(id));
-        let call = Call {
-            id,
-            class: Class::Async,
-            func: func as u16,
-            info,
-        };
-        run_async(words, seat, number, counts, call, next, handler);
-        here = next;
+    match pass {
+        Pass::First(walk) => next_sync(words, seat, walk, here),
+        Pass::Second => Passed::Over(here),
+    }
+}
+
+/// Loads an ASYNC call.
+pub(crate) fn next_async(words: Words, seat: &mut CpuSeat, id: u32) -> Place
+    requires at { InHandle words.shared.now.table_id seat.old (handle.AsyncNext id) }
+    ensures at { InHandle words.entry.shared.now.table_id seat.new (begins_at result) }
+    ensures known { seat.new.known ≡ record (seat.old.known) { stage = seat.new.known.stage } }
+{
+    let link = load(words, seat, Word::Next(id));
+    let next = linked(link);
+    let func = load(words, seat, Word::Func(id));
+    let info = load(words, seat, Word::Info(id));
+    let call = Call {
+        id,
+        class: Class::Async,
+        func: func as u16,
+        info,
+    };
+    Place {
+        pass: Pass::Second,
+        call,
+        next,
     }
 }

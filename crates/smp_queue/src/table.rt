@@ -29,6 +29,9 @@ ghost use Rattle.smp_call_steps.specs.Order.{order};
 ghost use Rattle.smp_words.specs.declared.call.Call.{Call};
 ghost use Rattle.smp_queue.specs.Handling.{Grows, asks, drains, heard};
 ghost use Rattle.smp_queue.specs.Laws.{IsShown};
+ghost use Rattle.smp_queue.specs.HandsOut.{NextIs};
+ghost use Rattle.smp_queue.specs.Serving.{takes, ends};
+ghost use Rattle.smp_queue.specs.declared.serving.Next.TheVariants as next;
 ghost use Rattle.smp_queue.specs.Posted.{ShowsThat, IsFree, IsMarked, call_by};
 ghost use Rattle.smp_queue.specs.Empty.{BeginsEmpty};
 ghost use Rattle.smp_queue.specs.Cells.{cells};
@@ -47,6 +50,8 @@ use crate::handler::Handler;
 use crate::pause::Pause;
 use crate::post::{append, append_until_won, is_locked, write_record};
 use crate::seat::{SeatMaker, lay, next_seat, note_call, store};
+use crate::serve::{go_on_from, start};
+use crate::serving::{Next, Serving};
 use smp_call_steps::known::Setting;
 use smp_call_steps::post::Posting;
 use smp_call_steps::start::{has_record, refusal};
@@ -214,8 +219,23 @@ impl<A: Allocator> CallTable<A> {
     /// is not owed does no harm. E1 (`SmpError::NoCpu`) where the CPU is not online.
     ///
     /// The interrupt is pending at its one step, the store of the interrupt word; it does not wait, and the CPU that is
-    /// sent to must poll to take it.
+    /// sent to must poll to take it. It wakes that CPU, where it sleeps.
     pub fn send(&self, me: &mut CallCpu, to: u32) -> Result<(), SmpError>
+        requires { me.old.table ≡ self.now.table }
+        ensures ok { IfOk result (λ _. (has self.now.online to ≡ true) × (me.new ≡ sends to me.old)) }
+        ensures laws { IfOk result (λ _. IsShown me.new) }
+        ensures err { IfErr result (λ e. (e ≡ SmpError.NoCpu) × (has self.now.online to ≡ false) × (me.new ≡ me.old)) }
+    {
+        self.interrupt(me, to)?;
+        self.wake(to);
+        Ok(())
+    }
+
+    /// As `send`, but it wakes nobody: for a caller that wakes a CPU by means of its own.
+    ///
+    /// The interrupt is pending at its one step, the store of the interrupt word; it does not wait, and the CPU that is
+    /// sent to must poll to take it.
+    pub fn interrupt(&self, me: &mut CallCpu, to: u32) -> Result<(), SmpError>
         requires { me.old.table ≡ self.now.table }
         ensures ok { IfOk result (λ _. (has self.now.online to ≡ true) × (me.new ≡ sends to me.old)) }
         ensures laws { IfOk result (λ _. IsShown me.new) }
@@ -225,7 +245,6 @@ impl<A: Allocator> CallTable<A> {
             return Err(SmpError::NoCpu);
         }
         store(self.owner.words(), &mut me.seat, Word::Intr(to), 1);
-        self.wake(to);
         me.is_shown();
         Ok(())
     }
@@ -414,6 +433,30 @@ impl<A: Allocator> CallTable<A> {
             self.wake_waiting();
         }
         handled
+    }
+
+    /// Begins to handle, for a caller that runs the calls itself: takes the CPU's interrupt and, where one was pending, its
+    /// whole queue, and hands out the first call of that batch. Run it, then call `resume`, and so on up to `Done`. The calls
+    /// are handed out in the order in which `handle` runs them, each once (`laws::steps_are_handle`). That the caller has run
+    /// a call that it was handed is known to nobody.
+    ///
+    /// It takes effect at the steps of `handle` up to the one before the call; it waits for no other CPU, and wakes none.
+    pub fn begin_handle(&self, me: CallCpu) -> Next
+        requires { me.table ≡ self.now.table }
+        ensures { (result ≡ next.Idle (asks false me)) ⊎ ((queue : List Call) × NextIs (takes queue (asks true me)) result) }
+    {
+        start(self.owner.words(), me)
+    }
+
+    /// The call that is out has run: it is counted, and a SYNC call's record is unlocked. Then the next call of the batch is
+    /// handed out, of which an ASYNC call's record is unlocked before; where none is left, the CPU is outside.
+    ///
+    /// It takes effect at the steps of `handle` up to the one before the next call; it waits for no other CPU, and wakes none.
+    pub fn resume(&self, serving: Serving) -> Next
+        requires { serving.cpu.table ≡ self.now.table }
+        ensures { NextIs (ends serving.call serving.cpu) result }
+    {
+        go_on_from(self.owner.words(), serving)
     }
 
     /// As [`CallTable::handle`]; then, where no interrupt was pending, it sleeps until another CPU sends one or wakes this

@@ -3,6 +3,7 @@ ghost use Rattle.std.specs.Prelude.{◌≡◌, IfOk};
 mod audits;
 mod handling;
 mod line;
+mod steps;
 
 use self::line::Act::{Done, Post, Queue, Send, Tally as Counts};
 use self::line::{Line, play};

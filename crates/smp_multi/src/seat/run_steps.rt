@@ -1,6 +1,5 @@
-//! How a CPU runs the function of a stop. `run_one` loads the function of a stop of one CPU, calls it, and completes with
-//! its answer; `run_multi` loads that of a Multi stop, calls it, and acknowledges `RUN` with its answer. Both call the
-//! function that they are given, and their contracts say that it has heard just this call.
+//! The steps round the function of a stop. `begin_one` and `begin_run` load the function and its argument; `end_one`
+//! completes a stop of one CPU with its answer, and `end_run` acknowledges `RUN` with it. No function is called here.
 //!
 //! With the acknowledgement of `RUN` the answer is fixed: the CPU carries it, and `complete_round` completes with what it
 //! carries. No other page can make these steps: the accesses that make them are private to the pages of the seat.
@@ -15,12 +14,11 @@ ghost use Rattle.smp_multi.specs.Completes.{AtClose, AtEnd, AtGiven, given};
 ghost use Rattle.smp_multi.specs.Names.{Idle, Multi, One};
 ghost use Rattle.smp_multi.specs.Places.{work_in};
 ghost use Rattle.smp_multi.specs.Rounds.{AloneWhile, AtRun};
-ghost use Rattle.smp_multi.specs.Running.{AtOne, IsItsCall, answered_now, called_by, calls_now};
+ghost use Rattle.smp_multi.specs.Running.{AtOne, IsItsCall, calls_now};
 ghost use Rattle.smp_multi.specs.StepCounts.{giving};
 
 use super::access::{CpuSeat, load, store_any, subtract_with};
 use crate::accesses::Words;
-use crate::func::StopFunc;
 use smp_stop_steps::phase::EXIT;
 use smp_stop_steps::stage::Visit;
 use smp_stop_steps::start::answer_word;
@@ -36,9 +34,10 @@ fn word_of(answer: i32) -> u64
 }
 
 /// A CPU has entered a stop of one CPU: loads the function and its argument.
-fn begin_one(words: Words<'_>, seat: &mut CpuSeat, slot: u32) -> (u16, u64)
+pub(crate) fn begin_one(words: Words<'_>, seat: &mut CpuSeat, slot: u32) -> (u16, u64)
     requires { AtOne words.shared.now.table_id seat.old slot }
     ensures at { AtOne words.entry.shared.now.table_id seat.new slot }
+    ensures lives { Lives seat.new.known }
     ensures known { seat.new.known ≡ stepped 2 (calls_now seat.old.known) }
     ensures call { IsItsCall seat.new.known result.0 result.1 }
 {
@@ -78,35 +77,25 @@ fn complete(words: Words<'_>, seat: &mut CpuSeat, slot: u32, acked: u32, answer:
     subtract_with(words, seat, Word::Slot(slot, Field::Todo), 0)
 }
 
-/// Calls the function of a stop of one CPU, and completes with its answer. Answers what was found in the count, and the
-/// function's answer.
-pub(crate) fn run_one<F: StopFunc>(
-    words: Words<'_>,
-    seat: &mut CpuSeat,
-    number: u32,
-    slot: u32,
-    func: &mut F,
-) -> (u64, i32)
+/// The function of a stop of one CPU has run: completes with its answer, and answers what was found in the count.
+pub(crate) fn end_one(words: Words<'_>, seat: &mut CpuSeat, slot: u32, answer: i32) -> u64
     requires at { AtOne words.shared.now.table_id seat.old slot }
-    requires number { seat.old.known.number ≡ number }
-    ensures at { AtClose words.entry.shared.now.table_id seat.new slot result.0 }
+    requires calls { seat.old.known.part.calling ≢ Idle }
+    ensures at { AtClose words.entry.shared.now.table_id seat.new slot result }
     ensures lives { Lives seat.new.known }
-    ensures known { seat.new.known ≡ stepped (2 + (giving (word_of_answer result.1) + 1))
-        (completed_with result.0 slot (work_in seat.old.known.seat) (word_of_answer result.1) (carrying 0 seat.old.known)) }
-    ensures heard { F.leads func.old (called_by seat.old.known result.1) func.new }
+    ensures known { seat.new.known ≡ stepped (giving (word_of_answer answer) + 1)
+        (completed_with result slot (work_in seat.old.known.seat) (word_of_answer answer) (carrying 0 seat.old.known)) }
 {
-    let (number_of_func, arg) = begin_one(words, seat, slot);
-    let answer = func.run(number, number_of_func, arg);
-    let found = complete(words, seat, slot, 0, word_of(answer));
-    (found, answer)
+    complete(words, seat, slot, 0, word_of(answer))
 }
 
 /// A Multi stop has come to `RUN`, and the CPU is active: loads the function and its argument. From here until the CPU
 /// acknowledges the phase, whatever others do, every CPU of the mask has acknowledged disabled interrupts, and has them
 /// off.
-fn begin_run(words: Words<'_>, seat: &mut CpuSeat, visit: Visit) -> (u16, u64)
+pub(crate) fn begin_run(words: Words<'_>, seat: &mut CpuSeat, visit: Visit) -> (u16, u64)
     requires { AtRun words.shared.now.table_id seat.old visit Multi }
     ensures at { AtRun words.entry.shared.now.table_id seat.new visit Multi }
+    ensures lives { Lives seat.new.known }
     ensures known { seat.new.known ≡ stepped 2 (calls_now seat.old.known) }
     ensures alone { AloneWhile seat.new.known visit.slot }
     ensures call { IsItsCall seat.new.known result.0 result.1 }
@@ -116,40 +105,22 @@ fn begin_run(words: Words<'_>, seat: &mut CpuSeat, visit: Visit) -> (u16, u64)
     (number as u16, arg)
 }
 
-/// The function has run: acknowledges `RUN` with its answer, which the CPU carries from then on, and answers what was
-/// found in the count.
-fn end_run(words: Words<'_>, seat: &mut CpuSeat, visit: Visit, answer: u64) -> u64
+/// The function of a Multi stop has run: acknowledges `RUN` with its answer, which the CPU carries from then on, and
+/// answers what was found in the count.
+pub(crate) fn end_run(words: Words<'_>, seat: &mut CpuSeat, visit: Visit, answer: i32) -> u64
     requires at { AtRun words.shared.now.table_id seat.old visit Multi }
-    requires fits { IsI32Word answer }
     requires calls { seat.old.known.part.calling ≢ Idle }
     requires alone { AloneWhile seat.old.known visit.slot }
     ensures table { seat.new.table ≡ words.entry.shared.now.table_id }
     ensures lives { Lives seat.new.known }
-    ensures known { seat.new.known ≡ stepped 1 (acked_by result seat.old.known.seat (carrying answer seat.old.known)) }
+    ensures known { seat.new.known ≡ stepped 1 (acked_by result seat.old.known.seat (carrying (word_of_answer answer) seat.old.known)) }
 {
-    subtract_with(words, seat, Word::Slot(visit.slot, Field::Ack), answer)
-}
-
-/// Calls the function of a Multi stop, and acknowledges `RUN` with its answer. Answers what was found in the count, and
-/// the function's answer.
-pub(crate) fn run_multi<F: StopFunc>(
-    words: Words<'_>,
-    seat: &mut CpuSeat,
-    number: u32,
-    visit: Visit,
-    func: &mut F,
-) -> (u64, i32)
-    requires at { AtRun words.shared.now.table_id seat.old visit Multi }
-    requires number { seat.old.known.number ≡ number }
-    ensures table { seat.new.table ≡ words.entry.shared.now.table_id }
-    ensures lives { Lives seat.new.known }
-    ensures known { seat.new.known ≡ stepped 3 (acked_by result.0 seat.old.known.seat (answered_now result.1 seat.old.known)) }
-    ensures heard { F.leads func.old (called_by seat.old.known result.1) func.new }
-{
-    let (function, arg) = begin_run(words, seat, visit);
-    let answer = func.run(number, function, arg);
-    let found = end_run(words, seat, visit, word_of(answer));
-    (found, answer)
+    subtract_with(
+        words,
+        seat,
+        Word::Slot(visit.slot, Field::Ack),
+        word_of(answer),
+    )
 }
 
 /// Completes a stop of several CPUs, which the CPU has left, with the answer that it carries. Answers what was found in

@@ -18,6 +18,8 @@ use Rattle.smp_call_steps.proofs.State.Batches.{no_chain}
 use Rattle.smp_call_steps.proofs.Knows.Restages.{free_outside}
 use Rattle.smp_call_steps.proofs.State.Counts.{confirmed_calls_ran}
 use Rattle.smp_call_steps.proofs.State.HaveRun.{confirmed_sync_calls_ended, confirmed_calls_have_run}
+use Rattle.smp_queue.specs.Serving.{IsOut, running_as}
+use Rattle.smp_queue.specs.Out.{IsShownOut}
 use Rattle.smp_queue.specs.{Call, Word, Head, Part, cpu_of, SeatValue, Sits, HaveRunFor, IsQuiet, HasNothingToTake, IsSeenTo, IsShown}
 
 row-true : (n i : ℕ) (f : ℕ → Bool) → get_or (row n f) i false ≡ true → f i ≡ true
@@ -82,5 +84,22 @@ is_shown d s o e = let l = s.lives in record {
   confirmed_ran = confirmed_calls_ran l.shown;
   confirmed_ended = confirmed_sync_calls_ended l.calls l.at l.controls l.shown;
   have_run = have_run d l;
+  view = λ i. record (cpu_of d) { part = sym l.sees.part i };
+}
+
+pub is_shown_out : (d : SeatValue) (call : Call) (number : ℕ) → IsOut d.known call → d.known.number ≡ number → has d.known.setting.online number ≡ true
+    → d.known.part.running ≡ running_as call → IsShownOut (record { cpu = cpu_of d; call = call })
+is_shown_out d call number out n o r = let s = out.0 in let l = s.lives in record {
+  calls = l.calls;
+  at = l.at;
+  controls = l.controls;
+  shown = l.shown;
+  below = s.below;
+  online = ap (has d.known.setting.online) n ∙ o;
+  absent = λ cpu far. let sees = s.absent cpu far in sees.part;
+  offline = λ cpu off. let sees = s.offline cpu off in sees.part;
+  quiet = λ cpu off. nothing_to_take l.shown cpu (s.quiet cpu off);
+  running = ap (λ (p : Part). p.running) l.sees.part ∙ r;
+  out = out.1;
   view = λ i. record (cpu_of d) { part = sym l.sees.part i };
 }

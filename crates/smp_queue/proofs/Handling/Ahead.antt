@@ -11,7 +11,7 @@ use Rattle.smp_call_steps.specs.Words.{Path, last_batch, nexts_in}
 use Rattle.smp_call_steps.proofs.Basics.Alls.{every_right}
 use Rattle.smp_call_steps.proofs.Knows.Handling.{lives_stands, share_in}
 use Rattle.smp_call_steps.proofs.State.Walks.{link_back, same_record}
-use Rattle.smp_queue.specs.{Call, Next, Known, Nothing, Walk, CpuValue, cpu_of, SeatValue, InHandle, runs}
+use Rattle.smp_queue.specs.{Call, Next, Nothing, Walk, SeatValue, InHandle}
 use Rattle.smp_queue.specs.handle
 
 -- the calls from this record on
@@ -55,13 +55,8 @@ ahead_less t d walk id n at m =
     let k = lives_stands m.lives (handle.LoadNext walk id) at.stage_is in
     walks_less (nexts_in m.lives.at) (share_in d.known.part) d.known.drain walk id n k.0 k.1 k.2 m.number_is
 
--- and so it is when the CPU has run the call, for it has taken no queue since
+-- and so it is when the CPU has gone on, for it has taken no queue since
 pub ahead_then : (taken taken' : List (List Call)) (here next : Option ℕ) (id n : ℕ) → here ≡ Some id → next ≡ record_at n → taken' ≡ taken
     → left_from (record_at n) (last_batch taken) < left_from (Some id) (last_batch taken) →
     left_from next (last_batch taken') < left_from here (last_batch taken)
 ahead_then taken taken' here next id n e f t l = search arith
-
--- a CPU that has run calls, and no more, has taken no queue
-pub same_taken : (d d1 d2 : SeatValue) (calls : List Call) → d1.known ≡ record (d.known) { stage = d1.known.stage }
-    → cpu_of d2 ≡ runs calls d2.known.part (cpu_of d1) → d2.known.part.taken ≡ d.known.part.taken
-same_taken d d1 d2 calls k ran = ap (λ (v : CpuValue). v.part.taken) ran ∙ ap (λ (u : Known). u.part.taken) k

@@ -1,23 +1,20 @@
 -- A step of a CPU inside handle that tells nothing of the calls: where it is then, and what it knows.
-use Rattle.std.proofs.Common.{arith, ◌≡◌, ℕ, ◌%◌, Option, Some, List, refl, ap, ◌∙◌, sym, subst}
+use Rattle.std.proofs.Common.{arith, ◌≡◌, ℕ, ◌%◌, Option, Some, refl, ap, ◌∙◌, sym, subst}
 use Rattle.atomic_table.specs.Seated.{TableId}
 use Rattle.smp_words.specs.Access.{word_of}
-use Rattle.smp_call_steps.specs.Drains.{record_at, unlink_after, handle_outcome, by_class, FitsFound, reverse_on, first_on, second_on}
+use Rattle.smp_call_steps.specs.Drains.{record_at, unlink_after, handle_outcome, by_class, FitsFound, reverse_on, first_on}
 use Rattle.smp_words.specs.Flags.{class_of}
-use Rattle.smp_queue.specs.{Sync, Word, Flags, Func, Info, Next, Known, Walk, HandleStage, Stage, Handle, Heard, HasRunAll, SeatValue, Loads, InHandle}
+use Rattle.smp_queue.specs.{Sync, Word, Flags, Func, Info, Next, Known, Walk, HandleStage, Stage, Handle, SeatValue, Loads, InHandle}
 use Rattle.smp_call_steps.specs.Known.{known_access, Moment}
 use Rattle.smp_call_steps.specs.Handling.{goes_known}
 use Rattle.smp_call_steps.proofs.Knows.Handling.{lives_fits, next_found_is, func_found_is, info_found_is, flags_found_is, lives_locked}
 use Rattle.smp_queue.proofs.Handling.Handles.{in_handle_then}
 use Rattle.smp_queue.specs.handle
 
--- a CPU in its passes that has come to a record
+-- a CPU in its first pass that has come to a record
 pub first_at : {t : TableId} {d : SeatValue} {here : Option ℕ} {id : ℕ} (walk : Walk) → here ≡ Some id → InHandle t d (first_on walk here)
     → InHandle t d (handle.LoadNext walk id)
 first_at {t} {d} walk e h = subst (λ (x : Option ℕ). InHandle t d (first_on walk x)) e h
-
-pub second_at : {t : TableId} {d : SeatValue} {here : Option ℕ} {id : ℕ} → here ≡ Some id → InHandle t d (second_on here) → InHandle t d (handle.AsyncNext id)
-second_at {t} {d} e h = subst (λ (x : Option ℕ). InHandle t d (second_on x)) e h
 
 module _ {t : TableId} {d : SeatValue} (d' : SeatValue) {h : HandleStage} (at : InHandle t d h) (id n : ℕ) where
   pub next_known : Loads t d d' (Next id) n → d'.known ≡ goes_known h n d.known
@@ -42,12 +39,6 @@ pub moment_fits : (t : TableId) (d : SeatValue) (h : HandleStage) → InHandle t
     → word_of (known_access d.known (Handle h)) ≡ w → FitsFound h n
 moment_fits t d h at w n m e = search (lives_fits, arith)
 
--- a CPU in its second pass, between two calls
-pub record Running2 {H : Type 0} (leads : H → Heard → H → Type 0) (t : TableId) (before d : SeatValue) (here : Option ℕ) (counts : List ℕ)
-    (first now : H) : Type 0 where
-  pub at : InHandle t d (second_on here)
-  pub ran : HasRunAll leads before d counts first now
-
 -- three loads after one another, of a record of the second pass
 module _ {t : TableId} {d d1 : SeatValue} (d2 d3 : SeatValue) (id : ℕ) {n : ℕ} (func info : ℕ) (at : InHandle t d (handle.AsyncNext id))
     (l1 : Loads t d d1 (Next id) n) where
@@ -61,11 +52,6 @@ module _ {t : TableId} {d d1 : SeatValue} (d2 d3 : SeatValue) (id : ℕ) {n : �
     module _ (l3 : Loads t d2 d3 (Info id) info) where
       pub async_known : d3.known ≡ record (d.known) { stage = d3.known.stage }
       async_known = search (next_known, func_found_is, info_found_is, arith)
-
--- what has run has run still, after steps that tell nothing
-pub run_kept : {H : Type 0} (leads : H → Heard → H → Type 0) (before d d' : SeatValue) (counts : List ℕ) (p q : H) → HasRunAll leads before d counts p q
-    → d'.table ≡ d.table → d'.known ≡ record (d.known) { stage = d'.known.stage } → HasRunAll leads before d' counts p q
-run_kept {H} leads before d d' counts p q r table k = search arith
 
 -- two loads after one another, of a SYNC record of the first pass
 module _ {t : TableId} {d d1 : SeatValue} (d2 : SeatValue) (walk : Walk) (id : ℕ) (next : Option ℕ) {func : ℕ} (info : ℕ)
@@ -83,12 +69,6 @@ module _ {t : TableId} {d d1 : SeatValue} (d2 : SeatValue) (walk : Walk) (id : �
 -- steps that change what a CPU knows by its stage alone, after others that did
 pub kept_on : (v v1 v2 : Known) → v1 ≡ record v { stage = v1.stage } → v2 ≡ record v1 { stage = v2.stage } → v2 ≡ record v { stage = v2.stage }
 kept_on v v1 v2 k1 k2 = k2 ∙ ap (λ (u : Known). record u { stage = v2.stage }) k1
-
--- a CPU in its first pass, between two records
-pub record Running1 {H : Type 0} (leads : H → Heard → H → Type 0) (t : TableId) (before d : SeatValue) (walk : Walk) (here : Option ℕ) (counts : List ℕ)
-    (first now : H) : Type 0 where
-  pub at : InHandle t d (first_on walk here)
-  pub ran : HasRunAll leads before d counts first now
 
 -- two loads after one another, by which a CPU in its first pass learns the class of a record
 module _ {t : TableId} {d d1 : SeatValue} (d2 : SeatValue) (walk : Walk) (id : ℕ) {n : ℕ} (flags : ℕ) (at : InHandle t d (handle.LoadNext walk id))

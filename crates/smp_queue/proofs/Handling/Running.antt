@@ -1,17 +1,21 @@
 -- A CPU that runs its batch: what it knows after each call.
-use Rattle.std.proofs.Common.{◌≡◌, ℕ, ◌+◌, ◌%◌, ◌^◌, ◌<◌, Option, List, [], ◌∷◌, ◌++◌, length, length-set, get_or, set, append-nil, append_assoc, sym, ap}
-use Rattle.std.proofs.Common.{◌∙◌, arith}
+use Rattle.std.proofs.Common.{◌≡◌, ℕ, ◌+◌, ◌%◌, ◌^◌, ◌<◌, true, Option, None, List, [], ◌∷◌, ◌++◌, length, length-set, get_or, set}
+use Rattle.std.proofs.Common.{append-nil, append_assoc, sym, refl, ap, subst, ◌∙◌, arith}
 use Rattle.std.proofs.lemmas.List.{get_or-set_same, get_or-set_other}
 use Rattle.std.proofs.lemmas.Bool.{cases_eq}
 use Rattle.std.proofs.lemmas.Fn.{FoldsTo-push}
 use Rattle.atomic_table.specs.Seated.{TableId}
 use Rattle.smp_words.specs.Size.{records, owner}
 use Rattle.smp_call_steps.specs.Histories.{calls_from, counted_call}
-use Rattle.smp_queue.specs.{Call, Known, Part, HandleStage, Heard, CpuValue, cpu_of, SeatValue, InHandle, heard_of, AreRan, runs, HasRun, HasRunAll}
 use Rattle.smp_call_steps.specs.Known.{ran_tally}
-use Rattle.smp_call_steps.specs.Handling.{begun_async, ended_call, rest_of}
+use Rattle.smp_call_steps.specs.Order.{order}
+use Rattle.smp_call_steps.specs.Handling.{ended_call}
+use Rattle.smp_queue.specs.{Call, Known, Nothing, Heard, CpuValue, cpu_of, SeatValue, heard_of, AreRan, Grows, asks, drains}
+use Rattle.smp_queue.specs.Serving.{Gives, IsAt, HasRun, HasRunAll, has_run, takes, serves, ends, goes_from}
+use Rattle.smp_queue.specs.declared.run.Place.{Place}
 use Rattle.smp_words.proofs.Sizes.{owner-below}
 use Rattle.smp_call_steps.proofs.State.Tallies.{count-same, count-other, count_wraps}
+use Rattle.smp_queue.proofs.Handling.Passing.{at_cpu, given_is, ended_is, ran_still}
 
 -- a call that runs is not counted yet
 pub tally_running : (v w : Known) (source : ℕ) → w.part.ran ≡ v.part.ran → counted_call w.part.running ≡ []
@@ -26,31 +30,86 @@ more_ran counts counts' v w call a in_range ran is = rw is (record {
   are = search (cases_eq, get_or-set_same, owner-below, count_wraps, count-same, get_or-set_other, count-other, arith);
 })
 
--- a call has begun and ended
-module _ {H : Type 0} (leads : H → Heard → H → Type 0) (t : TableId) (s s' : SeatValue) (stage : HandleStage) (call : Call) (next : Option ℕ) (rest : List Call)
-    (counts counts' : List ℕ) (before after : H) where
-  pub has_run : s.table ≡ t → AreRan counts s.known → call.id < records → s.known.part.batch ≡ call ∷ rest
-      → s'.known ≡ ended_call stage call (begun_async call next s.known) →
-      InHandle t s' stage → counts' ≡ set counts (owner call.id) ((get_or counts (owner call.id) 0 + 1) % 2 ^ 64) → leads before (heard_of call) after →
-      HasRun leads t s s' stage call counts' before after
-  has_run table a in_range batch known at is heard =
-      let batch' = batch ∙ ap (λ (calls : List Call). call ∷ calls) (sym (ap (λ (u : Known). u.part.batch) known ∙ ap rest_of batch)) in
-      let counts_are = more_ran counts counts' s.known s'.known call a in_range (ap (λ (u : Known). u.part.ran) known) is in
-      search (batch', counts_are, arith)
+module _ {H : Type 0} (leads : H → Heard → H → Type 0) (t : TableId) where
+  -- a call has begun and ended, and its CPU has gone on
+  pub ran_one : (s0 s1 s2 s3 : SeatValue) (p : Place) (found : Option Place) (counts : List ℕ) (before after : H) → s0.table ≡ t → Gives t s0 s1 p
+      → s2.table ≡ t → s2.known ≡ ended_call (goes_from p) p.call s1.known → AreRan counts s2.known → IsAt t (cpu_of s2) s3 found
+      → leads before (heard_of p.call) after → HasRun leads t s0 s3 p.call found counts before after
+  ran_one s0 s1 s2 s3 p found counts before after t0 g t2 k2 a at heard =
+      let c3 : cpu_of s3 ≡ cpu_of s2 = at_cpu _ _ _ found at in
+      let c2 : cpu_of s2 ≡ ends p.call (cpu_of s1) = ended_is s1 s2 (goes_from p) p.call (t2 ∙ sym g.at.table_is) k2 in
+      let c1 : cpu_of s1 ≡ serves p.call s1.known.part.batch (cpu_of s0) = given_is t s0 s1 p t0 g in
+      let left : s3.known.part.batch ≡ s1.known.part.batch = ap (λ (c : CpuValue). c.part.batch) (c3 ∙ c2) in
+      let c : cpu_of s2 ≡ has_run (p.call ∷ []) s3.known.part.batch (cpu_of s0) =
+      c2 ∙ (ap (ends p.call) c1 ∙ ap (λ (rest : List Call). has_run (p.call ∷ []) rest (cpu_of s0)) (sym left)) in
+      record {
+        batch = g.batch ∙ ap (λ (rest : List Call). p.call ∷ rest) (sym left);
+        at = subst (λ (x : CpuValue). IsAt t x s3 found) c at;
+        counts_are = ran_still counts s2.known s3.known a (ap (λ (x : CpuValue). x.part.ran) c3);
+        heard_it = heard;
+      }
 
--- calls after calls
-pub more_calls : (calls more : List Call) (now : Part) (c : CpuValue)
-    → record c { part = record (c.part) { batch = now.batch; running = now.running; ran = (c.part.ran ++ calls) ++ more } } ≡ runs (calls ++ more) now c
-more_calls calls more now c = λ i. record c { part = record (c.part) { batch = now.batch; running = now.running; ran = append_assoc c.part.ran calls more i } }
+  -- a CPU that runs its batch, between two calls
+  pub record RunsOn (before d : SeatValue) (here : Option Place) (counts : List ℕ) (first now : H) : Type 0 where
+    pub calls : List Call
+    pub whole : before.known.part.batch ≡ calls ++ d.known.part.batch
+    pub at : IsAt t (has_run calls d.known.part.batch (cpu_of before)) d here
+    pub counts_are : AreRan counts d.known
+    pub grows : Grows leads first calls now
+    pub number_is : d.known.number ≡ before.known.number
 
--- one call more after some
-pub more_run : {H : Type 0} (leads : H → Heard → H → Type 0) (t : TableId) (before d d' : SeatValue) (stage : HandleStage) (counts counts' : List ℕ)
-    (first now now' : H) (call : Call) →
-    HasRunAll leads before d counts first now → HasRun leads t d d' stage call counts' now now' → HasRunAll leads before d' counts' first now'
-more_run {H} leads t before d d' stage counts counts' first now now' call r h = record {
-  calls = r.calls ++ call ∷ [];
-  drain = h.drain ∙ r.drain;
-  cpu = h.cpu ∙ (ap (runs (call ∷ []) d'.known.part) r.cpu ∙ more_calls r.calls (call ∷ []) d'.known.part (cpu_of before));
-  counts_are = h.counts_are;
-  grows = FoldsTo-push (λ p x q. leads p (heard_of x) q) first r.calls now call now' r.grows h.heard_it;
-}
+  pub runs_from : (d : SeatValue) (here : Option Place) (counts : List ℕ) (first : H) → IsAt t (cpu_of d) d here → d.known.part.running ≡ Nothing
+      → AreRan counts d.known → RunsOn d d here counts first first
+  runs_from d here counts first at idle a = record {
+    calls = [];
+    whole = refl;
+    at = subst (λ (x : CpuValue). IsAt t x d here)
+        (λ i. record (cpu_of d) { part = record (d.known.part) { running = idle i; ran = sym (append-nil d.known.part.ran) i } }) at;
+    counts_are = a;
+    grows = refl;
+    number_is = refl;
+  }
+
+  pub runs_more : (before d d' : SeatValue) (here found : Option Place) (call : Call) (counts counts' : List ℕ) (first now now' : H)
+      → RunsOn before d here counts first now → HasRun leads t d d' call found counts' now now' → RunsOn before d' found counts' first now'
+  runs_more before d d' here found call counts counts' first now now' r h =
+      let c : has_run (call ∷ []) d'.known.part.batch (cpu_of d) ≡ has_run (r.calls ++ call ∷ []) d'.known.part.batch (cpu_of before) =
+      let p = before.known.part in
+      ap (has_run (call ∷ []) d'.known.part.batch) (at_cpu _ _ _ here r.at) ∙
+      (λ i. record (cpu_of before) { part = record p { batch = d'.known.part.batch; running = Nothing; ran = append_assoc p.ran r.calls (call ∷ []) i } }) in
+      record {
+        calls = r.calls ++ call ∷ [];
+        whole = r.whole ∙ (ap (λ (rest : List Call). r.calls ++ rest) h.batch ∙ sym (append_assoc r.calls (call ∷ []) d'.known.part.batch));
+        at = subst (λ (x : CpuValue). IsAt t x d' found) c h.at;
+        counts_are = h.counts_are;
+        grows = FoldsTo-push (λ p x q. leads p (heard_of x) q) first r.calls now call now' r.grows h.heard_it;
+        number_is = ap (λ (x : CpuValue). x.number) (at_cpu _ _ _ found h.at) ∙ r.number_is;
+      }
+
+  -- none is left
+  pub ran_all : (before d : SeatValue) (here : Option Place) (counts : List ℕ) (first now : H) → here ≡ None → RunsOn before d here counts first now
+      → HasRunAll leads t before d counts first now
+  ran_all before d here counts first now e r =
+      let at : IsAt t (has_run r.calls d.known.part.batch (cpu_of before)) d None =
+      subst (λ (x : Option Place). IsAt t (has_run r.calls d.known.part.batch (cpu_of before)) d x) e r.at in
+      let nil : d.known.part.batch ≡ [] = at.3 in
+      let whole : r.calls ≡ before.known.part.batch = sym (r.whole ∙ (ap (λ (rest : List Call). r.calls ++ rest) nil ∙ append-nil r.calls)) in
+      record {
+        table_is = at.0;
+        lives = at.1;
+        stage_is = at.2;
+        cpu = at.4 ∙ (λ i. has_run (whole i) (nil i) (cpu_of before));
+        counts_are = r.counts_are;
+        grows = subst (λ (calls : List Call). Grows leads first calls now) whole r.grows;
+      }
+
+  -- so a batch that was taken has run
+  pub batch_ran : (s0 s1 s2 : SeatValue) (queue : List Call) (first : Option Place) (counts : List ℕ) (before after : H)
+      → IsAt t (takes queue (asks true (cpu_of s0))) s1 first → HasRunAll leads t s1 s2 counts before after
+      → (cpu_of s2 ≡ drains queue (asks true (cpu_of s0))) × Grows leads before (order queue) after
+  batch_ran s0 s1 s2 queue first counts before after at h =
+      let e : cpu_of s1 ≡ takes queue (asks true (cpu_of s0)) = at_cpu _ _ _ first at in
+      let batch : s1.known.part.batch ≡ order queue = ap (λ (c : CpuValue). c.part.batch) e in (
+        h.cpu ∙ (λ i. has_run (batch i) [] (e i)),
+        subst (λ (calls : List Call). Grows leads before calls after) batch h.grows,
+      )

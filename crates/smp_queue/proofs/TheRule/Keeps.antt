@@ -8,6 +8,7 @@ use prog.Atomic.{either}
 use Rattle.atomic_table.specs.Table.{State, Me, step, keeps, stepped, Allows, Splits, opening}
 use Rattle.atomic_table.proofs.Lists.{at_set, set_here, set_else, at_longer}
 use Rattle.std.proofs.lemmas.Bool.{cases_eq}
+use Rattle.std.proofs.lemmas.List.{get_or-set_same}
 use Rattle.smp_mask.specs.Mask.{has}
 use Rattle.smp_words.proofs.Puts.{put_same, put_other, test_else}
 use Rattle.smp_words.specs.Access.{put_if, seen_of}
@@ -23,10 +24,10 @@ use Rattle.smp_words.proofs.Zeros.{zero_at}
 use Rattle.smp_queue.specs.{Call, Word, Head, Intr, Access, Load, Store, Swap, Exchange, Known, Setting, SeatView, Maker, New, cells, cell_of, number_in, Ruled}
 use Rattle.smp_queue.specs.{next_from, next_online}
 use Rattle.smp_queue.specs.{SeatKnows, Sits, known, after, seat_made, AfterLoad, AfterNote, AfterStore, AfterExchange, AfterSwap}
-use Rattle.smp_queue.specs.{loaded, noted, stored, exchanged, swapped}
+use Rattle.smp_queue.specs.{loaded, noted, stored, call_stored, SitsWith, exchanged, swapped}
 use Rattle.smp_queue.specs.{IsCpuSeat, MayAccess, Reaches, HasBegun, NoneHasBegun, IsQuiet}
 use Rattle.smp_queue.specs.Names.{Cpu}
-use Rattle.smp_queue.proofs.TheRule.Cells.{one_cell, number_here, stored_here}
+use Rattle.smp_queue.proofs.TheRule.Cells.{one_cell, cell_below, number_here, stored_here}
 use Rattle.smp_queue.specs.act
 
 at_snoc : {A : Type 0} (l : List A) (a b : A) (j : ℕ) → get_elem? (l ++ a ∷ []) j ≡ some b → (get_elem? l j ≡ some b) ⊎ ((j ≡ length l) × (a ≡ b))
@@ -83,6 +84,10 @@ quiet_put : (at : Word → ℕ) (w : Word) (x cpu : ℕ) → w ≢ Head cpu → 
 quiet_put at (Head to) x cpu h i q = (test_else cpu to x (at (Head cpu)) (λ e. h (ap (λ (n : ℕ). Head n) (sym e))) ∙ q.0, q.1)
 quiet_put at (Intr to) x cpu h i q = (q.0, test_else cpu to x (at (Intr cpu)) (λ e. i (ap (λ (n : ℕ). Intr n) (sym e))) ∙ q.1)
 quiet_put at _ x cpu h i q = q
+
+-- a CPU sits at these words
+abbrev SitsIn : List ℕ → Known → Type 0
+SitsIn words v = (s : Sits v) × ((w : Word) → s.lives.at w ≡ number_in words w)
 
 -- what the seat of a CPU knows, whether it has made a step or not
 pub knows_as : (k : Setting) (a : CallState) (control : ℕ → ControlValue) (seat : ℕ → ℕ) (next id : ℕ) (u : SeatView) → IsCpuSeat u
@@ -171,26 +176,28 @@ module _ {S : Type 0} (k : Setting) where
       }
 
   -- a CPU that has a seat sits among the CPUs of the table
-  sits : (s : State S SeatView) (r : Ruled k s) (id : ℕ) (v : Known) → SeatKnows k r.calls r.controls r.seat r.next id (Cpu v) → Sits v
+  sits : (s : State S SeatView) (r : Ruled k s) (id : ℕ) (v : Known) → SeatKnows k r.calls r.controls r.seat r.next id (Cpu v) → SitsIn s.words v
   sits s r id v m =
       let few = r.few in
       let low = m.0 in
-      let nr : v.setting.nr ≡ k.nr = ap (λ (j : Setting). j.nr) m.2 in
-      record {
-        lives = record { calls = r.calls; at = number_in s.words; controls = r.controls; shown = r.shown; sees = m.3 };
-        below = omega arith;
-        online = subst (λ (j : Setting). has j.online v.number ≡ true) (sym m.2) m.4;
-        absent = λ cpu l. subst (λ (j : Setting). Sees r.calls r.controls (fresh j cpu)) (sym m.2) (r.absent cpu (λ _. omega arith));
-        offline = λ cpu off. subst (λ (j : Setting). Sees r.calls r.controls (fresh j cpu)) (sym m.2)
-            (r.absent cpu (λ on. absurd (true≢false (sym on ∙ (ap (λ (j : Setting). has j.online cpu) (sym m.2) ∙ off)))));
-        quiet = λ cpu off. r.quiet cpu (ap (λ (j : Setting). has j.online cpu) (sym m.2) ∙ off);
-      }
+      let nr : v.setting.nr ≡ k.nr = ap (λ (j : Setting). j.nr) m.2 in (
+        record {
+          lives = record { calls = r.calls; at = number_in s.words; controls = r.controls; shown = r.shown; sees = m.3 };
+          below = omega arith;
+          online = subst (λ (j : Setting). has j.online v.number ≡ true) (sym m.2) m.4;
+          absent = λ cpu l. subst (λ (j : Setting). Sees r.calls r.controls (fresh j cpu)) (sym m.2) (r.absent cpu (λ _. omega arith));
+          offline = λ cpu off. subst (λ (j : Setting). Sees r.calls r.controls (fresh j cpu)) (sym m.2)
+              (r.absent cpu (λ on. absurd (true≢false (sym on ∙ (ap (λ (j : Setting). has j.online cpu) (sym m.2) ∙ off)))));
+          quiet = λ cpu off. r.quiet cpu (ap (λ (j : Setting). has j.online cpu) (sym m.2) ∙ off);
+        },
+        λ w. refl,
+      )
 
   -- a seat's CPU makes a step of the machine: it has its seat still, and the rule is kept
   lifts : (s : State S SeatView) (r : Ruled k s) (id i n : ℕ) (u : SeatView) (w : Known) (carried : List (ℕ × S)) → get_elem? s.views id ≡ some u
       → IsCpuSeat u → w.setting ≡ (known u).setting → GoesOn r.calls r.controls (known u).number (number_in (set s.words i n)) w
       → ((cpu : ℕ) → has k.online cpu ≡ false → IsQuiet (number_in (set s.words i n)) cpu)
-      → Ruled k (stepped s i n id carried (Cpu w) keeps) × Sits w
+      → Ruled k (stepped s i n id carried (Cpu w) keeps) × SitsIn (set s.words i n) w
   lifts s r id i n x w carried at is same g quiet = (ruled, sits (stepped s i n id carried (Cpu w) keeps) ruled id w its)
     where
       v : Known
@@ -230,6 +237,31 @@ module _ {S : Type 0} (k : Setting) where
     abbrev v : Known
     v = known me.0
 
+    steps_with : (i : ℕ) (f : ℕ → ℕ) (then : ℕ → Me S SeatView → Type 0) →
+        ((a : CallState) (control : ℕ → ControlValue) (words : List ℕ) → Shows a (number_in words) control → length words ≡ cells → Sees a control (known me.0)
+        → (w : Known) × (w.setting ≡ (known me.0).setting) × GoesOn a control (known me.0).number (number_in (set words i (f (get_or words i 0)))) w
+        × then (get_or words i 0) (Cpu w, me.1)) →
+        ((words : List ℕ) → length words ≡ cells → (cpu : ℕ) → has k.online cpu ≡ false → has k.online (known me.0).number ≡ true
+        → IsQuiet (number_in words) cpu → IsQuiet (number_in (set words i (f (get_or words i 0)))) cpu) →
+        Allows (Ruled k) slots id me i f (λ n m. then n m × SitsWith (known m.0) i (f n))
+    steps_with i f then go quiet s r sized at fits =
+        let mine = knows_as k r.calls r.controls r.seat r.next id me.0 is (r.each_seat id me.0 at) in
+        let t = go r.calls r.controls s.words r.shown r.wide mine.3 in
+        let on = lifts s r id i (f (get_or s.words i 0)) me.0 t.0 me.1 at is t.1 t.2 (λ cpu off. quiet s.words r.wide cpu off mine.4 (r.quiet cpu off)) in (
+          Cpu t.0,
+          keeps,
+          tt,
+          on.0,
+          (
+            t.3,
+            (
+              on.1.0,
+              λ w e. on.1.1 w ∙ (number_here (set s.words i (f (get_or s.words i 0))) w i e
+                  ∙ get_or-set_same s.words i (f (get_or s.words i 0)) 0 (let low = cell_below w i e in let wide = r.wide in omega arith)),
+            ),
+          ),
+        )
+
     steps : (i : ℕ) (f : ℕ → ℕ) (then : ℕ → Me S SeatView → Type 0) →
         ((a : CallState) (control : ℕ → ControlValue) (words : List ℕ) → Shows a (number_in words) control → length words ≡ cells → Sees a control (known me.0)
         → (w : Known) × (w.setting ≡ (known me.0).setting) × GoesOn a control (known me.0).number (number_in (set words i (f (get_or words i 0)))) w
@@ -238,10 +270,8 @@ module _ {S : Type 0} (k : Setting) where
         → IsQuiet (number_in words) cpu → IsQuiet (number_in (set words i (f (get_or words i 0)))) cpu) →
         Allows (Ruled k) slots id me i f (λ n m. Sits (known m.0) × then n m)
     steps i f then go quiet s r sized at fits =
-        let mine = knows_as k r.calls r.controls r.seat r.next id me.0 is (r.each_seat id me.0 at) in
-        let t = go r.calls r.controls s.words r.shown r.wide mine.3 in
-        let on = lifts s r id i (f (get_or s.words i 0)) me.0 t.0 me.1 at is t.1 t.2 (λ cpu off. quiet s.words r.wide cpu off mine.4 (r.quiet cpu off)) in
-        (Cpu t.0, keeps, tt, on.0, (on.1, t.3))
+        let a = steps_with i f then go quiet s r sized at fits in
+        (a.0, a.1, a.2, a.3, (a.4.1.0, a.4.0))
 
     -- a load leaves all words
     unmoved : (i : ℕ) (words : List ℕ) → length words ≡ cells → (cpu : ℕ) → has k.online cpu ≡ false → has k.online (known me.0).number ≡ true
@@ -304,16 +334,24 @@ module _ {S : Type 0} (k : Setting) where
       refl,
     )) (unmoved i)
 
+    pub call_store_allowed : (w : Word) (i x : ℕ) → cell_of w ≡ Some i → MayAccess (known me.0) (Store w x) → Reaches k (known me.0) (Store w x)
+        → Allows (Ruled k) slots id me i (λ _. x) (λ _. call_stored (step slots i x 0 none) me x)
+    call_store_allowed w i x e can reach s r sized at fits =
+        let a = steps_with i (λ _. x) (λ _. AfterStore (step slots i x 0 none) me x) (λ a control words shown wide sees. (
+          known_told v act.Store w None (Some x),
+          refl,
+          subst (λ (at : Word → ℕ). GoesOn a control v.number at (known_told v act.Store w None (Some x))) (sym (stored_here words w i x wide e))
+              (store_step a (number_in words) control v w x can shown sees),
+          λ u f. ap (λ (y : Word). Cpu (known_told v act.Store y None (Some x))) (one_cell w u i e f),
+        )) (λ words wide cpu off on q. subst (λ (at : Word → ℕ). IsQuiet at cpu) (sym (stored_here words w i x wide e))
+        (stores_apart w x cpu reach off (number_in words) q)) s r sized at fits in
+        (a.0, a.1, a.2, a.3, ((a.4.1.0, a.4.0), a.4.1))
+
     pub store_allowed : (w : Word) (i x : ℕ) → cell_of w ≡ Some i → MayAccess (known me.0) (Store w x) → Reaches k (known me.0) (Store w x)
         → Allows (Ruled k) slots id me i (λ _. x) (λ _. stored (step slots i x 0 none) me x)
-    store_allowed w i x e can reach = steps i (λ _. x) (λ _. AfterStore (step slots i x 0 none) me x) (λ a control words shown wide sees. (
-      known_told v act.Store w None (Some x),
-      refl,
-      subst (λ (at : Word → ℕ). GoesOn a control v.number at (known_told v act.Store w None (Some x))) (sym (stored_here words w i x wide e))
-          (store_step a (number_in words) control v w x can shown sees),
-      λ u f. ap (λ (y : Word). Cpu (known_told v act.Store y None (Some x))) (one_cell w u i e f),
-    )) (λ words wide cpu off on q. subst (λ (at : Word → ℕ). IsQuiet at cpu) (sym (stored_here words w i x wide e))
-        (stores_apart w x cpu reach off (number_in words) q))
+    store_allowed w i x e can reach s r sized at fits =
+        let a = call_store_allowed w i x e can reach s r sized at fits in
+        (a.0, a.1, a.2, a.3, a.4.0)
 
     exchanged_words : (words : List ℕ) (w : Word) (i n x : ℕ) (b : Bool) → length words ≡ cells → cell_of w ≡ Some i → n ≡ get_or words i 0
         → number_in (set words i (either b x n)) ≡ put_if put_word (number_in words) w (cond b (Some x) None)

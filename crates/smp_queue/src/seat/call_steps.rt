@@ -1,28 +1,32 @@
-//! How a CPU runs one call. `run_sync` begins a SYNC call, calls the handler, counts the call and unlocks its record;
-//! `run_async` unlocks the record of an ASYNC call, calls the handler and counts the call. Both call the handler that
-//! they are given, and their contracts say that it has heard just this call.
+//! The steps round the function of a call. `begin_call` begins it: the handling word names the record of a SYNC call, and
+//! the record of an ASYNC call is unlocked. `end_call` counts it and unlocks the record of a SYNC call. The function runs
+//! between the two, and this page does not call it.
 //!
 //! A beginning gives a token of that call, which has the handler as it was then. A step that counts or ends a call is
 //! public: it is lent a handler and shows the token, and it asks that the call has led that handler from what it was to
-//! what it is. No other page can begin a call or make a token, and so none can count or end a call: what steps is
+//! what it is. No other page can make a token, and so none can count or end a call that has not begun: what steps is
 //! private to the page of the seats, whose own store asks that no call begins, is counted or ends by it.
 
 ghost use Rattle.std.specs.Prelude.{◌≡◌, ◌+◌, ◌%◌, ◌^◌, ◌<◌, Some, None, length, slice_index_or, slice_set};
-ghost use Rattle.smp_words.specs.Size.{owner};
+ghost use Rattle.smp_words.specs.Size.{owner, records};
 ghost use Rattle.smp_call_steps.specs.Drains.{first_on, second_on};
 ghost use Rattle.smp_call_steps.specs.Known.{Lives, known_told, ran_tally};
 ghost use Rattle.smp_call_steps.specs.Handling.{begun_sync, counted_sync, begun_async, ended_call};
 ghost use Rattle.smp_words.specs.declared.seen.Act.TheVariants as act;
-ghost use Rattle.smp_words.specs.declared.word.Word.TheVariants.{Ran};
+ghost use Rattle.smp_words.specs.declared.word.Word.TheVariants.{Hand, Ran, Flags};
 ghost use Rattle.smp_call_steps.specs.declared.handle.HandleStage.TheVariants as handle;
 ghost use Rattle.smp_queue.specs.Seat.{InHandle, IsStepOfCall};
-ghost use Rattle.smp_queue.specs.Plays.{stored};
-ghost use Rattle.smp_queue.specs.Handling.{heard_of, AreRan, HasRun};
+ghost use Rattle.smp_queue.specs.Rule.{Sits};
+ghost use Rattle.smp_queue.specs.Plays.{call_stored};
+ghost use Rattle.smp_queue.specs.Handling.{heard_of, AreRan};
+ghost use Rattle.smp_queue.specs.Serving.{Gives, begins_at, out_at, goes_from};
+ghost use Rattle.smp_queue.specs.declared.run.Pass.TheVariants.{First, Second};
 
 use super::CpuSeat;
 use crate::accesses::Words;
 use crate::cell::cell;
 use crate::handler::Handler;
+use crate::run::{Pass, Place};
 use crate::seat_view::SeatView;
 use atomic_table::Play;
 use smp_call_steps::handle::Walk;
@@ -34,7 +38,7 @@ use std::snapshot::Snapshot;
 struct CallStored;
 
 impl Play<(), SeatView> for CallStored {
-    ghost then = { stored };
+    ghost then = { call_stored };
 }
 
 /// The token of a call that has begun: the call, and the handler as it was then.
@@ -50,6 +54,7 @@ fn store_step(words: Words, seat: &mut CpuSeat, word: Word, number: u64)
     ensures table { seat.new.table ≡ words.entry.shared.now.table_id }
     ensures lives { Lives seat.new.known }
     ensures known { seat.new.known ≡ known_told seat.old.known act.Store word None (Some number) }
+    ensures put { (s : Sits seat.new.known) × (s.lives.at word ≡ number) }
 {
     words.store::<CallStored>(&mut seat.raw, cell(word), number);
 }
@@ -69,6 +74,7 @@ fn begin_sync<H: Handler>(
     requires class { call.class ≡ Class.Sync }
     ensures at { InHandle words.entry.shared.now.table_id seat.new (handle.CountSync walk call next) }
     ensures known { seat.new.known ≡ begun_sync walk call next seat.old.known }
+    ensures named { (s : Sits seat.new.known) × (s.lives.at (Hand number) ≡ call.id + 2) }
     ensures of { result.call.value ≡ call }
     ensures before { result.before.value ≡ handler.now }
 {
@@ -136,6 +142,7 @@ fn begin_async<H: Handler>(
     requires class { call.class ≡ Class.Async }
     ensures at { InHandle words.entry.shared.now.table_id seat.new (handle.CountAsync call next) }
     ensures known { seat.new.known ≡ begun_async call next seat.old.known }
+    ensures unlocked { (s : Sits seat.new.known) × (s.lives.at (Flags call.id) ≡ 0) }
     ensures of { result.call.value ≡ call }
     ensures before { result.before.value ≡ handler.now }
 {
@@ -181,8 +188,65 @@ fn one_more(counts: &mut [u64], source: u32) -> u64
     more
 }
 
-/// Runs a SYNC call whose record is out of the chain.
-pub(crate) fn run_sync<H: Handler>(
+/// A SYNC call begins and is given out.
+fn give_sync<H: Handler>(
+    words: Words,
+    seat: &mut CpuSeat,
+    number: u32,
+    walk: Walk,
+    call: Call,
+    next: Option<u32>,
+    handler: &H,
+) -> Begun<H>
+    requires me { seat.old.known.number ≡ number }
+    requires at { InHandle words.shared.now.table_id seat.old (handle.BeginSync walk call next) }
+    ensures gives { Gives words.entry.shared.now.table_id seat.old seat.new (record { pass = First walk; call = call; next = next }) }
+    ensures of { result.call.value ≡ call }
+    ensures before { result.before.value ≡ handler.now }
+{
+    begin_sync(words, seat, number, walk, call, next, handler)
+}
+
+/// An ASYNC call begins and is given out.
+fn give_async<H: Handler>(
+    words: Words,
+    seat: &mut CpuSeat,
+    call: Call,
+    next: Option<u32>,
+    handler: &H,
+) -> Begun<H>
+    requires at { InHandle words.shared.now.table_id seat.old (handle.BeginAsync call next) }
+    ensures gives { Gives words.entry.shared.now.table_id seat.old seat.new (record { pass = Second; call = call; next = next }) }
+    ensures of { result.call.value ≡ call }
+    ensures before { result.before.value ≡ handler.now }
+{
+    begin_async(words, seat, call, next, handler)
+}
+
+/// A call begins: the handling word names a SYNC call's record, and an ASYNC call's is unlocked.
+pub(crate) fn begin_call<H: Handler>(
+    words: Words,
+    seat: &mut CpuSeat,
+    number: u32,
+    place: Place,
+    handler: &H,
+) -> Begun<H>
+    requires me { seat.old.known.number ≡ number }
+    requires at { InHandle words.shared.now.table_id seat.old (begins_at place) }
+    ensures gives { Gives words.entry.shared.now.table_id seat.old seat.new place }
+    ensures of { result.call.value ≡ place.call }
+    ensures before { result.before.value ≡ handler.now }
+{
+    match place.pass {
+        Pass::First(walk) => {
+            give_sync(words, seat, number, walk, place.call, place.next, handler)
+        }
+        Pass::Second => give_async(words, seat, place.call, place.next, handler),
+    }
+}
+
+/// A SYNC call whose function has run is counted, and its record is unlocked.
+fn finish_sync<H: Handler>(
     words: Words,
     seat: &mut CpuSeat,
     number: u32,
@@ -190,41 +254,81 @@ pub(crate) fn run_sync<H: Handler>(
     walk: Walk,
     call: Call,
     next: Option<u32>,
-    handler: &mut H,
+    handler: &H,
+    begun: Begun<H>,
 )
     requires me { seat.old.known.number ≡ number }
-    requires at { InHandle words.shared.now.table_id seat.old (handle.BeginSync walk call next) }
+    requires at { InHandle words.shared.now.table_id seat.old (handle.CountSync walk call next) }
     requires counts { AreRan counts.old seat.old.known }
-    ensures { HasRun H.leads words.entry.shared.now.table_id seat.old seat.new (first_on walk next) call counts.new handler.old handler.new }
+    requires in_range { call.id < records }
+    requires of { begun.call.value ≡ call }
+    requires heard { H.leads begun.before.value (heard_of call) handler.now }
+    ensures at { InHandle words.entry.shared.now.table_id seat.new (first_on walk next) }
+    ensures known { seat.new.known ≡ ended_call (first_on walk next) call seat.old.known }
+    ensures counts { AreRan counts.new seat.new.known }
 {
     let source = owner_of(call.id);
     let tally = Word::Ran(number, source);
-    let begun = begin_sync(words, seat, number, walk, call, next, handler);
-    handler.call(source, call.func, call.info);
     let ran = one_more(counts, source);
     count_sync(words, seat, tally, walk, call, next, ran, handler, &begun);
     end_sync(words, seat, walk, call, next, handler, begun);
 }
 
-/// Runs an ASYNC call.
-pub(crate) fn run_async<H: Handler>(
+/// An ASYNC call whose function has run is counted.
+fn finish_async<H: Handler>(
     words: Words,
     seat: &mut CpuSeat,
     number: u32,
     counts: &mut [u64],
     call: Call,
     next: Option<u32>,
-    handler: &mut H,
+    handler: &H,
+    begun: Begun<H>,
 )
     requires me { seat.old.known.number ≡ number }
-    requires at { InHandle words.shared.now.table_id seat.old (handle.BeginAsync call next) }
+    requires at { InHandle words.shared.now.table_id seat.old (handle.CountAsync call next) }
     requires counts { AreRan counts.old seat.old.known }
-    ensures { HasRun H.leads words.entry.shared.now.table_id seat.old seat.new (second_on next) call counts.new handler.old handler.new }
+    requires in_range { call.id < records }
+    requires of { begun.call.value ≡ call }
+    requires heard { H.leads begun.before.value (heard_of call) handler.now }
+    ensures at { InHandle words.entry.shared.now.table_id seat.new (second_on next) }
+    ensures known { seat.new.known ≡ ended_call (second_on next) call seat.old.known }
+    ensures counts { AreRan counts.new seat.new.known }
 {
     let source = owner_of(call.id);
     let tally = Word::Ran(number, source);
-    let begun = begin_async(words, seat, call, next, handler);
-    handler.call(source, call.func, call.info);
     let ran = one_more(counts, source);
     count_async(words, seat, tally, call, next, ran, handler, begun);
+}
+
+/// A call whose function has run is counted and ends: a SYNC call's record is unlocked.
+pub(crate) fn end_call<H: Handler>(
+    words: Words,
+    seat: &mut CpuSeat,
+    number: u32,
+    counts: &mut [u64],
+    place: Place,
+    handler: &H,
+    begun: Begun<H>,
+)
+    requires me { seat.old.known.number ≡ number }
+    requires at { InHandle words.shared.now.table_id seat.old (out_at place) }
+    requires counts { AreRan counts.old seat.old.known }
+    requires in_range { place.call.id < records }
+    requires of { begun.call.value ≡ place.call }
+    requires heard { H.leads begun.before.value (heard_of place.call) handler.now }
+    ensures at { InHandle words.entry.shared.now.table_id seat.new (goes_from place) }
+    ensures known { seat.new.known ≡ ended_call (goes_from place) place.call seat.old.known }
+    ensures counts { AreRan counts.new seat.new.known }
+{
+    let call = place.call;
+    let next = place.next;
+    match place.pass {
+        Pass::First(walk) => {
+            finish_sync(
+                words, seat, number, counts, walk, call, next, handler, begun,
+            );
+        }
+        Pass::Second => finish_async(words, seat, number, counts, call, next, handler, begun),
+    }
 }

@@ -1,21 +1,49 @@
-use Rattle.std.proofs.Common.{ap, ◌∙◌}
-use Rattle.smp_call_steps.specs.Drains.{DrainValue}
-use Rattle.smp_queue.proofs.Handling.Entering.{has_handled}
+use Rattle.std.proofs.Common.{Option, ap, subst, ◌∙◌}
+use Rattle.smp_queue.specs.{CpuValue}
+use Rattle.smp_queue.specs.Serving.{Begins}
+use Rattle.smp_queue.specs.declared.handle.Batch.{Batch}
+use Rattle.smp_queue.proofs.Handling.Passing.{at_cpu, at_own, ran_still}
+use Rattle.smp_queue.proofs.Handling.Running.{batch_ran}
 use Rattle.smp_queue.proofs.handle.handle.Goals as goal
 
-pub returns-clause-asked : goal.returns-clause-asked
-returns-clause-asked g c = λ _.
-    let e = c.if-not-enter.ensures in
-    let k = c.take-newest.ensures.known in
-    let r = c.reverse-oldest.ensures in
-    let first = c.run_sync_calls-left.ensures in
-    let second = c.run_async_calls.ensures in
+pub run_batch-requires-clause-me : goal.run_batch-requires-clause-me
+run_batch-requires-clause-me g c =
+    let b = subst (λ (x : Option Batch). Begins c.args.words.shared.now.table_id c.args.seat.now c.begin.new.seat x) c.in-Some.is c.begin.ensures in
+    ap (λ (x : CpuValue). x.number) (at_cpu _ _ _ c.in-Some.batch.first b.2) ∙ c.requires.outside.number_is
+
+pub run_batch-requires-clause-at : goal.run_batch-requires-clause-at
+run_batch-requires-clause-at g c =
+    let b = subst (λ (x : Option Batch). Begins c.args.words.shared.now.table_id c.args.seat.now c.begin.new.seat x) c.in-Some.is c.begin.ensures in
+    at_own _ _ _ c.in-Some.batch.first b.2
+
+pub run_batch-requires-clause-idle : goal.run_batch-requires-clause-idle
+run_batch-requires-clause-idle g c =
+    let b = subst (λ (x : Option Batch). Begins c.args.words.shared.now.table_id c.args.seat.now c.begin.new.seat x) c.in-Some.is c.begin.ensures in
+    ap (λ (x : CpuValue). x.part.running) (at_cpu _ _ _ c.in-Some.batch.first b.2)
+
+pub run_batch-requires-clause-counts : goal.run_batch-requires-clause-counts
+run_batch-requires-clause-counts g c =
+    let b = subst (λ (x : Option Batch). Begins c.args.words.shared.now.table_id c.args.seat.now c.begin.new.seat x) c.in-Some.is c.begin.ensures in
+    ran_still c.args.counts.now c.args.seat.now.known c.begin.new.seat.known c.requires.counts
+    (ap (λ (x : CpuValue). x.part.ran) (at_cpu _ _ _ c.in-Some.batch.first b.2))
+
+pub returns-in-Some-clause-outside : goal.returns-in-Some-clause-outside
+returns-in-Some-clause-outside g c =
+    let b = subst (λ (x : Option Batch). Begins c.args.words.shared.now.table_id c.args.seat.now c.begin.new.seat x) c.in-Some.is c.begin.ensures in
+    let h = c.run_batch.ensures in
+    let o = c.requires.outside in
+    record {
+      table_is = h.table_is;
+      sized = o.sized;
+      number_is = ap (λ (x : CpuValue). x.number) h.cpu ∙ (ap (λ (x : CpuValue). x.number) (at_cpu _ _ _ c.in-Some.batch.first b.2) ∙ o.number_is);
+      below = o.below;
+      stage_is = h.stage_is;
+    }
+
+pub returns-in-Some-clause-asked : goal.returns-in-Some-clause-asked
+returns-in-Some-clause-asked g c = λ _.
+    let b = subst (λ (x : Option Batch). Begins c.args.words.shared.now.table_id c.args.seat.now c.begin.new.seat x) c.in-Some.is c.begin.ensures in
     let h =
-    has_handled g.H.Handler.leads c.args.words.shared.now.table_id c.args.seat.now c.enter.new.seat c.take-newest.new.seat c.reverse-oldest.new.seat
-    c.run_sync_calls-left.new.seat c.run_async_calls.new.seat c.leave-2.new.seat
-    k.0 c.take-newest.result c.run_sync_calls-left.new.counts c.run_async_calls.new.counts c.args.handler.now c.run_sync_calls-left.new.handler
-    c.run_async_calls.new.handler
-    c.requires.outside.table_is e.at e.known c.take-newest.ensures.at.table_is k.1 r.at.table_is r.known first.ran second.at second.ran c.leave-2.ensures.table
-    c.leave-2.ensures.known
-    (ap (λ (d : DrainValue). d.calls) (second.ran.drain ∙ first.ran.drain)) in
-    (h.0, h.1, h.2, r.calls ∙ h.3)
+    batch_ran g.H.Handler.leads c.args.words.shared.now.table_id c.args.seat.now c.begin.new.seat c.run_batch.new.seat b.0 c.in-Some.batch.first
+    c.run_batch.new.counts c.args.handler.now c.run_batch.new.handler b.2 c.run_batch.ensures in
+    (b.0, h.0, h.1, b.1)

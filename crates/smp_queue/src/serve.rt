@@ -1,0 +1,112 @@
+//! Handling, a call at a time: a CPU takes its interrupt and its queue as `handle` does, and hands out each call of its
+//! batch. Its caller runs that call between two steps of the CPU.
+
+ghost use Rattle.std.specs.Prelude.{◌≡◌, ◌⊎◌, true, false, List};
+ghost use Rattle.smp_words.specs.declared.call.Call.{Call};
+ghost use Rattle.smp_queue.specs.Seat.{InHandle};
+ghost use Rattle.smp_queue.specs.Cells.{cells};
+ghost use Rattle.smp_queue.specs.Cpu.{cpu_of};
+ghost use Rattle.smp_queue.specs.Handling.{asks};
+ghost use Rattle.smp_queue.specs.declared.serving.Next.TheVariants as next;
+ghost use Rattle.smp_queue.specs.HandsOut.{NextIs};
+ghost use Rattle.smp_queue.specs.Serving.{IsKeptInside, StandsNow, IsNext, ends, takes, begins_at};
+
+use crate::accesses::Words;
+use crate::cpu::CallCpu;
+use crate::handle::{begin, go_on};
+use crate::run::Place;
+use crate::seat::CpuSeat;
+use crate::seat::call_steps::{begin_call, end_call};
+use crate::serving::{Given, Next, Serving};
+use smp_words::size::NR_CPUS;
+
+/// The call at which a CPU is begins, and is handed out.
+fn hand_out(
+    words: Words,
+    cpu: CpuSeat,
+    number: u32,
+    queued: [u64; NR_CPUS as usize],
+    ran: [u64; NR_CPUS as usize],
+    place: Place,
+) -> Serving
+    requires kept { IsKeptInside cpu.known number queued ran }
+    requires at { InHandle words.shared.now.table_id cpu (begins_at place) }
+    ensures { IsNext (cpu_of cpu) result }
+{
+    let mut seat = cpu;
+    let begun = begin_call(words, &mut seat, number, place, &Given);
+    Serving {
+        seat,
+        number,
+        queued,
+        ran,
+        place,
+        begun,
+    }
+}
+
+/// The call at which a CPU is begins, and is handed out; where it is at none, it is outside.
+fn next_of(
+    words: Words,
+    seat: CpuSeat,
+    number: u32,
+    queued: [u64; NR_CPUS as usize],
+    ran: [u64; NR_CPUS as usize],
+    found: Option<Place>,
+) -> Next
+    requires kept { IsKeptInside seat.known number queued ran }
+    requires at { StandsNow words.shared.now.table_id seat found }
+    ensures { NextIs (cpu_of seat) result }
+{
+    match found {
+        Some(place) => Next::Run(hand_out(words, seat, number, queued, ran, place)),
+        None => Next::Done(CallCpu {
+            seat,
+            number,
+            queued,
+            ran,
+        }),
+    }
+}
+
+/// Takes the interrupt of a CPU and, where one was pending, its queue, whose first call is handed out.
+pub(crate) fn start(words: Words, me: CallCpu) -> Next
+    requires table { me.table ≡ words.shared.now.table_id }
+    requires sized { words.shared.now.table_id.words ≡ cells }
+    ensures { (result ≡ next.Idle (asks false me)) ⊎ ((queue : List Call) × NextIs (takes queue (asks true me)) result) }
+{
+    let CallCpu {
+        mut seat,
+        number,
+        queued,
+        ran,
+    } = me;
+    match begin(words, &mut seat, number) {
+        None => Next::Idle(CallCpu {
+            seat,
+            number,
+            queued,
+            ran,
+        }),
+        Some(batch) => next_of(words, seat, number, queued, ran, batch.first),
+    }
+}
+
+/// The call that is out ends, and the next one of the batch is handed out.
+pub(crate) fn go_on_from(words: Words, serving: Serving) -> Next
+    requires table { serving.cpu.table ≡ words.shared.now.table_id }
+    requires sized { words.shared.now.table_id.words ≡ cells }
+    ensures { NextIs (ends serving.call serving.cpu) result }
+{
+    let Serving {
+        mut seat,
+        number,
+        queued,
+        mut ran,
+        place,
+        begun,
+    } = serving;
+    end_call(words, &mut seat, number, &mut ran, place, &Given, begun);
+    let found = go_on(words, &mut seat, number, place.pass, place.next);
+    next_of(words, seat, number, queued, ran, found)
+}
