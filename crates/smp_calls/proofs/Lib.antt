@@ -10,6 +10,8 @@ pub mod Lawful
 pub mod Lists
 -- one more of many CPUs
 pub mod Round
+-- how many steps a family makes, and how often it handles meanwhile
+pub mod Counted
 -- the loops over many CPUs
 pub mod Loops
 -- the loops that send, and that wait

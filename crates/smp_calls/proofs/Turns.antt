@@ -45,6 +45,12 @@ handled_once false old new asked idle =
     let e = idle refl in
     (ap (λ (c : CpuValue). c.steps) e, ap (λ (c : CpuValue). length c.part.asked) e ∙ length-append old.part.asked (false ∷ []))
 
+-- and it changes no head
+pub handled_tried : (interrupted : Bool) (old new : CpuValue) → (interrupted ≡ true → (batch : List Call) × (new ≡ drains batch (asks true old)))
+    → (interrupted ≡ false → new ≡ asks false old) → new.tried ≡ old.tried
+handled_tried true old new asked idle = ap (λ (c : CpuValue). c.tried) (asked refl).1
+handled_tried false old new asked idle = ap (λ (c : CpuValue). c.tried) (idle refl)
+
 module _ {H : Type 0} (leads : H → Heard → H → Type 0) where
   -- no look at all, whatever else the CPU has done
   pub handles_same : (c d : CpuValue) (h : H) → d.part.asked ≡ c.part.asked → d.part.taken ≡ c.part.taken → d.part.ran ≡ c.part.ran → Handles leads c h d h
@@ -83,21 +89,23 @@ module _ {H : Type 0} (leads : H → Heard → H → Type 0) where
 -- a CPU that waits for its record: it has handled once after each look; where the record was seen confirmed, it has done nothing yet
 pub record Waiting {H : Type 0} (k : ℕ) (old : CpuValue) (before : H) (now : CpuValue) (here : H) : Type 0 where
   pub turns : now.steps + length old.part.asked ≡ old.steps + length now.part.asked
+  pub tried_is : now.tried ≡ old.tried
   pub not_yet : confirmed_at old k ≡ true → (now ≡ old) × (here ≡ before)
 
 pub waiting_first : {H : Type 0} (k : ℕ) (c : CpuValue) (h : H) → Waiting k c h c h
-waiting_first k c h = record { turns = refl; not_yet = λ _. (refl, refl) }
+waiting_first k c h = record { turns = refl; tried_is = refl; not_yet = λ _. (refl, refl) }
 
 -- after a look that found it locked, and one turn of handling
 pub waiting_more : {H : Type 0} (k : ℕ) (old now after next : CpuValue) (before here last : H) → Waiting k old before now here
     → (confirmed_at now k ≡ true → ⊥) → after ≡ looked now → (next.steps ≡ after.steps) × (length next.part.asked ≡ length after.part.asked + 1)
-    → Waiting k old before next last
-waiting_more k old now after next before here last w locked e once =
+    → next.tried ≡ after.tried → Waiting k old before next last
+waiting_more k old now after next before here last w locked e once tried =
     let steps : next.steps ≡ now.steps + 1 = once.0 ∙ ap (λ (c : CpuValue). c.steps) e in
     let asked : length next.part.asked ≡ length now.part.asked + 1 = once.1 ∙ ap (λ (c : CpuValue). length c.part.asked + 1) e in
     let t = w.turns in
     record {
       turns = omega arith;
+      tried_is = tried ∙ (ap (λ (c : CpuValue). c.tried) e ∙ w.tried_is);
       not_yet = λ conf. absurd (locked (ap (λ (c : CpuValue). confirmed_at c k) (w.not_yet conf).0 ∙ conf));
     }
 
@@ -110,5 +118,6 @@ waiting_ended k old now next before here w e =
     let t = w.turns in
     record {
       turns = omega arith;
+      tried_is = ap (λ (c : CpuValue). c.tried) e ∙ w.tried_is;
       at_once = λ conf. (e ∙ ap (λ (c : CpuValue). looked (confirms k c)) (w.not_yet conf).0, (w.not_yet conf).1);
     }

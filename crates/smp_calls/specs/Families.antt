@@ -97,9 +97,10 @@ abbrev pub AreConfirmed : CpuValue → (ℕ → Bool) → Type 0
 AreConfirmed c to = (cpu : ℕ) → to cpu ≡ true → confirmed_at c (many_record cpu) ≡ true
 
 -- a CPU has looked at the flags of its record k, and has handled once after each look but the last; where the record was seen
--- confirmed before, that was one look, and it has handled nothing
+-- confirmed before, that was one look, and it has handled nothing. It has changed no head
 pub record Awaits {H : Type 0} (k : ℕ) (old : CpuValue) (before : H) (new : CpuValue) (after : H) : Type 0 where
   pub turns : new.steps + length old.part.asked ≡ old.steps + (1 + length new.part.asked)
+  pub tried_is : new.tried ≡ old.tried
   pub at_once : confirmed_at old k ≡ true → (new ≡ looks (confirms k old)) × (after ≡ before)
 
 -- the same, and then its function on the CPU itself: that is all that it does after it has waited, and without wait it has

@@ -5,6 +5,8 @@ pub mod Records
 pub mod Queued
 -- what a CPU handles while it waits
 pub mod Handles
+-- how many steps a family makes, and how often it handles meanwhile
+pub mod Turns
 -- what a family leaves of its CPU and its handler
 pub mod Families
 -- what the parts of a call to many leave

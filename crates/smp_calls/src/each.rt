@@ -1,7 +1,7 @@
 //! The parts of a call to many CPUs: a call is queued for each, an interrupt is sent to each that is owed one,
 //! each record is waited for.
 
-ghost use Rattle.std.specs.Prelude.{◌≡◌, ◌≢◌, ℕ, ◌<◌, ◌==◌, ◌&&◌, not, true, false, Bool, List, [], ◌∷◌, ◌++◌, None, if◌then◌else◌};
+ghost use Rattle.std.specs.Prelude.{◌≡◌, ◌≢◌, ℕ, ◌<◌, ◌==◌, ◌&&◌, ◌*◌, not, true, false, Bool, List, [], ◌∷◌, ◌++◌, None, if◌then◌else◌, length};
 ghost use Rattle.smp_mask.specs.Mask.{has, members};
 ghost use Rattle.smp_words.specs.Size.{cpus};
 ghost use Rattle.smp_words.specs.Limits.{AreLimits};
@@ -10,6 +10,7 @@ ghost use Rattle.smp_calls.specs.Records.{many_call, many_record as many_record_
 ghost use Rattle.smp_calls.specs.Queued.{Queued, destinations, firsts};
 ghost use Rattle.smp_calls.specs.Families.{IsSized, AreConfirmed, HandlesNone};
 ghost use Rattle.smp_calls.specs.Rounds.{only_if, Queues, Sends, WaitsFor, QueuesEach};
+ghost use Rattle.smp_calls.specs.Turns.{LooksFor, MakesMore};
 
 use crate::queue::{Job, interrupt, queue};
 use crate::records::many_record;
@@ -37,6 +38,7 @@ fn queue_if<A: Allocator, R: Wait, H: Handler>(
     requires other { to ≢ me.old.number }
     ensures queued { (queued : List Queued) × (destinations queued ≡ only_if asked to) × (firsts queued ≡ only_if result to)
         × Queues H.leads me.old handler.old me.new handler.new (many_call me.old.number job.class job.func job.info) queued }
+    ensures turns { MakesMore me.old me.new (6 * length (only_if asked to)) }
     ensures at_once { confirmed_at me.old (many_record_in to) ≡ true → HandlesNone me.old me.new × (handler.new ≡ handler.old) }
 {
     if !asked {
@@ -73,6 +75,7 @@ pub(crate) fn queue_each<A: Allocator, R: Wait, H: Handler, C: Fn(u32, u64) -> b
     requires condition { (c : ℕ) → c < cpus → C.pre cond.now c job.info }
     ensures queued { QueuesEach H.leads me.old handler.old me.new handler.new (λ c answer. C.post cond.now c job.info answer)
         (many_call me.old.number job.class job.func job.info) others result.0 result.1 }
+    ensures turns { MakesMore me.old me.new (6 * length (members result.0)) }
     ensures at_once { AreConfirmed me.old (has others) → HandlesNone me.old me.new × (handler.new ≡ handler.old) }
 {
     let mut called = others;
@@ -109,7 +112,8 @@ pub(crate) fn wait_each<A: Allocator, R: Wait, H: Handler>(
     requires sized { IsSized me.old }
     requires limits { AreLimits table.now.nr table.now.online }
     requires online { (c : ℕ) → has called c ≡ true → has table.now.online c ≡ true }
-    ensures { WaitsFor H.leads me.old handler.old me.new handler.new (members called) true }
+    ensures waited { WaitsFor H.leads me.old handler.old me.new handler.new (members called) true }
+    ensures turns { LooksFor me.old me.new (length (members called)) }
 {
     for cpu in called.iter() {
         wait_for(table, rt, me, handler, many_record(cpu));

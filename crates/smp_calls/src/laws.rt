@@ -5,7 +5,7 @@ ghost use Rattle.smp_call_steps.specs.declared.known.Logged.TheVariants as logge
 ghost use Rattle.smp_queue.specs.Cpu.{CpuValue, confirmed_at, looks};
 ghost use Rattle.smp_calls.specs.Families.{IsSized, CallsHere, CallsUserHere, RefusesUser};
 ghost use Rattle.smp_calls.specs.Queued.{calls_and_interrupts};
-ghost use Rattle.smp_calls.specs.Records.{AreApart, class_for};
+ghost use Rattle.smp_calls.specs.Records.{AreApart, class_for, single_record};
 
 use crate::records::{ASYNC_RECORD, SYNC_RECORD, USER_RECORDS};
 use smp_mask::SmpError;
@@ -17,6 +17,11 @@ use smp_words::call::Class;
 pub fn records()
     ensures numbers { (SYNC_RECORD ≡ 0) × (ASYNC_RECORD ≡ 1) × (USER_RECORDS ≡ 2) }
     ensures apart { AreApart }
+{}
+
+/// A call to one CPU uses record 0 where it is waited for, and record 1 where it is not.
+pub fn single_records()
+    ensures { (single_record true ≡ 0) × (single_record false ≡ 1) }
 {}
 
 /// A call to many queues all its calls before it sends its first interrupt, also where each queue was empty.

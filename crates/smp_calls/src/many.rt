@@ -1,6 +1,6 @@
 //! Calls to many CPUs.
 
-ghost use Rattle.std.specs.Prelude.{◌≡◌, ◌≢◌, ℕ, ◌<◌, ◌==◌, ◌&&◌, ◌||◌, true, false, List, None, Some, if◌then◌else◌};
+ghost use Rattle.std.specs.Prelude.{◌≡◌, ◌≢◌, ℕ, ◌<◌, ◌==◌, ◌&&◌, ◌||◌, ◌*◌, true, false, List, None, Some, if◌then◌else◌, length};
 ghost use Rattle.smp_mask.specs.Mask.{has, members};
 ghost use Rattle.smp_words.specs.Size.{cpus};
 ghost use Rattle.smp_words.specs.Limits.{AreLimits};
@@ -10,6 +10,7 @@ ghost use Rattle.smp_calls.specs.Targets.{is_target, remote};
 ghost use Rattle.smp_calls.specs.Ended.{HaveEnded};
 ghost use Rattle.smp_calls.specs.Families.{IsSized, IsLast, AreConfirmed, HandlesNone, CallsMany};
 ghost use Rattle.smp_calls.specs.Rounds.{WaitsFor, Picks, HearsIf, noted_if};
+ghost use Rattle.smp_calls.specs.Turns.{LooksFor, MakesMore, HasTurns};
 
 use crate::each::{queue_each, send_each, wait_each};
 use crate::queue::Job;
@@ -40,6 +41,7 @@ pub(crate) fn queue_all<A: Allocator, R: Wait, H: Handler, C: Fn(u32, u64) -> bo
     ensures picks { Picks (λ c answer. C.post cond.now c job.info answer) (has others) result }
     ensures calls { CallsMany H.leads me.old handler.old me.new handler.new (members result) job.class job.func job.info None false }
     ensures last { IsLast me.old me.new (members result) }
+    ensures turns { MakesMore me.old me.new (6 * length (members result)) }
     ensures at_once { AreConfirmed me.old (has others) → HandlesNone me.old me.new × (handler.new ≡ handler.old) }
 {
     let (called, owed) = queue_each(table, rt, me, handler, others, job, cond);
@@ -60,7 +62,8 @@ fn wait_all<A: Allocator, R: Wait, H: Handler>(
     requires sized { IsSized me.old }
     requires limits { AreLimits table.now.nr table.now.online }
     requires online { (c : ℕ) → has called c ≡ true → has table.now.online c ≡ true }
-    ensures { WaitsFor H.leads me.old handler.old me.new handler.new (members called) wait }
+    ensures waited { WaitsFor H.leads me.old handler.old me.new handler.new (members called) wait }
+    ensures turns { LooksFor me.old me.new (if wait then length (members called) else 0) }
 {
     if wait {
         wait_each(table, rt, me, handler, called);
@@ -128,6 +131,7 @@ pub fn call_many<A: Allocator, R: Wait, H: Handler>(
     requires { me.old.table ≡ table.now.table }
     ensures targets { (c : ℕ) → has result c ≡ is_target mask table.now.online me.old.number false c }
     ensures calls { CallsMany H.leads me.old handler.old me.new handler.new (members result) (class_in wait) func info None wait }
+    ensures turns { HasTurns me.old me.new (length (members result)) wait false }
     ensures ended { wait ≡ true → HaveEnded me.new (many_call me.old.number Class.Sync func info) (members result) }
 {
     let others = targets(mask, table.online(), me.number(), false);
@@ -163,6 +167,7 @@ pub fn each_cpu_cond<A: Allocator, R: Wait, H: Handler, C: Fn(u32, u64) -> bool>
     ensures picks { Picks (λ c answer. C.post cond.now c info answer) (is_target mask table.now.online me.old.number true) result }
     ensures calls { CallsMany H.leads me.old handler.old me.new handler.new (remote me.old.number result) (class_in wait) func info
         (if has result me.old.number then Some (heard me.old.number func info) else None) wait }
+    ensures turns { HasTurns me.old me.new (length (remote me.old.number result)) wait (has result me.old.number) }
     ensures ended { wait ≡ true → HaveEnded me.new (many_call me.old.number Class.Sync func info) (remote me.old.number result) }
 {
     let this = me.number();

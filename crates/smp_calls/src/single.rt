@@ -7,6 +7,7 @@ ghost use Rattle.smp_queue.specs.Handling.{heard};
 ghost use Rattle.smp_calls.specs.Records.{call_by, single_record as single_record_in};
 ghost use Rattle.smp_calls.specs.Ended.{HaveEnded};
 ghost use Rattle.smp_calls.specs.Families.{IsSized, Awaits, CallsOne, CallsHere, QueuesNone};
+ghost use Rattle.smp_calls.specs.Turns.{HasTurns};
 
 use crate::queue::{Job, queue_and_send};
 use crate::records::{ASYNC_RECORD, class_for, single_record};
@@ -70,7 +71,8 @@ fn call_there<A: Allocator, R: Wait, H: Handler>(
     requires sized { IsSized me.old }
     requires other { to ≢ me.old.number }
     requires online { has table.now.online to ≡ true }
-    ensures { CallsOne H.leads me.old handler.old me.new handler.new to func info wait }
+    ensures called { CallsOne H.leads me.old handler.old me.new handler.new to func info wait }
+    ensures turns { HasTurns me.old me.new 1 wait false }
 {
     let k = single_record(wait);
     let class = class_for(wait);
@@ -91,7 +93,7 @@ fn call_there<A: Allocator, R: Wait, H: Handler>(
 /// A call to another CPU is queued at the compare-exchange that wins in its post. It may wait, for the record's last
 /// call and with `wait` for its own; the targets of the calls that it waits for must poll.
 ///
-/// E1 (`SmpError::NoCpu`) where `dst` is another CPU that is not online.
+/// E1 (`SmpError::NoCpu`) where `dst` is another CPU that is not online: with `wait` nothing has changed then.
 pub fn call_single<A: Allocator, R: Wait, H: Handler>(
     table: &CallTable<A>,
     rt: &R,
@@ -113,6 +115,7 @@ pub fn call_single<A: Allocator, R: Wait, H: Handler>(
     ensures waits { IfErr result (λ _. wait ≡ false → (confirmed_at me.new 1 ≡ true) × Awaits 1 me.old handler.old me.new handler.new) }
     ensures refused { IfErr result (λ e. (e ≡ SmpError.NoCpu) × (dst ≢ me.old.number) × (has table.now.online dst ≡ false)
         × QueuesNone H.leads me.old handler.old me.new handler.new wait) }
+    ensures turns { IfOk result (λ _. dst ≢ me.old.number → HasTurns me.old me.new 1 wait false) }
     ensures ended { IfOk result (λ _. wait ≡ true → dst ≢ me.old.number →
         HaveEnded me.new (λ _. call_by me.old.number (single_record_in true) Class.Sync func info) (dst ∷ [])) }
 {

@@ -32,6 +32,7 @@ pub(crate) fn handle_own<A: Allocator, R: Wait, H: Handler>(
     requires { me.old.table ≡ table.now.table }
     ensures left { Leaves H.leads me.old handler.old me.new handler.new [] [] (owes_at me.old) (confirmed_at me.old) }
     ensures once { (me.new.steps ≡ me.old.steps) × (length me.new.part.asked ≡ length me.old.part.asked + 1) }
+    ensures tried { me.new.tried ≡ me.old.tried }
 {
     table.handle(me, handler).interrupted
 }

@@ -1,6 +1,7 @@
 ghost use Rattle.std.specs.Prelude.{◌≡◌, IfOk};
 
 mod conditions;
+mod conditions_waited;
 mod resting;
 mod sleeping;
 mod threads;
@@ -19,6 +20,9 @@ use std::process::Abort;
 use std::sync::Wait;
 use std::sync::atomic::{AtomicU64, Ordering};
 use std::test::*;
+
+/// No wait of a test takes more turns than this, so that a fault fails and does not hang.
+const TURNS: u32 = 100_000_000;
 
 /// The calls that a CPU's handler has heard, as long as there was memory for them.
 #[derive(Drop)]
@@ -424,21 +428,22 @@ fn note_asked(asked: &AtomicU64, base: u64, cpu: u32) {
     asked.store(after, Ordering::SeqCst);
 }
 
-/// Calls function 1 on CPUs of the mask, where those of the other mask are wanted. It answers which CPUs were called, and which
-/// were asked, as the digits of a number to this base that begins with 9.
+/// Calls function 1 on CPUs of the mask, where those of the other mask are wanted, and waits for them or does not. It answers
+/// which CPUs were called, and which were asked, as the digits of a number to this base that begins with 9.
 fn call_wanted<R: Wait>(
     rt: &R,
     driver: &mut Driver,
     mask: CpuMask,
     wanted: CpuMask,
     base: u64,
+    wait: bool,
 ) -> (CpuMask, u64) {
     let asked = AtomicU64::new(9);
     let cond = |cpu: u32, _: u64| {
         note_asked(&asked, base, cpu);
         wanted.contains(cpu)
     };
-    let called = driver.each(rt, mask, 1, &cond, false);
+    let called = driver.each(rt, mask, 1, &cond, wait);
     (called, asked.load(Ordering::SeqCst))
 }
 
@@ -453,7 +458,7 @@ fn the_condition_is_asked_of_the_others_and_then_of_this_cpu(rt: HostRuntime) ->
 }
 
 fn asks_of_eight<R: Wait + Abort>(rt: &R, two: &mut Driver, all: CpuMask, even: CpuMask) {
-    let (called, asked) = call_wanted(rt, two, all, even, 10);
+    let (called, asked) = call_wanted(rt, two, all, even, 10, false);
     assert!(rt; called == even);
     assert_eq!(rt; asked, 901_345_672);
     let calls = (two.times(2, 1), two.tally(4), two.tally(5));

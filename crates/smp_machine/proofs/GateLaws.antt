@@ -12,6 +12,7 @@ use Rattle.smp_machine.specs.Moves.{told, tells, lost_tries, Looks, LooksUpTo, g
 use Rattle.smp_machine.specs.Own.{Own}
 use Rattle.smp_machine.specs.MachineCpu.{MachineCpuValue}
 use Rattle.smp_machine.specs.Works.{Works}
+use Rattle.smp_machine.proofs.Queued.{has_queued}
 
 tries_are : (k : ℕ) (lost : List ℕ) → AllByRecursion (IsTryOf k) (lost_tries k lost)
 tries_are k [] = tt
@@ -66,6 +67,7 @@ module _ {H F : Type 0} (hears : H → Heard → H → Type 0) (runs : F → Cal
     polls = λ old new h h' f f' w. has_done [] w (sym (append-nil (told old.stops.moves)));
     short = λ work old new h h' f f' answer s. has_done (Took ∷ Began work ∷ Gave ∷ Collected s.word ∷ []) s.works refl;
     long = λ work old new h h' f f' answer s. has_done (Took ∷ Began work ∷ Collected s.word ∷ Gave ∷ []) s.works refl;
+    queued = has_queued hears runs;
     stands = λ k on old new h h' f f' s. (s.count, s.same, has_done (Took ∷ Found k s.count ∷ Gave ∷ []) s.works refl);
     turns = λ t k on old new h h' f f' s.
         let moves : List OwnMove = Took ∷ Found k s.count ∷ Began s.work ∷ Collected s.stopped.word ∷ Gave ∷ [] in

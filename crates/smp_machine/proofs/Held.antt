@@ -12,8 +12,9 @@ use Rattle.smp_words.specs.Size.{cpus}
 use Rattle.smp_machine.specs.declared.work_queue.Item.{Item}
 use Rattle.smp_machine.specs.declared.work_queue.Knows.{Knows}
 use Rattle.smp_machine.specs.declared.work_queue.Knows.TheVariants.{Takes, Puts}
+use Rattle.smp_machine.specs.declared.work_queue.Noted.{Noted}
 use Rattle.smp_machine.specs.WorkQueue.{puts_more, takes_more, IsKnown}
-use Rattle.smp_machine.specs.Passes.{items_of, IsTakes, IsPuts, ids_of, put_of, passes_of, IsSource, AreHeld, puts}
+use Rattle.smp_machine.specs.Passes.{items_of, notes_of, IsTakes, IsPuts, ids_of, put_of, noted_of, passes_of, IsSource, AreHeld, puts}
 
 -- what is at an index, under a function
 pub index_map : {A B : Type 0} (f : A → B) (xs : List A) (i : ℕ) (x : A) (d : B) → i < length xs → x ≡ slice_index_or xs i x
@@ -52,38 +53,42 @@ pub option_both : (r : Option Item) (P : Type 0) (Q : Item → Type 0) (R : Type
 option_both None P Q R f k h = f h
 option_both (Some y) P Q R f k h = k y h
 
-pub puts_are : (n : ℕ) (v : Knows) → IsPuts n v → v ≡ Puts n (items_of v)
+pub puts_are : (n : ℕ) (v : Knows) → IsPuts n v → v ≡ Puts n (items_of v) (notes_of v)
 puts_are n (Takes m l) h = absurd h
-puts_are n (Puts s l) h = λ i. Puts (h i) l
+puts_are n (Puts s l notes) h = λ i. Puts (h i) l notes
 
 next_of : Knows → ℕ
 next_of (Takes n l) = n
-next_of (Puts s l) = s
+next_of (Puts s l notes) = s
 
 pub takes_are : (v : Knows) → IsTakes v → (n : ℕ) × (v ≡ Takes n (items_of v))
 takes_are (Takes n l) h = (n, refl)
-takes_are (Puts s l) h = absurd h
+takes_are (Puts s l notes) h = absurd h
 
-puts_still : (n : ℕ) (v : Knows) (x : Item) → IsPuts n v → IsPuts n (puts_more v x)
-puts_still n (Takes m l) x h = h
-puts_still n (Puts s l) x h = h
+puts_still : (note : Noted) (n : ℕ) (v : Knows) (x : Item) → IsPuts n v → IsPuts n (puts_more note v x)
+puts_still note n (Takes m l) x h = h
+puts_still note n (Puts s l notes) x h = h
 
 takes_still : (v : Knows) (x : Item) → IsTakes v → IsTakes (takes_more v x)
 takes_still (Takes n l) x h = h
-takes_still (Puts s l) x h = h
+takes_still (Puts s l notes) x h = h
 
-items_put : (n : ℕ) (v : Knows) (x : Item) → IsPuts n v → items_of (puts_more v x) ≡ items_of v ++ x ∷ []
-items_put n (Takes m l) x h = absurd h
-items_put n (Puts s l) x h = refl
+items_put : (note : Noted) (n : ℕ) (v : Knows) (x : Item) → IsPuts n v → items_of (puts_more note v x) ≡ items_of v ++ x ∷ []
+items_put note n (Takes m l) x h = absurd h
+items_put note n (Puts s l notes) x h = refl
+
+notes_put : (note : Noted) (n : ℕ) (v : Knows) (x : Item) → IsPuts n v → notes_of (puts_more note v x) ≡ notes_of v ++ note ∷ []
+notes_put note n (Takes m l) x h = absurd h
+notes_put note n (Puts s l notes) x h = refl
 
 items_taken : (v : Knows) (x : Item) → IsTakes v → items_of (takes_more v x) ≡ items_of v ++ x ∷ []
 items_taken (Takes n l) x h = refl
-items_taken (Puts s l) x h = absurd h
+items_taken (Puts s l notes) x h = absurd h
 
-pub still_puts : (r : Result (Unit {0}) Item) (n : ℕ) (v w : Knows) (x : Item) (A : Item → Type 0) (K : Type 0) → IsPuts n v
-    → MatchResult r (λ _. (w ≡ puts_more v x) × IsKnown w) (λ y. A y × (w ≡ v) × K) → IsPuts n w
-still_puts r n v w x A K h =
-    match_both r _ _ (IsPuts n w) (λ t. subst (IsPuts n) (sym t.0) (puts_still n v x h)) (λ y t. subst (IsPuts n) (sym t.1) h)
+pub still_puts : (note : Noted) (r : Result (Unit {0}) Item) (n : ℕ) (v w : Knows) (x : Item) (A : Item → Type 0) (K : Type 0) → IsPuts n v
+    → MatchResult r (λ _. (w ≡ puts_more note v x) × IsKnown w) (λ y. A y × (w ≡ v) × K) → IsPuts n w
+still_puts note r n v w x A K h =
+    match_both r _ _ (IsPuts n w) (λ t. subst (IsPuts n) (sym t.0) (puts_still note n v x h)) (λ y t. subst (IsPuts n) (sym t.1) h)
 
 pub still_takes : (r : Option Item) (v w : Knows) (K : Type 0) → IsTakes v
     → MatchOption r ((w ≡ v) × K) (λ x. (w ≡ takes_more v x) × IsKnown w) → IsTakes w
@@ -125,35 +130,60 @@ module _ (number : ℕ) (to : List (Pass Item Knows)) (own : Pass Item Knows) (h
   }
 
   -- what the CPU has put, once this pass has changed
-  put_set : (i : ℕ) (p q : Pass Item Knows) (x : Item) → i < cpus → p ≡ slice_index_or to i p → view q ≡ puts_more (view p) x
+  put_set : (note : Noted) (i : ℕ) (p q : Pass Item Knows) (x : Item) → i < cpus → p ≡ slice_index_or to i p → view q ≡ puts_more note (view p) x
       → put_of (slice_set to i q) ≡ slice_set (put_of to) i (slice_index_or (put_of to) i [] ++ x ∷ [])
-  put_set i p q x below at more =
+  put_set note i p q x below at more =
       let f : Pass Item Knows → List Item = λ y. items_of (view y) in
       let sized : length to ≡ cpus = h.sized in
       let short : i < length to = omega arith in
       let item : items_of (view q) ≡ slice_index_or (put_of to) i [] ++ x ∷ [] =
       ap items_of more
-      ∙ (items_put number (view p) x (h.sources i p below at).puts ∙ ap (λ (l : List Item). l ++ x ∷ []) (sym (index_map f to i p [] short at))) in
+      ∙ (items_put note number (view p) x (h.sources i p below at).puts ∙ ap (λ (l : List Item). l ++ x ∷ []) (sym (index_map f to i p [] short at))) in
       map-set f to i q ∙ ap (slice_set (put_of to) i) item
 
-  pub has_put : (i : ℕ) (p q : Pass Item Knows) (x : Item) → i < cpus → p ≡ slice_index_or to i p → q.table_id ≡ p.table_id → view q ≡ puts_more (view p) x
-      → passes_of number (slice_set to i q) own ≡ puts i x (passes_of number to own)
-  has_put i p q x below at same more =
-      λ k. record { queues = ids_kept to i p q at same k; number = number; put = put_set i p q x below at more k; taken = items_of (view own) }
+  -- and what it has noted
+  noted_set : (note : Noted) (i : ℕ) (p q : Pass Item Knows) (x : Item) → i < cpus → p ≡ slice_index_or to i p → view q ≡ puts_more note (view p) x
+      → noted_of (slice_set to i q) ≡ slice_set (noted_of to) i (slice_index_or (noted_of to) i [] ++ note ∷ [])
+  noted_set note i p q x below at more =
+      let f : Pass Item Knows → List Noted = λ y. notes_of (view y) in
+      let sized : length to ≡ cpus = h.sized in
+      let short : i < length to = omega arith in
+      let item : notes_of (view q) ≡ slice_index_or (noted_of to) i [] ++ note ∷ [] =
+      ap notes_of more
+      ∙ (notes_put note number (view p) x (h.sources i p below at).puts
+      ∙ ap (λ (l : List Noted). l ++ note ∷ []) (sym (index_map f to i p [] short at))) in
+      map-set f to i q ∙ ap (slice_set (noted_of to) i) item
+
+  pub has_put : (note : Noted) (i : ℕ) (p q : Pass Item Knows) (x : Item) → i < cpus → p ≡ slice_index_or to i p → q.table_id ≡ p.table_id
+      → view q ≡ puts_more note (view p) x → passes_of number (slice_set to i q) own ≡ puts i x note (passes_of number to own)
+  has_put note i p q x below at same more = λ k. record {
+    queues = ids_kept to i p q at same k;
+    number = number;
+    put = put_set note i p q x below at more k;
+    noted = noted_set note i p q x below at more k;
+    taken = items_of (view own);
+  }
 
   pub has_not : (i : ℕ) (p q : Pass Item Knows) → p ≡ slice_index_or to i p → q.table_id ≡ p.table_id → view q ≡ view p
       → passes_of number (slice_set to i q) own ≡ passes_of number to own
   has_not i p q at same alike =
       let f : Pass Item Knows → List Item = λ y. items_of (view y) in
+      let g : Pass Item Knows → List Noted = λ y. notes_of (view y) in
       let put : put_of (slice_set to i q) ≡ put_of to = map-set_same f to i q p (ap items_of alike ∙ ap f at) in
-      λ k. record { queues = ids_kept to i p q at same k; number = number; put = put k; taken = items_of (view own) }
+      let noted : noted_of (slice_set to i q) ≡ noted_of to = map-set_same g to i q p (ap notes_of alike ∙ ap g at) in
+      λ k. record { queues = ids_kept to i p q at same k; number = number; put = put k; noted = noted k; taken = items_of (view own) }
 
   pub put_shown : (i : ℕ) (p q : Pass Item Knows) (x : Item) → i < cpus → p ≡ slice_index_or to i p → IsPuts number (view q) → IsKnown (view q)
-      → IsKnown (Puts number (slice_index_or (put_of (slice_set to i q)) i []))
+      → IsKnown (Puts number (slice_index_or (put_of (slice_set to i q)) i []) (slice_index_or (noted_of (slice_set to i q)) i []))
   put_shown i p q x below at is tied =
       let f : Pass Item Knows → List Item = λ y. items_of (view y) in
+      let g : Pass Item Knows → List Noted = λ y. notes_of (view y) in
       let sized : length to ≡ cpus = h.sized in
-      let short : i < length (map f to) = subst (λ (n : ℕ). i < n) (sym (length_map f to)) (subst (λ (n : ℕ). i < n) (sym sized) below) in
+      let low : i < length to = subst (λ (n : ℕ). i < n) (sym sized) below in
       let there : slice_index_or (put_of (slice_set to i q)) i [] ≡ items_of (view q) =
-      ap (λ (l : List (List Item)). slice_index_or l i []) (map-set f to i q) ∙ get_or-set_same (map f to) i (f q) [] short in
-      subst IsKnown (puts_are number (view q) is ∙ ap (Puts number) (sym there)) tied
+      ap (λ (l : List (List Item)). slice_index_or l i []) (map-set f to i q)
+      ∙ get_or-set_same (map f to) i (f q) [] (subst (λ (n : ℕ). i < n) (sym (length_map f to)) low) in
+      let noted : slice_index_or (noted_of (slice_set to i q)) i [] ≡ notes_of (view q) =
+      ap (λ (l : List (List Noted)). slice_index_or l i []) (map-set g to i q)
+      ∙ get_or-set_same (map g to) i (g q) [] (subst (λ (n : ℕ). i < n) (sym (length_map g to)) low) in
+      subst IsKnown (puts_are number (view q) is ∙ (λ k. Puts number (sym there k) (sym noted k))) tied

@@ -17,7 +17,7 @@ use Rattle.smp_multi.specs.Nudges.{loads_count}
 use Rattle.smp_multi.specs.declared.func.Called.{Called}
 use Rattle.smp_machine.specs.declared.work_queue.Item.{Item}
 use Rattle.smp_machine.specs.Keys.{state_of, IsPatchOf, KeyStands, TurnsKey}
-use Rattle.smp_machine.specs.Own.{Own, own_of, with_gate, with_begun, with_collected, with_moves, with_put}
+use Rattle.smp_machine.specs.Own.{Own, own_of, with_gate, with_begun, with_collected, with_moves, with_put, note_all}
 use Rattle.smp_machine.specs.MachineCpu.{MachineCpuValue}
 use Rattle.smp_machine.specs.Stops.{item, with_stop, AreShown, HasCollected, HasStopped}
 use Rattle.smp_machine.specs.Takes.{EntersFront}
@@ -63,12 +63,12 @@ moves_before l before first rest = append_assoc l before (first ++ rest) ∙ ap 
 module _ {H F : Type 0} (hears : H → Heard → H → Type 0) (runs : F → Called → F → Type 0) where
   -- a patch on a CPU that holds the gate
   pub patch_stopped : {old m₁ m₂ m₃ m₄ new : MachineCpuValue} {h h₂ h₃ h₄ : H} {f f₂ f₃ f₄ : F} (work : Work) (u v : ℤ) → u ≡ v
-      → m₁ ≡ record old { stops = begins work old.stops }
+      → old.stops.part.holds ≡ true → m₁ ≡ record old { stops = begins work old.stops }
       → Works hears runs m₁ h f m₂ h₂ f₂ (with_put (item m₁.stops.number work) (members work.mask) (own_of m₁))
-      → AreShown m₁.stops.number (members work.mask) m₂.passes.put → Works hears runs m₂ h₂ f₂ m₃ h₃ f₃ (own_of m₂)
+      → AreShown (members work.mask) m₂.passes → Works hears runs m₂ h₂ f₂ m₃ h₃ f₃ (own_of m₂)
       → HasCollected hears runs m₃ h₃ f₃ m₄ h₄ f₄ v → new ≡ record m₄ { stops = gives_gate m₄.stops }
       → HasStopped hears runs (patch_after []) work old h f new h₄ f₄ u
-  patch_stopped {old} {m₁} {m₂} {m₃} {m₄} {new} {h} {h₂} {h₃} {h₄} {f} {f₂} {f₃} {f₄} work u v same e a shown b c g =
+  patch_stopped {old} {m₁} {m₂} {m₃} {m₄} {new} {h} {h₂} {h₃} {h₄} {f} {f₂} {f₃} {f₄} work u v same held e a shown b c g =
       let x : Item = item old.stops.number work in
       let put = λ (o : Own). with_put x (members work.mask) (with_moves (Began work ∷ []) (with_begun work o)) in
       let got = λ (o : Own). with_moves (Collected c.word ∷ []) (with_collected c.word o) in
@@ -84,11 +84,15 @@ module _ {H F : Type 0} (hears : H → Heard → H → Type 0) (runs : F → Cal
         answer_is = same ∙ c.answer_is;
         whole = subst (λ (z : ℤ). IsWholeWord z c.word) (sym same) c.whole;
         works = works_as hears runs left
-            (λ i. record left { moves = moves_of_four (own_of old).moves (Began work ∷ []) (Collected c.word) Gave i })
+            (λ i. record left {
+              moves = moves_of_four (own_of old).moves (Began work ∷ []) (Collected c.word) Gave i;
+              noted = note_all (held i) (Some work) x (members work.mask) (own_of old).put (own_of old).noted;
+            })
             (works_both hears runs (λ (o : Own). got (put o)) gave four (works_give hears runs m₄ new h₄ f₄ g));
         result = last_open g c.result;
-        shown = shown_at number refl (sym (ap (λ (p : MachineCpuValue). p.passes.put) g
-            ∙ (ap (λ (o : Own). o.put) c.works.own_is ∙ ap (λ (o : Own). o.put) b.own_is))) shown;
+        shown = shown_at m₂.passes new.passes refl (sym (ap (λ (p : MachineCpuValue). p.passes.number) g ∙ (c.works.passes_number ∙ b.passes_number)))
+            (sym (ap (λ (p : MachineCpuValue). p.passes.put) g ∙ (ap (λ (o : Own). o.put) c.works.own_is ∙ ap (λ (o : Own). o.put) b.own_is)))
+            (sym (ap (λ (p : MachineCpuValue). p.passes.noted) g ∙ (ap (λ (o : Own). o.noted) c.works.own_is ∙ ap (λ (o : Own). o.noted) b.own_is))) shown;
         outside = ap (λ (p : MachineCpuValue). p.stops.inside) g ∙ c.outside;
       }
 
@@ -117,7 +121,7 @@ module _ {H F : Type 0} (hears : H → Heard → H → Type 0) (runs : F → Cal
             (works_both hears runs (λ (o : Own). with_moves before (with_gate held o)) (with_stop (patch_after first) old.stops.number work s.word) a
             (subst (λ (n : ℕ). Works hears runs m h₁ f₁ new h' f' (with_stop (patch_after first) n work s.word (own_of m))) a.number_is s.works));
         result = s.result;
-        shown = shown_at a.number_is refl refl s.shown;
+        shown = s.shown;
         outside = s.outside;
       }
 

@@ -31,6 +31,8 @@ pub mod KeyCounts
 pub mod ReadLaws
 -- what the definitions of stops, polls and queues come to
 pub mod StopLaws
+-- what is noted with the puts of a stop
+pub mod Queued
 -- when a CPU takes the gate and gives it up
 pub mod GateLaws
 -- calls by Linux's names

@@ -15,8 +15,10 @@ use Rattle.crossbeam_queue.specs.declared.array_queue.Slotted.{Slotted}
 use Rattle.smp_machine.specs.declared.work_queue.Item.{Item}
 use Rattle.smp_machine.specs.declared.work_queue.Knows.{Knows}
 use Rattle.smp_machine.specs.declared.work_queue.Knows.TheVariants.{Takes, Puts}
+use Rattle.smp_machine.specs.declared.work_queue.Noted.{Noted}
 use Rattle.smp_words.specs.Size.{cpus}
-use Rattle.smp_machine.specs.Passes.{PassesValue, ids_of, put_of, items_of, passes_of, IsTakes, IsPuts, AreHeld, IsTaker, AreTakers, AreSources}
+use Rattle.smp_machine.specs.Passes.{PassesValue, ids_of, put_of, noted_of, items_of, notes_of, passes_of, IsTakes}
+use Rattle.smp_machine.specs.Passes.{IsPuts, AreHeld, IsTaker, AreTakers, AreSources}
 use Rattle.smp_machine.specs.Passes.{AreGiven, AreFresh, fresh_passes, given_below, queue_ids}
 use Rattle.smp_machine.proofs.Held.{index_map, length_map}
 
@@ -101,13 +103,13 @@ pub sources_none : (s : ℕ) → AreSources [] s []
 sources_none s = record { ids_are = refl; each = λ i p l at. absurd (omega arith) }
 
 pub sources_more : (ids : List TableId) (c s : ℕ) (to : List (Pass Item Knows)) (p : Pass Item Knows) → AreSources (take c ids) s to → c < length ids
-    → p.table_id ≡ slice_index_or ids c p.table_id → p.me.1 ≡ [] → view p ≡ Puts s [] → AreSources (take (c + 1) ids) s (to ++ p ∷ [])
+    → p.table_id ≡ slice_index_or ids c p.table_id → p.me.1 ≡ [] → view p ≡ Puts s [] [] → AreSources (take (c + 1) ids) s (to ++ p ∷ [])
 sources_more ids c s to p h below id empty knows = record {
   ids_are = map-append (λ (y : Pass Item Knows). y.table_id) to (p ∷ [])
       ∙ (ap (λ (l : List TableId). l ++ p.table_id ∷ []) h.ids_are ∙ sym (take_more ids c p.table_id below id));
   each = λ i q l at. ⊎_elim
       (λ (t : (i < length to) × (q ≡ slice_index_or to i q)). h.each i q t.0 t.1)
-      (λ (t : (i ≡ length to) × (q ≡ p)). subst (λ (y : Pass Item Knows). (y.me.1 ≡ []) × (view y ≡ Puts s [])) (sym t.1) (empty, knows))
+      (λ (t : (i ≡ length to) × (q ≡ p)). subst (λ (y : Pass Item Knows). (y.me.1 ≡ []) × (view y ≡ Puts s [] [])) (sym t.1) (empty, knows))
       (at_end to p i q l at);
 }
 
@@ -200,19 +202,28 @@ module _ (ids : List TableId) (number : ℕ) (to : List (Pass Item Knows)) (own 
     own_queue = there ∙ ap (λ (l : List TableId). slice_index_or l number own.table_id) (sym sources.ids_are);
   }
 
-put_none : (source : ℕ) (to : List (Pass Item Knows)) → ((i : ℕ) (p : Pass Item Knows) → i < length to → p ≡ slice_index_or to i p → view p ≡ Puts source [])
+put_none : (source : ℕ) (to : List (Pass Item Knows)) → ((i : ℕ) (p : Pass Item Knows) → i < length to → p ≡ slice_index_or to i p → view p ≡ Puts source [] [])
     → put_of to ≡ map (λ id. []) (ids_of to)
 put_none source [] each = refl
 put_none source (p ∷ more) each =
     let here : items_of (view p) ≡ [] = ap items_of (each 0 p (omega arith) refl) in
     λ k. here k ∷ put_none source more (λ i q l at. each (suc i) q (omega arith) at) k
 
+noted_none : (source : ℕ) (to : List (Pass Item Knows))
+    → ((i : ℕ) (p : Pass Item Knows) → i < length to → p ≡ slice_index_or to i p → view p ≡ Puts source [] []) → noted_of to ≡ map (λ id. []) (ids_of to)
+noted_none source [] each = refl
+noted_none source (p ∷ more) each =
+    let here : notes_of (view p) ≡ [] = ap notes_of (each 0 p (omega arith) refl) in
+    λ k. here k ∷ noted_none source more (λ i q l at. each (suc i) q (omega arith) at) k
+
 pub held_fresh : (ids : List TableId) (number : ℕ) (to : List (Pass Item Knows)) (own : Pass Item Knows) → AreSources ids number to → IsTaker cpus own
     → passes_of number to own ≡ fresh_passes ids number
 held_fresh ids number to own sources taker =
     let put : put_of to ≡ map (λ id. []) ids =
     put_none number to (λ i p l at. (sources.each i p l at).1) ∙ ap (λ (l : List TableId). map {B = List Item} (λ id. []) l) sources.ids_are in
-    λ k. record { queues = sources.ids_are k; number = number; put = put k; taken = items_of (taker.knows k) }
+    let noted : noted_of to ≡ map (λ id. []) ids =
+    noted_none number to (λ i p l at. (sources.each i p l at).1) ∙ ap (λ (l : List TableId). map {B = List Noted} (λ id. []) l) sources.ids_are in
+    λ k. record { queues = sources.ids_are k; number = number; put = put k; noted = noted k; taken = items_of (taker.knows k) }
 
 pub fresh_none : (ids : List TableId) → AreFresh ids 0 []
 fresh_none ids i p l at = absurd (omega arith)

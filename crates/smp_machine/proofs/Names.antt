@@ -30,6 +30,7 @@ each_of_cond leads m old before new after says mask func info wait (Ok called) a
   free = a.free;
   targets = each_is_called says (is_target mask m.calls.online old.calls.number true) called agrees below a.picks;
   calls = a.calls;
+  turns = a.turns;
   ended = a.ended;
   refused = a.refused;
   kept = a.kept;
@@ -38,6 +39,7 @@ each_of_cond leads m old before new after says mask func info wait (Err e) agree
   free = a.free;
   targets = tt;
   calls = a.calls;
+  turns = a.turns;
   ended = a.ended;
   refused = a.refused;
   kept = a.kept;

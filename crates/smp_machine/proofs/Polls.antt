@@ -34,10 +34,15 @@ some_not : {o : Option Inside} {stop : Inside} → o ≡ Some stop → o ≢ Non
 some_not e n = cc
 
 front_queues : (old new : PassesValue) (front : Option Item) → TakesFront old new front
-    → (new.queues ≡ old.queues) × (new.number ≡ old.number) × (new.put ≡ old.put)
-front_queues old new None t = (ap (λ (p : PassesValue). p.queues) t, ap (λ (p : PassesValue). p.number) t, ap (λ (p : PassesValue). p.put) t)
-front_queues old new (Some x) t =
-    (ap (λ (p : PassesValue). p.queues) t.0, ap (λ (p : PassesValue). p.number) t.0, ap (λ (p : PassesValue). p.put) t.0)
+    → (new.queues ≡ old.queues) × (new.number ≡ old.number) × (new.put ≡ old.put) × (new.noted ≡ old.noted)
+front_queues old new None t =
+    (ap (λ (p : PassesValue). p.queues) t, ap (λ (p : PassesValue). p.number) t, ap (λ (p : PassesValue). p.put) t, ap (λ (p : PassesValue). p.noted) t)
+front_queues old new (Some x) t = (
+  ap (λ (p : PassesValue). p.queues) t.0,
+  ap (λ (p : PassesValue). p.number) t.0,
+  ap (λ (p : PassesValue). p.put) t.0,
+  ap (λ (p : PassesValue). p.noted) t.0,
+)
 
 -- a CPU of which nothing has changed but where it is, its attempts to enter a stop, and how many steps it has made
 abbrev tried : StopCpuValue → StopCpuValue → StopCpuValue
@@ -72,7 +77,11 @@ next_own : (m : MachineValue) (old new : MachineCpuValue) (slot : Option ℕ) �
 next_own m old new slot t =
     let p = front_queues old.passes new.passes t.front t.passes_are in
     let e = front_inside m old.stops new.stops t.front slot t.stops_are in
-    λ i. own_of (record { calls = old.calls; stops = record (e i) { inside = None; attempts = []; steps = 0 }; passes = record (old.passes) { put = p.2 i } })
+    λ i. own_of (record {
+      calls = old.calls;
+      stops = record (e i) { inside = None; attempts = []; steps = 0 };
+      passes = record (old.passes) { put = p.2 i; noted = p.3 i };
+    })
 
 module _ {H F : Type 0} (hears : H → Heard → H → Type 0) (leads : F → Called → F → Type 0) where
   pub going_none : (p : MachineCpuValue) (h : H) (f : F) → p.stops.inside ≢ None → Going hears leads p h f p h f

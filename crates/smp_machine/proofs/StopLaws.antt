@@ -1,5 +1,6 @@
 -- What the definitions of stops, polls and queues come to.
-use Rattle.std.proofs.Common.{◌≡◌, ◌↔◌, ◌⊎◌, inl, inr, ℕ, ℤ, zero, suc, ◌<◌, ◌==◌, ◌&&◌, ◌||◌, nat_lt, Bool, true, false, if◌then◌else◌, Option, Some, None}
+use Rattle.std.proofs.Common.{◌≡◌, ◌≢◌, ◌↔◌, ◌⊎◌, inl, inr, ℕ, ℤ, zero, suc, ◌<◌, ◌≤◌, ◌==◌, true≢false, ◌&&◌, ◌||◌}
+use Rattle.std.proofs.Common.{nat_lt, Bool, true, false, if◌then◌else◌, Option, Some, None}
 use Rattle.std.proofs.Common.{List, [], ◌∷◌, ◌++◌, length, filter, slice_index_or, length-set, append_assoc, arith, refl, sym, ap, ◌∙◌, subst}
 use Rattle.std.proofs.Common.{eqb-true, eq-eqb, ne_eqb, lt-ltb}
 use Rattle.std.proofs.lemmas.Bool.{cases_eq}
@@ -7,22 +8,27 @@ use Rattle.std.proofs.lemmas.Bool.Decides.{nat_tests}
 use Rattle.std.proofs.lemmas.List.{append-nil, get_or-set_same, get_or-set_other, same_from_push}
 use Rattle.smp_mask.specs.Mask.{has, members_below}
 use Rattle.smp_mask.specs.declared.mask.TheConstants.{NR_CPUS}
+use Rattle.smp_mask.specs.declared.error.SmpError.{SmpError}
+use Rattle.smp_mask.specs.declared.error.SmpError.TheVariants as error
 use Rattle.smp_queue.specs.Cpu.{CpuValue as CallCpuValue}
 use Rattle.smp_queue.specs.declared.handler.Heard.{Heard}
 use Rattle.smp_stop_steps.specs.Start.{answer_word}
 use Rattle.smp_multi.specs.Answers.{answer_in}
 use Rattle.smp_multi.specs.Names.{OwnMove, Work}
-use Rattle.smp_multi.specs.Cpu.{TableValue, CpuValue as StopCpuValue}
+use Rattle.smp_multi.specs.Cpu.{TableValue, CpuValue as StopCpuValue, Inside, is_in}
 use Rattle.smp_multi.specs.Polls.{AgreesWithOwn, MayAnswer}
 use Rattle.smp_multi.specs.declared.func.Called.{Called}
 use Rattle.smp_machine.specs.declared.work_queue.Item.{Item}
 use Rattle.smp_machine.specs.declared.work_queue.Knows.TheVariants.{Takes, Puts}
 use Rattle.smp_machine.specs.StopLaws.{IsOfOne, IsOfTwo, IsOfAll, IsFirstAlone, WorksAreOfTheirCpus}
-use Rattle.smp_machine.specs.StopLaws.{StopsAgreeWithOwn, StopsAreMadeOnce, PollsSendNothing, QueuesKeepOrder, WorksAreTaken}
+use Rattle.smp_machine.specs.StopLaws.{StopsAgreeWithOwn, StopsAreMadeOnce, PollsSendNothing, QueuesKeepOrder, WorksAreTaken, RefusalsAreInOrder}
+use Rattle.smp_machine.specs.Keys.{RefusesKey}
+use Rattle.smp_machine.specs.Served.{Fate, Entered, Missed, Unseen, IsLookedAt, attempts_for, is_entered}
+use Rattle.smp_machine.specs.Takes.{EntersFront}
 use Rattle.smp_machine.specs.Own.{Own, put_one, put_all}
 use Rattle.smp_machine.specs.Passes.{PassesValue, put_to}
 use Rattle.smp_machine.specs.MachineCpu.{MachineCpuValue}
-use Rattle.smp_machine.specs.Stops.{item, HasStopped, IsActive, IsOneWork, IsTwoWork, IsMachineWork}
+use Rattle.smp_machine.specs.Stops.{item, HasStopped, IsActive, IsOneWork, IsTwoWork, IsMachineWork, RefusesOne, RefusesTwo}
 use Rattle.smp_machine.specs.WorkQueue.{items_by}
 use Rattle.smp_multi.proofs.Kept.{own_answers_agree}
 use Rattle.smp_machine.proofs.Stopping.{put_all-append}
@@ -94,7 +100,7 @@ works_are = record { one = one_is; two = two_is; all = all_is }
 
 -- ---- what is put
 
-put_sized : (x : Item) (xs : List ℕ) (put : List (List Item)) → length (put_all x xs put) ≡ length put
+pub put_sized : (x : Item) (xs : List ℕ) (put : List (List Item)) → length (put_all x xs put) ≡ length put
 put_sized x [] put = refl
 put_sized x (cpu ∷ xs) put = put_sized x xs (put_one x cpu put) ∙ length-set put cpu (slice_index_or put cpu [] ++ x ∷ [])
 
@@ -113,34 +119,39 @@ put_last x c k put true low = elim (cases_eq k c) [
 ]
 
 -- of the members below k, this CPU is passed once or not at all
-here : (x : Item) (h : Bool) → (if h && false then x ∷ [] else []) ++ (if h && true then x ∷ [] else []) ≡ (if h && true then x ∷ [] else [])
-here x true = refl
-here x false = refl
+module _ {A : Type 0} where
+  here : (x : A) (h : Bool) → (if h && false then x ∷ [] else []) ++ (if h && true then x ∷ [] else []) ≡ (if h && true then x ∷ [] else [])
+  here x true = refl
+  here x false = refl
 
-not_here : (x : Item) (l : List Item) (h : Bool) → l ++ (if h && false then x ∷ [] else []) ≡ l
-not_here x l true = append-nil l
-not_here x l false = append-nil l
+  not_here : (x : A) (l : List A) (h : Bool) → l ++ (if h && false then x ∷ [] else []) ≡ l
+  not_here x l true = append-nil l
+  not_here x l false = append-nil l
 
-once : (x : Item) (m c k : ℕ) → (if has m c && nat_lt c k then x ∷ [] else []) ++ (if has m k && k == c then x ∷ [] else [])
-    ≡ (if has m c && nat_lt c (suc k) then x ∷ [] else [])
-once x m c k = elim (cases_eq k c) [
-  | inl same ↦
-      let not_yet : nat_lt c k ≡ false = grind (arith, nat_tests) in
-      let now : nat_lt c (suc k) ≡ true = grind (arith, nat_tests) in
-      subst (λ (t : Bool × Bool × Bool × Bool). (if has m c && t.0 then x ∷ [] else []) ++ (if t.1 && t.2 then x ∷ [] else [])
-      ≡ (if has m c && t.3 then x ∷ [] else []))
-      (λ i. (sym not_yet i, has m (sym same i), sym (eq-eqb k c same) i, sym now i)) (here x (has m c))
-  | inr apart ↦
-      let still : nat_lt c (suc k) ≡ nat_lt c k = grind (arith, nat_tests) in
-      subst (λ (t : Bool × Bool). (if has m c && nat_lt c k then x ∷ [] else []) ++ (if has m k && t.0 then x ∷ [] else [])
-      ≡ (if has m c && t.1 then x ∷ [] else []))
-      (λ i. (sym (ne_eqb k c apart) i, sym still i)) (not_here x (if has m c && nat_lt c k then x ∷ [] else []) (has m k))
-]
+  pub once : (f : ℕ → A) (m c k : ℕ) → (if has m c && nat_lt c k then f c ∷ [] else []) ++ (if has m k && k == c then f k ∷ [] else [])
+      ≡ (if has m c && nat_lt c (suc k) then f c ∷ [] else [])
+  once f m c k = elim (cases_eq k c) [
+    | inl same ↦
+        let not_yet : nat_lt c k ≡ false = grind (arith, nat_tests) in
+        let now : nat_lt c (suc k) ≡ true = grind (arith, nat_tests) in
+        subst (λ (t : Bool × Bool × Bool × Bool × A). (if has m c && t.0 then f c ∷ [] else []) ++ (if t.1 && t.2 then t.4 ∷ [] else [])
+        ≡ (if has m c && t.3 then f c ∷ [] else []))
+        (λ i. (sym not_yet i, has m (sym same i), sym (eq-eqb k c same) i, sym now i, f (sym same i))) (here (f c) (has m c))
+    | inr apart ↦
+        let still : nat_lt c (suc k) ≡ nat_lt c k = grind (arith, nat_tests) in
+        subst (λ (t : Bool × Bool). (if has m c && nat_lt c k then f c ∷ [] else []) ++ (if has m k && t.0 then f k ∷ [] else [])
+        ≡ (if has m c && t.1 then f c ∷ [] else []))
+        (λ i. (sym (ne_eqb k c apart) i, sym still i)) (not_here (f k) (if has m c && nat_lt c k then f c ∷ [] else []) (has m k))
+  ]
 
-none_below_0 : (x : Item) (l : List Item) (h : Bool) (c : ℕ) → l ≡ l ++ (if h && nat_lt c 0 then x ∷ [] else [])
-none_below_0 x l h c =
-    let no : nat_lt c 0 ≡ false = grind (arith, nat_tests) in
-    subst (λ (t : Bool). l ≡ l ++ (if h && t then x ∷ [] else [])) (sym no) (sym (not_here x l h))
+  pub none_below_0 : (x : A) (l : List A) (h : Bool) (c : ℕ) → l ≡ l ++ (if h && nat_lt c 0 then x ∷ [] else [])
+  none_below_0 x l h c =
+      let no : nat_lt c 0 ≡ false = grind (arith, nat_tests) in
+      subst (λ (t : Bool). l ≡ l ++ (if h && t then x ∷ [] else [])) (sym no) (sym (not_here x l h))
+
+  pub below : (x : A) (h : Bool) (c : ℕ) → c < NR_CPUS → (if h && nat_lt c NR_CPUS then x ∷ [] else []) ≡ (if h then x ∷ [] else [])
+  below x true c low = ap (λ (t : Bool). if t then x ∷ [] else []) (lt-ltb c NR_CPUS low)
+  below x false c low = refl
 
 put_members : (x : Item) (m c k : ℕ) (put : List (List Item)) → c < length put
     → slice_index_or (put_all x (members_below m k) put) c [] ≡ slice_index_or put c [] ++ (if has m c && nat_lt c k then x ∷ [] else [])
@@ -153,11 +164,7 @@ put_members x m c (suc k) put low =
     ∙ (put_last x c k before (has m k) (subst (λ (n : ℕ). c < n) (sym (put_sized x (members_below m k) put)) low)
     ∙ (ap (λ (l : List Item). l ++ (if has m k && k == c then x ∷ [] else [])) (put_members x m c k put low)
     ∙ (append_assoc (slice_index_or put c []) (if has m c && nat_lt c k then x ∷ [] else []) (if has m k && k == c then x ∷ [] else [])
-    ∙ ap (λ (l : List Item). slice_index_or put c [] ++ l) (once x m c k))))
-
-below : (x : Item) (h : Bool) (c : ℕ) → c < NR_CPUS → (if h && nat_lt c NR_CPUS then x ∷ [] else []) ≡ (if h then x ∷ [] else [])
-below x true c low = ap (λ (t : Bool). if t then x ∷ [] else []) (lt-ltb c NR_CPUS low)
-below x false c low = refl
+    ∙ ap (λ (l : List Item). slice_index_or put c [] ++ l) (once (λ _. x) m c k))))
 
 -- ---- stops, polls and queues
 
@@ -214,10 +221,21 @@ items_filter source [] = refl
 items_filter source (x ∷ xs) = λ i. if x.slot == source then x ∷ items_filter source xs i else items_filter source xs i
 
 pub keep_order : QueuesKeepOrder
-keep_order items taken put views source next at to rule takes puts =
+keep_order items taken put notes views source next at to rule takes puts =
     let own = rule.each at (Takes next taken) takes in
-    let its = rule.each to (Puts source put) puts in
+    let its = rule.each to (Puts source put notes) puts in
     its.2 ∙ (ap (λ (l : List Item). items_by source (l ++ items)) (sym own.2) ∙ items_filter source (taken ++ items))
+
+drops : (t : TableValue) (old new : StopCpuValue) (x : Item) → EntersFront t old new (Some x) None → has old.setting.online x.slot ≡ true
+    → (new.inside ≡ None) × (new.attempts ≡ old.attempts ++ record { slot = x.slot; entered = false } ∷ [])
+drops t old new x (inl m) on = (ap (λ (c : StopCpuValue). c.inside) m.is ∙ m.outside, ap (λ (c : StopCpuValue). c.attempts) m.is)
+drops t old new x (inr o) on = absurd (true≢false (sym on ∙ o.1))
+
+looks_at : (online : ℕ) (x : Item) (fate : Fate) → IsLookedAt online (record { item = x; fate = fate }) → has online x.slot ≡ true
+    → attempts_for (record { item = x; fate = fate } ∷ []) ≡ record { slot = x.slot; entered = is_entered fate } ∷ []
+looks_at online x Entered l on = refl
+looks_at online x Missed l on = refl
+looks_at online x Unseen l on = absurd (true≢false (sym on ∙ l refl))
 
 pub are_taken : WorksAreTaken
 are_taken = record {
@@ -226,4 +244,56 @@ are_taken = record {
   entered = λ t old new x slot e.
       let r = e.1.1 in
       (record { slot = slot; work = r.work; acked = 0 }, ap (λ (c : StopCpuValue). c.inside) r.is, e.0, r.member);
+  dropped = drops;
+  looked_at = λ online s l on. looks_at online s.item s.fate l on;
 }
+
+-- ---- refusals
+
+in_stop : (i : Option Inside) → i ≢ None → is_in i ≡ true
+in_stop None n = absurd (n refl)
+in_stop (Some x) n = refl
+
+-- two answers that exclude each other
+not_both : {P : Type 0} (b : Bool) → b ≡ true → b ≡ false → P
+not_both b on off = absurd (true≢false (sym on ∙ off))
+
+one_refused : (t : TableValue) (old : MachineCpuValue) (dst : ℕ) (e : SmpError) → RefusesOne t old dst e
+    → (is_in old.stops.inside ≡ true → e ≡ error.BadArgument)
+    × (is_in old.stops.inside ≡ false → (e ≡ error.NoStopper) × (has t.setting.online dst ≡ false))
+one_refused t old dst error.BadArgument r = ((λ _. refl), λ out. not_both (is_in old.stops.inside) (in_stop old.stops.inside r) out)
+one_refused t old dst error.NoStopper r = ((λ inside. not_both (is_in old.stops.inside) inside (ap is_in r.0)), λ _. (refl, r.1))
+one_refused t old dst _ r = absurd r
+
+either_true : (i : Option Inside) (a b : ℕ) → (i ≢ None) ⊎ (a ≡ b) → (is_in i || a == b) ≡ true
+either_true i a b (inl n) = ap (λ (x : Bool). x || a == b) (in_stop i n)
+either_true i a b (inr e) = ap (λ (x : Bool). is_in i || x) (eq-eqb a b e) ∙ or_right (is_in i)
+
+either_false : (x y : Bool) → (x ≡ false) ⊎ (y ≡ false) → (x && y) ≡ false
+either_false x y (inl e) = ap (λ (b : Bool). b && y) e
+either_false true y (inr e) = e
+either_false false y (inr e) = refl
+
+two_refused : (t : TableValue) (old : MachineCpuValue) (a b : ℕ) (e : SmpError) → RefusesTwo t old a b e
+    → ((is_in old.stops.inside || a == b) ≡ true → e ≡ error.BadArgument)
+    × ((is_in old.stops.inside || a == b) ≡ false → (e ≡ error.NoStopper) × ((has t.setting.online a && has t.setting.online b) ≡ false))
+two_refused t old a b error.BadArgument r =
+    ((λ _. refl), λ out. not_both (is_in old.stops.inside || a == b) (either_true old.stops.inside a b r) out)
+two_refused t old a b error.NoStopper r =
+    let out : (is_in old.stops.inside || a == b) ≡ false = ap (λ (i : Option Inside). is_in i || a == b) r.0 ∙ ne_eqb a b r.1 in (
+      (λ taken. not_both (is_in old.stops.inside || a == b) taken out),
+      λ _. (refl, either_false (has t.setting.online a) (has t.setting.online b) r.2),
+    )
+two_refused t old a b _ r = absurd r
+
+in_or : (i : Option Inside) (P : Type 0) → (i ≢ None) ⊎ P → (is_in i ≡ true) ⊎ P
+in_or i P (inl n) = inl (in_stop i n)
+in_or i P (inr p) = inr p
+
+key_refused : (t : TableValue) (old : MachineCpuValue) (k : ℕ) (e : SmpError) → RefusesKey t old k e
+    → (e ≡ error.BadArgument) × ((is_in old.stops.inside ≡ true) ⊎ (t.setting.labels.keys ≤ k))
+key_refused t old k error.BadArgument r = (refl, in_or old.stops.inside _ r)
+key_refused t old k _ r = absurd r
+
+pub in_order : RefusalsAreInOrder
+in_order = record { one = one_refused; two = two_refused; key = key_refused }

@@ -1,5 +1,5 @@
 -- A stop, out of its parts.
-use Rattle.std.proofs.Common.{◌≡◌, ℕ, ℤ, Bool, true, false, true≢false, ◌||◌}
+use Rattle.std.proofs.Common.{◌≡◌, ℕ, ℤ, Option, Bool, true, false, true≢false, ◌||◌}
 use Rattle.std.proofs.Common.{List, [], ◌∷◌, ◌++◌, slice_index_or}
 use Rattle.std.proofs.Common.{inl, inr, refl, sym, ap, ◌∙◌, subst, append_assoc}
 use Rattle.std.proofs.lemmas.Bool.{cases_eq, ne_eqb}
@@ -19,12 +19,13 @@ use Rattle.smp_multi.specs.Polls.{IsLastResult}
 use Rattle.smp_multi.specs.declared.func.Called.{Called}
 use Rattle.smp_machine.specs.declared.work_queue.Item.{Item}
 use Rattle.smp_machine.specs.declared.work_queue.Knows.TheVariants.{Puts}
+use Rattle.smp_machine.specs.declared.work_queue.Noted.{Noted}
 use Rattle.smp_machine.specs.WorkQueue.{IsKnown}
-use Rattle.smp_machine.specs.Own.{Own, own_of, with_gate, with_begun, with_put, with_collected, with_moves, put_one, put_all}
+use Rattle.smp_machine.specs.Own.{Own, own_of, with_gate, with_begun, with_put, with_collected, with_moves, put_one, put_all, note_all}
 use Rattle.smp_machine.specs.OwnAnswers.{OwnAnswers}
 use Rattle.smp_machine.specs.Served.{IsLater}
 use Rattle.smp_machine.proofs.OwnAnswers.{own_begun, own_collected, own_still}
-use Rattle.smp_machine.specs.Passes.{puts}
+use Rattle.smp_machine.specs.Passes.{PassesValue, PutIsShown, puts, note_of, total}
 use Rattle.smp_machine.specs.MachineCpu.{MachineCpuValue}
 use Rattle.smp_machine.specs.Stops.{item, with_queued, with_stop, AreShown, HasCollected, HasStopped}
 use Rattle.smp_machine.specs.Works.{Works}
@@ -48,6 +49,12 @@ moves_of_four l xs a b = append_assoc (l ++ xs) (a ∷ []) (b ∷ []) ∙ append
 pub put_all-append : (x : Item) (xs ys : List ℕ) (put : List (List Item)) → put_all x (xs ++ ys) put ≡ put_all x ys (put_all x xs put)
 put_all-append x [] ys put = refl
 put_all-append x (cpu ∷ xs) ys put = put_all-append x xs ys (put_one x cpu put)
+
+pub note_all-append : (gate : Bool) (stop : Option Work) (x : Item) (xs ys : List ℕ) (put : List (List Item)) (noted : List (List Noted))
+    → note_all gate stop x (xs ++ ys) put noted ≡ note_all gate stop x ys (put_all x xs put) (note_all gate stop x xs put noted)
+note_all-append gate stop x [] ys put noted = refl
+note_all-append gate stop x (cpu ∷ xs) ys put noted =
+    note_all-append gate stop x xs ys (put_one x cpu put) (put_one (record { gate = gate; stop = stop; before = total put }) cpu noted)
 
 module _ {H F : Type 0} (hears : H → Heard → H → Type 0) (runs : F → Called → F → Type 0) where
   -- one step of the own stop: what it makes of the own part is this
@@ -107,11 +114,11 @@ module _ {H F : Type 0} (hears : H → Heard → H → Type 0) (runs : F → Cal
       (own_collected p.stops s refl refl refl refl refl refl)
       (λ i. record (with_collected word (own_of p)) { moves = told_more p.stops.moves (Collected word ∷ []) i })
 
-  pub works_put : (p new : MachineCpuValue) (h : H) (f : F) (cpu : ℕ) (x : Item) → new ≡ record p { passes = puts cpu x p.passes }
+  pub works_put : (p new : MachineCpuValue) (h : H) (f : F) (cpu : ℕ) (x : Item) → new ≡ record p { passes = puts cpu x (note_of p.stops p.passes) p.passes }
       → Works hears runs p h f new h f (with_put x (cpu ∷ []) (own_of p))
   works_put p new h f cpu x e =
       subst (λ (y : MachineCpuValue). Works hears runs p h f y h f (with_put x (cpu ∷ []) (own_of p))) (sym e)
-      (works_still hears runs p (record p { passes = puts cpu x p.passes }) h f refl (later_same p.stops) refl refl refl refl refl refl refl
+      (works_still hears runs p (record p { passes = puts cpu x (note_of p.stops p.passes) p.passes }) h f refl (later_same p.stops) refl refl refl refl refl refl refl
       (own_still p.stops p.stops refl refl refl refl (λ _ e _. e) refl))
 
   -- after a stretch in which the CPU has made none
@@ -127,8 +134,12 @@ module _ {H F : Type 0} (hears : H → Heard → H → Type 0) (runs : F → Cal
   works_more {old} {mid} {new} {h} {h₁} {h₂} {f} {f₁} {f₂} work xs cpu a b =
       let x : Item = item old.stops.number work in
       let same = subst (λ (n : ℕ). Works hears runs mid h₁ f₁ new h₂ f₂ (with_put (item n work) (cpu ∷ []) (own_of mid))) a.number_is b in
-      works_as hears runs (with_put x (xs ++ cpu ∷ []) (own_of old))
-      (ap (λ (l : List (List Item)). record (own_of old) { put = l }) (sym (put_all-append x xs (cpu ∷ []) old.passes.put)))
+      let o : Own = own_of old in
+      works_as hears runs (with_put x (xs ++ cpu ∷ []) o)
+      (λ i. record o {
+        put = sym (put_all-append x xs (cpu ∷ []) o.put) i;
+        noted = sym (note_all-append o.gate o.pending x xs (cpu ∷ []) o.put o.noted) i;
+      })
       (works_both hears runs (with_put x xs) (with_put x (cpu ∷ [])) a same)
 
   pub works_all : {old new : MachineCpuValue} {h h' : H} {f f' : F} (x : Item) (xs ys : List ℕ) → xs ≡ ys
@@ -187,33 +198,38 @@ or_left : (b : Bool) → (b || (false || false)) ≡ true → b ≡ true
 or_left true e = refl
 or_left false e = e
 
-pub shown_none : (n : ℕ) (put : List (List Item)) → AreShown n [] put
-shown_none n put c h = absurd (true≢false (sym h))
+pub shown_none : (p : PassesValue) → AreShown [] p
+shown_none p c h = absurd (true≢false (sym h))
 
-pub shown_more : (n : ℕ) (x : Item) (xs : List ℕ) (cpu : ℕ) (before after : List (List Item)) → after ≡ put_one x cpu before → AreShown n xs before
-    → IsKnown (Puts n (slice_index_or after cpu [])) → AreShown n (xs ++ cpu ∷ []) after
-shown_more n x xs cpu before after e shown here c h = elim (cases_eq c cpu) [
-  | inl same ↦ subst (λ (k : ℕ). IsKnown (Puts n (slice_index_or after k []))) (sym same) here
+-- what is known of a pass, as far as it was not put to
+known_at : {n m : ℕ} {l k : List Item} {a b : List Noted} → n ≡ m → l ≡ k → a ≡ b → IsKnown (Puts n l a) → IsKnown (Puts m k b)
+known_at e f g = subst IsKnown (λ i. Puts (e i) (f i) (g i))
+
+pub shown_more : (x : Item) (note : Noted) (xs : List ℕ) (cpu : ℕ) (p q : PassesValue) → q.number ≡ p.number → q.put ≡ put_one x cpu p.put
+    → q.noted ≡ put_one note cpu p.noted → AreShown xs p → PutIsShown q cpu → AreShown (xs ++ cpu ∷ []) q
+shown_more x note xs cpu p q number put noted shown here c h = elim (cases_eq c cpu) [
+  | inl same ↦ subst (PutIsShown q) (sym same) here
   | inr apart ↦
       let there : is_in c xs ≡ true = or_left (is_in c xs) (subst (λ (b : Bool). (is_in c xs || (b || false)) ≡ true) (ne_eqb cpu c (λ k. apart (sym k)))
       (sym (is_in-append c xs (cpu ∷ [])) ∙ h)) in
-      let alike : slice_index_or after c [] ≡ slice_index_or before c [] = ap (λ (l : List (List Item)). slice_index_or l c []) e
-      ∙ get_or-set_other before cpu c (slice_index_or before cpu [] ++ x ∷ []) [] apart in
-      subst (λ (l : List Item). IsKnown (Puts n l)) (sym alike) (shown c there)
+      known_at (sym number)
+      (sym (ap (λ (l : List (List Item)). slice_index_or l c []) put ∙ get_or-set_other p.put cpu c (slice_index_or p.put cpu [] ++ x ∷ []) [] apart))
+      (sym (ap (λ (l : List (List Noted)). slice_index_or l c []) noted ∙ get_or-set_other p.noted cpu c (slice_index_or p.noted cpu [] ++ note ∷ []) [] apart))
+      (shown c there)
 ]
 
-pub shown_at : {n m : ℕ} {xs ys : List ℕ} {put put' : List (List Item)} → n ≡ m → xs ≡ ys → put ≡ put' → AreShown n xs put
-    → AreShown m ys put'
-shown_at e f k = subst (λ (t : ℕ × List ℕ × List (List Item)). AreShown t.0 t.1 t.2) (λ i. (e i, f i, k i))
+pub shown_at : {xs ys : List ℕ} (p q : PassesValue) → xs ≡ ys → p.number ≡ q.number → p.put ≡ q.put → p.noted ≡ q.noted → AreShown xs p → AreShown ys q
+shown_at {xs} {ys} p q e n put noted shown c h =
+    known_at n (ap (λ (l : List (List Item)). slice_index_or l c []) put) (ap (λ (l : List (List Noted)). slice_index_or l c []) noted)
+    (shown c (ap (is_in c) e ∙ h))
 
 module _ {H F : Type 0} (hears : H → Heard → H → Type 0) (runs : F → Called → F → Type 0) where
   -- a stop that gives the gate up once it is complete
-  pub stop_long : {old m₃ m₄ new : MachineCpuValue} {n : ℕ} {h h₃ h₄ : H} {f f₃ f₄ : F} (work : Work) (u v : ℤ) → u ≡ v
-      → n ≡ old.stops.number
+  pub stop_long : {old m₃ m₄ new : MachineCpuValue} {h h₃ h₄ : H} {f f₃ f₄ : F} (work : Work) (u v : ℤ) → u ≡ v
       → Works hears runs old h f m₃ h₃ f₃ (with_queued old.stops.number work (own_of old))
-      → AreShown n (members work.mask) m₃.passes.put → HasCollected hears runs m₃ h₃ f₃ m₄ h₄ f₄ v
+      → AreShown (members work.mask) m₃.passes → HasCollected hears runs m₃ h₃ f₃ m₄ h₄ f₄ v
       → new ≡ record m₄ { stops = gives_gate m₄.stops } → HasStopped hears runs long_stop work old h f new h₄ f₄ u
-  stop_long {old} {m₃} {m₄} {new} {n} {h} {h₃} {h₄} {f} {f₃} {f₄} work u v same number a shown c e =
+  stop_long {old} {m₃} {m₄} {new} {h} {h₃} {h₄} {f} {f₃} {f₄} work u v same a shown c e =
       let put = with_queued old.stops.number work in
       let got = λ (o : Own). with_moves (Collected c.word ∷ []) (with_collected c.word o) in
       let gave = λ (o : Own). with_moves (Gave ∷ []) (with_gate false o) in
@@ -226,17 +242,18 @@ module _ {H F : Type 0} (hears : H → Heard → H → Type 0) (runs : F → Cal
             (λ i. record left { moves = moves_of_four (own_of old).moves (Took ∷ Began work ∷ []) (Collected c.word) Gave i })
             (works_both hears runs (λ (o : Own). got (put o)) gave three (works_give hears runs m₄ new h₄ f₄ e));
         result = last_open e c.result;
-        shown = shown_at number refl (sym (ap (λ (p : MachineCpuValue). p.passes.put) e ∙ ap (λ (o : Own). o.put) c.works.own_is)) shown;
+        shown = shown_at m₃.passes new.passes refl (sym (ap (λ (p : MachineCpuValue). p.passes.number) e ∙ c.works.passes_number))
+            (sym (ap (λ (p : MachineCpuValue). p.passes.put) e ∙ ap (λ (o : Own). o.put) c.works.own_is))
+            (sym (ap (λ (p : MachineCpuValue). p.passes.noted) e ∙ ap (λ (o : Own). o.noted) c.works.own_is)) shown;
         outside = ap (λ (p : MachineCpuValue). p.stops.inside) e ∙ c.outside;
       }
 
   -- a stop that gives it up once its works are queued
-  pub stop_short : {old m₃ m₄ new : MachineCpuValue} {n : ℕ} {h h₃ h₅ : H} {f f₃ f₅ : F} (work : Work) (u v : ℤ) → u ≡ v
-      → n ≡ old.stops.number
+  pub stop_short : {old m₃ m₄ new : MachineCpuValue} {h h₃ h₅ : H} {f f₃ f₅ : F} (work : Work) (u v : ℤ) → u ≡ v
       → Works hears runs old h f m₃ h₃ f₃ (with_queued old.stops.number work (own_of old))
-      → AreShown n (members work.mask) m₃.passes.put → m₄ ≡ record m₃ { stops = gives_gate m₃.stops }
+      → AreShown (members work.mask) m₃.passes → m₄ ≡ record m₃ { stops = gives_gate m₃.stops }
       → HasCollected hears runs m₄ h₃ f₃ new h₅ f₅ v → HasStopped hears runs short_stop work old h f new h₅ f₅ u
-  stop_short {old} {m₃} {m₄} {new} {n} {h} {h₃} {h₅} {f} {f₃} {f₅} work u v same number a shown e c =
+  stop_short {old} {m₃} {m₄} {new} {h} {h₃} {h₅} {f} {f₃} {f₅} work u v same a shown e c =
       let put = with_queued old.stops.number work in
       let gave = λ (o : Own). with_moves (Gave ∷ []) (with_gate false o) in
       let got = λ (o : Own). with_moves (Collected c.word ∷ []) (with_collected c.word o) in
@@ -249,7 +266,9 @@ module _ {H F : Type 0} (hears : H → Heard → H → Type 0) (runs : F → Cal
             (λ i. record left { moves = moves_of_four (own_of old).moves (Took ∷ Began work ∷ []) Gave (Collected c.word) i })
             (works_both hears runs (λ (o : Own). gave (put o)) got three c.works);
         result = c.result;
-        shown = shown_at number refl (sym (ap (λ (o : Own). o.put) c.works.own_is ∙ ap (λ (p : MachineCpuValue). p.passes.put) e)) shown;
+        shown = shown_at m₃.passes new.passes refl (sym (c.works.passes_number ∙ ap (λ (p : MachineCpuValue). p.passes.number) e))
+            (sym (ap (λ (o : Own). o.put) c.works.own_is ∙ ap (λ (p : MachineCpuValue). p.passes.put) e))
+            (sym (ap (λ (o : Own). o.noted) c.works.own_is ∙ ap (λ (p : MachineCpuValue). p.passes.noted) e)) shown;
         outside = c.outside;
       }
 

@@ -1,6 +1,8 @@
 -- When a CPU takes the gate and gives it up, move by move.
 use Rattle.std.specs.List.{AllByRecursion}
-use Rattle.std.specs.Prelude.{◌≡◌, ◌≢◌, ◌⊎◌, ℕ, ℤ, Bool, if◌then◌else◌, List, [], ◌∷◌, ◌++◌}
+use Rattle.std.specs.Prelude.{◌≡◌, ◌≢◌, ◌⊎◌, ◌<◌, ℕ, ◌+◌, ℤ, Bool, true, if◌then◌else◌, Some, List, [], ◌∷◌, ◌++◌, length}
+use Rattle.smp_mask.specs.Mask.{has, members_below}
+use Rattle.smp_words.specs.Size.{cpus}
 use Rattle.smp_labels.specs.Keys.{is_on}
 use Rattle.smp_queue.specs.declared.handler.Heard.{Heard}
 use Rattle.smp_multi.specs.Cpu.{TableValue}
@@ -11,6 +13,8 @@ use Rattle.smp_machine.specs.Counts.{HasNudged, HasFoundEdge, HasPatched}
 use Rattle.smp_machine.specs.Keys.{KeyStands, TurnsKey}
 use Rattle.smp_machine.specs.Moves.{told, short_stop, long_stop, LooksUpTo}
 use Rattle.smp_machine.specs.Own.{own_of}
+use Rattle.smp_machine.specs.Passes.{noted_to, total}
+use Rattle.smp_machine.specs.declared.work_queue.Noted.{Noted}
 use Rattle.smp_machine.specs.MachineCpu.{MachineCpuValue}
 use Rattle.smp_machine.specs.Stops.{HasStopped}
 use Rattle.smp_machine.specs.Works.{Works}
@@ -65,6 +69,16 @@ pub record HasTurned (k : ℕ) (up : Bool) (work : Work) (word : ℕ) (old new :
   pub found_again : EndAt k (turning up) again
   pub done : HasDone (first ++ Took ∷ (again ++ Began work ∷ Collected word ∷ Gave ∷ [])) old new
 
+-- what is noted with the put of this work into the queue of CPU c: the gate was held, the own stop was that of the work, and all
+-- CPUs of its mask below c were put to before
+abbrev pub noted_at_gate : Work → MachineCpuValue → ℕ → Noted
+noted_at_gate work old c = record { gate = true; stop = Some work; before = total old.passes.put + length (members_below work.mask c) }
+
+-- since then this is noted once for each CPU of the mask of this work, and nothing else
+abbrev pub HasQueued : Work → MachineCpuValue → MachineCpuValue → Type 0
+HasQueued work old new = (c : ℕ) → c < cpus
+    → noted_to new.passes c ≡ noted_to old.passes c ++ (if has work.mask c then noted_at_gate work old c ∷ [] else [])
+
 -- the moves of each stop, and of each change of a key
 pub record GateIsHeld {H F : Type 0} (hears : H → Heard → H → Type 0) (runs : F → Called → F → Type 0) : Type 0 where
   -- of turn and poll: none
@@ -75,6 +89,9 @@ pub record GateIsHeld {H F : Type 0} (hears : H → Heard → H → Type 0) (run
   -- of stop_machine
   pub long : (work : Work) (old new : MachineCpuValue) (h h' : H) (f f' : F) (answer : ℤ)
       → (s : HasStopped hears runs long_stop work old h f new h' f' answer) → HasDone (Took ∷ Began work ∷ Collected s.word ∷ Gave ∷ []) old new
+  -- of each stop and of each patch: its puts
+  pub queued : (moves : Work → ℕ → List OwnMove) (work : Work) (old new : MachineCpuValue) (h h' : H) (f f' : F) (answer : ℤ)
+      → HasStopped hears runs moves work old h f new h' f' answer → length old.passes.put ≡ cpus → length old.passes.noted ≡ cpus → HasQueued work old new
   -- of set_key
   pub stands : (k : ℕ) (on : Bool) (old new : MachineCpuValue) (h h' : H) (f f' : F) → KeyStands hears runs k on old h f new h' f'
       → (count : ℕ) × (is_on count ≡ on) × HasDone (Took ∷ Found k count ∷ Gave ∷ []) old new

@@ -2,13 +2,15 @@
 use Rattle.std.specs.Prelude.{ℕ, Bool, Option, Some, None, List, [], ◌∷◌, ◌++◌, slice_index_or, slice_set}
 use Rattle.smp_multi.specs.Names.{Work, Moved}
 use Rattle.smp_machine.specs.declared.work_queue.Item.{Item}
+use Rattle.smp_machine.specs.declared.work_queue.Noted.{Noted}
 use Rattle.smp_multi.specs.Names.{OwnMove}
 use Rattle.smp_machine.specs.Moves.{told}
 use Rattle.smp_machine.specs.MachineCpu.{MachineCpuValue}
+use Rattle.smp_machine.specs.Passes.{total}
 
 -- whether it holds the gate, the work of its stop that is not collected, the stops that it has begun, the results that it
--- has collected, by how much it has nudged each key, what it has put into the queues, and those of its own moves that tell
--- more than that it waits
+-- has collected, by how much it has nudged each key, what it has put into the queues, what is noted with each put, and those of
+-- its own moves that tell more than that it waits
 pub record Own : Type 0 where
   pub gate : Bool
   pub pending : Option Work
@@ -16,6 +18,7 @@ pub record Own : Type 0 where
   pub collected : List ℕ
   pub nudged : List Moved
   pub put : List (List Item)
+  pub noted : List (List Noted)
   pub moves : List OwnMove
 
 abbrev pub own_of : MachineCpuValue → Own
@@ -26,6 +29,7 @@ own_of p = record {
   collected = p.stops.part.collected;
   nudged = p.stops.part.nudged;
   put = p.passes.put;
+  noted = p.passes.noted;
   moves = told p.stops.moves;
 }
 
@@ -45,17 +49,21 @@ with_begun work o = record o { pending = Some work; begun = o.begun ++ work ∷ 
 abbrev pub with_collected : ℕ → Own → Own
 with_collected result o = record o { pending = None; collected = o.collected ++ result ∷ [] }
 
--- one item more in this queue
-abbrev pub put_one : Item → ℕ → List (List Item) → List (List Item)
+-- one item, or one note, more in this queue
+abbrev pub put_one : {A : Type 0} → A → ℕ → List (List A) → List (List A)
 put_one x cpu put = slice_set put cpu (slice_index_or put cpu [] ++ x ∷ [])
-
-abbrev pub with_one : Item → ℕ → Own → Own
-with_one x cpu o = record o { put = put_one x cpu o.put }
 
 -- the same in each of these queues, in order
 abbrev pub put_all : Item → List ℕ → List (List Item) → List (List Item)
 put_all x [] put = put
 put_all x (cpu ∷ more) put = put_all x more (put_one x cpu put)
 
+-- what is noted with these puts, each with how many there were before it
+abbrev pub note_all : Bool → Option Work → Item → List ℕ → List (List Item) → List (List Noted) → List (List Noted)
+note_all gate stop x [] put noted = noted
+note_all gate stop x (cpu ∷ more) put noted =
+    note_all gate stop x more (put_one x cpu put) (put_one (record { gate = gate; stop = stop; before = total put }) cpu noted)
+
+-- with this item put into each of these queues, in order; with each put is noted whether the gate is held, and the own stop
 abbrev pub with_put : Item → List ℕ → Own → Own
-with_put x to o = record o { put = put_all x to o.put }
+with_put x to o = record o { put = put_all x to o.put; noted = note_all o.gate o.pending x to o.put o.noted }

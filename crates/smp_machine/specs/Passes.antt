@@ -5,29 +5,37 @@ use Rattle.crossbeam_queue.specs.Passes.{Pass, view}
 use Rattle.crossbeam_queue.specs.declared.array_queue.Doing.{Doing}
 use Rattle.crossbeam_queue.specs.declared.array_queue.Slotted.{Slotted}
 use Rattle.smp_words.specs.Size.{cpus}
+use Rattle.smp_multi.specs.Cpu.{CpuValue as StopCpuValue}
 use Rattle.smp_machine.specs.declared.work_queue.Item.{Item}
 use Rattle.smp_machine.specs.declared.work_queue.Knows.{Knows}
+use Rattle.smp_machine.specs.declared.work_queue.Noted.{Noted}
 use Rattle.smp_machine.specs.declared.work_queue.Knows.TheVariants.{Takes, Puts}
 use Rattle.smp_machine.specs.WorkQueue.{IsKnown}
 
--- one CPU's part: the queues, its number, what it has put into each queue, and what it has taken from its own
+-- one CPU's part: the queues, its number, what it has put into each queue, what is noted with each of these puts, and what it has
+-- taken from its own
 pub record PassesValue : Type 0 where
   pub queues : List TableId
   pub number : ℕ
   pub put : List (List Item)
+  pub noted : List (List Noted)
   pub taken : List Item
 
 abbrev pub items_of : Knows → List Item
 items_of (Takes n l) = l
-items_of (Puts s l) = l
+items_of (Puts s l notes) = l
+
+abbrev pub notes_of : Knows → List Noted
+notes_of (Takes n l) = []
+notes_of (Puts s l notes) = notes
 
 abbrev pub IsTakes : Knows → Type 0
 IsTakes (Takes n l) = Unit {0}
-IsTakes (Puts s l) = ⊥
+IsTakes (Puts s l notes) = ⊥
 
 abbrev pub IsPuts : ℕ → Knows → Type 0
 IsPuts n (Takes m l) = ⊥
-IsPuts n (Puts s l) = s ≡ n
+IsPuts n (Puts s l notes) = s ≡ n
 
 -- the names of the queues of some passes
 abbrev pub ids_of : List (Pass Item Knows) → List TableId
@@ -37,9 +45,13 @@ ids_of passes = map (λ p. p.table_id) passes
 abbrev pub put_of : List (Pass Item Knows) → List (List Item)
 put_of passes = map (λ p. items_of (view p)) passes
 
+-- what is noted with it
+abbrev pub noted_of : List (Pass Item Knows) → List (List Noted)
+noted_of passes = map (λ p. notes_of (view p)) passes
+
 -- the passes of a CPU, as contracts see them
 abbrev pub passes_of : ℕ → List (Pass Item Knows) → Pass Item Knows → PassesValue
-passes_of number to own = record { queues = ids_of to; number = number; put = put_of to; taken = items_of (view own) }
+passes_of number to own = record { queues = ids_of to; number = number; put = put_of to; noted = noted_of to; taken = items_of (view own) }
 
 -- a pass by which the source of this number puts
 pub record IsSource (number : ℕ) (p : Pass Item Knows) : Type 0 where
@@ -59,9 +71,22 @@ pub record AreHeld (number : ℕ) (to : List (Pass Item Knows)) (own : Pass Item
 abbrev pub put_to : PassesValue → ℕ → List Item
 put_to p cpu = slice_index_or p.put cpu []
 
--- it has put this item into this queue
-abbrev pub puts : ℕ → Item → PassesValue → PassesValue
-puts cpu x p = record p { put = slice_set p.put cpu (put_to p cpu ++ x ∷ []) }
+-- what is noted with each of these
+abbrev pub noted_to : PassesValue → ℕ → List Noted
+noted_to p cpu = slice_index_or p.noted cpu []
+
+-- how many items it has put, into all queues
+abbrev pub total : List (List Item) → ℕ
+total [] = 0
+total (l ∷ more) = length l + total more
+
+-- what it notes with its next put: how it stands with the gate and with its own stop, and how many items it has put
+abbrev pub note_of : StopCpuValue → PassesValue → Noted
+note_of c p = record { gate = c.part.holds; stop = c.pending; before = total p.put }
+
+-- it has put this item into this queue, and has noted this with it
+abbrev pub puts : ℕ → Item → Noted → PassesValue → PassesValue
+puts cpu x note p = record p { put = slice_set p.put cpu (put_to p cpu ++ x ∷ []); noted = slice_set p.noted cpu (noted_to p cpu ++ note ∷ []) }
 
 -- it has taken this item
 abbrev pub takes : Item → PassesValue → PassesValue
@@ -70,7 +95,7 @@ takes x p = record p { taken = p.taken ++ x ∷ [] }
 -- The law: what the source has put into this queue are its items of all that were taken there and then those that are
 -- there, in order, by a state of the queue whose other passes know the same.
 abbrev pub PutIsShown : PassesValue → ℕ → Type 0
-PutIsShown p cpu = IsKnown (Puts p.number (put_to p cpu))
+PutIsShown p cpu = IsKnown (Puts p.number (put_to p cpu) (noted_to p cpu))
 
 -- the same of what a CPU has taken
 abbrev pub TakenIsShown : PassesValue → Type 0
@@ -100,7 +125,7 @@ pub record AreTakers (ids : List TableId) (next : ℕ → ℕ) (takers : List (P
 -- the passes of one source for these queues
 pub record AreSources (ids : List TableId) (source : ℕ) (to : List (Pass Item Knows)) : Type 0 where
   pub ids_are : ids_of to ≡ ids
-  pub each : (i : ℕ) (p : Pass Item Knows) → i < length to → p ≡ slice_index_or to i p → (p.me.1 ≡ []) × (view p ≡ Puts source [])
+  pub each : (i : ℕ) (p : Pass Item Knows) → i < length to → p ≡ slice_index_or to i p → (p.me.1 ≡ []) × (view p ≡ Puts source [] [])
 
 -- those of some sources, from this one on
 abbrev pub AreGiven : List TableId → ℕ → List (List (Pass Item Knows)) → Type 0
@@ -112,7 +137,7 @@ given_below c source i = if nat_lt i c then source + 1 else source
 
 -- a CPU that has put nothing and taken nothing
 abbrev pub fresh_passes : List TableId → ℕ → PassesValue
-fresh_passes ids number = record { queues = ids; number = number; put = map (λ _. []) ids; taken = [] }
+fresh_passes ids number = record { queues = ids; number = number; put = map (λ _. []) ids; noted = map (λ _. []) ids; taken = [] }
 
 -- the passes of some CPUs that have done nothing, from this one on
 abbrev pub AreFresh : List TableId → ℕ → List PassesValue → Type 0

@@ -1,23 +1,29 @@
 -- What the definitions of stops, polls and queues come to, in words that do not use them.
-use Rattle.std.specs.Prelude.{filter, ◌≡◌, ◌≢◌, ◌⊎◌, ◌↔◌, ℕ, ℤ, pos, ◌<◌, ◌==◌, true, if◌then◌else◌, Option, Some, None, ◌≤◌, List, [], ◌∷◌, ◌++◌, length}
+use Rattle.std.specs.Prelude.{filter, ◌≡◌, ◌≢◌, ◌⊎◌, ◌↔◌, ℕ, ℤ, pos, ◌<◌, ◌==◌, ◌||◌, ◌&&◌, true, false, if◌then◌else◌, Option}
+use Rattle.std.specs.Prelude.{Some, None, ◌≤◌, List, [], ◌∷◌, ◌++◌, length}
 use mathlib.Core.Option.{some}
 use lib.ListN.{get_elem?}
 use Rattle.smp_mask.specs.Mask.{has}
+use Rattle.smp_mask.specs.declared.error.SmpError.{SmpError}
+use Rattle.smp_mask.specs.declared.error.SmpError.TheVariants as error
 use Rattle.smp_words.specs.Size.{cpus}
 use Rattle.smp_queue.specs.Cpu.{CpuValue as CallCpuValue}
 use Rattle.smp_queue.specs.declared.handler.Heard.{Heard}
 use Rattle.smp_multi.specs.Answers.{answer_in}
-use Rattle.smp_multi.specs.Cpu.{TableValue, CpuValue as StopCpuValue, Inside}
+use Rattle.smp_multi.specs.Cpu.{TableValue, CpuValue as StopCpuValue, Inside, is_in}
 use Rattle.smp_multi.specs.Names.{OwnMove, Work, One, Multi}
 use Rattle.smp_multi.specs.Polls.{HasAnsweredItself}
 use Rattle.smp_multi.specs.declared.func.Called.{Called}
 use Rattle.smp_machine.specs.declared.work_queue.Item.{Item}
 use Rattle.smp_machine.specs.declared.work_queue.Knows.{Knows}
+use Rattle.smp_machine.specs.declared.work_queue.Noted.{Noted}
 use Rattle.smp_machine.specs.declared.work_queue.Knows.TheVariants.{Takes, Puts}
 use Rattle.smp_machine.specs.Own.{Own}
 use Rattle.smp_machine.specs.Passes.{PassesValue, put_to}
 use Rattle.smp_machine.specs.MachineCpu.{MachineCpuValue}
-use Rattle.smp_machine.specs.Stops.{item, HasStopped, IsOneWork, IsTwoWork, IsMachineWork}
+use Rattle.smp_machine.specs.Keys.{RefusesKey}
+use Rattle.smp_machine.specs.Served.{Service, IsLookedAt, attempts_for, is_entered}
+use Rattle.smp_machine.specs.Stops.{item, HasStopped, IsOneWork, IsTwoWork, IsMachineWork, RefusesOne, RefusesTwo}
 use Rattle.smp_machine.specs.Takes.{TakesFront, EntersFront}
 use Rattle.smp_machine.specs.WorkQueue.{IsInOrder}
 use Rattle.smp_machine.specs.Works.{Works}
@@ -105,15 +111,31 @@ PollsSendNothing {H} {F} hears runs = (old new : MachineCpuValue) (h h' : H) (f 
 -- In a queue that keeps its rule: what a source knows to have put are the items of its own slot, in order, of all that the
 -- taker knows to have taken, and then of those still there.
 abbrev pub QueuesKeepOrder : Type 0
-QueuesKeepOrder = (items taken put : List Item) (views : List Knows) (source next at to : ℕ) → IsInOrder items views
-    → get_elem? views at ≡ some (Takes next taken) → get_elem? views to ≡ some (Puts source put)
+QueuesKeepOrder = (items taken put : List Item) (notes : List Noted) (views : List Knows) (source next at to : ℕ) → IsInOrder items views
+    → get_elem? views at ≡ some (Takes next taken) → get_elem? views to ≡ some (Puts source put notes)
     → put ≡ filter (λ x. x.slot == source) (taken ++ items)
 
 -- what is taken comes behind what was taken before; the taker knows it of a queue that keeps its rule; and it enters the stop of
--- the source by whom the work was put, which is for it
+-- the source by whom the work was put, which is for it. A work of a source that is online is dropped only after one look, in vain
 pub record WorksAreTaken : Type 0 where
   pub taken : (old new : PassesValue) (x : Item) → TakesFront old new (Some x) → new.taken ≡ old.taken ++ x ∷ []
   pub known : (old new : PassesValue) (x : Item) → TakesFront old new (Some x)
       → (items : List Item) × (views : List Knows) × (next at : ℕ) × IsInOrder items views × (get_elem? views at ≡ some (Takes next new.taken))
   pub entered : (t : TableValue) (old new : StopCpuValue) (x : Item) (slot : ℕ) → EntersFront t old new (Some x) (Some slot)
       → (stop : Inside) × (new.inside ≡ Some stop) × (stop.slot ≡ x.slot) × (has stop.work.mask old.number ≡ true)
+  pub dropped : (t : TableValue) (old new : StopCpuValue) (x : Item) → EntersFront t old new (Some x) None → has old.setting.online x.slot ≡ true
+      → (new.inside ≡ None) × (new.attempts ≡ old.attempts ++ record { slot = x.slot; entered = false } ∷ [])
+  pub looked_at : (online : ℕ) (s : Service) → IsLookedAt online s → has online s.item.slot ≡ true
+      → attempts_for (s ∷ []) ≡ record { slot = s.item.slot; entered = is_entered s.fate } ∷ []
+
+-- which refusal stops and changes of keys answer: E4 where a work is in hand or the argument is not taken, and else E3 where a CPU
+-- of the stop is not online
+pub record RefusalsAreInOrder : Type 0 where
+  pub one : (t : TableValue) (old : MachineCpuValue) (dst : ℕ) (e : SmpError) → RefusesOne t old dst e
+      → (is_in old.stops.inside ≡ true → e ≡ error.BadArgument)
+      × (is_in old.stops.inside ≡ false → (e ≡ error.NoStopper) × (has t.setting.online dst ≡ false))
+  pub two : (t : TableValue) (old : MachineCpuValue) (a b : ℕ) (e : SmpError) → RefusesTwo t old a b e
+      → ((is_in old.stops.inside || a == b) ≡ true → e ≡ error.BadArgument)
+      × ((is_in old.stops.inside || a == b) ≡ false → (e ≡ error.NoStopper) × ((has t.setting.online a && has t.setting.online b) ≡ false))
+  pub key : (t : TableValue) (old : MachineCpuValue) (k : ℕ) (e : SmpError) → RefusesKey t old k e
+      → (e ≡ error.BadArgument) × ((is_in old.stops.inside ≡ true) ⊎ (t.setting.labels.keys ≤ k))

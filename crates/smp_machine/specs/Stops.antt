@@ -1,6 +1,6 @@
 -- What a stop call makes of its CPU.
 use Rattle.std.specs.Prelude.{◌≡◌, ◌≢◌, ◌⊎◌, ℕ, ℤ, ◌==◌, ◌||◌, ◌&&◌, true, false, Option, Some, None}
-use Rattle.std.specs.Prelude.{List, [], ◌∷◌, length, slice_index_or}
+use Rattle.std.specs.Prelude.{List, [], ◌∷◌, length}
 use Rattle.smp_mask.specs.Mask.{has, members, IsLeast}
 use Rattle.smp_mask.specs.declared.error.SmpError.{SmpError}
 use Rattle.smp_mask.specs.declared.error.SmpError.TheVariants as error
@@ -14,8 +14,7 @@ use Rattle.smp_multi.specs.Cpu.{TableValue}
 use Rattle.smp_multi.specs.Polls.{IsLastResult}
 use Rattle.smp_multi.specs.declared.func.Called.{Called}
 use Rattle.smp_machine.specs.declared.work_queue.Item.{Item}
-use Rattle.smp_machine.specs.declared.work_queue.Knows.TheVariants.{Puts}
-use Rattle.smp_machine.specs.WorkQueue.{IsKnown}
+use Rattle.smp_machine.specs.Passes.{PassesValue, PutIsShown}
 use Rattle.smp_machine.specs.MachineCpu.{MachineCpuValue}
 use Rattle.smp_multi.specs.Names.{OwnMove}
 use Rattle.smp_stop_steps.specs.declared.known.OwnMove.TheVariants.{Took, Began, Collected}
@@ -40,16 +39,16 @@ MayBegin t work = begin_refusal (terms_at_gate t) work false ≡ None
 abbrev pub item : ℕ → Work → Item
 item source work = record { slot = source; work = work }
 
--- a stop of this work was begun, queued once for each CPU of its mask, and collected with this result word, by these moves; the
--- gate is not the CPU's
+-- a stop of this work was begun with the gate held, queued once for each CPU of its mask, in order, with the gate still held, and
+-- collected with this result word, by these moves; the gate is not the CPU's then
 abbrev pub with_stop : (Work → ℕ → List OwnMove) → ℕ → Work → ℕ → Own → Own
 with_stop moves source work word o =
-    with_moves (moves work word) (with_gate false (with_collected word (with_put (item source work) (members work.mask) (with_begun work o))))
+    with_moves (moves work word) (with_gate false (with_collected word (with_put (item source work) (members work.mask) (with_begun work (with_gate true o)))))
 
 -- the law of the queues: what this source has put into each of these queues are its items of all that were taken there,
 -- and then those that are there, in order
-abbrev pub AreShown : ℕ → List ℕ → List (List Item) → Type 0
-AreShown source cpus put = (c : ℕ) → is_in c cpus ≡ true → IsKnown (Puts source (slice_index_or put c []))
+abbrev pub AreShown : List ℕ → PassesValue → Type 0
+AreShown cpus p = (c : ℕ) → is_in c cpus ≡ true → PutIsShown p c
 
 -- a CPU that was in no stop has collected its own stop, whose function has this answer, and is in none
 pub record HasCollected {H F : Type 0} (hears : H → Heard → H → Type 0) (runs : F → Called → F → Type 0) (old : MachineCpuValue) (h : H) (f : F)
@@ -75,7 +74,7 @@ pub record HasStopped {H F : Type 0} (hears : H → Heard → H → Type 0) (run
   pub whole : IsWholeWord answer word
   pub works : Works hears runs old h f new h' f' (with_stop moves old.stops.number work word (own_of old))
   pub result : IsLastResult new.stops word
-  pub shown : AreShown old.stops.number (members work.mask) new.passes.put
+  pub shown : AreShown (members work.mask) new.passes
   pub outside : new.stops.inside ≡ None
 
 -- the work of a stop of one CPU

@@ -17,13 +17,14 @@ use std::alloc::Allocator;
 use std::sync::Wait;
 
 impl<A: Allocator> Machine<A> {
-    /// Calls a function on one CPU (`kernel/smp.c: smp_call_function_single`), as [`smp_calls::call_single`].
+    /// Calls a function on one CPU (`kernel/smp.c: smp_call_function_single`), as [`smp_calls::call_single`]: on this CPU at
+    /// once, with `wait` before any step.
     ///
     /// A call to another CPU is queued at the compare-exchange that wins in its post. It may wait, for the record's last
     /// call and with `wait` for its own; the targets of the calls that it waits for must poll. While it waits, the CPU
-    /// handles its own interrupts, and takes no part in a stop.
+    /// handles its own interrupts, once after each look that finds the record locked, and takes no part in a stop.
     ///
-    /// E4 where a work is in hand; then E1 where `dst` is another CPU that is not online.
+    /// E4 where a work is in hand; then E1 where `dst` is another CPU that is not online: with `wait` nothing has changed then.
     pub fn call_single<R: Wait, H: Handler>(
         &self,
         rt: &R,

@@ -5,7 +5,8 @@ ghost use Rattle.smp_words.specs.Size.{cpus};
 ghost use Rattle.smp_queue.specs.Laws.{IsShown as CallsAreShown};
 ghost use Rattle.smp_multi.specs.Laws.{IsShown as StopsAreShown};
 ghost use Rattle.smp_machine.specs.GateLaws.{GateIsHeld};
-ghost use Rattle.smp_machine.specs.StopLaws.{WorksAreOfTheirCpus, StopsAgreeWithOwn, StopsAreMadeOnce, PollsSendNothing, QueuesKeepOrder, WorksAreTaken};
+ghost use Rattle.smp_machine.specs.StopLaws.{WorksAreOfTheirCpus, StopsAgreeWithOwn, StopsAreMadeOnce, PollsSendNothing};
+ghost use Rattle.smp_machine.specs.StopLaws.{QueuesKeepOrder, WorksAreTaken, RefusalsAreInOrder};
 ghost use Rattle.smp_machine.specs.ReadLaws.{KindsFollowKeys};
 
 use crate::cpu::Cpu;
@@ -16,11 +17,12 @@ use std::alloc::Allocator;
 
 /// Whatever the threads of other CPUs do: this CPU's value is its part of calls that words of the call table show, and of
 /// stops that words of the stop table show, which keep all laws of the two halves. It has a list of what it has put for each
-/// queue that there can be. It makes no step.
+/// queue that there can be, and one of what is noted with it. It makes no step.
 pub fn is_shown<A: Allocator>(machine: &Machine<A>, cpu: &Cpu<A>)
     ensures calls { CallsAreShown cpu.now.calls }
     ensures stops { StopsAreShown cpu.now.stops }
     ensures queues { length cpu.now.passes.put ≡ cpus }
+    ensures noted { length cpu.now.passes.noted ≡ cpus }
 {
     cpu.place.passes.has_all_queues();
     cpu.place.calls.is_shown();
@@ -59,9 +61,11 @@ pub fn stops_agree_with_own<H: Handler, F: StopFunc>()
 {}
 
 /// When the gate is taken and given up, read off the list of the CPU's own moves (`kernel/stop_machine.c: stop_cpus_mutex`).
-/// `stop_one` and `stop_two` give it up once they have begun, and collect after; `stop_machine` and each patch hold it from
-/// before they begin until their result is collected. `set_key` reads the key while it holds the gate. `key_inc` and `key_dec`
-/// take it only after a look that has found the key about to turn, and look again before they patch.
+/// `stop_one` and `stop_two` give it up once their works are queued, and collect after; `stop_machine` and each patch hold it from
+/// before they begin until their result is collected. Each stop queues its works once it has begun, with the gate held, in
+/// ascending order of CPUs, as it notes with each of them (`kernel/stop_machine.c: queue_stop_cpus_work`). `set_key` reads the key
+/// while it holds the gate. `key_inc` and `key_dec` take it only after a look that has found the key about to turn, and look again
+/// before they patch.
 pub fn gate_is_held<H: Handler, F: StopFunc>()
     ensures { GateIsHeld H.leads F.leads }
 {}
@@ -78,7 +82,14 @@ pub fn queues_keep_order()
 {}
 
 /// A CPU takes the works of its queue one behind the other, from a queue that keeps its rule, and enters the stop of the source
-/// that put the work (`kernel/stop_machine.c: cpu_stopper_thread`).
+/// that put the work (`kernel/stop_machine.c: cpu_stopper_thread`). It drops a work of a source that is online only after one look at
+/// its roll, which has not found the CPU there.
 pub fn works_are_taken()
     ensures { WorksAreTaken }
+{}
+
+/// Stops and changes of keys are refused with E4 first, where a work is in hand or the argument is not taken. Only else a stop is
+/// refused with E3, where a CPU of it is not online.
+pub fn refusals_are_in_order()
+    ensures { RefusalsAreInOrder }
 {}

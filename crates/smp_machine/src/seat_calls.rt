@@ -13,14 +13,15 @@ use std::alloc::Allocator;
 use std::sync::Wait;
 
 impl<'m, A: Allocator, R: Wait, H: Handler + Drop, F: StopFunc + Drop> Seat<'m, A, R, H, F> {
-    /// Calls a function on one CPU, as [`crate::Machine::call_single`] (`kernel/smp.c: smp_call_function_single`).
+    /// Calls a function on one CPU, as [`crate::Machine::call_single`] (`kernel/smp.c: smp_call_function_single`): on this CPU
+    /// at once, with `wait` before any step.
     ///
     /// A call to another CPU is queued at the compare-exchange that wins in its post. It may wait, for the record's last
     /// call and with `wait` for its own; the targets of the calls that it waits for must poll. While it waits, the CPU
     /// handles its own interrupts, and takes no part in a stop.
     ///
     /// E4 (`SmpError::BadArgument`) where a work is in hand; then E1 (`SmpError::NoCpu`) where `dst` is another CPU that is
-    /// not online.
+    /// not online: with `wait` nothing has changed then.
     #[tactic(auto, using(crate::proofs::Seats::at_called))]
     pub fn call_single(
         &mut self,

@@ -10,13 +10,11 @@ ghost use Rattle.smp_multi.specs.Cpu.{takes_gate, gives_gate, misses_gate, looks
 ghost use Rattle.smp_stop_steps.specs.declared.known.OwnMove.TheVariants.{Took};
 ghost use Rattle.smp_machine.specs.Moves.{stop_moves};
 ghost use Rattle.smp_multi.specs.Polls.{IsLastResult};
-ghost use Rattle.smp_machine.specs.declared.work_queue.Knows.TheVariants.{Puts};
-ghost use Rattle.smp_machine.specs.Passes.{puts};
+ghost use Rattle.smp_machine.specs.Passes.{puts, note_of, PutIsShown};
 ghost use Rattle.smp_machine.specs.MachineCpu.{IsAt};
 ghost use Rattle.smp_machine.specs.Own.{own_of, with_gate, with_moves, with_put};
 ghost use Rattle.smp_machine.specs.OwnAnswers.{RunsItself};
 ghost use Rattle.smp_machine.specs.Stops.{MayBegin, item, AreShown, HasCollected, HasStopped};
-ghost use Rattle.smp_machine.specs.WorkQueue.{IsKnown};
 ghost use Rattle.smp_machine.specs.Works.{Works};
 
 use crate::hearing::{pause, wake, wake_waiting};
@@ -94,7 +92,8 @@ pub(crate) fn begin<A: Allocator>(machine: &Machine<A>, me: &mut MachineCpu<A>, 
     }
 }
 
-/// Puts the work of the own stop, which is open, into this CPU's queue; false where that was full.
+/// Puts the work of the own stop into this CPU's queue, and notes how the CPU stands with the gate and that stop; false where the
+/// queue was full.
 fn try_put<A: Allocator, R: Wait>(
     machine: &Machine<A>,
     rt: &R,
@@ -104,10 +103,10 @@ fn try_put<A: Allocator, R: Wait>(
 ) -> bool
     requires at { IsAt machine.now me.old }
     requires within { cpu < cpus }
-    requires gate { me.old.stops.part.holds ≡ true }
-    requires open { me.old.stops.pending ≡ Some work.now }
-    ensures put { result ≡ true → me.new ≡ record me.old { passes = puts cpu (item me.old.stops.number work.now) me.old.passes } }
-    ensures shown { result ≡ true → IsKnown (Puts me.old.stops.number (slice_index_or me.new.passes.put cpu [])) }
+    ensures put { result ≡ true → me.new ≡ record me.old {
+      passes = puts cpu (item me.old.stops.number work.now) (note_of me.old.stops me.old.passes) me.old.passes;
+    } }
+    ensures shown { result ≡ true → PutIsShown me.new.passes cpu }
     ensures full { result ≡ false → me.new ≡ me.old }
 {
     let slot = me.number();
@@ -128,12 +127,10 @@ fn put<A: Allocator, R: Wait, H: Handler, F: StopFunc>(
     requires at { IsAt machine.now me.old }
     requires outside { me.old.stops.inside ≡ None }
     requires within { cpu < cpus }
-    requires gate { me.old.stops.part.holds ≡ true }
-    requires open { me.old.stops.pending ≡ Some work.now }
     ensures works { Works H.leads F.leads me.old handler.old run.old me.new handler.new run.new
         (with_put (item me.old.stops.number work.now) (cpu ∷ []) (own_of me.old)) }
     ensures stops { me.new.stops ≡ me.old.stops }
-    ensures shown { IsKnown (Puts me.old.stops.number (slice_index_or me.new.passes.put cpu [])) }
+    ensures shown { PutIsShown me.new.passes cpu }
 {
     let backoff = Backoff::new();
     for _ in rt.forever() {
@@ -158,12 +155,10 @@ pub(crate) fn put_to_all<A: Allocator, R: Wait, H: Handler, F: StopFunc>(
 )
     requires at { IsAt machine.now me.old }
     requires outside { me.old.stops.inside ≡ None }
-    requires gate { me.old.stops.part.holds ≡ true }
-    requires open { me.old.stops.pending ≡ Some work.now }
     ensures works { Works H.leads F.leads me.old handler.old run.old me.new handler.new run.new
         (with_put (item me.old.stops.number work.now) (members work.now.mask) (own_of me.old)) }
     ensures stops { me.new.stops ≡ me.old.stops }
-    ensures shown { AreShown me.old.stops.number (members work.now.mask) me.new.passes.put }
+    ensures shown { AreShown (members work.now.mask) me.new.passes }
 {
     let mask = work.mask;
     for cpu in mask.iter() {

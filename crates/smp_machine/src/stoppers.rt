@@ -1,14 +1,14 @@
 //! The stopper queues of all CPUs, and what one CPU holds of them: a pass of each, by which it puts, and one of its own,
 //! by which it takes.
 
-ghost use Rattle.std.specs.Prelude.{◌≡◌, ◌<◌, true, false, MatchOption, Some, length};
+ghost use Rattle.std.specs.Prelude.{◌≡◌, ◌<◌, true, false, MatchOption, length};
 ghost use Rattle.smp_words.specs.Size.{cpus};
-ghost use Rattle.smp_machine.specs.Passes.{AreHeld, passes_of, puts, takes, PutIsShown, TakenIsShown};
+ghost use Rattle.smp_machine.specs.Passes.{AreHeld, passes_of, puts, note_of, takes, PutIsShown, TakenIsShown};
 
-use crate::work_queue::{Item, Put, Take, WorkPass, WorkQueue};
+use crate::work_queue::{Item, Noting, Put, Take, WorkPass, WorkQueue};
 use smp_multi::StopCpu;
 use std::alloc::Allocator;
-use std::marker::Model;
+use std::marker::{Brand, Model};
 use std::sync::Wait;
 
 /// The queues: one for each CPU.
@@ -57,18 +57,42 @@ impl<A: Allocator> Passes<A> {
         Passes { number, to, own }
     }
 
-    /// There is a list of what was put for each queue that there can be. It makes no step.
+    /// There is a list of what was put for each queue that there can be, and one of what is noted. It makes no step.
     pub(crate) fn has_all_queues(&self)
-        ensures { length self.now.put ≡ cpus }
+        ensures put { length self.now.put ≡ cpus }
+        ensures noted { length self.now.noted ≡ cpus }
     {
         let _number = self.number;
     }
 }
 
+/// Puts a work into this CPU's queue, and notes this with it; false where the queue was full.
+fn push<N: Noting, A: Allocator, R: Wait>(
+    stoppers: &Stoppers<A>,
+    rt: &R,
+    me: &mut Passes<A>,
+    stops: &StopCpu,
+    cpu: u32,
+    item: Item,
+) -> bool
+    requires queues { me.old.queues ≡ stoppers.now }
+    requires own { item.slot ≡ me.old.number }
+    requires within { cpu < cpus }
+    requires note { N.note ≡ note_of stops.now me.old }
+    ensures put { result ≡ true → (me.new ≡ puts cpu item N.note me.old) × PutIsShown me.new cpu }
+    ensures full { result ≡ false → me.new ≡ me.old }
+{
+    let _ = stops;
+    let pass = &mut me.to[cpu as usize];
+    stoppers.queues[cpu as usize]
+        .push_as::<Put<N>, R>(rt, pass, item)
+        .is_ok()
+}
+
 impl<A: Allocator> Stoppers<A> {
-    /// Puts the work of the own stop, which is open, into this CPU's queue (`cpu_stop_queue_work`), by a CPU that holds the gate, at
-    /// the compare-exchange of its tail; false where it was full. It may wait while another CPU is between two steps of a call on the same
-    /// queue. A CPU that takes a work before its slot is open drops it as stale, so no other way leads into a queue.
+    /// Puts the work of the own stop into this CPU's queue (`cpu_stop_queue_work`), at the compare-exchange of its tail; false where it
+    /// was full. With the put it notes whether the CPU holds the gate, and which stop of its own is open. It may wait while another CPU
+    /// is between two steps of a call on the same queue. No other way leads into a queue.
     pub(crate) fn put<R: Wait>(
         &self,
         rt: &R,
@@ -80,17 +104,11 @@ impl<A: Allocator> Stoppers<A> {
         requires queues { me.old.queues ≡ self.now }
         requires own { item.slot ≡ me.old.number }
         requires same { stops.now.number ≡ me.old.number }
-        requires gate { stops.now.part.holds ≡ true }
-        requires open { stops.now.pending ≡ Some item.work }
         requires within { cpu < cpus }
-        ensures put { result ≡ true → (me.new ≡ puts cpu item me.old) × PutIsShown me.new cpu }
+        ensures put { result ≡ true → (me.new ≡ puts cpu item (note_of stops.now me.old) me.old) × PutIsShown me.new cpu }
         ensures full { result ≡ false → me.new ≡ me.old }
     {
-        let _ = stops;
-        let pass = &mut me.to[cpu as usize];
-        self.queues[cpu as usize]
-            .push_as::<Put, R>(rt, pass, item)
-            .is_ok()
+        push::<Brand, A, R>(self, rt, me, stops, cpu, item)
     }
 
     /// Takes the front of the own queue, at the compare-exchange of its head; an empty queue is only looked at. It may

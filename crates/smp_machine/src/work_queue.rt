@@ -10,6 +10,7 @@ use smp_words::size::NR_CPUS;
 use smp_words::work::Work;
 use std::alloc::{AllocError, Allocator};
 use std::collections::LinkedList;
+use std::marker::{Brand, PhantomData};
 
 /// What lies in a queue: the slot of a stop, which is its source's number, with its work.
 #[derive(Clone, Copy)]
@@ -18,12 +19,20 @@ pub struct Item {
     pub work: Work,
 }
 
+/// What is noted with a put: whether its CPU held the gate, which stop of its own was open, and how many items it had put
+/// before, into all queues. No value of it is made.
+pub struct Noted {
+    pub gate: bool,
+    pub stop: Option<Work>,
+    pub before: u64,
+}
+
 /// What a pass of a queue knows. No value of it is made.
 pub enum Knows {
     /// The pass of the CPU that takes: how many sources have a pass, and what it has taken.
     Takes(u32, LinkedList<Item>),
-    /// The pass of a source, and what it has put there.
-    Puts(u32, LinkedList<Item>),
+    /// The pass of a source, what it has put there, and what is noted with each.
+    Puts(u32, LinkedList<Item>, LinkedList<Noted>),
 }
 
 /// The rule of a queue.
@@ -50,17 +59,32 @@ impl Split<Knows> for Gives {
     ghost right = { given };
 }
 
-/// A source puts an item.
-pub struct Put;
+/// What a put notes. Each put picks it.
+pub trait Noting {
+    ghost use Rattle.smp_machine.specs.declared.work_queue.Noted.{Noted};
 
-impl Outcome<Item, Knows> for Put {
+    ghost note: { Noted };
+}
+
+impl Noting for Brand {
+    ghost use Rattle.std.specs.Prelude.{false, None};
+
+    ghost note = { record { gate = false; stop = None; before = 0 } };
+}
+
+/// A source puts an item, and notes this.
+pub struct Put<N: Noting> {
+    of: PhantomData<N>,
+}
+
+impl<N: Noting> Outcome<Item, Knows> for Put<N> {
     ghost use Rattle.std.specs.Prelude.{◌≡◌};
     ghost use Rattle.smp_machine.specs.WorkQueue.{puts_more, IsKnown};
 
-    ghost then = { λ v x w. (w ≡ puts_more v x) × IsKnown w };
+    ghost then = { λ v x w. (w ≡ puts_more N.note v x) × IsKnown w };
 }
 
-impl Lesson<Item, Knows> for Put {
+impl<N: Noting> Lesson<Item, Knows> for Put<N> {
     ghost use Rattle.std.specs.Prelude.{⊤};
 
     ghost fact = { λ v items. ⊤ };
@@ -100,7 +124,7 @@ pub(crate) fn give<A: Allocator>(
     source: u32,
 ) -> WorkPass
     requires { IsPassOf queue.now taker.old × (view taker.old ≡ Takes source []) }
-    ensures { IsPassOf queue.now taker.new × (view taker.new ≡ Takes (source + 1) []) × IsPassOf queue.now result × (view result ≡ Puts source []) }
+    ensures { IsPassOf queue.now taker.new × (view taker.new ≡ Takes (source + 1) []) × IsPassOf queue.now result × (view result ≡ Puts source [] []) }
 {
     queue.another::<Gives>(taker)
 }

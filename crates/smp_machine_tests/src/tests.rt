@@ -23,6 +23,9 @@ use std::process::Abort;
 use std::sync::Wait;
 use std::test::*;
 
+/// No wait of a test takes more turns than this, so that a fault fails and does not hang.
+const TURNS: u32 = 100_000_000;
+
 /// Site 0 belongs to a branch that is likely off, site 1 to one that is likely on, both of key 0.
 fn two_sites() -> Result<LabelMap, SmpError> {
     let off = Entry {
@@ -48,6 +51,19 @@ fn a_machine_has_lawful_limits(rt: HostRuntime) -> Result<(), Fail> {
         let online: CpuMask = cpus.parse()?;
         let (machine, _) = Machine::new(rt.alloc(), nr, online, &labels)?;
         assert!(rt; machine.online() == online, "{nr} {cpus}");
+    }
+    Ok(())
+}
+
+/// With ample memory, a machine of any number of CPUs is made.
+#[test]
+fn a_machine_of_each_size_is_made(rt: HostRuntime) -> Result<(), Fail> {
+    let labels = two_sites()?;
+    let mut online = CpuMask::empty();
+    for last in 0..NR_CPUS {
+        online = online.with(last)?;
+        let (machine, _) = Machine::new(rt.alloc(), last + 1, online, &labels)?;
+        assert!(rt; machine.online() == online, "{last}");
     }
     Ok(())
 }

@@ -13,11 +13,10 @@ ghost use Rattle.smp_multi.specs.Rounds.{AloneWhile, AtRun, AtTurn, passed_by};
 ghost use Rattle.smp_multi.specs.Running.{AtOne};
 ghost use Rattle.smp_multi.specs.StepCounts.{completing};
 
-use crate::accesses::Words;
 use crate::complete::close_if_last;
 use crate::round::pass;
-use crate::seat::CpuSeat;
 use crate::seat::run_steps::{end_one, end_run};
+use crate::seat::{CpuSeat, Words};
 use smp_stop_steps::stage::Visit;
 
 /// Completes a stop of one CPU with the answer of its function.

@@ -5,11 +5,10 @@ ghost use Rattle.std.specs.Prelude.{◌≡◌};
 ghost use Rattle.smp_multi.specs.ByValue.{Answered, OneAnswers, TurnedAnswers, turned_so};
 ghost use Rattle.smp_multi.specs.Cells.{cells};
 
-use crate::accesses::Words;
 use crate::answer::{answer_one, answer_run};
 use crate::cpu::StopCpu;
-use crate::seat::CpuSeat;
 use crate::seat::run_steps::begin_one;
+use crate::seat::{CpuSeat, Words};
 use crate::turn::{Go, Turn, begin_turn};
 use smp_stop_steps::phase::EXIT;
 use smp_stop_steps::stage::Visit;

@@ -8,8 +8,7 @@ ghost use Rattle.smp_stop_steps.specs.Slots.{order};
 ghost use Rattle.smp_multi.specs.Begins.{Begins, draft_at, begun};
 ghost use Rattle.smp_words.specs.declared.field.Field.TheVariants as field_of;
 
-use crate::accesses::Words;
-use crate::seat::{CpuSeat, store};
+use crate::seat::{CpuSeat, Words, store};
 use smp_stop_steps::accesses::begun_value;
 use smp_words::field::Field;
 use smp_words::word::Word;

@@ -9,9 +9,8 @@ ghost use Rattle.smp_multi.specs.Names.{Idle, One};
 ghost use Rattle.smp_multi.specs.Places.{work_in};
 ghost use Rattle.smp_multi.specs.StepCounts.{completing};
 
-use crate::accesses::Words;
 use crate::seat::run_steps::complete_round;
-use crate::seat::{CpuSeat, store};
+use crate::seat::{CpuSeat, Words, store};
 use smp_stop_steps::phase::EXIT;
 use smp_words::field::Field;
 use smp_words::word::Word;

@@ -9,8 +9,7 @@ ghost use Rattle.smp_multi.specs.Names.{Slot, Work};
 ghost use Rattle.smp_multi.specs.Names.field;
 ghost use Rattle.smp_multi.specs.Places.{IsFree, HasEntered, IsCalled, IsVisitOf, entered, missed};
 
-use crate::accesses::Words;
-use crate::seat::{CpuSeat, load, mask};
+use crate::seat::{CpuSeat, Words, load, mask};
 use smp_stop_steps::mask::has_bit;
 use smp_stop_steps::stage::Visit;
 use smp_words::field::Field;

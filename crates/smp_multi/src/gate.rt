@@ -5,8 +5,7 @@ ghost use Rattle.smp_multi.specs.Lives.{Lives, Moment};
 ghost use Rattle.smp_multi.specs.Names.{Gate};
 ghost use Rattle.smp_multi.specs.Places.{IsSeated, given_up, tried};
 
-use crate::accesses::Words;
-use crate::seat::{CpuSeat, exchange, store};
+use crate::seat::{CpuSeat, Words, exchange, store};
 use smp_words::word::Word;
 
 /// Takes the gate where nobody holds it.

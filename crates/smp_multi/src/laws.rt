@@ -1,5 +1,8 @@
 //! What holds of running threads, at any time, of each CPU's value.
 
+ghost use Rattle.std.specs.Prelude.{◌≡◌, true, false};
+ghost use Rattle.smp_labels.specs.declared.kinds.SiteKind.TheVariants.{Nop, Jmp};
+ghost use Rattle.smp_multi.specs.Reads.{jumps};
 ghost use Rattle.smp_multi.specs.CallLaws.{CallsAlone, CallsAreListed, StepsAreCalls};
 ghost use Rattle.smp_multi.specs.LabelLaws.{LabelsAreLawful, CountsAreSums};
 ghost use Rattle.smp_multi.specs.Laws.{IsShown, FunctionsRunAlone};
@@ -36,6 +39,11 @@ pub fn calls_are_alone(answering: &Answering)
 {
     let _number = answering.number;
 }
+
+/// A site that is read as a jump jumps, and one that is read as a NOP does not.
+pub fn sites_read()
+    ensures { (jumps Nop ≡ false) × (jumps Jmp ≡ true) }
+{}
 
 /// Each call of a stop function is listed once, with the function and the argument of its work, and the answer: by `advance`
 /// at `Ran` of a Multi stop, by `run_one`, and by `answer`.

@@ -41,7 +41,6 @@
 //! | `try_key` | the compare-exchange of the count | the caller, at `Lost` | `static_key_slow_inc_cpuslocked`, `static_key_slow_try_dec` |
 #![tactic(auto)]
 
-mod accesses;
 mod answer;
 mod answering;
 mod begin;

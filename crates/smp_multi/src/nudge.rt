@@ -12,9 +12,8 @@ ghost use Rattle.smp_multi.specs.Names.{Key};
 ghost use Rattle.smp_multi.specs.Nudges.{NudgeKnown, lost_known};
 ghost use Rattle.smp_multi.specs.Reads.{MayRead};
 
-use crate::accesses::Words;
 use crate::read::load_count;
-use crate::seat::{CpuSeat, exchange};
+use crate::seat::{CpuSeat, Words, exchange};
 use smp_labels::{Change, is_on};
 use smp_mask::SmpError;
 use smp_words::word::Word;

@@ -17,10 +17,9 @@ ghost use Rattle.smp_multi.specs.Rounds.{AloneWhile, AtRun, AtTurn};
 ghost use Rattle.smp_multi.specs.StepCounts.{loading, patching};
 ghost use Rattle.smp_multi.specs.Turns.{patched_by};
 
-use crate::accesses::Words;
 use crate::round::pass;
 use crate::seat::patch_steps::{acknowledge_patch, store_plan};
-use crate::seat::{CpuSeat, load};
+use crate::seat::{CpuSeat, Words, load};
 use arrayvec::ArrayVec;
 use smp_labels::{Change, Entry, MOST_CHANGES, MOST_SITES, Place, is_on, kind_of};
 use smp_stop_steps::stage::Visit;

@@ -7,8 +7,7 @@ ghost use Rattle.smp_multi.specs.Names.{Slot};
 ghost use Rattle.smp_multi.specs.Names.field;
 ghost use Rattle.smp_multi.specs.Polls.{IsOwner, HasFound, looked, collected};
 
-use crate::accesses::Words;
-use crate::seat::{CpuSeat, load};
+use crate::seat::{CpuSeat, Words, load};
 use smp_words::field::Field;
 use smp_words::word::Word;
 

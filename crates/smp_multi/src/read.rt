@@ -10,8 +10,7 @@ ghost use Rattle.smp_stop_steps.specs.KnownAfter.{reads_more};
 ghost use Rattle.smp_multi.specs.Names.{Key, ReadSite};
 ghost use Rattle.smp_multi.specs.Reads.{MayRead, jumps, loads_known};
 
-use crate::accesses::Words;
-use crate::seat::{CpuSeat, load};
+use crate::seat::{CpuSeat, Words, load};
 use smp_labels::{SiteKind, is_on};
 use smp_words::word::Word;
 

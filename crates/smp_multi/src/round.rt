@@ -10,8 +10,7 @@ ghost use Rattle.smp_stop_steps.specs.Stages.{visit_acked};
 ghost use Rattle.smp_multi.specs.Names.{Rests, Fills};
 ghost use Rattle.smp_multi.specs.Rounds.{AtTurn, passed_by};
 
-use crate::accesses::Words;
-use crate::seat::{CpuSeat, load, store, subtract};
+use crate::seat::{CpuSeat, Words, load, store, subtract};
 use smp_stop_steps::mask::weight;
 use smp_stop_steps::phase::{DISABLE_IRQ, EXIT, RUN};
 use smp_stop_steps::stage::Visit;

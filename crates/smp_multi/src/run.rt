@@ -13,11 +13,10 @@ ghost use Rattle.smp_multi.specs.Running.{AtOne, called_by};
 ghost use Rattle.smp_multi.specs.StepCounts.{completing};
 ghost use Rattle.smp_multi.specs.Turns.{TurnAnswers};
 
-use crate::accesses::Words;
 use crate::answer::{answer_one, answer_run};
 use crate::func::StopFunc;
-use crate::seat::CpuSeat;
 use crate::seat::run_steps::begin_one;
+use crate::seat::{CpuSeat, Words};
 use crate::turn::{Go, Turn, begin_turn};
 use smp_stop_steps::phase::EXIT;
 use smp_stop_steps::stage::Visit;

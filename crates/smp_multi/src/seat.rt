@@ -1,10 +1,11 @@
-//! A CPU's seat. Its accesses are those of [`access`], the one page that names a raw seat. The steps round a stop
+//! A CPU's seat. Its steps are those of [`access`], the one page that names a raw seat. The steps round a stop
 //! function, and those of a patch, are made in the pages below this one alone.
 
 pub(crate) mod access;
 pub(crate) mod patch_steps;
+mod plays;
 pub(crate) mod run_steps;
 
 pub(crate) use access::{
-    CpuSeat, SeatMaker, exchange, lay, load, mask, next_seat, store, subtract,
+    CpuSeat, Owner, SeatMaker, Words, exchange, lay, load, mask, next_seat, store, subtract,
 };

@@ -34,7 +34,6 @@ ghost use Rattle.smp_multi.specs.Laws.{FindsHeld};
 ghost use Rattle.smp_multi.specs.Nudges.{NudgeAnswers};
 ghost use Rattle.smp_multi.specs.Reads.{KeyAnswers, SiteAnswers};
 
-use crate::accesses::Owner;
 use crate::answering::{Answering, Turned, come_to_one, give_answer, turn_once};
 use crate::boot::StopBoot;
 use crate::cpu::StopCpu;
@@ -43,7 +42,7 @@ use crate::gate::{leave_gate, take_gate};
 use crate::nudge::Nudge;
 use crate::poll::{collect, is_done};
 use crate::run::take_turn;
-use crate::seat::{CpuSeat, lay, next_seat};
+use crate::seat::{CpuSeat, Owner, lay, next_seat};
 use crate::turn::Turn;
 use crate::{begin, complete, enter, nudge, read, run};
 use smp_labels::{LabelMap, SiteKind};

@@ -7,11 +7,10 @@ ghost use Rattle.smp_multi.specs.Lives.{Lives};
 ghost use Rattle.smp_multi.specs.Names.{One, Rests};
 ghost use Rattle.smp_multi.specs.Rounds.{AtTurn};
 
-use crate::accesses::Words;
 use crate::patch::patch_on;
 use crate::round::{look, move_on};
-use crate::seat::CpuSeat;
 use crate::seat::run_steps::begin_run;
+use crate::seat::{CpuSeat, Words};
 use smp_stop_steps::mask::has_bit;
 use smp_stop_steps::phase::{EXIT, RUN};
 use smp_stop_steps::stage::Visit;

@@ -8,6 +8,7 @@ mod patches;
 mod rounds;
 mod steps;
 mod threads;
+mod users;
 mod witness;
 
 use self::line::Act::{Answer, Begin, Called, Enter, Gate, InStop, Open, Poll, Run};
@@ -22,6 +23,9 @@ use std::alloc::Global;
 use std::marker::Model;
 use std::process::Abort;
 use std::test::*;
+
+/// No wait of a test takes more turns than this, so that a fault fails and does not hang.
+const TURNS: u32 = 100_000_000;
 
 /// A CPU with its table.
 #[derive(Drop)]
@@ -267,6 +271,19 @@ fn a_table_has_lawful_limits(rt: HostRuntime) -> Result<(), Fail> {
     ] {
         let is_right = is_made(rt.alloc(), nr, cpus, &labels, is_lawful)?;
         assert!(rt; is_right, "{nr} {cpus}");
+    }
+    Ok(())
+}
+
+/// With ample memory, a table of any number of CPUs is made.
+#[test]
+fn a_table_of_each_size_is_made(rt: HostRuntime) -> Result<(), Fail> {
+    let none = LabelMap::empty();
+    let mut online = CpuMask::empty();
+    for last in 0..NR_CPUS {
+        online = online.with(last)?;
+        let made = online_of(rt.alloc(), last + 1, online, &none);
+        assert_eq!(rt; made, Ok(online), "{last}");
     }
     Ok(())
 }

@@ -4,10 +4,9 @@ ghost use Rattle.std.specs.Prelude.{◌≡◌};
 ghost use Rattle.smp_queue.specs.Cells.{HasCell, cells, number_in};
 ghost use Rattle.smp_queue.specs.Audit.{Closes, AuditAnswers};
 
-use crate::accesses::Owner;
 use crate::audit::{Audit, answer};
 use crate::cell::cell;
-use crate::seat::{CpuSeat, close};
+use crate::seat::{CpuSeat, Owner, close};
 use atomic_table::Closed;
 use smp_words::Word;
 use std::alloc::Allocator;

@@ -19,12 +19,11 @@ ghost use Rattle.smp_queue.specs.Cpu.{cpu_of};
 ghost use Rattle.smp_queue.specs.Handling.{AreRan, Grows, asks, drains};
 ghost use Rattle.smp_queue.specs.Serving.{Begins, IsAt, HasRun, HasRunAll, on, begins_at};
 
-use crate::accesses::Words;
 use crate::handler::Handler;
 use crate::reverse::reverse;
 use crate::run::{Pass, Passed, Place, next_async, pass_on};
 use crate::seat::call_steps::{begin_call, end_call};
-use crate::seat::{CpuSeat, store, swap};
+use crate::seat::{CpuSeat, Words, store, swap};
 use smp_call_steps::drain::linked;
 use smp_call_steps::handle::Walk;
 use smp_words::Word;
@@ -40,6 +39,7 @@ pub struct Handled {
 }
 
 /// Begins to handle, and takes the interrupt: whether one was pending.
+#[inline(always)]
 fn enter(words: Words, seat: &mut CpuSeat, number: u32) -> bool
     requires { IsOutside words.shared.now.table_id seat.old number }
     ensures at { InHandle words.entry.shared.now.table_id seat.new (if result then handle.Take else handle.LeaveIdle) }
@@ -50,6 +50,7 @@ fn enter(words: Words, seat: &mut CpuSeat, number: u32) -> bool
 }
 
 /// Takes the whole queue: the record of its newest call, none where it is empty.
+#[inline(always)]
 fn take(words: Words, seat: &mut CpuSeat, number: u32) -> Option<u32>
     requires me { seat.old.known.number ≡ number }
     requires at { InHandle words.shared.now.table_id seat.old handle.Take }
@@ -61,6 +62,7 @@ fn take(words: Words, seat: &mut CpuSeat, number: u32) -> Option<u32>
 }
 
 /// Has handled.
+#[inline(always)]
 fn leave(words: Words, seat: &mut CpuSeat, number: u32)
     requires me { seat.old.known.number ≡ number }
     requires at { (stage : HandleStage) × InHandle words.shared.now.table_id seat.old stage × IsLeaving stage }
@@ -72,6 +74,7 @@ fn leave(words: Words, seat: &mut CpuSeat, number: u32)
 }
 
 /// Goes on to the next call of the batch; where none is left, the CPU leaves.
+#[inline(always)]
 pub(crate) fn go_on(
     words: Words,
     seat: &mut CpuSeat,
@@ -101,6 +104,7 @@ pub(crate) struct Batch {
 }
 
 /// Takes the interrupt and, where there was one, the queue.
+#[inline(always)]
 pub(crate) fn begin(words: Words, seat: &mut CpuSeat, number: u32) -> Option<Batch>
     requires { IsOutside words.shared.now.table_id seat.old number }
     ensures { Begins words.entry.shared.now.table_id seat.old seat.new result }
@@ -120,6 +124,7 @@ pub(crate) fn begin(words: Words, seat: &mut CpuSeat, number: u32) -> Option<Bat
 }
 
 /// Runs one call, between the step that begins it and those that count and end it, and goes on to the next.
+#[inline(always)]
 fn run_one<H: Handler>(
     words: Words,
     seat: &mut CpuSeat,
@@ -141,6 +146,7 @@ fn run_one<H: Handler>(
 }
 
 /// Runs the calls of a batch, one after another.
+#[inline(always)]
 fn run_batch<H: Handler>(
     words: Words,
     seat: &mut CpuSeat,

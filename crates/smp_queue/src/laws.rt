@@ -1,7 +1,12 @@
-//! What a post and a question for a record are refused for, by their numbers, and what handling a call at a time comes to.
+//! What a post and a question for a record are refused for, by their numbers, what a function hears of its call, and what
+//! handling a call at a time comes to.
 //! These functions do nothing.
 
+ghost use Rattle.std.specs.Prelude.{◌≡◌};
+ghost use Rattle.smp_words.specs.Size.{owner};
+ghost use Rattle.smp_words.specs.declared.call.Call.{Call};
 ghost use Rattle.smp_queue.specs.Chain.{StepsAreHandle};
+ghost use Rattle.smp_queue.specs.Handling.{heard_of};
 ghost use Rattle.smp_queue.specs.Refusals.{MisuseIsOfTheNumbers, RecordsAreThoseOfTheNumbers};
 
 /// A post is refused with E4 (`SmpError::BadArgument`) just where its record may not carry such a call, it has no tries, or it is to the own CPU.
@@ -14,6 +19,11 @@ pub fn misuse_is_of_the_numbers()
 /// A question for a record is refused with E4 (`SmpError::BadArgument`) just where the CPU has no record of that number.
 pub fn records_are_those_of_the_numbers()
     ensures { RecordsAreThoseOfTheNumbers }
+{}
+
+/// The function of a queued call hears the CPU that owns the call's record as its source, and the call's own number and info.
+pub fn calls_are_heard()
+    ensures { (call : Call) → heard_of call ≡ record { src = owner call.id; func = call.func; info = call.info } }
 {}
 
 /// Calls that `CallTable::begin_handle` and `CallTable::resume` hand out one after another, up to `Next::Done`, are just those

@@ -33,7 +33,6 @@
 //! `handle` time and again. One that calls `rest` in its place sleeps until an interrupt is sent to it.
 #![tactic(auto)]
 
-mod accesses;
 mod alarms;
 mod audit;
 mod boot;

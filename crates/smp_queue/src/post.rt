@@ -14,8 +14,7 @@ ghost use Rattle.smp_queue.specs.Seat.{OwnsRecord, IsMine, IsCounting, IsTallied
 ghost use Rattle.smp_queue.specs.Appends.{Appends, GivesUp};
 ghost use Rattle.smp_call_steps.specs.Heads.{Found, times_lost};
 
-use crate::accesses::Words;
-use crate::seat::{CpuSeat, exchange, load, store};
+use crate::seat::{CpuSeat, Words, exchange, load, store};
 use crossbeam_utils::Backoff;
 use smp_call_steps::post::Posting;
 use smp_words::Word;

@@ -8,8 +8,7 @@ ghost use Rattle.smp_call_steps.specs.declared.handle.HandleStage.TheVariants as
 ghost use Rattle.smp_call_steps.specs.declared.stage.Stage.TheVariants.{Handle};
 ghost use Rattle.smp_queue.specs.Seat.{InHandle};
 
-use crate::accesses::Words;
-use crate::seat::{CpuSeat, load, store};
+use crate::seat::{CpuSeat, Words, load, store};
 use smp_call_steps::drain::linked;
 use smp_call_steps::handle::link_of;
 use smp_words::Word;

@@ -7,8 +7,7 @@ ghost use Rattle.smp_call_steps.specs.declared.handle.HandleStage.TheVariants as
 ghost use Rattle.smp_queue.specs.Seat.{InHandle};
 ghost use Rattle.smp_queue.specs.Serving.{PassesOn, on, begins_at};
 
-use crate::accesses::Words;
-use crate::seat::{CpuSeat, load, store};
+use crate::seat::{CpuSeat, Words, load, store};
 use smp_call_steps::drain::linked;
 use smp_call_steps::handle::{Walk, link_of};
 use smp_words::call::Class;
@@ -41,6 +40,7 @@ pub(crate) enum Passed {
 }
 
 /// Loads a SYNC call, and takes its record out of the chain.
+#[inline(always)]
 fn unlink(words: Words, seat: &mut CpuSeat, walk: Walk, id: u32, next: Option<u32>) -> (Walk, Call)
     requires at { InHandle words.shared.now.table_id seat.old (handle.LoadFunc walk id next) }
     ensures at { InHandle words.entry.shared.now.table_id seat.new (handle.BeginSync result.0 result.1 next) }
@@ -70,6 +70,7 @@ fn unlink(words: Words, seat: &mut CpuSeat, walk: Walk, id: u32, next: Option<u3
 }
 
 /// Goes along the chain to the next SYNC call.
+#[inline(always)]
 fn next_sync(words: Words, seat: &mut CpuSeat, first: Walk, from: Option<u32>) -> Passed
     requires at { InHandle words.shared.now.table_id seat.old (first_on first from) }
     ensures { PassesOn words.entry.shared.now.table_id seat.old seat.new result }
@@ -102,6 +103,7 @@ fn next_sync(words: Words, seat: &mut CpuSeat, first: Walk, from: Option<u32>) -
 }
 
 /// Goes on with the first pass, where the CPU is in it.
+#[inline(always)]
 pub(crate) fn pass_on(words: Words, seat: &mut CpuSeat, pass: Pass, here: Option<u32>) -> Passed
     requires at { InHandle words.shared.now.table_id seat.old (on pass here) }
     ensures { PassesOn words.entry.shared.now.table_id seat.old seat.new result }
@@ -113,6 +115,7 @@ pub(crate) fn pass_on(words: Words, seat: &mut CpuSeat, pass: Pass, here: Option
 }
 
 /// Loads an ASYNC call.
+#[inline(always)]
 pub(crate) fn next_async(words: Words, seat: &mut CpuSeat, id: u32) -> Place
     requires at { InHandle words.shared.now.table_id seat.old (handle.AsyncNext id) }
     ensures at { InHandle words.entry.shared.now.table_id seat.new (begins_at result) }

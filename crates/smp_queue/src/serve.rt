@@ -11,14 +11,15 @@ ghost use Rattle.smp_queue.specs.declared.serving.Next.TheVariants as next;
 ghost use Rattle.smp_queue.specs.HandsOut.{NextIs};
 ghost use Rattle.smp_queue.specs.Serving.{IsKeptInside, StandsNow, IsNext, ends, takes, begins_at};
 
-use crate::accesses::Words;
 use crate::cpu::CallCpu;
 use crate::handle::{begin, go_on};
 use crate::run::Place;
-use crate::seat::CpuSeat;
 use crate::seat::call_steps::{begin_call, end_call};
+use crate::seat::{CpuSeat, Words};
 use crate::serving::{Given, Next, Serving};
+use crate::table::CallTable;
 use smp_words::size::NR_CPUS;
+use std::alloc::Allocator;
 
 /// The call at which a CPU is begins, and is handed out.
 fn hand_out(
@@ -70,7 +71,7 @@ fn next_of(
 }
 
 /// Takes the interrupt of a CPU and, where one was pending, its queue, whose first call is handed out.
-pub(crate) fn start(words: Words, me: CallCpu) -> Next
+fn start(words: Words, me: CallCpu) -> Next
     requires table { me.table ≡ words.shared.now.table_id }
     requires sized { words.shared.now.table_id.words ≡ cells }
     ensures { (result ≡ next.Idle (asks false me)) ⊎ ((queue : List Call) × NextIs (takes queue (asks true me)) result) }
@@ -93,7 +94,7 @@ pub(crate) fn start(words: Words, me: CallCpu) -> Next
 }
 
 /// The call that is out ends, and the next one of the batch is handed out.
-pub(crate) fn go_on_from(words: Words, serving: Serving) -> Next
+fn go_on_from(words: Words, serving: Serving) -> Next
     requires table { serving.cpu.table ≡ words.shared.now.table_id }
     requires sized { words.shared.now.table_id.words ≡ cells }
     ensures { NextIs (ends serving.call serving.cpu) result }
@@ -109,4 +110,30 @@ pub(crate) fn go_on_from(words: Words, serving: Serving) -> Next
     end_call(words, &mut seat, number, &mut ran, place, &Given, begun);
     let found = go_on(words, &mut seat, number, place.pass, place.next);
     next_of(words, seat, number, queued, ran, found)
+}
+
+impl<A: Allocator> CallTable<A> {
+    /// Begins to handle, for a caller that runs the calls itself: takes the CPU's interrupt and, where one was pending, its
+    /// whole queue, and hands out the first call of that batch. Run it, then call `resume`, and so on up to `Done`. The calls
+    /// are handed out in the order in which `handle` runs them, each once (`laws::steps_are_handle`). That the caller has run
+    /// a call that it was handed is known to nobody.
+    ///
+    /// It takes effect at the steps of `handle` up to the one before the call; it waits for no other CPU, and wakes none.
+    pub fn begin_handle(&self, me: CallCpu) -> Next
+        requires { me.table ≡ self.now.table }
+        ensures { (result ≡ next.Idle (asks false me)) ⊎ ((queue : List Call) × NextIs (takes queue (asks true me)) result) }
+    {
+        start(self.words(), me)
+    }
+
+    /// The call that is out has run: it is counted, and a SYNC call's record is unlocked. Then the next call of the batch is
+    /// handed out, of which an ASYNC call's record is unlocked before; where none is left, the CPU is outside.
+    ///
+    /// It takes effect at the steps of `handle` up to the one before the next call; it waits for no other CPU, and wakes none.
+    pub fn resume(&self, serving: Serving) -> Next
+        requires { serving.cpu.table ≡ self.now.table }
+        ensures { NextIs (ends serving.call serving.cpu) result }
+    {
+        go_on_from(self.words(), serving)
+    }
 }

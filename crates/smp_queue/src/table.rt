@@ -29,9 +29,6 @@ ghost use Rattle.smp_call_steps.specs.Order.{order};
 ghost use Rattle.smp_words.specs.declared.call.Call.{Call};
 ghost use Rattle.smp_queue.specs.Handling.{Grows, asks, drains, heard};
 ghost use Rattle.smp_queue.specs.Laws.{IsShown};
-ghost use Rattle.smp_queue.specs.HandsOut.{NextIs};
-ghost use Rattle.smp_queue.specs.Serving.{takes, ends};
-ghost use Rattle.smp_queue.specs.declared.serving.Next.TheVariants as next;
 ghost use Rattle.smp_queue.specs.Posted.{ShowsThat, IsFree, IsMarked, call_by};
 ghost use Rattle.smp_queue.specs.Empty.{BeginsEmpty};
 ghost use Rattle.smp_queue.specs.Cells.{cells};
@@ -39,7 +36,6 @@ ghost use Rattle.smp_queue.specs.Rule.{HasComeTo};
 ghost use Rattle.smp_queue.specs.Cpu.{TableValue, IsFull, fresh_cpu, table_with, PostAnswers, BeginAnswers, confirmed_at, confirms, looks, sends, notes_call};
 ghost use Rattle.smp_queue.specs.Audit.{ClosesWith, Audited, IfDrained, AreEqual, HasRowsOf, HasZerosFrom};
 
-use crate::accesses::{Owner, Words};
 use crate::alarms::{Alarm, Alarms};
 use crate::audit::Audit;
 use crate::boot::Boot;
@@ -49,9 +45,7 @@ use crate::handle::{Handled, handle};
 use crate::handler::Handler;
 use crate::pause::Pause;
 use crate::post::{append, append_until_won, is_locked, write_record};
-use crate::seat::{SeatMaker, lay, next_seat, note_call, store};
-use crate::serve::{go_on_from, start};
-use crate::serving::{Next, Serving};
+use crate::seat::{Owner, SeatMaker, Words, lay, next_seat, note_call, store};
 use smp_call_steps::known::Setting;
 use smp_call_steps::post::Posting;
 use smp_call_steps::start::{has_record, refusal};
@@ -289,6 +283,14 @@ impl<A: Allocator> CallTable<A> {
         self.alarms.ring_waiting();
     }
 
+    /// The words, for what hands out calls.
+    pub(crate) fn words(&self) -> Words<'_>
+        ensures table { result.shared.now.table_id ≡ self.now.table }
+        ensures sized { result.shared.now.table_id.words ≡ cells }
+    {
+        self.owner.words()
+    }
+
     /// The refusals of a post that come before its record is written, and else the call that it queues: E4, E2
     /// and E1, in this order. Where LOCK is clear, the record is confirmed.
     fn begin_post(
@@ -433,30 +435,6 @@ impl<A: Allocator> CallTable<A> {
             self.wake_waiting();
         }
         handled
-    }
-
-    /// Begins to handle, for a caller that runs the calls itself: takes the CPU's interrupt and, where one was pending, its
-    /// whole queue, and hands out the first call of that batch. Run it, then call `resume`, and so on up to `Done`. The calls
-    /// are handed out in the order in which `handle` runs them, each once (`laws::steps_are_handle`). That the caller has run
-    /// a call that it was handed is known to nobody.
-    ///
-    /// It takes effect at the steps of `handle` up to the one before the call; it waits for no other CPU, and wakes none.
-    pub fn begin_handle(&self, me: CallCpu) -> Next
-        requires { me.table ≡ self.now.table }
-        ensures { (result ≡ next.Idle (asks false me)) ⊎ ((queue : List Call) × NextIs (takes queue (asks true me)) result) }
-    {
-        start(self.owner.words(), me)
-    }
-
-    /// The call that is out has run: it is counted, and a SYNC call's record is unlocked. Then the next call of the batch is
-    /// handed out, of which an ASYNC call's record is unlocked before; where none is left, the CPU is outside.
-    ///
-    /// It takes effect at the steps of `handle` up to the one before the next call; it waits for no other CPU, and wakes none.
-    pub fn resume(&self, serving: Serving) -> Next
-        requires { serving.cpu.table ≡ self.now.table }
-        ensures { NextIs (ends serving.call serving.cpu) result }
-    {
-        go_on_from(self.owner.words(), serving)
     }
 
     /// As [`CallTable::handle`]; then, where no interrupt was pending, it sleeps until another CPU sends one or wakes this

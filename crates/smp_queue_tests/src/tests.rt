@@ -3,6 +3,7 @@ ghost use Rattle.std.specs.Prelude.{◌≡◌, IfOk};
 mod audits;
 mod handling;
 mod line;
+mod locks;
 mod steps;
 
 use self::line::Act::{Done, Post, Queue, Send, Tally as Counts};
@@ -199,6 +200,21 @@ fn a_table_has_lawful_limits(rt: HostRuntime) -> Result<(), Fail> {
         let online: CpuMask = cpus.parse()?;
         let wanted = if is_lawful { Ok(online) } else { Err(BAD) };
         assert_eq!(rt; online_of(rt.alloc(), nr, online), wanted, "{nr} {cpus}");
+    }
+    Ok(())
+}
+
+/// With ample memory, a table of any number of CPUs is made.
+#[test]
+fn a_table_of_each_size_is_made(rt: HostRuntime) -> Result<(), Fail> {
+    let mut online = CpuMask::empty();
+    for last in 0..NR_CPUS {
+        online = online.with(last)?;
+        assert_eq!(rt;
+            online_of(rt.alloc(), last + 1, online),
+            Ok(online),
+            "{last}"
+        );
     }
     Ok(())
 }

@@ -10,12 +10,14 @@ use Rattle.smp_queue.specs.declared.audit.Tally.{Tally}
 use Rattle.smp_queue.specs.declared.audit.Audit.{Audit}
 use Rattle.smp_queue.specs.declared.audit.Audit.TheVariants as audit
 use Rattle.smp_script.specs.declared.directive.Directive.{Directive}
-use Rattle.smp_script.specs.declared.mode.Mode.TheVariants.{Run}
+use Rattle.smp_script.specs.declared.mode.Mode.{Mode}
+use Rattle.smp_script.specs.declared.mode.Mode.TheVariants.{Replay, Run}
 use Rattle.smp_script.specs.declared.outcome.Outcome.{Outcome}
 use Rattle.smp_script.specs.declared.outcome.Outcome.TheVariants.{Done, Left}
 use Rattle.smp_script.specs.Script.{Script, first_line, script_of}
 use Rattle.smp_script.specs.Transforms.{HasFault, Transforming, Transforms}
 use Rattle.smp_words.specs.Size.{cpus}
+use Rattle.smp_replay.specs.Replays.{Replays}
 use Rattle.smp_run.specs.Answers.{IsLineAnswer}
 use Rattle.smp_run.specs.Driven.{HasRun, IsBack}
 use Rattle.smp_run.specs.Readings.{HaveKinds, keys_read, sites_read}
@@ -87,3 +89,8 @@ pub record IsRun (text out : List ℕ) (ending : Outcome) : Type 0 where
 -- What a call of `run_script` did, by its answer: what was read is a script, and what was written is what a run of it prints.
 abbrev pub Runs : Transforming Outcome
 Runs = Transforms 65536 IsRun (HasFault Run)
+
+-- What a call did that was asked for a script of this kind, by its answer.
+abbrev pub Executes : Mode → Transforming Outcome
+Executes Replay = Replays
+Executes Run = Runs

@@ -14,7 +14,7 @@ fn the_condition_is_asked_of_cpus_of_the_mask_that_are_online(rt: HostRuntime) -
 }
 
 fn asks_of_three<R: Wait + Abort>(rt: &R, zero: &mut Driver, mask: CpuMask, called: CpuMask) {
-    let (answer, asked) = call_wanted(rt, zero, mask, mask, 10);
+    let (answer, asked) = call_wanted(rt, zero, mask, mask, 10, false);
     assert!(rt; answer == called);
     assert_eq!(rt; (asked, zero.times(0, 1)), (9_135, 0));
 }

@@ -8,9 +8,6 @@ use std::thread::Threads;
 /// How often the CPU is called.
 const CALLS: u64 = 100_000;
 
-/// How often the caller looks before it takes a wake-up for lost, so that a lost one fails and does not hang.
-const TURNS: usize = 1_000_000;
-
 /// Counts calls of function 1, and notes a call of function 2.
 #[derive(Drop)]
 struct Count {
@@ -41,15 +38,15 @@ impl Handler for Count {
 /// A CPU that counts its calls.
 type Counter<'a, R> = Caller<'a, Global, R, Count>;
 
-/// Rests until it was called with function 2: how often it was called with function 1.
+/// Rests until it was called with function 2: how often it was called with function 1, and 0 where it gives up.
 fn rest_until_over<R: Wait>(mut one: Counter<'_, R>) -> u64 {
-    for _ in one.rt.forever() {
+    for _ in 0..TURNS {
         if one.handler.over {
             return one.handler.calls;
         }
         one.rest();
     }
-    unreachable!()
+    0
 }
 
 /// Whether the CPU's call by its first user record has begun to run, by the last of this number of looks.

@@ -8,9 +8,6 @@ use std::thread::Threads;
 /// How often the CPU calls and waits.
 const CALLS: u64 = 100_000;
 
-/// How many looks without progress show that a wake-up was lost.
-const LOOKS: u32 = 1_000_000;
-
 /// Counts calls.
 #[derive(Drop)]
 struct Count {
@@ -48,7 +45,7 @@ fn call_each<R: Wait>(mut zero: Counter<'_, R>, progress: &Progress) {
 
 /// Rests until it has heard all calls.
 fn rest_until_called<R: Wait>(mut one: Counter<'_, R>, progress: &Progress) {
-    for _ in one.rt.forever() {
+    for _ in 0..TURNS {
         if one.handler.calls >= CALLS {
             break;
         }
@@ -57,58 +54,66 @@ fn rest_until_called<R: Wait>(mut one: Counter<'_, R>, progress: &Progress) {
     progress.heard.store(one.handler.calls, Ordering::SeqCst);
 }
 
-/// Looks until all calls have ended. Where nothing has changed for many looks, a wake-up was lost: it wakes both CPUs, so that
-/// the test fails and does not hang. How often that was.
-fn watch<R: Wait>(rt: &R, table: &CallTable<Global>, progress: &Progress) -> u32 {
+/// Looks until this number of calls have ended. Where they have not by the last look, a wake-up was lost.
+fn have_ended(progress: &Progress, calls: u64) -> bool {
     let backoff = Backoff::new();
-    let mut lost = 0u32;
-    let mut last = 0;
-    let mut looks = 0u32;
-    for _ in rt.forever() {
-        let ended = progress.ended.load(Ordering::SeqCst);
-        if ended == CALLS && progress.heard.load(Ordering::SeqCst) != 0 {
-            return lost;
-        }
-        looks = if ended == last {
-            looks.saturating_add(1)
-        } else {
-            0
-        };
-        last = ended;
-        if looks >= LOOKS {
-            lost = lost.saturating_add(1);
-            looks = 0;
-            table.wake(0);
-            table.wake(1);
+    for _ in 0..TURNS {
+        if progress.ended.load(Ordering::SeqCst) >= calls {
+            return true;
         }
         backoff.snooze();
     }
-    unreachable!()
+    false
 }
 
-/// Both CPUs on threads of their own: how many calls have ended, how many were heard, and how many wake-ups were lost.
+/// Wakes both CPUs at each look, until all is over: so the threads of a test that fails end.
+fn wake_to_the_end(table: &CallTable<Global>, progress: &Progress) {
+    let backoff = Backoff::new();
+    for _ in 0..TURNS {
+        let ended = progress.ended.load(Ordering::SeqCst);
+        if ended == CALLS && progress.heard.load(Ordering::SeqCst) != 0 {
+            return;
+        }
+        table.wake(0);
+        table.wake(1);
+        backoff.snooze();
+    }
+}
+
+/// Looks at each call until it has ended: whether no wake-up was lost.
+fn watch(table: &CallTable<Global>, progress: &Progress) -> bool {
+    for calls in 1..CALLS + 1 {
+        if !have_ended(progress, calls) {
+            wake_to_the_end(table, progress);
+            return false;
+        }
+    }
+    true
+}
+
+/// Both CPUs on threads of their own: how many calls have ended, how many were heard, and whether no wake-up was lost.
 fn call_a_thread<'a, R: Wait + Threads + Sync>(
     zero: Counter<'a, R>,
     one: Counter<'a, R>,
-) -> (u64, u64, u32) {
+) -> (u64, u64, bool) {
     let (table, rt) = (zero.table, zero.rt);
     let progress = Progress {
         ended: AtomicU64::new(0),
         heard: AtomicU64::new(0),
     };
     let shared = &progress;
-    let mut lost = 0;
+    let mut whole = false;
     thread::scope(thread::scope_env(), rt, |scope| {
         let rests = move || rest_until_called(one, shared);
         let calls = move || call_each(zero, shared);
         if scope.spawn(rests).is_ok() && scope.spawn(calls).is_ok() {
-            lost = watch(rt, table, shared);
+            whole = watch(table, shared);
         }
     });
     (
         progress.ended.load(Ordering::SeqCst),
         progress.heard.load(Ordering::SeqCst),
-        lost,
+        whole,
     )
 }
 
@@ -119,6 +124,6 @@ fn a_cpu_that_waits_asleep_is_woken_once_its_call_has_run(rt: HostRuntime) -> Re
     assert_eq!(rt; table.pause(&zero).may_sleep(), true);
     let zero = Caller::new(&table, &rt, zero, Count { calls: 0 });
     let one = Caller::new(&table, &rt, one, Count { calls: 0 });
-    assert_eq!(rt; call_a_thread(zero, one), (CALLS, CALLS, 0));
+    assert_eq!(rt; call_a_thread(zero, one), (CALLS, CALLS, true));
     Ok(())
 }

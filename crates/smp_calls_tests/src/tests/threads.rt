@@ -32,16 +32,16 @@ impl Progress {
 }
 
 /// Calls another CPU by the user's record, and handles its own interrupts while that is busy.
-fn repeat_by_user<R: Wait>(driver: &mut Driver, rt: &R, dst: u32) {
+fn repeat_by_user<R: Wait>(driver: &mut Driver, rt: &R, dst: u32) -> Result<(), SmpError> {
     let backoff = Backoff::new();
-    for _ in rt.forever() {
+    for _ in 0..TURNS {
         if driver.by_user(rt, 0, dst, 6).is_ok() {
-            return;
+            return Ok(());
         }
         driver.poll();
         backoff.snooze();
     }
-    unreachable!()
+    Err(SmpError::Busy)
 }
 
 /// The CPU after this one, where the lowest comes after the highest.
@@ -65,8 +65,7 @@ fn call_all<R: Wait>(driver: &mut Driver, rt: &R, all: CpuMask) -> Result<(), Sm
     driver.any(rt, CpuMask::of(next)?, 3, true)?;
     driver.many(rt, all, 4, true);
     driver.each(rt, all, 5, &|cpu, _| cpu % 2 == 0, true);
-    repeat_by_user(driver, rt, next);
-    Ok(())
+    repeat_by_user(driver, rt, next)
 }
 
 /// Whether the CPU has heard each call as often as it was made.
@@ -89,19 +88,19 @@ fn has_heard_all(driver: &Driver, all: CpuMask) -> bool {
     })
 }
 
-/// Is done with its calls, and polls until all CPUs are, and once more.
-fn poll_to_the_end<R: Wait>(driver: &mut Driver, rt: &R, start: &StartLine) {
+/// Is done with its calls, and polls until all CPUs are, and once more. Whether all were done in time.
+fn poll_to_the_end(driver: &mut Driver, start: &StartLine) -> bool {
     start.note_done();
     let backoff = Backoff::new();
-    for _ in rt.forever() {
+    for _ in 0..TURNS {
         let last = start.done() >= CALLERS;
         driver.poll();
         if last {
-            return;
+            return true;
         }
         backoff.snooze();
     }
-    unreachable!()
+    false
 }
 
 /// What one thread does: its calls, then it polls until all CPUs are done, and once more.
@@ -113,8 +112,8 @@ fn run<R: Wait>(mut driver: Driver, rt: &R, all: CpuMask, progress: &Progress) {
     for _ in 0..ROUNDS {
         refused |= call_all(&mut driver, rt, all).is_err();
     }
-    poll_to_the_end(&mut driver, rt, &progress.start);
-    if !refused && driver.heard.whole && has_heard_all(&driver, all) {
+    let ended = poll_to_the_end(&mut driver, &progress.start);
+    if ended && !refused && driver.heard.whole && has_heard_all(&driver, all) {
         progress.right.fetch_add(1, Ordering::SeqCst);
     }
 }

@@ -5,9 +5,6 @@ use crossbeam_utils::Backoff;
 use std::thread;
 use std::thread::Threads;
 
-/// How often a thread looks before it gives up, so that a CPU that is deaf while it waits fails and does not hang.
-const TURNS: usize = 1_000_000;
-
 /// Whether the CPU's call by its first user record has begun to run, by the last of this number of looks.
 fn was_heard(one: &mut Driver) -> bool {
     let backoff = Backoff::new();

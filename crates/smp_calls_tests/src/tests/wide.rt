@@ -107,7 +107,7 @@ fn calls_the_last<R: Wait + Abort>(
 }
 
 /// The number where the others are asked in order, and then this CPU.
-fn asked_last(all: CpuMask, this: u32) -> u64 {
+pub fn asked_last(all: CpuMask, this: u32) -> u64 {
     let asked = AtomicU64::new(9);
     for cpu in all.without(this).iter() {
         note_asked(&asked, 33, cpu);
@@ -129,7 +129,7 @@ fn the_condition_is_asked_of_thirty_one_others_and_then_of_this_cpu(
 }
 
 fn asks_of_thirty_two<R: Wait + Abort>(rt: &R, twenty: &mut Driver, all: CpuMask, fourth: CpuMask) {
-    let (called, asked) = call_wanted(rt, twenty, all, fourth, 33);
+    let (called, asked) = call_wanted(rt, twenty, all, fourth, 33, false);
     assert!(rt; called == fourth);
     assert_eq!(rt; asked, asked_last(all, 20));
     let tallies = (twenty.tally(4), twenty.tally(28), twenty.tally(31));

@@ -59,7 +59,7 @@ fn cpus_that_do_not_poll_are_named(rt: HostRuntime) -> Result<(), Fail> {
 /// Polls until it has heard function 2.
 fn poll_until_over(mut one: Driver) {
     let backoff = Backoff::new();
-    for _ in 0..1_000_000_000 {
+    for _ in 0..TURNS {
         one.poll();
         if one.times(0, 2) == 1 {
             return;

@@ -1,16 +1,22 @@
 //! CPUs of one machine, each on a thread of its own.
 
-ghost use Rattle.std.specs.Prelude.{IfOk};
+ghost use Rattle.std.specs.Prelude.{◌≡◌, IfOk};
 ghost use Rattle.smp_machine.specs.MachineCpu.{IsFull};
 
 use super::line::{Part, play_parts};
 use super::member::{Ear, Member, Teller};
 use super::*;
+use crossbeam_utils::Backoff;
+use smp_multi::StopFunc;
 use std::sync::atomic::{AtomicU64, Ordering};
+use std::thread;
 use std::thread::Threads;
 
 /// How often the flag is read in vain by a function that is slow on purpose.
 const LINGER: u32 = 200_000;
+
+/// How often a function that stays looks for what must not happen.
+const LOOKS: u32 = 100_000;
 
 /// What the threads share: how many CPUs saw what they should, on which CPUs stop functions have run, and how often the
 /// flag was raised.
@@ -53,11 +59,44 @@ impl Hall {
         self.flag() == before.wrapping_add(u64::from(times))
     }
 
+    /// Raises the flag, and waits until two CPUs have done so since it was at an even number. False where the other does not come.
+    pub fn meet(&self) -> bool {
+        let both = (self.flag.fetch_add(1, Ordering::SeqCst) | 1).wrapping_add(1);
+        let backoff = Backoff::new();
+        for _ in 0..TURNS {
+            if self.flag() >= both {
+                return true;
+            }
+            backoff.spin();
+        }
+        false
+    }
+
     /// Takes some time, and not for ever.
     pub fn linger(&self) {
         for _ in 0..LINGER {
             let _ = self.flag();
         }
+    }
+
+    /// Raises the flag, from 0, and waits until another CPU has raised it. Whether nobody raises it a third time within many
+    /// looks from then on.
+    pub fn stays(&self) -> bool {
+        self.raise();
+        let backoff = Backoff::new();
+        for _ in 0..TURNS {
+            if self.flag() >= 2 {
+                break;
+            }
+            backoff.snooze();
+        }
+        for _ in 0..LOOKS {
+            if self.flag() != 2 {
+                return false;
+            }
+            backoff.snooze();
+        }
+        true
     }
 }
 
@@ -88,7 +127,7 @@ impl<'a> Crew<Ear<'a>, Teller<'a>> for Case<'a> {
     }
 }
 
-/// A machine of these labels, and its CPUs. The CPU above them, where there is one, is offline.
+/// A machine of these labels, and its CPUs. Where CPU 31 is none of them, the CPU above them is offline.
 fn new_machine(
     alloc: Global,
     online: &str,
@@ -98,12 +137,61 @@ fn new_machine(
 {
     let online: CpuMask = online.parse()?;
     let cpus = online.weight();
-    let nr = if cpus < NR_CPUS { cpus + 1 } else { NR_CPUS };
+    let nr = if cpus < NR_CPUS && !online.contains(NR_CPUS - 1) {
+        cpus + 1
+    } else {
+        NR_CPUS
+    };
     Machine::new(alloc, nr, online, labels)
 }
 
+/// Looks until the threads of a test have ended. Where they have not by the last look, it ends the test, which has failed.
+fn watch(rt: &impl Abort, over: &AtomicU64) {
+    let backoff = Backoff::new();
+    for _ in 0..TURNS {
+        if over.load(Ordering::SeqCst) == 1 {
+            return;
+        }
+        backoff.snooze();
+    }
+    assert!(rt; false, "the threads did not end");
+}
+
+/// As [`run_cpus`], with one thread more, so that CPUs that wait for ever fail the test and do not hang.
+pub fn run_watched<
+    R: Wait + Threads + Sync + Abort,
+    H: Handler + Drop + Send,
+    F: StopFunc + Drop + Send,
+    C: Crew<H, F> + Sync,
+>(
+    rt: &R,
+    alloc: Global,
+    machine: &Machine<Global>,
+    boot: MachineBoot<Global>,
+    crew: &C,
+) -> Result<Vec<Played<H, F>, Global>, SmpError>
+    requires { C.runs_on crew.now machine.now × IsFull boot machine.now }
+{
+    let over = AtomicU64::new(0);
+    let shared = &over;
+    thread::scope(
+        thread::scope_env(),
+        rt,
+        move |scope| -> Result<Vec<Played<H, F>, Global>, SmpError>
+            requires { C.runs_on crew.now machine.now × IsFull boot machine.now }
+        {
+            if scope.spawn(move || watch(rt, shared)).is_err() {
+                return Err(SmpError::NoMemory);
+            }
+            let played = run_cpus(rt, alloc, machine, boot, crew);
+            shared.store(1, Ordering::SeqCst);
+            played
+        },
+    )
+}
+
 /// Runs the CPUs of a machine on threads, each with its parts, from CPU 0 on: how many saw what they should.
-fn run_plays<R: Wait + Threads + Sync>(
+fn run_plays<R: Wait + Threads + Sync + Abort>(
     rt: &R,
     alloc: Global,
     machine: &Machine<Global>,
@@ -114,12 +202,12 @@ fn run_plays<R: Wait + Threads + Sync>(
 {
     let hall = Hall::new();
     let case = Case { hall: &hall, plays };
-    run_cpus(rt, alloc, machine, boot, &case)?;
+    run_watched(rt, alloc, machine, boot, &case)?;
     Ok(hall.right.load(Ordering::SeqCst))
 }
 
 /// Runs the CPUs of a new machine of these labels: how many saw what they should.
-pub fn in_threads<R: Wait + Threads + Sync>(
+pub fn in_threads<R: Wait + Threads + Sync + Abort>(
     rt: &R,
     alloc: Global,
     online: &str,
@@ -131,7 +219,7 @@ pub fn in_threads<R: Wait + Threads + Sync>(
 }
 
 /// Runs the CPUs of a new machine that sleep while they wait, after one look in vain: how many saw what they should.
-pub fn in_threads_asleep<R: Wait + Threads + Sync>(
+pub fn in_threads_asleep<R: Wait + Threads + Sync + Abort>(
     rt: &R,
     alloc: Global,
     online: &str,

@@ -10,9 +10,6 @@ use smp_labels::SiteKind;
 use smp_labels::SiteKind::{Jmp, Nop};
 use smp_multi::Turn;
 
-/// How often a CPU tries again before it gives up: a test that fails ends too.
-const TRIES: u64 = 10_000_000;
-
 #[derive(Copy, Clone)]
 pub enum Act {
     /// It stops this CPU for this function.
@@ -42,6 +39,8 @@ pub enum Act {
     SlowSingle(u32),
     SlowMany(CpuMask),
     SlowEach(CpuMask),
+    /// It calls a slow function on this CPU, and does not wait.
+    SlowLater(u32),
     TakeWork(bool),
     /// It tries to take a work until there is one.
     AwaitWork,
@@ -65,6 +64,10 @@ pub enum Act {
     Runs(u64),
     /// It raises the flag by one.
     Raise,
+    /// It raises the flag by one, and waits until two CPUs are here.
+    Meet,
+    /// It takes some time.
+    Linger,
 }
 
 impl Act {
@@ -104,6 +107,7 @@ impl Act {
             Act::SlowSingle(dst) => slow_single(me, dst),
             Act::SlowMany(mask) => slow_many(me, mask),
             Act::SlowEach(mask) => slow_each(me, mask),
+            Act::SlowLater(dst) => me.call_single(dst, SLOW, 0, false).is_ok(),
             _ => self.serves(me),
         }
     }
@@ -143,6 +147,11 @@ impl Act {
             Act::Runs(runs) => me.handler.hall.runs() == runs,
             Act::Raise => {
                 me.handler.hall.raise();
+                true
+            }
+            Act::Meet => me.handler.hall.meet(),
+            Act::Linger => {
+                me.handler.hall.linger();
                 true
             }
             _ => false,
@@ -194,7 +203,7 @@ fn await_work<R: Wait>(me: &mut Member<'_, '_, R>) -> bool
     ensures { IsSameSeat me.old me.new }
 {
     let backoff = Backoff::new();
-    for _ in 0..TRIES {
+    for _ in 0..TURNS {
         if me.take_work() {
             return true;
         }
@@ -207,7 +216,7 @@ fn hears<R: Wait>(me: &mut Member<'_, '_, R>, calls: u32) -> bool
     ensures { IsSameSeat me.old me.new }
 {
     let backoff = Backoff::new();
-    for _ in 0..TRIES {
+    for _ in 0..TURNS {
         let turn = me.turn();
         if me.handler.calls == calls {
             return true;
@@ -264,7 +273,7 @@ fn play_until<R: Wait>(me: &mut Member<'_, '_, R>, flag: u64, acts: &[Act]) -> b
     ensures { IsSameSeat me.old me.new }
 {
     let backoff = Backoff::new();
-    for _ in 0..TRIES {
+    for _ in 0..TURNS {
         if me.handler.hall.flag() == flag {
             return true;
         }

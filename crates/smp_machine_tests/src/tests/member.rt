@@ -42,8 +42,11 @@ impl<'a> Handler for Ear<'a> {
     }
 }
 
-/// A stop function, which counts its calls. Function 7 answers 7 on CPU 1, function 8 its argument, function 9 answers 9;
-/// all else is 0.
+/// A stop function that raises the flag, and waits until another CPU raises it once more.
+pub const STAYS: u16 = 10;
+
+/// A stop function, which counts its calls. Function 7 answers 7 on CPU 1, function 8 its argument, function 9 answers 9,
+/// and [`STAYS`] whether the flag was raised no third time while it ran; all else is 0.
 #[derive(Drop)]
 pub struct Teller<'a> {
     pub calls: u32,
@@ -67,6 +70,7 @@ impl<'a> StopFunc for Teller<'a> {
             (7, 1) => 7,
             (8, _) => (arg % 32) as i32,
             (9, _) => 9,
+            (STAYS, _) => i32::from(self.hall.stays()),
             _ => 0,
         }
     }

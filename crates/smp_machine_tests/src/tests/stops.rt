@@ -2,10 +2,12 @@
 
 use super::hall::in_threads;
 use super::line::Act::{
-    All, AwaitWork, Calls, Heard, Hears, One, Poll, Raise, Runs, Set, Single, Turn, Two,
+    All, Any, AwaitWork, ByUser, Calls, Dec, Each, Heard, Hears, Inc, Linger, Many, Meet, One,
+    Poll, Raise, Rest, Runs, Set, Single, SlowLater, Turn, Two,
 };
 use super::line::Often::{Times, Until};
 use super::line::{Act, Part};
+use super::member::{SLOW, STAYS};
 use super::*;
 use smp_multi::Turn::{Left, Moved, Same};
 
@@ -77,18 +79,32 @@ fn the_second_of_two_is_stopped(rt: HostRuntime) -> Result<(), Fail> {
     Ok(())
 }
 
-/// CPU 0 stops CPU 1, which may make no call with that work in hand, nor turn a key that there is.
+/// CPU 0 stops CPU 1, which may make no call with that work in hand, nor turn or count a key that there is. A poll completes the
+/// work, and then it may.
 #[test]
 fn no_call_with_a_work_in_hand(rt: HostRuntime) -> Result<(), Fail> {
+    let zero = CpuMask::of(0)?;
     let stops = [One(1, 9, Ok(9))];
-    let refused = [
+    let calls = [
         AwaitWork,
         Single(0, false, Err(BAD)),
-        One(0, 9, Err(BAD)),
-        Set(0, true, Err(BAD)),
-        Poll,
+        ByUser(0, Err(BAD)),
+        Any(zero, Err(BAD)),
+        Many(zero, Err(BAD)),
+        Each(zero, true, Err(BAD)),
     ];
-    let plays: [&[Part]; 2] = [&[(Times(1), &stops)], &[(Times(1), &refused)]];
+    let refused = [
+        One(0, 9, Err(BAD)),
+        Two(0, 1, 9, Err(BAD)),
+        All(9, 4, None, Err(BAD)),
+        Set(0, true, Err(BAD)),
+        Inc(0, Err(BAD)),
+        Dec(0, Err(BAD)),
+        Calls(0),
+    ];
+    let free = [Poll, Calls(1), Inc(0, Ok(true)), Dec(0, Ok(true))];
+    let one: [Part; 3] = [(Times(1), &calls), (Times(1), &refused), (Times(1), &free)];
+    let plays: [&[Part]; 2] = [&[(Times(1), &stops)], &one];
     assert_eq!(rt;
         in_threads(&rt, rt.alloc(), "0-1", &two_sites()?, &plays)?,
         2
@@ -156,6 +172,47 @@ fn each_stop_of_four_cpus_answers_its_own_number(rt: HostRuntime) -> Result<(), 
         &[(Times(500), &one), (Times(1), &ran)],
         &[(Times(500), &two), (Times(1), &ran)],
         &[(Times(500), &three), (Times(1), &ran)],
+    ];
+    let none = LabelMap::empty();
+    assert_eq!(rt; in_threads(&rt, rt.alloc(), "0-3", &none, &plays)?, 4);
+    Ok(())
+}
+
+/// A CPU stops CPU 0, whose function waits there, and CPU 1. Meanwhile CPU 2, which is in no stop, calls CPU 1: that has its
+/// interrupts off, and hears the call once the function has ended.
+#[test]
+fn no_handler_runs_with_interrupts_off(rt: HostRuntime) -> Result<(), Fail> {
+    let stops = [Two(0, 1, STAYS, Ok(1))];
+    let (serves, heard) = ([Poll], [Heard(1, (2, SLOW, 0))]);
+    let calls = [SlowLater(1), Raise];
+    let stopper: [Part; 1] = [(Times(1), &stops)];
+    let stopped: [Part; 1] = [(Until(3), &serves)];
+    let ear: [Part; 2] = [(Until(3), &serves), (Times(1), &heard)];
+    let ear_that_stops: [Part; 3] = [(Times(1), &stops), (Until(3), &serves), (Times(1), &heard)];
+    let caller: [Part; 2] = [(Until(1), &serves), (Times(1), &calls)];
+    let none = LabelMap::empty();
+    let by_zero: [&[Part]; 3] = [&stopper, &ear, &caller];
+    assert_eq!(rt; in_threads(&rt, rt.alloc(), "0-2", &none, &by_zero)?, 3);
+    let by_one: [&[Part]; 3] = [&stopped, &ear_that_stops, &caller];
+    assert_eq!(rt; in_threads(&rt, rt.alloc(), "0-2", &none, &by_one)?, 3);
+    Ok(())
+}
+
+/// CPUs 2 and 3 stop CPUs 0 and 1 together, one in one order and one in the other, 300 times at the same time. The works of two
+/// stops lie in both queues in one order, since each source holds the gate until it has queued its own. In two orders, CPU 0 would
+/// wait in one stop and CPU 1 in the other. These two rest, so that a source wakes one of them between its two works.
+#[test]
+fn stops_of_two_cpus_do_not_cross(rt: HostRuntime) -> Result<(), Fail> {
+    let first = [Linger, Meet, Two(0, 1, 9, Ok(9))];
+    let second = [Linger, Meet, Two(1, 0, 9, Ok(9))];
+    let rests = [Rest];
+    // Each source raises the flag in each of its rounds.
+    let target: [Part; 1] = [(Until(600), &rests)];
+    let plays: [&[Part]; 4] = [
+        &target,
+        &target,
+        &[(Times(300), &first)],
+        &[(Times(300), &second)],
     ];
     let none = LabelMap::empty();
     assert_eq!(rt; in_threads(&rt, rt.alloc(), "0-3", &none, &plays)?, 4);

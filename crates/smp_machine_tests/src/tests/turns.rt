@@ -35,6 +35,32 @@ fn a_cpu_calls_itself(rt: HostRuntime) -> Result<(), Fail> {
     Ok(())
 }
 
+/// A call of a CPU to itself, or to a CPU that is not online, waits for nothing: it runs no call that is pending for the CPU, with wait
+/// neither. The next poll does.
+#[test]
+fn own_calls_with_wait_handle_nothing(rt: HostRuntime) -> Result<(), Fail> {
+    let zero = CpuMask::of(0)?;
+    let lines = [
+        (1, ByUser(0, Ok(()))),
+        (0, Single(0, true, Ok(()))),
+        (0, Heard(1, (0, 5, 6))),
+        (0, Single(7, true, Err(NO_CPU))),
+        (0, Heard(1, (0, 5, 6))),
+        (0, Any(zero, Ok(0))),
+        (0, Heard(2, (0, 9, 10))),
+        (0, Each(zero, true, Ok(zero))),
+        (0, Heard(3, (0, 13, 14))),
+        (0, Many(zero, Ok(CpuMask::empty()))),
+        (0, Heard(3, (0, 13, 14))),
+        (0, Poll),
+        (0, Heard(4, (1, 7, 8))),
+    ];
+    let labels = LabelMap::empty();
+    let online = "0-1".parse()?;
+    assert_eq!(rt; play(&rt, rt.alloc(), online, &labels, &lines)?, None);
+    Ok(())
+}
+
 /// CPU 1 calls CPU 0, which hears it at its next turn, or its next poll, once.
 #[test]
 fn turns_and_polls_hear_calls(rt: HostRuntime) -> Result<(), Fail> {

@@ -2,12 +2,10 @@
 
 ghost use Rattle.smp_machine.specs.Seats.{IsSameSeat};
 
+use super::hall::run_watched;
 use super::*;
 use crossbeam_utils::Backoff;
 use std::sync::atomic::{AtomicU64, Ordering};
-
-/// How often CPU 1 looks before it takes itself for not named, so that a fault fails and does not hang.
-const TURNS: usize = 100_000_000;
 
 /// CPU 0 stops both CPUs, and CPU 1 takes no part before it is named.
 #[derive(Drop)]
@@ -67,7 +65,7 @@ fn a_cpu_that_takes_no_part_is_named(rt: HostRuntime) -> Result<(), Fail> {
     let late = Late {
         right: AtomicU64::new(0),
     };
-    run_cpus(&rt, rt.alloc(), &machine, boot, &late)?;
+    run_watched(&rt, rt.alloc(), &machine, boot, &late)?;
     assert_eq!(rt; late.right.load(Ordering::SeqCst), 2);
     Ok(())
 }

@@ -1,6 +1,9 @@
-//! A CPU's seat, and the accesses that it makes. No other page names a raw seat or a cell, and none can: what steps is
-//! private here. Steps that store an answer or a label are made by `store_any`; steps that end a stop function, a patch or
-//! a stop by `subtract_with`, which also puts the answer that the CPU carries. Only the pages beside this one see these two.
+//! The words of a table, the seat of a CPU, and the steps that it makes. This page alone reaches the kit's table, which can do
+//! more: each function below makes one step, of a word, by a play of `plays`. No other page names a raw seat or a cell, and
+//! none can.
+//!
+//! Steps that store an answer or a label are made by `store_any`. Steps that end a stop function, a patch or a stop are made
+//! by `subtract_with`, which also puts the answer that the CPU carries. Only the pages beside this one see these two.
 
 ghost use Rattle.std.specs.Prelude.{◌≡◌, ℕ, ◌+◌, ◌<◌, ◌==◌, true, if◌then◌else◌, IfOk, Some, None};
 ghost use Rattle.std.specs.Int.Bits.{bit_and};
@@ -18,17 +21,41 @@ ghost use Rattle.smp_multi.specs.declared.seat_view.SeatView.TheVariants.{Maker}
 ghost use Rattle.smp_multi.specs.Cells.{cells};
 ghost use Rattle.smp_stop_steps.specs.AnswerWords.{IsI32Word};
 ghost use Rattle.smp_multi.specs.Seat.{SeatValue, Able, Ready, fresh_seat};
-ghost use Rattle.smp_multi.specs.Plays.{loaded, stored, exchanged, subtracted, masked};
 
-use crate::accesses::{Owner, Words};
+use super::plays::{Exchanged, Loaded, Masked, Stored, Subtracted};
 use crate::cell::{FIRST_ENTRY, cell};
-use crate::rule::RawSeat;
+use crate::rule::{NextSeat, RawSeat, StopRule};
 use crate::seat_view::SeatView;
-use atomic_table::Play;
+use atomic_table::{Shared, Table};
 use smp_stop_steps::known::Setting;
 use smp_words::word::Word;
 use std::alloc::{AllocError, Allocator};
 use std::marker::Model;
+
+/// The words, as all threads share them.
+#[derive(Clone, Copy)]
+pub struct Words<'a> {
+    shared: &'a Shared<(), SeatView, Setting, StopRule>,
+}
+
+/// The words with their memory.
+#[derive(Drop)]
+pub struct Owner<A: Allocator> {
+    table: Table<(), SeatView, Setting, StopRule, A>,
+}
+
+impl<A: Allocator> Owner<A> {
+    /// The words, to be accessed by seats.
+    #[inline(always)]
+    pub(crate) fn words(&self) -> Words<'_>
+        ensures table { result.shared.now.table_id ≡ self.now.table.shared.table_id }
+        ensures key { result.shared.now.key ≡ self.now.table.shared.key }
+    {
+        Words {
+            shared: &self.table.shared,
+        }
+    }
+}
 
 /// The seat of one CPU, seen as its table and what the CPU knows.
 #[derive(Drop)]
@@ -61,38 +88,6 @@ impl CpuSeat {
     }
 }
 
-// What each kind of access tells. Only this page plays them.
-
-struct Loaded;
-
-impl Play<(), SeatView> for Loaded {
-    ghost then = { loaded };
-}
-
-struct Stored;
-
-impl Play<(), SeatView> for Stored {
-    ghost then = { stored };
-}
-
-struct Exchanged;
-
-impl Play<(), SeatView> for Exchanged {
-    ghost then = { exchanged };
-}
-
-struct Subtracted;
-
-impl Play<(), SeatView> for Subtracted {
-    ghost then = { subtracted };
-}
-
-struct Masked;
-
-impl Play<(), SeatView> for Masked {
-    ghost then = { masked };
-}
-
 /// The first seat of a table, which makes one for each CPU.
 #[derive(Drop)]
 pub struct SeatMaker {
@@ -116,8 +111,8 @@ where
     let mut words = Vec::from_elem(alloc, 0u64, FIRST_ENTRY)?;
     words.extend_from_slice(&labels.entries)?;
     words.extend_from_slice(&labels.sites)?;
-    let (owner, raw) = Owner::new(alloc, words.as_slice(), setting)?;
-    Ok((owner, SeatMaker { raw }))
+    let (table, raw) = Table::of_words(alloc, words.as_slice(), setting)?;
+    Ok((Owner { table }, SeatMaker { raw }))
 }
 
 /// A seat for the next CPU, where it is online: no step is made by the seat of one that is not.
@@ -133,7 +128,7 @@ pub(crate) fn next_seat(
     ensures maker { (maker.new.raw.table_id ≡ words.entry.shared.now.table_id) × (maker.new.raw.me.0 ≡ Maker (n + 1) words.entry.shared.now.key) }
     ensures seat { result ≡ if is_online then Some (fresh_seat words.entry.shared.now.table_id words.entry.shared.now.key n) else None }
 {
-    let raw = words.split_seat(&mut maker.raw);
+    let raw = words.shared.split_seat::<NextSeat>(&mut maker.raw);
     if is_online {
         Some(CpuSeat { raw, carried: 0 })
     } else {
@@ -150,7 +145,7 @@ pub(crate) fn load(words: Words<'_>, seat: &mut CpuSeat, word: Word) -> u64
     ensures known { seat.new.known ≡ known_told seat.old.known act.Load word (Some result) None }
     ensures then { Moment seat.old.known word result }
 {
-    words.load::<Loaded>(&mut seat.raw, cell(word))
+    words.shared.load::<Loaded>(&mut seat.raw, cell(word))
 }
 
 /// Stores a number in a word, by any step that the CPU may make.
@@ -161,7 +156,9 @@ pub(super) fn store_any(words: Words<'_>, seat: &mut CpuSeat, word: Word, number
     ensures lives { Lives seat.new.known }
     ensures known { seat.new.known ≡ known_told seat.old.known act.Store word None (Some number) }
 {
-    words.store::<Stored>(&mut seat.raw, cell(word), number);
+    words
+        .shared
+        .store::<Stored>(&mut seat.raw, cell(word), number);
 }
 
 /// Stores a number in a word, by a step that stores no answer and no label.
@@ -190,7 +187,9 @@ pub(crate) fn exchange(
     ensures known { seat.new.known ≡ known_told seat.old.known act.Cas word (Some result) (if result == expected then Some number else None) }
     ensures then { Moment seat.old.known word result }
 {
-    words.compare_exchange::<Exchanged>(&mut seat.raw, cell(word), expected, number)
+    words
+        .shared
+        .compare_exchange::<Exchanged>(&mut seat.raw, cell(word), expected, number)
 }
 
 /// Takes 1 from a word, by any step that the CPU may make, and answers what was found. With this step the CPU carries
@@ -203,7 +202,9 @@ pub(super) fn subtract_with(words: Words<'_>, seat: &mut CpuSeat, word: Word, an
     ensures lives { Lives seat.new.known }
     ensures known { seat.new.known ≡ known_told (carrying answer seat.old.known) act.Sub word (Some result) (Some (one_less result)) }
 {
-    let found = words.take_one::<Subtracted>(&mut seat.raw, cell(word));
+    let found = words
+        .shared
+        .fetch_sub::<Subtracted>(&mut seat.raw, cell(word), 1);
     seat.carried = answer;
     found
 }
@@ -216,7 +217,9 @@ pub(crate) fn subtract(words: Words<'_>, seat: &mut CpuSeat, word: Word) -> u64
     ensures lives { Lives seat.new.known }
     ensures known { seat.new.known ≡ known_told seat.old.known act.Sub word (Some result) (Some (one_less result)) }
 {
-    words.take_one::<Subtracted>(&mut seat.raw, cell(word))
+    words
+        .shared
+        .fetch_sub::<Subtracted>(&mut seat.raw, cell(word), 1)
 }
 
 /// Keeps those bits of a word that this number has, and answers what was found. A CPU that enters a stop learns its
@@ -229,5 +232,7 @@ pub(crate) fn mask(words: Words<'_>, seat: &mut CpuSeat, word: Word, number: u64
     ensures known { (t : Moment seat.old.known word result) × (seat.new.known ≡ known_entering (entering t.stops word) seat.old.known act.And word
         (Some result) (Some (bit_and result number))) }
 {
-    words.fetch_and::<Masked>(&mut seat.raw, cell(word), number)
+    words
+        .shared
+        .fetch_and::<Masked>(&mut seat.raw, cell(word), number)
 }

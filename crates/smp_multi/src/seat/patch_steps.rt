@@ -10,8 +10,7 @@ ghost use Rattle.smp_stop_steps.specs.Stages.{label_word};
 ghost use Rattle.smp_multi.specs.Patches.{AtPatch, count_in, made_in, rest_in, stored_all};
 ghost use Rattle.smp_multi.specs.Places.{work_in};
 
-use super::access::{CpuSeat, store_any, subtract_with};
-use crate::accesses::Words;
+use super::access::{CpuSeat, Words, store_any, subtract_with};
 use arrayvec::ArrayVec;
 use smp_labels::{MOST_CHANGES, Place};
 use smp_stop_steps::stage::Visit;

@@ -17,8 +17,7 @@ ghost use Rattle.smp_multi.specs.Rounds.{AloneWhile, AtRun};
 ghost use Rattle.smp_multi.specs.Running.{AtOne, IsItsCall, calls_now};
 ghost use Rattle.smp_multi.specs.StepCounts.{giving};
 
-use super::access::{CpuSeat, load, store_any, subtract_with};
-use crate::accesses::Words;
+use super::access::{CpuSeat, Words, load, store_any, subtract_with};
 use smp_stop_steps::phase::EXIT;
 use smp_stop_steps::stage::Visit;
 use smp_stop_steps::start::answer_word;

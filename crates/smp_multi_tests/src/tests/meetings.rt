@@ -14,9 +14,6 @@ const STOPS: u32 = 500;
 /// How many CPUs there are, each with a thread: all are of each stop.
 const CPUS: u32 = 4;
 
-/// How often a CPU tries again before it gives up: a test that fails ends too.
-const TRIES: u64 = 10_000_000;
-
 /// What the threads share: where they start, a counter that stop functions alone write, how many functions run
 /// now, and how many CPUs saw what they should.
 #[derive(Drop)]
@@ -66,13 +63,13 @@ impl<'a> StopFunc for Member<'a> {
 /// Enters the stop of a slot once it is open, goes through its phases, and completes.
 fn attend(cpu: &mut Driver, member: &mut Member, slot: u32) -> bool {
     let backoff = Backoff::new();
-    for _ in 0..TRIES {
+    for _ in 0..TURNS {
         if cpu.enter(slot).is_ok() {
             break;
         }
         backoff.snooze();
     }
-    for _ in 0..TRIES {
+    for _ in 0..TURNS {
         match cpu.advance(member) {
             Ok(Turn::Left) => return cpu.finish().is_ok(),
             Ok(Turn::Same) => backoff.snooze(),
@@ -86,7 +83,7 @@ fn attend(cpu: &mut Driver, member: &mut Member, slot: u32) -> bool {
 /// Opens a stop of these CPUs once the gate is free.
 fn call_all(cpu: &mut Driver, work: Work) -> bool {
     let backoff = Backoff::new();
-    for _ in 0..TRIES {
+    for _ in 0..TURNS {
         if cpu.try_gate() {
             return cpu.begin(work).is_ok();
         }
@@ -111,7 +108,7 @@ fn may_answer(active: CpuMask, func: u16, answer: i32) -> bool {
 /// Waits until all have completed, and gives up the gate. Whether the result was right.
 fn collect(cpu: &mut Driver, active: CpuMask, func: u16) -> bool {
     let backoff = Backoff::new();
-    for _ in 0..TRIES {
+    for _ in 0..TURNS {
         match cpu.poll_done() {
             Ok(Some(answer)) => return cpu.open_gate().is_ok() && may_answer(active, func, answer),
             Ok(None) => backoff.snooze(),

@@ -17,13 +17,10 @@ const CPUS: u32 = 4;
 /// One more, which raises the key from 0 before they begin.
 const SOURCE: u32 = CPUS;
 
-/// How often a CPU tries again before it gives up: a test that fails ends too.
-const TRIES: u64 = 10_000_000;
-
 /// Moves the key once, by trying again. Whether it has.
 fn nudge(cpu: &mut Driver, up: bool) -> bool {
     let backoff = Backoff::new();
-    for _ in 0..TRIES {
+    for _ in 0..TURNS {
         match cpu.try_key(0, up) {
             Ok(Nudge::Done) => return true,
             Ok(Nudge::Lost) => backoff.spin(),

@@ -60,25 +60,25 @@ fn serve(cpu: &mut Driver, teller: &mut Teller) -> bool {
     whole
 }
 
-/// Takes the gate by trying again, and serves while it waits. Whether all could be served.
-fn take_gate<R: Wait>(cpu: &mut Driver, rt: &R, teller: &mut Teller) -> bool {
+/// Takes the gate by trying again, and serves while it waits. Whether it has it, and all could be served.
+fn take_gate(cpu: &mut Driver, teller: &mut Teller) -> bool {
     let backoff = Backoff::new();
     let mut whole = true;
-    for _ in rt.forever() {
+    for _ in 0..TURNS {
         if cpu.try_gate() {
             return whole;
         }
         whole = serve(cpu, teller) && whole;
         backoff.snooze();
     }
-    unreachable!()
+    false
 }
 
-/// Serves until the own stop is over: its answer, where all could be served.
-fn await_answer<R: Wait>(cpu: &mut Driver, rt: &R, teller: &mut Teller) -> Option<i32> {
+/// Serves until the own stop is over: its answer, where it came in time and all could be served.
+fn await_answer(cpu: &mut Driver, teller: &mut Teller) -> Option<i32> {
     let backoff = Backoff::new();
     let mut whole = true;
-    for _ in rt.forever() {
+    for _ in 0..TURNS {
         match cpu.poll_done() {
             Ok(Some(answer)) => return if whole { Some(answer) } else { None },
             Ok(None) => whole = serve(cpu, teller) && whole,
@@ -86,50 +86,38 @@ fn await_answer<R: Wait>(cpu: &mut Driver, rt: &R, teller: &mut Teller) -> Optio
         }
         backoff.snooze();
     }
-    unreachable!()
+    None
 }
 
 /// Stops one CPU. Whether the answer was right.
-fn stop_one<R: Wait>(
-    cpu: &mut Driver,
-    rt: &R,
-    teller: &mut Teller,
-    target: u32,
-    func: u16,
-    arg: u64,
-) -> bool {
+fn stop_one(cpu: &mut Driver, teller: &mut Teller, target: u32, func: u16, arg: u64) -> bool {
     let Ok(work) = one(target, func, arg) else {
         return false;
     };
-    let served = take_gate(cpu, rt, teller);
-    let begun = cpu.begin(work).is_ok();
-    let opened = cpu.open_gate().is_ok();
-    let answered = await_answer(cpu, rt, teller) == Some(told(target, func, arg));
-    served && begun && opened && answered
+    take_gate(cpu, teller)
+        && cpu.begin(work).is_ok()
+        && cpu.open_gate().is_ok()
+        && await_answer(cpu, teller) == Some(told(target, func, arg))
 }
 
-/// Makes the CPU's stops. Whether each answer was right.
-fn stop_all<R: Wait>(cpu: &mut Driver, rt: &R, teller: &mut Teller) -> bool {
+/// Makes the CPU's stops, up to the first that is not answered right. Whether each was.
+fn stop_all(cpu: &mut Driver, teller: &mut Teller) -> bool {
     let this = cpu.cpu.number();
-    let mut whole = true;
     for round in 0..STOPS {
         let target = (this + (round % 4) as u32) % CPUS;
-        whole = stop_one(cpu, rt, teller, target, (round % 3) as u16, round) && whole;
+        if !stop_one(cpu, teller, target, (round % 3) as u16, round) {
+            return false;
+        }
     }
-    whole
+    true
 }
 
-/// Is done with its stops, and serves until all CPUs are, and once more.
-fn serve_to_the_end<R: Wait>(
-    cpu: &mut Driver,
-    rt: &R,
-    teller: &mut Teller,
-    start: &StartLine,
-) -> bool {
+/// Is done with its stops, and serves until all CPUs are, and once more. Whether they were in time, and all could be served.
+fn serve_to_the_end(cpu: &mut Driver, teller: &mut Teller, start: &StartLine) -> bool {
     start.note_done();
     let backoff = Backoff::new();
     let mut whole = true;
-    for _ in rt.forever() {
+    for _ in 0..TURNS {
         let last = start.done() >= u64::from(CPUS);
         whole = serve(cpu, teller) && whole;
         if last {
@@ -137,7 +125,7 @@ fn serve_to_the_end<R: Wait>(
         }
         backoff.snooze();
     }
-    unreachable!()
+    false
 }
 
 /// What one thread does: its stops, then it serves until all CPUs are done.
@@ -146,8 +134,8 @@ fn run<R: Wait>(mut cpu: Driver, rt: &R, progress: &Progress) {
         return;
     }
     let mut teller = Teller { calls: 0 };
-    let stopped = stop_all(&mut cpu, rt, &mut teller);
-    let served = serve_to_the_end(&mut cpu, rt, &mut teller, &progress.start);
+    let stopped = stop_all(&mut cpu, &mut teller);
+    let served = serve_to_the_end(&mut cpu, &mut teller, &progress.start);
     // Each CPU makes as many stops on each.
     if stopped && served && teller.calls == STOPS {
         progress.right.fetch_add(1, Ordering::SeqCst);

@@ -10,36 +10,24 @@
 ghost use Rattle.std.specs.Prelude.{◌≡◌, ◌+◌, ◌%◌, ◌^◌, ◌<◌, Some, None, length, slice_index_or, slice_set};
 ghost use Rattle.smp_words.specs.Size.{owner, records};
 ghost use Rattle.smp_call_steps.specs.Drains.{first_on, second_on};
-ghost use Rattle.smp_call_steps.specs.Known.{Lives, known_told, ran_tally};
+ghost use Rattle.smp_call_steps.specs.Known.{ran_tally};
 ghost use Rattle.smp_call_steps.specs.Handling.{begun_sync, counted_sync, begun_async, ended_call};
-ghost use Rattle.smp_words.specs.declared.seen.Act.TheVariants as act;
 ghost use Rattle.smp_words.specs.declared.word.Word.TheVariants.{Hand, Ran, Flags};
 ghost use Rattle.smp_call_steps.specs.declared.handle.HandleStage.TheVariants as handle;
-ghost use Rattle.smp_queue.specs.Seat.{InHandle, IsStepOfCall};
+ghost use Rattle.smp_queue.specs.Seat.{InHandle};
 ghost use Rattle.smp_queue.specs.Rule.{Sits};
-ghost use Rattle.smp_queue.specs.Plays.{call_stored};
 ghost use Rattle.smp_queue.specs.Handling.{heard_of, AreRan};
 ghost use Rattle.smp_queue.specs.Serving.{Gives, begins_at, out_at, goes_from};
 ghost use Rattle.smp_queue.specs.declared.run.Pass.TheVariants.{First, Second};
 
-use super::CpuSeat;
-use crate::accesses::Words;
-use crate::cell::cell;
+use super::access::{CpuSeat, Words, store_in_call};
 use crate::handler::Handler;
 use crate::run::{Pass, Place};
-use crate::seat_view::SeatView;
-use atomic_table::Play;
 use smp_call_steps::handle::Walk;
 use smp_words::call::Class;
 use smp_words::size::owner_of;
 use smp_words::{Call, Word};
 use std::snapshot::Snapshot;
-
-struct CallStored;
-
-impl Play<(), SeatView> for CallStored {
-    ghost then = { call_stored };
-}
 
 /// The token of a call that has begun: the call, and the handler as it was then.
 #[derive(Drop)]
@@ -48,18 +36,8 @@ pub struct Begun<H> {
     before: Snapshot<H>,
 }
 
-#[inline(always)]
-fn store_step(words: Words, seat: &mut CpuSeat, word: Word, number: u64)
-    requires { IsStepOfCall words.shared.now.table_id seat.old word number }
-    ensures table { seat.new.table ≡ words.entry.shared.now.table_id }
-    ensures lives { Lives seat.new.known }
-    ensures known { seat.new.known ≡ known_told seat.old.known act.Store word None (Some number) }
-    ensures put { (s : Sits seat.new.known) × (s.lives.at word ≡ number) }
-{
-    words.store::<CallStored>(&mut seat.raw, cell(word), number);
-}
-
 /// A SYNC call begins: the handling word names its record, which stays locked.
+#[inline(always)]
 fn begin_sync<H: Handler>(
     words: Words,
     seat: &mut CpuSeat,
@@ -78,7 +56,7 @@ fn begin_sync<H: Handler>(
     ensures of { result.call.value ≡ call }
     ensures before { result.before.value ≡ handler.now }
 {
-    store_step(words, seat, Word::Hand(number), call.id as u64 + 2);
+    store_in_call(words, seat, Word::Hand(number), call.id as u64 + 2);
     Begun {
         call: Snapshot::of(&call),
         before: Snapshot::of(handler),
@@ -86,6 +64,7 @@ fn begin_sync<H: Handler>(
 }
 
 /// A SYNC call whose function has run is counted, as the call of this count from its source, in that source's tally word.
+#[inline(always)]
 pub fn count_sync<H: Handler>(
     words: Words,
     seat: &mut CpuSeat,
@@ -107,10 +86,11 @@ pub fn count_sync<H: Handler>(
 {
     let _ = handler;
     let _ = begun;
-    store_step(words, seat, tally, count);
+    store_in_call(words, seat, tally, count);
 }
 
 /// A SYNC call whose function has run ends: its record is unlocked.
+#[inline(always)]
 pub fn end_sync<H: Handler>(
     words: Words,
     seat: &mut CpuSeat,
@@ -127,10 +107,11 @@ pub fn end_sync<H: Handler>(
     ensures known { seat.new.known ≡ ended_call (first_on walk next) call seat.old.known }
 {
     let _ = handler;
-    store_step(words, seat, Word::Flags(call.id), 0);
+    store_in_call(words, seat, Word::Flags(call.id), 0);
 }
 
 /// An ASYNC call begins: its record is unlocked.
+#[inline(always)]
 fn begin_async<H: Handler>(
     words: Words,
     seat: &mut CpuSeat,
@@ -146,7 +127,7 @@ fn begin_async<H: Handler>(
     ensures of { result.call.value ≡ call }
     ensures before { result.before.value ≡ handler.now }
 {
-    store_step(words, seat, Word::Flags(call.id), 0);
+    store_in_call(words, seat, Word::Flags(call.id), 0);
     Begun {
         call: Snapshot::of(&call),
         before: Snapshot::of(handler),
@@ -155,6 +136,7 @@ fn begin_async<H: Handler>(
 
 /// An ASYNC call whose function has run is counted, as the call of this count from its source, in that source's tally
 /// word, and ends.
+#[inline(always)]
 pub fn count_async<H: Handler>(
     words: Words,
     seat: &mut CpuSeat,
@@ -174,10 +156,11 @@ pub fn count_async<H: Handler>(
     ensures known { seat.new.known ≡ ended_call (second_on next) call seat.old.known }
 {
     let _ = handler;
-    store_step(words, seat, tally, count);
+    store_in_call(words, seat, tally, count);
 }
 
 /// One call more from this source: how many there are.
+#[inline(always)]
 fn one_more(counts: &mut [u64], source: u32) -> u64
     requires { source < length counts.old }
     ensures count { result ≡ (slice_index_or counts.old source 0 + 1) % 2 ^ 64 }
@@ -189,6 +172,7 @@ fn one_more(counts: &mut [u64], source: u32) -> u64
 }
 
 /// A SYNC call begins and is given out.
+#[inline(always)]
 fn give_sync<H: Handler>(
     words: Words,
     seat: &mut CpuSeat,
@@ -208,6 +192,7 @@ fn give_sync<H: Handler>(
 }
 
 /// An ASYNC call begins and is given out.
+#[inline(always)]
 fn give_async<H: Handler>(
     words: Words,
     seat: &mut CpuSeat,
@@ -224,6 +209,7 @@ fn give_async<H: Handler>(
 }
 
 /// A call begins: the handling word names a SYNC call's record, and an ASYNC call's is unlocked.
+#[inline(always)]
 pub(crate) fn begin_call<H: Handler>(
     words: Words,
     seat: &mut CpuSeat,
@@ -246,6 +232,7 @@ pub(crate) fn begin_call<H: Handler>(
 }
 
 /// A SYNC call whose function has run is counted, and its record is unlocked.
+#[inline(always)]
 fn finish_sync<H: Handler>(
     words: Words,
     seat: &mut CpuSeat,
@@ -275,6 +262,7 @@ fn finish_sync<H: Handler>(
 }
 
 /// An ASYNC call whose function has run is counted.
+#[inline(always)]
 fn finish_async<H: Handler>(
     words: Words,
     seat: &mut CpuSeat,
@@ -302,6 +290,7 @@ fn finish_async<H: Handler>(
 }
 
 /// A call whose function has run is counted and ends: a SYNC call's record is unlocked.
+#[inline(always)]
 pub(crate) fn end_call<H: Handler>(
     words: Words,
     seat: &mut CpuSeat,

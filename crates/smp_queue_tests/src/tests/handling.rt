@@ -40,7 +40,7 @@ impl Handler for Recorder {
     }
 }
 
-fn handled(ran: u32) -> Handled {
+pub fn handled(ran: u32) -> Handled {
     Handled {
         ran,
         interrupted: true,
@@ -221,49 +221,6 @@ fn one_call_tally() -> Tally {
     tally.queued[0][1] = 1;
     tally.ran[1][0] = 1;
     tally
-}
-
-/// Asks, whenever it hears a call, whether the record of that call is done.
-#[derive(Drop)]
-struct Asker<'a> {
-    source: Driver<'a>,
-    /// Of the SYNC call, and of the ASYNC call.
-    answers: [Option<bool>; 2],
-}
-
-impl<'a> Handler for Asker<'a> {
-    ghost leads = { λ _ _ _. Unit {0} };
-
-    fn call(&mut self, _src: u32, func: u16, _info: u64) {
-        // Function 0 is called by record 0, function 1 by record 1.
-        let answer = self.source.is_done(func as u32).ok();
-        if func < 2 {
-            self.answers[func as usize] = answer;
-        }
-    }
-}
-
-#[test]
-fn a_sync_record_stays_locked_while_its_function_runs(rt: HostRuntime) -> Result<(), Fail> {
-    let (table, boot) = CallTable::new(rt.alloc(), 2, "0-1".parse()?)?;
-    let mut room = Room::new(&table, boot);
-    let zero = room.drive(0)?;
-    let mut one = room.drive(1)?;
-    let mut asker = Asker {
-        source: zero,
-        answers: [None, None],
-    };
-    asks_of_its_calls(&rt, &mut asker, &mut one);
-    Ok(())
-}
-
-fn asks_of_its_calls(rt: &impl Abort, asker: &mut Asker, one: &mut Driver) {
-    let zero = &mut asker.source;
-    assert_eq!(rt; zero.call(0, 1, Class::Sync, 0, 0), Ok(true));
-    assert_eq!(rt; zero.call(1, 1, Class::Async, 1, 0), Ok(false));
-    assert_eq!(rt; zero.send(1), Ok(()));
-    assert_eq!(rt; one.handle(asker), handled(2));
-    assert_eq!(rt; asker.answers, [Some(false), Some(true)]);
 }
 
 /// Counts the calls that it hears.

@@ -1,7 +1,7 @@
 mod paces;
 
 use crate::tests::replays::devices::{Narrow, Slow};
-use crate::tests::runs::paces::{Counts, Finds, Follows, Lets, Meets, Stays};
+use crate::tests::runs::paces::{Asks, Counts, Finds, Follows, Lets, Meets, Stays};
 use smp_mask::{Cause, Side, SmpError};
 use smp_run::*;
 use smp_script::{Outcome, Watched};
@@ -363,6 +363,19 @@ fn a_cpu_polls_once_more(rt: HostRuntime) {
     assert!(rt; pace.has_followed());
     assert_eq!(rt; answer, Ok(Outcome::Done));
     assert_eq!(rt; written.as_slice(), print);
+}
+
+/// Each CPU is asked once whether it polls: CPU 1 has no line of its own, and makes a poll for each of 1,000 calls that end one
+/// after the other.
+#[test]
+fn a_cpu_is_asked_once_whether_it_polls(rt: HostRuntime) {
+    let script: &[u8] = b"smp 1 run\ncpus 2 0-1\ndo 0 1000 sync 1 7 9\n";
+    let print: &[u8] = b"3 ok\ntally 0 1 1000 1000\ntally 1 0 0 0\ndrained\n";
+    let pace = Asks::new();
+    let (answer, written) = run(&rt, rt.alloc(), script, &pace);
+    assert_eq!(rt; answer, Ok(Outcome::Done));
+    assert_eq!(rt; written.as_slice(), print);
+    assert_eq!(rt; pace.asked(), (1, 1));
 }
 
 const SHORT: &[u8] = b"smp 1 run\ncpus 2 0-1\nlabels 1 0:0\ndo 0 2 sync 1 7 9\ndo 0 1 set 0 on\n";

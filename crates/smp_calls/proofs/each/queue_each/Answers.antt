@@ -4,7 +4,7 @@ use Rattle.smp_calls.specs.Records.{many_call}
 use Rattle.smp_calls.specs.Rounds.{only_if, Queues}
 use Rattle.smp_calls.proofs.AtOnce.{Quiet, quiet_start, quiet_more}
 use Rattle.smp_calls.proofs.Steps.{sized_moved}
-use Rattle.smp_calls.proofs.Loops.{asking_start, asking_more, asking_end}
+use Rattle.smp_calls.proofs.Loops.{asking_start, asking_more, asking_end, asking_turns}
 use Rattle.smp_calls.proofs.each.queue_each.Goals as goal
 
 pub loop-cpu-init : goal.loop-cpu-init
@@ -39,7 +39,7 @@ loop-cpu-preserved g c =
           × (firsts queued ≡ only_if c.queue_if-first.result c.in-Some.cpu)
           × Queues g.H.Handler.leads c.loop-cpu.me c.loop-cpu.handler c.queue_if-first.new.me c.queue_if-first.new.handler
           (many_call n c.args.job.class c.args.job.func c.args.job.info) queued) a.queues.leaves.number_is q.queued)
-          c.cond-asked.ensures c.without_unless-called.ensures.kept c.without_unless-called.ensures.out c.without_unless-owed.ensures.kept
+          q.turns c.cond-asked.ensures c.without_unless-called.ensures.kept c.without_unless-called.ensures.out c.without_unless-owed.ensures.kept
           c.without_unless-owed.ensures.out,
       quiet_more g.H.Handler.leads c.args.job.class c.args.job.func c.args.job.info c.args.others c.loop-cpu.cpu-iterator c.next.new.self c.in-Some.cpu
           c.cond-asked.result q.queued.0 c.loop-cpu.invariant.1 next.0 next.1.0 next.1.1 q.queued.1 q.queued.3 q.at_once,
@@ -51,3 +51,7 @@ returns-clause-queued g c =
 
 pub returns-clause-at_once : goal.returns-clause-at_once
 returns-clause-at_once g c all = c.loop-cpu.invariant.1.handled all
+
+pub returns-clause-turns : goal.returns-clause-turns
+returns-clause-turns g c = asking_turns g.H.Handler.leads _ c.args.others c.loop-cpu.cpu-iterator c.loop-cpu.called c.loop-cpu.owed c.loop-cpu.invariant.0
+    c.in-None.ensures.steps.0.0

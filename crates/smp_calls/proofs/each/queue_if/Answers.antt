@@ -3,6 +3,7 @@ use Rattle.smp_queue.specs.Cpu.{confirmed_at}
 use Rattle.smp_calls.specs.Records.{many_call}
 use Rattle.smp_calls.proofs.Lawful.{has_online, lawful_online}
 use Rattle.smp_calls.proofs.AtOnce.{none_handled, queued_at_once}
+use Rattle.smp_calls.proofs.Counted.{makes_asked_not, makes_asked}
 use Rattle.smp_calls.proofs.Round.{queues_none, queues_one}
 use Rattle.smp_calls.proofs.each.queue_if.Goals as goal
 
@@ -34,3 +35,11 @@ pub returns-clause-queued : goal.returns-clause-queued
 returns-clause-queued g c =
     queues_one g.H.Handler.leads c.many_record-k.result c.args.to c.args.job.class c.args.job.func c.args.job.info c.args.asked c.queue.result
     c.queue.ensures.0 c.if-not-asked.false c.many_record-k.ensures (search rules) c.requires.sized c.wait_for.ensures.left c.queue.ensures.1
+
+pub returns-then-not-asked-clause-turns : goal.returns-then-not-asked-clause-turns
+returns-then-not-asked-clause-turns g c = makes_asked_not c.args.me.now c.args.to c.args.asked (search rules)
+
+pub returns-clause-turns : goal.returns-clause-turns
+returns-clause-turns g c =
+    makes_asked g.H.Handler.leads c.many_record-k.result c.args.to c.args.job.class c.args.job.func c.args.job.info c.queue.result c.queue.ensures.0
+    c.args.asked c.if-not-asked.false c.wait_for.ensures.left c.wait_for.ensures.turns c.queue.ensures.1

@@ -1,4 +1,4 @@
-use Rattle.std.proofs.Common.{arith, ◌≡◌, ℕ, Bool, List, Option, false, cond, Some, None, sym, ◌∙◌, subst}
+use Rattle.std.proofs.Common.{arith, ◌≡◌, ℕ, Bool, List, Option, false, cond, Some, None, length, refl, sym, ◌∙◌, subst}
 use Rattle.smp_mask.specs.Mask.{has, members}
 use Rattle.smp_words.specs.declared.call.Class.{Class}
 use Rattle.smp_queue.specs.Handling.{heard}
@@ -8,7 +8,9 @@ use Rattle.smp_calls.specs.Targets.{remote}
 use Rattle.smp_calls.specs.Ended.{HaveEnded}
 use Rattle.smp_calls.specs.Records.{class_for, many_call}
 use Rattle.smp_calls.specs.Rounds.{HearsIf, noted_if}
+use Rattle.smp_calls.specs.Turns.{HasTurns}
 use Rattle.smp_words.specs.declared.call.Class.TheVariants.{Sync}
+use Rattle.smp_calls.proofs.Counted.{turns_many}
 use Rattle.smp_calls.proofs.Ended.{many_ended}
 use Rattle.smp_calls.proofs.Parts.{target_online, not_called, picks_with, others_called, called_here, calls_then_here, calls_waited_for}
 use Rattle.smp_calls.proofs.many.each_cpu_cond.Goals as goal
@@ -42,7 +44,7 @@ returns-clause-calls g c =
     c.wait_all.new.handler c.class_for-class.result c.args.func c.args.info (members called) direct c.args.wait
     (calls_then_here g.H.Handler.leads c.args.me.now c.queue_all-called.new.me c.call_if.new.me c.args.handler.now c.queue_all-called.new.handler
     c.call_if.new.handler c.class_for-class.result c.args.func c.args.info
-    (members called) direct c.queue_all-called.ensures.calls c.queue_all-called.ensures.last heard_it noted) c.wait_all.ensures in
+    (members called) direct c.queue_all-called.ensures.calls c.queue_all-called.ensures.last heard_it noted) c.wait_all.ensures.waited in
     let Made =
     λ (to : List ℕ) (class : Class) (heard : Option Heard). CallsMany g.H.Handler.leads c.args.me.now c.args.handler.now c.wait_all.new.me
     c.wait_all.new.handler to class c.args.func c.args.info heard c.args.wait in
@@ -74,9 +76,25 @@ returns-clause-ended g c waited =
     c.wait_all.new.handler c.class_for-class.result c.args.func c.args.info (members called) direct c.args.wait
     (calls_then_here g.H.Handler.leads c.args.me.now c.queue_all-called.new.me c.call_if.new.me c.args.handler.now c.queue_all-called.new.handler
     c.call_if.new.handler c.class_for-class.result c.args.func c.args.info
-    (members called) direct c.queue_all-called.ensures.calls c.queue_all-called.ensures.last heard_it noted) c.wait_all.ensures in
+    (members called) direct c.queue_all-called.ensures.calls c.queue_all-called.ensures.last heard_it noted) c.wait_all.ensures.waited in
     let ended = many_ended g.H.Handler.leads c.args.me.now c.args.handler.now c.wait_all.new.me c.wait_all.new.handler called c.args.func c.args.info direct
     (subst (λ (b : Bool). Made (class_for b) b) waited (subst (λ (class : Class). Made class c.args.wait) c.class_for-class.ensures made)) c.is_shown.ensures in
     let Ended = λ (to : List ℕ). HaveEnded c.wait_all.new.me (many_call c.args.me.now.number Sync c.args.func c.args.info) to in
     subst (λ (n : ℕ). Ended (remote n c.with_if.result)) c.number-this.ensures.number
     (subst Ended (others_called this called c.with_if.result here c.with_if.ensures out) ended)
+
+pub returns-clause-turns : goal.returns-clause-turns
+returns-clause-turns g c =
+    let this = c.number-this.result in
+    let called = c.queue_all-called.result in
+    let here = c.runs_here-here.result in
+    let out : has called this ≡ false =
+    not_called c.args.mask c.online.result this c.targets-others.result called c.targets-others.ensures c.queue_all-called.ensures.picks.among in
+    let waited = c.wait_all.ensures.waited in
+    let made = turns_many c.args.me.now c.queue_all-called.new.me c.call_if.new.me c.wait_all.new.me here c.args.wait
+    (heard c.queue_all-called.new.me.number c.args.func c.args.info) (members called) c.queue_all-called.ensures.turns c.queue_all-called.ensures.last
+    c.call_if.ensures.noted c.wait_all.ensures.turns waited.log_is (waited.still refl) in
+    let Made = λ (to : List ℕ) (b : Bool). HasTurns c.args.me.now c.wait_all.new.me (length to) c.args.wait b in
+    subst (λ (n : ℕ). Made (remote n c.with_if.result) (has c.with_if.result n)) c.number-this.ensures.number
+    (subst (λ (b : Bool). Made (remote this c.with_if.result) b) (sym (called_here this called c.with_if.result here c.with_if.ensures out))
+    (subst (λ (to : List ℕ). Made to here) (others_called this called c.with_if.result here c.with_if.ensures out) made))

@@ -1,7 +1,9 @@
-use Rattle.std.proofs.Common.{ℕ, List, sym, subst}
+use Rattle.std.proofs.Common.{ℕ, ◌*◌, List, length, sym, subst}
 use Rattle.smp_calls.specs.Families.{IsLast}
 use Rattle.smp_calls.specs.Rounds.{Sends}
+use Rattle.smp_mask.specs.Mask.{members}
 use Rattle.smp_calls.proofs.AtOnce.{none_sent}
+use Rattle.smp_calls.proofs.Counted.{makes_sends}
 use Rattle.smp_calls.proofs.Passes.{queued_and_sent}
 use Rattle.smp_calls.proofs.many.queue_all.Goals as goal
 
@@ -16,3 +18,7 @@ pub returns-clause-at_once : goal.returns-clause-at_once
 returns-clause-at_once g c all =
     let q = c.queue_each-called.ensures.at_once all in
     (none_sent c.args.me.now c.queue_each-called.new.me c.send_each.new.me _ q.0 c.send_each.ensures, q.1)
+
+pub returns-clause-turns : goal.returns-clause-turns
+returns-clause-turns g c = makes_sends c.args.me.now c.queue_each-called.new.me c.send_each.new.me (6 * length (members c.queue_each-called.result.0)) _
+    c.queue_each-called.ensures.turns c.send_each.ensures

@@ -1,5 +1,5 @@
 use Rattle.smp_calls.proofs.Steps.{leaves_handled}
-use Rattle.smp_calls.proofs.Turns.{handled_once}
+use Rattle.smp_calls.proofs.Turns.{handled_once, handled_tried}
 use Rattle.smp_calls.proofs.wait.handle_own.Goals as goal
 
 pub returns-clause-left : goal.returns-clause-left
@@ -8,4 +8,8 @@ returns-clause-left g c = leaves_handled g.H.Handler.leads c.handle.result.inter
 
 pub returns-clause-once : goal.returns-clause-once
 returns-clause-once g c = handled_once c.handle.result.interrupted c.args.me.now c.handle.new.me
+    (λ e. let t = c.handle.ensures.asked e in (t.0, t.1)) (λ e. let t = c.handle.ensures.idle e in t.0)
+
+pub returns-clause-tried : goal.returns-clause-tried
+returns-clause-tried g c = handled_tried c.handle.result.interrupted c.args.me.now c.handle.new.me
     (λ e. let t = c.handle.ensures.asked e in (t.0, t.1)) (λ e. let t = c.handle.ensures.idle e in t.0)

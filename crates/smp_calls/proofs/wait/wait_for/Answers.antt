@@ -26,5 +26,6 @@ loop-preserved g c =
       leaves_as g.H.Handler.leads (owes_at c.args.me.now) (confirmed_at c.args.me.now)
           (leaves_then g.H.Handler.leads before (leaves_looked g.H.Handler.leads {old = c.loop.me} refl handled)) before.owes_are before.confirmed_are,
       waiting_more c.args.k c.args.me.now c.loop.me c.is_done.new.me new.me c.args.handler.now c.loop.handler new.handler
-          c.loop.invariant.1 (c.if-is_done.ensures.locked refl) c.if-is_done.ensures.known c.handle_own-interrupted.ensures.once,
+          c.loop.invariant.1 (c.if-is_done.ensures.locked refl) c.if-is_done.ensures.known
+          c.handle_own-interrupted.ensures.once c.handle_own-interrupted.ensures.tried,
     )

@@ -12,7 +12,7 @@ pub returns-clause-stopped : goal.returns-clause-stopped
 returns-clause-stopped g c =
     let v = c.collect_quietly-answer.result in
     let fits : SFits w32 v = search rules in
-    patch_stopped g.H.Handler.leads g.F.StopFunc.leads c.args.work.now _ v (to_z-of_z w32 v fits) c.begin.ensures c.put_to_all.ensures.works
+    patch_stopped g.H.Handler.leads g.F.StopFunc.leads c.args.work.now _ v (to_z-of_z w32 v fits) c.requires.gate c.begin.ensures c.put_to_all.ensures.works
     c.put_to_all.ensures.shown c.run_own_patch.ensures.works c.collect_quietly-answer.ensures.collected c.give_gate.ensures
 
 pub returns-clause-read : goal.returns-clause-read

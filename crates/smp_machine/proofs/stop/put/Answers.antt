@@ -1,7 +1,5 @@
-use Rattle.std.proofs.Common.{refl, ap, ◌∙◌, subst, ℕ, [], ◌∷◌, slice_index_or}
+use Rattle.std.proofs.Common.{refl, ap, ◌∙◌, subst, ℕ, [], ◌∷◌}
 use Rattle.smp_multi.specs.Cpu.{CpuValue}
-use Rattle.smp_machine.specs.declared.work_queue.Knows.TheVariants.{Puts}
-use Rattle.smp_machine.specs.WorkQueue.{IsKnown}
 use Rattle.smp_machine.specs.Own.{own_of, with_put}
 use Rattle.smp_machine.specs.MachineCpu.{MachineCpuValue}
 use Rattle.smp_machine.specs.Stops.{item}
@@ -36,8 +34,3 @@ returns-then-try_put-clause-works g c =
     (with_put (item n c.args.work.now) (c.args.cpu ∷ []) (own_of c.loop.me))) number
     (works_put hears runs c.loop.me c.try_put.new.me c.loop.handler c.loop.run c.args.cpu (item c.loop.me.stops.number c.args.work.now)
     (c.try_put.ensures.put c.if-try_put.true)))
-
-pub returns-then-try_put-clause-shown : goal.returns-then-try_put-clause-shown
-returns-then-try_put-clause-shown g c =
-    subst (λ (n : ℕ). IsKnown (Puts n (slice_index_or c.try_put.new.me.passes.put c.args.cpu []))) (ap (λ (s : CpuValue). s.number) c.loop.invariant.stops)
-    (c.try_put.ensures.shown c.if-try_put.true)

@@ -12,5 +12,5 @@ invariant-loop-cpu g l = record {
   works : Works g.H.Handler.leads g.F.StopFunc.leads l.fn.me l.fn.handler l.fn.run l.me l.handler l.run
       (with_put (item l.fn.me.stops.number l.work) xs (own_of l.fn.me));
   stops : l.me.stops ≡ l.fn.me.stops;
-  shown : AreShown l.fn.me.stops.number xs l.me.passes.put;
+  shown : AreShown xs l.me.passes;
 }

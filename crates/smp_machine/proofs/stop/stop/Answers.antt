@@ -1,8 +1,7 @@
-use Rattle.std.proofs.Common.{rules, ap, ◌∙◌}
+use Rattle.std.proofs.Common.{rules}
 use Rattle.std.proofs.lemmas.Int.{to_z-of_z}
 use mir.Syntax.{w32}
 use mir.Val.{SFits}
-use Rattle.smp_machine.specs.MachineCpu.{MachineCpuValue}
 use Rattle.smp_machine.specs.Moves.{stop_moves}
 use Rattle.smp_machine.proofs.OwnCounts.{stop_itself}
 use Rattle.smp_machine.proofs.Stopping.{stop_queued, stop_long, stop_short, stop_as}
@@ -14,7 +13,6 @@ returns-in-UntilDone-clause-stopped g c =
     let fits : SFits w32 v = search rules in
     stop_as g.H.Handler.leads g.F.StopFunc.leads c.in-UntilDone.is
     (stop_long g.H.Handler.leads g.F.StopFunc.leads c.args.work.now _ v (to_z-of_z w32 v fits)
-    (ap (λ (p : MachineCpuValue). p.stops.number) c.begin.ensures ∙ c.take_gate.ensures.works.number_is)
     (stop_queued g.H.Handler.leads g.F.StopFunc.leads c.args.work.now c.take_gate.ensures.works c.begin.ensures c.put_to_all.ensures.works)
     c.put_to_all.ensures.shown c.collect-answer.ensures c.give_gate.ensures)
 
@@ -29,7 +27,6 @@ returns-in-UntilQueued-clause-stopped g c =
     let fits : SFits w32 v = search rules in
     stop_as g.H.Handler.leads g.F.StopFunc.leads c.in-UntilQueued.is
     (stop_short g.H.Handler.leads g.F.StopFunc.leads c.args.work.now _ v (to_z-of_z w32 v fits)
-    (ap (λ (p : MachineCpuValue). p.stops.number) c.begin.ensures ∙ c.take_gate.ensures.works.number_is)
     (stop_queued g.H.Handler.leads g.F.StopFunc.leads c.args.work.now c.take_gate.ensures.works c.begin.ensures c.put_to_all.ensures.works)
     c.put_to_all.ensures.shown c.give_gate-in-UntilQueued.ensures c.collect-answer-in-UntilQueued.ensures)
 

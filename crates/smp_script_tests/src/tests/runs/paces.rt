@@ -202,6 +202,39 @@ impl Pace for Follows {
     }
 }
 
+/// Counts how often each of two CPUs is asked whether it polls; both do.
+#[derive(Drop)]
+pub struct Asks {
+    zero: AtomicU64,
+    one: AtomicU64,
+}
+
+impl Asks {
+    pub fn new() -> Asks {
+        Asks {
+            zero: AtomicU64::new(0),
+            one: AtomicU64::new(0),
+        }
+    }
+
+    pub fn asked(&self) -> (u64, u64) {
+        (
+            self.zero.load(Ordering::SeqCst),
+            self.one.load(Ordering::SeqCst),
+        )
+    }
+}
+
+impl Pace for Asks {
+    fn entered(&self, _cpu: u32, _src: u32, _func: u16, _info: u64) {}
+
+    fn polls(&self, cpu: u32) -> bool {
+        let asked = if cpu == 0 { &self.zero } else { &self.one };
+        asked.fetch_add(1, Ordering::SeqCst);
+        true
+    }
+}
+
 /// Counts the calls that run, modulo 2^64, and adds up what they were given.
 #[derive(Drop)]
 pub struct Counts {

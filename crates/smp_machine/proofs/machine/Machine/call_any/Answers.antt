@@ -11,7 +11,10 @@ returns g c =
       any = c.any.ensures.any;
       queued = c.any.ensures.queued;
       here = c.any.ensures.here;
+      at_once = c.any.ensures.at_once;
+      freed = c.any.ensures.freed;
       refused = search rules;
+      turns = c.any.ensures.turns;
       ended = c.any.ensures.ended;
       kept = c.any.ensures.kept;
     })

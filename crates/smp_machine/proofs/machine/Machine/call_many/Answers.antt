@@ -10,6 +10,7 @@ returns g c =
       free = search rules;
       targets = c.many.ensures.targets;
       calls = c.many.ensures.calls;
+      turns = c.many.ensures.turns;
       ended = c.many.ensures.ended;
       refused = tt;
       kept = c.many.ensures.kept;

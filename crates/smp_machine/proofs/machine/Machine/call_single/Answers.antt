@@ -10,7 +10,12 @@ returns g c =
       free = search rules;
       queued = c.single.ensures.queued;
       here = c.single.ensures.here;
+      at_once = c.single.ensures.at_once;
+      stays = c.single.ensures.stays;
+      freed = c.single.ensures.freed;
+      waits = search rules;
       refused = search rules;
+      turns = c.single.ensures.turns;
       ended = c.single.ensures.ended;
       kept = c.single.ensures.kept;
     })

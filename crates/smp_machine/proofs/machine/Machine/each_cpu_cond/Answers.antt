@@ -11,6 +11,7 @@ returns g c =
       free = search rules;
       picks = c.each.ensures.picks;
       calls = c.each.ensures.calls;
+      turns = c.each.ensures.turns;
       ended = c.each.ensures.ended;
       refused = tt;
       kept = c.each.ensures.kept;

@@ -13,8 +13,8 @@ use Rattle.smp_multi.proofs.seat.access.subtract.Goals as goal
 pub cell-requires : goal.cell-requires
 cell-requires c = c.requires.able.cell
 
-pub take_one-requires : goal.take_one-requires
-take_one-requires c = let r = c.requires.able in let low = cell_below c.args.word c.cell.result c.cell.ensures in let w = r.sized in (
+pub fetch_sub-requires : goal.fetch_sub-requires
+fetch_sub-requires c = let r = c.requires.able in let low = cell_below c.args.word c.cell.result c.cell.ensures in let w = r.sized in (
   ap (λ d. d.table) c.seat.view_is ∙ r.table_is,
   omega arith,
   sub_allowed _ _ _ _ c.seat.invariant.is c.seat.invariant.online c.args.word c.cell.result c.cell.ensures
@@ -22,14 +22,14 @@ take_one-requires c = let r = c.requires.able in let low = cell_below c.args.wor
 )
 
 pub invariant_of-seat : goal.invariant_of-seat
-invariant_of-seat c = seat_on _ _ _ (c.take_one.ensures.2.1 c.args.word c.cell.ensures).1 c.take_one.ensures.2.0 c.seat.invariant.fits
+invariant_of-seat c = seat_on _ _ _ (c.fetch_sub.ensures.2.1 c.args.word c.cell.ensures).1 c.fetch_sub.ensures.2.0 c.seat.invariant.fits
 
 pub returns-clause-lives : goal.returns-clause-lives
-returns-clause-lives c = lives_with c.seat.inside.carried (known c.take_one.new.seat.me.0) c.take_one.ensures.2.0
+returns-clause-lives c = lives_with c.seat.inside.carried (known c.fetch_sub.new.seat.me.0) c.fetch_sub.ensures.2.0
 
 pub returns-clause-known : goal.returns-clause-known
 returns-clause-known c =
-    let told = c.take_one.ensures.2.1 c.args.word c.cell.ensures in
+    let told = c.fetch_sub.ensures.2.1 c.args.word c.cell.ensures in
     ap (λ (s : SeatView). carrying c.seat.inside.carried (known s)) told.1
-    ∙ (sub_with c.seat.inside.carried (known c.seat.inside.raw.me.0) c.args.word c.take_one.result (one_less c.take_one.result)
-    ∙ ap (λ (v : Known). known_told v act.Sub c.args.word (Some c.take_one.result) (Some (one_less c.take_one.result))) (ap (λ d. d.known) c.seat.view_is))
+    ∙ (sub_with c.seat.inside.carried (known c.seat.inside.raw.me.0) c.args.word c.fetch_sub.result (one_less c.fetch_sub.result)
+    ∙ ap (λ (v : Known). known_told v act.Sub c.args.word (Some c.fetch_sub.result) (Some (one_less c.fetch_sub.result))) (ap (λ d. d.known) c.seat.view_is))

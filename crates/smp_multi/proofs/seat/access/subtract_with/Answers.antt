@@ -13,8 +13,8 @@ use Rattle.smp_multi.proofs.seat.access.subtract_with.Goals as goal
 pub cell-requires : goal.cell-requires
 cell-requires c = c.requires.able.cell
 
-pub take_one-found-requires : goal.take_one-found-requires
-take_one-found-requires c = let r = c.requires.able in let low = cell_below c.args.word c.cell.result c.cell.ensures in let w = r.sized in (
+pub fetch_sub-found-requires : goal.fetch_sub-found-requires
+fetch_sub-found-requires c = let r = c.requires.able in let low = cell_below c.args.word c.cell.result c.cell.ensures in let w = r.sized in (
   ap (λ d. d.table) c.seat.view_is ∙ r.table_is,
   omega arith,
   sub_allowed _ _ _ _ c.seat.invariant.is c.seat.invariant.online c.args.word c.cell.result c.cell.ensures
@@ -22,15 +22,15 @@ take_one-found-requires c = let r = c.requires.able in let low = cell_below c.ar
 )
 
 pub invariant_of-seat : goal.invariant_of-seat
-invariant_of-seat c = seat_on _ _ _ (c.take_one-found.ensures.2.1 c.args.word c.cell.ensures).1 c.take_one-found.ensures.2.0 c.requires.fits
+invariant_of-seat c = seat_on _ _ _ (c.fetch_sub-found.ensures.2.1 c.args.word c.cell.ensures).1 c.fetch_sub-found.ensures.2.0 c.requires.fits
 
 pub returns-clause-lives : goal.returns-clause-lives
-returns-clause-lives c = lives_with c.args.answer (known c.take_one-found.new.seat.me.0) c.take_one-found.ensures.2.0
+returns-clause-lives c = lives_with c.args.answer (known c.fetch_sub-found.new.seat.me.0) c.fetch_sub-found.ensures.2.0
 
 pub returns-clause-known : goal.returns-clause-known
 returns-clause-known c =
-    let told = c.take_one-found.ensures.2.1 c.args.word c.cell.ensures in
+    let told = c.fetch_sub-found.ensures.2.1 c.args.word c.cell.ensures in
     ap (λ (s : SeatView). carrying c.args.answer (known s)) told.1
-    ∙ (sub_with c.args.answer (known c.seat.inside.raw.me.0) c.args.word c.take_one-found.result (one_less c.take_one-found.result)
-    ∙ ap (λ (v : Known). known_told (carrying c.args.answer v) act.Sub c.args.word (Some c.take_one-found.result) (Some (one_less c.take_one-found.result)))
+    ∙ (sub_with c.args.answer (known c.seat.inside.raw.me.0) c.args.word c.fetch_sub-found.result (one_less c.fetch_sub-found.result)
+    ∙ ap (λ (v : Known). known_told (carrying c.args.answer v) act.Sub c.args.word (Some c.fetch_sub-found.result) (Some (one_less c.fetch_sub-found.result)))
     (ap (λ d. d.known) c.seat.view_is))

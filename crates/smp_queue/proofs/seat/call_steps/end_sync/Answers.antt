@@ -7,4 +7,4 @@ pub returns-clause-known : goal.returns-clause-known
 returns-clause-known g c =
     let at = c.requires.at in
     let k = lives_stands at.lives (handle.EndSync c.args.walk c.args.call c.args.next) at.stage_is in
-    c.store_step.ensures.known ∙ ended_sync_is _ c.args.walk c.args.call c.args.next at.stage_is k.1.running_is
+    c.store_in_call.ensures.known ∙ ended_sync_is _ c.args.walk c.args.call c.args.next at.stage_is k.1.running_is

@@ -4,7 +4,7 @@ use Rattle.smp_queue.specs.{Swap, Known, known}
 use Rattle.smp_queue.proofs.TheRule.Keeps.{swap_allowed, can_same, reach_same}
 use Rattle.smp_queue.proofs.TheRule.Cells.{cell_below}
 use Rattle.smp_queue.specs.act
-use Rattle.smp_queue.proofs.seat.swap.Goals as goal
+use Rattle.smp_queue.proofs.seat.access.swap.Goals as goal
 
 pub swap-requires : goal.swap-requires
 swap-requires c = let r = c.requires in let low = cell_below c.args.word c.cell.result c.cell.ensures in let w = r.sized in (

@@ -5,7 +5,7 @@ use Rattle.smp_queue.specs.act
 use Rattle.smp_queue.proofs.TheRule.Cells.{cell_below}
 use Rattle.smp_queue.proofs.TheRule.Keeps.{call_store_allowed, can_same, reach_same}
 use Rattle.smp_queue.proofs.Handling.Handles.{in_handle_can, in_handle_cell, in_handle_reaches}
-use Rattle.smp_queue.proofs.seat.call_steps.store_step.Goals as goal
+use Rattle.smp_queue.proofs.seat.access.store_in_call.Goals as goal
 
 pub cell-requires : goal.cell-requires
 cell-requires c = let r = c.requires in in_handle_cell r.at (Store c.args.word c.args.number) r.is_access

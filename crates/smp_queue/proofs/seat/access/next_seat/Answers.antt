@@ -3,7 +3,7 @@ use Rattle.smp_queue.specs.{seat_made}
 use Rattle.smp_queue.specs.Names.{New}
 use Rattle.smp_queue.proofs.TheRule.Keeps.{splits, fresh_seat_is}
 use Rattle.smp_queue.proofs.TheRule.Seating.{come_next}
-use Rattle.smp_queue.proofs.seat.next_seat.Goals as goal
+use Rattle.smp_queue.proofs.seat.access.next_seat.Goals as goal
 
 pub split_seat-raw-requires : goal.split_seat-raw-requires
 split_seat-raw-requires c =

@@ -1,7 +1,7 @@
 use Rattle.std.proofs.Common.{rules, arith, ap, ◌∙◌}
 use Rattle.smp_queue.proofs.TheRule.Keeps.{load_allowed, can_same}
 use Rattle.smp_queue.proofs.TheRule.Cells.{cell_below}
-use Rattle.smp_queue.proofs.seat.load.Goals as goal
+use Rattle.smp_queue.proofs.seat.access.load.Goals as goal
 
 pub load-requires : goal.load-requires
 load-requires c = let r = c.requires in let low = cell_below c.args.word c.cell.result c.cell.ensures in let w = r.sized in (

@@ -2,7 +2,7 @@ use Rattle.std.proofs.Common.{arith, ap, ◌∙◌}
 use Rattle.smp_queue.specs.{Store}
 use Rattle.smp_queue.proofs.TheRule.Keeps.{store_allowed, can_same, reach_same}
 use Rattle.smp_queue.proofs.TheRule.Cells.{cell_below}
-use Rattle.smp_queue.proofs.seat.store.Goals as goal
+use Rattle.smp_queue.proofs.seat.access.store.Goals as goal
 
 pub store-requires : goal.store-requires
 store-requires c = let r = c.requires in let low = cell_below c.args.word c.cell.result c.cell.ensures in let w = r.sized in (

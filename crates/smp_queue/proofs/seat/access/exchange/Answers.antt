@@ -2,7 +2,7 @@ use Rattle.std.proofs.Common.{arith, ap, ◌∙◌}
 use Rattle.smp_queue.specs.{Exchange}
 use Rattle.smp_queue.proofs.TheRule.Keeps.{exchange_allowed, can_same, reach_same}
 use Rattle.smp_queue.proofs.TheRule.Cells.{cell_below}
-use Rattle.smp_queue.proofs.seat.exchange.Goals as goal
+use Rattle.smp_queue.proofs.seat.access.exchange.Goals as goal
 
 pub compare_exchange-requires : goal.compare_exchange-requires
 compare_exchange-requires c = let r = c.requires in let low = cell_below c.args.word c.cell.result c.cell.ensures in let w = r.sized in (

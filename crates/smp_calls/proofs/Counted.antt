@@ -1,0 +1,225 @@
+-- How many steps a family makes, and how often it handles meanwhile.
+use Rattle.std.proofs.Common.{arith, ◌≡◌, ◌≢◌, ℕ, suc, ◌+◌, ◌*◌, Bool, true, false, cond, Some, None, List, [], ◌∷◌, ◌++◌, length}
+use Rattle.std.proofs.Common.{length-append, refl, sym, ap, ◌∙◌, subst}
+use Rattle.std.proofs.lemmas.List.{append-nil}
+use Rattle.smp_words.specs.declared.call.Class.{Class}
+use Rattle.smp_call_steps.specs.Heads.{Found, times_lost}
+use Rattle.smp_call_steps.specs.declared.known.Logged.{Logged}
+use Rattle.smp_call_steps.specs.declared.known.Logged.TheVariants as logged
+use Rattle.smp_queue.specs.Cpu.{CpuValue, posts, sends}
+use Rattle.smp_queue.specs.declared.handler.Heard.{Heard}
+use Rattle.smp_calls.specs.Families.{Leaves, Awaits, IsLast, owes_at}
+use Rattle.smp_calls.specs.Queued.{Queued, destinations, interrupts_to}
+use Rattle.smp_calls.specs.Rounds.{Sends, only_if, noted_if}
+use Rattle.smp_calls.specs.Turns.{LooksFor, MakesMore, HasTurns}
+use Rattle.smp_calls.proofs.One.{sent_one}
+use Rattle.smp_calls.proofs.Round.{destinations-append}
+
+-- ---- one part
+
+-- a wait is one look more than the takes of the interrupt word
+looks_once : {H : Type 0} {k : ℕ} {old new : CpuValue} {before after : H} → Awaits k old before new after → LooksFor old new 1
+looks_once a = record { turns = a.turns; tried_is = a.tried_is }
+
+pub looks_none : (c : CpuValue) → LooksFor c c 0
+looks_none c = record { turns = omega arith; tried_is = refl }
+
+looks_then : (old mid new : CpuValue) (a b : ℕ) → LooksFor old mid a → LooksFor mid new b → LooksFor old new (a + b)
+looks_then old mid new a b f g =
+    let t = f.turns in
+    let u = g.turns in
+    record { turns = omega arith; tried_is = g.tried_is ∙ f.tried_is }
+
+-- a wait more
+pub looks_more : {H : Type 0} {k : ℕ} {m after : H} (old mid new : CpuValue) (cpu : ℕ) (xs : List ℕ) → LooksFor old mid (length xs)
+    → Awaits k mid m new after → LooksFor old new (length (xs ++ cpu ∷ []))
+looks_more old mid new cpu xs f a =
+    subst (λ (n : ℕ). LooksFor old new n) (sym (length-append xs (cpu ∷ []))) (looks_then old mid new (length xs) 1 f (looks_once a))
+
+makes_looked : (old new : CpuValue) (n : ℕ) → LooksFor old new n → new.log ≡ old.log ++ [] → MakesMore old new n
+makes_looked old new n l e =
+    let t = l.turns in
+    let tried = l.tried_is in
+    let log : length new.log ≡ length old.log = ap (λ (xs : List Logged). length xs) (e ∙ append-nil old.log) in
+    omega arith
+
+pub makes_none : (c : CpuValue) → MakesMore c c 0
+makes_none c = omega arith
+
+pub makes_then : (old mid new : CpuValue) (a b : ℕ) → MakesMore old mid a → MakesMore mid new b → MakesMore old new (a + b)
+makes_then old mid new a b f g = omega (arith, f, g)
+
+-- a post
+makes_posted : (k to : ℕ) (class : Class) (func info : ℕ) (first : Bool) (found : Found) (c d : CpuValue) → d ≡ posts k to class func info first found c
+    → MakesMore c d 5
+makes_posted k to class func info first found c d e =
+    let steps : d.steps ≡ c.steps + (8 + 2 * times_lost found) = ap (λ (x : CpuValue). x.steps) e in
+    let tried : d.tried ≡ (c.tried + times_lost found) + 1 = ap (λ (x : CpuValue). x.tried) e in
+    let asked : length d.part.asked ≡ length c.part.asked = ap (λ (x : CpuValue). length x.part.asked) e in
+    let log : length d.log ≡ length c.log + 1 = ap (λ (x : CpuValue). length x.log) e ∙ length-append c.log (logged.Queued to ∷ []) in
+    omega arith
+
+-- the wait for the record, and the post
+makes_queued : {H : Type 0} (leads : H → Heard → H → Type 0) {old mid new : CpuValue} {before m : H} {d : ℕ → Bool} (k to : ℕ) (class : Class)
+    (func info : ℕ) (first : Bool) (found : Found) → Leaves leads old before mid m [] [] (owes_at old) d → Awaits k old before mid m
+    → new ≡ posts k to class func info first found mid → MakesMore old new 6
+makes_queued leads {old} {mid} {new} k to class func info first found l a e =
+    makes_then old mid new 1 5 (makes_looked old mid 1 (looks_once a) l.log_is) (makes_posted k to class func info first found mid new e)
+
+makes_sent : (to : ℕ) (c d : CpuValue) → d ≡ sends to c → MakesMore c d 0
+makes_sent to c d e =
+    let steps : d.steps ≡ c.steps + 1 = ap (λ (x : CpuValue). x.steps) e in
+    let tried : d.tried ≡ c.tried = ap (λ (x : CpuValue). x.tried) e in
+    let asked : length d.part.asked ≡ length c.part.asked = ap (λ (x : CpuValue). length x.part.asked) e in
+    let log : length d.log ≡ length c.log + 1 = ap (λ (x : CpuValue). length x.log) e ∙ length-append c.log (logged.Interrupted to ∷ []) in
+    omega arith
+
+-- ---- a call to one CPU
+
+-- a post, and the interrupt that is owed: nothing was done since
+record Done (c d : CpuValue) : Type 0 where
+  more : MakesMore c d 5
+  steps_are : d.steps ≡ d.sent_at
+  asked_are : length d.part.asked ≡ d.asked_at
+
+done_one : (k to : ℕ) (class : Class) (func info : ℕ) (first : Bool) (found : Found) (c d : CpuValue) → d ≡ sent_one k to class func info first found c
+    → Done c d
+done_one k to class func info true found c d e =
+    let posted = posts k to class func info true found c in
+    record {
+      more = makes_then c posted d 5 0 (makes_posted k to class func info true found c posted refl) (makes_sent to posted d e);
+      steps_are = ap (λ (x : CpuValue). x.steps) e ∙ sym (ap (λ (x : CpuValue). x.sent_at) e);
+      asked_are = ap (λ (x : CpuValue). length x.part.asked) e ∙ sym (ap (λ (x : CpuValue). x.asked_at) e);
+    }
+done_one k to class func info false found c d e = record {
+  more = makes_posted k to class func info false found c d e;
+  steps_are = ap (λ (x : CpuValue). x.steps) e ∙ sym (ap (λ (x : CpuValue). x.sent_at) e);
+  asked_are = ap (λ (x : CpuValue). length x.part.asked) e ∙ sym (ap (λ (x : CpuValue). x.asked_at) e);
+}
+
+module _ {H : Type 0} (leads : H → Heard → H → Type 0) where
+  -- not waited for
+  pub turns_left : {old mid new : CpuValue} {before m : H} {d : ℕ → Bool} (k to : ℕ) (class : Class) (func info : ℕ) (wait : Bool) → wait ≡ false →
+      Leaves leads old before mid m [] [] (owes_at old) d → Awaits k old before mid m →
+      (first : Bool) × (found : Found) × (new ≡ sent_one k to class func info first found mid) →
+      HasTurns old new 1 wait false
+  turns_left {old} {mid} {new} k to class func info wait w l a q =
+      let sent = done_one k to class func info q.0 q.1 mid new q.2 in
+      let all = makes_then old mid new 1 5 (makes_looked old mid 1 (looks_once a) l.log_is) sent.more in
+      let steps = sent.steps_are in
+      let asked = sent.asked_are in
+      subst (λ (b : Bool). HasTurns old new 1 b false) (sym w) (record { all = all; since = λ some. omega arith })
+
+  -- waited for
+  pub turns_waited : {old mid sent new : CpuValue} {before m after : H} {d e : ℕ → Bool} (k to : ℕ) (class : Class) (func info : ℕ) (wait : Bool)
+      → wait ≡ true → Leaves leads old before mid m [] [] (owes_at old) d → Awaits k old before mid m →
+      (first : Bool) × (found : Found) × (sent ≡ sent_one k to class func info first found mid) →
+      Leaves leads sent m new after [] [] (owes_at sent) e → Awaits k sent m new after →
+      HasTurns old new 1 wait false
+  turns_waited {old} {mid} {sent} {new} k to class func info wait w l a q r b =
+      let done = done_one k to class func info q.0 q.1 mid sent q.2 in
+      let all = makes_then old sent new 6 1 (makes_then old mid sent 1 5 (makes_looked old mid 1 (looks_once a) l.log_is) done.more)
+      (makes_looked sent new 1 (looks_once b) r.log_is) in
+      let steps = done.steps_are in
+      let asked = done.asked_are in
+      let sent_at = (r.still refl).0 in
+      let asked_at = (r.still refl).1 in
+      let turns = b.turns in
+      subst (λ (x : Bool). HasTurns old new 1 x false) (sym w) (record { all = all; since = λ some. omega arith })
+
+-- ---- calls to many
+
+-- these calls were queued after those
+pub makes_more : (old mid new : CpuValue) (xs ys : List Queued) (to : List ℕ) → destinations ys ≡ to → MakesMore old mid (6 * length (destinations xs))
+    → MakesMore mid new (6 * length to) → MakesMore old new (6 * length (destinations (xs ++ ys)))
+makes_more old mid new xs ys to e f g =
+    let n : length (destinations (xs ++ ys)) ≡ length (destinations xs) + length to =
+    ap (λ (zs : List ℕ). length zs) (destinations-append xs ys) ∙ (length-append (destinations xs) (destinations ys)
+    ∙ ap (λ (zs : List ℕ). length (destinations xs) + length zs) e) in
+    omega (arith, n, f, g)
+
+-- a call was queued for this CPU, where it was asked for
+pub makes_asked_not : (c : CpuValue) (to : ℕ) (asked : Bool) → asked ≡ false → MakesMore c c (6 * length (only_if asked to))
+makes_asked_not c to asked not_asked = subst (λ b. MakesMore c c (6 * length (only_if b to))) (sym not_asked) (makes_none c)
+
+pub makes_asked : {H : Type 0} (leads : H → Heard → H → Type 0) {old mid new : CpuValue} {before m : H} {d : ℕ → Bool} (k to : ℕ) (class : Class)
+    (func info : ℕ) (first : Bool) (found : Found) (asked : Bool) → asked ≡ true → Leaves leads old before mid m [] [] (owes_at old) d
+    → Awaits k old before mid m → new ≡ posts k to class func info first found mid → MakesMore old new (6 * length (only_if asked to))
+makes_asked leads {old} {mid} {new} k to class func info first found asked is_asked l a e =
+    subst (λ b. MakesMore old new (6 * length (only_if b to))) (sym is_asked) (makes_queued leads k to class func info first found l a e)
+
+interrupts_to-length : (xs : List ℕ) → length (interrupts_to xs) ≡ length xs
+interrupts_to-length [] = refl
+interrupts_to-length (x ∷ xs) = ap suc (interrupts_to-length xs)
+
+-- the interrupts
+pub makes_sends : (old mid new : CpuValue) (n : ℕ) (xs : List ℕ) → MakesMore old mid n → Sends mid new xs → MakesMore old new n
+makes_sends old mid new n xs f s =
+    let e = s.others_are in
+    let steps : new.steps ≡ mid.steps + length xs = ap (λ (x : CpuValue). x.steps) e in
+    let tried : new.tried ≡ mid.tried = ap (λ (x : CpuValue). x.tried) e in
+    let asked : length new.part.asked ≡ length mid.part.asked = ap (λ (x : CpuValue). length x.part.asked) e in
+    let log : length new.log ≡ length mid.log + length xs =
+    ap (λ (x : CpuValue). length x.log) e ∙ (length-append mid.log (interrupts_to xs)
+    ∙ ap (λ (n : ℕ). length mid.log + n) (interrupts_to-length xs)) in
+    omega arith
+
+-- a direct call, if any
+record Noted (c d : CpuValue) (here : Bool) : Type 0 where
+  more : MakesMore c d 0
+  steps_are : d.steps ≡ c.steps + cond here 1 0
+  asked_are : length d.part.asked ≡ length c.part.asked
+  sent_at_is : d.sent_at ≡ c.sent_at
+  asked_at_is : d.asked_at ≡ c.asked_at
+
+noted : (c d : CpuValue) (here : Bool) (heard : Heard) → d ≡ noted_if (cond here (Some heard) None) c → Noted c d here
+noted c d true heard e =
+    let steps : d.steps ≡ c.steps + 1 = ap (λ (x : CpuValue). x.steps) e in
+    let tried : d.tried ≡ c.tried = ap (λ (x : CpuValue). x.tried) e in
+    let asked : length d.part.asked ≡ length c.part.asked = ap (λ (x : CpuValue). length x.part.asked) e in
+    let log : length d.log ≡ length c.log + 1 = ap (λ (x : CpuValue). length x.log) e
+    ∙ length-append c.log (logged.Called c.steps (length c.part.asked) ∷ []) in
+    record {
+      more = omega arith;
+      steps_are = steps;
+      asked_are = asked;
+      sent_at_is = ap (λ (x : CpuValue). x.sent_at) e;
+      asked_at_is = ap (λ (x : CpuValue). x.asked_at) e;
+    }
+noted c d false heard e = record {
+  more = subst (λ (x : CpuValue). MakesMore c x 0) (sym e) (makes_none c);
+  steps_are = ap (λ (x : CpuValue). x.steps) e ∙ omega arith;
+  asked_are = ap (λ (x : CpuValue). length x.part.asked) e;
+  sent_at_is = ap (λ (x : CpuValue). x.sent_at) e;
+  asked_at_is = ap (λ (x : CpuValue). x.asked_at) e;
+}
+
+-- where a call was queued, nothing was done since the last call or interrupt
+last_of_some : (old new : CpuValue) (xs : List ℕ) → length xs ≢ 0 → IsLast old new xs → (new.steps ≡ new.sent_at) × (length new.part.asked ≡ new.asked_at)
+last_of_some old new [] some last = absurd (some refl)
+last_of_some old new (x ∷ xs) some last = last
+
+-- calls are queued, a direct call is made, if any, and the calls are waited for or not
+pub turns_many : (old queued mid new : CpuValue) (here wait : Bool) (heard : Heard) (to : List ℕ) → MakesMore old queued (6 * length to)
+    → IsLast old queued to → mid ≡ noted_if (cond here (Some heard) None) queued → LooksFor mid new (cond wait (length to) 0)
+    → new.log ≡ mid.log ++ [] → (new.sent_at ≡ mid.sent_at) × (new.asked_at ≡ mid.asked_at) → HasTurns old new (length to) wait here
+turns_many old queued mid new here wait heard to f last n looks log still =
+    let note = noted queued mid here heard n in
+    let waits = cond wait (length to) 0 in
+    let first = makes_then old queued mid (6 * length to) 0 f note.more in
+    let rest = makes_looked mid new waits looks log in
+    record {
+      all = omega (arith, first, rest);
+      since = λ some.
+          let done = last_of_some old queued to some last in
+          let d0 = done.0 in
+          let d1 = done.1 in
+          let steps = note.steps_are in
+          let asked = note.asked_are in
+          let sent_at = note.sent_at_is in
+          let asked_at = note.asked_at_is in
+          let s0 = still.0 in
+          let s1 = still.1 in
+          let t = looks.turns in
+          omega arith;
+    }

@@ -1,0 +1,202 @@
+//! The words of a table, the seat of a CPU, and the steps that it makes. This page alone reaches the kit's table, which can do
+//! more: each function below makes one step, of a word, by a play of `plays`. No other page names a raw seat or a cell, and
+//! none can.
+//!
+//! A step that begins, counts or ends a call is made by `store_in_call`, which the page beside this one alone sees.
+
+ghost use Rattle.std.specs.Prelude.{◌≡◌, ◌+◌, ◌<◌, ◌==◌, true, if◌then◌else◌, IfOk, Some, None};
+ghost use Rattle.std.specs.Mem.Slots.{slots_items, slots_len, IsFull};
+ghost use Rattle.smp_call_steps.specs.Known.{known_told, known_taking, noted_known, fresh, Moment, Lives};
+ghost use Rattle.smp_words.specs.declared.access.Access.TheVariants as access;
+ghost use Rattle.smp_words.specs.declared.seen.Act.TheVariants as act;
+ghost use Rattle.smp_queue.specs.declared.seat_view.SeatView.TheVariants.{Maker};
+ghost use Rattle.smp_queue.specs.Audit.{Closes};
+ghost use Rattle.smp_queue.specs.Cells.{cells};
+ghost use Rattle.smp_queue.specs.Seat.{SeatValue, Loads, Ready, IsStepOfCall};
+ghost use Rattle.smp_queue.specs.Rule.{Sits, HasComeTo};
+ghost use Rattle.smp_words.specs.Size.{cpus};
+ghost use Rattle.smp_mask.specs.Mask.{has};
+
+use super::plays::{CallStored, Exchanged, Loaded, Noted, Stored, Swapped};
+use crate::cell::{CELLS, cell};
+use crate::rule::{CallRule, NextSeat, RawSeat};
+use crate::seat_view::SeatView;
+use atomic_table::{Closed, Shared, Table};
+use smp_call_steps::known::Setting;
+use smp_words::Word;
+use std::alloc::{AllocError, Allocator};
+use std::marker::Model;
+
+/// The words, as all threads share them.
+#[derive(Clone, Copy)]
+pub struct Words<'a> {
+    shared: &'a Shared<(), SeatView, Setting, CallRule>,
+}
+
+/// The words with their memory.
+#[derive(Drop)]
+pub struct Owner<A: Allocator> {
+    table: Table<(), SeatView, Setting, CallRule, A>,
+}
+
+impl<A: Allocator> Owner<A> {
+    /// The words, to be accessed by seats.
+    #[inline(always)]
+    pub(crate) fn words(&self) -> Words<'_>
+        ensures table { result.shared.now.table_id ≡ self.now.table.shared.table_id }
+        ensures key { result.shared.now.key ≡ self.now.table.shared.key }
+    {
+        Words {
+            shared: &self.table.shared,
+        }
+    }
+}
+
+/// The seat of one CPU, seen as its table and what the CPU knows: at any time its part of calls that some words show.
+#[derive(Drop)]
+pub struct CpuSeat {
+    raw: RawSeat,
+}
+
+impl Model for CpuSeat {
+    ghost use Rattle.smp_queue.specs.Seat.{SeatValue, IsCpuSeat};
+    ghost use Rattle.smp_queue.specs.Rule.{Sits, known};
+
+    ghost Value = { SeatValue };
+
+    ghost view = { λ c. record { table = c.raw.table_id; known = known c.raw.me.0 } };
+
+    ghost invariant = { λ c. IsCpuSeat c.raw.me.0 × Sits (known c.raw.me.0) };
+}
+
+impl CpuSeat {
+    /// What the CPU knows is its part of calls that some words show, in which CPUs that the table does not have, or that
+    /// are not online, have done nothing. Nothing is queued or pending for those that are not online.
+    pub(crate) fn is_shown(&self)
+        ensures { Sits self.now.known }
+    {
+        let _ = &self.raw;
+    }
+}
+
+/// The first seat of a table, which makes one for each CPU.
+#[derive(Drop)]
+pub struct SeatMaker {
+    raw: RawSeat,
+}
+
+/// The words of a table, all 0, and the first seat.
+pub(crate) fn lay<A: Allocator>(
+    alloc: A,
+    setting: &Setting,
+) -> Result<(Owner<A>, SeatMaker), AllocError>
+where
+    A: Copy,
+    ensures { IfOk result (λ t. (t.0.table.shared.table_id.words ≡ cells) × (t.0.table.shared.table_id.slots ≡ 0) × (t.0.table.shared.key ≡ setting.now)
+        × (t.1.raw.table_id ≡ t.0.table.shared.table_id) × (t.1.raw.me.0 ≡ Maker 0 setting.now)) }
+{
+    let words = Vec::from_elem(alloc, 0u64, CELLS)?;
+    let (table, raw) = Table::of_words(alloc, words.as_slice(), setting)?;
+    Ok((Owner { table }, SeatMaker { raw }))
+}
+
+/// A seat for the next CPU that is online. Only such a CPU ever gets one.
+pub(crate) fn next_seat(words: Words, maker: &mut SeatMaker, n: u32) -> CpuSeat
+    requires table { (maker.old.raw.table_id ≡ words.shared.now.table_id) × (words.shared.now.table_id.words ≡ cells) }
+    requires come { HasComeTo maker.old.raw.me.0 words.shared.now.key n }
+    requires number { (n < words.shared.now.key.nr) × (n < cpus) × (has words.shared.now.key.online n ≡ true) }
+    ensures maker { (maker.new.raw.table_id ≡ words.entry.shared.now.table_id) × (maker.new.raw.me.0 ≡ Maker (n + 1) words.entry.shared.now.key) }
+    ensures seat { (result.table ≡ words.entry.shared.now.table_id) × (result.known ≡ fresh words.entry.shared.now.key n) }
+{
+    let raw = words.shared.split_seat::<NextSeat>(&mut maker.raw);
+    CpuSeat { raw }
+}
+
+/// Gives up the table and the seat of a CPU: the words as the last step left them.
+pub(crate) fn close<A: Allocator>(owner: Owner<A>, seat: CpuSeat) -> Closed<(), A>
+    requires table { seat.table ≡ owner.table.shared.table_id }
+    requires sized { (owner.table.shared.table_id.words ≡ cells) × (owner.table.shared.table_id.slots ≡ 0) }
+    ensures full { IsFull result.words × (slots_len result.words ≡ cells) × (slots_len result.slots ≡ 0) }
+    ensures closes { Closes owner.table.shared.key seat.known (slots_items result.words) }
+{
+    owner.table.close_with(seat.raw)
+}
+
+/// Loads a word.
+#[inline(always)]
+pub(crate) fn load(words: Words, seat: &mut CpuSeat, word: Word) -> u64
+    requires { Ready words.shared.now.table_id words.shared.now.key seat.old (access.Load word) }
+    ensures { Loads words.entry.shared.now.table_id seat.old seat.new word result }
+{
+    words.shared.load::<Loaded>(&mut seat.raw, cell(word))
+}
+
+/// Notes a direct call in the CPU's log. What a CPU knows changes at a step alone: this one is a load of a word of its own,
+/// of which nothing is told.
+pub(crate) fn note_call(words: Words, seat: &mut CpuSeat, word: Word)
+    requires { Ready words.shared.now.table_id words.shared.now.key seat.old (access.Load word) }
+    ensures table { seat.new.table ≡ words.entry.shared.now.table_id }
+    ensures known { seat.new.known ≡ noted_known seat.old.known }
+{
+    words.shared.load::<Noted>(&mut seat.raw, cell(word));
+}
+
+/// Stores a number in a word.
+#[inline(always)]
+pub(crate) fn store(words: Words, seat: &mut CpuSeat, word: Word, number: u64)
+    requires { Ready words.shared.now.table_id words.shared.now.key seat.old (access.Store word number) }
+    ensures table { seat.new.table ≡ words.entry.shared.now.table_id }
+    ensures lives { Lives seat.new.known }
+    ensures known { seat.new.known ≡ known_told seat.old.known act.Store word None (Some number) }
+{
+    words
+        .shared
+        .store::<Stored>(&mut seat.raw, cell(word), number);
+}
+
+/// Stores a number in a word, by a step inside `handle` that may begin, count or end a call.
+#[inline(always)]
+pub(super) fn store_in_call(words: Words, seat: &mut CpuSeat, word: Word, number: u64)
+    requires { IsStepOfCall words.shared.now.table_id seat.old word number }
+    ensures table { seat.new.table ≡ words.entry.shared.now.table_id }
+    ensures lives { Lives seat.new.known }
+    ensures known { seat.new.known ≡ known_told seat.old.known act.Store word None (Some number) }
+    ensures put { (s : Sits seat.new.known) × (s.lives.at word ≡ number) }
+{
+    words
+        .shared
+        .store::<CallStored>(&mut seat.raw, cell(word), number);
+}
+
+/// Puts a number in a word where another is found, and answers what was found.
+#[inline(always)]
+pub(crate) fn exchange(
+    words: Words,
+    seat: &mut CpuSeat,
+    word: Word,
+    expected: u64,
+    number: u64,
+) -> u64
+    requires { Ready words.shared.now.table_id words.shared.now.key seat.old (access.Exchange word expected number) }
+    ensures table { seat.new.table ≡ words.entry.shared.now.table_id }
+    ensures lives { Lives seat.new.known }
+    ensures known { seat.new.known ≡ known_told seat.old.known act.Cas word (Some result) (if result == expected then Some number else None) }
+{
+    words
+        .shared
+        .compare_exchange::<Exchanged>(&mut seat.raw, cell(word), expected, number)
+}
+
+/// Puts a number in a word, and answers what was found. A swap of the own head takes the queue of that moment.
+#[inline(always)]
+pub(crate) fn swap(words: Words, seat: &mut CpuSeat, word: Word, number: u64) -> u64
+    requires { Ready words.shared.now.table_id words.shared.now.key seat.old (access.Swap word number) }
+    ensures table { seat.new.table ≡ words.entry.shared.now.table_id }
+    ensures lives { Lives seat.new.known }
+    ensures known { (t : Moment seat.old.known word result) × (seat.new.known ≡ known_taking
+        (t.lives.calls.queue seat.old.known.number) seat.old.known act.Swap word (Some result) (Some number)) }
+{
+    words
+        .shared
+        .swap::<Swapped>(&mut seat.raw, cell(word), number)
+}

@@ -1,0 +1,48 @@
+//! What each kind of step tells its CPU.
+
+ghost use Rattle.smp_queue.specs.Plays.{loaded, noted, stored, call_stored, exchanged, swapped};
+
+use crate::seat_view::SeatView;
+use atomic_table::Play;
+
+/// A load.
+pub(super) struct Loaded;
+
+impl Play<(), SeatView> for Loaded {
+    ghost then = { loaded };
+}
+
+/// A load that tells nothing, by which a direct call is noted.
+pub(super) struct Noted;
+
+impl Play<(), SeatView> for Noted {
+    ghost then = { noted };
+}
+
+/// A store.
+pub(super) struct Stored;
+
+impl Play<(), SeatView> for Stored {
+    ghost then = { stored };
+}
+
+/// A store inside `handle` that may begin, count or end a call.
+pub(super) struct CallStored;
+
+impl Play<(), SeatView> for CallStored {
+    ghost then = { call_stored };
+}
+
+/// A compare-exchange.
+pub(super) struct Exchanged;
+
+impl Play<(), SeatView> for Exchanged {
+    ghost then = { exchanged };
+}
+
+/// A swap.
+pub(super) struct Swapped;
+
+impl Play<(), SeatView> for Swapped {
+    ghost then = { swapped };
+}
