@@ -1,6 +1,8 @@
 -- The headline, of calls.
-use Rattle.std.proofs.Common.{◌≡◌, ◌≢◌, ℕ, ◌%◌, ◌==◌, Bool, true, false, cond, List, [], ◌∷◌, ◌++◌, IsPermutation, sym, subst, refl, ap, ◌∙◌, append_assoc, arith}
-use Rattle.std.proofs.lemmas.List.Sorted.{IsPermutation-refl, IsPermutation-sym, IsPermutation-cons, IsPermutation-trans, IsPermutation-append, IsPermutation-middle}
+use Rattle.std.proofs.Common.{◌≡◌, ◌≢◌, ℕ, ◌%◌, ◌==◌, Bool, true, false, cond, List, [], ◌∷◌, ◌++◌, IsPermutation}
+use Rattle.std.proofs.Common.{sym, subst, refl, ap, ◌∙◌, append_assoc, arith}
+use Rattle.std.proofs.lemmas.List.Sorted.{IsPermutation-refl, IsPermutation-sym, IsPermutation-cons, IsPermutation-trans}
+use Rattle.std.proofs.lemmas.List.Sorted.{IsPermutation-append, IsPermutation-middle}
 use Rattle.smp_words.specs.Size.{owner}
 use Rattle.smp_call_steps.specs.{CallState, ControlValue, Call, Class, Sync, Async, Word, RecPlace, IsThere, FlagsShow, flags_in, batches, orders}
 use Rattle.smp_call_steps.specs.{calls_from, calls_to, if_sync, if_async, sync_calls, async_calls, order, of_class, IsPrefix, running_call, history_of}
@@ -133,7 +135,8 @@ module _ {a : CallState} {at : Word → ℕ} {control : ℕ → ControlValue} (s
       }
 
   -- of each source and class, the calls that have begun on a CPU are the first of those that the source has sent to it
-  pub run_as_sent : (source cpu : ℕ) (class : Class) → IsPrefix (of_class class (calls_from source (begun a cpu))) (of_class class (calls_to cpu (a.sent source)))
+  pub run_as_sent : (source cpu : ℕ) (class : Class)
+      → IsPrefix (of_class class (calls_from source (begun a cpu))) (of_class class (calls_to cpu (a.sent source)))
   run_as_sent source cpu class =
       let p = begins cpu class in (
         calls_from source p.0,

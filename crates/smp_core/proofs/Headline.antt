@@ -18,4 +18,5 @@ ok_then (Err e) P Q f k = tt
 -- the laws of the stops that a replay tells
 pub laws_after : (first core : CoreValue) (events : List Event) (seen : List Seen) → StopShown (stops_after first events seen) core.stops
     → KeepsStopLaws (setup_in core) (stops_after first events seen) (stop_number core.stops.table)
-laws_after first core events seen shown = keeps_laws (setup_in core) (stops_after first events seen) (stop_number core.stops.table) shown.seat shown.source shown.shows
+laws_after first core events seen shown =
+    keeps_laws (setup_in core) (stops_after first events seen) (stop_number core.stops.table) shown.seat shown.source shown.shows

@@ -58,7 +58,8 @@ user_refused online u dst old new h h' (error.BadMask n) few free other (inr (_,
 user_refused online u dst old new h h' (error.StreamFailed n) few free other (inr (_, r, same)) = absurd r
 user_refused online u dst old new h h' (error.KeyRange n) few free other (inr (_, r, same)) = absurd r
 
-pub any_answered : {H : Type 0} (mask online this : ℕ) (old new : MachineCpuValue) (h h' : H) (Q R : Type 0) (made : Result ℕ SmpError) → old.stops.inside ≡ None
+pub any_answered : {H : Type 0} (mask online this : ℕ) (old new : MachineCpuValue) (h h' : H) (Q R : Type 0) (made : Result ℕ SmpError)
+    → old.stops.inside ≡ None
     → IfOk made (λ cpu. IsAny mask online this cpu)
     → IfErr made (λ e. RefusedInHand e old h new h' ⊎ ((old.stops.inside ≡ None) × (e ≡ error.NoCpu) × HasNone mask online this × Q × R))
     → IsAnyAnswer mask online this (answer_of Cpu made)

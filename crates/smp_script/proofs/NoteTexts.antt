@@ -72,7 +72,8 @@ note_read (notes.Call s f i) fits =
     ∙ ap (λ n. notes.Call n (value_after 0 (decimal f)) (value_after 0 (decimal i))) (value_of_decimal s (omega (arith, fits.0)))
     ∙ ap (λ n. notes.Call s n (value_after 0 (decimal i))) (value_of_decimal f (omega (arith, fits.1)))
     ∙ ap (λ n. notes.Call s f n) (value_of_decimal i (omega (arith, fits.2)))
-note_read (notes.Handled n) fits = ap (λ ps. of_parts (codes "handled" ∷ ps)) (last n (omega (arith, fits))) ∙ ap notes.Handled (value_of_decimal n (omega (arith, fits)))
+note_read (notes.Handled n) fits =
+    ap (λ ps. of_parts (codes "handled" ∷ ps)) (last n (omega (arith, fits))) ∙ ap notes.Handled (value_of_decimal n (omega (arith, fits)))
 note_read notes.Gate fits = refl
 note_read notes.Taken fits = refl
 note_read notes.Open fits = refl
@@ -80,7 +81,8 @@ note_read notes.Begun fits = refl
 note_read notes.Stale fits = refl
 note_read notes.Entered fits = refl
 note_read notes.Same fits = refl
-note_read (notes.Moved n) fits = ap (λ ps. of_parts (codes "moved" ∷ ps)) (last n (omega (arith, fits))) ∙ ap notes.Moved (value_of_decimal n (omega (arith, fits)))
+note_read (notes.Moved n) fits =
+    ap (λ ps. of_parts (codes "moved" ∷ ps)) (last n (omega (arith, fits))) ∙ ap notes.Moved (value_of_decimal n (omega (arith, fits)))
 note_read (notes.Run f i) fits =
     ap (λ ps. of_parts (codes "run" ∷ ps)) (pair f i (omega (arith, fits.0)) (omega (arith, fits.1)))
     ∙ ap (λ n. notes.Run n (value_after 0 (decimal i))) (value_of_decimal f (omega (arith, fits.0)))

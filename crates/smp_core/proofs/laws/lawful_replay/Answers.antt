@@ -28,7 +28,8 @@ returns-clause-run g c =
 pub returns-clause-place : goal.returns-clause-place
 returns-clause-place g c =
     ok_then c.replay.result (λ r. (a : CallState) → Shown a c.in_ok-core.core → Shown (tells_all a r.seen.items) r.core)
-    (λ r. InOnePlace (calls_after r.seen.items) (number_in r.core.words)) (λ r told. in_one_place (told no_calls c.in_ok-core.ensures.empty)) c.replay.ensures.told
+    (λ r. InOnePlace (calls_after r.seen.items) (number_in r.core.words))
+    (λ r told. in_one_place (told no_calls c.in_ok-core.ensures.empty)) c.replay.ensures.told
 
 pub returns-clause-once : goal.returns-clause-once
 returns-clause-once g c =
