@@ -3,7 +3,7 @@ use Rattle.std.proofs.Common.{◌≡◌, ◌≢◌, ◌⊎◌, ℕ, zero, suc, �
 use Rattle.std.proofs.Common.{ap, ◌∙◌, subst, inl, inr, ⊎_elim, append_assoc, arith}
 use Rattle.std.proofs.lemmas.Bool.{cases_eq, ne_eqb, eq-eqb}
 use Rattle.std.proofs.lemmas.List.{append-nil}
-use mathlib.Core.Option.{some, some-injective, some-ne-none}
+use mathlib.Core.Option.{Option, some, some-injective, some-ne-none}
 use lib.ListN.{get_elem?}
 use Rattle.crossbeam_queue.specs.Fifo.{Pushes, Pops, Forks}
 use Rattle.crossbeam_queue.proofs.Lists.{at_set, set_else, at_longer, at_last}
@@ -103,7 +103,8 @@ module _ (note : Noted) (port s : ℕ) (l : List Item) (notes : List Noted) (x :
       → (k : List Noted) × (get_elem? put_views (h.port t) ≡ some (Puts t (items_by t (h.taken ++ (items ++ x ∷ []))) k))
   put_by mine t below (inl e) =
       let there : get_elem? put_views port ≡ some puts_now = set_there views port (Puts s l notes) puts_now at in
-      let more : l ++ x ∷ [] ≡ items_by s (h.taken ++ (items ++ x ∷ [])) = ap (λ (k : List Item). k ++ x ∷ []) mine.2 ∙ sym (put_mine s h.taken items x own) in (
+      let more : l ++ x ∷ [] ≡ items_by s (h.taken ++ (items ++ x ∷ [])) =
+      ap (λ (k : List Item). k ++ x ∷ []) mine.2 ∙ sym (put_mine s h.taken items x own) in (
         notes ++ note ∷ [],
         subst (λ (n : ℕ). get_elem? put_views (h.port n) ≡ some (Puts n (items_by n (h.taken ++ (items ++ x ∷ []))) (notes ++ note ∷ []))) (sym e)
             (ap (λ (n : ℕ). get_elem? put_views n) (sym mine.0) ∙ (there ∙ ap (λ (k : List Item). some (Puts s k (notes ++ note ∷ []))) more)),
@@ -206,12 +207,17 @@ ported_else port n p s other = rw (ne_eqb s n other) refl
 seated : (taker : ℕ) (port : ℕ → ℕ) (n p : ℕ) (taken items : List Item) (q : ℕ) (u : Knows) → q ≢ taker → IsAtPort taker port n taken items q u
     → IsAtPort taker (ported port n p) (n + 1) taken items q u
 seated taker port n p taken items q (Takes m l) other f = absurd (other f.0)
-seated taker port n p taken items q (Puts t l notes) other f = let small : t < n = f.1 in (f.0 ∙ sym (ported_else port n p t (λ e. omega arith)), omega arith, f.2)
+seated taker port n p taken items q (Puts t l notes) other f =
+    let small : t < n = f.1 in (f.0 ∙ sym (ported_else port n p t (λ e. omega arith)), omega arith, f.2)
 
 -- the taker gives the next source its pass
-module _ (port n : ℕ) (l : List Item) (items : List Item) (views : List Knows) (h : IsInOrder items views) (at : get_elem? views port ≡ some (Takes n l)) where
+module _ (port n : ℕ) (l : List Item) (items : List Item) (views : List Knows) (h : IsInOrder items views)
+    (at : get_elem? views port ≡ some (Takes n l)) where
   abbrev given_views : List Knows
   given_views = set views port (Takes (n + 1) l)
+
+  abbrev given_at : ℕ → Option Knows
+  given_at m = get_elem? (given_views ++ Puts n [] [] ∷ []) (ported h.port n (length given_views) m)
 
   put_before : n ≡ h.next → (t : ℕ) → t < n + 1 → (t ≡ n) ⊎ (t ≢ n)
       → (k : List Noted)
@@ -219,7 +225,7 @@ module _ (port n : ℕ) (l : List Item) (items : List Item) (views : List Knows)
   put_before same t below (inl e) =
       let none : items_by n (h.taken ++ items) ≡ [] = h.fresh n (omega arith) in (
         [],
-        subst (λ (m : ℕ). get_elem? (given_views ++ Puts n [] [] ∷ []) (ported h.port n (length given_views) m) ≡ some (Puts m (items_by m (h.taken ++ items)) []))
+        subst (λ (m : ℕ). given_at m ≡ some (Puts m (items_by m (h.taken ++ items)) []))
             (sym e)
             (ap (λ (m : ℕ). get_elem? (given_views ++ Puts n [] [] ∷ []) m) (ported_mine h.port n (length given_views))
             ∙ (at_last given_views (Puts n [] []) (length given_views) refl ∙ ap (λ (k : List Item). some (Puts n k [])) (sym none))),

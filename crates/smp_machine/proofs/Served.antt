@@ -323,20 +323,11 @@ stop_limits m is = subst (λ (n : ℕ). AreLimits n m.stops.setting.online) (sym
 
 -- ---- the front of the own queue, entered or dropped
 
-module _ (m : MachineValue) (calls : CallCpuValue) (old new : StopCpuValue) (before after : PassesValue) (x : Item) (took : after ≡ takes x before)
-    (shown : TakenIsShown after) where
-  pub next_entered : (kind : Kind) → Enters m.stops x.slot old new kind
-      → TakesNext m (record { calls = calls; stops = old; passes = before }) (record { calls = calls; stops = new; passes = after }) (Some x.slot)
-  next_entered kind e = record { calls_are = refl; front = Some x; passes_are = (took, shown); stops_are = (refl, (kind, e)) }
-
-  pub next_stale : IsMachine m → old.setting ≡ m.stops.setting → old.inside ≡ None → RefusesEntry m.stops x.slot old new
-      → TakesNext m (record { calls = calls; stops = old; passes = before }) (record { calls = calls; stops = new; passes = after }) None
-  next_stale is setting outside stale = record {
-    calls_are = refl;
-    front = Some x;
-    passes_are = (took, shown);
-    stops_are = drops m.stops x.slot old new (stop_limits m is) setting outside stale;
-  }
+pub next_front : (m : MachineValue) (calls : CallCpuValue) (old new : StopCpuValue) (before after : PassesValue) (x : Item) (slot : Option ℕ)
+    → after ≡ takes x before → TakenIsShown after → EntersFront m.stops old new (Some x) slot
+    → TakesNext m (record { calls = calls; stops = old; passes = before }) (record { calls = calls; stops = new; passes = after }) slot
+next_front m calls old new before after x slot took shown front =
+    record { calls_are = refl; front = Some x; passes_are = (took, shown); stops_are = front }
 
 -- it is still between two turns, with its number
 pub entered_still : (t : StopTableValue) (slot : ℕ) (old new : StopCpuValue) (r : Result Kind SmpError) → IfOk r (λ kind. Enters t slot old new kind)

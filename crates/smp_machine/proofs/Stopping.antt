@@ -118,7 +118,8 @@ module _ {H F : Type 0} (hears : H → Heard → H → Type 0) (runs : F → Cal
       → Works hears runs p h f new h f (with_put x (cpu ∷ []) (own_of p))
   works_put p new h f cpu x e =
       subst (λ (y : MachineCpuValue). Works hears runs p h f y h f (with_put x (cpu ∷ []) (own_of p))) (sym e)
-      (works_still hears runs p (record p { passes = puts cpu x (note_of p.stops p.passes) p.passes }) h f refl (later_same p.stops) refl refl refl refl refl refl refl
+      (works_still hears runs p (record p { passes = puts cpu x (note_of p.stops p.passes) p.passes }) h f refl (later_same p.stops) refl refl refl refl refl
+      refl refl
       (own_still p.stops p.stops refl refl refl refl (λ _ e _. e) refl))
 
   -- after a stretch in which the CPU has made none

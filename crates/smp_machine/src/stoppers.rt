@@ -111,6 +111,15 @@ impl<A: Allocator> Stoppers<A> {
         push::<Brand, A, R>(self, rt, me, stops, cpu, item)
     }
 
+    /// Whether the own queue has nothing, by loads alone. It does not wait.
+    #[inline(always)]
+    pub(crate) fn is_empty(&self, me: &mut Passes<A>) -> bool
+        requires queues { me.old.queues ≡ self.now }
+        ensures { me.new ≡ me.old }
+    {
+        self.queues[me.number as usize].is_empty_as::<Take>(&mut me.own)
+    }
+
     /// Takes the front of the own queue, at the compare-exchange of its head; an empty queue is only looked at. It may
     /// wait while another CPU is between two steps of a put into this queue.
     pub(crate) fn take<R: Wait>(&self, rt: &R, me: &mut Passes<A>) -> Option<Item>

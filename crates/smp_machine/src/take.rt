@@ -1,19 +1,38 @@
 //! A CPU takes the front of its own queue.
 
-ghost use Rattle.std.specs.Prelude.{◌≡◌, None};
-ghost use Rattle.smp_machine.specs.MachineCpu.{IsAt};
-ghost use Rattle.smp_machine.specs.Takes.{TakesNext, TakesWork};
+ghost use Rattle.std.specs.Prelude.{◌≡◌, Some, None};
+ghost use Rattle.smp_words.specs.Limits.{AreLimits};
+ghost use Rattle.smp_multi.specs.Cpu.{IsAt as IsAtStops};
+ghost use Rattle.smp_machine.specs.MachineCpu.{IsAt, HasNotLeft};
+ghost use Rattle.smp_machine.specs.Takes.{EntersFront, TakesNext, TakesWork};
 
 use crate::cpu::Cpu;
 use crate::machine::Machine;
 use crate::machine_cpu::MachineCpu;
+use crate::work_queue::Item;
+use smp_multi::{StopCpu, StopTable};
 use std::alloc::Allocator;
 use std::sync::Wait;
 
-/// Takes the front of the own queue and enters its stop: the slot of that. None where the queue was empty, and where the
-/// stop calls this CPU no more: that work is dropped. It may wait while another CPU is between two steps of a put into
-/// this queue.
-pub(crate) fn take_next<A: Allocator, R: Wait>(
+/// Enters the stop of a work that was taken: its slot. None where the stop calls this CPU no more.
+#[inline(never)]
+fn enter_front<A: Allocator>(table: &StopTable<A>, me: &mut StopCpu, item: Item) -> Option<u32>
+    requires at { IsAtStops table.now me.old }
+    requires limits { AreLimits table.now.nr table.now.setting.online }
+    requires outside { me.old.inside ≡ None }
+    ensures stops { EntersFront table.now me.old me.new (Some item) result }
+    ensures number { me.new.number ≡ me.old.number }
+    ensures not_left { HasNotLeft me.new.inside }
+{
+    match table.enter(me, item.slot) {
+        Ok(_) => Some(item.slot),
+        Err(_) => None,
+    }
+}
+
+/// Takes the front of the own queue and enters its stop.
+#[inline(never)]
+fn take_front<A: Allocator, R: Wait>(
     machine: &Machine<A>,
     rt: &R,
     me: &mut MachineCpu<A>,
@@ -25,13 +44,30 @@ pub(crate) fn take_next<A: Allocator, R: Wait>(
     let item = machine.queues.take(rt, &mut me.passes)?;
     machine.stalls.answers(me.calls.number());
     me.source = item.slot;
-    match machine.stops.enter(&mut me.stops, item.slot) {
-        Ok(_) => Some(item.slot),
-        Err(_) => None,
+    enter_front(&machine.stops, &mut me.stops, item)
+}
+
+/// Takes the front of the own queue and enters its stop: the slot of that. None where the queue was empty, and where the
+/// stop calls this CPU no more: that work is dropped. It may wait while another CPU is between two steps of a put into
+/// this queue.
+#[inline(always)]
+pub(crate) fn take_next<A: Allocator, R: Wait>(
+    machine: &Machine<A>,
+    rt: &R,
+    me: &mut MachineCpu<A>,
+) -> Option<u32>
+    requires at { IsAt machine.now me.old }
+    requires outside { me.old.stops.inside ≡ None }
+    ensures { TakesNext machine.now me.old me.new result }
+{
+    if machine.queues.is_empty(&mut me.passes) {
+        return None;
     }
+    take_front(machine, rt, me)
 }
 
 /// Takes the next work unless one is in hand. Returns whether one is in hand afterwards.
+#[inline(always)]
 pub(crate) fn take_work<A: Allocator, R: Wait>(
     machine: &Machine<A>,
     rt: &R,

@@ -48,6 +48,7 @@ fn go_round<A: Allocator, F: StopFunc>(table: &StopTable<A>, me: &mut StopCpu, r
 }
 
 /// One turn of the stop that the CPU is in: a stop of one CPU runs and is completed.
+#[inline(never)]
 fn go_on<A: Allocator, F: StopFunc>(table: &StopTable<A>, me: &mut StopCpu, run: &mut F) -> Turn
     requires at { IsAtStops table.now me.old }
     requires inside { me.old.inside ≢ None }
@@ -62,6 +63,7 @@ fn go_on<A: Allocator, F: StopFunc>(table: &StopTable<A>, me: &mut StopCpu, run:
 }
 
 /// One turn of the work in hand, if any.
+#[inline(always)]
 pub(crate) fn step<A: Allocator, F: StopFunc>(
     machine: &Machine<A>,
     me: &mut MachineCpu<A>,

@@ -1,11 +1,11 @@
 -- A CPU that comes to call the function of its stop, and answers.
-use Rattle.std.proofs.Common.{◌≡◌, ◌≢◌, ℕ, ℤ, Ok, ◌+◌, ◌==◌, ◌&&◌, ◌||◌, nat_lt, Bool, true, false, cond, Some, None, List, [], ◌∷◌, ◌++◌}
+use Rattle.std.proofs.Common.{◌≡◌, ◌≢◌, ℕ, ℤ, Ok, ◌+◌, ◌&&◌, Bool, true, false, cond, Some, None, [], ◌∷◌, ◌++◌}
 use Rattle.std.proofs.Common.{sym, subst, refl, ap, ◌∙◌, arith}
 use Rattle.atomic_table.specs.Seated.{TableId}
 use Rattle.smp_mask.specs.Mask.{has}
 use Rattle.smp_stop_steps.specs.Callings.{with_answer}
 use Rattle.smp_stop_steps.specs.Known.{carrying, stepped}
-use Rattle.smp_stop_steps.specs.KnownAfter.{completed_with, is_drafting, looked_known, looked_to}
+use Rattle.smp_stop_steps.specs.KnownAfter.{completed_with, looked_known, looked_to}
 use Rattle.smp_stop_steps.specs.Seats.{irq_of}
 use Rattle.smp_stop_steps.specs.Sits.{OwnsIf, IsLoaded}
 use Rattle.smp_stop_steps.specs.Stages.{visit_acked}
@@ -22,7 +22,7 @@ use Rattle.smp_multi.specs.Cells.{cells}
 use Rattle.smp_multi.specs.Cpu.{AnsweringValue, CpuValue, CallsNone, Inside, IsKept, call_with, calls_with, part_with, cpu_of, inside_of, makes, runs}
 use Rattle.smp_multi.specs.Lives.{Lives}
 use Rattle.smp_multi.specs.Places.{work_in}
-use Rattle.smp_multi.specs.Rounds.{AloneWhile, AtRun, AtTurn, passed_by}
+use Rattle.smp_multi.specs.Rounds.{AtRun, AtTurn, passed_by}
 use Rattle.smp_multi.specs.Running.{AtOne, IsItsCall, answered_now, called, called_by, calls_now}
 use Rattle.smp_multi.specs.Seat.{SeatValue}
 use Rattle.smp_multi.specs.StepCounts.{completing}

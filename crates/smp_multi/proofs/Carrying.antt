@@ -1,8 +1,7 @@
--- The answer that a CPU carries: no step asks for it or changes it.
-use Rattle.std.proofs.Common.{◌≡◌, ℕ, not, Bool, true, false, cond, Option, Some, None, [], refl, ap}
+-- The answer that a CPU carries: no step asks for it, and none changes it but those that take one.
+use Rattle.std.proofs.Common.{◌≡◌, ℕ, not, Bool, true, false, cond, Option, Some, None, [], refl}
 use Rattle.smp_mask.specs.Mask.{has}
-use Rattle.smp_stop_steps.specs.Known.{Sees, attempting, carrying, setup_in, stepped}
-use Rattle.smp_multi.specs.Lives.{Lives, Moment}
+use Rattle.smp_stop_steps.specs.Known.{Sees, carrying, setup_in, stepped}
 use Rattle.smp_stop_steps.specs.KnownAfter.{acked_by, called_by, completed_by, drafted_known, is_drafting, is_patching, key_loaded_by}
 use Rattle.smp_stop_steps.specs.KnownAfter.{known_entering, known_told, key_read_known, member_stored, opened_by, raised_by, slot_stored}
 use Rattle.smp_stop_steps.specs.Moves.{Can, MayStep, Move, known_access, TakeGate, OpenGate, Draft, DraftMore, Open, Enter, Look, Acknowledge, AcknowledgePatch}
@@ -18,7 +17,7 @@ use Rattle.smp_multi.specs.Names.field
 
 -- a CPU may make the same steps, whatever it carries
 module _ (x : ℕ) (v : Known) where
-  can_by : (a : Access) (m : Move) → MayStep (carrying x v) m → known_access (carrying x v) m ≡ a → Can v a
+  can_by : (a : Access) (m : Move) → MayStep v m → known_access v m ≡ a → Can (carrying x v) a
   can_by a TakeGate h e = record { move = TakeGate; may = h; is_access = e }
   can_by a OpenGate h e = record { move = OpenGate; may = h; is_access = e }
   can_by a (Draft w) h e = record { move = Draft w; may = h; is_access = e }
@@ -45,211 +44,176 @@ module _ (x : ℕ) (v : Known) where
   can_by a (LoadField s w b l f) h e = record { move = LoadField s w b l f; may = h; is_access = e }
   can_by a (LoadEntry s w n made rest i) h e = record { move = LoadEntry s w n made rest i; may = h; is_access = e }
 
-  pub can_bare : (a : Access) → Can (carrying x v) a → Can v a
-  can_bare a c = can_by a c.move c.may c.is_access
+  pub can_with : (a : Access) → Can v a → Can (carrying x v) a
+  can_with a c = can_by a c.move c.may c.is_access
 
   pub sees_with : (p : StopState) (seat : ℕ → Seat) (source : ℕ → Source) → Sees p seat source v → Sees p seat source (carrying x v)
   sees_with p seat source s =
       record { below = s.below; seat_is = s.seat_is; source_is = s.source_is; is_begun = s.is_begun; part_is = s.part_is }
 
-  pub lives_with : Lives v → Lives (carrying x v)
-  lives_with l =
-      record {
-        stops = l.stops;
-        at = l.at;
-        seat = l.seat;
-        source = l.source;
-        shown = l.shown;
-        sees = sees_with l.stops l.seat l.source l.sees;
-        within = l.within;
-        online = l.online;
-      }
+-- no step changes it, but those that take one
+keeps_cond : (b : Bool) (u v w : Known) → v.carried ≡ u.carried → w.carried ≡ u.carried → (cond b v w).carried ≡ u.carried
+keeps_cond true u v w e f = e
+keeps_cond false u v w e f = f
 
-  abbrev pub moment_with : (w : Word) (n : ℕ) → Moment v w n → Moment (carrying x v) w n
-  moment_with w n m = record {
-    stops = m.stops;
-    at = m.at;
-    seat = m.seat;
-    source = m.source;
-    shown = m.shown;
-    sees = sees_with m.stops m.seat m.source m.sees;
-    within = m.within;
-    online = m.online;
-    number_is = m.number_is;
-  }
+called_keeps : (n : ℕ) (y : Seat) (v : Known) → (called_by n y v).carried ≡ v.carried
+called_keeps n Free v = refl
+called_keeps n (In s w a l t) v = keeps_cond (may_call v.number w (Inside a l)) v
+    (record v { part = record (v.part) { calling = Calls (record { func = w.func; arg = n; answer = 0 }) } }) v refl refl
+called_keeps n (Gives s w a z) v = refl
+called_keeps n (Alters s w count made rest) v = refl
+called_keeps n (Closes s) v = refl
 
--- each step tells the same of all else
-module _ (x : ℕ) where
-  with_cond : (b : Bool) (v w : Known) → carrying x (cond b v w) ≡ cond b (carrying x v) (carrying x w)
-  with_cond true v w = refl
-  with_cond false v w = refl
+key_keeps : (k n : ℕ) (y : Seat) (v : Known) → (key_loaded_by k n y v).carried ≡ v.carried
+key_keeps k n Free v = refl
+key_keeps k n (In s w a l t) v = keeps_cond (is_patching a l w) v
+    (record v { seat = Alters s w n [] (plan_at (setup_in v.setting) w n) }) (key_read_known k n v) refl refl
+key_keeps k n (Gives s w a z) v = refl
+key_keeps k n (Alters s w count made rest) v = refl
+key_keeps k n (Closes s) v = refl
 
-  called_with : (n : ℕ) (y : Seat) (v : Known) → carrying x (called_by n y v) ≡ called_by n y (carrying x v)
-  called_with n Free v = refl
-  called_with n (In s w a l t) v = with_cond (may_call v.number w (Inside a l))
-      (record v { part = record (v.part) { calling = Calls (record { func = w.func; arg = n; answer = 0 }) } }) v
-  called_with n (Gives s w a z) v = refl
-  called_with n (Alters s w count made rest) v = refl
-  called_with n (Closes s) v = refl
+pub load_keeps : (v : Known) (w : Word) (n : ℕ)
+    → (known_told v act.Load w (Some n) None).carried ≡ v.carried
+load_keeps v (Slot s field.Kind) n = refl
+load_keeps v (Slot s field.Mask) n = refl
+load_keeps v (Slot s field.Active) n = refl
+load_keeps v (Slot s field.Func) n = refl
+load_keeps v (Slot s field.Arg) n = called_keeps n v.seat v
+load_keeps v (Slot s field.State) n = refl
+load_keeps v (Slot s field.Ack) n = refl
+load_keeps v (Slot s field.Roll) n = refl
+load_keeps v (Slot s field.Todo) n = refl
+load_keeps v (Slot s field.Result) n = refl
+load_keeps v (Slot s field.Done) n = refl
+load_keeps v Gate n = refl
+load_keeps v (Key k) n = key_keeps k n v.seat v
+load_keeps v (Entry i) n = refl
+load_keeps v (Site i) n = refl
+load_keeps v _ n = refl
 
-  key_with : (k n : ℕ) (y : Seat) (v : Known) → carrying x (key_loaded_by k n y v) ≡ key_loaded_by k n y (carrying x v)
-  key_with k n Free v = refl
-  key_with k n (In s w a l t) v = with_cond (is_patching a l w)
-      (record v { seat = Alters s w n [] (plan_at (setup_in v.setting) w n) }) (key_read_known k n v)
-  key_with k n (Gives s w a z) v = refl
-  key_with k n (Alters s w count made rest) v = refl
-  key_with k n (Closes s) v = refl
+raised_keeps : (n : ℕ) (y : Seat) (v : Known) → (raised_by n y v).carried ≡ v.carried
+raised_keeps n Free v = refl
+raised_keeps n (In s w a l t) v = refl
+raised_keeps n (Gives s w a z) v = refl
+raised_keeps n (Alters s w count made rest) v = refl
+raised_keeps n (Closes s) v = refl
 
-  pub load_with : (v : Known) (w : Word) (n : ℕ)
-      → carrying x (known_told v act.Load w (Some n) None) ≡ known_told (carrying x v) act.Load w (Some n) None
-  load_with v (Slot s field.Kind) n = refl
-  load_with v (Slot s field.Mask) n = refl
-  load_with v (Slot s field.Active) n = refl
-  load_with v (Slot s field.Func) n = refl
-  load_with v (Slot s field.Arg) n = ap (stepped 1) (called_with n v.seat v)
-  load_with v (Slot s field.State) n = refl
-  load_with v (Slot s field.Ack) n = refl
-  load_with v (Slot s field.Roll) n = refl
-  load_with v (Slot s field.Todo) n = refl
-  load_with v (Slot s field.Result) n = refl
-  load_with v (Slot s field.Done) n = refl
-  load_with v Gate n = refl
-  load_with v (Key k) n = ap (stepped 1) (key_with k n v.seat v)
-  load_with v (Entry i) n = refl
-  load_with v (Site i) n = refl
-  load_with v _ n = refl
+opened_keeps : (y : Source) (v : Known) → (opened_by y v).carried ≡ v.carried
+opened_keeps Shut v = refl
+opened_keeps (Drafts w k) v = refl
+opened_keeps (Owns w) v = refl
+opened_keeps (Collects w) v = refl
 
-  raised_with : (n : ℕ) (y : Seat) (v : Known) → carrying x (raised_by n y v) ≡ raised_by n y (carrying x v)
-  raised_with n Free v = refl
-  raised_with n (In s w a l t) v = refl
-  raised_with n (Gives s w a z) v = refl
-  raised_with n (Alters s w count made rest) v = refl
-  raised_with n (Closes s) v = refl
+member_keeps : (f : Field) (n : ℕ) (v : Known) → (member_stored f n v).carried ≡ v.carried
+member_keeps field.Kind n v = refl
+member_keeps field.Mask n v = refl
+member_keeps field.Active n v = refl
+member_keeps field.Func n v = refl
+member_keeps field.Arg n v = refl
+member_keeps field.State n v = raised_keeps n v.seat v
+member_keeps field.Ack n v = refl
+member_keeps field.Roll n v = refl
+member_keeps field.Todo n v = refl
+member_keeps field.Result n v = refl
+member_keeps field.Done n v = refl
 
-  opened_with : (y : Source) (v : Known) → carrying x (opened_by y v) ≡ opened_by y (carrying x v)
-  opened_with Shut v = refl
-  opened_with (Drafts w k) v = refl
-  opened_with (Owns w) v = refl
-  opened_with (Collects w) v = refl
+either_keeps : (f : Field) (n : ℕ) (v : Known)
+    → (cond (is_drafting v.source) (drafted_known f n v) (member_stored f n v)).carried ≡ v.carried
+either_keeps f n v = keeps_cond (is_drafting v.source) v (drafted_known f n v) (member_stored f n v) refl (member_keeps f n v)
 
-  member_with : (f : Field) (n : ℕ) (v : Known) → carrying x (member_stored f n v) ≡ member_stored f n (carrying x v)
-  member_with field.Kind n v = refl
-  member_with field.Mask n v = refl
-  member_with field.Active n v = refl
-  member_with field.Func n v = refl
-  member_with field.Arg n v = refl
-  member_with field.State n v = raised_with n v.seat v
-  member_with field.Ack n v = refl
-  member_with field.Roll n v = refl
-  member_with field.Todo n v = refl
-  member_with field.Result n v = refl
-  member_with field.Done n v = refl
+-- a store that is due where the CPU drafts nothing, and else is counted
+due_keeps : (v z : Known) → z.carried ≡ v.carried → (cond (not (is_drafting v.source)) z (stepped 1 z)).carried ≡ v.carried
+due_keeps v z e = keeps_cond (not (is_drafting v.source)) v z (stepped 1 z) e e
 
-  either_with : (f : Field) (n : ℕ) (v : Known) → carrying x (cond (is_drafting v.source) (drafted_known f n v) (member_stored f n v))
-      ≡ cond (is_drafting v.source) (drafted_known f n (carrying x v)) (member_stored f n (carrying x v))
-  either_with f n v = elim (is_drafting v.source) as (λ b. carrying x (cond b (drafted_known f n v) (member_stored f n v))
-      ≡ cond b (drafted_known f n (carrying x v)) (member_stored f n (carrying x v))) [
-        | true ↦ refl
-        | false ↦ member_with f n v
-      ]
+pub store_keeps : (v : Known) (w : Word) (n : ℕ)
+    → (known_told v act.Store w None (Some n)).carried ≡ v.carried
+store_keeps v (Slot s field.Kind) n = refl
+store_keeps v (Slot s field.Mask) n = either_keeps field.Mask n v
+store_keeps v (Slot s field.Active) n = either_keeps field.Active n v
+store_keeps v (Slot s field.Func) n = either_keeps field.Func n v
+store_keeps v (Slot s field.Arg) n = either_keeps field.Arg n v
+store_keeps v (Slot s field.State) n = due_keeps v (slot_stored field.State n v) (either_keeps field.State n v)
+store_keeps v (Slot s field.Ack) n = due_keeps v (slot_stored field.Ack n v) (either_keeps field.Ack n v)
+store_keeps v (Slot s field.Roll) n = opened_keeps v.source v
+store_keeps v (Slot s field.Todo) n = either_keeps field.Todo n v
+store_keeps v (Slot s field.Result) n = either_keeps field.Result n v
+store_keeps v (Slot s field.Done) n = due_keeps v (slot_stored field.Done n v) (either_keeps field.Done n v)
+store_keeps v Gate n = refl
+store_keeps v (Key k) n = refl
+store_keeps v (Entry i) n = refl
+store_keeps v (Site i) n = refl
+store_keeps v _ n = refl
 
-  -- a store that is due where the CPU drafts nothing, and else is counted
-  due_with : (v z : Known) (w : Known) → carrying x z ≡ w → carrying x (cond (not (is_drafting v.source)) z (stepped 1 z))
-      ≡ cond (not (is_drafting v.source)) w (stepped 1 w)
-  due_with v z w e = elim (is_drafting v.source) as (λ b. carrying x (cond (not b) z (stepped 1 z)) ≡ cond (not b) w (stepped 1 w)) [
-    | true ↦ ap (stepped 1) e
-    | false ↦ e
-  ]
+pub exchange_keeps : (v : Known) (w : Word) (n : ℕ) (o : Option ℕ)
+    → (known_told v act.Cas w (Some n) o).carried ≡ v.carried
+exchange_keeps v Gate n (Some m) = refl
+exchange_keeps v Gate n None = refl
+exchange_keeps v (Key k) n (Some m) = refl
+exchange_keeps v (Key k) n None = refl
+exchange_keeps v (Slot s field.Kind) n o = refl
+exchange_keeps v (Slot s field.Mask) n o = refl
+exchange_keeps v (Slot s field.Active) n o = refl
+exchange_keeps v (Slot s field.Func) n o = refl
+exchange_keeps v (Slot s field.Arg) n o = refl
+exchange_keeps v (Slot s field.State) n o = refl
+exchange_keeps v (Slot s field.Ack) n o = refl
+exchange_keeps v (Slot s field.Roll) n o = refl
+exchange_keeps v (Slot s field.Todo) n o = refl
+exchange_keeps v (Slot s field.Result) n o = refl
+exchange_keeps v (Slot s field.Done) n o = refl
+exchange_keeps v (Entry i) n o = refl
+exchange_keeps v (Site i) n o = refl
+exchange_keeps v _ n o = refl
 
-  pub store_with : (v : Known) (w : Word) (n : ℕ)
-      → carrying x (known_told v act.Store w None (Some n)) ≡ known_told (carrying x v) act.Store w None (Some n)
-  store_with v (Slot s field.Kind) n = refl
-  store_with v (Slot s field.Mask) n = ap (stepped 1) (either_with field.Mask n v)
-  store_with v (Slot s field.Active) n = ap (stepped 1) (either_with field.Active n v)
-  store_with v (Slot s field.Func) n = ap (stepped 1) (either_with field.Func n v)
-  store_with v (Slot s field.Arg) n = ap (stepped 1) (either_with field.Arg n v)
-  store_with v (Slot s field.State) n = due_with v (slot_stored field.State n v) (slot_stored field.State n (carrying x v)) (either_with field.State n v)
-  store_with v (Slot s field.Ack) n = due_with v (slot_stored field.Ack n v) (slot_stored field.Ack n (carrying x v)) (either_with field.Ack n v)
-  store_with v (Slot s field.Roll) n = ap (stepped 1) (opened_with v.source v)
-  store_with v (Slot s field.Todo) n = ap (stepped 1) (either_with field.Todo n v)
-  store_with v (Slot s field.Result) n = ap (stepped 1) (either_with field.Result n v)
-  store_with v (Slot s field.Done) n = due_with v (slot_stored field.Done n v) (slot_stored field.Done n (carrying x v)) (either_with field.Done n v)
-  store_with v Gate n = refl
-  store_with v (Key k) n = refl
-  store_with v (Entry i) n = refl
-  store_with v (Site i) n = refl
-  store_with v _ n = refl
+acked_keeps : (n : ℕ) (y : Seat) (v : Known) → (acked_by n y v).carried ≡ v.carried
+acked_keeps n Free v = refl
+acked_keeps n (In s w a l t) v = refl
+acked_keeps n (Gives s w a z) v = refl
+acked_keeps n (Alters s w count made rest) v = refl
+acked_keeps n (Closes s) v = refl
 
-  pub exchange_with : (v : Known) (w : Word) (n : ℕ) (o : Option ℕ)
-      → carrying x (known_told v act.Cas w (Some n) o) ≡ known_told (carrying x v) act.Cas w (Some n) o
-  exchange_with v Gate n (Some m) = refl
-  exchange_with v Gate n None = refl
-  exchange_with v (Key k) n (Some m) = refl
-  exchange_with v (Key k) n None = refl
-  exchange_with v (Slot s field.Kind) n o = refl
-  exchange_with v (Slot s field.Mask) n o = refl
-  exchange_with v (Slot s field.Active) n o = refl
-  exchange_with v (Slot s field.Func) n o = refl
-  exchange_with v (Slot s field.Arg) n o = refl
-  exchange_with v (Slot s field.State) n o = refl
-  exchange_with v (Slot s field.Ack) n o = refl
-  exchange_with v (Slot s field.Roll) n o = refl
-  exchange_with v (Slot s field.Todo) n o = refl
-  exchange_with v (Slot s field.Result) n o = refl
-  exchange_with v (Slot s field.Done) n o = refl
-  exchange_with v (Entry i) n o = refl
-  exchange_with v (Site i) n o = refl
-  exchange_with v _ n o = refl
+completed_keeps : (n : ℕ) (y : Seat) (v : Known) → (completed_by n y v).carried ≡ v.carried
+completed_keeps n Free v = refl
+completed_keeps n (In s w a l t) v = refl
+completed_keeps n (Gives s w a z) v = refl
+completed_keeps n (Alters s w count made rest) v = refl
+completed_keeps n (Closes s) v = refl
 
-  acked_with : (n : ℕ) (y : Seat) (v : Known) → carrying x (acked_by n y v) ≡ acked_by n y (carrying x v)
-  acked_with n Free v = refl
-  acked_with n (In s w a l t) v = refl
-  acked_with n (Gives s w a z) v = refl
-  acked_with n (Alters s w count made rest) v = refl
-  acked_with n (Closes s) v = refl
+pub sub_keeps : (v : Known) (w : Word) (n m : ℕ)
+    → (known_told v act.Sub w (Some n) (Some m)).carried ≡ v.carried
+sub_keeps v (Slot s field.Kind) n m = refl
+sub_keeps v (Slot s field.Mask) n m = refl
+sub_keeps v (Slot s field.Active) n m = refl
+sub_keeps v (Slot s field.Func) n m = refl
+sub_keeps v (Slot s field.Arg) n m = refl
+sub_keeps v (Slot s field.State) n m = refl
+sub_keeps v (Slot s field.Ack) n m = acked_keeps n v.seat v
+sub_keeps v (Slot s field.Roll) n m = refl
+sub_keeps v (Slot s field.Todo) n m = completed_keeps n v.seat v
+sub_keeps v (Slot s field.Result) n m = refl
+sub_keeps v (Slot s field.Done) n m = refl
+sub_keeps v Gate n m = refl
+sub_keeps v (Key k) n m = refl
+sub_keeps v (Entry i) n m = refl
+sub_keeps v (Site i) n m = refl
+sub_keeps v _ n m = refl
 
-  completed_on : (n : ℕ) (y : Seat) (v : Known) → carrying x (completed_by n y v) ≡ completed_by n y (carrying x v)
-  completed_on n Free v = refl
-  completed_on n (In s w a l t) v = refl
-  completed_on n (Gives s w a z) v = refl
-  completed_on n (Alters s w count made rest) v = refl
-  completed_on n (Closes s) v = refl
-
-  pub sub_with : (v : Known) (w : Word) (n m : ℕ)
-      → carrying x (known_told v act.Sub w (Some n) (Some m)) ≡ known_told (carrying x v) act.Sub w (Some n) (Some m)
-  sub_with v (Slot s field.Kind) n m = refl
-  sub_with v (Slot s field.Mask) n m = refl
-  sub_with v (Slot s field.Active) n m = refl
-  sub_with v (Slot s field.Func) n m = refl
-  sub_with v (Slot s field.Arg) n m = refl
-  sub_with v (Slot s field.State) n m = refl
-  sub_with v (Slot s field.Ack) n m = ap (stepped 1) (acked_with n v.seat v)
-  sub_with v (Slot s field.Roll) n m = refl
-  sub_with v (Slot s field.Todo) n m = ap (stepped 1) (completed_on n v.seat v)
-  sub_with v (Slot s field.Result) n m = refl
-  sub_with v (Slot s field.Done) n m = refl
-  sub_with v Gate n m = refl
-  sub_with v (Key k) n m = refl
-  sub_with v (Entry i) n m = refl
-  sub_with v (Site i) n m = refl
-  sub_with v _ n m = refl
-
-  pub and_with : (z : Work) (v : Known) (w : Word) (n m : ℕ)
-      → carrying x (known_entering z v act.And w (Some n) (Some m)) ≡ known_entering z (carrying x v) act.And w (Some n) (Some m)
-  and_with z v (Slot s field.Kind) n m = refl
-  and_with z v (Slot s field.Mask) n m = refl
-  and_with z v (Slot s field.Active) n m = refl
-  and_with z v (Slot s field.Func) n m = refl
-  and_with z v (Slot s field.Arg) n m = refl
-  and_with z v (Slot s field.State) n m = refl
-  and_with z v (Slot s field.Ack) n m = refl
-  and_with z v (Slot s field.Roll) n m =
-      ap (λ (k : Known). stepped 1 (attempting s (has n v.number) k)) (with_cond (has n v.number) (record v { seat = In s z 0 0 Rests }) v)
-  and_with z v (Slot s field.Todo) n m = refl
-  and_with z v (Slot s field.Result) n m = refl
-  and_with z v (Slot s field.Done) n m = refl
-  and_with z v Gate n m = refl
-  and_with z v (Key k) n m = refl
-  and_with z v (Entry i) n m = refl
-  and_with z v (Site i) n m = refl
-  and_with z v _ n m = refl
+pub and_keeps : (z : Work) (v : Known) (w : Word) (n m : ℕ)
+    → (known_entering z v act.And w (Some n) (Some m)).carried ≡ v.carried
+and_keeps z v (Slot s field.Kind) n m = refl
+and_keeps z v (Slot s field.Mask) n m = refl
+and_keeps z v (Slot s field.Active) n m = refl
+and_keeps z v (Slot s field.Func) n m = refl
+and_keeps z v (Slot s field.Arg) n m = refl
+and_keeps z v (Slot s field.State) n m = refl
+and_keeps z v (Slot s field.Ack) n m = refl
+and_keeps z v (Slot s field.Roll) n m =
+    keeps_cond (has n v.number) v (record v { seat = In s z 0 0 Rests }) v refl refl
+and_keeps z v (Slot s field.Todo) n m = refl
+and_keeps z v (Slot s field.Result) n m = refl
+and_keeps z v (Slot s field.Done) n m = refl
+and_keeps z v Gate n m = refl
+and_keeps z v (Key k) n m = refl
+and_keeps z v (Entry i) n m = refl
+and_keeps z v (Site i) n m = refl
+and_keeps z v _ n m = refl

@@ -1,16 +1,15 @@
 -- A CPU that completes a stop of several CPUs: where it is, and what that leaves of its value.
-use Rattle.std.proofs.Common.{◌≡◌, ◌≢◌, ℕ, Ok, ◌&&◌, ◌||◌, Bool, true, false, cond, Some, ◌∷◌, [], ◌++◌, slice_index_or, slice_set, inl, sym}
+use Rattle.std.proofs.Common.{◌≡◌, ◌≢◌, ℕ, Ok, ◌&&◌, ◌||◌, Bool, false, cond, Some, ◌∷◌, [], ◌++◌, slice_index_or, slice_set, inl, sym}
 use Rattle.std.proofs.Common.{subst, refl, ap, ◌∙◌, arith}
 use Rattle.atomic_table.specs.Seated.{TableId}
 use Rattle.smp_mask.specs.Mask.{has}
 use Rattle.smp_stop_steps.specs.Callings.{IsCalling, answer_in, with_answer}
 use Rattle.smp_stop_steps.specs.Known.{carrying, stepped, told_calling}
-use Rattle.smp_stop_steps.specs.KnownAfter.{completed_with, has_called, is_drafting}
-use Rattle.smp_stop_steps.specs.Sits.{OwnsIf}
+use Rattle.smp_stop_steps.specs.KnownAfter.{completed_with, has_called}
 use Rattle.smp_stop_steps.specs.Tells.{calls_at_run, is_multi, is_one}
 use Rattle.smp_stop_steps.specs.declared.phase.TheConstants.{EXIT}
 use Rattle.smp_stop_steps.specs.declared.stage.Visit.{Visit}
-use Rattle.smp_multi.specs.Names.{Work, Kind, One, Multi, Patch, Seat, In, Rests, Source, Calling, Idle, Calls, Carries}
+use Rattle.smp_multi.specs.Names.{Work, Kind, One, Multi, Patch, Seat, In, Rests, Calling, Idle, Calls, Carries}
 use Rattle.smp_multi.specs.Advance.{FinishAnswers, completes}
 use Rattle.smp_multi.specs.Cells.{cells}
 use Rattle.smp_multi.specs.Completes.{AtEnd}

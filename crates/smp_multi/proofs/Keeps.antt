@@ -11,7 +11,7 @@ use Rattle.smp_words.specs.Access.{word_of, at_after, seen_of, one_less, put_if}
 use Rattle.smp_words.specs.Put.{put, put_word}
 use Rattle.smp_words.specs.Size.{cpus}
 use Rattle.smp_words.proofs.Puts.{put_same, put_other}
-use Rattle.smp_stop_steps.specs.Known.{Sees, GoesOn, fresh, setup_in}
+use Rattle.smp_stop_steps.specs.Known.{Sees, GoesOn, carrying, fresh, setup_in}
 use Rattle.smp_multi.specs.Lives.{Lives, StaysWithin}
 use Rattle.smp_mask.specs.Mask.{has}
 use Rattle.smp_stop_steps.specs.AnswerWords.{IsI32Word, AreI32Words}
@@ -26,8 +26,10 @@ use Rattle.smp_multi.specs.Names.field
 use Rattle.smp_multi.specs.Names.act
 use Rattle.smp_multi.specs.Cells.{cells, cell_of, number_in}
 use Rattle.smp_multi.specs.Rule.{Ruled, SeatKnows, known, after, seat_made}
-use Rattle.smp_multi.specs.Plays.{AfterLoad, AfterStore, AfterExchange, AfterSubtract, AfterMask, loaded, stored, exchanged, subtracted, masked}
+use Rattle.smp_multi.specs.Plays.{AfterLoad, AfterStore, AfterExchange, AfterSubtract, AfterAnswer, AfterMask}
+use Rattle.smp_multi.specs.Plays.{loaded, stored, exchanged, subtracted, answered, masked}
 use Rattle.smp_multi.specs.Seat.{FitsWord, IsCpuSeat, IsNoResult}
+use Rattle.smp_multi.proofs.Carrying.{can_with, sees_with}
 use Rattle.smp_multi.proofs.Cells.{one_cell, number_here, stored_here}
 
 at_snoc : {A : Type 0} (l : List A) (a b : A) (j : ℕ) → get_elem? (l ++ a ∷ []) j ≡ some b → (get_elem? l j ≡ some b) ⊎ ((j ≡ length l) × (a ≡ b))
@@ -398,6 +400,23 @@ module _ {S : Type 0} (k : Setting) where
           ),
         ))
 
+    -- the same, where the CPU takes this answer with the step
+    pub answered_allowed : (x : ℕ) (w : Word) (i : ℕ) → cell_of w ≡ Some i → Can (known me.0) (Sub w) → IsNoResult w
+        → Allows (Ruled k) slots id me i (λ n. (n + (2 ^ 64 - 1)) % 2 ^ 64) (answered x (step slots i 1 0 none) me)
+    answered_allowed x w i e can none_of = steps i (λ n. (n + (2 ^ 64 - 1)) % 2 ^ 64) (AfterAnswer x (step slots i 1 0 none) me)
+        (λ p seat source words shown wide sees within.
+        let n = get_or words i 0 in
+        let here : number_in words w ≡ n = number_here words w i e in
+        let told : ℕ → Known = λ m. known_told (carrying x v) act.Sub w (Some m) (Some (one_less m)) in (
+          told n,
+          subst (λ (at : Word → ℕ). GoesOn v.setting p seat source v.number at (told n)) (sym (stored_here words w i (one_less n) wide e))
+              (subst (λ m. GoesOn v.setting p seat source v.number (put_word (number_in words) w (one_less m)) (told m)) here
+              (sub_step p (number_in words) seat source (carrying x v) shown (sees_with x v p seat source sees) w (can_with x v (Sub w) can))),
+          subst AreI32Words (sym (stored_here words w i (one_less n) wide e))
+              (put_fits (number_in words) w (one_less n) within.results (no_result w (one_less n) none_of)),
+          λ u f. ap (λ (y : Word). Cpu (known_told (carrying x v) act.Sub y (Some n) (Some (one_less n)))) (one_cell w u i e f),
+        ))
+
     pub and_allowed : (w : Word) (i x : ℕ) → cell_of w ≡ Some i → Can (known me.0) (And w x) → IsNoResult w
         → Allows (Ruled k) slots id me i (λ n. bit_and n x) (masked (step slots i x 0 none) me)
     and_allowed w i x e can none_of = steps i (λ n. bit_and n x) (AfterMask (step slots i x 0 none) me) (λ p seat source words shown wide sees within.
@@ -431,5 +450,10 @@ pub can_same : (v u : Known) (access : Access) → v ≡ u → Can u access → 
 can_same v u access e can = subst (λ (x : Known). Can x access) (sym e) can
 
 -- the seat of an online CPU after a step
-pub seat_on : (s : SeatView) (w : Known) (carried : ℕ) → s ≡ Cpu w → Lives (known s) → IsI32Word carried → IsCpuSeat s carried
-seat_on s w carried is lives fits = record { is = is ∙ sym (ap (λ (x : SeatView). Cpu (known x)) is); online = lives.online; fits = fits }
+pub seat_on : (s : SeatView) (w : Known) (carried : ℕ) → s ≡ Cpu w → Lives (known s) → IsI32Word carried → w.carried ≡ carried → IsCpuSeat s carried
+seat_on s w carried is lives fits carries = record {
+  is = is ∙ sym (ap (λ (x : SeatView). Cpu (known x)) is);
+  online = lives.online;
+  fits = fits;
+  carries = ap (λ (x : SeatView). (known x).carried) is ∙ carries;
+}

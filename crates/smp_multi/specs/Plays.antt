@@ -4,6 +4,7 @@ use Rattle.std.specs.Prelude.{◌≡◌, ℕ, ◌==◌, if◌then◌else◌, Som
 use Rattle.atomic_table.specs.Table.{Me, Step}
 use Rattle.smp_words.specs.Access.{one_less}
 use Rattle.smp_multi.specs.Lives.{Moment, Lives}
+use Rattle.smp_stop_steps.specs.Known.{carrying}
 use Rattle.smp_stop_steps.specs.KnownAfter.{known_told, known_entering}
 use Rattle.smp_stop_steps.specs.Moves.{entering}
 use Rattle.smp_multi.specs.Names.{Word, SeatView, Cpu}
@@ -26,6 +27,11 @@ module _ {S : Type 0} where
   AfterSubtract st m n m' = let v = known m.0 in (w : Word) → cell_of w ≡ Some st.word
       → Moment v w n × (m'.0 ≡ Cpu (known_told v act.Sub w (Some n) (Some (one_less n))))
 
+  -- from this step on the CPU carries the answer
+  abbrev pub AfterAnswer : ℕ → Step S → Me S SeatView → ℕ → Me S SeatView → Type 0
+  AfterAnswer answer st m n m' = let v = known m.0 in (w : Word) → cell_of w ≡ Some st.word
+      → m'.0 ≡ Cpu (known_told (carrying answer v) act.Sub w (Some n) (Some (one_less n)))
+
   -- the work of the stop that is entered is that of the stops at that moment
   abbrev pub AfterMask : Step S → Me S SeatView → ℕ → Me S SeatView → Type 0
   AfterMask st m n m' = let v = known m.0 in (w : Word) → cell_of w ≡ Some st.word
@@ -42,6 +48,9 @@ module _ {S : Type 0} where
 
   abbrev pub subtracted : Step S → Me S SeatView → ℕ → Me S SeatView → Type 0
   subtracted st m n m' = Lives (known m'.0) × AfterSubtract st m n m'
+
+  abbrev pub answered : ℕ → Step S → Me S SeatView → ℕ → Me S SeatView → Type 0
+  answered answer st m n m' = Lives (known m'.0) × AfterAnswer answer st m n m'
 
   abbrev pub masked : Step S → Me S SeatView → ℕ → Me S SeatView → Type 0
   masked st m n m' = Lives (known m'.0) × AfterMask st m n m'

@@ -22,11 +22,12 @@ pub record SeatValue : Type 0 where
 abbrev pub fresh_seat : TableId → Setting → ℕ → SeatValue
 fresh_seat table k n = record { table = table; known = fresh k n }
 
--- the seat of an online CPU, with the answer that it carries
+-- the seat of an online CPU, with the answer that it knows that it carries
 pub record IsCpuSeat (v : SeatView) (carried : ℕ) : Type 0 where
   pub is : v ≡ Cpu (known v)
   pub online : has (known v).setting.online (known v).number ≡ true
   pub fits : IsI32Word carried
+  pub carries : (known v).carried ≡ carried
 
 -- what is put into a result word has the bits of an i32
 abbrev pub FitsWord : Word → ℕ → Type 0

@@ -1,5 +1,5 @@
 -- What one turn of a stop of several CPUs does, by what the CPU knows before and after it.
-use Rattle.std.specs.Prelude.{◌≡◌, ◌≢◌, ℕ, ℤ, ◌+◌, ◌==◌, Bool, true, false, cond, List}
+use Rattle.std.specs.Prelude.{◌≡◌, ◌≢◌, ℕ, ℤ, ◌+◌, ◌==◌, true, false, cond, List}
 use Rattle.smp_mask.specs.Mask.{has}
 use Rattle.smp_stop_steps.specs.Known.{carrying, stepped}
 use Rattle.smp_multi.specs.Lives.{Moment}

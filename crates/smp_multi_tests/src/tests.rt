@@ -8,7 +8,6 @@ mod patches;
 mod rounds;
 mod steps;
 mod threads;
-mod users;
 mod witness;
 
 use self::line::Act::{Answer, Begin, Called, Enter, Gate, InStop, Open, Poll, Run};

@@ -1,5 +1,5 @@
 -- A table none of whose CPUs has made a step is empty.
-use Rattle.std.proofs.Common.{◌≡◌, ℕ, ◌<◌, ◌%◌, Bool, true, false, List, [], ◌∷◌, sym, ap, ◌∙◌, refl, arith}
+use Rattle.std.proofs.Common.{◌≡◌, ℕ, ◌<◌, Bool, true, false, List, [], ◌∷◌, sym, ◌∙◌, refl, arith}
 use Rattle.smp_words.specs.Size.{records}
 use Rattle.smp_call_steps.specs.Places.{AllPlaced}
 use Rattle.smp_call_steps.specs.Words.{FlagsShow, bit, nexts_in}
@@ -7,7 +7,7 @@ use Rattle.smp_call_steps.specs.declared.place.RecPlace.{RecPlace}
 use Rattle.smp_call_steps.specs.declared.place.RecPlace.TheVariants as place
 use Rattle.smp_call_steps.proofs.State.Batches.{no_chain}
 use Rattle.smp_queue.specs.{Call, Word, Head, Intr, Flags, TableValue, number_in}
-use Rattle.smp_queue.specs.Empty.{IsEmpty, BeginsEmpty}
+use Rattle.smp_queue.specs.Empty.{BeginsEmpty}
 
 -- no call is by a record that is elsewhere
 none_placed : (places : ℕ → RecPlace) (p : RecPlace) (calls : List Call) → (p ≡ place.Free → ⊥) → ((id : ℕ) → id < records → places id ≡ place.Free)

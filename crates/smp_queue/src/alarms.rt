@@ -3,6 +3,7 @@
 //! A CPU sets its alarm, then looks whether anything is for it, and sleeps only where it found nothing. The other CPUs ring
 //! its alarm after the step that leaves it something. So either the look finds that, or the alarm rings after it was set.
 
+use crossbeam_utils::CachePadded;
 use crossbeam_utils::sync::{EventCount, Key};
 use smp_words::size::NR_CPUS;
 use std::array;
@@ -12,9 +13,16 @@ use std::sync::atomic::{AtomicU32, Ordering};
 /// An alarm for each CPU, and which CPUs wait for another one's step.
 #[derive(Drop)]
 pub(crate) struct Alarms {
-    each: [EventCount; NR_CPUS as usize],
+    /// Each alarm has cache lines of its own, since its CPU writes it whenever it rests or waits.
+    each: [CachePadded<EventCount>; NR_CPUS as usize],
+    waiters: CachePadded<Waiters>,
+}
+
+/// The CPUs that wait for another one's step.
+#[derive(Drop)]
+struct Waiters {
     /// A bit for each CPU, set while it waits with its alarm set.
-    waiting: AtomicU32,
+    bits: AtomicU32,
     /// The CPU that is woken first, modulo 32: the next one each time, so that none is always the last.
     first: AtomicU32,
 }
@@ -23,9 +31,11 @@ impl Alarms {
     /// Alarms that no CPU has set.
     pub(crate) fn new() -> Alarms {
         Alarms {
-            each: array::from_fn(|_| EventCount::new()),
-            waiting: AtomicU32::new(0),
-            first: AtomicU32::new(0),
+            each: array::from_fn(|_| CachePadded::new(EventCount::new())),
+            waiters: CachePadded::new(Waiters {
+                bits: AtomicU32::new(0),
+                first: AtomicU32::new(0),
+            }),
         }
     }
 
@@ -44,7 +54,7 @@ impl Alarms {
     /// Sets the alarm of a CPU that waits for another one's step. Where the CPU waits within a wait, the outer one keeps its bit.
     pub(crate) fn set_waiting(&self, cpu: u32) -> WaitAlarm<'_> {
         let bit = 1 << (cpu % NR_CPUS);
-        let before = self.waiting.fetch_or(bit, Ordering::SeqCst);
+        let before = self.waiters.bits.fetch_or(bit, Ordering::SeqCst);
         let bit = WaitBit {
             alarms: self,
             bit: bit & !before,
@@ -62,7 +72,7 @@ impl Alarms {
 
     /// Rings the alarm of each CPU that waits with its alarm set.
     pub(crate) fn ring_waiting(&self) {
-        let waiting = self.waiting.load(Ordering::SeqCst);
+        let waiting = self.waiters.bits.load(Ordering::SeqCst);
         if waiting != 0 {
             self.ring_each(waiting);
         }
@@ -71,7 +81,7 @@ impl Alarms {
     /// Rings the alarms of these CPUs, each time from another one on.
     #[inline(never)]
     fn ring_each(&self, waiting: u32) {
-        let first = self.first.fetch_add(1, Ordering::SeqCst);
+        let first = self.waiters.first.fetch_add(1, Ordering::SeqCst);
         for place in 0..NR_CPUS {
             let cpu = first.wrapping_add(place) % NR_CPUS;
             if waiting & (1 << cpu) != 0 {
@@ -104,7 +114,7 @@ pub(crate) struct WaitBit<'a> {
 impl Drop for WaitBit<'_> {
     fn drop(self) {
         let Self { alarms, bit } = self;
-        alarms.waiting.fetch_and(!bit, Ordering::SeqCst);
+        alarms.waiters.bits.fetch_and(!bit, Ordering::SeqCst);
     }
 }
 

@@ -145,7 +145,7 @@ fn run_one<H: Handler>(
     go_on(words, seat, number, place.pass, place.next)
 }
 
-/// Runs the calls of a batch, one after another.
+/// Runs the calls of a batch, one after another. Each pass has code of its own, which asks for no pass.
 #[inline(always)]
 fn run_batch<H: Handler>(
     words: Words,
@@ -162,8 +162,31 @@ fn run_batch<H: Handler>(
     ensures { HasRunAll H.leads words.entry.shared.now.table_id seat.old seat.new counts.new handler.old handler.new }
 {
     let mut here = first;
-    while let Some(place) = here {
-        here = run_one(words, seat, number, counts, place, handler);
+    while let Some(Place { pass, call, next }) = here {
+        here = match pass {
+            Pass::First(walk) => {
+                let pass = Pass::First(walk);
+                run_one(
+                    words,
+                    seat,
+                    number,
+                    counts,
+                    Place { pass, call, next },
+                    handler,
+                )
+            }
+            Pass::Second => {
+                let pass = Pass::Second;
+                run_one(
+                    words,
+                    seat,
+                    number,
+                    counts,
+                    Place { pass, call, next },
+                    handler,
+                )
+            }
+        };
     }
 }
 

@@ -42,6 +42,7 @@ mod cpu;
 mod handle;
 mod handler;
 pub mod laws;
+mod noted;
 mod pause;
 mod post;
 mod reverse;

@@ -94,24 +94,6 @@ fn call_and_wait<R: Wait + Threads + Sync>(
     answer
 }
 
-/// With wait too, the condition is asked of the other CPUs, ascending, and then of this one.
-#[test]
-fn the_condition_is_asked_of_the_others_and_then_of_this_cpu(rt: HostRuntime) -> Result<(), Fail> {
-    let even: CpuMask = "0,2,4,6".parse()?;
-    let (table, boot) = CallTable::new(rt.alloc(), 8, "0-7".parse()?)?;
-    let mut room = Room::new(&table, boot, rt.alloc());
-    let mut two = room.drive(2)?;
-    let others = Others::of(&mut room, &[0, 4, 6])?;
-    let called = call_and_wait(&rt, &mut two, &others, "0-7".parse()?, even, 10);
-    assert_eq!(rt; called, (even, 901_345_672));
-    assert_eq!(rt;
-        (two.times(2, 1), two.tally(4), two.tally(5)),
-        (1, (1, 0), (0, 0))
-    );
-    assert_eq!(rt; [0, 1, 2].map(|place| others.hears(place, 2)), [Some(1); 3]);
-    Ok(())
-}
-
 /// With wait too, no CPU is asked about that is not in the mask, or not online; this CPU is not in the mask.
 #[test]
 fn the_condition_is_asked_of_cpus_of_the_mask_that_are_online(rt: HostRuntime) -> Result<(), Fail> {

@@ -3,7 +3,7 @@
 //! none can.
 //!
 //! Steps that store an answer or a label are made by `store_any`. Steps that end a stop function, a patch or a stop are made
-//! by `subtract_with`, which also puts the answer that the CPU carries. Only the pages beside this one see these two.
+//! by `end_with`: from such a step on the CPU carries an answer. Only the pages beside this one see these two.
 
 ghost use Rattle.std.specs.Prelude.{◌≡◌, ℕ, ◌+◌, ◌<◌, ◌==◌, true, if◌then◌else◌, IfOk, Some, None};
 ghost use Rattle.std.specs.Int.Bits.{bit_and};
@@ -22,7 +22,7 @@ ghost use Rattle.smp_multi.specs.Cells.{cells};
 ghost use Rattle.smp_stop_steps.specs.AnswerWords.{IsI32Word};
 ghost use Rattle.smp_multi.specs.Seat.{SeatValue, Able, Ready, fresh_seat};
 
-use super::plays::{Exchanged, Loaded, Masked, Stored, Subtracted};
+use super::plays::{Answer, Answered, Exchanged, Loaded, Masked, Stored, Subtracted};
 use crate::cell::{FIRST_ENTRY, cell};
 use crate::rule::{NextSeat, RawSeat, StopRule};
 use crate::seat_view::SeatView;
@@ -61,19 +61,19 @@ impl<A: Allocator> Owner<A> {
 #[derive(Drop)]
 pub struct CpuSeat {
     raw: RawSeat,
-    /// The answer with which the CPU is to complete the stop that it is in, 0 where it carries none: the word of an i32.
+    /// The answer with which the CPU is to complete the stop that it is in, 0 where it carries none: the word of an i32. It is the
+    /// one that the CPU knows, so that no step but the one that takes it can change it.
     carried: u64,
 }
 
 impl Model for CpuSeat {
     ghost use Rattle.std.specs.Prelude.{◌≡◌};
-    ghost use Rattle.smp_stop_steps.specs.Known.{carrying};
     ghost use Rattle.smp_multi.specs.Seat.{SeatValue, IsCpuSeat};
     ghost use Rattle.smp_multi.specs.Rule.{known};
 
     ghost Value = { SeatValue };
 
-    ghost view = { λ c. record { table = c.raw.table_id; known = carrying c.carried (known c.raw.me.0) } };
+    ghost view = { λ c. record { table = c.raw.table_id; known = known c.raw.me.0 } };
 
     ghost invariant = { λ c. IsCpuSeat c.raw.me.0 c.carried };
 }
@@ -192,19 +192,20 @@ pub(crate) fn exchange(
         .compare_exchange::<Exchanged>(&mut seat.raw, cell(word), expected, number)
 }
 
-/// Takes 1 from a word, by any step that the CPU may make, and answers what was found. With this step the CPU carries
+/// Takes 1 from a word, by any step that the CPU may make, and answers what was found. From this step on the CPU carries
 /// this answer.
 #[inline(always)]
-pub(super) fn subtract_with(words: Words<'_>, seat: &mut CpuSeat, word: Word, answer: u64) -> u64
+pub(super) fn end_with<N: Answer>(words: Words, seat: &mut CpuSeat, word: Word, answer: u64) -> u64
     requires able { Able words.shared.now.table_id seat.old (access.Sub word) }
     requires fits { IsI32Word answer }
+    requires picks { N.answer ≡ answer }
     ensures table { seat.new.table ≡ words.entry.shared.now.table_id }
     ensures lives { Lives seat.new.known }
     ensures known { seat.new.known ≡ known_told (carrying answer seat.old.known) act.Sub word (Some result) (Some (one_less result)) }
 {
     let found = words
         .shared
-        .fetch_sub::<Subtracted>(&mut seat.raw, cell(word), 1);
+        .fetch_sub::<Answered<N>>(&mut seat.raw, cell(word), 1);
     seat.carried = answer;
     found
 }

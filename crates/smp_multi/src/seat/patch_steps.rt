@@ -10,7 +10,8 @@ ghost use Rattle.smp_stop_steps.specs.Stages.{label_word};
 ghost use Rattle.smp_multi.specs.Patches.{AtPatch, count_in, made_in, rest_in, stored_all};
 ghost use Rattle.smp_multi.specs.Places.{work_in};
 
-use super::access::{CpuSeat, Words, store_any, subtract_with};
+use super::access::{CpuSeat, Words, store_any};
+use super::run_steps::subtract_with;
 use arrayvec::ArrayVec;
 use smp_labels::{MOST_CHANGES, Place};
 use smp_stop_steps::stage::Visit;

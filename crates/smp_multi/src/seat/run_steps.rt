@@ -4,10 +4,13 @@
 //! With the acknowledgement of `RUN` the answer is fixed: the CPU carries it, and `complete_round` completes with what it
 //! carries. No other page can make these steps: the accesses that make them are private to the pages of the seat.
 
-ghost use Rattle.std.specs.Prelude.{◌≡◌, ◌≢◌, ◌+◌};
+ghost use Rattle.std.specs.Prelude.{◌≡◌, ◌≢◌, ◌+◌, Some};
+ghost use Rattle.smp_words.specs.Access.{one_less};
+ghost use Rattle.smp_words.specs.declared.access.Access.TheVariants as access;
+ghost use Rattle.smp_words.specs.declared.seen.Act.TheVariants as act;
 ghost use Rattle.smp_stop_steps.specs.Known.{carrying, stepped};
 ghost use Rattle.smp_multi.specs.Lives.{Lives};
-ghost use Rattle.smp_stop_steps.specs.KnownAfter.{acked_by, completed_with};
+ghost use Rattle.smp_stop_steps.specs.KnownAfter.{known_told, acked_by, completed_with};
 ghost use Rattle.smp_stop_steps.specs.Start.{answer_word as word_of_answer};
 ghost use Rattle.smp_stop_steps.specs.AnswerWords.{IsI32Word};
 ghost use Rattle.smp_multi.specs.Completes.{AtClose, AtEnd, AtGiven, given};
@@ -15,14 +18,29 @@ ghost use Rattle.smp_multi.specs.Names.{Idle, Multi, One};
 ghost use Rattle.smp_multi.specs.Places.{work_in};
 ghost use Rattle.smp_multi.specs.Rounds.{AloneWhile, AtRun};
 ghost use Rattle.smp_multi.specs.Running.{AtOne, IsItsCall, calls_now};
+ghost use Rattle.smp_multi.specs.Seat.{Able};
 ghost use Rattle.smp_multi.specs.StepCounts.{giving};
 
-use super::access::{CpuSeat, Words, load, store_any, subtract_with};
+use super::access::{CpuSeat, Words, end_with, load, store_any};
 use smp_stop_steps::phase::EXIT;
 use smp_stop_steps::stage::Visit;
 use smp_stop_steps::start::answer_word;
 use smp_words::field::Field;
 use smp_words::word::Word;
+use std::marker::Brand;
+
+/// Takes 1 from a word, by any step that the CPU may make, and answers what was found. From this step on the CPU carries
+/// this answer.
+#[inline(always)]
+pub(super) fn subtract_with(words: Words<'_>, seat: &mut CpuSeat, word: Word, answer: u64) -> u64
+    requires able { Able words.shared.now.table_id seat.old (access.Sub word) }
+    requires fits { IsI32Word answer }
+    ensures table { seat.new.table ≡ words.entry.shared.now.table_id }
+    ensures lives { Lives seat.new.known }
+    ensures known { seat.new.known ≡ known_told (carrying answer seat.old.known) act.Sub word (Some result) (Some (one_less result)) }
+{
+    end_with::<Brand>(words, seat, word, answer)
+}
 
 /// The word of an answer.
 fn word_of(answer: i32) -> u64

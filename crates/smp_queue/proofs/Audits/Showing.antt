@@ -1,6 +1,6 @@
 -- What a CPU knows is its part of calls that keep all laws.
 use Rattle.std.proofs.Common.{◌≡◌, ℕ, zero, suc, ◌<◌, ◌⊎◌, Bool, true, false, None, List, [], ◌∷◌, get_or, sym, refl, ap, subst, ◌∙◌, inl, inr}
-use Rattle.std.proofs.Common.{true≢false, arith}
+use Rattle.std.proofs.Common.{true≢false}
 use Rattle.std.specs.List.{AllByRecursion}
 use Rattle.smp_words.specs.Size.{cpus, records}
 use Rattle.smp_call_steps.specs.Calls.{CallState, no_calls}

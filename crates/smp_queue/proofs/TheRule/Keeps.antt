@@ -25,7 +25,7 @@ use Rattle.smp_queue.specs.{Call, Word, Head, Intr, Access, Load, Store, Swap, E
 use Rattle.smp_queue.specs.{next_from, next_online}
 use Rattle.smp_queue.specs.{SeatKnows, Sits, known, after, seat_made, AfterLoad, AfterNote, AfterStore, AfterExchange, AfterSwap}
 use Rattle.smp_queue.specs.{loaded, noted, stored, call_stored, SitsWith, exchanged, swapped}
-use Rattle.smp_queue.specs.{IsCpuSeat, MayAccess, Reaches, HasBegun, NoneHasBegun, IsQuiet}
+use Rattle.smp_queue.specs.{IsCpuSeat, MayAccess, Reaches, HasBegun, IsQuiet}
 use Rattle.smp_queue.specs.Names.{Cpu}
 use Rattle.smp_queue.proofs.TheRule.Cells.{one_cell, cell_below, number_here, stored_here}
 use Rattle.smp_queue.specs.act

@@ -22,18 +22,18 @@ ghost use Rattle.smp_queue.specs.declared.run.Pass.TheVariants.{First, Second};
 
 use super::access::{CpuSeat, Words, store_in_call};
 use crate::handler::Handler;
+use crate::noted::Noted;
 use crate::run::{Pass, Place};
 use smp_call_steps::handle::Walk;
 use smp_words::call::Class;
 use smp_words::size::owner_of;
 use smp_words::{Call, Word};
-use std::snapshot::Snapshot;
 
 /// The token of a call that has begun: the call, and the handler as it was then.
 #[derive(Drop)]
 pub struct Begun<H> {
-    call: Snapshot<Call>,
-    before: Snapshot<H>,
+    call: Noted<Call>,
+    before: Noted<H>,
 }
 
 /// A SYNC call begins: the handling word names its record, which stays locked.
@@ -58,8 +58,8 @@ fn begin_sync<H: Handler>(
 {
     store_in_call(words, seat, Word::Hand(number), call.id as u64 + 2);
     Begun {
-        call: Snapshot::of(&call),
-        before: Snapshot::of(handler),
+        call: Noted::of(&call),
+        before: Noted::of(handler),
     }
 }
 
@@ -129,8 +129,8 @@ fn begin_async<H: Handler>(
 {
     store_in_call(words, seat, Word::Flags(call.id), 0);
     Begun {
-        call: Snapshot::of(&call),
-        before: Snapshot::of(handler),
+        call: Noted::of(&call),
+        before: Noted::of(handler),
     }
 }
 

@@ -5,7 +5,7 @@ use std::io;
 use std::io::{Error, ErrorKind, Read, Write};
 use std::test::*;
 
-/// Counts the calls of it, and has the size of the last buffer. It moves so many bytes at most, or fails.
+/// A device that counts its calls and keeps the size of the last buffer. A call moves at most `most` bytes, or fails.
 #[derive(Drop)]
 struct Probe {
     reads: u32,

@@ -1,7 +1,6 @@
 use Rattle.std.proofs.Common.{refl, ap, ℕ, [], ◌++◌, ◌∷◌, sym, ◌∙◌, subst}
 use Rattle.smp_mask.specs.Mask.{members}
 use Rattle.smp_calls.proofs.Passes.{Passed, passed_none, passed_more, passed_all}
-use Rattle.smp_multi.specs.Cpu.{CpuValue}
 use Rattle.smp_machine.specs.Passes.{note_of}
 use Rattle.smp_machine.specs.Own.{Own}
 use Rattle.smp_machine.specs.Stops.{item}
@@ -40,4 +39,5 @@ returns-clause-works g c =
 pub returns-clause-shown : goal.returns-clause-shown
 returns-clause-shown g c =
     let a = c.loop-cpu.invariant in
-    shown_at c.loop-cpu.me.passes c.loop-cpu.me.passes (passed_all c.args.work.now.mask c.loop-cpu.cpu-iterator a.xs a.passed c.in-None.ensures.steps.0.0) refl refl refl a.shown
+    shown_at c.loop-cpu.me.passes c.loop-cpu.me.passes
+    (passed_all c.args.work.now.mask c.loop-cpu.cpu-iterator a.xs a.passed c.in-None.ensures.steps.0.0) refl refl refl a.shown

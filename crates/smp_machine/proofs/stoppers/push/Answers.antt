@@ -44,8 +44,9 @@ returns-clause-put g c ok =
     let to = c.me.inside.to.items in
     let is = (c.me.invariant.sources c.args.cpu p c.requires.within at).puts in
     let told = match_ok c.push_as.result _ _ (sym c.is_ok.ensures.value ∙ ok) c.push_as.ensures.rule in
-    let still = still_puts g.N.Noting.note c.push_as.result c.me.inside.number (view p) (view q) c.args.item _ _ is c.push_as.ensures.rule in (
-      has_put c.me.inside.number to c.me.inside.own c.me.invariant g.N.Noting.note c.args.cpu p q c.args.item c.requires.within at c.push_as.ensures.queue.0 told.0
+    let note = g.N.Noting.note in
+    let still = still_puts note c.push_as.result c.me.inside.number (view p) (view q) c.args.item _ _ is c.push_as.ensures.rule in (
+      has_put c.me.inside.number to c.me.inside.own c.me.invariant note c.args.cpu p q c.args.item c.requires.within at c.push_as.ensures.queue.0 told.0
           ∙ ap (puts c.args.cpu c.args.item g.N.Noting.note) c.me.view_is,
       put_shown c.me.inside.number to c.me.inside.own c.me.invariant c.args.cpu p q c.args.item c.requires.within at still told.1,
     )

@@ -1,4 +1,4 @@
-use Rattle.std.proofs.Common.{◌≡◌, ◌≢◌, Option, Result, Ok, rules, ap, sym, subst, ◌∙◌}
+use Rattle.std.proofs.Common.{◌≢◌, Option, Ok, rules, ap, sym, subst, ◌∙◌}
 use Rattle.smp_stop_steps.specs.declared.phase.TheConstants.{EXIT}
 use Rattle.smp_stop_steps.specs.declared.stage.Visit.{Visit}
 use Rattle.smp_multi.specs.AtCall.{Goes}

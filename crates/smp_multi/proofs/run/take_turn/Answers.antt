@@ -31,7 +31,9 @@ returns-in-Call-clause-answers g c =
     let x = c.answer_run-after.new.seat in
     let goes = subst (λ (r : Go). Goes c.args.words.shared.now.table_id k e c.args.visit r) c.in-Call.is c.begin_turn.ensures.goes in
     let small : SFits w32 c.run-answer.result = search rules in
-    let known = subst (λ (z : ℤ). x.known ≡ stepped 1 (passed_by e.known.seat (carrying (answer_word z) e.known))) (to_z-of_z w32 c.run-answer.result small)
+    let known =
+    subst (λ (z : ℤ). x.known ≡ stepped 1 (passed_by e.known.seat (carrying (answer_word z) e.known))) (to_z-of_z w32 c.run-answer.result small)
     c.answer_run-after.ensures.known in
-    has_run g.F.StopFunc.leads _ k e x.known c.args.visit c.answer_run-after.result c.args.number c.in-Call.function c.in-Call.arg c.run-answer.result _ _ goes.0
+    let leads = g.F.StopFunc.leads in
+    has_run leads _ k e x.known c.args.visit c.answer_run-after.result c.args.number c.in-Call.function c.in-Call.arg c.run-answer.result _ _ goes.0
     goes.1 goes.2 c.requires.number known c.answer_run-after.ensures.visit c.run-answer.ensures

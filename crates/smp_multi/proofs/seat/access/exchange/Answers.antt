@@ -1,11 +1,10 @@
 use Rattle.std.proofs.Common.{arith, ap, subst, ◌∙◌, Some, None, cond, ◌==◌}
-use Rattle.smp_stop_steps.specs.Known.{carrying}
 use Rattle.smp_multi.specs.Lives.{Moment}
 use Rattle.smp_stop_steps.specs.KnownAfter.{known_told}
 use Rattle.smp_multi.specs.Names.{Known, SeatView}
 use Rattle.smp_multi.specs.Names.act
 use Rattle.smp_multi.specs.Rule.{known}
-use Rattle.smp_multi.proofs.Carrying.{can_bare, exchange_with, lives_with, moment_with}
+use Rattle.smp_multi.proofs.Carrying.{exchange_keeps}
 use Rattle.smp_multi.proofs.Cells.{cell_below}
 use Rattle.smp_multi.proofs.Keeps.{exchange_allowed, can_same, seat_on}
 use Rattle.smp_multi.proofs.seat.access.exchange.Goals as goal
@@ -18,25 +17,20 @@ compare_exchange-requires c = let r = c.requires.able in let low = cell_below c.
   ap (λ d. d.table) c.seat.view_is ∙ r.table_is,
   omega arith,
   exchange_allowed _ _ _ _ c.seat.invariant.is c.seat.invariant.online c.args.word c.cell.result c.args.expected c.args.number c.cell.ensures
-      (can_bare c.seat.inside.carried (known c.seat.inside.raw.me.0) _ (can_same _ _ _ (ap (λ d. d.known) c.seat.view_is) r.can)) c.requires.able.fits,
+      (can_same _ _ _ (ap (λ d. d.known) c.seat.view_is) r.can) c.requires.able.fits,
 )
 
 pub invariant_of-seat : goal.invariant_of-seat
 invariant_of-seat c = seat_on _ _ _ (c.compare_exchange.ensures.2.1 c.args.word c.cell.ensures).1 c.compare_exchange.ensures.2.0 c.seat.invariant.fits
-
-pub returns-clause-lives : goal.returns-clause-lives
-returns-clause-lives c = lives_with c.seat.inside.carried (known c.compare_exchange.new.seat.me.0) c.compare_exchange.ensures.2.0
+    (exchange_keeps (known c.seat.inside.raw.me.0) c.args.word c.compare_exchange.result _ ∙ c.seat.invariant.carries)
 
 pub returns-clause-known : goal.returns-clause-known
 returns-clause-known c =
     let told = c.compare_exchange.ensures.2.1 c.args.word c.cell.ensures in
-    ap (λ (s : SeatView). carrying c.seat.inside.carried (known s)) told.1
-    ∙ (exchange_with c.seat.inside.carried (known c.seat.inside.raw.me.0) c.args.word c.compare_exchange.result
-    (cond (c.compare_exchange.result == c.args.expected) (Some c.args.number) None)
+    ap (λ (s : SeatView). known s) told.1
     ∙ ap (λ (v : Known). known_told v act.Cas c.args.word (Some c.compare_exchange.result)
-    (cond (c.compare_exchange.result == c.args.expected) (Some c.args.number) None)) (ap (λ d. d.known) c.seat.view_is))
+    (cond (c.compare_exchange.result == c.args.expected) (Some c.args.number) None)) (ap (λ d. d.known) c.seat.view_is)
 
 pub returns-clause-then : goal.returns-clause-then
 returns-clause-then c = subst (λ (v : Known). Moment v c.args.word c.compare_exchange.result) (ap (λ d. d.known) c.seat.view_is)
-    (moment_with c.seat.inside.carried (known c.seat.inside.raw.me.0) c.args.word c.compare_exchange.result
-    (c.compare_exchange.ensures.2.1 c.args.word c.cell.ensures).0)
+    (c.compare_exchange.ensures.2.1 c.args.word c.cell.ensures).0

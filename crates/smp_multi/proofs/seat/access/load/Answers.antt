@@ -1,11 +1,10 @@
 use Rattle.std.proofs.Common.{arith, ap, subst, ◌∙◌, Some, None}
-use Rattle.smp_stop_steps.specs.Known.{carrying}
 use Rattle.smp_multi.specs.Lives.{Moment}
 use Rattle.smp_stop_steps.specs.KnownAfter.{known_told}
 use Rattle.smp_multi.specs.Names.{Known, SeatView}
 use Rattle.smp_multi.specs.Names.act
 use Rattle.smp_multi.specs.Rule.{known}
-use Rattle.smp_multi.proofs.Carrying.{can_bare, lives_with, load_with, moment_with}
+use Rattle.smp_multi.proofs.Carrying.{load_keeps}
 use Rattle.smp_multi.proofs.Cells.{cell_below}
 use Rattle.smp_multi.proofs.Keeps.{load_allowed, can_same, seat_on}
 use Rattle.smp_multi.proofs.seat.access.load.Goals as goal
@@ -18,22 +17,19 @@ load-requires c = let r = c.requires.able in let low = cell_below c.args.word c.
   ap (λ d. d.table) c.seat.view_is ∙ r.table_is,
   omega arith,
   load_allowed _ _ _ _ c.seat.invariant.is c.seat.invariant.online c.args.word c.cell.result c.cell.ensures
-      (can_bare c.seat.inside.carried (known c.seat.inside.raw.me.0) _ (can_same _ _ _ (ap (λ d. d.known) c.seat.view_is) r.can)),
+      (can_same _ _ _ (ap (λ d. d.known) c.seat.view_is) r.can),
 )
 
 pub invariant_of-seat : goal.invariant_of-seat
 invariant_of-seat c = seat_on _ _ _ (c.load.ensures.2.1 c.args.word c.cell.ensures).1 c.load.ensures.2.0 c.seat.invariant.fits
-
-pub returns-clause-lives : goal.returns-clause-lives
-returns-clause-lives c = lives_with c.seat.inside.carried (known c.load.new.seat.me.0) c.load.ensures.2.0
+    (load_keeps (known c.seat.inside.raw.me.0) c.args.word c.load.result ∙ c.seat.invariant.carries)
 
 pub returns-clause-known : goal.returns-clause-known
 returns-clause-known c =
     let told = c.load.ensures.2.1 c.args.word c.cell.ensures in
-    ap (λ (s : SeatView). carrying c.seat.inside.carried (known s)) told.1
-    ∙ (load_with c.seat.inside.carried (known c.seat.inside.raw.me.0) c.args.word c.load.result
-    ∙ ap (λ (v : Known). known_told v act.Load c.args.word (Some c.load.result) None) (ap (λ d. d.known) c.seat.view_is))
+    ap (λ (s : SeatView). known s) told.1
+    ∙ ap (λ (v : Known). known_told v act.Load c.args.word (Some c.load.result) None) (ap (λ d. d.known) c.seat.view_is)
 
 pub returns-clause-then : goal.returns-clause-then
 returns-clause-then c = subst (λ (v : Known). Moment v c.args.word c.load.result) (ap (λ d. d.known) c.seat.view_is)
-    (moment_with c.seat.inside.carried (known c.seat.inside.raw.me.0) c.args.word c.load.result (c.load.ensures.2.1 c.args.word c.cell.ensures).0)
+    (c.load.ensures.2.1 c.args.word c.cell.ensures).0

@@ -1,12 +1,11 @@
 use Rattle.std.proofs.Common.{arith, ap, subst, ◌∙◌, ◌≡◌, Some, bit_and}
-use Rattle.smp_stop_steps.specs.Known.{carrying}
 use Rattle.smp_multi.specs.Lives.{Moment}
 use Rattle.smp_stop_steps.specs.KnownAfter.{known_entering}
 use Rattle.smp_stop_steps.specs.Moves.{entering}
 use Rattle.smp_multi.specs.Names.{Known, SeatView}
 use Rattle.smp_multi.specs.Names.act
 use Rattle.smp_multi.specs.Rule.{known}
-use Rattle.smp_multi.proofs.Carrying.{and_with, can_bare, lives_with, moment_with}
+use Rattle.smp_multi.proofs.Carrying.{and_keeps}
 use Rattle.smp_multi.proofs.Cells.{cell_below}
 use Rattle.smp_multi.proofs.Keeps.{and_allowed, can_same, seat_on}
 use Rattle.smp_multi.proofs.seat.access.mask.Goals as goal
@@ -19,27 +18,22 @@ fetch_and-requires c = let r = c.requires.able in let low = cell_below c.args.wo
   ap (λ d. d.table) c.seat.view_is ∙ r.table_is,
   omega arith,
   and_allowed _ _ _ _ c.seat.invariant.is c.seat.invariant.online c.args.word c.cell.result c.args.number c.cell.ensures
-      (can_bare c.seat.inside.carried (known c.seat.inside.raw.me.0) _ (can_same _ _ _ (ap (λ d. d.known) c.seat.view_is) r.can)) c.requires.able.fits,
+      (can_same _ _ _ (ap (λ d. d.known) c.seat.view_is) r.can) c.requires.able.fits,
 )
 
 pub invariant_of-seat : goal.invariant_of-seat
 invariant_of-seat c = seat_on _ _ _ (c.fetch_and.ensures.2.1 c.args.word c.cell.ensures).1 c.fetch_and.ensures.2.0 c.seat.invariant.fits
-
-pub returns-clause-lives : goal.returns-clause-lives
-returns-clause-lives c = lives_with c.seat.inside.carried (known c.fetch_and.new.seat.me.0) c.fetch_and.ensures.2.0
+    (and_keeps _ (known c.seat.inside.raw.me.0) c.args.word c.fetch_and.result _ ∙ c.seat.invariant.carries)
 
 -- the moment, of what the caller sees
 pub returns-clause-known : goal.returns-clause-known
 returns-clause-known c =
-    let x = c.seat.inside.carried in
-    let old = known c.seat.inside.raw.me.0 in
     let n = c.fetch_and.result in
     let e = c.fetch_and.ensures.2.1 c.args.word c.cell.ensures in
     subst (λ (v : Known). (t : Moment v c.args.word n)
-    × (carrying x (known c.fetch_and.new.seat.me.0) ≡ known_entering (entering t.stops c.args.word) v act.And c.args.word (Some n)
+    × (known c.fetch_and.new.seat.me.0 ≡ known_entering (entering t.stops c.args.word) v act.And c.args.word (Some n)
     (Some (bit_and n c.args.number))))
     (ap (λ d. d.known) c.seat.view_is) (
-      moment_with x old c.args.word n e.0,
-      ap (λ (s : SeatView). carrying x (known s)) e.1
-          ∙ and_with x (entering e.0.stops c.args.word) old c.args.word n (bit_and n c.args.number),
+      e.0,
+      ap (λ (s : SeatView). known s) e.1,
     )

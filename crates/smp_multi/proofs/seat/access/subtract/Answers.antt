@@ -1,11 +1,10 @@
 use Rattle.std.proofs.Common.{arith, ap, ◌∙◌, Some}
-use Rattle.smp_stop_steps.specs.Known.{carrying}
 use Rattle.smp_stop_steps.specs.KnownAfter.{known_told}
 use Rattle.smp_words.specs.Access.{one_less}
 use Rattle.smp_multi.specs.Names.{Known, SeatView}
 use Rattle.smp_multi.specs.Names.act
 use Rattle.smp_multi.specs.Rule.{known}
-use Rattle.smp_multi.proofs.Carrying.{can_bare, lives_with, sub_with}
+use Rattle.smp_multi.proofs.Carrying.{sub_keeps}
 use Rattle.smp_multi.proofs.Cells.{cell_below}
 use Rattle.smp_multi.proofs.Keeps.{sub_allowed, can_same, seat_on}
 use Rattle.smp_multi.proofs.seat.access.subtract.Goals as goal
@@ -18,18 +17,15 @@ fetch_sub-requires c = let r = c.requires.able in let low = cell_below c.args.wo
   ap (λ d. d.table) c.seat.view_is ∙ r.table_is,
   omega arith,
   sub_allowed _ _ _ _ c.seat.invariant.is c.seat.invariant.online c.args.word c.cell.result c.cell.ensures
-      (can_bare c.seat.inside.carried (known c.seat.inside.raw.me.0) _ (can_same _ _ _ (ap (λ d. d.known) c.seat.view_is) r.can)) c.requires.able.fits,
+      (can_same _ _ _ (ap (λ d. d.known) c.seat.view_is) r.can) c.requires.able.fits,
 )
 
 pub invariant_of-seat : goal.invariant_of-seat
 invariant_of-seat c = seat_on _ _ _ (c.fetch_sub.ensures.2.1 c.args.word c.cell.ensures).1 c.fetch_sub.ensures.2.0 c.seat.invariant.fits
-
-pub returns-clause-lives : goal.returns-clause-lives
-returns-clause-lives c = lives_with c.seat.inside.carried (known c.fetch_sub.new.seat.me.0) c.fetch_sub.ensures.2.0
+    (sub_keeps (known c.seat.inside.raw.me.0) c.args.word c.fetch_sub.result _ ∙ c.seat.invariant.carries)
 
 pub returns-clause-known : goal.returns-clause-known
 returns-clause-known c =
     let told = c.fetch_sub.ensures.2.1 c.args.word c.cell.ensures in
-    ap (λ (s : SeatView). carrying c.seat.inside.carried (known s)) told.1
-    ∙ (sub_with c.seat.inside.carried (known c.seat.inside.raw.me.0) c.args.word c.fetch_sub.result (one_less c.fetch_sub.result)
-    ∙ ap (λ (v : Known). known_told v act.Sub c.args.word (Some c.fetch_sub.result) (Some (one_less c.fetch_sub.result))) (ap (λ d. d.known) c.seat.view_is))
+    ap (λ (s : SeatView). known s) told.1
+    ∙ ap (λ (v : Known). known_told v act.Sub c.args.word (Some c.fetch_sub.result) (Some (one_less c.fetch_sub.result))) (ap (λ d. d.known) c.seat.view_is)
