@@ -1,3 +1,4 @@
 mod merged_moves;
 mod programs;
 mod search;
+mod watches;

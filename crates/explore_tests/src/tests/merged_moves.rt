@@ -87,6 +87,8 @@ fn posts_and_handles(rt: HostRuntime) -> Result<(), SmpError> {
             cpu: 2,
             command: Command::Handle,
             again: None,
+            between: None,
+            number: 0,
         },
         once(2, Command::Handle),
     ];

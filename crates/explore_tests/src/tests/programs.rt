@@ -42,19 +42,21 @@ fn worked(rt: HostRuntime) -> Result<(), SmpError> {
     let read = read_exploration(rt.alloc(), WORKED)?;
     let post = Command::Post(0, 0, Class::Sync, 7, 42, 3);
     let lines = [
-        (1, post, Some(0)),
-        (0, Command::Handle, None),
-        (1, Command::Done(0), Some(2)),
+        (1, post, Some(0), None, 5),
+        (0, Command::Handle, None, None, 6),
+        (1, Command::Done(0), Some(2), None, 7),
     ];
     assert_eq!(rt; read.nr, 3);
     assert_eq!(rt; read.lines.len(), 3);
-    for (i, (cpu, command, again)) in lines.into_iter().enumerate() {
+    for (i, (cpu, command, again, between, number)) in lines.into_iter().enumerate() {
         assert!(rt;
             read.lines[i]
                 == Line {
                     cpu,
                     command,
-                    again
+                    again,
+                    between,
+                    number
                 }
         );
     }
@@ -87,7 +89,7 @@ fn worked_expectations(rt: HostRuntime) -> Result<(), SmpError> {
 fn places(rt: HostRuntime) -> Result<(), SmpError> {
     let text = b"smp 1 explore
 cpus 2 0-1
-always place.3 free or place.3 held and not place.4 queued.1 or place.99999 batch.0 and place.1 running.77
+always place.3 free or place.3 held and not place.4 queued.1 or place.23 batch.0 and place.1 running.1
 ";
     let read = read_exploration(rt.alloc(), text)?;
     let parts = [
@@ -96,8 +98,8 @@ always place.3 free or place.3 held and not place.4 queued.1 or place.99999 batc
         Part::Is(Atom::Place(3, RecPlace::Held)),
         Part::IsNot(Atom::Place(4, RecPlace::Queued(1))),
         Part::Or,
-        Part::Is(Atom::Place(99999, RecPlace::Batch(0))),
-        Part::Is(Atom::Place(1, RecPlace::Running(77))),
+        Part::Is(Atom::Place(23, RecPlace::Batch(0))),
+        Part::Is(Atom::Place(1, RecPlace::Running(1))),
     ];
     assert_eq!(rt; read.expectations.len(), 1);
     assert!(rt; read.expectations[0].parts.as_slice() == parts.as_slice());
@@ -149,7 +151,7 @@ fn wrong_fields(rt: HostRuntime) -> Result<(), AllocError> {
         (b"cpu 0 begin one 0- 0 1 0", Cause::Mask),
         (b"always gate -1", Cause::Number),
         (b"always key.4294967296 x", Cause::Range),
-        (b"always key.0 x or key.4294967296 0", Cause::Number),
+        (b"always head.0 x or key.4294967296 0", Cause::Number),
         (b"never queue.0 01", Cause::Number),
         (b"never gate 18446744073709551616", Cause::Range),
         (b"never place.4294967296 held", Cause::Range),
@@ -158,6 +160,35 @@ fn wrong_fields(rt: HostRuntime) -> Result<(), AllocError> {
     for (line, cause) in lines {
         assert_eq!(rt; line_fault(rt.alloc(), line)?, Some((3, cause)));
     }
+    Ok(())
+}
+
+// Line 2 has three CPUs, and there is no line of labels. CPU 2's last record is 35, and none has one for a further target.
+#[test]
+fn what_is_not_there(rt: HostRuntime) -> Result<(), AllocError> {
+    let lines: [&[u8]; 16] = [
+        b"always head.3 0",
+        b"always intr.9 0",
+        b"always hand.31 0",
+        b"always queued.0.3 0",
+        b"always ran.3.0 0",
+        b"always flags.36 0",
+        b"always func.384 0",
+        b"always info.1151 0",
+        b"always next.99999 0",
+        b"always slot.3.state 0",
+        b"always key.0 0",
+        b"always entry.0 0",
+        b"always site.0 0",
+        b"never queue.3 1",
+        b"never place.36 held",
+        b"never place.35 running.3",
+    ];
+    for line in lines {
+        assert_eq!(rt; line_fault(rt.alloc(), line)?, Some((3, Cause::Range)));
+    }
+    assert_eq!(rt; line_fault(rt.alloc(), b"always flags.35 0")?, None);
+    assert_eq!(rt; line_fault(rt.alloc(), b"always slot.2.state 0")?, None);
     Ok(())
 }
 

@@ -1,7 +1,6 @@
-use explore::walk::walk;
 use explore::{
-    Answered, Atom, Conditions, Expected, Limit, Line, Most, Part, Unwatched, Verdict, WalkEnd,
-    Walked, Watch, events_of, explore, explore_each,
+    Atom, Conditions, Expected, Limit, Line, Most, Part, Unwatched, Verdict, events_of, explore,
+    halts_of,
 };
 use smp_core::{
     Class, Command, Core, Event, Field, Kind, Note, RecPlace, Replayed, Word, Work, replay,
@@ -49,7 +48,7 @@ fn said(
 }
 
 // So many states, and as much memory as they take.
-fn states(count: usize) -> Most {
+pub fn states(count: usize) -> Most {
     Most {
         states: count,
         bytes: usize::MAX,
@@ -83,7 +82,7 @@ fn broken(
 }
 
 // Nothing but that the programs go on.
-const NOTHING: &[Expected<'static>] = &[Expected::Goes];
+pub const NOTHING: &[Expected<'static>] = &[Expected::Goes];
 
 // A command that is made once.
 pub fn once(cpu: u32, command: Command) -> Line {
@@ -91,19 +90,23 @@ pub fn once(cpu: u32, command: Command) -> Line {
         cpu,
         command,
         again: Some(0),
+        between: None,
+        number: 0,
     }
 }
 
 // One that is made until it is not in vain.
-fn until(cpu: u32, command: Command) -> Line {
+pub fn until(cpu: u32, command: Command) -> Line {
     Line {
         cpu,
         command,
         again: None,
+        between: None,
+        number: 0,
     }
 }
 
-fn post(cpu: u32, to: u32, tries: u32) -> Line {
+pub fn post(cpu: u32, to: u32, tries: u32) -> Line {
     once(cpu, Command::Post(0, to, Class::Sync, 7, 42, tries))
 }
 
@@ -128,6 +131,61 @@ fn states_of_calls(rt: HostRuntime) -> Result<(), Fail> {
         once(1, Command::Ungate),
     ];
     assert_eq!(rt; counts(alloc, "0-1", &gates, NOTHING)?, Some((8, 10, 4)));
+    Ok(())
+}
+
+// A call to the other CPU that is waited for, with this between two tries, and its interrupt.
+fn waiting_call(cpu: u32, to: u32, between: Option<Command>) -> [Line; 3] {
+    let wait = Line {
+        cpu,
+        command: Command::Done(0),
+        again: None,
+        between,
+        number: 0,
+    };
+    [post(cpu, to, 1), once(cpu, Command::Send(to)), wait]
+}
+
+// Two CPUs call each other and wait. The counts are those of another search, over another simulator of the machine.
+#[test]
+fn calls_that_are_waited_for(rt: HostRuntime) -> Result<(), Fail> {
+    let alloc = rt.alloc();
+    let [a, b, c] = waiting_call(0, 1, Some(Command::Handle));
+    let [d, e, f] = waiting_call(1, 0, Some(Command::Handle));
+    let handled = [a, b, c, d, e, f];
+    assert_eq!(rt;
+        counts(alloc, "0-1", &handled, NOTHING)?,
+        Some((525, 1028, 50))
+    );
+    let [a, b, c] = waiting_call(0, 1, None);
+    let [d, e, f] = waiting_call(1, 0, None);
+    let waits = [a, b, c, d, e, f];
+    assert_eq!(rt;
+        counts(alloc, "0-1", &waits, NOTHING)?,
+        Some((100, 200, 18))
+    );
+    Ok(())
+}
+
+// Where a CPU's command is refused, it stands at that line with the refusal; one that is inside a command stands nowhere.
+#[test]
+fn where_cpus_stand(rt: HostRuntime) -> Result<(), Fail> {
+    let alloc = rt.alloc();
+    let lines = [
+        once(0, Command::Send(1)),
+        once(0, Command::Ungate),
+        once(1, Command::Handle),
+    ];
+    let core = Core::new(alloc, 2, "0-1".parse()?)?;
+    let halts = halts_of(alloc, core, &lines, &[0])?;
+    assert_eq!(rt; halts.len(), 2);
+    assert!(rt; halts[0].cpu == 0 && halts[0].line == lines[1]);
+    assert_eq!(rt; halts[0].refused, Some(SmpError::BadArgument));
+    assert!(rt; halts[1].cpu == 1 && halts[1].line == lines[2]);
+    assert_eq!(rt; halts[1].refused, None);
+    let core = Core::new(alloc, 2, "0-1".parse()?)?;
+    let halts = halts_of(alloc, core, &lines, &[0, 1])?;
+    assert_eq!(rt; halts.len(), 1);
     Ok(())
 }
 
@@ -336,137 +394,5 @@ fn a_limit_of_memory_is_told(rt: HostRuntime) -> Result<(), Fail> {
         };
         assert!(rt; is_as_wanted, "{states} {bytes}");
     }
-    Ok(())
-}
-
-// Notes what it sees.
-#[derive(Clone, Copy, Debug, PartialEq, Eq)]
-struct Noted {
-    calls: u32,
-    states: usize,
-    steps: u64,
-}
-
-impl Watch for Noted {
-    fn look(&mut self, states: usize, steps: u64) {
-        self.calls = self.calls.wrapping_add(1);
-        self.states = states;
-        self.steps = steps;
-    }
-}
-
-// A watch looks on at each of the 4 states; when the last is at hand all 4 steps are followed.
-#[test]
-fn a_watch_sees_each_state(rt: HostRuntime) -> Result<(), Fail> {
-    let alloc = rt.alloc();
-    let core = Core::new(alloc, 2, "0-1".parse()?)?;
-    let lines = [once(0, Command::Send(1)), once(1, Command::Send(0))];
-    let expected = NOTHING;
-    let mut noted = Noted {
-        calls: 0,
-        states: 0,
-        steps: 0,
-    };
-    explore(
-        alloc,
-        core,
-        &lines,
-        Conditions { expected },
-        states(4),
-        &mut noted,
-    )?;
-    let wanted = Noted {
-        calls: 4,
-        states: 4,
-        steps: 4,
-    };
-    assert_eq!(rt; noted, wanted);
-    Ok(())
-}
-
-// The numbers of broken expectations, in the order in which they are told.
-#[derive(Drop)]
-struct Breaks {
-    numbers: Vec<usize, Global>,
-}
-
-impl Watch for Breaks {
-    fn look(&mut self, _states: usize, _steps: u64) {}
-
-    fn broken(&mut self, number: usize) {
-        let _ = self.numbers.push(number);
-    }
-}
-
-// How long the shortest schedule is that breaks an expectation, where one does.
-fn breach(answered: &Answered<'_, Global>) -> Option<usize> {
-    match &answered.verdict {
-        Verdict::Broken(schedule) => Some(schedule.len()),
-        _ => None,
-    }
-}
-
-// One search for five expectations, of which all but the first are broken. The record is free at first, held after 2 steps,
-// in the queue after 8, and its function runs after 19, so they are told in this order.
-#[test]
-fn each_break_is_told_by_its_number(rt: HostRuntime) -> Result<(), Fail> {
-    let lines = [
-        post(0, 1, 1),
-        once(0, Command::Send(1)),
-        until(1, Command::Handle),
-    ];
-    let running = [Part::Is(Atom::Place(0, RecPlace::Running(1)))];
-    let held = [Part::Is(Atom::Place(0, RecPlace::Held))];
-    let queued = [Part::Is(Atom::Place(0, RecPlace::Queued(1)))];
-    let free = [Part::Is(Atom::Place(0, RecPlace::Free))];
-    let expected = [
-        Expected::Goes,
-        Expected::Never(&running),
-        Expected::Never(&held),
-        Expected::Never(&queued),
-        Expected::Never(&free),
-    ];
-    let mut breaks = Breaks {
-        numbers: Vec::new(rt.alloc()),
-    };
-    let core = Core::new(rt.alloc(), 3, "0-1".parse()?)?;
-    let answers = explore_each(
-        rt.alloc(),
-        core,
-        &lines,
-        &expected,
-        states(1_000),
-        &mut breaks,
-    )?;
-    assert_eq!(rt; breaks.numbers.as_slice(), [4, 2, 3, 1].as_slice());
-    let wanted = [None, Some(19), Some(2), Some(8), Some(0)];
-    assert_eq!(rt; answers.len(), wanted.len());
-    for (answered, steps) in answers.iter().zip(wanted) {
-        assert_eq!(rt; breach(answered), steps);
-    }
-    Ok(())
-}
-
-// The walk of these picks, of two CPUs that send each other an interrupt.
-fn walked(alloc: Global, picks: &[u32]) -> Result<Walked<Global>, SmpError> {
-    let core = Core::new(alloc, 2, "0-1".parse()?)?;
-    let lines = [once(0, Command::Send(1)), once(1, Command::Send(0))];
-    let never = Expected::Never(&[Part::Is(Atom::Word(Word::Intr(0), 1))]);
-    walk(alloc, core, &lines, &never, picks)
-}
-
-// Each send is one step, and both CPUs can move until they have sent. The interrupt of CPU 0 is not to be expected.
-#[test]
-fn picks_say_who_moves(rt: HostRuntime) -> Result<(), Fail> {
-    let alloc = rt.alloc();
-    let cut = walked(alloc, &[6])?;
-    assert_eq!(rt; cut.schedule.as_slice(), [0].as_slice());
-    assert_eq!(rt; cut.end, WalkEnd::Cut);
-    let broken = walked(alloc, &[6, 5, 4])?;
-    assert_eq!(rt; broken.schedule.as_slice(), [0, 1].as_slice());
-    assert_eq!(rt; broken.end, WalkEnd::Broken);
-    let sooner = walked(alloc, &[7, 7])?;
-    assert_eq!(rt; sooner.schedule.as_slice(), [1].as_slice());
-    assert_eq!(rt; sooner.end, WalkEnd::Broken);
     Ok(())
 }
