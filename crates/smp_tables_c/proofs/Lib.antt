@@ -1,0 +1,4 @@
+pub mod AsBox
+mod Bits
+mod Filling
+mod Outside

@@ -1,0 +1,149 @@
+//! The steps of a seat for cross-CPU calls.
+
+ghost use Rattle.std.specs.Prelude.{◌≡◌};
+ghost use Rattle.smp_multi.specs.Cpu.{IsAt};
+ghost use Rattle.smp_tables_c.specs.Calls.{AsksDone, DoneBy, GoesOn, Handles, IsNextAt, PostBy, Posts, Resumes, SendBy, Sends};
+
+use crate::place::Place;
+use crate::record::SmpCall;
+use crate::seat::Seat;
+use crate::status::{CLOSED, INSIDE, OUTSIDE, status, yes};
+use smp_multi::StopCpu;
+use smp_queue::{CallCpu, CallTable, Next};
+use smp_words::call::Class;
+use std::alloc::Global;
+use std::mem;
+
+/// Queues a call, and tells it by a number.
+fn post_by(
+    calls: &CallTable<Global>,
+    me: &mut CallCpu,
+    k: u32,
+    to: u32,
+    class: Class,
+    func: u16,
+    info: u64,
+    tries: u32,
+) -> i32
+    requires { me.old.table ≡ calls.now.table }
+    ensures by { PostBy calls.now k to class func info tries me.old me.new result }
+    ensures table { me.new.table ≡ calls.now.table }
+{
+    yes(calls.post_within(me, k, to, class, func, info, tries))
+}
+
+/// Sends an interrupt, and tells it by a number.
+fn send_by(calls: &CallTable<Global>, me: &mut CallCpu, to: u32) -> i32
+    requires { me.old.table ≡ calls.now.table }
+    ensures by { SendBy calls.now to me.old me.new result }
+    ensures table { me.new.table ≡ calls.now.table }
+{
+    status(calls.interrupt(me, to))
+}
+
+/// Looks whether a record is free, and tells it by a number.
+fn done_by(calls: &CallTable<Global>, me: &mut CallCpu, k: u32) -> i32
+    requires { me.old.table ≡ calls.now.table }
+    ensures by { DoneBy calls.now k me.old me.new result }
+    ensures table { me.new.table ≡ calls.now.table }
+{
+    yes(calls.is_done(me, k))
+}
+
+impl Seat {
+    /// Queues a call: 1 where an interrupt is owed, 0 where none is, or the number of a refusal.
+    pub fn post(&mut self, k: u32, to: u32, class: Class, func: u16, info: u64, tries: u32) -> i32
+        ensures { Posts k to class func info tries result self.old self.new }
+    {
+        match &mut self.place {
+            Place::Out(me, _) => post_by(&self.calls, me, k, to, class, func, info, tries),
+            Place::InCall(..) | Place::InStop(..) => INSIDE,
+            Place::Moving => CLOSED,
+        }
+    }
+
+    /// Sends an interrupt: 0, or the number of a refusal.
+    pub fn send(&mut self, to: u32) -> i32
+        ensures { Sends to result self.old self.new }
+    {
+        match &mut self.place {
+            Place::Out(me, _) => send_by(&self.calls, me, to),
+            Place::InCall(..) | Place::InStop(..) => INSIDE,
+            Place::Moving => CLOSED,
+        }
+    }
+
+    /// Whether a record is free: 1 or 0, or the number of a refusal.
+    pub fn is_done(&mut self, k: u32) -> i32
+        ensures { AsksDone k result self.old self.new }
+    {
+        match &mut self.place {
+            Place::Out(me, _) => done_by(&self.calls, me, k),
+            Place::InCall(..) | Place::InStop(..) => INSIDE,
+            Place::Moving => CLOSED,
+        }
+    }
+
+    /// Goes on with what has come next of its calls.
+    fn go_on(&mut self, next: Next, stop: StopCpu, call: &mut SmpCall) -> i32
+        requires next { IsNextAt self.old.calls next }
+        requires stop { IsAt self.old.stops stop }
+        ensures { GoesOn self.old self.new call.old call.new result stop next }
+    {
+        match next {
+            Next::Idle(me) => {
+                self.place = Place::Out(me, stop);
+                0
+            }
+            Next::Run(serving) => {
+                *call = SmpCall::of(serving.call());
+                self.place = Place::InCall(serving, stop);
+                1
+            }
+            Next::Done(me) => {
+                self.place = Place::Out(me, stop);
+                2
+            }
+        }
+    }
+
+    /// Takes the interrupt and the queue, and hands out the first call: 0 where there was no interrupt, 1 with the call that
+    /// is out, 2 where the queue was empty, or the number of a refusal.
+    pub fn handle(&mut self, call: &mut SmpCall) -> i32
+        ensures { Handles call.old call.new result self.old self.new }
+    {
+        match mem::replace(&mut self.place, Place::Moving) {
+            Place::Out(me, stop) => {
+                let next = self.calls.begin_handle(me);
+                self.go_on(next, stop, call)
+            }
+            Place::Moving => CLOSED,
+            place => {
+                self.place = place;
+                INSIDE
+            }
+        }
+    }
+
+    /// The call that is out has run, and the next one is handed out: 1 with that call, 2 where none is left, or the number
+    /// of a refusal.
+    pub fn resume(&mut self, call: &mut SmpCall) -> i32
+        ensures { Resumes call.old call.new result self.old self.new }
+    {
+        match mem::replace(&mut self.place, Place::Moving) {
+            Place::InCall(serving, stop) => {
+                let next = self.calls.resume(serving);
+                self.go_on(next, stop, call)
+            }
+            Place::Out(me, stop) => {
+                self.place = Place::Out(me, stop);
+                OUTSIDE
+            }
+            Place::Moving => CLOSED,
+            place => {
+                self.place = place;
+                INSIDE
+            }
+        }
+    }
+}

@@ -1,0 +1,132 @@
+//! Opening: the two tables, and a seat for each CPU that is online.
+
+ghost use Rattle.std.specs.Prelude.{◌≡◌, ◌≤◌, [], IfOk, OnOk, length};
+ghost use Rattle.smp_words.specs.Limits.{AreLimits};
+ghost use Rattle.smp_tables_c.specs.Opens.{HasSeats, IsFilled, OpenAnswers, fresh_seat};
+
+use crate::handle::SmpCpu;
+use crate::place::Place;
+use crate::seat::Seat;
+use smp_labels::LabelMap;
+use smp_mask::{CpuMask, SmpError};
+use smp_multi::{StopBoot, StopTable};
+use smp_queue::{Boot, CallTable};
+use std::alloc::Global;
+use std::sync::Arc;
+
+/// A seat that may be there.
+type MaybeSeat = Option<Box<Seat, Global>>;
+
+/// Two new tables, and their CPUs that are not at a seat yet.
+#[derive(Drop)]
+struct Opening {
+    calls: Arc<CallTable<Global>, Global>,
+    stops: Arc<StopTable<Global>, Global>,
+    boot: Boot<Global>,
+    stop_boot: StopBoot<Global>,
+    ghost boot_is: { boot.table ≡ calls.value },
+    ghost stop_boot_is: { (stop_boot.table ≡ stops.value.table) × (stop_boot.setting ≡ stops.value.setting) },
+}
+
+impl Opening {
+    /// New tables of these CPUs, with no keys.
+    fn new(alloc: Global, nr: u32, online: CpuMask) -> Result<Opening, SmpError>
+        ensures limits { OnOk result (AreLimits nr online) }
+        ensures made { IfOk result (λ o. (o.calls.value.nr ≡ nr) × (o.calls.value.online ≡ online)
+            × (o.stops.value.nr ≡ nr) × (o.stops.value.setting ≡ record { online = online; labels = record { keys = 0; entries = [] } })) }
+    {
+        let (calls, boot) = CallTable::new(alloc, nr, online)?;
+        let (stops, stop_boot) = StopTable::new(alloc, nr, online, &LabelMap::empty())?;
+        let Ok(calls) = Arc::new(alloc, calls) else {
+            return Err(SmpError::NoMemory);
+        };
+        let Ok(stops) = Arc::new(alloc, stops) else {
+            return Err(SmpError::NoMemory);
+        };
+        Ok(Opening {
+            calls,
+            stops,
+            boot,
+            stop_boot,
+        })
+    }
+
+    /// The seat of a CPU that is online.
+    fn seat(&mut self, alloc: Global, cpu: u32) -> Result<Box<Seat, Global>, SmpError>
+        ensures calls { self.new.calls.value ≡ self.old.calls.value }
+        ensures stops { self.new.stops.value ≡ self.old.stops.value }
+        ensures seat { IfOk result (λ b. b.value ≡ fresh_seat self.old.calls.value self.old.stops.value cpu) }
+    {
+        let me = self.boot.cpu(cpu)?;
+        let stop = self.stop_boot.cpu(cpu)?;
+        let (Ok(calls), Ok(stops)) = (Arc::try_clone(&self.calls), Arc::try_clone(&self.stops))
+        else {
+            return Err(SmpError::NoMemory);
+        };
+        let seat = Seat {
+            calls,
+            stops,
+            place: Place::Out(me, stop),
+            slot: 0,
+        };
+        match Box::new(alloc, seat) {
+            Ok(seat) => Ok(seat),
+            Err(_) => Err(SmpError::NoMemory),
+        }
+    }
+
+    /// The seats of the CPUs below `nr` that are online.
+    fn seats(
+        &mut self,
+        alloc: Global,
+        nr: u32,
+        online: CpuMask,
+    ) -> Result<Vec<MaybeSeat, Global>, SmpError>
+        ensures calls { self.new.calls.value ≡ self.old.calls.value }
+        ensures stops { self.new.stops.value ≡ self.old.stops.value }
+        ensures seats { IfOk result (λ v. HasSeats self.old.calls.value self.old.stops.value nr online v.items) }
+    {
+        let mut seats = Vec::new(alloc);
+        for cpu in 0..nr {
+            let seat = if online.contains(cpu) {
+                Some(self.seat(alloc, cpu)?)
+            } else {
+                None
+            };
+            if seats.push(seat).is_err() {
+                return Err(SmpError::NoMemory);
+            }
+        }
+        Ok(seats)
+    }
+}
+
+/// Puts each seat that is there into the handle of its place.
+fn fill(seats: &mut [MaybeSeat], cpus: &mut [SmpCpu])
+    requires { length seats.old ≤ length cpus.old }
+    ensures { IsFilled seats.old cpus.old cpus.new }
+{
+    for cpu in 0..seats.len() {
+        if let Some(seat) = seats[cpu].take() {
+            cpus[cpu].put(seat);
+        }
+    }
+}
+
+/// Makes the tables, and opens the handles of the CPUs that are online. At an error no handle is changed.
+pub fn open_all(
+    alloc: Global,
+    nr: u32,
+    online: CpuMask,
+    cpus: &mut [SmpCpu],
+) -> Result<(), SmpError>
+    ensures { OpenAnswers nr online cpus.old cpus.new result }
+{
+    if nr as usize > cpus.len() {
+        return Err(SmpError::BadArgument);
+    }
+    let mut opening = Opening::new(alloc, nr, online)?;
+    let mut seats = opening.seats(alloc, nr, online)?;
+    fill(&mut seats, cpus);
+    Ok(())
+}
