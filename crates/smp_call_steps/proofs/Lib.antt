@@ -13,3 +13,4 @@ pub mod Machine
 -- the laws
 pub mod Promises
 pub mod Headline
+pub mod Broken

@@ -1,5 +1,4 @@
--- The state of the calls, and how each step that was seen changes it. It has lists, sets and places; it has no
--- heads, links, flags, retries or reversal.
+-- How each step that was seen changes the state of the calls.
 use Rattle.std.specs.Prelude.{ℕ, ◌%◌, Bool, true, false, ◌==◌, not, nat_lt, if◌then◌else◌, Option, Some, None, List, [], ◌∷◌, ◌++◌}
 use Rattle.smp_words.specs.Put.{put}
 use Rattle.smp_words.specs.Flags.{class_of}
@@ -7,65 +6,7 @@ use Rattle.smp_call_steps.specs.Order.{order}
 use Rattle.smp_call_steps.specs.Names.{Call, Word, Head, Intr, Hand, Queued, Ran, Flags, Func, Info, Next, Seen, Act, RecPlace}
 use Rattle.smp_call_steps.specs.Names.place
 use Rattle.smp_call_steps.specs.Names.act
-pub use Rattle.smp_call_steps.specs.declared.known.Sending.{Sending}
-pub use Rattle.smp_call_steps.specs.declared.known.Running.{Running}
-pub use Rattle.smp_call_steps.specs.declared.known.Running.TheVariants.{Nothing, SyncCall, CountedCall, AsyncCall}
-
--- the call that a CPU holds, where it goes once that was counted
-pub record Holding : Type 0 where
-  pub call : Call
-  pub to : ℕ
-  pub is_counted : Bool
-
--- the state of the calls
-pub record CallState : Type 0 where
-  -- where each record is: in exactly one place
-  pub place : ℕ → RecPlace
-  -- of each CPU, as all that follows: the call that it holds
-  pub held : ℕ → Option Holding
-  -- what it last stored as the link of the record that it holds, since the lock
-  pub linked : ℕ → Option ℕ
-  -- the calls queued for it, oldest first
-  pub queue : ℕ → List Call
-  -- the batches that it has taken, each as it stood in the queue
-  pub taken : ℕ → List (List Call)
-  -- what is left to run of the last batch
-  pub batch : ℕ → List Call
-  -- the call that it runs
-  pub running : ℕ → Running
-  -- the calls that have ended
-  pub ran : ℕ → List Call
-  -- the calls that it has queued
-  pub sent : ℕ → List Sending
-  -- the CPUs to which it owes an interrupt
-  pub owes : ℕ → ℕ → Bool
-  -- whether an interrupt is pending for it
-  pub pending : ℕ → Bool
-  -- whether it has accepted an interrupt and not yet taken its queue
-  pub accepted : ℕ → Bool
-  -- for each swap of its interrupt word, whether an interrupt was pending
-  pub asked : ℕ → List Bool
-  -- its records whose last call it has seen confirmed
-  pub confirmed : ℕ → ℕ → Bool
-
--- at first
-abbrev pub no_calls : CallState
-no_calls = record {
-  place = λ _. place.Free;
-  held = λ _. None;
-  linked = λ _. None;
-  queue = λ _. [];
-  taken = λ _. [];
-  batch = λ _. [];
-  running = λ _. Nothing;
-  ran = λ _. [];
-  sent = λ _. [];
-  owes = λ _ _. false;
-  pending = λ _. false;
-  accepted = λ _. false;
-  asked = λ _. [];
-  confirmed = λ _ _. true;
-}
+pub use Rattle.smp_call_steps.specs.State.{Sending, Running, Nothing, SyncCall, CountedCall, AsyncCall, Holding, CallState, no_calls}
 
 abbrev pub is_nil : {A : Type 0} → List A → Bool
 is_nil [] = true

@@ -1,17 +1,13 @@
 -- How many calls by one record were queued, and how many have run.
 use Rattle.std.specs.Prelude.{◌≡◌, ℕ, ◌==◌, true, List, [], ◌∷◌, ◌++◌, count_by}
 use Rattle.smp_words.specs.Size.{owner}
-use Rattle.smp_call_steps.specs.Calls.{CallState, Running, AsyncCall}
+use Rattle.smp_call_steps.specs.State.{CallState, Running, AsyncCall}
 use Rattle.smp_call_steps.specs.Names.{Call}
+pub use Rattle.smp_call_steps.specs.Lists.{batches}
 
 -- how many calls of the list are by this record
 abbrev pub calls_by : ℕ → List Call → ℕ
 calls_by id calls = count_by (λ call. call.id == id) calls
-
--- the calls of all batches, one batch after the other
-abbrev pub batches : List (List Call) → List Call
-batches [] = []
-batches (batch ∷ rest) = batch ++ batches rest
 
 -- the ASYNC call that runs
 abbrev pub async_call : Running → List Call

@@ -2,12 +2,11 @@
 -- machine. It speaks of lists of calls and of words, and of nobody's stage.
 use Rattle.std.specs.Prelude.{◌≡◌, ◌≢◌, ℕ, ◌%◌, List, ◌++◌, IsPermutation}
 use Rattle.smp_words.specs.Size.{owner}
-use Rattle.smp_call_steps.specs.Calls.{CallState}
-use Rattle.smp_call_steps.specs.Counts.{batches}
-use Rattle.smp_call_steps.specs.Histories.{calls_from, calls_to, running_call}
+use Rattle.smp_call_steps.specs.State.{CallState}
+use Rattle.smp_call_steps.specs.Lists.{batches, calls_from, calls_to, running_call}
 use Rattle.smp_call_steps.specs.Order.{IsPrefix, of_class}
 use Rattle.smp_call_steps.specs.Places.{HasRecord, Holds, IsApart, locked_by}
-use Rattle.smp_call_steps.specs.Words.{flags_in, queued_in, ran_in}
+use Rattle.smp_call_steps.specs.ByKind.{flags_in, queued_in, ran_in}
 use Rattle.smp_call_steps.specs.Names.{Call, Class, Flags, Hand, Head, RecPlace, Word}
 use Rattle.smp_call_steps.specs.Names.place
 

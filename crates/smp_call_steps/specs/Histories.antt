@@ -3,8 +3,9 @@
 use Rattle.std.specs.Prelude.{◌≡◌, ℕ, ◌+◌, ◌%◌, ◌^◌, ◌==◌, ◌&&◌, Bool, true, false, if◌then◌else◌, Option, Some, None, List, [], ◌∷◌, ◌++◌, length}
 use Rattle.smp_words.specs.Size.{owner}
 use Rattle.smp_call_steps.specs.Order.{order}
-use Rattle.smp_call_steps.specs.Calls.{Holding, Running, Nothing, SyncCall, CountedCall, AsyncCall, Sending}
+use Rattle.smp_call_steps.specs.State.{Holding, Running, Nothing, SyncCall, CountedCall, AsyncCall, Sending}
 use Rattle.smp_call_steps.specs.Names.{Call}
+pub use Rattle.smp_call_steps.specs.Lists.{calls_to, calls_from, running_call}
 
 -- a call with its mark: whether it was queued into an empty queue
 pub record Marked : Type 0 where
@@ -37,32 +38,15 @@ abbrev pub sent_to : ℕ → List Sending → List Marked
 sent_to cpu [] = []
 sent_to cpu (s ∷ rest) = if s.to == cpu then mark s.is_first s.call ∷ sent_to cpu rest else sent_to cpu rest
 
--- the calls that went to this CPU, in the order in which they were sent
-abbrev pub calls_to : ℕ → List Sending → List Call
-calls_to cpu [] = []
-calls_to cpu (s ∷ rest) = if s.to == cpu then s.call ∷ calls_to cpu rest else calls_to cpu rest
-
 -- the marked calls of this source
 abbrev pub marked_from : ℕ → List Marked → List Marked
 marked_from source [] = []
 marked_from source (m ∷ rest) = if owner m.call.id == source then m ∷ marked_from source rest else marked_from source rest
 
--- the calls of this source
-abbrev pub calls_from : ℕ → List Call → List Call
-calls_from source [] = []
-calls_from source (call ∷ rest) = if owner call.id == source then call ∷ calls_from source rest else calls_from source rest
-
 -- each batch in drain order, one batch after the other
 abbrev pub orders : List (List Call) → List Call
 orders [] = []
 orders (batch ∷ rest) = order batch ++ orders rest
-
--- the call that runs
-abbrev pub running_call : Running → List Call
-running_call Nothing = []
-running_call (SyncCall call) = call ∷ []
-running_call (CountedCall call) = call ∷ []
-running_call (AsyncCall call) = call ∷ []
 
 -- the queue history
 pub record Recorded (sent : ℕ → List Sending) (taken : ℕ → List (List Call)) (queue : ℕ → List Call) (ran : ℕ → List Call) (running : ℕ → Running)

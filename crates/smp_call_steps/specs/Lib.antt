@@ -8,10 +8,13 @@ pub mod Stages
 pub mod Batches
 pub mod Start
 -- the call state, and what each step tells
+pub mod State
 pub mod Calls
 -- facts of the state: what holds between the calls, the words and the stages
 pub mod Places
+pub mod ByKind
 pub mod Words
+pub mod Lists
 pub mod Histories
 pub mod Stands
 pub mod Shows
@@ -38,6 +41,7 @@ pub mod Endings
 pub mod Touches
 pub mod Refusals
 pub mod Headline
+pub mod Broken
 pub mod Drained
 -- the laws
 pub mod Promises

@@ -2,7 +2,7 @@
 use Rattle.std.specs.Prelude.{◌≡◌, ◌≢◌, ℕ, ◌^◌, ◌<◌, ◌⊎◌, Bool, true, Option, Some, None, List, [], ◌∷◌}
 use Rattle.std.specs.List.{AllByRecursion}
 use Rattle.smp_words.specs.Size.{owner, records}
-use Rattle.smp_call_steps.specs.Calls.{Holding, Running, Nothing, SyncCall, CountedCall, AsyncCall}
+use Rattle.smp_call_steps.specs.State.{Holding, Running, Nothing, SyncCall, CountedCall, AsyncCall}
 use Rattle.smp_call_steps.specs.Names.{Call, RecPlace}
 use Rattle.smp_call_steps.specs.Names.place
 

@@ -1,9 +1,9 @@
 -- In which order calls run: a batch by class, and of each class as they were queued.
 use Rattle.std.specs.Prelude.{◌≡◌, ℕ, List, ◌∷◌, ◌++◌}
 use Rattle.std.specs.List.{AllByRecursion}
-use Rattle.smp_call_steps.specs.Order.{IsPrefix, of_class, order}
-use Rattle.smp_call_steps.specs.Calls.{CallState}
-use Rattle.smp_call_steps.specs.Counts.{batches}
+use Rattle.smp_call_steps.specs.Order.{of_class, order}
+use Rattle.smp_call_steps.specs.State.{CallState}
+use Rattle.smp_call_steps.specs.Headline.{RunInOrder}
 use Rattle.smp_call_steps.specs.Shows.{Shows}
 use Rattle.smp_call_steps.specs.Stages.{ControlValue}
 use Rattle.smp_call_steps.specs.Names.{Call, Class, Async, Word}
@@ -17,10 +17,6 @@ abbrev pub AsyncsLast : List Call → Type 0
 AsyncsLast batch = (before : List Call) (call : Call) (after : List Call) →
     order batch ≡ before ++ call ∷ after → call.class ≡ Async → AllByRecursion (λ other. other.class ≡ Async) after
 
--- of each class, the calls that have ended at a CPU are the first of those that were ever queued for it
-abbrev pub InQueueOrder : CallState → Type 0
-InQueueOrder a = (cpu : ℕ) (class : Class) → IsPrefix (of_class class (a.ran cpu)) (of_class class (batches (a.taken cpu) ++ a.queue cpu))
-
--- whatever words show calls
+-- calls begin in the order in which they joined the queue, and join it in the order in which they were sent
 abbrev pub RunInQueueOrder : Type 0
-RunInQueueOrder = (a : CallState) (at : Word → ℕ) (control : ℕ → ControlValue) → Shows a at control → InQueueOrder a
+RunInQueueOrder = (a : CallState) (at : Word → ℕ) (control : ℕ → ControlValue) → Shows a at control → RunInOrder a

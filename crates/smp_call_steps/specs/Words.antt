@@ -4,37 +4,10 @@ use Rattle.std.specs.List.{AllByRecursion}
 pub use Rattle.smp_words.specs.Bit.{bit}
 use Rattle.smp_words.specs.Flags.{flags_of}
 use Rattle.smp_call_steps.specs.Places.{locked_by}
-use Rattle.smp_call_steps.specs.Calls.{Holding, Running}
-use Rattle.smp_call_steps.specs.Names.{Call, Word, Head, Intr, Hand, Queued, Ran, Flags, Func, Info, Next, RecPlace}
+use Rattle.smp_call_steps.specs.State.{Holding, Running}
+use Rattle.smp_call_steps.specs.Names.{Call, Word, RecPlace}
 use Rattle.smp_call_steps.specs.Names.place
-
--- the words of one kind, by record, by CPU or by pair
-abbrev pub flags_in : (Word → ℕ) → ℕ → ℕ
-flags_in at id = at (Flags id)
-
-abbrev pub funcs_in : (Word → ℕ) → ℕ → ℕ
-funcs_in at id = at (Func id)
-
-abbrev pub infos_in : (Word → ℕ) → ℕ → ℕ
-infos_in at id = at (Info id)
-
-abbrev pub nexts_in : (Word → ℕ) → ℕ → ℕ
-nexts_in at id = at (Next id)
-
-abbrev pub heads_in : (Word → ℕ) → ℕ → ℕ
-heads_in at cpu = at (Head cpu)
-
-abbrev pub intrs_in : (Word → ℕ) → ℕ → ℕ
-intrs_in at cpu = at (Intr cpu)
-
-abbrev pub hands_in : (Word → ℕ) → ℕ → ℕ
-hands_in at cpu = at (Hand cpu)
-
-abbrev pub queued_in : (Word → ℕ) → ℕ → ℕ → ℕ
-queued_in at source cpu = at (Queued source cpu)
-
-abbrev pub ran_in : (Word → ℕ) → ℕ → ℕ → ℕ
-ran_in at cpu source = at (Ran cpu source)
+pub use Rattle.smp_call_steps.specs.ByKind.{flags_in, funcs_in, infos_in, nexts_in, heads_in, intrs_in, hands_in, queued_in, ran_in}
 
 -- the next words lead from this link down through the calls, the newest first, to the link below the oldest
 abbrev pub Leads : (ℕ → ℕ) → ℕ → List Call → ℕ → Type 0

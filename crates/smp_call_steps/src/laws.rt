@@ -81,7 +81,8 @@ pub fn drain_order()
     ensures asyncs_last { (batch : List Call) → AsyncsLast batch }
 {}
 
-/// For each class, the calls that have ended at a CPU are the first of those that were ever queued for it, in that order.
+/// For each class, the calls that have begun on a CPU are the first of those that were ever queued for it, in that order, and
+/// those of a source were queued as it has sent them.
 pub fn runs_in_queue_order()
     ensures { RunInQueueOrder }
 {}
@@ -205,9 +206,27 @@ pub fn words_are_touched_in_order()
     ensures { WordsInOrder }
 {}
 
-/// On a drained machine the calls that have run are the calls that were queued, for each source and CPU.
+/// On a drained machine the calls that have run are the calls that were queued, each once, for each source and CPU.
 pub fn drained_machines_ran_all()
     ensures { DrainedRunsAll }
+{}
+
+ghost use Rattle.smp_call_steps.specs.State.{no_calls};
+ghost use Rattle.smp_call_steps.specs.Headline.{InOnePlace, RunOnce, RunInOrder, RunEqualQueued};
+ghost use Rattle.smp_call_steps.specs.Broken.{no_words, one_locked, one_counted, in_a_queue, in_two_queues, twice_in_a_queue};
+ghost use Rattle.smp_call_steps.specs.Broken.{held_by_another, lost, ran_twice, ran_unsent, second_begins, second_joins};
+
+/// The headline of calls rules something out: each of these states, with these words, breaks one of its laws.
+/// - `place`: a record in two queues, twice in one, unlocked in one, or held by a CPU that does not own it.
+/// - `once`: a call that is lost, one that ran twice, or one that was not sent.
+/// - `order`: of two SYNC calls the second begins first, or joins the queue first.
+/// - `drained`: a call that has not run, or a count of one that was not queued.
+pub fn headline_can_be_broken()
+    ensures place { (¬ (InOnePlace in_two_queues one_locked)) × (¬ (InOnePlace twice_in_a_queue one_locked))
+        × (¬ (InOnePlace in_a_queue no_words)) × (¬ (InOnePlace held_by_another one_locked)) }
+    ensures once { (¬ (RunOnce lost)) × (¬ (RunOnce ran_twice)) × (¬ (RunOnce ran_unsent)) }
+    ensures order { (¬ (RunInOrder second_begins)) × (¬ (RunInOrder second_joins)) }
+    ensures drained { (¬ (RunEqualQueued lost no_words)) × (¬ (RunEqualQueued no_calls one_counted)) }
 {}
 
 /// A queue has at most as many calls as there are records, so a walk along its links ends.

@@ -10,6 +10,7 @@ pub mod Start
 pub mod Machine
 pub mod Whole
 pub mod Headline
+pub mod Broken
 -- a list of events
 pub mod Replay
 pub mod Runs

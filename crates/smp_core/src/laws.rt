@@ -8,6 +8,7 @@ ghost use Rattle.smp_words.specs.declared.command.Command.{Command};
 ghost use Rattle.smp_call_steps.specs.Headline.{InOnePlace, RunOnce, RunInOrder, RunEqualQueued};
 ghost use Rattle.smp_stop_steps.specs.Headline.{RunDisabled, IsLawfulElse};
 ghost use Rattle.smp_stop_steps.specs.Table.{stop_number};
+ghost use Rattle.smp_core.specs.Broken.{all_ones};
 ghost use Rattle.smp_core.specs.Headline.{HasState, OfCalls, OfStops, calls_after, stops_after};
 ghost use Rattle.smp_core.specs.Machine.{Stepped, step_of};
 ghost use Rattle.smp_core.specs.New.{new_core};
@@ -55,6 +56,12 @@ pub fn headline<A: Allocator>(core: &Core<A>)
 {
     core.is_whole();
 }
+
+/// Not every value is a core's: here all words are 1, and no CPU is inside a command. The laws of the headline rule out what
+/// `headline_can_be_broken` of `smp_call_steps` and of `smp_stop_steps` has.
+pub fn headline_can_be_broken()
+    ensures state { ¬ (HasState all_ones) }
+{}
 
 /// The headline, of any list of events on a new machine: the calls and the stops are those that the steps tell, one after the
 /// other, and the words are the core's.

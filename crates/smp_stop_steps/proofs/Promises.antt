@@ -5,4 +5,5 @@ pub mod Interrupts
 pub mod Patchers
 pub mod StopLaws
 pub mod Headline
+pub mod Broken
 pub mod KnownPremises

@@ -2,7 +2,7 @@
 use Rattle.std.specs.Prelude.{◌≡◌, ◌≢◌, ℕ, ◌≤◌, true, false, Some, List}
 use Rattle.smp_labels.specs.Law.{IsLawful}
 use Rattle.smp_stop_steps.specs.Names.{has, One, Work, Word, DISABLE_IRQ}
-use Rattle.smp_stop_steps.specs.{Labels.Change, Labels.Whole, Labels.Patches, Labels.labels_in, State.StopState, State.StopCall, State.Calls, Stop.acked}
+use Rattle.smp_stop_steps.specs.{Labels.Change, Labels.Whole, Labels.Patches, Labels.labels_in, State.StopState, State.StopCall, State.Calls, Standings.acked}
 
 -- A CPU runs the function of this source's rendezvous: it has entered it, and has not acknowledged RUN; or it makes a patch. A stop
 -- of kind One is no rendezvous.

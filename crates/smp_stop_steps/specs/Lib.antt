@@ -1,6 +1,7 @@
 -- types by their names
 pub mod Names
 -- one stop, and what the words of its slot show
+pub mod Standings
 pub mod Stop
 pub mod Counts
 pub mod Slots
@@ -34,6 +35,7 @@ pub mod Interrupts
 pub mod Patchers
 pub mod StopLaws
 pub mod Headline
+pub mod Broken
 -- the machine: the words of a stop table, and a list of controls
 pub mod Table
 pub mod Numbers

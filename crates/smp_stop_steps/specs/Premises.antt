@@ -1,8 +1,8 @@
 -- Who may make which step of the stop half: what holds of the stops before it.
 use Rattle.std.specs.Prelude.{◌≡◌, ◌≢◌, ◌⊎◌, ℕ, ◌+◌, Bool, true, false, Option, Some, None}
-use Rattle.smp_stop_steps.specs.Names.{has, word_of, seen_of, StopStage, Field, Act, Word, Gate, Slot, Key, Entry, Site}
+use Rattle.smp_stop_steps.specs.Names.{has, Field, Act, Word, Gate, Slot, Key, Entry, Site}
 use Rattle.smp_stop_steps.specs.Stop.{Stop, Inside, Called, Refills, Raises, Last, acked}
-use Rattle.smp_stop_steps.specs.{Callings.HasCompleted, Laws.IsThrough, Promises.OfEachCpu, Stages.stop_access, State.StopState}
+use Rattle.smp_stop_steps.specs.{Callings.HasCompleted, Laws.IsThrough, State.StopState}
 
 abbrev pub AllAcknowledged : Stop → Type 0
 AllAcknowledged stop = (c : ℕ) → has stop.work.mask c ≡ true → acked (stop.standing c) ≡ stop.phase
@@ -58,10 +58,3 @@ MaySee p me Act.Store (Key k) found put = IsAtRun p me
 MaySee p me Act.Store (Site i) found put = IsAtRun p me
 MaySee p me Act.Cas (Key k) found put = p.now.irq me ≡ true
 MaySee p me _ w found put = ⊥
-
-abbrev pub StepsArePremised : Type 0
-StepsArePremised = OfEachCpu (λ u p at c me.
-    (stage : StopStage) → c.stage ≡ Some stage →
-    let access = stop_access u.cpus me c.changes stage in
-    let seen = seen_of me access (at (word_of access)) None in
-    MaySee p me seen.act seen.word seen.found seen.put)

@@ -25,3 +25,9 @@ pub record StopShows (u : Setup) (p : StopState) (at : Word → ℕ) (seat : ℕ
   pub owns : (s : ℕ) → OwnsKey u.first p.now (λ k. at (Key k)) s
   -- the count law
   pub counts : (k : ℕ) → CountShows u.cpus p.nudged p.patched k (at (Key k))
+
+-- of this what the headline rests on: where each CPU is, and what the words of slots, of labels and of functions show of it
+pub record AreAtSeats (u : Setup) (p : StopState) (at : Word → ℕ) : Type 0 where
+  pub seat : ℕ → Seat
+  pub present : PresentShows u p.now at seat
+  pub callings : (c : ℕ) → IsCalling c (seat c) (p.calling c)

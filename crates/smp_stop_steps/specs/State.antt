@@ -1,6 +1,6 @@
 -- The state of all stops: what is now, and the lists of the past.
 use Rattle.std.specs.Prelude.{◌≡◌, ◌≢◌, ℕ, ◌<◌, ◌≤◌, Bool, true, Option, None, List, [], length, slice_index}
-use Rattle.smp_stop_steps.specs.{Names.MOST_KEYS, Names.Work, Stop.Stop, Stop.no_stop, Labels.Patching, Labels.Whole, Labels.Reading}
+use Rattle.smp_stop_steps.specs.{Names.MOST_KEYS, Names.Work, Standings.Stop, Standings.no_stop, Labels.Patching, Labels.Whole, Labels.Reading}
 pub use Rattle.smp_stop_steps.specs.declared.known.StopCall.{StopCall}
 pub use Rattle.smp_stop_steps.specs.declared.known.Calling.{Calling}
 pub use Rattle.smp_stop_steps.specs.declared.known.Calling.TheVariants.{Idle, Calls, Carries}

@@ -1,9 +1,18 @@
 -- What each step that a stop half may make next keeps, beside the stops that it tells.
 use Rattle.std.specs.Prelude.{◌≡◌, ℕ, Some, None}
 use Rattle.smp_stop_steps.specs.{Names.word_of, Names.seen_of, Names.StopStage, Names.Word, AnswerWords.KeepsAnswers, Labels.Change, Machine.stop_seen_at}
-use Rattle.smp_stop_steps.specs.{Notes.NoteFits, Notes.StopNoteFits, Patchers.IsNextOfPatch, Patchers.label_stored, Premises.MaySee, Stages.StopControlValue}
-use Rattle.smp_stop_steps.specs.{Stages.answer_at, Stages.stop_access, State.Setup, State.StopState, Steps.FunctionGoes, Steps.note_then, Steps.state_after}
-use Rattle.smp_stop_steps.specs.{Table.stop_number, Tells.tells, Value.StopsValue, Value.StopShown, Value.setup_of, Value.stop_control_of}
+use Rattle.smp_stop_steps.specs.{Notes.NoteFits, Notes.StopNoteFits, Patchers.IsNextOfPatch, Patchers.label_stored, Premises.MaySee, Promises.OfEachCpu}
+use Rattle.smp_stop_steps.specs.{Stages.StopControlValue, Stages.answer_at, Stages.stop_access, State.Setup, State.StopState, Steps.FunctionGoes}
+use Rattle.smp_stop_steps.specs.{Steps.note_then, Steps.state_after, Table.stop_number, Tells.tells, Value.StopsValue, Value.StopShown}
+use Rattle.smp_stop_steps.specs.{Value.setup_of, Value.stop_control_of}
+
+-- what holds before each step of a command
+abbrev pub StepsArePremised : Type 0
+StepsArePremised = OfEachCpu (λ u p at c me.
+    (stage : StopStage) → c.stage ≡ Some stage →
+    let access = stop_access u.cpus me c.changes stage in
+    let seen = seen_of me access (at (word_of access)) None in
+    MaySee p me seen.act seen.word seen.found seen.put)
 
 -- of the step of a CPU at this stage: who may make it, what it does of functions, that a store to a label is one of a patch,
 -- that its note says what it has changed, and that answers and results stay those of i32s

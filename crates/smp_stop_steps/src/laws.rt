@@ -105,7 +105,7 @@ pub fn last_stores_done()
     ensures { LastStoresDone }
 {}
 
-ghost use Rattle.smp_stop_steps.specs.Premises.{StepsArePremised};
+ghost use Rattle.smp_stop_steps.specs.StepLaws.{StepsArePremised};
 
 /// What holds before each step:
 /// - A stop is opened by its source, with the gate, while none of its own is open.
@@ -312,4 +312,18 @@ ghost use Rattle.smp_labels.specs.Labels.{Labels};
 /// The first CPU online, which alone makes patches, is the one with the least number.
 pub fn first_is_least()
     ensures { (online : ℕ) (labels : Labels) (c : ℕ) → c < 32 → has online c ≡ true → (setup_of online labels).first ≤ c }
+{}
+
+ghost use Rattle.smp_stop_steps.specs.State.{no_stops};
+ghost use Rattle.smp_stop_steps.specs.Headline.{RunDisabled, IsLawfulElse};
+ghost use Rattle.smp_stop_steps.specs.Broken.{runs_outside, runs_inactive, runs_early, runs_interrupted, patches_interrupted, turned_site};
+
+/// The headline of stops rules something out: each of these states, with these words, breaks one of its laws.
+/// - `function`: it runs on a CPU that is not of the mask, or not active; or before another CPU has acknowledged, or while
+///   its interrupts are on, also in a patch.
+/// - `lawful`: a site jumps although its key and its branch agree.
+pub fn headline_can_be_broken()
+    ensures function { (¬ (RunDisabled runs_outside)) × (¬ (RunDisabled runs_inactive)) × (¬ (RunDisabled runs_early))
+        × (¬ (RunDisabled runs_interrupted)) × (¬ (RunDisabled patches_interrupted)) }
+    ensures lawful { ¬ (IsLawfulElse no_stops turned_site) }
 {}

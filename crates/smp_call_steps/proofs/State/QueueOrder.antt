@@ -3,7 +3,7 @@ use Rattle.std.proofs.Common.{arith, ◌≡◌, ◌≢◌, ℕ, List, [], ◌∷
 use Rattle.std.proofs.lemmas.List.{append-nil}
 use Rattle.std.specs.List.{AllByRecursion}
 use Rattle.smp_call_steps.specs.{CallState, batches, rest_of, orders, running_call, if_sync, if_async, sync_calls, async_calls, if_class, of_class}
-use Rattle.smp_call_steps.specs.{KeepsClasses, AsyncsLast, InQueueOrder, ControlValue, IsAsync, Call, Class, Sync, Async, Word}
+use Rattle.smp_call_steps.specs.{KeepsClasses, AsyncsLast, IsPrefix, ControlValue, IsAsync, Call, Class, Sync, Async, Word}
 use Rattle.smp_call_steps.specs.Shows.{Shows}
 use Rattle.smp_call_steps.proofs.Basics.Alls.{every_right}
 use Rattle.smp_call_steps.proofs.State.Walks.{IsSync, all_sync, all_async}
@@ -71,7 +71,8 @@ pub orders_keep : (class : Class) (taken : List (List Call)) → of_class class 
 orders_keep class [] = refl
 orders_keep class (batch ∷ rest) = search (of_class-append, keeps_classes, orders_keep class rest, arith)
 
-pub run_in_queue_order : (a : CallState) (at : Word → ℕ) (control : ℕ → ControlValue) → Shows a at control → InQueueOrder a
+pub run_in_queue_order : (a : CallState) (at : Word → ℕ) (control : ℕ → ControlValue) → Shows a at control → (cpu : ℕ) (class : Class)
+    → IsPrefix (of_class class (a.ran cpu)) (of_class class (batches (a.taken cpu) ++ a.queue cpu))
 run_in_queue_order a at control s cpu class =
     let more : List Call = running_call (a.running cpu) ++ a.batch cpu in
     let ended : of_class class (batches (a.taken cpu)) ≡ of_class class (a.ran cpu) ++ of_class class more =

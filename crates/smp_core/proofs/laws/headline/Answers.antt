@@ -1,7 +1,5 @@
-use Rattle.smp_stop_steps.specs.Table.{stop_number}
 use Rattle.smp_call_steps.proofs.Headline.{in_one_place, run_once, run_in_order, run_equal_queued}
-use Rattle.smp_stop_steps.proofs.Promises.Headline.{run_disabled, lawful_else}
-use Rattle.smp_stop_steps.proofs.Promises.StopLaws.{keeps_laws}
+use Rattle.smp_stop_steps.proofs.Promises.Headline.{disabled_at_seats, lawful_at_seats}
 use Rattle.smp_core.proofs.laws.headline.Goals as goal
 
 pub returns-clause-state : goal.returns-clause-state
@@ -9,7 +7,7 @@ returns-clause-state g c = let w = c.is_whole.ensures in record {
   calls = w.sound.table.calls;
   shows_calls = w.sound.table.shown;
   stops = w.stops.stops;
-  shows_stops = w.stops.shown;
+  shows_stops = let s = w.stops.shown in record { seat = s.seat; present = s.shows.present; callings = s.shows.callings };
 }
 
 pub returns-clause-place : goal.returns-clause-place
@@ -22,12 +20,10 @@ pub returns-clause-order : goal.returns-clause-order
 returns-clause-order g c a shown = run_in_order shown
 
 pub returns-clause-function : goal.returns-clause-function
-returns-clause-function g c p shown =
-    run_disabled (keeps_laws _ p (stop_number c.args.core.now.stops.table) shown.seat shown.source shown.shows)
+returns-clause-function g c p shown = disabled_at_seats shown
 
 pub returns-clause-lawful : goal.returns-clause-lawful
-returns-clause-lawful g c p shown =
-    lawful_else (keeps_laws _ p (stop_number c.args.core.now.stops.table) shown.seat shown.source shown.shows)
+returns-clause-lawful g c p shown = lawful_at_seats shown
 
 pub returns-clause-drained : goal.returns-clause-drained
 returns-clause-drained g c a shown = run_equal_queued shown

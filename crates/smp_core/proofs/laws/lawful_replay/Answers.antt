@@ -8,7 +8,7 @@ use Rattle.smp_stop_steps.specs.State.{StopState, no_stops}
 use Rattle.smp_stop_steps.specs.Table.{stop_number}
 use Rattle.smp_stop_steps.specs.Tells.{tells_all as tells_stops}
 use Rattle.smp_stop_steps.specs.Value.{StopShown}
-use Rattle.smp_stop_steps.proofs.Promises.Headline.{run_disabled, lawful_else}
+use Rattle.smp_stop_steps.proofs.Promises.Headline.{disabled_while, lawful_while}
 use Rattle.smp_core.specs.Headline.{calls_after, stops_after}
 use Rattle.smp_core.specs.Machine.{setup_in}
 use Rattle.smp_core.specs.New.{new_core}
@@ -52,7 +52,7 @@ returns-clause-function g c = let first = new_core c.args.nr c.args.online c.arg
     ok_then c.replay.result (λ r. (p : StopState) → StopShown p c.in_ok-core.core.stops →
     StopShown (tells_stops (setup_in c.in_ok-core.core) p r.seen.items (answers_from c.in_ok-core.core c.args.events.now)) r.core.stops)
     (λ r. RunDisabled (stops_after first c.args.events.now r.seen.items))
-    (λ r told. run_disabled (laws_after first r.core c.args.events.now r.seen.items
+    (λ r told. disabled_while (laws_after first r.core c.args.events.now r.seen.items
     (subst (λ (k : CoreValue). StopShown (stops_after k c.args.events.now r.seen.items) r.core.stops) c.in_ok-core.ensures.ok
     (told no_stops c.in_ok-core.ensures.no_stops)))) c.replay.ensures.stops
 
@@ -61,6 +61,6 @@ returns-clause-lawful g c = let first = new_core c.args.nr c.args.online c.args.
     ok_then c.replay.result (λ r. (p : StopState) → StopShown p c.in_ok-core.core.stops →
     StopShown (tells_stops (setup_in c.in_ok-core.core) p r.seen.items (answers_from c.in_ok-core.core c.args.events.now)) r.core.stops)
     (λ r. IsLawfulElse (stops_after first c.args.events.now r.seen.items) (stop_number r.core.stops.table))
-    (λ r told. lawful_else (laws_after first r.core c.args.events.now r.seen.items
+    (λ r told. lawful_while (laws_after first r.core c.args.events.now r.seen.items
     (subst (λ (k : CoreValue). StopShown (stops_after k c.args.events.now r.seen.items) r.core.stops) c.in_ok-core.ensures.ok
     (told no_stops c.in_ok-core.ensures.no_stops)))) c.replay.ensures.stops
