@@ -41,3 +41,5 @@ pub mod Names
 pub mod Crews
 -- a CPU stays at its machine, whatever it calls
 pub mod Seats
+-- the headline
+pub mod Headline

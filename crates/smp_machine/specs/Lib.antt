@@ -42,3 +42,5 @@ pub mod ReadLaws
 pub mod StopLaws
 -- when a CPU takes the gate and gives it up
 pub mod GateLaws
+-- the headline
+pub mod Headline

@@ -8,6 +8,7 @@ ghost use Rattle.smp_words.specs.Size.{cpus};
 ghost use Rattle.smp_queue.specs.Audit.{Audited, IfDrained, AreEqual, HasRowsOf, HasZerosFrom};
 ghost use Rattle.smp_queue.specs.Cpu.{IsFull, confirmed_at};
 ghost use Rattle.smp_queue.specs.Handling.{heard};
+ghost use Rattle.smp_queue.specs.Together.{AreTogether, RunsWhatIsSent};
 ghost use Rattle.smp_calls.specs.Ended.{HaveEnded};
 ghost use Rattle.smp_calls.specs.Families.{Awaits, CallsOne, CallsBy, CallsHere, CallsUserHere, CallsMany, QueuesNone, RefusesUser, HandlesNone};
 ghost use Rattle.smp_calls.specs.Records.{call_by, many_call, single_record, user_record, class_for};
@@ -71,6 +72,16 @@ impl<A: Allocator> Hearing<A> {
         ensures { self.new ≡ self.old }
     {
         self.table.sleep_after(looks);
+    }
+
+    /// Two CPUs at one moment: [`CallTable::together`].
+    pub(crate) fn calls_together(&self, one: &mut CallCpu, other: &mut CallCpu)
+        requires { (one.old.table ≡ self.now.table) × (other.old.table ≡ self.now.table) }
+        ensures kept { (one.new ≡ one.old) × (other.new ≡ other.old) }
+        ensures same { AreTogether one.old other.old }
+        ensures runs { RunsWhatIsSent one.old other.old × RunsWhatIsSent other.old one.old }
+    {
+        self.table.together(one, other);
     }
 
     /// What is left of calls: [`CallTable::audit`].

@@ -2,9 +2,13 @@
 
 ghost use Rattle.std.specs.Prelude.{◌≡◌, true, None, length};
 ghost use Rattle.smp_words.specs.Size.{cpus};
+ghost use Rattle.smp_call_steps.specs.Parts.{part_of};
+ghost use Rattle.smp_call_steps.specs.Headline.{InOnePlace, RunOnce, RunInOrder, RunEqualQueued};
+ghost use Rattle.smp_stop_steps.specs.Headline.{RunDisabled, IsLawfulElse};
 ghost use Rattle.smp_queue.specs.Laws.{IsShown as CallsAreShown};
-ghost use Rattle.smp_multi.specs.Laws.{IsShown as StopsAreShown};
+ghost use Rattle.smp_multi.specs.Laws.{IsInside, IsShown as StopsAreShown};
 ghost use Rattle.smp_machine.specs.GateLaws.{GateIsHeld};
+ghost use Rattle.smp_machine.specs.Headline.{HasCalls, HasStops};
 ghost use Rattle.smp_machine.specs.StopLaws.{WorksAreOfTheirCpus, StopsAgreeWithOwn, StopsAreMadeOnce, PollsSendNothing};
 ghost use Rattle.smp_machine.specs.StopLaws.{QueuesKeepOrder, WorksAreTaken, RefusalsAreInOrder};
 ghost use Rattle.smp_machine.specs.ReadLaws.{KindsFollowKeys};
@@ -93,3 +97,31 @@ pub fn works_are_taken()
 pub fn refusals_are_in_order()
     ensures { RefusalsAreInOrder }
 {}
+
+/// The theorem over threads: the six statements of `smp_core::laws::headline`, of each CPU's value, at any time, whatever other
+/// threads do. Some words show calls and stops of which this value is the CPU's part (`calls`, `stops`), and all such calls and
+/// stops have of this CPU what the value has (`own`, `inside`, `irq`). The six hold of all of them, so of those of the two tables,
+/// which are among them by the tables' rules, and of those of which other CPUs are parts too ([`Machine::together`]).
+/// - `place`: Each record is free, held by its source, or locked in exactly one queue, batch or SYNC call that runs.
+/// - `once`: What a source has sent to a CPU is what has begun there and what waits there, each call once.
+/// - `order`: In each class, calls begin in the order in which they joined the queue, and join it in the order in which they were sent.
+/// - `function`: The function of a rendezvous runs only while each CPU of its mask has acknowledged disabled interrupts.
+/// - `lawful`: While no CPU makes a patch, the label table is lawful.
+/// - `drained`: On a drained machine all that was sent has run. [`Machine::shutdown`] says so of the last words.
+///
+/// It makes no step.
+pub fn headline<A: Allocator>(machine: &Machine<A>, cpu: &Cpu<A>)
+    ensures calls { HasCalls cpu.now.calls }
+    ensures stops { HasStops cpu.now.stops }
+    ensures own { (s : HasCalls cpu.now.calls) → part_of s.now.calls cpu.now.calls.number ≡ cpu.now.calls.part }
+    ensures inside { (s : HasStops cpu.now.stops) → IsInside s.now.stops.now cpu.now.stops.number cpu.now.stops.inside }
+    ensures irq { (s : HasStops cpu.now.stops) → s.now.stops.now.irq cpu.now.stops.number ≡ cpu.now.stops.irq }
+    ensures place { (s : HasCalls cpu.now.calls) → InOnePlace s.now.calls s.now.at }
+    ensures once { (s : HasCalls cpu.now.calls) → RunOnce s.now.calls }
+    ensures order { (s : HasCalls cpu.now.calls) → RunInOrder s.now.calls }
+    ensures function { (s : HasStops cpu.now.stops) → RunDisabled s.now.stops }
+    ensures lawful { (s : HasStops cpu.now.stops) → IsLawfulElse s.now.stops s.now.at }
+    ensures drained { (s : HasCalls cpu.now.calls) → RunEqualQueued s.now.calls s.now.at }
+{
+    is_shown(machine, cpu);
+}

@@ -3,6 +3,8 @@
 ghost use Rattle.std.specs.Prelude.{◌≡◌, ◌⊎◌, ◌↔◌, IfOk, IfErr, OnOk, IsErrOf};
 ghost use Rattle.smp_words.specs.Limits.{AreLimits};
 ghost use Rattle.smp_queue.specs.Audit.{Audited, IfDrained, AreEqual, HasRowsOf, HasZerosFrom};
+ghost use Rattle.smp_queue.specs.Together.{AreTogether as CallsTogether, RunsWhatIsSent};
+ghost use Rattle.smp_multi.specs.Together.{AreTogether as StopsTogether, AreInStep, WaitsFor};
 ghost use Rattle.smp_machine.specs.MachineCpu.{IsAt, IsFull};
 
 use crate::boot::{MachineBoot, seat_all};
@@ -123,6 +125,27 @@ impl<A: Allocator> Machine<A> {
         ensures { self.new ≡ self.old }
     {
         self.calls.sleep_after(looks);
+    }
+
+    /// Two CPUs at one moment, whatever other threads do: their values are their parts of the same calls and of the same stops
+    /// (`calls`, `stops`). In each class, the calls of the one that have begun on the other are the first of those that the one has
+    /// sent to it (`runs`). In the stop of one source they have the same work, and neither has acknowledged more than one phase
+    /// more than the other (`step`). While the one is in the stop of the other, the other has this work pending (`waits`).
+    ///
+    /// It makes no step and does not wait, and no CPU must poll.
+    pub fn together(&self, one: &mut Cpu<A>, other: &mut Cpu<A>)
+        requires { IsAt self.now one.old × IsAt self.now other.old }
+        ensures kept { (one.new ≡ one.old) × (other.new ≡ other.old) }
+        ensures calls { CallsTogether one.old.calls other.old.calls }
+        ensures stops { StopsTogether one.old.stops other.old.stops }
+        ensures runs { RunsWhatIsSent one.old.calls other.old.calls × RunsWhatIsSent other.old.calls one.old.calls }
+        ensures step { AreInStep one.old.stops other.old.stops }
+        ensures waits { WaitsFor one.old.stops other.old.stops × WaitsFor other.old.stops one.old.stops }
+    {
+        self.calls
+            .calls_together(&mut one.place.calls, &mut other.place.calls);
+        self.stops
+            .together(&mut one.place.stops, &mut other.place.stops);
     }
 
     /// Gives up the machine and one of its CPUs, and answers what is left of calls, as [`smp_queue::CallTable::audit`]. Other CPUs of

@@ -24,6 +24,8 @@ pub mod Advancing
 pub mod Finishing
 pub mod Showing
 pub mod Calls
+-- two CPUs at one moment
+pub mod Together
 -- readings and nudges of keys
 pub mod Reading
 pub mod Nudging

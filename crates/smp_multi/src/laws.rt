@@ -3,11 +3,13 @@
 ghost use Rattle.std.specs.Prelude.{◌≡◌, true, false};
 ghost use Rattle.smp_labels.specs.declared.kinds.SiteKind.TheVariants.{Nop, Jmp};
 ghost use Rattle.smp_multi.specs.Reads.{jumps};
+ghost use Rattle.smp_multi.specs.Cpu.{CpuValue};
 ghost use Rattle.smp_multi.specs.CallLaws.{CallsAlone, CallsAreListed, StepsAreCalls};
 ghost use Rattle.smp_multi.specs.LabelLaws.{LabelsAreLawful, CountsAreSums};
 ghost use Rattle.smp_multi.specs.Laws.{IsShown, FunctionsRunAlone};
 ghost use Rattle.smp_multi.specs.PatchLaws.{PatchesMoveCounts};
 ghost use Rattle.smp_multi.specs.Polls.{OwnAnswersAgree};
+ghost use Rattle.smp_multi.specs.Together.{AreTogether, AreInStep, WaitsFor};
 
 use crate::answering::Answering;
 use crate::cpu::StopCpu;
@@ -87,4 +89,11 @@ pub fn own_answers_agree()
 /// is at that end of its range, 65,535 or 0, and then nothing moves; else it is 0.
 pub fn patches_move_counts()
     ensures { PatchesMoveCounts }
+{}
+
+/// Two CPUs whose values are parts of the same stops: in the stop of one source they have the same work and are at most one phase
+/// apart, and while one is in the stop of the other, the other has it pending.
+pub fn parts_agree()
+    ensures step { (one other : CpuValue) → AreTogether one other → AreInStep one other }
+    ensures waits { (one other : CpuValue) → AreTogether one other → WaitsFor one other × WaitsFor other one }
 {}

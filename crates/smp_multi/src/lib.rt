@@ -45,6 +45,7 @@ mod answer;
 mod answering;
 mod begin;
 mod boot;
+mod both;
 mod cell;
 mod complete;
 mod cpu;

@@ -8,4 +8,5 @@ pub(crate) mod run_steps;
 
 pub(crate) use access::{
     CpuSeat, Owner, SeatMaker, Words, exchange, lay, load, mask, next_seat, store, subtract,
+    together,
 };

@@ -7,5 +7,7 @@ pub mod Empty
 -- a CPU inside handle
 pub mod Handling
 pub mod Chains
+-- two CPUs at one moment
+pub mod Together
 -- what an audit and the laws tell
 pub mod Audits

@@ -25,6 +25,7 @@ pub mod Chain
 pub mod Laws
 pub mod Out
 pub mod Posted
+pub mod Together
 -- what is refused, by numbers
 pub mod Refusals
 -- all of it by one name, for proofs

@@ -4,7 +4,7 @@
 //! The interrupt is taken before the queue: a call that is queued later finds either its queue not yet taken or
 //! an interrupt word that may be set again.
 
-ghost use Rattle.std.specs.Prelude.{◌≡◌, ◌<◌, true, false, None, List, [], if◌then◌else◌, length};
+ghost use Rattle.std.specs.Prelude.{◌≡◌, ◌<◌, true, false, None, List, [], if◌then◌else◌, length, IfSome};
 ghost use Rattle.smp_words.specs.Size.{cpus};
 ghost use Rattle.smp_call_steps.specs.Order.{order};
 ghost use Rattle.smp_call_steps.specs.Drains.{reverse_on};
@@ -15,6 +15,7 @@ ghost use Rattle.smp_call_steps.specs.declared.handle.HandleStage.{HandleStage};
 ghost use Rattle.smp_call_steps.specs.declared.handle.HandleStage.TheVariants as handle;
 ghost use Rattle.smp_call_steps.specs.declared.known.Running.TheVariants.{Nothing};
 ghost use Rattle.smp_queue.specs.Seat.{InHandle, IsOutside};
+ghost use Rattle.smp_queue.specs.declared.run.Pass.TheVariants.{Second};
 ghost use Rattle.smp_queue.specs.Cpu.{cpu_of};
 ghost use Rattle.smp_queue.specs.Handling.{AreRan, Grows, asks, drains};
 ghost use Rattle.smp_queue.specs.Serving.{Begins, IsAt, HasRun, HasRunAll, on, begins_at};
@@ -84,7 +85,8 @@ pub(crate) fn go_on(
 ) -> Option<Place>
     requires me { seat.old.known.number ≡ number }
     requires at { InHandle words.shared.now.table_id seat.old (on pass here) }
-    ensures { IsAt words.entry.shared.now.table_id (cpu_of seat.old) seat.new result }
+    ensures at { IsAt words.entry.shared.now.table_id (cpu_of seat.old) seat.new result }
+    ensures second { pass ≡ Second → IfSome result (λ p. p.pass ≡ Second) }
 {
     match pass_on(words, seat, pass, here) {
         Passed::At(place) => Some(place),
@@ -136,7 +138,8 @@ fn run_one<H: Handler>(
     requires me { seat.old.known.number ≡ number }
     requires at { InHandle words.shared.now.table_id seat.old (begins_at place) }
     requires counts { AreRan counts.old seat.old.known }
-    ensures { HasRun H.leads words.entry.shared.now.table_id seat.old seat.new place.call result counts.new handler.old handler.new }
+    ensures run { HasRun H.leads words.entry.shared.now.table_id seat.old seat.new place.call result counts.new handler.old handler.new }
+    ensures second { place.pass ≡ Second → IfSome result (λ p. p.pass ≡ Second) }
 {
     let begun = begin_call(words, seat, number, place, handler);
     let call = place.call;
@@ -145,7 +148,7 @@ fn run_one<H: Handler>(
     go_on(words, seat, number, place.pass, place.next)
 }
 
-/// Runs the calls of a batch, one after another. Each pass has code of its own, which asks for no pass.
+/// Runs the calls of a batch: its SYNC calls one after another, and then its ASYNC calls.
 #[inline(always)]
 fn run_batch<H: Handler>(
     words: Words,
@@ -162,31 +165,41 @@ fn run_batch<H: Handler>(
     ensures { HasRunAll H.leads words.entry.shared.now.table_id seat.old seat.new counts.new handler.old handler.new }
 {
     let mut here = first;
-    while let Some(Place { pass, call, next }) = here {
-        here = match pass {
-            Pass::First(walk) => {
-                let pass = Pass::First(walk);
-                run_one(
-                    words,
-                    seat,
-                    number,
-                    counts,
-                    Place { pass, call, next },
-                    handler,
-                )
-            }
-            Pass::Second => {
-                let pass = Pass::Second;
-                run_one(
-                    words,
-                    seat,
-                    number,
-                    counts,
-                    Place { pass, call, next },
-                    handler,
-                )
-            }
-        };
+    while let Some(
+        Place {
+            pass: Pass::First(walk),
+            call,
+            next,
+        },
+    ) = here
+    {
+        let pass = Pass::First(walk);
+        here = run_one(
+            words,
+            seat,
+            number,
+            counts,
+            Place { pass, call, next },
+            handler,
+        );
+    }
+    while let Some(
+        Place {
+            pass: Pass::Second,
+            call,
+            next,
+        },
+    ) = here
+    {
+        let pass = Pass::Second;
+        here = run_one(
+            words,
+            seat,
+            number,
+            counts,
+            Place { pass, call, next },
+            handler,
+        );
     }
 }
 

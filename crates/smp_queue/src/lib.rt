@@ -21,7 +21,7 @@
 //! types refuse it, since `new` makes the table, `audit` takes it, and `Boot::cpu` takes the one `Boot` by `&mut`. The
 //! first five take the caller's `CallCpu` by `&mut` or by value. So `-` is about two CPUs, and a CPU makes one call at a time.
 //!
-//! `wake`, `wake_waiting`, `set_alarm` and `pause` make no step. They may run together with all calls but `new` and `audit`.
+//! `wake`, `wake_waiting`, `set_alarm`, `pause` and `together` make no step. They may run together with all calls but `new` and `audit`.
 //! `sleep_after` takes the table by `&mut`, so it comes before threads share the table.
 //!
 //! A caller that can lend no handler runs a batch itself. `begin_handle` takes a `CallCpu` and gives a `Next`. At `Next::Run`
@@ -36,6 +36,7 @@
 mod alarms;
 mod audit;
 mod boot;
+mod both;
 mod cell;
 mod closing;
 mod cpu;

@@ -6,6 +6,8 @@ ghost use Rattle.smp_call_steps.specs.Drains.{first_on};
 ghost use Rattle.smp_call_steps.specs.declared.handle.HandleStage.TheVariants as handle;
 ghost use Rattle.smp_queue.specs.Seat.{InHandle};
 ghost use Rattle.smp_queue.specs.Serving.{PassesOn, on, begins_at};
+ghost use Rattle.smp_queue.specs.declared.run.Pass.TheVariants.{Second};
+ghost use Rattle.smp_queue.specs.declared.run.Passed.TheVariants.{Over};
 
 use crate::seat::{CpuSeat, Words, load, store};
 use smp_call_steps::drain::linked;
@@ -76,13 +78,13 @@ fn next_sync(words: Words, seat: &mut CpuSeat, first: Walk, from: Option<u32>) -
     ensures { PassesOn words.entry.shared.now.table_id seat.old seat.new result }
 {
     let mut walk = first;
-    let mut here = from;
-    while let Some(id) = here {
-        let link = load(words, seat, Word::Next(id));
-        let next = linked(link);
+    let mut link = link_of(from);
+    while let Some(id) = linked(link) {
+        link = load(words, seat, Word::Next(id));
         let flags = load(words, seat, Word::Flags(id));
         match Class::of_flags(flags) {
             Class::Sync => {
+                let next = linked(link);
                 let (left, call) = unlink(words, seat, walk, id, next);
                 return Passed::At(Place {
                     pass: Pass::First(left),
@@ -97,7 +99,6 @@ fn next_sync(words: Words, seat: &mut CpuSeat, first: Walk, from: Option<u32>) -
                 };
             }
         }
-        here = next;
     }
     Passed::Over(walk.first)
 }
@@ -106,7 +107,8 @@ fn next_sync(words: Words, seat: &mut CpuSeat, first: Walk, from: Option<u32>) -
 #[inline(always)]
 pub(crate) fn pass_on(words: Words, seat: &mut CpuSeat, pass: Pass, here: Option<u32>) -> Passed
     requires at { InHandle words.shared.now.table_id seat.old (on pass here) }
-    ensures { PassesOn words.entry.shared.now.table_id seat.old seat.new result }
+    ensures on { PassesOn words.entry.shared.now.table_id seat.old seat.new result }
+    ensures second { pass ≡ Second → result ≡ Over here }
 {
     match pass {
         Pass::First(walk) => next_sync(words, seat, walk, here),
@@ -120,6 +122,7 @@ pub(crate) fn next_async(words: Words, seat: &mut CpuSeat, id: u32) -> Place
     requires at { InHandle words.shared.now.table_id seat.old (handle.AsyncNext id) }
     ensures at { InHandle words.entry.shared.now.table_id seat.new (begins_at result) }
     ensures known { seat.new.known ≡ record (seat.old.known) { stage = seat.new.known.stage } }
+    ensures pass { result.pass ≡ Second }
 {
     let link = load(words, seat, Word::Next(id));
     let next = linked(link);

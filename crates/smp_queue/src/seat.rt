@@ -6,5 +6,6 @@ pub mod call_steps;
 mod plays;
 
 pub(crate) use access::{
-    CpuSeat, Owner, SeatMaker, Words, close, exchange, lay, load, next_seat, note_call, store, swap,
+    CpuSeat, Owner, SeatMaker, Words, close, exchange, lay, load, next_seat, note_call, store,
+    swap, together,
 };

@@ -5,12 +5,15 @@
 //! no other makes a call any more.
 //!
 //! - `sign`: What the line shows to those that wait at it.
+//! - `seats`: What two seats of one table tell of one moment.
 #![tactic(auto)]
 
+mod seats;
 mod sign;
 
 use crate::sign::Sign;
 use crossbeam_utils::Backoff;
+pub use seats::both_now;
 use std::sync::Wait;
 use std::sync::atomic::{AtomicU64, Ordering};
 

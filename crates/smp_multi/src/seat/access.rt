@@ -21,12 +21,14 @@ ghost use Rattle.smp_multi.specs.declared.seat_view.SeatView.TheVariants.{Maker}
 ghost use Rattle.smp_multi.specs.Cells.{cells};
 ghost use Rattle.smp_stop_steps.specs.AnswerWords.{IsI32Word};
 ghost use Rattle.smp_multi.specs.Seat.{SeatValue, Able, Ready, fresh_seat};
+ghost use Rattle.smp_multi.specs.Together.{KnowTogether};
 
 use super::plays::{Answer, Answered, Exchanged, Loaded, Masked, Stored, Subtracted};
 use crate::cell::{FIRST_ENTRY, cell};
 use crate::rule::{NextSeat, RawSeat, StopRule};
 use crate::seat_view::SeatView;
 use atomic_table::{Shared, Table};
+use smp_start::both_now;
 use smp_stop_steps::known::Setting;
 use smp_words::word::Word;
 use std::alloc::{AllocError, Allocator};
@@ -134,6 +136,15 @@ pub(crate) fn next_seat(
     } else {
         None
     }
+}
+
+/// What two CPUs of the table know now is their parts of the same stops. It makes no step.
+pub(crate) fn together(words: Words<'_>, one: &mut CpuSeat, other: &mut CpuSeat)
+    requires { (one.old.table ≡ words.shared.now.table_id) × (other.old.table ≡ words.shared.now.table_id) }
+    ensures kept { (one.new ≡ one.old) × (other.new ≡ other.old) }
+    ensures same { KnowTogether one.old.known other.old.known }
+{
+    both_now(words.shared, &mut one.raw, &mut other.raw);
 }
 
 /// Loads a word.

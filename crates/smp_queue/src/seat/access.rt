@@ -14,6 +14,7 @@ ghost use Rattle.smp_queue.specs.Audit.{Closes};
 ghost use Rattle.smp_queue.specs.Cells.{cells};
 ghost use Rattle.smp_queue.specs.Seat.{SeatValue, Loads, Ready, IsStepOfCall};
 ghost use Rattle.smp_queue.specs.Rule.{Sits, HasComeTo};
+ghost use Rattle.smp_queue.specs.Together.{KnowTogether};
 ghost use Rattle.smp_words.specs.Size.{cpus};
 ghost use Rattle.smp_mask.specs.Mask.{has};
 
@@ -23,6 +24,7 @@ use crate::rule::{CallRule, NextSeat, RawSeat};
 use crate::seat_view::SeatView;
 use atomic_table::{Closed, Shared, Table};
 use smp_call_steps::known::Setting;
+use smp_start::both_now;
 use smp_words::Word;
 use std::alloc::{AllocError, Allocator};
 use std::marker::Model;
@@ -120,6 +122,15 @@ pub(crate) fn close<A: Allocator>(owner: Owner<A>, seat: CpuSeat) -> Closed<(), 
     ensures closes { Closes owner.table.shared.key seat.known (slots_items result.words) }
 {
     owner.table.close_with(seat.raw)
+}
+
+/// What two CPUs of the table know now is their parts of the same calls. It makes no step.
+pub(crate) fn together(words: Words, one: &mut CpuSeat, other: &mut CpuSeat)
+    requires { (one.old.table ≡ words.shared.now.table_id) × (other.old.table ≡ words.shared.now.table_id) }
+    ensures kept { (one.new ≡ one.old) × (other.new ≡ other.old) }
+    ensures same { KnowTogether one.old.known other.old.known }
+{
+    both_now(words.shared, &mut one.raw, &mut other.raw);
 }
 
 /// Loads a word.

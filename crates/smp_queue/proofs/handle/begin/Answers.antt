@@ -10,5 +10,5 @@ returns c =
     let h =
     has_begun c.args.words.shared.now.table_id c.args.seat.now c.enter.new.seat c.take-newest.new.seat c.reverse-oldest.new.seat c.go_on-first.new.seat
     k.0 c.take-newest.result c.reverse-oldest.result.0 c.go_on-first.result
-    c.requires.table_is e.at e.known c.take-newest.ensures.at.table_is k.1 r.at r.known c.go_on-first.ensures in
+    c.requires.table_is e.at e.known c.take-newest.ensures.at.table_is k.1 r.at r.known c.go_on-first.ensures.at in
     (k.0, r.calls ∙ h.0, h.1)

@@ -9,12 +9,12 @@ end_call-requires-clause-counts g c =
     ran_still c.args.counts.now c.args.seat.now.known c.begin_call-begun.new.seat.known c.requires.counts
     (ap (λ (u : Known). u.part.ran) c.begin_call-begun.ensures.gives.known)
 
-pub returns : goal.returns
-returns g c =
+pub returns-clause-run : goal.returns-clause-run
+returns-clause-run g c =
     let begun = c.begin_call-begun.ensures.gives in
     let ended = c.end_call.ensures in
     ran_one g.H.Handler.leads c.args.words.shared.now.table_id c.args.seat.now c.begin_call-begun.new.seat c.end_call.new.seat c.go_on.new.seat
     c.args.place c.go_on.result c.end_call.new.counts c.args.handler.now c.call.new.self
-    c.requires.at.table_is begun ended.at.table_is ended.known ended.counts c.go_on.ensures
+    c.requires.at.table_is begun ended.at.table_is ended.known ended.counts c.go_on.ensures.at
     (subst (λ (n : ℕ). g.H.Handler.leads c.args.handler.now (heard n c.args.place.call.func c.args.place.call.info) c.call.new.self) c.owner_of.ensures
     c.call.ensures)

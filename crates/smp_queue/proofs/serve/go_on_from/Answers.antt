@@ -22,13 +22,13 @@ next_of-requires-clause-kept c =
     let s1 = c.end_call.new.seat in
     let place = c.serving.inside.place in
     let table = c.end_call.ensures.at.table_is ∙ sym (ap (λ (s : ServingValue). s.cpu.table) c.serving.view_is ∙ c.requires.table) in
-    let now = at_cpu _ _ _ c.go_on-found.result c.go_on-found.ensures in
+    let now = at_cpu _ _ _ c.go_on-found.result c.go_on-found.ensures.at in
     let e = now ∙ ended_is s0 s1 (goes_from place) place.call table c.end_call.ensures.known in
     kept_by s0.known c.go_on-found.new.seat (ends place.call (cpu_of s0)) _ _ _ _ c.serving.invariant.0.kept e refl refl refl refl
     (ran_still _ s1.known c.go_on-found.new.seat.known c.end_call.ensures.counts (ap (λ (x : CpuValue). x.part.ran) now))
 
 pub next_of-requires-clause-at : goal.next_of-requires-clause-at
-next_of-requires-clause-at c = at_stands _ _ _ c.go_on-found.result c.go_on-found.ensures
+next_of-requires-clause-at c = at_stands _ _ _ c.go_on-found.result c.go_on-found.ensures.at
 
 pub returns : goal.returns
 returns c =
@@ -36,6 +36,6 @@ returns c =
     let s1 = c.end_call.new.seat in
     let place = c.serving.inside.place in
     let table = c.end_call.ensures.at.table_is ∙ sym (ap (λ (s : ServingValue). s.cpu.table) c.serving.view_is ∙ c.requires.table) in
-    let e = at_cpu _ _ _ c.go_on-found.result c.go_on-found.ensures ∙ ended_is s0 s1 (goes_from place) place.call table c.end_call.ensures.known in
+    let e = at_cpu _ _ _ c.go_on-found.result c.go_on-found.ensures.at ∙ ended_is s0 s1 (goes_from place) place.call table c.end_call.ensures.known in
     subst (λ (s : ServingValue). NextIs (ends s.call s.cpu) c.next_of.result) c.serving.view_is
     (subst (λ (x : CpuValue). NextIs x c.next_of.result) e c.next_of.ensures)

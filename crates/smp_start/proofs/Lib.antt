@@ -1,0 +1,2 @@
+-- what is learned of a table with no step
+pub mod Moments
