@@ -1,13 +1,15 @@
-/* storm THREADS ROUNDS SLEEP_AFTER: threads make calls and stops of each kind, all at once, and check what has run.
+/* storm THREADS ROUNDS SLEEP_AFTER [SECONDS]: threads make calls and stops of each kind, all at once, and check what has run.
  *
- * In each round a thread makes a call of each kind, and in each hundredth round, a stop of each kind. It ends with status 0 where
- * each call has run once, no wait has ended before its function had run, no function has run beside a stop function of all,
- * and the keys are as the changes of them say. The last line says how many of each there were. */
+ * In each round a thread makes a call of each kind, and in each hundredth round, a stop of each kind. It makes at least so many
+ * rounds, and goes on for at least so many seconds. It ends with status 0 where each call has run once, no wait has ended before its
+ * function had run, no function has run beside a stop function of all, no site was seen that was not as its key, and the keys are as
+ * the changes of them say. The last line says how many of each there were. */
 #include "smp_tables.h"
 #include <pthread.h>
 #include <stdio.h>
 #include <stdlib.h>
 #include <string.h>
+#include <time.h>
 
 enum { MOST = 32, COUNT = 1, ALONE, EACH, ONE };
 enum { SINGLE, LATER, ASYNC, MANY, MANY_LATER, WITHIN, KINDS };
@@ -24,8 +26,11 @@ static smp_crew crew;
 static smp_cpu cpus[MOST];
 static thread_data all[MOST];
 static uint32_t threads, rounds, done;
+static time_t ends;
 static uint64_t alone, each;
-static int keys; /* whether the tables have keys */
+
+/* Key 0 is turned on and off, key 1 is counted up and down, and each site of key 0 is as the other is not. */
+static const smp_site sites[] = {{0, 0}, {0, 1}, {1, 0}};
 
 static void check(int holds, const char *what) {
   if (!holds)
@@ -83,6 +88,12 @@ static void make_calls(smp_seat *s, thread_data *own, uint32_t to) {
       check(all[cpu].seen[s->me][WITHIN] == info, "call_many_within has not waited");
 }
 
+/* This CPU takes part in each stop, so nothing turns while it does not poll. */
+static void look_at_sites(smp_seat *s) {
+  int32_t on = smp_read_key(&s->cpu, 0);
+  check(on >= 0 && smp_read_site(&s->cpu, 0) == on && smp_read_site(&s->cpu, 1) == !on, "a site that is not as its key");
+}
+
 static void make_stops(smp_seat *s, thread_data *own, uint32_t to, int on) {
   int32_t answer = 0, turned;
   check(smp_stop_one(s, to, ONE, 7, &answer) == 0 && answer == ONE + 7, "stop_one");
@@ -91,20 +102,21 @@ static void make_stops(smp_seat *s, thread_data *own, uint32_t to, int on) {
   check(smp_stop_machine(s, crew.online, EACH, 2, &answer) == 0 && answer == EACH + 2, "stop_machine of all active");
   check(smp_stop_machine(s, 0, ALONE, 1, &answer) == 0 && answer == 0, "stop_machine of none active");
   own->stops++;
-  if (!keys)
-    return;
   check((turned = smp_set_key(s, 0, on)) >= 0 && smp_read_key(&s->cpu, 0) == on, "set_key");
+  look_at_sites(s);
   own->turned[on] += turned == 1;
-  check(smp_count_key(s, 1, 1) >= 0 && smp_read_key(&s->cpu, 1) == 1 && smp_count_key(s, 1, 0) >= 0, "count_key");
+  check(smp_count_key(s, 1, 1) >= 0 && smp_read_key(&s->cpu, 1) == 1 && smp_read_site(&s->cpu, 2) == 1, "count_key up");
+  check(smp_count_key(s, 1, 0) >= 0, "count_key down");
 }
 
 static void *thread(void *arg) {
   uint32_t me = (uint32_t)(uintptr_t)arg;
   thread_data *own = &all[me];
   smp_seat s = smp_sit(&crew, &cpus[me], me, run, own);
-  for (uint32_t i = 0; i < rounds; i++) {
+  for (uint32_t i = 0; i < rounds || time(NULL) < ends; i++) {
     uint32_t to = (me + 1 + i % (threads - 1)) % threads;
     make_calls(&s, own, to);
+    look_at_sites(&s);
     if (i % 100 == 0)
       make_stops(&s, own, to, i / 100 % 2 == 0);
   }
@@ -128,20 +140,22 @@ static void check_sums(void) {
     turned[1] += all[c].turned[1];
   }
   check(alone == stops && each == stops * threads, "a stop function was lost, or has run twice");
-  check(!keys || ((uint64_t)smp_read_key(&cpus[0], 0) == turned[1] - turned[0] && smp_read_key(&cpus[0], 1) == 0), "the keys");
-  printf("%lu single, %lu without wait, %lu async, %lu many, %lu without wait, %lu within of which %lu gave up, %lu stops of each kind, %s\n",
+  check((uint64_t)smp_read_key(&cpus[0], 0) == turned[1] - turned[0] && smp_read_key(&cpus[0], 1) == 0, "the keys");
+  printf("%lu single, %lu without wait, %lu async, %lu many, %lu without wait, %lu within of which %lu gave up, %lu stops of each kind, "
+         "a key turned %lu times\n",
          (unsigned long)sums[SINGLE], (unsigned long)sums[LATER], (unsigned long)sums[ASYNC], (unsigned long)sums[MANY],
          (unsigned long)sums[MANY_LATER], (unsigned long)sums[WITHIN], (unsigned long)silent, (unsigned long)stops,
-         keys ? "and of keys" : "and no keys");
+         (unsigned long)(turned[0] + turned[1]));
 }
 
 int main(int count, char **words) {
   pthread_t ids[MOST];
-  check(count == 4 && (threads = (uint32_t)atoi(words[1])) >= 2 && threads <= MOST, "usage: storm THREADS ROUNDS SLEEP_AFTER");
+  check((count == 4 || count == 5) && (threads = (uint32_t)atoi(words[1])) >= 2 && threads <= MOST,
+        "usage: storm THREADS ROUNDS SLEEP_AFTER [SECONDS]");
   rounds = (uint32_t)atoi(words[2]);
-  check(smp_start(&crew, threads, threads == 32 ? 0xffffffff : (1u << threads) - 1, cpus, MOST) == 0, "start");
+  ends = count == 5 ? time(NULL) + atoi(words[4]) : 0;
+  check(smp_start_keys(&crew, threads, threads == 32 ? 0xffffffff : (1u << threads) - 1, 2, sites, 3, cpus, MOST) == 0, "start");
   crew.sleep_after = (uint32_t)atoi(words[3]);
-  keys = smp_read_key(&cpus[0], 0) >= 0;
   for (uintptr_t cpu = 0; cpu < threads; cpu++)
     check(pthread_create(&ids[cpu], NULL, thread, (void *)cpu) == 0, "pthread_create");
   for (uint32_t cpu = 0; cpu < threads; cpu++)

@@ -1,16 +1,26 @@
 //! storm THREADS ROUNDS SLEEP_AFTER: as storm.c, over the safe types of smp_tables.rs. SLEEP_AFTER 0: no wait sleeps.
 //!
 //! It ends with status 0 where each call has run once, each wait has ended after its function had run, and no function has run
-//! beside a stop function of all.
+//! beside a stop function of all, and each site was seen as its key.
 #[path = "../../crates/smp_tables_c/include/smp_tables.rs"]
 mod smp_tables;
 
-use smp_tables::{Call, Cpu, Error, Seat, open};
+use smp_tables::{Call, Cpu, Error, Seat, Site, open_keys};
 use std::sync::atomic::{AtomicU32, AtomicU64, Ordering::SeqCst};
 use std::{array, env, thread};
 
 const COUNT: u32 = 1;
 const ALONE: u32 = 2;
+const SITES: [Site; 2] = [
+    Site {
+        key: 0,
+        branch: false,
+    },
+    Site {
+        key: 0,
+        branch: true,
+    },
+];
 
 /// What all threads see: what was sent and has run, between each two; who runs a function; how many stops ran, and have ended.
 struct All {
@@ -80,11 +90,10 @@ fn make_stops<F: FnMut(u32, &Call) -> i32>(
     assert_eq!(seat.stop_machine(0, ALONE, 0)?, 0);
     assert_eq!(seat.stop_one(to, COUNT, 0)?, 7);
     assert_eq!(seat.stop_one(seat.cpu.number(), COUNT, 0)?, 7);
-    if seat.cpu.read_key(0) == Err(Error::BadArgument) {
-        return Ok(()); // the tables have no keys
-    }
     seat.set_key(0, on)?;
     assert_eq!(seat.cpu.read_key(0)?, on);
+    assert_eq!(seat.cpu.read_site(0)?, on);
+    assert_eq!(seat.cpu.read_site(1)?, !on);
     seat.count_key(1, true)?;
     assert!(seat.cpu.read_key(1)?);
     seat.count_key(1, false)?;
@@ -128,9 +137,11 @@ fn main() -> Result<(), Error> {
         stops,
         done,
     };
-    let cpus = open(
+    let cpus = open_keys(
         threads,
         u32::MAX >> (32 - threads),
+        2,
+        &SITES,
         (sleep_after > 0).then_some(sleep_after),
     )?;
     thread::scope(|s| {

@@ -17,9 +17,7 @@ static void is(const char *what, int32_t found, int32_t wanted) {
 static smp_cpu cpus[NR];
 static smp_call call;
 static int32_t result;
-
-/* An answer about a key: another one where the tables have none. */
-static int32_t keyed(int32_t wanted) { return crew.online == 0 || smp_read_key(&cpus[2], 0) < 0 ? (int32_t)SMP_E_BAD_ARGUMENT : wanted; }
+static const smp_site sites[17] = {{0, 0}, {0, 1}, {1, 0}}; /* the others are as the first */
 
 static void closed(smp_cpu *c) {
   smp_work work = {0, SMP_ONE, 1, 1, FUNC};
@@ -72,11 +70,14 @@ static void outside(smp_cpu *c) {
 
 static void opens(void) {
   smp_cpu none[NR] = {{0, 0}, {0, 0}, {0, 0}, {0, 0}};
-  IS(SMP_E_BAD_ARGUMENT, smp_open(0, 1, none, NR));
-  IS(SMP_E_BAD_ARGUMENT, smp_open(33, 1, none, NR));
-  IS(SMP_E_BAD_ARGUMENT, smp_open(NR, 0, none, NR));
-  IS(SMP_E_BAD_ARGUMENT, smp_open(NR, 16, none, NR));
-  IS(SMP_E_BAD_ARGUMENT, smp_open(NR, ONLINE, none, NR - 1));
+  IS(SMP_E_BAD_ARGUMENT, smp_open(0, 1, 2, sites, 3, none, NR));
+  IS(SMP_E_BAD_ARGUMENT, smp_open(33, 1, 2, sites, 3, none, NR));
+  IS(SMP_E_BAD_ARGUMENT, smp_open(NR, 0, 2, sites, 3, none, NR));
+  IS(SMP_E_BAD_ARGUMENT, smp_open(NR, 16, 2, sites, 3, none, NR));
+  IS(SMP_E_BAD_ARGUMENT, smp_open(NR, ONLINE, 2, sites, 3, none, NR - 1));
+  IS(SMP_E_BAD_ARGUMENT, smp_open(NR, ONLINE, 5, sites, 3, none, NR));  /* so many keys */
+  IS(SMP_E_BAD_ARGUMENT, smp_open(NR, ONLINE, 2, sites, 17, none, NR)); /* so many sites */
+  IS(SMP_E_BAD_ARGUMENT, smp_open(NR, ONLINE, 1, sites, 3, none, NR));  /* a site of key 1 */
   closed(&none[0]);
 }
 
@@ -142,12 +143,44 @@ static void stops(smp_cpu *c) {
 }
 
 static void keys(smp_cpu *c) {
-  IS(SMP_E_BAD_ARGUMENT, smp_read_key(c, 99));
-  IS(SMP_E_BAD_ARGUMENT, smp_read_site(c, 99));
-  IS(SMP_E_BAD_ARGUMENT, smp_try_key(c, 99, 1));
-  IS(keyed(0), smp_read_key(c, 0));
-  IS(keyed(SMP_E_KEY_RANGE), smp_try_key(c, 0, 0));
-  IS(keyed(SMP_STOP), smp_try_key(c, 0, 1));
+  IS(SMP_E_BAD_ARGUMENT, smp_read_key(c, 2));
+  IS(SMP_E_BAD_ARGUMENT, smp_read_site(c, 3));
+  IS(SMP_E_BAD_ARGUMENT, smp_try_key(c, 2, 1));
+  IS(0, smp_read_key(c, 0));
+  IS(0, smp_read_site(c, 0));
+  IS(1, smp_read_site(c, 1));
+  IS(SMP_E_KEY_RANGE, smp_try_key(c, 0, 0));
+  IS(SMP_STOP, smp_try_key(c, 0, 1));
+}
+
+static int32_t none_runs(void *context, uint32_t me, const smp_call *heard) { return (void)context, (void)me, (void)heard, 0; }
+
+/* A CPU that is alone online turns a key, and counts it to both ends of its range. */
+static void key_alone(void) {
+  smp_crew one;
+  smp_cpu cpu = {0, 0};
+  IS(0, smp_start_keys(&one, 1, 1, 2, sites, 3, &cpu, 1));
+  smp_seat s = smp_sit(&one, &cpu, 0, none_runs, NULL);
+  IS(SMP_E_KEY_RANGE, smp_count_key(&s, 0, 0));
+  IS(1, smp_set_key(&s, 0, 1));
+  IS(0, smp_set_key(&s, 0, 1));
+  IS(1, smp_read_key(&s.cpu, 0));
+  IS(1, smp_read_site(&s.cpu, 0));
+  IS(0, smp_read_site(&s.cpu, 1));
+  IS(0, smp_read_key(&s.cpu, 1));
+  IS(0, smp_read_site(&s.cpu, 2));
+  IS(SMP_STOP, smp_try_key(&s.cpu, 0, 0));
+  for (int count = 1; count < 65535; count++)
+    failed += smp_try_key(&s.cpu, 0, 1) != SMP_NUDGED;
+  IS(SMP_E_KEY_RANGE, smp_try_key(&s.cpu, 0, 1));
+  IS(SMP_E_KEY_RANGE, smp_count_key(&s, 0, 1));
+  IS(1, smp_read_key(&s.cpu, 0));
+  IS(1, smp_set_key(&s, 0, 0));
+  IS(0, smp_read_site(&s.cpu, 0));
+  IS(1, smp_count_key(&s, 0, 1));
+  IS(1, smp_count_key(&s, 0, 0));
+  IS(0, smp_read_key(&s.cpu, 0));
+  IS(0, smp_close(&s.cpu));
 }
 
 static int32_t from_inside(void *context, uint32_t me, const smp_call *heard) {
@@ -189,13 +222,14 @@ int main(void) {
   static const smp_cpu none = {0, 0};
   opens();
   IS(SMP_TABLES_VERSION, (int32_t)smp_tables_version());
-  IS(0, smp_start(&crew, NR, ONLINE, cpus, NR));
+  IS(0, smp_start_keys(&crew, NR, ONLINE, 2, sites, 3, cpus, NR));
   closed(&cpus[3]);
   for (int cpu = 0; cpu < 3; cpu++)
     outside(&cpus[cpu]);
   calls(&cpus[0]);
   stops(&cpus[0]);
   keys(&cpus[0]);
+  key_alone();
   smp_seat s = smp_sit(&crew, &cpus[0], 0, from_inside, &s), other = smp_sit(&crew, &cpus[1], 1, from_inside, &other);
   closed(&cpus[0]);
   in_c(&s, &other);

@@ -32,7 +32,7 @@ extern "C" {
 #endif
 
 /* The version of this header. It is another one as soon as a program has to be compiled again. */
-enum { SMP_TABLES_VERSION = 1 };
+enum { SMP_TABLES_VERSION = 2 };
 
 /* What a step answers where it was refused. Then it has changed nothing, unless its text says otherwise. */
 enum smp_error {
@@ -57,8 +57,8 @@ typedef struct smp_cpu {
   uint32_t is_open;
 } smp_cpu;
 
-/* A call that is to be run: `func` with `info`, for the CPU `src`. Of a stop, `info` is its `arg`, and `src` its slot, which is the
- * number of the CPU that stops. */
+/* What is to be run: `func` with `info`, for the CPU `src`. Where it is the function of a stop, `info` is the stop's `arg`, and `src`
+ * its slot, which is the number of the CPU that stops. */
 typedef struct smp_call {
   uint64_t info;
   uint32_t src, func;
@@ -69,6 +69,11 @@ typedef struct smp_work {
   uint64_t arg;
   uint32_t kind, mask, active, func;
 } smp_work;
+
+/* A site: a place that branches on the key of this number. It jumps while the key is on, or where `branch` is not 0, while it is off. */
+typedef struct smp_site {
+  uint32_t key, branch;
+} smp_site;
 
 enum { SMP_SYNC, SMP_ASYNC };                                     /* the class of a call: its source waits for it, or does not */
 enum { SMP_ONE, SMP_MULTI, SMP_PATCH };                           /* the kind of a stop: of one CPU, of several, of all for a key */
@@ -85,9 +90,11 @@ enum { SMP_NUDGED, SMP_LOST, SMP_STOP };                          /* of smp_try_
 /* The version of the library. */
 uint32_t smp_tables_version(void);
 
-/* Makes the tables of `nr` CPUs, and opens cpus[c] for each CPU c of the mask `online`. All or none is opened.
- * E4 where nr is not 1 to 32, no CPU is online, one that is online is not below nr, or nr is more than length. Then E6. */
-int32_t smp_open(uint32_t nr, uint32_t online, smp_cpu *cpus, size_t length);
+/* Makes the tables of `nr` CPUs with the keys 0 to keys - 1, all off, and the sites 0 to sites_length - 1. Opens cpus[c] for each CPU c
+ * of the mask `online`. All or none is opened.
+ * E4 where nr is not 1 to 32, no CPU is online, one that is online is not below nr, nr is more than length, there are more than 4 keys
+ * or 16 sites, or a site's key is not one of the keys. Then E6. */
+int32_t smp_open(uint32_t nr, uint32_t online, uint32_t keys, const smp_site *sites, size_t sites_length, smp_cpu *cpus, size_t length);
 
 /* Closes a handle, also while a function is out. What is queued for its CPU runs no more, so close it once nobody calls or stops
  * this CPU. */
@@ -143,8 +150,7 @@ int32_t smp_finish(smp_cpu *cpu);
 /* 1: all CPUs have completed the own stop, *result has its answer, and the slot is free. 0: not yet. E4 where no stop is open. */
 int32_t smp_poll_done(smp_cpu *cpu, int32_t *result);
 
-/* The tables that smp_open makes have no keys and no sites yet, so what reads or turns one answers E4.
- * 1: the key is on; 0: it is off. E4 where there is no such key, or the CPU has its interrupts off. */
+/* 1: the key is on; 0: it is off. It turns in a stop of all online CPUs alone. E4 where there is no such key, or the CPU has its interrupts off. */
 int32_t smp_read_key(smp_cpu *cpu, uint32_t k);
 
 /* 1: the site is a jump; 0: it is a NOP. E4 where there is no such site, or the CPU has its interrupts off. */
@@ -233,13 +239,20 @@ static inline uint32_t smp_many(uint32_t to) { return to < 8 ? to + 2 : to + 4; 
 static inline uint32_t smp_first(uint32_t mask) { return (uint32_t)__builtin_ctz(mask); }
 
 /* Checks the version, and opens the handles, as smp_open; fills the crew, whose waits don't sleep. Before threads start. */
-static inline int32_t smp_start(smp_crew *crew, uint32_t nr, uint32_t online, smp_cpu *cpus, size_t length) {
+static inline int32_t smp_start_keys(smp_crew *crew, uint32_t nr, uint32_t online, uint32_t keys, const smp_site *sites,
+                                     size_t sites_length, smp_cpu *cpus, size_t length) {
   static const smp_crew none = {0, 0, {0}, 0, {0}, {{0, 0, {0}}}};
   if (smp_tables_version() != SMP_TABLES_VERSION)
     return SMP_E_VERSION;
   *crew = none;
   crew->online = online;
-  return smp_open(nr, online, cpus, length);
+  return smp_open(nr, online, keys, sites, sites_length, cpus, length);
+}
+
+/* The same with no keys. */
+static inline int32_t smp_start(smp_crew *crew, uint32_t nr, uint32_t online, smp_cpu *cpus, size_t length) {
+  static const smp_site none = {0, 0};
+  return smp_start_keys(crew, nr, online, 0, &none, 0, cpus, length);
 }
 
 /* A seat for the CPU `me`. It takes the handle out of *cpu, which is closed then. */

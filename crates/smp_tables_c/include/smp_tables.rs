@@ -14,7 +14,7 @@ use std::sync::{Arc, Condvar, Mutex, PoisonError};
 use std::{hint, mem, thread};
 
 /// The version of the library that this file is for.
-pub const VERSION: u32 = 1;
+pub const VERSION: u32 = 2;
 
 /// Why something was refused: the numbers of `smp_tables.h`, which says when each comes.
 #[derive(Clone, Copy, Debug, PartialEq, Eq)]
@@ -64,7 +64,7 @@ struct Handle {
     is_open: u32,
 }
 
-/// A function that is to be run: `func` with `info`, for the CPU `src`. Of a stop, `info` is its argument, and `src` its slot.
+/// A function that is to be run: `func` with `info`, for the CPU `src`. Where it is that of a stop, `src` is the stop's slot.
 #[repr(C)]
 #[derive(Clone, Copy, Debug, Default, PartialEq, Eq)]
 pub struct Call {
@@ -84,6 +84,19 @@ pub struct Work {
     pub func: u32,
 }
 
+/// A site: a place that branches on the key of this number. It jumps while the key is on, or with `branch` while it is off.
+#[derive(Clone, Copy, Debug, PartialEq, Eq)]
+pub struct Site {
+    pub key: u32,
+    pub branch: bool,
+}
+
+#[repr(C)]
+struct SiteNumbers {
+    key: u32,
+    branch: u32,
+}
+
 /// The class of a call: its source waits for it, or does not.
 pub const SYNC: u32 = 0;
 pub const ASYNC: u32 = 1;
@@ -99,7 +112,15 @@ const TRIES: u32 = 64;
 #[link(name = "smp_tables", kind = "static")]
 unsafe extern "C" {
     fn smp_tables_version() -> u32;
-    fn smp_open(nr: u32, online: u32, cpus: *mut Handle, length: usize) -> i32;
+    fn smp_open(
+        nr: u32,
+        online: u32,
+        keys: u32,
+        sites: *const SiteNumbers,
+        sites_length: usize,
+        cpus: *mut Handle,
+        length: usize,
+    ) -> i32;
     fn smp_close(cpu: &mut Handle) -> i32;
     fn smp_post(
         cpu: &mut Handle,
@@ -213,9 +234,20 @@ pub enum Nudge {
     Stop,
 }
 
-/// Makes the tables of `nr` CPUs: those of the mask `online`, ascending. A wait sleeps after `sleep_after` looks in vain; with `None`
-/// it polls all the time.
+/// Makes the tables of `nr` CPUs with no keys: the CPUs of the mask `online`, ascending. A wait sleeps after `sleep_after` looks in
+/// vain; with `None` it polls all the time.
 pub fn open(nr: u32, online: u32, sleep_after: Option<u32>) -> Result<Vec<Cpu>, Error> {
+    open_keys(nr, online, 0, &[], sleep_after)
+}
+
+/// The same with this many keys, all off, and these sites.
+pub fn open_keys(
+    nr: u32,
+    online: u32,
+    keys: u32,
+    sites: &[Site],
+    sleep_after: Option<u32>,
+) -> Result<Vec<Cpu>, Error> {
     if unsafe { smp_tables_version() } != VERSION {
         return Err(Version);
     }
@@ -223,7 +255,22 @@ pub fn open(nr: u32, online: u32, sleep_after: Option<u32>) -> Result<Vec<Cpu>, 
         at: null_mut(),
         is_open: 0,
     });
-    answer(unsafe { smp_open(nr, online, handles.as_mut_ptr(), handles.len()) })?;
+    let numbers = |site: &Site| SiteNumbers {
+        key: site.key,
+        branch: site.branch.into(),
+    };
+    let sites: Vec<_> = sites.iter().map(numbers).collect();
+    answer(unsafe {
+        smp_open(
+            nr,
+            online,
+            keys,
+            sites.as_ptr(),
+            sites.len(),
+            handles.as_mut_ptr(),
+            handles.len(),
+        )
+    })?;
     let crew = Arc::new(Crew {
         online,
         sleep_after,

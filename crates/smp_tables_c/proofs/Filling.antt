@@ -6,10 +6,10 @@ use Rattle.std.proofs.lemmas.List.{length-set, get_or_push, get_or_append_left, 
 use Rattle.std.specs.Global.{Global}
 use Rattle.std.specs.declared.boxed.Box.{Box}
 use Rattle.smp_mask.specs.Mask.{has}
-use Rattle.smp_words.specs.Limits.{AreLimits}
-use Rattle.smp_queue.specs.Cpu.{TableValue}
-use Rattle.smp_multi.specs.Cpu.{TableValue as StopTableValue}
-use Rattle.smp_tables_c.specs.Opens.{HasSeats, IsFilled, IsSeatOf, Opened, OpenedAt, PutIn}
+use Rattle.smp_labels.specs.Labels.{Labels}
+use Rattle.smp_queue.specs.Cpu.{BootValue, TableValue, given, is_left}
+use Rattle.smp_multi.specs.Cpu.{BootValue as StopBootValue, TableValue as StopTableValue, given as given_stop, is_left as is_left_stop}
+use Rattle.smp_tables_c.specs.Opens.{AreLeft, CanOpen, HasSeats, IsFilled, IsSeatOf, Opened, OpenedAt, PutIn, fresh_seat}
 use Rattle.smp_tables_c.specs.SeatValue.{SeatValue}
 use Rattle.smp_tables_c.specs.declared.handle.SmpCpu.{SmpCpu}
 
@@ -33,6 +33,31 @@ pub seats_more : (calls : TableValue) (stops : StopTableValue) (n online : ℕ) 
 seats_more calls stops n online seats seats' x h is pushed =
     subst (λ (l : List Maybe). HasSeats calls stops (n + 1) online l) (sym pushed)
     (length-append seats (x ∷ []) ∙ ap (λ (k : ℕ). k + 1) h.0, λ cpu low. at_push calls stops n online seats x h is cpu low (cases_lt cpu n))
+
+-- what a CPU has got is its seat
+pub seat_there : (calls calls' : TableValue) (stops stops' : StopTableValue) (n online : ℕ) (b : Box SeatValue Global) (x : Maybe) → true ≡ has online n
+    → x ≡ Some b → b.value ≡ fresh_seat calls' stops' n → calls' ≡ calls → stops' ≡ stops → IsSeatOf calls stops n (has online n) x
+seat_there calls calls' stops stops' n online b x on there is call_is stop_is =
+    subst (λ (o : Bool). IsSeatOf calls stops n o x) on (subst (λ (y : Maybe). IsSeatOf calls stops n true y) (sym there)
+    (is ∙ (ap (λ (t : TableValue). fresh_seat t stops' n) call_is ∙ ap (λ (t : StopTableValue). fresh_seat calls t n) stop_is)))
+
+pub no_seat_there : (calls : TableValue) (stops : StopTableValue) (n online : ℕ) (x : Maybe) → false ≡ has online n → x ≡ None
+    → IsSeatOf calls stops n (has online n) x
+no_seat_there calls stops n online x off none =
+    subst (λ (o : Bool). IsSeatOf calls stops n o x) off (subst (λ (y : Maybe). IsSeatOf calls stops n false y) (sym none) tt)
+
+-- the CPUs behind one that was given out, or is not online, are left
+pub left_behind : (n online : ℕ) (calls calls' : BootValue) (stops stops' : StopBootValue) → AreLeft n online calls stops → calls' ≡ given n calls
+    → stops' ≡ given_stop n stops → AreLeft (n + 1) online calls' stops'
+left_behind n online calls calls' stops stops' left call_is stop_is = λ cpu up on. (
+  ap (λ (b : BootValue). is_left b cpu) call_is
+      ∙ (get_or-set_other calls.left n cpu false false (λ e. omega arith) ∙ (left cpu (omega arith) on).0),
+  ap (λ (b : StopBootValue). is_left_stop b cpu) stop_is
+      ∙ (get_or-set_other stops.left n cpu false false (λ e. omega arith) ∙ (left cpu (omega arith) on).1),
+)
+
+pub left_on : (n online : ℕ) (calls : BootValue) (stops : StopBootValue) → AreLeft n online calls stops → AreLeft (n + 1) online calls stops
+left_on n online calls stops left = λ cpu up on. left cpu (omega arith) on
 
 -- the handles below i have got what was there for them
 pub record Filling (i : ℕ) (given left : List Maybe) (old new : List SmpCpu) : Type 0 where
@@ -97,15 +122,15 @@ opened_at calls stops cpu false (Some b) old new is put = absurd is
 opened_at calls stops cpu false None old new is put = put
 
 -- all CPUs that are online have got their seats
-pub all_opened : (calls : TableValue) (stops : StopTableValue) (nr online : ℕ) (seats given : List Maybe) (old new : List SmpCpu) → given ≡ seats
-    → HasSeats calls stops nr online seats → IsFilled given old new → nr ≤ length old → AreLimits nr online → calls.nr ≡ nr → calls.online ≡ online
-    → stops.nr ≡ nr → stops.setting ≡ record { online = online; labels = record { keys = 0; entries = [] } } → Opened nr online old new
-all_opened calls stops nr online seats given old new same h f room limits call_nr call_online stop_nr setting =
+pub all_opened : (calls : TableValue) (stops : StopTableValue) (nr online : ℕ) (labels : Labels) (seats given : List Maybe) (old new : List SmpCpu)
+    → given ≡ seats → HasSeats calls stops nr online seats → IsFilled given old new → CanOpen nr online labels old → calls.nr ≡ nr → calls.online ≡ online
+    → stops.nr ≡ nr → stops.setting ≡ record { online = online; labels = labels } → Opened nr online labels old new
+all_opened calls stops nr online labels seats given old new same h f can call_nr call_online stop_nr setting =
     let size = h.0 in
+    let room = can.room in
     let g = subst (λ (l : List Maybe). IsFilled l old new) same f in
     record {
-      room = room;
-      limits = limits;
+      can = can;
       sized = g.0;
       calls = calls;
       stops = stops;

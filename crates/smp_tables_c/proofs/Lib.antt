@@ -2,3 +2,4 @@ pub mod AsBox
 mod Bits
 mod Filling
 mod Outside
+mod Refusals

@@ -8,5 +8,6 @@ pub mod Status
 pub mod Places
 pub mod Calls
 pub mod Works
+pub mod Sites
 pub mod Stops
 pub mod Opens

@@ -1,12 +1,14 @@
 -- What opening and closing leave.
-use Rattle.std.specs.Prelude.{◌≡◌, ℕ, ℤ, pos, ◌<◌, ◌≤◌, Bool, true, false, [], Option, None, Some, List, Result, Ok, Err, length, slice_index_or}
+use Rattle.std.specs.Prelude.{◌≡◌, ℕ, ℤ, pos, ◌<◌, ◌≤◌, Bool, true, false, Option, None, Some, List, Result, Ok, Err, length, slice_index_or}
 use Rattle.std.specs.Global.{Global}
 use Rattle.std.specs.declared.boxed.Box.{Box}
 use Rattle.smp_mask.specs.Mask.{has}
 use Rattle.smp_mask.specs.declared.error.SmpError.{SmpError}
+use Rattle.smp_mask.specs.declared.error.SmpError.TheVariants as error
+use Rattle.smp_labels.specs.Labels.{AreLabels, Labels}
 use Rattle.smp_words.specs.Limits.{AreLimits}
-use Rattle.smp_queue.specs.Cpu.{TableValue, fresh_cpu}
-use Rattle.smp_multi.specs.Cpu.{TableValue as StopTableValue, fresh_cpu as fresh_stop}
+use Rattle.smp_queue.specs.Cpu.{BootValue, TableValue, fresh_cpu, is_left}
+use Rattle.smp_multi.specs.Cpu.{BootValue as StopBootValue, TableValue as StopTableValue, fresh_cpu as fresh_stop, is_left as is_left_stop}
 use Rattle.smp_tables_c.specs.SeatValue.{SeatValue}
 use Rattle.smp_tables_c.specs.Status.{closed, status_of}
 use Rattle.smp_tables_c.specs.declared.place.Place.TheVariants.{Out}
@@ -28,6 +30,13 @@ abbrev pub HasSeats : TableValue → StopTableValue → ℕ → ℕ → List (Op
 HasSeats calls stops nr online seats =
     (length seats ≡ nr) × ((cpu : ℕ) → cpu < nr → IsSeatOf calls stops cpu (has online cpu) (slice_index_or seats cpu None))
 
+-- the CPU of this number was not given out yet; nor was one that is online, from n on
+abbrev pub IsLeft : BootValue → StopBootValue → ℕ → Type 0
+IsLeft calls stops cpu = (is_left calls cpu ≡ true) × (is_left_stop stops cpu ≡ true)
+
+abbrev pub AreLeft : ℕ → ℕ → BootValue → StopBootValue → Type 0
+AreLeft n online calls stops = (cpu : ℕ) → n ≤ cpu → has online cpu ≡ true → IsLeft calls stops cpu
+
 -- a handle that a seat was put in, where there was one
 abbrev pub PutIn : Option (Box SeatValue Global) → SmpCpu → SmpCpu → Type 0
 PutIn None old new = new ≡ old
@@ -45,25 +54,36 @@ abbrev pub OpenedAt : TableValue → StopTableValue → ℕ → Bool → SmpCpu 
 OpenedAt calls stops cpu true old new = new.held.seat ≡ Some (fresh_seat calls stops cpu)
 OpenedAt calls stops cpu false old new = new ≡ old
 
--- two tables of these CPUs with no keys, whose CPUs have done nothing: all that are online have their handles
-pub record Opened (nr online : ℕ) (old new : List SmpCpu) : Type 0 where
+-- there can be tables of these CPUs with these labels, and there is a handle for each
+pub record CanOpen (nr online : ℕ) (labels : Labels) (old : List SmpCpu) : Type 0 where
   pub room : nr ≤ length old
   pub limits : AreLimits nr online
+  pub are_labels : AreLabels labels.keys labels.entries
+
+-- two tables of these CPUs with just these labels, whose CPUs have done nothing: all that are online have their handles
+pub record Opened (nr online : ℕ) (labels : Labels) (old new : List SmpCpu) : Type 0 where
+  pub can : CanOpen nr online labels old
   pub sized : length new ≡ length old
   pub calls : TableValue
   pub stops : StopTableValue
   pub calls_are : (calls.nr ≡ nr) × (calls.online ≡ online)
-  pub stops_are : (stops.nr ≡ nr) × (stops.setting ≡ record { online = online; labels = record { keys = 0; entries = [] } })
+  pub stops_are : (stops.nr ≡ nr) × (stops.setting ≡ record { online = online; labels = labels })
   pub opened : (c : ℕ) (d : SmpCpu) → c < nr → OpenedAt calls stops c (has online c) (slice_index_or old c d) (slice_index_or new c d)
   pub others : (c : ℕ) (d : SmpCpu) → nr ≤ c → slice_index_or new c d ≡ slice_index_or old c d
 
--- open: all are opened, or it is refused and nothing is changed
-abbrev pub OpenAnswers : ℕ → ℕ → List SmpCpu → List SmpCpu → Result Unit SmpError → Type 0
-OpenAnswers nr online old new (Ok u) = Opened nr online old new
-OpenAnswers nr online old new (Err e) = new ≡ old
+-- E4 where there can be no such tables; where there can, memory was refused
+abbrev pub RefusesOpen : ℕ → ℕ → Labels → List SmpCpu → SmpError → Type 0
+RefusesOpen nr online labels old error.BadArgument = ¬ (CanOpen nr online labels old)
+RefusesOpen nr online labels old error.NoMemory = ¬ (¬ (CanOpen nr online labels old))
+RefusesOpen nr online labels old _ = ⊥
 
-abbrev pub Opens : ℕ → ℕ → ℤ → List SmpCpu → List SmpCpu → Type 0
-Opens nr online r old new = (answer : Result Unit SmpError) × OpenAnswers nr online old new answer × (r ≡ status_of answer)
+-- open: all are opened, or it is refused and nothing is changed
+abbrev pub OpenAnswers : ℕ → ℕ → Labels → List SmpCpu → List SmpCpu → Result Unit SmpError → Type 0
+OpenAnswers nr online labels old new (Ok u) = Opened nr online labels old new
+OpenAnswers nr online labels old new (Err e) = RefusesOpen nr online labels old e × (new ≡ old)
+
+abbrev pub Opens : ℕ → ℕ → Labels → ℤ → List SmpCpu → List SmpCpu → Type 0
+Opens nr online labels r old new = (answer : Result Unit SmpError) × OpenAnswers nr online labels old new answer × (r ≡ status_of answer)
 
 -- close: the handle is closed, and its seat was let go
 abbrev pub Closes : ℤ → Option SeatValue → Option SeatValue → Type 0

@@ -12,12 +12,13 @@
 //! - `seat`, `place`: the seat of a CPU at its two tables, and where the CPU is.
 //! - `calls`, `stops`: the steps of a seat.
 //! - `open`: the tables, and the seats of their CPUs.
-//! - `record`, `masks`, `status`: the records and numbers that C passes.
+//! - `record`, `labels`, `masks`, `status`: the records and numbers that C passes.
 #![tactic(auto)]
 
 mod calls;
 mod handle;
 mod held;
+mod labels;
 mod masks;
 mod open;
 mod parts;
@@ -31,33 +32,45 @@ ghost use Rattle.std.specs.Prelude.{◌≡◌, ◌==◌, not, None};
 ghost use Rattle.smp_tables_c.specs.Calls.{AsksDone, Handles, PostsNamed, Resumes, Sends, named as named_so};
 ghost use Rattle.smp_tables_c.specs.Opens.{Closes, Opens};
 ghost use Rattle.smp_tables_c.specs.Places.{IfOpen};
+ghost use Rattle.smp_tables_c.specs.Sites.{labels_of as labels_so};
 ghost use Rattle.smp_tables_c.specs.Stops.{AnswersStop, EntersStop, Finishes, OpensGate, Polls};
 ghost use Rattle.smp_tables_c.specs.Stops.{ReadsKey, ReadsSite, TriesGate, TriesKey, Turns};
 ghost use Rattle.smp_tables_c.specs.Works.{BeginsNamed, work_named};
 
 use crate::handle::SmpCpu;
+use crate::labels::labels_of;
 use crate::masks::mask_of;
 use crate::open::open_all;
-use crate::record::{SmpCall, SmpWork, named};
+use crate::record::{SmpCall, SmpSite, SmpWork, named};
 use crate::status::{BAD_ARGUMENT, CLOSED, status};
 use std::alloc::Global;
 
 /// The version of these exports, that of the header.
 #[unsafe(no_mangle)]
 pub extern "C" fn smp_tables_version() -> u32
-    ensures { result ≡ 1 }
+    ensures { result ≡ 2 }
 {
-    1
+    2
 }
 
-/// Makes a call table and a stop table of `nr` CPUs, with no keys, as by `new` of both, and opens the handles of those
-/// online, each with its CPU that has done nothing. 0, or the number of a refusal, E4 also where there are fewer than `nr`
-/// handles. All are opened, or none is changed.
+/// Makes a call table and a stop table of `nr` CPUs, as by `new` of both, with this many keys, all off, and a site for each of
+/// `sites`. Opens the handles of those online, each with its CPU that has done nothing. 0, or the number of a refusal, E4 also
+/// where `LabelMap::new` refuses the keys and sites, or there are fewer than `nr` handles. All are opened, or none is changed.
 #[unsafe(no_mangle)]
-pub extern "C" fn smp_open(alloc: Global, nr: u32, online: u32, cpus: &mut [SmpCpu]) -> i32
-    ensures { Opens nr online result cpus.old cpus.new }
+pub extern "C" fn smp_open(
+    alloc: Global,
+    nr: u32,
+    online: u32,
+    keys: u32,
+    sites: &[SmpSite],
+    cpus: &mut [SmpCpu],
+) -> i32
+    ensures { Opens nr online (labels_so keys sites.now) result cpus.old cpus.new }
 {
-    status(open_all(alloc, nr, mask_of(online), cpus))
+    match labels_of(keys, sites) {
+        Some(labels) => status(open_all(alloc, nr, mask_of(online), &labels, cpus)),
+        None => BAD_ARGUMENT,
+    }
 }
 
 /// Closes a handle and lets its CPU go; the last of its tables frees them. 0, or -20 where it was closed.

@@ -1,8 +1,12 @@
 //! Opening: the two tables, and a seat for each CPU that is online.
 
-ghost use Rattle.std.specs.Prelude.{◌≡◌, ◌≤◌, [], IfOk, OnOk, length};
+ghost use Rattle.std.specs.Prelude.{◌≡◌, ◌≤◌, ◌⊎◌, ◌↔◌, true, IfErr, IfOk, IsErrOf, OnOk, length};
+ghost use Rattle.smp_labels.specs.Labels.{AreLabels};
+ghost use Rattle.smp_mask.specs.Mask.{has};
 ghost use Rattle.smp_words.specs.Limits.{AreLimits};
-ghost use Rattle.smp_tables_c.specs.Opens.{HasSeats, IsFilled, OpenAnswers, fresh_seat};
+ghost use Rattle.smp_queue.specs.Cpu.{given};
+ghost use Rattle.smp_multi.specs.Cpu.{given as given_stop};
+ghost use Rattle.smp_tables_c.specs.Opens.{AreLeft, HasSeats, IsFilled, IsLeft, OpenAnswers, fresh_seat};
 
 use crate::handle::SmpCpu;
 use crate::place::Place;
@@ -29,18 +33,18 @@ struct Opening {
 }
 
 impl Opening {
-    /// New tables of these CPUs, with no keys.
-    fn new(alloc: Global, nr: u32, online: CpuMask) -> Result<Opening, SmpError>
+    /// New tables of these CPUs with these labels.
+    fn new(alloc: Global, nr: u32, online: CpuMask, labels: &LabelMap) -> Result<Opening, SmpError>
         ensures limits { OnOk result (AreLimits nr online) }
+        ensures refused { IsErrOf result SmpError.BadArgument ↔ (¬ (AreLimits nr online)) }
+        ensures only { IfErr result (λ e. (e ≡ SmpError.BadArgument) ⊎ (e ≡ SmpError.NoMemory)) }
         ensures made { IfOk result (λ o. (o.calls.value.nr ≡ nr) × (o.calls.value.online ≡ online)
-            × (o.stops.value.nr ≡ nr) × (o.stops.value.setting ≡ record { online = online; labels = record { keys = 0; entries = [] } })) }
+            × (o.stops.value.nr ≡ nr) × (o.stops.value.setting ≡ record { online = online; labels = labels.now })) }
+        ensures left { IfOk result (λ o. AreLeft 0 online o.boot o.stop_boot) }
     {
         let (calls, boot) = CallTable::new(alloc, nr, online)?;
-        let (stops, stop_boot) = StopTable::new(alloc, nr, online, &LabelMap::empty())?;
-        let Ok(calls) = Arc::new(alloc, calls) else {
-            return Err(SmpError::NoMemory);
-        };
-        let Ok(stops) = Arc::new(alloc, stops) else {
+        let (stops, stop_boot) = StopTable::new(alloc, nr, online, labels)?;
+        let (Ok(calls), Ok(stops)) = (Arc::new(alloc, calls), Arc::new(alloc, stops)) else {
             return Err(SmpError::NoMemory);
         };
         Ok(Opening {
@@ -51,11 +55,16 @@ impl Opening {
         })
     }
 
-    /// The seat of a CPU that is online.
+    /// The seat of a CPU that is online and was not given out. Its only refusal is that of memory.
     fn seat(&mut self, alloc: Global, cpu: u32) -> Result<Box<Seat, Global>, SmpError>
+        requires online { has self.old.calls.value.online cpu ≡ true }
+        requires also_online { has self.old.stops.value.setting.online cpu ≡ true }
+        requires left { IsLeft self.old.boot self.old.stop_boot cpu }
         ensures calls { self.new.calls.value ≡ self.old.calls.value }
         ensures stops { self.new.stops.value ≡ self.old.stops.value }
         ensures seat { IfOk result (λ b. b.value ≡ fresh_seat self.old.calls.value self.old.stops.value cpu) }
+        ensures given { IfOk result (λ b. (self.new.boot ≡ given cpu self.old.boot) × (self.new.stop_boot ≡ given_stop cpu self.old.stop_boot)) }
+        ensures refused { IfErr result (λ e. e ≡ SmpError.NoMemory) }
     {
         let me = self.boot.cpu(cpu)?;
         let stop = self.stop_boot.cpu(cpu)?;
@@ -75,16 +84,19 @@ impl Opening {
         }
     }
 
-    /// The seats of the CPUs below `nr` that are online.
+    /// The seats of the CPUs below `nr` that are online. Its only refusal is that of memory.
     fn seats(
         &mut self,
         alloc: Global,
         nr: u32,
         online: CpuMask,
     ) -> Result<Vec<MaybeSeat, Global>, SmpError>
+        requires online { (self.old.calls.value.online ≡ online) × (self.old.stops.value.setting.online ≡ online) }
+        requires left { AreLeft 0 online self.old.boot self.old.stop_boot }
         ensures calls { self.new.calls.value ≡ self.old.calls.value }
         ensures stops { self.new.stops.value ≡ self.old.stops.value }
         ensures seats { IfOk result (λ v. HasSeats self.old.calls.value self.old.stops.value nr online v.items) }
+        ensures refused { IfErr result (λ e. e ≡ SmpError.NoMemory) }
     {
         let mut seats = Vec::new(alloc);
         for cpu in 0..nr {
@@ -118,14 +130,16 @@ pub fn open_all(
     alloc: Global,
     nr: u32,
     online: CpuMask,
+    labels: &LabelMap,
     cpus: &mut [SmpCpu],
 ) -> Result<(), SmpError>
-    ensures { OpenAnswers nr online cpus.old cpus.new result }
+    requires { AreLabels labels.now.keys labels.now.entries }
+    ensures { OpenAnswers nr online labels.now cpus.old cpus.new result }
 {
     if nr as usize > cpus.len() {
         return Err(SmpError::BadArgument);
     }
-    let mut opening = Opening::new(alloc, nr, online)?;
+    let mut opening = Opening::new(alloc, nr, online, labels)?;
     let mut seats = opening.seats(alloc, nr, online)?;
     fill(&mut seats, cpus);
     Ok(())

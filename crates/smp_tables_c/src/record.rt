@@ -2,9 +2,11 @@
 
 ghost use Rattle.std.specs.Prelude.{◌≡◌};
 ghost use Rattle.smp_tables_c.specs.Calls.{call_of, named as named_so};
+ghost use Rattle.smp_tables_c.specs.Sites.{entry_of};
 ghost use Rattle.smp_tables_c.specs.Works.{work_named};
 
 use crate::masks::mask_of;
+use smp_labels::Entry;
 use smp_queue::Heard;
 use smp_words::call::Class;
 use smp_words::work::{Kind, Work};
@@ -24,8 +26,8 @@ pub fn named(class: u32, func: u32) -> Option<(Class, u16)>
     Some((class, func as u16))
 }
 
-/// A function that the caller is to run. Of a call: its argument, who has sent it, and its number. Of a stop: its argument,
-/// the slot, and its number.
+/// A function that the caller is to run. `info` is its argument, and `func` its number. `src` is the CPU that has sent the call,
+/// or the slot of the stop.
 #[repr(C)]
 #[derive(Clone, Copy)]
 pub struct SmpCall {
@@ -73,5 +75,25 @@ impl SmpWork {
             func: self.func as u16,
             arg: self.arg,
         })
+    }
+}
+
+/// A site by numbers: that of its key, and whether it jumps while the key is off, which is not 0 then.
+#[repr(C)]
+#[derive(Clone, Copy)]
+pub struct SmpSite {
+    pub key: u32,
+    pub branch: u32,
+}
+
+impl SmpSite {
+    /// The entry of the site.
+    pub fn entry(&self) -> Entry
+        ensures { result ≡ entry_of self.now }
+    {
+        Entry {
+            key: self.key,
+            branch: self.branch != 0,
+        }
     }
 }
