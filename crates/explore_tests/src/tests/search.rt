@@ -331,6 +331,31 @@ fn a_program_that_is_stuck_is_told(rt: HostRuntime) -> Result<(), Fail> {
     Ok(())
 }
 
+// Two CPUs call each other and ask until their calls have run. None has, where neither handles: by another search no fewer
+// steps lead there. Where CPU 1 only handles, all end.
+#[test]
+fn who_waits_for_ever_is_told(rt: HostRuntime) -> Result<(), Fail> {
+    let alloc = rt.alloc();
+    let lines = [
+        post(0, 1, 1),
+        once(0, Command::Send(1)),
+        until(0, Command::Done(0)),
+        post(1, 0, 1),
+        once(1, Command::Send(0)),
+        until(1, Command::Done(0)),
+    ];
+    let schedule = broken(alloc, "0-1", &lines, &[Expected::Ends])?.ok_or("a schedule")?;
+    assert_eq!(rt; schedule.len(), 18);
+    assert_eq!(rt;
+        counts(alloc, "0-1", &lines, NOTHING)?,
+        Some((100, 200, 18))
+    );
+    let handled = [lines[0], lines[1], lines[2], until(1, Command::Handle)];
+    let ends = counts(alloc, "0-1", &handled, &[Expected::Ends])?;
+    assert_eq!(rt; ends, Some((44, 84, 23)));
+    Ok(())
+}
+
 // An interrupt is owed for the first call of a queue alone, whatever the order; two posts can't both owe one.
 #[test]
 fn what_a_step_said(rt: HostRuntime) -> Result<(), Fail> {
