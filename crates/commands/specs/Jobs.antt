@@ -14,4 +14,5 @@ kind_taken (jobs.Explore _ _) = Some kinds.Exploration
 kind_taken (jobs.Outcomes _ _) = Some kinds.Exploration
 kind_taken (jobs.Write _) = Some kinds.Exploration
 kind_taken jobs.Judge = Some kinds.Trace
+kind_taken (jobs.JudgeKernel _) = None
 kind_taken jobs.Explain = None

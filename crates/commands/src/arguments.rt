@@ -1,6 +1,6 @@
 //! What the words of the command line ask for.
 
-ghost use Rattle.std.specs.Prelude.{◌≡◌};
+ghost use Rattle.std.specs.Prelude.{◌≡◌, ◌*◌};
 ghost use Rattle.commands.specs.Jobs.{kind_taken};
 
 use crate::grammar::grammar;
@@ -26,6 +26,8 @@ enum Wrong {
     Cpus,
     Mark,
     Input,
+    Writer,
+    Skip,
 }
 
 impl Wrong {
@@ -40,6 +42,9 @@ impl Wrong {
             Wrong::Input => {
                 "invalid value for '<TRACE>': only one of FILE and TRACE can be standard input"
             }
+            Wrong::Writer => "invalid value for '--from <ftrace>': it is ftrace",
+            Wrong::Skip =>
+                "invalid value for '--skip <SECONDS>': it goes with '--from ftrace' alone",
         }
     }
 }
@@ -70,6 +75,8 @@ pub enum Job<'a> {
     Write(Run),
     /// Judges a trace.
     Judge,
+    /// Judges what a kernel's own tracer wrote, without this number of nanoseconds at its start.
+    JudgeKernel(u64),
     /// Tells the events of a script's replay.
     Events,
     /// Holds the trace of steps of this name against a script's replay.
@@ -85,7 +92,7 @@ impl<'a> Job<'a> {
             Job::Show(..) | Job::Events | Job::Check(_) => Some(TextKind::Replay),
             Job::Explore(..) | Job::Outcomes(..) | Job::Write(_) => Some(TextKind::Exploration),
             Job::Judge => Some(TextKind::Trace),
-            Job::Explain => None,
+            Job::Explain | Job::JudgeKernel(_) => None,
         }
     }
 }
@@ -223,8 +230,24 @@ fn plain_job<'a>(name: &str, matches: &ArgMatches<'a>) -> Job<'a> {
         "sample" => Job::Explore(Orders::Sampled(sample_of(matches)), scripts_of(matches)),
         "outcomes" => Job::Outcomes(most_of(matches), scripts_of(matches)),
         "script" => Job::Write(run_of(matches)),
-        "events" => Job::Events,
-        _ => Job::Judge,
+        _ => Job::Events,
+    }
+}
+
+// How many nanoseconds there are in some seconds.
+fn nanoseconds(seconds: u32) -> u64
+    ensures { result ≡ seconds * 1000000000 }
+{
+    u64::from(seconds) * 1_000_000_000
+}
+
+// How a trace is judged, by who wrote it.
+fn judge_of<'a>(matches: &ArgMatches<'a>) -> Result<Job<'a>, Wrong> {
+    match (matches.get_str("from"), matches.get_one::<u32>("skip")) {
+        (Some("ftrace"), skip) => Ok(Job::JudgeKernel(nanoseconds(skip.unwrap_or(0)))),
+        (Some(_), _) => Err(Wrong::Writer),
+        (None, Some(_)) => Err(Wrong::Skip),
+        (None, None) => Ok(Job::Judge),
     }
 }
 
@@ -233,10 +256,11 @@ fn job_of<'a>(name: &str, matches: &ArgMatches<'a>) -> Result<Job<'a>, Wrong> {
     if let Some(view) = view_of(name) {
         return Ok(Job::Show(view, choice_of(matches)?));
     }
-    if name == "check" {
-        return Ok(Job::Check(trace_of(matches)?));
+    match name {
+        "check" => Ok(Job::Check(trace_of(matches)?)),
+        "judge" => judge_of(matches),
+        _ => Ok(plain_job(name, matches)),
     }
-    Ok(plain_job(name, matches))
 }
 
 // The name of a file, where it is not standard input.

@@ -5,6 +5,7 @@ ghost use Rattle.commands.specs.Failures.{failure_of};
 
 use smp_mask::SmpError;
 use std::io;
+use trace_ftrace::wrong::Refusal;
 use view::fault::Fault;
 use view::text_kind::TextKind;
 
@@ -29,6 +30,8 @@ pub enum Failure {
     OtherKind(TextKind),
     /// The text is at fault.
     Fault(Fault),
+    /// What a kernel's tracer wrote is not judged.
+    Kernel(Refusal),
     NoMemory,
 }
 

@@ -3,6 +3,7 @@
 use crate::failure::Failure;
 use explore::WalkEnd;
 use std::io;
+use trace_ftrace::wrong::{Refusal, Wrong};
 use view::explain::explanation;
 use view::fault::Fault;
 use view::text_kind::TextKind;
@@ -19,6 +20,33 @@ fn tell_fault(rt: &HostRuntime, name: &str, text: &[u8], fault: Fault) -> io::Re
 fn tell_kind(rt: &HostRuntime, name: &str, kind: TextKind) -> io::Result<()> {
     let (what, takers) = (kind.name(), kind.takers());
     eprintln!(rt; "smp: {name}: line 1 is that of {what}: {takers}")
+}
+
+// What is wrong with a line that a kernel's tracer wrote.
+fn wrong_text(why: Wrong) -> &'static str {
+    match why {
+        Wrong::Form => "this is no line of ftrace, or says that events were lost",
+        Wrong::Lost => "the buffers hold fewer events than were written",
+        Wrong::Time => "the time goes back",
+        Wrong::Field => "a field is missing or is no number",
+        Wrong::Cpu => "it names a CPU above 31",
+        Wrong::Class => "csd_class without a csd_queue_cpu of this csd before it",
+        Wrong::Records => "this is one csd more than 65536",
+    }
+}
+
+// Why what a kernel's tracer wrote is not judged.
+fn tell_kernel(rt: &HostRuntime, name: &str, why: Refusal) -> io::Result<()> {
+    match why {
+        Refusal::Wrong(line, why) => {
+            let said = wrong_text(why);
+            eprintln!(rt; "smp: {name}: line {line}: {said}")
+        }
+        Refusal::TooLong => {
+            eprintln!(rt; "smp: {name}: it has more than 536870912 bytes or 1000000 events")
+        }
+        Refusal::NoMemory => eprintln!(rt; "smp: no memory"),
+    }
 }
 
 /// Says why this text, which has this name, was not shown, explored or judged to its end.
@@ -38,6 +66,7 @@ pub fn tell(rt: &HostRuntime, name: &str, text: &[u8], failure: Failure) -> io::
         }
         Failure::OtherKind(kind) => tell_kind(rt, name, kind),
         Failure::Fault(fault) => tell_fault(rt, name, text, fault),
+        Failure::Kernel(why) => tell_kernel(rt, name, why),
         Failure::NoMemory => eprintln!(rt; "smp: no memory"),
     }
 }

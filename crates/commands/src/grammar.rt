@@ -97,7 +97,7 @@ const ONLY: Choice = Choice {
     name: "only",
     value: "LINE",
     takes: Value::Number(0, MOST_32, None),
-    help: "Judges the expectation of this line alone, or at 0 that the programs go on, and prints its script and nothing else",
+    help: "Judges the expectation of this line alone, or at 0 that the programs go on and at 1 that they end, and prints its script and nothing else",
 };
 
 const OUTCOME: Choice = Choice {
@@ -234,6 +234,20 @@ const JUDGE: Named = Named {
     behind: Behind::File,
 };
 
+const WRITER: Choice = Choice {
+    name: "from",
+    value: "ftrace",
+    takes: Value::Text,
+    help: "FILE is what Linux's own tracer wrote: trace, trace_pipe, trace-cmd report or perf script",
+};
+
+const SKIP: Choice = Choice {
+    name: "skip",
+    value: "SECONDS",
+    takes: Value::Number(0, MOST_32, None),
+    help: "Judges what the tracer wrote from that time after its first line on, 0 to 4294967295",
+};
+
 // An option.
 fn option<'a>(alloc: Global, choice: Choice) -> Arg<'a> {
     let arg = Arg::new(alloc, choice.name)
@@ -355,7 +369,7 @@ pub fn grammar<'a>(alloc: Global) -> Result<Command<'a>, AllocError> {
         (SCRIPT, &[SEED, RUN, STEPS]),
         (EVENTS, &[]),
         (CHECK, &[]),
-        (JUDGE, &[]),
+        (JUDGE, &[WRITER, SKIP]),
     ];
     let mut grammar = front(alloc)?;
     for (named, choices) in commands {

@@ -65,7 +65,7 @@ impl<'a> Progress<'a> {
     fn tell_name(&self, named: Named) -> io::Result<()> {
         let Named { line, word } = named;
         match line {
-            0 => eprint!(self.rt; "smp: {word}: "),
+            0 | 1 => eprint!(self.rt; "smp: {word}: "),
             _ => eprint!(self.rt; "smp: {word} {line}: "),
         }
     }

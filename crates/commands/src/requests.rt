@@ -9,7 +9,7 @@ use crate::explain::explain_text;
 use crate::failure::{Failure, failure_of};
 use crate::failure_text::{tell, tell_end};
 use crate::outcomes::{Question, print_outcomes};
-use crate::searches::Search;
+use crate::searches::{Search, print};
 use crate::status::{Answer, status_of};
 use crate::streams::{Remembering, read_text};
 use explore::Unwatched;
@@ -19,6 +19,9 @@ use smp_script::{Outcome, Watched};
 use std::io;
 use std::io::Write;
 use trace_events::show_events;
+use trace_ftrace::text::judge_kernel;
+use trace_ftrace::verdict::MOST_KERNEL_BYTES;
+use trace_judge::body::MOST_TRACE_BYTES;
 use trace_judge::{Ruling, judge_trace};
 use view::text_kind::kind_of;
 use view::{Choice, show_json, show_lanes, show_svg};
@@ -86,6 +89,30 @@ fn judged(done: Result<Ruling, SmpError>) -> Result<Answer, Failure> {
     }
 }
 
+/// Judges what a kernel's tracer wrote, and writes the verdict.
+fn judge_kernel_text<W: Write>(
+    rt: &HostRuntime,
+    skip: u64,
+    text: &[u8],
+    writer: &mut Watched<W>,
+) -> Result<Answer, Failure> {
+    match judge_kernel(rt.alloc(), skip, text) {
+        Ok((out, ruling)) => {
+            print(writer, out.as_slice())?;
+            Ok(Answer::Judged(ruling))
+        }
+        Err(why) => Err(Failure::Kernel(why)),
+    }
+}
+
+// The most bytes of a text that is read for this.
+fn most_of(job: &Job<'_>) -> u32 {
+    match job {
+        Job::JudgeKernel(_) => MOST_KERNEL_BYTES,
+        _ => MOST_TRACE_BYTES,
+    }
+}
+
 /// Shows, explains or judges a script or a trace, and writes what is found.
 fn do_script<W: Write>(
     rt: &HostRuntime,
@@ -100,6 +127,7 @@ fn do_script<W: Write>(
         Job::Events => shown(show_events(rt.alloc(), &mut Watched::new(text), writer)),
         Job::Check(trace) => Ok(Answer::Shown(check_trace(rt, trace, text, writer)?)),
         Job::Judge => judged(judge_trace(rt.alloc(), &mut Watched::new(text), writer)),
+        Job::JudgeKernel(skip) => judge_kernel_text(rt, *skip, text, writer),
         _ => shown(explain_text(rt.alloc(), text, writer)),
     }
 }
@@ -152,7 +180,7 @@ fn do_kind(rt: &HostRuntime, request: &Request<'_>, text: &[u8]) -> Result<Answe
 /// Does what is asked for. Why it was not done is said on standard error.
 fn do_request(rt: &HostRuntime, request: &Request<'_>) -> io::Result<Result<Answer, Failure>> {
     let name = request.file.unwrap_or("standard input");
-    let text = match read_text(rt, request.file) {
+    let text = match read_text(rt, most_of(&request.job), request.file) {
         Ok(text) => text,
         Err(reason) => {
             let failure = Failure::Unread(reason);

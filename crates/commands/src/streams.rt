@@ -3,22 +3,19 @@
 use std::fs::File;
 use std::io;
 use std::io::{Read, Write};
-use trace_judge::body::MOST_TRACE_BYTES;
 
 /// All bytes of a reader, but no more than one over what the longest text may have.
-fn read_all<R: Read + Drop>(rt: &HostRuntime, reader: R) -> io::Result<Vec<u8>> {
+fn read_all<R: Read + Drop>(rt: &HostRuntime, most: u32, reader: R) -> io::Result<Vec<u8>> {
     let mut bytes = Vec::new(rt.alloc());
-    reader
-        .take(u64::from(MOST_TRACE_BYTES) + 1)
-        .read_to_end(&mut bytes)?;
+    reader.take(u64::from(most) + 1).read_to_end(&mut bytes)?;
     Ok(bytes)
 }
 
-/// The text of the file of this name; of standard input where there is none.
-pub fn read_text(rt: &HostRuntime, file: Option<&str>) -> io::Result<Vec<u8>> {
+/// The text of the file of this name, of standard input where there is none: of one byte more than the most at most.
+pub fn read_text(rt: &HostRuntime, most: u32, file: Option<&str>) -> io::Result<Vec<u8>> {
     match file {
-        Some(path) => read_all(rt, File::open(rt, path)?),
-        None => read_all(rt, rt.stdin()),
+        Some(path) => read_all(rt, most, File::open(rt, path)?),
+        None => read_all(rt, most, rt.stdin()),
     }
 }
 

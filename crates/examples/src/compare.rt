@@ -7,7 +7,7 @@ ghost use Rattle.smp_script.specs.Watched.{failed_of};
 use crate::kind::Kind;
 use explore::Unwatched;
 use explore_text::explore_script;
-use smp_mask::SmpError;
+use smp_mask::{Cause, SmpError};
 use smp_replay::replay_script;
 use smp_run::{FreePace, run_script};
 use smp_script::Watched;
@@ -15,6 +15,8 @@ use std::alloc::Global;
 use std::sync::Wait;
 use std::thread::Threads;
 use trace_events::show_events;
+use trace_ftrace::text::judge_kernel;
+use trace_ftrace::wrong::Refusal;
 use trace_judge::judge_trace;
 use view::{Choice, show_lanes};
 
@@ -41,8 +43,20 @@ fn take<T: Threads + Wait + Sync>(
         Kind::Run => run_script(threads, alloc, reader, writer, &FreePace).err(),
         Kind::Lanes => show_lanes(alloc, &Choice::ALL, reader, writer).err(),
         Kind::Explore(task) => explore_script(alloc, task, reader, writer, &mut Unwatched).err(),
-        Kind::Judge => judge_trace(alloc, reader, writer).err(),
+        Kind::Judge | Kind::Kernel => judge_trace(alloc, reader, writer).err(),
         Kind::Events => show_events(alloc, reader, writer).err(),
+    }
+}
+
+// Whether the verdict on what a kernel's tracer wrote is printed as these bytes.
+fn kernel_prints(alloc: Global, text: &[u8], expected: &[u8]) -> Result<bool, SmpError> {
+    match judge_kernel(alloc, 0, text) {
+        Ok((printed, _)) => Ok(are_same(printed.as_slice(), expected)),
+        Err(Refusal::Wrong(line, _)) => Err(SmpError::BadScript {
+            line,
+            cause: Cause::Word,
+        }),
+        Err(_) => Err(SmpError::NoMemory),
     }
 }
 
@@ -55,6 +69,9 @@ pub fn prints<T: Threads + Wait + Sync>(
     text: &[u8],
     expected: &[u8],
 ) -> Result<bool, SmpError> {
+    if let Kind::Kernel = kind {
+        return kernel_prints(alloc, text, expected);
+    }
     let mut reader = Watched::new(text);
     let mut writer = Watched::new(Vec::new(alloc));
     if let Some(error) = take(threads, alloc, kind, &mut reader, &mut writer) {

@@ -36,13 +36,15 @@ pub enum Kind {
     Explore(Task),
     /// By `smp judge`.
     Judge,
+    /// By `smp judge --from ftrace`.
+    Kernel,
     /// By `smp events`.
     Events,
 }
 
 /// How an example is taken, by its word and the line's end: `None` where the word is none of these.
 pub fn kind_of(word: &[u8]) -> Option<Kind> {
-    let kinds: [(&[u8], Kind); 8] = [
+    let kinds: [(&[u8], Kind); 9] = [
         (b"replay\n".as_slice(), Kind::Replay),
         (b"run\n".as_slice(), Kind::Run),
         (b"lanes\n".as_slice(), Kind::Lanes),
@@ -50,6 +52,7 @@ pub fn kind_of(word: &[u8]) -> Option<Kind> {
         (b"sample\n".as_slice(), Kind::Explore(SAMPLED)),
         (b"script\n".as_slice(), Kind::Explore(WRITTEN)),
         (b"judge\n".as_slice(), Kind::Judge),
+        (b"ftrace\n".as_slice(), Kind::Kernel),
         (b"events\n".as_slice(), Kind::Events),
     ];
     for (name, kind) in kinds {

@@ -27,19 +27,29 @@ fn which_limit(rt: HostRuntime) -> Result<(), Fail> {
         (
             4,
             1_048_576,
-            b"goes holds, 4 states, 4 steps, 2 deep\n".as_slice(),
+            b"goes holds, 4 states, 4 steps, 2 deep\nends holds, 4 states, 4 steps, 2 deep\n".as_slice(),
             0,
         ),
         (
             4,
             usize::MAX,
-            b"goes holds, 4 states, 4 steps, 2 deep\n".as_slice(),
+            b"goes holds, 4 states, 4 steps, 2 deep\nends holds, 4 states, 4 steps, 2 deep\n".as_slice(),
             0,
         ),
-        (3, usize::MAX, b"goes limit\n".as_slice(), 2),
-        (4, 1024, b"goes limit of memory\n".as_slice(), 2),
-        (0, 0, b"goes limit\n".as_slice(), 2),
-        (1, 0, b"goes limit of memory\n".as_slice(), 2),
+        (3, usize::MAX, b"goes limit\nends limit\n".as_slice(), 2),
+        (
+            4,
+            1024,
+            b"goes limit of memory\nends limit of memory\n".as_slice(),
+            2,
+        ),
+        (0, 0, b"goes limit\nends limit\n".as_slice(), 2),
+        (
+            1,
+            0,
+            b"goes limit of memory\nends limit of memory\n".as_slice(),
+            2,
+        ),
     ];
     for (states, bytes, wanted, status) in cases {
         let (text, ended) = told(rt.alloc(), Orders::All(Most { states, bytes }))?;
@@ -59,7 +69,7 @@ fn merged_moves_of_two_sends(rt: HostRuntime) -> Result<(), Fail> {
     let (text, ended) = told(rt.alloc(), Orders::Merged(most))?;
     assert_eq!(rt;
         text.as_slice(),
-        b"goes holds, 4 merged, 4 moves, 2 deep\n".as_slice()
+        b"goes holds, 4 merged, 4 moves, 2 deep\nends holds, 4 merged, 4 moves, 2 deep\n".as_slice()
     );
     assert_eq!(rt; ended, 0);
     Ok(())

@@ -16,7 +16,7 @@ fn refused(alloc: Global, words: &[&str]) -> Option<ErrorKind> {
 
 #[test]
 fn words_that_are_none_of_this_program(rt: HostRuntime) {
-    let cases: [(&[&str], ErrorKind); 26] = [
+    let cases: [(&[&str], ErrorKind); 28] = [
         (&["smp"], ErrorKind::MissingSubcommand),
         (&["smp", "jump"], ErrorKind::InvalidSubcommand),
         (&["smp", "lanes", "one", "two"], ErrorKind::UnknownArgument),
@@ -90,6 +90,11 @@ fn words_that_are_none_of_this_program(rt: HostRuntime) {
         ),
         (&["smp", "check", "one"], ErrorKind::MissingRequiredArgument),
         (&["smp", "check", "-", "-"], ErrorKind::ValueValidation),
+        (
+            &["smp", "judge", "--from", "perf"],
+            ErrorKind::ValueValidation,
+        ),
+        (&["smp", "judge", "--skip", "2"], ErrorKind::ValueValidation),
         (&["smp", "--help"], ErrorKind::DisplayHelp),
         (&["smp", "svg", "-h"], ErrorKind::DisplayHelp),
         (&["smp", "--version"], ErrorKind::DisplayVersion),
@@ -120,6 +125,26 @@ fn from_a_file_or_standard_input(rt: HostRuntime) {
         assert_eq!(rt; file_of(rt.alloc(), &["smp", name, "-"]), Ok(None));
         assert_eq!(rt; file_of(rt.alloc(), &["smp", name]), Ok(None));
     }
+}
+
+// Whether these words ask for the judge of what a kernel's tracer wrote, without this number of nanoseconds.
+fn skips(alloc: Global, words: &[&str], nanoseconds: u64) -> bool {
+    match read_words(alloc, words) {
+        Ok(request) => request.job == Job::JudgeKernel(nanoseconds),
+        Err(_) => false,
+    }
+}
+
+#[test]
+fn what_a_kernel_wrote(rt: HostRuntime) {
+    assert!(rt; skips(rt.alloc(), &["smp", "judge", "--from", "ftrace", "file"], 0));
+    assert!(rt;
+        skips(
+            rt.alloc(),
+            &["smp", "judge", "--from", "ftrace", "--skip", "2"],
+            2_000_000_000,
+        )
+    );
 }
 
 // Whether these words ask for an exploration by these orders.

@@ -1,0 +1,2 @@
+mod ClassLast
+mod Printing

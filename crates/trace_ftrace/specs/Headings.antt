@@ -1,0 +1,63 @@
+-- The CPU, the time, the event and the fields of a line.
+use Rattle.std.specs.Prelude.{ℕ, ◌+◌, ◌*◌, ◌==◌, if◌then◌else◌, List, [], ◌∷◌, length, Option, Some, None}
+use Rattle.smp_script.specs.Lines.{parts_of}
+use Rattle.trace_ftrace.specs.Numbers.{number_of}
+use Rattle.trace_ftrace.specs.Options.{◌>>?◌, first_of}
+use Rattle.trace_ftrace.specs.Words.{front_of, two_of}
+
+-- what a line tells
+pub record HeadingValue : Type 0 where
+  pub cpu : ℕ
+  pub time : ℕ
+  pub event : List ℕ
+  pub fields : List (List ℕ)
+
+-- a CPU, as `[003]`
+unfoldable pub cpu_of : List ℕ → Option ℕ
+cpu_of [] = None
+cpu_of (b ∷ bs) = if b == 91 then (front_of 93 bs >>? number_of 10) else None
+
+-- what is behind the point of a time, in nanoseconds
+unfoldable pub nanos_of : List ℕ → Option ℕ
+nanos_of part =
+    if length part == 6 then (number_of 10 part >>? λ n. Some (n * 1000)) else (if length part == 9 then number_of 10 part else None)
+
+abbrev pub parts_time : List ℕ → List ℕ → Option ℕ
+parts_time seconds part = number_of 10 seconds >>? λ n. nanos_of part >>? λ m. Some (n * 1000000000 + m)
+
+-- a time, with a point or without
+abbrev pub time_in : Option (List ℕ × List ℕ) → List ℕ → Option ℕ
+time_in None text = number_of 10 text
+time_in (Some (seconds, part)) text = parts_time seconds part
+
+unfoldable pub time_of : List ℕ → Option ℕ
+time_of word = front_of 58 word >>? λ text. time_in (two_of (parts_of 46 text)) text
+
+-- the name of an event, behind its system where that is there
+abbrev pub name_in : Option (List ℕ × List ℕ) → List ℕ → List ℕ
+name_in None text = text
+name_in (Some (system, name)) text = name
+
+unfoldable pub event_of : List ℕ → Option (List ℕ)
+event_of word = front_of 58 word >>? λ text. Some (name_in (two_of (parts_of 58 text)) text)
+
+-- a time, an event and its fields
+unfoldable pub stamped : ℕ → List (List ℕ) → Option HeadingValue
+stamped cpu [] = None
+stamped cpu (t ∷ []) = None
+stamped cpu (t ∷ e ∷ fs) = time_of t >>? λ time. event_of e >>? λ event.
+    Some (record { cpu = cpu; time = time; event = event; fields = fs })
+
+-- a CPU, and perhaps flags, in front of these
+abbrev pub past_flags : List (List ℕ) → List (List ℕ)
+past_flags [] = []
+past_flags (w ∷ ws) = ws
+
+unfoldable pub heading_at : List (List ℕ) → Option HeadingValue
+heading_at [] = None
+heading_at (w ∷ ws) = cpu_of w >>? λ cpu. first_of (stamped cpu ws) (stamped cpu (past_flags ws))
+
+-- the first of these, behind one word at least
+abbrev pub heading_of : List (List ℕ) → Option HeadingValue
+heading_of [] = None
+heading_of (w ∷ ws) = first_of (heading_at ws) (heading_of ws)

@@ -1,0 +1,14 @@
+pub mod Fields
+pub mod HeadingView
+pub mod Headings
+pub mod Kept
+pub mod KeptView
+pub mod Marks
+pub mod Numbers
+pub mod Options
+pub mod Signs
+pub mod Text
+pub mod Told
+pub mod ToldView
+pub mod Verdict
+pub mod Words

@@ -1,0 +1,6 @@
+-- What is told, as that of the definitions.
+use Rattle.trace_ftrace.specs.declared.told.Telling.{Telling}
+use Rattle.trace_ftrace.specs.Told.{TellingValue}
+
+abbrev pub telling_value : {A : Type 0} → Telling A → TellingValue
+telling_value t = record { addresses = t.addresses.items; told = t.told.items }

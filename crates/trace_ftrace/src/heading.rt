@@ -1,0 +1,152 @@
+//! The CPU, the time, the event and the fields of a line.
+
+ghost use Rattle.std.specs.Prelude.{◌≡◌, ◌<◌, ◌^◌, map, IfSome, MatchOption};
+ghost use Rattle.trace_ftrace.specs.Headings.{cpu_of, event_of, heading_at, heading_of, nanos_of, parts_time, stamped, time_of};
+ghost use Rattle.trace_ftrace.specs.HeadingView.{heading_value};
+
+use crate::number::number;
+use crate::words::{front, two_parts};
+
+/// The CPU, the time, the event and its fields that a line tells.
+#[derive(Clone, Copy)]
+pub(crate) struct Heading<'w, 'a> {
+    pub(crate) cpu: u64,
+    /// In nanoseconds, or in whatever unit the clock counts.
+    pub(crate) time: u128,
+    pub(crate) event: &'a [u8],
+    pub(crate) fields: &'w [&'a [u8]],
+}
+
+/// The CPU of a word, as `[003]`.
+#[tactic(auto, unfolding(crate::specs::Headings::cpu_of))]
+fn cpu_of(word: &[u8]) -> Option<u64>
+    ensures { result ≡ cpu_of word.now }
+{
+    let [b'[', behind @ ..] = word else {
+        return None;
+    };
+    match front(behind, b']') {
+        Some(digits) => number(10, digits),
+        None => None,
+    }
+}
+
+/// What is behind the point of a time, of six places or nine, in nanoseconds.
+#[tactic(auto, unfolding(crate::specs::Headings::nanos_of))]
+fn nanos_of(part: &[u8]) -> Option<u128>
+    ensures value { result ≡ nanos_of part.now }
+    ensures within { IfSome result (λ n. n < 2 ^ 80) }
+{
+    let scale = match part.len() {
+        6 => 1000,
+        9 => 1,
+        _ => return None,
+    };
+    match number(10, part) {
+        Some(digits) => Some(digits as u128 * scale),
+        None => None,
+    }
+}
+
+/// The time of these seconds and this part of one.
+fn parts_time(seconds: &[u8], part: &[u8]) -> Option<u128>
+    ensures { result ≡ parts_time seconds.now part.now }
+{
+    let Some(whole) = number(10, seconds) else {
+        return None;
+    };
+    match nanos_of(part) {
+        Some(nanos) => Some(whole as u128 * 1_000_000_000 + nanos),
+        None => None,
+    }
+}
+
+/// The time of a word, as `31.633368:`, `31.633368001:` or `11150:`.
+#[tactic(auto, unfolding(crate::specs::Headings::time_of))]
+fn time_of(word: &[u8]) -> Option<u128>
+    ensures { result ≡ time_of word.now }
+{
+    let Some(text) = front(word, b':') else {
+        return None;
+    };
+    if let Some((seconds, part)) = two_parts(text, b'.') {
+        return parts_time(seconds, part);
+    }
+    match number(10, text) {
+        Some(count) => Some(count as u128),
+        None => None,
+    }
+}
+
+/// The name of an event in a word, as `csd_class:` or `smp:csd_class:`.
+#[tactic(auto, unfolding(crate::specs::Headings::event_of))]
+fn event_of(word: &[u8]) -> Option<&[u8]>
+    ensures { MatchOption result (event_of word.now ≡ None) (λ e. event_of word.now ≡ Some e.now) }
+{
+    let Some(text) = front(word, b':') else {
+        return None;
+    };
+    match two_parts(text, b':') {
+        Some((_, name)) => Some(name),
+        None => Some(text),
+    }
+}
+
+/// What words tell of this CPU, of which the first is a time.
+#[tactic(auto, unfolding(crate::specs::Headings::stamped))]
+fn stamped<'w, 'a>(cpu: u64, words: &'w [&'a [u8]]) -> Option<Heading<'w, 'a>>
+    ensures { let told = stamped cpu (map (λ w. w.now) words.now) in
+        MatchOption result (told ≡ None) (λ h. told ≡ Some (heading_value h)) }
+{
+    let [time, event, fields @ ..] = words else {
+        return None;
+    };
+    let Some(time) = time_of(time) else {
+        return None;
+    };
+    match event_of(event) {
+        Some(event) => Some(Heading {
+            cpu,
+            time,
+            event,
+            fields,
+        }),
+        None => None,
+    }
+}
+
+/// What words tell of which the first is a CPU. Flags may be between that and the time.
+#[tactic(auto, unfolding(crate::specs::Headings::heading_at))]
+fn heading_at<'w, 'a>(words: &'w [&'a [u8]]) -> Option<Heading<'w, 'a>>
+    ensures { let told = heading_at (map (λ w. w.now) words.now) in
+        MatchOption result (told ≡ None) (λ h. told ≡ Some (heading_value h)) }
+{
+    let [first, rest @ ..] = words else {
+        return None;
+    };
+    let Some(cpu) = cpu_of(first) else {
+        return None;
+    };
+    if let Some(found) = stamped(cpu, rest) {
+        return Some(found);
+    }
+    match rest {
+        [_, after @ ..] => stamped(cpu, after),
+        [] => None,
+    }
+}
+
+/// What the words of a line tell behind its first word: from the first place on where they tell something.
+pub(crate) fn find_heading<'w, 'a>(words: &'w [&'a [u8]]) -> Option<Heading<'w, 'a>>
+    ensures { let told = heading_of (map (λ w. w.now) words.now) in
+        MatchOption result (told ≡ None) (λ h. told ≡ Some (heading_value h)) }
+{
+    let mut rest = words;
+    while let [_, after @ ..] = rest {
+        if let Some(found) = heading_at(after) {
+            return Some(found);
+        }
+        rest = after;
+    }
+    None
+}

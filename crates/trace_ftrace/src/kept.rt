@@ -1,0 +1,118 @@
+//! What is kept of the lines of a text.
+
+ghost use Rattle.std.specs.Prelude.{◌≡◌, map, IfOk};
+ghost use Rattle.trace_ftrace.specs.Kept.{classed, is_queue_of, name_place, numbered, on_cpu, sorted, Classed};
+
+use crate::sign::{Sign, Sort};
+use std::alloc::{AllocError, Allocator};
+
+/// What a line shows of calls, with the number of the line, its CPU, and the number of the function that it names, or 0.
+#[derive(Clone, Copy, Debug, PartialEq, Eq)]
+pub struct Mark {
+    pub line: u32,
+    pub cpu: u32,
+    pub func: u64,
+    pub sign: Sign,
+}
+
+/// What is kept of the lines up to one.
+#[derive(Drop)]
+pub struct Kept<'a, A: Allocator> {
+    /// The functions, by their numbers.
+    pub names: Vec<&'a [u8], A>,
+    /// What the lines show, in their order.
+    pub marks: Vec<Mark, A>,
+    /// The time of the last line.
+    pub(crate) time: u128,
+    /// The time of the first line that tells one.
+    pub(crate) first: Option<u128>,
+}
+
+/// The place of a name among these.
+fn name_place(names: &[&[u8]], name: &[u8]) -> Option<usize>
+    ensures { result ≡ name_place 0 name.now (map (λ n. n.now) names.now) }
+{
+    let mut place = 0;
+    let mut rest = names;
+    while let [first, after @ ..] = rest {
+        if *first == name {
+            return Some(place);
+        }
+        place += 1;
+        rest = after;
+    }
+    None
+}
+
+/// The number of a name, which is one of these from here on.
+#[tactic(auto, unfolding(crate::specs::Kept::numbered))]
+pub(crate) fn numbered<'a, A: Allocator>(
+    names: &mut Vec<&'a [u8], A>,
+    name: &'a [u8],
+) -> Result<u64, AllocError>
+    ensures { IfOk result (λ n. (n, map (λ n. n.now) names.new.items) ≡ numbered name.now (map (λ n. n.now) names.old.items)) }
+{
+    if let Some(place) = name_place(names.as_slice(), name) {
+        return Ok(place as u64);
+    }
+    let count = names.len() as u64;
+    names.push(name)?;
+    Ok(count)
+}
+
+/// Whether a mark is that this CPU queues this record, and no line of its own has told the sort.
+fn is_queue_of(mark: &Mark, cpu: u32, address: u64) -> bool
+    ensures { result ≡ is_queue_of cpu address mark.now }
+{
+    match mark.sign {
+        Sign::Queue(_, queued, _, is_told) => mark.cpu == cpu && queued == address && !is_told,
+        Sign::Class(..) | Sign::Begin(_) | Sign::End(_) => false,
+    }
+}
+
+/// A mark with what is queued being told to be of this sort; wakes remain wakes.
+fn sorted(mark: Mark, sort: Sort) -> Mark
+    ensures { result ≡ sorted sort mark }
+{
+    let sign = match mark.sign {
+        Sign::Queue(to, address, Sort::Wake, _) => Sign::Queue(to, address, Sort::Wake, true),
+        Sign::Queue(to, address, _, _) => Sign::Queue(to, address, sort, true),
+        sign => sign,
+    };
+    Mark {
+        line: mark.line,
+        cpu: mark.cpu,
+        func: mark.func,
+        sign,
+    }
+}
+
+/// Says of which sort the record is that this CPU has queued last, where there is such a mark.
+#[tactic(auto, using(crate::proofs::ClassLast::classed_at))]
+pub(crate) fn class_last(marks: &mut [Mark], cpu: u32, address: u64, sort: Sort) -> bool
+    ensures { Classed result marks.old marks.new (classed cpu address sort marks.old) }
+{
+    let mut at = marks.len();
+    while at > 0 {
+        at -= 1;
+        if is_queue_of(&marks[at], cpu, address) {
+            marks[at] = sorted(marks[at], sort);
+            return true;
+        }
+    }
+    false
+}
+
+/// Whether a mark is of this CPU.
+pub(crate) fn on_cpu(marks: &[Mark], cpu: u32) -> bool
+    ensures { result ≡ on_cpu cpu marks.now }
+{
+    let mut rest = marks;
+    while let [first, after @ ..] = rest {
+        if first.cpu == cpu {
+            return true;
+        }
+        rest = after;
+    }
+    false
+}

@@ -1,0 +1,267 @@
+//! The marks of calls that the lines of a text have.
+
+ghost use Rattle.std.specs.Prelude.{◌≡◌, ◌≤◌, Ok, Err, map, length, MatchResult};
+ghost use Rattle.smp_script.specs.Lines.{lines_of};
+ghost use Rattle.trace_ftrace.specs.HeadingView.{heading_value};
+ghost use Rattle.trace_ftrace.specs.KeptView.{kept_value};
+ghost use Rattle.trace_ftrace.specs.Marks.{class_line, event_line, first_time, is_counts, is_cut, is_empty_note, is_note, line_kept, lines_kept, marked};
+ghost use Rattle.trace_ftrace.specs.Marks.{named, noted, with_mark, no_lines, shown_line, timed, Keeps};
+
+use crate::field::{cpu_below, needed_symbol};
+use crate::heading::{Heading, find_heading};
+use crate::kept::{Kept, Mark, class_last, numbered, on_cpu};
+use crate::sign::{Sign, Sort, read_sign};
+use crate::words::{two_parts, words};
+use crate::wrong::{Refusal, Wrong};
+use smp_script::line::{is_word, next_line};
+use std::alloc::Allocator;
+
+/// Keeps a mark.
+fn push_mark<A: Allocator>(kept: &mut Kept<'_, A>, mark: Mark) -> Result<(), Refusal>
+    ensures { Keeps result (kept_value kept.new) (Ok (with_mark mark (kept_value kept.old))) }
+{
+    match kept.marks.push(mark) {
+        Ok(()) => Ok(()),
+        Err(_) => Err(Refusal::NoMemory),
+    }
+}
+
+/// Keeps a mark with the function that the fields name.
+#[tactic(auto, unfolding(crate::specs::Marks::named))]
+fn push_named<'a, A: Allocator>(
+    kept: &mut Kept<'a, A>,
+    place: (u32, u32),
+    sign: Sign,
+    fields: &[&'a [u8]],
+) -> Result<(), Refusal>
+    ensures { Keeps result (kept_value kept.new) (named place.0 place.1 sign (map (λ f. f.now) fields.now) (kept_value kept.old)) }
+{
+    let (line, cpu) = place;
+    let name = match needed_symbol(fields) {
+        Ok(name) => name,
+        Err(why) => return Err(Refusal::Wrong(line, why)),
+    };
+    match numbered(&mut kept.names, name) {
+        Ok(func) => push_mark(
+            kept,
+            Mark {
+                line,
+                cpu,
+                func,
+                sign,
+            },
+        ),
+        Err(_) => Err(Refusal::NoMemory),
+    }
+}
+
+/// Puts the sort of a record where its CPU has queued it last. The first line of a CPU may come without that.
+#[tactic(auto, unfolding(crate::specs::Marks::class_line))]
+fn class_line<A: Allocator>(
+    kept: &mut Kept<'_, A>,
+    place: (u32, u32),
+    address: u64,
+    sort: Sort,
+) -> Result<(), Refusal>
+    ensures { Keeps result (kept_value kept.new) (class_line place.0 place.1 address sort (kept_value kept.old)) }
+{
+    let (line, cpu) = place;
+    let found = class_last(kept.marks.as_mut_slice(), cpu, address, sort);
+    if found || !on_cpu(kept.marks.as_slice(), cpu) {
+        return Ok(());
+    }
+    Err(Refusal::Wrong(line, Wrong::Class))
+}
+
+/// Keeps what a line shows.
+#[tactic(auto, unfolding(crate::specs::Marks::marked))]
+fn keep_mark<'a, A: Allocator>(
+    kept: &mut Kept<'a, A>,
+    place: (u32, u32),
+    sign: Sign,
+    fields: &[&'a [u8]],
+) -> Result<(), Refusal>
+    ensures { Keeps result (kept_value kept.new) (marked place.0 place.1 sign (map (λ f. f.now) fields.now) (kept_value kept.old)) }
+{
+    match sign {
+        Sign::Queue(..) | Sign::Begin(_) => push_named(kept, place, sign, fields),
+        Sign::End(_) => {
+            let (line, cpu) = place;
+            let func = 0;
+            push_mark(
+                kept,
+                Mark {
+                    line,
+                    cpu,
+                    func,
+                    sign,
+                },
+            )
+        }
+        Sign::Class(address, sort) => class_line(kept, place, address, sort),
+    }
+}
+
+/// Notes the time of a line, and answers that of the first.
+fn note_time<A: Allocator>(kept: &mut Kept<'_, A>, time: u128) -> u128
+    ensures new { kept_value kept.new ≡ timed time (kept_value kept.old) }
+    ensures first { result ≡ first_time kept.old.first time }
+{
+    let first = kept.first.unwrap_or(time);
+    kept.time = time;
+    kept.first = Some(first);
+    first
+}
+
+/// Keeps what a line shows, whose time is noted.
+#[tactic(auto, unfolding(crate::specs::Marks::shown_line))]
+fn shown_line<'a, A: Allocator>(
+    kept: &mut Kept<'a, A>,
+    line: u32,
+    heading: &Heading<'_, 'a>,
+) -> Result<(), Refusal>
+    ensures { Keeps result (kept_value kept.new) (shown_line line (heading_value heading.now) (kept_value kept.old)) }
+{
+    let sign = match read_sign(heading.event, heading.fields) {
+        Ok(Some(sign)) => sign,
+        Ok(None) => return Ok(()),
+        Err(why) => return Err(Refusal::Wrong(line, why)),
+    };
+    match cpu_below(heading.cpu) {
+        Ok(cpu) => keep_mark(kept, (line, cpu), sign, heading.fields),
+        Err(why) => Err(Refusal::Wrong(line, why)),
+    }
+}
+
+/// Keeps what a line tells, which is not before the last; nothing where it is behind the first by less than what is skipped.
+#[tactic(auto, unfolding(crate::specs::Marks::event_line))]
+fn event_line<'a, A: Allocator>(
+    kept: &mut Kept<'a, A>,
+    skip: u64,
+    line: u32,
+    heading: &Heading<'_, 'a>,
+) -> Result<(), Refusal>
+    ensures { Keeps result (kept_value kept.new) (event_line skip line (heading_value heading.now) (kept_value kept.old)) }
+{
+    if heading.time < kept.time {
+        return Err(Refusal::Wrong(line, Wrong::Time));
+    }
+    let first = note_time(kept, heading.time);
+    if heading.time.saturating_sub(first) < skip as u128 {
+        return Ok(());
+    }
+    shown_line(kept, line, heading)
+}
+
+/// Whether words say that a CPU's buffer is empty.
+fn is_empty_note(words: &[&[u8]]) -> bool
+    ensures { result ≡ is_empty_note (map (λ w. w.now) words.now) }
+{
+    match words {
+        [cpu, _, is, empty] => is_word(cpu, b"CPU")
+            && is_word(is, b"is")
+            && is_word(empty, b"empty"),
+        _ => false,
+    }
+}
+
+/// Whether a line tells nothing by its first word: a comment, or what `trace-cmd report` has in front.
+fn is_note(first: &[u8]) -> bool
+    ensures { result ≡ is_note first.now }
+{
+    match first {
+        [b'#', ..] => true,
+        [b'c', b'p', b'u', b's', b'=', ..] => true,
+        _ => is_word(first, b"version"),
+    }
+}
+
+/// Whether a word is in front of how many events the buffers hold, and how many were written.
+#[tactic(auto, unfolding(crate::specs::Marks::is_counts))]
+fn is_counts(name: &[u8]) -> bool
+    ensures { result ≡ is_counts name.now }
+{
+    is_word(name, b"entries-in-buffer/entries-written:")
+}
+
+/// Whether words say that the buffers hold fewer events than were written.
+#[tactic(auto, unfolding(crate::specs::Marks::is_cut))]
+fn is_cut(words: &[&[u8]]) -> bool
+    ensures { result ≡ is_cut (map (λ w. w.now) words.now) }
+{
+    let [_, name, counts, ..] = words else {
+        return false;
+    };
+    if !is_counts(name) {
+        return false;
+    }
+    match two_parts(counts, b'/') {
+        Some((held, written)) => !is_word(held, written),
+        None => false,
+    }
+}
+
+/// What the words of a line that is no event are: nothing, a note, or what they can't be.
+fn note(line: u32, words: &[&[u8]]) -> Result<(), Refusal>
+    ensures { result ≡ noted line (map (λ w. w.now) words.now) }
+{
+    let [first, ..] = words else {
+        return Ok(());
+    };
+    if is_cut(words) {
+        return Err(Refusal::Wrong(line, Wrong::Lost));
+    }
+    if is_note(first) || is_empty_note(words) {
+        return Ok(());
+    }
+    Err(Refusal::Wrong(line, Wrong::Form))
+}
+
+/// Keeps what a line of this number tells.
+#[tactic(auto, unfolding(crate::specs::Marks::line_kept))]
+fn line<'a, A: Allocator + Copy>(
+    alloc: A,
+    kept: &mut Kept<'a, A>,
+    skip: u64,
+    number: u32,
+    text: &'a [u8],
+) -> Result<(), Refusal>
+    ensures { Keeps result (kept_value kept.new) (line_kept skip number text.now (kept_value kept.old)) }
+{
+    let Ok(words) = words(alloc, text) else {
+        return Err(Refusal::NoMemory);
+    };
+    match find_heading(words.as_slice()) {
+        Some(heading) => event_line(kept, skip, number, &heading),
+        None => note(number, words.as_slice()),
+    }
+}
+
+/// What is kept of the lines of a text, without those behind the first by less than `skip` nanoseconds.
+pub(crate) fn marks<A: Allocator + Copy>(
+    alloc: A,
+    skip: u64,
+    text: &[u8],
+) -> Result<Kept<'_, A>, Refusal>
+    requires { length text.now ≤ 536870912 }
+    ensures { let made = lines_kept skip 1 (lines_of text.now) no_lines in
+        MatchResult result (λ k. made ≡ Ok (kept_value k)) (λ why. Keeps (Err why) no_lines made) }
+{
+    let mut kept = Kept {
+        names: Vec::new(alloc),
+        marks: Vec::new(alloc),
+        time: 0,
+        first: None,
+    };
+    let mut number = 1;
+    let mut rest = text;
+    while let Some(next) = next_line(rest) {
+        match line(alloc, &mut kept, skip, number, next.text) {
+            Ok(()) => {}
+            Err(why) => return Err(why),
+        }
+        number += 1;
+        rest = next.rest;
+    }
+    Ok(kept)
+}
