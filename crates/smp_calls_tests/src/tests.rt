@@ -1,7 +1,8 @@
 ghost use Rattle.std.specs.Prelude.{◌≡◌, IfOk};
 
+mod batches;
 mod conditions;
-mod conditions_waited;
+mod others;
 mod resting;
 mod sleeping;
 mod threads;
@@ -419,50 +420,6 @@ fn calls_any<R: Wait + Abort>(rt: &R, zero: &mut Driver) {
 
 fn any_of<R: Wait>(rt: &R, driver: &mut Driver, mask: &str, func: u16) -> Result<u32, SmpError> {
     driver.any(rt, mask.parse()?, func, false)
-}
-
-/// Notes that a CPU is asked: those that were are the digits of the number, to this base.
-fn note_asked(asked: &AtomicU64, base: u64, cpu: u32) {
-    let before = asked.load(Ordering::SeqCst);
-    let after = before.wrapping_mul(base).wrapping_add(cpu as u64);
-    asked.store(after, Ordering::SeqCst);
-}
-
-/// Calls function 1 on CPUs of the mask, where those of the other mask are wanted, and waits for them or does not. It answers
-/// which CPUs were called, and which were asked, as the digits of a number to this base that begins with 9.
-fn call_wanted<R: Wait>(
-    rt: &R,
-    driver: &mut Driver,
-    mask: CpuMask,
-    wanted: CpuMask,
-    base: u64,
-    wait: bool,
-) -> (CpuMask, u64) {
-    let asked = AtomicU64::new(9);
-    let cond = |cpu: u32, _: u64| {
-        note_asked(&asked, base, cpu);
-        wanted.contains(cpu)
-    };
-    let called = driver.each(rt, mask, 1, &cond, wait);
-    (called, asked.load(Ordering::SeqCst))
-}
-
-#[test]
-fn the_condition_is_asked_of_the_others_and_then_of_this_cpu(rt: HostRuntime) -> Result<(), Fail> {
-    let all: CpuMask = "0-7".parse()?;
-    let even: CpuMask = "0,2,4,6".parse()?;
-    let (table, two) = table_of(rt.alloc(), 8, all, 2)?;
-    let mut two = Driver::new(&table, two, rt.alloc());
-    asks_of_eight(&rt, &mut two, all, even);
-    Ok(())
-}
-
-fn asks_of_eight<R: Wait + Abort>(rt: &R, two: &mut Driver, all: CpuMask, even: CpuMask) {
-    let (called, asked) = call_wanted(rt, two, all, even, 10, false);
-    assert!(rt; called == even);
-    assert_eq!(rt; asked, 901_345_672);
-    let calls = (two.times(2, 1), two.tally(4), two.tally(5));
-    assert_eq!(rt; calls, (1, (1, 0), (0, 0)));
 }
 
 #[test]

@@ -20,6 +20,7 @@ ghost use Rattle.smp_queue.specs.Cpu.{cpu_of};
 ghost use Rattle.smp_queue.specs.Handling.{AreRan, Grows, asks, drains};
 ghost use Rattle.smp_queue.specs.Serving.{Begins, IsAt, HasRun, HasRunAll, on, begins_at};
 
+use crate::alarms::Alarms;
 use crate::handler::Handler;
 use crate::reverse::reverse;
 use crate::run::{Pass, Passed, Place, next_async, pass_on};
@@ -125,10 +126,20 @@ pub(crate) fn begin(words: Words, seat: &mut CpuSeat, number: u32) -> Option<Bat
     Some(Batch { first, calls })
 }
 
-/// Runs one call, between the step that begins it and those that count and end it, and goes on to the next.
+/// Wakes the CPUs that wait asleep, where a record is unlocked by now: one of them may wait for it.
+#[inline(always)]
+fn wake_if(alarms: &Alarms, unlocked: bool) {
+    if unlocked {
+        alarms.ring_waiting();
+    }
+}
+
+/// Runs one call, between the step that begins it and those that count and end it, and goes on to the next. The CPUs that wait
+/// asleep are woken behind the step that unlocks its record, so before the function of an ASYNC call, and behind that of a SYNC call.
 #[inline(always)]
 fn run_one<H: Handler>(
     words: Words,
+    alarms: &Alarms,
     seat: &mut CpuSeat,
     number: u32,
     counts: &mut [u64],
@@ -143,8 +154,11 @@ fn run_one<H: Handler>(
 {
     let begun = begin_call(words, seat, number, place, handler);
     let call = place.call;
+    let is_sync = place.pass.is_first();
+    wake_if(alarms, !is_sync);
     handler.call(owner_of(call.id), call.func, call.info);
     end_call(words, seat, number, counts, place, handler, begun);
+    wake_if(alarms, is_sync);
     go_on(words, seat, number, place.pass, place.next)
 }
 
@@ -152,6 +166,7 @@ fn run_one<H: Handler>(
 #[inline(always)]
 fn run_batch<H: Handler>(
     words: Words,
+    alarms: &Alarms,
     seat: &mut CpuSeat,
     number: u32,
     counts: &mut [u64],
@@ -176,6 +191,7 @@ fn run_batch<H: Handler>(
         let pass = Pass::First(walk);
         here = run_one(
             words,
+            alarms,
             seat,
             number,
             counts,
@@ -194,6 +210,7 @@ fn run_batch<H: Handler>(
         let pass = Pass::Second;
         here = run_one(
             words,
+            alarms,
             seat,
             number,
             counts,
@@ -206,6 +223,7 @@ fn run_batch<H: Handler>(
 /// Takes the interrupt and, where there was one, the queue, and runs that.
 pub(crate) fn handle<H: Handler>(
     words: Words,
+    alarms: &Alarms,
     seat: &mut CpuSeat,
     number: u32,
     counts: &mut [u64],
@@ -226,7 +244,7 @@ pub(crate) fn handle<H: Handler>(
             interrupted: false,
         },
         Some(batch) => {
-            run_batch(words, seat, number, counts, batch.first, handler);
+            run_batch(words, alarms, seat, number, counts, batch.first, handler);
             Handled {
                 ran: batch.calls,
                 interrupted: true,

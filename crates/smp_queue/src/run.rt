@@ -24,6 +24,17 @@ pub(crate) enum Pass {
     Second,
 }
 
+impl Pass {
+    /// Whether it is the pass over the SYNC calls.
+    #[inline(always)]
+    pub(crate) fn is_first(self) -> bool {
+        match self {
+            Pass::First(_) => true,
+            Pass::Second => false,
+        }
+    }
+}
+
 /// A call of a batch, and where its CPU goes on after it.
 #[derive(Clone, Copy)]
 pub(crate) struct Place {

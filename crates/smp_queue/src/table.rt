@@ -262,7 +262,7 @@ impl<A: Allocator> CallTable<A> {
 
     /// Lets waiting calls of this table sleep; `call_many_within` of `smp_calls` still polls, since it counts its polls. After this
     /// number of looks in vain, a CPU that waits sleeps between two looks. It is woken by an interrupt, and whenever some CPU has
-    /// run a whole batch, since its call may have been in it. A new table's calls poll all the time, as Linux's do.
+    /// unlocked a record, since it may wait for that one. A new table's calls poll all the time, as Linux's do.
     ///
     /// It is asked for before threads share the table. It makes no step, and does not wait.
     pub fn sleep_after(&mut self, looks: u32)
@@ -429,11 +429,9 @@ impl<A: Allocator> CallTable<A> {
         ensures laws { IsShown me.new }
     {
         let words = self.owner.words();
-        let handled = handle(words, &mut me.seat, me.number, &mut me.ran, handler);
+        let alarms = &self.alarms;
+        let handled = handle(words, alarms, &mut me.seat, me.number, &mut me.ran, handler);
         me.is_shown();
-        if handled.interrupted {
-            self.wake_waiting();
-        }
         handled
     }
 

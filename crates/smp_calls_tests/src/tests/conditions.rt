@@ -1,22 +1,216 @@
-//! Of whom a condition is asked and when, and what a CPU does on itself.
+//! Of whom a condition is asked and when, with wait and without, and what a CPU does on itself.
 
+use super::others::Others;
 use super::*;
 use std::sync::Mutex;
+use std::thread;
+use std::thread::Threads;
 
+/// A call of function 1 on CPUs of a mask, where some are wanted: those that are asked are the digits of a number to this base.
+#[derive(Drop)]
+struct Asking {
+    mask: CpuMask,
+    wanted: CpuMask,
+    base: u64,
+    wait: bool,
+}
+
+/// Makes the call, where the others poll all the time: which CPUs were called, and which were asked, behind a 9.
+fn call_wanted<R: Wait + Threads + Sync>(
+    rt: &R,
+    driver: &mut Driver,
+    others: &Others,
+    asking: &Asking,
+) -> (CpuMask, u64) {
+    let asked = AtomicU64::new(9);
+    let cond = |cpu: u32, _: u64| {
+        note_asked(&asked, asking.base, cpu);
+        asking.wanted.contains(cpu)
+    };
+    let mut called = CpuMask::empty();
+    others.let_go_on();
+    thread::scope(thread::scope_env(), rt, |scope| {
+        if scope.spawn(move || others.poll_to_the_end()).is_ok() {
+            called = driver.each(rt, asking.mask, 1, &cond, asking.wait);
+        }
+        others.over.store(1, Ordering::SeqCst);
+    });
+    (called, asked.load(Ordering::SeqCst))
+}
+
+/// Notes that a CPU is asked.
+fn note_asked(asked: &AtomicU64, base: u64, cpu: u32) {
+    let before = asked.load(Ordering::SeqCst);
+    let after = before.wrapping_mul(base).wrapping_add(cpu as u64);
+    asked.store(after, Ordering::SeqCst);
+}
+
+/// No CPU is asked about that is not in the mask, or not online; this CPU is not in the mask.
 #[test]
 fn the_condition_is_asked_of_cpus_of_the_mask_that_are_online(rt: HostRuntime) -> Result<(), Fail> {
-    let mask: CpuMask = "1-5".parse()?;
-    let called: CpuMask = "1,3,5".parse()?;
-    let (table, zero) = table_of(rt.alloc(), 6, "0-1,3,5".parse()?, 0)?;
-    let mut zero = Driver::new(&table, zero, rt.alloc());
-    asks_of_three(&rt, &mut zero, mask, called);
+    for wait in [false, true] {
+        let (table, boot) = CallTable::new(rt.alloc(), 6, "0-1,3,5".parse()?)?;
+        asks_of_three(&rt, &mut Room::new(&table, boot, rt.alloc()), wait)?;
+    }
     Ok(())
 }
 
-fn asks_of_three<R: Wait + Abort>(rt: &R, zero: &mut Driver, mask: CpuMask, called: CpuMask) {
-    let (answer, asked) = call_wanted(rt, zero, mask, mask, 10, false);
-    assert!(rt; answer == called);
-    assert_eq!(rt; (asked, zero.times(0, 1)), (9_135, 0));
+fn asks_of_three<R: Wait + Threads + Sync + Abort>(
+    rt: &R,
+    room: &mut Room,
+    wait: bool,
+) -> Result<(), SmpError> {
+    let mask: CpuMask = "1-5".parse()?;
+    let called: CpuMask = "1,3,5".parse()?;
+    let asking = Asking {
+        mask,
+        wanted: mask,
+        base: 10,
+        wait,
+    };
+    let mut zero = room.drive(0)?;
+    let others = Others::of(room, &[1, 3, 5])?;
+    let answer = call_wanted(rt, &mut zero, &others, &asking);
+    assert_eq!(rt; (answer, zero.times(0, 1)), ((called, 9_135), 0));
+    Ok(())
+}
+
+/// The condition is asked of 31 other CPUs, ascending, and then of this one.
+#[test]
+fn the_condition_is_asked_of_thirty_one_others_and_then_of_this_cpu(
+    rt: HostRuntime,
+) -> Result<(), Fail> {
+    for wait in [false, true] {
+        let (table, boot) = CallTable::new(rt.alloc(), 32, "0-31".parse()?)?;
+        asks_of_thirty_two(&rt, &mut Room::new(&table, boot, rt.alloc()), wait)?;
+    }
+    Ok(())
+}
+
+fn asks_of_thirty_two<R: Wait + Threads + Sync + Abort>(
+    rt: &R,
+    room: &mut Room,
+    wait: bool,
+) -> Result<(), SmpError> {
+    let all: CpuMask = "0-31".parse()?;
+    let fourth: CpuMask = "0,4,8,12,16,20,24,28".parse()?;
+    let asking = Asking {
+        mask: all,
+        wanted: fourth,
+        base: 33,
+        wait,
+    };
+    let mut twenty = room.drive(20)?;
+    let others = Others::of(room, &[0, 4, 8, 12, 16, 24, 28])?;
+    let answer = call_wanted(rt, &mut twenty, &others, &asking);
+    assert_eq!(rt; answer, (fourth, asked_last(all, 20)));
+    let tallies = (twenty.tally(4), twenty.tally(28), twenty.tally(31));
+    assert_eq!(rt;
+        (twenty.times(20, 1), tallies),
+        (1, ((1, 0), (1, 0), (0, 0)))
+    );
+    Ok(())
+}
+
+/// The number where the others are asked in order, and then this CPU.
+fn asked_last(all: CpuMask, this: u32) -> u64 {
+    let asked = AtomicU64::new(9);
+    for cpu in all.without(this).iter() {
+        note_asked(&asked, 33, cpu);
+    }
+    note_asked(&asked, 33, this);
+    asked.load(Ordering::SeqCst)
+}
+
+/// When a CPU that is not called yet polls in the condition.
+#[derive(Drop)]
+struct Moment {
+    mask: CpuMask,
+    /// It polls as the condition is asked of this CPU.
+    asked: u32,
+    wait: bool,
+}
+
+/// CPU 0 calls CPUs of the mask. As the moment's CPU is asked, CPU 1 polls, once CPU 2 has sent it an interrupt, if it is there:
+/// how often CPU 1 has then heard the call.
+fn heard_at<R: Wait + Threads + Sync>(
+    rt: &R,
+    zero: &mut Driver,
+    others: &Others,
+    at: &Moment,
+) -> u64 {
+    let heard = AtomicU64::new(0);
+    let cond = |cpu: u32, _: u64| {
+        if cpu == at.asked {
+            others.interrupt(1, 1);
+            let times = others.hears(0, 0).unwrap_or(9);
+            heard.store(times as u64, Ordering::SeqCst);
+            others.let_go_on();
+        }
+        true
+    };
+    thread::scope(thread::scope_env(), rt, |scope| {
+        if scope.spawn(move || others.poll_to_the_end()).is_ok() {
+            zero.each(rt, at.mask, 1, &cond, at.wait);
+        }
+        others.over.store(1, Ordering::SeqCst);
+    });
+    heard.load(Ordering::SeqCst)
+}
+
+/// This CPU is asked once the interrupts are sent.
+#[test]
+fn this_cpu_is_asked_after_the_interrupts_are_sent(rt: HostRuntime) -> Result<(), Fail> {
+    for wait in [false, true] {
+        let (table, boot) = CallTable::new(rt.alloc(), 2, "0-1".parse()?)?;
+        let mut room = Room::new(&table, boot, rt.alloc());
+        asks_of_itself_last(&rt, &mut room, wait)?;
+    }
+    Ok(())
+}
+
+fn asks_of_itself_last<R: Wait + Threads + Sync + Abort>(
+    rt: &R,
+    room: &mut Room,
+    wait: bool,
+) -> Result<(), SmpError> {
+    let mut zero = room.drive(0)?;
+    let others = Others::of(room, &[1])?;
+    let at = Moment {
+        mask: "0-1".parse()?,
+        asked: 0,
+        wait,
+    };
+    let heard = heard_at(rt, &mut zero, &others, &at);
+    assert_eq!(rt; (heard, zero.times(0, 1)), (1, 1));
+    Ok(())
+}
+
+/// Each CPU is asked about once the calls to those before it are queued. CPU 0 has sent nothing yet, so CPU 2 sends the interrupt.
+#[test]
+fn each_cpu_is_asked_once_the_calls_before_it_are_queued(rt: HostRuntime) -> Result<(), Fail> {
+    for wait in [false, true] {
+        let (table, boot) = CallTable::new(rt.alloc(), 4, "0-3".parse()?)?;
+        let mut room = Room::new(&table, boot, rt.alloc());
+        asks_of_three_last(&rt, &mut room, wait)?;
+    }
+    Ok(())
+}
+
+fn asks_of_three_last<R: Wait + Threads + Sync + Abort>(
+    rt: &R,
+    room: &mut Room,
+    wait: bool,
+) -> Result<(), SmpError> {
+    let mut zero = room.drive(0)?;
+    let others = Others::of(room, &[1, 2, 3])?;
+    let at = Moment {
+        mask: "1,3".parse()?,
+        asked: 3,
+        wait,
+    };
+    assert_eq!(rt; heard_at(rt, &mut zero, &others, &at), 1);
+    Ok(())
 }
 
 /// Handles the calls of a CPU, and notes how often it has heard function 1 from CPU 0.
@@ -25,69 +219,6 @@ fn poll_and_note(other: &Mutex<Driver>, heard: &AtomicU64) {
         other.poll();
         heard.store(other.times(0, 1) as u64, Ordering::SeqCst);
     }
-}
-
-/// CPU 0 calls both CPUs, and CPU 1 polls once CPU 0 is asked of itself: how often CPU 1 has then heard the call.
-fn heard_once_zero_is_asked<R: Wait>(rt: &R, zero: &mut Driver, one: Driver, both: CpuMask) -> u64 {
-    let one = Mutex::new(one);
-    let heard = AtomicU64::new(0);
-    let cond = |cpu: u32, _: u64| {
-        if cpu == 0 {
-            poll_and_note(&one, &heard);
-        }
-        true
-    };
-    zero.each(rt, both, 1, &cond, false);
-    heard.load(Ordering::SeqCst)
-}
-
-#[test]
-fn this_cpu_is_asked_after_the_interrupts_are_sent(rt: HostRuntime) -> Result<(), Fail> {
-    let both: CpuMask = "0-1".parse()?;
-    let (table, zero, one) = table_and_two(rt.alloc(), 2, "0-1")?;
-    let mut zero = Driver::new(&table, zero, rt.alloc());
-    let one = Driver::new(&table, one, rt.alloc());
-    let heard = heard_once_zero_is_asked(&rt, &mut zero, one, both);
-    assert_eq!(rt; (heard, zero.times(0, 1)), (1, 1));
-    Ok(())
-}
-
-/// CPU 2 sends CPU 1 an interrupt, where both are free, and CPU 1 polls.
-fn interrupt_and_note(two: &Mutex<Driver>, one: &Mutex<Driver>, heard: &AtomicU64) {
-    if let Some(mut two) = two.try_lock() {
-        let _ = two.interrupt(1);
-    }
-    poll_and_note(one, heard);
-}
-
-/// CPU 0 calls CPUs of the mask, and CPU 1 is sent an interrupt and polls once CPU 3 is asked of: how often CPU 1 has
-/// then heard the call.
-fn heard_once_three_is_asked<R: Wait>(rt: &R, cpus: Three, mask: CpuMask) -> u64 {
-    let Three {
-        first: mut zero,
-        second: one,
-        third: two,
-    } = cpus;
-    let (one, two) = (Mutex::new(one), Mutex::new(two));
-    let heard = AtomicU64::new(0);
-    let cond = |cpu: u32, _: u64| {
-        if cpu == 3 {
-            // CPU 0 has sent nothing yet: CPU 2 sends CPU 1 an interrupt.
-            interrupt_and_note(&two, &one, &heard);
-        }
-        true
-    };
-    zero.each(rt, mask, 1, &cond, false);
-    heard.load(Ordering::SeqCst)
-}
-
-#[test]
-fn each_cpu_is_asked_once_the_calls_before_it_are_queued(rt: HostRuntime) -> Result<(), Fail> {
-    let mask: CpuMask = "1,3".parse()?;
-    let (table, zero, one, two) = table_and_three(rt.alloc(), 4, "0-3", [0, 1, 2])?;
-    let cpus = Three::new(&table, zero, one, two, rt.alloc());
-    assert_eq!(rt; heard_once_three_is_asked(&rt, cpus, mask), 1);
-    Ok(())
 }
 
 /// A handler that lets another CPU handle its calls.

@@ -105,36 +105,3 @@ fn calls_the_last<R: Wait + Abort>(
     let done = (record, zero.is_done(record), zero.is_done(none));
     assert_eq!(rt; done, (record, Ok(false), Err(SmpError::BadArgument)));
 }
-
-/// The number where the others are asked in order, and then this CPU.
-pub fn asked_last(all: CpuMask, this: u32) -> u64 {
-    let asked = AtomicU64::new(9);
-    for cpu in all.without(this).iter() {
-        note_asked(&asked, 33, cpu);
-    }
-    note_asked(&asked, 33, this);
-    asked.load(Ordering::SeqCst)
-}
-
-#[test]
-fn the_condition_is_asked_of_thirty_one_others_and_then_of_this_cpu(
-    rt: HostRuntime,
-) -> Result<(), Fail> {
-    let all: CpuMask = "0-31".parse()?;
-    let fourth: CpuMask = "0,4,8,12,16,20,24,28".parse()?;
-    let (table, twenty) = table_of(rt.alloc(), 32, all, 20)?;
-    let mut twenty = Driver::new(&table, twenty, rt.alloc());
-    asks_of_thirty_two(&rt, &mut twenty, all, fourth);
-    Ok(())
-}
-
-fn asks_of_thirty_two<R: Wait + Abort>(rt: &R, twenty: &mut Driver, all: CpuMask, fourth: CpuMask) {
-    let (called, asked) = call_wanted(rt, twenty, all, fourth, 33, false);
-    assert!(rt; called == fourth);
-    assert_eq!(rt; asked, asked_last(all, 20));
-    let tallies = (twenty.tally(4), twenty.tally(28), twenty.tally(31));
-    assert_eq!(rt;
-        (twenty.times(20, 1), tallies),
-        (1, ((1, 0), (1, 0), (0, 0)))
-    );
-}
