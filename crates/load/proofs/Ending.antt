@@ -12,8 +12,8 @@ use Rattle.smp_machine.specs.declared.crew.Played.{Played}
 use Rattle.load.specs.Ends.{AreAt, AreFirst, returned}
 
 -- CPUs that have played their parts are of the machine
-pub all_at : {H F : Type 0} (hears : H → Heard → H → Type 0) (runs : F → Called → F → Type 0) (begins : ℕ → H → F → Type 0)
-    (plays : SeatValue H F → SeatValue H F → Type 0) (leaves : ℕ → Type 0) (m : MachineValue) (numbers : List ℕ) (back : List (Played H F))
+pub all_at : {H F A : Type 0} (hears : H → Heard → H → Type 0) (runs : F → Called → F → Type 0) (begins : ℕ → H → F → Type 0)
+    (plays : SeatValue H F → SeatValue H F → Type 0) (leaves : ℕ → Type 0) (m : MachineValue) (numbers : List ℕ) (back : List (Played H F A))
     → ArePlayed hears runs begins plays leaves m numbers back → AreAt m back
 all_at hears runs begins plays leaves m [] [] all = tt
 all_at hears runs begins plays leaves m (n ∷ ns) (p ∷ ps) all = (all.0.at, all_at hears runs begins plays leaves m ns ps all.1)
@@ -21,8 +21,8 @@ all_at hears runs begins plays leaves m [] (p ∷ ps) all = absurd all
 all_at hears runs begins plays leaves m (n ∷ ns) [] all = absurd all
 
 -- they are those of these numbers
-pub all_returned : {H F : Type 0} (hears : H → Heard → H → Type 0) (runs : F → Called → F → Type 0) (begins : ℕ → H → F → Type 0)
-    (plays : SeatValue H F → SeatValue H F → Type 0) (leaves : ℕ → Type 0) (m : MachineValue) (numbers : List ℕ) (back : List (Played H F))
+pub all_returned : {H F A : Type 0} (hears : H → Heard → H → Type 0) (runs : F → Called → F → Type 0) (begins : ℕ → H → F → Type 0)
+    (plays : SeatValue H F → SeatValue H F → Type 0) (leaves : ℕ → Type 0) (m : MachineValue) (numbers : List ℕ) (back : List (Played H F A))
     → ArePlayed hears runs begins plays leaves m numbers back → returned back ≡ numbers
 all_returned hears runs begins plays leaves m [] [] all = refl
 all_returned hears runs begins plays leaves m (n ∷ ns) (p ∷ ps) all =
@@ -31,12 +31,12 @@ all_returned hears runs begins plays leaves m [] (p ∷ ps) all = absurd all
 all_returned hears runs begins plays leaves m (n ∷ ns) [] all = absurd all
 
 -- the last of them is
-pub last_at : {H F : Type 0} (m : MachineValue) (before : List (Played H F)) (p : Played H F) → AreAt m (before ++ p ∷ []) → IsAt m p.cpu
+pub last_at : {H F A : Type 0} (m : MachineValue) (before : List (Played H F A)) (p : Played H F A) → AreAt m (before ++ p ∷ []) → IsAt m p.cpu
 last_at m [] p all = all.0
 last_at m (x ∷ xs) p all = last_at m xs p all.1
 
 -- its number is the last of theirs
-pub last_returned : {H F : Type 0} (before : List (Played H F)) (p : Played H F) → returned (before ++ p ∷ []) ≡ returned before ++ p.cpu.calls.number ∷ []
+pub last_returned : {H F A : Type 0} (before : List (Played H F A)) (p : Played H F A) → returned (before ++ p ∷ []) ≡ returned before ++ p.cpu.calls.number ∷ []
 last_returned before p = map-append (λ x. x.cpu.calls.number) before (p ∷ [])
 
 -- two sets of the CPUs below n have the same members

@@ -6,12 +6,12 @@ use Rattle.smp_machine.specs.declared.crew.Played.{Played}
 use Rattle.load.specs.declared.torture.report.Report.{Report}
 
 -- each of them is of this machine
-abbrev pub AreAt : {H F : Type 0} → MachineValue → List (Played H F) → Type 0
+abbrev pub AreAt : {H F A : Type 0} → MachineValue → List (Played H F A) → Type 0
 AreAt m [] = Unit {0}
 AreAt m (p ∷ ps) = IsAt m p.cpu × AreAt m ps
 
 -- their numbers
-abbrev pub returned : {H F : Type 0} → List (Played H F) → List ℕ
+abbrev pub returned : {H F A : Type 0} → List (Played H F A) → List ℕ
 returned back = map (λ p. p.cpu.calls.number) back
 
 -- the CPUs whose reports these are

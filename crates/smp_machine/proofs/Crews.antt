@@ -79,9 +79,9 @@ pub moved_next : {X Y : Type 0} (P : ℕ → Y → Type 0) (Q : ℕ → X → Ty
 moved_next P Q numbers done x xs rest is m = next_of Q m.later x rest (subst (λ (zs : List _). AreFor Q m.later zs) is m.rest_are)
 
 -- a CPU that was given out, with what was made for it
-pub is_member : {H F : Type 0} (begins : ℕ → H → F → Type 0) (b : BootValue) (m : MachineValue) (n : ℕ) (p : MachineCpuValue) (h : H) (f : F) → b.machine ≡ m
+pub is_member : {H F A : Type 0} (begins : ℕ → H → F → Type 0) (b : BootValue) (m : MachineValue) (n : ℕ) (p : MachineCpuValue) (h : H) (f : F) → b.machine ≡ m
     → p ≡ fresh_place b.machine n → has b.machine.calls.online n ≡ true → begins n h f
-    → IsMember begins m n (record { cpu = p; handler = h; functions = f })
+    → IsMember {H = H} {F = F} {A = A} begins m n (record { cpu = p; handler = h; functions = f })
 is_member begins b m n p h f same is on made = record {
   online = subst (λ (x : MachineValue). has x.calls.online n ≡ true) same on;
   fresh = is ∙ ap (λ (x : MachineValue). fresh_place x n) same;
@@ -89,7 +89,7 @@ is_member begins b m n p h f same is on made = record {
 }
 
 -- it is the CPU of its own number
-pub member_own : {H F : Type 0} (begins : ℕ → H → F → Type 0) (m : MachineValue) (n : ℕ) (x : Member H F) → IsMember begins m n x
+pub member_own : {H F A : Type 0} (begins : ℕ → H → F → Type 0) (m : MachineValue) (n : ℕ) (x : Member H F A) → IsMember begins m n x
     → IsMember begins m x.cpu.calls.number x
 member_own begins m n x is =
     subst (λ (k : ℕ). IsMember begins m k x) (sym (ap (λ (p : MachineCpuValue). p.calls.number) is.fresh)) is
@@ -116,27 +116,27 @@ out_suc P mask n xs other all =
     subst (λ (b : Bool). AreFor P (members_below mask n ++ (if b then n ∷ [] else [])) xs) (sym other)
     (subst (λ (ns : List ℕ). AreFor P ns xs) (sym (append-nil (members_below mask n))) all)
 
-pub below_next : {H F : Type 0} (begins : ℕ → H → F → Type 0) (m : MachineValue) (n : ℕ) (xs ys : List (Member H F)) (r : Option (Member H F))
+pub below_next : {H F A : Type 0} (begins : ℕ → H → F → Type 0) (m : MachineValue) (n : ℕ) (xs ys : List (Member H F A)) (r : Option (Member H F A))
     → IsNext begins m n r → MatchOption r (ys ≡ xs) (λ x. ys ≡ xs ++ x ∷ []) → AreMembers begins m (members_below m.calls.online n) xs
     → AreMembers begins m (members_below m.calls.online (n + 1)) ys
-below_next {H} {F} begins m n xs ys None off same all =
+below_next {H} {F} {A} begins m n xs ys None off same all =
     subst (λ (k : ℕ). AreMembers begins m (members_below m.calls.online k) ys) (next n)
-    (subst (λ (zs : List (Member H F)). AreMembers begins m (members_below m.calls.online (suc n)) zs) (sym same)
+    (subst (λ (zs : List (Member H F A)). AreMembers begins m (members_below m.calls.online (suc n)) zs) (sym same)
     (out_suc (λ k x. IsMember begins m k x) m.calls.online n xs off all))
-below_next {H} {F} begins m n xs ys (Some x) here pushed all =
+below_next {H} {F} {A} begins m n xs ys (Some x) here pushed all =
     subst (λ (k : ℕ). AreMembers begins m (members_below m.calls.online k) ys) (next n)
-    (subst (λ (zs : List (Member H F)). AreMembers begins m (members_below m.calls.online (suc n)) zs) (sym pushed)
+    (subst (λ (zs : List (Member H F A)). AreMembers begins m (members_below m.calls.online (suc n)) zs) (sym pushed)
     (in_suc (λ k x. IsMember begins m k x) m.calls.online n xs x here.online all here))
 
 -- a CPU that has played its part, and has ended
-pub played_is : {H F : Type 0} (hears : H → Heard → H → Type 0) (runs : F → Called → F → Type 0) (begins : ℕ → H → F → Type 0)
-    (plays : SeatValue H F → SeatValue H F → Type 0) (leaves : ℕ → Type 0) (m : MachineValue) (x : Member H F) (start played ended : SeatValue H F)
-    (back : Played H F) → IsMember begins m x.cpu.calls.number x
+pub played_is : {H F A : Type 0} (hears : H → Heard → H → Type 0) (runs : F → Called → F → Type 0) (begins : ℕ → H → F → Type 0)
+    (plays : SeatValue H F → SeatValue H F → Type 0) (leaves : ℕ → Type 0) (m : MachineValue) (x : Member H F A) (start played ended : SeatValue H F)
+    (back : Played H F A) → IsMember begins m x.cpu.calls.number x
     → start ≡ record { machine = m; cpu = x.cpu; handler = x.handler; functions = x.functions } → plays start played → IsSameSeat start played
     → SeatWorks hears runs played ended (own_of played.cpu) → IsSameSeat played ended → HasEnded (leaves played.cpu.calls.number) played ended
     → (back.cpu ≡ ended.cpu) × (back.handler ≡ ended.handler) × (back.functions ≡ ended.functions) → IsAt ended.machine back.cpu → IsShown back.cpu
     → IsPlayed hears runs begins plays leaves m x.cpu.calls.number back
-played_is {H} {F} hears runs begins plays leaves m x start played ended back member is part same polled still left parts at shown =
+played_is {H} {F} {A} hears runs begins plays leaves m x start played ended back member is part same polled still left parts at shown =
     let machine_is : ended.machine ≡ m = still.machine_is ∙ (same.machine_is ∙ ap (λ (s : SeatValue H F). s.machine) is) in
     let number_is : played.cpu.calls.number ≡ x.cpu.calls.number = same.number_is ∙ ap (λ (s : SeatValue H F). s.cpu.calls.number) is in
     let back_is : ended ≡ seat_of m back =

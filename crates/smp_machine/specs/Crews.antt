@@ -17,7 +17,7 @@ pub record IsShown (p : MachineCpuValue) : Type 0 where
   pub stops : StopsAreShown p.stops
 
 -- what a CPU has come back with, at its machine
-abbrev pub seat_of : {H F : Type 0} → MachineValue → Played H F → SeatValue H F
+abbrev pub seat_of : {H F A : Type 0} → MachineValue → Played H F A → SeatValue H F
 seat_of m p = record { machine = m; cpu = p.cpu; handler = p.handler; functions = p.functions }
 
 -- since its part it has polled, and no work is in hand; or it is as it was, where it may leave
@@ -25,8 +25,8 @@ abbrev pub HasEnded : {H F : Type 0} → Type 0 → SeatValue H F → SeatValue 
 HasEnded MayLeave played ended = (ended.cpu.stops.inside ≡ None) ⊎ (MayLeave × (ended ≡ played))
 
 -- the CPU of this number, of this machine, is back: it has done nothing before its part, has then played that, and has then polled
-pub record IsPlayed {H F : Type 0} (hears : H → Heard → H → Type 0) (runs : F → Called → F → Type 0) (begins : ℕ → H → F → Type 0)
-    (plays : SeatValue H F → SeatValue H F → Type 0) (leaves : ℕ → Type 0) (m : MachineValue) (number : ℕ) (p : Played H F) : Type 0 where
+pub record IsPlayed {H F A : Type 0} (hears : H → Heard → H → Type 0) (runs : F → Called → F → Type 0) (begins : ℕ → H → F → Type 0)
+    (plays : SeatValue H F → SeatValue H F → Type 0) (leaves : ℕ → Type 0) (m : MachineValue) (number : ℕ) (p : Played H F A) : Type 0 where
   pub at : IsAt m p.cpu
   pub number_is : p.cpu.calls.number ≡ number
   pub shown : IsShown p.cpu
@@ -39,6 +39,6 @@ pub record IsPlayed {H F : Type 0} (hears : H → Heard → H → Type 0) (runs 
   pub ended : HasEnded (leaves number) played (seat_of m p)
 
 -- the CPUs of these numbers are back, in this order, each once, and no others
-abbrev pub ArePlayed : {H F : Type 0} → (H → Heard → H → Type 0) → (F → Called → F → Type 0) → (ℕ → H → F → Type 0)
-    → (SeatValue H F → SeatValue H F → Type 0) → (ℕ → Type 0) → MachineValue → List ℕ → List (Played H F) → Type 0
+abbrev pub ArePlayed : {H F A : Type 0} → (H → Heard → H → Type 0) → (F → Called → F → Type 0) → (ℕ → H → F → Type 0)
+    → (SeatValue H F → SeatValue H F → Type 0) → (ℕ → Type 0) → MachineValue → List ℕ → List (Played H F A) → Type 0
 ArePlayed hears runs begins plays leaves m numbers back = AreFor (λ n p. IsPlayed hears runs begins plays leaves m n p) numbers back

@@ -8,11 +8,11 @@ use crate::cpu::Cpu;
 use crate::seat::Seat;
 use smp_multi::StopFunc;
 use smp_queue::Handler;
-use std::alloc::{AllocError, Global};
+use std::alloc::{AllocError, Allocator};
 use std::sync::Wait;
 
 /// What the CPUs of a machine run, each on a thread of its own. All threads share it by reference.
-pub trait Crew<H: Handler + Drop, F: StopFunc + Drop> {
+pub trait Crew<H: Handler + Drop, F: StopFunc + Drop, A: Allocator> {
     /// On which machines it may run: on each, unless an `impl` says else.
     ghost runs_on: { Self → MachineValue → Type 0 } = { λ _ _. Unit {0} };
 
@@ -32,7 +32,7 @@ pub trait Crew<H: Handler + Drop, F: StopFunc + Drop> {
 
     /// The part of one CPU, which is online and has done nothing before. It may wait; the other CPUs play theirs, and those
     /// that are done poll.
-    fn play<R: Wait>(&self, seat: &mut Seat<'_, Global, R, H, F>)
+    fn play<R: Wait>(&self, seat: &mut Seat<'_, A, R, H, F>)
         requires machine { runs_on self.now seat.old.machine }
         requires fresh { IsFresh seat.old.machine seat.old.cpu }
         requires made { begins self.now seat.old.cpu.calls.number seat.old.handler seat.old.functions }
@@ -51,9 +51,9 @@ pub trait Crew<H: Handler + Drop, F: StopFunc + Drop> {
 
 /// A CPU that has played its part, with its handler and its stop function.
 #[derive(Drop)]
-pub struct Played<H: Handler + Drop, F: StopFunc + Drop> {
+pub struct Played<H: Handler + Drop, F: StopFunc + Drop, A: Allocator> {
     /// The CPU.
-    pub cpu: Cpu<Global>,
+    pub cpu: Cpu<A>,
     /// What has heard its calls.
     pub handler: H,
     /// What has run its stop functions.

@@ -12,12 +12,12 @@ use crate::machine::Machine;
 use smp_multi::StopFunc;
 use smp_queue::Handler;
 use smp_words::size::NR_CPUS;
-use std::alloc::{AllocError, Global};
+use std::alloc::{AllocError, Allocator};
 
 /// A CPU that has not begun, with its handler and its stop function.
 #[derive(Drop)]
-pub(crate) struct Member<H: Handler + Drop, F: StopFunc + Drop> {
-    pub(crate) cpu: Cpu<Global>,
+pub(crate) struct Member<H: Handler + Drop, F: StopFunc + Drop, A: Allocator> {
+    pub(crate) cpu: Cpu<A>,
     pub(crate) handler: H,
     pub(crate) functions: F,
 }
@@ -25,12 +25,12 @@ pub(crate) struct Member<H: Handler + Drop, F: StopFunc + Drop> {
 /// The CPU of a number, where it is online, with what is made for it; the CPUs from that number on were not given out before,
 /// and those above it are not yet.
 #[tactic(auto, using(crate::proofs::Crews::is_member))]
-fn next_member<H: Handler + Drop, F: StopFunc + Drop, C: Crew<H, F>>(
-    machine: &Machine<Global>,
-    boot: &mut MachineBoot<Global>,
+fn next_member<A: Allocator, H: Handler + Drop, F: StopFunc + Drop, C: Crew<H, F, A>>(
+    machine: &Machine<A>,
+    boot: &mut MachineBoot<A>,
     crew: &C,
     number: u32,
-) -> Result<Option<Member<H, F>>, AllocError>
+) -> Result<Option<Member<H, F, A>>, AllocError>
     requires { AreLeftFrom machine.now boot.old number }
     ensures member { IfOk result (λ next. IsNext (C.begins crew.now) machine.now number next) }
     ensures left { IfOk result (λ _. AreLeftFrom machine.now boot.new (number + 1)) }
@@ -47,9 +47,9 @@ fn next_member<H: Handler + Drop, F: StopFunc + Drop, C: Crew<H, F>>(
 }
 
 /// One CPU more, if there is one.
-fn push_if<H: Handler + Drop, F: StopFunc + Drop>(
-    all: &mut Vec<Member<H, F>, Global>,
-    next: Option<Member<H, F>>,
+fn push_if<A: Allocator, H: Handler + Drop, F: StopFunc + Drop>(
+    all: &mut Vec<Member<H, F, A>, A>,
+    next: Option<Member<H, F, A>>,
 ) -> Result<(), AllocError>
     ensures { IfOk result (λ _. MatchOption next (all.new.items ≡ all.old.items) (λ x. all.new.items ≡ all.old.items ++ x ∷ [])) }
 {
@@ -60,12 +60,12 @@ fn push_if<H: Handler + Drop, F: StopFunc + Drop>(
 }
 
 /// The CPUs of a machine that are online, ascending, each with what the crew makes for it.
-pub(crate) fn members_of<H: Handler + Drop, F: StopFunc + Drop, C: Crew<H, F>>(
-    alloc: Global,
-    machine: &Machine<Global>,
-    mut boot: MachineBoot<Global>,
+pub(crate) fn members_of<A: Allocator, H: Handler + Drop, F: StopFunc + Drop, C: Crew<H, F, A>>(
+    alloc: A,
+    machine: &Machine<A>,
+    mut boot: MachineBoot<A>,
     crew: &C,
-) -> Result<Vec<Member<H, F>, Global>, AllocError>
+) -> Result<Vec<Member<H, F, A>, A>, AllocError>
     requires { IsFull boot machine.now }
     ensures { IfOk result (λ all. AreMembers (C.begins crew.now) machine.now (members machine.now.calls.online) all.items) }
 {

@@ -20,21 +20,22 @@ use smp_mask::SmpError;
 use smp_multi::StopFunc;
 use smp_queue::Handler;
 use smp_start::StartLine;
-use std::alloc::Global;
+use std::alloc::Allocator;
 use std::sync::Wait;
 use std::thread;
 use std::thread::{Promise, PromisedHandle, Scope, Threads};
 
 /// What the thread of a CPU promises: to give the CPU back, with its part played.
 #[derive(Drop)]
-struct Task<'e, C> {
-    machine: &'e Machine<Global>,
+struct Task<'e, C, A: Allocator> {
+    machine: &'e Machine<A>,
     crew: &'e C,
     number: u32,
 }
 
-impl<'e, H: Handler + Drop, F: StopFunc + Drop, C: Crew<H, F>> Promise<Option<Played<H, F>>>
-    for Task<'e, C> {
+impl<'e, A: Allocator, H: Handler + Drop, F: StopFunc + Drop, C: Crew<H, F, A>> Promise<
+    Option<Played<H, F, A>>,
+> for Task<'e, C, A> {
     ghost use Rattle.std.specs.Prelude.{IfSome};
     ghost use Rattle.smp_machine.specs.Crews.{IsPlayed};
 
@@ -43,14 +44,14 @@ impl<'e, H: Handler + Drop, F: StopFunc + Drop, C: Crew<H, F>> Promise<Option<Pl
 }
 
 /// A thread that was started.
-type Thread<'e, H, F, C> = PromisedHandle<Option<Played<H, F>>, Task<'e, C>>;
+type Thread<'e, H, F, C, A> = PromisedHandle<Option<Played<H, F, A>>, Task<'e, C, A>>;
 
 /// Where the crew says that this CPU polls, it polls until all CPUs have played their parts, and once more.
-fn poll_to_the_end<R: Wait, H: Handler + Drop, F: StopFunc + Drop, C: Crew<H, F>>(
+fn poll_to_the_end<A: Allocator, R: Wait, H: Handler + Drop, F: StopFunc + Drop, C: Crew<H, F, A>>(
     rt: &R,
     crew: &C,
     line: &StartLine,
-    seat: &mut Seat<'_, Global, R, H, F>,
+    seat: &mut Seat<'_, A, R, H, F>,
 )
     ensures works { SeatWorks H.leads F.leads seat.old seat.new (own_of seat.old.cpu) }
     ensures same { IsSameSeat seat.old seat.new }
@@ -74,13 +75,13 @@ fn poll_to_the_end<R: Wait, H: Handler + Drop, F: StopFunc + Drop, C: Crew<H, F>
 
 /// What the thread of a CPU does: once all are started, its part; then it polls until all CPUs have played theirs, where the
 /// crew says so. None where it may not begin.
-fn drive<R: Wait, H: Handler + Drop, F: StopFunc + Drop, C: Crew<H, F>>(
+fn drive<A: Allocator, R: Wait, H: Handler + Drop, F: StopFunc + Drop, C: Crew<H, F, A>>(
     rt: &R,
-    machine: &Machine<Global>,
+    machine: &Machine<A>,
     crew: &C,
     line: &StartLine,
-    member: Member<H, F>,
-) -> Option<Played<H, F>>
+    member: Member<H, F, A>,
+) -> Option<Played<H, F, A>>
     requires machine { C.runs_on crew.now machine.now }
     requires member { IsMember (C.begins crew.now) machine.now member.cpu.calls.number member }
     ensures { IfSome result (λ p. IsPlayed H.leads F.leads (C.begins crew.now) (C.plays crew.now) (C.leaves crew.now) machine.now member.cpu.calls.number p) }
@@ -108,22 +109,23 @@ fn drive<R: Wait, H: Handler + Drop, F: StopFunc + Drop, C: Crew<H, F>>(
 
 /// What the threads of a run share: the runtime, the machine, what its CPUs play, and the line at which they start.
 #[derive(Drop)]
-struct Run<'e, R, C> {
+struct Run<'e, R, C, A: Allocator> {
     rt: &'e R,
-    machine: &'e Machine<Global>,
+    machine: &'e Machine<A>,
     crew: &'e C,
     line: &'e StartLine,
 }
 
-impl<'e, R: Wait + Threads + Sync, C: Sync> Run<'e, R, C> {
+impl<'e, R: Wait + Threads + Sync, C: Sync, A: Allocator + Copy + Send + Sync> Run<'e, R, C, A> {
     /// Starts the thread of a CPU. None where it can't be started.
     fn start<'s, H: Handler + Drop + Send + 's, F: StopFunc + Drop + Send + 's>(
         &self,
         scope: &Scope<'s, &'e ()>,
-        member: Member<H, F>,
-    ) -> Option<Thread<'e, H, F, C>>
+        member: Member<H, F, A>,
+    ) -> Option<Thread<'e, H, F, C, A>>
     where
-        C: Crew<H, F>,
+        A: 's,
+        C: Crew<H, F, A>,
         requires machine { C.runs_on self.now.crew.now self.now.machine.now }
         requires member { IsMember (C.begins self.now.crew.now) self.now.machine.now member.cpu.calls.number member }
         ensures { IfSome result (λ h. IsTaskOf self.now.machine.now self.now.crew.now member.cpu.calls.number h.promise) }
@@ -144,11 +146,12 @@ impl<'e, R: Wait + Threads + Sync, C: Sync> Run<'e, R, C> {
     fn start_all<'s, H: Handler + Drop + Send + 's, F: StopFunc + Drop + Send + 's>(
         &self,
         scope: &Scope<'s, &'e ()>,
-        all: Vec<Member<H, F>, Global>,
-        mut handles: Vec<Thread<'e, H, F, C>, Global>,
-    ) -> Result<Vec<Thread<'e, H, F, C>, Global>, Vec<Thread<'e, H, F, C>, Global>>
+        all: Vec<Member<H, F, A>, A>,
+        mut handles: Vec<Thread<'e, H, F, C, A>, A>,
+    ) -> Result<Vec<Thread<'e, H, F, C, A>, A>, Vec<Thread<'e, H, F, C, A>, A>>
     where
-        C: Crew<H, F>,
+        A: 's,
+        C: Crew<H, F, A>,
         requires machine { C.runs_on self.now.crew.now self.now.machine.now }
         requires members { AreMembers (C.begins self.now.crew.now) self.now.machine.now (members self.now.machine.now.calls.online) all.items }
         requires room { vec_len all ≤ vec_capacity handles }
@@ -170,11 +173,11 @@ impl<'e, R: Wait + Threads + Sync, C: Sync> Run<'e, R, C> {
     /// Waits for each thread: the CPUs, in the same order. None where a thread has not begun.
     fn join_all<H: Handler + Drop, F: StopFunc + Drop>(
         &self,
-        handles: Vec<Thread<'e, H, F, C>, Global>,
-        mut back: Vec<Played<H, F>, Global>,
-    ) -> Option<Vec<Played<H, F>, Global>>
+        handles: Vec<Thread<'e, H, F, C, A>, A>,
+        mut back: Vec<Played<H, F, A>, A>,
+    ) -> Option<Vec<Played<H, F, A>, A>>
     where
-        C: Crew<H, F>,
+        C: Crew<H, F, A>,
         requires started { AreStarted self.now.machine.now self.now.crew.now (members self.now.machine.now.calls.online) handles.items }
         requires room { vec_len handles ≤ vec_capacity back }
         requires none { (vec_len back ≡ 0) × (back.items ≡ []) }
@@ -195,19 +198,24 @@ impl<'e, R: Wait + Threads + Sync, C: Sync> Run<'e, R, C> {
     fn run_threads<'s, H: Handler + Drop + Send + 's, F: StopFunc + Drop + Send + 's>(
         &self,
         scope: &Scope<'s, &'e ()>,
-        alloc: Global,
-        all: Vec<Member<H, F>, Global>,
-    ) -> Option<Vec<Played<H, F>, Global>>
+        alloc: A,
+        all: Vec<Member<H, F, A>, A>,
+    ) -> Option<Vec<Played<H, F, A>, A>>
     where
-        C: Crew<H, F>,
+        A: 's,
+        C: Crew<H, F, A>,
         requires machine { C.runs_on self.now.crew.now self.now.machine.now }
         requires members { AreMembers (C.begins self.now.crew.now) self.now.machine.now (members self.now.machine.now.calls.online) all.items }
         ensures { IfSome result (λ v. ArePlayed H.leads F.leads (C.begins self.now.crew.now) (C.plays self.now.crew.now) (C.leaves self.now.crew.now)
             self.now.machine.now (members self.now.machine.now.calls.online) v.items) }
     {
         let count = all.len();
-        let handles = Vec::with_capacity(alloc, count).ok()?;
-        let back = Vec::with_capacity(alloc, count).ok()?;
+        let Ok(handles) = Vec::with_capacity(alloc, count) else {
+            return None;
+        };
+        let Ok(back) = Vec::with_capacity(alloc, count) else {
+            return None;
+        };
         match self.start_all(scope, all, handles) {
             Ok(handles) => {
                 self.line.open();
@@ -228,15 +236,16 @@ fn run_scope<
     R: Wait + Threads + Sync,
     H: Handler + Drop + Send,
     F: StopFunc + Drop + Send,
-    C: Crew<H, F> + Sync,
+    C: Crew<H, F, A> + Sync,
+    A: Allocator + Copy + Send + Sync,
 >(
     rt: &'e R,
-    alloc: Global,
-    machine: &'e Machine<Global>,
+    alloc: A,
+    machine: &'e Machine<A>,
     crew: &'e C,
     line: &'e StartLine,
-    all: Vec<Member<H, F>, Global>,
-) -> Option<Vec<Played<H, F>, Global>>
+    all: Vec<Member<H, F, A>, A>,
+) -> Option<Vec<Played<H, F, A>, A>>
     requires machine { C.runs_on crew.now machine.now }
     requires members { AreMembers (C.begins crew.now) machine.now (members machine.now.calls.online) all.items }
     ensures { IfSome result (λ v. ArePlayed H.leads F.leads (C.begins crew.now) (C.plays crew.now) (C.leaves crew.now)
@@ -245,7 +254,7 @@ fn run_scope<
     thread::scope(
         thread::scope_env(),
         rt,
-        move |scope| -> Option<Vec<Played<H, F>, Global>>
+        move |scope| -> Option<Vec<Played<H, F, A>, A>>
             requires { C.runs_on crew.now machine.now × AreMembers (C.begins crew.now) machine.now (members machine.now.calls.online) all.items }
             ensures { IfSome result (λ v. ArePlayed H.leads F.leads (C.begins crew.entry.now) (C.plays crew.entry.now) (C.leaves crew.entry.now)
                 machine.entry.now (members machine.entry.now.calls.online) v.items) }
@@ -272,14 +281,15 @@ pub fn run_cpus<
     R: Wait + Threads + Sync,
     H: Handler + Drop + Send,
     F: StopFunc + Drop + Send,
-    C: Crew<H, F> + Sync,
+    C: Crew<H, F, A> + Sync,
+    A: Allocator + Copy + Send + Sync,
 >(
     rt: &R,
-    alloc: Global,
-    machine: &Machine<Global>,
-    boot: MachineBoot<Global>,
+    alloc: A,
+    machine: &Machine<A>,
+    boot: MachineBoot<A>,
     crew: &C,
-) -> Result<Vec<Played<H, F>, Global>, SmpError>
+) -> Result<Vec<Played<H, F, A>, A>, SmpError>
     requires full { IsFull boot machine.now }
     requires machine { C.runs_on crew.now machine.now }
     ensures back { IfOk result (λ v. ArePlayed H.leads F.leads (C.begins crew.now) (C.plays crew.now) (C.leaves crew.now) machine.now

@@ -85,7 +85,7 @@ module _ {H F : Type 0} (hears : H → Heard → H → Type 0) (runs : F → Cal
   Plays lines old new = MakesLines old.machine lines (answers new.handler) old.cpu new.cpu
 
   -- a CPU that has made its lines has made them still, once it has polled
-  driven_is : (begins : ℕ → H → F → Type 0) (leaves : ℕ → Type 0) (m : MachineValue) (lines : List Directive) (n : ℕ) (b : Played H F)
+  driven_is : {A : Type 0} (begins : ℕ → H → F → Type 0) (leaves : ℕ → Type 0) (m : MachineValue) (lines : List Directive) (n : ℕ) (b : Played H F A)
       → IsPlayed hears runs begins (Plays lines) leaves m n b → IsDriven m lines n (answers b.handler) b.cpu
   driven_is begins leaves m lines n b p =
       let made : MakesLines m lines (answers p.played.handler) (fresh_place m n) p.played.cpu = p.part in
@@ -107,8 +107,8 @@ module _ {H F : Type 0} (hears : H → Heard → H → Type 0) (runs : F → Cal
         shown = record { calls = p.shown.calls; stops = p.shown.stops };
       }
 
-  pub are_driven : (begins : ℕ → H → F → Type 0) (leaves : ℕ → Type 0) (m : MachineValue) (lines : List Directive) (numbers : List ℕ)
-      (back : List (Played H F)) → AreFor (λ n b. IsPlayed hears runs begins (Plays lines) leaves m n b) numbers back
+  pub are_driven : {A : Type 0} (begins : ℕ → H → F → Type 0) (leaves : ℕ → Type 0) (m : MachineValue) (lines : List Directive) (numbers : List ℕ)
+      (back : List (Played H F A)) → AreFor (λ n b. IsPlayed hears runs begins (Plays lines) leaves m n b) numbers back
       → AreFor (λ n b. IsDriven m lines n (answers b.handler) b.cpu) numbers back
   are_driven begins leaves m lines [] [] all = tt
   are_driven begins leaves m lines (n ∷ ns) (b ∷ bs) all = (driven_is begins leaves m lines n b all.0, are_driven begins leaves m lines ns bs all.1)

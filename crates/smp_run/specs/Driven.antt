@@ -53,7 +53,7 @@ pub record IsDriven (m : MachineValue) (lines : List Directive) (cpu : ℕ) (ans
   pub shown : IsShown p
 
 -- the CPUs of these numbers, in this order, each with the answers to its lines
-abbrev pub AreDriven : {P : Type 0} → MachineValue → List Directive → List ℕ → List (Played (Paced P) Echo) → Type 0
+abbrev pub AreDriven : {P A : Type 0} → MachineValue → List Directive → List ℕ → List (Played (Paced P) Echo A) → Type 0
 AreDriven m lines numbers back = AreFor (λ n b. IsDriven m lines n b.handler.answers.items b.cpu) numbers back
 
 -- all CPUs that are online are back, with their answers; the lowest of them is this

@@ -171,7 +171,7 @@ pub(crate) struct Lines<'a, P> {
     pub(crate) pace: &'a P,
 }
 
-impl<'a, P: Pace> Crew<Paced<'a, P>, Echo> for Lines<'a, P> {
+impl<'a, P: Pace> Crew<Paced<'a, P>, Echo, Global> for Lines<'a, P> {
     ghost use Rattle.std.specs.Prelude.{◌≡◌, length, vec_len};
     ghost use Rattle.smp_run.specs.Driven.{MakesLines};
     ghost use Rattle.smp_run.specs.Seats.{AreLines};

@@ -18,7 +18,7 @@ use std::sync::Wait;
 use std::thread::Threads;
 
 /// A CPU of a run that is back.
-type Back<'a, P> = Played<Paced<'a, P>, Echo>;
+type Back<'a, P> = Played<Paced<'a, P>, Echo, Global>;
 
 /// The CPU that a line is of.
 fn cpu_of(line: &Directive) -> u32

@@ -42,5 +42,5 @@ abbrev pub IsFlushed : CpuValue → List Entry → Type 0
 IsFlushed c entries = AreFlushed c.part.ran entries
 
 -- of these CPUs, each TLB is such a one
-abbrev pub TlbsAreFlushed : List (Played Tlb NoStop) → Type 0
-TlbsAreFlushed back = AllByRecursion (λ (p : Played Tlb NoStop). IsFlushed p.cpu.calls p.handler.entries.items) back
+abbrev pub TlbsAreFlushed : {A : Type 0} → List (Played Tlb NoStop A) → Type 0
+TlbsAreFlushed {A = A} back = AllByRecursion (λ (p : Played Tlb NoStop A). IsFlushed p.cpu.calls p.handler.entries.items) back

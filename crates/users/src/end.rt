@@ -11,7 +11,7 @@ use std::alloc::Global;
 /// Shuts the machine down by one of its CPUs: how many calls have run. E2 (`SmpError::Busy`) where calls are left.
 pub fn calls_run<H: Handler + Drop, F: StopFunc + Drop>(
     machine: Machine<Global>,
-    mut played: Vec<Played<H, F>, Global>,
+    mut played: Vec<Played<H, F, Global>, Global>,
 ) -> Result<u64, SmpError>
     requires { AreAt machine played.items }
 {

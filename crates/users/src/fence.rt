@@ -31,7 +31,7 @@ fn fence<R: Wait>(seat: &mut Seat<'_, Global, R, Silent, NoStop>) -> Result<CpuM
 /// Each CPU makes ten fences.
 struct Fences;
 
-impl Crew<Silent, NoStop> for Fences {
+impl Crew<Silent, NoStop, Global> for Fences {
     ghost begins = { λ _ _ _ _. Unit {0} };
 
     ghost plays = { λ _ _ _. Unit {0} };

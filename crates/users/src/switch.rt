@@ -47,7 +47,7 @@ fn look<R: Wait>(
 /// CPU 0 turns key 0, CPU 1 reads it and its sites, and CPUs 2 and 3 call each other.
 struct Parts;
 
-impl Crew<Silent, NoStop> for Parts {
+impl Crew<Silent, NoStop, Global> for Parts {
     ghost begins = { λ _ _ _ _. Unit {0} };
 
     ghost plays = { λ _ _ _. Unit {0} };

@@ -168,7 +168,7 @@ impl<'a, T: Clock + CpuClock + Eprint> StopCrew<'a, T> {
     }
 }
 
-impl<'a, T: Clock + CpuClock + Eprint> Crew<Counter, StopCounter> for StopCrew<'a, T> {
+impl<'a, T: Clock + CpuClock + Eprint> Crew<Counter, StopCounter, Global> for StopCrew<'a, T> {
     ghost begins = { λ _ _ _ _. Unit {0} };
 
     ghost plays = { λ _ _ _. Unit {0} };
@@ -194,7 +194,9 @@ impl<'a, T: Clock + CpuClock + Eprint> Crew<Counter, StopCounter> for StopCrew<'
 }
 
 /// What the first CPU has measured, and what all have done, modulo 2^64.
-fn sum_up(back: Vec<Played<Counter, StopCounter>, Global>) -> Result<(Measured, u64), LoadError> {
+fn sum_up(
+    back: Vec<Played<Counter, StopCounter, Global>, Global>,
+) -> Result<(Measured, u64), LoadError> {
     let mut first = None;
     let mut sum = 0u64;
     for played in back {

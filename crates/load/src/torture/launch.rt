@@ -34,7 +34,7 @@ struct TortureCrew<'e, T> {
     words: &'e SharedWords,
 }
 
-impl<'e, T: Clock> Crew<Listener<'e>, StopListener> for TortureCrew<'e, T> {
+impl<'e, T: Clock> Crew<Listener<'e>, StopListener, Global> for TortureCrew<'e, T> {
     ghost begins = { λ _ _ _ _. Unit {0} };
 
     ghost plays = { λ _ _ _. Unit {0} };
@@ -54,7 +54,7 @@ impl<'e, T: Clock> Crew<Listener<'e>, StopListener> for TortureCrew<'e, T> {
 /// Puts what a CPU has done behind what others have: the CPU.
 fn put_report(
     reports: &mut Vec<Report, Global>,
-    played: Played<Listener<'_>, StopListener>,
+    played: Played<Listener<'_>, StopListener, Global>,
 ) -> Result<Cpu<Global>, LoadError>
     ensures cpu { IfOk result (λ cpu. cpu ≡ played.entry.cpu) }
     ensures report { IfOk result (λ _. reported reports.new.items ≡ reported reports.old.items ++ played.entry.cpu.calls.number ∷ []) }
@@ -71,7 +71,7 @@ fn put_report(
 /// Puts what each of these CPUs has done behind what others have.
 fn put_reports(
     reports: &mut Vec<Report, Global>,
-    played: Vec<Played<Listener<'_>, StopListener>, Global>,
+    played: Vec<Played<Listener<'_>, StopListener, Global>, Global>,
 ) -> Result<(), LoadError>
     ensures { IfOk result (λ _. reported reports.new.items ≡ reported reports.old.items ++ returned played.entry.items) }
 {
@@ -86,7 +86,7 @@ fn put_reports(
 fn reports_of(
     alloc: Global,
     machine: &Machine<Global>,
-    mut played: Vec<Played<Listener<'_>, StopListener>, Global>,
+    mut played: Vec<Played<Listener<'_>, StopListener, Global>, Global>,
 ) -> Result<Ended, LoadError>
     requires at { AreAt machine.now played.items }
     ensures at { IfOk result (λ e. IsAt machine.now e.last) }

@@ -45,7 +45,7 @@ impl Late {
     }
 }
 
-impl Crew<Counts, NoStop> for Late {
+impl Crew<Counts, NoStop, Global> for Late {
     ghost begins = { λ _ _ _ _. Unit {0} };
 
     ghost plays = { λ _ _ _. Unit {0} };
@@ -85,7 +85,7 @@ struct Asked {
     one: AtomicU64,
 }
 
-impl Crew<Counts, NoStop> for Asked {
+impl Crew<Counts, NoStop, Global> for Asked {
     ghost begins = { λ _ _ _ _. Unit {0} };
 
     ghost plays = { λ _ _ _. Unit {0} };

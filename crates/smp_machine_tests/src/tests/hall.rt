@@ -107,7 +107,7 @@ struct Case<'a> {
     plays: &'a [&'a [Part<'a>]],
 }
 
-impl<'a> Crew<Ear<'a>, Teller<'a>> for Case<'a> {
+impl<'a> Crew<Ear<'a>, Teller<'a>, Global> for Case<'a> {
     ghost begins = { λ _ _ _ _. Unit {0} };
 
     ghost plays = { λ _ _ _. Unit {0} };
@@ -162,14 +162,14 @@ pub fn run_watched<
     R: Wait + Threads + Sync + Abort,
     H: Handler + Drop + Send,
     F: StopFunc + Drop + Send,
-    C: Crew<H, F> + Sync,
+    C: Crew<H, F, Global> + Sync,
 >(
     rt: &R,
     alloc: Global,
     machine: &Machine<Global>,
     boot: MachineBoot<Global>,
     crew: &C,
-) -> Result<Vec<Played<H, F>, Global>, SmpError>
+) -> Result<Vec<Played<H, F, Global>, Global>, SmpError>
     requires { C.runs_on crew.now machine.now × IsFull boot machine.now }
 {
     let over = AtomicU64::new(0);
@@ -177,7 +177,7 @@ pub fn run_watched<
     thread::scope(
         thread::scope_env(),
         rt,
-        move |scope| -> Result<Vec<Played<H, F>, Global>, SmpError>
+        move |scope| -> Result<Vec<Played<H, F, Global>, Global>, SmpError>
             requires { C.runs_on crew.now machine.now × IsFull boot machine.now }
         {
             if scope.spawn(move || watch(rt, shared)).is_err() {

@@ -39,7 +39,7 @@ fn call_and_stop<R: Wait>(seat: &mut Seat<'_, Global, R, Silent, NoStop>) -> Res
     Ok(late && answer == 0 && after.silent == none && seat.machine.silent() == none)
 }
 
-impl Crew<Silent, NoStop> for Late {
+impl Crew<Silent, NoStop, Global> for Late {
     ghost begins = { λ _ _ _ _. Unit {0} };
 
     ghost plays = { λ _ _ _. Unit {0} };

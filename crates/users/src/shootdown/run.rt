@@ -121,7 +121,7 @@ impl<'a> Shootdowns<'a> {
     }
 }
 
-impl<'a> Crew<Tlb<'a>, NoStop> for Shootdowns<'a> {
+impl<'a> Crew<Tlb<'a>, NoStop, Global> for Shootdowns<'a> {
     ghost use Rattle.std.specs.Prelude.{◌≡◌, []};
     ghost use Rattle.users.specs.Tlb.{IsFlushed};
 
@@ -158,7 +158,7 @@ fn run_crew<'a, R: Wait + Threads + Sync>(
     machine: &Machine<Global>,
     boot: MachineBoot<Global>,
     crew: &Shootdowns<'a>,
-) -> Result<Vec<Played<Tlb<'a>, NoStop>, Global>, SmpError>
+) -> Result<Vec<Played<Tlb<'a>, NoStop, Global>, Global>, SmpError>
     requires { IsFull boot machine.now }
     ensures at { IfOk result (λ back. AreAt machine.now back.items) }
     // The TLB of each holds no entry of a space of which its CPU has run a flush.
@@ -172,7 +172,7 @@ fn run_crew<'a, R: Wait + Threads + Sync>(
 }
 
 /// How many entries all TLBs hold.
-fn left_in(back: &[Played<Tlb<'_>, NoStop>]) -> u64 {
+fn left_in(back: &[Played<Tlb<'_>, NoStop, Global>]) -> u64 {
     let mut left = 0u64;
     for played in back {
         left = left.wrapping_add(played.handler.entries.len() as u64);
