@@ -1,3 +1,4 @@
+mod hangs;
 mod merged_moves;
 mod programs;
 mod search;

@@ -15,6 +15,8 @@ labels 1 0:1
 cpu 1 post 0 0 sync 7 42 3
 cpu 0 repeat handle
 cpu 1 repeat 2 done 0
+cpu 0 repeat poll with advance -1
+cpu 1 repeat 3 gate with handle
 always not slot.0.state 3 and queue.1 0 or gate 0
 never said E2
 finally ran.0.1 1
@@ -45,9 +47,11 @@ fn worked(rt: HostRuntime) -> Result<(), SmpError> {
         (1, post, Some(0), None, 5),
         (0, Command::Handle, None, None, 6),
         (1, Command::Done(0), Some(2), None, 7),
+        (0, Command::Poll, None, Some(Command::Advance(-1)), 8),
+        (1, Command::Gate, Some(3), Some(Command::Handle), 9),
     ];
     assert_eq!(rt; read.nr, 3);
-    assert_eq!(rt; read.lines.len(), 3);
+    assert_eq!(rt; read.lines.len(), 5);
     for (i, (cpu, command, again, between, number)) in lines.into_iter().enumerate() {
         assert!(rt;
             read.lines[i]
@@ -75,13 +79,13 @@ fn worked_expectations(rt: HostRuntime) -> Result<(), SmpError> {
     ];
     assert_eq!(rt; read.expectations.len(), 3);
     let always = &read.expectations[0];
-    assert_eq!(rt; (always.line, always.when), (8, When::Always));
+    assert_eq!(rt; (always.line, always.when), (10, When::Always));
     assert!(rt; always.parts.as_slice() == parts.as_slice());
     let never = &read.expectations[1];
-    assert_eq!(rt; (never.line, never.when), (9, When::Never));
+    assert_eq!(rt; (never.line, never.when), (11, When::Never));
     assert!(rt; never.parts.as_slice() == [Part::Is(Atom::Said(Note::Busy))].as_slice());
     let finally = &read.expectations[2];
-    assert_eq!(rt; (finally.line, finally.when), (10, When::Finally));
+    assert_eq!(rt; (finally.line, finally.when), (12, When::Finally));
     Ok(())
 }
 
@@ -108,13 +112,19 @@ always place.3 free or place.3 held and not place.4 queued.1 or place.23 batch.0
 
 #[test]
 fn wrong_words(rt: HostRuntime) -> Result<(), AllocError> {
-    let lines: [&[u8]; 23] = [
+    let lines: [&[u8]; 29] = [
         b"",
         b"cpu",
         b"cpu 0",
         b"cpu 0 jump",
         b"cpu 9 repeat",
         b"cpu 9 repeat 99999999999 jump",
+        b"cpu 0 done 0 with handle",
+        b"cpu 0 repeat done 0 with",
+        b"cpu 0 repeat with handle",
+        b"cpu 0 repeat done 0 with send 1",
+        b"cpu 0 repeat done 0 with handle with handle",
+        b"cpu 9 repeat x done x with enter",
         b"step 0 1",
         b"always",
         b"always gate",
@@ -141,13 +151,15 @@ fn wrong_words(rt: HostRuntime) -> Result<(), AllocError> {
 
 #[test]
 fn wrong_fields(rt: HostRuntime) -> Result<(), AllocError> {
-    let lines: [(&[u8], Cause); 14] = [
+    let lines: [(&[u8], Cause); 16] = [
         (b"cpu x handle", Cause::Number),
         (b"cpu 2 handle", Cause::Range),
         (b"cpu 2 repeat x handle", Cause::Range),
         (b"cpu 0 repeat x handle", Cause::Number),
         (b"cpu 0 repeat x key 4294967296", Cause::Number),
         (b"cpu 0 repeat 1 key 4294967296", Cause::Range),
+        (b"cpu 0 repeat done x with enter 4294967296", Cause::Number),
+        (b"cpu 0 repeat done 0 with advance 2147483648", Cause::Range),
         (b"cpu 0 begin one 0- 0 1 0", Cause::Mask),
         (b"always gate -1", Cause::Number),
         (b"always key.4294967296 x", Cause::Range),
