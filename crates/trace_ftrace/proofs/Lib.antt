@@ -1,2 +1,4 @@
+mod Behind
 mod ClassLast
 mod Printing
+mod ReadFails

@@ -64,8 +64,8 @@ abbrev pub cpu_if : Option ℕ → Result ℕ Wrong
 cpu_if None = Err wrong.Field
 cpu_if (Some cpu) = cpu_below cpu
 
-unfoldable pub needed_cpu : List (List ℕ) → Result ℕ Wrong
-needed_cpu fields = cpu_if (field_of (codes "cpu") fields >>? number_of 10)
+unfoldable pub needed_cpu : List ℕ → List (List ℕ) → Result ℕ Wrong
+needed_cpu name fields = cpu_if (field_of name fields >>? number_of 10)
 
 -- the function of an event
 unfoldable pub needed_symbol : List (List ℕ) → Result (List ℕ) Wrong

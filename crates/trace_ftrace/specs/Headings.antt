@@ -1,5 +1,5 @@
--- The CPU, the time, the event and the fields of a line.
-use Rattle.std.specs.Prelude.{ℕ, ◌+◌, ◌*◌, ◌==◌, if◌then◌else◌, List, [], ◌∷◌, length, Option, Some, None}
+-- The task, the CPU, the time, the event and the fields of a line.
+use Rattle.std.specs.Prelude.{ℕ, ◌+◌, ◌*◌, ◌==◌, if◌then◌else◌, List, [], ◌∷◌, length, Option, Some, None, unwrap_or}
 use Rattle.smp_script.specs.Lines.{parts_of}
 use Rattle.trace_ftrace.specs.Numbers.{number_of}
 use Rattle.trace_ftrace.specs.Options.{◌>>?◌, first_of}
@@ -7,6 +7,7 @@ use Rattle.trace_ftrace.specs.Words.{front_of, two_of}
 
 -- what a line tells
 pub record HeadingValue : Type 0 where
+  pub task : ℕ
   pub cpu : ℕ
   pub time : ℕ
   pub event : List ℕ
@@ -41,23 +42,39 @@ name_in (Some (system, name)) text = name
 unfoldable pub event_of : List ℕ → Option (List ℕ)
 event_of word = front_of 58 word >>? λ text. Some (name_in (two_of (parts_of 58 text)) text)
 
+-- what is behind the last of these marks, where what is behind those before is the first text
+abbrev pub past_last : ℕ → List ℕ → List ℕ → List ℕ
+past_last mark last [] = last
+past_last mark last (b ∷ bs) = past_last mark (if b == mark then bs else last) bs
+
+-- a task, as `sh-177`, `177` or `177/177`
+abbrev pub front_in : Option (List ℕ × List ℕ) → List ℕ → List ℕ
+front_in None text = text
+front_in (Some (front, back)) text = front
+
+unfoldable pub task_of : List ℕ → Option ℕ
+task_of word = let part = past_last 45 word word in number_of 10 (front_in (two_of (parts_of 47 part)) part)
+
 -- a time, an event and its fields
-unfoldable pub stamped : ℕ → List (List ℕ) → Option HeadingValue
-stamped cpu [] = None
-stamped cpu (t ∷ []) = None
-stamped cpu (t ∷ e ∷ fs) = time_of t >>? λ time. event_of e >>? λ event.
-    Some (record { cpu = cpu; time = time; event = event; fields = fs })
+unfoldable pub stamped : ℕ → ℕ → List (List ℕ) → Option HeadingValue
+stamped task cpu [] = None
+stamped task cpu (t ∷ []) = None
+stamped task cpu (t ∷ e ∷ fs) = time_of t >>? λ time. event_of e >>? λ event.
+    Some (record { task = task; cpu = cpu; time = time; event = event; fields = fs })
 
 -- a CPU, and perhaps flags, in front of these
 abbrev pub past_flags : List (List ℕ) → List (List ℕ)
 past_flags [] = []
 past_flags (w ∷ ws) = ws
 
-unfoldable pub heading_at : List (List ℕ) → Option HeadingValue
-heading_at [] = None
-heading_at (w ∷ ws) = cpu_of w >>? λ cpu. first_of (stamped cpu ws) (stamped cpu (past_flags ws))
+unfoldable pub heading_at : ℕ → List (List ℕ) → Option HeadingValue
+heading_at task [] = None
+heading_at task (w ∷ ws) = cpu_of w >>? λ cpu. first_of (stamped task cpu ws) (stamped task cpu (past_flags ws))
 
--- the first of these, behind one word at least
+-- the first of these behind one word at least, with the task of the last word before it that names one, or else this task
+abbrev pub heading_from : ℕ → List (List ℕ) → Option HeadingValue
+heading_from task [] = None
+heading_from task (w ∷ ws) = let last = unwrap_or (task_of w) task in first_of (heading_at last ws) (heading_from last ws)
+
 abbrev pub heading_of : List (List ℕ) → Option HeadingValue
-heading_of [] = None
-heading_of (w ∷ ws) = first_of (heading_at ws) (heading_of ws)
+heading_of words = heading_from 0 words

@@ -1,5 +1,5 @@
 -- What is kept of the lines of a text.
-use Rattle.std.specs.Prelude.{◌≡◌, ℕ, ◌+◌, Bool, true, false, not, ◌==◌, ◌&&◌, ◌||◌, if◌then◌else◌, List, [], ◌∷◌, ◌++◌, length, Option, Some, None}
+use Rattle.std.specs.Prelude.{◌≡◌, ℕ, ◌+◌, Bool, true, false, not, ◌==◌, ◌&&◌, ◌||◌, if◌then◌else◌, nat_le, zero, suc, List, [], ◌∷◌, ◌++◌, length, Option, Some, None}
 use Rattle.std.specs.Str.{bytes_eq}
 use Rattle.trace_ftrace.specs.declared.kept.Mark.{Mark}
 use Rattle.trace_ftrace.specs.declared.sign.Sign.{Sign}
@@ -7,11 +7,11 @@ use Rattle.trace_ftrace.specs.declared.sign.Sign.TheVariants as sign
 use Rattle.trace_ftrace.specs.declared.sign.Sort.{Sort}
 use Rattle.trace_ftrace.specs.declared.sign.Sort.TheVariants as sort
 
--- the functions by their numbers, what the lines show, and the times of the last line and of the first
+-- the functions by their numbers, what the lines show, the time of each CPU's last line, and that of the first line
 pub record KeptValue : Type 0 where
   pub names : List (List ℕ)
   pub marks : List Mark
-  pub time : ℕ
+  pub times : List ℕ
   pub first : Option ℕ
 
 -- the place of a name among these, of which the first has this place
@@ -33,7 +33,7 @@ is_queue_of_sign cpu address of (sign.Queue to queued s told) = of == cpu && que
 is_queue_of_sign cpu address of _ = false
 
 abbrev pub is_queue_of : ℕ → ℕ → Mark → Bool
-is_queue_of cpu address m = is_queue_of_sign cpu address m.cpu m.sign
+is_queue_of cpu address m = is_queue_of_sign cpu address m.at.cpu m.sign
 
 -- what is queued is told to be of this sort; wakes remain wakes
 abbrev pub sorted_sign : Sort → Sign → Sign
@@ -42,7 +42,7 @@ sorted_sign s (sign.Queue to address _ told) = sign.Queue to address s true
 sorted_sign s other = other
 
 abbrev pub sorted : Sort → Mark → Mark
-sorted s m = record { line = m.line; cpu = m.cpu; func = m.func; sign = sorted_sign s m.sign }
+sorted s m = record { at = m.at; func = m.func; sign = sorted_sign s m.sign }
 
 -- the marks with the last of this CPU and record being of this sort
 abbrev pub or_here : Option (List Mark) → Bool → Mark → Mark → List Mark → Option (List Mark)
@@ -62,4 +62,13 @@ Classed false old new made = (made ≡ None) × (new ≡ old)
 -- a mark is of this CPU
 abbrev pub on_cpu : ℕ → List Mark → Bool
 on_cpu cpu [] = false
-on_cpu cpu (m ∷ ms) = m.cpu == cpu || on_cpu cpu ms
+on_cpu cpu (m ∷ ms) = m.at.cpu == cpu || on_cpu cpu ms
+
+-- how many marks there are up to the last that is not later than this time
+abbrev pub or_first : ℕ → Bool → ℕ
+or_first (suc n) here = suc (suc n)
+or_first zero here = if here then 1 else 0
+
+abbrev pub behind : ℕ → List Mark → ℕ
+behind time [] = 0
+behind time (m ∷ ms) = or_first (behind time ms) (nat_le m.at.time time)

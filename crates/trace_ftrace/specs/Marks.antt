@@ -1,15 +1,16 @@
 -- The marks of calls that the lines of a text have.
-use Rattle.std.specs.Prelude.{◌≡◌, ℕ, ◌+◌, ◌-◌, Bool, true, false, not, ◌==◌, ◌&&◌, ◌||◌, nat_lt, if◌then◌else◌, List, [], ◌∷◌, ◌++◌}
-use Rattle.std.specs.Prelude.{Option, Some, None, Result, Ok, Err, codes}
+use Rattle.std.specs.Prelude.{◌≡◌, ℕ, ◌+◌, ◌-◌, Bool, true, false, not, ◌==◌, ◌&&◌, ◌||◌, nat_lt, if◌then◌else◌, List, [], ◌∷◌, replicate, insert}
+use Rattle.std.specs.Prelude.{slice_index_or, slice_set, Option, Some, None, Result, Ok, Err, codes}
 use Rattle.std.specs.Str.{bytes_eq}
 use Rattle.smp_script.specs.Lines.{Line, fields_of, parts_of}
 use Rattle.smp_words.specs.FirstFault.{◌>>=◌}
 use Rattle.trace_ftrace.specs.Fields.{cpu_below, needed_symbol}
 use Rattle.trace_ftrace.specs.Headings.{HeadingValue, heading_of}
-use Rattle.trace_ftrace.specs.Kept.{KeptValue, classed, numbered, on_cpu}
+use Rattle.trace_ftrace.specs.Kept.{KeptValue, behind, classed, numbered, on_cpu}
 use Rattle.trace_ftrace.specs.Signs.{sign_of}
 use Rattle.trace_ftrace.specs.Words.{two_of, words_of}
 use Rattle.trace_ftrace.specs.declared.kept.Mark.{Mark}
+use Rattle.trace_ftrace.specs.declared.kept.Stamp.{Stamp}
 use Rattle.trace_ftrace.specs.declared.sign.Sign.{Sign}
 use Rattle.trace_ftrace.specs.declared.sign.Sign.TheVariants as sign
 use Rattle.trace_ftrace.specs.declared.sign.Sort.{Sort}
@@ -31,39 +32,38 @@ Keeps (Err why) new made = made ≡ Err why
 
 -- before the first line
 abbrev pub no_lines : KeptValue
-no_lines = record { names = []; marks = []; time = 0; first = None }
+no_lines = record { names = []; marks = []; times = replicate 32 0; first = None }
 
--- with one more mark
+-- with one more mark, behind all those that are not later
 abbrev pub with_mark : Mark → KeptValue → KeptValue
-with_mark m k = record k { marks = k.marks ++ m ∷ [] }
+with_mark m k = record k { marks = insert k.marks (behind m.at.time k.marks) m }
 
 -- with a mark of the function that has this number
-abbrev pub with_named : ℕ → ℕ → Sign → ℕ × List (List ℕ) → KeptValue → KeptValue
-with_named line cpu s named k =
-    record { names = named.1; marks = k.marks ++ record { line = line; cpu = cpu; func = named.0; sign = s } ∷ []; time = k.time; first = k.first }
+abbrev pub with_named : Stamp → Sign → ℕ × List (List ℕ) → KeptValue → KeptValue
+with_named at s named k = with_mark (record { at = at; func = named.0; sign = s }) (record k { names = named.1 })
 
-unfoldable pub named : ℕ → ℕ → Sign → List (List ℕ) → KeptValue → Result KeptValue Refusal
-named line cpu s fields k = at_line line (needed_symbol fields) >>= λ name. Ok (with_named line cpu s (numbered name k.names) k)
+unfoldable pub named : Stamp → Sign → List (List ℕ) → KeptValue → Result KeptValue Refusal
+named at s fields k = at_line at.line (needed_symbol fields) >>= λ name. Ok (with_named at s (numbered name k.names) k)
 
 -- with the last record that this CPU has queued, by this address, being of this sort
-abbrev pub class_if : ℕ → ℕ → Option (List Mark) → KeptValue → Result KeptValue Refusal
-class_if line cpu (Some marks) k = Ok (record k { marks = marks })
-class_if line cpu None k = if on_cpu cpu k.marks then Err (refusal.Wrong line wrong.Class) else Ok k
+abbrev pub class_if : Stamp → Option (List Mark) → KeptValue → Result KeptValue Refusal
+class_if at (Some marks) k = Ok (record k { marks = marks })
+class_if at None k = if on_cpu at.cpu k.marks then Err (refusal.Wrong at.line wrong.Class) else Ok k
 
-unfoldable pub class_line : ℕ → ℕ → ℕ → Sort → KeptValue → Result KeptValue Refusal
-class_line line cpu address s k = class_if line cpu (classed cpu address s k.marks) k
+unfoldable pub class_line : Stamp → ℕ → Sort → KeptValue → Result KeptValue Refusal
+class_line at address s k = class_if at (classed at.cpu address s k.marks) k
 
 -- with what a line shows
-unfoldable pub marked : ℕ → ℕ → Sign → List (List ℕ) → KeptValue → Result KeptValue Refusal
-marked line cpu (sign.Queue to address s told) fields k = named line cpu (sign.Queue to address s told) fields k
-marked line cpu (sign.Class address s) fields k = class_line line cpu address s k
-marked line cpu (sign.Begin address) fields k = named line cpu (sign.Begin address) fields k
-marked line cpu (sign.End address) fields k = Ok (with_mark (record { line = line; cpu = cpu; func = 0; sign = sign.End address }) k)
+unfoldable pub marked : Stamp → Sign → List (List ℕ) → KeptValue → Result KeptValue Refusal
+marked at (sign.Queue to address s told) fields k = named at (sign.Queue to address s told) fields k
+marked at (sign.Class address s) fields k = class_line at address s k
+marked at (sign.Begin address) fields k = named at (sign.Begin address) fields k
+marked at other fields k = Ok (with_mark (record { at = at; func = 0; sign = other }) k)
 
 -- with what a line tells
-abbrev pub marked_if : ℕ → HeadingValue → Option Sign → KeptValue → Result KeptValue Refusal
-marked_if line h None k = Ok k
-marked_if line h (Some s) k = at_line line (cpu_below h.cpu) >>= λ cpu. marked line cpu s h.fields k
+abbrev pub marked_if : Stamp → List (List ℕ) → Option Sign → KeptValue → Result KeptValue Refusal
+marked_if at fields None k = Ok k
+marked_if at fields (Some s) k = marked at s fields k
 
 -- a time is behind the first by less than what is skipped
 abbrev pub first_time : Option ℕ → ℕ → ℕ
@@ -73,17 +73,22 @@ first_time (Some first) time = first
 abbrev pub is_skipped : ℕ → Option ℕ → ℕ → Bool
 is_skipped skip first time = nat_lt (time - first_time first time) skip
 
--- the times with that of a line
-abbrev pub timed : ℕ → KeptValue → KeptValue
-timed time k = record { names = k.names; marks = k.marks; time = time; first = Some (first_time k.first time) }
+-- the times with that of a line of this CPU
+abbrev pub timed : ℕ → ℕ → KeptValue → KeptValue
+timed cpu time k = record k { times = slice_set k.times cpu time; first = Some (first_time k.first time) }
 
-unfoldable pub shown_line : ℕ → HeadingValue → KeptValue → Result KeptValue Refusal
-shown_line line h k = at_line line (sign_of h.event h.fields) >>= λ s. marked_if line h s k
+unfoldable pub shown_line : Stamp → HeadingValue → KeptValue → Result KeptValue Refusal
+shown_line at h k = at_line at.line (sign_of h.event h.fields) >>= λ s. marked_if at h.fields s k
+
+-- a line is not before the last of its CPU
+unfoldable pub line_of_cpu : ℕ → Stamp → HeadingValue → KeptValue → Result KeptValue Refusal
+line_of_cpu skip at h k =
+    if nat_lt at.time (slice_index_or k.times at.cpu 0) then Err (refusal.Wrong at.line wrong.Time)
+    else (if is_skipped skip k.first at.time then Ok (timed at.cpu at.time k) else shown_line at h (timed at.cpu at.time k))
 
 unfoldable pub event_line : ℕ → ℕ → HeadingValue → KeptValue → Result KeptValue Refusal
-event_line skip line h k =
-    if nat_lt h.time k.time then Err (refusal.Wrong line wrong.Time)
-    else (if is_skipped skip k.first h.time then Ok (timed h.time k) else shown_line line h (timed h.time k))
+event_line skip line h k = at_line line (cpu_below h.cpu) >>= λ cpu.
+    line_of_cpu skip (record { line = line; cpu = cpu; time = h.time; task = h.task }) h k
 
 -- a CPU's buffer is empty
 abbrev pub is_empty_note : List (List ℕ) → Bool

@@ -9,19 +9,34 @@ use Rattle.trace_model.specs.declared.event.Event.{Event}
 use Rattle.trace_model.specs.declared.event.Event.TheVariants as event
 use Rattle.trace_model.specs.declared.reason.Reason.{Reason}
 use Rattle.trace_model.specs.declared.reason.Reason.TheVariants as reason
-use Rattle.trace_judge.specs.Text.{broken_text, lawful_text}
-use Rattle.trace_judge.specs.Verdict.{verdict_text}
+use Rattle.trace_judge.specs.Text.{lawful_text}
 use Rattle.trace_judge.specs.declared.early_end.EarlyEnd.{EarlyEnd}
 use Rattle.trace_judge.specs.declared.early_end.EarlyEnd.TheVariants as early_end
 use Rattle.trace_judge.specs.declared.trace.Ruling.{Ruling}
 use Rattle.trace_judge.specs.declared.trace.Ruling.TheVariants as rulings
 use Rattle.trace_judge.specs.declared.verdict.Verdict.{Verdict}
 use Rattle.trace_judge.specs.declared.verdict.Verdict.TheVariants.{Lawful, Broken}
-use Rattle.trace_ftrace.specs.Told.{TellingValue}
+use Rattle.trace_ftrace.specs.Counts.{counts_of}
+use Rattle.trace_ftrace.specs.Kept.{KeptValue}
+use Rattle.trace_ftrace.specs.Names.{NamesValue, broken_line}
+use Rattle.trace_ftrace.specs.Telling.{TellingValue}
 use Rattle.trace_ftrace.specs.Verdict.{ruling_of as ruling_of_told}
+use Rattle.trace_ftrace.specs.declared.counts.Counts.{Counts}
+use Rattle.trace_ftrace.specs.declared.kept.Mark.{Mark}
+use Rattle.trace_ftrace.specs.declared.names.BrokenEvent.{BrokenEvent}
 use Rattle.trace_ftrace.specs.declared.told.Told.{Told}
 use Rattle.trace_ftrace.specs.declared.wrong.Refusal.{Refusal}
 use Rattle.trace_ftrace.specs.declared.wrong.Refusal.TheVariants as refusal
+
+-- a text, with the kernel's names in it, what its lines show, and the events that these tell
+pub record SourceValue : Type 0 where
+  pub text : List ℕ
+  pub names : NamesValue
+  pub marks : List Mark
+  pub told : List Told
+
+abbrev pub source_of : List ℕ → KeptValue → TellingValue → SourceValue
+source_of text k t = record { text = text; names = record { addresses = t.addresses; functions = k.names }; marks = k.marks; told = t.told }
 
 -- the line of a number, where the first has number k
 abbrev pub line_from : ℕ → ℕ → List Line → List ℕ
@@ -58,8 +73,8 @@ abbrev pub broken_record : Event → Reason → Option ℕ
 broken_record e why = or_event (named_record why) e
 
 -- the line before this one that has queued a record last, or else what was found before
-abbrev pub is_queue : ℕ → CallEvent → Bool
-is_queue id (calls.Queue queued to class func info) = queued == id
+abbrev pub is_queue : ℕ → Event → Bool
+is_queue id (event.Call (calls.Queue queued to class func info)) = queued == id
 is_queue id _ = false
 
 abbrev pub last_queue : ℕ → ℕ → List Told → Option ℕ → Option ℕ
@@ -81,13 +96,52 @@ queued_text text (Some line) = front_text line ++ line_behind text line
 unfoldable pub source_text : List ℕ → List Told → ℕ → Option ℕ → List ℕ
 source_text text told line broken = line_behind text line ++ queued_text text (queue_of broken line told)
 
--- what is printed of a verdict
-abbrev pub behind_text : {A : Type 0} → List ℕ → List Told → Verdict A → List ℕ
-behind_text text told (Lawful events state) = []
-behind_text text told (Broken line cpu e why) = source_text text told line (broken_record e why)
+-- whether class and order are judged
+unfoldable pub judged_text : ℕ → List ℕ
+judged_text unshown =
+    if unshown == 0 then codes "class: judged\norder: not judged\n"
+    else codes "class: not judged of " ++ decimal unshown ++ codes " calls\norder: not judged\n"
 
-unfoldable pub shown_text : {A : Type 0} → List ℕ → List Told → Verdict A → List ℕ
-shown_text text told verdict = verdict_text verdict ++ behind_text text told verdict
+-- how many lines show what is not judged, and whether class and order are
+unfoldable pub count_text : List ℕ → ℕ → List ℕ → List ℕ
+count_text front n back = front ++ decimal n ++ back
+
+unfoldable pub direct_text : ℕ → List ℕ
+direct_text n = count_text (codes "not judged: ") n (codes " direct calls")
+
+unfoldable pub wakes_text : ℕ → List ℕ
+wakes_text n = count_text (codes ", ") n (codes " wakes")
+
+unfoldable pub works_text : ℕ → List ℕ
+works_text n = count_text (codes ", ") n (codes " irq works")
+
+unfoldable pub earlier_text : ℕ → List ℕ
+earlier_text n = count_text (codes ", ") n (codes " earlier calls\n")
+
+unfoldable pub first_counts : Counts → List ℕ
+first_counts c = direct_text c.direct ++ wakes_text c.wakes
+
+unfoldable pub last_counts : Counts → List ℕ
+last_counts c = works_text c.works ++ earlier_text c.earlier
+
+abbrev pub counts_text : Counts → List ℕ
+counts_text c = first_counts c ++ last_counts c ++ judged_text c.unshown
+
+-- what is printed of a lawful text, and of one with an event that no run has
+unfoldable pub lawful_lines : ℕ → StateValue → Counts → List ℕ
+lawful_lines events s c = lawful_text events s ++ counts_text c
+
+unfoldable pub broken_lines : SourceValue → BrokenEvent → ℕ → List ℕ
+broken_lines x b unshown =
+    broken_line x.names b ++ source_text x.text x.told b.line (broken_record b.event b.why) ++ judged_text unshown
+
+-- what is printed of a verdict
+abbrev pub broken_of : ℕ → ℕ → Event → Reason → BrokenEvent
+broken_of line cpu e why = record { line = line; cpu = cpu; event = e; why = why }
+
+unfoldable pub shown_text : {A : Type 0} → SourceValue → Verdict A → List ℕ
+shown_text x (Lawful events state) = lawful_lines events state (counts_of x.marks x.told)
+shown_text x (Broken line cpu e why) = broken_lines x (broken_of line cpu e why) (counts_of x.marks x.told).unshown
 
 -- whether a verdict is that the text is lawful
 abbrev pub ruling_of : {A : Type 0} → Verdict A → Ruling
@@ -95,22 +149,22 @@ ruling_of (Lawful events state) = rulings.Lawful
 ruling_of (Broken line cpu event why) = rulings.Broken
 
 -- this is printed of a verdict, and the text is lawful or not
-abbrev pub IsPrinted : List ℕ → Ruling → List ℕ → List Told → Result (ℕ × StateValue) EarlyEnd → Type 0
-IsPrinted out ruling text told (Ok (events, state)) = (out ≡ lawful_text events state) × (ruling ≡ rulings.Lawful)
-IsPrinted out ruling text told (Err (early_end.Broken line cpu e why)) =
-    (out ≡ broken_text line cpu e why ++ source_text text told line (broken_record e why)) × (ruling ≡ rulings.Broken)
-IsPrinted out ruling text told (Err _) = ⊥
+abbrev pub IsPrinted : List ℕ → Ruling → SourceValue → Result (ℕ × StateValue) EarlyEnd → Type 0
+IsPrinted out ruling x (Ok (events, state)) = (out ≡ lawful_lines events state (counts_of x.marks x.told)) × (ruling ≡ rulings.Lawful)
+IsPrinted out ruling x (Err (early_end.Broken line cpu e why)) =
+    (out ≡ broken_lines x (broken_of line cpu e why) (counts_of x.marks x.told).unshown) × (ruling ≡ rulings.Broken)
+IsPrinted out ruling x (Err _) = ⊥
 
 -- what was answered is what is printed of that verdict on these events, unless memory ran out
-abbrev pub PrintsRuling : {A : Type 0} → Result (Vec ℕ A × Ruling) Refusal → List ℕ → List Told → Result (Result (ℕ × StateValue) EarlyEnd) Refusal → Type 0
-PrintsRuling (Ok (out, ruling)) text told (Ok made) = IsPrinted out.items ruling text told made
-PrintsRuling (Ok (out, ruling)) text told (Err why) = ⊥
-PrintsRuling (Err refusal.NoMemory) text told made = Unit {0}
-PrintsRuling (Err why) text told made = made ≡ Err why
+abbrev pub PrintsRuling : {A : Type 0} → Result (Vec ℕ A × Ruling) Refusal → SourceValue → Result (Result (ℕ × StateValue) EarlyEnd) Refusal → Type 0
+PrintsRuling (Ok (out, ruling)) x (Ok made) = IsPrinted out.items ruling x made
+PrintsRuling (Ok (out, ruling)) x (Err why) = ⊥
+PrintsRuling (Err refusal.NoMemory) x made = Unit {0}
+PrintsRuling (Err why) x made = made ≡ Err why
 
--- the same of a text, by what it tells
-abbrev pub Prints : {A : Type 0} → Result (Vec ℕ A × Ruling) Refusal → List ℕ → Result TellingValue Refusal → Type 0
-Prints answer text (Ok t) = PrintsRuling answer text t.told (ruling_of_told t.told)
+-- the same of a text, by what is read of it
+abbrev pub Prints : {A : Type 0} → Result (Vec ℕ A × Ruling) Refusal → List ℕ → Result (KeptValue × TellingValue) Refusal → Type 0
+Prints answer text (Ok (k, t)) = PrintsRuling answer (source_of text k t) (ruling_of_told t.told)
 Prints (Ok (out, ruling)) text (Err why) = ⊥
 Prints (Err refusal.NoMemory) text (Err why) = Unit {0}
 Prints (Err told) text (Err why) = why ≡ told

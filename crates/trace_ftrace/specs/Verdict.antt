@@ -1,13 +1,11 @@
--- The events that a text tells, and the verdict on them.
+-- The verdict on events.
 use Rattle.std.specs.Prelude.{◌≡◌, ℕ, true, nat_lt, if◌then◌else◌, List, [], ◌∷◌, length, Result, Ok, Err, codes}
 use Rattle.smp_mask.specs.Reading.{mask_of_text}
 use Rattle.smp_mask.specs.declared.error.Cause.TheVariants.{Range}
 use Rattle.smp_mask.specs.declared.error.SmpError.{SmpError}
-use Rattle.smp_script.specs.Lines.{lines_of}
 use Rattle.smp_words.specs.FirstFault.{◌>>=◌}
 use Rattle.trace_model.specs.Opened.{opening}
 use Rattle.trace_model.specs.State.{StateValue}
-use Rattle.trace_model.specs.declared.event.Event.TheVariants as event
 use Rattle.trace_model.specs.declared.without.Without.{Without}
 use Rattle.trace_judge.specs.Head.{no_labels, words_of}
 use Rattle.trace_judge.specs.Judged.{told_goes}
@@ -15,8 +13,6 @@ use Rattle.trace_judge.specs.declared.early_end.EarlyEnd.{EarlyEnd}
 use Rattle.trace_judge.specs.declared.early_end.EarlyEnd.TheVariants as early_end
 use Rattle.trace_judge.specs.declared.verdict.Verdict.{Verdict}
 use Rattle.trace_judge.specs.declared.verdict.Verdict.TheVariants.{Lawful, Broken}
-use Rattle.trace_ftrace.specs.Marks.{lines_kept, no_lines}
-use Rattle.trace_ftrace.specs.Told.{TellingValue, marks_told, no_records}
 use Rattle.trace_ftrace.specs.declared.told.Told.{Told}
 use Rattle.trace_ftrace.specs.declared.wrong.Refusal.{Refusal}
 use Rattle.trace_ftrace.specs.declared.wrong.Refusal.TheVariants as refusal
@@ -40,7 +36,7 @@ start = opening (record { online = every_cpu; keys = 0; sites = 0; without = cal
 
 -- the state after one event
 unfoldable pub goes_one : Told → StateValue → Result StateValue EarlyEnd
-goes_one x s = if nat_lt x.cpu 32 then told_goes x.line x.cpu (event.Call x.event) s else Err (early_end.Fault x.line Range)
+goes_one x s = if nat_lt x.cpu 32 then told_goes x.line x.cpu x.event s else Err (early_end.Fault x.line Range)
 
 -- the state after events
 abbrev pub goes_all : List Told → StateValue → Result StateValue EarlyEnd
@@ -55,11 +51,6 @@ ruled n (Err why) = Ok (Err why)
 
 unfoldable pub ruling_of : List Told → Result (Result (ℕ × StateValue) EarlyEnd) Refusal
 ruling_of told = if nat_lt 1000000 (length told) then Err refusal.TooLong else ruled (length told) (goes_all told start)
-
--- the events that a text tells, without what is skipped at its start
-unfoldable pub told_of : ℕ → List ℕ → Result TellingValue Refusal
-told_of skip text = if nat_lt 536870912 (length text) then Err refusal.TooLong
-    else (lines_kept skip 1 (lines_of text) no_lines >>= λ k. marks_told k.marks no_records)
 
 -- what was answered is the verdict, unless memory ran out
 abbrev pub Rules : {A : Type 0} → Result (Verdict A) Refusal → Result (Result (ℕ × StateValue) EarlyEnd) Refusal → Type 0

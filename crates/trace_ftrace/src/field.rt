@@ -107,12 +107,12 @@ pub(crate) fn cpu_below(cpu: u64) -> Result<u32, Wrong>
     }
 }
 
-/// The CPU in the field `cpu`.
+/// The CPU in the field of this name.
 #[tactic(auto, unfolding(crate::specs::Fields::needed_cpu))]
-pub(crate) fn needed_cpu(fields: &[&[u8]]) -> Result<u32, Wrong>
-    ensures { result ≡ needed_cpu (map (λ f. f.now) fields.now) }
+pub(crate) fn needed_cpu(name: &[u8], fields: &[&[u8]]) -> Result<u32, Wrong>
+    ensures { result ≡ needed_cpu name.now (map (λ f. f.now) fields.now) }
 {
-    let Some(text) = field(b"cpu", fields) else {
+    let Some(text) = field(name, fields) else {
         return Err(Wrong::Field);
     };
     match number(10, text) {

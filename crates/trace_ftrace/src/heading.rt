@@ -1,15 +1,18 @@
-//! The CPU, the time, the event and the fields of a line.
+//! The task, the CPU, the time, the event and the fields of a line.
 
 ghost use Rattle.std.specs.Prelude.{◌≡◌, ◌<◌, ◌^◌, map, IfSome, MatchOption};
-ghost use Rattle.trace_ftrace.specs.Headings.{cpu_of, event_of, heading_at, heading_of, nanos_of, parts_time, stamped, time_of};
+ghost use Rattle.trace_ftrace.specs.Headings.{cpu_of, event_of, heading_at, heading_of, nanos_of, parts_time, past_last};
+ghost use Rattle.trace_ftrace.specs.Headings.{stamped, task_of, time_of};
 ghost use Rattle.trace_ftrace.specs.HeadingView.{heading_value};
 
 use crate::number::number;
 use crate::words::{front, two_parts};
 
-/// The CPU, the time, the event and its fields that a line tells.
+/// The task, the CPU, the time, the event and its fields that a line tells.
 #[derive(Clone, Copy)]
 pub(crate) struct Heading<'w, 'a> {
+    /// 0 where the line names none.
+    pub(crate) task: u64,
     pub(crate) cpu: u64,
     /// In nanoseconds, or in whatever unit the clock counts.
     pub(crate) time: u128,
@@ -92,10 +95,37 @@ fn event_of(word: &[u8]) -> Option<&[u8]>
     }
 }
 
-/// What words tell of this CPU, of which the first is a time.
+/// What is behind the last of these marks; the whole text where there is none.
+fn past_last(text: &[u8], mark: u8) -> &[u8]
+    ensures { result.now ≡ past_last mark text.now text.now }
+{
+    let mut last = text;
+    let mut rest = text;
+    while let [byte, after @ ..] = rest {
+        if *byte == mark {
+            last = after;
+        }
+        rest = after;
+    }
+    last
+}
+
+/// The task that a word names, as `sh-177`, `177` or `177/177`.
+#[tactic(auto, unfolding(crate::specs::Headings::task_of))]
+fn task_of(word: &[u8]) -> Option<u64>
+    ensures { result ≡ task_of word.now }
+{
+    let part = past_last(word, b'-');
+    match two_parts(part, b'/') {
+        Some((task, _)) => number(10, task),
+        None => number(10, part),
+    }
+}
+
+/// What words tell of this task and CPU, of which the first is a time.
 #[tactic(auto, unfolding(crate::specs::Headings::stamped))]
-fn stamped<'w, 'a>(cpu: u64, words: &'w [&'a [u8]]) -> Option<Heading<'w, 'a>>
-    ensures { let told = stamped cpu (map (λ w. w.now) words.now) in
+fn stamped<'w, 'a>(task: u64, cpu: u64, words: &'w [&'a [u8]]) -> Option<Heading<'w, 'a>>
+    ensures { let told = stamped task cpu (map (λ w. w.now) words.now) in
         MatchOption result (told ≡ None) (λ h. told ≡ Some (heading_value h)) }
 {
     let [time, event, fields @ ..] = words else {
@@ -106,6 +136,7 @@ fn stamped<'w, 'a>(cpu: u64, words: &'w [&'a [u8]]) -> Option<Heading<'w, 'a>>
     };
     match event_of(event) {
         Some(event) => Some(Heading {
+            task,
             cpu,
             time,
             event,
@@ -115,10 +146,10 @@ fn stamped<'w, 'a>(cpu: u64, words: &'w [&'a [u8]]) -> Option<Heading<'w, 'a>>
     }
 }
 
-/// What words tell of which the first is a CPU. Flags may be between that and the time.
+/// What words tell of this task, of which the first is a CPU. Flags may be between that and the time.
 #[tactic(auto, unfolding(crate::specs::Headings::heading_at))]
-fn heading_at<'w, 'a>(words: &'w [&'a [u8]]) -> Option<Heading<'w, 'a>>
-    ensures { let told = heading_at (map (λ w. w.now) words.now) in
+fn heading_at<'w, 'a>(task: u64, words: &'w [&'a [u8]]) -> Option<Heading<'w, 'a>>
+    ensures { let told = heading_at task (map (λ w. w.now) words.now) in
         MatchOption result (told ≡ None) (λ h. told ≡ Some (heading_value h)) }
 {
     let [first, rest @ ..] = words else {
@@ -127,23 +158,26 @@ fn heading_at<'w, 'a>(words: &'w [&'a [u8]]) -> Option<Heading<'w, 'a>>
     let Some(cpu) = cpu_of(first) else {
         return None;
     };
-    if let Some(found) = stamped(cpu, rest) {
+    if let Some(found) = stamped(task, cpu, rest) {
         return Some(found);
     }
     match rest {
-        [_, after @ ..] => stamped(cpu, after),
+        [_, after @ ..] => stamped(task, cpu, after),
         [] => None,
     }
 }
 
-/// What the words of a line tell behind its first word: from the first place on where they tell something.
+/// What the words of a line tell behind its first word: from the first place on where they tell something. The task is that of
+/// the last word before it that names one.
 pub(crate) fn find_heading<'w, 'a>(words: &'w [&'a [u8]]) -> Option<Heading<'w, 'a>>
     ensures { let told = heading_of (map (λ w. w.now) words.now) in
         MatchOption result (told ≡ None) (λ h. told ≡ Some (heading_value h)) }
 {
+    let mut task = 0;
     let mut rest = words;
-    while let [_, after @ ..] = rest {
-        if let Some(found) = heading_at(after) {
+    while let [word, after @ ..] = rest {
+        task = task_of(word).unwrap_or(task);
+        if let Some(found) = heading_at(task, after) {
             return Some(found);
         }
         rest = after;

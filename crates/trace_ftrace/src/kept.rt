@@ -1,16 +1,24 @@
 //! What is kept of the lines of a text.
 
-ghost use Rattle.std.specs.Prelude.{◌≡◌, map, IfOk};
-ghost use Rattle.trace_ftrace.specs.Kept.{classed, is_queue_of, name_place, numbered, on_cpu, sorted, Classed};
+ghost use Rattle.std.specs.Prelude.{◌≡◌, ◌≤◌, map, length, IfOk};
+ghost use Rattle.trace_ftrace.specs.Kept.{behind, classed, is_queue_of, name_place, numbered, on_cpu, sorted, Classed};
 
 use crate::sign::{Sign, Sort};
 use std::alloc::{AllocError, Allocator};
 
-/// What a line shows of calls, with the number of the line, its CPU, and the number of the function that it names, or 0.
+/// Where a line stands: its number, its CPU, its time, and the task that its CPU runs, or 0.
 #[derive(Clone, Copy, Debug, PartialEq, Eq)]
-pub struct Mark {
+pub struct Stamp {
     pub line: u32,
     pub cpu: u32,
+    pub time: u128,
+    pub task: u64,
+}
+
+/// What a line shows, with the number of the function that it names, or 0.
+#[derive(Clone, Copy, Debug, PartialEq, Eq)]
+pub struct Mark {
+    pub at: Stamp,
     pub func: u64,
     pub sign: Sign,
 }
@@ -20,10 +28,10 @@ pub struct Mark {
 pub struct Kept<'a, A: Allocator> {
     /// The functions, by their numbers.
     pub names: Vec<&'a [u8], A>,
-    /// What the lines show, in their order.
+    /// What the lines show, in the order of their times, and else of the lines.
     pub marks: Vec<Mark, A>,
-    /// The time of the last line.
-    pub(crate) time: u128,
+    /// The time of the last line of each CPU.
+    pub(crate) times: [u128; 32],
     /// The time of the first line that tells one.
     pub(crate) first: Option<u128>,
 }
@@ -65,8 +73,8 @@ fn is_queue_of(mark: &Mark, cpu: u32, address: u64) -> bool
     ensures { result ≡ is_queue_of cpu address mark.now }
 {
     match mark.sign {
-        Sign::Queue(_, queued, _, is_told) => mark.cpu == cpu && queued == address && !is_told,
-        Sign::Class(..) | Sign::Begin(_) | Sign::End(_) => false,
+        Sign::Queue(_, queued, _, is_told) => mark.at.cpu == cpu && queued == address && !is_told,
+        _ => false,
     }
 }
 
@@ -80,8 +88,7 @@ fn sorted(mark: Mark, sort: Sort) -> Mark
         sign => sign,
     };
     Mark {
-        line: mark.line,
-        cpu: mark.cpu,
+        at: mark.at,
         func: mark.func,
         sign,
     }
@@ -109,10 +116,26 @@ pub(crate) fn on_cpu(marks: &[Mark], cpu: u32) -> bool
 {
     let mut rest = marks;
     while let [first, after @ ..] = rest {
-        if first.cpu == cpu {
+        if first.at.cpu == cpu {
             return true;
         }
         rest = after;
     }
     false
+}
+
+/// How many marks there are up to the last that is not later than this time.
+#[tactic(auto, using(crate::proofs::Behind::behind_at))]
+pub(crate) fn behind(marks: &[Mark], time: u128) -> usize
+    ensures count { result ≡ behind time marks.now }
+    ensures within { result ≤ length marks.now }
+{
+    let mut at = marks.len();
+    while at > 0 {
+        if marks[at - 1].at.time <= time {
+            return at;
+        }
+        at -= 1;
+    }
+    0
 }

@@ -1,19 +1,26 @@
 //! What a kernel's own tracer wrote, as events that are judged.
 //!
 //! - `text`: The verdict on a text of the tracer, and what is printed of it; `verdict`: the verdict on its events.
-//! - `told`: The events that marks tell.
-//! - `marks`: The marks of calls that the lines of a text have; `sign`: what one line shows; `kept`: what is kept of the lines.
+//! - `names`: Why an event is none, by the kernel's names; `counts`: what of the lines is not judged.
+//! - `told`: The events that marks tell; `stop_told`: those of stops; `stops`: the stops that are open; `per_cpu`: what each CPU has.
+//! - `marks`: The marks of calls that the lines of a text have; `sign`, `stop_sign`: what one line shows; `kept`: what is kept of the lines.
 //! - `heading`, `field`: The CPU, the time, the event and the fields of a line.
 //! - `words`, `number`: The words of a line, and numbers.
 //! - `wrong`: Why a text is not judged.
 #![tactic(auto)]
 
+pub mod counts;
 mod field;
 mod heading;
 pub mod kept;
 mod marks;
+mod names;
 mod number;
+mod per_cpu;
 pub mod sign;
+pub mod stop_sign;
+mod stop_told;
+pub mod stops;
 pub mod text;
 pub mod told;
 pub mod verdict;

@@ -1,26 +1,27 @@
 //! The marks of calls that the lines of a text have.
 
-ghost use Rattle.std.specs.Prelude.{◌≡◌, ◌≤◌, Ok, Err, map, length, MatchResult};
+ghost use Rattle.std.specs.Prelude.{◌≡◌, ◌≤◌, ◌<◌, Ok, Err, map, length, MatchResult};
 ghost use Rattle.smp_script.specs.Lines.{lines_of};
 ghost use Rattle.trace_ftrace.specs.HeadingView.{heading_value};
 ghost use Rattle.trace_ftrace.specs.KeptView.{kept_value};
-ghost use Rattle.trace_ftrace.specs.Marks.{class_line, event_line, first_time, is_counts, is_cut, is_empty_note, is_note, line_kept, lines_kept, marked};
+ghost use Rattle.trace_ftrace.specs.Marks.{class_line, event_line, first_time, is_counts, is_cut, is_empty_note, is_note, line_kept, line_of_cpu, lines_kept, marked};
 ghost use Rattle.trace_ftrace.specs.Marks.{named, noted, with_mark, no_lines, shown_line, timed, Keeps};
 
 use crate::field::{cpu_below, needed_symbol};
 use crate::heading::{Heading, find_heading};
-use crate::kept::{Kept, Mark, class_last, numbered, on_cpu};
+use crate::kept::{Kept, Mark, Stamp, behind, class_last, numbered, on_cpu};
 use crate::sign::{Sign, Sort, read_sign};
 use crate::words::{two_parts, words};
 use crate::wrong::{Refusal, Wrong};
 use smp_script::line::{is_word, next_line};
 use std::alloc::Allocator;
 
-/// Keeps a mark.
+/// Keeps a mark, behind all those that are not later.
 fn push_mark<A: Allocator>(kept: &mut Kept<'_, A>, mark: Mark) -> Result<(), Refusal>
     ensures { Keeps result (kept_value kept.new) (Ok (with_mark mark (kept_value kept.old))) }
 {
-    match kept.marks.push(mark) {
+    let place = behind(kept.marks.as_slice(), mark.at.time);
+    match kept.marks.insert(place, mark) {
         Ok(()) => Ok(()),
         Err(_) => Err(Refusal::NoMemory),
     }
@@ -30,27 +31,18 @@ fn push_mark<A: Allocator>(kept: &mut Kept<'_, A>, mark: Mark) -> Result<(), Ref
 #[tactic(auto, unfolding(crate::specs::Marks::named))]
 fn push_named<'a, A: Allocator>(
     kept: &mut Kept<'a, A>,
-    place: (u32, u32),
+    at: Stamp,
     sign: Sign,
     fields: &[&'a [u8]],
 ) -> Result<(), Refusal>
-    ensures { Keeps result (kept_value kept.new) (named place.0 place.1 sign (map (λ f. f.now) fields.now) (kept_value kept.old)) }
+    ensures { Keeps result (kept_value kept.new) (named at sign (map (λ f. f.now) fields.now) (kept_value kept.old)) }
 {
-    let (line, cpu) = place;
     let name = match needed_symbol(fields) {
         Ok(name) => name,
-        Err(why) => return Err(Refusal::Wrong(line, why)),
+        Err(why) => return Err(Refusal::Wrong(at.line, why)),
     };
     match numbered(&mut kept.names, name) {
-        Ok(func) => push_mark(
-            kept,
-            Mark {
-                line,
-                cpu,
-                func,
-                sign,
-            },
-        ),
+        Ok(func) => push_mark(kept, Mark { at, func, sign }),
         Err(_) => Err(Refusal::NoMemory),
     }
 }
@@ -59,56 +51,47 @@ fn push_named<'a, A: Allocator>(
 #[tactic(auto, unfolding(crate::specs::Marks::class_line))]
 fn class_line<A: Allocator>(
     kept: &mut Kept<'_, A>,
-    place: (u32, u32),
+    at: Stamp,
     address: u64,
     sort: Sort,
 ) -> Result<(), Refusal>
-    ensures { Keeps result (kept_value kept.new) (class_line place.0 place.1 address sort (kept_value kept.old)) }
+    ensures { Keeps result (kept_value kept.new) (class_line at address sort (kept_value kept.old)) }
 {
-    let (line, cpu) = place;
-    let found = class_last(kept.marks.as_mut_slice(), cpu, address, sort);
-    if found || !on_cpu(kept.marks.as_slice(), cpu) {
+    let found = class_last(kept.marks.as_mut_slice(), at.cpu, address, sort);
+    if found || !on_cpu(kept.marks.as_slice(), at.cpu) {
         return Ok(());
     }
-    Err(Refusal::Wrong(line, Wrong::Class))
+    Err(Refusal::Wrong(at.line, Wrong::Class))
 }
 
 /// Keeps what a line shows.
 #[tactic(auto, unfolding(crate::specs::Marks::marked))]
 fn keep_mark<'a, A: Allocator>(
     kept: &mut Kept<'a, A>,
-    place: (u32, u32),
+    at: Stamp,
     sign: Sign,
     fields: &[&'a [u8]],
 ) -> Result<(), Refusal>
-    ensures { Keeps result (kept_value kept.new) (marked place.0 place.1 sign (map (λ f. f.now) fields.now) (kept_value kept.old)) }
+    ensures { Keeps result (kept_value kept.new) (marked at sign (map (λ f. f.now) fields.now) (kept_value kept.old)) }
 {
     match sign {
-        Sign::Queue(..) | Sign::Begin(_) => push_named(kept, place, sign, fields),
-        Sign::End(_) => {
-            let (line, cpu) = place;
+        Sign::Queue(..) | Sign::Begin(_) => push_named(kept, at, sign, fields),
+        Sign::Direct | Sign::End(_) | Sign::EndLast | Sign::Stop(_) => {
             let func = 0;
-            push_mark(
-                kept,
-                Mark {
-                    line,
-                    cpu,
-                    func,
-                    sign,
-                },
-            )
+            push_mark(kept, Mark { at, func, sign })
         }
-        Sign::Class(address, sort) => class_line(kept, place, address, sort),
+        Sign::Class(address, sort) => class_line(kept, at, address, sort),
     }
 }
 
 /// Notes the time of a line, and answers that of the first.
-fn note_time<A: Allocator>(kept: &mut Kept<'_, A>, time: u128) -> u128
-    ensures new { kept_value kept.new ≡ timed time (kept_value kept.old) }
+fn note_time<A: Allocator>(kept: &mut Kept<'_, A>, cpu: u32, time: u128) -> u128
+    requires { cpu < 32 }
+    ensures new { kept_value kept.new ≡ timed cpu time (kept_value kept.old) }
     ensures first { result ≡ first_time kept.old.first time }
 {
     let first = kept.first.unwrap_or(time);
-    kept.time = time;
+    kept.times[cpu as usize] = time;
     kept.first = Some(first);
     first
 }
@@ -117,23 +100,41 @@ fn note_time<A: Allocator>(kept: &mut Kept<'_, A>, time: u128) -> u128
 #[tactic(auto, unfolding(crate::specs::Marks::shown_line))]
 fn shown_line<'a, A: Allocator>(
     kept: &mut Kept<'a, A>,
-    line: u32,
+    at: Stamp,
     heading: &Heading<'_, 'a>,
 ) -> Result<(), Refusal>
-    ensures { Keeps result (kept_value kept.new) (shown_line line (heading_value heading.now) (kept_value kept.old)) }
+    ensures { Keeps result (kept_value kept.new) (shown_line at (heading_value heading.now) (kept_value kept.old)) }
 {
-    let sign = match read_sign(heading.event, heading.fields) {
-        Ok(Some(sign)) => sign,
-        Ok(None) => return Ok(()),
-        Err(why) => return Err(Refusal::Wrong(line, why)),
-    };
-    match cpu_below(heading.cpu) {
-        Ok(cpu) => keep_mark(kept, (line, cpu), sign, heading.fields),
-        Err(why) => Err(Refusal::Wrong(line, why)),
+    match read_sign(heading.event, heading.fields) {
+        Ok(Some(sign)) => keep_mark(kept, at, sign, heading.fields),
+        Ok(None) => Ok(()),
+        Err(why) => Err(Refusal::Wrong(at.line, why)),
     }
 }
 
-/// Keeps what a line tells, which is not before the last; nothing where it is behind the first by less than what is skipped.
+/// Keeps what a line of this CPU tells, which is not before the last of its CPU; nothing where it is behind the first line by
+/// less than what is skipped.
+#[tactic(auto, unfolding(crate::specs::Marks::line_of_cpu))]
+fn line_of_cpu<'a, A: Allocator>(
+    kept: &mut Kept<'a, A>,
+    skip: u64,
+    at: Stamp,
+    heading: &Heading<'_, 'a>,
+) -> Result<(), Refusal>
+    requires { at.cpu < 32 }
+    ensures { Keeps result (kept_value kept.new) (line_of_cpu skip at (heading_value heading.now) (kept_value kept.old)) }
+{
+    if at.time < kept.times[at.cpu as usize] {
+        return Err(Refusal::Wrong(at.line, Wrong::Time));
+    }
+    let first = note_time(kept, at.cpu, at.time);
+    if at.time.saturating_sub(first) < skip as u128 {
+        return Ok(());
+    }
+    shown_line(kept, at, heading)
+}
+
+/// Keeps what a line tells.
 #[tactic(auto, unfolding(crate::specs::Marks::event_line))]
 fn event_line<'a, A: Allocator>(
     kept: &mut Kept<'a, A>,
@@ -143,14 +144,17 @@ fn event_line<'a, A: Allocator>(
 ) -> Result<(), Refusal>
     ensures { Keeps result (kept_value kept.new) (event_line skip line (heading_value heading.now) (kept_value kept.old)) }
 {
-    if heading.time < kept.time {
-        return Err(Refusal::Wrong(line, Wrong::Time));
-    }
-    let first = note_time(kept, heading.time);
-    if heading.time.saturating_sub(first) < skip as u128 {
-        return Ok(());
-    }
-    shown_line(kept, line, heading)
+    let cpu = match cpu_below(heading.cpu) {
+        Ok(cpu) => cpu,
+        Err(why) => return Err(Refusal::Wrong(line, why)),
+    };
+    let at = Stamp {
+        line,
+        cpu,
+        time: heading.time,
+        task: heading.task,
+    };
+    line_of_cpu(kept, skip, at, heading)
 }
 
 /// Whether words say that a CPU's buffer is empty.
@@ -250,7 +254,7 @@ pub(crate) fn marks<A: Allocator + Copy>(
     let mut kept = Kept {
         names: Vec::new(alloc),
         marks: Vec::new(alloc),
-        time: 0,
+        times: [0; 32],
         first: None,
     };
     let mut number = 1;

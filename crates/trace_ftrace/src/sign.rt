@@ -1,9 +1,10 @@
-//! What a line shows of calls.
+//! What a line shows.
 
 ghost use Rattle.std.specs.Prelude.{◌≡◌, map, codes};
-ghost use Rattle.trace_ftrace.specs.Signs.{called_of, class_of, class_sign, is_symbol, queue_sign, shown_sort, sign_of, sort_of};
+ghost use Rattle.trace_ftrace.specs.Signs.{begin_sign, class_of, class_sign, end_sign, is_entry, is_exit, is_queue, is_symbol, is_wakes, queue_sign, shown_sort, sign_of, sort_of};
 
 use crate::field::{address, field, needed_address, needed_cpu, symbol};
+use crate::stop_sign::{StopSign, read_stop_sign};
 use crate::wrong::Wrong;
 use smp_script::line::is_word;
 use smp_words::call::Class;
@@ -11,6 +12,8 @@ use smp_words::call::Class;
 /// What is queued.
 #[derive(Clone, Copy, Debug, PartialEq, Eq)]
 pub enum Sort {
+    /// A call, and no line shows its class.
+    Unshown,
     Async,
     Sync,
     /// The wakes of a CPU, which are no call.
@@ -19,7 +22,7 @@ pub enum Sort {
     Other,
 }
 
-/// What a line shows of calls.
+/// What a line shows.
 #[derive(Clone, Copy, Debug, PartialEq, Eq)]
 pub enum Sign {
     /// A record is queued for this CPU, by its address; whether a line of its own has told the sort.
@@ -28,8 +31,14 @@ pub enum Sign {
     Class(u64, Sort),
     /// The function of a record's call is entered.
     Begin(u64),
+    /// The function of a direct call is entered, which no queue has had.
+    Direct,
     /// It has returned.
     End(u64),
+    /// The function of the call that the CPU runs has returned.
+    EndLast,
+    /// It is of a stop.
+    Stop(StopSign),
 }
 
 /// The sort of a record with these flags.
@@ -43,12 +52,12 @@ fn sort_of(flags: u64) -> Sort
     }
 }
 
-/// The class of a call; none of what is no call.
+/// The class of a call, ASYNC where no line shows it, since that asks less; none of what is no call.
 pub(crate) fn class_of(sort: Sort) -> Option<Class>
     ensures { result ≡ class_of sort }
 {
     match sort {
-        Sort::Async => Some(Class::Async),
+        Sort::Async | Sort::Unshown => Some(Class::Async),
         Sort::Sync => Some(Class::Sync),
         Sort::Wake | Sort::Other => None,
     }
@@ -65,12 +74,19 @@ fn is_symbol(name: &[u8], of: &[u8], fields: &[&[u8]]) -> bool
     }
 }
 
-/// The sort that fields show; ASYNC, which asks less, where they show none.
+/// Whether fields have the function by which a CPU wakes tasks.
+fn is_wakes(fields: &[&[u8]]) -> bool
+    ensures { result ≡ is_wakes (map (λ f. f.now) fields.now) }
+{
+    is_symbol(b"func", b"sched_ttwu_pending", fields)
+}
+
+/// The sort that fields show.
 #[tactic(auto, unfolding(crate::specs::Signs::shown_sort))]
 fn shown_sort(fields: &[&[u8]]) -> Result<Sort, Wrong>
     ensures { result ≡ shown_sort (map (λ f. f.now) fields.now) }
 {
-    if is_symbol(b"func", b"sched_ttwu_pending", fields) {
+    if is_wakes(fields) {
         return Ok(Sort::Wake);
     }
     if let Some(text) = field(b"flags", fields) {
@@ -82,7 +98,7 @@ fn shown_sort(fields: &[&[u8]]) -> Result<Sort, Wrong>
     if is_symbol(b"callsite", b"irq_work_queue_on", fields) {
         return Ok(Sort::Other);
     }
-    Ok(Sort::Async)
+    Ok(Sort::Unshown)
 }
 
 /// What a line shows that queues a record.
@@ -90,7 +106,7 @@ fn shown_sort(fields: &[&[u8]]) -> Result<Sort, Wrong>
 fn queue_sign(fields: &[&[u8]]) -> Result<Sign, Wrong>
     ensures { result ≡ queue_sign (map (λ f. f.now) fields.now) }
 {
-    let to = needed_cpu(fields)?;
+    let to = needed_cpu(b"cpu", fields)?;
     let address = needed_address(b"csd", fields)?;
     let sort = shown_sort(fields)?;
     Ok(Sign::Queue(to, address, sort, false))
@@ -106,24 +122,64 @@ fn class_sign(fields: &[&[u8]]) -> Result<Sign, Wrong>
     Ok(Sign::Class(address, sort_of(flags)))
 }
 
-/// The record whose function is entered or has returned; none of a direct call or of wakes.
-#[tactic(auto, unfolding(crate::specs::Signs::called_of))]
-fn called(fields: &[&[u8]]) -> Result<Option<u64>, Wrong>
-    ensures { result ≡ called_of (map (λ f. f.now) fields.now) }
+/// What a line shows by which a function is entered; nothing of wakes.
+#[tactic(auto, unfolding(crate::specs::Signs::begin_sign))]
+fn begin_sign(fields: &[&[u8]]) -> Result<Option<Sign>, Wrong>
+    ensures { result ≡ begin_sign (map (λ f. f.now) fields.now) }
 {
     let address = needed_address(b"csd", fields)?;
-    if address == 0 || is_symbol(b"func", b"sched_ttwu_pending", fields) {
+    if is_wakes(fields) {
         return Ok(None);
     }
-    Ok(Some(address))
+    if address == 0 {
+        return Ok(Some(Sign::Direct));
+    }
+    Ok(Some(Sign::Begin(address)))
 }
 
-/// What a line with this event and these fields shows of calls.
+/// What a line shows by which a function has returned; nothing of a direct call and of wakes.
+#[tactic(auto, unfolding(crate::specs::Signs::end_sign))]
+fn end_sign(fields: &[&[u8]]) -> Result<Option<Sign>, Wrong>
+    ensures { result ≡ end_sign (map (λ f. f.now) fields.now) }
+{
+    let address = needed_address(b"csd", fields)?;
+    if address == 0 || is_wakes(fields) {
+        return Ok(None);
+    }
+    Ok(Some(Sign::End(address)))
+}
+
+/// Whether an event is that a record is queued: the tracepoint, or a probe in a function that queues one call or many.
+fn is_queue(event: &[u8]) -> bool
+    ensures { result ≡ is_queue event.now }
+{
+    is_word(event, b"csd_queue_cpu")
+        || is_word(event, b"one_queue")
+        || is_word(event, b"many_queue")
+}
+
+/// Whether an event is that the function of a call is entered: the tracepoint, or a probe where calls of this class are run.
+fn is_entry(event: &[u8]) -> bool
+    ensures { result ≡ is_entry event.now }
+{
+    is_word(event, b"csd_function_entry")
+        || is_word(event, b"sync_entry2")
+        || is_word(event, b"async_entry")
+}
+
+/// Whether an event is that the function of a record's call has returned.
+fn is_exit(event: &[u8]) -> bool
+    ensures { result ≡ is_exit event.now }
+{
+    is_word(event, b"csd_function_exit") || is_word(event, b"sync_exit2")
+}
+
+/// What a line with this event and these fields shows.
 #[tactic(auto, unfolding(crate::specs::Signs::sign_of))]
 pub(crate) fn read_sign(event: &[u8], fields: &[&[u8]]) -> Result<Option<Sign>, Wrong>
     ensures { result ≡ sign_of event.now (map (λ f. f.now) fields.now) }
 {
-    if is_word(event, b"csd_queue_cpu") {
+    if is_queue(event) {
         let sign = queue_sign(fields)?;
         return Ok(Some(sign));
     }
@@ -131,17 +187,17 @@ pub(crate) fn read_sign(event: &[u8], fields: &[&[u8]]) -> Result<Option<Sign>, 
         let sign = class_sign(fields)?;
         return Ok(Some(sign));
     }
-    if is_word(event, b"csd_function_entry") {
-        return match called(fields)? {
-            Some(address) => Ok(Some(Sign::Begin(address))),
-            None => Ok(None),
-        };
+    if is_entry(event) {
+        return begin_sign(fields);
     }
-    if is_word(event, b"csd_function_exit") {
-        return match called(fields)? {
-            Some(address) => Ok(Some(Sign::End(address))),
-            None => Ok(None),
-        };
+    if is_exit(event) {
+        return end_sign(fields);
     }
-    Ok(None)
+    if is_word(event, b"async_exit") {
+        return Ok(Some(Sign::EndLast));
+    }
+    match read_stop_sign(event, fields)? {
+        Some(sign) => Ok(Some(Sign::Stop(sign))),
+        None => Ok(None),
+    }
 }

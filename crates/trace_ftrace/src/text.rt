@@ -1,24 +1,33 @@
 //! The verdict on a text of the tracer, and what is printed of it.
 
-ghost use Rattle.std.specs.Prelude.{◌≡◌, ◌++◌, IfOk, OnOk};
+ghost use Rattle.std.specs.Prelude.{◌≡◌, ◌++◌, IfOk, OnOk, string_bytes};
 ghost use Rattle.smp_script.specs.Lines.{lines_of};
-ghost use Rattle.trace_ftrace.specs.Text.{broken_record, event_record, front_text, is_queue, last_queue, line_behind, line_from, named_record};
-ghost use Rattle.trace_ftrace.specs.Text.{queued_text, ruling_of, shown_text, source_text, Prints, PrintsRuling};
-ghost use Rattle.trace_ftrace.specs.Verdict.{ruling_of as ruling_of_told, told_of};
+ghost use Rattle.trace_ftrace.specs.Reading.{reading_of};
+ghost use Rattle.trace_ftrace.specs.SourceView.{source_value};
+ghost use Rattle.trace_ftrace.specs.Text.{broken_lines, broken_record, count_text, counts_text, direct_text, earlier_text, event_record};
+ghost use Rattle.trace_ftrace.specs.Text.{first_counts, front_text, is_queue, judged_text, last_counts, last_queue, lawful_lines, line_behind};
+ghost use Rattle.trace_ftrace.specs.Text.{line_from, named_record, queued_text, ruling_of, shown_text, source_text, wakes_text, works_text};
+ghost use Rattle.trace_ftrace.specs.Text.{Prints, PrintsRuling};
+ghost use Rattle.trace_ftrace.specs.Verdict.{ruling_of as ruling_of_told};
 
+use crate::counts::{Counts, count_lines};
+use crate::kept::Mark;
+use crate::names::{BrokenEvent, Names, broken_line};
 use crate::told::Told;
 use crate::verdict::{judge_told, read_told};
 use crate::wrong::Refusal;
 use smp_script::line::next_line;
 use std::alloc::{AllocError, Allocator};
-use trace_judge::verdict::write_verdict;
+use trace_judge::text::write_lawful;
 use trace_judge::{Ruling, Verdict};
-use trace_model::{CallEvent, Event, Reason};
+use trace_model::{CallEvent, Event, Reason, State};
 
-/// A text, and the events that it tells.
+/// A text, with the kernel's names in it, what its lines show, and the events that these tell.
 #[derive(Clone, Copy)]
 pub(crate) struct Source<'a> {
     pub(crate) text: &'a [u8],
+    pub(crate) names: Names<'a>,
+    pub(crate) marks: &'a [Mark],
     pub(crate) told: &'a [Told],
 }
 
@@ -79,7 +88,7 @@ fn is_queue(told: &Told, id: u16) -> bool
     ensures { result ≡ is_queue id told.now.event }
 {
     match told.event {
-        CallEvent::Queue(queued, _, _, _, _) => queued == id,
+        Event::Call(CallEvent::Queue(queued, _, _, _, _)) => queued == id,
         _ => false,
     }
 }
@@ -156,28 +165,149 @@ fn write_source<A: Allocator + Copy>(
     write_queued(alloc, out, source.text, queued)
 }
 
-/// What is printed of a verdict: its lines, and behind an event that no run has the lines of the text.
+/// Writes whether class and order are judged.
+#[tactic(auto, unfolding(crate::specs::Text::judged_text))]
+fn write_judged<A: Allocator>(out: &mut String<A>, unshown: usize) -> Result<(), AllocError>
+    ensures { OnOk result (string_bytes out.new ≡ string_bytes out.old ++ judged_text unshown) }
+{
+    if unshown == 0 {
+        return write!(out, "class: judged\norder: not judged\n");
+    }
+    write!(
+        out,
+        "class: not judged of {unshown} calls\norder: not judged\n"
+    )
+}
+
+/// Writes a count between two texts.
+#[tactic(auto, unfolding(crate::specs::Text::count_text))]
+fn write_count<A: Allocator>(
+    out: &mut String<A>,
+    front: &'static str,
+    count: usize,
+    back: &'static str,
+) -> Result<(), AllocError>
+    ensures { OnOk result (string_bytes out.new ≡ string_bytes out.old ++ count_text front.now count back.now) }
+{
+    write!(out, "{front}{count}{back}")
+}
+
+/// Writes how many direct calls there are.
+#[tactic(auto, unfolding(crate::specs::Text::direct_text))]
+fn write_direct<A: Allocator>(out: &mut String<A>, count: usize) -> Result<(), AllocError>
+    ensures { OnOk result (string_bytes out.new ≡ string_bytes out.old ++ direct_text count) }
+{
+    write_count(out, "not judged: ", count, " direct calls")
+}
+
+/// Writes how many wakes there are.
+#[tactic(auto, unfolding(crate::specs::Text::wakes_text))]
+fn write_wakes<A: Allocator>(out: &mut String<A>, count: usize) -> Result<(), AllocError>
+    ensures { OnOk result (string_bytes out.new ≡ string_bytes out.old ++ wakes_text count) }
+{
+    write_count(out, ", ", count, " wakes")
+}
+
+/// Writes how many irq works there are.
+#[tactic(auto, unfolding(crate::specs::Text::works_text))]
+fn write_works<A: Allocator>(out: &mut String<A>, count: usize) -> Result<(), AllocError>
+    ensures { OnOk result (string_bytes out.new ≡ string_bytes out.old ++ works_text count) }
+{
+    write_count(out, ", ", count, " irq works")
+}
+
+/// Writes how many calls from before there are.
+#[tactic(auto, unfolding(crate::specs::Text::earlier_text))]
+fn write_earlier<A: Allocator>(out: &mut String<A>, count: usize) -> Result<(), AllocError>
+    ensures { OnOk result (string_bytes out.new ≡ string_bytes out.old ++ earlier_text count) }
+{
+    write_count(out, ", ", count, " earlier calls\n")
+}
+
+/// Writes how many direct calls and wakes there are.
+#[tactic(auto, unfolding(crate::specs::Text::first_counts))]
+fn write_first_counts<A: Allocator>(out: &mut String<A>, counts: Counts) -> Result<(), AllocError>
+    ensures { OnOk result (string_bytes out.new ≡ string_bytes out.old ++ first_counts counts) }
+{
+    write_direct(out, counts.direct)?;
+    write_wakes(out, counts.wakes)
+}
+
+/// Writes how many irq works and calls from before there are.
+#[tactic(auto, unfolding(crate::specs::Text::last_counts))]
+fn write_last_counts<A: Allocator>(out: &mut String<A>, counts: Counts) -> Result<(), AllocError>
+    ensures { OnOk result (string_bytes out.new ≡ string_bytes out.old ++ last_counts counts) }
+{
+    write_works(out, counts.works)?;
+    write_earlier(out, counts.earlier)
+}
+
+/// Writes what is not judged.
+fn write_counts<A: Allocator>(out: &mut String<A>, counts: Counts) -> Result<(), AllocError>
+    ensures { OnOk result (string_bytes out.new ≡ string_bytes out.old ++ counts_text counts) }
+{
+    write_first_counts(out, counts)?;
+    write_last_counts(out, counts)?;
+    write_judged(out, counts.unshown)
+}
+
+/// What is printed of a lawful text.
+#[tactic(auto, unfolding(crate::specs::Text::lawful_lines))]
+fn lawful_lines<A: Allocator + Copy>(
+    alloc: A,
+    events: u32,
+    state: &State<A>,
+    counts: Counts,
+) -> Result<Vec<u8, A>, AllocError>
+    ensures { IfOk result (λ v. v.items ≡ lawful_lines events state.now counts) }
+{
+    let mut out = String::new(alloc);
+    write_lawful(&mut out, events, state)?;
+    write_counts(&mut out, counts)?;
+    Ok(out.into_bytes())
+}
+
+/// What is printed of a text with an event that no run has.
+#[tactic(auto, unfolding(crate::specs::Text::broken_lines))]
+fn broken_lines<A: Allocator + Copy>(
+    alloc: A,
+    source: &Source<'_>,
+    broken: &BrokenEvent,
+    unshown: usize,
+) -> Result<Vec<u8, A>, AllocError>
+    ensures { IfOk result (λ v. v.items ≡ broken_lines (source_value source.now) broken.now unshown) }
+{
+    let mut out = broken_line(alloc, &source.names, broken)?;
+    let record = broken_record(broken.event, broken.why);
+    write_source(alloc, &mut out, source, broken.line, record)?;
+    let mut judged = String::new(alloc);
+    write_judged(&mut judged, unshown)?;
+    out.extend_from_slice(judged.as_bytes())?;
+    Ok(out)
+}
+
+/// What is printed of a verdict.
 #[tactic(auto, unfolding(crate::specs::Text::shown_text))]
 fn shown<A: Allocator + Copy>(
     alloc: A,
     source: &Source<'_>,
     verdict: &Verdict<A>,
 ) -> Result<Vec<u8, A>, AllocError>
-    ensures { IfOk result (λ v. v.items ≡ shown_text source.now.text.now source.now.told.now verdict.now) }
+    ensures { IfOk result (λ v. v.items ≡ shown_text (source_value source.now) verdict.now) }
 {
-    let mut out = String::new(alloc);
-    write_verdict(&mut out, verdict)?;
-    let mut bytes = out.into_bytes();
-    if let Verdict::Broken(line, _, event, why) = verdict {
-        write_source(
-            alloc,
-            &mut bytes,
-            source,
-            *line,
-            broken_record(*event, *why),
-        )?;
+    let counts = count_lines(source.marks, source.told);
+    match verdict {
+        Verdict::Lawful(events, state) => lawful_lines(alloc, *events, state, counts),
+        Verdict::Broken(line, cpu, event, why) => {
+            let broken = BrokenEvent {
+                line: *line,
+                cpu: *cpu,
+                event: *event,
+                why: *why,
+            };
+            broken_lines(alloc, source, &broken, counts.unshown)
+        }
     }
-    Ok(bytes)
 }
 
 /// Whether a verdict is that the text is lawful.
@@ -195,7 +325,7 @@ fn ruled<A: Allocator + Copy>(
     alloc: A,
     source: &Source<'_>,
 ) -> Result<(Vec<u8, A>, Ruling), Refusal>
-    ensures { PrintsRuling result source.now.text.now source.now.told.now (ruling_of_told source.now.told.now) }
+    ensures { PrintsRuling result (source_value source.now) (ruling_of_told source.now.told.now) }
 {
     let verdict = match judge_told(alloc, source.told) {
         Ok(verdict) => verdict,
@@ -216,12 +346,21 @@ pub fn judge_kernel<A: Allocator + Copy>(
     skip: u64,
     text: &[u8],
 ) -> Result<(Vec<u8, A>, Ruling), Refusal>
-    ensures { Prints result text.now (told_of skip text.now) }
+    ensures { Prints result text.now (reading_of skip text.now) }
 {
-    let telling = match read_told(alloc, skip, text) {
-        Ok(telling) => telling,
+    let reading = match read_told(alloc, skip, text) {
+        Ok(reading) => reading,
         Err(why) => return Err(why),
     };
-    let told = telling.told.as_slice();
-    ruled(alloc, &Source { text, told })
+    let names = Names {
+        addresses: reading.telling.addresses.as_slice(),
+        functions: reading.kept.names.as_slice(),
+    };
+    let source = Source {
+        text,
+        names,
+        marks: reading.kept.marks.as_slice(),
+        told: reading.telling.told.as_slice(),
+    };
+    ruled(alloc, &source)
 }

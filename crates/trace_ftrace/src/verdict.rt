@@ -1,13 +1,13 @@
 //! The events that a text tells, and the verdict on them.
 
-ghost use Rattle.std.specs.Prelude.{◌≡◌, Ok, Err, IfOk, MatchResult};
-ghost use Rattle.trace_ftrace.specs.Marks.{Keeps};
-ghost use Rattle.trace_ftrace.specs.Verdict.{calls_alone, every_cpu, goes_all, goes_one, ruling_of, start, told_of, Rules};
-ghost use Rattle.trace_ftrace.specs.ToldView.{telling_value};
-ghost use Rattle.trace_ftrace.specs.Told.{no_records};
+ghost use Rattle.std.specs.Prelude.{◌≡◌, Ok, Err, IfOk};
+ghost use Rattle.trace_ftrace.specs.KeptView.{kept_value};
+ghost use Rattle.trace_ftrace.specs.Reading.{reading_of, told_by, Reads};
+ghost use Rattle.trace_ftrace.specs.Verdict.{calls_alone, every_cpu, goes_all, goes_one, ruling_of, start, Rules};
 ghost use Rattle.trace_judge.specs.Head.{no_labels, words_of};
 ghost use Rattle.trace_judge.specs.Judged.{early_end, Lines};
 
+use crate::kept::Kept;
 use crate::marks::marks;
 use crate::told::{Telling, Told, tell_marks};
 use crate::wrong::{Refusal, Wrong};
@@ -16,7 +16,14 @@ use smp_mask::{Cause, CpuMask};
 use std::alloc::{AllocError, Allocator};
 use trace_judge::Verdict;
 use trace_judge::early_end::EarlyEnd;
-use trace_model::{Event, Halt, Setting, State, Without};
+use trace_model::{Halt, Setting, State, Without};
+
+/// What is read of a text: what its lines show, and which events these tell.
+#[derive(Drop)]
+pub struct Reading<'a, A: Allocator> {
+    pub kept: Kept<'a, A>,
+    pub telling: Telling<A>,
+}
 
 /// The most bytes of a text.
 pub const MOST_KERNEL_BYTES: u32 = 536_870_912;
@@ -73,10 +80,10 @@ fn open<A: Allocator + Copy>(alloc: A) -> Result<State<A>, AllocError>
 
 /// Why an event is the end of a text, where it was not made.
 fn early_end(told: &Told, halt: Halt) -> EarlyEnd
-    ensures { result ≡ early_end told.now.line told.now.cpu (Event.Call told.now.event) halt }
+    ensures { result ≡ early_end told.now.line told.now.cpu told.now.event halt }
 {
     match halt {
-        Halt::Broken(why) => EarlyEnd::Broken(told.line, told.cpu, Event::Call(told.event), why),
+        Halt::Broken(why) => EarlyEnd::Broken(told.line, told.cpu, told.event, why),
         Halt::NoMemory => EarlyEnd::NoMemory,
     }
 }
@@ -93,7 +100,7 @@ fn goes_one<A: Allocator + Copy>(
     if told.cpu >= 32 {
         return Err(EarlyEnd::Fault(told.line, Cause::Range));
     }
-    match state.event(alloc, told.cpu, Event::Call(told.event)) {
+    match state.event(alloc, told.cpu, told.event) {
         Ok(()) => Ok(()),
         Err(halt) => Err(early_end(told, halt)),
     }
@@ -140,16 +147,30 @@ pub fn judge_told<A: Allocator + Copy>(alloc: A, told: &[Told]) -> Result<Verdic
     }
 }
 
-/// The events that a text tells, without its first `skip` nanoseconds.
+/// What is read of a text, of whose lines this is kept.
+#[tactic(auto, unfolding(crate::specs::Reading::told_by), using(crate::proofs::ReadFails::fails))]
+fn tell_kept<'a, A: Allocator + Copy>(
+    alloc: A,
+    kept: Kept<'a, A>,
+) -> Result<Reading<'a, A>, Refusal>
+    ensures { Reads result (told_by (kept_value kept.entry)) }
+{
+    match tell_marks(alloc, kept.marks.as_slice()) {
+        Ok(telling) => Ok(Reading { kept, telling }),
+        Err(why) => Err(why),
+    }
+}
+
+/// What a text tells, without its first `skip` nanoseconds.
 ///
 /// Refusals: `TooLong`; `Wrong` with the first line at fault; `NoMemory`.
-#[tactic(auto, unfolding(crate::specs::Verdict::told_of))]
+#[tactic(auto, unfolding(crate::specs::Reading::reading_of), using(crate::proofs::ReadFails::fails))]
 pub fn read_told<A: Allocator + Copy>(
     alloc: A,
     skip: u64,
     text: &[u8],
-) -> Result<Telling<A>, Refusal>
-    ensures { MatchResult result (λ t. told_of skip text.now ≡ Ok (telling_value t)) (λ why. Keeps (Err why) no_records (told_of skip text.now)) }
+) -> Result<Reading<'_, A>, Refusal>
+    ensures { Reads result (reading_of skip text.now) }
 {
     if text.len() > MOST_KERNEL_BYTES as usize {
         return Err(Refusal::TooLong);
@@ -158,5 +179,5 @@ pub fn read_told<A: Allocator + Copy>(
         Ok(kept) => kept,
         Err(why) => return Err(why),
     };
-    tell_marks(alloc, kept.marks.as_slice())
+    tell_kept(alloc, kept)
 }

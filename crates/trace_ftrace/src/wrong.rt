@@ -17,6 +17,8 @@ pub enum Wrong {
     Class,
     /// It has one record more than there can be.
     Records,
+    /// It opens one stop more than there are CPUs.
+    Stops,
 }
 
 /// Why a text is not judged to its end.

@@ -1,0 +1,20 @@
+-- What marks tell up to one.
+use Rattle.std.specs.Prelude.{ℕ, List, [], ◌∷◌, ◌++◌, Option}
+use Rattle.trace_model.specs.declared.event.Event.{Event}
+use Rattle.trace_ftrace.specs.declared.stops.OpenStop.{OpenStop}
+use Rattle.trace_ftrace.specs.declared.told.Told.{Told}
+
+-- the addresses of records by their numbers, the events, the record whose call each CPU runs, how many CPUs there are, the stops
+-- that are open, and the sources of the rendezvous and of the stop of one CPU in which each CPU is
+pub record TellingValue : Type 0 where
+  pub addresses : List ℕ
+  pub told : List Told
+  pub running : List (Option ℕ)
+  pub cpus : ℕ
+  pub stops : List OpenStop
+  pub inside : List (Option ℕ)
+  pub alone : List (Option ℕ)
+
+-- with an event of this line and CPU
+abbrev pub with_event : ℕ → ℕ → Event → TellingValue → TellingValue
+with_event line cpu e t = record t { told = t.told ++ record { line = line; cpu = cpu; event = e } ∷ [] }
