@@ -58,6 +58,8 @@ pub enum View {
     Svg,
     /// Its replay in the trace-event format.
     Json,
+    /// Its replay as a page to step through.
+    Page,
 }
 
 /// What to do with a text.
@@ -218,6 +220,7 @@ fn view_of(name: &str) -> Option<View> {
         "lanes" => Some(View::Lanes),
         "svg" => Some(View::Svg),
         "json" => Some(View::Json),
+        "page" => Some(View::Page),
         _ => None,
     }
 }

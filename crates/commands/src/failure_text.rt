@@ -27,11 +27,12 @@ fn wrong_text(why: Wrong) -> &'static str {
     match why {
         Wrong::Form => "this is no line of ftrace, or says that events were lost",
         Wrong::Lost => "the buffers hold fewer events than were written",
-        Wrong::Time => "the time goes back",
+        Wrong::Time => "the time of its CPU goes back",
         Wrong::Field => "a field is missing or is no number",
         Wrong::Cpu => "it names a CPU above 31",
         Wrong::Class => "csd_class without a csd_queue_cpu of this csd before it",
         Wrong::Records => "this is one csd more than 65536",
+        Wrong::Stops => "more stops are open than there are CPUs",
     }
 }
 

@@ -186,6 +186,12 @@ const JSON: Named = Named {
     behind: Behind::File,
 };
 
+const PAGE: Named = Named {
+    name: "page",
+    about: "Writes a replay as one page of HTML to step through, with the words, queues and stops after each event",
+    behind: Behind::File,
+};
+
 const EXPLAIN: Named = Named {
     name: "explain",
     about: "Says what the first fault of a text is, and what may be there",
@@ -358,10 +364,11 @@ fn front<'a>(alloc: Global) -> Result<Command<'a>, AllocError> {
 
 /// All that the command line may have.
 pub fn grammar<'a>(alloc: Global) -> Result<Command<'a>, AllocError> {
-    let commands: [(Named, &[Choice]); 11] = [
+    let commands: [(Named, &[Choice]); 12] = [
         (LANES, &[FROM, TO, CPUS]),
         (SVG, &[FROM, TO, CPUS, MARK]),
         (JSON, &[FROM, TO, CPUS]),
+        (PAGE, &[MARK]),
         (EXPLAIN, &[]),
         (EXPLORE, &[MERGE, STATES, MEMORY, ONLY, SCRIPTS]),
         (SAMPLE, &[SEED, RUNS, STEPS, ONLY, SCRIPTS]),

@@ -24,7 +24,7 @@ use trace_ftrace::verdict::MOST_KERNEL_BYTES;
 use trace_judge::body::MOST_TRACE_BYTES;
 use trace_judge::{Ruling, judge_trace};
 use view::text_kind::kind_of;
-use view::{Choice, show_json, show_lanes, show_svg};
+use view::{Choice, show_json, show_lanes, show_page, show_svg};
 
 /// Shows a script.
 fn show<W: Write>(
@@ -39,6 +39,7 @@ fn show<W: Write>(
         View::Lanes => show_lanes(rt.alloc(), choice, &mut reader, writer),
         View::Svg => show_svg(rt.alloc(), choice, &mut reader, writer),
         View::Json => show_json(rt.alloc(), choice, &mut reader, writer),
+        View::Page => show_page(rt.alloc(), choice.mark, &mut reader, writer),
     }
 }
 

@@ -5,6 +5,8 @@ pub mod Choice
 -- a column for each CPU
 pub mod Cells
 pub mod NarrowLanes
+-- a page to step through
+pub mod Pages
 -- the kinds of texts
 pub mod Kinds
 pub mod Explains

@@ -2,6 +2,7 @@
 //! lawful.
 //!
 //! - `show`: A script from a reader, and what is shown of it to a writer; `svg`, `json`: as a picture, and as trace events.
+//! - `page`, `page_text`: A replay as a page of HTML to step through, and what each such page has.
 //! - `choice`: Which events are shown.
 //! - `lanes`, `narrow_lanes`, `cell`, `pad`: A replay with one column for each CPU, or one mark.
 //! - `picture`, `areas`, `arrows`, `legend`, `element`: A replay as a picture.
@@ -32,6 +33,8 @@ mod match_template;
 mod narrow_lanes;
 pub mod open_close;
 mod pad;
+mod page;
+mod page_text;
 pub mod picture;
 mod print_bytes;
 pub mod show;
@@ -42,4 +45,4 @@ mod templates;
 pub mod text_kind;
 
 pub use choice::{Choice, Mark};
-pub use show::{explain_script, explained, show_json, show_lanes, show_svg};
+pub use show::{explain_script, explained, show_json, show_lanes, show_page, show_svg};

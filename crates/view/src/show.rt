@@ -6,13 +6,15 @@ ghost use Rattle.smp_script.specs.Transforms.{HasFault, Makes};
 ghost use Rattle.smp_mask.specs.declared.error.Side.TheVariants.{Read as ReadSide};
 ghost use Rattle.view.specs.Explains.{Explains, IsExplained, NeverFaults, SaysLine, no_fault_text};
 ghost use Rattle.view.specs.Kinds.{mode_of};
+ghost use Rattle.view.specs.Pages.{Pages};
 ghost use Rattle.view.specs.Shows.{IsShown, Shows};
 
-use crate::choice::Choice;
+use crate::choice::{Choice, Mark};
 use crate::explain::explanation;
 use crate::fault::{Fault, first_fault};
 use crate::json::json;
 use crate::lanes::{chosen_columns, lanes};
+use crate::page::paged;
 use crate::svg::draw;
 use crate::text_kind::{TextKind, kind_of};
 use smp_mask::SmpError;
@@ -149,6 +151,28 @@ pub fn show_json<A: Allocator + Copy, R: Read, W: Write>(
 {
     let text = read_text(alloc, reader)?;
     write_made(writer, shown(alloc, Form::Json, choice, text.as_slice()))
+}
+
+/// Reads a script, and writes its replay as one page of HTML to step through. The page opens at the event that is marked,
+/// else at the first. Its own script, which is not proved, draws what the page's lines of events have.
+///
+/// Refusals as those of `show_lanes`.
+pub fn show_page<A: Allocator + Copy, R: Read, W: Write>(
+    alloc: A,
+    mark: Option<Mark>,
+    reader: &mut Watched<R>,
+    writer: &mut Watched<W>,
+) -> Result<Outcome, SmpError>
+    requires reads { failed_of reader.old ≡ false }
+    ensures order { failed_of reader.new ≡ true → result ≡ Err (SmpError.StreamFailed ReadSide) }
+    ensures pages { Pages mark (R.remaining (inner_of reader.old)) (R.remaining (inner_of reader.new))
+        (W.contents (inner_of writer.old)) (W.contents (inner_of writer.new)) (writer.new ≡ writer.old)
+        (failed_of reader.new) (failed_of writer.new) result }
+    ensures kept { OnOk result (failed_of writer.new ≡ failed_of writer.old) }
+    ensures flushed { OnOk result (flushed_of writer.new ≡ true) }
+{
+    let text = read_text(alloc, reader)?;
+    write_made(writer, paged(alloc, mark, text.as_slice()))
 }
 
 // The kind of script that a text is explained as: a run where its first line says so, else a replay.

@@ -23,6 +23,9 @@ const COMMANDS: [&str; 16] = [
     "nudge K down",
 ];
 
+/// What may be made between two tries of a command that is repeated.
+const BETWEEN: [&str; 3] = ["handle", "enter SLOT", "advance RET"];
+
 /// What a CPU of a run may call.
 const OPERATIONS: [&str; 13] = [
     "sync DST FUNC INFO",
@@ -90,6 +93,22 @@ fn push_behind<A: Allocator + Copy>(
     Ok(())
 }
 
+// Each command behind the same front, and what may be made between two tries of it.
+fn push_repeated<A: Allocator + Copy>(
+    alloc: A,
+    found: &mut Templates<A>,
+    front: &str,
+) -> Result<(), AllocError> {
+    push_behind(alloc, found, front, &COMMANDS)?;
+    for command in &COMMANDS {
+        for between in &BETWEEN {
+            let (command, between) = (*command, *between);
+            found.push(format!(in alloc; "{front}{command} with {between}")?)?;
+        }
+    }
+    Ok(())
+}
+
 // The first line of a text of this kind.
 fn push_title<A: Allocator + Copy>(
     alloc: A,
@@ -113,8 +132,8 @@ fn push_body<A: Allocator + Copy>(
         TextKind::Run => push_behind(alloc, found, "do CPU N ", &OPERATIONS),
         TextKind::Exploration => {
             push_behind(alloc, found, "cpu C ", &COMMANDS)?;
-            push_behind(alloc, found, "cpu C repeat ", &COMMANDS)?;
-            push_behind(alloc, found, "cpu C repeat N ", &COMMANDS)?;
+            push_repeated(alloc, found, "cpu C repeat ")?;
+            push_repeated(alloc, found, "cpu C repeat N ")?;
             push_behind(
                 alloc,
                 found,

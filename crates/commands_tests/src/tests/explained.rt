@@ -16,7 +16,7 @@ fn explained(alloc: Global, text: &[u8]) -> Result<(Vec<u8, Global>, Outcome), S
 
 #[test]
 fn what_may_stand_there(rt: HostRuntime) -> Result<(), Fail> {
-    let cases: [(&str, &str); 14] = [
+    let cases: [(&str, &str); 15] = [
         (
             "smp 1 replay\ncpus 2 0-1\nstart 0 post 0 1 synk 7 42 1\n",
             "line 3 Word: a wrong word, or too few or too many fields
@@ -109,6 +109,14 @@ fn what_may_stand_there(rt: HostRuntime) -> Result<(), Fail> {
   field 4, N: here is `x`
     here may be: a number from 0 to 4294967295
     the line: cpu C repeat N handle
+",
+        ),
+        (
+            "smp 1 explore\ncpus 2 0-1\ncpu 0 repeat done 0 with send 1\n",
+            "line 3 Word: a wrong word, or too few or too many fields
+  cpu 0 repeat done 0 with send 1
+  field 7: here is `send`
+    here may be: handle, enter, advance
 ",
         ),
         (
@@ -214,7 +222,7 @@ fn the_changed_field_is_named(rt: HostRuntime) -> Result<(), Fail> {
         (run, "do 0 1 set 0 on"),
         (run, "do 0 1 inc 0"),
         (exploration, "cpu 0 post 0 1 async 7 42 1"),
-        (exploration, "cpu 0 repeat 3 gate"),
+        (exploration, "cpu 0 repeat 3 gate with advance 1"),
         (exploration, "never gate 1 and not said sent"),
         (exploration, "finally place.0 queued.1"),
         (trace, "0 queue 1 1 sync 7 42"),

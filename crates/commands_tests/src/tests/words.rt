@@ -1,13 +1,14 @@
 //! Words of the command line, and what they ask for.
 
 use clap::error::ErrorKind;
-use commands::arguments::Job;
+use commands::arguments::{Job, View};
 use commands::read_words;
 use commands::searches::Scripts;
 use explore::Most;
 use explore_text::Orders;
 use std::alloc::Global;
 use std::test::*;
+use view::Mark;
 
 // What these words are refused as; none where they are taken.
 fn refused(alloc: Global, words: &[&str]) -> Option<ErrorKind> {
@@ -16,7 +17,7 @@ fn refused(alloc: Global, words: &[&str]) -> Option<ErrorKind> {
 
 #[test]
 fn words_that_are_none_of_this_program(rt: HostRuntime) {
-    let cases: [(&[&str], ErrorKind); 28] = [
+    let cases: [(&[&str], ErrorKind); 29] = [
         (&["smp"], ErrorKind::MissingSubcommand),
         (&["smp", "jump"], ErrorKind::InvalidSubcommand),
         (&["smp", "lanes", "one", "two"], ErrorKind::UnknownArgument),
@@ -88,6 +89,7 @@ fn words_that_are_none_of_this_program(rt: HostRuntime) {
             &["smp", "script", "--run", "4294967296"],
             ErrorKind::ValueValidation,
         ),
+        (&["smp", "page", "--cpus", "0"], ErrorKind::UnknownArgument),
         (&["smp", "check", "one"], ErrorKind::MissingRequiredArgument),
         (&["smp", "check", "-", "-"], ErrorKind::ValueValidation),
         (
@@ -116,7 +118,7 @@ fn file_of<'a>(alloc: Global, words: &'a [&'a str]) -> Result<Option<&'a str>, E
 #[test]
 fn from_a_file_or_standard_input(rt: HostRuntime) {
     for name in [
-        "lanes", "svg", "explain", "explore", "sample", "script", "events", "judge",
+        "lanes", "svg", "page", "explain", "explore", "sample", "script", "events", "judge",
     ] {
         assert_eq!(rt;
             file_of(rt.alloc(), &["smp", name, "file"]),
@@ -125,6 +127,40 @@ fn from_a_file_or_standard_input(rt: HostRuntime) {
         assert_eq!(rt; file_of(rt.alloc(), &["smp", name, "-"]), Ok(None));
         assert_eq!(rt; file_of(rt.alloc(), &["smp", name]), Ok(None));
     }
+}
+
+// Whether these words ask for the page of a replay that opens at this event.
+fn opens_at(alloc: Global, words: &[&str], mark: Option<Mark>) -> bool {
+    match read_words(alloc, words) {
+        Ok(request) => is_page(&request.job, mark),
+        Err(_) => false,
+    }
+}
+
+fn is_page(job: &Job, mark: Option<Mark>) -> bool {
+    match job {
+        Job::Show(View::Page, choice) => choice.mark == mark,
+        _ => false,
+    }
+}
+
+#[test]
+fn a_page_opens_at_the_mark(rt: HostRuntime) {
+    assert!(rt; opens_at(rt.alloc(), &["smp", "page", "file"], None));
+    assert!(rt;
+        opens_at(
+            rt.alloc(),
+            &["smp", "page", "--mark", "last"],
+            Some(Mark::Last)
+        )
+    );
+    assert!(rt;
+        opens_at(
+            rt.alloc(),
+            &["smp", "page", "--mark", "21"],
+            Some(Mark::Event(21))
+        )
+    );
 }
 
 // Whether these words ask for the judge of what a kernel's tracer wrote, without this number of nanoseconds.
