@@ -1,5 +1,0 @@
-use Rattle.smp_machine.specs.Seats.{IsSameSeat}
-use Rattle.users.proofs.fence.FencesCrewSilentNoStop.play.Given as goal
-
-abbrev pub invariant-loop : goal.invariant-loop
-invariant-loop g l = IsSameSeat l.initial.seat l.seat

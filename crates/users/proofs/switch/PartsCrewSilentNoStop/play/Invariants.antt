@@ -1,5 +1,0 @@
-use Rattle.smp_machine.specs.Seats.{IsSameSeat}
-use Rattle.users.proofs.switch.PartsCrewSilentNoStop.play.Given as goal
-
-abbrev pub invariant-loop-round : goal.invariant-loop-round
-invariant-loop-round g l = IsSameSeat l.initial.seat l.seat
