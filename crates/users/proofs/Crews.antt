@@ -17,7 +17,8 @@ Flushes old new = old.cpu.calls.part.ran ≡ [] → IsFlushed new.cpu.calls new.
 
 module _ (hears : Tlb → Heard → Tlb → Type 0) (leaves : (p : Tlb) (call : Heard) (q : Tlb) → hears p call q → q.entries.items ≡ left_by call p.entries.items)
     (runs : NoStop → Called → NoStop → Type 0) (begins : ℕ → Tlb → NoStop → Type 0) (ends : ℕ → Type 0) (m : MachineValue) where
-  pub tlbs_flushed : {A : Type 0} (numbers : List ℕ) (back : List (Played Tlb NoStop A)) → ArePlayed hears runs begins Flushes ends m numbers back → TlbsAreFlushed back
+  pub tlbs_flushed : {A : Type 0} (numbers : List ℕ) (back : List (Played Tlb NoStop A))
+      → ArePlayed hears runs begins Flushes ends m numbers back → TlbsAreFlushed back
   tlbs_flushed [] [] all = tt
   tlbs_flushed (n ∷ ns) (p ∷ ps) all = (
     flushed_handled hears (λ (h : Tlb). h.entries.items) leaves all.0.played.cpu.calls p.cpu.calls all.0.played.handler p.handler (all.0.part refl)
