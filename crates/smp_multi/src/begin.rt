@@ -25,7 +25,8 @@ fn store_field(words: Words<'_>, seat: &mut CpuSeat, number: u32, work: &Work, f
     store(words, seat, Word::Slot(number, field), value);
 }
 
-/// Stores the roll: all CPUs of the mask are called.
+/// Stores the roll, last of all: with it the CPUs of the mask are called. A CPU that finds its bit there enters, and loads the
+/// other fields at once. They have to be this stop's by then, as Linux queues a work only once its `multi_stop_data` is filled in.
 fn open_slot(words: Words<'_>, seat: &mut CpuSeat, number: u32, work: &Work)
     requires at { Begins words.shared.now.table_id seat.old number work.now (order field_of.Roll) }
     ensures table { seat.new.table ≡ words.entry.shared.now.table_id }

@@ -122,6 +122,9 @@ fn answer_for(next: Option<u64>) -> u64
 
 /// Makes the patch of a stop, acknowledges `RUN`, and stores the next phase as the last. It answers 1 where the key's
 /// count is at the end of its range, so that nothing is stored, else 0.
+///
+/// The patch stores while the phase is `RUN`. Every other CPU has acknowledged `DISABLE_IRQ` by then, and waits for the phase
+/// behind `RUN`. So no CPU reads a site whose key has changed while the site has not.
 pub(crate) fn patch_on(words: Words<'_>, seat: &mut CpuSeat, visit: Visit) -> Visit
     requires { AtRun words.shared.now.table_id seat.old visit Patch }
     ensures at { AtTurn words.entry.shared.now.table_id seat.new result result.acked Rests }

@@ -41,7 +41,9 @@ fn acknowledge(words: Words<'_>, seat: &mut CpuSeat, visit: Visit) -> u64
     subtract(words, seat, Word::Slot(visit.slot, Field::Ack))
 }
 
-/// As the last to acknowledge a phase, fills the count again and then stores the next phase.
+/// As the last to acknowledge a phase, fills the count again and then stores the next phase. A CPU that sees the new phase
+/// acknowledges it at once, so the count has to be full by then (`set_state`: `thread_ack` is set before `state`, with a barrier
+/// between them). In the other order a CPU would take 1 from the old count, and the refill would undo that.
 fn raise(words: Words<'_>, seat: &mut CpuSeat, visit: Visit)
     requires at { AtTurn words.shared.now.table_id seat.old visit visit.acked Fills }
     ensures at { AtTurn words.entry.shared.now.table_id seat.new visit visit.acked Rests }
