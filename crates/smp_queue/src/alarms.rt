@@ -3,6 +3,7 @@
 //! A CPU sets its alarm, then looks whether anything is for it, and sleeps only where it found nothing. The other CPUs ring
 //! its alarm after the step that leaves it something. So either the look finds that, or the alarm rings after it was set.
 
+use crate::line::Line;
 use crossbeam_utils::CachePadded;
 use crossbeam_utils::sync::{EventCount, Key};
 use smp_words::size::NR_CPUS;
@@ -10,12 +11,13 @@ use std::array;
 use std::sync::Wait;
 use std::sync::atomic::{AtomicU32, Ordering};
 
-/// An alarm for each CPU, and which CPUs wait for another one's step.
+/// An alarm for each CPU, which CPUs wait for another one's step, and which ones wait in line for a lock.
 #[derive(Drop)]
 pub(crate) struct Alarms {
     /// Each alarm has cache lines of its own, since its CPU writes it whenever it rests or waits.
     each: [CachePadded<EventCount>; NR_CPUS as usize],
     waiters: CachePadded<Waiters>,
+    line: CachePadded<Line>,
 }
 
 /// The CPUs that wait for another one's step.
@@ -36,7 +38,13 @@ impl Alarms {
                 bits: AtomicU32::new(0),
                 first: AtomicU32::new(0),
             }),
+            line: CachePadded::new(Line::new()),
         }
+    }
+
+    /// The CPUs that wait in line for a lock.
+    pub(crate) fn line(&self) -> &Line {
+        &self.line
     }
 
     /// The alarm of a CPU, by its number modulo 32.
@@ -65,6 +73,17 @@ impl Alarms {
         }
     }
 
+    /// Sets the alarm of a CPU that is woken by its number alone.
+    pub(crate) fn set_alone(&self, cpu: u32) -> WaitAlarm<'_> {
+        WaitAlarm {
+            alarm: self.set(cpu),
+            bit: WaitBit {
+                alarms: self,
+                bit: 0,
+            },
+        }
+    }
+
     /// Rings the alarm of a CPU, if it is set.
     pub(crate) fn ring(&self, cpu: u32) {
         self.of(cpu).notify_one();
@@ -75,6 +94,13 @@ impl Alarms {
         let waiting = self.waiters.bits.load(Ordering::SeqCst);
         if waiting != 0 {
             self.ring_each(waiting);
+        }
+    }
+
+    /// Gives the turn to the next CPU that is marked in the line, and rings its alarm.
+    pub(crate) fn ring_next(&self) {
+        if let Some(cpu) = self.line.give_turn() {
+            self.ring(cpu);
         }
     }
 

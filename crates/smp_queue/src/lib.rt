@@ -21,7 +21,8 @@
 //! types refuse it, since `new` makes the table, `audit` takes it, and `Boot::cpu` takes the one `Boot` by `&mut`. The
 //! first five take the caller's `CallCpu` by `&mut` or by value. So `-` is about two CPUs, and a CPU makes one call at a time.
 //!
-//! `wake`, `wake_waiting`, `set_alarm`, `pause` and `together` make no step. They may run together with all calls but `new` and `audit`.
+//! `wake`, `wake_waiting`, `wake_next`, `set_alarm`, `pause`, `pause_alone`, `line` and `together` make no step. They may run together
+//! with all calls but `new` and `audit`.
 //! `sleep_after` takes the table by `&mut`, so it comes before threads share the table.
 //!
 //! A caller that can lend no handler runs a batch itself. `begin_handle` takes a `CallCpu` and gives a `Next`. At `Next::Run`
@@ -43,6 +44,8 @@ mod cpu;
 mod handle;
 mod handler;
 pub mod laws;
+mod line;
+mod line_wait;
 mod noted;
 mod pause;
 mod post;
@@ -62,6 +65,7 @@ pub use closing::ClosedTable;
 pub use cpu::CallCpu;
 pub use handle::Handled;
 pub use handler::{Handler, Heard};
+pub use line_wait::LineWait;
 pub use pause::Pause;
 pub use seat::call_steps;
 pub use serving::{Next, Serving};

@@ -9,6 +9,8 @@ use std::sync::Wait;
 pub struct Pause<'t> {
     alarms: &'t Alarms,
     cpu: u32,
+    /// Whether the CPU is woken by its number alone. Else it is woken with all that wait, too.
+    is_alone: bool,
     /// After how many looks in vain the CPU sleeps; it never does where this is none.
     sleep_after: Option<u32>,
     /// How many looks were in vain.
@@ -18,11 +20,17 @@ pub struct Pause<'t> {
 }
 
 impl<'t> Pause<'t> {
-    /// The wait of this CPU, which has not looked yet.
-    pub(crate) fn new(alarms: &'t Alarms, cpu: u32, sleep_after: Option<u32>) -> Pause<'t> {
+    /// The wait of this CPU, which has not looked yet, and whether the CPU is woken by its number alone.
+    pub(crate) fn new(
+        alarms: &'t Alarms,
+        cpu: u32,
+        is_alone: bool,
+        sleep_after: Option<u32>,
+    ) -> Pause<'t> {
         Pause {
             alarms,
             cpu,
+            is_alone,
             sleep_after,
             looks: 0,
             backoff: Backoff::new(),
@@ -42,7 +50,11 @@ impl<'t> Pause<'t> {
     #[inline(always)]
     pub fn before_look(&mut self) {
         if self.alarm.is_none() && self.may_sleep() {
-            self.alarm = Some(self.alarms.set_waiting(self.cpu));
+            self.alarm = Some(if self.is_alone {
+                self.alarms.set_alone(self.cpu)
+            } else {
+                self.alarms.set_waiting(self.cpu)
+            });
         }
     }
 

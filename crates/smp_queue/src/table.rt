@@ -43,6 +43,7 @@ use crate::closing::ClosedTable;
 use crate::cpu::CallCpu;
 use crate::handle::{Handled, handle};
 use crate::handler::Handler;
+use crate::line_wait::LineWait;
 use crate::pause::Pause;
 use crate::post::{append, append_until_won, is_locked, write_record};
 use crate::seat::{Owner, SeatMaker, Words, lay, next_seat, note_call, store};
@@ -274,13 +275,32 @@ impl<A: Allocator> CallTable<A> {
     /// A wait of a CPU, for a caller that waits in a loop of its own. What it waits for has to wake it
     /// ([`CallTable::wake_waiting`]). It makes no step, and does not wait.
     pub fn pause(&self, me: &CallCpu) -> Pause<'_> {
-        Pause::new(&self.alarms, me.number, self.sleep_after)
+        Pause::new(&self.alarms, me.number, false, self.sleep_after)
+    }
+
+    /// As [`CallTable::pause`], for a wait that ends with an interrupt, or where another CPU wakes this one ([`CallTable::wake`]).
+    /// [`CallTable::wake_waiting`] does not wake it.
+    pub fn pause_alone(&self, me: &CallCpu) -> Pause<'_> {
+        Pause::new(&self.alarms, me.number, true, self.sleep_after)
     }
 
     /// Wakes the CPUs that wait asleep ([`CallTable::pause`]): call it after a step that may end a wait. A CPU that is woken for
     /// nothing sleeps again. It makes no step, and does not wait.
     pub fn wake_waiting(&self) {
         self.alarms.ring_waiting();
+    }
+
+    /// A wait of a CPU for a lock, in line with the CPUs of this table that wait for it asleep. The table has one line. The CPU that
+    /// gives the lock up has to wake the next one ([`CallTable::wake_next`]). It makes no step, and does not wait.
+    pub fn line(&self, me: &CallCpu) -> LineWait<'_> {
+        LineWait::new(&self.alarms, me.number, self.sleep_after)
+    }
+
+    /// Gives the turn to the next CPU that waits in line asleep ([`CallTable::line`]), and wakes it alone: call it after a lock was
+    /// given up. CPUs that ask for the lock wait for that one to try, so that none waits for many turns of others. It makes no step,
+    /// and does not wait.
+    pub fn wake_next(&self) {
+        self.alarms.ring_next();
     }
 
     /// The words, for what hands out calls.

@@ -89,7 +89,8 @@ pub fn count_sync<H: Handler>(
     store_in_call(words, seat, tally, count);
 }
 
-/// A SYNC call whose function has run ends: its record is unlocked.
+/// A SYNC call whose function has run ends: its record is unlocked, last of all. Its caller waits for that, and may free what the
+/// function uses as soon as it sees it (`csd_unlock` behind `csd_do_func`).
 #[inline(always)]
 pub fn end_sync<H: Handler>(
     words: Words,
@@ -110,7 +111,8 @@ pub fn end_sync<H: Handler>(
     store_in_call(words, seat, Word::Flags(call.id), 0);
 }
 
-/// An ASYNC call begins: its record is unlocked.
+/// An ASYNC call begins: its record is unlocked. What the CPU is to know of the call was loaded before, since from this store on
+/// the record's source may write it and queue it again (`csd_unlock` before `csd_do_func`).
 #[inline(always)]
 fn begin_async<H: Handler>(
     words: Words,

@@ -1,0 +1,79 @@
+//! How a CPU waits for a lock, in line with others. No step of a table is made here.
+
+use crate::alarms::{Alarm, Alarms};
+use crate::line::Place;
+use crossbeam_utils::Backoff;
+use std::sync::Wait;
+
+/// A wait of a CPU for a lock that is tried, in line with the other CPUs that wait for it asleep.
+#[derive(Drop)]
+pub struct LineWait<'t> {
+    alarms: &'t Alarms,
+    cpu: u32,
+    /// After how many looks in vain the CPU sleeps; it never does where this is none.
+    sleep_after: Option<u32>,
+    /// How many looks were in vain.
+    looks: u32,
+    backoff: Backoff,
+    alarm: Option<Alarm<'t>>,
+    place: Option<Place<'t>>,
+}
+
+impl<'t> LineWait<'t> {
+    /// The wait of this CPU, which has not looked yet.
+    pub(crate) fn new(alarms: &'t Alarms, cpu: u32, sleep_after: Option<u32>) -> LineWait<'t> {
+        LineWait {
+            alarms,
+            cpu,
+            sleep_after,
+            looks: 0,
+            backoff: Backoff::new(),
+            alarm: None,
+            place: None,
+        }
+    }
+
+    /// Whether the CPU may try to take the lock now. It may not while it is the turn of another CPU.
+    pub fn may_try(&self) -> bool {
+        self.sleep_after.is_none() || !self.alarms.line().is_turn_of_another(self.cpu)
+    }
+
+    /// Whether the CPU sleeps where it finds nothing: at once where another one waits asleep, else after a number of looks.
+    fn may_sleep(&self) -> bool {
+        match self.sleep_after {
+            Some(looks) => looks <= self.looks || self.alarms.line().has_others(self.cpu),
+            None => false,
+        }
+    }
+
+    /// Call it before a look for anything else that is for this CPU. It sets the CPU's alarm, where the CPU may sleep. It makes no
+    /// step, and does not wait.
+    pub fn before_look(&mut self) {
+        if self.may_sleep() {
+            self.alarm = Some(self.alarms.set(self.cpu));
+        }
+    }
+
+    /// Call it after that look, with whether it has found anything. The CPU is in line where it has found nothing and its alarm is
+    /// set. Then it tries to take the lock once more, if it may, before it sleeps. It makes no step, and does not wait.
+    pub fn lines_up(&mut self, found: bool) -> bool {
+        let Some(alarm) = self.alarm.take() else {
+            return false;
+        };
+        if found {
+            return false;
+        }
+        self.place = Some(self.alarms.line().mark(self.cpu, alarm));
+        true
+    }
+
+    /// Call it where the lock was not taken. Where the CPU is in line, it sleeps until its alarm rings. Else it spins, longer each
+    /// time, and then gives its processor to others.
+    pub fn pause<R: Wait>(&mut self, rt: &R) {
+        self.looks = self.looks.saturating_add(1);
+        match self.place.take() {
+            Some(place) => place.sleep(rt),
+            None => self.backoff.snooze(),
+        }
+    }
+}
