@@ -1,5 +1,5 @@
 -- A stop, out of its parts.
-use Rattle.std.proofs.Common.{◌≡◌, ℕ, ℤ, Option, Bool, true, false, true≢false, ◌||◌}
+use Rattle.std.proofs.Common.{◌≡◌, ◌⊎◌, ℕ, ℤ, Option, Bool, true, false, true≢false, ◌||◌}
 use Rattle.std.proofs.Common.{List, [], ◌∷◌, ◌++◌, slice_index_or}
 use Rattle.std.proofs.Common.{inl, inr, refl, sym, ap, ◌∙◌, subst, append_assoc}
 use Rattle.std.proofs.lemmas.Bool.{cases_eq, ne_eqb}
@@ -30,7 +30,7 @@ use Rattle.smp_machine.specs.MachineCpu.{MachineCpuValue}
 use Rattle.smp_machine.specs.Stops.{item, with_queued, with_stop, AreShown, HasCollected, HasStopped}
 use Rattle.smp_machine.specs.Works.{Works}
 use Rattle.smp_machine.proofs.Served.{later_still, later_same, later_begun, later_collected}
-use Rattle.smp_machine.proofs.Works.{works_still, works_as, works_both}
+use Rattle.smp_machine.proofs.Works.{works_none, works_still, works_as, works_both}
 
 -- ---- a list of moves
 
@@ -56,6 +56,11 @@ note_all-append gate stop x [] ys put noted = refl
 note_all-append gate stop x (cpu ∷ xs) ys put noted =
     note_all-append gate stop x xs ys (put_one x cpu put) (put_one (record { gate = gate; stop = stop; before = total put }) cpu noted)
 
+-- a try of the gate that is not made, or is in vain, enters no stop
+pub tried_inside : {p new : MachineCpuValue} → (new ≡ p) ⊎ (new ≡ record p { stops = misses_gate p.stops }) → new.stops.inside ≡ p.stops.inside
+tried_inside (inl e) = ap (λ (x : MachineCpuValue). x.stops.inside) e
+tried_inside (inr e) = ap (λ (x : MachineCpuValue). x.stops.inside) e
+
 module _ {H F : Type 0} (hears : H → Heard → H → Type 0) (runs : F → Called → F → Type 0) where
   -- one step of the own stop: what it makes of the own part is this
   pub works_step : (p new : MachineCpuValue) (h : H) (f : F) (s : CpuValue) (own : Own) → new ≡ record p { stops = s } → IsLater p.stops s
@@ -80,6 +85,12 @@ module _ {H F : Type 0} (hears : H → Heard → H → Type 0) (runs : F → Cal
       works_step p new h f s (own_of p) e (later_still p.stops s refl refl refl refl refl refl (Busy ∷ [], refl)) refl refl refl refl
       (own_still p.stops s refl refl refl refl (λ _ e _. e) refl)
       (λ i. record (own_of p) { moves = told_same p.stops.moves (Busy ∷ []) refl i })
+
+  -- a try of the gate that is not made, or is in vain
+  pub works_tried : (p new : MachineCpuValue) (h : H) (f : F) → (new ≡ p) ⊎ (new ≡ record p { stops = misses_gate p.stops })
+      → Works hears runs p h f new h f (own_of p)
+  works_tried p new h f (inl e) = subst (λ (x : MachineCpuValue). Works hears runs p h f x h f (own_of p)) (sym e) (works_none hears runs p h f)
+  works_tried p new h f (inr e) = works_missed p new h f e
 
   pub works_looked : (p new : MachineCpuValue) (h : H) (f : F) → new ≡ record p { stops = looks_in_vain p.stops } → Works hears runs p h f new h f (own_of p)
   works_looked p new h f e =

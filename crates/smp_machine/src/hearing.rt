@@ -26,7 +26,7 @@ use smp_calls::{
     Within, call_any, call_async, call_many, call_many_within, call_single, each_cpu_cond,
 };
 use smp_mask::{CpuMask, SmpError};
-use smp_queue::{Alarm, Audit, Boot, CallCpu, CallTable, Handler, Pause};
+use smp_queue::{Alarm, Audit, Boot, CallCpu, CallTable, Handler, LineWait, Pause};
 use smp_words::call::Class;
 use std::alloc::Allocator;
 use std::marker::Model;
@@ -110,14 +110,19 @@ pub(crate) fn wake<A: Allocator>(machine: &Machine<A>, cpu: u32) {
     machine.calls.table.wake(cpu);
 }
 
-/// A wait of a CPU: [`CallTable::pause`].
+/// A wait of a CPU that ends where another one wakes it: [`CallTable::pause_alone`].
 pub(crate) fn pause<'m, A: Allocator>(machine: &'m Machine<A>, me: &MachineCpu<A>) -> Pause<'m> {
-    machine.calls.table.pause(&me.calls)
+    machine.calls.table.pause_alone(&me.calls)
 }
 
-/// Wakes the CPUs that wait asleep: [`CallTable::wake_waiting`].
-pub(crate) fn wake_waiting<A: Allocator>(machine: &Machine<A>) {
-    machine.calls.table.wake_waiting();
+/// A wait of a CPU for the gate: [`CallTable::line`].
+pub(crate) fn line<'m, A: Allocator>(machine: &'m Machine<A>, me: &MachineCpu<A>) -> LineWait<'m> {
+    machine.calls.table.line(&me.calls)
+}
+
+/// Wakes the next CPU that waits for the gate asleep: [`CallTable::wake_next`].
+pub(crate) fn wake_next<A: Allocator>(machine: &Machine<A>) {
+    machine.calls.table.wake_next();
 }
 
 /// Handles the CPU's own interrupt, with interrupts on: whether one was pending.

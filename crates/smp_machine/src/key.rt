@@ -14,11 +14,12 @@ ghost use Rattle.smp_machine.specs.MachineCpu.{IsAt};
 ghost use Rattle.smp_machine.specs.Stops.{MayBegin, HasCollected, HasStopped};
 ghost use Rattle.smp_machine.specs.Works.{Works};
 
+use crate::hearing::pause;
 use crate::machine::Machine;
 use crate::machine_cpu::MachineCpu;
 use crate::stop::{begin, give_gate, look_done, put_to_all, take_gate};
 use crate::take::take_next;
-use crate::turn::{finish_work, turn};
+use crate::turn::{finish_work, turn, turn_and_tell};
 use crossbeam_utils::Backoff;
 use smp_multi::StopFunc;
 use smp_queue::Handler;
@@ -55,7 +56,7 @@ fn run_next<A: Allocator, R: Wait, H: Handler, F: StopFunc>(
     }
 }
 
-/// Runs works until the own patch has run here.
+/// Runs works until the own patch has run here. It spins, since that is in this CPU's queue by then.
 fn run_own_patch<A: Allocator, R: Wait, H: Handler, F: StopFunc>(
     machine: &Machine<A>,
     rt: &R,
@@ -98,13 +99,14 @@ fn collect_quietly<A: Allocator, R: Wait, H: Handler, F: StopFunc>(
     ensures read { me.new.stops.part.readings ≡ me.old.stops.part.readings }
     ensures passes { me.new.passes ≡ me.old.passes }
 {
-    let backoff = Backoff::new();
+    let mut waits = pause(machine, me);
     for _ in rt.forever() {
+        waits.before_look();
         match look_done(machine, me) {
             Some(answer) => return answer,
             None => {
-                turn(machine, me, handler, run);
-                backoff.snooze();
+                let (_, interrupted) = turn_and_tell(machine, me, handler, run);
+                waits.after_look(rt, interrupted);
             }
         }
     }

@@ -14,6 +14,7 @@ use crate::machine_cpu::MachineCpu;
 use crate::open::open;
 use crate::stalls::Stalls;
 use crate::stoppers::Stoppers;
+use crossbeam_utils::CachePadded;
 use smp_labels::LabelMap;
 use smp_mask::{CpuMask, SmpError};
 use smp_multi::StopTable;
@@ -30,7 +31,7 @@ pub struct Machine<A: Allocator> {
     pub(crate) calls: Hearing<A>,
     pub(crate) stops: StopTable<A>,
     pub(crate) queues: Stoppers<A>,
-    pub(crate) stalls: Stalls,
+    pub(crate) stalls: CachePadded<Stalls>,
     after: [u64; 8],
 }
 
@@ -68,7 +69,7 @@ where
         calls,
         stops,
         queues,
-        stalls: Stalls::new(),
+        stalls: CachePadded::new(Stalls::new()),
         after: [0; 8],
     };
     match seat_all(alloc, &machine, call_cpus, stop_cpus, passes) {
@@ -116,9 +117,12 @@ impl<A: Allocator> Machine<A> {
     }
 
     /// Lets CPUs of this machine sleep while they wait. After this number of looks in vain, a CPU sleeps between two looks for the
-    /// end of its call ([`smp_queue::CallTable::sleep_after`]), for the gate, or for the end of its stop
-    /// (`kernel/sched/completion.c: wait_for_completion`). A CPU that takes part in a stop polls, and so does one whose patch of a
-    /// key ends. All CPUs of a new machine poll.
+    /// end of its call ([`smp_queue::CallTable::sleep_after`]), for the gate, for the end of its stop
+    /// (`kernel/sched/completion.c: wait_for_completion`), or, in [`crate::run_cpus`], for the last CPU. All CPUs of a new machine poll.
+    ///
+    /// A CPU that takes part in a stop always spins, as Linux's does (`kernel/stop_machine.c: multi_cpu_stop`): its interrupts are off,
+    /// and the others wait for it. Where a CPU waits for the gate asleep, another one that asks for it sleeps at once. The one that gives
+    /// the gate up wakes the next of them, and the others let that one try first.
     ///
     /// It is asked for before threads share the machine. It makes no step, and does not wait.
     pub fn sleep_after(&mut self, looks: u32)

@@ -6,6 +6,7 @@ ghost use Rattle.smp_machine.specs.Seats.{IsSameSeat, SeatPolls, SeatWorks};
 ghost use Rattle.smp_machine.specs.Takes.{TakesWork};
 ghost use Rattle.smp_machine.specs.Works.{LooksOnceMore, LooksOnceOrMore, TurnsStop};
 
+use crate::poll::poll;
 use crate::seat::Seat;
 use smp_multi::{StopFunc, Turn};
 use smp_queue::Handler;
@@ -55,6 +56,22 @@ impl<'m, A: Allocator, R: Wait, H: Handler + Drop, F: StopFunc + Drop> Seat<'m, 
         self.machine.poll(
             self.rt,
             &mut self.cpu,
+            &mut self.handler,
+            &mut self.functions,
+        )
+    }
+
+    /// As [`Seat::poll`]: whether it took an interrupt or a work.
+    #[tactic(auto, using(crate::proofs::Works::at_still, crate::proofs::Seats::number_worked))]
+    pub(crate) fn poll_and_tell(&mut self) -> bool
+        ensures works { SeatWorks H.leads F.leads self.old self.new (own_of self.old.cpu) }
+        ensures outside { self.new.cpu.stops.inside ≡ None }
+        ensures same { IsSameSeat self.old self.new }
+    {
+        poll(
+            self.machine,
+            self.rt,
+            &mut self.cpu.place,
             &mut self.handler,
             &mut self.functions,
         )

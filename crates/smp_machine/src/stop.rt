@@ -1,7 +1,7 @@
 //! A stop, step by step: a CPU takes the gate, begins its stop, puts the work into the queue of each CPU of the mask, and
 //! waits for the result.
 
-ghost use Rattle.std.specs.Prelude.{◌≡◌, ◌≢◌, ◌<◌, ℕ, true, false, if◌then◌else◌, None, Some, MatchOption, [], ◌∷◌, slice_index_or};
+ghost use Rattle.std.specs.Prelude.{◌≡◌, ◌≢◌, ◌⊎◌, ◌<◌, ℕ, true, false, if◌then◌else◌, None, Some, MatchOption, [], ◌∷◌, slice_index_or};
 ghost use Rattle.smp_mask.specs.Mask.{members};
 ghost use Rattle.smp_words.specs.Size.{cpus};
 ghost use Rattle.smp_multi.specs.Answers.{IsWholeWord, answer_in};
@@ -17,7 +17,7 @@ ghost use Rattle.smp_machine.specs.OwnAnswers.{RunsItself};
 ghost use Rattle.smp_machine.specs.Stops.{MayBegin, item, AreShown, HasCollected, HasStopped};
 ghost use Rattle.smp_machine.specs.Works.{Works};
 
-use crate::hearing::{pause, wake, wake_waiting};
+use crate::hearing::{line, pause, wake, wake_next};
 use crate::machine::Machine;
 use crate::machine_cpu::MachineCpu;
 use crate::poll::poll;
@@ -26,7 +26,7 @@ use crate::turn::turn;
 use crate::work_queue::Item;
 use crossbeam_utils::Backoff;
 use smp_multi::StopFunc;
-use smp_queue::Handler;
+use smp_queue::{Handler, LineWait};
 use smp_words::work::Work;
 use std::alloc::Allocator;
 use std::sync::Wait;
@@ -40,7 +40,35 @@ fn try_gate<A: Allocator>(machine: &Machine<A>, me: &mut MachineCpu<A>) -> bool
     machine.stops.try_gate(&mut me.stops)
 }
 
-/// Takes the gate (`stop_cpus_mutex`), and polls until it is free.
+/// Takes the gate, if it is free and it is the turn of no other CPU.
+fn try_in_turn<A: Allocator>(
+    machine: &Machine<A>,
+    me: &mut MachineCpu<A>,
+    line: &LineWait<'_>,
+) -> bool
+    requires at { IsAt machine.now me.old }
+    ensures taken { result ≡ true → me.new ≡ record me.old { stops = takes_gate me.old.stops } }
+    ensures held { result ≡ false → (me.new ≡ me.old) ⊎ (me.new ≡ record me.old { stops = misses_gate me.old.stops }) }
+{
+    line.may_try() && try_gate(machine, me)
+}
+
+/// Lines up, if it may sleep by then and has found nothing else; then takes the gate, as [`try_in_turn`].
+fn try_in_line<A: Allocator>(
+    machine: &Machine<A>,
+    me: &mut MachineCpu<A>,
+    line: &mut LineWait<'_>,
+    found: bool,
+) -> bool
+    requires at { IsAt machine.now me.old }
+    ensures taken { result ≡ true → me.new ≡ record me.old { stops = takes_gate me.old.stops } }
+    ensures held { result ≡ false → (me.new ≡ me.old) ⊎ (me.new ≡ record me.old { stops = misses_gate me.old.stops }) }
+{
+    line.lines_up(found) && try_in_turn(machine, me, line)
+}
+
+/// Takes the gate (`stop_cpus_mutex`), and polls until it is free. A CPU that may sleep by then lines up, and tries once more before
+/// it sleeps and behind it. So it runs nothing between the two, and the one that is woken takes the gate.
 pub(crate) fn take_gate<A: Allocator, R: Wait, H: Handler, F: StopFunc>(
     machine: &Machine<A>,
     rt: &R,
@@ -54,26 +82,29 @@ pub(crate) fn take_gate<A: Allocator, R: Wait, H: Handler, F: StopFunc>(
         (with_moves (Took ∷ []) (with_gate true (own_of me.old))) }
     ensures outside { me.new.stops.inside ≡ None }
 {
-    let mut waits = pause(machine, me);
+    let mut waits = line(machine, me);
     for _ in rt.forever() {
-        waits.before_look();
-        if try_gate(machine, me) {
+        if try_in_turn(machine, me, &waits) {
             return;
         }
+        waits.before_look();
         let found = poll(machine, rt, me, handler, run);
-        waits.after_look(rt, found);
+        if try_in_line(machine, me, &mut waits, found) {
+            return;
+        }
+        waits.pause(rt);
     }
     unreachable!()
 }
 
-/// Gives the gate up.
+/// Gives the gate up, and wakes the next CPU that waits for it asleep.
 pub(crate) fn give_gate<A: Allocator>(machine: &Machine<A>, me: &mut MachineCpu<A>)
     requires at { IsAt machine.now me.old }
     requires gate { me.old.stops.part.holds ≡ true }
     ensures { me.new ≡ record me.old { stops = gives_gate me.old.stops } }
 {
     match machine.stops.open_gate(&mut me.stops) {
-        Ok(()) => wake_waiting(machine),
+        Ok(()) => wake_next(machine),
         Err(_) => unreachable!(),
     }
 }
@@ -114,7 +145,8 @@ fn try_put<A: Allocator, R: Wait>(
     machine.queues.put(rt, &mut me.passes, &me.stops, cpu, item)
 }
 
-/// Puts the work into this CPU's queue, and wakes it (`cpu_stop_queue_work`). Where that is full, takes a turn and tries again.
+/// Puts the work into this CPU's queue, and wakes it (`cpu_stop_queue_work`). Where that is full, takes a turn and tries again. It
+/// spins meanwhile, since a work that is taken wakes nobody; a queue has room for a work of each CPU.
 fn put<A: Allocator, R: Wait, H: Handler, F: StopFunc>(
     machine: &Machine<A>,
     rt: &R,

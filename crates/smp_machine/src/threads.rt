@@ -11,11 +11,11 @@ ghost use Rattle.smp_machine.specs.Threads.{AreStarted, IsTaskOf};
 
 use crate::boot::MachineBoot;
 use crate::crew::{Crew, Played};
+use crate::hearing::pause;
 use crate::laws::is_shown;
 use crate::machine::Machine;
 use crate::member::{Member, members_of};
 use crate::seat::Seat;
-use crossbeam_utils::Backoff;
 use smp_mask::SmpError;
 use smp_multi::StopFunc;
 use smp_queue::Handler;
@@ -46,7 +46,19 @@ impl<'e, A: Allocator, H: Handler + Drop, F: StopFunc + Drop, C: Crew<H, F, A>> 
 /// A thread that was started.
 type Thread<'e, H, F, C, A> = PromisedHandle<Option<Played<H, F, A>>, Task<'e, C, A>>;
 
-/// Where the crew says that this CPU polls, it polls until all CPUs have played their parts, and once more.
+/// Notes that this CPU has played its part. The last of all CPUs wakes those that wait for this asleep.
+fn note_played<A: Allocator>(machine: &Machine<A>, line: &StartLine) {
+    line.note_done();
+    let online = machine.online();
+    if line.done() >= u64::from(online.weight()) {
+        for cpu in online.iter() {
+            machine.wake(cpu);
+        }
+    }
+}
+
+/// Where the crew says that this CPU polls, it polls until all CPUs have played their parts, and once more. It sleeps between two
+/// polls where the machine lets it.
 fn poll_to_the_end<A: Allocator, R: Wait, H: Handler + Drop, F: StopFunc + Drop, C: Crew<H, F, A>>(
     rt: &R,
     crew: &C,
@@ -61,14 +73,15 @@ fn poll_to_the_end<A: Allocator, R: Wait, H: Handler + Drop, F: StopFunc + Drop,
         return;
     }
     let all = u64::from(seat.online().weight());
-    let backoff = Backoff::new();
+    let mut waits = pause(seat.machine, &seat.cpu.place);
     for _ in rt.forever() {
+        waits.before_look();
         let last = line.done() >= all;
-        seat.poll();
+        let found = seat.poll_and_tell();
         if last {
             return;
         }
-        backoff.snooze();
+        waits.after_look(rt, found);
     }
     unreachable!()
 }
@@ -96,7 +109,7 @@ fn drive<A: Allocator, R: Wait, H: Handler + Drop, F: StopFunc + Drop, C: Crew<H
     } = member;
     let mut seat = Seat::new(machine, rt, cpu, handler, functions);
     crew.play(&mut seat);
-    line.note_done();
+    note_played(machine, line);
     poll_to_the_end(rt, crew, line, &mut seat);
     let (cpu, handler, functions) = seat.into_parts();
     is_shown(machine, &cpu);

@@ -124,7 +124,9 @@ pub(crate) fn turn<A: Allocator, H: Handler, F: StopFunc>(
     turn_and_tell(machine, me, handler, run).0
 }
 
-/// Turns until the work in hand is completed. It may wait; the CPUs of the work's mask must poll.
+/// Turns until the work in hand is completed. It may wait; the CPUs of the work's mask must poll. It spins whatever
+/// [`Machine::sleep_after`] says, as Linux's part in a stop does (`multi_cpu_stop`): the others wait for each of its phases, and an
+/// acknowledgement wakes nobody.
 pub(crate) fn finish_work<A: Allocator, R: Wait, H: Handler, F: StopFunc>(
     machine: &Machine<A>,
     rt: &R,

@@ -2,6 +2,7 @@ mod ends;
 mod hall;
 mod keys;
 mod line;
+mod lines;
 mod member;
 mod rests;
 mod sleeping;

@@ -27,12 +27,12 @@ loop-preserved g c =
     let looked = works_looked hears runs c.loop.me c.look_done.new.me c.loop.handler c.loop.run same in
     let stops = ap (λ (p : MachineCpuValue). p.stops) same in
     let inside = ap (λ (s : CpuValue). s.inside) stops ∙ c.loop.invariant.outside in
-    let still = (c.turn.ensures.stops.none inside).0 in
+    let still = (c.turn_and_tell-interrupted.ensures.stops.none inside).0 in
     record {
-      works = works_after hears runs (λ o. o) c.loop.invariant.works (works_after hears runs (λ o. o) looked c.turn.ensures.works);
+      works = works_after hears runs (λ o. o) c.loop.invariant.works (works_after hears runs (λ o. o) looked c.turn_and_tell-interrupted.ensures.works);
       outside = ap (λ (s : CpuValue). s.inside) still ∙ inside;
       read = ap (λ (s : CpuValue). s.part.readings) still ∙ (ap (λ (s : CpuValue). s.part.readings) stops ∙ c.loop.invariant.read);
-      passes = c.turn.ensures.passes ∙ (ap (λ (p : MachineCpuValue). p.passes) same ∙ c.loop.invariant.passes);
+      passes = c.turn_and_tell-interrupted.ensures.passes ∙ (ap (λ (p : MachineCpuValue). p.passes) same ∙ c.loop.invariant.passes);
     }
 
 pub returns-in-Some-look_done-clause-collected : goal.returns-in-Some-look_done-clause-collected

@@ -16,12 +16,12 @@ pub returns-then-last-clause-works : goal.returns-then-last-clause-works
 returns-then-last-clause-works g c =
     let was = c.loop.invariant in
     works_as g.H.Handler.leads g.F.StopFunc.leads (own_of c.args.seat.now.cpu) was.0.own_is
-    (works_then g.H.Handler.leads g.F.StopFunc.leads was.0 c.poll.ensures.works)
+    (works_then g.H.Handler.leads g.F.StopFunc.leads was.0 c.poll_and_tell-found.ensures.works)
 
 pub loop-preserved : goal.loop-preserved
 loop-preserved g c =
-    let was = c.loop.invariant in let polled = c.poll.ensures.same in (
+    let was = c.loop.invariant in let polled = c.poll_and_tell-found.ensures.same in (
       works_as g.H.Handler.leads g.F.StopFunc.leads (own_of c.args.seat.now.cpu) was.0.own_is
-          (works_then g.H.Handler.leads g.F.StopFunc.leads was.0 c.poll.ensures.works),
+          (works_then g.H.Handler.leads g.F.StopFunc.leads was.0 c.poll_and_tell-found.ensures.works),
       record { machine_is = polled.machine_is ∙ was.1.machine_is; number_is = polled.number_is ∙ was.1.number_is },
     )
