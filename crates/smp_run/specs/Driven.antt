@@ -15,7 +15,7 @@ use Rattle.smp_run.specs.declared.pace.Echo.{Echo}
 use Rattle.smp_run.specs.declared.pace.Paced.{Paced}
 
 -- a CPU of this machine, whose waited calls have ended, with room for the answer of each line
-pub record IsReady (m : MachineValue) (lines : List Directive) (s : Seat) : Type 0 where
+pub record IsReady {A B : Type 0} (m : MachineValue) (lines : List Directive) (s : Seat A B) : Type 0 where
   pub seated : IsSeated m s.cpu
   pub waited : HasWaited s.cpu
   pub sized : vec_len s.answers ≡ length lines
@@ -53,7 +53,7 @@ pub record IsDriven (m : MachineValue) (lines : List Directive) (cpu : ℕ) (ans
   pub shown : IsShown p
 
 -- the CPUs of these numbers, in this order, each with the answers to its lines
-abbrev pub AreDriven : {P A : Type 0} → MachineValue → List Directive → List ℕ → List (Played (Paced P) Echo A) → Type 0
+abbrev pub AreDriven : {P A : Type 0} → MachineValue → List Directive → List ℕ → List (Played (Paced P A) Echo A) → Type 0
 AreDriven m lines numbers back = AreFor (λ n b. IsDriven m lines n b.handler.answers.items b.cpu) numbers back
 
 -- all CPUs that are online are back, with their answers; the lowest of them is this

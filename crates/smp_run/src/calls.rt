@@ -13,10 +13,12 @@ ghost use Rattle.smp_run.specs.Sent.{HasSent, request_calls};
 ghost use Rattle.smp_run.specs.Stays.{IsAtRest, Stays};
 
 use crate::answer::Answer;
-use crate::pace::{Pace, RunSeat};
+use crate::pace::RunSeat;
 use crossbeam_utils::Backoff;
 use smp_mask::{CpuMask, SmpError};
+use smp_queue::Handler;
 use smp_script::request::{Request, Which};
+use std::alloc::Allocator;
 use std::sync::Wait;
 
 fn says(which: Which, cpu: u32) -> bool
@@ -41,7 +43,7 @@ fn answer_or<T, F: FnOnce(T) -> Answer>(made: Result<T, SmpError>, told: F) -> A
 }
 
 /// The number of a seat's CPU, which is the same in both halves of the machine.
-fn number_of<R: Wait, P: Pace>(seat: &RunSeat<'_, '_, R, P>) -> u32
+fn number_of<A: Allocator, R: Wait, H: Handler + Drop>(seat: &RunSeat<'_, A, R, H>) -> u32
     ensures calls { result ≡ seat.now.cpu.calls.number }
     ensures stops { result ≡ seat.now.cpu.stops.number }
 {
@@ -50,7 +52,7 @@ fn number_of<R: Wait, P: Pace>(seat: &RunSeat<'_, '_, R, P>) -> u32
 
 /// A poll of the machine: the CPU handles its own interrupt, and takes part in a stop that calls it.
 #[tactic(auto, using(crate::proofs::Staying::sent_worked, crate::proofs::Making::made_polled))]
-pub(crate) fn poll<R: Wait, P: Pace>(seat: &mut RunSeat<'_, '_, R, P>)
+pub(crate) fn poll<A: Allocator, R: Wait, H: Handler + Drop>(seat: &mut RunSeat<'_, A, R, H>)
     requires rest { IsAtRest seat.old }
     ensures stays { Stays seat.old seat.new }
     ensures sent { HasSent [] seat.old.cpu seat.new.cpu }
@@ -60,8 +62,8 @@ pub(crate) fn poll<R: Wait, P: Pace>(seat: &mut RunSeat<'_, '_, R, P>)
 }
 
 #[tactic(auto, using(crate::proofs::Making::made_called))]
-fn single<R: Wait, P: Pace>(
-    seat: &mut RunSeat<'_, '_, R, P>,
+fn single<A: Allocator, R: Wait, H: Handler + Drop>(
+    seat: &mut RunSeat<'_, A, R, H>,
     wait: bool,
     dst: u32,
     func: u16,
@@ -80,8 +82,8 @@ fn single<R: Wait, P: Pace>(
 
 /// One call by a record of the user; none where the record is busy.
 #[tactic(auto, using(crate::proofs::Calling::user_refused, crate::proofs::Sending::sent_none, crate::proofs::Making::made_called))]
-fn try_user<R: Wait, P: Pace>(
-    seat: &mut RunSeat<'_, '_, R, P>,
+fn try_user<A: Allocator, R: Wait, H: Handler + Drop>(
+    seat: &mut RunSeat<'_, A, R, H>,
     u: u32,
     dst: u32,
     func: u16,
@@ -105,8 +107,8 @@ fn try_user<R: Wait, P: Pace>(
 
 /// A call by record `u` of the user, tried again after a poll while the record is busy.
 #[tactic(auto, using(crate::proofs::Stays::stays_first, crate::proofs::Stays::stays_on))]
-fn user<R: Wait, P: Pace>(
-    seat: &mut RunSeat<'_, '_, R, P>,
+fn user<A: Allocator, R: Wait, H: Handler + Drop>(
+    seat: &mut RunSeat<'_, A, R, H>,
     u: u32,
     dst: u32,
     func: u16,
@@ -132,8 +134,8 @@ fn user<R: Wait, P: Pace>(
 }
 
 #[tactic(auto, using(crate::proofs::Making::made_called))]
-fn any<R: Wait, P: Pace>(
-    seat: &mut RunSeat<'_, '_, R, P>,
+fn any<A: Allocator, R: Wait, H: Handler + Drop>(
+    seat: &mut RunSeat<'_, A, R, H>,
     wait: bool,
     mask: CpuMask,
     func: u16,
@@ -152,8 +154,8 @@ fn any<R: Wait, P: Pace>(
 }
 
 #[tactic(auto, using(crate::proofs::Making::made_called))]
-fn many<R: Wait, P: Pace>(
-    seat: &mut RunSeat<'_, '_, R, P>,
+fn many<A: Allocator, R: Wait, H: Handler + Drop>(
+    seat: &mut RunSeat<'_, A, R, H>,
     wait: bool,
     mask: CpuMask,
     func: u16,
@@ -171,8 +173,8 @@ fn many<R: Wait, P: Pace>(
 }
 
 #[tactic(auto, using(crate::proofs::Making::made_called))]
-fn cond<R: Wait, P: Pace>(
-    seat: &mut RunSeat<'_, '_, R, P>,
+fn cond<A: Allocator, R: Wait, H: Handler + Drop>(
+    seat: &mut RunSeat<'_, A, R, H>,
     which: Which,
     wait: bool,
     mask: CpuMask,
@@ -193,7 +195,12 @@ fn cond<R: Wait, P: Pace>(
     answer_or(made, |cpus| Answer::Cpus(cpus))
 }
 
-fn one<R: Wait, P: Pace>(seat: &mut RunSeat<'_, '_, R, P>, dst: u32, func: u16, arg: u64) -> Answer
+fn one<A: Allocator, R: Wait, H: Handler + Drop>(
+    seat: &mut RunSeat<'_, A, R, H>,
+    dst: u32,
+    func: u16,
+    arg: u64,
+) -> Answer
     requires rest { IsAtRest seat.old }
     requires small { arg < 2 ^ 31 }
     ensures stays { Stays seat.old seat.new }
@@ -207,8 +214,8 @@ fn one<R: Wait, P: Pace>(seat: &mut RunSeat<'_, '_, R, P>, dst: u32, func: u16, 
     answer_or(made, |answer| Answer::Number(answer))
 }
 
-fn two<R: Wait, P: Pace>(
-    seat: &mut RunSeat<'_, '_, R, P>,
+fn two<A: Allocator, R: Wait, H: Handler + Drop>(
+    seat: &mut RunSeat<'_, A, R, H>,
     a: u32,
     b: u32,
     func: u16,
@@ -227,8 +234,8 @@ fn two<R: Wait, P: Pace>(
     answer_or(made, |answer| Answer::Number(answer))
 }
 
-fn stop_all<R: Wait, P: Pace>(
-    seat: &mut RunSeat<'_, '_, R, P>,
+fn stop_all<A: Allocator, R: Wait, H: Handler + Drop>(
+    seat: &mut RunSeat<'_, A, R, H>,
     active: Option<CpuMask>,
     func: u16,
     arg: u64,
@@ -246,7 +253,11 @@ fn stop_all<R: Wait, P: Pace>(
     answer_or(made, |answer| Answer::Number(answer))
 }
 
-fn set<R: Wait, P: Pace>(seat: &mut RunSeat<'_, '_, R, P>, k: u32, on: bool) -> Answer
+fn set<A: Allocator, R: Wait, H: Handler + Drop>(
+    seat: &mut RunSeat<'_, A, R, H>,
+    k: u32,
+    on: bool,
+) -> Answer
     requires rest { IsAtRest seat.old }
     ensures stays { Stays seat.old seat.new }
     ensures answer { IsRefusedOr (key_refusal (keys_at seat.old.machine) k) IsTruth result }
@@ -257,7 +268,7 @@ fn set<R: Wait, P: Pace>(seat: &mut RunSeat<'_, '_, R, P>, k: u32, on: bool) -> 
     answer_or(made, |turned| Answer::Turned(turned))
 }
 
-fn inc<R: Wait, P: Pace>(seat: &mut RunSeat<'_, '_, R, P>, k: u32) -> Answer
+fn inc<A: Allocator, R: Wait, H: Handler + Drop>(seat: &mut RunSeat<'_, A, R, H>, k: u32) -> Answer
     requires rest { IsAtRest seat.old }
     ensures stays { Stays seat.old seat.new }
     ensures answer { IsRefusedOr (key_refusal (keys_at seat.old.machine) k) (IsCount Full) result }
@@ -268,7 +279,7 @@ fn inc<R: Wait, P: Pace>(seat: &mut RunSeat<'_, '_, R, P>, k: u32) -> Answer
     answer_or(made, |turned| Answer::Turned(turned))
 }
 
-fn dec<R: Wait, P: Pace>(seat: &mut RunSeat<'_, '_, R, P>, k: u32) -> Answer
+fn dec<A: Allocator, R: Wait, H: Handler + Drop>(seat: &mut RunSeat<'_, A, R, H>, k: u32) -> Answer
     requires rest { IsAtRest seat.old }
     ensures stays { Stays seat.old seat.new }
     ensures answer { IsRefusedOr (key_refusal (keys_at seat.old.machine) k) (IsCount Zero) result }
@@ -280,7 +291,10 @@ fn dec<R: Wait, P: Pace>(seat: &mut RunSeat<'_, '_, R, P>, k: u32) -> Answer
 }
 
 /// What a request asks for, once, and its answer.
-pub(crate) fn make<R: Wait, P: Pace>(seat: &mut RunSeat<'_, '_, R, P>, request: Request) -> Answer
+pub(crate) fn make<A: Allocator, R: Wait, H: Handler + Drop>(
+    seat: &mut RunSeat<'_, A, R, H>,
+    request: Request,
+) -> Answer
     requires rest { IsAtRest seat.old }
     requires fits { RequestFits request }
     ensures stays { Stays seat.old seat.new }

@@ -14,22 +14,23 @@ use crate::answer::Answer;
 use crate::calls::make;
 use crate::pace::{Echo, Pace, Paced, RunSeat};
 use smp_machine::{Cpu, Crew, Machine};
+use smp_queue::Handler;
 use smp_script::directive::Directive;
 use smp_script::request::Request;
-use std::alloc::{AllocError, Global};
+use std::alloc::{AllocError, Allocator};
 use std::mem;
 use std::sync::Wait;
 
 /// What the thread of a CPU has: the CPU, and room for the answer of each line of the script.
 #[derive(Drop)]
-pub struct Seat {
-    pub cpu: Cpu<Global>,
-    pub answers: Vec<Answer, Global>,
+pub struct Seat<A: Allocator, B: Allocator> {
+    pub cpu: Cpu<A>,
+    pub answers: Vec<Answer, B>,
 }
 
 /// Makes what a request asks for, this number of times. Returns the last answer.
-fn repeat<R: Wait, P: Pace>(
-    seat: &mut RunSeat<'_, '_, R, P>,
+fn repeat<A: Allocator, R: Wait, H: Handler + Drop>(
+    seat: &mut RunSeat<'_, A, R, H>,
     count: u32,
     request: &Request,
 ) -> Answer
@@ -51,8 +52,8 @@ fn repeat<R: Wait, P: Pace>(
 
 /// Answers a line, where it is the CPU's own.
 #[tactic(auto, using(crate::proofs::Stays::stays_first))]
-fn answer_if<R: Wait, P: Pace>(
-    seat: &mut RunSeat<'_, '_, R, P>,
+fn answer_if<A: Allocator, R: Wait, H: Handler + Drop>(
+    seat: &mut RunSeat<'_, A, R, H>,
     line: &Directive,
     answer: &mut Answer,
 )
@@ -75,8 +76,8 @@ fn answer_if<R: Wait, P: Pace>(
 
 /// Answers the CPU's own lines, in order.
 #[tactic(auto, using(crate::proofs::Lines::line_at))]
-fn answer_all<R: Wait, P: Pace>(
-    seat: &mut RunSeat<'_, '_, R, P>,
+fn answer_all<A: Allocator, R: Wait, H: Handler + Drop>(
+    seat: &mut RunSeat<'_, A, R, H>,
     lines: &[Directive],
     answers: &mut [Answer],
 )
@@ -95,7 +96,9 @@ fn answer_all<R: Wait, P: Pace>(
 }
 
 /// Takes the answers from the CPU's handler, and leaves none there.
-fn take_answers<R: Wait, P: Pace>(seat: &mut RunSeat<'_, '_, R, P>) -> Vec<Answer, Global>
+fn take_answers<A: Allocator, B: Allocator + Copy, R: Wait, P: Pace>(
+    seat: &mut RunSeat<'_, A, R, Paced<'_, P, B>>,
+) -> Vec<Answer, B>
     ensures taken { result ≡ seat.old.handler.answers }
     ensures machine { seat.new.machine ≡ seat.old.machine }
     ensures cpu { seat.new.cpu ≡ seat.old.cpu }
@@ -105,7 +108,10 @@ fn take_answers<R: Wait, P: Pace>(seat: &mut RunSeat<'_, '_, R, P>) -> Vec<Answe
 }
 
 /// Leaves answers with the CPU's handler.
-fn leave_answers<R: Wait, P: Pace>(seat: &mut RunSeat<'_, '_, R, P>, answers: Vec<Answer, Global>)
+fn leave_answers<A: Allocator, B: Allocator, R: Wait, P: Pace>(
+    seat: &mut RunSeat<'_, A, R, Paced<'_, P, B>>,
+    answers: Vec<Answer, B>,
+)
     ensures left { seat.new.handler.answers ≡ answers }
     ensures machine { seat.new.machine ≡ seat.old.machine }
     ensures cpu { seat.new.cpu ≡ seat.old.cpu }
@@ -114,7 +120,10 @@ fn leave_answers<R: Wait, P: Pace>(seat: &mut RunSeat<'_, '_, R, P>, answers: Ve
 }
 
 /// Makes the CPU's own lines, and leaves their answers with its handler.
-fn make_lines<R: Wait, P: Pace>(seat: &mut RunSeat<'_, '_, R, P>, lines: &[Directive])
+fn make_lines<A: Allocator, B: Allocator + Copy, R: Wait, P: Pace>(
+    seat: &mut RunSeat<'_, A, R, Paced<'_, P, B>>,
+    lines: &[Directive],
+)
     requires seated { IsSeated seat.old.machine seat.old.cpu }
     requires waited { HasWaited seat.old.cpu }
     requires lawful { AreLines seat.old.machine.calls.online lines.now }
@@ -132,13 +141,13 @@ fn make_lines<R: Wait, P: Pace>(seat: &mut RunSeat<'_, '_, R, P>, lines: &[Direc
 ///
 /// It may wait for other CPUs, which have to poll. A call by a record of the user that finds its record busy is made once that
 /// is free again.
-pub fn play<R: Wait, P: Pace>(
+pub fn play<A: Allocator, B: Allocator + Copy, R: Wait, P: Pace>(
     rt: &R,
-    machine: &Machine<Global>,
+    machine: &Machine<A>,
     lines: &[Directive],
     pace: &P,
-    seat: Seat,
-) -> Seat
+    seat: Seat<A, B>,
+) -> Seat<A, B>
     requires lawful { AreLines machine.now.calls.online lines.now }
     requires ready { IsReady machine.now lines.now seat }
     // It is ready for other lines: each of its calls that waits has ended.
@@ -163,15 +172,17 @@ pub fn play<R: Wait, P: Pace>(
     Seat { cpu, answers }
 }
 
-/// What the CPUs of a run do: each makes its own lines of the script.
+/// What the CPUs of a run do: each makes its own lines of the script. The answers have their own memory, whatever that of the
+/// machine is.
 #[derive(Drop)]
-pub(crate) struct Lines<'a, P> {
-    pub(crate) alloc: Global,
+pub(crate) struct Lines<'a, P, B: Allocator> {
+    pub(crate) alloc: B,
     pub(crate) lines: &'a [Directive],
     pub(crate) pace: &'a P,
 }
 
-impl<'a, P: Pace> Crew<Paced<'a, P>, Echo, Global> for Lines<'a, P> {
+impl<'a, P: Pace, A: Allocator, B: Allocator + Copy> Crew<Paced<'a, P, B>, Echo, A>
+    for Lines<'a, P, B> {
     ghost use Rattle.std.specs.Prelude.{◌≡◌, length, vec_len};
     ghost use Rattle.smp_run.specs.Driven.{MakesLines};
     ghost use Rattle.smp_run.specs.Seats.{AreLines};
@@ -186,7 +197,7 @@ impl<'a, P: Pace> Crew<Paced<'a, P>, Echo, Global> for Lines<'a, P> {
     // The pace says so.
     ghost leaves = { λ _ _. Unit {0} };
 
-    fn make(&self, cpu: u32) -> Result<(Paced<'a, P>, Echo), AllocError> {
+    fn make(&self, cpu: u32) -> Result<(Paced<'a, P, B>, Echo), AllocError> {
         let answers = Vec::from_elem(self.alloc, Answer::Done, self.lines.len())?;
         let handler = Paced {
             pace: self.pace,
@@ -196,7 +207,7 @@ impl<'a, P: Pace> Crew<Paced<'a, P>, Echo, Global> for Lines<'a, P> {
         Ok((handler, Echo))
     }
 
-    fn play<R: Wait>(&self, seat: &mut RunSeat<'_, 'a, R, P>) {
+    fn play<R: Wait>(&self, seat: &mut RunSeat<'_, A, R, Paced<'a, P, B>>) {
         make_lines(seat, self.lines);
     }
 

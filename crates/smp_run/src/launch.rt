@@ -13,12 +13,12 @@ use crate::driver::Lines;
 use crate::pace::{Echo, Pace, Paced};
 use smp_machine::{Cpu, Machine, MachineBoot, Played, run_cpus};
 use smp_script::directive::Directive;
-use std::alloc::Global;
+use std::alloc::Allocator;
 use std::sync::Wait;
 use std::thread::Threads;
 
 /// A CPU of a run that is back.
-type Back<'a, P> = Played<Paced<'a, P>, Echo, Global>;
+type Back<'a, P, A> = Played<Paced<'a, P, A>, Echo, A>;
 
 /// The CPU that a line is of.
 fn cpu_of(line: &Directive) -> u32
@@ -46,7 +46,7 @@ fn gather(lines: &[Directive], number: u32, from: &[Answer], answers: &mut [Answ
 }
 
 /// The first of some CPUs.
-fn first_of(first: Option<Cpu<Global>>, next: Cpu<Global>) -> Cpu<Global>
+fn first_of<A: Allocator>(first: Option<Cpu<A>>, next: Cpu<A>) -> Cpu<A>
     ensures { MatchOption first (result ≡ next) (λ c. result ≡ c) }
 {
     match first {
@@ -56,12 +56,12 @@ fn first_of(first: Option<Cpu<Global>>, next: Cpu<Global>) -> Cpu<Global>
 }
 
 /// Puts the answers of each CPU among those of all: the lowest CPU. None where there is no CPU.
-fn gather_all<'a, P: Pace>(
-    machine: &Machine<Global>,
+fn gather_all<'a, P: Pace, A: Allocator>(
+    machine: &Machine<A>,
     lines: &[Directive],
-    back: Vec<Back<'a, P>, Global>,
+    back: Vec<Back<'a, P, A>, A>,
     answers: &mut [Answer],
-) -> Option<Cpu<Global>>
+) -> Option<Cpu<A>>
     requires limits { AreLimits machine.now.calls.nr machine.now.calls.online }
     requires sized { length answers.old ≡ length lines.now }
     requires back { AreDriven machine.now lines.now (members machine.now.calls.online) back.items }
@@ -78,20 +78,20 @@ fn gather_all<'a, P: Pace>(
 
 /// What a run gives: the answers of all lines, and the lowest CPU.
 #[derive(Drop)]
-pub struct Driven {
-    pub answers: Vec<Answer, Global>,
-    pub last: Cpu<Global>,
+pub struct Driven<A: Allocator> {
+    pub answers: Vec<Answer, A>,
+    pub last: Cpu<A>,
 }
 
 /// Runs each CPU on a thread of its own, which makes its lines. None where a thread can't be started, or memory is refused:
 /// then no CPU has begun.
-pub(crate) fn run_all<R: Wait + Threads + Sync, P: Pace + Sync>(
+pub(crate) fn run_all<R: Wait + Threads + Sync, P: Pace + Sync, A: Allocator + Copy + Send + Sync>(
     rt: &R,
-    machine: &Machine<Global>,
-    boot: MachineBoot<Global>,
-    crew: &Lines<'_, P>,
-    mut answers: Vec<Answer, Global>,
-) -> Option<Driven>
+    machine: &Machine<A>,
+    boot: MachineBoot<A>,
+    crew: &Lines<'_, P, A>,
+    mut answers: Vec<Answer, A>,
+) -> Option<Driven<A>>
     requires limits { AreLimits machine.now.calls.nr machine.now.calls.online }
     requires full { IsFull boot machine.now }
     requires lawful { AreLines machine.now.calls.online crew.now.lines.now }

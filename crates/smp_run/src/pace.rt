@@ -7,7 +7,8 @@ use crate::answer::Answer;
 use smp_machine::Seat;
 use smp_multi::StopFunc;
 use smp_queue::Handler;
-use std::alloc::Global;
+use std::alloc::Allocator;
+use std::sync::Wait;
 
 /// Is told of each call as its function runs, and says which CPUs poll at the end. All threads of a run share it.
 pub trait Pace {
@@ -33,13 +34,13 @@ impl Pace for FreePace {
 /// The functions that calls run on a CPU: each tells the pace. They keep the answers to the CPU's lines, which its part leaves
 /// here.
 #[derive(Drop)]
-pub(crate) struct Paced<'a, P: Pace> {
+pub(crate) struct Paced<'a, P: Pace, B: Allocator> {
     pub(crate) pace: &'a P,
     pub(crate) cpu: u32,
-    pub(crate) answers: Vec<Answer, Global>,
+    pub(crate) answers: Vec<Answer, B>,
 }
 
-impl<'a, P: Pace> Handler for Paced<'a, P> {
+impl<'a, P: Pace, B: Allocator> Handler for Paced<'a, P, B> {
     ghost leads = { λ before _ after. after.answers ≡ before.answers };
 
     fn call(&mut self, src: u32, func: u16, info: u64) {
@@ -59,5 +60,5 @@ impl StopFunc for Echo {
     }
 }
 
-/// A CPU of a run at its seat.
-pub(crate) type RunSeat<'m, 'a, R, P> = Seat<'m, Global, R, Paced<'a, P>, Echo>;
+/// A CPU of a run at its seat, with any handler.
+pub(crate) type RunSeat<'m, A, R, H> = Seat<'m, A, R, H, Echo>;

@@ -9,17 +9,17 @@ ghost use Rattle.smp_run.specs.Seats.{IsSeated, keys_at, sites_at};
 use smp_labels::{LabelMap, SiteKind};
 use smp_machine::laws::interrupts_are_on;
 use smp_machine::{Cpu, Machine};
-use std::alloc::{AllocError, Global};
+use std::alloc::{AllocError, Allocator};
 
 /// Which keys are on, and what is at each site.
 #[derive(Drop)]
-pub(crate) struct LabelReadings {
-    pub(crate) keys: Vec<bool, Global>,
-    pub(crate) sites: Vec<SiteKind, Global>,
+pub(crate) struct LabelReadings<A: Allocator> {
+    pub(crate) keys: Vec<bool, A>,
+    pub(crate) sites: Vec<SiteKind, A>,
 }
 
 /// Whether a key is on.
-fn read_key(machine: &Machine<Global>, me: &mut Cpu<Global>, k: u32) -> bool
+fn read_key<A: Allocator>(machine: &Machine<A>, me: &mut Cpu<A>, k: u32) -> bool
     requires seated { IsSeated machine.now me.old }
     requires key { k < keys_at machine.now }
     ensures { ReadsMore machine.now (ReadKey k result) me.old me.new }
@@ -32,7 +32,7 @@ fn read_key(machine: &Machine<Global>, me: &mut Cpu<Global>, k: u32) -> bool
 }
 
 /// What is at a site.
-fn read_site(machine: &Machine<Global>, me: &mut Cpu<Global>, i: u32) -> SiteKind
+fn read_site<A: Allocator>(machine: &Machine<A>, me: &mut Cpu<A>, i: u32) -> SiteKind
     requires seated { IsSeated machine.now me.old }
     requires site { i < sites_at machine.now }
     ensures { ReadsMore machine.now (ReadSite i (jumps result)) me.old me.new }
@@ -46,12 +46,12 @@ fn read_site(machine: &Machine<Global>, me: &mut Cpu<Global>, i: u32) -> SiteKin
 
 /// The keys, ascending.
 #[tactic(auto, using(crate::proofs::Readings::none_read))]
-fn read_keys(
-    alloc: Global,
-    machine: &Machine<Global>,
-    me: &mut Cpu<Global>,
+fn read_keys<A: Allocator>(
+    alloc: A,
+    machine: &Machine<A>,
+    me: &mut Cpu<A>,
     count: u32,
-) -> Result<Vec<bool, Global>, AllocError>
+) -> Result<Vec<bool, A>, AllocError>
     requires seated { IsSeated machine.now me.old }
     requires count { count ≡ keys_at machine.now }
     ensures { IfOk result (λ keys. HasRead machine.now me.old me.new (keys_read keys.items) × (length keys.items ≡ count)) }
@@ -66,12 +66,12 @@ fn read_keys(
 
 /// The sites, ascending.
 #[tactic(auto, using(crate::proofs::Readings::none_read))]
-fn read_sites(
-    alloc: Global,
-    machine: &Machine<Global>,
-    me: &mut Cpu<Global>,
+fn read_sites<A: Allocator>(
+    alloc: A,
+    machine: &Machine<A>,
+    me: &mut Cpu<A>,
     count: u32,
-) -> Result<Vec<SiteKind, Global>, AllocError>
+) -> Result<Vec<SiteKind, A>, AllocError>
     requires seated { IsSeated machine.now me.old }
     requires count { count ≡ sites_at machine.now }
     ensures read { IfOk result (λ sites. HasRead machine.now me.old me.new (sites_read sites.items) × (length sites.items ≡ count)) }
@@ -86,12 +86,12 @@ fn read_sites(
 }
 
 /// All keys, and then all sites.
-pub(crate) fn read_labels(
-    alloc: Global,
-    machine: &Machine<Global>,
+pub(crate) fn read_labels<A: Allocator + Copy>(
+    alloc: A,
+    machine: &Machine<A>,
     labels: &LabelMap,
-    me: &mut Cpu<Global>,
-) -> Result<LabelReadings, AllocError>
+    me: &mut Cpu<A>,
+) -> Result<LabelReadings<A>, AllocError>
     requires seated { IsSeated machine.now me.old }
     requires labels { machine.now.stops.setting.labels ≡ labels.now }
     ensures read { IfOk result (λ r. HasRead machine.now me.old me.new (keys_read r.keys.items ++ sites_read r.sites.items)) }

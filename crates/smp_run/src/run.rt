@@ -21,14 +21,14 @@ use smp_mask::SmpError;
 use smp_queue::Audit;
 use smp_script::directive::Directive;
 use smp_script::script::Script;
-use std::alloc::{AllocError, Global};
+use std::alloc::{AllocError, Allocator};
 use std::sync::Wait;
 use std::thread::Threads;
 
 /// What a run printed, and whether calls were left.
 #[derive(Drop)]
-pub struct Ran {
-    pub text: String<Global>,
+pub struct Ran<A: Allocator> {
+    pub text: String<A>,
     pub left: bool,
 }
 
@@ -42,14 +42,14 @@ fn is_left(audit: &Audit) -> bool
 }
 
 /// Reads the labels, gives up the machine and its last CPU, and tells the answers, of which the first is of line `first`.
-fn finish(
-    alloc: Global,
-    machine: Machine<Global>,
+fn finish<A: Allocator + Copy>(
+    alloc: A,
+    machine: Machine<A>,
     labels: &LabelMap,
     first: usize,
     lines: &[Directive],
-    driven: Driven,
-) -> Result<Ran, AllocError>
+    driven: Driven<A>,
+) -> Result<Ran<A>, AllocError>
     requires limits { AreLimits machine.calls.nr machine.calls.online }
     requires first { first ≤ 4 }
     requires labels { machine.stops.setting.labels ≡ labels.now }
@@ -69,7 +69,7 @@ fn finish(
 }
 
 /// The labels of a script: none where it has no labels line.
-fn labels_of<'a>(script: &'a Script<Global>, none: &'a LabelMap) -> &'a LabelMap
+fn labels_of<'a, A: Allocator>(script: &'a Script<A>, none: &'a LabelMap) -> &'a LabelMap
     requires { none.now ≡ labels_of None }
     ensures { result.now ≡ labels_of script.now.labels }
 {
@@ -80,7 +80,7 @@ fn labels_of<'a>(script: &'a Script<Global>, none: &'a LabelMap) -> &'a LabelMap
 }
 
 /// The number of the first line that asks for something.
-fn first_of(script: &Script<Global>) -> usize
+fn first_of<A: Allocator>(script: &Script<A>) -> usize
     ensures value { result ≡ first_line script.now.labels }
     ensures few { result ≤ 4 }
 {
@@ -88,13 +88,13 @@ fn first_of(script: &Script<Global>) -> usize
 }
 
 /// Drives the CPUs of a machine that has made no call by the lines of a script.
-fn run_machine<R: Threads + Wait + Sync, P: Pace + Sync>(
+fn run_machine<R: Threads + Wait + Sync, P: Pace + Sync, A: Allocator + Copy + Send + Sync>(
     rt: &R,
-    alloc: Global,
-    opened: (Machine<Global>, MachineBoot<Global>),
-    script: &Script<Global>,
+    alloc: A,
+    opened: (Machine<A>, MachineBoot<A>),
+    script: &Script<A>,
     pace: &P,
-) -> Result<Ran, AllocError>
+) -> Result<Ran<A>, AllocError>
     requires limits { AreLimits script.now.nr script.now.online }
     requires lawful { AreLines script.now.online script.now.directives.items }
     requires nr { opened.0.calls.nr ≡ script.now.nr }
@@ -118,12 +118,12 @@ fn run_machine<R: Threads + Wait + Sync, P: Pace + Sync>(
 /// Drives each CPU of a run script that is online on a thread of its own, from a machine with no calls, no stops and all
 /// keys off: what it prints. `NoMemory` where a growth is refused or a thread can't be started. That is before any CPU has
 /// begun, or once all have ended.
-pub fn run_lines<R: Threads + Wait + Sync, P: Pace + Sync>(
+pub fn run_lines<R: Threads + Wait + Sync, P: Pace + Sync, A: Allocator + Copy + Send + Sync>(
     rt: &R,
-    alloc: Global,
-    script: &Script<Global>,
+    alloc: A,
+    script: &Script<A>,
     pace: &P,
-) -> Result<Ran, SmpError>
+) -> Result<Ran<A>, SmpError>
     requires limits { AreLimits script.now.nr script.now.online }
     requires lawful { AreLines script.now.online script.now.directives.items }
     ensures ran { IfOk result (λ r. Printed (meaning_of script.now) (string_bytes r.text) r.left) }

@@ -180,7 +180,7 @@ fn write_audit<A: Allocator>(out: &mut String<A>, audit: &Audit) -> Result<(), A
 pub(crate) fn write_ending<A: Allocator>(
     out: &mut String<A>,
     online: CpuMask,
-    read: &LabelReadings,
+    read: &LabelReadings<A>,
     audit: &Audit,
 ) -> Result<(), AllocError>
     requires { IfDrained audit.now AreEqual }

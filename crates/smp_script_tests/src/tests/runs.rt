@@ -1,7 +1,7 @@
 mod failures;
 mod paces;
 
-use crate::tests::runs::paces::{Asks, Counts, Finds, Follows, Lets, Meets, Stays};
+use crate::tests::runs::paces::{Asks, Counts, Finds, Follows, Holds, Lets, Meets, Stays};
 use smp_mask::SmpError;
 use smp_run::*;
 use smp_script::{Outcome, Watched};
@@ -351,6 +351,30 @@ fn a_cpu_polls_for_a_busy_record(rt: HostRuntime) {
     let (answer, _written) = run(&rt, rt.alloc(), script, &pace);
     assert_eq!(rt; answer, Ok(Outcome::Done));
     assert!(rt; pace.was_let());
+}
+
+// CPU 0 makes a call, a stop of CPU 1, and a call. CPU 1 is in function 1 from the first call on, and this gives up before function
+// 2 runs: the stop waits for it, and the last call is made after the stop.
+#[test]
+fn calls_and_stops_are_in_the_order_of_the_script(rt: HostRuntime) {
+    let script: &[u8] = b"\
+        smp 1 run\n\
+        cpus 3 0-2\n\
+        do 0 1 sync 0 3 0\n\
+        do 0 1 one 1 5 6\n\
+        do 0 1 sync 0 2 0\n\
+        do 2 1 sync 2 4 0\n\
+        do 2 1 async 1 1 0\n\
+        ";
+    let pace = Holds::new();
+    let (answer, written) = run(&rt, rt.alloc(), script, &pace);
+    assert_eq!(rt; answer, Ok(Outcome::Done));
+    assert!(rt;
+        written
+            .as_slice()
+            .starts_with(b"3 ok\n4 6\n5 ok\n6 ok\n7 ok\n")
+    );
+    assert_eq!(rt; pace.late(), 1);
 }
 
 // All CPUs are done before CPU 1 polls for the first time, and its one poll runs what was queued for it.

@@ -6,7 +6,7 @@ use Rattle.smp_run.proofs.Readings.{more_read}
 use Rattle.smp_run.proofs.reading.read_keys.Goals as goal
 
 pub loop-k-preserved : goal.loop-k-preserved
-loop-k-preserved c =
+loop-k-preserved g c =
     let was = c.loop-k.invariant in let old = c.loop-k.keys.items in let item = c.read_key-on.result in
     let items : c.push.new.self.items ≡ old ++ item ∷ [] = c.in_ok-push.ensures.items in
     let all : HasRead c.args.machine.now c.args.me.now c.read_key-on.new.me (keys_read (old ++ item ∷ [])) =

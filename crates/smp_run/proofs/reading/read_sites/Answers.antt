@@ -7,7 +7,7 @@ use Rattle.smp_run.proofs.Readings.{more_read}
 use Rattle.smp_run.proofs.reading.read_sites.Goals as goal
 
 pub loop-i-preserved : goal.loop-i-preserved
-loop-i-preserved c =
+loop-i-preserved g c =
     let was = c.loop-i.invariant in let old = c.loop-i.sites.items in let item = c.read_site-kind.result in
     let items : c.push.new.self.items ≡ old ++ item ∷ [] = c.in_ok-push.ensures.items in
     let all : HasRead c.args.machine.now c.args.me.now c.read_site-kind.new.me (sites_read (old ++ item ∷ [])) =

@@ -9,7 +9,7 @@ use Rattle.smp_run.proofs.Running.{has_asked, run_read}
 use Rattle.smp_run.proofs.run.finish.Goals as goal
 
 pub returns : goal.returns
-returns c =
+returns g c =
     let m = c.args.machine in let t = m.calls in let lines = c.args.lines.now in let answers = c.args.driven.answers.items in
     let joined = c.requires.joined in let first = c.args.driven.last in let last = c.read_labels.new.me in let read = c.in_ok-read.ensures.read in
     let answered : Answered t.online c.args.labels.now.keys (λ n. has t.online n ≡ true) lines answers =

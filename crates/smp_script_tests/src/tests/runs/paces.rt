@@ -273,3 +273,66 @@ impl Pace for Counts {
         true
     }
 }
+
+/// How often a function looks in vain before it gives up on purpose.
+const PATIENCE: u32 = 100_000;
+
+/// Function 1 waits for function 2, and gives up soon. Function 3 waits until function 1 has begun, and function 4 for function 3.
+#[derive(Drop)]
+pub struct Holds {
+    one: AtomicU64,
+    two: AtomicU64,
+    three: AtomicU64,
+    /// How often function 1 gave up.
+    late: AtomicU64,
+}
+
+impl Holds {
+    pub fn new() -> Holds {
+        Holds {
+            one: AtomicU64::new(0),
+            two: AtomicU64::new(0),
+            three: AtomicU64::new(0),
+            late: AtomicU64::new(0),
+        }
+    }
+
+    pub fn late(&self) -> u64 {
+        self.late.load(Ordering::SeqCst)
+    }
+}
+
+/// Looks this number of times whether a function has begun.
+fn wait_for(begun: &AtomicU64, turns: u32) -> bool {
+    for _ in 0..turns {
+        if begun.load(Ordering::SeqCst) == 1 {
+            return true;
+        }
+    }
+    false
+}
+
+impl Pace for Holds {
+    fn entered(&self, _cpu: u32, _src: u32, func: u16, _info: u64) {
+        match func {
+            1 => {
+                self.one.store(1, Ordering::SeqCst);
+                if !wait_for(&self.two, PATIENCE) {
+                    self.late.fetch_add(1, Ordering::SeqCst);
+                }
+            }
+            2 => self.two.store(1, Ordering::SeqCst),
+            3 => {
+                self.three.store(1, Ordering::SeqCst);
+                wait_for(&self.one, TURNS);
+            }
+            _ => {
+                wait_for(&self.three, TURNS);
+            }
+        }
+    }
+
+    fn polls(&self, _cpu: u32) -> bool {
+        true
+    }
+}
