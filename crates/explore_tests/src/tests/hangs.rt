@@ -169,6 +169,42 @@ cpu 2 repeat handle
 cpu 2 send 0
 ";
 
+// Two calls of the library crosswise; each CPU takes its interrupt once more behind its call.
+const CALLS_CROSSWISE: &str = "smp 1 explore
+cpus 2 0-1
+cpu 0 call_single 1 7 42 wait
+cpu 0 handle
+cpu 1 call_single 0 7 42 wait
+cpu 1 handle
+";
+
+// A call of the library to all others, without wait.
+const CALL_TO_ALL: &str = "smp 1 explore
+cpus 3 0-2
+cpu 0 call_many 0-2 7 42 nowait
+cpu 1 repeat handle
+cpu 2 repeat handle
+";
+
+// A stop of the library, of which CPU 1 is one.
+const STOP_MACHINE: &str = "smp 1 explore
+cpus 2 0-1
+cpu 0 stop_machine none 5 9
+cpu 1 repeat enter 0 with handle
+cpu 1 repeat advance 0 with handle
+cpu 1 repeat advance 0 with handle
+cpu 1 repeat advance 0 with handle
+cpu 1 repeat advance 0 with handle
+cpu 1 finish
+";
+
+// And one in which CPU 1 takes no part: CPU 0 waits for the second phase after 18 steps, and CPU 1 has ended after three.
+const STOP_ALONE: &str = "smp 1 explore
+cpus 2 0-1
+cpu 0 stop_machine 0 5 9
+cpu 1 handle
+";
+
 // The verdicts and numbers are those of another search, over another simulator of the machine, which takes a state for a hang
 // where no order from there on moves a program on or changes a word.
 #[test]
@@ -184,6 +220,10 @@ fn what_hangs(rt: HostRuntime) -> Result<(), SmpError> {
         (STOPS_CROSSWISE, Some(38)),
         (ROUND, Some(0)),
         (ROUND_BEGUN, None),
+        (CALLS_CROSSWISE, None),
+        (CALL_TO_ALL, None),
+        (STOP_MACHINE, None),
+        (STOP_ALONE, Some(21)),
     ];
     for (text, steps) in cases {
         assert_eq!(rt; steps_to_hang(rt.alloc(), text)?, steps, "{text}");
