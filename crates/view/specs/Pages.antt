@@ -13,7 +13,9 @@ use Rattle.trace_events.specs.declared.rows.What.TheVariants.{Stepped}
 use Rattle.view.specs.Cells.{cell_of}
 use Rattle.view.specs.Choice.{marked_in}
 use Rattle.view.specs.declared.choice.Mark.{Mark}
-use Rattle.view.specs.declared.page_text.TheConstants.{BEFORE_EVENTS, BEFORE_MARK, FOOT, HEAD}
+use Rattle.view.specs.declared.page_replay.TheConstants.{BEFORE_EVENTS, BEFORE_MARK, PARTS, REPLAY}
+use Rattle.view.specs.declared.page_script.TheConstants.{HELPERS, LANES}
+use Rattle.view.specs.declared.page_style.TheConstants.{STYLE}
 
 -- what a step found and what it put, where it did
 abbrev pub found_in : What → Option ℕ
@@ -38,7 +40,8 @@ row_line row =
 -- the script, the lines of all events and the number of the marked one, each between constants
 abbrev pub page_of : Option Mark → List ℕ → List Row → List ℕ
 page_of mark text rows =
-    HEAD.now ++ text ++ BEFORE_EVENTS.now ++ flat_map row_line rows ++ BEFORE_MARK.now ++ number_text (marked_in mark rows) ++ FOOT.now
+    STYLE.now ++ PARTS.now ++ text ++ BEFORE_EVENTS.now ++ flat_map row_line rows ++ BEFORE_MARK.now ++ number_text (marked_in mark rows)
+    ++ HELPERS.now ++ REPLAY.now ++ LANES.now
 
 -- The text is a lawful script, and this is the page of its replay: of what `Core` answers to its events, one after the other.
 pub record IsPaged (mark : Option Mark) (text out : List ℕ) (ending : Outcome) : Type 0 where

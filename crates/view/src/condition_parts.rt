@@ -53,17 +53,22 @@ fn head<'a, A: Allocator>(alloc: A, field: &'a [u8]) -> Result<&'a [u8], AllocEr
     Ok(found.first().copied().unwrap_or(field))
 }
 
-// Whether each part behind the first has digits alone, and at most 32 bits where that is asked for.
-fn are_numbers<A: Allocator>(alloc: A, field: &[u8], is_short: bool) -> Result<bool, AllocError> {
+// Whether each part behind the first is a number, of at most 32 bits where that is asked for. The name of a slot's word may follow.
+fn are_numbers<A: Allocator + Copy>(
+    alloc: A,
+    field: &[u8],
+    is_short: bool,
+) -> Result<bool, AllocError> {
     let most = if is_short {
         u64::from(u32::MAX)
     } else {
         u64::MAX
     };
     let found = parts(alloc, field, b'.')?;
+    let is_of_slot = is_word(head(alloc, field)?, b"slot");
     Ok(
         found.iter().skip(1).all(|part| {
-            let is_name = part.iter().all(|b| b.is_ascii_lowercase());
+            let is_name = is_of_slot && part.iter().all(|b| b.is_ascii_lowercase());
             is_name || number(part, 0, most).is_ok()
         }),
     )

@@ -108,6 +108,9 @@ pub fn domain_of<'a>(setting: &TextSetting, template: &str, name: &'a str) -> Do
     match name {
         "VERSION" | "CLASS" | "KIND" | "W" | "GROUP" => words_in(setting.kind, name),
         "NR" | "MASK" | "C" | "CPU" => cpus_in(setting, template, name),
+        "ACTIVE" if template.contains("stop_machine") => Domain::MaskOrNone,
+        "DST" if template.contains("call_single") => Domain::Member,
+        "K" if template.contains("set_key") => Domain::Number(0, 3),
         "FUNC" | "INFO" | "ARG" | "ACTIVE" => argument_in(setting.kind, name),
         "KEYS" => Domain::Number(0, 4),
         "ITEMS" => Domain::Items,

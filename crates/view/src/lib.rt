@@ -2,7 +2,8 @@
 //! lawful.
 //!
 //! - `show`: A script from a reader, and what is shown of it to a writer; `svg`, `json`: as a picture, and as trace events.
-//! - `page`, `page_text`: A replay as a page of HTML to step through, and what each such page has.
+//! - `page`, `page_replay`: A replay as a page of HTML to step through; `page_style`, `page_script`: what each page has.
+//! - `laws`: What is in a page, for a reader of its text.
 //! - `choice`: Which events are shown.
 //! - `lanes`, `narrow_lanes`, `cell`, `pad`: A replay with one column for each CPU, or one mark.
 //! - `picture`, `areas`, `arrows`, `legend`, `element`: A replay as a picture.
@@ -28,13 +29,16 @@ pub mod frame;
 mod idle_handles;
 mod json;
 pub mod lanes;
+pub mod laws;
 mod legend;
 mod match_template;
 mod narrow_lanes;
 pub mod open_close;
 mod pad;
 mod page;
-mod page_text;
+mod page_replay;
+pub mod page_script;
+pub mod page_style;
 pub mod picture;
 mod print_bytes;
 pub mod show;

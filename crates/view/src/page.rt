@@ -9,7 +9,9 @@ ghost use Rattle.view.specs.Pages.{IsPaged, found_in, number_text, page_of, put_
 
 use crate::cell::cell;
 use crate::choice::{Choice, Mark};
-use crate::page_text::{BEFORE_EVENTS, BEFORE_MARK, FOOT, HEAD};
+use crate::page_replay::{BEFORE_EVENTS, BEFORE_MARK, PARTS, REPLAY};
+use crate::page_script::{HELPERS, LANES};
+use crate::page_style::STYLE;
 use smp_mask::SmpError;
 use smp_script::script::read_script;
 use smp_script::{Mode, Outcome};
@@ -105,9 +107,10 @@ fn push_events<A: Allocator>(
     text: &[u8],
     events: &[u8],
 ) -> Result<(), AllocError>
-    ensures { OnOk result (out.new.items ≡ out.old.items ++ HEAD.now ++ text.now ++ BEFORE_EVENTS.now ++ events.now) }
+    ensures { OnOk result (out.new.items ≡ out.old.items ++ STYLE.now ++ PARTS.now ++ text.now ++ BEFORE_EVENTS.now ++ events.now) }
 {
-    out.extend_from_slice(HEAD.as_bytes())?;
+    out.extend_from_slice(STYLE.as_bytes())?;
+    out.extend_from_slice(PARTS.as_bytes())?;
     out.extend_from_slice(text)?;
     out.extend_from_slice(BEFORE_EVENTS.as_bytes())?;
     out.extend_from_slice(events)
@@ -115,11 +118,13 @@ fn push_events<A: Allocator>(
 
 // The rest of a page: the event at which it opens, and its script.
 fn push_foot<A: Allocator>(out: &mut Vec<u8, A>, marked: &[u8]) -> Result<(), AllocError>
-    ensures { OnOk result (out.new.items ≡ out.old.items ++ BEFORE_MARK.now ++ marked.now ++ FOOT.now) }
+    ensures { OnOk result (out.new.items ≡ out.old.items ++ BEFORE_MARK.now ++ marked.now ++ HELPERS.now ++ REPLAY.now ++ LANES.now) }
 {
     out.extend_from_slice(BEFORE_MARK.as_bytes())?;
     out.extend_from_slice(marked)?;
-    out.extend_from_slice(FOOT.as_bytes())
+    out.extend_from_slice(HELPERS.as_bytes())?;
+    out.extend_from_slice(REPLAY.as_bytes())?;
+    out.extend_from_slice(LANES.as_bytes())
 }
 
 // The page of a replay, which opens at the event that is marked.

@@ -26,6 +26,15 @@ const COMMANDS: [&str; 16] = [
 /// What may be made between two tries of a command that is repeated.
 const BETWEEN: [&str; 3] = ["handle", "enter SLOT", "advance RET"];
 
+/// The calls of the library that a line of an exploration may be.
+const CALLS: [&str; 5] = [
+    "call_single DST FUNC INFO W",
+    "call_many MASK FUNC INFO W",
+    "stop_machine ACTIVE FUNC ARG",
+    "set_key K on",
+    "set_key K off",
+];
+
 /// What a CPU of a run may call.
 const OPERATIONS: [&str; 13] = [
     "sync DST FUNC INFO",
@@ -132,6 +141,7 @@ fn push_body<A: Allocator + Copy>(
         TextKind::Run => push_behind(alloc, found, "do CPU N ", &OPERATIONS),
         TextKind::Exploration => {
             push_behind(alloc, found, "cpu C ", &COMMANDS)?;
+            push_behind(alloc, found, "cpu C ", &CALLS)?;
             push_repeated(alloc, found, "cpu C repeat ")?;
             push_repeated(alloc, found, "cpu C repeat N ")?;
             push_behind(
