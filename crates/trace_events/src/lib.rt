@@ -19,7 +19,7 @@ pub mod rows;
 mod script_trace;
 mod step_events;
 mod stops;
-mod text;
+pub mod text;
 pub mod trace;
 
 pub use script_trace::show_events;

@@ -13,4 +13,5 @@ pub fails : (A : Type 0) {S : Type 0} (why : Refusal) (s : S) (made : Result S R
     → Keeps (Err why) s made → Reads {A = A} (Err why) (made >>= more)
 fails A refusal.NoMemory s made more h = tt
 fails A refusal.TooLong s made more h = rw h refl
+fails A refusal.LongTrace s made more h = rw h refl
 fails A (refusal.Wrong line wrong) s made more h = rw h refl

@@ -1,5 +1,6 @@
 -- What is kept of the lines of a text.
-use Rattle.std.specs.Prelude.{◌≡◌, ℕ, ◌+◌, Bool, true, false, not, ◌==◌, ◌&&◌, ◌||◌, if◌then◌else◌, nat_le, zero, suc, List, [], ◌∷◌, ◌++◌, length, Option, Some, None}
+use Rattle.std.specs.Prelude.{◌≡◌, ℕ, ◌+◌, Bool, true, false, not, ◌==◌, ◌&&◌, ◌||◌, if◌then◌else◌, nat_le, zero, suc}
+use Rattle.std.specs.Prelude.{List, [], ◌∷◌, ◌++◌, length, Option, Some, None}
 use Rattle.std.specs.Str.{bytes_eq}
 use Rattle.trace_ftrace.specs.declared.kept.Mark.{Mark}
 use Rattle.trace_ftrace.specs.declared.sign.Sign.{Sign}
@@ -27,13 +28,23 @@ numbered_at None name names = (length names, names ++ name ∷ [])
 unfoldable pub numbered : List ℕ → List (List ℕ) → ℕ × List (List ℕ)
 numbered name names = numbered_at (name_place 0 name names) name names
 
--- a mark is that this CPU queues this record, and no line of its own has told the sort
+-- a mark is that this CPU queues this record
 abbrev pub is_queue_of_sign : ℕ → ℕ → ℕ → Sign → Bool
-is_queue_of_sign cpu address of (sign.Queue to queued s told) = of == cpu && queued == address && not told
+is_queue_of_sign cpu address of (sign.Queue to queued s told) = of == cpu && queued == address
 is_queue_of_sign cpu address of _ = false
 
 abbrev pub is_queue_of : ℕ → ℕ → Mark → Bool
 is_queue_of cpu address m = is_queue_of_sign cpu address m.at.cpu m.sign
+
+-- some mark is
+abbrev pub has_queue : ℕ → ℕ → List Mark → Bool
+has_queue cpu address [] = false
+has_queue cpu address (m ∷ ms) = is_queue_of cpu address m || has_queue cpu address ms
+
+-- a line of its own has told the sort of what is queued
+abbrev pub is_told : Sign → Bool
+is_told (sign.Queue to queued s told) = told
+is_told _ = false
 
 -- what is queued is told to be of this sort; wakes remain wakes
 abbrev pub sorted_sign : Sort → Sign → Sign
@@ -44,15 +55,16 @@ sorted_sign s other = other
 abbrev pub sorted : Sort → Mark → Mark
 sorted s m = record { at = m.at; func = m.func; sign = sorted_sign s m.sign }
 
--- the marks with the last of this CPU and record being of this sort
-abbrev pub or_here : Option (List Mark) → Bool → Mark → Mark → List Mark → Option (List Mark)
-or_here (Some later) here m made ms = Some (m ∷ later)
-or_here None true m made ms = Some (made ∷ ms)
-or_here None false m made ms = None
+-- the marks with the last of this CPU and record being of this sort; none where there is none, or its sort has been told
+abbrev pub behind_first : Mark → Option (List Mark) → Option (List Mark)
+behind_first m (Some later) = Some (m ∷ later)
+behind_first m None = None
 
 abbrev pub classed : ℕ → ℕ → Sort → List Mark → Option (List Mark)
 classed cpu address s [] = None
-classed cpu address s (m ∷ ms) = or_here (classed cpu address s ms) (is_queue_of cpu address m) m (sorted s m) ms
+classed cpu address s (m ∷ ms) =
+    if has_queue cpu address ms then behind_first m (classed cpu address s ms)
+    else (if is_queue_of cpu address m && not (is_told m.sign) then Some (sorted s m ∷ ms) else None)
 
 -- there was such a mark and these are the marks with it, or there was none
 abbrev pub Classed : Bool → List Mark → List Mark → Option (List Mark) → Type 0

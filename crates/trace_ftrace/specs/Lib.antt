@@ -9,6 +9,7 @@ pub mod Names
 pub mod NamesView
 pub mod Numbers
 pub mod Options
+pub mod Print
 pub mod Reading
 pub mod Signs
 pub mod SourceView
@@ -20,4 +21,5 @@ pub mod Text
 pub mod Told
 pub mod ToldView
 pub mod Verdict
+pub mod Waits
 pub mod Words

@@ -1,5 +1,6 @@
 -- The events of stops that marks tell.
-use Rattle.std.specs.Prelude.{ℕ, ℤ, Bool, true, false, if◌then◌else◌, List, [], ◌∷◌, ◌++◌, slice_index_or, slice_set, remove, Option, Some, None, is_some, Result, Ok, Err}
+use Rattle.std.specs.Prelude.{ℕ, ℤ, Bool, true, false, if◌then◌else◌, List, [], ◌∷◌, ◌++◌, slice_index_or, slice_set, remove}
+use Rattle.std.specs.Prelude.{Option, Some, None, is_some, Result, Ok, Err}
 use Rattle.trace_model.specs.declared.event.Event.TheVariants as event
 use Rattle.trace_model.specs.declared.event.StopEvent.{StopEvent}
 use Rattle.trace_model.specs.declared.event.StopEvent.TheVariants as stops
@@ -26,17 +27,17 @@ abbrev pub task_of : Plan → Task
 task_of p = record { kind = p.kind; mask = p.mask; active = p.active; func = p.work.func; arg = p.work.arg }
 
 -- with an event of stops
-abbrev pub with_stop : ℕ → ℕ → StopEvent → TellingValue → TellingValue
-with_stop line cpu e t = with_event line cpu (event.Stop e) t
+abbrev pub with_stop : Stamp → ℕ → StopEvent → TellingValue → TellingValue
+with_stop at cpu e t = with_event at cpu (event.Stop e) t
 
 -- a stop is opened, as that of the least CPU that is the source of none
-abbrev pub opened_as : ℕ → Plan → Option ℕ → TellingValue → Result TellingValue Refusal
-opened_as line p None t = Err (refusal.Wrong line wrong.Stops)
-opened_as line p (Some source) t =
-    Ok (with_stop line source (stops.Open (task_of p)) (record t { stops = t.stops ++ record { source = source; plan = p; has_begun = false } ∷ [] }))
+abbrev pub opened_as : Stamp → Plan → Option ℕ → TellingValue → Result TellingValue Refusal
+opened_as at p None t = Err (refusal.Wrong at.line wrong.Stops)
+opened_as at p (Some source) t =
+    Ok (with_stop at source (stops.Open (task_of p)) (record t { stops = t.stops ++ record { source = source; plan = p; has_begun = false } ∷ [] }))
 
-unfoldable pub opened : ℕ → Plan → TellingValue → Result TellingValue Refusal
-opened line p t = opened_as line p (free_source t.cpus t.stops) t
+unfoldable pub opened : Stamp → Plan → TellingValue → Result TellingValue Refusal
+opened at p t = opened_as at p (free_source t.cpus t.stops) t
 
 -- a task opens a rendezvous of many CPUs while it waits for a stop
 abbrev pub waits_in : ℕ → List OpenStop → Bool
@@ -47,12 +48,12 @@ is_again (opening.Machine bits) task ss = waits_in task ss
 is_again (opening.Inactive bits) task ss = waits_in task ss
 is_again other task ss = false
 
-abbrev pub opened_if : ℕ → Option Plan → TellingValue → Result TellingValue Refusal
-opened_if line None t = Ok t
-opened_if line (Some p) t = opened line p t
+abbrev pub opened_if : Stamp → Option Plan → TellingValue → Result TellingValue Refusal
+opened_if at None t = Ok t
+opened_if at (Some p) t = opened at p t
 
 unfoldable pub begun : Stamp → Opening → Work → List Mark → TellingValue → Result TellingValue Refusal
-begun at o work behind t = if is_again o at.task t.stops then Ok t else opened_if at.line (plan_of o work at behind) t
+begun at o work behind t = if is_again o at.task t.stops then Ok t else opened_if at (plan_of o work at behind) t
 
 -- a CPU enters a rendezvous, whose data is known from there on; nothing of one that is not open
 abbrev pub known_as : ℕ → OpenStop → OpenStop
@@ -61,7 +62,7 @@ known_as d s = record s { plan = record s.plan { ident = Some d } }
 abbrev pub entered_at : Stamp → ℕ → Option Found → TellingValue → TellingValue
 entered_at at d None t = t
 entered_at at d (Some f) t =
-    with_stop at.line at.cpu (stops.Enter f.stop.source)
+    with_stop at at.cpu (stops.Enter f.stop.source)
     (record t { stops = slice_set t.stops f.place (known_as d f.stop); inside = slice_set t.inside at.cpu (Some f.stop.source) })
 
 unfoldable pub entered : Stamp → ℕ → ℕ → TellingValue → Result TellingValue Refusal
@@ -70,7 +71,7 @@ entered at d func t = Ok (entered_at at d (found_from 0 (wanted.Entered at.cpu d
 -- an event of a CPU that is in a rendezvous
 abbrev pub told_in : Option ℕ → Stamp → StopEvent → TellingValue → TellingValue
 told_in None at e t = t
-told_in (Some source) at e t = with_stop at.line at.cpu e t
+told_in (Some source) at e t = with_stop at at.cpu e t
 
 abbrev pub inside_at : Stamp → StopEvent → TellingValue → TellingValue
 inside_at at e t = told_in (slice_index_or t.inside at.cpu None) at e t
@@ -81,7 +82,7 @@ inside_told at e t = Ok (inside_at at e t)
 -- a CPU leaves it
 abbrev pub left_at : Stamp → ℤ → Option ℕ → TellingValue → TellingValue
 left_at at v None t = t
-left_at at v (Some source) t = with_stop at.line at.cpu (stops.Complete v) (record t { inside = slice_set t.inside at.cpu None })
+left_at at v (Some source) t = with_stop at at.cpu (stops.Complete v) (record t { inside = slice_set t.inside at.cpu None })
 
 unfoldable pub left : Stamp → ℤ → TellingValue → Result TellingValue Refusal
 left at v t = Ok (left_at at v (slice_index_or t.inside at.cpu None) t)
@@ -93,33 +94,33 @@ begun_as s = record s { has_begun = true }
 abbrev pub started_at : Stamp → Work → Option Found → TellingValue → TellingValue
 started_at at work None t = t
 started_at at work (Some f) t =
-    with_stop at.line at.cpu (stops.Run work.func work.arg) (with_stop at.line at.cpu (stops.Enter f.stop.source)
+    with_stop at at.cpu (stops.Run work.func work.arg) (with_stop at at.cpu (stops.Enter f.stop.source)
     (record t { stops = slice_set t.stops f.place (begun_as f.stop); alone = slice_set t.alone at.cpu (Some f.stop.source) }))
 
 unfoldable pub started : Stamp → Work → TellingValue → Result TellingValue Refusal
 started at work t = Ok (started_at at work (found_from 0 (wanted.Begun at.cpu work) t.stops) t)
 
 -- a stop has its answer, and is no longer open
-unfoldable pub collected : ℕ → Found → ℤ → TellingValue → TellingValue
-collected line f v t = with_stop line f.stop.source (stops.Collect v) (record t { stops = remove t.stops f.place })
+unfoldable pub collected : Stamp → Found → ℤ → TellingValue → TellingValue
+collected at f v t = with_stop at f.stop.source (stops.Collect v) (record t { stops = remove t.stops f.place })
 
 -- the same where nobody waits for it
-abbrev pub collected_alone : ℕ → Option ℕ → Found → ℤ → TellingValue → TellingValue
-collected_alone line (Some task) f v t = t
-collected_alone line None f v t = collected line f v t
+abbrev pub collected_alone : Stamp → Option ℕ → Found → ℤ → TellingValue → TellingValue
+collected_alone at (Some task) f v t = t
+collected_alone at None f v t = collected at f v t
 
-abbrev pub unwaited_at : ℕ → Option Found → ℤ → TellingValue → TellingValue
-unwaited_at line None v t = t
-unwaited_at line (Some f) v t = collected_alone line f.stop.plan.task f v t
+abbrev pub unwaited_at : Stamp → Option Found → ℤ → TellingValue → TellingValue
+unwaited_at at None v t = t
+unwaited_at at (Some f) v t = collected_alone at f.stop.plan.task f v t
 
-unfoldable pub unwaited : ℕ → ℕ → ℤ → TellingValue → TellingValue
-unwaited line source v t = unwaited_at line (found_from 0 (wanted.Of source) t.stops) v t
+unfoldable pub unwaited : Stamp → ℕ → ℤ → TellingValue → TellingValue
+unwaited at source v t = unwaited_at at (found_from 0 (wanted.Of source) t.stops) v t
 
 -- the work that a CPU began is done
 abbrev pub done_at : Stamp → ℤ → Option ℕ → TellingValue → TellingValue
 done_at at v None t = t
 done_at at v (Some source) t =
-    unwaited at.line source v (with_stop at.line at.cpu (stops.Complete v) (record t { alone = slice_set t.alone at.cpu None }))
+    unwaited at source v (with_stop at at.cpu (stops.Complete v) (record t { alone = slice_set t.alone at.cpu None }))
 
 unfoldable pub done : Stamp → ℤ → TellingValue → TellingValue
 done at v t = done_at at v (slice_index_or t.alone at.cpu None) t
@@ -127,7 +128,7 @@ done at v t = done_at at v (slice_index_or t.alone at.cpu None) t
 -- a task has the answer for which it waits
 abbrev pub closed_at : Stamp → ℤ → Option Found → TellingValue → TellingValue
 closed_at at v None t = t
-closed_at at v (Some f) t = collected at.line f v t
+closed_at at v (Some f) t = collected at f v t
 
 unfoldable pub closed : Stamp → ℤ → TellingValue → TellingValue
 closed at v t = closed_at at v (found_from 0 (wanted.OfTask at.task) t.stops) t

@@ -1,5 +1,6 @@
 -- The stops that are open, as the lines of a text show them.
-use Rattle.std.specs.Prelude.{ℕ, ◌+◌, ◌^◌, Bool, false, not, ◌==◌, ◌&&◌, nat_lt, if◌then◌else◌, List, [], ◌∷◌, Option, Some, None, is_none}
+use Rattle.std.specs.Prelude.{ℕ, ◌+◌, ◌^◌, Bool, false, not, ◌==◌, ◌&&◌, nat_lt, if◌then◌else◌}
+use Rattle.std.specs.Prelude.{List, [], ◌∷◌, Option, Some, None, is_none}
 use Rattle.std.specs.Int.Bits.{bit_or}
 use Rattle.smp_mask.specs.Mask.{has}
 use Rattle.smp_words.specs.declared.work.Kind.TheVariants as kinds
@@ -128,5 +129,5 @@ found_from i w (s ∷ ss) = if is_wanted w s then Some (record { place = i; stop
 abbrev pub is_free : List OpenStop → ℕ → Bool
 is_free stops source = is_none (found_from 0 (wanted.Of source) stops)
 
-unfoldable pub free_source : ℕ → List OpenStop → Option ℕ
+abbrev pub free_source : ℕ → List OpenStop → Option ℕ
 free_source cpus stops = first_from (is_free stops) 0 cpus

@@ -1,6 +1,7 @@
 -- What marks tell up to one.
 use Rattle.std.specs.Prelude.{ℕ, List, [], ◌∷◌, ◌++◌, Option}
 use Rattle.trace_model.specs.declared.event.Event.{Event}
+use Rattle.trace_ftrace.specs.declared.kept.Stamp.{Stamp}
 use Rattle.trace_ftrace.specs.declared.stops.OpenStop.{OpenStop}
 use Rattle.trace_ftrace.specs.declared.told.Told.{Told}
 
@@ -15,6 +16,6 @@ pub record TellingValue : Type 0 where
   pub inside : List (Option ℕ)
   pub alone : List (Option ℕ)
 
--- with an event of this line and CPU
-abbrev pub with_event : ℕ → ℕ → Event → TellingValue → TellingValue
-with_event line cpu e t = record t { told = t.told ++ record { line = line; cpu = cpu; event = e } ∷ [] }
+-- with an event of this CPU, told by this line
+abbrev pub with_event : Stamp → ℕ → Event → TellingValue → TellingValue
+with_event at cpu e t = record t { told = t.told ++ record { line = at.line; cpu = cpu; time = at.time; event = e } ∷ [] }

@@ -1,5 +1,6 @@
 -- What is printed of the verdict on a text.
-use Rattle.std.specs.Prelude.{◌≡◌, ℕ, ◌+◌, Bool, false, ◌==◌, ◌&&◌, nat_lt, if◌then◌else◌, List, [], ◌∷◌, ◌++◌, Option, Some, None, Result, Ok, Err, Vec, codes}
+use Rattle.std.specs.Prelude.{◌≡◌, ℕ, ◌+◌, Bool, false, ◌==◌, ◌&&◌, nat_lt, if◌then◌else◌, List, [], ◌∷◌, ◌++◌}
+use Rattle.std.specs.Prelude.{Option, Some, None, Result, Ok, Err, Vec, codes}
 use Rattle.std.specs.Fmt.{decimal}
 use Rattle.smp_script.specs.Lines.{Line, lines_of}
 use Rattle.trace_model.specs.State.{StateValue}
@@ -21,6 +22,7 @@ use Rattle.trace_ftrace.specs.Kept.{KeptValue}
 use Rattle.trace_ftrace.specs.Names.{NamesValue, broken_line}
 use Rattle.trace_ftrace.specs.Telling.{TellingValue}
 use Rattle.trace_ftrace.specs.Verdict.{ruling_of as ruling_of_told}
+use Rattle.trace_ftrace.specs.Waits.{is_queue, waits_text}
 use Rattle.trace_ftrace.specs.declared.counts.Counts.{Counts}
 use Rattle.trace_ftrace.specs.declared.kept.Mark.{Mark}
 use Rattle.trace_ftrace.specs.declared.names.BrokenEvent.{BrokenEvent}
@@ -28,15 +30,22 @@ use Rattle.trace_ftrace.specs.declared.told.Told.{Told}
 use Rattle.trace_ftrace.specs.declared.wrong.Refusal.{Refusal}
 use Rattle.trace_ftrace.specs.declared.wrong.Refusal.TheVariants as refusal
 
--- a text, with the kernel's names in it, what its lines show, and the events that these tell
+-- a text, with the kernel's names in it, what its lines show, the events that these tell, and what wait of a call is told
 pub record SourceValue : Type 0 where
   pub text : List ℕ
   pub names : NamesValue
   pub marks : List Mark
   pub told : List Told
+  pub slow : ℕ
 
-abbrev pub source_of : List ℕ → KeptValue → TellingValue → SourceValue
-source_of text k t = record { text = text; names = record { addresses = t.addresses; functions = k.names }; marks = k.marks; told = t.told }
+abbrev pub source_of : List ℕ → ℕ → KeptValue → TellingValue → SourceValue
+source_of text slow k t = record {
+  text = text;
+  names = record { addresses = t.addresses; functions = k.names };
+  marks = k.marks;
+  told = t.told;
+  slow = slow;
+}
 
 -- the line of a number, where the first has number k
 abbrev pub line_from : ℕ → ℕ → List Line → List ℕ
@@ -73,10 +82,6 @@ abbrev pub broken_record : Event → Reason → Option ℕ
 broken_record e why = or_event (named_record why) e
 
 -- the line before this one that has queued a record last, or else what was found before
-abbrev pub is_queue : ℕ → Event → Bool
-is_queue id (event.Call (calls.Queue queued to class func info)) = queued == id
-is_queue id _ = false
-
 abbrev pub last_queue : ℕ → ℕ → List Told → Option ℕ → Option ℕ
 last_queue id line [] found = found
 last_queue id line (x ∷ xs) found = last_queue id line xs (if nat_lt x.line line && is_queue id x.event then Some x.line else found)
@@ -139,9 +144,16 @@ broken_lines x b unshown =
 abbrev pub broken_of : ℕ → ℕ → Event → Reason → BrokenEvent
 broken_of line cpu e why = record { line = line; cpu = cpu; event = e; why = why }
 
+unfoldable pub verdict_text : {A : Type 0} → SourceValue → Verdict A → List ℕ
+verdict_text x (Lawful events state) = lawful_lines events state (counts_of x.marks x.told)
+verdict_text x (Broken line cpu e why) = broken_lines x (broken_of line cpu e why) (counts_of x.marks x.told).unshown
+
+-- and behind it the calls that wait
+abbrev pub waits_of : SourceValue → List ℕ
+waits_of x = waits_text x.names x.slow x.told []
+
 unfoldable pub shown_text : {A : Type 0} → SourceValue → Verdict A → List ℕ
-shown_text x (Lawful events state) = lawful_lines events state (counts_of x.marks x.told)
-shown_text x (Broken line cpu e why) = broken_lines x (broken_of line cpu e why) (counts_of x.marks x.told).unshown
+shown_text x v = verdict_text x v ++ waits_of x
 
 -- whether a verdict is that the text is lawful
 abbrev pub ruling_of : {A : Type 0} → Verdict A → Ruling
@@ -150,21 +162,23 @@ ruling_of (Broken line cpu event why) = rulings.Broken
 
 -- this is printed of a verdict, and the text is lawful or not
 abbrev pub IsPrinted : List ℕ → Ruling → SourceValue → Result (ℕ × StateValue) EarlyEnd → Type 0
-IsPrinted out ruling x (Ok (events, state)) = (out ≡ lawful_lines events state (counts_of x.marks x.told)) × (ruling ≡ rulings.Lawful)
+IsPrinted out ruling x (Ok (events, state)) =
+    (out ≡ lawful_lines events state (counts_of x.marks x.told) ++ waits_of x) × (ruling ≡ rulings.Lawful)
 IsPrinted out ruling x (Err (early_end.Broken line cpu e why)) =
-    (out ≡ broken_lines x (broken_of line cpu e why) (counts_of x.marks x.told).unshown) × (ruling ≡ rulings.Broken)
+    (out ≡ broken_lines x (broken_of line cpu e why) (counts_of x.marks x.told).unshown ++ waits_of x) × (ruling ≡ rulings.Broken)
 IsPrinted out ruling x (Err _) = ⊥
 
 -- what was answered is what is printed of that verdict on these events, unless memory ran out
-abbrev pub PrintsRuling : {A : Type 0} → Result (Vec ℕ A × Ruling) Refusal → SourceValue → Result (Result (ℕ × StateValue) EarlyEnd) Refusal → Type 0
+abbrev pub PrintsRuling : {A : Type 0} → Result (Vec ℕ A × Ruling) Refusal → SourceValue → Result (Result (ℕ × StateValue) EarlyEnd) Refusal
+    → Type 0
 PrintsRuling (Ok (out, ruling)) x (Ok made) = IsPrinted out.items ruling x made
 PrintsRuling (Ok (out, ruling)) x (Err why) = ⊥
 PrintsRuling (Err refusal.NoMemory) x made = Unit {0}
 PrintsRuling (Err why) x made = made ≡ Err why
 
 -- the same of a text, by what is read of it
-abbrev pub Prints : {A : Type 0} → Result (Vec ℕ A × Ruling) Refusal → List ℕ → Result (KeptValue × TellingValue) Refusal → Type 0
-Prints answer text (Ok (k, t)) = PrintsRuling answer (source_of text k t) (ruling_of_told t.told)
-Prints (Ok (out, ruling)) text (Err why) = ⊥
-Prints (Err refusal.NoMemory) text (Err why) = Unit {0}
-Prints (Err told) text (Err why) = why ≡ told
+abbrev pub Prints : {A : Type 0} → Result (Vec ℕ A × Ruling) Refusal → List ℕ → ℕ → Result (KeptValue × TellingValue) Refusal → Type 0
+Prints answer text slow (Ok (k, t)) = PrintsRuling answer (source_of text slow k t) (ruling_of_told t.told)
+Prints (Ok (out, ruling)) text slow (Err why) = ⊥
+Prints (Err refusal.NoMemory) text slow (Err why) = Unit {0}
+Prints (Err told) text slow (Err why) = why ≡ told

@@ -1,6 +1,6 @@
 -- The events that marks tell.
-use Rattle.std.specs.Prelude.{◌≡◌, ℕ, ◌+◌, ◌==◌, nat_lt, if◌then◌else◌, List, [], ◌∷◌, ◌++◌, length, replicate, slice_index_or, slice_set, min}
-use Rattle.std.specs.Prelude.{Option, Some, None, Result, Ok, Err}
+use Rattle.std.specs.Prelude.{◌≡◌, ℕ, ◌+◌, ◌==◌, nat_lt, if◌then◌else◌, List, [], ◌∷◌, ◌++◌, length}
+use Rattle.std.specs.Prelude.{replicate, slice_index_or, slice_set, min, Option, Some, None, Result, Ok, Err}
 use Rattle.smp_words.specs.FirstFault.{◌>>=◌}
 use Rattle.smp_words.specs.declared.call.Class.{Class}
 use Rattle.trace_model.specs.declared.event.CallEvent.{CallEvent}
@@ -51,7 +51,7 @@ Numbers (Err why) new made = made ≡ Err why
 
 -- with an event of calls of a mark
 abbrev pub with_told : Mark → CallEvent → TellingValue → TellingValue
-with_told m e t = with_event m.at.line m.at.cpu (event.Call e) t
+with_told m e t = with_event m.at m.at.cpu (event.Call e) t
 
 -- with a call that joins a queue
 unfoldable pub queued : Mark → ℕ → ℕ → Class → TellingValue → Result TellingValue Refusal

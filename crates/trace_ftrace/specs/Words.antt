@@ -1,5 +1,6 @@
 -- The words of a line, and the parts of a word.
-use Rattle.std.specs.Prelude.{ℕ, ◌-◌, nat_lt, ◌==◌, ◌&&◌, if◌then◌else◌, List, [], ◌∷◌, length, take, slice_index_or, Option, Some, None}
+use Rattle.std.specs.Prelude.{ℕ, ◌-◌, nat_lt, ◌==◌, ◌&&◌, if◌then◌else◌, List, [], ◌∷◌, length, take}
+use Rattle.std.specs.Prelude.{slice_index_or, Option, Some, None}
 
 -- the fields that are not empty
 abbrev pub words_of : List (List ℕ) → List (List ℕ)

@@ -1,7 +1,7 @@
 //! What is kept of the lines of a text.
 
 ghost use Rattle.std.specs.Prelude.{◌≡◌, ◌≤◌, map, length, IfOk};
-ghost use Rattle.trace_ftrace.specs.Kept.{behind, classed, is_queue_of, name_place, numbered, on_cpu, sorted, Classed};
+ghost use Rattle.trace_ftrace.specs.Kept.{behind, classed, is_queue_of, is_told, name_place, numbered, on_cpu, sorted, Classed};
 
 use crate::sign::{Sign, Sort};
 use std::alloc::{AllocError, Allocator};
@@ -68,12 +68,22 @@ pub(crate) fn numbered<'a, A: Allocator>(
     Ok(count)
 }
 
-/// Whether a mark is that this CPU queues this record, and no line of its own has told the sort.
+/// Whether a mark is that this CPU queues this record.
 fn is_queue_of(mark: &Mark, cpu: u32, address: u64) -> bool
     ensures { result ≡ is_queue_of cpu address mark.now }
 {
     match mark.sign {
-        Sign::Queue(_, queued, _, is_told) => mark.at.cpu == cpu && queued == address && !is_told,
+        Sign::Queue(_, queued, _, _) => mark.at.cpu == cpu && queued == address,
+        _ => false,
+    }
+}
+
+/// Whether a line of its own has told the sort of what a mark queues.
+fn is_told(mark: &Mark) -> bool
+    ensures { result ≡ is_told mark.now.sign }
+{
+    match mark.sign {
+        Sign::Queue(_, _, _, is_told) => is_told,
         _ => false,
     }
 }
@@ -94,8 +104,8 @@ fn sorted(mark: Mark, sort: Sort) -> Mark
     }
 }
 
-/// Says of which sort the record is that this CPU has queued last, where there is such a mark.
-#[tactic(auto, using(crate::proofs::ClassLast::classed_at))]
+/// Says of which sort the record is that this CPU has queued last, where there is such a mark and none has said so before.
+#[tactic(auto, using(crate::proofs::ClassLast::classed_at, crate::proofs::ClassLast::told_at, crate::proofs::ClassLast::none_queued))]
 pub(crate) fn class_last(marks: &mut [Mark], cpu: u32, address: u64, sort: Sort) -> bool
     ensures { Classed result marks.old marks.new (classed cpu address sort marks.old) }
 {
@@ -103,6 +113,9 @@ pub(crate) fn class_last(marks: &mut [Mark], cpu: u32, address: u64, sort: Sort)
     while at > 0 {
         at -= 1;
         if is_queue_of(&marks[at], cpu, address) {
+            if is_told(&marks[at]) {
+                return false;
+            }
             marks[at] = sorted(marks[at], sort);
             return true;
         }

@@ -1,7 +1,8 @@
 //! What a kernel's own tracer wrote, as events that are judged.
 //!
 //! - `text`: The verdict on a text of the tracer, and what is printed of it; `verdict`: the verdict on its events.
-//! - `names`: Why an event is none, by the kernel's names; `counts`: what of the lines is not judged.
+//! - `names`: Why an event is none, by the kernel's names; `counts`: what of the lines is not judged; `waits`: the calls that wait for long.
+//! - `print`: The trace that a text tells.
 //! - `told`: The events that marks tell; `stop_told`: those of stops; `stops`: the stops that are open; `per_cpu`: what each CPU has.
 //! - `marks`: The marks of calls that the lines of a text have; `sign`, `stop_sign`: what one line shows; `kept`: what is kept of the lines.
 //! - `heading`, `field`: The CPU, the time, the event and the fields of a line.
@@ -17,6 +18,7 @@ mod marks;
 mod names;
 mod number;
 mod per_cpu;
+pub mod print;
 pub mod sign;
 pub mod stop_sign;
 mod stop_told;
@@ -24,5 +26,6 @@ pub mod stops;
 pub mod text;
 pub mod told;
 pub mod verdict;
+mod waits;
 mod words;
 pub mod wrong;

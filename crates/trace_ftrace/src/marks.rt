@@ -4,8 +4,8 @@ ghost use Rattle.std.specs.Prelude.{◌≡◌, ◌≤◌, ◌<◌, Ok, Err, map,
 ghost use Rattle.smp_script.specs.Lines.{lines_of};
 ghost use Rattle.trace_ftrace.specs.HeadingView.{heading_value};
 ghost use Rattle.trace_ftrace.specs.KeptView.{kept_value};
-ghost use Rattle.trace_ftrace.specs.Marks.{class_line, event_line, first_time, is_counts, is_cut, is_empty_note, is_note, line_kept, line_of_cpu, lines_kept, marked};
-ghost use Rattle.trace_ftrace.specs.Marks.{named, noted, with_mark, no_lines, shown_line, timed, Keeps};
+ghost use Rattle.trace_ftrace.specs.Marks.{class_line, event_line, first_time, is_counts, is_cut, is_empty_note, is_note, line_kept};
+ghost use Rattle.trace_ftrace.specs.Marks.{line_of_cpu, lines_kept, marked, named, noted, with_mark, no_lines, shown_line, timed, Keeps};
 
 use crate::field::{cpu_below, needed_symbol};
 use crate::heading::{Heading, find_heading};

@@ -50,7 +50,7 @@ fn address_of(addresses: &[u64], id: u16) -> u64
 }
 
 /// The name of a function; empty where it has none.
-fn name_of<'a>(functions: &[&'a [u8]], func: u64) -> &'a [u8]
+pub(crate) fn name_of<'a>(functions: &[&'a [u8]], func: u64) -> &'a [u8]
     ensures { result.now ≡ slice_index_or (map (λ f. f.now) functions.now) func [] }
 {
     if func < functions.len() as u64 {
@@ -92,7 +92,7 @@ fn call_word(event: Event) -> Option<&'static str>
 
 /// Writes the address of a record, and what is behind it.
 #[tactic(auto, unfolding(crate::specs::Names::address_text))]
-fn write_record<A: Allocator + Copy>(
+pub(crate) fn write_record<A: Allocator + Copy>(
     alloc: A,
     out: &mut Vec<u8, A>,
     names: &Names<'_>,

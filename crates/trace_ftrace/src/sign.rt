@@ -1,7 +1,8 @@
 //! What a line shows.
 
 ghost use Rattle.std.specs.Prelude.{◌≡◌, map, codes};
-ghost use Rattle.trace_ftrace.specs.Signs.{begin_sign, class_of, class_sign, end_sign, is_entry, is_exit, is_queue, is_symbol, is_wakes, queue_sign, shown_sort, sign_of, sort_of};
+ghost use Rattle.trace_ftrace.specs.Signs.{begin_sign, class_of, class_sign, end_sign, is_entry, is_exit, is_queue, is_symbol, is_wakes};
+ghost use Rattle.trace_ftrace.specs.Signs.{queue_sign, shown_sort, sign_of, sort_of};
 
 use crate::field::{address, field, needed_address, needed_cpu, symbol};
 use crate::stop_sign::{StopSign, read_stop_sign};

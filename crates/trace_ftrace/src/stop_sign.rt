@@ -21,7 +21,7 @@ pub struct Work {
 pub enum Opening {
     /// Of the CPUs to which the task then queues works. Those with these bits are active, or else the least.
     Machine(Option<u64>),
-    /// The same, and of the CPU that opens it.
+    /// The same, of the CPU that opens it too, which runs no stopper itself.
     Inactive(Option<u64>),
     /// Of two CPUs, of which the first is active.
     Two(u32, u32),

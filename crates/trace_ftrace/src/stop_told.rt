@@ -19,14 +19,14 @@ use trace_model::{Event, StopEvent, Task};
 /// Tells an event of stops.
 fn tell_stop<A: Allocator>(
     telling: &mut Telling<A>,
-    line: u32,
+    stamp: Stamp,
     cpu: u32,
     event: StopEvent,
 ) -> Result<(), Refusal>
-    ensures made { Keeps result (telling_value telling.new) (Ok (with_event line cpu (Event.Stop event) (telling_value telling.old))) }
+    ensures made { Keeps result (telling_value telling.new) (Ok (with_event stamp cpu (Event.Stop event) (telling_value telling.old))) }
     ensures same { telling.new.addresses ≡ telling.old.addresses }
 {
-    tell(telling, line, cpu, Event::Stop(event))
+    tell(telling, stamp, cpu, Event::Stop(event))
 }
 
 /// What a stop is to do, as its event has it.
@@ -52,12 +52,16 @@ fn replace(stops: &mut [OpenStop], place: usize, stop: OpenStop)
 
 /// Tells that a stop is opened, as that of the least CPU that is the source of none.
 #[tactic(auto, unfolding(crate::specs::StopTold::opened))]
-fn open_stop<A: Allocator>(telling: &mut Telling<A>, line: u32, plan: Plan) -> Result<(), Refusal>
-    ensures made { Keeps result (telling_value telling.new) (opened line plan (telling_value telling.old)) }
+fn open_stop<A: Allocator>(
+    telling: &mut Telling<A>,
+    stamp: Stamp,
+    plan: Plan,
+) -> Result<(), Refusal>
+    ensures made { Keeps result (telling_value telling.new) (opened stamp plan (telling_value telling.old)) }
     ensures same { telling.new.addresses ≡ telling.old.addresses }
 {
     let Some(source) = free_source(telling.cpus, telling.stops.as_slice()) else {
-        return Err(Refusal::Wrong(line, Wrong::Stops));
+        return Err(Refusal::Wrong(stamp.line, Wrong::Stops));
     };
     let stop = OpenStop {
         source,
@@ -65,7 +69,7 @@ fn open_stop<A: Allocator>(telling: &mut Telling<A>, line: u32, plan: Plan) -> R
         has_begun: false,
     };
     match telling.stops.push(stop) {
-        Ok(()) => tell_stop(telling, line, source, StopEvent::Open(task_of(&plan))),
+        Ok(()) => tell_stop(telling, stamp, source, StopEvent::Open(task_of(&plan))),
         Err(_) => Err(Refusal::NoMemory),
     }
 }
@@ -96,7 +100,7 @@ fn tell_open<A: Allocator>(
         return Ok(());
     }
     match plan_of(opening, work, stamp, behind) {
-        Some(plan) => open_stop(telling, stamp.line, plan),
+        Some(plan) => open_stop(telling, stamp, plan),
         None => Ok(()),
     }
 }
@@ -121,7 +125,7 @@ fn tell_enter<A: Allocator>(
     stop.plan.ident = Some(ident);
     replace(telling.stops.as_mut_slice(), place, stop);
     put(&mut telling.inside, cpu, Some(source));
-    tell_stop(telling, stamp.line, cpu, StopEvent::Enter(source))
+    tell_stop(telling, stamp, cpu, StopEvent::Enter(source))
 }
 
 /// Tells an event of a CPU that is in a rendezvous; nothing of another.
@@ -135,7 +139,7 @@ fn tell_inside<A: Allocator>(
     ensures same { telling.new.addresses ≡ telling.old.addresses }
 {
     match at(&telling.inside, stamp.cpu, None) {
-        Some(_) => tell_stop(telling, stamp.line, stamp.cpu, event),
+        Some(_) => tell_stop(telling, stamp, stamp.cpu, event),
         None => Ok(()),
     }
 }
@@ -154,7 +158,7 @@ fn tell_leave<A: Allocator>(
         return Ok(());
     };
     put(&mut telling.inside, stamp.cpu, None);
-    tell_stop(telling, stamp.line, stamp.cpu, StopEvent::Complete(answer))
+    tell_stop(telling, stamp, stamp.cpu, StopEvent::Complete(answer))
 }
 
 /// Tells that a CPU begins the work of a stop of its own; nothing where that is not open, as of a rendezvous.
@@ -176,13 +180,8 @@ fn tell_start<A: Allocator>(
     stop.has_begun = true;
     replace(telling.stops.as_mut_slice(), place, stop);
     put(&mut telling.alone, cpu, Some(source));
-    match tell_stop(telling, stamp.line, cpu, StopEvent::Enter(source)) {
-        Ok(()) => tell_stop(
-            telling,
-            stamp.line,
-            cpu,
-            StopEvent::Run(work.func, work.arg),
-        ),
+    match tell_stop(telling, stamp, cpu, StopEvent::Enter(source)) {
+        Ok(()) => tell_stop(telling, stamp, cpu, StopEvent::Run(work.func, work.arg)),
         Err(why) => Err(why),
     }
 }
@@ -191,28 +190,28 @@ fn tell_start<A: Allocator>(
 #[tactic(auto, unfolding(crate::specs::StopTold::collected))]
 fn collect<A: Allocator>(
     telling: &mut Telling<A>,
-    line: u32,
+    stamp: Stamp,
     found: &Found,
     answer: i32,
 ) -> Result<(), Refusal>
     requires { found.now.place < length telling.old.stops.items }
-    ensures made { Keeps result (telling_value telling.new) (Ok (collected line found.now answer (telling_value telling.old))) }
+    ensures made { Keeps result (telling_value telling.new) (Ok (collected stamp found.now answer (telling_value telling.old))) }
     ensures same { telling.new.addresses ≡ telling.old.addresses }
 {
     let source = found.stop.source;
     telling.stops.remove(found.place);
-    tell_stop(telling, line, source, StopEvent::Collect(answer))
+    tell_stop(telling, stamp, source, StopEvent::Collect(answer))
 }
 
 /// Tells that the stop of a source has its answer, where nobody waits for it.
 #[tactic(auto, unfolding(crate::specs::StopTold::unwaited))]
 fn end_unwaited<A: Allocator>(
     telling: &mut Telling<A>,
-    line: u32,
+    stamp: Stamp,
     source: u32,
     answer: i32,
 ) -> Result<(), Refusal>
-    ensures made { Keeps result (telling_value telling.new) (Ok (unwaited line source answer (telling_value telling.old))) }
+    ensures made { Keeps result (telling_value telling.new) (Ok (unwaited stamp source answer (telling_value telling.old))) }
     ensures same { telling.new.addresses ≡ telling.old.addresses }
 {
     let Some(found) = find(Wanted::Of(source), telling.stops.as_slice()) else {
@@ -220,7 +219,7 @@ fn end_unwaited<A: Allocator>(
     };
     match found.stop.plan.task {
         Some(_) => Ok(()),
-        None => collect(telling, line, &found, answer),
+        None => collect(telling, stamp, &found, answer),
     }
 }
 
@@ -238,8 +237,8 @@ fn tell_done<A: Allocator>(
         return Ok(());
     };
     put(&mut telling.alone, stamp.cpu, None);
-    match tell_stop(telling, stamp.line, stamp.cpu, StopEvent::Complete(answer)) {
-        Ok(()) => end_unwaited(telling, stamp.line, source, answer),
+    match tell_stop(telling, stamp, stamp.cpu, StopEvent::Complete(answer)) {
+        Ok(()) => end_unwaited(telling, stamp, source, answer),
         Err(why) => Err(why),
     }
 }
@@ -255,7 +254,7 @@ fn tell_close<A: Allocator>(
     ensures same { telling.new.addresses ≡ telling.old.addresses }
 {
     match find(Wanted::OfTask(stamp.task), telling.stops.as_slice()) {
-        Some(found) => collect(telling, stamp.line, &found, answer),
+        Some(found) => collect(telling, stamp, &found, answer),
         None => Ok(()),
     }
 }

@@ -339,7 +339,7 @@ fn is_free(source: u32, stops: &[OpenStop]) -> bool
 }
 
 /// The least of this number of CPUs that is the source of none of these.
-#[tactic(auto, using(trace_model::proofs::Least::first_hit, trace_model::proofs::Least::first_miss, trace_model::proofs::Least::first_end), unfolding(crate::specs::Stops::free_source))]
+#[tactic(auto, using(trace_model::proofs::Least::first_hit, trace_model::proofs::Least::first_miss, trace_model::proofs::Least::first_end))]
 pub(crate) fn free_source(cpus: u32, stops: &[OpenStop]) -> Option<u32>
     ensures { result ≡ free_source cpus stops.now }
 {

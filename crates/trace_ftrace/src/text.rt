@@ -5,8 +5,8 @@ ghost use Rattle.smp_script.specs.Lines.{lines_of};
 ghost use Rattle.trace_ftrace.specs.Reading.{reading_of};
 ghost use Rattle.trace_ftrace.specs.SourceView.{source_value};
 ghost use Rattle.trace_ftrace.specs.Text.{broken_lines, broken_record, count_text, counts_text, direct_text, earlier_text, event_record};
-ghost use Rattle.trace_ftrace.specs.Text.{first_counts, front_text, is_queue, judged_text, last_counts, last_queue, lawful_lines, line_behind};
-ghost use Rattle.trace_ftrace.specs.Text.{line_from, named_record, queued_text, ruling_of, shown_text, source_text, wakes_text, works_text};
+ghost use Rattle.trace_ftrace.specs.Text.{first_counts, front_text, judged_text, last_counts, last_queue, lawful_lines, line_behind};
+ghost use Rattle.trace_ftrace.specs.Text.{line_from, named_record, queued_text, ruling_of, shown_text, source_text, verdict_text, wakes_text, works_text};
 ghost use Rattle.trace_ftrace.specs.Text.{Prints, PrintsRuling};
 ghost use Rattle.trace_ftrace.specs.Verdict.{ruling_of as ruling_of_told};
 
@@ -15,6 +15,7 @@ use crate::kept::Mark;
 use crate::names::{BrokenEvent, Names, broken_line};
 use crate::told::Told;
 use crate::verdict::{judge_told, read_told};
+use crate::waits::{is_queue, write_waits};
 use crate::wrong::Refusal;
 use smp_script::line::next_line;
 use std::alloc::{AllocError, Allocator};
@@ -22,14 +23,19 @@ use trace_judge::text::write_lawful;
 use trace_judge::{Ruling, Verdict};
 use trace_model::{CallEvent, Event, Reason, State};
 
-/// A text, with the kernel's names in it, what its lines show, and the events that these tell.
+/// A text, with the kernel's names in it, what its lines show, the events that these tell, and the most nanoseconds that a call
+/// waits untold.
 #[derive(Clone, Copy)]
 pub(crate) struct Source<'a> {
     pub(crate) text: &'a [u8],
     pub(crate) names: Names<'a>,
     pub(crate) marks: &'a [Mark],
     pub(crate) told: &'a [Told],
+    pub(crate) slow: u64,
 }
+
+/// A call that waits for no more nanoseconds is not told where no other number is asked for.
+pub const MOST_WAIT: u64 = 100_000_000;
 
 /// The line of this number, from 1 on; empty where there is none.
 fn line_text(text: &[u8], number: u32) -> &[u8]
@@ -80,16 +86,6 @@ fn broken_record(event: Event, why: Reason) -> Option<u16>
     match named_record(why) {
         Some(id) => Some(id),
         None => event_record(event),
-    }
-}
-
-/// Whether an event is that this record is queued.
-fn is_queue(told: &Told, id: u16) -> bool
-    ensures { result ≡ is_queue id told.now.event }
-{
-    match told.event {
-        Event::Call(CallEvent::Queue(queued, _, _, _, _)) => queued == id,
-        _ => false,
     }
 }
 
@@ -286,14 +282,14 @@ fn broken_lines<A: Allocator + Copy>(
     Ok(out)
 }
 
-/// What is printed of a verdict.
-#[tactic(auto, unfolding(crate::specs::Text::shown_text))]
-fn shown<A: Allocator + Copy>(
+/// What is printed of a verdict alone.
+#[tactic(auto, unfolding(crate::specs::Text::verdict_text))]
+fn verdict_lines<A: Allocator + Copy>(
     alloc: A,
     source: &Source<'_>,
     verdict: &Verdict<A>,
 ) -> Result<Vec<u8, A>, AllocError>
-    ensures { IfOk result (λ v. v.items ≡ shown_text (source_value source.now) verdict.now) }
+    ensures { IfOk result (λ v. v.items ≡ verdict_text (source_value source.now) verdict.now) }
 {
     let counts = count_lines(source.marks, source.told);
     match verdict {
@@ -308,6 +304,20 @@ fn shown<A: Allocator + Copy>(
             broken_lines(alloc, source, &broken, counts.unshown)
         }
     }
+}
+
+/// What is printed of a verdict, and behind it the calls that wait.
+#[tactic(auto, unfolding(crate::specs::Text::shown_text))]
+fn shown<A: Allocator + Copy>(
+    alloc: A,
+    source: &Source<'_>,
+    verdict: &Verdict<A>,
+) -> Result<Vec<u8, A>, AllocError>
+    ensures { IfOk result (λ v. v.items ≡ shown_text (source_value source.now) verdict.now) }
+{
+    let mut out = verdict_lines(alloc, source, verdict)?;
+    write_waits(alloc, &mut out, &source.names, source.slow, source.told)?;
+    Ok(out)
 }
 
 /// Whether a verdict is that the text is lawful.
@@ -337,16 +347,17 @@ fn ruled<A: Allocator + Copy>(
     }
 }
 
-/// Judges a text that a kernel's tracer wrote, without its first `skip` nanoseconds: what is printed of the verdict, and whether
-/// the text is lawful.
+/// Judges a text that a kernel's tracer wrote, without its first `skip` nanoseconds: what is printed of the verdict, with each call
+/// that is not begun or waited for more than `slow` nanoseconds, and whether the text is lawful.
 ///
 /// Refusals: `TooLong`; `Wrong` with the first line at fault; `NoMemory`.
-pub fn judge_kernel<A: Allocator + Copy>(
+pub fn judge_waits<A: Allocator + Copy>(
     alloc: A,
     skip: u64,
+    slow: u64,
     text: &[u8],
 ) -> Result<(Vec<u8, A>, Ruling), Refusal>
-    ensures { Prints result text.now (reading_of skip text.now) }
+    ensures { Prints result text.now slow (reading_of skip text.now) }
 {
     let reading = match read_told(alloc, skip, text) {
         Ok(reading) => reading,
@@ -361,6 +372,18 @@ pub fn judge_kernel<A: Allocator + Copy>(
         names,
         marks: reading.kept.marks.as_slice(),
         told: reading.telling.told.as_slice(),
+        slow,
     };
     ruled(alloc, &source)
+}
+
+/// The same, where calls are told that waited for more than 100 milliseconds.
+pub fn judge_kernel<A: Allocator + Copy>(
+    alloc: A,
+    skip: u64,
+    text: &[u8],
+) -> Result<(Vec<u8, A>, Ruling), Refusal>
+    ensures { Prints result text.now 100000000 (reading_of skip text.now) }
+{
+    judge_waits(alloc, skip, MOST_WAIT, text)
 }

@@ -7,7 +7,7 @@ ghost use Rattle.trace_ftrace.specs.Told.{queued, record_place, recorded, with_t
 ghost use Rattle.trace_ftrace.specs.Telling.{with_event};
 ghost use Rattle.trace_ftrace.specs.ToldView.{telling_value};
 
-use crate::kept::Mark;
+use crate::kept::{Mark, Stamp};
 use crate::per_cpu::{at, put};
 use crate::sign::{Sign, class_of};
 use crate::stop_told::tell_stop_mark;
@@ -17,11 +17,13 @@ use smp_words::call::Class;
 use std::alloc::Allocator;
 use trace_model::{CallEvent, Event};
 
-/// An event, with the number of the line that tells it, and its CPU.
+/// An event, with its CPU, and the number and the time of the line that tells it.
 #[derive(Clone, Copy, Debug, PartialEq, Eq)]
 pub struct Told {
     pub line: u32,
     pub cpu: u32,
+    /// In nanoseconds, or in whatever unit the clock counts.
+    pub time: u128,
     pub event: Event,
 }
 
@@ -84,14 +86,21 @@ fn recorded<A: Allocator>(telling: &mut Telling<A>, line: u32, address: u64) -> 
 /// Tells an event behind the others.
 pub(crate) fn tell<A: Allocator>(
     telling: &mut Telling<A>,
-    line: u32,
+    stamp: Stamp,
     cpu: u32,
     event: Event,
 ) -> Result<(), Refusal>
-    ensures made { Keeps result (telling_value telling.new) (Ok (with_event line cpu event (telling_value telling.old))) }
+    ensures made { Keeps result (telling_value telling.new) (Ok (with_event stamp cpu event (telling_value telling.old))) }
     ensures same { telling.new.addresses ≡ telling.old.addresses }
 {
-    match telling.told.push(Told { line, cpu, event }) {
+    let Stamp { line, time, .. } = stamp;
+    let told = Told {
+        line,
+        cpu,
+        time,
+        event,
+    };
+    match telling.told.push(told) {
         Ok(()) => Ok(()),
         Err(_) => Err(Refusal::NoMemory),
     }
@@ -106,7 +115,7 @@ fn tell_call<A: Allocator>(
     ensures made { Keeps result (telling_value telling.new) (Ok (with_told mark.now event (telling_value telling.old))) }
     ensures same { telling.new.addresses ≡ telling.old.addresses }
 {
-    tell(telling, mark.at.line, mark.at.cpu, Event::Call(event))
+    tell(telling, mark.at, mark.at.cpu, Event::Call(event))
 }
 
 /// Tells that a call joins a queue.

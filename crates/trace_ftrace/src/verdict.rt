@@ -66,7 +66,7 @@ fn no_words() -> LabelWords
 
 /// The state before the first event.
 #[tactic(auto, unfolding(crate::specs::Verdict::start))]
-fn open<A: Allocator + Copy>(alloc: A) -> Result<State<A>, AllocError>
+pub fn open<A: Allocator + Copy>(alloc: A) -> Result<State<A>, AllocError>
     ensures { IfOk result (λ s. s ≡ start) }
 {
     let setting = Setting {
@@ -90,7 +90,7 @@ fn early_end(told: &Told, halt: Halt) -> EarlyEnd
 
 /// The model goes by one event.
 #[tactic(auto, unfolding(crate::specs::Verdict::goes_one, trace_judge::specs::Judged::told_goes))]
-fn goes_one<A: Allocator + Copy>(
+pub fn goes_one<A: Allocator + Copy>(
     alloc: A,
     state: &mut State<A>,
     told: &Told,

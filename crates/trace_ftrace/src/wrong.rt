@@ -28,5 +28,7 @@ pub enum Refusal {
     Wrong(u32, Wrong),
     /// It has more bytes or events than are judged.
     TooLong,
+    /// The trace that it tells has more lines or bytes than one may have.
+    LongTrace,
     NoMemory,
 }
