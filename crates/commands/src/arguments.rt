@@ -11,6 +11,7 @@ use explore::Most;
 use explore_text::{Orders, Run, Sample};
 use smp_mask::CpuMask;
 use std::alloc::{AllocError, Global};
+use trace_ftrace::text::MOST_WAIT;
 use view::text_kind::TextKind;
 use view::{Choice, Mark};
 
@@ -28,6 +29,10 @@ enum Wrong {
     Input,
     Writer,
     Skip,
+    Source,
+    Marked,
+    Slow,
+    Print,
 }
 
 impl Wrong {
@@ -45,6 +50,10 @@ impl Wrong {
             Wrong::Writer => "invalid value for '--from <ftrace>': it is ftrace",
             Wrong::Skip =>
                 "invalid value for '--skip <SECONDS>': it goes with '--from ftrace' alone",
+            Wrong::Source => "invalid value for '--from <KIND>': it is trace or ftrace",
+            Wrong::Marked => "invalid value for '--mark <EVENT>': it goes with a replay alone",
+            Wrong::Slow => "invalid value for '--slow <MS>': it goes with '--from ftrace' alone",
+            Wrong::Print => "'--print' goes with '--from ftrace' alone",
         }
     }
 }
@@ -77,8 +86,15 @@ pub enum Job<'a> {
     Write(Run),
     /// Judges a trace.
     Judge,
-    /// Judges what a kernel's own tracer wrote, without this number of nanoseconds at its start.
-    JudgeKernel(u64),
+    /// Judges what a kernel's own tracer wrote, without the first of these numbers of nanoseconds at its start. A call is told that
+    /// waits for more than the second.
+    JudgeKernel(u64, u64),
+    /// Writes the trace that such a text tells, without this number of nanoseconds at its start.
+    PrintKernel(u64),
+    /// Shows a trace as a page to step through.
+    PageTrace,
+    /// Shows so what a kernel's own tracer wrote, without this number of nanoseconds at its start.
+    PageKernel(u64),
     /// Tells the events of a script's replay.
     Events,
     /// Holds the trace of steps of this name against a script's replay.
@@ -93,8 +109,9 @@ impl<'a> Job<'a> {
         match self {
             Job::Show(..) | Job::Events | Job::Check(_) => Some(TextKind::Replay),
             Job::Explore(..) | Job::Outcomes(..) | Job::Write(_) => Some(TextKind::Exploration),
-            Job::Judge => Some(TextKind::Trace),
-            Job::Explain | Job::JudgeKernel(_) => None,
+            Job::Judge | Job::PageTrace => Some(TextKind::Trace),
+            Job::PageKernel(_) | Job::PrintKernel(_) => None,
+            Job::Explain | Job::JudgeKernel(..) => None,
         }
     }
 }
@@ -220,7 +237,6 @@ fn view_of(name: &str) -> Option<View> {
         "lanes" => Some(View::Lanes),
         "svg" => Some(View::Svg),
         "json" => Some(View::Json),
-        "page" => Some(View::Page),
         _ => None,
     }
 }
@@ -244,13 +260,71 @@ fn nanoseconds(seconds: u32) -> u64
     u64::from(seconds) * 1_000_000_000
 }
 
+// How many nanoseconds there are in some milliseconds.
+fn nanoseconds_of(milliseconds: u32) -> u64
+    ensures { result ≡ milliseconds * 1000000 }
+{
+    u64::from(milliseconds) * 1_000_000
+}
+
+// The most nanoseconds that a call waits untold.
+fn slow_of(matches: &ArgMatches<'_>) -> u64 {
+    match matches.get_one::<u32>("slow") {
+        Some(milliseconds) => nanoseconds_of(milliseconds),
+        None => MOST_WAIT,
+    }
+}
+
+// What is done with what a kernel's tracer wrote.
+fn kernel_job<'a>(matches: &ArgMatches<'a>) -> Job<'a> {
+    let skip = nanoseconds(number(matches, "skip"));
+    if matches.get_flag("print") {
+        Job::PrintKernel(skip)
+    } else {
+        Job::JudgeKernel(skip, slow_of(matches))
+    }
+}
+
+// How a trace is judged that no kernel's tracer wrote: with none of the options of one.
+fn plain_judge<'a>(matches: &ArgMatches<'a>) -> Result<Job<'a>, Wrong> {
+    if matches.get_one::<u32>("skip").is_some() {
+        return Err(Wrong::Skip);
+    }
+    if matches.get_one::<u32>("slow").is_some() {
+        return Err(Wrong::Slow);
+    }
+    if matches.get_flag("print") {
+        return Err(Wrong::Print);
+    }
+    Ok(Job::Judge)
+}
+
 // How a trace is judged, by who wrote it.
 fn judge_of<'a>(matches: &ArgMatches<'a>) -> Result<Job<'a>, Wrong> {
-    match (matches.get_str("from"), matches.get_one::<u32>("skip")) {
-        (Some("ftrace"), skip) => Ok(Job::JudgeKernel(nanoseconds(skip.unwrap_or(0)))),
-        (Some(_), _) => Err(Wrong::Writer),
-        (None, Some(_)) => Err(Wrong::Skip),
-        (None, None) => Ok(Job::Judge),
+    match matches.get_str("from") {
+        Some("ftrace") => Ok(kernel_job(matches)),
+        Some(_) => Err(Wrong::Writer),
+        None => plain_judge(matches),
+    }
+}
+
+// What a page shows that has no mark, by who wrote its text.
+fn traced_page<'a>(writer: &str, matches: &ArgMatches<'a>) -> Result<Job<'a>, Wrong> {
+    match (writer, matches.get_one::<u32>("skip")) {
+        ("ftrace", skip) => Ok(Job::PageKernel(nanoseconds(skip.unwrap_or(0)))),
+        ("trace", None) => Ok(Job::PageTrace),
+        ("trace", Some(_)) => Err(Wrong::Skip),
+        _ => Err(Wrong::Source),
+    }
+}
+
+// What a page shows.
+fn page_of<'a>(matches: &ArgMatches<'a>) -> Result<Job<'a>, Wrong> {
+    match matches.get_str("from") {
+        Some(_) if matches.get_str("mark").is_some() => Err(Wrong::Marked),
+        Some(writer) => traced_page(writer, matches),
+        None if matches.get_one::<u32>("skip").is_some() => Err(Wrong::Skip),
+        None => Ok(Job::Show(View::Page, choice_of(matches)?)),
     }
 }
 
@@ -262,6 +336,7 @@ fn job_of<'a>(name: &str, matches: &ArgMatches<'a>) -> Result<Job<'a>, Wrong> {
     match name {
         "check" => Ok(Job::Check(trace_of(matches)?)),
         "judge" => judge_of(matches),
+        "page" => page_of(matches),
         _ => Ok(plain_job(name, matches)),
     }
 }

@@ -46,6 +46,9 @@ fn tell_kernel(rt: &HostRuntime, name: &str, why: Refusal) -> io::Result<()> {
         Refusal::TooLong => {
             eprintln!(rt; "smp: {name}: it has more than 536870912 bytes or 1000000 events")
         }
+        Refusal::LongTrace => eprintln!(rt;
+            "smp: {name}: the trace that it tells has more than 1000000 lines or 16777216 bytes"
+        ),
         Refusal::NoMemory => eprintln!(rt; "smp: no memory"),
     }
 }

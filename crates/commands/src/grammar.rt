@@ -188,7 +188,7 @@ const JSON: Named = Named {
 
 const PAGE: Named = Named {
     name: "page",
-    about: "Writes a replay as one page of HTML to step through, with the words, queues and stops after each event",
+    about: "Writes a replay or a trace as one page of HTML to step through, with the queues and stops after each event",
     behind: Behind::File,
 };
 
@@ -254,6 +254,27 @@ const SKIP: Choice = Choice {
     help: "Judges what the tracer wrote from that time after its first line on, 0 to 4294967295",
 };
 
+const SOURCE: Choice = Choice {
+    name: "from",
+    value: "KIND",
+    takes: Value::Text,
+    help: "FILE is a trace of events: trace; or what Linux's own tracer wrote: ftrace. The page opens where it is not lawful",
+};
+
+const SLOW: Choice = Choice {
+    name: "slow",
+    value: "MS",
+    takes: Value::Number(0, MOST_32, None),
+    help: "Tells each call that waited for more milliseconds before it was begun, 0 to 4294967295; 100 without it",
+};
+
+const PRINT: Choice = Choice {
+    name: "print",
+    value: "",
+    takes: Value::Nothing,
+    help: "Writes the trace that FILE tells, and does not judge it",
+};
+
 // An option.
 fn option<'a>(alloc: Global, choice: Choice) -> Arg<'a> {
     let arg = Arg::new(alloc, choice.name)
@@ -273,7 +294,8 @@ fn option<'a>(alloc: Global, choice: Choice) -> Arg<'a> {
     }
 }
 
-// A subcommand with this option too. Where a script alone is printed, no file takes it.
+// A subcommand with this option too. Where a script alone is printed, no file takes it. Where a trace is printed, no call that
+// waits is told.
 fn with_option<'a>(
     alloc: Global,
     command: Command<'a>,
@@ -282,6 +304,9 @@ fn with_option<'a>(
     let arg = option(alloc, choice);
     if choice.name == SCRIPTS.name {
         return command.arg(arg.conflicts_with(ONLY.name)?);
+    }
+    if choice.name == PRINT.name {
+        return command.arg(arg.conflicts_with(SLOW.name)?);
     }
     command.arg(arg)
 }
@@ -368,7 +393,7 @@ pub fn grammar<'a>(alloc: Global) -> Result<Command<'a>, AllocError> {
         (LANES, &[FROM, TO, CPUS]),
         (SVG, &[FROM, TO, CPUS, MARK]),
         (JSON, &[FROM, TO, CPUS]),
-        (PAGE, &[MARK]),
+        (PAGE, &[MARK, SOURCE, SKIP]),
         (EXPLAIN, &[]),
         (EXPLORE, &[MERGE, STATES, MEMORY, ONLY, SCRIPTS]),
         (SAMPLE, &[SEED, RUNS, STEPS, ONLY, SCRIPTS]),
@@ -376,7 +401,7 @@ pub fn grammar<'a>(alloc: Global) -> Result<Command<'a>, AllocError> {
         (SCRIPT, &[SEED, RUN, STEPS]),
         (EVENTS, &[]),
         (CHECK, &[]),
-        (JUDGE, &[WRITER, SKIP]),
+        (JUDGE, &[WRITER, SKIP, SLOW, PRINT]),
     ];
     let mut grammar = front(alloc)?;
     for (named, choices) in commands {

@@ -19,10 +19,12 @@ use smp_script::{Outcome, Watched};
 use std::io;
 use std::io::Write;
 use trace_events::show_events;
-use trace_ftrace::text::judge_kernel;
+use trace_ftrace::print::print_kernel;
+use trace_ftrace::text::judge_waits;
 use trace_ftrace::verdict::MOST_KERNEL_BYTES;
 use trace_judge::body::MOST_TRACE_BYTES;
 use trace_judge::{Ruling, judge_trace};
+use trace_page::{page_of_kernel, page_of_trace};
 use view::text_kind::kind_of;
 use view::{Choice, show_json, show_lanes, show_page, show_svg};
 
@@ -94,10 +96,11 @@ fn judged(done: Result<Ruling, SmpError>) -> Result<Answer, Failure> {
 fn judge_kernel_text<W: Write>(
     rt: &HostRuntime,
     skip: u64,
+    slow: u64,
     text: &[u8],
     writer: &mut Watched<W>,
 ) -> Result<Answer, Failure> {
-    match judge_kernel(rt.alloc(), skip, text) {
+    match judge_waits(rt.alloc(), skip, slow, text) {
         Ok((out, ruling)) => {
             print(writer, out.as_slice())?;
             Ok(Answer::Judged(ruling))
@@ -106,10 +109,53 @@ fn judge_kernel_text<W: Write>(
     }
 }
 
+/// Writes the trace that such a text tells.
+fn print_kernel_text<W: Write>(
+    rt: &HostRuntime,
+    skip: u64,
+    text: &[u8],
+    writer: &mut Watched<W>,
+) -> Result<Answer, Failure> {
+    match print_kernel(rt.alloc(), skip, text) {
+        Ok(out) => {
+            print(writer, out.as_slice())?;
+            Ok(Answer::Shown(Outcome::Done))
+        }
+        Err(why) => Err(Failure::Kernel(why)),
+    }
+}
+
+/// Writes the page of a trace, or of what a kernel's tracer wrote.
+fn write_page<W: Write>(
+    page: Result<(Vec<u8>, Ruling), Failure>,
+    writer: &mut Watched<W>,
+) -> Result<Answer, Failure> {
+    let (out, ruling) = page?;
+    print(writer, out.as_slice())?;
+    Ok(Answer::Judged(ruling))
+}
+
+// The page of a trace.
+fn trace_page(rt: &HostRuntime, text: &[u8]) -> Result<(Vec<u8>, Ruling), Failure> {
+    match page_of_trace(rt.alloc(), text) {
+        Ok(made) => Ok(made),
+        Err(error) => Err(failure_of(error)),
+    }
+}
+
+// The page of what a kernel's tracer wrote.
+fn kernel_page(rt: &HostRuntime, skip: u64, text: &[u8]) -> Result<(Vec<u8>, Ruling), Failure> {
+    match page_of_kernel(rt.alloc(), skip, text) {
+        Ok(made) => Ok(made),
+        Err(why) => Err(Failure::Kernel(why)),
+    }
+}
+
 // The most bytes of a text that is read for this.
 fn most_of(job: &Job<'_>) -> u32 {
     match job {
-        Job::JudgeKernel(_) => MOST_KERNEL_BYTES,
+        Job::JudgeKernel(..) | Job::PrintKernel(_) => MOST_KERNEL_BYTES,
+        Job::PageKernel(_) => MOST_KERNEL_BYTES,
         _ => MOST_TRACE_BYTES,
     }
 }
@@ -128,7 +174,10 @@ fn do_script<W: Write>(
         Job::Events => shown(show_events(rt.alloc(), &mut Watched::new(text), writer)),
         Job::Check(trace) => Ok(Answer::Shown(check_trace(rt, trace, text, writer)?)),
         Job::Judge => judged(judge_trace(rt.alloc(), &mut Watched::new(text), writer)),
-        Job::JudgeKernel(skip) => judge_kernel_text(rt, *skip, text, writer),
+        Job::JudgeKernel(skip, slow) => judge_kernel_text(rt, *skip, *slow, text, writer),
+        Job::PrintKernel(skip) => print_kernel_text(rt, *skip, text, writer),
+        Job::PageTrace => write_page(trace_page(rt, text), writer),
+        Job::PageKernel(skip) => write_page(kernel_page(rt, *skip, text), writer),
         _ => shown(explain_text(rt.alloc(), text, writer)),
     }
 }

@@ -1,4 +1,5 @@
 mod explained;
 mod limits;
+mod pages;
 mod sends;
 mod words;

@@ -17,7 +17,7 @@ fn refused(alloc: Global, words: &[&str]) -> Option<ErrorKind> {
 
 #[test]
 fn words_that_are_none_of_this_program(rt: HostRuntime) {
-    let cases: [(&[&str], ErrorKind); 29] = [
+    let cases: [(&[&str], ErrorKind); 36] = [
         (&["smp"], ErrorKind::MissingSubcommand),
         (&["smp", "jump"], ErrorKind::InvalidSubcommand),
         (&["smp", "lanes", "one", "two"], ErrorKind::UnknownArgument),
@@ -90,6 +90,19 @@ fn words_that_are_none_of_this_program(rt: HostRuntime) {
             ErrorKind::ValueValidation,
         ),
         (&["smp", "page", "--cpus", "0"], ErrorKind::UnknownArgument),
+        (
+            &["smp", "page", "--from", "perf"],
+            ErrorKind::ValueValidation,
+        ),
+        (&["smp", "page", "--skip", "2"], ErrorKind::ValueValidation),
+        (
+            &["smp", "page", "--from", "trace", "--skip", "2"],
+            ErrorKind::ValueValidation,
+        ),
+        (
+            &["smp", "page", "--from", "ftrace", "--mark", "last"],
+            ErrorKind::ValueValidation,
+        ),
         (&["smp", "check", "one"], ErrorKind::MissingRequiredArgument),
         (&["smp", "check", "-", "-"], ErrorKind::ValueValidation),
         (
@@ -97,6 +110,12 @@ fn words_that_are_none_of_this_program(rt: HostRuntime) {
             ErrorKind::ValueValidation,
         ),
         (&["smp", "judge", "--skip", "2"], ErrorKind::ValueValidation),
+        (&["smp", "judge", "--slow", "2"], ErrorKind::ValueValidation),
+        (&["smp", "judge", "--print"], ErrorKind::ValueValidation),
+        (
+            &["smp", "judge", "--print", "--slow", "2"],
+            ErrorKind::ArgumentConflict,
+        ),
         (&["smp", "--help"], ErrorKind::DisplayHelp),
         (&["smp", "svg", "-h"], ErrorKind::DisplayHelp),
         (&["smp", "--version"], ErrorKind::DisplayVersion),
@@ -163,22 +182,76 @@ fn a_page_opens_at_the_mark(rt: HostRuntime) {
     );
 }
 
-// Whether these words ask for the judge of what a kernel's tracer wrote, without this number of nanoseconds.
-fn skips(alloc: Global, words: &[&str], nanoseconds: u64) -> bool {
+// Whether these words ask for the judge of what a kernel's tracer wrote, by these numbers of nanoseconds.
+fn judges(alloc: Global, words: &[&str], skip: u64, slow: u64) -> bool {
     match read_words(alloc, words) {
-        Ok(request) => request.job == Job::JudgeKernel(nanoseconds),
+        Ok(request) => request.job == Job::JudgeKernel(skip, slow),
+        Err(_) => false,
+    }
+}
+
+// Whether they ask for the trace that it tells.
+fn prints(alloc: Global, words: &[&str], skip: u64) -> bool {
+    match read_words(alloc, words) {
+        Ok(request) => request.job == Job::PrintKernel(skip),
         Err(_) => false,
     }
 }
 
 #[test]
 fn what_a_kernel_wrote(rt: HostRuntime) {
-    assert!(rt; skips(rt.alloc(), &["smp", "judge", "--from", "ftrace", "file"], 0));
     assert!(rt;
-        skips(
+        judges(
             rt.alloc(),
-            &["smp", "judge", "--from", "ftrace", "--skip", "2"],
+            &["smp", "judge", "--from", "ftrace", "file"],
+            0,
+            100_000_000,
+        )
+    );
+    assert!(rt;
+        judges(
+            rt.alloc(),
+            &[
+                "smp", "judge", "--from", "ftrace", "--skip", "2", "--slow", "30",
+            ],
             2_000_000_000,
+            30_000_000,
+        )
+    );
+    assert!(rt;
+        prints(
+            rt.alloc(),
+            &["smp", "judge", "--from", "ftrace", "--skip", "3", "--print"],
+            3_000_000_000,
+        )
+    );
+}
+
+// Whether these words ask for the page of a trace.
+fn pages(alloc: Global, words: &[&str]) -> bool {
+    match read_words(alloc, words) {
+        Ok(request) => request.job == Job::PageTrace,
+        Err(_) => false,
+    }
+}
+
+// Whether they ask for that of what a kernel's tracer wrote, without this number of nanoseconds.
+fn pages_without(alloc: Global, words: &[&str], skip: u64) -> bool {
+    match read_words(alloc, words) {
+        Ok(request) => request.job == Job::PageKernel(skip),
+        Err(_) => false,
+    }
+}
+
+#[test]
+fn pages_of_traces(rt: HostRuntime) {
+    assert!(rt; pages(rt.alloc(), &["smp", "page", "--from", "trace"]));
+    assert!(rt; pages_without(rt.alloc(), &["smp", "page", "--from", "ftrace"], 0));
+    assert!(rt;
+        pages_without(
+            rt.alloc(),
+            &["smp", "page", "--from", "ftrace", "--skip", "3"],
+            3_000_000_000,
         )
     );
 }
