@@ -15,9 +15,10 @@ use std::alloc::Global;
 use std::sync::Wait;
 use std::thread::Threads;
 use trace_events::show_events;
+use trace_ftrace::print::print_kernel;
 use trace_ftrace::text::judge_kernel;
 use trace_ftrace::wrong::Refusal;
-use trace_judge::judge_trace;
+use trace_judge::{Ruling, judge_trace};
 use view::{Choice, show_lanes};
 
 // Whether these are the same bytes.
@@ -43,20 +44,48 @@ fn take<T: Threads + Wait + Sync>(
         Kind::Run => run_script(threads, alloc, reader, writer, &FreePace).err(),
         Kind::Lanes => show_lanes(alloc, &Choice::ALL, reader, writer).err(),
         Kind::Explore(task) => explore_script(alloc, task, reader, writer, &mut Unwatched).err(),
-        Kind::Judge | Kind::Kernel => judge_trace(alloc, reader, writer).err(),
+        Kind::Judge | Kind::Kernel | Kind::KernelTrace => {
+            judge_trace(alloc, reader, writer).err()
+        }
         Kind::Events => show_events(alloc, reader, writer).err(),
     }
 }
 
-// Whether the verdict on what a kernel's tracer wrote is printed as these bytes.
-fn kernel_prints(alloc: Global, text: &[u8], expected: &[u8]) -> Result<bool, SmpError> {
-    match judge_kernel(alloc, 0, text) {
-        Ok((printed, _)) => Ok(are_same(printed.as_slice(), expected)),
-        Err(Refusal::Wrong(line, _)) => Err(SmpError::BadScript {
+// Why what a kernel's tracer wrote is not taken.
+fn refused(why: Refusal) -> SmpError {
+    match why {
+        Refusal::Wrong(line, _) => SmpError::BadScript {
             line,
             cause: Cause::Word,
-        }),
-        Err(_) => Err(SmpError::NoMemory),
+        },
+        _ => SmpError::NoMemory,
+    }
+}
+
+// The trace that such a text tells.
+fn traced(alloc: Global, text: &[u8]) -> Result<Vec<u8>, SmpError> {
+    match print_kernel(alloc, 0, text) {
+        Ok(trace) => Ok(trace),
+        Err(why) => Err(refused(why)),
+    }
+}
+
+// Whether the trace that such a text tells has this ruling.
+fn trace_is(alloc: Global, text: &[u8], ruling: Ruling) -> Result<bool, SmpError> {
+    let trace = traced(alloc, text)?;
+    let mut reader = Watched::new(trace.as_slice());
+    let mut writer = Watched::new(Vec::new(alloc));
+    let found = judge_trace(alloc, &mut reader, &mut writer)?;
+    Ok(found == ruling)
+}
+
+// Whether the verdict on what a kernel's tracer wrote is printed as these bytes, and the trace of it has the same ruling.
+fn kernel_prints(alloc: Global, text: &[u8], expected: &[u8]) -> Result<bool, SmpError> {
+    match judge_kernel(alloc, 0, text) {
+        Ok((printed, ruling)) => {
+            Ok(are_same(printed.as_slice(), expected) && trace_is(alloc, text, ruling)?)
+        }
+        Err(why) => Err(refused(why)),
     }
 }
 
@@ -69,8 +98,10 @@ pub fn prints<T: Threads + Wait + Sync>(
     text: &[u8],
     expected: &[u8],
 ) -> Result<bool, SmpError> {
-    if let Kind::Kernel = kind {
-        return kernel_prints(alloc, text, expected);
+    match kind {
+        Kind::Kernel => return kernel_prints(alloc, text, expected),
+        Kind::KernelTrace => return Ok(are_same(traced(alloc, text)?.as_slice(), expected)),
+        _ => {}
     }
     let mut reader = Watched::new(text);
     let mut writer = Watched::new(Vec::new(alloc));

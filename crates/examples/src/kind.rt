@@ -38,13 +38,15 @@ pub enum Kind {
     Judge,
     /// By `smp judge --from ftrace`.
     Kernel,
+    /// By `smp judge --from ftrace --print`.
+    KernelTrace,
     /// By `smp events`.
     Events,
 }
 
 /// How an example is taken, by its word and the line's end: `None` where the word is none of these.
 pub fn kind_of(word: &[u8]) -> Option<Kind> {
-    let kinds: [(&[u8], Kind); 9] = [
+    let kinds: [(&[u8], Kind); 10] = [
         (b"replay\n".as_slice(), Kind::Replay),
         (b"run\n".as_slice(), Kind::Run),
         (b"lanes\n".as_slice(), Kind::Lanes),
@@ -53,6 +55,7 @@ pub fn kind_of(word: &[u8]) -> Option<Kind> {
         (b"script\n".as_slice(), Kind::Explore(WRITTEN)),
         (b"judge\n".as_slice(), Kind::Judge),
         (b"ftrace\n".as_slice(), Kind::Kernel),
+        (b"ftrace print\n".as_slice(), Kind::KernelTrace),
         (b"events\n".as_slice(), Kind::Events),
     ];
     for (name, kind) in kinds {
