@@ -18,7 +18,7 @@ use Rattle.smp_stop_steps.specs.Stages.{StopControlValue, StopOutcome, begun_nex
 use Rattle.smp_stop_steps.specs.Stages.{round_outcome, completion_outcome, stop_outcome}
 use Rattle.smp_stop_steps.specs.Tells.{is_multi}
 use Rattle.smp_stop_steps.specs.Value.{stop_control_of}
-use Rattle.smp_stop_steps.specs.declared.phase.TheConstants.{EXIT}
+use Rattle.smp_words.specs.declared.phase.TheConstants.{EXIT}
 use Rattle.smp_stop_steps.specs.declared.stage.CompletionStage.{CompletionStage}
 use Rattle.smp_stop_steps.specs.declared.stage.CompletionStage.TheVariants as completion
 use Rattle.smp_stop_steps.specs.declared.stage.RoundStage.{RoundStage}

@@ -1,6 +1,6 @@
 -- States of stops, and words, that break the headline: no core shows them.
 use Rattle.std.specs.Prelude.{ℕ, ◌==◌, Bool, true, false, cond, Some, []}
-use Rattle.smp_stop_steps.specs.Names.{Kind, Multi, Patch, Word, Entry, Site, DISABLE_IRQ, RUN}
+use Rattle.smp_stop_steps.specs.Names.{Kind, Multi, Patch, Word, Entry, Site, DISABLE_IRQ, RUN, PREPARE}
 use Rattle.smp_stop_steps.specs.{Labels.Patches, State.StopState, State.no_stops, State.no_present, State.Calls}
 use Rattle.smp_stop_steps.specs.Standings.{Standing, Inside, Nobody, Running, Stop}
 
@@ -20,7 +20,7 @@ abbrev pub all_disabled : ℕ → Standing
 all_disabled cpu = Inside DISABLE_IRQ RUN
 
 abbrev pub one_prepared : ℕ → Standing
-one_prepared cpu = cond (cpu == 0) (Inside 1 1) (Inside DISABLE_IRQ RUN)
+one_prepared cpu = cond (cpu == 0) (Inside PREPARE PREPARE) (Inside DISABLE_IRQ RUN)
 
 -- each CPU is inside this stop of CPU 0, and its interrupts are as given
 abbrev pub inside : Stop → (ℕ → Bool) → StopState

@@ -15,6 +15,7 @@ use Rattle.smp_stop_steps.specs.declared.stage.RoundStage.TheVariants as round
 use Rattle.smp_stop_steps.specs.declared.stage.CompletionStage.TheVariants as completion
 use Rattle.smp_words.specs.declared.field.Field.TheVariants as field
 use Rattle.smp_words.specs.declared.seen.Note.TheVariants as note
+use Rattle.smp_stop_steps.specs.Names.{PREPARE, DISABLE_IRQ}
 
 -- A command begins with its own first step, and with its own numbers: a turn with a look, a completion with the store of its answer
 -- where that is not 0. A command of the other half begins nowhere here.
@@ -49,7 +50,7 @@ Stores n work field.Result x = x ≡ 0
 Stores n work field.Todo x = x ≡ mask_weight n work.mask
 Stores n work field.Done x = x ≡ 0
 Stores n work field.Ack x = x ≡ mask_weight n work.mask
-Stores n work field.State x = ((work.kind ≡ One) × (x ≡ 0)) ⊎ ((work.kind ≢ One) × (x ≡ 1))
+Stores n work field.State x = ((work.kind ≡ One) × (x ≡ 0)) ⊎ ((work.kind ≢ One) × (x ≡ PREPARE))
 Stores n work field.Roll x = x ≡ work.mask
 
 -- a store into the own slot of what belongs there
@@ -98,7 +99,7 @@ NotesEndCommands = (me : ℕ) (c : StopControlValue) (stage : StopStage) (found 
 -- Interrupts go off only by a load that finds phase 2 in the state word of the stop that the CPU is in. So they are on while it is
 -- in PREPARE, in a stop of one CPU, and in no stop.
 abbrev pub GoesOff : Access → ℕ → Type 0
-GoesOff (Load (Slot s field.State)) found = found ≡ 2
+GoesOff (Load (Slot s field.State)) found = found ≡ DISABLE_IRQ
 GoesOff _ found = ⊥
 
 abbrev pub InterruptsGoOffAtDisable : Type 0

@@ -4,6 +4,7 @@ use Rattle.std.specs.Prelude.{◌≡◌, ◌≢◌, ℕ, ◌+◌, ◌%◌, ◌^�
 use Rattle.smp_words.specs.Commands.{Either, Follows}
 use Rattle.smp_stop_steps.specs.{Stages.StopControlValue, Stages.stop_outcome, Tells.is_multi}
 use Rattle.smp_stop_steps.specs.Names.{has, Note, StopStage, TakeGate, OpenGate, Begin, Enter, EnterKind, EnterMask, EnterActive, Advance, Complete, Close}
+use Rattle.smp_stop_steps.specs.Names.{EXIT}
 use Rattle.smp_stop_steps.specs.Names.{LoadDone, LoadResult, NudgeKey, ExchangeKey, Visit}
 use Rattle.smp_stop_steps.specs.declared.stage.StopStage.TheVariants.{ReadKey, ReadSite}
 use Rattle.smp_stop_steps.specs.Names.field
@@ -57,8 +58,8 @@ CommandsEndSo = (me : ℕ) (c : StopControlValue) (stage : StopStage) (found : �
 
 -- the note of a turn that has acknowledged this phase: phase 4 is EXIT
 pub record SaysPhase (phase : ℕ) (ran : Bool) (said : Option Note) : Type 0 where
-  pub left : phase ≡ 4 → said ≡ Some note.Left
-  pub stays : phase ≢ 4 → Either ran said (Some note.Ran) (Some (note.Moved phase))
+  pub left : phase ≡ EXIT → said ≡ Some note.Left
+  pub stays : phase ≢ EXIT → Either ran said (Some note.Ran) (Some (note.Moved phase))
 
 -- the note of the load of a nudge, up or down: none where it goes on
 pub record SaysUp (found : ℕ) (said : Option Note) : Type 0 where

@@ -25,7 +25,7 @@ pub use Rattle.smp_stop_steps.specs.declared.stage.StopStage.TheVariants.{Advanc
 pub use Rattle.smp_stop_steps.specs.declared.stage.RoundStage.{RoundStage}
 pub use Rattle.smp_stop_steps.specs.declared.stage.CompletionStage.{CompletionStage}
 pub use Rattle.smp_stop_steps.specs.declared.stage.Visit.{Visit}
-pub use Rattle.smp_stop_steps.specs.declared.phase.TheConstants.{PREPARE, DISABLE_IRQ, RUN, EXIT, OVER}
+pub use Rattle.smp_words.specs.declared.phase.TheConstants.{PREPARE, DISABLE_IRQ, RUN, EXIT, OVER}
 pub use Rattle.smp_words.specs.declared.field.Field.TheVariants as field
 pub use Rattle.smp_words.specs.declared.command.Command.TheVariants as command
 pub use Rattle.smp_words.specs.declared.seen.Act.TheVariants as act

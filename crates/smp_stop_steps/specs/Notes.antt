@@ -1,7 +1,7 @@
 -- What the note of a step of the stop half says of the state.
 use Rattle.std.specs.Int.{w32, cast_signed}
 use Rattle.std.specs.Prelude.{◌≡◌, ◌≢◌, ◌⊎◌, ℕ, ℤ, ◌+◌, ◌%◌, ◌^◌, Bool, true, false, Option, Some, None, List, [], ◌∷◌, ◌++◌}
-use Rattle.smp_stop_steps.specs.Names.{has, put, Note, Seen, Word, Gate, Slot, Key, Entry, Site, Work, StopStage}
+use Rattle.smp_stop_steps.specs.Names.{has, put, Note, Seen, Word, Gate, Slot, Key, Entry, Site, Work, StopStage, RUN, EXIT}
 use Rattle.smp_stop_steps.specs.{KeyCounts.moved_by, Labels.ReadSite, Carries.CarriesIn, Stages.StopControlValue, Steps.state_after, Tells.first_readings}
 use Rattle.smp_stop_steps.specs.{Labels.Reading, Labels.ReadKey, Shows.StopShows, Sources.Source, State.Setup, State.StopState, State.StopCall, Steps.note_then}
 use Rattle.smp_stop_steps.specs.{Seats.Seat, Sits.Sits, State.Moved, State.Calls, Stop.Inside, Stop.Refills, Stop.Last, Stop.Ended, Stop.acked, Tells.tells}
@@ -36,7 +36,7 @@ pub record HasAcked (q : StopState) (me phase : ℕ) : Type 0 where
 -- the same, and whether it is active there
 pub record HasAckedAs (q : StopState) (me phase : ℕ) (active : Bool) : Type 0 where
   pub acked : HasAcked q me phase
-  pub active_is : phase ≡ 3 → has (q.now.stop acked.slot).work.active me ≡ active
+  pub active_is : phase ≡ RUN → has (q.now.stop acked.slot).work.active me ≡ active
 
 -- its stop is open, of the work that it has begun last
 pub record HasBegun (p q : StopState) (me : ℕ) : Type 0 where
@@ -53,7 +53,7 @@ pub record HasCollected (p q : StopState) (me : ℕ) (result : ℤ) : Type 0 whe
 
 -- it has acknowledged EXIT, and its interrupts go on; it has read nothing since, but its own key
 pub record HasLeft (p q : StopState) (me : ℕ) : Type 0 where
-  pub acked : HasAcked q me 4
+  pub acked : HasAcked q me EXIT
   pub off : p.now.irq me ≡ false
   pub on : heard_of q ≡ record (heard_of p) {
     irq = put p.now.irq me true;
@@ -98,8 +98,8 @@ NoteFits p q me (Some Note.Begun) = HasBegun p q me
 NoteFits p q me (Some Note.Stale) = (q.now.inside me ≡ None) × IsUnheard p q
 NoteFits p q me (Some Note.Entered) = HasAcked q me 0 × IsUnheard p q
 NoteFits p q me (Some Note.Same) = ((a : ℕ) × HasAcked q me a) × IsUnheard p q
-NoteFits p q me (Some (Note.Moved phase)) = HasAckedAs q me phase false × (phase ≢ 4) × IsUnheard p q
-NoteFits p q me (Some Note.Ran) = HasAckedAs q me 3 true × IsUnheard p q
+NoteFits p q me (Some (Note.Moved phase)) = HasAckedAs q me phase false × (phase ≢ EXIT) × IsUnheard p q
+NoteFits p q me (Some Note.Ran) = HasAckedAs q me RUN true × IsUnheard p q
 NoteFits p q me (Some Note.Left) = HasLeft p q me
 NoteFits p q me (Some (Note.Run func arg)) = ((call : StopCall) × (q.calling me ≡ Calls call) × (call.func ≡ func) × (call.arg ≡ arg)) × IsUnheard p q
 NoteFits p q me (Some Note.Finished) = HasFinished p q me

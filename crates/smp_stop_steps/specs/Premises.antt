@@ -1,6 +1,6 @@
 -- Who may make which step of the stop half: what holds of the stops before it.
 use Rattle.std.specs.Prelude.{◌≡◌, ◌≢◌, ◌⊎◌, ℕ, ◌+◌, Bool, true, false, Option, Some, None}
-use Rattle.smp_stop_steps.specs.Names.{has, Field, Act, Word, Gate, Slot, Key, Entry, Site}
+use Rattle.smp_stop_steps.specs.Names.{has, Field, Act, Word, Gate, Slot, Key, Entry, Site, DISABLE_IRQ, RUN}
 use Rattle.smp_stop_steps.specs.Stop.{Stop, Inside, Called, Refills, Raises, Last, acked}
 use Rattle.smp_stop_steps.specs.{Callings.HasCompleted, Laws.IsThrough, State.StopState}
 
@@ -35,7 +35,7 @@ MayLoad p me s f = p.now.inside me ≡ Some s
 
 -- it has looked at RUN in a stop, and not acknowledged it
 abbrev pub IsAtRun : StopState → ℕ → Type 0
-IsAtRun p me = (s : ℕ) × (p.now.inside me ≡ Some s) × ((p.now.stop s).standing me ≡ Inside 2 3)
+IsAtRun p me = (s : ℕ) × (p.now.inside me ≡ Some s) × ((p.now.stop s).standing me ≡ Inside DISABLE_IRQ RUN)
 
 -- a load of a key or a site: with interrupts on, or in the function of a patch
 abbrev pub MayRead : StopState → ℕ → Type 0

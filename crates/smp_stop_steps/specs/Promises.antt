@@ -4,6 +4,7 @@ use Rattle.std.specs.List.{AllByRecursion}
 use Rattle.smp_labels.specs.{Law.IsLawful, Plans.AreEntriesOf}
 use Rattle.smp_words.specs.declared.seen.Note.TheVariants.{KeyRange}
 use Rattle.smp_stop_steps.specs.Names.{has, is_on, StopStage, Advance, NudgeKey, ExchangeKey, Visit, Patch, Work, Word, Gate, Slot, Key, Site, Field}
+use Rattle.smp_stop_steps.specs.Names.{DISABLE_IRQ, RUN}
 use Rattle.smp_stop_steps.specs.Labels.{labels_in, Agrees, Change, Whole, Patches, ReadKey, patch_answer}
 use Rattle.smp_stop_steps.specs.{Stop.Inside, Laws.PhaseLaw, Laws.FunctionLaw, KeyCounts.CountShows, State.Setup, State.IsSetup, State.StopState}
 use Rattle.smp_stop_steps.specs.{State.no_stops, Seats.Seat, Seats.Free, Sources.Source, Sources.Shut, Shows.StopShows, Stages.StopControlValue}
@@ -35,7 +36,7 @@ pub record RunsAlone (p : StopState) (s me : ℕ) : Type 0 where
 
 abbrev pub KeepTheFunctionLaw : Type 0
 KeepTheFunctionLaw = (u : Setup) (p : StopState) (at : Word → ℕ) (seat : ℕ → Seat) (source : ℕ → Source) → StopShows u p at seat source →
-    (s me : ℕ) → (p.now.stop s).standing me ≡ Inside 2 3 → RunsAlone p s me
+    (s me : ℕ) → (p.now.stop s).standing me ≡ Inside DISABLE_IRQ RUN → RunsAlone p s me
 
 -- the label law, for a CPU that is online and has its interrupts on: the table is lawful, and says all that it has read
 pub record ReadsLawful (p : StopState) (at : Word → ℕ) (me : ℕ) : Type 0 where

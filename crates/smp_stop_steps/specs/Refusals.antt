@@ -3,13 +3,14 @@ use Rattle.std.specs.Prelude.{◌≡◌, ◌≢◌, ◌⊎◌, ℕ, ◌<◌, tru
 use Rattle.smp_words.specs.Commands.{Refuses}
 use Rattle.smp_stop_steps.specs.{Members.BeginRefuses, Names.SmpError, Names.Command, Names.One, State.Setup, Stop.acked, Value.StopShown, Value.setup_of}
 use Rattle.smp_stop_steps.specs.{Names.cpus, Start.stop_refusal, State.StopState, Value.StopsValue, Value.stop_control_of}
+use Rattle.smp_stop_steps.specs.Names.{EXIT}
 
 -- the CPU is in a stop of several CPUs, and has not acknowledged EXIT there
 pub record MayAdvance (p : StopState) (me : ℕ) : Type 0 where
   pub slot : ℕ
   pub inside : p.now.inside me ≡ Some slot
   pub several : (p.now.stop slot).work.kind ≢ One
-  pub has_not_left : acked ((p.now.stop slot).standing me) ≢ 4
+  pub has_not_left : acked ((p.now.stop slot).standing me) ≢ EXIT
 
 -- it is in a stop of one CPU
 pub record MayRun (p : StopState) (me : ℕ) : Type 0 where
@@ -22,7 +23,7 @@ pub record MayFinish (p : StopState) (me : ℕ) : Type 0 where
   pub slot : ℕ
   pub inside : p.now.inside me ≡ Some slot
   pub several : (p.now.stop slot).work.kind ≢ One
-  pub has_left : acked ((p.now.stop slot).standing me) ≡ 4
+  pub has_left : acked ((p.now.stop slot).standing me) ≡ EXIT
 
 -- it is in no stop, and the slot is one of the first eight or that of a CPU
 pub record MayEnter (nr : ℕ) (p : StopState) (me slot : ℕ) : Type 0 where

@@ -1,7 +1,7 @@
 -- The order in which the steps of a command of the stop half touch their words.
 use Rattle.std.specs.Prelude.{◌≡◌, ◌≢◌, ◌⊎◌, ℕ, ◌+◌, ◌++◌, true, false, [], ◌∷◌, List, Option, Some, None, IsSomeAnd}
 use Rattle.smp_stop_steps.specs.{Labels.Change, Stages.StopControlValue, Stages.stop_access, Stages.stop_outcome, Tells.is_multi}
-use Rattle.smp_stop_steps.specs.Names.{has, word_of, Place, Word, Slot, Key, Field, StopStage, Begin, Enter, EnterKind, EnterMask, Advance, Complete}
+use Rattle.smp_stop_steps.specs.Names.{has, word_of, Place, Word, Slot, Key, Field, StopStage, Begin, Enter, EnterKind, EnterMask, Advance, Complete, RUN}
 use Rattle.smp_stop_steps.specs.Names.{LoadDone, Visit}
 use Rattle.smp_stop_steps.specs.Names.field
 use Rattle.smp_stop_steps.specs.Names.round
@@ -27,8 +27,8 @@ StoresThen me field.Roll next = next ≡ None
 
 -- A turn that finds a new phase loads its function at RUN, phase 3, where it is active; else it acknowledges at once.
 pub record LooksOn (me : ℕ) (v : Visit) (found : ℕ) (next : Option StopStage) : Type 0 where
-  pub runs : found ≢ v.acked → found ≡ 3 → has v.active me ≡ true → IsTo me next (Slot v.slot field.Func)
-  pub waits : found ≢ v.acked → (found ≢ 3) ⊎ (has v.active me ≡ false) → IsTo me next (Slot v.slot field.Ack)
+  pub runs : found ≢ v.acked → found ≡ RUN → has v.active me ≡ true → IsTo me next (Slot v.slot field.Func)
+  pub waits : found ≢ v.acked → (found ≢ RUN) ⊎ (has v.active me ≡ false) → IsTo me next (Slot v.slot field.Ack)
 
 -- An enter touches roll, kind, mask and active; a function is loaded before its argument, and both before the acknowledgement; the
 -- count is filled again before the next phase is stored; an answer is stored before its CPU counts itself as complete; done is

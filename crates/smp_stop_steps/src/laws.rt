@@ -4,7 +4,6 @@
 //! words that threads share alike.
 
 ghost use Rattle.std.specs.Prelude.{◌≡◌};
-ghost use Rattle.smp_stop_steps.specs.declared.phase.TheConstants.{PREPARE, DISABLE_IRQ, RUN, EXIT, OVER};
 ghost use Rattle.smp_stop_steps.specs.Promises.{NothingBegun, StepsAreTold, KeepThePhaseLaw, KeepTheCountLaw};
 ghost use Rattle.smp_stop_steps.specs.Promises.{KeepTheFunctionLaw, KeepTheLabelLaw, PatchesAlone};
 ghost use Rattle.smp_stop_steps.specs.Promises.{KeysStandOutsidePatches, NudgesStand, EdgesAreRead, PatchesAnswer};
@@ -26,11 +25,6 @@ ghost use Rattle.smp_stop_steps.specs.StopLaws.{KeepTheStopLaws};
 /// Words that show stops keep all laws that follow, between any two steps of any CPUs.
 pub fn stop_laws()
     ensures { KeepTheStopLaws }
-{}
-
-/// The phases have these numbers, in the state word of a slot and in what is seen of a turn.
-pub fn phases_have_numbers()
-    ensures { (PREPARE ≡ 1) × (DISABLE_IRQ ≡ 2) × (RUN ≡ 3) × (EXIT ≡ 4) × (OVER ≡ 5) }
 {}
 
 /// In an open stop of several CPUs each CPU of the mask has acknowledged the phase or the one before it, and the

@@ -6,7 +6,6 @@
 //! alike.
 //!
 //! - `mask`: Masks as the words of a slot have them: bit c for CPU c.
-//! - `phase`: The phases of a stop of several CPUs.
 //! - `stage`: Where a CPU is inside a command of the stop half.
 //! - `accesses`: What a CPU does to which word, at each stage of the stop half.
 //! - `control`: Where a CPU is in the stop half: which step it makes next, and what it knows of the stop that
@@ -25,7 +24,6 @@ pub mod known;
 pub mod laws;
 pub mod machine;
 pub mod mask;
-pub mod phase;
 pub mod stage;
 pub mod start;
 pub mod table;

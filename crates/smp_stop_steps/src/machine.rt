@@ -255,7 +255,7 @@ impl<A: Allocator> Stops<A> {
     }
 
     ghost use Rattle.smp_words.specs.declared.field.Field.TheVariants.{State};
-    ghost use Rattle.smp_stop_steps.specs.declared.phase.TheConstants.{OVER};
+    ghost use Rattle.smp_words.specs.declared.phase.TheConstants.{OVER};
     ghost use Rattle.smp_words.specs.declared.word.Word.TheVariants.{Slot};
 
     /// The state word of a slot, 0 to `OVER`; 0 where there is no such slot.

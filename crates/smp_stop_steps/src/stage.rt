@@ -4,9 +4,9 @@ ghost use Rattle.std.specs.Prelude.{◌≡◌, ◌≤◌, ◌↔◌, true};
 ghost use Rattle.smp_stop_steps.specs.Kept.{own_visit};
 ghost use Rattle.smp_stop_steps.specs.Stages.{completes_from, visit_acked};
 
-use crate::phase::RUN;
 use smp_labels::Change;
 use smp_words::field::Field;
+use smp_words::phase::RUN;
 use smp_words::work::{Kind, Work};
 
 /// What a CPU has loaded of the stop that it is in, and how far it is with it.

@@ -9,11 +9,11 @@ ghost use Rattle.smp_stop_steps.specs.Start.{answer_word as word_of_answer};
 
 use crate::control::StopControl;
 use crate::mask::{first_of, mask_word, weight};
-use crate::phase::EXIT;
 use crate::stage::{CompletionStage, RoundStage, StopStage, Visit};
 use smp_mask::{CpuMask, SmpError};
 use smp_words::command::Command;
 use smp_words::field::Field;
+use smp_words::phase::EXIT;
 use smp_words::size::{FIRST_TARGETS, NR_CPUS};
 use smp_words::work::{Kind, Work};
 

@@ -11,6 +11,7 @@ ghost use Rattle.smp_words.specs.declared.work.Kind.TheVariants.{One, Multi, Pat
 ghost use Rattle.smp_words.specs.declared.field.Field.TheVariants as field;
 ghost use Rattle.smp_words.specs.declared.word.Word.TheVariants.{Head, Intr, Hand, Queued, Ran, Flags, Func, Info, Next, Gate, Slot, Key, Entry, Site};
 
+use crate::phase::{DISABLE_IRQ, EXIT, OVER, PREPARE, RUN};
 use crate::size::{
     ENTRIES, FLAGS, FUNCS, GATE, HANDS, HEADS, INFOS, INTRS, KEYS, MOST_KEYS, MOST_SITES, NEXTS,
     NR_CPUS, QUEUED, RAN, RECORDS, RECORDS_OF_ONE, SITES, SLOTS, WORDS,
@@ -34,6 +35,11 @@ pub fn words_begin()
     ensures tallies { (QUEUED ≡ 96) × (RAN ≡ 1120) }
     ensures of_records { (FLAGS ≡ 2144) × (FUNCS ≡ 2145) × (INFOS ≡ 2146) × (NEXTS ≡ 2147) × (WORDS ≡ 6752) }
     ensures stops { (GATE ≡ 0) × (SLOTS ≡ 1) × (KEYS ≡ 353) × (ENTRIES ≡ 357) × (SITES ≡ 373) }
+{}
+
+/// The phases have these numbers, in the state word of a slot and in what is seen of a turn.
+pub fn phases_have_numbers()
+    ensures { (PREPARE ≡ 1) × (DISABLE_IRQ ≡ 2) × (RUN ≡ 3) × (EXIT ≡ 4) × (OVER ≡ 5) }
 {}
 
 /// A record belongs to the source that has it by a local number.

@@ -14,6 +14,7 @@
 //! - `access`: What a step does to one word.
 //! - `call`: A call, as its record has it.
 //! - `work`: What a stop is to do.
+//! - `phase`: The phases of a stop of several CPUs.
 //! - `command`: What a CPU may be told to do.
 //! - `same`: Values that can be made once more, and of which two can be the same.
 #![tactic(auto)]
@@ -24,6 +25,7 @@ pub mod command;
 pub mod field;
 pub mod laws;
 pub mod limits;
+pub mod phase;
 pub mod same;
 pub mod seen;
 pub mod size;

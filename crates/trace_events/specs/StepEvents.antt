@@ -23,6 +23,7 @@ use Rattle.trace_events.specs.declared.past.Draft.{Draft}
 use Rattle.trace_events.specs.declared.past.Past.{Past}
 use Rattle.trace_events.specs.declared.step_events.StepEvents.{StepEvents}
 use Rattle.trace_events.specs.declared.step_events.StepEvents.TheVariants.{Nothing, One, Two}
+use Rattle.smp_words.specs.declared.phase.TheConstants.{PREPARE, DISABLE_IRQ, RUN}
 
 -- a record is unlocked: the ASYNC call of the note begins too; a call that was given up tells nothing
 abbrev pub of_unlock : ℕ → Option Note → StepEvents
@@ -79,10 +80,10 @@ of_roll p source act.Store s = One (Stop (stops.Open (task_of p.draft)))
 of_roll p source act.And s = if nat_lt s.cpu 32 && has (unwrap_or s.found 0) s.cpu then One (Stop (stops.Enter source)) else Nothing
 of_roll p source _ s = Nothing
 
--- the phase: interrupts go off where 2 is new, and the phase grows to 2 and on
+-- the phase: interrupts go off where DISABLE_IRQ is new, and the phase grows beyond PREPARE
 abbrev pub of_state : Act → Seen → StepEvents
-of_state act.Load s = if (unwrap_or s.found 0 == 2) && is_new s.note then One (Stop stops.Off) else Nothing
-of_state act.Store s = if nat_lt 1 (unwrap_or s.put 0) then with_on (stops.Raise (phase_of (unwrap_or s.put 0))) s.note else Nothing
+of_state act.Load s = if (unwrap_or s.found 0 == DISABLE_IRQ) && is_new s.note then One (Stop stops.Off) else Nothing
+of_state act.Store s = if nat_lt PREPARE (unwrap_or s.put 0) then with_on (stops.Raise (phase_of (unwrap_or s.put 0))) s.note else Nothing
 of_state _ s = Nothing
 
 -- the count of acknowledgements: the phase that the CPU last loaded anew is acknowledged
@@ -120,9 +121,9 @@ abbrev pub of_nudge : ℕ → ℕ → Option ℕ → StepEvents
 of_nudge key found (Some put) = One (Label (labels.Nudge key (nat_lt found put)))
 of_nudge key found None = Nothing
 
--- a key: a load reads it, but for that of a patch at phase 3, and a store is a patch's
+-- a key: a load reads it, but for that of a patch at RUN, and a store is a patch's
 abbrev pub of_key : Past → ℕ → Act → Seen → StepEvents
-of_key p key act.Load s = if p.phase == 3 then Nothing else One (Label (labels.Key key (is_on (unwrap_or s.found 0))))
+of_key p key act.Load s = if p.phase == RUN then Nothing else One (Label (labels.Key key (is_on (unwrap_or s.found 0))))
 of_key p key act.Store s = One (Label (labels.Set key (unwrap_or s.put 0)))
 of_key p key act.Cas s = of_nudge key (unwrap_or s.found 0) s.put
 of_key p key _ s = Nothing

@@ -7,6 +7,7 @@ use crate::calls::{of_flags, of_gate, of_hand, of_head, of_intr, of_ran};
 use crate::past::Past;
 use crate::stops::of_slot;
 use smp_labels::is_on;
+use smp_words::phase::RUN;
 use smp_words::{Act, Seen, Word};
 use trace_model::{Event, LabelEvent};
 
@@ -24,7 +25,7 @@ fn of_key(past: &Past, key: u32, seen: Seen) -> StepEvents
 {
     let found = seen.found.unwrap_or(0);
     match seen.act {
-        Act::Load if past.phase == 3 => StepEvents::Nothing,
+        Act::Load if past.phase == RUN => StepEvents::Nothing,
         Act::Load => StepEvents::One(Event::Label(LabelEvent::Key(key, is_on(found)))),
         Act::Store => StepEvents::One(Event::Label(LabelEvent::Set(key, seen.put.unwrap_or(0)))),
         Act::Cas => match seen.put {

@@ -6,6 +6,7 @@ ghost use Rattle.trace_events.specs.StepEvents.{of_ack, of_arg, of_result, of_ro
 use crate::mask::{has_bit, mask_of};
 use crate::past::{Draft, Past, is_new, phase_of};
 use crate::step_events::StepEvents;
+use smp_words::phase::{DISABLE_IRQ, PREPARE};
 use smp_words::{Act, Field, Note, Seen};
 use trace_model::{Event, StopEvent, Task};
 
@@ -45,16 +46,19 @@ fn of_roll(past: &Past, source: u32, seen: Seen) -> StepEvents
     }
 }
 
-/// What a step on the phase tells: interrupts go off at 2, or the phase grows.
+/// What a step on the phase tells: interrupts go off at `DISABLE_IRQ`, or the phase grows.
 fn of_state(seen: Seen) -> StepEvents
     ensures { result ≡ of_state seen.act seen }
 {
     let put = seen.put.unwrap_or(0);
     match seen.act {
-        Act::Load if seen.found.unwrap_or(0) == 2 && is_new(seen.note) => {
+        Act::Load if seen.found.unwrap_or(0) == u64::from(DISABLE_IRQ) && is_new(seen.note) => {
             StepEvents::One(Event::Stop(StopEvent::Off))
         }
-        Act::Store if put > 1 => with_on(StopEvent::Raise(phase_of(put)), seen.note),
+        Act::Store if put > u64::from(PREPARE) => with_on(
+            StopEvent::Raise(phase_of(put)),
+            seen.note,
+        ),
         _ => StepEvents::Nothing,
     }
 }

@@ -28,6 +28,7 @@ use Rattle.trace_events.specs.Past.{past_at}
 use Rattle.trace_events.specs.declared.past.Draft.{Draft}
 use Rattle.trace_events.specs.declared.past.Past.{Past}
 use Rattle.trace_laws.specs.AgreeingPatches.{PatchingIs}
+use Rattle.smp_words.specs.declared.phase.TheConstants.{RUN}
 
 -- a work, as events tell it
 abbrev pub told_work : Work → Task
@@ -120,7 +121,7 @@ pub record CpuIs (p : StopState) (s : StateValue) (past : Past) (cpu : ℕ) : Ty
   pub irq : (cpu_at s cpu).irq ≡ p.now.irq cpu
   pub stop : (source : ℕ) → p.now.inside cpu ≡ Some source → InsideIs p s past cpu source
   pub answer : p.now.inside cpu ≡ None → past.answer ≡ pos 0
-  pub reads : past.phase ≡ 3 → p.now.irq cpu ≡ false
+  pub reads : past.phase ≡ RUN → p.now.irq cpu ≡ false
 
 -- All stops and CPUs.
 pub record FollowsStops (p : StopState) (at : Word → ℕ) (pasts : List Past) (s : StateValue) : Type 0 where

@@ -37,6 +37,7 @@ use Rattle.trace_events.specs.declared.moments.Asked.{Asked}
 use Rattle.trace_events.specs.declared.moments.Asked.TheVariants.{Turn, Show}
 use Rattle.trace_events.specs.declared.moments.Moment.{Moment}
 use Rattle.trace_laws.specs.AcceptedReplays.{FitsCpus, IsAccepted}
+use Rattle.smp_words.specs.declared.phase.TheConstants.{PREPARE, DISABLE_IRQ, EXIT, OVER}
 
 -- the numbers of an event of calls are of its types
 abbrev pub CallFits : CallEvent → Type 0
@@ -52,8 +53,8 @@ CallFits _ = Unit {0}
 abbrev pub StopFits : StopEvent → Type 0
 StopFits (stops.Open t) = (t.mask < 2 ^ 32) × (t.active < 2 ^ 32) × (t.func < 2 ^ 64) × (t.arg < 2 ^ 64)
 StopFits (stops.Enter source) = source < 2 ^ 32
-StopFits (stops.Ack phase) = (1 ≤ phase) × (phase ≤ 4)
-StopFits (stops.Raise phase) = (2 ≤ phase) × (phase ≤ 5)
+StopFits (stops.Ack phase) = (PREPARE ≤ phase) × (phase ≤ EXIT)
+StopFits (stops.Raise phase) = (DISABLE_IRQ ≤ phase) × (phase ≤ OVER)
 StopFits (stops.Run func arg) = (func < 2 ^ 64) × (arg < 2 ^ 64)
 StopFits (stops.Complete answer) = IsAnswer answer
 StopFits (stops.Collect answer) = IsAnswer answer

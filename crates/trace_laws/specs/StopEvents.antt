@@ -14,6 +14,7 @@ use Rattle.trace_model.specs.State.{StateValue}
 use Rattle.trace_model.specs.declared.event.LabelEvent.{LabelEvent}
 use Rattle.trace_model.specs.declared.event.LabelEvent.TheVariants as labels
 use Rattle.smp_labels.specs.declared.words.LabelWords.{LabelWords}
+use Rattle.smp_words.specs.declared.phase.TheConstants.{DISABLE_IRQ, RUN}
 
 -- What a CPU's events tell: the stop that it is in, the phase that it acknowledged last since it entered, whether its function has
 -- run since then, and whether its interrupts are on.
@@ -60,19 +61,19 @@ work_from source old (e ∷ es) = work_from source (work_next source old e) es
 abbrev pub work : ℕ → List (ℕ × Event) → Option Task
 work source es = work_from source None es
 
--- A CPU is held with its interrupts off: it is in this stop, it has acknowledged DISABLE_IRQ (2) and not EXIT (4), and each call
+-- A CPU is held with its interrupts off: it is in this stop, it has acknowledged DISABLE_IRQ and not EXIT, and each call
 -- that began on it has ended.
 pub record IsHeld (u : Setting) (es : List (ℕ × Event)) (source cpu : ℕ) : Type 0 where
   pub inside : (seen cpu es).inside ≡ Some source
-  pub disabled : 2 ≤ (seen cpu es).acked
-  pub not_past : (seen cpu es).acked ≤ 3
+  pub disabled : DISABLE_IRQ ≤ (seen cpu es).acked
+  pub not_past : (seen cpu es).acked ≤ RUN
   pub irq : u.without.switches ≡ false → (seen cpu es).irq ≡ false
   pub quiet : map record_of (begins cpu es) ≡ ends cpu es
 
 -- A CPU is at RUN of a rendezvous: it is active and has not acknowledged RUN, and all of the mask are held.
 pub record IsAtRun (u : Setting) (es : List (ℕ × Event)) (source cpu : ℕ) (task : Task) : Type 0 where
   pub active : has task.active cpu ≡ true
-  pub acked : (seen cpu es).acked ≡ 2
+  pub acked : (seen cpu es).acked ≡ DISABLE_IRQ
   pub all : (member : ℕ) → member < 32 → has task.mask member ≡ true → IsHeld u es source member
 
 -- what a function that runs owes, by the kind of its stop: that of a rendezvous runs only at RUN, and a patch has none

@@ -9,6 +9,7 @@ use Rattle.trace_model.specs.declared.stop.Stop.{Stop}
 use Rattle.trace_model.specs.Cpu.{CpuState, handles_nothing, is_empty}
 use Rattle.trace_model.specs.State.{StateValue, cpu_at}
 use Rattle.trace_model.specs.Stop.{acked_by, answer_of, least}
+use Rattle.smp_words.specs.declared.phase.TheConstants.{OVER}
 
 -- how many calls a CPU has queued for another, and how many of these have ended
 abbrev pub queued_by : StateValue → ℕ → ℕ → ℕ
@@ -51,10 +52,10 @@ locked_of s = count_by is_locked s.places
 abbrev pub busy_of : StateValue → ℕ
 busy_of s = count_by is_busy s.cpus
 
--- a stop waits for a CPU of its mask: at 0 and 5 to complete, else to acknowledge the phase
+-- a stop waits for a CPU of its mask: at 0 and OVER to complete, else to acknowledge the phase
 abbrev pub is_waited_for : Stop → ℕ → Bool
 is_waited_for stop cpu =
-    if (stop.phase == 0) || (stop.phase == 5) then is_none (answer_of stop cpu) else nat_lt (acked_by stop cpu) stop.phase
+    if (stop.phase == 0) || (stop.phase == OVER) then is_none (answer_of stop cpu) else nat_lt (acked_by stop cpu) stop.phase
 
 abbrev pub waits : Stop → ℕ → Bool
 waits stop cpu = has stop.task.mask cpu && is_waited_for stop cpu

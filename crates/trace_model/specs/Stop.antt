@@ -13,6 +13,7 @@ use Rattle.trace_model.specs.declared.stop.Stop.{Stop}
 use Rattle.trace_model.specs.declared.stop.Task.{Task}
 use Rattle.trace_model.specs.declared.stop.Patch.{Patch}
 use Rattle.trace_model.specs.declared.without.Setting.{Setting}
+use Rattle.smp_words.specs.declared.phase.TheConstants.{PREPARE, RUN, EXIT}
 
 -- the first number from c on that passes, of this number of them
 unfoldable pub first_from : (ℕ → Bool) → ℕ → ℕ → Option ℕ
@@ -65,7 +66,7 @@ closed mask = record {
 -- the phase that a stop opens at
 abbrev pub first_phase : Kind → ℕ
 first_phase One = 0
-first_phase _ = 1
+first_phase _ = PREPARE
 
 -- a stop that is open, of all of whose mask nobody has entered
 abbrev pub opening : Task → Stop
@@ -108,10 +109,10 @@ abbrev pub is_cpu : Option ℕ → ℕ → Bool
 is_cpu None cpu = false
 is_cpu (Some c) cpu = c == cpu
 
--- a CPU has acknowledged phase 4, and is not to raise it
+-- a CPU has acknowledged EXIT, and is not to raise it
 abbrev pub through : Stop → ℕ → Result (Unit {0}) Reason
 through stop cpu =
-    if nat_lt (acked_by stop cpu) 4 then Err (reason.NotAcknowledged cpu 4)
+    if nat_lt (acked_by stop cpu) EXIT then Err (reason.NotAcknowledged cpu EXIT)
     else if is_cpu stop.raiser cpu then Err (reason.PhaseIs stop.phase) else Ok tt
 
 -- a CPU is called: it is of the mask, and has not entered
@@ -145,7 +146,7 @@ raised cpu phase stop = if stop.phase == phase - 1 then raised_by stop.raiser cp
 
 -- a CPU of a rendezvous may call the function: it is active, and at RUN
 abbrev pub may_run : Kind → ℕ → Stop → Result (Unit {0}) Reason
-may_run Multi cpu stop = if has stop.task.active cpu then at_phase stop cpu 3 else Err (reason.NotActive cpu)
+may_run Multi cpu stop = if has stop.task.active cpu then at_phase stop cpu RUN else Err (reason.NotActive cpu)
 may_run _ cpu stop = Ok tt
 
 abbrev pub has_run : Stop → ℕ → Bool

@@ -15,6 +15,7 @@ use Rattle.trace_model.specs.Cpu.{handles_nothing, in_stop, with_interrupts}
 use Rattle.trace_model.specs.Labels.{front_of, patch_now, popped, stored, to_be}
 use Rattle.trace_model.specs.State.{StateValue, cpu_at, stop_at, with_cpu, with_stop}
 use Rattle.trace_model.specs.Stop.{acknowledged, at_phase, collected, completed, entered, has_run, is_cpu, opened, raised, ran_function, through}
+use Rattle.smp_words.specs.declared.phase.TheConstants.{DISABLE_IRQ, RUN, EXIT, OVER}
 
 -- what becomes of the stop of a source
 abbrev pub on_stop : ℕ → StateValue → Result Stop Reason → Result StateValue Reason
@@ -121,14 +122,14 @@ acks_disabled false cpu s = if (cpu_at s cpu).irq then Err reason.InterruptsOn e
 -- a CPU may acknowledge a phase
 abbrev pub may_ack : ℕ → ℕ → ℕ → StateValue → Result StateValue Reason
 may_ack cpu source phase s = at_phase (stop_at s source) cpu phase >>= λ u.
-    if phase == 2 then (acks_disabled s.setting.without.switches cpu s >>= λ v. Ok s)
-    else (if (phase == 3) && has (stop_at s source).task.active cpu then acks_at_run cpu source s else Ok s)
+    if phase == DISABLE_IRQ then (acks_disabled s.setting.without.switches cpu s >>= λ v. Ok s)
+    else (if (phase == RUN) && has (stop_at s source).task.active cpu then acks_at_run cpu source s else Ok s)
 
--- where switches are left out, interrupts go off with phase 2, and on with phase 4 but of the one that is to raise it
+-- where switches are left out, interrupts go off with DISABLE_IRQ, and on with EXIT but of the one that is to raise it
 abbrev pub switched_at : ℕ → ℕ → ℕ → StateValue → StateValue
 switched_at cpu source phase s =
-    if phase == 2 then with_irq cpu false s
-    else (if phase == 4 then with_irq cpu (not (is_cpu (stop_at s source).raiser cpu)) s else s)
+    if phase == DISABLE_IRQ then with_irq cpu false s
+    else (if phase == EXIT then with_irq cpu (not (is_cpu (stop_at s source).raiser cpu)) s else s)
 
 abbrev pub switched : ℕ → ℕ → ℕ → StateValue → StateValue
 switched cpu source phase s = if s.setting.without.switches then switched_at cpu source phase s else s
@@ -144,7 +145,7 @@ ack_by cpu phase s = in_round cpu s >>= λ source. may_ack cpu source phase s >>
 
 -- where switches are left out, interrupts are on once the last phase is raised
 abbrev pub switched_on : ℕ → ℕ → StateValue → StateValue
-switched_on cpu phase s = if s.setting.without.switches && (phase == 5) then with_irq cpu true s else s
+switched_on cpu phase s = if s.setting.without.switches && (phase == OVER) then with_irq cpu true s else s
 
 -- a CPU raises the phase of its rendezvous
 unfoldable pub raise_by : ℕ → ℕ → StateValue → Result StateValue Reason
@@ -154,7 +155,7 @@ raise_by cpu phase s =
 -- a CPU may turn its interrupts off: at phase 2, where it handles nothing
 abbrev pub may_off : ℕ → ℕ → StateValue → Result (Unit {0}) Reason
 may_off cpu source s =
-    if (cpu_at s cpu).irq then (at_phase (stop_at s source) cpu 2 >>= λ u. handles_nothing (cpu_at s cpu)) else Err reason.InterruptsOff
+    if (cpu_at s cpu).irq then (at_phase (stop_at s source) cpu DISABLE_IRQ >>= λ u. handles_nothing (cpu_at s cpu)) else Err reason.InterruptsOff
 
 unfoldable pub off_by : ℕ → StateValue → Result StateValue Reason
 off_by cpu s = in_round cpu s >>= λ source. may_off cpu source s >>= λ u. Ok (with_irq cpu false s)
@@ -189,7 +190,7 @@ if_patch kind source = Err (reason.StopIsOf source kind)
 
 abbrev pub in_patch : ℕ → StateValue → Result ℕ Reason
 in_patch cpu s = stop_of cpu s >>= λ source. if_patch (stop_at s source).task.kind source >>= λ patch.
-    if has (stop_at s source).task.active cpu then (at_phase (stop_at s source) cpu 3 >>= λ u. Ok source) else Err (reason.NotActive cpu)
+    if has (stop_at s source).task.active cpu then (at_phase (stop_at s source) cpu RUN >>= λ u. Ok source) else Err (reason.NotActive cpu)
 
 -- that is the store of this word at this place
 abbrev pub is_place : Place → Place → Bool

@@ -12,6 +12,7 @@ use crate::state::State;
 use crate::stop::Stop;
 use crate::table::at;
 use smp_mask::CpuMask;
+use smp_words::phase::OVER;
 use std::alloc::Allocator;
 
 /// A mask with one member more.
@@ -38,7 +39,7 @@ impl Stop {
     fn is_waited_for(&self, cpu: u32) -> bool
         ensures { result ≡ is_waited_for self.now cpu }
     {
-        if self.phase == 0 || self.phase == 5 {
+        if self.phase == 0 || self.phase == OVER {
             return at(&self.answers, cpu, None).is_none();
         }
         at(&self.acked, cpu, 0) < self.phase

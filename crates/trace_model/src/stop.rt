@@ -12,6 +12,7 @@ use crate::reason::Reason;
 use crate::table::{at, put};
 use crate::without::Setting;
 use smp_mask::CpuMask;
+use smp_words::phase::{EXIT, PREPARE, RUN};
 use smp_words::work::Kind;
 
 /// What a stop is to do, as its `open` tells it.
@@ -145,7 +146,7 @@ impl Stop {
         *self = Stop {
             is_open: true,
             task,
-            phase: if task.kind == Kind::One { 0 } else { 1 },
+            phase: if task.kind == Kind::One { 0 } else { PREPARE },
             ..Stop::closed(task.mask)
         };
         Ok(())
@@ -192,12 +193,12 @@ impl Stop {
         }
     }
 
-    /// Refuses where a CPU has not acknowledged phase 4, or is to raise it.
+    /// Refuses where a CPU has not acknowledged EXIT, or is to raise it.
     pub(crate) fn through(&self, cpu: u32) -> Result<(), Reason>
         ensures { result ≡ through self.now cpu }
     {
-        if at(&self.acked, cpu, 0) < 4 {
-            return Err(Reason::NotAcknowledged(cpu, 4));
+        if at(&self.acked, cpu, 0) < EXIT {
+            return Err(Reason::NotAcknowledged(cpu, EXIT));
         }
         if self.raiser == Some(cpu) {
             return Err(Reason::PhaseIs(self.phase));
@@ -265,7 +266,7 @@ impl Stop {
             if !self.is_active(cpu) {
                 return Err(Reason::NotActive(cpu));
             }
-            self.at_phase(cpu, 3)?;
+            self.at_phase(cpu, RUN)?;
         }
         if at(&self.ran, cpu, false) {
             return Err(Reason::FunctionHasRun);

@@ -13,6 +13,7 @@ use crate::reason::Reason;
 use crate::state::State;
 use crate::stop::{Patch, Task};
 use smp_labels::Place;
+use smp_words::phase::{DISABLE_IRQ, EXIT, OVER, RUN};
 use smp_words::work::Kind;
 use std::alloc::Allocator;
 
@@ -145,11 +146,11 @@ impl<A: Allocator + Copy> State<A> {
         ensures { Makes result self.new (may_ack cpu source phase self.old) }
     {
         self.stop(source).at_phase(cpu, phase)?;
-        if phase == 2 {
+        if phase == DISABLE_IRQ {
             self.acks_disabled(cpu)?;
             return Ok(());
         }
-        if phase == 3 && self.stop(source).is_active(cpu) {
+        if phase == RUN && self.stop(source).is_active(cpu) {
             return self.acks_at_run(cpu, source);
         }
         Ok(())
@@ -170,7 +171,7 @@ impl<A: Allocator + Copy> State<A> {
         Ok(())
     }
 
-    /// Where switches are left out, interrupts go off with phase 2, and on with phase 4 but of the one that is to raise it.
+    /// Where switches are left out, interrupts go off with DISABLE_IRQ, and on with EXIT but of the one that is to raise it.
     fn switch(&mut self, cpu: u32, source: u32, phase: u32)
         requires cpu { cpu < 32 }
         requires source { source < 32 }
@@ -179,9 +180,9 @@ impl<A: Allocator + Copy> State<A> {
         if !self.setting.without.switches {
             return;
         }
-        if phase == 2 {
+        if phase == DISABLE_IRQ {
             self.put_irq(cpu, false);
-        } else if phase == 4 {
+        } else if phase == EXIT {
             let raises = self.stop(source).is_raiser(cpu);
             self.put_irq(cpu, !raises);
         }
@@ -217,7 +218,7 @@ impl<A: Allocator + Copy> State<A> {
         requires { cpu < 32 }
         ensures { self.new ≡ switched_on cpu phase self.old }
     {
-        if self.setting.without.switches && phase == 5 {
+        if self.setting.without.switches && phase == OVER {
             self.put_irq(cpu, true);
         }
     }
@@ -231,7 +232,7 @@ impl<A: Allocator + Copy> State<A> {
         if !self.has_irq(cpu) {
             return Err(Reason::InterruptsOff);
         }
-        self.stop(source).at_phase(cpu, 2)?;
+        self.stop(source).at_phase(cpu, DISABLE_IRQ)?;
         self.handles_nothing(cpu)
     }
 
@@ -316,7 +317,7 @@ impl<A: Allocator + Copy> State<A> {
         if !stop.is_active(cpu) {
             return Err(Reason::NotActive(cpu));
         }
-        stop.at_phase(cpu, 3)?;
+        stop.at_phase(cpu, RUN)?;
         Ok(source)
     }
 

@@ -13,9 +13,10 @@ use Rattle.smp_stop_steps.proofs.Knows.Parts.{Leaves, first_put, goes_seat, goes
 use Rattle.smp_stop_steps.proofs.Steps.Patching.{key_read, site_read, key_loaded_first, key_stored, site_stored, key_exchanged}
 use Rattle.smp_stop_steps.proofs.{Knows.KnownRounds.stands, Knows.KnownRounds.reads_now, Knows.KnownSources.still}
 use Rattle.smp_stop_steps.specs.declared.known.OwnMove.TheVariants as own
+use Rattle.smp_stop_steps.specs.Names.{DISABLE_IRQ, RUN}
 
 -- where interrupts are on, a CPU does not stand at the function
-not_at_run : (s : ℕ) (w : Work) (a l : ℕ) (t : Duty) → irq_of (In s w a l t) ≡ true → (a == 2 && l == 3) ≡ false
+not_at_run : (s : ℕ) (w : Work) (a l : ℕ) (t : Duty) → irq_of (In s w a l t) ≡ true → (a == DISABLE_IRQ && l == RUN) ≡ false
 not_at_run s w a l t on = search (at_test, arith)
 
 -- the counts of one CPU, with one moved
@@ -99,7 +100,7 @@ module _ (p : StopState) (at : Word → ℕ) (seat : ℕ → Seat) (source : ℕ
 
   -- patches
 
-  pub begin_patch : (s : ℕ) (w : Work) → v.seat ≡ In s w 2 3 Rests → w.kind ≡ Patch → has w.active v.number ≡ true →
+  pub begin_patch : (s : ℕ) (w : Work) → v.seat ≡ In s w DISABLE_IRQ RUN Rests → w.kind ≡ Patch → has w.active v.number ≡ true →
       Loads (Key w.func) (key_loaded_by w.func (at (Key w.func)) v.seat v)
   begin_patch s w is kind active = let found = at (Key w.func) in
       let next = Alters s w found [] (plan_at u w found) in

@@ -14,6 +14,7 @@ use Rattle.smp_stop_steps.proofs.Steps.Rounds.{state_loaded, ack_subtracted, ack
 use Rattle.smp_stop_steps.proofs.{Steps.Same.word_same, Steps.Callings.carried_alone, Basics.Bits.clear_same, Basics.Bits.clear_other, Basics.Bits.clear_none}
 use Rattle.smp_stop_steps.proofs.{Steps.Completions.roll_cleared, State.Moves.IsNoPatch, Steps.Facts.high_none, Steps.Facts.arg_loaded, Steps.Facts.ack_bounds}
 use Rattle.smp_stop_steps.proofs.{Steps.Facts.ack_bounds_patched, Knows.KnownSources.still, State.Phases.is_open_inside, Steps.StageSteps.less_one}
+use Rattle.smp_stop_steps.specs.Names.{DISABLE_IRQ, RUN, EXIT, OVER}
 
 pub small : (n : ℕ) → n ≤ cpus → n < 2 ^ 64
 small n l = omega arith
@@ -93,7 +94,7 @@ module _ (p : StopState) (at : Word → ℕ) (seat : ℕ → Seat) (source : ℕ
 
   -- a round
 
-  pub look : (s : ℕ) (w : Work) (a l : ℕ) → v.seat ≡ In s w a l Rests → a ≢ 4 → Loads (Slot s Field.State) (looked_known (at (Slot s Field.State)) v)
+  pub look : (s : ℕ) (w : Work) (a l : ℕ) → v.seat ≡ In s w a l Rests → a ≢ EXIT → Loads (Slot s Field.State) (looked_known (at (Slot s Field.State)) v)
   look s w a l is more = let found = at (Slot s Field.State) in
       let p' = told u p v.number Act.Load (Slot s Field.State) (Some found) None 0 in
       let shown' = goes_seat p seat source v sees p' at (In s w a found Rests) (record (v.part) { looks = v.part.looks ++ found ∷ [] })
@@ -134,7 +135,7 @@ module _ (p : StopState) (at : Word → ℕ) (seat : ℕ → Seat) (source : ℕ
       Leaves v.number p (record p { now = n; calls = calls; calling = calling }) part
   acked_leaves n calls calling part mine others calls_mine calls_others same = search (Leaves, arith)
 
-  pub acknowledge : (s : ℕ) (w : Work) (a : ℕ) → v.seat ≡ In s w a (a + 1) Rests → (a ≡ 2 → HasCalled v.number w v.part.calling) →
+  pub acknowledge : (s : ℕ) (w : Work) (a : ℕ) → v.seat ≡ In s w a (a + 1) Rests → (a ≡ DISABLE_IRQ → HasCalled v.number w v.part.calling) →
       Subs (Slot s Field.Ack) (acked_by (at (Slot s Field.Ack)) v.seat v)
   acknowledge s w a is ready = let found = at (Slot s Field.Ack) in
       let here = sees.seat_is ∙ is in
@@ -143,21 +144,21 @@ module _ (p : StopState) (at : Word → ℕ) (seat : ℕ → Seat) (source : ℕ
       let at' = put_word at (Slot s Field.Ack) (found - 1) in
       let next = In s w (a + 1) (a + 1) (cond (found == 1) Fills Rests) in
       let p' = acknowledges p v.number s (Inside a (a + 1)) found in
-      let leaves_it = a + 1 == 4 && not (found == 1) in
+      let leaves_it = a + 1 == EXIT && not (found == 1) in
       let n : Present = record (p.now) {
         stop = put p.now.stop s (acknowledged (p.now.stop s) v.number (a + 1) found);
-        patching = cond (a + 1 == 3) (unpatched v.number p.now.patching) p.now.patching;
+        patching = cond (a + 1 == RUN) (unpatched v.number p.now.patching) p.now.patching;
       } in
-      let part = ran_since (a + 1 == 3) (read_since leaves_it s w v) in
+      let part = ran_since (a + 1 == RUN) (read_since leaves_it s w v) in
       let alone = carried_alone u.first p.now.patching seat v.number (p.calling v.number) (subst IsNoPatch (sym here) tt) h.present.runner in
       let shown' = goes_seat p seat source v sees p' at' next part (told_so u v.number p p' Act.Sub (Slot s Field.Ack) (Some found)
       (Some (one_less found)) (ap (λ (x : Standing). acknowledges p v.number s x found) st.1)) (subst (λ (x : Standing). StopShows u (acknowledges p v.number
       s x found) at' (put seat v.number next) source) st.1 (ack_subtracted u p at seat source h s v.number w a 0 here
       (λ two. has_called w (p.calling v.number) (subst (HasCalled
       v.number w) (sym sees.part_is.calling) (ready two))))) (acked_leaves (acknowledges_now p.now v.number s (a + 1) found) p'.calls p'.calling part
-      (left_mine leaves_it n s (p.now.stop s).work w st.3 refl) (left_other leaves_it n s (p.now.stop s).work refl) (ran_mine (a + 1 == 3) (carried
+      (left_mine leaves_it n s (p.now.stop s).work w st.3 refl) (left_other leaves_it n s (p.now.stop s).work refl) (ran_mine (a + 1 == RUN) (carried
       v.number p.now.patching (p.calling v.number)) (ap told_calling alone ∙ (told_carried (p.calling v.number) ∙ ap carried_call sees.part_is.calling)))
-      (ran_other (a + 1 == 3) (carried v.number p.now.patching (p.calling v.number))) refl) in
+      (ran_other (a + 1 == RUN) (carried v.number p.now.patching (p.calling v.number))) refl) in
       search (less_one found bounds.0 (small found bounds.1), is, shown', arith)
 
   pub acknowledge_patch : (s : ℕ) (w : Work) (count : ℕ) (made : List Change) → v.seat ≡ Alters s w count made [] →
@@ -167,8 +168,8 @@ module _ (p : StopState) (at : Word → ℕ) (seat : ℕ → Seat) (source : ℕ
       let st = stands (Alters s w count made []) is in
       let bounds = ack_bounds_patched u p at seat source h s v.number w count made here in
       let at' = put_word at (Slot s Field.Ack) (found - 1) in
-      let next = In s w 3 3 (cond (found == 1) Fills Rests) in
-      let p' = acknowledges p v.number s (Inside 2 3) found in
+      let next = In s w RUN RUN (cond (found == 1) Fills Rests) in
+      let p' = acknowledges p v.number s (Inside DISABLE_IRQ RUN) found in
       let shown' = goes_seat p seat source v sees p' at' next (record (v.part) { calling = Carries 0 })
       (told_so u v.number p p' Act.Sub (Slot s Field.Ack) (Some found) (Some (one_less found)) (ap (λ (x : Standing). acknowledges p v.number s x found) st.1))
       (subst (λ (x : Standing). StopShows u (acknowledges p
@@ -218,7 +219,7 @@ module _ (p : StopState) (at : Word → ℕ) (seat : ℕ → Seat) (source : ℕ
   raise s w a l is idle = let x = a + 1 in
       let at' = put_word at (Slot s Field.State) x in
       let st = stands (In s w a l Sets) is in
-      let part = read_since (x == 5) s w v in
+      let part = read_since (x == OVER) s w v in
       let known : slot_stored Field.State x v ≡ record v { seat = In s w a l Rests; part = part } =
       ap (λ b. cond b (drafted_known Field.State x v) (member_stored Field.State x v)) idle ∙ ap (λ y. raised_by x y v) is in
       let n = with_stop p.now s (raised (p.now.stop s) x) in
@@ -226,6 +227,6 @@ module _ (p : StopState) (at : Word → ℕ) (seat : ℕ → Seat) (source : ℕ
       (told_so u v.number p (stored_open p v.number s Field.State x) Act.Store (Slot s Field.State) None (Some x) (stored_plain s Field.State x w a l Sets is))
       (subst (λ q. StopShows u q at' (put
       seat v.number (In s w a l Rests)) source) (stored_plain s Field.State x w a l Sets is) (state_stored u p at seat source h s v.number w a l 0
-      (sees.seat_is ∙ is))) (reads_now (raises p.now v.number s x) p.calls part.readings (left_mine (x == 5) n s (p.now.stop s).work w st.3 refl)
-      (left_other (x == 5) n s (p.now.stop s).work refl)) in
+      (sees.seat_is ∙ is))) (reads_now (raises p.now v.number s x) p.calls part.readings (left_mine (x == OVER) n s (p.now.stop s).work w st.3 refl)
+      (left_other (x == OVER) n s (p.now.stop s).work refl)) in
       search (known, shown', arith)

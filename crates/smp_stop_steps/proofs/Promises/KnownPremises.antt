@@ -15,6 +15,7 @@ use Rattle.smp_stop_steps.proofs.Knows.KnownSources.{holder, is_draft, is_owns, 
 use Rattle.smp_stop_steps.proofs.State.Acknowledged.{fills_me, rests_me, sets_me}
 use Rattle.smp_stop_steps.proofs.{Basics.Counts.sum_zero, Knows.KnownRounds.stands, Knows.KnownRounds.open_at, State.Gates.gate_free, State.Phases.keeps_inside}
 use Rattle.smp_stop_steps.proofs.{State.Raises.all_acknowledged, State.Raises.in_machine, State.Works.called_is, Steps.Completions.one_phase}
+use Rattle.smp_stop_steps.specs.Names.{DISABLE_IRQ, RUN}
 
 -- a word that is no label
 abbrev IsOther : Word → Type 0
@@ -83,8 +84,8 @@ module _ (p : StopState) (at : Word → ℕ) (seat : ℕ → Seat) (source : ℕ
   irq_on on = h.present.irq me ∙ (ap irq_of sees.seat_is ∙ on)
 
   -- at RUN, before and inside a patch
-  at_run_in : (s : ℕ) (w : Work) → v.seat ≡ In s w 2 3 Rests → IsAtRun p me
-  at_run_in s w is = let st = at_seat (In s w 2 3 Rests) is in (s, st.0, st.1)
+  at_run_in : (s : ℕ) (w : Work) → v.seat ≡ In s w DISABLE_IRQ RUN Rests → IsAtRun p me
+  at_run_in s w is = let st = at_seat (In s w DISABLE_IRQ RUN Rests) is in (s, st.0, st.1)
 
   at_run_patching : (s : ℕ) (w : Work) (count : ℕ) (made rest : List Change) → v.seat ≡ Alters s w count made rest → IsAtRun p me
   at_run_patching s w count made rest is = let st = at_seat (Alters s w count made rest) is in (s, st.0, st.1)

@@ -9,6 +9,7 @@ use Rattle.smp_stop_steps.specs.{stands, Field, Work, Slot, Word, State.Present,
 use Rattle.smp_stop_steps.proofs.State.Moves.{IsNoPatch, SaveMe, moved, moves, slot_put, slot_same}
 use Rattle.smp_stop_steps.proofs.State.Phases.{acknowledges_slot, is_open_inside, none_raises, refills_slot}
 use Rattle.smp_stop_steps.proofs.{State.Raises.raises_slot, State.Works.looks_slot}
+use Rattle.smp_stop_steps.specs.Names.{EXIT}
 
 -- nobody raises while one of the mask is behind
 pub nobody_raises : (cpus : ℕ) (stop : Stop) (ack me a l : ℕ) (r : Raising) → stop.standing me ≡ Inside a l → me < cpus → a ≢ stop.phase →
@@ -99,7 +100,7 @@ module _ (u : Setup) (p : Present) (at : Word → ℕ) (seat : ℕ → Seat) (h 
       (subst IsNoPatch (sym is) tt) (λ op kind. h.works s op kind)
 
   -- load of the state
-  pub step_looks : (job : Work) (a l : ℕ) → seat me ≡ In s job a l Rests → a ≢ 4 →
+  pub step_looks : (job : Work) (a l : ℕ) → seat me ≡ In s job a l Rests → a ≢ EXIT →
       let next = In s job a (at (Slot s State)) Rests in
       irq' me ≡ irq_of next → (u.online me ≡ true → irq_of next ≡ true → AllByRecursion (Agrees (labels_in at)) (readings' me)) →
       PresentShows u (moved p s (stands (p.stop s) me (Inside a (at (Slot s State)))) p.inside irq' readings') at (put seat me next)

@@ -7,6 +7,7 @@ use Rattle.smp_stop_steps.specs.{IsStored, Keeps, ResultShows, SlotShows, put_fi
 use Rattle.smp_stop_steps.specs.{completed, ended, is_called, is_of, opened, Field, Work, has, Stop.Stop}
 use Rattle.smp_stop_steps.proofs.{Basics.Counts.sum_put, Basics.Counts.sum_same, Basics.Counts.sum_zero, State.Phases.is_open_inside, State.Phases.keeps_inside}
 use Rattle.smp_stop_steps.proofs.{State.Raises.in_machine, State.Raises.level_of, State.Works.ack_kept, State.Works.outside_is, State.Works.result_kept}
+use Rattle.smp_stop_steps.specs.Names.{DISABLE_IRQ, RUN, EXIT}
 
 -- what an answering CPU has: its parts, whichever way it answers
 abbrev IsUnfinished : Standing → Type 0
@@ -31,7 +32,7 @@ module _ (p a v : ℕ) where
   answer_on : (s : Standing) → IsAnswer s a v → (w : ℕ) → HasGiven s w → v ≡ w
   answer_on s h w e = search arith
 
-  answer_keeps : (cpus c : ℕ) (s : Standing) → IsAnswer s a v → ((a ≡ 4) ⊎ (p ≡ 0)) → Keeps cpus p c s → Keeps cpus p c (Completed a v)
+  answer_keeps : (cpus c : ℕ) (s : Standing) → IsAnswer s a v → ((a ≡ EXIT) ⊎ (p ≡ 0)) → Keeps cpus p c s → Keeps cpus p c (Completed a v)
   answer_keeps cpus c s h t k = search arith
 
 -- found 1: all others have completed
@@ -81,7 +82,7 @@ module _ (cpus : ℕ) (stop : Stop) (word : Field → ℕ) (g : SlotShows cpus s
   finishes_slot is = search (g.shows, arith)
 
   -- a CPU that looked at a new phase, 3: its function may run
-  pub function_law : stop.standing me ≡ Inside 2 3 → FunctionLaw stop me
+  pub function_law : stop.standing me ≡ Inside DISABLE_IRQ RUN → FunctionLaw stop me
   function_law is = search (keeps_inside, is_open_inside, g.members, level_of, g.keeps, arith)
 
 module _ (cpus : ℕ) (stop : Stop) (word : Field → ℕ) (g : SlotShows cpus stop word) where

@@ -12,6 +12,7 @@ use Rattle.smp_stop_steps.proofs.State.Ends.{all_outside, answer_of_it, collects
 use Rattle.smp_stop_steps.proofs.State.Moves.{IsNoPatch, SaveMe, moved, moves, slot_put, slot_same, source_moves}
 use Rattle.smp_stop_steps.proofs.State.Works.{answers_slot, enters_slot, not_raising}
 use Rattle.smp_stop_steps.proofs.{Basics.Counts.sum_zero, State.Phases.is_open_inside, State.Raises.in_machine}
+use Rattle.smp_stop_steps.specs.Names.{EXIT}
 
 module _ (u : Setup) (p : Present) (at : Word → ℕ) (seat : ℕ → Seat) (h : PresentShows u p at seat) (s : ℕ) where
   abbrev w : Field → ℕ
@@ -149,7 +150,7 @@ module _ (u : Setup) (p : Present) (at : Word → ℕ) (seat : ℕ → Seat) (h 
         (λ op kind. h.works s op kind)
 
     -- store of an answer that is not 0
-    pub step_answers : (job : Work) (a l v : ℕ) → seat me ≡ In s job a l Rests → v ≢ 0 → (a ≡ 4) ⊎ ((p.stop s).phase ≡ 0) → IsNot me (p.stop s).raising →
+    pub step_answers : (job : Work) (a l v : ℕ) → seat me ≡ In s job a l Rests → v ≢ 0 → (a ≡ EXIT) ⊎ ((p.stop s).phase ≡ 0) → IsNot me (p.stop s).raising →
         irq_of (seat me) ≡ true →
         PresentShows u (moved p s (stands (p.stop s) me (Answering a v)) p.inside p.irq p.readings) (put_word at (Slot s Result) v)
         (put seat me (Gives s job a v))

@@ -11,28 +11,29 @@ use Rattle.smp_stop_steps.specs.{put, Agrees, Change, LabelsShow, Patches, Patch
 use Rattle.smp_stop_steps.specs.{RunnerShows, Alters, In, Rests, Seat, Stands, irq_of, Keeps, SlotShows, Setup, Inside, Standing, acked, is_of, Patch}
 use Rattle.smp_stop_steps.specs.{Work, Key, Slot, Word, is_on, change_of, has, State.Present}
 use Rattle.smp_stop_steps.proofs.{State.Ends.function_law, State.Phases.is_open_inside}
+use Rattle.smp_stop_steps.specs.Names.{DISABLE_IRQ, RUN, EXIT}
 
 -- what a change leaves is on or off as it says
 stands_left : (change : KeyChange) (n : ℕ) → IfSome (state_left change) (λ on. is_on (count_left change n) ≡ on)
 stands_left change n = search (at_test, lt-ltb, nat_lt, cases_lt, arith)
 
 abbrev IsOff : ℕ → ℕ → Type 0
-IsOff l a = (nat_lt l 2 || a == 4) ≡ false
+IsOff l a = (nat_lt l DISABLE_IRQ || a == EXIT) ≡ false
 
-off_at : (l a : ℕ) → 2 ≤ l → a ≢ 4 → IsOff l a
-off_at l a m ne = ap (λ b. b || a == 4) (le-ltb l 2 m) ∙ ne_eqb a 4 ne
+off_at : (l a : ℕ) → DISABLE_IRQ ≤ l → a ≢ EXIT → IsOff l a
+off_at l a m ne = ap (λ b. b || a == EXIT) (le-ltb l DISABLE_IRQ m) ∙ ne_eqb a EXIT ne
 
 -- a CPU inside that has acknowledged 2 and not 4 has its interrupts off
-pub off_inside : (p : Present) (c s a l : ℕ) (seat : Seat) → Stands p c seat → p.inside c ≡ Some s → (p.stop s).standing c ≡ Inside a l → 2 ≤ l → a ≢ 4 →
+pub off_inside : (p : Present) (c s a l : ℕ) (seat : Seat) → Stands p c seat → p.inside c ≡ Some s → (p.stop s).standing c ≡ Inside a l → DISABLE_IRQ ≤ l → a ≢ EXIT →
     irq_of seat ≡ false
 off_inside p c s a l seat st in_ is m ne = search (off_at, le-ltb, arith)
 
 module _ (u : Setup) (p : Present) (at : Word → ℕ) (seat : ℕ → Seat) (h : PresentShows u p at seat) (s me : ℕ) where
   -- while a function runs, its whole mask has interrupts off
-  pub all_off : (p.stop s).standing me ≡ Inside 2 3 → (c : ℕ) → has (p.stop s).work.mask c ≡ true → p.irq c ≡ false
+  pub all_off : (p.stop s).standing me ≡ Inside DISABLE_IRQ RUN → (c : ℕ) → has (p.stop s).work.mask c ≡ true → p.irq c ≡ false
   all_off is c of = search (function_law, go, arith)
     where
-      go : (x : Standing) → (p.stop s).standing c ≡ x → is_of x ≡ true → (p.stop s).phase ≡ 3 → (acked x ≡ 2) ⊎ (acked x ≡ 3) →
+      go : (x : Standing) → (p.stop s).standing c ≡ x → is_of x ≡ true → (p.stop s).phase ≡ RUN → (acked x ≡ DISABLE_IRQ) ⊎ (acked x ≡ RUN) →
           Keeps u.cpus (p.stop s).phase c x → irq_of (seat c) ≡ false
       go x e of run a k = search (off_inside, h.stands, h.homes, arith)
 
@@ -46,7 +47,7 @@ module _ (u : Setup) (p : Present) (at : Word → ℕ) (seat : ℕ → Seat) (h 
   alters_other x c ne none_ y st = search arith
 
   -- the first online CPU, inside a patch at phase 3, begins its stores: these lead to the lawful table with the key as it shall be
-  pub patch_starts : (job : Work) (plan : List Change) → seat me ≡ In s job 2 3 Rests → job.kind ≡ Patch → has job.active me ≡ true →
+  pub patch_starts : (job : Work) (plan : List Change) → seat me ≡ In s job DISABLE_IRQ RUN Rests → job.kind ≡ Patch → has job.active me ≡ true →
       let count = at (Key job.func) in
       (IsLawful (labels_in at) → SetsKey job.func (count_set job count) (labels_in at) (applied plan (labels_in at))) →
       PresentShows u (patches (Patches me job count [] plan)) at (put seat me (Alters s job count [] plan))
@@ -77,7 +78,7 @@ module _ (u : Setup) (p : Present) (at : Word → ℕ) (seat : ℕ → Seat) (h 
       PresentShows u (patches (Patches me job count (made ++ change ∷ []) rest)) at' (put seat me (Alters s job count (made ++ change ∷ []) rest))
   patch_stores job count made rest change at' is table slots entries =
       let st : Stands p me (Alters s job count made (change ∷ rest)) = subst (Stands p me) is (h.stands me) in
-      let open_ = is_open_inside u.cpus (p.stop s) (λ f. at (Slot s f)) (h.slots s) me (Inside 2 3) st.1 refl in
+      let open_ = is_open_inside u.cpus (p.stop s) (λ f. at (Slot s f)) (h.slots s) me (Inside DISABLE_IRQ RUN) st.1 refl in
       let next = Alters s job count (made ++ change ∷ []) rest in
       record {
         slots = slots;
@@ -96,10 +97,10 @@ module _ (u : Setup) (p : Present) (at : Word → ℕ) (seat : ℕ → Seat) (h 
 
   -- all is stored: the table is lawful again, before the acknowledgement
   pub patch_ends : (job : Work) (count : ℕ) (made : List Change) → seat me ≡ Alters s job count made [] →
-      PresentShows u (patches Whole) at (put seat me (In s job 2 3 Rests)) × StandsSet job (at (Key job.func))
+      PresentShows u (patches Whole) at (put seat me (In s job DISABLE_IRQ RUN Rests)) × StandsSet job (at (Key job.func))
   patch_ends job count made is = let st : Stands p me (Alters s job count made []) = subst (Stands p me) is (h.stands me) in
       let l : LabelsShow (Patches me job count made []) (labels_in at) = subst (λ x. LabelsShow x (labels_in at)) st.5 h.labels in
-      let next = In s job 2 3 Rests in (
+      let next = In s job DISABLE_IRQ RUN Rests in (
         record {
           slots = h.slots;
           stands = search (put_all, alters_other, h.stands, arith);

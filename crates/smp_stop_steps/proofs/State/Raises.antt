@@ -4,6 +4,7 @@ use Rattle.smp_words.specs.declared.field.Field.TheVariants.{Ack, State}
 use Rattle.smp_stop_steps.specs.{behind, count_behind, one, weight, PhaseLaw, AckShows, IsLevel, IsPhaseOf, Keeps, SlotShows, put_field, Raises}
 use Rattle.smp_stop_steps.specs.{Raising, Standing, acked, is_of, raised, Field, Kind as KindOf, Stop.Stop}
 use Rattle.smp_stop_steps.proofs.{Basics.Counts.sum_same, Basics.Counts.sum_zero, State.Phases.has_acknowledged}
+use Rattle.smp_stop_steps.specs.Names.{EXIT, OVER}
 
 pub in_machine : (cpus p c : ℕ) (s : Standing) → is_of s ≡ true → Keeps cpus p c s → c < cpus
 in_machine cpus p c s of k = search arith
@@ -11,7 +12,7 @@ in_machine cpus p c s of k = search arith
 pub level_of : (cpus p c : ℕ) (s : Standing) → is_of s ≡ true → Keeps cpus p c s → IsLevel p (acked s)
 level_of cpus p c s of k = search arith
 
-acked_most : (cpus p c : ℕ) (s : Standing) → is_of s ≡ true → Keeps cpus p c s → acked s ≤ 4
+acked_most : (cpus p c : ℕ) (s : Standing) → is_of s ≡ true → Keeps cpus p c s → acked s ≤ EXIT
 acked_most cpus p c s of k = search arith
 
 -- one phase on, for a CPU that has acknowledged this one
@@ -40,8 +41,8 @@ module _ (cpus : ℕ) (stop : Stop) (word : Field → ℕ) (g : SlotShows cpus s
   pub phase_law : stop.is_open ≡ true → stop.phase ≢ 0 → PhaseLaw cpus stop (word Ack)
   phase_law open_ ne = let o = g.shows open_ in search (level_of, g.keeps, ends, acked_most, o.ack, at_five, arith)
     where
-      ends : (a : ℕ) → stop.phase ≡ 5 → a ≤ 4 → IsLevel stop.phase a → a ≡ 4
+      ends : (a : ℕ) → stop.phase ≡ OVER → a ≤ EXIT → IsLevel stop.phase a → a ≡ EXIT
       ends a e m l = ⊎_elim (λ (t : a ≡ stop.phase). omega arith) (λ (t : a + 1 ≡ stop.phase). omega arith) l
 
-      at_five : (r : Raising) → stop.phase ≡ 5 → AckShows cpus stop.phase stop.standing r (word Ack) → word Ack ≡ weight cpus stop.standing
+      at_five : (r : Raising) → stop.phase ≡ OVER → AckShows cpus stop.phase stop.standing r (word Ack) → word Ack ≡ weight cpus stop.standing
       at_five r e h = search (sum_same, behind_next, ends, acked_most, g.keeps, level_of, arith)

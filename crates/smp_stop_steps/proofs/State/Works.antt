@@ -6,6 +6,7 @@ use Rattle.smp_stop_steps.specs.{put, behind, count_behind, count_unfinished, ma
 use Rattle.smp_stop_steps.specs.{HasGiven, Keeps, ResultShows, SlotShows, put_field, Answering, Called, Ending, Inside, Outside, Raising, Standing, is_called}
 use Rattle.smp_stop_steps.specs.{is_of, stands, Field, has, Stop.Stop}
 use Rattle.smp_stop_steps.proofs.{Basics.Counts.sum_same, State.Phases.is_open_inside, State.Phases.keeps_inside}
+use Rattle.smp_stop_steps.specs.Names.{EXIT}
 
 -- a CPU whose standing changes to one that counts the same
 module _ (cpus : ℕ) (standing : ℕ → Standing) (me p : ℕ) (to : Standing) (same : behind p to ≡ behind p (standing me)) (of : is_of to ≡ is_of (standing me))
@@ -52,7 +53,7 @@ module _ (cpus : ℕ) (stop : Stop) (word : Field → ℕ) (g : SlotShows cpus s
       search (called_is, is_open_inside, keeps_inside, put_all, ack_kept, not_raising, unfinished_kept, done_kept, result_kept, arith)
 
   -- it looks at the state, which is the one that it acknowledged or the next
-  pub looks_slot : (a l : ℕ) → stop.standing me ≡ Inside a l → a ≢ 4 → IsNot me stop.raising → SlotShows cpus (stands stop me (Inside a (word State))) word
+  pub looks_slot : (a l : ℕ) → stop.standing me ≡ Inside a l → a ≢ EXIT → IsNot me stop.raising → SlotShows cpus (stands stop me (Inside a (word State))) word
   looks_slot a l is more calm_ = search (is_open_inside, keeps_inside, put_all, ack_kept, unfinished_kept, done_kept, result_kept, arith)
 
   -- an answer that is not 0 goes into the result word

@@ -11,6 +11,7 @@ use Rattle.smp_stop_steps.proofs.Steps.Rounds.{ack_stored, ack_subtracted, ack_s
 use Rattle.smp_stop_steps.proofs.{Basics.Bools.or_false, Basics.Bools.or_true, Steps.Same.moved_seat, Steps.RoundSteps.ack_small, Steps.StageSteps.less_one}
 use Rattle.smp_stop_steps.proofs.{Steps.Stages.in_round, Steps.Stages.round_source}
 use Rattle.smp_stop_steps.specs.round
+use Rattle.smp_stop_steps.specs.Names.{DISABLE_IRQ, RUN}
 
 module _ (u : Setup) (p : StopState) (at : Word → ℕ) (seat : ℕ → Seat) (source : ℕ → Source) (h : StopShows u p at seat source) (c : StopControlValue) (me : ℕ)
     (s : Sits u me (at Gate) c (seat me) (source me)) (v : Visit) where
@@ -28,21 +29,21 @@ module _ (u : Setup) (p : StopState) (at : Word → ℕ) (seat : ℕ → Seat) (
       either r.1.0 r.1.1 r.1.2 r.1.3 (round_source s v (round.Acknowledge answer ran) e)
     where
       -- who acknowledges RUN has called its function, or is not to call one
-      has_called : (work : Work) → IsLoaded v work → (b : Bool) → RunsIf me v b → (f : Calling) → IsAcking v answer b f → v.acked ≡ 2 → HasCalled me work f
+      has_called : (work : Work) → IsLoaded v work → (b : Bool) → RunsIf me v b → (f : Calling) → IsAcking v answer b f → v.acked ≡ DISABLE_IRQ → HasCalled me work f
       has_called work loaded b runs f is two = search arith
 
       has_run : (b : Bool) → RunsIf me v b → HasRun me (visit_acked v answer ran) b
       has_run b runs = search arith
 
-      patch_run : v.acked ≡ 2 → ran ≡ true → (work : Work) → IsLoaded v work → (count : ℕ) →
+      patch_run : v.acked ≡ DISABLE_IRQ → ran ≡ true → (work : Work) → IsLoaded v work → (count : ℕ) →
           seat me ≡ Alters v.slot work count (plan_at u work count) [] → HasRun me (visit_acked v answer ran) ran
       patch_run two runs work loaded count is = record {
         at_run = λ _. ap (λ n. n + 1) two;
         active = λ _. ap (λ m. has m me) loaded.active ∙ (patcher_active u p at seat source h v.slot me work count (plan_at u work count) [] is ∙ sym runs);
       }
 
-      either : (work : Work) → IsLoaded v work → v.acked ≤ 3 →
-          ((seat me ≡ In v.slot work v.acked (v.acked + 1) Rests) × RunsIf me v ran) ⊎ ((v.acked ≡ 2) × (ran ≡ true) ×
+      either : (work : Work) → IsLoaded v work → v.acked ≤ RUN →
+          ((seat me ≡ In v.slot work v.acked (v.acked + 1) Rests) × RunsIf me v ran) ⊎ ((v.acked ≡ DISABLE_IRQ) × (ran ≡ true) ×
           ((count : ℕ) × (answer ≡ patch_answer work count) × (seat me ≡ Alters v.slot work count (plan_at u work count) []))) →
           OwnsIf c.is_open (source me) → StopStep u p at seat source c me (Advance v (round.Acknowledge answer ran))
       either work loaded most (inl (is, calm)) y = let next = In v.slot work (v.acked + 1) (v.acked + 1) (cond (at (Slot v.slot Ack) == 1) Fills Rests) in

@@ -16,6 +16,7 @@ use Rattle.smp_stop_steps.proofs.{Steps.Callings.idle_alters, Steps.Callings.idl
 use Rattle.smp_stop_steps.specs.note
 use Rattle.smp_stop_steps.specs.completion
 use Rattle.smp_stop_steps.specs.round
+use Rattle.smp_stop_steps.specs.Names.{DISABLE_IRQ, RUN}
 
 -- no store calls a function
 open_calling : (p : StopState) (me s v : ℕ) (f : Field) → told_of (stored_open p me s f v) ≡ told_of p
@@ -48,7 +49,7 @@ quiet_visit : (v w : Visit) (f : Calling) → w.answer ≡ v.answer → IsQuiet 
 quiet_visit v w f same k = search arith
 
 -- before RUN is acknowledged who calls nothing carries nothing
-quiet_early : (c s : ℕ) (w : Work) (l : ℕ) (t : Duty) (v : Visit) (f : Calling) → IsQuiet (Some v) f → v.acked ≡ 2 → IsCalling c (In s w 2 l t) f → f ≡ Idle
+quiet_early : (c s : ℕ) (w : Work) (l : ℕ) (t : Duty) (v : Visit) (f : Calling) → IsQuiet (Some v) f → v.acked ≡ DISABLE_IRQ → IsCalling c (In s w DISABLE_IRQ l t) f → f ≡ Idle
 quiet_early c s w l t v f q two k = search (q, arith)
 
 -- nor does it in a stop of kind One
@@ -146,8 +147,8 @@ module _ (u : Setup) (p : StopState) (at : Word → ℕ) (seat : ℕ → Seat) (
 
         -- the CPU's function after it, where it stood so
         after : (a : ℕ) → (p.now.stop v.slot).standing me ≡ Inside v.acked a → told_of (state_after u p at c me stage) ≡ record (told_of p) {
-          calling = cond (a == 3) (put p.calling me (carried me p.now.patching f)) p.calling;
-          calls = cond (a == 3) (called_more p.calls me f) p.calls;
+          calling = cond (a == RUN) (put p.calling me (carried me p.now.patching f)) p.calling;
+          calls = cond (a == RUN) (called_more p.calls me f) p.calls;
         }
         after a st = ap (λ (x : Standing). told_of (acknowledges p me v.slot x found)) st
 
@@ -167,12 +168,12 @@ module _ (u : Setup) (p : StopState) (at : Word → ℕ) (seat : ℕ → Seat) (
         ran_on : (b : Bool) (g : Calling) → ran ≡ b → RunsIf me v b → IsAcking v answer b g → IsQuiet (Some (visit_acked v answer b)) (carried_call g)
         ran_on b g r runs is = search (quiet_carried, quiet_visit, arith)
 
-        stays : (b : Bool) (g : Calling) → ran ≡ b → RunsIf me v b → IsAcking v answer b g → (v.acked + 1 == 3) ≡ false →
+        stays : (b : Bool) (g : Calling) → ran ≡ b → RunsIf me v b → IsAcking v answer b g → (v.acked + 1 == RUN) ≡ false →
             IsQuiet (Some (visit_acked v answer b)) g
         stays b g r runs is other = search (eq-eqb, quiet_visit, arith)
 
         either : (work : Work) → IsLoaded v work →
-            (((seat me ≡ In v.slot work v.acked (v.acked + 1) Rests) × RunsIf me v ran) ⊎ ((v.acked ≡ 2) × (ran ≡ true) ×
+            (((seat me ≡ In v.slot work v.acked (v.acked + 1) Rests) × RunsIf me v ran) ⊎ ((v.acked ≡ DISABLE_IRQ) × (ran ≡ true) ×
             ((count : ℕ) × (answer ≡ patch_answer work count) × (seat me ≡ Alters v.slot work count (plan_at u work count) [])))) → Now stage
         either work loaded (inl (is, runs)) = search (carried_alone, at_stage, stage, done, after, eqb-true, ran_on, stays, arith)
         either work loaded (inr (two, r, (n, answers, is))) = search (h.present.stands, v.acked, eq-eqb, done, after, arith)

@@ -5,6 +5,7 @@ use Rattle.smp_stop_steps.specs.{put, Kind as KindOf, One, Patch, Work, with_ans
 use Rattle.smp_stop_steps.specs.{Patching, RunnerShows, StopShows, Source, Word, Seat, Free, In, Gives, Alters, Closes, Duty, Rests, Setup, StopState, Calling}
 use Rattle.smp_stop_steps.specs.{Idle, Last, carried, carried_call, has, is_multi, State.Present, State.Calls, State.Carries, Stop.Stop}
 use Rattle.smp_stop_steps.proofs.State.Moves.{IsNoPatch}
+use Rattle.smp_stop_steps.specs.Names.{DISABLE_IRQ, RUN, EXIT}
 
 module _ (seat : ℕ → Seat) (calling : ℕ → Calling) (h : (c : ℕ) → IsCalling c (seat c) (calling c)) (me : ℕ) (next : Seat) where
   -- the CPU goes to another seat
@@ -29,11 +30,11 @@ patch_not_multi : (k : KindOf) (b : Bool) → k ≡ Patch → (b && is_multi k) 
 patch_not_multi k b e c = search arith
 
 -- nor does a CPU that is to patch
-pub idle_patch : (c s : ℕ) (w : Work) (l : ℕ) (t : Duty) (f : Calling) → w.kind ≡ Patch → IsCalling c (In s w 2 l t) f → f ≡ Idle
+pub idle_patch : (c s : ℕ) (w : Work) (l : ℕ) (t : Duty) (f : Calling) → w.kind ≡ Patch → IsCalling c (In s w DISABLE_IRQ l t) f → f ≡ Idle
 idle_patch c s w l t f kind k = search (kind, patch_not_multi, w.kind, w.active, arith)
 
 -- a look, at the phase that it has looked at or at the next
-pub calling_looked : (c s : ℕ) (w : Work) (a l found : ℕ) (f : Calling) → (a ≡ 2 → l ≡ 3 → found ≡ 3) → IsCalling c (In s w a l Rests) f →
+pub calling_looked : (c s : ℕ) (w : Work) (a l found : ℕ) (f : Calling) → (a ≡ DISABLE_IRQ → l ≡ RUN → found ≡ RUN) → IsCalling c (In s w a l Rests) f →
     IsCalling c (In s w a found Rests) f
 calling_looked c s w a l found f same k = search arith
 
@@ -43,7 +44,7 @@ pub calling_turned : (c s : ℕ) (w : Work) (a l : ℕ) (t t' : Duty) (f : Calli
 calling_turned c s w a l t t' f ne k = search arith
 
 -- an acknowledgement of another phase than RUN, in a stop of several CPUs
-pub calling_acked : (c s : ℕ) (w : Work) (a : ℕ) (t : Duty) (f : Calling) → a ≢ 2 → w.kind ≢ One → IsCalling c (In s w a (a + 1) Rests) f →
+pub calling_acked : (c s : ℕ) (w : Work) (a : ℕ) (t : Duty) (f : Calling) → a ≢ DISABLE_IRQ → w.kind ≢ One → IsCalling c (In s w a (a + 1) Rests) f →
     IsCalling c (In s w (a + 1) (a + 1) t) f
 calling_acked c s w a t f ne many k = search arith
 
@@ -51,8 +52,8 @@ active_multi : (k : KindOf) (b : Bool) → (b && is_multi k) ≡ true → b ≡ 
 active_multi k b e = search arith
 
 -- and one of RUN, which no patch ends
-pub calling_ran : (c s : ℕ) (w : Work) (t : Duty) (f : Calling) → w.kind ≢ One → HasCalled c w f → IsCalling c (In s w 2 3 Rests) f →
-    IsCalling c (In s w 3 3 t) (carried_call f)
+pub calling_ran : (c s : ℕ) (w : Work) (t : Duty) (f : Calling) → w.kind ≢ One → HasCalled c w f → IsCalling c (In s w DISABLE_IRQ RUN Rests) f →
+    IsCalling c (In s w RUN RUN t) (carried_call f)
 calling_ran c s w t f many idle k = search (active_multi, w.active, arith)
 
 -- who patches nothing carries no answer of a patch
@@ -61,7 +62,7 @@ pub carried_alone : (first : ℕ) (x : Patching) (seat : ℕ → Seat) (me : ℕ
 carried_alone first x seat me f idle r = search (ne_eqb, IsNoPatch, arith)
 
 -- the answer that is stored, by a CPU that is through
-pub calling_given : (c s : ℕ) (w : Work) (a l : ℕ) (v : ℕ) (f : Calling) → v ≢ 0 → (a ≡ 4) ⊎ (w.kind ≡ One) → v ≡ answer_in f →
+pub calling_given : (c s : ℕ) (w : Work) (a l : ℕ) (v : ℕ) (f : Calling) → v ≢ 0 → (a ≡ EXIT) ⊎ (w.kind ≡ One) → v ≡ answer_in f →
     IsCalling c (In s w a l Rests) f → IsCalling c (Gives s w a v) f
 calling_given c s w a l v f some through is k = search arith
 

@@ -17,6 +17,7 @@ use Rattle.smp_stop_steps.proofs.{Steps.AckSteps.acknowledge, Steps.AckSteps.rai
 use Rattle.smp_stop_steps.proofs.{Basics.Bits.clear_same, Steps.Callings.calling_given, Steps.Stages.at_seat, Steps.Stages.at_source}
 use Rattle.smp_stop_steps.specs.completion
 use Rattle.smp_stop_steps.specs.round
+use Rattle.smp_stop_steps.specs.Names.{EXIT}
 
 module _ (u : Setup) (p : StopState) (at : Word → ℕ) (seat : ℕ → Seat) (source : ℕ → Source) (h : StopShows u p at seat source) (c : StopControlValue) (me : ℕ)
     (s : Sits u me (at Gate) c (seat me) (source me)) where
@@ -75,8 +76,8 @@ module _ (u : Setup) (p : StopState) (at : Word → ℕ) (seat : ℕ → Seat) (
         go one work loaded is y true z = search (eqb-true, arith)
         go one work loaded is y false z = search (eq-eqb, arith)
 
-    through_of : (work : Work) → IsLoaded v work → IsThroughAll v → (v.acked ≡ 4) ⊎ (work.kind ≡ One)
-    through_of work loaded t = ⊎_elim (λ (x : v.acked ≡ 4). inl x) (λ (x : v.kind ≡ One). inr (sym loaded.kind ∙ x)) t
+    through_of : (work : Work) → IsLoaded v work → IsThroughAll v → (v.acked ≡ EXIT) ⊎ (work.kind ≡ One)
+    through_of work loaded t = ⊎_elim (λ (x : v.acked ≡ EXIT). inl x) (λ (x : v.kind ≡ One). inr (sym loaded.kind ∙ x)) t
 
     ends : (f : Calling) → IsEnding v f → v.answer ≡ answer_in f
     ends f is = search arith

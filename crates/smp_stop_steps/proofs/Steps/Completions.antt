@@ -14,6 +14,7 @@ use Rattle.smp_stop_steps.proofs.Steps.Kept.{past_answers}
 use Rattle.smp_stop_steps.proofs.{Basics.Bools.or_true, Basics.Counts.sum_zero, State.Ends.answer_of_it, State.Ends.answer_unfinished, State.Moves.IsNoPatch}
 use Rattle.smp_stop_steps.proofs.{State.Pasts.active_put, State.Pasts.past_completes, State.Phases.is_open_inside, State.Phases.keeps_inside}
 use Rattle.smp_stop_steps.proofs.{State.Raises.in_machine, Steps.Rounds.acked_most_phase, State.Works.called_is, State.Acknowledged.rests_me}
+use Rattle.smp_stop_steps.specs.Names.{RUN, EXIT}
 
 pub one_phase : (k : KindOf) (p : ℕ) → k ≡ One → IsPhaseOf k p → p ≡ 0
 one_phase k p e h = search arith
@@ -59,7 +60,7 @@ module _ (u : Setup) (p : StopState) (at : Word → ℕ) (seat : ℕ → Seat) (
       StopShows u (told u p me Act.And (Slot s Roll) (Some (at (Slot s Roll))) new answer) at seat source
   roll_stale new answer missing = subst (λ b. StopShows u (cond b (record p { now = enters p.now me s }) p) at seat source) (sym missing) h
 
-  module _ (job : Work) (a l : ℕ) (is : seat me ≡ In s job a l Rests) (through : (a ≡ 4) ⊎ (job.kind ≡ One)) where
+  module _ (job : Work) (a l : ℕ) (is : seat me ≡ In s job a l Rests) (through : (a ≡ EXIT) ⊎ (job.kind ≡ One)) where
     st : Stands p.now me (In s job a l Rests)
     st = subst (Stands p.now me) is (h.present.stands me)
 
@@ -70,7 +71,7 @@ module _ (u : Setup) (p : StopState) (at : Word → ℕ) (seat : ℕ → Seat) (
     phase_one one = one_phase (p.now.stop s).work.kind (p.now.stop s).phase (ap (λ (w : Work). w.kind) st.3 ∙ one) ((h.present.slots s).shows open_).kinds
 
     is_done : IsDone (p.now.stop s).phase a
-    is_done = ⊎_elim (λ (e : a ≡ 4). inl e) (λ (e : job.kind ≡ One). inr (phase_one e)) through
+    is_done = ⊎_elim (λ (e : a ≡ EXIT). inl e) (λ (e : job.kind ≡ One). inr (phase_one e)) through
 
     pub on_now : irq_of (seat me) ≡ true
     on_now = search (nat_lt, eq-eqb, or_true, phase_one, keeps_inside, h.present.slots, arith)
@@ -119,12 +120,12 @@ module _ (u : Setup) (p : StopState) (at : Word → ℕ) (seat : ℕ → Seat) (
       (λ ne. past_answers (p.now.stop j) (p.begun j) (p.collected j) (λ c. p.answers c j) (λ c. answers' c j) (there_same j ne (p.answers me s ++ v ∷ []))
       (h.past j)))
       (λ j. at_test j s (λ b. let y = cond b stop' (p.now.stop j) in
-      y.is_open ≡ true → y.work.kind ≡ Patch → is_inside (y.standing j) ≡ true → 3 ≤ acked (y.standing u.first) → StandsSet y.work (at (Key y.work.func)))
+      y.is_open ≡ true → y.work.kind ≡ Patch → is_inside (y.standing j) ≡ true → RUN ≤ acked (y.standing u.first) → StandsSet y.work (at (Key y.work.func)))
       (λ e op kind in_ late. h.owns s op kind
       (put_all (λ c y. is_inside y ≡ true → is_inside ((p.now.stop s).standing c) ≡ true) (p.now.stop s).standing me to (λ bad. cc) (λ c ne i. i) s
       (subst (λ k. is_inside (stop'.standing k) ≡ true) e in_))
-      (put_all (λ c y. 3 ≤ acked y → 3 ≤ acked ((p.now.stop s).standing c)) (p.now.stop s).standing me to
-      (λ x. subst (λ n. 3 ≤ n) (sym (acked_it ((p.now.stop s).standing me) is)) x) (λ c ne l. l) u.first late))
+      (put_all (λ c y. RUN ≤ acked y → RUN ≤ acked ((p.now.stop s).standing c)) (p.now.stop s).standing me to
+      (λ x. subst (λ n. RUN ≤ n) (sym (acked_it ((p.now.stop s).standing me) is)) x) (λ c ne l. l) u.first late))
       (λ ne. h.owns j))
       (step_completes u p.now at seat h.present s me a v in_ is turn (done, rests_me me (p.now.stop s).raising turn) on idle)
       (calling_next seat p.calling h.callings me (cond (found == 1) (Closes s) Free) Idle (ends (found == 1)))
@@ -179,7 +180,7 @@ module _ (u : Setup) (p : StopState) (at : Word → ℕ) (seat : ℕ → Seat) (
       there_same j ne x c = search (at_test, put_other, arith)
 
   -- fetch_sub of todo, by who answers 0
-  pub todo_subtracted : (job : Work) (a l answer : ℕ) → seat me ≡ In s job a l Rests → (a ≡ 4) ⊎ (job.kind ≡ One) →
+  pub todo_subtracted : (job : Work) (a l answer : ℕ) → seat me ≡ In s job a l Rests → (a ≡ EXIT) ⊎ (job.kind ≡ One) →
       let found = at (Slot s Todo) in
       StopShows u (told u p me Act.Sub (Slot s Todo) (Some found) (Some (found - 1)) answer) (put_word at (Slot s Todo) (found - 1))
       (put seat me (cond (found == 1) (Closes s) Free)) source

@@ -5,6 +5,7 @@ use Rattle.smp_stop_steps.specs.{CountShows, put, put_word, Patching, Reading, S
 use Rattle.smp_stop_steps.specs.{PresentShows, Seat, StopShows, Collects, Drafts, Owns, Shut, Source, SourceShows, AreClosing, IsCalling, Calling, Setup}
 use Rattle.smp_stop_steps.specs.{StopCall, StopState, Ended, Standing, acked, is_inside, Field, Patch, Work, Gate, Key, Slot, Word, State.Present, Stop.Stop}
 use Rattle.smp_stop_steps.proofs.State.Moves.{field_false}
+use Rattle.smp_stop_steps.specs.Names.{RUN}
 
 module _ (u : Setup) (gate : Option ℕ) (s : ℕ) where
   -- a source whose slot is as it was
@@ -44,7 +45,7 @@ pub record StaysOpen (old new : Stop) : Type 0 where
 -- a step that brings no source inside, and no first CPU past phase 3
 pub record IsEarly (first s : ℕ) (old new : Stop) : Type 0 where
   pub inside : is_inside (new.standing s) ≡ true → is_inside (old.standing s) ≡ true
-  pub late : 3 ≤ acked (new.standing first) → 3 ≤ acked (old.standing first)
+  pub late : RUN ≤ acked (new.standing first) → RUN ≤ acked (old.standing first)
 
 pub owns_kept : (first : ℕ) (n : Present) (key : ℕ → ℕ) (s : ℕ) (stop' : Stop) (inside' : ℕ → Option ℕ) (irq' : ℕ → Bool) (readings' : ℕ → List Reading)
     (patching' : Patching) →
@@ -52,7 +53,7 @@ pub owns_kept : (first : ℕ) (n : Present) (key : ℕ → ℕ) (s : ℕ) (stop'
     OwnsKey first (after n s stop' inside' irq' readings' patching') key j
 owns_kept first n key s stop' inside' irq' readings' patching' stays early own j =
     at_test j s (λ b. let x = cond b stop' (n.stop j) in x.is_open ≡ true → x.work.kind ≡ Patch → is_inside (x.standing j) ≡ true →
-    3 ≤ acked (x.standing first) → StandsSet x.work (key x.work.func))
+    RUN ≤ acked (x.standing first) → StandsSet x.work (key x.work.func))
     (λ e op kind in_ late.
     let i = early.inside (subst (λ k. is_inside (stop'.standing k) ≡ true) e in_) in
     subst (λ (w : Work). StandsSet w (key w.func)) (sym stays.work) (own s stays.was (ap (λ (w : Work). w.kind) (sym stays.work) ∙ kind) i (early.late late)))
@@ -115,7 +116,7 @@ other_slots at s g n j ne f = search (at_test, field_false, arith)
 -- a CPU that goes elsewhere inside a stop
 pub record MovesInside (old new : Standing) : Type 0 where
   pub inside : is_inside new ≡ true → is_inside old ≡ true
-  pub late : 3 ≤ acked new → 3 ≤ acked old
+  pub late : RUN ≤ acked new → RUN ≤ acked old
   pub given : answer_now new ≡ answer_now old
 
 module _ (first s me : ℕ) (stop : Stop) (to : Standing) (m : MovesInside (stop.standing me) to) where

@@ -15,6 +15,7 @@ use Rattle.smp_stop_steps.specs.{LoadDone, LoadResult, NudgeKey, ExchangeKey, Vi
 use Rattle.smp_stop_steps.specs.declared.stage.StopStage.TheVariants.{ReadKey as ReadsKey, ReadSite as ReadsSite}
 use Rattle.smp_stop_steps.proofs.{Basics.Counts.put_own, State.Gates.gate_free, State.Gates.gate_mine, State.Phases.is_open_inside, Steps.CallSteps.call_step}
 use Rattle.smp_stop_steps.proofs.{Steps.Facts.patcher_active, Steps.Patching.not_run}
+use Rattle.smp_stop_steps.specs.Names.{DISABLE_IRQ, RUN, EXIT, OVER}
 
 -- steps after which nothing is heard
 either_heard : (p q : StopState) (b : Bool) → heard_of q ≡ heard_of p → heard_of (cond b q p) ≡ heard_of p
@@ -112,7 +113,7 @@ module _ (u : Setup) (p : StopState) (at : Word → ℕ) (seat : ℕ → Seat) (
 
   module _ (v : Visit) where
     looked : (answer : ℕ) → c.stage ≡ Some (Advance v (RoundStage.Look answer)) → Fits (Advance v (RoundStage.Look answer))
-    looked answer e = let x = (seat_at (Advance v (RoundStage.Look answer)) e).1.2 in go x.0 x.2 (found == v.acked) (found == 2) refl refl
+    looked answer e = let x = (seat_at (Advance v (RoundStage.Look answer)) e).1.2 in go x.0 x.2 (found == v.acked) (found == DISABLE_IRQ) refl refl
       where
         found : ℕ
         found = at (Slot v.slot Field.State)
@@ -123,7 +124,7 @@ module _ (u : Setup) (p : StopState) (at : Word → ℕ) (seat : ℕ → Seat) (
         still : (d : Bool) → StaysStill p (after d) me
         still d j in_ = search (put_acked, found, put_same, looked_acked, arith)
 
-        go : (work : Work) → seat me ≡ In v.slot work v.acked v.acked Rests → (b d : Bool) → (found == v.acked) ≡ b → (found == 2) ≡ d →
+        go : (work : Work) → seat me ≡ In v.slot work v.acked v.acked Rests → (b d : Bool) → (found == v.acked) ≡ b → (found == DISABLE_IRQ) ≡ d →
             NoteFits p (after d) me (cond b (stop_ends c Note.Same) (looked_on me c v answer found)).note
         go work is false true e two = (inr (inl refl), still true)
         go work is false false e two = (inl refl, still false)
@@ -141,9 +142,9 @@ module _ (u : Setup) (p : StopState) (at : Word → ℕ) (seat : ℕ → Seat) (
             stood : (put p.now.stop v.slot next v.slot).standing me ≡ Inside v.acked v.acked
             stood = ap (λ (x : Stop). x.standing me) (put_same p.now.stop v.slot next) ∙ (search (put_same, found, same, arith))
 
-            quiet : (d : Bool) → (found == 2) ≡ d → heard_of (after d) ≡ heard_of p
+            quiet : (d : Bool) → (found == DISABLE_IRQ) ≡ d → heard_of (after d) ≡ heard_of p
             quiet false two = refl
-            quiet true two = let is_two : v.acked ≡ 2 = sym same ∙ eqb-true found 2 two in
+            quiet true two = let is_two : v.acked ≡ DISABLE_IRQ = sym same ∙ eqb-true found DISABLE_IRQ two in
                 let off : p.now.irq me ≡ false = h.present.irq me ∙ (ap irq_of is ∙ ap (λ n. irq_of (In v.slot work n n Rests)) is_two) in
                 ap (λ f. record (heard_of p) { irq = f }) (put_own p.now.irq me false off)
 
@@ -206,7 +207,7 @@ module _ (u : Setup) (p : StopState) (at : Word → ℕ) (seat : ℕ → Seat) (
       acked_control = record c { visit = Some (visit_acked v answer ran) }
 
       abbrev acked_now : Present
-      acked_now = record (p.now) { stop = put p.now.stop v.slot acked_stop; patching = cond (phase == 3) (unpatched me p.now.patching) p.now.patching }
+      acked_now = record (p.now) { stop = put p.now.stop v.slot acked_stop; patching = cond (phase == RUN) (unpatched me p.now.patching) p.now.patching }
 
       -- after it, where the CPU leaves the stop or not
       abbrev acked_after : Bool → StopState
@@ -214,9 +215,9 @@ module _ (u : Setup) (p : StopState) (at : Word → ℕ) (seat : ℕ → Seat) (
         now = cond b (leaves acked_now me v.slot (p.now.stop v.slot).work) acked_now;
       }
 
-      module _ (in_ : p.now.inside me ≡ Some v.slot) (st : (p.now.stop v.slot).standing me ≡ Inside v.acked phase) (off : (p.now.irq me ≡ false) ⊎ (phase ≢ 4))
+      module _ (in_ : p.now.inside me ≡ Some v.slot) (st : (p.now.stop v.slot).standing me ≡ Inside v.acked phase) (off : (p.now.irq me ≡ false) ⊎ (phase ≢ EXIT))
           (run : HasRun me (visit_acked v answer ran) ran) (active : v.active ≡ (p.now.stop v.slot).work.active) where
-        acked_turn : (r : Bool) → ran ≡ r → phase ≢ 4 → NoteFits p (acked_after false) me (Some (cond r Note.Ran (Note.Moved phase)))
+        acked_turn : (r : Bool) → ran ≡ r → phase ≢ EXIT → NoteFits p (acked_after false) me (Some (cond r Note.Ran (Note.Moved phase)))
         acked_turn true r ne = (
           record {
             acked = record { slot = v.slot; inside = in_; stands = acked_stands ∙ ap (λ n. Inside n n) (run.at_run r) };
@@ -237,15 +238,15 @@ module _ (u : Setup) (p : StopState) (at : Word → ℕ) (seat : ℕ → Seat) (
         acked_still : (at (Slot v.slot Field.Ack) == 1) ≡ true → StaysStill p (acked_after false) me
         acked_still one j is = search (acked_here, one, arith)
 
-        acked_fits : (b d : Bool) → (at (Slot v.slot Field.Ack) == 1) ≡ b → (phase == 4) ≡ d → NoteFits p (acked_after (d && not b)) me
+        acked_fits : (b d : Bool) → (at (Slot v.slot Field.Ack) == 1) ≡ b → (phase == EXIT) ≡ d → NoteFits p (acked_after (d && not b)) me
             (cond b (stop_goes acked_control (Advance (visit_acked v answer ran) (RoundStage.Refill ran)))
             (stop_ends (record acked_control { interrupts = cond d true c.interrupts }) (cond d Note.Left (cond ran Note.Ran (Note.Moved phase))))).note
         acked_fits true true one four = (inl refl, acked_still one)
         acked_fits true false one four = (inl refl, acked_still one)
-        acked_fits false true one four = let is_four : phase ≡ 4 = eqb-true phase 4 four in
+        acked_fits false true one four = let is_four : phase ≡ EXIT = eqb-true phase EXIT four in
             record {
               acked = record { slot = v.slot; inside = in_; stands = acked_stands ∙ ap (λ n. Inside n n) is_four };
-              off = ⊎_elim (λ (o : p.now.irq me ≡ false). o) (λ (ne : phase ≢ 4). absurd (ne is_four)) off;
+              off = ⊎_elim (λ (o : p.now.irq me ≡ false). o) (λ (ne : phase ≢ EXIT). absurd (ne is_four)) off;
               on = search (acked_here, arith);
             }
         acked_fits false false one four = search (acked_turn, eq-eqb, arith)
@@ -280,7 +281,7 @@ module _ (u : Setup) (p : StopState) (at : Word → ℕ) (seat : ℕ → Seat) (
         raised_active : has (put p.now.stop v.slot raised_stop v.slot).work.active me ≡ has v.active me
         raised_active = search (raised_here, arith)
 
-        raised_turn : (r : Bool) → ran ≡ r → v.acked ≢ 4 → NoteFits p (raised_after false) me (Some (cond r Note.Ran (Note.Moved v.acked)))
+        raised_turn : (r : Bool) → ran ≡ r → v.acked ≢ EXIT → NoteFits p (raised_after false) me (Some (cond r Note.Ran (Note.Moved v.acked)))
         raised_turn true r ne = (
           record {
             acked = record { slot = v.slot; inside = in_; stands = raised_stands ∙ ap (λ n. Inside n n) (run.at_run r) };
@@ -294,9 +295,9 @@ module _ (u : Setup) (p : StopState) (at : Word → ℕ) (seat : ℕ → Seat) (
           refl,
         )
 
-        raised_fits : (d f : Bool) → (v.acked == 4) ≡ d → (v.acked + 1 == 5) ≡ f → NoteFits p (raised_after f) me
+        raised_fits : (d f : Bool) → (v.acked == EXIT) ≡ d → (v.acked + 1 == OVER) ≡ f → NoteFits p (raised_after f) me
             (Some (cond d Note.Left (cond ran Note.Ran (Note.Moved v.acked))))
-        raised_fits true true four five = let is_four : v.acked ≡ 4 = eqb-true v.acked 4 four in
+        raised_fits true true four five = let is_four : v.acked ≡ EXIT = eqb-true v.acked EXIT four in
             record {
               acked = record { slot = v.slot; inside = in_; stands = raised_stands ∙ ap (λ n. Inside n n) is_four };
               off = h.present.irq me ∙ (ap irq_of is ∙ ap (λ n. irq_of (In v.slot work n n Sets)) is_four);

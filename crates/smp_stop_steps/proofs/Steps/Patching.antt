@@ -12,6 +12,7 @@ use Rattle.smp_stop_steps.proofs.Steps.Callings.{calling_same, closing_seat, idl
 use Rattle.smp_stop_steps.proofs.State.KeyCounts.{counts_nudged, counts_patched}
 use Rattle.smp_stop_steps.proofs.State.Patched.{off_inside, patch_starts, patch_stores, reads_label, nobody_patches, lawful_when_on}
 use Rattle.smp_stop_steps.proofs.{Steps.Kept.source_same, State.Owns.owns_stores, State.Phases.is_open_inside}
+use Rattle.smp_stop_steps.specs.Names.{DISABLE_IRQ, RUN}
 
 module _ (u : Setup) (p : StopState) (at : Word → ℕ) (seat : ℕ → Seat) (source : ℕ → Source) (h : StopShows u p at seat source) (me : ℕ) where
   -- a step that leaves the stops
@@ -23,7 +24,7 @@ module _ (u : Setup) (p : StopState) (at : Word → ℕ) (seat : ℕ → Seat) (
       StopShows u (record p { now = record (p.now) { readings = readings'; patching = patching' }; nudged = nudged'; patched = patched' }) at' seat' source
   label_step readings' patching' nudged' patched' at' seat' gate slots own counts present callings closing = search (source_same, h.sources, arith)
 
-  run_is : (x : Standing) → is_at_run x ≡ true → x ≡ Inside 2 3
+  run_is : (x : Standing) → is_at_run x ≡ true → x ≡ Inside DISABLE_IRQ RUN
   run_is x e = search (eqb-true, arith)
 
   -- where interrupts are on, the CPU is not at phase 3
@@ -87,14 +88,14 @@ module _ (u : Setup) (p : StopState) (at : Word → ℕ) (seat : ℕ → Seat) (
 
   module _ (s : ℕ) (job : Work) where
     -- load of the key of a patch, by the CPU that is to make it: what the patch leads from is found now
-    pub key_loaded_first : (answer : ℕ) → seat me ≡ In s job 2 3 Rests → job.kind ≡ Patch → has job.active me ≡ true →
+    pub key_loaded_first : (answer : ℕ) → seat me ≡ In s job DISABLE_IRQ RUN Rests → job.kind ≡ Patch → has job.active me ≡ true →
         let found = at (Key job.func) in
         StopShows u (told u p me Act.Load (Key job.func) (Some found) None answer) at (put seat me (Alters s job found [] (plan_at u job found))) source
-    key_loaded_first answer is kind active = let st : Stands p.now me (In s job 2 3 Rests) = subst (Stands p.now me) is (h.present.stands me) in
+    key_loaded_first answer is kind active = let st : Stands p.now me (In s job DISABLE_IRQ RUN Rests) = subst (Stands p.now me) is (h.present.stands me) in
         let found = at (Key job.func) in
         let plan = plan_at u job found in
         let seat' = put seat me (Alters s job found [] plan) in
-        let open_ = is_open_inside u.cpus (p.now.stop s) (λ f. at (Slot s f)) (h.present.slots s) me (Inside 2 3) st.1 refl in
+        let open_ = is_open_inside u.cpus (p.now.stop s) (λ f. at (Slot s f)) (h.present.slots s) me (Inside DISABLE_IRQ RUN) st.1 refl in
         let below : job.func < u.keys = subst (λ (w : Work). w.func < u.keys) st.3 (h.present.works s open_ (ap (λ (w : Work). w.kind) st.3 ∙ kind)).key in
         let shown = label_step p.now.readings (Patches me job found [] plan) p.nudged p.patched at seat' refl (λ j f. refl) h.owns h.counts
         (patch_starts u p.now at seat h.present s me job plan is kind active

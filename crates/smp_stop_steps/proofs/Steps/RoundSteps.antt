@@ -18,6 +18,7 @@ use Rattle.smp_stop_steps.specs.act
 use Rattle.smp_stop_steps.specs.note
 use Rattle.smp_stop_steps.specs.round
 use Rattle.smp_stop_steps.specs.place
+use Rattle.smp_stop_steps.specs.Names.{DISABLE_IRQ, RUN, EXIT}
 
 -- a wide number of CPUs
 pub ack_small : (n m : ℕ) → m ≤ 64 → n ≤ m → n < 2 ^ 64
@@ -43,28 +44,28 @@ module _ (u : Setup) (p : StopState) (at : Word → ℕ) (seat : ℕ → Seat) (
       let found = at (Slot v.slot State) in
       let shows' = moved_seat u seat source me (state_after u p at c me (Advance v (round.Look answer))) at (In v.slot work v.acked found Rests) (state_loaded
       u p at seat source h v.slot me work v.acked v.acked 0 is r.1.1) in
-      let sits' = go work is r.0 r.1.2.1 r.1.1 (round_source s v (round.Look answer) e) (found == v.acked) refl (found == 3 && has v.active me) refl in
+      let sits' = go work is r.0 r.1.2.1 r.1.1 (round_source s v (round.Look answer) e) (found == v.acked) refl (found == RUN && has v.active me) refl in
       search (shows', sits', arith)
     where
-      not_three : (a : ℕ) (b : Bool) → a ≡ 3 → ((a == 3) && b) ≡ false → b ≡ false
+      not_three : (a : ℕ) (b : Bool) → a ≡ RUN → ((a == RUN) && b) ≡ false → b ≡ false
       not_three a b three e = subst (λ x. (x && b) ≡ false) (eq-eqb a 3 three) e
 
       next : (work : Work) → seat me ≡ In v.slot work v.acked v.acked Rests → at (Slot v.slot State) ≢ v.acked → at (Slot v.slot State) ≡ v.acked + 1
       next work is ne = search (state_near, arith)
 
-      off : (work : Work) → seat me ≡ In v.slot work v.acked v.acked Rests → v.acked ≢ 4 → at (Slot v.slot State) ≡ v.acked + 1 →
-          cond (at (Slot v.slot State) == 2) false c.interrupts ≡ nat_lt (at (Slot v.slot State)) 2 || v.acked == 4
-      off work is more up = at_test (at (Slot v.slot State)) 2 (λ b. cond b false c.interrupts ≡ nat_lt (at (Slot v.slot State)) 2 || v.acked == 4)
-          (λ two. sym (ap (λ n. nat_lt n 2 || v.acked == 4) two ∙ ne_eqb v.acked 4 more))
-          (λ ne. (s.irq ∙ ap irq_of is) ∙ ap (λ b. b || v.acked == 4) (search (look_irq, arith)))
+      off : (work : Work) → seat me ≡ In v.slot work v.acked v.acked Rests → v.acked ≢ EXIT → at (Slot v.slot State) ≡ v.acked + 1 →
+          cond (at (Slot v.slot State) == DISABLE_IRQ) false c.interrupts ≡ nat_lt (at (Slot v.slot State)) DISABLE_IRQ || v.acked == EXIT
+      off work is more up = at_test (at (Slot v.slot State)) DISABLE_IRQ (λ b. cond b false c.interrupts ≡ nat_lt (at (Slot v.slot State)) DISABLE_IRQ || v.acked == EXIT)
+          (λ two. sym (ap (λ n. nat_lt n DISABLE_IRQ || v.acked == EXIT) two ∙ ne_eqb v.acked EXIT more))
+          (λ ne. (s.irq ∙ ap irq_of is) ∙ ap (λ b. b || v.acked == EXIT) (search (look_irq, arith)))
 
-      below : (work : Work) → seat me ≡ In v.slot work v.acked v.acked Rests → v.acked ≢ 4 → v.acked ≤ 3
+      below : (work : Work) → seat me ≡ In v.slot work v.acked v.acked Rests → v.acked ≢ EXIT → v.acked ≤ RUN
       below work is more = let k = inside_keeps u p at seat source h v.slot me work v.acked v.acked Rests is in omega arith
 
-      go : (work : Work) → seat me ≡ In v.slot work v.acked v.acked Rests → c.visit ≡ Some v → IsLoaded v work → v.acked ≢ 4 →
+      go : (work : Work) → seat me ≡ In v.slot work v.acked v.acked Rests → c.visit ≡ Some v → IsLoaded v work → v.acked ≢ EXIT →
           OwnsIf c.is_open (source me) → (b : Bool) → (at (Slot v.slot State) == v.acked) ≡ b →
-          (d : Bool) → (at (Slot v.slot State) == 3 && has v.active me) ≡ d →
-          Sits u me (at Gate) (cond b (stop_ends c note.Same) (stop_goes (record c { interrupts = cond (at (Slot v.slot State) == 2) false c.interrupts })
+          (d : Bool) → (at (Slot v.slot State) == RUN && has v.active me) ≡ d →
+          Sits u me (at Gate) (cond b (stop_ends c note.Same) (stop_goes (record c { interrupts = cond (at (Slot v.slot State) == DISABLE_IRQ) false c.interrupts })
           (Advance v (cond d (round.LoadFunc answer) (round.Acknowledge answer false))))).control
           (In v.slot work v.acked (at (Slot v.slot State)) Rests) (source me)
       go work is visit loaded more y true same d f = search (eqb-true, v.acked, below, arith)
@@ -193,7 +194,7 @@ module _ (u : Setup) (p : StopState) (at : Word → ℕ) (seat : ℕ → Seat) (
   pub store_change : (made : ℕ) → c.stage ≡ Some (Advance v (round.StoreChange made)) → StopStep u p at seat source c me (Advance v (round.StoreChange made))
   store_change made e = search (in_round, go, round_source, arith)
     where
-      go : c.visit ≡ Some v → (work : Work) (count : ℕ) → IsLoaded v work → v.acked ≡ 2 → made < length c.changes → c.changes ≡ plan_at u work count →
+      go : c.visit ≡ Some v → (work : Work) (count : ℕ) → IsLoaded v work → v.acked ≡ DISABLE_IRQ → made < length c.changes → c.changes ≡ plan_at u work count →
           (before after : List Change) → c.changes ≡ before ++ after → length before ≡ made →
           seat me ≡ Alters v.slot work count before after → OwnsIf c.is_open (source me) → StopStep u p at seat source c me (Advance v (round.StoreChange
           made))
@@ -226,7 +227,7 @@ module _ (u : Setup) (p : StopState) (at : Word → ℕ) (seat : ℕ → Seat) (
           made_some : (work : Work) (count : ℕ) → plan_at u work count ≢ [] → 0 ≡ patch_answer work count
           made_some work count some = search (work.arg, plan_same, eq-eqb, arith)
 
-          ends : c.visit ≡ Some v → (work : Work) (count : ℕ) → IsLoaded v work → v.acked ≡ 2 → made < length c.changes → c.changes ≡ plan_at u work count →
+          ends : c.visit ≡ Some v → (work : Work) (count : ℕ) → IsLoaded v work → v.acked ≡ DISABLE_IRQ → made < length c.changes → c.changes ≡ plan_at u work count →
               (before : List Change) (change : Change) (rest : List Change) → c.changes ≡ before ++ change ∷ rest → length before ≡ made →
               seat me ≡ Alters v.slot work count before (change ∷ rest) → OwnsIf c.is_open (source me) → (b : Bool) → (made + 1 == length c.changes) ≡ b →
               Sits u me (at Gate) (stop_goes c (Advance v (cond b (round.Acknowledge 0 true) (round.StoreChange (made + 1))))).control

@@ -18,9 +18,10 @@ use Rattle.smp_stop_steps.proofs.Steps.Kept.{MovesInside, StaysOpen, after, move
 use Rattle.smp_stop_steps.proofs.State.Acknowledged.{step_acknowledges, step_looks, step_raises, step_refills, sets_me}
 use Rattle.smp_stop_steps.proofs.{State.Moves.IsNoPatch, State.Moves.SaveMe, State.Pasts.active_put, State.Owns.owns_at_leave, State.Patched.patch_ends}
 use Rattle.smp_stop_steps.proofs.{State.Phases.is_open_inside, State.Phases.keeps_inside, State.Works.weight_of_mask}
+use Rattle.smp_stop_steps.specs.Names.{DISABLE_IRQ, RUN, EXIT, OVER}
 
 -- a look changes whether interrupts are on at phase 2 alone
-pub look_irq : (l a n p : ℕ) → n ≡ p → IsLevel p a → ((l ≡ a) ⊎ ((l ≡ a + 1) × (p ≡ l))) → n ≢ 2 → nat_lt l 2 ≡ nat_lt n 2
+pub look_irq : (l a n p : ℕ) → n ≡ p → IsLevel p a → ((l ≡ a) ⊎ ((l ≡ a + 1) × (p ≡ l))) → n ≢ DISABLE_IRQ → nat_lt l DISABLE_IRQ ≡ nat_lt n DISABLE_IRQ
 look_irq l a n p e level near ne = search (cases_lt, lt-ltb, le-ltb, near, arith)
 
 -- no CPU has acknowledged more than the phase
@@ -46,7 +47,7 @@ module _ (u : Setup) (p : StopState) (at : Word → ℕ) (seat : ℕ → Seat) (
     shown = (h.present.slots s).shows is_open
 
   -- load of the state, by a CPU that has not acknowledged the last phase
-  pub state_loaded : (job : Work) (a l answer : ℕ) → seat me ≡ In s job a l Rests → a ≢ 4 →
+  pub state_loaded : (job : Work) (a l answer : ℕ) → seat me ≡ In s job a l Rests → a ≢ EXIT →
       let found = at (Slot s State) in
       StopShows u (told u p me Act.Load (Slot s State) (Some found) None answer) at (put seat me (In s job a found Rests)) source
   state_loaded job a l answer is more = let found = at (Slot s State) in
@@ -54,7 +55,7 @@ module _ (u : Setup) (p : StopState) (at : Word → ℕ) (seat : ℕ → Seat) (
       let o = shown job a l Rests is in
       let to = Inside a found in
       let stop' = stands (p.now.stop s) me to in
-      let irq' = cond (found == 2) (put p.now.irq me false) p.now.irq in
+      let irq' = cond (found == DISABLE_IRQ) (put p.now.irq me false) p.now.irq in
       let looks' = put p.looks me (p.looks me ++ found ∷ []) in
       let next = In s job a found Rests in
       let inside : MovesInside ((p.now.stop s).standing me) to = search arith in
@@ -82,21 +83,21 @@ module _ (u : Setup) (p : StopState) (at : Word → ℕ) (seat : ℕ → Seat) (
       to c ne) refl refl) in
       search ((here job a l Rests is).1, shown', arith)
     where
-      near : (l ≡ a) ⊎ ((l ≡ a + 1) × ((p.now.stop s).phase ≡ l)) → a ≡ 2 → l ≡ 3 → (p.now.stop s).phase ≡ 3
+      near : (l ≡ a) ⊎ ((l ≡ a + 1) × ((p.now.stop s).phase ≡ l)) → a ≡ DISABLE_IRQ → l ≡ RUN → (p.now.stop s).phase ≡ RUN
       near k two three = search arith
 
       other_irq : (b : Bool) (c : ℕ) → c ≢ me → cond b (put p.now.irq me false) p.now.irq c ≡ p.now.irq c
       other_irq b c ne = search (put_other, arith)
 
-      save : (found : ℕ) → SaveMe p.now me p.now.inside (cond (found == 2) (put p.now.irq me false) p.now.irq) p.now.readings
-      save found = record { inside = λ c ne. refl; irq = λ c ne. other_irq (found == 2) c ne; readings = λ c ne. refl }
+      save : (found : ℕ) → SaveMe p.now me p.now.inside (cond (found == DISABLE_IRQ) (put p.now.irq me false) p.now.irq) p.now.readings
+      save found = record { inside = λ c ne. refl; irq = λ c ne. other_irq (found == DISABLE_IRQ) c ne; readings = λ c ne. refl }
 
-      turned : (found : ℕ) → found ≡ found → found ≡ (p.now.stop s).phase → Keeps u.cpus (p.now.stop s).phase me (Inside a l) → p.now.irq me ≡ nat_lt l 2 ||
-          a == 4 →
-          cond (found == 2) (put p.now.irq me false) p.now.irq me ≡ nat_lt found 2 || a == 4
+      turned : (found : ℕ) → found ≡ found → found ≡ (p.now.stop s).phase → Keeps u.cpus (p.now.stop s).phase me (Inside a l) → p.now.irq me ≡ nat_lt l DISABLE_IRQ ||
+          a == EXIT →
+          cond (found == DISABLE_IRQ) (put p.now.irq me false) p.now.irq me ≡ nat_lt found DISABLE_IRQ || a == EXIT
       turned found h1 e k i = search (at_test, nat_lt, put_same, ne_eqb, look_irq, arith)
 
-      before : (found : ℕ) → nat_lt found 2 || a == 4 ≡ cond (found == 2) (put p.now.irq me false) p.now.irq me → nat_lt found 2 || a == 4 ≡ true →
+      before : (found : ℕ) → nat_lt found DISABLE_IRQ || a == EXIT ≡ cond (found == DISABLE_IRQ) (put p.now.irq me false) p.now.irq me → nat_lt found DISABLE_IRQ || a == EXIT ≡ true →
           p.now.irq me ≡ true
       before found e i = search (at_test, put_same, arith)
 
@@ -105,7 +106,7 @@ module _ (u : Setup) (p : StopState) (at : Word → ℕ) (seat : ℕ → Seat) (
   not_patching x idle r = search (ne_eqb, IsNoPatch, arith)
 
   -- with the key of its own patch a source's readings begin when it leaves
-  leave_agrees : (job : Work) (a l : ℕ) (t : Duty) → seat me ≡ In s job a l t → 4 ≤ (p.now.stop s).phase → AllByRecursion (Agrees (labels_in at))
+  leave_agrees : (job : Work) (a l : ℕ) (t : Duty) → seat me ≡ In s job a l t → EXIT ≤ (p.now.stop s).phase → AllByRecursion (Agrees (labels_in at))
       (first_readings me s job)
   leave_agrees job a l t is late = go (is_patch job.kind) refl (s == me) refl
     where
@@ -143,32 +144,32 @@ module _ (u : Setup) (p : StopState) (at : Word → ℕ) (seat : ℕ → Seat) (
 
     -- the keys that sources know
     owns_acked : (x : Patching) (irq' : ℕ → Bool) (readings' : ℕ → List Reading) → (p.now.stop s).standing me ≡ Inside a (a + 1) →
-        ((p.now.stop s).work.kind ≡ Patch → me ≡ u.first → a ≡ 2 → StandsSet (p.now.stop s).work (at (Key (p.now.stop s).work.func))) →
+        ((p.now.stop s).work.kind ≡ Patch → me ≡ u.first → a ≡ DISABLE_IRQ → StandsSet (p.now.stop s).work (at (Key (p.now.stop s).work.func))) →
         (j : ℕ) → OwnsKey u.first (after p.now s acked_stop p.now.inside irq' readings' x) (λ k. at (Key k)) j
     owns_acked x irq' readings' st known j =
         at_test j s (λ b. let y = cond b acked_stop (p.now.stop j) in y.is_open ≡ true → y.work.kind ≡ Patch → is_inside (y.standing j) ≡ true →
-        3 ≤ acked (y.standing u.first) → StandsSet y.work (at (Key y.work.func)))
+        RUN ≤ acked (y.standing u.first) → StandsSet y.work (at (Key y.work.func)))
         (λ e op kind in_ late.
         let i = put_all (λ c y. is_inside y ≡ true → is_inside ((p.now.stop s).standing c) ≡ true) (p.now.stop s).standing me (Inside (a + 1) (a + 1))
         (λ _. ap is_inside st) (λ c ne i. i) s (subst (λ k. is_inside (acked_stop.standing k) ≡ true) e in_) in
-        at_test u.first me (λ b. 3 ≤ acked (cond b (Inside (a + 1) (a + 1)) ((p.now.stop s).standing u.first)) → StandsSet (p.now.stop s).work
+        at_test u.first me (λ b. RUN ≤ acked (cond b (Inside (a + 1) (a + 1)) ((p.now.stop s).standing u.first)) → StandsSet (p.now.stop s).work
         (at (Key (p.now.stop s).work.func)))
         (search arith)
         (λ ne late. h.owns s op kind i late) late)
         (λ ne op kind in_ late. h.owns j op kind in_ late)
 
-    leaves_irq : (b : Bool) → irq_of (In s job (a + 1) (a + 1) (cond b Fills Rests)) ≡ cond (a + 1 == 4 && not b) true (nat_lt (a + 1) 2)
+    leaves_irq : (b : Bool) → irq_of (In s job (a + 1) (a + 1) (cond b Fills Rests)) ≡ cond (a + 1 == EXIT && not b) true (nat_lt (a + 1) DISABLE_IRQ)
     leaves_irq b = search (at_test, nat_lt, or_true, or_false, arith)
 
     -- an acknowledgement, over a state in which nobody or another patches
     ack_shown : (x : Patching) (seat0 : ℕ → Seat) (calls' : ℕ → List StopCall) (calling' : ℕ → Calling) → PresentShows u (record (p.now) { patching = x })
         at seat0 → seat0 me ≡ In s job a (a + 1) Rests →
-        p.now.irq me ≡ nat_lt (a + 1) 2 → put seat0 me next ≡ put seat me next → (p.now.stop s).standing me ≡ Inside a (a + 1) → (p.now.stop s).is_open ≡
+        p.now.irq me ≡ nat_lt (a + 1) DISABLE_IRQ → put seat0 me next ≡ put seat me next → (p.now.stop s).standing me ≡ Inside a (a + 1) → (p.now.stop s).is_open ≡
         true →
-        ((p.now.stop s).work.kind ≡ Patch → me ≡ u.first → a ≡ 2 → StandsSet (p.now.stop s).work (at (Key (p.now.stop s).work.func))) →
-        (a + 1 ≡ 4 → AllByRecursion (Agrees (labels_in at)) (first_readings me s (p.now.stop s).work)) →
+        ((p.now.stop s).work.kind ≡ Patch → me ≡ u.first → a ≡ DISABLE_IRQ → StandsSet (p.now.stop s).work (at (Key (p.now.stop s).work.func))) →
+        (a + 1 ≡ EXIT → AllByRecursion (Agrees (labels_in at)) (first_readings me s (p.now.stop s).work)) →
         ((c : ℕ) → IsCalling c (put seat me next c) (calling' c)) → IsNotClosing (seat me) →
-        (b : Bool) → (a + 1 == 4 && not (found == 1)) ≡ b →
+        (b : Bool) → (a + 1 == EXIT && not (found == 1)) ≡ b →
         StopShows u (record p { now = cond b (leaves (acked_now x) me s (p.now.stop s).work) (acked_now x); calls = calls'; calling = calling' })
         (put_word at (Slot s Ack) (found - 1)) (put seat me next) source
     ack_shown x seat0 calls' calling' present is off same st op known agrees callings idle true e = let irq' = put p.now.irq me true in
@@ -181,14 +182,14 @@ module _ (u : Setup) (p : StopState) (at : Word → ℕ) (seat : ℕ → Seat) (
           irq = λ c ne. put_other p.now.irq me true c ne;
           readings = search (put_other, arith);
         } job a is (put_same p.now.irq me true ∙ sym (leaves_irq (found == 1) ∙ ap
-        (λ b. cond b true (nat_lt (a + 1) 2)) e)) (λ _ _. subst (AllByRecursion (Agrees (labels_in at))) (sym (put_same p.now.readings me (first_readings
-        me s (p.now.stop s).work))) (agrees (eqb-true (a + 1) 4 (both_true (a + 1 == 4) (not (found == 1)) e).0)))) (subst (λ (y : ℕ → Seat). (c : ℕ) →
+        (λ b. cond b true (nat_lt (a + 1) DISABLE_IRQ)) e)) (λ _ _. subst (AllByRecursion (Agrees (labels_in at))) (sym (put_same p.now.readings me (first_readings
+        me s (p.now.stop s).work))) (agrees (eqb-true (a + 1) EXIT (both_true (a + 1 == EXIT) (not (found == 1)) e).0)))) (subst (λ (y : ℕ → Seat). (c : ℕ) →
         IsCalling c (y c) (calling' c)) (sym same) callings) (subst (AreClosing (record (acked_now x) { irq = irq'; readings = readings' })) (sym same)
         (closing_kept p.now seat me next h.closing idle s acked_stop (λ c ne. put_other (p.now.stop s).standing me (Inside (a + 1) (a + 1)) c ne) refl refl)) in
         search (← same, shown', arith)
     ack_shown x seat0 calls' calling' present is off same st op known agrees callings idle false e = let at' = put_word at (Slot s Ack) (found - 1) in
         let to = Inside (a + 1) (a + 1) in
-        let turned : p.now.irq me ≡ irq_of next = off ∙ sym (leaves_irq (found == 1) ∙ ap (λ b. cond b true (nat_lt (a + 1) 2)) e) in
+        let turned : p.now.irq me ≡ irq_of next = off ∙ sym (leaves_irq (found == 1) ∙ ap (λ b. cond b true (nat_lt (a + 1) DISABLE_IRQ)) e) in
         let shown' = open_step u p at seat source h s acked_stop p.now.inside p.now.irq p.now.readings x at' (put seat0 me next) p.looks calls' calling'
         record {
           was = op;
@@ -208,28 +209,28 @@ module _ (u : Setup) (p : StopState) (at : Word → ℕ) (seat : ℕ → Seat) (
         search (← same, shown', arith)
 
     abbrev pub calls_then : ℕ → List StopCall
-    calls_then = cond (a + 1 == 3) (called_more p.calls me (p.calling me)) p.calls
+    calls_then = cond (a + 1 == RUN) (called_more p.calls me (p.calling me)) p.calls
 
     abbrev pub calling_then : Patching → ℕ → Calling
-    calling_then x = cond (a + 1 == 3) (put p.calling me (carried me x (p.calling me))) p.calling
+    calling_then x = cond (a + 1 == RUN) (put p.calling me (carried me x (p.calling me))) p.calling
 
     -- the function of a CPU that patches nothing, once the phase is acknowledged
-    acked_calling : (b : Bool) → (a + 1 == 3) ≡ b → seat me ≡ In s job a (a + 1) Rests → job.kind ≢ One → (a ≡ 2 → HasCalled me job (p.calling me)) →
+    acked_calling : (b : Bool) → (a + 1 == RUN) ≡ b → seat me ≡ In s job a (a + 1) Rests → job.kind ≢ One → (a ≡ DISABLE_IRQ → HasCalled me job (p.calling me)) →
         (c : ℕ) → IsCalling c (put seat me next c) (cond b (put p.calling me (carried me p.now.patching (p.calling me))) p.calling c)
     acked_calling b e is many ready = search (calling_same, calling_acked, eq-eqb, eqb-true, carried_alone, IsNoPatch, calling_ran, calling_next, arith)
 
     -- fetch_sub of the count, by a CPU that has looked at a new phase and runs no patch
-    pub ack_subtracted : seat me ≡ In s job a (a + 1) Rests → (a ≡ 2 → HasCalled me job (p.calling me)) →
+    pub ack_subtracted : seat me ≡ In s job a (a + 1) Rests → (a ≡ DISABLE_IRQ → HasCalled me job (p.calling me)) →
         StopShows u (told u p me Act.Sub (Slot s Ack) (Some found) (Some (found - 1)) answer) (put_word at (Slot s Ack) (found - 1)) (put seat me next) source
     ack_subtracted is ready = let st = here job a (a + 1) Rests is in
         let phase : (p.now.stop s).phase ≡ a + 1 = search arith in
         let many : job.kind ≢ One = search (several, shown, arith) in
-        let off : p.now.irq me ≡ nat_lt (a + 1) 2 = search (h.present.irq, or_false, nat_lt, ne_eqb, arith) in
+        let off : p.now.irq me ≡ nat_lt (a + 1) DISABLE_IRQ = search (h.present.irq, or_false, nat_lt, ne_eqb, arith) in
         let shown' = ack_shown p.now.patching seat calls_then (calling_then p.now.patching) h.present is off refl st.1 (is_open job a (a + 1) Rests is) (λ
         kind mine two. absurd (active kind mine two st.3)) (λ four. subst (λ (w : Work). AllByRecursion (Agrees (labels_in at)) (first_readings me s w))
-        (sym st.3) (leave_agrees job a (a + 1) Rests is (omega arith))) (acked_calling (a + 1 == 3) refl is many ready) (subst IsNotClosing (sym is) tt)
-        (a + 1 == 4 && not (found == 1)) refl in
-        search (st.1, still (a + 1 == 3) (subst IsNoPatch (sym is) tt), shown', arith)
+        (sym st.3) (leave_agrees job a (a + 1) Rests is (omega arith))) (acked_calling (a + 1 == RUN) refl is many ready) (subst IsNotClosing (sym is) tt)
+        (a + 1 == EXIT && not (found == 1)) refl in
+        search (st.1, still (a + 1 == RUN) (subst IsNoPatch (sym is) tt), shown', arith)
       where
         several : (k : KindOf) → k ≡ One → IsPhaseOf k (p.now.stop s).phase → (p.now.stop s).phase ≡ a + 1 → ⊥
         several k e z phase = search arith
@@ -237,23 +238,23 @@ module _ (u : Setup) (p : StopState) (at : Word → ℕ) (seat : ℕ → Seat) (
         still : (b : Bool) → IsNoPatch (seat me) → cond b (unpatched me p.now.patching) p.now.patching ≡ p.now.patching
         still b idle = search (not_patching, arith)
 
-        active : (p.now.stop s).work.kind ≡ Patch → me ≡ u.first → a ≡ 2 → (p.now.stop s).work ≡ job → ⊥
+        active : (p.now.stop s).work.kind ≡ Patch → me ≡ u.first → a ≡ DISABLE_IRQ → (p.now.stop s).work ≡ job → ⊥
         active kind mine two same = search (h.present.works, is_open, eq-eqb, h.callings, idle_patch, arith)
 
   -- the same at phase 3, by the CPU that has made all stores of its patch
   pub ack_subtracted_patched : (job : Work) (count : ℕ) (made : List Change) (answer : ℕ) → seat me ≡ Alters s job count made [] →
       let found = at (Slot s Ack) in
       StopShows u (told u p me Act.Sub (Slot s Ack) (Some found) (Some (found - 1)) answer) (put_word at (Slot s Ack) (found - 1))
-      (put seat me (In s job 3 3 (cond (found == 1) Fills Rests))) source
+      (put seat me (In s job RUN RUN (cond (found == 1) Fills Rests))) source
   ack_subtracted_patched job count made answer is = let st : Stands p.now me (Alters s job count made []) = subst (Stands p.now me) is (h.present.stands me) in
       let ends = patch_ends u p.now at seat h.present s me job count made is in
-      let seat0 = put seat me (In s job 2 3 Rests) in
-      let next = In s job 3 3 (cond ((at (Slot s Ack)) == 1) Fills Rests) in
-      let open_ = is_open_inside u.cpus (p.now.stop s) (λ f. at (Slot s f)) (h.present.slots s) me (Inside 2 3) st.1 refl in
+      let seat0 = put seat me (In s job DISABLE_IRQ RUN Rests) in
+      let next = In s job RUN RUN (cond ((at (Slot s Ack)) == 1) Fills Rests) in
+      let open_ = is_open_inside u.cpus (p.now.stop s) (λ f. at (Slot s f)) (h.present.slots s) me (Inside DISABLE_IRQ RUN) st.1 refl in
       let runner : RunnerShows u.first (Patches me job count made []) seat = subst (λ x. RunnerShows u.first x seat) st.5 h.present.runner in
       let works = h.present.works s open_ (ap (λ (w : Work). w.kind) st.3 ∙ st.4) in
       let shown' = ack_shown job 2 answer Whole seat0 (calls_then job 2 answer) (put p.calling me (Carries (patch_answer job count))) ends.0 (search
-      (put_same, arith)) (h.present.irq me ∙ ap irq_of is) (put_twice seat me (In s job 2 3 Rests) next) st.1 open_ (search arith) (λ four. absurd (let
+      (put_same, arith)) (h.present.irq me ∙ ap irq_of is) (put_twice seat me (In s job DISABLE_IRQ RUN Rests) next) st.1 open_ (search arith) (λ four. absurd (let
       z : ⊥ = omega (arith, four) in z)) (search (calling_next, h.callings, arith)) (subst IsNotClosing (sym is) tt) false refl in
       search (st.1, st.5, eq-eqb me me refl, shown', arith)
 
@@ -308,7 +309,7 @@ module _ (u : Setup) (p : StopState) (at : Word → ℕ) (seat : ℕ → Seat) (
       closing = closing_kept p.now seat me (In s job a l Rests) h.closing (subst IsNotClosing (sym is) tt) s (raised (p.now.stop s) (a + 1)) (λ c ne. refl)
           refl refl
 
-      go : (b : Bool) → (a + 1 == 5) ≡ b → Stands p.now me (In s job a l Sets) → (p.now.stop s).phase ≡ a → (p.now.stop s).phase ≡ l →
+      go : (b : Bool) → (a + 1 == OVER) ≡ b → Stands p.now me (In s job a l Sets) → (p.now.stop s).phase ≡ a → (p.now.stop s).phase ≡ l →
           (p.now.stop s).phase ≢ 0 → StaysOpen (p.now.stop s) (raised (p.now.stop s) (a + 1)) →
           ((irq' : ℕ → Bool) (readings' : ℕ → List Reading) (j : ℕ) → OwnsKey u.first (after p.now s (raised (p.now.stop s) (a + 1)) p.now.inside irq'
           readings' p.now.patching) (λ k. at (Key k)) j) →
@@ -319,7 +320,7 @@ module _ (u : Setup) (p : StopState) (at : Word → ℕ) (seat : ℕ → Seat) (
       go true e st phase looked busy stays own = let irq' = put p.now.irq me true in
           let first = first_readings me s (p.now.stop s).work in
           let readings' = put p.now.readings me first in
-          let five : a ≡ 4 = let x = eqb-true (a + 1) 5 e in omega arith in
+          let five : a ≡ EXIT = let x = eqb-true (a + 1) OVER e in omega arith in
           open_step u p at seat source h s (raised (p.now.stop s) (a + 1)) p.now.inside irq' readings' p.now.patching (put_word at (Slot s State) (a + 1))
           (put seat me (In s job a l Rests)) p.looks p.calls p.calling stays refl (λ k. refl) (other_slots at s State (a + 1)) (own irq' readings')
           (subst (λ n. PresentShows u (after p.now s (raised (p.now.stop s) (n + 1)) p.now.inside irq' readings' p.now.patching) (put_word at (Slot s State)
@@ -327,13 +328,13 @@ module _ (u : Setup) (p : StopState) (at : Word → ℕ) (seat : ℕ → Seat) (
           (step_raises u p.now at seat h.present s me irq' readings'
           record { inside = λ c ne. refl; irq = λ c ne. put_other p.now.irq me true c ne; readings = λ c ne. put_other p.now.readings me first c ne }
           job a l is busy
-          (put_same p.now.irq me true ∙ sym (ap (λ n. nat_lt l 2 || n == 4) five ∙ or_true (nat_lt l 2)))
+          (put_same p.now.irq me true ∙ sym (ap (λ n. nat_lt l DISABLE_IRQ || n == EXIT) five ∙ or_true (nat_lt l DISABLE_IRQ)))
           (λ _ _. subst (AllByRecursion (Agrees (labels_in at))) (sym (put_same p.now.readings me first))
           (subst (λ (w : Work). AllByRecursion (Agrees (labels_in at)) (first_readings me s w)) (sym st.3) (leave_agrees job a l Sets is (omega arith))))))
           callings closing
       go false e st phase looked busy stays own =
-          let not_five : a == 4 ≡ false = ne_eqb a 4 (λ x. let y : true ≡ false = sym (eq-eqb (a + 1) 5 (omega arith)) ∙ e in cc) in
-          let off : p.now.irq me ≡ nat_lt l 2 || a == 4 = h.present.irq me ∙ (ap irq_of is ∙ sym (or_false (nat_lt l 2) (a == 4) not_five)) in
+          let not_five : a == EXIT ≡ false = ne_eqb a EXIT (λ x. let y : true ≡ false = sym (eq-eqb (a + 1) OVER (omega arith)) ∙ e in cc) in
+          let off : p.now.irq me ≡ nat_lt l DISABLE_IRQ || a == EXIT = h.present.irq me ∙ (ap irq_of is ∙ sym (or_false (nat_lt l DISABLE_IRQ) (a == EXIT) not_five)) in
           open_step u p at seat source h s (raised (p.now.stop s) (a + 1)) p.now.inside p.now.irq p.now.readings p.now.patching (put_word at (Slot s State)
           (a + 1)) (put seat me (In s job a l Rests)) p.looks p.calls p.calling stays refl (λ k. refl) (other_slots at s State (a + 1))
           (own p.now.irq p.now.readings)

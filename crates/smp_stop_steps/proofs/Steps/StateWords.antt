@@ -6,15 +6,16 @@ use Rattle.smp_stop_steps.specs.{change_at, completion_access, label_word, round
 use Rattle.smp_stop_steps.specs.{RoundStage, Advance, Begin, Close, Complete, Enter, EnterActive, EnterKind, EnterMask, LoadDone, LoadResult, OpenGate}
 use Rattle.smp_stop_steps.specs.{TakeGate, NudgeKey, ExchangeKey, StopStage, Visit, Kind, Work, Gate, Slot, Key, Word, Place}
 use Rattle.smp_stop_steps.specs.declared.stage.StopStage.TheVariants.{ReadKey, ReadSite}
+use Rattle.smp_stop_steps.specs.Names.{OVER}
 
 -- each state word is a phase, or 5
 abbrev pub ArePhases : (Word → ℕ) → Type 0
-ArePhases at = (s : ℕ) → at (Slot s Field.State) ≤ 5
+ArePhases at = (s : ℕ) → at (Slot s Field.State) ≤ OVER
 
-either : (b : Bool) (n m : ℕ) → n ≤ 5 → m ≤ 5 → cond b n m ≤ 5
+either : (b : Bool) (n m : ℕ) → n ≤ OVER → m ≤ OVER → cond b n m ≤ OVER
 either b n m l k = search arith
 
-first_small : (kind : Kind) → first_phase kind ≤ 5
+first_small : (kind : Kind) → first_phase kind ≤ OVER
 first_small kind = search arith
 
 -- a store that is not to a state word
@@ -41,7 +42,7 @@ module _ (at : Word → ℕ) (h : ArePhases at) where
 module _ (u : Setup) (p : StopState) (at : Word → ℕ) (seat : ℕ → Seat) (source : ℕ → Source) (v : StopShows u p at seat source) (h : ArePhases at)
     (c : StopControlValue) (me : ℕ) where
   -- who sets the next phase has acknowledged this one, which is at most 4
-  raised_small : (w : Visit) → SitsIn w w.acked Sets (seat me) → w.acked + 1 ≤ 5
+  raised_small : (w : Visit) → SitsIn w w.acked Sets (seat me) → w.acked + 1 ≤ OVER
   raised_small w x = search (w.acked, v.present.stands, v.present.slots, arith)
 
   round_after : (w : Visit) (st : RoundStage) → SitsInRound u me c.changes w st (seat me) → ArePhases (at_after at (round_access u.cpus c.changes w st))

@@ -8,6 +8,7 @@ use Rattle.smp_stop_steps.specs.{stop_control_of, Command, StopStage, Advance, C
 use Rattle.smp_stop_steps.proofs.TheMachine.Fits.{both, if_passed, is_kind, is_one_kind, is_same, ne_false, not_one, not_true, passed, within}
 use Rattle.smp_stop_steps.specs.completion
 use Rattle.smp_stop_steps.specs.round
+use Rattle.smp_stop_steps.specs.Names.{EXIT}
 
 -- a stage that a CPU may begin at, where there is one
 abbrev MayBeginIf : Setup → ℕ → ℕ → StopControlValue → Option StopStage → Type 0
@@ -38,7 +39,7 @@ module _ (v : StopsValue) (cpu : ℕ) (low : cpu < cpus) (below : (k : ℕ) → 
   runs : (answer : ℕ) (x : Option Visit) → c.visit ≡ x → may_run x ≡ true → MayBeginIf u cpu gate c (in_visit x (λ w. Complete w (completion.LoadFunc answer)))
   runs answer x is e = search (is_one_kind, arith)
 
-  completes : (w : Visit) → c.visit ≡ Some w → w.acked ≡ 4 → (b : Bool) → (w.answer == 0) ≡ b →
+  completes : (w : Visit) → c.visit ≡ Some w → w.acked ≡ EXIT → (b : Bool) → (w.answer == 0) ≡ b →
       MayBegin u cpu gate c (Complete w (cond b completion.CountDown completion.StoreAnswer))
   completes w is left b e = search (is_same, ne_false, arith)
 

@@ -7,9 +7,9 @@ ghost use Rattle.smp_stop_steps.specs.Stages.{turn_ends, FitsRound};
 
 use super::StopControl;
 use crate::mask::has_bit;
-use crate::phase::{DISABLE_IRQ, EXIT, RUN};
 use crate::stage::{RoundStage, StopStage, Visit};
 use smp_labels::{Change, Entry, MOST_SITES, Place, is_on, kind_of};
+use smp_words::phase::{DISABLE_IRQ, EXIT, RUN};
 use smp_words::seen::Note;
 use smp_words::work::Kind;
 

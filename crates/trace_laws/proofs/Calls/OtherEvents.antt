@@ -12,6 +12,7 @@ use Rattle.trace_model.specs.declared.event.StopEvent.TheVariants as stops
 use Rattle.trace_model.specs.declared.reason.Reason.TheVariants as reason
 use Rattle.trace_laws.proofs.{Calls.CpuSteps.SameCalls, Calls.MadeSteps.both_made, Calls.MadeSteps.failed, Calls.MadeSteps.passed, Calls.StateSteps.cpu_changed}
 use Rattle.trace_laws.proofs.{Calls.StateSteps.cpu_kept, Calls.StateSteps.same_calls}
+use Rattle.smp_words.specs.declared.phase.TheConstants.{DISABLE_IRQ, RUN, OVER}
 
 -- The calls of each CPU, and where each record is, are as before.
 pub record KeepsCalls (s t : StateValue) : Type 0 where
@@ -115,10 +116,10 @@ keeps_acks_by false false cpu source s t test e = keeps_end s s t (cc) (keeps_re
 keeps_may_ack : (cpu source phase : ℕ) (s t : StateValue) → may_ack cpu source phase s ≡ Ok t → KeepsCalls s t
 keeps_may_ack cpu source phase s t e =
     let tested = acks_disabled s.setting.without.switches cpu s in
-    let runs = (phase == 3) && has (stop_at s source).task.active cpu in
-    let next : Result StateValue Reason = if phase == 2 then (tested >>= λ v. Ok s) else (if runs then acks_at_run cpu source s else Ok s) in
+    let runs = (phase == RUN) && has (stop_at s source).task.active cpu in
+    let next : Result StateValue Reason = if phase == DISABLE_IRQ then (tested >>= λ v. Ok s) else (if runs then acks_at_run cpu source s else Ok s) in
     let m = both_made (at_phase (stop_at s source) cpu phase) (λ u. next) t e in
-    keeps_acks_by (phase == 2) runs cpu source s t tested m.1.1
+    keeps_acks_by (phase == DISABLE_IRQ) runs cpu source s t tested m.1.1
 
 keeps_switched_at : (cpu source phase : ℕ) (s : StateValue) → KeepsCalls s (switched_at cpu source phase s)
 keeps_switched_at cpu source phase s = search (keeps_if, keeps_irq, keeps_refl, arith)
@@ -144,7 +145,7 @@ keeps_raise cpu phase s t e =
     let n = both_made made (λ x. Ok (switched_on cpu phase x)) t m.1.1 in
     keeps_then s n.0 t (keeps_stop m.0 s n.0 (raised cpu phase (stop_at s m.0)) n.1.0)
     (keeps_end n.0 (switched_on cpu phase n.0) t (cc)
-    (keeps_if n.0 (with_irq cpu true n.0) n.0 (n.0.setting.without.switches && (phase == 5)) (keeps_irq cpu true n.0) (keeps_refl n.0)))
+    (keeps_if n.0 (with_irq cpu true n.0) n.0 (n.0.setting.without.switches && (phase == OVER)) (keeps_irq cpu true n.0) (keeps_refl n.0)))
 
 keeps_off : (cpu : ℕ) (s t : StateValue) → off_by cpu s ≡ Ok t → KeepsCalls s t
 unfolding off_by

@@ -20,6 +20,7 @@ use Rattle.trace_laws.proofs.{Calls.MadeSteps.both_made, Calls.MadeSteps.failed,
 use Rattle.trace_laws.proofs.{Labels.PatchPhases.may_is, Labels.PatchPhases.raise_labelled, Labels.PatchStores.nudge_labelled}
 use Rattle.trace_laws.proofs.{Labels.PatchStores.patch_labelled, Stops.CpusInStops.Rounds, Stops.QuietCpus.call_keeps_rounds, Stops.StopEvents.ne_truth}
 use Rattle.trace_laws.specs.LawfulLabels.{IsPatching, LabelsAreLawful, Reads, ReadsAreLawful, moved, reads, words_from, words_next}
+use Rattle.smp_words.specs.declared.phase.TheConstants.{OVER}
 
 -- the keys and sites are as they were
 words_end : (s t u : StateValue) → t ≡ u → t.words ≡ s.words → u.words ≡ s.words
@@ -69,7 +70,7 @@ raise_words cpu phase s t e =
     let made = raised cpu phase (stop_at s m.0) in
     let n = both_made (on_stop m.0 s made) (λ x. Ok (switched_on cpu phase x)) t m.1.1 in
     let old = stop_words m.0 s n.0 made n.1.0 in
-    words_end s (switched_on cpu phase n.0) t (cc) (if_words (n.0.setting.without.switches && (phase == 5)) s (with_irq cpu true n.0) n.0 old old)
+    words_end s (switched_on cpu phase n.0) t (cc) (if_words (n.0.setting.without.switches && (phase == OVER)) s (with_irq cpu true n.0) n.0 old old)
 
 off_is : (cpu : ℕ) (s t : StateValue) → off_by cpu s ≡ Ok t → with_irq cpu false s ≡ t
 unfolding off_by

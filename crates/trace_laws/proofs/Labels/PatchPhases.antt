@@ -12,10 +12,11 @@ use Rattle.trace_laws.proofs.Labels.StoredWords.{AllOk, Partial, front_none, ove
 use Rattle.trace_laws.proofs.Stops.StopEvents.{actor_below, acts_at, in_round_is, ne_truth, stop_same}
 use Rattle.trace_laws.proofs.{Calls.MadeSteps.both_made, Calls.MadeSteps.passed, Labels.PatchEvents.labelled_end, Stops.CpusInStops.Rounds}
 use Rattle.trace_laws.proofs.{Stops.CpusInStops.stop_changed, Stops.Phases.late_none, Stops.Phases.raised_is}
+use Rattle.smp_words.specs.declared.phase.TheConstants.{DISABLE_IRQ, RUN, OVER}
 
 -- A patch is over: its CPU may acknowledge RUN.
 pub record IsOver (s : StateValue) (source actor phase : ℕ) : Type 0 where
-  pub at : phase ≡ 3
+  pub at : phase ≡ RUN
   pub kind_is : (stop_at s source).task.kind ≡ APatch
   pub active : has (stop_at s source).task.active actor ≡ true
   pub none : next_store source s ≡ None
@@ -24,29 +25,29 @@ pub record IsOver (s : StateValue) (source actor phase : ℕ) : Type 0 where
 pub record MayAck (s t : StateValue) (source actor phase : ℕ) : Type 0 where
   pub patch : Option Patch
   pub is : t ≡ with_stop source s (record (stop_at s source) { patch = patch })
-  pub how : (patch ≡ (stop_at s source).patch) × (phase ≡ 3 → (stop_at s source).task.kind ≡ APatch → has (stop_at s source).task.active actor ≡ true → ⊥)
+  pub how : (patch ≡ (stop_at s source).patch) × (phase ≡ RUN → (stop_at s source).task.kind ≡ APatch → has (stop_at s source).task.active actor ≡ true → ⊥)
       ⊎ (patch ≡ Some (patch_left source s)) × IsOver s source actor phase
 
 same_stop : (source : ℕ) (s : StateValue) → s ≡ with_stop source s (record (stop_at s source) { patch = (stop_at s source).patch })
 same_stop source s = sym (stop_same source s)
 
-may_here : (s t : StateValue) (source actor phase : ℕ) → s ≡ t → (phase ≡ 3 → (stop_at s source).task.kind ≡ APatch →
+may_here : (s t : StateValue) (source actor phase : ℕ) → s ≡ t → (phase ≡ RUN → (stop_at s source).task.kind ≡ APatch →
     has (stop_at s source).task.active actor ≡ true → ⊥)
     → MayAck s t source actor phase
 may_here s t source actor phase same idle = record { patch = (stop_at s source).patch; is = sym same ∙ same_stop source s; how = inl (refl, idle) }
 
-may_over : (next : Option (Place × ℕ)) (s t : StateValue) (source actor phase : ℕ) → next_store source s ≡ next → phase ≡ 3 →
+may_over : (next : Option (Place × ℕ)) (s t : StateValue) (source actor phase : ℕ) → next_store source s ≡ next → phase ≡ RUN →
     (stop_at s source).task.kind ≡ APatch
     → has (stop_at s source).task.active actor ≡ true → patch_over next source (patch_left source s) s ≡ Ok t → MayAck s t source actor phase
 may_over next s t source actor phase h1 h2 h3 h4 h5 = search arith
 
-may_kind : (kind : Kind) (s t : StateValue) (source actor phase : ℕ) → (stop_at s source).task.kind ≡ kind → phase ≡ 3 →
+may_kind : (kind : Kind) (s t : StateValue) (source actor phase : ℕ) → (stop_at s source).task.kind ≡ kind → phase ≡ RUN →
     has (stop_at s source).task.active actor ≡ true
     → acks_as kind actor source s ≡ Ok t → MayAck s t source actor phase
 may_kind kind s t source actor phase h1 h2 h3 h4 = search (may_over, passed, may_here, arith)
 
-may_tests : (two runs : Bool) (s t : StateValue) (source actor phase : ℕ) (test : Result (Unit {0}) Reason) → (phase == 2) ≡ two
-    → ((phase == 3) && has (stop_at s source).task.active actor) ≡ runs
+may_tests : (two runs : Bool) (s t : StateValue) (source actor phase : ℕ) (test : Result (Unit {0}) Reason) → (phase == DISABLE_IRQ) ≡ two
+    → ((phase == RUN) && has (stop_at s source).task.active actor) ≡ runs
     → (if two then (test >>= λ v. Ok s) else (if runs then acks_at_run actor source s else Ok s)) ≡ Ok t → MayAck s t source actor phase
 may_tests two runs s t source actor phase test h1 h2 h3 = search (both_made, may_here, eqb-true, and_parts, may_kind, eq-eqb, ne_truth, arith)
 
@@ -74,11 +75,11 @@ last_phase None actor true stop = inl refl
 last_phase None actor false stop = inr (refl, refl)
 
 -- the phase after is 3 only where it was 3, or where nobody is late at 2
-three_after : (who : Option ℕ) (actor : ℕ) (raises : Bool) (stop : Stop) (phase : ℕ) → stop.phase ≡ phase → (at_last who actor raises stop).phase ≡ 3 →
-    (phase ≡ 3) ⊎ (phase ≡ 2)
+three_after : (who : Option ℕ) (actor : ℕ) (raises : Bool) (stop : Stop) (phase : ℕ) → stop.phase ≡ phase → (at_last who actor raises stop).phase ≡ RUN →
+    (phase ≡ RUN) ⊎ (phase ≡ DISABLE_IRQ)
 three_after who actor raises stop phase h1 h2 = search (last_phase, arith)
 
-low_after : (who : Option ℕ) (actor : ℕ) (raises : Bool) (stop : Stop) (phase : ℕ) → stop.phase ≡ phase → (at_last who actor raises stop).phase < 3 → phase < 3
+low_after : (who : Option ℕ) (actor : ℕ) (raises : Bool) (stop : Stop) (phase : ℕ) → stop.phase ≡ phase → (at_last who actor raises stop).phase < RUN → phase < RUN
 low_after who actor raises stop phase h1 h2 = search (last_phase, arith)
 
 -- A CPU acknowledges a phase: what becomes of the patch of its stop.
@@ -87,7 +88,7 @@ pub record Acks (s : StateValue) (source actor phase : ℕ) (patch : Option Patc
   pub below : actor < 32
   pub at : (stop_at s source).phase ≡ phase
   pub more : acked_by (stop_at s source) actor < phase
-  pub how : (patch ≡ (stop_at s source).patch) × (phase ≡ 3 → (stop_at s source).task.kind ≡ APatch → has (stop_at s source).task.active actor ≡ true → ⊥)
+  pub how : (patch ≡ (stop_at s source).patch) × (phase ≡ RUN → (stop_at s source).task.kind ≡ APatch → has (stop_at s source).task.active actor ≡ true → ⊥)
       ⊎ (patch ≡ Some (patch_left source s)) × IsOver s source actor phase
 
 abbrev ack_to : ℕ → ℕ → Bool → Option Patch → Stop → Stop
@@ -104,12 +105,12 @@ acked_other stop actor phase cpu ne = get_or-set_other stop.acked actor cpu phas
 -- the CPU that has acknowledged RUN is not the one that patches
 not_early : (seen : ℕ → Seen) (work : ℕ → Option Task) (s : StateValue) (source actor phase : ℕ) (raises : Bool) (patch : Option Patch) (q : Patch) →
     Rounds seen work s
-    → Acks s source actor phase patch → phase ≡ 3 → has (stop_at s source).task.active actor ≡ true →
+    → Acks s source actor phase patch → phase ≡ RUN → has (stop_at s source).task.active actor ≡ true →
     Live (ack_to actor phase raises patch (stop_at s source)) q → ⊥
 not_early seen work s source actor phase raises patch q h1 h2 h3 h4 h5 = search (last_open, get_or-set_same, arith)
 
 -- where the CPU is not the one that patches, the patch goes on as it was
-live_before : (s : StateValue) (source actor phase : ℕ) (raises : Bool) (patch : Option Patch) (q : Patch) → Acks s source actor phase patch → phase ≡ 3
+live_before : (s : StateValue) (source actor phase : ℕ) (raises : Bool) (patch : Option Patch) (q : Patch) → Acks s source actor phase patch → phase ≡ RUN
     → patch ≡ (stop_at s source).patch → (has (stop_at s source).task.active actor ≡ true → ⊥) →
     Live (ack_to actor phase raises patch (stop_at s source)) q → Live (stop_at s source) q
 live_before s source actor phase raises patch q h1 h2 h3 h4 h5 = search (last_open, acked_other, arith)
@@ -161,7 +162,7 @@ ack_next seen work s source actor phase raises patch r l a p live part =
     let stop = stop_at s source in
     let mid = with_acked actor phase (record stop { patch = patch }) in
     let b = last_open (late mid phase) actor raises mid in
-    let three : phase ≡ 3 = sym a.at ∙ live.at in
+    let three : phase ≡ RUN = sym a.at ∙ live.at in
     elim a.how [
       | inl h ↦ (let idle = h.1 three live.kind_is in inl (live_after s source actor phase raises patch p l a h.0 idle live, ap (λ x. x.func) b.task))
       | inr h ↦
@@ -248,4 +249,4 @@ raise_labelled seen work s t actor phase r l e =
     let same : switched_on actor phase u ≡ t = ap (λ x. switched_on actor phase x) end ∙ cc in
     let after = stop_labelled seen work s source to r l (raise_goes seen work s source phase r l i.low o.0 at) i.low in
     labelled_end (switched_on actor phase u) t same
-    (if_labelled (u.setting.without.switches && (phase == 5)) (with_irq actor true u) u (irq_labelled u actor true after) after)
+    (if_labelled (u.setting.without.switches && (phase == OVER)) (with_irq actor true u) u (irq_labelled u actor true after) after)

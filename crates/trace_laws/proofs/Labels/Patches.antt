@@ -4,15 +4,16 @@ use Rattle.trace_laws.proofs.Names.{false, has, if◌then◌else◌, inl, inr, l
 use Rattle.trace_laws.proofs.Names.{with_stop, zero, ℕ, ◌+◌, ◌<◌, ◌∷◌, ◌≡◌, ◌≢◌, ◌≤◌, ◌⊎◌}
 use Rattle.trace_laws.proofs.Stops.CpusInStops.{Rounds, is_round, stop_changed, stop_kept}
 use Rattle.trace_laws.proofs.{Labels.StoredWords.AllOk, Labels.StoredWords.Partial, Labels.StoredWords.some_is, Stops.AtRun.entered_is}
+use Rattle.smp_words.specs.declared.phase.TheConstants.{DISABLE_IRQ, RUN}
 
 -- A patch has stored, and has more to store: it is at RUN, and its CPU has not acknowledged that.
 pub record Live (stop : Stop) (p : Patch) : Type 0 where
   pub is_open : stop.is_open ≡ true
   pub kind_is : stop.task.kind ≡ APatch
-  pub at : stop.phase ≡ 3
+  pub at : stop.phase ≡ RUN
   pub known : stop.patch ≡ Some p
   pub turns : p.turns ≡ true
-  pub early : (cpu : ℕ) → cpu < 32 → has stop.task.active cpu ≡ true → acked_by stop cpu < 3
+  pub early : (cpu : ℕ) → cpu < 32 → has stop.task.active cpu ≡ true → acked_by stop cpu < RUN
 
 -- A patch is of all CPUs online, and one of them is active.
 pub record IsOfAll (u : Setting) (task : Task) : Type 0 where
@@ -27,7 +28,7 @@ pub record IsOfAll (u : Setting) (task : Task) : Type 0 where
 -- What holds of the patch of a stop.
 pub record PatchAt (u : Setting) (stop : Stop) : Type 0 where
   pub known : (p : Patch) → stop.patch ≡ Some p → p.counts ≡ false
-  pub early : stop.phase < 3 → stop.patch ≡ None
+  pub early : stop.phase < RUN → stop.patch ≡ None
   pub all : stop.is_open ≡ true → stop.task.kind ≡ APatch → IsOfAll u stop.task
 
 -- Each site has its kind, and no patch has more to store.
@@ -70,14 +71,14 @@ members_more m x (suc k) is low = elim (cases_eq x k) [
 -- at RUN of a patch, each CPU of its mask is in its stop, with its interrupts off
 pub held_in : (seen : ℕ → Seen) (work : ℕ → Option Task) (s : StateValue) (source cpu : ℕ) → Rounds seen work s → source < 32 →
     (stop_at s source).is_open ≡ true
-    → is_round (stop_at s source).task.kind ≡ true → (stop_at s source).phase ≡ 3 → cpu < 32 → has (stop_at s source).task.mask cpu ≡ true
+    → is_round (stop_at s source).task.kind ≡ true → (stop_at s source).phase ≡ RUN → cpu < 32 → has (stop_at s source).task.mask cpu ≡ true
     → ((cpu_at s cpu).inside ≡ Some source) × ((cpu_at s cpu).irq ≡ false)
 held_in seen work s source cpu r low opened_is round at below in_mask =
     let stop = stop_at s source in
     let w = r.at source low cpu below in
     let all = w.all round in_mask (omega arith) in
     let up = w.up_to round (omega arith) in
-    let two : 2 ≤ acked_by stop cpu = omega arith in
+    let two : DISABLE_IRQ ≤ acked_by stop cpu = omega arith in
     let entered = entered_is (slice_index_or stop.entered cpu false) (acked_by stop cpu) (λ e. (w.out e).acked) two in
     let is = w.is_in opened_is entered (w.answered round (omega arith)) in
     (is, w.disabled is round two (omega arith))

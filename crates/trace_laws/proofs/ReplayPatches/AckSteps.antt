@@ -19,6 +19,7 @@ use Rattle.trace_laws.proofs.{ReplayCalls.StepEvents.by, ReplayPatches.PatchEven
 use Rattle.trace_laws.proofs.{ReplayPatches.PatchEvents.answers_patch, ReplayStops.ChangedStates.stop_here, ReplayStops.Here.Here, ReplayStops.Here.my}
 use Rattle.trace_laws.proofs.{ReplayStops.Here.parts, ReplayStops.PhaseEvents.told_acked, ReplayStops.StepEvents.ReachesStops, ReplayStops.StepEvents.stop_step}
 use Rattle.trace_laws.proofs.{ReplayStops.TurnSteps.Made}
+use Rattle.smp_words.specs.declared.phase.TheConstants.{DISABLE_IRQ, RUN}
 
 -- who is the last to acknowledge does not depend on the patch
 acked_patch : (me phase : ℕ) (stop : ToldStop) (patch : Option ToldPatch)
@@ -91,12 +92,12 @@ module _ (known : Here) where
     X = acknowledged (p.now.stop slot) me 3 (At (Slot slot field.Ack))
 
     abbrev Q : StopState
-    Q = acknowledges p me slot (Inside 2 3) (At (Slot slot field.Ack))
+    Q = acknowledges p me slot (Inside DISABLE_IRQ RUN) (At (Slot slot field.Ack))
 
     abbrev At' : Word → ℕ
     At' = put_word At (Slot slot field.Ack) (one_less (At (Slot slot field.Ack)))
 
-    sits : Stands p.now me (In slot w 2 3 Rests)
+    sits : Stands p.now me (In slot w DISABLE_IRQ RUN Rests)
     sits = (so.0, so.1, so.2, so.3)
 
     acked_now : acknowledged_in me 3 true (record (stop_at s slot) { patch = Some (patch_left slot s) })
@@ -127,24 +128,24 @@ module _ (known : Here) where
         (ap (acknowledged_in me 3 true) (stop_here s slot (record (stop_at s slot) { patch = Some (patch_left slot s) }) f.stops_are here.below) ∙ acked_now)
         ∙ ap (λ (z : List ToldStop). Ok (record s { stops = z })) (set-set s.stops slot (record (stop_at s slot) { patch = Some (patch_left slot s) }) Y))
 
-    stood_now : X.standing me ≡ Inside 3 3
-    stood_now = put_same (p.now.stop slot).standing me (Inside 3 3)
+    stood_now : X.standing me ≡ Inside RUN RUN
+    stood_now = put_same (p.now.stop slot).standing me (Inside RUN RUN)
 
     none_called : (cpu : ℕ) → X.standing cpu ≡ Called → has Acked.task.active cpu ≡ true → ⊥
     none_called cpu e active = elim (cases_eq cpu me) [
       | inl is ↦ apart (sym e ∙ (ap X.standing is ∙ stood_now))
       | inr ne ↦ patching.none_called known slot w so.3 so.4 on so.0 so.1 cpu
-          (sym (put_other (p.now.stop slot).standing me (Inside 3 3) cpu ne) ∙ e) active
+          (sym (put_other (p.now.stop slot).standing me (Inside RUN RUN) cpu ne) ∙ e) active
     ]
       where
-        apart : Called ≡ Inside 3 3 → ⊥
+        apart : Called ≡ Inside RUN RUN → ⊥
         apart z = absurd cc
 
     told_now : StopIs X Y
     told_now = patching.told_patched X Acked (Some (patch_left slot s))
         (told_acked known At' (λ j. refl) (λ j. refl) slot so.0 open_now X 3
         (raiser_of (cond (At (Slot slot field.Ack) == 1) (Refills me) (p.now.stop slot).raising)) stood_now refl refl refl refl
-        (ap is_called so.1) (ap given_by so.1) (λ d ne. put_other (p.now.stop slot).standing me (Inside 3 3) d ne)) kind_is none_called
+        (ap is_called so.1) (ap given_by so.1) (λ d ne. put_other (p.now.stop slot).standing me (Inside RUN RUN) d ne)) kind_is none_called
 
     carries : Q.calling me ≡ Carries (patch_answer w count)
     carries = put_same p.calling me (carried me p.now.patching (p.calling me)) ∙ rw (so.5, eq-eqb me me refl) refl
@@ -196,14 +197,14 @@ module _ (known : Here) where
           inside = λ d ne. refl;
           irq = λ d ne. refl;
           calling = λ d ne. put_other p.calling me (carried me p.now.patching (p.calling me)) d ne;
-          standing = λ d ne. put_other (p.now.stop slot).standing me (Inside 3 3) d ne;
+          standing = λ d ne. put_other (p.now.stop slot).standing me (Inside RUN RUN) d ne;
           ran = λ d ne. refl;
           gate = refl;
           work = refl;
           patch = inr (patching.alone_now known slot w so.3 so.4 on so.0 so.1);
         }) told_now ((me, event.Stop (stops.Ack 3)) ∷ []) (with_stop slot s Y, (made, refl)) mine
 
-  pub acks_made : (x : Visit) (answer : ℕ) (ran : Bool) → (w : Work) → x.acked ≡ 2 → ran ≡ true → (count : ℕ)
+  pub acks_made : (x : Visit) (answer : ℕ) (ran : Bool) → (w : Work) → x.acked ≡ DISABLE_IRQ → ran ≡ true → (count : ℕ)
       → shown.seat me ≡ Alters x.slot w count (plan_at U w count) [] → AreEntries U s.words → Does (Advance x (round.Acknowledge answer ran))
   acks_made x answer ran w two is_true count at_seat entries =
       let st = so x.slot w count at_seat entries in
@@ -215,9 +216,9 @@ module _ (known : Here) where
       let said : with_on (stops.Ack 3) rests.note ≡ told.One (event.Stop (stops.Ack 3)) = rw (two, is_true) refl in
       subst (λ (z : Standing). ReachesStops (acknowledges p me x.slot z found) (put_word At (Slot x.slot field.Ack) (one_less found)) (slice_set pasts me Old) s
       (by me (with_on (stops.Ack Old.phase) (cond (found == 1) goes_on rests).note))) (sym st.1)
-      (subst (λ (n : ℕ). ReachesStops (acknowledges p me x.slot (Inside 2 3) found) (put_word At (Slot x.slot field.Ack) (one_less found))
+      (subst (λ (n : ℕ). ReachesStops (acknowledges p me x.slot (Inside DISABLE_IRQ RUN) found) (put_word At (Slot x.slot field.Ack) (one_less found))
       (slice_set pasts me Old) s (by me (with_on (stops.Ack n) (cond (found == 1) goes_on rests).note))) (sym old)
-      (subst (λ (z : StepEvents). ReachesStops (acknowledges p me x.slot (Inside 2 3) found) (put_word At (Slot x.slot field.Ack) (one_less found))
+      (subst (λ (z : StepEvents). ReachesStops (acknowledges p me x.slot (Inside DISABLE_IRQ RUN) found) (put_word At (Slot x.slot field.Ack) (one_less found))
       (slice_set pasts me Old) s (by me z)) (sym (said_by (found == 1) goes_on rests refl said)) (acks x.slot w count at_seat entries)))
     where
       said_by : (last : Bool) (a b : StopOutcome) → with_on (stops.Ack 3) a.note ≡ told.One (event.Stop (stops.Ack 3))

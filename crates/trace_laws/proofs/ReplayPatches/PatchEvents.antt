@@ -10,11 +10,12 @@ use Rattle.smp_words.specs.declared.word.Word.TheVariants.{Key as KeyWord}
 use Rattle.smp_stop_steps.specs.Labels.{answer_for}
 use Rattle.trace_model.specs.Stop.{answer_by}
 use Rattle.trace_laws.proofs.ReplayPatches.PlannedStores.{plan_leads}
+use Rattle.smp_words.specs.declared.phase.TheConstants.{RUN}
 
 -- the active CPU of a patch, at phase 3, which it has not acknowledged
 module _ (s : StateValue) (me : ℕ) (whole : s.setting.without ≡ nothing_left_out) (source : ℕ) (below : source < 32)
     (inside : (cpu_at s me).inside ≡ Some source) (kind : (stop_at s source).task.kind ≡ APatch) (active : has (stop_at s source).task.active me ≡ true)
-    (low : acked_by (stop_at s source) me < 3) (at : (stop_at s source).phase ≡ 3) where
+    (low : acked_by (stop_at s source) me < RUN) (at : (stop_at s source).phase ≡ RUN) where
   -- it makes the store that is next
   pub makes_key : (key word : ℕ) → next_store source s ≡ Some (Key key, word)
       → patch_by me (Key key) word s ≡ Ok (with_patch source (popped (patch_left source s) (Key key)) (with_word (Key key) word s))

@@ -27,6 +27,7 @@ use Rattle.trace_laws.proofs.{ReplayCalls.KeptPasts.past_else, ReplayCalls.KeptP
 use Rattle.trace_laws.proofs.{ReplayStops.Here.parts, ReplayStops.StepEvents.ReachesStops, ReplayStops.StepEvents.member_as, ReplayStops.StepEvents.quiet_step}
 use Rattle.trace_laws.proofs.ReplayStops.Here.{my}
 use Rattle.trace_laws.specs.AgreeingPatches.{PatchingIs}
+use Rattle.smp_words.specs.declared.phase.TheConstants.{DISABLE_IRQ, RUN}
 
 -- a stop of a patch is as it is told, also where its patch is told to be another
 pub told_patched : (x : Stop) (y : ToldStop) (patch : Option ToldPatch) → StopIs x y → x.work.kind ≡ Patch
@@ -51,7 +52,7 @@ module _ (known : Here) where
 
   -- a CPU at phase 3 of a patch, of which it is the active one
   module _ (slot : ℕ) (w : Work) (work : (p.now.stop slot).work ≡ w) (kind : w.kind ≡ Patch) (active : has w.active me ≡ true)
-      (inside : p.now.inside me ≡ Some slot) (stood : (p.now.stop slot).standing me ≡ Inside 2 3) where
+      (inside : p.now.inside me ≡ Some slot) (stood : (p.now.stop slot).standing me ≡ Inside DISABLE_IRQ RUN) where
     i : InsideIs p s Old me slot
     i = (my known).stop slot inside
 
@@ -82,10 +83,10 @@ module _ (known : Here) where
         let few = shown.shows.setup.few_keys in
         omega (arith, k, few)
 
-    pub phase_now : (p.now.stop slot).phase ≡ 3
+    pub phase_now : (p.now.stop slot).phase ≡ RUN
     phase_now =
-        let k : Keeps U.cpus (p.now.stop slot).phase me (Inside 2 3) =
-        keeps_inside U.cpus (p.now.stop slot) (λ g. At (word.Slot slot g)) (shown.shows.present.slots slot) me (Inside 2 3) stood in
+        let k : Keeps U.cpus (p.now.stop slot).phase me (Inside DISABLE_IRQ RUN) =
+        keeps_inside U.cpus (p.now.stop slot) (λ g. At (word.Slot slot g)) (shown.shows.present.slots slot) me (Inside DISABLE_IRQ RUN) stood in
         elim k.2 [
           | inl e ↦ absurd cc
           | inr e ↦ e.1
@@ -97,12 +98,12 @@ module _ (known : Here) where
     pub told_active : has (stop_at s slot).task.active me ≡ true
     told_active = ap (λ (z : Task). has z.active me) task_now ∙ active
 
-    pub acked_low : acked_by (stop_at s slot) me < 3
+    pub acked_low : acked_by (stop_at s slot) me < RUN
     acked_low =
-        let k : acked_by (stop_at s slot) me ≡ 2 = (told_now.members me below).acked_is ∙ ap acked stood in
+        let k : acked_by (stop_at s slot) me ≡ DISABLE_IRQ = (told_now.members me below).acked_is ∙ ap acked stood in
         omega (arith, k)
 
-    pub old_phase : Old.phase ≡ 3
+    pub old_phase : Old.phase ≡ RUN
     old_phase = (subst (λ (z : Standing). PhaseIs z Old.phase) stood i.phase) (λ z. absurd cc)
 
     -- no CPU that is called makes a patch
@@ -112,13 +113,13 @@ module _ (known : Here) where
         let same : cpu ≡ me = first_is U p At shown.seat shown.source shown.shows slot cpu open_now kind_is of ∙ sym first_now in
         apart (sym is ∙ (ap (p.now.stop slot).standing same ∙ stood))
       where
-        apart : Called ≡ Inside 2 3 → ⊥
+        apart : Called ≡ Inside DISABLE_IRQ RUN → ⊥
         apart z = absurd cc
 
   -- the key is loaded, and the patch has begun
   begins_at : (x : Visit) (key : ℕ) (w : Work) → shown.seat me ≡ In x.slot w 2 3 Rests → w.kind ≡ Patch → has w.active me ≡ true
       → ReachesStops (record p { now = key_loaded U p.now me key (At (word.Key key)) (p.now.inside me) }) At (slice_set pasts me Old) s
-      (by me (cond (Old.phase == 3) told.Nothing (told.One (event.Label (labels.Key key (is_on (At (word.Key key))))))))
+      (by me (cond (Old.phase == RUN) told.Nothing (told.One (event.Label (labels.Key key (is_on (At (word.Key key))))))))
   begins_at x key w at_seat kind active =
       let so = st known x.slot 2 3 w Rests at_seat in
       let three = old_phase x.slot w so.3 kind active so.0 so.1 in

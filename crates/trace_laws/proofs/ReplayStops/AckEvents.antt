@@ -12,6 +12,7 @@ use Rattle.trace_model.specs.declared.event.StopEvent.TheVariants as stops
 use Rattle.trace_laws.proofs.{ReplayStops.Here.Here, ReplayStops.Here.my, ReplayStops.Here.parts, ReplayStops.LastToAcknowledge.none_late}
 use Rattle.trace_laws.proofs.{ReplayStops.LastToAcknowledge.some_late, ReplayStops.StepEvents.ReachesStops, ReplayStops.StepKinds.Goes}
 use Rattle.trace_laws.proofs.{ReplayStops.StopEvents.acks_disabled, ReplayStops.StopEvents.acks_other, ReplayStops.StopEvents.acks_run}
+use Rattle.smp_words.specs.declared.phase.TheConstants.{DISABLE_IRQ, RUN}
 
 module _ (known : Here) (at' : Word → ℕ) (keys : (key : ℕ) → at' (Key key) ≡ (parts known).At (Key key))
     (sites : (site : ℕ) → at' (Site site) ≡ (parts known).At (Site site)) where
@@ -112,8 +113,8 @@ module _ (known : Here) (at' : Word → ℕ) (keys : (key : ℕ) → at' (Key ke
         rw (some.is, nobody) (ap (λ (r : Option ℕ). record (stop_at s slot) { acked = slice_set (stop_at s slot).acked me (a + 1); raiser = r }) no_raiser)
 
     -- the premises of each phase
-    acks_as : (p.now.stop slot).work.kind ≢ One → (a + 1 ≡ 2 → p.now.irq me ≡ false)
-        → (a + 1 ≡ 3 → has (p.now.stop slot).work.active me ≡ true → ((p.now.stop slot).work.kind ≡ Multi) × (has_entered (p.calling me) ≡ true))
+    acks_as : (p.now.stop slot).work.kind ≢ One → (a + 1 ≡ DISABLE_IRQ → p.now.irq me ≡ false)
+        → (a + 1 ≡ RUN → has (p.now.stop slot).work.active me ≡ true → ((p.now.stop slot).work.kind ≡ Multi) × (has_entered (p.calling me) ≡ true))
         → goes me (event.Stop (stops.Ack (a + 1))) s ≡ Ok (with_stop slot s (acknowledged_in me (a + 1) true (stop_at s slot)))
     unfolding stop_goes
     acks_as kind off called =
@@ -127,15 +128,15 @@ module _ (known : Here) (at' : Word → ℕ) (keys : (key : ℕ) → at' (Key ke
           | inl two ↦ subst (λ (n : ℕ). acked_by (stop_at s slot) me < n → (stop_at s slot).phase ≡ n → p.now.irq me ≡ false
               → stop_goes me (stops.Ack n) s ≡ Ok (with_stop slot s (acknowledged_in me n true (stop_at s slot)))) (sym two)
               (λ l at_two o. acks_two in_told kind_told l at_two ((my known).irq ∙ o)) low phase (off two)
-          | inr not_two ↦ by_run in_told kind_told low phase not_two active_told called (((a + 1) == 3) && has (stop_at s slot).task.active me) refl
+          | inr not_two ↦ by_run in_told kind_told low phase not_two active_told called (((a + 1) == RUN) && has (stop_at s slot).task.active me) refl
         ]
       where
-        acks_two : (cpu_at s me).inside ≡ Some slot → (stop_at s slot).task.kind ≢ One → acked_by (stop_at s slot) me < 2 → (stop_at s slot).phase ≡ 2
+        acks_two : (cpu_at s me).inside ≡ Some slot → (stop_at s slot).task.kind ≢ One → acked_by (stop_at s slot) me < DISABLE_IRQ → (stop_at s slot).phase ≡ DISABLE_IRQ
             → (cpu_at s me).irq ≡ false
             → stop_goes me (stops.Ack 2) s ≡ Ok (with_stop slot s (acknowledged_in me 2 true (stop_at s slot)))
         acks_two in_told kind l two o = acks_disabled s me whole slot (omega (arith, i.below)) in_told kind l two o
 
-        acks_three : (cpu_at s me).inside ≡ Some slot → (stop_at s slot).task.kind ≡ Multi → (n : ℕ) → n ≡ 3 → acked_by (stop_at s slot) me < n
+        acks_three : (cpu_at s me).inside ≡ Some slot → (stop_at s slot).task.kind ≡ Multi → (n : ℕ) → n ≡ RUN → acked_by (stop_at s slot) me < n
             → (stop_at s slot).phase ≡ n
             → has_run (stop_at s slot) me ≡ true → has (stop_at s slot).task.active me ≡ true
             → stop_goes me (stops.Ack n) s ≡ Ok (with_stop slot s (acknowledged_in me n true (stop_at s slot)))
@@ -143,21 +144,21 @@ module _ (known : Here) (at' : Word → ℕ) (keys : (key : ℕ) → at' (Key ke
             rw three (acks_run s me whole slot (omega (arith, i.below)) in_told kind (omega (arith, l, three)) (at_three ∙ three) ran active)
 
         by_run : (cpu_at s me).inside ≡ Some slot → (stop_at s slot).task.kind ≢ One → acked_by (stop_at s slot) me < a + 1
-            → (stop_at s slot).phase ≡ a + 1 → (a + 1 ≡ 2 → ⊥)
+            → (stop_at s slot).phase ≡ a + 1 → (a + 1 ≡ DISABLE_IRQ → ⊥)
             → has (stop_at s slot).task.active me ≡ has (p.now.stop slot).work.active me
-            → (a + 1 ≡ 3 → has (p.now.stop slot).work.active me ≡ true → ((p.now.stop slot).work.kind ≡ Multi) × (has_entered (p.calling me) ≡ true))
-            → (b : Bool) → (((a + 1) == 3) && has (stop_at s slot).task.active me) ≡ b
+            → (a + 1 ≡ RUN → has (p.now.stop slot).work.active me ≡ true → ((p.now.stop slot).work.kind ≡ Multi) × (has_entered (p.calling me) ≡ true))
+            → (b : Bool) → (((a + 1) == RUN) && has (stop_at s slot).task.active me) ≡ b
             → stop_goes me (stops.Ack (a + 1)) s ≡ Ok (with_stop slot s (acknowledged_in me (a + 1) true (stop_at s slot)))
         by_run in_told kind l phase not_two active_told called false e =
             acks_other s me whole slot (omega (arith, i.below)) in_told (a + 1) kind l phase (ne_eqb (a + 1) 2 not_two) e
         by_run in_told kind l phase not_two active_told called true e =
-            let k = and_parts ((a + 1) == 3) (has (stop_at s slot).task.active me) e in
-            let three = eqb-true (a + 1) 3 k.0 in
+            let k = and_parts ((a + 1) == RUN) (has (stop_at s slot).task.active me) e in
+            let three = eqb-true (a + 1) RUN k.0 in
             let c = called three (sym active_told ∙ k.1) in
             acks_three in_told (ap (λ (z : Task). z.kind) was.task ∙ c.0) (a + 1) three l phase (i.ran ∙ rw c.0 c.1) k.1
 
-    pub ack_made : (p.now.stop slot).work.kind ≢ One → (a + 1 ≡ 2 → p.now.irq me ≡ false)
-        → (a + 1 ≡ 3 → has (p.now.stop slot).work.active me ≡ true → ((p.now.stop slot).work.kind ≡ Multi) × (has_entered (p.calling me) ≡ true))
+    pub ack_made : (p.now.stop slot).work.kind ≢ One → (a + 1 ≡ DISABLE_IRQ → p.now.irq me ≡ false)
+        → (a + 1 ≡ RUN → has (p.now.stop slot).work.active me ≡ true → ((p.now.stop slot).work.kind ≡ Multi) × (has_entered (p.calling me) ≡ true))
         → goes me (event.Stop (stops.Ack (a + 1))) s ≡ Ok (with_stop slot s (record (stop_at s slot) {
           acked = slice_set (stop_at s slot).acked me (a + 1);
           raiser = raiser_of (cond (at (Slot slot field.Ack) == 1) (Refills me) (p.now.stop slot).raising);

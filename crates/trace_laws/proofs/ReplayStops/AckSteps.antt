@@ -17,6 +17,7 @@ use Rattle.trace_laws.proofs.ReplayStops.TurnSteps as turns
 use Rattle.trace_laws.proofs.{ReplayCalls.StepEvents.by, ReplayStops.Here.Here, ReplayStops.Here.my, ReplayStops.Here.parts, ReplayStops.PhaseEvents.acks_told}
 use Rattle.trace_laws.proofs.{ReplayStops.PhaseEvents.leaves_told, ReplayStops.PhaseEvents.told_acked, ReplayStops.StageSteps.Accepted}
 use Rattle.trace_laws.proofs.{ReplayStops.StepEvents.ReachesStops, ReplayStops.StepKinds.Goes}
+use Rattle.smp_words.specs.declared.phase.TheConstants.{DISABLE_IRQ, RUN, EXIT}
 
 module _ (known : Here) where
   open known use {p, shown, me, below, pasts, s, f}
@@ -27,7 +28,7 @@ module _ (known : Here) where
 
   -- a CPU acknowledges
   module _ (slot a : ℕ) (w : Work) (at_seat : shown.seat me ≡ In slot w a (a + 1) Rests) (kind : w.kind ≢ One) (x : Visit) (answer : ℕ) (ran : Bool)
-      (called : a + 1 ≡ 3 → has w.active me ≡ true → (w.kind ≡ Multi) × (has_entered (p.calling me) ≡ true)) where
+      (called : a + 1 ≡ RUN → has w.active me ≡ true → (w.kind ≡ Multi) × (has_entered (p.calling me) ≡ true)) where
     abbrev here : Stands p.now me (In slot w a (a + 1) Rests)
     here = turns.st known slot a (a + 1) w Rests at_seat
 
@@ -43,14 +44,14 @@ module _ (known : Here) where
     abbrev Acked : Present
     Acked = record (p.now) {
       stop = put p.now.stop slot (acknowledged (p.now.stop slot) me (a + 1) (At (Slot slot field.Ack)));
-      patching = cond (a + 1 == 3) (unpatched me p.now.patching) p.now.patching;
+      patching = cond (a + 1 == RUN) (unpatched me p.now.patching) p.now.patching;
     }
 
     abbrev Q : Bool → StopState
     Q left = record p {
       now = cond left (leaves Acked me slot (p.now.stop slot).work) Acked;
-      calls = cond (a + 1 == 3) (called_more p.calls me (p.calling me)) p.calls;
-      calling = cond (a + 1 == 3) (put p.calling me (carried me p.now.patching (p.calling me))) p.calling;
+      calls = cond (a + 1 == RUN) (called_more p.calls me (p.calling me)) p.calls;
+      calling = cond (a + 1 == RUN) (put p.calling me (carried me p.now.patching (p.calling me))) p.calling;
     }
 
     -- a CPU that has called its function has called it still
@@ -80,10 +81,10 @@ module _ (known : Here) where
     calling_same k false = refl
 
     -- of the active CPU of a patch nothing is changed here
-    patch_same : (three : Bool) → (a + 1 == 3) ≡ three → (p.now.stop slot).work.kind ≡ Patch → has (p.now.stop slot).work.active me ≡ true
+    patch_same : (three : Bool) → (a + 1 == RUN) ≡ three → (p.now.stop slot).work.kind ≡ Patch → has (p.now.stop slot).work.active me ≡ true
         → (cond three (put p.calling me (carried me p.now.patching (p.calling me))) p.calling) me ≡ p.calling me
     patch_same true e patch active =
-        let k = called (eqb-true (a + 1) 3 e) (ap (λ (z : Work). has z.active me) (sym here.3) ∙ active) in
+        let k = called (eqb-true (a + 1) RUN e) (ap (λ (z : Work). has z.active me) (sym here.3) ∙ active) in
         absurd (apart (sym k.0 ∙ (ap (λ (z : Work). z.kind) (sym here.3) ∙ patch)))
       where
         apart : Multi ≡ Patch → ⊥
@@ -122,7 +123,7 @@ module _ (known : Here) where
         (λ e. kind (ap (λ (z : Work). z.kind) (sym here.3) ∙ e)) (λ two. turns.irq_here known slot a (a + 1) w Rests at_seat ∙ off_two a two)
         (λ three active. let k = called three (ap (λ (z : Work). has z.active me) (sym here.3) ∙ active) in (ap (λ (z : Work). z.kind) here.3 ∙ k.0, k.1))
       where
-        off_two : (n : ℕ) → n + 1 ≡ 2 → irq_of (In slot w n (n + 1) Rests) ≡ false
+        off_two : (n : ℕ) → n + 1 ≡ DISABLE_IRQ → irq_of (In slot w n (n + 1) Rests) ≡ false
         off_two n two =
             let one : n ≡ 1 = omega arith in
             rw one refl
@@ -130,7 +131,7 @@ module _ (known : Here) where
     abbrev IsAcked : Bool → Bool → Type 0
     IsAcked left irq = Goes known At' (λ j. refl) (λ j. refl) (Q left) slot
         (acknowledged (p.now.stop slot) me (a + 1) (At (Slot slot field.Ack))) (Some slot) irq
-        ((cond (a + 1 == 3) (put p.calling me (carried me p.now.patching (p.calling me))) p.calling) me)
+        ((cond (a + 1 == RUN) (put p.calling me (carried me p.now.patching (p.calling me))) p.calling) me)
 
     stays : IsAcked false (p.now.irq me)
     stays = record {
@@ -140,11 +141,11 @@ module _ (known : Here) where
       calling_is = refl;
       inside_else = λ d ne. refl;
       irq_else = λ d ne. refl;
-      calling_else = calling_other (a + 1 == 3);
+      calling_else = calling_other (a + 1 == RUN);
       standing_else = λ d ne. put_other (p.now.stop slot).standing me (Inside (a + 1) (a + 1)) d ne;
       gate_is = refl;
       work_is = refl;
-      patching_is = patching_same (a + 1 == 3);
+      patching_is = patching_same (a + 1 == RUN);
     }
 
     goes_out : IsAcked true true
@@ -155,11 +156,11 @@ module _ (known : Here) where
       calling_is = refl;
       inside_else = λ d ne. refl;
       irq_else = λ d ne. put_other p.now.irq me true d ne;
-      calling_else = calling_other (a + 1 == 3);
+      calling_else = calling_other (a + 1 == RUN);
       standing_else = λ d ne. put_other (p.now.stop slot).standing me (Inside (a + 1) (a + 1)) d ne;
       gate_is = refl;
       work_is = refl;
-      patching_is = patching_same (a + 1 == 3);
+      patching_is = patching_same (a + 1 == RUN);
     }
 
     acked_now : (acknowledged (p.now.stop slot) me (a + 1) (At (Slot slot field.Ack))).standing me ≡ Inside (a + 1) (a + 1)
@@ -170,11 +171,11 @@ module _ (known : Here) where
         (λ j. refl) slot here.0 open_now (Q false)
         (acknowledged (p.now.stop slot) me (a + 1) (At (Slot slot field.Ack))) (a + 1)
         (raiser_of (cond (At (Slot slot field.Ack) == 1) (Refills me) (p.now.stop slot).raising))
-        ((cond (a + 1 == 3) (put p.calling me (carried me p.now.patching (p.calling me))) p.calling) me) acked_now refl refl refl refl
-        (ap is_called here.1) (ap given_by here.1) (calling_same (p.now.stop slot).work.kind (a + 1 == 3)) (patch_same (a + 1 == 3) refl) old_is old_answer
+        ((cond (a + 1 == RUN) (put p.calling me (carried me p.now.patching (p.calling me))) p.calling) me) acked_now refl refl refl refl
+        (ap is_called here.1) (ap given_by here.1) (calling_same (p.now.stop slot).work.kind (a + 1 == RUN)) (patch_same (a + 1 == RUN) refl) old_is old_answer
         stays made
 
-    two_acks : a + 1 ≡ 4 → (At (Slot slot field.Ack) == 1) ≡ false
+    two_acks : a + 1 ≡ EXIT → (At (Slot slot field.Ack) == 1) ≡ false
         → ReachesStops (Q true) At' (slice_set pasts me Old) s ((me, event.Stop (stops.Ack (a + 1))) ∷ ((me, event.Stop stops.On) ∷ []))
     two_acks exit last =
         let y = record (stop_at s slot) {
@@ -193,20 +194,20 @@ module _ (known : Here) where
         leaves_told known At' (λ j. refl) (λ j. refl) slot here.0 open_now
         (Q true)
         (acknowledged (p.now.stop slot) me (a + 1) (At (Slot slot field.Ack))) y
-        ((cond (a + 1 == 3) (put p.calling me (carried me p.now.patching (p.calling me))) p.calling) me) (event.Stop (stops.Ack (a + 1)))
+        ((cond (a + 1 == RUN) (put p.calling me (carried me p.now.patching (p.calling me))) p.calling) me) (event.Stop (stops.Ack (a + 1)))
         (told_acked known At' (λ j. refl) (λ j. refl) slot here.0 open_now
         (acknowledged (p.now.stop slot) me (a + 1) (At (Slot slot field.Ack))) (a + 1)
         (raiser_of (cond (At (Slot slot field.Ack) == 1) (Refills me) (p.now.stop slot).raising)) acked_now refl refl refl refl
-        (ap is_called here.1) (ap given_by here.1) goes_out.standing_else) (a + 1) acked_now (calling_same (p.now.stop slot).work.kind (a + 1 == 3))
-        (patch_same (a + 1 == 3) refl) refl old_is exit old_answer goes_out
+        (ap is_called here.1) (ap given_by here.1) goes_out.standing_else) (a + 1) acked_now (calling_same (p.now.stop slot).work.kind (a + 1 == RUN))
+        (patch_same (a + 1 == RUN) refl) refl old_is exit old_answer goes_out
         (λ d. refl) made
         (λ e. kind (ap (λ (z : Work). z.kind) (sym here.3) ∙ (ap (λ (z : Task). z.kind) (sym told.task) ∙ e))) (acked
         ∙ exit) (ap (λ (z : Option ℕ). is_cpu z me) none)
         (turns.irq_here known slot a (a + 1) w Rests at_seat ∙ off_three a exit)
       where
-        off_three : (n : ℕ) → n + 1 ≡ 4 → irq_of (In slot w n (n + 1) Rests) ≡ false
+        off_three : (n : ℕ) → n + 1 ≡ EXIT → irq_of (In slot w n (n + 1) Rests) ≡ false
         off_three n e =
-            let three : n ≡ 3 = omega arith in
+            let three : n ≡ RUN = omega arith in
             rw three refl
 
     abbrev AckSaid : Bool → Bool → Option Note
@@ -215,7 +216,7 @@ module _ (known : Here) where
         (stop_ends (record C { visit = Some (visit_acked x answer ran); interrupts = cond exit true C.interrupts }) (cond exit note.Left
         (cond ran note.Ran (note.Moved (a + 1)))))).note
 
-    pub ack_by : (last exit r : Bool) → ran ≡ r → (At (Slot slot field.Ack) == 1) ≡ last → (a + 1 == 4) ≡ exit
+    pub ack_by : (last exit r : Bool) → ran ≡ r → (At (Slot slot field.Ack) == 1) ≡ last → (a + 1 == EXIT) ≡ exit
         → ReachesStops (Q (exit && not last)) At' (slice_set pasts me Old) s
         (by me (with_on (stops.Ack (a + 1)) (cond {A = StopOutcome} last
         (stop_goes (record C { visit = Some (visit_acked x answer ran) }) (Advance (visit_acked x answer ran) (round.Refill ran)))
@@ -223,6 +224,6 @@ module _ (known : Here) where
         (cond r note.Ran (note.Moved (a + 1)))))).note))
     ack_by true true r e one four = one_ack
     ack_by true false r e one four = one_ack
-    ack_by false true r e one four = two_acks (eqb-true (a + 1) 4 four) one
+    ack_by false true r e one four = two_acks (eqb-true (a + 1) EXIT four) one
     ack_by false false true e one four = one_ack
     ack_by false false false e one four = one_ack

@@ -23,6 +23,7 @@ use Rattle.trace_laws.proofs.{ReplayCalls.StepEvents.by, ReplayPatches.OnePatche
 use Rattle.trace_laws.proofs.{ReplayStops.ComparedAnswers.same_int, ReplayStops.Here.Here, ReplayStops.Here.my, ReplayStops.Here.parts}
 use Rattle.trace_laws.proofs.{ReplayStops.SourceEvents.all_done, ReplayStops.SourceEvents.collects_told, ReplayStops.SourceEvents.result_gives}
 use Rattle.trace_laws.proofs.{ReplayStops.StageSteps.loads, ReplayStops.StepEvents.ReachesStops, ReplayStops.StopEvents.MayAnswer}
+use Rattle.smp_words.specs.declared.phase.TheConstants.{EXIT}
 
 module _ (known : Here) (results : (slot : ℕ) → stop_number known.v.table (Slot slot field.Result) < 2 ^ 32) where
   open known use {p, shown, me, below, pasts, s, f}
@@ -137,7 +138,7 @@ module _ (known : Here) (results : (slot : ℕ) → stop_number known.v.table (S
   ending_is y (Calls call) k ne = k
   ending_is y (Carries n) k ne = k
 
-  may_inside : (slot answer : ℕ) (w : Work) (a : ℕ) → (p.now.stop slot).work ≡ w → w.kind ≢ One → a ≡ 4 → p.now.inside me ≡ Some slot → Old.answer ≡ pos 0
+  may_inside : (slot answer : ℕ) (w : Work) (a : ℕ) → (p.now.stop slot).work ≡ w → w.kind ≢ One → a ≡ EXIT → p.now.inside me ≡ Some slot → Old.answer ≡ pos 0
       → answer ≡ 0 → (g : Calling) → p.calling me ≡ g → IsCalling me (In slot w a a Rests) g → (g ≢ Idle → answer ≡ answer_in g)
       → MayAnswer (stop_at s slot) me Old.answer
   may_inside slot answer w a work kind four inside zero_now none Idle calling k ends =
@@ -189,9 +190,9 @@ module _ (known : Here) (results : (slot : ℕ) → stop_number known.v.table (S
     -- of a CPU that is at this place in an open stop
     ends_so : (a answer : ℕ) (w : Work) (stood : Standing) → (p.now.stop x.slot).standing me ≡ stood → acked_of stood ≡ a → is_called stood ≡ false
         → is_of stood ≡ true
-        → (p.now.stop x.slot).work ≡ w → Old.answer ≡ as_i32 answer → ((p.now.stop x.slot).phase ≢ 0 → a ≡ 4 → p.now.irq me ≡ true)
+        → (p.now.stop x.slot).work ≡ w → Old.answer ≡ as_i32 answer → ((p.now.stop x.slot).phase ≢ 0 → a ≡ EXIT → p.now.irq me ≡ true)
         → ((p.now.stop x.slot).work.kind ≡ One → has_entered (p.calling me) ≡ true)
-        → ((p.now.stop x.slot).work.kind ≢ One → a ≡ 4 → MayAnswer (stop_at s x.slot) me Old.answer)
+        → ((p.now.stop x.slot).work.kind ≢ One → a ≡ EXIT → MayAnswer (stop_at s x.slot) me Old.answer)
         → ReachesStops (Q a answer) At' (slice_set pasts me Done) s (by me (told.One (event.Stop (stops.Complete Old.answer))))
     ends_so a answer w stood is acked_is not_called of work_is given irq one_called round_called =
         let slot = x.slot in
@@ -224,7 +225,7 @@ module _ (known : Here) (results : (slot : ℕ) → stop_number known.v.table (S
               answers = slice_set (stop_at s x.slot).answers me (Some Old.answer);
             })) (in_stop None (cpu_at s me)))
         made_round o kind phase through =
-            let four : acked_of ((p.now.stop x.slot).standing me) ≡ 4 = elim through.0 [ inl k ↦ k | inr k ↦ absurd (phase k) ] in
+            let four : acked_of ((p.now.stop x.slot).standing me) ≡ EXIT = elim through.0 [ inl k ↦ k | inr k ↦ absurd (phase k) ] in
             complete_round known At' (λ j. refl) (λ j. refl) x.slot sees.0 o kind
             (omega (arith, four)) (not_mine (p.now.stop x.slot).raising through.1) (irq phase (sym acked_is ∙ (sym (ap acked_of is) ∙ four)))
             (round_called kind (sym acked_is ∙ (sym (ap acked_of is) ∙ four)))
@@ -278,7 +279,7 @@ module _ (known : Here) (results : (slot : ℕ) → stop_number known.v.table (S
           (λ round four. may_inside x.slot x.answer w a so.3 (λ z. round (ap (λ (y : Work). y.kind) so.3 ∙ z)) four so.0 zero_now none (p.calling me) refl
           (calling_here known slot a a w Rests at_seat) (ending_is x (p.calling me) (carries x e))))
         where
-          on_at : (n : ℕ) → n ≡ 4 → irq_of (In x.slot w n n Rests) ≡ true
+          on_at : (n : ℕ) → n ≡ EXIT → irq_of (In x.slot w n n Rests) ≡ true
           on_at n four = rw four refl
 
           one_called : (g : Calling) → IsEnding x g → x.acked ≡ 0 → has_entered g ≡ true

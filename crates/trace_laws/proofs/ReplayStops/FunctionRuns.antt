@@ -12,6 +12,7 @@ use Rattle.trace_laws.proofs.ReplayStops.StepKinds.{Goes, in_none, in_slot, memb
 use Rattle.trace_laws.proofs.ReplayStops.StopEvents.{MayAnswer, completes_one, completes_round, runs_multi, runs_one}
 use Rattle.trace_laws.proofs.{ReplayCalls.ChangedStates.cpu_here, ReplayStops.ChangedStates.stop_here, ReplayStops.Here.Here, ReplayStops.Here.my}
 use Rattle.trace_laws.proofs.{ReplayStops.Here.parts, ReplayStops.Moves.none_called}
+use Rattle.smp_words.specs.declared.phase.TheConstants.{DISABLE_IRQ, RUN, EXIT}
 
 module _ (known : Here) (at' : Word → ℕ) (keys : (key : ℕ) → at' (Key key) ≡ (parts known).At (Key key))
     (sites : (site : ℕ) → at' (Site site) ≡ (parts known).At (Site site)) where
@@ -84,8 +85,8 @@ module _ (known : Here) (at' : Word → ℕ) (keys : (key : ℕ) → at' (Key ke
     pub runs_told : (q : StopState) (a l func arg : ℕ) (calling : Calling) → (p.now.stop slot).standing me ≡ Inside a l → p.calling me ≡ Idle
         → has_entered calling ≡ true
         → Is q slot (p.now.stop slot) (Some slot) (p.now.irq me) calling
-        → ((p.now.stop slot).work.kind ≡ One) ⊎ (((p.now.stop slot).work.kind ≡ Multi) × ((has (p.now.stop slot).work.active me ≡ true) × ((a ≡ 2) ×
-        ((p.now.stop slot).phase ≡ 3))))
+        → ((p.now.stop slot).work.kind ≡ One) ⊎ (((p.now.stop slot).work.kind ≡ Multi) × ((has (p.now.stop slot).work.active me ≡ true) × ((a ≡ DISABLE_IRQ) ×
+        ((p.now.stop slot).phase ≡ RUN))))
         → (p.now.stop slot).work.func ≡ func → (p.now.stop slot).work.arg ≡ arg → Leads q (past_at pasts me) ((me, event.Stop (stops.Run func arg)) ∷ [])
     unfolding stop_goes
     runs_told q a l func arg calling stood idle called g kinds func_is arg_is =
@@ -119,7 +120,7 @@ module _ (known : Here) (at' : Word → ℕ) (keys : (key : ℕ) → at' (Key ke
         ∙ (get_or-set_same (stop_at s slot).ran me true false (rw size.ran (omega arith)) ∙ sym called_so)) (λ z. absurd (no_patch z)) i.phase i.answer
         (my known).reads)
       where
-        at_two : (a : ℕ) → acked_by (stop_at s slot) me ≡ a → a ≡ 2 → acked_by (stop_at s slot) me < 3
+        at_two : (a : ℕ) → acked_by (stop_at s slot) me ≡ a → a ≡ DISABLE_IRQ → acked_by (stop_at s slot) me < RUN
         at_two a e two = omega (arith, e, two)
 
         one_patch : One ≡ Patch → ⊥
@@ -214,7 +215,7 @@ module _ (known : Here) (at' : Word → ℕ) (keys : (key : ℕ) → at' (Key ke
         completes_one s me whole slot (omega (arith, i.below)) ((my known).inside ∙ inside) (past_at pasts me).answer (ap (λ (z : Task). z.kind) was.task
         ∙ kind) (i.ran ∙ rw kind called)
 
-    pub complete_round : (p.now.stop slot).work.kind ≢ One → 4 ≤ acked ((p.now.stop slot).standing me)
+    pub complete_round : (p.now.stop slot).work.kind ≢ One → EXIT ≤ acked ((p.now.stop slot).standing me)
         → is_cpu (raiser_of (p.now.stop slot).raising) me ≡ false
         → p.now.irq me ≡ true → MayAnswer (stop_at s slot) me (past_at pasts me).answer
         → goes me (event.Stop (stops.Complete (past_at pasts me).answer)) s

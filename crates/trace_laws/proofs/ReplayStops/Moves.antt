@@ -12,6 +12,7 @@ use Rattle.trace_laws.proofs.ReplayStops.StepKinds.{Goes, in_slot, members_set, 
 use Rattle.trace_laws.proofs.{ReplayCalls.ChangedStates.cpu_here, ReplayPatches.OnePatcher.elsewhere_none, ReplayPatches.OnePatcher.first_is}
 use Rattle.trace_laws.proofs.{ReplayPatches.OnePatcher.nobody_patches, ReplayStops.ChangedStates.stop_here, ReplayStops.Here.Here, ReplayStops.Here.my}
 use Rattle.trace_laws.proofs.{ReplayStops.Here.parts, ReplayStops.StopEvents.enters_stop, ReplayStops.StopEvents.turns_off}
+use Rattle.smp_words.specs.declared.phase.TheConstants.{DISABLE_IRQ, RUN}
 
 -- a CPU that has called nothing has called none of any kind
 pub none_called : (k : Kind) → has_called k Idle ≡ false
@@ -121,7 +122,7 @@ module _ (known : Here) (at' : Word → ℕ) (keys : (key : ℕ) → at' (Key ke
 
     -- no event
     pub looked_step : (q : StopState) → Is q slot (stands (p.now.stop slot) me (Inside a found)) (Some slot) (p.now.irq me) (p.calling me)
-        → (found ≢ 0 → past.phase ≡ found) → (past.phase ≡ 3 → p.now.irq me ≡ false) → Leads q past []
+        → (found ≢ 0 → past.phase ≡ found) → (past.phase ≡ RUN → p.now.irq me ≡ false) → Leads q past []
     looked_step q g phase reads = silent known at' keys sites q past slot
         (stands (p.now.stop slot) me (Inside a found)) (Some slot) (p.now.irq me) (p.calling me) g (λ _. told_looked q (p.now.irq me) (p.calling me) g)
         (in_slot known at' keys sites q s past slot (stands (p.now.stop slot) me
@@ -131,7 +132,7 @@ module _ (known : Here) (at' : Word → ℕ) (keys : (key : ℕ) → at' (Key ke
     -- interrupts go off
     pub off_step : (q : StopState) → Is q slot (stands (p.now.stop slot) me (Inside a found)) (Some slot) false (p.calling me) → (found ≢ 0
         → past.phase ≡ found)
-        → (p.now.stop slot).work.kind ≢ One → (p.now.stop slot).is_open ≡ true → p.now.irq me ≡ true → a < 2 → (p.now.stop slot).phase ≡ 2
+        → (p.now.stop slot).work.kind ≢ One → (p.now.stop slot).is_open ≡ true → p.now.irq me ≡ true → a < 2 → (p.now.stop slot).phase ≡ DISABLE_IRQ
         → handles_nothing (cpu_at s me) ≡ Ok tt → Leads q past ((me, event.Stop stops.Off) ∷ [])
     unfolding stop_goes
     off_step q g phase kind is_open irq low at_two quiet =

@@ -10,6 +10,7 @@ use Rattle.trace_laws.proofs.ReplayStops.StepEvents.{ReachesStops, member_as, se
 use Rattle.trace_laws.proofs.ReplayStops.StepKinds.{Goes, in_slot, members_set, one_stop}
 use Rattle.trace_laws.proofs.{ReplayCalls.ChangedStates.cpu_here, ReplayStops.ChangedStates.stop_here, ReplayStops.Here.Here, ReplayStops.Here.my}
 use Rattle.trace_laws.proofs.{ReplayStops.Here.parts, ReplayStops.StopEvents.raises_phase, ReplayStops.StopEvents.turns_on}
+use Rattle.smp_words.specs.declared.phase.TheConstants.{EXIT}
 
 module _ (known : Here) (at' : Word → ℕ) (keys : (key : ℕ) → at' (Key key) ≡ (parts known).At (Key key))
     (sites : (site : ℕ) → at' (Site site) ≡ (parts known).At (Site site)) where
@@ -103,10 +104,10 @@ module _ (known : Here) (at' : Word → ℕ) (keys : (key : ℕ) → at' (Key ke
     module _ (q : StopState) (x : Stop) (y : ToldStop) (calling : Calling) (e : Event) (told : StopIs x y) (a : ℕ) (stood : x.standing me ≡ Inside a a)
         (calls : has_called (p.now.stop slot).work.kind calling ≡ has_called (p.now.stop slot).work.kind (p.calling me))
         (patch : (p.now.stop slot).work.kind ≡ Patch → has (p.now.stop slot).work.active me ≡ true → calling ≡ p.calling me)
-        (unpatched : y.patch ≡ (stop_at s slot).patch) (past_phase : (past_at pasts me).phase ≡ a) (last : a ≡ 4) (past_answer :
+        (unpatched : y.patch ≡ (stop_at s slot).patch) (past_phase : (past_at pasts me).phase ≡ a) (last : a ≡ EXIT) (past_answer :
         (past_at pasts me).answer ≡ pos 0)
         (g : Is q slot x (Some slot) true calling) (ran : (cpu : ℕ) → has_run y cpu ≡ has_run (stop_at s slot) cpu)
-        (made : goes me e s ≡ Ok (with_stop slot s y)) (kind : y.task.kind ≢ One) (acked_told : acked_by y me ≡ 4) (raiser : is_cpu y.raiser me ≡ false)
+        (made : goes me e s ≡ Ok (with_stop slot s y)) (kind : y.task.kind ≢ One) (acked_told : acked_by y me ≡ EXIT) (raiser : is_cpu y.raiser me ≡ false)
         (off : p.now.irq me ≡ false) where
       pub leaves_told : Leads q (past_at pasts me) ((me, e) ∷ ((me, event.Stop stops.On) ∷ []))
       unfolding stop_goes
@@ -117,7 +118,7 @@ module _ (known : Here) (at' : Word → ℕ) (keys : (key : ℕ) → at' (Key ke
           let my_cpu = cpu_here m me c cpus_are below in
           let here = stop_here s slot y f.stops_are i.below in
           let on = turns_on m me whole slot (omega (arith, i.below)) ((my known).inside ∙ inside) (subst (λ (z : ToldStop). z.task.kind ≢ One) (sym here) kind)
-          ((my known).irq ∙ off) (subst (λ (z : ToldStop). 4 ≤ acked_by z me) (sym here) (omega (arith, acked_told)))
+          ((my known).irq ∙ off) (subst (λ (z : ToldStop). EXIT ≤ acked_by z me) (sym here) (omega (arith, acked_told)))
           (subst (λ (z : ToldStop). is_cpu z.raiser me ≡ false) (sym here) raiser) in
           set_step p q at at' pasts s me (past_at pasts me) below sized cpus_are f keys sites slot x y c i.below
           (one_stop known at' keys sites q slot x (Some slot) true calling y g (λ cpu ne. ran cpu)

@@ -21,6 +21,7 @@ use Rattle.trace_laws.proofs.ReplayStops.TurnSteps.{Made, irq_here, keeps_here, 
 use Rattle.trace_laws.proofs.{ReplayCalls.StepEvents.by, ReplayPatches.AckSteps.acks_made, ReplayPatches.PatchEvents.AreEntries, ReplayStops.AckSteps.ack_by}
 use Rattle.trace_laws.proofs.{ReplayStops.AckSteps.old_is, ReplayStops.Here.Here, ReplayStops.Here.my, ReplayStops.Here.parts}
 use Rattle.trace_laws.proofs.{ReplayStops.StepEvents.ReachesStops, ReplayStops.StepKinds.refilled_step}
+use Rattle.smp_words.specs.declared.phase.TheConstants.{RUN, EXIT, OVER}
 
 module _ (known : Here) where
   open known use {p, shown, me, below, pasts, s, f}
@@ -34,7 +35,7 @@ module _ (known : Here) where
 
   -- a CPU that acknowledges RUN where it is active has called its function
   has_called_it : (x : Visit) (answer : ℕ) (ran : Bool) (w : Work) (g : Calling) → IsLoaded x w → RunsIf me x ran → IsAcking x answer ran g
-      → x.acked + 1 ≡ 3 → has w.active me ≡ true → (w.kind ≡ Multi) × (has_entered g ≡ true)
+      → x.acked + 1 ≡ RUN → has w.active me ≡ true → (w.kind ≡ Multi) × (has_entered g ≡ true)
   has_called_it x answer ran w g h1 h2 h3 h4 h5 = search (true≢false, arith)
 
   pub acknowledges_phase : (x : Visit) (answer : ℕ) (ran : Bool) → C.stage ≡ Some (Advance x (round.Acknowledge answer ran)) → AreEntries U s.words
@@ -64,7 +65,7 @@ module _ (known : Here) where
           let called = has_called_it x answer ran w (p.calling me) loaded runs carries in
           let found = At (Slot x.slot field.Ack) in
           let told = ack_by known x.slot x.acked w at_seat kind x answer ran called (found == 1)
-          (x.acked + 1 == 4) ran refl refl refl in
+          (x.acked + 1 == EXIT) ran refl refl refl in
           let old = old_is known x.slot x.acked w at_seat kind x answer ran called in
           subst (λ (z : Standing). ReachesStops (acknowledges p me x.slot z found) (put_word At (Slot x.slot field.Ack) (one_less found))
           (slice_set pasts me Old) s
@@ -143,7 +144,7 @@ module _ (known : Here) where
         same : Inside (p.now.stop x.slot).phase (p.now.stop x.slot).phase ≡ Inside x.acked x.acked → (p.now.stop x.slot).phase ≡ x.acked
         same e = cc
 
-    small : x.acked ≤ 4
+    small : x.acked ≤ EXIT
     small = (keeps_here known x.slot x.acked x.acked w Sets at_seat).4
 
     kind : (p.now.stop x.slot).work.kind ≢ One
@@ -172,7 +173,7 @@ module _ (known : Here) where
           patching_is = refl;
         }) made
 
-    two_raises : x.acked ≡ 4 → ReachesStops (Q true) At' (slice_set pasts me Old) s
+    two_raises : x.acked ≡ EXIT → ReachesStops (Q true) At' (slice_set pasts me Old) s
         ((me, event.Stop (stops.Raise (x.acked + 1))) ∷ ((me, event.Stop stops.On) ∷ []))
     two_raises four =
         let i = (my known).stop x.slot so.0 in
@@ -201,14 +202,14 @@ module _ (known : Here) where
         ((told.members me below).acked_is ∙ (ap acked_of so.1 ∙ four)) refl
         (irq_here known x.slot x.acked x.acked w Sets at_seat ∙ rw four refl)
 
-    raise_by : (exit r : Bool) → ran ≡ r → (x.acked == 4) ≡ exit → ReachesStops (Q exit) At' (slice_set pasts me Old) s
+    raise_by : (exit r : Bool) → ran ≡ r → (x.acked == EXIT) ≡ exit → ReachesStops (Q exit) At' (slice_set pasts me Old) s
         (by me (with_on (stops.Raise (x.acked + 1)) (stop_ends (record C { interrupts = cond exit true C.interrupts }) (cond exit note.Left
         (cond r note.Ran (note.Moved x.acked)))).note))
     raise_by true r e four = two_raises (eqb-true x.acked 4 four)
     raise_by false true e four = one_raise
     raise_by false false e four = one_raise
 
-  over_is : (n : ℕ) → (n == 4) ≡ (n + 1 == 5)
+  over_is : (n : ℕ) → (n == EXIT) ≡ (n + 1 == OVER)
   over_is n = search (cases_eq, ne_eqb, arith)
 
   pub raises_phase : (x : Visit) (ran : Bool) → C.stage ≡ Some (Advance x (round.Raise ran)) → Does (Advance x (round.Raise ran))
@@ -216,7 +217,7 @@ module _ (known : Here) where
       let k = at_stage x (round.Raise ran) e in
       let w = k.0 in
       let n = x.acked + 1 in
-      let said = (stop_ends (record C { interrupts = cond (x.acked == 4) true C.interrupts }) (cond (x.acked == 4) note.Left (cond ran note.Ran
+      let said = (stop_ends (record C { interrupts = cond (x.acked == EXIT) true C.interrupts }) (cond (x.acked == EXIT) note.Left (cond ran note.Ran
       (note.Moved x.acked)))).note in
       let at' = put_word At (Slot x.slot field.State) n in
       let moved : Present = record (p.now) { stop = put p.now.stop x.slot (raised (p.now.stop x.slot) n) } in
@@ -225,15 +226,15 @@ module _ (known : Here) where
       let calm = not_calm x ran w k.2 in
       let high = small x ran w k.2 in
       let some : 1 < n = above x.acked (λ z. calm (phase ∙ z)) in
-      let one = raise_by x ran w k.2 (x.acked == 4) ran refl refl in
+      let one = raise_by x ran w k.2 (x.acked == EXIT) ran refl refl in
       let two = subst (λ (b : Bool). ReachesStops (q b) at' (slice_set pasts me Old) s (by me (with_on (stops.Raise n) said))) (over_is x.acked) one in
-      let three = subst (λ (m : ℕ). ReachesStops (q (n == 5)) at' (slice_set pasts me Old) s (by me (with_on (stops.Raise m) said))) (sym (phase_small n
+      let three = subst (λ (m : ℕ). ReachesStops (q (n == OVER)) at' (slice_set pasts me Old) s (by me (with_on (stops.Raise m) said))) (sym (phase_small n
       (omega (arith, high)))) two in
-      let four = subst (λ (z : StepEvents). ReachesStops (q (n == 5)) at' (slice_set pasts me Old) s (by me z))
+      let four = subst (λ (z : StepEvents). ReachesStops (q (n == OVER)) at' (slice_set pasts me Old) s (by me z))
       (sym (then_if (nat_lt 1 n) (with_on (stops.Raise (phase_of n)) said) told.Nothing (lt-ltb 1 n some))) three in
       subst (λ (z : StopState). ReachesStops z at' (slice_set pasts me Old) s (by me (cond (nat_lt 1 n) (with_on (stops.Raise
       (phase_of n)) said) told.Nothing)))
-      (sym (then_if (p.now.stop x.slot).is_open (q (n == 5)) (stored_shut p x.slot field.State n) (open_now x ran w k.2))) four
+      (sym (then_if (p.now.stop x.slot).is_open (q (n == OVER)) (stored_shut p x.slot field.State n) (open_now x ran w k.2))) four
     where
       above : (m : ℕ) → m ≢ 0 → 1 < m + 1
       above m ne = omega arith

@@ -24,6 +24,7 @@ use Rattle.trace_laws.proofs.ReplayStops.StepKinds.{gate_given, gate_taken, idle
 use Rattle.trace_laws.proofs.{ReplayCalls.StepEvents.by, ReplayPatches.BegunPatches.none_before, ReplayPatches.BegunPatches.works_patch, ReplayStops.Here.Here}
 use Rattle.trace_laws.proofs.{ReplayStops.Here.parts, ReplayStops.Moves.enters_told, ReplayStops.StepEvents.ReachesStops, ReplayStops.StepEvents.word_kept}
 use Rattle.trace_laws.proofs.ReplayStops.Here.{my}
+use Rattle.smp_words.specs.declared.phase.TheConstants.{RUN}
 
 pub else_if : {A : Type 0} (b : Bool) (x y : A) → b ≡ false → cond b x y ≡ y
 else_if true x y e = absurd (true≢false e)
@@ -212,13 +213,13 @@ module _ (known : Here) where
       (opens_so w e d.0 d.1 on count)
 
   -- a key and a site are read
-  on_read : p.now.irq me ≡ true → (past.phase == 3) ≡ false
+  on_read : p.now.irq me ≡ true → (past.phase == RUN) ≡ false
   on_read on = ne_eqb past.phase 3 (λ three. true≢false (sym on ∙ (my known).reads three))
 
   key_on : (k : ℕ) (q : StopState) → p.now.irq me ≡ true → ((j : ℕ) → q.now.stop j ≡ p.now.stop j) → ((d : ℕ) → q.now.inside d ≡ p.now.inside d)
       → ((d : ℕ) → q.now.irq d ≡ p.now.irq d) → ((d : ℕ) → q.calling d ≡ p.calling d) → q.gate ≡ p.gate
       → q.now.patching ≡ p.now.patching → ReachesStops q at (slice_set pasts me past) s
-      (by me (cond (past.phase == 3) told.Nothing (told.One (event.Label (labels.Key k (is_on (at
+      (by me (cond (past.phase == RUN) told.Nothing (told.One (event.Label (labels.Key k (is_on (at
       (Key k))))))))
   key_on k q on stop inside irq calling gate patching = rw (on_read on)
       (reads_step known at (λ j. refl) (λ j. refl) q
@@ -234,14 +235,14 @@ module _ (known : Here) where
 
   key_in : (k : ℕ) (w : Option Visit) → SitsAtRest w (shown.seat me) → p.now.irq me ≡ true → (o : Option ℕ) → p.now.inside me ≡ o
       → ReachesStops (record p { now = key_loaded u p.now me k (at (Key k)) o }) at (slice_set pasts me past) s
-      (by me (cond (past.phase == 3) told.Nothing (told.One (event.Label (labels.Key k (is_on (at (Key k))))))))
+      (by me (cond (past.phase == RUN) told.Nothing (told.One (event.Label (labels.Key k (is_on (at (Key k))))))))
   key_in k w rest on None e = key_on k (record p { now = key_loaded u p.now me k (at (Key k)) None }) on (λ j. refl) (λ d. refl) (λ d. refl) (λ d. refl) refl
       refl
   key_in k w rest on (Some j) e =
       let n = reads p.now me (ReadingKey k (is_on (at (Key k)))) in
       let not_run = and_left (is_at_run ((p.now.stop j).standing me)) (is_patch (p.now.stop j).work.kind) (not_at_run w rest j e) in
       subst (λ (x : Present). ReachesStops (record p { now = x }) at (slice_set pasts me past) s
-      (by me (cond (past.phase == 3) told.Nothing (told.One (event.Label (labels.Key k (is_on (at (Key k)))))))))
+      (by me (cond (past.phase == RUN) told.Nothing (told.One (event.Label (labels.Key k (is_on (at (Key k)))))))))
       (sym (else_if (is_at_run ((p.now.stop j).standing me) && is_patch (p.now.stop j).work.kind)
       (record (p.now) { patching = patch_begun u me (p.now.stop j).work (at (Key k)) }) n not_run))
       (key_on k (record p { now = n }) on (λ j. refl) (λ d. refl) (λ d. refl) (λ d. refl) refl refl)

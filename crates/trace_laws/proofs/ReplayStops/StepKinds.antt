@@ -7,6 +7,7 @@ use Rattle.trace_model.specs.declared.event.Event.TheVariants as event
 use Rattle.trace_model.specs.declared.event.StopEvent.TheVariants as stops
 use Rattle.trace_laws.proofs.ReplayStops.StepEvents.{OneStop, ReachesStops, gate_step, quiet_step, same_step}
 use Rattle.trace_laws.proofs.{ReplayStops.Here.Here, ReplayStops.Here.parts, ReplayStops.StopEvents.gives_gate, ReplayStops.StopEvents.takes_gate}
+use Rattle.smp_words.specs.declared.phase.TheConstants.{RUN}
 
 -- a CPU that is in a stop has called a function only as its seat says
 pub idle_free : (cpu : ℕ) (f : Calling) → IsCalling cpu Free f → f ≡ Idle
@@ -65,7 +66,7 @@ module _ (known : Here) (at' : Word → ℕ) (keys : (key : ℕ) → at' (Key ke
       → (cpu_at t me).inside ≡ Some slot → (cpu_at t me).irq ≡ irq → has_run (stop_at t slot) me ≡ has_called (p.now.stop slot).work.kind calling
       → ((p.now.stop slot).work.kind ≡ Patch → has (p.now.stop slot).work.active me ≡ true → MadeIs t.words p.now.patching calling (stop_at t slot).patch)
       → PhaseIs (x.standing me) past.phase
-      → AnswerIs (x.standing me) past.answer → (past.phase ≡ 3 → irq ≡ false) → CpuIs q t past me
+      → AnswerIs (x.standing me) past.answer → (past.phase ≡ RUN → irq ≡ false) → CpuIs q t past me
   in_slot q t past slot x irq calling g l inside_told irq_told ran patch phase answer reads = record {
     inside = inside_told ∙ sym g.inside_is;
     irq = irq_told ∙ sym g.irq_is;
@@ -93,7 +94,7 @@ module _ (known : Here) (at' : Word → ℕ) (keys : (key : ℕ) → at' (Key ke
 
   -- a CPU in no stop
   pub in_none : (q : StopState) (t : StateValue) (past : Past) (slot : ℕ) (x : Stop) (irq : Bool) (calling : Calling) → Goes q slot x None irq calling
-      → (cpu_at t me).inside ≡ None → (cpu_at t me).irq ≡ irq → past.answer ≡ pos 0 → (past.phase ≡ 3 → irq ≡ false) → CpuIs q t past me
+      → (cpu_at t me).inside ≡ None → (cpu_at t me).irq ≡ irq → past.answer ≡ pos 0 → (past.phase ≡ RUN → irq ≡ false) → CpuIs q t past me
   in_none q t past slot x irq calling h1 h2 h3 h4 h5 = search arith
 
   -- a CPU of which nothing is changed but what it keeps, and that not of its stop

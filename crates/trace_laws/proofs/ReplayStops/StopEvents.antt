@@ -7,6 +7,7 @@ use Rattle.trace_laws.proofs.Names.{run_by, slice_set, stop_at, stop_of, true, t
 use Rattle.trace_laws.proofs.Names.{with_stop, ℕ, ℤ, ◌&&◌, ◌-◌, ◌<◌, ◌==◌, ◌>>=◌, ◌∙◌, ◌≡◌, ◌≢◌, ◌≤◌}
 use Rattle.trace_laws.proofs.ReplayNames.{Without, nothing_left_out, opening}
 use Rattle.trace_model.specs.declared.reason.Reason.TheVariants as reason
+use Rattle.smp_words.specs.declared.phase.TheConstants.{DISABLE_IRQ, RUN, EXIT}
 
 passes : {A : Type 0} (b : Bool) (x y : A) → b ≡ true → cond b x y ≡ x
 passes true x y e = refl
@@ -24,7 +25,7 @@ ran_one : (stop : Stop) (me func arg : ℕ) → stop.task.kind ≡ One → has_r
 unfolding ran_function
 ran_one stop me func arg kind not_yet f a = rw (kind, not_yet, eq-eqb stop.task.func func f, eq-eqb stop.task.arg arg a) refl
 
-ran_multi : (stop : Stop) (me func arg : ℕ) → stop.task.kind ≡ Multi → has stop.task.active me ≡ true → acked_by stop me < 3 → stop.phase ≡ 3
+ran_multi : (stop : Stop) (me func arg : ℕ) → stop.task.kind ≡ Multi → has stop.task.active me ≡ true → acked_by stop me < RUN → stop.phase ≡ RUN
     → has_run stop me ≡ false
     → stop.task.func ≡ func → stop.task.arg ≡ arg → ran_function me func arg stop ≡ Ok (record stop { ran = slice_set stop.ran me true })
 unfolding ran_function
@@ -44,7 +45,7 @@ completed_one : (stop : Stop) (me : ℕ) (answer : ℤ) (irq : Bool) → stop.ta
 unfolding completed
 completed_one stop me answer irq kind ran = rw (kind, ran) refl
 
-may_round : (kind : Kind) (stop : Stop) (me : ℕ) (irq : Bool) → kind ≢ One → 4 ≤ acked_by stop me → is_cpu stop.raiser me ≡ false → irq ≡ true
+may_round : (kind : Kind) (stop : Stop) (me : ℕ) (irq : Bool) → kind ≢ One → EXIT ≤ acked_by stop me → is_cpu stop.raiser me ≡ false → irq ≡ true
     → may_complete kind me irq stop ≡ Ok tt
 may_round One stop me irq ne high not_last on = absurd (ne refl)
 may_round Multi stop me irq ne high not_last on = rw (le-ltb (acked_by stop me) 4 high, not_last, on) refl
@@ -53,7 +54,7 @@ may_round APatch stop me irq ne high not_last on = rw (le-ltb (acked_by stop me)
 then_made : {A : Type 0} (first : Result (Unit {0}) Reason) (next : Unit {0} → Result A Reason) → first ≡ Ok tt → (first >>= next) ≡ next tt
 then_made first next e = ap (λ (x : Result (Unit {0}) Reason). x >>= next) e
 
-completed_round : (stop : Stop) (me : ℕ) (answer : ℤ) (irq : Bool) → stop.task.kind ≢ One → 4 ≤ acked_by stop me → is_cpu stop.raiser me ≡ false → irq ≡ true
+completed_round : (stop : Stop) (me : ℕ) (answer : ℤ) (irq : Bool) → stop.task.kind ≢ One → EXIT ≤ acked_by stop me → is_cpu stop.raiser me ≡ false → irq ≡ true
     → MayAnswer stop me answer → completed me answer irq stop ≡ Ok (record stop { answers = slice_set stop.answers me (Some answer) })
 unfolding completed
 completed_round stop me answer irq ne high not_last on may =
@@ -96,12 +97,12 @@ module _ (s : StateValue) (me : ℕ) (whole : s.setting.without ≡ nothing_left
     rounds Multi e ne = rw (inside, lt-ltb source 32 below, e) refl
     rounds APatch e ne = rw (inside, lt-ltb source 32 below, e) refl
 
-    pub turns_off : (stop_at s source).task.kind ≢ One → (cpu_at s me).irq ≡ true → acked_by (stop_at s source) me < 2 → (stop_at s source).phase ≡ 2
+    pub turns_off : (stop_at s source).task.kind ≢ One → (cpu_at s me).irq ≡ true → acked_by (stop_at s source) me < DISABLE_IRQ → (stop_at s source).phase ≡ DISABLE_IRQ
         → handles_nothing (cpu_at s me) ≡ Ok tt → off_by me s ≡ Ok (with_irq me false s)
     unfolding off_by
     turns_off kind on low at quiet = rw (rounds (stop_at s source).task.kind refl kind, on, lt-leb 2 (acked_by (stop_at s source) me) low, at, quiet) refl
 
-    pub turns_on : (stop_at s source).task.kind ≢ One → (cpu_at s me).irq ≡ false → 4 ≤ acked_by (stop_at s source) me
+    pub turns_on : (stop_at s source).task.kind ≢ One → (cpu_at s me).irq ≡ false → EXIT ≤ acked_by (stop_at s source) me
         → is_cpu (stop_at s source).raiser me ≡ false
         → on_by me s ≡ Ok (with_irq me true s)
     unfolding on_by
@@ -129,8 +130,8 @@ module _ (s : StateValue) (me : ℕ) (whole : s.setting.without ≡ nothing_left
     unfolding run_by
     runs_one func arg kind not_yet f a = rw (inside, lt-ltb source 32 below, kind, ran_one (stop_at s source) me func arg kind not_yet f a) refl
 
-    pub runs_multi : (func arg : ℕ) → (stop_at s source).task.kind ≡ Multi → has (stop_at s source).task.active me ≡ true → acked_by (stop_at s source) me < 3
-        → (stop_at s source).phase ≡ 3 → has_run (stop_at s source) me ≡ false → (stop_at s source).task.func ≡ func → (stop_at s source).task.arg ≡ arg
+    pub runs_multi : (func arg : ℕ) → (stop_at s source).task.kind ≡ Multi → has (stop_at s source).task.active me ≡ true → acked_by (stop_at s source) me < RUN
+        → (stop_at s source).phase ≡ RUN → has_run (stop_at s source) me ≡ false → (stop_at s source).task.func ≡ func → (stop_at s source).task.arg ≡ arg
         → run_by me func arg s ≡ Ok (with_stop source s (record (stop_at s source) { ran = slice_set (stop_at s source).ran me true }))
     unfolding run_by
     runs_multi func arg kind active low at not_yet f a =
@@ -138,8 +139,8 @@ module _ (s : StateValue) (me : ℕ) (whole : s.setting.without ≡ nothing_left
 
     -- a phase is acknowledged, which the CPU has not acknowledged, and which is that of the stop
     pub acks_other : (phase : ℕ) → (stop_at s source).task.kind ≢ One → acked_by (stop_at s source) me < phase → (stop_at s source).phase ≡ phase
-        → (phase == 2) ≡ false
-        → ((phase == 3) && has (stop_at s source).task.active me) ≡ false
+        → (phase == DISABLE_IRQ) ≡ false
+        → ((phase == RUN) && has (stop_at s source).task.active me) ≡ false
         → ack_by me phase s ≡ Ok (with_stop source s (acknowledged me phase true (stop_at s source)))
     unfolding ack_by
     acks_other phase kind low at not_two not_run =
@@ -153,7 +154,7 @@ module _ (s : StateValue) (me : ℕ) (whole : s.setting.without ≡ nothing_left
           ap (λ (w : Without). w.raises) whole,
         ) refl
 
-    pub acks_disabled : (stop_at s source).task.kind ≢ One → acked_by (stop_at s source) me < 2 → (stop_at s source).phase ≡ 2 → (cpu_at s me).irq ≡ false
+    pub acks_disabled : (stop_at s source).task.kind ≢ One → acked_by (stop_at s source) me < DISABLE_IRQ → (stop_at s source).phase ≡ DISABLE_IRQ → (cpu_at s me).irq ≡ false
         → ack_by me 2 s ≡ Ok (with_stop source s (acknowledged me 2 true (stop_at s source)))
     unfolding ack_by
     acks_disabled kind low at off =
@@ -166,7 +167,7 @@ module _ (s : StateValue) (me : ℕ) (whole : s.setting.without ≡ nothing_left
           off,
         ) refl
 
-    pub acks_run : (stop_at s source).task.kind ≡ Multi → acked_by (stop_at s source) me < 3 → (stop_at s source).phase ≡ 3
+    pub acks_run : (stop_at s source).task.kind ≡ Multi → acked_by (stop_at s source) me < RUN → (stop_at s source).phase ≡ RUN
         → has_run (stop_at s source) me ≡ true
         → has (stop_at s source).task.active me ≡ true → ack_by me 3 s ≡ Ok (with_stop source s (acknowledged me 3 true (stop_at s source)))
     unfolding ack_by
@@ -194,7 +195,7 @@ module _ (s : StateValue) (me : ℕ) (whole : s.setting.without ≡ nothing_left
     completes_one answer kind ran = rw (inside, lt-ltb source 32 below, completed_one (stop_at s source) me answer (cpu_at s me).irq kind ran) refl
 
     -- after its function, or with the answer of a CPU that has run none
-    pub completes_round : (answer : ℤ) → (stop_at s source).task.kind ≢ One → 4 ≤ acked_by (stop_at s source) me
+    pub completes_round : (answer : ℤ) → (stop_at s source).task.kind ≢ One → EXIT ≤ acked_by (stop_at s source) me
         → is_cpu (stop_at s source).raiser me ≡ false → (cpu_at s me).irq ≡ true → MayAnswer (stop_at s source) me answer
         → complete_by me answer s ≡ Ok (done_with answer)
     unfolding complete_by

@@ -16,6 +16,7 @@ use Rattle.trace_events.specs.declared.step_events.StepEvents.TheVariants as tol
 use Rattle.trace_laws.proofs.ReplayStops.StageSteps.{Accepted, else_if, loads, seen_so}
 use Rattle.trace_laws.proofs.{ReplayCalls.StepEvents.by, ReplayStops.FunctionRuns.runs_told, ReplayStops.Here.Here, ReplayStops.Here.my, ReplayStops.Here.parts}
 use Rattle.trace_laws.proofs.{ReplayStops.Moves.looked_step, ReplayStops.Moves.off_step, ReplayStops.StepEvents.ReachesStops}
+use Rattle.smp_words.specs.declared.phase.TheConstants.{DISABLE_IRQ, RUN, OVER}
 
 pub then_if : {A : Type 0} (b : Bool) (x y : A) → b ≡ true → cond b x y ≡ x
 then_if true x y e = refl
@@ -85,7 +86,7 @@ module _ (known : Here) where
           | inr e ↦ inr (n ∙ sym e)
         ]
 
-    found_small : At (Slot slot field.State) ≤ 5
+    found_small : At (Slot slot field.State) ≤ OVER
     found_small = let o = words_here slot a a w Rests at_seat in let n = o.state in let b = o.bound in omega (arith, n, b)
 
     looked_same : (j : ℕ) → put p.now.stop slot (stands (p.now.stop slot) me (looked_by ((p.now.stop slot).standing me) (At (Slot slot field.State)))) j
@@ -102,7 +103,7 @@ module _ (known : Here) where
 
     -- no event
     looks_on : (two : Bool) (new : Past) → (two ≡ true → p.now.irq me ≡ false) → new.answer ≡ Old.answer
-        → (At (Slot slot field.State) ≢ 0 → new.phase ≡ At (Slot slot field.State)) → (new.phase ≡ 3 → p.now.irq me ≡ false)
+        → (At (Slot slot field.State) ≢ 0 → new.phase ≡ At (Slot slot field.State)) → (new.phase ≡ RUN → p.now.irq me ≡ false)
         → ReachesStops (Looked two) At (slice_set pasts me new) s []
     looks_on two new off answer phase reads = looked_step known At
         (λ j. refl) (λ j. refl)
@@ -122,7 +123,7 @@ module _ (known : Here) where
         }) phase reads
 
     -- interrupts go off
-    looks_off : (new : Past) → At (Slot slot field.State) ≡ 2 → a ≡ 1 → new.answer ≡ Old.answer → (At (Slot slot field.State) ≢ 0
+    looks_off : (new : Past) → At (Slot slot field.State) ≡ DISABLE_IRQ → a ≡ 1 → new.answer ≡ Old.answer → (At (Slot slot field.State) ≢ 0
         → new.phase ≡ At (Slot slot field.State))
         → ReachesStops (Looked true) At (slice_set pasts me new) s ((me, event.Stop stops.Off) ∷ [])
     looks_off new two one answer phase = off_step known At (λ j. refl) (λ j. refl)
@@ -165,10 +166,10 @@ module _ (known : Here) where
       | inr next ↦ next
     ]
 
-    off_at : (n : ℕ) → a ≡ n → n ≡ 2 → p.now.irq me ≡ false
+    off_at : (n : ℕ) → a ≡ n → n ≡ DISABLE_IRQ → p.now.irq me ≡ false
     off_at n e two = irq_here slot a a w Rests at_seat ∙ rw (e, two) refl
 
-    look_by : (x : Visit) (answer : ℕ) (same two : Bool) → (At (Slot slot field.State) == a) ≡ same → (At (Slot slot field.State) == 2) ≡ two
+    look_by : (x : Visit) (answer : ℕ) (same two : Bool) → (At (Slot slot field.State) == a) ≡ same → (At (Slot slot field.State) == DISABLE_IRQ) ≡ two
         → ReachesStops (Looked two) At (slice_set pasts me (cond (is_new (Said same x answer)) New Old)) s
         (by me (cond (two && is_new (Said same x answer)) (told.One (event.Stop stops.Off)) told.Nothing))
     look_by x answer true true e two =
@@ -195,14 +196,14 @@ module _ (known : Here) where
   pub loads_func : (x : Visit) (answer : ℕ) → Made (Advance x (round.LoadFunc answer))
   loads_func x answer = loads known (Advance x (round.LoadFunc answer)) (λ k. refl) (λ k. refl)
 
-  idle_here : (slot : ℕ) (w : Work) (x : Visit) → IsCalling me (In slot w 2 3 Rests) (p.calling me) → IsQuiet (Some x) (p.calling me) → p.calling me ≡ Idle
+  idle_here : (slot : ℕ) (w : Work) (x : Visit) → IsCalling me (In slot w DISABLE_IRQ RUN Rests) (p.calling me) → IsQuiet (Some x) (p.calling me) → p.calling me ≡ Idle
   idle_here slot w x h1 h2 = search arith
 
   -- the function runs
   abbrev Runs : StopState → ℕ → ℕ → ℕ → Type 0
   Runs q slot func arg = ReachesStops q At (slice_set pasts me Old) s ((me, event.Stop (stops.Run func arg)) ∷ [])
 
-  runs_at : (slot : ℕ) (w : Work) (x : Visit) (answer func : ℕ) → shown.seat me ≡ In slot w 2 3 Rests → w.kind ≡ Multi → has w.active me ≡ true → func ≡ w.func
+  runs_at : (slot : ℕ) (w : Work) (x : Visit) (answer func : ℕ) → shown.seat me ≡ In slot w DISABLE_IRQ RUN Rests → w.kind ≡ Multi → has w.active me ≡ true → func ≡ w.func
       → IsQuiet (Some x) (p.calling me)
       → Runs (calls_now p me (p.now.stop slot).work (At (Slot slot field.Arg)) answer) slot func (At (Slot slot field.Arg))
   runs_at slot w x answer func at_seat kind active is quiet_now =
@@ -211,7 +212,7 @@ module _ (known : Here) where
       let idle = idle_here slot w x (calling_here slot 2 3 w Rests at_seat) quiet_now in
       let k = keeps_here slot 2 3 w Rests at_seat in
       let words = words_here slot 2 3 w Rests at_seat in
-      let phase : (p.now.stop slot).phase ≡ 3 = at_three 3 2 (p.now.stop slot).phase refl refl k.2 in
+      let phase : (p.now.stop slot).phase ≡ RUN = at_three 3 2 (p.now.stop slot).phase refl refl k.2 in
       runs_told known At (λ j. refl) (λ j. refl) slot so.0 o
       (calls_now p me (p.now.stop slot).work (At (Slot slot field.Arg)) answer) 2 3 func (At (Slot slot field.Arg))
       (Calls (record { func = (p.now.stop slot).work.func; arg = At (Slot slot field.Arg); answer = answer })) so.1 idle refl
@@ -231,7 +232,7 @@ module _ (known : Here) where
       (inr (ap (λ (z : Work). z.kind) so.3 ∙ kind, (ap (λ (z : Work). has z.active me) so.3 ∙ active, (refl, phase))))
       (ap (λ (z : Work). z.func) so.3 ∙ sym is) (sym words.written.arg)
     where
-      at_three : (l n phase : ℕ) → l ≡ 3 → n ≡ 2 → ((l ≡ n) ⊎ ((l ≡ n + 1) × (phase ≡ l))) → phase ≡ 3
+      at_three : (l n phase : ℕ) → l ≡ RUN → n ≡ DISABLE_IRQ → ((l ≡ n) ⊎ ((l ≡ n + 1) × (phase ≡ l))) → phase ≡ RUN
       at_three l n phase three two (inl e) = absurd (omega arith)
       at_three l n phase three two (inr e) = e.1 ∙ three
 
@@ -246,7 +247,7 @@ module _ (known : Here) where
       let quiet_now : IsQuiet (Some x) (p.calling me) = subst (λ (o : Option Visit). IsQuiet o (p.calling me)) visit carries in
       let r = runs_at slot w x answer func run.3 kind active func_is quiet_now in
       let may : may_call me (p.now.stop slot).work ((p.now.stop slot).standing me) ≡ true =
-      ap (λ (z : Standing). may_call me (p.now.stop slot).work z) so.1 ∙ (ap (λ (z : Work). may_call me z (Inside 2 3)) so.3 ∙ may_at w kind active) in
+      ap (λ (z : Standing). may_call me (p.now.stop slot).work z) so.1 ∙ (ap (λ (z : Work). may_call me z (Inside DISABLE_IRQ RUN)) so.3 ∙ may_at w kind active) in
       let multi : is_multi x.kind ≡ true = ap is_multi run.0.kind ∙ ap is_multi kind in
       said_by slot (tells U p (seen_so known (Advance x (round.LoadArg answer func))) answer)
       (is_multi x.kind) func
@@ -256,7 +257,7 @@ module _ (known : Here) where
       ((p.now.stop slot).standing me))
       (calls_now p me (p.now.stop slot).work (At (Slot slot field.Arg)) answer) p may)) r)
     where
-      may_at : (w : Work) → w.kind ≡ Multi → has w.active me ≡ true → may_call me w (Inside 2 3) ≡ true
+      may_at : (w : Work) → w.kind ≡ Multi → has w.active me ≡ true → may_call me w (Inside DISABLE_IRQ RUN) ≡ true
       may_at w kind active = rw (kind, active) refl
 
       said_by : (slot : ℕ) (q : StopState) (multi : Bool) (func : ℕ) (a b : StopOutcome) → multi ≡ true → Runs q slot func (At (Slot slot field.Arg))
@@ -273,7 +274,7 @@ module _ (known : Here) where
       let slot = x.slot in
       let so = st slot 2 3 w Rests run.3 in
       let may : may_call me (p.now.stop slot).work ((p.now.stop slot).standing me) ≡ false =
-      ap (λ (z : Standing). may_call me (p.now.stop slot).work z) so.1 ∙ (ap (λ (z : Work). may_call me z (Inside 2 3)) so.3 ∙ may_not w kind) in
+      ap (λ (z : Standing). may_call me (p.now.stop slot).work z) so.1 ∙ (ap (λ (z : Work). may_call me z (Inside DISABLE_IRQ RUN)) so.3 ∙ may_not w kind) in
       let multi : is_multi x.kind ≡ false = ap is_multi run.0.kind ∙ ap is_multi kind in
       said_by slot (tells U p (seen_so known (Advance x (round.LoadArg answer func))) answer)
       (is_multi x.kind) func
@@ -284,7 +285,7 @@ module _ (known : Here) where
       (calls_now p me (p.now.stop slot).work (At (Slot slot field.Arg)) answer) p may))
       (loads known (Advance x (round.LoadArg answer func)) (λ k. refl) (λ k. refl)))
     where
-      may_not : (w : Work) → w.kind ≡ Patch → may_call me w (Inside 2 3) ≡ false
+      may_not : (w : Work) → w.kind ≡ Patch → may_call me w (Inside DISABLE_IRQ RUN) ≡ false
       may_not w kind = rw kind (and_right (has w.active me) false refl)
 
       said_by : (slot : ℕ) (q : StopState) (multi : Bool) (func : ℕ) (a : StopOutcome) (next : StopStage) → multi ≡ false

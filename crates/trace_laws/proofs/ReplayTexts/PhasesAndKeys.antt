@@ -13,6 +13,7 @@ use Rattle.smp_stop_steps.specs.Labels.{count_set}
 use Rattle.trace_laws.proofs.ReplayPatches.PatchSteps as patching
 use Rattle.trace_laws.proofs.{ReplayStops.Here.Here, ReplayStops.Here.parts, ReplayStops.TurnSteps.keeps_here, ReplayStops.TurnSteps.sits}
 use Rattle.trace_laws.proofs.{ReplayStops.TurnSteps.st, ReplayTexts.ToldNumbers.InRange}
+use Rattle.smp_words.specs.declared.phase.TheConstants.{EXIT, OVER}
 
 -- a store of a patch is to a key of the trace, or to a site of it
 abbrev StoreIn : ℕ → ℕ → Change → Type 0
@@ -116,10 +117,10 @@ module _ (known : Here) (u : Setting) (keys : u.keys ≡ known.v.labels.keys) (s
       let i : InsideIs p s Old me slot = (f.cpus_are me below).stop slot inside in
       (subst (λ (z : Standing). PhaseIs z Old.phase) stood i.phase) some
 
-  acknowledges : (x : Visit) (answer : ℕ) (ran : Bool) → C.stage ≡ Some (Advance x (round.Acknowledge answer ran)) → (1 ≤ Old.phase) × (Old.phase ≤ 4)
+  acknowledges : (x : Visit) (answer : ℕ) (ran : Bool) → C.stage ≡ Some (Advance x (round.Acknowledge answer ran)) → (1 ≤ Old.phase) × (Old.phase ≤ EXIT)
   acknowledges x answer ran h1 = search (at_stage, st, old_phase, arith)
 
-  raises : (x : Visit) (ran : Bool) → C.stage ≡ Some (Advance x (round.Raise ran)) → x.acked + 1 ≤ 5
+  raises : (x : Visit) (ran : Bool) → C.stage ≡ Some (Advance x (round.Raise ran)) → x.acked + 1 ≤ OVER
   raises x ran h1 = search (at_stage, keeps_here, arith)
 
   first_small : (kind : Kind) (work : Work) → work.kind ≡ kind → begun_value cpus work field.State ≤ 5

@@ -14,6 +14,7 @@ use Rattle.trace_model.specs.declared.event.CallEvent.TheVariants as calls
 use Rattle.trace_model.specs.declared.event.StopEvent.TheVariants as stops
 use Rattle.trace_model.specs.{declared.event.Event.TheVariants.Call, declared.event.Event.TheVariants.Stop}
 use Rattle.trace_events.specs.declared.step_events.StepEvents.TheVariants as told
+use Rattle.smp_words.specs.declared.phase.TheConstants.{EXIT}
 
 -- the number in a word's name is of its type, where an event tells it
 abbrev pub WordFits : Word → Type 0
@@ -57,7 +58,7 @@ fresh_fits = search arith
 
 -- the phases, the keys and the sites of a step are those that a trace may tell
 abbrev pub AckRange : Past → Act → Type 0
-AckRange p act.Sub = (1 ≤ p.phase) × (p.phase ≤ 4)
+AckRange p act.Sub = (1 ≤ p.phase) × (p.phase ≤ EXIT)
 AckRange p _ = Unit {0}
 
 abbrev pub StateRange : Act → Seen → Type 0

@@ -18,6 +18,7 @@ use Rattle.trace_laws.proofs.{Calls.ShownByTraces.cpus_at_first, Calls.ShownByTr
 use Rattle.trace_laws.proofs.{Stops.QuietCpus.idle_is}
 use Rattle.trace_laws.specs.StopEvents.{FunctionsRunAtRun, IsAtRun, IsHeld, MayRun, MayStore, PatchesStoreAtRun, RunsAt, seen_from, seen_next, stores}
 use Rattle.trace_laws.specs.StopEvents.{work_from, work_next}
+use Rattle.smp_words.specs.declared.phase.TheConstants.{DISABLE_IRQ, RUN}
 
 gate_rounds : (seen : ℕ → Seen) (work : ℕ → Option Task) (s : StateValue) (gate : Option ℕ) → Rounds seen work s → Rounds seen work (record s { gate = gate })
 gate_rounds seen work s gate r = record { cpus_are = r.cpus_are; stops_are = r.stops_are; at = r.at; cpu = r.cpu; stop = r.stop }
@@ -164,13 +165,13 @@ pub setting_runs : (es : List (ℕ × Event)) (s t : StateValue) → Runs s es t
 setting_runs [] s t run = ap (λ x. x.setting) run
 setting_runs (e ∷ es) s t (m, (g, run)) = setting_runs es m t run ∙ setting_goes e.0 e.1 s m g
 
-pub entered_is : (test : Bool) (acked : ℕ) → (test ≡ false → acked ≡ 0) → 2 ≤ acked → test ≡ true
+pub entered_is : (test : Bool) (acked : ℕ) → (test ≡ false → acked ≡ 0) → DISABLE_IRQ ≤ acked → test ≡ true
 entered_is true acked f h = refl
 entered_is false acked f h = absurd (let z = f refl in omega arith)
 
 -- at RUN, each CPU of the mask is held
 pub held_at : (u : Setting) (words : LabelWords) (es : List (ℕ × Event)) (s : StateValue) (source member : ℕ) → IsTrace u words es s → source < 32
-    → (stop_at s source).is_open ≡ true → is_round (stop_at s source).task.kind ≡ true → (stop_at s source).phase ≡ 3 → member < 32
+    → (stop_at s source).is_open ≡ true → is_round (stop_at s source).task.kind ≡ true → (stop_at s source).phase ≡ RUN → member < 32
     → has (stop_at s source).task.mask member ≡ true → IsHeld u es source member
 held_at u words es s source member run low opened_is round at below in_mask =
     let r = rounds_of u words es s run in
@@ -180,7 +181,7 @@ held_at u words es s source member run low opened_is round at below in_mask =
     let q = r.cpu member below in
     let all = w.all round in_mask (omega arith) in
     let up = w.up_to round (omega arith) in
-    let two : 2 ≤ acked_by stop member = omega arith in
+    let two : DISABLE_IRQ ≤ acked_by stop member = omega arith in
     let entered = entered_is (slice_index_or stop.entered member false) (acked_by stop member) (λ e. (w.out e).acked) two in
     let none = w.answered round (omega arith) in
     let is = w.is_in opened_is entered none in
@@ -198,7 +199,7 @@ held_at u words es s source member run low opened_is round at below in_mask =
     }
 
 at_run : (u : Setting) (words : LabelWords) (es : List (ℕ × Event)) (s : StateValue) (source cpu : ℕ) → IsTrace u words es s → source < 32
-    → (cpu_at s cpu).inside ≡ Some source → is_round (stop_at s source).task.kind ≡ true → (stop_at s source).phase ≡ 3 → acked_by (stop_at s source) cpu < 3
+    → (cpu_at s cpu).inside ≡ Some source → is_round (stop_at s source).task.kind ≡ true → (stop_at s source).phase ≡ RUN → acked_by (stop_at s source) cpu < RUN
     → has (stop_at s source).task.active cpu ≡ true → IsAtRun u es source cpu (stop_at s source).task
 at_run u words es s source cpu run low is round at early active =
     let r = rounds_of u words es s run in
@@ -206,7 +207,7 @@ at_run u words es s source cpu run low is round at early active =
     let w = r.at source low cpu below in
     let i = w.in_stop is in
     let all = w.all round i.member (omega arith) in
-    let two : acked_by (stop_at s source) cpu ≡ 2 = omega arith in
+    let two : acked_by (stop_at s source) cpu ≡ DISABLE_IRQ = omega arith in
     record {
       active = active;
       acked = sym (w.acked_is is) ∙ two;

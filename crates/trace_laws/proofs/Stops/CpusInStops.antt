@@ -4,6 +4,7 @@ use Rattle.trace_laws.proofs.Names.{closed, cpu_at, eq-eqb, false, get_or-set_ot
 use Rattle.trace_laws.proofs.Names.{length, length-set, ne_eqb, refl, slice_index_or, stop_at, sym, true, with_cpu, with_stop, ℕ, ℤ, ◌+◌, ◌<◌, ◌==◌, ◌∙◌, ◌≡◌}
 use Rattle.trace_laws.proofs.Names.{◌≢◌, ◌≤◌, ◌⊎◌}
 use Rattle.trace_laws.proofs.{Calls.StateSteps.cpu_changed, Calls.StateSteps.cpu_kept, Stops.QuietCpus.KeepsRounds}
+use Rattle.smp_words.specs.declared.phase.TheConstants.{DISABLE_IRQ, RUN, EXIT}
 
 -- a stop with phases
 abbrev pub is_round : Kind → Bool
@@ -51,12 +52,12 @@ pub record RoundAt (left_out : Bool) (source cpu : ℕ) (v : Seen) (w : Member) 
   pub in_stop : inside ≡ Some source → IsIn cpu w
   pub is_in : w.is_open ≡ true → w.entered ≡ true → w.answer ≡ None → inside ≡ Some source
   pub out : w.entered ≡ false → IsOut w
-  pub up_to : is_round w.task.kind ≡ true → w.phase ≤ 3 → w.acked ≤ w.phase
-  pub all : is_round w.task.kind ≡ true → has w.task.mask cpu ≡ true → 2 ≤ w.phase → w.phase ≤ w.acked + 1
+  pub up_to : is_round w.task.kind ≡ true → w.phase ≤ RUN → w.acked ≤ w.phase
+  pub all : is_round w.task.kind ≡ true → has w.task.mask cpu ≡ true → DISABLE_IRQ ≤ w.phase → w.phase ≤ w.acked + 1
   pub last : is_some w.raiser ≡ true → has w.task.mask cpu ≡ true → w.phase ≤ w.acked
   pub nobody : left_out ≡ true → w.raiser ≡ None
-  pub answered : is_round w.task.kind ≡ true → w.acked < 4 → w.answer ≡ None
-  pub disabled : inside ≡ Some source → is_round w.task.kind ≡ true → 2 ≤ w.acked → w.acked < 4 → irq ≡ false
+  pub answered : is_round w.task.kind ≡ true → w.acked < EXIT → w.answer ≡ None
+  pub disabled : inside ≡ Some source → is_round w.task.kind ≡ true → DISABLE_IRQ ≤ w.acked → w.acked < EXIT → irq ≡ false
   pub acked_is : inside ≡ Some source → w.acked ≡ v.acked
   pub ran_is : inside ≡ Some source → w.ran ≡ v.ran
 

@@ -11,6 +11,7 @@ use Rattle.trace_model.specs.{Stop.first_phase, Stop.least, Stop.opening}
 use Rattle.trace_laws.proofs.Stops.CpusInStops.{Change, Rounds, StopChange, changed, changed_to, is_round, member_of, put_seen, stop_only}
 use Rattle.trace_laws.proofs.Stops.StopEvents.{actor_below, away_left, away_same, cpu_same, ne_truth, open_below, rounds_end, stop_of_is, through_is, view_same}
 use Rattle.trace_laws.proofs.{Calls.MadeSteps.both_made, Calls.MadeSteps.failed, Calls.MadeSteps.passed}
+use Rattle.smp_words.specs.declared.phase.TheConstants.{EXIT}
 
 abbrev pub ran_seen : Seen → Seen
 ran_seen v = record v { ran = true }
@@ -130,7 +131,7 @@ left_seen v = record v { inside = None }
 
 -- A CPU completes: what is changed.
 completed_change : (seen : ℕ → Seen) (work : ℕ → Option Task) (s : StateValue) (source actor : ℕ) (answer : ℤ) → Rounds seen work s → source < 32
-    → (cpu_at s actor).inside ≡ Some source → (is_round (stop_at s source).task.kind ≡ true → 4 ≤ acked_by (stop_at s source) actor)
+    → (cpu_at s actor).inside ≡ Some source → (is_round (stop_at s source).task.kind ≡ true → EXIT ≤ acked_by (stop_at s source) actor)
     → let stop = stop_at s source in
     Change seen work s source actor left_seen (record stop { answers = slice_set stop.answers actor (Some answer) }) (in_stop None (cpu_at s actor))
 completed_change seen work s source actor answer r low is past =
@@ -179,11 +180,11 @@ completed_change seen work s source actor answer r low is past =
     }
 
 may_complete_past : (kind : Kind) (cpu : ℕ) (irq : Bool) (stop : Stop) (u : Unit {0}) → may_complete kind cpu irq stop ≡ Ok u → is_round kind ≡ true →
-    4 ≤ acked_by stop cpu
+    EXIT ≤ acked_by stop cpu
 may_complete_past kind cpu irq stop u h1 h2 = search (both_made, through_is, arith)
 
 pub completed_is : (stop to : Stop) (cpu : ℕ) (answer : ℤ) (irq : Bool) → completed cpu answer irq stop ≡ Ok to
-    → (is_round stop.task.kind ≡ true → 4 ≤ acked_by stop cpu) × (record stop { answers = slice_set stop.answers cpu (Some answer) } ≡ to)
+    → (is_round stop.task.kind ≡ true → EXIT ≤ acked_by stop cpu) × (record stop { answers = slice_set stop.answers cpu (Some answer) } ≡ to)
 unfolding completed
 completed_is stop to cpu answer irq e =
     let new = record stop { answers = slice_set stop.answers cpu (Some answer) } in

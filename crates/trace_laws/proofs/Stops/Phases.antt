@@ -13,6 +13,7 @@ use Rattle.trace_laws.proofs.Stops.CpusInStops.{stop_only}
 use Rattle.trace_laws.proofs.Stops.StopEvents.{InRound, actor_below, acts_at, away_same, cpu_same, in_round_is, irq_change, irq_changed, ne_truth, rounds_end}
 use Rattle.trace_laws.proofs.Stops.StopEvents.{rounds_seen, stop_of_is, view_same}
 use Rattle.trace_laws.proofs.{Calls.MadeSteps.both_made, Calls.MadeSteps.passed, Stops.Ends.least_none}
+use Rattle.smp_words.specs.declared.phase.TheConstants.{DISABLE_IRQ, RUN, EXIT, OVER}
 
 abbrev pub acked_seen : ℕ → Seen → Seen
 acked_seen phase v = record v { acked = phase }
@@ -82,7 +83,7 @@ acked_member phase w = record w { acked = phase }
 
 here_acked : (left_out : Bool) (source cpu phase : ℕ) (v : Seen) (w : Member) (inside : Option ℕ) (irq irq' : Bool) → inside ≡ Some source →
     w.phase ≡ phase → w.acked < phase
-    → (2 ≤ phase → phase < 4 → irq' ≡ false) → RoundAt left_out source cpu v w inside irq
+    → (DISABLE_IRQ ≤ phase → phase < EXIT → irq' ≡ false) → RoundAt left_out source cpu v w inside irq
     → RoundAt left_out source cpu (acked_seen phase v) (acked_member phase w) inside irq'
 here_acked left_out source cpu phase v w inside irq irq' h1 h2 h3 h4 h5 = search (ne_truth, arith)
 
@@ -97,8 +98,8 @@ with_raiser : (source cpu actor : ℕ) (v : Seen) (w : Member) (inside : Option 
     → RoundAt false source cpu v w inside irq → RoundAt false source cpu v (raiser_member actor w) inside irq
 with_raiser source cpu actor v w inside irq h1 h2 = search arith
 
-grown_low : (phase acked : ℕ) → min (phase + 1) (2 ^ 32 - 1) ≤ 3 → (phase ≤ 3 → acked ≤ phase) → acked ≤ min (phase + 1) (2 ^ 32 - 1)
-grown_low phase acked h f = let low : phase ≤ 3 = omega arith in let g = f low in omega arith
+grown_low : (phase acked : ℕ) → min (phase + 1) (2 ^ 32 - 1) ≤ 3 → (phase ≤ RUN → acked ≤ phase) → acked ≤ min (phase + 1) (2 ^ 32 - 1)
+grown_low phase acked h f = let low : phase ≤ RUN = omega arith in let g = f low in omega arith
 
 grown_all : (phase acked : ℕ) → phase ≤ acked → min (phase + 1) (2 ^ 32 - 1) ≤ acked + 1
 grown_all phase acked h = omega arith
@@ -141,7 +142,7 @@ at_last_long who actor raises stop w h1 = search arith
 -- A CPU acknowledges a phase, and its interrupts are so after it: what is changed.
 ack_change : (seen : ℕ → Seen) (work : ℕ → Option Task) (s : StateValue) (source actor phase : ℕ) (irq : Bool) → Rounds seen work s → source < 32
     → (cpu_at s actor).inside ≡ Some source → (stop_at s source).phase ≡ phase → acked_by (stop_at s source) actor < phase
-    → (2 ≤ phase → phase < 4 → irq ≡ false) → (irq ≡ false → handles_nothing (cpu_at s actor) ≡ Ok tt)
+    → (DISABLE_IRQ ≤ phase → phase < EXIT → irq ≡ false) → (irq ≡ false → handles_nothing (cpu_at s actor) ≡ Ok tt)
     → (s.setting.without.switches ≡ false → irq ≡ (cpu_at s actor).irq)
     → Change seen work s source actor (acked_seen phase) (acknowledged actor phase (not s.setting.without.raises) (stop_at s source)) (with_interrupts irq
     (cpu_at s actor))
@@ -194,7 +195,7 @@ ack_change seen work s source actor phase irq r low is at more off quiet told =
 
 ack_done : (seen : ℕ → Seen) (work : ℕ → Option Task) (s t : StateValue) (source actor phase : ℕ) (irq : Bool) → Rounds seen work s → source < 32
     → (cpu_at s actor).inside ≡ Some source → (stop_at s source).phase ≡ phase → acked_by (stop_at s source) actor < phase
-    → (2 ≤ phase → phase < 4 → irq ≡ false) → (irq ≡ false → handles_nothing (cpu_at s actor) ≡ Ok tt)
+    → (DISABLE_IRQ ≤ phase → phase < EXIT → irq ≡ false) → (irq ≡ false → handles_nothing (cpu_at s actor) ≡ Ok tt)
     → (s.setting.without.switches ≡ false → irq ≡ (cpu_at s actor).irq)
     → changed_to source actor s (acknowledged actor phase (not s.setting.without.raises) (stop_at s source)) (with_interrupts irq (cpu_at s actor)) ≡ t
     → Rounds (put_seen actor (acked_seen phase) seen) work t
@@ -206,7 +207,7 @@ ack_done seen work s t source actor phase irq r low is at more off quiet told sa
 
 -- the interrupts of a CPU that acknowledges RUN or EXIT are off
 off_before : (seen : ℕ → Seen) (work : ℕ → Option Task) (s : StateValue) (source actor phase : ℕ) → Rounds seen work s → InRound s actor source
-    → (stop_at s source).phase ≡ phase → acked_by (stop_at s source) actor < phase → 3 ≤ phase → phase ≤ 4 → (cpu_at s actor).irq ≡ false
+    → (stop_at s source).phase ≡ phase → acked_by (stop_at s source) actor < phase → RUN ≤ phase → phase ≤ EXIT → (cpu_at s actor).irq ≡ false
 off_before seen work s source actor phase h1 h2 h3 h4 h5 h6 = search (actor_below, arith)
 
 irq_false : (irq : Bool) → let ok : Result (Unit {0}) Reason = Ok tt in (if irq then Err reason.InterruptsOn else ok) ≡ ok → irq ≡ false
@@ -224,7 +225,7 @@ disabled_by false s m cpu cpus e = rw cpus e
 
 -- interrupts stay as they are
 ack_same : (seen : ℕ → Seen) (work : ℕ → Option Task) (s t : StateValue) (source actor phase : ℕ) → Rounds seen work s → InRound s actor source
-    → (stop_at s source).phase ≡ phase → acked_by (stop_at s source) actor < phase → (phase ≡ 2 → (cpu_at s actor).irq ≡ false)
+    → (stop_at s source).phase ≡ phase → acked_by (stop_at s source) actor < phase → (phase ≡ DISABLE_IRQ → (cpu_at s actor).irq ≡ false)
     → with_stop source s (acknowledged actor phase (not s.setting.without.raises) (stop_at s source)) ≡ t →
     Rounds (put_seen actor (acked_seen phase) seen) work t
 ack_same seen work s t source actor phase r i at more two same =
@@ -236,8 +237,8 @@ ack_same seen work s t source actor phase r i at more two same =
 
 ack_switched : (seen : ℕ → Seen) (work : ℕ → Option Task) (s t : StateValue) (source actor phase : ℕ) (two four : Bool) → Rounds seen work s →
     InRound s actor source
-    → (stop_at s source).phase ≡ phase → acked_by (stop_at s source) actor < phase → s.setting.without.switches ≡ true → (phase == 2) ≡ two →
-    (phase == 4) ≡ four
+    → (stop_at s source).phase ≡ phase → acked_by (stop_at s source) actor < phase → s.setting.without.switches ≡ true → (phase == DISABLE_IRQ) ≡ two →
+    (phase == EXIT) ≡ four
     → (two ≡ true → handles_nothing (cpu_at s actor) ≡ Ok tt)
     → let m = with_stop source s (acknowledged actor phase (not s.setting.without.raises) (stop_at s source)) in
     (if two then with_irq actor false m else (if four then with_irq actor (not (is_cpu (stop_at m source).raiser actor)) m else m)) ≡ t
@@ -247,7 +248,7 @@ ack_switched seen work s t source actor phase true four r i at more out is_two i
     (ne_truth s.setting.without.switches out told)) same
 ack_switched seen work s t source actor phase false true r i at more out is_two is_four idle same =
     let m = with_stop source s (acknowledged actor phase (not s.setting.without.raises) (stop_at s source)) in
-    let e : phase ≡ 4 = eqb-true phase 4 is_four in
+    let e : phase ≡ EXIT = eqb-true phase EXIT is_four in
     let below = actor_below s actor source r.cpus_are i.inside in
     let off = off_before seen work s source actor phase r i at more (omega arith) (omega arith) in
     ack_done seen work s t source actor phase (not (is_cpu (stop_at m source).raiser actor)) r i.low i.inside at more (λ le lt. absurd (omega arith))
@@ -258,11 +259,11 @@ ack_switched seen work s t source actor phase false false r i at more out is_two
 ack_by_switches : (seen : ℕ → Seen) (work : ℕ → Option Task) (s t : StateValue) (source actor phase : ℕ) (left_out : Bool) → Rounds seen work s →
     InRound s actor source
     → (stop_at s source).phase ≡ phase → acked_by (stop_at s source) actor < phase → s.setting.without.switches ≡ left_out
-    → ((phase == 2) ≡ true → acks_disabled left_out actor s ≡ Ok tt)
+    → ((phase == DISABLE_IRQ) ≡ true → acks_disabled left_out actor s ≡ Ok tt)
     → let m = with_stop source s (acknowledged actor phase (not s.setting.without.raises) (stop_at s source)) in
     (if left_out then switched_at actor source phase m else m) ≡ t → Rounds (put_seen actor (acked_seen phase) seen) work t
 ack_by_switches seen work s t source actor phase true r i at more out shows same =
-    ack_switched seen work s t source actor phase (phase == 2) (phase == 4) r i at more out refl refl (λ e. (disabled_is true actor s (shows e)).1 refl) same
+    ack_switched seen work s t source actor phase (phase == DISABLE_IRQ) (phase == EXIT) r i at more out refl refl (λ e. (disabled_is true actor s (shows e)).1 refl) same
 ack_by_switches seen work s t source actor phase false r i at more out shows same =
     ack_same seen work s t source actor phase r i at more (λ e. (disabled_is false actor s (shows (eq-eqb phase 2 e))).0 refl) same
 
@@ -275,7 +276,7 @@ disabled_in s m cpu cpus set e =
 -- at the state where a patch is known
 ack_from : (seen : ℕ → Seen) (work : ℕ → Option Task) (s m t : StateValue) (source actor phase : ℕ) → InRound s actor source → AckFrom seen work s m source
     → (stop_at s source).phase ≡ phase → acked_by (stop_at s source) actor < phase
-    → ((phase == 2) ≡ true → acks_disabled s.setting.without.switches actor s ≡ Ok tt) → acked actor source phase m ≡ t →
+    → ((phase == DISABLE_IRQ) ≡ true → acks_disabled s.setting.without.switches actor s ≡ Ok tt) → acked actor source phase m ≡ t →
     Rounds (put_seen actor (acked_seen phase) seen) work t
 ack_from seen work s m t source actor phase i f at more shows same =
     let cpus : m.cpus ≡ s.cpus = f.cpus_are in
@@ -296,12 +297,12 @@ ack_rounds seen work s t actor phase r e =
     let source = m.0 in
     let i = in_round_is s actor source m.1.0 in
     let n = both_made (may_ack actor source phase s) (λ x. Ok (acked actor source phase x)) t m.1.1 in
-    let runs = (phase == 3) && has (stop_at s source).task.active actor in
+    let runs = (phase == RUN) && has (stop_at s source).task.active actor in
     let tests : Result StateValue Reason =
-    if phase == 2 then (acks_disabled s.setting.without.switches actor s >>= λ v. Ok s) else (if runs then acks_at_run actor source s else Ok s) in
+    if phase == DISABLE_IRQ then (acks_disabled s.setting.without.switches actor s >>= λ v. Ok s) else (if runs then acks_at_run actor source s else Ok s) in
     let k = both_made (at_phase (stop_at s source) actor phase) (λ u. tests) n.0 n.1.0 in
     let a = acts_at (stop_at s source) actor phase k.0 k.1.0 in
-    let f = from_tests seen work (phase == 2) runs actor source s n.0 r i.low k.1.1 in
+    let f = from_tests seen work (phase == DISABLE_IRQ) runs actor source s n.0 r i.low k.1.1 in
     ack_from seen work s n.0 t source actor phase i f.0 a.1 a.0 f.1 (cc)
 
 -- a CPU raises a phase
@@ -332,10 +333,10 @@ put_same actor seen cpu = search arith
 
 switched_rounds : (seen : ℕ → Seen) (work : ℕ → Option Task) (s t : StateValue) (source actor phase : ℕ) (left_out five : Bool) → Rounds seen work s →
     source < 32
-    → (cpu_at s actor).inside ≡ Some source → s.setting.without.switches ≡ left_out → (phase == 5) ≡ five → phase ≤ acked_by (stop_at s source) actor + 1
+    → (cpu_at s actor).inside ≡ Some source → s.setting.without.switches ≡ left_out → (phase == OVER) ≡ five → phase ≤ acked_by (stop_at s source) actor + 1
     → (if left_out && five then with_irq actor true s else s) ≡ t → Rounds seen work t
 switched_rounds seen work s t source actor phase true true r low is out five at same =
-    let e : phase ≡ 5 = eqb-true phase 5 five in
+    let e : phase ≡ OVER = eqb-true phase OVER five in
     rounds_end seen work (with_irq actor true s) t same
     (rounds_seen (put_seen actor (λ v. v) seen) seen work (with_irq actor true s) (λ cpu below. put_same actor seen cpu)
     (irq_changed seen work s source actor (λ v. v) true r
@@ -369,7 +370,7 @@ raise_rounds seen work s t actor phase r e =
     let new : stop_at u source ≡ to = stop_changed source s to (rw r.stops_are i.low) in
     let acked_same : acked_by (stop_at u source) actor ≡ acked_by stop actor = ap (λ x. acked_by x actor) new in
     let reached : phase ≤ acked_by stop actor + 1 = omega arith in
-    switched_rounds seen work u t source actor phase s.setting.without.switches (phase == 5)
+    switched_rounds seen work u t source actor phase s.setting.without.switches (phase == OVER)
     (stop_only seen work work s source to r (raise_change seen work s source phase r i.low o.0 at) (λ other ne. refl)) i.low i.inside refl refl
     (rw acked_same reached) same
 
@@ -380,8 +381,8 @@ pub record StoresIn (s : StateValue) (cpu : ℕ) : Type 0 where
   pub inside : (cpu_at s cpu).inside ≡ Some source
   pub kind_is : (stop_at s source).task.kind ≡ APatch
   pub active : has (stop_at s source).task.active cpu ≡ true
-  pub early : acked_by (stop_at s source) cpu < 3
-  pub at : (stop_at s source).phase ≡ 3
+  pub early : acked_by (stop_at s source) cpu < RUN
+  pub at : (stop_at s source).phase ≡ RUN
 
 kind_is_patch : (kind : Kind) (source other : ℕ) → if_patch kind source ≡ Ok other → kind ≡ APatch
 kind_is_patch APatch source other e = refl

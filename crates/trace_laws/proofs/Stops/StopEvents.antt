@@ -10,6 +10,7 @@ use Rattle.trace_model.specs.declared.reason.Reason.TheVariants as reason
 use Rattle.trace_model.specs.{Stops.stop_in, Stops.unless_one}
 use Rattle.trace_laws.proofs.Stops.CpusInStops.{Change, Member, RoundAt, Rounds, changed, changed_to, is_round, member_of, put_seen, seen_elsewhere}
 use Rattle.trace_laws.proofs.{Calls.MadeSteps.both_made, Calls.MadeSteps.failed, Calls.MadeSteps.passed}
+use Rattle.smp_words.specs.declared.phase.TheConstants.{EXIT}
 
 -- the stop that a CPU is in
 in_is : (inside : Option ℕ) (cpu source : ℕ) → stop_in inside cpu ≡ Ok source → (inside ≡ Some source) × (source < 32)
@@ -227,7 +228,7 @@ on_seen v = record v { irq = true }
 pub irq_change : (seen : ℕ → Seen) (work : ℕ → Option Task) (s : StateValue) (source actor : ℕ) (f : Seen → Seen) (on : Bool) → Rounds seen work s → source < 32
     → (cpu_at s actor).inside ≡ Some source → (f (seen actor)).inside ≡ (seen actor).inside → (s.setting.without.switches ≡ false → on ≡ (f (seen actor)).irq)
     → (f (seen actor)).acked ≡ (seen actor).acked → (f (seen actor)).ran ≡ (seen actor).ran
-    → (on ≡ false → handles_nothing (cpu_at s actor) ≡ Ok tt) → (on ≡ false ⊎ 4 ≤ acked_by (stop_at s source) actor)
+    → (on ≡ false → handles_nothing (cpu_at s actor) ≡ Ok tt) → (on ≡ false ⊎ EXIT ≤ acked_by (stop_at s source) actor)
     → Change seen work s source actor f (stop_at s source) (with_interrupts on (cpu_at s actor))
 irq_change seen work s source actor f on r low is inside irq acked_kept ran_kept quiet may =
     let below = actor_below s actor source r.cpus_are is in
@@ -281,7 +282,7 @@ off_rounds seen work s t actor r e =
     (irq_changed seen work s m.0 actor off_seen false r
     (irq_change seen work s m.0 actor off_seen false r i.low i.inside refl (λ told. refl) refl refl (λ off. h.1.1) (inl refl)))
 
-pub through_is : (stop : Stop) (cpu : ℕ) (u : Unit {0}) → through stop cpu ≡ Ok u → 4 ≤ acked_by stop cpu
+pub through_is : (stop : Stop) (cpu : ℕ) (u : Unit {0}) → through stop cpu ≡ Ok u → EXIT ≤ acked_by stop cpu
 through_is stop cpu u e =
     let next : Result (Unit {0}) Reason = if is_cpu stop.raiser cpu then Err (reason.PhaseIs stop.phase) else Ok tt in
     let p = failed (nat_lt (acked_by stop cpu) 4) next (reason.NotAcknowledged cpu 4) u e in ltb-false (acked_by stop cpu) 4 p.0

@@ -13,6 +13,7 @@ use Rattle.smp_words.specs.declared.command.Event.TheVariants as turned
 use Rattle.trace_laws.proofs.WholeReplays.AllEvents.{StandsAll, call_stands, reached, reached_stops, start_stands, stop_stands, told_stops}
 use Rattle.trace_laws.proofs.{ReplayCalls.AcceptedCalls.new_stands, ReplayCalls.AcceptedCalls.runs_append, ReplayPatches.PatchEvents.AreEntries}
 use Rattle.trace_laws.specs.{AcceptedReplays.IsOf, AcceptedReplays.ReplaysAreAccepted}
+use Rattle.smp_words.specs.declared.phase.TheConstants.{RUN}
 
 -- What the rest of a replay leaves.
 pub record ReplayedAll (a : CallState) (pasts : List Past) (s : StateValue) (r : Replay) : Type 0 where
@@ -118,7 +119,7 @@ opening_stops u words nr online labels w = record {
     none_some : (j : ℕ) → None ≡ Some j → ⊥
     none_some j e = absurd cc
 
-    three : {n : ℕ} → n ≡ 0 → n ≡ 3 → ⊥
+    three : {n : ℕ} → n ≡ 0 → n ≡ RUN → ⊥
     three e f = absurd (omega arith)
 
 opening_count : (u : Setting) (words : LabelWords) (n : ℕ) → u.keys ≡ n → (opening u words).setting.keys ≡ n
