@@ -53,7 +53,7 @@ struct hold {
 	byte here, next, first, last, func, info, tries;
 };
 
-/* A CPU's words, and where it stands; `calls` is how many its last batch had. */
+/* A CPU's words, and where it stands; `calls` is how many it has turned of its batch. */
 struct cpu {
 	byte head, intr, hand;
 	byte ended, vain;
@@ -270,7 +270,7 @@ static enum outcome step_handle(struct move *m)
 		cpu->head = 0;
 		cpu->calls = 0;
 		return go_turn(m, 0, found);
-	case HANDLE_LEAVE: cpu->hand = 0; return ENDS;
+	case HANDLE_LEAVE: cpu->hand = 0; cpu->calls = 0; return ENDS;
 	case TURN_LOAD: case TURN_STORE: return step_turn(m);
 	default: return cpu->at < ASYNC_NEXT ? step_first(m) : step_second(m);
 	}

@@ -112,10 +112,12 @@ handle_outcome d (handle.BeginAsync call next) found = calling (handle.CountAsyn
 handle_outcome d (handle.CountAsync call next) found = handle_goes (second_on next)
 handle_outcome d handle.Leave found = ends (note.Handled d.calls)
 
--- the drain after the step: each record of the batch is counted as it is reversed
+-- the drain after the step: each record of the batch is counted as it is reversed, until the handling ends
 abbrev pub drain_after : DrainValue → HandleStage → ℕ → DrainValue
+drain_after d handle.LeaveIdle found = no_drain
 drain_after d handle.Take found = no_drain
 drain_after d (handle.ReverseStore newer id older) found = record { calls = d.calls + 1 }
+drain_after d handle.Leave found = no_drain
 drain_after d _ found = d
 
 -- what a step has found is a link to a 32-bit record, or a 16-bit function, where it loads one

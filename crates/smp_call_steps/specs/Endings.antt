@@ -1,8 +1,10 @@
--- Where a command ends, what the note of each step is, and when a handling is idle.
+-- Where a command ends, what it keeps, what the note of each step is, and when a handling is idle.
 use Rattle.std.specs.Prelude.{◌≡◌, ◌≢◌, ℕ, ◌%◌, ◌==◌, Bool, true, false, ◌||◌, not, Option, Some, None}
 use Rattle.smp_words.specs.{Commands.Either, Commands.Follows, Size.owner}
-use Rattle.smp_call_steps.specs.Drains.{DrainValue}
-use Rattle.smp_call_steps.specs.Stages.{outcome_of}
+use Rattle.smp_call_steps.specs.Drains.{DrainValue, no_drain}
+use Rattle.smp_call_steps.specs.Stages.{ControlValue, control_after, outcome_of}
+use Rattle.smp_call_steps.specs.Start.{control_at}
+use Rattle.smp_call_steps.specs.Value.{outside}
 use Rattle.smp_call_steps.specs.Names.{Note, Call, Stage, Send, Done, Post, Handle}
 use Rattle.smp_call_steps.specs.Names.note
 use Rattle.smp_call_steps.specs.Names.post
@@ -32,6 +34,21 @@ IsSameCommand _ _ = ⊥
 
 abbrev pub CommandsEndSo : Type 0
 CommandsEndSo = (d : DrainValue) (stage : Stage) (found : ℕ) → Follows IsSameCommand stage (ends_here stage found) (outcome_of d stage found).next
+
+-- outside a handling no count of a batch is kept
+abbrev pub KeepsNoCount : Option Stage → DrainValue → Type 0
+KeepsNoCount (Some (Handle stage)) d = Unit {0}
+KeepsNoCount _ d = d ≡ no_drain
+
+-- a command begins with no count
+abbrev pub CommandsBeginUncounted : Type 0
+CommandsBeginUncounted = (c : ControlValue) (stage : Option Stage) → c ≡ outside →
+    KeepsNoCount (control_at c stage).stage (control_at c stage).drain
+
+-- each step leaves one only inside a handling
+abbrev pub CountsEndWithHandlings : Type 0
+CountsEndWithHandlings = (c : ControlValue) (stage : Stage) (found : ℕ) → KeepsNoCount (Some stage) c.drain →
+    KeepsNoCount (control_after c stage found).stage (control_after c stage found).drain
 
 -- the note of a call as its function begins to run
 abbrev pub runs_note : Call → Option Note

@@ -31,6 +31,10 @@ accepted_known pending v = record v {
 abbrev pub taken_known : List Call → Option ℕ → Known → Known
 taken_known queue newest v = record v { stage = Some (Handle (reverse_on None newest)); drain = no_drain; part = part_taken queue v.part }
 
+-- a CPU that has left handle
+abbrev pub left_known : Known → Known
+left_known v = record v { stage = None; drain = no_drain }
+
 -- a CPU's part while this call runs, the front of its batch
 abbrev pub runs_next : Running → Part → Part
 runs_next running p = record p { batch = rest_of p.batch; running = running }

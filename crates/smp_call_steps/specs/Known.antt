@@ -68,6 +68,7 @@ fresh k me = record {
   tried = 0;
   heads = [];
   log = [];
+  direct = [];
   steps = 0;
   sent_at = 0;
   asked_at = 0;
@@ -283,9 +284,9 @@ queued_known call to first link v = record v {
   asked_at = length v.part.asked;
 }
 
--- a CPU that has noted a direct call, by one step of which nothing else is told
+-- a CPU that has noted a direct call, by no step
 abbrev pub noted_known : Known → Known
-noted_known v = record v { log = v.log ++ logged.Called v.steps (length v.part.asked) ∷ []; steps = v.steps + 1 }
+noted_known v = record v { direct = v.direct ++ record { steps = v.steps; asked = length v.part.asked; logged = length v.log } ∷ [] }
 
 -- whether it has seen its record confirmed
 abbrev pub is_confirmed : Known → ℕ → Bool

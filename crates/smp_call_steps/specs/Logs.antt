@@ -32,7 +32,6 @@ abbrev pub Sends : Option Logged → CallState → CallState → Type 0
 Sends None a b = SendsNothing a b
 Sends (Some (logged.Queued to)) a b = SendsCall a b to
 Sends (Some (logged.Interrupted to)) a b = SendsInterrupt a b to
-Sends (Some (logged.Called steps asked)) a b = ⊥
 
 -- a log and what is logged next, if anything
 abbrev pub log_with : Option Logged → List Logged → List Logged
@@ -45,14 +44,14 @@ sent_with None now before = before
 sent_with (Some x) now before = now
 
 -- by each step that a CPU may make its log grows by what the step has sent, and by nothing else; and where the step has sent
--- something, its number of steps and of takes of its interrupt word is kept
+-- something, its number of steps and of takes of its interrupt word is kept. No step notes a direct call
 abbrev pub LogsTell : Type 0
 LogsTell = (a : CallState) (at : Word → ℕ) (control : ℕ → ControlValue) (v : Known) → Shows a at control → Sees a control v →
     (stage : Stage) → MayStep v stage → (access : Access) → known_access v stage ≡ access →
     let seen = seen_of v.number access (at (word_of access)) None in
     let after = known_tells (a.queue v.number) v seen in
     (sent : Option Logged) × (after.log ≡ log_with sent v.log) × Sends sent a (tells a seen) × (after.sent_at ≡ sent_with sent after.steps v.sent_at)
-    × (after.asked_at ≡ sent_with sent (length v.part.asked) v.asked_at)
+    × (after.asked_at ≡ sent_with sent (length v.part.asked) v.asked_at) × (after.direct ≡ v.direct)
 
 -- what a step sees of a head, by its access and the number that it finds
 abbrev pub head_in : Access → ℕ → Option HeadSeen

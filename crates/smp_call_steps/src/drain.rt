@@ -62,7 +62,10 @@ impl Drain {
             } else {
                 HandleStage::Take
             }),
-            HandleStage::LeaveIdle => Outcome::end(Note::Idle),
+            HandleStage::LeaveIdle => {
+                self.calls = 0;
+                Outcome::end(Note::Idle)
+            }
             HandleStage::Take => {
                 self.calls = 0;
                 go_on(reverse_on(None, linked(found)))
@@ -149,7 +152,11 @@ impl Drain {
                 calls(HandleStage::CountAsync { call, next }, call)
             }
             HandleStage::CountAsync { call: _, next } => go_on(second_on(next)),
-            HandleStage::Leave => Outcome::end(Note::Handled(self.calls)),
+            HandleStage::Leave => {
+                let calls = self.calls;
+                self.calls = 0;
+                Outcome::end(Note::Handled(calls))
+            }
         }
     }
 }

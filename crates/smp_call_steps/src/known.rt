@@ -26,15 +26,22 @@ pub struct Sending {
     pub is_first: bool,
 }
 
-/// What a CPU has sent to another one, or has run itself with no queue.
+/// What a CPU has sent to another one.
 pub enum Logged {
     /// A call, into this CPU's queue.
     Queued(u32),
     /// An interrupt, to this CPU.
     Interrupted(u32),
-    /// A direct call: how many steps outside `handle` the CPU had made by then, and how often it had taken its interrupt
-    /// word.
-    Called { steps: u64, asked: u64 },
+}
+
+/// When a CPU has run a function itself, with no queue.
+pub struct DirectCall {
+    /// How many steps outside `handle` it had made by then.
+    pub steps: u64,
+    /// How often it had taken its interrupt word.
+    pub asked: u64,
+    /// How many calls it had queued and interrupts it had sent.
+    pub logged: u64,
 }
 
 /// What a CPU has seen of a head.
@@ -96,9 +103,10 @@ pub struct Known {
     pub tried: u64,
     /// What its posts have found in heads, by loads and by compare-exchanges, in order.
     pub heads: LinkedList<HeadSeen>,
-    /// The calls that it has queued, the interrupts that it has sent and its direct calls that were noted, in the order in
-    /// which it did so.
+    /// The calls that it has queued and the interrupts that it has sent, in the order in which it did so.
     pub log: LinkedList<Logged>,
+    /// Its direct calls, in order.
+    pub direct: LinkedList<DirectCall>,
     /// How many steps it has made outside `handle`.
     pub steps: u64,
     /// How many of these it had made when it last queued a call or sent an interrupt, that step included.

@@ -108,7 +108,7 @@ pub fn confirmed_calls_have_run()
 ghost use Rattle.smp_call_steps.specs.StepLaws.{OfEachStep, IsPremised, KeepsRecords, KeepsFunctions, KeepsQueues, NoteHolds, TriesGoOn};
 ghost use Rattle.smp_call_steps.specs.StepLaws.{KnownStepsKeepLaws};
 ghost use Rattle.smp_call_steps.specs.Begins.{CommandsBeginSo, PostsStay, PostsQueueTheirCalls, PostsTryAsOften, NotesEndCommands};
-ghost use Rattle.smp_call_steps.specs.Endings.{CommandsEndSo, NotesAreOfTheFound, IdleWithoutInterrupt};
+ghost use Rattle.smp_call_steps.specs.Endings.{CommandsBeginUncounted, CommandsEndSo, CountsEndWithHandlings, NotesAreOfTheFound, IdleWithoutInterrupt};
 ghost use Rattle.smp_call_steps.specs.Touches.{WordsInOrder};
 ghost use Rattle.smp_call_steps.specs.Refusals.{RefusalsAreOfTheNumbers};
 ghost use Rattle.smp_call_steps.specs.Drained.{DrainedRunsAll, QueuesAreShort};
@@ -192,6 +192,13 @@ pub fn notes_end_commands()
 /// follows. So a post that finds its record locked ends, and so does one whose tries are used up.
 pub fn commands_end_so()
     ensures { CommandsEndSo }
+{}
+
+/// The count of a batch is kept only while it is handled: none outside a command, and none in another command than `handle`. So
+/// where a CPU is outside a command tells nothing of the calls that it has run.
+pub fn counts_end_with_handlings()
+    ensures begin { CommandsBeginUncounted }
+    ensures step { CountsEndWithHandlings }
 {}
 
 /// The note of a step says what the step has found: `busy` and `locked` a locked record, `nocpu` a CPU that is not online,

@@ -6,12 +6,12 @@ use Rattle.smp_words.specs.declared.call.Class.{Class}
 use Rattle.smp_call_steps.specs.Heads.{Found, times_lost}
 use Rattle.smp_call_steps.specs.declared.known.Logged.{Logged}
 use Rattle.smp_call_steps.specs.declared.known.Logged.TheVariants as logged
-use Rattle.smp_queue.specs.Cpu.{CpuValue, posts, sends}
+use Rattle.smp_queue.specs.Cpu.{CpuValue, posts, sends, notes_call}
 use Rattle.smp_queue.specs.declared.handler.Heard.{Heard}
 use Rattle.smp_calls.specs.Families.{Leaves, Awaits, IsLast, owes_at}
 use Rattle.smp_calls.specs.Queued.{Queued, destinations, interrupts_to}
 use Rattle.smp_calls.specs.Rounds.{Sends, only_if, noted_if}
-use Rattle.smp_calls.specs.Turns.{LooksFor, MakesMore, HasTurns}
+use Rattle.smp_calls.specs.Turns.{LooksFor, counted, MakesMore, HasTurns}
 use Rattle.smp_calls.proofs.One.{sent_one}
 use Rattle.smp_calls.proofs.Round.{destinations-append}
 
@@ -102,20 +102,20 @@ module _ {H : Type 0} (leads : H → Heard → H → Type 0) where
   pub turns_left : {old mid new : CpuValue} {before m : H} {d : ℕ → Bool} (k to : ℕ) (class : Class) (func info : ℕ) (wait : Bool) → wait ≡ false →
       Leaves leads old before mid m [] [] (owes_at old) d → Awaits k old before mid m →
       (first : Bool) × (found : Found) × (new ≡ sent_one k to class func info first found mid) →
-      HasTurns old new 1 wait false
+      HasTurns old new 1 wait
   turns_left {old} {mid} {new} k to class func info wait w l a q =
       let sent = done_one k to class func info q.0 q.1 mid new q.2 in
       let all = makes_then old mid new 1 5 (makes_looked old mid 1 (looks_once a) l.log_is) sent.more in
       let steps = sent.steps_are in
       let asked = sent.asked_are in
-      subst (λ (b : Bool). HasTurns old new 1 b false) (sym w) (record { all = all; since = λ some. omega arith })
+      subst (λ (b : Bool). HasTurns old new 1 b) (sym w) (record { all = all; since = λ some. omega arith })
 
   -- waited for
   pub turns_waited : {old mid sent new : CpuValue} {before m after : H} {d e : ℕ → Bool} (k to : ℕ) (class : Class) (func info : ℕ) (wait : Bool)
       → wait ≡ true → Leaves leads old before mid m [] [] (owes_at old) d → Awaits k old before mid m →
       (first : Bool) × (found : Found) × (sent ≡ sent_one k to class func info first found mid) →
       Leaves leads sent m new after [] [] (owes_at sent) e → Awaits k sent m new after →
-      HasTurns old new 1 wait false
+      HasTurns old new 1 wait
   turns_waited {old} {mid} {sent} {new} k to class func info wait w l a q r b =
       let done = done_one k to class func info q.0 q.1 mid sent q.2 in
       let all = makes_then old sent new 6 1 (makes_then old mid sent 1 5 (makes_looked old mid 1 (looks_once a) l.log_is) done.more)
@@ -125,7 +125,7 @@ module _ {H : Type 0} (leads : H → Heard → H → Type 0) where
       let sent_at = (r.still refl).0 in
       let asked_at = (r.still refl).1 in
       let turns = b.turns in
-      subst (λ (x : Bool). HasTurns old new 1 x false) (sym w) (record { all = all; since = λ some. omega arith })
+      subst (λ (x : Bool). HasTurns old new 1 x) (sym w) (record { all = all; since = λ some. omega arith })
 
 -- ---- calls to many
 
@@ -164,35 +164,11 @@ makes_sends old mid new n xs f s =
     ∙ ap (λ (n : ℕ). length mid.log + n) (interrupts_to-length xs)) in
     omega arith
 
--- a direct call, if any
-record Noted (c d : CpuValue) (here : Bool) : Type 0 where
-  more : MakesMore c d 0
-  steps_are : d.steps ≡ c.steps + cond here 1 0
-  asked_are : length d.part.asked ≡ length c.part.asked
-  sent_at_is : d.sent_at ≡ c.sent_at
-  asked_at_is : d.asked_at ≡ c.asked_at
-
-noted : (c d : CpuValue) (here : Bool) (heard : Heard) → d ≡ noted_if (cond here (Some heard) None) c → Noted c d here
-noted c d true heard e =
-    let steps : d.steps ≡ c.steps + 1 = ap (λ (x : CpuValue). x.steps) e in
-    let tried : d.tried ≡ c.tried = ap (λ (x : CpuValue). x.tried) e in
-    let asked : length d.part.asked ≡ length c.part.asked = ap (λ (x : CpuValue). length x.part.asked) e in
-    let log : length d.log ≡ length c.log + 1 = ap (λ (x : CpuValue). length x.log) e
-    ∙ length-append c.log (logged.Called c.steps (length c.part.asked) ∷ []) in
-    record {
-      more = omega arith;
-      steps_are = steps;
-      asked_are = asked;
-      sent_at_is = ap (λ (x : CpuValue). x.sent_at) e;
-      asked_at_is = ap (λ (x : CpuValue). x.asked_at) e;
-    }
-noted c d false heard e = record {
-  more = subst (λ (x : CpuValue). MakesMore c x 0) (sym e) (makes_none c);
-  steps_are = ap (λ (x : CpuValue). x.steps) e ∙ omega arith;
-  asked_are = ap (λ (x : CpuValue). length x.part.asked) e;
-  sent_at_is = ap (λ (x : CpuValue). x.sent_at) e;
-  asked_at_is = ap (λ (x : CpuValue). x.asked_at) e;
-}
+-- a direct call, if any, counts for nothing
+noted_same : {A : Type 0} (part : CpuValue → A) → ((c : CpuValue) → part (notes_call c) ≡ part c) → (c d : CpuValue) (here : Bool) (heard : Heard)
+    → d ≡ noted_if (cond here (Some heard) None) c → part d ≡ part c
+noted_same part same c d true heard e = ap part e ∙ same c
+noted_same part same c d false heard e = ap part e
 
 -- where a call was queued, nothing was done since the last call or interrupt
 last_of_some : (old new : CpuValue) (xs : List ℕ) → length xs ≢ 0 → IsLast old new xs → (new.steps ≡ new.sent_at) × (length new.part.asked ≡ new.asked_at)
@@ -202,11 +178,13 @@ last_of_some old new (x ∷ xs) some last = last
 -- calls are queued, a direct call is made, if any, and the calls are waited for or not
 pub turns_many : (old queued mid new : CpuValue) (here wait : Bool) (heard : Heard) (to : List ℕ) → MakesMore old queued (6 * length to)
     → IsLast old queued to → mid ≡ noted_if (cond here (Some heard) None) queued → LooksFor mid new (cond wait (length to) 0)
-    → new.log ≡ mid.log ++ [] → (new.sent_at ≡ mid.sent_at) × (new.asked_at ≡ mid.asked_at) → HasTurns old new (length to) wait here
+    → new.log ≡ mid.log ++ [] → (new.sent_at ≡ mid.sent_at) × (new.asked_at ≡ mid.asked_at) → HasTurns old new (length to) wait
 turns_many old queued mid new here wait heard to f last n looks log still =
-    let note = noted queued mid here heard n in
     let waits = cond wait (length to) 0 in
-    let first = makes_then old queued mid (6 * length to) 0 f note.more in
+    let steps : mid.steps ≡ queued.steps = noted_same (λ c. c.steps) (λ _. refl) queued mid here heard n in
+    let asked : length mid.part.asked ≡ length queued.part.asked = noted_same (λ c. length c.part.asked) (λ _. refl) queued mid here heard n in
+    let same : counted mid ≡ counted queued = noted_same counted (λ _. refl) queued mid here heard n in
+    let first : MakesMore old mid (6 * length to) = omega (arith, f, same, steps) in
     let rest = makes_looked mid new waits looks log in
     record {
       all = omega (arith, first, rest);
@@ -214,10 +192,8 @@ turns_many old queued mid new here wait heard to f last n looks log still =
           let done = last_of_some old queued to some last in
           let d0 = done.0 in
           let d1 = done.1 in
-          let steps = note.steps_are in
-          let asked = note.asked_are in
-          let sent_at = note.sent_at_is in
-          let asked_at = note.asked_at_is in
+          let sent_at : mid.sent_at ≡ queued.sent_at = noted_same (λ c. c.sent_at) (λ _. refl) queued mid here heard n in
+          let asked_at : mid.asked_at ≡ queued.asked_at = noted_same (λ c. c.asked_at) (λ _. refl) queued mid here heard n in
           let s0 = still.0 in
           let s1 = still.1 in
           let t = looks.turns in

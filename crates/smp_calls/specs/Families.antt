@@ -27,8 +27,8 @@ abbrev pub owes_at : CpuValue → ℕ → Bool
 owes_at c other = slice_index_or c.part.owes other false
 
 -- a CPU has sent these calls, has logged this, now owes these interrupts and has seen these of its records confirmed, and has made a
--- compare-exchange at least for each call; else it has only handled. Where it has logged nothing, its last call or interrupt is
--- still the one before
+-- compare-exchange at least for each call; else it has only handled, and it has made no direct call. Where it has logged
+-- nothing, its last call or interrupt is still the one before
 pub record Leaves {H : Type 0} (leads : H → Heard → H → Type 0) (old : CpuValue) (before : H) (new : CpuValue) (after : H) (sent : List Sending)
     (log : List Logged) (owes confirmed : ℕ → Bool) : Type 0 where
   pub table_is : new.table ≡ old.table
@@ -38,6 +38,7 @@ pub record Leaves {H : Type 0} (leads : H → Heard → H → Type 0) (old : Cpu
   pub owes_sized : length new.part.owes ≡ length old.part.owes
   pub sent_is : new.part.sent ≡ old.part.sent ++ sent
   pub log_is : new.log ≡ old.log ++ log
+  pub direct_is : new.direct ≡ old.direct
   pub tried : old.tried + length sent ≤ new.tried
   pub still : log ≡ [] → (new.sent_at ≡ old.sent_at) × (new.asked_at ≡ old.asked_at)
   pub owes_are : (c : ℕ) → owes_at new c ≡ owes c
@@ -60,8 +61,9 @@ IsLast old new [] = (new.steps ≡ old.steps) × (length new.part.asked ≡ leng
 IsLast old new (to ∷ others) = (new.steps ≡ new.sent_at) × (length new.part.asked ≡ new.asked_at)
 
 -- the same, and a direct call: when that is made, all calls are queued and all interrupts sent, no record that was used is seen
--- confirmed, and nothing was done since; after it the CPU only waits. The log of the end tells the place: the direct call comes
--- after these calls and interrupts, and it has the number of steps and of takes of the interrupt word that the last of them had
+-- confirmed, and nothing was done since; after it the CPU only waits. The last entry of the direct calls at the end tells the
+-- place: it has the whole log, so it comes after these calls and interrupts, and the number of steps and of takes of the
+-- interrupt word that the last of them had
 pub record CallsAndHere {H : Type 0} (leads : H → Heard → H → Type 0) (old : CpuValue) (before : H) (new : CpuValue) (after : H) (call : ℕ → Call)
     (queued : List Queued) (heard : Heard) (wait : Bool) : Type 0 where
   pub middle : CpuValue
@@ -103,17 +105,18 @@ pub record Awaits {H : Type 0} (k : ℕ) (old : CpuValue) (before : H) (new : Cp
   pub tried_is : new.tried ≡ old.tried
   pub at_once : confirmed_at old k ≡ true → (new ≡ looks (confirms k old)) × (after ≡ before)
 
--- the same, and then its function on the CPU itself: that is all that it does after it has waited, and without wait it has
--- handled only while its async record was busy
+-- the same, and then its function on the CPU itself: that direct call is all that it does after it has waited, and without wait
+-- it has handled only while its async record was busy
 abbrev pub CallsHere : {H : Type 0} → (H → Heard → H → Type 0) → CpuValue → H → CpuValue → H → ℕ → ℕ → Bool → Type 0
 CallsHere {H = H} leads old before new after func info wait =
-    (called : H) × QueuesNone leads old before new called wait × leads called (heard old.number func info) after ×
-    (wait ≡ false → Awaits 1 old before new called)
+    (waited : CpuValue) × (called : H) × QueuesNone leads old before waited called wait × (new ≡ notes_call waited)
+    × leads called (heard old.number func info) after × (wait ≡ false → Awaits 1 old before waited called)
 
 -- a call by a record of the user, on the CPU itself: the record was seen confirmed by one step, and nothing else was done
+-- before the direct call
 abbrev pub CallsUserHere : {H : Type 0} → (H → Heard → H → Type 0) → CpuValue → H → CpuValue → H → ℕ → ℕ → ℕ → Type 0
 CallsUserHere leads old before new after u func info =
-    (new ≡ looks (confirms (user_record u) old)) × leads before (heard old.number func info) after
+    (new ≡ notes_call (looks (confirms (user_record u) old))) × leads before (heard old.number func info) after
 
 -- a CPU has handled nothing
 pub record HandlesNone (old new : CpuValue) : Type 0 where

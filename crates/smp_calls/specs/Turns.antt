@@ -8,7 +8,7 @@ pub record LooksFor (old new : CpuValue) (waits : ℕ) : Type 0 where
   pub tried_is : new.tried ≡ old.tried
 
 -- steps that a CPU's value counts: a look for each take of its interrupt word, two steps for each compare-exchange of a head, and
--- one for each call, interrupt and direct call of its log
+-- one for each call and interrupt of its log
 abbrev pub counted : CpuValue → ℕ
 counted c = length c.part.asked + (2 * c.tried + length c.log)
 
@@ -19,8 +19,7 @@ MakesMore old new more = new.steps + counted old ≡ (old.steps + counted new) +
 -- a family has called this many CPUs through their queues. For each it has made six steps that its value does not count: the look
 -- that ended the wait for the record, and five of the post. With wait it has made one more for each, the look that ended the wait
 -- for the call. Since its last call or interrupt it has looked once for each take of its interrupt word, and once for each call
--- that it waited for; and it has noted a direct call, if there is one
-pub record HasTurns (old new : CpuValue) (calls : ℕ) (wait here : Bool) : Type 0 where
+-- that it waited for. A direct call makes no step
+pub record HasTurns (old new : CpuValue) (calls : ℕ) (wait : Bool) : Type 0 where
   pub all : MakesMore old new (6 * calls + (if wait then calls else 0))
-  pub since : calls ≢ 0 →
-      new.steps + new.asked_at ≡ new.sent_at + (length new.part.asked + ((if wait then calls else 0) + (if here then 1 else 0)))
+  pub since : calls ≢ 0 → new.steps + new.asked_at ≡ new.sent_at + (length new.part.asked + (if wait then calls else 0))

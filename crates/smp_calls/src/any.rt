@@ -1,7 +1,7 @@
 //! A call to any CPU of a mask.
 
 ghost use Rattle.std.specs.Prelude.{◌≡◌, ◌≢◌, true, false, None, [], ◌∷◌, IfOk, IfErr, IfNone, IfSome};
-ghost use Rattle.smp_queue.specs.Cpu.{confirmed_at};
+ghost use Rattle.smp_queue.specs.Cpu.{confirmed_at, notes_call};
 ghost use Rattle.smp_queue.specs.Handling.{heard};
 ghost use Rattle.smp_calls.specs.Targets.{IsAny, HasNone};
 ghost use Rattle.smp_calls.specs.Records.{call_by, single_record as single_record_in};
@@ -49,11 +49,11 @@ pub fn call_any<A: Allocator, R: Wait, H: Handler>(
     ensures any { IfOk result (λ cpu. IsAny mask table.now.online me.old.number cpu) }
     ensures queued { IfOk result (λ cpu. cpu ≢ me.old.number → CallsOne H.leads me.old handler.old me.new handler.new cpu func info wait) }
     ensures here { IfOk result (λ cpu. cpu ≡ me.old.number → CallsHere H.leads me.old handler.old me.new handler.new func info wait) }
-    ensures at_once { IfOk result (λ cpu. wait ≡ true → cpu ≡ me.old.number → (me.new ≡ me.old)
+    ensures at_once { IfOk result (λ cpu. wait ≡ true → cpu ≡ me.old.number → (me.new ≡ notes_call me.old)
         × H.leads handler.old (heard me.old.number func info) handler.new) }
     ensures freed { IfOk result (λ cpu. wait ≡ false → cpu ≡ me.old.number → confirmed_at me.new 1 ≡ true) }
     ensures refused { IfErr result (λ e. (e ≡ SmpError.NoCpu) × HasNone mask table.now.online me.old.number × (me.new ≡ me.old) × (handler.new ≡ handler.old)) }
-    ensures turns { IfOk result (λ cpu. cpu ≢ me.old.number → HasTurns me.old me.new 1 wait false) }
+    ensures turns { IfOk result (λ cpu. cpu ≢ me.old.number → HasTurns me.old me.new 1 wait) }
     ensures ended { IfOk result (λ cpu. wait ≡ true → cpu ≢ me.old.number →
         HaveEnded me.new (λ _. call_by me.old.number (single_record_in true) Class.Sync func info) (cpu ∷ [])) }
 {

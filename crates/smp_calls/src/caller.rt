@@ -5,7 +5,7 @@ ghost use Rattle.smp_mask.specs.Mask.{has, members};
 ghost use Rattle.smp_words.specs.Size.{cpus};
 ghost use Rattle.smp_words.specs.declared.call.Call.{Call};
 ghost use Rattle.smp_call_steps.specs.Order.{order};
-ghost use Rattle.smp_queue.specs.Cpu.{confirmed_at};
+ghost use Rattle.smp_queue.specs.Cpu.{confirmed_at, notes_call};
 ghost use Rattle.smp_queue.specs.Handling.{Grows, asks, drains, heard};
 ghost use Rattle.smp_queue.specs.Laws.{IsShown};
 ghost use Rattle.smp_calls.specs.Records.{call_by, many_call, single_record, user_record, class_for};
@@ -106,7 +106,7 @@ impl<'a, A: Allocator, R: Wait, H: Handler + Drop> Caller<'a, A, R, H> {
             × CallsOne H.leads self.old.cpu self.old.handler self.new.cpu self.new.handler dst func info wait) }
         ensures here { IfOk result (λ _. dst ≡ self.old.cpu.number →
             CallsHere H.leads self.old.cpu self.old.handler self.new.cpu self.new.handler func info wait) }
-        ensures at_once { IfOk result (λ _. wait ≡ true → dst ≡ self.old.cpu.number → (self.new.cpu ≡ self.old.cpu)
+        ensures at_once { IfOk result (λ _. wait ≡ true → dst ≡ self.old.cpu.number → (self.new.cpu ≡ notes_call self.old.cpu)
             × H.leads self.old.handler (heard self.old.cpu.number func info) self.new.handler) }
         ensures stays { IfErr result (λ _. wait ≡ true → (self.new.cpu ≡ self.old.cpu) × (self.new.handler ≡ self.old.handler)) }
         ensures freed { IfOk result (λ _. wait ≡ false → dst ≡ self.old.cpu.number → confirmed_at self.new.cpu 1 ≡ true) }
@@ -114,7 +114,7 @@ impl<'a, A: Allocator, R: Wait, H: Handler + Drop> Caller<'a, A, R, H> {
             × Awaits 1 self.old.cpu self.old.handler self.new.cpu self.new.handler) }
         ensures refused { IfErr result (λ e. (e ≡ SmpError.NoCpu) × (dst ≢ self.old.cpu.number) × (has self.old.table.now.online dst ≡ false)
             × QueuesNone H.leads self.old.cpu self.old.handler self.new.cpu self.new.handler wait) }
-        ensures turns { IfOk result (λ _. dst ≢ self.old.cpu.number → HasTurns self.old.cpu self.new.cpu 1 wait false) }
+        ensures turns { IfOk result (λ _. dst ≢ self.old.cpu.number → HasTurns self.old.cpu self.new.cpu 1 wait) }
         ensures ended { IfOk result (λ _. wait ≡ true → dst ≢ self.old.cpu.number →
             HaveEnded self.new.cpu (λ _. call_by self.old.cpu.number (single_record true) Class.Sync func info) (dst ∷ [])) }
         ensures table { self.new.table.now ≡ self.old.table.now }
@@ -182,12 +182,12 @@ impl<'a, A: Allocator, R: Wait, H: Handler + Drop> Caller<'a, A, R, H> {
             CallsOne H.leads self.old.cpu self.old.handler self.new.cpu self.new.handler cpu func info wait) }
         ensures here { IfOk result (λ cpu. cpu ≡ self.old.cpu.number →
             CallsHere H.leads self.old.cpu self.old.handler self.new.cpu self.new.handler func info wait) }
-        ensures at_once { IfOk result (λ cpu. wait ≡ true → cpu ≡ self.old.cpu.number → (self.new.cpu ≡ self.old.cpu)
+        ensures at_once { IfOk result (λ cpu. wait ≡ true → cpu ≡ self.old.cpu.number → (self.new.cpu ≡ notes_call self.old.cpu)
             × H.leads self.old.handler (heard self.old.cpu.number func info) self.new.handler) }
         ensures freed { IfOk result (λ cpu. wait ≡ false → cpu ≡ self.old.cpu.number → confirmed_at self.new.cpu 1 ≡ true) }
         ensures refused { IfErr result (λ e. (e ≡ SmpError.NoCpu) × HasNone mask self.old.table.now.online self.old.cpu.number
             × (self.new.cpu ≡ self.old.cpu) × (self.new.handler ≡ self.old.handler)) }
-        ensures turns { IfOk result (λ cpu. cpu ≢ self.old.cpu.number → HasTurns self.old.cpu self.new.cpu 1 wait false) }
+        ensures turns { IfOk result (λ cpu. cpu ≢ self.old.cpu.number → HasTurns self.old.cpu self.new.cpu 1 wait) }
         ensures ended { IfOk result (λ cpu. wait ≡ true → cpu ≢ self.old.cpu.number →
             HaveEnded self.new.cpu (λ _. call_by self.old.cpu.number (single_record true) Class.Sync func info) (cpu ∷ [])) }
         ensures table { self.new.table.now ≡ self.old.table.now }
@@ -212,7 +212,7 @@ impl<'a, A: Allocator, R: Wait, H: Handler + Drop> Caller<'a, A, R, H> {
     pub fn call_many(&mut self, mask: CpuMask, func: u16, info: u64, wait: bool) -> CpuMask
         ensures targets { (c : ℕ) → has result c ≡ is_target mask self.old.table.now.online self.old.cpu.number false c }
         ensures calls { CallsMany H.leads self.old.cpu self.old.handler self.new.cpu self.new.handler (members result) (class_for wait) func info None wait }
-        ensures turns { HasTurns self.old.cpu self.new.cpu (length (members result)) wait false }
+        ensures turns { HasTurns self.old.cpu self.new.cpu (length (members result)) wait }
         ensures ended { wait ≡ true → HaveEnded self.new.cpu (many_call self.old.cpu.number Class.Sync func info) (members result) }
         ensures table { self.new.table.now ≡ self.old.table.now }
     {
@@ -245,7 +245,7 @@ impl<'a, A: Allocator, R: Wait, H: Handler + Drop> Caller<'a, A, R, H> {
         ensures picks { Picks (λ c answer. C.post cond.now c info answer) (is_target mask self.old.table.now.online self.old.cpu.number true) result }
         ensures calls { CallsMany H.leads self.old.cpu self.old.handler self.new.cpu self.new.handler (remote self.old.cpu.number result) (class_for wait)
             func info (if has result self.old.cpu.number then Some (heard self.old.cpu.number func info) else None) wait }
-        ensures turns { HasTurns self.old.cpu self.new.cpu (length (remote self.old.cpu.number result)) wait (has result self.old.cpu.number) }
+        ensures turns { HasTurns self.old.cpu self.new.cpu (length (remote self.old.cpu.number result)) wait }
         ensures ended { wait ≡ true → HaveEnded self.new.cpu (many_call self.old.cpu.number Class.Sync func info) (remote self.old.cpu.number result) }
         ensures table { self.new.table.now ≡ self.old.table.now }
     {

@@ -29,7 +29,7 @@ impl<'a, A: Allocator, R: Wait, H: Handler + Drop> Caller<'a, A, R, H> {
         ensures targets { (c : ℕ) → has result c ≡ is_target mask self.old.table.now.online self.old.cpu.number true c }
         ensures calls { CallsMany H.leads self.old.cpu self.old.handler self.new.cpu self.new.handler (remote self.old.cpu.number result) (class_for wait)
             func info (if has result self.old.cpu.number then Some (heard self.old.cpu.number func info) else None) wait }
-        ensures turns { HasTurns self.old.cpu self.new.cpu (length (remote self.old.cpu.number result)) wait (has result self.old.cpu.number) }
+        ensures turns { HasTurns self.old.cpu self.new.cpu (length (remote self.old.cpu.number result)) wait }
         ensures ended { wait ≡ true → HaveEnded self.new.cpu (many_call self.old.cpu.number Class.Sync func info) (remote self.old.cpu.number result) }
         ensures table { self.new.table.now ≡ self.old.table.now }
     {
@@ -49,7 +49,7 @@ impl<'a, A: Allocator, R: Wait, H: Handler + Drop> Caller<'a, A, R, H> {
         ensures targets { result ≡ self.old.table.now.online }
         ensures calls { CallsMany H.leads self.old.cpu self.old.handler self.new.cpu self.new.handler (remote self.old.cpu.number result) (class_for wait)
             func info (if has result self.old.cpu.number then Some (heard self.old.cpu.number func info) else None) wait }
-        ensures turns { HasTurns self.old.cpu self.new.cpu (length (remote self.old.cpu.number result)) wait (has result self.old.cpu.number) }
+        ensures turns { HasTurns self.old.cpu self.new.cpu (length (remote self.old.cpu.number result)) wait }
         ensures ended { wait ≡ true → HaveEnded self.new.cpu (many_call self.old.cpu.number Class.Sync func info) (remote self.old.cpu.number result) }
         ensures table { self.new.table.now ≡ self.old.table.now }
     {
@@ -64,7 +64,7 @@ impl<'a, A: Allocator, R: Wait, H: Handler + Drop> Caller<'a, A, R, H> {
     pub fn smp_call_function(&mut self, func: u16, info: u64, wait: bool) -> CpuMask
         ensures targets { (c : ℕ) → has result c ≡ is_target self.old.table.now.online self.old.table.now.online self.old.cpu.number false c }
         ensures calls { CallsMany H.leads self.old.cpu self.old.handler self.new.cpu self.new.handler (members result) (class_for wait) func info None wait }
-        ensures turns { HasTurns self.old.cpu self.new.cpu (length (members result)) wait false }
+        ensures turns { HasTurns self.old.cpu self.new.cpu (length (members result)) wait }
         ensures ended { wait ≡ true → HaveEnded self.new.cpu (many_call self.old.cpu.number Class.Sync func info) (members result) }
         ensures table { self.new.table.now ≡ self.old.table.now }
     {
@@ -81,7 +81,7 @@ impl<'a, A: Allocator, R: Wait, H: Handler + Drop> Caller<'a, A, R, H> {
     pub fn kick_all_cpus_sync(&mut self, nothing: u16) -> CpuMask
         ensures targets { (c : ℕ) → has result c ≡ is_target self.old.table.now.online self.old.table.now.online self.old.cpu.number false c }
         ensures calls { CallsMany H.leads self.old.cpu self.old.handler self.new.cpu self.new.handler (members result) Class.Sync nothing 0 None true }
-        ensures turns { HasTurns self.old.cpu self.new.cpu (length (members result)) true false }
+        ensures turns { HasTurns self.old.cpu self.new.cpu (length (members result)) true }
         ensures ended { HaveEnded self.new.cpu (many_call self.old.cpu.number Class.Sync nothing 0) (members result) }
         ensures table { self.new.table.now ≡ self.old.table.now }
     {

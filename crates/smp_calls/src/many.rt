@@ -131,7 +131,7 @@ pub fn call_many<A: Allocator, R: Wait, H: Handler>(
     requires { me.old.table ≡ table.now.table }
     ensures targets { (c : ℕ) → has result c ≡ is_target mask table.now.online me.old.number false c }
     ensures calls { CallsMany H.leads me.old handler.old me.new handler.new (members result) (class_in wait) func info None wait }
-    ensures turns { HasTurns me.old me.new (length (members result)) wait false }
+    ensures turns { HasTurns me.old me.new (length (members result)) wait }
     ensures ended { wait ≡ true → HaveEnded me.new (many_call me.old.number Class.Sync func info) (members result) }
 {
     let others = targets(mask, table.online(), me.number(), false);
@@ -167,7 +167,7 @@ pub fn each_cpu_cond<A: Allocator, R: Wait, H: Handler, C: Fn(u32, u64) -> bool>
     ensures picks { Picks (λ c answer. C.post cond.now c info answer) (is_target mask table.now.online me.old.number true) result }
     ensures calls { CallsMany H.leads me.old handler.old me.new handler.new (remote me.old.number result) (class_in wait) func info
         (if has result me.old.number then Some (heard me.old.number func info) else None) wait }
-    ensures turns { HasTurns me.old me.new (length (remote me.old.number result)) wait (has result me.old.number) }
+    ensures turns { HasTurns me.old me.new (length (remote me.old.number result)) wait }
     ensures ended { wait ≡ true → HaveEnded me.new (many_call me.old.number Class.Sync func info) (remote me.old.number result) }
 {
     let this = me.number();

@@ -2,7 +2,7 @@
 
 ghost use Rattle.std.specs.Prelude.{◌≡◌, ◌≢◌, true, false, None, Some, [], ◌∷◌, IfOk, IfErr};
 ghost use Rattle.smp_mask.specs.Mask.{has};
-ghost use Rattle.smp_queue.specs.Cpu.{confirmed_at};
+ghost use Rattle.smp_queue.specs.Cpu.{confirmed_at, notes_call};
 ghost use Rattle.smp_queue.specs.Handling.{heard};
 ghost use Rattle.smp_calls.specs.Records.{call_by, single_record as single_record_in};
 ghost use Rattle.smp_calls.specs.Ended.{HaveEnded};
@@ -50,10 +50,10 @@ fn call_here<A: Allocator, R: Wait, H: Handler>(
     requires table { me.old.table ≡ table.now.table }
     requires sized { IsSized me.old }
     ensures here { CallsHere H.leads me.old handler.old me.new handler.new func info wait }
-    ensures at_once { wait ≡ true → (me.new ≡ me.old) × H.leads handler.old (heard me.old.number func info) handler.new }
+    ensures at_once { wait ≡ true → (me.new ≡ notes_call me.old) × H.leads handler.old (heard me.old.number func info) handler.new }
 {
     free_async(table, rt, me, handler, wait);
-    handler.call(me.number(), func, info);
+    table.call_here(me, handler, func, info);
 }
 
 /// Queues the call for another CPU, which is online.
@@ -72,7 +72,7 @@ fn call_there<A: Allocator, R: Wait, H: Handler>(
     requires other { to ≢ me.old.number }
     requires online { has table.now.online to ≡ true }
     ensures called { CallsOne H.leads me.old handler.old me.new handler.new to func info wait }
-    ensures turns { HasTurns me.old me.new 1 wait false }
+    ensures turns { HasTurns me.old me.new 1 wait }
 {
     let k = single_record(wait);
     let class = class_for(wait);
@@ -108,14 +108,14 @@ pub fn call_single<A: Allocator, R: Wait, H: Handler>(
     ensures queued { IfOk result (λ _. dst ≢ me.old.number → (has table.now.online dst ≡ true)
         × CallsOne H.leads me.old handler.old me.new handler.new dst func info wait) }
     ensures here { IfOk result (λ _. dst ≡ me.old.number → CallsHere H.leads me.old handler.old me.new handler.new func info wait) }
-    ensures at_once { IfOk result (λ _. wait ≡ true → dst ≡ me.old.number → (me.new ≡ me.old)
+    ensures at_once { IfOk result (λ _. wait ≡ true → dst ≡ me.old.number → (me.new ≡ notes_call me.old)
         × H.leads handler.old (heard me.old.number func info) handler.new) }
     ensures stays { IfErr result (λ _. wait ≡ true → (me.new ≡ me.old) × (handler.new ≡ handler.old)) }
     ensures freed { IfOk result (λ _. wait ≡ false → dst ≡ me.old.number → confirmed_at me.new 1 ≡ true) }
     ensures waits { IfErr result (λ _. wait ≡ false → (confirmed_at me.new 1 ≡ true) × Awaits 1 me.old handler.old me.new handler.new) }
     ensures refused { IfErr result (λ e. (e ≡ SmpError.NoCpu) × (dst ≢ me.old.number) × (has table.now.online dst ≡ false)
         × QueuesNone H.leads me.old handler.old me.new handler.new wait) }
-    ensures turns { IfOk result (λ _. dst ≢ me.old.number → HasTurns me.old me.new 1 wait false) }
+    ensures turns { IfOk result (λ _. dst ≢ me.old.number → HasTurns me.old me.new 1 wait) }
     ensures ended { IfOk result (λ _. wait ≡ true → dst ≢ me.old.number →
         HaveEnded me.new (λ _. call_by me.old.number (single_record_in true) Class.Sync func info) (dst ∷ [])) }
 {

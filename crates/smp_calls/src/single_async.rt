@@ -52,7 +52,7 @@ pub fn call_async<A: Allocator, R: Wait, H: Handler>(
         return Err(SmpError::Busy);
     }
     if dst == number {
-        handler.call(number, func, info);
+        table.call_here(me, handler, func, info);
         return Ok(());
     }
     if !table.online().contains(dst) {

@@ -43,3 +43,5 @@ pub mod Crews
 pub mod Seats
 -- the headline
 pub mod Headline
+-- CPUs that are looked at together
+pub mod Meetings

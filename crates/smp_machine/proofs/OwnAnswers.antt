@@ -10,7 +10,7 @@ use Rattle.smp_stop_steps.specs.Callings.{IsCalling}
 use Rattle.smp_stop_steps.specs.Seats.{Stands}
 use Rattle.smp_stop_steps.specs.State.{Present}
 use Rattle.smp_stop_steps.specs.Stop.{is_of}
-use Rattle.smp_stop_steps.specs.declared.phase.TheConstants.{DISABLE_IRQ, RUN}
+use Rattle.smp_words.specs.declared.phase.TheConstants.{DISABLE_IRQ, RUN}
 use Rattle.smp_multi.specs.Cpu.{CpuValue as StopCpuValue, Inside, inside_of}
 use Rattle.smp_multi.specs.Laws.{IsShown, IsInside, IsPending}
 use Rattle.smp_multi.specs.Names.{Work, StopCall, One, Multi, Seat, Free, In, Gives, Alters, Closes, Calling, Idle, Calls, Carries}

@@ -18,7 +18,7 @@ use Rattle.smp_multi.specs.declared.turn.Turn.TheVariants.{Same, Moved, Ran, Lef
 use Rattle.smp_stop_steps.specs.Callings.{answer_in as carried_answer}
 use Rattle.smp_stop_steps.specs.Labels.{patch_answer}
 use Rattle.smp_stop_steps.specs.Start.{answer_word}
-use Rattle.smp_stop_steps.specs.declared.phase.TheConstants.{DISABLE_IRQ, RUN, EXIT}
+use Rattle.smp_words.specs.declared.phase.TheConstants.{DISABLE_IRQ, RUN, EXIT}
 use Rattle.smp_machine.specs.Own.{own_of}
 use Rattle.smp_machine.specs.OwnAnswers.{HasToRun, CarriesFor, OwnAnswers}
 use Rattle.smp_machine.specs.Passes.{PassesValue}

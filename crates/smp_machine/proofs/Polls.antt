@@ -7,7 +7,7 @@ use Rattle.smp_multi.specs.declared.func.Called.{Called}
 use Rattle.smp_multi.specs.declared.turn.Turn.{Turn}
 use Rattle.smp_multi.specs.declared.turn.Turn.TheVariants.{Left}
 use Rattle.smp_stop_steps.specs.Tells.{first_readings}
-use Rattle.smp_stop_steps.specs.declared.phase.TheConstants.{RUN}
+use Rattle.smp_words.specs.declared.phase.TheConstants.{RUN}
 use Rattle.smp_machine.specs.declared.work_queue.Item.{Item}
 use Rattle.smp_machine.specs.Own.{Own, own_of}
 use Rattle.smp_machine.specs.Passes.{PassesValue}

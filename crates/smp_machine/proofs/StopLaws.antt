@@ -214,6 +214,7 @@ module _ {H F : Type 0} (hears : H → Heard → H → Type 0) (runs : F → Cal
     owes = ap (λ (x : CallCpuValue). x.part.owes) w.calls_kept;
     confirmed = ap (λ (x : CallCpuValue). x.part.confirmed) w.calls_kept;
     log = ap (λ (x : CallCpuValue). x.log) w.calls_kept;
+    direct = ap (λ (x : CallCpuValue). x.direct) w.calls_kept;
   }
 
 items_filter : (source : ℕ) (xs : List Item) → items_by source xs ≡ filter (λ x. x.slot == source) xs

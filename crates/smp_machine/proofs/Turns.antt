@@ -24,7 +24,7 @@ use Rattle.smp_stop_steps.specs.Callings.{answer_in as carried_answer}
 use Rattle.smp_stop_steps.specs.Labels.{patch_answer}
 use Rattle.smp_stop_steps.specs.Start.{answer_word}
 use Rattle.smp_stop_steps.specs.Tells.{first_readings}
-use Rattle.smp_stop_steps.specs.declared.phase.TheConstants.{DISABLE_IRQ, RUN, EXIT}
+use Rattle.smp_words.specs.declared.phase.TheConstants.{DISABLE_IRQ, RUN, EXIT}
 use Rattle.smp_machine.specs.MachineCpu.{MachineCpuValue, HasNotLeft}
 use Rattle.smp_machine.specs.Works.{stop_call, turned, HasRun, LooksOnce, LooksIfOn, StopMoves, GoesRound}
 use Rattle.smp_machine.specs.Served.{KeepsVisits}

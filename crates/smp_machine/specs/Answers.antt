@@ -4,7 +4,7 @@ use Rattle.smp_mask.specs.Mask.{has, members}
 use Rattle.smp_mask.specs.declared.error.SmpError.{SmpError}
 use Rattle.smp_mask.specs.declared.error.SmpError.TheVariants as error
 use Rattle.smp_words.specs.declared.call.Class.TheVariants.{Sync, Async}
-use Rattle.smp_queue.specs.Cpu.{confirmed_at}
+use Rattle.smp_queue.specs.Cpu.{confirmed_at, notes_call}
 use Rattle.smp_queue.specs.Handling.{heard}
 use Rattle.smp_queue.specs.declared.handler.Heard.{Heard}
 use Rattle.smp_calls.specs.Ended.{HaveEnded}
@@ -27,7 +27,7 @@ pub record SingleAnswers {H : Type 0} (leads : H → Heard → H → Type 0) (m 
   pub queued : IfOk result (λ _. dst ≢ old.calls.number → (has m.calls.online dst ≡ true)
       × CallsOne leads old.calls before new.calls after dst func info wait)
   pub here : IfOk result (λ _. dst ≡ old.calls.number → CallsHere leads old.calls before new.calls after func info wait)
-  pub at_once : IfOk result (λ _. wait ≡ true → dst ≡ old.calls.number → (new.calls ≡ old.calls)
+  pub at_once : IfOk result (λ _. wait ≡ true → dst ≡ old.calls.number → (new.calls ≡ notes_call old.calls)
       × leads before (heard old.calls.number func info) after)
   pub stays : IfErr result (λ _. wait ≡ true → (new.calls ≡ old.calls) × (after ≡ before))
   pub freed : IfOk result (λ _. wait ≡ false → dst ≡ old.calls.number → confirmed_at new.calls 1 ≡ true)
@@ -36,7 +36,7 @@ pub record SingleAnswers {H : Type 0} (leads : H → Heard → H → Type 0) (m 
   pub refused : IfErr result (λ e. RefusedInHand e old before new after
       ⊎ ((old.stops.inside ≡ None) × (e ≡ error.NoCpu) × (dst ≢ old.calls.number) × (has m.calls.online dst ≡ false)
       × QueuesNone leads old.calls before new.calls after wait))
-  pub turns : IfOk result (λ _. dst ≢ old.calls.number → HasTurns old.calls new.calls 1 wait false)
+  pub turns : IfOk result (λ _. dst ≢ old.calls.number → HasTurns old.calls new.calls 1 wait)
   pub ended : IfOk result (λ _. wait ≡ true → dst ≢ old.calls.number →
       HaveEnded new.calls (λ _. call_by old.calls.number (single_record true) Sync func info) (dst ∷ []))
   pub kept : KeepsStops old new
@@ -64,13 +64,13 @@ pub record AnyAnswers {H : Type 0} (leads : H → Heard → H → Type 0) (m : M
   pub any : IfOk result (λ cpu. IsAny mask m.calls.online old.calls.number cpu)
   pub queued : IfOk result (λ cpu. cpu ≢ old.calls.number → CallsOne leads old.calls before new.calls after cpu func info wait)
   pub here : IfOk result (λ cpu. cpu ≡ old.calls.number → CallsHere leads old.calls before new.calls after func info wait)
-  pub at_once : IfOk result (λ cpu. wait ≡ true → cpu ≡ old.calls.number → (new.calls ≡ old.calls)
+  pub at_once : IfOk result (λ cpu. wait ≡ true → cpu ≡ old.calls.number → (new.calls ≡ notes_call old.calls)
       × leads before (heard old.calls.number func info) after)
   pub freed : IfOk result (λ cpu. wait ≡ false → cpu ≡ old.calls.number → confirmed_at new.calls 1 ≡ true)
   pub refused : IfErr result (λ e. RefusedInHand e old before new after
       ⊎ ((old.stops.inside ≡ None) × (e ≡ error.NoCpu) × HasNone mask m.calls.online old.calls.number
       × (new.calls ≡ old.calls) × (after ≡ before)))
-  pub turns : IfOk result (λ cpu. cpu ≢ old.calls.number → HasTurns old.calls new.calls 1 wait false)
+  pub turns : IfOk result (λ cpu. cpu ≢ old.calls.number → HasTurns old.calls new.calls 1 wait)
   pub ended : IfOk result (λ cpu. wait ≡ true → cpu ≢ old.calls.number →
       HaveEnded new.calls (λ _. call_by old.calls.number (single_record true) Sync func info) (cpu ∷ []))
   pub kept : KeepsStops old new
@@ -81,7 +81,7 @@ pub record ManyAnswers {H : Type 0} (leads : H → Heard → H → Type 0) (m : 
   pub free : IfOk result (λ _. old.stops.inside ≡ None)
   pub targets : IfOk result (λ called. (c : ℕ) → has called c ≡ is_target mask m.calls.online old.calls.number false c)
   pub calls : IfOk result (λ called. CallsMany leads old.calls before new.calls after (members called) (class_for wait) func info None wait)
-  pub turns : IfOk result (λ called. HasTurns old.calls new.calls (length (members called)) wait false)
+  pub turns : IfOk result (λ called. HasTurns old.calls new.calls (length (members called)) wait)
   pub ended : IfOk result (λ called. wait ≡ true → HaveEnded new.calls (many_call old.calls.number Sync func info) (members called))
   pub refused : IfErr result (λ e. RefusedInHand e old before new after)
   pub kept : KeepsStops old new
@@ -93,7 +93,7 @@ pub record CondAnswers {H : Type 0} (leads : H → Heard → H → Type 0) (m : 
   pub picks : IfOk result (λ called. Picks says (is_target mask m.calls.online old.calls.number true) called)
   pub calls : IfOk result (λ called. CallsMany leads old.calls before new.calls after (remote old.calls.number called) (class_for wait) func info
       (if has called old.calls.number then Some (heard old.calls.number func info) else None) wait)
-  pub turns : IfOk result (λ called. HasTurns old.calls new.calls (length (remote old.calls.number called)) wait (has called old.calls.number))
+  pub turns : IfOk result (λ called. HasTurns old.calls new.calls (length (remote old.calls.number called)) wait)
   pub ended : IfOk result (λ called. wait ≡ true → HaveEnded new.calls (many_call old.calls.number Sync func info) (remote old.calls.number called))
   pub refused : IfErr result (λ e. RefusedInHand e old before new after)
   pub kept : KeepsStops old new
@@ -105,7 +105,7 @@ pub record EachAnswers {H : Type 0} (leads : H → Heard → H → Type 0) (m : 
   pub targets : IfOk result (λ called. (c : ℕ) → has called c ≡ is_target mask m.calls.online old.calls.number true c)
   pub calls : IfOk result (λ called. CallsMany leads old.calls before new.calls after (remote old.calls.number called) (class_for wait) func info
       (if has called old.calls.number then Some (heard old.calls.number func info) else None) wait)
-  pub turns : IfOk result (λ called. HasTurns old.calls new.calls (length (remote old.calls.number called)) wait (has called old.calls.number))
+  pub turns : IfOk result (λ called. HasTurns old.calls new.calls (length (remote old.calls.number called)) wait)
   pub ended : IfOk result (λ called. wait ≡ true → HaveEnded new.calls (many_call old.calls.number Sync func info) (remote old.calls.number called))
   pub refused : IfErr result (λ e. RefusedInHand e old before new after)
   pub kept : KeepsStops old new

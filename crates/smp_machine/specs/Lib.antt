@@ -42,5 +42,7 @@ pub mod ReadLaws
 pub mod StopLaws
 -- when a CPU takes the gate and gives it up
 pub mod GateLaws
+-- CPUs that are looked at together
+pub mod Crowds
 -- the headline
 pub mod Headline

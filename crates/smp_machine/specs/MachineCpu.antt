@@ -3,7 +3,7 @@ use Rattle.std.specs.Prelude.{◌≡◌, ◌≢◌, ◌<◌, ℕ, Bool, false, t
 use Rattle.atomic_table.specs.Seated.{TableId}
 use Rattle.smp_mask.specs.Mask.{has}
 use Rattle.smp_words.specs.Limits.{AreLimits}
-use Rattle.smp_stop_steps.specs.declared.phase.TheConstants.{EXIT}
+use Rattle.smp_words.specs.declared.phase.TheConstants.{EXIT}
 use Rattle.smp_queue.specs.Cpu.{TableValue as CallTableValue, CpuValue as CallCpuValue, fresh_cpu as fresh_calls}
 use Rattle.smp_multi.specs.Cpu.{TableValue as StopTableValue, CpuValue as StopCpuValue, Inside, fresh_cpu as fresh_stops, IsAt as IsAtStops}
 use Rattle.smp_machine.specs.Passes.{PassesValue, fresh_passes}

@@ -3,7 +3,7 @@ use Rattle.std.specs.List.{AllByRecursion}
 use Rattle.std.specs.Prelude.{◌≡◌, ◌⊎◌, ℕ, ℤ, true, Some, List, [], ◌∷◌, ◌++◌, slice_index_or}
 use Rattle.smp_mask.specs.Mask.{has}
 use Rattle.smp_stop_steps.specs.Start.{answer_word}
-use Rattle.smp_stop_steps.specs.declared.phase.TheConstants.{RUN}
+use Rattle.smp_words.specs.declared.phase.TheConstants.{RUN}
 use Rattle.smp_multi.specs.Cpu.{CpuValue as StopCpuValue, Inside}
 use Rattle.smp_multi.specs.Names.{Work, StopCall, One, Multi, Carries}
 use Rattle.smp_multi.specs.Polls.{MayAnswer}

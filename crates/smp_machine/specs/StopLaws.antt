@@ -96,12 +96,13 @@ pub record StopsAgreeWithOwn {H F : Type 0} (hears : H → Heard → H → Type 
       (dst func arg : ℕ) → IsOneWork dst func arg work → dst ≡ old.stops.number
       → HasStopped hears runs moves work old h f new h' f' answer → AnswersItself new.stops answer
 
--- a CPU has sent no call, and owes, has confirmed and has logged what it had
+-- a CPU has sent no call and made no direct call, and owes, has confirmed and has logged what it had
 pub record SendsNothing (old new : CallCpuValue) : Type 0 where
   pub sent : new.part.sent ≡ old.part.sent
   pub owes : new.part.owes ≡ old.part.owes
   pub confirmed : new.part.confirmed ≡ old.part.confirmed
   pub log : new.log ≡ old.log
+  pub direct : new.direct ≡ old.direct
 
 -- a CPU that polls, waits for the gate or for a stop sends no call
 abbrev pub PollsSendNothing : {H F : Type 0} → (H → Heard → H → Type 0) → (F → Called → F → Type 0) → Type 0

@@ -6,9 +6,9 @@ ghost use Rattle.smp_mask.specs.Mask.{has, members};
 ghost use Rattle.smp_words.specs.Limits.{AreLimits};
 ghost use Rattle.smp_words.specs.Size.{cpus};
 ghost use Rattle.smp_queue.specs.Audit.{Audited, IfDrained, AreEqual, HasRowsOf, HasZerosFrom};
-ghost use Rattle.smp_queue.specs.Cpu.{IsFull, confirmed_at};
+ghost use Rattle.smp_queue.specs.Cpu.{IsFull, confirmed_at, notes_call};
 ghost use Rattle.smp_queue.specs.Handling.{heard};
-ghost use Rattle.smp_queue.specs.Together.{AreTogether, RunsWhatIsSent};
+ghost use Rattle.smp_queue.specs.Together.{AreTogether, AreAllTogether, RunsWhatIsSent, values};
 ghost use Rattle.smp_calls.specs.Ended.{HaveEnded};
 ghost use Rattle.smp_calls.specs.Families.{Awaits, CallsOne, CallsBy, CallsHere, CallsUserHere, CallsMany, QueuesNone, RefusesUser, HandlesNone};
 ghost use Rattle.smp_calls.specs.Records.{call_by, many_call, single_record, user_record, class_for};
@@ -26,7 +26,7 @@ use smp_calls::{
     Within, call_any, call_async, call_many, call_many_within, call_single, each_cpu_cond,
 };
 use smp_mask::{CpuMask, SmpError};
-use smp_queue::{Alarm, Audit, Boot, CallCpu, CallTable, Handler, LineWait, Pause};
+use smp_queue::{Alarm, Audit, Boot, CallCpu, CallCrowd, CallTable, Handler, LineWait, Pause};
 use smp_words::call::Class;
 use std::alloc::Allocator;
 use std::marker::Model;
@@ -82,6 +82,22 @@ impl<A: Allocator> Hearing<A> {
         ensures runs { RunsWhatIsSent one.old other.old × RunsWhatIsSent other.old one.old }
     {
         self.table.together(one, other);
+    }
+
+    /// A crowd of no CPUs: [`CallTable::crowd`].
+    pub(crate) fn crowd(&self) -> CallCrowd
+        ensures { result ≡ record { table = self.now.table; cpus = [] } }
+    {
+        self.table.crowd()
+    }
+
+    /// All CPUs of a crowd at one moment: [`CallTable::all_together`].
+    pub(crate) fn all_together(&self, crowd: &mut CallCrowd)
+        requires { crowd.old.table ≡ self.now.table }
+        ensures kept { crowd.new ≡ crowd.old }
+        ensures same { AreAllTogether (values crowd.old.cpus) }
+    {
+        self.table.all_together(crowd);
     }
 
     /// What is left of calls: [`CallTable::audit`].
@@ -159,7 +175,7 @@ pub(crate) fn single<A: Allocator, R: Wait, H: Handler>(
     ensures queued { IfOk result (λ _. dst ≢ me.old.calls.number → (has machine.now.calls.online dst ≡ true)
         × CallsOne H.leads me.old.calls handler.old me.new.calls handler.new dst func info wait) }
     ensures here { IfOk result (λ _. dst ≡ me.old.calls.number → CallsHere H.leads me.old.calls handler.old me.new.calls handler.new func info wait) }
-    ensures at_once { IfOk result (λ _. wait ≡ true → dst ≡ me.old.calls.number → (me.new.calls ≡ me.old.calls)
+    ensures at_once { IfOk result (λ _. wait ≡ true → dst ≡ me.old.calls.number → (me.new.calls ≡ notes_call me.old.calls)
         × H.leads handler.old (heard me.old.calls.number func info) handler.new) }
     ensures stays { IfErr result (λ _. wait ≡ true → (me.new.calls ≡ me.old.calls) × (handler.new ≡ handler.old)) }
     ensures freed { IfOk result (λ _. wait ≡ false → dst ≡ me.old.calls.number → confirmed_at me.new.calls 1 ≡ true) }
@@ -167,7 +183,7 @@ pub(crate) fn single<A: Allocator, R: Wait, H: Handler>(
         × Awaits 1 me.old.calls handler.old me.new.calls handler.new) }
     ensures refused { IfErr result (λ e. (e ≡ SmpError.NoCpu) × (dst ≢ me.old.calls.number) × (has machine.now.calls.online dst ≡ false)
         × QueuesNone H.leads me.old.calls handler.old me.new.calls handler.new wait) }
-    ensures turns { IfOk result (λ _. dst ≢ me.old.calls.number → HasTurns me.old.calls me.new.calls 1 wait false) }
+    ensures turns { IfOk result (λ _. dst ≢ me.old.calls.number → HasTurns me.old.calls me.new.calls 1 wait) }
     ensures ended { IfOk result (λ _. wait ≡ true → dst ≢ me.old.calls.number →
         HaveEnded me.new.calls (λ _. call_by me.old.calls.number (single_record true) Class.Sync func info) (dst ∷ [])) }
     ensures kept { KeepsStops me.old me.new }
@@ -235,12 +251,12 @@ pub(crate) fn any<A: Allocator, R: Wait, H: Handler>(
     ensures any { IfOk result (λ cpu. IsAny mask machine.now.calls.online me.old.calls.number cpu) }
     ensures queued { IfOk result (λ cpu. cpu ≢ me.old.calls.number → CallsOne H.leads me.old.calls handler.old me.new.calls handler.new cpu func info wait) }
     ensures here { IfOk result (λ cpu. cpu ≡ me.old.calls.number → CallsHere H.leads me.old.calls handler.old me.new.calls handler.new func info wait) }
-    ensures at_once { IfOk result (λ cpu. wait ≡ true → cpu ≡ me.old.calls.number → (me.new.calls ≡ me.old.calls)
+    ensures at_once { IfOk result (λ cpu. wait ≡ true → cpu ≡ me.old.calls.number → (me.new.calls ≡ notes_call me.old.calls)
         × H.leads handler.old (heard me.old.calls.number func info) handler.new) }
     ensures freed { IfOk result (λ cpu. wait ≡ false → cpu ≡ me.old.calls.number → confirmed_at me.new.calls 1 ≡ true) }
     ensures refused { IfErr result (λ e. (e ≡ SmpError.NoCpu) × HasNone mask machine.now.calls.online me.old.calls.number
         × (me.new.calls ≡ me.old.calls) × (handler.new ≡ handler.old)) }
-    ensures turns { IfOk result (λ cpu. cpu ≢ me.old.calls.number → HasTurns me.old.calls me.new.calls 1 wait false) }
+    ensures turns { IfOk result (λ cpu. cpu ≢ me.old.calls.number → HasTurns me.old.calls me.new.calls 1 wait) }
     ensures ended { IfOk result (λ cpu. wait ≡ true → cpu ≢ me.old.calls.number →
         HaveEnded me.new.calls (λ _. call_by me.old.calls.number (single_record true) Class.Sync func info) (cpu ∷ [])) }
     ensures kept { KeepsStops me.old me.new }
@@ -272,7 +288,7 @@ pub(crate) fn many<A: Allocator, R: Wait, H: Handler>(
     requires irq { me.old.stops.irq ≡ true }
     ensures targets { (c : ℕ) → has result c ≡ is_target mask machine.now.calls.online me.old.calls.number false c }
     ensures calls { CallsMany H.leads me.old.calls handler.old me.new.calls handler.new (members result) (class_for wait) func info None wait }
-    ensures turns { HasTurns me.old.calls me.new.calls (length (members result)) wait false }
+    ensures turns { HasTurns me.old.calls me.new.calls (length (members result)) wait }
     ensures ended { wait ≡ true → HaveEnded me.new.calls (many_call me.old.calls.number Class.Sync func info) (members result) }
     ensures kept { KeepsStops me.old me.new }
 {
@@ -335,7 +351,7 @@ pub(crate) fn each<A: Allocator, R: Wait, H: Handler, C: Fn(u32, u64) -> bool>(
     ensures picks { Picks (λ c answer. C.post cond.now c info answer) (is_target mask machine.now.calls.online me.old.calls.number true) result }
     ensures calls { CallsMany H.leads me.old.calls handler.old me.new.calls handler.new (remote me.old.calls.number result) (class_for wait)
         func info (if has result me.old.calls.number then Some (heard me.old.calls.number func info) else None) wait }
-    ensures turns { HasTurns me.old.calls me.new.calls (length (remote me.old.calls.number result)) wait (has result me.old.calls.number) }
+    ensures turns { HasTurns me.old.calls me.new.calls (length (remote me.old.calls.number result)) wait }
     ensures ended { wait ≡ true → HaveEnded me.new.calls (many_call me.old.calls.number Class.Sync func info) (remote me.old.calls.number result) }
     ensures kept { KeepsStops me.old me.new }
 {

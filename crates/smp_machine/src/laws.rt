@@ -1,12 +1,15 @@
 //! What holds of running threads, at any time, of each CPU's value.
 
-ghost use Rattle.std.specs.Prelude.{◌≡◌, true, None, length};
+ghost use Rattle.std.specs.Prelude.{◌≡◌, true, None, All, length};
 ghost use Rattle.smp_words.specs.Size.{cpus};
 ghost use Rattle.smp_call_steps.specs.Parts.{part_of};
 ghost use Rattle.smp_call_steps.specs.Headline.{InOnePlace, RunOnce, RunInOrder, RunEqualQueued};
 ghost use Rattle.smp_stop_steps.specs.Headline.{RunDisabled, IsLawfulElse};
 ghost use Rattle.smp_queue.specs.Laws.{IsShown as CallsAreShown};
 ghost use Rattle.smp_multi.specs.Laws.{IsInside, IsShown as StopsAreShown};
+ghost use Rattle.smp_queue.specs.Together.{AreAllTogether as CallsAllTogether, AllRunWhatIsSent};
+ghost use Rattle.smp_multi.specs.Together.{AreAllTogether as StopsAllTogether, AllAreInStep, AllWaitFor};
+ghost use Rattle.smp_machine.specs.Crowds.{AreAt, calls_of, stops_of};
 ghost use Rattle.smp_machine.specs.GateLaws.{GateIsHeld};
 ghost use Rattle.smp_machine.specs.Headline.{HasCalls, HasStops};
 ghost use Rattle.smp_machine.specs.StopLaws.{WorksAreOfTheirCpus, StopsAgreeWithOwn, StopsAreMadeOnce, PollsSendNothing};
@@ -14,6 +17,7 @@ ghost use Rattle.smp_machine.specs.StopLaws.{QueuesKeepOrder, WorksAreTaken, Ref
 ghost use Rattle.smp_machine.specs.ReadLaws.{KindsFollowKeys};
 
 use crate::cpu::Cpu;
+use crate::crowds::meet;
 use crate::machine::Machine;
 use smp_multi::StopFunc;
 use smp_queue::Handler;
@@ -124,4 +128,37 @@ pub fn headline<A: Allocator>(machine: &Machine<A>, cpu: &Cpu<A>)
     ensures drained { (s : HasCalls cpu.now.calls) → RunEqualQueued s.now.calls s.now.at }
 {
     is_shown(machine, cpu);
+}
+
+/// The theorem over threads of all these CPUs at once, whatever the threads of other CPUs do. Their values are their parts of one
+/// state of the calls (`calls`) and of one state of the stops (`stops`), which have of each of them what its value has (`own`,
+/// `inside`, `irq`), and of which the six statements of [`headline`] hold.
+///
+/// Three clauses are about the values alone. In each class, the calls of any of these CPUs that have begun on another one are the
+/// first of those that it has sent there (`runs`). In the stop of one source any two of them have the same work, and neither has
+/// acknowledged more than one phase more than the other (`step`). While one is in the stop of another one, that one has this work
+/// pending (`waits`).
+///
+/// It makes no step.
+pub fn headline_of_all<A: Allocator>(machine: &Machine<A>, cpus: &mut [Cpu<A>])
+    requires { AreAt machine.now cpus.old }
+    ensures kept { cpus.new ≡ cpus.old }
+    ensures calls { CallsAllTogether (calls_of cpus.old) }
+    ensures stops { StopsAllTogether (stops_of cpus.old) }
+    ensures own { (s : CallsAllTogether (calls_of cpus.old)) → All (λ c. part_of s.now.calls c.number ≡ c.part) (calls_of cpus.old) }
+    ensures inside { (s : StopsAllTogether (stops_of cpus.old)) → All (λ c. IsInside s.now.stops.now c.number c.inside) (stops_of cpus.old) }
+    ensures irq { (s : StopsAllTogether (stops_of cpus.old)) → All (λ c. s.now.stops.now.irq c.number ≡ c.irq) (stops_of cpus.old) }
+    ensures runs { AllRunWhatIsSent (calls_of cpus.old) }
+    ensures step { AllAreInStep (stops_of cpus.old) }
+    ensures waits { AllWaitFor (stops_of cpus.old) }
+    ensures place { (s : CallsAllTogether (calls_of cpus.old)) → InOnePlace s.now.calls s.now.at }
+    ensures once { (s : CallsAllTogether (calls_of cpus.old)) → RunOnce s.now.calls }
+    ensures order { (s : CallsAllTogether (calls_of cpus.old)) → RunInOrder s.now.calls }
+    ensures function { (s : StopsAllTogether (stops_of cpus.old)) → RunDisabled s.now.stops }
+    ensures lawful { (s : StopsAllTogether (stops_of cpus.old)) → IsLawfulElse s.now.stops s.now.at }
+    ensures drained { (s : CallsAllTogether (calls_of cpus.old)) → RunEqualQueued s.now.calls s.now.at }
+{
+    let mut calls = machine.calls.crowd();
+    let mut stops = machine.stops.crowd();
+    meet(machine, &mut calls, &mut stops, cpus);
 }

@@ -28,6 +28,7 @@ mod calls;
 mod calls_within;
 mod cpu;
 mod crew;
+mod crowds;
 mod hearing;
 mod idle;
 mod key;

@@ -11,7 +11,7 @@ use Rattle.smp_stop_steps.specs.Sits.{OwnsIf, IsLoaded}
 use Rattle.smp_stop_steps.specs.Stages.{visit_acked}
 use Rattle.smp_stop_steps.specs.Start.{answer_word}
 use Rattle.smp_stop_steps.specs.Tells.{carried_call, calls_at_run, is_multi}
-use Rattle.smp_stop_steps.specs.declared.phase.TheConstants.{DISABLE_IRQ, RUN, EXIT}
+use Rattle.smp_words.specs.declared.phase.TheConstants.{DISABLE_IRQ, RUN, EXIT}
 use Rattle.smp_stop_steps.specs.declared.stage.Visit.{Visit}
 use Rattle.smp_multi.specs.Names.{Work, Kind, One, Multi, Patch, Seat, In, Rests, Known, Part, Calling, Idle, Calls, Carries, StopCall}
 use Rattle.smp_multi.specs.Advance.{AdvanceAnswers, carries, looks}

@@ -7,7 +7,7 @@ use Rattle.smp_stop_steps.specs.Callings.{IsCalling, answer_in, with_answer}
 use Rattle.smp_stop_steps.specs.Known.{carrying, stepped, told_calling}
 use Rattle.smp_stop_steps.specs.KnownAfter.{completed_with, has_called}
 use Rattle.smp_stop_steps.specs.Tells.{calls_at_run, is_multi, is_one}
-use Rattle.smp_stop_steps.specs.declared.phase.TheConstants.{EXIT}
+use Rattle.smp_words.specs.declared.phase.TheConstants.{EXIT}
 use Rattle.smp_stop_steps.specs.declared.stage.Visit.{Visit}
 use Rattle.smp_multi.specs.Names.{Work, Kind, One, Multi, Patch, Seat, In, Rests, Calling, Idle, Calls, Carries}
 use Rattle.smp_multi.specs.Advance.{FinishAnswers, completes}

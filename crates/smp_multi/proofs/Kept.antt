@@ -26,7 +26,7 @@ use Rattle.smp_stop_steps.specs.State.{Setup}
 use Rattle.smp_stop_steps.specs.Stop.{Stop, Inside}
 use Rattle.smp_stop_steps.specs.Table.{StopWords}
 use Rattle.smp_stop_steps.specs.Value.{StopsValue}
-use Rattle.smp_stop_steps.specs.declared.phase.TheConstants.{RUN}
+use Rattle.smp_words.specs.declared.phase.TheConstants.{RUN}
 use Rattle.smp_stop_steps.specs.declared.stage.Visit.{Visit}
 use Rattle.smp_stop_steps.proofs.Promises.StopLaws.{keeps_laws}
 use Rattle.smp_stop_steps.proofs.State.Ends.{all_outside}

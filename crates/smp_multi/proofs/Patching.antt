@@ -30,7 +30,7 @@ use Rattle.smp_stop_steps.specs.Sits.{IsLoaded}
 use Rattle.smp_stop_steps.specs.Stages.{label_word, store_of, visit_acked}
 use Rattle.smp_stop_steps.specs.Stop.{Inside}
 use Rattle.smp_stop_steps.specs.Tells.{is_multi, is_one, is_patch, plan_at}
-use Rattle.smp_stop_steps.specs.declared.phase.TheConstants.{DISABLE_IRQ, RUN}
+use Rattle.smp_words.specs.declared.phase.TheConstants.{DISABLE_IRQ, RUN, EXIT}
 use Rattle.smp_stop_steps.specs.declared.stage.Visit.{Visit}
 use Rattle.smp_stop_steps.proofs.Promises.Functions.{runs_alone}
 use Rattle.smp_stop_steps.proofs.State.Phases.{is_open_inside}
@@ -420,7 +420,7 @@ module _ (k : Known) (s : ℕ) (w : Work) (count : ℕ) (is : k.seat ≡ In s w 
   -- with the numbers of steps: up to the plan, and of its stores
   pub patch_ends : (k1 k2 k3 k4 : Known) (found answer next p q all : ℕ) → k1 ≡ stepped p (begins_with count k.seat k)
       → k2 ≡ stepped q (stored_all k1.seat k1) → answer ≡ patch_answer w count → k3 ≡ stepped 1 (acked_by found k2.seat (carrying answer k2))
-      → k4 ≡ cond (found == 1) (raised_by next k3.seat k3) k3 → next ≡ 4 → p + q + 1 ≡ all → k4 ≡ stepped all (patched_by count k.seat k)
+      → k4 ≡ cond (found == 1) (raised_by next k3.seat k3) k3 → next ≡ EXIT → p + q + 1 ≡ all → k4 ≡ stepped all (patched_by count k.seat k)
   patch_ends k1 k2 k3 k4 found answer next p q all one two says three four up sum =
       let plan = plan_at (setup_in k.setting) w count in
       let l = patched_with w count k.part.patched in

@@ -1,8 +1,11 @@
 -- Two CPUs of one table at one moment.
-use Rattle.std.proofs.Common.{◌≡◌, inl, inr, ℕ, ◌+◌, ◌≤◌, Bool, true, false, ◌&&◌, Option, Some, None, refl, sym, subst, ap, ◌∙◌, arith}
+use Rattle.std.proofs.Common.{◌≡◌, inl, inr, ℕ, zero, suc, ◌+◌, ◌<◌, ◌≤◌, List, [], ◌∷◌, length, slice_index_or, Bool, true, false, ◌&&◌, Option, Some, None, refl, sym, subst, ap, ◌∙◌, arith}
 use mathlib.Core.Option.{some}
 use lib.ListN.{get_elem?}
 use Rattle.atomic_table.specs.Table.{State}
+use Rattle.atomic_table.specs.Table.{Me}
+use Rattle.atomic_table.specs.Seated.{TableId}
+use Rattle.smp_start.specs.Crowd.{IsMoment}
 use Rattle.smp_mask.specs.Mask.{has}
 use Rattle.smp_stop_steps.specs.Known.{Sees, setup_in}
 use Rattle.smp_stop_steps.specs.Seats.{Stands}
@@ -10,7 +13,7 @@ use Rattle.smp_stop_steps.specs.Shows.{StopShows}
 use Rattle.smp_stop_steps.specs.Slots.{IsLevel, Keeps, SlotShows}
 use Rattle.smp_stop_steps.specs.State.{Present, StopState}
 use Rattle.smp_stop_steps.specs.Stop.{Standing, Stop, Inside, Answering, is_of}
-use Rattle.smp_stop_steps.specs.declared.phase.TheConstants.{DISABLE_IRQ, RUN}
+use Rattle.smp_words.specs.declared.phase.TheConstants.{DISABLE_IRQ, RUN}
 use Rattle.smp_multi.specs.Names.{Known, Work, Seat, Setting, SeatView, Cpu, Free, In, Gives, Alters, Closes, Word, Slot}
 use Rattle.smp_multi.specs.Cells.{number_in}
 use Rattle.smp_multi.specs.Cpu.{CpuValue, Inside as InsideOf, cpu_of, inside_of}
@@ -19,6 +22,8 @@ use Rattle.smp_multi.specs.Places.{pending_of}
 use Rattle.smp_multi.specs.Rule.{Ruled, SeatKnows, known}
 use Rattle.smp_multi.specs.Seat.{SeatValue}
 use Rattle.smp_multi.specs.Together.{StopsNow, KnowTogether, AreTogether, IsLevelWith, AreInStep, WaitsFor}
+use Rattle.smp_multi.specs.Together.{IsPartOf, seats_of, AreCpuSeats, SeeAll, KnowAllTogether, cpus_at, values, ArePartsOf, AreAllTogether}
+use Rattle.smp_multi.specs.Together.{AllAreInStep, AllWaitFor}
 use Rattle.smp_multi.proofs.Showing.{pending_shown}
 
 pub know_together : {S : Type 0} (k : Setting) (s : State S SeatView) (i j : ℕ) (u v : SeatView) → Ruled k s → u ≡ Cpu (known u) → v ≡ Cpu (known v)
@@ -133,3 +138,48 @@ module _ (c d : CpuValue) (t : AreTogether c d) where
     of_both WaitsFor (sym t.one.view) (sym t.other.view) (is_waited_for t.now one other t.one.sees t.other.sees),
     of_both WaitsFor (sym t.other.view) (sym t.one.view) (is_waited_for t.now other one t.other.sees t.one.sees),
   )
+
+-- all seats of a moment
+module _ (k : Setting) (s : State (Unit {0}) SeatView) (r : Ruled k s) where
+  abbrev here : StopsNow k
+  here = record { stops = r.stops; at = number_in s.words; seat = r.seat; source = r.source; shown = r.shown }
+
+  sees_all : (ms : List (TableId × (ℕ × Me (Unit {0}) SeatView))) → AreCpuSeats ms → IsMoment s ms → SeeAll here (seats_of ms)
+  sees_all [] are at = tt
+  sees_all (m ∷ ms) are at =
+      let one = subst (SeatKnows k r.stops r.seat r.source r.place r.next m.1.0) are.0 (r.each_seat m.1.0 m.1.1.0 at.0) in
+      ((one.3, one.2), sees_all ms are.1 at.1)
+
+  pub know_all_together : (ms : List (TableId × (ℕ × Me (Unit {0}) SeatView))) → AreCpuSeats ms → IsMoment s ms → KnowAllTogether (seats_of ms)
+  know_all_together ms are at = record { setting = k; now = here; parts = sees_all ms are at }
+
+are_parts : {k : Setting} (now : StopsNow k) (table : TableId) (ms : List (TableId × Known)) → SeeAll now ms → ArePartsOf now (values (cpus_at table ms))
+are_parts n table [] all = tt
+are_parts n table (m ∷ ms) all = ((record { known = m.1; sees = all.0.0; view = refl }, all.0.1), are_parts n table ms all.1)
+
+pub are_all_together : (table : TableId) (ms : List (TableId × Known)) → KnowAllTogether ms → AreAllTogether (values (cpus_at table ms))
+are_all_together table ms t = record { setting = t.setting; now = t.now; parts = are_parts t.now table ms t.parts }
+
+pub part_at : {k : Setting} (now : StopsNow k) (cs : List CpuValue) → ArePartsOf now cs → (i : ℕ) (d : CpuValue) → i < length cs
+    → IsPartOf now (slice_index_or cs i d) × ((slice_index_or cs i d).setting ≡ k)
+part_at n [] all i d l = absurd (omega arith)
+part_at n (c ∷ cs) all zero d l = all.0
+part_at n (c ∷ cs) all (suc i) d l = part_at n cs all.1 i d (omega arith)
+
+at_setting : (c d : CpuValue) (k : Setting) → c.setting ≡ k → d.setting ≡ k → (now : StopsNow k) → IsPartOf now c → IsPartOf now d → AreTogether c d
+at_setting c d k e = subst (λ l. d.setting ≡ l → (now : StopsNow l) → IsPartOf now c → IsPartOf now d → AreTogether c d) e
+    (λ f n one other. record { now = n; one = one; other = other; setting = sym f })
+
+-- any two of them
+pub any_two : (cs : List CpuValue) → AreAllTogether cs → (i j : ℕ) (d e : CpuValue) → i < length cs → j < length cs
+    → AreTogether (slice_index_or cs i d) (slice_index_or cs j e)
+any_two cs t i j d e l m =
+    let one = part_at t.now cs t.parts i d l in
+    let other = part_at t.now cs t.parts j e m in
+    at_setting _ _ t.setting one.1 other.1 t.now one.0 other.0
+
+pub all_in_step : (cs : List CpuValue) → AreAllTogether cs → AllAreInStep cs
+all_in_step cs t i d l j e m = in_step _ _ (any_two cs t i j d e l m)
+
+pub all_wait_for : (cs : List CpuValue) → AreAllTogether cs → AllWaitFor cs
+all_wait_for cs t i d l j e m = (waits_for _ _ (any_two cs t i j d e l m)).0

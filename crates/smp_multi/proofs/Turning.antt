@@ -19,7 +19,7 @@ use Rattle.smp_stop_steps.specs.Sits.{IsLoaded}
 use Rattle.smp_stop_steps.specs.declared.known.Reading.{Reading}
 use Rattle.smp_stop_steps.specs.Tells.{first_readings, may_call, is_one, is_multi}
 use Rattle.smp_stop_steps.specs.Stop.{Inside}
-use Rattle.smp_stop_steps.specs.declared.phase.TheConstants.{DISABLE_IRQ, RUN, EXIT, OVER}
+use Rattle.smp_words.specs.declared.phase.TheConstants.{DISABLE_IRQ, RUN, EXIT, OVER}
 use Rattle.smp_stop_steps.specs.declared.stage.Visit.{Visit}
 use Rattle.smp_stop_steps.proofs.Steps.Facts.{inside_keeps, state_near}
 use Rattle.smp_stop_steps.proofs.Promises.Functions.{runs_alone}

@@ -7,7 +7,7 @@ use Rattle.smp_stop_steps.specs.Callings.{answer_in as carried_answer}
 use Rattle.smp_stop_steps.specs.Labels.{patch_answer}
 use Rattle.smp_stop_steps.specs.Start.{answer_word}
 use Rattle.smp_stop_steps.specs.Tells.{first_readings}
-use Rattle.smp_stop_steps.specs.declared.phase.TheConstants.{DISABLE_IRQ, RUN, EXIT}
+use Rattle.smp_words.specs.declared.phase.TheConstants.{DISABLE_IRQ, RUN, EXIT}
 use Rattle.smp_multi.specs.Names.{Work, Kind, One, Multi, Patch, Carries}
 use Rattle.smp_multi.specs.Answers.{call_of}
 use Rattle.smp_multi.specs.Cpu.{CpuValue, Inside, runs, answers, makes}

@@ -6,7 +6,7 @@ use Rattle.smp_words.specs.Size.{cpus}
 use Rattle.smp_stop_steps.specs.Known.{stepped}
 use Rattle.smp_stop_steps.specs.KnownAfter.{looked_known}
 use Rattle.smp_stop_steps.specs.Sits.{IsLoaded, OwnsIf}
-use Rattle.smp_stop_steps.specs.declared.phase.TheConstants.{DISABLE_IRQ, RUN}
+use Rattle.smp_words.specs.declared.phase.TheConstants.{DISABLE_IRQ, RUN}
 use Rattle.smp_stop_steps.specs.declared.stage.Visit.{Visit}
 use Rattle.smp_multi.specs.Names.{Kind, One, Multi, Patch, In, Rests, Known, Calls}
 use Rattle.smp_multi.specs.Cpu.{call_with}

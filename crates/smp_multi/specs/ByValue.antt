@@ -2,7 +2,7 @@
 use Rattle.std.specs.Prelude.{◌≡◌, ℤ, true, false, Some, Result, Ok, Err}
 use Rattle.smp_mask.specs.Mask.{has}
 use Rattle.smp_stop_steps.specs.Start.{answer_word}
-use Rattle.smp_stop_steps.specs.declared.phase.TheConstants.{DISABLE_IRQ, RUN}
+use Rattle.smp_words.specs.declared.phase.TheConstants.{DISABLE_IRQ, RUN}
 use Rattle.smp_multi.specs.Names.{Kind, One, Multi, Patch, Calls}
 use Rattle.smp_multi.specs.Advance.{Advances, IsInRound, carries, looks}
 use Rattle.smp_multi.specs.Answers.{IsInOne, call_of}

@@ -2,7 +2,7 @@
 use Rattle.std.specs.Prelude.{◌≡◌, ℤ, true, false, Some, [], ◌∷◌, ◌++◌}
 use Rattle.smp_mask.specs.Mask.{has}
 use Rattle.smp_stop_steps.specs.Start.{answer_word}
-use Rattle.smp_stop_steps.specs.declared.phase.TheConstants.{DISABLE_IRQ, RUN}
+use Rattle.smp_words.specs.declared.phase.TheConstants.{DISABLE_IRQ, RUN}
 use Rattle.smp_multi.specs.Names.{Kind, One, Multi, Patch, Known, Work}
 use Rattle.smp_multi.specs.Advance.{looks, runs_at_run}
 use Rattle.smp_multi.specs.Answers.{completes_one}

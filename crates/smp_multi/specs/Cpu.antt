@@ -10,7 +10,7 @@ use Rattle.smp_stop_steps.specs.Callings.{with_answer}
 use Rattle.smp_stop_steps.specs.Seats.{irq_of}
 use Rattle.smp_stop_steps.specs.Sits.{SitsAtRest, OwnsIf}
 use Rattle.smp_stop_steps.specs.Tells.{calls_at_run}
-use Rattle.smp_stop_steps.specs.declared.phase.TheConstants.{DISABLE_IRQ}
+use Rattle.smp_words.specs.declared.phase.TheConstants.{DISABLE_IRQ}
 use Rattle.smp_stop_steps.specs.declared.stage.Visit.{Visit}
 use Rattle.smp_stop_steps.specs.declared.start.Terms.{Terms}
 use Rattle.smp_multi.specs.Names.{Attempt, Work, Seat, In, Gives, Alters, Known, OwnMove, Part, Setting, StopCall, Calling, Idle, Carries}

@@ -6,7 +6,7 @@ use Rattle.smp_stop_steps.specs.Shows.{StopShows}
 use Rattle.smp_stop_steps.specs.State.{Present, StopState}
 use Rattle.smp_stop_steps.specs.Stop.{Stop, acked}
 use Rattle.smp_stop_steps.specs.StopLaws.{KeepsStopLaws}
-use Rattle.smp_stop_steps.specs.declared.phase.TheConstants.{DISABLE_IRQ, RUN}
+use Rattle.smp_words.specs.declared.phase.TheConstants.{DISABLE_IRQ, RUN}
 use Rattle.smp_multi.specs.Names.{Word, Gate, Slot, Key, Work, Seat, In, Alters, Source, Known}
 use Rattle.smp_multi.specs.Names.field
 use Rattle.smp_multi.specs.Cpu.{CpuValue, Inside, cpu_of}

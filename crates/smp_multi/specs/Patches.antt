@@ -9,7 +9,7 @@ use Rattle.smp_stop_steps.specs.KnownAfter.{counted, is_drafting}
 use Rattle.smp_stop_steps.specs.Labels.{Change, count_set}
 use Rattle.smp_stop_steps.specs.Sits.{IsLoaded}
 use Rattle.smp_stop_steps.specs.Tells.{plan_at}
-use Rattle.smp_stop_steps.specs.declared.phase.TheConstants.{DISABLE_IRQ}
+use Rattle.smp_words.specs.declared.phase.TheConstants.{DISABLE_IRQ}
 use Rattle.smp_stop_steps.specs.declared.stage.Visit.{Visit}
 use Rattle.smp_multi.specs.Names.{Work, Seat, In, Alters, Known, Moved}
 use Rattle.smp_multi.specs.Cells.{cells}

@@ -6,7 +6,7 @@ use Rattle.smp_words.specs.Access.{word_of}
 use Rattle.smp_stop_steps.specs.AnswerWords.{IsI32Word}
 use Rattle.smp_stop_steps.specs.Known.{fresh}
 use Rattle.smp_stop_steps.specs.Moves.{Can, Move, Acknowledge, AcknowledgePatch, Alter, Give, Count, CountGiven}
-use Rattle.smp_stop_steps.specs.declared.phase.TheConstants.{DISABLE_IRQ}
+use Rattle.smp_words.specs.declared.phase.TheConstants.{DISABLE_IRQ}
 use Rattle.smp_multi.specs.Names.{Access, Load, Store, Exchange, Sub, And, Known, SeatView, Setting, Cpu, Word, Slot}
 use Rattle.smp_multi.specs.Names.field
 use Rattle.smp_words.specs.declared.access.Access.TheVariants.{Swap}

@@ -7,7 +7,7 @@ use Rattle.smp_stop_steps.specs.KnownAfter.{counted, looked_known, looked_to}
 use Rattle.smp_stop_steps.specs.Labels.{count_set, patch_answer}
 use Rattle.smp_stop_steps.specs.Stages.{visit_acked}
 use Rattle.smp_stop_steps.specs.declared.known.Moved.{Moved as CountMoved}
-use Rattle.smp_stop_steps.specs.declared.phase.TheConstants.{DISABLE_IRQ, RUN, EXIT}
+use Rattle.smp_words.specs.declared.phase.TheConstants.{DISABLE_IRQ, RUN, EXIT}
 use Rattle.smp_stop_steps.specs.declared.stage.Visit.{Visit}
 use Rattle.smp_multi.specs.Names.{Key, Work, Kind, One, Multi, Patch, Seat, Known, Carries}
 use Rattle.smp_multi.specs.Places.{work_in}

@@ -10,8 +10,8 @@ use crate::cpu::StopCpu;
 use crate::seat::run_steps::begin_one;
 use crate::seat::{CpuSeat, Words};
 use crate::turn::{Go, Turn, begin_turn};
-use smp_stop_steps::phase::EXIT;
 use smp_stop_steps::stage::Visit;
+use smp_words::phase::EXIT;
 use smp_words::work::Kind;
 use std::marker::Model;
 

@@ -11,8 +11,8 @@ ghost use Rattle.smp_multi.specs.StepCounts.{completing};
 
 use crate::seat::run_steps::complete_round;
 use crate::seat::{CpuSeat, Words, store};
-use smp_stop_steps::phase::EXIT;
 use smp_words::field::Field;
+use smp_words::phase::EXIT;
 use smp_words::word::Word;
 
 /// Where this was found in the count of who has not completed: the last of all stores done.

@@ -8,8 +8,8 @@ ghost use Rattle.smp_multi.specs.Lives.{Lives};
 ghost use Rattle.smp_multi.specs.Cpu.{fresh_cpu, is_in};
 
 use crate::seat::CpuSeat;
-use smp_stop_steps::phase::{DISABLE_IRQ, EXIT};
 use smp_stop_steps::stage::Visit;
+use smp_words::phase::{DISABLE_IRQ, EXIT};
 use std::marker::Model;
 
 /// One CPU between two calls, seen as its table, its number, its own stop that is not collected, the stop that it is

@@ -12,9 +12,9 @@ ghost use Rattle.smp_multi.specs.Rounds.{AtTurn, passed_by};
 
 use crate::seat::{CpuSeat, Words, load, store, subtract};
 use smp_stop_steps::mask::weight;
-use smp_stop_steps::phase::{DISABLE_IRQ, EXIT, RUN};
 use smp_stop_steps::stage::Visit;
 use smp_words::field::Field;
+use smp_words::phase::{DISABLE_IRQ, EXIT, RUN};
 use smp_words::word::Word;
 
 /// Loads the phase: the one that the CPU has acknowledged last, or the next one.

@@ -18,8 +18,8 @@ use crate::func::StopFunc;
 use crate::seat::run_steps::begin_one;
 use crate::seat::{CpuSeat, Words};
 use crate::turn::{Go, Turn, begin_turn};
-use smp_stop_steps::phase::EXIT;
 use smp_stop_steps::stage::Visit;
+use smp_words::phase::EXIT;
 
 /// Calls the function of the stop of this slot, and completes with its answer.
 pub(crate) fn run_one<F: StopFunc>(

@@ -1,11 +1,12 @@
-//! A CPU's seat. Its steps are those of [`access`], the one page that names a raw seat. The steps round a stop
-//! function, and those of a patch, are made in the pages below this one alone.
+//! A CPU's seat. Its steps are those of [`access`]. That page and `crowd` below it alone name a raw seat. The steps round a
+//! stop function, and those of a patch, are made in the pages beside it alone.
 
 pub(crate) mod access;
 pub(crate) mod patch_steps;
 mod plays;
 pub(crate) mod run_steps;
 
+pub(crate) use access::crowd::{SeatCrowd, all_together, gather, give, take};
 pub(crate) use access::{
     CpuSeat, Owner, SeatMaker, Words, exchange, lay, load, mask, next_seat, store, subtract,
     together,

@@ -12,8 +12,8 @@ use crate::round::{look, move_on};
 use crate::seat::run_steps::begin_run;
 use crate::seat::{CpuSeat, Words};
 use smp_stop_steps::mask::has_bit;
-use smp_stop_steps::phase::{EXIT, RUN};
 use smp_stop_steps::stage::Visit;
+use smp_words::phase::{EXIT, RUN};
 use smp_words::work::Kind;
 
 /// What a turn has done.

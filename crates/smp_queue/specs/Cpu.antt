@@ -12,7 +12,7 @@ use Rattle.smp_call_steps.specs.Places.{IsCall}
 use Rattle.smp_call_steps.specs.Stands.{posted}
 use Rattle.smp_call_steps.specs.Calls.{CallState, no_calls}
 use Rattle.smp_call_steps.specs.Parts.{part_of, part_confirmed, part_sent, part_queued}
-use Rattle.smp_queue.specs.Names.{Class, Known, Part, Posting, Logged, HeadSeen, Setting}
+use Rattle.smp_queue.specs.Names.{Class, Known, Part, Posting, Logged, DirectCall, HeadSeen, Setting}
 use Rattle.smp_queue.specs.Names.logged
 use Rattle.smp_call_steps.specs.Known.{posting_of}
 use Rattle.smp_call_steps.specs.Heads.{Found, last_found, times_lost, heads_with, heads_won, AreOthers}
@@ -34,9 +34,8 @@ table_with table k = record { table = table; nr = k.nr; online = k.online }
 
 -- a CPU between two calls: its table, what that is made with, its number, its own part of the calls, how many
 -- compare-exchanges of heads it has made, what it has found in heads, by which kind of access, the calls that it has
--- queued, the interrupts that it has sent and its direct calls that were noted, in order, how many steps it has made outside
--- handle, and how many of these and how many takes of its interrupt word it had made when it last queued a call or sent an
--- interrupt
+-- queued and the interrupts that it has sent, in order, its direct calls, how many steps it has made outside handle, and how
+-- many of these and how many takes of its interrupt word it had made when it last queued a call or sent an interrupt
 pub record CpuValue : Type 0 where
   pub table : TableId
   pub setting : Setting
@@ -45,6 +44,7 @@ pub record CpuValue : Type 0 where
   pub tried : ℕ
   pub heads : List HeadSeen
   pub log : List Logged
+  pub direct : List DirectCall
   pub steps : ℕ
   pub sent_at : ℕ
   pub asked_at : ℕ
@@ -59,6 +59,7 @@ cpu_of d = record {
   tried = d.known.tried;
   heads = d.known.heads;
   log = d.known.log;
+  direct = d.known.direct;
   steps = d.known.steps;
   sent_at = d.known.sent_at;
   asked_at = d.known.asked_at;
@@ -78,6 +79,7 @@ fresh_cpu t cpu = record {
   tried = 0;
   heads = [];
   log = [];
+  direct = [];
   steps = 0;
   sent_at = 0;
   asked_at = 0;
@@ -117,9 +119,9 @@ sends to c = record c {
   asked_at = length c.part.asked;
 }
 
--- a CPU that has noted a direct call, by one step of which nothing else is told
+-- a CPU that has made a direct call, by no step: its entry has what it had counted and logged by then
 abbrev pub notes_call : CpuValue → CpuValue
-notes_call c = record c { log = c.log ++ logged.Called c.steps (length c.part.asked) ∷ []; steps = c.steps + 1 }
+notes_call c = record c { direct = c.direct ++ record { steps = c.steps; asked = length c.part.asked; logged = length c.log } ∷ [] }
 
 -- how many steps a post makes that has found these numbers in a head: eight, and two more for each compare-exchange in vain
 abbrev pub steps_of_post : Found → ℕ

@@ -10,6 +10,7 @@ pub use Rattle.smp_words.specs.declared.seen.Act.TheVariants as act
 pub use Rattle.smp_call_steps.specs.declared.known.Known.{Known}
 pub use Rattle.smp_call_steps.specs.declared.known.Part.{Part}
 pub use Rattle.smp_call_steps.specs.declared.known.Logged.{Logged}
+pub use Rattle.smp_call_steps.specs.declared.known.DirectCall.{DirectCall}
 pub use Rattle.smp_call_steps.specs.declared.known.Logged.TheVariants as logged
 pub use Rattle.smp_call_steps.specs.declared.known.HeadSeen.{HeadSeen}
 pub use Rattle.smp_call_steps.specs.declared.known.HeadSeen.TheVariants as head

@@ -1,7 +1,7 @@
 -- What each kind of access tells: what the CPU knows after it, which is its part of some calls that some words show.
 use Rattle.std.specs.Prelude.{◌≡◌, ℕ, ◌==◌, if◌then◌else◌, Some, None}
 use Rattle.atomic_table.specs.Table.{Me, Step}
-use Rattle.smp_call_steps.specs.Known.{known_told, known_taking, noted_known, Moment}
+use Rattle.smp_call_steps.specs.Known.{known_told, known_taking, Moment}
 use Rattle.smp_queue.specs.Names.{Word, SeatView, Cpu, Known}
 use Rattle.smp_queue.specs.Names.act
 use Rattle.smp_queue.specs.Cells.{cell_of}
@@ -26,13 +26,6 @@ module _ {S : Type 0} where
   abbrev pub AfterSwap : Step S → Me S SeatView → ℕ → Me S SeatView → Type 0
   AfterSwap st m n m' = let v = known m.0 in (w : Word) → cell_of w ≡ Some st.word
       → (t : Moment v w n) × (m'.0 ≡ Cpu (known_taking (t.lives.calls.queue v.number) v act.Swap w (Some n) (Some st.first)))
-
-  -- a load that tells nothing of the calls, by which a direct call is noted
-  abbrev pub AfterNote : Step S → Me S SeatView → ℕ → Me S SeatView → Type 0
-  AfterNote st m n m' = m'.0 ≡ Cpu (noted_known (known m.0))
-
-  abbrev pub noted : Step S → Me S SeatView → ℕ → Me S SeatView → Type 0
-  noted st m n m' = Sits (known m'.0) × AfterNote st m n m'
 
   abbrev pub loaded : Step S → Me S SeatView → ℕ → Me S SeatView → Type 0
   loaded st m n m' = Sits (known m'.0) × AfterLoad st m n m'

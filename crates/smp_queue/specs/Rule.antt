@@ -8,7 +8,7 @@ use Rattle.smp_words.specs.Size.{cpus}
 use Rattle.smp_call_steps.specs.Calls.{CallState}
 use Rattle.smp_call_steps.specs.Stages.{ControlValue}
 use Rattle.smp_call_steps.specs.Shows.{Shows}
-use Rattle.smp_call_steps.specs.Known.{Sees, Lives, fresh}
+use Rattle.smp_call_steps.specs.Known.{Sees, Lives, fresh, noted_known}
 use Rattle.smp_queue.specs.Names.{Word, Head, Intr, Known, Setting, SeatView, Maker, New, Cpu}
 use Rattle.smp_queue.specs.Cells.{cells, number_in}
 
@@ -42,6 +42,10 @@ after v = v
 abbrev pub seat_made : SeatView → SeatView
 seat_made (Maker n k) = New (next_online k n) k
 seat_made v = v
+
+-- the seat of a CPU that has noted a direct call
+abbrev pub noted : SeatView → SeatView
+noted v = Cpu (noted_known (known v))
 
 -- the first seat has come to a number: the CPUs below it that are online have a seat
 abbrev pub HasComeTo : SeatView → Setting → ℕ → Type 0

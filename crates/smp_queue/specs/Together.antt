@@ -1,13 +1,17 @@
 -- Calls of one moment, and the CPUs that are parts of them.
-use Rattle.std.specs.Prelude.{◌≡◌, ℕ, ◌++◌}
+use Rattle.std.specs.Prelude.{◌≡◌, ℕ, ◌++◌, All, List, [], ◌∷◌}
+use Rattle.atomic_table.specs.Table.{Me}
+use Rattle.atomic_table.specs.Seated.{TableId}
 use Rattle.smp_call_steps.specs.Calls.{CallState}
 use Rattle.smp_call_steps.specs.Histories.{calls_from, calls_to, running_call}
 use Rattle.smp_call_steps.specs.Known.{Sees}
 use Rattle.smp_call_steps.specs.Order.{IsPrefix, of_class}
 use Rattle.smp_call_steps.specs.Shows.{Shows}
 use Rattle.smp_call_steps.specs.Stages.{ControlValue}
-use Rattle.smp_queue.specs.Names.{Class, Known, Word}
-use Rattle.smp_queue.specs.Cpu.{CpuValue, cpu_in}
+use Rattle.smp_queue.specs.Names.{Class, Known, SeatView, Setting, Word}
+use Rattle.smp_queue.specs.Rule.{known}
+use Rattle.smp_queue.specs.Seat.{IsCpuSeat}
+use Rattle.smp_queue.specs.Cpu.{CpuValue, cpu_in, cpu_of}
 
 -- some words and stages that show some calls
 pub record CallsNow : Type 0 where
@@ -40,3 +44,58 @@ abbrev pub RunsWhatIsSent : CpuValue → CpuValue → Type 0
 RunsWhatIsSent source target = (class : Class) →
     IsPrefix (of_class class (calls_from source.number (target.part.ran ++ running_call target.part.running)))
     (of_class class (calls_to target.number source.part.sent))
+
+-- seats that are looked at together: their table and, of each, the name under which another one stands in its place, and what its
+-- CPU knows
+pub record SeatsValue : Type 0 where
+  pub table : TableId
+  pub seats : List (TableId × Known)
+
+abbrev pub seats_of : List (TableId × (ℕ × Me (Unit {0}) SeatView)) → List (TableId × Known)
+seats_of [] = []
+seats_of (m ∷ ms) = (m.0, known m.1.1.0) ∷ seats_of ms
+
+abbrev pub AreCpuSeats : List (TableId × (ℕ × Me (Unit {0}) SeatView)) → Type 0
+AreCpuSeats [] = Unit {0}
+AreCpuSeats (m ∷ ms) = IsCpuSeat m.1.1.0 × AreCpuSeats ms
+
+-- what all these CPUs know is their parts of these calls
+abbrev pub SeeAll : CallsNow → Setting → List (TableId × Known) → Type 0
+SeeAll now k [] = Unit {0}
+SeeAll now k (m ∷ ms) = (Sees now.calls now.controls m.1 × (m.1.setting ≡ k)) × SeeAll now k ms
+
+pub record KnowAllTogether (ms : List (TableId × Known)) : Type 0 where
+  pub now : CallsNow
+  pub setting : Setting
+  pub parts : SeeAll now setting ms
+
+-- CPUs that are looked at together: their table, and each CPU's value behind the name of the table at which it stands meanwhile
+pub record CrowdValue : Type 0 where
+  pub table : TableId
+  pub cpus : List (TableId × CpuValue)
+
+abbrev pub cpus_at : TableId → List (TableId × Known) → List (TableId × CpuValue)
+cpus_at table [] = []
+cpus_at table (m ∷ ms) = (m.0, cpu_of (record { table = table; known = m.1 })) ∷ cpus_at table ms
+
+abbrev pub values : List (TableId × CpuValue) → List CpuValue
+values [] = []
+values (m ∷ ms) = m.1 ∷ values ms
+
+abbrev pub crowd_of : SeatsValue → CrowdValue
+crowd_of s = record { table = s.table; cpus = cpus_at s.table s.seats }
+
+-- these values are their CPUs' parts of these calls, and all are of one setting
+abbrev pub ArePartsOf : CallsNow → Setting → List CpuValue → Type 0
+ArePartsOf now k [] = Unit {0}
+ArePartsOf now k (c ∷ cs) = (IsPartOf now c × (c.setting ≡ k)) × ArePartsOf now k cs
+
+-- the values of all these CPUs are their parts of the same calls
+pub record AreAllTogether (cs : List CpuValue) : Type 0 where
+  pub now : CallsNow
+  pub setting : Setting
+  pub parts : ArePartsOf now setting cs
+
+-- of any two of these values, the one runs what the other sends
+abbrev pub AllRunWhatIsSent : List CpuValue → Type 0
+AllRunWhatIsSent cs = All (λ c. All (λ d. RunsWhatIsSent c d) cs) cs

@@ -8,8 +8,8 @@ ghost use Rattle.std.specs.Prelude.{◌≡◌, ◌<◌, true, false, None, List,
 ghost use Rattle.smp_words.specs.Size.{cpus};
 ghost use Rattle.smp_call_steps.specs.Order.{order};
 ghost use Rattle.smp_call_steps.specs.Drains.{reverse_on};
-ghost use Rattle.smp_call_steps.specs.Known.{outside_known, Lives};
-ghost use Rattle.smp_call_steps.specs.Handling.{handling, accepted_known, taken_known, IsLeaving};
+ghost use Rattle.smp_call_steps.specs.Known.{Lives};
+ghost use Rattle.smp_call_steps.specs.Handling.{handling, accepted_known, taken_known, left_known, IsLeaving};
 ghost use Rattle.smp_words.specs.declared.call.Call.{Call};
 ghost use Rattle.smp_call_steps.specs.declared.handle.HandleStage.{HandleStage};
 ghost use Rattle.smp_call_steps.specs.declared.handle.HandleStage.TheVariants as handle;
@@ -70,7 +70,7 @@ fn leave(words: Words, seat: &mut CpuSeat, number: u32)
     requires at { (stage : HandleStage) × InHandle words.shared.now.table_id seat.old stage × IsLeaving stage }
     ensures table { seat.new.table ≡ words.entry.shared.now.table_id }
     ensures lives { Lives seat.new.known }
-    ensures known { seat.new.known ≡ outside_known seat.old.known }
+    ensures known { seat.new.known ≡ left_known seat.old.known }
 {
     store(words, seat, Word::Hand(number), 0);
 }

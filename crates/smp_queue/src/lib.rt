@@ -4,7 +4,7 @@
 //! any threads. Each CPU is driven through one value, `CallCpu`.
 //!
 //! Which calls of one table may run together, in the form of `include/linux/llist.h`; `post` is also `post_within`, `send`
-//! also `interrupt`, `is_done` also `call_here`, and `handle` also `rest`, `begin_handle` and `resume`:
+//! also `interrupt`, and `handle` also `rest`, `begin_handle` and `resume`:
 //!
 //! | | `post` | `send` | `is_done` | `tally` | `handle` | `Boot::cpu` | `new` | `audit` |
 //! |---|---|---|---|---|---|---|---|---|
@@ -21,8 +21,8 @@
 //! types refuse it, since `new` makes the table, `audit` takes it, and `Boot::cpu` takes the one `Boot` by `&mut`. The
 //! first five take the caller's `CallCpu` by `&mut` or by value. So `-` is about two CPUs, and a CPU makes one call at a time.
 //!
-//! `wake`, `wake_waiting`, `wake_next`, `set_alarm`, `pause`, `pause_alone`, `line` and `together` make no step. They may run together
-//! with all calls but `new` and `audit`.
+//! `wake`, `wake_waiting`, `wake_next`, `set_alarm`, `pause`, `pause_alone`, `line`, `call_here`, `together`, `crowd` and
+//! `all_together` make no step. They may run together with all calls but `new` and `audit`.
 //! `sleep_after` takes the table by `&mut`, so it comes before threads share the table.
 //!
 //! A caller that can lend no handler runs a batch itself. `begin_handle` takes a `CallCpu` and gives a `Next`. At `Next::Run`
@@ -41,6 +41,7 @@ mod both;
 mod cell;
 mod closing;
 mod cpu;
+mod crowd;
 mod handle;
 mod handler;
 pub mod laws;
@@ -63,6 +64,7 @@ pub use audit::{Audit, Left, Tally};
 pub use boot::Boot;
 pub use closing::ClosedTable;
 pub use cpu::CallCpu;
+pub use crowd::CallCrowd;
 pub use handle::Handled;
 pub use handler::{Handler, Heard};
 pub use line_wait::LineWait;

@@ -1,10 +1,11 @@
-//! A CPU's seat. Its steps are those of [`access`], the one page that names a raw seat. The steps that begin, count and end a
-//! call are made in the page below this one alone.
+//! A CPU's seat. Its steps are those of [`access`]. That page and `crowd` below it alone name a raw seat. The steps that
+//! begin, count and end a call are made in the page beside it alone.
 
 pub(crate) mod access;
 pub mod call_steps;
 mod plays;
 
+pub(crate) use access::crowd::{SeatCrowd, all_together, gather, give, take};
 pub(crate) use access::{
     CpuSeat, Owner, SeatMaker, Words, close, exchange, lay, load, next_seat, note_call, store,
     swap, together,

@@ -418,19 +418,17 @@ impl<A: Allocator> CallTable<A> {
         Ok(first)
     }
 
-    /// Runs a function on this CPU itself, with no queue, and notes it in the CPU's log. The entry has the number of steps
-    /// that the CPU has made by then, and the number of takes of its interrupt word.
+    /// Runs a function on this CPU itself, with no queue, and notes it among the CPU's direct calls. The entry has the number of
+    /// steps that the CPU has made by then, the number of takes of its interrupt word, and how long its log is.
     ///
-    /// It takes effect at its one step, a load of a word of its own by which it is noted; it does not wait, and nobody must
-    /// poll.
+    /// It makes no step, since what is noted is for clauses alone; it does not wait, and nobody must poll.
     pub fn call_here<H: Handler>(&self, me: &mut CallCpu, handler: &mut H, func: u16, info: u64)
         requires { me.old.table ≡ self.now.table }
         ensures called { H.leads handler.old (heard me.old.number func info) handler.new }
         ensures noted { me.new ≡ notes_call me.old }
         ensures laws { IsShown me.new }
     {
-        let own = record_of(me.number, 0);
-        note_call(self.owner.words(), &mut me.seat, Word::Flags(own));
+        note_call(self.owner.words(), &mut me.seat);
         handler.call(me.number, func, info);
         me.is_shown();
     }

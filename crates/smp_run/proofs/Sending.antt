@@ -85,6 +85,10 @@ module _ {H : Type 0} (leads : H → Heard → H → Type 0) where
       → HasSent [] old new → HasSent (calls_to (λ _. call) (queue_of_one online old.calls.number dst)) old new
   by_none online dst call old new none s = sent_as _ _ old new (ap (λ (l : List ℕ). calls_to (λ _. call) l) (sym none)) s
 
+  sent_here : (func info : ℕ) (wait : Bool) (old new : MachineCpuValue) (h h' : H) → CallsHere leads old.calls h new.calls h' func info wait
+      → HasSent [] old new
+  sent_here func info wait old new h h' c = sent_nothing old new (ap (λ (x : CpuValue). x.part.sent) c.3 ∙ c.2.sent_is)
+
   pub single_sent : (online dst func info : ℕ) (wait : Bool) (old new : MachineCpuValue) (h h' : H) (made : Result (Unit {0}) SmpError)
       → old.stops.inside ≡ None
       → IfOk made (λ _. dst ≢ old.calls.number → (has online dst ≡ true) × CallsOne leads old.calls h new.calls h' dst func info wait)
@@ -93,7 +97,7 @@ module _ {H : Type 0} (leads : H → Heard → H → Type 0) where
       × (has online dst ≡ false) × QueuesNone leads old.calls h new.calls h' wait))
       → HasSent (calls_to (λ _. call_by old.calls.number (single_record wait) (class_for wait) func info) (queue_of_one online old.calls.number dst)) old new
   single_sent online dst func info wait old new h h' (Ok u) free queued here refused = elim (cases_eq dst old.calls.number) [
-    | inl own ↦ by_none online dst _ old new (own_queue online old.calls.number dst own) (sent_nothing old new (here own).1.sent_is)
+    | inl own ↦ by_none online dst _ old new (own_queue online old.calls.number dst own) (sent_here func info wait old new h h' (here own))
     | inr other ↦ let q = queued other in by_one online dst _ func info _ wait old new h h' q.0 other q.1
   ]
   single_sent online dst func info wait old new h h' (Err e) free queued here (inl held) = absurd (held.in_hand free)
@@ -219,7 +223,7 @@ module _ {H : Type 0} (leads : H → Heard → H → Type 0) where
       let call : ℕ → Call = λ _. call_by old.calls.number (single_record wait) (class_for wait) func info in
       elim (cases_Bool (has mask old.calls.number)) [
         | inl own ↦ sent_as _ _ old new (ap (λ (l : List ℕ). calls_to call l) (sym (own_any online old.calls.number mask own)))
-            (sent_nothing old new (here (is.own own)).1.sent_is)
+            (sent_here leads func info wait old new h h' (here (is.own own)))
         | inr lacks ↦
             let c = queued (not_own mask online old.calls.number cpu lacks is) in
             let there = (and_parts (has mask cpu) (has online cpu) (is.lowest lacks).passing).1 in

@@ -12,6 +12,7 @@ use Rattle.smp_words.specs.declared.call.Call.{Call}
 use Rattle.smp_words.specs.declared.call.Class.{Class}
 use Rattle.smp_words.specs.declared.call.Class.TheVariants.{Async}
 use Rattle.smp_call_steps.specs.declared.known.Sending.{Sending}
+use Rattle.smp_call_steps.specs.declared.known.DirectCall.{DirectCall}
 use Rattle.smp_queue.specs.Cpu.{CpuValue, confirmed_at, confirms, looks}
 use Rattle.smp_queue.specs.declared.handler.Heard.{Heard}
 use Rattle.smp_calls.specs.Families.{CallsBy, CallsHere, CallsMany, CallsOne, CallsUserHere, CallsWith, QueuesNone, RefusesUser}
@@ -95,8 +96,9 @@ set_true (x ∷ xs) (suc i) zero e = e
 set_true (x ∷ xs) (suc i) (suc j) e = set_true xs i j e
 
 -- a record was seen confirmed
-waits_confirmed : (old new : MachineCpuValue) (k : ℕ) → new.calls ≡ looks (confirms k old.calls) → HasWaited old → HasWaited new
-waits_confirmed old new k e was =
+waits_confirmed : (old new : MachineCpuValue) (k : ℕ) (direct : List DirectCall) → new.calls ≡ record (looks (confirms k old.calls)) { direct = direct }
+    → HasWaited old → HasWaited new
+waits_confirmed old new k direct e was =
     waits_same old new (ap (λ (c : CpuValue). c.number) e) (ap (λ (c : CpuValue). c.part.sent) e)
     (λ i low t. subst (λ (c : CpuValue). confirmed_at c i ≡ true) (sym e)
     (set_true old.calls.part.confirmed (record_of old.calls.number k) (record_of old.calls.number i) t)) was
@@ -106,6 +108,15 @@ module _ {H : Type 0} (leads : H → Heard → H → Type 0) where
   waits_none wait old new h h' q was =
       waits_same old new q.number_is (q.sent_is ∙ append-nil old.calls.part.sent)
       (λ k low t. q.confirmed_are k low ∙ or_right (not wait && k == 1) (confirmed_at old.calls k) t) was
+
+  waits_here : (func info : ℕ) (wait : Bool) (old new : MachineCpuValue) (h h' : H) → CallsHere leads old.calls h new.calls h' func info wait
+      → HasWaited old → HasWaited new
+  waits_here func info wait old new h h' c was =
+      let q = c.2 in
+      waits_same old new (ap (λ (x : CpuValue). x.number) c.3 ∙ q.number_is)
+      (ap (λ (x : CpuValue). x.part.sent) c.3 ∙ (q.sent_is ∙ append-nil old.calls.part.sent))
+      (λ k low t. ap (λ (x : CpuValue). confirmed_at x k) c.3 ∙ (q.confirmed_are k low
+      ∙ or_right (not wait && k == 1) (confirmed_at old.calls k) t)) was
 
   waits_by : (k dst func info : ℕ) (class : Class) (wait : Bool) (old new : MachineCpuValue) (h h' : H) → is_sync class ≡ wait
       → CallsBy leads old.calls h new.calls h' k class dst func info wait → HasWaited old → HasWaited new
@@ -120,7 +131,7 @@ module _ {H : Type 0} (leads : H → Heard → H → Type 0) where
       × (has online dst ≡ false) × QueuesNone leads old.calls h new.calls h' wait))
       → HasWaited old → HasWaited new
   waited_single online dst func info wait old new h h' (Ok u) free queued here refused was = elim (cases_eq dst old.calls.number) [
-    | inl own ↦ let q = here own in waits_none wait old new h q.0 q.1 was
+    | inl own ↦ waits_here func info wait old new h h' (here own) was
     | inr other ↦ waits_by _ dst func info (class_for wait) wait old new h h' (class_waits wait) (queued other).1 was
   ]
   waited_single online dst func info wait old new h h' (Err e) free queued here (inl held) was = absurd (held.in_hand free)
@@ -131,7 +142,7 @@ module _ {H : Type 0} (leads : H → Heard → H → Type 0) where
   refused_user online u dst old new error.Busy r was =
       waits_same old new (ap (λ (c : CpuValue). c.number) r.2) (ap (λ (c : CpuValue). c.part.sent) r.2)
       (λ k low t. subst (λ (c : CpuValue). confirmed_at c k ≡ true) (sym r.2) t) was
-  refused_user online u dst old new error.NoCpu r was = waits_confirmed old new (user_record u) r.3 was
+  refused_user online u dst old new error.NoCpu r was = waits_confirmed old new (user_record u) old.calls.direct r.3 was
   refused_user online u dst old new error.NoStopper r was = absurd r
   refused_user online u dst old new error.Contended r was = absurd r
   refused_user online u dst old new error.NoMemory r was = absurd r
@@ -150,7 +161,7 @@ module _ {H : Type 0} (leads : H → Heard → H → Type 0) where
       → IfErr made (λ e. RefusedInHand e old h new h' ⊎ ((old.stops.inside ≡ None) × RefusesUser online old.calls new.calls u dst e × (h' ≡ h)))
       → HasWaited old → HasWaited new
   waited_user online dst u func info old new h h' (Ok x) free queued here refused was = elim (cases_eq dst old.calls.number) [
-    | inl own ↦ waits_confirmed old new (user_record u) (here own).0 was
+    | inl own ↦ waits_confirmed old new (user_record u) _ (here own).0 was
     | inr other ↦ waits_by _ dst func info Async false old new h h' refl (queued other).1 was
   ]
   waited_user online dst u func info old new h h' (Err e) free queued here (inl held) was = absurd (held.in_hand free)
@@ -163,7 +174,7 @@ module _ {H : Type 0} (leads : H → Heard → H → Type 0) where
       × (new.calls ≡ old.calls) × (h' ≡ h)))
       → HasWaited old → HasWaited new
   waited_any online mask func info wait old new h h' (Ok cpu) free queued here refused was = elim (cases_eq cpu old.calls.number) [
-    | inl own ↦ let q = here own in waits_none wait old new h q.0 q.1 was
+    | inl own ↦ waits_here func info wait old new h h' (here own) was
     | inr other ↦ waits_by _ cpu func info (class_for wait) wait old new h h' (class_waits wait) (queued other) was
   ]
   waited_any online mask func info wait old new h h' (Err e) free queued here (inl held) was = absurd (held.in_hand free)

@@ -5,7 +5,7 @@
 //! no other makes a call any more.
 //!
 //! - `sign`: What the line shows to those that wait at it.
-//! - `seats`: What two seats of one table tell of one moment.
+//! - `seats`: Seats of a table at one moment, with no step: what they tell, and what one comes to know.
 #![tactic(auto)]
 
 mod seats;
@@ -13,7 +13,7 @@ mod sign;
 
 use crate::sign::Sign;
 use crossbeam_utils::Backoff;
-pub use seats::both_now;
+pub use seats::{Crowd, Retold, all_now, both_now, retell};
 use std::sync::Wait;
 use std::sync::atomic::{AtomicU64, Ordering};
 
@@ -65,7 +65,8 @@ impl StartLine {
         }
     }
 
-    /// Waits until the line is open or cancelled: whether it is open.
+    /// Waits until the line is open or cancelled: whether it is open. It polls, and gives its processor up between two looks.
+    /// It can't sleep: a start line has no alarm, and the thread that starts the others settles it soon.
     pub fn wait<R: Wait>(&self, rt: &R) -> bool {
         let backoff = Backoff::new();
         for _ in rt.forever() {

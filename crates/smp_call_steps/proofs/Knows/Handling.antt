@@ -3,12 +3,12 @@ use Rattle.std.proofs.Common.{◌≡◌, ◌≢◌, ℕ, ◌%◌, ◌<◌, ◌==
 use Rattle.std.proofs.lemmas.Bool.{eq-eqb}
 use Rattle.smp_words.specs.Size.{cpus, records}
 use Rattle.smp_words.specs.Access.{word_of}
-use Rattle.smp_call_steps.specs.{CallState, CountedCall, DrainValue, record_at, first_on, handle_outcome, drain_after, IsPlaced, AllPlaced}
+use Rattle.smp_call_steps.specs.{CallState, CountedCall, DrainValue, no_drain, record_at, first_on, handle_outcome, drain_after, IsPlaced, AllPlaced}
 use Rattle.smp_call_steps.specs.{nexts_in, last_batch, orders, running_call, ControlValue, access_of, FitsStage, Share, share_of, HandleStands, held_of, Part}
 use Rattle.smp_call_steps.specs.{part_confirmed, part_after, told_stage, told_post, told_handle, known_told, known_taking, stage_after}
 use Rattle.smp_call_steps.specs.{drain_then, tried_after, heads_after, log_after, steps_after, sent_after, MayStep, known_access}
 use Rattle.smp_call_steps.specs.{Lives, GoesOn, handling, goes_known}
-use Rattle.smp_call_steps.specs.{taken_known, ended_call, Call, Word, Head, Hand, Flags, Func, Info, Next, Access, Act, Posting, PostStage, Walk}
+use Rattle.smp_call_steps.specs.{taken_known, left_known, ended_call, Call, Word, Head, Hand, Flags, Func, Info, Next, Access, Act, Posting, PostStage, Walk}
 use Rattle.smp_call_steps.specs.{HandleStage, Stage, Post, Handle}
 use Rattle.smp_words.proofs.Links.{HasIndex}
 use Rattle.smp_call_steps.proofs.Machine.Accesses.{access_in_table}
@@ -127,8 +127,8 @@ pub taken_is : (queue : List Call) (v : Known) (cpu n : ℕ) → v.stage ≡ Som
 taken_is queue v cpu n e = told_at queue v (Some (Handle handle.Take)) act.Swap (Head cpu) (Some n) (Some 0) e
 
 pub left_is : (v : Known) (cpu : ℕ) (h : HandleStage) → (stage_after (Some (Handle h)) v.drain act.Store (Hand cpu) None (Some 0) ≡ None)
-    → v.stage ≡ Some (Handle h) → (drain_then (Some (Handle h)) v.drain None ≡ v.drain) →
-    known_told v act.Store (Hand cpu) None (Some 0) ≡ record v { stage = None }
+    → v.stage ≡ Some (Handle h) → (drain_then (Some (Handle h)) v.drain None ≡ no_drain) →
+    known_told v act.Store (Hand cpu) None (Some 0) ≡ left_known v
 left_is v cpu h out e d = told_at [] v (Some (Handle h)) act.Store (Hand cpu) None (Some 0) e ∙ (λ i. record v { stage = out i; drain = d i })
 
 -- steps that tell nothing

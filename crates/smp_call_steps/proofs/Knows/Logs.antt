@@ -143,4 +143,4 @@ pub logs_tell : LogsTell
 logs_tell a at control v s sees st aims access is =
     let seen = seen_of v.number access (at (word_of access)) None in
     let t = step_logs a v.number seen.act seen.word seen.found seen.put v.log (λ e. holds_at s sees st aims (ap act_of is ∙ e)) in
-    (t.0, t.1, t.2, t.3 (known_tells (a.queue v.number) v seen).steps v.sent_at, t.3 (length v.part.asked) v.asked_at)
+    (t.0, t.1, t.2, t.3 (known_tells (a.queue v.number) v seen).steps v.sent_at, t.3 (length v.part.asked) v.asked_at, refl)

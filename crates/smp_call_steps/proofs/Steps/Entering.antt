@@ -4,7 +4,7 @@ use Rattle.std.proofs.lemmas.Bool.{eqb-true, eqb-false}
 use Rattle.smp_words.specs.Size.{cpus}
 use Rattle.smp_words.specs.Put.{put, put_word}
 use Rattle.smp_call_steps.specs.{CallState, accepts, handle_goes, ControlValue, bit, IsNoticed, is_pending, is_accepted, is_owed, Noticed, nexts_in, intrs_in}
-use Rattle.smp_call_steps.specs.{hands_in, last_batch, share_of, HandleStands, HandIs, held_of, Word, Intr, Hand, Handle}
+use Rattle.smp_call_steps.specs.{outside, hands_in, last_batch, share_of, HandleStands, HandIs, held_of, Word, Intr, Hand, Handle}
 use Rattle.smp_call_steps.specs.Stands.{Stands}
 use Rattle.smp_call_steps.specs.Shows.{Shows}
 use Rattle.smp_words.proofs.Puts.{at_test, test_here, test_else}
@@ -48,12 +48,12 @@ module _ {a : CallState} {at : Word → ℕ} {control : ℕ → ControlValue} (m
   pub leave_idle_step : (control me).stage ≡ Some (Handle handle.LeaveIdle) → StepShows a at control me (Handle handle.LeaveIdle)
   leave_idle_step e =
       let was = stands_at me s handle.LeaveIdle e in
-      stores_hand 0 (record { stage = None; drain = (control me).drain }) (holds_nothing me s handle.LeaveIdle e) was.1 refl
+      stores_hand 0 outside (holds_nothing me s handle.LeaveIdle e) was.1 refl
 
   pub leave_step : (control me).stage ≡ Some (Handle handle.Leave) → StepShows a at control me (Handle handle.Leave)
   leave_step e =
       let was = stands_at me s handle.Leave e in
-      stores_hand 0 (record { stage = None; drain = (control me).drain }) (holds_nothing me s handle.Leave e) was.1.0 refl
+      stores_hand 0 outside (holds_nothing me s handle.Leave e) was.1.0 refl
 
   abbrev accepted' : ℕ → Bool
   accepted' = put a.accepted me (if a.pending me then true else a.accepted me)

@@ -1,6 +1,6 @@
 //! The words of a table, the seat of a CPU, and the steps that it makes. This page alone reaches the kit's table, which can do
-//! more: each function below makes one step, of a word, by a play of `plays`. No other page names a raw seat or a cell, and
-//! none can.
+//! more: each function below makes one step of a word, by a play of `plays`, or none. No other page names a raw seat or a cell
+//! but [`crowd`], which makes no step, and none can.
 //!
 //! Steps that store an answer or a label are made by `store_any`. Steps that end a stop function, a patch or a stop are made
 //! by `end_with`: from such a step on the CPU carries an answer. Only the pages beside this one see these two.
@@ -22,6 +22,8 @@ ghost use Rattle.smp_multi.specs.Cells.{cells};
 ghost use Rattle.smp_stop_steps.specs.AnswerWords.{IsI32Word};
 ghost use Rattle.smp_multi.specs.Seat.{SeatValue, Able, Ready, fresh_seat};
 ghost use Rattle.smp_multi.specs.Together.{KnowTogether};
+
+pub(crate) mod crowd;
 
 use super::plays::{Answer, Answered, Exchanged, Loaded, Masked, Stored, Subtracted};
 use crate::cell::{FIRST_ENTRY, cell};

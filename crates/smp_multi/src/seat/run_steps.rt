@@ -22,10 +22,10 @@ ghost use Rattle.smp_multi.specs.Seat.{Able};
 ghost use Rattle.smp_multi.specs.StepCounts.{giving};
 
 use super::access::{CpuSeat, Words, end_with, load, store_any};
-use smp_stop_steps::phase::EXIT;
 use smp_stop_steps::stage::Visit;
 use smp_stop_steps::start::answer_word;
 use smp_words::field::Field;
+use smp_words::phase::EXIT;
 use smp_words::word::Word;
 use std::marker::Brand;
 

@@ -132,6 +132,7 @@ module _ (t : TableValue) (last : CpuValue) (words : List ℕ) (c : ClosesWith t
           tried = last.tried;
           heads = last.heads;
           log = last.log;
+          direct = last.direct;
           steps = last.steps;
           sent_at = last.sent_at;
           asked_at = last.asked_at;

@@ -12,6 +12,7 @@ use Rattle.std.proofs.lemmas.List.{get_or-set_same}
 use Rattle.smp_mask.specs.Mask.{has}
 use Rattle.smp_words.proofs.Puts.{put_same, put_other, test_else}
 use Rattle.smp_words.specs.Access.{put_if, seen_of}
+use Rattle.smp_start.specs.Seats.{StaysRuled}
 use Rattle.smp_words.specs.Put.{put, put_word}
 use Rattle.smp_call_steps.specs.Calls.{CallState, no_calls}
 use Rattle.smp_call_steps.specs.Stages.{ControlValue}
@@ -23,8 +24,8 @@ use Rattle.smp_call_steps.proofs.Machine.Starts.{zeros_shown}
 use Rattle.smp_words.proofs.Zeros.{zero_at}
 use Rattle.smp_queue.specs.{Call, Word, Head, Intr, Access, Load, Store, Swap, Exchange, Known, Setting, SeatView, Maker, New, cells, cell_of, number_in, Ruled}
 use Rattle.smp_queue.specs.{next_from, next_online}
-use Rattle.smp_queue.specs.{SeatKnows, Sits, known, after, seat_made, AfterLoad, AfterNote, AfterStore, AfterExchange, AfterSwap}
-use Rattle.smp_queue.specs.{loaded, noted, stored, call_stored, SitsWith, exchanged, swapped}
+use Rattle.smp_queue.specs.{SeatKnows, Sits, known, after, seat_made, noted, AfterLoad, AfterStore, AfterExchange, AfterSwap}
+use Rattle.smp_queue.specs.{loaded, stored, call_stored, SitsWith, exchanged, swapped}
 use Rattle.smp_queue.specs.{IsCpuSeat, MayAccess, Reaches, HasBegun, IsQuiet}
 use Rattle.smp_queue.specs.Names.{Cpu}
 use Rattle.smp_queue.proofs.TheRule.Cells.{one_cell, cell_below, number_here, stored_here}
@@ -315,24 +316,24 @@ module _ {S : Type 0} (k : Setting) where
           ),
         )) (unmoved i)
 
-    -- a load of which nothing is told: the calls stay, and the CPU's part of them
-    pub note_allowed : (i : ℕ) → Allows (Ruled k) slots id me i (λ n. n) (noted (step slots i 0 0 none) me)
-    note_allowed i = steps i (λ n. n) (AfterNote (step slots i 0 0 none) me) (λ a control words shown wide sees. (
-      noted_known v,
-      refl,
-      subst (λ (x : List ℕ). GoesOn a control v.number (number_in x) (noted_known v)) (sym (set-get_or words i 0))
-          record {
-            seen = seen_of v.number (Load (Intr 0)) 0 None;
-            calls = a;
-            told = refl;
-            controls = control;
-            shown = shown;
-            mine = record { stage = sees.stage; drain = sees.drain; part = sees.part };
-            number_is = refl;
-            others = λ o other s. s;
-          },
-      refl,
-    )) (unmoved i)
+    -- a direct call is noted: the words stay, the calls, and the CPU's part of them
+    pub note_stays : StaysRuled {S = S} (Ruled k) id me.0 (noted me.0)
+    note_stays s r at =
+        let mine = knows_as k r.calls r.controls r.seat r.next id me.0 is (r.each_seat id me.0 at) in
+        let w = noted_known v in
+        let still : set s.words 0 (get_or s.words 0 0) ≡ s.words = set-get_or s.words 0 0 in
+        let on = lifts s r id 0 (get_or s.words 0 0) me.0 w me.1 at is refl
+        (subst (λ (x : List ℕ). GoesOn r.calls r.controls v.number (number_in x) w) (sym still) record {
+          seen = seen_of v.number (Load (Intr 0)) 0 None;
+          calls = r.calls;
+          told = refl;
+          controls = r.controls;
+          shown = r.shown;
+          mine = record { stage = mine.3.stage; drain = mine.3.drain; part = mine.3.part };
+          number_is = refl;
+          others = λ o other sees. sees;
+        }) (λ cpu off. subst (λ (x : List ℕ). IsQuiet (number_in x) cpu) (sym still) (r.quiet cpu off)) in
+        subst (λ (x : List ℕ). Ruled k record { words = x; homes = s.homes; views = set s.views id (noted me.0) }) still on.0
 
     pub call_store_allowed : (w : Word) (i x : ℕ) → cell_of w ≡ Some i → MayAccess (known me.0) (Store w x) → Reaches k (known me.0) (Store w x)
         → Allows (Ruled k) slots id me i (λ _. x) (λ _. call_stored (step slots i x 0 none) me x)
@@ -401,6 +402,25 @@ module _ {S : Type 0} (k : Setting) where
 
 pub is_of : (m : SeatView) (w : Known) → m ≡ Cpu w → IsCpuSeat m
 is_of m w e = subst (λ (x : SeatView). IsCpuSeat x) (sym e) tt
+
+-- and it sits as before
+pub note_sits : (m : SeatView) → Sits (known m) → Sits (known (noted m))
+note_sits m s =
+    let lives = s.lives in
+    record {
+      lives = record {
+        calls = lives.calls;
+        at = lives.at;
+        controls = lives.controls;
+        shown = lives.shown;
+        sees = record { stage = lives.sees.stage; drain = lives.sees.drain; part = lives.sees.part };
+      };
+      below = s.below;
+      online = s.online;
+      absent = s.absent;
+      offline = s.offline;
+      quiet = s.quiet;
+    }
 
 pub can_same : (v u : Known) (access : Access) → v ≡ u → MayAccess u access → MayAccess v access
 can_same v u access e can = subst (λ (x : Known). MayAccess x access) (sym e) can

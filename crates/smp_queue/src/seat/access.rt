@@ -1,6 +1,6 @@
 //! The words of a table, the seat of a CPU, and the steps that it makes. This page alone reaches the kit's table, which can do
-//! more: each function below makes one step, of a word, by a play of `plays`. No other page names a raw seat or a cell, and
-//! none can.
+//! more: each function below makes one step of a word, by a play of `plays`, or none. No other page names a raw seat or a cell
+//! but [`crowd`], which makes no step, and none can.
 //!
 //! A step that begins, counts or ends a call is made by `store_in_call`, which the page beside this one alone sees.
 
@@ -18,13 +18,15 @@ ghost use Rattle.smp_queue.specs.Together.{KnowTogether};
 ghost use Rattle.smp_words.specs.Size.{cpus};
 ghost use Rattle.smp_mask.specs.Mask.{has};
 
-use super::plays::{CallStored, Exchanged, Loaded, Noted, Stored, Swapped};
+pub(crate) mod crowd;
+
+use super::plays::{CallNoted, CallStored, Exchanged, Loaded, Stored, Swapped};
 use crate::cell::{CELLS, cell};
 use crate::rule::{CallRule, NextSeat, RawSeat};
 use crate::seat_view::SeatView;
 use atomic_table::{Closed, Shared, Table};
 use smp_call_steps::known::Setting;
-use smp_start::both_now;
+use smp_start::{both_now, retell};
 use smp_words::Word;
 use std::alloc::{AllocError, Allocator};
 use std::marker::Model;
@@ -142,14 +144,13 @@ pub(crate) fn load(words: Words, seat: &mut CpuSeat, word: Word) -> u64
     words.shared.load::<Loaded>(&mut seat.raw, cell(word))
 }
 
-/// Notes a direct call in the CPU's log. What a CPU knows changes at a step alone: this one is a load of a word of its own,
-/// of which nothing is told.
-pub(crate) fn note_call(words: Words, seat: &mut CpuSeat, word: Word)
-    requires { Ready words.shared.now.table_id words.shared.now.key seat.old (access.Load word) }
+/// Notes a direct call in what the CPU knows. It makes no step.
+pub(crate) fn note_call(words: Words, seat: &mut CpuSeat)
+    requires { seat.old.table ≡ words.shared.now.table_id }
     ensures table { seat.new.table ≡ words.entry.shared.now.table_id }
     ensures known { seat.new.known ≡ noted_known seat.old.known }
 {
-    words.shared.load::<Noted>(&mut seat.raw, cell(word));
+    retell::<(), SeatView, Setting, CallRule, CallNoted>(words.shared, &mut seat.raw);
 }
 
 /// Stores a number in a word.

@@ -1,22 +1,17 @@
-//! What each kind of step tells its CPU.
+//! What each kind of step tells its CPU, and what a CPU knows once it has noted a direct call, which is no step.
 
-ghost use Rattle.smp_queue.specs.Plays.{loaded, noted, stored, call_stored, exchanged, swapped};
+ghost use Rattle.smp_queue.specs.Plays.{loaded, stored, call_stored, exchanged, swapped};
+ghost use Rattle.smp_queue.specs.Rule.{noted};
 
 use crate::seat_view::SeatView;
 use atomic_table::Play;
+use smp_start::Retold;
 
 /// A load.
 pub(super) struct Loaded;
 
 impl Play<(), SeatView> for Loaded {
     ghost then = { loaded };
-}
-
-/// A load that tells nothing, by which a direct call is noted.
-pub(super) struct Noted;
-
-impl Play<(), SeatView> for Noted {
-    ghost then = { noted };
 }
 
 /// A store.
@@ -45,4 +40,11 @@ pub(super) struct Swapped;
 
 impl Play<(), SeatView> for Swapped {
     ghost then = { swapped };
+}
+
+/// A direct call that is noted.
+pub(super) struct CallNoted;
+
+impl Retold<SeatView> for CallNoted {
+    ghost after = { noted };
 }

@@ -40,7 +40,7 @@ returns-clause-turns g c =
     let every : (x : ℕ) → x < NR_CPUS → has c.targets-others.result x ≡ true → has c.queue_all-called.result x ≡ true = λ x l o. let said =
     picks.answered x l o in search rules in
     let waited = c.wait_all.ensures.waited in
-    subst (λ (to : List ℕ). HasTurns c.args.me.now c.wait_all.new.me (length to) c.args.wait false)
+    subst (λ (to : List ℕ). HasTurns c.args.me.now c.wait_all.new.me (length to) c.args.wait)
     (all_called c.targets-others.result c.queue_all-called.result picks.among every)
     (turns_many c.args.me.now c.queue_all-called.new.me c.queue_all-called.new.me c.wait_all.new.me false c.args.wait (heard 0 0 0)
     (members c.queue_all-called.result) c.queue_all-called.ensures.turns c.queue_all-called.ensures.last refl c.wait_all.ensures.turns waited.log_is

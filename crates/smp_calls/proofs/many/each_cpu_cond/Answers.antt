@@ -94,7 +94,6 @@ returns-clause-turns g c =
     let made = turns_many c.args.me.now c.queue_all-called.new.me c.call_if.new.me c.wait_all.new.me here c.args.wait
     (heard c.queue_all-called.new.me.number c.args.func c.args.info) (members called) c.queue_all-called.ensures.turns c.queue_all-called.ensures.last
     c.call_if.ensures.noted c.wait_all.ensures.turns waited.log_is (waited.still refl) in
-    let Made = λ (to : List ℕ) (b : Bool). HasTurns c.args.me.now c.wait_all.new.me (length to) c.args.wait b in
-    subst (λ (n : ℕ). Made (remote n c.with_if.result) (has c.with_if.result n)) c.number-this.ensures.number
-    (subst (λ (b : Bool). Made (remote this c.with_if.result) b) (sym (called_here this called c.with_if.result here c.with_if.ensures out))
-    (subst (λ (to : List ℕ). Made to here) (others_called this called c.with_if.result here c.with_if.ensures out) made))
+    let Made = λ (to : List ℕ). HasTurns c.args.me.now c.wait_all.new.me (length to) c.args.wait in
+    subst (λ (n : ℕ). Made (remote n c.with_if.result)) c.number-this.ensures.number
+    (subst Made (others_called this called c.with_if.result here c.with_if.ensures out) made)

@@ -14,7 +14,8 @@ loop-init g c = record {
 pub returns-then-try_in_turn-clause-works : goal.returns-then-try_in_turn-clause-works
 returns-then-try_in_turn-clause-works g c =
     works_after g.H.Handler.leads g.F.StopFunc.leads (λ (o : Own). with_moves (Took ∷ []) (with_gate true o)) c.loop.invariant.works
-    (works_take g.H.Handler.leads g.F.StopFunc.leads c.loop.me c.try_in_turn.new.me c.loop.handler c.loop.run (c.try_in_turn.ensures.taken c.if-try_in_turn.true))
+    (works_take g.H.Handler.leads g.F.StopFunc.leads c.loop.me c.try_in_turn.new.me c.loop.handler c.loop.run
+    (c.try_in_turn.ensures.taken c.if-try_in_turn.true))
 
 pub returns-then-try_in_line-clause-works : goal.returns-then-try_in_line-clause-works
 returns-then-try_in_line-clause-works g c =

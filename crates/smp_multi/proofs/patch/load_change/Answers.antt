@@ -1,7 +1,7 @@
 use Rattle.std.proofs.Common.{ap, ◌∙◌}
 use Rattle.smp_labels.specs.Keys.{change_of}
 use Rattle.smp_stop_steps.specs.Known.{stepped}
-use Rattle.smp_stop_steps.specs.declared.phase.TheConstants.{RUN}
+use Rattle.smp_words.specs.declared.phase.TheConstants.{RUN}
 use Rattle.smp_multi.specs.Names.{Known, Patch, Rests}
 use Rattle.smp_multi.specs.Places.{work_in}
 use Rattle.smp_multi.proofs.Counting.{then_steps}

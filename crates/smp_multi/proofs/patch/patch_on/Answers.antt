@@ -1,4 +1,5 @@
 use Rattle.std.proofs.Common.{◌≡◌, ℕ, ◌+◌, Option, Some, None, length, refl, ap, arith, subst, ◌∙◌}
+use Rattle.smp_words.specs.declared.phase.TheConstants.{EXIT}
 use Rattle.std.specs.Option.{unwrap_or}
 use Rattle.std.proofs.lemmas.List.{length-map}
 use Rattle.smp_labels.specs.Entries.{entry_word}
@@ -46,7 +47,7 @@ returns-clause-patched c =
     let sum : (3 + loads) + length (rest_in c.load_plan-plan.new.seat.known.seat) + 1 ≡ all = omega (arith, loaded, stored) in
     let two = c.requires.disabled in
     let acked : c.acknowledged-visit.result.acked ≡ c.args.visit.acked + 1 = ap (λ (v : Visit). v.acked) c.acknowledged-visit.ensures in
-    let next : c.acknowledged-visit.result.acked + 1 ≡ 4 = omega arith in
+    let next : c.acknowledged-visit.result.acked + 1 ≡ EXIT = omega arith in
     let answer : c.answer_for.result ≡ patch_answer w count =
     c.answer_for.ensures ∙ ap answer_for (c.count_after-next.ensures ∙ ap (λ (x : Change). count_after x count) c.load_change-key.ensures.change) in (
       count,

@@ -1,6 +1,6 @@
 use Rattle.std.proofs.Common.{arith, ap, ◌∙◌, sym}
 use Rattle.smp_stop_steps.specs.Known.{stepped}
-use Rattle.smp_stop_steps.specs.declared.phase.TheConstants.{RUN}
+use Rattle.smp_words.specs.declared.phase.TheConstants.{RUN}
 use Rattle.smp_multi.specs.Names.{Known, Multi, Rests}
 use Rattle.smp_multi.specs.Names.field
 use Rattle.smp_multi.specs.Places.{work_in}

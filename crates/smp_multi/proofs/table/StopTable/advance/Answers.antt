@@ -1,5 +1,5 @@
 use Rattle.std.proofs.Common.{◌≢◌, Option, Ok, rules, ap, sym, subst, ◌∙◌}
-use Rattle.smp_stop_steps.specs.declared.phase.TheConstants.{EXIT}
+use Rattle.smp_words.specs.declared.phase.TheConstants.{EXIT}
 use Rattle.smp_stop_steps.specs.declared.stage.Visit.{Visit}
 use Rattle.smp_multi.specs.Advance.{AdvanceAnswers}
 use Rattle.smp_multi.specs.Cpu.{CpuValue, TableValue, IsKept, cpu_of}

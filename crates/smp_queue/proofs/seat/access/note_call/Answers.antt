@@ -1,11 +1,12 @@
-use Rattle.std.proofs.Common.{arith, ap, ◌∙◌}
-use Rattle.smp_queue.proofs.TheRule.Keeps.{note_allowed}
-use Rattle.smp_queue.proofs.TheRule.Cells.{cell_below}
+use Rattle.std.proofs.Common.{◌≡◌, ap, sym, subst, ◌∙◌}
+use Rattle.smp_queue.specs.{SeatView, IsCpuSeat, Sits, known, noted}
+use Rattle.smp_queue.proofs.TheRule.Keeps.{note_stays, note_sits}
 use Rattle.smp_queue.proofs.seat.access.note_call.Goals as goal
 
-pub load-requires : goal.load-requires
-load-requires c = let r = c.requires in let low = cell_below c.args.word c.cell.result c.cell.ensures in let w = r.sized in (
-  ap (λ d. d.table) c.seat.view_is ∙ r.table_is,
-  omega arith,
-  note_allowed _ _ _ _ c.seat.invariant.0 c.cell.result,
-)
+pub retell-requires : goal.retell-requires
+retell-requires c = (ap (λ d. d.table) c.seat.view_is ∙ c.requires, note_stays _ 0 _ c.seat.inside.raw.me c.seat.invariant.0)
+
+pub invariant_of-seat : goal.invariant_of-seat
+invariant_of-seat c =
+    let e : c.retell.new.seat.me.0 ≡ noted c.seat.inside.raw.me.0 = ap (λ m. m.0) c.retell.ensures.2 in
+    subst (λ (m : SeatView). IsCpuSeat m × Sits (known m)) (sym e) (tt, note_sits c.seat.inside.raw.me.0 c.seat.invariant.1)
