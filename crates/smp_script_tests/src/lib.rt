@@ -1,4 +1,4 @@
-//! Worked scripts, replayed and run, byte for byte, failing devices, and what the program `smp_runner` answers.
+//! Worked scripts, replayed and run, byte for byte, failing devices, refused growths, and what the program `smp_runner` answers.
 #![tactic(auto)]
 
 #[cfg(test)]

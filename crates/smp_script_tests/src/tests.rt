@@ -1,3 +1,4 @@
+mod refusing;
 mod replays;
 mod runner;
 mod runs;

@@ -1,11 +1,15 @@
 //! Runs that are refused, and runs in which a read or a write fails.
 
+use crate::tests::refusing::Refusing;
 use crate::tests::replays::devices::{Narrow, Slow};
 use crate::tests::runs::run;
 use smp_mask::{Cause, Side, SmpError};
 use smp_run::*;
 use smp_script::{Outcome, Watched};
+use std::alloc::Global;
+use std::sync::Wait;
 use std::test::*;
+use std::thread::Threads;
 
 const SHORT: &[u8] = b"smp 1 run\ncpus 2 0-1\nlabels 1 0:0\ndo 0 2 sync 1 7 9\ndo 0 1 set 0 on\n";
 
@@ -63,6 +67,42 @@ fn each_write_of_a_run_fails_in_turn(rt: HostRuntime) {
             assert_eq!(rt; written.as_slice(), SHORT_PRINT);
         }
     }
+}
+
+/// How a run in this memory ends, and what it writes, which is in memory of its own.
+fn run_in<R: Threads + Wait + Sync>(
+    rt: &R,
+    alloc: Global,
+    memory: &Refusing<Global>,
+) -> (Result<Outcome, SmpError>, Vec<u8>) {
+    let mut reader = Watched::new(SHORT);
+    let mut writer = Watched::new(Vec::new(alloc));
+    let answer = run_script(rt, memory, &mut reader, &mut writer, &FreePace);
+    (answer, writer.into_inner())
+}
+
+// A run has at least 16 growths: of its text, its lines, the words of two tables, three lists of CPUs that are yet to be given
+// out, the answers of all lines, of CPU 0 and of CPU 1, the lists of what starts, runs and is back, keys, sites, and its output.
+#[test]
+fn each_growth_of_a_run_is_refused_in_turn(rt: HostRuntime) {
+    for refused in 0..1_000u64 {
+        let memory = Refusing::new(rt.alloc(), refused);
+        let (answer, written) = run_in(&rt, rt.alloc(), &memory);
+        assert!(rt; memory.is_whole(), "growth {refused}");
+        if !memory.has_refused() {
+            assert_eq!(rt; answer, Ok(Outcome::Done));
+            assert_eq!(rt; written.as_slice(), SHORT_PRINT);
+            assert!(rt; refused >= 16, "{refused} growths");
+            return;
+        }
+        assert_eq!(rt; answer, Err(SmpError::NoMemory), "growth {refused}");
+        assert!(rt; written.is_empty(), "growth {refused}");
+        // Another run in the same memory is refused nothing.
+        let (again, written) = run_in(&rt, rt.alloc(), &memory);
+        assert_eq!(rt; again, Ok(Outcome::Done), "after growth {refused}");
+        assert_eq!(rt; written.as_slice(), SHORT_PRINT, "after growth {refused}");
+    }
+    assert!(rt; false, "a run has 1,000 growths");
 }
 
 #[test]
