@@ -11,6 +11,7 @@ use smp_mask::{Cause, SmpError};
 use smp_replay::replay_script;
 use smp_run::{FreePace, run_script};
 use smp_script::Watched;
+use smp_script::line::parts;
 use std::alloc::Global;
 use std::sync::Wait;
 use std::thread::Threads;
@@ -20,6 +21,9 @@ use trace_ftrace::text::judge_kernel;
 use trace_ftrace::wrong::Refusal;
 use trace_judge::{Ruling, judge_trace};
 use view::{Choice, show_lanes};
+
+/// What is between two texts of a file.
+const FORM_FEED: u8 = 12;
 
 // Whether these are the same bytes.
 fn are_same(printed: &[u8], expected: &[u8]) -> bool
@@ -79,14 +83,30 @@ fn trace_is(alloc: Global, text: &[u8], ruling: Ruling) -> Result<bool, SmpError
     Ok(found == ruling)
 }
 
-// Whether the verdict on what a kernel's tracer wrote is printed as these bytes, and the trace of it has the same ruling.
-fn kernel_prints(alloc: Global, text: &[u8], expected: &[u8]) -> Result<bool, SmpError> {
+// Appends what is printed of the verdict on what a kernel's tracer wrote, and answers whether the trace of it has the same ruling.
+fn push_verdict(alloc: Global, out: &mut Vec<u8>, text: &[u8]) -> Result<bool, SmpError> {
     match judge_kernel(alloc, 0, text) {
         Ok((printed, ruling)) => {
-            Ok(are_same(printed.as_slice(), expected) && trace_is(alloc, text, ruling)?)
+            if out.extend_from_slice(printed.as_slice()).is_err() {
+                return Err(SmpError::NoMemory);
+            }
+            trace_is(alloc, text, ruling)
         }
         Err(why) => Err(refused(why)),
     }
+}
+
+// Whether the verdicts on the texts between form feeds are printed as these bytes, and the trace of each has the same ruling.
+fn verdicts_print(alloc: Global, text: &[u8], expected: &[u8]) -> Result<bool, SmpError> {
+    let Ok(texts) = parts(alloc, text, FORM_FEED) else {
+        return Err(SmpError::NoMemory);
+    };
+    let mut out = Vec::new(alloc);
+    let mut all = true;
+    for one in texts.iter() {
+        all = push_verdict(alloc, &mut out, one)? && all;
+    }
+    Ok(all && are_same(out.as_slice(), expected))
 }
 
 /// Whether an example of this kind prints these bytes, to the last. `BadScript` where its text is none of this kind,
@@ -99,7 +119,7 @@ pub fn prints<T: Threads + Wait + Sync>(
     expected: &[u8],
 ) -> Result<bool, SmpError> {
     match kind {
-        Kind::Kernel => return kernel_prints(alloc, text, expected),
+        Kind::Kernel => return verdicts_print(alloc, text, expected),
         Kind::KernelTrace => return Ok(are_same(traced(alloc, text)?.as_slice(), expected)),
         _ => {}
     }

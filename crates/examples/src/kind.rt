@@ -36,7 +36,7 @@ pub enum Kind {
     Explore(Task),
     /// By `smp judge`.
     Judge,
-    /// By `smp judge --from ftrace`.
+    /// By `smp judge --from ftrace`, each text between form feeds by itself.
     Kernel,
     /// By `smp judge --from ftrace --print`.
     KernelTrace,

@@ -2,8 +2,10 @@ pub mod Counts
 pub mod Fields
 pub mod HeadingView
 pub mod Headings
+pub mod Json
 pub mod Kept
 pub mod KeptView
+pub mod Laws
 pub mod Marks
 pub mod Names
 pub mod NamesView

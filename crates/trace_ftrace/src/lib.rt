@@ -2,7 +2,8 @@
 //!
 //! - `text`: The verdict on a text of the tracer, and what is printed of it; `verdict`: the verdict on its events.
 //! - `names`: Why an event is none, by the kernel's names; `counts`: what of the lines is not judged; `waits`: the calls that wait for long.
-//! - `print`: The trace that a text tells.
+//! - `print`: The trace that a text tells; `json`: its events in the trace-event format.
+//! - `laws`: What is printed of a text, for a reader of it.
 //! - `told`: The events that marks tell; `stop_told`: those of stops; `stops`: the stops that are open; `per_cpu`: what each CPU has.
 //! - `marks`: The marks of calls that the lines of a text have; `sign`, `stop_sign`: what one line shows; `kept`: what is kept of the lines.
 //! - `heading`, `field`: The CPU, the time, the event and the fields of a line.
@@ -13,7 +14,9 @@
 pub mod counts;
 mod field;
 mod heading;
+pub mod json;
 pub mod kept;
+pub mod laws;
 mod marks;
 mod names;
 mod number;

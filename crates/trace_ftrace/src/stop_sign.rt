@@ -21,7 +21,7 @@ pub struct Work {
 pub enum Opening {
     /// Of the CPUs to which the task then queues works. Those with these bits are active, or else the least.
     Machine(Option<u64>),
-    /// The same, of the CPU that opens it too, which runs no stopper itself.
+    /// Of these CPUs and the one that opens it, which runs no stopper itself. The active ones are chosen alike.
     Inactive(Option<u64>),
     /// Of two CPUs, of which the first is active.
     Two(u32, u32),

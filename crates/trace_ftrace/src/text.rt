@@ -377,7 +377,7 @@ pub fn judge_waits<A: Allocator + Copy>(
     ruled(alloc, &source)
 }
 
-/// The same, where calls are told that waited for more than 100 milliseconds.
+/// Judges such a text as `judge_waits` does. It tells each call that waited for more than 100 milliseconds.
 pub fn judge_kernel<A: Allocator + Copy>(
     alloc: A,
     skip: u64,

@@ -12,8 +12,8 @@ use trace_model::{CallEvent, Event};
 
 /// A call that is queued: by which line, when, its record, the CPU that is to run it, and its function.
 #[derive(Clone, Copy)]
-struct QueuedCall {
-    line: u32,
+pub(crate) struct QueuedCall {
+    pub(crate) line: u32,
     time: u128,
     id: u16,
     to: u32,
@@ -22,9 +22,9 @@ struct QueuedCall {
 
 /// A queued call that was found, and its place among the others.
 #[derive(Clone, Copy)]
-struct FoundCall {
+pub(crate) struct FoundCall {
     place: usize,
-    call: QueuedCall,
+    pub(crate) call: QueuedCall,
 }
 
 /// A call that waits, and how long it has waited until it was begun; none where it is not begun.
@@ -123,9 +123,25 @@ fn keep_queued<A: Allocator>(
     Ok(())
 }
 
-/// Keeps the calls that are queued and not begun behind an event, and answers the call that it begins, where that has waited for
-/// more than this time.
-#[tactic(auto, unfolding(crate::specs::Waits::left_after, crate::specs::Waits::late_at))]
+/// Keeps the calls that are queued and not begun behind an event, and answers the call that it begins.
+#[tactic(auto, unfolding(crate::specs::Waits::left_after))]
+pub(crate) fn go_on<A: Allocator>(
+    left: &mut Vec<QueuedCall, A>,
+    told: &Told,
+) -> Result<Option<FoundCall>, AllocError>
+    ensures begun { IfOk result (λ f. f ≡ begun told.now left.old.items) }
+    ensures left { OnOk result (left.new.items ≡ left_after told.now left.old.items) }
+{
+    if let Some(found) = begun(told, left.as_slice()) {
+        left.remove(found.place);
+        return Ok(Some(found));
+    }
+    keep_queued(left, queued(told))?;
+    Ok(None)
+}
+
+/// Goes on so, and answers the call that the event begins, where that has waited for more than this time.
+#[tactic(auto, unfolding(crate::specs::Waits::late_at))]
 fn step<A: Allocator>(
     left: &mut Vec<QueuedCall, A>,
     slow: u64,
@@ -134,12 +150,10 @@ fn step<A: Allocator>(
     ensures late { IfOk result (λ c. c ≡ late_at slow told.now left.old.items) }
     ensures left { OnOk result (left.new.items ≡ left_after told.now left.old.items) }
 {
-    if let Some(FoundCall { place, call }) = begun(told, left.as_slice()) {
-        left.remove(place);
-        return Ok(late(slow, told.time, call));
+    match go_on(left, told)? {
+        Some(found) => Ok(late(slow, told.time, found.call)),
+        None => Ok(None),
     }
-    keep_queued(left, queued(told))?;
-    Ok(None)
 }
 
 /// Writes how long a call has waited.
