@@ -17,5 +17,6 @@ kind_taken jobs.Judge = Some kinds.Trace
 kind_taken (jobs.JudgeKernel _ _) = None
 kind_taken jobs.PageTrace = Some kinds.Trace
 kind_taken (jobs.PageKernel _) = None
+kind_taken (jobs.JsonKernel _) = None
 kind_taken (jobs.PrintKernel _) = None
 kind_taken jobs.Explain = None

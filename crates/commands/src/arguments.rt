@@ -33,6 +33,8 @@ enum Wrong {
     Marked,
     Slow,
     Print,
+    From,
+    Shown,
 }
 
 impl Wrong {
@@ -54,6 +56,10 @@ impl Wrong {
             Wrong::Marked => "invalid value for '--mark <EVENT>': it goes with a replay alone",
             Wrong::Slow => "invalid value for '--slow <MS>': it goes with '--from ftrace' alone",
             Wrong::Print => "'--print' goes with '--from ftrace' alone",
+            Wrong::From => {
+                "invalid value for '--from <N>': it is a number from 0 to 4294967295, or ftrace"
+            }
+            Wrong::Shown => "'--to' and '--cpus' go with a replay alone",
         }
     }
 }
@@ -95,6 +101,8 @@ pub enum Job<'a> {
     PageTrace,
     /// Shows so what a kernel's own tracer wrote, without this number of nanoseconds at its start.
     PageKernel(u64),
+    /// Writes its events so in the trace-event format, without this number of nanoseconds at its start.
+    JsonKernel(u64),
     /// Tells the events of a script's replay.
     Events,
     /// Holds the trace of steps of this name against a script's replay.
@@ -110,7 +118,7 @@ impl<'a> Job<'a> {
             Job::Show(..) | Job::Events | Job::Check(_) => Some(TextKind::Replay),
             Job::Explore(..) | Job::Outcomes(..) | Job::Write(_) => Some(TextKind::Exploration),
             Job::Judge | Job::PageTrace => Some(TextKind::Trace),
-            Job::PageKernel(_) | Job::PrintKernel(_) => None,
+            Job::PageKernel(_) | Job::PrintKernel(_) | Job::JsonKernel(_) => None,
             Job::Explain | Job::JudgeKernel(..) => None,
         }
     }
@@ -186,6 +194,15 @@ fn scripts_of<'a>(matches: &ArgMatches<'a>) -> Scripts<'a> {
     }
 }
 
+// The same of a search of every order, whose report may be JSON.
+fn searched_to<'a>(matches: &ArgMatches<'a>) -> Scripts<'a> {
+    if matches.get_flag("json") {
+        Scripts::Json
+    } else {
+        scripts_of(matches)
+    }
+}
+
 // The CPUs behind `--cpus`; none where it is not there.
 fn cpus_of(matches: &ArgMatches<'_>) -> Result<Option<CpuMask>, Wrong> {
     let Some(list) = matches.get_str("cpus") else {
@@ -212,14 +229,19 @@ fn mark_of(matches: &ArgMatches<'_>) -> Result<Option<Mark>, Wrong> {
     }
 }
 
-// What is shown of a replay.
-fn choice_of(matches: &ArgMatches<'_>) -> Result<Choice, Wrong> {
+// What is shown of a replay, from the event of this number on.
+fn choice_from(from: u32, matches: &ArgMatches<'_>) -> Result<Choice, Wrong> {
     Ok(Choice {
-        from: number(matches, "from") as usize,
+        from: from as usize,
         to: matches.get_one::<u32>("to").unwrap_or(u32::MAX) as usize,
         cpus: cpus_of(matches)?,
         mark: mark_of(matches)?,
     })
+}
+
+// What is shown of a replay.
+fn choice_of(matches: &ArgMatches<'_>) -> Result<Choice, Wrong> {
+    choice_from(number(matches, "from"), matches)
 }
 
 // The trace that is held against a script, where not both are standard input.
@@ -236,7 +258,6 @@ fn view_of(name: &str) -> Option<View> {
     match name {
         "lanes" => Some(View::Lanes),
         "svg" => Some(View::Svg),
-        "json" => Some(View::Json),
         _ => None,
     }
 }
@@ -245,7 +266,7 @@ fn view_of(name: &str) -> Option<View> {
 fn plain_job<'a>(name: &str, matches: &ArgMatches<'a>) -> Job<'a> {
     match name {
         "explain" => Job::Explain,
-        "explore" => Job::Explore(orders_of(matches), scripts_of(matches)),
+        "explore" => Job::Explore(orders_of(matches), searched_to(matches)),
         "sample" => Job::Explore(Orders::Sampled(sample_of(matches)), scripts_of(matches)),
         "outcomes" => Job::Outcomes(most_of(matches), scripts_of(matches)),
         "script" => Job::Write(run_of(matches)),
@@ -328,6 +349,37 @@ fn page_of<'a>(matches: &ArgMatches<'a>) -> Result<Job<'a>, Wrong> {
     }
 }
 
+// The first event that is shown, by the word behind `--from`.
+fn first_of(from: Option<&str>) -> Result<u32, Wrong> {
+    match from {
+        None => Ok(0),
+        Some(number) => match number.parse::<u32>() {
+            Ok(number) => Ok(number),
+            Err(_) => Err(Wrong::From),
+        },
+    }
+}
+
+// How what a kernel's tracer wrote is written in the trace-event format: with none of the options of a replay.
+fn kernel_json<'a>(matches: &ArgMatches<'a>) -> Result<Job<'a>, Wrong> {
+    if matches.get_one::<u32>("to").is_some() || matches.get_str("cpus").is_some() {
+        return Err(Wrong::Shown);
+    }
+    Ok(Job::JsonKernel(nanoseconds(number(matches, "skip"))))
+}
+
+// What is written in the trace-event format.
+fn json_of<'a>(matches: &ArgMatches<'a>) -> Result<Job<'a>, Wrong> {
+    match matches.get_str("from") {
+        Some("ftrace") => kernel_json(matches),
+        _ if matches.get_one::<u32>("skip").is_some() => Err(Wrong::Skip),
+        from => {
+            let choice = choice_from(first_of(from)?, matches)?;
+            Ok(Job::Show(View::Json, choice))
+        }
+    }
+}
+
 // What a subcommand does, by its name and the words behind it.
 fn job_of<'a>(name: &str, matches: &ArgMatches<'a>) -> Result<Job<'a>, Wrong> {
     if let Some(view) = view_of(name) {
@@ -335,6 +387,7 @@ fn job_of<'a>(name: &str, matches: &ArgMatches<'a>) -> Result<Job<'a>, Wrong> {
     }
     match name {
         "check" => Ok(Job::Check(trace_of(matches)?)),
+        "json" => json_of(matches),
         "judge" => judge_of(matches),
         "page" => page_of(matches),
         _ => Ok(plain_job(name, matches)),

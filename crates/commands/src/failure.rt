@@ -18,8 +18,10 @@ pub enum Failure {
     Unwritten(Option<io::Error>),
     /// The trace of steps could not be read, for this reason of the system.
     NoTrace(io::Error),
-    /// A script could not be written into its file, for this reason of the system.
-    Unsaved(io::Error),
+    /// The folder that scripts are to go into is not there; the reason of the system, where it gave one.
+    NoFolder(Option<io::Error>),
+    /// Some scripts could not be written into their files. All else was told.
+    Unsaved,
     /// A word that was named is no word of the table.
     NoWord,
     /// No outcome has the number that was named.

@@ -60,7 +60,9 @@ pub fn tell(rt: &HostRuntime, name: &str, text: &[u8], failure: Failure) -> io::
         Failure::Unwritten(Some(reason)) => eprintln!(rt; "smp: standard output: {reason}"),
         Failure::Unwritten(None) => eprintln!(rt; "smp: standard output takes no more"),
         Failure::NoTrace(reason) => eprintln!(rt; "smp: the trace of steps: {reason}"),
-        Failure::Unsaved(reason) => eprintln!(rt; "smp: a file of a script: {reason}"),
+        Failure::NoFolder(Some(reason)) => eprintln!(rt; "smp: the folder of --scripts: {reason}"),
+        Failure::NoFolder(None) => eprintln!(rt; "smp: the folder of --scripts is a file"),
+        Failure::Unsaved => eprintln!(rt; "smp: {name}: not each script is in its file"),
         Failure::NoWord => eprintln!(rt;
             "smp: a WORD is none of this table; head.2 and queued.0.1 are such words"
         ),
@@ -73,6 +75,11 @@ pub fn tell(rt: &HostRuntime, name: &str, text: &[u8], failure: Failure) -> io::
         Failure::Kernel(why) => tell_kernel(rt, name, why),
         Failure::NoMemory => eprintln!(rt; "smp: no memory"),
     }
+}
+
+/// Says why the file of this path has no script.
+pub fn tell_unsaved(rt: &HostRuntime, path: &str, reason: io::Error) -> io::Result<()> {
+    eprintln!(rt; "smp: {path}: {reason}")
 }
 
 /// Says how a run ended that was written down.

@@ -142,6 +142,13 @@ const SCRIPTS: Choice = Choice {
     help: "Writes the script of each broken expectation into a file in this folder, as FOLDER/never-12.smp",
 };
 
+const AS_JSON: Choice = Choice {
+    name: "json",
+    value: "",
+    takes: Value::Nothing,
+    help: "Prints a line of JSON for each expectation, with the script that breaks it",
+};
+
 const OUTCOMES_TO: Choice = Choice {
     name: "scripts",
     value: "FOLDER",
@@ -182,7 +189,7 @@ const SVG: Named = Named {
 
 const JSON: Named = Named {
     name: "json",
-    about: "Writes a replay in the trace-event format, which Perfetto and chrome://tracing read",
+    about: "Writes a replay, or what Linux's own tracer wrote, in the trace-event format of Perfetto and chrome://tracing",
     behind: Behind::File,
 };
 
@@ -251,7 +258,14 @@ const SKIP: Choice = Choice {
     name: "skip",
     value: "SECONDS",
     takes: Value::Number(0, MOST_32, None),
-    help: "Judges what the tracer wrote from that time after its first line on, 0 to 4294967295",
+    help: "Takes what the tracer wrote from that time after its first line on, 0 to 4294967295",
+};
+
+const FROM_OR_WRITER: Choice = Choice {
+    name: "from",
+    value: "N",
+    takes: Value::Text,
+    help: "Shows events from this number on, 0 to 4294967295; or FILE is what Linux's own tracer wrote: ftrace",
 };
 
 const SOURCE: Choice = Choice {
@@ -294,8 +308,8 @@ fn option<'a>(alloc: Global, choice: Choice) -> Arg<'a> {
     }
 }
 
-// A subcommand with this option too. Where a script alone is printed, no file takes it. Where a trace is printed, no call that
-// waits is told.
+// A subcommand with this option too. Where a script alone is printed, no file takes it, and where JSON is, neither is asked for.
+// Where a trace is printed, no call that waits is told.
 fn with_option<'a>(
     alloc: Global,
     command: Command<'a>,
@@ -304,6 +318,10 @@ fn with_option<'a>(
     let arg = option(alloc, choice);
     if choice.name == SCRIPTS.name {
         return command.arg(arg.conflicts_with(ONLY.name)?);
+    }
+    if choice.name == AS_JSON.name {
+        let arg = arg.conflicts_with(ONLY.name)?;
+        return command.arg(arg.conflicts_with(SCRIPTS.name)?);
     }
     if choice.name == PRINT.name {
         return command.arg(arg.conflicts_with(SLOW.name)?);
@@ -392,10 +410,10 @@ pub fn grammar<'a>(alloc: Global) -> Result<Command<'a>, AllocError> {
     let commands: [(Named, &[Choice]); 12] = [
         (LANES, &[FROM, TO, CPUS]),
         (SVG, &[FROM, TO, CPUS, MARK]),
-        (JSON, &[FROM, TO, CPUS]),
+        (JSON, &[FROM_OR_WRITER, TO, CPUS, SKIP]),
         (PAGE, &[MARK, SOURCE, SKIP]),
         (EXPLAIN, &[]),
-        (EXPLORE, &[MERGE, STATES, MEMORY, ONLY, SCRIPTS]),
+        (EXPLORE, &[MERGE, STATES, MEMORY, ONLY, SCRIPTS, AS_JSON]),
         (SAMPLE, &[SEED, RUNS, STEPS, ONLY, SCRIPTS]),
         (OUTCOMES, &[STATES, MEMORY, OUTCOME, OUTCOMES_TO]),
         (SCRIPT, &[SEED, RUN, STEPS]),

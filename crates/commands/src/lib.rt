@@ -7,7 +7,7 @@
 //! - `explain`: What is wrong with a text.
 //! - `check`: Whether a trace of steps is what the machine prints for a script.
 //! - `searches`, `outcomes`: What an exploration expects, and how it may end.
-//! - `expectation_names`: Expectations by their names.
+//! - `expectation_names`, `report_json`: Expectations by their names, and what is told of them as JSON.
 //! - `failure`, `failure_text`: Why a text was not shown, explored or judged to its end, and how that is told.
 //! - `progress`: How far a search is, told on standard error.
 //! - `status`: How the program ends.
@@ -22,6 +22,7 @@ mod failure_text;
 mod grammar;
 pub mod outcomes;
 mod progress;
+mod report_json;
 pub mod requests;
 pub mod searches;
 pub mod status;

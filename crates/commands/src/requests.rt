@@ -19,9 +19,11 @@ use smp_script::{Outcome, Watched};
 use std::io;
 use std::io::Write;
 use trace_events::show_events;
+use trace_ftrace::json::json_of_kernel;
 use trace_ftrace::print::print_kernel;
 use trace_ftrace::text::judge_waits;
 use trace_ftrace::verdict::MOST_KERNEL_BYTES;
+use trace_ftrace::wrong::Refusal;
 use trace_judge::body::MOST_TRACE_BYTES;
 use trace_judge::{Ruling, judge_trace};
 use trace_page::{page_of_kernel, page_of_trace};
@@ -109,14 +111,12 @@ fn judge_kernel_text<W: Write>(
     }
 }
 
-/// Writes the trace that such a text tells.
-fn print_kernel_text<W: Write>(
-    rt: &HostRuntime,
-    skip: u64,
-    text: &[u8],
+/// Writes what was made of the events of such a text.
+fn write_events<W: Write>(
+    made: Result<Vec<u8>, Refusal>,
     writer: &mut Watched<W>,
 ) -> Result<Answer, Failure> {
-    match print_kernel(rt.alloc(), skip, text) {
+    match made {
         Ok(out) => {
             print(writer, out.as_slice())?;
             Ok(Answer::Shown(Outcome::Done))
@@ -155,7 +155,7 @@ fn kernel_page(rt: &HostRuntime, skip: u64, text: &[u8]) -> Result<(Vec<u8>, Rul
 fn most_of(job: &Job<'_>) -> u32 {
     match job {
         Job::JudgeKernel(..) | Job::PrintKernel(_) => MOST_KERNEL_BYTES,
-        Job::PageKernel(_) => MOST_KERNEL_BYTES,
+        Job::PageKernel(_) | Job::JsonKernel(_) => MOST_KERNEL_BYTES,
         _ => MOST_TRACE_BYTES,
     }
 }
@@ -175,7 +175,8 @@ fn do_script<W: Write>(
         Job::Check(trace) => Ok(Answer::Shown(check_trace(rt, trace, text, writer)?)),
         Job::Judge => judged(judge_trace(rt.alloc(), &mut Watched::new(text), writer)),
         Job::JudgeKernel(skip, slow) => judge_kernel_text(rt, *skip, *slow, text, writer),
-        Job::PrintKernel(skip) => print_kernel_text(rt, *skip, text, writer),
+        Job::PrintKernel(skip) => write_events(print_kernel(rt.alloc(), *skip, text), writer),
+        Job::JsonKernel(skip) => write_events(json_of_kernel(rt.alloc(), *skip, text), writer),
         Job::PageTrace => write_page(trace_page(rt, text), writer),
         Job::PageKernel(skip) => write_page(kernel_page(rt, *skip, text), writer),
         _ => shown(explain_text(rt.alloc(), text, writer)),

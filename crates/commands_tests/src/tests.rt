@@ -1,4 +1,5 @@
 mod explained;
+mod kernel_json;
 mod limits;
 mod pages;
 mod sends;

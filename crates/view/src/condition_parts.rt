@@ -1,5 +1,6 @@
 //! The field of a condition that a fault lies in, and what may be there.
 
+use crate::given_names::{GivenNames, is_one_of};
 use smp_mask::Cause;
 use smp_script::decimal::number;
 use smp_script::line::{is_word, parts};
@@ -42,35 +43,45 @@ const NOTES: [&str; 32] = [
     "finished", "pending", "result", "on", "off", "NOP", "JMP", "stop", "lost",
 ];
 
-// Whether a field is one of these words.
-fn is_one_of(field: &[u8], words: &[&str]) -> bool {
-    words.iter().any(|word| is_word(field, word.as_bytes()))
-}
-
 // The first part of a field, up to a dot.
 fn head<'a, A: Allocator>(alloc: A, field: &'a [u8]) -> Result<&'a [u8], AllocError> {
     let found = parts(alloc, field, b'.')?;
     Ok(found.first().copied().unwrap_or(field))
 }
 
-// Whether each part behind the first is a number, of at most 32 bits where that is asked for. The name of a slot's word may follow.
-fn are_numbers<A: Allocator + Copy>(
-    alloc: A,
-    field: &[u8],
-    is_short: bool,
-) -> Result<bool, AllocError> {
-    let most = if is_short {
-        u64::from(u32::MAX)
-    } else {
-        u64::MAX
-    };
+// Whether this is the name of a slot's word.
+fn is_name(head: &[u8], part: &[u8]) -> bool {
+    is_word(head, b"slot") && part.iter().all(|b| b.is_ascii_lowercase())
+}
+
+// Whether each part behind the first is a number. The name of a slot's word may follow.
+fn are_numbers<A: Allocator + Copy>(alloc: A, field: &[u8]) -> Result<bool, AllocError> {
     let found = parts(alloc, field, b'.')?;
-    let is_of_slot = is_word(head(alloc, field)?, b"slot");
+    let head = head(alloc, field)?;
+    Ok(found.iter().skip(1).all(|part| is_name(head, part) || number(part, 0, u64::MAX).is_ok()))
+}
+
+// Whether there is what has this number in a name that begins with this word.
+fn is_given(given: GivenNames, head: &[u8], part: &[u8]) -> bool {
+    match number(part, 0, u64::from(u32::MAX)) {
+        Ok(n) => given.gives(head, n as u32),
+        Err(_) => false,
+    }
+}
+
+// Whether there is what each number of a name says.
+fn are_given<A: Allocator + Copy>(
+    alloc: A,
+    given: GivenNames,
+    field: &[u8],
+) -> Result<bool, AllocError> {
+    let found = parts(alloc, field, b'.')?;
+    let head = head(alloc, field)?;
     Ok(
-        found.iter().skip(1).all(|part| {
-            let is_name = is_of_slot && part.iter().all(|b| b.is_ascii_lowercase());
-            is_name || number(part, 0, most).is_ok()
-        }),
+        found
+            .iter()
+            .skip(1)
+            .all(|part| is_name(head, part) || is_given(given, head, part)),
     )
 }
 
@@ -91,7 +102,7 @@ fn subject_of<A: Allocator + Copy>(alloc: A, field: &[u8]) -> Result<Option<Subj
         return Ok(Some(Subject::Said));
     }
     let subject = subject_named(head(alloc, field)?);
-    Ok(if are_numbers(alloc, field, false)? {
+    Ok(if are_numbers(alloc, field)? {
         subject
     } else {
         None
@@ -132,6 +143,7 @@ fn part_behind<A: Allocator + Copy>(
 // Whether a field that is right as a word is refused as a number.
 fn is_refused<A: Allocator + Copy>(
     alloc: A,
+    given: GivenNames,
     part: Part,
     cause: Cause,
     field: &[u8],
@@ -141,13 +153,14 @@ fn is_refused<A: Allocator + Copy>(
     }
     match part {
         Part::Value(Subject::Word) => Ok(number(field, 0, u64::MAX).is_err()),
-        _ => Ok(!are_numbers(alloc, field, true)?),
+        _ => Ok(!are_given(alloc, given, field)?),
     }
 }
 
 /// The first field at fault of a condition that begins behind the first field of a line, and the part that it is.
 pub fn part_at_fault<A: Allocator + Copy>(
     alloc: A,
+    given: GivenNames,
     fields: &[&[u8]],
     cause: Cause,
 ) -> Result<(usize, Part), AllocError> {
@@ -157,7 +170,7 @@ pub fn part_at_fault<A: Allocator + Copy>(
     let mut part = Part::Atom;
     let mut at = 1usize;
     for field in rest {
-        if is_refused(alloc, part, cause, field)? {
+        if is_refused(alloc, given, part, cause, field)? {
             return Ok((at, part));
         }
         match part_behind(alloc, part, field)? {

@@ -3,9 +3,10 @@
 ghost use Rattle.std.specs.Prelude.{◌≡◌, IfOk, IfSome, None, string_bytes};
 ghost use Rattle.view.specs.Explains.{SaysLine, no_fault_text};
 
-use crate::condition_parts::{part_at_fault, part_name, part_text};
+use crate::condition_parts::{Part, Subject, part_at_fault, part_name, part_text};
 use crate::fault::{Fault, limit, line_text};
 use crate::field_domain::{Domain, TextSetting, write_domain};
+use crate::given_names::GivenNames;
 use crate::match_template::{domain_at, front, has_shape, is_open, length_of, name_at, refused_at};
 use crate::print_bytes::{write_bytes, write_content};
 use crate::templates::templates_at;
@@ -55,12 +56,13 @@ fn online_in(text: &[u8]) -> CpuMask {
     }
 }
 
-// What the first two lines of a text settle.
+// What the first three lines of a text settle.
 fn setting_in<A: Allocator>(alloc: A, text: &[u8]) -> Result<TextSetting, AllocError> {
     Ok(TextSetting {
         kind: kind_of(text).unwrap_or(TextKind::Replay),
         limit: limit(alloc, text)?,
         online: online_in(text),
+        given: GivenNames::of(text),
     })
 }
 
@@ -253,23 +255,43 @@ fn write_field<A: Allocator + Copy>(
     write_found(alloc, out, &wrong.setting, found.as_slice(), at)
 }
 
+// What the numbers of a name may be, where one is refused.
+fn write_given<A: Allocator>(
+    out: &mut String<A>,
+    given: GivenNames,
+    part: Part,
+    cause: Cause,
+) -> Result<(), AllocError> {
+    let GivenNames { nr, keys, sites } = given;
+    match part {
+        Part::Value(Subject::Word) => Ok(()),
+        _ if cause == Cause::Range => writeln!(
+            out,
+            "    lines 2 and 3 give: CPUs below {nr}, keys below {keys}, sites below {sites}"
+        ),
+        _ => Ok(()),
+    }
+}
+
 // What a field of a condition has, and what it may have.
 fn write_part<A: Allocator + Copy>(
     alloc: A,
     out: &mut String<A>,
     wrong: &Wrong<'_, A>,
 ) -> Result<(), AllocError> {
-    let (at, part) = part_at_fault(alloc, wrong.fields, wrong.cause)?;
+    let given = wrong.setting.given;
+    let (at, part) = part_at_fault(alloc, given, wrong.fields, wrong.cause)?;
     write_number(out, at, Some(part_name(part)))?;
     write_content(out, wrong.fields, at)?;
     let text = part_text(part);
-    writeln!(out, "    here may be: {text}")
+    writeln!(out, "    here may be: {text}")?;
+    write_given(out, given, part, wrong.cause)
 }
 
 // Whether the line is one of an exploration with a condition.
 fn has_condition(setting: &TextSetting, fields: &[&[u8]]) -> bool {
     match fields {
-        [first, _, ..] if setting.kind == TextKind::Exploration => {
+        [first, ..] if setting.kind == TextKind::Exploration => {
             is_word(first, b"always") || is_word(first, b"never") || is_word(first, b"finally")
         }
         _ => false,

@@ -1,19 +1,21 @@
 //! What a field may be, by its name in a template.
 
+use crate::given_names::GivenNames;
 use crate::text_kind::TextKind;
 use smp_mask::CpuMask;
-use smp_script::decimal::{number, read_i32};
+use smp_script::decimal::{number, read_i32, read_u16};
 use smp_script::field::{read_mask, read_member};
 use smp_script::line::{is_word, split_part};
 use std::alloc::{AllocError, Allocator};
 
-/// What the first two lines of a text settle.
+/// What the first three lines of a text settle.
 #[derive(Clone, Copy)]
 pub struct TextSetting {
     pub kind: TextKind,
     /// CPUs have numbers below this.
     pub limit: u32,
     pub online: CpuMask,
+    pub given: GivenNames,
 }
 
 /// What a field may be.
@@ -27,6 +29,8 @@ pub enum Domain<'a> {
     Signed,
     /// A CPU that is online.
     Member,
+    /// A key that there is.
+    Key,
     Mask,
     MaskOrNone,
     Online,
@@ -38,7 +42,7 @@ pub enum Domain<'a> {
 const GROUPS: &str = "gate, interrupts, order, raises, switches, unlocks";
 
 const CONDITION: &str =
-    "atoms as `WORD N`, `queue.C N`, `setting.R PLACE` or `said NOTE`, each with `not` in front or without it, joined by and, or";
+    "atoms as `WORD N`, `queue.C N`, `place.R PLACE` or `said NOTE`, each with `not` in front or without it, joined by and, or";
 
 // Numbers of 16, 32 and 64 bits.
 const U16: Domain<'static> = Domain::Number(0, u16::MAX as u64);
@@ -110,7 +114,7 @@ pub fn domain_of<'a>(setting: &TextSetting, template: &str, name: &'a str) -> Do
         "NR" | "MASK" | "C" | "CPU" => cpus_in(setting, template, name),
         "ACTIVE" if template.contains("stop_machine") => Domain::MaskOrNone,
         "DST" if template.contains("call_single") => Domain::Member,
-        "K" if template.contains("set_key") => Domain::Number(0, 3),
+        "K" if template.contains("set_key") => Domain::Key,
         "FUNC" | "INFO" | "ARG" | "ACTIVE" => argument_in(setting.kind, name),
         "KEYS" => Domain::Number(0, 4),
         "ITEMS" => Domain::Items,
@@ -171,6 +175,14 @@ fn is_mask(limit: u32, field: &[u8]) -> bool {
     field.len() <= MOST_BYTES && read_mask(limit, field).is_ok()
 }
 
+// Whether this is the number of a key below these.
+fn is_key(keys: u32, field: &[u8]) -> bool {
+    match read_u16(field) {
+        Ok(key) => u32::from(key) < keys,
+        Err(_) => false,
+    }
+}
+
 /// Whether a field that has the right word is refused all the same.
 pub fn is_refused(setting: &TextSetting, takes: Domain<'_>, field: &[u8]) -> bool {
     match takes {
@@ -178,6 +190,7 @@ pub fn is_refused(setting: &TextSetting, takes: Domain<'_>, field: &[u8]) -> boo
         Domain::Number(low, high) => number(field, low, high).is_err(),
         Domain::Signed => read_i32(field).is_err(),
         Domain::Member => read_member(setting.online, field).is_err(),
+        Domain::Key => !is_key(setting.given.keys, field),
         Domain::Mask => !is_mask(setting.limit, field),
         Domain::MaskOrNone => !is_word(field, b"none") && !is_mask(setting.limit, field),
         Domain::Online | Domain::Items | Domain::Told(_) => true,
@@ -193,6 +206,7 @@ fn text_of<'a>(takes: Domain<'a>) -> &'a str {
         Domain::Number(..) => "a number from ",
         Domain::Signed => "a number from -2147483648 to 2147483647",
         Domain::Member => "a CPU that is online",
+        Domain::Key => "a key below ",
         Domain::Mask => "-, or a list of CPUs below ",
         Domain::MaskOrNone => "none, -, or a list of CPUs below ",
         Domain::Online => "a list of CPUs below ",
@@ -213,6 +227,10 @@ pub fn write_domain<A: Allocator>(
     out.push_str(text_of(takes))?;
     match takes {
         Domain::Number(low, high) => write!(out, "{low} to {high}"),
+        Domain::Key => {
+            let keys = setting.given.keys;
+            write!(out, "KEYS, here {keys}")
+        }
         Domain::Mask | Domain::MaskOrNone => write!(out, "{limit}, as 0-2,5"),
         Domain::Online => write!(out, "{limit} and below NR, as 0-2,5, and not empty"),
         _ => Ok(()),

@@ -12,7 +12,7 @@
 //! - `text_kind`: The kinds of texts.
 //! - `fault`: The first fault of a script.
 //! - `templates`, `match_template`, `field_domain`, `condition_parts`: The lines that a text may have, how far a line keeps to
-//!   one, what a field of it may be, and the same of a condition.
+//!   one, what a field of it may be, and the same of a condition; `given_names`: what a name in it may have numbers of.
 //! - `print_bytes`, `explain`: What is wrong with a text of any kind, and what may be in its place.
 #![tactic(auto)]
 
@@ -26,6 +26,7 @@ pub mod explain;
 pub mod fault;
 mod field_domain;
 pub mod frame;
+mod given_names;
 mod idle_handles;
 mod json;
 pub mod lanes;

@@ -16,7 +16,7 @@ fn explained(alloc: Global, text: &[u8]) -> Result<(Vec<u8, Global>, Outcome), S
 
 #[test]
 fn what_may_stand_there(rt: HostRuntime) -> Result<(), Fail> {
-    let cases: [(&str, &str); 15] = [
+    let cases: [(&str, &str); 17] = [
         (
             "smp 1 replay\ncpus 2 0-1\nstart 0 post 0 1 synk 7 42 1\n",
             "line 3 Word: a wrong word, or too few or too many fields
@@ -100,6 +100,25 @@ fn what_may_stand_there(rt: HostRuntime) -> Result<(), Fail> {
     here may be: E1, E2, E5, E7, E13, owed, queued, sent, done, locked, idle, call, handled, \
         gate, taken, open, begun, entered, same, moved, run, ran, left, finished, pending, result, \
         on, off, NOP, JMP, stop, lost
+",
+        ),
+        (
+            "smp 1 explore\ncpus 2 0-1\nlabels 1 0:1\nnever not site.1 1\n",
+            "line 4 Range: a number outside the range of its field
+  never not site.1 1
+  field 3, WORD: here is `site.1`
+    here may be: said, queue.C, place.R, or a word: gate, key.K, entry.I, site.I, flags.R, \
+        func.R, info.R, next.R, head.C, intr.C, hand.C, queued.S.D, ran.S.D, slot.S.NAME
+    lines 2 and 3 give: CPUs below 2, keys below 1, sites below 1
+",
+        ),
+        (
+            "smp 1 explore\ncpus 2 0-1\ncpu 0 set_key 0 on\n",
+            "line 3 Range: a number outside the range of its field
+  cpu 0 set_key 0 on
+  field 4, K: here is `0`
+    here may be: a key below KEYS, here 0
+    the line: cpu C set_key K on
 ",
         ),
         (
@@ -236,6 +255,100 @@ fn the_changed_field_is_named(rt: HostRuntime) -> Result<(), Fail> {
     ];
     for (head, line) in cases {
         assert_eq!(rt; first_unnamed(&rt, head, line)?, None, "{line}");
+    }
+    Ok(())
+}
+
+// There are 9 CPUs, 2 keys and 3 sites. Record 107 is the last of CPU 8's first twelve, and 384 CPU 0's for calls to CPU 8. Records
+// 108 and 600 are of CPU 9, and 385 is for calls to it.
+#[test]
+fn what_is_not_there_is_named(rt: HostRuntime) -> Result<(), Fail> {
+    let head = "smp 2 explore\ncpus 9 0-8\nlabels 2 0:1,1:0,1:1\n";
+    let cases: [(&str, &str); 19] = [
+        ("always hand.9 0", "field 2, WORD: here is `hand.9`"),
+        (
+            "never intr.8 1 and intr.9 1",
+            "field 5, WORD: here is `intr.9`",
+        ),
+        ("never queued.0.9 1", "field 2, WORD: here is `queued.0.9`"),
+        ("never ran.9.0 1", "field 2, WORD: here is `ran.9.0`"),
+        (
+            "finally slot.9.state 0",
+            "field 2, WORD: here is `slot.9.state`",
+        ),
+        (
+            "never slot.8.state 3 or queue.9 1",
+            "field 5, WORD: here is `queue.9`",
+        ),
+        ("never key.2 0", "field 2, WORD: here is `key.2`"),
+        (
+            "never key.1 0 or entry.3 0",
+            "field 5, WORD: here is `entry.3`",
+        ),
+        (
+            "never entry.2 0 or site.3 1",
+            "field 5, WORD: here is `site.3`",
+        ),
+        (
+            "never flags.107 0 or flags.108 0",
+            "field 5, WORD: here is `flags.108`",
+        ),
+        (
+            "never func.384 1 or info.385 1",
+            "field 5, WORD: here is `info.385`",
+        ),
+        ("never next.600 0", "field 2, WORD: here is `next.600`"),
+        (
+            "never place.1152 free",
+            "field 2, WORD: here is `place.1152`",
+        ),
+        (
+            "never not place.0 running.9",
+            "field 4, PLACE: here is `running.9`",
+        ),
+        (
+            "never place.0 batch.8 or place.0 queued.9",
+            "field 6, PLACE: here is `queued.9`",
+        ),
+        (
+            "never head.4294967296 0",
+            "field 2, WORD: here is `head.4294967296`",
+        ),
+        (
+            "never head.0 18446744073709551616 and head.9 0",
+            "field 3, N: here is `18446744073709551616`",
+        ),
+        ("cpu 0 set_key 2 on", "field 4, K: here is `2`"),
+        ("cpu 9 handle", "field 2, C: here is `9`"),
+    ];
+    for (line, named) in cases {
+        let text = format!(in rt.alloc(); "{head}{line}\n")?;
+        let words = format!(in rt.alloc();
+            "line 4 Range: a number outside the range of its field\n  {line}\n  {named}\n"
+        )?;
+        assert!(rt; says(rt.alloc(), text.as_str(), words.as_str())?, "{line}");
+    }
+    Ok(())
+}
+
+// A condition that is missing, and words that there are.
+#[test]
+fn conditions_that_end_early(rt: HostRuntime) -> Result<(), Fail> {
+    let head = "smp 2 explore\ncpus 9 0-8\nlabels 2 0:1,1:0,1:1\n";
+    let cases: [(&str, &str); 3] = [
+        (
+            "never",
+            "line 4 Word: a wrong word, or too few or too many fields\n  never\n  field 2, WORD: here the line ends\n",
+        ),
+        (
+            "never head.8 0 and",
+            "  field 5, WORD: here the line ends\n",
+        ),
+        ("never site.2 1 or place.384 running.8", "no fault\n"),
+    ];
+    for (line, words) in cases {
+        let text = format!(in rt.alloc(); "{head}{line}\n")?;
+        assert!(rt; says(rt.alloc(), text.as_str(), words)?, "{line}");
     }
     Ok(())
 }

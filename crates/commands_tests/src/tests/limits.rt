@@ -1,7 +1,7 @@
 //! What is told of a search that meets a limit, and the status.
 
 use commands::outcomes::{Question, print_outcomes};
-use commands::searches::Scripts;
+use commands::searches::{Scripts, Search};
 use commands::status::{Answer, status_of};
 use explore::{Most, Unwatched};
 use explore_text::{Orders, Task, explore_script};
@@ -90,13 +90,16 @@ fn outcomes_of(rt: &HostRuntime, states: usize, scripts: Scripts<'_>) -> (Vec<u8
     (writer.into_inner(), status)
 }
 
-// There are 4 states, and one outcome. Where its script alone is asked for, standard error has the line of a limit.
+// There are 4 states, and one outcome. Where its script alone is asked for, standard error has the line of a limit. A script
+// that can't be written takes no line away, and where the folder is not there nothing is searched.
 #[test]
 fn outcomes_of_two_sends(rt: HostRuntime) {
     let all = b"outcome 1: intr.0 1, 1 final state, 2 steps\n1 outcome, 4 states\n".as_slice();
     let script =
         b"smp 1 replay\ncpus 2 0-1\nstart 0 send 1\nstep 0 1\nstart 1 send 0\nstep 1 1\n".as_slice();
-    let cases: [(usize, Scripts<'_>, &[u8], u8); 5] = [
+    let cases: [(usize, Scripts<'_>, &[u8], u8); 7] = [
+        (4, Scripts::Folder("/proc"), all, 2),
+        (4, Scripts::Folder("/proc/none"), b"".as_slice(), 2),
         (4, Scripts::Behind, all, 0),
         (4, Scripts::Only(1), script, 0),
         (4, Scripts::Only(2), b"".as_slice(), 2),
@@ -107,5 +110,85 @@ fn outcomes_of_two_sends(rt: HostRuntime) {
         let (text, ended) = outcomes_of(&rt, states, scripts);
         assert_eq!(rt; text.as_slice(), wanted);
         assert_eq!(rt; ended, status);
+    }
+}
+
+// Two sends that break what is expected.
+const SENDS: &[u8] = b"\
+    smp 1 explore\n\
+    cpus 2 0-1\n\
+    never intr.0 1\n\
+    never intr.1 1\n\
+    cpu 0 send 1\n\
+    cpu 1 send 0\n\
+    ";
+
+// What is printed of an exploration of 4 states at most, whose scripts go there, and the status.
+fn explored(rt: &HostRuntime, text: &[u8], scripts: Scripts<'_>) -> (Vec<u8, Global>, u8) {
+    let search = Search {
+        orders: Orders::All(Most {
+            states: 4,
+            bytes: usize::MAX,
+        }),
+        text,
+        scripts,
+    };
+    let mut writer = Watched::new(Vec::new(rt.alloc()));
+    let done = search.run(rt, &mut writer);
+    let status = status_of(done.map(|e| Answer::Explored(e)));
+    (writer.into_inner(), status)
+}
+
+// No file can be made in `/proc`, `/dev/null` is no folder, and `/proc/none` is not there.
+#[test]
+fn a_script_that_is_not_written(rt: HostRuntime) {
+    let all = b"\
+        goes holds, 4 states, 4 steps, 2 deep\n\
+        ends holds, 4 states, 4 steps, 2 deep\n\
+        never 3 broken\n\
+        never 4 broken\n\
+        "
+        .as_slice();
+    for (folder, wanted) in [
+        ("/proc", all),
+        ("/dev/null", b"".as_slice()),
+        ("/proc/none", b"".as_slice()),
+    ] {
+        let (text, status) = explored(&rt, SENDS, Scripts::Folder(folder));
+        assert_eq!(rt; text.as_slice(), wanted, "{folder}");
+        assert_eq!(rt; status, 2, "{folder}");
+    }
+}
+
+// Each expectation has a line of JSON, also one that is broken. In the second text the only CPU takes the gate, and then tries
+// to take it for ever: the state after a try is the one before.
+#[test]
+fn a_report_as_json(rt: HostRuntime) {
+    let hangs = b"smp 1 explore\ncpus 1 0\ncpu 0 gate\ncpu 0 repeat gate\n".as_slice();
+    let cases: [(&[u8], &[u8]); 2] = [
+        (
+            SENDS,
+            b"\
+                {\"line\":0,\"word\":\"goes\",\"ending\":\"holds\",\"told\":[\"goes holds, 4 states, 4 steps, 2 deep\"]}\n\
+                {\"line\":1,\"word\":\"ends\",\"ending\":\"holds\",\"told\":[\"ends holds, 4 states, 4 steps, 2 deep\"]}\n\
+                {\"line\":3,\"word\":\"never\",\"ending\":\"broken\",\"told\":[\"never 3 broken\"],\
+                \"script\":[\"smp 1 replay\",\"cpus 2 0-1\",\"start 1 send 0\",\"step 1 1\"]}\n\
+                {\"line\":4,\"word\":\"never\",\"ending\":\"broken\",\"told\":[\"never 4 broken\"],\
+                \"script\":[\"smp 1 replay\",\"cpus 2 0-1\",\"start 0 send 1\",\"step 0 1\"]}\n\
+                ",
+        ),
+        (
+            hangs,
+            b"\
+                {\"line\":0,\"word\":\"goes\",\"ending\":\"holds\",\"told\":[\"goes holds, 2 states, 2 steps, 1 deep\"]}\n\
+                {\"line\":1,\"word\":\"ends\",\"ending\":\"broken\",\"told\":[\"ends broken\",\"  CPU 0, line 4: repeats gate\"],\
+                \"script\":[\"smp 1 replay\",\"cpus 1 0\",\"start 0 gate\",\"step 0 1\"]}\n\
+                ",
+        ),
+    ];
+    for (text, wanted) in cases {
+        let (printed, status) = explored(&rt, text, Scripts::Json);
+        assert_eq!(rt; printed.as_slice(), wanted);
+        assert_eq!(rt; status, 1);
     }
 }

@@ -1,7 +1,7 @@
 //! Words of the command line, and what they ask for.
 
 use clap::error::ErrorKind;
-use commands::arguments::{Job, View};
+use commands::arguments::{Job, Request, View};
 use commands::read_words;
 use commands::searches::Scripts;
 use explore::Most;
@@ -17,7 +17,7 @@ fn refused(alloc: Global, words: &[&str]) -> Option<ErrorKind> {
 
 #[test]
 fn words_that_are_none_of_this_program(rt: HostRuntime) {
-    let cases: [(&[&str], ErrorKind); 36] = [
+    let cases: [(&[&str], ErrorKind); 41] = [
         (&["smp"], ErrorKind::MissingSubcommand),
         (&["smp", "jump"], ErrorKind::InvalidSubcommand),
         (&["smp", "lanes", "one", "two"], ErrorKind::UnknownArgument),
@@ -101,6 +101,23 @@ fn words_that_are_none_of_this_program(rt: HostRuntime) {
         ),
         (
             &["smp", "page", "--from", "ftrace", "--mark", "last"],
+            ErrorKind::ValueValidation,
+        ),
+        (
+            &["smp", "json", "--from", "perf"],
+            ErrorKind::ValueValidation,
+        ),
+        (
+            &["smp", "json", "--from", "4294967296"],
+            ErrorKind::ValueValidation,
+        ),
+        (&["smp", "json", "--skip", "2"], ErrorKind::ValueValidation),
+        (
+            &["smp", "json", "--from", "ftrace", "--to", "5"],
+            ErrorKind::ValueValidation,
+        ),
+        (
+            &["smp", "json", "--from", "ftrace", "--cpus", "0"],
             ErrorKind::ValueValidation,
         ),
         (&["smp", "check", "one"], ErrorKind::MissingRequiredArgument),
@@ -256,12 +273,65 @@ fn pages_of_traces(rt: HostRuntime) {
     );
 }
 
+// What of a script's replay these words show in the trace-event format, or how many nanoseconds of a kernel's text they leave out.
+fn json_of(alloc: Global, words: &[&str]) -> Option<Result<usize, u64>> {
+    let Request {
+        job,
+        file: _,
+        words: _,
+    } = read_words(alloc, words).ok()?;
+    match job {
+        Job::Show(View::Json, choice) => Some(Ok(choice.from)),
+        Job::JsonKernel(skip) => Some(Err(skip)),
+        _ => None,
+    }
+}
+
+#[test]
+fn events_in_the_trace_event_format(rt: HostRuntime) {
+    assert_eq!(rt; json_of(rt.alloc(), &["smp", "json", "file"]), Some(Ok(0)));
+    assert_eq!(rt;
+        json_of(rt.alloc(), &["smp", "json", "--from", "7"]),
+        Some(Ok(7))
+    );
+    assert_eq!(rt;
+        json_of(rt.alloc(), &["smp", "json", "--from", "ftrace"]),
+        Some(Err(0))
+    );
+    assert_eq!(rt;
+        json_of(
+            rt.alloc(),
+            &["smp", "json", "--from", "ftrace", "--skip", "3"]
+        ),
+        Some(Err(3_000_000_000))
+    );
+}
+
 // Whether these words ask for an exploration by these orders.
 fn is_asked(alloc: Global, words: &[&str], orders: Orders) -> bool {
     match read_words(alloc, words) {
         Ok(request) => request.job == Job::Explore(orders, Scripts::Behind),
         Err(_) => false,
     }
+}
+
+// A report as JSON has the scripts, so none is printed alone and no folder takes them. A sample has none.
+#[test]
+fn a_report_as_json_is_asked_for(rt: HostRuntime) {
+    let alloc = rt.alloc();
+    let request = read_words(alloc, &["smp", "explore", "--json", "a.smp"]);
+    let job = request.map(|r| r.job).ok();
+    assert!(rt; matches!(job, Some(Job::Explore(Orders::All(_), Scripts::Json))));
+    for option in ["--only", "--scripts"] {
+        assert!(rt;
+            read_words(alloc, &["smp", "explore", "--json", option, "1"]).is_err(),
+            "{option}"
+        );
+    }
+    assert_eq!(rt;
+        refused(alloc, &["smp", "sample", "--json"]),
+        Some(ErrorKind::UnknownArgument)
+    );
 }
 
 #[test]
