@@ -3,6 +3,7 @@
 use crate::seat_view::SeatView;
 use atomic_table::{Seat, Split, TableRule};
 use smp_call_steps::known::Setting;
+use smp_start::Retold;
 
 /// The rule of the table. Its key is what the table is made with.
 pub struct CallRule;
@@ -14,6 +15,13 @@ impl TableRule<(), SeatView, Setting> for CallRule {
     ghost holds = { λ k. Ruled k };
 
     ghost first = { λ k. Maker 0 k };
+}
+
+/// A direct call is noted, which is no step.
+impl Retold<SeatView> for CallRule {
+    ghost use Rattle.smp_queue.specs.Rule.{noted};
+
+    ghost after = { noted };
 }
 
 /// The first seat makes a seat for the next CPU.

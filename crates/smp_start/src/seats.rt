@@ -57,7 +57,7 @@ pub fn all_now<S, V, K, P: TableRule<S, V, K>>(table: &Shared<S, V, K, P>, crowd
     ensures { (crowd.new ≡ crowd.old) × ((s : State S V) × P.holds table.now.key s × IsMoment s crowd.old.seats) }
 {}
 
-/// The same of two seats.
+/// Two seats of one table at one moment, as [`all_now`] has a crowd. It makes no step.
 pub fn both_now<S, V, K, P: TableRule<S, V, K>>(
     table: &Shared<S, V, K, P>,
     one: &mut Seat<S, V>,
@@ -75,17 +75,18 @@ pub fn both_now<S, V, K, P: TableRule<S, V, K>>(
     crowd.give(one);
 }
 
-/// What a seat knows after a change that no step makes.
+/// What a seat of a table of this rule knows after the one change that no step makes. Under a rule without it each change of what
+/// a seat knows is a step's.
 pub trait Retold<V> {
     ghost after: { V → V };
 }
 
-/// A seat comes to know something else, with no step. Whatever state of the table keeps the rule, it has to keep it with the
-/// new view as well.
-pub fn retell<S, V, K, P: TableRule<S, V, K>, M: Retold<V>>(
+/// A seat comes to know something else, with no step: what the rule of its table says of that. Whatever state of the table keeps
+/// the rule, it has to keep it with the new view as well.
+pub fn retell<S, V, K, P: TableRule<S, V, K> + Retold<V>>(
     table: &Shared<S, V, K, P>,
     seat: &mut Seat<S, V>,
 )
-    requires { (seat.old.table_id ≡ table.now.table_id) × StaysRuled (P.holds table.now.key) seat.old.id seat.old.me.0 (M.after seat.old.me.0) }
-    ensures { (seat.new.table_id ≡ seat.old.table_id) × (seat.new.id ≡ seat.old.id) × (seat.new.me ≡ (M.after seat.old.me.0, seat.old.me.1)) }
+    requires { (seat.old.table_id ≡ table.now.table_id) × StaysRuled (P.holds table.now.key) seat.old.id seat.old.me.0 (P.after seat.old.me.0) }
+    ensures { (seat.new.table_id ≡ seat.old.table_id) × (seat.new.id ≡ seat.old.id) × (seat.new.me ≡ (P.after seat.old.me.0, seat.old.me.1)) }
 {}

@@ -99,13 +99,11 @@ pub struct SeatMaker {
 }
 
 /// The words of a table with a free gate, free slots, and these labels with all keys off, and the first seat.
-pub(crate) fn lay<A: Allocator>(
+pub(crate) fn lay<A: Allocator + Copy>(
     alloc: A,
     nr: u32,
     setting: &Setting,
 ) -> Result<(Owner<A>, SeatMaker), AllocError>
-where
-    A: Copy,
     requires { AreLimits nr setting.now.online }
     ensures made { IfOk result (λ t. (t.0.table.shared.table_id.words ≡ cells) × (t.0.table.shared.table_id.slots ≡ 0) × (t.0.table.shared.key ≡ setting.now)
         × (t.1.raw.table_id ≡ t.0.table.shared.table_id) × (t.1.raw.me.0 ≡ Maker 0 setting.now)) }
@@ -133,11 +131,10 @@ pub(crate) fn next_seat(
     ensures seat { result ≡ if is_online then Some (fresh_seat words.entry.shared.now.table_id words.entry.shared.now.key n) else None }
 {
     let raw = words.shared.split_seat::<NextSeat>(&mut maker.raw);
-    if is_online {
-        Some(CpuSeat { raw, carried: 0 })
-    } else {
-        None
+    if !is_online {
+        return None;
     }
+    Some(CpuSeat { raw, carried: 0 })
 }
 
 /// What two CPUs of the table know now is their parts of the same stops. It makes no step.

@@ -20,7 +20,7 @@ ghost use Rattle.smp_mask.specs.Mask.{has};
 
 pub(crate) mod crowd;
 
-use super::plays::{CallNoted, CallStored, Exchanged, Loaded, Stored, Swapped};
+use super::plays::{CallStored, Exchanged, Loaded, Stored, Swapped};
 use crate::cell::{CELLS, cell};
 use crate::rule::{CallRule, NextSeat, RawSeat};
 use crate::seat_view::SeatView;
@@ -150,7 +150,7 @@ pub(crate) fn note_call(words: Words, seat: &mut CpuSeat)
     ensures table { seat.new.table ≡ words.entry.shared.now.table_id }
     ensures known { seat.new.known ≡ noted_known seat.old.known }
 {
-    retell::<(), SeatView, Setting, CallRule, CallNoted>(words.shared, &mut seat.raw);
+    retell(words.shared, &mut seat.raw);
 }
 
 /// Stores a number in a word.

@@ -1,11 +1,9 @@
-//! What each kind of step tells its CPU, and what a CPU knows once it has noted a direct call, which is no step.
+//! What each kind of step tells its CPU.
 
 ghost use Rattle.smp_queue.specs.Plays.{loaded, stored, call_stored, exchanged, swapped};
-ghost use Rattle.smp_queue.specs.Rule.{noted};
 
 use crate::seat_view::SeatView;
 use atomic_table::Play;
-use smp_start::Retold;
 
 /// A load.
 pub(super) struct Loaded;
@@ -40,11 +38,4 @@ pub(super) struct Swapped;
 
 impl Play<(), SeatView> for Swapped {
     ghost then = { swapped };
-}
-
-/// A direct call that is noted.
-pub(super) struct CallNoted;
-
-impl Retold<SeatView> for CallNoted {
-    ghost after = { noted };
 }
