@@ -4,6 +4,7 @@ ghost use Rattle.std.specs.Prelude.{◌≡◌, ◌≢◌, ℕ, ◌+◌, ◌*◌,
 ghost use Rattle.smp_labels.specs.Entries.{entry_at, entry_word};
 ghost use Rattle.smp_labels.specs.Keys.{change_of, change_word, count_after, edge_of};
 ghost use Rattle.smp_labels.specs.Kinds.{kind_word};
+ghost use Rattle.smp_labels.specs.Law.{IsLawful, Table};
 ghost use Rattle.smp_labels.specs.PlanOrder.{PlansAreInOrder};
 ghost use Rattle.smp_labels.specs.Sites.{SitesJump};
 ghost use Rattle.smp_labels.specs.declared.entries.Entry.{Entry};
@@ -15,6 +16,11 @@ ghost use Rattle.smp_mask.specs.declared.error.Edge.TheVariants.{Full, Zero};
 /// where the key's count is above 0; with branch 1, where it is 0 (`kernel/jump_label.c: jump_label_type`).
 pub fn sites_jump()
     ensures { SitesJump }
+{}
+
+/// Nothing follows the last entry of a lawful table: behind an entry word of 0 each of the 16 is 0.
+pub fn tables_are_packed()
+    ensures { (t : Table) → IsLawful t → (i j : ℕ) → i < j → j < 16 → t.entry i ≡ 0 → t.entry j ≡ 0 }
 {}
 
 /// The number of each change of a key and of each kind of site; a change is read back from its number.
