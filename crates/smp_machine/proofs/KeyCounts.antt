@@ -164,7 +164,7 @@ module _ {H F : Type 0} (hears : H → Heard → H → Type 0) (runs : F → Cal
   works_loads count p m h f l e =
       let s = loads_count k count (tries_all k l.lost p.stops) in
       works_step hears runs p m h f s (with_moves (looks_of l) (own_of p)) (e ∙ ap (λ (c : CpuValue). record p { stops = c }) l.is)
-      (later_still p.stops s refl refl refl refl refl refl (later_loads k l.lost count p.stops.moves)) refl refl refl refl
+      (later_still p.stops s refl refl refl refl refl refl (later_loads k l.lost count p.stops.moves)) refl refl refl refl refl refl
       (own_still p.stops s refl refl refl refl (λ _ e _. e) refl)
       (λ i. record (own_of p) { moves = told_loads k l.lost count p.stops.moves i })
 
@@ -174,7 +174,7 @@ module _ {H F : Type 0} (hears : H → Heard → H → Type 0) (runs : F → Cal
       let s = nudged up k (loads_count k count (tries_all k l.lost p.stops)) in
       let is : m.stops ≡ s = n ∙ ap (nudged up k) l.is in
       works_step hears runs p m h f s (with_nudge up k (with_moves (looks_of l) (own_of p))) (e ∙ ap (λ (c : CpuValue). record p { stops = c }) is)
-      (later_still p.stops s refl refl refl refl refl refl (later_loads k l.lost count p.stops.moves)) refl refl refl refl
+      (later_still p.stops s refl refl refl refl refl refl (later_loads k l.lost count p.stops.moves)) refl refl refl refl refl refl
       (own_still p.stops s refl refl refl refl (λ _ e _. e) refl)
       (λ i. record (with_nudge up k (own_of p)) { moves = told_loads k l.lost count p.stops.moves i })
 

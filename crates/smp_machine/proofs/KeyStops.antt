@@ -102,7 +102,7 @@ module _ {H F : Type 0} (hears : H → Heard → H → Type 0) (runs : F → Cal
   works_found p new h f k count e =
       let s = loads_count k count p.stops in
       works_step hears runs p new h f s (with_moves (Found k count ∷ []) (own_of p)) e
-      (later_still p.stops s refl refl refl refl refl refl (Found k count ∷ [], refl)) refl refl refl refl
+      (later_still p.stops s refl refl refl refl refl refl (Found k count ∷ [], refl)) refl refl refl refl refl refl
       (own_still p.stops s refl refl refl refl (λ _ e _. e) refl)
       (λ i. record (own_of p) { moves = told_more p.stops.moves (Found k count ∷ []) i })
 

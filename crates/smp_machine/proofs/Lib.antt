@@ -8,6 +8,8 @@ pub mod Made
 pub mod Seating
 -- works that were taken were served
 pub mod Served
+-- looks at the own interrupt word, with interrupts on
+pub mod Looks
 -- one stretch of work after another
 pub mod Works
 -- what a look and a turn leave of a CPU

@@ -22,8 +22,9 @@ use Rattle.smp_words.specs.declared.phase.TheConstants.{DISABLE_IRQ, RUN, EXIT}
 use Rattle.smp_machine.specs.Own.{own_of}
 use Rattle.smp_machine.specs.OwnAnswers.{HasToRun, CarriesFor, OwnAnswers}
 use Rattle.smp_machine.specs.Passes.{PassesValue}
-use Rattle.smp_machine.specs.MachineCpu.{MachineCpuValue, HasNotLeft}
-use Rattle.smp_machine.specs.Works.{handled_calls, stop_call, Works, Hears, RunsOne, completed, TurnsStop}
+use Rattle.smp_machine.specs.MachineCpu.{MachineCpuValue, HasNotLeft, on_there}
+use Rattle.smp_machine.specs.Works.{handled_calls, stop_call, Works, LooksIfOn, RunsOne, completed, TurnsStop}
+use Rattle.smp_machine.proofs.Looks.{hears_if_on, hears_then, hears_turn}
 use Rattle.smp_machine.proofs.OwnAnswers.{own_none, own_still, own_answered, own_low, own_link, carried_still, carries_active}
 use Rattle.smp_machine.proofs.Served.{beginning_still, later_called, serves_none}
 
@@ -140,18 +141,19 @@ module _ {F : Type 0} (leads : F → Called → F → Type 0) (old new : StopCpu
 
 -- a look, and then a turn of a stop
 pub works_turn : {H F : Type 0} (hears : H → Heard → H → Type 0) (leads : F → Called → F → Type 0) {old mid new : MachineCpuValue} {h h' : H} {f f' : F}
-    {turn : Turn} → Hears hears old h mid h' → new.calls ≡ mid.calls → new.passes ≡ mid.passes → IsShown mid.stops → HasNotLeft mid.stops.inside
-    → TurnsStop leads mid.stops f new.stops f' turn → Works hears leads old h f new h' f' (own_of old)
-works_turn hears leads {old} {mid} {new} {h} {h'} {f} {f'} {turn} l calls passes shown not_left s =
-    let t : TurnsStop leads old.stops f new.stops f' turn = subst (λ (x : StopCpuValue). TurnsStop leads x f new.stops f' turn) l.stops_are s in
+    {turn : Turn} → LooksIfOn hears old h mid h' → new.calls ≡ mid.calls → new.passes ≡ mid.passes → new.heard_at ≡ mid.heard_at → IsShown mid.stops → HasNotLeft mid.stops.inside
+    → mid.stops.irq ≡ on_there mid.stops.inside → TurnsStop leads mid.stops f new.stops f' turn → Works hears leads old h f new h' f' (own_of old)
+works_turn hears leads {old} {mid} {new} {h} {h'} {f} {f'} {turn} l calls passes heard shown not_left irq s =
+    let t : TurnsStop leads old.stops f new.stops f' turn = subst (λ (x : StopCpuValue). TurnsStop leads x f new.stops f' turn) l.rest.stops_are s in
     let k = t.moves in
-    let passed : new.passes ≡ old.passes = passes ∙ l.passes_are in
+    let passed : new.passes ≡ old.passes = passes ∙ l.rest.passes_are in
     let table = ap (λ (x : StopCpuValue). x.table) k.kept in
     let setting = ap (λ (x : StopCpuValue). x.setting) k.kept in
     let number = ap (λ (x : StopCpuValue). x.number) k.kept in
     record {
-      calls_kept = subst (λ (x : CallCpuValue). x ≡ handled_calls old.calls x) (sym calls) l.calls_kept;
-      handled = subst (λ (x : CallCpuValue). Handles hears old.calls h x h') (sym calls) l.handled;
+      calls_kept = subst (λ (x : CallCpuValue). x ≡ handled_calls old.calls x) (sym calls) l.rest.calls_kept;
+      handled = subst (λ (x : CallCpuValue). Handles hears old.calls h x h') (sym calls) l.rest.handled;
+      heard = hears_then old mid new (hears_if_on hears old mid h h' l) (hears_turn leads mid new f f' turn s not_left irq heard calls);
       table_is = table;
       setting_is = setting;
       number_is = number;
@@ -164,7 +166,7 @@ works_turn hears leads {old} {mid} {new} {h} {h'} {f} {f'} {turn} l calls passes
           (ap (λ (x : StopCpuValue). x.part.collected) k.kept) k.calls_are
           (beginning_still old.stops.moves new.stops.moves (ap (λ (x : StopCpuValue). x.moves) k.kept));
       serves = serves_none old new (ap (λ (x : PassesValue). x.taken) passed) (ap (λ (x : StopCpuValue). x.attempts) k.kept) k.keeps;
-      mine = own_turn leads old.stops new.stops f f' turn (subst IsShown l.stops_are shown) t
-          (subst (λ (x : StopCpuValue). HasNotLeft x.inside) l.stops_are not_left);
-      own_is = λ i. own_of (record { calls = new.calls; stops = k.kept i; passes = passed i });
+      mine = own_turn leads old.stops new.stops f f' turn (subst IsShown l.rest.stops_are shown) t
+          (subst (λ (x : StopCpuValue). HasNotLeft x.inside) l.rest.stops_are not_left);
+      own_is = λ i. own_of (record { calls = new.calls; stops = k.kept i; passes = passed i; heard_at = new.heard_at });
     }

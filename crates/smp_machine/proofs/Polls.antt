@@ -1,5 +1,6 @@
 -- A CPU goes on with a work until it is completed.
 use Rattle.std.proofs.Common.{◌≡◌, ◌≢◌, ℕ, Bool, Option, Some, None, List, [], ◌∷◌, ◌++◌, append_assoc, inl, inr, arith, refl, sym, ap, ◌∙◌, subst}
+use Rattle.smp_queue.specs.Cpu.{CpuValue as CallCpuValue}
 use Rattle.smp_queue.specs.declared.handler.Heard.{Heard}
 use Rattle.smp_calls.specs.Handles.{looks}
 use Rattle.smp_multi.specs.Cpu.{CpuValue as StopCpuValue, Inside}
@@ -14,6 +15,7 @@ use Rattle.smp_machine.specs.Passes.{PassesValue}
 use Rattle.smp_machine.specs.MachineCpu.{MachineValue, MachineCpuValue}
 use Rattle.smp_machine.specs.Takes.{TakesFront, EntersFront, TakesNext, TakesWork}
 use Rattle.smp_machine.specs.Works.{Works, LooksOnceMore, LooksOnceOrMore, TurnsStop, ReadsAnew}
+use Rattle.smp_machine.proofs.Looks.{hears_none}
 use Rattle.smp_machine.proofs.OwnAnswers.{own_still}
 use Rattle.smp_machine.proofs.Served.{beginning_still, later_still, serves_next}
 use Rattle.smp_machine.proofs.Works.{works_own, works_none, works_then, works_as}
@@ -81,6 +83,7 @@ next_own m old new slot t =
       calls = old.calls;
       stops = record (e i) { inside = None; attempts = []; steps = 0 };
       passes = record (old.passes) { put = p.2 i; noted = p.3 i };
+      heard_at = [];
     })
 
 module _ {H F : Type 0} (hears : H → Heard → H → Type 0) (leads : F → Called → F → Type 0) where
@@ -127,7 +130,9 @@ module _ {H F : Type 0} (hears : H → Heard → H → Type 0) (leads : F → Ca
       (beginning_still old.stops.moves new.stops.moves (ap (λ (c : StopCpuValue). c.moves) e))) (ap (λ (c : StopCpuValue). c.part.calls) e) p.0 p.1
       (serves_next m old new slot t) (own_still old.stops new.stops (ap (λ (c : StopCpuValue). c.part.calls) e)
       (ap (λ (c : StopCpuValue). c.part.begun) e) (ap (λ (c : StopCpuValue). c.pending) e) (ap (λ (c : StopCpuValue). c.part.answers) e)
-      (front_early m old.stops new.stops t.front slot t.stops_are) (ap (λ (c : StopCpuValue). c.part.calling) e)))
+      (front_early m old.stops new.stops t.front slot t.stops_are) (ap (λ (c : StopCpuValue). c.part.calling) e))
+      (hears_none old new (ap (λ (c : StopCpuValue). c.part.looks) e) (ap (λ (c : StopCpuValue). c.irq) e) t.heard_are
+      (ap (λ (c : CallCpuValue). c.part.asked) t.calls_are)))
 
   pub works_take : (m : MachineValue) (old new : MachineCpuValue) (h : H) (f : F) (there : Bool) (o : Option Inside) → old.stops.inside ≡ o
       → TakesWork m old new there → Works hears leads old h f new h f (own_of old)

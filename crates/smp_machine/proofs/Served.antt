@@ -1,6 +1,6 @@
 -- Works that a CPU has taken were served.
 use Rattle.std.proofs.Common.{◌≡◌, inl, inr, ℕ, ◌+◌, ◌<◌, ◌==◌, ◌&&◌, Bool, true, false}
-use Rattle.std.proofs.Common.{Option, Some, None, Result, Ok, Err, IfOk, IfErr, List}
+use Rattle.std.proofs.Common.{Option, Some, None, List}
 use Rattle.std.proofs.Common.{[], ◌∷◌, ◌++◌, length, map, slice_index_or, slice_set, length-set, append_assoc}
 use Rattle.std.proofs.Common.{arith, refl, sym, ap, ◌∙◌, subst, ne_eqb, eq-eqb}
 use Rattle.std.specs.List.{AllByRecursion}
@@ -8,17 +8,15 @@ use Rattle.std.proofs.lemmas.Bool.{cases_eq}
 use Rattle.std.proofs.lemmas.Bool.Decides.{nat_tests}
 use Rattle.std.proofs.lemmas.List.{append-nil, map-append, length-append, get_or-set_same, get_or-set_other}
 use Rattle.smp_mask.specs.Mask.{has}
-use Rattle.smp_mask.specs.declared.error.SmpError.{SmpError}
-use Rattle.smp_mask.specs.declared.error.SmpError.TheVariants as error
 use Rattle.smp_queue.specs.Cpu.{CpuValue as CallCpuValue}
 use Rattle.smp_words.specs.Limits.{AreLimits}
 use Rattle.smp_stop_steps.specs.Start.{has_slot}
-use Rattle.smp_multi.specs.Answers.{RefusesEntry, Enters}
+use Rattle.smp_multi.specs.Answers.{RefusesEntry}
 use Rattle.smp_multi.specs.Cpu.{TableValue as StopTableValue, CpuValue as StopCpuValue, Inside}
-use Rattle.smp_multi.specs.Names.{Attempt, Work, Setting, StopCall, Kind}
+use Rattle.smp_multi.specs.Names.{Attempt, Work, Setting, StopCall}
 use Rattle.smp_machine.specs.declared.work_queue.Item.{Item}
 use Rattle.smp_machine.specs.Passes.{PassesValue, LastIsOwn, takes, TakenIsShown}
-use Rattle.smp_machine.specs.MachineCpu.{MachineValue, MachineCpuValue, IsMachine, HasNotLeft}
+use Rattle.smp_machine.specs.MachineCpu.{MachineValue, MachineCpuValue, IsMachine}
 use Rattle.smp_machine.specs.Served.{Entered, Missed, Unseen, Service, is_entered, one_if, in_hand, visits, entries, attempts_as, attempts_for}
 use Rattle.smp_machine.specs.Served.{IsBeginning, IsLater, IsLookedAt, KeepsVisits, Serves}
 use Rattle.smp_machine.specs.Takes.{Drops, TakesFront, EntersFront, TakesNext}
@@ -323,21 +321,9 @@ stop_limits m is = subst (λ (n : ℕ). AreLimits n m.stops.setting.online) (sym
 
 -- ---- the front of the own queue, entered or dropped
 
-pub next_front : (m : MachineValue) (calls : CallCpuValue) (old new : StopCpuValue) (before after : PassesValue) (x : Item) (slot : Option ℕ)
+pub next_front : (m : MachineValue) (calls : CallCpuValue) (heard : List ℕ) (old new : StopCpuValue) (before after : PassesValue) (x : Item) (slot : Option ℕ)
     → after ≡ takes x before → TakenIsShown after → EntersFront m.stops old new (Some x) slot
-    → TakesNext m (record { calls = calls; stops = old; passes = before }) (record { calls = calls; stops = new; passes = after }) slot
-next_front m calls old new before after x slot took shown front =
-    record { calls_are = refl; front = Some x; passes_are = (took, shown); stops_are = front }
-
--- it is still between two turns, with its number
-pub entered_still : (t : StopTableValue) (slot : ℕ) (old new : StopCpuValue) (r : Result Kind SmpError) → IfOk r (λ kind. Enters t slot old new kind)
-    → IfErr r (λ e. (e ≡ error.Stale) × RefusesEntry t slot old new) → HasNotLeft old.inside → (new.number ≡ old.number) × HasNotLeft new.inside
-entered_still t slot old new (Ok kind) ok err not_left =
-    (ap (λ (c : StopCpuValue). c.number) ok.is, subst (λ (c : StopCpuValue). HasNotLeft c.inside) (sym ok.is) (λ e. omega arith))
-entered_still t slot old new (Err e) ok err not_left = still err.1
-  where
-    still : RefusesEntry t slot old new → (new.number ≡ old.number) × HasNotLeft new.inside
-    still (inl stays) =
-        (ap (λ (c : StopCpuValue). c.number) stays.1, subst (λ (c : StopCpuValue). HasNotLeft c.inside) (sym stays.1) not_left)
-    still (inr looked) =
-        (ap (λ (c : StopCpuValue). c.number) looked.is, subst (λ (c : StopCpuValue). HasNotLeft c.inside) (sym looked.is) not_left)
+    → TakesNext m (record { calls = calls; stops = old; passes = before; heard_at = heard })
+    (record { calls = calls; stops = new; passes = after; heard_at = heard }) slot
+next_front m calls heard old new before after x slot took shown front =
+    record { calls_are = refl; heard_are = refl; front = Some x; passes_are = (took, shown); stops_are = front }

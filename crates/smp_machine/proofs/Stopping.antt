@@ -24,6 +24,7 @@ use Rattle.smp_machine.specs.WorkQueue.{IsKnown}
 use Rattle.smp_machine.specs.Own.{Own, own_of, with_gate, with_begun, with_put, with_collected, with_moves, put_one, put_all, note_all}
 use Rattle.smp_machine.specs.OwnAnswers.{OwnAnswers}
 use Rattle.smp_machine.specs.Served.{IsLater}
+use Rattle.smp_machine.proofs.Looks.{hears_none}
 use Rattle.smp_machine.proofs.OwnAnswers.{own_begun, own_collected, own_still}
 use Rattle.smp_machine.specs.Passes.{PassesValue, PutIsShown, puts, note_of, total}
 use Rattle.smp_machine.specs.MachineCpu.{MachineCpuValue}
@@ -65,24 +66,26 @@ module _ {H F : Type 0} (hears : H → Heard → H → Type 0) (runs : F → Cal
   -- one step of the own stop: what it makes of the own part is this
   pub works_step : (p new : MachineCpuValue) (h : H) (f : F) (s : CpuValue) (own : Own) → new ≡ record p { stops = s } → IsLater p.stops s
       → s.part.calls ≡ p.stops.part.calls → s.part.answers ≡ p.stops.part.answers → s.inside ≡ p.stops.inside
-      → s.attempts ≡ p.stops.attempts → OwnAnswers p.stops s → own_of (record p { stops = s }) ≡ own → Works hears runs p h f new h f own
-  works_step p new h f s own e later calls answers inside attempts mine is =
+      → s.attempts ≡ p.stops.attempts → s.part.looks ≡ p.stops.part.looks → s.irq ≡ p.stops.irq → OwnAnswers p.stops s
+      → own_of (record p { stops = s }) ≡ own → Works hears runs p h f new h f own
+  works_step p new h f s own e later calls answers inside attempts looks irq mine is =
       subst (λ (x : MachineCpuValue). Works hears runs p h f x h f own) (sym e)
-      (works_as hears runs own is (works_still hears runs p (record p { stops = s }) h f refl later calls answers inside attempts refl refl refl mine))
+      (works_as hears runs own is (works_still hears runs p (record p { stops = s }) h f refl later calls answers inside attempts refl refl refl mine
+      (hears_none p (record p { stops = s }) looks irq refl refl)))
 
   pub works_take : (p new : MachineCpuValue) (h : H) (f : F) → new ≡ record p { stops = takes_gate p.stops }
       → Works hears runs p h f new h f (with_moves (Took ∷ []) (with_gate true (own_of p)))
   works_take p new h f e =
       let s = takes_gate p.stops in
       works_step p new h f s (with_moves (Took ∷ []) (with_gate true (own_of p))) e
-      (later_still p.stops s refl refl refl refl refl refl (Took ∷ [], refl)) refl refl refl refl (own_still p.stops s refl refl refl refl (λ _ e _. e) refl)
+      (later_still p.stops s refl refl refl refl refl refl (Took ∷ [], refl)) refl refl refl refl refl refl (own_still p.stops s refl refl refl refl (λ _ e _. e) refl)
       (λ i. record (with_gate true (own_of p)) { moves = told_more p.stops.moves (Took ∷ []) i })
 
   -- a try of the gate, or a look at done, in vain
   pub works_missed : (p new : MachineCpuValue) (h : H) (f : F) → new ≡ record p { stops = misses_gate p.stops } → Works hears runs p h f new h f (own_of p)
   works_missed p new h f e =
       let s = misses_gate p.stops in
-      works_step p new h f s (own_of p) e (later_still p.stops s refl refl refl refl refl refl (Busy ∷ [], refl)) refl refl refl refl
+      works_step p new h f s (own_of p) e (later_still p.stops s refl refl refl refl refl refl (Busy ∷ [], refl)) refl refl refl refl refl refl
       (own_still p.stops s refl refl refl refl (λ _ e _. e) refl)
       (λ i. record (own_of p) { moves = told_same p.stops.moves (Busy ∷ []) refl i })
 
@@ -95,7 +98,7 @@ module _ {H F : Type 0} (hears : H → Heard → H → Type 0) (runs : F → Cal
   pub works_looked : (p new : MachineCpuValue) (h : H) (f : F) → new ≡ record p { stops = looks_in_vain p.stops } → Works hears runs p h f new h f (own_of p)
   works_looked p new h f e =
       let s = looks_in_vain p.stops in
-      works_step p new h f s (own_of p) e (later_still p.stops s refl refl refl refl refl refl (NotDone ∷ [], refl)) refl refl refl refl
+      works_step p new h f s (own_of p) e (later_still p.stops s refl refl refl refl refl refl (NotDone ∷ [], refl)) refl refl refl refl refl refl
       (own_still p.stops s refl refl refl refl (λ _ e _. e) refl)
       (λ i. record (own_of p) { moves = told_same p.stops.moves (NotDone ∷ []) refl i })
 
@@ -104,7 +107,7 @@ module _ {H F : Type 0} (hears : H → Heard → H → Type 0) (runs : F → Cal
   works_give p new h f e =
       let s = gives_gate p.stops in
       works_step p new h f s (with_moves (Gave ∷ []) (with_gate false (own_of p))) e
-      (later_still p.stops s refl refl refl refl refl refl (Gave ∷ [], refl)) refl refl refl refl (own_still p.stops s refl refl refl refl (λ _ e _. e) refl)
+      (later_still p.stops s refl refl refl refl refl refl (Gave ∷ [], refl)) refl refl refl refl refl refl (own_still p.stops s refl refl refl refl (λ _ e _. e) refl)
       (λ i. record (with_gate false (own_of p)) { moves = told_more p.stops.moves (Gave ∷ []) i })
 
   pub works_begin : (p new : MachineCpuValue) (h : H) (f : F) (work : Work) → new ≡ record p { stops = begins work p.stops }
@@ -112,7 +115,7 @@ module _ {H F : Type 0} (hears : H → Heard → H → Type 0) (runs : F → Cal
   works_begin p new h f work e =
       let s = begins work p.stops in
       works_step p new h f s (with_moves (Began work ∷ []) (with_begun work (own_of p))) e
-      (later_begun p.stops s (work ∷ []) refl refl refl refl refl refl (Began work ∷ [], refl)) refl refl refl refl
+      (later_begun p.stops s (work ∷ []) refl refl refl refl refl refl (Began work ∷ [], refl)) refl refl refl refl refl refl
       (own_begun p.stops s work refl refl refl refl refl refl)
       (λ i. record (with_begun work (own_of p)) { moves = told_more p.stops.moves (Began work ∷ []) i })
 
@@ -121,7 +124,7 @@ module _ {H F : Type 0} (hears : H → Heard → H → Type 0) (runs : F → Cal
   works_collect p new h f word e =
       let s = collects word p.stops in
       works_step p new h f s (with_moves (Collected word ∷ []) (with_collected word (own_of p))) e
-      (later_collected p.stops s (word ∷ []) refl refl refl refl refl refl (Collected word ∷ [], refl)) refl refl refl refl
+      (later_collected p.stops s (word ∷ []) refl refl refl refl refl refl (Collected word ∷ [], refl)) refl refl refl refl refl refl
       (own_collected p.stops s refl refl refl refl refl refl)
       (λ i. record (with_collected word (own_of p)) { moves = told_more p.stops.moves (Collected word ∷ []) i })
 
@@ -131,7 +134,8 @@ module _ {H F : Type 0} (hears : H → Heard → H → Type 0) (runs : F → Cal
       subst (λ (y : MachineCpuValue). Works hears runs p h f y h f (with_put x (cpu ∷ []) (own_of p))) (sym e)
       (works_still hears runs p (record p { passes = puts cpu x (note_of p.stops p.passes) p.passes }) h f refl (later_same p.stops) refl refl refl refl refl
       refl refl
-      (own_still p.stops p.stops refl refl refl refl (λ _ e _. e) refl))
+      (own_still p.stops p.stops refl refl refl refl (λ _ e _. e) refl)
+      (hears_none p (record p { passes = puts cpu x (note_of p.stops p.passes) p.passes }) refl refl refl refl))
 
   -- after a stretch in which the CPU has made none
   pub works_after : {old mid new : MachineCpuValue} {h h₁ h₂ : H} {f f₁ f₂ : F} (g : Own → Own) → Works hears runs old h f mid h₁ f₁ (own_of old)

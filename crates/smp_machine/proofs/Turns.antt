@@ -7,6 +7,7 @@ use Rattle.smp_call_steps.specs.Order.{order}
 use Rattle.smp_queue.specs.Cpu.{CpuValue as CallCpuValue}
 use Rattle.smp_queue.specs.Handling.{Grows, asks, drains}
 use Rattle.smp_queue.specs.declared.handler.Heard.{Heard}
+use Rattle.smp_calls.specs.Handles.{Handles}
 use Rattle.smp_calls.proofs.Turns.{handles_none, handles_nothing, handles_batch}
 use Rattle.smp_mask.specs.declared.error.SmpError.{SmpError}
 use Rattle.smp_mask.specs.declared.error.SmpError.TheVariants as error
@@ -25,31 +26,43 @@ use Rattle.smp_stop_steps.specs.Labels.{patch_answer}
 use Rattle.smp_stop_steps.specs.Start.{answer_word}
 use Rattle.smp_stop_steps.specs.Tells.{first_readings}
 use Rattle.smp_words.specs.declared.phase.TheConstants.{DISABLE_IRQ, RUN, EXIT}
-use Rattle.smp_machine.specs.MachineCpu.{MachineCpuValue, HasNotLeft}
-use Rattle.smp_machine.specs.Works.{stop_call, turned, HasRun, LooksOnce, LooksIfOn, StopMoves, GoesRound}
+use Rattle.smp_machine.specs.MachineCpu.{MachineCpuValue, HasNotLeft, notes_looks}
+use Rattle.smp_machine.specs.Works.{handled_calls, stop_call, turned, HasRun, LooksOnce, LooksIfOn, StopMoves, GoesRound}
 use Rattle.smp_machine.specs.Served.{KeepsVisits}
 use Rattle.smp_machine.specs.Works.{completed, StaysIn, TurnsStop}
+use Rattle.smp_machine.proofs.Looks.{notes_none}
 use Rattle.smp_machine.proofs.Served.{keeps_still, keeps_inside, keeps_answer}
 
 module _ {H : Type 0} (hears : H → Heard → H → Type 0) where
   -- one look, by what `handle` answers
-  pub looks_once : (interrupted : Bool) (p : MachineCpuValue) (calls : CallCpuValue) (h i : H)
+  pub looks_once : (interrupted : Bool) (p : MachineCpuValue) (calls : CallCpuValue) (heard : List ℕ) (h i : H)
+      → heard ≡ notes_looks p.calls calls p.stops p.heard_at
       → (interrupted ≡ true → (batch : List Call) × (calls ≡ drains batch (asks true p.calls)) × Grows hears h (order batch) i)
       → (interrupted ≡ false → (calls ≡ asks false p.calls) × (i ≡ h))
-      → LooksOnce hears p h (record p { calls = calls }) i
-  looks_once true p calls h i took idle =
-      let t = took refl in
-      subst (λ (x : CallCpuValue). LooksOnce hears p h (record p { calls = x }) i) (sym t.1) (record {
-        rest = record { stops_are = refl; passes_are = refl; calls_kept = refl; handled = handles_batch hears p.calls t.0 h i t.2 };
-        once = (true, refl);
-      })
-  looks_once false p calls h i took idle =
-      let n = idle refl in
-      subst (λ (x : CallCpuValue). LooksOnce hears p h (record p { calls = x }) i) (sym n.0)
-      (subst (λ (y : H). LooksOnce hears p h (record p { calls = asks false p.calls }) y) (sym n.1) (record {
-        rest = record { stops_are = refl; passes_are = refl; calls_kept = refl; handled = handles_nothing hears p.calls h };
-        once = (false, refl);
-      }))
+      → LooksOnce hears p h (record p { calls = calls; heard_at = heard }) i
+  looks_once true p calls heard h i noted took idle =
+      let t = took refl in record {
+        rest = record {
+          stops_are = refl;
+          passes_are = refl;
+          calls_kept = subst (λ (x : CallCpuValue). x ≡ handled_calls p.calls x) (sym t.1) refl;
+          handled = subst (λ (x : CallCpuValue). Handles hears p.calls h x i) (sym t.1) (handles_batch hears p.calls t.0 h i t.2);
+          heard_are = noted;
+        };
+        once = (true, ap (λ (x : CallCpuValue). x.part.asked) t.1);
+      }
+  looks_once false p calls heard h i noted took idle =
+      let n = idle refl in record {
+        rest = record {
+          stops_are = refl;
+          passes_are = refl;
+          calls_kept = subst (λ (x : CallCpuValue). x ≡ handled_calls p.calls x) (sym n.0) refl;
+          handled = subst (λ (x : CallCpuValue). Handles hears p.calls h x i) (sym n.0)
+              (subst (λ (y : H). Handles hears p.calls h (asks false p.calls) y) (sym n.1) (handles_nothing hears p.calls h));
+          heard_are = noted;
+        };
+        once = (false, ap (λ (x : CallCpuValue). x.part.asked) n.0);
+      }
 
   -- the look has found what `handle` answers
   pub told_once : (interrupted : Bool) (p : MachineCpuValue) (calls : CallCpuValue) (h i : H)
@@ -64,7 +77,13 @@ module _ {H : Type 0} (hears : H → Heard → H → Type 0) where
 
   pub looks_off : (p : MachineCpuValue) (h : H) → p.stops.irq ≡ false → LooksIfOn hears p h p h
   looks_off p h off = record {
-    rest = record { stops_are = refl; passes_are = refl; calls_kept = refl; handled = handles_none hears p.calls h };
+    rest = record {
+      stops_are = refl;
+      passes_are = refl;
+      calls_kept = refl;
+      handled = handles_none hears p.calls h;
+      heard_are = notes_none p.calls p.stops p.heard_at;
+    };
     once = λ on. absurd (true≢false (sym on ∙ off));
     off = λ _. (refl, refl);
   }

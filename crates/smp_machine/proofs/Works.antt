@@ -8,11 +8,13 @@ use Rattle.smp_calls.specs.Handles.{Handles}
 use Rattle.smp_calls.proofs.Turns.{handles_none, handles_then}
 use Rattle.smp_multi.specs.Names.{StopCall}
 use Rattle.smp_multi.specs.declared.func.Called.{Called}
+use Rattle.smp_machine.specs.Looks.{HearsOn}
 use Rattle.smp_machine.specs.Own.{Own, own_of}
 use Rattle.smp_machine.specs.MachineCpu.{MachineValue, MachineCpuValue, IsAt}
 use Rattle.smp_machine.specs.OwnAnswers.{OwnAnswers}
 use Rattle.smp_machine.specs.Served.{IsLater, Serves}
 use Rattle.smp_machine.specs.Works.{handled_calls, stop_call, HasRun, Works}
+use Rattle.smp_machine.proofs.Looks.{hears_none, hears_then}
 use Rattle.smp_machine.proofs.OwnAnswers.{own_still, own_then}
 use Rattle.smp_machine.proofs.Served.{later_same, later_then, serves_still, serves_then}
 
@@ -34,10 +36,11 @@ module _ {H F : Type 0} (hears : H → Heard → H → Type 0) (leads : F → Ca
   -- only what its own stop calls change has changed, or what it has taken
   pub works_own : (old new : MachineCpuValue) (h : H) (f : F) → new.calls ≡ old.calls → IsLater old.stops new.stops
       → new.stops.part.calls ≡ old.stops.part.calls → new.passes.queues ≡ old.passes.queues → new.passes.number ≡ old.passes.number
-      → Serves old new → OwnAnswers old.stops new.stops → Works hears leads old h f new h f (own_of new)
-  works_own old new h f calls later ran queues passes_number serves mine = record {
+      → Serves old new → OwnAnswers old.stops new.stops → HearsOn old new → Works hears leads old h f new h f (own_of new)
+  works_own old new h f calls later ran queues passes_number serves mine heard = record {
     calls_kept = subst (λ (x : CallCpuValue). x ≡ handled_calls old.calls x) (sym calls) refl;
     handled = subst (λ (x : CallCpuValue). Handles hears old.calls h x h) (sym calls) (handles_none hears old.calls h);
+    heard = heard;
     table_is = later.table_is;
     setting_is = later.setting_is;
     number_is = later.number_is;
@@ -56,14 +59,14 @@ module _ {H F : Type 0} (hears : H → Heard → H → Type 0) (leads : F → Ca
   pub works_still : (old new : MachineCpuValue) (h : H) (f : F) → new.calls ≡ old.calls → IsLater old.stops new.stops
       → new.stops.part.calls ≡ old.stops.part.calls → new.stops.part.answers ≡ old.stops.part.answers → new.stops.inside ≡ old.stops.inside
       → new.stops.attempts ≡ old.stops.attempts → new.passes.queues ≡ old.passes.queues → new.passes.number ≡ old.passes.number
-      → new.passes.taken ≡ old.passes.taken → OwnAnswers old.stops new.stops → Works hears leads old h f new h f (own_of new)
-  works_still old new h f calls later ran answers inside attempts queues passes_number taken mine =
-      works_own old new h f calls later ran queues passes_number (serves_still old new taken answers inside attempts) mine
+      → new.passes.taken ≡ old.passes.taken → OwnAnswers old.stops new.stops → HearsOn old new → Works hears leads old h f new h f (own_of new)
+  works_still old new h f calls later ran answers inside attempts queues passes_number taken mine heard =
+      works_own old new h f calls later ran queues passes_number (serves_still old new taken answers inside attempts) mine heard
 
   -- nothing was done
   pub works_none : (p : MachineCpuValue) (h : H) (f : F) → Works hears leads p h f p h f (own_of p)
   works_none p h f = works_still p p h f refl (later_same p.stops) refl refl refl refl refl refl refl
-      (own_still p.stops p.stops refl refl refl refl (λ _ e _. e) refl)
+      (own_still p.stops p.stops refl refl refl refl (λ _ e _. e) refl) (hears_none p p refl refl refl refl)
 
   -- one stretch, and then another
   pub works_then : {old mid new : MachineCpuValue} {h h₁ h₂ : H} {f f₁ f₂ : F} {own own' : Own} → Works hears leads old h f mid h₁ f₁ own
@@ -71,6 +74,7 @@ module _ {H F : Type 0} (hears : H → Heard → H → Type 0) (leads : F → Ca
   works_then {old} {mid} {new} {h} {h₁} {h₂} {f} {f₁} {f₂} a b = record {
     calls_kept = kept_then old.calls mid.calls new.calls a.calls_kept b.calls_kept;
     handled = handles_then hears old.calls mid.calls new.calls h h₁ h₂ a.handled b.handled;
+    heard = hears_then old mid new a.heard b.heard;
     table_is = b.table_is ∙ a.table_is;
     setting_is = b.setting_is ∙ a.setting_is;
     number_is = b.number_is ∙ a.number_is;

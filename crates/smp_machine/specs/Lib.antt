@@ -4,6 +4,8 @@ pub mod WorkQueue
 pub mod Passes
 -- a machine and a CPU of it
 pub mod MachineCpu
+-- when it looks at its own interrupt word
+pub mod Looks
 -- what a family of calls leaves of its CPU
 pub mod Calls
 -- its own moves at the gate, at its stop and at keys

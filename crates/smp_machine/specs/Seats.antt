@@ -48,6 +48,7 @@ SeatCounts hears runs k up old new result =
 pub record SeatReads {H F : Type 0} (old new : SeatValue H F) : Type 0 where
   pub calls : new.cpu.calls ≡ old.cpu.calls
   pub passes : new.cpu.passes ≡ old.cpu.passes
+  pub heard : new.cpu.heard_at ≡ old.cpu.heard_at
   pub handler_kept : new.handler ≡ old.handler
   pub functions_kept : new.functions ≡ old.functions
   pub machine_is : new.machine ≡ old.machine

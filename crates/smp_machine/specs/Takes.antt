@@ -29,6 +29,7 @@ EntersFront t old new None (Some slot) = ⊥
 -- a CPU with no work in hand takes the front of its queue and enters it: the slot of the stop that it is in then
 pub record TakesNext (m : MachineValue) (old new : MachineCpuValue) (slot : Option ℕ) : Type 0 where
   pub calls_are : new.calls ≡ old.calls
+  pub heard_are : new.heard_at ≡ old.heard_at
   pub front : Option Item
   pub passes_are : TakesFront old.passes new.passes front
   pub stops_are : EntersFront m.stops old.stops new.stops front slot

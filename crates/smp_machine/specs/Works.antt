@@ -16,9 +16,10 @@ use Rattle.smp_multi.specs.Running.{called}
 use Rattle.smp_multi.specs.declared.func.Called.{Called}
 use Rattle.smp_multi.specs.declared.turn.Turn.{Turn}
 use Rattle.smp_multi.specs.declared.turn.Turn.TheVariants.{Same, Left}
+use Rattle.smp_machine.specs.Looks.{HearsOn}
 use Rattle.smp_machine.specs.Own.{Own, own_of}
 use Rattle.smp_machine.specs.OwnAnswers.{OwnAnswers}
-use Rattle.smp_machine.specs.MachineCpu.{MachineCpuValue}
+use Rattle.smp_machine.specs.MachineCpu.{MachineCpuValue, notes_looks}
 use Rattle.smp_machine.specs.Served.{KeepsVisits, IsLater, Serves}
 
 -- a CPU of the calls that has only handled
@@ -43,13 +44,14 @@ stop_call c = record { func = c.func; arg = c.arg; answer = answer_word c.answer
 abbrev pub HasRun : {F : Type 0} → (F → Called → F → Type 0) → ℕ → F → List Called → F → Type 0
 HasRun leads number before ran after = FoldsTo (λ p call q. (call.cpu ≡ number) × leads p call q) before ran after
 
--- A CPU has handled interrupts and taken part in stops: its handler has heard just what it has run, its stop function
--- has run just its calls, the works that it has taken were served, its answers to its own stops were given by these calls, and
--- of what only its own stop calls change this is left.
+-- A CPU has handled interrupts and taken part in stops: its handler has heard just what it has run, and only while interrupts were
+-- on; its stop function has run just its calls, the works that it has taken were served, its answers to its own stops were given by
+-- these calls, and of what only its own stop calls change this is left.
 pub record Works {H F : Type 0} (hears : H → Heard → H → Type 0) (leads : F → Called → F → Type 0) (old : MachineCpuValue) (h : H) (f : F)
     (new : MachineCpuValue) (h' : H) (f' : F) (own : Own) : Type 0 where
   pub calls_kept : new.calls ≡ handled_calls old.calls new.calls
   pub handled : Handles hears old.calls h new.calls h'
+  pub heard : HearsOn old new
   pub table_is : new.stops.table ≡ old.stops.table
   pub setting_is : new.stops.setting ≡ old.stops.setting
   pub number_is : new.stops.number ≡ old.stops.number
@@ -63,12 +65,13 @@ pub record Works {H F : Type 0} (hears : H → Heard → H → Type 0) (leads : 
   pub mine : OwnAnswers old.stops new.stops
   pub own_is : own_of new ≡ own
 
--- the handler has heard what one look at the interrupt word, or none, has taken; the rest of the CPU is as it was
+-- the handler has heard what one look at the interrupt word, or none, has taken, and that is noted; the rest of the CPU is as it was
 pub record Hears {H : Type 0} (hears : H → Heard → H → Type 0) (old : MachineCpuValue) (h : H) (new : MachineCpuValue) (h' : H) : Type 0 where
   pub stops_are : new.stops ≡ old.stops
   pub passes_are : new.passes ≡ old.passes
   pub calls_kept : new.calls ≡ handled_calls old.calls new.calls
   pub handled : Handles hears old.calls h new.calls h'
+  pub heard_are : new.heard_at ≡ notes_looks old.calls new.calls old.stops old.heard_at
 
 -- it has looked at the interrupt word once more
 abbrev pub LooksOnceMore : CallCpuValue → CallCpuValue → Type 0

@@ -9,6 +9,7 @@ ghost use Rattle.smp_machine.specs.Passes.{AreFresh, fresh_passes};
 ghost use Rattle.smp_machine.specs.MachineCpu.{IsFull, is_left, given, fresh_place};
 
 use crate::cpu::Cpu;
+use crate::heard_at;
 use crate::machine::Machine;
 use crate::machine_cpu::MachineCpu;
 use crate::stoppers::Passes;
@@ -72,6 +73,7 @@ fn seat_if<A: Allocator>(
         calls,
         stops,
         passes,
+        heard: heard_at::none(),
         source: number,
     };
     Some(Cpu { place })

@@ -1,5 +1,6 @@
-//! The calls of a machine, and all that may run a handler. The call table is private to this page: each function that
-//! lends a CPU with a handler to it asks for that CPU's interrupts on. So no handler runs with interrupts off.
+//! The calls of a machine, and all that may run a handler. The call table is private to this page: each function that lends a CPU
+//! with a handler to it notes its looks at the interrupt word ([`noted`]). By these notes its callers show that no handler has run with
+//! interrupts off.
 
 ghost use Rattle.std.specs.Prelude.{◌≡◌, ◌≢◌, ◌⊎◌, ◌<◌, ◌↔◌, ◌++◌, ℕ, true, false, None, Some, [], ◌∷◌, if◌then◌else◌, IfOk, IfErr, OnOk, IsErrOf, length};
 ghost use Rattle.smp_mask.specs.Mask.{has, members};
@@ -20,6 +21,7 @@ ghost use Rattle.smp_machine.specs.Calls.{KeepsStops};
 ghost use Rattle.smp_machine.specs.MachineCpu.{IsAt};
 ghost use Rattle.smp_machine.specs.Works.{LooksOnce};
 
+use crate::heard_at::noted;
 use crate::machine::Machine;
 use crate::machine_cpu::MachineCpu;
 use smp_calls::{
@@ -30,6 +32,7 @@ use smp_queue::{Alarm, Audit, Boot, CallCpu, CallCrowd, CallTable, Handler, Line
 use smp_words::call::Class;
 use std::alloc::Allocator;
 use std::marker::Model;
+use std::snapshot::Snapshot;
 use std::sync::Wait;
 
 /// The call table of a machine.
@@ -141,22 +144,20 @@ pub(crate) fn wake_next<A: Allocator>(machine: &Machine<A>) {
     machine.calls.table.wake_next();
 }
 
-/// Handles the CPU's own interrupt, with interrupts on: whether one was pending.
+/// Handles the CPU's own interrupt: whether one was pending. Who calls it has to show that interrupts are on.
 pub(crate) fn hear<A: Allocator, H: Handler>(
     machine: &Machine<A>,
     me: &mut MachineCpu<A>,
     handler: &mut H,
 ) -> bool
     requires at { IsAt machine.now me.old }
-    requires irq { me.old.stops.irq ≡ true }
     ensures looks { LooksOnce H.leads me.old handler.old me.new handler.new }
     ensures told { me.new.calls.part.asked ≡ me.old.calls.part.asked ++ result ∷ [] }
 {
-    machine
-        .calls
-        .table
-        .handle(&mut me.calls, handler)
-        .interrupted
+    let before = Snapshot::of(&me.calls);
+    let found = machine.calls.table.handle(&mut me.calls, handler);
+    me.heard = noted(&me.heard, &before, &me.calls, &me.stops);
+    found.interrupted
 }
 
 /// A call to one CPU. Interrupts are on: while it waits, the CPU handles its own.
@@ -188,7 +189,8 @@ pub(crate) fn single<A: Allocator, R: Wait, H: Handler>(
         HaveEnded me.new.calls (λ _. call_by me.old.calls.number (single_record true) Class.Sync func info) (dst ∷ [])) }
     ensures kept { KeepsStops me.old me.new }
 {
-    call_single(
+    let before = Snapshot::of(&me.calls);
+    let answer = call_single(
         &machine.calls.table,
         rt,
         &mut me.calls,
@@ -197,7 +199,9 @@ pub(crate) fn single<A: Allocator, R: Wait, H: Handler>(
         func,
         info,
         wait,
-    )
+    );
+    me.heard = noted(&me.heard, &before, &me.calls, &me.stops);
+    answer
 }
 
 /// A call to one CPU by a record of the user. Interrupts are on: while it waits, the CPU handles its own.
@@ -223,7 +227,8 @@ pub(crate) fn single_async<A: Allocator, R: Wait, H: Handler>(
     ensures refused { IfErr result (λ e. RefusesUser machine.now.calls.online me.old.calls me.new.calls u dst e × (handler.new ≡ handler.old)) }
     ensures kept { KeepsStops me.old me.new }
 {
-    call_async(
+    let before = Snapshot::of(&me.calls);
+    let answer = call_async(
         &machine.calls.table,
         rt,
         &mut me.calls,
@@ -232,7 +237,9 @@ pub(crate) fn single_async<A: Allocator, R: Wait, H: Handler>(
         dst,
         func,
         info,
-    )
+    );
+    me.heard = noted(&me.heard, &before, &me.calls, &me.stops);
+    answer
 }
 
 /// A call to any CPU of a mask. Interrupts are on: while it waits, the CPU handles its own.
@@ -261,7 +268,8 @@ pub(crate) fn any<A: Allocator, R: Wait, H: Handler>(
         HaveEnded me.new.calls (λ _. call_by me.old.calls.number (single_record true) Class.Sync func info) (cpu ∷ [])) }
     ensures kept { KeepsStops me.old me.new }
 {
-    call_any(
+    let before = Snapshot::of(&me.calls);
+    let answer = call_any(
         &machine.calls.table,
         rt,
         &mut me.calls,
@@ -270,7 +278,9 @@ pub(crate) fn any<A: Allocator, R: Wait, H: Handler>(
         func,
         info,
         wait,
-    )
+    );
+    me.heard = noted(&me.heard, &before, &me.calls, &me.stops);
+    answer
 }
 
 /// A call to many CPUs. Interrupts are on: while it waits, the CPU handles its own.
@@ -292,7 +302,8 @@ pub(crate) fn many<A: Allocator, R: Wait, H: Handler>(
     ensures ended { wait ≡ true → HaveEnded me.new.calls (many_call me.old.calls.number Class.Sync func info) (members result) }
     ensures kept { KeepsStops me.old me.new }
 {
-    call_many(
+    let before = Snapshot::of(&me.calls);
+    let called = call_many(
         &machine.calls.table,
         rt,
         &mut me.calls,
@@ -301,7 +312,9 @@ pub(crate) fn many<A: Allocator, R: Wait, H: Handler>(
         func,
         info,
         wait,
-    )
+    );
+    me.heard = noted(&me.heard, &before, &me.calls, &me.stops);
+    called
 }
 
 /// A call to many CPUs that gives up waiting after some polls. Interrupts are on: while it waits, the CPU handles its own.
@@ -321,7 +334,8 @@ pub(crate) fn many_within<A: Allocator, R: Wait, H: Handler>(
         (is_target mask machine.now.calls.online me.old.calls.number false) result.called result.silent polls }
     ensures kept { KeepsStops me.old me.new }
 {
-    call_many_within(
+    let before = Snapshot::of(&me.calls);
+    let within = call_many_within(
         &machine.calls.table,
         rt,
         &mut me.calls,
@@ -330,7 +344,9 @@ pub(crate) fn many_within<A: Allocator, R: Wait, H: Handler>(
         func,
         info,
         polls,
-    )
+    );
+    me.heard = noted(&me.heard, &before, &me.calls, &me.stops);
+    within
 }
 
 /// A call to each CPU of which a condition holds. Interrupts are on: while it waits, the CPU handles its own.
@@ -355,7 +371,8 @@ pub(crate) fn each<A: Allocator, R: Wait, H: Handler, C: Fn(u32, u64) -> bool>(
     ensures ended { wait ≡ true → HaveEnded me.new.calls (many_call me.old.calls.number Class.Sync func info) (remote me.old.calls.number result) }
     ensures kept { KeepsStops me.old me.new }
 {
-    each_cpu_cond(
+    let before = Snapshot::of(&me.calls);
+    let called = each_cpu_cond(
         &machine.calls.table,
         rt,
         &mut me.calls,
@@ -365,5 +382,7 @@ pub(crate) fn each<A: Allocator, R: Wait, H: Handler, C: Fn(u32, u64) -> bool>(
         info,
         cond,
         wait,
-    )
+    );
+    me.heard = noted(&me.heard, &before, &me.calls, &me.stops);
+    called
 }

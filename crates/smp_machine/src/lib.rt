@@ -29,6 +29,7 @@ mod calls_within;
 mod cpu;
 mod crew;
 mod crowds;
+mod heard_at;
 mod hearing;
 mod idle;
 mod key;

@@ -3,8 +3,9 @@
 ghost use Rattle.std.specs.Prelude.{◌≡◌, ◌≢◌, ◌<◌, None, true, false};
 ghost use Rattle.smp_words.specs.Size.{cpus};
 ghost use Rattle.smp_multi.specs.Laws.{IsShown};
-ghost use Rattle.smp_machine.specs.MachineCpu.{HasNotLeft};
+ghost use Rattle.smp_machine.specs.MachineCpu.{HasNotLeft, on_there};
 
+use crate::heard_at::HeardAt;
 use crate::stoppers::Passes;
 use smp_multi::{StopCpu, StopTable};
 use smp_queue::CallCpu;
@@ -17,6 +18,8 @@ pub(crate) struct MachineCpu<A: Allocator> {
     pub(crate) calls: CallCpu,
     pub(crate) stops: StopCpu,
     pub(crate) passes: Passes<A>,
+    /// When it looked at its own interrupt word, for clauses alone.
+    pub(crate) heard: HeardAt,
     /// The source of the work that it has taken last: the CPU to wake once that is completed.
     pub(crate) source: u32,
 }
@@ -26,9 +29,9 @@ impl<A: Allocator> Model for MachineCpu<A> {
 
     ghost Value = { MachineCpuValue };
 
-    ghost view = { λ p. record { calls = p.calls; stops = p.stops; passes = p.passes } };
+    ghost view = { λ p. record { calls = p.calls; stops = p.stops; passes = p.passes; heard_at = p.heard.at } };
 
-    ghost invariant = { λ p. IsMachineCpu (record { calls = p.calls; stops = p.stops; passes = p.passes }) };
+    ghost invariant = { λ p. IsMachineCpu (record { calls = p.calls; stops = p.stops; passes = p.passes; heard_at = p.heard.at }) };
 }
 
 impl<A: Allocator> MachineCpu<A> {
@@ -44,6 +47,7 @@ impl<A: Allocator> MachineCpu<A> {
     pub(crate) fn is_shown(&self, table: &StopTable<A>)
         ensures shown { IsShown self.now.stops }
         ensures not_left { HasNotLeft self.now.stops.inside }
+        ensures irq { self.now.stops.irq ≡ on_there self.now.stops.inside }
     {
         smp_multi::laws::is_shown(table, &self.stops);
     }

@@ -21,6 +21,7 @@ pub(crate) fn read_key<A: Allocator>(
     ensures answers { KeyAnswers k me.old.stops me.new.stops result }
     ensures calls { me.new.calls ≡ me.old.calls }
     ensures passes { me.new.passes ≡ me.old.passes }
+    ensures heard { me.new.heard_at ≡ me.old.heard_at }
 {
     machine.stops.read_key(&mut me.stops, k)
 }
@@ -35,6 +36,7 @@ fn read_site<A: Allocator>(
     ensures answers { SiteAnswers i me.old.stops me.new.stops result }
     ensures calls { me.new.calls ≡ me.old.calls }
     ensures passes { me.new.passes ≡ me.old.passes }
+    ensures heard { me.new.heard_at ≡ me.old.heard_at }
 {
     machine.stops.read_site(&mut me.stops, i)
 }
@@ -48,6 +50,7 @@ impl<A: Allocator> Machine<A> {
         ensures answers { KeyAnswers k me.old.stops me.new.stops result }
         ensures calls { me.new.calls ≡ me.old.calls }
         ensures passes { me.new.passes ≡ me.old.passes }
+        ensures heard { me.new.heard_at ≡ me.old.heard_at }
     {
         read_key(self, &mut me.place, k)
     }
@@ -61,6 +64,7 @@ impl<A: Allocator> Machine<A> {
         ensures answers { SiteAnswers i me.old.stops me.new.stops result }
         ensures calls { me.new.calls ≡ me.old.calls }
         ensures passes { me.new.passes ≡ me.old.passes }
+        ensures heard { me.new.heard_at ≡ me.old.heard_at }
     {
         read_site(self, &mut me.place, i)
     }

@@ -3,7 +3,7 @@
 ghost use Rattle.std.specs.Prelude.{◌≡◌, Some, None};
 ghost use Rattle.smp_words.specs.Limits.{AreLimits};
 ghost use Rattle.smp_multi.specs.Cpu.{IsAt as IsAtStops};
-ghost use Rattle.smp_machine.specs.MachineCpu.{IsAt, HasNotLeft};
+ghost use Rattle.smp_machine.specs.MachineCpu.{IsAt, HasNotLeft, on_there};
 ghost use Rattle.smp_machine.specs.Takes.{EntersFront, TakesNext, TakesWork};
 
 use crate::cpu::Cpu;
@@ -20,9 +20,11 @@ fn enter_front<A: Allocator>(table: &StopTable<A>, me: &mut StopCpu, item: Item)
     requires at { IsAtStops table.now me.old }
     requires limits { AreLimits table.now.nr table.now.setting.online }
     requires outside { me.old.inside ≡ None }
+    requires irq { me.old.irq ≡ on_there me.old.inside }
     ensures stops { EntersFront table.now me.old me.new (Some item) result }
     ensures number { me.new.number ≡ me.old.number }
     ensures not_left { HasNotLeft me.new.inside }
+    ensures irq { me.new.irq ≡ on_there me.new.inside }
 {
     match table.enter(me, item.slot) {
         Ok(_) => Some(item.slot),

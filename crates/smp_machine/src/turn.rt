@@ -4,7 +4,7 @@ ghost use Rattle.std.specs.Prelude.{◌≡◌, ◌≢◌, ◌∷◌, ◌++◌, t
 ghost use Rattle.smp_multi.specs.Advance.{IsInRound};
 ghost use Rattle.smp_multi.specs.Cpu.{IsAt as IsAtStops};
 ghost use Rattle.smp_machine.specs.Own.{own_of};
-ghost use Rattle.smp_machine.specs.MachineCpu.{IsAt, HasNotLeft};
+ghost use Rattle.smp_machine.specs.MachineCpu.{IsAt, HasNotLeft, on_there};
 ghost use Rattle.smp_machine.specs.Works.{Works, LooksIfOn, LooksOnceMore, GoesRound, TurnsStop, ReadsAnew};
 
 use crate::cpu::Cpu;
@@ -53,8 +53,10 @@ fn go_on<A: Allocator, F: StopFunc>(table: &StopTable<A>, me: &mut StopCpu, run:
     requires at { IsAtStops table.now me.old }
     requires inside { me.old.inside ≢ None }
     requires not_left { HasNotLeft me.old.inside }
+    requires irq { me.old.irq ≡ on_there me.old.inside }
     ensures stops { TurnsStop F.leads me.old run.old me.new run.new result }
     ensures not_left { HasNotLeft me.new.inside }
+    ensures irq { me.new.irq ≡ on_there me.new.inside }
 {
     match table.run_one(me, run) {
         Ok(_) => Turn::Left,
@@ -72,6 +74,7 @@ pub(crate) fn step<A: Allocator, F: StopFunc>(
     requires at { IsAt machine.now me.old }
     ensures calls { me.new.calls ≡ me.old.calls }
     ensures passes { me.new.passes ≡ me.old.passes }
+    ensures heard { me.new.heard_at ≡ me.old.heard_at }
     ensures stops { TurnsStop F.leads me.old.stops run.old me.new.stops run.new result }
 {
     if !me.stops.in_stop() {

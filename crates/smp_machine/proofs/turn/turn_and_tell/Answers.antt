@@ -3,5 +3,5 @@ use Rattle.smp_machine.proofs.turn.turn_and_tell.Goals as goal
 
 pub returns-clause-works : goal.returns-clause-works
 returns-clause-works g c =
-    works_turn g.H.Handler.leads g.F.StopFunc.leads c.handle_if_on-interrupted.ensures.looks.rest c.step.ensures.calls c.step.ensures.passes
-    c.is_shown.ensures.shown c.is_shown.ensures.not_left c.step.ensures.stops
+    works_turn g.H.Handler.leads g.F.StopFunc.leads c.handle_if_on-interrupted.ensures.looks c.step.ensures.calls c.step.ensures.passes
+    c.step.ensures.heard c.is_shown.ensures.shown c.is_shown.ensures.not_left c.is_shown.ensures.irq c.step.ensures.stops
