@@ -1,4 +1,6 @@
 mod Behind
 mod ClassLast
+mod Orders
 mod Printing
 mod ReadFails
+mod Steps

@@ -14,4 +14,5 @@ pub fails : (A : Type 0) {S : Type 0} (why : Refusal) (s : S) (made : Result S R
 fails A refusal.NoMemory s made more h = tt
 fails A refusal.TooLong s made more h = rw h refl
 fails A refusal.LongTrace s made more h = rw h refl
+fails A refusal.Unplaced s made more h = rw h refl
 fails A (refusal.Wrong line wrong) s made more h = rw h refl

@@ -9,6 +9,7 @@ use Rattle.trace_ftrace.specs.Words.{front_of, two_of}
 pub record HeadingValue : Type 0 where
   pub task : ℕ
   pub cpu : ℕ
+  pub context : Option ℕ
   pub time : ℕ
   pub event : List ℕ
   pub fields : List (List ℕ)
@@ -56,20 +57,28 @@ unfoldable pub task_of : List ℕ → Option ℕ
 task_of word = let part = past_last 45 word word in number_of 10 (front_in (two_of (parts_of 47 part)) part)
 
 -- a time, an event and its fields
-unfoldable pub stamped : ℕ → ℕ → List (List ℕ) → Option HeadingValue
-stamped task cpu [] = None
-stamped task cpu (t ∷ []) = None
-stamped task cpu (t ∷ e ∷ fs) = time_of t >>? λ time. event_of e >>? λ event.
-    Some (record { task = task; cpu = cpu; time = time; event = event; fields = fs })
+unfoldable pub stamped : ℕ → ℕ → Option ℕ → List (List ℕ) → Option HeadingValue
+stamped task cpu context [] = None
+stamped task cpu context (t ∷ []) = None
+stamped task cpu context (t ∷ e ∷ fs) = time_of t >>? λ time. event_of e >>? λ event.
+    Some (record { task = task; cpu = cpu; context = context; time = time; event = event; fields = fs })
 
--- a CPU, and perhaps flags, in front of these
-abbrev pub past_flags : List (List ℕ) → List (List ℕ)
-past_flags [] = []
-past_flags (w ∷ ws) = ws
+-- how deep in interrupts a CPU is, by the third of these flags
+abbrev pub depth_by : ℕ → ℕ
+depth_by b = if b == 115 then 1 else (if b == 104 then 2 else (if b == 72 then 3 else (if b == 122 then 4 else (if b == 90 then 5 else 0))))
+
+abbrev pub depth_of : List ℕ → ℕ
+depth_of (a ∷ b ∷ c ∷ rest) = depth_by c
+depth_of _ = 0
+
+-- a CPU, and flags, in front of these
+abbrev pub past_flags : ℕ → ℕ → List (List ℕ) → Option HeadingValue
+past_flags task cpu [] = None
+past_flags task cpu (w ∷ ws) = stamped task cpu (Some (depth_of w)) ws
 
 unfoldable pub heading_at : ℕ → List (List ℕ) → Option HeadingValue
 heading_at task [] = None
-heading_at task (w ∷ ws) = cpu_of w >>? λ cpu. first_of (stamped task cpu ws) (stamped task cpu (past_flags ws))
+heading_at task (w ∷ ws) = cpu_of w >>? λ cpu. first_of (stamped task cpu None ws) (past_flags task cpu ws)
 
 -- the first of these behind one word at least, with the task of the last word before it that names one, or else this task
 abbrev pub heading_from : ℕ → List (List ℕ) → Option HeadingValue

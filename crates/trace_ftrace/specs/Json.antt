@@ -1,8 +1,6 @@
 -- The events of a text in the trace-event format.
-use Rattle.std.specs.Prelude.{ℕ, ◌+◌, ◌/◌, ◌%◌, Bool, false, not, ◌==◌, ◌&&◌, ◌||◌, nat_le, nat_lt, if◌then◌else◌, zero, suc}
+use Rattle.std.specs.Prelude.{ℕ, zero, suc}
 use Rattle.std.specs.Prelude.{List, [], ◌∷◌, ◌++◌, Option, Some, None, Result, Ok, codes}
-use Rattle.std.specs.Fmt.{decimal, digits}
-use Rattle.std.specs.List.{flat_map}
 use Rattle.smp_script.specs.Spelling.{mask_text}
 use Rattle.smp_words.specs.FirstFault.{◌>>=◌}
 use Rattle.trace_model.specs.declared.event.CallEvent.{CallEvent}
@@ -12,6 +10,7 @@ use Rattle.trace_model.specs.declared.event.Event.TheVariants as event
 use Rattle.trace_model.specs.declared.event.StopEvent.{StopEvent}
 use Rattle.trace_model.specs.declared.event.StopEvent.TheVariants as stops
 use Rattle.trace_model.specs.declared.stop.Task.{Task}
+use Rattle.trace_ftrace.specs.JsonPieces.{between, hex_text, quoted, time_text}
 use Rattle.trace_ftrace.specs.Kept.{KeptValue}
 use Rattle.trace_ftrace.specs.Names.{NamesValue, csd_text, function_text}
 use Rattle.trace_ftrace.specs.Telling.{TellingValue}
@@ -22,23 +21,6 @@ use Rattle.trace_ftrace.specs.declared.told.Told.{Told}
 use Rattle.trace_ftrace.specs.declared.waits.FoundCall.{FoundCall}
 use Rattle.trace_ftrace.specs.declared.waits.QueuedCall.{QueuedCall}
 use Rattle.trace_ftrace.specs.declared.wrong.Refusal.{Refusal}
-
--- a time in microseconds, with three digits behind the point
-unfoldable pub time_text : ℕ → List ℕ
-time_text time = decimal (time / 1000) ++ codes "." ++ (48 + time / 100 % 10) ∷ (48 + time / 10 % 10) ∷ (48 + time % 10) ∷ []
-
--- a byte of a name: by its number where it can't be printed, or is a quote or a backslash
-abbrev pub is_plain : ℕ → Bool
-is_plain b = (nat_le 32 b && nat_le b 126) && not ((b == 34) || (b == 92))
-
-abbrev pub hex_digit : ℕ → ℕ
-hex_digit n = if nat_lt n 10 then 48 + n else 87 + n
-
-abbrev pub byte_text : ℕ → List ℕ
-byte_text b = if is_plain b then b ∷ [] else codes "\\u00" ++ hex_digit (b / 16) ∷ hex_digit (b % 16) ∷ []
-
-abbrev pub quoted : List ℕ → List ℕ
-quoted name = flat_map byte_text name
 
 -- what an entry is, up to its own numbers and names
 unfoldable pub kind_text : Kind → List ℕ
@@ -53,32 +35,18 @@ kind_text kind.Enter = codes ",\"ph\":\"B\",\"name\":\"stop "
 kind_text kind.Ack = codes ",\"ph\":\"i\",\"s\":\"t\",\"name\":\"ack "
 kind_text kind.Run = codes ",\"ph\":\"i\",\"s\":\"t\",\"name\":\"run "
 
--- an entry on the track of a CPU
-unfoldable pub track_front : ℕ → List ℕ
-track_front cpu = codes ",\n{\"pid\":0,\"tid\":" ++ decimal cpu
-
 -- the front of an entry: on the track of its CPU, when, and what it is
 unfoldable pub entry_text : Kind → Told → List ℕ
-entry_text k x = track_front x.cpu ++ codes ",\"ts\":" ++ time_text x.time ++ kind_text k
+entry_text k x = between (codes ",\n{\"pid\":0,\"tid\":") x.cpu (codes ",\"ts\":") ++ time_text x.time ++ kind_text k
 
 -- the function of a call, the line that tells the event, and the call's record
 unfoldable pub called_text : NamesValue → ℕ → ℕ → ℕ → List ℕ
 called_text n line id func =
-    quoted (function_text n func) ++ codes "\",\"args\":{\"line\":" ++ decimal line ++ codes ",\"record\":\"" ++ csd_text n id ++ codes "\"}}"
-
--- a number at the end of an entry, of a name there, and of what else is told there
-unfoldable pub id_end : ℕ → List ℕ
-id_end n = decimal n ++ codes "}"
-
-unfoldable pub name_end : ℕ → List ℕ
-name_end n = decimal n ++ codes "\"}"
-
-unfoldable pub line_end : ℕ → List ℕ
-line_end n = decimal n ++ codes "}}"
+    quoted (function_text n func) ++ between (codes "\",\"args\":{\"line\":") line (codes ",\"record\":\"") ++ csd_text n id ++ codes "\"}}"
 
 -- a call that is queued, and the flow that begins there, by the number of its line
 unfoldable pub queue_text : NamesValue → Told → ℕ → ℕ → List ℕ
-queue_text n x id func = entry_text kind.Queue x ++ called_text n x.line id func ++ entry_text kind.Flow x ++ id_end x.line
+queue_text n x id func = entry_text kind.Queue x ++ called_text n x.line id func ++ entry_text kind.Flow x ++ between [] x.line (codes "}")
 
 -- the function of a call is entered
 unfoldable pub begin_text : NamesValue → Told → ℕ → ℕ → List ℕ
@@ -87,39 +55,37 @@ begin_text n x id func = entry_text kind.Begin x ++ called_text n x.line id func
 -- the flow ends where the call is begun that was found
 abbrev pub flow_end : Told → Option FoundCall → List ℕ
 flow_end x None = []
-flow_end x (Some f) = entry_text kind.FlowEnd x ++ id_end f.call.line
+flow_end x (Some f) = entry_text kind.FlowEnd x ++ between [] f.call.line (codes "}")
 
--- the source of a stop as the stop's name
-unfoldable pub source_name : ℕ → List ℕ
-source_name source = decimal source ++ codes "\",\"id\":"
+-- the CPUs of a stop, at the end of an entry
+unfoldable pub cpus_end : ℕ → List ℕ
+cpus_end mask = mask_text mask ++ codes "\"}}"
 
--- the line and the function of a stop that is opened
-unfoldable pub task_line : ℕ → List ℕ
-task_line line = codes ",\"args\":{\"line\":" ++ decimal line ++ codes ",\"fn\":\""
+-- the number of a stop, which is that of its source, and the line that tells it
+unfoldable pub opening_text : Told → List ℕ
+opening_text x = between [] x.cpu (codes ",\"args\":") ++ between (codes "{\"line\":") x.line (codes ",\"fn\":\"")
 
-unfoldable pub task_func : ℕ → List ℕ
-task_func func = digits 16 false func ++ codes "\",\"cpus\":\""
-
-unfoldable pub task_text : ℕ → Task → List ℕ
-task_text line t = task_line line ++ task_func t.func ++ mask_text t.mask ++ codes "\"}}"
+-- these, the function and the CPUs of a stop that is opened
+unfoldable pub task_text : Told → Task → List ℕ
+task_text x t = opening_text x ++ hex_text t.func (codes "\",\"cpus\":\"") ++ cpus_end t.mask
 
 -- a stop is opened, and its result is collected
 unfoldable pub open_text : Told → Task → List ℕ
-open_text x t = entry_text kind.Open x ++ source_name x.cpu ++ decimal x.cpu ++ task_text x.line t
+open_text x t = entry_text kind.Open x ++ between [] x.cpu (codes "\",\"id\":") ++ task_text x t
 
 unfoldable pub collect_text : Told → List ℕ
-collect_text x = entry_text kind.Collect x ++ source_name x.cpu ++ id_end x.cpu
+collect_text x = entry_text kind.Collect x ++ between [] x.cpu (codes "\",\"id\":") ++ between [] x.cpu (codes "}")
 
 -- a CPU is in the stop of a source
-unfoldable pub stay_name : ℕ → List ℕ
-stay_name source = decimal source ++ codes "\",\"args\":{\"line\":"
-
 unfoldable pub enter_text : Told → ℕ → List ℕ
-enter_text x source = entry_text kind.Enter x ++ stay_name source ++ line_end x.line
+enter_text x source = entry_text kind.Enter x ++ between [] source (codes "\",\"args\":{\"line\":") ++ between [] x.line (codes "}}")
 
--- the function of a stop is entered
-unfoldable pub func_end : ℕ → List ℕ
-func_end func = digits 16 false func ++ codes "\"}"
+-- it acknowledges a phase, and enters the function of the stop
+abbrev pub ack_text : Told → ℕ → List ℕ
+ack_text x phase = entry_text kind.Ack x ++ between [] phase (codes "\"}")
+
+abbrev pub run_text : Told → ℕ → List ℕ
+run_text x func = entry_text kind.Run x ++ hex_text func (codes "\"}")
 
 -- an event of calls, and of stops; nothing of one that no text tells
 abbrev pub call_text : NamesValue → Told → CallEvent → List ℕ
@@ -131,8 +97,8 @@ call_text n x _ = []
 abbrev pub stop_text : Told → StopEvent → List ℕ
 stop_text x (stops.Open task) = open_text x task
 stop_text x (stops.Enter source) = enter_text x source
-stop_text x (stops.Ack phase) = entry_text kind.Ack x ++ name_end phase
-stop_text x (stops.Run func arg) = entry_text kind.Run x ++ func_end func
+stop_text x (stops.Ack phase) = ack_text x phase
+stop_text x (stops.Run func arg) = run_text x func
 stop_text x (stops.Complete answer) = entry_text kind.End x
 stop_text x (stops.Collect answer) = collect_text x
 stop_text x _ = []
@@ -147,12 +113,10 @@ abbrev pub events_text : NamesValue → List Told → List QueuedCall → List �
 events_text n [] left = []
 events_text n (x ∷ xs) left = event_text n x x.event ++ flow_end x (begun x left) ++ events_text n xs (left_after x left)
 
--- the name of a CPU's track, and of those of this number of CPUs
-unfoldable pub track_name : ℕ → List ℕ
-track_name cpu = codes ",\"ph\":\"M\",\"name\":\"thread_name\",\"args\":{\"name\":\"CPU " ++ decimal cpu ++ codes "\"}}"
-
+-- the track of a CPU with its name, and those of this number of CPUs
 unfoldable pub track_text : ℕ → List ℕ
-track_text cpu = track_front cpu ++ track_name cpu
+track_text cpu = between (codes ",\n{\"pid\":0,\"tid\":") cpu (codes ",\"ph\":\"M\",\"name\":\"thread_name\",\"args\":{\"name\":\"CPU ")
+    ++ between [] cpu (codes "\"}}")
 
 abbrev pub tracks_text : ℕ → List ℕ
 tracks_text zero = []

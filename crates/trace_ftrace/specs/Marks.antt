@@ -7,7 +7,7 @@ use Rattle.smp_words.specs.FirstFault.{◌>>=◌}
 use Rattle.trace_ftrace.specs.Fields.{cpu_below, needed_symbol}
 use Rattle.trace_ftrace.specs.Headings.{HeadingValue, heading_of}
 use Rattle.trace_ftrace.specs.Kept.{KeptValue, behind, classed, numbered, on_cpu}
-use Rattle.trace_ftrace.specs.Signs.{sign_of}
+use Rattle.trace_ftrace.specs.Signs.{begins, sign_of}
 use Rattle.trace_ftrace.specs.Words.{two_of, words_of}
 use Rattle.trace_ftrace.specs.declared.kept.Mark.{Mark}
 use Rattle.trace_ftrace.specs.declared.kept.Stamp.{Stamp}
@@ -88,7 +88,7 @@ line_of_cpu skip at h k =
 
 unfoldable pub event_line : ℕ → ℕ → HeadingValue → KeptValue → Result KeptValue Refusal
 event_line skip line h k = at_line line (cpu_below h.cpu) >>= λ cpu.
-    line_of_cpu skip (record { line = line; cpu = cpu; time = h.time; task = h.task }) h k
+    line_of_cpu skip (record { line = line; cpu = cpu; time = h.time; task = h.task; context = h.context }) h k
 
 -- a CPU's buffer is empty
 abbrev pub is_empty_note : List (List ℕ) → Bool
@@ -96,11 +96,6 @@ is_empty_note (a ∷ b ∷ c ∷ d ∷ []) = bytes_eq a (codes "CPU") && bytes_e
 is_empty_note _ = false
 
 -- the first word of what tells nothing
-abbrev pub begins : List ℕ → List ℕ → Bool
-begins [] text = true
-begins (b ∷ bs) [] = false
-begins (b ∷ bs) (c ∷ cs) = c == b && begins bs cs
-
 abbrev pub is_note : List ℕ → Bool
 is_note first = begins (codes "#") first || begins (codes "cpus=") first || bytes_eq first (codes "version")
 

@@ -58,6 +58,8 @@ IsNamedText (Some what) why = (n : NamesValue) → named_reason n why ≡ Some (
 abbrev pub call_word : Event → Option (List ℕ)
 call_word (event.Call (calls.Queue id to class func info)) = Some (codes "queue")
 call_word (event.Call (calls.Begin id func info)) = Some (codes "begin")
+call_word (event.Call (calls.Free id)) = Some (codes "free")
+call_word (event.Call calls.Take) = Some (codes "take")
 call_word (event.Call (calls.End id)) = Some (codes "end")
 call_word e = None
 

@@ -1,5 +1,5 @@
 -- What a line shows.
-use Rattle.std.specs.Prelude.{ℕ, Bool, false, bit_and, ◌==◌, ◌||◌, if◌then◌else◌, List, Option, Some, None, Result, Ok, codes}
+use Rattle.std.specs.Prelude.{ℕ, Bool, true, false, bit_and, ◌==◌, ◌||◌, ◌&&◌, if◌then◌else◌, List, [], ◌∷◌, Option, Some, None, Result, Ok, codes}
 use Rattle.std.specs.Str.{bytes_eq}
 use Rattle.smp_words.specs.FirstFault.{◌>>=◌}
 use Rattle.smp_words.specs.declared.call.Class.{Class}
@@ -55,15 +55,15 @@ unfoldable pub class_sign : List (List ℕ) → Result Sign Wrong
 class_sign fields = needed_address (codes "csd") fields >>= λ address. needed_address (codes "flags") fields >>= λ flags.
     Ok (sign.Class address (sort_of flags))
 
--- a function is entered: of a record or of a direct call, but nothing of wakes
+-- a function is entered: of a record or of a direct call; that of wakes is passed over
 unfoldable pub begin_sign : List (List ℕ) → Result (Option Sign) Wrong
 begin_sign fields = needed_address (codes "csd") fields >>= λ address.
-    Ok (if is_wakes fields then None else (if address == 0 then Some sign.Direct else Some (sign.Begin address)))
+    Ok (if is_wakes fields then Some sign.Passed else (if address == 0 then Some sign.Direct else Some (sign.Begin address)))
 
--- it has returned; nothing of a direct call and of wakes
+-- it has returned; those of a direct call and of wakes are passed over
 unfoldable pub end_sign : List (List ℕ) → Result (Option Sign) Wrong
 end_sign fields = needed_address (codes "csd") fields >>= λ address.
-    Ok (if address == 0 || is_wakes fields then None else Some (sign.End address))
+    Ok (if address == 0 || is_wakes fields then Some sign.Passed else Some (sign.End address))
 
 -- a record is queued, the function of a call is entered, or that of a record's call has returned
 abbrev pub is_queue : List ℕ → Bool
@@ -75,10 +75,33 @@ is_entry event = bytes_eq event (codes "csd_function_entry") || bytes_eq event (
 abbrev pub is_exit : List ℕ → Bool
 is_exit event = bytes_eq event (codes "csd_function_exit") || bytes_eq event (codes "sync_exit2")
 
+-- a CPU enters the interrupt of calls; a probe is behind an append
+abbrev pub is_interrupt : List ℕ → Bool
+is_interrupt event = bytes_eq event (codes "call_function_entry") || bytes_eq event (codes "call_function_single_entry")
+
+abbrev pub is_probe : List ℕ → Bool
+is_probe event = bytes_eq event (codes "csd_queued") || bytes_eq event (codes "one_queued") || bytes_eq event (codes "many_queued")
+
+-- an event is of calls or stops, by its first letters
+abbrev pub begins : List ℕ → List ℕ → Bool
+begins [] text = true
+begins (b ∷ bs) [] = false
+begins (b ∷ bs) (c ∷ cs) = c == b && begins bs cs
+
+abbrev pub is_passed : List ℕ → Bool
+is_passed event = begins (codes "csd_") event || begins (codes "stop_") event || begins (codes "ipi_send") event
+    || begins (codes "call_function") event
+
+-- what a line shows that tells no event
+abbrev pub passed_sign : List ℕ → Option Sign
+passed_sign event =
+    if is_interrupt event then Some sign.Interrupt
+    else (if is_probe event then Some sign.Probe else (if is_passed event then Some sign.Passed else None))
+
 -- what a line with this event and these fields shows
-abbrev pub of_stop : Option StopSign → Option Sign
-of_stop None = None
-of_stop (Some s) = Some (sign.Stop s)
+abbrev pub of_stop : List ℕ → Option StopSign → Option Sign
+of_stop event None = passed_sign event
+of_stop event (Some s) = Some (sign.Stop s)
 
 unfoldable pub sign_of : List ℕ → List (List ℕ) → Result (Option Sign) Wrong
 sign_of event fields =
@@ -86,4 +109,4 @@ sign_of event fields =
     else (if bytes_eq event (codes "csd_class") then (class_sign fields >>= λ s. Ok (Some s))
     else (if is_entry event then begin_sign fields
     else (if is_exit event then end_sign fields
-    else (if bytes_eq event (codes "async_exit") then Ok (Some sign.EndLast) else (stop_sign event fields >>= λ s. Ok (of_stop s))))))
+    else (if bytes_eq event (codes "async_exit") then Ok (Some sign.EndLast) else (stop_sign event fields >>= λ s. Ok (of_stop event s))))))

@@ -4,4 +4,4 @@ use Rattle.trace_ftrace.specs.Text.{SourceValue}
 use Rattle.trace_ftrace.specs.declared.text.Source.{Source}
 
 abbrev pub source_value : Source → SourceValue
-source_value s = record { text = s.text.now; names = names_value s.names; marks = s.marks.now; told = s.told.now; slow = s.slow }
+source_value s = record { text = s.text.now; names = names_value s.names; marks = s.marks.now; told = s.told.now; order = s.order; slow = s.slow }

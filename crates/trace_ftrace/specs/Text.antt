@@ -1,5 +1,5 @@
 -- What is printed of the verdict on a text.
-use Rattle.std.specs.Prelude.{◌≡◌, ℕ, ◌+◌, Bool, false, ◌==◌, ◌&&◌, nat_lt, if◌then◌else◌, List, [], ◌∷◌, ◌++◌}
+use Rattle.std.specs.Prelude.{◌≡◌, ℕ, ◌+◌, Bool, true, false, ◌==◌, ◌&&◌, nat_lt, if◌then◌else◌, List, [], ◌∷◌, ◌++◌}
 use Rattle.std.specs.Prelude.{Option, Some, None, Result, Ok, Err, Vec, codes}
 use Rattle.std.specs.Fmt.{decimal}
 use Rattle.smp_script.specs.Lines.{Line, lines_of}
@@ -21,11 +21,15 @@ use Rattle.trace_ftrace.specs.Counts.{counts_of}
 use Rattle.trace_ftrace.specs.Kept.{KeptValue}
 use Rattle.trace_ftrace.specs.Names.{NamesValue, broken_line}
 use Rattle.trace_ftrace.specs.Telling.{TellingValue}
+use Rattle.trace_ftrace.specs.Bounds.{shows_order}
+use Rattle.trace_ftrace.specs.Ordered.{FailsInOrder, HasRun, verdict_on}
 use Rattle.trace_ftrace.specs.Verdict.{ruling_of as ruling_of_told}
 use Rattle.trace_ftrace.specs.Waits.{is_queue, waits_text}
 use Rattle.trace_ftrace.specs.declared.counts.Counts.{Counts}
 use Rattle.trace_ftrace.specs.declared.kept.Mark.{Mark}
 use Rattle.trace_ftrace.specs.declared.names.BrokenEvent.{BrokenEvent}
+use Rattle.trace_ftrace.specs.declared.text.OrderJudged.{OrderJudged}
+use Rattle.trace_ftrace.specs.declared.text.OrderJudged.TheVariants as order
 use Rattle.trace_ftrace.specs.declared.told.Told.{Told}
 use Rattle.trace_ftrace.specs.declared.wrong.Refusal.{Refusal}
 use Rattle.trace_ftrace.specs.declared.wrong.Refusal.TheVariants as refusal
@@ -36,6 +40,7 @@ pub record SourceValue : Type 0 where
   pub names : NamesValue
   pub marks : List Mark
   pub told : List Told
+  pub order : OrderJudged
   pub slow : ℕ
 
 abbrev pub source_of : List ℕ → ℕ → KeptValue → TellingValue → SourceValue
@@ -44,8 +49,12 @@ source_of text slow k t = record {
   names = record { addresses = t.addresses; functions = k.names };
   marks = k.marks;
   told = t.told;
+  order = order.Unasked;
   slow = slow;
 }
+
+abbrev pub asked_of : OrderJudged → List ℕ → ℕ → KeptValue → TellingValue → SourceValue
+asked_of order text slow k t = record (source_of text slow k t) { order = order }
 
 -- the line of a number, where the first has number k
 abbrev pub line_from : ℕ → ℕ → List Line → List ℕ
@@ -68,6 +77,7 @@ abbrev pub call_record : CallEvent → Option ℕ
 call_record (calls.Queue id to class func info) = Some id
 call_record (calls.Begin id func info) = Some id
 call_record (calls.End id) = Some id
+call_record (calls.Free id) = Some id
 call_record _ = None
 
 abbrev pub event_record : Event → Option ℕ
@@ -102,10 +112,17 @@ unfoldable pub source_text : List ℕ → List Told → ℕ → Option ℕ → L
 source_text text told line broken = line_behind text line ++ queued_text text (queue_of broken line told)
 
 -- whether class and order are judged
-unfoldable pub judged_text : ℕ → List ℕ
-judged_text unshown =
-    if unshown == 0 then codes "class: judged\norder: not judged\n"
-    else codes "class: not judged of " ++ decimal unshown ++ codes " calls\norder: not judged\n"
+unfoldable pub class_text : ℕ → List ℕ
+class_text unshown =
+    if unshown == 0 then codes "class: judged\norder: " else codes "class: not judged of " ++ decimal unshown ++ codes " calls\norder: "
+
+abbrev pub order_text : OrderJudged → List ℕ
+order_text order.Unasked = codes "not judged\n"
+order_text order.Hidden = codes "not judged: the lines do not show it\n"
+order_text order.Judged = codes "judged\n"
+
+abbrev pub judged_text : OrderJudged → ℕ → List ℕ
+judged_text o unshown = class_text unshown ++ order_text o
 
 -- how many lines show what is not judged, and whether class and order are
 unfoldable pub count_text : List ℕ → ℕ → List ℕ → List ℕ
@@ -129,23 +146,23 @@ first_counts c = direct_text c.direct ++ wakes_text c.wakes
 unfoldable pub last_counts : Counts → List ℕ
 last_counts c = works_text c.works ++ earlier_text c.earlier
 
-abbrev pub counts_text : Counts → List ℕ
-counts_text c = first_counts c ++ last_counts c ++ judged_text c.unshown
+abbrev pub counts_text : OrderJudged → Counts → List ℕ
+counts_text o c = first_counts c ++ last_counts c ++ judged_text o c.unshown
 
 -- what is printed of a lawful text, and of one with an event that no run has
-unfoldable pub lawful_lines : ℕ → StateValue → Counts → List ℕ
-lawful_lines events s c = lawful_text events s ++ counts_text c
+unfoldable pub lawful_lines : OrderJudged → ℕ → StateValue → Counts → List ℕ
+lawful_lines o events s c = lawful_text events s ++ counts_text o c
 
 unfoldable pub broken_lines : SourceValue → BrokenEvent → ℕ → List ℕ
 broken_lines x b unshown =
-    broken_line x.names b ++ source_text x.text x.told b.line (broken_record b.event b.why) ++ judged_text unshown
+    broken_line x.names b ++ source_text x.text x.told b.line (broken_record b.event b.why) ++ judged_text x.order unshown
 
 -- what is printed of a verdict
 abbrev pub broken_of : ℕ → ℕ → Event → Reason → BrokenEvent
 broken_of line cpu e why = record { line = line; cpu = cpu; event = e; why = why }
 
 unfoldable pub verdict_text : {A : Type 0} → SourceValue → Verdict A → List ℕ
-verdict_text x (Lawful events state) = lawful_lines events state (counts_of x.marks x.told)
+verdict_text x (Lawful events state) = lawful_lines x.order events state (counts_of x.marks x.told)
 verdict_text x (Broken line cpu e why) = broken_lines x (broken_of line cpu e why) (counts_of x.marks x.told).unshown
 
 -- and behind it the calls that wait
@@ -163,7 +180,7 @@ ruling_of (Broken line cpu event why) = rulings.Broken
 -- this is printed of a verdict, and the text is lawful or not
 abbrev pub IsPrinted : List ℕ → Ruling → SourceValue → Result (ℕ × StateValue) EarlyEnd → Type 0
 IsPrinted out ruling x (Ok (events, state)) =
-    (out ≡ lawful_lines events state (counts_of x.marks x.told) ++ waits_of x) × (ruling ≡ rulings.Lawful)
+    (out ≡ lawful_lines x.order events state (counts_of x.marks x.told) ++ waits_of x) × (ruling ≡ rulings.Lawful)
 IsPrinted out ruling x (Err (early_end.Broken line cpu e why)) =
     (out ≡ broken_lines x (broken_of line cpu e why) (counts_of x.marks x.told).unshown ++ waits_of x) × (ruling ≡ rulings.Broken)
 IsPrinted out ruling x (Err _) = ⊥
@@ -182,3 +199,18 @@ Prints answer text slow (Ok (k, t)) = PrintsRuling answer (source_of text slow k
 Prints (Ok (out, ruling)) text slow (Err why) = ⊥
 Prints (Err refusal.NoMemory) text slow (Err why) = Unit {0}
 Prints (Err told) text slow (Err why) = why ≡ told
+
+-- the same with order asked for: where the lines show it, what is printed is the verdict on an order of the events
+abbrev pub PrintsRun : {A : Type 0} → Result (Vec ℕ A × Ruling) Refusal → SourceValue → Type 0
+PrintsRun (Ok (out, ruling)) x = HasRun x.marks x.told (λ steps. IsPrinted out.items ruling x (verdict_on steps))
+PrintsRun (Err why) x = FailsInOrder why x.marks x.told
+
+abbrev pub PrintsShown : {A : Type 0} → Result (Vec ℕ A × Ruling) Refusal → Bool → List ℕ → ℕ → KeptValue → TellingValue → Type 0
+PrintsShown answer true text slow k t = PrintsRun answer (asked_of order.Judged text slow k t)
+PrintsShown answer false text slow k t = PrintsRuling answer (asked_of order.Hidden text slow k t) (ruling_of_told t.told)
+
+abbrev pub PrintsInOrder : {A : Type 0} → Result (Vec ℕ A × Ruling) Refusal → List ℕ → ℕ → Result (KeptValue × TellingValue) Refusal → Type 0
+PrintsInOrder answer text slow (Ok (k, t)) = PrintsShown answer (shows_order k.marks) text slow k t
+PrintsInOrder (Ok (out, ruling)) text slow (Err why) = ⊥
+PrintsInOrder (Err refusal.NoMemory) text slow (Err why) = Unit {0}
+PrintsInOrder (Err told) text slow (Err why) = why ≡ told

@@ -89,6 +89,9 @@ abbrev pub sign_told : Mark → Sign → List Mark → TellingValue → Result T
 sign_told m (sign.Queue to address sort told) behind t = queued_if m to address (class_of sort) t
 sign_told m (sign.Class address sort) behind t = Ok t
 sign_told m sign.Direct behind t = Ok t
+sign_told m sign.Interrupt behind t = Ok t
+sign_told m sign.Probe behind t = Ok t
+sign_told m sign.Passed behind t = Ok t
 sign_told m (sign.Begin address) behind t = Ok (begun m address t)
 sign_told m (sign.End address) behind t = Ok (ended m (known address t) t)
 sign_told m sign.EndLast behind t = Ok (ended m (slice_index_or t.running m.at.cpu None) t)

@@ -1,7 +1,7 @@
 //! The task, the CPU, the time, the event and the fields of a line.
 
 ghost use Rattle.std.specs.Prelude.{◌≡◌, ◌<◌, ◌^◌, map, IfSome, MatchOption};
-ghost use Rattle.trace_ftrace.specs.Headings.{cpu_of, event_of, heading_at, heading_of, nanos_of, parts_time, past_last};
+ghost use Rattle.trace_ftrace.specs.Headings.{cpu_of, depth_of, event_of, heading_at, heading_of, nanos_of, parts_time, past_last};
 ghost use Rattle.trace_ftrace.specs.Headings.{stamped, task_of, time_of};
 ghost use Rattle.trace_ftrace.specs.HeadingView.{heading_value};
 
@@ -14,6 +14,8 @@ pub(crate) struct Heading<'w, 'a> {
     /// 0 where the line names none.
     pub(crate) task: u64,
     pub(crate) cpu: u64,
+    /// How deep the CPU is in interrupts: 0 in a task, 1 in a soft and 2 in a hard one; none where no flags show it.
+    pub(crate) context: Option<u32>,
     /// In nanoseconds, or in whatever unit the clock counts.
     pub(crate) time: u128,
     pub(crate) event: &'a [u8],
@@ -122,10 +124,29 @@ fn task_of(word: &[u8]) -> Option<u64>
     }
 }
 
+/// How deep in interrupts a CPU is whose line has these flags, by the third of them.
+fn depth_of(flags: &[u8]) -> u32
+    ensures { result ≡ depth_of flags.now }
+{
+    match flags {
+        [_, _, b's', ..] => 1,
+        [_, _, b'h', ..] => 2,
+        [_, _, b'H', ..] => 3,
+        [_, _, b'z', ..] => 4,
+        [_, _, b'Z', ..] => 5,
+        _ => 0,
+    }
+}
+
 /// What words tell of this task and CPU, of which the first is a time.
 #[tactic(auto, unfolding(crate::specs::Headings::stamped))]
-fn stamped<'w, 'a>(task: u64, cpu: u64, words: &'w [&'a [u8]]) -> Option<Heading<'w, 'a>>
-    ensures { let told = stamped task cpu (map (λ w. w.now) words.now) in
+fn stamped<'w, 'a>(
+    task: u64,
+    cpu: u64,
+    context: Option<u32>,
+    words: &'w [&'a [u8]],
+) -> Option<Heading<'w, 'a>>
+    ensures { let told = stamped task cpu context (map (λ w. w.now) words.now) in
         MatchOption result (told ≡ None) (λ h. told ≡ Some (heading_value h)) }
 {
     let [time, event, fields @ ..] = words else {
@@ -138,6 +159,7 @@ fn stamped<'w, 'a>(task: u64, cpu: u64, words: &'w [&'a [u8]]) -> Option<Heading
         Some(event) => Some(Heading {
             task,
             cpu,
+            context,
             time,
             event,
             fields,
@@ -158,11 +180,11 @@ fn heading_at<'w, 'a>(task: u64, words: &'w [&'a [u8]]) -> Option<Heading<'w, 'a
     let Some(cpu) = cpu_of(first) else {
         return None;
     };
-    if let Some(found) = stamped(task, cpu, rest) {
+    if let Some(found) = stamped(task, cpu, None, rest) {
         return Some(found);
     }
     match rest {
-        [_, after @ ..] => stamped(task, cpu, after),
+        [flags, after @ ..] => stamped(task, cpu, Some(depth_of(flags)), after),
         [] => None,
     }
 }

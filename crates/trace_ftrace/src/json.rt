@@ -1,22 +1,21 @@
 //! The events of a text in the trace-event format, which Perfetto and chrome://tracing read.
 
-ghost use Rattle.std.specs.Prelude.{◌≡◌, ◌<◌, ◌+◌, ◌++◌, [], false, IfOk, OnOk};
-ghost use Rattle.std.specs.Fmt.{decimal, digits};
-ghost use Rattle.smp_script.specs.Spelling.{mask_text};
-ghost use Rattle.trace_ftrace.specs.Json.{begin_text, byte_text, call_text, called_text, collect_text, enter_text, entry_text, event_text};
-ghost use Rattle.trace_ftrace.specs.Json.{events_text, flow_end, func_end, hex_digit, id_end, is_plain, json_front, json_of, json_text, kind_text};
-ghost use Rattle.trace_ftrace.specs.Json.{line_end, name_end, open_text, queue_text, quoted, source_name, stay_name, stop_text, task_func};
-ghost use Rattle.trace_ftrace.specs.Json.{task_line, task_text, time_text, track_front, track_name, track_text, tracks_text};
+ghost use Rattle.std.specs.Prelude.{◌≡◌, ◌++◌, [], IfOk, OnOk};
+ghost use Rattle.trace_ftrace.specs.Json.{ack_text, begin_text, call_text, called_text, collect_text, cpus_end, enter_text, entry_text, event_text};
+ghost use Rattle.trace_ftrace.specs.Json.{events_text, flow_end, json_front, json_of, json_text, kind_text, open_text, queue_text, run_text};
+ghost use Rattle.trace_ftrace.specs.Json.{opening_text, stop_text, task_text, track_text, tracks_text};
 ghost use Rattle.trace_ftrace.specs.NamesView.{names_value};
 ghost use Rattle.trace_ftrace.specs.Print.{IsTrace};
 ghost use Rattle.trace_ftrace.specs.Reading.{reading_of};
-ghost use Rattle.trace_ftrace.specs.declared.json.Kind.TheVariants as kinds;
+
+mod pieces;
 
 use crate::names::{Names, name_of, write_record};
 use crate::told::Told;
 use crate::verdict::read_told;
 use crate::waits::{FoundCall, go_on};
 use crate::wrong::Refusal;
+use pieces::{write_between, write_hex, write_quoted, write_time};
 use smp_mask::CpuMask;
 use smp_script::spelling::write_mask;
 use std::alloc::{AllocError, Allocator};
@@ -45,100 +44,6 @@ enum Kind {
     Run,
 }
 
-/// The byte of a digit.
-fn digit(number: u128) -> u8
-    requires { number < 10 }
-    ensures { result ≡ 48 + number }
-{
-    48 + number as u8
-}
-
-/// Writes a time in microseconds.
-#[tactic(auto, unfolding(crate::specs::Json::time_text))]
-fn write_time<A: Allocator + Copy>(
-    alloc: A,
-    out: &mut Vec<u8, A>,
-    time: u128,
-) -> Result<(), AllocError>
-    ensures { OnOk result (out.new.items ≡ out.old.items ++ time_text time) }
-{
-    let micros = time / 1000;
-    let front = format!(in alloc; "{micros}.")?;
-    out.extend_from_slice(front.as_bytes())?;
-    out.push(digit(time / 100 % 10))?;
-    out.push(digit(time / 10 % 10))?;
-    out.push(digit(time % 10))?;
-    Ok(())
-}
-
-/// Whether a byte can be between quotes as it is.
-fn is_plain(byte: u8) -> bool
-    ensures { result ≡ is_plain byte }
-{
-    32 <= byte && byte <= 126 && !(byte == b'"' || byte == b'\\')
-}
-
-/// The hexadecimal digit of a number.
-fn hex_digit(number: u8) -> u8
-    requires { number < 16 }
-    ensures { result ≡ hex_digit number }
-{
-    if number < 10 {
-        48 + number
-    } else {
-        87 + number
-    }
-}
-
-/// Writes a byte of a name.
-fn write_byte<A: Allocator>(out: &mut Vec<u8, A>, byte: u8) -> Result<(), AllocError>
-    ensures { OnOk result (out.new.items ≡ out.old.items ++ byte_text byte) }
-{
-    if is_plain(byte) {
-        out.push(byte)?;
-        return Ok(());
-    }
-    out.extend_from_slice(b"\\u00")?;
-    out.push(hex_digit(byte / 16))?;
-    out.push(hex_digit(byte % 16))?;
-    Ok(())
-}
-
-/// Writes a name that is between quotes.
-fn write_quoted<A: Allocator>(out: &mut Vec<u8, A>, name: &[u8]) -> Result<(), AllocError>
-    ensures { OnOk result (out.new.items ≡ out.old.items ++ quoted name.now) }
-{
-    for byte in name {
-        write_byte(out, *byte)?;
-    }
-    Ok(())
-}
-
-/// Writes a number.
-fn write_decimal<A: Allocator + Copy>(
-    alloc: A,
-    out: &mut Vec<u8, A>,
-    number: u32,
-) -> Result<(), AllocError>
-    ensures { OnOk result (out.new.items ≡ out.old.items ++ decimal number) }
-{
-    let text = format!(in alloc; "{number}")?;
-    out.extend_from_slice(text.as_bytes())
-}
-
-/// Writes a number behind a text.
-fn write_number<A: Allocator + Copy>(
-    alloc: A,
-    out: &mut Vec<u8, A>,
-    front: &'static str,
-    number: u32,
-) -> Result<(), AllocError>
-    ensures { OnOk result (out.new.items ≡ out.old.items ++ front.now ++ decimal number) }
-{
-    let text = format!(in alloc; "{front}{number}")?;
-    out.extend_from_slice(text.as_bytes())
-}
-
 /// What an entry is, up to its own numbers and names.
 #[tactic(auto, unfolding(crate::specs::Json::kind_text))]
 fn kind_text(kind: Kind) -> &'static str
@@ -158,18 +63,6 @@ fn kind_text(kind: Kind) -> &'static str
     }
 }
 
-/// Writes the track of a CPU.
-#[tactic(auto, unfolding(crate::specs::Json::track_front))]
-fn write_track_front<A: Allocator + Copy>(
-    alloc: A,
-    out: &mut Vec<u8, A>,
-    cpu: u32,
-) -> Result<(), AllocError>
-    ensures { OnOk result (out.new.items ≡ out.old.items ++ track_front cpu) }
-{
-    write_number(alloc, out, ",\n{\"pid\":0,\"tid\":", cpu)
-}
-
 /// Writes the front of an entry of this kind.
 #[tactic(auto, unfolding(crate::specs::Json::entry_text))]
 fn write_entry<A: Allocator + Copy>(
@@ -180,8 +73,7 @@ fn write_entry<A: Allocator + Copy>(
 ) -> Result<(), AllocError>
     ensures { OnOk result (out.new.items ≡ out.old.items ++ entry_text kind told.now) }
 {
-    write_track_front(alloc, out, told.cpu)?;
-    out.extend_from_slice(b",\"ts\":")?;
+    write_between(alloc, out, ",\n{\"pid\":0,\"tid\":", told.cpu, ",\"ts\":")?;
     write_time(alloc, out, told.time)?;
     out.extend_from_slice(kind_text(kind).as_bytes())
 }
@@ -198,48 +90,8 @@ fn write_called<A: Allocator + Copy>(
     ensures { OnOk result (out.new.items ≡ out.old.items ++ called_text (names_value names.now) line call.0 call.1) }
 {
     write_quoted(out, name_of(names.functions, call.1))?;
-    write_number(alloc, out, "\",\"args\":{\"line\":", line)?;
-    out.extend_from_slice(b",\"record\":\"")?;
+    write_between(alloc, out, "\",\"args\":{\"line\":", line, ",\"record\":\"")?;
     write_record(alloc, out, names, call.0, "\"}}")
-}
-
-/// Writes a number at the end of an entry.
-#[tactic(auto, unfolding(crate::specs::Json::id_end))]
-fn write_id_end<A: Allocator + Copy>(
-    alloc: A,
-    out: &mut Vec<u8, A>,
-    number: u32,
-) -> Result<(), AllocError>
-    ensures { OnOk result (out.new.items ≡ out.old.items ++ id_end number) }
-{
-    let text = format!(in alloc; "{number}}}")?;
-    out.extend_from_slice(text.as_bytes())
-}
-
-/// Writes a number at the end of a name.
-#[tactic(auto, unfolding(crate::specs::Json::name_end))]
-fn write_name_end<A: Allocator + Copy>(
-    alloc: A,
-    out: &mut Vec<u8, A>,
-    number: u32,
-) -> Result<(), AllocError>
-    ensures { OnOk result (out.new.items ≡ out.old.items ++ name_end number) }
-{
-    let text = format!(in alloc; "{number}\"}}")?;
-    out.extend_from_slice(text.as_bytes())
-}
-
-/// Writes a number at the end of what else is told.
-#[tactic(auto, unfolding(crate::specs::Json::line_end))]
-fn write_line_end<A: Allocator + Copy>(
-    alloc: A,
-    out: &mut Vec<u8, A>,
-    number: u32,
-) -> Result<(), AllocError>
-    ensures { OnOk result (out.new.items ≡ out.old.items ++ line_end number) }
-{
-    let text = format!(in alloc; "{number}}}}}")?;
-    out.extend_from_slice(text.as_bytes())
 }
 
 /// Writes a call that is queued, with the flow that begins there.
@@ -256,7 +108,7 @@ fn write_queue<A: Allocator + Copy>(
     write_entry(alloc, out, Kind::Queue, told)?;
     write_called(alloc, out, names, told.line, call)?;
     write_entry(alloc, out, Kind::Flow, told)?;
-    write_id_end(alloc, out, told.line)
+    write_between(alloc, out, "", told.line, "}")
 }
 
 /// Writes a call whose function is entered.
@@ -286,62 +138,38 @@ fn write_flow_end<A: Allocator + Copy>(
     match found {
         Some(found) => {
             write_entry(alloc, out, Kind::FlowEnd, told)?;
-            write_id_end(alloc, out, found.call.line)
+            write_between(alloc, out, "", found.call.line, "}")
         }
         None => Ok(()),
     }
 }
 
-/// Writes the source of a stop as the stop's name.
-#[tactic(auto, unfolding(crate::specs::Json::source_name))]
-fn write_source_name<A: Allocator + Copy>(
-    alloc: A,
-    out: &mut Vec<u8, A>,
-    source: u32,
-) -> Result<(), AllocError>
-    ensures { OnOk result (out.new.items ≡ out.old.items ++ source_name source) }
-{
-    let text = format!(in alloc; "{source}\",\"id\":")?;
-    out.extend_from_slice(text.as_bytes())
-}
-
-/// Writes the line of a stop that is opened.
-#[tactic(auto, unfolding(crate::specs::Json::task_line))]
-fn write_task_line<A: Allocator + Copy>(
-    alloc: A,
-    out: &mut Vec<u8, A>,
-    line: u32,
-) -> Result<(), AllocError>
-    ensures { OnOk result (out.new.items ≡ out.old.items ++ task_line line) }
-{
-    let text = format!(in alloc; ",\"args\":{{\"line\":{line},\"fn\":\"")?;
-    out.extend_from_slice(text.as_bytes())
-}
-
-/// Writes the function of a stop that is opened.
-#[tactic(auto, unfolding(crate::specs::Json::task_func))]
-fn write_task_func<A: Allocator + Copy>(
-    alloc: A,
-    out: &mut Vec<u8, A>,
-    func: u64,
-) -> Result<(), AllocError>
-    ensures { OnOk result (out.new.items ≡ out.old.items ++ task_func func) }
-{
-    let text = format!(in alloc; "{func:x}\",\"cpus\":\"")?;
-    out.extend_from_slice(text.as_bytes())
-}
-
-/// Writes a set of CPUs.
-fn write_cpus<A: Allocator + Copy>(
+/// Writes the CPUs of a stop at the end of an entry.
+#[tactic(auto, unfolding(crate::specs::Json::cpus_end))]
+fn write_cpus_end<A: Allocator + Copy>(
     alloc: A,
     out: &mut Vec<u8, A>,
     cpus: CpuMask,
 ) -> Result<(), AllocError>
-    ensures { OnOk result (out.new.items ≡ out.old.items ++ mask_text cpus) }
+    ensures { OnOk result (out.new.items ≡ out.old.items ++ cpus_end cpus) }
 {
     let mut text = String::new(alloc);
     write_mask(&mut text, cpus)?;
-    out.extend_from_slice(text.as_bytes())
+    out.extend_from_slice(text.as_bytes())?;
+    out.extend_from_slice(b"\"}}")
+}
+
+/// Writes the number of a stop, and the line that tells it.
+#[tactic(auto, unfolding(crate::specs::Json::opening_text))]
+fn write_opening<A: Allocator + Copy>(
+    alloc: A,
+    out: &mut Vec<u8, A>,
+    told: &Told,
+) -> Result<(), AllocError>
+    ensures { OnOk result (out.new.items ≡ out.old.items ++ opening_text told.now) }
+{
+    write_between(alloc, out, "", told.cpu, ",\"args\":")?;
+    write_between(alloc, out, "{\"line\":", told.line, ",\"fn\":\"")
 }
 
 /// Writes what a stop is to do.
@@ -349,15 +177,14 @@ fn write_cpus<A: Allocator + Copy>(
 fn write_task<A: Allocator + Copy>(
     alloc: A,
     out: &mut Vec<u8, A>,
-    line: u32,
+    told: &Told,
     task: &Task,
 ) -> Result<(), AllocError>
-    ensures { OnOk result (out.new.items ≡ out.old.items ++ task_text line task.now) }
+    ensures { OnOk result (out.new.items ≡ out.old.items ++ task_text told.now task.now) }
 {
-    write_task_line(alloc, out, line)?;
-    write_task_func(alloc, out, task.func)?;
-    write_cpus(alloc, out, task.mask)?;
-    out.extend_from_slice(b"\"}}")
+    write_opening(alloc, out, told)?;
+    write_hex(alloc, out, task.func, "\",\"cpus\":\"")?;
+    write_cpus_end(alloc, out, task.mask)
 }
 
 /// Writes a stop that is opened.
@@ -371,9 +198,8 @@ fn write_open<A: Allocator + Copy>(
     ensures { OnOk result (out.new.items ≡ out.old.items ++ open_text told.now task.now) }
 {
     write_entry(alloc, out, Kind::Open, told)?;
-    write_source_name(alloc, out, told.cpu)?;
-    write_decimal(alloc, out, told.cpu)?;
-    write_task(alloc, out, told.line, task)
+    write_between(alloc, out, "", told.cpu, "\",\"id\":")?;
+    write_task(alloc, out, told, task)
 }
 
 /// Writes a stop whose result is collected.
@@ -386,21 +212,8 @@ fn write_collect<A: Allocator + Copy>(
     ensures { OnOk result (out.new.items ≡ out.old.items ++ collect_text told.now) }
 {
     write_entry(alloc, out, Kind::Collect, told)?;
-    write_source_name(alloc, out, told.cpu)?;
-    write_id_end(alloc, out, told.cpu)
-}
-
-/// Writes the source of a stop as the name of a CPU's time in it.
-#[tactic(auto, unfolding(crate::specs::Json::stay_name))]
-fn write_stay_name<A: Allocator + Copy>(
-    alloc: A,
-    out: &mut Vec<u8, A>,
-    source: u32,
-) -> Result<(), AllocError>
-    ensures { OnOk result (out.new.items ≡ out.old.items ++ stay_name source) }
-{
-    let text = format!(in alloc; "{source}\",\"args\":{{\"line\":")?;
-    out.extend_from_slice(text.as_bytes())
+    write_between(alloc, out, "", told.cpu, "\",\"id\":")?;
+    write_between(alloc, out, "", told.cpu, "}")
 }
 
 /// Writes a stop that is entered.
@@ -414,8 +227,8 @@ fn write_enter<A: Allocator + Copy>(
     ensures { OnOk result (out.new.items ≡ out.old.items ++ enter_text told.now source) }
 {
     write_entry(alloc, out, Kind::Enter, told)?;
-    write_stay_name(alloc, out, source)?;
-    write_line_end(alloc, out, told.line)
+    write_between(alloc, out, "", source, "\",\"args\":{\"line\":")?;
+    write_between(alloc, out, "", told.line, "}}")
 }
 
 /// Writes a phase that is acknowledged.
@@ -425,23 +238,10 @@ fn write_ack<A: Allocator + Copy>(
     told: &Told,
     phase: u32,
 ) -> Result<(), AllocError>
-    ensures { OnOk result (out.new.items ≡ out.old.items ++ (entry_text kinds.Ack told.now ++ name_end phase)) }
+    ensures { OnOk result (out.new.items ≡ out.old.items ++ ack_text told.now phase) }
 {
     write_entry(alloc, out, Kind::Ack, told)?;
-    write_name_end(alloc, out, phase)
-}
-
-/// Writes the function of a stop at the end of an entry.
-#[tactic(auto, unfolding(crate::specs::Json::func_end))]
-fn write_func_end<A: Allocator + Copy>(
-    alloc: A,
-    out: &mut Vec<u8, A>,
-    func: u64,
-) -> Result<(), AllocError>
-    ensures { OnOk result (out.new.items ≡ out.old.items ++ func_end func) }
-{
-    let text = format!(in alloc; "{func:x}\"}}")?;
-    out.extend_from_slice(text.as_bytes())
+    write_between(alloc, out, "", phase, "\"}")
 }
 
 /// Writes that the function of a stop is entered.
@@ -451,10 +251,10 @@ fn write_run<A: Allocator + Copy>(
     told: &Told,
     func: u64,
 ) -> Result<(), AllocError>
-    ensures { OnOk result (out.new.items ≡ out.old.items ++ (entry_text kinds.Run told.now ++ func_end func)) }
+    ensures { OnOk result (out.new.items ≡ out.old.items ++ run_text told.now func) }
 {
     write_entry(alloc, out, Kind::Run, told)?;
-    write_func_end(alloc, out, func)
+    write_hex(alloc, out, func, "\"}")
 }
 
 /// Writes an event of calls.
@@ -531,21 +331,6 @@ fn write_events<A: Allocator + Copy>(
     Ok(())
 }
 
-/// Writes the name of a CPU's track.
-#[tactic(auto, unfolding(crate::specs::Json::track_name))]
-fn write_track_name<A: Allocator + Copy>(
-    alloc: A,
-    out: &mut Vec<u8, A>,
-    cpu: u32,
-) -> Result<(), AllocError>
-    ensures { OnOk result (out.new.items ≡ out.old.items ++ track_name cpu) }
-{
-    let text = format!(in alloc;
-        ",\"ph\":\"M\",\"name\":\"thread_name\",\"args\":{{\"name\":\"CPU {cpu}\"}}}}"
-    )?;
-    out.extend_from_slice(text.as_bytes())
-}
-
 /// Writes a CPU's track with its name.
 #[tactic(auto, unfolding(crate::specs::Json::track_text))]
 fn write_track<A: Allocator + Copy>(
@@ -555,8 +340,9 @@ fn write_track<A: Allocator + Copy>(
 ) -> Result<(), AllocError>
     ensures { OnOk result (out.new.items ≡ out.old.items ++ track_text cpu) }
 {
-    write_track_front(alloc, out, cpu)?;
-    write_track_name(alloc, out, cpu)
+    let back = ",\"ph\":\"M\",\"name\":\"thread_name\",\"args\":{\"name\":\"CPU ";
+    write_between(alloc, out, ",\n{\"pid\":0,\"tid\":", cpu, back)?;
+    write_between(alloc, out, "", cpu, "\"}}")
 }
 
 /// Writes the names of the tracks of this number of CPUs.

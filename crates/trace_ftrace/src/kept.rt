@@ -6,13 +6,15 @@ ghost use Rattle.trace_ftrace.specs.Kept.{behind, classed, is_queue_of, is_told,
 use crate::sign::{Sign, Sort};
 use std::alloc::{AllocError, Allocator};
 
-/// Where a line stands: its number, its CPU, its time, and the task that its CPU runs, or 0.
+/// Where a line is: its number, its CPU, its time, the task that its CPU runs, or 0, and how deep the CPU is in interrupts, where
+/// flags show it.
 #[derive(Clone, Copy, Debug, PartialEq, Eq)]
 pub struct Stamp {
     pub line: u32,
     pub cpu: u32,
     pub time: u128,
     pub task: u64,
+    pub context: Option<u32>,
 }
 
 /// What a line shows, with the number of the function that it names, or 0.

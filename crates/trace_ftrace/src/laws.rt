@@ -1,14 +1,14 @@
 //! What is printed of a text, for a reader of it.
 
-ghost use Rattle.std.specs.Prelude.{◌≡◌, [], ◌∷◌, Ok, codes};
+ghost use Rattle.std.specs.Prelude.{◌≡◌, [], ◌∷◌, Some, None, Ok, codes};
 ghost use Rattle.smp_words.specs.declared.call.Class.TheVariants as class;
 ghost use Rattle.trace_model.specs.declared.event.CallEvent.TheVariants as calls;
 ghost use Rattle.trace_model.specs.declared.event.Event.TheVariants as event;
 ghost use Rattle.trace_ftrace.specs.Json.{json_of};
-ghost use Rattle.trace_ftrace.specs.Laws.{events_read, waits_in};
+ghost use Rattle.trace_ftrace.specs.Laws.{events_in, events_read, swapped, swapped_events, waits_in};
 ghost use Rattle.trace_ftrace.specs.Print.{trace_of};
 ghost use Rattle.trace_ftrace.specs.Reading.{reading_of};
-ghost use Rattle.trace_ftrace.specs.declared.laws.TheConstants.{JSON, TEXT, TRACE};
+ghost use Rattle.trace_ftrace.specs.declared.laws.TheConstants.{FIXED, JSON, MOVED, NESTED, TEXT, TRACE};
 
 /// A text: CPU 0 queues a call for CPU 1, which makes it after 6 nanoseconds, and one for CPU 2, which is not begun.
 pub const TEXT: &str = "x-1 [0] 1: csd_queue_cpu: cpu=1 func=f csd=a0
@@ -68,4 +68,32 @@ pub fn traces_read_back()
 /// In the trace-event format a call is a slice from its begin to its end, and a flow leads to it from where it is queued.
 pub fn calls_are_slices()
     ensures { json_of (reading_of 0 TEXT.now) ≡ Ok JSON.now }
+{}
+
+/// A text: CPU 1 queues a call for CPU 0, and behind that CPU 2 one, which CPU 0 makes first.
+pub const MOVED: &str = "x-1 [1] ...1. 10: csd_queue_cpu: cpu=0 func=f csd=a0
+x-2 [2] ...1. 20: csd_queue_cpu: cpu=0 func=g csd=b0
+x-3 [0] d.h1. 30: csd_function_entry: func=g csd=b0
+";
+
+/// The same, and between the two CPU 1 makes a direct call.
+pub const FIXED: &str = "x-1 [1] ...1. 10: csd_queue_cpu: cpu=0 func=f csd=a0
+x-1 [1] ...1. 12: csd_function_entry: func=h csd=0
+x-2 [2] ...1. 20: csd_queue_cpu: cpu=0 func=g csd=b0
+x-3 [0] d.h1. 30: csd_function_entry: func=g csd=b0
+";
+
+/// The same, and CPU 1 makes it in an interrupt.
+pub const NESTED: &str = "x-1 [1] ...1. 10: csd_queue_cpu: cpu=0 func=f csd=a0
+x-1 [1] d.h1. 12: csd_function_entry: func=h csd=0
+x-2 [2] ...1. 20: csd_queue_cpu: cpu=0 func=g csd=b0
+x-3 [0] d.h1. 30: csd_function_entry: func=g csd=b0
+";
+
+/// An append can be behind a later line of another CPU, where its own CPU is not seen between the two in the same context. Its
+/// record is then seen free at its own line, and a take comes where it is chosen.
+pub fn appends_move_within_bounds()
+    ensures moved { events_in (swapped 2) MOVED.now ≡ Ok (Some swapped_events) }
+    ensures fixed { events_in (swapped 3) FIXED.now ≡ Ok None }
+    ensures nested { events_in (swapped 3) NESTED.now ≡ Ok (Some swapped_events) }
 {}

@@ -5,12 +5,17 @@
 //! - `print`: The trace that a text tells; `json`: its events in the trace-event format.
 //! - `laws`: What is printed of a text, for a reader of it.
 //! - `told`: The events that marks tell; `stop_told`: those of stops; `stops`: the stops that are open; `per_cpu`: what each CPU has.
+//! - `ordered`: The verdict with the order of appends; `bounds`, `moment`: where an append can be; `placing`: events in such an order.
+//! - `choosing`: The order that is chosen; `matching`: the appends and the calls that begin; `batches`: which calls a take has taken.
 //! - `marks`: The marks of calls that the lines of a text have; `sign`, `stop_sign`: what one line shows; `kept`: what is kept of the lines.
 //! - `heading`, `field`: The CPU, the time, the event and the fields of a line.
 //! - `words`, `number`: The words of a line, and numbers.
 //! - `wrong`: Why a text is not judged.
 #![tactic(auto)]
 
+mod batches;
+pub mod bounds;
+mod choosing;
 pub mod counts;
 mod field;
 mod heading;
@@ -18,9 +23,13 @@ pub mod json;
 pub mod kept;
 pub mod laws;
 mod marks;
-mod names;
+mod matching;
+pub mod moment;
+pub mod names;
 mod number;
+pub mod ordered;
 mod per_cpu;
+pub mod placing;
 pub mod print;
 pub mod sign;
 pub mod stop_sign;

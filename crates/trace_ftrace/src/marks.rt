@@ -76,7 +76,13 @@ fn keep_mark<'a, A: Allocator>(
 {
     match sign {
         Sign::Queue(..) | Sign::Begin(_) => push_named(kept, at, sign, fields),
-        Sign::Direct | Sign::End(_) | Sign::EndLast | Sign::Stop(_) => {
+        Sign::Direct
+        | Sign::End(_)
+        | Sign::EndLast
+        | Sign::Stop(_)
+        | Sign::Interrupt
+        | Sign::Probe
+        | Sign::Passed => {
             let func = 0;
             push_mark(kept, Mark { at, func, sign })
         }
@@ -153,6 +159,7 @@ fn event_line<'a, A: Allocator>(
         cpu,
         time: heading.time,
         task: heading.task,
+        context: heading.context,
     };
     line_of_cpu(kept, skip, at, heading)
 }

@@ -11,9 +11,9 @@ use trace_model::{CallEvent, Event, Reason};
 
 /// The addresses of the records and the names of the functions, by their numbers.
 #[derive(Clone, Copy)]
-pub(crate) struct Names<'a> {
-    pub(crate) addresses: &'a [u64],
-    pub(crate) functions: &'a [&'a [u8]],
+pub struct Names<'a> {
+    pub addresses: &'a [u64],
+    pub functions: &'a [&'a [u8]],
 }
 
 /// Where an event is none, and why.
@@ -39,7 +39,7 @@ enum Named {
 }
 
 /// The address of a record; 0 where it has none.
-fn address_of(addresses: &[u64], id: u16) -> u64
+pub fn address_of(addresses: &[u64], id: u16) -> u64
     ensures { result ≡ slice_index_or addresses.now id 0 }
 {
     if (id as usize) < addresses.len() {
@@ -50,7 +50,7 @@ fn address_of(addresses: &[u64], id: u16) -> u64
 }
 
 /// The name of a function; empty where it has none.
-pub(crate) fn name_of<'a>(functions: &[&'a [u8]], func: u64) -> &'a [u8]
+pub fn name_of<'a>(functions: &[&'a [u8]], func: u64) -> &'a [u8]
     ensures { result.now ≡ slice_index_or (map (λ f. f.now) functions.now) func [] }
 {
     if func < functions.len() as u64 {
@@ -85,6 +85,8 @@ fn call_word(event: Event) -> Option<&'static str>
     match event {
         Event::Call(CallEvent::Queue(..)) => Some("queue"),
         Event::Call(CallEvent::Begin(..)) => Some("begin"),
+        Event::Call(CallEvent::Free(_)) => Some("free"),
+        Event::Call(CallEvent::Take) => Some("take"),
         Event::Call(CallEvent::End(_)) => Some("end"),
         _ => None,
     }

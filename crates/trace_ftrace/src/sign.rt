@@ -2,7 +2,7 @@
 
 ghost use Rattle.std.specs.Prelude.{◌≡◌, map, codes};
 ghost use Rattle.trace_ftrace.specs.Signs.{begin_sign, class_of, class_sign, end_sign, is_entry, is_exit, is_queue, is_symbol, is_wakes};
-ghost use Rattle.trace_ftrace.specs.Signs.{queue_sign, shown_sort, sign_of, sort_of};
+ghost use Rattle.trace_ftrace.specs.Signs.{is_interrupt, is_passed, is_probe, passed_sign, queue_sign, shown_sort, sign_of, sort_of};
 
 use crate::field::{address, field, needed_address, needed_cpu, symbol};
 use crate::stop_sign::{StopSign, read_stop_sign};
@@ -40,6 +40,12 @@ pub enum Sign {
     EndLast,
     /// It is of a stop.
     Stop(StopSign),
+    /// The interrupt of calls is entered.
+    Interrupt,
+    /// It is of a probe behind an append, as Linux 6.1 needs it.
+    Probe,
+    /// It is of another event of calls or stops, which tells nothing.
+    Passed,
 }
 
 /// The sort of a record with these flags.
@@ -123,14 +129,14 @@ fn class_sign(fields: &[&[u8]]) -> Result<Sign, Wrong>
     Ok(Sign::Class(address, sort_of(flags)))
 }
 
-/// What a line shows by which a function is entered; nothing of wakes.
+/// What a line shows by which a function is entered.
 #[tactic(auto, unfolding(crate::specs::Signs::begin_sign))]
 fn begin_sign(fields: &[&[u8]]) -> Result<Option<Sign>, Wrong>
     ensures { result ≡ begin_sign (map (λ f. f.now) fields.now) }
 {
     let address = needed_address(b"csd", fields)?;
     if is_wakes(fields) {
-        return Ok(None);
+        return Ok(Some(Sign::Passed));
     }
     if address == 0 {
         return Ok(Some(Sign::Direct));
@@ -138,14 +144,14 @@ fn begin_sign(fields: &[&[u8]]) -> Result<Option<Sign>, Wrong>
     Ok(Some(Sign::Begin(address)))
 }
 
-/// What a line shows by which a function has returned; nothing of a direct call and of wakes.
+/// What a line shows by which a function has returned.
 #[tactic(auto, unfolding(crate::specs::Signs::end_sign))]
 fn end_sign(fields: &[&[u8]]) -> Result<Option<Sign>, Wrong>
     ensures { result ≡ end_sign (map (λ f. f.now) fields.now) }
 {
     let address = needed_address(b"csd", fields)?;
     if address == 0 || is_wakes(fields) {
-        return Ok(None);
+        return Ok(Some(Sign::Passed));
     }
     Ok(Some(Sign::End(address)))
 }
@@ -175,6 +181,64 @@ fn is_exit(event: &[u8]) -> bool
     is_word(event, b"csd_function_exit") || is_word(event, b"sync_exit2")
 }
 
+/// Whether an event is that a CPU enters the interrupt by which calls are sent.
+fn is_interrupt(event: &[u8]) -> bool
+    ensures { result ≡ is_interrupt event.now }
+{
+    is_word(event, b"call_function_entry") || is_word(event, b"call_function_single_entry")
+}
+
+/// Whether an event is a probe behind an append, as Linux 6.1 needs it.
+fn is_probe(event: &[u8]) -> bool
+    ensures { result ≡ is_probe event.now }
+{
+    is_word(event, b"csd_queued") || is_word(event, b"one_queued") || is_word(event, b"many_queued")
+}
+
+/// Whether an event is of calls or stops, by its first letters.
+fn is_passed(event: &[u8]) -> bool
+    ensures { result ≡ is_passed event.now }
+{
+    match event {
+        [b'c', b's', b'd', b'_', ..] => true,
+        [b's', b't', b'o', b'p', b'_', ..] => true,
+        [b'i', b'p', b'i', b'_', b's', b'e', b'n', b'd', ..] => true,
+        [
+            b'c',
+            b'a',
+            b'l',
+            b'l',
+            b'_',
+            b'f',
+            b'u',
+            b'n',
+            b'c',
+            b't',
+            b'i',
+            b'o',
+            b'n',
+            ..
+        ] => true,
+        _ => false,
+    }
+}
+
+/// What a line shows that tells no event; none where it is not of calls or stops.
+fn passed_sign(event: &[u8]) -> Option<Sign>
+    ensures { result ≡ passed_sign event.now }
+{
+    if is_interrupt(event) {
+        return Some(Sign::Interrupt);
+    }
+    if is_probe(event) {
+        return Some(Sign::Probe);
+    }
+    if is_passed(event) {
+        return Some(Sign::Passed);
+    }
+    None
+}
+
 /// What a line with this event and these fields shows.
 #[tactic(auto, unfolding(crate::specs::Signs::sign_of))]
 pub(crate) fn read_sign(event: &[u8], fields: &[&[u8]]) -> Result<Option<Sign>, Wrong>
@@ -199,6 +263,6 @@ pub(crate) fn read_sign(event: &[u8], fields: &[&[u8]]) -> Result<Option<Sign>, 
     }
     match read_stop_sign(event, fields)? {
         Some(sign) => Ok(Some(Sign::Stop(sign))),
-        None => Ok(None),
+        None => Ok(passed_sign(event)),
     }
 }

@@ -4,15 +4,17 @@ ghost use Rattle.std.specs.Prelude.{◌≡◌, ◌++◌, IfOk, OnOk, string_byte
 ghost use Rattle.smp_script.specs.Lines.{lines_of};
 ghost use Rattle.trace_ftrace.specs.Reading.{reading_of};
 ghost use Rattle.trace_ftrace.specs.SourceView.{source_value};
-ghost use Rattle.trace_ftrace.specs.Text.{broken_lines, broken_record, count_text, counts_text, direct_text, earlier_text, event_record};
+ghost use Rattle.trace_ftrace.specs.Text.{broken_lines, broken_record, class_text, count_text, counts_text, order_text, direct_text, earlier_text, event_record};
 ghost use Rattle.trace_ftrace.specs.Text.{first_counts, front_text, judged_text, last_counts, last_queue, lawful_lines, line_behind};
 ghost use Rattle.trace_ftrace.specs.Text.{line_from, named_record, queued_text, ruling_of, shown_text, source_text, verdict_text, wakes_text, works_text};
-ghost use Rattle.trace_ftrace.specs.Text.{Prints, PrintsRuling};
+ghost use Rattle.trace_ftrace.specs.Text.{Prints, PrintsInOrder, PrintsRuling, PrintsRun};
 ghost use Rattle.trace_ftrace.specs.Verdict.{ruling_of as ruling_of_told};
 
+use crate::bounds::shows_order;
 use crate::counts::{Counts, count_lines};
 use crate::kept::Mark;
 use crate::names::{BrokenEvent, Names, broken_line};
+use crate::ordered::judge_in_order;
 use crate::told::Told;
 use crate::verdict::{judge_told, read_told};
 use crate::waits::{is_queue, write_waits};
@@ -23,6 +25,16 @@ use trace_judge::text::write_lawful;
 use trace_judge::{Ruling, Verdict};
 use trace_model::{CallEvent, Event, Reason, State};
 
+/// Whether order is judged.
+#[derive(Clone, Copy, Debug, PartialEq, Eq)]
+pub enum OrderJudged {
+    /// It is not asked for.
+    Unasked,
+    /// Some line shows no class or no context of a call that it queues, or is of a probe behind an append.
+    Hidden,
+    Judged,
+}
+
 /// A text, with the kernel's names in it, what its lines show, the events that these tell, and the most nanoseconds that a call
 /// waits untold.
 #[derive(Clone, Copy)]
@@ -31,6 +43,7 @@ pub(crate) struct Source<'a> {
     pub(crate) names: Names<'a>,
     pub(crate) marks: &'a [Mark],
     pub(crate) told: &'a [Told],
+    pub(crate) order: OrderJudged,
     pub(crate) slow: u64,
 }
 
@@ -75,6 +88,7 @@ fn event_record(event: Event) -> Option<u16>
         Event::Call(CallEvent::Queue(id, _, _, _, _)) => Some(id),
         Event::Call(CallEvent::Begin(id, _, _)) => Some(id),
         Event::Call(CallEvent::End(id)) => Some(id),
+        Event::Call(CallEvent::Free(id)) => Some(id),
         _ => None,
     }
 }
@@ -161,18 +175,38 @@ fn write_source<A: Allocator + Copy>(
     write_queued(alloc, out, source.text, queued)
 }
 
-/// Writes whether class and order are judged.
-#[tactic(auto, unfolding(crate::specs::Text::judged_text))]
-fn write_judged<A: Allocator>(out: &mut String<A>, unshown: usize) -> Result<(), AllocError>
-    ensures { OnOk result (string_bytes out.new ≡ string_bytes out.old ++ judged_text unshown) }
+/// Writes whether class is judged.
+#[tactic(auto, unfolding(crate::specs::Text::class_text))]
+fn write_class<A: Allocator>(out: &mut String<A>, unshown: usize) -> Result<(), AllocError>
+    ensures { OnOk result (string_bytes out.new ≡ string_bytes out.old ++ class_text unshown) }
 {
     if unshown == 0 {
-        return write!(out, "class: judged\norder: not judged\n");
+        return write!(out, "class: judged\norder: ");
     }
-    write!(
-        out,
-        "class: not judged of {unshown} calls\norder: not judged\n"
-    )
+    write!(out, "class: not judged of {unshown} calls\norder: ")
+}
+
+/// What is said of order.
+fn order_text(order: OrderJudged) -> &'static str
+    ensures { result.now ≡ order_text order }
+{
+    match order {
+        OrderJudged::Unasked => "not judged\n",
+        OrderJudged::Hidden => "not judged: the lines do not show it\n",
+        OrderJudged::Judged => "judged\n",
+    }
+}
+
+/// Writes whether class and order are judged.
+fn write_judged<A: Allocator>(
+    out: &mut String<A>,
+    order: OrderJudged,
+    unshown: usize,
+) -> Result<(), AllocError>
+    ensures { OnOk result (string_bytes out.new ≡ string_bytes out.old ++ judged_text order unshown) }
+{
+    write_class(out, unshown)?;
+    out.push_str(order_text(order))
 }
 
 /// Writes a count between two texts.
@@ -239,27 +273,32 @@ fn write_last_counts<A: Allocator>(out: &mut String<A>, counts: Counts) -> Resul
 }
 
 /// Writes what is not judged.
-fn write_counts<A: Allocator>(out: &mut String<A>, counts: Counts) -> Result<(), AllocError>
-    ensures { OnOk result (string_bytes out.new ≡ string_bytes out.old ++ counts_text counts) }
+fn write_counts<A: Allocator>(
+    out: &mut String<A>,
+    order: OrderJudged,
+    counts: Counts,
+) -> Result<(), AllocError>
+    ensures { OnOk result (string_bytes out.new ≡ string_bytes out.old ++ counts_text order counts) }
 {
     write_first_counts(out, counts)?;
     write_last_counts(out, counts)?;
-    write_judged(out, counts.unshown)
+    write_judged(out, order, counts.unshown)
 }
 
 /// What is printed of a lawful text.
 #[tactic(auto, unfolding(crate::specs::Text::lawful_lines))]
 fn lawful_lines<A: Allocator + Copy>(
     alloc: A,
+    order: OrderJudged,
     events: u32,
     state: &State<A>,
     counts: Counts,
 ) -> Result<Vec<u8, A>, AllocError>
-    ensures { IfOk result (λ v. v.items ≡ lawful_lines events state.now counts) }
+    ensures { IfOk result (λ v. v.items ≡ lawful_lines order events state.now counts) }
 {
     let mut out = String::new(alloc);
     write_lawful(&mut out, events, state)?;
-    write_counts(&mut out, counts)?;
+    write_counts(&mut out, order, counts)?;
     Ok(out.into_bytes())
 }
 
@@ -277,7 +316,7 @@ fn broken_lines<A: Allocator + Copy>(
     let record = broken_record(broken.event, broken.why);
     write_source(alloc, &mut out, source, broken.line, record)?;
     let mut judged = String::new(alloc);
-    write_judged(&mut judged, unshown)?;
+    write_judged(&mut judged, source.order, unshown)?;
     out.extend_from_slice(judged.as_bytes())?;
     Ok(out)
 }
@@ -293,7 +332,7 @@ fn verdict_lines<A: Allocator + Copy>(
 {
     let counts = count_lines(source.marks, source.told);
     match verdict {
-        Verdict::Lawful(events, state) => lawful_lines(alloc, *events, state, counts),
+        Verdict::Lawful(events, state) => lawful_lines(alloc, source.order, *events, state, counts),
         Verdict::Broken(line, cpu, event, why) => {
             let broken = BrokenEvent {
                 line: *line,
@@ -347,6 +386,23 @@ fn ruled<A: Allocator + Copy>(
     }
 }
 
+/// The verdict on the events that a text tells, in an order that its lines allow.
+fn ruled_in_order<A: Allocator + Copy>(
+    alloc: A,
+    source: &Source<'_>,
+) -> Result<(Vec<u8, A>, Ruling), Refusal>
+    ensures { PrintsRun result (source_value source.now) }
+{
+    let verdict = match judge_in_order(alloc, source.marks, source.told) {
+        Ok(verdict) => verdict,
+        Err(why) => return Err(why),
+    };
+    match shown(alloc, source, &verdict) {
+        Ok(bytes) => Ok((bytes, ruling_of(&verdict))),
+        Err(_) => Err(Refusal::NoMemory),
+    }
+}
+
 /// Judges a text that a kernel's tracer wrote, without its first `skip` nanoseconds: what is printed of the verdict, with each call
 /// that is not begun or waited for more than `slow` nanoseconds, and whether the text is lawful.
 ///
@@ -372,9 +428,51 @@ pub fn judge_waits<A: Allocator + Copy>(
         names,
         marks: reading.kept.marks.as_slice(),
         told: reading.telling.told.as_slice(),
+        order: OrderJudged::Unasked,
         slow,
     };
     ruled(alloc, &source)
+}
+
+/// Judges such a text as `judge_waits` does, and the order of its appends, where its lines show class and context of each call that
+/// is queued. An append is where its line is, or behind that and before the next line of its CPU in no deeper context. The verdict
+/// is that on one such order, with the takes of the CPUs in it. Where that is not lawful, none is known that is.
+///
+/// Refusals: those of `judge_waits`; `Unplaced`, which was never seen.
+pub fn judge_ordered<A: Allocator + Copy>(
+    alloc: A,
+    skip: u64,
+    slow: u64,
+    text: &[u8],
+) -> Result<(Vec<u8, A>, Ruling), Refusal>
+    ensures { PrintsInOrder result text.now slow (reading_of skip text.now) }
+{
+    let reading = match read_told(alloc, skip, text) {
+        Ok(reading) => reading,
+        Err(why) => return Err(why),
+    };
+    let names = Names {
+        addresses: reading.telling.addresses.as_slice(),
+        functions: reading.kept.names.as_slice(),
+    };
+    let is_shown = shows_order(reading.kept.marks.as_slice());
+    let source = Source {
+        text,
+        names,
+        marks: reading.kept.marks.as_slice(),
+        told: reading.telling.told.as_slice(),
+        order: if is_shown {
+            OrderJudged::Judged
+        } else {
+            OrderJudged::Hidden
+        },
+        slow,
+    };
+    if is_shown {
+        ruled_in_order(alloc, &source)
+    } else {
+        ruled(alloc, &source)
+    }
 }
 
 /// Judges such a text as `judge_waits` does. It tells each call that waited for more than 100 milliseconds.

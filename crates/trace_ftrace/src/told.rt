@@ -202,7 +202,7 @@ fn tell_mark<A: Allocator>(
             Some(class) => tell_queue(telling, mark, to, address, class),
             None => Ok(()),
         },
-        Sign::Class(..) | Sign::Direct => Ok(()),
+        Sign::Class(..) | Sign::Direct | Sign::Interrupt | Sign::Probe | Sign::Passed => Ok(()),
         Sign::Begin(address) => tell_begin(telling, mark, address),
         Sign::End(address) => {
             let ran = known(telling, address);

@@ -33,7 +33,7 @@ pub const MOST_KERNEL_EVENTS: u32 = 1_000_000;
 
 /// All CPUs.
 #[tactic(auto, unfolding(crate::specs::Verdict::every_cpu), using(smp_mask::proofs::Sets::none_empty))]
-fn every_cpu() -> CpuMask
+pub(crate) fn every_cpu() -> CpuMask
     ensures { result ≡ every_cpu }
 {
     match CpuMask::parse(b"0-31") {
@@ -58,7 +58,7 @@ fn without() -> Without
 
 /// The words of no labels.
 #[tactic(auto, unfolding(trace_judge::specs::Head::words_of))]
-fn no_words() -> LabelWords
+pub(crate) fn no_words() -> LabelWords
     ensures { result ≡ words_of no_labels }
 {
     LabelMap::empty().words()

@@ -30,5 +30,7 @@ pub enum Refusal {
     TooLong,
     /// The trace that it tells has more lines or bytes than one may have.
     LongTrace,
+    /// The order that was chosen of its appends is none that its lines allow.
+    Unplaced,
     NoMemory,
 }

@@ -2,7 +2,8 @@ use Rattle.std.proofs.Common.{refl}
 use Rattle.std.specs.Fmt.{digits}
 use Rattle.trace_ftrace.specs.Fields.{value_of, address_of, symbol_of, needed_address, needed_cpu, needed_symbol}
 use Rattle.trace_ftrace.specs.Headings.{cpu_of, time_of, event_of, task_of, stamped, heading_at}
-use Rattle.trace_ftrace.specs.Json.{begin_text, called_text, entry_text, id_end, json_front, json_text, kind_text, queue_text, time_text, track_front, track_name, track_text}
+use Rattle.trace_ftrace.specs.Json.{begin_text, called_text, entry_text, json_front, json_text, kind_text, queue_text, track_text}
+use Rattle.trace_ftrace.specs.JsonPieces.{between, time_text}
 use Rattle.trace_ftrace.specs.Kept.{numbered}
 use Rattle.trace_ftrace.specs.Marks.{named, marked, shown_line, line_of_cpu, event_line, line_kept}
 use Rattle.trace_ftrace.specs.Names.{address_text}
@@ -15,5 +16,5 @@ use Rattle.trace_ftrace.specs.Words.{front_of}
 use Rattle.trace_ftrace.proofs.laws.calls_are_slices.Goals as goal
 
 pub returns : goal.returns
-unfolding begin_text called_text entry_text id_end json_front json_text kind_text queue_text time_text track_front track_name track_text digits waits_begun reading_of told_by recorded queued known begun ended mark_told named marked shown_line line_of_cpu event_line line_kept cpu_of time_of event_of task_of stamped heading_at with_digit front_of value_of address_of symbol_of needed_address needed_cpu needed_symbol is_symbol shown_sort queue_sign begin_sign end_sign sign_of numbered waits_queued with_queued left_after address_text
+unfolding begin_text called_text entry_text json_front json_text kind_text queue_text time_text between track_text digits waits_begun reading_of told_by recorded queued known begun ended mark_told named marked shown_line line_of_cpu event_line line_kept cpu_of time_of event_of task_of stamped heading_at with_digit front_of value_of address_of symbol_of needed_address needed_cpu needed_symbol is_symbol shown_sort queue_sign begin_sign end_sign sign_of numbered waits_queued with_queued left_after address_text
 returns c = refl

@@ -1,0 +1,57 @@
+-- What is printed of a verdict on an order of the events.
+use Rattle.std.proofs.Common.{◌≡◌, ℕ, List, length, map, Some, Result, Ok, Err, Vec, subst}
+use Rattle.trace_model.specs.State.{StateValue}
+use Rattle.trace_judge.specs.declared.trace.Ruling.{Ruling}
+use Rattle.trace_judge.specs.declared.verdict.Verdict.{Verdict}
+use Rattle.trace_judge.specs.declared.verdict.Verdict.TheVariants.{Lawful, Broken}
+use Rattle.trace_ftrace.specs.Bounds.{bounds_of}
+use Rattle.trace_ftrace.specs.Ordered.{start_in_order, verdict_on, IsLawful, IsOrder, RulesInOrder}
+use Rattle.trace_ftrace.specs.Placing.{placed}
+use Rattle.trace_ftrace.specs.Text.{SourceValue, ruling_of, shown_text, verdict_text, PrintsRun}
+use Rattle.trace_ftrace.specs.Verdict.{goes_all}
+use Rattle.trace_ftrace.specs.declared.kept.Mark.{Mark}
+use Rattle.trace_ftrace.specs.declared.placing.Choice.{Choice}
+use Rattle.trace_ftrace.specs.declared.placing.Step.{Step}
+use Rattle.trace_ftrace.specs.declared.told.Told.{Told}
+use Rattle.trace_ftrace.specs.declared.wrong.Refusal.{Refusal}
+use Rattle.trace_ftrace.specs.declared.wrong.Refusal.TheVariants as refusal
+
+-- steps that were placed are in order
+pub in_order : (choices : List Choice) (marks : List Mark) (told : List Told) (steps : List Step) → placed choices told (bounds_of marks) ≡ Some steps
+    → IsOrder marks told steps
+in_order choices marks told steps h = record { choices = choices; are_placed = h }
+
+-- the verdict on steps that all go
+lawful_end : (steps : List Step) (from state s : StateValue) (events n : ℕ) → from ≡ start_in_order → goes_all (map (λ s. s.told) steps) from ≡ Ok state
+    → n ≡ length steps → events ≡ n → s ≡ state → verdict_on steps ≡ Ok (events, s)
+lawful_end steps from state s events n f g l e h =
+    let here = subst (λ (x : StateValue). goes_all (map (λ (y : Step). y.told) steps) x ≡ Ok state) f g in
+    rw (here, h, e, l)
+
+-- what an end of a run is as a verdict
+pub rules_lawful : {A : Type 0} (r : Result (Verdict A) Refusal) (marks : List Mark) (told : List Told) (steps slice : List Step) (n : ℕ) (from state : StateValue)
+    → IsOrder marks told steps → from ≡ start_in_order → slice ≡ steps → goes_all (map (λ s. s.told) slice) from ≡ Ok state → n ≡ length slice
+    → IsLawful r n state
+    → RulesInOrder r marks told
+rules_lawful (Ok (Lawful events s)) marks told steps slice n from state o f v g l h =
+    record {
+      steps = steps;
+      in_order = o;
+      holds = lawful_end steps from state s events n f
+          (subst (λ (x : List Step). goes_all (map (λ (y : Step). y.told) x) from ≡ Ok state) v g) (subst (λ (x : List Step). n ≡ length x) v l) h.0 h.1;
+    }
+rules_lawful (Ok (Broken line cpu event why)) marks told steps slice n from state o f v g l h = absurd h
+rules_lawful (Err refusal.Unplaced) marks told steps slice n from state o f v g l h = tt
+rules_lawful (Err refusal.NoMemory) marks told steps slice n from state o f v g l h = absurd h
+rules_lawful (Err refusal.TooLong) marks told steps slice n from state o f v g l h = absurd h
+rules_lawful (Err refusal.LongTrace) marks told steps slice n from state o f v g l h = absurd h
+rules_lawful (Err (refusal.Wrong line why)) marks told steps slice n from state o f v g l h = absurd h
+
+-- that of a verdict that was answered
+pub prints_run : {A : Type 0} (x : SourceValue) (out : Vec ℕ A) (ruling : Ruling) (v : Verdict A) → RulesInOrder (Ok v) x.marks x.told
+    → out.items ≡ shown_text x v → ruling ≡ ruling_of v → PrintsRun (Ok (out, ruling)) x
+unfolding shown_text verdict_text
+prints_run x out ruling (Lawful events state) r o u =
+    record { steps = r.steps; in_order = r.in_order; holds = rw r.holds (o, u) }
+prints_run x out ruling (Broken line cpu event why) r o u =
+    record { steps = r.steps; in_order = r.in_order; holds = rw r.holds (o, u) }
