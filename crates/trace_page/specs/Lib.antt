@@ -4,3 +4,11 @@ pub mod Escapes
 pub mod Shown
 -- the page of a trace, and of a text of a kernel's tracer
 pub mod TracePages
+-- the events around a line, where they are in a picture, what it says of each, and what it has between them
+pub mod Windows
+pub mod Grids
+pub mod Titles
+pub mod Links
+-- the picture
+pub mod Pictures
+pub mod Laws

@@ -6,7 +6,7 @@ ghost use Rattle.trace_page.specs.Escapes.{byte_text, escaped, is_plain};
 use std::alloc::{AllocError, Allocator};
 
 /// Whether a page has a byte as it is: a line feed, or one that can be printed and is neither `<` nor a backslash.
-fn is_plain(byte: u8) -> bool
+pub(crate) fn is_plain(byte: u8) -> bool
     ensures { result ≡ is_plain byte }
 {
     byte == b'\n' || 32 <= byte && byte <= 126 && !(byte == b'<' || byte == b'\\')

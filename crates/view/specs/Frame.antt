@@ -1,6 +1,7 @@
 -- Where things are in a row of a picture, in pixels.
 use Rattle.std.specs.Prelude.{ℕ, ◌+◌, ◌*◌, ◌==◌, ◌≤◌, Bool, true, false, if◌then◌else◌, min, nat_lt, List, [], ◌∷◌, ◌-◌, length, Option, Some, None}
 use Rattle.std.specs.List.{list_any, slice_get}
+use Rattle.view.specs.declared.element.Ends.{Ends}
 use Rattle.view.specs.declared.frame.Lane.{Lane}
 use Rattle.trace_events.specs.declared.rows.Row.{Row}
 use Rattle.trace_events.specs.declared.rows.What.{What}
@@ -79,3 +80,10 @@ IsNear y dot = (y ≤ dot + 8) × (dot ≤ y + 8)
 -- room for the lowest lane
 abbrev pub bottom_of : ℕ → ℕ → ℕ
 bottom_of base low = base + low + 62
+
+-- an arrow between the dots at two points, and the height at which it crosses
+abbrev pub arrow_ends : ℕ → ℕ → ℕ → ℕ → Ends × ℕ
+arrow_ends x1 y1 x2 y2 =
+    if nat_lt y1 y2 then (record { x1 = x1; y1 = y1 + 6; x2 = x2; y2 = y2 - 8 }, y1 + 28)
+    else if nat_lt y2 y1 then (record { x1 = x1; y1 = y1 - 6; x2 = x2; y2 = y2 + 8 }, y2 + 28)
+    else (record { x1 = x1; y1 = y1 + 6; x2 = x2; y2 = y2 + 8 }, y1 + 24)

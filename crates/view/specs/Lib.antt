@@ -12,4 +12,6 @@ pub mod Kinds
 pub mod Explains
 -- a picture
 pub mod Frame
+pub mod Elements
+pub mod Legend
 pub mod OpenClose

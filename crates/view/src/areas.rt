@@ -1,7 +1,8 @@
 //! What is drawn in a picture from one column to another: the boxes of commands, and bands.
 
-ghost use Rattle.std.specs.Prelude.{◌≡◌, ◌≤◌, ◌<◌, ◌^◌, ◌+◌, ◌-◌};
+ghost use Rattle.std.specs.Prelude.{◌≡◌, ◌≤◌, ◌<◌, ◌^◌, ◌+◌, ◌-◌, ◌++◌, OnOk, string_bytes};
 ghost use Rattle.view.specs.Frame.{bottom_of, left_of, step_of, upper_of};
+ghost use Rattle.view.specs.Legend.{mark_text};
 
 use crate::element::{Area, write_area, write_text};
 use crate::frame::{Frame, LANE};
@@ -122,6 +123,25 @@ pub fn write_span<A: Allocator>(
     }
 }
 
+/// Draws a frame round a column.
+#[tactic(auto, unfolding(crate::specs::Legend::mark_text))]
+pub fn write_column_mark<A: Allocator>(
+    out: &mut String<A>,
+    frame: &Frame<'_>,
+    column: u32,
+) -> Result<(), AllocError>
+    ensures { OnOk result (string_bytes out.new ≡ string_bytes out.old
+        ++ mark_text frame.now.wide frame.now.first frame.now.last frame.now.base frame.now.low column) }
+{
+    let area = Area {
+        x: frame.left(column),
+        y: u64::from(frame.base),
+        width: frame.step(),
+        height: u64::from(frame.low) + LANE,
+    };
+    write_area(out, "mark", area, "the marked event")
+}
+
 /// Draws a frame round the column of the event that is marked.
 pub fn write_mark<A: Allocator>(
     out: &mut String<A>,
@@ -134,11 +154,5 @@ pub fn write_mark<A: Allocator>(
     if !frame.has_column(column) {
         return Ok(());
     }
-    let area = Area {
-        x: frame.left(column),
-        y: u64::from(frame.base),
-        width: frame.step(),
-        height: u64::from(frame.low) + LANE,
-    };
-    write_area(out, "mark", area, "the marked event")
+    write_column_mark(out, frame, column)
 }

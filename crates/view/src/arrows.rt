@@ -1,7 +1,7 @@
 //! Arrows of a picture, between the dots of two events.
 
 ghost use Rattle.std.specs.Prelude.{◌≡◌, ◌≤◌, ◌<◌, ◌^◌, ◌+◌};
-ghost use Rattle.view.specs.Frame.{bottom_of, column_of, dot_of, middle_of, IsNear};
+ghost use Rattle.view.specs.Frame.{arrow_ends, bottom_of, column_of, dot_of, middle_of, IsNear};
 
 use crate::element::{Ends, write_arrow, write_path, write_text};
 use crate::frame::{Frame, LEFT, column};
@@ -23,19 +23,13 @@ pub fn point(frame: &Frame<'_>, row: &Row) -> (u64, u64)
     (x, frame.upper(row.cpu) + DOT)
 }
 
-// The ends of an arrow between two dots, and the height at which it crosses.
-fn ends(frame: &Frame<'_>, from: &Row, to: &Row) -> (Ends, u64)
-    ensures from { result.0.x1 ≡ middle_of frame.now.wide frame.now.first frame.now.last (column_of from.now) }
-    ensures to { result.0.x2 ≡ middle_of frame.now.wide frame.now.first frame.now.last (column_of to.now) }
-    // Each end is at most 8 above its dot, or below it.
-    ensures begins { IsNear result.0.y1 (dot_of frame.now.base frame.now.low frame.now.lanes.now from.now) }
-    ensures ends { IsNear result.0.y2 (dot_of frame.now.base frame.now.low frame.now.lanes.now to.now) }
-    ensures across { (result.0.x1 ≤ 892) × (result.0.x2 ≤ 892) }
-    ensures inside { (result.0.y1 ≤ bottom_of frame.now.base frame.now.low) × (result.0.y2 ≤ bottom_of frame.now.base frame.now.low)
-        × (result.1 ≤ bottom_of frame.now.base frame.now.low) }
+/// The ends of an arrow between the dots at two points, and the height at which it crosses.
+pub fn ends_between(from: (u64, u64), to: (u64, u64)) -> (Ends, u64)
+    requires { (32 ≤ from.1) × (from.1 < 2 ^ 41) × (32 ≤ to.1) × (to.1 < 2 ^ 41) }
+    ensures { result ≡ arrow_ends from.0 from.1 to.0 to.1 }
 {
-    let (x1, y1) = point(frame, from);
-    let (x2, y2) = point(frame, to);
+    let (x1, y1) = from;
+    let (x2, y2) = to;
     if y1 < y2 {
         (
             Ends {
@@ -67,6 +61,22 @@ fn ends(frame: &Frame<'_>, from: &Row, to: &Row) -> (Ends, u64)
             y1 + 24,
         )
     }
+}
+
+// The ends of an arrow between two dots, and the height at which it crosses.
+fn ends(frame: &Frame<'_>, from: &Row, to: &Row) -> (Ends, u64)
+    ensures from { result.0.x1 ≡ middle_of frame.now.wide frame.now.first frame.now.last (column_of from.now) }
+    ensures to { result.0.x2 ≡ middle_of frame.now.wide frame.now.first frame.now.last (column_of to.now) }
+    // Each end is at most 8 above its dot, or below it.
+    ensures begins { IsNear result.0.y1 (dot_of frame.now.base frame.now.low frame.now.lanes.now from.now) }
+    ensures ends { IsNear result.0.y2 (dot_of frame.now.base frame.now.low frame.now.lanes.now to.now) }
+    ensures across { (result.0.x1 ≤ 892) × (result.0.x2 ≤ 892) }
+    ensures inside { (result.0.y1 ≤ bottom_of frame.now.base frame.now.low) × (result.0.y2 ≤ bottom_of frame.now.base frame.now.low)
+        × (result.1 ≤ bottom_of frame.now.base frame.now.low) }
+{
+    let (x1, y1) = point(frame, from);
+    let (x2, y2) = point(frame, to);
+    ends_between((x1, y1), (x2, y2))
 }
 
 // To which event an arrow goes on.

@@ -1,5 +1,8 @@
 //! The head of a picture: its styles, its legend, its lanes and the numbers of its events.
 
+ghost use Rattle.std.specs.Prelude.{◌≡◌, ◌++◌, OnOk, string_bytes};
+ghost use Rattle.view.specs.Legend.{box_text, ground_text, head_text, lane_text, lanes_text, lower_end, size_text, tick_text, upper_end};
+
 use crate::element::{Area, write_area, write_text};
 use crate::frame::{Frame, IDLE_LANE, LANE, Lane, WIDTH};
 use std::alloc::{AllocError, Allocator};
@@ -7,8 +10,8 @@ use std::alloc::{AllocError, Allocator};
 /// The place of the highest lane of the first row: below the legend and the numbers of the events.
 pub const FIRST_BASE: u32 = 112;
 
-// Colours that readers tell apart who see no red or no green: the eight of Okabe and Ito.
-const STYLES: &str = "<style>
+/// Colours that readers tell apart who see no red or no green: the eight of Okabe and Ito.
+pub const STYLES: &str = "<style>
 text { font-family: monospace; font-size: 10px; fill: #000000; }
 text.cpu { font-size: 12px; }
 text.number { font-size: 9px; fill: #555555; text-anchor: middle; }
@@ -35,8 +38,8 @@ path.interrupt { fill: none; stroke: #d55e00; stroke-width: 1.6; stroke-dasharra
 </style>
 ";
 
-// What is drawn more than once: dots, and the heads of arrows.
-const DOTS: &str = "<defs>
+/// What is drawn more than once: dots, and the heads of arrows.
+pub const DOTS: &str = "<defs>
 <path id=\"start\" d=\"M -4 -4 L 3 0 L -4 4 Z\" fill=\"#888888\"/>
 <circle id=\"load\" r=\"4\" fill=\"#ffffff\" stroke=\"#000000\" stroke-width=\"1.5\"/>
 <circle id=\"store\" r=\"4.5\" fill=\"#000000\"/>
@@ -82,23 +85,58 @@ const LINKS: &str =
 <rect class=\"even\" x=\"528\" y=\"62\" width=\"14\" height=\"14\"/><text class=\"key\" x=\"548\" y=\"73\">phases of a stop</text>
 ";
 
-/// The begin of a picture, with its size, and its styles.
-pub fn write_head<A: Allocator>(
-    out: &mut String<A>,
-    width: u64,
-    height: u64,
-) -> Result<(), AllocError> {
+// The begin of a picture, with its size.
+#[tactic(auto, unfolding(crate::specs::Legend::size_text))]
+fn write_size<A: Allocator>(out: &mut String<A>, width: u64, height: u64) -> Result<(), AllocError>
+    ensures { OnOk result (string_bytes out.new ≡ string_bytes out.old ++ size_text width height) }
+{
     write!(
         out,
         "<svg xmlns=\"http://www.w3.org/2000/svg\" width=\"{width}\" height=\"{height}\""
-    )?;
-    writeln!(out, " viewBox=\"0 0 {width} {height}\">")?;
-    out.push_str(STYLES)?;
-    out.push_str(DOTS)?;
+    )
+}
+
+// What of a picture is shown: all of it.
+#[tactic(auto, unfolding(crate::specs::Legend::box_text))]
+fn write_view_box<A: Allocator>(
+    out: &mut String<A>,
+    width: u64,
+    height: u64,
+) -> Result<(), AllocError>
+    ensures { OnOk result (string_bytes out.new ≡ string_bytes out.old ++ box_text width height) }
+{
+    writeln!(out, " viewBox=\"0 0 {width} {height}\">")
+}
+
+// What is below all else.
+#[tactic(auto, unfolding(crate::specs::Legend::ground_text))]
+fn write_ground<A: Allocator>(
+    out: &mut String<A>,
+    width: u64,
+    height: u64,
+) -> Result<(), AllocError>
+    ensures { OnOk result (string_bytes out.new ≡ string_bytes out.old ++ ground_text width height) }
+{
     writeln!(
         out,
         "<rect width=\"{width}\" height=\"{height}\" fill=\"#ffffff\"/>"
     )
+}
+
+/// The begin of a picture, with its size, and its styles.
+#[tactic(auto, unfolding(crate::specs::Legend::head_text))]
+pub fn write_head<A: Allocator>(
+    out: &mut String<A>,
+    width: u64,
+    height: u64,
+) -> Result<(), AllocError>
+    ensures { OnOk result (string_bytes out.new ≡ string_bytes out.old ++ head_text width height) }
+{
+    write_size(out, width, height)?;
+    write_view_box(out, width, height)?;
+    out.push_str(STYLES)?;
+    out.push_str(DOTS)?;
+    write_ground(out, width, height)
 }
 
 /// What the styles mean.
@@ -109,12 +147,16 @@ pub fn write_legend<A: Allocator>(out: &mut String<A>) -> Result<(), AllocError>
 }
 
 // The lane of a CPU.
+#[tactic(auto, unfolding(crate::specs::Legend::lane_text))]
 fn write_lane<A: Allocator + Copy>(
     alloc: A,
     out: &mut String<A>,
     frame: &Frame<'_>,
     lane: &Lane,
-) -> Result<(), AllocError> {
+) -> Result<(), AllocError>
+    ensures { OnOk result (string_bytes out.new
+        ≡ string_bytes out.old ++ lane_text frame.now.base frame.now.low frame.now.lanes.now lane.now) }
+{
     let cpu = lane.cpu;
     let y = frame.upper(cpu);
     let name = format!(in alloc; "CPU {cpu}")?;
@@ -134,11 +176,46 @@ pub fn write_lanes<A: Allocator + Copy>(
     alloc: A,
     out: &mut String<A>,
     frame: &Frame<'_>,
-) -> Result<(), AllocError> {
+) -> Result<(), AllocError>
+    ensures { OnOk result (string_bytes out.new
+        ≡ string_bytes out.old ++ lanes_text frame.now.base frame.now.low frame.now.lanes.now) }
+{
     for lane in frame.lanes {
         write_lane(alloc, out, frame, lane)?;
     }
     Ok(())
+}
+
+// The upper end of a line.
+#[tactic(auto, unfolding(crate::specs::Legend::upper_end))]
+fn write_upper_end<A: Allocator>(out: &mut String<A>, x: u64, y: u64) -> Result<(), AllocError>
+    ensures { OnOk result (string_bytes out.new ≡ string_bytes out.old ++ upper_end x y) }
+{
+    write!(out, "<line class=\"number\" x1=\"{x}\" y1=\"{y}\"")
+}
+
+// Its lower end.
+#[tactic(auto, unfolding(crate::specs::Legend::lower_end))]
+fn write_lower_end<A: Allocator>(out: &mut String<A>, x: u64, y: u64) -> Result<(), AllocError>
+    ensures { OnOk result (string_bytes out.new ≡ string_bytes out.old ++ lower_end x y) }
+{
+    writeln!(out, " x2=\"{x}\" y2=\"{y}\"/>")
+}
+
+/// A line from one height to another, with this text above it.
+#[tactic(auto, unfolding(crate::specs::Legend::tick_text))]
+pub fn write_tick<A: Allocator>(
+    out: &mut String<A>,
+    x: u64,
+    top: u64,
+    bottom: u64,
+    said: &str,
+) -> Result<(), AllocError>
+    ensures { OnOk result (string_bytes out.new ≡ string_bytes out.old ++ tick_text x top bottom said.now) }
+{
+    write_upper_end(out, x, top)?;
+    write_lower_end(out, x, bottom)?;
+    write_text(out, "number", x, top.saturating_sub(5), said)
 }
 
 // The number of an event, and a line below it.
@@ -150,13 +227,8 @@ fn write_number<A: Allocator + Copy>(
 ) -> Result<(), AllocError> {
     let x = frame.left(column) + frame.step() / 2;
     let top = u64::from(frame.base);
-    let bottom = frame.foot();
-    writeln!(
-        out,
-        "<line class=\"number\" x1=\"{x}\" y1=\"{top}\" x2=\"{x}\" y2=\"{bottom}\"/>"
-    )?;
     let number = format!(in alloc; "{column}")?;
-    write_text(out, "number", x, top.saturating_sub(5), number.as_str())
+    write_tick(out, x, top, frame.foot(), number.as_str())
 }
 
 /// The number of each fifth event of a row.

@@ -16,12 +16,12 @@
 //! - `print_bytes`, `explain`: What is wrong with a text of any kind, and what may be in its place.
 #![tactic(auto)]
 
-mod areas;
-mod arrows;
+pub mod areas;
+pub mod arrows;
 pub mod cell;
 pub mod choice;
 mod condition_parts;
-mod element;
+pub mod element;
 pub mod explain;
 pub mod fault;
 mod field_domain;
@@ -31,7 +31,7 @@ mod idle_handles;
 mod json;
 pub mod lanes;
 pub mod laws;
-mod legend;
+pub mod legend;
 mod match_template;
 mod narrow_lanes;
 pub mod open_close;
@@ -43,7 +43,7 @@ pub mod page_style;
 pub mod picture;
 mod print_bytes;
 pub mod show;
-mod spans_arrows;
+pub mod spans_arrows;
 mod style_names;
 pub mod svg;
 mod templates;
