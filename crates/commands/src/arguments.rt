@@ -33,8 +33,11 @@ enum Wrong {
     Marked,
     Slow,
     Print,
+    Order,
     From,
     Shown,
+    Around,
+    NoLine,
 }
 
 impl Wrong {
@@ -56,10 +59,14 @@ impl Wrong {
             Wrong::Marked => "invalid value for '--mark <EVENT>': it goes with a replay alone",
             Wrong::Slow => "invalid value for '--slow <MS>': it goes with '--from ftrace' alone",
             Wrong::Print => "'--print' goes with '--from ftrace' alone",
+            Wrong::Order => "'--order' goes with '--from ftrace' alone",
             Wrong::From => {
                 "invalid value for '--from <N>': it is a number from 0 to 4294967295, or ftrace"
             }
             Wrong::Shown => "'--to' and '--cpus' go with a replay alone",
+            Wrong::Around =>
+                "invalid value for '--around <LINE>': it goes with '--from ftrace' alone",
+            Wrong::NoLine => "'svg --from ftrace' asks for '--around <LINE>'",
         }
     }
 }
@@ -95,6 +102,8 @@ pub enum Job<'a> {
     /// Judges what a kernel's own tracer wrote, without the first of these numbers of nanoseconds at its start. A call is told that
     /// waits for more than the second.
     JudgeKernel(u64, u64),
+    /// The same with the order of queues.
+    OrderKernel(u64, u64),
     /// Writes the trace that such a text tells, without this number of nanoseconds at its start.
     PrintKernel(u64),
     /// Shows a trace as a page to step through.
@@ -103,6 +112,8 @@ pub enum Job<'a> {
     PageKernel(u64),
     /// Writes its events so in the trace-event format, without this number of nanoseconds at its start.
     JsonKernel(u64),
+    /// Draws its events around a line of this number, without this number of nanoseconds at its start.
+    DrawKernel(u64, u32),
     /// Tells the events of a script's replay.
     Events,
     /// Holds the trace of steps of this name against a script's replay.
@@ -119,7 +130,8 @@ impl<'a> Job<'a> {
             Job::Explore(..) | Job::Outcomes(..) | Job::Write(_) => Some(TextKind::Exploration),
             Job::Judge | Job::PageTrace => Some(TextKind::Trace),
             Job::PageKernel(_) | Job::PrintKernel(_) | Job::JsonKernel(_) => None,
-            Job::Explain | Job::JudgeKernel(..) => None,
+            Job::Explain | Job::DrawKernel(..) => None,
+            Job::JudgeKernel(..) | Job::OrderKernel(..) => None,
         }
     }
 }
@@ -257,7 +269,6 @@ fn trace_of<'a>(matches: &ArgMatches<'a>) -> Result<&'a str, Wrong> {
 fn view_of(name: &str) -> Option<View> {
     match name {
         "lanes" => Some(View::Lanes),
-        "svg" => Some(View::Svg),
         _ => None,
     }
 }
@@ -301,6 +312,8 @@ fn kernel_job<'a>(matches: &ArgMatches<'a>) -> Job<'a> {
     let skip = nanoseconds(number(matches, "skip"));
     if matches.get_flag("print") {
         Job::PrintKernel(skip)
+    } else if matches.get_flag("order") {
+        Job::OrderKernel(skip, slow_of(matches))
     } else {
         Job::JudgeKernel(skip, slow_of(matches))
     }
@@ -316,6 +329,9 @@ fn plain_judge<'a>(matches: &ArgMatches<'a>) -> Result<Job<'a>, Wrong> {
     }
     if matches.get_flag("print") {
         return Err(Wrong::Print);
+    }
+    if matches.get_flag("order") {
+        return Err(Wrong::Order);
     }
     Ok(Job::Judge)
 }
@@ -380,6 +396,33 @@ fn json_of<'a>(matches: &ArgMatches<'a>) -> Result<Job<'a>, Wrong> {
     }
 }
 
+// What is drawn of what a kernel's tracer wrote: with none of the options of a replay.
+fn kernel_svg<'a>(matches: &ArgMatches<'a>) -> Result<Job<'a>, Wrong> {
+    if matches.get_one::<u32>("to").is_some() || matches.get_str("cpus").is_some() {
+        return Err(Wrong::Shown);
+    }
+    if matches.get_str("mark").is_some() {
+        return Err(Wrong::Marked);
+    }
+    match matches.get_one::<u32>("around") {
+        Some(line) => Ok(Job::DrawKernel(nanoseconds(number(matches, "skip")), line)),
+        None => Err(Wrong::NoLine),
+    }
+}
+
+// What is drawn.
+fn svg_of<'a>(matches: &ArgMatches<'a>) -> Result<Job<'a>, Wrong> {
+    match matches.get_str("from") {
+        Some("ftrace") => kernel_svg(matches),
+        _ if matches.get_one::<u32>("skip").is_some() => Err(Wrong::Skip),
+        _ if matches.get_one::<u32>("around").is_some() => Err(Wrong::Around),
+        from => {
+            let choice = choice_from(first_of(from)?, matches)?;
+            Ok(Job::Show(View::Svg, choice))
+        }
+    }
+}
+
 // What a subcommand does, by its name and the words behind it.
 fn job_of<'a>(name: &str, matches: &ArgMatches<'a>) -> Result<Job<'a>, Wrong> {
     if let Some(view) = view_of(name) {
@@ -390,6 +433,7 @@ fn job_of<'a>(name: &str, matches: &ArgMatches<'a>) -> Result<Job<'a>, Wrong> {
         "json" => json_of(matches),
         "judge" => judge_of(matches),
         "page" => page_of(matches),
+        "svg" => svg_of(matches),
         _ => Ok(plain_job(name, matches)),
     }
 }

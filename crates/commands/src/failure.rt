@@ -34,6 +34,10 @@ pub enum Failure {
     Fault(Fault),
     /// What a kernel's tracer wrote is not judged.
     Kernel(Refusal),
+    /// It has no line of the number that was named.
+    NoLine,
+    /// No line of it tells an event.
+    NoEvent,
     NoMemory,
 }
 

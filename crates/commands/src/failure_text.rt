@@ -49,6 +49,9 @@ fn tell_kernel(rt: &HostRuntime, name: &str, why: Refusal) -> io::Result<()> {
         Refusal::LongTrace => eprintln!(rt;
             "smp: {name}: the trace that it tells has more than 1000000 lines or 16777216 bytes"
         ),
+        Refusal::Unplaced => {
+            eprintln!(rt; "smp: {name}: the order that was chosen is none that its lines allow")
+        }
         Refusal::NoMemory => eprintln!(rt; "smp: no memory"),
     }
 }
@@ -73,6 +76,8 @@ pub fn tell(rt: &HostRuntime, name: &str, text: &[u8], failure: Failure) -> io::
         Failure::OtherKind(kind) => tell_kind(rt, name, kind),
         Failure::Fault(fault) => tell_fault(rt, name, text, fault),
         Failure::Kernel(why) => tell_kernel(rt, name, why),
+        Failure::NoLine => eprintln!(rt; "smp: {name}: there is no line of the number of --around"),
+        Failure::NoEvent => eprintln!(rt; "smp: {name}: no line tells an event of calls or stops"),
         Failure::NoMemory => eprintln!(rt; "smp: no memory"),
     }
 }

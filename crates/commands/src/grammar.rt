@@ -183,7 +183,7 @@ const LANES: Named = Named {
 
 const SVG: Named = Named {
     name: "svg",
-    about: "Draws a replay as an SVG picture with a lane for each CPU",
+    about: "Draws a replay, or what Linux's own tracer wrote around a line, as an SVG picture with a lane for each CPU",
     behind: Behind::File,
 };
 
@@ -268,6 +268,13 @@ const FROM_OR_WRITER: Choice = Choice {
     help: "Shows events from this number on, 0 to 4294967295; or FILE is what Linux's own tracer wrote: ftrace",
 };
 
+const AROUND: Choice = Choice {
+    name: "around",
+    value: "LINE",
+    takes: Value::Number(1, MOST_32, None),
+    help: "Draws of what the tracer wrote the event of this line of FILE, or the next that has one, and 100 events before and behind it",
+};
+
 const SOURCE: Choice = Choice {
     name: "from",
     value: "KIND",
@@ -287,6 +294,13 @@ const PRINT: Choice = Choice {
     value: "",
     takes: Value::Nothing,
     help: "Writes the trace that FILE tells, and does not judge it",
+};
+
+const ORDER: Choice = Choice {
+    name: "order",
+    value: "",
+    takes: Value::Nothing,
+    help: "Judges the order of the queues too, where FILE shows the class and the context of each call",
 };
 
 // An option.
@@ -309,7 +323,7 @@ fn option<'a>(alloc: Global, choice: Choice) -> Arg<'a> {
 }
 
 // A subcommand with this option too. Where a script alone is printed, no file takes it, and where JSON is, neither is asked for.
-// Where a trace is printed, no call that waits is told.
+// Where a trace is printed, no call that waits is told and no order judged.
 fn with_option<'a>(
     alloc: Global,
     command: Command<'a>,
@@ -325,6 +339,9 @@ fn with_option<'a>(
     }
     if choice.name == PRINT.name {
         return command.arg(arg.conflicts_with(SLOW.name)?);
+    }
+    if choice.name == ORDER.name {
+        return command.arg(arg.conflicts_with(PRINT.name)?);
     }
     command.arg(arg)
 }
@@ -409,7 +426,7 @@ fn front<'a>(alloc: Global) -> Result<Command<'a>, AllocError> {
 pub fn grammar<'a>(alloc: Global) -> Result<Command<'a>, AllocError> {
     let commands: [(Named, &[Choice]); 12] = [
         (LANES, &[FROM, TO, CPUS]),
-        (SVG, &[FROM, TO, CPUS, MARK]),
+        (SVG, &[FROM_OR_WRITER, AROUND, TO, CPUS, MARK, SKIP]),
         (JSON, &[FROM_OR_WRITER, TO, CPUS, SKIP]),
         (PAGE, &[MARK, SOURCE, SKIP]),
         (EXPLAIN, &[]),
@@ -419,7 +436,7 @@ pub fn grammar<'a>(alloc: Global) -> Result<Command<'a>, AllocError> {
         (SCRIPT, &[SEED, RUN, STEPS]),
         (EVENTS, &[]),
         (CHECK, &[]),
-        (JUDGE, &[WRITER, SKIP, SLOW, PRINT]),
+        (JUDGE, &[WRITER, SKIP, SLOW, PRINT, ORDER]),
     ];
     let mut grammar = front(alloc)?;
     for (named, choices) in commands {

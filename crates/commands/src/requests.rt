@@ -21,12 +21,12 @@ use std::io::Write;
 use trace_events::show_events;
 use trace_ftrace::json::json_of_kernel;
 use trace_ftrace::print::print_kernel;
-use trace_ftrace::text::judge_waits;
+use trace_ftrace::text::{judge_ordered, judge_waits};
 use trace_ftrace::verdict::MOST_KERNEL_BYTES;
 use trace_ftrace::wrong::Refusal;
 use trace_judge::body::MOST_TRACE_BYTES;
 use trace_judge::{Ruling, judge_trace};
-use trace_page::{page_of_kernel, page_of_trace};
+use trace_page::{NoPicture, page_of_kernel, page_of_trace, picture_of_kernel};
 use view::text_kind::kind_of;
 use view::{Choice, show_json, show_lanes, show_page, show_svg};
 
@@ -94,15 +94,12 @@ fn judged(done: Result<Ruling, SmpError>) -> Result<Answer, Failure> {
     }
 }
 
-/// Judges what a kernel's tracer wrote, and writes the verdict.
-fn judge_kernel_text<W: Write>(
-    rt: &HostRuntime,
-    skip: u64,
-    slow: u64,
-    text: &[u8],
+/// Writes the verdict on what a kernel's tracer wrote.
+fn write_verdict<W: Write>(
+    verdict: Result<(Vec<u8>, Ruling), Refusal>,
     writer: &mut Watched<W>,
 ) -> Result<Answer, Failure> {
-    match judge_waits(rt.alloc(), skip, slow, text) {
+    match verdict {
         Ok((out, ruling)) => {
             print(writer, out.as_slice())?;
             Ok(Answer::Judged(ruling))
@@ -151,11 +148,27 @@ fn kernel_page(rt: &HostRuntime, skip: u64, text: &[u8]) -> Result<(Vec<u8>, Rul
     }
 }
 
+/// Writes the picture of what a kernel's tracer wrote around a line.
+fn write_picture<W: Write>(
+    made: Result<Vec<u8>, NoPicture>,
+    writer: &mut Watched<W>,
+) -> Result<Answer, Failure> {
+    match made {
+        Ok(out) => {
+            print(writer, out.as_slice())?;
+            Ok(Answer::Shown(Outcome::Done))
+        }
+        Err(NoPicture::Line) => Err(Failure::NoLine),
+        Err(NoPicture::Events) => Err(Failure::NoEvent),
+        Err(NoPicture::Text(why)) => Err(Failure::Kernel(why)),
+    }
+}
+
 // The most bytes of a text that is read for this.
 fn most_of(job: &Job<'_>) -> u32 {
     match job {
-        Job::JudgeKernel(..) | Job::PrintKernel(_) => MOST_KERNEL_BYTES,
-        Job::PageKernel(_) | Job::JsonKernel(_) => MOST_KERNEL_BYTES,
+        Job::JudgeKernel(..) | Job::OrderKernel(..) | Job::PrintKernel(_) => MOST_KERNEL_BYTES,
+        Job::PageKernel(_) | Job::JsonKernel(_) | Job::DrawKernel(..) => MOST_KERNEL_BYTES,
         _ => MOST_TRACE_BYTES,
     }
 }
@@ -174,9 +187,17 @@ fn do_script<W: Write>(
         Job::Events => shown(show_events(rt.alloc(), &mut Watched::new(text), writer)),
         Job::Check(trace) => Ok(Answer::Shown(check_trace(rt, trace, text, writer)?)),
         Job::Judge => judged(judge_trace(rt.alloc(), &mut Watched::new(text), writer)),
-        Job::JudgeKernel(skip, slow) => judge_kernel_text(rt, *skip, *slow, text, writer),
+        Job::JudgeKernel(skip, slow) => {
+            write_verdict(judge_waits(rt.alloc(), *skip, *slow, text), writer)
+        }
+        Job::OrderKernel(skip, slow) => {
+            write_verdict(judge_ordered(rt.alloc(), *skip, *slow, text), writer)
+        }
         Job::PrintKernel(skip) => write_events(print_kernel(rt.alloc(), *skip, text), writer),
         Job::JsonKernel(skip) => write_events(json_of_kernel(rt.alloc(), *skip, text), writer),
+        Job::DrawKernel(skip, line) => {
+            write_picture(picture_of_kernel(rt.alloc(), *skip, *line, text), writer)
+        }
         Job::PageTrace => write_page(trace_page(rt, text), writer),
         Job::PageKernel(skip) => write_page(kernel_page(rt, *skip, text), writer),
         _ => shown(explain_text(rt.alloc(), text, writer)),

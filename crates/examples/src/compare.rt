@@ -17,9 +17,10 @@ use std::sync::Wait;
 use std::thread::Threads;
 use trace_events::show_events;
 use trace_ftrace::print::print_kernel;
-use trace_ftrace::text::judge_kernel;
+use trace_ftrace::text::{MOST_WAIT, judge_kernel, judge_ordered};
 use trace_ftrace::wrong::Refusal;
 use trace_judge::{Ruling, judge_trace};
+use trace_page::{NoPicture, picture_of_kernel};
 use view::{Choice, show_lanes};
 
 /// What is between two texts of a file.
@@ -48,9 +49,11 @@ fn take<T: Threads + Wait + Sync>(
         Kind::Run => run_script(threads, alloc, reader, writer, &FreePace).err(),
         Kind::Lanes => show_lanes(alloc, &Choice::ALL, reader, writer).err(),
         Kind::Explore(task) => explore_script(alloc, task, reader, writer, &mut Unwatched).err(),
-        Kind::Judge | Kind::Kernel | Kind::KernelTrace => {
-            judge_trace(alloc, reader, writer).err()
-        }
+        Kind::Judge
+        | Kind::Kernel
+        | Kind::KernelOrder
+        | Kind::KernelTrace
+        | Kind::KernelPicture(_) => judge_trace(alloc, reader, writer).err(),
         Kind::Events => show_events(alloc, reader, writer).err(),
     }
 }
@@ -74,6 +77,18 @@ fn traced(alloc: Global, text: &[u8]) -> Result<Vec<u8>, SmpError> {
     }
 }
 
+// The picture of such a text around a line.
+fn pictured(alloc: Global, line: u32, text: &[u8]) -> Result<Vec<u8>, SmpError> {
+    match picture_of_kernel(alloc, 0, line, text) {
+        Ok(picture) => Ok(picture),
+        Err(NoPicture::Line) | Err(NoPicture::Events) => Err(SmpError::BadScript {
+            line,
+            cause: Cause::Range,
+        }),
+        Err(NoPicture::Text(why)) => Err(refused(why)),
+    }
+}
+
 // Whether the trace that such a text tells has this ruling.
 fn trace_is(alloc: Global, text: &[u8], ruling: Ruling) -> Result<bool, SmpError> {
     let trace = traced(alloc, text)?;
@@ -94,6 +109,24 @@ fn push_verdict(alloc: Global, out: &mut Vec<u8>, text: &[u8]) -> Result<bool, S
         }
         Err(why) => Err(refused(why)),
     }
+}
+
+// Whether the verdicts on the texts between form feeds, with their order, are printed as these bytes.
+fn orders_print(alloc: Global, text: &[u8], expected: &[u8]) -> Result<bool, SmpError> {
+    let Ok(texts) = parts(alloc, text, FORM_FEED) else {
+        return Err(SmpError::NoMemory);
+    };
+    let mut out = Vec::new(alloc);
+    for one in texts.iter() {
+        let printed = match judge_ordered(alloc, 0, MOST_WAIT, one) {
+            Ok((printed, _)) => printed,
+            Err(why) => return Err(refused(why)),
+        };
+        if out.extend_from_slice(printed.as_slice()).is_err() {
+            return Err(SmpError::NoMemory);
+        }
+    }
+    Ok(are_same(out.as_slice(), expected))
 }
 
 // Whether the verdicts on the texts between form feeds are printed as these bytes, and the trace of each has the same ruling.
@@ -120,7 +153,11 @@ pub fn prints<T: Threads + Wait + Sync>(
 ) -> Result<bool, SmpError> {
     match kind {
         Kind::Kernel => return verdicts_print(alloc, text, expected),
+        Kind::KernelOrder => return orders_print(alloc, text, expected),
         Kind::KernelTrace => return Ok(are_same(traced(alloc, text)?.as_slice(), expected)),
+        Kind::KernelPicture(line) => {
+            return Ok(are_same(pictured(alloc, line, text)?.as_slice(), expected));
+        }
         _ => {}
     }
     let mut reader = Watched::new(text);

@@ -38,15 +38,19 @@ pub enum Kind {
     Judge,
     /// By `smp judge --from ftrace`, each text between form feeds by itself.
     Kernel,
+    /// By `smp judge --from ftrace --order`, alike.
+    KernelOrder,
     /// By `smp judge --from ftrace --print`.
     KernelTrace,
+    /// By `smp svg --from ftrace --around`, with this line.
+    KernelPicture(u32),
     /// By `smp events`.
     Events,
 }
 
 /// How an example is taken, by its word and the line's end: `None` where the word is none of these.
 pub fn kind_of(word: &[u8]) -> Option<Kind> {
-    let kinds: [(&[u8], Kind); 10] = [
+    let kinds: [(&[u8], Kind); 12] = [
         (b"replay\n".as_slice(), Kind::Replay),
         (b"run\n".as_slice(), Kind::Run),
         (b"lanes\n".as_slice(), Kind::Lanes),
@@ -55,7 +59,9 @@ pub fn kind_of(word: &[u8]) -> Option<Kind> {
         (b"script\n".as_slice(), Kind::Explore(WRITTEN)),
         (b"judge\n".as_slice(), Kind::Judge),
         (b"ftrace\n".as_slice(), Kind::Kernel),
+        (b"ftrace order\n".as_slice(), Kind::KernelOrder),
         (b"ftrace print\n".as_slice(), Kind::KernelTrace),
+        (b"ftrace around 9\n".as_slice(), Kind::KernelPicture(9)),
         (b"events\n".as_slice(), Kind::Events),
     ];
     for (name, kind) in kinds {

@@ -17,7 +17,7 @@ fn refused(alloc: Global, words: &[&str]) -> Option<ErrorKind> {
 
 #[test]
 fn words_that_are_none_of_this_program(rt: HostRuntime) {
-    let cases: [(&[&str], ErrorKind); 41] = [
+    let cases: [(&[&str], ErrorKind); 49] = [
         (&["smp"], ErrorKind::MissingSubcommand),
         (&["smp", "jump"], ErrorKind::InvalidSubcommand),
         (&["smp", "lanes", "one", "two"], ErrorKind::UnknownArgument),
@@ -120,6 +120,28 @@ fn words_that_are_none_of_this_program(rt: HostRuntime) {
             &["smp", "json", "--from", "ftrace", "--cpus", "0"],
             ErrorKind::ValueValidation,
         ),
+        (&["smp", "svg", "--skip", "2"], ErrorKind::ValueValidation),
+        (&["smp", "svg", "--around", "2"], ErrorKind::ValueValidation),
+        (
+            &["smp", "svg", "--from", "ftrace"],
+            ErrorKind::ValueValidation,
+        ),
+        (
+            &["smp", "svg", "--from", "ftrace", "--around", "0"],
+            ErrorKind::ValueValidation,
+        ),
+        (
+            &[
+                "smp", "svg", "--from", "ftrace", "--around", "2", "--to", "5",
+            ],
+            ErrorKind::ValueValidation,
+        ),
+        (
+            &[
+                "smp", "svg", "--from", "ftrace", "--around", "2", "--mark", "last",
+            ],
+            ErrorKind::ValueValidation,
+        ),
         (&["smp", "check", "one"], ErrorKind::MissingRequiredArgument),
         (&["smp", "check", "-", "-"], ErrorKind::ValueValidation),
         (
@@ -129,8 +151,13 @@ fn words_that_are_none_of_this_program(rt: HostRuntime) {
         (&["smp", "judge", "--skip", "2"], ErrorKind::ValueValidation),
         (&["smp", "judge", "--slow", "2"], ErrorKind::ValueValidation),
         (&["smp", "judge", "--print"], ErrorKind::ValueValidation),
+        (&["smp", "judge", "--order"], ErrorKind::ValueValidation),
         (
             &["smp", "judge", "--print", "--slow", "2"],
+            ErrorKind::ArgumentConflict,
+        ),
+        (
+            &["smp", "judge", "--order", "--print"],
             ErrorKind::ArgumentConflict,
         ),
         (&["smp", "--help"], ErrorKind::DisplayHelp),
@@ -207,6 +234,14 @@ fn judges(alloc: Global, words: &[&str], skip: u64, slow: u64) -> bool {
     }
 }
 
+// Whether they ask for that judge with the order of queues.
+fn judges_order(alloc: Global, words: &[&str], skip: u64, slow: u64) -> bool {
+    match read_words(alloc, words) {
+        Ok(request) => request.job == Job::OrderKernel(skip, slow),
+        Err(_) => false,
+    }
+}
+
 // Whether they ask for the trace that it tells.
 fn prints(alloc: Global, words: &[&str], skip: u64) -> bool {
     match read_words(alloc, words) {
@@ -233,6 +268,14 @@ fn what_a_kernel_wrote(rt: HostRuntime) {
             ],
             2_000_000_000,
             30_000_000,
+        )
+    );
+    assert!(rt;
+        judges_order(
+            rt.alloc(),
+            &["smp", "judge", "--from", "ftrace", "--order", "--slow", "1"],
+            0,
+            1_000_000,
         )
     );
     assert!(rt;
