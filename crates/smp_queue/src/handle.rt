@@ -24,7 +24,7 @@ use crate::alarms::Alarms;
 use crate::handler::Handler;
 use crate::reverse::reverse;
 use crate::run::{Pass, Passed, Place, next_async, pass_on};
-use crate::seat::call_steps::{begin_call, end_call};
+use crate::seat::call_steps::{Returned, begin_call, end_call};
 use crate::seat::{CpuSeat, Words, store, swap};
 use smp_call_steps::drain::linked;
 use smp_call_steps::handle::Walk;
@@ -38,6 +38,14 @@ pub struct Handled {
     pub ran: u32,
     /// Whether an interrupt was pending.
     pub interrupted: bool,
+}
+
+/// What `handle` reads beside the seat of its CPU: the words and the alarms of the table, and the CPU's number.
+#[derive(Clone, Copy)]
+pub(crate) struct HandleContext<'a> {
+    pub(crate) words: Words<'a>,
+    pub(crate) alarms: &'a Alarms,
+    pub(crate) number: u32,
 }
 
 /// Begins to handle, and takes the interrupt: whether one was pending.
@@ -138,26 +146,34 @@ fn wake_if(alarms: &Alarms, unlocked: bool) {
 /// asleep are woken behind the step that unlocks its record, so before the function of an ASYNC call, and behind that of a SYNC call.
 #[inline(always)]
 fn run_one<H: Handler>(
-    words: Words,
-    alarms: &Alarms,
+    context: HandleContext,
     seat: &mut CpuSeat,
-    number: u32,
     counts: &mut [u64],
     place: Place,
     handler: &mut H,
 ) -> Option<Place>
-    requires me { seat.old.known.number ≡ number }
-    requires at { InHandle words.shared.now.table_id seat.old (begins_at place) }
+    requires me { seat.old.known.number ≡ context.number }
+    requires at { InHandle context.words.shared.now.table_id seat.old (begins_at place) }
     requires counts { AreRan counts.old seat.old.known }
-    ensures run { HasRun H.leads words.entry.shared.now.table_id seat.old seat.new place.call result counts.new handler.old handler.new }
+    ensures run { HasRun H.leads context.entry.words.shared.now.table_id seat.old seat.new place.call result counts.new handler.old handler.new }
     ensures second { place.pass ≡ Second → IfSome result (λ p. p.pass ≡ Second) }
 {
+    let HandleContext {
+        words,
+        alarms,
+        number,
+    } = context;
     let begun = begin_call(words, seat, number, place, handler);
     let call = place.call;
     let is_sync = place.pass.is_first();
     wake_if(alarms, !is_sync);
     handler.call(owner_of(call.id), call.func, call.info);
-    end_call(words, seat, number, counts, place, handler, begun);
+    let ran = Returned {
+        place,
+        begun,
+        handler,
+    };
+    end_call(words, seat, number, counts, ran);
     wake_if(alarms, is_sync);
     go_on(words, seat, number, place.pass, place.next)
 }
@@ -165,19 +181,17 @@ fn run_one<H: Handler>(
 /// Runs the calls of a batch: its SYNC calls one after another, and then its ASYNC calls.
 #[inline(always)]
 fn run_batch<H: Handler>(
-    words: Words,
-    alarms: &Alarms,
+    context: HandleContext,
     seat: &mut CpuSeat,
-    number: u32,
     counts: &mut [u64],
     first: Option<Place>,
     handler: &mut H,
 )
-    requires me { seat.old.known.number ≡ number }
-    requires at { IsAt words.shared.now.table_id (cpu_of seat.old) seat.old first }
+    requires me { seat.old.known.number ≡ context.number }
+    requires at { IsAt context.words.shared.now.table_id (cpu_of seat.old) seat.old first }
     requires idle { seat.old.known.part.running ≡ Nothing }
     requires counts { AreRan counts.old seat.old.known }
-    ensures { HasRunAll H.leads words.entry.shared.now.table_id seat.old seat.new counts.new handler.old handler.new }
+    ensures { HasRunAll H.leads context.entry.words.shared.now.table_id seat.old seat.new counts.new handler.old handler.new }
 {
     let mut here = first;
     while let Some(
@@ -189,15 +203,7 @@ fn run_batch<H: Handler>(
     ) = here
     {
         let pass = Pass::First(walk);
-        here = run_one(
-            words,
-            alarms,
-            seat,
-            number,
-            counts,
-            Place { pass, call, next },
-            handler,
-        );
+        here = run_one(context, seat, counts, Place { pass, call, next }, handler);
     }
     while let Some(
         Place {
@@ -208,43 +214,33 @@ fn run_batch<H: Handler>(
     ) = here
     {
         let pass = Pass::Second;
-        here = run_one(
-            words,
-            alarms,
-            seat,
-            number,
-            counts,
-            Place { pass, call, next },
-            handler,
-        );
+        here = run_one(context, seat, counts, Place { pass, call, next }, handler);
     }
 }
 
 /// Takes the interrupt and, where there was one, the queue, and runs that.
 pub(crate) fn handle<H: Handler>(
-    words: Words,
-    alarms: &Alarms,
+    context: HandleContext,
     seat: &mut CpuSeat,
-    number: u32,
     counts: &mut [u64],
     handler: &mut H,
 ) -> Handled
-    requires outside { IsOutside words.shared.now.table_id seat.old number }
+    requires outside { IsOutside context.words.shared.now.table_id seat.old context.number }
     requires counts { AreRan counts.old seat.old.known }
-    ensures outside { IsOutside words.entry.shared.now.table_id seat.new number }
+    ensures outside { IsOutside context.entry.words.shared.now.table_id seat.new context.entry.number }
     ensures counts { AreRan counts.new seat.new.known }
     ensures lives { Lives seat.new.known }
     ensures asked { result.interrupted ≡ true → (batch : List Call) × (cpu_of seat.new ≡ drains batch (asks true (cpu_of seat.old)))
         × (Grows H.leads handler.old (order batch) handler.new) × (result.ran ≡ length batch) }
     ensures idle { result.interrupted ≡ false → (cpu_of seat.new ≡ asks false (cpu_of seat.old)) × (handler.new ≡ handler.old) × (result.ran ≡ 0) }
 {
-    match begin(words, seat, number) {
+    match begin(context.words, seat, context.number) {
         None => Handled {
             ran: 0,
             interrupted: false,
         },
         Some(batch) => {
-            run_batch(words, alarms, seat, number, counts, batch.first, handler);
+            run_batch(context, seat, counts, batch.first, handler);
             Handled {
                 ran: batch.calls,
                 interrupted: true,

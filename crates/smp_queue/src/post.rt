@@ -20,6 +20,13 @@ use smp_call_steps::post::Posting;
 use smp_words::Word;
 use std::sync::Wait;
 
+/// The CPU that posts: its number, and how many calls it has queued for the destination, modulo 2^64.
+#[derive(Clone, Copy)]
+pub(crate) struct Sender {
+    pub(crate) number: u32,
+    pub(crate) queued: u64,
+}
+
 /// Whether the record is locked. It makes one step; a record that is not locked is confirmed.
 pub(crate) fn is_locked(words: Words, seat: &mut CpuSeat, id: u32) -> bool
     requires at { OwnsRecord words.shared.now.table_id seat.old id }
@@ -51,19 +58,18 @@ pub(crate) fn count_and_look(
     words: Words,
     seat: &mut CpuSeat,
     posting: &Posting,
-    number: u32,
-    count: u64,
+    sender: Sender,
 ) -> u64
     requires mine { IsMine words.shared.now.table_id seat.old posting.now }
-    requires counting { IsCounting seat.old.known posting.now number count }
+    requires counting { IsCounting seat.old.known posting.now sender.number sender.queued }
     ensures table { seat.new.table ≡ words.entry.shared.now.table_id }
     ensures known { seat.new.known ≡ standing (counted posting.now) post.LoadHead (looked_known result seat.old.known) }
 {
     store(
         words,
         seat,
-        Word::Queued(number, posting.to),
-        count.wrapping_add(1),
+        Word::Queued(sender.number, posting.to),
+        sender.queued.wrapping_add(1),
     );
     load(words, seat, Word::Head(posting.to))
 }
@@ -90,15 +96,20 @@ pub(crate) fn link(words: Words, seat: &mut CpuSeat, posting: &Posting, link: u6
 }
 
 /// Takes the count back, and unlocks the record.
-pub(crate) fn give_up(words: Words, seat: &mut CpuSeat, posting: &Posting, number: u32, count: u64)
+pub(crate) fn give_up(words: Words, seat: &mut CpuSeat, posting: &Posting, sender: Sender)
     requires mine { IsMine words.shared.now.table_id seat.old posting.now }
     requires stage { seat.old.known.stage ≡ Some (Post (counted posting.now) post.LoadHead) }
-    requires counted { IsTallied seat.old.known posting.now number count }
+    requires counted { IsTallied seat.old.known posting.now sender.number sender.queued }
     ensures table { seat.new.table ≡ words.entry.shared.now.table_id }
     ensures lives { Lives seat.new.known }
     ensures known { seat.new.known ≡ outside_known (stepped 2 seat.old.known) }
 {
-    store(words, seat, Word::Queued(number, posting.to), count);
+    store(
+        words,
+        seat,
+        Word::Queued(sender.number, posting.to),
+        sender.queued,
+    );
     store(words, seat, Word::Flags(posting.id), 0);
 }
 
@@ -108,19 +119,18 @@ pub(crate) fn append(
     words: Words,
     seat: &mut CpuSeat,
     posting: &Posting,
-    number: u32,
-    queued: u64,
+    sender: Sender,
     tries: u32,
 ) -> Option<bool>
     requires mine { IsMine words.shared.now.table_id seat.old posting.now }
     requires online { has words.shared.now.key.online posting.now.to ≡ true }
-    requires counting { IsCounting seat.old.known posting.now number queued }
+    requires counting { IsCounting seat.old.known posting.now sender.number sender.queued }
     ensures table { seat.new.table ≡ words.entry.shared.now.table_id }
     ensures lives { Lives seat.new.known }
     ensures sent { IfSome result (λ first. (found : Found) × (times_lost found < tries) × Appends posting.now first found seat.old.known seat.new.known) }
     ensures lost { IfNone result ((found : Found) × (times_lost found ≡ tries) × GivesUp found seat.old.known seat.new.known) }
 {
-    let mut head = count_and_look(words, seat, posting, number, queued);
+    let mut head = count_and_look(words, seat, posting, sender);
     for _lost in 0..tries {
         let found = link(words, seat, posting, head);
         if found == head {
@@ -128,7 +138,7 @@ pub(crate) fn append(
         }
         head = found;
     }
-    give_up(words, seat, posting, number, queued);
+    give_up(words, seat, posting, sender);
     None
 }
 
@@ -139,18 +149,17 @@ pub(crate) fn append_until_won<R: Wait>(
     words: Words,
     seat: &mut CpuSeat,
     posting: &Posting,
-    number: u32,
-    queued: u64,
+    sender: Sender,
 ) -> bool
     requires mine { IsMine words.shared.now.table_id seat.old posting.now }
     requires online { has words.shared.now.key.online posting.now.to ≡ true }
-    requires counting { IsCounting seat.old.known posting.now number queued }
+    requires counting { IsCounting seat.old.known posting.now sender.number sender.queued }
     ensures table { seat.new.table ≡ words.entry.shared.now.table_id }
     ensures lives { Lives seat.new.known }
     ensures sent { (found : Found) × Appends posting.now result found seat.old.known seat.new.known }
 {
     let backoff = Backoff::new();
-    let mut head = count_and_look(words, seat, posting, number, queued);
+    let mut head = count_and_look(words, seat, posting, sender);
     for _ in rt.forever() {
         let found = link(words, seat, posting, head);
         if found == head {

@@ -14,9 +14,9 @@ ghost use Rattle.smp_queue.specs.Serving.{IsKeptInside, StandsNow, IsNext, ends,
 use crate::cpu::CallCpu;
 use crate::handle::{begin, go_on};
 use crate::run::Place;
-use crate::seat::call_steps::{begin_call, end_call};
-use crate::seat::{CpuSeat, Words};
-use crate::serving::{Given, Next, Serving};
+use crate::seat::Words;
+use crate::seat::call_steps::{Returned, begin_call, end_call};
+use crate::serving::{Given, InsideSeat, Next, Serving};
 use crate::table::CallTable;
 use smp_words::size::NR_CPUS;
 use std::alloc::Allocator;
@@ -24,21 +24,19 @@ use std::alloc::Allocator;
 /// The call at which a CPU is begins, and is handed out.
 fn hand_out(
     words: Words,
-    cpu: CpuSeat,
-    number: u32,
+    inside: InsideSeat,
     queued: [u64; NR_CPUS as usize],
     ran: [u64; NR_CPUS as usize],
     place: Place,
 ) -> Serving
-    requires kept { IsKeptInside cpu.known number queued ran }
-    requires at { InHandle words.shared.now.table_id cpu (begins_at place) }
-    ensures { IsNext (cpu_of cpu) result }
+    requires kept { IsKeptInside inside.seat.known inside.number queued ran }
+    requires at { InHandle words.shared.now.table_id inside.seat (begins_at place) }
+    ensures { IsNext (cpu_of inside.seat) result }
 {
-    let mut seat = cpu;
-    let begun = begin_call(words, &mut seat, number, place, &Given);
+    let mut cpu = inside;
+    let begun = begin_call(words, &mut cpu.seat, cpu.number, place, &Given);
     Serving {
-        seat,
-        number,
+        cpu,
         queued,
         ran,
         place,
@@ -49,24 +47,26 @@ fn hand_out(
 /// The call at which a CPU is begins, and is handed out; where it is at none, it is outside.
 fn next_of(
     words: Words,
-    seat: CpuSeat,
-    number: u32,
+    cpu: InsideSeat,
     queued: [u64; NR_CPUS as usize],
     ran: [u64; NR_CPUS as usize],
     found: Option<Place>,
 ) -> Next
-    requires kept { IsKeptInside seat.known number queued ran }
-    requires at { StandsNow words.shared.now.table_id seat found }
-    ensures { NextIs (cpu_of seat) result }
+    requires kept { IsKeptInside cpu.seat.known cpu.number queued ran }
+    requires at { StandsNow words.shared.now.table_id cpu.seat found }
+    ensures { NextIs (cpu_of cpu.seat) result }
 {
     match found {
-        Some(place) => Next::Run(hand_out(words, seat, number, queued, ran, place)),
-        None => Next::Done(CallCpu {
-            seat,
-            number,
-            queued,
-            ran,
-        }),
+        Some(place) => Next::Run(hand_out(words, cpu, queued, ran, place)),
+        None => {
+            let InsideSeat { seat, number } = cpu;
+            Next::Done(CallCpu {
+                seat,
+                number,
+                queued,
+                ran,
+            })
+        }
     }
 }
 
@@ -89,7 +89,10 @@ fn start(words: Words, me: CallCpu) -> Next
             queued,
             ran,
         }),
-        Some(batch) => next_of(words, seat, number, queued, ran, batch.first),
+        Some(batch) => {
+            let cpu = InsideSeat { seat, number };
+            next_of(words, cpu, queued, ran, batch.first)
+        }
     }
 }
 
@@ -100,16 +103,21 @@ fn go_on_from(words: Words, serving: Serving) -> Next
     ensures { NextIs (ends serving.call serving.cpu) result }
 {
     let Serving {
-        mut seat,
-        number,
+        mut cpu,
         queued,
         mut ran,
         place,
         begun,
     } = serving;
-    end_call(words, &mut seat, number, &mut ran, place, &Given, begun);
-    let found = go_on(words, &mut seat, number, place.pass, place.next);
-    next_of(words, seat, number, queued, ran, found)
+    let number = cpu.number;
+    let returned = Returned {
+        place,
+        begun,
+        handler: &Given,
+    };
+    end_call(words, &mut cpu.seat, number, &mut ran, returned);
+    let found = go_on(words, &mut cpu.seat, number, place.pass, place.next);
+    next_of(words, cpu, queued, ran, found)
 }
 
 impl<A: Allocator> CallTable<A> {

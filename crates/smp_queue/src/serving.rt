@@ -19,12 +19,18 @@ impl Handler for Given {
     }
 }
 
+/// The seat of a CPU inside `handle`, and the CPU's number.
+#[derive(Drop)]
+pub(crate) struct InsideSeat {
+    pub(crate) seat: CpuSeat,
+    pub(crate) number: u32,
+}
+
 /// A CPU inside `handle` one of whose calls is out, seen as the CPU and that call. It is between the step before the call
 /// and the step behind it.
 #[derive(Drop)]
 pub struct Serving {
-    pub(crate) seat: CpuSeat,
-    pub(crate) number: u32,
+    pub(crate) cpu: InsideSeat,
     pub(crate) queued: [u64; NR_CPUS as usize],
     pub(crate) ran: [u64; NR_CPUS as usize],
     pub(crate) place: Place,
@@ -39,9 +45,9 @@ impl Model for Serving {
 
     ghost Value = { ServingValue };
 
-    ghost view = { λ s. record { cpu = cpu_of s.seat; call = s.place.call } };
+    ghost view = { λ s. record { cpu = cpu_of s.cpu.seat; call = s.place.call } };
 
-    ghost invariant = { λ s. IsServing s.seat.known s.number s.queued s.ran s.place × (s.begun.call.value ≡ s.place.call) };
+    ghost invariant = { λ s. IsServing s.cpu.seat.known s.cpu.number s.queued s.ran s.place × (s.begun.call.value ≡ s.place.call) };
 }
 
 /// What a CPU goes on with.
@@ -78,6 +84,6 @@ impl Serving {
     pub fn is_shown(&self)
         ensures { IsShownOut self.now }
     {
-        let _ = &self.seat;
+        let _ = &self.cpu.seat;
     }
 }

@@ -41,11 +41,11 @@ use crate::audit::Audit;
 use crate::boot::Boot;
 use crate::closing::ClosedTable;
 use crate::cpu::CallCpu;
-use crate::handle::{Handled, handle};
+use crate::handle::{HandleContext, Handled, handle};
 use crate::handler::Handler;
 use crate::line_wait::LineWait;
 use crate::pause::Pause;
-use crate::post::{append, append_until_won, is_locked, write_record};
+use crate::post::{Sender, append, append_until_won, is_locked, write_record};
 use crate::seat::{Owner, SeatMaker, Words, lay, next_seat, note_call, store};
 use smp_call_steps::known::Setting;
 use smp_call_steps::post::Posting;
@@ -381,7 +381,9 @@ impl<A: Allocator> CallTable<A> {
         write_record(self.owner.words(), &mut me.seat, &posting);
         let queued = me.queued[to as usize];
         let words = self.owner.words();
-        match append(words, &mut me.seat, &posting, me.number, queued, tries) {
+        let number = me.number;
+        let sender = Sender { number, queued };
+        match append(words, &mut me.seat, &posting, sender, tries) {
             Some(first) => {
                 me.queued[to as usize] = queued.wrapping_add(1);
                 Ok(first)
@@ -413,7 +415,9 @@ impl<A: Allocator> CallTable<A> {
         write_record(self.owner.words(), &mut me.seat, &posting);
         let queued = me.queued[to as usize];
         let words = self.owner.words();
-        let first = append_until_won(rt, words, &mut me.seat, &posting, me.number, queued);
+        let number = me.number;
+        let sender = Sender { number, queued };
+        let first = append_until_won(rt, words, &mut me.seat, &posting, sender);
         me.queued[to as usize] = queued.wrapping_add(1);
         Ok(first)
     }
@@ -446,9 +450,12 @@ impl<A: Allocator> CallTable<A> {
         ensures idle { result.interrupted ≡ false → (me.new ≡ asks false me.old) × (handler.new ≡ handler.old) × (result.ran ≡ 0) }
         ensures laws { IsShown me.new }
     {
-        let words = self.owner.words();
-        let alarms = &self.alarms;
-        let handled = handle(words, alarms, &mut me.seat, me.number, &mut me.ran, handler);
+        let context = HandleContext {
+            words: self.owner.words(),
+            alarms: &self.alarms,
+            number: me.number,
+        };
+        let handled = handle(context, &mut me.seat, &mut me.ran, handler);
         me.is_shown();
         handled
     }

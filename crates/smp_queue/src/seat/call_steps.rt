@@ -36,29 +36,50 @@ pub struct Begun<H> {
     before: Noted<H>,
 }
 
+/// A SYNC call of a batch: where the first pass is in its chain, and where it goes on.
+#[derive(Clone, Copy)]
+pub struct SyncPlace {
+    walk: Walk,
+    call: Call,
+    next: Option<u32>,
+}
+
+/// An ASYNC call of a batch, and where the second pass goes on.
+#[derive(Clone, Copy)]
+pub struct AsyncPlace {
+    call: Call,
+    next: Option<u32>,
+}
+
+/// A call whose function has returned: where it stands in its batch, its token, and the handler that has heard it.
+#[derive(Drop)]
+pub struct Returned<'a, P, H> {
+    pub(crate) place: P,
+    pub(crate) begun: Begun<H>,
+    pub(crate) handler: &'a H,
+}
+
 /// A SYNC call begins: the handling word names its record, which stays locked.
 #[inline(always)]
 fn begin_sync<H: Handler>(
     words: Words,
     seat: &mut CpuSeat,
     number: u32,
-    walk: Walk,
-    call: Call,
-    next: Option<u32>,
+    place: SyncPlace,
     handler: &H,
 ) -> Begun<H>
     requires me { seat.old.known.number ≡ number }
-    requires at { InHandle words.shared.now.table_id seat.old (handle.BeginSync walk call next) }
-    requires class { call.class ≡ Class.Sync }
-    ensures at { InHandle words.entry.shared.now.table_id seat.new (handle.CountSync walk call next) }
-    ensures known { seat.new.known ≡ begun_sync walk call next seat.old.known }
-    ensures named { (s : Sits seat.new.known) × (s.lives.at (Hand number) ≡ call.id + 2) }
-    ensures of { result.call.value ≡ call }
+    requires at { InHandle words.shared.now.table_id seat.old (handle.BeginSync place.walk place.call place.next) }
+    requires class { place.call.class ≡ Class.Sync }
+    ensures at { InHandle words.entry.shared.now.table_id seat.new (handle.CountSync place.walk place.call place.next) }
+    ensures known { seat.new.known ≡ begun_sync place.walk place.call place.next seat.old.known }
+    ensures named { (s : Sits seat.new.known) × (s.lives.at (Hand number) ≡ place.call.id + 2) }
+    ensures of { result.call.value ≡ place.call }
     ensures before { result.before.value ≡ handler.now }
 {
-    store_in_call(words, seat, Word::Hand(number), call.id as u64 + 2);
+    store_in_call(words, seat, Word::Hand(number), place.call.id as u64 + 2);
     Begun {
-        call: Noted::of(&call),
+        call: Noted::of(&place.call),
         before: Noted::of(handler),
     }
 }
@@ -69,46 +90,32 @@ pub fn count_sync<H: Handler>(
     words: Words,
     seat: &mut CpuSeat,
     tally: Word,
-    walk: Walk,
-    call: Call,
-    next: Option<u32>,
     count: u64,
-    handler: &H,
-    begun: &Begun<H>,
+    ran: &Returned<'_, SyncPlace, H>,
 )
-    requires at { InHandle words.shared.now.table_id seat.old (handle.CountSync walk call next) }
-    requires tally { tally ≡ Ran seat.old.known.number (owner call.id) }
-    requires count { count ≡ (ran_tally seat.old.known.part (owner call.id) + 1) % 2 ^ 64 }
-    requires of { begun.now.call.value ≡ call }
-    requires heard { H.leads begun.now.before.value (heard_of call) handler.now }
-    ensures at { InHandle words.entry.shared.now.table_id seat.new (handle.EndSync walk call next) }
-    ensures known { seat.new.known ≡ counted_sync walk call next seat.old.known }
+    requires at { InHandle words.shared.now.table_id seat.old (handle.CountSync ran.now.place.walk ran.now.place.call ran.now.place.next) }
+    requires tally { tally ≡ Ran seat.old.known.number (owner ran.now.place.call.id) }
+    requires count { count ≡ (ran_tally seat.old.known.part (owner ran.now.place.call.id) + 1) % 2 ^ 64 }
+    requires of { ran.now.begun.call.value ≡ ran.now.place.call }
+    requires heard { H.leads ran.now.begun.before.value (heard_of ran.now.place.call) ran.now.handler.now }
+    ensures at { InHandle words.entry.shared.now.table_id seat.new (handle.EndSync ran.now.place.walk ran.now.place.call ran.now.place.next) }
+    ensures known { seat.new.known ≡ counted_sync ran.now.place.walk ran.now.place.call ran.now.place.next seat.old.known }
 {
-    let _ = handler;
-    let _ = begun;
+    let _ = ran;
     store_in_call(words, seat, tally, count);
 }
 
 /// A SYNC call whose function has run ends: its record is unlocked, last of all. Its caller waits for that, and may free what the
 /// function uses as soon as it sees it (`csd_unlock` behind `csd_do_func`).
 #[inline(always)]
-pub fn end_sync<H: Handler>(
-    words: Words,
-    seat: &mut CpuSeat,
-    walk: Walk,
-    call: Call,
-    next: Option<u32>,
-    handler: &H,
-    begun: Begun<H>,
-)
-    requires at { InHandle words.shared.now.table_id seat.old (handle.EndSync walk call next) }
-    requires of { begun.call.value ≡ call }
-    requires heard { H.leads begun.before.value (heard_of call) handler.now }
-    ensures at { InHandle words.entry.shared.now.table_id seat.new (first_on walk next) }
-    ensures known { seat.new.known ≡ ended_call (first_on walk next) call seat.old.known }
+pub fn end_sync<H: Handler>(words: Words, seat: &mut CpuSeat, ran: Returned<'_, SyncPlace, H>)
+    requires at { InHandle words.shared.now.table_id seat.old (handle.EndSync ran.place.walk ran.place.call ran.place.next) }
+    requires of { ran.begun.call.value ≡ ran.place.call }
+    requires heard { H.leads ran.begun.before.value (heard_of ran.place.call) ran.handler.now }
+    ensures at { InHandle words.entry.shared.now.table_id seat.new (first_on ran.entry.place.walk ran.entry.place.next) }
+    ensures known { seat.new.known ≡ ended_call (first_on ran.entry.place.walk ran.entry.place.next) ran.entry.place.call seat.old.known }
 {
-    let _ = handler;
-    store_in_call(words, seat, Word::Flags(call.id), 0);
+    store_in_call(words, seat, Word::Flags(ran.place.call.id), 0);
 }
 
 /// An ASYNC call begins: its record is unlocked. What the CPU is to know of the call was loaded before, since from this store on
@@ -117,21 +124,20 @@ pub fn end_sync<H: Handler>(
 fn begin_async<H: Handler>(
     words: Words,
     seat: &mut CpuSeat,
-    call: Call,
-    next: Option<u32>,
+    place: AsyncPlace,
     handler: &H,
 ) -> Begun<H>
-    requires at { InHandle words.shared.now.table_id seat.old (handle.BeginAsync call next) }
-    requires class { call.class ≡ Class.Async }
-    ensures at { InHandle words.entry.shared.now.table_id seat.new (handle.CountAsync call next) }
-    ensures known { seat.new.known ≡ begun_async call next seat.old.known }
-    ensures unlocked { (s : Sits seat.new.known) × (s.lives.at (Flags call.id) ≡ 0) }
-    ensures of { result.call.value ≡ call }
+    requires at { InHandle words.shared.now.table_id seat.old (handle.BeginAsync place.call place.next) }
+    requires class { place.call.class ≡ Class.Async }
+    ensures at { InHandle words.entry.shared.now.table_id seat.new (handle.CountAsync place.call place.next) }
+    ensures known { seat.new.known ≡ begun_async place.call place.next seat.old.known }
+    ensures unlocked { (s : Sits seat.new.known) × (s.lives.at (Flags place.call.id) ≡ 0) }
+    ensures of { result.call.value ≡ place.call }
     ensures before { result.before.value ≡ handler.now }
 {
-    store_in_call(words, seat, Word::Flags(call.id), 0);
+    store_in_call(words, seat, Word::Flags(place.call.id), 0);
     Begun {
-        call: Noted::of(&call),
+        call: Noted::of(&place.call),
         before: Noted::of(handler),
     }
 }
@@ -143,21 +149,18 @@ pub fn count_async<H: Handler>(
     words: Words,
     seat: &mut CpuSeat,
     tally: Word,
-    call: Call,
-    next: Option<u32>,
     count: u64,
-    handler: &H,
-    begun: Begun<H>,
+    ran: Returned<'_, AsyncPlace, H>,
 )
-    requires at { InHandle words.shared.now.table_id seat.old (handle.CountAsync call next) }
-    requires tally { tally ≡ Ran seat.old.known.number (owner call.id) }
-    requires count { count ≡ (ran_tally seat.old.known.part (owner call.id) + 1) % 2 ^ 64 }
-    requires of { begun.call.value ≡ call }
-    requires heard { H.leads begun.before.value (heard_of call) handler.now }
-    ensures at { InHandle words.entry.shared.now.table_id seat.new (second_on next) }
-    ensures known { seat.new.known ≡ ended_call (second_on next) call seat.old.known }
+    requires at { InHandle words.shared.now.table_id seat.old (handle.CountAsync ran.place.call ran.place.next) }
+    requires tally { tally ≡ Ran seat.old.known.number (owner ran.place.call.id) }
+    requires count { count ≡ (ran_tally seat.old.known.part (owner ran.place.call.id) + 1) % 2 ^ 64 }
+    requires of { ran.begun.call.value ≡ ran.place.call }
+    requires heard { H.leads ran.begun.before.value (heard_of ran.place.call) ran.handler.now }
+    ensures at { InHandle words.entry.shared.now.table_id seat.new (second_on ran.entry.place.next) }
+    ensures known { seat.new.known ≡ ended_call (second_on ran.entry.place.next) ran.entry.place.call seat.old.known }
 {
-    let _ = handler;
+    let _ = ran;
     store_in_call(words, seat, tally, count);
 }
 
@@ -179,18 +182,16 @@ fn give_sync<H: Handler>(
     words: Words,
     seat: &mut CpuSeat,
     number: u32,
-    walk: Walk,
-    call: Call,
-    next: Option<u32>,
+    place: SyncPlace,
     handler: &H,
 ) -> Begun<H>
     requires me { seat.old.known.number ≡ number }
-    requires at { InHandle words.shared.now.table_id seat.old (handle.BeginSync walk call next) }
-    ensures gives { Gives words.entry.shared.now.table_id seat.old seat.new (record { pass = First walk; call = call; next = next }) }
-    ensures of { result.call.value ≡ call }
+    requires at { InHandle words.shared.now.table_id seat.old (handle.BeginSync place.walk place.call place.next) }
+    ensures gives { Gives words.entry.shared.now.table_id seat.old seat.new (record { pass = First place.walk; call = place.call; next = place.next }) }
+    ensures of { result.call.value ≡ place.call }
     ensures before { result.before.value ≡ handler.now }
 {
-    begin_sync(words, seat, number, walk, call, next, handler)
+    begin_sync(words, seat, number, place, handler)
 }
 
 /// An ASYNC call begins and is given out.
@@ -198,16 +199,15 @@ fn give_sync<H: Handler>(
 fn give_async<H: Handler>(
     words: Words,
     seat: &mut CpuSeat,
-    call: Call,
-    next: Option<u32>,
+    place: AsyncPlace,
     handler: &H,
 ) -> Begun<H>
-    requires at { InHandle words.shared.now.table_id seat.old (handle.BeginAsync call next) }
-    ensures gives { Gives words.entry.shared.now.table_id seat.old seat.new (record { pass = Second; call = call; next = next }) }
-    ensures of { result.call.value ≡ call }
+    requires at { InHandle words.shared.now.table_id seat.old (handle.BeginAsync place.call place.next) }
+    ensures gives { Gives words.entry.shared.now.table_id seat.old seat.new (record { pass = Second; call = place.call; next = place.next }) }
+    ensures of { result.call.value ≡ place.call }
     ensures before { result.before.value ≡ handler.now }
 {
-    begin_async(words, seat, call, next, handler)
+    begin_async(words, seat, place, handler)
 }
 
 /// A call begins: the handling word names a SYNC call's record, and an ASYNC call's is unlocked.
@@ -225,11 +225,13 @@ pub(crate) fn begin_call<H: Handler>(
     ensures of { result.call.value ≡ place.call }
     ensures before { result.before.value ≡ handler.now }
 {
-    match place.pass {
+    let Place { pass, call, next } = place;
+    match pass {
         Pass::First(walk) => {
-            give_sync(words, seat, number, walk, place.call, place.next, handler)
+            let place = SyncPlace { walk, call, next };
+            give_sync(words, seat, number, place, handler)
         }
-        Pass::Second => give_async(words, seat, place.call, place.next, handler),
+        Pass::Second => give_async(words, seat, AsyncPlace { call, next }, handler),
     }
 }
 
@@ -240,27 +242,23 @@ fn finish_sync<H: Handler>(
     seat: &mut CpuSeat,
     number: u32,
     counts: &mut [u64],
-    walk: Walk,
-    call: Call,
-    next: Option<u32>,
-    handler: &H,
-    begun: Begun<H>,
+    ran: Returned<'_, SyncPlace, H>,
 )
     requires me { seat.old.known.number ≡ number }
-    requires at { InHandle words.shared.now.table_id seat.old (handle.CountSync walk call next) }
+    requires at { InHandle words.shared.now.table_id seat.old (handle.CountSync ran.place.walk ran.place.call ran.place.next) }
     requires counts { AreRan counts.old seat.old.known }
-    requires in_range { call.id < records }
-    requires of { begun.call.value ≡ call }
-    requires heard { H.leads begun.before.value (heard_of call) handler.now }
-    ensures at { InHandle words.entry.shared.now.table_id seat.new (first_on walk next) }
-    ensures known { seat.new.known ≡ ended_call (first_on walk next) call seat.old.known }
+    requires in_range { ran.place.call.id < records }
+    requires of { ran.begun.call.value ≡ ran.place.call }
+    requires heard { H.leads ran.begun.before.value (heard_of ran.place.call) ran.handler.now }
+    ensures at { InHandle words.entry.shared.now.table_id seat.new (first_on ran.entry.place.walk ran.entry.place.next) }
+    ensures known { seat.new.known ≡ ended_call (first_on ran.entry.place.walk ran.entry.place.next) ran.entry.place.call seat.old.known }
     ensures counts { AreRan counts.new seat.new.known }
 {
-    let source = owner_of(call.id);
+    let source = owner_of(ran.place.call.id);
     let tally = Word::Ran(number, source);
-    let ran = one_more(counts, source);
-    count_sync(words, seat, tally, walk, call, next, ran, handler, &begun);
-    end_sync(words, seat, walk, call, next, handler, begun);
+    let count = one_more(counts, source);
+    count_sync(words, seat, tally, count, &ran);
+    end_sync(words, seat, ran);
 }
 
 /// An ASYNC call whose function has run is counted.
@@ -270,25 +268,22 @@ fn finish_async<H: Handler>(
     seat: &mut CpuSeat,
     number: u32,
     counts: &mut [u64],
-    call: Call,
-    next: Option<u32>,
-    handler: &H,
-    begun: Begun<H>,
+    ran: Returned<'_, AsyncPlace, H>,
 )
     requires me { seat.old.known.number ≡ number }
-    requires at { InHandle words.shared.now.table_id seat.old (handle.CountAsync call next) }
+    requires at { InHandle words.shared.now.table_id seat.old (handle.CountAsync ran.place.call ran.place.next) }
     requires counts { AreRan counts.old seat.old.known }
-    requires in_range { call.id < records }
-    requires of { begun.call.value ≡ call }
-    requires heard { H.leads begun.before.value (heard_of call) handler.now }
-    ensures at { InHandle words.entry.shared.now.table_id seat.new (second_on next) }
-    ensures known { seat.new.known ≡ ended_call (second_on next) call seat.old.known }
+    requires in_range { ran.place.call.id < records }
+    requires of { ran.begun.call.value ≡ ran.place.call }
+    requires heard { H.leads ran.begun.before.value (heard_of ran.place.call) ran.handler.now }
+    ensures at { InHandle words.entry.shared.now.table_id seat.new (second_on ran.entry.place.next) }
+    ensures known { seat.new.known ≡ ended_call (second_on ran.entry.place.next) ran.entry.place.call seat.old.known }
     ensures counts { AreRan counts.new seat.new.known }
 {
-    let source = owner_of(call.id);
+    let source = owner_of(ran.place.call.id);
     let tally = Word::Ran(number, source);
-    let ran = one_more(counts, source);
-    count_async(words, seat, tally, call, next, ran, handler, begun);
+    let count = one_more(counts, source);
+    count_async(words, seat, tally, count, ran);
 }
 
 /// A call whose function has run is counted and ends: a SYNC call's record is unlocked.
@@ -298,28 +293,42 @@ pub(crate) fn end_call<H: Handler>(
     seat: &mut CpuSeat,
     number: u32,
     counts: &mut [u64],
-    place: Place,
-    handler: &H,
-    begun: Begun<H>,
+    ran: Returned<'_, Place, H>,
 )
     requires me { seat.old.known.number ≡ number }
-    requires at { InHandle words.shared.now.table_id seat.old (out_at place) }
+    requires at { InHandle words.shared.now.table_id seat.old (out_at ran.place) }
     requires counts { AreRan counts.old seat.old.known }
-    requires in_range { place.call.id < records }
-    requires of { begun.call.value ≡ place.call }
-    requires heard { H.leads begun.before.value (heard_of place.call) handler.now }
-    ensures at { InHandle words.entry.shared.now.table_id seat.new (goes_from place) }
-    ensures known { seat.new.known ≡ ended_call (goes_from place) place.call seat.old.known }
+    requires in_range { ran.place.call.id < records }
+    requires of { ran.begun.call.value ≡ ran.place.call }
+    requires heard { H.leads ran.begun.before.value (heard_of ran.place.call) ran.handler.now }
+    ensures at { InHandle words.entry.shared.now.table_id seat.new (goes_from ran.entry.place) }
+    ensures known { seat.new.known ≡ ended_call (goes_from ran.entry.place) ran.entry.place.call seat.old.known }
     ensures counts { AreRan counts.new seat.new.known }
 {
-    let call = place.call;
-    let next = place.next;
-    match place.pass {
+    let Returned {
+        place,
+        begun,
+        handler,
+    } = ran;
+    let Place { pass, call, next } = place;
+    match pass {
         Pass::First(walk) => {
-            finish_sync(
-                words, seat, number, counts, walk, call, next, handler, begun,
-            );
+            let place = SyncPlace { walk, call, next };
+            let ran = Returned {
+                place,
+                begun,
+                handler,
+            };
+            finish_sync(words, seat, number, counts, ran);
         }
-        Pass::Second => finish_async(words, seat, number, counts, call, next, handler, begun),
+        Pass::Second => {
+            let place = AsyncPlace { call, next };
+            let ran = Returned {
+                place,
+                begun,
+                handler,
+            };
+            finish_async(words, seat, number, counts, ran);
+        }
     }
 }

@@ -13,7 +13,7 @@ pub returns-clause-run : goal.returns-clause-run
 returns-clause-run g c =
     let begun = c.begin_call-begun.ensures.gives in
     let ended = c.end_call.ensures in
-    ran_one g.H.Handler.leads c.args.words.shared.now.table_id c.args.seat.now c.begin_call-begun.new.seat c.end_call.new.seat c.go_on.new.seat
+    ran_one g.H.Handler.leads c.args.context.words.shared.now.table_id c.args.seat.now c.begin_call-begun.new.seat c.end_call.new.seat c.go_on.new.seat
     c.args.place c.go_on.result c.end_call.new.counts c.args.handler.now c.call.new.self
     c.requires.at.table_is begun ended.at.table_is ended.known ended.counts c.go_on.ensures.at
     (subst (λ (n : ℕ). g.H.Handler.leads c.args.handler.now (heard n c.args.place.call.func c.args.place.call.info) c.call.new.self) c.owner_of.ensures

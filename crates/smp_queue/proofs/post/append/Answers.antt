@@ -33,7 +33,7 @@ pub give_up-requires-clause-stage : goal.give_up-requires-clause-stage
 give_up-requires-clause-stage c = tries_stage c.loop-lost.invariant.1
 
 pub give_up-requires-clause-counted : goal.give_up-requires-clause-counted
-give_up-requires-clause-counted c = tries_tallied c.loop-lost.invariant.1 c.args.number c.args.queued c.requires.counting
+give_up-requires-clause-counted c = tries_tallied c.loop-lost.invariant.1 c.args.sender.number c.args.sender.queued c.requires.counting
 
 pub returns-clause-lost : goal.returns-clause-lost
 returns-clause-lost c = search (tries_left, arith)

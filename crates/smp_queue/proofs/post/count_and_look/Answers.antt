@@ -10,14 +10,14 @@ store-requires c =
     let k = c.requires.counting in
     let p = c.args.posting.now in
     ready_post _ _ p post.Count _ c.requires.mine (sym k.stage) tt
-    (count_access c.args.seat.now.known (counted p) c.args.number c.args.count k.number_is k.count_is) tt
+    (count_access c.args.seat.now.known (counted p) c.args.sender.number c.args.sender.queued k.number_is k.count_is) tt
 
 pub load-requires : goal.load-requires
 load-requires c =
     let k = c.requires.counting in
     let p = c.args.posting.now in
     let v = c.args.seat.now.known in
-    let known = count_known v c.store.new.seat.known v c.args.number p.to ((c.args.count + 1) % 2 ^ 64) (uncounted p) c.store.ensures.known
+    let known = count_known v c.store.new.seat.known v c.args.sender.number p.to ((c.args.sender.queued + 1) % 2 ^ 64) (uncounted p) c.store.ensures.known
     (stands_as v (uncounted p) post.Count k.stage) in
     ready_post _ _ p post.LoadHead _ (mine_moved _ _ _ _ _ c.requires.mine c.store.ensures.table known refl) (sym (ap (λ u. u.stage) known)) tt refl tt
 

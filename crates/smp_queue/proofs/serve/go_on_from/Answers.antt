@@ -18,7 +18,7 @@ end_call-requires-clause-at c =
 
 pub next_of-requires-clause-kept : goal.next_of-requires-clause-kept
 next_of-requires-clause-kept c =
-    let s0 = c.serving.inside.seat in
+    let s0 = c.serving.inside.cpu.seat in
     let s1 = c.end_call.new.seat in
     let place = c.serving.inside.place in
     let table = c.end_call.ensures.at.table_is ∙ sym (ap (λ (s : ServingValue). s.cpu.table) c.serving.view_is ∙ c.requires.table) in
@@ -32,7 +32,7 @@ next_of-requires-clause-at c = at_stands _ _ _ c.go_on-found.result c.go_on-foun
 
 pub returns : goal.returns
 returns c =
-    let s0 = c.serving.inside.seat in
+    let s0 = c.serving.inside.cpu.seat in
     let s1 = c.end_call.new.seat in
     let place = c.serving.inside.place in
     let table = c.end_call.ensures.at.table_is ∙ sym (ap (λ (s : ServingValue). s.cpu.table) c.serving.view_is ∙ c.requires.table) in

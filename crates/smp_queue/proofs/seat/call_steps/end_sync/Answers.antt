@@ -6,5 +6,5 @@ use Rattle.smp_queue.proofs.seat.call_steps.end_sync.Goals as goal
 pub returns-clause-known : goal.returns-clause-known
 returns-clause-known g c =
     let at = c.requires.at in
-    let k = lives_stands at.lives (handle.EndSync c.args.walk c.args.call c.args.next) at.stage_is in
-    c.store_in_call.ensures.known ∙ ended_sync_is _ c.args.walk c.args.call c.args.next at.stage_is k.1.running_is
+    let k = lives_stands at.lives (handle.EndSync c.args.ran.place.walk c.args.ran.place.call c.args.ran.place.next) at.stage_is in
+    c.store_in_call.ensures.known ∙ ended_sync_is _ c.args.ran.place.walk c.args.ran.place.call c.args.ran.place.next at.stage_is k.1.running_is

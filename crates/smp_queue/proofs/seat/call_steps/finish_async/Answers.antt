@@ -7,13 +7,13 @@ use Rattle.smp_queue.proofs.Handling.Running.{tally_running, more_ran}
 use Rattle.smp_queue.specs.handle
 use Rattle.smp_queue.proofs.seat.call_steps.finish_async.Goals as goal
 
-pub one_more-ran-requires : goal.one_more-ran-requires
-one_more-ran-requires g c = search (owner-below, arith)
+pub one_more-count-requires : goal.one_more-count-requires
+one_more-count-requires g c = search (owner-below, arith)
 
 pub count_async-requires-clause-count : goal.count_async-requires-clause-count
 count_async-requires-clause-count g c =
     let at = c.requires.at in
-    let k = lives_stands at.lives (handle.CountAsync c.args.call c.args.next) at.stage_is in
+    let k = lives_stands at.lives (handle.CountAsync c.args.ran.place.call c.args.ran.place.next) at.stage_is in
     search (owner-below, tally_running, k.1.running_is, arith)
 
 pub returns-clause-known : goal.returns-clause-known
@@ -21,10 +21,11 @@ returns-clause-known g c = c.count_async.ensures.known
 
 pub returns-clause-counts : goal.returns-clause-counts
 returns-clause-counts g c =
+    let p = c.args.ran.place in
     let known = c.count_async.ensures.known in
-    let is : c.one_more-ran.new.counts ≡ set c.args.counts.now (owner c.args.call.id) ((get_or c.args.counts.now (owner c.args.call.id) 0 + 1) % 2 ^ 64) =
-    c.one_more-ran.ensures.counts ∙
-    (ap (set c.args.counts.now c.owner_of-source.result) c.one_more-ran.ensures.count
+    let is : c.one_more-count.new.counts ≡ set c.args.counts.now (owner p.call.id) ((get_or c.args.counts.now (owner p.call.id) 0 + 1) % 2 ^ 64) =
+    c.one_more-count.ensures.counts ∙
+    (ap (set c.args.counts.now c.owner_of-source.result) c.one_more-count.ensures.count
     ∙ ap (λ (n : ℕ). set c.args.counts.now n ((get_or c.args.counts.now n 0 + 1) % 2 ^ 64)) c.owner_of-source.ensures) in
-    more_ran c.args.counts.now _ c.args.seat.now.known c.count_async.new.seat.known c.args.call c.requires.counts c.requires.in_range
+    more_ran c.args.counts.now _ c.args.seat.now.known c.count_async.new.seat.known p.call c.requires.counts c.requires.in_range
     (ap (λ (u : Known). u.part.ran) known) is
