@@ -12,6 +12,7 @@ ghost use Rattle.smp_calls.specs.Families.{IsSized, AreConfirmed, HandlesNone};
 ghost use Rattle.smp_calls.specs.Rounds.{only_if, Queues, Sends, WaitsFor, QueuesEach};
 ghost use Rattle.smp_calls.specs.Turns.{LooksFor, MakesMore};
 
+use crate::context::CallContext;
 use crate::queue::{Job, interrupt, queue};
 use crate::records::many_record;
 use crate::wait::wait_for;
@@ -20,33 +21,45 @@ use smp_queue::{CallCpu, CallTable, Handler};
 use std::alloc::Allocator;
 use std::sync::Wait;
 
+/// A destination of calls to many, and whether a call is asked for.
+#[derive(Clone, Copy)]
+struct Candidate {
+    to: u32,
+    asked: bool,
+}
+
+/// Calls to many CPUs: which ones, and what is asked of each.
+#[derive(Clone, Copy)]
+pub(crate) struct ManyCalls {
+    pub(crate) others: CpuMask,
+    pub(crate) job: Job,
+}
+
 /// Queues one of many calls, once the record for its destination is free, where it is `asked` for: whether the
 /// queue was empty.
 fn queue_if<A: Allocator, R: Wait, H: Handler>(
-    table: &CallTable<A>,
-    rt: &R,
+    context: CallContext<A, R>,
     me: &mut CallCpu,
     handler: &mut H,
-    to: u32,
+    candidate: Candidate,
     job: Job,
-    asked: bool,
 ) -> bool
-    requires table { me.old.table ≡ table.now.table }
+    requires table { me.old.table ≡ context.table.now.table }
     requires sized { IsSized me.old }
-    requires limits { AreLimits table.now.nr table.now.online }
-    requires online { has table.now.online to ≡ true }
-    requires other { to ≢ me.old.number }
-    ensures queued { (queued : List Queued) × (destinations queued ≡ only_if asked to) × (firsts queued ≡ only_if result to)
+    requires limits { AreLimits context.table.now.nr context.table.now.online }
+    requires online { has context.table.now.online candidate.to ≡ true }
+    requires other { candidate.to ≢ me.old.number }
+    ensures queued { (queued : List Queued) × (destinations queued ≡ only_if candidate.asked candidate.to) × (firsts queued ≡ only_if result candidate.to)
         × Queues H.leads me.old handler.old me.new handler.new (many_call me.old.number job.class job.func job.info) queued }
-    ensures turns { MakesMore me.old me.new (6 * length (only_if asked to)) }
-    ensures at_once { confirmed_at me.old (many_record_in to) ≡ true → HandlesNone me.old me.new × (handler.new ≡ handler.old) }
+    ensures turns { MakesMore me.old me.new (6 * length (only_if candidate.asked candidate.to)) }
+    ensures at_once { confirmed_at me.old (many_record_in candidate.to) ≡ true → HandlesNone me.old me.new × (handler.new ≡ handler.old) }
 {
-    if !asked {
+    if !candidate.asked {
         return false;
     }
-    let k = many_record(to);
-    wait_for(table, rt, me, handler, k);
-    queue(table, rt, me, k, to, job)
+    let k = many_record(candidate.to);
+    wait_for(context, me, handler, k);
+    queue(context, me, k, candidate.to, job)
 }
 
 /// The mask, without the CPU unless that is kept.
@@ -60,29 +73,29 @@ pub(crate) fn without_unless(mask: CpuMask, cpu: u32, keep: bool) -> CpuMask
 /// Asks the condition of each of these CPUs, ascending, and queues a call for each that it holds of, just after:
 /// for which CPUs, and which of these are owed an interrupt.
 pub(crate) fn queue_each<A: Allocator, R: Wait, H: Handler, C: Fn(u32, u64) -> bool>(
-    table: &CallTable<A>,
-    rt: &R,
+    context: CallContext<A, R>,
     me: &mut CallCpu,
     handler: &mut H,
-    others: CpuMask,
-    job: Job,
+    calls: ManyCalls,
     cond: &C,
 ) -> (CpuMask, CpuMask)
-    requires table { me.old.table ≡ table.now.table }
+    requires table { me.old.table ≡ context.table.now.table }
     requires sized { IsSized me.old }
-    requires limits { AreLimits table.now.nr table.now.online }
-    requires online { (c : ℕ) → has others c ≡ true → (has table.now.online c ≡ true) × (c ≢ me.old.number) }
-    requires condition { (c : ℕ) → c < cpus → C.pre cond.now c job.info }
-    ensures queued { QueuesEach H.leads me.old handler.old me.new handler.new (λ c answer. C.post cond.now c job.info answer)
-        (many_call me.old.number job.class job.func job.info) others result.0 result.1 }
+    requires limits { AreLimits context.table.now.nr context.table.now.online }
+    requires online { (c : ℕ) → has calls.others c ≡ true → (has context.table.now.online c ≡ true) × (c ≢ me.old.number) }
+    requires condition { (c : ℕ) → c < cpus → C.pre cond.now c calls.job.info }
+    ensures queued { QueuesEach H.leads me.old handler.old me.new handler.new (λ c answer. C.post cond.now c calls.job.info answer)
+        (many_call me.old.number calls.job.class calls.job.func calls.job.info) calls.others result.0 result.1 }
     ensures turns { MakesMore me.old me.new (6 * length (members result.0)) }
-    ensures at_once { AreConfirmed me.old (has others) → HandlesNone me.old me.new × (handler.new ≡ handler.old) }
+    ensures at_once { AreConfirmed me.old (has calls.others) → HandlesNone me.old me.new × (handler.new ≡ handler.old) }
 {
+    let ManyCalls { others, job } = calls;
     let mut called = others;
     let mut owed = others;
     for cpu in others.iter() {
         let asked = cond(cpu, job.info);
-        let first = queue_if(table, rt, me, handler, cpu, job, asked);
+        let candidate = Candidate { to: cpu, asked };
+        let first = queue_if(context, me, handler, candidate, job);
         called = without_unless(called, cpu, asked);
         owed = without_unless(owed, cpu, first);
     }
@@ -102,20 +115,19 @@ pub(crate) fn send_each<A: Allocator>(table: &CallTable<A>, me: &mut CallCpu, ow
 
 /// Waits for the record for calls to many of each of these CPUs, which are online.
 pub(crate) fn wait_each<A: Allocator, R: Wait, H: Handler>(
-    table: &CallTable<A>,
-    rt: &R,
+    context: CallContext<A, R>,
     me: &mut CallCpu,
     handler: &mut H,
     called: CpuMask,
 )
-    requires table { me.old.table ≡ table.now.table }
+    requires table { me.old.table ≡ context.table.now.table }
     requires sized { IsSized me.old }
-    requires limits { AreLimits table.now.nr table.now.online }
-    requires online { (c : ℕ) → has called c ≡ true → has table.now.online c ≡ true }
+    requires limits { AreLimits context.table.now.nr context.table.now.online }
+    requires online { (c : ℕ) → has called c ≡ true → has context.table.now.online c ≡ true }
     ensures waited { WaitsFor H.leads me.old handler.old me.new handler.new (members called) true }
     ensures turns { LooksFor me.old me.new (length (members called)) }
 {
     for cpu in called.iter() {
-        wait_for(table, rt, me, handler, many_record(cpu));
+        wait_for(context, me, handler, many_record(cpu));
     }
 }

@@ -18,6 +18,7 @@
 mod any;
 mod caller;
 mod caller_within;
+mod context;
 mod each;
 pub mod laws;
 mod linux_names;

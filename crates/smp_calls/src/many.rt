@@ -12,7 +12,8 @@ ghost use Rattle.smp_calls.specs.Families.{IsSized, IsLast, AreConfirmed, Handle
 ghost use Rattle.smp_calls.specs.Rounds.{WaitsFor, Picks, HearsIf, noted_if};
 ghost use Rattle.smp_calls.specs.Turns.{LooksFor, MakesMore, HasTurns};
 
-use crate::each::{queue_each, send_each, wait_each};
+use crate::context::CallContext;
+use crate::each::{ManyCalls, queue_each, send_each, wait_each};
 use crate::queue::Job;
 use crate::records::class_for;
 use crate::target::targets;
@@ -25,48 +26,45 @@ use std::sync::Wait;
 /// Queues a call for each of these CPUs that the condition holds of, and then sends all interrupts that are
 /// owed: the CPUs called.
 pub(crate) fn queue_all<A: Allocator, R: Wait, H: Handler, C: Fn(u32, u64) -> bool>(
-    table: &CallTable<A>,
-    rt: &R,
+    context: CallContext<A, R>,
     me: &mut CallCpu,
     handler: &mut H,
-    others: CpuMask,
-    job: Job,
+    calls: ManyCalls,
     cond: &C,
 ) -> CpuMask
-    requires table { me.old.table ≡ table.now.table }
+    requires table { me.old.table ≡ context.table.now.table }
     requires sized { IsSized me.old }
-    requires limits { AreLimits table.now.nr table.now.online }
-    requires online { (c : ℕ) → has others c ≡ true → (has table.now.online c ≡ true) × (c ≢ me.old.number) }
-    requires condition { (c : ℕ) → c < cpus → C.pre cond.now c job.info }
-    ensures picks { Picks (λ c answer. C.post cond.now c job.info answer) (has others) result }
-    ensures calls { CallsMany H.leads me.old handler.old me.new handler.new (members result) job.class job.func job.info None false }
+    requires limits { AreLimits context.table.now.nr context.table.now.online }
+    requires online { (c : ℕ) → has calls.others c ≡ true → (has context.table.now.online c ≡ true) × (c ≢ me.old.number) }
+    requires condition { (c : ℕ) → c < cpus → C.pre cond.now c calls.job.info }
+    ensures picks { Picks (λ c answer. C.post cond.now c calls.job.info answer) (has calls.others) result }
+    ensures calls { CallsMany H.leads me.old handler.old me.new handler.new (members result) calls.job.class calls.job.func calls.job.info None false }
     ensures last { IsLast me.old me.new (members result) }
     ensures turns { MakesMore me.old me.new (6 * length (members result)) }
-    ensures at_once { AreConfirmed me.old (has others) → HandlesNone me.old me.new × (handler.new ≡ handler.old) }
+    ensures at_once { AreConfirmed me.old (has calls.others) → HandlesNone me.old me.new × (handler.new ≡ handler.old) }
 {
-    let (called, owed) = queue_each(table, rt, me, handler, others, job, cond);
-    send_each(table, me, owed);
+    let (called, owed) = queue_each(context, me, handler, calls, cond);
+    send_each(context.table, me, owed);
     called
 }
 
 /// Where the calls are to be waited for, waits for that to each of these CPUs, which are online.
 fn wait_all<A: Allocator, R: Wait, H: Handler>(
-    table: &CallTable<A>,
-    rt: &R,
+    context: CallContext<A, R>,
     me: &mut CallCpu,
     handler: &mut H,
     called: CpuMask,
     wait: bool,
 )
-    requires table { me.old.table ≡ table.now.table }
+    requires table { me.old.table ≡ context.table.now.table }
     requires sized { IsSized me.old }
-    requires limits { AreLimits table.now.nr table.now.online }
-    requires online { (c : ℕ) → has called c ≡ true → has table.now.online c ≡ true }
+    requires limits { AreLimits context.table.now.nr context.table.now.online }
+    requires online { (c : ℕ) → has called c ≡ true → has context.table.now.online c ≡ true }
     ensures waited { WaitsFor H.leads me.old handler.old me.new handler.new (members called) wait }
     ensures turns { LooksFor me.old me.new (if wait then length (members called) else 0) }
 {
     if wait {
-        wait_each(table, rt, me, handler, called);
+        wait_each(context, me, handler, called);
     }
 }
 
@@ -85,16 +83,15 @@ fn call_if<A: Allocator, H: Handler>(
     table: &CallTable<A>,
     me: &mut CallCpu,
     handler: &mut H,
-    func: u16,
-    info: u64,
+    job: Job,
     here: bool,
 )
     requires table { me.old.table ≡ table.now.table }
-    ensures called { HearsIf H.leads handler.old (if here then Some (heard me.old.number func info) else None) handler.new }
-    ensures noted { me.new ≡ noted_if (if here then Some (heard me.old.number func info) else None) me.old }
+    ensures called { HearsIf H.leads handler.old (if here then Some (heard me.old.number job.func job.info) else None) handler.new }
+    ensures noted { me.new ≡ noted_if (if here then Some (heard me.old.number job.func job.info) else None) me.old }
 {
     if here {
-        table.call_here(me, handler, func, info);
+        table.call_here(me, handler, job.func, job.info);
     }
 }
 
@@ -137,8 +134,10 @@ pub fn call_many<A: Allocator, R: Wait, H: Handler>(
     let others = targets(mask, table.online(), me.number(), false);
     let class = class_for(wait);
     let job = Job { class, func, info };
-    let called = queue_all(table, rt, me, handler, others, job, &|_, _| true);
-    wait_all(table, rt, me, handler, called, wait);
+    let context = CallContext { table, rt };
+    let calls = ManyCalls { others, job };
+    let called = queue_all(context, me, handler, calls, &|_, _| true);
+    wait_all(context, me, handler, called, wait);
     me.is_shown();
     others
 }
@@ -174,10 +173,12 @@ pub fn each_cpu_cond<A: Allocator, R: Wait, H: Handler, C: Fn(u32, u64) -> bool>
     let others = targets(mask, table.online(), this, false);
     let class = class_for(wait);
     let job = Job { class, func, info };
-    let called = queue_all(table, rt, me, handler, others, job, cond);
+    let context = CallContext { table, rt };
+    let calls = ManyCalls { others, job };
+    let called = queue_all(context, me, handler, calls, cond);
     let here = runs_here(mask, this, info, cond);
-    call_if(table, me, handler, func, info, here);
-    wait_all(table, rt, me, handler, called, wait);
+    call_if(table, me, handler, job, here);
+    wait_all(context, me, handler, called, wait);
     me.is_shown();
     with_if(called, this, here)
 }

@@ -4,6 +4,8 @@ ghost use Rattle.std.specs.Prelude.{◌≡◌, ℕ, false};
 ghost use Rattle.smp_calls.specs.Targets.{is_target};
 ghost use Rattle.smp_calls.specs.Within.{CallsWithin};
 
+use crate::context::CallContext;
+use crate::each::ManyCalls;
 use crate::many::queue_all;
 use crate::queue::Job;
 use crate::target::targets;
@@ -52,11 +54,13 @@ pub fn call_many_within<A: Allocator, R: Wait, H: Handler>(
         (is_target mask table.now.online me.old.number false) result.called result.silent polls }
 {
     let others = targets(mask, table.online(), me.number(), false);
-    let (free, busy) = wait_within(table, rt, me, handler, others, polls);
+    let context = CallContext { table, rt };
+    let (free, busy) = wait_within(context, me, handler, others, polls);
     let class = Class::Sync;
     let job = Job { class, func, info };
-    queue_all(table, rt, me, handler, free, job, &|_, _| true);
-    let (_, silent) = wait_within(table, rt, me, handler, free, polls);
+    let calls = ManyCalls { others: free, job };
+    queue_all(context, me, handler, calls, &|_, _| true);
+    let (_, silent) = wait_within(context, me, handler, free, polls);
     me.is_shown();
     Within {
         called: free,

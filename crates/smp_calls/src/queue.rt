@@ -5,6 +5,7 @@ ghost use Rattle.smp_mask.specs.Mask.{has};
 ghost use Rattle.smp_call_steps.specs.Heads.{Found};
 ghost use Rattle.smp_queue.specs.Cpu.{confirmed_at, misused, posts, sends};
 
+use crate::context::CallContext;
 use smp_queue::{CallCpu, CallTable};
 use smp_words::call::Class;
 use std::alloc::Allocator;
@@ -20,19 +21,19 @@ pub(crate) struct Job {
 
 /// Queues one call by a record that is confirmed: whether the queue was empty, so that an interrupt is owed.
 pub(crate) fn queue<A: Allocator, R: Wait>(
-    table: &CallTable<A>,
-    rt: &R,
+    context: CallContext<A, R>,
     me: &mut CallCpu,
     k: u32,
     to: u32,
     job: Job,
 ) -> bool
-    requires table { me.old.table ≡ table.now.table }
-    requires lawful { misused table.now.nr me.old k to job.class 1 ≡ false }
-    requires online { has table.now.online to ≡ true }
+    requires table { me.old.table ≡ context.table.now.table }
+    requires lawful { misused context.table.now.nr me.old k to job.class 1 ≡ false }
+    requires online { has context.table.now.online to ≡ true }
     requires free { confirmed_at me.old k ≡ true }
     ensures { (found : Found) × (me.new ≡ posts k to job.class job.func job.info result found me.old) }
 {
+    let CallContext { table, rt } = context;
     match table.post(rt, me, k, to, job.class, job.func, job.info) {
         Ok(first) => first,
         Err(_) => unreachable!(),
@@ -54,21 +55,20 @@ pub(crate) fn interrupt<A: Allocator>(table: &CallTable<A>, me: &mut CallCpu, to
 /// Queues one call by a record that is confirmed, and sends the interrupt where it is owed
 /// (`kernel/smp.c: __smp_call_single_queue`).
 pub(crate) fn queue_and_send<A: Allocator, R: Wait>(
-    table: &CallTable<A>,
-    rt: &R,
+    context: CallContext<A, R>,
     me: &mut CallCpu,
     k: u32,
     to: u32,
     job: Job,
 )
-    requires table { me.old.table ≡ table.now.table }
-    requires lawful { misused table.now.nr me.old k to job.class 1 ≡ false }
-    requires online { has table.now.online to ≡ true }
+    requires table { me.old.table ≡ context.table.now.table }
+    requires lawful { misused context.table.now.nr me.old k to job.class 1 ≡ false }
+    requires online { has context.table.now.online to ≡ true }
     requires free { confirmed_at me.old k ≡ true }
     ensures { (first : Bool) × (found : Found)
         × (me.new ≡ let posted = posts k to job.class job.func job.info first found me.old in if first then sends to posted else posted) }
 {
-    if queue(table, rt, me, k, to, job) {
-        interrupt(table, me, to);
+    if queue(context, me, k, to, job) {
+        interrupt(context.table, me, to);
     }
 }

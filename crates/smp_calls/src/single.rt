@@ -9,6 +9,7 @@ ghost use Rattle.smp_calls.specs.Ended.{HaveEnded};
 ghost use Rattle.smp_calls.specs.Families.{IsSized, Awaits, CallsOne, CallsHere, QueuesNone};
 ghost use Rattle.smp_calls.specs.Turns.{HasTurns};
 
+use crate::context::CallContext;
 use crate::queue::{Job, queue_and_send};
 use crate::records::{ASYNC_RECORD, class_for, single_record};
 use crate::wait::wait_for;
@@ -18,68 +19,70 @@ use smp_words::call::Class;
 use std::alloc::Allocator;
 use std::sync::Wait;
 
+/// A call to one CPU: its function, the info, and whether it is waited for.
+#[derive(Clone, Copy)]
+struct OneCall {
+    func: u16,
+    info: u64,
+    wait: bool,
+}
+
 /// Waits for the async record where the call is not to be waited for.
 fn free_async<A: Allocator, R: Wait, H: Handler>(
-    table: &CallTable<A>,
-    rt: &R,
+    context: CallContext<A, R>,
     me: &mut CallCpu,
     handler: &mut H,
     wait: bool,
 )
-    requires table { me.old.table ≡ table.now.table }
+    requires table { me.old.table ≡ context.table.now.table }
     requires sized { IsSized me.old }
     ensures none { QueuesNone H.leads me.old handler.old me.new handler.new wait }
     ensures waited { wait ≡ true → (me.new ≡ me.old) × (handler.new ≡ handler.old) }
     ensures turns { wait ≡ false → Awaits 1 me.old handler.old me.new handler.new }
 {
     if !wait {
-        wait_for(table, rt, me, handler, ASYNC_RECORD);
+        wait_for(context, me, handler, ASYNC_RECORD);
     }
 }
 
 /// Runs the function on this CPU.
 fn call_here<A: Allocator, R: Wait, H: Handler>(
-    table: &CallTable<A>,
-    rt: &R,
+    context: CallContext<A, R>,
     me: &mut CallCpu,
     handler: &mut H,
-    func: u16,
-    info: u64,
-    wait: bool,
+    call: OneCall,
 )
-    requires table { me.old.table ≡ table.now.table }
+    requires table { me.old.table ≡ context.table.now.table }
     requires sized { IsSized me.old }
-    ensures here { CallsHere H.leads me.old handler.old me.new handler.new func info wait }
-    ensures at_once { wait ≡ true → (me.new ≡ notes_call me.old) × H.leads handler.old (heard me.old.number func info) handler.new }
+    ensures here { CallsHere H.leads me.old handler.old me.new handler.new call.func call.info call.wait }
+    ensures at_once { call.wait ≡ true → (me.new ≡ notes_call me.old) × H.leads handler.old (heard me.old.number call.func call.info) handler.new }
 {
-    free_async(table, rt, me, handler, wait);
-    table.call_here(me, handler, func, info);
+    free_async(context, me, handler, call.wait);
+    context.table.call_here(me, handler, call.func, call.info);
 }
 
 /// Queues the call for another CPU, which is online.
 fn call_there<A: Allocator, R: Wait, H: Handler>(
-    table: &CallTable<A>,
-    rt: &R,
+    context: CallContext<A, R>,
     me: &mut CallCpu,
     handler: &mut H,
     to: u32,
-    func: u16,
-    info: u64,
-    wait: bool,
+    call: OneCall,
 )
-    requires table { me.old.table ≡ table.now.table }
+    requires table { me.old.table ≡ context.table.now.table }
     requires sized { IsSized me.old }
     requires other { to ≢ me.old.number }
-    requires online { has table.now.online to ≡ true }
-    ensures called { CallsOne H.leads me.old handler.old me.new handler.new to func info wait }
-    ensures turns { HasTurns me.old me.new 1 wait }
+    requires online { has context.table.now.online to ≡ true }
+    ensures called { CallsOne H.leads me.old handler.old me.new handler.new to call.func call.info call.wait }
+    ensures turns { HasTurns me.old me.new 1 call.wait }
 {
+    let OneCall { func, info, wait } = call;
     let k = single_record(wait);
     let class = class_for(wait);
-    wait_for(table, rt, me, handler, k);
-    queue_and_send(table, rt, me, k, to, Job { class, func, info });
+    wait_for(context, me, handler, k);
+    queue_and_send(context, me, k, to, Job { class, func, info });
     if wait {
-        wait_for(table, rt, me, handler, k);
+        wait_for(context, me, handler, k);
     }
 }
 
@@ -119,15 +122,17 @@ pub fn call_single<A: Allocator, R: Wait, H: Handler>(
     ensures ended { IfOk result (λ _. wait ≡ true → dst ≢ me.old.number →
         HaveEnded me.new (λ _. call_by me.old.number (single_record_in true) Class.Sync func info) (dst ∷ [])) }
 {
+    let context = CallContext { table, rt };
+    let call = OneCall { func, info, wait };
     if dst == me.number() {
-        call_here(table, rt, me, handler, func, info, wait);
+        call_here(context, me, handler, call);
         return Ok(());
     }
     if !table.online().contains(dst) {
-        free_async(table, rt, me, handler, wait);
+        free_async(context, me, handler, wait);
         return Err(SmpError::NoCpu);
     }
-    call_there(table, rt, me, handler, dst, func, info, wait);
+    call_there(context, me, handler, dst, call);
     me.is_shown();
     Ok(())
 }

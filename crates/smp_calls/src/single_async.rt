@@ -6,6 +6,7 @@ ghost use Rattle.smp_queue.specs.Handling.{heard};
 ghost use Rattle.smp_calls.specs.Records.{user_record as user_record_in};
 ghost use Rattle.smp_calls.specs.Families.{CallsBy, CallsUserHere, RefusesUser, HandlesNone};
 
+use crate::context::CallContext;
 use crate::queue::{Job, queue_and_send};
 use crate::records::{USER_RECORDS, user_record};
 use crate::wait::is_done;
@@ -59,6 +60,7 @@ pub fn call_async<A: Allocator, R: Wait, H: Handler>(
         return Err(SmpError::NoCpu);
     }
     let class = Class::Async;
-    queue_and_send(table, rt, me, k, dst, Job { class, func, info });
+    let job = Job { class, func, info };
+    queue_and_send(CallContext { table, rt }, me, k, dst, job);
     Ok(())
 }

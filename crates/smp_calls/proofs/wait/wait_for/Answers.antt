@@ -11,7 +11,7 @@ loop-init g c = (leaves_none g.H.Handler.leads c.args.me.now c.args.handler.now,
 
 pub returns-then-is_done-clause-left : goal.returns-then-is_done-clause-left
 returns-then-is_done-clause-left g c = leaves_ended g.H.Handler.leads c.args.me.now c.loop.me c.is_done.new.me c.args.handler.now c.loop.handler c.args.k
-    c.requires.sized (record_below c.args.table.now.nr c.args.k c.requires.record) c.loop.invariant.0 c.if-is_done.ensures.known
+    c.requires.sized (record_below c.args.context.table.now.nr c.args.k c.requires.record) c.loop.invariant.0 c.if-is_done.ensures.known
 
 pub returns-then-is_done-clause-turns : goal.returns-then-is_done-clause-turns
 returns-then-is_done-clause-turns g c = waiting_ended c.args.k c.args.me.now c.loop.me c.is_done.new.me c.args.handler.now c.loop.handler

@@ -6,7 +6,7 @@ use Rattle.smp_calls.proofs.wait_within.poll_until.Goals as goal
 pub returns-then-is_done-clause-left : goal.returns-then-is_done-clause-left
 returns-then-is_done-clause-left g c =
     polling_looked g.H.Handler.leads c.args.me.now c.loop-made.me c.is_done.new.me c.args.handler.now c.loop-made.handler c.loop-made.made c.args.k true
-    c.requires.sized (record_below c.args.table.now.nr c.args.k c.requires.record) c.loop-made.invariant.0 c.if-is_done.ensures.known
+    c.requires.sized (record_below c.args.context.table.now.nr c.args.k c.requires.record) c.loop-made.invariant.0 c.if-is_done.ensures.known
 
 pub returns-then-is_done-clause-at_once : goal.returns-then-is_done-clause-at_once
 returns-then-is_done-clause-at_once g c confirmed =
@@ -16,7 +16,7 @@ returns-then-is_done-clause-at_once g c confirmed =
 pub loop-made-preserved : goal.loop-made-preserved
 loop-made-preserved g c = (
   polling_more g.H.Handler.leads c.args.k c.args.me.now c.loop-made.me c.is_done.new.me c.handle_own.new.me c.args.handler.now c.loop-made.handler
-      c.handle_own.new.handler c.loop-made.made (record_below c.args.table.now.nr c.args.k c.requires.record) c.loop-made.invariant.0
+      c.handle_own.new.handler c.loop-made.made (record_below c.args.context.table.now.nr c.args.k c.requires.record) c.loop-made.invariant.0
       (c.if-is_done.ensures.locked refl) c.if-is_done.ensures.known c.handle_own.ensures.left c.handle_own.ensures.once,
   let below = c.loop-made-test.true in omega arith,
 )
@@ -24,7 +24,7 @@ loop-made-preserved g c = (
 pub returns-clause-left : goal.returns-clause-left
 returns-clause-left g c =
     polling_looked g.H.Handler.leads c.args.me.now c.loop-made.me c.is_done-done.new.me c.args.handler.now c.loop-made.handler c.loop-made.made c.args.k
-    c.is_done-done.result c.requires.sized (record_below c.args.table.now.nr c.args.k c.requires.record) c.loop-made.invariant.0
+    c.is_done-done.result c.requires.sized (record_below c.args.context.table.now.nr c.args.k c.requires.record) c.loop-made.invariant.0
     c.is_done-done.ensures.known
 
 pub returns-clause-at_once : goal.returns-clause-at_once
