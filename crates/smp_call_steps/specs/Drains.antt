@@ -5,7 +5,7 @@ use Rattle.smp_words.specs.Flags.{class_of}
 use Rattle.smp_call_steps.specs.Posts.{go_on, ends}
 use Rattle.smp_words.specs.declared.size.TheConstants.{MOST_CALLS}
 use Rattle.smp_call_steps.specs.Names.{Call, Class, Sync, Async, Head, Intr, Hand, Ran, Flags, Func, Info, Next, Access, Load, Store, Swap, Walk, HandleStage}
-use Rattle.smp_call_steps.specs.Names.{Outcome, Handle}
+use Rattle.smp_call_steps.specs.Names.{CallOutcome, Handle}
 use Rattle.smp_call_steps.specs.Names.note
 use Rattle.smp_call_steps.specs.Names.handle
 
@@ -56,11 +56,11 @@ source_at (handle.CountAsync call next) = owner call.id
 source_at _ = 0
 
 -- handle goes on with this stage, and the step has no note
-abbrev pub handle_goes : HandleStage → Outcome
+abbrev pub handle_goes : HandleStage → CallOutcome
 handle_goes stage = go_on (Handle stage)
 
 -- the function of this call runs after the step
-abbrev pub calling : HandleStage → Call → Outcome
+abbrev pub calling : HandleStage → Call → CallOutcome
 calling next call = record { next = Some (Handle next); note = Some (note.Call (owner call.id) call.func call.info) }
 
 -- the second pass goes on with this record, or all has run
@@ -89,7 +89,7 @@ unlink_after None walk call next = handle.BeginSync (record { first = next; last
 unlink_after (Some last) walk call next = handle.Unlink walk last call next
 
 -- what follows, by the number that the step found
-abbrev pub handle_outcome : DrainValue → HandleStage → ℕ → Outcome
+abbrev pub handle_outcome : DrainValue → HandleStage → ℕ → CallOutcome
 handle_outcome d handle.Enter found = handle_goes handle.Accept
 handle_outcome d handle.Accept found = if found == 0 then handle_goes handle.LeaveIdle else handle_goes handle.Take
 handle_outcome d handle.LeaveIdle found = ends note.Idle

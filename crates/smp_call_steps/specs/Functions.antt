@@ -24,11 +24,11 @@ place_as Sync me = place.Running me
 place_as Async me = place.Free
 
 -- what a step may tell of functions: the call that each CPU runs, and those that have ended there
-pub record Told : Type 0 where
+pub record ToldCalls : Type 0 where
   pub running : ℕ → Running
   pub ran : ℕ → List Call
 
-abbrev pub told_of : CallState → Told
+abbrev pub told_of : CallState → ToldCalls
 told_of a = record { running = a.running; ran = a.ran }
 
 -- whether the note says that a function runs
@@ -69,7 +69,7 @@ abbrev pub FunctionGoes : CallState → CallState → ℕ → Option Note → Ty
 FunctionGoes a b me said = Silent a b said ⊎ BeginsIt a b me said ⊎ CountsIt a b me said ⊎ EndsIt a b me said
 
 -- the calls that have begun at a CPU: those that have ended there, and the one that runs
-abbrev pub begun_in : Told → ℕ → List Call
+abbrev pub begun_in : ToldCalls → ℕ → List Call
 begun_in t cpu = t.ran cpu ++ running_call (t.running cpu)
 
 -- a function call, as a step says it

@@ -7,7 +7,7 @@ use Rattle.smp_call_steps.specs.Posts.{post_access}
 use Rattle.smp_call_steps.specs.Drains.{DrainValue, no_drain, handle_access, handle_outcome, drain_after, source_at}
 use Rattle.smp_call_steps.specs.Stages.{ControlValue}
 use Rattle.smp_call_steps.specs.Calls.{CallState, Holding, no_calls, tells}
-use Rattle.smp_call_steps.specs.Parts.{Part, part_of, part_confirmed, part_queued, part_after, number_or_zero}
+use Rattle.smp_call_steps.specs.Parts.{CallPart, part_of, part_confirmed, part_queued, part_after, number_or_zero}
 use Rattle.smp_call_steps.specs.Places.{IsCall}
 use Rattle.smp_call_steps.specs.Histories.{sent_to, calls_from, one_held, counted_call}
 use Rattle.smp_call_steps.specs.Stands.{held_of, held_of_post, posted, PostGoes}
@@ -20,8 +20,8 @@ use Rattle.smp_call_steps.specs.Names.handle
 use Rattle.smp_call_steps.specs.Names.logged
 use Rattle.smp_call_steps.specs.Names.head
 use Rattle.smp_call_steps.specs.Heads.{Found, times_lost, heads_with}
-use Rattle.smp_call_steps.specs.declared.known.Known.{Known}
-use Rattle.smp_call_steps.specs.declared.known.Setting.{Setting}
+use Rattle.smp_call_steps.specs.declared.known.KnownCalls.{KnownCalls}
+use Rattle.smp_call_steps.specs.declared.known.CallSetting.{CallSetting}
 
 -- what the steps so far have told of a post: the rest is put as zero
 abbrev pub told_so : Posting → ℕ → ℕ → ℕ → Posting
@@ -52,13 +52,13 @@ told_stage (Some (Post p stage)) = told_post p stage
 told_stage (Some (Handle stage)) = told_handle stage
 
 -- what a CPU knows of these calls
-pub record Sees (a : CallState) (control : ℕ → ControlValue) (v : Known) : Type 0 where
+pub record Sees (a : CallState) (control : ℕ → ControlValue) (v : KnownCalls) : Type 0 where
   pub stage : told_stage (control v.number).stage ≡ v.stage
   pub drain : (control v.number).drain ≡ v.drain
   pub part : part_of a v.number ≡ v.part
 
 -- a CPU that has done nothing yet
-abbrev pub fresh : Setting → ℕ → Known
+abbrev pub fresh : CallSetting → ℕ → KnownCalls
 fresh k me = record {
   setting = k;
   number = me;
@@ -160,7 +160,7 @@ sent_after act.Store (Intr to) put now before = now
 sent_after _ w put now before = before
 
 -- what a CPU knows after a step of its own; a swap of the head takes this queue
-abbrev pub known_taking : List Call → Known → Act → Word → Option ℕ → Option ℕ → Known
+abbrev pub known_taking : List Call → KnownCalls → Act → Word → Option ℕ → Option ℕ → KnownCalls
 known_taking queue v act w found put = record v {
   stage = stage_after v.stage v.drain act w found put;
   drain = drain_then v.stage v.drain found;
@@ -174,19 +174,19 @@ known_taking queue v act w found put = record v {
 }
 
 -- the same of a step that takes no queue
-abbrev pub known_told : Known → Act → Word → Option ℕ → Option ℕ → Known
+abbrev pub known_told : KnownCalls → Act → Word → Option ℕ → Option ℕ → KnownCalls
 known_told v act w found put = known_taking [] v act w found put
 
-abbrev pub known_tells : List Call → Known → Seen → Known
+abbrev pub known_tells : List Call → KnownCalls → Seen → KnownCalls
 known_tells queue v seen = known_taking queue v seen.act seen.word seen.found seen.put
 
 -- to lock, a CPU has to know that the record is free
-abbrev pub IsLockable : Known → ℕ → PostStage → Type 0
+abbrev pub IsLockable : KnownCalls → ℕ → PostStage → Type 0
 IsLockable v id post.Lock = slice_index_or v.part.confirmed id false ≡ true
 IsLockable v id _ = Unit {0}
 
 -- a CPU that knows v may make the step of this stage
-pub record MayPost (v : Known) (p : Posting) (stage : PostStage) : Type 0 where
+pub record MayPost (v : KnownCalls) (p : Posting) (stage : PostStage) : Type 0 where
   pub told : told_post p stage ≡ v.stage
   pub owned : owner p.id ≡ v.number
   pub is_call : IsCall (posted p)
@@ -194,29 +194,29 @@ pub record MayPost (v : Known) (p : Posting) (stage : PostStage) : Type 0 where
   pub goes : PostGoes p stage
   pub ready : IsLockable v p.id stage
 
-abbrev pub MayStep : Known → Stage → Type 0
+abbrev pub MayStep : KnownCalls → Stage → Type 0
 MayStep v (Send to) = (v.stage ≡ None) × (to < cpus) × (v.number < cpus)
 MayStep v (Done id) = (v.stage ≡ None) × (owner id ≡ v.number) × (id < records)
 MayStep v (Post p stage) = MayPost v p stage
 MayStep v (Handle stage) = (v.stage ≡ told_handle stage) × (v.number < cpus)
 
 -- the number in a CPU's tally word of the calls queued for a destination
-abbrev pub queued_tally : Part → Option Holding → ℕ → ℕ
+abbrev pub queued_tally : CallPart → Option Holding → ℕ → ℕ
 queued_tally p held to = (length (sent_to to p.sent) + one_held held to) % 2 ^ 64
 
 -- the number in a CPU's tally word of the calls run from a source
-abbrev pub ran_tally : Part → ℕ → ℕ
+abbrev pub ran_tally : CallPart → ℕ → ℕ
 ran_tally p source = length (calls_from source (p.ran ++ counted_call p.running)) % 2 ^ 64
 
 -- the access of this stage, by what the CPU knows
-abbrev pub known_access : Known → Stage → Access
+abbrev pub known_access : KnownCalls → Stage → Access
 known_access v (Send to) = Store (Intr to) 1
 known_access v (Done id) = Load (Flags id)
 known_access v (Post p stage) = post_access p v.number stage (queued_tally v.part (held_of_post p stage) p.to)
 known_access v (Handle stage) = handle_access v.number stage (ran_tally v.part (source_at stage))
 
 -- some words show some calls, of which a CPU that knows v knows its part
-pub record Lives (v : Known) : Type 0 where
+pub record Lives (v : KnownCalls) : Type 0 where
   pub calls : CallState
   pub at : Word → ℕ
   pub controls : ℕ → ControlValue
@@ -224,12 +224,12 @@ pub record Lives (v : Known) : Type 0 where
   pub sees : Sees calls controls v
 
 -- the table at some time: this CPU knows v, and this number is in the word
-pub record Moment (v : Known) (word : Word) (number : ℕ) : Type 0 where
+pub record CallMoment (v : KnownCalls) (word : Word) (number : ℕ) : Type 0 where
   pub lives : Lives v
   pub number_is : number ≡ lives.at word
 
 -- the table goes on by a step of this CPU, after which it knows w
-pub record GoesOn (a : CallState) (control : ℕ → ControlValue) (me : ℕ) (at : Word → ℕ) (w : Known) : Type 0 where
+pub record GoesOn (a : CallState) (control : ℕ → ControlValue) (me : ℕ) (at : Word → ℕ) (w : KnownCalls) : Type 0 where
   pub seen : Seen
   pub calls : CallState
   pub told : calls ≡ tells a seen
@@ -237,42 +237,42 @@ pub record GoesOn (a : CallState) (control : ℕ → ControlValue) (me : ℕ) (a
   pub shown : Shows calls at controls
   pub mine : Sees calls controls w
   pub number_is : w.number ≡ me
-  pub others : (o : Known) → o.number ≢ me → Sees a control o → Sees calls controls o
+  pub others : (o : KnownCalls) → o.number ≢ me → Sees a control o → Sees calls controls o
 
 -- the call that a post is queueing, once all is told of it
 abbrev pub posting_of : ℕ → Class → ℕ → ℕ → ℕ → Posting
 posting_of id class func info to = record { id = id; to = to; is_online = true; class = class; func = func; info = info; tries = 0 }
 
 -- a CPU that is at this step of a post
-abbrev pub standing : Posting → PostStage → Known → Known
+abbrev pub standing : Posting → PostStage → KnownCalls → KnownCalls
 standing p stage v = record v { stage = Some (Post p stage) }
 
 -- a CPU outside a command
-abbrev pub outside_known : Known → Known
+abbrev pub outside_known : KnownCalls → KnownCalls
 outside_known v = record v { stage = None }
 
 -- a CPU that has seen its record confirmed
-abbrev pub confirmed_known : ℕ → Known → Known
+abbrev pub confirmed_known : ℕ → KnownCalls → KnownCalls
 confirmed_known id v = record v { part = part_confirmed id v.part }
 
 -- a CPU that has made this number of steps more outside handle
-abbrev pub stepped : ℕ → Known → Known
+abbrev pub stepped : ℕ → KnownCalls → KnownCalls
 stepped n v = record v { steps = v.steps + n }
 
 -- a CPU that has counted a call, and then has loaded a head and found this number
-abbrev pub looked_known : ℕ → Known → Known
+abbrev pub looked_known : ℕ → KnownCalls → KnownCalls
 looked_known n v = record v { heads = v.heads ++ head.Loaded n ∷ []; steps = v.steps + 2 }
 
 -- a CPU that has linked its record, and has made a compare-exchange in vain: it expected one number and found the other
-abbrev pub lost_one : ℕ → ℕ → Known → Known
+abbrev pub lost_one : ℕ → ℕ → KnownCalls → KnownCalls
 lost_one expected found v = record v { tried = v.tried + 1; heads = v.heads ++ head.Exchanged expected found ∷ []; steps = v.steps + 2 }
 
 -- a CPU that has counted a call and found these numbers in a head, and so has made its compare-exchanges in vain
-abbrev pub lost_tries : Found → Known → Known
+abbrev pub lost_tries : Found → KnownCalls → KnownCalls
 lost_tries f v = record v { tried = v.tried + times_lost f; heads = heads_with v.heads f; steps = v.steps + (2 + 2 * times_lost f) }
 
 -- a CPU that has linked its record and queued this call, by a compare-exchange that expected this number and found it
-abbrev pub queued_known : Call → ℕ → Bool → ℕ → Known → Known
+abbrev pub queued_known : Call → ℕ → Bool → ℕ → KnownCalls → KnownCalls
 queued_known call to first link v = record v {
   stage = None;
   part = part_queued call to first v.part;
@@ -285,9 +285,9 @@ queued_known call to first link v = record v {
 }
 
 -- a CPU that has noted a direct call, by no step
-abbrev pub noted_known : Known → Known
+abbrev pub noted_known : KnownCalls → KnownCalls
 noted_known v = record v { direct = v.direct ++ record { steps = v.steps; asked = length v.part.asked; logged = length v.log } ∷ [] }
 
 -- whether it has seen its record confirmed
-abbrev pub is_confirmed : Known → ℕ → Bool
+abbrev pub is_confirmed : KnownCalls → ℕ → Bool
 is_confirmed v id = slice_index_or v.part.confirmed id false

@@ -9,7 +9,7 @@ use Rattle.smp_call_steps.specs.Stages.{ControlValue}
 use Rattle.smp_call_steps.specs.Names.{Call, Word, Head, Access, Load, Exchange, Stage, Handle, Logged, HeadSeen}
 use Rattle.smp_call_steps.specs.Names.logged
 use Rattle.smp_call_steps.specs.Names.head
-use Rattle.smp_call_steps.specs.declared.known.Known.{Known}
+use Rattle.smp_call_steps.specs.declared.known.KnownCalls.{KnownCalls}
 
 -- no call has joined a queue, and no interrupt has become pending
 pub record SendsNothing (a b : CallState) : Type 0 where
@@ -46,7 +46,7 @@ sent_with (Some x) now before = now
 -- by each step that a CPU may make its log grows by what the step has sent, and by nothing else; and where the step has sent
 -- something, its number of steps and of takes of its interrupt word is kept. No step notes a direct call
 abbrev pub LogsTell : Type 0
-LogsTell = (a : CallState) (at : Word → ℕ) (control : ℕ → ControlValue) (v : Known) → Shows a at control → Sees a control v →
+LogsTell = (a : CallState) (at : Word → ℕ) (control : ℕ → ControlValue) (v : KnownCalls) → Shows a at control → Sees a control v →
     (stage : Stage) → MayStep v stage → (access : Access) → known_access v stage ≡ access →
     let seen = seen_of v.number access (at (word_of access)) None in
     let after = known_tells (a.queue v.number) v seen in
@@ -67,7 +67,7 @@ heads_and (Some x) heads = heads ++ x ∷ []
 -- by each step that a CPU may make, what it has seen of heads grows by what the step finds in a head, with what an exchange
 -- expects there, and by nothing else
 abbrev pub HeadsTell : Type 0
-HeadsTell = (v : Known) (stage : Stage) → MayStep v stage → (found : ℕ) (queue : List Call) →
+HeadsTell = (v : KnownCalls) (stage : Stage) → MayStep v stage → (found : ℕ) (queue : List Call) →
     let seen = seen_of v.number (known_access v stage) found None in
     (known_tells queue v seen).heads ≡ heads_and (head_in (known_access v stage) found) v.heads
 
@@ -78,6 +78,6 @@ counted_at stage n = n + 1
 
 -- each step that a CPU may make outside handle is counted once, and no step of handle is
 abbrev pub StepsCount : Type 0
-StepsCount = (v : Known) (stage : Stage) → MayStep v stage → (found : ℕ) (queue : List Call) →
+StepsCount = (v : KnownCalls) (stage : Stage) → MayStep v stage → (found : ℕ) (queue : List Call) →
     let seen = seen_of v.number (known_access v stage) found None in
     (known_tells queue v seen).steps ≡ counted_at stage v.steps

@@ -19,7 +19,7 @@ pub use Rattle.smp_call_steps.specs.declared.post.PostStage.TheVariants as post
 pub use Rattle.smp_call_steps.specs.declared.handle.Walk.{Walk}
 pub use Rattle.smp_call_steps.specs.declared.handle.HandleStage.{HandleStage}
 pub use Rattle.smp_call_steps.specs.declared.handle.HandleStage.TheVariants as handle
-pub use Rattle.smp_call_steps.specs.declared.stage.Outcome.{Outcome}
+pub use Rattle.smp_call_steps.specs.declared.stage.CallOutcome.{CallOutcome}
 pub use Rattle.smp_call_steps.specs.declared.stage.Stage.{Stage}
 pub use Rattle.smp_call_steps.specs.declared.stage.Stage.TheVariants.{Send, Done, Post, Handle}
 pub use Rattle.smp_call_steps.specs.declared.known.Logged.{Logged}

@@ -1,17 +1,17 @@
 -- The steps of a post, one after another.
 use Rattle.std.specs.Prelude.{ℕ, ◌+◌, ◌-◌, ◌%◌, ◌^◌, ◌==◌, nat_lt, if◌then◌else◌, Some, None}
 use Rattle.smp_words.specs.Flags.{flags_of}
-use Rattle.smp_call_steps.specs.Names.{Head, Queued, Flags, Func, Info, Next, Access, Load, Store, Exchange, Note, Posting, PostStage, Outcome, Stage, Post}
+use Rattle.smp_call_steps.specs.Names.{Head, Queued, Flags, Func, Info, Next, Access, Load, Store, Exchange, Note, Posting, PostStage, CallOutcome, Stage, Post}
 use Rattle.smp_call_steps.specs.Names.note
 use Rattle.smp_call_steps.specs.Names.post
 
-abbrev pub go_on : Stage → Outcome
+abbrev pub go_on : Stage → CallOutcome
 go_on stage = record { next = Some stage; note = None }
 
-abbrev pub ends : Note → Outcome
+abbrev pub ends : Note → CallOutcome
 ends n = record { next = None; note = Some n }
 
-abbrev pub goes_to : Posting → PostStage → Outcome
+abbrev pub goes_to : Posting → PostStage → CallOutcome
 goes_to p stage = go_on (Post p stage)
 
 -- what a post does next; queued is the number in its tally word
@@ -28,7 +28,7 @@ post_access p me post.Uncount queued = Store (Queued me p.to) ((queued + (2 ^ 64
 post_access p me post.Release queued = Store (Flags p.id) 0
 
 -- what follows, by the number that the step found
-abbrev pub post_outcome : Posting → PostStage → ℕ → Outcome
+abbrev pub post_outcome : Posting → PostStage → ℕ → CallOutcome
 post_outcome p post.LoadFlags found =
     if found % 2 == 1 then ends note.Busy
     else if p.is_online then goes_to p post.Lock else ends note.NoCpu

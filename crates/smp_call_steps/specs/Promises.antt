@@ -11,7 +11,7 @@ use Rattle.smp_call_steps.specs.Shows.{Shows}
 use Rattle.smp_call_steps.specs.Stages.{ControlValue}
 use Rattle.smp_call_steps.specs.Words.{IsEmpty, IsNoticed, queued_in, ran_in}
 use Rattle.smp_call_steps.specs.Names.{Class, Word, Access, Stage}
-use Rattle.smp_call_steps.specs.declared.known.Known.{Known}
+use Rattle.smp_call_steps.specs.declared.known.KnownCalls.{KnownCalls}
 
 -- words that are all 0, with each CPU outside a command, show that nothing was called
 abbrev pub NothingCalled : Type 0
@@ -21,7 +21,7 @@ NothingCalled = (at : Word → ℕ) (control : ℕ → ControlValue) → ((w : W
 -- A CPU that may make the step of a stage makes, by its access, the step of the call state that is seen: the words after
 -- it show the calls after it, and no other CPU's part has changed.
 abbrev pub StepsAreTold : Type 0
-StepsAreTold = (a : CallState) (at : Word → ℕ) (control : ℕ → ControlValue) (v : Known) → Shows a at control → Sees a control v →
+StepsAreTold = (a : CallState) (at : Word → ℕ) (control : ℕ → ControlValue) (v : KnownCalls) → Shows a at control → Sees a control v →
     (stage : Stage) → MayStep v stage → (access : Access) → known_access v stage ≡ access →
     GoesOn a control v.number (at_after at access) (known_tells (a.queue v.number) v (seen_of v.number access (at (word_of access)) None))
 

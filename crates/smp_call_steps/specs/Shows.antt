@@ -6,13 +6,13 @@ use Rattle.smp_call_steps.specs.Places.{Placed}
 use Rattle.smp_call_steps.specs.Words.{Written, Chained, Linked, Noticed, flags_in, funcs_in, infos_in, nexts_in, heads_in, intrs_in, hands_in, queued_in}
 use Rattle.smp_call_steps.specs.Words.{ran_in}
 use Rattle.smp_call_steps.specs.Histories.{Recorded, Tallied}
-use Rattle.smp_call_steps.specs.Stands.{Stands, share_of, held_of, HandIs}
+use Rattle.smp_call_steps.specs.Stands.{CallStands, share_of, held_of, HandIs}
 use Rattle.smp_call_steps.specs.Names.{Word}
 
 pub record Shows (a : CallState) (at : Word → ℕ) (control : ℕ → ControlValue) : Type 0 where
   -- each CPU holds what its stage says, and is where it may be
   pub held : (cpu : ℕ) → a.held cpu ≡ held_of (control cpu).stage
-  pub stands : (cpu : ℕ) → Stands a.place at (share_of a cpu) cpu (control cpu)
+  pub stands : (cpu : ℕ) → CallStands a.place at (share_of a cpu) cpu (control cpu)
   pub hands : (cpu : ℕ) → HandIs (control cpu).stage (hands_in at cpu)
   -- the place law
   pub placed : Placed a.place a.held a.queue a.batch a.running a.confirmed

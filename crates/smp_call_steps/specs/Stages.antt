@@ -2,7 +2,7 @@
 use Rattle.std.specs.Prelude.{ℕ, ◌%◌, ◌==◌, if◌then◌else◌, Option}
 use Rattle.smp_call_steps.specs.Posts.{ends, post_access, post_outcome}
 use Rattle.smp_call_steps.specs.Drains.{DrainValue, source_at, handle_access, handle_outcome, drain_after, FitsFound, RoomAt}
-use Rattle.smp_call_steps.specs.Names.{Word, Intr, Queued, Ran, Flags, Access, Load, Store, Outcome, Stage, Send, Done, Post, Handle}
+use Rattle.smp_call_steps.specs.Names.{Word, Intr, Queued, Ran, Flags, Access, Load, Store, CallOutcome, Stage, Send, Done, Post, Handle}
 use Rattle.smp_call_steps.specs.Names.note
 
 -- where a CPU is: its stage, none outside a command, and its drain
@@ -18,7 +18,7 @@ access_of at me (Post p stage) = post_access p me stage (at (Queued me p.to))
 access_of at me (Handle stage) = handle_access me stage (at (Ran me (source_at stage)))
 
 -- what follows, by the number that the access found
-abbrev pub outcome_of : DrainValue → Stage → ℕ → Outcome
+abbrev pub outcome_of : DrainValue → Stage → ℕ → CallOutcome
 outcome_of d (Send to) found = ends note.Sent
 outcome_of d (Done id) found = ends (if found % 2 == 1 then note.Locked else note.Done)
 outcome_of d (Post p stage) found = post_outcome p stage found

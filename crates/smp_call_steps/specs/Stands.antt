@@ -174,8 +174,8 @@ StandsAt places at s d me (Some (Done id)) = Rests s × (owner id ≡ me) × (id
 StandsAt places at s d me (Some (Post p stage)) = Rests s × PostStands places at me p stage
 StandsAt places at s d me (Some (Handle stage)) = (me < cpus) × HandleStands (nexts_in at) s d stage
 
-abbrev pub Stands : (ℕ → RecPlace) → (Word → ℕ) → Share → ℕ → ControlValue → Type 0
-Stands places at s me c = StandsAt places at s c.drain me c.stage
+abbrev pub CallStands : (ℕ → RecPlace) → (Word → ℕ) → Share → ℕ → ControlValue → Type 0
+CallStands places at s me c = StandsAt places at s c.drain me c.stage
 
 -- the handling word: 0 exactly outside handle, and the record of a running SYNC call + 2
 abbrev pub HandIs : Option Stage → ℕ → Type 0

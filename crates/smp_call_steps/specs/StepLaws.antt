@@ -11,7 +11,7 @@ use Rattle.smp_call_steps.specs.Shows.{Shows}
 use Rattle.smp_call_steps.specs.Stages.{ControlValue, access_of, outcome_of}
 use Rattle.smp_call_steps.specs.Tries.{GoesOnWith}
 use Rattle.smp_call_steps.specs.Names.{Word, Seen, Stage}
-use Rattle.smp_call_steps.specs.declared.known.Known.{Known}
+use Rattle.smp_call_steps.specs.declared.known.KnownCalls.{KnownCalls}
 
 -- what is seen of a step of this CPU at this stage, with its note
 abbrev pub seen_then : (Word → ℕ) → DrainValue → ℕ → Stage → Seen
@@ -68,5 +68,5 @@ OfEachStep P = (a : CallState) (at : Word → ℕ) (control : ℕ → ControlVal
 
 -- and where threads share the words, at each stage that what the CPU knows leaves open
 abbrev pub KnownStepsKeepLaws : Type 0
-KnownStepsKeepLaws = (a : CallState) (at : Word → ℕ) (control : ℕ → ControlValue) (v : Known) → Shows a at control → Sees a control v →
+KnownStepsKeepLaws = (a : CallState) (at : Word → ℕ) (control : ℕ → ControlValue) (v : KnownCalls) → Shows a at control → Sees a control v →
     (stage : Stage) → MayStep v stage → KeepsStepLaws a at v.drain v.number stage

@@ -7,7 +7,7 @@ ghost use Rattle.smp_call_steps.specs.Value.{outside};
 ghost use Rattle.smp_call_steps.specs.Batches.{has_record, down_link, up_link, between_of, is_this, running_of};
 
 use crate::drain::Drain;
-use crate::stage::{Outcome, Stage};
+use crate::stage::{CallOutcome, Stage};
 use smp_words::same::Same;
 use smp_words::seen::Note;
 use std::marker::Model;
@@ -85,8 +85,8 @@ impl Control {
     {
         let outcome = match stage {
             Stage::Handle(handle) => self.drain.advance(handle, found),
-            Stage::Send(_) => Outcome::end(Note::Sent),
-            Stage::Done(_) => Outcome::end(if found % 2 == 1 {
+            Stage::Send(_) => CallOutcome::end(Note::Sent),
+            Stage::Done(_) => CallOutcome::end(if found % 2 == 1 {
                 Note::Locked
             } else {
                 Note::Done

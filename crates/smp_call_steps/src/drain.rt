@@ -6,7 +6,7 @@ ghost use Rattle.smp_call_steps.specs.Drains.{second_on as second, first_on as f
 ghost use Rattle.smp_call_steps.specs.Drains.{by_class as of_class, unlink_after as unlinks, FitsFound, RoomAt};
 
 use crate::handle::{HandleStage, Walk};
-use crate::stage::{Outcome, Stage};
+use crate::stage::{CallOutcome, Stage};
 use smp_words::call::{Call, Class};
 use smp_words::seen::Note;
 use smp_words::size::owner_of;
@@ -49,7 +49,7 @@ impl Drain {
     }
 
     /// What follows when a step of `handle` found this number.
-    pub fn advance(&mut self, stage: HandleStage, found: u64) -> Outcome
+    pub fn advance(&mut self, stage: HandleStage, found: u64) -> CallOutcome
         requires fits { FitsFound stage found }
         requires room { RoomAt self.old stage }
         ensures outcome { result ≡ handle_outcome self.old stage found }
@@ -64,7 +64,7 @@ impl Drain {
             }),
             HandleStage::LeaveIdle => {
                 self.calls = 0;
-                Outcome::end(Note::Idle)
+                CallOutcome::end(Note::Idle)
             }
             HandleStage::Take => {
                 self.calls = 0;
@@ -155,7 +155,7 @@ impl Drain {
             HandleStage::Leave => {
                 let calls = self.calls;
                 self.calls = 0;
-                Outcome::end(Note::Handled(calls))
+                CallOutcome::end(Note::Handled(calls))
             }
         }
     }
@@ -247,17 +247,17 @@ fn unlink_after(last: Option<u32>, walk: Walk, call: Call, next: Option<u32>) ->
     }
 }
 
-fn go_on(stage: HandleStage) -> Outcome
+fn go_on(stage: HandleStage) -> CallOutcome
     ensures { result ≡ handle_goes stage }
 {
-    Outcome::go_on(Stage::Handle(stage))
+    CallOutcome::go_on(Stage::Handle(stage))
 }
 
 /// After this step the function of the call runs.
-fn calls(next: HandleStage, call: Call) -> Outcome
+fn calls(next: HandleStage, call: Call) -> CallOutcome
     ensures { result ≡ calling next call }
 {
-    Outcome {
+    CallOutcome {
         next: Some(Stage::Handle(next)),
         note: Some(Note::Call(owner_of(call.id), call.func, call.info)),
     }

@@ -9,7 +9,7 @@ use std::collections::LinkedList;
 
 /// What a table is made with: how many CPUs it has, and those online.
 #[derive(Clone, Copy)]
-pub struct Setting {
+pub struct CallSetting {
     /// How many CPUs it has.
     pub nr: u32,
     /// Those of them that are online.
@@ -65,7 +65,7 @@ pub enum Running {
 }
 
 /// A CPU's own part of the calls.
-pub struct Part {
+pub struct CallPart {
     /// The calls that it has queued, each with its destination and whether the queue was empty.
     pub sent: LinkedList<Sending>,
     /// The batches that it has taken, each as it stood in the queue.
@@ -88,9 +88,9 @@ pub struct Part {
 
 /// What a CPU knows: what its table is made with, where it is, as far as its steps have told, its own part of the
 /// calls, and what it has done to other CPUs.
-pub struct Known {
+pub struct KnownCalls {
     /// What its table is made with.
-    pub setting: Setting,
+    pub setting: CallSetting,
     /// The CPU's number.
     pub number: u32,
     /// The step that it makes next, or none outside a command.
@@ -98,7 +98,7 @@ pub struct Known {
     /// How many calls it has reversed of its batch.
     pub drain: Drain,
     /// Its own part of the calls.
-    pub part: Part,
+    pub part: CallPart,
     /// How many compare-exchanges of heads it has made, won and lost.
     pub tried: u64,
     /// What its posts have found in heads, by loads and by compare-exchanges, in order.

@@ -7,7 +7,7 @@
 ghost use Rattle.std.specs.Prelude.{◌≡◌};
 ghost use Rattle.smp_call_steps.specs.Posts.{post_access, post_outcome, goes_to};
 
-use crate::stage::{Outcome, Stage};
+use crate::stage::{CallOutcome, Stage};
 use smp_words::access::Access;
 use smp_words::call::Class;
 use smp_words::seen::Note;
@@ -81,15 +81,15 @@ impl Posting {
     }
 
     /// What follows when a step at this stage found this number.
-    pub fn outcome(self, stage: PostStage, found: u64) -> Outcome
+    pub fn outcome(self, stage: PostStage, found: u64) -> CallOutcome
         ensures { result ≡ post_outcome self stage found }
     {
         match stage {
             PostStage::LoadFlags => {
                 if found % 2 == 1 {
-                    Outcome::end(Note::Busy)
+                    CallOutcome::end(Note::Busy)
                 } else if !self.is_online {
-                    Outcome::end(Note::NoCpu)
+                    CallOutcome::end(Note::NoCpu)
                 } else {
                     self.at(PostStage::Lock)
                 }
@@ -105,7 +105,7 @@ impl Posting {
             PostStage::StoreNext { link, tries } => self.at(PostStage::Exchange { link, tries }),
             PostStage::Exchange { link, tries } => {
                 if found == link {
-                    Outcome::end(if link == 0 { Note::Owed } else { Note::Queued })
+                    CallOutcome::end(if link == 0 { Note::Owed } else { Note::Queued })
                 } else if tries > 1 {
                     self.at(PostStage::StoreNext {
                         link: found,
@@ -116,13 +116,13 @@ impl Posting {
                 }
             }
             PostStage::Uncount => self.at(PostStage::Release),
-            PostStage::Release => Outcome::end(Note::Contended),
+            PostStage::Release => CallOutcome::end(Note::Contended),
         }
     }
 
-    fn at(self, stage: PostStage) -> Outcome
+    fn at(self, stage: PostStage) -> CallOutcome
         ensures { result ≡ goes_to self stage }
     {
-        Outcome::go_on(Stage::Post(self, stage))
+        CallOutcome::go_on(Stage::Post(self, stage))
     }
 }

@@ -25,18 +25,18 @@ pub enum Stage {
 
 /// What a step leads to: the stage after it, or none where the command has ended, and its note.
 #[derive(Clone, Copy)]
-pub struct Outcome {
+pub struct CallOutcome {
     /// The stage after it.
     pub next: Option<Stage>,
     /// What the step says.
     pub note: Option<Note>,
 }
 
-impl Outcome {
+impl CallOutcome {
     pub fn go_on(next: Stage) -> Self
         ensures { result ≡ go_on next }
     {
-        Outcome {
+        CallOutcome {
             next: Some(next),
             note: None,
         }
@@ -45,7 +45,7 @@ impl Outcome {
     pub fn end(note: Note) -> Self
         ensures { result ≡ ends note }
     {
-        Outcome {
+        CallOutcome {
             next: None,
             note: Some(note),
         }

@@ -14,7 +14,7 @@ use Rattle.smp_call_steps.specs.declared.known.Logged.{Logged}
 use Rattle.smp_call_steps.specs.declared.known.Sending.{Sending}
 use Rattle.smp_call_steps.proofs.Basics.Alls.{every_left, every_right}
 use Rattle.smp_queue.specs.Cpu.{CpuValue, confirmed_at}
-use Rattle.smp_queue.specs.Laws.{IsShown}
+use Rattle.smp_queue.specs.Laws.{CallsAreShown}
 use Rattle.smp_queue.specs.declared.handler.Heard.{Heard}
 use Rattle.smp_calls.specs.Ended.{HaveEnded}
 use Rattle.smp_calls.specs.Families.{Leaves, Calls, CallsMany, IsLast, AreConfirmed, HandlesNone, owes_at}
@@ -79,7 +79,7 @@ and_all false b e h = cc
 -- a CPU has a call's answer that it has sent by a record which it sees confirmed
 answered : (old new : CpuValue) (func info : ℕ) (queued : List Queued) (mask c : ℕ) → new.number ≡ old.number
     → new.part.sent ≡ old.part.sent ++ sendings (many_call old.number Sync func info) queued → destinations queued ≡ members mask
-    → c < NR_CPUS → has mask c ≡ true → confirmed_at new (many_record c) ≡ true → IsShown new
+    → c < NR_CPUS → has mask c ≡ true → confirmed_at new (many_record c) ≡ true → CallsAreShown new
     → HaveEnded new (many_call old.number Sync func info) (c ∷ [])
 answered old new func info queued mask c number_is sent_is to below h confirmed l =
     let call = many_call old.number Sync func info in
@@ -115,7 +115,7 @@ module _ {H : Type 0} (leads : H → Heard → H → Type 0) where
       CallsMany leads first h mid m (members free) Sync func info None false → IsLast first mid (members free) →
       (AreConfirmed first (has free) → HandlesNone first mid × (m ≡ h)) →
       WaitsWithin leads mid m new after free rest late polls →
-      ((c : ℕ) → has silent c ≡ (has busy c || has late c)) → IsShown new →
+      ((c : ℕ) → has silent c ≡ (has busy c || has late c)) → CallsAreShown new →
       CallsWithin leads old before new after func info targets free silent polls
   calls_within old first mid new before h m after func info others free busy rest late silent polls targets are low a q last quick_calls b either shown =
       let queued = q.0 in

@@ -12,7 +12,7 @@ use Rattle.smp_call_steps.specs.declared.known.Sending.{Sending}
 use Rattle.smp_call_steps.proofs.Basics.Alls.{every, every_both, every_append, every_right}
 use Rattle.smp_mask.specs.Mask.{has, members, members_below}
 use Rattle.smp_queue.specs.Cpu.{CpuValue, confirmed_at}
-use Rattle.smp_queue.specs.Laws.{IsShown}
+use Rattle.smp_queue.specs.Laws.{CallsAreShown}
 use Rattle.smp_queue.specs.declared.handler.Heard.{Heard}
 use Rattle.smp_calls.specs.Ended.{HaveEnded}
 use Rattle.smp_calls.specs.Families.{CallsWith, CallsOne, CallsMany}
@@ -50,7 +50,7 @@ module _ (old new : CpuValue) (k : ℕ → ℕ) (func info : ℕ) where
   abbrev call : ℕ → Call
   call to = call_by old.number (k to) Sync func info
 
-  module _ (queued : List Queued) (made : HasWaited old new call queued) (l : IsShown new) where
+  module _ (queued : List Queued) (made : HasWaited old new call queued) (l : CallsAreShown new) where
     -- a record that was used is confirmed
     is_confirmed : (x : ℕ) → k x < records_of_one → is_by (λ to. (call to).id) (call x).id (destinations queued) ≡ true
         → get_or new.part.confirmed (call x).id false ≡ true
@@ -86,7 +86,7 @@ below_all mask (suc k) n l = every_append (λ x. x < n) (members_below mask k) (
 -- calls to many that were waited for have ended
 pub many_ended : {H : Type 0} (leads : H → Heard → H → Type 0) (old : CpuValue) (before : H) (new : CpuValue) (after : H) (mask func info : ℕ)
     (here : Option Heard) →
-    CallsMany leads old before new after (members mask) Sync func info here true → IsShown new
+    CallsMany leads old before new after (members mask) Sync func info here true → CallsAreShown new
     → HaveEnded new (many_call old.number Sync func info) (members mask)
 many_ended leads old before new after mask func info here made l = record {
   is_shown = l;
@@ -99,7 +99,7 @@ many_ended leads old before new after mask func info here made l = record {
 
 -- a call to one CPU that was waited for has ended
 pub one_ended : {H : Type 0} (leads : H → Heard → H → Type 0) (old : CpuValue) (before : H) (new : CpuValue) (after : H) (dst func info : ℕ) →
-    CallsOne leads old before new after dst func info true → IsShown new
+    CallsOne leads old before new after dst func info true → CallsAreShown new
     → HaveEnded new (λ _. call_by old.number (single_record true) Sync func info) (dst ∷ [])
 one_ended leads old before new after dst func info made l = record {
   is_shown = l;

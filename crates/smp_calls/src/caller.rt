@@ -7,7 +7,7 @@ ghost use Rattle.smp_words.specs.declared.call.Call.{Call};
 ghost use Rattle.smp_call_steps.specs.Order.{order};
 ghost use Rattle.smp_queue.specs.Cpu.{confirmed_at, notes_call};
 ghost use Rattle.smp_queue.specs.Handling.{Grows, asks, drains, heard};
-ghost use Rattle.smp_queue.specs.Laws.{IsShown};
+ghost use Rattle.smp_queue.specs.Laws.{CallsAreShown};
 ghost use Rattle.smp_calls.specs.Records.{call_by, many_call, single_record, user_record, class_for};
 ghost use Rattle.smp_calls.specs.Targets.{IsAny, HasNone, is_target, remote};
 ghost use Rattle.smp_calls.specs.Ended.{HaveEnded};
@@ -69,7 +69,7 @@ impl<'a, A: Allocator, R: Wait, H: Handler + Drop> Caller<'a, A, R, H> {
             × (Grows H.leads self.old.handler (order batch) self.new.handler) × (result.ran ≡ length batch) }
         ensures idle { result.interrupted ≡ false → (self.new.cpu ≡ asks false self.old.cpu)
             × (self.new.handler ≡ self.old.handler) × (result.ran ≡ 0) }
-        ensures laws { IsShown self.new.cpu }
+        ensures laws { CallsAreShown self.new.cpu }
         ensures table { self.new.table.now ≡ self.old.table.now }
     {
         self.table.handle(&mut self.cpu, &mut self.handler)
@@ -82,7 +82,7 @@ impl<'a, A: Allocator, R: Wait, H: Handler + Drop> Caller<'a, A, R, H> {
             × (Grows H.leads self.old.handler (order batch) self.new.handler) × (result.ran ≡ length batch) }
         ensures idle { result.interrupted ≡ false → (self.new.cpu ≡ asks false self.old.cpu)
             × (self.new.handler ≡ self.old.handler) × (result.ran ≡ 0) }
-        ensures laws { IsShown self.new.cpu }
+        ensures laws { CallsAreShown self.new.cpu }
         ensures table { self.new.table.now ≡ self.old.table.now }
     {
         self.table.rest(self.rt, &mut self.cpu, &mut self.handler)

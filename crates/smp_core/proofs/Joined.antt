@@ -22,7 +22,7 @@ use Rattle.smp_call_steps.specs.Value.{ValuesShow, control_of, outside}
 use Rattle.smp_call_steps.specs.declared.handle.HandleStage.{HandleStage}
 use Rattle.smp_call_steps.specs.declared.post.PostStage.{PostStage}
 use Rattle.smp_call_steps.specs.declared.post.Posting.{Posting}
-use Rattle.smp_call_steps.specs.declared.stage.Outcome.{Outcome}
+use Rattle.smp_call_steps.specs.declared.stage.CallOutcome.{CallOutcome}
 use Rattle.smp_call_steps.specs.declared.stage.Stage.{Stage}
 use Rattle.smp_call_steps.specs.declared.stage.Stage.TheVariants.{Send, Done, Post, Handle}
 use Rattle.smp_call_steps.proofs.Machine.Cores.{controls_by_cpu, inside_below}
@@ -36,7 +36,7 @@ use Rattle.smp_core.specs.Joined.{AreJoined, HandlesWithOn, IsInOneHalf}
 use Rattle.smp_core.proofs.Insides.{calls_begun}
 
 -- a CPU handles still, with its interrupts on
-handles_if : (b : Bool) (on : Bool) (x y : Outcome) → HandlesWithOn x.next on → HandlesWithOn y.next on → HandlesWithOn (cond b x y).next on
+handles_if : (b : Bool) (on : Bool) (x y : CallOutcome) → HandlesWithOn x.next on → HandlesWithOn y.next on → HandlesWithOn (cond b x y).next on
 handles_if true on x y k l = k
 handles_if false on x y k l = l
 

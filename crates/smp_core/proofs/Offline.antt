@@ -21,7 +21,7 @@ use Rattle.smp_words.proofs.Zeros.{get_or-same, zero_at}
 use Rattle.smp_call_steps.specs.Calls.{CallState, no_calls, tells}
 use Rattle.smp_call_steps.specs.Drains.{DrainValue, handle_access, handle_goes, handle_outcome}
 use Rattle.smp_call_steps.specs.Parts.{part_of}
-use Rattle.smp_call_steps.specs.declared.known.Part.{Part}
+use Rattle.smp_call_steps.specs.declared.known.CallPart.{CallPart}
 use Rattle.smp_call_steps.specs.Posts.{ends, goes_to, post_access, post_outcome}
 use Rattle.smp_call_steps.specs.Stands.{held_of}
 use Rattle.smp_call_steps.specs.Start.{command_refusal, control_at, first_stage}
@@ -246,16 +246,16 @@ module _ (online : ℕ) (words : List ℕ) (controls : List ControlValue) (h : I
   still_idle a b s cpu off e n = record {
     queue = no_chain (nexts_in (number_in words)) (number_in words (Head cpu)) (b.queue cpu) (h.quiet cpu off).0 (s.chained.chain cpu);
     pending = not_pending (b.pending cpu) (sym (h.quiet cpu off).1 ∙ s.noticed.words cpu);
-    accepted = ap (λ (p : Part). p.accepted) e ∙ n.accepted;
+    accepted = ap (λ (p : CallPart). p.accepted) e ∙ n.accepted;
     held = s.held cpu ∙ ap held_of (h.outside cpu off);
-    taken = ap (λ (p : Part). p.taken) e ∙ n.taken;
-    batch = ap (λ (p : Part). p.batch) e ∙ n.batch;
-    running = ap (λ (p : Part). p.running) e ∙ n.running;
-    ran = ap (λ (p : Part). p.ran) e ∙ n.ran;
-    sent = ap (λ (p : Part). p.sent) e ∙ n.sent;
-    asked = ap (λ (p : Part). p.asked) e ∙ n.asked;
+    taken = ap (λ (p : CallPart). p.taken) e ∙ n.taken;
+    batch = ap (λ (p : CallPart). p.batch) e ∙ n.batch;
+    running = ap (λ (p : CallPart). p.running) e ∙ n.running;
+    ran = ap (λ (p : CallPart). p.ran) e ∙ n.ran;
+    sent = ap (λ (p : CallPart). p.sent) e ∙ n.sent;
+    asked = ap (λ (p : CallPart). p.asked) e ∙ n.asked;
     owes = λ to small. sym (row-at cpus to (b.owes cpu) false small)
-        ∙ (ap (λ (p : Part). get_or p.owes to false) e ∙ (row-at cpus to (a.owes cpu) false small ∙ n.owes to small));
+        ∙ (ap (λ (p : CallPart). get_or p.owes to false) e ∙ (row-at cpus to (a.owes cpu) false small ∙ n.owes to small));
   }
 
   abbrev a : CallState

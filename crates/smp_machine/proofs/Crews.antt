@@ -6,7 +6,7 @@ use Rattle.smp_mask.specs.Mask.{has, members_below}
 use Rattle.smp_machine.specs.MachineCpu.{MachineValue, MachineCpuValue, BootValue, IsAt, fresh_place}
 use Rattle.smp_queue.specs.declared.handler.Heard.{Heard}
 use Rattle.smp_multi.specs.declared.func.Called.{Called}
-use Rattle.smp_machine.specs.Crews.{HasEnded, IsPlayed, IsShown, seat_of}
+use Rattle.smp_machine.specs.Crews.{HasEnded, IsPlayed, BothAreShown, seat_of}
 use Rattle.smp_machine.specs.Members.{AreFor, AreMembers, IsMember, IsNext}
 use Rattle.smp_machine.specs.Own.{own_of}
 use Rattle.smp_machine.specs.Seats.{SeatValue, SeatWorks, IsSameSeat}
@@ -134,7 +134,7 @@ pub played_is : {H F A : Type 0} (hears : H → Heard → H → Type 0) (runs : 
     (back : Played H F A) → IsMember begins m x.cpu.calls.number x
     → start ≡ record { machine = m; cpu = x.cpu; handler = x.handler; functions = x.functions } → plays start played → IsSameSeat start played
     → SeatWorks hears runs played ended (own_of played.cpu) → IsSameSeat played ended → HasEnded (leaves played.cpu.calls.number) played ended
-    → (back.cpu ≡ ended.cpu) × (back.handler ≡ ended.handler) × (back.functions ≡ ended.functions) → IsAt ended.machine back.cpu → IsShown back.cpu
+    → (back.cpu ≡ ended.cpu) × (back.handler ≡ ended.handler) × (back.functions ≡ ended.functions) → IsAt ended.machine back.cpu → BothAreShown back.cpu
     → IsPlayed hears runs begins plays leaves m x.cpu.calls.number back
 played_is {H} {F} {A} hears runs begins plays leaves m x start played ended back member is part same polled still left parts at shown =
     let machine_is : ended.machine ≡ m = still.machine_is ∙ (same.machine_is ∙ ap (λ (s : SeatValue H F). s.machine) is) in

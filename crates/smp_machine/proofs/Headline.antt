@@ -1,11 +1,11 @@
 -- The headline, of a CPU's value.
 use Rattle.std.proofs.Common.{◌≡◌, sym, subst, ap, ◌∙◌}
 use Rattle.smp_call_steps.specs.Parts.{part_of}
-use Rattle.smp_stop_steps.specs.Seats.{Stands, irq_of}
+use Rattle.smp_stop_steps.specs.Seats.{RoleStands, irq_of}
 use Rattle.smp_queue.specs.Cpu.{CpuValue as CallCpuValue}
-use Rattle.smp_queue.specs.Laws.{IsShown as CallsAreShown}
+use Rattle.smp_queue.specs.Laws.{CallsAreShown}
 use Rattle.smp_multi.specs.Cpu.{CpuValue as StopCpuValue, cpu_of}
-use Rattle.smp_multi.specs.Laws.{IsInside, IsShown as StopsAreShown}
+use Rattle.smp_multi.specs.Laws.{IsInside, StopsAreShown}
 use Rattle.smp_multi.proofs.Showing.{inside_shown}
 use Rattle.smp_machine.specs.Headline.{HasCalls, HasStops}
 
@@ -25,7 +25,7 @@ own_calls c s = ap (λ (d : CallCpuValue). d.part) (sym s.part)
 known_inside : (c : StopCpuValue) (s : HasStops c)
     → let d = cpu_of (record { table = c.table; known = s.part.known }) in IsInside s.now.stops.now d.number d.inside
 known_inside c s = let v = s.part.known in
-    inside_shown s.now.stops.now v.number v.seat (subst (Stands s.now.stops.now v.number) s.part.sees.seat_is (s.now.shown.present.stands v.number))
+    inside_shown s.now.stops.now v.number v.seat (subst (RoleStands s.now.stops.now v.number) s.part.sees.seat_is (s.now.shown.present.stands v.number))
 
 pub own_inside : (c : StopCpuValue) (s : HasStops c) → IsInside s.now.stops.now c.number c.inside
 own_inside c s = subst (λ (d : StopCpuValue). IsInside s.now.stops.now d.number d.inside) (sym s.part.view) (known_inside c s)

@@ -12,7 +12,7 @@ use Rattle.smp_words.specs.Size.{cpus}
 use Rattle.smp_machine.specs.declared.work_queue.Item.{Item}
 use Rattle.smp_machine.specs.declared.work_queue.Knows.{Knows}
 use Rattle.smp_machine.specs.declared.work_queue.Knows.TheVariants.{Takes, Puts}
-use Rattle.smp_machine.specs.declared.work_queue.Noted.{Noted}
+use Rattle.smp_machine.specs.declared.work_queue.PutNote.{PutNote}
 use Rattle.smp_machine.specs.WorkQueue.{puts_more, takes_more, IsKnown}
 use Rattle.smp_machine.specs.Passes.{items_of, notes_of, IsTakes, IsPuts, ids_of, put_of, noted_of, passes_of, IsSource, AreHeld, puts}
 
@@ -65,7 +65,7 @@ pub takes_are : (v : Knows) → IsTakes v → (n : ℕ) × (v ≡ Takes n (items
 takes_are (Takes n l) h = (n, refl)
 takes_are (Puts s l notes) h = absurd h
 
-puts_still : (note : Noted) (n : ℕ) (v : Knows) (x : Item) → IsPuts n v → IsPuts n (puts_more note v x)
+puts_still : (note : PutNote) (n : ℕ) (v : Knows) (x : Item) → IsPuts n v → IsPuts n (puts_more note v x)
 puts_still note n (Takes m l) x h = h
 puts_still note n (Puts s l notes) x h = h
 
@@ -73,11 +73,11 @@ takes_still : (v : Knows) (x : Item) → IsTakes v → IsTakes (takes_more v x)
 takes_still (Takes n l) x h = h
 takes_still (Puts s l notes) x h = h
 
-items_put : (note : Noted) (n : ℕ) (v : Knows) (x : Item) → IsPuts n v → items_of (puts_more note v x) ≡ items_of v ++ x ∷ []
+items_put : (note : PutNote) (n : ℕ) (v : Knows) (x : Item) → IsPuts n v → items_of (puts_more note v x) ≡ items_of v ++ x ∷ []
 items_put note n (Takes m l) x h = absurd h
 items_put note n (Puts s l notes) x h = refl
 
-notes_put : (note : Noted) (n : ℕ) (v : Knows) (x : Item) → IsPuts n v → notes_of (puts_more note v x) ≡ notes_of v ++ note ∷ []
+notes_put : (note : PutNote) (n : ℕ) (v : Knows) (x : Item) → IsPuts n v → notes_of (puts_more note v x) ≡ notes_of v ++ note ∷ []
 notes_put note n (Takes m l) x h = absurd h
 notes_put note n (Puts s l notes) x h = refl
 
@@ -85,7 +85,7 @@ items_taken : (v : Knows) (x : Item) → IsTakes v → items_of (takes_more v x)
 items_taken (Takes n l) x h = refl
 items_taken (Puts s l notes) x h = absurd h
 
-pub still_puts : (note : Noted) (r : Result (Unit {0}) Item) (n : ℕ) (v w : Knows) (x : Item) (A : Item → Type 0) (K : Type 0) → IsPuts n v
+pub still_puts : (note : PutNote) (r : Result (Unit {0}) Item) (n : ℕ) (v w : Knows) (x : Item) (A : Item → Type 0) (K : Type 0) → IsPuts n v
     → MatchResult r (λ _. (w ≡ puts_more note v x) × IsKnown w) (λ y. A y × (w ≡ v) × K) → IsPuts n w
 still_puts note r n v w x A K h =
     match_both r _ _ (IsPuts n w) (λ t. subst (IsPuts n) (sym t.0) (puts_still note n v x h)) (λ y t. subst (IsPuts n) (sym t.1) h)
@@ -130,7 +130,7 @@ module _ (number : ℕ) (to : List (Pass Item Knows)) (own : Pass Item Knows) (h
   }
 
   -- what the CPU has put, once this pass has changed
-  put_set : (note : Noted) (i : ℕ) (p q : Pass Item Knows) (x : Item) → i < cpus → p ≡ slice_index_or to i p → view q ≡ puts_more note (view p) x
+  put_set : (note : PutNote) (i : ℕ) (p q : Pass Item Knows) (x : Item) → i < cpus → p ≡ slice_index_or to i p → view q ≡ puts_more note (view p) x
       → put_of (slice_set to i q) ≡ slice_set (put_of to) i (slice_index_or (put_of to) i [] ++ x ∷ [])
   put_set note i p q x below at more =
       let f : Pass Item Knows → List Item = λ y. items_of (view y) in
@@ -142,19 +142,19 @@ module _ (number : ℕ) (to : List (Pass Item Knows)) (own : Pass Item Knows) (h
       map-set f to i q ∙ ap (slice_set (put_of to) i) item
 
   -- and what it has noted
-  noted_set : (note : Noted) (i : ℕ) (p q : Pass Item Knows) (x : Item) → i < cpus → p ≡ slice_index_or to i p → view q ≡ puts_more note (view p) x
+  noted_set : (note : PutNote) (i : ℕ) (p q : Pass Item Knows) (x : Item) → i < cpus → p ≡ slice_index_or to i p → view q ≡ puts_more note (view p) x
       → noted_of (slice_set to i q) ≡ slice_set (noted_of to) i (slice_index_or (noted_of to) i [] ++ note ∷ [])
   noted_set note i p q x below at more =
-      let f : Pass Item Knows → List Noted = λ y. notes_of (view y) in
+      let f : Pass Item Knows → List PutNote = λ y. notes_of (view y) in
       let sized : length to ≡ cpus = h.sized in
       let short : i < length to = omega arith in
       let item : notes_of (view q) ≡ slice_index_or (noted_of to) i [] ++ note ∷ [] =
       ap notes_of more
       ∙ (notes_put note number (view p) x (h.sources i p below at).puts
-      ∙ ap (λ (l : List Noted). l ++ note ∷ []) (sym (index_map f to i p [] short at))) in
+      ∙ ap (λ (l : List PutNote). l ++ note ∷ []) (sym (index_map f to i p [] short at))) in
       map-set f to i q ∙ ap (slice_set (noted_of to) i) item
 
-  pub has_put : (note : Noted) (i : ℕ) (p q : Pass Item Knows) (x : Item) → i < cpus → p ≡ slice_index_or to i p → q.table_id ≡ p.table_id
+  pub has_put : (note : PutNote) (i : ℕ) (p q : Pass Item Knows) (x : Item) → i < cpus → p ≡ slice_index_or to i p → q.table_id ≡ p.table_id
       → view q ≡ puts_more note (view p) x → passes_of number (slice_set to i q) own ≡ puts i x note (passes_of number to own)
   has_put note i p q x below at same more = λ k. record {
     queues = ids_kept to i p q at same k;
@@ -168,7 +168,7 @@ module _ (number : ℕ) (to : List (Pass Item Knows)) (own : Pass Item Knows) (h
       → passes_of number (slice_set to i q) own ≡ passes_of number to own
   has_not i p q at same alike =
       let f : Pass Item Knows → List Item = λ y. items_of (view y) in
-      let g : Pass Item Knows → List Noted = λ y. notes_of (view y) in
+      let g : Pass Item Knows → List PutNote = λ y. notes_of (view y) in
       let put : put_of (slice_set to i q) ≡ put_of to = map-set_same f to i q p (ap items_of alike ∙ ap f at) in
       let noted : noted_of (slice_set to i q) ≡ noted_of to = map-set_same g to i q p (ap notes_of alike ∙ ap g at) in
       λ k. record { queues = ids_kept to i p q at same k; number = number; put = put k; noted = noted k; taken = items_of (view own) }
@@ -177,13 +177,13 @@ module _ (number : ℕ) (to : List (Pass Item Knows)) (own : Pass Item Knows) (h
       → IsKnown (Puts number (slice_index_or (put_of (slice_set to i q)) i []) (slice_index_or (noted_of (slice_set to i q)) i []))
   put_shown i p q x below at is tied =
       let f : Pass Item Knows → List Item = λ y. items_of (view y) in
-      let g : Pass Item Knows → List Noted = λ y. notes_of (view y) in
+      let g : Pass Item Knows → List PutNote = λ y. notes_of (view y) in
       let sized : length to ≡ cpus = h.sized in
       let low : i < length to = subst (λ (n : ℕ). i < n) (sym sized) below in
       let there : slice_index_or (put_of (slice_set to i q)) i [] ≡ items_of (view q) =
       ap (λ (l : List (List Item)). slice_index_or l i []) (map-set f to i q)
       ∙ get_or-set_same (map f to) i (f q) [] (subst (λ (n : ℕ). i < n) (sym (length_map f to)) low) in
       let noted : slice_index_or (noted_of (slice_set to i q)) i [] ≡ notes_of (view q) =
-      ap (λ (l : List (List Noted)). slice_index_or l i []) (map-set g to i q)
+      ap (λ (l : List (List PutNote)). slice_index_or l i []) (map-set g to i q)
       ∙ get_or-set_same (map g to) i (g q) [] (subst (λ (n : ℕ). i < n) (sym (length_map g to)) low) in
       subst IsKnown (puts_are number (view q) is ∙ (λ k. Puts number (sym there k) (sym noted k))) tied

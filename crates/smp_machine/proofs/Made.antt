@@ -15,7 +15,7 @@ use Rattle.crossbeam_queue.specs.declared.array_queue.Slotted.{Slotted}
 use Rattle.smp_machine.specs.declared.work_queue.Item.{Item}
 use Rattle.smp_machine.specs.declared.work_queue.Knows.{Knows}
 use Rattle.smp_machine.specs.declared.work_queue.Knows.TheVariants.{Takes, Puts}
-use Rattle.smp_machine.specs.declared.work_queue.Noted.{Noted}
+use Rattle.smp_machine.specs.declared.work_queue.PutNote.{PutNote}
 use Rattle.smp_words.specs.Size.{cpus}
 use Rattle.smp_machine.specs.Passes.{PassesValue, ids_of, put_of, noted_of, items_of, notes_of, passes_of, IsTakes}
 use Rattle.smp_machine.specs.Passes.{IsPuts, AreHeld, IsTaker, AreTakers, AreSources}
@@ -222,7 +222,7 @@ held_fresh ids number to own sources taker =
     let put : put_of to ≡ map (λ id. []) ids =
     put_none number to (λ i p l at. (sources.each i p l at).1) ∙ ap (λ (l : List TableId). map {B = List Item} (λ id. []) l) sources.ids_are in
     let noted : noted_of to ≡ map (λ id. []) ids =
-    noted_none number to (λ i p l at. (sources.each i p l at).1) ∙ ap (λ (l : List TableId). map {B = List Noted} (λ id. []) l) sources.ids_are in
+    noted_none number to (λ i p l at. (sources.each i p l at).1) ∙ ap (λ (l : List TableId). map {B = List PutNote} (λ id. []) l) sources.ids_are in
     λ k. record { queues = sources.ids_are k; number = number; put = put k; noted = noted k; taken = items_of (taker.knows k) }
 
 pub fresh_none : (ids : List TableId) → AreFresh ids 0 []

@@ -10,7 +10,7 @@ use Rattle.crossbeam_queue.proofs.Lists.{at_set, set_else, at_longer, at_last}
 use Rattle.smp_machine.specs.declared.work_queue.Item.{Item}
 use Rattle.smp_machine.specs.declared.work_queue.Knows.{Knows}
 use Rattle.smp_machine.specs.declared.work_queue.Knows.TheVariants.{Takes, Puts}
-use Rattle.smp_machine.specs.declared.work_queue.Noted.{Noted}
+use Rattle.smp_machine.specs.declared.work_queue.PutNote.{PutNote}
 use Rattle.smp_machine.specs.WorkQueue.{items_by, IsAtPort, IsInOrder, gives, given, puts_more, takes_more, IsKnown}
 
 if-append : (b : Bool) (x : Item) (xs ys zs : List Item) → zs ≡ xs ++ ys → (if b then x ∷ zs else zs) ≡ (if b then x ∷ xs else xs) ++ ys
@@ -57,21 +57,21 @@ source_in : Knows → ℕ
 source_in (Takes n l) = 0
 source_in (Puts s l notes) = s
 
-no_source : (n s : ℕ) (k l : List Item) (notes : List Noted) → Takes n k ≢ Puts s l notes
+no_source : (n s : ℕ) (k l : List Item) (notes : List PutNote) → Takes n k ≢ Puts s l notes
 unfolding IsTaker
 no_source n s k l notes e = subst IsTaker e tt
 
-one_source : (s t : ℕ) (k l : List Item) (a b : List Noted) → Puts s k a ≡ Puts t l b → s ≡ t
+one_source : (s t : ℕ) (k l : List Item) (a b : List PutNote) → Puts s k a ≡ Puts t l b → s ≡ t
 unfolding source_in
 one_source s t k l a b e = ap source_in e
 
 -- of passes that differ the ports do too
 module _ (items : List Item) (views : List Knows) (h : IsInOrder items views) where
-  taker_apart : (port s : ℕ) (l : List Item) (notes : List Noted) → get_elem? views port ≡ some (Puts s l notes) → h.taker ≢ port
+  taker_apart : (port s : ℕ) (l : List Item) (notes : List PutNote) → get_elem? views port ≡ some (Puts s l notes) → h.taker ≢ port
   taker_apart port s l notes at e =
       no_source h.next s h.taken l notes (same_there views h.taker port (Takes h.next h.taken) (Puts s l notes) h.takes at e)
 
-  source_apart : (port s t : ℕ) (l : List Item) (notes : List Noted) → get_elem? views port ≡ some (Puts s l notes) → t < h.next → t ≢ s → h.port t ≢ port
+  source_apart : (port s t : ℕ) (l : List Item) (notes : List PutNote) → get_elem? views port ≡ some (Puts s l notes) → t < h.next → t ≢ s → h.port t ≢ port
   source_apart port s t l notes at below n e =
       let other = h.puts t below in
       n (one_source t s _ l other.0 notes
@@ -91,7 +91,7 @@ stays items views h port s x own mine q (Puts t l notes) other f =
     (f.0, f.1, f.2 ∙ sym (put_else t h.taken items x (λ e. other (f.0 ∙ (ap h.port (sym e ∙ own) ∙ mine)))))
 
 -- a source puts an item
-module _ (note : Noted) (port s : ℕ) (l : List Item) (notes : List Noted) (x : Item) (own : x.slot ≡ s) (items : List Item) (views : List Knows)
+module _ (note : PutNote) (port s : ℕ) (l : List Item) (notes : List PutNote) (x : Item) (own : x.slot ≡ s) (items : List Item) (views : List Knows)
     (h : IsInOrder items views) (at : get_elem? views port ≡ some (Puts s l notes)) where
   abbrev puts_now : Knows
   puts_now = Puts s (l ++ x ∷ []) (notes ++ note ∷ [])
@@ -100,7 +100,7 @@ module _ (note : Noted) (port s : ℕ) (l : List Item) (notes : List Noted) (x :
   put_views = set views port puts_now
 
   put_by : (mine : (port ≡ h.port s) × (s < h.next) × (l ≡ items_by s (h.taken ++ items))) (t : ℕ) → t < h.next → (t ≡ s) ⊎ (t ≢ s)
-      → (k : List Noted) × (get_elem? put_views (h.port t) ≡ some (Puts t (items_by t (h.taken ++ (items ++ x ∷ []))) k))
+      → (k : List PutNote) × (get_elem? put_views (h.port t) ≡ some (Puts t (items_by t (h.taken ++ (items ++ x ∷ []))) k))
   put_by mine t below (inl e) =
       let there : get_elem? put_views port ≡ some puts_now = set_there views port (Puts s l notes) puts_now at in
       let more : l ++ x ∷ [] ≡ items_by s (h.taken ++ (items ++ x ∷ [])) =
@@ -134,7 +134,7 @@ module _ (note : Noted) (port s : ℕ) (l : List Item) (notes : List Noted) (x :
         fresh = λ t le. put_else t h.taken items x (λ e. let small : s < h.next = mine.1 in let same : t ≡ s = sym e ∙ own in omega arith) ∙ h.fresh t le;
       }
 
-puts_as : (note : Noted) (n port s : ℕ) (l : List Item) (notes : List Noted) (x : Item) → x.slot ≡ s
+puts_as : (note : PutNote) (n port s : ℕ) (l : List Item) (notes : List PutNote) (x : Item) → x.slot ≡ s
     → Pushes IsInOrder n port (Puts s l notes) x (λ w. (w ≡ Puts s (l ++ x ∷ []) (notes ++ note ∷ [])) × IsKnown w)
 puts_as note n port s l notes x own items views room h at =
     let w : Knows = Puts s (l ++ x ∷ []) (notes ++ note ∷ []) in
@@ -142,7 +142,7 @@ puts_as note n port s l notes x own items views room h at =
     let here = set_there views port (Puts s l notes) w at in
     (w, after, (refl, record { items = items ++ x ∷ []; views = set views port w; port = port; in_order = after; at = here }))
 
-pub puts : (note : Noted) (n port : ℕ) (v : Knows) (s : ℕ) (l : List Item) (notes : List Noted) (x : Item) → v ≡ Puts s l notes → x.slot ≡ s
+pub puts : (note : PutNote) (n port : ℕ) (v : Knows) (s : ℕ) (l : List Item) (notes : List PutNote) (x : Item) → v ≡ Puts s l notes → x.slot ≡ s
     → Pushes IsInOrder n port v x (λ w. (w ≡ puts_more note v x) × IsKnown w)
 puts note n port v s l notes x is own =
     subst (λ (y : Knows). Pushes IsInOrder n port y x (λ w. (w ≡ puts_more note y x) × IsKnown w)) (sym is) (puts_as note n port s l notes x own)
@@ -220,7 +220,7 @@ module _ (port n : ℕ) (l : List Item) (items : List Item) (views : List Knows)
   given_at m = get_elem? (given_views ++ Puts n [] [] ∷ []) (ported h.port n (length given_views) m)
 
   put_before : n ≡ h.next → (t : ℕ) → t < n + 1 → (t ≡ n) ⊎ (t ≢ n)
-      → (k : List Noted)
+      → (k : List PutNote)
       × (get_elem? (given_views ++ Puts n [] [] ∷ []) (ported h.port n (length given_views) t) ≡ some (Puts t (items_by t (h.taken ++ items)) k))
   put_before same t below (inl e) =
       let none : items_by n (h.taken ++ items) ≡ [] = h.fresh n (omega arith) in (

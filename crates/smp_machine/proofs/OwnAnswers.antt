@@ -7,13 +7,13 @@ use Rattle.std.proofs.lemmas.List.{append-nil, get_or-set_same, get_or-set_other
 use Rattle.smp_mask.specs.Mask.{has}
 use Rattle.smp_words.specs.Size.{cpus}
 use Rattle.smp_stop_steps.specs.Callings.{IsCalling}
-use Rattle.smp_stop_steps.specs.Seats.{Stands}
+use Rattle.smp_stop_steps.specs.Seats.{RoleStands}
 use Rattle.smp_stop_steps.specs.State.{Present}
 use Rattle.smp_stop_steps.specs.Stop.{is_of}
 use Rattle.smp_words.specs.declared.phase.TheConstants.{DISABLE_IRQ, RUN}
 use Rattle.smp_multi.specs.Cpu.{CpuValue as StopCpuValue, Inside, inside_of}
-use Rattle.smp_multi.specs.Laws.{IsShown, IsInside, IsPending}
-use Rattle.smp_multi.specs.Names.{Work, StopCall, One, Multi, Seat, Free, In, Gives, Alters, Closes, Calling, Idle, Calls, Carries}
+use Rattle.smp_multi.specs.Laws.{StopsAreShown, IsInside, IsPending}
+use Rattle.smp_multi.specs.Names.{Work, StopCall, One, Multi, StopRole, Free, In, Gives, Alters, Closes, Calling, Idle, Calls, Carries}
 use Rattle.smp_machine.specs.OwnAnswers.{IsIn, IsCalled, IsGiven, IsOwnAnswer, HasToRun, CarriesFor, OwnAnswers}
 
 -- ---- lists
@@ -184,7 +184,7 @@ own_then old mid new number a b = record {
 
 -- ---- of a CPU whose value some words show
 
-pub own_low : (c : StopCpuValue) → IsShown c → c.number < length c.part.answers
+pub own_low : (c : StopCpuValue) → StopsAreShown c → c.number < length c.part.answers
 own_low c s =
     let number : c.number ≡ s.known.number = ap (λ (z : StopCpuValue). z.number) s.view in
     let long : length c.part.answers ≡ length s.known.part.answers = ap (λ (z : StopCpuValue). length z.part.answers) s.view in
@@ -193,7 +193,7 @@ own_low c s =
     omega arith
 
 -- a CPU that is in a stop is of it
-is_of_it : (n : Present) (me : ℕ) (x : Seat) (stop : Inside) → Stands n me x → inside_of x ≡ Some stop → is_of ((n.stop stop.slot).standing me) ≡ true
+is_of_it : (n : Present) (me : ℕ) (x : StopRole) (stop : Inside) → RoleStands n me x → inside_of x ≡ Some stop → is_of ((n.stop stop.slot).standing me) ≡ true
 is_of_it n me Free stop st e = cc
 is_of_it n me (In s w a l t) stop st e =
     let slot : s ≡ stop.slot = ap (λ (z : Inside). z.slot) (some_same e) in
@@ -207,7 +207,7 @@ is_of_it n me (Alters s w count made rest) stop st e =
 is_of_it n me (Closes s) stop st e = cc
 
 -- its own stop that it is in is the one that it has begun
-pub own_link : (c : StopCpuValue) → IsShown c → (stop : Inside) → c.inside ≡ Some stop → stop.slot ≡ c.number → c.pending ≡ Some stop.work
+pub own_link : (c : StopCpuValue) → StopsAreShown c → (stop : Inside) → c.inside ≡ Some stop → stop.slot ≡ c.number → c.pending ≡ Some stop.work
 own_link c s stop is same = go c.pending refl
   where
     seated : inside_of s.known.seat ≡ Some stop
@@ -215,7 +215,7 @@ own_link c s stop is same = go c.pending refl
 
     of : is_of ((s.stops.now.stop stop.slot).standing s.known.number) ≡ true
     of = is_of_it s.stops.now s.known.number s.known.seat stop
-        (subst (Stands s.stops.now s.known.number) s.sees.seat_is (s.shown.present.stands s.known.number)) seated
+        (subst (RoleStands s.stops.now s.known.number) s.sees.seat_is (s.shown.present.stands s.known.number)) seated
 
     opened : (s.stops.now.stop c.number).is_open ≡ true
     opened = subst (λ (k : ℕ). (s.stops.now.stop k).is_open ≡ true) same
@@ -230,21 +230,21 @@ own_link c s stop is same = go c.pending refl
     go (Some w) e = e ∙ ap Some (sym (subst (IsPending (s.stops.now.stop c.number)) e s.pending).1 ∙ work)
 
 -- an active CPU that has acknowledged RUN in a stop of kind Multi carries an answer
-pub carries_active : (c : StopCpuValue) → IsShown c → (stop : Inside) → c.inside ≡ Some stop → stop.acked ≡ RUN → stop.work.kind ≡ Multi
+pub carries_active : (c : StopCpuValue) → StopsAreShown c → (stop : Inside) → c.inside ≡ Some stop → stop.acked ≡ RUN → stop.work.kind ≡ Multi
     → has stop.work.active c.number ≡ true → (x : ℕ) × (c.part.calling ≡ Carries x)
 carries_active c s stop is at multi active =
     let number : c.number ≡ s.known.number = ap (λ (z : StopCpuValue). z.number) s.view in
     let seated : inside_of s.known.seat ≡ Some stop = sym (ap (λ (z : StopCpuValue). z.inside) s.view) ∙ is in
     let here : IsCalling c.number s.known.seat (s.stops.calling c.number) =
     subst (λ (n : ℕ). IsCalling n s.known.seat (s.stops.calling n)) (sym number)
-    (subst (λ (x : Seat). IsCalling s.known.number x (s.stops.calling s.known.number)) s.sees.seat_is (s.shown.callings s.known.number)) in
+    (subst (λ (x : StopRole). IsCalling s.known.number x (s.stops.calling s.known.number)) s.sees.seat_is (s.shown.callings s.known.number)) in
     let k = go s.known.seat seated (s.stops.calling c.number) here in
     (k.0, sym s.calling ∙ k.1)
   where
     no_bools : true ≡ false → ⊥
     no_bools e = cc
 
-    go : (x : Seat) → inside_of x ≡ Some stop → (f : Calling) → IsCalling c.number x f → (y : ℕ) × (f ≡ Carries y)
+    go : (x : StopRole) → inside_of x ≡ Some stop → (f : Calling) → IsCalling c.number x f → (y : ℕ) × (f ≡ Carries y)
     go Free e f k = cc
     go (In s w a l t) e Idle k =
         let same : w ≡ stop.work = ap (λ (z : Inside). z.work) (some_same e) in

@@ -12,7 +12,7 @@ use Rattle.smp_stop_steps.specs.Start.{answer_word}
 use Rattle.smp_stop_steps.proofs.State.Ends.{all_outside}
 use Rattle.smp_multi.specs.Answers.{IsWholeWord}
 use Rattle.smp_multi.specs.Cpu.{CpuValue as StopCpuValue, TableValue}
-use Rattle.smp_multi.specs.Laws.{IsShown, IsPending}
+use Rattle.smp_multi.specs.Laws.{StopsAreShown, IsPending}
 use Rattle.smp_multi.specs.Names.{Work, One, Multi, Slot, Field}
 use Rattle.smp_multi.specs.Polls.{IsLastResult, MayAnswer}
 use Rattle.smp_multi.proofs.Kept.{own_answers_agree}
@@ -48,7 +48,7 @@ as_many me (x ∷ rest) =
     ∙ ap (λ (n : ℕ). one_if (has x.work.mask me) + n) (as_many me rest)
 
 -- a CPU with no stop to collect has answered each of its own stops that has called it
-own_counted : (c : StopCpuValue) → IsShown c → c.pending ≡ None
+own_counted : (c : StopCpuValue) → StopsAreShown c → c.pending ≡ None
     → length (slice_index_or c.part.answers c.number []) ≡ own_count c.number c.part.begun
 own_counted c s none =
     subst (λ (z : StopCpuValue). length (slice_index_or z.part.answers z.number []) ≡ own_count z.number z.part.begun) (sym s.view) counted
@@ -112,7 +112,7 @@ only_one x y (z ∷ []) after e = cc
 only_one x y (z ∷ w ∷ before) after e = cc
 
 module _ (old new : StopCpuValue) (work : Work) (word : ℕ) (answer : ℤ) (number : new.number ≡ old.number)
-    (begun : new.part.begun ≡ old.part.begun ++ work ∷ []) (was_shown : IsShown old) (shown : IsShown new)
+    (begun : new.part.begun ≡ old.part.begun ++ work ∷ []) (was_shown : StopsAreShown old) (shown : StopsAreShown new)
     (was_none : old.pending ≡ None) (outside : old.inside ≡ None) (none : new.pending ≡ None) (mine : OwnAnswers old new) (result : IsLastResult new word)
     (whole : IsWholeWord answer word) where
   last_work : result.work ≡ work
@@ -162,7 +162,7 @@ module _ (old new : StopCpuValue) (work : Work) (word : ℕ) (answer : ℤ) (num
 
 -- of a stop as it is made
 pub stop_itself : {H F : Type 0} (hears : H → Heard → H → Type 0) (runs : F → Called → F → Type 0) {old new : MachineCpuValue} {h h' : H} {f f' : F}
-    (moves : Work → ℕ → List OwnMove) (work : Work) (v : ℤ) → IsShown old.stops → IsShown new.stops → old.stops.pending ≡ None
+    (moves : Work → ℕ → List OwnMove) (work : Work) (v : ℤ) → StopsAreShown old.stops → StopsAreShown new.stops → old.stops.pending ≡ None
     → old.stops.inside ≡ None
     → HasStopped hears runs moves work old h f new h' f' v → RunsItself work old.stops new.stops v
 stop_itself hears runs {old} {new} moves work v was shown none outside s =

@@ -11,7 +11,7 @@ use Rattle.smp_multi.specs.Advance.{IsInRound, Advances, RunsAt, looks, acknowle
 use Rattle.smp_multi.specs.Answers.{call_of}
 use Rattle.smp_multi.specs.Cpu.{CpuValue as StopCpuValue, Inside, makes, runs}
 use Rattle.smp_multi.specs.StepCounts.{patching}
-use Rattle.smp_multi.specs.Laws.{IsShown}
+use Rattle.smp_multi.specs.Laws.{StopsAreShown}
 use Rattle.smp_multi.specs.declared.func.Called.{Called}
 use Rattle.smp_multi.specs.declared.turn.Turn.{Turn}
 use Rattle.smp_multi.specs.declared.turn.Turn.TheVariants.{Same, Moved, Ran, Left}
@@ -39,7 +39,7 @@ runs_active : (me : ℕ) (work : Work) → work.kind ≢ One → HasToRun me wor
 runs_active me work several (inl one) = absurd (several one)
 runs_active me work several (inr active) = active
 
-module _ {F : Type 0} (leads : F → Called → F → Type 0) (old new : StopCpuValue) (f f' : F) (turn : Turn) (shown : IsShown old)
+module _ {F : Type 0} (leads : F → Called → F → Type 0) (old new : StopCpuValue) (f f' : F) (turn : Turn) (shown : StopsAreShown old)
     (t : TurnsStop leads old f new f' turn) where
   abbrev calls : List StopCall
   calls = map stop_call t.moves.ran
@@ -141,7 +141,8 @@ module _ {F : Type 0} (leads : F → Called → F → Type 0) (old new : StopCpu
 
 -- a look, and then a turn of a stop
 pub works_turn : {H F : Type 0} (hears : H → Heard → H → Type 0) (leads : F → Called → F → Type 0) {old mid new : MachineCpuValue} {h h' : H} {f f' : F}
-    {turn : Turn} → LooksIfOn hears old h mid h' → new.calls ≡ mid.calls → new.passes ≡ mid.passes → new.heard_at ≡ mid.heard_at → IsShown mid.stops → HasNotLeft mid.stops.inside
+    {turn : Turn} → LooksIfOn hears old h mid h' → new.calls ≡ mid.calls → new.passes ≡ mid.passes → new.heard_at ≡ mid.heard_at → StopsAreShown mid.stops
+    → HasNotLeft mid.stops.inside
     → mid.stops.irq ≡ on_there mid.stops.inside → TurnsStop leads mid.stops f new.stops f' turn → Works hears leads old h f new h' f' (own_of old)
 works_turn hears leads {old} {mid} {new} {h} {h'} {f} {f'} {turn} l calls passes heard shown not_left irq s =
     let t : TurnsStop leads old.stops f new.stops f' turn = subst (λ (x : StopCpuValue). TurnsStop leads x f new.stops f' turn) l.rest.stops_are s in
@@ -166,7 +167,7 @@ works_turn hears leads {old} {mid} {new} {h} {h'} {f} {f'} {turn} l calls passes
           (ap (λ (x : StopCpuValue). x.part.collected) k.kept) k.calls_are
           (beginning_still old.stops.moves new.stops.moves (ap (λ (x : StopCpuValue). x.moves) k.kept));
       serves = serves_none old new (ap (λ (x : PassesValue). x.taken) passed) (ap (λ (x : StopCpuValue). x.attempts) k.kept) k.keeps;
-      mine = own_turn leads old.stops new.stops f f' turn (subst IsShown l.rest.stops_are shown) t
+      mine = own_turn leads old.stops new.stops f f' turn (subst StopsAreShown l.rest.stops_are shown) t
           (subst (λ (x : StopCpuValue). HasNotLeft x.inside) l.rest.stops_are not_left);
       own_is = λ i. own_of (record { calls = new.calls; stops = k.kept i; passes = passed i; heard_at = new.heard_at });
     }

@@ -10,7 +10,7 @@ use Rattle.smp_queue.specs.declared.handler.Heard.{Heard}
 use Rattle.smp_multi.specs.Names.{OwnMove, Work}
 use Rattle.smp_multi.specs.declared.func.Called.{Called}
 use Rattle.smp_machine.specs.declared.work_queue.Item.{Item}
-use Rattle.smp_machine.specs.declared.work_queue.Noted.{Noted}
+use Rattle.smp_machine.specs.declared.work_queue.PutNote.{PutNote}
 use Rattle.smp_machine.specs.GateLaws.{noted_at_gate, HasQueued}
 use Rattle.smp_machine.specs.Own.{Own, put_one, put_all, note_all}
 use Rattle.smp_machine.specs.Passes.{noted_to, total}
@@ -45,22 +45,22 @@ total_members x m (suc k) put low =
     omega arith
 
 module _ (gate : Bool) (stop : Option Work) (x : Item) where
-  abbrev note : ℕ → Noted
+  abbrev note : ℕ → PutNote
   note n = record { gate = gate; stop = stop; before = n }
 
-  notes_sized : (xs : List ℕ) (put : List (List Item)) (noted : List (List Noted)) → length (note_all gate stop x xs put noted) ≡ length noted
+  notes_sized : (xs : List ℕ) (put : List (List Item)) (noted : List (List PutNote)) → length (note_all gate stop x xs put noted) ≡ length noted
   notes_sized [] put noted = refl
   notes_sized (cpu ∷ xs) put noted =
       notes_sized xs (put_one x cpu put) (put_one (note (total put)) cpu noted)
       ∙ length-set noted cpu (slice_index_or noted cpu [] ++ note (total put) ∷ [])
 
   -- one CPU more, or not
-  note_last : (c k : ℕ) (put : List (List Item)) (noted : List (List Noted)) (here : Bool) → c < length noted
+  note_last : (c k : ℕ) (put : List (List Item)) (noted : List (List PutNote)) (here : Bool) → c < length noted
       → slice_index_or (note_all gate stop x (if here then k ∷ [] else []) put noted) c []
       ≡ slice_index_or noted c [] ++ (if here && k == c then note (total put) ∷ [] else [])
   note_last c k put noted false low = sym (append-nil (slice_index_or noted c []))
   note_last c k put noted true low =
-      let n : Noted = note (total put) in elim (cases_eq k c) [
+      let n : PutNote = note (total put) in elim (cases_eq k c) [
         | inl same ↦
             ap (λ (j : ℕ). slice_index_or (put_one n j noted) c []) same
             ∙ (get_or-set_same noted c (slice_index_or noted c [] ++ n ∷ []) [] low
@@ -71,22 +71,22 @@ module _ (gate : Bool) (stop : Option Work) (x : Item) where
             ∙ sym (ap (λ (t : Bool). slice_index_or noted c [] ++ (if t then n ∷ [] else [])) (ne_eqb k c apart)))
       ]
 
-  note_members : (m c k : ℕ) (put : List (List Item)) (noted : List (List Noted)) → c < length noted → k ≤ length put
+  note_members : (m c k : ℕ) (put : List (List Item)) (noted : List (List PutNote)) → c < length noted → k ≤ length put
       → slice_index_or (note_all gate stop x (members_below m k) put noted) c []
       ≡ slice_index_or noted c [] ++ (if has m c && nat_lt c k then note (total put + length (members_below m c)) ∷ [] else [])
   unfolding members_below
   note_members m c zero put noted low room = none_below_0 (note (total put + length (members_below m c))) (slice_index_or noted c []) (has m c) c
   note_members m c (suc k) put noted low room =
-      let f : ℕ → Noted = λ j. note (total put + length (members_below m j)) in
+      let f : ℕ → PutNote = λ j. note (total put + length (members_below m j)) in
       let last : List ℕ = if has m k then k ∷ [] else [] in
       let mid : List (List Item) = put_all x (members_below m k) put in
-      let before : List (List Noted) = note_all gate stop x (members_below m k) put noted in
-      ap (λ (l : List (List Noted)). slice_index_or l c []) (note_all-append gate stop x (members_below m k) last put noted)
+      let before : List (List PutNote) = note_all gate stop x (members_below m k) put noted in
+      ap (λ (l : List (List PutNote)). slice_index_or l c []) (note_all-append gate stop x (members_below m k) last put noted)
       ∙ (note_last c k mid before (has m k) (subst (λ (n : ℕ). c < n) (sym (notes_sized (members_below m k) put noted)) low)
       ∙ (ap (λ (n : ℕ). slice_index_or before c [] ++ (if has m k && k == c then note n ∷ [] else [])) (total_members x m k put (omega arith))
-      ∙ (ap (λ (l : List Noted). l ++ (if has m k && k == c then f k ∷ [] else [])) (note_members m c k put noted low (omega arith))
+      ∙ (ap (λ (l : List PutNote). l ++ (if has m k && k == c then f k ∷ [] else [])) (note_members m c k put noted low (omega arith))
       ∙ (append_assoc (slice_index_or noted c []) (if has m c && nat_lt c k then f c ∷ [] else []) (if has m k && k == c then f k ∷ [] else [])
-      ∙ ap (λ (l : List Noted). slice_index_or noted c [] ++ l) (once f m c k)))))
+      ∙ ap (λ (l : List PutNote). slice_index_or noted c [] ++ l) (once f m c k)))))
 
 module _ {H F : Type 0} (hears : H → Heard → H → Type 0) (runs : F → Called → F → Type 0) where
   pub has_queued : (moves : Work → ℕ → List OwnMove) (work : Work) (old new : MachineCpuValue) (h h' : H) (f f' : F) (answer : ℤ)
@@ -96,4 +96,4 @@ module _ {H F : Type 0} (hears : H → Heard → H → Type 0) (runs : F → Cal
       let x : Item = item old.stops.number work in
       ap (λ (o : Own). slice_index_or o.noted c []) s.works.own_is
       ∙ (note_members true (Some work) x work.mask c NR_CPUS old.passes.put old.passes.noted (subst (λ (n : ℕ). c < n) (sym noted) low) (omega arith)
-      ∙ ap (λ (l : List Noted). noted_to old.passes c ++ l) (below (noted_at_gate work old c) (has work.mask c) c low))
+      ∙ ap (λ (l : List PutNote). noted_to old.passes c ++ l) (below (noted_at_gate work old c) (has work.mask c) c low))

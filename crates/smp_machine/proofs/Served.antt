@@ -13,7 +13,7 @@ use Rattle.smp_words.specs.Limits.{AreLimits}
 use Rattle.smp_stop_steps.specs.Start.{has_slot}
 use Rattle.smp_multi.specs.Answers.{RefusesEntry}
 use Rattle.smp_multi.specs.Cpu.{TableValue as StopTableValue, CpuValue as StopCpuValue, Inside}
-use Rattle.smp_multi.specs.Names.{Attempt, Work, Setting, StopCall}
+use Rattle.smp_multi.specs.Names.{Attempt, Work, StopSetting, StopCall}
 use Rattle.smp_machine.specs.declared.work_queue.Item.{Item}
 use Rattle.smp_machine.specs.Passes.{PassesValue, LastIsOwn, takes, TakenIsShown}
 use Rattle.smp_machine.specs.MachineCpu.{MachineValue, MachineCpuValue, IsMachine}
@@ -211,7 +211,7 @@ serves_then old mid new setting a b = record {
       ∙ (append_assoc old.stops.attempts (attempts_for a.served) (attempts_for b.served)
       ∙ ap (λ (l : List Attempt). old.stops.attempts ++ l) (sym (attempts_append a.served b.served))));
   looked_at = looked_append old.stops.setting.online a.served b.served a.looked_at
-      (subst (λ (k : Setting). AllByRecursion (IsLookedAt k.online) b.served) setting b.looked_at);
+      (subst (λ (k : StopSetting). AllByRecursion (IsLookedAt k.online) b.served) setting b.looked_at);
 }
 
 -- the front of the own queue was taken
@@ -311,7 +311,7 @@ pub drops : (t : StopTableValue) (source : ℕ) (old new : StopCpuValue) → Are
 drops t source old new limits setting outside (inl (inl inside, same)) = absurd (inside outside)
 drops t source old new limits setting outside (inl (inr none, same)) = inr (
   same,
-  ap (λ (x : Setting). has x.online source) setting ∙ not_online t.nr t.setting.online source limits none (has t.setting.online source) refl,
+  ap (λ (x : StopSetting). has x.online source) setting ∙ not_online t.nr t.setting.online source limits none (has t.setting.online source) refl,
 )
 drops t source old new limits setting outside (inr looked) = inl looked
 

@@ -19,7 +19,7 @@ use Rattle.smp_multi.specs.Polls.{IsLastResult}
 use Rattle.smp_multi.specs.declared.func.Called.{Called}
 use Rattle.smp_machine.specs.declared.work_queue.Item.{Item}
 use Rattle.smp_machine.specs.declared.work_queue.Knows.TheVariants.{Puts}
-use Rattle.smp_machine.specs.declared.work_queue.Noted.{Noted}
+use Rattle.smp_machine.specs.declared.work_queue.PutNote.{PutNote}
 use Rattle.smp_machine.specs.WorkQueue.{IsKnown}
 use Rattle.smp_machine.specs.Own.{Own, own_of, with_gate, with_begun, with_put, with_collected, with_moves, put_one, put_all, note_all}
 use Rattle.smp_machine.specs.OwnAnswers.{OwnAnswers}
@@ -51,7 +51,7 @@ pub put_all-append : (x : Item) (xs ys : List ℕ) (put : List (List Item)) → 
 put_all-append x [] ys put = refl
 put_all-append x (cpu ∷ xs) ys put = put_all-append x xs ys (put_one x cpu put)
 
-pub note_all-append : (gate : Bool) (stop : Option Work) (x : Item) (xs ys : List ℕ) (put : List (List Item)) (noted : List (List Noted))
+pub note_all-append : (gate : Bool) (stop : Option Work) (x : Item) (xs ys : List ℕ) (put : List (List Item)) (noted : List (List PutNote))
     → note_all gate stop x (xs ++ ys) put noted ≡ note_all gate stop x ys (put_all x xs put) (note_all gate stop x xs put noted)
 note_all-append gate stop x [] ys put noted = refl
 note_all-append gate stop x (cpu ∷ xs) ys put noted =
@@ -218,10 +218,10 @@ pub shown_none : (p : PassesValue) → AreShown [] p
 shown_none p c h = absurd (true≢false (sym h))
 
 -- what is known of a pass, as far as it was not put to
-known_at : {n m : ℕ} {l k : List Item} {a b : List Noted} → n ≡ m → l ≡ k → a ≡ b → IsKnown (Puts n l a) → IsKnown (Puts m k b)
+known_at : {n m : ℕ} {l k : List Item} {a b : List PutNote} → n ≡ m → l ≡ k → a ≡ b → IsKnown (Puts n l a) → IsKnown (Puts m k b)
 known_at e f g = subst IsKnown (λ i. Puts (e i) (f i) (g i))
 
-pub shown_more : (x : Item) (note : Noted) (xs : List ℕ) (cpu : ℕ) (p q : PassesValue) → q.number ≡ p.number → q.put ≡ put_one x cpu p.put
+pub shown_more : (x : Item) (note : PutNote) (xs : List ℕ) (cpu : ℕ) (p q : PassesValue) → q.number ≡ p.number → q.put ≡ put_one x cpu p.put
     → q.noted ≡ put_one note cpu p.noted → AreShown xs p → PutIsShown q cpu → AreShown (xs ++ cpu ∷ []) q
 shown_more x note xs cpu p q number put noted shown here c h = elim (cases_eq c cpu) [
   | inl same ↦ subst (PutIsShown q) (sym same) here
@@ -230,13 +230,14 @@ shown_more x note xs cpu p q number put noted shown here c h = elim (cases_eq c 
       (sym (is_in-append c xs (cpu ∷ [])) ∙ h)) in
       known_at (sym number)
       (sym (ap (λ (l : List (List Item)). slice_index_or l c []) put ∙ get_or-set_other p.put cpu c (slice_index_or p.put cpu [] ++ x ∷ []) [] apart))
-      (sym (ap (λ (l : List (List Noted)). slice_index_or l c []) noted ∙ get_or-set_other p.noted cpu c (slice_index_or p.noted cpu [] ++ note ∷ []) [] apart))
+      (sym (ap (λ (l : List (List PutNote)). slice_index_or l c []) noted ∙ get_or-set_other p.noted cpu c
+      (slice_index_or p.noted cpu [] ++ note ∷ []) [] apart))
       (shown c there)
 ]
 
 pub shown_at : {xs ys : List ℕ} (p q : PassesValue) → xs ≡ ys → p.number ≡ q.number → p.put ≡ q.put → p.noted ≡ q.noted → AreShown xs p → AreShown ys q
 shown_at {xs} {ys} p q e n put noted shown c h =
-    known_at n (ap (λ (l : List (List Item)). slice_index_or l c []) put) (ap (λ (l : List (List Noted)). slice_index_or l c []) noted)
+    known_at n (ap (λ (l : List (List Item)). slice_index_or l c []) put) (ap (λ (l : List (List PutNote)). slice_index_or l c []) noted)
     (shown c (ap (is_in c) e ∙ h))
 
 module _ {H F : Type 0} (hears : H → Heard → H → Type 0) (runs : F → Called → F → Type 0) where

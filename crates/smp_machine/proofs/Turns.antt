@@ -27,7 +27,7 @@ use Rattle.smp_stop_steps.specs.Start.{answer_word}
 use Rattle.smp_stop_steps.specs.Tells.{first_readings}
 use Rattle.smp_words.specs.declared.phase.TheConstants.{DISABLE_IRQ, RUN, EXIT}
 use Rattle.smp_machine.specs.MachineCpu.{MachineCpuValue, HasNotLeft, notes_looks}
-use Rattle.smp_machine.specs.Works.{handled_calls, stop_call, turned, HasRun, LooksOnce, LooksIfOn, StopMoves, GoesRound}
+use Rattle.smp_machine.specs.Works.{handled_calls, stop_call, turned, HasRunStops, LooksOnce, LooksIfOn, StopMoves, GoesRound}
 use Rattle.smp_machine.specs.Served.{KeepsVisits}
 use Rattle.smp_machine.specs.Works.{completed, StaysIn, TurnsStop}
 use Rattle.smp_machine.proofs.Looks.{notes_none}
@@ -164,7 +164,7 @@ module _ {F : Type 0} (leads : F → Called → F → Type 0) where
   not_run old new f f' _ r = absurd r
 
   lit_moves : (old x new : StopCpuValue) (f f' : F) (ran : List Called) → x ≡ turned old x → KeepsVisits old x
-      → x.part.calls ≡ old.part.calls ++ map stop_call ran → HasRun leads old.number f ran f' → new ≡ x → StopMoves leads old f new f'
+      → x.part.calls ≡ old.part.calls ++ map stop_call ran → HasRunStops leads old.number f ran f' → new ≡ x → StopMoves leads old f new f'
   lit_moves old x new f f' ran kept keeps calls grows is =
       subst (λ (y : StopCpuValue). StopMoves leads old f y f') (sym is) (record { kept = kept; keeps = keeps; ran = ran; calls_are = calls; grows = grows })
 

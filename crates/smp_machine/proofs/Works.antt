@@ -13,7 +13,7 @@ use Rattle.smp_machine.specs.Own.{Own, own_of}
 use Rattle.smp_machine.specs.MachineCpu.{MachineValue, MachineCpuValue, IsAt}
 use Rattle.smp_machine.specs.OwnAnswers.{OwnAnswers}
 use Rattle.smp_machine.specs.Served.{IsLater, Serves}
-use Rattle.smp_machine.specs.Works.{handled_calls, stop_call, HasRun, Works}
+use Rattle.smp_machine.specs.Works.{handled_calls, stop_call, HasRunStops, Works}
 use Rattle.smp_machine.proofs.Looks.{hears_none, hears_then}
 use Rattle.smp_machine.proofs.OwnAnswers.{own_still, own_then}
 use Rattle.smp_machine.proofs.Served.{later_same, later_then, serves_still, serves_then}
@@ -81,7 +81,7 @@ module _ {H F : Type 0} (hears : H → Heard → H → Type 0) (leads : F → Ca
     ran = a.ran ++ b.ran;
     calls_are = ran_then old.stops.part.calls mid.stops.part.calls new.stops.part.calls a.ran b.ran a.calls_are b.calls_are;
     grows = folds-append (λ p call q. (call.cpu ≡ old.stops.number) × leads p call q) a.ran b.ran f f₁ f₂ a.grows
-        (subst (λ (n : ℕ). HasRun leads n f₁ b.ran f₂) a.number_is b.grows);
+        (subst (λ (n : ℕ). HasRunStops leads n f₁ b.ran f₂) a.number_is b.grows);
     queues_are = b.queues_are ∙ a.queues_are;
     passes_number = b.passes_number ∙ a.passes_number;
     later = later_then old.stops mid.stops new.stops a.later b.later;

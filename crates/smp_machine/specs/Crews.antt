@@ -1,8 +1,8 @@
 -- What CPUs have done, each on a thread of its own.
 use Rattle.std.specs.Prelude.{◌≡◌, ◌⊎◌, ℕ, None, List}
-use Rattle.smp_queue.specs.Laws.{IsShown as CallsAreShown}
+use Rattle.smp_queue.specs.Laws.{CallsAreShown}
 use Rattle.smp_queue.specs.declared.handler.Heard.{Heard}
-use Rattle.smp_multi.specs.Laws.{IsShown as StopsAreShown}
+use Rattle.smp_multi.specs.Laws.{StopsAreShown}
 use Rattle.smp_multi.specs.declared.func.Called.{Called}
 use Rattle.smp_machine.specs.Members.{AreFor}
 use Rattle.smp_machine.specs.Own.{own_of}
@@ -12,7 +12,7 @@ use Rattle.smp_machine.specs.Works.{Works}
 use Rattle.smp_machine.specs.declared.crew.Played.{Played}
 
 -- words of both tables show what it knows, and keep all laws
-pub record IsShown (p : MachineCpuValue) : Type 0 where
+pub record BothAreShown (p : MachineCpuValue) : Type 0 where
   pub calls : CallsAreShown p.calls
   pub stops : StopsAreShown p.stops
 
@@ -29,7 +29,7 @@ pub record IsPlayed {H F A : Type 0} (hears : H → Heard → H → Type 0) (run
     (plays : SeatValue H F → SeatValue H F → Type 0) (leaves : ℕ → Type 0) (m : MachineValue) (number : ℕ) (p : Played H F A) : Type 0 where
   pub at : IsAt m p.cpu
   pub number_is : p.cpu.calls.number ≡ number
-  pub shown : IsShown p.cpu
+  pub shown : BothAreShown p.cpu
   pub handler : H
   pub functions : F
   pub made : begins number handler functions

@@ -14,7 +14,7 @@ use Rattle.smp_machine.specs.Keys.{KeyStands, TurnsKey}
 use Rattle.smp_machine.specs.Moves.{told, short_stop, long_stop, LooksUpTo}
 use Rattle.smp_machine.specs.Own.{own_of}
 use Rattle.smp_machine.specs.Passes.{noted_to, total}
-use Rattle.smp_machine.specs.declared.work_queue.Noted.{Noted}
+use Rattle.smp_machine.specs.declared.work_queue.PutNote.{PutNote}
 use Rattle.smp_machine.specs.MachineCpu.{MachineCpuValue}
 use Rattle.smp_machine.specs.Stops.{HasStopped}
 use Rattle.smp_machine.specs.Works.{Works}
@@ -71,7 +71,7 @@ pub record HasTurned (k : ℕ) (up : Bool) (work : Work) (word : ℕ) (old new :
 
 -- what is noted with the put of this work into the queue of CPU c: the gate was held, the own stop was that of the work, and all
 -- CPUs of its mask below c were put to before
-abbrev pub noted_at_gate : Work → MachineCpuValue → ℕ → Noted
+abbrev pub noted_at_gate : Work → MachineCpuValue → ℕ → PutNote
 noted_at_gate work old c = record { gate = true; stop = Some work; before = total old.passes.put + length (members_below work.mask c) }
 
 -- since then this is noted once for each CPU of the mask of this work, and nothing else

@@ -2,7 +2,7 @@
 use Rattle.std.specs.Prelude.{ℕ, Bool, Option, Some, None, List, [], ◌∷◌, ◌++◌, slice_index_or, slice_set}
 use Rattle.smp_multi.specs.Names.{Work, Moved}
 use Rattle.smp_machine.specs.declared.work_queue.Item.{Item}
-use Rattle.smp_machine.specs.declared.work_queue.Noted.{Noted}
+use Rattle.smp_machine.specs.declared.work_queue.PutNote.{PutNote}
 use Rattle.smp_multi.specs.Names.{OwnMove}
 use Rattle.smp_machine.specs.Moves.{told}
 use Rattle.smp_machine.specs.MachineCpu.{MachineCpuValue}
@@ -18,7 +18,7 @@ pub record Own : Type 0 where
   pub collected : List ℕ
   pub nudged : List Moved
   pub put : List (List Item)
-  pub noted : List (List Noted)
+  pub noted : List (List PutNote)
   pub moves : List OwnMove
 
 abbrev pub own_of : MachineCpuValue → Own
@@ -59,7 +59,7 @@ put_all x [] put = put
 put_all x (cpu ∷ more) put = put_all x more (put_one x cpu put)
 
 -- what is noted with these puts, each with how many there were before it
-abbrev pub note_all : Bool → Option Work → Item → List ℕ → List (List Item) → List (List Noted) → List (List Noted)
+abbrev pub note_all : Bool → Option Work → Item → List ℕ → List (List Item) → List (List PutNote) → List (List PutNote)
 note_all gate stop x [] put noted = noted
 note_all gate stop x (cpu ∷ more) put noted =
     note_all gate stop x more (put_one x cpu put) (put_one (record { gate = gate; stop = stop; before = total put }) cpu noted)

@@ -8,7 +8,7 @@ use Rattle.smp_words.specs.Size.{cpus}
 use Rattle.smp_multi.specs.Cpu.{CpuValue as StopCpuValue}
 use Rattle.smp_machine.specs.declared.work_queue.Item.{Item}
 use Rattle.smp_machine.specs.declared.work_queue.Knows.{Knows}
-use Rattle.smp_machine.specs.declared.work_queue.Noted.{Noted}
+use Rattle.smp_machine.specs.declared.work_queue.PutNote.{PutNote}
 use Rattle.smp_machine.specs.declared.work_queue.Knows.TheVariants.{Takes, Puts}
 use Rattle.smp_machine.specs.WorkQueue.{IsKnown}
 
@@ -18,14 +18,14 @@ pub record PassesValue : Type 0 where
   pub queues : List TableId
   pub number : ℕ
   pub put : List (List Item)
-  pub noted : List (List Noted)
+  pub noted : List (List PutNote)
   pub taken : List Item
 
 abbrev pub items_of : Knows → List Item
 items_of (Takes n l) = l
 items_of (Puts s l notes) = l
 
-abbrev pub notes_of : Knows → List Noted
+abbrev pub notes_of : Knows → List PutNote
 notes_of (Takes n l) = []
 notes_of (Puts s l notes) = notes
 
@@ -46,7 +46,7 @@ abbrev pub put_of : List (Pass Item Knows) → List (List Item)
 put_of passes = map (λ p. items_of (view p)) passes
 
 -- what is noted with it
-abbrev pub noted_of : List (Pass Item Knows) → List (List Noted)
+abbrev pub noted_of : List (Pass Item Knows) → List (List PutNote)
 noted_of passes = map (λ p. notes_of (view p)) passes
 
 -- the passes of a CPU, as contracts see them
@@ -72,7 +72,7 @@ abbrev pub put_to : PassesValue → ℕ → List Item
 put_to p cpu = slice_index_or p.put cpu []
 
 -- what is noted with each of these
-abbrev pub noted_to : PassesValue → ℕ → List Noted
+abbrev pub noted_to : PassesValue → ℕ → List PutNote
 noted_to p cpu = slice_index_or p.noted cpu []
 
 -- how many items it has put, into all queues
@@ -81,11 +81,11 @@ total [] = 0
 total (l ∷ more) = length l + total more
 
 -- what it notes with its next put: how it stands with the gate and with its own stop, and how many items it has put
-abbrev pub note_of : StopCpuValue → PassesValue → Noted
+abbrev pub note_of : StopCpuValue → PassesValue → PutNote
 note_of c p = record { gate = c.part.holds; stop = c.pending; before = total p.put }
 
 -- it has put this item into this queue, and has noted this with it
-abbrev pub puts : ℕ → Item → Noted → PassesValue → PassesValue
+abbrev pub puts : ℕ → Item → PutNote → PassesValue → PassesValue
 puts cpu x note p = record p { put = slice_set p.put cpu (put_to p cpu ++ x ∷ []); noted = slice_set p.noted cpu (noted_to p cpu ++ note ∷ []) }
 
 -- it has taken this item

@@ -16,7 +16,7 @@ use Rattle.smp_multi.specs.Polls.{HasAnsweredItself}
 use Rattle.smp_multi.specs.declared.func.Called.{Called}
 use Rattle.smp_machine.specs.declared.work_queue.Item.{Item}
 use Rattle.smp_machine.specs.declared.work_queue.Knows.{Knows}
-use Rattle.smp_machine.specs.declared.work_queue.Noted.{Noted}
+use Rattle.smp_machine.specs.declared.work_queue.PutNote.{PutNote}
 use Rattle.smp_machine.specs.declared.work_queue.Knows.TheVariants.{Takes, Puts}
 use Rattle.smp_machine.specs.Own.{Own}
 use Rattle.smp_machine.specs.Passes.{PassesValue, put_to}
@@ -112,7 +112,7 @@ PollsSendNothing {H} {F} hears runs = (old new : MachineCpuValue) (h h' : H) (f 
 -- In a queue that keeps its rule: what a source knows to have put are the items of its own slot, in order, of all that the
 -- taker knows to have taken, and then of those still there.
 abbrev pub QueuesKeepOrder : Type 0
-QueuesKeepOrder = (items taken put : List Item) (notes : List Noted) (views : List Knows) (source next at to : ℕ) → IsInOrder items views
+QueuesKeepOrder = (items taken put : List Item) (notes : List PutNote) (views : List Knows) (source next at to : ℕ) → IsInOrder items views
     → get_elem? views at ≡ some (Takes next taken) → get_elem? views to ≡ some (Puts source put notes)
     → put ≡ filter (λ x. x.slot == source) (taken ++ items)
 

@@ -4,7 +4,7 @@ use mathlib.Core.Option.{some}
 use lib.ListN.{get_elem?}
 use Rattle.smp_machine.specs.declared.work_queue.Item.{Item}
 use Rattle.smp_machine.specs.declared.work_queue.Knows.{Knows}
-use Rattle.smp_machine.specs.declared.work_queue.Noted.{Noted}
+use Rattle.smp_machine.specs.declared.work_queue.PutNote.{PutNote}
 use Rattle.smp_machine.specs.declared.work_queue.Knows.TheVariants.{Takes, Puts}
 
 -- the items of one source, in order
@@ -26,7 +26,7 @@ pub record IsInOrder (items : List Item) (views : List Knows) : Type 0 where
   pub next : ℕ
   pub taken : List Item
   pub takes : get_elem? views taker ≡ some (Takes next taken)
-  pub puts : (s : ℕ) → s < next → (notes : List Noted) × (get_elem? views (port s) ≡ some (Puts s (items_by s (taken ++ items)) notes))
+  pub puts : (s : ℕ) → s < next → (notes : List PutNote) × (get_elem? views (port s) ≡ some (Puts s (items_by s (taken ++ items)) notes))
   pub each : (p : ℕ) (v : Knows) → get_elem? views p ≡ some v → IsAtPort taker port next taken items p v
   -- the other sources have put nothing
   pub fresh : (s : ℕ) → next ≤ s → items_by s (taken ++ items) ≡ []
@@ -42,7 +42,7 @@ given (Takes n l) = Puts n [] []
 given (Puts s l notes) = Puts s [] []
 
 -- an item is put, and this is noted with it
-abbrev pub puts_more : Noted → Knows → Item → Knows
+abbrev pub puts_more : PutNote → Knows → Item → Knows
 puts_more note (Takes n l) x = Takes n l
 puts_more note (Puts s l notes) x = Puts s (l ++ x ∷ []) (notes ++ note ∷ [])
 

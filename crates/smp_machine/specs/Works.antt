@@ -4,11 +4,11 @@ use Rattle.std.specs.List.{FoldsTo}
 use Rattle.smp_stop_steps.specs.Start.{answer_word}
 use Rattle.smp_stop_steps.specs.Tells.{first_readings}
 use Rattle.smp_words.specs.declared.phase.TheConstants.{EXIT}
-use Rattle.smp_queue.specs.Names.{Part as CallPart}
+use Rattle.smp_queue.specs.Names.{CallPart}
 use Rattle.smp_queue.specs.Cpu.{CpuValue as CallCpuValue}
 use Rattle.smp_queue.specs.declared.handler.Heard.{Heard}
 use Rattle.smp_calls.specs.Handles.{Handles}
-use Rattle.smp_multi.specs.Names.{Part, StopCall, One}
+use Rattle.smp_multi.specs.Names.{StopPart, StopCall, One}
 use Rattle.smp_multi.specs.Advance.{IsInRound, Advances, completes}
 use Rattle.smp_multi.specs.Answers.{IsInOne, completes_one}
 use Rattle.smp_multi.specs.Cpu.{CpuValue as StopCpuValue, Inside}
@@ -41,8 +41,8 @@ abbrev pub stop_call : Called → StopCall
 stop_call c = record { func = c.func; arg = c.arg; answer = answer_word c.answer }
 
 -- these calls, on the CPU of this number, in order and no others, lead a stop function's value from one to the other
-abbrev pub HasRun : {F : Type 0} → (F → Called → F → Type 0) → ℕ → F → List Called → F → Type 0
-HasRun leads number before ran after = FoldsTo (λ p call q. (call.cpu ≡ number) × leads p call q) before ran after
+abbrev pub HasRunStops : {F : Type 0} → (F → Called → F → Type 0) → ℕ → F → List Called → F → Type 0
+HasRunStops leads number before ran after = FoldsTo (λ p call q. (call.cpu ≡ number) × leads p call q) before ran after
 
 -- A CPU has handled interrupts and taken part in stops: its handler has heard just what it has run, and only while interrupts were
 -- on; its stop function has run just its calls, the works that it has taken were served, its answers to its own stops were given by
@@ -57,7 +57,7 @@ pub record Works {H F : Type 0} (hears : H → Heard → H → Type 0) (leads : 
   pub number_is : new.stops.number ≡ old.stops.number
   pub ran : List Called
   pub calls_are : new.stops.part.calls ≡ old.stops.part.calls ++ map stop_call ran
-  pub grows : HasRun leads old.stops.number f ran f'
+  pub grows : HasRunStops leads old.stops.number f ran f'
   pub queues_are : new.passes.queues ≡ old.passes.queues
   pub passes_number : new.passes.number ≡ old.passes.number
   pub later : IsLater old.stops new.stops
@@ -95,7 +95,7 @@ pub record LooksIfOn {H : Type 0} (hears : H → Heard → H → Type 0) (old : 
   pub off : old.stops.irq ≡ false → (new.calls ≡ old.calls) × (h' ≡ h)
 
 -- a CPU of the stops that has only taken part in the stop that it is in
-abbrev pub turned_part : Part → Part → Part
+abbrev pub turned_part : StopPart → StopPart → StopPart
 turned_part old new = record old {
   answers = new.answers;
   looks = new.looks;
@@ -114,7 +114,7 @@ pub record StopMoves {F : Type 0} (leads : F → Called → F → Type 0) (old :
   pub keeps : KeepsVisits old new
   pub ran : List Called
   pub calls_are : new.part.calls ≡ old.part.calls ++ map stop_call ran
-  pub grows : HasRun leads old.number f ran f'
+  pub grows : HasRunStops leads old.number f ran f'
 
 -- a stop of one CPU has run, and is completed with the answer of its function
 pub record RunsOne {F : Type 0} (leads : F → Called → F → Type 0) (old : StopCpuValue) (f : F) (new : StopCpuValue) (f' : F) : Type 0 where

@@ -2,7 +2,7 @@
 
 ghost use Rattle.std.specs.Prelude.{◌≡◌, ◌≢◌, ◌<◌, None, true, false};
 ghost use Rattle.smp_words.specs.Size.{cpus};
-ghost use Rattle.smp_multi.specs.Laws.{IsShown};
+ghost use Rattle.smp_multi.specs.Laws.{StopsAreShown};
 ghost use Rattle.smp_machine.specs.MachineCpu.{HasNotLeft, on_there};
 
 use crate::heard_at::HeardAt;
@@ -45,7 +45,7 @@ impl<A: Allocator> MachineCpu<A> {
 
     /// Some words of the stop table show its part of the stops; and it has not left its stop. It makes no step.
     pub(crate) fn is_shown(&self, table: &StopTable<A>)
-        ensures shown { IsShown self.now.stops }
+        ensures shown { StopsAreShown self.now.stops }
         ensures not_left { HasNotLeft self.now.stops.inside }
         ensures irq { self.now.stops.irq ≡ on_there self.now.stops.inside }
     {

@@ -21,7 +21,7 @@ pub struct Item {
 
 /// What is noted with a put: whether its CPU held the gate, which stop of its own was open, and how many items it had put
 /// before, into all queues. No value of it is made.
-pub struct Noted {
+pub struct PutNote {
     pub gate: bool,
     pub stop: Option<Work>,
     pub before: u64,
@@ -32,7 +32,7 @@ pub enum Knows {
     /// The pass of the CPU that takes: how many sources have a pass, and what it has taken.
     Takes(u32, LinkedList<Item>),
     /// The pass of a source, what it has put there, and what is noted with each.
-    Puts(u32, LinkedList<Item>, LinkedList<Noted>),
+    Puts(u32, LinkedList<Item>, LinkedList<PutNote>),
 }
 
 /// The rule of a queue.
@@ -61,9 +61,9 @@ impl Split<Knows> for Gives {
 
 /// What a put notes. Each put picks it.
 pub trait Noting {
-    ghost use Rattle.smp_machine.specs.declared.work_queue.Noted.{Noted};
+    ghost use Rattle.smp_machine.specs.declared.work_queue.PutNote.{PutNote};
 
-    ghost note: { Noted };
+    ghost note: { PutNote };
 }
 
 impl Noting for Brand {

@@ -5,7 +5,7 @@ use Rattle.atomic_table.specs.Seated.{TableId}
 use Rattle.smp_mask.specs.Mask.{has}
 use Rattle.smp_stop_steps.specs.Callings.{with_answer}
 use Rattle.smp_stop_steps.specs.Known.{carrying, stepped}
-use Rattle.smp_multi.specs.Lives.{Lives, Moment}
+use Rattle.smp_multi.specs.Lives.{Lives, StopMoment}
 use Rattle.smp_stop_steps.specs.KnownAfter.{looked_known, looked_to}
 use Rattle.smp_stop_steps.specs.Sits.{OwnsIf}
 use Rattle.smp_stop_steps.specs.Start.{answer_word}
@@ -14,7 +14,7 @@ use Rattle.smp_stop_steps.specs.Labels.{patch_answer}
 use Rattle.smp_stop_steps.specs.declared.known.Reading.{Reading}
 use Rattle.smp_words.specs.declared.phase.TheConstants.{DISABLE_IRQ, RUN, EXIT}
 use Rattle.smp_stop_steps.specs.declared.stage.Visit.{Visit}
-use Rattle.smp_multi.specs.Names.{Key, Work, Kind, One, Multi, Patch, Seat, In, Rests, Known, Part, Calling, Idle, Calls, Carries}
+use Rattle.smp_multi.specs.Names.{Key, Work, Kind, One, Multi, Patch, StopRole, In, Rests, KnownStops, StopPart, Calling, Idle, Calls, Carries}
 use Rattle.smp_multi.specs.Advance.{Advances, AdvanceAnswers, RunsAt, acknowledges, carries, looks, patches}
 use Rattle.smp_multi.specs.Cpu.{CpuValue, CallsNone, Inside, IsKept, call_with, calls_with, part_with, cpu_of, inside_of, makes, runs}
 use Rattle.smp_multi.specs.Laws.{FindsCount}
@@ -23,7 +23,7 @@ use Rattle.smp_multi.specs.Rounds.{AtTurn, passed_by, passed_known}
 use Rattle.smp_multi.specs.Running.{answered_now, called}
 use Rattle.smp_multi.specs.Seat.{SeatValue}
 use Rattle.smp_multi.specs.StepCounts.{patching}
-use Rattle.smp_multi.specs.Turns.{TurnAnswers, HasRun, patched_by, patched_with}
+use Rattle.smp_multi.specs.Turns.{TurnAnswers, HasRunFunction, patched_by, patched_with}
 use Rattle.smp_multi.specs.declared.func.Called.{Called}
 use Rattle.smp_multi.specs.declared.turn.Turn.{Turn}
 use Rattle.smp_multi.specs.declared.turn.Turn.TheVariants.{Same, Moved, Ran, Left}
@@ -43,7 +43,7 @@ quiet_carried v n (Calls call) q true = absurd q
 quiet_carried v n (Carries answer) q true = refl
 
 -- a CPU that was between two turns, and has made one with a new phase
-abbrev turned_at : Known → ℕ → ℕ → Work → Calling → Known
+abbrev turned_at : KnownStops → ℕ → ℕ → Work → Calling → KnownStops
 turned_at k p s w f = record k {
   seat = In s w p p Rests;
   part = record (k.part) {
@@ -53,15 +53,15 @@ turned_at k p s w f = record k {
   };
 }
 
-passed_is : (k : Known) (s : ℕ) (w : Work) (a p : ℕ) → k.seat ≡ In s w a a Rests → passed_known p k ≡ turned_at k p s w k.part.calling
+passed_is : (k : KnownStops) (s : ℕ) (w : Work) (a p : ℕ) → k.seat ≡ In s w a a Rests → passed_known p k ≡ turned_at k p s w k.part.calling
 passed_is k s w a p e = ap (λ x. passed_by (looked_to p x) (record k { seat = looked_to p x; part = record (k.part) { looks = k.part.looks ++ p ∷ [] } })) e
 
-looked_is : (k : Known) (s : ℕ) (w : Work) (a : ℕ) → k.seat ≡ In s w a a Rests
+looked_is : (k : KnownStops) (s : ℕ) (w : Work) (a : ℕ) → k.seat ≡ In s w a a Rests
     → looked_known a k ≡ record k { part = record (k.part) { looks = k.part.looks ++ a ∷ [] } }
 looked_is k s w a e = ap (λ x. record k { seat = looked_to a x; part = record (k.part) { looks = k.part.looks ++ a ∷ [] } }) e
     ∙ ap (λ x. record k { seat = x; part = record (k.part) { looks = k.part.looks ++ a ∷ [] } }) (sym e)
 
-ran_is : (k : Known) (s : ℕ) (w : Work) (a : ℕ) (y : ℤ) → k.seat ≡ In s w a a Rests
+ran_is : (k : KnownStops) (s : ℕ) (w : Work) (a : ℕ) (y : ℤ) → k.seat ≡ In s w a a Rests
     → passed_by (looked_to RUN k.seat) (answered_now y (looked_known RUN k))
     ≡ turned_at (carrying (answer_word y) k) RUN s w (Calls (call_with w 0))
 ran_is k s w a y e = ap (λ x. passed_by (looked_to RUN x) (answered_now y (record k {
@@ -69,11 +69,11 @@ ran_is k s w a y e = ap (λ x. passed_by (looked_to RUN x) (answered_now y (reco
   part = record (k.part) { looks = k.part.looks ++ RUN ∷ [] };
 }))) e
 
-abbrev patched_at : Known → ℕ → Work → ℕ → Known
+abbrev patched_at : KnownStops → ℕ → Work → ℕ → KnownStops
 patched_at k s w count = let next = turned_at (carrying (patch_answer w count) k) RUN s w (Carries 0) in
     record next { part = record (next.part) { patched = patched_with w count k.part.patched } }
 
-patched_is : (k : Known) (s : ℕ) (w : Work) (a count : ℕ) → k.seat ≡ In s w a a Rests
+patched_is : (k : KnownStops) (s : ℕ) (w : Work) (a count : ℕ) → k.seat ≡ In s w a a Rests
     → patched_by count (looked_to RUN k.seat) (looked_known RUN k) ≡ patched_at k s w count
 patched_is k s w a count e = ap (λ x. patched_by count (looked_to RUN x) (record k {
   seat = looked_to RUN x;
@@ -81,9 +81,9 @@ patched_is k s w a count e = ap (λ x. patched_by count (looked_to RUN x) (recor
 })) e
 
 -- what a turn leaves: another seat, part, answer and number of steps, with which the CPU calls no function
-record Turned (k m : Known) (x : Visit) : Type 0 where
-  seat : Seat
-  part : Part
+record Turned (k m : KnownStops) (x : Visit) : Type 0 where
+  seat : StopRole
+  part : StopPart
   carried : ℕ
   steps : ℕ
   is : m ≡ record k { seat = seat; part = part; carried = carried; steps = steps }
@@ -104,7 +104,7 @@ module _ {F : Type 0} (leads : F → Called → F → Type 0) (t : TableId) (d e
   abbrev old : CpuValue
   old = cpu_of d
 
-  ran_turned : (kind : Kind) → HasRun leads d.known e.known v x f g kind → Turned d.known e.known x
+  ran_turned : (kind : Kind) → HasRunFunction leads d.known e.known v x f g kind → Turned d.known e.known x
   ran_turned One h = absurd h
   ran_turned Multi h = record {
     seat = In v.slot w RUN RUN Rests;
@@ -155,20 +155,20 @@ module _ {F : Type 0} (leads : F → Called → F → Type 0) (t : TableId) (d e
   advance_kept turn h lives =
       let r = turned turn h in
       record {
-        number_is = ap (λ (z : Known). z.number) r.is ∙ k.number_is;
+        number_is = ap (λ (z : KnownStops). z.number) r.is ∙ k.number_is;
         below = k.below;
-        online = ap (λ (z : Known). has z.setting.online number) r.is ∙ k.online;
+        online = ap (λ (z : KnownStops). has z.setting.online number) r.is ∙ k.online;
         rests = (work_in e.known.seat, a.loaded, a.seat_is);
         low = a.low;
-        quiet = subst (λ (z : Known). CallsNone (Some x) z.carried z.part.calling) (sym r.is) r.quiet;
-        holds_is = k.holds_is ∙ sym (ap (λ (z : Known). z.part.holds) r.is ∙ r.holds);
-        owns = subst (OwnsIf is_open) (sym (ap (λ (z : Known). z.source) r.is)) k.owns;
+        quiet = subst (λ (z : KnownStops). CallsNone (Some x) z.carried z.part.calling) (sym r.is) r.quiet;
+        holds_is = k.holds_is ∙ sym (ap (λ (z : KnownStops). z.part.holds) r.is ∙ r.holds);
+        owns = subst (OwnsIf is_open) (sym (ap (λ (z : KnownStops). z.source) r.is)) k.owns;
         lives = lives;
       }
 
   -- what contracts see of the same
 
-  view : (z : Known) → e.known ≡ z → cpu_of e ≡ cpu_of (record { table = d.table; known = z })
+  view : (z : KnownStops) → e.known ≡ z → cpu_of e ≡ cpu_of (record { table = d.table; known = z })
   view z same = λ i. cpu_of (record { table = (a.table_is ∙ sym table) i; known = same i })
 
   work_is : w ≡ work_in d.known.seat
@@ -207,21 +207,21 @@ module _ {F : Type 0} (leads : F → Called → F → Type 0) (t : TableId) (d e
   at_run_view : v.acked ≡ DISABLE_IRQ → cpu_of at_run ≡ makes 3 (looks RUN old)
   at_run_view two =
       let there : d.known.seat ≡ In v.slot w DISABLE_IRQ DISABLE_IRQ Rests = is ∙ ap (λ n. In v.slot w n n Rests) two in
-      let P : Seat → CpuValue = λ y. cpu_of (record {
+      let P : StopRole → CpuValue = λ y. cpu_of (record {
         table = d.table;
         known = stepped 3 (record (d.known) { seat = looked_to RUN y; part = record (d.known.part) { looks = d.known.part.looks ++ RUN ∷ [] } });
       }) in
-      let Q : Seat → CpuValue = λ y. makes 3 (looks RUN (cpu_of (record { table = d.table; known = record (d.known) { seat = y } }))) in
+      let Q : StopRole → CpuValue = λ y. makes 3 (looks RUN (cpu_of (record { table = d.table; known = record (d.known) { seat = y } }))) in
       ap P there ∙ sym (ap Q there)
 
-  finds : (count : ℕ) → v.acked ≡ DISABLE_IRQ → Moment (stepped 3 (looked_known RUN d.known)) (Key (work_in d.known.seat).func) count
+  finds : (count : ℕ) → v.acked ≡ DISABLE_IRQ → StopMoment (stepped 3 (looked_known RUN d.known)) (Key (work_in d.known.seat).func) count
       → FindsCount (makes 3 (looks RUN old)) w.func count
   finds count two m =
       let free : HasNotGiven (looked_to RUN d.known.seat) = subst (λ y. HasNotGiven (looked_to RUN y)) (sym is) tt in
       subst (λ (z : CpuValue). FindsCount z w.func count) (at_run_view two) (finds_count at_run w.func count free
-      (subst (λ (z : Work). Moment (stepped 3 (looked_known RUN d.known)) (Key z.func) count) (sym work_is) m))
+      (subst (λ (z : Work). StopMoment (stepped 3 (looked_known RUN d.known)) (Key z.func) count) (sym work_is) m))
 
-  runs_at : (kind : Kind) → v.kind ≡ kind → v.acked ≡ DISABLE_IRQ → has v.active d.known.number ≡ true → HasRun leads d.known e.known v x f g kind
+  runs_at : (kind : Kind) → v.kind ≡ kind → v.acked ≡ DISABLE_IRQ → has v.active d.known.number ≡ true → HasRunFunction leads d.known e.known v x f g kind
       → RunsAt leads stop old (cpu_of e) f g kind
   runs_at One e_ two on h = absurd h
   runs_at Multi kind two on h =
@@ -234,7 +234,7 @@ module _ {F : Type 0} (leads : F → Called → F → Type 0) (t : TableId) (d e
             ap (λ b. makes 4 (record (cpu_of (record { table = d.table; known = mine })) {
               part = record (mine.part) { calls = cond b (d.known.part.calls ++ call_with w y ∷ []) d.known.part.calls; calling = Carries y };
             })) calls ∙
-            ap (λ (z : Part). makes 4 (carries y (runs (call_with w y) (acknowledges stop RUN false (record old { part = z })))))
+            ap (λ (z : StopPart). makes 4 (carries y (runs (call_with w y) (acknowledges stop RUN false (record old { part = z })))))
             (sym (idle_part d.known.carried d.known (idle two)))),
         subst (λ (z : Work). leads f (called d.known.number z.func z.arg h.0) g) (sym work_is) h.3,
       )
@@ -252,7 +252,7 @@ module _ {F : Type 0} (leads : F → Called → F → Type 0) (t : TableId) (d e
             ap (λ b. makes m (record (cpu_of (record { table = d.table; known = mine })) {
               part = record (mine.part) { calls = cond b (d.known.part.calls ++ call_with w y ∷ []) d.known.part.calls; calling = Carries y };
             })) none ∙
-            ap (λ (z : Part). makes m (carries y (patches w h.0 (acknowledges stop RUN false (record old { part = z })))))
+            ap (λ (z : StopPart). makes m (carries y (patches w h.0 (acknowledges stop RUN false (record old { part = z })))))
             (sym (idle_part d.known.carried d.known (idle two)))),
         h.4,
         finds h.0 two h.1,

@@ -9,7 +9,7 @@ use Rattle.smp_stop_steps.specs.Slots.{begun_value, order}
 use Rattle.smp_stop_steps.specs.Sources.{IsWork}
 use Rattle.smp_stop_steps.proofs.Knows.KnownSources.{stored_draft, draft_next}
 use Rattle.smp_stop_steps.proofs.Steps.Sources.{kind_back}
-use Rattle.smp_multi.specs.Names.{Work, Slot, Field, Store, Drafts, Known}
+use Rattle.smp_multi.specs.Names.{Work, Slot, Field, Store, Drafts, KnownStops}
 use Rattle.smp_multi.specs.Names.{Kind as KindOf}
 use Rattle.smp_multi.specs.Names.act
 use Rattle.smp_multi.specs.Names.field
@@ -99,7 +99,8 @@ module _ (t : TableId) (d : SeatValue) (number : ℕ) (w : Work) where
   }
 
   -- a store of a CPU that drafts is none that is due
-  counts : (f : Field) → Begins t d number w (order f) → (x : Known) → cond (is_due_field f && not (is_drafting d.known.source)) x (stepped 1 x) ≡ stepped 1 x
+  counts : (f : Field) → Begins t d number w (order f) → (x : KnownStops)
+      → cond (is_due_field f && not (is_drafting d.known.source)) x (stepped 1 x) ≡ stepped 1 x
   counts field.Kind b x = refl
   counts field.Mask b x = refl
   counts field.Active b x = refl
@@ -148,9 +149,9 @@ pub begins_on : (t : TableId) (d e : SeatValue) (number : ℕ) (w : Work) (j k :
 begins_on t d e number w j k b table same = record {
   table_is = table;
   sized = b.sized;
-  number_is = ap (λ (z : Known). z.number) same ∙ b.number_is;
+  number_is = ap (λ (z : KnownStops). z.number) same ∙ b.number_is;
   below = b.below;
-  holds = ap (λ (z : Known). z.part.holds) same ∙ b.holds;
-  is_work = subst (λ (z : Known). IsWork (setup_in z.setting) w) (sym same) b.is_work;
-  drafts = ap (λ (z : Known). z.source) same;
+  holds = ap (λ (z : KnownStops). z.part.holds) same ∙ b.holds;
+  is_work = subst (λ (z : KnownStops). IsWork (setup_in z.setting) w) (sym same) b.is_work;
+  drafts = ap (λ (z : KnownStops). z.source) same;
 }

@@ -13,7 +13,7 @@ use Rattle.smp_stop_steps.specs.Start.{answer_word}
 use Rattle.smp_stop_steps.specs.Tells.{carried_call, calls_at_run, is_multi}
 use Rattle.smp_words.specs.declared.phase.TheConstants.{DISABLE_IRQ, RUN, EXIT}
 use Rattle.smp_stop_steps.specs.declared.stage.Visit.{Visit}
-use Rattle.smp_multi.specs.Names.{Work, Kind, One, Multi, Patch, Seat, In, Rests, Known, Part, Calling, Idle, Calls, Carries, StopCall}
+use Rattle.smp_multi.specs.Names.{Work, Kind, One, Multi, Patch, StopRole, In, Rests, KnownStops, StopPart, Calling, Idle, Calls, Carries, StopCall}
 use Rattle.smp_multi.specs.Advance.{AdvanceAnswers, carries, looks}
 use Rattle.smp_multi.specs.AtCall.{IsAnswering, SitsAtCall}
 use Rattle.smp_multi.specs.ByValue.{Answered, ComesToCall, Leaves, OneAnswers, TurnedAnswers, answers_one, answers_run, begins_call, to_answer, turned_so}
@@ -26,7 +26,7 @@ use Rattle.smp_multi.specs.Rounds.{AtRun, AtTurn, passed_by}
 use Rattle.smp_multi.specs.Running.{AtOne, IsItsCall, answered_now, called, called_by, calls_now}
 use Rattle.smp_multi.specs.Seat.{SeatValue}
 use Rattle.smp_multi.specs.StepCounts.{completing}
-use Rattle.smp_multi.specs.Turns.{HasRun, TurnAnswers, no_call}
+use Rattle.smp_multi.specs.Turns.{HasRunFunction, TurnAnswers, no_call}
 use Rattle.smp_multi.specs.declared.answering.Turned.TheVariants as turned
 use Rattle.smp_multi.specs.declared.func.Called.{Called}
 use Rattle.smp_multi.specs.declared.turn.Turn.{Turn}
@@ -39,53 +39,53 @@ use Rattle.smp_multi.proofs.Showing.{HasNotGiven, is_shown}
 use Rattle.smp_multi.proofs.Turning.{run_alone}
 
 -- a turn in which no function is called is one of any function
-pub quiet_turn : {F : Type 0} (leads : F → Called → F → Type 0) (old new : Known) (v x : Visit) (f : F) (turn : Turn)
+pub quiet_turn : {F : Type 0} (leads : F → Called → F → Type 0) (old new : KnownStops) (v x : Visit) (f : F) (turn : Turn)
     → TurnAnswers no_call old new v x tt tt turn → TurnAnswers leads old new v x f f turn
 quiet_turn leads old new v x f Same h = (h.0, h.1, refl)
 quiet_turn leads old new v x f (Moved p) h = (h.0, h.1, h.2, h.3, h.4, refl)
 quiet_turn leads old new v x f Ran h = (h.0, h.1, go v.kind h.2)
   where
-    go : (k : Kind) → HasRun no_call old new v x tt tt k → HasRun leads old new v x f f k
+    go : (k : Kind) → HasRunFunction no_call old new v x tt tt k → HasRunFunction leads old new v x f f k
     go One h = absurd h
     go Multi h = absurd h.3
     go Patch h = (h.0, h.1, h.2, h.3, refl)
 quiet_turn leads old new v x f Left h = (h.0, h.1, h.2, refl)
 
 -- an active CPU has come to the call, and has acknowledged RUN with this answer
-pub run_answered : (k u w : Known) (answer : ℤ) → u ≡ stepped 3 (calls_now (looked_known RUN k))
+pub run_answered : (k u w : KnownStops) (answer : ℤ) → u ≡ stepped 3 (calls_now (looked_known RUN k))
     → w ≡ stepped 1 (passed_by u.seat (carrying (answer_word answer) u))
     → w ≡ stepped 4 (passed_by (looked_to RUN k.seat) (answered_now answer (looked_known RUN k)))
 run_answered k u w answer first next =
     let y = looked_to RUN k.seat in
     let at = answered_now answer (looked_known RUN k) in
-    next ∙ (ap (λ (z : Known). stepped 1 (passed_by z.seat (carrying (answer_word answer) z))) first
+    next ∙ (ap (λ (z : KnownStops). stepped 1 (passed_by z.seat (carrying (answer_word answer) z))) first
     ∙ (ap (stepped 1) (passed_on 3 y at) ∙ steps_on 3 1 (passed_by y at)))
 
 -- so it has run its function
-pub has_run : {F : Type 0} (leads : F → Called → F → Type 0) (t : TableId) (k : Known) (e : SeatValue) (m : Known) (v x : Visit) (number func arg : ℕ)
+pub has_run : {F : Type 0} (leads : F → Called → F → Type 0) (t : TableId) (k : KnownStops) (e : SeatValue) (m : KnownStops) (v x : Visit) (number func arg : ℕ)
     (answer : ℤ) (f g : F) → AtRun t e v Multi → e.known ≡ stepped 3 (calls_now (looked_known RUN k)) → IsItsCall e.known func arg → k.number ≡ number
     → m ≡ stepped 1 (passed_by e.known.seat (carrying (answer_word answer) e.known)) → x ≡ visit_acked v 0 false
     → leads f (called number func arg answer) g → TurnAnswers leads k m v x f g Ran
 has_run {F} leads t k e m v x number func arg answer f g at first call me next visit heard =
-    let work : work_in e.known.seat ≡ work_in k.seat = ap (λ (z : Known). work_in z.seat) first ∙ work_looked RUN k.seat in
+    let work : work_in e.known.seat ≡ work_in k.seat = ap (λ (z : KnownStops). work_in z.seat) first ∙ work_looked RUN k.seat in
     let c : func ≡ (work_in k.seat).func = call.0 ∙ ap (λ (z : Work). z.func) work in
     let y : arg ≡ (work_in k.seat).arg = call.1 ∙ ap (λ (z : Work). z.arg) work in
     let same : called number func arg answer ≡ called_by k answer = λ i. called (sym me i) (c i) (y i) answer in (
       at.disabled,
-      ap (λ (z : Known). has v.active z.number) (sym first) ∙ at.active,
-      subst (HasRun leads k m v x f g) (sym at.kind_is)
+      ap (λ (z : KnownStops). has v.active z.number) (sym first) ∙ at.active,
+      subst (HasRunFunction leads k m v x f g) (sym at.kind_is)
           (answer, run_answered k e.known m answer first next, visit, subst (λ (z : Called). leads f z g) same heard),
     )
 
 -- the same of a stop of one CPU, which it has completed
-pub one_answered : (k u w : Known) (slot n x : ℕ) → u ≡ stepped 2 (calls_now k) → w ≡ stepped n (completed_with 0 slot (work_in u.seat) x (carrying 0 u))
+pub one_answered : (k u w : KnownStops) (slot n x : ℕ) → u ≡ stepped 2 (calls_now k) → w ≡ stepped n (completed_with 0 slot (work_in u.seat) x (carrying 0 u))
     → w ≡ stepped (2 + n) (completed_with 0 slot (work_in k.seat) x (carrying 0 k))
 one_answered k u w slot n x first next =
-    next ∙ (ap (λ (z : Known). stepped n (completed_with 0 slot (work_in z.seat) x (carrying 0 z))) first
+    next ∙ (ap (λ (z : KnownStops). stepped n (completed_with 0 slot (work_in z.seat) x (carrying 0 z))) first
     ∙ steps_on 2 n (completed_with 0 slot (work_in k.seat) x (carrying 0 k)))
 
 -- the part of a CPU that calls a function
-pub called_part : (answer : ℕ) (v : Known) (call : StopCall) → v.part.calling ≡ Calls call
+pub called_part : (answer : ℕ) (v : KnownStops) (call : StopCall) → v.part.calling ≡ Calls call
     → part_with answer v ≡ record (v.part) { calling = Calls (record call { answer = answer }) }
 called_part answer v call begun =
     ap (λ f. record (v.part) { calls = calls_with answer v.number (work_in v.seat) v.part.calls f; calling = with_answer answer f }) begun
@@ -118,7 +118,7 @@ module _ (d e : SeatValue) (number : ℕ) (v : Visit) (holds is_open : Bool) (k 
   -- of a Multi stop, at RUN
   module _ (t : TableId) (at : AtRun t e v Multi) (same : e.known ≡ stepped 3 (calls_now (looked_known RUN d.known))) where
     work : work_in e.known.seat ≡ w
-    work = ap (λ (z : Known). work_in z.seat) same ∙ ap (λ (y : Seat). work_in (looked_to RUN y)) is
+    work = ap (λ (z : KnownStops). work_in z.seat) same ∙ ap (λ (y : StopRole). work_in (looked_to RUN y)) is
 
     run_idle : d.known.part.calling ≡ Idle
     run_idle = let two = at.disabled in idle_before d.known v v.slot v.acked v.acked w Rests k.lives is (omega (arith, two)) k.quiet
@@ -130,7 +130,7 @@ module _ (d e : SeatValue) (number : ℕ) (v : Visit) (holds is_open : Bool) (k 
     run_view =
         let y = In v.slot w DISABLE_IRQ DISABLE_IRQ Rests in
         let there : d.known.seat ≡ y = is ∙ ap (λ n. In v.slot w n n Rests) at.disabled in
-        let P : Seat → ℕ → CpuValue = λ z n. cpu_of (record {
+        let P : StopRole → ℕ → CpuValue = λ z n. cpu_of (record {
           table = d.table;
           known = record (d.known) {
             seat = looked_to RUN z;
@@ -139,7 +139,7 @@ module _ (d e : SeatValue) (number : ℕ) (v : Visit) (holds is_open : Bool) (k 
             steps = d.known.steps + 3;
           };
         }) in
-        let Q : Seat → Calling → CpuValue = λ z f. begins_call stop (makes 3 (looks RUN (cpu_of (record {
+        let Q : StopRole → Calling → CpuValue = λ z f. begins_call stop (makes 3 (looks RUN (cpu_of (record {
           table = d.table;
           known = record (d.known) { seat = z; part = record (d.known.part) { calling = f } };
         })))) in
@@ -155,7 +155,7 @@ module _ (d e : SeatValue) (number : ℕ) (v : Visit) (holds is_open : Bool) (k 
         let value : handed ≡ to_answer stop (makes 3 (looks RUN old)) = λ i. record { cpu = run_view i; func = f i; arg = x i } in (
           sym k.rests.1.kind ∙ at.kind_is,
           at.disabled,
-          ap (λ m. has m d.known.number) (sym k.rests.1.active) ∙ (ap (λ (z : Known). has v.active z.number) (sym same) ∙ at.active),
+          ap (λ m. has m d.known.number) (sym k.rests.1.active) ∙ (ap (λ (z : KnownStops). has v.active z.number) (sym same) ∙ at.active),
           value,
         )
 
@@ -167,16 +167,16 @@ module _ (d e : SeatValue) (number : ℕ) (v : Visit) (holds is_open : Bool) (k 
 
     pub answering_at_run : Lives e.known → IsAnswering e.known number v holds is_open func arg
     answering_at_run lives = record {
-      number_is = ap (λ (z : Known). z.number) same ∙ k.number_is;
+      number_is = ap (λ (z : KnownStops). z.number) same ∙ k.number_is;
       below = k.below;
-      online = ap (λ (z : Known). has z.setting.online number) same ∙ k.online;
+      online = ap (λ (z : KnownStops). has z.setting.online number) same ∙ k.online;
       low = at.at.low;
       loaded = at.at.loaded;
       sits = subst (λ q. SitsAtCall q v e.known) (sym at.kind_is) (at.disabled, at.active, at.at.seat_is, run_alone _ _ v Multi at);
       call = call;
-      begun = ap (λ (z : Known). z.part.calling) same ∙ sym (ap (λ (z : Known). Calls (call_with (work_in z.seat) 0)) same);
-      holds_is = k.holds_is ∙ sym (ap (λ (z : Known). z.part.holds) same);
-      owns = subst (OwnsIf is_open) (sym (ap (λ (z : Known). z.source) same)) k.owns;
+      begun = ap (λ (z : KnownStops). z.part.calling) same ∙ sym (ap (λ (z : KnownStops). Calls (call_with (work_in z.seat) 0)) same);
+      holds_is = k.holds_is ∙ sym (ap (λ (z : KnownStops). z.part.holds) same);
+      owns = subst (OwnsIf is_open) (sym (ap (λ (z : KnownStops). z.source) same)) k.owns;
       lives = lives;
     }
 
@@ -186,7 +186,7 @@ module _ (d e : SeatValue) (number : ℕ) (v : Visit) (holds is_open : Bool) (k 
     kind = sym k.rests.1.kind ∙ one
 
     one_work : work_in e.known.seat ≡ w
-    one_work = ap (λ (z : Known). work_in z.seat) same ∙ ap work_in is
+    one_work = ap (λ (z : KnownStops). work_in z.seat) same ∙ ap work_in is
 
     one_idle : d.known.part.calling ≡ Idle
     one_idle = let none = no_phase d.known v.slot v.acked v.acked w k.lives is kind in
@@ -198,7 +198,7 @@ module _ (d e : SeatValue) (number : ℕ) (v : Visit) (holds is_open : Bool) (k 
     one_view : cpu_of e ≡ begins_call stop (makes 2 old)
     one_view =
         let y = In v.slot w v.acked v.acked Rests in
-        let P : Seat → ℕ → CpuValue = λ z n. cpu_of (record {
+        let P : StopRole → ℕ → CpuValue = λ z n. cpu_of (record {
           table = d.table;
           known = record (d.known) {
             seat = z;
@@ -207,7 +207,7 @@ module _ (d e : SeatValue) (number : ℕ) (v : Visit) (holds is_open : Bool) (k 
             steps = d.known.steps + 2;
           };
         }) in
-        let Q : Seat → Calling → CpuValue = λ z f. begins_call stop (makes 2 (cpu_of (record {
+        let Q : StopRole → Calling → CpuValue = λ z f. begins_call stop (makes 2 (cpu_of (record {
           table = d.table;
           known = record (d.known) { seat = z; part = record (d.known.part) { calling = f } };
         }))) in
@@ -225,16 +225,16 @@ module _ (d e : SeatValue) (number : ℕ) (v : Visit) (holds is_open : Bool) (k 
 
     pub answering_one : Lives e.known → IsAnswering e.known number v holds is_open func arg
     answering_one lives = record {
-      number_is = ap (λ (z : Known). z.number) same ∙ k.number_is;
+      number_is = ap (λ (z : KnownStops). z.number) same ∙ k.number_is;
       below = k.below;
-      online = ap (λ (z : Known). has z.setting.online number) same ∙ k.online;
+      online = ap (λ (z : KnownStops). has z.setting.online number) same ∙ k.online;
       low = at.low;
       loaded = subst (IsLoaded v) (sym one_work) k.rests.1;
       sits = subst (λ q. SitsAtCall q v e.known) (sym one) at.seat_is;
       call = call;
-      begun = ap (λ (z : Known). z.part.calling) same ∙ sym (ap (λ (z : Known). Calls (call_with (work_in z.seat) 0)) same);
-      holds_is = k.holds_is ∙ sym (ap (λ (z : Known). z.part.holds) same);
-      owns = subst (OwnsIf is_open) (sym (ap (λ (z : Known). z.source) same)) k.owns;
+      begun = ap (λ (z : KnownStops). z.part.calling) same ∙ sym (ap (λ (z : KnownStops). Calls (call_with (work_in z.seat) 0)) same);
+      holds_is = k.holds_is ∙ sym (ap (λ (z : KnownStops). z.part.holds) same);
+      owns = subst (OwnsIf is_open) (sym (ap (λ (z : KnownStops). z.source) same)) k.owns;
       lives = lives;
     }
 
@@ -322,14 +322,14 @@ module _ (d : SeatValue) (number : ℕ) (v : Visit) (holds is_open : Bool) (func
     module _ (one : v.kind ≡ One) (same : e.known ≡ stepped (completing word) (completed_with 0 v.slot its word (carrying 0 d.known))) where
       pub kept_one : Lives e.known → IsKept e.known number None holds is_open
       kept_one lives = record {
-        number_is = ap (λ (z : Known). z.number) same ∙ a.number_is;
+        number_is = ap (λ (z : KnownStops). z.number) same ∙ a.number_is;
         below = a.below;
-        online = ap (λ (z : Known). has z.setting.online number) same ∙ a.online;
-        rests = ap (λ (z : Known). z.seat) same;
+        online = ap (λ (z : KnownStops). has z.setting.online number) same ∙ a.online;
+        rests = ap (λ (z : KnownStops). z.seat) same;
         low = tt;
-        quiet = subst (λ (z : Known). CallsNone None z.carried z.part.calling) (sym same) refl;
-        holds_is = a.holds_is ∙ sym (ap (λ (z : Known). z.part.holds) same);
-        owns = subst (OwnsIf is_open) (sym (ap (λ (z : Known). z.source) same)) a.owns;
+        quiet = subst (λ (z : KnownStops). CallsNone None z.carried z.part.calling) (sym same) refl;
+        holds_is = a.holds_is ∙ sym (ap (λ (z : KnownStops). z.part.holds) same);
+        owns = subst (OwnsIf is_open) (sym (ap (λ (z : KnownStops). z.source) same)) a.owns;
         lives = lives;
       }
 
@@ -349,11 +349,11 @@ module _ (d : SeatValue) (number : ℕ) (v : Visit) (holds is_open : Bool) (func
       abbrev asked : Inside
       asked = record { slot = v.slot; work = its; acked = v.acked }
 
-      abbrev after : Known
+      abbrev after : KnownStops
       after = record (d.known) { seat = In v.slot its RUN RUN Rests; part = record (d.known.part) { calling = Carries 0 }; carried = word }
 
       after_is : e.known ≡ stepped 1 after
-      after_is = same ∙ (ap (λ (y : Seat). stepped 1 (passed_by y (carrying word d.known))) (at_run_call ne).2
+      after_is = same ∙ (ap (λ (y : StopRole). stepped 1 (passed_by y (carrying word d.known))) (at_run_call ne).2
           ∙ ap (λ (f : Calling). stepped 1 (record (d.known) {
             seat = In v.slot its RUN RUN Rests;
             part = record (d.known.part) { calling = carried_call f };
@@ -362,14 +362,14 @@ module _ (d : SeatValue) (number : ℕ) (v : Visit) (holds is_open : Bool) (func
 
       pub kept_run : (t : TableId) (y : Visit) → AtTurn t e y y.acked Rests → Lives e.known → IsKept e.known number (Some y) holds is_open
       kept_run t y at lives = record {
-        number_is = ap (λ (z : Known). z.number) after_is ∙ a.number_is;
+        number_is = ap (λ (z : KnownStops). z.number) after_is ∙ a.number_is;
         below = a.below;
-        online = ap (λ (z : Known). has z.setting.online number) after_is ∙ a.online;
+        online = ap (λ (z : KnownStops). has z.setting.online number) after_is ∙ a.online;
         rests = (work_in e.known.seat, at.loaded, at.seat_is);
         low = at.low;
-        quiet = subst (λ (z : Known). CallsNone (Some y) z.carried z.part.calling) (sym after_is) tt;
-        holds_is = a.holds_is ∙ sym (ap (λ (z : Known). z.part.holds) after_is);
-        owns = subst (OwnsIf is_open) (sym (ap (λ (z : Known). z.source) after_is)) a.owns;
+        quiet = subst (λ (z : KnownStops). CallsNone (Some y) z.carried z.part.calling) (sym after_is) tt;
+        holds_is = a.holds_is ∙ sym (ap (λ (z : KnownStops). z.part.holds) after_is);
+        owns = subst (OwnsIf is_open) (sym (ap (λ (z : KnownStops). z.source) after_is)) a.owns;
         lives = lives;
       }
 
@@ -383,7 +383,7 @@ module _ (d : SeatValue) (number : ℕ) (v : Visit) (holds is_open : Bool) (func
           ap (λ b. makes 1 (record (cpu_of (record { table = d.table; known = after })) {
             part = record (d.known.part) { calls = cond b (d.known.part.calls ++ call_with its word ∷ []) d.known.part.calls; calling = Carries word };
           })) calls ∙
-          ap (λ (z : Part). makes 1 (carries word (runs (call_with its word) (record (cpu_of d) {
+          ap (λ (z : StopPart). makes 1 (carries word (runs (call_with its word) (record (cpu_of d) {
             part = z;
             inside = Some (record { slot = v.slot; work = its; acked = RUN });
             irq = false;

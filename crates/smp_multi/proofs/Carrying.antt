@@ -10,13 +10,13 @@ use Rattle.smp_stop_steps.specs.Moves.{LoadArg, LoadField, LoadEntry}
 use Rattle.smp_stop_steps.specs.State.{StopState}
 use Rattle.smp_stop_steps.specs.Stop.{Inside}
 use Rattle.smp_stop_steps.specs.Tells.{may_call, plan_at}
-use Rattle.smp_multi.specs.Names.{Word, Gate, Slot, Key, Entry, Site, Access, Field, Work, Seat, Free, In, Gives, Alters, Closes, Rests}
-use Rattle.smp_multi.specs.Names.{Source, Shut, Drafts, Owns, Collects, Known, Calls}
+use Rattle.smp_multi.specs.Names.{Word, Gate, Slot, Key, Entry, Site, Access, Field, Work, StopRole, Free, In, Gives, Alters, Closes, Rests}
+use Rattle.smp_multi.specs.Names.{Source, Shut, Drafts, Owns, Collects, KnownStops, Calls}
 use Rattle.smp_multi.specs.Names.act
 use Rattle.smp_multi.specs.Names.field
 
 -- a CPU may make the same steps, whatever it carries
-module _ (x : ℕ) (v : Known) where
+module _ (x : ℕ) (v : KnownStops) where
   can_by : (a : Access) (m : Move) → MayStep v m → known_access v m ≡ a → Can (carrying x v) a
   can_by a TakeGate h e = record { move = TakeGate; may = h; is_access = e }
   can_by a OpenGate h e = record { move = OpenGate; may = h; is_access = e }
@@ -47,16 +47,16 @@ module _ (x : ℕ) (v : Known) where
   pub can_with : (a : Access) → Can v a → Can (carrying x v) a
   can_with a c = can_by a c.move c.may c.is_access
 
-  pub sees_with : (p : StopState) (seat : ℕ → Seat) (source : ℕ → Source) → Sees p seat source v → Sees p seat source (carrying x v)
+  pub sees_with : (p : StopState) (seat : ℕ → StopRole) (source : ℕ → Source) → Sees p seat source v → Sees p seat source (carrying x v)
   sees_with p seat source s =
       record { below = s.below; seat_is = s.seat_is; source_is = s.source_is; is_begun = s.is_begun; part_is = s.part_is }
 
 -- no step changes it, but those that take one
-keeps_cond : (b : Bool) (u v w : Known) → v.carried ≡ u.carried → w.carried ≡ u.carried → (cond b v w).carried ≡ u.carried
+keeps_cond : (b : Bool) (u v w : KnownStops) → v.carried ≡ u.carried → w.carried ≡ u.carried → (cond b v w).carried ≡ u.carried
 keeps_cond true u v w e f = e
 keeps_cond false u v w e f = f
 
-called_keeps : (n : ℕ) (y : Seat) (v : Known) → (called_by n y v).carried ≡ v.carried
+called_keeps : (n : ℕ) (y : StopRole) (v : KnownStops) → (called_by n y v).carried ≡ v.carried
 called_keeps n Free v = refl
 called_keeps n (In s w a l t) v = keeps_cond (may_call v.number w (Inside a l)) v
     (record v { part = record (v.part) { calling = Calls (record { func = w.func; arg = n; answer = 0 }) } }) v refl refl
@@ -64,7 +64,7 @@ called_keeps n (Gives s w a z) v = refl
 called_keeps n (Alters s w count made rest) v = refl
 called_keeps n (Closes s) v = refl
 
-key_keeps : (k n : ℕ) (y : Seat) (v : Known) → (key_loaded_by k n y v).carried ≡ v.carried
+key_keeps : (k n : ℕ) (y : StopRole) (v : KnownStops) → (key_loaded_by k n y v).carried ≡ v.carried
 key_keeps k n Free v = refl
 key_keeps k n (In s w a l t) v = keeps_cond (is_patching a l w) v
     (record v { seat = Alters s w n [] (plan_at (setup_in v.setting) w n) }) (key_read_known k n v) refl refl
@@ -72,7 +72,7 @@ key_keeps k n (Gives s w a z) v = refl
 key_keeps k n (Alters s w count made rest) v = refl
 key_keeps k n (Closes s) v = refl
 
-pub load_keeps : (v : Known) (w : Word) (n : ℕ)
+pub load_keeps : (v : KnownStops) (w : Word) (n : ℕ)
     → (known_told v act.Load w (Some n) None).carried ≡ v.carried
 load_keeps v (Slot s field.Kind) n = refl
 load_keeps v (Slot s field.Mask) n = refl
@@ -91,20 +91,20 @@ load_keeps v (Entry i) n = refl
 load_keeps v (Site i) n = refl
 load_keeps v _ n = refl
 
-raised_keeps : (n : ℕ) (y : Seat) (v : Known) → (raised_by n y v).carried ≡ v.carried
+raised_keeps : (n : ℕ) (y : StopRole) (v : KnownStops) → (raised_by n y v).carried ≡ v.carried
 raised_keeps n Free v = refl
 raised_keeps n (In s w a l t) v = refl
 raised_keeps n (Gives s w a z) v = refl
 raised_keeps n (Alters s w count made rest) v = refl
 raised_keeps n (Closes s) v = refl
 
-opened_keeps : (y : Source) (v : Known) → (opened_by y v).carried ≡ v.carried
+opened_keeps : (y : Source) (v : KnownStops) → (opened_by y v).carried ≡ v.carried
 opened_keeps Shut v = refl
 opened_keeps (Drafts w k) v = refl
 opened_keeps (Owns w) v = refl
 opened_keeps (Collects w) v = refl
 
-member_keeps : (f : Field) (n : ℕ) (v : Known) → (member_stored f n v).carried ≡ v.carried
+member_keeps : (f : Field) (n : ℕ) (v : KnownStops) → (member_stored f n v).carried ≡ v.carried
 member_keeps field.Kind n v = refl
 member_keeps field.Mask n v = refl
 member_keeps field.Active n v = refl
@@ -117,15 +117,15 @@ member_keeps field.Todo n v = refl
 member_keeps field.Result n v = refl
 member_keeps field.Done n v = refl
 
-either_keeps : (f : Field) (n : ℕ) (v : Known)
+either_keeps : (f : Field) (n : ℕ) (v : KnownStops)
     → (cond (is_drafting v.source) (drafted_known f n v) (member_stored f n v)).carried ≡ v.carried
 either_keeps f n v = keeps_cond (is_drafting v.source) v (drafted_known f n v) (member_stored f n v) refl (member_keeps f n v)
 
 -- a store that is due where the CPU drafts nothing, and else is counted
-due_keeps : (v z : Known) → z.carried ≡ v.carried → (cond (not (is_drafting v.source)) z (stepped 1 z)).carried ≡ v.carried
+due_keeps : (v z : KnownStops) → z.carried ≡ v.carried → (cond (not (is_drafting v.source)) z (stepped 1 z)).carried ≡ v.carried
 due_keeps v z e = keeps_cond (not (is_drafting v.source)) v z (stepped 1 z) e e
 
-pub store_keeps : (v : Known) (w : Word) (n : ℕ)
+pub store_keeps : (v : KnownStops) (w : Word) (n : ℕ)
     → (known_told v act.Store w None (Some n)).carried ≡ v.carried
 store_keeps v (Slot s field.Kind) n = refl
 store_keeps v (Slot s field.Mask) n = either_keeps field.Mask n v
@@ -144,7 +144,7 @@ store_keeps v (Entry i) n = refl
 store_keeps v (Site i) n = refl
 store_keeps v _ n = refl
 
-pub exchange_keeps : (v : Known) (w : Word) (n : ℕ) (o : Option ℕ)
+pub exchange_keeps : (v : KnownStops) (w : Word) (n : ℕ) (o : Option ℕ)
     → (known_told v act.Cas w (Some n) o).carried ≡ v.carried
 exchange_keeps v Gate n (Some m) = refl
 exchange_keeps v Gate n None = refl
@@ -165,21 +165,21 @@ exchange_keeps v (Entry i) n o = refl
 exchange_keeps v (Site i) n o = refl
 exchange_keeps v _ n o = refl
 
-acked_keeps : (n : ℕ) (y : Seat) (v : Known) → (acked_by n y v).carried ≡ v.carried
+acked_keeps : (n : ℕ) (y : StopRole) (v : KnownStops) → (acked_by n y v).carried ≡ v.carried
 acked_keeps n Free v = refl
 acked_keeps n (In s w a l t) v = refl
 acked_keeps n (Gives s w a z) v = refl
 acked_keeps n (Alters s w count made rest) v = refl
 acked_keeps n (Closes s) v = refl
 
-completed_keeps : (n : ℕ) (y : Seat) (v : Known) → (completed_by n y v).carried ≡ v.carried
+completed_keeps : (n : ℕ) (y : StopRole) (v : KnownStops) → (completed_by n y v).carried ≡ v.carried
 completed_keeps n Free v = refl
 completed_keeps n (In s w a l t) v = refl
 completed_keeps n (Gives s w a z) v = refl
 completed_keeps n (Alters s w count made rest) v = refl
 completed_keeps n (Closes s) v = refl
 
-pub sub_keeps : (v : Known) (w : Word) (n m : ℕ)
+pub sub_keeps : (v : KnownStops) (w : Word) (n m : ℕ)
     → (known_told v act.Sub w (Some n) (Some m)).carried ≡ v.carried
 sub_keeps v (Slot s field.Kind) n m = refl
 sub_keeps v (Slot s field.Mask) n m = refl
@@ -198,7 +198,7 @@ sub_keeps v (Entry i) n m = refl
 sub_keeps v (Site i) n m = refl
 sub_keeps v _ n m = refl
 
-pub and_keeps : (z : Work) (v : Known) (w : Word) (n m : ℕ)
+pub and_keeps : (z : Work) (v : KnownStops) (w : Word) (n m : ℕ)
     → (known_entering z v act.And w (Some n) (Some m)).carried ≡ v.carried
 and_keeps z v (Slot s field.Kind) n m = refl
 and_keeps z v (Slot s field.Mask) n m = refl

@@ -5,7 +5,7 @@ use Rattle.smp_stop_steps.specs.AnswerWords.{IsI32Word}
 use Rattle.smp_stop_steps.specs.Known.{carrying, stepped}
 use Rattle.smp_stop_steps.specs.KnownAfter.{completed_by, completed_with, is_drafting, known_told, slot_stored, drafted_known, given_by, member_stored}
 use Rattle.smp_stop_steps.specs.Moves.{Give, Count, CountGiven, Close}
-use Rattle.smp_multi.specs.Names.{Work, One, Slot, Store, Sub, Free, In, Gives, Closes, Rests, Seat, Known, Idle}
+use Rattle.smp_multi.specs.Names.{Work, One, Slot, Store, Sub, Free, In, Gives, Closes, Rests, StopRole, KnownStops, Idle}
 use Rattle.smp_multi.specs.Names.act
 use Rattle.smp_multi.specs.Names.field
 use Rattle.smp_multi.specs.Completes.{AtEnd, AtGiven, AtClose, given, left}
@@ -28,14 +28,14 @@ module _ (t : TableId) (d : SeatValue) (slot acked : ℕ) where
   known_give x a some =
       let w = work_in d.known.seat in
       ap (λ b. stepped 1 (cond b (drafted_known field.Result x d.known) (member_stored field.Result x d.known))) a.idle ∙ (
-      ap (λ (y : Seat). stepped 1 (record (d.known) { seat = given_by x y })) a.seat_is ∙
+      ap (λ (y : StopRole). stepped 1 (record (d.known) { seat = given_by x y })) a.seat_is ∙
       ap (λ b. stepped (cond b 0 1) (record (d.known) { seat = cond b (In slot w acked acked Rests) (Gives slot w acked x) })) (sym (ne_eqb x 0 some)))
 
   -- where the answer is 0 nothing is stored
   pub known_zero : (x : ℕ) → AtEnd t d slot acked → x ≡ 0 → d.known ≡ given slot acked x d.known
   known_zero x a z =
       let w = work_in d.known.seat in
-      no_steps d.known ∙ (ap (λ (y : Seat). stepped 0 (record (d.known) { seat = y })) a.seat_is
+      no_steps d.known ∙ (ap (λ (y : StopRole). stepped 0 (record (d.known) { seat = y })) a.seat_is
       ∙ ap (λ b. stepped (cond b 0 1) (record (d.known) { seat = cond b (In slot w acked acked Rests) (Gives slot w acked x) })) (sym (eq-eqb x 0 z)))
 
   pub at_given : (e : SeatValue) (x : ℕ) → AtEnd t d slot acked → ((work_in d.known.seat).kind ≡ One → d.known.part.calling ≢ Idle) → e.table ≡ t
@@ -44,10 +44,10 @@ module _ (t : TableId) (d : SeatValue) (slot acked : ℕ) where
     table_is = table;
     sized = a.sized;
     low = a.low;
-    idle = ap (λ (z : Known). is_drafting z.source) same ∙ a.idle;
-    seat_is = ap (λ (z : Known). z.seat) same;
+    idle = ap (λ (z : KnownStops). is_drafting z.source) same ∙ a.idle;
+    seat_is = ap (λ (z : KnownStops). z.seat) same;
     through = a.through;
-    calls = λ one none. calls one (sym (ap (λ (z : Known). z.part.calling) same) ∙ none);
+    calls = λ one none. calls one (sym (ap (λ (z : KnownStops). z.part.calling) same) ∙ none);
   }
 
   pub able_count : (x : ℕ) (w : Work) → AtGiven t d slot acked x w → Able t d (Sub (Slot slot field.Todo))
@@ -73,7 +73,7 @@ module _ (t : TableId) (d : SeatValue) (slot acked : ℕ) where
 
   pub known_count : (x found : ℕ) (w : Work) → AtGiven t d slot acked x w
       → completed_by found d.known.seat (carrying 0 d.known) ≡ completed_with found slot w x (carrying 0 d.known)
-  known_count x found w a = ap (λ (y : Seat). completed_by found y (carrying 0 d.known)) a.seat_is ∙ go (x == 0) refl
+  known_count x found w a = ap (λ (y : StopRole). completed_by found y (carrying 0 d.known)) a.seat_is ∙ go (x == 0) refl
     where
       go : (b : Bool) → (x == 0) ≡ b → completed_by found (cond b (In slot w acked acked Rests) (Gives slot w acked x)) (carrying 0 d.known)
           ≡ completed_with found slot w x (carrying 0 d.known)
@@ -86,8 +86,8 @@ module _ (t : TableId) (d : SeatValue) (slot acked : ℕ) where
     table_is = table;
     sized = a.sized;
     low = a.low;
-    idle = ap (λ (z : Known). is_drafting z.source) same ∙ a.idle;
-    seat_is = ap (λ (z : Known). z.seat) same;
+    idle = ap (λ (z : KnownStops). is_drafting z.source) same ∙ a.idle;
+    seat_is = ap (λ (z : KnownStops). z.seat) same;
   }
 
 module _ (t : TableId) (d : SeatValue) (slot found : ℕ) (a : AtClose t d slot found) where
@@ -107,8 +107,8 @@ module _ (t : TableId) (d : SeatValue) (slot found : ℕ) (a : AtClose t d slot 
   pub known_close : known_told d.known act.Store (Slot slot field.Done) None (Some 1) ≡ left d.known
   known_close = ap (λ b. cond (not b) (stored_if b) (stepped 1 (stored_if b))) a.idle
     where
-      stored_if : Bool → Known
+      stored_if : Bool → KnownStops
       stored_if b = cond b (drafted_known field.Done 1 d.known) (member_stored field.Done 1 d.known)
 
   pub left_already : found ≢ 1 → d.known ≡ left d.known
-  left_already ne = ap (λ (y : Seat). record (d.known) { seat = y }) (a.seat_is ∙ ap (λ b. cond b (Closes slot) Free) (ne_eqb found 1 ne))
+  left_already ne = ap (λ (y : StopRole). record (d.known) { seat = y }) (a.seat_is ∙ ap (λ b. cond b (Closes slot) Free) (ne_eqb found 1 ne))

@@ -2,63 +2,63 @@
 use Rattle.std.proofs.Common.{◌≡◌, ℕ, ◌+◌, Bool, true, false, cond, refl, ap, ◌∙◌, arith}
 use Rattle.smp_stop_steps.specs.Known.{stepped}
 use Rattle.smp_stop_steps.specs.KnownAfter.{acked_by, raised_by}
-use Rattle.smp_multi.specs.Names.{Seat, Free, In, Gives, Alters, Closes, Known}
+use Rattle.smp_multi.specs.Names.{StopRole, Free, In, Gives, Alters, Closes, KnownStops}
 use Rattle.smp_multi.specs.Patches.{begins_with, stored_all}
 use Rattle.smp_multi.specs.Rounds.{passed_by}
 use Rattle.smp_multi.specs.Turns.{patched_by}
 
 -- steps behind steps
-pub steps_on : (m n : ℕ) (v : Known) → stepped n (stepped m v) ≡ stepped (m + n) v
+pub steps_on : (m n : ℕ) (v : KnownStops) → stepped n (stepped m v) ≡ stepped (m + n) v
 steps_on m n v = ap (λ k. record v { steps = k }) (let e : v.steps + m + n ≡ v.steps + (m + n) = omega arith in e)
 
-pub then_steps : (m n : ℕ) (k u w : Known) → u ≡ stepped m k → w ≡ stepped n u → w ≡ stepped (m + n) k
+pub then_steps : (m n : ℕ) (k u w : KnownStops) → u ≡ stepped m k → w ≡ stepped n u → w ≡ stepped (m + n) k
 then_steps m n k u w first next = next ∙ (ap (stepped n) first ∙ steps_on m n k)
 
-pub no_steps : (v : Known) → v ≡ stepped 0 v
+pub no_steps : (v : KnownStops) → v ≡ stepped 0 v
 no_steps v = ap (λ k. record v { steps = k }) (let e : v.steps ≡ v.steps + 0 = omega arith in e)
 
 -- no step asks how many were made
 module _ (n : ℕ) where
-  pub with_steps : (b : Bool) (v w : Known) → cond b (stepped n v) (stepped n w) ≡ stepped n (cond b v w)
+  pub with_steps : (b : Bool) (v w : KnownStops) → cond b (stepped n v) (stepped n w) ≡ stepped n (cond b v w)
   with_steps true v w = refl
   with_steps false v w = refl
 
-  pub acked_on : (found : ℕ) (x : Seat) (v : Known) → acked_by found x (stepped n v) ≡ stepped n (acked_by found x v)
+  pub acked_on : (found : ℕ) (x : StopRole) (v : KnownStops) → acked_by found x (stepped n v) ≡ stepped n (acked_by found x v)
   acked_on found Free v = refl
   acked_on found (In s w a l t) v = refl
   acked_on found (Gives s w a x) v = refl
   acked_on found (Alters s w count made rest) v = refl
   acked_on found (Closes s) v = refl
 
-  pub raised_on : (p : ℕ) (x : Seat) (v : Known) → raised_by p x (stepped n v) ≡ stepped n (raised_by p x v)
+  pub raised_on : (p : ℕ) (x : StopRole) (v : KnownStops) → raised_by p x (stepped n v) ≡ stepped n (raised_by p x v)
   raised_on p Free v = refl
   raised_on p (In s w a l t) v = refl
   raised_on p (Gives s w a x) v = refl
   raised_on p (Alters s w count made rest) v = refl
   raised_on p (Closes s) v = refl
 
-  pub passed_on : (x : Seat) (v : Known) → passed_by x (stepped n v) ≡ stepped n (passed_by x v)
+  pub passed_on : (x : StopRole) (v : KnownStops) → passed_by x (stepped n v) ≡ stepped n (passed_by x v)
   passed_on Free v = refl
   passed_on (In s w a l t) v = refl
   passed_on (Gives s w a x) v = refl
   passed_on (Alters s w count made rest) v = refl
   passed_on (Closes s) v = refl
 
-  pub begun_on : (count : ℕ) (x : Seat) (v : Known) → begins_with count x (stepped n v) ≡ stepped n (begins_with count x v)
+  pub begun_on : (count : ℕ) (x : StopRole) (v : KnownStops) → begins_with count x (stepped n v) ≡ stepped n (begins_with count x v)
   begun_on count Free v = refl
   begun_on count (In s w a l t) v = refl
   begun_on count (Gives s w a x) v = refl
   begun_on count (Alters s w c made rest) v = refl
   begun_on count (Closes s) v = refl
 
-  pub stored_on : (x : Seat) (v : Known) → stored_all x (stepped n v) ≡ stepped n (stored_all x v)
+  pub stored_on : (x : StopRole) (v : KnownStops) → stored_all x (stepped n v) ≡ stepped n (stored_all x v)
   stored_on Free v = refl
   stored_on (In s w a l t) v = refl
   stored_on (Gives s w a x) v = refl
   stored_on (Alters s w count made rest) v = refl
   stored_on (Closes s) v = refl
 
-  pub patched_on : (count : ℕ) (x : Seat) (v : Known) → patched_by count x (stepped n v) ≡ stepped n (patched_by count x v)
+  pub patched_on : (count : ℕ) (x : StopRole) (v : KnownStops) → patched_by count x (stepped n v) ≡ stepped n (patched_by count x v)
   patched_on count Free v = refl
   patched_on count (In s w a l t) v = refl
   patched_on count (Gives s w a x) v = refl

@@ -6,7 +6,7 @@ use Rattle.smp_mask.specs.Mask.{has}
 use Rattle.smp_words.specs.Kinds.{kind_at}
 use Rattle.smp_words.specs.Size.{cpus}
 use Rattle.smp_stop_steps.specs.Known.{setup_in, stepped, told_source}
-use Rattle.smp_multi.specs.Lives.{Moment}
+use Rattle.smp_multi.specs.Lives.{StopMoment}
 use Rattle.smp_stop_steps.specs.KnownAfter.{entered_known}
 use Rattle.smp_stop_steps.specs.Moves.{Enter, LoadField, IsPlain}
 use Rattle.smp_stop_steps.specs.Slots.{IsWritten, SlotShows}
@@ -15,7 +15,7 @@ use Rattle.smp_stop_steps.specs.Stages.{all_but}
 use Rattle.smp_stop_steps.specs.Stop.{Standing, Outside, Called, Inside, Answering, Completed, Stop, is_of, is_called}
 use Rattle.smp_stop_steps.proofs.Steps.Facts.{work_words}
 use Rattle.smp_stop_steps.proofs.Steps.Sources.{kind_back}
-use Rattle.smp_multi.specs.Names.{Work, Slot, Field, Load, And, In, Source, Shut, Drafts, Owns, Collects, Known, Duty}
+use Rattle.smp_multi.specs.Names.{Work, Slot, Field, Load, And, In, Source, Shut, Drafts, Owns, Collects, KnownStops, Duty}
 use Rattle.smp_multi.specs.Names.field
 use Rattle.smp_multi.specs.Places.{IsFree, HasEntered, IsCalled, entered, missed, pending_of}
 use Rattle.smp_multi.specs.Seat.{SeatValue, Ready}
@@ -41,7 +41,7 @@ ready_roll t d number slot x f low e = record {
 }
 
 -- what it knows after it
-pub entered_or : (slot : ℕ) (work : Work) (b : Bool) (v : Known) → stepped 1 (entered_known slot work b v) ≡ cond b (entered slot work v) (missed slot v)
+pub entered_or : (slot : ℕ) (work : Work) (b : Bool) (v : KnownStops) → stepped 1 (entered_known slot work b v) ≡ cond b (entered slot work v) (missed slot v)
 entered_or slot work true v = refl
 entered_or slot work false v = refl
 
@@ -53,7 +53,7 @@ called_is_of (Answering a w) e = cc
 called_is_of (Completed a w) e = cc
 
 -- the stop whose roll has the CPU calls it
-module _ (v : Known) (slot found : ℕ) (m : Moment v (Slot slot field.Roll) found) where
+module _ (v : KnownStops) (slot found : ℕ) (m : StopMoment v (Slot slot field.Roll) found) where
   abbrev stop : Stop
   stop = m.stops.now.stop slot
 
@@ -91,11 +91,16 @@ ready_plain t d slot w f h plain = record {
 
 pub entered_moved : (t : TableId) (d e : SeatValue) (slot : ℕ) (w : Work) (n : ℕ) → HasEntered t d slot w → e.table ≡ t → e.known ≡ stepped n d.known
     → HasEntered t e slot w
-entered_moved t d e slot w n h table same = record { table_is = table; sized = h.sized; low = h.low; seat_is = ap (λ (k : Known). k.seat) same ∙ h.seat_is }
+entered_moved t d e slot w n h table same = record {
+  table_is = table;
+  sized = h.sized;
+  low = h.low;
+  seat_is = ap (λ (k : KnownStops). k.seat) same ∙ h.seat_is;
+}
 
 -- what a CPU in a stop finds of its work
-module _ (v : Known) (slot : ℕ) (w : Work) (acked looked : ℕ) (duty : Duty) (is : v.seat ≡ In slot w acked looked duty) where
-  pub finds_written : (f : Field) (n : ℕ) → Moment v (Slot slot f) n → (word : Field → ℕ) × IsWritten word w × (n ≡ word f)
+module _ (v : KnownStops) (slot : ℕ) (w : Work) (acked looked : ℕ) (duty : Duty) (is : v.seat ≡ In slot w acked looked duty) where
+  pub finds_written : (f : Field) (n : ℕ) → StopMoment v (Slot slot f) n → (word : Field → ℕ) × IsWritten word w × (n ≡ word f)
   finds_written f n m = (
     (λ g. m.at (Slot slot g)),
     work_words (setup_in v.setting) m.stops m.at m.seat m.source m.shown slot v.number w acked looked duty
@@ -103,17 +108,17 @@ module _ (v : Known) (slot : ℕ) (w : Work) (acked looked : ℕ) (duty : Duty) 
     m.number_is,
   )
 
-  pub finds_kind : (n : ℕ) → Moment v (Slot slot field.Kind) n → kind_at n ≡ w.kind
+  pub finds_kind : (n : ℕ) → StopMoment v (Slot slot field.Kind) n → kind_at n ≡ w.kind
   finds_kind n m = let f = finds_written field.Kind n m in ap kind_at (f.2 ∙ f.1.kind) ∙ kind_back w.kind
 
-  pub finds_mask : (n : ℕ) → Moment v (Slot slot field.Mask) n → n ≡ w.mask
+  pub finds_mask : (n : ℕ) → StopMoment v (Slot slot field.Mask) n → n ≡ w.mask
   finds_mask n m = let f = finds_written field.Mask n m in f.2 ∙ f.1.mask
 
-  pub finds_active : (n : ℕ) → Moment v (Slot slot field.Active) n → n ≡ w.active
+  pub finds_active : (n : ℕ) → StopMoment v (Slot slot field.Active) n → n ≡ w.active
   finds_active n m = let f = finds_written field.Active n m in f.2 ∙ f.1.active
 
-  pub finds_func : (n : ℕ) → Moment v (Slot slot field.Func) n → n ≡ w.func
+  pub finds_func : (n : ℕ) → StopMoment v (Slot slot field.Func) n → n ≡ w.func
   finds_func n m = let f = finds_written field.Func n m in f.2 ∙ f.1.func
 
-  pub finds_arg : (n : ℕ) → Moment v (Slot slot field.Arg) n → n ≡ w.arg
+  pub finds_arg : (n : ℕ) → StopMoment v (Slot slot field.Arg) n → n ≡ w.arg
   finds_arg n m = let f = finds_written field.Arg n m in f.2 ∙ f.1.arg

@@ -9,7 +9,7 @@ use Rattle.smp_stop_steps.specs.KnownAfter.{completed_with, has_called}
 use Rattle.smp_stop_steps.specs.Tells.{calls_at_run, is_multi, is_one}
 use Rattle.smp_words.specs.declared.phase.TheConstants.{EXIT}
 use Rattle.smp_stop_steps.specs.declared.stage.Visit.{Visit}
-use Rattle.smp_multi.specs.Names.{Work, Kind, One, Multi, Patch, Seat, In, Rests, Calling, Idle, Calls, Carries}
+use Rattle.smp_multi.specs.Names.{Work, Kind, One, Multi, Patch, StopRole, In, Rests, Calling, Idle, Calls, Carries}
 use Rattle.smp_multi.specs.Advance.{FinishAnswers, completes}
 use Rattle.smp_multi.specs.Cells.{cells}
 use Rattle.smp_multi.specs.Completes.{AtEnd}
@@ -58,12 +58,12 @@ module _ (t : TableId) (d : SeatValue) (number : ℕ) (v : Visit) (holds is_open
     sized = sized;
     low = k.low;
     idle = owned_idle is_open d.known.source k.owns;
-    seat_is = is ∙ sym (ap (λ (x : Seat). In v.slot (work_in x) EXIT EXIT Rests) is);
+    seat_is = is ∙ sym (ap (λ (x : StopRole). In v.slot (work_in x) EXIT EXIT Rests) is);
     through = inl refl;
   }
 
   pub end_several : (work_in d.known.seat).kind ≢ One
-  end_several one = kind (sym (ap (λ (x : Seat). (work_in x).kind) is) ∙ one)
+  end_several one = kind (sym (ap (λ (x : StopRole). (work_in x).kind) is) ∙ one)
 
   pub end_carries : d.known.carried ≢ 0 → d.known.part.calling ≢ Idle
   end_carries = quiet_carries v d.known.carried d.known.part.calling k.quiet

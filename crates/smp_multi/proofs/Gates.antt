@@ -2,10 +2,10 @@
 use Rattle.std.proofs.Common.{◌≡◌, ◌≢◌, ℕ, ◌+◌, true, Option, Some, None, sym, refl, ap, ◌∙◌, arith}
 use Rattle.atomic_table.specs.Seated.{TableId}
 use Rattle.smp_stop_steps.specs.Known.{holds_it}
-use Rattle.smp_multi.specs.Lives.{Moment}
+use Rattle.smp_multi.specs.Lives.{StopMoment}
 use Rattle.smp_stop_steps.specs.Moves.{TakeGate, OpenGate}
 use Rattle.smp_stop_steps.specs.Shows.{gate_word}
-use Rattle.smp_multi.specs.Names.{Gate, Store, Exchange, Known}
+use Rattle.smp_multi.specs.Names.{Gate, Store, Exchange, KnownStops}
 use Rattle.smp_multi.specs.Places.{IsSeated}
 use Rattle.smp_multi.specs.Seat.{SeatValue, Ready}
 use Rattle.smp_multi.proofs.Cells.{gate_cell}
@@ -36,7 +36,7 @@ module _ (t : TableId) (d : SeatValue) (number : ℕ) (s : IsSeated t d number) 
   }
 
 -- who holds the gate finds it held
-pub gate_held : (v : Known) (n : ℕ) → Moment v Gate n → v.part.holds ≡ true → n ≢ 0
+pub gate_held : (v : KnownStops) (n : ℕ) → StopMoment v Gate n → v.part.holds ≡ true → n ≢ 0
 gate_held v n m holds z = go m.stops.gate (m.sees.part_is.holds ∙ holds) (sym (m.number_is ∙ m.shown.gate) ∙ z)
   where
     go : (g : Option ℕ) → holds_it g v.number ≡ true → gate_word g ≡ 0 → ⊥

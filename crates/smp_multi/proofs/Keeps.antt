@@ -20,7 +20,8 @@ use Rattle.smp_stop_steps.specs.Moves.{Can, entering}
 use Rattle.smp_stop_steps.specs.State.{StopState}
 use Rattle.smp_stop_steps.specs.Shows.{StopShows}
 use Rattle.smp_stop_steps.proofs.Knows.KnownMoves.{known_move}
-use Rattle.smp_multi.specs.Names.{Word, Gate, Slot, Key, Entry, Site, Access, Load, Store, Exchange, Sub, And, Work, Seat, Source, Known, Setting, SeatView}
+use Rattle.smp_multi.specs.Names.{Word, Gate, Slot, Key, Entry, Site, Access, Load, Store, Exchange, Sub, And, Work, StopRole}
+use Rattle.smp_multi.specs.Names.{Source, KnownStops, StopSetting, StopSeatView}
 use Rattle.smp_multi.specs.Names.{Maker, Cpu}
 use Rattle.smp_multi.specs.Names.field
 use Rattle.smp_multi.specs.Names.act
@@ -40,7 +41,7 @@ at_snoc (x ∷ xs) a b (suc j) e = ⊎_elim (λ (t : get_elem? xs j ≡ some b).
 
 -- only a fetch_and enters
 
-load_else : (x : Work) (v : Known) (w : Word) (n : ℕ) → known_entering x v act.Load w (Some n) None ≡ known_told v act.Load w (Some n) None
+load_else : (x : Work) (v : KnownStops) (w : Word) (n : ℕ) → known_entering x v act.Load w (Some n) None ≡ known_told v act.Load w (Some n) None
 load_else x v (Slot s field.Kind) n = refl
 load_else x v (Slot s field.Mask) n = refl
 load_else x v (Slot s field.Active) n = refl
@@ -58,7 +59,7 @@ load_else x v (Entry i) n = refl
 load_else x v (Site i) n = refl
 load_else x v _ n = refl
 
-store_else : (x : Work) (v : Known) (w : Word) (n : ℕ) → known_entering x v act.Store w None (Some n) ≡ known_told v act.Store w None (Some n)
+store_else : (x : Work) (v : KnownStops) (w : Word) (n : ℕ) → known_entering x v act.Store w None (Some n) ≡ known_told v act.Store w None (Some n)
 store_else x v (Slot s field.Kind) n = refl
 store_else x v (Slot s field.Mask) n = refl
 store_else x v (Slot s field.Active) n = refl
@@ -76,7 +77,7 @@ store_else x v (Entry i) n = refl
 store_else x v (Site i) n = refl
 store_else x v _ n = refl
 
-exchange_else : (x : Work) (v : Known) (w : Word) (n : ℕ) (o : Option ℕ) → known_entering x v act.Cas w (Some n) o ≡ known_told v act.Cas w (Some n) o
+exchange_else : (x : Work) (v : KnownStops) (w : Word) (n : ℕ) (o : Option ℕ) → known_entering x v act.Cas w (Some n) o ≡ known_told v act.Cas w (Some n) o
 exchange_else x v (Slot s field.Kind) n o = refl
 exchange_else x v (Slot s field.Mask) n o = refl
 exchange_else x v (Slot s field.Active) n o = refl
@@ -94,7 +95,7 @@ exchange_else x v (Entry i) n o = refl
 exchange_else x v (Site i) n o = refl
 exchange_else x v _ n o = refl
 
-sub_else : (x : Work) (v : Known) (w : Word) (n m : ℕ) → known_entering x v act.Sub w (Some n) (Some m) ≡ known_told v act.Sub w (Some n) (Some m)
+sub_else : (x : Work) (v : KnownStops) (w : Word) (n m : ℕ) → known_entering x v act.Sub w (Some n) (Some m) ≡ known_told v act.Sub w (Some n) (Some m)
 sub_else x v (Slot s field.Kind) n m = refl
 sub_else x v (Slot s field.Mask) n m = refl
 sub_else x v (Slot s field.Active) n m = refl
@@ -112,9 +113,9 @@ sub_else x v (Entry i) n m = refl
 sub_else x v (Site i) n m = refl
 sub_else x v _ n m = refl
 
-module _ (p : StopState) (at : Word → ℕ) (seat : ℕ → Seat) (source : ℕ → Source) (v : Known) (h : StopShows (setup_in v.setting) p at seat source)
+module _ (p : StopState) (at : Word → ℕ) (seat : ℕ → StopRole) (source : ℕ → Source) (v : KnownStops) (h : StopShows (setup_in v.setting) p at seat source)
     (sees : Sees p seat source v) where
-  abbrev Goes : (Word → ℕ) → Known → Type 0
+  abbrev Goes : (Word → ℕ) → KnownStops → Type 0
   Goes at' w = GoesOn v.setting p seat source v.number at' w
 
   moves : (a : Access) → Can v a → let seen = seen_of v.number a (at (word_of a)) None in
@@ -184,7 +185,7 @@ put_if_fits at w x true h f = put_fits at w x h (no_result w x f)
 put_if_fits at w x false h f = h
 
 -- what stays with a step of an online CPU
-within_on : (k : Setting) (p : StopState) (at : Word → ℕ) (seat : ℕ → Seat) (source : ℕ → Source) (me : ℕ) (at' : Word → ℕ) (w : Known)
+within_on : (k : StopSetting) (p : StopState) (at : Word → ℕ) (seat : ℕ → StopRole) (source : ℕ → Source) (me : ℕ) (at' : Word → ℕ) (w : KnownStops)
     → has k.online me ≡ true → me < cpus → StaysWithin k p at seat source → AreI32Words at' → (g : GoesOn k p seat source me at' w)
     → StaysWithin k g.stops at' g.seats g.sources
 within_on k p at seat source me at' w on low h fits g = record {
@@ -194,7 +195,7 @@ within_on k p at seat source me at' w on low h fits g = record {
   beyond = λ c l. let s = g.still c (λ (same : c ≡ me). let e = same in omega arith) in let b = h.beyond c l in (s.0 ∙ b.0, s.1 ∙ b.1);
 }
 
-lives_on : (k : Setting) (p : StopState) (at : Word → ℕ) (seat : ℕ → Seat) (source : ℕ → Source) (me : ℕ) (at' : Word → ℕ) (w : Known)
+lives_on : (k : StopSetting) (p : StopState) (at : Word → ℕ) (seat : ℕ → StopRole) (source : ℕ → Source) (me : ℕ) (at' : Word → ℕ) (w : KnownStops)
     → has k.online me ≡ true → me < cpus → StaysWithin k p at seat source → AreI32Words at' → GoesOn k p seat source me at' w → Lives w
 lives_on k p at seat source me at' w on low h fits g = record {
   stops = g.stops;
@@ -204,11 +205,11 @@ lives_on k p at seat source me at' w on low h fits g = record {
   shown = subst (λ j. StopShows (setup_in j) g.stops at' g.seats g.sources) (sym g.setting_is) g.shown;
   sees = g.mine;
   within = subst (λ j. StaysWithin j g.stops at' g.seats g.sources) (sym g.setting_is) (within_on k p at seat source me at' w on low h fits g);
-  online = ap (λ (j : Setting). has j.online w.number) g.setting_is ∙ (ap (has k.online) g.number_is ∙ on);
+  online = ap (λ (j : StopSetting). has j.online w.number) g.setting_is ∙ (ap (has k.online) g.number_is ∙ on);
 }
 
-module _ {S : Type 0} (k : Setting) where
-  pub splits : (id n : ℕ) (v : SeatView) → v ≡ Maker n k → n < cpus → Splits {S = S} (Ruled k) id v (after v) (seat_made v)
+module _ {S : Type 0} (k : StopSetting) where
+  pub splits : (id n : ℕ) (v : StopSeatView) → v ≡ Maker n k → n < cpus → Splits {S = S} (Ruled k) id v (after v) (seat_made v)
   splits id n v is low s r at = subst (λ v. Ruled {S = S} k record { words = s.words; homes = s.homes; views = set s.views id (after v) ++ seat_made v ∷ [] })
       (sym is) made
     where
@@ -218,7 +219,7 @@ module _ {S : Type 0} (k : Setting) where
       last : ℕ
       last = length (set s.views id (Maker (n + 1) k))
 
-      old : (j : ℕ) (u : SeatView) → j ≢ id → get_elem? s.views j ≡ some u → SeatKnows k r.stops r.seat r.source r.place r.next j u
+      old : (j : ℕ) (u : StopSeatView) → j ≢ id → get_elem? s.views j ≡ some u → SeatKnows k r.stops r.seat r.source r.place r.next j u
           → SeatKnows k r.stops r.seat r.source (put r.place n (length (set s.views id (Maker (n + 1) k)))) (n + 1) j u
       old j (Maker m l) other e h = absurd (other (h.1 ∙ sym mine.1))
       old j (Cpu w) other e h = let a = h.0 in let b = mine.0 in
@@ -248,7 +249,7 @@ module _ {S : Type 0} (k : Setting) where
       }
 
   -- a seat's CPU makes a step of the machine
-  lifts : (s : State S SeatView) (r : Ruled k s) (id i n : ℕ) (v w : Known) (carried : List (ℕ × S)) → get_elem? s.views id ≡ some (Cpu v)
+  lifts : (s : State S StopSeatView) (r : Ruled k s) (id i n : ℕ) (v w : KnownStops) (carried : List (ℕ × S)) → get_elem? s.views id ≡ some (Cpu v)
       → (g : GoesOn k r.stops r.seat r.source v.number (number_in (set s.words i n)) w)
       → StaysWithin k g.stops (number_in (set s.words i n)) g.seats g.sources → Ruled k (stepped s i n id carried (Cpu w) keeps)
   lifts s r id i n v w carried at g within' = record {
@@ -270,19 +271,20 @@ module _ {S : Type 0} (k : Setting) where
       mine : SeatKnows k r.stops r.seat r.source r.place r.next id (Cpu v)
       mine = r.each_seat id (Cpu v) at
 
-      other : (j : ℕ) (u : SeatView) → j ≢ id → SeatKnows k r.stops r.seat r.source r.place r.next j u
+      other : (j : ℕ) (u : StopSeatView) → j ≢ id → SeatKnows k r.stops r.seat r.source r.place r.next j u
           → SeatKnows k g.stops g.seats g.sources r.place r.next j u
       other j (Maker m l) n h = h
       other j (Cpu u) n h = (h.0, h.1, h.2, g.others u (λ e. n (sym h.1 ∙ (ap r.place e ∙ mine.1))) h.3)
 
-  module _ (slots id : ℕ) (me : Me S SeatView) (is : me.0 ≡ Cpu (known me.0)) (online : has (known me.0).setting.online (known me.0).number ≡ true) where
-    abbrev v : Known
+  module _ (slots id : ℕ) (me : Me S StopSeatView) (is : me.0 ≡ Cpu (known me.0)) (online : has (known me.0).setting.online (known me.0).number ≡ true) where
+    abbrev v : KnownStops
     v = known me.0
 
-    steps : (i : ℕ) (f : ℕ → ℕ) (then : ℕ → Me S SeatView → Type 0) →
-        ((p : StopState) (seat : ℕ → Seat) (source : ℕ → Source) (words : List ℕ) → StopShows (setup_in (known me.0).setting) p (number_in words) seat source
+    steps : (i : ℕ) (f : ℕ → ℕ) (then : ℕ → Me S StopSeatView → Type 0) →
+        ((p : StopState) (seat : ℕ → StopRole) (source : ℕ → Source) (words : List ℕ)
+        → StopShows (setup_in (known me.0).setting) p (number_in words) seat source
         → length words ≡ cells → Sees p seat source (known me.0) → StaysWithin (known me.0).setting p (number_in words) seat source →
-        (w : Known) × GoesOn (known me.0).setting p seat source (known me.0).number (number_in (set words i (f (get_or words i 0)))) w
+        (w : KnownStops) × GoesOn (known me.0).setting p seat source (known me.0).number (number_in (set words i (f (get_or words i 0)))) w
         × AreI32Words (number_in (set words i (f (get_or words i 0)))) × then (get_or words i 0) (Cpu w, me.1)) →
         Allows (Ruled k) slots id me i f (λ n m. Lives (known m.0) × then n m)
     steps i f then go s r sized at fits =
@@ -296,7 +298,7 @@ module _ {S : Type 0} (k : Setting) where
         let low = mine.3.below in
         let lives : Lives t.0 = lives_on v.setting r.stops (number_in s.words) r.seat r.source v.number next t.0 online low here t.2 t.1 in
         let g = subst (λ j. GoesOn j r.stops r.seat r.source v.number next t.0) set_k t.1 in
-        let on = subst (λ (j : Setting). has j.online v.number ≡ true) set_k online in
+        let on = subst (λ (j : StopSetting). has j.online v.number ≡ true) set_k online in
         let within' = within_on k r.stops (number_in s.words) r.seat r.source v.number next t.0 on low r.within t.2 g in
         (Cpu t.0, keeps, tt, lifts s r id i (f (get_or s.words i 0)) v t.0 me.1 at' g within', (lives, t.3))
 
@@ -407,7 +409,7 @@ module _ {S : Type 0} (k : Setting) where
         (λ p seat source words shown wide sees within.
         let n = get_or words i 0 in
         let here : number_in words w ≡ n = number_here words w i e in
-        let told : ℕ → Known = λ m. known_told (carrying x v) act.Sub w (Some m) (Some (one_less m)) in (
+        let told : ℕ → KnownStops = λ m. known_told (carrying x v) act.Sub w (Some m) (Some (one_less m)) in (
           told n,
           subst (λ (at : Word → ℕ). GoesOn v.setting p seat source v.number at (told n)) (sym (stored_here words w i (one_less n) wide e))
               (subst (λ m. GoesOn v.setting p seat source v.number (put_word (number_in words) w (one_less m)) (told m)) here
@@ -446,14 +448,14 @@ module _ {S : Type 0} (k : Setting) where
           ),
         ))
 
-pub can_same : (v u : Known) (access : Access) → v ≡ u → Can u access → Can v access
-can_same v u access e can = subst (λ (x : Known). Can x access) (sym e) can
+pub can_same : (v u : KnownStops) (access : Access) → v ≡ u → Can u access → Can v access
+can_same v u access e can = subst (λ (x : KnownStops). Can x access) (sym e) can
 
 -- the seat of an online CPU after a step
-pub seat_on : (s : SeatView) (w : Known) (carried : ℕ) → s ≡ Cpu w → Lives (known s) → IsI32Word carried → w.carried ≡ carried → IsCpuSeat s carried
+pub seat_on : (s : StopSeatView) (w : KnownStops) (carried : ℕ) → s ≡ Cpu w → Lives (known s) → IsI32Word carried → w.carried ≡ carried → IsCpuSeat s carried
 seat_on s w carried is lives fits carries = record {
-  is = is ∙ sym (ap (λ (x : SeatView). Cpu (known x)) is);
+  is = is ∙ sym (ap (λ (x : StopSeatView). Cpu (known x)) is);
   online = lives.online;
   fits = fits;
-  carries = ap (λ (x : SeatView). (known x).carried) is ∙ carries;
+  carries = ap (λ (x : StopSeatView). (known x).carried) is ∙ carries;
 }

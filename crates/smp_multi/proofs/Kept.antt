@@ -11,7 +11,7 @@ use Rattle.smp_multi.specs.Lives.{Lives}
 use Rattle.smp_stop_steps.specs.KnownAfter.{completed_with, is_drafting}
 use Rattle.smp_stop_steps.specs.Laws.{IsResult}
 use Rattle.smp_stop_steps.specs.Past.{Past, AllPast, OnlyActiveAnswer, works_of, results_of, answers_of, answer_now}
-use Rattle.smp_stop_steps.specs.Seats.{irq_of, Stands}
+use Rattle.smp_stop_steps.specs.Seats.{irq_of, RoleStands}
 use Rattle.smp_stop_steps.specs.Sits.{SitsAtRest, OwnsIf}
 use Rattle.smp_stop_steps.specs.Slots.{IsPhaseOf}
 use Rattle.smp_stop_steps.specs.Sources.{IsWork, SourceShows}
@@ -32,8 +32,9 @@ use Rattle.smp_stop_steps.proofs.Promises.StopLaws.{keeps_laws}
 use Rattle.smp_stop_steps.proofs.State.Ends.{all_outside}
 use Rattle.smp_stop_steps.proofs.State.Phases.{is_open_inside, keeps_inside}
 use Rattle.smp_stop_steps.proofs.TheMachine.Starting.{begins_work}
-use Rattle.smp_multi.specs.Names.{Field, Work, Kind, One, Multi, Patch, Slot, Seat, Free, In, Rests, Source, Shut, Drafts, Owns, Collects, Known, Part}
-use Rattle.smp_multi.specs.Names.{Setting, Duty, Calling, Idle, Calls, Carries}
+use Rattle.smp_multi.specs.Names.{Field, Work, Kind, One, Multi, Patch, Slot, StopRole, Free, In, Rests, Source, Shut, Drafts, Owns}
+use Rattle.smp_multi.specs.Names.{Collects, KnownStops, StopPart}
+use Rattle.smp_multi.specs.Names.{StopSetting, Duty, Calling, Idle, Calls, Carries}
 use Rattle.smp_multi.specs.Names.own
 use Rattle.smp_multi.specs.Answers.{Enters, RunAnswers, PollAnswers, IsWholeWord, answer_in}
 use Rattle.smp_multi.specs.Begins.{Begins}
@@ -49,7 +50,7 @@ use Rattle.smp_multi.specs.declared.func.Called.{Called}
 use Rattle.smp_multi.proofs.Counting.{steps_on}
 
 -- begin is not refused: the gate is held, the slot is closed, and the work is one that a stop may have
-pub not_refused : (nr : ℕ) (k : Setting) (cpu : ℕ) → cpu < cpus → ((c : ℕ) → has k.online c ≡ true → c < cpus) → has k.online cpu ≡ true
+pub not_refused : (nr : ℕ) (k : StopSetting) (cpu : ℕ) → cpu < cpus → ((c : ℕ) → has k.online c ≡ true → c < cpus) → has k.online cpu ≡ true
     → (holds is_open : Bool) (work : Work) → work.func < 2 ^ 16 →
     begin_refusal (record { nr = nr; online = k.online; keys = k.labels.keys; sites = length k.labels.entries; holds_gate = holds }) work is_open ≡ None
     → (holds ≡ true) × (is_open ≡ false) × IsWork (setup_in k) work
@@ -65,7 +66,7 @@ not_refused nr k cpu low below online true false work small e =
     (refl, refl, (begins_work value cpu low below online stop_outside work false refl small may).2)
 
 -- a CPU that begins
-pub begins_at : (t : TableId) (d : SeatValue) (number nr : ℕ) (k : Setting) (visit : Option Visit) (holds is_open : Bool) (work : Work)
+pub begins_at : (t : TableId) (d : SeatValue) (number nr : ℕ) (k : StopSetting) (visit : Option Visit) (holds is_open : Bool) (work : Work)
     → IsKept d.known number visit holds is_open → d.table ≡ t → t.words ≡ cells → d.known.setting ≡ k → work.func < 2 ^ 16 →
     (keys sites : ℕ) → keys ≡ k.labels.keys → sites ≡ length k.labels.entries
     → begin_refusal (record { nr = nr; online = k.online; keys = keys; sites = sites; holds_gate = holds }) work is_open ≡ None → Begins t d number work 0
@@ -76,7 +77,7 @@ begins_at t d number nr k visit holds is_open work kept table sized same small k
     (λ i. begin_refusal (record { nr = nr; online = k.online; keys = sym keys_are i; sites = sym sites_are i; holds_gate = holds }) work is_open) ∙ refused in
     let none' : begin_refusal (record { nr = nr; online = u.online; keys = u.labels.keys; sites = length u.labels.entries; holds_gate = holds }) work is_open
     ≡ None =
-    subst (λ (k : Setting). begin_refusal (record { nr = nr; online = k.online; keys = k.labels.keys; sites = length k.labels.entries; holds_gate = holds })
+    subst (λ (k : StopSetting). begin_refusal (record { nr = nr; online = k.online; keys = k.labels.keys; sites = length k.labels.entries; holds_gate = holds })
     work is_open ≡ None) (sym same) none in
     let a = not_refused nr u number kept.below kept.lives.shown.setup.below kept.online holds is_open work small none' in
     let shut : OwnsIf false d.known.source = subst (λ b. OwnsIf b d.known.source) a.1 kept.owns in
@@ -91,9 +92,9 @@ begins_at t d number nr k visit holds is_open work kept table sized same small k
     }
 
 -- a CPU in no stop is free
-pub is_free : (visit : Option Visit) (x : Seat) → SitsAtRest visit x → is_in (inside_of x) ≡ false → (visit ≡ None) × (x ≡ Free)
+pub is_free : (visit : Option Visit) (x : StopRole) → SitsAtRest visit x → is_in (inside_of x) ≡ false → (visit ≡ None) × (x ≡ Free)
 is_free None x rests e = (refl, rests)
-is_free (Some v) x rests e = absurd (let bad : true ≡ false = sym (ap (λ (y : Seat). is_in (inside_of y)) rests.2) ∙ e in cc)
+is_free (Some v) x rests e = absurd (let bad : true ≡ false = sym (ap (λ (y : StopRole). is_in (inside_of y)) rests.2) ∙ e in cc)
 
 -- and calls no function
 pub idle_outside : (visit : Option Visit) (carried : ℕ) (f : Calling) → visit ≡ None → CallsNone visit carried f → f ≡ Idle
@@ -110,43 +111,43 @@ quiet_in x carried Idle visit e q = q
 quiet_in x carried (Calls call) visit e q = absurd q
 quiet_in x carried (Carries answer) visit e q = tt
 
-pub kept_entered : (v u : Known) (number : ℕ) (visit : Option Visit) (holds is_open : Bool) (x : Visit) (slot : ℕ) (work : Work)
+pub kept_entered : (v u : KnownStops) (number : ℕ) (visit : Option Visit) (holds is_open : Bool) (x : Visit) (slot : ℕ) (work : Work)
     → IsKept v number visit holds is_open → v.part.calling ≡ Idle → u ≡ stepped 3 (entered slot work v) → IsVisitOf slot work x → slot < cpus → Lives u →
     IsKept u number (Some x) holds is_open
 kept_entered v u number visit holds is_open x slot work kept idle same of low lives = record {
-  number_is = ap (λ (z : Known). z.number) same ∙ kept.number_is;
+  number_is = ap (λ (z : KnownStops). z.number) same ∙ kept.number_is;
   below = kept.below;
-  online = ap (λ (z : Known). has z.setting.online number) same ∙ kept.online;
-  rests = (work, of.loaded, ap (λ (z : Known). z.seat) same ∙ (λ i. In (sym of.slot_is i) work (sym of.fresh i) (sym of.fresh i) Rests));
+  online = ap (λ (z : KnownStops). has z.setting.online number) same ∙ kept.online;
+  rests = (work, of.loaded, ap (λ (z : KnownStops). z.seat) same ∙ (λ i. In (sym of.slot_is i) work (sym of.fresh i) (sym of.fresh i) Rests));
   low = subst (λ n. n < cpus) (sym of.slot_is) low;
-  quiet = subst (λ (z : Known). CallsNone (Some x) z.carried z.part.calling) (sym same) (quiet_in x v.carried v.part.calling visit idle kept.quiet);
-  holds_is = kept.holds_is ∙ sym (ap (λ (z : Known). z.part.holds) same);
-  owns = subst (OwnsIf is_open) (sym (ap (λ (z : Known). z.source) same)) kept.owns;
+  quiet = subst (λ (z : KnownStops). CallsNone (Some x) z.carried z.part.calling) (sym same) (quiet_in x v.carried v.part.calling visit idle kept.quiet);
+  holds_is = kept.holds_is ∙ sym (ap (λ (z : KnownStops). z.part.holds) same);
+  owns = subst (OwnsIf is_open) (sym (ap (λ (z : KnownStops). z.source) same)) kept.owns;
   lives = lives;
 }
 
 -- a CPU that has looked for itself on a roll in vain
-pub kept_missed : (v u : Known) (number : ℕ) (visit : Option Visit) (holds is_open : Bool) (slot : ℕ) → IsKept v number visit holds is_open
+pub kept_missed : (v u : KnownStops) (number : ℕ) (visit : Option Visit) (holds is_open : Bool) (slot : ℕ) → IsKept v number visit holds is_open
     → u ≡ missed slot v → Lives u → IsKept u number visit holds is_open
 kept_missed v u number visit holds is_open slot kept same lives = record {
-  number_is = ap (λ (z : Known). z.number) same ∙ kept.number_is;
+  number_is = ap (λ (z : KnownStops). z.number) same ∙ kept.number_is;
   below = kept.below;
-  online = ap (λ (z : Known). has z.setting.online number) same ∙ kept.online;
-  rests = subst (λ (z : Known). SitsAtRest visit z.seat) (sym same) kept.rests;
+  online = ap (λ (z : KnownStops). has z.setting.online number) same ∙ kept.online;
+  rests = subst (λ (z : KnownStops). SitsAtRest visit z.seat) (sym same) kept.rests;
   low = kept.low;
-  quiet = subst (λ (z : Known). CallsNone visit z.carried z.part.calling) (sym same) kept.quiet;
-  holds_is = kept.holds_is ∙ sym (ap (λ (z : Known). z.part.holds) same);
-  owns = subst (λ (z : Known). OwnsIf is_open z.source) (sym same) kept.owns;
+  quiet = subst (λ (z : KnownStops). CallsNone visit z.carried z.part.calling) (sym same) kept.quiet;
+  holds_is = kept.holds_is ∙ sym (ap (λ (z : KnownStops). z.part.holds) same);
+  owns = subst (λ (z : KnownStops). OwnsIf is_open z.source) (sym same) kept.owns;
   lives = lives;
 }
 
 -- the part of a CPU that carries no answer
-pub idle_part : (answer : ℕ) (v : Known) → v.part.calling ≡ Idle → part_with answer v ≡ record (v.part) { calling = Idle }
+pub idle_part : (answer : ℕ) (v : KnownStops) → v.part.calling ≡ Idle → part_with answer v ≡ record (v.part) { calling = Idle }
 idle_part answer v idle =
     ap (λ f. record (v.part) { calls = calls_with answer v.number (work_in v.seat) v.part.calls f; calling = with_answer answer f }) idle
 
 -- a CPU that has entered, but for its steps
-abbrev entered_at : ℕ → Work → Known → Known
+abbrev entered_at : ℕ → Work → KnownStops → KnownStops
 entered_at slot work v = attempting slot true (record v { seat = In slot work 0 0 Rests })
 
 -- a CPU's value by what it knows
@@ -156,15 +157,15 @@ entered_view d e slot work free idle table same =
     let v = stepped 4 (entered_at slot work d.known) in
     let x = d.known.carried in
     (λ i. cpu_of (record { table = table i; known = (same ∙ steps_on 1 3 (entered_at slot work d.known)) i })) ∙ (
-    ap (λ (k : Part). record (cpu_of (record { table = d.table; known = v })) { part = k }) (idle_part x v idle ∙ sym (idle_part x d.known idle)) ∙
+    ap (λ (k : StopPart). record (cpu_of (record { table = d.table; known = v })) { part = k }) (idle_part x v idle ∙ sym (idle_part x d.known idle)) ∙
     ap (λ (b : Bool). record (enters slot work (cpu_of d)) { irq = b }) (sym (ap irq_of free)))
 
 -- a stop of one CPU has no phases
-pub no_phase : (v : Known) (slot acked looked : ℕ) (w : Work) → Lives v → v.seat ≡ In slot w acked looked Rests → w.kind ≡ One → acked ≡ 0
+pub no_phase : (v : KnownStops) (slot acked looked : ℕ) (w : Work) → Lives v → v.seat ≡ In slot w acked looked Rests → w.kind ≡ One → acked ≡ 0
 no_phase v slot acked looked w l is one = at_zero (none (l.stops.now.stop slot).work.kind refl)
   where
-    st : Stands l.stops.now v.number (In slot w acked looked Rests)
-    st = subst (Stands l.stops.now v.number) (l.sees.seat_is ∙ is) (l.shown.present.stands v.number)
+    st : RoleStands l.stops.now v.number (In slot w acked looked Rests)
+    st = subst (RoleStands l.stops.now v.number) (l.sees.seat_is ∙ is) (l.shown.present.stands v.number)
 
     opened : (l.stops.now.stop slot).is_open ≡ true
     opened = is_open_inside cpus (l.stops.now.stop slot) (λ g. l.at (Slot slot g)) (l.shown.present.slots slot) v.number (Inside acked looked) st.1 refl
@@ -181,7 +182,7 @@ no_phase v slot acked looked w l is one = at_zero (none (l.stops.now.stop slot).
         ]
 
 -- before RUN is acknowledged a CPU carries no answer, and between two calls it calls no function
-pub idle_before : (v : Known) (x : Visit) (slot acked looked : ℕ) (w : Work) (t : Duty) → Lives v → v.seat ≡ In slot w acked looked t → acked < RUN
+pub idle_before : (v : KnownStops) (x : Visit) (slot acked looked : ℕ) (w : Work) (t : Duty) → Lives v → v.seat ≡ In slot w acked looked t → acked < RUN
     → CallsNone (Some x) v.carried v.part.calling → v.part.calling ≡ Idle
 idle_before v x slot acked looked w t l is early quiet = go (l.stops.calling v.number) here l.sees.part_is.calling
   where
@@ -200,7 +201,7 @@ pub ran_view : (d e : SeatValue) (slot : ℕ) (w : Work) (x n : ℕ) → w.kind 
 ran_view d e slot w x n one f part table same =
     (λ i. cpu_of (record { table = table i; known = same i })) ∙ (
     ap (λ (k : Kind). cpu_of (record { table = d.table; known = stepped n (completed_with 0 slot (record w { kind = k }) x (carrying 0 d.known)) })) one ∙
-    ap (λ (k : Part). makes n (answers slot x (runs (call_with w x) (record (cpu_of d) { part = k })))) (sym part))
+    ap (λ (k : StopPart). makes n (answers slot x (runs (call_with w x) (record (cpu_of d) { part = k })))) (sym part))
 
 -- one stop more, before those that have this last answer
 given_more : (b : Bool) (n : ℕ) (answers before : List ℕ) (v : ℕ) → answers ≡ before ++ v ∷ []
@@ -324,7 +325,7 @@ own_answers_agree c result l of = record { own = l.answer c.number; answered = l
 pub collected_view : (d e f : SeatValue) (r : ℕ) → e.known ≡ looked true d.known → f.table ≡ d.table → f.known ≡ collected r e.known
     → cpu_of f ≡ collects r (cpu_of d)
 collected_view d e f r one table two =
-    let at : Known = record (d.known) { source = Shut; part = record (d.known.part) { collected = d.known.part.collected ++ r ∷ [] } } in
+    let at : KnownStops = record (d.known) { source = Shut; part = record (d.known.part) { collected = d.known.part.collected ++ r ∷ [] } } in
     (λ i. cpu_of (record { table = table i; known = (two ∙ (ap (collected r) one ∙ steps_on 1 1 (noting (own.Collected r) at))) i }))
 
 -- a slot that may be entered is one of the table
@@ -364,8 +365,8 @@ at_one t d number visit holds is_open kept one table sized =
       sized = sized;
       low = kept.low;
       idle = owned_idle is_open d.known.source kept.owns;
-      seat_is = is ∙ sym (ap (λ (x : Seat). In visit.slot (work_in x) 0 0 Rests) is);
-      one = ap (λ (x : Seat). (work_in x).kind) is ∙ kind;
+      seat_is = is ∙ sym (ap (λ (x : StopRole). In visit.slot (work_in x) 0 0 Rests) is);
+      one = ap (λ (x : StopRole). (work_in x).kind) is ∙ kind;
     }
 
 -- its answer
@@ -406,8 +407,8 @@ poll_answers d e f number visit holds word v kept one table two lives is fits =
         word,
         is,
         collected_view d e f word one table two,
-        last_result f d.known.part.collected word lives (ap (λ (z : Known). z.source) all)
-            (ap (λ (z : Known). z.part.collected) all),
+        last_result f d.known.part.collected word lives (ap (λ (z : KnownStops). z.source) all)
+            (ap (λ (z : KnownStops). z.part.collected) all),
         whole_word v word is fits,
       ),
     )

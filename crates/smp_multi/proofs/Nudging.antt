@@ -7,12 +7,12 @@ use Rattle.smp_labels.specs.declared.words.TheConstants.{MOST_KEYS}
 use Rattle.smp_mask.specs.Mask.{has}
 use Rattle.smp_mask.specs.declared.error.SmpError.{SmpError}
 use Rattle.smp_mask.specs.declared.error.SmpError.TheVariants as error
-use Rattle.smp_multi.specs.Lives.{Lives, Moment}
+use Rattle.smp_multi.specs.Lives.{Lives, StopMoment}
 use Rattle.smp_stop_steps.specs.Moves.{Nudge as NudgeKey}
 use Rattle.smp_stop_steps.specs.Seats.{irq_of}
 use Rattle.smp_stop_steps.specs.Sits.{IsNudge}
 use Rattle.smp_stop_steps.specs.Stages.{nudge_of}
-use Rattle.smp_multi.specs.Names.{Key, Exchange, Known}
+use Rattle.smp_multi.specs.Names.{Key, Exchange, KnownStops}
 use Rattle.smp_multi.specs.Cpu.{cpu_of}
 use Rattle.smp_multi.specs.Nudges.{LoadsCount, NudgeAnswers, NudgeKnown, StaysOn, loads_known, lost_known, nudged_known}
 use Rattle.smp_multi.specs.Reads.{MayRead}
@@ -73,13 +73,13 @@ loaded d k count = record { table = d.table; known = loads_known k count d.known
 module _ (d e : SeatValue) (k : ℕ) (up : Bool) (table : e.table ≡ d.table) (lives : Lives e.known)
     (online : has d.known.setting.online d.known.number ≡ true) (on : irq_of d.known.seat ≡ true) (low : k < d.known.setting.labels.keys)
     (free : HasNotGiven d.known.seat) where
-  loads : (count : ℕ) → Moment d.known (Key k) count → Lives (loads_known k count d.known) → LoadsCount (cpu_of d) k count
+  loads : (count : ℕ) → StopMoment d.known (Key k) count → Lives (loads_known k count d.known) → LoadsCount (cpu_of d) k count
   loads count m l = record { key = (low, on); finds = finds_count d k count free m; reads = reads_table (loaded d k count) l online on }
 
-  same_view : (w : Known) → e.known ≡ w → cpu_of e ≡ cpu_of (record { table = d.table; known = w })
+  same_view : (w : KnownStops) → e.known ≡ w → cpu_of e ≡ cpu_of (record { table = d.table; known = w })
   same_view w same = λ i. cpu_of (record { table = table i; known = same i })
 
-  lives_as : (w : Known) → e.known ≡ w → Lives w
+  lives_as : (w : KnownStops) → e.known ≡ w → Lives w
   lives_as w same = subst Lives same lives
 
   pub nudge_answers : (r : Result Nudge SmpError) → NudgeKnown k up d.known e.known r → NudgeAnswers k up (cpu_of d) (cpu_of e) r

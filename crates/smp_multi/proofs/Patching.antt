@@ -18,14 +18,14 @@ use Rattle.smp_labels.proofs.Stores.{entries_kept}
 use Rattle.smp_mask.specs.Mask.{has}
 use Rattle.smp_words.specs.Size.{cpus}
 use Rattle.smp_stop_steps.specs.Known.{carrying, setup_in, stepped}
-use Rattle.smp_multi.specs.Lives.{Lives, Moment}
+use Rattle.smp_multi.specs.Lives.{Lives, StopMoment}
 use Rattle.smp_stop_steps.specs.KnownAfter.{acked_by, called_by, counted, is_drafting, key_loaded_by, known_told, looked_known, looked_to}
 use Rattle.smp_stop_steps.specs.KnownAfter.{key_read_known, raised_by}
 use Rattle.smp_stop_steps.specs.Names.{change_of}
 use Rattle.smp_stop_steps.specs.AnswerWords.{IsI32Word}
 use Rattle.smp_stop_steps.specs.Labels.{Change, LabelsShow, Patching, Patches, Whole, answer_for, count_set, patch_answer}
 use Rattle.smp_stop_steps.specs.Moves.{Alter, AcknowledgePatch, BeginPatch, LoadEntry}
-use Rattle.smp_stop_steps.specs.Seats.{Stands}
+use Rattle.smp_stop_steps.specs.Seats.{RoleStands}
 use Rattle.smp_stop_steps.specs.Sits.{IsLoaded}
 use Rattle.smp_stop_steps.specs.Stages.{label_word, store_of, visit_acked}
 use Rattle.smp_stop_steps.specs.Stop.{Inside}
@@ -34,7 +34,7 @@ use Rattle.smp_words.specs.declared.phase.TheConstants.{DISABLE_IRQ, RUN, EXIT}
 use Rattle.smp_stop_steps.specs.declared.stage.Visit.{Visit}
 use Rattle.smp_stop_steps.proofs.Promises.Functions.{runs_alone}
 use Rattle.smp_stop_steps.proofs.State.Phases.{is_open_inside}
-use Rattle.smp_multi.specs.Names.{Work, Kind, Patch, Slot, Key, Entry, Field, Load, Store, Sub, Seat, Duty, Rests, Fills, Known}
+use Rattle.smp_multi.specs.Names.{Work, Kind, Patch, Slot, Key, Entry, Field, Load, Store, Sub, StopRole, Duty, Rests, Fills, KnownStops}
 use Rattle.smp_multi.specs.Names.{Free, In, Gives, Alters, Closes}
 use Rattle.smp_multi.specs.Names.{Moved, Calls, Carries}
 use Rattle.smp_multi.specs.Names.act
@@ -45,7 +45,7 @@ use Rattle.smp_multi.specs.Places.{work_in}
 use Rattle.smp_multi.specs.Rounds.{AloneWhile, AtRun, AtTurn}
 use Rattle.smp_multi.specs.Seat.{SeatValue, Able, Ready, FitsWord}
 use Rattle.smp_multi.specs.StepCounts.{patching}
-use Rattle.smp_multi.specs.Turns.{HasRun, patched_by, patched_with}
+use Rattle.smp_multi.specs.Turns.{HasRunFunction, patched_by, patched_with}
 use Rattle.smp_multi.specs.declared.func.Called.{Called}
 use Rattle.smp_multi.proofs.Cells.{slot_cell, key_cell, entry_cell, site_cell}
 use Rattle.smp_multi.proofs.Counting.{patched_on, steps_on}
@@ -53,10 +53,11 @@ use Rattle.smp_multi.proofs.Counting.{patched_on, steps_on}
 -- what a CPU in a patch stop finds at a moment
 
 -- the key of the patch is one of the table
-pub patch_key : (v : Known) (s : ℕ) (w : Work) (a l : ℕ) (t : Duty) (f : Field) (n : ℕ) → v.seat ≡ In s w a l t → w.kind ≡ Patch → Moment v (Slot s f) n
+pub patch_key : (v : KnownStops) (s : ℕ) (w : Work) (a l : ℕ) (t : Duty) (f : Field) (n : ℕ) → v.seat ≡ In s w a l t → w.kind ≡ Patch
+    → StopMoment v (Slot s f) n
     → w.func < MOST_KEYS
 patch_key v s w a l t f n is kind m =
-    let st : Stands m.stops.now v.number (In s w a l t) = subst (Stands m.stops.now v.number) (m.sees.seat_is ∙ is) (m.shown.present.stands v.number) in
+    let st : RoleStands m.stops.now v.number (In s w a l t) = subst (RoleStands m.stops.now v.number) (m.sees.seat_is ∙ is) (m.shown.present.stands v.number) in
     let opened = is_open_inside cpus (m.stops.now.stop s) (λ g. m.at (Slot s g)) (m.shown.present.slots s) v.number (Inside a l) st.1 refl in
     let patch = m.shown.present.works s opened (ap (λ (x : Work). x.kind) st.3 ∙ kind) in
     let key : (m.stops.now.stop s).work.func < (setup_in v.setting).keys = patch.key in
@@ -68,7 +69,7 @@ entry_form : (x : Patching) (t : Table) → LabelsShow x t → (i : ℕ) → i <
 entry_form Whole t h i low = h.entries i low
 entry_form (Patches c w count made rest) t h i low = subst IsEntryWord (sym (ap (λ (x : Table). x.entry i) h.2 ∙ entries_kept made h.0 i)) (h.1.entries i low)
 
-pub entry_found : (v : Known) (i n : ℕ) → i < MOST_SITES → Moment v (Entry i) n → IsEntryWord n
+pub entry_found : (v : KnownStops) (i n : ℕ) → i < MOST_SITES → StopMoment v (Entry i) n → IsEntryWord n
 entry_found v i n low m = subst IsEntryWord (sym m.number_is) (entry_form m.stops.now.patching _ m.shown.present.labels i low)
 
 -- a label is no result
@@ -77,7 +78,7 @@ label_fits (place.Key k) n = tt
 label_fits (place.Site i) n = tt
 
 -- there are no more entries than sites
-pub few_entries : (v : Known) → Lives v → length (entries_in v) ≤ MOST_SITES
+pub few_entries : (v : KnownStops) → Lives v → length (entries_in v) ≤ MOST_SITES
 few_entries v l = l.shown.present.entries.few
 
 -- the loads of a patch
@@ -107,13 +108,13 @@ module _ (t : TableId) (d : SeatValue) (v : Visit) (a : AtRun t d v Patch) where
     apart = tt;
   }
 
-  abbrev called_with : ℕ → Known
+  abbrev called_with : ℕ → KnownStops
   called_with n = record (d.known) { part = record (d.known.part) { calling = Calls (record { func = work.func; arg = n; answer = 0 }) } }
 
   -- the argument is that of a patch: it calls no function with it
   pub change_known : (x : ℕ) → called_by x d.known.seat d.known ≡ d.known
   change_known x =
-      ap (λ (y : Seat). called_by x y d.known) is_at_run
+      ap (λ (y : StopRole). called_by x y d.known) is_at_run
       ∙ (ap (λ (k : Kind). cond (is_one k || (has work.active d.known.number && is_multi k)) (called_with x) d.known) is_patch_work
       ∙ none (has work.active d.known.number))
     where
@@ -125,17 +126,17 @@ module _ (t : TableId) (d : SeatValue) (v : Visit) (a : AtRun t d v Patch) where
   pub begin_known : (k found : ℕ) → key_loaded_by k found d.known.seat d.known ≡ begins_with found d.known.seat d.known
   begin_known k found =
       let next = record (d.known) { seat = Alters v.slot work found [] (plan_at (setup_in d.known.setting) work found) } in
-      ap (λ (y : Seat). key_loaded_by k found y d.known) is_at_run
+      ap (λ (y : StopRole). key_loaded_by k found y d.known) is_at_run
       ∙ (ap (λ (x : Kind). cond (is_patch x) next (key_read_known k found d.known)) is_patch_work
-      ∙ sym (ap (λ (y : Seat). begins_with found y d.known) is_at_run))
+      ∙ sym (ap (λ (y : StopRole). begins_with found y d.known) is_at_run))
 
   pub at_patch : (e : SeatValue) (found : ℕ) → e.table ≡ t → e.known ≡ stepped 1 (begins_with found d.known.seat d.known) → work.func < MOST_KEYS →
       AtPatch t e v
   at_patch e found table same low =
       let plan = plan_at (setup_in d.known.setting) work found in
       let next = Alters v.slot work found [] plan in
-      let is : e.known ≡ stepped 1 (record (d.known) { seat = next }) = same ∙ ap (λ (y : Seat). stepped 1 (begins_with found y d.known)) is_at_run in
-      subst (λ (k : Known). AtPatch t (record { table = e.table; known = k }) v) (sym is) record {
+      let is : e.known ≡ stepped 1 (record (d.known) { seat = next }) = same ∙ ap (λ (y : StopRole). stepped 1 (begins_with found y d.known)) is_at_run in
+      subst (λ (k : KnownStops). AtPatch t (record { table = e.table; known = k }) v) (sym is) record {
         table_is = table;
         sized = a.at.sized;
         low = a.at.low;
@@ -152,7 +153,7 @@ pub patch_alone : (t : TableId) (d : SeatValue) (v : Visit) → AtPatch t d v �
 patch_alone t d v a p at seat source h sees =
     let w = work_in d.known.seat in
     let x = Alters v.slot w (count_in d.known.seat) (made_in d.known.seat) (rest_in d.known.seat) in
-    let st : Stands p.now d.known.number x = subst (Stands p.now d.known.number) (sees.seat_is ∙ a.seat_is) (h.present.stands d.known.number) in
+    let st : RoleStands p.now d.known.number x = subst (RoleStands p.now d.known.number) (sees.seat_is ∙ a.seat_is) (h.present.stands d.known.number) in
     runs_alone (setup_in d.known.setting) p at seat source h v.slot d.known.number st.1
 
 pub in_patch : (t : TableId) (d : SeatValue) (v : Visit) → AtPatch t d v → IsInPatch d.known
@@ -249,11 +250,11 @@ module _ (t : TableId) (d : SeatValue) (v : Visit) (a : AtPatch t d v) (fresh : 
   seat_is = a.seat_is ∙ ap (λ l. Alters v.slot job count l plan) fresh
 
   -- with these stores made
-  abbrev with_made : List Change → List Change → List Moved → Known
+  abbrev with_made : List Change → List Change → List Moved → KnownStops
   with_made made rest l = record (d.known) { seat = Alters v.slot job count made rest; part = record (d.known.part) { patched = l } }
 
   stored_is : (i : ℕ) → stored_to i d.known.seat d.known ≡ with_made (take i plan) (drop i plan) (moved_with job count (take i plan) d.known.part.patched)
-  stored_is i = ap (λ (y : Seat). stored_to i y d.known) seat_is
+  stored_is i = ap (λ (y : StopRole). stored_to i y d.known) seat_is
 
   -- one store more
   step_known : (i : ℕ) (made rest : List Change) (x : Place) (n : ℕ) → plan ≡ made ++ (x, n) ∷ rest →
@@ -284,7 +285,7 @@ module _ (t : TableId) (d : SeatValue) (v : Visit) (a : AtPatch t d v) (fresh : 
 
   pub able_store : (e : SeatValue) (i : ℕ) (change : Change) → e.table ≡ t → Lives e.known → e.known ≡ stepped i (stored_to i d.known.seat d.known)
       → i < length plan → change ≡ get_or plan i (place.Key 0, 0) → Able t e (Store (label_word change.0) change.1)
-  able_store e i change table lives same low is = subst (λ (k : Known). Able t (record { table = e.table; known = k }) (store_of change))
+  able_store e i change table lives same low is = subst (λ (k : KnownStops). Able t (record { table = e.table; known = k }) (store_of change))
       (sym (at_store e i change same low is)) record {
         table_is = table;
         sized = a.sized;
@@ -298,7 +299,7 @@ module _ (t : TableId) (d : SeatValue) (v : Visit) (a : AtPatch t d v) (fresh : 
       }
     where
       few : length entries ≤ MOST_SITES
-      few = subst (λ (k : Known). length (entries_in k) ≤ MOST_SITES) (same ∙ ap (stepped i) (stored_is i)) (few_entries e.known lives)
+      few = subst (λ (k : KnownStops). length (entries_in k) ≤ MOST_SITES) (same ∙ ap (stepped i) (stored_is i)) (few_entries e.known lives)
 
       parts : (x : Place) (n : ℕ) → change ≡ (x, n) → plan_of job.func count (count_set job count) entries ≡ take i plan ++ (x, n) ∷ drop (i + 1) plan
       parts x n c = plan_is ∙ (whole i change low is ∙ ap (λ y. take i plan ++ y ∷ drop (i + 1) plan) c)
@@ -317,9 +318,9 @@ module _ (t : TableId) (d : SeatValue) (v : Visit) (a : AtPatch t d v) (fresh : 
   stored_more e f i change same low is next =
       let made = take i plan ++ change ∷ [] in
       let more : made ≡ take (i + 1) plan = sym (take_more plan i (place.Key 0, 0) low ∙ ap (λ y. take i plan ++ y ∷ []) (sym is)) in
-      next ∙ (ap (λ (k : Known). known_told k act.Store (label_word change.0) None (Some change.1)) (at_store e i change same low is)
+      next ∙ (ap (λ (k : KnownStops). known_told k act.Store (label_word change.0) None (Some change.1)) (at_store e i change same low is)
       ∙ (step_known i (take i plan) (drop (i + 1) plan) change.0 change.1 (whole i change low is)
-      ∙ (ap (λ (k : Known). stepped 1 (stepped i k))
+      ∙ (ap (λ (k : KnownStops). stepped 1 (stepped i k))
       (ap (λ l. with_made l (drop (i + 1) plan) (moved_with job count l d.known.part.patched)) more ∙ sym (stored_is (i + 1)))
       ∙ steps_on i 1 (stored_to (i + 1) d.known.seat d.known))))
 
@@ -333,13 +334,13 @@ module _ (t : TableId) (d : SeatValue) (v : Visit) (a : AtPatch t d v) (fresh : 
       ∙ (ap (λ l. with_made l (drop i plan) (moved_with job count l d.known.part.patched)) all
       ∙ (ap (λ l. with_made plan l (moved_with job count plan d.known.part.patched)) none
       ∙ (ap (with_made plan []) (ap (λ l. moved_with job count l d.known.part.patched) (sym plan_is) ∙ moved_all job count entries d.known.part.patched)
-      ∙ sym (ap (λ (y : Seat). stored_all y d.known) seat_is))))))
+      ∙ sym (ap (λ (y : StopRole). stored_all y d.known) seat_is))))))
 
   pub at_whole : (e : SeatValue) (n : ℕ) → e.table ≡ t → e.known ≡ stepped n (stored_all d.known.seat d.known) → AtPatch t e v × (rest_in e.known.seat ≡ [])
   at_whole e n table same =
       let is : e.known ≡ stepped n (with_made plan [] (patched_with job count d.known.part.patched)) = same
-      ∙ ap (λ (y : Seat). stepped n (stored_all y d.known)) seat_is in
-      subst (λ (k : Known). AtPatch t (record { table = e.table; known = k }) v × (rest_in k.seat ≡ [])) (sym is) (
+      ∙ ap (λ (y : StopRole). stepped n (stored_all y d.known)) seat_is in
+      subst (λ (k : KnownStops). AtPatch t (record { table = e.table; known = k }) v × (rest_in k.seat ≡ [])) (sym is) (
         record {
           table_is = table;
           sized = a.sized;
@@ -388,20 +389,20 @@ patch_acked t d e v x found answer n a table same moved =
     let run : RUN ≡ x.acked = (let two = a.disabled in let up = moved.4 in omega arith) in
     let is : e.known ≡ stepped n (acked_by found (Alters v.slot w (count_in d.known.seat) (made_in d.known.seat) (rest_in d.known.seat))
     (carrying answer d.known)) = same ∙ ap (λ y. stepped n (acked_by found y (carrying answer d.known))) a.seat_is in
-    let seat : e.known.seat ≡ In x.slot w x.acked x.acked duty = ap (λ (k : Known). k.seat) is ∙ (λ i. In (sym moved.0 i) w (run i) (run i) duty) in
+    let seat : e.known.seat ≡ In x.slot w x.acked x.acked duty = ap (λ (k : KnownStops). k.seat) is ∙ (λ i. In (sym moved.0 i) w (run i) (run i) duty) in
     let work : w ≡ work_in e.known.seat = sym (ap work_in seat) in
     record {
       table_is = table;
       sized = a.sized;
       low = subst (λ n. n < cpus) (sym moved.0) a.low;
-      idle = ap (λ (k : Known). is_drafting k.source) is ∙ a.idle;
+      idle = ap (λ (k : KnownStops). is_drafting k.source) is ∙ a.idle;
       loaded = subst (IsLoaded x) work record { kind = moved.1 ∙ a.loaded.kind; mask = moved.2 ∙ a.loaded.mask; active = moved.3 ∙ a.loaded.active };
       seat_is = seat ∙ (λ i. In x.slot (work i) x.acked x.acked duty);
     }
 
 -- all steps of a patch, from the load of its key on
-module _ (k : Known) (s : ℕ) (w : Work) (count : ℕ) (is : k.seat ≡ In s w DISABLE_IRQ RUN Rests) where
-  abbrev patched_at : ℕ → Duty → Known
+module _ (k : KnownStops) (s : ℕ) (w : Work) (count : ℕ) (is : k.seat ≡ In s w DISABLE_IRQ RUN Rests) where
+  abbrev patched_at : ℕ → Duty → KnownStops
   patched_at steps duty = record k {
     seat = In s w RUN RUN duty;
     part = record (k.part) { calling = Carries 0; patched = patched_with w count k.part.patched };
@@ -418,7 +419,7 @@ module _ (k : Known) (s : ℕ) (w : Work) (count : ℕ) (is : k.seat ≡ In s w 
   passed_same n false = refl
 
   -- with the numbers of steps: up to the plan, and of its stores
-  pub patch_ends : (k1 k2 k3 k4 : Known) (found answer next p q all : ℕ) → k1 ≡ stepped p (begins_with count k.seat k)
+  pub patch_ends : (k1 k2 k3 k4 : KnownStops) (found answer next p q all : ℕ) → k1 ≡ stepped p (begins_with count k.seat k)
       → k2 ≡ stepped q (stored_all k1.seat k1) → answer ≡ patch_answer w count → k3 ≡ stepped 1 (acked_by found k2.seat (carrying answer k2))
       → k4 ≡ cond (found == 1) (raised_by next k3.seat k3) k3 → next ≡ EXIT → p + q + 1 ≡ all → k4 ≡ stepped all (patched_by count k.seat k)
   patch_ends k1 k2 k3 k4 found answer next p q all one two says three four up sum =
@@ -428,17 +429,17 @@ module _ (k : Known) (s : ℕ) (w : Work) (count : ℕ) (is : k.seat ≡ In s w 
       let acked = patched_at n (duty_at (found == 1)) in
       let a : k1 ≡ stepped p (record k { seat = Alters s w count [] plan }) = one ∙ ap (λ y. stepped p (begins_with count y k)) is in
       let b : k2 ≡ stepped q (stepped p (record k { seat = Alters s w count plan []; part = record (k.part) { patched = l } })) = two
-      ∙ ap (λ (x : Known). stepped q (stored_all x.seat x)) a in
-      let c : k3 ≡ acked = three ∙ (ap (λ (x : Known). stepped 1 (acked_by found x.seat (carrying answer x))) b
+      ∙ ap (λ (x : KnownStops). stepped q (stored_all x.seat x)) a in
+      let c : k3 ≡ acked = three ∙ (ap (λ (x : KnownStops). stepped 1 (acked_by found x.seat (carrying answer x))) b
       ∙ ap (λ n. record acked { carried = n }) says) in
       let steps : n ≡ k.steps + all = omega (arith, sum) in
-      four ∙ (ap (λ (x : Known). cond (found == 1) (raised_by next x.seat x) x) c
+      four ∙ (ap (λ (x : KnownStops). cond (found == 1) (raised_by next x.seat x) x) c
       ∙ (ap (λ j. cond (found == 1) (raised_by j acked.seat acked) acked) up ∙ (passed_same n (found == 1)
       ∙ (ap (λ m. patched_at m Rests) steps ∙ sym (ap (λ y. stepped all (patched_by count y k)) is)))))
 
 -- a turn with a patch
 
-pub work_looked : (n : ℕ) (x : Seat) → work_in (looked_to n x) ≡ work_in x
+pub work_looked : (n : ℕ) (x : StopRole) → work_in (looked_to n x) ≡ work_in x
 work_looked n Free = refl
 work_looked n (In s w a l t) = refl
 work_looked n (Gives s w a x) = refl
@@ -446,21 +447,21 @@ work_looked n (Alters s w count made rest) = refl
 work_looked n (Closes s) = refl
 
 -- a CPU that has looked at RUN, where this count was in the key, and has made its patch
-pub has_patched : {F : Type 0} (leads : F → Called → F → Type 0) (old looked new : Known) (v x : Visit) (f : F) (count : ℕ)
-    → looked ≡ stepped 1 (looked_known RUN old) → Moment (stepped 2 looked) (Key (work_in looked.seat).func) count
+pub has_patched : {F : Type 0} (leads : F → Called → F → Type 0) (old looked new : KnownStops) (v x : Visit) (f : F) (count : ℕ)
+    → looked ≡ stepped 1 (looked_known RUN old) → StopMoment (stepped 2 looked) (Key (work_in looked.seat).func) count
     → new ≡ stepped (4 + patching looked.setting (work_in looked.seat) count) (patched_by count looked.seat looked)
-    → x ≡ visit_acked v 0 false → HasRun leads old new v x f f Patch
+    → x ≡ visit_acked v 0 false → HasRunFunction leads old new v x f f Patch
 has_patched leads old looked new v x f count is m same next =
     let at = looked_known RUN old in
-    let work : work_in looked.seat ≡ work_in old.seat = ap (λ (k : Known). work_in k.seat) is ∙ work_looked RUN old.seat in
+    let work : work_in looked.seat ≡ work_in old.seat = ap (λ (k : KnownStops). work_in k.seat) is ∙ work_looked RUN old.seat in
     let many = λ (z : Work). 4 + patching old.setting z count in
     let all = 5 + patching old.setting (work_in old.seat) count in
     let one : 1 + many (work_in old.seat) ≡ all = omega arith in (
       count,
-      subst (λ (k : Known). Moment k (Key (work_in old.seat).func) count) (steps_on 1 2 at)
-          (subst (λ (w : Work). Moment (stepped 2 (stepped 1 at)) (Key w.func) count) work
-          (subst (λ (k : Known). Moment (stepped 2 k) (Key (work_in looked.seat).func) count) is m)),
-      same ∙ (ap (λ (k : Known). stepped (4 + patching k.setting (work_in looked.seat) count) (patched_by count k.seat k)) is
+      subst (λ (k : KnownStops). StopMoment k (Key (work_in old.seat).func) count) (steps_on 1 2 at)
+          (subst (λ (w : Work). StopMoment (stepped 2 (stepped 1 at)) (Key w.func) count) work
+          (subst (λ (k : KnownStops). StopMoment (stepped 2 k) (Key (work_in looked.seat).func) count) is m)),
+      same ∙ (ap (λ (k : KnownStops). stepped (4 + patching k.setting (work_in looked.seat) count) (patched_by count k.seat k)) is
           ∙ (ap (λ (z : Work). stepped (many z) (patched_by count at.seat (stepped 1 at))) work
           ∙ (ap (stepped (many (work_in old.seat))) (patched_on 1 count at.seat at)
           ∙ (steps_on 1 (many (work_in old.seat)) (patched_by count at.seat at) ∙ ap (λ n. stepped n (patched_by count at.seat at)) one)))),

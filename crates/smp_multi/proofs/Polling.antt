@@ -3,11 +3,11 @@ use Rattle.std.proofs.Common.{◌≡◌, ℕ, ◌==◌, not, Bool, true, false, 
 use Rattle.atomic_table.specs.Seated.{TableId}
 use Rattle.smp_stop_steps.specs.AnswerWords.{IsI32Word}
 use Rattle.smp_stop_steps.specs.Known.{noting, stepped}
-use Rattle.smp_multi.specs.Lives.{Moment}
+use Rattle.smp_multi.specs.Lives.{StopMoment}
 use Rattle.smp_stop_steps.specs.KnownAfter.{done_by, done_known}
 use Rattle.smp_stop_steps.specs.declared.stage.Visit.{Visit}
 use Rattle.smp_stop_steps.specs.Moves.{LookDone, Collect}
-use Rattle.smp_multi.specs.Names.{Slot, Known, Load, Source, Owns, Collects}
+use Rattle.smp_multi.specs.Names.{Slot, KnownStops, Load, Source, Owns, Collects}
 use Rattle.smp_multi.specs.Names.own
 use Rattle.smp_multi.specs.Names.field
 use Rattle.smp_multi.specs.Answers.{PollAnswers}
@@ -44,7 +44,7 @@ module _ (t : TableId) (d : SeatValue) (number : ℕ) where
     apart = tt;
   }
 
-  abbrev told : Bool → Source → Known
+  abbrev told : Bool → Source → KnownStops
   told c y = stepped 1 (record (d.known) { source = y; moves = cond c (d.known.moves ++ own.NotDone ∷ []) d.known.moves })
 
   pub known_done : (found : ℕ) → IsOwner t d number → (b : Bool) → b ≡ not (found == 0)
@@ -56,16 +56,16 @@ module _ (t : TableId) (d : SeatValue) (number : ℕ) where
       go false = refl
 
 -- a result has the bits of an i32
-pub result_fits : (v : Known) (s n : ℕ) → Moment v (Slot s field.Result) n → IsI32Word n
+pub result_fits : (v : KnownStops) (s n : ℕ) → StopMoment v (Slot s field.Result) n → IsI32Word n
 result_fits v s n m = subst IsI32Word (sym m.number_is) (m.within.results s)
 
 -- a CPU that has found done not set
 pub poll_none : (d e : SeatValue) (number : ℕ) (visit : Option Visit) (holds : Bool) (n : ℕ) (b : Bool) → IsKept d.known number visit holds true
-    → e.table ≡ d.table → e.known ≡ looked b d.known → Moment d.known (Slot number field.Done) n → b ≡ not (n == 0) → b ≡ false →
+    → e.table ≡ d.table → e.known ≡ looked b d.known → StopMoment d.known (Slot number field.Done) n → b ≡ not (n == 0) → b ≡ false →
     PollAnswers (cpu_of d) (cpu_of e) (Ok None)
 poll_none d e number visit holds n b kept table same m is none =
     let w = kept.owns.0 in
-    let vain : Known = stepped 1 (noting own.NotDone d.known) in
+    let vain : KnownStops = stepped 1 (noting own.NotDone d.known) in
     let owned : looked false d.known ≡ vain = ap (λ y. record vain { source = Owns (own_work y) }) kept.owns.1
     ∙ sym (ap (λ y. record vain { source = y }) kept.owns.1) in
     let known : e.known ≡ vain = same ∙ (ap (λ c. looked c d.known) none ∙ owned) in

@@ -7,13 +7,13 @@ use Rattle.smp_labels.specs.declared.kinds.SiteKind.{SiteKind}
 use Rattle.smp_labels.specs.declared.words.TheConstants.{MOST_KEYS, MOST_SITES}
 use Rattle.smp_mask.specs.Mask.{has}
 use Rattle.smp_stop_steps.specs.Known.{setup_in, stepped}
-use Rattle.smp_multi.specs.Lives.{Lives, Moment}
+use Rattle.smp_multi.specs.Lives.{Lives, StopMoment}
 use Rattle.smp_stop_steps.specs.KnownAfter.{reads_more}
 use Rattle.smp_stop_steps.specs.Labels.{Agrees, labels_in}
 use Rattle.smp_stop_steps.specs.Moves.{ReadKey as LoadKey, ReadSite as LoadSite}
 use Rattle.smp_stop_steps.specs.Seats.{irq_of}
 use Rattle.smp_stop_steps.proofs.State.Patched.{lawful_when_on}
-use Rattle.smp_multi.specs.Names.{Key, Site, Load, Known, Reading, ReadSite}
+use Rattle.smp_multi.specs.Names.{Key, Site, Load, KnownStops, Reading, ReadSite}
 use Rattle.smp_multi.specs.Cpu.{cpu_of}
 use Rattle.smp_multi.specs.Reads.{MayRead, ReadsOneTable, KeyAnswers, SiteAnswers, jumps, loads_known, reads}
 use Rattle.smp_multi.specs.Seat.{SeatValue, Ready}
@@ -46,7 +46,8 @@ module _ (t : TableId) (d : SeatValue) (m : MayRead t d) where
   }
 
 -- the key of a CPU that may read has a count
-pub count_found : (v : Known) (k n : ℕ) → has v.setting.online v.number ≡ true → irq_of v.seat ≡ true → k < MOST_KEYS → Moment v (Key k) n → IsKeyWord n
+pub count_found : (v : KnownStops) (k n : ℕ) → has v.setting.online v.number ≡ true → irq_of v.seat ≡ true → k < MOST_KEYS → StopMoment v (Key k) n
+    → IsKeyWord n
 count_found v k n online on low m =
     let irq = m.shown.present.irq v.number ∙ (ap irq_of m.sees.seat_is ∙ on) in
     subst IsKeyWord (sym m.number_is) ((lawful_when_on (setup_in v.setting) m.stops.now m.at m.seat m.shown.present v.number online irq).keys k low)
@@ -71,16 +72,16 @@ module _ (d e : SeatValue) (r : Reading) (table : e.table ≡ d.table) (same : e
   read_view = λ i. cpu_of (record { table = table i; known = same i })
 
   pub read_table : ReadsOneTable (cpu_of e)
-  read_table = reads_table e lives (ap (λ (v : Known). has v.setting.online v.number) same ∙ online) (ap (λ (v : Known). irq_of v.seat) same ∙ on)
+  read_table = reads_table e lives (ap (λ (v : KnownStops). has v.setting.online v.number) same ∙ online) (ap (λ (v : KnownStops). irq_of v.seat) same ∙ on)
 
-pub key_answers : (d e : SeatValue) (k count : ℕ) (b : Bool) → e.table ≡ d.table → Moment d.known (Key k) count → b ≡ is_on count
+pub key_answers : (d e : SeatValue) (k count : ℕ) (b : Bool) → e.table ≡ d.table → StopMoment d.known (Key k) count → b ≡ is_on count
     → e.known ≡ loads_known k count d.known → Lives e.known
     → has d.known.setting.online d.known.number ≡ true → irq_of d.known.seat ≡ true → k < d.known.setting.labels.keys → HasNotGiven d.known.seat
     → KeyAnswers k (cpu_of d) (cpu_of e) (Ok b)
 key_answers d e k count b table m found same lives online on low free = (
   (low, on),
   (count, finds_count d k count free m, found, λ i. cpu_of (record { table = table i; known = same i })),
-  reads_table e lives (ap (λ (v : Known). has v.setting.online v.number) same ∙ online) (ap (λ (v : Known). irq_of v.seat) same ∙ on),
+  reads_table e lives (ap (λ (v : KnownStops). has v.setting.online v.number) same ∙ online) (ap (λ (v : KnownStops). irq_of v.seat) same ∙ on),
 )
 
 pub site_answers : (d e : SeatValue) (i : ℕ) (kind : SiteKind) → e.table ≡ d.table → e.known ≡ stepped 1 (reads_more (ReadSite i (jumps kind)) d.known)

@@ -12,19 +12,19 @@ use Rattle.smp_words.specs.Size.{cpus}
 use Rattle.smp_multi.specs.Cells.{cells}
 use Rattle.smp_multi.specs.Cpu.{CpuValue, fresh_cpu, AreWaiting}
 use Rattle.smp_multi.specs.Lives.{Lives}
-use Rattle.smp_multi.specs.Names.{Setting, SeatView, Maker}
+use Rattle.smp_multi.specs.Names.{StopSetting, StopSeatView, Maker}
 use Rattle.smp_multi.specs.Seat.{SeatValue, fresh_seat}
 use Rattle.smp_stop_steps.specs.Known.{fresh}
 
 -- the CPUs below n have a seat, and of these the ones online are kept
-pub record AreSeated (table maker_table : TableId) (maker : SeatView) (k : Setting) (n : ℕ) (waiting : List (Option CpuValue)) : Type 0 where
+pub record AreSeated (table maker_table : TableId) (maker : StopSeatView) (k : StopSetting) (n : ℕ) (waiting : List (Option CpuValue)) : Type 0 where
   pub sized : table.words ≡ cells
   pub maker_is : maker_table ≡ table
   pub next : maker ≡ Maker n k
   pub count : length waiting ≡ n
   pub each : (cpu : ℕ) → cpu < n → get_or waiting cpu None ≡ cond (has k.online cpu) (Some (fresh_cpu table k cpu)) None
 
-pub seats_more : (table maker_table maker_table' : TableId) (maker maker' : SeatView) (k : Setting) (n : ℕ) (waiting waiting' : List (Option CpuValue))
+pub seats_more : (table maker_table maker_table' : TableId) (maker maker' : StopSeatView) (k : StopSetting) (n : ℕ) (waiting waiting' : List (Option CpuValue))
     (x : Option CpuValue) → AreSeated table maker_table maker k n waiting →
     maker_table' ≡ table → maker' ≡ Maker (n + 1) k → waiting' ≡ waiting ++ x ∷ [] → x ≡ cond (has k.online n) (Some (fresh_cpu table k n)) None
     → AreSeated table maker_table' maker' k (n + 1) waiting'
@@ -42,7 +42,7 @@ seats_more table maker_table maker_table' maker maker' k n waiting waiting' x s 
     })
 
 -- the seat of the next CPU, where it is online
-module _ (b : Bool) (table : TableId) (k : Setting) (n : ℕ) (on : b ≡ has k.online n) (seat : Option SeatValue)
+module _ (b : Bool) (table : TableId) (k : StopSetting) (n : ℕ) (on : b ≡ has k.online n) (seat : Option SeatValue)
     (is : seat ≡ cond b (Some (fresh_seat table k n)) None) where
   pub seat_lives : (has k.online n ≡ true → Lives (fresh k n))
       → IfSome seat (λ s. (s.known ≡ fresh s.known.setting n) × (has s.known.setting.online n ≡ true) × Lives s.known)
@@ -63,7 +63,8 @@ module _ (b : Bool) (table : TableId) (k : Setting) (n : ℕ) (on : b ≡ has k.
       go false e = subst (λ d. None ≡ cond d (Some (fresh_cpu table k n)) None) e refl
 
 -- once all are seated, all that are online wait fresh
-pub seats_wait : (table maker_table : TableId) (maker : SeatView) (nr : ℕ) (k : Setting) (n : ℕ) (waiting : List (Option CpuValue)) → AreLimits nr k.online
+pub seats_wait : (table maker_table : TableId) (maker : StopSeatView) (nr : ℕ) (k : StopSetting) (n : ℕ) (waiting : List (Option CpuValue))
+    → AreLimits nr k.online
     → cpus ≤ n → AreSeated table maker_table maker k n waiting → AreWaiting table k k.online waiting
 seats_wait table maker_table maker nr k n waiting limits all s = record {
   online_is = refl;
@@ -79,7 +80,8 @@ pub left_is : (waiting : List (Option CpuValue)) (cpu : ℕ) (o : Option CpuValu
 left_is waiting cpu o e = get_or-map is_some waiting cpu None ∙ ap is_some e
 
 -- and are left
-pub seats_left : (table maker_table : TableId) (maker : SeatView) (nr : ℕ) (k : Setting) (n : ℕ) (waiting : List (Option CpuValue)) → AreLimits nr k.online
+pub seats_left : (table maker_table : TableId) (maker : StopSeatView) (nr : ℕ) (k : StopSetting) (n : ℕ) (waiting : List (Option CpuValue))
+    → AreLimits nr k.online
     → cpus ≤ n → AreSeated table maker_table maker k n waiting → (cpu : ℕ) → has k.online cpu ≡ true → get_or (map is_some waiting) cpu false ≡ true
 seats_left table maker_table maker nr k n waiting limits all s cpu e =
     let below = limits.below cpu e in
@@ -92,6 +94,6 @@ pub taken_from : (waiting : List (Option CpuValue)) (cpu : ℕ) (o now : Option 
 taken_from waiting cpu o now low e f = sym (e ∙ (f ∙ get_or_default waiting cpu now None low))
 
 -- is fresh
-pub waits_fresh : (table : TableId) (k : Setting) (online : ℕ) (waiting : List (Option CpuValue)) (cpu : ℕ) (c : CpuValue)
+pub waits_fresh : (table : TableId) (k : StopSetting) (online : ℕ) (waiting : List (Option CpuValue)) (cpu : ℕ) (c : CpuValue)
     → AreWaiting table k online waiting → has online cpu ≡ true → get_or waiting cpu None ≡ Some c → c ≡ fresh_cpu table k cpu
 waits_fresh table k online waiting cpu c w h e = subst (λ o. IfSome o (λ c. c ≡ fresh_cpu table k cpu)) e (w.fresh_are cpu h)

@@ -5,24 +5,24 @@ use Rattle.smp_words.specs.Size.{cpus}
 use Rattle.smp_words.specs.Put.{put}
 use Rattle.smp_words.proofs.Puts.{put_all, put_same, put_other}
 use Rattle.smp_stop_steps.specs.Known.{fresh, setup_in, Sees, told_calling, told_source}
-use Rattle.smp_multi.specs.Lives.{Lives, Moment, StaysWithin}
+use Rattle.smp_multi.specs.Lives.{Lives, StopMoment, StaysWithin}
 use Rattle.smp_stop_steps.proofs.Promises.StopLaws.{keeps_laws}
 use Rattle.smp_multi.specs.Cpu.{cpu_of, inside_of, part_with}
-use Rattle.smp_multi.specs.Laws.{Finds, FindsCount, IsShown, IsInside, IsPending}
+use Rattle.smp_multi.specs.Laws.{Finds, FindsCount, StopsAreShown, IsInside, IsPending}
 use Rattle.smp_stop_steps.specs.Callings.{IsCalling, with_answer}
-use Rattle.smp_stop_steps.specs.Seats.{Stands, irq_of}
+use Rattle.smp_stop_steps.specs.Seats.{RoleStands, irq_of}
 use Rattle.smp_stop_steps.specs.Shows.{StopShows}
 use Rattle.smp_stop_steps.specs.Sits.{SitsAtRest}
 use Rattle.smp_stop_steps.specs.Sources.{SourceShows}
 use Rattle.smp_stop_steps.specs.State.{Present, Setup, StopState}
 use Rattle.smp_stop_steps.specs.Stop.{Stop, acked}
 use Rattle.smp_stop_steps.specs.declared.stage.Visit.{Visit}
-use Rattle.smp_multi.specs.Names.{Word, Slot, Key, Field, Seat, Free, In, Gives, Alters, Closes, Source, Shut, Drafts, Owns, Collects}
-use Rattle.smp_multi.specs.Names.{Known, StopCall, Calling, Idle, Calls, Carries}
+use Rattle.smp_multi.specs.Names.{Word, Slot, Key, Field, StopRole, Free, In, Gives, Alters, Closes, Source, Shut, Drafts, Owns, Collects}
+use Rattle.smp_multi.specs.Names.{KnownStops, StopCall, Calling, Idle, Calls, Carries}
 use Rattle.smp_multi.specs.Places.{pending_of}
 use Rattle.smp_multi.specs.Seat.{SeatValue}
 
-pub inside_shown : (n : Present) (me : ℕ) (x : Seat) → Stands n me x → IsInside n me (inside_of x)
+pub inside_shown : (n : Present) (me : ℕ) (x : StopRole) → RoleStands n me x → IsInside n me (inside_of x)
 inside_shown n me Free st = st
 inside_shown n me (In s w a l t) st = (st.0, st.3, ap acked st.1)
 inside_shown n me (Gives s w a x) st = (st.0, st.3, ap acked st.1)
@@ -40,16 +40,16 @@ pending_shown u gate stop word me y z shows e = subst (λ x. IsPending stop (pen
     go (Collects w) s = (s.0.is_open, s.0.work_is)
 
 -- the answer of a function is in no word before it is given
-abbrev pub HasNotGiven : Seat → Type 0
+abbrev pub HasNotGiven : StopRole → Type 0
 HasNotGiven (Gives s w a x) = ⊥
 HasNotGiven _ = Unit {0}
 
-pub rests_ungiven : (visit : Option Visit) (x : Seat) → SitsAtRest visit x → HasNotGiven x
+pub rests_ungiven : (visit : Option Visit) (x : StopRole) → SitsAtRest visit x → HasNotGiven x
 rests_ungiven None x rests = subst HasNotGiven (sym rests) tt
 rests_ungiven (Some v) x rests = subst HasNotGiven (sym rests.2) tt
 
 -- so any may be put for it
-answer_put : (c : ℕ) (x : Seat) (y : ℕ) (f : Calling) → HasNotGiven x → IsCalling c x f → IsCalling c x (with_answer y f)
+answer_put : (c : ℕ) (x : StopRole) (y : ℕ) (f : Calling) → HasNotGiven x → IsCalling c x f → IsCalling c x (with_answer y f)
 answer_put c Free y Idle free k = k
 answer_put c Free y (Calls call) free k = absurd k
 answer_put c Free y (Carries z) free k = absurd k
@@ -148,7 +148,7 @@ module _ (d : SeatValue) (l : Lives d.known) (y : ℕ) (calls : List StopCall) w
   calling_with = put_same l.stops.calling me (with_answer y (l.stops.calling me))
       ∙ (sym (with_told y (l.stops.calling me)) ∙ ap (with_answer y) l.sees.part_is.calling)
 
-abbrev pub is_shown : (d : SeatValue) → Lives d.known → HasNotGiven d.known.seat → IsShown (cpu_of d)
+abbrev pub is_shown : (d : SeatValue) → Lives d.known → HasNotGiven d.known.seat → StopsAreShown (cpu_of d)
 is_shown d l free =
     let me = d.known.number in
     let answer = d.known.carried in
@@ -165,7 +165,7 @@ is_shown d l free =
       known = d.known;
       sees = sees_with d l answer calls;
       view = refl;
-      inside = inside_shown l.stops.now me d.known.seat (subst (Stands l.stops.now me) l.sees.seat_is (l.shown.present.stands me));
+      inside = inside_shown l.stops.now me d.known.seat (subst (RoleStands l.stops.now me) l.sees.seat_is (l.shown.present.stands me));
       irq = l.shown.present.irq me ∙ ap irq_of l.sees.seat_is;
       pending = pending_shown (setup_in d.known.setting) l.stops.gate (l.stops.now.stop me) (λ f. l.at (Slot me f)) me (l.source me) d.known.source
           (l.shown.sources me) l.sees.source_is;
@@ -174,7 +174,7 @@ is_shown d l free =
     }
 
 -- what is in a word at a moment
-abbrev pub lives_at : (v : Known) (word : Word) (n : ℕ) → Moment v word n → Lives v
+abbrev pub lives_at : (v : KnownStops) (word : Word) (n : ℕ) → StopMoment v word n → Lives v
 lives_at v word n m = record {
   stops = m.stops;
   at = m.at;
@@ -186,11 +186,11 @@ lives_at v word n m = record {
   online = m.online;
 }
 
-pub finds : (d : SeatValue) (word : Word) (n : ℕ) → HasNotGiven d.known.seat → Moment d.known word n → Finds (cpu_of d) word n
+pub finds : (d : SeatValue) (word : Word) (n : ℕ) → HasNotGiven d.known.seat → StopMoment d.known word n → Finds (cpu_of d) word n
 finds d word n free m = record {
   shown = is_shown d (lives_at d.known word n m) free;
   found = sym m.number_is;
 }
 
-pub finds_count : (d : SeatValue) (k n : ℕ) → HasNotGiven d.known.seat → Moment d.known (Key k) n → FindsCount (cpu_of d) k n
+pub finds_count : (d : SeatValue) (k n : ℕ) → HasNotGiven d.known.seat → StopMoment d.known (Key k) n → FindsCount (cpu_of d) k n
 finds_count d k n free m = finds d (Key k) n free m

@@ -26,7 +26,7 @@ use Rattle.smp_stop_steps.specs.Table.{StopWords, stop_number, slot_cell}
 use Rattle.smp_stop_steps.proofs.Steps.Facts.{no_stops_shown}
 use Rattle.smp_stop_steps.proofs.TheMachine.Opened.{opened_shown}
 use Rattle.smp_stop_steps.proofs.Knows.Parts.{fresh_sees}
-use Rattle.smp_multi.specs.Names.{Word, Gate, Slot, Key, Entry, Site, Free, Shut, Setting, SeatView, Maker}
+use Rattle.smp_multi.specs.Names.{Word, Gate, Slot, Key, Entry, Site, Free, Shut, StopSetting, StopSeatView, Maker}
 use Rattle.smp_multi.specs.Names.field
 use Rattle.smp_multi.specs.declared.cell.TheConstants.{FIRST_ENTRY, FIRST_SITE}
 use Rattle.smp_multi.specs.Cells.{place_of, number_in}
@@ -94,7 +94,7 @@ module _ (zeros entries sites : List ℕ) (all : (i : ℕ) → get_or zeros i 0 
       (λ e. site_here i (ltb-true i MOST_SITES e)) (λ e. past sites i (let l = ltb-false i MOST_SITES e in omega arith))
   word_same _ = refl
 
-  laid_shown : (k : Setting) (nr : ℕ) → AreLimits nr k.online → AreLabels k.labels.keys k.labels.entries
+  laid_shown : (k : StopSetting) (nr : ℕ) → AreLimits nr k.online → AreLabels k.labels.keys k.labels.entries
       → entries ≡ map entry_word k.labels.entries ++ replicate (MOST_SITES - length k.labels.entries) 0 →
       IsLawful (labels_in (stop_number (record { gate = 0; slots = replicate SLOT_WORDS 0; keys = replicate MOST_KEYS 0; entries = entries; sites = sites }))) →
       StopShows (setup_in k) no_stops (number_in ((zeros ++ entries) ++ sites)) (λ _. Free) (λ _. Shut)
@@ -110,7 +110,7 @@ module _ (zeros entries sites : List ℕ) (all : (i : ℕ) → get_or zeros i 0 
   results_zero s = let zero_ = word_same (Slot s field.Result) ∙ zero_at SLOT_WORDS (slot_cell s field.Result) in omega (arith, zero_)
 
 -- what the table is made of
-pub record AreLaid (k : Setting) (nr : ℕ) (entries sites : List ℕ) : Type 0 where
+pub record AreLaid (k : StopSetting) (nr : ℕ) (entries sites : List ℕ) : Type 0 where
   pub limits : AreLimits nr k.online
   pub labels : AreLabels k.labels.keys k.labels.entries
   pub entries_are : entries ≡ map entry_word k.labels.entries ++ replicate (MOST_SITES - length k.labels.entries) 0
@@ -119,7 +119,7 @@ pub record AreLaid (k : Setting) (nr : ℕ) (entries sites : List ℕ) : Type 0 
   pub entries_sized : length entries ≡ MOST_SITES
   pub sites_sized : length sites ≡ MOST_SITES
 
-pub are_laid : (k : Setting) (nr : ℕ) (keys entries sites : List ℕ) → AreLimits nr k.online → AreLabels k.labels.keys k.labels.entries
+pub are_laid : (k : StopSetting) (nr : ℕ) (keys entries sites : List ℕ) → AreLimits nr k.online → AreLabels k.labels.keys k.labels.entries
     → keys ≡ replicate MOST_KEYS 0 →
     entries ≡ map entry_word k.labels.entries ++ replicate (MOST_SITES - length k.labels.entries) 0
     → sites ≡ map first_site k.labels.entries ++ replicate (MOST_SITES - length k.labels.entries) 0 →
@@ -136,7 +136,7 @@ are_laid k nr keys entries sites limits labels off entries_are sites_are lawful 
   sites_sized = ap length sites_are ∙ site_words first_site _ labels.few_sites;
 }
 
-pub shows_none : (k : Setting) (nr : ℕ) (entries sites : List ℕ) → AreLaid k nr entries sites
+pub shows_none : (k : StopSetting) (nr : ℕ) (entries sites : List ℕ) → AreLaid k nr entries sites
     → StopShows (setup_in k) no_stops (number_in ((replicate FIRST_ENTRY 0 ++ entries) ++ sites)) (λ _. Free) (λ _. Shut)
 shows_none k nr entries sites a =
     let zeros : List ℕ = replicate FIRST_ENTRY 0 in
@@ -146,7 +146,7 @@ shows_none k nr entries sites a =
     laid_shown zeros entries sites (get_or-same {A = ℕ} 0 FIRST_ENTRY) n0 ne a.sites_sized (omega arith) k nr a.limits a.labels a.entries_are a.lawful
 
 -- its result words are 0, and nobody has done anything
-pub nothing_done : (k : Setting) (nr : ℕ) (entries sites : List ℕ) → AreLaid k nr entries sites
+pub nothing_done : (k : StopSetting) (nr : ℕ) (entries sites : List ℕ) → AreLaid k nr entries sites
     → StaysWithin k no_stops (number_in ((replicate FIRST_ENTRY 0 ++ entries) ++ sites)) (λ _. Free) (λ _. Shut)
 nothing_done k nr entries sites a =
     let zeros : List ℕ = replicate FIRST_ENTRY 0 in
@@ -160,7 +160,7 @@ nothing_done k nr entries sites a =
     }
 
 -- each CPU that has done nothing knows its part
-pub lives_fresh : (k : Setting) (nr : ℕ) (entries sites : List ℕ) → AreLaid k nr entries sites → (cpu : ℕ) → cpu < cpus → has k.online cpu ≡ true
+pub lives_fresh : (k : StopSetting) (nr : ℕ) (entries sites : List ℕ) → AreLaid k nr entries sites → (cpu : ℕ) → cpu < cpus → has k.online cpu ≡ true
     → Lives (fresh k cpu)
 lives_fresh k nr entries sites a cpu low on = record {
   stops = no_stops;
@@ -173,7 +173,7 @@ lives_fresh k nr entries sites a cpu low on = record {
   online = on;
 }
 
-pub starts : {S : Type 0} (k : Setting) (nr : ℕ) (entries sites : List ℕ) → AreLaid k nr entries sites
+pub starts : {S : Type 0} (k : StopSetting) (nr : ℕ) (entries sites : List ℕ) → AreLaid k nr entries sites
     → Ruled {S = S} k (opening ((replicate FIRST_ENTRY 0 ++ entries) ++ sites) [] (Maker 0 k))
 starts {S} k nr entries sites a =
     let zeros : List ℕ = replicate FIRST_ENTRY 0 in
@@ -195,6 +195,6 @@ starts {S} k nr entries sites a =
       within = nothing_done k nr entries sites a;
     }
   where
-    each : (id : ℕ) (v : SeatView) → get_elem? (Maker 0 k ∷ []) id ≡ some v → SeatKnows k no_stops (λ _. Free) (λ _. Shut) (λ _. 0) 0 id v
+    each : (id : ℕ) (v : StopSeatView) → get_elem? (Maker 0 k ∷ []) id ≡ some v → SeatKnows k no_stops (λ _. Free) (λ _. Shut) (λ _. 0) 0 id v
     each zero v e = subst (SeatKnows k no_stops (λ _. Free) (λ _. Shut) (λ _. 0) 0 0) (some-injective (Maker 0 k) v e) (refl, refl, refl)
     each (suc id) v e = absurd (some-ne-none v (sym e))

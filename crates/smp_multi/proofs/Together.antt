@@ -8,13 +8,13 @@ use Rattle.atomic_table.specs.Seated.{TableId}
 use Rattle.smp_start.specs.Crowd.{IsMoment}
 use Rattle.smp_mask.specs.Mask.{has}
 use Rattle.smp_stop_steps.specs.Known.{Sees, setup_in}
-use Rattle.smp_stop_steps.specs.Seats.{Stands}
+use Rattle.smp_stop_steps.specs.Seats.{RoleStands}
 use Rattle.smp_stop_steps.specs.Shows.{StopShows}
 use Rattle.smp_stop_steps.specs.Slots.{IsLevel, Keeps, SlotShows}
 use Rattle.smp_stop_steps.specs.State.{Present, StopState}
 use Rattle.smp_stop_steps.specs.Stop.{Standing, Stop, Inside, Answering, is_of}
 use Rattle.smp_words.specs.declared.phase.TheConstants.{DISABLE_IRQ, RUN}
-use Rattle.smp_multi.specs.Names.{Known, Work, Seat, Setting, SeatView, Cpu, Free, In, Gives, Alters, Closes, Word, Slot}
+use Rattle.smp_multi.specs.Names.{KnownStops, Work, StopRole, StopSetting, StopSeatView, Cpu, Free, In, Gives, Alters, Closes, Word, Slot}
 use Rattle.smp_multi.specs.Cells.{number_in}
 use Rattle.smp_multi.specs.Cpu.{CpuValue, Inside as InsideOf, cpu_of, inside_of}
 use Rattle.smp_multi.specs.Laws.{IsPending}
@@ -26,7 +26,7 @@ use Rattle.smp_multi.specs.Together.{IsPartOf, seats_of, AreCpuSeats, SeeAll, Kn
 use Rattle.smp_multi.specs.Together.{AllAreInStep, AllWaitFor}
 use Rattle.smp_multi.proofs.Showing.{pending_shown}
 
-pub know_together : {S : Type 0} (k : Setting) (s : State S SeatView) (i j : ℕ) (u v : SeatView) → Ruled k s → u ≡ Cpu (known u) → v ≡ Cpu (known v)
+pub know_together : {S : Type 0} (k : StopSetting) (s : State S StopSeatView) (i j : ℕ) (u v : StopSeatView) → Ruled k s → u ≡ Cpu (known u) → v ≡ Cpu (known v)
     → get_elem? s.views i ≡ some u → get_elem? s.views j ≡ some v → KnowTogether (known u) (known v)
 know_together k s i j u v r is js at to =
     let one = subst (SeatKnows k r.stops r.seat r.source r.place r.next i) is (r.each_seat i u at) in
@@ -64,7 +64,7 @@ module _ (cpus : ℕ) (n : Present) (at : Word → ℕ) (each : (s : ℕ) → Sl
   keeps : (s me : ℕ) (x : Standing) → (n.stop s).standing me ≡ x → Keeps cpus (n.stop s).phase me x
   keeps s me x e = subst (Keeps cpus (n.stop s).phase me) e ((each s).keeps me)
 
-  open_at : (me : ℕ) (x : Seat) → Stands n me x → IsOpenAt n (inside_of x)
+  open_at : (me : ℕ) (x : StopRole) → RoleStands n me x → IsOpenAt n (inside_of x)
   open_at me Free st = tt
   open_at me (In s w a l t) st = (st.3, (keeps s me (Inside a l) st.1).1, opened s me (Inside a l) st.1 refl)
   open_at me (Gives s w a v) st = (st.3, (keeps s me (Answering a v) st.1).1, opened s me (Answering a v) st.1 refl)
@@ -100,13 +100,13 @@ are_together d e t = record {
 }
 
 -- a CPU that is in a stop of this moment
-module _ {k : Setting} (now : StopsNow k) where
+module _ {k : StopSetting} (now : StopsNow k) where
   abbrev p : StopState
   p = now.stops
 
-  inside_at : (v : Known) → Sees p now.seat now.source v → IsOpenAt p.now (inside_of v.seat)
+  inside_at : (v : KnownStops) → Sees p now.seat now.source v → IsOpenAt p.now (inside_of v.seat)
   inside_at v sees = open_at _ p.now now.at now.shown.present.slots v.number v.seat
-      (subst (Stands p.now v.number) sees.seat_is (now.shown.present.stands v.number))
+      (subst (RoleStands p.now v.number) sees.seat_is (now.shown.present.stands v.number))
 
   are_in_step : (d e : SeatValue) → Sees p now.seat now.source d.known → Sees p now.seat now.source e.known → AreInStep (cpu_of d) (cpu_of e)
   are_in_step d e one other x y is js same =
@@ -140,33 +140,34 @@ module _ (c d : CpuValue) (t : AreTogether c d) where
   )
 
 -- all seats of a moment
-module _ (k : Setting) (s : State (Unit {0}) SeatView) (r : Ruled k s) where
+module _ (k : StopSetting) (s : State (Unit {0}) StopSeatView) (r : Ruled k s) where
   abbrev here : StopsNow k
   here = record { stops = r.stops; at = number_in s.words; seat = r.seat; source = r.source; shown = r.shown }
 
-  sees_all : (ms : List (TableId × (ℕ × Me (Unit {0}) SeatView))) → AreCpuSeats ms → IsMoment s ms → SeeAll here (seats_of ms)
+  sees_all : (ms : List (TableId × (ℕ × Me (Unit {0}) StopSeatView))) → AreCpuSeats ms → IsMoment s ms → SeeAll here (seats_of ms)
   sees_all [] are at = tt
   sees_all (m ∷ ms) are at =
       let one = subst (SeatKnows k r.stops r.seat r.source r.place r.next m.1.0) are.0 (r.each_seat m.1.0 m.1.1.0 at.0) in
       ((one.3, one.2), sees_all ms are.1 at.1)
 
-  pub know_all_together : (ms : List (TableId × (ℕ × Me (Unit {0}) SeatView))) → AreCpuSeats ms → IsMoment s ms → KnowAllTogether (seats_of ms)
+  pub know_all_together : (ms : List (TableId × (ℕ × Me (Unit {0}) StopSeatView))) → AreCpuSeats ms → IsMoment s ms → KnowAllTogether (seats_of ms)
   know_all_together ms are at = record { setting = k; now = here; parts = sees_all ms are at }
 
-are_parts : {k : Setting} (now : StopsNow k) (table : TableId) (ms : List (TableId × Known)) → SeeAll now ms → ArePartsOf now (values (cpus_at table ms))
+are_parts : {k : StopSetting} (now : StopsNow k) (table : TableId) (ms : List (TableId × KnownStops)) → SeeAll now ms
+    → ArePartsOf now (values (cpus_at table ms))
 are_parts n table [] all = tt
 are_parts n table (m ∷ ms) all = ((record { known = m.1; sees = all.0.0; view = refl }, all.0.1), are_parts n table ms all.1)
 
-pub are_all_together : (table : TableId) (ms : List (TableId × Known)) → KnowAllTogether ms → AreAllTogether (values (cpus_at table ms))
+pub are_all_together : (table : TableId) (ms : List (TableId × KnownStops)) → KnowAllTogether ms → AreAllTogether (values (cpus_at table ms))
 are_all_together table ms t = record { setting = t.setting; now = t.now; parts = are_parts t.now table ms t.parts }
 
-pub part_at : {k : Setting} (now : StopsNow k) (cs : List CpuValue) → ArePartsOf now cs → (i : ℕ) (d : CpuValue) → i < length cs
+pub part_at : {k : StopSetting} (now : StopsNow k) (cs : List CpuValue) → ArePartsOf now cs → (i : ℕ) (d : CpuValue) → i < length cs
     → IsPartOf now (slice_index_or cs i d) × ((slice_index_or cs i d).setting ≡ k)
 part_at n [] all i d l = absurd (omega arith)
 part_at n (c ∷ cs) all zero d l = all.0
 part_at n (c ∷ cs) all (suc i) d l = part_at n cs all.1 i d (omega arith)
 
-at_setting : (c d : CpuValue) (k : Setting) → c.setting ≡ k → d.setting ≡ k → (now : StopsNow k) → IsPartOf now c → IsPartOf now d → AreTogether c d
+at_setting : (c d : CpuValue) (k : StopSetting) → c.setting ≡ k → d.setting ≡ k → (now : StopsNow k) → IsPartOf now c → IsPartOf now d → AreTogether c d
 at_setting c d k e = subst (λ l. d.setting ≡ l → (now : StopsNow l) → IsPartOf now c → IsPartOf now d → AreTogether c d) e
     (λ f n one other. record { now = n; one = one; other = other; setting = sym f })
 

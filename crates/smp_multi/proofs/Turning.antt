@@ -9,12 +9,12 @@ use Rattle.smp_words.specs.Size.{cpus}
 use Rattle.smp_stop_steps.specs.Callings.{HasCalled}
 use Rattle.smp_stop_steps.specs.Counts.{mask_weight}
 use Rattle.smp_stop_steps.specs.Known.{setup_in, stepped}
-use Rattle.smp_multi.specs.Lives.{Moment}
+use Rattle.smp_multi.specs.Lives.{StopMoment}
 use Rattle.smp_stop_steps.specs.KnownAfter.{acked_by, called_by, drafted_known, is_drafting, known_told, looked_known, looked_to, member_stored, raised_by}
 use Rattle.smp_stop_steps.specs.KnownAfter.{ran_since, read_since}
 use Rattle.smp_stop_steps.specs.KnownAfter.{refilled_by}
 use Rattle.smp_stop_steps.specs.Moves.{Look, Acknowledge, Refill, Raise, LoadArg, LoadField}
-use Rattle.smp_stop_steps.specs.Seats.{Stands}
+use Rattle.smp_stop_steps.specs.Seats.{RoleStands}
 use Rattle.smp_stop_steps.specs.Sits.{IsLoaded}
 use Rattle.smp_stop_steps.specs.declared.known.Reading.{Reading}
 use Rattle.smp_stop_steps.specs.Tells.{first_readings, may_call, is_one, is_multi}
@@ -23,7 +23,7 @@ use Rattle.smp_words.specs.declared.phase.TheConstants.{DISABLE_IRQ, RUN, EXIT, 
 use Rattle.smp_stop_steps.specs.declared.stage.Visit.{Visit}
 use Rattle.smp_stop_steps.proofs.Steps.Facts.{inside_keeps, state_near}
 use Rattle.smp_stop_steps.proofs.Promises.Functions.{runs_alone}
-use Rattle.smp_multi.specs.Names.{Work, Kind, Multi, Slot, Field, Load, Store, Sub, Seat, In, Duty, Rests, Fills, Sets, Known}
+use Rattle.smp_multi.specs.Names.{Work, Kind, Multi, Slot, Field, Load, Store, Sub, StopRole, In, Duty, Rests, Fills, Sets, KnownStops}
 use Rattle.smp_multi.specs.Names.{Free, Gives, Alters, Closes}
 use Rattle.smp_multi.specs.Names.{Calling, Idle, Calls, Carries}
 use Rattle.smp_multi.specs.Names.act
@@ -66,20 +66,20 @@ run_moved t d e v k a table number source seat = record {
 }
 
 -- what a CPU in a stop finds at a moment
-module _ (v : Known) (s : ℕ) (w : Work) (a l : ℕ) (t : Duty) (is : v.seat ≡ In s w a l t) where
-  pub finds_near : (n : ℕ) → Moment v (Slot s field.State) n → (n ≡ a) ⊎ (n ≡ a + 1)
+module _ (v : KnownStops) (s : ℕ) (w : Work) (a l : ℕ) (t : Duty) (is : v.seat ≡ In s w a l t) where
+  pub finds_near : (n : ℕ) → StopMoment v (Slot s field.State) n → (n ≡ a) ⊎ (n ≡ a + 1)
   finds_near n m = subst (λ k. (k ≡ a) ⊎ (k ≡ a + 1)) (sym m.number_is)
       (state_near (setup_in v.setting) m.stops m.at m.seat m.source m.shown s v.number w a l t (m.sees.seat_is ∙ is))
 
-  pub few_phases : (f : Field) (n : ℕ) → Moment v (Slot s f) n → a ≤ EXIT
+  pub few_phases : (f : Field) (n : ℕ) → StopMoment v (Slot s f) n → a ≤ EXIT
   few_phases f n m = (inside_keeps (setup_in v.setting) m.stops m.at m.seat m.source m.shown s v.number w a l t (m.sees.seat_is ∙ is)).4
 
 -- at RUN its function, or its patch, runs alone
-pub runs_alone_there : (v : Known) (slot : ℕ) → IsAtRun v.seat slot → AloneWhile v slot
+pub runs_alone_there : (v : KnownStops) (slot : ℕ) → IsAtRun v.seat slot → AloneWhile v slot
 runs_alone_there v slot is p at seat source h sees =
-    runs_alone (setup_in v.setting) p at seat source h slot v.number (go v.seat is (subst (Stands p.now v.number) sees.seat_is (h.present.stands v.number)))
+    runs_alone (setup_in v.setting) p at seat source h slot v.number (go v.seat is (subst (RoleStands p.now v.number) sees.seat_is (h.present.stands v.number)))
   where
-    go : (x : Seat) → IsAtRun x slot → Stands p.now v.number x → (p.now.stop slot).standing v.number ≡ Inside DISABLE_IRQ RUN
+    go : (x : StopRole) → IsAtRun x slot → RoleStands p.now v.number x → (p.now.stop slot).standing v.number ≡ Inside DISABLE_IRQ RUN
     go Free run st = absurd run
     go (In s w a l t) run st = subst (λ n. (p.now.stop n).standing v.number ≡ Inside a l) run.0 st.1 ∙ (λ i. Inside (run.1 i) (run.2 i))
     go (Gives s w a x) run st = absurd run
@@ -89,7 +89,7 @@ runs_alone_there v slot is p at seat source h sees =
 pub run_alone : (t : TableId) (d : SeatValue) (v : Visit) (k : Kind) → AtRun t d v k → AloneWhile d.known v.slot
 run_alone t d v k a = runs_alone_there d.known v.slot (subst (λ x. IsAtRun x v.slot) (sym a.at.seat_is) (refl, a.disabled, refl))
 
-abbrev called_at : Known → Work → ℕ → Known
+abbrev called_at : KnownStops → Work → ℕ → KnownStops
 called_at v w n = record v { part = record (v.part) { calling = Calls (record { func = w.func; arg = n; answer = 0 }) } }
 
 -- who calls no function at RUN has not to call one
@@ -115,7 +115,7 @@ known_arg t d v x a is =
     let seat : d.known.seat ≡ In v.slot w DISABLE_IRQ RUN Rests = a.at.seat_is ∙ ap (λ n. In v.slot w n RUN Rests) a.disabled in
     let may : may_call me w (Inside DISABLE_IRQ RUN) ≡ true =
     ap (λ (k : Kind). is_one k || (has w.active me && is_multi k)) kind ∙ ap (λ b. b && true) active in
-    ap (λ (y : Seat). called_by x y d.known) seat ∙ (ap (λ b. cond b (called_at d.known w x) d.known) may ∙ ap (called_at d.known w) is)
+    ap (λ (y : StopRole). called_by x y d.known) seat ∙ (ap (λ b. cond b (called_at d.known w x) d.known) may ∙ ap (called_at d.known w) is)
 
 -- the accesses of a turn
 module _ (t : TableId) (d : SeatValue) (v : Visit) where
@@ -231,29 +231,35 @@ module _ (t : TableId) (d : SeatValue) (v : Visit) where
 
 pub turn_looked : (t : TableId) (d e : SeatValue) (v : Visit) (n : ℕ) → AtTurn t d v v.acked Rests → e.table ≡ t
     → e.known ≡ stepped 1 (looked_known n d.known) → AtTurn t e v n Rests
-turn_looked t d e v n a table same = turn_on t d e v v v.acked n Rests Rests a table (ap (λ (k : Known). is_drafting k.source) same) refl a.loaded
-    (ap (λ (k : Known). k.seat) same ∙ ap (looked_to n) a.seat_is)
+turn_looked t d e v n a table same = turn_on t d e v v v.acked n Rests Rests a table (ap (λ (k : KnownStops). is_drafting k.source) same) refl a.loaded
+    (ap (λ (k : KnownStops). k.seat) same ∙ ap (looked_to n) a.seat_is)
 
 pub turn_filled : (t : TableId) (d e : SeatValue) (v : Visit) (n : ℕ) → AtTurn t d v v.acked Fills → e.table ≡ t
     → e.known ≡ known_told d.known act.Store (Slot v.slot field.Ack) None (Some n)
     → (e.known ≡ record (d.known) { seat = In v.slot (work_in d.known.seat) v.acked v.acked Sets }) × AtTurn t e v v.acked Sets
 turn_filled t d e v n a table same =
     let next = In v.slot (work_in d.known.seat) v.acked v.acked Sets in
-    let stored : Bool → Known = λ b. cond b (drafted_known field.Ack n d.known) (member_stored field.Ack n d.known) in
+    let stored : Bool → KnownStops = λ b. cond b (drafted_known field.Ack n d.known) (member_stored field.Ack n d.known) in
     let is : e.known ≡ record (d.known) { seat = next } = same ∙ (
     ap (λ b. cond (not b) (stored b) (stepped 1 (stored b))) a.idle ∙
-    ap (λ x. record (d.known) { seat = refilled_by x }) a.seat_is) in
-    (is, turn_on t d e v v v.acked v.acked Fills Sets a table (ap (λ (k : Known). is_drafting k.source) is) refl a.loaded (ap (λ (k : Known). k.seat) is))
+    ap (λ x. record (d.known) { seat = refilled_by x }) a.seat_is) in (
+      is,
+      turn_on t d e v v v.acked v.acked Fills Sets a table (ap (λ (k : KnownStops). is_drafting k.source) is) refl a.loaded
+          (ap (λ (k : KnownStops). k.seat) is),
+    )
 
 pub turn_raised : (t : TableId) (d e : SeatValue) (v : Visit) (n : ℕ) → AtTurn t d v v.acked Sets → e.table ≡ t
     → e.known ≡ known_told d.known act.Store (Slot v.slot field.State) None (Some n)
     → (e.known ≡ raised_by n d.known.seat d.known) × AtTurn t e v v.acked Rests
 turn_raised t d e v n a table same =
-    let stored : Bool → Known = λ b. cond b (drafted_known field.State n d.known) (member_stored field.State n d.known) in
+    let stored : Bool → KnownStops = λ b. cond b (drafted_known field.State n d.known) (member_stored field.State n d.known) in
     let is : e.known ≡ raised_by n d.known.seat d.known = same ∙ ap (λ b. cond (not b) (stored b) (stepped 1 (stored b))) a.idle in
     let at : e.known ≡ raised_by n (In v.slot (work_in d.known.seat) v.acked v.acked Sets) d.known = is
-    ∙ ap (λ x. raised_by n x d.known) a.seat_is in
-    (is, turn_on t d e v v v.acked v.acked Sets Rests a table (ap (λ (k : Known). is_drafting k.source) at) refl a.loaded (ap (λ (k : Known). k.seat) at))
+    ∙ ap (λ x. raised_by n x d.known) a.seat_is in (
+      is,
+      turn_on t d e v v v.acked v.acked Sets Rests a table (ap (λ (k : KnownStops). is_drafting k.source) at) refl a.loaded
+          (ap (λ (k : KnownStops). k.seat) at),
+    )
 
 -- both stores of who stores the next phase
 pub turn_passed : (t : TableId) (d e f : SeatValue) (v : Visit) (m n : ℕ) → AtTurn t d v v.acked Fills → e.table ≡ t
@@ -266,20 +272,20 @@ turn_passed t d e f v m n a table same table' same' next =
     let s = v.slot in
     let w = work_in d.known.seat in (
       two.0 ∙ (
-          ap (λ (k : Known). raised_by n k.seat k) one.0 ∙ (
+          ap (λ (k : KnownStops). raised_by n k.seat k) one.0 ∙ (
           ap (λ j. raised_by j (In s w v.acked v.acked Sets) (record (d.known) { seat = In s w v.acked v.acked Sets })) next ∙
           sym (ap (λ x. raised_by (v.acked + 1) x d.known) a.seat_is))),
       two.1,
     )
 
-abbrev acked_at : Known → ℕ → Work → ℕ → Bool → Known
+abbrev acked_at : KnownStops → ℕ → Work → ℕ → Bool → KnownStops
 acked_at k s w l b = record k { seat = In s w l l (cond b Fills Rests); part = ran_since (l == RUN) (read_since (l == EXIT && not b) s w k) }
 
-abbrev passed_with : Known → ℕ → Work → ℕ → List Reading → Known
+abbrev passed_with : KnownStops → ℕ → Work → ℕ → List Reading → KnownStops
 passed_with k s w l r = record k { seat = In s w l l Rests; part = record (ran_since (l == RUN) (k.part)) { readings = r } }
 
 -- an acknowledgement, and the stores of the next phase where it was the last, leave the same
-pub ack_passes : (k k1 k2 : Known) (s : ℕ) (w : Work) (a l found n : ℕ) → k.seat ≡ In s w a l Rests → k1 ≡ stepped n (acked_by found k.seat k)
+pub ack_passes : (k k1 k2 : KnownStops) (s : ℕ) (w : Work) (a l found n : ℕ) → k.seat ≡ In s w a l Rests → k1 ≡ stepped n (acked_by found k.seat k)
     → k2 ≡ cond (found == 1) (raised_by (l + 1) k1.seat k1) k1 → k2 ≡ stepped n (passed_by k.seat k)
 ack_passes k k1 k2 s w a l found n is e f =
     let at = acked_by found k.seat k in
@@ -315,6 +321,6 @@ turn_acked t d e v x l found n a table same up moved =
     let is : e.known ≡ stepped n (acked_by found (In v.slot w v.acked l Rests) d.known) = same
     ∙ ap (λ y. stepped n (acked_by found y d.known)) a.seat_is in
     let acked : l ≡ x.acked = up ∙ sym moved.4 in
-    turn_on t d e v x l x.acked Rests duty a table (ap (λ (k : Known). is_drafting k.source) is) moved.0
+    turn_on t d e v x l x.acked Rests duty a table (ap (λ (k : KnownStops). is_drafting k.source) is) moved.0
     (record { kind = moved.1 ∙ a.loaded.kind; mask = moved.2 ∙ a.loaded.mask; active = moved.3 ∙ a.loaded.active })
-    (ap (λ (k : Known). k.seat) is ∙ ap (λ n. In v.slot w n n duty) acked)
+    (ap (λ (k : KnownStops). k.seat) is ∙ ap (λ n. In v.slot w n n duty) acked)

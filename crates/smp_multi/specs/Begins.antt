@@ -4,7 +4,7 @@ use Rattle.atomic_table.specs.Seated.{TableId}
 use Rattle.smp_words.specs.Size.{cpus}
 use Rattle.smp_stop_steps.specs.Known.{setup_in, noting, told_work}
 use Rattle.smp_stop_steps.specs.Sources.{IsWork}
-use Rattle.smp_multi.specs.Names.{Work, Source, Shut, Drafts, Owns, Known}
+use Rattle.smp_multi.specs.Names.{Work, Source, Shut, Drafts, Owns, KnownStops}
 use Rattle.smp_multi.specs.Names.own
 use Rattle.smp_multi.specs.Cells.{cells}
 use Rattle.smp_multi.specs.Seat.{SeatValue}
@@ -24,5 +24,5 @@ pub record Begins (table : TableId) (seat : SeatValue) (number : ℕ) (work : Wo
   pub drafts : seat.known.source ≡ draft_at k work
 
 -- it has begun a stop of this work
-abbrev pub begun : Work → Known → Known
+abbrev pub begun : Work → KnownStops → KnownStops
 begun w v = noting (own.Began w) (record v { source = Owns w; part = record (v.part) { begun = v.part.begun ++ w ∷ [] } })

@@ -3,17 +3,17 @@ use Rattle.std.specs.Prelude.{◌≡◌, ℤ, true, false, Some, [], ◌∷◌, 
 use Rattle.smp_mask.specs.Mask.{has}
 use Rattle.smp_stop_steps.specs.Start.{answer_word}
 use Rattle.smp_words.specs.declared.phase.TheConstants.{DISABLE_IRQ, RUN}
-use Rattle.smp_multi.specs.Names.{Kind, One, Multi, Patch, Known, Work}
+use Rattle.smp_multi.specs.Names.{Kind, One, Multi, Patch, KnownStops, Work}
 use Rattle.smp_multi.specs.Advance.{looks, runs_at_run}
 use Rattle.smp_multi.specs.Answers.{completes_one}
 use Rattle.smp_multi.specs.ByValue.{answers_one, answers_run, begins_call}
 use Rattle.smp_multi.specs.Cpu.{AnsweringValue, CpuValue, Inside, makes}
-use Rattle.smp_multi.specs.Laws.{IsShown}
+use Rattle.smp_multi.specs.Laws.{StopsAreShown}
 use Rattle.smp_multi.specs.Rounds.{AloneWhile}
 
 -- who is to answer in a Multi stop is active, has not acknowledged RUN, and has its interrupts off; as long as it knows this, whatever others do,
 -- every CPU of the mask has acknowledged DISABLE_IRQ, and has its interrupts off
-abbrev pub CallsThere : Inside → CpuValue → Known → Kind → Type 0
+abbrev pub CallsThere : Inside → CpuValue → KnownStops → Kind → Type 0
 CallsThere stop c v One = Unit {0}
 CallsThere stop c v Multi = (stop.acked ≡ DISABLE_IRQ) × (has stop.work.active c.number ≡ true) × (c.irq ≡ false) × AloneWhile v stop.slot
 CallsThere stop c v Patch = ⊥
@@ -24,7 +24,7 @@ pub record CallsAlone (a : AnsweringValue) : Type 0 where
   pub is : a.cpu.inside ≡ Some stop
   pub func : a.func ≡ stop.work.func
   pub arg : a.arg ≡ stop.work.arg
-  pub shown : IsShown a.cpu
+  pub shown : StopsAreShown a.cpu
   pub there : CallsThere stop a.cpu shown.known stop.work.kind
 
 -- one call more is listed: of the function of this work, with its argument and this answer

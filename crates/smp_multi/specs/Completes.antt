@@ -5,7 +5,7 @@ use Rattle.smp_words.specs.Size.{cpus}
 use Rattle.smp_stop_steps.specs.Known.{stepped}
 use Rattle.smp_stop_steps.specs.KnownAfter.{is_drafting}
 use Rattle.smp_stop_steps.specs.Moves.{IsThrough}
-use Rattle.smp_multi.specs.Names.{Work, One, Seat, Free, In, Gives, Closes, Rests, Known, Idle}
+use Rattle.smp_multi.specs.Names.{Work, One, StopRole, Free, In, Gives, Closes, Rests, KnownStops, Idle}
 use Rattle.smp_multi.specs.Places.{work_in}
 use Rattle.smp_multi.specs.Cells.{cells}
 use Rattle.smp_multi.specs.Seat.{SeatValue}
@@ -21,10 +21,10 @@ pub record AtEnd (table : TableId) (seat : SeatValue) (slot acked : ℕ) : Type 
   pub through : IsThrough (work_in seat.known.seat) acked
 
 -- its answer is in the result word where it is not 0
-abbrev pub answered : ℕ → Work → ℕ → ℕ → Seat
+abbrev pub answered : ℕ → Work → ℕ → ℕ → StopRole
 answered slot work acked x = cond (x == 0) (In slot work acked acked Rests) (Gives slot work acked x)
 
-abbrev pub given : ℕ → ℕ → ℕ → Known → Known
+abbrev pub given : ℕ → ℕ → ℕ → KnownStops → KnownStops
 given slot acked x v = stepped (giving x) (record v { seat = answered slot (work_in v.seat) acked x })
 
 pub record AtGiven (table : TableId) (seat : SeatValue) (slot acked x : ℕ) (work : Work) : Type 0 where
@@ -45,5 +45,5 @@ pub record AtClose (table : TableId) (seat : SeatValue) (slot found : ℕ) : Typ
   pub seat_is : seat.known.seat ≡ cond (found == 1) (Closes slot) Free
 
 -- it is in no stop
-abbrev pub left : Known → Known
+abbrev pub left : KnownStops → KnownStops
 left v = record v { seat = Free }

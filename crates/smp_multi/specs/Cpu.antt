@@ -13,7 +13,7 @@ use Rattle.smp_stop_steps.specs.Tells.{calls_at_run}
 use Rattle.smp_words.specs.declared.phase.TheConstants.{DISABLE_IRQ}
 use Rattle.smp_stop_steps.specs.declared.stage.Visit.{Visit}
 use Rattle.smp_stop_steps.specs.declared.start.Terms.{Terms}
-use Rattle.smp_multi.specs.Names.{Attempt, Work, Seat, In, Gives, Alters, Known, OwnMove, Part, Setting, StopCall, Calling, Idle, Carries}
+use Rattle.smp_multi.specs.Names.{Attempt, Work, StopRole, In, Gives, Alters, KnownStops, OwnMove, StopPart, StopSetting, StopCall, Calling, Idle, Carries}
 use Rattle.smp_multi.specs.Names.own
 use Rattle.smp_multi.specs.Places.{pending_of, work_in}
 use Rattle.smp_multi.specs.Seat.{SeatValue}
@@ -22,7 +22,7 @@ use Rattle.smp_multi.specs.Seat.{SeatValue}
 pub record TableValue : Type 0 where
   pub table : TableId
   pub nr : ℕ
-  pub setting : Setting
+  pub setting : StopSetting
 
 -- the stop that a CPU is in: the source whose stop it is, its work, and the last phase that the CPU has acknowledged
 pub record Inside : Type 0 where
@@ -35,12 +35,12 @@ pub record Inside : Type 0 where
 -- order in which it has made them, in the same way its attempts to enter a stop, and how many steps it has made in all
 pub record CpuValue : Type 0 where
   pub table : TableId
-  pub setting : Setting
+  pub setting : StopSetting
   pub number : ℕ
   pub pending : Option Work
   pub inside : Option Inside
   pub irq : Bool
-  pub part : Part
+  pub part : StopPart
   pub moves : List OwnMove
   pub attempts : List Attempt
   pub steps : ℕ
@@ -51,7 +51,7 @@ pub record AnsweringValue : Type 0 where
   pub func : ℕ
   pub arg : ℕ
 
-abbrev pub inside_of : Seat → Option Inside
+abbrev pub inside_of : StopRole → Option Inside
 inside_of (In s w a l t) = Some (record { slot = s; work = w; acked = a })
 inside_of (Gives s w a x) = Some (record { slot = s; work = w; acked = a })
 inside_of (Alters s w count made rest) = Some (record { slot = s; work = w; acked = DISABLE_IRQ })
@@ -75,7 +75,7 @@ calls_with answer me w calls (Carries x) = cond (calls_at_run me w) (calls ++ ca
 calls_with answer me w calls _ = calls
 
 -- its part with this answer, which no step tells before the completion
-abbrev pub part_with : ℕ → Known → Part
+abbrev pub part_with : ℕ → KnownStops → StopPart
 part_with answer v = record (v.part) {
   calls = calls_with answer v.number (work_in v.seat) v.part.calls v.part.calling;
   calling = with_answer answer v.part.calling;
@@ -97,7 +97,7 @@ cpu_of d = record {
 }
 
 -- a CPU that has done nothing
-abbrev pub fresh_cpu : TableId → Setting → ℕ → CpuValue
+abbrev pub fresh_cpu : TableId → StopSetting → ℕ → CpuValue
 fresh_cpu table k cpu = cpu_of (record { table = table; known = fresh k cpu })
 
 -- the CPU is one of this table
@@ -118,7 +118,7 @@ CallsNone _ carried _ = ⊥
 
 -- what a CPU keeps between two calls: it is between two turns of the stop that it is in, calls no function, begins no
 -- stop, and what it knows is its part of some stops
-pub record IsKept (v : Known) (number : ℕ) (visit : Option Visit) (holds is_open : Bool) : Type 0 where
+pub record IsKept (v : KnownStops) (number : ℕ) (visit : Option Visit) (holds is_open : Bool) : Type 0 where
   pub number_is : v.number ≡ number
   pub below : number < cpus
   pub online : has v.setting.online number ≡ true
@@ -194,7 +194,7 @@ terms_of t c = record { nr = t.nr; online = t.setting.online; keys = t.setting.l
 -- the CPUs of a table that were not given out: for each number, whether it was not
 pub record BootValue : Type 0 where
   pub table : TableId
-  pub setting : Setting
+  pub setting : StopSetting
   pub left : List Bool
 
 -- whether the CPU of a number is left
@@ -206,13 +206,13 @@ abbrev pub given : ℕ → BootValue → BootValue
 given cpu b = record b { left = slice_set b.left cpu false }
 
 -- each CPU that is online waits fresh, or was given out
-pub record AreWaiting (table : TableId) (k : Setting) (online : ℕ) (waiting : List (Option CpuValue)) : Type 0 where
+pub record AreWaiting (table : TableId) (k : StopSetting) (online : ℕ) (waiting : List (Option CpuValue)) : Type 0 where
   pub online_is : online ≡ k.online
   pub sized : (cpu : ℕ) → has online cpu ≡ true → cpu < length waiting
   pub fresh_are : (cpu : ℕ) → has online cpu ≡ true → IfSome (slice_index_or waiting cpu None) (λ c. c ≡ fresh_cpu table k cpu)
 
 -- all CPUs of this table that are online are left
-pub record IsFull (b : BootValue) (table : TableId) (k : Setting) : Type 0 where
+pub record IsFull (b : BootValue) (table : TableId) (k : StopSetting) : Type 0 where
   pub table_is : b.table ≡ table
   pub setting_is : b.setting ≡ k
   pub left_are : (cpu : ℕ) → has k.online cpu ≡ true → is_left b cpu ≡ true

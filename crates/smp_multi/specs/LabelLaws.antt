@@ -12,12 +12,12 @@ use Rattle.smp_stop_steps.specs.Promises.{IsPatchedAlone}
 use Rattle.smp_stop_steps.specs.State.{StopState, unmoved}
 use Rattle.smp_multi.specs.Names.{Key}
 use Rattle.smp_multi.specs.Cpu.{CpuValue}
-use Rattle.smp_multi.specs.Laws.{IsShown}
+use Rattle.smp_multi.specs.Laws.{StopsAreShown}
 
 -- the label table of the words of which this value is a CPU's part is lawful while nobody is between the first and the last
 -- store of a patch; who patches is active in its patch stop, at RUN, alone, and every online CPU has its interrupts off
 pub record LabelsAreLawful (c : CpuValue) : Type 0 where
-  pub shown : IsShown c
+  pub shown : StopsAreShown c
   pub lawful : is_between shown.stops.now.patching ≡ false → IsLawful (labels_in shown.at)
   pub patchers : HasPatcher (setup_in c.setting) shown.stops
   pub alone : IsPatchedAlone (setup_in c.setting) shown.stops
@@ -29,7 +29,7 @@ MovesNone p cpu = (k : ℕ) → k < MOST_KEYS → (p.nudged cpu k ≡ unmoved) �
 -- each key's word is what all CPUs have moved it, by nudges and as runners of patches, of which this value has its CPU's own; a
 -- CPU that is not online has moved none
 pub record CountsAreSums (c : CpuValue) : Type 0 where
-  pub shown : IsShown c
+  pub shown : StopsAreShown c
   pub sums : (k : ℕ) → shown.at (Key k) + (downs cpus shown.stops.nudged k + downs cpus shown.stops.patched k)
       ≡ ups cpus shown.stops.nudged k + ups cpus shown.stops.patched k
   pub offline : (cpu : ℕ) → cpu < cpus → has c.setting.online cpu ≡ false → MovesNone shown.stops cpu

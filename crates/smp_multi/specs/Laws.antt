@@ -7,7 +7,7 @@ use Rattle.smp_stop_steps.specs.State.{Present, StopState}
 use Rattle.smp_stop_steps.specs.Stop.{Stop, acked}
 use Rattle.smp_stop_steps.specs.StopLaws.{KeepsStopLaws}
 use Rattle.smp_words.specs.declared.phase.TheConstants.{DISABLE_IRQ, RUN}
-use Rattle.smp_multi.specs.Names.{Word, Gate, Slot, Key, Work, Seat, In, Alters, Source, Known}
+use Rattle.smp_multi.specs.Names.{Word, Gate, Slot, Key, Work, StopRole, In, Alters, Source, KnownStops}
 use Rattle.smp_multi.specs.Names.field
 use Rattle.smp_multi.specs.Cpu.{CpuValue, Inside, cpu_of}
 use Rattle.smp_multi.specs.Lives.{StaysWithin}
@@ -27,15 +27,15 @@ IsPending stop (Some w) = (stop.is_open ≡ true) × (stop.work ≡ w)
 -- it is in the stop that the value has, its interrupts are on or off and its own stop is pending as the value says, it has
 -- made the value's calls of stop functions, and carries the answer of the last one, which no words tell. CPUs that are not
 -- online have done nothing
-pub record IsShown (c : CpuValue) : Type 0 where
+pub record StopsAreShown (c : CpuValue) : Type 0 where
   pub stops : StopState
   pub at : Word → ℕ
-  pub seat : ℕ → Seat
+  pub seat : ℕ → StopRole
   pub source : ℕ → Source
   pub shown : StopShows (setup_in c.setting) stops at seat source
   pub laws : KeepsStopLaws (setup_in c.setting) stops at
   pub within : StaysWithin c.setting stops at seat source
-  pub known : Known
+  pub known : KnownStops
   pub sees : Sees stops seat source known
   pub view : c ≡ cpu_of (record { table = c.table; known = known })
   pub inside : IsInside stops.now c.number c.inside
@@ -46,7 +46,7 @@ pub record IsShown (c : CpuValue) : Type 0 where
 
 -- a word had this number when the CPU's value was this: some words of the table show stops of which it is the CPU's part
 pub record Finds (c : CpuValue) (word : Word) (number : ℕ) : Type 0 where
-  pub shown : IsShown c
+  pub shown : StopsAreShown c
   pub found : shown.at word ≡ number
 
 -- key k had this count
@@ -63,11 +63,11 @@ FindsNoCall c slot = (roll : ℕ) × Finds c (Slot slot field.Roll) roll × (has
 
 -- a CPU in the stop of this slot that has looked at RUN and has not acknowledged it: it calls its function, or makes its
 -- patch
-abbrev pub IsAtRun : Seat → ℕ → Type 0
+abbrev pub IsAtRun : StopRole → ℕ → Type 0
 IsAtRun (In s w a l t) slot = (s ≡ slot) × (a ≡ DISABLE_IRQ) × (l ≡ RUN)
 IsAtRun (Alters s w count made rest) slot = s ≡ slot
 IsAtRun _ slot = ⊥
 
 -- the function law for running threads: as long as a CPU knows that it is there, its function runs alone
 abbrev pub FunctionsRunAlone : Type 0
-FunctionsRunAlone = (v : Known) (slot : ℕ) → IsAtRun v.seat slot → AloneWhile v slot
+FunctionsRunAlone = (v : KnownStops) (slot : ℕ) → IsAtRun v.seat slot → AloneWhile v slot

@@ -9,23 +9,23 @@ pub use Rattle.smp_words.specs.declared.seen.Act.TheVariants as act
 pub use Rattle.smp_words.specs.declared.work.Kind.{Kind}
 pub use Rattle.smp_words.specs.declared.work.Kind.TheVariants.{One, Multi, Patch}
 pub use Rattle.smp_words.specs.declared.work.Work.{Work}
-pub use Rattle.smp_stop_steps.specs.declared.known.Seat.{Seat}
-pub use Rattle.smp_stop_steps.specs.declared.known.Seat.TheVariants.{Free, In, Gives, Alters, Closes}
+pub use Rattle.smp_stop_steps.specs.declared.known.StopRole.{StopRole}
+pub use Rattle.smp_stop_steps.specs.declared.known.StopRole.TheVariants.{Free, In, Gives, Alters, Closes}
 pub use Rattle.smp_stop_steps.specs.declared.known.Duty.{Duty}
 pub use Rattle.smp_stop_steps.specs.declared.known.Duty.TheVariants.{Rests, Fills, Sets}
 pub use Rattle.smp_stop_steps.specs.declared.known.Source.{Source}
 pub use Rattle.smp_stop_steps.specs.declared.known.Source.TheVariants.{Shut, Drafts, Owns, Collects}
 pub use Rattle.smp_stop_steps.specs.declared.known.Attempt.{Attempt}
-pub use Rattle.smp_stop_steps.specs.declared.known.Known.{Known}
+pub use Rattle.smp_stop_steps.specs.declared.known.KnownStops.{KnownStops}
 pub use Rattle.smp_stop_steps.specs.declared.known.OwnMove.{OwnMove}
 pub use Rattle.smp_stop_steps.specs.declared.known.OwnMove.TheVariants as own
-pub use Rattle.smp_stop_steps.specs.declared.known.Part.{Part}
-pub use Rattle.smp_stop_steps.specs.declared.known.Setting.{Setting}
+pub use Rattle.smp_stop_steps.specs.declared.known.StopPart.{StopPart}
+pub use Rattle.smp_stop_steps.specs.declared.known.StopSetting.{StopSetting}
 pub use Rattle.smp_stop_steps.specs.declared.known.Reading.{Reading}
 pub use Rattle.smp_stop_steps.specs.declared.known.Reading.TheVariants.{ReadKey, ReadSite}
 pub use Rattle.smp_stop_steps.specs.declared.known.Moved.{Moved}
 pub use Rattle.smp_stop_steps.specs.declared.known.StopCall.{StopCall}
 pub use Rattle.smp_stop_steps.specs.declared.known.Calling.{Calling}
 pub use Rattle.smp_stop_steps.specs.declared.known.Calling.TheVariants.{Idle, Calls, Carries}
-pub use Rattle.smp_multi.specs.declared.seat_view.SeatView.{SeatView}
-pub use Rattle.smp_multi.specs.declared.seat_view.SeatView.TheVariants.{Maker, Cpu}
+pub use Rattle.smp_multi.specs.declared.seat_view.StopSeatView.{StopSeatView}
+pub use Rattle.smp_multi.specs.declared.seat_view.StopSeatView.TheVariants.{Maker, Cpu}

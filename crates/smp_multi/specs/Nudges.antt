@@ -5,9 +5,9 @@ use Rattle.smp_mask.specs.declared.error.Edge.TheVariants.{Full, Zero}
 use Rattle.smp_mask.specs.declared.error.SmpError.{SmpError}
 use Rattle.smp_mask.specs.declared.error.SmpError.TheVariants as error
 use Rattle.smp_stop_steps.specs.Known.{noting, stepped}
-use Rattle.smp_multi.specs.Lives.{Moment}
+use Rattle.smp_multi.specs.Lives.{StopMoment}
 use Rattle.smp_stop_steps.specs.State.{unmoved}
-use Rattle.smp_multi.specs.Names.{Key, Known, Part, Moved}
+use Rattle.smp_multi.specs.Names.{Key, KnownStops, StopPart, Moved}
 use Rattle.smp_multi.specs.Names.own
 use Rattle.smp_multi.specs.Cpu.{CpuValue, makes, moves_on}
 use Rattle.smp_multi.specs.Laws.{FindsCount}
@@ -34,18 +34,18 @@ StaysOn up count = (count ≢ edge_at up) × (count ≢ turn_at up)
 abbrev pub moved_more : Bool → Moved → Moved
 moved_more up m = if up then record m { up = m.up + 1 } else record m { down = m.down + 1 }
 
-abbrev pub nudge_more : Bool → ℕ → Part → Part
+abbrev pub nudge_more : Bool → ℕ → StopPart → StopPart
 nudge_more up k part = record part { nudged = slice_set part.nudged k (moved_more up (slice_index_or part.nudged k unmoved)) }
 
 -- a CPU that has moved a count by one, at its exchange
-abbrev pub nudged_known : Bool → ℕ → Known → Known
+abbrev pub nudged_known : Bool → ℕ → KnownStops → KnownStops
 nudged_known up k v = stepped 1 (record v { part = nudge_more up k v.part })
 
 abbrev pub nudged : Bool → ℕ → CpuValue → CpuValue
 nudged up k c = makes 1 (record c { part = nudge_more up k c.part })
 
 -- one whose exchange of a key has found another count
-abbrev pub lost_known : ℕ → Known → Known
+abbrev pub lost_known : ℕ → KnownStops → KnownStops
 lost_known k v = stepped 1 (noting (own.Lost k) v)
 
 abbrev pub loses_key : ℕ → CpuValue → CpuValue
@@ -53,13 +53,13 @@ loses_key k c = makes 1 (moves_on (own.Lost k) c)
 
 -- what a nudge does, as its CPU knows it: it loads a count, and where that stays on it exchanges it, unless another has
 -- changed it meanwhile
-abbrev pub NudgeKnown : ℕ → Bool → Known → Known → Result Nudge SmpError → Type 0
-NudgeKnown k up old new (Ok Done) = (count : ℕ) × Moment old (Key k) count × StaysOn up count × Moment (loads_known k count old) (Key k) count
+abbrev pub NudgeKnown : ℕ → Bool → KnownStops → KnownStops → Result Nudge SmpError → Type 0
+NudgeKnown k up old new (Ok Done) = (count : ℕ) × StopMoment old (Key k) count × StaysOn up count × StopMoment (loads_known k count old) (Key k) count
     × (new ≡ nudged_known up k (loads_known k count old))
-NudgeKnown k up old new (Ok Lost) = (count other : ℕ) × Moment old (Key k) count × StaysOn up count × Moment (loads_known k count old) (Key k) other
+NudgeKnown k up old new (Ok Lost) = (count other : ℕ) × StopMoment old (Key k) count × StaysOn up count × StopMoment (loads_known k count old) (Key k) other
     × (other ≢ count) × (new ≡ lost_known k (loads_known k count old))
-NudgeKnown k up old new (Ok Stop) = (count : ℕ) × Moment old (Key k) count × (count ≡ turn_at up) × (new ≡ loads_known k count old)
-NudgeKnown k up old new (Err (error.KeyRange e)) = (count : ℕ) × Moment old (Key k) count × (count ≡ edge_at up) × (e ≡ end_of up) × (new ≡ loads_known k
+NudgeKnown k up old new (Ok Stop) = (count : ℕ) × StopMoment old (Key k) count × (count ≡ turn_at up) × (new ≡ loads_known k count old)
+NudgeKnown k up old new (Err (error.KeyRange e)) = (count : ℕ) × StopMoment old (Key k) count × (count ≡ edge_at up) × (e ≡ end_of up) × (new ≡ loads_known k
     count old)
 NudgeKnown k up old new (Err _) = ⊥
 

@@ -11,27 +11,27 @@ use Rattle.smp_stop_steps.specs.Sits.{IsLoaded}
 use Rattle.smp_stop_steps.specs.Tells.{plan_at}
 use Rattle.smp_words.specs.declared.phase.TheConstants.{DISABLE_IRQ}
 use Rattle.smp_stop_steps.specs.declared.stage.Visit.{Visit}
-use Rattle.smp_multi.specs.Names.{Work, Seat, In, Alters, Known, Moved}
+use Rattle.smp_multi.specs.Names.{Work, StopRole, In, Alters, KnownStops, Moved}
 use Rattle.smp_multi.specs.Cells.{cells}
 use Rattle.smp_multi.specs.Places.{work_in}
 use Rattle.smp_multi.specs.Seat.{SeatValue}
 use Rattle.smp_multi.specs.Turns.{patched_with}
 
 -- the count that it has found, the stores that are made, and those that are to be made
-abbrev pub count_in : Seat → ℕ
+abbrev pub count_in : StopRole → ℕ
 count_in (Alters s w count made rest) = count
 count_in _ = 0
 
-abbrev pub made_in : Seat → List Change
+abbrev pub made_in : StopRole → List Change
 made_in (Alters s w count made rest) = made
 made_in _ = []
 
-abbrev pub rest_in : Seat → List Change
+abbrev pub rest_in : StopRole → List Change
 rest_in (Alters s w count made rest) = rest
 rest_in _ = []
 
 -- a CPU that makes the patch of its stop
-abbrev pub IsInPatch : Known → Type 0
+abbrev pub IsInPatch : KnownStops → Type 0
 IsInPatch v = (slot : ℕ) × (v.seat ≡ Alters slot (work_in v.seat) (count_in v.seat) (made_in v.seat) (rest_in v.seat))
 
 -- a CPU in the patch of the stop of its visit
@@ -49,11 +49,11 @@ pub record AtPatch (table : TableId) (seat : SeatValue) (visit : Visit) : Type 0
       ≡ made_in seat.known.seat ++ rest_in seat.known.seat
 
 -- the entry words of the table
-abbrev pub entries_in : Known → List ℕ
+abbrev pub entries_in : KnownStops → List ℕ
 entries_in v = map entry_word v.setting.labels.entries
 
 -- it has found this count, from which its patch leads
-abbrev pub begins_with : ℕ → Seat → Known → Known
+abbrev pub begins_with : ℕ → StopRole → KnownStops → KnownStops
 begins_with count (In s w a l t) v = record v { seat = Alters s w count [] (plan_at (setup_in v.setting) w count) }
 begins_with count x v = v
 
@@ -63,7 +63,7 @@ moved_with w count [] l = l
 moved_with w count (change ∷ made) l = counted l w.func count (count_set w count)
 
 -- it has made this number of the stores that were to be made
-abbrev pub stored_to : ℕ → Seat → Known → Known
+abbrev pub stored_to : ℕ → StopRole → KnownStops → KnownStops
 stored_to i (Alters s w count made rest) v = record v {
   seat = Alters s w count (made ++ take i rest) (drop i rest);
   part = record (v.part) { patched = moved_with w count (take i rest) v.part.patched };
@@ -71,7 +71,7 @@ stored_to i (Alters s w count made rest) v = record v {
 stored_to i x v = v
 
 -- it has made all of them
-abbrev pub stored_all : Seat → Known → Known
+abbrev pub stored_all : StopRole → KnownStops → KnownStops
 stored_all (Alters s w count made rest) v = record v {
   seat = Alters s w count (made ++ rest) [];
   part = record (v.part) { patched = patched_with w count v.part.patched };

@@ -7,7 +7,7 @@ use Rattle.smp_stop_steps.specs.Known.{attempting, noting, stepped}
 use Rattle.smp_stop_steps.specs.KnownAfter.{is_drafting, no_work}
 use Rattle.smp_stop_steps.specs.Sits.{IsLoaded}
 use Rattle.smp_stop_steps.specs.declared.stage.Visit.{Visit}
-use Rattle.smp_multi.specs.Names.{Work, Seat, Free, In, Gives, Alters, Rests, Source, Owns, Collects, Known}
+use Rattle.smp_multi.specs.Names.{Work, StopRole, Free, In, Gives, Alters, Rests, Source, Owns, Collects, KnownStops}
 use Rattle.smp_multi.specs.Names.own
 use Rattle.smp_multi.specs.Cells.{cells}
 use Rattle.smp_multi.specs.Seat.{SeatValue}
@@ -26,22 +26,22 @@ pub record IsFree (table : TableId) (seat : SeatValue) (number : ℕ) : Type 0 w
   pub free : seat.known.seat ≡ Free
 
 -- a CPU that holds the gate or not
-abbrev pub holding : Bool → Known → Known
+abbrev pub holding : Bool → KnownStops → KnownStops
 holding b v = record v { part = record (v.part) { holds = b } }
 
 -- one that has tried the gate, and has taken it or not; and one that has given it up
-abbrev pub tried : Bool → Known → Known
+abbrev pub tried : Bool → KnownStops → KnownStops
 tried true v = stepped 1 (noting own.Took (holding true v))
 tried false v = stepped 1 (noting own.Busy v)
 
-abbrev pub given_up : Known → Known
+abbrev pub given_up : KnownStops → KnownStops
 given_up v = stepped 1 (noting own.Gave (holding false v))
 
 -- one that has entered the stop of this slot, which is this work; and one that has looked for it on the roll in vain, at that one step
-abbrev pub entered : ℕ → Work → Known → Known
+abbrev pub entered : ℕ → Work → KnownStops → KnownStops
 entered slot work v = stepped 1 (attempting slot true (record v { seat = In slot work 0 0 Rests }))
 
-abbrev pub missed : ℕ → Known → Known
+abbrev pub missed : ℕ → KnownStops → KnownStops
 missed slot v = stepped 1 (attempting slot false v)
 
 pub record HasEntered (table : TableId) (seat : SeatValue) (slot : ℕ) (work : Work) : Type 0 where
@@ -57,7 +57,7 @@ pending_of (Collects w) = Some w
 pending_of _ = None
 
 -- a stop of this work, in this slot, calls the CPU; in the CPU's own slot it is its own stop
-pub record IsCalled (v : Known) (slot : ℕ) (work : Work) : Type 0 where
+pub record IsCalled (v : KnownStops) (slot : ℕ) (work : Work) : Type 0 where
   pub member : has work.mask v.number ≡ true
   pub own : slot ≡ v.number → pending_of v.source ≡ Some work
 
@@ -68,7 +68,7 @@ pub record IsVisitOf (slot : ℕ) (work : Work) (visit : Visit) : Type 0 where
   pub fresh : visit.acked ≡ 0
 
 -- the work of the stop that a CPU is in
-abbrev pub work_in : Seat → Work
+abbrev pub work_in : StopRole → Work
 work_in (In s w a l t) = w
 work_in (Gives s w a x) = w
 work_in (Alters s w count made rest) = w

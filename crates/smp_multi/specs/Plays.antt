@@ -3,54 +3,54 @@ use Rattle.std.specs.Int.Bits.{bit_and}
 use Rattle.std.specs.Prelude.{◌≡◌, ℕ, ◌==◌, if◌then◌else◌, Some, None}
 use Rattle.atomic_table.specs.Table.{Me, Step}
 use Rattle.smp_words.specs.Access.{one_less}
-use Rattle.smp_multi.specs.Lives.{Moment, Lives}
+use Rattle.smp_multi.specs.Lives.{StopMoment, Lives}
 use Rattle.smp_stop_steps.specs.Known.{carrying}
 use Rattle.smp_stop_steps.specs.KnownAfter.{known_told, known_entering}
 use Rattle.smp_stop_steps.specs.Moves.{entering}
-use Rattle.smp_multi.specs.Names.{Word, SeatView, Cpu}
+use Rattle.smp_multi.specs.Names.{Word, StopSeatView, Cpu}
 use Rattle.smp_multi.specs.Names.act
 use Rattle.smp_multi.specs.Cells.{cell_of}
 use Rattle.smp_multi.specs.Rule.{known}
 
 module _ {S : Type 0} where
-  abbrev pub AfterLoad : Step S → Me S SeatView → ℕ → Me S SeatView → Type 0
-  AfterLoad st m n m' = let v = known m.0 in (w : Word) → cell_of w ≡ Some st.word → Moment v w n × (m'.0 ≡ Cpu (known_told v act.Load w (Some n) None))
+  abbrev pub AfterLoad : Step S → Me S StopSeatView → ℕ → Me S StopSeatView → Type 0
+  AfterLoad st m n m' = let v = known m.0 in (w : Word) → cell_of w ≡ Some st.word → StopMoment v w n × (m'.0 ≡ Cpu (known_told v act.Load w (Some n) None))
 
-  abbrev pub AfterStore : Step S → Me S SeatView → ℕ → Me S SeatView → Type 0
+  abbrev pub AfterStore : Step S → Me S StopSeatView → ℕ → Me S StopSeatView → Type 0
   AfterStore st m n m' = let v = known m.0 in (w : Word) → cell_of w ≡ Some st.word → m'.0 ≡ Cpu (known_told v act.Store w None (Some st.first))
 
-  abbrev pub AfterExchange : Step S → Me S SeatView → ℕ → Me S SeatView → Type 0
+  abbrev pub AfterExchange : Step S → Me S StopSeatView → ℕ → Me S StopSeatView → Type 0
   AfterExchange st m n m' = let v = known m.0 in (w : Word) → cell_of w ≡ Some st.word
-      → Moment v w n × (m'.0 ≡ Cpu (known_told v act.Cas w (Some n) (if n == st.first then Some st.second else None)))
+      → StopMoment v w n × (m'.0 ≡ Cpu (known_told v act.Cas w (Some n) (if n == st.first then Some st.second else None)))
 
-  abbrev pub AfterSubtract : Step S → Me S SeatView → ℕ → Me S SeatView → Type 0
+  abbrev pub AfterSubtract : Step S → Me S StopSeatView → ℕ → Me S StopSeatView → Type 0
   AfterSubtract st m n m' = let v = known m.0 in (w : Word) → cell_of w ≡ Some st.word
-      → Moment v w n × (m'.0 ≡ Cpu (known_told v act.Sub w (Some n) (Some (one_less n))))
+      → StopMoment v w n × (m'.0 ≡ Cpu (known_told v act.Sub w (Some n) (Some (one_less n))))
 
   -- from this step on the CPU carries the answer
-  abbrev pub AfterAnswer : ℕ → Step S → Me S SeatView → ℕ → Me S SeatView → Type 0
+  abbrev pub AfterAnswer : ℕ → Step S → Me S StopSeatView → ℕ → Me S StopSeatView → Type 0
   AfterAnswer answer st m n m' = let v = known m.0 in (w : Word) → cell_of w ≡ Some st.word
       → m'.0 ≡ Cpu (known_told (carrying answer v) act.Sub w (Some n) (Some (one_less n)))
 
   -- the work of the stop that is entered is that of the stops at that moment
-  abbrev pub AfterMask : Step S → Me S SeatView → ℕ → Me S SeatView → Type 0
+  abbrev pub AfterMask : Step S → Me S StopSeatView → ℕ → Me S StopSeatView → Type 0
   AfterMask st m n m' = let v = known m.0 in (w : Word) → cell_of w ≡ Some st.word
-      → (t : Moment v w n) × (m'.0 ≡ Cpu (known_entering (entering t.stops w) v act.And w (Some n) (Some (bit_and n st.first))))
+      → (t : StopMoment v w n) × (m'.0 ≡ Cpu (known_entering (entering t.stops w) v act.And w (Some n) (Some (bit_and n st.first))))
 
-  abbrev pub loaded : Step S → Me S SeatView → ℕ → Me S SeatView → Type 0
+  abbrev pub loaded : Step S → Me S StopSeatView → ℕ → Me S StopSeatView → Type 0
   loaded st m n m' = Lives (known m'.0) × AfterLoad st m n m'
 
-  abbrev pub stored : Step S → Me S SeatView → ℕ → Me S SeatView → Type 0
+  abbrev pub stored : Step S → Me S StopSeatView → ℕ → Me S StopSeatView → Type 0
   stored st m n m' = Lives (known m'.0) × AfterStore st m n m'
 
-  abbrev pub exchanged : Step S → Me S SeatView → ℕ → Me S SeatView → Type 0
+  abbrev pub exchanged : Step S → Me S StopSeatView → ℕ → Me S StopSeatView → Type 0
   exchanged st m n m' = Lives (known m'.0) × AfterExchange st m n m'
 
-  abbrev pub subtracted : Step S → Me S SeatView → ℕ → Me S SeatView → Type 0
+  abbrev pub subtracted : Step S → Me S StopSeatView → ℕ → Me S StopSeatView → Type 0
   subtracted st m n m' = Lives (known m'.0) × AfterSubtract st m n m'
 
-  abbrev pub answered : ℕ → Step S → Me S SeatView → ℕ → Me S SeatView → Type 0
+  abbrev pub answered : ℕ → Step S → Me S StopSeatView → ℕ → Me S StopSeatView → Type 0
   answered answer st m n m' = Lives (known m'.0) × AfterAnswer answer st m n m'
 
-  abbrev pub masked : Step S → Me S SeatView → ℕ → Me S SeatView → Type 0
+  abbrev pub masked : Step S → Me S StopSeatView → ℕ → Me S StopSeatView → Type 0
   masked st m n m' = Lives (known m'.0) × AfterMask st m n m'

@@ -10,7 +10,7 @@ use Rattle.smp_stop_steps.specs.Past.{OnlyActiveAnswer}
 use Rattle.smp_stop_steps.specs.Shows.{StopShows}
 use Rattle.smp_stop_steps.specs.State.{StopState}
 use Rattle.smp_stop_steps.specs.StopLaws.{KeepsStopLaws}
-use Rattle.smp_multi.specs.Names.{Word, Work, One, Seat, Source, Shut, Owns, Collects, Known}
+use Rattle.smp_multi.specs.Names.{Word, Work, One, StopRole, Source, Shut, Owns, Collects, KnownStops}
 use Rattle.smp_multi.specs.Names.own
 use Rattle.smp_multi.specs.Cells.{cells}
 use Rattle.smp_multi.specs.Cpu.{CpuValue}
@@ -38,13 +38,13 @@ pub record HasFound (table : TableId) (seat : SeatValue) (number : ℕ) : Type 0
   pub below : number < cpus
   pub collects : seat.known.source ≡ Collects (own_work seat.known.source)
 
-abbrev pub looked : Bool → Known → Known
+abbrev pub looked : Bool → KnownStops → KnownStops
 looked done v = stepped 1 (record v {
   source = cond done (Collects (own_work v.source)) (Owns (own_work v.source));
   moves = cond done v.moves (v.moves ++ own.NotDone ∷ []);
 })
 
-abbrev pub collected : ℕ → Known → Known
+abbrev pub collected : ℕ → KnownStops → KnownStops
 collected x v = stepped 1 (noting (own.Collected x) (record v { source = Shut; part = record (v.part) { collected = v.part.collected ++ x ∷ [] } }))
 
 -- some words show stops that keep all laws: in them this CPU has begun and collected what its part says, none of its stops
@@ -52,7 +52,7 @@ collected x v = stepped 1 (noting (own.Collected x) (record v { source = Shut; p
 pub record AreGiven (c : CpuValue) (mask : ℕ) (answer : ℕ → ℕ) : Type 0 where
   pub stops : StopState
   pub at : Word → ℕ
-  pub seat : ℕ → Seat
+  pub seat : ℕ → StopRole
   pub source : ℕ → Source
   pub shown : StopShows (setup_in c.setting) stops at seat source
   pub laws : KeepsStopLaws (setup_in c.setting) stops at

@@ -15,7 +15,7 @@ use Rattle.smp_stop_steps.specs.Known.{stepped}
 use Rattle.smp_stop_steps.specs.KnownAfter.{key_read_known}
 use Rattle.smp_stop_steps.specs.Labels.{Agrees}
 use Rattle.smp_stop_steps.specs.Seats.{irq_of}
-use Rattle.smp_multi.specs.Names.{Known, Reading, ReadKey, ReadSite}
+use Rattle.smp_multi.specs.Names.{KnownStops, Reading, ReadKey, ReadSite}
 use Rattle.smp_multi.specs.Names.own
 use Rattle.smp_multi.specs.Cells.{cells}
 use Rattle.smp_multi.specs.Cpu.{CpuValue, makes, moves_on}
@@ -34,7 +34,7 @@ abbrev pub reads : Reading → CpuValue → CpuValue
 reads r c = makes 1 (record c { part = record (c.part) { readings = c.part.readings ++ r ∷ [] } })
 
 -- a CPU that has loaded this count of a key, which is a reading, and one of its own steps
-abbrev pub loads_known : ℕ → ℕ → Known → Known
+abbrev pub loads_known : ℕ → ℕ → KnownStops → KnownStops
 loads_known k count v = stepped 1 (key_read_known k count v)
 
 abbrev pub loads_count : ℕ → ℕ → CpuValue → CpuValue

@@ -11,7 +11,7 @@ use Rattle.smp_stop_steps.specs.Sits.{IsLoaded}
 use Rattle.smp_stop_steps.specs.State.{StopState}
 use Rattle.smp_words.specs.declared.phase.TheConstants.{DISABLE_IRQ, RUN, EXIT}
 use Rattle.smp_stop_steps.specs.declared.stage.Visit.{Visit}
-use Rattle.smp_multi.specs.Names.{Word, Kind, Seat, In, Rests, Duty, Source, Known}
+use Rattle.smp_multi.specs.Names.{Word, Kind, StopRole, In, Rests, Duty, Source, KnownStops}
 use Rattle.smp_multi.specs.Cells.{cells}
 use Rattle.smp_multi.specs.Places.{work_in}
 use Rattle.smp_multi.specs.Seat.{SeatValue}
@@ -34,15 +34,15 @@ pub record AtRun (table : TableId) (seat : SeatValue) (visit : Visit) (kind : Ki
 
 -- as long as the CPU knows this, whatever the words are: it is of the mask, the phase is RUN, and every CPU of the mask
 -- has acknowledged DISABLE_IRQ, and has its interrupts off
-abbrev pub AloneWhile : Known → ℕ → Type 0
-AloneWhile v slot = (p : StopState) (at : Word → ℕ) (seat : ℕ → Seat) (source : ℕ → Source) → StopShows (setup_in v.setting) p at seat source →
+abbrev pub AloneWhile : KnownStops → ℕ → Type 0
+AloneWhile v slot = (p : StopState) (at : Word → ℕ) (seat : ℕ → StopRole) (source : ℕ → Source) → StopShows (setup_in v.setting) p at seat source →
     Sees p seat source v → RunsAlone p slot v.number
 
 -- it has acknowledged the phase that it looked at, and has stored the next one where it was the last to do so
-abbrev pub passed_by : Seat → Known → Known
+abbrev pub passed_by : StopRole → KnownStops → KnownStops
 passed_by (In s w a l t) v = record v { seat = In s w l l Rests; part = ran_since (l == RUN) (read_since (l == EXIT) s w v) }
 passed_by x v = v
 
 -- it has looked at this phase, and acknowledged it
-abbrev pub passed_known : ℕ → Known → Known
+abbrev pub passed_known : ℕ → KnownStops → KnownStops
 passed_known p v = passed_by (looked_to p v.seat) (looked_known p v)

@@ -7,7 +7,7 @@ use Rattle.smp_stop_steps.specs.AnswerWords.{IsI32Word}
 use Rattle.smp_stop_steps.specs.Known.{fresh}
 use Rattle.smp_stop_steps.specs.Moves.{Can, Move, Acknowledge, AcknowledgePatch, Alter, Give, Count, CountGiven}
 use Rattle.smp_words.specs.declared.phase.TheConstants.{DISABLE_IRQ}
-use Rattle.smp_multi.specs.Names.{Access, Load, Store, Exchange, Sub, And, Known, SeatView, Setting, Cpu, Word, Slot}
+use Rattle.smp_multi.specs.Names.{Access, Load, Store, Exchange, Sub, And, KnownStops, StopSeatView, StopSetting, Cpu, Word, Slot}
 use Rattle.smp_multi.specs.Names.field
 use Rattle.smp_words.specs.declared.access.Access.TheVariants.{Swap}
 use Rattle.smp_multi.specs.Cells.{cells, HasCell}
@@ -16,14 +16,14 @@ use Rattle.smp_multi.specs.Rule.{known}
 -- the table that a CPU sits at, and what it knows
 pub record SeatValue : Type 0 where
   pub table : TableId
-  pub known : Known
+  pub known : KnownStops
 
 -- the seat of a CPU that has done nothing
-abbrev pub fresh_seat : TableId → Setting → ℕ → SeatValue
+abbrev pub fresh_seat : TableId → StopSetting → ℕ → SeatValue
 fresh_seat table k n = record { table = table; known = fresh k n }
 
 -- the seat of an online CPU, with the answer that it knows that it carries
-pub record IsCpuSeat (v : SeatView) (carried : ℕ) : Type 0 where
+pub record IsCpuSeat (v : StopSeatView) (carried : ℕ) : Type 0 where
   pub is : v ≡ Cpu (known v)
   pub online : has (known v).setting.online (known v).number ≡ true
   pub fits : IsI32Word carried
@@ -49,7 +49,7 @@ Fits (And word x) = IsNoResult word
 
 -- a step by which no call of a stop function ends, no patch is made and no stop is completed: any but the acknowledgement
 -- of RUN by an active CPU, a store of a patch, and the store of an answer and the count of who has completed
-abbrev pub IsApartFromRuns : Known → Move → Type 0
+abbrev pub IsApartFromRuns : KnownStops → Move → Type 0
 IsApartFromRuns v (Acknowledge s w a) = a ≡ DISABLE_IRQ → has w.active v.number ≡ false
 IsApartFromRuns v (AcknowledgePatch s w count made) = ⊥
 IsApartFromRuns v (Alter s w count made change rest) = ⊥

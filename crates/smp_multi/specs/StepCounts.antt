@@ -6,7 +6,7 @@ use Rattle.smp_labels.specs.declared.words.TheConstants.{MOST_SITES}
 use Rattle.smp_stop_steps.specs.Known.{setup_in}
 use Rattle.smp_stop_steps.specs.Labels.{count_set}
 use Rattle.smp_stop_steps.specs.Tells.{plan_at}
-use Rattle.smp_multi.specs.Names.{Setting, Work}
+use Rattle.smp_multi.specs.Names.{StopSetting, Work}
 
 -- a CPU that completes stores an answer that is not 0, and counts itself; the last one's store of done is due, and not counted
 abbrev pub giving : ℕ → ℕ
@@ -24,5 +24,5 @@ abbrev pub loading : ℕ → ℕ → ℕ → ℕ
 loading old new n = cond (old == new) 0 (cond (xor (is_on old) (is_on new)) (finding n) 0)
 
 -- a patch that has found this count: its loads of entries, and its stores
-abbrev pub patching : Setting → Work → ℕ → ℕ
+abbrev pub patching : StopSetting → Work → ℕ → ℕ
 patching k w count = loading count (count_set w count) (length k.labels.entries) + length (plan_at (setup_in k) w count)

@@ -5,26 +5,26 @@ use Rattle.atomic_table.specs.Seated.{TableId}
 use Rattle.smp_stop_steps.specs.Known.{Sees, setup_in}
 use Rattle.smp_stop_steps.specs.Shows.{StopShows}
 use Rattle.smp_stop_steps.specs.State.{StopState}
-use Rattle.smp_multi.specs.Names.{Cpu, Known, Seat, SeatView, Setting, Source, Word}
+use Rattle.smp_multi.specs.Names.{Cpu, KnownStops, StopRole, StopSeatView, StopSetting, Source, Word}
 use Rattle.smp_multi.specs.Rule.{known as known_of}
 use Rattle.smp_multi.specs.Cpu.{CpuValue, Inside, cpu_of}
 
 -- some words and seats that show some stops
-pub record StopsNow (k : Setting) : Type 0 where
+pub record StopsNow (k : StopSetting) : Type 0 where
   pub stops : StopState
   pub at : Word → ℕ
-  pub seat : ℕ → Seat
+  pub seat : ℕ → StopRole
   pub source : ℕ → Source
   pub shown : StopShows (setup_in k) stops at seat source
 
 -- a CPU's value is what a CPU knows that knows its part of these stops
-pub record IsPartOf {k : Setting} (now : StopsNow k) (c : CpuValue) : Type 0 where
-  pub known : Known
+pub record IsPartOf {k : StopSetting} (now : StopsNow k) (c : CpuValue) : Type 0 where
+  pub known : KnownStops
   pub sees : Sees now.stops now.seat now.source known
   pub view : c ≡ cpu_of (record { table = c.table; known = known })
 
 -- what two CPUs know is their parts of the same stops
-pub record KnowTogether (v w : Known) : Type 0 where
+pub record KnowTogether (v w : KnownStops) : Type 0 where
   pub now : StopsNow v.setting
   pub one : Sees now.stops now.seat now.source v
   pub other : Sees now.stops now.seat now.source w
@@ -55,23 +55,23 @@ WaitsFor c d = (x : Inside) → c.inside ≡ Some x → x.slot ≡ d.number → 
 -- CPU knows
 pub record SeatsValue : Type 0 where
   pub table : TableId
-  pub seats : List (TableId × Known)
+  pub seats : List (TableId × KnownStops)
 
-abbrev pub seats_of : List (TableId × (ℕ × Me (Unit {0}) SeatView)) → List (TableId × Known)
+abbrev pub seats_of : List (TableId × (ℕ × Me (Unit {0}) StopSeatView)) → List (TableId × KnownStops)
 seats_of [] = []
 seats_of (m ∷ ms) = (m.0, known_of m.1.1.0) ∷ seats_of ms
 
-abbrev pub AreCpuSeats : List (TableId × (ℕ × Me (Unit {0}) SeatView)) → Type 0
+abbrev pub AreCpuSeats : List (TableId × (ℕ × Me (Unit {0}) StopSeatView)) → Type 0
 AreCpuSeats [] = Unit {0}
 AreCpuSeats (m ∷ ms) = (m.1.1.0 ≡ Cpu (known_of m.1.1.0)) × AreCpuSeats ms
 
 -- what all these CPUs know is their parts of these stops
-abbrev pub SeeAll : {k : Setting} → StopsNow k → List (TableId × Known) → Type 0
+abbrev pub SeeAll : {k : StopSetting} → StopsNow k → List (TableId × KnownStops) → Type 0
 SeeAll now [] = Unit {0}
 SeeAll {k} now (m ∷ ms) = (Sees now.stops now.seat now.source m.1 × (m.1.setting ≡ k)) × SeeAll now ms
 
-pub record KnowAllTogether (ms : List (TableId × Known)) : Type 0 where
-  pub setting : Setting
+pub record KnowAllTogether (ms : List (TableId × KnownStops)) : Type 0 where
+  pub setting : StopSetting
   pub now : StopsNow setting
   pub parts : SeeAll now ms
 
@@ -80,7 +80,7 @@ pub record CrowdValue : Type 0 where
   pub table : TableId
   pub cpus : List (TableId × CpuValue)
 
-abbrev pub cpus_at : TableId → List (TableId × Known) → List (TableId × CpuValue)
+abbrev pub cpus_at : TableId → List (TableId × KnownStops) → List (TableId × CpuValue)
 cpus_at table [] = []
 cpus_at table (m ∷ ms) = (m.0, cpu_of (record { table = table; known = m.1 })) ∷ cpus_at table ms
 
@@ -92,13 +92,13 @@ abbrev pub crowd_of : SeatsValue → CrowdValue
 crowd_of s = record { table = s.table; cpus = cpus_at s.table s.seats }
 
 -- these values are their CPUs' parts of these stops, and all are of one setting
-abbrev pub ArePartsOf : {k : Setting} → StopsNow k → List CpuValue → Type 0
+abbrev pub ArePartsOf : {k : StopSetting} → StopsNow k → List CpuValue → Type 0
 ArePartsOf now [] = Unit {0}
 ArePartsOf {k} now (c ∷ cs) = (IsPartOf now c × (c.setting ≡ k)) × ArePartsOf now cs
 
 -- the values of all these CPUs are their parts of the same stops
 pub record AreAllTogether (cs : List CpuValue) : Type 0 where
-  pub setting : Setting
+  pub setting : StopSetting
   pub now : StopsNow setting
   pub parts : ArePartsOf now cs
 

@@ -16,11 +16,11 @@ ghost use Rattle.smp_multi.specs.StepCounts.{completing};
 use crate::complete::close_if_last;
 use crate::round::pass;
 use crate::seat::run_steps::{end_one, end_run};
-use crate::seat::{CpuSeat, Words};
+use crate::seat::{SharedStopWords, StopSeat};
 use smp_stop_steps::stage::Visit;
 
 /// Completes a stop of one CPU with the answer of its function.
-pub(crate) fn answer_one(words: Words<'_>, seat: &mut CpuSeat, slot: u32, answer: i32)
+pub(crate) fn answer_one(words: SharedStopWords<'_>, seat: &mut StopSeat, slot: u32, answer: i32)
     requires at { AtOne words.shared.now.table_id seat.old slot }
     requires calls { seat.old.known.part.calling ≢ Idle }
     ensures table { seat.new.table ≡ words.entry.shared.now.table_id }
@@ -33,7 +33,12 @@ pub(crate) fn answer_one(words: Words<'_>, seat: &mut CpuSeat, slot: u32, answer
 }
 
 /// Acknowledges `RUN` with the answer of the function of a Multi stop, and stores the next phase as the last.
-pub(crate) fn answer_run(words: Words<'_>, seat: &mut CpuSeat, visit: Visit, answer: i32) -> Visit
+pub(crate) fn answer_run(
+    words: SharedStopWords<'_>,
+    seat: &mut StopSeat,
+    visit: Visit,
+    answer: i32,
+) -> Visit
     requires at { AtRun words.shared.now.table_id seat.old visit Multi }
     requires calls { seat.old.known.part.calling ≢ Idle }
     requires alone { AloneWhile seat.old.known visit.slot }

@@ -8,7 +8,7 @@ ghost use Rattle.smp_multi.specs.Cells.{cells};
 use crate::answer::{answer_one, answer_run};
 use crate::cpu::StopCpu;
 use crate::seat::run_steps::begin_one;
-use crate::seat::{CpuSeat, Words};
+use crate::seat::{SharedStopWords, StopSeat};
 use crate::turn::{Go, Turn, begin_turn};
 use smp_stop_steps::stage::Visit;
 use smp_words::phase::EXIT;
@@ -20,7 +20,7 @@ use std::marker::Model;
 /// and has its interrupts off (`laws::calls_are_alone`). It may move to another thread.
 #[derive(Drop)]
 pub struct Answering {
-    seat: CpuSeat,
+    seat: StopSeat,
     pub(crate) number: u32,
     visit: Visit,
     holds: bool,
@@ -91,7 +91,7 @@ fn with_turn(me: StopCpu, turn: Turn) -> Turned
 }
 
 /// A CPU in a stop of one CPU comes to call its function.
-pub(crate) fn come_to_one(words: Words<'_>, me: StopCpu) -> Result<Answering, StopCpu>
+pub(crate) fn come_to_one(words: SharedStopWords<'_>, me: StopCpu) -> Result<Answering, StopCpu>
     requires table { me.table ≡ words.shared.now.table_id }
     requires sized { words.shared.now.table_id.words ≡ cells }
     ensures { OneAnswers me result }
@@ -122,7 +122,7 @@ pub(crate) fn come_to_one(words: Words<'_>, me: StopCpu) -> Result<Answering, St
 }
 
 /// One turn of a CPU in a stop of several CPUs, or its call of the function.
-pub(crate) fn turn_once(words: Words<'_>, me: StopCpu) -> Result<Turned, StopCpu>
+pub(crate) fn turn_once(words: SharedStopWords<'_>, me: StopCpu) -> Result<Turned, StopCpu>
     requires table { me.table ≡ words.shared.now.table_id }
     requires sized { words.shared.now.table_id.words ≡ cells }
     ensures { TurnedAnswers me result }
@@ -165,7 +165,7 @@ pub(crate) fn turn_once(words: Words<'_>, me: StopCpu) -> Result<Turned, StopCpu
 }
 
 /// The function has given this answer.
-pub(crate) fn give_answer(words: Words<'_>, answering: Answering, answer: i32) -> StopCpu
+pub(crate) fn give_answer(words: SharedStopWords<'_>, answering: Answering, answer: i32) -> StopCpu
     requires table { answering.cpu.table ≡ words.shared.now.table_id }
     requires sized { words.shared.now.table_id.words ≡ cells }
     ensures { Answered answering answer result }

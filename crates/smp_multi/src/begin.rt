@@ -8,14 +8,20 @@ ghost use Rattle.smp_stop_steps.specs.Slots.{order};
 ghost use Rattle.smp_multi.specs.Begins.{Begins, draft_at, begun};
 ghost use Rattle.smp_words.specs.declared.field.Field.TheVariants as field_of;
 
-use crate::seat::{CpuSeat, Words, store};
+use crate::seat::{SharedStopWords, StopSeat, store};
 use smp_stop_steps::accesses::begun_value;
 use smp_words::field::Field;
 use smp_words::word::Word;
 use smp_words::work::Work;
 
 /// Stores the next field.
-fn store_field(words: Words<'_>, seat: &mut CpuSeat, number: u32, work: &Work, field: Field)
+fn store_field(
+    words: SharedStopWords<'_>,
+    seat: &mut StopSeat,
+    number: u32,
+    work: &Work,
+    field: Field,
+)
     requires at { Begins words.shared.now.table_id seat.old number work.now (order field) }
     requires low { order field < order field_of.Roll }
     ensures at { Begins words.entry.shared.now.table_id seat.new number work.now (order field + 1) }
@@ -27,7 +33,7 @@ fn store_field(words: Words<'_>, seat: &mut CpuSeat, number: u32, work: &Work, f
 
 /// Stores the roll, last of all: with it the CPUs of the mask are called. A CPU that finds its bit there enters, and loads the
 /// other fields at once. They have to be this stop's by then, as Linux queues a work only once its `multi_stop_data` is filled in.
-fn open_slot(words: Words<'_>, seat: &mut CpuSeat, number: u32, work: &Work)
+fn open_slot(words: SharedStopWords<'_>, seat: &mut StopSeat, number: u32, work: &Work)
     requires at { Begins words.shared.now.table_id seat.old number work.now (order field_of.Roll) }
     ensures table { seat.new.table ≡ words.entry.shared.now.table_id }
     ensures lives { Lives seat.new.known }
@@ -38,7 +44,7 @@ fn open_slot(words: Words<'_>, seat: &mut CpuSeat, number: u32, work: &Work)
 }
 
 /// Begins a stop, at eleven stores.
-pub(crate) fn begin(words: Words<'_>, seat: &mut CpuSeat, number: u32, work: &Work)
+pub(crate) fn begin(words: SharedStopWords<'_>, seat: &mut StopSeat, number: u32, work: &Work)
     requires at { Begins words.shared.now.table_id seat.old number work.now 0 }
     ensures table { seat.new.table ≡ words.entry.shared.now.table_id }
     ensures lives { Lives seat.new.known }

@@ -5,7 +5,7 @@ ghost use Rattle.smp_mask.specs.Mask.{has};
 ghost use Rattle.smp_multi.specs.Cpu.{fresh_cpu, is_left, given};
 
 use crate::cpu::StopCpu;
-use crate::seat::SeatMaker;
+use crate::seat::StopSeatMaker;
 use smp_mask::{CpuMask, SmpError};
 use std::alloc::Allocator;
 use std::marker::Model;
@@ -14,7 +14,7 @@ use std::marker::Model;
 #[derive(Drop)]
 pub struct StopBoot<A: Allocator> {
     /// The first seat, which made those of the CPUs.
-    pub(crate) maker: SeatMaker,
+    pub(crate) maker: StopSeatMaker,
     pub(crate) online: CpuMask,
     pub(crate) waiting: Vec<Option<StopCpu>, A>,
 }

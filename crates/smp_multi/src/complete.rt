@@ -10,13 +10,13 @@ ghost use Rattle.smp_multi.specs.Places.{work_in};
 ghost use Rattle.smp_multi.specs.StepCounts.{completing};
 
 use crate::seat::run_steps::complete_round;
-use crate::seat::{CpuSeat, Words, store};
+use crate::seat::{SharedStopWords, StopSeat, store};
 use smp_words::field::Field;
 use smp_words::phase::EXIT;
 use smp_words::word::Word;
 
 /// Where this was found in the count of who has not completed: the last of all stores done.
-pub(crate) fn close_if_last(words: Words<'_>, seat: &mut CpuSeat, slot: u32, found: u64)
+pub(crate) fn close_if_last(words: SharedStopWords<'_>, seat: &mut StopSeat, slot: u32, found: u64)
     requires at { AtClose words.shared.now.table_id seat.old slot found }
     requires lives { Lives seat.old.known }
     ensures table { seat.new.table ≡ words.entry.shared.now.table_id }
@@ -29,7 +29,7 @@ pub(crate) fn close_if_last(words: Words<'_>, seat: &mut CpuSeat, slot: u32, fou
 }
 
 /// Completes a stop of several CPUs with the answer that the CPU carries.
-pub(crate) fn finish(words: Words<'_>, seat: &mut CpuSeat, slot: u32)
+pub(crate) fn finish(words: SharedStopWords<'_>, seat: &mut StopSeat, slot: u32)
     requires at { AtEnd words.shared.now.table_id seat.old slot EXIT }
     requires several { (work_in seat.old.known.seat).kind ≢ One }
     requires carries { seat.old.known.carried ≢ 0 → seat.old.known.part.calling ≢ Idle }

@@ -7,7 +7,7 @@ ghost use Rattle.smp_stop_steps.specs.Known.{fresh};
 ghost use Rattle.smp_multi.specs.Lives.{Lives};
 ghost use Rattle.smp_multi.specs.Cpu.{fresh_cpu, is_in};
 
-use crate::seat::CpuSeat;
+use crate::seat::StopSeat;
 use smp_stop_steps::stage::Visit;
 use smp_words::phase::{DISABLE_IRQ, EXIT};
 use std::marker::Model;
@@ -19,7 +19,7 @@ use std::marker::Model;
 /// It may move to another thread.
 #[derive(Drop)]
 pub struct StopCpu {
-    pub(crate) seat: CpuSeat,
+    pub(crate) seat: StopSeat,
     pub(crate) number: u32,
     /// The stop that it is in.
     pub(crate) visit: Option<Visit>,
@@ -40,7 +40,7 @@ impl Model for StopCpu {
 
 impl StopCpu {
     /// An online CPU that has done nothing.
-    pub(crate) fn new(seat: CpuSeat, number: u32) -> StopCpu
+    pub(crate) fn new(seat: StopSeat, number: u32) -> StopCpu
         requires fresh { seat.known ≡ fresh seat.known.setting number }
         requires below { number < cpus }
         requires online { has seat.known.setting.online number ≡ true }

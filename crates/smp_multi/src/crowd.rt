@@ -5,7 +5,7 @@ ghost use Rattle.smp_start.specs.Crowd.{StandsFirst};
 ghost use Rattle.smp_multi.specs.Together.{AllAreInStep, AllWaitFor, AreAllTogether, values};
 
 use crate::cpu::StopCpu;
-use crate::seat::{SeatCrowd, all_together, gather, give, take};
+use crate::seat::{StopSeatCrowd, all_together, gather, give, take};
 use crate::table::StopTable;
 use std::alloc::Allocator;
 use std::marker::Model;
@@ -14,7 +14,7 @@ use std::marker::Model;
 /// there is not, so no call can be made with it. It has no bytes.
 #[derive(Drop)]
 pub struct StopCrowd {
-    seats: SeatCrowd,
+    seats: StopSeatCrowd,
 }
 
 impl Model for StopCrowd {

@@ -6,7 +6,7 @@ ghost use Rattle.smp_multi.specs.Reads.{jumps};
 ghost use Rattle.smp_multi.specs.Cpu.{CpuValue};
 ghost use Rattle.smp_multi.specs.CallLaws.{CallsAlone, CallsAreListed, StepsAreCalls};
 ghost use Rattle.smp_multi.specs.LabelLaws.{LabelsAreLawful, CountsAreSums};
-ghost use Rattle.smp_multi.specs.Laws.{IsShown, FunctionsRunAlone};
+ghost use Rattle.smp_multi.specs.Laws.{StopsAreShown, FunctionsRunAlone};
 ghost use Rattle.smp_multi.specs.PatchLaws.{PatchesMoveCounts};
 ghost use Rattle.smp_multi.specs.Polls.{OwnAnswersAgree};
 ghost use Rattle.smp_multi.specs.Together.{AreTogether, AreInStep, WaitsFor};
@@ -19,7 +19,7 @@ use std::alloc::Allocator;
 /// Whatever the threads of other CPUs do: this CPU's value is its part of stops that words of its table show, which
 /// keep all laws of the stop half.
 pub fn is_shown<A: Allocator>(table: &StopTable<A>, cpu: &StopCpu)
-    ensures { IsShown cpu.now }
+    ensures { StopsAreShown cpu.now }
 {
     let _ = table;
     let _number = cpu.number;

@@ -4,7 +4,7 @@
 ghost use Rattle.std.specs.Prelude.{◌≡◌, ℕ, ◌<◌, ◌==◌, if◌then◌else◌};
 ghost use Rattle.smp_labels.specs.declared.words.TheConstants.{MOST_KEYS};
 ghost use Rattle.smp_stop_steps.specs.Known.{stepped};
-ghost use Rattle.smp_multi.specs.Lives.{Lives, Moment};
+ghost use Rattle.smp_multi.specs.Lives.{Lives, StopMoment};
 ghost use Rattle.smp_stop_steps.specs.KnownAfter.{counted};
 ghost use Rattle.smp_stop_steps.specs.Sits.{IsNudge};
 ghost use Rattle.smp_stop_steps.specs.Stages.{nudge_of};
@@ -13,7 +13,7 @@ ghost use Rattle.smp_multi.specs.Nudges.{NudgeKnown, lost_known};
 ghost use Rattle.smp_multi.specs.Reads.{MayRead};
 
 use crate::read::load_count;
-use crate::seat::{CpuSeat, Words, exchange};
+use crate::seat::{SharedStopWords, StopSeat, exchange};
 use smp_labels::{Change, is_on};
 use smp_mask::SmpError;
 use smp_words::word::Word;
@@ -37,7 +37,13 @@ fn change_of(up: bool) -> Change
 }
 
 /// Puts another count in a key's word, where this one is found: whether it was.
-fn exchange_count(words: Words<'_>, seat: &mut CpuSeat, k: u32, count: u64, next: u64) -> bool
+fn exchange_count(
+    words: SharedStopWords<'_>,
+    seat: &mut StopSeat,
+    k: u32,
+    count: u64,
+    next: u64,
+) -> bool
     requires at { MayRead words.shared.now.table_id seat.old }
     requires low { k < MOST_KEYS }
     requires nudge { IsNudge count next }
@@ -48,15 +54,15 @@ fn exchange_count(words: Words<'_>, seat: &mut CpuSeat, k: u32, count: u64, next
         nudged = counted seat.old.known.part.nudged k count next;
       };
     }) else lost_known k seat.old.known }
-    ensures then { (found : ℕ) × Moment seat.old.known (Key k) found × (result ≡ (found == count)) }
+    ensures then { (found : ℕ) × StopMoment seat.old.known (Key k) found × (result ≡ (found == count)) }
 {
     exchange(words, seat, Word::Key(k), count, next) == count
 }
 
 /// Moves a key's count up or down by one.
 pub(crate) fn try_key(
-    words: Words<'_>,
-    seat: &mut CpuSeat,
+    words: SharedStopWords<'_>,
+    seat: &mut StopSeat,
     k: u32,
     up: bool,
 ) -> Result<Nudge, SmpError>

@@ -6,7 +6,7 @@ ghost use Rattle.smp_labels.specs.Keys.{change_of};
 ghost use Rattle.smp_labels.specs.Plans.{plan_of};
 ghost use Rattle.smp_labels.specs.declared.words.TheConstants.{MOST_KEYS, MOST_SITES};
 ghost use Rattle.smp_stop_steps.specs.Known.{stepped};
-ghost use Rattle.smp_multi.specs.Lives.{Lives, Moment};
+ghost use Rattle.smp_multi.specs.Lives.{Lives, StopMoment};
 ghost use Rattle.smp_stop_steps.specs.Labels.{answer_for as answer_of_patch};
 ghost use Rattle.smp_stop_steps.specs.Stages.{visit_acked};
 ghost use Rattle.smp_multi.specs.Names.{Key, Patch, Rests};
@@ -19,7 +19,7 @@ ghost use Rattle.smp_multi.specs.Turns.{patched_by};
 
 use crate::round::pass;
 use crate::seat::patch_steps::{acknowledge_patch, store_plan};
-use crate::seat::{CpuSeat, Words, load};
+use crate::seat::{SharedStopWords, StopSeat, load};
 use arrayvec::ArrayVec;
 use smp_labels::{Change, Entry, MOST_CHANGES, MOST_SITES, Place, is_on, kind_of};
 use smp_stop_steps::stage::Visit;
@@ -27,7 +27,7 @@ use smp_words::field::Field;
 use smp_words::word::Word;
 
 /// Loads the key and the change of the patch.
-fn load_change(words: Words<'_>, seat: &mut CpuSeat, visit: Visit) -> (u32, Change)
+fn load_change(words: SharedStopWords<'_>, seat: &mut StopSeat, visit: Visit) -> (u32, Change)
     requires { AtRun words.shared.now.table_id seat.old visit Patch }
     ensures at { AtRun words.entry.shared.now.table_id seat.new visit Patch }
     ensures lives { Lives seat.new.known }
@@ -43,21 +43,21 @@ fn load_change(words: Words<'_>, seat: &mut CpuSeat, visit: Visit) -> (u32, Chan
 
 /// Loads the key: the patch leads from the count that is found here. From here until the CPU acknowledges the phase,
 /// whatever others do, every CPU of the mask has acknowledged disabled interrupts, and has them off.
-fn begin_patch(words: Words<'_>, seat: &mut CpuSeat, visit: Visit, key: u32) -> u64
+fn begin_patch(words: SharedStopWords<'_>, seat: &mut StopSeat, visit: Visit, key: u32) -> u64
     requires at { AtRun words.shared.now.table_id seat.old visit Patch }
     requires key { key ≡ (work_in seat.old.known.seat).func }
     requires low { key < MOST_KEYS }
     ensures at { AtPatch words.entry.shared.now.table_id seat.new visit }
     ensures lives { Lives seat.new.known }
     ensures alone { AloneWhile seat.new.known visit.slot }
-    ensures then { Moment seat.old.known (Key key) result }
+    ensures then { StopMoment seat.old.known (Key key) result }
     ensures known { seat.new.known ≡ stepped 1 (begins_with result seat.old.known.seat seat.old.known) }
 {
     load(words, seat, Word::Key(key))
 }
 
 /// Loads the entry of a site.
-fn load_entry(words: Words<'_>, seat: &mut CpuSeat, site: u32) -> u64
+fn load_entry(words: SharedStopWords<'_>, seat: &mut StopSeat, site: u32) -> u64
     requires table { seat.old.table ≡ words.shared.now.table_id }
     requires sized { words.shared.now.table_id.words ≡ cells }
     requires inside { IsInPatch seat.old.known }
@@ -74,8 +74,8 @@ fn load_entry(words: Words<'_>, seat: &mut CpuSeat, site: u32) -> u64
 /// The stores that lead from one count of a key to another: none where they are the same, the key's alone where it stays
 /// on, else those of its sites too, for which it loads the entries.
 fn load_plan(
-    words: Words<'_>,
-    seat: &mut CpuSeat,
+    words: SharedStopWords<'_>,
+    seat: &mut StopSeat,
     key: u32,
     count: u64,
     next: u64,
@@ -125,11 +125,11 @@ fn answer_for(next: Option<u64>) -> u64
 ///
 /// The patch stores while the phase is `RUN`. Every other CPU has acknowledged `DISABLE_IRQ` by then, and waits for the phase
 /// behind `RUN`. So no CPU reads a site whose key has changed while the site has not.
-pub(crate) fn patch_on(words: Words<'_>, seat: &mut CpuSeat, visit: Visit) -> Visit
+pub(crate) fn patch_on(words: SharedStopWords<'_>, seat: &mut StopSeat, visit: Visit) -> Visit
     requires { AtRun words.shared.now.table_id seat.old visit Patch }
     ensures at { AtTurn words.entry.shared.now.table_id seat.new result result.acked Rests }
     ensures lives { Lives seat.new.known }
-    ensures patched { (count : ℕ) × Moment (stepped 2 seat.old.known) (Key (work_in seat.old.known.seat).func) count
+    ensures patched { (count : ℕ) × StopMoment (stepped 2 seat.old.known) (Key (work_in seat.old.known.seat).func) count
         × (seat.new.known ≡ stepped (4 + patching seat.old.known.setting (work_in seat.old.known.seat) count)
         (patched_by count seat.old.known.seat seat.old.known))
         × (result ≡ visit_acked visit 0 false) }

@@ -10,7 +10,7 @@ ghost use Rattle.smp_stop_steps.specs.Stages.{visit_acked};
 ghost use Rattle.smp_multi.specs.Names.{Rests, Fills};
 ghost use Rattle.smp_multi.specs.Rounds.{AtTurn, passed_by};
 
-use crate::seat::{CpuSeat, Words, load, store, subtract};
+use crate::seat::{SharedStopWords, StopSeat, load, store, subtract};
 use smp_stop_steps::mask::weight;
 use smp_stop_steps::stage::Visit;
 use smp_words::field::Field;
@@ -18,7 +18,7 @@ use smp_words::phase::{DISABLE_IRQ, EXIT, RUN};
 use smp_words::word::Word;
 
 /// Loads the phase: the one that the CPU has acknowledged last, or the next one.
-pub(crate) fn look(words: Words<'_>, seat: &mut CpuSeat, visit: Visit) -> u64
+pub(crate) fn look(words: SharedStopWords<'_>, seat: &mut StopSeat, visit: Visit) -> u64
     requires at { AtTurn words.shared.now.table_id seat.old visit visit.acked Rests }
     requires more { visit.acked ≢ EXIT }
     ensures at { AtTurn words.entry.shared.now.table_id seat.new visit result Rests }
@@ -31,7 +31,7 @@ pub(crate) fn look(words: Words<'_>, seat: &mut CpuSeat, visit: Visit) -> u64
 }
 
 /// Acknowledges a phase in which it calls no function, and answers what was found in the count.
-fn acknowledge(words: Words<'_>, seat: &mut CpuSeat, visit: Visit) -> u64
+fn acknowledge(words: SharedStopWords<'_>, seat: &mut StopSeat, visit: Visit) -> u64
     requires at { AtTurn words.shared.now.table_id seat.old visit (visit.acked + 1) Rests }
     requires calm { visit.acked ≡ DISABLE_IRQ → has visit.active seat.old.known.number ≡ false }
     ensures table { seat.new.table ≡ words.entry.shared.now.table_id }
@@ -44,7 +44,7 @@ fn acknowledge(words: Words<'_>, seat: &mut CpuSeat, visit: Visit) -> u64
 /// As the last to acknowledge a phase, fills the count again and then stores the next phase. A CPU that sees the new phase
 /// acknowledges it at once, so the count has to be full by then (`set_state`: `thread_ack` is set before `state`, with a barrier
 /// between them). In the other order a CPU would take 1 from the old count, and the refill would undo that.
-fn raise(words: Words<'_>, seat: &mut CpuSeat, visit: Visit)
+fn raise(words: SharedStopWords<'_>, seat: &mut StopSeat, visit: Visit)
     requires at { AtTurn words.shared.now.table_id seat.old visit visit.acked Fills }
     ensures at { AtTurn words.entry.shared.now.table_id seat.new visit visit.acked Rests }
     ensures lives { Lives seat.new.known }
@@ -61,7 +61,7 @@ fn raise(words: Words<'_>, seat: &mut CpuSeat, visit: Visit)
 }
 
 /// A CPU whose decrement found 1 was the last to acknowledge. It stores the next phase.
-pub(crate) fn pass(words: Words<'_>, seat: &mut CpuSeat, visit: Visit, found: u64)
+pub(crate) fn pass(words: SharedStopWords<'_>, seat: &mut StopSeat, visit: Visit, found: u64)
     requires at { AtTurn words.shared.now.table_id seat.old visit visit.acked (if found == 1 then Fills else Rests) }
     requires lives { Lives seat.old.known }
     ensures at { AtTurn words.entry.shared.now.table_id seat.new visit visit.acked Rests }
@@ -74,7 +74,7 @@ pub(crate) fn pass(words: Words<'_>, seat: &mut CpuSeat, visit: Visit, found: u6
 }
 
 /// Acknowledges a phase in which it calls no function, and stores the next one as the last.
-pub(crate) fn move_on(words: Words<'_>, seat: &mut CpuSeat, visit: Visit) -> Visit
+pub(crate) fn move_on(words: SharedStopWords<'_>, seat: &mut StopSeat, visit: Visit) -> Visit
     requires at { AtTurn words.shared.now.table_id seat.old visit (visit.acked + 1) Rests }
     requires calm { visit.acked ≡ DISABLE_IRQ → has visit.active seat.old.known.number ≡ false }
     requires few { visit.acked ≤ RUN }

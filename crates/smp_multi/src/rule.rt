@@ -1,15 +1,15 @@
 //! The rule of the table: between any two steps its words show the stops that the CPUs know.
 
-use crate::seat_view::SeatView;
+use crate::seat_view::StopSeatView;
 use atomic_table::{Seat, Split, TableRule};
-use smp_stop_steps::known::Setting;
+use smp_stop_steps::known::StopSetting;
 
 /// The rule of the table. Its key is what the table is made with.
 pub struct StopRule;
 
-impl TableRule<(), SeatView, Setting> for StopRule {
+impl TableRule<(), StopSeatView, StopSetting> for StopRule {
     ghost use Rattle.smp_multi.specs.Rule.{Ruled};
-    ghost use Rattle.smp_multi.specs.declared.seat_view.SeatView.TheVariants.{Maker};
+    ghost use Rattle.smp_multi.specs.declared.seat_view.StopSeatView.TheVariants.{Maker};
 
     ghost holds = { λ k. Ruled k };
 
@@ -17,9 +17,9 @@ impl TableRule<(), SeatView, Setting> for StopRule {
 }
 
 /// The first seat makes a seat for the next CPU.
-pub struct NextSeat;
+pub struct NextStopSeat;
 
-impl Split<SeatView> for NextSeat {
+impl Split<StopSeatView> for NextStopSeat {
     ghost use Rattle.smp_multi.specs.Rule.{after, seat_made};
 
     ghost left = { after };
@@ -28,4 +28,4 @@ impl Split<SeatView> for NextSeat {
 }
 
 /// A seat at the table.
-pub type RawSeat = Seat<(), SeatView>;
+pub type RawStopSeat = Seat<(), StopSeatView>;

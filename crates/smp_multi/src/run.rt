@@ -16,15 +16,15 @@ ghost use Rattle.smp_multi.specs.Turns.{TurnAnswers};
 use crate::answer::{answer_one, answer_run};
 use crate::func::StopFunc;
 use crate::seat::run_steps::begin_one;
-use crate::seat::{CpuSeat, Words};
+use crate::seat::{SharedStopWords, StopSeat};
 use crate::turn::{Go, Turn, begin_turn};
 use smp_stop_steps::stage::Visit;
 use smp_words::phase::EXIT;
 
 /// Calls the function of the stop of this slot, and completes with its answer.
 pub(crate) fn run_one<F: StopFunc>(
-    words: Words<'_>,
-    seat: &mut CpuSeat,
+    words: SharedStopWords<'_>,
+    seat: &mut StopSeat,
     number: u32,
     slot: u32,
     func: &mut F,
@@ -45,8 +45,8 @@ pub(crate) fn run_one<F: StopFunc>(
 
 /// One turn. Where it comes to the call of a function, calls it, and acknowledges `RUN` with its answer.
 pub(crate) fn take_turn<F: StopFunc>(
-    words: Words<'_>,
-    seat: &mut CpuSeat,
+    words: SharedStopWords<'_>,
+    seat: &mut StopSeat,
     number: u32,
     visit: Visit,
     func: &mut F,

@@ -6,8 +6,8 @@ pub(crate) mod patch_steps;
 mod plays;
 pub(crate) mod run_steps;
 
-pub(crate) use access::crowd::{SeatCrowd, all_together, gather, give, take};
+pub(crate) use access::crowd::{StopSeatCrowd, all_together, gather, give, take};
 pub(crate) use access::{
-    CpuSeat, Owner, SeatMaker, Words, exchange, lay, load, mask, next_seat, store, subtract,
-    together,
+    OwnedStopWords, SharedStopWords, StopSeat, StopSeatMaker, exchange, lay, load, mask, next_seat,
+    store, subtract, together,
 };

@@ -42,12 +42,12 @@ use crate::gate::{leave_gate, take_gate};
 use crate::nudge::Nudge;
 use crate::poll::{collect, is_done};
 use crate::run::take_turn;
-use crate::seat::{CpuSeat, Owner, lay, next_seat};
+use crate::seat::{OwnedStopWords, StopSeat, lay, next_seat};
 use crate::turn::Turn;
 use crate::{begin, complete, enter, nudge, read, run};
 use smp_labels::{LabelMap, SiteKind};
 use smp_mask::{CpuMask, SmpError};
-use smp_stop_steps::known::Setting;
+use smp_stop_steps::known::StopSetting;
 use smp_stop_steps::start::{Terms, has_slot};
 use smp_words::limits::are_limits;
 use smp_words::phase::EXIT;
@@ -62,9 +62,9 @@ use std::marker::Model;
 #[repr(C)]
 pub struct StopTable<A: Allocator> {
     before: [u64; 8],
-    pub(crate) owner: Owner<A>,
+    pub(crate) owner: OwnedStopWords<A>,
     nr: u32,
-    setting: Setting,
+    setting: StopSetting,
     after: [u64; 8],
 }
 
@@ -80,7 +80,7 @@ impl<A: Allocator> Model for StopTable<A> {
 }
 
 /// The CPU of a seat, if there is one.
-fn cpu_if(seat: Option<CpuSeat>, number: u32) -> Option<StopCpu>
+fn cpu_if(seat: Option<StopSeat>, number: u32) -> Option<StopCpu>
     requires fresh { IfSome seat (λ s. (s.known ≡ fresh s.known.setting number) × (has s.known.setting.online number ≡ true) × Lives s.known) }
     requires below { number < cpus }
     ensures { result ≡ option_map (λ s. fresh_cpu s.table s.known.setting number) seat }
@@ -95,7 +95,7 @@ fn cpu_if(seat: Option<CpuSeat>, number: u32) -> Option<StopCpu>
 fn build<A: Allocator>(
     alloc: A,
     nr: u32,
-    setting: Setting,
+    setting: StopSetting,
 ) -> Result<(StopTable<A>, StopBoot<A>), AllocError>
 where
     A: Copy,
@@ -146,7 +146,7 @@ impl<A: Allocator> StopTable<A> {
         if !are_limits(nr, online) {
             return Err(SmpError::BadArgument);
         }
-        let setting = Setting {
+        let setting = StopSetting {
             online,
             labels: labels.copy(),
         };

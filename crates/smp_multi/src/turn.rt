@@ -10,7 +10,7 @@ ghost use Rattle.smp_multi.specs.Rounds.{AtTurn};
 use crate::patch::patch_on;
 use crate::round::{look, move_on};
 use crate::seat::run_steps::begin_run;
-use crate::seat::{CpuSeat, Words};
+use crate::seat::{SharedStopWords, StopSeat};
 use smp_stop_steps::mask::has_bit;
 use smp_stop_steps::stage::Visit;
 use smp_words::phase::{EXIT, RUN};
@@ -47,7 +47,12 @@ fn calls_at(state: u64, visit: Visit, number: u32) -> bool
 }
 
 /// One turn, or the part of it before the call of the function.
-pub(crate) fn begin_turn(words: Words<'_>, seat: &mut CpuSeat, number: u32, visit: Visit) -> Go
+pub(crate) fn begin_turn(
+    words: SharedStopWords<'_>,
+    seat: &mut StopSeat,
+    number: u32,
+    visit: Visit,
+) -> Go
     requires at { AtTurn words.shared.now.table_id seat.old visit visit.acked Rests }
     requires more { visit.acked ≢ EXIT }
     requires several { visit.kind ≢ One }

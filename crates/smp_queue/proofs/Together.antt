@@ -9,12 +9,12 @@ use Rattle.atomic_table.specs.Table.{State}
 use Rattle.smp_call_steps.specs.Histories.{calls_from, calls_to, running_call}
 use Rattle.smp_call_steps.specs.Order.{IsPrefix, of_class}
 use Rattle.smp_call_steps.proofs.Headline.{run_as_sent}
-use Rattle.smp_queue.specs.{Known, Setting, SeatView, Ruled, known, IsCpuSeat, SeatValue, CpuValue, cpu_of}
+use Rattle.smp_queue.specs.{KnownCalls, CallSetting, CallSeatView, Ruled, known, IsCpuSeat, SeatValue, CpuValue, cpu_of}
 use Rattle.smp_queue.specs.Together.{KnowTogether, AreTogether, RunsWhatIsSent, CallsNow, IsPartOf, seats_of, AreCpuSeats, SeeAll}
 use Rattle.smp_queue.specs.Together.{KnowAllTogether, cpus_at, values, ArePartsOf, AreAllTogether, AllRunWhatIsSent}
 use Rattle.smp_queue.proofs.TheRule.Keeps.{knows_as}
 
-pub know_together : {S : Type 0} (k : Setting) (s : State S SeatView) (i j : ℕ) (u v : SeatView) → Ruled k s → IsCpuSeat u → IsCpuSeat v
+pub know_together : {S : Type 0} (k : CallSetting) (s : State S CallSeatView) (i j : ℕ) (u v : CallSeatView) → Ruled k s → IsCpuSeat u → IsCpuSeat v
     → get_elem? s.views i ≡ some u → get_elem? s.views j ≡ some v → KnowTogether (known u) (known v)
 know_together k s i j u v r is js at to =
     let one = knows_as k r.calls r.controls r.seat r.next i u is (r.each_seat i u at) in
@@ -56,28 +56,29 @@ pub of_both : {A B : Type 0} (R : A → B → Type 0) {a x : A} {b y : B} → a 
 of_both R {a} {x} {b} {y} e f k = subst (λ v. R v y) e (subst (λ w. R a w) f k)
 
 -- all seats of a moment
-module _ (k : Setting) (s : State (Unit {0}) SeatView) (r : Ruled k s) where
+module _ (k : CallSetting) (s : State (Unit {0}) CallSeatView) (r : Ruled k s) where
   abbrev now : CallsNow
   now = record { calls = r.calls; at = _; controls = r.controls; shown = r.shown }
 
-  sees_all : (ms : List (TableId × (ℕ × Me (Unit {0}) SeatView))) → AreCpuSeats ms → IsMoment s ms → SeeAll now k (seats_of ms)
+  sees_all : (ms : List (TableId × (ℕ × Me (Unit {0}) CallSeatView))) → AreCpuSeats ms → IsMoment s ms → SeeAll now k (seats_of ms)
   sees_all [] are at = tt
   sees_all (m ∷ ms) are at =
       let one = knows_as k r.calls r.controls r.seat r.next m.1.0 m.1.1.0 are.0 (r.each_seat m.1.0 m.1.1.0 at.0) in
       ((one.3, one.2), sees_all ms are.1 at.1)
 
-  pub know_all_together : (ms : List (TableId × (ℕ × Me (Unit {0}) SeatView))) → AreCpuSeats ms → IsMoment s ms → KnowAllTogether (seats_of ms)
+  pub know_all_together : (ms : List (TableId × (ℕ × Me (Unit {0}) CallSeatView))) → AreCpuSeats ms → IsMoment s ms → KnowAllTogether (seats_of ms)
   know_all_together ms are at = record { now = now; setting = k; parts = sees_all ms are at }
 
-are_parts : (here : CallsNow) (k : Setting) (table : TableId) (ms : List (TableId × Known)) → SeeAll here k ms → ArePartsOf here k (values (cpus_at table ms))
+are_parts : (here : CallsNow) (k : CallSetting) (table : TableId) (ms : List (TableId × KnownCalls)) → SeeAll here k ms
+    → ArePartsOf here k (values (cpus_at table ms))
 are_parts here k table [] all = tt
 are_parts here k table (m ∷ ms) all =
     ((λ i. record (cpu_of (record { table = table; known = m.1 })) { part = sym all.0.0.part i }, all.0.1), are_parts here k table ms all.1)
 
-pub are_all_together : (table : TableId) (ms : List (TableId × Known)) → KnowAllTogether ms → AreAllTogether (values (cpus_at table ms))
+pub are_all_together : (table : TableId) (ms : List (TableId × KnownCalls)) → KnowAllTogether ms → AreAllTogether (values (cpus_at table ms))
 are_all_together table ms t = record { now = t.now; setting = t.setting; parts = are_parts t.now t.setting table ms t.parts }
 
-pub part_at : (here : CallsNow) (k : Setting) (cs : List CpuValue) → ArePartsOf here k cs → (i : ℕ) (d : CpuValue) → i < length cs
+pub part_at : (here : CallsNow) (k : CallSetting) (cs : List CpuValue) → ArePartsOf here k cs → (i : ℕ) (d : CpuValue) → i < length cs
     → IsPartOf here (slice_index_or cs i d) × ((slice_index_or cs i d).setting ≡ k)
 part_at here k [] all i d l = absurd (omega arith)
 part_at here k (c ∷ cs) all zero d l = all.0

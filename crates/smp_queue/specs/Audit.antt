@@ -7,7 +7,7 @@ use Rattle.smp_call_steps.specs.Histories.{sent_to, calls_from, marked_from, bat
 use Rattle.smp_call_steps.specs.Known.{Sees, fresh}
 use Rattle.smp_call_steps.specs.Shows.{Shows}
 use Rattle.smp_call_steps.specs.Stages.{ControlValue}
-use Rattle.smp_queue.specs.Names.{Word, Head, Hand, Queued, Ran, Flags, Known, Setting, Left, Tally, Audit}
+use Rattle.smp_queue.specs.Names.{Word, Head, Hand, Queued, Ran, Flags, KnownCalls, CallSetting, Left, Tally, Audit}
 use Rattle.smp_queue.specs.Names.audit
 use Rattle.smp_queue.specs.Cells.{number_in}
 use Rattle.smp_queue.specs.Rule.{IsQuiet}
@@ -57,7 +57,7 @@ AuditAnswers at (audit.Drained t) = (left_in at ≡ nothing_left) × IsTally at 
 AuditAnswers at (audit.Left left) = (left_in at ≡ left) × (left ≢ nothing_left)
 
 -- these words show some calls of the CPUs of a table made with this, of which this is one CPU's part
-pub record Closes (k : Setting) (v : Known) (words : List ℕ) : Type 0 where
+pub record Closes (k : CallSetting) (v : KnownCalls) (words : List ℕ) : Type 0 where
   pub calls : CallState
   pub controls : ℕ → ControlValue
   pub shown : Shows calls (number_in words) controls

@@ -12,7 +12,7 @@ use Rattle.smp_call_steps.specs.Places.{IsCall}
 use Rattle.smp_call_steps.specs.Stands.{posted}
 use Rattle.smp_call_steps.specs.Calls.{CallState, no_calls}
 use Rattle.smp_call_steps.specs.Parts.{part_of, part_confirmed, part_sent, part_queued}
-use Rattle.smp_queue.specs.Names.{Class, Known, Part, Posting, Logged, DirectCall, HeadSeen, Setting}
+use Rattle.smp_queue.specs.Names.{Class, KnownCalls, CallPart, Posting, Logged, DirectCall, HeadSeen, CallSetting}
 use Rattle.smp_queue.specs.Names.logged
 use Rattle.smp_call_steps.specs.Known.{posting_of}
 use Rattle.smp_call_steps.specs.Heads.{Found, last_found, times_lost, heads_with, heads_won, AreOthers}
@@ -25,11 +25,11 @@ pub record TableValue : Type 0 where
   pub online : ℕ
 
 -- what it is made with
-abbrev pub setting_of : TableValue → Setting
+abbrev pub setting_of : TableValue → CallSetting
 setting_of t = record { nr = t.nr; online = t.online }
 
 -- the table of this name that is made with this
-abbrev pub table_with : TableId → Setting → TableValue
+abbrev pub table_with : TableId → CallSetting → TableValue
 table_with table k = record { table = table; nr = k.nr; online = k.online }
 
 -- a CPU between two calls: its table, what that is made with, its number, its own part of the calls, how many
@@ -38,9 +38,9 @@ table_with table k = record { table = table; nr = k.nr; online = k.online }
 -- many of these and how many takes of its interrupt word it had made when it last queued a call or sent an interrupt
 pub record CpuValue : Type 0 where
   pub table : TableId
-  pub setting : Setting
+  pub setting : CallSetting
   pub number : ℕ
-  pub part : Part
+  pub part : CallPart
   pub tried : ℕ
   pub heads : List HeadSeen
   pub log : List Logged
@@ -66,7 +66,7 @@ cpu_of d = record {
 }
 
 -- a CPU at this table, with its part of these calls
-abbrev pub cpu_in : TableId → Setting → CallState → CpuValue → CpuValue
+abbrev pub cpu_in : TableId → CallSetting → CallState → CpuValue → CpuValue
 cpu_in table k calls c = record c { table = table; setting = k; part = part_of calls c.number }
 
 -- a CPU of this table that has done nothing: all its records are confirmed, and it has made no step
@@ -86,7 +86,7 @@ fresh_cpu t cpu = record {
 }
 
 -- what a CPU keeps between two calls: it is online and outside a command, and its counts are those of its calls
-pub record IsKept (v : Known) (number : ℕ) (queued ran : List ℕ) : Type 0 where
+pub record IsKept (v : KnownCalls) (number : ℕ) (queued ran : List ℕ) : Type 0 where
   pub number_is : v.number ≡ number
   pub below : number < cpus
   pub online : has v.setting.online number ≡ true

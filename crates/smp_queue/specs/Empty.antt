@@ -4,7 +4,7 @@ use Rattle.atomic_table.specs.Table.{State}
 use Rattle.smp_words.specs.Size.{records}
 use Rattle.smp_call_steps.specs.Calls.{CallState}
 use Rattle.smp_call_steps.specs.declared.place.RecPlace.TheVariants as place
-use Rattle.smp_queue.specs.Names.{Word, SeatView}
+use Rattle.smp_queue.specs.Names.{Word, CallSeatView}
 use Rattle.smp_queue.specs.Cells.{number_in}
 use Rattle.smp_queue.specs.Rule.{Ruled, NoneHasBegun}
 use Rattle.smp_queue.specs.Cpu.{TableValue, setting_of}
@@ -19,4 +19,4 @@ pub record IsEmpty (a : CallState) (at : Word → ℕ) : Type 0 where
 
 -- so the table is, with all its words, at any time at which no seat's CPU has made a step
 abbrev pub BeginsEmpty : TableValue → Type 0
-BeginsEmpty t = (s : State (Unit {0}) SeatView) (r : Ruled (setting_of t) s) → NoneHasBegun s → IsEmpty r.calls (number_in s.words)
+BeginsEmpty t = (s : State (Unit {0}) CallSeatView) (r : Ruled (setting_of t) s) → NoneHasBegun s → IsEmpty r.calls (number_in s.words)

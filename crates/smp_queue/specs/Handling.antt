@@ -3,7 +3,7 @@ use Rattle.std.specs.Prelude.{◌≡◌, ℕ, ◌%◌, ◌^◌, ◌<◌, Bool, L
 use Rattle.std.specs.List.{FoldsTo}
 use Rattle.smp_words.specs.Size.{cpus, owner}
 use Rattle.smp_call_steps.specs.Order.{order}
-use Rattle.smp_queue.specs.Names.{Call, Known, Nothing, Heard}
+use Rattle.smp_queue.specs.Names.{Call, KnownCalls, Nothing, Heard}
 use Rattle.smp_call_steps.specs.Histories.{calls_from}
 use Rattle.smp_call_steps.specs.Parts.{part_accepted, part_taken}
 use Rattle.smp_queue.specs.Cpu.{CpuValue}
@@ -28,6 +28,6 @@ abbrev pub drains : List Call → CpuValue → CpuValue
 drains batch c = record c { part = record (part_taken batch c.part) { batch = []; running = Nothing; ran = c.part.ran ++ order batch } }
 
 -- these are the numbers of the calls that a CPU has run, by their source
-pub record AreRan (counts : List ℕ) (v : Known) : Type 0 where
+pub record AreRan (counts : List ℕ) (v : KnownCalls) : Type 0 where
   pub sized : length counts ≡ cpus
   pub are : (source : ℕ) → source < cpus → slice_index_or counts source 0 ≡ length (calls_from source v.part.ran) % 2 ^ 64

@@ -36,7 +36,7 @@ IsSeenTo online a cpu = (a.queue cpu ≡ []) ⊎ ((a.pending cpu ≡ true) ⊎ (
 -- its table and online, and the CPUs that its table does not have, or that are not online, have done nothing. Those that are
 -- not online have nothing to take, and a CPU that has a queue is seen to by its interrupt, or by one that is online. Calls by
 -- confirmed records have run, those of all CPUs and those of this one.
-pub record IsShown (c : CpuValue) : Type 0 where
+pub record CallsAreShown (c : CpuValue) : Type 0 where
   pub calls : CallState
   pub at : Word → ℕ
   pub controls : ℕ → ControlValue

@@ -7,14 +7,14 @@ pub use Rattle.smp_words.specs.declared.word.Word.TheVariants.{Head, Intr, Hand,
 pub use Rattle.smp_words.specs.declared.access.Access.{Access}
 pub use Rattle.smp_words.specs.declared.access.Access.TheVariants.{Load, Store, Swap, Exchange}
 pub use Rattle.smp_words.specs.declared.seen.Act.TheVariants as act
-pub use Rattle.smp_call_steps.specs.declared.known.Known.{Known}
-pub use Rattle.smp_call_steps.specs.declared.known.Part.{Part}
+pub use Rattle.smp_call_steps.specs.declared.known.KnownCalls.{KnownCalls}
+pub use Rattle.smp_call_steps.specs.declared.known.CallPart.{CallPart}
 pub use Rattle.smp_call_steps.specs.declared.known.Logged.{Logged}
 pub use Rattle.smp_call_steps.specs.declared.known.DirectCall.{DirectCall}
 pub use Rattle.smp_call_steps.specs.declared.known.Logged.TheVariants as logged
 pub use Rattle.smp_call_steps.specs.declared.known.HeadSeen.{HeadSeen}
 pub use Rattle.smp_call_steps.specs.declared.known.HeadSeen.TheVariants as head
-pub use Rattle.smp_call_steps.specs.declared.known.Setting.{Setting}
+pub use Rattle.smp_call_steps.specs.declared.known.CallSetting.{CallSetting}
 pub use Rattle.smp_call_steps.specs.declared.known.Running.TheVariants.{Nothing}
 pub use Rattle.smp_call_steps.specs.declared.post.Posting.{Posting}
 pub use Rattle.smp_call_steps.specs.declared.post.PostStage.{PostStage}
@@ -25,8 +25,8 @@ pub use Rattle.smp_call_steps.specs.declared.handle.HandleStage.TheVariants as h
 pub use Rattle.smp_call_steps.specs.declared.stage.Stage.{Stage}
 pub use Rattle.smp_call_steps.specs.declared.stage.Stage.TheVariants.{Send, Done, Post, Handle}
 pub use Rattle.smp_queue.specs.declared.handler.Heard.{Heard}
-pub use Rattle.smp_queue.specs.declared.seat_view.SeatView.{SeatView}
-pub use Rattle.smp_queue.specs.declared.seat_view.SeatView.TheVariants.{Maker, New, Cpu}
+pub use Rattle.smp_queue.specs.declared.seat_view.CallSeatView.{CallSeatView}
+pub use Rattle.smp_queue.specs.declared.seat_view.CallSeatView.TheVariants.{Maker, New, Cpu}
 pub use Rattle.smp_queue.specs.declared.audit.Left.{Left}
 pub use Rattle.smp_queue.specs.declared.audit.Tally.{Tally}
 pub use Rattle.smp_queue.specs.declared.audit.Audit.{Audit}

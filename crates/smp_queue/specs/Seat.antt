@@ -7,8 +7,9 @@ use Rattle.smp_words.specs.Size.{cpus, records, owner}
 use Rattle.smp_call_steps.specs.Places.{IsCall}
 use Rattle.smp_call_steps.specs.Histories.{sent_to}
 use Rattle.smp_call_steps.specs.Stands.{posted}
-use Rattle.smp_call_steps.specs.Known.{MayStep, known_access, posting_of, known_told, Lives, Moment}
-use Rattle.smp_queue.specs.Names.{Word, Access, Store, Known, Posting, HandleStage, Stage, Post, Handle, SeatView, Maker, Head, Intr, Swap, Exchange, Setting}
+use Rattle.smp_call_steps.specs.Known.{MayStep, known_access, posting_of, known_told, Lives, CallMoment}
+use Rattle.smp_queue.specs.Names.{Word, Access, Store, KnownCalls, Posting, HandleStage, Stage, Post, Handle, CallSeatView, Maker}
+use Rattle.smp_queue.specs.Names.{Head, Intr, Swap, Exchange, CallSetting}
 use Rattle.smp_queue.specs.Names.post
 use Rattle.smp_queue.specs.Names.act
 use Rattle.smp_queue.specs.Names.handle
@@ -17,15 +18,15 @@ use Rattle.smp_queue.specs.Cells.{cells, HasCell}
 -- the table that a CPU sits at, and what it knows
 pub record SeatValue : Type 0 where
   pub table : TableId
-  pub known : Known
+  pub known : KnownCalls
 
 -- the seat of a CPU
-abbrev pub IsCpuSeat : SeatView → Type 0
+abbrev pub IsCpuSeat : CallSeatView → Type 0
 IsCpuSeat (Maker n k) = ⊥
 IsCpuSeat _ = Unit {0}
 
 -- a CPU that knows this may make this access
-pub record MayAccess (v : Known) (access : Access) : Type 0 where
+pub record MayAccess (v : KnownCalls) (access : Access) : Type 0 where
   pub stage : Stage
   pub aims : MayStep v stage
   pub is_access : known_access v stage ≡ access
@@ -40,7 +41,7 @@ IsApartFromCalls (Handle (handle.CountAsync call next)) = ⊥
 IsApartFromCalls _ = Unit {0}
 
 -- the head that an access changes is that of a CPU that is online in this table, or the own; the same of an interrupt word
-abbrev pub Reaches : Setting → Known → Access → Type 0
+abbrev pub Reaches : CallSetting → KnownCalls → Access → Type 0
 Reaches k v (Store (Head to) n) = ⊥
 Reaches k v (Store (Intr to) n) = has k.online to ≡ true
 Reaches k v (Exchange (Head to) old n) = has k.online to ≡ true
@@ -50,7 +51,7 @@ Reaches k v (Swap (Intr cpu) n) = cpu ≡ v.number
 Reaches k v _ = Unit {0}
 
 -- a CPU may make this access at this table, which begins, counts and ends no call
-pub record Ready (table : TableId) (key : Setting) (seat : SeatValue) (access : Access) : Type 0 where
+pub record Ready (table : TableId) (key : CallSetting) (seat : SeatValue) (access : Access) : Type 0 where
   pub table_is : seat.table ≡ table
   pub sized : table.words ≡ cells
   pub can : MayAccess seat.known access
@@ -63,7 +64,7 @@ pub record Loads (t : TableId) (old new : SeatValue) (word : Word) (number : ℕ
   pub table : new.table ≡ t
   pub lives : Lives new.known
   pub known : new.known ≡ known_told old.known act.Load word (Some number) None
-  pub moment : Moment old.known word number
+  pub moment : CallMoment old.known word number
 
 -- a CPU of this number outside a command
 pub record IsOutside (table : TableId) (seat : SeatValue) (number : ℕ) : Type 0 where
@@ -109,12 +110,12 @@ pub record IsMine (table : TableId) (seat : SeatValue) (p : Posting) : Type 0 wh
   pub to_in_range : p.to < cpus
 
 -- a CPU that is about to count a call, and how many it has queued for the same CPU
-pub record IsCounting (v : Known) (p : Posting) (number count : ℕ) : Type 0 where
+pub record IsCounting (v : KnownCalls) (p : Posting) (number count : ℕ) : Type 0 where
   pub stage : v.stage ≡ Some (Post (uncounted p) post.Count)
   pub number_is : v.number ≡ number
   pub count_is : count ≡ length (sent_to p.to v.part.sent) % 2 ^ 64
 
 -- how many calls a CPU has queued for a call's destination
-pub record IsTallied (v : Known) (p : Posting) (number count : ℕ) : Type 0 where
+pub record IsTallied (v : KnownCalls) (p : Posting) (number count : ℕ) : Type 0 where
   pub number_is : v.number ≡ number
   pub count_is : count ≡ length (sent_to p.to v.part.sent) % 2 ^ 64

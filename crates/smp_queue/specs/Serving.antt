@@ -10,9 +10,9 @@ use Rattle.smp_call_steps.specs.Handling.{runs_next}
 use Rattle.smp_call_steps.specs.Histories.{sent_to}
 use Rattle.smp_call_steps.specs.Known.{Lives}
 use Rattle.smp_call_steps.specs.Parts.{part_taken, part_ended}
-use Rattle.smp_queue.specs.Names.{Call, Class, Sync, Async, Word, Hand, Flags, Known, HandleStage, Handle, Nothing, Heard}
+use Rattle.smp_queue.specs.Names.{Call, Class, Sync, Async, Word, Hand, Flags, KnownCalls, HandleStage, Handle, Nothing, Heard}
 use Rattle.smp_queue.specs.Names.handle
-use Rattle.smp_queue.specs.Rule.{Sits}
+use Rattle.smp_queue.specs.Rule.{SeatInvariant}
 use Rattle.smp_queue.specs.Seat.{SeatValue, InHandle}
 use Rattle.smp_queue.specs.Cpu.{CpuValue, cpu_of}
 use Rattle.smp_queue.specs.Handling.{AreRan, Grows, heard_of, asks}
@@ -58,7 +58,7 @@ abbrev pub running_as : Call → Running
 running_as call = running_by call.class call
 
 -- a CPU whose call is out
-abbrev pub gives : Place → Known → Known
+abbrev pub gives : Place → KnownCalls → KnownCalls
 gives p v = record v { stage = Some (Handle (out_at p)); part = runs_next (running_as p.call) v.part }
 
 -- the words of a call that is out: a SYNC call's record is locked, and the handling word of its CPU names it; an ASYNC
@@ -68,8 +68,8 @@ ShowsOut Sync at me call = (at (Flags call.id) % 2 ≡ 1) × (at (Hand me) ≡ c
 ShowsOut Async at me call = at (Flags call.id) ≡ 0
 
 -- some words of its CPU's table are so
-abbrev pub IsOut : Known → Call → Type 0
-IsOut v call = (s : Sits v) × ShowsOut call.class s.lives.at v.number call
+abbrev pub IsOut : KnownCalls → Call → Type 0
+IsOut v call = (s : SeatInvariant v) × ShowsOut call.class s.lives.at v.number call
 
 -- the front of the batch is out
 pub record Gives (t : TableId) (old new : SeatValue) (p : Place) : Type 0 where
@@ -111,7 +111,7 @@ Begins t old new None = (new.table ≡ t) × Lives new.known × (new.known.stage
 Begins t old new (Some b) = (queue : List Call) × (b.calls ≡ length queue) × IsAt t (takes queue (asks true (cpu_of old))) new b.first
 
 -- the front of the batch has run, its handler has heard it, and its CPU has gone on
-pub record HasRun {H : Type 0} (leads : H → Heard → H → Type 0) (t : TableId) (old new : SeatValue) (call : Call) (found : Option Place) (counts : List ℕ)
+pub record HasRunCall {H : Type 0} (leads : H → Heard → H → Type 0) (t : TableId) (old new : SeatValue) (call : Call) (found : Option Place) (counts : List ℕ)
     (before after : H) : Type 0 where
   pub batch : old.known.part.batch ≡ call ∷ new.known.part.batch
   pub at : IsAt t (has_run (call ∷ []) new.known.part.batch (cpu_of old)) new found
@@ -128,7 +128,7 @@ pub record HasRunAll {H : Type 0} (leads : H → Heard → H → Type 0) (t : Ta
   pub grows : Grows leads before (old.known.part.batch) after
 
 -- what a CPU keeps inside handle
-pub record IsKeptInside (v : Known) (number : ℕ) (queued ran : List ℕ) : Type 0 where
+pub record IsKeptInside (v : KnownCalls) (number : ℕ) (queued ran : List ℕ) : Type 0 where
   pub number_is : v.number ≡ number
   pub below : number < cpus
   pub online : has v.setting.online number ≡ true
@@ -138,7 +138,7 @@ pub record IsKeptInside (v : Known) (number : ℕ) (queued ran : List ℕ) : Typ
   pub ran_are : AreRan ran v
 
 -- what it keeps while this call is out
-pub record IsServing (v : Known) (number : ℕ) (queued ran : List ℕ) (p : Place) : Type 0 where
+pub record IsServing (v : KnownCalls) (number : ℕ) (queued ran : List ℕ) (p : Place) : Type 0 where
   pub kept : IsKeptInside v number queued ran
   pub stage_is : v.stage ≡ Some (Handle (out_at p))
   pub running_is : v.part.running ≡ running_as p.call

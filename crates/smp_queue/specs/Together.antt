@@ -8,7 +8,7 @@ use Rattle.smp_call_steps.specs.Known.{Sees}
 use Rattle.smp_call_steps.specs.Order.{IsPrefix, of_class}
 use Rattle.smp_call_steps.specs.Shows.{Shows}
 use Rattle.smp_call_steps.specs.Stages.{ControlValue}
-use Rattle.smp_queue.specs.Names.{Class, Known, SeatView, Setting, Word}
+use Rattle.smp_queue.specs.Names.{Class, KnownCalls, CallSeatView, CallSetting, Word}
 use Rattle.smp_queue.specs.Rule.{known}
 use Rattle.smp_queue.specs.Seat.{IsCpuSeat}
 use Rattle.smp_queue.specs.Cpu.{CpuValue, cpu_in, cpu_of}
@@ -25,7 +25,7 @@ abbrev pub IsPartOf : CallsNow → CpuValue → Type 0
 IsPartOf now c = c ≡ cpu_in c.table c.setting now.calls c
 
 -- what two CPUs know is their parts of the same calls
-pub record KnowTogether (v w : Known) : Type 0 where
+pub record KnowTogether (v w : KnownCalls) : Type 0 where
   pub now : CallsNow
   pub one : Sees now.calls now.controls v
   pub other : Sees now.calls now.controls w
@@ -49,24 +49,24 @@ RunsWhatIsSent source target = (class : Class) →
 -- CPU knows
 pub record SeatsValue : Type 0 where
   pub table : TableId
-  pub seats : List (TableId × Known)
+  pub seats : List (TableId × KnownCalls)
 
-abbrev pub seats_of : List (TableId × (ℕ × Me (Unit {0}) SeatView)) → List (TableId × Known)
+abbrev pub seats_of : List (TableId × (ℕ × Me (Unit {0}) CallSeatView)) → List (TableId × KnownCalls)
 seats_of [] = []
 seats_of (m ∷ ms) = (m.0, known m.1.1.0) ∷ seats_of ms
 
-abbrev pub AreCpuSeats : List (TableId × (ℕ × Me (Unit {0}) SeatView)) → Type 0
+abbrev pub AreCpuSeats : List (TableId × (ℕ × Me (Unit {0}) CallSeatView)) → Type 0
 AreCpuSeats [] = Unit {0}
 AreCpuSeats (m ∷ ms) = IsCpuSeat m.1.1.0 × AreCpuSeats ms
 
 -- what all these CPUs know is their parts of these calls
-abbrev pub SeeAll : CallsNow → Setting → List (TableId × Known) → Type 0
+abbrev pub SeeAll : CallsNow → CallSetting → List (TableId × KnownCalls) → Type 0
 SeeAll now k [] = Unit {0}
 SeeAll now k (m ∷ ms) = (Sees now.calls now.controls m.1 × (m.1.setting ≡ k)) × SeeAll now k ms
 
-pub record KnowAllTogether (ms : List (TableId × Known)) : Type 0 where
+pub record KnowAllTogether (ms : List (TableId × KnownCalls)) : Type 0 where
   pub now : CallsNow
-  pub setting : Setting
+  pub setting : CallSetting
   pub parts : SeeAll now setting ms
 
 -- CPUs that are looked at together: their table, and each CPU's value behind the name of the table at which it stands meanwhile
@@ -74,7 +74,7 @@ pub record CrowdValue : Type 0 where
   pub table : TableId
   pub cpus : List (TableId × CpuValue)
 
-abbrev pub cpus_at : TableId → List (TableId × Known) → List (TableId × CpuValue)
+abbrev pub cpus_at : TableId → List (TableId × KnownCalls) → List (TableId × CpuValue)
 cpus_at table [] = []
 cpus_at table (m ∷ ms) = (m.0, cpu_of (record { table = table; known = m.1 })) ∷ cpus_at table ms
 
@@ -86,14 +86,14 @@ abbrev pub crowd_of : SeatsValue → CrowdValue
 crowd_of s = record { table = s.table; cpus = cpus_at s.table s.seats }
 
 -- these values are their CPUs' parts of these calls, and all are of one setting
-abbrev pub ArePartsOf : CallsNow → Setting → List CpuValue → Type 0
+abbrev pub ArePartsOf : CallsNow → CallSetting → List CpuValue → Type 0
 ArePartsOf now k [] = Unit {0}
 ArePartsOf now k (c ∷ cs) = (IsPartOf now c × (c.setting ≡ k)) × ArePartsOf now k cs
 
 -- the values of all these CPUs are their parts of the same calls
 pub record AreAllTogether (cs : List CpuValue) : Type 0 where
   pub now : CallsNow
-  pub setting : Setting
+  pub setting : CallSetting
   pub parts : ArePartsOf now setting cs
 
 -- of any two of these values, the one runs what the other sends

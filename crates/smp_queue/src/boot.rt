@@ -6,7 +6,7 @@ ghost use Rattle.smp_mask.specs.Mask.{has};
 ghost use Rattle.smp_queue.specs.Cpu.{fresh_cpu, is_left, given, confirmed_at};
 
 use crate::cpu::CallCpu;
-use crate::seat::SeatMaker;
+use crate::seat::CallSeatMaker;
 use smp_mask::{CpuMask, SmpError};
 use std::alloc::Allocator;
 use std::marker::Model;
@@ -15,7 +15,7 @@ use std::marker::Model;
 #[derive(Drop)]
 pub struct Boot<A: Allocator> {
     /// The first seat, which made those of the CPUs.
-    pub(crate) maker: SeatMaker,
+    pub(crate) maker: CallSeatMaker,
     pub(crate) online: CpuMask,
     pub(crate) waiting: Vec<Option<CallCpu>, A>,
 }

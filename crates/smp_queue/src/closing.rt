@@ -6,7 +6,7 @@ ghost use Rattle.smp_queue.specs.Audit.{Closes, AuditAnswers};
 
 use crate::audit::{Audit, answer};
 use crate::cell::cell;
-use crate::seat::{CpuSeat, Owner, close};
+use crate::seat::{CallSeat, OwnedCallWords, close};
 use atomic_table::Closed;
 use smp_words::Word;
 use std::alloc::Allocator;
@@ -31,7 +31,7 @@ impl<A: Allocator> Model for ClosedTable<A> {
 
 impl<A: Allocator> ClosedTable<A> {
     /// The words of a table, which is given up with one of its seats.
-    pub(crate) fn of(owner: Owner<A>, seat: CpuSeat) -> ClosedTable<A>
+    pub(crate) fn of(owner: OwnedCallWords<A>, seat: CallSeat) -> ClosedTable<A>
         requires table { seat.table ≡ owner.table.shared.table_id }
         requires sized { (owner.table.shared.table_id.words ≡ cells) × (owner.table.shared.table_id.slots ≡ 0) }
         ensures { Closes owner.table.shared.key seat.known result }

@@ -6,7 +6,7 @@ ghost use Rattle.smp_words.specs.Size.{cpus, records};
 ghost use Rattle.smp_call_steps.specs.Known.{fresh};
 ghost use Rattle.smp_queue.specs.Cpu.{cpu_of};
 
-use crate::seat::CpuSeat;
+use crate::seat::CallSeat;
 use smp_words::size::NR_CPUS;
 use std::marker::Model;
 
@@ -15,7 +15,7 @@ use std::marker::Model;
 /// change that part. It may move to another thread.
 #[derive(Drop)]
 pub struct CallCpu {
-    pub(crate) seat: CpuSeat,
+    pub(crate) seat: CallSeat,
     pub(crate) number: u32,
     /// How many calls it has queued for each CPU, modulo 2^64.
     pub(crate) queued: [u64; NR_CPUS as usize],
@@ -35,7 +35,7 @@ impl Model for CallCpu {
 
 impl CallCpu {
     /// An online CPU that has done nothing.
-    pub(crate) fn new(seat: CpuSeat, number: u32) -> CallCpu
+    pub(crate) fn new(seat: CallSeat, number: u32) -> CallCpu
         requires fresh { seat.known ≡ fresh seat.known.setting number }
         requires below { number < cpus }
         requires online { has seat.known.setting.online number ≡ true }
@@ -49,7 +49,7 @@ impl CallCpu {
         }
     }
 
-    ghost use Rattle.smp_queue.specs.Laws.{IsShown};
+    ghost use Rattle.smp_queue.specs.Laws.{CallsAreShown};
 
     /// At any time, and whatever calls were made with it, a CPU's value is its part of calls that some words show and that
     /// keep all laws, and the CPU is outside any command. It is one of its table's CPUs and online, and in those calls
@@ -58,7 +58,7 @@ impl CallCpu {
     /// A record whose last call it has seen confirmed is free, and each call that it has sent by it has run at its target; the
     /// last may still run where it is ASYNC. It makes no step.
     pub fn is_shown(&self)
-        ensures { IsShown self.now }
+        ensures { CallsAreShown self.now }
     {
         self.seat.is_shown();
     }

@@ -5,7 +5,7 @@ ghost use Rattle.smp_start.specs.Crowd.{StandsFirst};
 ghost use Rattle.smp_queue.specs.Together.{AllRunWhatIsSent, AreAllTogether, values};
 
 use crate::cpu::CallCpu;
-use crate::seat::{SeatCrowd, all_together, gather, give, take};
+use crate::seat::{CallSeatCrowd, all_together, gather, give, take};
 use crate::table::CallTable;
 use std::alloc::Allocator;
 use std::marker::Model;
@@ -14,7 +14,7 @@ use std::marker::Model;
 /// there is not, so no call can be made with it. It has no bytes.
 #[derive(Drop)]
 pub struct CallCrowd {
-    seats: SeatCrowd,
+    seats: CallSeatCrowd,
 }
 
 impl Model for CallCrowd {

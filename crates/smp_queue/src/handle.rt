@@ -18,14 +18,14 @@ ghost use Rattle.smp_queue.specs.Seat.{InHandle, IsOutside};
 ghost use Rattle.smp_queue.specs.declared.run.Pass.TheVariants.{Second};
 ghost use Rattle.smp_queue.specs.Cpu.{cpu_of};
 ghost use Rattle.smp_queue.specs.Handling.{AreRan, Grows, asks, drains};
-ghost use Rattle.smp_queue.specs.Serving.{Begins, IsAt, HasRun, HasRunAll, on, begins_at};
+ghost use Rattle.smp_queue.specs.Serving.{Begins, IsAt, HasRunCall, HasRunAll, on, begins_at};
 
 use crate::alarms::Alarms;
 use crate::handler::Handler;
 use crate::reverse::reverse;
 use crate::run::{Pass, Passed, Place, next_async, pass_on};
 use crate::seat::call_steps::{Returned, begin_call, end_call};
-use crate::seat::{CpuSeat, Words, store, swap};
+use crate::seat::{CallSeat, SharedCallWords, store, swap};
 use smp_call_steps::drain::linked;
 use smp_call_steps::handle::Walk;
 use smp_words::Word;
@@ -43,14 +43,14 @@ pub struct Handled {
 /// What `handle` reads beside the seat of its CPU: the words and the alarms of the table, and the CPU's number.
 #[derive(Clone, Copy)]
 pub(crate) struct HandleContext<'a> {
-    pub(crate) words: Words<'a>,
+    pub(crate) words: SharedCallWords<'a>,
     pub(crate) alarms: &'a Alarms,
     pub(crate) number: u32,
 }
 
 /// Begins to handle, and takes the interrupt: whether one was pending.
 #[inline(always)]
-fn enter(words: Words, seat: &mut CpuSeat, number: u32) -> bool
+fn enter(words: SharedCallWords, seat: &mut CallSeat, number: u32) -> bool
     requires { IsOutside words.shared.now.table_id seat.old number }
     ensures at { InHandle words.entry.shared.now.table_id seat.new (if result then handle.Take else handle.LeaveIdle) }
     ensures known { seat.new.known ≡ accepted_known result (handling handle.Accept seat.old.known.drain seat.old.known) }
@@ -61,7 +61,7 @@ fn enter(words: Words, seat: &mut CpuSeat, number: u32) -> bool
 
 /// Takes the whole queue: the record of its newest call, none where it is empty.
 #[inline(always)]
-fn take(words: Words, seat: &mut CpuSeat, number: u32) -> Option<u32>
+fn take(words: SharedCallWords, seat: &mut CallSeat, number: u32) -> Option<u32>
     requires me { seat.old.known.number ≡ number }
     requires at { InHandle words.shared.now.table_id seat.old handle.Take }
     ensures at { InHandle words.entry.shared.now.table_id seat.new (reverse_on None result) }
@@ -73,7 +73,7 @@ fn take(words: Words, seat: &mut CpuSeat, number: u32) -> Option<u32>
 
 /// Has handled.
 #[inline(always)]
-fn leave(words: Words, seat: &mut CpuSeat, number: u32)
+fn leave(words: SharedCallWords, seat: &mut CallSeat, number: u32)
     requires me { seat.old.known.number ≡ number }
     requires at { (stage : HandleStage) × InHandle words.shared.now.table_id seat.old stage × IsLeaving stage }
     ensures table { seat.new.table ≡ words.entry.shared.now.table_id }
@@ -86,8 +86,8 @@ fn leave(words: Words, seat: &mut CpuSeat, number: u32)
 /// Goes on to the next call of the batch; where none is left, the CPU leaves.
 #[inline(always)]
 pub(crate) fn go_on(
-    words: Words,
-    seat: &mut CpuSeat,
+    words: SharedCallWords,
+    seat: &mut CallSeat,
     number: u32,
     pass: Pass,
     here: Option<u32>,
@@ -116,7 +116,7 @@ pub(crate) struct Batch {
 
 /// Takes the interrupt and, where there was one, the queue.
 #[inline(always)]
-pub(crate) fn begin(words: Words, seat: &mut CpuSeat, number: u32) -> Option<Batch>
+pub(crate) fn begin(words: SharedCallWords, seat: &mut CallSeat, number: u32) -> Option<Batch>
     requires { IsOutside words.shared.now.table_id seat.old number }
     ensures { Begins words.entry.shared.now.table_id seat.old seat.new result }
 {
@@ -147,7 +147,7 @@ fn wake_if(alarms: &Alarms, unlocked: bool) {
 #[inline(always)]
 fn run_one<H: Handler>(
     context: HandleContext,
-    seat: &mut CpuSeat,
+    seat: &mut CallSeat,
     counts: &mut [u64],
     place: Place,
     handler: &mut H,
@@ -155,7 +155,7 @@ fn run_one<H: Handler>(
     requires me { seat.old.known.number ≡ context.number }
     requires at { InHandle context.words.shared.now.table_id seat.old (begins_at place) }
     requires counts { AreRan counts.old seat.old.known }
-    ensures run { HasRun H.leads context.entry.words.shared.now.table_id seat.old seat.new place.call result counts.new handler.old handler.new }
+    ensures run { HasRunCall H.leads context.entry.words.shared.now.table_id seat.old seat.new place.call result counts.new handler.old handler.new }
     ensures second { place.pass ≡ Second → IfSome result (λ p. p.pass ≡ Second) }
 {
     let HandleContext {
@@ -182,7 +182,7 @@ fn run_one<H: Handler>(
 #[inline(always)]
 fn run_batch<H: Handler>(
     context: HandleContext,
-    seat: &mut CpuSeat,
+    seat: &mut CallSeat,
     counts: &mut [u64],
     first: Option<Place>,
     handler: &mut H,
@@ -221,7 +221,7 @@ fn run_batch<H: Handler>(
 /// Takes the interrupt and, where there was one, the queue, and runs that.
 pub(crate) fn handle<H: Handler>(
     context: HandleContext,
-    seat: &mut CpuSeat,
+    seat: &mut CallSeat,
     counts: &mut [u64],
     handler: &mut H,
 ) -> Handled

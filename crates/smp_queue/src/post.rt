@@ -14,7 +14,7 @@ ghost use Rattle.smp_queue.specs.Seat.{OwnsRecord, IsMine, IsCounting, IsTallied
 ghost use Rattle.smp_queue.specs.Appends.{Appends, GivesUp};
 ghost use Rattle.smp_call_steps.specs.Heads.{Found, times_lost};
 
-use crate::seat::{CpuSeat, Words, exchange, load, store};
+use crate::seat::{CallSeat, SharedCallWords, exchange, load, store};
 use crossbeam_utils::Backoff;
 use smp_call_steps::post::Posting;
 use smp_words::Word;
@@ -28,7 +28,7 @@ pub(crate) struct Sender {
 }
 
 /// Whether the record is locked. It makes one step; a record that is not locked is confirmed.
-pub(crate) fn is_locked(words: Words, seat: &mut CpuSeat, id: u32) -> bool
+pub(crate) fn is_locked(words: SharedCallWords, seat: &mut CallSeat, id: u32) -> bool
     requires at { OwnsRecord words.shared.now.table_id seat.old id }
     requires outside { seat.old.known.stage ≡ None }
     ensures table { seat.new.table ≡ words.entry.shared.now.table_id }
@@ -40,7 +40,7 @@ pub(crate) fn is_locked(words: Words, seat: &mut CpuSeat, id: u32) -> bool
 }
 
 /// Locks the record, and writes the call into it.
-pub(crate) fn write_record(words: Words, seat: &mut CpuSeat, posting: &Posting)
+pub(crate) fn write_record(words: SharedCallWords, seat: &mut CallSeat, posting: &Posting)
     requires mine { IsMine words.shared.now.table_id seat.old posting.now }
     requires outside { seat.old.known.stage ≡ None }
     requires free { is_confirmed seat.old.known posting.now.id ≡ true }
@@ -55,8 +55,8 @@ pub(crate) fn write_record(words: Words, seat: &mut CpuSeat, posting: &Posting)
 
 /// Counts the call, and finds the head of its destination.
 pub(crate) fn count_and_look(
-    words: Words,
-    seat: &mut CpuSeat,
+    words: SharedCallWords,
+    seat: &mut CallSeat,
     posting: &Posting,
     sender: Sender,
 ) -> u64
@@ -76,7 +76,7 @@ pub(crate) fn count_and_look(
 
 /// Links the record to what was found last, and tries to put it into the head: what was found there. It is
 /// queued where that is the same.
-pub(crate) fn link(words: Words, seat: &mut CpuSeat, posting: &Posting, link: u64) -> u64
+pub(crate) fn link(words: SharedCallWords, seat: &mut CallSeat, posting: &Posting, link: u64) -> u64
     requires mine { IsMine words.shared.now.table_id seat.old posting.now }
     requires online { has words.shared.now.key.online posting.now.to ≡ true }
     requires stage { seat.old.known.stage ≡ Some (Post (counted posting.now) post.LoadHead) }
@@ -96,7 +96,12 @@ pub(crate) fn link(words: Words, seat: &mut CpuSeat, posting: &Posting, link: u6
 }
 
 /// Takes the count back, and unlocks the record.
-pub(crate) fn give_up(words: Words, seat: &mut CpuSeat, posting: &Posting, sender: Sender)
+pub(crate) fn give_up(
+    words: SharedCallWords,
+    seat: &mut CallSeat,
+    posting: &Posting,
+    sender: Sender,
+)
     requires mine { IsMine words.shared.now.table_id seat.old posting.now }
     requires stage { seat.old.known.stage ≡ Some (Post (counted posting.now) post.LoadHead) }
     requires counted { IsTallied seat.old.known posting.now sender.number sender.queued }
@@ -116,8 +121,8 @@ pub(crate) fn give_up(words: Words, seat: &mut CpuSeat, posting: &Posting, sende
 /// Appends the call to the queue of its destination: whether that was empty. None where the tries are used up,
 /// and the record is unlocked again.
 pub(crate) fn append(
-    words: Words,
-    seat: &mut CpuSeat,
+    words: SharedCallWords,
+    seat: &mut CallSeat,
     posting: &Posting,
     sender: Sender,
     tries: u32,
@@ -146,8 +151,8 @@ pub(crate) fn append(
 /// between two tries.
 pub(crate) fn append_until_won<R: Wait>(
     rt: &R,
-    words: Words,
-    seat: &mut CpuSeat,
+    words: SharedCallWords,
+    seat: &mut CallSeat,
     posting: &Posting,
     sender: Sender,
 ) -> bool

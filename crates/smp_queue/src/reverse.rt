@@ -8,13 +8,18 @@ ghost use Rattle.smp_call_steps.specs.declared.handle.HandleStage.TheVariants as
 ghost use Rattle.smp_call_steps.specs.declared.stage.Stage.TheVariants.{Handle};
 ghost use Rattle.smp_queue.specs.Seat.{InHandle};
 
-use crate::seat::{CpuSeat, Words, load, store};
+use crate::seat::{CallSeat, SharedCallWords, load, store};
 use smp_call_steps::drain::linked;
 use smp_call_steps::handle::link_of;
 use smp_words::Word;
 
 /// Links a record to the one after it, and answers the one before.
-fn reverse_one(words: Words, seat: &mut CpuSeat, newer: Option<u32>, id: u32) -> Option<u32>
+fn reverse_one(
+    words: SharedCallWords,
+    seat: &mut CallSeat,
+    newer: Option<u32>,
+    id: u32,
+) -> Option<u32>
     requires { InHandle words.shared.now.table_id seat.old (handle.ReverseLoad newer id) }
     ensures at { InHandle words.entry.shared.now.table_id seat.new (reverse_on (Some id) result) }
     ensures known { seat.new.known ≡ record (seat.old.known) {
@@ -31,7 +36,11 @@ fn reverse_one(words: Words, seat: &mut CpuSeat, newer: Option<u32>, id: u32) ->
 }
 
 /// Reverses the chain from this record down: its oldest record, and how many it has.
-pub(crate) fn reverse(words: Words, seat: &mut CpuSeat, newest: Option<u32>) -> (Option<u32>, u32)
+pub(crate) fn reverse(
+    words: SharedCallWords,
+    seat: &mut CallSeat,
+    newest: Option<u32>,
+) -> (Option<u32>, u32)
     requires at { InHandle words.shared.now.table_id seat.old (reverse_on None newest) }
     requires none { seat.old.known.drain.calls ≡ 0 }
     ensures at { InHandle words.entry.shared.now.table_id seat.new (first_on (record { first = result.0; last = None }) result.0) }

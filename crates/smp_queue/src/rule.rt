@@ -1,16 +1,16 @@
 //! The rule of the table: between any two steps its words show the calls that the CPUs know.
 
-use crate::seat_view::SeatView;
+use crate::seat_view::CallSeatView;
 use atomic_table::{Seat, Split, TableRule};
-use smp_call_steps::known::Setting;
+use smp_call_steps::known::CallSetting;
 use smp_start::Retold;
 
 /// The rule of the table. Its key is what the table is made with.
 pub struct CallRule;
 
-impl TableRule<(), SeatView, Setting> for CallRule {
+impl TableRule<(), CallSeatView, CallSetting> for CallRule {
     ghost use Rattle.smp_queue.specs.Rule.{Ruled};
-    ghost use Rattle.smp_queue.specs.declared.seat_view.SeatView.TheVariants.{Maker};
+    ghost use Rattle.smp_queue.specs.declared.seat_view.CallSeatView.TheVariants.{Maker};
 
     ghost holds = { λ k. Ruled k };
 
@@ -18,16 +18,16 @@ impl TableRule<(), SeatView, Setting> for CallRule {
 }
 
 /// A direct call is noted, which is no step.
-impl Retold<SeatView> for CallRule {
+impl Retold<CallSeatView> for CallRule {
     ghost use Rattle.smp_queue.specs.Rule.{noted};
 
     ghost after = { noted };
 }
 
 /// The first seat makes a seat for the next CPU.
-pub struct NextSeat;
+pub struct NextCallSeat;
 
-impl Split<SeatView> for NextSeat {
+impl Split<CallSeatView> for NextCallSeat {
     ghost use Rattle.smp_queue.specs.Rule.{after, seat_made};
 
     ghost left = { after };
@@ -36,4 +36,4 @@ impl Split<SeatView> for NextSeat {
 }
 
 /// A seat at the table.
-pub type RawSeat = Seat<(), SeatView>;
+pub type RawCallSeat = Seat<(), CallSeatView>;

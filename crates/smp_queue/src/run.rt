@@ -9,7 +9,7 @@ ghost use Rattle.smp_queue.specs.Serving.{PassesOn, on, begins_at};
 ghost use Rattle.smp_queue.specs.declared.run.Pass.TheVariants.{Second};
 ghost use Rattle.smp_queue.specs.declared.run.Passed.TheVariants.{Over};
 
-use crate::seat::{CpuSeat, Words, load, store};
+use crate::seat::{CallSeat, SharedCallWords, load, store};
 use smp_call_steps::drain::linked;
 use smp_call_steps::handle::{Walk, link_of};
 use smp_words::call::Class;
@@ -54,7 +54,13 @@ pub(crate) enum Passed {
 
 /// Loads a SYNC call, and takes its record out of the chain.
 #[inline(always)]
-fn unlink(words: Words, seat: &mut CpuSeat, walk: Walk, id: u32, next: Option<u32>) -> (Walk, Call)
+fn unlink(
+    words: SharedCallWords,
+    seat: &mut CallSeat,
+    walk: Walk,
+    id: u32,
+    next: Option<u32>,
+) -> (Walk, Call)
     requires at { InHandle words.shared.now.table_id seat.old (handle.LoadFunc walk id next) }
     ensures at { InHandle words.entry.shared.now.table_id seat.new (handle.BeginSync result.0 result.1 next) }
     ensures known { seat.new.known ≡ record (seat.old.known) { stage = seat.new.known.stage } }
@@ -84,7 +90,7 @@ fn unlink(words: Words, seat: &mut CpuSeat, walk: Walk, id: u32, next: Option<u3
 
 /// Goes along the chain to the next SYNC call.
 #[inline(always)]
-fn next_sync(words: Words, seat: &mut CpuSeat, first: Walk, from: Option<u32>) -> Passed
+fn next_sync(words: SharedCallWords, seat: &mut CallSeat, first: Walk, from: Option<u32>) -> Passed
     requires at { InHandle words.shared.now.table_id seat.old (first_on first from) }
     ensures { PassesOn words.entry.shared.now.table_id seat.old seat.new result }
 {
@@ -116,7 +122,12 @@ fn next_sync(words: Words, seat: &mut CpuSeat, first: Walk, from: Option<u32>) -
 
 /// Goes on with the first pass, where the CPU is in it.
 #[inline(always)]
-pub(crate) fn pass_on(words: Words, seat: &mut CpuSeat, pass: Pass, here: Option<u32>) -> Passed
+pub(crate) fn pass_on(
+    words: SharedCallWords,
+    seat: &mut CallSeat,
+    pass: Pass,
+    here: Option<u32>,
+) -> Passed
     requires at { InHandle words.shared.now.table_id seat.old (on pass here) }
     ensures on { PassesOn words.entry.shared.now.table_id seat.old seat.new result }
     ensures second { pass ≡ Second → result ≡ Over here }
@@ -129,7 +140,7 @@ pub(crate) fn pass_on(words: Words, seat: &mut CpuSeat, pass: Pass, here: Option
 
 /// Loads an ASYNC call.
 #[inline(always)]
-pub(crate) fn next_async(words: Words, seat: &mut CpuSeat, id: u32) -> Place
+pub(crate) fn next_async(words: SharedCallWords, seat: &mut CallSeat, id: u32) -> Place
     requires at { InHandle words.shared.now.table_id seat.old (handle.AsyncNext id) }
     ensures at { InHandle words.entry.shared.now.table_id seat.new (begins_at result) }
     ensures known { seat.new.known ≡ record (seat.old.known) { stage = seat.new.known.stage } }

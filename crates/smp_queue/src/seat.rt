@@ -5,8 +5,8 @@ pub(crate) mod access;
 pub mod call_steps;
 mod plays;
 
-pub(crate) use access::crowd::{SeatCrowd, all_together, gather, give, take};
+pub(crate) use access::crowd::{CallSeatCrowd, all_together, gather, give, take};
 pub(crate) use access::{
-    CpuSeat, Owner, SeatMaker, Words, close, exchange, lay, load, next_seat, note_call, store,
-    swap, together,
+    CallSeat, CallSeatMaker, OwnedCallWords, SharedCallWords, close, exchange, lay, load,
+    next_seat, note_call, store, swap, together,
 };

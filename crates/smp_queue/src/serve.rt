@@ -14,7 +14,7 @@ ghost use Rattle.smp_queue.specs.Serving.{IsKeptInside, StandsNow, IsNext, ends,
 use crate::cpu::CallCpu;
 use crate::handle::{begin, go_on};
 use crate::run::Place;
-use crate::seat::Words;
+use crate::seat::SharedCallWords;
 use crate::seat::call_steps::{Returned, begin_call, end_call};
 use crate::serving::{Given, InsideSeat, Next, Serving};
 use crate::table::CallTable;
@@ -23,7 +23,7 @@ use std::alloc::Allocator;
 
 /// The call at which a CPU is begins, and is handed out.
 fn hand_out(
-    words: Words,
+    words: SharedCallWords,
     inside: InsideSeat,
     queued: [u64; NR_CPUS as usize],
     ran: [u64; NR_CPUS as usize],
@@ -46,7 +46,7 @@ fn hand_out(
 
 /// The call at which a CPU is begins, and is handed out; where it is at none, it is outside.
 fn next_of(
-    words: Words,
+    words: SharedCallWords,
     cpu: InsideSeat,
     queued: [u64; NR_CPUS as usize],
     ran: [u64; NR_CPUS as usize],
@@ -71,7 +71,7 @@ fn next_of(
 }
 
 /// Takes the interrupt of a CPU and, where one was pending, its queue, whose first call is handed out.
-fn start(words: Words, me: CallCpu) -> Next
+fn start(words: SharedCallWords, me: CallCpu) -> Next
     requires table { me.table ≡ words.shared.now.table_id }
     requires sized { words.shared.now.table_id.words ≡ cells }
     ensures { (result ≡ next.Idle (asks false me)) ⊎ ((queue : List Call) × NextIs (takes queue (asks true me)) result) }
@@ -97,7 +97,7 @@ fn start(words: Words, me: CallCpu) -> Next
 }
 
 /// The call that is out ends, and the next one of the batch is handed out.
-fn go_on_from(words: Words, serving: Serving) -> Next
+fn go_on_from(words: SharedCallWords, serving: Serving) -> Next
     requires table { serving.cpu.table ≡ words.shared.now.table_id }
     requires sized { words.shared.now.table_id.words ≡ cells }
     ensures { NextIs (ends serving.call serving.cpu) result }

@@ -3,7 +3,7 @@
 use crate::cpu::CallCpu;
 use crate::handler::{Handler, Heard};
 use crate::run::Place;
-use crate::seat::CpuSeat;
+use crate::seat::CallSeat;
 use crate::seat::call_steps::Begun;
 use smp_words::size::{NR_CPUS, owner_of};
 use std::marker::Model;
@@ -22,7 +22,7 @@ impl Handler for Given {
 /// The seat of a CPU inside `handle`, and the CPU's number.
 #[derive(Drop)]
 pub(crate) struct InsideSeat {
-    pub(crate) seat: CpuSeat,
+    pub(crate) seat: CallSeat,
     pub(crate) number: u32,
 }
 

@@ -28,7 +28,7 @@ ghost use Rattle.smp_call_steps.specs.Histories.{sent_to, calls_from};
 ghost use Rattle.smp_call_steps.specs.Order.{order};
 ghost use Rattle.smp_words.specs.declared.call.Call.{Call};
 ghost use Rattle.smp_queue.specs.Handling.{Grows, asks, drains, heard};
-ghost use Rattle.smp_queue.specs.Laws.{IsShown};
+ghost use Rattle.smp_queue.specs.Laws.{CallsAreShown};
 ghost use Rattle.smp_queue.specs.Posted.{ShowsThat, IsFree, IsMarked, call_by};
 ghost use Rattle.smp_queue.specs.Empty.{BeginsEmpty};
 ghost use Rattle.smp_queue.specs.Cells.{cells};
@@ -46,8 +46,10 @@ use crate::handler::Handler;
 use crate::line_wait::LineWait;
 use crate::pause::Pause;
 use crate::post::{Sender, append, append_until_won, is_locked, write_record};
-use crate::seat::{Owner, SeatMaker, Words, lay, next_seat, note_call, store};
-use smp_call_steps::known::Setting;
+use crate::seat::{
+    CallSeatMaker, OwnedCallWords, SharedCallWords, lay, next_seat, note_call, store,
+};
+use smp_call_steps::known::CallSetting;
 use smp_call_steps::post::Posting;
 use smp_call_steps::start::{has_record, refusal};
 use smp_mask::{CpuMask, SmpError};
@@ -66,7 +68,7 @@ use std::sync::Wait;
 #[repr(C)]
 pub struct CallTable<A: Allocator> {
     before: [u64; 8],
-    owner: Owner<A>,
+    owner: OwnedCallWords<A>,
     nr: u32,
     online: CpuMask,
     alarms: Alarms,
@@ -87,7 +89,12 @@ impl<A: Allocator> Model for CallTable<A> {
 }
 
 /// The CPU of this number, where it is online; else it gets no seat.
-fn cpu_if(words: Words, maker: &mut SeatMaker, number: u32, is_online: bool) -> Option<CallCpu>
+fn cpu_if(
+    words: SharedCallWords,
+    maker: &mut CallSeatMaker,
+    number: u32,
+    is_online: bool,
+) -> Option<CallCpu>
     requires table { (maker.old.raw.table_id ≡ words.shared.now.table_id) × (words.shared.now.table_id.words ≡ cells) }
     requires come { HasComeTo maker.old.raw.me.0 words.shared.now.key number }
     requires below { (number < words.shared.now.key.nr) × (number < cpus) }
@@ -115,7 +122,7 @@ where
     ensures { IfOk result (λ t. (t.0.nr ≡ nr) × (t.0.online ≡ online) × IsFull t.1 t.0) }
 {
     let mut waiting = Vec::with_capacity(alloc, nr as usize)?;
-    let (owner, mut maker) = lay(alloc, &Setting { nr, online })?;
+    let (owner, mut maker) = lay(alloc, &CallSetting { nr, online })?;
     for number in 0..nr {
         let is_online = online.contains(number);
         waiting.push(cpu_if(owner.words(), &mut maker, number, is_online))?;
@@ -181,7 +188,7 @@ impl<A: Allocator> CallTable<A> {
         requires { me.old.table ≡ self.now.table }
         ensures known { IfOk result (λ done. (has_record_in self.now.nr k ≡ true) × (me.new ≡ looks (if done then confirms k me.old else me.old))) }
         ensures locked { IfOk result (λ done. done ≡ false → confirmed_at me.old k ≢ true) }
-        ensures laws { IfOk result (λ _. IsShown me.new) }
+        ensures laws { IfOk result (λ _. CallsAreShown me.new) }
         ensures err { IfErr result (λ e. (e ≡ SmpError.BadArgument) × (has_record_in self.now.nr k ≡ false) × (me.new ≡ me.old)) }
     {
         if !has_record(self.nr, k) {
@@ -218,7 +225,7 @@ impl<A: Allocator> CallTable<A> {
     pub fn send(&self, me: &mut CallCpu, to: u32) -> Result<(), SmpError>
         requires { me.old.table ≡ self.now.table }
         ensures ok { IfOk result (λ _. (has self.now.online to ≡ true) × (me.new ≡ sends to me.old)) }
-        ensures laws { IfOk result (λ _. IsShown me.new) }
+        ensures laws { IfOk result (λ _. CallsAreShown me.new) }
         ensures err { IfErr result (λ e. (e ≡ SmpError.NoCpu) × (has self.now.online to ≡ false) × (me.new ≡ me.old)) }
     {
         self.interrupt(me, to)?;
@@ -233,7 +240,7 @@ impl<A: Allocator> CallTable<A> {
     pub fn interrupt(&self, me: &mut CallCpu, to: u32) -> Result<(), SmpError>
         requires { me.old.table ≡ self.now.table }
         ensures ok { IfOk result (λ _. (has self.now.online to ≡ true) × (me.new ≡ sends to me.old)) }
-        ensures laws { IfOk result (λ _. IsShown me.new) }
+        ensures laws { IfOk result (λ _. CallsAreShown me.new) }
         ensures err { IfErr result (λ e. (e ≡ SmpError.NoCpu) × (has self.now.online to ≡ false) × (me.new ≡ me.old)) }
     {
         if !self.online.contains(to) {
@@ -304,7 +311,7 @@ impl<A: Allocator> CallTable<A> {
     }
 
     /// The words, for what hands out calls.
-    pub(crate) fn words(&self) -> Words<'_>
+    pub(crate) fn words(&self) -> SharedCallWords<'_>
         ensures table { result.shared.now.table_id ≡ self.now.table }
         ensures sized { result.shared.now.table_id.words ≡ cells }
     {
@@ -430,7 +437,7 @@ impl<A: Allocator> CallTable<A> {
         requires { me.old.table ≡ self.now.table }
         ensures called { H.leads handler.old (heard me.old.number func info) handler.new }
         ensures noted { me.new ≡ notes_call me.old }
-        ensures laws { IsShown me.new }
+        ensures laws { CallsAreShown me.new }
     {
         note_call(self.owner.words(), &mut me.seat);
         handler.call(me.number, func, info);
@@ -448,7 +455,7 @@ impl<A: Allocator> CallTable<A> {
         ensures asked { result.interrupted ≡ true → (batch : List Call) × (me.new ≡ drains batch (asks true me.old))
             × (Grows H.leads handler.old (order batch) handler.new) × (result.ran ≡ length batch) }
         ensures idle { result.interrupted ≡ false → (me.new ≡ asks false me.old) × (handler.new ≡ handler.old) × (result.ran ≡ 0) }
-        ensures laws { IsShown me.new }
+        ensures laws { CallsAreShown me.new }
     {
         let context = HandleContext {
             words: self.owner.words(),
@@ -470,7 +477,7 @@ impl<A: Allocator> CallTable<A> {
         ensures asked { result.interrupted ≡ true → (batch : List Call) × (me.new ≡ drains batch (asks true me.old))
             × (Grows H.leads handler.old (order batch) handler.new) × (result.ran ≡ length batch) }
         ensures idle { result.interrupted ≡ false → (me.new ≡ asks false me.old) × (handler.new ≡ handler.old) × (result.ran ≡ 0) }
-        ensures laws { IsShown me.new }
+        ensures laws { CallsAreShown me.new }
     {
         let alarm = self.set_alarm(me);
         let handled = self.handle(me, handler);

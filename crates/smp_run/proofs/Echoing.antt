@@ -15,7 +15,7 @@ use Rattle.smp_machine.specs.MachineCpu.{MachineCpuValue}
 use Rattle.smp_machine.specs.OwnAnswers.{HasCalledFor}
 use Rattle.smp_machine.specs.Seats.{SeatStopped, SeatValue}
 use Rattle.smp_machine.specs.Stops.{HasStopped}
-use Rattle.smp_machine.specs.Works.{HasRun, stop_call}
+use Rattle.smp_machine.specs.Works.{HasRunStops, stop_call}
 use Rattle.smp_run.specs.Answers.{IsEcho, echo_of}
 
 -- a call of the function, whatever its value
@@ -24,7 +24,7 @@ echoes p call q = IsEcho call
 
 -- each of some calls of the function has answered its argument
 echoed : {F : Type 0} (number : ℕ) (ran : List Called) (f f' : F) (call : StopCall) (before after : List StopCall)
-    → HasRun echoes number f ran f' → map stop_call ran ≡ before ++ call ∷ after → call.answer ≡ answer_word (echo_of call.arg)
+    → HasRunStops echoes number f ran f' → map stop_call ran ≡ before ++ call ∷ after → call.answer ≡ answer_word (echo_of call.arg)
 echoed number [] f f' call [] after run e = let none : [] ≡ call ∷ after = e in absurd (cc none)
 echoed number [] f f' call (b ∷ before) after run e = let none : [] ≡ b ∷ before ++ call ∷ after = e in absurd (cc none)
 echoed number (c ∷ ran) f f' call [] after run e =

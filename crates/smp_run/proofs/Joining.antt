@@ -13,7 +13,7 @@ use Rattle.smp_script.specs.declared.directive.Directive.{Directive}
 use Rattle.smp_script.specs.declared.directive.Directive.TheVariants.{Start, Step, Show, Do}
 use Rattle.smp_run.specs.declared.answer.Answer.{Answer}
 use Rattle.smp_run.specs.Answers.{IsLineAnswer, Answered, Gathers, cpu_of}
-use Rattle.smp_run.specs.Driven.{AreJoined, HasRun, IsBack, IsDriven}
+use Rattle.smp_run.specs.Driven.{AreJoined, HasRunLines, IsBack, IsDriven}
 use Rattle.smp_run.specs.Made.{AreMakings, IsLineMade, Making}
 use Rattle.smp_run.specs.Seats.{IsSeated, keys_at}
 
@@ -126,7 +126,7 @@ line_gathered m this Show a b makings same made = made
 
 -- a CPU's answers, put among those of others
 run_gathered : (m : MachineValue) (lines : List Directive) (from to : List Answer) (p : MachineCpuValue)
-    → Gathers (λ c. c ≡ p.calls.number) lines from to (length lines) → HasRun m lines from p → HasRun m lines to p
+    → Gathers (λ c. c ≡ p.calls.number) lines from to (length lines) → HasRunLines m lines from p → HasRunLines m lines to p
 run_gathered m lines from to p gathered run = let played = run.played in record {
   sent = run.sent;
   waited = run.waited;
@@ -155,7 +155,7 @@ back_kept m lines old new n cpu apart others b = record {
 -- of these CPUs, the first
 abbrev pub Lowest : MachineValue → List Directive → List ℕ → List Answer → Option MachineCpuValue → Type 0
 Lowest m lines first answers None = first ≡ []
-Lowest m lines first answers (Some p) = IsSeated m p × HasRun m lines answers p × ((more : List ℕ) × (first ≡ p.calls.number ∷ more))
+Lowest m lines first answers (Some p) = IsSeated m p × HasRunLines m lines answers p × ((more : List ℕ) × (first ≡ p.calls.number ∷ more))
 
 -- the first of these CPUs are back, with their answers among these; the others are left
 pub record Gathered {X : Type 0} (Q : ℕ → X → Type 0) (m : MachineValue) (lines : List Directive) (answers : List Answer) (last : Option MachineCpuValue)
@@ -185,7 +185,7 @@ gathered_none Q m lines answers rest sized all = record {
 module _ (m : MachineValue) (lines : List Directive) (old own new : List Answer) (next : MachineCpuValue) (n : ℕ) (driven : IsDriven m lines n own next)
     (sized : length new ≡ length lines) (gathered : Gathers (λ c. c ≡ n) lines own new (length lines))
     (others : Gathers (λ c. c ≢ n) lines old new (length lines)) where
-  run_next : HasRun m lines new next
+  run_next : HasRunLines m lines new next
   run_next = run_gathered m lines own new next (subst (λ (x : ℕ). Gathers (λ c. c ≡ x) lines own new (length lines)) (sym driven.number_is) gathered) driven.run
 
   back_more : (first : List ℕ) → ((cpu : ℕ) → IsIn first cpu → IsBack m lines old cpu) → (cpu : ℕ) → IsIn (first ++ n ∷ []) cpu → IsBack m lines new cpu

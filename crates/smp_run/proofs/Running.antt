@@ -24,7 +24,7 @@ use Rattle.smp_machine.specs.Own.{own_of}
 use Rattle.smp_machine.specs.Seats.{SeatValue}
 use Rattle.smp_machine.specs.declared.crew.Played.{Played}
 use Rattle.smp_script.specs.declared.directive.Directive.{Directive}
-use Rattle.smp_run.specs.Driven.{HasRun, IsDriven, MakesLines}
+use Rattle.smp_run.specs.Driven.{HasRunLines, IsDriven, MakesLines}
 use Rattle.smp_run.specs.Made.{HasMade, HasPlayed, stops_of}
 use Rattle.smp_run.specs.Readings.{HasRead}
 use Rattle.smp_run.specs.Runs.{HasAsked}
@@ -40,7 +40,7 @@ use Rattle.smp_run.proofs.Waiting.{waited_worked, waits_still}
 -- a new CPU has made its lines, and then polled
 pub run_polled : (m : MachineValue) (lines : List Directive) (answers : List Answer) (old mid new : MachineCpuValue) → old ≡ fresh_place m old.calls.number
     → new.calls.number ≡ old.calls.number → HasSent (script_calls m.calls.online old.calls.number lines) old mid → HasPlayed m lines answers old mid
-    → HasSent [] mid new → HasMade [] mid new → HasWaited new → HasRun m lines answers new
+    → HasSent [] mid new → HasMade [] mid new → HasWaited new → HasRunLines m lines answers new
 run_polled m lines answers old mid new fresh number sent played none still waited =
     let this = old.calls.number in let calls = script_calls m.calls.online this lines in
     let all : HasSent calls (fresh_place m this) new =
@@ -95,7 +95,7 @@ module _ {H F : Type 0} (hears : H → Heard → H → Type 0) (runs : F → Cal
         | inl outside ↦ (still_worked hears runs m mid b.cpu h b.handler f b.functions own p.polled outside made.seated).seated
         | inr left ↦ subst (λ (x : MachineCpuValue). IsSeated m x) (sym (ap (λ (s : SeatValue H F). s.cpu) left.1)) made.seated
       ] in
-      let run : HasRun m lines (answers h) b.cpu =
+      let run : HasRunLines m lines (answers h) b.cpu =
       run_polled m lines (answers h) (fresh_place m n) mid b.cpu refl p.number_is made.sent made.played
       (sent_worked hears runs mid b.cpu h b.handler f b.functions own p.polled) (made_polled hears runs mid b.cpu h b.handler f b.functions p.polled)
       (waited_worked hears runs mid b.cpu h b.handler f b.functions own p.polled made.waited) in
@@ -103,7 +103,7 @@ module _ {H F : Type 0} (hears : H → Heard → H → Type 0) (runs : F → Cal
         seated = seated;
         number_is = p.number_is;
         answered = subst (λ (xs : List Answer). Answered m.calls.online (keys_at m) (λ c. c ≡ n) lines xs) (sym kept) made.answered;
-        run = subst (λ (xs : List Answer). HasRun m lines xs b.cpu) (sym kept) run;
+        run = subst (λ (xs : List Answer). HasRunLines m lines xs b.cpu) (sym kept) run;
         shown = record { calls = p.shown.calls; stops = p.shown.stops };
       }
 
@@ -117,7 +117,7 @@ module _ {H F : Type 0} (hears : H → Heard → H → Type 0) (runs : F → Cal
 
 -- it has read since
 pub run_read : (m : MachineValue) (lines : List Directive) (answers : List Answer) (old new : MachineCpuValue) (readings : List Reading)
-    → HasRead m old new readings → HasRun m lines answers old → HasRun m lines answers new
+    → HasRead m old new readings → HasRunLines m lines answers old → HasRunLines m lines answers new
 run_read m lines answers old new readings read run =
     let played = run.played in
     let kept : HasPlayed m lines answers (fresh_place m old.calls.number) new = record {
@@ -146,7 +146,7 @@ count_sent to (x ∷ xs) = count_one (x.to == to) _ (sent_to to xs) _ (filter (�
 
 -- the rows of the last CPU are of what its lines ask for
 pub has_asked : (m : MachineValue) (lines : List Directive) (answers : List Answer) (last : MachineCpuValue) (ending : Audit)
-    → HasRun m lines answers last → IfDrained ending (HasRowsOf last.calls) → IfDrained ending (HasAsked m.calls.online last.calls.number lines)
+    → HasRunLines m lines answers last → IfDrained ending (HasRowsOf last.calls) → IfDrained ending (HasAsked m.calls.online last.calls.number lines)
 has_asked m lines answers last (Drained t) run rows = λ to below.
     (rows to below).0 ∙ ap (λ (n : ℕ). n % 2 ^ 64) (count_sent to last.calls.part.sent
     ∙ ap (λ (xs : List Sent). length (filter (λ s. s.to == to) xs)) run.sent)

@@ -7,15 +7,15 @@ use Rattle.smp_machine.specs.declared.crew.Played.{Played}
 use Rattle.smp_script.specs.declared.directive.Directive.{Directive}
 use Rattle.smp_run.specs.Answers.{Answered}
 use Rattle.smp_run.specs.Made.{HasPlayed}
-use Rattle.smp_run.specs.Seats.{IsSeated, IsShown, keys_at}
+use Rattle.smp_run.specs.Seats.{IsSeated, SeatIsShown, keys_at}
 use Rattle.smp_run.specs.Sent.{HasSent, HasWaited, sent_of, script_calls}
 use Rattle.smp_run.specs.declared.answer.Answer.{Answer}
-use Rattle.smp_run.specs.declared.driver.Seat.{Seat}
+use Rattle.smp_run.specs.declared.driver.DrivenSeat.{DrivenSeat}
 use Rattle.smp_run.specs.declared.pace.Echo.{Echo}
 use Rattle.smp_run.specs.declared.pace.Paced.{Paced}
 
 -- a CPU of this machine, whose waited calls have ended, with room for the answer of each line
-pub record IsReady {A B : Type 0} (m : MachineValue) (lines : List Directive) (s : Seat A B) : Type 0 where
+pub record IsReady {A B : Type 0} (m : MachineValue) (lines : List Directive) (s : DrivenSeat A B) : Type 0 where
   pub seated : IsSeated m s.cpu
   pub waited : HasWaited s.cpu
   pub sized : vec_len s.answers ≡ length lines
@@ -31,7 +31,7 @@ pub record MakesLines (m : MachineValue) (lines : List Directive) (answers : Lis
 
 -- a CPU that, since it had done nothing, has sent the calls of its own lines, of which those that wait have ended, and made their
 -- stops with these answers
-pub record HasRun (m : MachineValue) (lines : List Directive) (answers : List Answer) (p : MachineCpuValue) : Type 0 where
+pub record HasRunLines (m : MachineValue) (lines : List Directive) (answers : List Answer) (p : MachineCpuValue) : Type 0 where
   pub sent : sent_of p.calls.part.sent ≡ script_calls m.calls.online p.calls.number lines
   pub waited : HasWaited p
   pub played : HasPlayed m lines answers (fresh_place m p.calls.number) p
@@ -41,16 +41,16 @@ pub record IsBack (m : MachineValue) (lines : List Directive) (answers : List An
   pub value : MachineCpuValue
   pub number_is : value.calls.number ≡ cpu
   pub seated : IsSeated m value
-  pub shown : IsShown value
-  pub run : HasRun m lines answers value
+  pub shown : SeatIsShown value
+  pub run : HasRunLines m lines answers value
 
 -- the CPU of this number as its thread gives it back, with the answers to its lines
 pub record IsDriven (m : MachineValue) (lines : List Directive) (cpu : ℕ) (answers : List Answer) (p : MachineCpuValue) : Type 0 where
   pub seated : IsSeated m p
   pub number_is : p.calls.number ≡ cpu
   pub answered : Answered m.calls.online (keys_at m) (λ c. c ≡ cpu) lines answers
-  pub run : HasRun m lines answers p
-  pub shown : IsShown p
+  pub run : HasRunLines m lines answers p
+  pub shown : SeatIsShown p
 
 -- the CPUs of these numbers, in this order, each with the answers to its lines
 abbrev pub AreDriven : {P A : Type 0} → MachineValue → List Directive → List ℕ → List (Played (Paced P A) Echo A) → Type 0
@@ -60,6 +60,6 @@ AreDriven m lines numbers back = AreFor (λ n b. IsDriven m lines n b.handler.an
 pub record AreJoined (m : MachineValue) (lines : List Directive) (last : MachineCpuValue) (answers : List Answer) : Type 0 where
   pub seated : IsSeated m last
   pub least : IsLeast (λ c. has m.calls.online c) last.calls.number
-  pub run : HasRun m lines answers last
+  pub run : HasRunLines m lines answers last
   pub answered : Answered m.calls.online (keys_at m) (λ c. has m.calls.online c ≡ true) lines answers
   pub back : (cpu : ℕ) → has m.calls.online cpu ≡ true → IsBack m lines answers cpu

@@ -19,7 +19,7 @@ use Rattle.smp_script.specs.Transforms.{HasFault, Transforming, Transforms}
 use Rattle.smp_words.specs.Size.{cpus}
 use Rattle.smp_replay.specs.Replays.{Replays}
 use Rattle.smp_run.specs.Answers.{IsLineAnswer}
-use Rattle.smp_run.specs.Driven.{HasRun, IsBack}
+use Rattle.smp_run.specs.Driven.{HasRunLines, IsBack}
 use Rattle.smp_run.specs.Readings.{HaveKinds, keys_read, sites_read}
 use Rattle.smp_run.specs.Sent.{script_calls}
 use Rattle.smp_run.specs.Text.{ending_text, line_text, numbered}
@@ -54,7 +54,7 @@ pub record Prints (nr online : ℕ) (labels : Labels) (first : ℕ) (lines : Lis
   pub ending : Audit
   pub sizes : (machine.calls.nr ≡ nr) × (machine.calls.online ≡ online)
   pub lowest : IsLeast (λ c. has online c) last.calls.number
-  pub run : HasRun machine lines answers last
+  pub run : HasRunLines machine lines answers last
   pub back : (cpu : ℕ) → has online cpu ≡ true → IsBack machine lines answers cpu
   pub before : List Reading
   pub read : last.stops.part.readings ≡ before ++ (keys_read keys ++ sites_read sites)

@@ -2,8 +2,8 @@
 use Rattle.std.specs.List.{AllByRecursion}
 use Rattle.std.specs.Prelude.{◌≡◌, ℕ, true, None, List, length}
 use Rattle.smp_mask.specs.Mask.{has}
-use Rattle.smp_queue.specs.Laws.{IsShown as CallsAreShown}
-use Rattle.smp_multi.specs.Laws.{IsShown as StopsAreShown}
+use Rattle.smp_queue.specs.Laws.{CallsAreShown}
+use Rattle.smp_multi.specs.Laws.{StopsAreShown}
 use Rattle.smp_machine.specs.MachineCpu.{MachineValue, MachineCpuValue, IsAt}
 use Rattle.smp_script.specs.declared.directive.Directive.{Directive}
 use Rattle.smp_script.specs.declared.mode.Mode.TheVariants.{Run}
@@ -21,7 +21,7 @@ pub record IsStill (m : MachineValue) (old new : MachineCpuValue) : Type 0 where
   pub number_is : new.calls.number ≡ old.calls.number
 
 -- words of both tables show what it knows, and keep all laws
-pub record IsShown (p : MachineCpuValue) : Type 0 where
+pub record SeatIsShown (p : MachineCpuValue) : Type 0 where
   pub calls : CallsAreShown p.calls
   pub stops : StopsAreShown p.stops
 

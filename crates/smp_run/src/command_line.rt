@@ -9,7 +9,7 @@ use std::alloc::{AllocError, Global};
 
 /// What to run: a script of this kind from a file, or from standard input.
 #[derive(Drop)]
-pub struct Request<'a> {
+pub struct RunRequest<'a> {
     pub mode: Mode,
     pub file: Option<&'a str>,
 }
@@ -25,13 +25,13 @@ fn grammar<'a>(alloc: Global) -> Result<Command<'a>, AllocError> {
 
 /// What the words ask for: `Failed(NoMemory)` where a growth was refused, and `Usage` where they are no command line, or
 /// ask for help.
-pub fn read_words<'a>(alloc: Global, words: &'a [&'a str]) -> Result<Request<'a>, Refusal> {
+pub fn read_words<'a>(alloc: Global, words: &'a [&'a str]) -> Result<RunRequest<'a>, Refusal> {
     let Ok(grammar) = grammar(alloc) else {
         return Err(Refusal::Failed(SmpError::NoMemory));
     };
     match grammar.try_get_matches_from(words) {
         Ok(matches) => match matches.subcommand() {
-            Some((name, found)) => Ok(Request {
+            Some((name, found)) => Ok(RunRequest {
                 mode: if name == "run" {
                     Mode::Run
                 } else {

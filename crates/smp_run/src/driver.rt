@@ -23,7 +23,7 @@ use std::sync::Wait;
 
 /// What the thread of a CPU has: the CPU, and room for the answer of each line of the script.
 #[derive(Drop)]
-pub struct Seat<A: Allocator, B: Allocator> {
+pub struct DrivenSeat<A: Allocator, B: Allocator> {
     pub cpu: Cpu<A>,
     pub answers: Vec<Answer, B>,
 }
@@ -146,8 +146,8 @@ pub fn play<A: Allocator, B: Allocator + Copy, R: Wait, P: Pace>(
     machine: &Machine<A>,
     lines: &[Directive],
     pace: &P,
-    seat: Seat<A, B>,
-) -> Seat<A, B>
+    seat: DrivenSeat<A, B>,
+) -> DrivenSeat<A, B>
     requires lawful { AreLines machine.now.calls.online lines.now }
     requires ready { IsReady machine.now lines.now seat }
     // It is ready for other lines: each of its calls that waits has ended.
@@ -159,7 +159,7 @@ pub fn play<A: Allocator, B: Allocator + Copy, R: Wait, P: Pace>(
     // It has made the stops of each repetition, and no others; the last repetition's answer is told.
     ensures played { HasPlayed machine.now lines.now result.answers.items seat.cpu result.cpu }
 {
-    let Seat { cpu, answers } = seat;
+    let DrivenSeat { cpu, answers } = seat;
     let handler = Paced {
         pace,
         cpu: cpu.number(),
@@ -169,7 +169,7 @@ pub fn play<A: Allocator, B: Allocator + Copy, R: Wait, P: Pace>(
     make_lines(&mut at, lines);
     let (cpu, handler, _) = at.into_parts();
     let Paced { answers, .. } = handler;
-    Seat { cpu, answers }
+    DrivenSeat { cpu, answers }
 }
 
 /// What the CPUs of a run do: each makes its own lines of the script. The answers have their own memory, whatever that of the

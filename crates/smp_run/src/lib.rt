@@ -25,7 +25,7 @@ pub mod status;
 mod text;
 
 pub use answer::Answer;
-pub use driver::{Seat, play};
+pub use driver::{DrivenSeat, play};
 pub use pace::{FreePace, Pace};
 pub use run::{Ran, run_lines};
 pub use script::run_script;

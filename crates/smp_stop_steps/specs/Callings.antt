@@ -1,6 +1,6 @@
 -- How far a CPU is with the function of the stop that it is in, by its seat.
 use Rattle.std.specs.Prelude.{◌≡◌, ◌⊎◌, ℕ, ◌≤◌, true, false}
-use Rattle.smp_stop_steps.specs.Seats.{Seat, Free, In, Gives, Alters, Closes, Duty, Rests}
+use Rattle.smp_stop_steps.specs.Seats.{StopRole, Free, In, Gives, Alters, Closes, Duty, Rests}
 use Rattle.smp_stop_steps.specs.State.{StopCall, Calling, Idle, Calls, Carries, Present}
 use Rattle.smp_stop_steps.specs.{Names.has, Names.One, Names.Work, Names.DISABLE_IRQ, Names.RUN, Stop.Standing, Stop.Completed, Stop.Last, Tells.calls_at_run}
 
@@ -25,7 +25,7 @@ abbrev pub MayCall : ℕ → Work → ℕ → ℕ → Duty → Type 0
 MayCall c w a l t = (t ≡ Rests) × ((w.kind ≡ One) ⊎ ((a ≡ DISABLE_IRQ) × (l ≡ RUN) × (calls_at_run c w ≡ true)))
 
 -- an active CPU carries an answer from its acknowledgement of RUN on, and no other does, nor stores one
-abbrev pub IsCalling : ℕ → Seat → Calling → Type 0
+abbrev pub IsCalling : ℕ → StopRole → Calling → Type 0
 IsCalling c (In s w a l t) Idle = RUN ≤ a → has w.active c ≡ false
 IsCalling c (In s w a l t) (Calls call) = IsCallOf w call × MayCall c w a l t
 IsCalling c (In s w a l t) (Carries answer) = (RUN ≤ a) × (has w.active c ≡ true)
@@ -46,5 +46,5 @@ abbrev pub HasCompleted : Standing → Type 0
 HasCompleted (Completed a v) = Unit {0}
 HasCompleted _ = ⊥
 
-abbrev pub AreClosing : Present → (ℕ → Seat) → Type 0
+abbrev pub AreClosing : Present → (ℕ → StopRole) → Type 0
 AreClosing n seat = (s c : ℕ) → (n.stop s).is_open ≡ true → (n.stop s).ending ≡ Last c → (seat c ≡ Closes s) × HasCompleted ((n.stop s).standing c)

@@ -1,10 +1,10 @@
 -- Who is to store done.
 use Rattle.std.specs.Prelude.{◌≡◌, ℕ, true}
 use Rattle.smp_stop_steps.specs.Names.{Word, Slot, Field}
-use Rattle.smp_stop_steps.specs.{Callings.HasCompleted, Seats.Seat, Seats.Closes, Shows.StopShows, Sources.Source, State.Setup, State.StopState, Stop.Last}
+use Rattle.smp_stop_steps.specs.{Callings.HasCompleted, Seats.StopRole, Seats.Closes, Shows.StopShows, Sources.Source, State.Setup, State.StopState, Stop.Last}
 
 -- this CPU, and no other, is before its store of done in this slot: the last to complete, and it has completed
-pub record IsLast (p : StopState) (seat : ℕ → Seat) (s c : ℕ) : Type 0 where
+pub record IsLast (p : StopState) (seat : ℕ → StopRole) (s c : ℕ) : Type 0 where
   pub ending : (p.now.stop s).ending ≡ Last c
   pub completed : HasCompleted ((p.now.stop s).standing c)
   pub closes : seat c ≡ Closes s
@@ -18,8 +18,8 @@ abbrev pub HasLast : StopState → (Word → ℕ) → Type 0
 HasLast p at = (s : ℕ) → (p.now.stop s).is_open ≡ true → at (Slot s Field.Todo) ≡ 0 → at (Slot s Field.Done) ≡ 0 → (c : ℕ) × IsLastOf p s c
 
 -- where a stop is open with nothing left to do and done still 0, there is one such CPU
-abbrev pub IsClosing : StopState → (Word → ℕ) → (ℕ → Seat) → Type 0
+abbrev pub IsClosing : StopState → (Word → ℕ) → (ℕ → StopRole) → Type 0
 IsClosing p at seat = (s : ℕ) → (p.now.stop s).is_open ≡ true → at (Slot s Field.Todo) ≡ 0 → at (Slot s Field.Done) ≡ 0 → (c : ℕ) × IsLast p seat s c
 
 abbrev pub LastStoresDone : Type 0
-LastStoresDone = (u : Setup) (p : StopState) (at : Word → ℕ) (seat : ℕ → Seat) (source : ℕ → Source) → StopShows u p at seat source → IsClosing p at seat
+LastStoresDone = (u : Setup) (p : StopState) (at : Word → ℕ) (seat : ℕ → StopRole) (source : ℕ → Source) → StopShows u p at seat source → IsClosing p at seat

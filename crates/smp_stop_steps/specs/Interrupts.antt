@@ -1,7 +1,8 @@
 -- When a CPU's interrupts are off.
 use Rattle.std.specs.Prelude.{◌≡◌, ◌≢◌, ℕ, ◌≤◌, true, false, None}
 use Rattle.smp_stop_steps.specs.Names.{DISABLE_IRQ, EXIT, Word}
-use Rattle.smp_stop_steps.specs.{Seats.Seat, Seats.Rests, Seats.duty_of, Shows.StopShows, Sources.Source, State.Setup, State.StopState, Stop.Stop, Stop.Inside}
+use Rattle.smp_stop_steps.specs.{Seats.StopRole, Seats.Rests, Seats.duty_of, Shows.StopShows, Sources.Source, State.Setup}
+use Rattle.smp_stop_steps.specs.{State.StopState, Stop.Stop, Stop.Inside}
 
 -- the CPU has not left the stop: it has not acknowledged EXIT, or is to set the phase after it
 abbrev pub HasNotLeft : Stop → ℕ → ℕ → Type 0
@@ -15,5 +16,5 @@ pub record InterruptLaw (p : StopState) (c : ℕ) : Type 0 where
   pub on : p.now.inside c ≡ None → p.now.irq c ≡ true
 
 abbrev pub KeepTheInterruptLaw : Type 0
-KeepTheInterruptLaw = (u : Setup) (p : StopState) (at : Word → ℕ) (seat : ℕ → Seat) (source : ℕ → Source) → StopShows u p at seat source → (c : ℕ) →
+KeepTheInterruptLaw = (u : Setup) (p : StopState) (at : Word → ℕ) (seat : ℕ → StopRole) (source : ℕ → Source) → StopShows u p at seat source → (c : ℕ) →
     InterruptLaw p c

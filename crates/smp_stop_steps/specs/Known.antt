@@ -4,14 +4,14 @@ use Rattle.std.specs.Prelude.{slice_index_or}
 use Rattle.smp_stop_steps.specs.Names.{MOST_KEYS, cpus, put, One, Seen, Work, Word, Slot, Field}
 use Rattle.smp_stop_steps.specs.Sources.{Source, Shut, Drafts, Owns, Collects}
 use Rattle.smp_stop_steps.specs.State.{Calling, Idle, Calls, Carries, Setup, StopState, Moved, unmoved}
-use Rattle.smp_stop_steps.specs.{Callings.with_answer, Seats.Seat, Seats.Free, Shows.StopShows, Labels.Reading, Tells.tells, Value.setup_of}
+use Rattle.smp_stop_steps.specs.{Callings.with_answer, Seats.StopRole, Seats.Free, Shows.StopShows, Labels.Reading, Tells.tells, Value.setup_of}
 pub use Rattle.smp_stop_steps.specs.declared.known.Attempt.{Attempt}
-pub use Rattle.smp_stop_steps.specs.declared.known.Known.{Known}
+pub use Rattle.smp_stop_steps.specs.declared.known.KnownStops.{KnownStops}
 pub use Rattle.smp_stop_steps.specs.declared.known.OwnMove.{OwnMove}
-pub use Rattle.smp_stop_steps.specs.declared.known.Part.{Part}
-pub use Rattle.smp_stop_steps.specs.declared.known.Setting.{Setting}
+pub use Rattle.smp_stop_steps.specs.declared.known.StopPart.{StopPart}
+pub use Rattle.smp_stop_steps.specs.declared.known.StopSetting.{StopSetting}
 
-abbrev pub setup_in : Setting → Setup
+abbrev pub setup_in : StopSetting → Setup
 setup_in k = setup_of k.online k.labels
 
 -- a work whose first k fields are told: the others are put as zero
@@ -77,7 +77,7 @@ pub record AreFirst {A : Type 0} (n : ℕ) (f : ℕ → A) (d : A) (list : List 
   pub each : (i : ℕ) → i < n → f i ≡ slice_index_or list i d
 
 -- a CPU's part is these columns; the calls of stop functions are told at no step, and are apart
-pub record IsPart (c : Columns) (part : Part) : Type 0 where
+pub record IsPart (c : Columns) (part : StopPart) : Type 0 where
   pub holds : c.holds ≡ part.holds
   pub begun : c.begun ≡ part.begun
   pub collected : c.collected ≡ part.collected
@@ -89,7 +89,7 @@ pub record IsPart (c : Columns) (part : Part) : Type 0 where
   pub patched : AreFirst MOST_KEYS c.patched unmoved part.patched
 
 -- what a CPU knows is its own part of these stops
-pub record Sees (p : StopState) (seat : ℕ → Seat) (source : ℕ → Source) (v : Known) : Type 0 where
+pub record Sees (p : StopState) (seat : ℕ → StopRole) (source : ℕ → Source) (v : KnownStops) : Type 0 where
   pub below : v.number < cpus
   pub seat_is : seat v.number ≡ v.seat
   pub source_is : told_source (source v.number) ≡ v.source
@@ -97,7 +97,7 @@ pub record Sees (p : StopState) (seat : ℕ → Seat) (source : ℕ → Source) 
   pub part_is : IsPart (columns_of p v.number) v.part
 
 -- a CPU that has done nothing
-abbrev pub no_part : Part
+abbrev pub no_part : StopPart
 no_part = record {
   holds = false;
   begun = [];
@@ -111,23 +111,23 @@ no_part = record {
   patched = replicate MOST_KEYS unmoved;
 }
 
-abbrev pub fresh : Setting → ℕ → Known
+abbrev pub fresh : StopSetting → ℕ → KnownStops
 fresh k me = record { setting = k; number = me; seat = Free; source = Shut; part = no_part; carried = 0; moves = []; attempts = []; steps = 0 }
 
 -- with this answer, which it carries from now on
-abbrev pub carrying : ℕ → Known → Known
+abbrev pub carrying : ℕ → KnownStops → KnownStops
 carrying x v = record v { carried = x }
 
 -- with one more step of its own
-abbrev pub noting : OwnMove → Known → Known
+abbrev pub noting : OwnMove → KnownStops → KnownStops
 noting m v = record v { moves = v.moves ++ m ∷ [] }
 
 -- with one more attempt to enter the stop of this slot
-abbrev pub attempting : ℕ → Bool → Known → Known
+abbrev pub attempting : ℕ → Bool → KnownStops → KnownStops
 attempting slot entered v = record v { attempts = v.attempts ++ record { slot = slot; entered = entered } ∷ [] }
 
 -- with this number of steps more
-abbrev pub stepped : ℕ → Known → Known
+abbrev pub stepped : ℕ → KnownStops → KnownStops
 stepped n v = record v { steps = v.steps + n }
 
 -- the same stops; where the step stores an answer, with that answer of this CPU's function, which no step tells before
@@ -143,18 +143,19 @@ pub record AreTold (u : Setup) (me : ℕ) (p p' : StopState) (seen : Seen) : Typ
 
 -- the stops go on by a step of this CPU, after which it knows w: each other CPU stays where it was, and what it knows of them
 -- stays true
-pub record GoesOn (k : Setting) (p : StopState) (seat : ℕ → Seat) (source : ℕ → Source) (me : ℕ) (at : Word → ℕ) (w : Known) : Type 0 where
+pub record GoesOn (k : StopSetting) (p : StopState) (seat : ℕ → StopRole) (source : ℕ → Source) (me : ℕ) (at : Word → ℕ) (w : KnownStops) : Type 0 where
   pub stops : StopState
-  pub seats : ℕ → Seat
+  pub seats : ℕ → StopRole
   pub sources : ℕ → Source
   pub shown : StopShows (setup_in k) stops at seats sources
   pub mine : Sees stops seats sources w
   pub number_is : w.number ≡ me
   pub setting_is : w.setting ≡ k
-  pub others : (o : Known) → o.number ≢ me → Sees p seat source o → Sees stops seats sources o
+  pub others : (o : KnownStops) → o.number ≢ me → Sees p seat source o → Sees stops seats sources o
   pub still : (c : ℕ) → c ≢ me → (seats c ≡ seat c) × (sources c ≡ source c)
 
 -- the same by this step, which tells just the stops that it goes on to
-pub record GoesOnBy (k : Setting) (p : StopState) (seat : ℕ → Seat) (source : ℕ → Source) (me : ℕ) (at : Word → ℕ) (w : Known) (seen : Seen) : Type 0 where
+pub record GoesOnBy (k : StopSetting) (p : StopState) (seat : ℕ → StopRole) (source : ℕ → Source) (me : ℕ) (at : Word → ℕ) (w : KnownStops)
+    (seen : Seen) : Type 0 where
   pub goes : GoesOn k p seat source me at w
   pub told : AreTold (setup_in k) me p goes.stops seen

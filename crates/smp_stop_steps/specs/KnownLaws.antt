@@ -2,11 +2,11 @@
 use Rattle.std.specs.Prelude.{◌≡◌, ℕ, ◌+◌, Some, None}
 use Rattle.smp_stop_steps.specs.Names.{word_of, at_after, seen_of, Word, Work}
 use Rattle.smp_stop_steps.specs.Moves.{Move, Refill, Raise, Close, MayStep, known_access}
-use Rattle.smp_stop_steps.specs.{Known.Known, Known.Sees, Known.setup_in, KnownAfter.known_entering, Labels.Change, Labels.Whole, Patchers.IsNextOfPatch}
-use Rattle.smp_stop_steps.specs.{Patchers.label_stored, Premises.MaySee, Promises.KeysStand, Seats.Seat, Shows.StopShows, Sources.Source, State.StopState}
+use Rattle.smp_stop_steps.specs.{Known.KnownStops, Known.Sees, Known.setup_in, KnownAfter.known_entering, Labels.Change, Labels.Whole, Patchers.IsNextOfPatch}
+use Rattle.smp_stop_steps.specs.{Patchers.label_stored, Premises.MaySee, Promises.KeysStand, Seats.StopRole, Shows.StopShows, Sources.Source, State.StopState}
 
 -- who may make it, that a store to a label is the next of the CPU's patch, and that outside a patch no key is turned
-pub record KeepsMoveLaws (p : StopState) (at : Word → ℕ) (v : Known) (m : Move) : Type 0 where
+pub record KeepsMoveLaws (p : StopState) (at : Word → ℕ) (v : KnownStops) (m : Move) : Type 0 where
   pub premise :
       let access = known_access v m in
       let seen = seen_of v.number access (at (word_of access)) None in
@@ -15,7 +15,8 @@ pub record KeepsMoveLaws (p : StopState) (at : Word → ℕ) (v : Known) (m : Mo
   pub stands : p.now.patching ≡ Whole → KeysStand at (at_after at (known_access v m))
 
 abbrev pub KnownMovesKeepLaws : Type 0
-KnownMovesKeepLaws = (p : StopState) (at : Word → ℕ) (seat : ℕ → Seat) (source : ℕ → Source) (v : Known) → StopShows (setup_in v.setting) p at seat source →
+KnownMovesKeepLaws = (p : StopState) (at : Word → ℕ) (seat : ℕ → StopRole) (source : ℕ → Source) (v : KnownStops)
+    → StopShows (setup_in v.setting) p at seat source →
     Sees p seat source v → (m : Move) → MayStep v m → KeepsMoveLaws p at v m
 
 -- how much a step counts: the three stores that only the last CPU of a stop makes are not counted, since their seats alone say
@@ -28,6 +29,6 @@ weight_of _ = 1
 
 -- each step that a CPU may make is counted once, whatever it finds and whichever work it learns, but for those that are due
 abbrev pub KnownStepsCount : Type 0
-KnownStepsCount = (v : Known) (m : Move) → MayStep v m → (found : ℕ) (w : Work) →
+KnownStepsCount = (v : KnownStops) (m : Move) → MayStep v m → (found : ℕ) (w : Work) →
     let seen = seen_of v.number (known_access v m) found None in
     (known_entering w v seen.act seen.word seen.found seen.put).steps ≡ v.steps + weight_of m

@@ -3,8 +3,8 @@ use Rattle.std.specs.Prelude.{◌≡◌, ◌≢◌, ◌⊎◌, ℕ, ◌+◌, ◌
 use Rattle.smp_words.specs.declared.access.Access.TheVariants.{Load, Store, Exchange, Sub, And}
 use Rattle.smp_stop_steps.specs.Names.{has, MOST_KEYS, word_of, at_after, seen_of, cpus, Access, Field, One, Patch, Work, Word, Gate, Slot, Key, Entry, Site}
 use Rattle.smp_stop_steps.specs.Names.{DISABLE_IRQ, RUN, EXIT}
-use Rattle.smp_stop_steps.specs.Known.{Known, Setting, Sees, GoesOnBy, fresh, setup_in, told_work}
-use Rattle.smp_stop_steps.specs.Seats.{Seat, Free, In, Gives, Alters, Closes, Rests, Fills, Sets, irq_of}
+use Rattle.smp_stop_steps.specs.Known.{KnownStops, StopSetting, Sees, GoesOnBy, fresh, setup_in, told_work}
+use Rattle.smp_stop_steps.specs.Seats.{StopRole, Free, In, Gives, Alters, Closes, Rests, Fills, Sets, irq_of}
 use Rattle.smp_stop_steps.specs.{Counts.mask_weight, KnownAfter.is_drafting, KnownAfter.known_entering, KnownAfter.no_work, Callings.HasCalled, Labels.Change}
 use Rattle.smp_stop_steps.specs.{Shows.StopShows, Sits.IsNudge, Slots.begun_value, Slots.order, Sources.Source, Sources.Shut, Sources.Drafts, Sources.Owns}
 use Rattle.smp_stop_steps.specs.{Sources.Collects, Sources.IsWork, Stages.all_but, Stages.store_of, State.Idle, State.StopState, State.no_stops, Tells.plan_at}
@@ -53,7 +53,7 @@ abbrev pub IsThrough : Work → ℕ → Type 0
 IsThrough w a = (a ≡ EXIT) ⊎ (w.kind ≡ One)
 
 -- a CPU that knows this may make this step
-abbrev pub MayStep : Known → Move → Type 0
+abbrev pub MayStep : KnownStops → Move → Type 0
 MayStep v TakeGate = Unit {0}
 MayStep v OpenGate = (v.part.holds ≡ true) × (is_drafting v.source ≡ false)
 MayStep v (Draft w) = (v.source ≡ Shut) × (v.part.holds ≡ true) × IsWork (setup_in v.setting) w
@@ -82,7 +82,7 @@ MayStep v (LoadField s w a l f) = IsPlain f × (v.seat ≡ In s w a l Rests)
 MayStep v (LoadEntry s w count made rest i) = v.seat ≡ Alters s w count made rest
 
 -- its access
-abbrev pub known_access : Known → Move → Access
+abbrev pub known_access : KnownStops → Move → Access
 known_access v TakeGate = Exchange Gate 0 (v.number + 1)
 known_access v OpenGate = Store Gate 0
 known_access v (Draft w) = Store (Slot v.number Field.Kind) (begun_value cpus w Field.Kind)
@@ -115,17 +115,17 @@ entering p (Slot s f) = (p.now.stop s).work
 entering p _ = no_work
 
 -- a CPU that knows this may make this access
-pub record Can (v : Known) (access : Access) : Type 0 where
+pub record Can (v : KnownStops) (access : Access) : Type 0 where
   pub move : Move
   pub may : MayStep v move
   pub is_access : known_access v move ≡ access
 
 -- at first, and after each step that a CPU may make by what it knows, each CPU knows its part of stops that the words show
 abbrev pub NothingIsKnown : Type 0
-NothingIsKnown = (k : Setting) (me : ℕ) → me < cpus → Sees no_stops (λ _. Free) (λ _. Shut) (fresh k me)
+NothingIsKnown = (k : StopSetting) (me : ℕ) → me < cpus → Sees no_stops (λ _. Free) (λ _. Shut) (fresh k me)
 
 abbrev pub MovesAreKnown : Type 0
-MovesAreKnown = (p : StopState) (at : Word → ℕ) (seat : ℕ → Seat) (source : ℕ → Source) (v : Known) → StopShows (setup_in v.setting) p at seat source →
+MovesAreKnown = (p : StopState) (at : Word → ℕ) (seat : ℕ → StopRole) (source : ℕ → Source) (v : KnownStops) → StopShows (setup_in v.setting) p at seat source →
     Sees p seat source v →
     (m : Move) → MayStep v m →
     let access = known_access v m in

@@ -4,7 +4,8 @@ use Rattle.std.specs.Prelude.{◌≡◌, ◌≢◌, ◌⊎◌, ℕ, ℤ, ◌+◌
 use Rattle.smp_stop_steps.specs.Names.{has, put, Note, Seen, Word, Gate, Slot, Key, Entry, Site, Work, StopStage, RUN, EXIT}
 use Rattle.smp_stop_steps.specs.{KeyCounts.moved_by, Labels.ReadSite, Carries.CarriesIn, Stages.StopControlValue, Steps.state_after, Tells.first_readings}
 use Rattle.smp_stop_steps.specs.{Labels.Reading, Labels.ReadKey, Shows.StopShows, Sources.Source, State.Setup, State.StopState, State.StopCall, Steps.note_then}
-use Rattle.smp_stop_steps.specs.{Seats.Seat, Sits.Sits, State.Moved, State.Calls, Stop.Inside, Stop.Refills, Stop.Last, Stop.Ended, Stop.acked, Tells.tells}
+use Rattle.smp_stop_steps.specs.{Seats.StopRole, Sits.ControlFits, State.Moved, State.Calls, Stop.Inside, Stop.Refills, Stop.Last}
+use Rattle.smp_stop_steps.specs.{Stop.Ended, Stop.acked, Tells.tells}
 
 -- what only a step with a note of its own may change: the gate, the works begun, the results collected, interrupts that go
 -- on, the readings, and the nudges
@@ -117,8 +118,8 @@ NoteFits p q me (Some _) = ⊥
 
 -- the same of each step of a CPU's command
 abbrev pub NotesFit : Type 0
-NotesFit = (u : Setup) (p : StopState) (at : Word → ℕ) (seat : ℕ → Seat) (source : ℕ → Source) → StopShows u p at seat source →
-    (c : StopControlValue) (me : ℕ) → Sits u me (at Gate) c (seat me) (source me) → CarriesIn c (p.calling me) →
+NotesFit = (u : Setup) (p : StopState) (at : Word → ℕ) (seat : ℕ → StopRole) (source : ℕ → Source) → StopShows u p at seat source →
+    (c : StopControlValue) (me : ℕ) → ControlFits u me (at Gate) c (seat me) (source me) → CarriesIn c (p.calling me) →
     (stage : StopStage) → c.stage ≡ Some stage → NoteFits p (state_after u p at c me stage) me (note_then u at c me stage)
 
 -- of a step as it was seen: one of the call half changes nothing of the stops

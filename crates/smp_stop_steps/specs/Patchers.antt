@@ -3,7 +3,7 @@ use Rattle.std.specs.Prelude.{◌≡◌, ℕ, Bool, true, false, Option, Some, N
 use Rattle.smp_labels.specs.Law.{IsLawful}
 use Rattle.smp_words.specs.declared.access.Access.TheVariants.{Store}
 use Rattle.smp_stop_steps.specs.Names.{has, StopStage, DISABLE_IRQ, RUN, Patch, Work, Word, Key, Site, Access, Place}
-use Rattle.smp_stop_steps.specs.{Labels.Change, Labels.Patching, Labels.Patches, Labels.labels_in, Promises.OfEachCpu, Promises.RunsAlone, Seats.Seat}
+use Rattle.smp_stop_steps.specs.{Labels.Change, Labels.Patching, Labels.Patches, Labels.labels_in, Promises.OfEachCpu, Promises.RunsAlone, Seats.StopRole}
 use Rattle.smp_stop_steps.specs.{Shows.StopShows, Sources.Source, Stages.stop_access, State.Setup, State.StopState, Stop.Inside}
 
 -- a patch has made its first store and not its last
@@ -30,10 +30,10 @@ HasPatcher u p = (c : ℕ) (work : Work) (count : ℕ) (made rest : List Change)
     work
 
 abbrev pub TableIsLawful : Type 0
-TableIsLawful = (u : Setup) (p : StopState) (at : Word → ℕ) (seat : ℕ → Seat) (source : ℕ → Source) → StopShows u p at seat source → IsLawfulOutside p at
+TableIsLawful = (u : Setup) (p : StopState) (at : Word → ℕ) (seat : ℕ → StopRole) (source : ℕ → Source) → StopShows u p at seat source → IsLawfulOutside p at
 
 abbrev pub PatchersRun : Type 0
-PatchersRun = (u : Setup) (p : StopState) (at : Word → ℕ) (seat : ℕ → Seat) (source : ℕ → Source) → StopShows u p at seat source → HasPatcher u p
+PatchersRun = (u : Setup) (p : StopState) (at : Word → ℕ) (seat : ℕ → StopRole) (source : ℕ → Source) → StopShows u p at seat source → HasPatcher u p
 
 -- a CPU whose next store is to a key or a site patches, and it is the next store of its patch
 pub record IsNextOfPatch (p : StopState) (me : ℕ) (change : Change) : Type 0 where

@@ -3,18 +3,18 @@ use Rattle.std.specs.{Prelude.◌≡◌, Prelude.ℕ, Prelude.◌≤◌, Prelude
 use Rattle.smp_labels.specs.Plans.{AreEntriesOf}
 use Rattle.smp_stop_steps.specs.Labels.{Patching, Whole, Patches, LabelsShow, labels_in, Agrees, StandsSet}
 use Rattle.smp_stop_steps.specs.{Names.Patch, Names.Word, Names.Slot, Names.RUN, Stop.acked, Stop.is_inside, Slots.SlotShows, State.Setup, State.Present}
-use Rattle.smp_stop_steps.specs.{Seats.Seat, Seats.Alters, Seats.Stands, Seats.irq_of, Sources.IsPatchWork}
+use Rattle.smp_stop_steps.specs.{Seats.StopRole, Seats.Alters, Seats.RoleStands, Seats.irq_of, Sources.IsPatchWork}
 
 -- who patches is the first online CPU, inside the function of a patch
-abbrev pub RunnerShows : ℕ → Patching → (ℕ → Seat) → Type 0
+abbrev pub RunnerShows : ℕ → Patching → (ℕ → StopRole) → Type 0
 RunnerShows first Whole seat = Unit {0}
 RunnerShows first (Patches c w count made rest) seat = (c ≡ first) × ((s : ℕ) × (seat c ≡ Alters s w count made rest))
 
-pub record PresentShows (u : Setup) (n : Present) (at : Word → ℕ) (seat : ℕ → Seat) : Type 0 where
+pub record PresentShows (u : Setup) (n : Present) (at : Word → ℕ) (seat : ℕ → StopRole) : Type 0 where
   -- each slot shows its stop
   pub slots : (s : ℕ) → SlotShows u.cpus (n.stop s) (λ f. at (Slot s f))
   -- each CPU is where its seat says, and in one stop
-  pub stands : (c : ℕ) → Stands n c (seat c)
+  pub stands : (c : ℕ) → RoleStands n c (seat c)
   pub homes : (s c : ℕ) → is_inside ((n.stop s).standing c) ≡ true → n.inside c ≡ Some s
   pub irq : (c : ℕ) → n.irq c ≡ irq_of (seat c)
   -- patches

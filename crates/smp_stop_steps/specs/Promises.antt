@@ -7,8 +7,8 @@ use Rattle.smp_stop_steps.specs.Names.{has, is_on, StopStage, Advance, NudgeKey,
 use Rattle.smp_stop_steps.specs.Names.{DISABLE_IRQ, RUN}
 use Rattle.smp_stop_steps.specs.Labels.{labels_in, Agrees, Change, Whole, Patches, ReadKey, patch_answer}
 use Rattle.smp_stop_steps.specs.{Stop.Inside, Laws.PhaseLaw, Laws.FunctionLaw, KeyCounts.CountShows, State.Setup, State.IsSetup, State.StopState}
-use Rattle.smp_stop_steps.specs.{State.no_stops, Seats.Seat, Seats.Free, Sources.Source, Sources.Shut, Shows.StopShows, Stages.StopControlValue}
-use Rattle.smp_stop_steps.specs.{Stages.stop_outcome, Carries.CarriesIn, Sits.Sits, Sits.IsNudge, Steps.StopStep, Steps.CallStep, Steps.at_then}
+use Rattle.smp_stop_steps.specs.{State.no_stops, Seats.StopRole, Seats.Free, Sources.Source, Sources.Shut, Shows.StopShows, Stages.StopControlValue}
+use Rattle.smp_stop_steps.specs.{Stages.stop_outcome, Carries.CarriesIn, Sits.ControlFits, Sits.IsNudge, Steps.StopStep, Steps.CallStep, Steps.at_then}
 use Rattle.smp_stop_steps.specs.{Steps.state_after, Tells.plan_at, Tells.first_readings, declared.stage.RoundStage.TheVariants.Acknowledge}
 
 -- at first: words with all slots and the gate free and a lawful label table with all keys off show that nothing was begun
@@ -19,13 +19,13 @@ NothingBegun = (u : Setup) (at : Word → ℕ) → IsSetup u → at Gate ≡ 0 �
 
 -- each step of a CPU at any stage keeps what the words show, and what is seen of it tells the stops after it
 abbrev pub StepsAreTold : Type 0
-StepsAreTold = (u : Setup) (p : StopState) (at : Word → ℕ) (seat : ℕ → Seat) (source : ℕ → Source) → StopShows u p at seat source →
-    (c : StopControlValue) (me : ℕ) → Sits u me (at Gate) c (seat me) (source me) → CarriesIn c (p.calling me) →
+StepsAreTold = (u : Setup) (p : StopState) (at : Word → ℕ) (seat : ℕ → StopRole) (source : ℕ → Source) → StopShows u p at seat source →
+    (c : StopControlValue) (me : ℕ) → ControlFits u me (at Gate) c (seat me) (source me) → CarriesIn c (p.calling me) →
     (stage : StopStage) → c.stage ≡ Some stage → StopStep u p at seat source c me stage × CallStep u p at c me stage
 
 -- the phase law, of each open stop of several CPUs
 abbrev pub KeepThePhaseLaw : Type 0
-KeepThePhaseLaw = (u : Setup) (p : StopState) (at : Word → ℕ) (seat : ℕ → Seat) (source : ℕ → Source) → StopShows u p at seat source →
+KeepThePhaseLaw = (u : Setup) (p : StopState) (at : Word → ℕ) (seat : ℕ → StopRole) (source : ℕ → Source) → StopShows u p at seat source →
     (s : ℕ) → (p.now.stop s).is_open ≡ true → (p.now.stop s).phase ≢ 0 → PhaseLaw u.cpus (p.now.stop s) (at (Slot s Field.Ack))
 
 -- the function law: while a CPU has looked at phase 3 and not acknowledged it, every CPU of the mask has acknowledged 2,
@@ -35,7 +35,7 @@ pub record RunsAlone (p : StopState) (s me : ℕ) : Type 0 where
   pub all_off : (c : ℕ) → has (p.now.stop s).work.mask c ≡ true → p.now.irq c ≡ false
 
 abbrev pub KeepTheFunctionLaw : Type 0
-KeepTheFunctionLaw = (u : Setup) (p : StopState) (at : Word → ℕ) (seat : ℕ → Seat) (source : ℕ → Source) → StopShows u p at seat source →
+KeepTheFunctionLaw = (u : Setup) (p : StopState) (at : Word → ℕ) (seat : ℕ → StopRole) (source : ℕ → Source) → StopShows u p at seat source →
     (s me : ℕ) → (p.now.stop s).standing me ≡ Inside DISABLE_IRQ RUN → RunsAlone p s me
 
 -- the label law, for a CPU that is online and has its interrupts on: the table is lawful, and says all that it has read
@@ -44,12 +44,12 @@ pub record ReadsLawful (p : StopState) (at : Word → ℕ) (me : ℕ) : Type 0 w
   pub agrees : AllByRecursion (Agrees (labels_in at)) (p.now.readings me)
 
 abbrev pub KeepTheLabelLaw : Type 0
-KeepTheLabelLaw = (u : Setup) (p : StopState) (at : Word → ℕ) (seat : ℕ → Seat) (source : ℕ → Source) → StopShows u p at seat source →
+KeepTheLabelLaw = (u : Setup) (p : StopState) (at : Word → ℕ) (seat : ℕ → StopRole) (source : ℕ → Source) → StopShows u p at seat source →
     (me : ℕ) → u.online me ≡ true → p.now.irq me ≡ true → ReadsLawful p at me
 
 -- the count law: each key's word is what all CPUs together have moved it
 abbrev pub KeepTheCountLaw : Type 0
-KeepTheCountLaw = (u : Setup) (p : StopState) (at : Word → ℕ) (seat : ℕ → Seat) (source : ℕ → Source) → StopShows u p at seat source →
+KeepTheCountLaw = (u : Setup) (p : StopState) (at : Word → ℕ) (seat : ℕ → StopRole) (source : ℕ → Source) → StopShows u p at seat source →
     (k : ℕ) → CountShows u.cpus p.nudged p.patched k (at (Key k))
 
 -- while a patch runs, every CPU that is online has its interrupts off
@@ -58,12 +58,12 @@ IsPatchedAlone u p = (c : ℕ) (work : Work) (count : ℕ) (made rest : List Cha
     (me : ℕ) → u.online me ≡ true → p.now.irq me ≡ false
 
 abbrev pub PatchesAlone : Type 0
-PatchesAlone = (u : Setup) (p : StopState) (at : Word → ℕ) (seat : ℕ → Seat) (source : ℕ → Source) → StopShows u p at seat source → IsPatchedAlone u p
+PatchesAlone = (u : Setup) (p : StopState) (at : Word → ℕ) (seat : ℕ → StopRole) (source : ℕ → Source) → StopShows u p at seat source → IsPatchedAlone u p
 
 -- a law of each CPU, by where it is
 abbrev pub OfEachCpu : (Setup → StopState → (Word → ℕ) → StopControlValue → ℕ → Type 0) → Type 0
-OfEachCpu law = (u : Setup) (p : StopState) (at : Word → ℕ) (seat : ℕ → Seat) (source : ℕ → Source) → StopShows u p at seat source →
-    (c : StopControlValue) (me : ℕ) → Sits u me (at Gate) c (seat me) (source me) → law u p at c me
+OfEachCpu law = (u : Setup) (p : StopState) (at : Word → ℕ) (seat : ℕ → StopRole) (source : ℕ → Source) → StopShows u p at seat source →
+    (c : StopControlValue) (me : ℕ) → ControlFits u me (at Gate) c (seat me) (source me) → law u p at c me
 
 -- outside a patch no step turns a key on or off, or changes a site
 pub record KeysStand (at at' : Word → ℕ) : Type 0 where

@@ -1,7 +1,7 @@
 -- What holds between the stops, the words of the stop table, and where each CPU is, between any two steps.
 use Rattle.std.specs.Prelude.{◌≡◌, ℕ, ◌+◌, Option, Some, None}
 use Rattle.smp_stop_steps.specs.Names.{Word, Gate, Slot, Key}
-use Rattle.smp_stop_steps.specs.{State.Setup, State.IsSetup, State.StopState, Callings.IsCalling, Callings.AreClosing, Seats.Seat, Sources.Source}
+use Rattle.smp_stop_steps.specs.{State.Setup, State.IsSetup, State.StopState, Callings.IsCalling, Callings.AreClosing, Seats.StopRole, Sources.Source}
 use Rattle.smp_stop_steps.specs.{Sources.SourceShows, Past.HasPast, Present.PresentShows, Present.OwnsKey, KeyCounts.CountShows}
 
 -- the holder of the gate + 1, or 0
@@ -9,7 +9,7 @@ abbrev pub gate_word : Option ℕ → ℕ
 gate_word None = 0
 gate_word (Some c) = c + 1
 
-pub record StopShows (u : Setup) (p : StopState) (at : Word → ℕ) (seat : ℕ → Seat) (source : ℕ → Source) : Type 0 where
+pub record StopShows (u : Setup) (p : StopState) (at : Word → ℕ) (seat : ℕ → StopRole) (source : ℕ → Source) : Type 0 where
   pub setup : IsSetup u
   -- the words show the stops, the phase law and the label law
   pub present : PresentShows u p.now at seat
@@ -28,6 +28,6 @@ pub record StopShows (u : Setup) (p : StopState) (at : Word → ℕ) (seat : ℕ
 
 -- of this what the headline rests on: where each CPU is, and what the words of slots, of labels and of functions show of it
 pub record AreAtSeats (u : Setup) (p : StopState) (at : Word → ℕ) : Type 0 where
-  pub seat : ℕ → Seat
+  pub seat : ℕ → StopRole
   pub present : PresentShows u p.now at seat
   pub callings : (c : ℕ) → IsCalling c (seat c) (p.calling c)

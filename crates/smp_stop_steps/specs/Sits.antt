@@ -3,7 +3,7 @@ use Rattle.std.specs.Prelude.{◌≡◌, ◌≢◌, ◌⊎◌, ℕ, ◌+◌, ◌
 use Rattle.smp_stop_steps.specs.Names.{has, is_on, change_of, IsKeyWord, patch_of, MOST_SITES, CompletionStage, RoundStage, StopStage, OpenGate}
 use Rattle.smp_stop_steps.specs.Names.{Begin, Enter, EnterKind, EnterMask, EnterActive, Advance, Complete, Close, LoadDone, LoadResult, NudgeKey, ExchangeKey}
 use Rattle.smp_stop_steps.specs.Names.{Visit, One, Multi, Patch, Work, DISABLE_IRQ, RUN, EXIT}
-use Rattle.smp_stop_steps.specs.Seats.{Seat, Free, In, Gives, Alters, Closes, Duty, Rests, Fills, Sets, irq_of}
+use Rattle.smp_stop_steps.specs.Seats.{StopRole, Free, In, Gives, Alters, Closes, Duty, Rests, Fills, Sets, irq_of}
 use Rattle.smp_stop_steps.specs.Sources.{Source, Shut, Drafts, Owns, Collects}
 use Rattle.smp_stop_steps.specs.{Labels.Change, Labels.count_set, Labels.patch_answer, Tells.plan_at, Slots.order, State.Setup, Stages.StopControlValue}
 use Rattle.smp_stop_steps.specs.{declared.stage.StopStage.TheVariants.ReadKey, declared.stage.StopStage.TheVariants.ReadSite}
@@ -15,20 +15,20 @@ pub record IsLoaded (v : Visit) (work : Work) : Type 0 where
   pub active : v.active ≡ work.active
 
 -- the CPU is in the stop of its visit, at these phases
-abbrev pub SitsIn : Visit → ℕ → Duty → Seat → Type 0
+abbrev pub SitsIn : Visit → ℕ → Duty → StopRole → Type 0
 SitsIn v looked t x = (work : Work) × IsLoaded v work × (x ≡ In v.slot work v.acked looked t)
 
 -- between two turns
-abbrev pub SitsAtRest : Option Visit → Seat → Type 0
+abbrev pub SitsAtRest : Option Visit → StopRole → Type 0
 SitsAtRest None x = x ≡ Free
 SitsAtRest (Some v) x = SitsIn v v.acked Rests x
 
 -- it has looked at RUN and is to call a function
-abbrev pub SitsAtRun : ℕ → Visit → Work → Seat → Type 0
+abbrev pub SitsAtRun : ℕ → Visit → Work → StopRole → Type 0
 SitsAtRun me v work x = IsLoaded v work × (v.acked ≡ DISABLE_IRQ) × (has v.active me ≡ true) × (x ≡ In v.slot work DISABLE_IRQ RUN Rests)
 
 -- it makes a patch of a key that it found at this count
-abbrev pub SitsAtPatch : Setup → Visit → Work → ℕ → List Change → Seat → Type 0
+abbrev pub SitsAtPatch : Setup → Visit → Work → ℕ → List Change → StopRole → Type 0
 SitsAtPatch u v work count made x = IsLoaded v work × (v.acked ≡ DISABLE_IRQ) × (x ≡ Alters v.slot work count made (plan_at u work count))
 
 -- with this many entries loaded
@@ -42,7 +42,7 @@ pub record IsNudge (found new : ℕ) : Type 0 where
   pub word : IsKeyWord new
 
 -- it loads the entries of such a patch, which turns the key on or off
-pub record SitsAtEntry (u : Setup) (v : Visit) (work : Work) (key word : ℕ) (x : Seat) : Type 0 where
+pub record SitsAtEntry (u : Setup) (v : Visit) (work : Work) (key word : ℕ) (x : StopRole) : Type 0 where
   pub count : ℕ
   pub patch : SitsAtPatch u v work count [] x
   pub key_is : key ≡ work.func
@@ -55,11 +55,11 @@ RunsIf me v true = (v.acked ≡ DISABLE_IRQ) × (v.kind ≡ Multi) × (has v.act
 RunsIf me v false = v.acked ≡ DISABLE_IRQ → has v.active me ≡ false
 
 -- it has acknowledged, and is to set the next phase: with RUN it has run where it is active
-pub record HasRun (me : ℕ) (v : Visit) (ran : Bool) : Type 0 where
+pub record HasRunIf (me : ℕ) (v : Visit) (ran : Bool) : Type 0 where
   pub at_run : ran ≡ true → v.acked ≡ RUN
   pub active : v.acked ≡ RUN → has v.active me ≡ ran
 
-abbrev pub SitsInRound : Setup → ℕ → List Change → Visit → RoundStage → Seat → Type 0
+abbrev pub SitsInRound : Setup → ℕ → List Change → Visit → RoundStage → StopRole → Type 0
 SitsInRound u me changes v (RoundStage.Look answer) x = (v.kind ≢ One) × (v.acked ≢ EXIT) × SitsIn v v.acked Rests x
 SitsInRound u me changes v (RoundStage.LoadFunc answer) x = (v.kind ≢ One) × ((work : Work) × SitsAtRun me v work x)
 SitsInRound u me changes v (RoundStage.LoadArg answer func) x = (v.kind ≢ One) × ((work : Work) × SitsAtRun me v work x × (func ≡ work.func))
@@ -73,14 +73,14 @@ SitsInRound u me changes v (RoundStage.StoreChange made) x =
 SitsInRound u me changes v (RoundStage.Acknowledge answer ran) x = (work : Work) × IsLoaded v work × (v.acked ≤ RUN) ×
     (((x ≡ In v.slot work v.acked (v.acked + 1) Rests) × RunsIf me v ran) ⊎
     ((v.acked ≡ DISABLE_IRQ) × (ran ≡ true) × ((count : ℕ) × (answer ≡ patch_answer work count) × (x ≡ Alters v.slot work count (plan_at u work count) []))))
-SitsInRound u me changes v (RoundStage.Refill ran) x = (work : Work) × IsLoaded v work × (x ≡ In v.slot work v.acked v.acked Fills) × HasRun me v ran
-SitsInRound u me changes v (RoundStage.Raise ran) x = (work : Work) × IsLoaded v work × (x ≡ In v.slot work v.acked v.acked Sets) × HasRun me v ran
+SitsInRound u me changes v (RoundStage.Refill ran) x = (work : Work) × IsLoaded v work × (x ≡ In v.slot work v.acked v.acked Fills) × HasRunIf me v ran
+SitsInRound u me changes v (RoundStage.Raise ran) x = (work : Work) × IsLoaded v work × (x ≡ In v.slot work v.acked v.acked Sets) × HasRunIf me v ran
 
 -- it is through all phases, or in a stop of kind One
 abbrev pub IsThroughAll : Visit → Type 0
 IsThroughAll v = (v.acked ≡ EXIT) ⊎ (v.kind ≡ One)
 
-abbrev pub SitsInCompletion : Visit → CompletionStage → Seat → Type 0
+abbrev pub SitsInCompletion : Visit → CompletionStage → StopRole → Type 0
 SitsInCompletion v CompletionStage.CountDown x =
     (work : Work) × (((v.answer ≡ 0) × IsLoaded v work × IsThroughAll v × (x ≡ In v.slot work v.acked v.acked Rests)) ⊎
     (x ≡ Gives v.slot work v.acked v.answer))
@@ -90,7 +90,7 @@ SitsInCompletion v (CompletionStage.LoadArg answer func) x =
     (v.kind ≡ One) × ((work : Work) × IsLoaded v work × (x ≡ In v.slot work v.acked v.acked Rests) × (func ≡ work.func))
 
 -- its seat at this stage
-abbrev pub SitsAt : Setup → ℕ → StopControlValue → Option StopStage → Seat → Type 0
+abbrev pub SitsAt : Setup → ℕ → StopControlValue → Option StopStage → StopRole → Type 0
 SitsAt u me c (Some (Enter slot)) x = (c.visit ≡ None) × (x ≡ Free) × (slot < u.cpus)
 SitsAt u me c (Some (EnterKind slot)) x = (work : Work) × (x ≡ In slot work 0 0 Rests)
 SitsAt u me c (Some (EnterMask slot kind)) x = (work : Work) × (x ≡ In slot work 0 0 Rests) × (kind ≡ work.kind)
@@ -121,7 +121,7 @@ abbrev pub HoldsGate : ℕ → ℕ → Option StopStage → Type 0
 HoldsGate me gate (Some OpenGate) = gate ≡ me + 1
 HoldsGate me gate _ = Unit {0}
 
-pub record Sits (u : Setup) (me gate : ℕ) (c : StopControlValue) (x : Seat) (y : Source) : Type 0 where
+pub record ControlFits (u : Setup) (me gate : ℕ) (c : StopControlValue) (x : StopRole) (y : Source) : Type 0 where
   pub below : me < u.cpus
   pub irq : c.interrupts ≡ irq_of x
   pub seat : SitsAt u me c c.stage x

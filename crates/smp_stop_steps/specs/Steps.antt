@@ -3,7 +3,8 @@ use Rattle.std.specs.Prelude.{◌≡◌, ◌≢◌, ◌⊎◌, ℕ, Bool, true, 
 use Rattle.smp_stop_steps.specs.Names.{put, word_of, at_after, seen_of, StopStage, Note, One, Patch, Word, Gate}
 use Rattle.smp_stop_steps.specs.State.{Setup, StopState, Calling, Idle, Calls, StopCall}
 use Rattle.smp_stop_steps.specs.{Callings.HasCalled, Callings.answer_in, Tells.called_more, Stages.StopControlValue, Stages.stop_access, Stages.stop_outcome}
-use Rattle.smp_stop_steps.specs.{Tells.carried, Tells.tells, Seats.Seat, Sources.Source, Shows.StopShows, Stages.answer_at, Carries.CarriesIn, Sits.Sits}
+use Rattle.smp_stop_steps.specs.{Tells.carried, Tells.tells, Seats.StopRole, Sources.Source, Shows.StopShows, Stages.answer_at}
+use Rattle.smp_stop_steps.specs.{Carries.CarriesIn, Sits.ControlFits}
 
 -- the state after a step of a CPU at this stage
 abbrev pub state_after : Setup → StopState → (Word → ℕ) → StopControlValue → ℕ → StopStage → StopState
@@ -18,23 +19,23 @@ abbrev pub control_then : Setup → (Word → ℕ) → StopControlValue → ℕ 
 control_then u at c me stage = (stop_outcome me c stage (at (word_of (stop_access u.cpus me c.changes stage)))).control
 
 -- after the step the words show the stops that it tells, with the CPU where its next stage says
-pub record StopStep (u : Setup) (p : StopState) (at : Word → ℕ) (seat : ℕ → Seat) (source : ℕ → Source) (c : StopControlValue) (me : ℕ)
+pub record StopStep (u : Setup) (p : StopState) (at : Word → ℕ) (seat : ℕ → StopRole) (source : ℕ → Source) (c : StopControlValue) (me : ℕ)
     (stage : StopStage) : Type 0 where
-  pub seat_after : Seat
+  pub seat_after : StopRole
   pub source_after : Source
   pub shows : StopShows u (state_after u p at c me stage) (at_then u at c me stage) (put seat me seat_after) (put source me source_after)
-  pub sits : Sits u me (at_then u at c me stage Gate) (control_then u at c me stage) seat_after source_after
+  pub sits : ControlFits u me (at_then u at c me stage Gate) (control_then u at c me stage) seat_after source_after
 
 abbrev pub note_then : Setup → (Word → ℕ) → StopControlValue → ℕ → StopStage → Option Note
 note_then u at c me stage = (stop_outcome me c stage (at (word_of (stop_access u.cpus me c.changes stage)))).note
 
 -- what a step may tell of functions: how far each CPU is with its own, the calls made, and the answers given
-pub record Told : Type 0 where
+pub record ToldStops : Type 0 where
   pub calling : ℕ → Calling
   pub calls : ℕ → List StopCall
   pub answers : ℕ → ℕ → List ℕ
 
-abbrev pub told_of : StopState → Told
+abbrev pub told_of : StopState → ToldStops
 told_of p = record { calling = p.calling; calls = p.calls; answers = p.answers }
 
 abbrev pub is_run : Option Note → Bool

@@ -1,7 +1,7 @@
 -- All laws of the stop half, of these stops and these words.
 use Rattle.std.specs.Prelude.{◌≡◌, ◌≢◌, ℕ, true}
 use Rattle.smp_stop_steps.specs.{Names.DISABLE_IRQ, Names.RUN, Closings.HasLast, Patchers.HasPatcher, Promises.RunsAlone, Promises.ReadsLawful, Shows.StopShows}
-use Rattle.smp_stop_steps.specs.{Names.Word, Names.Slot, Names.Key, Laws.PhaseLaw, Seats.Seat, Sources.Source, State.Setup, State.StopState, Stop.Inside}
+use Rattle.smp_stop_steps.specs.{Names.Word, Names.Slot, Names.Key, Laws.PhaseLaw, Seats.StopRole, Sources.Source, State.Setup, State.StopState, Stop.Inside}
 use Rattle.smp_stop_steps.specs.{Functions.HasFunctions, Interrupts.InterruptLaw, KeyCounts.CountShows, Patchers.IsLawfulOutside, Promises.IsPatchedAlone}
 use Rattle.smp_stop_steps.specs.Names.field
 
@@ -23,4 +23,4 @@ pub record KeepsStopLaws (u : Setup) (p : StopState) (at : Word → ℕ) : Type 
   pub counts : (k : ℕ) → CountShows u.cpus p.nudged p.patched k (at (Key k))
 
 abbrev pub KeepTheStopLaws : Type 0
-KeepTheStopLaws = (u : Setup) (p : StopState) (at : Word → ℕ) (seat : ℕ → Seat) (source : ℕ → Source) → StopShows u p at seat source → KeepsStopLaws u p at
+KeepTheStopLaws = (u : Setup) (p : StopState) (at : Word → ℕ) (seat : ℕ → StopRole) (source : ℕ → Source) → StopShows u p at seat source → KeepsStopLaws u p at

@@ -3,8 +3,8 @@ use Rattle.std.specs.Prelude.{◌≡◌, ℕ, zero, suc, ◌<◌, ◌≤◌, ◌
 use Rattle.smp_labels.specs.{Entries.entry_word, Labels.Labels}
 use Rattle.smp_words.specs.declared.size.TheConstants.{SLOT_WORDS}
 use Rattle.smp_stop_steps.specs.Names.{has, MOST_KEYS, MOST_SITES, cpus, Gate}
-use Rattle.smp_stop_steps.specs.{State.Setup, State.StopState, Carries.CarriesIn, Seats.Seat, Sources.Source, Sources.Shut, Shows.StopShows}
-use Rattle.smp_stop_steps.specs.{Stages.StopControlValue, Stages.stop_outside, Sits.Sits, Table.StopWords, Table.stop_number}
+use Rattle.smp_stop_steps.specs.{State.Setup, State.StopState, Carries.CarriesIn, Seats.StopRole, Sources.Source, Sources.Shut, Shows.StopShows}
+use Rattle.smp_stop_steps.specs.{Stages.StopControlValue, Stages.stop_outside, Sits.ControlFits, Table.StopWords, Table.stop_number}
 
 -- the least member of a mask below k, or k where there is none
 unfoldable pub first_below : ℕ → ℕ → ℕ
@@ -41,10 +41,10 @@ pub record IsStopTable (t : StopWords) : Type 0 where
 
 -- these words and controls show these stops: there are seats and sources of which each stage says where they are
 pub record StopsShow (u : Setup) (p : StopState) (t : StopWords) (controls : List StopControlValue) : Type 0 where
-  pub seat : ℕ → Seat
+  pub seat : ℕ → StopRole
   pub source : ℕ → Source
   pub shows : StopShows u p (stop_number t) seat source
-  pub sits : (cpu : ℕ) → cpu < u.cpus → Sits u cpu (stop_number t Gate) (stop_control_of controls cpu) (seat cpu) (source cpu)
+  pub sits : (cpu : ℕ) → cpu < u.cpus → ControlFits u cpu (stop_number t Gate) (stop_control_of controls cpu) (seat cpu) (source cpu)
   pub carries : (cpu : ℕ) → cpu < u.cpus → CarriesIn (stop_control_of controls cpu) (p.calling cpu)
   pub shut : (cpu : ℕ) → u.cpus ≤ cpu → source cpu ≡ Shut
 

@@ -16,7 +16,7 @@ pub enum Duty {
 }
 
 /// Where a CPU is with the stops.
-pub enum Seat {
+pub enum StopRole {
     /// In no stop.
     Free,
     /// In this source's stop, with the last phase that it acknowledged and the last that it looked at.
@@ -118,13 +118,13 @@ pub struct Attempt {
 
 /// What a table is made with.
 #[derive(Drop)]
-pub struct Setting {
+pub struct StopSetting {
     pub online: CpuMask,
     pub labels: LabelMap,
 }
 
 /// A CPU's part of the state of all stops.
-pub struct Part {
+pub struct StopPart {
     /// Whether it holds the gate.
     pub holds: bool,
     /// The works that it has begun, and the results that it has collected.
@@ -146,13 +146,13 @@ pub struct Part {
 }
 
 /// What a CPU knows: where it is with the stops, as far as its steps have told, and its own part of their state.
-pub struct Known {
-    pub setting: Setting,
+pub struct KnownStops {
+    pub setting: StopSetting,
     pub number: u32,
-    pub seat: Seat,
+    pub seat: StopRole,
     /// The fields that it has not yet stored are put as 0.
     pub source: Source,
-    pub part: Part,
+    pub part: StopPart,
     /// The answer that it carries from its acknowledgement of `RUN` to its completion, else 0. No word has it, and no step
     /// tells it: the acknowledgement puts it.
     pub carried: u64,

@@ -7,7 +7,7 @@ pub mod kept;
 use crate::control::StopControl;
 use crate::stage::StopStage;
 use crate::start::Terms;
-use crate::table::StopTable;
+use crate::table::WordTable;
 use smp_labels::LabelMap;
 use smp_mask::{CpuMask, SmpError};
 use smp_words::access::Access;
@@ -26,7 +26,7 @@ pub struct Stops<A: Allocator> {
     nr: u32,
     online: CpuMask,
     labels: LabelMap,
-    table: StopTable<A>,
+    table: WordTable<A>,
     /// One for each CPU that there can be.
     controls: Vec<StopControl, A>,
 }
@@ -113,7 +113,7 @@ impl<A: Allocator> Stops<A> {
         ensures empty { IfOk result (StopShown no_stops) }
     {
         let controls = new_controls(alloc)?;
-        let table = StopTable::new(alloc, labels.words())?;
+        let table = WordTable::new(alloc, labels.words())?;
         Ok(Stops {
             nr,
             online,

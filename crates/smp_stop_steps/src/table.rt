@@ -17,13 +17,13 @@ use std::marker::Model;
 
 /// The words of a stop table: the gate, the rendezvous slots, and the labels.
 #[derive(Drop)]
-pub struct StopTable<A: Allocator> {
+pub struct WordTable<A: Allocator> {
     gate: u64,
     slots: Vec<u64, A>,
     labels: LabelWords,
 }
 
-impl<A: Allocator> Model for StopTable<A> {
+impl<A: Allocator> Model for WordTable<A> {
     ghost use Rattle.std.specs.Prelude.{◌≡◌, length};
     ghost use Rattle.smp_stop_steps.specs.Table.{StopWords};
     ghost use Rattle.smp_words.specs.declared.size.TheConstants.{SLOT_WORDS};
@@ -62,7 +62,7 @@ fn write_at(words: &mut [u64], index: usize, number: u64)
 
 ghost use Rattle.std.specs.Prelude.{slice_index, slice_set};
 
-impl<A: Allocator> StopTable<A> {
+impl<A: Allocator> WordTable<A> {
     /// A table with a free gate, free slots, and these labels.
     pub fn new(alloc: A, labels: LabelWords) -> Result<Self, AllocError>
         ensures sized { IfOk result IsStopTable }
@@ -75,7 +75,7 @@ impl<A: Allocator> StopTable<A> {
         }) }
     {
         let slots = vec![in alloc; 0; SLOT_WORDS]?;
-        Ok(StopTable {
+        Ok(WordTable {
             gate: 0,
             slots,
             labels,
@@ -88,7 +88,7 @@ impl<A: Allocator> StopTable<A> {
     {
         let mut slots = Vec::with_capacity(alloc, SLOT_WORDS)?;
         slots.extend_from_slice(&self.slots)?;
-        Ok(StopTable {
+        Ok(WordTable {
             gate: self.gate,
             slots,
             labels: self.labels,

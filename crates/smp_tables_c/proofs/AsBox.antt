@@ -7,14 +7,14 @@ use Rattle.std.proofs.BoxSteps.Form.{Bx}
 use Rattle.std_heap.specs.contracts.Global as Heap
 use Rattle.std_heap.specs.contracts.GlobalAllocator.TheImpl.{ghosts, dict}
 use Rattle.std_heap.proofs.Global.TheLaws as heap
-use Rattle.smp_tables_c.specs.contracts.seat.Seat as Seat
-use Rattle.smp_tables_c.proofs.seat.Seat.TheLaws as seat
-use Rattle.smp_tables_c.specs.contracts.parts.Parts as Parts
-use Rattle.smp_tables_c.specs.contracts.held.Held as Held
+use Rattle.smp_tables_c.specs.contracts.seat.OwnedSeat
+use Rattle.smp_tables_c.proofs.seat.OwnedSeat.TheLaws as seat
+use Rattle.smp_tables_c.specs.contracts.parts.Parts
+use Rattle.smp_tables_c.specs.contracts.held.Held
 
 abbrev pub E : Bx
 E = record {
-  row = Seat.the_row;
+  row = OwnedSeat.the_row;
   laws = seat.the_row_laws;
   al = record {
     row = Heap.the_row;
@@ -27,7 +27,7 @@ E = record {
 }
 
 abbrev pub FromParts : Slot 0
-FromParts = plain (λ _. Parts.the_row Seat.the_row Heap.the_row ghosts)
+FromParts = plain (λ _. Parts.the_row OwnedSeat.the_row Heap.the_row ghosts)
 
 abbrev pub FromHeld : Slot 0
 FromHeld = plain (λ _. Held.the_row)

@@ -8,8 +8,8 @@ use Rattle.smp_multi.specs.declared.answering.Turned.TheVariants as turned
 use Rattle.smp_tables_c.specs.Places.{ByCalls, ByStops, IsRefused, IsRefusedWith, OfCalls, OfStops, WhereInStop, WhereOut}
 use Rattle.smp_tables_c.specs.SeatValue.{SeatValue}
 use Rattle.smp_tables_c.specs.Stops.{AnswerIs, AnswersStop, EnterBy, EnterIs, EntersStop, TurnIs, Turns, TurnsOn, stop_call}
-use Rattle.smp_tables_c.specs.declared.place.Place.{Place}
-use Rattle.smp_tables_c.specs.declared.place.Place.TheVariants.{InStop, Out}
+use Rattle.smp_tables_c.specs.declared.place.CpuPlace.{CpuPlace}
+use Rattle.smp_tables_c.specs.declared.place.CpuPlace.TheVariants.{InStop, Out}
 use Rattle.smp_tables_c.specs.declared.record.SmpCall.{SmpCall}
 
 -- seen at the seat as it is kept
@@ -21,24 +21,24 @@ pub by_calls : (By : CpuValue → CpuValue → ℤ → Type 0) (s : SeatValue) (
     → ByCalls By r s (record s { place = Out d m })
 by_calls By s c d m r at by =
     let t = record s { place = Out d m } in
-    subst (λ (p : Place). WhereOut (OfCalls By s t r) (IsRefused s t r) p) (sym at) (d, by, refl)
+    subst (λ (p : CpuPlace). WhereOut (OfCalls By s t r) (IsRefused s t r) p) (sym at) (d, by, refl)
 
 pub by_stops : (By : StopValue → StopValue → ℤ → Type 0) (s : SeatValue) (c : CpuValue) (m d : StopValue) (r : ℤ) → s.place ≡ Out c m → By m d r
     → ByStops By r s (record s { place = Out c d })
 by_stops By s c m d r at by =
     let t = record s { place = Out c d } in
-    subst (λ (p : Place). WhereOut (OfStops By s t r) (IsRefused s t r) p) (sym at) (d, by, refl)
+    subst (λ (p : CpuPlace). WhereOut (OfStops By s t r) (IsRefused s t r) p) (sym at) (d, by, refl)
 
 -- the seat keeps the slot of the stop that was entered
 pub by_enter : (s : SeatValue) (slot after : ℕ) (c : CpuValue) (m d : StopValue) (r : ℤ) → s.place ≡ Out c m → EnterBy s.stops slot m d s.slot after r
     → EntersStop slot r s (record s { place = Out c d; slot = after })
 by_enter s slot after c m d r at by =
     let t = record s { place = Out c d; slot = after } in
-    subst (λ (p : Place). WhereOut (EnterIs slot s t r) (IsRefused s t r) p) (sym at) (d, after, by, refl)
+    subst (λ (p : CpuPlace). WhereOut (EnterIs slot s t r) (IsRefused s t r) p) (sym at) (d, after, by, refl)
 
 -- what a turn does leaves nothing of where its seat was
 turns_from : (s s' t : SeatValue) (before after : SmpCall) (r : ℤ) (c : CpuValue) (answer : Result Turned StopValue)
-    → ((p : Place) → record s' { place = p } ≡ record s { place = p }) → s'.slot ≡ s.slot → TurnsOn s' t before after r c answer
+    → ((p : CpuPlace) → record s' { place = p } ≡ record s { place = p }) → s'.slot ≡ s.slot → TurnsOn s' t before after r c answer
     → TurnsOn s t before after r c answer
 turns_from s s' t before after r c (Ok (turned.Same d)) same slot on = (on.0 ∙ same (Out c d), on.1, on.2)
 turns_from s s' t before after r c (Ok (turned.Moved d phase)) same slot on = (on.0 ∙ same (Out c d), on.1, on.2)
@@ -50,10 +50,10 @@ turns_from s s' t before after r c (Err d) same slot on = (on.0 ∙ same (Out c 
 
 -- there is no function to call of a stop of one CPU, and a turn is made
 pub by_turn : (s s' t : SeatValue) (before after : SmpCall) (r : ℤ) (c : CpuValue) (m m' : StopValue) (answer : Result Turned StopValue)
-    → ((p : Place) → record s' { place = p } ≡ record s { place = p }) → s'.slot ≡ s.slot → s.place ≡ Out c m → OneAnswers m (Err m')
+    → ((p : CpuPlace) → record s' { place = p } ≡ record s { place = p }) → s'.slot ≡ s.slot → s.place ≡ Out c m → OneAnswers m (Err m')
     → TurnedAnswers m' answer → TurnsOn s' t before after r c answer → Turns before after r s t
 by_turn s s' t before after r c m m' answer same slot at one gone on =
-    subst (λ (q : Place). WhereOut (TurnIs s t before after r) (IsRefusedWith s t before after r) q) (sym at)
+    subst (λ (q : CpuPlace). WhereOut (TurnIs s t before after r) (IsRefusedWith s t before after r) q) (sym at)
     (inr ((one.0, refl), answer, subst (λ (x : StopValue). TurnedAnswers x answer) one.1 gone, turns_from s s' t before after r c answer same slot on))
 
 -- the function of a stop is out, and its answer is given
@@ -61,4 +61,4 @@ pub by_answer : (s : SeatValue) (v : ℤ) (c : CpuValue) (a : AnsweringValue) (d
     → AnswersStop v (pos 0) s (record s { place = Out c d })
 by_answer s v c a d at is =
     let t = record s { place = Out c d } in
-    subst (λ (q : Place). WhereInStop (AnswerIs v s t (pos 0)) (IsRefused s t (pos 0)) q) (sym at) (d, is, refl, refl)
+    subst (λ (q : CpuPlace). WhereInStop (AnswerIs v s t (pos 0)) (IsRefused s t (pos 0)) q) (sym at) (d, is, refl, refl)

@@ -19,7 +19,7 @@ use Rattle.smp_multi.specs.Cpu.{CpuValue as StopValue}
 use Rattle.smp_tables_c.specs.SeatValue.{SeatValue}
 use Rattle.smp_tables_c.specs.Status.{number_of, status_of, yes_of}
 use Rattle.smp_tables_c.specs.Places.{ByCalls, IfOpen, IsRefusedWith, WhereOut, WhereInCall}
-use Rattle.smp_tables_c.specs.declared.place.Place.TheVariants.{Out, InCall}
+use Rattle.smp_tables_c.specs.declared.place.CpuPlace.TheVariants.{Out, InCall}
 use Rattle.smp_tables_c.specs.declared.record.SmpCall.{SmpCall}
 
 -- post: it is `post_within` of the call table

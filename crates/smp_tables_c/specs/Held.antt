@@ -7,7 +7,7 @@ use Rattle.std.specs.Box.Ownership.{box_owns}
 use Rattle.std.specs.Coded.{coded_option}
 use Rattle.std.specs.Global.{Global}
 use Rattle.std_heap.specs.contracts.GlobalAllocator.TheImpl.{ghosts}
-use Rattle.smp_tables_c.specs.contracts.seat.Seat.{the_row}
+use Rattle.smp_tables_c.specs.contracts.seat.OwnedSeat.{the_row}
 
 abbrev pub seat_owns : Global → Ptr → Option the_row.Denot → Fml
 seat_owns alloc ptr None = ftrue

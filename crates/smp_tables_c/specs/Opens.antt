@@ -11,7 +11,7 @@ use Rattle.smp_queue.specs.Cpu.{BootValue, TableValue, fresh_cpu, is_left}
 use Rattle.smp_multi.specs.Cpu.{BootValue as StopBootValue, TableValue as StopTableValue, fresh_cpu as fresh_stop, is_left as is_left_stop}
 use Rattle.smp_tables_c.specs.SeatValue.{SeatValue}
 use Rattle.smp_tables_c.specs.Status.{closed, status_of}
-use Rattle.smp_tables_c.specs.declared.place.Place.TheVariants.{Out}
+use Rattle.smp_tables_c.specs.declared.place.CpuPlace.TheVariants.{Out}
 use Rattle.smp_tables_c.specs.declared.handle.SmpCpu.{SmpCpu}
 
 -- the seat of a CPU of these tables that has done nothing

@@ -5,25 +5,25 @@ use Rattle.smp_queue.specs.ServingValue.{ServingValue}
 use Rattle.smp_multi.specs.Cpu.{CpuValue as StopValue, AnsweringValue}
 use Rattle.smp_tables_c.specs.SeatValue.{SeatValue}
 use Rattle.smp_tables_c.specs.Status.{closed, inside, outside}
-use Rattle.smp_tables_c.specs.declared.place.Place.{Place}
-use Rattle.smp_tables_c.specs.declared.place.Place.TheVariants.{Out, InCall, InStop, Moving}
+use Rattle.smp_tables_c.specs.declared.place.CpuPlace.{CpuPlace}
+use Rattle.smp_tables_c.specs.declared.place.CpuPlace.TheVariants.{Out, InCall, InStop, Moving}
 
 -- outside it does this; while a function is out it is refused
-abbrev pub WhereOut : (CpuValue → StopValue → Type 0) → (ℤ → Type 0) → Place → Type 0
+abbrev pub WhereOut : (CpuValue → StopValue → Type 0) → (ℤ → Type 0) → CpuPlace → Type 0
 WhereOut Does Refused (Out c m) = Does c m
 WhereOut Does Refused (InCall s m) = Refused inside
 WhereOut Does Refused (InStop c a) = Refused inside
 WhereOut Does Refused Moving = Refused closed
 
 -- while the function of a call is out it does this; else it is refused
-abbrev pub WhereInCall : (ServingValue → StopValue → Type 0) → (ℤ → Type 0) → Place → Type 0
+abbrev pub WhereInCall : (ServingValue → StopValue → Type 0) → (ℤ → Type 0) → CpuPlace → Type 0
 WhereInCall Does Refused (Out c m) = Refused outside
 WhereInCall Does Refused (InCall s m) = Does s m
 WhereInCall Does Refused (InStop c a) = Refused inside
 WhereInCall Does Refused Moving = Refused closed
 
 -- while the function of a stop is out it does this; else it is refused
-abbrev pub WhereInStop : (CpuValue → AnsweringValue → Type 0) → (ℤ → Type 0) → Place → Type 0
+abbrev pub WhereInStop : (CpuValue → AnsweringValue → Type 0) → (ℤ → Type 0) → CpuPlace → Type 0
 WhereInStop Does Refused (Out c m) = Refused outside
 WhereInStop Does Refused (InCall s m) = Refused inside
 WhereInStop Does Refused (InStop c a) = Does c a

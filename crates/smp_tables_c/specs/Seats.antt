@@ -3,11 +3,11 @@ use Rattle.std.specs.Prelude.{◌≡◌, ℕ, Option, None, Some}
 use Rattle.smp_queue.specs.Cpu.{TableValue}
 use Rattle.smp_multi.specs.Cpu.{TableValue as StopTableValue, IsAt}
 use Rattle.smp_tables_c.specs.SeatValue.{SeatValue}
-use Rattle.smp_tables_c.specs.declared.place.Place.{Place}
-use Rattle.smp_tables_c.specs.declared.place.Place.TheVariants.{Out, InCall, InStop, Moving}
+use Rattle.smp_tables_c.specs.declared.place.CpuPlace.{CpuPlace}
+use Rattle.smp_tables_c.specs.declared.place.CpuPlace.TheVariants.{Out, InCall, InStop, Moving}
 
 -- its CPU is one of its tables
-abbrev pub IsSeated : TableValue → StopTableValue → Place → Type 0
+abbrev pub IsSeated : TableValue → StopTableValue → CpuPlace → Type 0
 IsSeated calls stops (Out c m) = (c.table ≡ calls.table) × IsAt stops m
 IsSeated calls stops (InCall s m) = (s.cpu.table ≡ calls.table) × IsAt stops m
 IsSeated calls stops (InStop c a) = (c.table ≡ calls.table) × IsAt stops a.cpu

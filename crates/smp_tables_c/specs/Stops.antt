@@ -22,7 +22,7 @@ use Rattle.smp_multi.specs.declared.nudge.Nudge.TheVariants.{Done, Lost, Stop}
 use Rattle.smp_tables_c.specs.SeatValue.{SeatValue}
 use Rattle.smp_tables_c.specs.Status.{bit_of, number_of, status_of, yes_of}
 use Rattle.smp_tables_c.specs.Places.{ByStops, OfStops, IsRefused, IsRefusedWith, WhereInStop, WhereOut}
-use Rattle.smp_tables_c.specs.declared.place.Place.TheVariants.{Out, InStop}
+use Rattle.smp_tables_c.specs.declared.place.CpuPlace.TheVariants.{Out, InStop}
 use Rattle.smp_tables_c.specs.declared.record.SmpCall.{SmpCall}
 
 -- try_gate: it is `try_gate` of the stop table

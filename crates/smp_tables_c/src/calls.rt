@@ -4,9 +4,9 @@ ghost use Rattle.std.specs.Prelude.{◌≡◌};
 ghost use Rattle.smp_multi.specs.Cpu.{IsAt};
 ghost use Rattle.smp_tables_c.specs.Calls.{AsksDone, DoneBy, GoesOn, Handles, IsNextAt, PostBy, Posts, Resumes, SendBy, Sends};
 
-use crate::place::Place;
+use crate::place::CpuPlace;
 use crate::record::SmpCall;
-use crate::seat::Seat;
+use crate::seat::OwnedSeat;
 use crate::status::{CLOSED, INSIDE, OUTSIDE, status, yes};
 use smp_multi::StopCpu;
 use smp_queue::{CallCpu, CallTable, Next};
@@ -50,15 +50,15 @@ fn done_by(calls: &CallTable<Global>, me: &mut CallCpu, k: u32) -> i32
     yes(calls.is_done(me, k))
 }
 
-impl Seat {
+impl OwnedSeat {
     /// Queues a call: 1 where an interrupt is owed, 0 where none is, or the number of a refusal.
     pub fn post(&mut self, k: u32, to: u32, class: Class, func: u16, info: u64, tries: u32) -> i32
         ensures { Posts k to class func info tries result self.old self.new }
     {
         match &mut self.place {
-            Place::Out(me, _) => post_by(&self.calls, me, k, to, class, func, info, tries),
-            Place::InCall(..) | Place::InStop(..) => INSIDE,
-            Place::Moving => CLOSED,
+            CpuPlace::Out(me, _) => post_by(&self.calls, me, k, to, class, func, info, tries),
+            CpuPlace::InCall(..) | CpuPlace::InStop(..) => INSIDE,
+            CpuPlace::Moving => CLOSED,
         }
     }
 
@@ -67,9 +67,9 @@ impl Seat {
         ensures { Sends to result self.old self.new }
     {
         match &mut self.place {
-            Place::Out(me, _) => send_by(&self.calls, me, to),
-            Place::InCall(..) | Place::InStop(..) => INSIDE,
-            Place::Moving => CLOSED,
+            CpuPlace::Out(me, _) => send_by(&self.calls, me, to),
+            CpuPlace::InCall(..) | CpuPlace::InStop(..) => INSIDE,
+            CpuPlace::Moving => CLOSED,
         }
     }
 
@@ -78,9 +78,9 @@ impl Seat {
         ensures { AsksDone k result self.old self.new }
     {
         match &mut self.place {
-            Place::Out(me, _) => done_by(&self.calls, me, k),
-            Place::InCall(..) | Place::InStop(..) => INSIDE,
-            Place::Moving => CLOSED,
+            CpuPlace::Out(me, _) => done_by(&self.calls, me, k),
+            CpuPlace::InCall(..) | CpuPlace::InStop(..) => INSIDE,
+            CpuPlace::Moving => CLOSED,
         }
     }
 
@@ -92,16 +92,16 @@ impl Seat {
     {
         match next {
             Next::Idle(me) => {
-                self.place = Place::Out(me, stop);
+                self.place = CpuPlace::Out(me, stop);
                 0
             }
             Next::Run(serving) => {
                 *call = SmpCall::of(serving.call());
-                self.place = Place::InCall(serving, stop);
+                self.place = CpuPlace::InCall(serving, stop);
                 1
             }
             Next::Done(me) => {
-                self.place = Place::Out(me, stop);
+                self.place = CpuPlace::Out(me, stop);
                 2
             }
         }
@@ -112,12 +112,12 @@ impl Seat {
     pub fn handle(&mut self, call: &mut SmpCall) -> i32
         ensures { Handles call.old call.new result self.old self.new }
     {
-        match mem::replace(&mut self.place, Place::Moving) {
-            Place::Out(me, stop) => {
+        match mem::replace(&mut self.place, CpuPlace::Moving) {
+            CpuPlace::Out(me, stop) => {
                 let next = self.calls.begin_handle(me);
                 self.go_on(next, stop, call)
             }
-            Place::Moving => CLOSED,
+            CpuPlace::Moving => CLOSED,
             place => {
                 self.place = place;
                 INSIDE
@@ -130,16 +130,16 @@ impl Seat {
     pub fn resume(&mut self, call: &mut SmpCall) -> i32
         ensures { Resumes call.old call.new result self.old self.new }
     {
-        match mem::replace(&mut self.place, Place::Moving) {
-            Place::InCall(serving, stop) => {
+        match mem::replace(&mut self.place, CpuPlace::Moving) {
+            CpuPlace::InCall(serving, stop) => {
                 let next = self.calls.resume(serving);
                 self.go_on(next, stop, call)
             }
-            Place::Out(me, stop) => {
-                self.place = Place::Out(me, stop);
+            CpuPlace::Out(me, stop) => {
+                self.place = CpuPlace::Out(me, stop);
                 OUTSIDE
             }
-            Place::Moving => CLOSED,
+            CpuPlace::Moving => CLOSED,
             place => {
                 self.place = place;
                 INSIDE

@@ -4,7 +4,7 @@ ghost use Rattle.std.specs.Prelude.{◌≡◌, None, Some, MatchOption};
 ghost use Rattle.smp_tables_c.specs.Seats.{flag_of};
 
 use crate::held::Held;
-use crate::seat::Seat;
+use crate::seat::OwnedSeat;
 use std::alloc::Global;
 use std::mem;
 
@@ -19,7 +19,7 @@ pub struct SmpCpu {
 
 impl SmpCpu {
     /// An open one.
-    pub fn of(alloc: Global, seat: Box<Seat, Global>) -> SmpCpu
+    pub fn of(alloc: Global, seat: Box<OwnedSeat, Global>) -> SmpCpu
         ensures { result.held.seat ≡ Some seat.value }
     {
         SmpCpu {
@@ -30,7 +30,7 @@ impl SmpCpu {
     }
 
     /// Takes its seat out, and leaves it closed.
-    pub fn take(&mut self) -> Option<Box<Seat, Global>>
+    pub fn take(&mut self) -> Option<Box<OwnedSeat, Global>>
         ensures left { self.new.held.seat ≡ None }
         ensures taken { MatchOption result (self.old.held.seat ≡ None) (λ b. self.old.held.seat ≡ Some b.value) }
     {
@@ -43,7 +43,7 @@ impl SmpCpu {
     }
 
     /// Puts its seat back.
-    pub fn put(&mut self, seat: Box<Seat, Global>)
+    pub fn put(&mut self, seat: Box<OwnedSeat, Global>)
         ensures { self.new.held.seat ≡ Some seat.value }
     {
         *self = SmpCpu::of(self.alloc, seat);

@@ -1,11 +1,11 @@
 //! The address of a CPU's seat, or nothing.
 
 ghost use Rattle.std.specs.Prelude.{◌≡◌, ◌≢◌, Option, None, Some};
-ghost use Rattle.smp_tables_c.specs.declared.seat.Seat.{Seat};
+ghost use Rattle.smp_tables_c.specs.declared.seat.OwnedSeat.{OwnedSeat};
 ghost use Rattle.smp_tables_c.specs.Held.{seat_coded, seat_owns};
 
 use crate::parts::Parts;
-use crate::seat::Seat;
+use crate::seat::OwnedSeat;
 use std::alloc::Global;
 use std::marker::Model;
 use std::ptr::null_mut;
@@ -17,7 +17,7 @@ use std::ptr::null_mut;
 pub struct Held {
     ptr: *mut u8,
     alloc: Global,
-    pub ghost seat: { Option Seat } by { seat_coded },
+    pub ghost seat: { Option OwnedSeat } by { seat_coded },
 }
 
 impl Model for Held {
@@ -36,13 +36,13 @@ impl Held {
     }
 
     /// What owns the seat of a box.
-    pub fn of(seat: Box<Seat, Global>) -> Held
+    pub fn of(seat: Box<OwnedSeat, Global>) -> Held
         ensures { result.seat ≡ Some seat.value }
     {
         Held::of_parts(Parts::of(seat))
     }
 
-    fn of_parts(parts: Parts<Seat, Global>) -> Held
+    fn of_parts(parts: Parts<OwnedSeat, Global>) -> Held
         ensures { result.seat ≡ Some parts.value }
     {
         let Parts { ptr, alloc } = parts;
@@ -52,19 +52,19 @@ impl Held {
         }
     }
 
-    fn into_parts(self) -> Parts<Seat, Global>
+    fn into_parts(self) -> Parts<OwnedSeat, Global>
         requires { self.seat ≢ None }
         ensures { self.seat ≡ Some result.value }
     {
         let Held { ptr, alloc } = self;
         Parts {
-            ptr: ptr as *mut Seat,
+            ptr: ptr as *mut OwnedSeat,
             alloc,
         }
     }
 
     /// The box of the seat.
-    pub fn into_seat(self) -> Box<Seat, Global>
+    pub fn into_seat(self) -> Box<OwnedSeat, Global>
         requires { self.seat ≢ None }
         ensures { self.seat ≡ Some result.value }
     {

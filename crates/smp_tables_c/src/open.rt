@@ -9,8 +9,8 @@ ghost use Rattle.smp_multi.specs.Cpu.{given as given_stop};
 ghost use Rattle.smp_tables_c.specs.Opens.{AreLeft, HasSeats, IsFilled, IsLeft, OpenAnswers, fresh_seat};
 
 use crate::handle::SmpCpu;
-use crate::place::Place;
-use crate::seat::Seat;
+use crate::place::CpuPlace;
+use crate::seat::OwnedSeat;
 use smp_labels::LabelMap;
 use smp_mask::{CpuMask, SmpError};
 use smp_multi::{StopBoot, StopTable};
@@ -19,7 +19,7 @@ use std::alloc::Global;
 use std::sync::Arc;
 
 /// A seat that may be there.
-type MaybeSeat = Option<Box<Seat, Global>>;
+type MaybeSeat = Option<Box<OwnedSeat, Global>>;
 
 /// Two new tables, and their CPUs that are not at a seat yet.
 #[derive(Drop)]
@@ -56,7 +56,7 @@ impl Opening {
     }
 
     /// The seat of a CPU that is online and was not given out. Its only refusal is that of memory.
-    fn seat(&mut self, alloc: Global, cpu: u32) -> Result<Box<Seat, Global>, SmpError>
+    fn seat(&mut self, alloc: Global, cpu: u32) -> Result<Box<OwnedSeat, Global>, SmpError>
         requires online { has self.old.calls.value.online cpu ≡ true }
         requires also_online { has self.old.stops.value.setting.online cpu ≡ true }
         requires left { IsLeft self.old.boot self.old.stop_boot cpu }
@@ -72,10 +72,10 @@ impl Opening {
         else {
             return Err(SmpError::NoMemory);
         };
-        let seat = Seat {
+        let seat = OwnedSeat {
             calls,
             stops,
-            place: Place::Out(me, stop),
+            place: CpuPlace::Out(me, stop),
             slot: 0,
         };
         match Box::new(alloc, seat) {

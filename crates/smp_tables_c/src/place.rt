@@ -5,7 +5,7 @@ use smp_queue::{CallCpu, Serving};
 
 /// Where a CPU is, with its two values.
 #[derive(Drop)]
-pub enum Place {
+pub enum CpuPlace {
     /// No function is out.
     Out(CallCpu, StopCpu),
     /// The function of a call is out.

@@ -7,9 +7,9 @@ ghost use Rattle.smp_tables_c.specs.Stops.{AnswersStop, Begins, EntersStop, Fini
 ghost use Rattle.smp_tables_c.specs.Stops.{BeginBy, EnterBy, FinishBy, GateBy, GiveBy, KeyBy, NudgeBy, PollBy, SiteBy};
 ghost use Rattle.smp_tables_c.specs.Stops.{ReadsKey, ReadsSite, TriesGate, TriesKey, Turns, TurnsOn, nudge_or, site_or};
 
-use crate::place::Place;
+use crate::place::CpuPlace;
 use crate::record::SmpCall;
-use crate::seat::Seat;
+use crate::seat::OwnedSeat;
 use crate::status::{CLOSED, INSIDE, OUTSIDE, number, status, yes};
 use smp_labels::SiteKind;
 use smp_mask::SmpError;
@@ -147,15 +147,15 @@ fn nudge_by(stops: &StopTable<Global>, stop: &mut StopCpu, k: u32, up: bool) -> 
     nudge_number(stops.try_key(stop, k, up))
 }
 
-impl Seat {
+impl OwnedSeat {
     /// Takes the gate: 1 where it has, 0 where a CPU holds it.
     pub fn try_gate(&mut self) -> i32
         ensures { TriesGate result self.old self.new }
     {
         match &mut self.place {
-            Place::Out(_, stop) => gate_by(&self.stops, stop),
-            Place::InCall(..) | Place::InStop(..) => INSIDE,
-            Place::Moving => CLOSED,
+            CpuPlace::Out(_, stop) => gate_by(&self.stops, stop),
+            CpuPlace::InCall(..) | CpuPlace::InStop(..) => INSIDE,
+            CpuPlace::Moving => CLOSED,
         }
     }
 
@@ -164,9 +164,9 @@ impl Seat {
         ensures { OpensGate result self.old self.new }
     {
         match &mut self.place {
-            Place::Out(_, stop) => give_by(&self.stops, stop),
-            Place::InCall(..) | Place::InStop(..) => INSIDE,
-            Place::Moving => CLOSED,
+            CpuPlace::Out(_, stop) => give_by(&self.stops, stop),
+            CpuPlace::InCall(..) | CpuPlace::InStop(..) => INSIDE,
+            CpuPlace::Moving => CLOSED,
         }
     }
 
@@ -175,9 +175,9 @@ impl Seat {
         ensures { Begins work result self.old self.new }
     {
         match &mut self.place {
-            Place::Out(_, stop) => begin_by(&self.stops, stop, work),
-            Place::InCall(..) | Place::InStop(..) => INSIDE,
-            Place::Moving => CLOSED,
+            CpuPlace::Out(_, stop) => begin_by(&self.stops, stop, work),
+            CpuPlace::InCall(..) | CpuPlace::InStop(..) => INSIDE,
+            CpuPlace::Moving => CLOSED,
         }
     }
 
@@ -186,9 +186,9 @@ impl Seat {
         ensures { EntersStop slot result self.old self.new }
     {
         match &mut self.place {
-            Place::Out(_, stop) => enter_by(&self.stops, stop, slot, &mut self.slot),
-            Place::InCall(..) | Place::InStop(..) => INSIDE,
-            Place::Moving => CLOSED,
+            CpuPlace::Out(_, stop) => enter_by(&self.stops, stop, slot, &mut self.slot),
+            CpuPlace::InCall(..) | CpuPlace::InStop(..) => INSIDE,
+            CpuPlace::Moving => CLOSED,
         }
     }
 
@@ -203,7 +203,7 @@ impl Seat {
             src: self.slot,
             func: u32::from(answering.func()),
         };
-        self.place = Place::InStop(me, answering);
+        self.place = CpuPlace::InStop(me, answering);
         1
     }
 
@@ -221,7 +221,7 @@ impl Seat {
             Ok(Turned::Call(answering)) => return self.hand_out(me, answering, call),
             Err(stop) => (stop, number(SmpError::BadArgument)),
         };
-        self.place = Place::Out(me, stop);
+        self.place = CpuPlace::Out(me, stop);
         told
     }
 
@@ -230,15 +230,15 @@ impl Seat {
     pub fn turn(&mut self, call: &mut SmpCall) -> i32
         ensures { Turns call.old call.new result self.old self.new }
     {
-        match mem::replace(&mut self.place, Place::Moving) {
-            Place::Out(me, stop) => match self.stops.begin_one(stop) {
+        match mem::replace(&mut self.place, CpuPlace::Moving) {
+            CpuPlace::Out(me, stop) => match self.stops.begin_one(stop) {
                 Ok(answering) => self.hand_out(me, answering, call),
                 Err(stop) => {
                     let turned = self.stops.turn(stop);
                     self.turn_on(me, turned, call)
                 }
             },
-            Place::Moving => CLOSED,
+            CpuPlace::Moving => CLOSED,
             place => {
                 self.place = place;
                 INSIDE
@@ -250,17 +250,17 @@ impl Seat {
     pub fn answer(&mut self, answer: i32) -> i32
         ensures { AnswersStop answer result self.old self.new }
     {
-        match mem::replace(&mut self.place, Place::Moving) {
-            Place::InStop(me, answering) => {
+        match mem::replace(&mut self.place, CpuPlace::Moving) {
+            CpuPlace::InStop(me, answering) => {
                 let stop = self.stops.answer(answering, answer);
-                self.place = Place::Out(me, stop);
+                self.place = CpuPlace::Out(me, stop);
                 0
             }
-            Place::Out(me, stop) => {
-                self.place = Place::Out(me, stop);
+            CpuPlace::Out(me, stop) => {
+                self.place = CpuPlace::Out(me, stop);
                 OUTSIDE
             }
-            Place::Moving => CLOSED,
+            CpuPlace::Moving => CLOSED,
             place => {
                 self.place = place;
                 INSIDE
@@ -273,9 +273,9 @@ impl Seat {
         ensures { Finishes result self.old self.new }
     {
         match &mut self.place {
-            Place::Out(_, stop) => finish_by(&self.stops, stop),
-            Place::InCall(..) | Place::InStop(..) => INSIDE,
-            Place::Moving => CLOSED,
+            CpuPlace::Out(_, stop) => finish_by(&self.stops, stop),
+            CpuPlace::InCall(..) | CpuPlace::InStop(..) => INSIDE,
+            CpuPlace::Moving => CLOSED,
         }
     }
 
@@ -284,9 +284,9 @@ impl Seat {
         ensures { Polls answer.old answer.new result self.old self.new }
     {
         match &mut self.place {
-            Place::Out(_, stop) => poll_by(&self.stops, stop, answer),
-            Place::InCall(..) | Place::InStop(..) => INSIDE,
-            Place::Moving => CLOSED,
+            CpuPlace::Out(_, stop) => poll_by(&self.stops, stop, answer),
+            CpuPlace::InCall(..) | CpuPlace::InStop(..) => INSIDE,
+            CpuPlace::Moving => CLOSED,
         }
     }
 
@@ -295,9 +295,9 @@ impl Seat {
         ensures { ReadsKey k result self.old self.new }
     {
         match &mut self.place {
-            Place::Out(_, stop) => key_by(&self.stops, stop, k),
-            Place::InCall(..) | Place::InStop(..) => INSIDE,
-            Place::Moving => CLOSED,
+            CpuPlace::Out(_, stop) => key_by(&self.stops, stop, k),
+            CpuPlace::InCall(..) | CpuPlace::InStop(..) => INSIDE,
+            CpuPlace::Moving => CLOSED,
         }
     }
 
@@ -306,9 +306,9 @@ impl Seat {
         ensures { ReadsSite i result self.old self.new }
     {
         match &mut self.place {
-            Place::Out(_, stop) => site_by(&self.stops, stop, i),
-            Place::InCall(..) | Place::InStop(..) => INSIDE,
-            Place::Moving => CLOSED,
+            CpuPlace::Out(_, stop) => site_by(&self.stops, stop, i),
+            CpuPlace::InCall(..) | CpuPlace::InStop(..) => INSIDE,
+            CpuPlace::Moving => CLOSED,
         }
     }
 
@@ -317,9 +317,9 @@ impl Seat {
         ensures { TriesKey k up result self.old self.new }
     {
         match &mut self.place {
-            Place::Out(_, stop) => nudge_by(&self.stops, stop, k, up),
-            Place::InCall(..) | Place::InStop(..) => INSIDE,
-            Place::Moving => CLOSED,
+            CpuPlace::Out(_, stop) => nudge_by(&self.stops, stop, k, up),
+            CpuPlace::InCall(..) | CpuPlace::InStop(..) => INSIDE,
+            CpuPlace::Moving => CLOSED,
         }
     }
 }

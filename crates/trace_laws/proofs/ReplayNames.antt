@@ -51,7 +51,7 @@ pub use Rattle.smp_call_steps.specs.declared.known.Running.TheVariants.{AsyncCal
 pub use Rattle.smp_call_steps.specs.declared.place.RecPlace.{RecPlace}
 pub use Rattle.smp_call_steps.specs.declared.post.PostStage.{PostStage}
 pub use Rattle.smp_call_steps.specs.declared.post.Posting.{Posting}
-pub use Rattle.smp_call_steps.specs.declared.stage.Outcome.{Outcome}
+pub use Rattle.smp_call_steps.specs.declared.stage.CallOutcome.{CallOutcome}
 pub use Rattle.smp_call_steps.specs.declared.stage.Stage.{Stage}
 pub use Rattle.smp_call_steps.specs.declared.stage.Stage.TheVariants.{Done, Handle, Post, Send}
 pub use Rattle.smp_stop_steps.proofs.State.Phases.{is_open_inside, keeps_inside}
@@ -65,7 +65,7 @@ pub use Rattle.smp_stop_steps.specs.Labels.{Change, LabelsShow, Patches, Patchin
 pub use Rattle.smp_stop_steps.specs.Machine.{stop_found_at, stop_seen_at}
 pub use Rattle.smp_stop_steps.specs.New.{new_stops}
 pub use Rattle.smp_stop_steps.specs.Present.{RunnerShows}
-pub use Rattle.smp_stop_steps.specs.Seats.{Stands, irq_of}
+pub use Rattle.smp_stop_steps.specs.Seats.{RoleStands, irq_of}
 pub use Rattle.smp_stop_steps.specs.Sits.{SitsAt, SitsInRound}
 pub use Rattle.smp_stop_steps.specs.Slots.{AckShows, Keeps, OpenShows, begun_value}
 pub use Rattle.smp_stop_steps.specs.Sources.{IsPatchWork}
@@ -85,8 +85,8 @@ pub use Rattle.smp_stop_steps.specs.declared.known.Calling.TheVariants.{Calls, C
 pub use Rattle.smp_stop_steps.specs.declared.known.Duty.{Duty}
 pub use Rattle.smp_stop_steps.specs.declared.known.Duty.TheVariants.{Rests, Sets}
 pub use Rattle.smp_stop_steps.specs.declared.known.Reading.TheVariants.{ReadKey as ReadingKey}
-pub use Rattle.smp_stop_steps.specs.declared.known.Seat.{Seat}
-pub use Rattle.smp_stop_steps.specs.declared.known.Seat.TheVariants.{Alters, Closes, Free, Gives, In}
+pub use Rattle.smp_stop_steps.specs.declared.known.StopRole.{StopRole}
+pub use Rattle.smp_stop_steps.specs.declared.known.StopRole.TheVariants.{Alters, Closes, Free, Gives, In}
 pub use Rattle.smp_stop_steps.specs.declared.stage.CompletionStage.{CompletionStage}
 pub use Rattle.smp_stop_steps.specs.declared.stage.RoundStage.{RoundStage}
 pub use Rattle.smp_stop_steps.specs.declared.stage.StopStage.{StopStage}

@@ -4,7 +4,7 @@ use Rattle.std.proofs.lemmas.List.{append_assoc}
 use Rattle.smp_labels.specs.declared.entries.Entry.{Entry}
 use Rattle.smp_labels.specs.declared.kinds.SiteKind.{SiteKind}
 use Rattle.smp_multi.specs.Cpu.{CpuValue}
-use Rattle.smp_multi.specs.Names.{ReadKey, ReadSite, Setting}
+use Rattle.smp_multi.specs.Names.{ReadKey, ReadSite, StopSetting}
 use Rattle.smp_multi.specs.Reads.{KeyAnswers, SiteAnswers, jumps}
 use Rattle.smp_machine.specs.ReadLaws.{KindsFollowKeys, is_jump}
 
@@ -18,5 +18,5 @@ look_is law old mid new site on kind k s e at key =
     ap (λ (c : CpuValue). c.part.readings) s.1 ∙ ap (λ (c : CpuValue). c.part.readings ++ jump ∷ []) k.1.3
     ∙ ap (λ (b : Bool). (before ++ ReadKey 0 b ∷ []) ++ jump ∷ []) (sym k.1.2) in
     law new 0 site on (jumps kind) e s.2 (before, jump ∷ [], all ∙ append_assoc before (key_on ∷ []) (jump ∷ [])) (before ++ key_on ∷ [], [], all)
-    (subst (λ (x : Setting). site < length x.labels.entries) (sym later) s.0.0)
-    (subst (λ (x : Setting). e ≡ slice_index_or x.labels.entries site e) (sym same) at) key
+    (subst (λ (x : StopSetting). site < length x.labels.entries) (sym later) s.0.0)
+    (subst (λ (x : StopSetting). e ≡ slice_index_or x.labels.entries site e) (sym same) at) key

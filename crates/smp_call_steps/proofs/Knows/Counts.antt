@@ -2,15 +2,15 @@
 use Rattle.std.proofs.Common.{◌≡◌, ◌+◌, sym, ap, refl, ◌∙◌}
 use Rattle.smp_words.specs.Access.{word_of}
 use Rattle.smp_call_steps.specs.{steps_after, StepsCount, known_access, told_post, told_handle, Posting, PostStage, HandleStage, Post, Handle}
-use Rattle.smp_call_steps.specs.declared.known.Known.{Known}
+use Rattle.smp_call_steps.specs.declared.known.KnownCalls.{KnownCalls}
 use Rattle.smp_call_steps.specs.post
 use Rattle.smp_call_steps.specs.handle
 
-post_counts : (v : Known) (p : Posting) (st : PostStage) → steps_after (told_post p st) (word_of (known_access v (Post p st))) v.steps ≡ v.steps + 1
+post_counts : (v : KnownCalls) (p : Posting) (st : PostStage) → steps_after (told_post p st) (word_of (known_access v (Post p st))) v.steps ≡ v.steps + 1
 post_counts v p post.LoadFlags = refl
 post_counts v p _ = refl
 
-handle_counts : (v : Known) (h : HandleStage) → steps_after (told_handle h) (word_of (known_access v (Handle h))) v.steps ≡ v.steps
+handle_counts : (v : KnownCalls) (h : HandleStage) → steps_after (told_handle h) (word_of (known_access v (Handle h))) v.steps ≡ v.steps
 handle_counts v handle.Enter = refl
 handle_counts v _ = refl
 

@@ -4,7 +4,8 @@ use Rattle.std.proofs.lemmas.Bool.{eq-eqb}
 use Rattle.smp_words.specs.Size.{cpus, records}
 use Rattle.smp_words.specs.Access.{word_of}
 use Rattle.smp_call_steps.specs.{CallState, CountedCall, DrainValue, no_drain, record_at, first_on, handle_outcome, drain_after, IsPlaced, AllPlaced}
-use Rattle.smp_call_steps.specs.{nexts_in, last_batch, orders, running_call, ControlValue, access_of, FitsStage, Share, share_of, HandleStands, held_of, Part}
+use Rattle.smp_call_steps.specs.{nexts_in, last_batch, orders, running_call, ControlValue, access_of, FitsStage, Share, share_of}
+use Rattle.smp_call_steps.specs.{HandleStands, held_of, CallPart}
 use Rattle.smp_call_steps.specs.{part_confirmed, part_after, told_stage, told_post, told_handle, known_told, known_taking, stage_after}
 use Rattle.smp_call_steps.specs.{drain_then, tried_after, heads_after, log_after, steps_after, sent_after, MayStep, known_access}
 use Rattle.smp_call_steps.specs.{Lives, GoesOn, handling, goes_known}
@@ -15,14 +16,14 @@ use Rattle.smp_call_steps.proofs.Machine.Accesses.{access_in_table}
 use Rattle.smp_call_steps.proofs.State.Walks.{walks_rest, same_record}
 use Rattle.smp_call_steps.proofs.Machine.Fits.{found_fits}
 use Rattle.smp_call_steps.proofs.Knows.Restages.{access_known}
-use Rattle.smp_call_steps.specs.declared.known.Known.{Known}
+use Rattle.smp_call_steps.specs.declared.known.KnownCalls.{KnownCalls}
 use Rattle.smp_call_steps.specs.place
 use Rattle.smp_call_steps.specs.act
 use Rattle.smp_call_steps.specs.post
 use Rattle.smp_call_steps.specs.handle
 
 -- a step of a CPU goes on to calls of which it knows its part
-pub lives_on : (a : CallState) (control : ℕ → ControlValue) (me : ℕ) (at : Word → ℕ) (w : Known) → GoesOn a control me at w → Lives w
+pub lives_on : (a : CallState) (control : ℕ → ControlValue) (me : ℕ) (at : Word → ℕ) (w : KnownCalls) → GoesOn a control me at w → Lives w
 lives_on a control me at w g = record { calls = g.calls; at = at; controls = g.controls; shown = g.shown; sees = g.mine }
 
 -- who is told to be at a step of handle is there
@@ -40,16 +41,16 @@ told_there (Some (Handle g)) h e = handle_tells g h e
 told_there _ h e = cc
 
 -- what is a CPU's own of the drain, as it knows it
-abbrev pub share_in : Part → Share
+abbrev pub share_in : CallPart → Share
 share_in p = record { last = last_batch p.taken; batch = p.batch; running = p.running; accepted = p.accepted }
 
-module _ {v : Known} (l : Lives v) where
+module _ {v : KnownCalls} (l : Lives v) where
   same_share : share_of l.calls v.number ≡ share_in v.part
   same_share = ap share_in l.sees.part
 
   -- what ran, runs and is left is the drain order of the batches
   pub lives_drained : v.part.ran ++ (running_call v.part.running ++ v.part.batch) ≡ orders v.part.taken
-  lives_drained = subst (λ (p : Part). p.ran ++ (running_call p.running ++ p.batch) ≡ orders p.taken) l.sees.part (l.shown.recorded.drained v.number)
+  lives_drained = subst (λ (p : CallPart). p.ran ++ (running_call p.running ++ p.batch) ≡ orders p.taken) l.sees.part (l.shown.recorded.drained v.number)
 
   module _ (h : HandleStage) (e : v.stage ≡ Some (Handle h)) where
     told : told_stage (l.controls v.number).stage ≡ Some (Handle h)
@@ -104,7 +105,7 @@ module _ {v : Known} (l : Lives v) where
   lives_front call rest e = search (same_share, arith)
 
 -- what a CPU that is here knows after a step
-pub told_at : (queue : List Call) (v : Known) (s : Option Stage) (act : Act) (w : Word) (found put : Option ℕ) → v.stage ≡ s →
+pub told_at : (queue : List Call) (v : KnownCalls) (s : Option Stage) (act : Act) (w : Word) (found put : Option ℕ) → v.stage ≡ s →
     known_taking queue v act w found put
     ≡ record v {
       stage = stage_after s v.drain act w found put;
@@ -119,33 +120,34 @@ pub told_at : (queue : List Call) (v : Known) (s : Option Stage) (act : Act) (w 
     }
 told_at queue v s act w found put e = search arith
 
-pub entered_is : (v : Known) (cpu : ℕ) → v.stage ≡ None → known_told v act.Store (Hand cpu) None (Some 1) ≡ handling handle.Accept v.drain v
+pub entered_is : (v : KnownCalls) (cpu : ℕ) → v.stage ≡ None → known_told v act.Store (Hand cpu) None (Some 1) ≡ handling handle.Accept v.drain v
 entered_is v cpu e = told_at [] v None act.Store (Hand cpu) None (Some 1) e
 
-pub taken_is : (queue : List Call) (v : Known) (cpu n : ℕ) → v.stage ≡ Some (Handle handle.Take)
+pub taken_is : (queue : List Call) (v : KnownCalls) (cpu n : ℕ) → v.stage ≡ Some (Handle handle.Take)
     → known_taking queue v act.Swap (Head cpu) (Some n) (Some 0) ≡ taken_known queue (record_at n) v
 taken_is queue v cpu n e = told_at queue v (Some (Handle handle.Take)) act.Swap (Head cpu) (Some n) (Some 0) e
 
-pub left_is : (v : Known) (cpu : ℕ) (h : HandleStage) → (stage_after (Some (Handle h)) v.drain act.Store (Hand cpu) None (Some 0) ≡ None)
+pub left_is : (v : KnownCalls) (cpu : ℕ) (h : HandleStage) → (stage_after (Some (Handle h)) v.drain act.Store (Hand cpu) None (Some 0) ≡ None)
     → v.stage ≡ Some (Handle h) → (drain_then (Some (Handle h)) v.drain None ≡ no_drain) →
     known_told v act.Store (Hand cpu) None (Some 0) ≡ left_known v
 left_is v cpu h out e d = told_at [] v (Some (Handle h)) act.Store (Hand cpu) None (Some 0) e ∙ (λ i. record v { stage = out i; drain = d i })
 
 -- steps that tell nothing
 
-pub next_found_is : (v : Known) (h : HandleStage) (id n : ℕ) → v.stage ≡ Some (Handle h) → known_told v act.Load (Next id) (Some n) None ≡ goes_known h n v
+pub next_found_is : (v : KnownCalls) (h : HandleStage) (id n : ℕ) → v.stage ≡ Some (Handle h) → known_told v act.Load (Next id) (Some n) None ≡ goes_known h n v
 next_found_is v h id n e = told_at [] v (Some (Handle h)) act.Load (Next id) (Some n) None e
 
-pub func_found_is : (v : Known) (h : HandleStage) (id n : ℕ) → v.stage ≡ Some (Handle h) → known_told v act.Load (Func id) (Some n) None ≡ goes_known h n v
+pub func_found_is : (v : KnownCalls) (h : HandleStage) (id n : ℕ) → v.stage ≡ Some (Handle h) → known_told v act.Load (Func id) (Some n) None ≡ goes_known h n v
 func_found_is v h id n e = told_at [] v (Some (Handle h)) act.Load (Func id) (Some n) None e
 
-pub info_found_is : (v : Known) (h : HandleStage) (id n : ℕ) → v.stage ≡ Some (Handle h) → known_told v act.Load (Info id) (Some n) None ≡ goes_known h n v
+pub info_found_is : (v : KnownCalls) (h : HandleStage) (id n : ℕ) → v.stage ≡ Some (Handle h) → known_told v act.Load (Info id) (Some n) None ≡ goes_known h n v
 info_found_is v h id n e = told_at [] v (Some (Handle h)) act.Load (Info id) (Some n) None e
 
-pub next_stored_is : (v : Known) (h : HandleStage) (id n : ℕ) → v.stage ≡ Some (Handle h) → known_told v act.Store (Next id) None (Some n) ≡ goes_known h 0 v
+pub next_stored_is : (v : KnownCalls) (h : HandleStage) (id n : ℕ) → v.stage ≡ Some (Handle h)
+    → known_told v act.Store (Next id) None (Some n) ≡ goes_known h 0 v
 next_stored_is v h id n e = told_at [] v (Some (Handle h)) act.Store (Next id) None (Some n) e
 
-pub flags_found_is : (v : Known) (h : HandleStage) (id n : ℕ) → v.stage ≡ Some (Handle h) → n % 2 ≡ 1
+pub flags_found_is : (v : KnownCalls) (h : HandleStage) (id n : ℕ) → v.stage ≡ Some (Handle h) → n % 2 ≡ 1
     → known_told v act.Load (Flags id) (Some n) None ≡ goes_known h n v
 flags_found_is v h id n e odd = told_at [] v (Some (Handle h)) act.Load (Flags id) (Some n) None e ∙ by_test (n % 2 == 1) (eq-eqb (n % 2) 1 odd)
   where
@@ -156,7 +158,7 @@ flags_found_is v h id n e odd = told_at [] v (Some (Handle h)) act.Load (Flags i
 
 -- steps that begin, count and end a call
 
-pub ended_sync_is : (v : Known) (walk : Walk) (call : Call) (next : Option ℕ) → v.stage ≡ Some (Handle (handle.EndSync walk call next))
+pub ended_sync_is : (v : KnownCalls) (walk : Walk) (call : Call) (next : Option ℕ) → v.stage ≡ Some (Handle (handle.EndSync walk call next))
     → v.part.running ≡ CountedCall call →
     known_told v act.Store (Flags call.id) None (Some 0) ≡ ended_call (first_on walk next) call v
 ended_sync_is v walk call next e r = search (told_at, arith)

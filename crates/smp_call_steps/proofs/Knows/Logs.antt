@@ -10,7 +10,7 @@ use Rattle.smp_call_steps.specs.{Flags, Func}
 use Rattle.smp_call_steps.specs.{Info, Next, Act, Stage, Post, Handle, Logged}
 use Rattle.smp_call_steps.specs.Shows.{Shows}
 use Rattle.smp_call_steps.proofs.Knows.Restages.{aims_held}
-use Rattle.smp_call_steps.specs.declared.known.Known.{Known}
+use Rattle.smp_call_steps.specs.declared.known.KnownCalls.{KnownCalls}
 use Rattle.smp_call_steps.specs.act
 use Rattle.smp_call_steps.specs.handle
 use Rattle.smp_call_steps.specs.logged
@@ -133,7 +133,7 @@ module _ (a : CallState) (me : ℕ) where
   step_logs kind w found put log holds = (None, log_else kind w put log tt, quiet_else kind w found put tt, sent_else kind w put tt)
 
 -- at a compare-exchange a CPU holds the call that it queues
-module _ {a : CallState} {at : Word → ℕ} {control : ℕ → ControlValue} {v : Known} (s : Shows a at control) (sees : Sees a control v) where
+module _ {a : CallState} {at : Word → ℕ} {control : ℕ → ControlValue} {v : KnownCalls} (s : Shows a at control) (sees : Sees a control v) where
   holds_at : (st : Stage) → MayStep v st → act_of (known_access v st) ≡ act.Cas → IsHeld (a.held v.number)
   holds_at (Post p (post.Exchange link tries)) aims e = subst IsHeld (sym (aims_held s sees (Post p (post.Exchange link tries)) aims)) tt
   holds_at (Handle handle.Enter) aims e = absurd (let f = e in cc)

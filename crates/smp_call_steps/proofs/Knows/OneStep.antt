@@ -3,7 +3,7 @@ use Rattle.std.proofs.Common.{arith, ◌≡◌, ◌≢◌, ℕ, ◌-◌, ◌%◌
 use Rattle.smp_words.proofs.Puts.{put_same, put_other}
 use Rattle.smp_words.specs.Put.{put}
 use Rattle.smp_call_steps.specs.{CallState, ends, goes_to, DrainValue, handle_goes, record_at, second_on, first_on, reverse_on, by_class, unlink_after, Call}
-use Rattle.smp_call_steps.specs.{Class, Sync, Async, Word, Head, Intr, Flags, Access, Seen, Note, Posting, Walk, Outcome, Stage, Post, Handle, ControlValue}
+use Rattle.smp_call_steps.specs.{Class, Sync, Async, Word, Head, Intr, Flags, Access, Seen, Note, Posting, Walk, CallOutcome, Stage, Post, Handle, ControlValue}
 use Rattle.smp_call_steps.specs.{access_of, outcome_of, drain_of, control_after, part_after, told_post, told_handle, told_stage, Sees, known_tells}
 use Rattle.smp_call_steps.specs.{stage_after, drain_then, MayStep, known_access, GoesOn}
 use Rattle.smp_words.specs.Flags.{class_of}
@@ -11,8 +11,8 @@ use Rattle.smp_words.specs.Access.{word_of, at_after, seen_of}
 use Rattle.smp_call_steps.specs.Shows.{Shows}
 use Rattle.smp_call_steps.proofs.Steps.Every.{step_shown}
 use Rattle.smp_call_steps.proofs.Knows.Restages.{known_held, restages, access_known, aims_told}
-use Rattle.smp_call_steps.proofs.Knows.Parts.{Told, part_mine, part_else}
-use Rattle.smp_call_steps.specs.declared.known.Known.{Known}
+use Rattle.smp_call_steps.proofs.Knows.Parts.{ToldCalls, part_mine, part_else}
+use Rattle.smp_call_steps.specs.declared.known.KnownCalls.{KnownCalls}
 use Rattle.smp_call_steps.specs.act
 use Rattle.smp_call_steps.specs.note
 use Rattle.smp_call_steps.specs.post
@@ -70,8 +70,8 @@ info_told : (last : Option ℕ) (walk : Walk) (call : Call) (next : Option ℕ)
 info_told None walk call next = refl
 info_told (Some last) walk call next = refl
 
-accept_told : (b : Bool) → told_stage (cond {A = Outcome} b (handle_goes handle.LeaveIdle) (handle_goes handle.Take)).next
-    ≡ (cond {A = Outcome} b (handle_goes handle.LeaveIdle) (handle_goes handle.Take)).next
+accept_told : (b : Bool) → told_stage (cond {A = CallOutcome} b (handle_goes handle.LeaveIdle) (handle_goes handle.Take)).next
+    ≡ (cond {A = CallOutcome} b (handle_goes handle.LeaveIdle) (handle_goes handle.Take)).next
 accept_told true = refl
 accept_told false = refl
 
@@ -94,7 +94,7 @@ leaves at me d (Handle handle.Enter) = refl
 leaves at me d _ = refl
 
 -- the CPU that knows this, and that may make the step of this stage, makes it
-module _ {a : CallState} {at : Word → ℕ} {control : ℕ → ControlValue} {v : Known} (s : Shows a at control) (sees : Sees a control v) (st : Stage)
+module _ {a : CallState} {at : Word → ℕ} {control : ℕ → ControlValue} {v : KnownCalls} (s : Shows a at control) (sees : Sees a control v) (st : Stage)
     (aims : MayStep v st) where
   abbrev me : ℕ
   me = v.number
@@ -118,7 +118,7 @@ module _ {a : CallState} {at : Word → ℕ} {control : ℕ → ControlValue} {v
   here : controls me ≡ standing
   here = put_same control me standing
 
-  shown : Shows (Told a at me v.drain st) (at_after at (access_of at me st)) (put controls me after)
+  shown : Shows (ToldCalls a at me v.drain st) (at_after at (access_of at me st)) (put controls me after)
   shown = rw here at (step_shown a at controls me (restages s sees st aims) st (ap (λ (c : ControlValue). c.stage) here))
 
   there : put controls me after me ≡ after
@@ -127,14 +127,14 @@ module _ {a : CallState} {at : Word → ℕ} {control : ℕ → ControlValue} {v
   told_here : told_stage (Some st) ≡ v.stage
   told_here = aims_told s sees st aims
 
-  mine : Sees (Told a at me v.drain st) (put controls me after) (known_tells (a.queue me) v seen)
+  mine : Sees (ToldCalls a at me v.drain st) (put controls me after) (known_tells (a.queue me) v seen)
   mine = record {
     stage = search (there, follows, told_here, arith);
     drain = ap (λ (c : ControlValue). c.drain) there ∙ (leaves at me v.drain st ∙ ap (λ (x : Option Stage). drain_then x v.drain seen.found) told_here);
     part = part_mine me v.drain s st ∙ (λ i. part_after (a.queue me) (known_held s sees i) seen.act seen.word seen.found seen.put (sees.part i));
   }
 
-  others : (o : Known) → o.number ≢ me → Sees a control o → Sees (Told a at me v.drain st) (put controls me after) o
+  others : (o : KnownCalls) → o.number ≢ me → Sees a control o → Sees (ToldCalls a at me v.drain st) (put controls me after) o
   others o ne k =
       let there : put controls me after o.number ≡ control o.number = put_other controls me after o.number ne ∙ put_other control me standing o.number ne in
       let part = part_else me v.drain s st o.number ne ∙ k.part in
@@ -143,7 +143,7 @@ module _ {a : CallState} {at : Word → ℕ} {control : ℕ → ControlValue} {v
   one_step : GoesOn a control me (at_after at (access_of at me st)) (known_tells (a.queue me) v seen)
   one_step = record {
     seen = seen_of me (access_of at me st) found (outcome_of v.drain st found).note;
-    calls = Told a at me v.drain st;
+    calls = ToldCalls a at me v.drain st;
     told = refl;
     controls = put controls me after;
     shown = shown;

@@ -3,12 +3,12 @@ use Rattle.std.proofs.Common.{arith, ◌≡◌, ℕ, ◌%◌, ◌<◌, true, fal
 use Rattle.smp_words.specs.Put.{put}
 use Rattle.smp_words.specs.Size.{records, owner}
 use Rattle.smp_call_steps.specs.{CallState, DrainValue, handle_access, source_at, ControlValue, access_of, Rests, StandsAt, PostKnows, share_of, held_of}
-use Rattle.smp_call_steps.specs.{HandIs, told_post, told_handle, told_stage, Sees, MayStep, MayPost, Moment, known_access, ran_tally, is_confirmed, Word}
+use Rattle.smp_call_steps.specs.{HandIs, told_post, told_handle, told_stage, Sees, MayStep, MayPost, CallMoment, known_access, ran_tally, is_confirmed, Word}
 use Rattle.smp_call_steps.specs.{Hand, Flags, RecPlace, Posting, PostStage, HandleStage, Stage, Send, Done, Post, Handle}
 use Rattle.smp_call_steps.specs.Shows.{Shows}
 use Rattle.smp_call_steps.proofs.Basics.Rows.{row-at}
 use Rattle.smp_call_steps.proofs.Steps.Sending.{stands_on}
-use Rattle.smp_call_steps.specs.declared.known.Known.{Known}
+use Rattle.smp_call_steps.specs.declared.known.KnownCalls.{KnownCalls}
 use Rattle.smp_call_steps.specs.place
 use Rattle.smp_call_steps.specs.post
 use Rattle.smp_call_steps.specs.handle
@@ -107,7 +107,7 @@ enters : (h : HandleStage) → IsBeyond h ⊎ (h ≡ handle.Enter)
 enters handle.Enter = inr refl
 enters _ = inl tt
 
-module _ {a : CallState} {at : Word → ℕ} {control : ℕ → ControlValue} {v : Known} (s : Shows a at control) (sees : Sees a control v) where
+module _ {a : CallState} {at : Word → ℕ} {control : ℕ → ControlValue} {v : KnownCalls} (s : Shows a at control) (sees : Sees a control v) where
   abbrev me : ℕ
   me = v.number
 
@@ -168,6 +168,7 @@ module _ {a : CallState} {at : Word → ℕ} {control : ℕ → ControlValue} {v
   access_known (Handle h) aims = ap (handle_access me h) (s.tallied.ran_are me (source_at h) ∙ (λ i. ran_tally (sees.part i) (source_at h)))
 
 -- where a CPU is outside, its confirmed records are unlocked
-pub confirmed_unlocked : (v : Known) (id n : ℕ) → Moment v (Flags id) n → v.stage ≡ None → owner id ≡ v.number → id < records → is_confirmed v id ≡ true
+pub confirmed_unlocked : (v : KnownCalls) (id n : ℕ) → CallMoment v (Flags id) n → v.stage ≡ None → owner id ≡ v.number → id < records
+    → is_confirmed v id ≡ true
     → (n % 2 == 1) ≡ false
 confirmed_unlocked v id n m out own small conf = search (free_outside, arith)

@@ -11,7 +11,7 @@ use Rattle.smp_call_steps.specs.{StandsAt, held_of, HandIs, ValuesShow, control_
 use Rattle.smp_words.specs.Limits.{AreLimits}
 use Rattle.smp_call_steps.specs.Start.{has_record}
 use Rattle.smp_words.specs.Commands.{FitsCommand}
-use Rattle.smp_call_steps.specs.Stands.{Stands}
+use Rattle.smp_call_steps.specs.Stands.{CallStands}
 use Rattle.smp_call_steps.specs.Shows.{Shows}
 use Rattle.smp_words.proofs.Puts.{put_all}
 use Rattle.smp_words.proofs.Sizes.{owner-of_record, record_of-below}
@@ -73,7 +73,7 @@ begins nr online places at s d cpu _ limits l e f h = h
 module _ (nr online : ℕ) {a : CallState} {at : Word → ℕ} {control : ℕ → ControlValue} (cpu : ℕ) (c : Command) (shows : Shows a at control)
     (outside_now : (control cpu).stage ≡ None) where
   begun_stands : AreLimits nr online → cpu < cpus → command_refusal nr online cpu c ≡ None → FitsCommand c
-      → Stands a.place at (share_of a cpu) cpu (control_at (control cpu) (first_stage online cpu c))
+      → CallStands a.place at (share_of a cpu) cpu (control_at (control cpu) (first_stage online cpu c))
   begun_stands limits l e f =
       let h : StandsAt a.place at (share_of a cpu) (control cpu).drain cpu None = rw outside_now at (shows.stands cpu) in
       begins nr online a.place at (share_of a cpu) (control cpu).drain cpu c limits l e f h

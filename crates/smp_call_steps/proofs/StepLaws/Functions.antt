@@ -7,7 +7,7 @@ use Rattle.smp_words.specs.Size.{owner}
 use Rattle.smp_words.proofs.Puts.{put_same}
 use Rattle.smp_call_steps.specs.{CallState, Holding, Running, Nothing, confirms, appended, begins_sync, begins_async, unlocks, releases, links, flags_told}
 use Rattle.smp_call_steps.specs.{head_told, tells, link_to, runs_as, place_as, told_of, is_call, BeginsIt, FunctionGoes, ends, goes_to, ControlValue}
-use Rattle.smp_call_steps.specs.{seen_then, Call, Class, Sync, Async, Word, Intr, Flags, Note, Outcome, Posting, PostStage, HandleStage, Stage, Send, Done}
+use Rattle.smp_call_steps.specs.{seen_then, Call, Class, Sync, Async, Word, Intr, Flags, Note, CallOutcome, Posting, PostStage, HandleStage, Stage, Send, Done}
 use Rattle.smp_call_steps.specs.{Post, Handle}
 use Rattle.smp_call_steps.specs.Shows.{Shows}
 use Rattle.smp_call_steps.proofs.State.Walks.{walks_sync, ends_async as async_next}
@@ -74,7 +74,7 @@ said_done true = refl
 said_done false = refl
 
 said_accept : (b : Bool) (x y : HandleStage) →
-    is_call (cond {A = Outcome} b (record { next = Some (Handle x); note = None }) (record { next = Some (Handle y); note = None })).note ≡ false
+    is_call (cond {A = CallOutcome} b (record { next = Some (Handle x); note = None }) (record { next = Some (Handle y); note = None })).note ≡ false
 said_accept true x y = refl
 said_accept false x y = refl
 

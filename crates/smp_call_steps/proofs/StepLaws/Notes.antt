@@ -5,7 +5,8 @@ use Rattle.smp_words.specs.Flags.{flags_of}
 use Rattle.smp_words.proofs.Puts.{put_same, test_here}
 use Rattle.smp_call_steps.specs.{CallState, Holding, Running, Nothing, confirms, accepts, begins_sync, begins_async, counts, unlocks, releases, links}
 use Rattle.smp_call_steps.specs.{flags_told, head_told, tells, link_to, is_queued, queued_note, QueueGoes, SaidMeans, ends, goes_to, ControlValue, holding}
-use Rattle.smp_call_steps.specs.{seen_then, FlagsShow, Call, Class, Sync, Async, Word, Head, Intr, Flags, RecPlace, Outcome, Posting, PostStage, HandleStage}
+use Rattle.smp_call_steps.specs.{seen_then, FlagsShow, Call, Class, Sync, Async, Word, Head, Intr, Flags, RecPlace, CallOutcome}
+use Rattle.smp_call_steps.specs.{Posting, PostStage, HandleStage}
 use Rattle.smp_call_steps.specs.{Stage, Send, Done, Post, Handle}
 use Rattle.smp_call_steps.specs.Shows.{Shows}
 use Rattle.smp_call_steps.proofs.Knows.Parts.{first_link}
@@ -68,7 +69,7 @@ said_done true = refl
 said_done false = refl
 
 said_accept : (b : Bool) (x y : HandleStage) →
-    is_queued (cond {A = Outcome} b (record { next = Some (Handle x); note = None }) (record { next = Some (Handle y); note = None })).note ≡ false
+    is_queued (cond {A = CallOutcome} b (record { next = Some (Handle x); note = None }) (record { next = Some (Handle y); note = None })).note ≡ false
 said_accept true x y = refl
 said_accept false x y = refl
 
@@ -151,7 +152,7 @@ module _ (a : CallState) (at : Word → ℕ) (control : ℕ → ControlValue) (s
   means_exchange false false d p x link tries = tt
 
   means_accept : (b : Bool) (x : CallState) → SaidMeans a x me (Intr me)
-      (cond {A = Outcome} b (record { next = Some (Handle handle.LeaveIdle); note = None }) (record { next = Some (Handle handle.Take); note = None })).note
+      (cond {A = CallOutcome} b (record { next = Some (Handle handle.LeaveIdle); note = None }) (record { next = Some (Handle handle.Take); note = None })).note
   means_accept true x = tt
   means_accept false x = tt
 

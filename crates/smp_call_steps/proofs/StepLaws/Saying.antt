@@ -3,7 +3,7 @@ use Rattle.std.proofs.Common.{arith, ◌≡◌, ℕ, ◌==◌, Bool, true, false
 use Rattle.std.proofs.Common.{append_assoc}
 use Rattle.std.proofs.lemmas.List.{append-nil}
 use Rattle.smp_words.proofs.Puts.{at_test}
-use Rattle.smp_call_steps.specs.{CallState, Running, Nothing, runs_as, ends_as, Told, told_of, is_call, FunctionGoes, begun_in, Said, all_said, call_in}
+use Rattle.smp_call_steps.specs.{CallState, Running, Nothing, runs_as, ends_as, ToldCalls, told_of, is_call, FunctionGoes, begun_in, Said, all_said, call_in}
 use Rattle.smp_call_steps.specs.{said_by, SaysWhatBegins, running_call, Call, Class, Sync, Async, Note, Seen}
 use Rattle.smp_call_steps.specs.note
 
@@ -38,11 +38,11 @@ module _ (a b : CallState) (me : ℕ) (said : Option Note) (cpu : ℕ) where
   same_begun e s = search (append-nil, said_nothing, arith)
 
   pub says_what_begins : FunctionGoes a b me said → Says
-  says_what_begins (inl k) = same_begun (ap (λ (t : Told). begun_in t cpu) k.same) k.says
+  says_what_begins (inl k) = same_begun (ap (λ (t : ToldCalls). begun_in t cpu) k.same) k.says
   says_what_begins (inr (inl k)) = search (at_test, runs_one, all_said-append, append-nil, arith)
   says_what_begins (inr (inr (inl k))) = search (same_begun, at_test, arith)
   says_what_begins (inr (inr (inr k))) =
-      same_begun (ap (λ (t : Told). begun_in t cpu) k.ends
+      same_begun (ap (λ (t : ToldCalls). begun_in t cpu) k.ends
       ∙ at_test cpu me
       (λ x. cond x (a.ran me ++ k.call ∷ []) (a.ran cpu) ++ running_call (cond x Nothing (a.running cpu)) ≡ a.ran cpu ++ running_call (a.running cpu))
       (λ e. append-nil (a.ran me ++ k.call ∷ []) ∙ ((λ i. a.ran (sym e i) ++ sym (ends_one k.call.class k.call) i)

@@ -11,11 +11,11 @@ use Rattle.smp_call_steps.specs.{CallState, Holding, Sending, appended, is_nil, 
 use Rattle.smp_call_steps.specs.{Chained, Leads, Linked, Noticed, IsNoticed, is_pending, is_accepted, is_owed, IsEmpty, nexts_in, heads_in, intrs_in}
 use Rattle.smp_call_steps.specs.{queued_in, ran_in, IsWrittenIn, WrittenIn, Recorded, Tallied, mark, sent_to, marked_from, history_of, one_held, share_of}
 use Rattle.smp_call_steps.specs.{held_of, HandIs, Call, Word, Head, Hand, Queued, Next, RecPlace}
-use Rattle.smp_call_steps.specs.Stands.{Stands}
+use Rattle.smp_call_steps.specs.Stands.{CallStands}
 use Rattle.smp_call_steps.specs.Shows.{Shows}
 use Rattle.smp_words.proofs.Puts.{at_test, put_all, put_other, put_same}
 use Rattle.smp_call_steps.proofs.Basics.Alls.{every, every_push}
-use Rattle.smp_call_steps.proofs.Steps.Frames.{Touches, leaves_others, Stands-kept}
+use Rattle.smp_call_steps.proofs.Steps.Frames.{Touches, leaves_others, CallStands-kept}
 use Rattle.smp_call_steps.proofs.Basics.Lists.{sent_to-push, marked_from-push, history-push, one_if-same, one_if-other}
 use Rattle.smp_call_steps.specs.place
 
@@ -221,14 +221,14 @@ module _ (a : CallState) (at : Word → ℕ) (control : ℕ → ControlValue) (m
   }
 
   -- append: the held call is queued, and its holder holds none
-  pub append_kept : held_of next.stage ≡ None → Stands (put a.place call.id (place.Queued to)) (put_word at (Head to) (call.id + 1)) (share_of a me) me next
+  pub append_kept : held_of next.stage ≡ None → CallStands (put a.place call.id (place.Queued to)) (put_word at (Head to) (call.id + 1)) (share_of a me) me next
       → HandIs next.stage (at (Hand me)) →
       Shows (appended a me to (counted_hold call to)) (put_word at (Head to) (call.id + 1)) (put control me next)
   append_kept none stands hand = record {
     held = λ cpu. at_test cpu me (λ b. cond b None (a.held cpu) ≡ held_of (cond b next (control cpu)).stage) (λ _. sym none) (λ _. s.held cpu);
-    stands = put_all (λ cpu x. Stands (put a.place call.id (place.Queued to)) (put_word at (Head to) (call.id + 1)) (share_of a cpu) cpu x)
+    stands = put_all (λ cpu x. CallStands (put a.place call.id (place.Queued to)) (put_word at (Head to) (call.id + 1)) (share_of a cpu) cpu x)
         control me next stands
-        (λ cpu ne. Stands-kept (leaves_others me call.id a.place (put a.place call.id (place.Queued to)) at (put_word at (Head to) (call.id + 1))
+        (λ cpu ne. CallStands-kept (leaves_others me call.id a.place (put a.place call.id (place.Queued to)) at (put_word at (Head to) (call.id + 1))
         (rw placed own) touches cpu ne) (share_of a cpu) (control cpu) (s.placed.batched cpu) (s.stands cpu));
     hands = put_all (λ cpu (x : ControlValue). HandIs x.stage (at (Hand cpu))) control me next hand (λ cpu _. s.hands cpu);
     placed = placed';

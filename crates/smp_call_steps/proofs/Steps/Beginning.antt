@@ -9,7 +9,7 @@ use Rattle.smp_call_steps.specs.{CallState, Running, Nothing, SyncCall, AsyncCal
 use Rattle.smp_call_steps.specs.{ControlValue, IsApart, HasRecord, IsThere, Placed, locked_by, AllPlaced, FlagsShow, IsWritten, Written, last_batch, flags_in}
 use Rattle.smp_call_steps.specs.{funcs_in, infos_in, queued_in, ran_in, IsWrittenIn, orders, running_call, counted_call, Recorded, Tallied, share_of, HandIs}
 use Rattle.smp_call_steps.specs.{Call, Word, Hand, Flags, RecPlace, Walk, Handle}
-use Rattle.smp_call_steps.specs.Stands.{Stands}
+use Rattle.smp_call_steps.specs.Stands.{CallStands}
 use Rattle.smp_call_steps.specs.Shows.{Shows}
 use Rattle.smp_words.proofs.Puts.{at_test, test_here, test_else}
 use Rattle.smp_call_steps.proofs.Steps.Frames.{Minds, Touches, leaves_others}
@@ -46,8 +46,8 @@ module _ {a : CallState} {at : Word → ℕ} {control : ℕ → ControlValue} (m
     here = all_placed.0.placed
 
     begun_stands : (at' : Word → ℕ) (c : ControlValue) → Touches call.id a.place (put a.place call.id to) at at'
-        → Stands (put a.place call.id to) at' (share_of begun me) me c →
-        (cpu : ℕ) → Stands (put a.place call.id to) at' (share_of begun cpu) cpu (put control me c cpu)
+        → CallStands (put a.place call.id to) at' (share_of begun me) me c →
+        (cpu : ℕ) → CallStands (put a.place call.id to) at' (share_of begun cpu) cpu (put control me c cpu)
     begun_stands at' c t stands = stands_after me s at' (put a.place call.id to) (share_of begun) c
         (λ cpu ne. at_test cpu me (λ b.
         record { last = last_batch (a.taken cpu); batch = cond b rest (a.batch cpu); running = cond b r (a.running cpu); accepted = a.accepted cpu }
@@ -108,7 +108,7 @@ module _ {a : CallState} {at : Word → ℕ} {control : ℕ → ControlValue} (m
   -- the store of the record's number: a SYNC call begins
   begun_sync : (walk : Walk) (next : Option ℕ) (call : Call) (rest : List Call) (c : ControlValue) → a.batch me ≡ call ∷ rest → a.running me ≡ Nothing
       → a.held me ≡ None → c.stage ≡ Some (Handle (handle.CountSync walk call next)) →
-      Stands (put a.place call.id (place.Running me)) (put_word at (Hand me) (call.id + 2)) (share_of (begins_sync a me (call ∷ rest)) me) me c →
+      CallStands (put a.place call.id (place.Running me)) (put_word at (Hand me) (call.id + 2)) (share_of (begins_sync a me (call ∷ rest)) me) me c →
       Shows (begins_sync a me (call ∷ rest)) (put_word at (Hand me) (call.id + 2)) (put control me c)
   begun_sync walk next call rest c front idle held stage stands =
       let to : RecPlace = place.Running me in
@@ -162,7 +162,7 @@ module _ {a : CallState} {at : Word → ℕ} {control : ℕ → ControlValue} (m
   -- the store of 0 to the flags: an ASYNC call begins
   begun_async : (next : Option ℕ) (call : Call) (rest : List Call) (c : ControlValue) → a.batch me ≡ call ∷ rest → a.running me ≡ Nothing → a.held me ≡ None
       → HandIs c.stage (at (Hand me)) → c.stage ≡ Some (Handle (handle.CountAsync call next)) →
-      Stands (put a.place call.id place.Free) (put_word at (Flags call.id) 0) (share_of (begins_async a me (call ∷ rest)) me) me c →
+      CallStands (put a.place call.id place.Free) (put_word at (Flags call.id) 0) (share_of (begins_async a me (call ∷ rest)) me) me c →
       Shows (begins_async a me (call ∷ rest)) (put_word at (Flags call.id) 0) (put control me c)
   begun_async next call rest c front idle held hand stage stands =
       let to : RecPlace = place.Free in

@@ -8,7 +8,7 @@ use Rattle.smp_call_steps.specs.{CallState, Holding, Running, Nothing, CountedCa
 use Rattle.smp_call_steps.specs.{ControlValue, HasRecord, IsThere, Placed, locked_by, AllPlaced, IsWritten, Written, last_batch, flags_in, funcs_in, infos_in}
 use Rattle.smp_call_steps.specs.{nexts_in, queued_in, ran_in, IsWrittenIn, orders, running_call, counted_call, Recorded, Tallied, Share, share_of, HandIs}
 use Rattle.smp_call_steps.specs.{held_of, Call, Word, Hand, Ran, Flags, RecPlace, Walk, Handle}
-use Rattle.smp_call_steps.specs.Stands.{Stands}
+use Rattle.smp_call_steps.specs.Stands.{CallStands}
 use Rattle.smp_call_steps.specs.Shows.{Shows}
 use Rattle.smp_words.proofs.Puts.{at_test, test_here, test_else}
 use Rattle.smp_call_steps.proofs.Steps.Frames.{Minds, leaves_others, leaves_all}
@@ -50,7 +50,7 @@ module _ {a : CallState} {at : Word → ℕ} {control : ℕ → ControlValue} (m
     same_locked cpu = search (at_test, arith)
 
     count_shown : (c : ControlValue) → a.held me ≡ held_of c.stage → HandIs c.stage (at (Hand me))
-        → Stands a.place (stored call)
+        → CallStands a.place (stored call)
         (record { last = last_batch (a.taken me); batch = a.batch me; running = put a.running me r me; accepted = a.accepted me }) me c →
         Shows (record a { running = put a.running me r; ran = ran' }) (stored call) (put control me c)
     count_shown c held hand stands = record {
@@ -193,7 +193,7 @@ module _ {a : CallState} {at : Word → ℕ} {control : ℕ → ControlValue} (m
     end_tallied = search (tallied_same, at_test, append-nil, arith)
 
     end_shown : (c : ControlValue) → a.held me ≡ held_of c.stage → HandIs c.stage (at (Hand me))
-        → Stands (put a.place call.id place.Free) (put_word at (Flags call.id) 0) (share_of (ends_sync a me call) me) me c →
+        → CallStands (put a.place call.id place.Free) (put_word at (Flags call.id) 0) (share_of (ends_sync a me call) me) me c →
         Shows (ends_sync a me call) (put_word at (Flags call.id) 0) (put control me c)
     end_shown c held hand stands = record {
       held = held_after me s c held;

@@ -5,7 +5,7 @@ use Rattle.smp_words.specs.Size.{cpus}
 use Rattle.smp_words.specs.Put.{put, put_word}
 use Rattle.smp_call_steps.specs.{CallState, accepts, handle_goes, ControlValue, bit, IsNoticed, is_pending, is_accepted, is_owed, Noticed, nexts_in, intrs_in}
 use Rattle.smp_call_steps.specs.{outside, hands_in, last_batch, share_of, HandleStands, HandIs, held_of, Word, Intr, Hand, Handle}
-use Rattle.smp_call_steps.specs.Stands.{Stands}
+use Rattle.smp_call_steps.specs.Stands.{CallStands}
 use Rattle.smp_call_steps.specs.Shows.{Shows}
 use Rattle.smp_words.proofs.Puts.{at_test, test_here, test_else}
 use Rattle.smp_call_steps.proofs.Steps.Frames.{leaves_all}
@@ -31,7 +31,8 @@ accepted_now false accepted e = e
 
 module _ {a : CallState} {at : Word → ℕ} {control : ℕ → ControlValue} (me : ℕ) (s : Shows a at control) where
   -- a step that stores the own handling word alone
-  stores_hand : (n : ℕ) (c : ControlValue) → a.held me ≡ held_of c.stage → Stands a.place (put_word at (Hand me) n) (share_of a me) me c → HandIs c.stage n →
+  stores_hand : (n : ℕ) (c : ControlValue) → a.held me ≡ held_of c.stage → CallStands a.place (put_word at (Hand me) n) (share_of a me) me c
+      → HandIs c.stage n →
       Shows a (put_word at (Hand me) n) (put control me c)
   stores_hand n c held stands hand =
       let held' = held_after me s c held in
@@ -76,7 +77,7 @@ module _ {a : CallState} {at : Word → ℕ} {control : ℕ → ControlValue} (m
   -- where it goes, by whether an interrupt was pending
   accept_stands : (b : Bool) → (b ≡ true → a.pending me ≡ false) → (b ≡ false → a.pending me ≡ true)
       → HandleStands (nexts_in at) (share_of a me) (control me).drain handle.Accept → me < cpus →
-      Stands a.place at (share_of (accepts a me) me) me
+      CallStands a.place at (share_of (accepts a me) me) me
       (record { stage = (if b then handle_goes handle.LeaveIdle else handle_goes handle.Take).next; drain = (control me).drain })
   accept_stands true none some was range = search (accepted_after, arith)
   accept_stands false none some was range = search (accepted_after, arith)
@@ -119,9 +120,9 @@ module _ {a : CallState} {at : Word → ℕ} {control : ℕ → ControlValue} (m
         tallied = s.tallied;
       }
     where
-      stands_stored : (b : Bool) → Stands a.place at (share_of (accepts a me) me) me
+      stands_stored : (b : Bool) → CallStands a.place at (share_of (accepts a me) me) me
           (record { stage = (if b then handle_goes handle.LeaveIdle else handle_goes handle.Take).next; drain = (control me).drain }) →
-          Stands a.place (put_word at (Intr me) 0) (share_of (accepts a me) me) me
+          CallStands a.place (put_word at (Intr me) 0) (share_of (accepts a me) me) me
           (record { stage = (if b then handle_goes handle.LeaveIdle else handle_goes handle.Take).next; drain = (control me).drain })
       stands_stored true h = h
       stands_stored false h = h

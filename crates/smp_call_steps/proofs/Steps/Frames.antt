@@ -5,7 +5,7 @@ use Rattle.smp_words.specs.Size.{owner}
 use Rattle.smp_call_steps.specs.{DrainValue, link_to, async_calls, Running, Nothing, SyncCall, CountedCall, AsyncCall, ControlValue, IsPlaced, AllPlaced}
 use Rattle.smp_call_steps.specs.{Leads, nexts_in, IsWrittenIn, Share, StandsAt, HandleStands, Reverses, Walks, Ends, PostKnows, posted, Call, Word, Flags}
 use Rattle.smp_call_steps.specs.{Func, Info, Next, RecPlace, Posting, PostStage, Walk, HandleStage, Stage, Post, Handle}
-use Rattle.smp_call_steps.specs.Stands.{Stands}
+use Rattle.smp_call_steps.specs.Stands.{CallStands}
 use Rattle.smp_call_steps.proofs.Basics.Alls.{every_left, every_right}
 use Rattle.smp_call_steps.proofs.State.Walks.{Path-kept, reverses_all, walks_front, walks_passed, walks_rest, ends_front, ends_rest, same_record}
 use Rattle.smp_call_steps.specs.place
@@ -148,5 +148,6 @@ module _ {cpu : ℕ} {places places' : ℕ → RecPlace} {at at' : Word → ℕ}
   StandsAt-kept s d _ b h = h
 
   -- a CPU to which a step leaves its records is where it was
-  pub Stands-kept : (s : Share) (c : ControlValue) → AllPlaced places (place.Batch cpu) s.batch → Stands places at s cpu c → Stands places' at' s cpu c
-  Stands-kept s c b h = StandsAt-kept s c.drain c.stage b h
+  pub CallStands-kept : (s : Share) (c : ControlValue) → AllPlaced places (place.Batch cpu) s.batch → CallStands places at s cpu c
+      → CallStands places' at' s cpu c
+  CallStands-kept s c b h = StandsAt-kept s c.drain c.stage b h

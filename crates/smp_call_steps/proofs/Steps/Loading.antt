@@ -6,7 +6,7 @@ use Rattle.smp_words.specs.Flags.{flags_of, class_of}
 use Rattle.smp_call_steps.specs.{CallState, Nothing, confirms, link_to, record_at, by_class, unlink_after, ControlValue, Path, flags_in, funcs_in, infos_in}
 use Rattle.smp_call_steps.specs.{nexts_in, hands_in, IsWrittenIn, share_of, Reverses, Walks, Ends, HandIs, held_of, Call, Class, Sync, Async, Word, Hand}
 use Rattle.smp_call_steps.specs.{Flags, Func, Info, Next, Walk, Handle}
-use Rattle.smp_call_steps.specs.Stands.{Stands}
+use Rattle.smp_call_steps.specs.Stands.{CallStands}
 use Rattle.smp_call_steps.specs.Shows.{Shows}
 use Rattle.smp_call_steps.proofs.Steps.Frames.{leaves_all}
 use Rattle.smp_call_steps.proofs.Steps.Turns.{holds_nothing, stands_at, hand_at, held_after, stands_after, hands_after}
@@ -36,7 +36,7 @@ hand_of_info (Some last) walk call next at me ne = ne
 
 module _ {a : CallState} {at : Word → ℕ} {control : ℕ → ControlValue} (me : ℕ) (s : Shows a at control) where
   -- a step that stores nothing
-  goes_on : (c : ControlValue) → a.held me ≡ held_of c.stage → Stands a.place at (share_of a me) me c → HandIs c.stage (hands_in at me)
+  goes_on : (c : ControlValue) → a.held me ≡ held_of c.stage → CallStands a.place at (share_of a me) me c → HandIs c.stage (hands_in at me)
       → Shows a at (put control me c)
   goes_on c held stands hand = record {
     held = held_after me s c held;

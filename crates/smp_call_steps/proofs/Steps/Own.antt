@@ -7,11 +7,11 @@ use Rattle.smp_words.specs.Size.{owner}
 use Rattle.smp_call_steps.specs.{CallState, Holding, ControlValue, Placed, IsThere, Holds, AllPlaced, FlagsShow, Chained, Linked, LinkIs, Noticed, nexts_in}
 use Rattle.smp_call_steps.specs.{heads_in, intrs_in, queued_in, ran_in, IsWrittenIn, WrittenIn, Tallied, StandsAt, share_of, held_of, held_of_post, HandIs}
 use Rattle.smp_call_steps.specs.{Call, Word, Head, Intr, Hand, Flags, RecPlace, Posting, PostStage, Stage, Post}
-use Rattle.smp_call_steps.specs.Stands.{Stands}
+use Rattle.smp_call_steps.specs.Stands.{CallStands}
 use Rattle.smp_call_steps.specs.Shows.{Shows}
 use Rattle.smp_words.proofs.Puts.{at_test, put_all}
 use Rattle.smp_call_steps.proofs.Basics.Alls.{every}
-use Rattle.smp_call_steps.proofs.Steps.Frames.{Touches, Minds, Leads-kept, leaves_others, Stands-kept}
+use Rattle.smp_call_steps.proofs.Steps.Frames.{Touches, Minds, Leads-kept, leaves_others, CallStands-kept}
 use Rattle.smp_call_steps.specs.place
 use Rattle.smp_call_steps.specs.post
 
@@ -77,7 +77,7 @@ pub record OwnStep (a : CallState) (at at' : Word → ℕ) (control : ℕ → Co
   pub my_link : LinkIs (nexts_in at') (held' me) (linked' me)
   pub others_linked : (cpu : ℕ) → cpu ≢ me → linked' cpu ≡ a.linked cpu
   pub tallied : Tallied (queued_in at') (ran_in at') a.sent held' a.ran a.running
-  pub stands : Stands places' at' (share_of a me) me next
+  pub stands : CallStands places' at' (share_of a me) me next
   pub hand : HandIs next.stage (at' (Hand me))
 
 module _ (a : CallState) (at at' : Word → ℕ) (control : ℕ → ControlValue) (me id : ℕ) (next : ControlValue) (places' : ℕ → RecPlace)
@@ -129,8 +129,9 @@ module _ (a : CallState) (at at' : Word → ℕ) (control : ℕ → ControlValue
   pub own_step : Shows (record a { place = places'; held = held'; linked = linked' }) at' (put control me next)
   own_step = record {
     held = λ cpu. at_test cpu me (λ b. held' cpu ≡ held_of (cond b next (control cpu)).stage) (λ e. rw e o.my_held) (λ ne. o.others_held cpu ne ∙ s.held cpu);
-    stands = put_all (λ cpu x. Stands places' at' (share_of a cpu) cpu x) control me next o.stands
-        (λ cpu ne. Stands-kept (leaves_others me id a.place places' at at' (home_minds me id (a.place id) o.owned o.before) o.touches cpu ne) (share_of a cpu)
+    stands = put_all (λ cpu x. CallStands places' at' (share_of a cpu) cpu x) control me next o.stands
+        (λ cpu ne. CallStands-kept (leaves_others me id a.place places' at at' (home_minds me id (a.place id) o.owned o.before) o.touches cpu ne)
+        (share_of a cpu)
         (control cpu) (s.placed.batched cpu) (s.stands cpu));
     hands = put_all (λ cpu (x : ControlValue). HandIs x.stage (at' (Hand cpu))) control me next o.hand (λ cpu _. rw (o.keeps.hand cpu) (s.hands cpu));
     placed = placed';

@@ -11,7 +11,7 @@ use Rattle.smp_call_steps.specs.{flags_told, head_told, ends, goes_to, DrainValu
 use Rattle.smp_call_steps.specs.{nexts_in, queued_in, ran_in, IsWrittenIn, Tallied, sent_to, one_held, Rests, StandsAt, PostStands, PostKnows, PostGoes}
 use Rattle.smp_call_steps.specs.{posted, share_of, held_of, held_of_post, holding, HandIs, Class, Sync, Async, Word, Head, Hand, Queued, Flags, Func, Info}
 use Rattle.smp_call_steps.specs.{Next, Note, RecPlace, Posting, PostStage, Stage, Send, Done, Post}
-use Rattle.smp_call_steps.specs.Stands.{Stands}
+use Rattle.smp_call_steps.specs.Stands.{CallStands}
 use Rattle.smp_call_steps.specs.Shows.{Shows}
 use Rattle.smp_words.proofs.Puts.{at_test, put_other, put_same}
 use Rattle.smp_call_steps.proofs.Steps.Frames.{Touches}
@@ -99,11 +99,11 @@ module _ {a : CallState} {at : Word → ℕ} {control : ℕ → ControlValue} (m
   was_at : (p : Posting) (st : PostStage) → (control me).stage ≡ Some (Post p st) → PostStands a.place at me p st
   was_at p st e = let h = stands_at (Post p st) e in h.1
 
-  ends_here : (places' : ℕ → RecPlace) (at' : Word → ℕ) → IsResting → Stands places' at' (share_of a me) me (to_stage None)
+  ends_here : (places' : ℕ → RecPlace) (at' : Word → ℕ) → IsResting → CallStands places' at' (share_of a me) me (to_stage None)
   ends_here places' at' r = r.rests
 
   goes_here : (places' : ℕ → RecPlace) (at' : Word → ℕ) (p : Posting) (st next : PostStage) → (control me).stage ≡ Some (Post p st) → PostGoes p next
-      → PostKnows places' at' p next → Stands places' at' (share_of a me) me (to_stage (Some (Post p next)))
+      → PostKnows places' at' p next → CallStands places' at' (share_of a me) me (to_stage (Some (Post p next)))
   goes_here places' at' p st next e goes knows = search (post_rests, was_at, arith)
 
   -- the load of the own flags

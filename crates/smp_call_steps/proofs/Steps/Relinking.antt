@@ -5,7 +5,7 @@ use Rattle.smp_words.proofs.Puts.{test_here, test_else}
 use Rattle.smp_words.specs.Put.{put, put_word}
 use Rattle.smp_call_steps.specs.{async_calls, CallState, Holding, links, link_to, reverse_on, ControlValue, IsAbsent, IsApart, Holds, IsPlaced, AllPlaced}
 use Rattle.smp_call_steps.specs.{Leads, Path, nexts_in, hands_in, share_of, EndsAt, HandIs, held_of, Call, Word, Head, Hand, Next, Walk, Handle}
-use Rattle.smp_call_steps.specs.Stands.{Stands}
+use Rattle.smp_call_steps.specs.Stands.{CallStands}
 use Rattle.smp_call_steps.specs.Shows.{Shows}
 use Rattle.smp_call_steps.proofs.Basics.Alls.{every_right, every_async, every_last}
 use Rattle.smp_call_steps.proofs.State.Counts.{held_place}
@@ -37,7 +37,7 @@ path_to nexts n link front newest after absent l = search (Path-push, path_else,
 module _ {a : CallState} {at : Word → ℕ} {control : ℕ → ControlValue} (me : ℕ) (s : Shows a at control) where
   -- the next word of a record of the own batch is stored
   relinked : (id n : ℕ) → a.place id ≡ place.Batch me → (c : ControlValue) → a.held me ≡ held_of c.stage
-      → Stands a.place (put_word at (Next id) n) (share_of a me) me c → HandIs c.stage (hands_in at me) →
+      → CallStands a.place (put_word at (Next id) n) (share_of a me) me c → HandIs c.stage (hands_in at me) →
       Shows a (put_word at (Next id) n) (put control me c)
   relinked id n here c held stands hand = record {
     held = held_after me s c held;

@@ -4,18 +4,18 @@ use Rattle.std.proofs.lemmas.Bool.{cases_eq, eqb-false}
 use Rattle.smp_words.specs.Put.{put, put_word}
 use Rattle.smp_call_steps.specs.{CallState, confirms, sends, ControlValue, Holds, FlagsShow, IsNoticed, is_pending, is_accepted, is_owed, bit, share_of}
 use Rattle.smp_call_steps.specs.{held_of, HandIs, Word, Intr, Hand, Flags, RecPlace}
-use Rattle.smp_call_steps.specs.Stands.{Stands}
+use Rattle.smp_call_steps.specs.Stands.{CallStands}
 use Rattle.smp_call_steps.specs.Shows.{Shows}
 use Rattle.smp_words.proofs.Puts.{at_test, put_all}
-use Rattle.smp_call_steps.proofs.Steps.Frames.{leaves_all, Stands-kept}
+use Rattle.smp_call_steps.proofs.Steps.Frames.{leaves_all, CallStands-kept}
 use Rattle.smp_call_steps.specs.place
 
 -- a step that changes no word and no call
 pub stands_on : (a : CallState) (at : Word → ℕ) (control : ℕ → ControlValue) (me : ℕ) (next : ControlValue) → Shows a at control →
-    a.held me ≡ held_of next.stage → Stands a.place at (share_of a me) me next → HandIs next.stage (at (Hand me)) → Shows a at (put control me next)
+    a.held me ≡ held_of next.stage → CallStands a.place at (share_of a me) me next → HandIs next.stage (at (Hand me)) → Shows a at (put control me next)
 stands_on a at control me next s held stands hand =
     let held' = put_all (λ cpu (x : ControlValue). a.held cpu ≡ held_of x.stage) control me next held (λ cpu _. s.held cpu) in
-    let stands' = put_all (λ cpu x. Stands a.place at (share_of a cpu) cpu x) control me next stands (λ cpu _. s.stands cpu) in
+    let stands' = put_all (λ cpu x. CallStands a.place at (share_of a cpu) cpu x) control me next stands (λ cpu _. s.stands cpu) in
     let hands = put_all (λ cpu (x : ControlValue). HandIs x.stage (at (Hand cpu))) control me next hand (λ cpu _. s.hands cpu) in
     search (held', stands', hands, arith)
 
@@ -73,12 +73,12 @@ noticed_still a me to cpu ne (is_owed source o) = is_owed source (owed_else a.ow
 -- send: the store of an interrupt word
 pub send_kept : (a : CallState) (at : Word → ℕ) (control : ℕ → ControlValue) (me to : ℕ) (next : ControlValue) → Shows a at control
     → a.held me ≡ held_of next.stage →
-    Stands a.place (put_word at (Intr to) 1) (share_of a me) me next → HandIs next.stage (at (Hand me))
+    CallStands a.place (put_word at (Intr to) 1) (share_of a me) me next → HandIs next.stage (at (Hand me))
     → Shows (sends a me to) (put_word at (Intr to) 1) (put control me next)
 send_kept a at control me to next s held stands hand = record {
   held = put_all (λ cpu (x : ControlValue). a.held cpu ≡ held_of x.stage) control me next held (λ cpu _. s.held cpu);
-  stands = put_all (λ cpu x. Stands a.place at' (share_of a cpu) cpu x) control me next stands
-      (λ cpu _. Stands-kept (leaves_all a.place at at' (λ _. refl) (λ _. refl) (λ _. refl) (λ _. refl) cpu) (share_of a cpu) (control cpu)
+  stands = put_all (λ cpu x. CallStands a.place at' (share_of a cpu) cpu x) control me next stands
+      (λ cpu _. CallStands-kept (leaves_all a.place at at' (λ _. refl) (λ _. refl) (λ _. refl) (λ _. refl) cpu) (share_of a cpu) (control cpu)
       (s.placed.batched cpu) (s.stands cpu));
   hands = put_all (λ cpu (x : ControlValue). HandIs x.stage (at (Hand cpu))) control me next hand (λ cpu _. s.hands cpu);
   placed = s.placed;

@@ -4,10 +4,10 @@ use Rattle.smp_words.specs.Size.{cpus}
 use Rattle.smp_words.specs.Put.{put}
 use Rattle.smp_call_steps.specs.{CallState, ControlValue, nexts_in, hands_in, Share, share_of, StandsAt, HandleStands, HandIs, held_of, Word, RecPlace}
 use Rattle.smp_call_steps.specs.{HandleStage, Stage, Handle}
-use Rattle.smp_call_steps.specs.Stands.{Stands}
+use Rattle.smp_call_steps.specs.Stands.{CallStands}
 use Rattle.smp_call_steps.specs.Shows.{Shows}
 use Rattle.smp_words.proofs.Puts.{put_all, put_both}
-use Rattle.smp_call_steps.proofs.Steps.Frames.{LeavesTo, Stands-kept}
+use Rattle.smp_call_steps.proofs.Steps.Frames.{LeavesTo, CallStands-kept}
 
 module _ {a : CallState} {at : Word → ℕ} {control : ℕ → ControlValue} (me : ℕ) (s : Shows a at control) where
   -- inside handle a CPU holds nothing
@@ -28,12 +28,13 @@ module _ {a : CallState} {at : Word → ℕ} {control : ℕ → ControlValue} (m
 
   -- the others are where they were
   pub stands_after : (at' : Word → ℕ) (place' : ℕ → RecPlace) (share' : ℕ → Share) (c : ControlValue) →
-      ((cpu : ℕ) → cpu ≢ me → share' cpu ≡ share_of a cpu) → ((cpu : ℕ) → cpu ≢ me → LeavesTo cpu a.place place' at at') → Stands place' at' (share' me) me c →
-      (cpu : ℕ) → Stands place' at' (share' cpu) cpu (put control me c cpu)
+      ((cpu : ℕ) → cpu ≢ me → share' cpu ≡ share_of a cpu) → ((cpu : ℕ) → cpu ≢ me → LeavesTo cpu a.place place' at at')
+      → CallStands place' at' (share' me) me c →
+      (cpu : ℕ) → CallStands place' at' (share' cpu) cpu (put control me c cpu)
   stands_after at' place' share' c same leaves here =
-      put_all (λ cpu x. Stands place' at' (share' cpu) cpu x) control me c here
-      (λ cpu ne. subst (λ (x : Share). Stands place' at' x cpu (control cpu)) (sym (same cpu ne))
-      (Stands-kept (leaves cpu ne) (share_of a cpu) (control cpu) (s.placed.batched cpu) (s.stands cpu)))
+      put_all (λ cpu x. CallStands place' at' (share' cpu) cpu x) control me c here
+      (λ cpu ne. subst (λ (x : Share). CallStands place' at' x cpu (control cpu)) (sym (same cpu ne))
+      (CallStands-kept (leaves cpu ne) (share_of a cpu) (control cpu) (s.placed.batched cpu) (s.stands cpu)))
 
   -- a step that stores no handling word
   pub hands_after : (c : ControlValue) → HandIs c.stage (hands_in at me) → (cpu : ℕ) → HandIs (put control me c cpu).stage (hands_in at cpu)

@@ -14,10 +14,10 @@ ghost use Rattle.smp_words.specs.Access.{one_less};
 ghost use Rattle.smp_words.specs.declared.access.Access.TheVariants as access;
 ghost use Rattle.smp_words.specs.declared.seen.Act.TheVariants as act;
 ghost use Rattle.smp_stop_steps.specs.Known.{carrying, fresh};
-ghost use Rattle.smp_multi.specs.Lives.{Moment, Lives};
+ghost use Rattle.smp_multi.specs.Lives.{StopMoment, Lives};
 ghost use Rattle.smp_stop_steps.specs.KnownAfter.{known_told, known_entering};
 ghost use Rattle.smp_stop_steps.specs.Moves.{entering};
-ghost use Rattle.smp_multi.specs.declared.seat_view.SeatView.TheVariants.{Maker};
+ghost use Rattle.smp_multi.specs.declared.seat_view.StopSeatView.TheVariants.{Maker};
 ghost use Rattle.smp_multi.specs.Cells.{cells};
 ghost use Rattle.smp_stop_steps.specs.AnswerWords.{IsI32Word};
 ghost use Rattle.smp_multi.specs.Seat.{SeatValue, Able, Ready, fresh_seat};
@@ -27,35 +27,35 @@ pub(crate) mod crowd;
 
 use super::plays::{Answer, Answered, Exchanged, Loaded, Masked, Stored, Subtracted};
 use crate::cell::{FIRST_ENTRY, cell};
-use crate::rule::{NextSeat, RawSeat, StopRule};
-use crate::seat_view::SeatView;
+use crate::rule::{NextStopSeat, RawStopSeat, StopRule};
+use crate::seat_view::StopSeatView;
 use atomic_table::{Shared, Table};
 use smp_start::both_now;
-use smp_stop_steps::known::Setting;
+use smp_stop_steps::known::StopSetting;
 use smp_words::word::Word;
 use std::alloc::{AllocError, Allocator};
 use std::marker::Model;
 
 /// The words, as all threads share them.
 #[derive(Clone, Copy)]
-pub struct Words<'a> {
-    shared: &'a Shared<(), SeatView, Setting, StopRule>,
+pub struct SharedStopWords<'a> {
+    shared: &'a Shared<(), StopSeatView, StopSetting, StopRule>,
 }
 
 /// The words with their memory.
 #[derive(Drop)]
-pub struct Owner<A: Allocator> {
-    table: Table<(), SeatView, Setting, StopRule, A>,
+pub struct OwnedStopWords<A: Allocator> {
+    table: Table<(), StopSeatView, StopSetting, StopRule, A>,
 }
 
-impl<A: Allocator> Owner<A> {
+impl<A: Allocator> OwnedStopWords<A> {
     /// The words, to be accessed by seats.
     #[inline(always)]
-    pub(crate) fn words(&self) -> Words<'_>
+    pub(crate) fn words(&self) -> SharedStopWords<'_>
         ensures table { result.shared.now.table_id ≡ self.now.table.shared.table_id }
         ensures key { result.shared.now.key ≡ self.now.table.shared.key }
     {
-        Words {
+        SharedStopWords {
             shared: &self.table.shared,
         }
     }
@@ -63,14 +63,14 @@ impl<A: Allocator> Owner<A> {
 
 /// The seat of one CPU, seen as its table and what the CPU knows.
 #[derive(Drop)]
-pub struct CpuSeat {
-    raw: RawSeat,
+pub struct StopSeat {
+    raw: RawStopSeat,
     /// The answer with which the CPU is to complete the stop that it is in, 0 where it carries none: the word of an i32. It is the
     /// one that the CPU knows, so that no step but the one that takes it can change it.
     carried: u64,
 }
 
-impl Model for CpuSeat {
+impl Model for StopSeat {
     ghost use Rattle.std.specs.Prelude.{◌≡◌};
     ghost use Rattle.smp_multi.specs.Seat.{SeatValue, IsCpuSeat};
     ghost use Rattle.smp_multi.specs.Rule.{known};
@@ -82,7 +82,7 @@ impl Model for CpuSeat {
     ghost invariant = { λ c. IsCpuSeat c.raw.me.0 c.carried };
 }
 
-impl CpuSeat {
+impl StopSeat {
     /// The answer that the CPU carries.
     pub(super) fn carried(&self) -> u64
         ensures value { result ≡ self.now.known.carried }
@@ -94,16 +94,16 @@ impl CpuSeat {
 
 /// The first seat of a table, which makes one for each CPU.
 #[derive(Drop)]
-pub struct SeatMaker {
-    raw: RawSeat,
+pub struct StopSeatMaker {
+    raw: RawStopSeat,
 }
 
 /// The words of a table with a free gate, free slots, and these labels with all keys off, and the first seat.
 pub(crate) fn lay<A: Allocator + Copy>(
     alloc: A,
     nr: u32,
-    setting: &Setting,
-) -> Result<(Owner<A>, SeatMaker), AllocError>
+    setting: &StopSetting,
+) -> Result<(OwnedStopWords<A>, StopSeatMaker), AllocError>
     requires { AreLimits nr setting.now.online }
     ensures made { IfOk result (λ t. (t.0.table.shared.table_id.words ≡ cells) × (t.0.table.shared.table_id.slots ≡ 0) × (t.0.table.shared.key ≡ setting.now)
         × (t.1.raw.table_id ≡ t.0.table.shared.table_id) × (t.1.raw.me.0 ≡ Maker 0 setting.now)) }
@@ -114,31 +114,31 @@ pub(crate) fn lay<A: Allocator + Copy>(
     words.extend_from_slice(&labels.entries)?;
     words.extend_from_slice(&labels.sites)?;
     let (table, raw) = Table::of_words(alloc, words.as_slice(), setting)?;
-    Ok((Owner { table }, SeatMaker { raw }))
+    Ok((OwnedStopWords { table }, StopSeatMaker { raw }))
 }
 
 /// A seat for the next CPU, where it is online: no step is made by the seat of one that is not.
 pub(crate) fn next_seat(
-    words: Words<'_>,
-    maker: &mut SeatMaker,
+    words: SharedStopWords<'_>,
+    maker: &mut StopSeatMaker,
     n: u32,
     is_online: bool,
-) -> Option<CpuSeat>
+) -> Option<StopSeat>
     requires table { (maker.old.raw.table_id ≡ words.shared.now.table_id) × (words.shared.now.table_id.words ≡ cells) }
     requires next { (maker.old.raw.me.0 ≡ Maker n words.shared.now.key) × (n < cpus) }
     requires online { is_online ≡ has words.shared.now.key.online n }
     ensures maker { (maker.new.raw.table_id ≡ words.entry.shared.now.table_id) × (maker.new.raw.me.0 ≡ Maker (n + 1) words.entry.shared.now.key) }
     ensures seat { result ≡ if is_online then Some (fresh_seat words.entry.shared.now.table_id words.entry.shared.now.key n) else None }
 {
-    let raw = words.shared.split_seat::<NextSeat>(&mut maker.raw);
+    let raw = words.shared.split_seat::<NextStopSeat>(&mut maker.raw);
     if !is_online {
         return None;
     }
-    Some(CpuSeat { raw, carried: 0 })
+    Some(StopSeat { raw, carried: 0 })
 }
 
 /// What two CPUs of the table know now is their parts of the same stops. It makes no step.
-pub(crate) fn together(words: Words<'_>, one: &mut CpuSeat, other: &mut CpuSeat)
+pub(crate) fn together(words: SharedStopWords<'_>, one: &mut StopSeat, other: &mut StopSeat)
     requires { (one.old.table ≡ words.shared.now.table_id) × (other.old.table ≡ words.shared.now.table_id) }
     ensures kept { (one.new ≡ one.old) × (other.new ≡ other.old) }
     ensures same { KnowTogether one.old.known other.old.known }
@@ -148,19 +148,19 @@ pub(crate) fn together(words: Words<'_>, one: &mut CpuSeat, other: &mut CpuSeat)
 
 /// Loads a word.
 #[inline(always)]
-pub(crate) fn load(words: Words<'_>, seat: &mut CpuSeat, word: Word) -> u64
+pub(crate) fn load(words: SharedStopWords<'_>, seat: &mut StopSeat, word: Word) -> u64
     requires { Ready words.shared.now.table_id seat.old (access.Load word) }
     ensures table { seat.new.table ≡ words.entry.shared.now.table_id }
     ensures lives { Lives seat.new.known }
     ensures known { seat.new.known ≡ known_told seat.old.known act.Load word (Some result) None }
-    ensures then { Moment seat.old.known word result }
+    ensures then { StopMoment seat.old.known word result }
 {
     words.shared.load::<Loaded>(&mut seat.raw, cell(word))
 }
 
 /// Stores a number in a word, by any step that the CPU may make.
 #[inline(always)]
-pub(super) fn store_any(words: Words<'_>, seat: &mut CpuSeat, word: Word, number: u64)
+pub(super) fn store_any(words: SharedStopWords<'_>, seat: &mut StopSeat, word: Word, number: u64)
     requires { Able words.shared.now.table_id seat.old (access.Store word number) }
     ensures table { seat.new.table ≡ words.entry.shared.now.table_id }
     ensures lives { Lives seat.new.known }
@@ -173,7 +173,7 @@ pub(super) fn store_any(words: Words<'_>, seat: &mut CpuSeat, word: Word, number
 
 /// Stores a number in a word, by a step that stores no answer and no label.
 #[inline(always)]
-pub(crate) fn store(words: Words<'_>, seat: &mut CpuSeat, word: Word, number: u64)
+pub(crate) fn store(words: SharedStopWords<'_>, seat: &mut StopSeat, word: Word, number: u64)
     requires { Ready words.shared.now.table_id seat.old (access.Store word number) }
     ensures table { seat.new.table ≡ words.entry.shared.now.table_id }
     ensures lives { Lives seat.new.known }
@@ -185,8 +185,8 @@ pub(crate) fn store(words: Words<'_>, seat: &mut CpuSeat, word: Word, number: u6
 /// Puts a number in a word where another is found, and answers what was found.
 #[inline(always)]
 pub(crate) fn exchange(
-    words: Words<'_>,
-    seat: &mut CpuSeat,
+    words: SharedStopWords<'_>,
+    seat: &mut StopSeat,
     word: Word,
     expected: u64,
     number: u64,
@@ -195,7 +195,7 @@ pub(crate) fn exchange(
     ensures table { seat.new.table ≡ words.entry.shared.now.table_id }
     ensures lives { Lives seat.new.known }
     ensures known { seat.new.known ≡ known_told seat.old.known act.Cas word (Some result) (if result == expected then Some number else None) }
-    ensures then { Moment seat.old.known word result }
+    ensures then { StopMoment seat.old.known word result }
 {
     words
         .shared
@@ -205,7 +205,12 @@ pub(crate) fn exchange(
 /// Takes 1 from a word, by any step that the CPU may make, and answers what was found. From this step on the CPU carries
 /// this answer.
 #[inline(always)]
-pub(super) fn end_with<N: Answer>(words: Words, seat: &mut CpuSeat, word: Word, answer: u64) -> u64
+pub(super) fn end_with<N: Answer>(
+    words: SharedStopWords,
+    seat: &mut StopSeat,
+    word: Word,
+    answer: u64,
+) -> u64
     requires able { Able words.shared.now.table_id seat.old (access.Sub word) }
     requires fits { IsI32Word answer }
     requires picks { N.answer ≡ answer }
@@ -222,7 +227,7 @@ pub(super) fn end_with<N: Answer>(words: Words, seat: &mut CpuSeat, word: Word, 
 
 /// Takes 1 from a word, by a step that ends no stop function, no patch and no stop, and answers what was found.
 #[inline(always)]
-pub(crate) fn subtract(words: Words<'_>, seat: &mut CpuSeat, word: Word) -> u64
+pub(crate) fn subtract(words: SharedStopWords<'_>, seat: &mut StopSeat, word: Word) -> u64
     requires { Ready words.shared.now.table_id seat.old (access.Sub word) }
     ensures table { seat.new.table ≡ words.entry.shared.now.table_id }
     ensures lives { Lives seat.new.known }
@@ -236,11 +241,11 @@ pub(crate) fn subtract(words: Words<'_>, seat: &mut CpuSeat, word: Word) -> u64
 /// Keeps those bits of a word that this number has, and answers what was found. A CPU that enters a stop learns its
 /// work.
 #[inline(always)]
-pub(crate) fn mask(words: Words<'_>, seat: &mut CpuSeat, word: Word, number: u64) -> u64
+pub(crate) fn mask(words: SharedStopWords<'_>, seat: &mut StopSeat, word: Word, number: u64) -> u64
     requires { Ready words.shared.now.table_id seat.old (access.And word number) }
     ensures table { seat.new.table ≡ words.entry.shared.now.table_id }
     ensures lives { Lives seat.new.known }
-    ensures known { (t : Moment seat.old.known word result) × (seat.new.known ≡ known_entering (entering t.stops word) seat.old.known act.And word
+    ensures known { (t : StopMoment seat.old.known word result) × (seat.new.known ≡ known_entering (entering t.stops word) seat.old.known act.And word
         (Some result) (Some (bit_and result number))) }
 {
     words

@@ -10,7 +10,7 @@ ghost use Rattle.smp_stop_steps.specs.Stages.{label_word};
 ghost use Rattle.smp_multi.specs.Patches.{AtPatch, count_in, made_in, rest_in, stored_all};
 ghost use Rattle.smp_multi.specs.Places.{work_in};
 
-use super::access::{CpuSeat, Words, store_any};
+use super::access::{SharedStopWords, StopSeat, store_any};
 use super::run_steps::subtract_with;
 use arrayvec::ArrayVec;
 use smp_labels::{MOST_CHANGES, Place};
@@ -30,8 +30,8 @@ fn word_of(place: Place) -> Word
 
 /// Makes the stores of a patch, in order.
 pub(crate) fn store_plan(
-    words: Words<'_>,
-    seat: &mut CpuSeat,
+    words: SharedStopWords<'_>,
+    seat: &mut StopSeat,
     visit: Visit,
     plan: &ArrayVec<(Place, u64), MOST_CHANGES>,
 )
@@ -52,8 +52,8 @@ pub(crate) fn store_plan(
 /// Acknowledges `RUN`, with all stores of the patch made, and answers what was found in the count. With this step the CPU
 /// carries the answer of the patch.
 pub(crate) fn acknowledge_patch(
-    words: Words<'_>,
-    seat: &mut CpuSeat,
+    words: SharedStopWords<'_>,
+    seat: &mut StopSeat,
     visit: Visit,
     answer: u64,
 ) -> u64

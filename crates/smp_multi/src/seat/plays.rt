@@ -2,35 +2,35 @@
 
 ghost use Rattle.smp_multi.specs.Plays.{loaded, stored, exchanged, subtracted, answered, masked};
 
-use crate::seat_view::SeatView;
+use crate::seat_view::StopSeatView;
 use atomic_table::Play;
 use std::marker::{Brand, PhantomData};
 
 /// A load.
 pub(super) struct Loaded;
 
-impl Play<(), SeatView> for Loaded {
+impl Play<(), StopSeatView> for Loaded {
     ghost then = { loaded };
 }
 
 /// A store.
 pub(super) struct Stored;
 
-impl Play<(), SeatView> for Stored {
+impl Play<(), StopSeatView> for Stored {
     ghost then = { stored };
 }
 
 /// A compare-exchange.
 pub(super) struct Exchanged;
 
-impl Play<(), SeatView> for Exchanged {
+impl Play<(), StopSeatView> for Exchanged {
     ghost then = { exchanged };
 }
 
 /// A `fetch_sub` of 1.
 pub(super) struct Subtracted;
 
-impl Play<(), SeatView> for Subtracted {
+impl Play<(), StopSeatView> for Subtracted {
     ghost then = { subtracted };
 }
 
@@ -50,13 +50,13 @@ pub(super) struct Answered<N: Answer> {
     of: PhantomData<N>,
 }
 
-impl<N: Answer> Play<(), SeatView> for Answered<N> {
+impl<N: Answer> Play<(), StopSeatView> for Answered<N> {
     ghost then = { answered N.answer };
 }
 
 /// A `fetch_and`.
 pub(super) struct Masked;
 
-impl Play<(), SeatView> for Masked {
+impl Play<(), StopSeatView> for Masked {
     ghost then = { masked };
 }

@@ -21,7 +21,7 @@ ghost use Rattle.smp_multi.specs.Running.{AtOne, IsItsCall, calls_now};
 ghost use Rattle.smp_multi.specs.Seat.{Able};
 ghost use Rattle.smp_multi.specs.StepCounts.{giving};
 
-use super::access::{CpuSeat, Words, end_with, load, store_any};
+use super::access::{SharedStopWords, StopSeat, end_with, load, store_any};
 use smp_stop_steps::stage::Visit;
 use smp_stop_steps::start::answer_word;
 use smp_words::field::Field;
@@ -32,7 +32,12 @@ use std::marker::Brand;
 /// Takes 1 from a word, by any step that the CPU may make, and answers what was found. From this step on the CPU carries
 /// this answer.
 #[inline(always)]
-pub(super) fn subtract_with(words: Words<'_>, seat: &mut CpuSeat, word: Word, answer: u64) -> u64
+pub(super) fn subtract_with(
+    words: SharedStopWords<'_>,
+    seat: &mut StopSeat,
+    word: Word,
+    answer: u64,
+) -> u64
     requires able { Able words.shared.now.table_id seat.old (access.Sub word) }
     requires fits { IsI32Word answer }
     ensures table { seat.new.table ≡ words.entry.shared.now.table_id }
@@ -51,7 +56,7 @@ fn word_of(answer: i32) -> u64
 }
 
 /// A CPU has entered a stop of one CPU: loads the function and its argument.
-pub(crate) fn begin_one(words: Words<'_>, seat: &mut CpuSeat, slot: u32) -> (u16, u64)
+pub(crate) fn begin_one(words: SharedStopWords<'_>, seat: &mut StopSeat, slot: u32) -> (u16, u64)
     requires { AtOne words.shared.now.table_id seat.old slot }
     ensures at { AtOne words.entry.shared.now.table_id seat.new slot }
     ensures lives { Lives seat.new.known }
@@ -64,7 +69,7 @@ pub(crate) fn begin_one(words: Words<'_>, seat: &mut CpuSeat, slot: u32) -> (u16
 }
 
 /// Stores an answer; 0 is not stored. `acked` is the last phase that the CPU has acknowledged.
-fn give(words: Words<'_>, seat: &mut CpuSeat, slot: u32, acked: u32, answer: u64)
+fn give(words: SharedStopWords<'_>, seat: &mut StopSeat, slot: u32, acked: u32, answer: u64)
     requires at { AtEnd words.shared.now.table_id seat.old slot acked }
     requires fits { IsI32Word answer }
     requires calls { answer ≢ 0 → seat.old.known.part.calling ≢ Idle }
@@ -80,7 +85,13 @@ fn give(words: Words<'_>, seat: &mut CpuSeat, slot: u32, acked: u32, answer: u64
 
 /// Completes a stop with this answer: stores it, counts the CPU, which carries none from then on, and answers what was
 /// found in the count.
-fn complete(words: Words<'_>, seat: &mut CpuSeat, slot: u32, acked: u32, answer: u64) -> u64
+fn complete(
+    words: SharedStopWords<'_>,
+    seat: &mut StopSeat,
+    slot: u32,
+    acked: u32,
+    answer: u64,
+) -> u64
     requires at { AtEnd words.shared.now.table_id seat.old slot acked }
     requires fits { IsI32Word answer }
     requires calls { answer ≢ 0 → seat.old.known.part.calling ≢ Idle }
@@ -95,7 +106,12 @@ fn complete(words: Words<'_>, seat: &mut CpuSeat, slot: u32, acked: u32, answer:
 }
 
 /// The function of a stop of one CPU has run: completes with its answer, and answers what was found in the count.
-pub(crate) fn end_one(words: Words<'_>, seat: &mut CpuSeat, slot: u32, answer: i32) -> u64
+pub(crate) fn end_one(
+    words: SharedStopWords<'_>,
+    seat: &mut StopSeat,
+    slot: u32,
+    answer: i32,
+) -> u64
     requires at { AtOne words.shared.now.table_id seat.old slot }
     requires calls { seat.old.known.part.calling ≢ Idle }
     ensures at { AtClose words.entry.shared.now.table_id seat.new slot result }
@@ -109,7 +125,7 @@ pub(crate) fn end_one(words: Words<'_>, seat: &mut CpuSeat, slot: u32, answer: i
 /// A Multi stop has come to `RUN`, and the CPU is active: loads the function and its argument. From here until the CPU
 /// acknowledges the phase, whatever others do, every CPU of the mask has acknowledged disabled interrupts, and has them
 /// off.
-pub(crate) fn begin_run(words: Words<'_>, seat: &mut CpuSeat, visit: Visit) -> (u16, u64)
+pub(crate) fn begin_run(words: SharedStopWords<'_>, seat: &mut StopSeat, visit: Visit) -> (u16, u64)
     requires { AtRun words.shared.now.table_id seat.old visit Multi }
     ensures at { AtRun words.entry.shared.now.table_id seat.new visit Multi }
     ensures lives { Lives seat.new.known }
@@ -124,7 +140,12 @@ pub(crate) fn begin_run(words: Words<'_>, seat: &mut CpuSeat, visit: Visit) -> (
 
 /// The function of a Multi stop has run: acknowledges `RUN` with its answer, which the CPU carries from then on, and
 /// answers what was found in the count.
-pub(crate) fn end_run(words: Words<'_>, seat: &mut CpuSeat, visit: Visit, answer: i32) -> u64
+pub(crate) fn end_run(
+    words: SharedStopWords<'_>,
+    seat: &mut StopSeat,
+    visit: Visit,
+    answer: i32,
+) -> u64
     requires at { AtRun words.shared.now.table_id seat.old visit Multi }
     requires calls { seat.old.known.part.calling ≢ Idle }
     requires alone { AloneWhile seat.old.known visit.slot }
@@ -142,7 +163,7 @@ pub(crate) fn end_run(words: Words<'_>, seat: &mut CpuSeat, visit: Visit, answer
 
 /// Completes a stop of several CPUs, which the CPU has left, with the answer that it carries. Answers what was found in
 /// the count.
-pub(crate) fn complete_round(words: Words<'_>, seat: &mut CpuSeat, slot: u32) -> u64
+pub(crate) fn complete_round(words: SharedStopWords<'_>, seat: &mut StopSeat, slot: u32) -> u64
     requires at { AtEnd words.shared.now.table_id seat.old slot EXIT }
     requires several { (work_in seat.old.known.seat).kind ≢ One }
     requires carries { seat.old.known.carried ≢ 0 → seat.old.known.part.calling ≢ Idle }

@@ -10,7 +10,8 @@ use Rattle.smp_call_steps.specs.Calls.{no_calls}
 use Rattle.smp_call_steps.specs.Histories.{sent_to, calls_from}
 use Rattle.smp_call_steps.specs.Known.{told_stage}
 use Rattle.smp_call_steps.specs.Parts.{part_of}
-use Rattle.smp_queue.specs.{Hand, Queued, Ran, Flags, Known, Part, Setting, SeatView, Left, Closes, ClosesWith, AuditAnswers, HaveRun, IfDrained}
+use Rattle.smp_queue.specs.{Hand, Queued, Ran, Flags, KnownCalls, CallPart, CallSetting, CallSeatView, Left, Closes}
+use Rattle.smp_queue.specs.{ClosesWith, AuditAnswers, HaveRun, IfDrained}
 use Rattle.smp_queue.specs.{AreEqual, HasRowsOf, HasZerosFrom, has_lock, has_hand, left_in, nothing_left, number_in, TableValue, CpuValue, setting_of, cpu_of}
 use Rattle.smp_queue.specs.{SeatValue, Ruled, known, IsCpuSeat}
 use Rattle.smp_queue.specs.Names.{Audit}
@@ -21,7 +22,7 @@ use Rattle.smp_queue.proofs.TheRule.Cells.{no_hand, no_flags}
 use Rattle.smp_queue.specs.audit
 
 -- its words show some calls, of which the seat knows its part
-pub closes : {S : Type 0} (k : Setting) (s : State S SeatView) (r : Ruled k s) (id : ℕ) (u : SeatView) → IsCpuSeat u → get_elem? s.views id ≡ some u
+pub closes : {S : Type 0} (k : CallSetting) (s : State S CallSeatView) (r : Ruled k s) (id : ℕ) (u : CallSeatView) → IsCpuSeat u → get_elem? s.views id ≡ some u
     → Closes k (known u) s.words
 closes k s r id u is at =
     let m = knows_as k r.calls r.controls r.seat r.next id u is (r.each_seat id u at) in
@@ -64,14 +65,14 @@ still words e = record {
     outside cpu false t = no_hand words cpu (ltb-false cpu cpus t)
 
 -- the tallies of a table that is drained are equal
-pub drained_equal : (k : Setting) (v : Known) (words : List ℕ) (answer : Audit) → Closes k v words → AuditAnswers (number_in words) answer
+pub drained_equal : (k : CallSetting) (v : KnownCalls) (words : List ℕ) (answer : Audit) → Closes k v words → AuditAnswers (number_in words) answer
     → IfDrained answer AreEqual
 drained_equal k v words (audit.Drained t) c a = λ source to s d. a.1.queued_are source to s d
     ∙ (equal_tallies c.shown (still words a.0) source to ∙ sym (a.1.ran_are to source d s))
 drained_equal k v words (audit.Left left) c a = tt
 
 -- a CPU's rows are those of its part
-pub drained_rows : (k : Setting) (d : SeatValue) (words : List ℕ) (answer : Audit) → k.nr ≤ cpus → Closes k d.known words
+pub drained_rows : (k : CallSetting) (d : SeatValue) (words : List ℕ) (answer : Audit) → k.nr ≤ cpus → Closes k d.known words
     → AuditAnswers (number_in words) answer
     → IfDrained answer (HasRowsOf (cpu_of d))
 drained_rows k d words (audit.Drained t) within c a = λ other below.
@@ -80,13 +81,13 @@ drained_rows k d words (audit.Drained t) within c a = λ other below.
     let l : me < cpus = omega arith in
     let at = number_in words in
     let s = still words a.0 in (
-      a.1.queued_are me other l below ∙ (still_queued c.shown s me other ∙ ap (λ (p : Part). length (sent_to other p.sent) % 2 ^ 64) c.sees.part),
-      a.1.ran_are me other l below ∙ (still_ran c.shown s me other ∙ ap (λ (p : Part). length (calls_from other p.ran) % 2 ^ 64) c.sees.part),
+      a.1.queued_are me other l below ∙ (still_queued c.shown s me other ∙ ap (λ (p : CallPart). length (sent_to other p.sent) % 2 ^ 64) c.sees.part),
+      a.1.ran_are me other l below ∙ (still_ran c.shown s me other ∙ ap (λ (p : CallPart). length (calls_from other p.ran) % 2 ^ 64) c.sees.part),
     )
 drained_rows k d words (audit.Left left) within c a = tt
 
 -- nothing was queued for or by a CPU that is not there
-pub drained_zeros : (k : Setting) (v : Known) (words : List ℕ) (answer : Audit) → Closes k v words → AuditAnswers (number_in words) answer
+pub drained_zeros : (k : CallSetting) (v : KnownCalls) (words : List ℕ) (answer : Audit) → Closes k v words → AuditAnswers (number_in words) answer
     → IfDrained answer (HasZerosFrom k.nr)
 drained_zeros k v words (audit.Drained t) c a = λ cpu other l m past. (
   a.1.queued_are cpu other l m ∙ elim past [ inl p ↦ none_queued cpu other p | inr p ↦ equal cpu other ∙ none_ran other cpu p ],
@@ -100,10 +101,10 @@ drained_zeros k v words (audit.Drained t) c a = λ cpu other l m past. (
     none cpu p = let sees = c.absent cpu p in sees.part
 
     none_queued : (source cpu : ℕ) → k.nr ≤ source → number_in words (Queued source cpu) ≡ 0
-    none_queued source cpu p = still_queued c.shown (still words a.0) source cpu ∙ ap (λ (q : Part). length (sent_to cpu q.sent) % 2 ^ 64) (none source p)
+    none_queued source cpu p = still_queued c.shown (still words a.0) source cpu ∙ ap (λ (q : CallPart). length (sent_to cpu q.sent) % 2 ^ 64) (none source p)
 
     none_ran : (cpu source : ℕ) → k.nr ≤ cpu → number_in words (Ran cpu source) ≡ 0
-    none_ran cpu source p = still_ran c.shown (still words a.0) cpu source ∙ ap (λ (q : Part). length (calls_from source q.ran) % 2 ^ 64) (none cpu p)
+    none_ran cpu source p = still_ran c.shown (still words a.0) cpu source ∙ ap (λ (q : CallPart). length (calls_from source q.ran) % 2 ^ 64) (none cpu p)
 drained_zeros k v words (audit.Left left) c a = tt
 
 -- all its calls have run

@@ -20,7 +20,7 @@ use Rattle.smp_call_steps.proofs.State.Counts.{confirmed_calls_ran}
 use Rattle.smp_call_steps.proofs.State.HaveRun.{confirmed_sync_calls_ended, confirmed_calls_have_run}
 use Rattle.smp_queue.specs.Serving.{IsOut, running_as}
 use Rattle.smp_queue.specs.Out.{IsShownOut}
-use Rattle.smp_queue.specs.{Call, Word, Head, Part, cpu_of, SeatValue, Sits, HaveRunFor, IsQuiet, HasNothingToTake, IsSeenTo, IsShown}
+use Rattle.smp_queue.specs.{Call, Word, Head, CallPart, cpu_of, SeatValue, SeatInvariant, HaveRunFor, IsQuiet, HasNothingToTake, IsSeenTo, CallsAreShown}
 
 row-true : (n i : ℕ) (f : ℕ → Bool) → get_or (row n f) i false ≡ true → f i ≡ true
 unfolding row
@@ -30,7 +30,7 @@ row-true (suc n) (suc i) f e = row-true n i (λ k. f (suc k)) e
 
 have_run : (d : SeatValue) (l : Lives d.known) → HaveRunFor l.calls (cpu_of d)
 have_run d l =
-    subst (λ (p : Part). AllByRecursion
+    subst (λ (p : CallPart). AllByRecursion
     (λ sending. get_or p.confirmed sending.call.id false ≡ true → HasRunAt l.calls sending.to sending.call sending.call.class) p.sent) l.sees.part
     (every (λ sending. l.calls.confirmed d.known.number sending.call.id ≡ true → HasRunAt l.calls sending.to sending.call sending.call.class)
     (λ sending. get_or (row records (l.calls.confirmed d.known.number)) sending.call.id false ≡ true
@@ -53,9 +53,9 @@ empty_is (call ∷ rest) e = absurd e
 -- a CPU that is not online owes no interrupt
 owes_none : (a : CallState) (source cpu : ℕ) → cpu < cpus → part_of a source ≡ part_of no_calls source → a.owes source cpu ≡ true → ⊥
 owes_none a source cpu small same e = true≢false (sym (row-at cpus cpu (a.owes source) false small ∙ e)
-    ∙ (ap (λ (p : Part). get_or p.owes cpu false) same ∙ row-at cpus cpu (λ _. false) false small))
+    ∙ (ap (λ (p : CallPart). get_or p.owes cpu false) same ∙ row-at cpus cpu (λ _. false) false small))
 
-seen_to_in : (d : SeatValue) (s : Sits d.known) (cpu : ℕ) → cpu < cpus
+seen_to_in : (d : SeatValue) (s : SeatInvariant d.known) (cpu : ℕ) → cpu < cpus
     → IsEmpty (s.lives.calls.queue cpu) ⊎ IsNoticed s.lives.calls.pending s.lives.calls.accepted s.lives.calls.owes cpu
     → IsSeenTo d.known.setting.online s.lives.calls cpu
 seen_to_in d s cpu small (inl e) = inl (empty_is (s.lives.calls.queue cpu) e)
@@ -67,7 +67,7 @@ seen_to_in d s cpu small (inr (is_owed source e)) = inr (inr (inr (source, owed_
     owed_online true f = f
     owed_online false f = absurd (let sees = s.offline source f in owes_none s.lives.calls source cpu small sees.part e)
 
-pub is_shown : (d : SeatValue) → Sits d.known → has d.known.setting.online d.known.number ≡ true → d.known.stage ≡ None → IsShown (cpu_of d)
+pub is_shown : (d : SeatValue) → SeatInvariant d.known → has d.known.setting.online d.known.number ≡ true → d.known.stage ≡ None → CallsAreShown (cpu_of d)
 is_shown d s o e = let l = s.lives in record {
   calls = l.calls;
   at = l.at;
@@ -99,7 +99,7 @@ is_shown_out d call number out n o r = let s = out.0 in let l = s.lives in recor
   absent = λ cpu far. let sees = s.absent cpu far in sees.part;
   offline = λ cpu off. let sees = s.offline cpu off in sees.part;
   quiet = λ cpu off. nothing_to_take l.shown cpu (s.quiet cpu off);
-  running = ap (λ (p : Part). p.running) l.sees.part ∙ r;
+  running = ap (λ (p : CallPart). p.running) l.sees.part ∙ r;
   out = out.1;
   view = λ i. record (cpu_of d) { part = sym l.sees.part i };
 }

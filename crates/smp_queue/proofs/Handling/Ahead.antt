@@ -4,7 +4,7 @@ use Rattle.std.proofs.Common.{◌≡◌, ◌≢◌, ℕ, suc, ◌+◌, ◌==◌,
 use Rattle.std.proofs.Common.{append_assoc}
 use Rattle.atomic_table.specs.Seated.{TableId}
 use Rattle.smp_call_steps.specs.Drains.{DrainValue, link_to, record_at}
-use Rattle.smp_call_steps.specs.Known.{Moment}
+use Rattle.smp_call_steps.specs.Known.{CallMoment}
 use Rattle.smp_call_steps.specs.Places.{IsApart}
 use Rattle.smp_call_steps.specs.Stands.{Share, Walks}
 use Rattle.smp_call_steps.specs.Words.{Path, last_batch, nexts_in}
@@ -49,7 +49,7 @@ walks_less nexts s d walk id n call rest w found =
     search (same, left_here, whole, left_next, leads, arith)
 
 -- the same at the load of the link
-pub ahead_less : (t : TableId) (d : SeatValue) (walk : Walk) (id n : ℕ) → InHandle t d (handle.LoadNext walk id) → Moment d.known (Next id) n →
+pub ahead_less : (t : TableId) (d : SeatValue) (walk : Walk) (id n : ℕ) → InHandle t d (handle.LoadNext walk id) → CallMoment d.known (Next id) n →
     left_from (record_at n) (last_batch d.known.part.taken) < left_from (Some id) (last_batch d.known.part.taken)
 ahead_less t d walk id n at m =
     let k = lives_stands m.lives (handle.LoadNext walk id) at.stage_is in

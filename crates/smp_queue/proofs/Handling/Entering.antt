@@ -2,7 +2,8 @@
 use Rattle.std.proofs.Common.{◌≡◌, ℕ, ◌<◌, true, Option, Some, None, List, [], ◌∷◌, ◌++◌, length, sym, refl, ap, ◌∙◌, subst}
 use Rattle.atomic_table.specs.Seated.{TableId}
 use Rattle.smp_words.specs.Size.{cpus}
-use Rattle.smp_queue.specs.{Call, Intr, Hand, Store, Swap, Known, Setting, HandleStage, Handle, CpuValue, cpu_of, SeatValue, Ready, InHandle, IsOutside, asks}
+use Rattle.smp_queue.specs.{Call, Intr, Hand, Store, Swap, KnownCalls, CallSetting, HandleStage, Handle, CpuValue, cpu_of}
+use Rattle.smp_queue.specs.{SeatValue, Ready, InHandle, IsOutside, asks}
 use Rattle.smp_queue.specs.Serving.{IsAt, takes}
 use Rattle.smp_queue.specs.declared.run.Place.{Place}
 use Rattle.smp_call_steps.specs.Words.{last_batch}
@@ -18,7 +19,7 @@ use Rattle.smp_queue.specs.act
 use Rattle.smp_queue.specs.handle
 
 module _ (t : TableId) (d d' : SeatValue) (number : ℕ) where
-  pub enter_ready : {k : Setting} → IsOutside t d number → Ready t k d (Store (Hand number) 1)
+  pub enter_ready : {k : CallSetting} → IsOutside t d number → Ready t k d (Store (Hand number) 1)
   enter_ready o = record {
     table_is = o.table_is;
     sized = o.sized;
@@ -41,11 +42,12 @@ module _ (t : TableId) (d d' : SeatValue) (number : ℕ) where
     pub entered : InHandle t d' handle.Accept
     entered = in_handle_then t d' handle.Accept (handling handle.Accept d.known.drain d.known) o.sized table lives entered_known refl
 
-    pub accept_ready : {k : Setting} → Ready t k d' (Swap (Intr number) 0)
+    pub accept_ready : {k : CallSetting} → Ready t k d' (Swap (Intr number) 0)
     accept_ready = in_handle_ready entered (Swap (Intr number) 0) tt
-        (ap (λ (n : ℕ). Swap (Intr n) 0) (ap (λ (u : Known). u.number) entered_known ∙ o.number_is))
+        (ap (λ (n : ℕ). Swap (Intr n) 0) (ap (λ (u : KnownCalls). u.number) entered_known ∙ o.number_is))
 
-  pub leave_ready : {k : Setting} (stage : HandleStage) → InHandle t d stage → IsLeaving stage → d.known.number ≡ number → Ready t k d (Store (Hand number) 0)
+  pub leave_ready : {k : CallSetting} (stage : HandleStage) → InHandle t d stage → IsLeaving stage → d.known.number ≡ number
+      → Ready t k d (Store (Hand number) 0)
   leave_ready handle.LeaveIdle h l e = in_handle_ready h (Store (Hand number) 0) tt (ap (λ (n : ℕ). Store (Hand n) 0) e)
   leave_ready handle.Leave h l e = in_handle_ready h (Store (Hand number) 0) tt (ap (λ (n : ℕ). Store (Hand n) 0) e)
   leave_ready _ h l e = absurd l

@@ -4,8 +4,8 @@ use Rattle.atomic_table.specs.Seated.{TableId}
 use Rattle.smp_words.specs.Access.{word_of}
 use Rattle.smp_call_steps.specs.Drains.{record_at, unlink_after, handle_outcome, by_class, FitsFound, reverse_on, first_on}
 use Rattle.smp_words.specs.Flags.{class_of}
-use Rattle.smp_queue.specs.{Sync, Word, Flags, Func, Info, Next, Known, Walk, HandleStage, Stage, Handle, SeatValue, Loads, InHandle}
-use Rattle.smp_call_steps.specs.Known.{known_access, Moment}
+use Rattle.smp_queue.specs.{Sync, Word, Flags, Func, Info, Next, KnownCalls, Walk, HandleStage, Stage, Handle, SeatValue, Loads, InHandle}
+use Rattle.smp_call_steps.specs.Known.{known_access, CallMoment}
 use Rattle.smp_call_steps.specs.Handling.{goes_known}
 use Rattle.smp_call_steps.proofs.Knows.Handling.{lives_fits, next_found_is, func_found_is, info_found_is, flags_found_is, lives_locked}
 use Rattle.smp_queue.proofs.Handling.Handles.{in_handle_then}
@@ -35,7 +35,7 @@ pub record Reversing (t : TableId) (before d : SeatValue) (here next : Option �
   pub known_is : d.known ≡ record (before.known) { stage = d.known.stage; drain = d.known.drain }
 
 -- what is found at some time fits
-pub moment_fits : (t : TableId) (d : SeatValue) (h : HandleStage) → InHandle t d h → (w : Word) (n : ℕ) → Moment d.known w n
+pub moment_fits : (t : TableId) (d : SeatValue) (h : HandleStage) → InHandle t d h → (w : Word) (n : ℕ) → CallMoment d.known w n
     → word_of (known_access d.known (Handle h)) ≡ w → FitsFound h n
 moment_fits t d h at w n m e = search (lives_fits, arith)
 
@@ -67,8 +67,8 @@ module _ {t : TableId} {d d1 : SeatValue} (d2 : SeatValue) (walk : Walk) (id : �
     sync_goes h e = search (in_handle_then, arith)
 
 -- steps that change what a CPU knows by its stage alone, after others that did
-pub kept_on : (v v1 v2 : Known) → v1 ≡ record v { stage = v1.stage } → v2 ≡ record v1 { stage = v2.stage } → v2 ≡ record v { stage = v2.stage }
-kept_on v v1 v2 k1 k2 = k2 ∙ ap (λ (u : Known). record u { stage = v2.stage }) k1
+pub kept_on : (v v1 v2 : KnownCalls) → v1 ≡ record v { stage = v1.stage } → v2 ≡ record v1 { stage = v2.stage } → v2 ≡ record v { stage = v2.stage }
+kept_on v v1 v2 k1 k2 = k2 ∙ ap (λ (u : KnownCalls). record u { stage = v2.stage }) k1
 
 -- two loads after one another, by which a CPU in its first pass learns the class of a record
 module _ {t : TableId} {d d1 : SeatValue} (d2 : SeatValue) (walk : Walk) (id : ℕ) {n : ℕ} (flags : ℕ) (at : InHandle t d (handle.LoadNext walk id))
@@ -89,4 +89,4 @@ module _ {t : TableId} {d d1 : SeatValue} (d2 : SeatValue) (walk : Walk) (id : �
     class_goes h e = search (in_handle_then, arith)
 
     pub class_kept : d2.known ≡ record (d.known) { stage = d2.known.stage }
-    class_kept = class_known ∙ ap (λ (x : Option Stage). record (d.known) { stage = x }) (sym (ap (λ (u : Known). u.stage) class_known))
+    class_kept = class_known ∙ ap (λ (x : Option Stage). record (d.known) { stage = x }) (sym (ap (λ (u : KnownCalls). u.stage) class_known))

@@ -10,20 +10,20 @@ use Rattle.smp_call_steps.specs.Histories.{calls_from, counted_call}
 use Rattle.smp_call_steps.specs.Known.{ran_tally}
 use Rattle.smp_call_steps.specs.Order.{order}
 use Rattle.smp_call_steps.specs.Handling.{ended_call}
-use Rattle.smp_queue.specs.{Call, Known, Nothing, Heard, CpuValue, cpu_of, SeatValue, heard_of, AreRan, Grows, asks, drains}
-use Rattle.smp_queue.specs.Serving.{Gives, IsAt, HasRun, HasRunAll, has_run, takes, serves, ends, goes_from}
+use Rattle.smp_queue.specs.{Call, KnownCalls, Nothing, Heard, CpuValue, cpu_of, SeatValue, heard_of, AreRan, Grows, asks, drains}
+use Rattle.smp_queue.specs.Serving.{Gives, IsAt, HasRunCall, HasRunAll, has_run, takes, serves, ends, goes_from}
 use Rattle.smp_queue.specs.declared.run.Place.{Place}
 use Rattle.smp_words.proofs.Sizes.{owner-below}
 use Rattle.smp_call_steps.proofs.State.Tallies.{count-same, count-other, count_wraps}
 use Rattle.smp_queue.proofs.Handling.Passing.{at_cpu, given_is, ended_is, ran_still}
 
 -- a call that runs is not counted yet
-pub tally_running : (v w : Known) (source : ℕ) → w.part.ran ≡ v.part.ran → counted_call w.part.running ≡ []
+pub tally_running : (v w : KnownCalls) (source : ℕ) → w.part.ran ≡ v.part.ran → counted_call w.part.running ≡ []
     → ran_tally w.part source ≡ length (calls_from source v.part.ran) % 2 ^ 64
 tally_running v w source r n = search (append-nil, arith)
 
 -- one call more has run
-pub more_ran : (counts counts' : List ℕ) (v w : Known) (call : Call) → AreRan counts v → call.id < records → w.part.ran ≡ v.part.ran ++ call ∷ [] →
+pub more_ran : (counts counts' : List ℕ) (v w : KnownCalls) (call : Call) → AreRan counts v → call.id < records → w.part.ran ≡ v.part.ran ++ call ∷ [] →
     counts' ≡ set counts (owner call.id) ((get_or counts (owner call.id) 0 + 1) % 2 ^ 64) → AreRan counts' w
 more_ran counts counts' v w call a in_range ran is = rw is (record {
   sized = length-set counts (owner call.id) ((get_or counts (owner call.id) 0 + 1) % 2 ^ 64) ∙ a.sized;
@@ -34,7 +34,7 @@ module _ {H : Type 0} (leads : H → Heard → H → Type 0) (t : TableId) where
   -- a call has begun and ended, and its CPU has gone on
   pub ran_one : (s0 s1 s2 s3 : SeatValue) (p : Place) (found : Option Place) (counts : List ℕ) (before after : H) → s0.table ≡ t → Gives t s0 s1 p
       → s2.table ≡ t → s2.known ≡ ended_call (goes_from p) p.call s1.known → AreRan counts s2.known → IsAt t (cpu_of s2) s3 found
-      → leads before (heard_of p.call) after → HasRun leads t s0 s3 p.call found counts before after
+      → leads before (heard_of p.call) after → HasRunCall leads t s0 s3 p.call found counts before after
   ran_one s0 s1 s2 s3 p found counts before after t0 g t2 k2 a at heard =
       let c3 : cpu_of s3 ≡ cpu_of s2 = at_cpu _ _ _ found at in
       let c2 : cpu_of s2 ≡ ends p.call (cpu_of s1) = ended_is s1 s2 (goes_from p) p.call (t2 ∙ sym g.at.table_is) k2 in
@@ -71,7 +71,7 @@ module _ {H : Type 0} (leads : H → Heard → H → Type 0) (t : TableId) where
   }
 
   pub runs_more : (before d d' : SeatValue) (here found : Option Place) (call : Call) (counts counts' : List ℕ) (first now now' : H)
-      → RunsOn before d here counts first now → HasRun leads t d d' call found counts' now now' → RunsOn before d' found counts' first now'
+      → RunsOn before d here counts first now → HasRunCall leads t d d' call found counts' now now' → RunsOn before d' found counts' first now'
   runs_more before d d' here found call counts counts' first now now' r h =
       let c : has_run (call ∷ []) d'.known.part.batch (cpu_of d) ≡ has_run (r.calls ++ call ∷ []) d'.known.part.batch (cpu_of before) =
       let p = before.known.part in

@@ -4,7 +4,7 @@ use Rattle.atomic_table.specs.Seated.{TableId}
 use Rattle.smp_call_steps.specs.Heads.{Found, by_load, by_exchange, last_found, AreOthers}
 use Rattle.smp_call_steps.specs.Stands.{posted}
 use Rattle.smp_call_steps.specs.Known.{standing, queued_known, outside_known, looked_known, lost_one, stepped, lost_tries}
-use Rattle.smp_queue.specs.{Known, Posting, Post, GivesUp, SeatValue, IsMine, IsCounting, IsTallied, counted}
+use Rattle.smp_queue.specs.{KnownCalls, Posting, Post, GivesUp, SeatValue, IsMine, IsCounting, IsTallied, counted}
 use Rattle.smp_queue.specs.Appends.{Appends}
 use Rattle.smp_queue.proofs.Posts.Ready.{mine_moved}
 use Rattle.smp_queue.specs.post
@@ -26,18 +26,18 @@ module _ {table : TableId} {before seat : SeatValue} {p : Posting} {link : ℕ} 
   tries_mine m = mine_moved table before seat p (standing (counted p) post.LoadHead (lost_tries found before.known)) m t.table_is t.known_is refl
 
   pub tries_stage : seat.known.stage ≡ Some (Post (counted p) post.LoadHead)
-  tries_stage = ap (λ (u : Known). u.stage) t.known_is
+  tries_stage = ap (λ (u : KnownCalls). u.stage) t.known_is
 
   pub tries_tallied : (number count : ℕ) → IsCounting before.known p number count → IsTallied seat.known p number count
   tries_tallied number count k = search arith
 
   -- the call is queued
-  pub tries_won : (v : Known) → v ≡ queued_known (posted p) p.to (link == 0) link seat.known → Appends p (link == 0) found before.known v
+  pub tries_won : (v : KnownCalls) → v ≡ queued_known (posted p) p.to (link == 0) link seat.known → Appends p (link == 0) found before.known v
   tries_won v e = search arith
 
   -- it has given up
-  pub tries_left : (v : Known) → v ≡ outside_known (stepped 2 seat.known) → GivesUp found before.known v
-  tries_left v e = record { others = t.others; known_is = e ∙ ap (λ (u : Known). outside_known (stepped 2 u)) t.known_is }
+  pub tries_left : (v : KnownCalls) → v ≡ outside_known (stepped 2 seat.known) → GivesUp found before.known v
+  tries_left v e = record { others = t.others; known_is = e ∙ ap (λ (u : KnownCalls). outside_known (stepped 2 u)) t.known_is }
 
   -- it has lost one more
   pub tries_lost : (next : SeatValue) (n : ℕ) → next.table ≡ table → next.known ≡ lost_one link n seat.known → n ≢ link

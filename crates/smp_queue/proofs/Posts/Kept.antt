@@ -12,25 +12,25 @@ use Rattle.smp_call_steps.specs.Known.{fresh, queued_known, lost_tries, standing
 use Rattle.smp_call_steps.proofs.Basics.Lists.{sent_to-push, one_if-same, one_if-other}
 use Rattle.smp_call_steps.proofs.Basics.Rows.{length-row}
 use Rattle.smp_words.proofs.Zeros.{get_or-same}
-use Rattle.smp_queue.specs.{Call, Known, Posting, uncounted, IsKept}
+use Rattle.smp_queue.specs.{Call, KnownCalls, Posting, uncounted, IsKept}
 use Rattle.smp_queue.specs.Appends.{Appends}
 use Rattle.smp_queue.specs.post
 
-pub kept_fresh : (v : Known) (number : ℕ) → v ≡ fresh v.setting number → number < cpus → has v.setting.online number ≡ true
+pub kept_fresh : (v : KnownCalls) (number : ℕ) → v ≡ fresh v.setting number → number < cpus → has v.setting.online number ≡ true
     → IsKept v number (replicate cpus 0) (replicate cpus 0)
 kept_fresh v number e l o = record {
-  number_is = ap (λ (x : Known). x.number) e;
+  number_is = ap (λ (x : KnownCalls). x.number) e;
   below = l;
   online = o;
-  outside = ap (λ (x : Known). x.stage) e;
-  records_sized = ap (λ (x : Known). length x.part.confirmed) e ∙ length-row records (λ _. true);
+  outside = ap (λ (x : KnownCalls). x.stage) e;
+  records_sized = ap (λ (x : KnownCalls). length x.part.confirmed) e ∙ length-row records (λ _. true);
   queued_sized = length-replicate {A = ℕ} cpus 0;
   ran_sized = length-replicate {A = ℕ} cpus 0;
-  queued_are = λ to _. get_or-same 0 cpus to ∙ ap (λ (x : Known). length (sent_to to x.part.sent) % 2 ^ 64) (sym e);
-  ran_are = λ source _. get_or-same 0 cpus source ∙ ap (λ (x : Known). length (calls_from source x.part.ran) % 2 ^ 64) (sym e);
+  queued_are = λ to _. get_or-same 0 cpus to ∙ ap (λ (x : KnownCalls). length (sent_to to x.part.sent) % 2 ^ 64) (sym e);
+  ran_are = λ source _. get_or-same 0 cpus source ∙ ap (λ (x : KnownCalls). length (calls_from source x.part.ran) % 2 ^ 64) (sym e);
 }
 
-module _ {v : Known} {number : ℕ} {queued ran : List ℕ} (k : IsKept v number queued ran) where
+module _ {v : KnownCalls} {number : ℕ} {queued ran : List ℕ} (k : IsKept v number queued ran) where
   -- also where it has made steps, or has tried in vain
   pub kept_stepped : (n : ℕ) → IsKept (stepped n v) number queued ran
   kept_stepped n = search arith
@@ -70,11 +70,12 @@ module _ {v : Known} {number : ℕ} {queued ran : List ℕ} (k : IsKept v number
   }
 
 -- of a CPU that queued a call
-pub kept_posted : (v w v' : Known) (number : ℕ) (queued ran : List ℕ) (p : Posting) (first : Bool) (found : Found) → IsKept v number queued ran → p.to < cpus →
+pub kept_posted : (v w v' : KnownCalls) (number : ℕ) (queued ran : List ℕ) (p : Posting) (first : Bool) (found : Found) → IsKept v number queued ran
+    → p.to < cpus →
     w ≡ standing (uncounted p) post.Count (stepped 3 v) → Appends p first found w v' →
     IsKept v' number (set queued p.to ((get_or queued p.to 0 + 1) % 2 ^ 64)) ran
 kept_posted v w v' number queued ran p first found k l e f =
     let known : v' ≡ queued_known (posted p) p.to first (last_found found) (lost_tries found (stepped 3 v)) = f.known_is
-    ∙ ap (λ (u : Known). queued_known (posted p) p.to first (last_found found) (lost_tries found u)) e in
-    subst (λ (u : Known). IsKept u number (set queued p.to ((get_or queued p.to 0 + 1) % 2 ^ 64)) ran) (sym known)
+    ∙ ap (λ (u : KnownCalls). queued_known (posted p) p.to first (last_found found) (lost_tries found u)) e in
+    subst (λ (u : KnownCalls). IsKept u number (set queued p.to ((get_or queued p.to 0 + 1) % 2 ^ 64)) ran) (sym known)
     (kept_appended (kept_lost (kept_stepped k 3) found) p.to first (last_found found) (posted p) l)

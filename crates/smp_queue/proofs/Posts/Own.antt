@@ -9,7 +9,7 @@ use Rattle.smp_call_steps.specs.Start.{command_refusal}
 use Rattle.smp_call_steps.specs.Heads.{Found}
 use Rattle.smp_call_steps.specs.Known.{posting_of, standing, stepped, confirmed_known}
 use Rattle.smp_words.proofs.Sizes.{owner-of_record, record_of-below}
-use Rattle.smp_queue.specs.{Class, Known, Posting, cells, SeatValue, OwnsRecord, IsMine, uncounted, GivesUp, CpuValue, IsKept, MayQueue, cpu_of}
+use Rattle.smp_queue.specs.{Class, KnownCalls, Posting, cells, SeatValue, OwnsRecord, IsMine, uncounted, GivesUp, CpuValue, IsKept, MayQueue, cpu_of}
 use Rattle.smp_queue.specs.{confirms, looks}
 use Rattle.smp_queue.specs.{loses, posts}
 use Rattle.smp_queue.specs.Appends.{Appends}
@@ -46,7 +46,7 @@ set_twice (z ∷ zs) zero x y = refl
 set_twice (z ∷ zs) (suc i) x y = ap (λ (ws : List _). z ∷ ws) (set_twice zs i x y)
 
 -- what a CPU leaves that has queued the call of this post
-pub posts_then : (s s' : SeatValue) (w : Known) (old new : CpuValue) (k to func info : ℕ) (class : Class) (p : Posting) (first : Bool) (found : Found)
+pub posts_then : (s s' : SeatValue) (w : KnownCalls) (old new : CpuValue) (k to func info : ℕ) (class : Class) (p : Posting) (first : Bool) (found : Found)
     → cpu_of s ≡ new
     → new ≡ looks (confirms k old) →
     p ≡ posting_of (record_of old.number k) class func info to → s'.table ≡ old.table → w ≡ standing (uncounted p) post.Count (stepped 3 s.known)
@@ -54,6 +54,7 @@ pub posts_then : (s s' : SeatValue) (w : Known) (old new : CpuValue) (k to func 
 posts_then s s' w old new k to func info class p first found view confirmed posting table stands queued = search (set_twice, arith)
 
 -- what a CPU leaves that has given up
-pub gives_up_then : (s s' : SeatValue) (w : Known) (old new : CpuValue) (k : ℕ) (p : Posting) (found : Found) → cpu_of s ≡ new → new ≡ looks (confirms k old)
+pub gives_up_then : (s s' : SeatValue) (w : KnownCalls) (old new : CpuValue) (k : ℕ) (p : Posting) (found : Found) → cpu_of s ≡ new
+    → new ≡ looks (confirms k old)
     → s'.table ≡ old.table → w ≡ standing (uncounted p) post.Count (stepped 3 s.known) → GivesUp found w s'.known → cpu_of s' ≡ confirms k (loses found old)
 gives_up_then s s' w old new k p found view confirmed table stands left = search arith

@@ -7,21 +7,21 @@ use Rattle.smp_call_steps.specs.Stands.{PostGoes}
 use Rattle.smp_call_steps.specs.Known.{IsLockable, told_post, known_access, posting_of}
 use Rattle.smp_words.proofs.Links.{IsInTable}
 use Rattle.smp_mask.specs.Mask.{has}
-use Rattle.smp_queue.specs.{Flags, Setting, Reaches, Access, Load, Known, Posting, PostStage, Done, Post, SeatValue, Ready, OwnsRecord, IsMine}
+use Rattle.smp_queue.specs.{Flags, CallSetting, Reaches, Access, Load, KnownCalls, Posting, PostStage, Done, Post, SeatValue, Ready, OwnsRecord, IsMine}
 use Rattle.smp_queue.specs.{counted, HasCell}
 use Rattle.smp_queue.proofs.TheRule.Cells.{has_cell}
 use Rattle.smp_queue.specs.post
 
 -- a seat after a step of its CPU
-pub at_moved : (t : TableId) (d d' : SeatValue) (id : ℕ) (v : Known) → OwnsRecord t d id → d'.table ≡ t → d'.known ≡ v → v.number ≡ d.known.number
+pub at_moved : (t : TableId) (d d' : SeatValue) (id : ℕ) (v : KnownCalls) → OwnsRecord t d id → d'.table ≡ t → d'.known ≡ v → v.number ≡ d.known.number
     → OwnsRecord t d' id
 at_moved t d d' id v a table known same = search arith
 
-pub mine_moved : (t : TableId) (d d' : SeatValue) (p : Posting) (v : Known) → IsMine t d p → d'.table ≡ t → d'.known ≡ v → v.number ≡ d.known.number
+pub mine_moved : (t : TableId) (d d' : SeatValue) (p : Posting) (v : KnownCalls) → IsMine t d p → d'.table ≡ t → d'.known ≡ v → v.number ≡ d.known.number
     → IsMine t d' p
 mine_moved t d d' p v m table known same = record { at = at_moved t d d' p.id v m.at table known same; is_call = m.is_call; to_in_range = m.to_in_range }
 
-pub ready_done : (t : TableId) (k : Setting) (d : SeatValue) (id : ℕ) → OwnsRecord t d id → d.known.stage ≡ None → Ready t k d (Load (Flags id))
+pub ready_done : (t : TableId) (k : CallSetting) (d : SeatValue) (id : ℕ) → OwnsRecord t d id → d.known.stage ≡ None → Ready t k d (Load (Flags id))
 ready_done t k d id a out = record {
   table_is = a.table_is;
   sized = a.sized;
@@ -45,16 +45,16 @@ goes p post.LoadFlags l = λ _. l
 goes p _ l = l
 
 -- a compare-exchange is of the head of a CPU that is online
-abbrev pub ExchangesOnline : Setting → Posting → PostStage → Type 0
+abbrev pub ExchangesOnline : CallSetting → Posting → PostStage → Type 0
 ExchangesOnline k p (post.Exchange link tries) = has k.online p.to ≡ true
 ExchangesOnline k p _ = Unit {0}
 
-post_reaches : (k : Setting) (v : Known) (p : Posting) (st : PostStage) → ExchangesOnline k p st → Reaches k v (known_access v (Post (counted p) st))
+post_reaches : (k : CallSetting) (v : KnownCalls) (p : Posting) (st : PostStage) → ExchangesOnline k p st → Reaches k v (known_access v (Post (counted p) st))
 post_reaches k v p (post.Exchange link tries) on = on
 post_reaches k v p _ on = tt
 
 -- a step of a post, of the call as it will be once all is told of it
-pub ready_post : {k : Setting} (t : TableId) (d : SeatValue) (p : Posting) (st : PostStage) (access : Access) → IsMine t d p
+pub ready_post : {k : CallSetting} (t : TableId) (d : SeatValue) (p : Posting) (st : PostStage) (access : Access) → IsMine t d p
     → told_post (counted p) st ≡ d.known.stage → IsLockable d.known p.id st → known_access d.known (Post (counted p) st) ≡ access
     → ExchangesOnline k p st → Ready t k d access
 ready_post {k} t d p st access m told ready same on = record {

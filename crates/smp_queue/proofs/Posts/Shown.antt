@@ -6,7 +6,7 @@ use Rattle.smp_call_steps.specs.Heads.{Found}
 use Rattle.smp_call_steps.specs.Known.{standing, stepped, Lives}
 use Rattle.smp_call_steps.proofs.Basics.Lists.{sent_to-push, one_if-same}
 use Rattle.smp_call_steps.proofs.Knows.Restages.{free_outside}
-use Rattle.smp_queue.specs.{Class, Known, Posting, GivesUp, CpuValue, MayQueue, cpu_of, posts, ShowsThat, IsFree, call_by, IsMarked, SeatValue, uncounted}
+use Rattle.smp_queue.specs.{Class, KnownCalls, Posting, GivesUp, CpuValue, MayQueue, cpu_of, posts, ShowsThat, IsFree, call_by, IsMarked, SeatValue, uncounted}
 use Rattle.smp_queue.specs.post
 
 module _ (d : SeatValue) (l : Lives d.known) where
@@ -15,7 +15,7 @@ module _ (d : SeatValue) (l : Lives d.known) where
   shows_that P h = search arith
 
   -- a CPU that has given a record up
-  pub free_then : (v w : Known) (new : CpuValue) (p : Posting) (k : ℕ) (found : Found) → GivesUp found w d.known
+  pub free_then : (v w : KnownCalls) (new : CpuValue) (p : Posting) (k : ℕ) (found : Found) → GivesUp found w d.known
       → w ≡ standing (uncounted p) post.Count (stepped 3 v) →
       v.part ≡ new.part → v.number ≡ new.number → MayQueue new p → p.id ≡ record_of new.number k → ShowsThat (cpu_of d) (IsFree (cpu_of d) k)
   free_then v w new p k found left stands part number may is = search (shows_that, free_outside, arith)

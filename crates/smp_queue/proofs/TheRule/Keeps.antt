@@ -22,9 +22,10 @@ use Rattle.smp_call_steps.specs.Known.{Sees, fresh, known_told, known_taking, no
 use Rattle.smp_call_steps.proofs.Knows.OneStep.{known_step}
 use Rattle.smp_call_steps.proofs.Machine.Starts.{zeros_shown}
 use Rattle.smp_words.proofs.Zeros.{zero_at}
-use Rattle.smp_queue.specs.{Call, Word, Head, Intr, Access, Load, Store, Swap, Exchange, Known, Setting, SeatView, Maker, New, cells, cell_of, number_in, Ruled}
+use Rattle.smp_queue.specs.{Call, Word, Head, Intr, Access, Load, Store, Swap, Exchange, KnownCalls, CallSetting, CallSeatView}
+use Rattle.smp_queue.specs.{Maker, New, cells, cell_of, number_in, Ruled}
 use Rattle.smp_queue.specs.{next_from, next_online}
-use Rattle.smp_queue.specs.{SeatKnows, Sits, known, after, seat_made, noted, AfterLoad, AfterStore, AfterExchange, AfterSwap}
+use Rattle.smp_queue.specs.{SeatKnows, SeatInvariant, known, after, seat_made, noted, AfterLoad, AfterStore, AfterExchange, AfterSwap}
 use Rattle.smp_queue.specs.{loaded, stored, call_stored, SitsWith, exchanged, swapped}
 use Rattle.smp_queue.specs.{IsCpuSeat, MayAccess, Reaches, HasBegun, IsQuiet}
 use Rattle.smp_queue.specs.Names.{Cpu}
@@ -38,32 +39,33 @@ at_snoc (x ∷ xs) a b zero e = inl e
 at_snoc (x ∷ xs) a b (suc j) e = ⊎_elim (λ (t : get_elem? xs j ≡ some b). inl t) (λ (t : (j ≡ length xs) × (a ≡ b)). inr (ap suc t.0, t.1)) (at_snoc xs a b j e)
 
 -- what is taken matters at a swap alone
-load_else : (queue : List Call) (v : Known) (w : Word) (n : ℕ) → known_taking queue v act.Load w (Some n) None ≡ known_told v act.Load w (Some n) None
+load_else : (queue : List Call) (v : KnownCalls) (w : Word) (n : ℕ) → known_taking queue v act.Load w (Some n) None ≡ known_told v act.Load w (Some n) None
 load_else queue v (Head to) n = refl
 load_else queue v _ n = refl
 
-store_else : (queue : List Call) (v : Known) (w : Word) (x : ℕ) → known_taking queue v act.Store w None (Some x) ≡ known_told v act.Store w None (Some x)
+store_else : (queue : List Call) (v : KnownCalls) (w : Word) (x : ℕ) → known_taking queue v act.Store w None (Some x) ≡ known_told v act.Store w None (Some x)
 store_else queue v (Head to) x = refl
 store_else queue v _ x = refl
 
-exchange_else : (queue : List Call) (v : Known) (w : Word) (n : ℕ) (o : Option ℕ)
+exchange_else : (queue : List Call) (v : KnownCalls) (w : Word) (n : ℕ) (o : Option ℕ)
     → known_taking queue v act.Cas w (Some n) o ≡ known_told v act.Cas w (Some n) o
 exchange_else queue v (Head to) n None = refl
 exchange_else queue v (Head to) n (Some x) = refl
 exchange_else queue v _ n o = refl
 
-load_step : (a : CallState) (at : Word → ℕ) (control : ℕ → ControlValue) (v : Known) (w : Word) → MayAccess v (Load w) → Shows a at control → Sees a control v
+load_step : (a : CallState) (at : Word → ℕ) (control : ℕ → ControlValue) (v : KnownCalls) (w : Word) → MayAccess v (Load w) → Shows a at control
+    → Sees a control v
     → GoesOn a control v.number at (known_told v act.Load w (Some (at w)) None)
 load_step a at control v w can shown sees =
     subst (GoesOn a control v.number at) (load_else (a.queue v.number) v w (at w)) (known_step shown sees can.stage can.aims (Load w) can.is_access)
 
-store_step : (a : CallState) (at : Word → ℕ) (control : ℕ → ControlValue) (v : Known) (w : Word) (x : ℕ) → MayAccess v (Store w x) → Shows a at control
+store_step : (a : CallState) (at : Word → ℕ) (control : ℕ → ControlValue) (v : KnownCalls) (w : Word) (x : ℕ) → MayAccess v (Store w x) → Shows a at control
     → Sees a control v → GoesOn a control v.number (put_word at w x) (known_told v act.Store w None (Some x))
 store_step a at control v w x can shown sees =
     subst (GoesOn a control v.number (put_word at w x)) (store_else (a.queue v.number) v w x)
     (known_step shown sees can.stage can.aims (Store w x) can.is_access)
 
-exchange_step : (a : CallState) (at : Word → ℕ) (control : ℕ → ControlValue) (v : Known) (w : Word) (old new : ℕ) → MayAccess v (Exchange w old new)
+exchange_step : (a : CallState) (at : Word → ℕ) (control : ℕ → ControlValue) (v : KnownCalls) (w : Word) (old new : ℕ) → MayAccess v (Exchange w old new)
     → Shows a at control → Sees a control v →
     GoesOn a control v.number (put_if put_word at w (cond (at w == old) (Some new) None))
     (known_told v act.Cas w (Some (at w)) (cond (at w == old) (Some new) None))
@@ -72,7 +74,7 @@ exchange_step a at control v w old new can shown sees =
     (exchange_else (a.queue v.number) v w (at w) (cond (at w == old) (Some new) None))
     (known_step shown sees can.stage can.aims (Exchange w old new) can.is_access)
 
-maker_else : {m : ℕ} {k : Setting} {w : Known} → Maker m k ≡ Cpu w → ⊥
+maker_else : {m : ℕ} {k : CallSetting} {w : KnownCalls} → Maker m k ≡ Cpu w → ⊥
 maker_else e = cc
 
 at_below : {A : Type 0} (l : List A) (i : ℕ) (a : A) → get_elem? l i ≡ some a → i < length l
@@ -87,17 +89,17 @@ quiet_put at (Intr to) x cpu h i q = (q.0, test_else cpu to x (at (Intr cpu)) (�
 quiet_put at _ x cpu h i q = q
 
 -- a CPU sits at these words
-abbrev SitsIn : List ℕ → Known → Type 0
-SitsIn words v = (s : Sits v) × ((w : Word) → s.lives.at w ≡ number_in words w)
+abbrev SitsIn : List ℕ → KnownCalls → Type 0
+SitsIn words v = (s : SeatInvariant v) × ((w : Word) → s.lives.at w ≡ number_in words w)
 
 -- what the seat of a CPU knows, whether it has made a step or not
-pub knows_as : (k : Setting) (a : CallState) (control : ℕ → ControlValue) (seat : ℕ → ℕ) (next id : ℕ) (u : SeatView) → IsCpuSeat u
+pub knows_as : (k : CallSetting) (a : CallState) (control : ℕ → ControlValue) (seat : ℕ → ℕ) (next id : ℕ) (u : CallSeatView) → IsCpuSeat u
     → SeatKnows k a control seat next id u → SeatKnows k a control seat next id (Cpu (known u))
 knows_as k a control seat next id (Maker m l) is h = absurd is
 knows_as k a control seat next id (New m l) is h = h
 knows_as k a control seat next id (Cpu v) is h = h
 
-module _ {S : Type 0} (k : Setting) where
+module _ {S : Type 0} (k : CallSetting) where
   pub starts : Ruled {S = S} k (opening (replicate cells 0) [] (Maker 0 k))
   starts = record {
     calls = no_calls;
@@ -113,11 +115,11 @@ module _ {S : Type 0} (k : Setting) where
     quiet = λ cpu _. (zero_at cells (cell_of (Head cpu)), zero_at cells (cell_of (Intr cpu)));
   }
     where
-      each : (id : ℕ) (v : SeatView) → get_elem? (Maker 0 k ∷ []) id ≡ some v → SeatKnows k no_calls (λ _. outside) (λ _. 0) 0 id v
+      each : (id : ℕ) (v : CallSeatView) → get_elem? (Maker 0 k ∷ []) id ≡ some v → SeatKnows k no_calls (λ _. outside) (λ _. 0) 0 id v
       each zero v e = subst (SeatKnows k no_calls (λ _. outside) (λ _. 0) 0 0) (some-injective (Maker 0 k) v e) (refl, refl, refl)
       each (suc id) v e = absurd (some-ne-none v (sym e))
 
-  pub splits : (id m n : ℕ) (v : SeatView) → v ≡ Maker m k → next_online k m ≡ n → m ≤ n → n < k.nr → has k.online n ≡ true
+  pub splits : (id m n : ℕ) (v : CallSeatView) → v ≡ Maker m k → next_online k m ≡ n → m ≤ n → n < k.nr → has k.online n ≡ true
       → Splits {S = S} (Ruled k) id v (after v) (seat_made v)
   splits id m n v is next above low online s r at =
       subst (λ v. Ruled {S = S} k record { words = s.words; homes = s.homes; views = set s.views id (after v) ++ seat_made v ∷ [] }) (sym is)
@@ -130,7 +132,7 @@ module _ {S : Type 0} (k : Setting) where
       last : ℕ
       last = length (set s.views id (Maker (n + 1) k))
 
-      old : (j : ℕ) (u : SeatView) → j ≢ id → get_elem? s.views j ≡ some u → SeatKnows k r.calls r.controls r.seat r.next j u
+      old : (j : ℕ) (u : CallSeatView) → j ≢ id → get_elem? s.views j ≡ some u → SeatKnows k r.calls r.controls r.seat r.next j u
           → SeatKnows k r.calls r.controls (put r.seat n (length (set s.views id (Maker (n + 1) k)))) (n + 1) j u
       old j (Maker i l) other e h = absurd (other (h.1 ∙ sym mine.1))
       old j (New w l) other e h = let a = h.0 in let b = mine.0 in
@@ -139,7 +141,7 @@ module _ {S : Type 0} (k : Setting) where
           (omega arith, put_other r.seat n (length (set s.views id (Maker (n + 1) k))) w.number (λ same. let c = same in omega arith) ∙ h.1, h.2, h.3, h.4)
 
       -- a seat of a CPU that has made a step is still there
-      begun : (j : ℕ) (u : SeatView) → get_elem? s.views j ≡ some u → HasBegun u
+      begun : (j : ℕ) (u : CallSeatView) → get_elem? s.views j ≡ some u → HasBegun u
           → get_elem? (set s.views id (Maker (n + 1) k) ++ New n k ∷ []) j ≡ some u
       begun j (Maker i l) e h = absurd h
       begun j (New i l) e h = absurd h
@@ -177,31 +179,31 @@ module _ {S : Type 0} (k : Setting) where
       }
 
   -- a CPU that has a seat sits among the CPUs of the table
-  sits : (s : State S SeatView) (r : Ruled k s) (id : ℕ) (v : Known) → SeatKnows k r.calls r.controls r.seat r.next id (Cpu v) → SitsIn s.words v
+  sits : (s : State S CallSeatView) (r : Ruled k s) (id : ℕ) (v : KnownCalls) → SeatKnows k r.calls r.controls r.seat r.next id (Cpu v) → SitsIn s.words v
   sits s r id v m =
       let few = r.few in
       let low = m.0 in
-      let nr : v.setting.nr ≡ k.nr = ap (λ (j : Setting). j.nr) m.2 in (
+      let nr : v.setting.nr ≡ k.nr = ap (λ (j : CallSetting). j.nr) m.2 in (
         record {
           lives = record { calls = r.calls; at = number_in s.words; controls = r.controls; shown = r.shown; sees = m.3 };
           below = omega arith;
-          online = subst (λ (j : Setting). has j.online v.number ≡ true) (sym m.2) m.4;
-          absent = λ cpu l. subst (λ (j : Setting). Sees r.calls r.controls (fresh j cpu)) (sym m.2) (r.absent cpu (λ _. omega arith));
-          offline = λ cpu off. subst (λ (j : Setting). Sees r.calls r.controls (fresh j cpu)) (sym m.2)
-              (r.absent cpu (λ on. absurd (true≢false (sym on ∙ (ap (λ (j : Setting). has j.online cpu) (sym m.2) ∙ off)))));
-          quiet = λ cpu off. r.quiet cpu (ap (λ (j : Setting). has j.online cpu) (sym m.2) ∙ off);
+          online = subst (λ (j : CallSetting). has j.online v.number ≡ true) (sym m.2) m.4;
+          absent = λ cpu l. subst (λ (j : CallSetting). Sees r.calls r.controls (fresh j cpu)) (sym m.2) (r.absent cpu (λ _. omega arith));
+          offline = λ cpu off. subst (λ (j : CallSetting). Sees r.calls r.controls (fresh j cpu)) (sym m.2)
+              (r.absent cpu (λ on. absurd (true≢false (sym on ∙ (ap (λ (j : CallSetting). has j.online cpu) (sym m.2) ∙ off)))));
+          quiet = λ cpu off. r.quiet cpu (ap (λ (j : CallSetting). has j.online cpu) (sym m.2) ∙ off);
         },
         λ w. refl,
       )
 
   -- a seat's CPU makes a step of the machine: it has its seat still, and the rule is kept
-  lifts : (s : State S SeatView) (r : Ruled k s) (id i n : ℕ) (u : SeatView) (w : Known) (carried : List (ℕ × S)) → get_elem? s.views id ≡ some u
+  lifts : (s : State S CallSeatView) (r : Ruled k s) (id i n : ℕ) (u : CallSeatView) (w : KnownCalls) (carried : List (ℕ × S)) → get_elem? s.views id ≡ some u
       → IsCpuSeat u → w.setting ≡ (known u).setting → GoesOn r.calls r.controls (known u).number (number_in (set s.words i n)) w
       → ((cpu : ℕ) → has k.online cpu ≡ false → IsQuiet (number_in (set s.words i n)) cpu)
       → Ruled k (stepped s i n id carried (Cpu w) keeps) × SitsIn (set s.words i n) w
   lifts s r id i n x w carried at is same g quiet = (ruled, sits (stepped s i n id carried (Cpu w) keeps) ruled id w its)
     where
-      v : Known
+      v : KnownCalls
       v = known x
 
       mine : SeatKnows k r.calls r.controls r.seat r.next id (Cpu (known x))
@@ -210,7 +212,7 @@ module _ {S : Type 0} (k : Setting) where
       its : SeatKnows k g.calls g.controls r.seat r.next id (Cpu w)
       its = (subst (λ m. m < r.next) (sym g.number_is) mine.0, ap r.seat g.number_is ∙ mine.1, same ∙ mine.2, g.mine, ap (has k.online) g.number_is ∙ mine.4)
 
-      other : (j : ℕ) (u : SeatView) → j ≢ id → SeatKnows k r.calls r.controls r.seat r.next j u → SeatKnows k g.calls g.controls r.seat r.next j u
+      other : (j : ℕ) (u : CallSeatView) → j ≢ id → SeatKnows k r.calls r.controls r.seat r.next j u → SeatKnows k g.calls g.controls r.seat r.next j u
       other j (Maker m l) n h = h
       other j (New m l) n h = (h.0, h.1, h.2, g.others (fresh l m) (λ e. n (sym h.1 ∙ (ap r.seat e ∙ mine.1))) h.3, h.4)
       other j (Cpu u) n h = (h.0, h.1, h.2, g.others u (λ e. n (sym h.1 ∙ (ap r.seat e ∙ mine.1))) h.3, h.4)
@@ -234,13 +236,13 @@ module _ {S : Type 0} (k : Setting) where
         quiet = quiet;
       }
 
-  module _ (slots id : ℕ) (me : Me S SeatView) (is : IsCpuSeat me.0) where
-    abbrev v : Known
+  module _ (slots id : ℕ) (me : Me S CallSeatView) (is : IsCpuSeat me.0) where
+    abbrev v : KnownCalls
     v = known me.0
 
-    steps_with : (i : ℕ) (f : ℕ → ℕ) (then : ℕ → Me S SeatView → Type 0) →
+    steps_with : (i : ℕ) (f : ℕ → ℕ) (then : ℕ → Me S CallSeatView → Type 0) →
         ((a : CallState) (control : ℕ → ControlValue) (words : List ℕ) → Shows a (number_in words) control → length words ≡ cells → Sees a control (known me.0)
-        → (w : Known) × (w.setting ≡ (known me.0).setting) × GoesOn a control (known me.0).number (number_in (set words i (f (get_or words i 0)))) w
+        → (w : KnownCalls) × (w.setting ≡ (known me.0).setting) × GoesOn a control (known me.0).number (number_in (set words i (f (get_or words i 0)))) w
         × then (get_or words i 0) (Cpu w, me.1)) →
         ((words : List ℕ) → length words ≡ cells → (cpu : ℕ) → has k.online cpu ≡ false → has k.online (known me.0).number ≡ true
         → IsQuiet (number_in words) cpu → IsQuiet (number_in (set words i (f (get_or words i 0)))) cpu) →
@@ -263,13 +265,13 @@ module _ {S : Type 0} (k : Setting) where
           ),
         )
 
-    steps : (i : ℕ) (f : ℕ → ℕ) (then : ℕ → Me S SeatView → Type 0) →
+    steps : (i : ℕ) (f : ℕ → ℕ) (then : ℕ → Me S CallSeatView → Type 0) →
         ((a : CallState) (control : ℕ → ControlValue) (words : List ℕ) → Shows a (number_in words) control → length words ≡ cells → Sees a control (known me.0)
-        → (w : Known) × (w.setting ≡ (known me.0).setting) × GoesOn a control (known me.0).number (number_in (set words i (f (get_or words i 0)))) w
+        → (w : KnownCalls) × (w.setting ≡ (known me.0).setting) × GoesOn a control (known me.0).number (number_in (set words i (f (get_or words i 0)))) w
         × then (get_or words i 0) (Cpu w, me.1)) →
         ((words : List ℕ) → length words ≡ cells → (cpu : ℕ) → has k.online cpu ≡ false → has k.online (known me.0).number ≡ true
         → IsQuiet (number_in words) cpu → IsQuiet (number_in (set words i (f (get_or words i 0)))) cpu) →
-        Allows (Ruled k) slots id me i f (λ n m. Sits (known m.0) × then n m)
+        Allows (Ruled k) slots id me i f (λ n m. SeatInvariant (known m.0) × then n m)
     steps i f then go quiet s r sized at fits =
         let a = steps_with i f then go quiet s r sized at fits in
         (a.0, a.1, a.2, a.3, (a.4.1.0, a.4.0))
@@ -400,11 +402,11 @@ module _ {S : Type 0} (k : Setting) where
         )) (λ words wide cpu off on q. subst (λ (at : Word → ℕ). IsQuiet at cpu) (sym (stored_here words w i x wide e))
         (swaps_apart w x cpu reach off on (number_in words) q))
 
-pub is_of : (m : SeatView) (w : Known) → m ≡ Cpu w → IsCpuSeat m
-is_of m w e = subst (λ (x : SeatView). IsCpuSeat x) (sym e) tt
+pub is_of : (m : CallSeatView) (w : KnownCalls) → m ≡ Cpu w → IsCpuSeat m
+is_of m w e = subst (λ (x : CallSeatView). IsCpuSeat x) (sym e) tt
 
 -- and it sits as before
-pub note_sits : (m : SeatView) → Sits (known m) → Sits (known (noted m))
+pub note_sits : (m : CallSeatView) → SeatInvariant (known m) → SeatInvariant (known (noted m))
 note_sits m s =
     let lives = s.lives in
     record {
@@ -422,14 +424,14 @@ note_sits m s =
       quiet = s.quiet;
     }
 
-pub can_same : (v u : Known) (access : Access) → v ≡ u → MayAccess u access → MayAccess v access
-can_same v u access e can = subst (λ (x : Known). MayAccess x access) (sym e) can
+pub can_same : (v u : KnownCalls) (access : Access) → v ≡ u → MayAccess u access → MayAccess v access
+can_same v u access e can = subst (λ (x : KnownCalls). MayAccess x access) (sym e) can
 
-pub reach_same : (k : Setting) (v u : Known) (access : Access) → v ≡ u → Reaches k u access → Reaches k v access
-reach_same k v u access e reach = subst (λ (x : Known). Reaches k x access) (sym e) reach
+pub reach_same : (k : CallSetting) (v u : KnownCalls) (access : Access) → v ≡ u → Reaches k u access → Reaches k v access
+reach_same k v u access e reach = subst (λ (x : KnownCalls). Reaches k x access) (sym e) reach
 
 -- a CPU that has done nothing has its part of no calls
-fresh_sits : (k : Setting) (n : ℕ) → n < k.nr → has k.online n ≡ true → Sits (fresh k n)
+fresh_sits : (k : CallSetting) (n : ℕ) → n < k.nr → has k.online n ≡ true → SeatInvariant (fresh k n)
 fresh_sits k n low online =
     record {
       lives = record {
@@ -446,10 +448,10 @@ fresh_sits k n low online =
       quiet = λ _ _. (refl, refl);
     }
 
-pub fresh_seat_is : (m : SeatView) (k : Setting) (n : ℕ) → n < k.nr → has k.online n ≡ true → m ≡ New n k → IsCpuSeat m × Sits (known m)
+pub fresh_seat_is : (m : CallSeatView) (k : CallSetting) (n : ℕ) → n < k.nr → has k.online n ≡ true → m ≡ New n k → IsCpuSeat m × SeatInvariant (known m)
 fresh_seat_is m k n low online e = (
-  subst (λ (x : SeatView). IsCpuSeat x) (sym e) tt,
-  subst (λ (x : SeatView). Sits (known x)) (sym e)
+  subst (λ (x : CallSeatView). IsCpuSeat x) (sym e) tt,
+  subst (λ (x : CallSeatView). SeatInvariant (known x)) (sym e)
       (fresh_sits k n low online),
 )
 

@@ -9,7 +9,7 @@ use Rattle.std.proofs.Math.ListN.{get_or-map}
 use Rattle.atomic_table.specs.Seated.{TableId}
 use Rattle.smp_mask.specs.Mask.{has}
 use Rattle.smp_words.specs.Limits.{AreLimits}
-use Rattle.smp_queue.specs.{cells, TableValue, CpuValue, fresh_cpu, table_with, AreWaiting, Setting, SeatView, HasComeTo, next_online}
+use Rattle.smp_queue.specs.{cells, TableValue, CpuValue, fresh_cpu, table_with, AreWaiting, CallSetting, CallSeatView, HasComeTo, next_online}
 use Rattle.smp_words.specs.Size.{cpus, records, records_of_one, record_of}
 use Rattle.smp_words.proofs.Sizes.{record_of-below}
 use Rattle.smp_call_steps.specs.Parts.{row}
@@ -18,11 +18,11 @@ use Rattle.smp_queue.specs.Cpu.{confirmed_at}
 use Rattle.smp_queue.proofs.TheRule.Keeps.{next_is}
 
 -- where the first seat has come to a CPU that is online, the next seat is its
-pub come_next : {maker : SeatView} (k : Setting) {n : ℕ} → (come : HasComeTo maker k n) → n < cpus → has k.online n ≡ true → next_online k come.0 ≡ n
+pub come_next : {maker : CallSeatView} (k : CallSetting) {n : ℕ} → (come : HasComeTo maker k n) → n < cpus → has k.online n ≡ true → next_online k come.0 ≡ n
 come_next k {n} come small online = next_is cpus k.online come.0 n come.2 (omega arith) online come.3
 
 -- it comes past a CPU that is not online
-pub come_past : {maker : SeatView} (k : Setting) {n : ℕ} → HasComeTo maker k n → has k.online n ≡ false → HasComeTo maker k (n + 1)
+pub come_past : {maker : CallSeatView} (k : CallSetting) {n : ℕ} → HasComeTo maker k n → has k.online n ≡ false → HasComeTo maker k (n + 1)
 come_past k {n} come off = (
   come.0,
   come.1,
@@ -34,14 +34,14 @@ come_past k {n} come off = (
 )
 
 -- the CPUs below n that are online have a seat, and are kept
-pub record AreSeated (table maker_table : TableId) (maker : SeatView) (k : Setting) (n : ℕ) (waiting : List (Option CpuValue)) : Type 0 where
+pub record AreSeated (table maker_table : TableId) (maker : CallSeatView) (k : CallSetting) (n : ℕ) (waiting : List (Option CpuValue)) : Type 0 where
   pub sized : table.words ≡ cells
   pub maker_is : maker_table ≡ table
   pub next : HasComeTo maker k n
   pub count : length waiting ≡ n
   pub each : (cpu : ℕ) → cpu < n → get_or waiting cpu None ≡ cond (has k.online cpu) (Some (fresh_cpu (table_with table k) cpu)) None
 
-pub seats_more : (table maker_table maker_table' : TableId) (maker maker' : SeatView) (k : Setting) (n : ℕ) (waiting waiting' : List (Option CpuValue))
+pub seats_more : (table maker_table maker_table' : TableId) (maker maker' : CallSeatView) (k : CallSetting) (n : ℕ) (waiting waiting' : List (Option CpuValue))
     (x : Option CpuValue) → AreSeated table maker_table maker k n waiting →
     maker_table' ≡ table → HasComeTo maker' k (n + 1) → waiting' ≡ waiting ++ x ∷ [] → x ≡ cond (has k.online n) (Some (fresh_cpu (table_with table k) n)) None
     → AreSeated table maker_table' maker' k (n + 1) waiting'
@@ -50,7 +50,8 @@ seats_more table maker_table maker_table' maker maker' k n waiting waiting' x s 
     search (count, length-append, cases_eq, get_or_push, get_or_append_left, arith)
 
 -- once all are seated, all that are online wait fresh
-pub seats_wait : (table maker_table : TableId) (maker : SeatView) (k : Setting) (n : ℕ) (waiting : List (Option CpuValue)) → AreLimits k.nr k.online → k.nr ≤ n
+pub seats_wait : (table maker_table : TableId) (maker : CallSeatView) (k : CallSetting) (n : ℕ) (waiting : List (Option CpuValue))
+    → AreLimits k.nr k.online → k.nr ≤ n
     → AreSeated table maker_table maker k n waiting → AreWaiting (table_with table k) k.online waiting
 seats_wait table maker_table maker k n waiting limits all s = search arith
 
@@ -60,7 +61,8 @@ pub left_is : (waiting : List (Option CpuValue)) (cpu : ℕ) (o : Option CpuValu
 left_is waiting cpu o e = get_or-map is_some waiting cpu None ∙ ap is_some e
 
 -- and are left
-pub seats_left : (table maker_table : TableId) (maker : SeatView) (k : Setting) (n : ℕ) (waiting : List (Option CpuValue)) → AreLimits k.nr k.online → k.nr ≤ n
+pub seats_left : (table maker_table : TableId) (maker : CallSeatView) (k : CallSetting) (n : ℕ) (waiting : List (Option CpuValue))
+    → AreLimits k.nr k.online → k.nr ≤ n
     → AreSeated table maker_table maker k n waiting → (cpu : ℕ) → has k.online cpu ≡ true → get_or (map is_some waiting) cpu false ≡ true
 seats_left table maker_table maker k n waiting limits all s cpu e = search (left_is, arith)
 

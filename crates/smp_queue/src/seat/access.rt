@@ -6,14 +6,14 @@
 
 ghost use Rattle.std.specs.Prelude.{◌≡◌, ◌+◌, ◌<◌, ◌==◌, true, if◌then◌else◌, IfOk, Some, None};
 ghost use Rattle.std.specs.Mem.Slots.{slots_items, slots_len, IsFull};
-ghost use Rattle.smp_call_steps.specs.Known.{known_told, known_taking, noted_known, fresh, Moment, Lives};
+ghost use Rattle.smp_call_steps.specs.Known.{known_told, known_taking, noted_known, fresh, CallMoment, Lives};
 ghost use Rattle.smp_words.specs.declared.access.Access.TheVariants as access;
 ghost use Rattle.smp_words.specs.declared.seen.Act.TheVariants as act;
-ghost use Rattle.smp_queue.specs.declared.seat_view.SeatView.TheVariants.{Maker};
+ghost use Rattle.smp_queue.specs.declared.seat_view.CallSeatView.TheVariants.{Maker};
 ghost use Rattle.smp_queue.specs.Audit.{Closes};
 ghost use Rattle.smp_queue.specs.Cells.{cells};
 ghost use Rattle.smp_queue.specs.Seat.{SeatValue, Loads, Ready, IsStepOfCall};
-ghost use Rattle.smp_queue.specs.Rule.{Sits, HasComeTo};
+ghost use Rattle.smp_queue.specs.Rule.{SeatInvariant, HasComeTo};
 ghost use Rattle.smp_queue.specs.Together.{KnowTogether};
 ghost use Rattle.smp_words.specs.Size.{cpus};
 ghost use Rattle.smp_mask.specs.Mask.{has};
@@ -22,10 +22,10 @@ pub(crate) mod crowd;
 
 use super::plays::{CallStored, Exchanged, Loaded, Stored, Swapped};
 use crate::cell::{CELLS, cell};
-use crate::rule::{CallRule, NextSeat, RawSeat};
-use crate::seat_view::SeatView;
+use crate::rule::{CallRule, NextCallSeat, RawCallSeat};
+use crate::seat_view::CallSeatView;
 use atomic_table::{Closed, Shared, Table};
-use smp_call_steps::known::Setting;
+use smp_call_steps::known::CallSetting;
 use smp_start::{both_now, retell};
 use smp_words::Word;
 use std::alloc::{AllocError, Allocator};
@@ -33,24 +33,24 @@ use std::marker::Model;
 
 /// The words, as all threads share them.
 #[derive(Clone, Copy)]
-pub struct Words<'a> {
-    shared: &'a Shared<(), SeatView, Setting, CallRule>,
+pub struct SharedCallWords<'a> {
+    shared: &'a Shared<(), CallSeatView, CallSetting, CallRule>,
 }
 
 /// The words with their memory.
 #[derive(Drop)]
-pub struct Owner<A: Allocator> {
-    table: Table<(), SeatView, Setting, CallRule, A>,
+pub struct OwnedCallWords<A: Allocator> {
+    table: Table<(), CallSeatView, CallSetting, CallRule, A>,
 }
 
-impl<A: Allocator> Owner<A> {
+impl<A: Allocator> OwnedCallWords<A> {
     /// The words, to be accessed by seats.
     #[inline(always)]
-    pub(crate) fn words(&self) -> Words<'_>
+    pub(crate) fn words(&self) -> SharedCallWords<'_>
         ensures table { result.shared.now.table_id ≡ self.now.table.shared.table_id }
         ensures key { result.shared.now.key ≡ self.now.table.shared.key }
     {
-        Words {
+        SharedCallWords {
             shared: &self.table.shared,
         }
     }
@@ -58,26 +58,26 @@ impl<A: Allocator> Owner<A> {
 
 /// The seat of one CPU, seen as its table and what the CPU knows: at any time its part of calls that some words show.
 #[derive(Drop)]
-pub struct CpuSeat {
-    raw: RawSeat,
+pub struct CallSeat {
+    raw: RawCallSeat,
 }
 
-impl Model for CpuSeat {
+impl Model for CallSeat {
     ghost use Rattle.smp_queue.specs.Seat.{SeatValue, IsCpuSeat};
-    ghost use Rattle.smp_queue.specs.Rule.{Sits, known};
+    ghost use Rattle.smp_queue.specs.Rule.{SeatInvariant, known};
 
     ghost Value = { SeatValue };
 
     ghost view = { λ c. record { table = c.raw.table_id; known = known c.raw.me.0 } };
 
-    ghost invariant = { λ c. IsCpuSeat c.raw.me.0 × Sits (known c.raw.me.0) };
+    ghost invariant = { λ c. IsCpuSeat c.raw.me.0 × SeatInvariant (known c.raw.me.0) };
 }
 
-impl CpuSeat {
+impl CallSeat {
     /// What the CPU knows is its part of calls that some words show, in which CPUs that the table does not have, or that
     /// are not online, have done nothing. Nothing is queued or pending for those that are not online.
     pub(crate) fn is_shown(&self)
-        ensures { Sits self.now.known }
+        ensures { SeatInvariant self.now.known }
     {
         let _ = &self.raw;
     }
@@ -85,15 +85,15 @@ impl CpuSeat {
 
 /// The first seat of a table, which makes one for each CPU.
 #[derive(Drop)]
-pub struct SeatMaker {
-    raw: RawSeat,
+pub struct CallSeatMaker {
+    raw: RawCallSeat,
 }
 
 /// The words of a table, all 0, and the first seat.
 pub(crate) fn lay<A: Allocator>(
     alloc: A,
-    setting: &Setting,
-) -> Result<(Owner<A>, SeatMaker), AllocError>
+    setting: &CallSetting,
+) -> Result<(OwnedCallWords<A>, CallSeatMaker), AllocError>
 where
     A: Copy,
     ensures { IfOk result (λ t. (t.0.table.shared.table_id.words ≡ cells) × (t.0.table.shared.table_id.slots ≡ 0) × (t.0.table.shared.key ≡ setting.now)
@@ -101,23 +101,23 @@ where
 {
     let words = Vec::from_elem(alloc, 0u64, CELLS)?;
     let (table, raw) = Table::of_words(alloc, words.as_slice(), setting)?;
-    Ok((Owner { table }, SeatMaker { raw }))
+    Ok((OwnedCallWords { table }, CallSeatMaker { raw }))
 }
 
 /// A seat for the next CPU that is online. Only such a CPU ever gets one.
-pub(crate) fn next_seat(words: Words, maker: &mut SeatMaker, n: u32) -> CpuSeat
+pub(crate) fn next_seat(words: SharedCallWords, maker: &mut CallSeatMaker, n: u32) -> CallSeat
     requires table { (maker.old.raw.table_id ≡ words.shared.now.table_id) × (words.shared.now.table_id.words ≡ cells) }
     requires come { HasComeTo maker.old.raw.me.0 words.shared.now.key n }
     requires number { (n < words.shared.now.key.nr) × (n < cpus) × (has words.shared.now.key.online n ≡ true) }
     ensures maker { (maker.new.raw.table_id ≡ words.entry.shared.now.table_id) × (maker.new.raw.me.0 ≡ Maker (n + 1) words.entry.shared.now.key) }
     ensures seat { (result.table ≡ words.entry.shared.now.table_id) × (result.known ≡ fresh words.entry.shared.now.key n) }
 {
-    let raw = words.shared.split_seat::<NextSeat>(&mut maker.raw);
-    CpuSeat { raw }
+    let raw = words.shared.split_seat::<NextCallSeat>(&mut maker.raw);
+    CallSeat { raw }
 }
 
 /// Gives up the table and the seat of a CPU: the words as the last step left them.
-pub(crate) fn close<A: Allocator>(owner: Owner<A>, seat: CpuSeat) -> Closed<(), A>
+pub(crate) fn close<A: Allocator>(owner: OwnedCallWords<A>, seat: CallSeat) -> Closed<(), A>
     requires table { seat.table ≡ owner.table.shared.table_id }
     requires sized { (owner.table.shared.table_id.words ≡ cells) × (owner.table.shared.table_id.slots ≡ 0) }
     ensures full { IsFull result.words × (slots_len result.words ≡ cells) × (slots_len result.slots ≡ 0) }
@@ -127,7 +127,7 @@ pub(crate) fn close<A: Allocator>(owner: Owner<A>, seat: CpuSeat) -> Closed<(), 
 }
 
 /// What two CPUs of the table know now is their parts of the same calls. It makes no step.
-pub(crate) fn together(words: Words, one: &mut CpuSeat, other: &mut CpuSeat)
+pub(crate) fn together(words: SharedCallWords, one: &mut CallSeat, other: &mut CallSeat)
     requires { (one.old.table ≡ words.shared.now.table_id) × (other.old.table ≡ words.shared.now.table_id) }
     ensures kept { (one.new ≡ one.old) × (other.new ≡ other.old) }
     ensures same { KnowTogether one.old.known other.old.known }
@@ -137,7 +137,7 @@ pub(crate) fn together(words: Words, one: &mut CpuSeat, other: &mut CpuSeat)
 
 /// Loads a word.
 #[inline(always)]
-pub(crate) fn load(words: Words, seat: &mut CpuSeat, word: Word) -> u64
+pub(crate) fn load(words: SharedCallWords, seat: &mut CallSeat, word: Word) -> u64
     requires { Ready words.shared.now.table_id words.shared.now.key seat.old (access.Load word) }
     ensures { Loads words.entry.shared.now.table_id seat.old seat.new word result }
 {
@@ -145,7 +145,7 @@ pub(crate) fn load(words: Words, seat: &mut CpuSeat, word: Word) -> u64
 }
 
 /// Notes a direct call in what the CPU knows. It makes no step.
-pub(crate) fn note_call(words: Words, seat: &mut CpuSeat)
+pub(crate) fn note_call(words: SharedCallWords, seat: &mut CallSeat)
     requires { seat.old.table ≡ words.shared.now.table_id }
     ensures table { seat.new.table ≡ words.entry.shared.now.table_id }
     ensures known { seat.new.known ≡ noted_known seat.old.known }
@@ -155,7 +155,7 @@ pub(crate) fn note_call(words: Words, seat: &mut CpuSeat)
 
 /// Stores a number in a word.
 #[inline(always)]
-pub(crate) fn store(words: Words, seat: &mut CpuSeat, word: Word, number: u64)
+pub(crate) fn store(words: SharedCallWords, seat: &mut CallSeat, word: Word, number: u64)
     requires { Ready words.shared.now.table_id words.shared.now.key seat.old (access.Store word number) }
     ensures table { seat.new.table ≡ words.entry.shared.now.table_id }
     ensures lives { Lives seat.new.known }
@@ -168,12 +168,12 @@ pub(crate) fn store(words: Words, seat: &mut CpuSeat, word: Word, number: u64)
 
 /// Stores a number in a word, by a step inside `handle` that may begin, count or end a call.
 #[inline(always)]
-pub(super) fn store_in_call(words: Words, seat: &mut CpuSeat, word: Word, number: u64)
+pub(super) fn store_in_call(words: SharedCallWords, seat: &mut CallSeat, word: Word, number: u64)
     requires { IsStepOfCall words.shared.now.table_id seat.old word number }
     ensures table { seat.new.table ≡ words.entry.shared.now.table_id }
     ensures lives { Lives seat.new.known }
     ensures known { seat.new.known ≡ known_told seat.old.known act.Store word None (Some number) }
-    ensures put { (s : Sits seat.new.known) × (s.lives.at word ≡ number) }
+    ensures put { (s : SeatInvariant seat.new.known) × (s.lives.at word ≡ number) }
 {
     words
         .shared
@@ -183,8 +183,8 @@ pub(super) fn store_in_call(words: Words, seat: &mut CpuSeat, word: Word, number
 /// Puts a number in a word where another is found, and answers what was found.
 #[inline(always)]
 pub(crate) fn exchange(
-    words: Words,
-    seat: &mut CpuSeat,
+    words: SharedCallWords,
+    seat: &mut CallSeat,
     word: Word,
     expected: u64,
     number: u64,
@@ -201,11 +201,11 @@ pub(crate) fn exchange(
 
 /// Puts a number in a word, and answers what was found. A swap of the own head takes the queue of that moment.
 #[inline(always)]
-pub(crate) fn swap(words: Words, seat: &mut CpuSeat, word: Word, number: u64) -> u64
+pub(crate) fn swap(words: SharedCallWords, seat: &mut CallSeat, word: Word, number: u64) -> u64
     requires { Ready words.shared.now.table_id words.shared.now.key seat.old (access.Swap word number) }
     ensures table { seat.new.table ≡ words.entry.shared.now.table_id }
     ensures lives { Lives seat.new.known }
-    ensures known { (t : Moment seat.old.known word result) × (seat.new.known ≡ known_taking
+    ensures known { (t : CallMoment seat.old.known word result) × (seat.new.known ≡ known_taking
         (t.lives.calls.queue seat.old.known.number) seat.old.known act.Swap word (Some result) (Some number)) }
 {
     words

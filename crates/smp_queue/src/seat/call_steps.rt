@@ -15,12 +15,12 @@ ghost use Rattle.smp_call_steps.specs.Handling.{begun_sync, counted_sync, begun_
 ghost use Rattle.smp_words.specs.declared.word.Word.TheVariants.{Hand, Ran, Flags};
 ghost use Rattle.smp_call_steps.specs.declared.handle.HandleStage.TheVariants as handle;
 ghost use Rattle.smp_queue.specs.Seat.{InHandle};
-ghost use Rattle.smp_queue.specs.Rule.{Sits};
+ghost use Rattle.smp_queue.specs.Rule.{SeatInvariant};
 ghost use Rattle.smp_queue.specs.Handling.{heard_of, AreRan};
 ghost use Rattle.smp_queue.specs.Serving.{Gives, begins_at, out_at, goes_from};
 ghost use Rattle.smp_queue.specs.declared.run.Pass.TheVariants.{First, Second};
 
-use super::access::{CpuSeat, Words, store_in_call};
+use super::access::{CallSeat, SharedCallWords, store_in_call};
 use crate::handler::Handler;
 use crate::noted::Noted;
 use crate::run::{Pass, Place};
@@ -62,8 +62,8 @@ pub struct Returned<'a, P, H> {
 /// A SYNC call begins: the handling word names its record, which stays locked.
 #[inline(always)]
 fn begin_sync<H: Handler>(
-    words: Words,
-    seat: &mut CpuSeat,
+    words: SharedCallWords,
+    seat: &mut CallSeat,
     number: u32,
     place: SyncPlace,
     handler: &H,
@@ -73,7 +73,7 @@ fn begin_sync<H: Handler>(
     requires class { place.call.class ≡ Class.Sync }
     ensures at { InHandle words.entry.shared.now.table_id seat.new (handle.CountSync place.walk place.call place.next) }
     ensures known { seat.new.known ≡ begun_sync place.walk place.call place.next seat.old.known }
-    ensures named { (s : Sits seat.new.known) × (s.lives.at (Hand number) ≡ place.call.id + 2) }
+    ensures named { (s : SeatInvariant seat.new.known) × (s.lives.at (Hand number) ≡ place.call.id + 2) }
     ensures of { result.call.value ≡ place.call }
     ensures before { result.before.value ≡ handler.now }
 {
@@ -87,8 +87,8 @@ fn begin_sync<H: Handler>(
 /// A SYNC call whose function has run is counted, as the call of this count from its source, in that source's tally word.
 #[inline(always)]
 pub fn count_sync<H: Handler>(
-    words: Words,
-    seat: &mut CpuSeat,
+    words: SharedCallWords,
+    seat: &mut CallSeat,
     tally: Word,
     count: u64,
     ran: &Returned<'_, SyncPlace, H>,
@@ -108,7 +108,11 @@ pub fn count_sync<H: Handler>(
 /// A SYNC call whose function has run ends: its record is unlocked, last of all. Its caller waits for that, and may free what the
 /// function uses as soon as it sees it (`csd_unlock` behind `csd_do_func`).
 #[inline(always)]
-pub fn end_sync<H: Handler>(words: Words, seat: &mut CpuSeat, ran: Returned<'_, SyncPlace, H>)
+pub fn end_sync<H: Handler>(
+    words: SharedCallWords,
+    seat: &mut CallSeat,
+    ran: Returned<'_, SyncPlace, H>,
+)
     requires at { InHandle words.shared.now.table_id seat.old (handle.EndSync ran.place.walk ran.place.call ran.place.next) }
     requires of { ran.begun.call.value ≡ ran.place.call }
     requires heard { H.leads ran.begun.before.value (heard_of ran.place.call) ran.handler.now }
@@ -122,8 +126,8 @@ pub fn end_sync<H: Handler>(words: Words, seat: &mut CpuSeat, ran: Returned<'_, 
 /// the record's source may write it and queue it again (`csd_unlock` before `csd_do_func`).
 #[inline(always)]
 fn begin_async<H: Handler>(
-    words: Words,
-    seat: &mut CpuSeat,
+    words: SharedCallWords,
+    seat: &mut CallSeat,
     place: AsyncPlace,
     handler: &H,
 ) -> Begun<H>
@@ -131,7 +135,7 @@ fn begin_async<H: Handler>(
     requires class { place.call.class ≡ Class.Async }
     ensures at { InHandle words.entry.shared.now.table_id seat.new (handle.CountAsync place.call place.next) }
     ensures known { seat.new.known ≡ begun_async place.call place.next seat.old.known }
-    ensures unlocked { (s : Sits seat.new.known) × (s.lives.at (Flags place.call.id) ≡ 0) }
+    ensures unlocked { (s : SeatInvariant seat.new.known) × (s.lives.at (Flags place.call.id) ≡ 0) }
     ensures of { result.call.value ≡ place.call }
     ensures before { result.before.value ≡ handler.now }
 {
@@ -146,8 +150,8 @@ fn begin_async<H: Handler>(
 /// word, and ends.
 #[inline(always)]
 pub fn count_async<H: Handler>(
-    words: Words,
-    seat: &mut CpuSeat,
+    words: SharedCallWords,
+    seat: &mut CallSeat,
     tally: Word,
     count: u64,
     ran: Returned<'_, AsyncPlace, H>,
@@ -179,8 +183,8 @@ fn one_more(counts: &mut [u64], source: u32) -> u64
 /// A SYNC call begins and is given out.
 #[inline(always)]
 fn give_sync<H: Handler>(
-    words: Words,
-    seat: &mut CpuSeat,
+    words: SharedCallWords,
+    seat: &mut CallSeat,
     number: u32,
     place: SyncPlace,
     handler: &H,
@@ -197,8 +201,8 @@ fn give_sync<H: Handler>(
 /// An ASYNC call begins and is given out.
 #[inline(always)]
 fn give_async<H: Handler>(
-    words: Words,
-    seat: &mut CpuSeat,
+    words: SharedCallWords,
+    seat: &mut CallSeat,
     place: AsyncPlace,
     handler: &H,
 ) -> Begun<H>
@@ -213,8 +217,8 @@ fn give_async<H: Handler>(
 /// A call begins: the handling word names a SYNC call's record, and an ASYNC call's is unlocked.
 #[inline(always)]
 pub(crate) fn begin_call<H: Handler>(
-    words: Words,
-    seat: &mut CpuSeat,
+    words: SharedCallWords,
+    seat: &mut CallSeat,
     number: u32,
     place: Place,
     handler: &H,
@@ -238,8 +242,8 @@ pub(crate) fn begin_call<H: Handler>(
 /// A SYNC call whose function has run is counted, and its record is unlocked.
 #[inline(always)]
 fn finish_sync<H: Handler>(
-    words: Words,
-    seat: &mut CpuSeat,
+    words: SharedCallWords,
+    seat: &mut CallSeat,
     number: u32,
     counts: &mut [u64],
     ran: Returned<'_, SyncPlace, H>,
@@ -264,8 +268,8 @@ fn finish_sync<H: Handler>(
 /// An ASYNC call whose function has run is counted.
 #[inline(always)]
 fn finish_async<H: Handler>(
-    words: Words,
-    seat: &mut CpuSeat,
+    words: SharedCallWords,
+    seat: &mut CallSeat,
     number: u32,
     counts: &mut [u64],
     ran: Returned<'_, AsyncPlace, H>,
@@ -289,8 +293,8 @@ fn finish_async<H: Handler>(
 /// A call whose function has run is counted and ends: a SYNC call's record is unlocked.
 #[inline(always)]
 pub(crate) fn end_call<H: Handler>(
-    words: Words,
-    seat: &mut CpuSeat,
+    words: SharedCallWords,
+    seat: &mut CallSeat,
     number: u32,
     counts: &mut [u64],
     ran: Returned<'_, Place, H>,

@@ -2,40 +2,40 @@
 
 ghost use Rattle.smp_queue.specs.Plays.{loaded, stored, call_stored, exchanged, swapped};
 
-use crate::seat_view::SeatView;
+use crate::seat_view::CallSeatView;
 use atomic_table::Play;
 
 /// A load.
 pub(super) struct Loaded;
 
-impl Play<(), SeatView> for Loaded {
+impl Play<(), CallSeatView> for Loaded {
     ghost then = { loaded };
 }
 
 /// A store.
 pub(super) struct Stored;
 
-impl Play<(), SeatView> for Stored {
+impl Play<(), CallSeatView> for Stored {
     ghost then = { stored };
 }
 
 /// A store inside `handle` that may begin, count or end a call.
 pub(super) struct CallStored;
 
-impl Play<(), SeatView> for CallStored {
+impl Play<(), CallSeatView> for CallStored {
     ghost then = { call_stored };
 }
 
 /// A compare-exchange.
 pub(super) struct Exchanged;
 
-impl Play<(), SeatView> for Exchanged {
+impl Play<(), CallSeatView> for Exchanged {
     ghost then = { exchanged };
 }
 
 /// A swap.
 pub(super) struct Swapped;
 
-impl Play<(), SeatView> for Swapped {
+impl Play<(), CallSeatView> for Swapped {
     ghost then = { swapped };
 }

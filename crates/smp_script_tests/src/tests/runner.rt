@@ -1,5 +1,5 @@
 use smp_mask::{Cause, Side, SmpError};
-use smp_run::command_line::{Request, read_words};
+use smp_run::command_line::{RunRequest, read_words};
 use smp_run::runner::{run_file, run_from, tell};
 use smp_run::status::{Refusal, status_of};
 use smp_script::{Mode, Outcome, Watched};
@@ -156,7 +156,7 @@ fn each_refusal_is_told_in_a_line(rt: HostRuntime) {
 fn a_file_that_is_none(rt: HostRuntime) {
     for mode in [Mode::Replay, Mode::Run] {
         let file = Some("no/such/file");
-        let answer = run_file(&rt, &rt, Request { mode, file });
+        let answer = run_file(&rt, &rt, RunRequest { mode, file });
         assert_eq!(rt; answer, Err(SmpError::StreamFailed(Side::Read)));
     }
 }

@@ -2,10 +2,11 @@
 use Rattle.std.proofs.Common.{◌≡◌, ◌≢◌, ℕ, ◌-◌, ◌<◌, false, ◌==◌, cond, Option, Some, None, inr, [], ◌∷◌, ◌++◌, get_or, set, sym, subst, refl, ap, ◌∙◌, arith}
 use Rattle.smp_words.specs.Access.{one_less}
 use Rattle.smp_words.proofs.Puts.{put_same, put_other}
-use Rattle.smp_stop_steps.specs.{put, put_word, cpus, IsCalling, answer_in, with_answer, Seat, Free, In, Gives, Closes, Rests, StopShows, Source, Setup, Field}
+use Rattle.smp_stop_steps.specs.{put, put_word, cpus, IsCalling, answer_in, with_answer, StopRole, Free, In, Gives, Closes, Rests}
+use Rattle.smp_stop_steps.specs.{StopShows, Source, Setup, Field}
 use Rattle.smp_stop_steps.specs.{StopState, Calling, Idle, Standing, told, stored_open, stored_shut, completes, completes_with, told_calling, Sees, GoesOnBy}
 use Rattle.smp_stop_steps.specs.{Act, columns_of, AreFirst, setup_in, is_drafting, drafted_known, slot_stored, member_stored, given_by, completed_by}
-use Rattle.smp_stop_steps.specs.{completed_with, Work, Word, Slot, Known.AreTold, Known.Known, Moves.IsThrough}
+use Rattle.smp_stop_steps.specs.{completed_with, Work, Word, Slot, Known.AreTold, Known.KnownStops, Moves.IsThrough}
 use Rattle.smp_stop_steps.proofs.Steps.Completions.{result_stored, todo_subtracted, todo_subtracted_answered, done_stored}
 use Rattle.smp_stop_steps.proofs.Knows.Parts.{Leaves, first_put, goes_seat, seen_by, told_so}
 use Rattle.smp_stop_steps.proofs.{Steps.Callings.answer_replaced, Steps.Callings.calling_given, Steps.Facts.todo_bounds, Steps.Facts.todo_bounds_answered}
@@ -18,18 +19,18 @@ answers x f ne = search arith
 told_same : (x : ℕ) (f : Calling) → told_calling (with_answer x f) ≡ told_calling f
 told_same x f = search arith
 
-module _ (p : StopState) (at : Word → ℕ) (seat : ℕ → Seat) (source : ℕ → Source) (v : Known) (h : StopShows (setup_in v.setting) p at seat source)
+module _ (p : StopState) (at : Word → ℕ) (seat : ℕ → StopRole) (source : ℕ → Source) (v : KnownStops) (h : StopShows (setup_in v.setting) p at seat source)
     (sees : Sees p seat source v) where
   abbrev u : Setup
   u = setup_in v.setting
 
-  abbrev Goes : Act → Word → Option ℕ → Option ℕ → (Word → ℕ) → Known → Type 0
+  abbrev Goes : Act → Word → Option ℕ → Option ℕ → (Word → ℕ) → KnownStops → Type 0
   Goes a w found new at' known = GoesOnBy v.setting p seat source v.number at' known (seen_by v.number a w found new)
 
-  abbrev Stores : Word → ℕ → Known → Type 0
+  abbrev Stores : Word → ℕ → KnownStops → Type 0
   Stores w n known = Goes Act.Store w None (Some n) (put_word at w n) known
 
-  abbrev Subs : Word → Known → Type 0
+  abbrev Subs : Word → KnownStops → Type 0
   Subs w known = Goes Act.Sub w (Some (at w)) (Some (one_less (at w))) (put_word at w (one_less (at w))) known
 
   -- until the completion tells it, any answer may be put for that of the function

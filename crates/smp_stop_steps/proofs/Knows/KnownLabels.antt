@@ -5,10 +5,11 @@ use Rattle.smp_labels.proofs.Patched.{plan_key_first}
 use Rattle.smp_words.specs.Access.{put_if}
 use Rattle.smp_words.proofs.Puts.{at_test, put_same, put_other}
 use Rattle.smp_stop_steps.specs.{has, is_on, Place, MOST_KEYS, word_of, at_after, seen_of, put, put_word, moves, moved_by, Change, Patches, Reading, ReadKey}
-use Rattle.smp_stop_steps.specs.{ReadSite, count_set, Seat, Free, In, Gives, Alters, Closes, Duty, Rests, irq_of, StopShows, IsNudge, Source, store_of, Setup}
+use Rattle.smp_stop_steps.specs.{ReadSite, count_set, StopRole, Free, In, Gives, Alters, Closes, Duty, Rests, irq_of, StopShows}
+use Rattle.smp_stop_steps.specs.{IsNudge, Source, store_of, Setup}
 use Rattle.smp_stop_steps.specs.{StopState, Moved, unmoved, told, is_patch, reads, key_loaded, key_patched, patched_more, patch_begun, plan_at, Sees}
 use Rattle.smp_stop_steps.specs.{GoesOnBy, Act, AreFirst, setup_in, reads_more, key_loaded_by, key_known, key_read_known, counted, learned, Patch, Work, Word}
-use Rattle.smp_stop_steps.specs.{Key, Site, State.Present, Known.Known, Moves.entering}
+use Rattle.smp_stop_steps.specs.{Key, Site, State.Present, Known.KnownStops, Moves.entering}
 use Rattle.smp_stop_steps.proofs.Knows.Parts.{Leaves, first_put, goes_seat, goes_still, noted, seen_by, told_so}
 use Rattle.smp_stop_steps.proofs.Steps.Patching.{key_read, site_read, key_loaded_first, key_stored, site_stored, key_exchanged}
 use Rattle.smp_stop_steps.proofs.{Knows.KnownRounds.stands, Knows.KnownRounds.reads_now, Knows.KnownSources.still}
@@ -25,18 +26,18 @@ counted_first : (f : ℕ → ℕ → Moved) (me k old new : ℕ) (list : List Mo
 counted_first f me k old new list h low = let shown' = first_put MOST_KEYS (f me) unmoved list k (moves (f me k) old new) h low in
     search (put_same f me (put (f me) k (moves (f me k) old new)), ← h.each k low, shown', arith)
 
-module _ (p : StopState) (at : Word → ℕ) (seat : ℕ → Seat) (source : ℕ → Source) (v : Known) (h : StopShows (setup_in v.setting) p at seat source)
+module _ (p : StopState) (at : Word → ℕ) (seat : ℕ → StopRole) (source : ℕ → Source) (v : KnownStops) (h : StopShows (setup_in v.setting) p at seat source)
     (sees : Sees p seat source v) where
   abbrev u : Setup
   u = setup_in v.setting
 
-  abbrev Goes : Act → Word → Option ℕ → Option ℕ → (Word → ℕ) → Known → Type 0
+  abbrev Goes : Act → Word → Option ℕ → Option ℕ → (Word → ℕ) → KnownStops → Type 0
   Goes a w found new at' known = GoesOnBy v.setting p seat source v.number at' known (seen_by v.number a w found new)
 
-  abbrev Loads : Word → Known → Type 0
+  abbrev Loads : Word → KnownStops → Type 0
   Loads w known = Goes Act.Load w (Some (at w)) None at known
 
-  abbrev Stores : Word → ℕ → Known → Type 0
+  abbrev Stores : Word → ℕ → KnownStops → Type 0
   Stores w n known = Goes Act.Store w None (Some n) (put_word at w n) known
 
   abbrev IsOn : Type 0
@@ -49,7 +50,7 @@ module _ (p : StopState) (at : Word → ℕ) (seat : ℕ → Seat) (source : ℕ
   reads_leaves r = search (reads_now, put_same, put_other, arith)
 
   -- where interrupts are on, a load of a key is a reading
-  key_plain : (k found : ℕ) (x : Seat) → v.seat ≡ x → irq_of x ≡ true →
+  key_plain : (k found : ℕ) (x : StopRole) → v.seat ≡ x → irq_of x ≡ true →
       (key_loaded u p.now v.number k found (p.now.inside v.number) ≡ reads p.now v.number (ReadKey k (is_on found))) × (key_loaded_by k found x v ≡
       key_read_known k found v)
   key_plain k found Free e on = (ap (λ i. key_loaded u p.now v.number k found i) (stands p at seat source v h sees Free e), refl)

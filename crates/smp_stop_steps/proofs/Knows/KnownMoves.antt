@@ -1,7 +1,7 @@
 -- Each step that a CPU may make by what it knows goes on to stops of which all know their part.
 use Rattle.std.proofs.Common.{ℕ, Some, None, refl}
-use Rattle.smp_stop_steps.specs.{word_of, at_after, seen_of, Sees, GoesOnBy, Seen, setup_in, slot_known, learned, known_entering, is_drafting, is_due, Seat}
-use Rattle.smp_stop_steps.specs.{StopShows, Source, StopState, Field, Word, Slot, Entry, Known.Known, Act}
+use Rattle.smp_stop_steps.specs.{word_of, at_after, seen_of, Sees, GoesOnBy, Seen, setup_in, slot_known, learned, known_entering, is_drafting, is_due, StopRole}
+use Rattle.smp_stop_steps.specs.{StopShows, Source, StopState, Field, Word, Slot, Entry, Known.KnownStops, Act}
 use Rattle.smp_stop_steps.specs.Moves.{Move, TakeGate, OpenGate, Draft, DraftMore, Open, Enter, Look, Acknowledge, AcknowledgePatch, Refill, Raise, Give, Count}
 use Rattle.smp_stop_steps.specs.Moves.{CountGiven, Close, LookDone, Collect, ReadKey, ReadSite, Nudge, BeginPatch, Alter, LoadArg, LoadField, LoadEntry}
 use Rattle.smp_stop_steps.specs.Moves.{MayStep, known_access, entering, IsPlain}
@@ -11,9 +11,9 @@ use Rattle.smp_stop_steps.proofs.Knows.KnownRounds.{enter, load_arg, look, ackno
 use Rattle.smp_stop_steps.proofs.Knows.KnownSources.{still, take_gate, open_gate, draft, draft_more, open_stop, look_done, collect}
 use Rattle.smp_stop_steps.proofs.Knows.Parts.{counted_step, seen_by}
 
-module _ (p : StopState) (at : Word → ℕ) (seat : ℕ → Seat) (source : ℕ → Source) (v : Known) (h : StopShows (setup_in v.setting) p at seat source)
+module _ (p : StopState) (at : Word → ℕ) (seat : ℕ → StopRole) (source : ℕ → Source) (v : KnownStops) (h : StopShows (setup_in v.setting) p at seat source)
     (sees : Sees p seat source v) where
-  abbrev Goes : Seen → (Word → ℕ) → Known → Type 0
+  abbrev Goes : Seen → (Word → ℕ) → KnownStops → Type 0
   Goes seen at' w = GoesOnBy v.setting p seat source v.number at' w seen
 
   load_field : (s : ℕ) (f : Field) → IsPlain f

@@ -3,10 +3,13 @@ use Rattle.std.proofs.Common.{◌≡◌, ◌≢◌, ℕ, ◌+◌, ◌-◌, ◌<�
 use Rattle.std.proofs.Common.{subst, refl, ap, ◌∙◌, arith, bit_and}
 use Rattle.smp_words.specs.Access.{one_less}
 use Rattle.smp_words.proofs.Puts.{put_same, put_other}
-use Rattle.smp_stop_steps.specs.{HasCalled, mask_weight, stored_open, stored_shut, columns_of, is_drafting, slot_stored, refilled_by, looked_known, Known.Known}
-use Rattle.smp_stop_steps.specs.{has, put, Seat, Free, In, Duty, Rests, Fills, Sets, Setup, Calls, told, leaves, Sees, Act, Part, Field, Work, Word, Slot}
+use Rattle.smp_stop_steps.specs.{HasCalled, mask_weight, stored_open, stored_shut, columns_of, is_drafting, slot_stored}
+use Rattle.smp_stop_steps.specs.{refilled_by, looked_known, Known.KnownStops}
+use Rattle.smp_stop_steps.specs.{has, put, StopRole, Free, In, Duty, Rests, Fills, Sets, Setup, Calls, told, leaves, Sees, Act}
+use Rattle.smp_stop_steps.specs.{StopPart, Field, Work, Word, Slot}
 use Rattle.smp_stop_steps.specs.{put_word, StopShows, all_but, StopState, StopCall, Standing, with_stop, unpatched, called_by, ran_since, raised_by, read_since}
-use Rattle.smp_stop_steps.specs.{cpus, Change, Alters, Stands, Source, Calling, Inside, raised, enters, raises, carried, may_call, GoesOnBy, setup_in, acked_by}
+use Rattle.smp_stop_steps.specs.{cpus, Change, Alters, RoleStands, Source, Calling, Inside, raised, enters, raises, carried}
+use Rattle.smp_stop_steps.specs.{may_call, GoesOnBy, setup_in, acked_by}
 use Rattle.smp_stop_steps.specs.{Reading, acknowledged, acknowledges, acknowledges_now, carried_call, told_calling, drafted_known, member_stored, entered_known}
 use Rattle.smp_stop_steps.specs.State.{Present, Carries}
 use Rattle.smp_stop_steps.proofs.Knows.Parts.{Leaves, attempted, goes_seat, goes_still, seen_by, told_so}
@@ -23,25 +26,25 @@ small n l = omega arith
 told_carried : (f : Calling) → told_calling (carried_call f) ≡ carried_call (told_calling f)
 told_carried f = search arith
 
-module _ (p : StopState) (at : Word → ℕ) (seat : ℕ → Seat) (source : ℕ → Source) (v : Known) (h : StopShows (setup_in v.setting) p at seat source)
+module _ (p : StopState) (at : Word → ℕ) (seat : ℕ → StopRole) (source : ℕ → Source) (v : KnownStops) (h : StopShows (setup_in v.setting) p at seat source)
     (sees : Sees p seat source v) where
   abbrev u : Setup
   u = setup_in v.setting
 
-  abbrev Goes : Act → Word → Option ℕ → Option ℕ → (Word → ℕ) → Known → Type 0
+  abbrev Goes : Act → Word → Option ℕ → Option ℕ → (Word → ℕ) → KnownStops → Type 0
   Goes a w found new at' known = GoesOnBy v.setting p seat source v.number at' known (seen_by v.number a w found new)
 
-  abbrev Loads : Word → Known → Type 0
+  abbrev Loads : Word → KnownStops → Type 0
   Loads w known = Goes Act.Load w (Some (at w)) None at known
 
-  abbrev Stores : Word → ℕ → Known → Type 0
+  abbrev Stores : Word → ℕ → KnownStops → Type 0
   Stores w n known = Goes Act.Store w None (Some n) (put_word at w n) known
 
-  abbrev Subs : Word → Known → Type 0
+  abbrev Subs : Word → KnownStops → Type 0
   Subs w known = Goes Act.Sub w (Some (at w)) (Some (one_less (at w))) (put_word at w (one_less (at w))) known
 
-  pub stands : (x : Seat) → v.seat ≡ x → Stands p.now v.number x
-  stands x e = subst (Stands p.now v.number) (sees.seat_is ∙ e) (h.present.stands v.number)
+  pub stands : (x : StopRole) → v.seat ≡ x → RoleStands p.now v.number x
+  stands x e = subst (RoleStands p.now v.number) (sees.seat_is ∙ e) (h.present.stands v.number)
 
   pub open_at : (s : ℕ) (w : Work) (a l : ℕ) (t : Duty) → v.seat ≡ In s w a l t → (p.now.stop s).is_open ≡ true
   open_at s w a l t e = is_open_inside u.cpus (p.now.stop s) (λ f. at (Slot s f)) (h.present.slots s) v.number (Inside a l) (stands (In s w a l t) e).1 refl
@@ -128,7 +131,7 @@ module _ (p : StopState) (at : Word → ℕ) (seat : ℕ → Seat) (source : ℕ
   has_called w f k = search arith
 
   -- the columns of who acknowledges
-  acked_leaves : (n : Present) (calls : ℕ → List StopCall) (calling : ℕ → Calling) (part : Part) →
+  acked_leaves : (n : Present) (calls : ℕ → List StopCall) (calling : ℕ → Calling) (part : StopPart) →
       n.readings v.number ≡ part.readings → ((c : ℕ) → c ≢ v.number → n.readings c ≡ p.now.readings c) →
       told_calling (calling v.number) ≡ part.calling → ((c : ℕ) → c ≢ v.number → calling c ≡ p.calling c) →
       part ≡ record (v.part) { readings = part.readings; calling = part.calling } →
@@ -184,7 +187,7 @@ module _ (p : StopState) (at : Word → ℕ) (seat : ℕ → Seat) (source : ℕ
       here : seat v.number ≡ In s w a l Rests
       here = sees.seat_is ∙ is
 
-      st : Stands p.now v.number (In s w a l Rests)
+      st : RoleStands p.now v.number (In s w a l Rests)
       st = stands (In s w a l Rests) is
 
       call : StopCall

@@ -3,10 +3,10 @@ use Rattle.std.proofs.Common.{◌≡◌, ◌≢◌, ℕ, ◌+◌, ◌<◌, nat_l
 use Rattle.std.proofs.Common.{sym, subst, refl, ap, ◌∙◌, arith}
 use Rattle.smp_words.specs.Access.{put_if}
 use Rattle.smp_words.proofs.Puts.{put_all, put_same, put_other}
-use Rattle.smp_stop_steps.specs.{put, put_word, cpus, Seat, StopShows, DoneShows, begun_value, order, Source, Shut, Drafts, Owns, Collects, SourceShows}
+use Rattle.smp_stop_steps.specs.{put, put_word, cpus, StopRole, StopShows, DoneShows, begun_value, order, Source, Shut, Drafts, Owns, Collects, SourceShows}
 use Rattle.smp_stop_steps.specs.{DraftShows, IsDrafted, IsWork, Setup, StopState, Standing, Ending, told, drafted, drafts, opens, stored_open, stored_shut}
 use Rattle.smp_stop_steps.specs.{Sees, GoesOnBy, Act, IsBegun, told_source, told_work, holds_it, setup_in, is_drafting, drafted_known, draft_known, opened_by}
-use Rattle.smp_stop_steps.specs.{slot_stored, gate_known, done_by, done_known, collected_known, Field, One, Work, Word, Gate, Slot, Known.Known}
+use Rattle.smp_stop_steps.specs.{slot_stored, gate_known, done_by, done_known, collected_known, Field, One, Work, Word, Gate, Slot, Known.KnownStops}
 use Rattle.smp_stop_steps.proofs.Knows.Parts.{Leaves, goes, goes_source, goes_still, noted, seen_by, told_so}
 use Rattle.smp_stop_steps.proofs.Steps.Sources.{gate_taken, gate_opened, field_stored, roll_stored, done_loaded, result_loaded, kind_back, work_ext}
 use Rattle.smp_stop_steps.specs.declared.known.OwnMove.TheVariants as own
@@ -63,7 +63,7 @@ module _ (k : ℕ) (x w : Work) (same : told_work k x ≡ told_work k w) where
 pub draft_next : (f : Field) (w : Work) → order f ≢ 0 → order f < 10 → drafted f (begun_value cpus w f) (told_work (order f) w) ≡ told_work (order f + 1) w
 draft_next f w ne l = search arith
 
-pub stored_draft : (f : Field) (n : ℕ) (v : Known) → order f ≢ 0 → order f < 10 → is_drafting v.source ≡ true → slot_stored f n v ≡ drafted_known f n v
+pub stored_draft : (f : Field) (n : ℕ) (v : KnownStops) → order f ≢ 0 → order f < 10 → is_drafting v.source ≡ true → slot_stored f n v ≡ drafted_known f n v
 stored_draft f n v ne l e = search arith
 
 -- a store but the last one drafts the work
@@ -74,18 +74,18 @@ shut_drafts p s f x l = search arith
 done_is : (n : ℕ) (standing : ℕ → Standing) (e : Ending) (done : ℕ) → DoneShows n standing e done → (done == 0) ≡ false → done ≡ 1
 done_is n standing e done d ne = search (eq-eqb, arith)
 
-module _ (p : StopState) (at : Word → ℕ) (seat : ℕ → Seat) (source : ℕ → Source) (v : Known) (h : StopShows (setup_in v.setting) p at seat source)
+module _ (p : StopState) (at : Word → ℕ) (seat : ℕ → StopRole) (source : ℕ → Source) (v : KnownStops) (h : StopShows (setup_in v.setting) p at seat source)
     (sees : Sees p seat source v) where
   abbrev u : Setup
   u = setup_in v.setting
 
-  abbrev Goes : Act → Word → Option ℕ → Option ℕ → (Word → ℕ) → Known → Type 0
+  abbrev Goes : Act → Word → Option ℕ → Option ℕ → (Word → ℕ) → KnownStops → Type 0
   Goes a w found new at' known = GoesOnBy v.setting p seat source v.number at' known (seen_by v.number a w found new)
 
-  abbrev Loads : Word → Known → Type 0
+  abbrev Loads : Word → KnownStops → Type 0
   Loads w known = Goes Act.Load w (Some (at w)) None at known
 
-  abbrev Stores : Word → ℕ → Known → Type 0
+  abbrev Stores : Word → ℕ → KnownStops → Type 0
   Stores w n known = Goes Act.Store w None (Some n) (put_word at w n) known
 
   -- a step that leaves all columns
@@ -170,7 +170,7 @@ module _ (p : StopState) (at : Word → ℕ) (seat : ℕ → Seat) (source : ℕ
       search (stored_draft, draft_next, work, arith) in
       let same : DraftShows u p.gate (p.now.stop v.number) (λ f. at (Slot v.number f)) v.number work k =
       search (work, is, d.shut, d.holds, d.stored, d.told, value_same, drafted_same, arith) in
-      subst (λ (q : Known). Stores (Slot v.number f) x q) (sym known) (field_goes work f same low)
+      subst (λ (q : KnownStops). Stores (Slot v.number f) x q) (sym known) (field_goes work f same low)
 
   pub open_stop : (work : Work) → v.source ≡ Drafts (told_work 10 work) 10 → Stores (Slot v.number Field.Roll) work.mask (opened_by v.source v)
   open_stop work e = let y = is_draft (source v.number) work 10 (sees.source_is ∙ e) in
@@ -196,7 +196,7 @@ module _ (p : StopState) (at : Word → ℕ) (seat : ℕ → Seat) (source : ℕ
 
   -- the end of its stop
 
-  abbrev looked : Bool → Source → Known
+  abbrev looked : Bool → Source → KnownStops
   looked b y = record v { source = y; moves = cond b (v.moves ++ own.NotDone ∷ []) v.moves }
 
   pub look_done : (w : Work) → v.source ≡ Owns w → Loads (Slot v.number Field.Done) (done_known (at (Slot v.number Field.Done)) v)

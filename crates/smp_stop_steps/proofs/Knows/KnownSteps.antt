@@ -1,9 +1,10 @@
 -- Each step that a CPU may make is counted once, but for the stores that are due.
 use Rattle.std.proofs.Common.{◌≡◌, ℕ, ◌+◌, ◌==◌, not, Bool, true, false, cond, Option, Some, None, refl, ap, ◌∙◌, arith}
-use Rattle.smp_stop_steps.specs.{begun_value, cpus, has, mask_weight, seen_of, Seat, Free, In, Gives, Alters, Closes, Source, Shut, Drafts, Owns, Collects, Act}
+use Rattle.smp_stop_steps.specs.{begun_value, cpus, has, mask_weight, seen_of, StopRole, Free, In, Gives, Alters, Closes, Source}
+use Rattle.smp_stop_steps.specs.{Shut, Drafts, Owns, Collects, Act}
 use Rattle.smp_stop_steps.specs.{Field, Work, acked_by, called_by, completed_by, drafted_known, entered_known, gate_known, is_drafting, key_known}
 use Rattle.smp_stop_steps.specs.{key_loaded_by, learned, is_due, member_stored, opened_by, order, raised_by, slot_known, slot_stored, told_work}
-use Rattle.smp_stop_steps.specs.{Slot, Known.Known, Known.stepped, KnownLaws.KnownStepsCount, KnownLaws.weight_of}
+use Rattle.smp_stop_steps.specs.{Slot, Known.KnownStops, Known.stepped, KnownLaws.KnownStepsCount, KnownLaws.weight_of}
 use Rattle.smp_stop_steps.specs.Moves.{Move, TakeGate, OpenGate, Draft, DraftMore, Open, Enter, Look, Acknowledge, AcknowledgePatch, Refill, Raise, Give, Count}
 use Rattle.smp_stop_steps.specs.Moves.{CountGiven, Close, LookDone, Collect, ReadKey, ReadSite, Nudge, BeginPatch, Alter, LoadArg, LoadField, LoadEntry}
 use Rattle.smp_stop_steps.specs.Moves.{MayStep, known_access}
@@ -11,11 +12,11 @@ use Rattle.smp_labels.specs.declared.patch.Place.TheVariants as place
 
 -- what a step tells has no part in how many there were
 
-either : (b : Bool) (x y : Known) (n : ℕ) → x.steps ≡ n → y.steps ≡ n → (cond b x y).steps ≡ n
+either : (b : Bool) (x y : KnownStops) (n : ℕ) → x.steps ≡ n → y.steps ≡ n → (cond b x y).steps ≡ n
 either true x y n e f = e
 either false x y n e f = f
 
-module _ (v : Known) where
+module _ (v : KnownStops) where
   gate : (put : Option ℕ) → (gate_known Act.Cas put v).steps ≡ v.steps
   gate (Some n) = refl
   gate None = refl
@@ -26,35 +27,35 @@ module _ (v : Known) where
   opened (Owns w) = refl
   opened (Collects w) = refl
 
-  raised : (n : ℕ) (x : Seat) → (raised_by n x v).steps ≡ v.steps
+  raised : (n : ℕ) (x : StopRole) → (raised_by n x v).steps ≡ v.steps
   raised n Free = refl
   raised n (In s w a l t) = refl
   raised n (Gives s w a x) = refl
   raised n (Alters s w count made rest) = refl
   raised n (Closes s) = refl
 
-  acked : (found : ℕ) (x : Seat) → (acked_by found x v).steps ≡ v.steps
+  acked : (found : ℕ) (x : StopRole) → (acked_by found x v).steps ≡ v.steps
   acked found Free = refl
   acked found (In s w a l t) = refl
   acked found (Gives s w a x) = refl
   acked found (Alters s w count made rest) = refl
   acked found (Closes s) = refl
 
-  completed : (found : ℕ) (x : Seat) → (completed_by found x v).steps ≡ v.steps
+  completed : (found : ℕ) (x : StopRole) → (completed_by found x v).steps ≡ v.steps
   completed found Free = refl
   completed found (In s w a l t) = refl
   completed found (Gives s w a x) = refl
   completed found (Alters s w count made rest) = refl
   completed found (Closes s) = refl
 
-  called : (found : ℕ) (x : Seat) → (called_by found x v).steps ≡ v.steps
+  called : (found : ℕ) (x : StopRole) → (called_by found x v).steps ≡ v.steps
   called found Free = refl
   called found (In s w a l t) = either _ _ v v.steps refl refl
   called found (Gives s w a x) = refl
   called found (Alters s w count made rest) = refl
   called found (Closes s) = refl
 
-  key_loaded : (k found : ℕ) (x : Seat) → (key_loaded_by k found x v).steps ≡ v.steps
+  key_loaded : (k found : ℕ) (x : StopRole) → (key_loaded_by k found x v).steps ≡ v.steps
   key_loaded k found Free = refl
   key_loaded k found (In s w a l t) = either _ _ _ v.steps refl refl
   key_loaded k found (Gives s w a x) = refl
@@ -143,7 +144,7 @@ module _ (v : Known) where
 
   -- a step counts as its kind does
 
-  one_unless : (due : Bool) (n : ℕ) (x : Known) → cond due 0 1 ≡ n → x.steps ≡ v.steps → (cond due x (stepped 1 x)).steps ≡ v.steps + n
+  one_unless : (due : Bool) (n : ℕ) (x : KnownStops) → cond due 0 1 ≡ n → x.steps ≡ v.steps → (cond due x (stepped 1 x)).steps ≡ v.steps + n
   one_unless true n x e f = f ∙ ((let z : v.steps ≡ v.steps + 0 = omega arith in z) ∙ ap (λ k. v.steps + k) e)
   one_unless false n x e f = ap (λ k. k + 1) f ∙ ap (λ k. v.steps + k) e
 

@@ -1,6 +1,7 @@
 -- When a stop function runs, and who is to store done.
 use Rattle.std.proofs.Common.{◌≡◌, ℕ, true, sym, refl, ◌∙◌, arith}
-use Rattle.smp_stop_steps.specs.{IsLast, IsClosing, HasFunctions, Seat, Closes, StopShows, DoneShows, Source, Setup, StopState, Ending, Running, Last, Ended}
+use Rattle.smp_stop_steps.specs.{IsLast, IsClosing, HasFunctions, StopRole, Closes, StopShows, DoneShows, Source, Setup, StopState}
+use Rattle.smp_stop_steps.specs.{Ending, Running, Last, Ended}
 use Rattle.smp_stop_steps.specs.{Inside, IsCalling, PresentShows, is_multi, Kind as KindOf, Multi, Word, Slot, RunsAlone, Field}
 use Rattle.smp_stop_steps.proofs.{Basics.Bools.both_true, State.Ends.function_law, State.Patched.all_off}
 use Rattle.smp_stop_steps.specs.Names.{DISABLE_IRQ, RUN}
@@ -8,14 +9,14 @@ use Rattle.smp_stop_steps.specs.Names.{DISABLE_IRQ, RUN}
 multi_kind : (k : KindOf) → is_multi k ≡ true → k ≡ Multi
 multi_kind k e = search arith
 
-module _ (u : Setup) (p : StopState) (at : Word → ℕ) (seat : ℕ → Seat) (present : PresentShows u p.now at seat) where
+module _ (u : Setup) (p : StopState) (at : Word → ℕ) (seat : ℕ → StopRole) (present : PresentShows u p.now at seat) where
   pub alone_at_run : (s me : ℕ) → (p.now.stop s).standing me ≡ Inside DISABLE_IRQ RUN → RunsAlone p s me
   alone_at_run s me is = search (function_law, present.slots, all_off, present, arith)
 
   pub functions_at_seats : ((c : ℕ) → IsCalling c (seat c) (p.calling c)) → HasFunctions p
   functions_at_seats callings c call is = search (callings, present.stands, both_true, multi_kind, alone_at_run, arith)
 
-module _ (u : Setup) (p : StopState) (at : Word → ℕ) (seat : ℕ → Seat) (source : ℕ → Source) (h : StopShows u p at seat source) where
+module _ (u : Setup) (p : StopState) (at : Word → ℕ) (seat : ℕ → StopRole) (source : ℕ → Source) (h : StopShows u p at seat source) where
   pub runs_alone : (s me : ℕ) → (p.now.stop s).standing me ≡ Inside DISABLE_IRQ RUN → RunsAlone p s me
   runs_alone s me is = alone_at_run u p at seat h.present s me is
 

@@ -2,10 +2,11 @@
 use Rattle.std.proofs.Common.{◌≡◌, ℕ, ◌+◌, ◌∷◌, [], Bool, true, false, ◌==◌, cond, Some, None, List, inl, inr, sym, subst, refl, ap, ◌∙◌, arith, bit_and}
 use Rattle.std.proofs.Common.{eqb-true}
 use Rattle.smp_stop_steps.specs.{word_of, at_after, seen_of, Access, Field, Work, Word, Gate, Slot, Key, Site, HasCompleted, MayStore, MayStoreIf, MaySee}
-use Rattle.smp_stop_steps.specs.{IsAtRun, unfinished, Seat, In, Alters, Closes, Duty, Rests, Sets, Stands, StopShows, DoneShows, Source, Shut, Drafts, Owns}
+use Rattle.smp_stop_steps.specs.{IsAtRun, unfinished, StopRole, In, Alters, Closes, Duty, Rests, Sets, RoleStands, StopShows}
+use Rattle.smp_stop_steps.specs.{DoneShows, Source, Shut, Drafts, Owns}
 use Rattle.smp_stop_steps.specs.{Collects, SourceShows, OwnerShows, IsNextOfPatch, label_stored, store_of, KeysStand, Change, Whole, Place}
 use Rattle.smp_stop_steps.specs.{Setup, StopState, Standing, Inside, Ended, acked, is_of, irq_of, Sees, setup_in, told_source, told_work, order, IsNudge}
-use Rattle.smp_stop_steps.specs.{all_but, begun_value, cpus, mask_weight, put_word, Known.Known, KnownLaws.KeepsMoveLaws, Laws.IsThrough}
+use Rattle.smp_stop_steps.specs.{all_but, begun_value, cpus, mask_weight, put_word, Known.KnownStops, KnownLaws.KeepsMoveLaws, Laws.IsThrough}
 use Rattle.smp_stop_steps.specs.Moves.{Move, TakeGate, OpenGate, Draft, DraftMore, Open, Enter, Look, Acknowledge, AcknowledgePatch, Refill, Raise, Give, Count}
 use Rattle.smp_stop_steps.specs.Moves.{CountGiven, Close, LookDone, Collect, ReadKey, ReadSite, Nudge, BeginPatch, Alter, LoadArg, LoadField, LoadEntry}
 use Rattle.smp_stop_steps.specs.Moves.{MayStep, known_access, IsPlain, IsThrough as IsThroughAll}
@@ -29,7 +30,7 @@ completed_is x of z = search arith
 is_shut : (y : Source) → told_source y ≡ Shut → y ≡ Shut
 is_shut y e = search arith
 
-module _ (p : StopState) (at : Word → ℕ) (seat : ℕ → Seat) (source : ℕ → Source) (v : Known) (h : StopShows (setup_in v.setting) p at seat source)
+module _ (p : StopState) (at : Word → ℕ) (seat : ℕ → StopRole) (source : ℕ → Source) (v : KnownStops) (h : StopShows (setup_in v.setting) p at seat source)
     (sees : Sees p seat source v) where
   abbrev u : Setup
   u = setup_in v.setting
@@ -43,7 +44,7 @@ module _ (p : StopState) (at : Word → ℕ) (seat : ℕ → Seat) (source : ℕ
   abbrev IsPremised : Access → Type 0
   IsPremised access = let seen = seen_of me access (at (word_of access)) None in MaySee p me seen.act seen.word seen.found seen.put
 
-  at_seat : (x : Seat) → v.seat ≡ x → Stands p.now me x
+  at_seat : (x : StopRole) → v.seat ≡ x → RoleStands p.now me x
   at_seat x e = stands p at seat source v h sees x e
 
   opened : (s : ℕ) (w : Work) (a l : ℕ) (t : Duty) → v.seat ≡ In s w a l t → (p.now.stop s).is_open ≡ true

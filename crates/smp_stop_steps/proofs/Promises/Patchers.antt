@@ -2,27 +2,28 @@
 use Rattle.std.proofs.Common.{◌≡◌, ℕ, false, Option, Some, List, [], ◌∷◌, ◌++◌, length, subst, ap, ◌∙◌, arith}
 use Rattle.std.proofs.lemmas.List.{append-nil}
 use Rattle.smp_labels.specs.Law.{IsLawful, Table}
-use Rattle.smp_stop_steps.specs.{Change, Patching, LabelsShow, labels_in, is_between, IsLawfulOutside, HasPatcher, IsNextOfPatch, label_stored, Seat, Alters}
+use Rattle.smp_stop_steps.specs.{Change, Patching, LabelsShow, labels_in, is_between, IsLawfulOutside, HasPatcher, IsNextOfPatch}
+use Rattle.smp_stop_steps.specs.{label_stored, StopRole, Alters}
 use Rattle.smp_stop_steps.specs.{StopShows, SitsAt, SitsInRound, Source, StopControlValue, change_at, completion_access, round_access, stop_access, store_of}
-use Rattle.smp_stop_steps.specs.{PresentShows, Setup, StopState, RoundStage, CompletionStage, StopStage, Visit, Word, Gate, Sits.Sits}
+use Rattle.smp_stop_steps.specs.{PresentShows, Setup, StopState, RoundStage, CompletionStage, StopStage, Visit, Word, Gate, Sits.ControlFits}
 use Rattle.smp_stop_steps.proofs.{State.Ends.function_law, State.Patched.all_off, Steps.Facts.patcher_active, Steps.RoundSteps.change_here}
 
 -- between its first and its last store alone a patch leaves the table unlawful
 pub lawful_outside : (x : Patching) (t : Table) → LabelsShow x t → is_between x ≡ false → IsLawful t
 lawful_outside x t l e = search arith
 
-module _ (u : Setup) (p : StopState) (at : Word → ℕ) (seat : ℕ → Seat) (present : PresentShows u p.now at seat) where
+module _ (u : Setup) (p : StopState) (at : Word → ℕ) (seat : ℕ → StopRole) (present : PresentShows u p.now at seat) where
   pub patcher_at_seats : HasPatcher u p
   patcher_at_seats c work count made rest e = search (present.stands, patcher_active, function_law, present.slots, all_off, present, arith)
 
-module _ (u : Setup) (p : StopState) (at : Word → ℕ) (seat : ℕ → Seat) (source : ℕ → Source) (h : StopShows u p at seat source) where
+module _ (u : Setup) (p : StopState) (at : Word → ℕ) (seat : ℕ → StopRole) (source : ℕ → Source) (h : StopShows u p at seat source) where
   pub is_lawful : IsLawfulOutside p at
   is_lawful e = lawful_outside p.now.patching (labels_in at) h.present.labels e
 
   pub has_patcher : HasPatcher u p
   has_patcher c work count made rest e = patcher_at_seats u p at seat h.present c work count made rest e
 
-  module _ (c : StopControlValue) (me : ℕ) (sits : Sits u me (at Gate) c (seat me) (source me)) where
+  module _ (c : StopControlValue) (me : ℕ) (sits : ControlFits u me (at Gate) c (seat me) (source me)) where
     abbrev IsNext : Change → Type 0
     IsNext change = IsNextOfPatch p me change
 

@@ -1,11 +1,12 @@
 -- Who may make which step: what holds of the stops before it.
 use Rattle.std.proofs.Common.{◌≡◌, ℕ, ◌+◌, [], true, false, ⊎_elim, Some, None, sym, subst, refl, ◌∙◌, arith, eqb-true}
 use Rattle.smp_stop_steps.specs.{word_of, seen_of, Access, Field, Work, Word, Gate, Slot, HasCompleted, patch_answer, IsThrough, MayStore, MayStoreIf, MaySee}
-use Rattle.smp_stop_steps.specs.{unfinished, plan_at, Seat, In, Alters, Closes, Duty, Rests, Sets, Stands, StopShows, RunsIf, HoldsGate, IsLoaded, IsThroughAll}
+use Rattle.smp_stop_steps.specs.{unfinished, plan_at, StopRole, In, Alters, Closes, Duty, Rests, Sets, RoleStands, StopShows}
+use Rattle.smp_stop_steps.specs.{RunsIf, HoldsGate, IsLoaded, IsThroughAll}
 use Rattle.smp_stop_steps.specs.{SitsAt, SitsInCompletion, SitsInRound, SourceSits, DoneShows, Source, Owns, Collects, SourceShows, OwnerShows}
 use Rattle.smp_stop_steps.specs.{StopControlValue, completion_access, round_access, stop_access, Setup, StopState, Standing, Inside, Ended, is_of}
 use Rattle.smp_stop_steps.specs.{CompletionStage, RoundStage, StopStage, TakeGate, OpenGate, Begin, Enter, EnterKind, EnterMask, EnterActive, Advance, Complete}
-use Rattle.smp_stop_steps.specs.{Close, LoadDone, LoadResult, NudgeKey, ExchangeKey, Visit, Sits.Sits}
+use Rattle.smp_stop_steps.specs.{Close, LoadDone, LoadResult, NudgeKey, ExchangeKey, Visit, Sits.ControlFits}
 use Rattle.smp_stop_steps.specs.declared.stage.StopStage.TheVariants.{ReadKey, ReadSite}
 use Rattle.smp_stop_steps.proofs.State.Acknowledged.{fills_me, rests_me, sets_me}
 use Rattle.smp_stop_steps.proofs.{State.Gates.gate_free, State.Gates.gate_mine, Basics.Counts.sum_zero, State.Raises.in_machine, State.Works.called_is}
@@ -16,16 +17,17 @@ use Rattle.smp_stop_steps.specs.Names.{DISABLE_IRQ}
 completed_is : (x : Standing) → is_of x ≡ true → unfinished x ≡ 0 → HasCompleted x
 completed_is x of z = search arith
 
-module _ (u : Setup) (p : StopState) (at : Word → ℕ) (seat : ℕ → Seat) (source : ℕ → Source) (h : StopShows u p at seat source) (c : StopControlValue) (me : ℕ)
-    (s : Sits u me (at Gate) c (seat me) (source me)) where
+module _ (u : Setup) (p : StopState) (at : Word → ℕ) (seat : ℕ → StopRole) (source : ℕ → Source) (h : StopShows u p at seat source) (c : StopControlValue)
+    (me : ℕ)
+    (s : ControlFits u me (at Gate) c (seat me) (source me)) where
   abbrev May : Access → Type 0
   May access = let seen = seen_of me access (at (word_of access)) None in MaySee p me seen.act seen.word seen.found seen.put
 
   abbrev slot : ℕ → Field → ℕ
   slot j g = at (Slot j g)
 
-  stands : (x : Seat) → seat me ≡ x → Stands p.now me x
-  stands x e = subst (Stands p.now me) e (h.present.stands me)
+  stands : (x : StopRole) → seat me ≡ x → RoleStands p.now me x
+  stands x e = subst (RoleStands p.now me) e (h.present.stands me)
 
   source_is : (y : Source) → source me ≡ y → SourceShows u p.gate (p.now.stop me) (slot me) me y
   source_is y e = subst (SourceShows u p.gate (p.now.stop me) (slot me) me) e (h.sources me)

@@ -1,11 +1,11 @@
 -- Stops that words show keep all laws.
 use Rattle.std.proofs.Common.{ℕ}
-use Rattle.smp_stop_steps.specs.{Seat, StopShows, Source, Setup, StopState, KeepsStopLaws, Word, Slot}
+use Rattle.smp_stop_steps.specs.{StopRole, StopShows, Source, Setup, StopState, KeepsStopLaws, Word, Slot}
 use Rattle.smp_stop_steps.proofs.Promises.Functions.{last_stores, has_functions, runs_alone}
 use Rattle.smp_stop_steps.proofs.State.Patched.{lawful_when_on, off_while_patched}
 use Rattle.smp_stop_steps.proofs.{Promises.Interrupts.interrupt_law, Promises.Patchers.is_lawful, Promises.Patchers.has_patcher, State.Raises.phase_law}
 
-module _ (u : Setup) (p : StopState) (at : Word → ℕ) (seat : ℕ → Seat) (source : ℕ → Source) (h : StopShows u p at seat source) where
+module _ (u : Setup) (p : StopState) (at : Word → ℕ) (seat : ℕ → StopRole) (source : ℕ → Source) (h : StopShows u p at seat source) where
   pub keeps_laws : KeepsStopLaws u p at
   keeps_laws = record {
     phases = λ s op busy. phase_law u.cpus (p.now.stop s) (λ f. at (Slot s f)) (h.present.slots s) op busy;

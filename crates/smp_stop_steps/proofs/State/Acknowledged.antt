@@ -3,7 +3,8 @@ use Rattle.std.proofs.Common.{◌≡◌, ◌≢◌, ℕ, ◌+◌, ◌-◌, ◌<�
 use Rattle.std.specs.List.{AllByRecursion}
 use Rattle.smp_words.proofs.Puts.{at_test, put_same, put_other}
 use Rattle.smp_words.specs.declared.field.Field.TheVariants.{Ack, State}
-use Rattle.smp_stop_steps.specs.{put, put_word, weight, Agrees, Reading, labels_in, IsNot, PresentShows, Fills, In, Rests, Seat, Sets, Stands, Duty, irq_of}
+use Rattle.smp_stop_steps.specs.{put, put_word, weight, Agrees, Reading, labels_in, IsNot, PresentShows, Fills, In, Rests, StopRole}
+use Rattle.smp_stop_steps.specs.{Sets, RoleStands, Duty, irq_of}
 use Rattle.smp_stop_steps.specs.{duty_of, AckShows, Setup, Inside, Nobody, Raises, Raising, Refills, Standing, acknowledged, is_inside, raised, refilled}
 use Rattle.smp_stop_steps.specs.{stands, Field, Work, Slot, Word, State.Present, Stop.Stop}
 use Rattle.smp_stop_steps.proofs.State.Moves.{IsNoPatch, SaveMe, moved, moves, slot_put, slot_same}
@@ -29,7 +30,7 @@ sets_me me r e = search (at_test, arith)
 pub rests_me : (me : ℕ) (r : Raising) → duty_of r me ≡ Rests → IsNot me r
 rests_me me r e = search (at_test, arith)
 
-module _ (u : Setup) (p : Present) (at : Word → ℕ) (seat : ℕ → Seat) (h : PresentShows u p at seat)
+module _ (u : Setup) (p : Present) (at : Word → ℕ) (seat : ℕ → StopRole) (h : PresentShows u p at seat)
     (s me : ℕ) (irq' : ℕ → Bool) (readings' : ℕ → List Reading) (save : SaveMe p me p.inside irq' readings') where
   turn_here : (stop' : Stop) (t : Duty) → duty_of stop'.raising me ≡ t → duty_of (put p.stop s stop' s).raising me ≡ t
   turn_here stop' t e = at_test s s (λ b. duty_of (cond b stop' (p.stop s)).raising me ≡ t) (λ _. e) (λ ne. absurd (ne refl))
@@ -54,7 +55,7 @@ module _ (u : Setup) (p : Present) (at : Word → ℕ) (seat : ℕ → Seat) (h 
   step_acknowledges job a is off read = let found = at (Slot s Ack) in
       let stop' = acknowledged (p.stop s) me (a + 1) found in
       let w : Field → ℕ = λ f. at (Slot s f) in
-      let st : Stands p me (In s job a (a + 1) Rests) = subst (Stands p me) is (h.stands me) in
+      let st : RoleStands p me (In s job a (a + 1) Rests) = subst (RoleStands p me) is (h.stands me) in
       let o = (h.slots s).shows (is_open_inside u.cpus (p.stop s) w (h.slots s) me (Inside a (a + 1)) st.1 refl) in
       let no : (p.stop s).raising ≡ Nobody = search (nobody_raises, o.ack, arith) in
       moves u p at (put_word at (Slot s Ack) (found - 1)) seat s me stop' p.inside irq' readings' (In s job (a + 1) (a + 1) (cond (found == 1) Fills Rests)) h
@@ -69,7 +70,7 @@ module _ (u : Setup) (p : Present) (at : Word → ℕ) (seat : ℕ → Seat) (h 
       irq' me ≡ irq_of (In s job a l Sets) → (u.online me ≡ true → irq_of (In s job a l Sets) ≡ true → AllByRecursion (Agrees (labels_in at)) (readings' me)) →
       PresentShows u (moved p s (refilled (p.stop s) me) p.inside irq' readings') (put_word at (Slot s Ack) (weight u.cpus (p.stop s).standing))
       (put seat me (In s job a l Sets))
-  step_refills job a l is phase off read = let st : Stands p me (In s job a l Fills) = subst (Stands p me) is (h.stands me) in
+  step_refills job a l is phase off read = let st : RoleStands p me (In s job a l Fills) = subst (RoleStands p me) is (h.stands me) in
       let open_ = is_open_inside u.cpus (p.stop s) (λ f. at (Slot s f)) (h.slots s) me (Inside a l) st.1 refl in
       let mine = fills_me me (p.stop s).raising st.2 in
       moves u p at (put_word at (Slot s Ack) (weight u.cpus (p.stop s).standing)) seat s me (refilled (p.stop s) me) p.inside irq' readings'
@@ -88,7 +89,7 @@ module _ (u : Setup) (p : Present) (at : Word → ℕ) (seat : ℕ → Seat) (h 
       (put seat me (In s job a l Rests))
   step_raises job a l is phase off read = let w : Field → ℕ = λ f. at (Slot s f) in
       let n = (p.stop s).phase + 1 in
-      let st : Stands p me (In s job a l Sets) = subst (Stands p me) is (h.stands me) in
+      let st : RoleStands p me (In s job a l Sets) = subst (RoleStands p me) is (h.stands me) in
       let open_ = is_open_inside u.cpus (p.stop s) w (h.slots s) me (Inside a l) st.1 refl in
       let mine = sets_me me (p.stop s).raising st.2 in
       moves u p at (put_word at (Slot s State) n) seat s me (raised (p.stop s) n) p.inside irq' readings' (In s job a l Rests) h
@@ -107,7 +108,7 @@ module _ (u : Setup) (p : Present) (at : Word → ℕ) (seat : ℕ → Seat) (h 
   step_looks job a l is more off read = let w : Field → ℕ = λ f. at (Slot s f) in
       let to = Inside a (at (Slot s State)) in
       let stop' = stands (p.stop s) me to in
-      let st : Stands p me (In s job a l Rests) = subst (Stands p me) is (h.stands me) in
+      let st : RoleStands p me (In s job a l Rests) = subst (RoleStands p me) is (h.stands me) in
       moves u p at at seat s me stop' p.inside irq' readings' (In s job a (at (Slot s State)) Rests) h
       (slot_same u.cpus p.stop at s stop' h.slots (looks_slot u.cpus (p.stop s) w (h.slots s) me a l st.1 more (rests_me me (p.stop s).raising st.2))) refl
       (search (put_other, arith))

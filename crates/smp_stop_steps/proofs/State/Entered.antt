@@ -4,8 +4,9 @@ use Rattle.smp_words.proofs.Puts.{at_test, put_same, put_other}
 use Rattle.smp_words.specs.Put.{same_field}
 use Rattle.smp_words.specs.declared.field.Field.TheVariants.{Done, Result, Roll, Todo}
 use Rattle.smp_labels.specs.Plans.{stored}
-use Rattle.smp_stop_steps.specs.{put, put_word, count_unfinished, unfinished, IsAnswer, IsNot, IsThrough, PresentShows, Closes, Free, Gives, In, Rests, Seat}
-use Rattle.smp_stop_steps.specs.{Stands, irq_of, duty_of, IsStored, OpenShows, SlotShows, put_field, IsOfKind, IsPatchWork, IsWork, Setup, Answering}
+use Rattle.smp_stop_steps.specs.{put, put_word, count_unfinished, unfinished, IsAnswer, IsNot, IsThrough, PresentShows, Closes}
+use Rattle.smp_stop_steps.specs.{Free, Gives, In, Rests, StopRole}
+use Rattle.smp_stop_steps.specs.{RoleStands, irq_of, duty_of, IsStored, OpenShows, SlotShows, put_field, IsOfKind, IsPatchWork, IsWork, Setup, Answering}
 use Rattle.smp_stop_steps.specs.{Called, Completed, Inside, Last, Outside, Standing, closed, completed, ended, is_inside, is_of, opened}
 use Rattle.smp_stop_steps.specs.{stands, Field, Patch, Kind as KindOf, Work, Slot, Word, has, State.Present, Stop.Stop}
 use Rattle.smp_stop_steps.proofs.State.Ends.{all_outside, answer_of_it, collects_slot, completes_slot, finishes_slot, opens_slot}
@@ -14,7 +15,7 @@ use Rattle.smp_stop_steps.proofs.State.Works.{answers_slot, enters_slot, not_rai
 use Rattle.smp_stop_steps.proofs.{Basics.Counts.sum_zero, State.Phases.is_open_inside, State.Raises.in_machine}
 use Rattle.smp_stop_steps.specs.Names.{EXIT}
 
-module _ (u : Setup) (p : Present) (at : Word → ℕ) (seat : ℕ → Seat) (h : PresentShows u p at seat) (s : ℕ) where
+module _ (u : Setup) (p : Present) (at : Word → ℕ) (seat : ℕ → StopRole) (h : PresentShows u p at seat) (s : ℕ) where
   abbrev w : Field → ℕ
   w f = at (Slot s f)
 
@@ -95,7 +96,7 @@ module _ (u : Setup) (p : Present) (at : Word → ℕ) (seat : ℕ → Seat) (h 
         (slot_put u.cpus p.stop at s Roll n stop' h.slots (enters_slot u.cpus (p.stop s) w (h.slots s) me n found clears others)) refl
         (search (put_other, arith))
         (save (Some s)) (search (put_same, at_test, quiet, arith))
-        (at_home stop' (Some s) (λ j i. absurd (let bad : None ≡ Some j = sym (subst (Stands p me) is (h.stands me)) ∙ h.homes j me i in cc)) (λ _. refl))
+        (at_home stop' (Some s) (λ j i. absurd (let bad : None ≡ Some j = sym (subst (RoleStands p me) is (h.stands me)) ∙ h.homes j me i in cc)) (λ _. refl))
         (h.irq me ∙ ap irq_of is)
         (λ on i. h.read me on (h.irq me ∙ ap irq_of is))
         (subst IsNoPatch (sym is) tt)
@@ -130,14 +131,14 @@ module _ (u : Setup) (p : Present) (at : Word → ℕ) (seat : ℕ → Seat) (h 
         irq_after b = search arith
 
         now : (b : Bool) → (p.stop s).is_open ≡ true →
-            Stands (moved p s (record (p.stop s) { standing = put (p.stop s).standing me (Completed a v); ending = cond b (Last me) (p.stop s).ending })
+            RoleStands (moved p s (record (p.stop s) { standing = put (p.stop s).standing me (Completed a v); ending = cond b (Last me) (p.stop s).ending })
             (put p.inside me None) p.irq p.readings) me (cond b (Closes s) Free)
         now b op = search (put_same, at_test, arith)
 
     -- store of done by the last
     pub step_finishes : seat me ≡ Closes s →
         PresentShows u (moved p s (ended (p.stop s)) p.inside p.irq p.readings) (put_word at (Slot s Done) 1) (put seat me Free)
-    step_finishes is = let st : Stands p me (Closes s) = subst (Stands p me) is (h.stands me) in
+    step_finishes is = let st : RoleStands p me (Closes s) = subst (RoleStands p me) is (h.stands me) in
         moves u p at (put_word at (Slot s Done) 1) seat s me (ended (p.stop s)) p.inside p.irq p.readings Free h
         (slot_put u.cpus p.stop at s Done 1 (ended (p.stop s)) h.slots (finishes_slot u.cpus (p.stop s) w (h.slots s) me st.2)) refl
         (search arith)
@@ -155,7 +156,7 @@ module _ (u : Setup) (p : Present) (at : Word → ℕ) (seat : ℕ → Seat) (h 
         PresentShows u (moved p s (stands (p.stop s) me (Answering a v)) p.inside p.irq p.readings) (put_word at (Slot s Result) v)
         (put seat me (Gives s job a v))
     step_answers job a l v is some through quiet on = let stop' = stands (p.stop s) me (Answering a v) in
-        let st : Stands p me (In s job a l Rests) = subst (Stands p me) is (h.stands me) in
+        let st : RoleStands p me (In s job a l Rests) = subst (RoleStands p me) is (h.stands me) in
         moves u p at (put_word at (Slot s Result) v) seat s me stop' p.inside p.irq p.readings (Gives s job a v) h
         (slot_put u.cpus p.stop at s Result v stop' h.slots (answers_slot u.cpus (p.stop s) w (h.slots s) me a l v st.1 some (through, quiet))) refl
         (search (put_other, arith))

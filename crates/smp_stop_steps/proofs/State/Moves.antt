@@ -4,7 +4,8 @@ use Rattle.std.specs.List.{AllByRecursion}
 use Rattle.smp_words.proofs.Puts.{at_test, put_all, put_other}
 use Rattle.smp_words.specs.Put.{same_field}
 use Rattle.smp_labels.specs.Plans.{AreEntriesOf}
-use Rattle.smp_stop_steps.specs.{put, put_word, Agrees, LabelsShow, Patching, Reading, labels_in, PresentShows, RunnerShows, Alters, Seat, Stands, Duty, irq_of}
+use Rattle.smp_stop_steps.specs.{put, put_word, Agrees, LabelsShow, Patching, Reading, labels_in, PresentShows, RunnerShows, Alters}
+use Rattle.smp_stop_steps.specs.{StopRole, RoleStands, Duty, irq_of}
 use Rattle.smp_stop_steps.specs.{duty_of, SlotShows, put_field, IsPatchWork, Setup, Last, Standing, is_inside, leaves, Field, Patch, Work, Slot, Word}
 use Rattle.smp_stop_steps.specs.{State.Present, Stop.Stop}
 
@@ -55,7 +56,7 @@ module _ (p : Present) (s me : ℕ) (stop' : Stop) (inside' : ℕ → Option ℕ
     work_kept : (j : ℕ) (to : Standing) (w : Work) → is_inside to ≡ true → (p.stop j).standing c ≡ to → (p.stop j).work ≡ w → (put p.stop s stop' j).work ≡ w
     work_kept j to w of is = search (put_all, leaves.work, arith)
 
-    pub stands_kept : (seat : Seat) → Stands p c seat → Stands (moved p s stop' inside' irq' readings') c seat
+    pub stands_kept : (seat : StopRole) → RoleStands p c seat → RoleStands (moved p s stop' inside' irq' readings') c seat
     stands_kept seat h = search (standing_kept, turn_kept, work_kept, put_all, leaves.ending, arith)
 
     pub home_kept : ((j : ℕ) → is_inside ((p.stop j).standing c) ≡ true → p.inside c ≡ Some j) →
@@ -63,29 +64,29 @@ module _ (p : Present) (s me : ℕ) (stop' : Stop) (inside' : ℕ → Option ℕ
     home_kept homes j of = search (put_all, leaves.back, arith)
 
 -- the CPU is not inside the function of a patch
-abbrev pub IsNoPatch : Seat → Type 0
+abbrev pub IsNoPatch : StopRole → Type 0
 IsNoPatch (Alters s w count made rest) = ⊥
 IsNoPatch _ = Unit {0}
 
 -- the one that patches is another
-pub runner_kept : (first : ℕ) (patching : Patching) (seat : ℕ → Seat) (me : ℕ) (next : Seat) → IsNoPatch (seat me) → RunnerShows first patching seat →
+pub runner_kept : (first : ℕ) (patching : Patching) (seat : ℕ → StopRole) (me : ℕ) (next : StopRole) → IsNoPatch (seat me) → RunnerShows first patching seat →
     RunnerShows first patching (put seat me next)
 runner_kept first patching seat me next mine h = search (put_other, arith)
 
 -- a step of one CPU on one slot; the words of the labels stay
-pub moves : (u : Setup) (p : Present) (at at' : Word → ℕ) (seat : ℕ → Seat) (s me : ℕ) (stop' : Stop)
-    (inside' : ℕ → Option ℕ) (irq' : ℕ → Bool) (readings' : ℕ → List Reading) (next : Seat) →
+pub moves : (u : Setup) (p : Present) (at at' : Word → ℕ) (seat : ℕ → StopRole) (s me : ℕ) (stop' : Stop)
+    (inside' : ℕ → Option ℕ) (irq' : ℕ → Bool) (readings' : ℕ → List Reading) (next : StopRole) →
     PresentShows u p at seat →
     ((j : ℕ) → SlotShows u.cpus (put p.stop s stop' j) (λ f. at' (Slot j f))) → labels_in at' ≡ labels_in at →
     ((c : ℕ) → c ≢ me → LeavesTo c (p.stop s) stop') → SaveMe p me inside' irq' readings' →
-    Stands (moved p s stop' inside' irq' readings') me next → ((j : ℕ) → is_inside ((put p.stop s stop' j).standing me) ≡ true → inside' me ≡ Some j) →
+    RoleStands (moved p s stop' inside' irq' readings') me next → ((j : ℕ) → is_inside ((put p.stop s stop' j).standing me) ≡ true → inside' me ≡ Some j) →
     irq' me ≡ irq_of next → (u.online me ≡ true → irq_of next ≡ true → AllByRecursion (Agrees (labels_in at)) (readings' me)) →
     IsNoPatch (seat me) →
     (stop'.is_open ≡ true → stop'.work.kind ≡ Patch → IsPatchWork u.online u.first u.keys stop'.work) →
     PresentShows u (moved p s stop' inside' irq' readings') at' (put seat me next)
 moves u p at at' seat s me stop' inside' irq' readings' next h slots same leaves save stands_ here off read mine works = record {
   slots = slots;
-  stands = put_all (λ c x. Stands (moved p s stop' inside' irq' readings') c x) seat me next stands_
+  stands = put_all (λ c x. RoleStands (moved p s stop' inside' irq' readings') c x) seat me next stands_
       (λ c ne. stands_kept p s me stop' inside' irq' readings' c (leaves c ne) (save.inside c ne) (seat c) (h.stands c));
   homes = λ j c. at_test c me (λ _. is_inside ((put p.stop s stop' j).standing c) ≡ true → inside' c ≡ Some j)
       (λ e of. ap inside' e ∙ here j (subst (λ c. is_inside ((put p.stop s stop' j).standing c) ≡ true) e of))
@@ -99,7 +100,7 @@ moves u p at at' seat s me stop' inside' irq' readings' next h slots same leaves
 }
 
 -- the source opens or closes its slot: no CPU moves
-pub source_moves : (u : Setup) (p : Present) (at at' : Word → ℕ) (seat : ℕ → Seat) (s : ℕ) (stop' : Stop) →
+pub source_moves : (u : Setup) (p : Present) (at at' : Word → ℕ) (seat : ℕ → StopRole) (s : ℕ) (stop' : Stop) →
     PresentShows u p at seat →
     ((j : ℕ) → SlotShows u.cpus (put p.stop s stop' j) (λ f. at' (Slot j f))) → labels_in at' ≡ labels_in at →
     ((c : ℕ) → LeavesTo c (p.stop s) stop') →

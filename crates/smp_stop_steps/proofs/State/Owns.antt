@@ -1,11 +1,12 @@
 -- A source's own key, until it has left its Patch stop.
 use Rattle.std.proofs.Common.{◌≡◌, ℕ, ◌≤◌, true, ◌&&◌, subst, arith, List}
-use Rattle.smp_stop_steps.specs.{put_word, Change, StandsSet, OwnsKey, PresentShows, Alters, Seat, Setup, Inside, is_inside, is_of, Patch, Work, Key, Word, has}
+use Rattle.smp_stop_steps.specs.{put_word, Change, StandsSet, OwnsKey, PresentShows, Alters, StopRole, Setup, Inside, is_inside}
+use Rattle.smp_stop_steps.specs.{is_of, Patch, Work, Key, Word, has}
 use Rattle.smp_stop_steps.specs.State.{Present}
 use Rattle.smp_stop_steps.proofs.{State.Ends.function_law, State.Phases.is_open_inside, State.Raises.level_of}
 use Rattle.smp_stop_steps.specs.Names.{DISABLE_IRQ, RUN, EXIT}
 
-module _ (u : Setup) (p : Present) (at : Word → ℕ) (seat : ℕ → Seat) (h : PresentShows u p at seat) where
+module _ (u : Setup) (p : Present) (at : Word → ℕ) (seat : ℕ → StopRole) (h : PresentShows u p at seat) where
   pub mask_is : (s c : ℕ) → (p.stop s).is_open ≡ true → is_of ((p.stop s).standing c) ≡ has (p.stop s).work.mask c
   mask_is s c open_ = subst (λ b. is_of ((p.stop s).standing c) ≡ (b && has (p.stop s).work.mask c)) open_ ((h.slots s).members c)
 

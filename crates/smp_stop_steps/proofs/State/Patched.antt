@@ -8,7 +8,7 @@ use Rattle.smp_labels.specs.{declared.keys.Change.Change as KeyChange, Keys.coun
 use Rattle.smp_words.proofs.Puts.{put_all, at_test, put_same}
 use Rattle.smp_labels.proofs.Stores.{applied-append}
 use Rattle.smp_stop_steps.specs.{put, Agrees, Change, LabelsShow, Patches, Patching, Reading, Whole, labels_in, StandsSet, count_set, state_left, PresentShows}
-use Rattle.smp_stop_steps.specs.{RunnerShows, Alters, In, Rests, Seat, Stands, irq_of, Keeps, SlotShows, Setup, Inside, Standing, acked, is_of, Patch}
+use Rattle.smp_stop_steps.specs.{RunnerShows, Alters, In, Rests, StopRole, RoleStands, irq_of, Keeps, SlotShows, Setup, Inside, Standing, acked, is_of, Patch}
 use Rattle.smp_stop_steps.specs.{Work, Key, Slot, Word, is_on, change_of, has, State.Present}
 use Rattle.smp_stop_steps.proofs.{State.Ends.function_law, State.Phases.is_open_inside}
 use Rattle.smp_stop_steps.specs.Names.{DISABLE_IRQ, RUN, EXIT}
@@ -24,11 +24,12 @@ off_at : (l a : ℕ) → DISABLE_IRQ ≤ l → a ≢ EXIT → IsOff l a
 off_at l a m ne = ap (λ b. b || a == EXIT) (le-ltb l DISABLE_IRQ m) ∙ ne_eqb a EXIT ne
 
 -- a CPU inside that has acknowledged 2 and not 4 has its interrupts off
-pub off_inside : (p : Present) (c s a l : ℕ) (seat : Seat) → Stands p c seat → p.inside c ≡ Some s → (p.stop s).standing c ≡ Inside a l → DISABLE_IRQ ≤ l → a ≢ EXIT →
+pub off_inside : (p : Present) (c s a l : ℕ) (seat : StopRole) → RoleStands p c seat → p.inside c ≡ Some s → (p.stop s).standing c ≡ Inside a l
+    → DISABLE_IRQ ≤ l → a ≢ EXIT →
     irq_of seat ≡ false
 off_inside p c s a l seat st in_ is m ne = search (off_at, le-ltb, arith)
 
-module _ (u : Setup) (p : Present) (at : Word → ℕ) (seat : ℕ → Seat) (h : PresentShows u p at seat) (s me : ℕ) where
+module _ (u : Setup) (p : Present) (at : Word → ℕ) (seat : ℕ → StopRole) (h : PresentShows u p at seat) (s me : ℕ) where
   -- while a function runs, its whole mask has interrupts off
   pub all_off : (p.stop s).standing me ≡ Inside DISABLE_IRQ RUN → (c : ℕ) → has (p.stop s).work.mask c ≡ true → p.irq c ≡ false
   all_off is c of = search (function_law, go, arith)
@@ -43,7 +44,7 @@ module _ (u : Setup) (p : Present) (at : Word → ℕ) (seat : ℕ → Seat) (h 
 
   -- where a change of what is patched leaves the other CPUs
   alters_other : (x : Patching) (c : ℕ) → c ≢ me → ((w : Work) (count : ℕ) (made rest : List Change) → p.patching ≡ Patches c w count made rest → ⊥) →
-      (y : Seat) → Stands p c y → Stands (patches x) c y
+      (y : StopRole) → RoleStands p c y → RoleStands (patches x) c y
   alters_other x c ne none_ y st = search arith
 
   -- the first online CPU, inside a patch at phase 3, begins its stores: these lead to the lawful table with the key as it shall be
@@ -77,7 +78,7 @@ module _ (u : Setup) (p : Present) (at : Word → ℕ) (seat : ℕ → Seat) (h 
       AreEntriesOf u.entries (labels_in at') →
       PresentShows u (patches (Patches me job count (made ++ change ∷ []) rest)) at' (put seat me (Alters s job count (made ++ change ∷ []) rest))
   patch_stores job count made rest change at' is table slots entries =
-      let st : Stands p me (Alters s job count made (change ∷ rest)) = subst (Stands p me) is (h.stands me) in
+      let st : RoleStands p me (Alters s job count made (change ∷ rest)) = subst (RoleStands p me) is (h.stands me) in
       let open_ = is_open_inside u.cpus (p.stop s) (λ f. at (Slot s f)) (h.slots s) me (Inside DISABLE_IRQ RUN) st.1 refl in
       let next = Alters s job count (made ++ change ∷ []) rest in
       record {
@@ -98,7 +99,7 @@ module _ (u : Setup) (p : Present) (at : Word → ℕ) (seat : ℕ → Seat) (h 
   -- all is stored: the table is lawful again, before the acknowledgement
   pub patch_ends : (job : Work) (count : ℕ) (made : List Change) → seat me ≡ Alters s job count made [] →
       PresentShows u (patches Whole) at (put seat me (In s job DISABLE_IRQ RUN Rests)) × StandsSet job (at (Key job.func))
-  patch_ends job count made is = let st : Stands p me (Alters s job count made []) = subst (Stands p me) is (h.stands me) in
+  patch_ends job count made is = let st : RoleStands p me (Alters s job count made []) = subst (RoleStands p me) is (h.stands me) in
       let l : LabelsShow (Patches me job count made []) (labels_in at) = subst (λ x. LabelsShow x (labels_in at)) st.5 h.labels in
       let next = In s job DISABLE_IRQ RUN Rests in (
         record {
@@ -115,7 +116,7 @@ module _ (u : Setup) (p : Present) (at : Word → ℕ) (seat : ℕ → Seat) (h 
         subst (StandsSet job) (sym l.4.set) (stands_left (change_of job.arg) count),
       )
 
-module _ (u : Setup) (p : Present) (at : Word → ℕ) (seat : ℕ → Seat) (h : PresentShows u p at seat) (me : ℕ) where
+module _ (u : Setup) (p : Present) (at : Word → ℕ) (seat : ℕ → StopRole) (h : PresentShows u p at seat) (me : ℕ) where
   -- while somebody patches, every online CPU has its interrupts off
   pub off_while_patched : u.online me ≡ true → (c : ℕ) (w : Work) (count : ℕ) (made rest : List Change) → p.patching ≡ Patches c w count made rest →
       p.irq me ≡ false

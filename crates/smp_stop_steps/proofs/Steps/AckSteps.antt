@@ -3,9 +3,11 @@ use Rattle.std.proofs.Common.{◌≡◌, ℕ, ◌+◌, ◌-◌, ◌≤◌, Bool,
 use Rattle.std.proofs.Common.{None, []}
 use Rattle.smp_words.proofs.Puts.{at_test}
 use Rattle.smp_words.specs.declared.field.Field.TheVariants.{Ack}
-use Rattle.smp_stop_steps.specs.{put, put_word, mask_weight, patch_answer, Alters, Fills, In, Rests, Seat, Sets, StopShows, HasRun, RunsIf, IsLoaded, OwnsIf}
+use Rattle.smp_stop_steps.specs.{put, put_word, mask_weight, patch_answer, Alters, Fills, In, Rests, StopRole, Sets, StopShows}
+use Rattle.smp_stop_steps.specs.{HasRunIf, RunsIf, IsLoaded, OwnsIf}
 use Rattle.smp_stop_steps.specs.{Source, StopControlValue, stop_goes, turn_ends, visit_acked, Setup, StopState, Calling, StopStep, at_then, state_after, told}
-use Rattle.smp_stop_steps.specs.{plan_at, Advance, StopStage, Visit, Work, Gate, Slot, Word, has, CarriesIn, CarriesAt, IsAcking, HasCalled, Sits.Sits, Act}
+use Rattle.smp_stop_steps.specs.{plan_at, Advance, StopStage, Visit, Work, Gate, Slot, Word, has, CarriesIn, CarriesAt, IsAcking}
+use Rattle.smp_stop_steps.specs.{HasCalled, Sits.ControlFits, Act}
 use Rattle.smp_stop_steps.proofs.Steps.Facts.{ack_bounds, ack_bounds_patched, patcher_active}
 use Rattle.smp_stop_steps.proofs.Steps.Rounds.{ack_stored, ack_subtracted, ack_subtracted_patched, state_stored}
 use Rattle.smp_stop_steps.proofs.{Basics.Bools.or_false, Basics.Bools.or_true, Steps.Same.moved_seat, Steps.RoundSteps.ack_small, Steps.StageSteps.less_one}
@@ -13,12 +15,14 @@ use Rattle.smp_stop_steps.proofs.{Steps.Stages.in_round, Steps.Stages.round_sour
 use Rattle.smp_stop_steps.specs.round
 use Rattle.smp_stop_steps.specs.Names.{DISABLE_IRQ, RUN}
 
-module _ (u : Setup) (p : StopState) (at : Word → ℕ) (seat : ℕ → Seat) (source : ℕ → Source) (h : StopShows u p at seat source) (c : StopControlValue) (me : ℕ)
-    (s : Sits u me (at Gate) c (seat me) (source me)) (v : Visit) where
+module _ (u : Setup) (p : StopState) (at : Word → ℕ) (seat : ℕ → StopRole) (source : ℕ → Source) (h : StopShows u p at seat source) (c : StopControlValue)
+    (me : ℕ)
+    (s : ControlFits u me (at Gate) c (seat me) (source me)) (v : Visit) where
   -- where the CPU stands once the phase is acknowledged
   acked_sits : (answer : ℕ) (ran : Bool) (work : Work) → IsLoaded v work → OwnsIf c.is_open (source me) → c.interrupts ≡ nat_lt (v.acked + 1) 2 →
-      HasRun me (visit_acked v answer ran) ran → (b : Bool) →
-      Sits u me (at Gate) (cond b (stop_goes (record c { visit = Some (visit_acked v answer ran) }) (Advance (visit_acked v answer ran) (round.Refill ran)))
+      HasRunIf me (visit_acked v answer ran) ran → (b : Bool) →
+      ControlFits u me (at Gate)
+      (cond b (stop_goes (record c { visit = Some (visit_acked v answer ran) }) (Advance (visit_acked v answer ran) (round.Refill ran)))
       (turn_ends (record c { visit = Some (visit_acked v answer ran) }) (v.acked + 1) ran)).control
       (In v.slot work (v.acked + 1) (v.acked + 1) (cond b Fills Rests)) (source me)
   acked_sits answer ran work loaded y irq run b = search (at_test, nat_lt, or_true, or_false, arith)
@@ -32,11 +36,11 @@ module _ (u : Setup) (p : StopState) (at : Word → ℕ) (seat : ℕ → Seat) (
       has_called : (work : Work) → IsLoaded v work → (b : Bool) → RunsIf me v b → (f : Calling) → IsAcking v answer b f → v.acked ≡ DISABLE_IRQ → HasCalled me work f
       has_called work loaded b runs f is two = search arith
 
-      has_run : (b : Bool) → RunsIf me v b → HasRun me (visit_acked v answer ran) b
+      has_run : (b : Bool) → RunsIf me v b → HasRunIf me (visit_acked v answer ran) b
       has_run b runs = search arith
 
       patch_run : v.acked ≡ DISABLE_IRQ → ran ≡ true → (work : Work) → IsLoaded v work → (count : ℕ) →
-          seat me ≡ Alters v.slot work count (plan_at u work count) [] → HasRun me (visit_acked v answer ran) ran
+          seat me ≡ Alters v.slot work count (plan_at u work count) [] → HasRunIf me (visit_acked v answer ran) ran
       patch_run two runs work loaded count is = record {
         at_run = λ _. ap (λ n. n + 1) two;
         active = λ _. ap (λ m. has m me) loaded.active ∙ (patcher_active u p at seat source h v.slot me work count (plan_at u work count) [] is ∙ sym runs);

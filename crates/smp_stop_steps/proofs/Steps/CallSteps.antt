@@ -6,11 +6,13 @@ use Rattle.smp_words.proofs.Puts.{put_same, put_other}
 use Rattle.smp_stop_steps.specs.{count_after, patch_answer, IsThroughAll, visit_acked, control_then, state_after, acknowledges, carried_call, completes_with}
 use Rattle.smp_stop_steps.specs.{is_on, IsCalling, answer_in, HasCalled, CarriesAt, called_more, stored_open, stored_shut, EnterActive, LoadResult, ExchangeKey}
 use Rattle.smp_stop_steps.specs.{word_of, seen_of, IsQuiet, Calling, CallStep, Standing, key_told, may_call, TakeGate, OpenGate, Complete, LoadDone, NudgeKey}
-use Rattle.smp_stop_steps.specs.{put, One, Work, Word, Gate, Slot, Key, Seat, In, Duty, Setup, Idle, Calls, tells, told, Begin, Enter, Close, Visit, Place, Act}
+use Rattle.smp_stop_steps.specs.{put, One, Work, Word, Gate, Slot, Key, StopRole, In, Duty, Setup, Idle, Calls, tells, told, Begin}
+use Rattle.smp_stop_steps.specs.{Enter, Close, Visit, Place, Act}
 use Rattle.smp_stop_steps.specs.{Field, CarriesIn, StopShows, answer_at, turn_note, stop_goes, turn_ends, StopState, note_then, calls_now, completes}
 use Rattle.smp_stop_steps.specs.{StopControlValue, declared.stage.StopStage.TheVariants.ReadKey, declared.stage.StopStage.TheVariants.ReadSite}
-use Rattle.smp_stop_steps.specs.{Patch, Change, Gives, Alters, Rests, Stands, RunsIf, Source, key_on, told_of, is_run, Inside, carried, plan_at, Advance}
-use Rattle.smp_stop_steps.specs.{IsAcking, IsEnding, IsLoaded, nudge_of, nudge_on, store_of, StopCall, gate_told, StopStage, EnterKind, EnterMask, Sits.Sits}
+use Rattle.smp_stop_steps.specs.{Patch, Change, Gives, Alters, Rests, RoleStands, RunsIf, Source, key_on, told_of, is_run, Inside, carried, plan_at, Advance}
+use Rattle.smp_stop_steps.specs.{IsAcking, IsEnding, IsLoaded, nudge_of, nudge_on, store_of, StopCall, gate_told, StopStage}
+use Rattle.smp_stop_steps.specs.{EnterKind, EnterMask, Sits.ControlFits}
 use Rattle.smp_stop_steps.proofs.{Steps.Completions.one_phase, State.Phases.is_open_inside, State.Phases.keeps_inside, Steps.Callings.carried_alone}
 use Rattle.smp_stop_steps.proofs.{Steps.Callings.idle_alters, Steps.Callings.idle_patch, Steps.Stages.at_seat}
 use Rattle.smp_stop_steps.specs.note
@@ -59,8 +61,9 @@ quiet_one c s w a l t v f q none k = search (q, none, arith)
 quiet_none : (f : Calling) → IsQuiet None f → f ≡ Idle
 quiet_none f k = search arith
 
-module _ (u : Setup) (p : StopState) (at : Word → ℕ) (seat : ℕ → Seat) (source : ℕ → Source) (h : StopShows u p at seat source) (c : StopControlValue) (me : ℕ)
-    (s : Sits u me (at Gate) c (seat me) (source me)) (k : CarriesIn c (p.calling me)) where
+module _ (u : Setup) (p : StopState) (at : Word → ℕ) (seat : ℕ → StopRole) (source : ℕ → Source) (h : StopShows u p at seat source) (c : StopControlValue)
+    (me : ℕ)
+    (s : ControlFits u me (at Gate) c (seat me) (source me)) (k : CarriesIn c (p.calling me)) where
   abbrev f : Calling
   f = p.calling me
 
@@ -70,7 +73,7 @@ module _ (u : Setup) (p : StopState) (at : Word → ℕ) (seat : ℕ → Seat) (
   at_stage : (stage : StopStage) → c.stage ≡ Some stage → CarriesAt c.visit (Some stage) f
   at_stage stage e = subst (λ (x : Option StopStage). CarriesAt c.visit x f) e k
 
-  calling_at : (x : Seat) → seat me ≡ x → IsCalling me x f
+  calling_at : (x : StopRole) → seat me ≡ x → IsCalling me x f
   calling_at x e = subst (λ y. IsCalling me y f) e (h.callings me)
 
   -- a step that calls nothing
@@ -211,7 +214,7 @@ module _ (u : Setup) (p : StopState) (at : Word → ℕ) (seat : ℕ → Seat) (
         either : (work : Work) → (((v.answer ≡ 0) × IsLoaded v work × IsThroughAll v × (seat me ≡ In v.slot work v.acked v.acked Rests)) ⊎
             (seat me ≡ Gives v.slot work v.acked v.answer)) → Now (Complete v completion.CountDown)
         either work (inl (none, loaded, all, is)) = search (v.acked, h.present.stands, done, found, none, left_one, none_acked, arith)
-        either work (inr is) = let st : Stands p.now me (Gives v.slot work v.acked v.answer) = subst (Stands p.now me) is (h.present.stands me) in
+        either work (inr is) = let st : RoleStands p.now me (Gives v.slot work v.acked v.answer) = subst (RoleStands p.now me) is (h.present.stands me) in
             done v.acked v.answer (ap (λ (x : Standing). told_of (completes p me v.slot x found)) st.1) st.0 refl
             (λ _. given_called work v.acked v.answer f (calling_at (Gives v.slot work v.acked v.answer) is))
 

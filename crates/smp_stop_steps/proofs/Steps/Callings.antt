@@ -2,12 +2,13 @@
 use Rattle.std.proofs.Common.{◌≡◌, ◌≢◌, ℕ, ◌+◌, Bool, true, false, ◌&&◌, ◌⊎◌, cond, List, ne_eqb, sym, subst, ap, ◌∙◌, arith}
 use Rattle.smp_words.proofs.Puts.{at_test, put_all, put_both, put_other}
 use Rattle.smp_stop_steps.specs.{put, Kind as KindOf, One, Patch, Work, with_answer, IsCalling, answer_in, HasCalled, AreClosing, HasCompleted, Change}
-use Rattle.smp_stop_steps.specs.{Patching, RunnerShows, StopShows, Source, Word, Seat, Free, In, Gives, Alters, Closes, Duty, Rests, Setup, StopState, Calling}
+use Rattle.smp_stop_steps.specs.{Patching, RunnerShows, StopShows, Source, Word, StopRole, Free, In, Gives, Alters, Closes, Duty}
+use Rattle.smp_stop_steps.specs.{Rests, Setup, StopState, Calling}
 use Rattle.smp_stop_steps.specs.{Idle, Last, carried, carried_call, has, is_multi, State.Present, State.Calls, State.Carries, Stop.Stop}
 use Rattle.smp_stop_steps.proofs.State.Moves.{IsNoPatch}
 use Rattle.smp_stop_steps.specs.Names.{DISABLE_IRQ, RUN, EXIT}
 
-module _ (seat : ℕ → Seat) (calling : ℕ → Calling) (h : (c : ℕ) → IsCalling c (seat c) (calling c)) (me : ℕ) (next : Seat) where
+module _ (seat : ℕ → StopRole) (calling : ℕ → Calling) (h : (c : ℕ) → IsCalling c (seat c) (calling c)) (me : ℕ) (next : StopRole) where
   -- the CPU goes to another seat
   pub calling_same : IsCalling me next (calling me) → (c : ℕ) → IsCalling c (put seat me next c) (calling c)
   calling_same it = put_all (λ c x. IsCalling c x (calling c)) seat me next it (λ c ne. h c)
@@ -57,7 +58,7 @@ pub calling_ran : (c s : ℕ) (w : Work) (t : Duty) (f : Calling) → w.kind ≢
 calling_ran c s w t f many idle k = search (active_multi, w.active, arith)
 
 -- who patches nothing carries no answer of a patch
-pub carried_alone : (first : ℕ) (x : Patching) (seat : ℕ → Seat) (me : ℕ) (f : Calling) → IsNoPatch (seat me) → RunnerShows first x seat →
+pub carried_alone : (first : ℕ) (x : Patching) (seat : ℕ → StopRole) (me : ℕ) (f : Calling) → IsNoPatch (seat me) → RunnerShows first x seat →
     carried me x f ≡ carried_call f
 carried_alone first x seat me f idle r = search (ne_eqb, IsNoPatch, arith)
 
@@ -73,11 +74,11 @@ given_quiet c s w a v (Calls call) k many idle = absurd (many k.1)
 given_quiet c s w a v (Carries answer) k many idle = absurd (let bad : true ≡ false = sym k.1 ∙ idle in cc)
 
 -- a CPU at this seat has no done to store
-abbrev pub IsNotClosing : Seat → Type 0
+abbrev pub IsNotClosing : StopRole → Type 0
 IsNotClosing (Closes s) = ⊥
 IsNotClosing _ = Unit {0}
 
-module _ (n : Present) (seat : ℕ → Seat) (me : ℕ) (next : Seat) (h : AreClosing n seat) (idle : IsNotClosing (seat me)) where
+module _ (n : Present) (seat : ℕ → StopRole) (me : ℕ) (next : StopRole) (h : AreClosing n seat) (idle : IsNotClosing (seat me)) where
   other : (j c : ℕ) → seat c ≡ Closes j → c ≢ me
   other j c is e = subst IsNotClosing (sym (ap seat e) ∙ is) idle
 
@@ -100,7 +101,7 @@ module _ (n : Present) (seat : ℕ → Seat) (me : ℕ) (next : Seat) (h : AreCl
 answered_in : (c s : ℕ) (w : Work) (a l : ℕ) (t : Duty) (x : ℕ) (f : Calling) → IsCalling c (In s w a l t) f → IsCalling c (In s w a l t) (with_answer x f)
 answered_in c s w a l t x f k = search arith
 
-pub answer_replaced : (u : Setup) (p : StopState) (at : Word → ℕ) (seat : ℕ → Seat) (source : ℕ → Source) → StopShows u p at seat source →
+pub answer_replaced : (u : Setup) (p : StopState) (at : Word → ℕ) (seat : ℕ → StopRole) (source : ℕ → Source) → StopShows u p at seat source →
     (me s : ℕ) (w : Work) (a l : ℕ) (t : Duty) (x : ℕ) → seat me ≡ In s w a l t →
     StopShows u (record p { calling = put p.calling me (with_answer x (p.calling me)) }) at seat source
 answer_replaced u p at seat source h me s w a l t x is = record {

@@ -2,10 +2,11 @@
 use Rattle.std.proofs.Common.{◌≡◌, ℕ, ◌-◌, ◌<◌, Bool, true, false, eq-eqb, eqb-true, ◌==◌, cond, sym, subst, refl, ap, ◌∙◌, ◌⊎◌, inl, inr, arith, ⊎_elim}
 use Rattle.std.proofs.Common.{Option, Some, None, bit_and}
 use Rattle.smp_words.specs.declared.field.Field.TheVariants.{Roll, Todo}
-use Rattle.smp_stop_steps.specs.{IsCalling, answer_in, put, put_word, one, Closes, Free, Gives, In, Rests, Seat, irq_of, StopShows, IsLoaded, IsThroughAll}
+use Rattle.smp_stop_steps.specs.{IsCalling, answer_in, put, put_word, one, Closes, Free, Gives, In, Rests, StopRole, irq_of, StopShows, IsLoaded, IsThroughAll}
 use Rattle.smp_stop_steps.specs.{OwnsIf, SitsAtRest, Source, StopControlValue, all_but, stop_ends, stop_goes, Setup, StopState, Calling, StopStep, at_then}
 use Rattle.smp_stop_steps.specs.{state_after, Advance, Begin, Close, Complete, Enter, EnterActive, EnterKind, EnterMask, LoadDone, LoadResult, OpenGate, Note}
-use Rattle.smp_stop_steps.specs.{TakeGate, NudgeKey, ExchangeKey, StopStage, Visit, One, Work, Gate, Slot, Word, has, CarriesIn, CarriesAt, IsEnding, Sits.Sits}
+use Rattle.smp_stop_steps.specs.{TakeGate, NudgeKey, ExchangeKey, StopStage, Visit, One, Work, Gate, Slot, Word, has, CarriesIn}
+use Rattle.smp_stop_steps.specs.{CarriesAt, IsEnding, Sits.ControlFits}
 use Rattle.smp_stop_steps.specs.declared.stage.StopStage.TheVariants.{ReadKey, ReadSite}
 use Rattle.smp_stop_steps.proofs.Steps.Same.{word_same, moved_seat, still}
 use Rattle.smp_stop_steps.proofs.Steps.Completions.{done_stored, on_now, result_stored, roll_cleared, roll_stale, todo_subtracted, todo_subtracted_answered}
@@ -19,8 +20,9 @@ use Rattle.smp_stop_steps.specs.completion
 use Rattle.smp_stop_steps.specs.round
 use Rattle.smp_stop_steps.specs.Names.{EXIT}
 
-module _ (u : Setup) (p : StopState) (at : Word → ℕ) (seat : ℕ → Seat) (source : ℕ → Source) (h : StopShows u p at seat source) (c : StopControlValue) (me : ℕ)
-    (s : Sits u me (at Gate) c (seat me) (source me)) where
+module _ (u : Setup) (p : StopState) (at : Word → ℕ) (seat : ℕ → StopRole) (source : ℕ → Source) (h : StopShows u p at seat source) (c : StopControlValue)
+    (me : ℕ)
+    (s : ControlFits u me (at Gate) c (seat me) (source me)) where
   enter : (slot : ℕ) → c.stage ≡ Some (Enter slot) → StopStep u p at seat source c me (Enter slot)
   enter slot e = let x = at_seat s (Enter slot) e in
       let g = go x.0 x.1 (at_source s (Enter slot) e) (has (at (Slot slot Roll)) me) refl in
@@ -30,8 +32,8 @@ module _ (u : Setup) (p : StopState) (at : Word → ℕ) (seat : ℕ → Seat) (
       low = omega arith
 
       go : c.visit ≡ None → seat me ≡ Free → OwnsIf c.is_open (source me) → (b : Bool) → has (at (Slot slot Roll)) me ≡ b →
-          (x : Seat) × (StopShows u (state_after u p at c me (Enter slot)) (at_then u at c me (Enter slot)) (put seat me x) (put source me (source me))) ×
-          Sits u me (at Gate) (cond b (stop_goes c (EnterKind slot)) (stop_ends c Note.Stale)).control x (source me)
+          (x : StopRole) × (StopShows u (state_after u p at c me (Enter slot)) (at_then u at c me (Enter slot)) (put seat me x) (put source me (source me))) ×
+          ControlFits u me (at Gate) (cond b (stop_goes c (EnterKind slot)) (stop_ends c Note.Stale)).control x (source me)
       go visit is y true found = let next = In slot (p.now.stop slot).work 0 0 Rests in (
         next,
         moved_seat u seat source me (state_after u p at c me (Enter slot)) (at_then u at c me (Enter slot)) next
@@ -69,7 +71,7 @@ module _ (u : Setup) (p : StopState) (at : Word → ℕ) (seat : ℕ → Seat) (
       where
         go : v.kind ≡ One → (work : Work) → IsLoaded v work → seat me ≡ In v.slot work v.acked v.acked Rests → OwnsIf c.is_open (source me) → (b : Bool) →
             (answer == 0) ≡ b →
-            Sits u me (at Gate) (record c {
+            ControlFits u me (at Gate) (record c {
               stage = Some (Complete (record v { answer = answer }) (cond b completion.CountDown completion.StoreAnswer));
               visit = Some (record v { answer = answer });
             }) (seat me) (source me)
@@ -103,7 +105,7 @@ module _ (u : Setup) (p : StopState) (at : Word → ℕ) (seat : ℕ → Seat) (
         }
 
     counted_sits : OwnsIf c.is_open (source me) → c.interrupts ≡ true → (b : Bool) →
-        Sits u me (at Gate) (cond b (stop_goes (record c { visit = None }) (Close v.slot)) (stop_ends (record c { visit = None }) Note.Finished)).control
+        ControlFits u me (at Gate) (cond b (stop_goes (record c { visit = None }) (Close v.slot)) (stop_ends (record c { visit = None }) Note.Finished)).control
         (cond b (Closes v.slot) Free) (source me)
     counted_sits y on b = search arith
 

@@ -4,7 +4,8 @@ use Rattle.std.proofs.Common.{Option, Some, None, List, [], ◌∷◌, ◌++◌}
 use Rattle.smp_words.proofs.Puts.{at_test, put_all, put_same, put_other}
 use Rattle.smp_words.specs.declared.field.Field.TheVariants.{Done, Result, Roll, Todo}
 use Rattle.smp_stop_steps.specs.{IsCalling, AreClosing, HasCompleted, StandsSet, put, put_word, one, unfinished, IsAnswer, HasPast, answer_now, OwnsKey, Closes}
-use Rattle.smp_stop_steps.specs.{Free, Gives, In, Rests, Seat, Stands, irq_of, duty_of, StopShows, DoneShows, IsDone, IsLevel, IsPhaseOf, Source, Setup, Act}
+use Rattle.smp_stop_steps.specs.{Free, Gives, In, Rests, StopRole, RoleStands, irq_of, duty_of, StopShows, DoneShows, IsDone}
+use Rattle.smp_stop_steps.specs.{IsLevel, IsPhaseOf, Source, Setup, Act}
 use Rattle.smp_stop_steps.specs.{StopState, Idle, Answering, Called, Completed, Ended, Inside, Standing, acked, completed, ended, is_inside, is_of, stands}
 use Rattle.smp_stop_steps.specs.{Last, completes_with, enters, told, called_more, Field, One, Patch, Kind as KindOf, Work, Key, Slot, Word, has, Stop.Stop}
 use Rattle.smp_stop_steps.proofs.Steps.Callings.{calling_same, IsNotClosing, idle_free, closing_kept, idle_closes, closing_seat, calling_next, given_quiet}
@@ -19,7 +20,7 @@ use Rattle.smp_stop_steps.specs.Names.{RUN, EXIT}
 pub one_phase : (k : KindOf) (p : ℕ) → k ≡ One → IsPhaseOf k p → p ≡ 0
 one_phase k p e h = search arith
 
-module _ (u : Setup) (p : StopState) (at : Word → ℕ) (seat : ℕ → Seat) (source : ℕ → Source) (h : StopShows u p at seat source) (s me : ℕ) where
+module _ (u : Setup) (p : StopState) (at : Word → ℕ) (seat : ℕ → StopRole) (source : ℕ → Source) (h : StopShows u p at seat source) (s me : ℕ) where
   abbrev w : Field → ℕ
   w f = at (Slot s f)
 
@@ -61,8 +62,8 @@ module _ (u : Setup) (p : StopState) (at : Word → ℕ) (seat : ℕ → Seat) (
   roll_stale new answer missing = subst (λ b. StopShows u (cond b (record p { now = enters p.now me s }) p) at seat source) (sym missing) h
 
   module _ (job : Work) (a l : ℕ) (is : seat me ≡ In s job a l Rests) (through : (a ≡ EXIT) ⊎ (job.kind ≡ One)) where
-    st : Stands p.now me (In s job a l Rests)
-    st = subst (Stands p.now me) is (h.present.stands me)
+    st : RoleStands p.now me (In s job a l Rests)
+    st = subst (RoleStands p.now me) is (h.present.stands me)
 
     open_ : (p.now.stop s).is_open ≡ true
     open_ = is_open_inside u.cpus (p.now.stop s) w (h.present.slots s) me (Inside a l) st.1 refl
@@ -196,7 +197,7 @@ module _ (u : Setup) (p : StopState) (at : Word → ℕ) (seat : ℕ → Seat) (
       let found = at (Slot s Todo) in
       StopShows u (told u p me Act.Sub (Slot s Todo) (Some found) (Some (found - 1)) answer) (put_word at (Slot s Todo) (found - 1))
       (put seat me (cond (found == 1) (Closes s) Free)) source
-  todo_subtracted_answered job a v answer is = let now : Stands p.now me (Gives s job a v) = subst (Stands p.now me) is (h.present.stands me) in
+  todo_subtracted_answered job a v answer is = let now : RoleStands p.now me (Gives s job a v) = subst (RoleStands p.now me) is (h.present.stands me) in
       let k = keeps_inside u.cpus (p.now.stop s) w (h.present.slots s) me (Answering a v) now.1 in
       let shown' = completes_shown job a v now.0 (subst (λ x. IsAnswer x a v) (sym now.1) (refl, refl)) now.2 k.2 (ap irq_of is) (subst IsNoPatch (sym is) tt)
       (subst IsNotClosing (sym is) tt) (ap answer_now now.1)
@@ -207,7 +208,7 @@ module _ (u : Setup) (p : StopState) (at : Word → ℕ) (seat : ℕ → Seat) (
   -- store of done by the last
   pub done_stored : (answer : ℕ) → seat me ≡ Closes s → StopShows u (told u p me Act.Store (Slot s Done) None (Some 1) answer) (put_word at (Slot s Done) 1)
       (put seat me Free) source
-  done_stored answer is = let now : Stands p.now me (Closes s) = subst (Stands p.now me) is (h.present.stands me) in
+  done_stored answer is = let now : RoleStands p.now me (Closes s) = subst (RoleStands p.now me) is (h.present.stands me) in
       let stop' = ended (p.now.stop s) in
       let stays : StaysOpen (p.now.stop s) stop' = record { was = now.1; now = now.1; work = refl; end = λ _. refl; given = λ c. refl; active = λ a. a } in
       let shown' = open_step u p at seat source h s stop' p.now.inside p.now.irq p.now.readings p.now.patching (put_word at (Slot s Done) 1) (put seat me

@@ -6,7 +6,8 @@ use Rattle.smp_words.proofs.Puts.{put_all}
 use Rattle.smp_words.specs.declared.field.Field.TheVariants.{Ack, Arg, Roll, State, Todo}
 use Rattle.smp_labels.specs.{Law.IsLawful, Plans.AreEntriesOf}
 use Rattle.smp_stop_steps.specs.{IsCalling, told, may_call, calls_now, behind, count_behind, sum_below, unfinished, Change, labels_in, Alters, Free, Gives, In}
-use Rattle.smp_stop_steps.specs.{Rests, Seat, Stands, Duty, StopShows, IsWritten, Keeps, OpenShows, Shut, Source, IsSetup, Setup, StopState, no_stops, StopCall}
+use Rattle.smp_stop_steps.specs.{Rests, StopRole, RoleStands, Duty, StopShows, IsWritten, Keeps, OpenShows, Shut, Source, IsSetup}
+use Rattle.smp_stop_steps.specs.{Setup, StopState, no_stops, StopCall}
 use Rattle.smp_stop_steps.specs.{Calls, Answering, Called, Completed, Inside, Outside, Standing, is_called, Work, Gate, Slot, Key, Word, has, Act}
 use Rattle.smp_stop_steps.proofs.State.Phases.{is_open_inside, keeps_inside, none_raises}
 use Rattle.smp_stop_steps.proofs.{State.KeyCounts.opened_count, Basics.Counts.sum_zero, State.Acknowledged.nobody_raises}
@@ -23,14 +24,14 @@ behind_most p x = search arith
 unfinished_most : (x : Standing) → unfinished x ≤ 1
 unfinished_most x = search arith
 
-module _ (u : Setup) (p : StopState) (at : Word → ℕ) (seat : ℕ → Seat) (source : ℕ → Source) (h : StopShows u p at seat source) (s me : ℕ) where
+module _ (u : Setup) (p : StopState) (at : Word → ℕ) (seat : ℕ → StopRole) (source : ℕ → Source) (h : StopShows u p at seat source) (s me : ℕ) where
   -- who patches is active in its stop
   pub patcher_active : (work : Work) (count : ℕ) (made rest : List Change) → seat me ≡ Alters s work count made rest → has work.active me ≡ true
   patcher_active work count made rest is = search (h.present.stands, is_open_inside, h.present.slots, h.present.works, eq-eqb, arith)
 
   module _ (job : Work) (a l : ℕ) (t : Duty) (is : seat me ≡ In s job a l t) where
-    st : Stands p.now me (In s job a l t)
-    st = subst (Stands p.now me) is (h.present.stands me)
+    st : RoleStands p.now me (In s job a l t)
+    st = subst (RoleStands p.now me) is (h.present.stands me)
 
     shown : OpenShows u.cpus (p.now.stop s) (λ f. at (Slot s f))
     shown = (h.present.slots s).shows (is_open_inside u.cpus (p.now.stop s) (λ f. at (Slot s f)) (h.present.slots s) me (Inside a l) st.1 refl)
@@ -97,7 +98,7 @@ module _ (u : Setup) (p : StopState) (at : Word → ℕ) (seat : ℕ → Seat) (
 
   -- the same of todo, for who has stored its answer
   pub todo_bounds_answered : (job : Work) (a v : ℕ) → seat me ≡ Gives s job a v → (0 < at (Slot s Todo)) × (at (Slot s Todo) ≤ u.cpus)
-  todo_bounds_answered job a v is = let now : Stands p.now me (Gives s job a v) = subst (Stands p.now me) is (h.present.stands me) in
+  todo_bounds_answered job a v is = let now : RoleStands p.now me (Gives s job a v) = subst (RoleStands p.now me) is (h.present.stands me) in
       let o = (h.present.slots s).shows (is_open_inside u.cpus (p.now.stop s) (λ f. at (Slot s f)) (h.present.slots s) me (Answering a v) now.1 refl) in
       let k = keeps_inside u.cpus (p.now.stop s) (λ f. at (Slot s f)) (h.present.slots s) me (Answering a v) now.1 in
       let most = sum_most (λ c. unfinished ((p.now.stop s).standing c)) u.cpus (λ c. unfinished_most ((p.now.stop s).standing c)) in
@@ -111,7 +112,7 @@ module _ (u : Setup) (p : StopState) (at : Word → ℕ) (seat : ℕ → Seat) (
       more n ne = search arith
 
 -- a roll has no CPU past the last
-pub high_none : (u : Setup) (p : StopState) (at : Word → ℕ) (seat : ℕ → Seat) (source : ℕ → Source) → StopShows u p at seat source → (slot c : ℕ) → 64 ≤ c →
+pub high_none : (u : Setup) (p : StopState) (at : Word → ℕ) (seat : ℕ → StopRole) (source : ℕ → Source) → StopShows u p at seat source → (slot c : ℕ) → 64 ≤ c →
     has (at (Slot slot Roll)) c ≡ false
 high_none u p at seat source h slot c high = (h.present.slots slot).roll c ∙ go ((p.now.stop slot).standing c) ((h.present.slots slot).keeps c)
   where

@@ -2,7 +2,7 @@
 use Rattle.std.proofs.Common.{◌≡◌, ◌≢◌, ℕ, ◌≤◌, Bool, true, ◌==◌, cond, sym, subst, refl, ap, ◌∙◌, Option, List, arith}
 use Rattle.smp_words.proofs.Puts.{at_test, put_all}
 use Rattle.smp_stop_steps.specs.{CountShows, put, put_word, Patching, Reading, StandsSet, HasPast, OnlyActiveAnswer, answer_now, answer_of, OwnsKey}
-use Rattle.smp_stop_steps.specs.{PresentShows, Seat, StopShows, Collects, Drafts, Owns, Shut, Source, SourceShows, AreClosing, IsCalling, Calling, Setup}
+use Rattle.smp_stop_steps.specs.{PresentShows, StopRole, StopShows, Collects, Drafts, Owns, Shut, Source, SourceShows, AreClosing, IsCalling, Calling, Setup}
 use Rattle.smp_stop_steps.specs.{StopCall, StopState, Ended, Standing, acked, is_inside, Field, Patch, Work, Gate, Key, Slot, Word, State.Present, Stop.Stop}
 use Rattle.smp_stop_steps.proofs.State.Moves.{field_false}
 use Rattle.smp_stop_steps.specs.Names.{RUN}
@@ -64,8 +64,8 @@ pub past_answers : (stop : Stop) (begun : List Work) (collected : List ℕ) (ans
     HasPast stop begun collected answers → HasPast stop begun collected answers'
 past_answers stop begun collected answers answers' same h = search (h.1.answers_are, arith)
 
-module _ (u : Setup) (p : StopState) (at : Word → ℕ) (seat : ℕ → Seat) (source : ℕ → Source) (h : StopShows u p at seat source) (s : ℕ) (stop' : Stop)
-    (inside' : ℕ → Option ℕ) (irq' : ℕ → Bool) (readings' : ℕ → List Reading) (patching' : Patching) (at' : Word → ℕ) (seat' : ℕ → Seat) where
+module _ (u : Setup) (p : StopState) (at : Word → ℕ) (seat : ℕ → StopRole) (source : ℕ → Source) (h : StopShows u p at seat source) (s : ℕ) (stop' : Stop)
+    (inside' : ℕ → Option ℕ) (irq' : ℕ → Bool) (readings' : ℕ → List Reading) (patching' : Patching) (at' : Word → ℕ) (seat' : ℕ → StopRole) where
   -- a step on an open stop that stays open
   pub open_step_with : (looks' : ℕ → List ℕ) (calls' : ℕ → List StopCall) (calling' : ℕ → Calling) (answers' : ℕ → ℕ → List ℕ) →
       (p.now.stop s).is_open ≡ true → stop'.is_open ≡ true → stop'.work ≡ (p.now.stop s).work → ((p.now.stop s).ending ≡ Ended → stop'.ending ≡ Ended) →

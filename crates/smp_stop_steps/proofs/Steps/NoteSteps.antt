@@ -4,14 +4,14 @@ use Rattle.std.proofs.Common.{subst, refl, ap, ◌∙◌, arith}
 use Rattle.smp_labels.specs.{Kinds.xor, declared.keys.Change.Change as KeyChange}
 use Rattle.smp_words.proofs.Puts.{at_test, put_same}
 use Rattle.smp_stop_steps.specs.{has, change_of, count_after, is_on, word_of, seen_of, put, Field, Note, Work, Word, Gate, Slot, Key, Site, CarriesIn, Change}
-use Rattle.smp_stop_steps.specs.{ReadKey, ReadSite, StaysStill, HasRead, NoteFits, heard_of, Seat, In, Rests, Sets, Stands, irq_of, StopShows}
-use Rattle.smp_stop_steps.specs.{HasRun, IsLoaded, IsNudge, RunsIf, SitsAt, SourceSits, begun_value, Source, SourceShows, Act}
+use Rattle.smp_stop_steps.specs.{ReadKey, ReadSite, StaysStill, HasRead, NoteFits, heard_of, StopRole, In, Rests, Sets, RoleStands, irq_of, StopShows}
+use Rattle.smp_stop_steps.specs.{HasRunIf, IsLoaded, IsNudge, RunsIf, SitsAt, SourceSits, begun_value, Source, SourceShows, Act}
 use Rattle.smp_stop_steps.specs.{StopControlValue, answer_at, begun_next, key_on, looked_on, nudge_of, nudge_on, stop_ends, stop_goes, store_of, visit_acked}
 use Rattle.smp_stop_steps.specs.{Setup, StopState, StopCall, Calls, FunctionGoes, note_then, state_after, Standing, Inside, acked, acknowledged}
 use Rattle.smp_stop_steps.specs.{raised, stands as stands_at, answered_by, drafts, acknowledges, calls_now, is_multi, is_patch}
 use Rattle.smp_stop_steps.specs.{key_loaded, key_told, leaves, looked_by, looks, looks_now, may_call, patch_begun, reads, stored_open, stored_shut, tells}
 use Rattle.smp_stop_steps.specs.{unpatched, with_stop, StopStage, TakeGate, OpenGate, Begin, Enter, EnterKind, EnterMask, EnterActive, Advance, Complete, Close}
-use Rattle.smp_stop_steps.specs.{LoadDone, LoadResult, NudgeKey, ExchangeKey, Visit, Sits.Sits, State.Present, Stop.Stop, CompletionStage, RoundStage}
+use Rattle.smp_stop_steps.specs.{LoadDone, LoadResult, NudgeKey, ExchangeKey, Visit, Sits.ControlFits, State.Present, Stop.Stop, CompletionStage, RoundStage}
 use Rattle.smp_stop_steps.specs.declared.stage.StopStage.TheVariants.{ReadKey as ReadsKey, ReadSite as ReadsSite}
 use Rattle.smp_stop_steps.proofs.{Basics.Counts.put_own, State.Gates.gate_free, State.Gates.gate_mine, State.Phases.is_open_inside, Steps.CallSteps.call_step}
 use Rattle.smp_stop_steps.proofs.{Steps.Facts.patcher_active, Steps.Patching.not_run}
@@ -69,8 +69,9 @@ run_called : (p q : StopState) (me func arg answer : ℕ) → FunctionGoes p q m
     (call : StopCall) × (q.calling me ≡ Calls call) × (call.func ≡ func) × (call.arg ≡ arg)
 run_called p q me func arg answer h6 = search (arg, put_same, arith)
 
-module _ (u : Setup) (p : StopState) (at : Word → ℕ) (seat : ℕ → Seat) (source : ℕ → Source) (h : StopShows u p at seat source) (c : StopControlValue) (me : ℕ)
-    (s : Sits u me (at Gate) c (seat me) (source me)) (k : CarriesIn c (p.calling me)) where
+module _ (u : Setup) (p : StopState) (at : Word → ℕ) (seat : ℕ → StopRole) (source : ℕ → Source) (h : StopShows u p at seat source) (c : StopControlValue)
+    (me : ℕ)
+    (s : ControlFits u me (at Gate) c (seat me) (source me)) (k : CarriesIn c (p.calling me)) where
   abbrev Fits : StopStage → Type 0
   Fits stage = NoteFits p (state_after u p at c me stage) me (note_then u at c me stage)
 
@@ -80,8 +81,8 @@ module _ (u : Setup) (p : StopState) (at : Word → ℕ) (seat : ℕ → Seat) (
   source_at : (stage : StopStage) → c.stage ≡ Some stage → SourceSits c.is_open (Some stage) (source me)
   source_at stage e = subst (λ (x : Option StopStage). SourceSits c.is_open x (source me)) e s.source
 
-  stands : (x : Seat) → seat me ≡ x → Stands p.now me x
-  stands x e = subst (Stands p.now me) e (h.present.stands me)
+  stands : (x : StopRole) → seat me ≡ x → RoleStands p.now me x
+  stands x e = subst (RoleStands p.now me) e (h.present.stands me)
 
   source_is : (y : Source) → source me ≡ y → SourceShows u p.gate (p.now.stop me) (λ f. at (Slot me f)) me y
   source_is y e = subst (SourceShows u p.gate (p.now.stop me) (λ f. at (Slot me f)) me) e (h.sources me)
@@ -133,7 +134,7 @@ module _ (u : Setup) (p : StopState) (at : Word → ℕ) (seat : ℕ → Seat) (
             same : found ≡ v.acked
             same = eqb-true found v.acked e
 
-            st : Stands p.now me (In v.slot work v.acked v.acked Rests)
+            st : RoleStands p.now me (In v.slot work v.acked v.acked Rests)
             st = stands (In v.slot work v.acked v.acked Rests) is
 
             next : Stop
@@ -216,7 +217,7 @@ module _ (u : Setup) (p : StopState) (at : Word → ℕ) (seat : ℕ → Seat) (
       }
 
       module _ (in_ : p.now.inside me ≡ Some v.slot) (st : (p.now.stop v.slot).standing me ≡ Inside v.acked phase) (off : (p.now.irq me ≡ false) ⊎ (phase ≢ EXIT))
-          (run : HasRun me (visit_acked v answer ran) ran) (active : v.active ≡ (p.now.stop v.slot).work.active) where
+          (run : HasRunIf me (visit_acked v answer ran) ran) (active : v.active ≡ (p.now.stop v.slot).work.active) where
         acked_turn : (r : Bool) → ran ≡ r → phase ≢ EXIT → NoteFits p (acked_after false) me (Some (cond r Note.Ran (Note.Moved phase)))
         acked_turn true r ne = (
           record {
@@ -254,7 +255,7 @@ module _ (u : Setup) (p : StopState) (at : Word → ℕ) (seat : ℕ → Seat) (
         ack_fits : Fits (Advance v (RoundStage.Acknowledge answer ran))
         ack_fits = search (st, acked_fits, arith)
 
-      run_of : (b : Bool) → RunsIf me v b → HasRun me (visit_acked v answer b) b
+      run_of : (b : Bool) → RunsIf me v b → HasRunIf me (visit_acked v answer b) b
       run_of b runs = search arith
 
       acknowledge : c.stage ≡ Some (Advance v (RoundStage.Acknowledge answer ran)) → Fits (Advance v (RoundStage.Acknowledge answer ran))
@@ -273,7 +274,7 @@ module _ (u : Setup) (p : StopState) (at : Word → ℕ) (seat : ℕ → Seat) (
         now = cond b (leaves (with_stop p.now v.slot raised_stop) me v.slot (p.now.stop v.slot).work) (with_stop p.now v.slot raised_stop);
       }
 
-      module _ (work : Work) (loaded : IsLoaded v work) (is : seat me ≡ In v.slot work v.acked v.acked Sets) (run : HasRun me v ran)
+      module _ (work : Work) (loaded : IsLoaded v work) (is : seat me ≡ In v.slot work v.acked v.acked Sets) (run : HasRunIf me v ran)
           (in_ : p.now.inside me ≡ Some v.slot) (st : (p.now.stop v.slot).standing me ≡ Inside v.acked v.acked) (same : (p.now.stop v.slot).work ≡ work) where
         raised_stands : (put p.now.stop v.slot raised_stop v.slot).standing me ≡ Inside v.acked v.acked
         raised_stands = ap (λ (x : Stop). x.standing me) raised_here ∙ st

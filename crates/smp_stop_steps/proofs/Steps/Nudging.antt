@@ -5,14 +5,17 @@ use Rattle.std.proofs.lemmas.Bool.{cases_lt}
 use Rattle.smp_labels.specs.declared.keys.Change.TheVariants.{Up, Down}
 use Rattle.smp_words.proofs.Puts.{at_test, put_same}
 use Rattle.smp_stop_steps.specs.{is_on, count_after, IsKeyWord, Change, Patches, ReadKey, Whole, IsPatched, KeysStand, Nudges, ReadsOwnPatch, StandsAtEdge}
-use Rattle.smp_stop_steps.specs.{Seat, StopShows, SitsAtRest, Source, StopControlValue, nudge_on, Setup, StopState, at_then, state_after, is_patch, key_loaded}
-use Rattle.smp_stop_steps.specs.{patch_begun, reads, StopStage, Advance, ExchangeKey, NudgeKey, Visit, Patch, Work, Word, Gate, Key, Sits.Sits, State.Present}
+use Rattle.smp_stop_steps.specs.{StopRole, StopShows, SitsAtRest, Source, StopControlValue, nudge_on, Setup, StopState, at_then}
+use Rattle.smp_stop_steps.specs.{state_after, is_patch, key_loaded}
+use Rattle.smp_stop_steps.specs.{patch_begun, reads, StopStage, Advance, ExchangeKey, NudgeKey, Visit, Patch, Work, Word, Gate, Key}
+use Rattle.smp_stop_steps.specs.{Sits.ControlFits, State.Present}
 use Rattle.smp_stop_steps.proofs.{State.Patched.lawful_when_on, State.Patched.nobody_patches, Steps.Patching.not_run, Steps.Stages.at_seat}
 use Rattle.smp_stop_steps.specs.note
 use Rattle.smp_stop_steps.specs.round
 
-module _ (u : Setup) (p : StopState) (at : Word → ℕ) (seat : ℕ → Seat) (source : ℕ → Source) (h : StopShows u p at seat source) (c : StopControlValue) (me : ℕ)
-    (s : Sits u me (at Gate) c (seat me) (source me)) where
+module _ (u : Setup) (p : StopState) (at : Word → ℕ) (seat : ℕ → StopRole) (source : ℕ → Source) (h : StopShows u p at seat source) (c : StopControlValue)
+    (me : ℕ)
+    (s : ControlFits u me (at Gate) c (seat me) (source me)) where
   on_now : c.interrupts ≡ true → p.now.irq me ≡ true
   on_now on = h.present.irq me ∙ (sym s.irq ∙ on)
 

@@ -5,7 +5,8 @@ use Rattle.smp_words.proofs.Puts.{at_test}
 use Rattle.smp_labels.proofs.Patched.{plan_leads, left_in_form, count_lawful}
 use Rattle.smp_labels.specs.{Law.Table, Plans.AreEntriesOf, Plans.applied}
 use Rattle.smp_stop_steps.specs.{IsCalling, AreClosing, IsNudge, CountShows, moved_by, put, put_word, Change, Patches, Patching, ReadKey, Reading, labels_in}
-use Rattle.smp_stop_steps.specs.{Agrees, LabelsShow, count_set, OwnsKey, PresentShows, Alters, In, Rests, Seat, Stands, StopShows, Source, Setup, StopState}
+use Rattle.smp_stop_steps.specs.{Agrees, LabelsShow, count_set, OwnsKey, PresentShows, Alters, In, Rests, StopRole, RoleStands}
+use Rattle.smp_stop_steps.specs.{StopShows, Source, Setup, StopState}
 use Rattle.smp_stop_steps.specs.{Moved, Inside, Standing, is_at_run, key_loaded, reads, told, plan_at, Field, Patch, Work, Entry, Gate, Key, Site, Slot, Word}
 use Rattle.smp_stop_steps.specs.{is_on, change_of, has, Act, Place}
 use Rattle.smp_stop_steps.proofs.Steps.Callings.{calling_same, closing_seat, idle_patch, idle_alters, IsNotClosing}
@@ -14,9 +15,9 @@ use Rattle.smp_stop_steps.proofs.State.Patched.{off_inside, patch_starts, patch_
 use Rattle.smp_stop_steps.proofs.{Steps.Kept.source_same, State.Owns.owns_stores, State.Phases.is_open_inside}
 use Rattle.smp_stop_steps.specs.Names.{DISABLE_IRQ, RUN}
 
-module _ (u : Setup) (p : StopState) (at : Word → ℕ) (seat : ℕ → Seat) (source : ℕ → Source) (h : StopShows u p at seat source) (me : ℕ) where
+module _ (u : Setup) (p : StopState) (at : Word → ℕ) (seat : ℕ → StopRole) (source : ℕ → Source) (h : StopShows u p at seat source) (me : ℕ) where
   -- a step that leaves the stops
-  label_step : (readings' : ℕ → List Reading) (patching' : Patching) (nudged' patched' : ℕ → ℕ → Moved) (at' : Word → ℕ) (seat' : ℕ → Seat) →
+  label_step : (readings' : ℕ → List Reading) (patching' : Patching) (nudged' patched' : ℕ → ℕ → Moved) (at' : Word → ℕ) (seat' : ℕ → StopRole) →
       at' Gate ≡ at Gate → ((j : ℕ) (f : Field) → at' (Slot j f) ≡ at (Slot j f)) →
       ((j : ℕ) → OwnsKey u.first p.now (λ k. at' (Key k)) j) → ((k : ℕ) → CountShows u.cpus nudged' patched' k (at' (Key k))) →
       PresentShows u (record (p.now) { readings = readings'; patching = patching' }) at' seat' → ((c : ℕ) → IsCalling c (seat' c) (p.calling c)) →
@@ -91,7 +92,8 @@ module _ (u : Setup) (p : StopState) (at : Word → ℕ) (seat : ℕ → Seat) (
     pub key_loaded_first : (answer : ℕ) → seat me ≡ In s job DISABLE_IRQ RUN Rests → job.kind ≡ Patch → has job.active me ≡ true →
         let found = at (Key job.func) in
         StopShows u (told u p me Act.Load (Key job.func) (Some found) None answer) at (put seat me (Alters s job found [] (plan_at u job found))) source
-    key_loaded_first answer is kind active = let st : Stands p.now me (In s job DISABLE_IRQ RUN Rests) = subst (Stands p.now me) is (h.present.stands me) in
+    key_loaded_first answer is kind active = let st : RoleStands p.now me (In s job DISABLE_IRQ RUN Rests) = subst (RoleStands p.now me) is
+        (h.present.stands me) in
         let found = at (Key job.func) in
         let plan = plan_at u job found in
         let seat' = put seat me (Alters s job found [] plan) in
@@ -124,7 +126,7 @@ module _ (u : Setup) (p : StopState) (at : Word → ℕ) (seat : ℕ → Seat) (
         j)) (counts_patched u.cpus p.nudged p.patched at me k count n below was h.counts) (patch_stores u p.now at seat h.present s me job count made rest
         (Place.Key k, n) at' is refl h.present.slots (entries_same at' (λ i. refl))) (alters_calling count made ((Place.Key k, n) ∷ rest) made' rest is)
         (closing_seat p.now seat me (Alters s job count made' rest) h.closing (subst IsNotClosing (sym is) tt)) in
-        search ((subst (Stands p.now me) is (h.present.stands me)).5, shown', arith)
+        search ((subst (RoleStands p.now me) is (h.present.stands me)).5, shown', arith)
 
     -- store of a site by a patch
     pub site_stored : (count : ℕ) (made rest : List Change) (i n answer : ℕ) → seat me ≡ Alters s job count made ((Place.Site i, n) ∷ rest) →
@@ -136,4 +138,4 @@ module _ (u : Setup) (p : StopState) (at : Word → ℕ) (seat : ℕ → Seat) (
         let shown' = label_step p.now.readings (Patches me job count made' rest) p.nudged p.patched at' (put seat me (Alters s job count made' rest)) refl
         (search arith) h.owns h.counts (search (patch_stores, entries_same, arith)) (alters_calling count made ((Place.Site i, n) ∷ rest) made' rest is)
         (search (closing_seat, IsNotClosing, arith)) in
-        search ((subst (Stands p.now me) is (h.present.stands me)).5, shown', arith)
+        search ((subst (RoleStands p.now me) is (h.present.stands me)).5, shown', arith)

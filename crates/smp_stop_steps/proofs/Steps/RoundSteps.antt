@@ -7,9 +7,11 @@ use Rattle.smp_labels.proofs.Patched.{plan_same, plan_tests, plan_key_first}
 use Rattle.smp_labels.specs.{Kinds.xor, declared.keys.Change.Change as KeyChange, Entries.entry_at, Keys.count_or, Plans.site_change, Plans.plan_of}
 use Rattle.smp_words.proofs.Puts.{at_test}
 use Rattle.smp_words.specs.declared.field.Field.TheVariants.{Arg, State}
-use Rattle.smp_stop_steps.specs.{at_after, count_set, Rests, StopShows, SitsAtRun, change_at, stop_ends, stop_goes, StopState, change_of, MOST_SITES, Sits.Sits}
+use Rattle.smp_stop_steps.specs.{at_after, count_set, Rests, StopShows, SitsAtRun, change_at, stop_ends, stop_goes, StopState}
+use Rattle.smp_stop_steps.specs.{change_of, MOST_SITES, Sits.ControlFits}
 use Rattle.smp_stop_steps.specs.{seen_of, word_of, Change, Alters, irq_of, IsLoaded, OwnsIf, entry_on, store_of, StopStep, is_multi, plan_at, Advance, patch_of}
-use Rattle.smp_stop_steps.specs.{put, In, Seat, Source, key_on, Setup, tells, told, Visit, Multi, One, Patch, Work, Entry, Gate, Key, Slot, Word, is_on, has}
+use Rattle.smp_stop_steps.specs.{put, In, StopRole, Source, key_on, Setup, tells, told, Visit, Multi, One, Patch, Work, Entry, Gate}
+use Rattle.smp_stop_steps.specs.{Key, Slot, Word, is_on, has}
 use Rattle.smp_stop_steps.specs.{patch_answer, changes_of, SitsAtEntry, StopControlValue, state_after, Kind as KindOf, count_after, site_changes}
 use Rattle.smp_stop_steps.proofs.{Steps.Same.moved_seat, Steps.Same.still, Steps.Facts.arg_loaded, Steps.Facts.inside_keeps, Steps.Facts.state_near}
 use Rattle.smp_stop_steps.proofs.{Steps.Facts.work_words, Steps.Patching.key_loaded_first, Steps.Patching.key_stored, Steps.Patching.site_stored}
@@ -34,8 +36,9 @@ changes-push : (key : ℕ) (on : Bool) (i : ℕ) (xs : List ℕ) (x : ℕ) → s
 changes-push key on i [] x = append-nil (site_change key on i (entry_at x)) ∙ ap (λ n. site_change key on n (entry_at x)) (let e : i ≡ i + 0 = omega arith in e)
 changes-push key on i (y ∷ xs) x = search (changes-push key on (i + 1) xs x, append_assoc, arith)
 
-module _ (u : Setup) (p : StopState) (at : Word → ℕ) (seat : ℕ → Seat) (source : ℕ → Source) (h : StopShows u p at seat source) (c : StopControlValue) (me : ℕ)
-    (s : Sits u me (at Gate) c (seat me) (source me)) (v : Visit) where
+module _ (u : Setup) (p : StopState) (at : Word → ℕ) (seat : ℕ → StopRole) (source : ℕ → Source) (h : StopShows u p at seat source) (c : StopControlValue)
+    (me : ℕ)
+    (s : ControlFits u me (at Gate) c (seat me) (source me)) (v : Visit) where
   -- load of the state
   pub look : (answer : ℕ) → c.stage ≡ Some (Advance v (round.Look answer)) → StopStep u p at seat source c me (Advance v (round.Look answer))
   look answer e = let r = in_round s v (round.Look answer) e in
@@ -65,7 +68,8 @@ module _ (u : Setup) (p : StopState) (at : Word → ℕ) (seat : ℕ → Seat) (
       go : (work : Work) → seat me ≡ In v.slot work v.acked v.acked Rests → c.visit ≡ Some v → IsLoaded v work → v.acked ≢ EXIT →
           OwnsIf c.is_open (source me) → (b : Bool) → (at (Slot v.slot State) == v.acked) ≡ b →
           (d : Bool) → (at (Slot v.slot State) == RUN && has v.active me) ≡ d →
-          Sits u me (at Gate) (cond b (stop_ends c note.Same) (stop_goes (record c { interrupts = cond (at (Slot v.slot State) == DISABLE_IRQ) false c.interrupts })
+          ControlFits u me (at Gate)
+          (cond b (stop_ends c note.Same) (stop_goes (record c { interrupts = cond (at (Slot v.slot State) == DISABLE_IRQ) false c.interrupts })
           (Advance v (cond d (round.LoadFunc answer) (round.Acknowledge answer false))))).control
           (In v.slot work v.acked (at (Slot v.slot State)) Rests) (source me)
       go work is visit loaded more y true same d f = search (eqb-true, v.acked, below, arith)
@@ -98,7 +102,7 @@ module _ (u : Setup) (p : StopState) (at : Word → ℕ) (seat : ℕ → Seat) (
     where
       go : c.visit ≡ Some v → v.kind ≢ One → (work : Work) → SitsAtRun me v work (seat me) → func ≡ work.func → OwnsIf c.is_open (source me) →
           (k : KindOf) → v.kind ≡ k →
-          Sits u me (at Gate) (cond (is_multi k) (record {
+          ControlFits u me (at Gate) (cond (is_multi k) (record {
             control = record c { stage = Some (Advance v (round.Acknowledge answer true)) };
             note = Some (note.Run func (at (Slot v.slot Arg)));
           }) (stop_goes c (Advance v (round.LoadKey func (change_of (at (Slot v.slot Arg))))))).control
@@ -129,7 +133,7 @@ module _ (u : Setup) (p : StopState) (at : Word → ℕ) (seat : ℕ → Seat) (
 
       go : c.visit ≡ Some v → (work : Work) → SitsAtRun me v work (seat me) → OwnsIf c.is_open (source me) → (found : ℕ) (o : Option ℕ) →
           count_after (change_of work.arg) found ≡ o →
-          Sits u me (at Gate) (key_on c v work.func found o).control (Alters v.slot work found [] (plan_of work.func found (count_or found o) u.entries))
+          ControlFits u me (at Gate) (key_on c v work.func found o).control (Alters v.slot work found [] (plan_of work.func found (count_or found o) u.entries))
           (source me)
       go visit work run y found None e = search (found, nothing_made, plan_same, eq-eqb, arith)
       go visit work run y found (Some new) e = split (found == new) refl (xor (is_on found) (is_on new)) refl
@@ -138,7 +142,7 @@ module _ (u : Setup) (p : StopState) (at : Word → ℕ) (seat : ℕ → Seat) (
           left = sym (ap (count_or found) e)
 
           split : (a : Bool) → (found == new) ≡ a → (b : Bool) → xor (is_on found) (is_on new) ≡ b →
-              Sits u me (at Gate) (cond a (stop_goes (record c { changes = [] }) (Advance v (round.Acknowledge 0 true)))
+              ControlFits u me (at Gate) (cond a (stop_goes (record c { changes = [] }) (Advance v (round.Acknowledge 0 true)))
               (stop_goes (record c { changes = (place.Key work.func, new) ∷ [] }) (Advance v (cond b (round.LoadEntry work.func new 0)
               (round.StoreChange 0))))).control
               (Alters v.slot work found [] (plan_of work.func found new u.entries)) (source me)
@@ -154,17 +158,17 @@ module _ (u : Setup) (p : StopState) (at : Word → ℕ) (seat : ℕ → Seat) (
       -- all is loaded
       whole : c.visit ≡ Some v → (work : Work) → SitsAtEntry u v work key word (seat me) → OwnsIf c.is_open (source me) → (changes : List Change) →
           changes ≡ patch_of work.func word u.entries →
-          Sits u me (at Gate) (stop_goes (record c { changes = changes }) (Advance v (round.StoreChange 0))).control (seat me) (source me)
+          ControlFits u me (at Gate) (stop_goes (record c { changes = changes }) (Advance v (round.StoreChange 0))).control (seat me) (source me)
       whole visit work patch y changes is = search arith
 
       loads : c.visit ≡ Some v → (work : Work) → SitsAtEntry u v work key word (seat me) → site ≤ length u.entries → site < MOST_SITES →
           c.changes ≡ changes_of u work word site → OwnsIf c.is_open (source me) →
-          Sits u me (at Gate) (entry_on c v work.func word site (at (Entry site))).control (seat me) (source me)
+          ControlFits u me (at Gate) (entry_on c v work.func word site (at (Entry site))).control (seat me) (source me)
       loads visit work patch within low are y = elim (cases_lt site (length u.entries)) [
         | inl more ↦ go (site + 1 == MOST_SITES) refl more
         | inr past ↦
             let none : at (Entry site) ≡ 0 = h.present.entries.read site low ∙ get_or_past u.entries site 0 past in
-            subst (λ n. Sits u me (at Gate) (entry_on c v work.func word site n).control (seat me) (source me)) (sym none)
+            subst (λ n. ControlFits u me (at Gate) (entry_on c v work.func word site n).control (seat me) (source me)) (sym none)
             (whole visit work patch y (c.changes ++ []) (append-nil c.changes ∙ (are ∙ ap (λ l. (place.Key work.func, word) ∷ site_changes work.func
             (is_on word) 0 l) (take_all site u.entries past))))
       ]
@@ -179,12 +183,13 @@ module _ (u : Setup) (p : StopState) (at : Word → ℕ) (seat : ℕ → Seat) (
               let pushed = changes-push work.func (is_on word) 0 (take site u.entries) (get_or u.entries site 0) in
               search (here, get_or, take_more, arith)
 
-          go : (b : Bool) → (site + 1 == MOST_SITES) ≡ b → site < length u.entries → Sits u me (at Gate) (entry_on c v work.func word site
+          go : (b : Bool) → (site + 1 == MOST_SITES) ≡ b → site < length u.entries → ControlFits u me (at Gate) (entry_on c v work.func word site
               (at (Entry site))).control (seat me) (source me)
           go b last more = search (ne_eqb, here, either, arith)
             where
               either : (b : Bool) → (site + 1 == MOST_SITES) ≡ b → site < length u.entries →
-                  Sits u me (at Gate) (stop_goes (record c { changes = c.changes ++ site_change work.func (is_on word) site (entry_at (at (Entry site))) })
+                  ControlFits u me (at Gate)
+                  (stop_goes (record c { changes = c.changes ++ site_change work.func (is_on word) site (entry_at (at (Entry site))) })
                   (Advance v (cond b (round.StoreChange 0) (round.LoadEntry work.func word (site + 1))))).control (seat me) (source me)
               either true last more = whole visit work patch y (c.changes ++ site_change work.func (is_on word) site (entry_at (at (Entry site))))
                   (search (grown, take_all, arith))
@@ -214,8 +219,8 @@ module _ (u : Setup) (p : StopState) (at : Word → ℕ) (seat : ℕ → Seat) (
               key_stored u p at seat source h me v.slot work count before rest k n 0 s.below is first.0 first.1
           shown (place.Site i, n) before rest work count is plan are = site_stored u p at seat source h me v.slot work count before rest i n 0 is
 
-          gate_kept : (change : Change) {c' : StopControlValue} {x : Seat} → Sits u me (at Gate) c' x (source me) →
-              Sits u me (at_after at (store_of change) Gate) c' x (source me)
+          gate_kept : (change : Change) {c' : StopControlValue} {x : StopRole} → ControlFits u me (at Gate) c' x (source me) →
+              ControlFits u me (at_after at (store_of change) Gate) c' x (source me)
           gate_kept (place.Key k, n) {c'} {x} sits = sits
           gate_kept (place.Site i, n) {c'} {x} sits = sits
 
@@ -230,7 +235,7 @@ module _ (u : Setup) (p : StopState) (at : Word → ℕ) (seat : ℕ → Seat) (
           ends : c.visit ≡ Some v → (work : Work) (count : ℕ) → IsLoaded v work → v.acked ≡ DISABLE_IRQ → made < length c.changes → c.changes ≡ plan_at u work count →
               (before : List Change) (change : Change) (rest : List Change) → c.changes ≡ before ++ change ∷ rest → length before ≡ made →
               seat me ≡ Alters v.slot work count before (change ∷ rest) → OwnsIf c.is_open (source me) → (b : Bool) → (made + 1 == length c.changes) ≡ b →
-              Sits u me (at Gate) (stop_goes c (Advance v (cond b (round.Acknowledge 0 true) (round.StoreChange (made + 1))))).control
+              ControlFits u me (at Gate) (stop_goes c (Advance v (cond b (round.Acknowledge 0 true) (round.StoreChange (made + 1))))).control
               (Alters v.slot work count (before ++ change ∷ []) rest) (source me)
           ends visit work count loaded two low plan before change [] are long is y true last = search (made_some, no_change, arith)
           ends visit work count loaded two low plan before change (x ∷ rest) are long is y true last = absurd (search (eqb-true, length-append, arith))

@@ -6,8 +6,9 @@ use Rattle.std.specs.List.{AllByRecursion}
 use Rattle.smp_words.proofs.Puts.{at_test, put_all, put_same, put_other}
 use Rattle.smp_words.specs.declared.field.Field.TheVariants.{Ack, State}
 use Rattle.smp_stop_steps.specs.{HasCalled, IsCalling, AreClosing, put, put_word, mask_weight, weight, Agrees, Change, Patches, Patching, Reading, Whole, Act}
-use Rattle.smp_stop_steps.specs.{labels_in, StandsSet, reading_of, state_left, patch_answer, OwnsKey, PresentShows, RunnerShows, Alters, Fills, In, Rests, Seat}
-use Rattle.smp_stop_steps.specs.{Sets, Stands, Duty, irq_of, duty_of, StopShows, AckShows, IsLevel, Keeps, OpenShows, IsPhaseOf, Source, Setup, StopCall}
+use Rattle.smp_stop_steps.specs.{labels_in, StandsSet, reading_of, state_left, patch_answer, OwnsKey, PresentShows, RunnerShows}
+use Rattle.smp_stop_steps.specs.{Alters, Fills, In, Rests, StopRole}
+use Rattle.smp_stop_steps.specs.{Sets, RoleStands, Duty, irq_of, duty_of, StopShows, AckShows, IsLevel, Keeps, OpenShows, IsPhaseOf, Source, Setup, StopCall}
 use Rattle.smp_stop_steps.specs.{StopState, Calling, Inside, Nobody, Raises, Raising, Standing, acked, acknowledged, is_inside, raised, refilled, stands}
 use Rattle.smp_stop_steps.specs.{first_readings, is_patch, leaves, told, unpatched, with_stop, called_more, carried, One, Patch, Kind as KindOf, Work, Key}
 use Rattle.smp_stop_steps.specs.{Slot, Word, is_on, change_of, State.Present, State.Carries, Stop.Stop}
@@ -28,14 +29,14 @@ look_irq l a n p e level near ne = search (cases_lt, lt-ltb, le-ltb, near, arith
 pub acked_most_phase : (cpus p c : ℕ) (x : Standing) → Keeps cpus p c x → acked x ≤ p
 acked_most_phase cpus p c x k = search arith
 
-module _ (u : Setup) (p : StopState) (at : Word → ℕ) (seat : ℕ → Seat) (source : ℕ → Source) (h : StopShows u p at seat source) (s me : ℕ) where
+module _ (u : Setup) (p : StopState) (at : Word → ℕ) (seat : ℕ → StopRole) (source : ℕ → Source) (h : StopShows u p at seat source) (s me : ℕ) where
   abbrev pub now : Present
   now = p.now
 
   module _ (job : Work) (a l : ℕ) (t : Duty) (is : seat me ≡ In s job a l t) where
     -- where the CPU stands
-    here : Stands p.now me (In s job a l t)
-    here = subst (Stands p.now me) is (h.present.stands me)
+    here : RoleStands p.now me (In s job a l t)
+    here = subst (RoleStands p.now me) is (h.present.stands me)
 
     keeps : Keeps u.cpus (p.now.stop s).phase me (Inside a l)
     keeps = keeps_inside u.cpus (p.now.stop s) (λ f. at (Slot s f)) (h.present.slots s) me (Inside a l) here.1
@@ -132,7 +133,7 @@ module _ (u : Setup) (p : StopState) (at : Word → ℕ) (seat : ℕ → Seat) (
     abbrev pub found : ℕ
     found = at (Slot s Ack)
 
-    abbrev pub next : Seat
+    abbrev pub next : StopRole
     next = In s job (a + 1) (a + 1) (cond (found == 1) Fills Rests)
 
     abbrev pub acked_stop : Stop
@@ -162,7 +163,7 @@ module _ (u : Setup) (p : StopState) (at : Word → ℕ) (seat : ℕ → Seat) (
     leaves_irq b = search (at_test, nat_lt, or_true, or_false, arith)
 
     -- an acknowledgement, over a state in which nobody or another patches
-    ack_shown : (x : Patching) (seat0 : ℕ → Seat) (calls' : ℕ → List StopCall) (calling' : ℕ → Calling) → PresentShows u (record (p.now) { patching = x })
+    ack_shown : (x : Patching) (seat0 : ℕ → StopRole) (calls' : ℕ → List StopCall) (calling' : ℕ → Calling) → PresentShows u (record (p.now) { patching = x })
         at seat0 → seat0 me ≡ In s job a (a + 1) Rests →
         p.now.irq me ≡ nat_lt (a + 1) DISABLE_IRQ → put seat0 me next ≡ put seat me next → (p.now.stop s).standing me ≡ Inside a (a + 1) → (p.now.stop s).is_open ≡
         true →
@@ -183,7 +184,8 @@ module _ (u : Setup) (p : StopState) (at : Word → ℕ) (seat : ℕ → Seat) (
           readings = search (put_other, arith);
         } job a is (put_same p.now.irq me true ∙ sym (leaves_irq (found == 1) ∙ ap
         (λ b. cond b true (nat_lt (a + 1) DISABLE_IRQ)) e)) (λ _ _. subst (AllByRecursion (Agrees (labels_in at))) (sym (put_same p.now.readings me (first_readings
-        me s (p.now.stop s).work))) (agrees (eqb-true (a + 1) EXIT (both_true (a + 1 == EXIT) (not (found == 1)) e).0)))) (subst (λ (y : ℕ → Seat). (c : ℕ) →
+        me s (p.now.stop s).work))) (agrees (eqb-true (a + 1) EXIT (both_true (a + 1 == EXIT) (not (found == 1)) e).0))))
+        (subst (λ (y : ℕ → StopRole). (c : ℕ) →
         IsCalling c (y c) (calling' c)) (sym same) callings) (subst (AreClosing (record (acked_now x) { irq = irq'; readings = readings' })) (sym same)
         (closing_kept p.now seat me next h.closing idle s acked_stop (λ c ne. put_other (p.now.stop s).standing me (Inside (a + 1) (a + 1)) c ne) refl refl)) in
         search (← same, shown', arith)
@@ -203,7 +205,7 @@ module _ (u : Setup) (p : StopState) (at : Word → ℕ) (seat : ℕ → Seat) (
           inside = λ c ne. refl;
           irq = λ c ne. refl;
           readings = λ c ne. refl;
-        } job a is turned (λ on i. h.present.read me on (turned ∙ i))) (subst (λ (y : ℕ → Seat).
+        } job a is turned (λ on i. h.present.read me on (turned ∙ i))) (subst (λ (y : ℕ → StopRole).
         (c : ℕ) → IsCalling c (y c) (calling' c)) (sym same) callings) (subst (AreClosing (acked_now x)) (sym same) (closing_kept p.now seat me next
         h.closing idle s acked_stop (λ c ne. put_other (p.now.stop s).standing me to c ne) refl refl)) in
         search (← same, shown', arith)
@@ -246,7 +248,8 @@ module _ (u : Setup) (p : StopState) (at : Word → ℕ) (seat : ℕ → Seat) (
       let found = at (Slot s Ack) in
       StopShows u (told u p me Act.Sub (Slot s Ack) (Some found) (Some (found - 1)) answer) (put_word at (Slot s Ack) (found - 1))
       (put seat me (In s job RUN RUN (cond (found == 1) Fills Rests))) source
-  ack_subtracted_patched job count made answer is = let st : Stands p.now me (Alters s job count made []) = subst (Stands p.now me) is (h.present.stands me) in
+  ack_subtracted_patched job count made answer is = let st : RoleStands p.now me (Alters s job count made []) = subst (RoleStands p.now me) is
+      (h.present.stands me) in
       let ends = patch_ends u p.now at seat h.present s me job count made is in
       let seat0 = put seat me (In s job DISABLE_IRQ RUN Rests) in
       let next = In s job RUN RUN (cond ((at (Slot s Ack)) == 1) Fills Rests) in
@@ -309,7 +312,7 @@ module _ (u : Setup) (p : StopState) (at : Word → ℕ) (seat : ℕ → Seat) (
       closing = closing_kept p.now seat me (In s job a l Rests) h.closing (subst IsNotClosing (sym is) tt) s (raised (p.now.stop s) (a + 1)) (λ c ne. refl)
           refl refl
 
-      go : (b : Bool) → (a + 1 == OVER) ≡ b → Stands p.now me (In s job a l Sets) → (p.now.stop s).phase ≡ a → (p.now.stop s).phase ≡ l →
+      go : (b : Bool) → (a + 1 == OVER) ≡ b → RoleStands p.now me (In s job a l Sets) → (p.now.stop s).phase ≡ a → (p.now.stop s).phase ≡ l →
           (p.now.stop s).phase ≢ 0 → StaysOpen (p.now.stop s) (raised (p.now.stop s) (a + 1)) →
           ((irq' : ℕ → Bool) (readings' : ℕ → List Reading) (j : ℕ) → OwnsKey u.first (after p.now s (raised (p.now.stop s) (a + 1)) p.now.inside irq'
           readings' p.now.patching) (λ k. at (Key k)) j) →

@@ -1,7 +1,7 @@
 -- A step that leaves a CPU's seat or its source as it was.
 use Rattle.std.proofs.Common.{◌≡◌, ℕ, Bool, true, false, cond, sym, subst, refl, ap}
 use Rattle.smp_words.proofs.{Puts.at_test, SameWords.same_word-true}
-use Rattle.smp_stop_steps.specs.{put, put_word, same_word, Word, Seat, StopShows, Source, Setup, StopState}
+use Rattle.smp_stop_steps.specs.{put, put_word, same_word, Word, StopRole, StopShows, Source, Setup, StopState}
 
 -- a put of what is there
 put_kept : {A : Type 0} (f : ℕ → A) (i j : ℕ) → put f i (f i) j ≡ f j
@@ -18,14 +18,14 @@ word_same at w = λ k x. go x (same_word x w) refl k
     go x true e = ap at (sym (same_word-true x w e))
     go x false e = refl
 
-module _ (u : Setup) (seat : ℕ → Seat) (source : ℕ → Source) (me : ℕ) where
+module _ (u : Setup) (seat : ℕ → StopRole) (source : ℕ → Source) (me : ℕ) where
   -- a step that moves neither
   pub still : (p : StopState) (at : Word → ℕ) → StopShows u p at seat source → StopShows u p at (put seat me (seat me)) (put source me (source me))
   still p at shows = subst (λ x. StopShows u p at x (put source me (source me))) (sym (put_same_fn seat me))
       (subst (λ y. StopShows u p at seat y) (sym (put_same_fn source me)) shows)
 
   -- one that moves the CPU
-  pub moved_seat : (p : StopState) (at : Word → ℕ) (x : Seat) → StopShows u p at (put seat me x) source →
+  pub moved_seat : (p : StopState) (at : Word → ℕ) (x : StopRole) → StopShows u p at (put seat me x) source →
       StopShows u p at (put seat me x) (put source me (source me))
   moved_seat p at x shows = subst (λ y. StopShows u p at (put seat me x) y) (sym (put_same_fn source me)) shows
 

@@ -3,7 +3,7 @@ use Rattle.std.proofs.Common.{◌≡◌, ◌≢◌, ℕ, ◌+◌, ◌<◌, Bool,
 use Rattle.smp_words.proofs.{Puts.at_test, Puts.put_all, Puts.put_both, Puts.put_same, Puts.put_other, SameWords.one_place}
 use Rattle.smp_words.specs.declared.field.Field.TheVariants.{Ack, Active, Arg, Done, Func, Kind, Mask, Result, Roll, State, Todo}
 use Rattle.smp_words.specs.{Put.place_of, Put.same_field, Kinds.kind_at, Kinds.kind_word}
-use Rattle.smp_stop_steps.specs.{HasCompleted, CountShows, put, put_word, unfinished, HasPast, answer_now, PresentShows, Seat, Closes, StopShows, DoneShows}
+use Rattle.smp_stop_steps.specs.{HasCompleted, CountShows, put, put_word, unfinished, HasPast, answer_now, PresentShows, StopRole, Closes, StopShows, DoneShows}
 use Rattle.smp_stop_steps.specs.{IsStored, begun_value, order, Collects, DraftShows, Drafts, IsDrafted, OwnerShows, Owns, Shut, Source, SourceShows, Setup, Act}
 use Rattle.smp_stop_steps.specs.{StopState, Called, Ended, Ending, Last, Outside, Standing, answer_of, closed, is_inside, is_of, opened, drafted, drafts}
 use Rattle.smp_stop_steps.specs.{stored_shut, told, Field, Kind as KindOf, Work, Gate, Key, Slot, Word, has, Stop.Stop}
@@ -49,7 +49,7 @@ stored_more cpus at s work k g is h f l = search (at_test, one_order, field_itse
 pub work_ext : (x y : Work) → x.kind ≡ y.kind → x.mask ≡ y.mask → x.active ≡ y.active → x.func ≡ y.func → x.arg ≡ y.arg → x ≡ y
 work_ext x y a b c d e = λ k. record { kind = a k; mask = b k; active = c k; func = d k; arg = e k }
 
-module _ (u : Setup) (p : StopState) (at : Word → ℕ) (seat : ℕ → Seat) (source : ℕ → Source) (h : StopShows u p at seat source) (me : ℕ) where
+module _ (u : Setup) (p : StopState) (at : Word → ℕ) (seat : ℕ → StopRole) (source : ℕ → Source) (h : StopShows u p at seat source) (me : ℕ) where
   abbrev w : Field → ℕ
   w f = at (Slot me f)
 

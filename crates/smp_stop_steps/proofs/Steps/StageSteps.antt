@@ -5,10 +5,12 @@ use Rattle.smp_labels.proofs.Patched.{left_in_form, xor_same}
 use Rattle.smp_labels.specs.Kinds.{xor}
 use Rattle.smp_words.specs.declared.field.Field.TheVariants.{Ack, Active, Arg, Done, Func, Kind, Mask, Result, Roll, State, Todo}
 use Rattle.smp_words.specs.{Access.one_less, Access.put_if, Kinds.kind_at}
-use Rattle.smp_stop_steps.specs.{is_on, count_after, IsKeyWord, put, put_word, In, Rests, Seat, StopShows, OwnsIf, SitsAt, SitsAtRest, SourceSits, IsNudge, Act}
+use Rattle.smp_stop_steps.specs.{is_on, count_after, IsKeyWord, put, put_word, In, Rests, StopRole, StopShows, OwnsIf, SitsAt}
+use Rattle.smp_stop_steps.specs.{SitsAtRest, SourceSits, IsNudge, Act}
 use Rattle.smp_stop_steps.specs.{begun_value, order, Collects, Drafts, Owns, Shut, Source, StopControlValue, stop_ends, stop_goes, nudge_on, nudge_of, Setup}
 use Rattle.smp_stop_steps.specs.{StopState, StopStep, at_then, state_after, gate_told, told, Field, Begin, EnterActive, EnterKind, EnterMask, LoadDone, Note}
-use Rattle.smp_stop_steps.specs.{LoadResult, OpenGate, TakeGate, NudgeKey, ExchangeKey, StopStage, Kind as KindOf, Work, Gate, Slot, Key, Word, Sits.Sits}
+use Rattle.smp_stop_steps.specs.{LoadResult, OpenGate, TakeGate, NudgeKey, ExchangeKey, StopStage, Kind as KindOf, Work, Gate, Slot}
+use Rattle.smp_stop_steps.specs.{Key, Word, Sits.ControlFits}
 use Rattle.smp_stop_steps.specs.declared.stage.StopStage.TheVariants.{ReadKey, ReadSite}
 use Rattle.smp_stop_steps.proofs.Steps.Patching.{key_read, site_read, key_exchanged}
 use Rattle.smp_stop_steps.proofs.Steps.Sources.{done_loaded, field_stored, gate_opened, gate_taken, kind_back, result_loaded, roll_stored}
@@ -21,8 +23,9 @@ one_apart up n new e = search (nat_lt, eq-eqb, arith)
 pub less_one : (n : ℕ) → 0 < n → n < 2 ^ 64 → one_less n ≡ n - 1
 less_one n some small = omega arith
 
-module _ (u : Setup) (p : StopState) (at : Word → ℕ) (seat : ℕ → Seat) (source : ℕ → Source) (h : StopShows u p at seat source) (c : StopControlValue) (me : ℕ)
-    (s : Sits u me (at Gate) c (seat me) (source me)) where
+module _ (u : Setup) (p : StopState) (at : Word → ℕ) (seat : ℕ → StopRole) (source : ℕ → Source) (h : StopShows u p at seat source) (c : StopControlValue)
+    (me : ℕ)
+    (s : ControlFits u me (at Gate) c (seat me) (source me)) where
   -- between commands
   abbrev AtRest : Type 0
   AtRest = SitsAtRest c.visit (seat me)
@@ -58,7 +61,7 @@ module _ (u : Setup) (p : StopState) (at : Word → ℕ) (seat : ℕ → Seat) (
   drafts_step : (work : Work) (f g : Field) → c.stage ≡ Some (Begin work f) → order f < 10 → order g ≡ order f + 1 →
       (StopShows u (told u p me Act.Store (Slot me f) None (Some (begun_value u.cpus work f)) 0) (put_word at (Slot me f) (begun_value u.cpus work f))
       (put seat me (seat me)) (put source me (Drafts work (order g)))) ×
-      Sits u me (at Gate) (record c { stage = Some (Begin work g) }) (seat me) (Drafts work (order g))
+      ControlFits u me (at Gate) (record c { stage = Some (Begin work g) }) (seat me) (Drafts work (order g))
   drafts_step work f g e low next = let y = begins_source work f e in
       let p' = told u p me Act.Store (Slot me f) None (Some (begun_value u.cpus work f)) 0 in
       let at' = put_word at (Slot me f) (begun_value u.cpus work f) in (
@@ -123,11 +126,11 @@ module _ (u : Setup) (p : StopState) (at : Word → ℕ) (seat : ℕ → Seat) (
     where
       go : (c.interrupts ≡ true) × (u.online me ≡ true) × (k < u.keys) × AtRest → OwnsIf c.is_open (source me) → IsKeyWord (at (Key k)) → (o : Option ℕ) →
           count_after (nudge_of up) (at (Key k)) ≡ o →
-          Sits u me (at Gate) (nudge_on c k (at (Key k)) o).control (seat me) (source me)
+          ControlFits u me (at Gate) (nudge_on c k (at (Key k)) o).control (seat me) (source me)
       go x y fits None e = record { below = s.below; irq = s.irq; seat = x.3; source = y; gate_held = tt }
       go x y fits (Some new) e = either (xor (is_on (at (Key k))) (is_on new)) refl
         where
-          either : (b : Bool) → xor (is_on (at (Key k))) (is_on new) ≡ b → Sits u me (at Gate) (cond b (stop_ends c Note.Stop)
+          either : (b : Bool) → xor (is_on (at (Key k))) (is_on new) ≡ b → ControlFits u me (at Gate) (cond b (stop_ends c Note.Stop)
               (stop_goes c (ExchangeKey k (at (Key k)) new))).control (seat me) (source me)
           either true z = record { below = s.below; irq = s.irq; seat = x.3; source = y; gate_held = tt }
           either false z = search (one_apart, xor_same, left_in_form, arith)
@@ -156,7 +159,7 @@ module _ (u : Setup) (p : StopState) (at : Word → ℕ) (seat : ℕ → Seat) (
       open_done work own ne = search (h.sources, h.present.slots, eq-eqb, arith)
 
       go : AtRest → c.is_open ≡ true → (work : Work) → source me ≡ Owns work → (b : Bool) → (at (Slot me Done) == 0) ≡ b →
-          (y : Source) × (StopShows u p at (put seat me (seat me)) (put source me y)) × Sits u me (at Gate) (cond b (stop_ends c Note.Pending)
+          (y : Source) × (StopShows u p at (put seat me (seat me)) (put source me y)) × ControlFits u me (at Gate) (cond b (stop_ends c Note.Pending)
           (stop_goes c LoadResult)).control (seat me) y
       go x op work own true z = (
         source me,

@@ -1,10 +1,10 @@
 -- What a CPU's stage says of its seat and of its source.
 use Rattle.std.specs.Prelude.{◌≡◌, ℕ, Option, Some}
 use Rattle.std.proofs.Common.{subst}
-use Rattle.smp_stop_steps.specs.{Seat, OwnsIf, SitsAt, SitsInRound, SourceSits, Source, StopControlValue, Setup, RoundStage, Advance, StopStage, Visit}
-use Rattle.smp_stop_steps.specs.Sits.{Sits}
+use Rattle.smp_stop_steps.specs.{StopRole, OwnsIf, SitsAt, SitsInRound, SourceSits, Source, StopControlValue, Setup, RoundStage, Advance, StopStage, Visit}
+use Rattle.smp_stop_steps.specs.Sits.{ControlFits}
 
-module _ {u : Setup} {me gate : ℕ} {c : StopControlValue} {x : Seat} {y : Source} (s : Sits u me gate c x y) where
+module _ {u : Setup} {me gate : ℕ} {c : StopControlValue} {x : StopRole} {y : Source} (s : ControlFits u me gate c x y) where
   pub at_seat : (stage : StopStage) → c.stage ≡ Some stage → SitsAt u me c (Some stage) x
   at_seat stage e = subst (λ (st : Option StopStage). SitsAt u me c st x) e s.seat
 

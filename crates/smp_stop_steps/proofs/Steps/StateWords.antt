@@ -1,7 +1,7 @@
 -- No state word is ever more than 5, whether a stop is open in its slot or not.
 use Rattle.std.proofs.Common.{ℕ, ◌+◌, ◌≤◌, Bool, true, false, ◌==◌, cond, Some, arith, None}
 use Rattle.smp_words.specs.Access.{put_if}
-use Rattle.smp_stop_steps.specs.{at_after, put_word, Change, Seat, Sets, StopShows, SitsAt, SitsIn, SitsInRound, begun_value, Source, StopControlValue}
+use Rattle.smp_stop_steps.specs.{at_after, put_word, Change, StopRole, Sets, StopShows, SitsAt, SitsIn, SitsInRound, begun_value, Source, StopControlValue}
 use Rattle.smp_stop_steps.specs.{change_at, completion_access, label_word, round_access, stop_access, Setup, StopState, first_phase, Field, CompletionStage}
 use Rattle.smp_stop_steps.specs.{RoundStage, Advance, Begin, Close, Complete, Enter, EnterActive, EnterKind, EnterMask, LoadDone, LoadResult, OpenGate}
 use Rattle.smp_stop_steps.specs.{TakeGate, NudgeKey, ExchangeKey, StopStage, Visit, Kind, Work, Gate, Slot, Key, Word, Place}
@@ -39,7 +39,7 @@ module _ (at : Word → ℕ) (h : ArePhases at) where
 
 -- a step of a CPU
 
-module _ (u : Setup) (p : StopState) (at : Word → ℕ) (seat : ℕ → Seat) (source : ℕ → Source) (v : StopShows u p at seat source) (h : ArePhases at)
+module _ (u : Setup) (p : StopState) (at : Word → ℕ) (seat : ℕ → StopRole) (source : ℕ → Source) (v : StopShows u p at seat source) (h : ArePhases at)
     (c : StopControlValue) (me : ℕ) where
   -- who sets the next phase has acknowledged this one, which is at most 4
   raised_small : (w : Visit) → SitsIn w w.acked Sets (seat me) → w.acked + 1 ≤ OVER

@@ -3,14 +3,15 @@ use Rattle.std.proofs.Common.{◌≡◌, ℕ, ◌<◌, cond, sym, subst, inl, ar
 use Rattle.std.specs.Prelude.{slice_set}
 use Rattle.smp_words.proofs.Puts.{at_test, put_all}
 use Rattle.smp_words.specs.declared.field.Field.TheVariants.{Kind}
-use Rattle.smp_stop_steps.specs.{put, MayBegin, Rests, Seat, StopShows, OwnsIf, SitsAtRest, SitsIn, SourceSits, Shut, Source, StopControlValue, stop_goes}
+use Rattle.smp_stop_steps.specs.{put, MayBegin, Rests, StopRole, StopShows, OwnsIf, SitsAtRest, SitsIn, SourceSits, Shut, Source, StopControlValue, stop_goes}
 use Rattle.smp_stop_steps.specs.{Setup, StopState, StopWords, stop_number, StopsShow, stop_control_of, Advance, Begin, Complete, Enter, LoadDone, OpenGate}
-use Rattle.smp_stop_steps.specs.{NudgeKey, TakeGate, StopStage, Visit, Gate, Word, CarriesIn, Calling, Sits.Sits, CompletionStage, RoundStage}
+use Rattle.smp_stop_steps.specs.{NudgeKey, TakeGate, StopStage, Visit, Gate, Word, CarriesIn, Calling, Sits.ControlFits, CompletionStage, RoundStage}
 use Rattle.smp_stop_steps.specs.declared.stage.StopStage.TheVariants.{ReadKey, ReadSite}
 use Rattle.smp_stop_steps.proofs.{State.Gates.gate_mine, Steps.Same.put_same_fn, TheMachine.Values.stop_controls_by_cpu}
 
-module _ (u : Setup) (p : StopState) (at : Word → ℕ) (seat : ℕ → Seat) (source : ℕ → Source) (h : StopShows u p at seat source) (c : StopControlValue) (me : ℕ)
-    (s : Sits u me (at Gate) c (seat me) (source me)) (outside : c.stage ≡ None) where
+module _ (u : Setup) (p : StopState) (at : Word → ℕ) (seat : ℕ → StopRole) (source : ℕ → Source) (h : StopShows u p at seat source) (c : StopControlValue)
+    (me : ℕ)
+    (s : ControlFits u me (at Gate) c (seat me) (source me)) (outside : c.stage ≡ None) where
   at_rest : SitsAtRest c.visit (seat me)
   at_rest = search arith
 
@@ -22,10 +23,10 @@ module _ (u : Setup) (p : StopState) (at : Word → ℕ) (seat : ℕ → Seat) (
 
   -- the source after it, and what the words show then
   abbrev BegunShown : StopStage → Type 0
-  BegunShown stage = (y : Source) × (StopShows u p at seat (put source me y)) × Sits u me (at Gate) (stop_goes c stage).control (seat me) y
+  BegunShown stage = (y : Source) × (StopShows u p at seat (put source me y)) × ControlFits u me (at Gate) (stop_goes c stage).control (seat me) y
 
   -- a command of a source that stays as it was
-  begun_same : (stage : StopStage) → Sits u me (at Gate) (stop_goes c stage).control (seat me) (source me) → BegunShown stage
+  begun_same : (stage : StopStage) → ControlFits u me (at Gate) (stop_goes c stage).control (seat me) (source me) → BegunShown stage
   begun_same stage sits = (source me, subst (λ x. StopShows u p at seat x) (sym (put_same_fn source me)) h, sits)
 
   pub begun_shown : (stage : StopStage) → MayBegin u me (at Gate) c stage → BegunShown stage
@@ -59,11 +60,11 @@ begun_value_shown u p t controls v me below low stage outside m = let c = stop_c
       seat = v.seat;
       source = put v.source me b.0;
       shows = b.1;
-      sits = λ cpu small. subst (λ k. Sits u cpu (stop_number t Gate) k (v.seat cpu) (put v.source me b.0 cpu))
+      sits = λ cpu small. subst (λ k. ControlFits u cpu (stop_number t Gate) k (v.seat cpu) (put v.source me b.0 cpu))
           (sym (stop_controls_by_cpu controls me cpu (stop_goes c stage).control low))
-          (at_test cpu me (λ d. Sits u cpu (stop_number t Gate) (cond d (stop_goes c stage).control (stop_control_of controls cpu)) (v.seat cpu)
+          (at_test cpu me (λ d. ControlFits u cpu (stop_number t Gate) (cond d (stop_goes c stage).control (stop_control_of controls cpu)) (v.seat cpu)
           (cond d b.0 (v.source cpu)))
-          (λ same. subst (λ k. Sits u k (stop_number t Gate) (stop_goes c stage).control (v.seat k) b.0) (sym same) b.2) (λ ne. v.sits cpu small));
+          (λ same. subst (λ k. ControlFits u k (stop_number t Gate) (stop_goes c stage).control (v.seat k) b.0) (sym same) b.2) (λ ne. v.sits cpu small));
       carries = λ cpu small. subst (λ k. CarriesIn k (p.calling cpu)) (sym (stop_controls_by_cpu controls me cpu (stop_goes c stage).control low))
           (at_test cpu me (λ d. CarriesIn (cond d (stop_goes c stage).control (stop_control_of controls cpu)) (p.calling cpu))
           (λ same. subst (λ k. CarriesIn (stop_goes c stage).control (p.calling k)) (sym same) (begun_carries u c me (stop_number t Gate) outside

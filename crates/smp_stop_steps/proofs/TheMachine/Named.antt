@@ -2,17 +2,17 @@
 use Rattle.std.proofs.Common.{◌≡◌, ◌≢◌, ℕ, ◌+◌, ◌<◌, ◌≤◌, Bool, true, false, sym, subst, ◌∙◌, inl, inr, arith, ne_eqb, Some, List, [], ◌∷◌, ◌++◌, length}
 use Rattle.std.proofs.{lemmas.Bool.cases_lt, lemmas.List.append-nil}
 use Rattle.std.specs.List.{AllByRecursion}
-use Rattle.smp_stop_steps.specs.{plan_at, word_of, cpus, Change, Alters, Fills, Gives, In, Rests, Seat, Sets, Stands, Duty, StopShows, SitsInCompletion}
+use Rattle.smp_stop_steps.specs.{plan_at, word_of, cpus, Change, Alters, Fills, Gives, In, Rests, StopRole, Sets, RoleStands, Duty, StopShows, SitsInCompletion}
 use Rattle.smp_stop_steps.specs.{SitsInRound, Collects, Drafts, IsWork, Owns, Shut, Source, SourceShows, StopControlValue, change_at, completion_access}
 use Rattle.smp_stop_steps.specs.{label_word, round_access, stop_access, store_of, Setup, StopState, at_then, CompletionStage, RoundStage, StopStage, Visit}
-use Rattle.smp_stop_steps.specs.{Patch, Work, Gate, Slot, Word, site_changes, MOST_KEYS, MOST_SITES, Sits.Sits}
+use Rattle.smp_stop_steps.specs.{Patch, Work, Gate, Slot, Word, site_changes, MOST_KEYS, MOST_SITES, Sits.ControlFits}
 use Rattle.smp_stop_steps.proofs.{State.Phases.is_open_inside, Steps.RoundSteps.change_here, TheMachine.Tables.IsStopWord, Steps.Stages.at_seat}
 
 -- the changes of a patch are of words in the table
 abbrev pub IsNamedChange : Change → Type 0
 IsNamedChange change = IsStopWord (label_word change.0)
 
-module _ (u : Setup) (p : StopState) (at : Word → ℕ) (seat : ℕ → Seat) (source : ℕ → Source) (h : StopShows u p at seat source) (few : u.cpus ≡ cpus)
+module _ (u : Setup) (p : StopState) (at : Word → ℕ) (seat : ℕ → StopRole) (source : ℕ → Source) (h : StopShows u p at seat source) (few : u.cpus ≡ cpus)
     (shut : (cpu : ℕ) → u.cpus ≤ cpu → source cpu ≡ Shut) where
   -- an open stop is of a CPU that there can be
   open_below : (s : ℕ) → (p.now.stop s).is_open ≡ true → s < cpus
@@ -53,7 +53,7 @@ module _ (u : Setup) (p : StopState) (at : Word → ℕ) (seat : ℕ → Seat) (
     below_alters s work count made rest is = open_below s (open_alters s work count made rest is)
 
     pub work_in : (s : ℕ) (work : Work) (a l : ℕ) (t : Duty) → seat me ≡ In s work a l t → IsWork u work
-    work_in s work a l t is = subst (IsWork u) (subst (Stands p.now me) is (h.present.stands me)).3 (open_work s (open_in s work a l t is))
+    work_in s work a l t is = subst (IsWork u) (subst (RoleStands p.now me) is (h.present.stands me)).3 (open_work s (open_in s work a l t is))
 
     -- the key of a patch is one of the table
     key_below : (s : ℕ) (work : Work) → (p.now.stop s).is_open ≡ true → (p.now.stop s).work ≡ work → work.kind ≡ Patch → work.func < MOST_KEYS
@@ -72,7 +72,7 @@ module _ (u : Setup) (p : StopState) (at : Word → ℕ) (seat : ℕ → Seat) (
     named_store : (change : Change) → IsNamedChange change → IsStopWord (word_of (store_of change))
     named_store change h = search arith
 
-    module _ (c : StopControlValue) (s : Sits u me (at Gate) c (seat me) (source me)) where
+    module _ (c : StopControlValue) (s : ControlFits u me (at Gate) c (seat me) (source me)) where
       me_below : me < cpus
       me_below = omega arith
 

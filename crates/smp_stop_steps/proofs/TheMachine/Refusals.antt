@@ -4,7 +4,7 @@ use Rattle.std.proofs.Common.{ne_eqb}
 use Rattle.std.proofs.{lemmas.Bool.ltb-true, lemmas.List.length-map}
 use Rattle.smp_stop_steps.specs.{SmpError, cpus, Command, Kind, One, Work, Gate, Members.BeginRefuses, IsRefusal, MayAdvance, MayEnter, MayFinish, MayRun}
 use Rattle.smp_words.specs.Commands.{Refuses}
-use Rattle.smp_stop_steps.specs.{RefusesByState, Stands, gate_word, OwnsIf, SitsAt, SitsAtRest, SourceSits, StopControlValue, begin_refusal, has_slot}
+use Rattle.smp_stop_steps.specs.{RefusesByState, RoleStands, gate_word, OwnsIf, SitsAt, SitsAtRest, SourceSits, StopControlValue, begin_refusal, has_slot}
 use Rattle.smp_stop_steps.specs.{is_free, may_advance, may_finish, may_run, refusal_on, terms_of, unless, Setup, StopState, Inside, stop_number, is_one}
 use Rattle.smp_stop_steps.specs.{StopsValue, StopShown, setup_of, stop_control_of, StopStage, Visit, declared.start.Terms.Terms}
 use Rattle.smp_stop_steps.proofs.TheMachine.Fits.{both, is_one_kind, is_same, ne_false, not_one, not_true, of_both}
@@ -64,7 +64,7 @@ module _ (v : StopsValue) (p : StopState) (shown : StopShown p v) (me : ℕ) (lo
   visits w e = search (shown.seat, rests, w.acked, shown.shows.present.stands, arith)
 
   outside : c.visit ≡ None → p.now.inside me ≡ None
-  outside e = subst (Stands p.now me) (subst (λ o. SitsAtRest o (shown.seat me)) e rests) (shown.shows.present.stands me)
+  outside e = subst (RoleStands p.now me) (subst (λ o. SitsAtRest o (shown.seat me)) e rests) (shown.shows.present.stands me)
 
   not_both : c.visit ≡ None → (s : ℕ) → p.now.inside me ≡ Some s → ⊥
   not_both e s is = let bad : None ≡ Some s = sym (outside e) ∙ is in cc

@@ -8,7 +8,8 @@ use Rattle.smp_labels.proofs.Stores.{entries_kept}
 use Rattle.smp_labels.specs.{Entries.IsEntryWord, Entries.entry_at, Law.Table, Plans.site_change}
 use Rattle.smp_stop_steps.specs.{CarriesIn, labels_in, HoldsGate, FitsRound, StopState, StopWords, StopsShow, RoundStage, EnterKind, LoadResult, MOST_SITES}
 use Rattle.smp_stop_steps.specs.{AreI32Words, HasI32Answers, put, StopControlValue, round_access, control_then, stop_words_after, stop_control_of, site_changes}
-use Rattle.smp_stop_steps.specs.{word_of, Patches, Patching, Whole, FitsStop, Complete, EnterMask, LoadDone, OpenGate, TakeGate, NudgeKey, StopStage, Sits.Sits}
+use Rattle.smp_stop_steps.specs.{word_of, Patches, Patching, Whole, FitsStop, Complete, EnterMask, LoadDone, OpenGate, TakeGate}
+use Rattle.smp_stop_steps.specs.{NudgeKey, StopStage, Sits.ControlFits}
 use Rattle.smp_stop_steps.specs.{cpus, Rests, SitsAt, Setup, at_then, Advance, Begin, Close, Enter, Visit, Work, Entry, Gate, Word, CompletionStage}
 use Rattle.smp_stop_steps.specs.{LabelsShow, SitsInRound, changes_of, FitsAccess, stop_access, state_after, stop_number, IsStopTable, EnterActive, ExchangeKey}
 use Rattle.smp_stop_steps.specs.declared.stage.StopStage.TheVariants.{ReadKey, ReadSite}
@@ -66,13 +67,14 @@ module _ (u : Setup) (few : u.cpus ≡ cpus) (p : StopState) (t : StopWords) (co
         seat = put v.seat me one.seat_after;
         source = put v.source me one.source_after;
         shows = search arith;
-        sits = λ cpu low. subst (λ (x : Word → ℕ). Sits u cpu (x Gate) (stop_control_of (slice_set controls me (control_then u at c me stage)) cpu)
+        sits = λ cpu low. subst (λ (x : Word → ℕ). ControlFits u cpu (x Gate) (stop_control_of (slice_set controls me (control_then u at c me stage)) cpu)
             (put v.seat me one.seat_after cpu) (put v.source me one.source_after cpu)) (sym names)
-            (subst (λ k. Sits u cpu (at_then u at c me stage Gate) k (put v.seat me one.seat_after cpu) (put v.source me one.source_after cpu))
+            (subst (λ k. ControlFits u cpu (at_then u at c me stage Gate) k (put v.seat me one.seat_after cpu) (put v.source me one.source_after cpu))
             (sym (stop_controls_by_cpu controls me cpu (control_then u at c me stage) (stop_inside_below controls me stage e)))
-            (at_test cpu me (λ b. Sits u cpu (at_then u at c me stage Gate) (cond b (control_then u at c me stage) (stop_control_of controls cpu))
+            (at_test cpu me (λ b. ControlFits u cpu (at_then u at c me stage Gate) (cond b (control_then u at c me stage) (stop_control_of controls cpu))
             (cond b one.seat_after (v.seat cpu)) (cond b one.source_after (v.source cpu)))
-            (λ same. subst (λ k. Sits u k (at_then u at c me stage Gate) (control_then u at c me stage) one.seat_after one.source_after) (sym same) one.sits)
+            (λ same. subst (λ k. ControlFits u k (at_then u at c me stage Gate) (control_then u at c me stage) one.seat_after one.source_after)
+            (sym same) one.sits)
             (λ ne. others cpu ne (v.sits cpu low))));
         carries = λ cpu low. subst (λ k. CarriesIn k ((state_after u p at c me stage).calling cpu))
             (sym (stop_controls_by_cpu controls me cpu (control_then u at c me stage) (stop_inside_below controls me stage e)))
@@ -86,8 +88,8 @@ module _ (u : Setup) (few : u.cpus ≡ cpus) (p : StopState) (t : StopWords) (co
       held : (cpu : ℕ) → cpu ≢ me → (st : Option StopStage) → HoldsGate cpu (at Gate) st → HoldsGate cpu (at_then u at c me stage Gate) st
       held cpu ne st h = search (gate_stays, v.seat, v.source, v.shows, v.shut, v.sits, below, arith)
 
-      others : (cpu : ℕ) → cpu ≢ me → Sits u cpu (at Gate) (stop_control_of controls cpu) (v.seat cpu) (v.source cpu) →
-          Sits u cpu (at_then u at c me stage Gate) (stop_control_of controls cpu) (v.seat cpu) (v.source cpu)
+      others : (cpu : ℕ) → cpu ≢ me → ControlFits u cpu (at Gate) (stop_control_of controls cpu) (v.seat cpu) (v.source cpu) →
+          ControlFits u cpu (at_then u at c me stage Gate) (stop_control_of controls cpu) (v.seat cpu) (v.source cpu)
       others cpu ne s = search (held, arith)
 
   -- the table stays one

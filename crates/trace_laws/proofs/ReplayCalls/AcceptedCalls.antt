@@ -4,7 +4,8 @@ use Rattle.trace_laws.proofs.Names.{[], ap, arith, cases_eq, cond, cpu_at, eqb-f
 use Rattle.trace_laws.proofs.Names.{length-replicate, length-set, opening, places_free, refl, replicate, slice_index_or, slice_set, subst, sym, true}
 use Rattle.trace_laws.proofs.Names.{true≢false, ℕ, ◌++◌, ◌+◌, ◌-◌, ◌<◌, ◌==◌, ◌||◌, ◌∙◌, ◌∷◌, ◌≡◌, ◌≢◌}
 use Rattle.trace_laws.proofs.ReplayNames.{AimsOnline, CallState, Command, ControlValue, CoreValue, Done, DrainValue, FitsCommand, Follows, GoesElsewhere}
-use Rattle.trace_laws.proofs.ReplayNames.{Handle, HandleStage, IsWhole, KeepsPast, Outcome, Past, Post, PostIs, PostStage, Posted, Posting, Replay, Seen, Send}
+use Rattle.trace_laws.proofs.ReplayNames.{Handle, HandleStage, IsWhole, KeepsPast, CallOutcome, Past, Post, PostIs, PostStage, Posted, Posting, Replay}
+use Rattle.trace_laws.proofs.ReplayNames.{Seen, Send}
 use Rattle.trace_laws.proofs.ReplayNames.{Shown, SmpError, Stage, StopStage, Turned, access_of, after, after_seen, all_fresh, call_events, call_step, calls_in}
 use Rattle.trace_laws.proofs.ReplayNames.{control_after, control_at, control_of, controls_by_cpu, cpus, ends, events_of, events_of_step, first_stage, found_at}
 use Rattle.trace_laws.proofs.ReplayNames.{fresh, get_or-same, handle_goes, handle_outcome, inside_below, kept, made_shown, may_start, new_core, new_shown}
@@ -38,7 +39,7 @@ runs_append s m t [] ys x y = subst (λ (z : StateValue). Runs z ys t) x y
 runs_append s m t (e ∷ xs) ys x y = (x.0, (x.1.0, runs_append x.0 m t xs ys x.1.1 y))
 
 -- a post goes on to the CPU that it goes to
-if_elsewhere : (b : Bool) (me : ℕ) (x y : Outcome) → GoesElsewhere x.next me → GoesElsewhere y.next me → GoesElsewhere (cond b x y).next me
+if_elsewhere : (b : Bool) (me : ℕ) (x y : CallOutcome) → GoesElsewhere x.next me → GoesElsewhere y.next me → GoesElsewhere (cond b x y).next me
 if_elsewhere true me x y k l = k
 if_elsewhere false me x y k l = l
 

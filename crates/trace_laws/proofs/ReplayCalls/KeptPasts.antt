@@ -1,7 +1,7 @@
 -- What a CPU has kept of its steps, after one more.
 use Rattle.trace_laws.proofs.Names.{Async, Bool, Class, List, None, Option, Some, Sync, ap, arith, cases_eq, cond, eq-eqb, false, get_or-set_other}
 use Rattle.trace_laws.proofs.Names.{get_or-set_same, inl, inr, length, length-set, lt-ltb, refl, slice_set, subst, sym, true, ℕ, ◌-◌, ◌<◌, ◌∙◌, ◌≡◌, ◌≢◌}
-use Rattle.trace_laws.proofs.ReplayNames.{BegunIs, Call, CallState, ControlValue, Handle, HandleStage, Holding, IsPlaced, KeepsPast, Outcome, Past, Post}
+use Rattle.trace_laws.proofs.ReplayNames.{BegunIs, Call, CallState, ControlValue, Handle, HandleStage, Holding, IsPlaced, KeepsPast, CallOutcome, Past, Post}
 use Rattle.trace_laws.proofs.ReplayNames.{PostIs, PostIsAt, PostStage, Posted, Posting, Running, Seen, Shows, Stage, Walk, Word, access_of, after, after_flags}
 use Rattle.trace_laws.proofs.ReplayNames.{appended, confirms, control_after, cpus, ends, ends_front, flags_of, fresh, goes_to, head_told, holds_nothing, kept}
 use Rattle.trace_laws.proofs.ReplayNames.{links, outcome_of, past_at, put, put_other, put_same, seen_then, stands_at, tells, walks_front, word_of}
@@ -11,7 +11,7 @@ use Rattle.smp_call_steps.proofs.Knows.Parts.{part_else}
 use Rattle.smp_call_steps.specs.declared.handle.HandleStage.TheVariants as handle
 use Rattle.smp_call_steps.specs.declared.place.RecPlace.TheVariants as machine
 use Rattle.smp_call_steps.specs.declared.post.PostStage.TheVariants as post
-use Rattle.smp_call_steps.specs.declared.known.Part.{Part}
+use Rattle.smp_call_steps.specs.declared.known.CallPart.{CallPart}
 use Rattle.trace_laws.proofs.ReplayCalls.StepEvents.{id_told}
 
 pub past_here : (pasts : List Past) (me : ℕ) (p : Past) → length pasts ≡ 32 → me < cpus → past_at (slice_set pasts me p) me ≡ p
@@ -47,7 +47,7 @@ post_flags true c q p = tt
 post_flags false true q p = tt
 post_flags false false q p = tt
 
-post_accept : (b : Bool) (x y : HandleStage) (p : Posted) → PostIs (cond {A = Outcome} b (record { next = Some (Handle x); note = None })
+post_accept : (b : Bool) (x y : HandleStage) (p : Posted) → PostIs (cond {A = CallOutcome} b (record { next = Some (Handle x); note = None })
     (record { next = Some (Handle y); note = None })).next p
 post_accept true x y p = tt
 post_accept false x y p = tt
@@ -127,7 +127,7 @@ keeps_past a at control shown me pasts below k stage e =
       pasts_are = length-set pasts me q ∙ k.pasts_are;
       begun = λ cpu l. elim (cases_eq cpu me) [
         | inl same ↦ rw (same, past_here pasts me q k.pasts_are below) mine.0
-        | inr ne ↦ rw (past_else pasts me q cpu ne, ap (λ (x : Part). x.running) (part_else me (control me).drain shown stage cpu ne)) (k.begun cpu l)
+        | inr ne ↦ rw (past_else pasts me q cpu ne, ap (λ (x : CallPart). x.running) (part_else me (control me).drain shown stage cpu ne)) (k.begun cpu l)
       ];
       posts = λ cpu l. elim (cases_eq cpu me) [
         | inl same ↦ rw (same, past_here pasts me q k.pasts_are below, put_same control me c) mine.1

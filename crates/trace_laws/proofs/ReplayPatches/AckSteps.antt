@@ -3,7 +3,7 @@ use Rattle.trace_laws.proofs.Names.{Bool, List, None, Ok, Option, Some, Task, []
 use Rattle.trace_laws.proofs.Names.{has, inl, inr, late, next_store, patch_left, refl, set-set, slice_set, stop_at, subst, sym, true, with_acked, with_patch}
 use Rattle.trace_laws.proofs.Names.{with_stop, ℕ, ◌==◌, ◌∙◌, ◌∷◌, ◌≡◌}
 use Rattle.trace_laws.proofs.ReplayNames.{Advance, Alters, AnswerIs, Called, Carries, Change, CpuIs, Idle, In, Inside, InsideIs, Leads, MadeIs, Patch, Refills}
-use Rattle.trace_laws.proofs.ReplayNames.{Rests, Slot, Standing, Stands, StepEvents, Stop, StopIs, StopOutcome, StopStage, StopState, ToldPatch, ToldStop}
+use Rattle.trace_laws.proofs.ReplayNames.{Rests, Slot, Standing, RoleStands, StepEvents, Stop, StopIs, StopOutcome, StopStage, StopState, ToldPatch, ToldStop}
 use Rattle.trace_laws.proofs.ReplayNames.{Visit, Word, Work, acknowledged, acknowledged_in, acknowledges, carried, front_of, given_by, is_called, one_less}
 use Rattle.trace_laws.proofs.ReplayNames.{patch_answer, patch_now, plan_at, put_other, put_same, put_word, raiser_of, stop_goes, told_work, turn_ends}
 use Rattle.trace_laws.proofs.ReplayNames.{visit_acked, with_on}
@@ -44,7 +44,7 @@ module _ (known : Here) where
     abbrev Found : ℕ
     Found = At (Slot slot field.Ack)
 
-    so : Stands p.now me (Alters slot w count (plan_at U w count) [])
+    so : RoleStands p.now me (Alters slot w count (plan_at U w count) [])
     so = patching.so known slot w count (plan_at U w count) [] at_seat
 
     on : has w.active me ≡ true
@@ -97,7 +97,7 @@ module _ (known : Here) where
     abbrev At' : Word → ℕ
     At' = put_word At (Slot slot field.Ack) (one_less (At (Slot slot field.Ack)))
 
-    sits : Stands p.now me (In slot w DISABLE_IRQ RUN Rests)
+    sits : RoleStands p.now me (In slot w DISABLE_IRQ RUN Rests)
     sits = (so.0, so.1, so.2, so.3)
 
     acked_now : acknowledged_in me 3 true (record (stop_at s slot) { patch = Some (patch_left slot s) })

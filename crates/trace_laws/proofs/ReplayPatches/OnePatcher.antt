@@ -1,6 +1,6 @@
 -- Only the first CPU that is online makes a patch, and it makes one alone.
 use Rattle.trace_laws.proofs.Names.{arith, List, None, Some, eqb-true, has, refl, subst, sym, true, ℕ, ◌∙◌, ◌≡◌}
-use Rattle.trace_laws.proofs.ReplayNames.{Alters, Change, Patch, Seat, Setup, Slot, Standing, Stands, StopState, Whole, Word, Work, is_inside, is_of}
+use Rattle.trace_laws.proofs.ReplayNames.{Alters, Change, Patch, StopRole, Setup, Slot, Standing, RoleStands, StopState, Whole, Word, Work, is_inside, is_of}
 use Rattle.trace_laws.proofs.ReplayNames.{is_open_inside}
 use Rattle.smp_stop_steps.specs.{Shows.StopShows, declared.known.Source.Source}
 use Rattle.trace_laws.proofs.ReplayStops.ChangedStates.{IsAlone}
@@ -19,14 +19,14 @@ module _ (p : StopState) (slot c : ℕ) where
   abbrev IsInside : ℕ → Type 0
   IsInside j = is_inside ((p.now.stop j).standing c) ≡ true
 
-  pub inside_by : (x : Seat) → Stands p.now c x → p.now.inside c ≡ Some slot → is_inside ((p.now.stop slot).standing c) ≡ true
+  pub inside_by : (x : StopRole) → RoleStands p.now c x → p.now.inside c ≡ Some slot → is_inside ((p.now.stop slot).standing c) ≡ true
   inside_by x h1 h2 = search (none_some, some_same, arith)
 
 -- the CPU makes no patch
-abbrev pub MakesNone : Seat → Type 0
+abbrev pub MakesNone : StopRole → Type 0
 MakesNone x = (j : ℕ) (w : Work) (count : ℕ) (made rest : List Change) → x ≡ Alters j w count made rest → ⊥
 
-module _ (u : Setup) (p : StopState) (at : Word → ℕ) (seat : ℕ → Seat) (source : ℕ → Source) (h : StopShows u p at seat source) where
+module _ (u : Setup) (p : StopState) (at : Word → ℕ) (seat : ℕ → StopRole) (source : ℕ → Source) (h : StopShows u p at seat source) where
   pub open_inside : (slot c : ℕ) → p.now.inside c ≡ Some slot → (p.now.stop slot).is_open ≡ true
   open_inside slot c e =
       let k = inside_by p slot c (seat c) (h.present.stands c) e in
@@ -47,5 +47,5 @@ module _ (u : Setup) (p : StopState) (at : Word → ℕ) (seat : ℕ → Seat) (
 
   pub elsewhere_none : (me : ℕ) → p.now.inside me ≡ None → MakesNone (seat me)
   elsewhere_none me out j w count made rest e =
-      let st : Stands p.now me (Alters j w count made rest) = subst (Stands p.now me) e (h.present.stands me) in
+      let st : RoleStands p.now me (Alters j w count made rest) = subst (RoleStands p.now me) e (h.present.stands me) in
       none_some j (sym out ∙ st.0)

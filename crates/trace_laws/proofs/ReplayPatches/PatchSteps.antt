@@ -5,7 +5,8 @@ use Rattle.trace_laws.proofs.Names.{patch_left, popped, refl, site_word, slice_s
 use Rattle.trace_laws.proofs.Names.{◌<◌, ◌==◌, ◌∙◌, ◌∷◌, ◌≡◌, ◌≢◌}
 use Rattle.trace_laws.proofs.ReplayNames.{Advance, Alters, Called, Calling, Calls, Carries, Change, CpuIs, FollowsStops, HasLeft, Idle, In, Inside, InsideIs}
 use Rattle.trace_laws.proofs.ReplayNames.{IsCalling, IsPatchWork, Keeps, LabelsShow, Leads, MadeIs, OpenIs, PartIs, Patch, Patches, Patching, PhaseIs, Present}
-use Rattle.trace_laws.proofs.ReplayNames.{ReadingKey, Rests, RoundStage, RunnerShows, Seat, SitsInRound, Standing, Stands, Stop, StopIs, StopStage, StopState}
+use Rattle.trace_laws.proofs.ReplayNames.{ReadingKey, Rests, RoundStage, RunnerShows, StopRole, SitsInRound, Standing, RoleStands, Stop}
+use Rattle.trace_laws.proofs.ReplayNames.{StopIs, StopStage, StopState}
 use Rattle.trace_laws.proofs.ReplayNames.{ToldPatch, ToldStop, Visit, Whole, Work, acked, after, at_after, change_at, front_of, is_at_run, is_patch}
 use Rattle.trace_laws.proofs.ReplayNames.{keeps_inside, key_loaded, label_word, labels_in, past_at, patch_begun, patch_now, plan_at, put_word, reads, seen_of}
 use Rattle.trace_laws.proofs.ReplayNames.{store_of, told_of, told_work, word_of}
@@ -168,7 +169,7 @@ module _ (known : Here) where
 
   -- a CPU that makes a patch
   module _ (slot : ℕ) (w : Work) (count : ℕ) (made rest : List Change) (at_seat : shown.seat me ≡ Alters slot w count made rest) where
-    pub so : Stands p.now me (Alters slot w count made rest)
+    pub so : RoleStands p.now me (Alters slot w count made rest)
     so = seat_is known (Alters slot w count made rest) at_seat
 
     pub active_now : has w.active me ≡ true
@@ -180,7 +181,7 @@ module _ (known : Here) where
         sym (ap (λ (z : Work). has z.active me) so.3) ∙ (k.first me ∙ eq-eqb me U.first r.0)
 
     pub idle : p.calling me ≡ Idle
-    idle = by_calling (p.calling me) (subst (λ (x : Seat). IsCalling me x (p.calling me)) at_seat (shown.shows.callings me))
+    idle = by_calling (p.calling me) (subst (λ (x : StopRole). IsCalling me x (p.calling me)) at_seat (shown.shows.callings me))
       where
         by_calling : (g : Calling) → IsCalling me (Alters slot w count made rest) g → g ≡ Idle
         by_calling Idle k = refl
@@ -213,7 +214,7 @@ module _ (known : Here) where
   -- it makes its next store
   module _ (slot : ℕ) (w : Work) (count : ℕ) (made more : List Change) (change : Change) (at_seat : shown.seat me ≡ Alters slot w count made (change ∷ more))
       (entries : AreEntries U s.words) (plan : plan_at U w count ≡ made ++ change ∷ more) where
-    abbrev Is : Stands p.now me (Alters slot w count made (change ∷ more))
+    abbrev Is : RoleStands p.now me (Alters slot w count made (change ∷ more))
     Is = so slot w count made (change ∷ more) at_seat
 
     lead : Leads s.words w.func (patch_now s.words (stop_at s slot)) (change ∷ more)

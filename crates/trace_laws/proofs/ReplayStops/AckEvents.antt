@@ -3,7 +3,8 @@ use Rattle.trace_laws.proofs.Names.{Bool, Event, List, Multi, None, Ok, One, Opt
 use Rattle.trace_laws.proofs.Names.{eqb-false, eqb-true, false, goes, has, has_run, inl, inr, ne_eqb, refl, slice_set, stop_at, stop_goes, subst, sym, true}
 use Rattle.trace_laws.proofs.Names.{with_stop, ℕ, ◌&&◌, ◌+◌, ◌<◌, ◌==◌, ◌∙◌, ◌≡◌, ◌≢◌}
 use Rattle.trace_laws.proofs.ReplayNames.{AckShows, Calling, In, Inside, InsideIs, Keeps, Key, Nobody, OpenIs, OpenShows, Past, Raising, Refills, Rests, Site}
-use Rattle.trace_laws.proofs.ReplayNames.{Slot, Stands, Stop, StopState, ToldStop, Word, Work, acked, acknowledged_in, count_behind, cpus, has_entered, is_of}
+use Rattle.trace_laws.proofs.ReplayNames.{Slot, RoleStands, Stop, StopState, ToldStop, Word, Work, acked, acknowledged_in, count_behind}
+use Rattle.trace_laws.proofs.ReplayNames.{cpus, has_entered, is_of}
 use Rattle.trace_laws.proofs.ReplayNames.{is_open_inside, keeps_inside, past_at, put, raiser_of}
 use Rattle.smp_words.specs.declared.field.Field.TheVariants as field
 use Rattle.smp_stop_steps.proofs.{State.Acknowledged.nobody_raises, State.Phases.one_fewer}
@@ -30,7 +31,7 @@ module _ (known : Here) (at' : Word → ℕ) (keys : (key : ℕ) → at' (Key ke
   shown slot l o = (f.stops slot l).shows o
 
   -- a CPU that has looked at a phase, which it is to acknowledge
-  module _ (u_is : u.cpus ≡ cpus) (slot a : ℕ) (w : Work) (calling : Calling) (sits : Stands p.now me (In slot w a (a + 1) Rests)) where
+  module _ (u_is : u.cpus ≡ cpus) (slot a : ℕ) (w : Work) (calling : Calling) (sits : RoleStands p.now me (In slot w a (a + 1) Rests)) where
     inside : p.now.inside me ≡ Some slot
     inside = sits.0
 

@@ -3,7 +3,8 @@ use Rattle.trace_laws.proofs.Names.{Bool, Kind, List, Multi, None, Ok, One, Opti
 use Rattle.trace_laws.proofs.Names.{goes, has, is_cpu, ne_eqb, not, pos, refl, slice_set, stop_at, subst, sym, true, with_stop, ℕ, ◌&&◌, ◌+◌, ◌==◌, ◌∙◌, ◌∷◌}
 use Rattle.trace_laws.proofs.Names.{◌≡◌, ◌≢◌}
 use Rattle.trace_laws.proofs.ReplayNames.{Advance, Alters, AnswerIs, Calling, Calls, Carries, Change, Idle, In, Inside, Note, Patch, Patches, Patching, PhaseIs}
-use Rattle.trace_laws.proofs.ReplayNames.{Present, Refills, Rests, RunnerShows, Slot, Standing, Stands, Stop, StopOutcome, StopStage, StopState, Visit, Whole}
+use Rattle.trace_laws.proofs.ReplayNames.{Present, Refills, Rests, RunnerShows, Slot, Standing, RoleStands, Stop, StopOutcome, StopStage}
+use Rattle.trace_laws.proofs.ReplayNames.{StopState, Visit, Whole}
 use Rattle.trace_laws.proofs.ReplayNames.{Word, Work, acknowledged, carried, given_by, has_called, has_entered, irq_of, is_called, leaves, one_less, put}
 use Rattle.trace_laws.proofs.ReplayNames.{put_other, put_same, put_word, raiser_of, stop_ends, stop_goes, visit_acked, with_on}
 use Rattle.smp_words.specs.declared.field.Field.TheVariants as field
@@ -29,7 +30,7 @@ module _ (known : Here) where
   -- a CPU acknowledges
   module _ (slot a : ℕ) (w : Work) (at_seat : shown.seat me ≡ In slot w a (a + 1) Rests) (kind : w.kind ≢ One) (x : Visit) (answer : ℕ) (ran : Bool)
       (called : a + 1 ≡ RUN → has w.active me ≡ true → (w.kind ≡ Multi) × (has_entered (p.calling me) ≡ true)) where
-    abbrev here : Stands p.now me (In slot w a (a + 1) Rests)
+    abbrev here : RoleStands p.now me (In slot w a (a + 1) Rests)
     here = turns.st known slot a (a + 1) w Rests at_seat
 
     abbrev Ack : ℕ

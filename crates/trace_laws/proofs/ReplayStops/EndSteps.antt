@@ -4,7 +4,8 @@ use Rattle.trace_laws.proofs.Names.{inr, is_cpu, ne_eqb, not, pos, refl, slice_s
 use Rattle.trace_laws.proofs.Names.{◌≡◌, ◌≢◌, ◌⊎◌}
 use Rattle.trace_laws.proofs.ReplayNames.{AnswerIs, Answering, Calling, Calls, Carries, CarriesAt, Close, Closes, Complete, Completed, CompletionStage, Gives}
 use Rattle.trace_laws.proofs.ReplayNames.{Idle, In, Inside, IsCalling, IsQuiet, LoadDone, LoadResult, Nobody, Past, Patch, Raises, Raising, Refills, Rests}
-use Rattle.trace_laws.proofs.ReplayNames.{Seat, SitsAt, Slot, Standing, Stop, StopStage, StopState, Visit, Word, Work, acked_of, as_i32, calls_now, has_entered}
+use Rattle.trace_laws.proofs.ReplayNames.{StopRole, SitsAt, Slot, Standing, Stop, StopStage, StopState, Visit, Word, Work, acked_of, as_i32}
+use Rattle.trace_laws.proofs.ReplayNames.{calls_now, has_entered}
 use Rattle.trace_laws.proofs.ReplayNames.{irq_of, is_called, is_of, is_open_inside, may_call, one_less, one_phase, put, put_all, put_other, put_same, put_word}
 use Rattle.trace_laws.proofs.ReplayNames.{raiser_of, stands, stop_number, stored_shut}
 use Rattle.smp_words.specs.declared.field.Field.TheVariants as field
@@ -292,14 +293,14 @@ module _ (known : Here) (results : (slot : ℕ) → stop_number known.v.table (S
           let slot = x.slot in
           let so = seat_is known (Gives slot w x.acked x.answer) at_seat in
           let given = subst (λ (z : Standing). AnswerIs z Old.answer) so.1 ((my known).stop slot so.0).answer in
-          let called = called_so (p.calling me) (subst (λ (z : Seat). IsCalling me z (p.calling me)) at_seat (shown.shows.callings me)) in
+          let called = called_so (p.calling me) (subst (λ (z : StopRole). IsCalling me z (p.calling me)) at_seat (shown.shows.callings me)) in
           subst (λ (z : Standing). ReachesStops (completes p me slot z (At (Slot slot field.Todo))) (put_word At (Slot slot field.Todo) (one_less (At
           (Slot slot field.Todo))))
           (slice_set pasts me (record Old { answer = pos 0 })) s (by me (told.One (event.Stop (stops.Complete Old.answer))))) (sym so.1)
           (ends_so x e x.acked x.answer w (Answering x.acked x.answer) so.1 refl refl refl so.3 given
           (λ phase four. shown.shows.present.irq me ∙ ap irq_of at_seat) (λ kind. called)
           (λ round four. may_give slot x.answer x.acked w so.3 (λ z. round (ap (λ (y : Work). y.kind) so.3 ∙ z)) so.0 given (p.calling me) refl
-          (subst (λ (z : Seat). IsCalling me z (p.calling me)) at_seat (shown.shows.callings me))))
+          (subst (λ (z : StopRole). IsCalling me z (p.calling me)) at_seat (shown.shows.callings me))))
         where
           called_so : (g : Calling) → IsCalling me (Gives x.slot w x.acked x.answer) g → has_entered g ≡ true
           called_so Idle k = absurd k

@@ -3,7 +3,8 @@ use Rattle.trace_laws.proofs.Names.{Bool, Multi, None, Ok, One, Option, Some, Ta
 use Rattle.trace_laws.proofs.Names.{nat_lt, ne_eqb, refl, slice_set, stop_at, subst, sym, true, true≢false, with_stop, ℕ, ◌+◌, ◌<◌, ◌==◌, ◌∙◌, ◌∷◌, ◌≡◌, ◌≢◌}
 use Rattle.trace_laws.proofs.Names.{◌≤◌}
 use Rattle.trace_laws.proofs.ReplayNames.{AckShows, Advance, AnswerIs, Calling, CarriesAt, Idle, In, Inside, Nobody, OpenShows, PhaseIs, Present, Raises}
-use Rattle.trace_laws.proofs.ReplayNames.{Raising, Rests, RoundStage, Sets, SitsInRound, Slot, Standing, Stands, StepEvents, Stop, StopStage, StopState, Visit}
+use Rattle.trace_laws.proofs.ReplayNames.{Raising, Rests, RoundStage, Sets, SitsInRound, Slot, Standing, RoleStands, StepEvents, Stop}
+use Rattle.trace_laws.proofs.ReplayNames.{StopStage, StopState, Visit}
 use Rattle.trace_laws.proofs.ReplayNames.{Word, Work, acked_of, acknowledges, cpus, has_entered, leaves, mask_weight, one_less, one_phase, phase_of, put}
 use Rattle.trace_laws.proofs.ReplayNames.{put_other, put_same, put_word, raiser_of, stop_ends, stored_shut, visit_acked, with_on}
 use Rattle.smp_words.specs.declared.field.Field.TheVariants as field
@@ -104,7 +105,7 @@ module _ (known : Here) where
 
   -- the phase is raised
   module _ (x : Visit) (ran : Bool) (w : Work) (at_seat : shown.seat me ≡ In x.slot w x.acked x.acked Sets) where
-    abbrev so : Stands p.now me (In x.slot w x.acked x.acked Sets)
+    abbrev so : RoleStands p.now me (In x.slot w x.acked x.acked Sets)
     so = st known x.slot x.acked x.acked w Sets at_seat
 
     abbrev Next : Stop

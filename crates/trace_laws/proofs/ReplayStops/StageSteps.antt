@@ -4,7 +4,8 @@ use Rattle.trace_laws.proofs.Names.{has, is_on, is_work, lt-ltb, nat_lt, ne_eqb,
 use Rattle.trace_laws.proofs.Names.{◌∙◌, ◌≡◌}
 use Rattle.trace_laws.proofs.ReplayNames.{Access, Answering, Begin, Called, Completed, Draft, DraftIs, Drafts, Enter, EnterActive, EnterKind, EnterMask, Field}
 use Rattle.trace_laws.proofs.ReplayNames.{Free, Idle, Inside, IsCalling, IsOfCpus, IsPatchWork, Key, NudgeKey, OpenGate, Outside, Patch, Present, ReadKey}
-use Rattle.trace_laws.proofs.ReplayNames.{ReadSite, ReadingKey, Seat, Seen, Site, SitsAt, Slot, Standing, Stands, StopStage, StopState, TakeGate, Visit, Word}
+use Rattle.trace_laws.proofs.ReplayNames.{ReadSite, ReadingKey, StopRole, Seen, Site, SitsAt, Slot, Standing, RoleStands, StopStage}
+use Rattle.trace_laws.proofs.ReplayNames.{StopState, TakeGate, Visit, Word}
 use Rattle.trace_laws.proofs.ReplayNames.{Work, after, after_draft, answer_at, at_after, cpus, first_phase, is_at_run, is_called, is_open_inside, is_patch}
 use Rattle.trace_laws.proofs.ReplayNames.{key_loaded, kind_word, mask_weight, of_gate, of_roll, patch_begun, put_by, put_if, put_other, put_same, put_word}
 use Rattle.trace_laws.proofs.ReplayNames.{reads, same_word, seen_of, stop_access, stop_outcome, told_of, told_work, word_of}
@@ -52,8 +53,8 @@ module _ (known : Here) where
   kept : (access : Access) (word : ℕ → Word) → ((k : ℕ) → same_word (word k) (word_of access) ≡ false) → Kept access word
   kept access word other k = word_kept at (word_of access) (word k) (put_by access (at (word_of access))) (other k)
 
-  seat_is : (x : Seat) → shown.seat me ≡ x → Stands p.now me x
-  seat_is x e = subst (Stands p.now me) e (shown.shows.present.stands me)
+  seat_is : (x : StopRole) → shown.seat me ≡ x → RoleStands p.now me x
+  seat_is x e = subst (RoleStands p.now me) e (shown.shows.present.stands me)
 
   sits : (stage : StopStage) → c.stage ≡ Some stage → SitsAt u me c (Some stage) (shown.seat me)
   sits stage e = subst (λ (x : Option StopStage). SitsAt u me c x (shown.seat me)) e (shown.sits me below).seat
@@ -94,7 +95,7 @@ module _ (known : Here) where
       let called : is_called ((p.now.stop slot).standing me) ≡ true = sym (k.roll me) ∙ e in
       let stood : (p.now.stop slot).standing me ≡ Called = called_is ((p.now.stop slot).standing me) called in
       let is_open : (p.now.stop slot).is_open ≡ true = is_open_inside u.cpus (p.now.stop slot) (λ g. at (Slot slot g)) k me Called stood refl in
-      let idle : p.calling me ≡ Idle = idle_free me (p.calling me) (subst (λ (x : Seat). IsCalling me x (p.calling me)) free (shown.shows.callings me)) in
+      let idle : p.calling me ≡ Idle = idle_free me (p.calling me) (subst (λ (x : StopRole). IsCalling me x (p.calling me)) free (shown.shows.callings me)) in
       rw (e, lt-ltb me 32 (omega arith)) (enters_told known (at_after at (stop_access cpus me c.changes (Enter slot)))
       (kept (stop_access cpus me c.changes (Enter slot)) Key (λ k. refl)) (kept (stop_access cpus me c.changes (Enter slot)) Site
       (λ k. refl)) _ slot l none is_open stood idle

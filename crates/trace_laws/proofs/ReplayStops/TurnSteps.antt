@@ -3,7 +3,8 @@ use Rattle.trace_laws.proofs.Names.{Bool, Kind, Multi, None, One, Option, Some, 
 use Rattle.trace_laws.proofs.Names.{false≢true, has, inl, inr, refl, slice_set, stop_at, subst, sym, true, true≢false, ℕ, ◌&&◌, ◌++◌, ◌+◌, ◌==◌, ◌∙◌, ◌∷◌, ◌≡◌}
 use Rattle.trace_laws.proofs.Names.{◌≢◌, ◌≤◌, ◌⊎◌}
 use Rattle.trace_laws.proofs.ReplayNames.{Advance, Calls, CarriesAt, Duty, Idle, In, Inside, InsideIs, IsCalling, IsQuiet, Keeps, Note, OpenIs, OpenShows, Past}
-use Rattle.trace_laws.proofs.ReplayNames.{Patch, PhaseIs, Rests, RoundStage, Seat, SitsAt, SitsInRound, Slot, Standing, Stands, Stop, StopOutcome, StopStage}
+use Rattle.trace_laws.proofs.ReplayNames.{Patch, PhaseIs, Rests, RoundStage, StopRole, SitsAt, SitsInRound, Slot, Standing, RoleStands, Stop}
+use Rattle.trace_laws.proofs.ReplayNames.{StopOutcome, StopStage}
 use Rattle.trace_laws.proofs.ReplayNames.{StopState, Visit, Work, calls_now, irq_of, is_multi, is_new, is_open_inside, keeps_inside, looked_on, may_call}
 use Rattle.trace_laws.proofs.ReplayNames.{of_arg, phase_of, put, put_all, put_other, put_same, reads, stands, stop_ends, stop_goes}
 use Rattle.smp_words.specs.declared.field.Field.TheVariants as field
@@ -29,15 +30,15 @@ module _ (known : Here) where
   abbrev pub Made : StopStage → Type 0
   Made stage = Accepted known stage
 
-  pub seat_is : (x : Seat) → shown.seat me ≡ x → Stands p.now me x
-  seat_is x e = subst (Stands p.now me) e (shown.shows.present.stands me)
+  pub seat_is : (x : StopRole) → shown.seat me ≡ x → RoleStands p.now me x
+  seat_is x e = subst (RoleStands p.now me) e (shown.shows.present.stands me)
 
   pub sits : (w : Visit) (stage : RoundStage) → C.stage ≡ Some (Advance w stage) → SitsInRound U me C.changes w stage (shown.seat me)
   sits w stage e = (subst (λ (x : Option StopStage). SitsAt U me C x (shown.seat me)) e (shown.sits me below).seat).1
 
   -- a CPU that is in an open stop
   module _ (slot a l : ℕ) (w : Work) (t : Duty) (at_seat : shown.seat me ≡ In slot w a l t) where
-    pub st : Stands p.now me (In slot w a l t)
+    pub st : RoleStands p.now me (In slot w a l t)
     st = seat_is (In slot w a l t) at_seat
 
     i : InsideIs p s Old me slot
@@ -59,7 +60,7 @@ module _ (known : Here) where
     irq_here = shown.shows.present.irq me ∙ ap irq_of at_seat
 
     pub calling_here : IsCalling me (In slot w a l t) (p.calling me)
-    calling_here = subst (λ (x : Seat). IsCalling me x (p.calling me)) at_seat (shown.shows.callings me)
+    calling_here = subst (λ (x : StopRole). IsCalling me x (p.calling me)) at_seat (shown.shows.callings me)
 
   -- a look at the phase
   module _ (slot a : ℕ) (w : Work) (at_seat : shown.seat me ≡ In slot w a a Rests) (kind : w.kind ≢ One) where
@@ -75,7 +76,7 @@ module _ (known : Here) where
       looks = put p.looks me (p.looks me ++ At (Slot slot field.State) ∷ []);
     }
 
-    abbrev so : Stands p.now me (In slot w a a Rests)
+    abbrev so : RoleStands p.now me (In slot w a a Rests)
     so = st slot a a w Rests at_seat
 
     found_is : (At (Slot slot field.State) ≡ a) ⊎ (At (Slot slot field.State) ≡ a + 1)

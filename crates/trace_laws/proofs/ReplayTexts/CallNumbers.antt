@@ -1,12 +1,13 @@
 -- The numbers of the steps of calls are of their types.
 use Rattle.trace_laws.proofs.Names.{AllByRecursion, Bool, List, Some, arith, cond, false, subst, true, ℕ, ◌<◌, ◌^◌, ◌∷◌, ◌≡◌}
-use Rattle.trace_laws.proofs.ReplayNames.{Call, CallState, DrainValue, Handle, HandleStage, IsPlaced, Note, Outcome, Post, PostStage, PostStands, Posting, Seen}
+use Rattle.trace_laws.proofs.ReplayNames.{Call, CallState, DrainValue, Handle, HandleStage, IsPlaced, Note, CallOutcome, Post, PostStage, PostStands}
+use Rattle.trace_laws.proofs.ReplayNames.{Posting, Seen}
 use Rattle.trace_laws.proofs.ReplayNames.{Stage, StandsAt, Word, access_of, cpus, outcome_of, post_outcome, seen_of, share_of}
 use Rattle.smp_call_steps.specs.declared.place.RecPlace.TheVariants as place
 use Rattle.smp_call_steps.specs.{Places.IsCall, Stands.HandleStands, Words.nexts_in}
 use Rattle.trace_laws.proofs.{ReplayTexts.ToldNumbers.NoteFits, ReplayTexts.ToldNumbers.StepFits}
 
-note_if : (b : Bool) (x y : Outcome) → NoteFits x.note → NoteFits y.note → NoteFits (cond b x y).note
+note_if : (b : Bool) (x y : CallOutcome) → NoteFits x.note → NoteFits y.note → NoteFits (cond b x y).note
 note_if true x y k l = k
 note_if false x y k l = l
 

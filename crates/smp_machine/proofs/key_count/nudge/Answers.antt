@@ -1,5 +1,5 @@
 use Rattle.std.proofs.Common.{◌<◌, [], sym, subst, ap, ◌∙◌}
-use Rattle.smp_multi.specs.Names.{Setting}
+use Rattle.smp_multi.specs.Names.{StopSetting}
 use Rattle.smp_machine.specs.MachineCpu.{MachineCpuValue}
 use Rattle.smp_machine.proofs.KeyCounts.{tries_none, nudge_done, nudge_turns, nudge_lost, nudge_refused, nudges_after}
 use Rattle.smp_machine.proofs.key_count.nudge.Goals as goal
@@ -28,7 +28,7 @@ returns-in-Err-clause-nudges g c =
     nudge_refused c.args.k c.args.up [] tt c.args.me.now.stops c.args.me.now.stops c.try_key.new.me.stops
     (ap (λ (p : MachineCpuValue). p.stops) (tries_none c.args.k c.args.me.now))
     c.in-Err.error (
-      subst (λ (x : Setting). c.args.k < x.labels.keys) (sym c.requires.at.stops.setting) c.requires.key,
+      subst (λ (x : StopSetting). c.args.k < x.labels.keys) (sym c.requires.at.stops.setting) c.requires.key,
       sym (ap (λ (p : MachineCpuValue). p.stops.irq) c.me.view_is)
           ∙ c.interrupts_on-on.ensures.outside (ap (λ (p : MachineCpuValue). p.stops.inside) c.me.view_is ∙ c.requires.outside),
     )

@@ -1,5 +1,5 @@
 use Rattle.std.proofs.Common.{◌<◌, [], ◌∷◌, ◌++◌, sym, subst, ap, ◌∙◌}
-use Rattle.smp_multi.specs.Names.{Setting}
+use Rattle.smp_multi.specs.Names.{StopSetting}
 use Rattle.smp_multi.specs.Cpu.{CpuValue}
 use Rattle.smp_machine.specs.MachineCpu.{MachineCpuValue}
 use Rattle.smp_machine.proofs.KeyCounts.{tries_none, place_more, stay_more, nudge_done, nudge_turns, nudge_lost, nudge_refused}
@@ -37,7 +37,7 @@ returns-in-Err-clause-nudges g c =
     let stops = ap (λ (p : MachineCpuValue). p.stops) i.is in
     let setting = ap (λ (s : CpuValue). s.setting) stops ∙ c.requires.at.stops.setting in
     nudge_refused c.args.k c.args.up i.lost i.stay c.args.me.now.stops c.loop.me.stops c.try_key.new.me.stops stops c.in-Err.error (
-      subst (λ (x : Setting). c.args.k < x.labels.keys) (sym setting) c.requires.key,
+      subst (λ (x : StopSetting). c.args.k < x.labels.keys) (sym setting) c.requires.key,
       ap (λ (s : CpuValue). s.irq) stops ∙ (sym (ap (λ (p : MachineCpuValue). p.stops.irq) c.me.view_is)
           ∙ c.interrupts_on-on.ensures.outside (ap (λ (p : MachineCpuValue). p.stops.inside) c.me.view_is ∙ c.requires.outside)),
     )

@@ -1,5 +1,5 @@
 use Rattle.std.proofs.Common.{ap, refl, ◌∙◌}
-use Rattle.smp_multi.specs.Names.{Known, Rests}
+use Rattle.smp_multi.specs.Names.{KnownStops, Rests}
 use Rattle.smp_multi.specs.Names.field
 use Rattle.smp_multi.proofs.Counting.{then_steps}
 use Rattle.smp_multi.proofs.Entering.{ready_plain, entered_moved, finds_kind, finds_mask, finds_active}
@@ -27,8 +27,8 @@ returns-clause-visit c = λ work h.
     record {
       loaded = record {
         kind = c.of_word.ensures ∙ finds_kind _ c.args.slot work 0 0 Rests h.seat_is c.load-kind.result c.load-kind.ensures.then;
-        mask = finds_mask _ c.args.slot work 0 0 Rests (ap (λ (v : Known). v.seat) one ∙ h.seat_is) c.load-mask.result c.load-mask.ensures.then;
-        active = finds_active _ c.args.slot work 0 0 Rests (ap (λ (v : Known). v.seat) two ∙ h.seat_is) c.load-active.result c.load-active.ensures.then;
+        mask = finds_mask _ c.args.slot work 0 0 Rests (ap (λ (v : KnownStops). v.seat) one ∙ h.seat_is) c.load-mask.result c.load-mask.ensures.then;
+        active = finds_active _ c.args.slot work 0 0 Rests (ap (λ (v : KnownStops). v.seat) two ∙ h.seat_is) c.load-active.result c.load-active.ensures.then;
       };
       slot_is = refl;
       fresh = refl;

@@ -1,11 +1,11 @@
 use Rattle.std.proofs.Common.{◌≡◌, Some, ap, sym, subst, ◌∙◌, cond}
 use Rattle.smp_labels.specs.Keys.{is_on, count_after}
 use Rattle.smp_labels.specs.declared.keys.Change.{Change}
-use Rattle.smp_multi.specs.Lives.{Moment}
+use Rattle.smp_multi.specs.Lives.{StopMoment}
 use Rattle.smp_stop_steps.specs.Known.{stepped}
 use Rattle.smp_stop_steps.specs.KnownAfter.{counted}
 use Rattle.smp_stop_steps.specs.Stages.{nudge_of}
-use Rattle.smp_multi.specs.Names.{Key, Known}
+use Rattle.smp_multi.specs.Names.{Key, KnownStops}
 use Rattle.smp_multi.specs.Nudges.{lost_known}
 use Rattle.smp_multi.proofs.Nudging.{found_other, stays_on, same_tests}
 use Rattle.smp_multi.proofs.nudge.try_key.Goals as goal
@@ -25,7 +25,7 @@ returns-else-exchange_count-clause-known c =
       found.0,
       c.load_count-count.ensures.then,
       stays_on c.args.up count next after same,
-      subst (λ (v : Known). Moment v (Key c.args.k) found.0) loaded found.1,
+      subst (λ (v : KnownStops). StopMoment v (Key c.args.k) found.0) loaded found.1,
       found_other found.0 count c.exchange_count.result found.2 lost,
       c.exchange_count.ensures.known
           ∙ (ap (λ b. cond b (stepped 1 (record v { part = record (v.part) { nudged = counted v.part.nudged c.args.k count next } }))

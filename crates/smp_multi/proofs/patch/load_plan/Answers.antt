@@ -6,7 +6,7 @@ use Rattle.smp_labels.specs.Kinds.{kind_of, kind_word}
 use Rattle.smp_labels.specs.Plans.{site_changes}
 use Rattle.smp_labels.specs.declared.patch.Place.TheVariants as place
 use Rattle.smp_stop_steps.specs.Known.{stepped}
-use Rattle.smp_multi.specs.Names.{Known}
+use Rattle.smp_multi.specs.Names.{KnownStops}
 use Rattle.smp_multi.specs.Patches.{entries_in}
 use Rattle.smp_multi.specs.StepCounts.{finding, loading}
 use Rattle.smp_multi.proofs.Counting.{then_steps}
@@ -23,7 +23,7 @@ loop-site-preserved c =
     let old = c.loop-site.plan.items in
     let whole = (place.Key c.args.key, c.args.next) ∷ site_changes c.args.key on 0 es in
     let is : entry_at (slice_index es c.loop-site.site) ≡ Some e =
-    sym (ap entry_at (c.load_entry-word.ensures.word ∙ ap (λ (k : Known). slice_index (entries_in k) c.loop-site.site) inv.known))
+    sym (ap entry_at (c.load_entry-word.ensures.word ∙ ap (λ (k : KnownStops). slice_index (entries_in k) c.loop-site.site) inv.known))
     ∙ (sym c.from_word.ensures.value ∙ c.in-Some.is) in
     let within : c.loop-site.site + 1 ≤ length es = (let low = entry_within es c.loop-site.site e is in omega arith) in
     let more = left_more c.args.key on c.loop-site.site es old whole e is inv.left in

@@ -1,6 +1,6 @@
 use Rattle.std.proofs.Common.{◌+◌, Some, None, cond, refl, sym, ap, subst, ◌∙◌}
 use Rattle.smp_multi.specs.Cpu.{AreWaiting}
-use Rattle.smp_multi.specs.Names.{Setting, Maker}
+use Rattle.smp_multi.specs.Names.{StopSetting, Maker}
 use Rattle.smp_multi.specs.Rule.{made_with}
 use Rattle.smp_multi.specs.Seat.{fresh_seat}
 use Rattle.smp_multi.proofs.Seating.{seat_kept, seats_more, seats_wait, seats_left}
@@ -24,7 +24,7 @@ pub invariant_of-boot : goal.invariant_of-boot
 invariant_of-boot g c =
     let s = c.loop-number.invariant in
     let wait = seats_wait _ _ _ c.args.nr c.args.setting c.loop-number.number c.loop-number.waiting.items c.requires c.loop-number-test.false s in
-    subst (λ (k : Setting). AreWaiting c.loop-number.maker.raw.table_id k c.args.setting.online c.loop-number.waiting.items) (sym (ap made_with s.next))
+    subst (λ (k : StopSetting). AreWaiting c.loop-number.maker.raw.table_id k c.args.setting.online c.loop-number.waiting.items) (sym (ap made_with s.next))
     (subst (λ t. AreWaiting t c.args.setting c.args.setting.online c.loop-number.waiting.items) (sym s.maker_is) wait)
 
 pub returns : goal.returns

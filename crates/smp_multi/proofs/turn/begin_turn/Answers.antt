@@ -5,7 +5,7 @@ use Rattle.smp_stop_steps.specs.KnownAfter.{looked_known}
 use Rattle.smp_words.specs.declared.phase.TheConstants.{DISABLE_IRQ, RUN}
 use Rattle.smp_multi.specs.Names.{Patch}
 use Rattle.smp_multi.specs.Running.{calls_now}
-use Rattle.smp_multi.specs.Turns.{HasRun, no_call}
+use Rattle.smp_multi.specs.Turns.{HasRunFunction, no_call}
 use Rattle.smp_multi.proofs.Counting.{then_steps}
 use Rattle.smp_multi.proofs.Patching.{has_patched}
 use Rattle.smp_multi.proofs.turn.begin_turn.Goals as goal
@@ -24,7 +24,7 @@ returns-then-eq-clause-goes c =
       (
         disabled,
         active,
-        subst (HasRun no_call k c.patch_on-visit.new.seat.known v c.patch_on-visit.result tt tt) (sym kind)
+        subst (HasRunFunction no_call k c.patch_on-visit.new.seat.known v c.patch_on-visit.result tt tt) (sym kind)
             (has_patched no_call k c.look-state.new.seat.known c.patch_on-visit.new.seat.known v c.patch_on-visit.result tt p.0 looked p.1 p.2 p.3),
       ),
     )

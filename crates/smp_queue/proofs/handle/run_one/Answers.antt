@@ -1,5 +1,5 @@
 use Rattle.std.proofs.Common.{ℕ, ap, subst}
-use Rattle.smp_queue.specs.{Known, heard}
+use Rattle.smp_queue.specs.{KnownCalls, heard}
 use Rattle.smp_queue.proofs.Handling.Passing.{ran_still}
 use Rattle.smp_queue.proofs.Handling.Running.{ran_one}
 use Rattle.smp_queue.proofs.handle.run_one.Goals as goal
@@ -7,7 +7,7 @@ use Rattle.smp_queue.proofs.handle.run_one.Goals as goal
 pub end_call-requires-clause-counts : goal.end_call-requires-clause-counts
 end_call-requires-clause-counts g c =
     ran_still c.args.counts.now c.args.seat.now.known c.begin_call-begun.new.seat.known c.requires.counts
-    (ap (λ (u : Known). u.part.ran) c.begin_call-begun.ensures.gives.known)
+    (ap (λ (u : KnownCalls). u.part.ran) c.begin_call-begun.ensures.gives.known)
 
 pub returns-clause-run : goal.returns-clause-run
 returns-clause-run g c =

@@ -2,7 +2,7 @@ use Rattle.std.proofs.Common.{arith, ℕ, ◌<◌, refl, ap, sym, subst}
 use Rattle.smp_call_steps.specs.Drains.{record_at}
 use Rattle.smp_words.specs.declared.size.TheConstants.{MOST_CALLS}
 use Rattle.smp_call_steps.proofs.Knows.Handling.{lives_fits, next_stored_is}
-use Rattle.smp_queue.specs.{Next, Load, Store, Known}
+use Rattle.smp_queue.specs.{Next, Load, Store, KnownCalls}
 use Rattle.smp_queue.proofs.Handling.Handles.{in_handle_ready, in_handle_then}
 use Rattle.smp_queue.proofs.Handling.Going.{next_known, next_goes, found_fits}
 use Rattle.smp_queue.specs.handle
@@ -34,4 +34,4 @@ returns-clause-room c =
     let at = next_goes _ c.requires c.args.id c.load-link.result (handle.ReverseStore c.args.newer c.args.id (record_at c.load-link.result)) l refl in
     let k = next_known _ c.requires c.args.id c.load-link.result l in
     let f = lives_fits at.lives (handle.ReverseStore c.args.newer c.args.id (record_at c.load-link.result)) at.stage_is in
-    subst (λ (u : Known). u.drain.calls < MOST_CALLS) k f.1
+    subst (λ (u : KnownCalls). u.drain.calls < MOST_CALLS) k f.1

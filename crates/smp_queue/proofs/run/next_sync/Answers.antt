@@ -1,6 +1,6 @@
 use Rattle.std.proofs.Common.{arith, refl, sym, ap, ◌∙◌}
 use Rattle.smp_call_steps.specs.Drains.{by_class, record_at}
-use Rattle.smp_queue.specs.{Class, Flags, Known, Next, Load}
+use Rattle.smp_queue.specs.{Class, Flags, KnownCalls, Next, Load}
 use Rattle.smp_queue.proofs.Handling.Handles.{in_handle_ready}
 use Rattle.smp_queue.proofs.Handling.Going.{first_at, found_fits, sync_flags_at, class_goes, class_kept, kept_on}
 use Rattle.smp_queue.proofs.Handling.Ahead.{ahead_less, ahead_then}
@@ -28,7 +28,7 @@ loop-id-smaller c =
     let here = first_at c.loop-id.walk is c.loop-id.invariant.1.at in
     let l1 = c.load-link.ensures in
     let known = class_kept _ _ _ _ here l1 c.load-flags.ensures in
-    ahead_then _ _ _ _ c.in-Some.id c.load-link.result is refl (ap (λ (u : Known). u.part.taken) known) (ahead_less _ _ _ _ _ here l1.moment)
+    ahead_then _ _ _ _ c.in-Some.id c.load-link.result is refl (ap (λ (u : KnownCalls). u.part.taken) known) (ahead_less _ _ _ _ _ here l1.moment)
 
 pub loop-id-preserved : goal.loop-id-preserved
 loop-id-preserved c =

@@ -6,7 +6,7 @@ use Rattle.smp_mask.specs.declared.error.SmpError.{SmpError}
 use Rattle.smp_queue.specs.declared.handler.Heard.{Heard}
 use Rattle.smp_multi.specs.declared.func.Called.{Called}
 use Rattle.smp_multi.specs.Cpu.{CpuValue, TableValue}
-use Rattle.smp_multi.specs.Names.{Reading, ReadKey, ReadSite, Setting}
+use Rattle.smp_multi.specs.Names.{Reading, ReadKey, ReadSite, StopSetting}
 use Rattle.smp_multi.specs.Reads.{SiteAnswers, jumps}
 use Rattle.smp_machine.specs.Keys.{Reads, Sets}
 use Rattle.smp_machine.specs.MachineCpu.{MachineCpuValue}
@@ -14,7 +14,7 @@ use Rattle.smp_machine.specs.ReadLaws.{KindsFollowKeys, is_jump}
 use Rattle.smp_machine_tests.proofs.tests.users.turn_and_look.Goals as goal
 
 -- a site's reading is last, and the key's is still there
-answer_read : KindsFollowKeys → (setting : Setting) (mid new : CpuValue) (k i : ℕ) (on : Bool) (r : Result SiteKind SmpError) → mid.setting ≡ setting
+answer_read : KindsFollowKeys → (setting : StopSetting) (mid new : CpuValue) (k i : ℕ) (on : Bool) (r : Result SiteKind SmpError) → mid.setting ≡ setting
     → Reads mid (ReadKey k on) → SiteAnswers i mid new r
     → IfOk r (λ kind. (e : Entry) → e ≡ slice_index_or setting.labels.entries i e → e.key ≡ k → jumps kind ≡ is_jump on e.branch)
 answer_read law setting mid new k i on (Ok kind) same read a = λ e at key.
@@ -23,8 +23,8 @@ answer_read law setting mid new k i on (Ok kind) same read a = λ e at key.
     let all : new.part.readings ≡ (read.0 ++ key_on ∷ read.1) ++ site ∷ [] =
     ap (λ (c : CpuValue). c.part.readings) is ∙ ap (λ (rs : List Reading). rs ++ site ∷ []) read.2 in
     law new k i on (jumps kind) e a.2 (read.0, read.1 ++ site ∷ [], all ∙ append_assoc read.0 (key_on ∷ read.1) (site ∷ []))
-    (read.0 ++ key_on ∷ read.1, [], all) (subst (λ (s : Setting). i < length s.labels.entries) (same ∙ sym kept) a.0.0)
-    (subst (λ (s : Setting). e ≡ slice_index_or s.labels.entries i e) (sym kept) at) key
+    (read.0 ++ key_on ∷ read.1, [], all) (subst (λ (s : StopSetting). i < length s.labels.entries) (same ∙ sym kept) a.0.0)
+    (subst (λ (s : StopSetting). e ≡ slice_index_or s.labels.entries i e) (sym kept) at) key
 answer_read law setting mid new k i on (Err x) same read a = tt
 
 -- the machine's labels are still the CPU's

@@ -2,7 +2,7 @@ use Rattle.std.proofs.Common.{ℕ, arith, ap, ◌∙◌, Some}
 use Rattle.smp_stop_steps.specs.Known.{carrying}
 use Rattle.smp_stop_steps.specs.KnownAfter.{known_told}
 use Rattle.smp_words.specs.Access.{one_less}
-use Rattle.smp_multi.specs.Names.{Known, SeatView}
+use Rattle.smp_multi.specs.Names.{KnownStops, StopSeatView}
 use Rattle.smp_multi.specs.Names.act
 use Rattle.smp_multi.specs.Rule.{known}
 use Rattle.smp_multi.proofs.Carrying.{sub_keeps}
@@ -33,6 +33,6 @@ pub returns-clause-known : goal.returns-clause-known
 returns-clause-known g c =
     let n = c.fetch_sub-found.result in
     let told = c.fetch_sub-found.ensures.2.1 c.args.word c.cell.ensures in
-    ap (λ (s : SeatView). known s) told
+    ap (λ (s : StopSeatView). known s) told
     ∙ (ap (λ (x : ℕ). known_told (carrying x (known c.seat.inside.raw.me.0)) act.Sub c.args.word (Some n) (Some (one_less n))) c.requires.picks
-    ∙ ap (λ (v : Known). known_told (carrying c.args.answer v) act.Sub c.args.word (Some n) (Some (one_less n))) (ap (λ d. d.known) c.seat.view_is))
+    ∙ ap (λ (v : KnownStops). known_told (carrying c.args.answer v) act.Sub c.args.word (Some n) (Some (one_less n))) (ap (λ d. d.known) c.seat.view_is))

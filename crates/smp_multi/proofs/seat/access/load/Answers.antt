@@ -1,7 +1,7 @@
 use Rattle.std.proofs.Common.{arith, ap, subst, ◌∙◌, Some, None}
-use Rattle.smp_multi.specs.Lives.{Moment}
+use Rattle.smp_multi.specs.Lives.{StopMoment}
 use Rattle.smp_stop_steps.specs.KnownAfter.{known_told}
-use Rattle.smp_multi.specs.Names.{Known, SeatView}
+use Rattle.smp_multi.specs.Names.{KnownStops, StopSeatView}
 use Rattle.smp_multi.specs.Names.act
 use Rattle.smp_multi.specs.Rule.{known}
 use Rattle.smp_multi.proofs.Carrying.{load_keeps}
@@ -27,9 +27,9 @@ invariant_of-seat c = seat_on _ _ _ (c.load.ensures.2.1 c.args.word c.cell.ensur
 pub returns-clause-known : goal.returns-clause-known
 returns-clause-known c =
     let told = c.load.ensures.2.1 c.args.word c.cell.ensures in
-    ap (λ (s : SeatView). known s) told.1
-    ∙ ap (λ (v : Known). known_told v act.Load c.args.word (Some c.load.result) None) (ap (λ d. d.known) c.seat.view_is)
+    ap (λ (s : StopSeatView). known s) told.1
+    ∙ ap (λ (v : KnownStops). known_told v act.Load c.args.word (Some c.load.result) None) (ap (λ d. d.known) c.seat.view_is)
 
 pub returns-clause-then : goal.returns-clause-then
-returns-clause-then c = subst (λ (v : Known). Moment v c.args.word c.load.result) (ap (λ d. d.known) c.seat.view_is)
+returns-clause-then c = subst (λ (v : KnownStops). StopMoment v c.args.word c.load.result) (ap (λ d. d.known) c.seat.view_is)
     (c.load.ensures.2.1 c.args.word c.cell.ensures).0

@@ -1,8 +1,8 @@
 use Rattle.std.proofs.Common.{arith, ap, subst, ◌∙◌, ◌≡◌, Some, bit_and}
-use Rattle.smp_multi.specs.Lives.{Moment}
+use Rattle.smp_multi.specs.Lives.{StopMoment}
 use Rattle.smp_stop_steps.specs.KnownAfter.{known_entering}
 use Rattle.smp_stop_steps.specs.Moves.{entering}
-use Rattle.smp_multi.specs.Names.{Known, SeatView}
+use Rattle.smp_multi.specs.Names.{KnownStops, StopSeatView}
 use Rattle.smp_multi.specs.Names.act
 use Rattle.smp_multi.specs.Rule.{known}
 use Rattle.smp_multi.proofs.Carrying.{and_keeps}
@@ -30,10 +30,10 @@ pub returns-clause-known : goal.returns-clause-known
 returns-clause-known c =
     let n = c.fetch_and.result in
     let e = c.fetch_and.ensures.2.1 c.args.word c.cell.ensures in
-    subst (λ (v : Known). (t : Moment v c.args.word n)
+    subst (λ (v : KnownStops). (t : StopMoment v c.args.word n)
     × (known c.fetch_and.new.seat.me.0 ≡ known_entering (entering t.stops c.args.word) v act.And c.args.word (Some n)
     (Some (bit_and n c.args.number))))
     (ap (λ d. d.known) c.seat.view_is) (
       e.0,
-      ap (λ (s : SeatView). known s) e.1,
+      ap (λ (s : StopSeatView). known s) e.1,
     )

@@ -1,6 +1,6 @@
 use Rattle.std.proofs.Common.{arith, ap, ◌∙◌, Some, None}
 use Rattle.smp_stop_steps.specs.KnownAfter.{known_told}
-use Rattle.smp_multi.specs.Names.{Known, SeatView}
+use Rattle.smp_multi.specs.Names.{KnownStops, StopSeatView}
 use Rattle.smp_multi.specs.Names.act
 use Rattle.smp_multi.specs.Rule.{known}
 use Rattle.smp_multi.proofs.Carrying.{store_keeps}
@@ -26,5 +26,5 @@ invariant_of-seat c = seat_on _ _ _ (c.store.ensures.2.1 c.args.word c.cell.ensu
 pub returns-clause-known : goal.returns-clause-known
 returns-clause-known c =
     let told = c.store.ensures.2.1 c.args.word c.cell.ensures in
-    ap (λ (s : SeatView). known s) told
-    ∙ ap (λ (v : Known). known_told v act.Store c.args.word None (Some c.args.number)) (ap (λ d. d.known) c.seat.view_is)
+    ap (λ (s : StopSeatView). known s) told
+    ∙ ap (λ (v : KnownStops). known_told v act.Store c.args.word None (Some c.args.number)) (ap (λ d. d.known) c.seat.view_is)

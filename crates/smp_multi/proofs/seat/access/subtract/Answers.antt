@@ -1,7 +1,7 @@
 use Rattle.std.proofs.Common.{arith, ap, ◌∙◌, Some}
 use Rattle.smp_stop_steps.specs.KnownAfter.{known_told}
 use Rattle.smp_words.specs.Access.{one_less}
-use Rattle.smp_multi.specs.Names.{Known, SeatView}
+use Rattle.smp_multi.specs.Names.{KnownStops, StopSeatView}
 use Rattle.smp_multi.specs.Names.act
 use Rattle.smp_multi.specs.Rule.{known}
 use Rattle.smp_multi.proofs.Carrying.{sub_keeps}
@@ -27,5 +27,6 @@ invariant_of-seat c = seat_on _ _ _ (c.fetch_sub.ensures.2.1 c.args.word c.cell.
 pub returns-clause-known : goal.returns-clause-known
 returns-clause-known c =
     let told = c.fetch_sub.ensures.2.1 c.args.word c.cell.ensures in
-    ap (λ (s : SeatView). known s) told.1
-    ∙ ap (λ (v : Known). known_told v act.Sub c.args.word (Some c.fetch_sub.result) (Some (one_less c.fetch_sub.result))) (ap (λ d. d.known) c.seat.view_is)
+    ap (λ (s : StopSeatView). known s) told.1
+    ∙ ap (λ (v : KnownStops). known_told v act.Sub c.args.word (Some c.fetch_sub.result) (Some (one_less c.fetch_sub.result)))
+    (ap (λ d. d.known) c.seat.view_is)

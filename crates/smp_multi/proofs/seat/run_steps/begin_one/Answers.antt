@@ -1,6 +1,6 @@
 use Rattle.std.proofs.Common.{arith, ap, ◌∙◌, sym}
 use Rattle.smp_stop_steps.specs.Known.{stepped}
-use Rattle.smp_multi.specs.Names.{Known, Rests}
+use Rattle.smp_multi.specs.Names.{KnownStops, Rests}
 use Rattle.smp_multi.specs.Names.field
 use Rattle.smp_multi.specs.Places.{work_in}
 use Rattle.smp_multi.specs.Running.{calls_now}
@@ -39,6 +39,6 @@ returns-clause-call c =
     let same = sym (returns-clause-known c) in
     let func = finds_func _ c.args.slot _ 0 0 Rests a.seat_is c.load-number.result c.load-number.ensures.then in
     let arg = finds_arg _ c.args.slot _ 0 0 Rests m.seat_is c.load-arg.result c.load-arg.ensures.then in (
-      func ∙ ap (λ (v : Known). (work_in v.seat).func) same,
-      arg ∙ (ap (λ (v : Known). (work_in v.seat).arg) c.load-number.ensures.known ∙ ap (λ (v : Known). (work_in v.seat).arg) same),
+      func ∙ ap (λ (v : KnownStops). (work_in v.seat).func) same,
+      arg ∙ (ap (λ (v : KnownStops). (work_in v.seat).arg) c.load-number.ensures.known ∙ ap (λ (v : KnownStops). (work_in v.seat).arg) same),
     )

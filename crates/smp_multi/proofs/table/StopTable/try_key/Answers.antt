@@ -1,6 +1,6 @@
 use Rattle.std.proofs.Common.{◌<◌, ap, sym, subst, ◌∙◌}
 use Rattle.smp_mask.specs.Mask.{has}
-use Rattle.smp_multi.specs.Names.{Setting}
+use Rattle.smp_multi.specs.Names.{StopSetting}
 use Rattle.smp_multi.specs.Cpu.{CpuValue, TableValue, cpu_of}
 use Rattle.smp_multi.specs.Nudges.{NudgeAnswers}
 use Rattle.smp_multi.proofs.Nudging.{nudge_answers}
@@ -18,7 +18,7 @@ returns g c =
     let setting = ap (λ (m : CpuValue). m.setting) c.me.view_is ∙ (c.requires.setting ∙ sym (ap (λ (t : TableValue). t.setting) c.self.view_is)) in
     let online = ap (has d.known.setting.online) kept.number_is ∙ kept.online in
     let on = ap (λ (m : CpuValue). m.irq) c.me.view_is ∙ (sym c.interrupts_on.ensures.value ∙ c.if-not-interrupts_on.false) in
-    let low = subst (λ (s : Setting). c.args.k < s.labels.keys) (sym setting) (subst (λ n. c.args.k < n) c.keys.ensures.value c.if-k-keys.false) in
+    let low = subst (λ (s : StopSetting). c.args.k < s.labels.keys) (sym setting) (subst (λ n. c.args.k < n) c.keys.ensures.value c.if-k-keys.false) in
     subst (λ (m : CpuValue). NudgeAnswers c.args.k c.args.up m (cpu_of e) c.try_key.result) c.me.view_is
     (nudge_answers d e c.args.k c.args.up table c.try_key.ensures.lives online on low (rests_ungiven _ _ kept.rests)
     c.try_key.result c.try_key.ensures.known)

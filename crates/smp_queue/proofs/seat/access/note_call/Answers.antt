@@ -1,5 +1,5 @@
 use Rattle.std.proofs.Common.{◌≡◌, ap, sym, subst, ◌∙◌}
-use Rattle.smp_queue.specs.{SeatView, IsCpuSeat, Sits, known, noted}
+use Rattle.smp_queue.specs.{CallSeatView, IsCpuSeat, SeatInvariant, known, noted}
 use Rattle.smp_queue.proofs.TheRule.Keeps.{note_stays, note_sits}
 use Rattle.smp_queue.proofs.seat.access.note_call.Goals as goal
 
@@ -9,4 +9,4 @@ retell-requires c = (ap (λ d. d.table) c.seat.view_is ∙ c.requires, note_stay
 pub invariant_of-seat : goal.invariant_of-seat
 invariant_of-seat c =
     let e : c.retell.new.seat.me.0 ≡ noted c.seat.inside.raw.me.0 = ap (λ m. m.0) c.retell.ensures.2 in
-    subst (λ (m : SeatView). IsCpuSeat m × Sits (known m)) (sym e) (tt, note_sits c.seat.inside.raw.me.0 c.seat.invariant.1)
+    subst (λ (m : CallSeatView). IsCpuSeat m × SeatInvariant (known m)) (sym e) (tt, note_sits c.seat.inside.raw.me.0 c.seat.invariant.1)

@@ -1,6 +1,6 @@
 use Rattle.std.proofs.Common.{◌≡◌, Some, None, arith, ap, subst, ◌∙◌}
 use Rattle.smp_call_steps.specs.Known.{known_told}
-use Rattle.smp_queue.specs.{Store, Known, known}
+use Rattle.smp_queue.specs.{Store, KnownCalls, known}
 use Rattle.smp_queue.specs.act
 use Rattle.smp_queue.proofs.TheRule.Cells.{cell_below}
 use Rattle.smp_queue.proofs.TheRule.Keeps.{call_store_allowed, can_same, reach_same}
@@ -25,7 +25,7 @@ returns-clause-lives c = let s = c.store.ensures.2.0.0 in s.lives
 
 pub returns-clause-known : goal.returns-clause-known
 returns-clause-known c = let e = c.store.ensures.2.0.1 c.args.word c.cell.ensures in
-    subst (λ (v : Known). known c.store.new.seat.me.0 ≡ known_told v act.Store c.args.word None (Some c.args.number))
+    subst (λ (v : KnownCalls). known c.store.new.seat.me.0 ≡ known_told v act.Store c.args.word None (Some c.args.number))
     (ap (λ d. d.known) c.seat.view_is) (ap known e)
 
 pub returns-clause-put : goal.returns-clause-put

@@ -1,6 +1,6 @@
 use Rattle.std.proofs.Common.{arith, ap, subst, ◌∙◌, ◌≡◌, Some}
-use Rattle.smp_call_steps.specs.Known.{Moment, known_taking}
-use Rattle.smp_queue.specs.{Swap, Known, known}
+use Rattle.smp_call_steps.specs.Known.{CallMoment, known_taking}
+use Rattle.smp_queue.specs.{Swap, KnownCalls, known}
 use Rattle.smp_queue.proofs.TheRule.Keeps.{swap_allowed, can_same, reach_same}
 use Rattle.smp_queue.proofs.TheRule.Cells.{cell_below}
 use Rattle.smp_queue.specs.act
@@ -18,6 +18,6 @@ swap-requires c = let r = c.requires in let low = cell_below c.args.word c.cell.
 -- the moment, of what the caller sees
 pub returns-clause-known : goal.returns-clause-known
 returns-clause-known c = let e = c.swap.ensures.2.1 c.args.word c.cell.ensures in
-    subst (λ (v : Known). (t : Moment v c.args.word c.swap.result)
+    subst (λ (v : KnownCalls). (t : CallMoment v c.args.word c.swap.result)
     × (known c.swap.new.seat.me.0 ≡ known_taking (t.lives.calls.queue v.number) v act.Swap c.args.word (Some c.swap.result) (Some c.args.number)))
     (ap (λ d. d.known) c.seat.view_is) (e.0, ap known e.1)

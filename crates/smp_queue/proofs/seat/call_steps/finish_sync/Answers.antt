@@ -4,7 +4,7 @@ use Rattle.smp_call_steps.specs.Drains.{first_on}
 use Rattle.smp_call_steps.specs.Handling.{ended_call}
 use Rattle.smp_words.proofs.Sizes.{owner-below}
 use Rattle.smp_call_steps.proofs.Knows.Handling.{lives_stands}
-use Rattle.smp_queue.specs.{Known}
+use Rattle.smp_queue.specs.{KnownCalls}
 use Rattle.smp_queue.proofs.Handling.Running.{tally_running, more_ran}
 use Rattle.smp_queue.specs.handle
 use Rattle.smp_queue.proofs.seat.call_steps.finish_sync.Goals as goal
@@ -32,4 +32,4 @@ returns-clause-counts g c =
     (ap (set c.args.counts.now c.owner_of-source.result) c.one_more-count.ensures.count
     ∙ ap (λ (n : ℕ). set c.args.counts.now n ((get_or c.args.counts.now n 0 + 1) % 2 ^ 64)) c.owner_of-source.ensures) in
     more_ran c.args.counts.now _ c.args.seat.now.known c.end_sync.new.seat.known p.call c.requires.counts c.requires.in_range
-    (ap (λ (u : Known). u.part.ran) known) is
+    (ap (λ (u : KnownCalls). u.part.ran) known) is

@@ -2,7 +2,7 @@ use Rattle.std.proofs.Common.{◌∙◌, ◌∷◌, List, sym, ap}
 use Rattle.smp_call_steps.specs.Handling.{rest_of}
 use Rattle.smp_call_steps.proofs.State.Walks.{ends_async}
 use Rattle.smp_call_steps.proofs.Knows.Handling.{lives_stands, lives_front}
-use Rattle.smp_queue.specs.{Call, Known}
+use Rattle.smp_queue.specs.{Call, KnownCalls}
 use Rattle.smp_queue.specs.handle
 use Rattle.smp_queue.proofs.Handling.Passing.{begun_as_async, async_out}
 use Rattle.smp_queue.proofs.seat.call_steps.give_async.Goals as goal
@@ -22,7 +22,7 @@ returns-clause-gives g c =
     record {
       at = c.begin_async.ensures.at;
       known = known ∙ begun_as_async c.args.place.call c.args.place.next c.args.seat.now.known class;
-      batch = batch ∙ ap (λ (calls : List Call). c.args.place.call ∷ calls) (sym (ap (λ (u : Known). u.part.batch) known ∙ ap rest_of batch));
+      batch = batch ∙ ap (λ (calls : List Call). c.args.place.call ∷ calls) (sym (ap (λ (u : KnownCalls). u.part.batch) known ∙ ap rest_of batch));
       in_range = lives_front at.lives c.args.place.call _ batch;
       out = async_out c.begin_async.new.seat.known c.args.place.call unlocked.0 class unlocked.1;
     }

@@ -2,7 +2,7 @@ use Rattle.std.proofs.Common.{◌∙◌, ◌∷◌, List, sym, ap}
 use Rattle.smp_call_steps.specs.Handling.{rest_of}
 use Rattle.smp_call_steps.proofs.State.Walks.{walks_sync}
 use Rattle.smp_call_steps.proofs.Knows.Handling.{lives_stands, lives_front}
-use Rattle.smp_queue.specs.{Call, Known}
+use Rattle.smp_queue.specs.{Call, KnownCalls}
 use Rattle.smp_queue.specs.handle
 use Rattle.smp_queue.proofs.Handling.Passing.{begun_as_sync, sync_out}
 use Rattle.smp_queue.proofs.seat.call_steps.give_sync.Goals as goal
@@ -22,8 +22,8 @@ returns-clause-gives g c =
     record {
       at = c.begin_sync.ensures.at;
       known = known ∙ begun_as_sync c.args.place.walk c.args.place.call c.args.place.next c.args.seat.now.known class;
-      batch = batch ∙ ap (λ (calls : List Call). c.args.place.call ∷ calls) (sym (ap (λ (u : Known). u.part.batch) known ∙ ap rest_of batch));
+      batch = batch ∙ ap (λ (calls : List Call). c.args.place.call ∷ calls) (sym (ap (λ (u : KnownCalls). u.part.batch) known ∙ ap rest_of batch));
       in_range = lives_front at.lives c.args.place.call _ batch;
-      out = sync_out c.begin_sync.new.seat.known c.args.place.call c.args.number named.0 class (ap (λ (u : Known). u.number) known ∙ c.requires.me)
-          (ap (λ (u : Known). u.part.running) known) named.1;
+      out = sync_out c.begin_sync.new.seat.known c.args.place.call c.args.number named.0 class (ap (λ (u : KnownCalls). u.number) known ∙ c.requires.me)
+          (ap (λ (u : KnownCalls). u.part.running) known) named.1;
     }

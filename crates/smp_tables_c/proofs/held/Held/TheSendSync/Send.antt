@@ -12,8 +12,8 @@ use Rattle.std.specs.Global.{Global}
 use Rattle.std_alloc.proofs.SendSync.{quiet, lies}
 use Rattle.std_heap.proofs.Global.TheSendSync as handle
 use Rattle.smp_tables_c.specs.Held.{seat_owns}
-use Rattle.smp_tables_c.specs.contracts.seat.Seat as Home
-use Rattle.smp_tables_c.proofs.seat.Seat.TheSendSync.{the_send as home}
+use Rattle.smp_tables_c.specs.contracts.seat.OwnedSeat as Home
+use Rattle.smp_tables_c.proofs.seat.OwnedSeat.TheSendSync.{the_send as home}
 use Rattle.smp_tables_c.specs.contracts.held.Held.{the_row, the_type}
 
 seat_keyless : (alloc : Global) (ptr : Ptr) (seat : Option (Home.the_row).Denot) → Keyless (seat_owns alloc ptr seat)

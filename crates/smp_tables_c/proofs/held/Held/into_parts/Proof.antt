@@ -26,8 +26,8 @@ use denote.Triple.Walked.{says, Stays, stay_dropped, walk_of, ends_at, Goes-drop
 use Rattle.std.proofs.BoxSteps.Form.{D, B, word, box_typed}
 use Rattle.std.proofs.BoxSteps.Steps.{box_out, box_in}
 use Rattle.smp_tables_c.proofs.AsBox.{E, FromHeld as From, some_of}
-use Rattle.smp_tables_c.specs.contracts.seat.Seat as Seat
-use Rattle.smp_tables_c.specs.contracts.held.Held as Held
+use Rattle.smp_tables_c.specs.contracts.seat.OwnedSeat
+use Rattle.smp_tables_c.specs.contracts.held.Held
 use Rattle.smp_tables_c.specs.contracts.held.Held.into_parts as F
 use Rattle.smp_tables_c.specs.contracts.held.Held.into_parts.Key.{name as #self}
 use Rattle.smp_tables_c.proofs.held.Held.into_parts.Statement as stated
@@ -52,7 +52,7 @@ module _ {M : Type 1} {𝓤 : Ura M} (𝓛 : Logic 𝓤) (at_mem : Memory → SP
       let To = type_at (F.signature).result tt in
       let made : To.Denot = record { ptr = v.ptr; alloc = v.alloc; value = v.value } in
       split ! $ drop ! $ fsplit ! $
-      rewrite ! 0 (λ (o : Option (Seat.the_row).Denot). ‵ (Held.the_row.own_val (record { ptr = h.ptr; alloc = h.alloc; seat = o }) z.0.4.0)) some.1 refl $
+      rewrite ! 0 (λ (o : Option (OwnedSeat.the_row).Denot). ‵ (Held.the_row.own_val (record { ptr = h.ptr; alloc = h.alloc; seat = o }) z.0.4.0)) some.1 refl $
       use1 𝓛 (‵ ((B E).own_val v z.0.4.0)) (id⊢ 𝓤 _) $
       box_out E ! v z.0.4.0 (λ b o hv e ws fa. box_in E ! v b o v.value e refl $
       use1 𝓛 (‵ (To.own_val made (word E hv b o ∷ []))) (id⊢ 𝓤 _) $ move ! (1 ∷ []) $ drop ! $

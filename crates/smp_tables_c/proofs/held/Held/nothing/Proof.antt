@@ -32,7 +32,7 @@ use Rattle.std.proofs.alloc.Calls.{handle_tells, α}
 use Rattle.std_alloc.proofs.ResultValues.{and_tt}
 use Rattle.std_heap.specs.contracts.Global as Heap
 use Rattle.smp_tables_c.proofs.AsBox.{E}
-use Rattle.smp_tables_c.specs.contracts.held.Held as Held
+use Rattle.smp_tables_c.specs.contracts.held.Held
 use Rattle.smp_tables_c.specs.contracts.held.Held.nothing as F
 use Rattle.smp_tables_c.specs.contracts.held.Held.nothing.Key.{name as #self}
 use Rattle.smp_tables_c.proofs.held.Held.nothing.Statement as stated
