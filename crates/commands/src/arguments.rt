@@ -102,7 +102,7 @@ pub enum Job<'a> {
     /// Judges what a kernel's own tracer wrote, without the first of these numbers of nanoseconds at its start. A call is told that
     /// waits for more than the second.
     JudgeKernel(u64, u64),
-    /// The same with the order of queues.
+    /// `smp judge --from ftrace --order`: with these options, the order of queues too.
     OrderKernel(u64, u64),
     /// Writes the trace that such a text tells, without this number of nanoseconds at its start.
     PrintKernel(u64),

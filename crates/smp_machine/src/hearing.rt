@@ -144,7 +144,7 @@ pub(crate) fn wake_next<A: Allocator>(machine: &Machine<A>) {
     machine.calls.table.wake_next();
 }
 
-/// Handles the CPU's own interrupt: whether one was pending. Who calls it has to show that interrupts are on.
+/// Handles the CPU's own interrupt: whether one was pending. Its callers have to show that interrupts are on.
 pub(crate) fn hear<A: Allocator, H: Handler>(
     machine: &Machine<A>,
     me: &mut MachineCpu<A>,

@@ -1,6 +1,6 @@
 //! What holds of running threads, at any time, of each CPU's value.
 
-ghost use Rattle.std.specs.Prelude.{◌≡◌, true, None, All, length};
+ghost use Rattle.std.specs.Prelude.{◌≡◌, ◌+◌, true, false, None, All, List, length, [], ◌∷◌, ◌++◌};
 ghost use Rattle.smp_words.specs.Size.{cpus};
 ghost use Rattle.smp_call_steps.specs.Parts.{part_of};
 ghost use Rattle.smp_call_steps.specs.Headline.{InOnePlace, RunOnce, RunInOrder, RunEqualQueued};
@@ -12,9 +12,13 @@ ghost use Rattle.smp_multi.specs.Together.{AreAllTogether as StopsAllTogether, A
 ghost use Rattle.smp_machine.specs.Crowds.{AreAt, calls_of, stops_of};
 ghost use Rattle.smp_machine.specs.GateLaws.{GateIsHeld};
 ghost use Rattle.smp_machine.specs.Headline.{HasCalls, HasStops};
+ghost use Rattle.smp_machine.specs.Looks.{AreHeardOn, AtPhase, AtWord, HearsOn, Look, heard_after, on_after, phases};
+ghost use Rattle.smp_machine.specs.MachineCpu.{MachineCpuValue};
+ghost use Rattle.smp_machine.specs.Own.{Own};
 ghost use Rattle.smp_machine.specs.StopLaws.{WorksAreOfTheirCpus, StopsAgreeWithOwn, StopsAreMadeOnce, PollsSendNothing};
 ghost use Rattle.smp_machine.specs.StopLaws.{QueuesKeepOrder, WorksAreTaken, RefusalsAreInOrder};
 ghost use Rattle.smp_machine.specs.ReadLaws.{KindsFollowKeys};
+ghost use Rattle.smp_machine.specs.Works.{Works};
 
 use crate::cpu::Cpu;
 use crate::crowds::meet;
@@ -161,4 +165,22 @@ pub fn headline_of_all<A: Allocator>(machine: &Machine<A>, cpus: &mut [Cpu<A>])
     let mut calls = machine.calls.crowd();
     let mut stops = machine.stops.crowd();
     meet(machine, &mut calls, &mut stops, cpus);
+}
+
+/// Whatever works a CPU has done, it has looked at its interrupt word with interrupts on alone: never between a look at the phase
+/// DISABLE_IRQ (2) or RUN (3) and the one at EXIT (4). Each look at the word is noted by the number of looks at phases before it.
+pub fn looks_are_made_with_interrupts_on<H: Handler, F: StopFunc>()
+    ensures works { (old new : MachineCpuValue) (h h' : H) (f f' : F) (own : Own) → Works H.leads F.leads old h f new h' f' own → HearsOn old new }
+    ensures held { (old new : MachineCpuValue) → HearsOn old new → (looks : List Look) × AreHeardOn old.stops.irq looks
+        × (new.stops.part.looks ≡ old.stops.part.looks ++ phases looks)
+        × (new.heard_at ≡ old.heard_at ++ heard_after (length old.stops.part.looks) looks)
+        × (length new.calls.part.asked ≡ length old.calls.part.asked + length (heard_after (length old.stops.part.looks) looks)) }
+    ensures on { AreHeardOn true (AtWord ∷ AtPhase 1 ∷ AtWord ∷ []) × AreHeardOn true (AtPhase 2 ∷ AtPhase 3 ∷ AtPhase 4 ∷ AtWord ∷ []) }
+    ensures off { (¬ (AreHeardOn true (AtPhase 2 ∷ AtWord ∷ []))) × (¬ (AreHeardOn true (AtPhase 3 ∷ AtWord ∷ [])))
+        × (¬ (AreHeardOn false (AtWord ∷ []))) }
+    ensures noted { heard_after 5 (AtWord ∷ AtPhase 2 ∷ AtPhase 4 ∷ AtWord ∷ AtWord ∷ []) ≡ 5 ∷ 7 ∷ 7 ∷ [] }
+    ensures phases { phases (AtWord ∷ AtPhase 2 ∷ AtWord ∷ AtPhase 4 ∷ []) ≡ 2 ∷ 4 ∷ [] }
+    ensures after { (on_after true (AtPhase 2 ∷ AtWord ∷ []) ≡ false) × (on_after true (AtPhase 2 ∷ AtPhase 4 ∷ []) ≡ true)
+        × (on_after false (AtWord ∷ []) ≡ false) }
+{
 }

@@ -41,7 +41,7 @@ fn next_of(places: u64, first: u32) -> Option<u32> {
     None
 }
 
-/// The same marks, with the turn of the next CPU that is marked, or `None` where no CPU is.
+/// These marks with the turn of the next CPU that is marked, or `None` where no CPU is.
 fn with_next_turn(places: u64, first: u32) -> Option<u64> {
     let cpu = next_of(places, first)?;
     Some(places & 0xffff_ffff | turn_of(cpu))
