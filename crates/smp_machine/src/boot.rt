@@ -41,25 +41,32 @@ impl<A: Allocator> Model for MachineBoot<A> {
     ghost invariant = { λ b. AreWaiting b.machine.value b.online b.waiting.items };
 }
 
+/// The number of a CPU, and whether it is online.
+#[derive(Clone, Copy)]
+struct BootCpu {
+    number: u32,
+    is_online: bool,
+}
+
 /// The CPU of these parts, where it is online.
 fn seat_if<A: Allocator>(
     machine: &Machine<A>,
-    is_online: bool,
     calls: &mut Boot<A>,
     stops: &mut StopBoot<A>,
     passes: Passes<A>,
-    number: u32,
+    cpu: BootCpu,
 ) -> Option<Cpu<A>>
-    requires online { (is_online ≡ has calls.old.table.online number) × (is_online ≡ has machine.now.stops.setting.online number) }
-    requires calls { (calls.old.table ≡ machine.now.calls) × (is_online ≡ true → call_left calls.old number ≡ true) }
+    requires online { (cpu.is_online ≡ has calls.old.table.online cpu.number) × (cpu.is_online ≡ has machine.now.stops.setting.online cpu.number) }
+    requires calls { (calls.old.table ≡ machine.now.calls) × (cpu.is_online ≡ true → call_left calls.old cpu.number ≡ true) }
     requires table { (stops.old.table ≡ machine.now.stops.table) × (stops.old.setting ≡ machine.now.stops.setting) }
-    requires stops { is_online ≡ true → stop_left stops.old number ≡ true }
-    requires passes { passes ≡ fresh_passes machine.now.queues number }
-    ensures cpu { result ≡ if is_online then Some (fresh_place machine.now number) else None }
-    ensures calls { calls.new ≡ if is_online then calls_given number calls.old else calls.old }
-    ensures stops { stops.new ≡ if is_online then stops_given number stops.old else stops.old }
+    requires stops { cpu.is_online ≡ true → stop_left stops.old cpu.number ≡ true }
+    requires passes { passes ≡ fresh_passes machine.now.queues cpu.number }
+    ensures cpu { result ≡ if cpu.is_online then Some (fresh_place machine.now cpu.number) else None }
+    ensures calls { calls.new ≡ if cpu.is_online then calls_given cpu.number calls.old else calls.old }
+    ensures stops { stops.new ≡ if cpu.is_online then stops_given cpu.number stops.old else stops.old }
 {
     let _ = machine;
+    let BootCpu { number, is_online } = cpu;
     if !is_online {
         return None;
     }
@@ -98,7 +105,8 @@ pub(crate) fn seat_all<A: Allocator>(
     for number in 0..NR_CPUS {
         let own = passes.remove(0);
         let is_online = online.contains(number);
-        let cpu = seat_if(machine, is_online, &mut calls, &mut stops, own, number);
+        let boot = BootCpu { number, is_online };
+        let cpu = seat_if(machine, &mut calls, &mut stops, own, boot);
         waiting.push(cpu)?;
     }
     let machine = Snapshot::of(machine);

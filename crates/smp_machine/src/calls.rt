@@ -8,8 +8,9 @@ ghost use Rattle.smp_words.specs.Size.{cpus};
 ghost use Rattle.smp_machine.specs.Answers.{SingleAnswers, AsyncAnswers, AnyAnswers, ManyAnswers, CondAnswers};
 ghost use Rattle.smp_machine.specs.MachineCpu.{IsAt};
 
+use crate::context::MachineContext;
 use crate::cpu::Cpu;
-use crate::hearing::{any, each, many, single, single_async};
+use crate::hearing::{CallByUser, CallToMask, CallToOne, any, each, many, single, single_async};
 use crate::machine::Machine;
 use smp_mask::{CpuMask, SmpError};
 use smp_queue::Handler;
@@ -41,7 +42,14 @@ impl<A: Allocator> Machine<A> {
         if me.place.in_hand() {
             return Err(SmpError::BadArgument);
         }
-        single(self, rt, &mut me.place, handler, dst, func, info, wait)
+        let context = MachineContext { machine: self, rt };
+        let call = CallToOne {
+            dst,
+            func,
+            info,
+            wait,
+        };
+        single(context, &mut me.place, handler, call)
     }
 
     /// Calls a function on one CPU by the user's record `u`, 0 or 1, and does not wait for it
@@ -68,7 +76,9 @@ impl<A: Allocator> Machine<A> {
         if me.place.in_hand() {
             return Err(SmpError::BadArgument);
         }
-        single_async(self, rt, &mut me.place, handler, u, dst, func, info)
+        let context = MachineContext { machine: self, rt };
+        let call = CallByUser { u, dst, func, info };
+        single_async(context, &mut me.place, handler, call)
     }
 
     /// Calls a function on one CPU of the mask (`kernel/smp.c: smp_call_function_any`), and answers that CPU, as
@@ -95,7 +105,14 @@ impl<A: Allocator> Machine<A> {
         if me.place.in_hand() {
             return Err(SmpError::BadArgument);
         }
-        any(self, rt, &mut me.place, handler, mask, func, info, wait)
+        let context = MachineContext { machine: self, rt };
+        let call = CallToMask {
+            mask,
+            func,
+            info,
+            wait,
+        };
+        any(context, &mut me.place, handler, call)
     }
 
     /// Calls a function on each online CPU of the mask but this one (`kernel/smp.c: smp_call_function_many`), and answers
@@ -122,7 +139,14 @@ impl<A: Allocator> Machine<A> {
         if me.place.in_hand() {
             return Err(SmpError::BadArgument);
         }
-        Ok(many(self, rt, &mut me.place, handler, mask, func, info, wait))
+        let context = MachineContext { machine: self, rt };
+        let call = CallToMask {
+            mask,
+            func,
+            info,
+            wait,
+        };
+        Ok(many(context, &mut me.place, handler, call))
     }
 
     /// Calls a function on each online CPU of the mask of which the condition holds, this one included
@@ -151,16 +175,13 @@ impl<A: Allocator> Machine<A> {
         if me.place.in_hand() {
             return Err(SmpError::BadArgument);
         }
-        Ok(each(
-            self,
-            rt,
-            &mut me.place,
-            handler,
+        let context = MachineContext { machine: self, rt };
+        let call = CallToMask {
             mask,
             func,
             info,
-            cond,
             wait,
-        ))
+        };
+        Ok(each(context, &mut me.place, handler, call, cond))
     }
 }

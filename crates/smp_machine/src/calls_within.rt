@@ -3,8 +3,9 @@
 ghost use Rattle.smp_machine.specs.Answers.{WithinAnswers};
 ghost use Rattle.smp_machine.specs.MachineCpu.{IsAt};
 
+use crate::context::MachineContext;
 use crate::cpu::Cpu;
-use crate::hearing::many_within;
+use crate::hearing::{CallForPolls, many_within};
 use crate::machine::Machine;
 use smp_calls::Within;
 use smp_mask::{CpuMask, SmpError};
@@ -38,6 +39,13 @@ impl<A: Allocator> Machine<A> {
         if me.place.in_hand() {
             return Err(SmpError::BadArgument);
         }
-        Ok(many_within(self, rt, &mut me.place, handler, mask, func, info, polls))
+        let context = MachineContext { machine: self, rt };
+        let call = CallForPolls {
+            mask,
+            func,
+            info,
+            polls,
+        };
+        Ok(many_within(context, &mut me.place, handler, call))
     }
 }

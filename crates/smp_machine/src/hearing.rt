@@ -21,6 +21,7 @@ ghost use Rattle.smp_machine.specs.Calls.{KeepsStops};
 ghost use Rattle.smp_machine.specs.MachineCpu.{IsAt};
 ghost use Rattle.smp_machine.specs.Works.{LooksOnce};
 
+use crate::context::MachineContext;
 use crate::heard_at::noted;
 use crate::machine::Machine;
 use crate::machine_cpu::MachineCpu;
@@ -160,35 +161,48 @@ pub(crate) fn hear<A: Allocator, H: Handler>(
     found.interrupted
 }
 
+/// A call to one CPU: its function, the info, and whether it is waited for.
+#[derive(Clone, Copy)]
+pub(crate) struct CallToOne {
+    pub(crate) dst: u32,
+    pub(crate) func: u16,
+    pub(crate) info: u64,
+    pub(crate) wait: bool,
+}
+
 /// A call to one CPU. Interrupts are on: while it waits, the CPU handles its own.
 pub(crate) fn single<A: Allocator, R: Wait, H: Handler>(
-    machine: &Machine<A>,
-    rt: &R,
+    context: MachineContext<A, R>,
     me: &mut MachineCpu<A>,
     handler: &mut H,
-    dst: u32,
-    func: u16,
-    info: u64,
-    wait: bool,
+    call: CallToOne,
 ) -> Result<(), SmpError>
-    requires at { IsAt machine.now me.old }
+    requires at { IsAt context.machine.now me.old }
     requires irq { me.old.stops.irq ≡ true }
-    ensures queued { IfOk result (λ _. dst ≢ me.old.calls.number → (has machine.now.calls.online dst ≡ true)
-        × CallsOne H.leads me.old.calls handler.old me.new.calls handler.new dst func info wait) }
-    ensures here { IfOk result (λ _. dst ≡ me.old.calls.number → CallsHere H.leads me.old.calls handler.old me.new.calls handler.new func info wait) }
-    ensures at_once { IfOk result (λ _. wait ≡ true → dst ≡ me.old.calls.number → (me.new.calls ≡ notes_call me.old.calls)
-        × H.leads handler.old (heard me.old.calls.number func info) handler.new) }
-    ensures stays { IfErr result (λ _. wait ≡ true → (me.new.calls ≡ me.old.calls) × (handler.new ≡ handler.old)) }
-    ensures freed { IfOk result (λ _. wait ≡ false → dst ≡ me.old.calls.number → confirmed_at me.new.calls 1 ≡ true) }
-    ensures waits { IfErr result (λ _. wait ≡ false → (confirmed_at me.new.calls 1 ≡ true)
+    ensures queued { IfOk result (λ _. call.dst ≢ me.old.calls.number → (has context.entry.machine.now.calls.online call.dst ≡ true)
+        × CallsOne H.leads me.old.calls handler.old me.new.calls handler.new call.dst call.func call.info call.wait) }
+    ensures here { IfOk result (λ _. call.dst ≡ me.old.calls.number →
+        CallsHere H.leads me.old.calls handler.old me.new.calls handler.new call.func call.info call.wait) }
+    ensures at_once { IfOk result (λ _. call.wait ≡ true → call.dst ≡ me.old.calls.number → (me.new.calls ≡ notes_call me.old.calls)
+        × H.leads handler.old (heard me.old.calls.number call.func call.info) handler.new) }
+    ensures stays { IfErr result (λ _. call.wait ≡ true → (me.new.calls ≡ me.old.calls) × (handler.new ≡ handler.old)) }
+    ensures freed { IfOk result (λ _. call.wait ≡ false → call.dst ≡ me.old.calls.number → confirmed_at me.new.calls 1 ≡ true) }
+    ensures waits { IfErr result (λ _. call.wait ≡ false → (confirmed_at me.new.calls 1 ≡ true)
         × Awaits 1 me.old.calls handler.old me.new.calls handler.new) }
-    ensures refused { IfErr result (λ e. (e ≡ SmpError.NoCpu) × (dst ≢ me.old.calls.number) × (has machine.now.calls.online dst ≡ false)
-        × QueuesNone H.leads me.old.calls handler.old me.new.calls handler.new wait) }
-    ensures turns { IfOk result (λ _. dst ≢ me.old.calls.number → HasTurns me.old.calls me.new.calls 1 wait) }
-    ensures ended { IfOk result (λ _. wait ≡ true → dst ≢ me.old.calls.number →
-        HaveEnded me.new.calls (λ _. call_by me.old.calls.number (single_record true) Class.Sync func info) (dst ∷ [])) }
+    ensures refused { IfErr result (λ e. (e ≡ SmpError.NoCpu) × (call.dst ≢ me.old.calls.number)
+        × (has context.entry.machine.now.calls.online call.dst ≡ false) × QueuesNone H.leads me.old.calls handler.old me.new.calls handler.new call.wait) }
+    ensures turns { IfOk result (λ _. call.dst ≢ me.old.calls.number → HasTurns me.old.calls me.new.calls 1 call.wait) }
+    ensures ended { IfOk result (λ _. call.wait ≡ true → call.dst ≢ me.old.calls.number →
+        HaveEnded me.new.calls (λ _. call_by me.old.calls.number (single_record true) Class.Sync call.func call.info) (call.dst ∷ [])) }
     ensures kept { KeepsStops me.old me.new }
 {
+    let MachineContext { machine, rt } = context;
+    let CallToOne {
+        dst,
+        func,
+        info,
+        wait,
+    } = call;
     let before = Snapshot::of(&me.calls);
     let answer = call_single(
         &machine.calls.table,
@@ -204,29 +218,38 @@ pub(crate) fn single<A: Allocator, R: Wait, H: Handler>(
     answer
 }
 
+/// A call to one CPU by a record of the user: its function and the info.
+#[derive(Clone, Copy)]
+pub(crate) struct CallByUser {
+    pub(crate) u: u32,
+    pub(crate) dst: u32,
+    pub(crate) func: u16,
+    pub(crate) info: u64,
+}
+
 /// A call to one CPU by a record of the user. Interrupts are on: while it waits, the CPU handles its own.
 pub(crate) fn single_async<A: Allocator, R: Wait, H: Handler>(
-    machine: &Machine<A>,
-    rt: &R,
+    context: MachineContext<A, R>,
     me: &mut MachineCpu<A>,
     handler: &mut H,
-    u: u32,
-    dst: u32,
-    func: u16,
-    info: u64,
+    call: CallByUser,
 ) -> Result<(), SmpError>
-    requires at { IsAt machine.now me.old }
+    requires at { IsAt context.machine.now me.old }
     requires irq { me.old.stops.irq ≡ true }
-    ensures record { IfOk result (λ _. u < 2) }
-    ensures queued { IfOk result (λ _. dst ≢ me.old.calls.number → (has machine.now.calls.online dst ≡ true)
-        × CallsBy H.leads me.old.calls handler.old me.new.calls handler.new (user_record u) Class.Async dst func info false) }
-    ensures here { IfOk result (λ _. dst ≡ me.old.calls.number → CallsUserHere H.leads me.old.calls handler.old me.new.calls handler.new u func info) }
+    ensures record { IfOk result (λ _. call.u < 2) }
+    ensures queued { IfOk result (λ _. call.dst ≢ me.old.calls.number → (has context.entry.machine.now.calls.online call.dst ≡ true)
+        × CallsBy H.leads me.old.calls handler.old me.new.calls handler.new (user_record call.u) Class.Async call.dst call.func call.info false) }
+    ensures here { IfOk result (λ _. call.dst ≡ me.old.calls.number →
+        CallsUserHere H.leads me.old.calls handler.old me.new.calls handler.new call.u call.func call.info) }
     ensures still { HandlesNone me.old.calls me.new.calls }
-    ensures untouched { IfOk result (λ _. dst ≢ me.old.calls.number → handler.new ≡ handler.old) }
-    ensures called { IfOk result (λ _. dst ≡ me.old.calls.number → H.leads handler.old (heard me.old.calls.number func info) handler.new) }
-    ensures refused { IfErr result (λ e. RefusesUser machine.now.calls.online me.old.calls me.new.calls u dst e × (handler.new ≡ handler.old)) }
+    ensures untouched { IfOk result (λ _. call.dst ≢ me.old.calls.number → handler.new ≡ handler.old) }
+    ensures called { IfOk result (λ _. call.dst ≡ me.old.calls.number → H.leads handler.old (heard me.old.calls.number call.func call.info) handler.new) }
+    ensures refused { IfErr result (λ e. RefusesUser context.entry.machine.now.calls.online me.old.calls me.new.calls call.u call.dst e
+        × (handler.new ≡ handler.old)) }
     ensures kept { KeepsStops me.old me.new }
 {
+    let MachineContext { machine, rt } = context;
+    let CallByUser { u, dst, func, info } = call;
     let before = Snapshot::of(&me.calls);
     let answer = call_async(
         &machine.calls.table,
@@ -242,32 +265,46 @@ pub(crate) fn single_async<A: Allocator, R: Wait, H: Handler>(
     answer
 }
 
+/// A call to CPUs of a mask: its function, the info, and whether it is waited for.
+#[derive(Clone, Copy)]
+pub(crate) struct CallToMask {
+    pub(crate) mask: CpuMask,
+    pub(crate) func: u16,
+    pub(crate) info: u64,
+    pub(crate) wait: bool,
+}
+
 /// A call to any CPU of a mask. Interrupts are on: while it waits, the CPU handles its own.
 pub(crate) fn any<A: Allocator, R: Wait, H: Handler>(
-    machine: &Machine<A>,
-    rt: &R,
+    context: MachineContext<A, R>,
     me: &mut MachineCpu<A>,
     handler: &mut H,
-    mask: CpuMask,
-    func: u16,
-    info: u64,
-    wait: bool,
+    call: CallToMask,
 ) -> Result<u32, SmpError>
-    requires at { IsAt machine.now me.old }
+    requires at { IsAt context.machine.now me.old }
     requires irq { me.old.stops.irq ≡ true }
-    ensures any { IfOk result (λ cpu. IsAny mask machine.now.calls.online me.old.calls.number cpu) }
-    ensures queued { IfOk result (λ cpu. cpu ≢ me.old.calls.number → CallsOne H.leads me.old.calls handler.old me.new.calls handler.new cpu func info wait) }
-    ensures here { IfOk result (λ cpu. cpu ≡ me.old.calls.number → CallsHere H.leads me.old.calls handler.old me.new.calls handler.new func info wait) }
-    ensures at_once { IfOk result (λ cpu. wait ≡ true → cpu ≡ me.old.calls.number → (me.new.calls ≡ notes_call me.old.calls)
-        × H.leads handler.old (heard me.old.calls.number func info) handler.new) }
-    ensures freed { IfOk result (λ cpu. wait ≡ false → cpu ≡ me.old.calls.number → confirmed_at me.new.calls 1 ≡ true) }
-    ensures refused { IfErr result (λ e. (e ≡ SmpError.NoCpu) × HasNone mask machine.now.calls.online me.old.calls.number
+    ensures any { IfOk result (λ cpu. IsAny call.mask context.entry.machine.now.calls.online me.old.calls.number cpu) }
+    ensures queued { IfOk result (λ cpu. cpu ≢ me.old.calls.number →
+        CallsOne H.leads me.old.calls handler.old me.new.calls handler.new cpu call.func call.info call.wait) }
+    ensures here { IfOk result (λ cpu. cpu ≡ me.old.calls.number →
+        CallsHere H.leads me.old.calls handler.old me.new.calls handler.new call.func call.info call.wait) }
+    ensures at_once { IfOk result (λ cpu. call.wait ≡ true → cpu ≡ me.old.calls.number → (me.new.calls ≡ notes_call me.old.calls)
+        × H.leads handler.old (heard me.old.calls.number call.func call.info) handler.new) }
+    ensures freed { IfOk result (λ cpu. call.wait ≡ false → cpu ≡ me.old.calls.number → confirmed_at me.new.calls 1 ≡ true) }
+    ensures refused { IfErr result (λ e. (e ≡ SmpError.NoCpu) × HasNone call.mask context.entry.machine.now.calls.online me.old.calls.number
         × (me.new.calls ≡ me.old.calls) × (handler.new ≡ handler.old)) }
-    ensures turns { IfOk result (λ cpu. cpu ≢ me.old.calls.number → HasTurns me.old.calls me.new.calls 1 wait) }
-    ensures ended { IfOk result (λ cpu. wait ≡ true → cpu ≢ me.old.calls.number →
-        HaveEnded me.new.calls (λ _. call_by me.old.calls.number (single_record true) Class.Sync func info) (cpu ∷ [])) }
+    ensures turns { IfOk result (λ cpu. cpu ≢ me.old.calls.number → HasTurns me.old.calls me.new.calls 1 call.wait) }
+    ensures ended { IfOk result (λ cpu. call.wait ≡ true → cpu ≢ me.old.calls.number →
+        HaveEnded me.new.calls (λ _. call_by me.old.calls.number (single_record true) Class.Sync call.func call.info) (cpu ∷ [])) }
     ensures kept { KeepsStops me.old me.new }
 {
+    let MachineContext { machine, rt } = context;
+    let CallToMask {
+        mask,
+        func,
+        info,
+        wait,
+    } = call;
     let before = Snapshot::of(&me.calls);
     let answer = call_any(
         &machine.calls.table,
@@ -285,23 +322,27 @@ pub(crate) fn any<A: Allocator, R: Wait, H: Handler>(
 
 /// A call to many CPUs. Interrupts are on: while it waits, the CPU handles its own.
 pub(crate) fn many<A: Allocator, R: Wait, H: Handler>(
-    machine: &Machine<A>,
-    rt: &R,
+    context: MachineContext<A, R>,
     me: &mut MachineCpu<A>,
     handler: &mut H,
-    mask: CpuMask,
-    func: u16,
-    info: u64,
-    wait: bool,
+    call: CallToMask,
 ) -> CpuMask
-    requires at { IsAt machine.now me.old }
+    requires at { IsAt context.machine.now me.old }
     requires irq { me.old.stops.irq ≡ true }
-    ensures targets { (c : ℕ) → has result c ≡ is_target mask machine.now.calls.online me.old.calls.number false c }
-    ensures calls { CallsMany H.leads me.old.calls handler.old me.new.calls handler.new (members result) (class_for wait) func info None wait }
-    ensures turns { HasTurns me.old.calls me.new.calls (length (members result)) wait }
-    ensures ended { wait ≡ true → HaveEnded me.new.calls (many_call me.old.calls.number Class.Sync func info) (members result) }
+    ensures targets { (c : ℕ) → has result c ≡ is_target call.mask context.entry.machine.now.calls.online me.old.calls.number false c }
+    ensures calls { CallsMany H.leads me.old.calls handler.old me.new.calls handler.new (members result)
+        (class_for call.wait) call.func call.info None call.wait }
+    ensures turns { HasTurns me.old.calls me.new.calls (length (members result)) call.wait }
+    ensures ended { call.wait ≡ true → HaveEnded me.new.calls (many_call me.old.calls.number Class.Sync call.func call.info) (members result) }
     ensures kept { KeepsStops me.old me.new }
 {
+    let MachineContext { machine, rt } = context;
+    let CallToMask {
+        mask,
+        func,
+        info,
+        wait,
+    } = call;
     let before = Snapshot::of(&me.calls);
     let called = call_many(
         &machine.calls.table,
@@ -317,23 +358,35 @@ pub(crate) fn many<A: Allocator, R: Wait, H: Handler>(
     called
 }
 
+/// A call to CPUs of a mask: its function, the info, and how many polls it waits.
+#[derive(Clone, Copy)]
+pub(crate) struct CallForPolls {
+    pub(crate) mask: CpuMask,
+    pub(crate) func: u16,
+    pub(crate) info: u64,
+    pub(crate) polls: u32,
+}
+
 /// A call to many CPUs that gives up waiting after some polls. Interrupts are on: while it waits, the CPU handles its own.
 pub(crate) fn many_within<A: Allocator, R: Wait, H: Handler>(
-    machine: &Machine<A>,
-    rt: &R,
+    context: MachineContext<A, R>,
     me: &mut MachineCpu<A>,
     handler: &mut H,
-    mask: CpuMask,
-    func: u16,
-    info: u64,
-    polls: u32,
+    call: CallForPolls,
 ) -> Within
-    requires at { IsAt machine.now me.old }
+    requires at { IsAt context.machine.now me.old }
     requires irq { me.old.stops.irq ≡ true }
-    ensures calls { CallsWithin H.leads me.old.calls handler.old me.new.calls handler.new func info
-        (is_target mask machine.now.calls.online me.old.calls.number false) result.called result.silent polls }
+    ensures calls { CallsWithin H.leads me.old.calls handler.old me.new.calls handler.new call.func call.info
+        (is_target call.mask context.entry.machine.now.calls.online me.old.calls.number false) result.called result.silent call.polls }
     ensures kept { KeepsStops me.old me.new }
 {
+    let MachineContext { machine, rt } = context;
+    let CallForPolls {
+        mask,
+        func,
+        info,
+        polls,
+    } = call;
     let before = Snapshot::of(&me.calls);
     let within = call_many_within(
         &machine.calls.table,
@@ -351,26 +404,31 @@ pub(crate) fn many_within<A: Allocator, R: Wait, H: Handler>(
 
 /// A call to each CPU of which a condition holds. Interrupts are on: while it waits, the CPU handles its own.
 pub(crate) fn each<A: Allocator, R: Wait, H: Handler, C: Fn(u32, u64) -> bool>(
-    machine: &Machine<A>,
-    rt: &R,
+    context: MachineContext<A, R>,
     me: &mut MachineCpu<A>,
     handler: &mut H,
-    mask: CpuMask,
-    func: u16,
-    info: u64,
+    call: CallToMask,
     cond: &C,
-    wait: bool,
 ) -> CpuMask
-    requires at { IsAt machine.now me.old }
+    requires at { IsAt context.machine.now me.old }
     requires irq { me.old.stops.irq ≡ true }
-    requires condition { (c : ℕ) → c < cpus → C.pre cond.now c info }
-    ensures picks { Picks (λ c answer. C.post cond.now c info answer) (is_target mask machine.now.calls.online me.old.calls.number true) result }
-    ensures calls { CallsMany H.leads me.old.calls handler.old me.new.calls handler.new (remote me.old.calls.number result) (class_for wait)
-        func info (if has result me.old.calls.number then Some (heard me.old.calls.number func info) else None) wait }
-    ensures turns { HasTurns me.old.calls me.new.calls (length (remote me.old.calls.number result)) wait }
-    ensures ended { wait ≡ true → HaveEnded me.new.calls (many_call me.old.calls.number Class.Sync func info) (remote me.old.calls.number result) }
+    requires condition { (c : ℕ) → c < cpus → C.pre cond.now c call.info }
+    ensures picks { Picks (λ c answer. C.post cond.now c call.info answer)
+        (is_target call.mask context.entry.machine.now.calls.online me.old.calls.number true) result }
+    ensures calls { CallsMany H.leads me.old.calls handler.old me.new.calls handler.new (remote me.old.calls.number result) (class_for call.wait)
+        call.func call.info (if has result me.old.calls.number then Some (heard me.old.calls.number call.func call.info) else None) call.wait }
+    ensures turns { HasTurns me.old.calls me.new.calls (length (remote me.old.calls.number result)) call.wait }
+    ensures ended { call.wait ≡ true → HaveEnded me.new.calls (many_call me.old.calls.number Class.Sync call.func call.info)
+        (remote me.old.calls.number result) }
     ensures kept { KeepsStops me.old me.new }
 {
+    let MachineContext { machine, rt } = context;
+    let CallToMask {
+        mask,
+        func,
+        info,
+        wait,
+    } = call;
     let before = Snapshot::of(&me.calls);
     let called = each_cpu_cond(
         &machine.calls.table,

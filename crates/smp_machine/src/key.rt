@@ -14,6 +14,7 @@ ghost use Rattle.smp_machine.specs.MachineCpu.{IsAt};
 ghost use Rattle.smp_machine.specs.Stops.{MayBegin, HasCollected, HasStopped};
 ghost use Rattle.smp_machine.specs.Works.{Works};
 
+use crate::context::MachineContext;
 use crate::hearing::pause;
 use crate::machine::Machine;
 use crate::machine_cpu::MachineCpu;
@@ -29,14 +30,13 @@ use std::sync::Wait;
 
 /// A turn, and then the next work up to its completion: whether it was the own patch.
 fn run_next<A: Allocator, R: Wait, H: Handler, F: StopFunc>(
-    machine: &Machine<A>,
-    rt: &R,
+    context: MachineContext<A, R>,
     me: &mut MachineCpu<A>,
     handler: &mut H,
     run: &mut F,
     work: &Work,
 ) -> bool
-    requires at { IsAt machine.now me.old }
+    requires at { IsAt context.machine.now me.old }
     requires outside { me.old.stops.inside ≡ None }
     requires begun { me.old.stops.pending ≡ Some work.now }
     requires several { work.now.kind ≢ Kind.One }
@@ -45,6 +45,7 @@ fn run_next<A: Allocator, R: Wait, H: Handler, F: StopFunc>(
     ensures read { result ≡ true → me.new.stops.part.readings ≡ first_readings me.old.stops.number me.old.stops.number work.now }
     ensures last { result ≡ true → LastIsOwn me.old.passes me.new.passes }
 {
+    let MachineContext { machine, rt } = context;
     let number = me.number();
     turn(machine, me, handler, run);
     match take_next(machine, rt, me) {
@@ -58,14 +59,13 @@ fn run_next<A: Allocator, R: Wait, H: Handler, F: StopFunc>(
 
 /// Runs works until the own patch has run here. It spins, since that is in this CPU's queue by then.
 fn run_own_patch<A: Allocator, R: Wait, H: Handler, F: StopFunc>(
-    machine: &Machine<A>,
-    rt: &R,
+    context: MachineContext<A, R>,
     me: &mut MachineCpu<A>,
     handler: &mut H,
     run: &mut F,
     work: &Work,
 )
-    requires at { IsAt machine.now me.old }
+    requires at { IsAt context.machine.now me.old }
     requires outside { me.old.stops.inside ≡ None }
     requires begun { me.old.stops.pending ≡ Some work.now }
     requires several { work.now.kind ≢ Kind.One }
@@ -75,8 +75,8 @@ fn run_own_patch<A: Allocator, R: Wait, H: Handler, F: StopFunc>(
     ensures last { LastIsOwn me.old.passes me.new.passes }
 {
     let backoff = Backoff::new();
-    for _ in rt.forever() {
-        if run_next(machine, rt, me, handler, run, work) {
+    for _ in context.rt.forever() {
+        if run_next(context, me, handler, run, work) {
             return;
         }
         backoff.snooze();
@@ -115,26 +115,26 @@ fn collect_quietly<A: Allocator, R: Wait, H: Handler, F: StopFunc>(
 
 /// Makes the patch on a CPU that holds the gate, and gives the gate up: the patch's answer.
 pub(crate) fn patch<A: Allocator, R: Wait, H: Handler, F: StopFunc>(
-    machine: &Machine<A>,
-    rt: &R,
+    context: MachineContext<A, R>,
     me: &mut MachineCpu<A>,
     handler: &mut H,
     run: &mut F,
     work: &Work,
 ) -> i32
-    requires at { IsAt machine.now me.old }
+    requires at { IsAt context.machine.now me.old }
     requires outside { me.old.stops.inside ≡ None }
     requires gate { me.old.stops.part.holds ≡ true }
     requires collected { me.old.stops.pending ≡ None }
     requires several { work.now.kind ≢ Kind.One }
-    requires work { MayBegin machine.now.stops work.now }
+    requires work { MayBegin context.machine.now.stops work.now }
     ensures stopped { HasStopped H.leads F.leads (patch_after []) work.now me.old handler.old run.old me.new handler.new run.new result }
     ensures read { me.new.stops.part.readings ≡ first_readings me.old.stops.number me.old.stops.number work.now }
     ensures last { LastIsOwn me.old.passes me.new.passes }
 {
+    let MachineContext { machine, rt } = context;
     begin(machine, me, work);
-    put_to_all(machine, rt, me, handler, run, work);
-    run_own_patch(machine, rt, me, handler, run, work);
+    put_to_all(context, me, handler, run, work);
+    run_own_patch(context, me, handler, run, work);
     let answer = collect_quietly(machine, rt, me, handler, run);
     give_gate(machine, me);
     answer
@@ -172,32 +172,39 @@ fn stands<A: Allocator>(machine: &Machine<A>, me: &mut MachineCpu<A>, k: u32, on
     true
 }
 
+/// A change of a key: which one, whether it is on then, and the work of the patch.
+#[derive(Clone, Copy)]
+pub(crate) struct KeyChange<'a> {
+    pub(crate) k: u32,
+    pub(crate) on: bool,
+    pub(crate) work: &'a Work,
+}
+
 /// Turns a key on or off by this patch, unless it is so already: whether there was a patch.
 pub(crate) fn set<A: Allocator, R: Wait, H: Handler, F: StopFunc>(
-    machine: &Machine<A>,
-    rt: &R,
+    context: MachineContext<A, R>,
     me: &mut MachineCpu<A>,
     handler: &mut H,
     run: &mut F,
-    k: u32,
-    on: bool,
-    work: &Work,
+    key: KeyChange,
 ) -> bool
-    requires at { IsAt machine.now me.old }
+    requires at { IsAt context.machine.now me.old }
     requires outside { me.old.stops.inside ≡ None }
     requires collected { me.old.stops.pending ≡ None }
-    requires key { k < machine.now.stops.setting.labels.keys }
-    requires patch { IsPatchOf machine.now.stops k (state_of on) work.now }
-    requires work { MayBegin machine.now.stops work.now }
-    ensures sets { Sets H.leads F.leads machine.now.stops k on me.old handler.old run.old me.new handler.new run.new result }
-    ensures read { Reads me.new.stops (ReadKey k on) }
+    requires key { key.k < context.machine.now.stops.setting.labels.keys }
+    requires patch { IsPatchOf context.machine.now.stops key.k (state_of key.on) key.work.now }
+    requires work { MayBegin context.machine.now.stops key.work.now }
+    ensures sets { Sets H.leads F.leads context.entry.machine.now.stops key.entry.k key.entry.on me.old handler.old run.old me.new handler.new run.new result }
+    ensures read { Reads me.new.stops (ReadKey key.entry.k key.entry.on) }
     ensures last { result ≡ true → LastIsOwn me.old.passes me.new.passes }
     ensures outside { me.new.stops.inside ≡ None }
 {
+    let MachineContext { machine, rt } = context;
+    let KeyChange { k, on, work } = key;
     take_gate(machine, rt, me, handler, run);
     if stands(machine, me, k, on) {
         return false;
     }
-    patch(machine, rt, me, handler, run, work);
+    patch(context, me, handler, run, work);
     true
 }

@@ -11,9 +11,10 @@ ghost use Rattle.smp_machine.specs.Passes.{LastIsOwn};
 ghost use Rattle.smp_machine.specs.MachineCpu.{IsAt};
 ghost use Rattle.smp_machine.specs.Stops.{RefusedStill};
 
+use crate::context::MachineContext;
 use crate::cpu::Cpu;
-use crate::key::set;
-use crate::key_count::count;
+use crate::key::{KeyChange, set};
+use crate::key_count::{KeyStep, count};
 use crate::key_work::{patch_work, state};
 use crate::machine::Machine;
 use smp_mask::SmpError;
@@ -55,7 +56,9 @@ impl<A: Allocator> Machine<A> {
             return Err(SmpError::BadArgument);
         }
         let work = patch_work(&self.stops, k, state(on));
-        Ok(set(self, rt, &mut me.place, handler, run, k, on, &work))
+        let context = MachineContext { machine: self, rt };
+        let key = KeyChange { k, on, work: &work };
+        Ok(set(context, &mut me.place, handler, run, key))
     }
 
     /// Counts a key up by one (`kernel/jump_label.c: static_key_slow_inc`): false where the key was on and stays so, by a
@@ -82,7 +85,9 @@ impl<A: Allocator> Machine<A> {
         if me.place.in_hand() || k >= self.stops.keys() {
             return Err(SmpError::BadArgument);
         }
-        count(self, rt, &mut me.place, handler, run, k, true)
+        let context = MachineContext { machine: self, rt };
+        let key = KeyStep { k, up: true };
+        count(context, &mut me.place, handler, run, key)
     }
 
     /// Counts a key down by one (`kernel/jump_label.c: static_key_slow_dec`): false where the key stays on, by a nudge
@@ -107,6 +112,8 @@ impl<A: Allocator> Machine<A> {
         if me.place.in_hand() || k >= self.stops.keys() {
             return Err(SmpError::BadArgument);
         }
-        count(self, rt, &mut me.place, handler, run, k, false)
+        let context = MachineContext { machine: self, rt };
+        let key = KeyStep { k, up: false };
+        count(context, &mut me.place, handler, run, key)
     }
 }

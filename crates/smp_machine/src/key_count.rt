@@ -6,6 +6,7 @@ ghost use Rattle.smp_machine.specs.Counts.{step_of, Nudges, Patches, Counts, Cou
 ghost use Rattle.smp_stop_steps.specs.declared.known.OwnMove.TheVariants.{Took};
 ghost use Rattle.smp_machine.specs.MachineCpu.{IsAt};
 
+use crate::context::MachineContext;
 use crate::key::patch;
 use crate::key_work::patch_work;
 use crate::machine::Machine;
@@ -98,26 +99,32 @@ fn nudge<A: Allocator, R: Wait>(
     }
 }
 
+/// A change of a key's count by one: which key, and whether up or down.
+#[derive(Clone, Copy)]
+pub(crate) struct KeyStep {
+    pub(crate) k: u32,
+    pub(crate) up: bool,
+}
+
 /// A patch of the count by one, on a CPU that holds the gate, which it gives up.
 fn patch_by_one<A: Allocator, R: Wait, H: Handler, F: StopFunc>(
-    machine: &Machine<A>,
-    rt: &R,
+    context: MachineContext<A, R>,
     me: &mut MachineCpu<A>,
     handler: &mut H,
     run: &mut F,
-    k: u32,
-    up: bool,
+    key: KeyStep,
 ) -> Result<bool, SmpError>
-    requires at { IsAt machine.now me.old }
+    requires at { IsAt context.machine.now me.old }
     requires outside { me.old.stops.inside ≡ None }
     requires gate { me.old.stops.part.holds ≡ true }
     requires collected { me.old.stops.pending ≡ None }
-    requires key { k < machine.now.stops.setting.labels.keys }
-    ensures { Patches H.leads F.leads machine.now.stops k up me.old handler.old run.old me.new handler.new run.new result }
+    requires key { key.k < context.machine.now.stops.setting.labels.keys }
+    ensures { Patches H.leads F.leads context.entry.machine.now.stops key.k key.up me.old handler.old run.old me.new handler.new run.new result }
 {
-    let change = step(up);
-    let work = patch_work(&machine.stops, k, change);
-    let answer = patch(machine, rt, me, handler, run, &work);
+    let machine = context.machine;
+    let change = step(key.up);
+    let work = patch_work(&machine.stops, key.k, change);
+    let answer = patch(context, me, handler, run, &work);
     if answer == 0 {
         Ok(true)
     } else {
@@ -127,27 +134,26 @@ fn patch_by_one<A: Allocator, R: Wait, H: Handler, F: StopFunc>(
 
 /// Changes the count by one, on a CPU that holds the gate, which it gives up: whether there was a patch.
 fn count_at_gate<A: Allocator, R: Wait, H: Handler, F: StopFunc>(
-    machine: &Machine<A>,
-    rt: &R,
+    context: MachineContext<A, R>,
     me: &mut MachineCpu<A>,
     handler: &mut H,
     run: &mut F,
-    k: u32,
-    up: bool,
+    key: KeyStep,
 ) -> Result<bool, SmpError>
-    requires at { IsAt machine.now me.old }
+    requires at { IsAt context.machine.now me.old }
     requires outside { me.old.stops.inside ≡ None }
     requires gate { me.old.stops.part.holds ≡ true }
     requires collected { me.old.stops.pending ≡ None }
-    requires key { k < machine.now.stops.setting.labels.keys }
-    ensures { CountsFrom H.leads F.leads [] machine.now.stops k up me.old handler.old run.old me.new handler.new run.new result }
+    requires key { key.k < context.machine.now.stops.setting.labels.keys }
+    ensures { CountsFrom H.leads F.leads [] context.entry.machine.now.stops key.k key.up me.old handler.old run.old me.new handler.new run.new result }
 {
-    match nudge(machine, rt, me, k, up) {
+    let MachineContext { machine, rt } = context;
+    match nudge(machine, rt, me, key.k, key.up) {
         Ok(true) => {
             give_gate(machine, me);
             Ok(false)
         }
-        Ok(false) => patch_by_one(machine, rt, me, handler, run, k, up),
+        Ok(false) => patch_by_one(context, me, handler, run, key),
         Err(error) => {
             give_gate(machine, me);
             Err(error)
@@ -159,45 +165,43 @@ fn count_at_gate<A: Allocator, R: Wait, H: Handler, F: StopFunc>(
 #[cold]
 #[inline(never)]
 fn count_by_gate<A: Allocator, R: Wait, H: Handler, F: StopFunc>(
-    machine: &Machine<A>,
-    rt: &R,
+    context: MachineContext<A, R>,
     me: &mut MachineCpu<A>,
     handler: &mut H,
     run: &mut F,
-    k: u32,
-    up: bool,
+    key: KeyStep,
 ) -> Result<bool, SmpError>
-    requires at { IsAt machine.now me.old }
+    requires at { IsAt context.machine.now me.old }
     requires outside { me.old.stops.inside ≡ None }
     requires collected { me.old.stops.pending ≡ None }
-    requires key { k < machine.now.stops.setting.labels.keys }
-    ensures { CountsFrom H.leads F.leads (Took ∷ []) machine.now.stops k up me.old handler.old run.old me.new handler.new run.new result }
+    requires key { key.k < context.machine.now.stops.setting.labels.keys }
+    ensures { CountsFrom H.leads F.leads (Took ∷ []) context.entry.machine.now.stops key.k key.up
+        me.old handler.old run.old me.new handler.new run.new result }
 {
-    take_gate(machine, rt, me, handler, run);
-    count_at_gate(machine, rt, me, handler, run, k, up)
+    take_gate(context.machine, context.rt, me, handler, run);
+    count_at_gate(context, me, handler, run, key)
 }
 
 /// Changes the count by one: whether there was a patch.
 #[inline(always)]
 pub(crate) fn count<A: Allocator, R: Wait, H: Handler, F: StopFunc>(
-    machine: &Machine<A>,
-    rt: &R,
+    context: MachineContext<A, R>,
     me: &mut MachineCpu<A>,
     handler: &mut H,
     run: &mut F,
-    k: u32,
-    up: bool,
+    key: KeyStep,
 ) -> Result<bool, SmpError>
-    requires at { IsAt machine.now me.old }
+    requires at { IsAt context.machine.now me.old }
     requires outside { me.old.stops.inside ≡ None }
     requires gate { me.old.stops.part.holds ≡ false }
     requires collected { me.old.stops.pending ≡ None }
-    requires key { k < machine.now.stops.setting.labels.keys }
-    ensures { Counts H.leads F.leads machine.now.stops k up me.old handler.old run.old me.new handler.new run.new result }
+    requires key { key.k < context.machine.now.stops.setting.labels.keys }
+    ensures { Counts H.leads F.leads context.entry.machine.now.stops key.k key.up me.old handler.old run.old me.new handler.new run.new result }
 {
-    match nudge(machine, rt, me, k, up) {
+    let MachineContext { machine, rt } = context;
+    match nudge(machine, rt, me, key.k, key.up) {
         Ok(true) => Ok(false),
-        Ok(false) => count_by_gate(machine, rt, me, handler, run, k, up),
+        Ok(false) => count_by_gate(context, me, handler, run, key),
         Err(error) => Err(error),
     }
 }

@@ -182,5 +182,4 @@ pub fn looks_are_made_with_interrupts_on<H: Handler, F: StopFunc>()
     ensures phases { phases (AtWord ∷ AtPhase 2 ∷ AtWord ∷ AtPhase 4 ∷ []) ≡ 2 ∷ 4 ∷ [] }
     ensures after { (on_after true (AtPhase 2 ∷ AtWord ∷ []) ≡ false) × (on_after true (AtPhase 2 ∷ AtPhase 4 ∷ []) ≡ true)
         × (on_after false (AtWord ∷ []) ≡ false) }
-{
-}
+{}

@@ -26,6 +26,7 @@
 mod boot;
 mod calls;
 mod calls_within;
+mod context;
 mod cpu;
 mod crew;
 mod crowds;

@@ -17,11 +17,13 @@ ghost use Rattle.smp_machine.specs.OwnAnswers.{RunsItself};
 ghost use Rattle.smp_machine.specs.Stops.{MayBegin, item, AreShown, HasCollected, HasStopped};
 ghost use Rattle.smp_machine.specs.Works.{Works};
 
+use crate::context::MachineContext;
 use crate::hearing::{line, pause, wake, wake_next};
 use crate::machine::Machine;
 use crate::machine_cpu::MachineCpu;
 use crate::poll::poll;
 use crate::stalls::note_late;
+use crate::stoppers::CpuItem;
 use crate::turn::turn;
 use crate::work_queue::Item;
 use crossbeam_utils::Backoff;
@@ -142,28 +144,36 @@ fn try_put<A: Allocator, R: Wait>(
 {
     let slot = me.number();
     let item = Item { slot, work: *work };
-    machine.queues.put(rt, &mut me.passes, &me.stops, cpu, item)
+    let to = CpuItem { cpu, item };
+    machine.queues.put(rt, &mut me.passes, &me.stops, to)
+}
+
+/// A work, and the CPU whose queue it goes into.
+#[derive(Clone, Copy)]
+struct CpuWork<'a> {
+    cpu: u32,
+    work: &'a Work,
 }
 
 /// Puts the work into this CPU's queue, and wakes it (`cpu_stop_queue_work`). Where that is full, takes a turn and tries again. It
 /// spins meanwhile, since a work that is taken wakes nobody; a queue has room for a work of each CPU.
 fn put<A: Allocator, R: Wait, H: Handler, F: StopFunc>(
-    machine: &Machine<A>,
-    rt: &R,
+    context: MachineContext<A, R>,
     me: &mut MachineCpu<A>,
     handler: &mut H,
     run: &mut F,
-    cpu: u32,
-    work: &Work,
+    to: CpuWork,
 )
-    requires at { IsAt machine.now me.old }
+    requires at { IsAt context.machine.now me.old }
     requires outside { me.old.stops.inside ≡ None }
-    requires within { cpu < cpus }
+    requires within { to.cpu < cpus }
     ensures works { Works H.leads F.leads me.old handler.old run.old me.new handler.new run.new
-        (with_put (item me.old.stops.number work.now) (cpu ∷ []) (own_of me.old)) }
+        (with_put (item me.old.stops.number to.entry.work.now) (to.entry.cpu ∷ []) (own_of me.old)) }
     ensures stops { me.new.stops ≡ me.old.stops }
-    ensures shown { PutIsShown me.new.passes cpu }
+    ensures shown { PutIsShown me.new.passes to.entry.cpu }
 {
+    let MachineContext { machine, rt } = context;
+    let CpuWork { cpu, work } = to;
     let backoff = Backoff::new();
     for _ in rt.forever() {
         if try_put(machine, rt, me, cpu, work) {
@@ -178,14 +188,13 @@ fn put<A: Allocator, R: Wait, H: Handler, F: StopFunc>(
 
 /// Puts the work into the queue of each CPU of its mask, ascending (`queue_stop_cpus_work`).
 pub(crate) fn put_to_all<A: Allocator, R: Wait, H: Handler, F: StopFunc>(
-    machine: &Machine<A>,
-    rt: &R,
+    context: MachineContext<A, R>,
     me: &mut MachineCpu<A>,
     handler: &mut H,
     run: &mut F,
     work: &Work,
 )
-    requires at { IsAt machine.now me.old }
+    requires at { IsAt context.machine.now me.old }
     requires outside { me.old.stops.inside ≡ None }
     ensures works { Works H.leads F.leads me.old handler.old run.old me.new handler.new run.new
         (with_put (item me.old.stops.number work.now) (members work.now.mask) (own_of me.old)) }
@@ -194,7 +203,7 @@ pub(crate) fn put_to_all<A: Allocator, R: Wait, H: Handler, F: StopFunc>(
 {
     let mask = work.mask;
     for cpu in mask.iter() {
-        put(machine, rt, me, handler, run, cpu, work);
+        put(context, me, handler, run, CpuWork { cpu, work });
     }
 }
 
@@ -248,27 +257,34 @@ pub(crate) enum Holds {
     UntilDone,
 }
 
+/// A stop: what is done in it, and how long its source holds the gate.
+#[derive(Clone, Copy)]
+pub(crate) struct StopJob<'a> {
+    pub(crate) work: &'a Work,
+    pub(crate) holds: Holds,
+}
+
 /// A stop of this work: its result.
 pub(crate) fn stop<A: Allocator, R: Wait, H: Handler, F: StopFunc>(
-    machine: &Machine<A>,
-    rt: &R,
+    context: MachineContext<A, R>,
     me: &mut MachineCpu<A>,
     handler: &mut H,
     run: &mut F,
-    work: &Work,
-    holds: Holds,
+    job: StopJob,
 ) -> i32
-    requires at { IsAt machine.now me.old }
+    requires at { IsAt context.machine.now me.old }
     requires outside { me.old.stops.inside ≡ None }
     requires collected { me.old.stops.pending ≡ None }
-    requires work { MayBegin machine.now.stops work.now }
-    ensures stopped { HasStopped H.leads F.leads (stop_moves holds) work.now me.old handler.old run.old me.new handler.new run.new result }
-    ensures own { RunsItself work.now me.old.stops me.new.stops result }
+    requires work { MayBegin context.machine.now.stops job.work.now }
+    ensures stopped { HasStopped H.leads F.leads (stop_moves job.entry.holds) job.entry.work.now me.old handler.old run.old me.new handler.new run.new result }
+    ensures own { RunsItself job.entry.work.now me.old.stops me.new.stops result }
 {
+    let MachineContext { machine, rt } = context;
+    let StopJob { work, holds } = job;
     me.is_shown(&machine.stops);
     take_gate(machine, rt, me, handler, run);
     begin(machine, me, work);
-    put_to_all(machine, rt, me, handler, run, work);
+    put_to_all(context, me, handler, run, work);
     match holds {
         Holds::UntilDone => {
             let answer = collect(machine, rt, me, handler, run);

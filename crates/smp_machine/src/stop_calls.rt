@@ -10,9 +10,10 @@ ghost use Rattle.smp_machine.specs.OwnAnswers.{HasCalledFor};
 ghost use Rattle.smp_machine.specs.MachineCpu.{IsAt};
 ghost use Rattle.smp_machine.specs.Stops.{HasStopped, IsActiveAlone, IsOneWork, IsTwoWork, IsMachineWork, RefusedStill, RefusesOne, RefusesTwo};
 
+use crate::context::MachineContext;
 use crate::cpu::Cpu;
 use crate::machine::Machine;
-use crate::stop::{Holds, stop};
+use crate::stop::{Holds, StopJob, stop};
 use crate::stop_work::{machine_work, one_work, two_work};
 use smp_mask::{CpuMask, SmpError};
 use smp_multi::StopFunc;
@@ -56,15 +57,12 @@ impl<A: Allocator> Machine<A> {
             return Err(SmpError::NoStopper);
         }
         let work = one_work(&self.stops, dst, func, arg);
-        Ok(stop(
-            self,
-            rt,
-            &mut me.place,
-            handler,
-            run,
-            &work,
-            Holds::UntilQueued,
-        ))
+        let context = MachineContext { machine: self, rt };
+        let job = StopJob {
+            work: &work,
+            holds: Holds::UntilQueued,
+        };
+        Ok(stop(context, &mut me.place, handler, run, job))
     }
 
     /// Stops two CPUs together and runs a function on the first of them (`kernel/stop_machine.c: stop_two_cpus`): its
@@ -104,15 +102,12 @@ impl<A: Allocator> Machine<A> {
             return Err(SmpError::NoStopper);
         }
         let work = two_work(&self.stops, a, b, func, arg);
-        Ok(stop(
-            self,
-            rt,
-            &mut me.place,
-            handler,
-            run,
-            &work,
-            Holds::UntilQueued,
-        ))
+        let context = MachineContext { machine: self, rt };
+        let job = StopJob {
+            work: &work,
+            holds: Holds::UntilQueued,
+        };
+        Ok(stop(context, &mut me.place, handler, run, job))
     }
 
     /// Stops all CPUs that are online, and runs a function on the active ones of them, with the interrupts of all of them
@@ -150,14 +145,11 @@ impl<A: Allocator> Machine<A> {
             return Err(SmpError::BadArgument);
         }
         let work = machine_work(&self.stops, func, arg, active);
-        Ok(stop(
-            self,
-            rt,
-            &mut me.place,
-            handler,
-            run,
-            &work,
-            Holds::UntilDone,
-        ))
+        let context = MachineContext { machine: self, rt };
+        let job = StopJob {
+            work: &work,
+            holds: Holds::UntilDone,
+        };
+        Ok(stop(context, &mut me.place, handler, run, job))
     }
 }

@@ -66,23 +66,30 @@ impl<A: Allocator> Passes<A> {
     }
 }
 
+/// A work of a source's stop, and the CPU whose queue it goes into.
+#[derive(Clone, Copy)]
+pub(crate) struct CpuItem {
+    pub(crate) cpu: u32,
+    pub(crate) item: Item,
+}
+
 /// Puts a work into this CPU's queue, and notes this with it; false where the queue was full.
 fn push<N: Noting, A: Allocator, R: Wait>(
     stoppers: &Stoppers<A>,
     rt: &R,
     me: &mut Passes<A>,
     stops: &StopCpu,
-    cpu: u32,
-    item: Item,
+    to: CpuItem,
 ) -> bool
     requires queues { me.old.queues ≡ stoppers.now }
-    requires own { item.slot ≡ me.old.number }
-    requires within { cpu < cpus }
+    requires own { to.item.slot ≡ me.old.number }
+    requires within { to.cpu < cpus }
     requires note { N.note ≡ note_of stops.now me.old }
-    ensures put { result ≡ true → (me.new ≡ puts cpu item N.note me.old) × PutIsShown me.new cpu }
+    ensures put { result ≡ true → (me.new ≡ puts to.cpu to.item N.note me.old) × PutIsShown me.new to.cpu }
     ensures full { result ≡ false → me.new ≡ me.old }
 {
     let _ = stops;
+    let CpuItem { cpu, item } = to;
     let pass = &mut me.to[cpu as usize];
     stoppers.queues[cpu as usize]
         .push_as::<Put<N>, R>(rt, pass, item)
@@ -98,17 +105,16 @@ impl<A: Allocator> Stoppers<A> {
         rt: &R,
         me: &mut Passes<A>,
         stops: &StopCpu,
-        cpu: u32,
-        item: Item,
+        to: CpuItem,
     ) -> bool
         requires queues { me.old.queues ≡ self.now }
-        requires own { item.slot ≡ me.old.number }
+        requires own { to.item.slot ≡ me.old.number }
         requires same { stops.now.number ≡ me.old.number }
-        requires within { cpu < cpus }
-        ensures put { result ≡ true → (me.new ≡ puts cpu item (note_of stops.now me.old) me.old) × PutIsShown me.new cpu }
+        requires within { to.cpu < cpus }
+        ensures put { result ≡ true → (me.new ≡ puts to.cpu to.item (note_of stops.now me.old) me.old) × PutIsShown me.new to.cpu }
         ensures full { result ≡ false → me.new ≡ me.old }
     {
-        push::<Brand, A, R>(self, rt, me, stops, cpu, item)
+        push::<Brand, A, R>(self, rt, me, stops, to)
     }
 
     /// Whether the own queue has nothing, by loads alone. It does not wait.

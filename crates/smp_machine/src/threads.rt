@@ -251,19 +251,18 @@ fn run_scope<
     F: StopFunc + Drop + Send,
     C: Crew<H, F, A> + Sync,
     A: Allocator + Copy + Send + Sync,
->(
-    rt: &'e R,
-    alloc: A,
-    machine: &'e Machine<A>,
-    crew: &'e C,
-    line: &'e StartLine,
-    all: Vec<Member<H, F, A>, A>,
-) -> Option<Vec<Played<H, F, A>, A>>
-    requires machine { C.runs_on crew.now machine.now }
-    requires members { AreMembers (C.begins crew.now) machine.now (members machine.now.calls.online) all.items }
-    ensures { IfSome result (λ v. ArePlayed H.leads F.leads (C.begins crew.now) (C.plays crew.now) (C.leaves crew.now)
-        machine.now (members machine.now.calls.online) v.items) }
+>(run: Run<'e, R, C, A>, alloc: A, all: Vec<Member<H, F, A>, A>) -> Option<Vec<Played<H, F, A>, A>>
+    requires machine { C.runs_on run.crew.now run.machine.now }
+    requires members { AreMembers (C.begins run.crew.now) run.machine.now (members run.machine.now.calls.online) all.items }
+    ensures { IfSome result (λ v. ArePlayed H.leads F.leads (C.begins run.entry.crew.now) (C.plays run.entry.crew.now) (C.leaves run.entry.crew.now)
+        run.entry.machine.now (members run.entry.machine.now.calls.online) v.items) }
 {
+    let Run {
+        rt,
+        machine,
+        crew,
+        line,
+    } = run;
     thread::scope(
         thread::scope_env(),
         rt,
@@ -313,7 +312,13 @@ pub fn run_cpus<
         return Err(SmpError::NoMemory);
     };
     let line = StartLine::new();
-    match run_scope(rt, alloc, machine, crew, &line, all) {
+    let run = Run {
+        rt,
+        machine,
+        crew,
+        line: &line,
+    };
+    match run_scope(run, alloc, all) {
         Some(played) => Ok(played),
         None => Err(SmpError::NoMemory),
     }

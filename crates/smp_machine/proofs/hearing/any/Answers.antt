@@ -7,6 +7,6 @@ use Rattle.smp_machine.proofs.hearing.any.Goals as goal
 
 pub returns-clause-ended : goal.returns-clause-ended
 returns-clause-ended g c =
-    subst (λ (n : ℕ). IfOk c.call_any-answer.result (λ cpu. c.args.wait ≡ true → cpu ≢ n →
-    HaveEnded c.call_any-answer.new.me (λ _. call_by n (single_record true) Sync c.args.func c.args.info) (cpu ∷ [])))
+    subst (λ (n : ℕ). IfOk c.call_any-answer.result (λ cpu. c.args.call.wait ≡ true → cpu ≢ n →
+    HaveEnded c.call_any-answer.new.me (λ _. call_by n (single_record true) Sync c.args.call.func c.args.call.info) (cpu ∷ [])))
     (ap (λ (p : MachineCpuValue). p.calls.number) c.me.view_is) c.call_any-answer.ensures.ended

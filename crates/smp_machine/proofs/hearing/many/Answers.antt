@@ -8,5 +8,6 @@ use Rattle.smp_machine.proofs.hearing.many.Goals as goal
 
 pub returns-clause-ended : goal.returns-clause-ended
 returns-clause-ended g c =
-    subst (λ (n : ℕ). c.args.wait ≡ true → HaveEnded c.call_many-called.new.me (many_call n Sync c.args.func c.args.info) (members c.call_many-called.result))
+    subst (λ (n : ℕ). c.args.call.wait ≡ true → HaveEnded c.call_many-called.new.me (many_call n Sync c.args.call.func c.args.call.info)
+    (members c.call_many-called.result))
     (ap (λ (p : MachineCpuValue). p.calls.number) c.me.view_is) c.call_many-called.ensures.ended

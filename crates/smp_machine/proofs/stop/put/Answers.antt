@@ -29,8 +29,8 @@ returns-then-try_put-clause-works g c =
     let hears = g.H.Handler.leads in
     let runs = g.F.StopFunc.leads in
     let number = ap (λ (s : CpuValue). s.number) c.loop.invariant.stops in
-    works_after hears runs (with_put (item c.args.me.now.stops.number c.args.work.now) (c.args.cpu ∷ [])) c.loop.invariant.works
+    works_after hears runs (with_put (item c.args.me.now.stops.number c.args.to.work.now) (c.args.to.cpu ∷ [])) c.loop.invariant.works
     (subst (λ (n : ℕ). Works hears runs c.loop.me c.loop.handler c.loop.run c.try_put.new.me c.loop.handler c.loop.run
-    (with_put (item n c.args.work.now) (c.args.cpu ∷ []) (own_of c.loop.me))) number
-    (works_put hears runs c.loop.me c.try_put.new.me c.loop.handler c.loop.run c.args.cpu (item c.loop.me.stops.number c.args.work.now)
+    (with_put (item n c.args.to.work.now) (c.args.to.cpu ∷ []) (own_of c.loop.me))) number
+    (works_put hears runs c.loop.me c.try_put.new.me c.loop.handler c.loop.run c.args.to.cpu (item c.loop.me.stops.number c.args.to.work.now)
     (c.try_put.ensures.put c.if-try_put.true)))
