@@ -14,6 +14,7 @@
 //! | `step` | makes one atomic step of a CPU's command | what was seen of it, or E10 |
 //! | `apply`, `replay` | makes one event, or a list of them | what was seen, up to the first refusal |
 //! | `word`, `queue`, `place`, `tally`, `phase` | nothing | a word, a queue, the place of a record, two counts, a phase |
+//! | `is_inside`, `stage`, `stop_stage` | nothing | whether a CPU is inside a command, and where in it, by half |
 //! | `copy`, `is_same` | nothing | the same core once more, or whether two are the same |
 //! | `leaves_offline`, `leaves_offline_stops`, `keeps_stop_laws`, .. (`machine/laws.rt`) | nothing | nothing: each clause is a law of every core |
 #![tactic(auto)]
