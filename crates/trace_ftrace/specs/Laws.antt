@@ -1,5 +1,5 @@
 -- What is printed of a text behind the verdict on it.
-use Rattle.std.specs.Prelude.{ℕ, List, [], ◌∷◌, map, Option, Some, Result, Ok}
+use Rattle.std.specs.Prelude.{ℕ, Bool, List, [], ◌∷◌, map, Option, Some, Result, Ok}
 use Rattle.smp_script.specs.Lines.{lines_of}
 use Rattle.smp_words.specs.FirstFault.{◌>>=◌}
 use Rattle.smp_words.specs.declared.call.Class.TheVariants as class
@@ -9,7 +9,7 @@ use Rattle.trace_model.specs.declared.event.Event.TheVariants as event
 use Rattle.trace_judge.specs.Head.{head_of}
 use Rattle.trace_judge.specs.Runs.{told_by}
 use Rattle.trace_judge.specs.declared.early_end.EarlyEnd.{EarlyEnd}
-use Rattle.trace_ftrace.specs.Bounds.{bounds_of}
+use Rattle.trace_ftrace.specs.Bounds.{bounds_of, shows_order}
 use Rattle.trace_ftrace.specs.Options.{◌>>?◌}
 use Rattle.trace_ftrace.specs.Placing.{placed}
 use Rattle.trace_ftrace.specs.Reading.{reading_of}
@@ -48,3 +48,7 @@ swapped line = choice.Next (near line 2) ∷ choice.Next (near line 1) ∷ choic
 abbrev pub swapped_events : List (ℕ × Event)
 swapped_events = (1, event.Call (calls.Free 0)) ∷ (2, event.Call (calls.Queue 1 0 class.Async 1 0))
     ∷ (1, event.Call (calls.Queue 0 0 class.Async 0 0)) ∷ (0, event.Call calls.Take) ∷ (0, event.Call (calls.Begin 1 1 0)) ∷ []
+
+-- the lines of a text show enough to judge order
+abbrev pub is_order_shown : List ℕ → Result Bool Refusal
+is_order_shown text = reading_of 0 text >>= λ r. Ok (shows_order r.0.marks)

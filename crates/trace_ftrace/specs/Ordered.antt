@@ -1,5 +1,5 @@
 -- The verdict on the events of a text, with the order of its appends.
-use Rattle.std.specs.Prelude.{◌≡◌, ℕ, Bool, true, false, nat_lt, ◌≤◌, ◌<◌, List, length, map, Option, Some, Result, Ok, Err}
+use Rattle.std.specs.Prelude.{◌≡◌, ℕ, true, false, nat_lt, List, length, map, Some, Result, Ok, Err}
 use Rattle.smp_words.specs.FirstFault.{◌>>=◌}
 use Rattle.trace_model.specs.Opened.{opening}
 use Rattle.trace_model.specs.State.{StateValue}

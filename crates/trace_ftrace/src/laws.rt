@@ -1,14 +1,14 @@
 //! What is printed of a text, for a reader of it.
 
-ghost use Rattle.std.specs.Prelude.{◌≡◌, [], ◌∷◌, Some, None, Ok, codes};
+ghost use Rattle.std.specs.Prelude.{◌≡◌, true, false, [], ◌∷◌, Some, None, Ok, codes};
 ghost use Rattle.smp_words.specs.declared.call.Class.TheVariants as class;
 ghost use Rattle.trace_model.specs.declared.event.CallEvent.TheVariants as calls;
 ghost use Rattle.trace_model.specs.declared.event.Event.TheVariants as event;
 ghost use Rattle.trace_ftrace.specs.Json.{json_of};
-ghost use Rattle.trace_ftrace.specs.Laws.{events_in, events_read, swapped, swapped_events, waits_in};
+ghost use Rattle.trace_ftrace.specs.Laws.{events_in, events_read, is_order_shown, swapped, swapped_events, waits_in};
 ghost use Rattle.trace_ftrace.specs.Print.{trace_of};
 ghost use Rattle.trace_ftrace.specs.Reading.{reading_of};
-ghost use Rattle.trace_ftrace.specs.declared.laws.TheConstants.{FIXED, JSON, MOVED, NESTED, TEXT, TRACE};
+ghost use Rattle.trace_ftrace.specs.declared.laws.TheConstants.{ALONE, FIFTH, FIXED, JSON, MOVED, NESTED, PROBED, TEXT, TRACE, TRAPPED};
 
 /// A text: CPU 0 queues a call for CPU 1, which makes it after 6 nanoseconds, and one for CPU 2, which is not begun.
 pub const TEXT: &str = "x-1 [0] 1: csd_queue_cpu: cpu=1 func=f csd=a0
@@ -96,4 +96,45 @@ pub fn appends_move_within_bounds()
     ensures moved { events_in (swapped 2) MOVED.now ≡ Ok (Some swapped_events) }
     ensures fixed { events_in (swapped 3) FIXED.now ≡ Ok None }
     ensures nested { events_in (swapped 3) NESTED.now ≡ Ok (Some swapped_events) }
+{}
+
+/// Probes by traps: CPU 1 queues a call for CPU 0, and before its append an interrupt of it queues irq work.
+pub const TRAPPED: &str = "x-1 [1] d.Z1. 10: one_queue: cpu=0 func=f csd=a0 flags=1
+x-1 [1] d.Z1. 12: one_queue: cpu=2 func=f csd=c0 flags=30
+x-1 [1] d.Z1. 13: one_queued: cpu=2
+x-2 [2] d.Z1. 20: one_queue: cpu=0 func=g csd=b0 flags=1
+x-1 [1] d.Z1. 25: one_queued: cpu=0
+x-3 [0] d.Z1. 30: async_entry: func=g csd=b0
+";
+
+/// The same without the interrupt.
+pub const PROBED: &str = "x-1 [1] d.Z1. 10: one_queue: cpu=0 func=f csd=a0 flags=1
+x-1 [1] d.Z1. 13: one_queued: cpu=0
+x-2 [2] d.Z1. 20: one_queue: cpu=0 func=g csd=b0 flags=1
+x-3 [0] d.Z1. 30: async_entry: func=g csd=b0
+";
+
+/// A probe behind an append, and no line before that.
+pub const ALONE: &str = "x-1 [1] d.Z1. 13: one_queued: cpu=0
+";
+
+/// Five queue lines of a CPU, and no probe behind an append.
+pub const FIFTH: &str = "x-1 [1] d.Z1. 10: one_queue: cpu=0 func=f csd=a0 flags=1
+x-1 [1] d.Z1. 11: one_queue: cpu=0 func=f csd=a1 flags=1
+x-1 [1] d.Z1. 12: one_queue: cpu=0 func=f csd=a2 flags=1
+x-1 [1] d.Z1. 13: one_queue: cpu=0 func=f csd=a3 flags=1
+x-1 [1] d.Z1. 14: one_queue: cpu=0 func=f csd=a4 flags=1
+";
+
+/// An append whose line is by a trap is over by its own probe. That of an append inside of it, in an interrupt, is another.
+pub fn traps_end_at_their_probes()
+    ensures moved { events_in (swapped 4) TRAPPED.now ≡ Ok (Some swapped_events) }
+    ensures fixed { events_in (swapped 3) PROBED.now ≡ Ok None }
+{}
+
+/// Order is judged where each probe behind an append has its queue line, and no CPU is inside of five appends.
+pub fn probes_show_order()
+    ensures nested { is_order_shown TRAPPED.now ≡ Ok true }
+    ensures alone { is_order_shown ALONE.now ≡ Ok false }
+    ensures fifth { is_order_shown FIFTH.now ≡ Ok false }
 {}

@@ -30,7 +30,7 @@ use trace_model::{CallEvent, Event, Reason, State};
 pub enum OrderJudged {
     /// It is not asked for.
     Unasked,
-    /// Some line shows no class or no context of a call that it queues, or is of a probe behind an append.
+    /// Some line leaves it out, as one that shows no class or no context of a call that it queues.
     Hidden,
     Judged,
 }
@@ -435,8 +435,9 @@ pub fn judge_waits<A: Allocator + Copy>(
 }
 
 /// Judges such a text as `judge_waits` does, and the order of its appends, where its lines show class and context of each call that
-/// is queued. An append is where its line is, or behind that and before the next line of its CPU in no deeper context. The verdict
-/// is that on one such order, with the takes of the CPUs in it. Where that is not lawful, none is known that is.
+/// is queued. An append is where its line is, or behind that and before the next line of its CPU in no deeper context; of a trap
+/// before its own probe. The verdict is that on one such order, with the takes of the CPUs in it. Where that is not lawful, none is
+/// known that is.
 ///
 /// Refusals: those of `judge_waits`; `Unplaced`, which was never seen.
 pub fn judge_ordered<A: Allocator + Copy>(
