@@ -4,6 +4,7 @@
 //! - `grammar`, `arguments`: The words of the command line, what help says of them, and what they ask for.
 //! - `requests`: Does what they ask for.
 //! - `streams`: A text that is read, and what is written.
+//! - `kernel_file`: The verdict on a file of a kernel's tracer, whose text is not held.
 //! - `explain`: What is wrong with a text.
 //! - `check`: Whether a trace of steps is what the machine prints for a script.
 //! - `searches`, `outcomes`: What an exploration expects, and how it may end.
@@ -20,6 +21,7 @@ pub mod explain;
 pub mod failure;
 mod failure_text;
 mod grammar;
+mod kernel_file;
 pub mod outcomes;
 mod progress;
 mod report_json;

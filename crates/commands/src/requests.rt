@@ -8,6 +8,7 @@ use crate::check::check_trace;
 use crate::explain::explain_text;
 use crate::failure::{Failure, failure_of};
 use crate::failure_text::{tell, tell_end};
+use crate::kernel_file::judge_lawful_file;
 use crate::outcomes::{Question, print_outcomes};
 use crate::searches::{Search, print};
 use crate::status::{Answer, status_of};
@@ -249,9 +250,31 @@ fn do_kind(rt: &HostRuntime, request: &Request<'_>, text: &[u8]) -> Result<Answe
     }
 }
 
+/// Writes the verdict on a lawful text of a kernel's tracer in a file, whose text is not held; none where it is another one.
+fn do_pieces(rt: &HostRuntime, request: &Request<'_>) -> Option<Result<Answer, Failure>> {
+    let (Job::JudgeKernel(skip, slow), Some(path)) = (&request.job, request.file) else {
+        return None;
+    };
+    let out = judge_lawful_file(rt, path, *skip, *slow)?;
+    let mut writer = Watched::new(Remembering::new(rt.stdout()));
+    match print(&mut writer, out.as_slice()) {
+        Ok(()) => Some(Ok(Answer::Judged(Ruling::Lawful))),
+        Err(Failure::Unwritten(_)) => {
+            Some(Err(Failure::Unwritten(writer.into_inner().reason())))
+        }
+        Err(failure) => Some(Err(failure)),
+    }
+}
+
 /// Does what is asked for. Why it was not done is said on standard error.
 fn do_request(rt: &HostRuntime, request: &Request<'_>) -> io::Result<Result<Answer, Failure>> {
     let name = request.file.unwrap_or("standard input");
+    if let Some(done) = do_pieces(rt, request) {
+        if let Err(failure) = done {
+            tell(rt, name, &[], failure)?;
+        }
+        return Ok(done);
+    }
     let text = match read_text(rt, most_of(&request.job), request.file) {
         Ok(text) => text,
         Err(reason) => {

@@ -15,6 +15,8 @@ pub mod NamesView
 pub mod Numbers
 pub mod Options
 pub mod Ordered
+pub mod Pieces
+pub mod PiecesView
 pub mod Placing
 pub mod PlacingView
 pub mod Print

@@ -10,6 +10,7 @@ ghost use Rattle.trace_ftrace.specs.Reading.{reading_of};
 
 mod pieces;
 
+use crate::kept::functions_of;
 use crate::names::{Names, name_of, write_record};
 use crate::told::Told;
 use crate::verdict::read_told;
@@ -403,9 +404,12 @@ pub fn json_of_kernel<A: Allocator + Copy>(
         Ok(reading) => reading,
         Err(why) => return Err(why),
     };
+    let Ok(functions) = functions_of(alloc, &reading.kept) else {
+        return Err(Refusal::NoMemory);
+    };
     let names = Names {
         addresses: reading.telling.addresses.as_slice(),
-        functions: reading.kept.names.as_slice(),
+        functions: functions.as_slice(),
     };
     let told = reading.telling.told.as_slice();
     match json_text(alloc, &names, reading.telling.cpus, told) {

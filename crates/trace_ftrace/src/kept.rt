@@ -27,9 +27,9 @@ pub struct Mark {
 
 /// What is kept of the lines up to one.
 #[derive(Drop)]
-pub struct Kept<'a, A: Allocator> {
+pub struct Kept<A: Allocator> {
     /// The functions, by their numbers.
-    pub names: Vec<&'a [u8], A>,
+    pub(crate) names: Vec<Vec<u8, A>, A>,
     /// What the lines show, in the order of their times, and else of the lines.
     pub marks: Vec<Mark, A>,
     /// The time of the last line of each CPU.
@@ -39,13 +39,13 @@ pub struct Kept<'a, A: Allocator> {
 }
 
 /// The place of a name among these.
-fn name_place(names: &[&[u8]], name: &[u8]) -> Option<usize>
-    ensures { result ≡ name_place 0 name.now (map (λ n. n.now) names.now) }
+fn name_place<A: Allocator>(names: &[Vec<u8, A>], name: &[u8]) -> Option<usize>
+    ensures { result ≡ name_place 0 name.now (map (λ n. n.items) names.now) }
 {
     let mut place = 0;
     let mut rest = names;
     while let [first, after @ ..] = rest {
-        if *first == name {
+        if first.as_slice() == name {
             return Some(place);
         }
         place += 1;
@@ -56,18 +56,37 @@ fn name_place(names: &[&[u8]], name: &[u8]) -> Option<usize>
 
 /// The number of a name, which is one of these from here on.
 #[tactic(auto, unfolding(crate::specs::Kept::numbered))]
-pub(crate) fn numbered<'a, A: Allocator>(
-    names: &mut Vec<&'a [u8], A>,
-    name: &'a [u8],
+pub(crate) fn numbered<A: Allocator + Copy>(
+    alloc: A,
+    names: &mut Vec<Vec<u8, A>, A>,
+    name: &[u8],
 ) -> Result<u64, AllocError>
-    ensures { IfOk result (λ n. (n, map (λ n. n.now) names.new.items) ≡ numbered name.now (map (λ n. n.now) names.old.items)) }
+    ensures { IfOk result (λ n. (n, map (λ n. n.items) names.new.items) ≡ numbered name.now (map (λ n. n.items) names.old.items)) }
 {
     if let Some(place) = name_place(names.as_slice(), name) {
         return Ok(place as u64);
     }
     let count = names.len() as u64;
-    names.push(name)?;
+    let mut own = Vec::new(alloc);
+    own.extend_from_slice(name)?;
+    names.push(own)?;
     Ok(count)
+}
+
+/// The functions that lines name, by their numbers.
+pub fn functions_of<A: Allocator + Copy>(
+    alloc: A,
+    kept: &Kept<A>,
+) -> Result<Vec<&[u8], A>, AllocError>
+    ensures { IfOk result (λ v. map (λ n. n.now) v.items ≡ map (λ n. n.items) kept.now.names.items) }
+{
+    let mut functions = Vec::new(alloc);
+    let mut rest = kept.names.as_slice();
+    while let [first, after @ ..] = rest {
+        functions.push(first.as_slice())?;
+        rest = after;
+    }
+    Ok(functions)
 }
 
 /// Whether a mark is that this CPU queues this record.

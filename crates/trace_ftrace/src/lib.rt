@@ -29,6 +29,7 @@ pub mod names;
 mod number;
 pub mod ordered;
 mod per_cpu;
+pub mod pieces;
 pub mod placing;
 pub mod print;
 pub mod sign;

@@ -1,11 +1,12 @@
 //! The marks of calls that the lines of a text have.
 
-ghost use Rattle.std.specs.Prelude.{◌≡◌, ◌≤◌, ◌<◌, Ok, Err, map, length, MatchResult};
+ghost use Rattle.std.specs.Prelude.{◌≡◌, ◌≤◌, ◌<◌, ◌+◌, Ok, Err, map, length, IfOk, IfErr, MatchResult};
 ghost use Rattle.smp_script.specs.Lines.{lines_of};
 ghost use Rattle.trace_ftrace.specs.HeadingView.{heading_value};
 ghost use Rattle.trace_ftrace.specs.KeptView.{kept_value};
 ghost use Rattle.trace_ftrace.specs.Marks.{class_line, event_line, first_time, is_counts, is_cut, is_empty_note, is_note, line_kept};
 ghost use Rattle.trace_ftrace.specs.Marks.{line_of_cpu, lines_kept, marked, named, noted, with_mark, no_lines, shown_line, timed, Keeps};
+ghost use Rattle.trace_ftrace.specs.Pieces.{Fails, GoesOn};
 
 use crate::field::{cpu_below, needed_symbol};
 use crate::heading::{Heading, find_heading};
@@ -17,7 +18,7 @@ use smp_script::line::{is_word, next_line};
 use std::alloc::Allocator;
 
 /// Keeps a mark, behind all those that are not later.
-fn push_mark<A: Allocator>(kept: &mut Kept<'_, A>, mark: Mark) -> Result<(), Refusal>
+fn push_mark<A: Allocator>(kept: &mut Kept<A>, mark: Mark) -> Result<(), Refusal>
     ensures { Keeps result (kept_value kept.new) (Ok (with_mark mark (kept_value kept.old))) }
 {
     let place = behind(kept.marks.as_slice(), mark.at.time);
@@ -29,11 +30,12 @@ fn push_mark<A: Allocator>(kept: &mut Kept<'_, A>, mark: Mark) -> Result<(), Ref
 
 /// Keeps a mark with the function that the fields name.
 #[tactic(auto, unfolding(crate::specs::Marks::named))]
-fn push_named<'a, A: Allocator>(
-    kept: &mut Kept<'a, A>,
+fn push_named<A: Allocator + Copy>(
+    alloc: A,
+    kept: &mut Kept<A>,
     at: Stamp,
     sign: Sign,
-    fields: &[&'a [u8]],
+    fields: &[&[u8]],
 ) -> Result<(), Refusal>
     ensures { Keeps result (kept_value kept.new) (named at sign (map (λ f. f.now) fields.now) (kept_value kept.old)) }
 {
@@ -41,7 +43,7 @@ fn push_named<'a, A: Allocator>(
         Ok(name) => name,
         Err(why) => return Err(Refusal::Wrong(at.line, why)),
     };
-    match numbered(&mut kept.names, name) {
+    match numbered(alloc, &mut kept.names, name) {
         Ok(func) => push_mark(kept, Mark { at, func, sign }),
         Err(_) => Err(Refusal::NoMemory),
     }
@@ -50,7 +52,7 @@ fn push_named<'a, A: Allocator>(
 /// Puts the sort of a record where its CPU has queued it last. The first line of a CPU may come without that.
 #[tactic(auto, unfolding(crate::specs::Marks::class_line))]
 fn class_line<A: Allocator>(
-    kept: &mut Kept<'_, A>,
+    kept: &mut Kept<A>,
     at: Stamp,
     address: u64,
     sort: Sort,
@@ -66,16 +68,17 @@ fn class_line<A: Allocator>(
 
 /// Keeps what a line shows.
 #[tactic(auto, unfolding(crate::specs::Marks::marked))]
-fn keep_mark<'a, A: Allocator>(
-    kept: &mut Kept<'a, A>,
+fn keep_mark<A: Allocator + Copy>(
+    alloc: A,
+    kept: &mut Kept<A>,
     at: Stamp,
     sign: Sign,
-    fields: &[&'a [u8]],
+    fields: &[&[u8]],
 ) -> Result<(), Refusal>
     ensures { Keeps result (kept_value kept.new) (marked at sign (map (λ f. f.now) fields.now) (kept_value kept.old)) }
 {
     match sign {
-        Sign::Queue(..) | Sign::Begin(_) => push_named(kept, at, sign, fields),
+        Sign::Queue(..) | Sign::Begin(_) => push_named(alloc, kept, at, sign, fields),
         Sign::Direct
         | Sign::End(_)
         | Sign::EndLast
@@ -91,7 +94,7 @@ fn keep_mark<'a, A: Allocator>(
 }
 
 /// Notes the time of a line, and answers that of the first.
-fn note_time<A: Allocator>(kept: &mut Kept<'_, A>, cpu: u32, time: u128) -> u128
+fn note_time<A: Allocator>(kept: &mut Kept<A>, cpu: u32, time: u128) -> u128
     requires { cpu < 32 }
     ensures new { kept_value kept.new ≡ timed cpu time (kept_value kept.old) }
     ensures first { result ≡ first_time kept.old.first time }
@@ -104,15 +107,16 @@ fn note_time<A: Allocator>(kept: &mut Kept<'_, A>, cpu: u32, time: u128) -> u128
 
 /// Keeps what a line shows, whose time is noted.
 #[tactic(auto, unfolding(crate::specs::Marks::shown_line))]
-fn shown_line<'a, A: Allocator>(
-    kept: &mut Kept<'a, A>,
+fn shown_line<A: Allocator + Copy>(
+    alloc: A,
+    kept: &mut Kept<A>,
     at: Stamp,
-    heading: &Heading<'_, 'a>,
+    heading: &Heading<'_, '_>,
 ) -> Result<(), Refusal>
     ensures { Keeps result (kept_value kept.new) (shown_line at (heading_value heading.now) (kept_value kept.old)) }
 {
     match read_sign(heading.event, heading.fields) {
-        Ok(Some(sign)) => keep_mark(kept, at, sign, heading.fields),
+        Ok(Some(sign)) => keep_mark(alloc, kept, at, sign, heading.fields),
         Ok(None) => Ok(()),
         Err(why) => Err(Refusal::Wrong(at.line, why)),
     }
@@ -121,11 +125,12 @@ fn shown_line<'a, A: Allocator>(
 /// Keeps what a line of this CPU tells, which is not before the last of its CPU; nothing where it is behind the first line by
 /// less than what is skipped.
 #[tactic(auto, unfolding(crate::specs::Marks::line_of_cpu))]
-fn line_of_cpu<'a, A: Allocator>(
-    kept: &mut Kept<'a, A>,
+fn line_of_cpu<A: Allocator + Copy>(
+    alloc: A,
+    kept: &mut Kept<A>,
     skip: u64,
     at: Stamp,
-    heading: &Heading<'_, 'a>,
+    heading: &Heading<'_, '_>,
 ) -> Result<(), Refusal>
     requires { at.cpu < 32 }
     ensures { Keeps result (kept_value kept.new) (line_of_cpu skip at (heading_value heading.now) (kept_value kept.old)) }
@@ -137,16 +142,17 @@ fn line_of_cpu<'a, A: Allocator>(
     if at.time.saturating_sub(first) < skip as u128 {
         return Ok(());
     }
-    shown_line(kept, at, heading)
+    shown_line(alloc, kept, at, heading)
 }
 
 /// Keeps what a line tells.
 #[tactic(auto, unfolding(crate::specs::Marks::event_line))]
-fn event_line<'a, A: Allocator>(
-    kept: &mut Kept<'a, A>,
+fn event_line<A: Allocator + Copy>(
+    alloc: A,
+    kept: &mut Kept<A>,
     skip: u64,
     line: u32,
-    heading: &Heading<'_, 'a>,
+    heading: &Heading<'_, '_>,
 ) -> Result<(), Refusal>
     ensures { Keeps result (kept_value kept.new) (event_line skip line (heading_value heading.now) (kept_value kept.old)) }
 {
@@ -161,7 +167,7 @@ fn event_line<'a, A: Allocator>(
         task: heading.task,
         context: heading.context,
     };
-    line_of_cpu(kept, skip, at, heading)
+    line_of_cpu(alloc, kept, skip, at, heading)
 }
 
 /// Whether words say that a CPU's buffer is empty.
@@ -230,12 +236,12 @@ fn note(line: u32, words: &[&[u8]]) -> Result<(), Refusal>
 
 /// Keeps what a line of this number tells.
 #[tactic(auto, unfolding(crate::specs::Marks::line_kept))]
-fn line<'a, A: Allocator + Copy>(
+fn line<A: Allocator + Copy>(
     alloc: A,
-    kept: &mut Kept<'a, A>,
+    kept: &mut Kept<A>,
     skip: u64,
     number: u32,
-    text: &'a [u8],
+    text: &[u8],
 ) -> Result<(), Refusal>
     ensures { Keeps result (kept_value kept.new) (line_kept skip number text.now (kept_value kept.old)) }
 {
@@ -243,8 +249,75 @@ fn line<'a, A: Allocator + Copy>(
         return Err(Refusal::NoMemory);
     };
     match find_heading(words.as_slice()) {
-        Some(heading) => event_line(kept, skip, number, &heading),
+        Some(heading) => event_line(alloc, kept, skip, number, &heading),
         None => note(number, words.as_slice()),
+    }
+}
+
+/// Keeps what the lines of a text tell, of which the first has this number.
+pub(crate) fn keep_lines<A: Allocator + Copy>(
+    alloc: A,
+    kept: &mut Kept<A>,
+    skip: u64,
+    first: u32,
+    text: &[u8],
+) -> Result<(), Refusal>
+    requires { first + length text.now ≤ 536870913 }
+    ensures { Keeps result (kept_value kept.new) (lines_kept skip first (lines_of text.now) (kept_value kept.old)) }
+{
+    let mut number = first;
+    let mut rest = text;
+    while let Some(next) = next_line(rest) {
+        match line(alloc, kept, skip, number, next.text) {
+            Ok(()) => {}
+            Err(why) => return Err(why),
+        }
+        number += 1;
+        rest = next.rest;
+    }
+    Ok(())
+}
+
+/// Keeps what the lines of a text tell that a line feed ends, of which the first has this number; answers the number of the next
+/// line, and what there is of it.
+#[tactic(auto, using(crate::proofs::EndedLines::ended_line))]
+pub(crate) fn keep_ended<'a, A: Allocator + Copy>(
+    alloc: A,
+    kept: &mut Kept<A>,
+    skip: u64,
+    first: u32,
+    text: &'a [u8],
+) -> Result<(u32, &'a [u8]), Refusal>
+    requires { first + length text.now ≤ 536870913 }
+    ensures kept { IfOk result (λ r. GoesOn skip first text.now (kept_value kept.old) r.0 r.1.now (kept_value kept.new)) }
+    ensures wrong { IfErr result (λ why. Fails why skip first text.now (kept_value kept.old)) }
+    ensures within { IfOk result (λ r. r.0 + length r.1.now ≤ first + length text.now) }
+{
+    let mut number = first;
+    let mut rest = text;
+    while let Some(next) = next_line(rest) {
+        if !next.is_ended {
+            break;
+        }
+        match line(alloc, kept, skip, number, next.text) {
+            Ok(()) => {}
+            Err(why) => return Err(why),
+        }
+        number += 1;
+        rest = next.rest;
+    }
+    Ok((number, rest))
+}
+
+/// What is kept before the first line.
+pub(crate) fn no_lines<A: Allocator + Copy>(alloc: A) -> Kept<A>
+    ensures { kept_value result ≡ no_lines }
+{
+    Kept {
+        names: Vec::new(alloc),
+        marks: Vec::new(alloc),
+        times: [0; 32],
+        first: None,
     }
 }
 
@@ -253,26 +326,14 @@ pub(crate) fn marks<A: Allocator + Copy>(
     alloc: A,
     skip: u64,
     text: &[u8],
-) -> Result<Kept<'_, A>, Refusal>
+) -> Result<Kept<A>, Refusal>
     requires { length text.now ≤ 536870912 }
     ensures { let made = lines_kept skip 1 (lines_of text.now) no_lines in
         MatchResult result (λ k. made ≡ Ok (kept_value k)) (λ why. Keeps (Err why) no_lines made) }
 {
-    let mut kept = Kept {
-        names: Vec::new(alloc),
-        marks: Vec::new(alloc),
-        times: [0; 32],
-        first: None,
-    };
-    let mut number = 1;
-    let mut rest = text;
-    while let Some(next) = next_line(rest) {
-        match line(alloc, &mut kept, skip, number, next.text) {
-            Ok(()) => {}
-            Err(why) => return Err(why),
-        }
-        number += 1;
-        rest = next.rest;
+    let mut kept = no_lines(alloc);
+    match keep_lines(alloc, &mut kept, skip, 1, text) {
+        Ok(()) => Ok(kept),
+        Err(why) => Err(why),
     }
-    Ok(kept)
 }

@@ -1,22 +1,24 @@
 //! The verdict on a text of the tracer, and what is printed of it.
 
-ghost use Rattle.std.specs.Prelude.{◌≡◌, ◌++◌, IfOk, OnOk, string_bytes};
+ghost use Rattle.std.specs.Prelude.{◌≡◌, ◌++◌, map, Ok, IfOk, OnOk, string_bytes};
 ghost use Rattle.smp_script.specs.Lines.{lines_of};
+ghost use Rattle.trace_ftrace.specs.KeptView.{kept_value};
 ghost use Rattle.trace_ftrace.specs.Reading.{reading_of};
 ghost use Rattle.trace_ftrace.specs.SourceView.{source_value};
 ghost use Rattle.trace_ftrace.specs.Text.{broken_lines, broken_record, class_text, count_text, counts_text, order_text, direct_text, earlier_text, event_record};
 ghost use Rattle.trace_ftrace.specs.Text.{first_counts, front_text, judged_text, last_counts, last_queue, lawful_lines, line_behind};
 ghost use Rattle.trace_ftrace.specs.Text.{line_from, named_record, queued_text, ruling_of, shown_text, source_text, verdict_text, wakes_text, works_text};
 ghost use Rattle.trace_ftrace.specs.Text.{Prints, PrintsInOrder, PrintsRuling, PrintsRun};
+ghost use Rattle.trace_ftrace.specs.ToldView.{telling_value};
 ghost use Rattle.trace_ftrace.specs.Verdict.{ruling_of as ruling_of_told};
 
 use crate::bounds::shows_order;
 use crate::counts::{Counts, count_lines};
-use crate::kept::Mark;
+use crate::kept::{Mark, functions_of};
 use crate::names::{BrokenEvent, Names, broken_line};
 use crate::ordered::judge_in_order;
 use crate::told::Told;
-use crate::verdict::{judge_told, read_told};
+use crate::verdict::{Reading, judge_told, read_told};
 use crate::waits::{is_queue, write_waits};
 use crate::wrong::Refusal;
 use smp_script::line::next_line;
@@ -403,6 +405,62 @@ fn ruled_in_order<A: Allocator + Copy>(
     }
 }
 
+/// What was read, with the lines of a text.
+fn source_of<'a, A: Allocator>(
+    text: &'a [u8],
+    functions: &'a [&'a [u8]],
+    reading: &'a Reading<A>,
+    order: OrderJudged,
+    slow: u64,
+) -> Source<'a>
+    ensures { source_value result ≡ record {
+      text = text.now;
+      names = record { addresses = reading.now.telling.addresses.items; functions = map (λ f. f.now) functions.now };
+      marks = reading.now.kept.marks.items;
+      told = reading.now.telling.told.items;
+      order = order;
+      slow = slow;
+    } }
+{
+    let names = Names {
+        addresses: reading.telling.addresses.as_slice(),
+        functions,
+    };
+    Source {
+        text,
+        names,
+        marks: reading.kept.marks.as_slice(),
+        told: reading.telling.told.as_slice(),
+        order,
+        slow,
+    }
+}
+
+/// Judges what was read of a text that a kernel's tracer wrote: what is printed of the verdict, with the lines of this text, and with
+/// each call that is not begun or waited for more than `slow` nanoseconds, and whether the text that was read is lawful.
+///
+/// Refusals: `TooLong`; `Wrong` where an event's CPU is above 31; `NoMemory`.
+pub fn judge_read<A: Allocator + Copy>(
+    alloc: A,
+    slow: u64,
+    reading: &Reading<A>,
+    text: &[u8],
+) -> Result<(Vec<u8, A>, Ruling), Refusal>
+    ensures { Prints result text.now slow (Ok (kept_value reading.now.kept, telling_value reading.now.telling)) }
+{
+    let Ok(functions) = functions_of(alloc, &reading.kept) else {
+        return Err(Refusal::NoMemory);
+    };
+    let source = source_of(
+        text,
+        functions.as_slice(),
+        reading,
+        OrderJudged::Unasked,
+        slow,
+    );
+    ruled(alloc, &source)
+}
+
 /// Judges a text that a kernel's tracer wrote, without its first `skip` nanoseconds: what is printed of the verdict, with each call
 /// that is not begun or waited for more than `slow` nanoseconds, and whether the text is lawful.
 ///
@@ -415,23 +473,10 @@ pub fn judge_waits<A: Allocator + Copy>(
 ) -> Result<(Vec<u8, A>, Ruling), Refusal>
     ensures { Prints result text.now slow (reading_of skip text.now) }
 {
-    let reading = match read_told(alloc, skip, text) {
-        Ok(reading) => reading,
-        Err(why) => return Err(why),
-    };
-    let names = Names {
-        addresses: reading.telling.addresses.as_slice(),
-        functions: reading.kept.names.as_slice(),
-    };
-    let source = Source {
-        text,
-        names,
-        marks: reading.kept.marks.as_slice(),
-        told: reading.telling.told.as_slice(),
-        order: OrderJudged::Unasked,
-        slow,
-    };
-    ruled(alloc, &source)
+    match read_told(alloc, skip, text) {
+        Ok(reading) => judge_read(alloc, slow, &reading, text),
+        Err(why) => Err(why),
+    }
 }
 
 /// Judges such a text as `judge_waits` does, and the order of its appends, where its lines show class and context of each call that
@@ -452,23 +497,16 @@ pub fn judge_ordered<A: Allocator + Copy>(
         Ok(reading) => reading,
         Err(why) => return Err(why),
     };
-    let names = Names {
-        addresses: reading.telling.addresses.as_slice(),
-        functions: reading.kept.names.as_slice(),
+    let Ok(functions) = functions_of(alloc, &reading.kept) else {
+        return Err(Refusal::NoMemory);
     };
     let is_shown = shows_order(reading.kept.marks.as_slice());
-    let source = Source {
-        text,
-        names,
-        marks: reading.kept.marks.as_slice(),
-        told: reading.telling.told.as_slice(),
-        order: if is_shown {
-            OrderJudged::Judged
-        } else {
-            OrderJudged::Hidden
-        },
-        slow,
+    let order = if is_shown {
+        OrderJudged::Judged
+    } else {
+        OrderJudged::Hidden
     };
+    let source = source_of(text, functions.as_slice(), &reading, order, slow);
     if is_shown {
         ruled_in_order(alloc, &source)
     } else {

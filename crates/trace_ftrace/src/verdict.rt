@@ -20,8 +20,8 @@ use trace_model::{Halt, Setting, State, Without};
 
 /// What is read of a text: what its lines show, and which events these tell.
 #[derive(Drop)]
-pub struct Reading<'a, A: Allocator> {
-    pub kept: Kept<'a, A>,
+pub struct Reading<A: Allocator> {
+    pub kept: Kept<A>,
     pub telling: Telling<A>,
 }
 
@@ -149,11 +149,8 @@ pub fn judge_told<A: Allocator + Copy>(alloc: A, told: &[Told]) -> Result<Verdic
 
 /// What is read of a text, of whose lines this is kept.
 #[tactic(auto, unfolding(crate::specs::Reading::told_by), using(crate::proofs::ReadFails::fails))]
-fn tell_kept<'a, A: Allocator + Copy>(
-    alloc: A,
-    kept: Kept<'a, A>,
-) -> Result<Reading<'a, A>, Refusal>
-    ensures { Reads result (told_by (kept_value kept.entry)) }
+pub(crate) fn tell_kept<A: Allocator + Copy>(alloc: A, kept: Kept<A>) -> Result<Reading<A>, Refusal>
+    ensures { Reads result (told_by (kept_value kept)) }
 {
     match tell_marks(alloc, kept.marks.as_slice()) {
         Ok(telling) => Ok(Reading { kept, telling }),
@@ -169,7 +166,7 @@ pub fn read_told<A: Allocator + Copy>(
     alloc: A,
     skip: u64,
     text: &[u8],
-) -> Result<Reading<'_, A>, Refusal>
+) -> Result<Reading<A>, Refusal>
     ensures { Reads result (reading_of skip text.now) }
 {
     if text.len() > MOST_KERNEL_BYTES as usize {

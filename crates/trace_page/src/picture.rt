@@ -12,6 +12,7 @@ use crate::links::write_links;
 use crate::title::{title, write_time};
 use crate::window::{Window, has_line, window_of};
 use std::alloc::{AllocError, Allocator};
+use trace_ftrace::kept::functions_of;
 use trace_ftrace::names::Names;
 use trace_ftrace::told::Told;
 use trace_ftrace::verdict::{Reading, read_told};
@@ -265,7 +266,7 @@ fn picture<A: Allocator + Copy>(
 fn read_picture<A: Allocator + Copy>(
     alloc: A,
     line: u32,
-    reading: &Reading<'_, A>,
+    reading: &Reading<A>,
 ) -> Result<Vec<u8, A>, NoPicture>
     ensures { IsPicture result line (kept_value reading.now.kept) (telling_value reading.now.telling) }
 {
@@ -273,9 +274,12 @@ fn read_picture<A: Allocator + Copy>(
     if told.is_empty() {
         return Err(NoPicture::Events);
     }
+    let Ok(functions) = functions_of(alloc, &reading.kept) else {
+        return Err(NoPicture::Text(Refusal::NoMemory));
+    };
     let names = Names {
         addresses: reading.telling.addresses.as_slice(),
-        functions: reading.kept.names.as_slice(),
+        functions: functions.as_slice(),
     };
     match picture(alloc, names, &window_of(line, told)) {
         Ok(out) => Ok(out.into_bytes()),
