@@ -1,6 +1,7 @@
 -- What a CPU knows.
 pub mod Parts
 pub mod Restages
+pub mod Reached
 pub mod OneStep
 pub mod Posted
 pub mod Handling

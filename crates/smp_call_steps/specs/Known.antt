@@ -11,6 +11,7 @@ use Rattle.smp_call_steps.specs.Parts.{CallPart, part_of, part_confirmed, part_q
 use Rattle.smp_call_steps.specs.Places.{IsCall}
 use Rattle.smp_call_steps.specs.Histories.{sent_to, calls_from, one_held, counted_call}
 use Rattle.smp_call_steps.specs.Stands.{held_of, held_of_post, posted, PostGoes}
+use Rattle.smp_call_steps.specs.Reached.{IsReached}
 use Rattle.smp_call_steps.specs.Shows.{Shows}
 use Rattle.smp_call_steps.specs.Names.{Call, Class, Word, Head, Intr, Hand, Queued, Flags, Func, Info, Next, Access, Load, Store, Seen, Act, Posting, PostStage}
 use Rattle.smp_call_steps.specs.Names.{HandleStage, Stage, Send, Done, Post, Handle, Logged, HeadSeen}
@@ -215,9 +216,10 @@ known_access v (Done id) = Load (Flags id)
 known_access v (Post p stage) = post_access p v.number stage (queued_tally v.part (held_of_post p stage) p.to)
 known_access v (Handle stage) = handle_access v.number stage (ran_tally v.part (source_at stage))
 
--- some words show some calls, of which a CPU that knows v knows its part
+-- some words show some calls that are reached, of which a CPU that knows v knows its part
 pub record Lives (v : KnownCalls) : Type 0 where
   pub calls : CallState
+  pub reached : IsReached calls
   pub at : Word → ℕ
   pub controls : ℕ → ControlValue
   pub shown : Shows calls at controls
@@ -228,11 +230,12 @@ pub record CallMoment (v : KnownCalls) (word : Word) (number : ℕ) : Type 0 whe
   pub lives : Lives v
   pub number_is : number ≡ lives.at word
 
--- the table goes on by a step of this CPU, after which it knows w
+-- the table goes on by a step of this CPU, after which it knows w; calls that were reached before it lead to calls that are reached
 pub record GoesOn (a : CallState) (control : ℕ → ControlValue) (me : ℕ) (at : Word → ℕ) (w : KnownCalls) : Type 0 where
   pub seen : Seen
   pub calls : CallState
   pub told : calls ≡ tells a seen
+  pub reached : IsReached a → IsReached calls
   pub controls : ℕ → ControlValue
   pub shown : Shows calls at controls
   pub mine : Sees calls controls w

@@ -32,6 +32,7 @@ pub mod Logs
 -- the laws of steps: who may make which, what each does of functions, what it says, and how a post goes on
 pub mod Functions
 pub mod Premises
+pub mod Reached
 pub mod Notes
 pub mod Tries
 pub mod StepLaws

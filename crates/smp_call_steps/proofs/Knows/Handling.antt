@@ -3,12 +3,12 @@ use Rattle.std.proofs.Common.{◌≡◌, ◌≢◌, ℕ, ◌%◌, ◌<◌, ◌==
 use Rattle.std.proofs.lemmas.Bool.{eq-eqb}
 use Rattle.smp_words.specs.Size.{cpus, records}
 use Rattle.smp_words.specs.Access.{word_of}
-use Rattle.smp_call_steps.specs.{CallState, CountedCall, DrainValue, no_drain, record_at, first_on, handle_outcome, drain_after, IsPlaced, AllPlaced}
-use Rattle.smp_call_steps.specs.{nexts_in, last_batch, orders, running_call, ControlValue, access_of, FitsStage, Share, share_of}
+use Rattle.smp_call_steps.specs.{CountedCall, DrainValue, no_drain, record_at, first_on, handle_outcome, drain_after, IsPlaced, AllPlaced}
+use Rattle.smp_call_steps.specs.{nexts_in, last_batch, orders, running_call, access_of, FitsStage, Share, share_of}
 use Rattle.smp_call_steps.specs.{HandleStands, held_of, CallPart}
 use Rattle.smp_call_steps.specs.{part_confirmed, part_after, told_stage, told_post, told_handle, known_told, known_taking, stage_after}
 use Rattle.smp_call_steps.specs.{drain_then, tried_after, heads_after, log_after, steps_after, sent_after, MayStep, known_access}
-use Rattle.smp_call_steps.specs.{Lives, GoesOn, handling, goes_known}
+use Rattle.smp_call_steps.specs.{Lives, handling, goes_known}
 use Rattle.smp_call_steps.specs.{taken_known, left_known, ended_call, Call, Word, Head, Hand, Flags, Func, Info, Next, Access, Act, Posting, PostStage, Walk}
 use Rattle.smp_call_steps.specs.{HandleStage, Stage, Post, Handle}
 use Rattle.smp_words.proofs.Links.{HasIndex}
@@ -21,10 +21,6 @@ use Rattle.smp_call_steps.specs.place
 use Rattle.smp_call_steps.specs.act
 use Rattle.smp_call_steps.specs.post
 use Rattle.smp_call_steps.specs.handle
-
--- a step of a CPU goes on to calls of which it knows its part
-pub lives_on : (a : CallState) (control : ℕ → ControlValue) (me : ℕ) (at : Word → ℕ) (w : KnownCalls) → GoesOn a control me at w → Lives w
-lives_on a control me at w g = record { calls = g.calls; at = at; controls = g.controls; shown = g.shown; sees = g.mine }
 
 -- who is told to be at a step of handle is there
 post_tells : (p : Posting) (st : PostStage) (h : HandleStage) → told_post p st ≢ Some (Handle h)

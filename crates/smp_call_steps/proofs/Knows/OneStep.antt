@@ -8,10 +8,13 @@ use Rattle.smp_call_steps.specs.{access_of, outcome_of, drain_of, control_after,
 use Rattle.smp_call_steps.specs.{stage_after, drain_then, MayStep, known_access, GoesOn}
 use Rattle.smp_words.specs.Flags.{class_of}
 use Rattle.smp_words.specs.Access.{word_of, at_after, seen_of}
+use Rattle.smp_call_steps.specs.Premises.{MaySee}
 use Rattle.smp_call_steps.specs.Shows.{Shows}
 use Rattle.smp_call_steps.proofs.Steps.Every.{step_shown}
 use Rattle.smp_call_steps.proofs.Knows.Restages.{known_held, restages, access_known, aims_told}
 use Rattle.smp_call_steps.proofs.Knows.Parts.{ToldCalls, part_mine, part_else}
+use Rattle.smp_call_steps.proofs.Knows.Reached.{steps_in_range, reach_more}
+use Rattle.smp_call_steps.proofs.StepLaws.Keeps.{known_steps_keep_laws}
 use Rattle.smp_call_steps.specs.declared.known.KnownCalls.{KnownCalls}
 use Rattle.smp_call_steps.specs.act
 use Rattle.smp_call_steps.specs.note
@@ -140,11 +143,19 @@ module _ {a : CallState} {at : Word → ℕ} {control : ℕ → ControlValue} {v
       let part = part_else me v.drain s st o.number ne ∙ k.part in
       search (there, part, arith)
 
+  -- the step with its note, which the CPU may make
+  abbrev told_step : Seen
+  told_step = seen_of me (access_of at me st) found (outcome_of v.drain st found).note
+
+  premise : MaySee a me told_step.act told_step.word told_step.found told_step.put
+  premise = let k = known_steps_keep_laws a at control v s sees st aims in k.premise
+
   one_step : GoesOn a control me (at_after at (access_of at me st)) (known_tells (a.queue me) v seen)
   one_step = record {
-    seen = seen_of me (access_of at me st) found (outcome_of v.drain st found).note;
+    seen = told_step;
     calls = ToldCalls a at me v.drain st;
     told = refl;
+    reached = reach_more a told_step (steps_in_range v st aims, premise);
     controls = put controls me after;
     shown = shown;
     mine = mine;
