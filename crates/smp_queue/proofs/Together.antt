@@ -20,7 +20,7 @@ know_together k s i j u v r is js at to =
     let one = knows_as k r.calls r.controls r.seat r.next i u is (r.each_seat i u at) in
     let other = knows_as k r.calls r.controls r.seat r.next j v js (r.each_seat j v to) in
     record {
-      now = record { calls = r.calls; at = _; controls = r.controls; shown = r.shown };
+      now = record { calls = r.calls; reached = r.reached; at = _; controls = r.controls; shown = r.shown };
       one = one.3;
       other = other.3;
       setting = one.2 ∙ sym other.2;
@@ -58,7 +58,7 @@ of_both R {a} {x} {b} {y} e f k = subst (λ v. R v y) e (subst (λ w. R a w) f k
 -- all seats of a moment
 module _ (k : CallSetting) (s : State (Unit {0}) CallSeatView) (r : Ruled k s) where
   abbrev now : CallsNow
-  now = record { calls = r.calls; at = _; controls = r.controls; shown = r.shown }
+  now = record { calls = r.calls; reached = r.reached; at = _; controls = r.controls; shown = r.shown }
 
   sees_all : (ms : List (TableId × (ℕ × Me (Unit {0}) CallSeatView))) → AreCpuSeats ms → IsMoment s ms → SeeAll now k (seats_of ms)
   sees_all [] are at = tt

@@ -8,6 +8,7 @@ use Rattle.smp_call_steps.specs.Counts.{ConfirmedCallsRan}
 use Rattle.smp_call_steps.specs.HaveRun.{ConfirmedSyncCallsEnded, HasRunAt}
 use Rattle.smp_call_steps.specs.Known.{told_stage}
 use Rattle.smp_call_steps.specs.Parts.{part_of}
+use Rattle.smp_call_steps.specs.Reached.{IsReached}
 use Rattle.smp_call_steps.specs.Shows.{Shows}
 use Rattle.smp_call_steps.specs.Stages.{ControlValue}
 use Rattle.smp_call_steps.specs.declared.place.RecPlace.TheVariants as place
@@ -32,12 +33,13 @@ abbrev pub IsSeenTo : ℕ → CallState → ℕ → Type 0
 IsSeenTo online a cpu = (a.queue cpu ≡ []) ⊎ ((a.pending cpu ≡ true) ⊎ ((a.accepted cpu ≡ true)
     ⊎ ((source : ℕ) × (has online source ≡ true) × (a.owes source cpu ≡ true))))
 
--- Some words show calls that keep all laws, of which this value is one CPU's part, outside a command. The CPU is one of
--- its table and online, and the CPUs that its table does not have, or that are not online, have done nothing. Those that are
--- not online have nothing to take, and a CPU that has a queue is seen to by its interrupt, or by one that is online. Calls by
--- confirmed records have run, those of all CPUs and those of this one.
+-- Some words show calls that are reached and keep all laws, of which this value is one CPU's part, outside a command. The CPU
+-- is one of its table and online, and the CPUs that its table does not have, or that are not online, have done nothing. Those
+-- that are not online have nothing to take, and a CPU that has a queue is seen to by its interrupt, or by one that is online.
+-- Calls by confirmed records have run, those of all CPUs and those of this one.
 pub record CallsAreShown (c : CpuValue) : Type 0 where
   pub calls : CallState
+  pub reached : IsReached calls
   pub at : Word → ℕ
   pub controls : ℕ → ControlValue
   pub shown : Shows calls at controls

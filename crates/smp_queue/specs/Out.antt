@@ -3,6 +3,7 @@ use Rattle.std.specs.Prelude.{◌≡◌, ℕ, ◌<◌, ◌≤◌, true, false}
 use Rattle.smp_mask.specs.Mask.{has}
 use Rattle.smp_call_steps.specs.Calls.{CallState, no_calls}
 use Rattle.smp_call_steps.specs.Parts.{part_of}
+use Rattle.smp_call_steps.specs.Reached.{IsReached}
 use Rattle.smp_call_steps.specs.Shows.{Shows}
 use Rattle.smp_call_steps.specs.Stages.{ControlValue}
 use Rattle.smp_queue.specs.Names.{Word}
@@ -11,11 +12,13 @@ use Rattle.smp_queue.specs.Laws.{HasNothingToTake}
 use Rattle.smp_queue.specs.Serving.{ShowsOut, running_as}
 use Rattle.smp_queue.specs.ServingValue.{ServingValue}
 
--- Some words show calls that keep all laws, of which this value is one CPU's part, and in which it runs this call. By these words
--- the record of a SYNC call is locked and the handling word names it, and the record of an ASYNC call is free. The CPU is one
--- of its table and online; CPUs that its table does not have, or that are not online, have done nothing and have nothing to take.
+-- Some words show calls that are reached and keep all laws, of which this value is one CPU's part, and in which it runs this call.
+-- By these words the record of a SYNC call is locked and the handling word names it, and the record of an ASYNC call is free. The
+-- CPU is one of its table and online; CPUs that its table does not have, or that are not online, have done nothing and have
+-- nothing to take.
 pub record IsShownOut (s : ServingValue) : Type 0 where
   pub calls : CallState
+  pub reached : IsReached calls
   pub at : Word → ℕ
   pub controls : ℕ → ControlValue
   pub shown : Shows calls at controls

@@ -3,15 +3,18 @@ use Rattle.std.specs.Prelude.{◌≡◌, ℕ, Bool, [], ◌∷◌, ◌++◌}
 use Rattle.smp_words.specs.Size.{record_of}
 use Rattle.smp_call_steps.specs.Calls.{CallState}
 use Rattle.smp_call_steps.specs.Histories.{mark, sent_to, marked_from, history_of}
+use Rattle.smp_call_steps.specs.Reached.{IsReached}
 use Rattle.smp_call_steps.specs.Shows.{Shows}
 use Rattle.smp_call_steps.specs.Stages.{ControlValue}
 use Rattle.smp_call_steps.specs.declared.place.RecPlace.TheVariants as place
 use Rattle.smp_queue.specs.Names.{Call, Class, Word}
 use Rattle.smp_queue.specs.Cpu.{CpuValue, cpu_in}
 
--- some words of the table show calls that keep all laws, of which this value is its CPU's part, and of which this holds
+-- some words of the table show calls that are reached and keep all laws, of which this value is its CPU's part, and of which
+-- this holds
 pub record ShowsThat (c : CpuValue) (P : CallState → Type 0) : Type 0 where
   pub calls : CallState
+  pub reached : IsReached calls
   pub at : Word → ℕ
   pub controls : ℕ → ControlValue
   pub shown : Shows calls at controls

@@ -7,6 +7,7 @@ use Rattle.smp_mask.specs.Mask.{has}
 use Rattle.smp_words.specs.Size.{cpus}
 use Rattle.smp_call_steps.specs.Calls.{CallState}
 use Rattle.smp_call_steps.specs.Stages.{ControlValue}
+use Rattle.smp_call_steps.specs.Reached.{IsReached}
 use Rattle.smp_call_steps.specs.Shows.{Shows}
 use Rattle.smp_call_steps.specs.Known.{Sees, Lives, fresh, noted_known}
 use Rattle.smp_queue.specs.Names.{Word, Head, Intr, KnownCalls, CallSetting, CallSeatView, Maker, New, Cpu}
@@ -70,11 +71,12 @@ SeatKnows k a control seat next id (Maker n j) = (n ≡ next) × (id ≡ 0) × (
 SeatKnows k a control seat next id (New n j) = (n < next) × (seat n ≡ id) × (j ≡ k) × Sees a control (fresh j n) × (has k.online n ≡ true)
 SeatKnows k a control seat next id (Cpu v) = (v.number < next) × (seat v.number ≡ id) × (v.setting ≡ k) × Sees a control v × (has k.online v.number ≡ true)
 
--- the words show some calls; each seat knows its part; only CPUs of the table that are online have a seat, and those with
--- none have done nothing; until a CPU makes a step all words are 0, and nobody queues a call for a CPU that is not online, or
--- sends it an interrupt
+-- the words show some calls that are reached; each seat knows its part; only CPUs of the table that are online have a seat, and
+-- those with none have done nothing; until a CPU makes a step all words are 0, and nobody queues a call for a CPU that is not
+-- online, or sends it an interrupt
 pub record Ruled {S : Type 0} (k : CallSetting) (s : State S CallSeatView) : Type 0 where
   pub calls : CallState
+  pub reached : IsReached calls
   pub controls : ℕ → ControlValue
   pub seat : ℕ → ℕ
   pub next : ℕ
@@ -86,8 +88,8 @@ pub record Ruled {S : Type 0} (k : CallSetting) (s : State S CallSeatView) : Typ
   pub unused : NoneHasBegun s → (word : Word) → number_in s.words word ≡ 0
   pub quiet : (cpu : ℕ) → has k.online cpu ≡ false → IsQuiet (number_in s.words) cpu
 
--- some words show some calls, of which a CPU of the table that is online knows its part; CPUs that the table does not have,
--- and those that are not online, have done nothing; nothing is queued or pending for those that are not online
+-- some words show some calls that are reached, of which a CPU of the table that is online knows its part; CPUs that the table
+-- does not have, and those that are not online, have done nothing; nothing is queued or pending for those that are not online
 pub record SeatInvariant (v : KnownCalls) : Type 0 where
   pub lives : Lives v
   pub below : v.number < v.setting.nr

@@ -6,6 +6,7 @@ use Rattle.smp_call_steps.specs.Calls.{CallState}
 use Rattle.smp_call_steps.specs.Histories.{calls_from, calls_to, running_call}
 use Rattle.smp_call_steps.specs.Known.{Sees}
 use Rattle.smp_call_steps.specs.Order.{IsPrefix, of_class}
+use Rattle.smp_call_steps.specs.Reached.{IsReached}
 use Rattle.smp_call_steps.specs.Shows.{Shows}
 use Rattle.smp_call_steps.specs.Stages.{ControlValue}
 use Rattle.smp_queue.specs.Names.{Class, KnownCalls, CallSeatView, CallSetting, Word}
@@ -13,9 +14,10 @@ use Rattle.smp_queue.specs.Rule.{known}
 use Rattle.smp_queue.specs.Seat.{IsCpuSeat}
 use Rattle.smp_queue.specs.Cpu.{CpuValue, cpu_in, cpu_of}
 
--- some words and stages that show some calls
+-- some words and stages that show some calls, which are reached
 pub record CallsNow : Type 0 where
   pub calls : CallState
+  pub reached : IsReached calls
   pub at : Word → ℕ
   pub controls : ℕ → ControlValue
   pub shown : Shows calls at controls

@@ -9,8 +9,9 @@ use crate::table::CallTable;
 use std::alloc::Allocator;
 
 impl<A: Allocator> CallTable<A> {
-    /// Two CPUs at one moment, whatever other threads do: their values are their parts of the same calls (`same`). In each
-    /// class, the calls of the one that have begun on the other are the first of those that the one has sent to it (`runs`).
+    /// Two CPUs at one moment, whatever other threads do: their values are their parts of the same calls, to which steps that
+    /// the CPUs may make lead from nothing called (`same`). In each class, the calls of the one that have begun on the other are
+    /// the first of those that the one has sent to it (`runs`).
     ///
     /// It makes no step and does not wait, and nobody must poll.
     pub fn together(&self, one: &mut CallCpu, other: &mut CallCpu)

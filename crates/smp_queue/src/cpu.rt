@@ -52,11 +52,11 @@ impl CallCpu {
     ghost use Rattle.smp_queue.specs.Laws.{CallsAreShown};
 
     /// At any time, and whatever calls were made with it, a CPU's value is its part of calls that some words show and that
-    /// keep all laws, and the CPU is outside any command. It is one of its table's CPUs and online, and in those calls
-    /// CPUs that its table does not have, or that are not online, have done nothing. Nothing is queued or pending for those
-    /// that are not online; a CPU that has a queue has an interrupt pending or accepted, or a CPU that is online owes it one.
-    /// A record whose last call it has seen confirmed is free, and each call that it has sent by it has run at its target; the
-    /// last may still run where it is ASYNC. It makes no step.
+    /// keep all laws, and the CPU is outside any command. Steps that the CPUs may make lead to those calls from nothing called.
+    /// It is one of its table's CPUs and online, and in those calls CPUs that its table does not have, or that are not online,
+    /// have done nothing. Nothing is queued or pending for those that are not online; a CPU that has a queue has an interrupt
+    /// pending or accepted, or a CPU that is online owes it one. A record whose last call it has seen confirmed is free, and each
+    /// call that it has sent by it has run at its target; the last may still run where it is ASYNC. It makes no step.
     pub fn is_shown(&self)
         ensures { CallsAreShown self.now }
     {

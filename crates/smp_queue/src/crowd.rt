@@ -55,9 +55,9 @@ impl<A: Allocator> CallTable<A> {
         }
     }
 
-    /// All CPUs of a crowd at one moment, whatever other threads do: their values are their parts of the same calls
-    /// (`same`). In each class, the calls of any of them that have begun on another one are the first of those that it has sent
-    /// there (`runs`).
+    /// All CPUs of a crowd at one moment, whatever other threads do: their values are their parts of the same calls, to which
+    /// steps that the CPUs may make lead from nothing called (`same`). In each class, the calls of any of them that have begun on
+    /// another one are the first of those that it has sent there (`runs`).
     ///
     /// It makes no step and does not wait, and nobody must poll.
     pub fn all_together(&self, crowd: &mut CallCrowd)

@@ -78,9 +78,9 @@ impl Serving {
         }
     }
 
-    /// While a call is out, the value is its CPU's part of calls that some words show and that keep all laws. In these words the
-    /// record of a SYNC call is locked, and the handling word of the CPU names it. The record of an ASYNC call is free: its
-    /// source may lock it again at any time since. It makes no step.
+    /// While a call is out, the value is its CPU's part of calls that some words show and that keep all laws. Steps that the CPUs
+    /// may make lead to those calls from nothing called. In these words the record of a SYNC call is locked, and the handling word
+    /// of the CPU names it. The record of an ASYNC call is free: its source may lock it again at any time since. It makes no step.
     pub fn is_shown(&self)
         ensures { IsShownOut self.now }
     {

@@ -488,7 +488,7 @@ impl<A: Allocator> CallTable<A> {
     }
 
     /// Gives up the table and one of its CPUs: the words as the last step left them, which show calls of which this CPU's
-    /// value is its part. Other CPUs of the table are useless afterwards.
+    /// value is its part. Steps that the CPUs may make lead to those calls. Other CPUs of the table are useless afterwards.
     ///
     /// It takes effect at no step, since it owns the table; it does not wait, and nobody must poll any more.
     pub fn close(self, last: CallCpu) -> ClosedTable<A>

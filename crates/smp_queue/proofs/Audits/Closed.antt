@@ -30,6 +30,7 @@ closes k s r id u is at =
     let low = m.0 in
     record {
       calls = r.calls;
+      reached = r.reached;
       controls = r.controls;
       shown = r.shown;
       sees = m.3;

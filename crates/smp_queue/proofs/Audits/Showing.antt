@@ -70,6 +70,7 @@ seen_to_in d s cpu small (inr (is_owed source e)) = inr (inr (inr (source, owed_
 pub is_shown : (d : SeatValue) → SeatInvariant d.known → has d.known.setting.online d.known.number ≡ true → d.known.stage ≡ None → CallsAreShown (cpu_of d)
 is_shown d s o e = let l = s.lives in record {
   calls = l.calls;
+  reached = l.reached;
   at = l.at;
   controls = l.controls;
   shown = l.shown;
@@ -91,6 +92,7 @@ pub is_shown_out : (d : SeatValue) (call : Call) (number : ℕ) → IsOut d.know
     → d.known.part.running ≡ running_as call → IsShownOut (record { cpu = cpu_of d; call = call })
 is_shown_out d call number out n o r = let s = out.0 in let l = s.lives in record {
   calls = l.calls;
+  reached = l.reached;
   at = l.at;
   controls = l.controls;
   shown = l.shown;

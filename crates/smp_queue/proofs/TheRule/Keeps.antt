@@ -17,9 +17,11 @@ use Rattle.smp_words.specs.Put.{put, put_word}
 use Rattle.smp_call_steps.specs.Calls.{CallState, no_calls}
 use Rattle.smp_call_steps.specs.Stages.{ControlValue}
 use Rattle.smp_call_steps.specs.Value.{outside}
+use Rattle.smp_call_steps.specs.Reached.{IsReached}
 use Rattle.smp_call_steps.specs.Shows.{Shows}
 use Rattle.smp_call_steps.specs.Known.{Sees, fresh, known_told, known_taking, noted_known, GoesOn}
 use Rattle.smp_call_steps.proofs.Knows.OneStep.{known_step}
+use Rattle.smp_call_steps.proofs.Knows.Reached.{nothing_reached}
 use Rattle.smp_call_steps.proofs.Machine.Starts.{zeros_shown}
 use Rattle.smp_words.proofs.Zeros.{zero_at}
 use Rattle.smp_queue.specs.{Call, Word, Head, Intr, Access, Load, Store, Swap, Exchange, KnownCalls, CallSetting, CallSeatView}
@@ -103,6 +105,7 @@ module _ {S : Type 0} (k : CallSetting) where
   pub starts : Ruled {S = S} k (opening (replicate cells 0) [] (Maker 0 k))
   starts = record {
     calls = no_calls;
+    reached = nothing_reached;
     controls = λ _. outside;
     seat = λ _. 0;
     next = 0;
@@ -152,6 +155,7 @@ module _ {S : Type 0} (k : CallSetting) where
       made : Ruled {S = S} k record { words = s.words; homes = s.homes; views = set s.views id (Maker (n + 1) k) ++ New n k ∷ [] }
       made = record {
         calls = r.calls;
+        reached = r.reached;
         controls = r.controls;
         seat = put r.seat n (length (set s.views id (Maker (n + 1) k)));
         next = n + 1;
@@ -185,7 +189,7 @@ module _ {S : Type 0} (k : CallSetting) where
       let low = m.0 in
       let nr : v.setting.nr ≡ k.nr = ap (λ (j : CallSetting). j.nr) m.2 in (
         record {
-          lives = record { calls = r.calls; at = number_in s.words; controls = r.controls; shown = r.shown; sees = m.3 };
+          lives = record { calls = r.calls; reached = r.reached; at = number_in s.words; controls = r.controls; shown = r.shown; sees = m.3 };
           below = omega arith;
           online = subst (λ (j : CallSetting). has j.online v.number ≡ true) (sym m.2) m.4;
           absent = λ cpu l. subst (λ (j : CallSetting). Sees r.calls r.controls (fresh j cpu)) (sym m.2) (r.absent cpu (λ _. omega arith));
@@ -220,6 +224,7 @@ module _ {S : Type 0} (k : CallSetting) where
       ruled : Ruled k (stepped s i n id carried (Cpu w) keeps)
       ruled = record {
         calls = g.calls;
+        reached = g.reached r.reached;
         controls = g.controls;
         seat = r.seat;
         next = r.next;
@@ -241,15 +246,15 @@ module _ {S : Type 0} (k : CallSetting) where
     v = known me.0
 
     steps_with : (i : ℕ) (f : ℕ → ℕ) (then : ℕ → Me S CallSeatView → Type 0) →
-        ((a : CallState) (control : ℕ → ControlValue) (words : List ℕ) → Shows a (number_in words) control → length words ≡ cells → Sees a control (known me.0)
-        → (w : KnownCalls) × (w.setting ≡ (known me.0).setting) × GoesOn a control (known me.0).number (number_in (set words i (f (get_or words i 0)))) w
-        × then (get_or words i 0) (Cpu w, me.1)) →
+        ((a : CallState) (control : ℕ → ControlValue) (words : List ℕ) → IsReached a → Shows a (number_in words) control → length words ≡ cells
+        → Sees a control (known me.0) → (w : KnownCalls) × (w.setting ≡ (known me.0).setting)
+        × GoesOn a control (known me.0).number (number_in (set words i (f (get_or words i 0)))) w × then (get_or words i 0) (Cpu w, me.1)) →
         ((words : List ℕ) → length words ≡ cells → (cpu : ℕ) → has k.online cpu ≡ false → has k.online (known me.0).number ≡ true
         → IsQuiet (number_in words) cpu → IsQuiet (number_in (set words i (f (get_or words i 0)))) cpu) →
         Allows (Ruled k) slots id me i f (λ n m. then n m × SitsWith (known m.0) i (f n))
     steps_with i f then go quiet s r sized at fits =
         let mine = knows_as k r.calls r.controls r.seat r.next id me.0 is (r.each_seat id me.0 at) in
-        let t = go r.calls r.controls s.words r.shown r.wide mine.3 in
+        let t = go r.calls r.controls s.words r.reached r.shown r.wide mine.3 in
         let on = lifts s r id i (f (get_or s.words i 0)) me.0 t.0 me.1 at is t.1 t.2 (λ cpu off. quiet s.words r.wide cpu off mine.4 (r.quiet cpu off)) in (
           Cpu t.0,
           keeps,
@@ -266,9 +271,9 @@ module _ {S : Type 0} (k : CallSetting) where
         )
 
     steps : (i : ℕ) (f : ℕ → ℕ) (then : ℕ → Me S CallSeatView → Type 0) →
-        ((a : CallState) (control : ℕ → ControlValue) (words : List ℕ) → Shows a (number_in words) control → length words ≡ cells → Sees a control (known me.0)
-        → (w : KnownCalls) × (w.setting ≡ (known me.0).setting) × GoesOn a control (known me.0).number (number_in (set words i (f (get_or words i 0)))) w
-        × then (get_or words i 0) (Cpu w, me.1)) →
+        ((a : CallState) (control : ℕ → ControlValue) (words : List ℕ) → IsReached a → Shows a (number_in words) control → length words ≡ cells
+        → Sees a control (known me.0) → (w : KnownCalls) × (w.setting ≡ (known me.0).setting)
+        × GoesOn a control (known me.0).number (number_in (set words i (f (get_or words i 0)))) w × then (get_or words i 0) (Cpu w, me.1)) →
         ((words : List ℕ) → length words ≡ cells → (cpu : ℕ) → has k.online cpu ≡ false → has k.online (known me.0).number ≡ true
         → IsQuiet (number_in words) cpu → IsQuiet (number_in (set words i (f (get_or words i 0)))) cpu) →
         Allows (Ruled k) slots id me i f (λ n m. SeatInvariant (known m.0) × then n m)
@@ -302,7 +307,7 @@ module _ {S : Type 0} (k : CallSetting) where
 
     pub load_allowed : (w : Word) (i : ℕ) → cell_of w ≡ Some i → MayAccess (known me.0) (Load w)
         → Allows (Ruled k) slots id me i (λ n. n) (loaded (step slots i 0 0 none) me)
-    load_allowed w i e can = steps i (λ n. n) (AfterLoad (step slots i 0 0 none) me) (λ a control words shown wide sees.
+    load_allowed w i e can = steps i (λ n. n) (AfterLoad (step slots i 0 0 none) me) (λ a control words reached shown wide sees.
         let here : number_in words w ≡ get_or words i 0 = number_here words w i e in (
           known_told v act.Load w (Some (get_or words i 0)) None,
           refl,
@@ -311,7 +316,7 @@ module _ {S : Type 0} (k : CallSetting) where
               (load_step a (number_in words) control v w can shown sees)),
           λ u f. (
             record {
-              lives = record { calls = a; at = number_in words; controls = control; shown = shown; sees = sees };
+              lives = record { calls = a; reached = reached; at = number_in words; controls = control; shown = shown; sees = sees };
               number_is = sym (number_here words u i f);
             },
             ap (λ (x : Word). Cpu (known_told v act.Load x (Some (get_or words i 0)) None)) (one_cell w u i e f),
@@ -329,6 +334,7 @@ module _ {S : Type 0} (k : CallSetting) where
           seen = seen_of v.number (Load (Intr 0)) 0 None;
           calls = r.calls;
           told = refl;
+          reached = λ reached. reached;
           controls = r.controls;
           shown = r.shown;
           mine = record { stage = mine.3.stage; drain = mine.3.drain; part = mine.3.part };
@@ -340,7 +346,7 @@ module _ {S : Type 0} (k : CallSetting) where
     pub call_store_allowed : (w : Word) (i x : ℕ) → cell_of w ≡ Some i → MayAccess (known me.0) (Store w x) → Reaches k (known me.0) (Store w x)
         → Allows (Ruled k) slots id me i (λ _. x) (λ _. call_stored (step slots i x 0 none) me x)
     call_store_allowed w i x e can reach s r sized at fits =
-        let a = steps_with i (λ _. x) (λ _. AfterStore (step slots i x 0 none) me x) (λ a control words shown wide sees. (
+        let a = steps_with i (λ _. x) (λ _. AfterStore (step slots i x 0 none) me x) (λ a control words reached shown wide sees. (
           known_told v act.Store w None (Some x),
           refl,
           subst (λ (at : Word → ℕ). GoesOn a control v.number at (known_told v act.Store w None (Some x))) (sym (stored_here words w i x wide e))
@@ -365,7 +371,7 @@ module _ {S : Type 0} (k : CallSetting) where
         → Reaches k (known me.0) (Exchange w old new) →
         Allows (Ruled k) slots id me i (λ n. either (n == old) new n) (exchanged (step slots i old new none) me)
     exchange_allowed w i old new e can reach = steps i (λ n. either (n == old) new n) (AfterExchange (step slots i old new none) me)
-        (λ a control words shown wide sees.
+        (λ a control words reached shown wide sees.
         let n = get_or words i 0 in
         let here : number_in words w ≡ n = number_here words w i e in
         let same : (put_if put_word (number_in words) w (cond (number_in words w == old) (Some new) None)) ≡ number_in (set words i (either (n == old) new n)) =
@@ -383,7 +389,7 @@ module _ {S : Type 0} (k : CallSetting) where
 
     pub swap_allowed : (w : Word) (i x : ℕ) → cell_of w ≡ Some i → MayAccess (known me.0) (Swap w x) → Reaches k (known me.0) (Swap w x)
         → Allows (Ruled k) slots id me i (λ _. x) (swapped (step slots i x 0 none) me)
-    swap_allowed w i x e can reach = steps i (λ _. x) (AfterSwap (step slots i x 0 none) me) (λ a control words shown wide sees.
+    swap_allowed w i x e can reach = steps i (λ _. x) (AfterSwap (step slots i x 0 none) me) (λ a control words reached shown wide sees.
         let here : number_in words w ≡ get_or words i 0 = number_here words w i e in
         let q = a.queue v.number in (
           known_taking q v act.Swap w (Some (get_or words i 0)) (Some x),
@@ -394,7 +400,7 @@ module _ {S : Type 0} (k : CallSetting) where
               (known_step shown sees can.stage can.aims (Swap w x) can.is_access)),
           λ u f. (
             record {
-              lives = record { calls = a; at = number_in words; controls = control; shown = shown; sees = sees };
+              lives = record { calls = a; reached = reached; at = number_in words; controls = control; shown = shown; sees = sees };
               number_is = sym (number_here words u i f);
             },
             ap (λ (y : Word). Cpu (known_taking q v act.Swap y (Some (get_or words i 0)) (Some x))) (one_cell w u i e f),
@@ -412,6 +418,7 @@ note_sits m s =
     record {
       lives = record {
         calls = lives.calls;
+        reached = lives.reached;
         at = lives.at;
         controls = lives.controls;
         shown = lives.shown;
@@ -436,6 +443,7 @@ fresh_sits k n low online =
     record {
       lives = record {
         calls = no_calls;
+        reached = nothing_reached;
         at = λ _. 0;
         controls = λ _. outside;
         shown = zeros_shown (λ _. 0) (λ _. outside) (λ _. refl) (λ _. refl);
