@@ -4,6 +4,7 @@ use Rattle.smp_words.specs.Size.{cpus, owner}
 use Rattle.smp_call_steps.specs.Calls.{CallState, Holding, Nothing, CountedCall}
 use Rattle.smp_call_steps.specs.Functions.{runs_as}
 use Rattle.smp_call_steps.specs.Places.{Holds}
+use Rattle.smp_call_steps.specs.Words.{FlagsShow}
 use Rattle.smp_call_steps.specs.Names.{Call, Class, Sync, Async, Word, Head, Intr, Hand, Queued, Ran, Flags, Func, Info, Next, Act, RecPlace}
 use Rattle.smp_call_steps.specs.Names.place
 use Rattle.smp_call_steps.specs.Names.act
@@ -40,6 +41,20 @@ pub record HandlesNothing (a : CallState) (me : ℕ) : Type 0 where
   pub batch : a.batch me ≡ []
   pub idle : a.running me ≡ Nothing
   pub accepted : a.accepted me ≡ false
+
+-- it is at rest: it holds no record and handles nothing
+pub record IsAtRest (a : CallState) (me : ℕ) : Type 0 where
+  pub none : a.held me ≡ None
+  pub rests : HandlesNothing a me
+
+-- flags that are loaded are found 0 where their record is free, and locked everywhere else
+abbrev pub FindsFlags : CallState → ℕ → Option ℕ → Type 0
+FindsFlags a id None = ⊥
+FindsFlags a id (Some n) = FlagsShow (a.place id) n
+
+-- the flags of a record are loaded by its source, which is at rest, or by the CPU in whose batch it is
+abbrev pub MayLoadFlags : CallState → ℕ → ℕ → Type 0
+MayLoadFlags a me id = ((owner id ≡ me) × IsAtRest a me) ⊎ (a.place id ≡ place.Batch me)
 
 -- a free record of its own is locked by a CPU that holds none and handles nothing
 pub record MayLock (a : CallState) (me id : ℕ) : Type 0 where
@@ -97,7 +112,7 @@ MayStoreAt (place.Running cpu) a me id = cpu ≡ me
 
 -- what holds before a step that is seen so; there is no other
 abbrev pub MaySee : CallState → ℕ → Act → Word → Option ℕ → Option ℕ → Type 0
-MaySee a me act.Load (Flags id) found put = (owner id ≡ me) ⊎ (a.place id ≡ place.Batch me)
+MaySee a me act.Load (Flags id) found put = MayLoadFlags a me id × FindsFlags a id found
 MaySee a me act.Load (Func id) found put = a.place id ≡ place.Batch me
 MaySee a me act.Load (Info id) found put = a.place id ≡ place.Batch me
 MaySee a me act.Load (Next id) found put = a.place id ≡ place.Batch me

@@ -2,8 +2,8 @@
 use Rattle.std.proofs.Common.{◌≡◌, ℕ, ◌+◌, Bool, true, false, cond, inl, inr, Option, Some, None, List, [], ◌∷◌, sym, subst, refl, ap, ◌∙◌, arith}
 use Rattle.smp_words.specs.Access.{word_of, seen_of}
 use Rattle.smp_words.specs.Flags.{flags_of}
-use Rattle.smp_call_steps.specs.{CallState, Holding, Running, Nothing, runs_as, Holds, IsPlaced, HoldsUncounted, HoldsFor, HandlesNothing, MayCount, LeadsTo}
-use Rattle.smp_call_steps.specs.{MayLock, MayStoreFlags, MaySee, ControlValue, access_of, Rests, StandsAt, share_of, held_of, Reverses, Walks, Ends, nexts_in}
+use Rattle.smp_call_steps.specs.{CallState, Holding, Running, Nothing, runs_as, Holds, IsPlaced, HoldsUncounted, HoldsFor, HandlesNothing, IsAtRest, MayCount}
+use Rattle.smp_call_steps.specs.{LeadsTo, MayLock, MayStoreFlags, MaySee, ControlValue, access_of, Rests, StandsAt, share_of, held_of, Reverses, Walks, Ends, nexts_in}
 use Rattle.smp_call_steps.specs.{Call, Class, Sync, Async, Word, Posting, PostStage, Walk, HandleStage, Stage, Send, Done, Post, Handle}
 use Rattle.smp_call_steps.specs.Shows.{Shows}
 use Rattle.smp_call_steps.proofs.Basics.Alls.{every_right}
@@ -31,6 +31,10 @@ module _ (a : CallState) (at : Word → ℕ) (control : ℕ → ControlValue) (s
   pub rests : Rests (share_of a me) → HandlesNothing a me
   rests k = record { batch = k.batch; idle = k.running; accepted = k.accepted }
 
+  -- a CPU that holds nothing by its stage is at rest, where it has nothing taken
+  at_rest : (stage : Stage) → (control me).stage ≡ Some stage → held_of (Some stage) ≡ None → Rests (share_of a me) → IsAtRest a me
+  at_rest stage e none k = record { none = s.held me ∙ (ap held_of e ∙ none); rests = rests k }
+
   lock : (c : Class) (id : ℕ) → MayLock a me id → MayStoreFlags a me id (flags_of c)
   lock Sync id m = m
   lock Async id m = m
@@ -40,7 +44,8 @@ module _ (a : CallState) (at : Word → ℕ) (control : ℕ → ControlValue) (s
   wins false h = tt
 
   may_post : (p : Posting) (stage : PostStage) → (control me).stage ≡ Some (Post p stage) → Premise (Post p stage)
-  may_post p post.LoadFlags e = let k = stands (Post p post.LoadFlags) e in inl k.1.owned
+  may_post p post.LoadFlags e =
+      let k = stands (Post p post.LoadFlags) e in (inl (k.1.owned, at_rest (Post p post.LoadFlags) e refl k.0), s.written.locks p.id)
   may_post p post.Lock e = search (stands, lock, rests, arith)
   may_post p post.StoreFunc e = holds (λ h. HoldsUncounted h p.id) (Post p post.StoreFunc) e (refl, refl)
   may_post p post.StoreInfo e = holds (λ h. HoldsUncounted h p.id) (Post p post.StoreInfo) e (refl, refl)
@@ -83,7 +88,8 @@ module _ (a : CallState) (at : Word → ℕ) (control : ℕ → ControlValue) (s
   may_handle (handle.ReverseStore newer id older) e =
       let k = stands_at me s (handle.ReverseStore newer id older) e in inr (reversed _ _ id k.1.0 k.1.1 k.1.2, k.1.1.running)
   may_handle (handle.LoadNext walk id) e = let k = stands_at me s (handle.LoadNext walk id) e in walked walk id k.1.0 k.1.1 k.1.2
-  may_handle (handle.LoadFlags walk id next) e = let k = stands_at me s (handle.LoadFlags walk id next) e in inr (walked walk id k.1.0 k.1.1 k.1.2)
+  may_handle (handle.LoadFlags walk id next) e =
+      let k = stands_at me s (handle.LoadFlags walk id next) e in (inr (walked walk id k.1.0 k.1.1 k.1.2), s.written.locks id)
   may_handle (handle.LoadFunc walk id next) e = let k = stands_at me s (handle.LoadFunc walk id next) e in walked walk id k.1.0 k.1.1 k.1.2
   may_handle (handle.LoadInfo walk id next func) e = let k = stands_at me s (handle.LoadInfo walk id next func) e in walked walk id k.1.0 k.1.1 k.1.2
   may_handle (handle.Unlink walk last call next) e =
@@ -106,6 +112,6 @@ module _ (a : CallState) (at : Word → ℕ) (control : ℕ → ControlValue) (s
 
   pub may_see : (stage : Stage) → (control me).stage ≡ Some stage → Premise stage
   may_see (Send to) e = let k = stands (Send to) e in k.1
-  may_see (Done id) e = let k = stands (Done id) e in inl k.1
+  may_see (Done id) e = let k = stands (Done id) e in (inl (k.1, at_rest (Done id) e refl k.0), s.written.locks id)
   may_see (Post p stage) e = may_post p stage e
   may_see (Handle stage) e = may_handle stage e
