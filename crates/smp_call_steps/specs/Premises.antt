@@ -4,7 +4,7 @@ use Rattle.smp_words.specs.Size.{cpus, owner}
 use Rattle.smp_call_steps.specs.Calls.{CallState, Holding, Nothing, CountedCall}
 use Rattle.smp_call_steps.specs.Functions.{runs_as}
 use Rattle.smp_call_steps.specs.Places.{Holds}
-use Rattle.smp_call_steps.specs.Words.{FlagsShow}
+use Rattle.smp_call_steps.specs.Words.{FlagsShow, bit}
 use Rattle.smp_call_steps.specs.Names.{Call, Class, Sync, Async, Word, Head, Intr, Hand, Queued, Ran, Flags, Func, Info, Next, Act, RecPlace}
 use Rattle.smp_call_steps.specs.Names.place
 use Rattle.smp_call_steps.specs.Names.act
@@ -87,6 +87,12 @@ MayLink a me id = Holds (a.held me) id ⊎ ((a.place id ≡ place.Batch me) × (
 abbrev pub MayCountRun : CallState → ℕ → ℕ → Type 0
 MayCountRun a me source = (call : Call) × (owner call.id ≡ source) × (a.running me ≡ runs_as call.class call)
 
+-- the own interrupt word is swapped for 0 by a CPU that is at rest, which finds whether an interrupt is pending for it
+pub record MayAccept (a : CallState) (me : ℕ) (found put : Option ℕ) : Type 0 where
+  pub rests : IsAtRest a me
+  pub finds : found ≡ Some (bit (a.pending me))
+  pub clears : put ≡ Some 0
+
 -- the queue is taken once an interrupt is accepted, by a CPU that has nothing left to run
 pub record MayTake (a : CallState) (me : ℕ) : Type 0 where
   pub accepted : a.accepted me ≡ true
@@ -126,6 +132,6 @@ MaySee a me act.Store (Ran by source) found put = (by ≡ me) × MayCountRun a m
 MaySee a me act.Store (Hand cpu) found (Some n) = (cpu ≡ me) × MayStoreHand a me n
 MaySee a me act.Store (Intr to) found put = to < cpus
 MaySee a me act.Cas (Head to) found put = HoldsFor (a.held me) to × LeadsTo (a.held me) put
-MaySee a me act.Swap (Intr cpu) found put = (cpu ≡ me) × HandlesNothing a me
+MaySee a me act.Swap (Intr cpu) found put = (cpu ≡ me) × MayAccept a me found put
 MaySee a me act.Swap (Head cpu) found put = (cpu ≡ me) × MayTake a me
 MaySee a me _ _ found put = ⊥

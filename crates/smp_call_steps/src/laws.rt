@@ -116,10 +116,10 @@ ghost use Rattle.smp_call_steps.specs.Drained.{DrainedRunsAll, QueuesAreShort};
 /// What holds before each step. A free record is locked by its own source, which holds none; a head is exchanged for the
 /// record that is held, whose call is counted for that CPU. A source loads the flags of its own record while it holds none and
 /// handles nothing. A load finds flags 0 where their record is free, and locked everywhere else. A CPU swaps its own interrupt
-/// word with nothing left to run, and its own head only once it has accepted an interrupt. It loads and links the records of its
-/// own batch. It begins the call at the front of what is left of it, while no other runs: by its handling word where that is
-/// SYNC, and by the unlock of its record where it is ASYNC; it counts the call that runs, once, and unlocks the record of a SYNC
-/// call only then.
+/// word while it holds none and has nothing left to run, and finds whether an interrupt is pending for it. It swaps its own head
+/// only once it has accepted an interrupt. It loads and links the records of its own batch. It begins the call at the front of
+/// what is left of it, while no other runs: by its handling word where that is SYNC, and by the unlock of its record where it is
+/// ASYNC; it counts the call that runs, once, and unlocks the record of a SYNC call only then.
 pub fn steps_are_premised()
     ensures { OfEachStep IsPremised }
 {}

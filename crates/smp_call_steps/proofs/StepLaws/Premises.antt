@@ -81,7 +81,9 @@ module _ (a : CallState) (at : Word → ℕ) (control : ℕ → ControlValue) (s
 
   may_handle : (stage : HandleStage) → (control me).stage ≡ Some (Handle stage) → Premise (Handle stage)
   may_handle handle.Enter e = let k = stands_at me s handle.Enter e in (refl, inl (omega arith, rests k.1))
-  may_handle handle.Accept e = let k = stands_at me s handle.Accept e in (refl, rests k.1)
+  may_handle handle.Accept e =
+      let k = stands_at me s handle.Accept e in
+      (refl, record { rests = at_rest (Handle handle.Accept) e refl k.1; finds = ap (λ (n : ℕ). Some n) (s.noticed.words me); clears = refl })
   may_handle handle.LeaveIdle e = let k = stands_at me s handle.LeaveIdle e in (refl, inl (omega arith, rests k.1))
   may_handle handle.Take e = let k = stands_at me s handle.Take e in (refl, record { accepted = k.1.2; batch = k.1.0; idle = k.1.1 })
   may_handle (handle.ReverseLoad newer id) e = let k = stands_at me s (handle.ReverseLoad newer id) e in reversed _ _ id k.1.0 k.1.1 k.1.2
