@@ -63,12 +63,12 @@ pub record MayLock (a : CallState) (me id : ℕ) : Type 0 where
   pub none : a.held me ≡ None
   pub rests : HandlesNothing a me
 
--- a record is unlocked by the CPU that holds it and has counted its call back; by the one whose SYNC call it is, once that
--- is counted; or where its ASYNC call is next
+-- a record is unlocked by the CPU that holds it and has counted its call back, and that handles nothing; or by one that holds
+-- none: the one whose SYNC call it is, once that is counted, or where its ASYNC call is next
 abbrev pub MayUnlock : CallState → ℕ → ℕ → Type 0
-MayUnlock a me id = HoldsUncounted (a.held me) id
-    ⊎ ((call : Call) × (call.id ≡ id) × (a.running me ≡ CountedCall call) × (call.class ≡ Sync))
-    ⊎ ((call : Call) × (call.id ≡ id) × IsNext a me Async call)
+MayUnlock a me id = (HoldsUncounted (a.held me) id × HandlesNothing a me)
+    ⊎ ((a.held me ≡ None) × ((call : Call) × (call.id ≡ id) × (a.running me ≡ CountedCall call) × (call.class ≡ Sync)))
+    ⊎ ((a.held me ≡ None) × ((call : Call) × (call.id ≡ id) × IsNext a me Async call))
 
 abbrev pub MayStoreFlags : CallState → ℕ → ℕ → ℕ → Type 0
 MayStoreFlags a me id zero = MayUnlock a me id

@@ -119,7 +119,8 @@ ghost use Rattle.smp_call_steps.specs.Drained.{DrainedRunsAll, QueuesAreShort};
 /// word while it holds none and has nothing left to run, and finds whether an interrupt is pending for it. It swaps its own head
 /// only once it has accepted an interrupt. It loads and links the records of its own batch. It begins the call at the front of
 /// what is left of it, while no other runs: by its handling word where that is SYNC, and by the unlock of its record where it is
-/// ASYNC; it counts the call that runs, once, and unlocks the record of a SYNC call only then.
+/// ASYNC; it counts the call that runs, once, and unlocks the record of a SYNC call only then. While it holds a record, it unlocks
+/// no other.
 pub fn steps_are_premised()
     ensures { OfEachStep IsPremised }
 {}

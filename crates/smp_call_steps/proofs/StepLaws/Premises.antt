@@ -35,6 +35,10 @@ module _ (a : CallState) (at : Word → ℕ) (control : ℕ → ControlValue) (s
   at_rest : (stage : Stage) → (control me).stage ≡ Some stage → held_of (Some stage) ≡ None → Rests (share_of a me) → IsAtRest a me
   at_rest stage e none k = record { none = s.held me ∙ (ap held_of e ∙ none); rests = rests k }
 
+  -- inside handle it holds none
+  none_held : (stage : HandleStage) → (control me).stage ≡ Some (Handle stage) → a.held me ≡ None
+  none_held stage e = s.held me ∙ ap held_of e
+
   lock : (c : Class) (id : ℕ) → MayLock a me id → MayStoreFlags a me id (flags_of c)
   lock Sync id m = m
   lock Async id m = m
@@ -54,7 +58,8 @@ module _ (a : CallState) (at : Word → ℕ) (control : ℕ → ControlValue) (s
   may_post p (post.StoreNext link tries) e = inl (holds (λ h. Holds h p.id) (Post p (post.StoreNext link tries)) e refl)
   may_post p (post.Exchange link tries) e = search (holds, wins, arith)
   may_post p post.Uncount e = (refl, holds (λ h. MayCount h p.to) (Post p post.Uncount) e (λ _. refl))
-  may_post p post.Release e = inl (holds (λ h. HoldsUncounted h p.id) (Post p post.Release) e (refl, refl))
+  may_post p post.Release e =
+      let k = stands (Post p post.Release) e in inl (holds (λ h. HoldsUncounted h p.id) (Post p post.Release) e (refl, refl), rests k.0)
 
   -- a record of what is left of the batch
   placed : (id : ℕ) (call : Call) → call.id ≡ id → IsPlaced a.place (place.Batch me) call → a.place id ≡ place.Batch me
@@ -102,13 +107,18 @@ module _ (a : CallState) (at : Word → ℕ) (control : ℕ → ControlValue) (s
       let k = stands_at me s (handle.BeginSync walk call next) e in
       (refl, inr (call, refl, record { rest = _; front = k.1.1.batch; idle = k.1.1.running_is; class_is = walks_sync k.1.1 }))
   may_handle (handle.CountSync walk call next) e = search (stands_at, runs, arith)
-  may_handle (handle.EndSync walk call next) e = search (stands_at, arith)
+  may_handle (handle.EndSync walk call next) e =
+      let k = stands_at me s (handle.EndSync walk call next) e in
+      inr (inl (none_held (handle.EndSync walk call next) e, (call, refl, k.1.1.running_is, k.1.2)))
   may_handle (handle.AsyncNext id) e = let k = stands_at me s (handle.AsyncNext id) e in ended id k.1.0 k.1.1 k.1.2
   may_handle (handle.AsyncFunc id next) e = let k = stands_at me s (handle.AsyncFunc id next) e in ended id k.1.0 k.1.1 k.1.2
   may_handle (handle.AsyncInfo id next func) e = let k = stands_at me s (handle.AsyncInfo id next func) e in ended id k.1.0 k.1.1 k.1.2
   may_handle (handle.BeginAsync call next) e =
       let k = stands_at me s (handle.BeginAsync call next) e in
-      inr (inr (call, refl, record { rest = _; front = k.1.1.batch; idle = k.1.1.running_is; class_is = ends_async k.1.1 }))
+      inr (inr (
+        none_held (handle.BeginAsync call next) e,
+        (call, refl, record { rest = _; front = k.1.1.batch; idle = k.1.1.running_is; class_is = ends_async k.1.1 }),
+      ))
   may_handle (handle.CountAsync call next) e = search (stands_at, runs, arith)
   may_handle handle.Leave e = let k = stands_at me s handle.Leave e in (refl, inl (omega arith, rests k.1.0))
 

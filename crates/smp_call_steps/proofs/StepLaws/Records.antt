@@ -26,7 +26,7 @@ module _ (a : CallState) (at : Word → ℕ) (control : ℕ → ControlValue) (s
   holds_any (Some h) id k = k.0
 
   by_flags : (id n : ℕ) → MayStoreFlags a me id n → May id
-  by_flags id zero (inl h) = by_holder id (holds_any (a.held me) id h)
+  by_flags id zero (inl h) = by_holder id (holds_any (a.held me) id h.0)
   by_flags id zero (inr (inl k)) = search (at_place, arith)
   by_flags id zero (inr (inr k)) = search (at_place, arith)
   by_flags id (suc n) lock = at_place id place.Free lock.free lock.owned
