@@ -10,7 +10,7 @@ use Rattle.smp_multi.proofs.Showing.{inside_shown}
 use Rattle.smp_machine.specs.Headline.{HasCalls, HasStops}
 
 pub has_calls : (c : CallCpuValue) → CallsAreShown c → HasCalls c
-has_calls c s = record { now = record { calls = s.calls; at = s.at; controls = s.controls; shown = s.shown }; part = s.view }
+has_calls c s = record { now = record { calls = s.calls; reached = s.reached; at = s.at; controls = s.controls; shown = s.shown }; part = s.view }
 
 pub has_stops : (c : StopCpuValue) → StopsAreShown c → HasStops c
 has_stops c s = record {

@@ -4,7 +4,7 @@ use Rattle.smp_queue.specs.Together.{CallsNow, IsPartOf as IsPartOfCalls}
 use Rattle.smp_multi.specs.Cpu.{CpuValue as StopCpuValue}
 use Rattle.smp_multi.specs.Together.{StopsNow, IsPartOf as IsPartOfStops}
 
--- some words show calls of which this value is the CPU's part
+-- some words show calls that are reached, of which this value is the CPU's part
 pub record HasCalls (c : CallCpuValue) : Type 0 where
   pub now : CallsNow
   pub part : IsPartOfCalls now c
