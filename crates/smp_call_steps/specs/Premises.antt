@@ -1,6 +1,6 @@
 -- Who may make which step of the call half: what holds of the calls before it.
-use Rattle.std.specs.Prelude.{◌≡◌, ◌⊎◌, ℕ, zero, suc, ◌+◌, ◌<◌, true, false, Option, Some, None, List, [], ◌∷◌}
-use Rattle.smp_words.specs.Size.{cpus, owner}
+use Rattle.std.specs.Prelude.{◌≡◌, ◌⊎◌, ℕ, zero, suc, ◌+◌, ◌^◌, ◌<◌, true, false, Option, Some, None, List, [], ◌∷◌}
+use Rattle.smp_words.specs.Size.{cpus, records, owner}
 use Rattle.smp_call_steps.specs.Calls.{CallState, Holding, Nothing, CountedCall}
 use Rattle.smp_call_steps.specs.Functions.{runs_as}
 use Rattle.smp_call_steps.specs.Places.{Holds}
@@ -47,17 +47,13 @@ pub record IsAtRest (a : CallState) (me : ℕ) : Type 0 where
   pub none : a.held me ≡ None
   pub rests : HandlesNothing a me
 
--- flags that are loaded are found 0 where their record is free, and locked everywhere else
-abbrev pub FindsFlags : CallState → ℕ → Option ℕ → Type 0
-FindsFlags a id None = ⊥
-FindsFlags a id (Some n) = FlagsShow (a.place id) n
-
 -- the flags of a record are loaded by its source, which is at rest, or by the CPU in whose batch it is
 abbrev pub MayLoadFlags : CallState → ℕ → ℕ → Type 0
 MayLoadFlags a me id = ((owner id ≡ me) × IsAtRest a me) ⊎ (a.place id ≡ place.Batch me)
 
 -- a free record of its own is locked by a CPU that holds none and handles nothing
 pub record MayLock (a : CallState) (me id : ℕ) : Type 0 where
+  pub in_range : id < records
   pub owned : owner id ≡ me
   pub free : a.place id ≡ place.Free
   pub none : a.held me ≡ None
@@ -88,10 +84,10 @@ abbrev pub MayCountRun : CallState → ℕ → ℕ → Type 0
 MayCountRun a me source = (call : Call) × (owner call.id ≡ source) × (a.running me ≡ runs_as call.class call)
 
 -- the own interrupt word is swapped for 0 by a CPU that is at rest, which finds whether an interrupt is pending for it
-pub record MayAccept (a : CallState) (me : ℕ) (found put : Option ℕ) : Type 0 where
+pub record MayAccept (a : CallState) (me found put : ℕ) : Type 0 where
   pub rests : IsAtRest a me
-  pub finds : found ≡ Some (bit (a.pending me))
-  pub clears : put ≡ Some 0
+  pub finds : found ≡ bit (a.pending me)
+  pub clears : put ≡ 0
 
 -- the queue is taken once an interrupt is accepted, by a CPU that has nothing left to run
 pub record MayTake (a : CallState) (me : ℕ) : Type 0 where
@@ -116,22 +112,22 @@ MayStoreAt (place.Queued cpu) a me id = ⊥
 MayStoreAt (place.Batch cpu) a me id = cpu ≡ me
 MayStoreAt (place.Running cpu) a me id = cpu ≡ me
 
--- what holds before a step that is seen so; there is no other
+-- what holds before a step that is seen so; there is no other: a load puts nothing, a store finds nothing, and what is stored fits
 abbrev pub MaySee : CallState → ℕ → Act → Word → Option ℕ → Option ℕ → Type 0
-MaySee a me act.Load (Flags id) found put = MayLoadFlags a me id × FindsFlags a id found
-MaySee a me act.Load (Func id) found put = a.place id ≡ place.Batch me
-MaySee a me act.Load (Info id) found put = a.place id ≡ place.Batch me
-MaySee a me act.Load (Next id) found put = a.place id ≡ place.Batch me
-MaySee a me act.Load (Head to) found put = HoldsFor (a.held me) to
-MaySee a me act.Store (Flags id) found (Some n) = MayStoreFlags a me id n
-MaySee a me act.Store (Func id) found put = HoldsUncounted (a.held me) id
-MaySee a me act.Store (Info id) found put = HoldsUncounted (a.held me) id
-MaySee a me act.Store (Next id) found put = MayLink a me id
-MaySee a me act.Store (Queued from to) found put = (from ≡ me) × MayCount (a.held me) to
-MaySee a me act.Store (Ran by source) found put = (by ≡ me) × MayCountRun a me source
-MaySee a me act.Store (Hand cpu) found (Some n) = (cpu ≡ me) × MayStoreHand a me n
-MaySee a me act.Store (Intr to) found put = to < cpus
-MaySee a me act.Cas (Head to) found put = HoldsFor (a.held me) to × LeadsTo (a.held me) put
-MaySee a me act.Swap (Intr cpu) found put = (cpu ≡ me) × MayAccept a me found put
-MaySee a me act.Swap (Head cpu) found put = (cpu ≡ me) × MayTake a me
+MaySee a me act.Load (Flags id) (Some n) None = MayLoadFlags a me id × FlagsShow (a.place id) n
+MaySee a me act.Load (Func id) (Some n) None = a.place id ≡ place.Batch me
+MaySee a me act.Load (Info id) (Some n) None = a.place id ≡ place.Batch me
+MaySee a me act.Load (Next id) (Some n) None = a.place id ≡ place.Batch me
+MaySee a me act.Load (Head to) (Some n) None = HoldsFor (a.held me) to
+MaySee a me act.Store (Flags id) None (Some n) = MayStoreFlags a me id n
+MaySee a me act.Store (Func id) None (Some n) = HoldsUncounted (a.held me) id × (n < 2 ^ 16)
+MaySee a me act.Store (Info id) None (Some n) = HoldsUncounted (a.held me) id × (n < 2 ^ 64)
+MaySee a me act.Store (Next id) None (Some n) = MayLink a me id
+MaySee a me act.Store (Queued from to) None (Some n) = (from ≡ me) × MayCount (a.held me) to × (to < cpus)
+MaySee a me act.Store (Ran by source) None (Some n) = (by ≡ me) × MayCountRun a me source
+MaySee a me act.Store (Hand cpu) None (Some n) = (cpu ≡ me) × MayStoreHand a me n
+MaySee a me act.Store (Intr to) None (Some n) = (to < cpus) × (n ≡ 1)
+MaySee a me act.Cas (Head to) (Some n) put = HoldsFor (a.held me) to × LeadsTo (a.held me) put
+MaySee a me act.Swap (Intr cpu) (Some n) (Some m) = (cpu ≡ me) × MayAccept a me n m
+MaySee a me act.Swap (Head cpu) (Some n) (Some m) = (cpu ≡ me) × MayTake a me × (m ≡ 0)
 MaySee a me _ _ found put = ⊥

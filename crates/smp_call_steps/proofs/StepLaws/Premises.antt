@@ -51,13 +51,15 @@ module _ (a : CallState) (at : Word → ℕ) (control : ℕ → ControlValue) (s
   may_post p post.LoadFlags e =
       let k = stands (Post p post.LoadFlags) e in (inl (k.1.owned, at_rest (Post p post.LoadFlags) e refl k.0), s.written.locks p.id)
   may_post p post.Lock e = search (stands, lock, rests, arith)
-  may_post p post.StoreFunc e = holds (λ h. HoldsUncounted h p.id) (Post p post.StoreFunc) e (refl, refl)
-  may_post p post.StoreInfo e = holds (λ h. HoldsUncounted h p.id) (Post p post.StoreInfo) e (refl, refl)
-  may_post p post.Count e = (refl, holds (λ h. MayCount h p.to) (Post p post.Count) e (λ f. cc))
+  may_post p post.StoreFunc e =
+      let k = stands (Post p post.StoreFunc) e in (holds (λ h. HoldsUncounted h p.id) (Post p post.StoreFunc) e (refl, refl), k.1.is_call.func)
+  may_post p post.StoreInfo e =
+      let k = stands (Post p post.StoreInfo) e in (holds (λ h. HoldsUncounted h p.id) (Post p post.StoreInfo) e (refl, refl), k.1.is_call.info)
+  may_post p post.Count e = let k = stands (Post p post.Count) e in (refl, holds (λ h. MayCount h p.to) (Post p post.Count) e (λ f. cc), k.1.goes)
   may_post p post.LoadHead e = holds (λ h. HoldsFor h p.to) (Post p post.LoadHead) e (refl, refl)
   may_post p (post.StoreNext link tries) e = inl (holds (λ h. Holds h p.id) (Post p (post.StoreNext link tries)) e refl)
   may_post p (post.Exchange link tries) e = search (holds, wins, arith)
-  may_post p post.Uncount e = (refl, holds (λ h. MayCount h p.to) (Post p post.Uncount) e (λ _. refl))
+  may_post p post.Uncount e = let k = stands (Post p post.Uncount) e in (refl, holds (λ h. MayCount h p.to) (Post p post.Uncount) e (λ _. refl), k.1.goes)
   may_post p post.Release e =
       let k = stands (Post p post.Release) e in inl (holds (λ h. HoldsUncounted h p.id) (Post p post.Release) e (refl, refl), rests k.0)
 
@@ -88,9 +90,9 @@ module _ (a : CallState) (at : Word → ℕ) (control : ℕ → ControlValue) (s
   may_handle handle.Enter e = let k = stands_at me s handle.Enter e in (refl, inl (omega arith, rests k.1))
   may_handle handle.Accept e =
       let k = stands_at me s handle.Accept e in
-      (refl, record { rests = at_rest (Handle handle.Accept) e refl k.1; finds = ap (λ (n : ℕ). Some n) (s.noticed.words me); clears = refl })
+      (refl, record { rests = at_rest (Handle handle.Accept) e refl k.1; finds = s.noticed.words me; clears = refl })
   may_handle handle.LeaveIdle e = let k = stands_at me s handle.LeaveIdle e in (refl, inl (omega arith, rests k.1))
-  may_handle handle.Take e = let k = stands_at me s handle.Take e in (refl, record { accepted = k.1.2; batch = k.1.0; idle = k.1.1 })
+  may_handle handle.Take e = let k = stands_at me s handle.Take e in (refl, record { accepted = k.1.2; batch = k.1.0; idle = k.1.1 }, refl)
   may_handle (handle.ReverseLoad newer id) e = let k = stands_at me s (handle.ReverseLoad newer id) e in reversed _ _ id k.1.0 k.1.1 k.1.2
   may_handle (handle.ReverseStore newer id older) e =
       let k = stands_at me s (handle.ReverseStore newer id older) e in inr (reversed _ _ id k.1.0 k.1.1 k.1.2, k.1.1.running)
@@ -123,7 +125,7 @@ module _ (a : CallState) (at : Word → ℕ) (control : ℕ → ControlValue) (s
   may_handle handle.Leave e = let k = stands_at me s handle.Leave e in (refl, inl (omega arith, rests k.1.0))
 
   pub may_see : (stage : Stage) → (control me).stage ≡ Some stage → Premise stage
-  may_see (Send to) e = let k = stands (Send to) e in k.1
+  may_see (Send to) e = let k = stands (Send to) e in (k.1, refl)
   may_see (Done id) e = let k = stands (Done id) e in (inl (k.1, at_rest (Done id) e refl k.0), s.written.locks id)
   may_see (Post p stage) e = may_post p stage e
   may_see (Handle stage) e = may_handle stage e

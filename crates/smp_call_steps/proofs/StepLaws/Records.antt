@@ -41,8 +41,8 @@ module _ (a : CallState) (at : Word → ℕ) (control : ℕ → ControlValue) (s
   stores : (x : Word) (n : ℕ) → MaySee a me act.Store x None (Some n) → (w : Word) (id : ℕ) → IsWordOf id w →
       (at_after at (Store x n) w ≡ at w) ⊎ May id
   stores (Flags x) n m (Flags k) id o = search (stored, may_there, by_flags, arith)
-  stores (Func x) n m (Func k) id o = search (stored, may_there, by_holder, holds_any, arith)
-  stores (Info x) n m (Info k) id o = search (stored, may_there, by_holder, holds_any, arith)
+  stores (Func x) n m (Func k) id o = let h = m.0 in search (stored, may_there, by_holder, holds_any, arith)
+  stores (Info x) n m (Info k) id o = let h = m.0 in search (stored, may_there, by_holder, holds_any, arith)
   stores (Next x) n (inl m) (Next k) id o = search (stored, may_there, by_holder, arith)
   stores (Next x) n (inr m) (Next k) id o = search (stored, may_there, at_place, arith)
   stores _ n m (Flags k) id o = inl refl
