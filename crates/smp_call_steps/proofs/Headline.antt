@@ -5,7 +5,7 @@ use Rattle.std.proofs.lemmas.List.Sorted.{IsPermutation-refl, IsPermutation-sym,
 use Rattle.std.proofs.lemmas.List.Sorted.{IsPermutation-append, IsPermutation-middle}
 use Rattle.smp_words.specs.Size.{owner}
 use Rattle.smp_call_steps.specs.{CallState, ControlValue, Call, Class, Sync, Async, Word, RecPlace, IsThere, FlagsShow, flags_in, batches, orders}
-use Rattle.smp_call_steps.specs.{calls_from, calls_to, if_sync, if_async, sync_calls, async_calls, order, of_class, IsPrefix, running_call, history_of}
+use Rattle.smp_call_steps.specs.{calls_from, calls_to, if_sync, if_async, sync_calls, async_calls, order, of_class, IsPrefix, running_call, history_of, Recorded}
 use Rattle.smp_call_steps.specs.Headline.{IsAt, HasOnePlace, InOnePlace, begun, waiting, joined, RunOnce, RunInOrder, IsDrained, RunEqualQueued}
 use Rattle.smp_call_steps.specs.Shows.{Shows}
 use Rattle.smp_call_steps.proofs.Promises.{from_class, from-append, only_there, unmarked, unmarked_sent, unmarked_from, unmarked_history, unmarked_batches}
@@ -81,20 +81,21 @@ module _ (source : ℕ) where
       (subst (IsPermutation (from batch ++ from (batches rest))) (sym (from-append source (order batch) (orders rest)))
       (IsPermutation-append (from batch) (from (order batch)) (from (batches rest)) (from (orders rest)) (from_order batch) (from_orders rest)))
 
-module _ {a : CallState} {at : Word → ℕ} {control : ℕ → ControlValue} (s : Shows a at control) where
+-- by the queue history alone
+module _ (a : CallState) (r : Recorded a.sent a.taken a.queue a.ran a.running a.batch) where
   -- what joined a queue is what was sent
   joins : (source cpu : ℕ) → calls_from source (joined a cpu) ≡ calls_to cpu (a.sent source)
-  joins source cpu = sym (sym (unmarked_sent cpu (a.sent source)) ∙ (ap unmarked (s.recorded.in_order source cpu) ∙
+  joins source cpu = sym (sym (unmarked_sent cpu (a.sent source)) ∙ (ap unmarked (r.in_order source cpu) ∙
       (unmarked_from source (history_of (a.taken cpu) (a.queue cpu)) ∙ ap (calls_from source) (unmarked_history (a.taken cpu) (a.queue cpu)))))
 
   -- and it is, in drain order, what has begun and what waits
   parts : (cpu : ℕ) → orders (a.taken cpu) ++ a.queue cpu ≡ begun a cpu ++ waiting a cpu
   parts cpu = let run : List Call = running_call (a.running cpu) in
-      ap (λ xs. xs ++ a.queue cpu) (sym (s.recorded.drained cpu) ∙ sym (append_assoc (a.ran cpu) run (a.batch cpu)))
+      ap (λ xs. xs ++ a.queue cpu) (sym (r.drained cpu) ∙ sym (append_assoc (a.ran cpu) run (a.batch cpu)))
       ∙ append_assoc (begun a cpu) (a.batch cpu) (a.queue cpu)
 
-  pub run_once : RunOnce a
-  run_once source cpu =
+  pub once_recorded : RunOnce a
+  once_recorded source cpu =
       let from : List Call → List Call = calls_from source in
       let apart : from (joined a cpu) ≡ from (batches (a.taken cpu)) ++ from (a.queue cpu) = from-append source (batches (a.taken cpu)) (a.queue cpu) in
       let whole : from (orders (a.taken cpu)) ++ from (a.queue cpu) ≡ from (begun a cpu ++ waiting a cpu) =
@@ -109,15 +110,37 @@ module _ {a : CallState} {at : Word → ℕ} {control : ℕ → ControlValue} (s
       let of : List Call → List Call = of_class class in
       let run : List Call = running_call (a.running cpu) in
       let taken : of (batches (a.taken cpu)) ≡ of (begun a cpu) ++ of (a.batch cpu) =
-      sym (orders_keep class (a.taken cpu)) ∙ (ap of (sym (s.recorded.drained cpu) ∙ sym (append_assoc (a.ran cpu) run (a.batch cpu)))
+      sym (orders_keep class (a.taken cpu)) ∙ (ap of (sym (r.drained cpu) ∙ sym (append_assoc (a.ran cpu) run (a.batch cpu)))
       ∙ of_class-append class (begun a cpu) (a.batch cpu)) in (
         of (a.batch cpu) ++ of (a.queue cpu),
         of_class-append class (batches (a.taken cpu)) (a.queue cpu) ∙ (ap (λ xs. xs ++ of (a.queue cpu)) taken
             ∙ append_assoc (of (begun a cpu)) (of (a.batch cpu)) (of (a.queue cpu))),
       )
 
+  pub order_recorded : RunInOrder a
+  order_recorded = record { begin = begins; join = joins }
+
+  -- of each source and class, the calls that have begun on a CPU are the first of those that the source has sent to it
+  pub sent_recorded : (source cpu : ℕ) (class : Class)
+      → IsPrefix (of_class class (calls_from source (begun a cpu))) (of_class class (calls_to cpu (a.sent source)))
+  sent_recorded source cpu class =
+      let p = begins cpu class in (
+        calls_from source p.0,
+        ap (of_class class) (sym (joins source cpu)) ∙ (from_class source class (joined a cpu) ∙ (ap (calls_from source) p.1 ∙
+            (from-append source (of_class class (begun a cpu)) p.0
+            ∙ ap (λ (xs : List Call). xs ++ calls_from source p.0) (sym (from_class source class (begun a cpu)))))),
+      )
+
+module _ {a : CallState} {at : Word → ℕ} {control : ℕ → ControlValue} (s : Shows a at control) where
+  pub run_once : RunOnce a
+  run_once = once_recorded a s.recorded
+
   pub run_in_order : RunInOrder a
-  run_in_order = record { begin = begins; join = joins }
+  run_in_order = order_recorded a s.recorded
+
+  pub run_as_sent : (source cpu : ℕ) (class : Class)
+      → IsPrefix (of_class class (calls_from source (begun a cpu))) (of_class class (calls_to cpu (a.sent source)))
+  run_as_sent = sent_recorded a s.recorded
 
   still : IsDrained at → Still at
   still d = record { unlocked = λ id. let e = d.flags id in search (e, arith); outside = d.hands }
@@ -133,14 +156,3 @@ module _ {a : CallState} {at : Word → ℕ} {control : ℕ → ControlValue} (s
             (sym (all_ran s (still d) cpu)) (from_orders source (a.taken cpu)));
         counts = equal_tallies s (still d) source cpu;
       }
-
-  -- of each source and class, the calls that have begun on a CPU are the first of those that the source has sent to it
-  pub run_as_sent : (source cpu : ℕ) (class : Class)
-      → IsPrefix (of_class class (calls_from source (begun a cpu))) (of_class class (calls_to cpu (a.sent source)))
-  run_as_sent source cpu class =
-      let p = begins cpu class in (
-        calls_from source p.0,
-        ap (of_class class) (sym (joins source cpu)) ∙ (from_class source class (joined a cpu) ∙ (ap (calls_from source) p.1 ∙
-            (from-append source (of_class class (begun a cpu)) p.0
-            ∙ ap (λ (xs : List Call). xs ++ calls_from source p.0) (sym (from_class source class (begun a cpu)))))),
-      )

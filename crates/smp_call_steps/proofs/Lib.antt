@@ -13,4 +13,5 @@ pub mod Machine
 -- the laws
 pub mod Promises
 pub mod Headline
+pub mod ReachedLaws
 pub mod Broken

@@ -1,4 +1,5 @@
 -- Facts of the state.
+pub mod Recordings
 pub mod Chains
 pub mod Walks
 pub mod QueueChains

@@ -120,7 +120,8 @@ ghost use Rattle.smp_call_steps.specs.Drained.{DrainedRunsAll, QueuesAreShort};
 /// only once it has accepted an interrupt. It loads and links the records of its own batch. It begins the call at the front of
 /// what is left of it, while no other runs: by its handling word where that is SYNC, and by the unlock of its record where it is
 /// ASYNC; it counts the call that runs, once, and unlocks the record of a SYNC call only then. While it holds a record, it unlocks
-/// no other.
+/// no other. What it stores fits: a record and a CPU that there are, a 16-bit function and a 64-bit info. A load puts nothing, and a
+/// store finds nothing.
 pub fn steps_are_premised()
     ensures { OfEachStep IsPremised }
 {}
@@ -221,10 +222,21 @@ pub fn drained_machines_ran_all()
     ensures { DrainedRunsAll }
 {}
 
-ghost use Rattle.smp_call_steps.specs.State.{no_calls};
+ghost use Rattle.smp_call_steps.specs.State.{CallState, no_calls};
 ghost use Rattle.smp_call_steps.specs.Headline.{InOnePlace, RunOnce, RunInOrder, RunEqualQueued};
+ghost use Rattle.smp_call_steps.specs.Reached.{IsReached};
 ghost use Rattle.smp_call_steps.specs.Broken.{no_words, one_locked, one_counted, in_a_queue, in_two_queues, twice_in_a_queue};
 ghost use Rattle.smp_call_steps.specs.Broken.{held_by_another, lost, ran_twice, ran_unsent, second_begins, second_joins};
+
+/// Two statements of the headline hold of every state of the calls that is reached: to which steps that the CPUs may make lead, of
+/// any of them in any order, from nothing called. They follow from the premises of these steps ([`steps_are_premised`]), and from
+/// no word and no stage.
+/// - `once`: What a source has sent to a CPU is what has begun there and what waits there, each call once.
+/// - `order`: In each class, calls begin in the order in which they joined the queue, and join it in the order in which they were sent.
+pub fn reached_calls_run_once()
+    ensures once { (a : CallState) → IsReached a → RunOnce a }
+    ensures order { (a : CallState) → IsReached a → RunInOrder a }
+{}
 
 /// The headline of calls rules something out: each of these states, with these words, breaks one of its laws.
 /// - `place`: a record in two queues, twice in one, unlocked in one, or held by a CPU that does not own it.

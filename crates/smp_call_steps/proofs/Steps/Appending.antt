@@ -1,22 +1,21 @@
 -- The compare-exchange that wins: the held call joins the queue.
 use Rattle.std.proofs.Common.{◌≡◌, ◌≢◌, ℕ, ◌+◌, ◌%◌, ◌^◌, Bool, true, false, cond, Option, Some, None, List, [], ◌∷◌, ◌++◌, length, sym, subst, refl, ap, ◌∙◌}
 use Rattle.std.proofs.Common.{◌⊎◌, inl, inr, arith, length-append}
-use Rattle.std.proofs.lemmas.List.{append-nil}
 use Rattle.std.proofs.lemmas.Bool.{eq-eqb, ne_eqb, cases_eq}
 use Rattle.std.specs.List.{AllByRecursion}
 use Rattle.smp_call_steps.proofs.State.Batches.{has_left, has_right}
+use Rattle.smp_call_steps.proofs.State.Recordings.{recorded_appended, sent_here, sent_else}
 use Rattle.smp_words.specs.Put.{put, put_word}
 use Rattle.smp_words.specs.Size.{owner}
 use Rattle.smp_call_steps.specs.{CallState, Holding, Sending, appended, is_nil, ControlValue, Placed, IsCall, IsThere, Holds, IsApart, locked_by, AllPlaced}
 use Rattle.smp_call_steps.specs.{Chained, Leads, Linked, Noticed, IsNoticed, is_pending, is_accepted, is_owed, IsEmpty, nexts_in, heads_in, intrs_in}
-use Rattle.smp_call_steps.specs.{queued_in, ran_in, IsWrittenIn, WrittenIn, Recorded, Tallied, mark, sent_to, marked_from, history_of, one_held, share_of}
+use Rattle.smp_call_steps.specs.{queued_in, ran_in, IsWrittenIn, WrittenIn, Tallied, sent_to, one_held, share_of}
 use Rattle.smp_call_steps.specs.{held_of, HandIs, Call, Word, Head, Hand, Queued, Next, RecPlace}
 use Rattle.smp_call_steps.specs.Stands.{CallStands}
 use Rattle.smp_call_steps.specs.Shows.{Shows}
 use Rattle.smp_words.proofs.Puts.{at_test, put_all, put_other, put_same}
 use Rattle.smp_call_steps.proofs.Basics.Alls.{every, every_push}
 use Rattle.smp_call_steps.proofs.Steps.Frames.{Touches, leaves_others, CallStands-kept}
-use Rattle.smp_call_steps.proofs.Basics.Lists.{sent_to-push, marked_from-push, history-push, one_if-same, one_if-other}
 use Rattle.smp_call_steps.specs.place
 
 -- one more, above what the head was
@@ -52,22 +51,6 @@ noticed_else : (a : CallState) (first : Bool) (me to cpu : ℕ) → IsNoticed a.
 noticed_else a first me to cpu (is_pending e) = is_pending e
 noticed_else a first me to cpu (is_accepted e) = is_accepted e
 noticed_else a first me to cpu (is_owed source o) = is_owed source (owes_more first a.owes me to source cpu o)
-
-sent_else : (cpu to : ℕ) (sent : List Sending) (call : Call) (first : Bool) → cpu ≢ to
-    → sent_to cpu (sent ++ record { call = call; to = to; is_first = first } ∷ []) ≡ sent_to cpu sent
-sent_else cpu to sent call first ne = search (sent_to-push, one_if-other, append-nil, arith)
-
-sent_here : (to : ℕ) (sent : List Sending) (call : Call) (first : Bool)
-    → sent_to to (sent ++ record { call = call; to = to; is_first = first } ∷ []) ≡ sent_to to sent ++ mark first call ∷ []
-sent_here to sent call first = search (sent_to-push, one_if-same, arith)
-
-from_else : (source : ℕ) (taken : List (List Call)) (queue : List Call) (call : Call) → owner call.id ≢ source
-    → marked_from source (history_of taken (queue ++ call ∷ [])) ≡ marked_from source (history_of taken queue)
-from_else source taken queue call ne = search (history-push, marked_from-push, one_if-other, append-nil, arith)
-
-from_here : (source : ℕ) (taken : List (List Call)) (queue : List Call) (call : Call) → owner call.id ≡ source
-    → marked_from source (history_of taken (queue ++ call ∷ [])) ≡ marked_from source (history_of taken queue) ++ mark (is_nil queue) call ∷ []
-from_here source taken queue call e = search (history-push, marked_from-push, one_if-same, arith)
 
 abbrev counted_hold : Call → ℕ → Option Holding
 counted_hold call to = Some (record { call = call; to = to; is_counted = true })
@@ -180,30 +163,6 @@ module _ (a : CallState) (at : Word → ℕ) (control : ℕ → ControlValue) (m
     ];
   }
 
-  recorded' : Recorded (put a.sent me (a.sent me ++ record { call = call; to = to; is_first = is_nil (a.queue to) } ∷ [])) a.taken
-      (put a.queue to (a.queue to ++ call ∷ [])) a.ran a.running a.batch
-  recorded' = record {
-    in_order =
-        λ source cpu. at_test source me
-        (λ b. sent_to cpu (cond b (a.sent me ++ record { call = call; to = to; is_first = is_nil (a.queue to) } ∷ []) (a.sent source))
-        ≡ marked_from source (history_of (a.taken cpu) (put a.queue to (a.queue to ++ call ∷ []) cpu)))
-        (λ e. at_test cpu to (λ b. sent_to cpu (a.sent me ++ record { call = call; to = to; is_first = is_nil (a.queue to) } ∷ [])
-        ≡ marked_from source (history_of (a.taken cpu) (cond b (a.queue to ++ call ∷ []) (a.queue cpu))))
-        (λ f. rw (
-          f,
-          sent_here to (a.sent me) call (is_nil (a.queue to)),
-          from_here source (a.taken to) (a.queue to) call (own ∙ sym e),
-          e,
-          s.recorded.in_order me to,
-        ) refl)
-        (λ ne. sent_else cpu to (a.sent me) call (is_nil (a.queue to)) ne ∙ rw e (s.recorded.in_order me cpu)))
-        (λ ne. at_test cpu to (λ b. sent_to cpu (a.sent source) ≡ marked_from source
-        (history_of (a.taken cpu) (cond b (a.queue to ++ call ∷ []) (a.queue cpu))))
-        (λ f. rw (f, from_else source (a.taken to) (a.queue to) call (λ e. ne (sym e ∙ own))) (s.recorded.in_order source to))
-        (λ _. s.recorded.in_order source cpu));
-    drained = s.recorded.drained;
-  }
-
   tallied' : Tallied (queued_in at) (ran_in at) (put a.sent me (a.sent me ++ record { call = call; to = to; is_first = is_nil (a.queue to) } ∷ []))
       (put a.held me None) a.ran a.running
   tallied' = record {
@@ -236,6 +195,6 @@ module _ (a : CallState) (at : Word → ℕ) (control : ℕ → ControlValue) (m
     chained = chained';
     links = links';
     noticed = noticed';
-    recorded = recorded';
+    recorded = recorded_appended a me s.recorded to call own;
     tallied = tallied';
   }

@@ -7,7 +7,7 @@ use Rattle.std.specs.List.{AllByRecursion}
 use Rattle.smp_words.specs.Put.{put, put_word}
 use Rattle.smp_call_steps.specs.{CallState, Running, Nothing, SyncCall, AsyncCall, begins_sync, begins_async, sync_calls, async_calls, DrainValue}
 use Rattle.smp_call_steps.specs.{ControlValue, IsApart, HasRecord, IsThere, Placed, locked_by, AllPlaced, FlagsShow, IsWritten, Written, last_batch, flags_in}
-use Rattle.smp_call_steps.specs.{funcs_in, infos_in, queued_in, ran_in, IsWrittenIn, orders, running_call, counted_call, Recorded, Tallied, share_of, HandIs}
+use Rattle.smp_call_steps.specs.{funcs_in, infos_in, queued_in, ran_in, IsWrittenIn, counted_call, Tallied, share_of, HandIs}
 use Rattle.smp_call_steps.specs.{Call, Word, Hand, Flags, RecPlace, Walk, Handle}
 use Rattle.smp_call_steps.specs.Stands.{CallStands}
 use Rattle.smp_call_steps.specs.Shows.{Shows}
@@ -17,6 +17,7 @@ use Rattle.smp_call_steps.proofs.State.Walks.{walks_stay, ends_stay, walks_sync,
 use Rattle.smp_call_steps.proofs.Steps.Turns.{holds_nothing, stands_at, hand_at, held_after, stands_after, hands_after, hands_stored}
 use Rattle.smp_call_steps.proofs.Steps.Moving.{Batch≢Batch, Running≢Batch, Queued≢Batch, Batch≢Free, all_placed_still, all_placed_apart, placed_moved}
 use Rattle.smp_call_steps.proofs.Steps.Moving.{all_written_still, all_written_apart, written_moved}
+use Rattle.smp_call_steps.proofs.State.Recordings.{recorded_begun}
 use Rattle.smp_call_steps.proofs.State.Tallies.{tallied_same}
 use Rattle.smp_call_steps.proofs.Steps.StepShows.{StepShows}
 use Rattle.smp_call_steps.specs.place
@@ -89,19 +90,6 @@ module _ {a : CallState} {at : Word → ℕ} {control : ℕ → ControlValue} (m
         (λ _. all_written_still a.place call.id (place.Batch me) to here (flags_in at) flags' (funcs_in at) (infos_in at) same (place.Running cpu)
         (locked_by (a.running cpu)) (Running≢Batch cpu me) (s.placed.runs cpu) (s.written.runs cpu)))
 
-    begun_recorded : running_call r ≡ call ∷ [] → Recorded a.sent a.taken a.queue a.ran (put a.running me r) (put a.batch me rest)
-    begun_recorded runs = record {
-      in_order = s.recorded.in_order;
-      drained = λ cpu. at_test cpu me (λ b. a.ran cpu ++ (running_call (cond b r (a.running cpu)) ++ cond b rest (a.batch cpu)) ≡ orders (a.taken cpu))
-          (λ e. subst (λ (k : ℕ). a.ran k ++ (running_call r ++ rest) ≡ orders (a.taken k)) (sym e) mine) (λ _. s.recorded.drained cpu);
-    }
-      where
-        was : running_call (a.running me) ++ a.batch me ≡ call ∷ rest
-        was = ap (λ (x : Running). running_call x ++ a.batch me) idle ∙ front
-
-        mine : a.ran me ++ (running_call r ++ rest) ≡ orders (a.taken me)
-        mine = ap (λ (xs : List Call). a.ran me ++ (xs ++ rest)) runs ∙ (ap (λ (xs : List Call). a.ran me ++ xs) (sym was) ∙ s.recorded.drained me)
-
     begun_tallied : counted_call r ≡ [] → Tallied (queued_in at) (ran_in at) a.sent a.held a.ran (put a.running me r)
     begun_tallied uncounted = search (tallied_same, at_test, arith)
 
@@ -133,7 +121,7 @@ module _ {a : CallState} {at : Word → ℕ} {control : ℕ → ControlValue} (m
         chained = s.chained;
         links = s.links;
         noticed = s.noticed;
-        recorded = begun_recorded call rest front idle to (SyncCall call) refl;
+        recorded = recorded_begun a me s.recorded call rest (SyncCall call) front idle refl;
         tallied = begun_tallied call rest front idle to (SyncCall call) refl;
       }
 
@@ -179,7 +167,7 @@ module _ {a : CallState} {at : Word → ℕ} {control : ℕ → ControlValue} (m
       let placed = begun_placed call rest front idle to (AsyncCall call) tt tt in
       let written = begun_written call rest front idle to (AsyncCall call) (put (flags_in at) call.id 0) (λ u ne. test_else u call.id 0 (at (Flags u)) ne)
       (test_here call.id 0 (at (Flags call.id))) tt in
-      let recorded = begun_recorded call rest front idle to (AsyncCall call) refl in
+      let recorded = recorded_begun a me s.recorded call rest (AsyncCall call) front idle refl in
       let tallied = begun_tallied call rest front idle to (AsyncCall call) refl in
       search (held', stands', hands, placed, written, recorded, tallied, arith)
 

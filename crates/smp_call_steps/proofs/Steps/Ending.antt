@@ -1,12 +1,12 @@
 -- The steps of handle that count a call and end it.
-use Rattle.std.proofs.Common.{◌≡◌, ◌≢◌, ℕ, ◌+◌, ◌%◌, ◌^◌, inl, inr, cond, Option, Some, List, [], ◌∷◌, ◌++◌, sym, subst, refl, ap, ◌∙◌, arith, append_assoc}
+use Rattle.std.proofs.Common.{◌≡◌, ◌≢◌, ℕ, ◌+◌, ◌%◌, ◌^◌, inl, inr, cond, Option, Some, List, [], ◌∷◌, ◌++◌, sym, subst, refl, ap, ◌∙◌, arith}
 use Rattle.std.proofs.lemmas.List.{append-nil}
 use Rattle.std.specs.List.{AllByRecursion}
 use Rattle.smp_words.specs.Size.{owner}
 use Rattle.smp_words.specs.Put.{put, put_word}
 use Rattle.smp_call_steps.specs.{CallState, Holding, Running, Nothing, CountedCall, counts, ends_sync, ends_async, DrainValue, second_on, first_on}
 use Rattle.smp_call_steps.specs.{ControlValue, HasRecord, IsThere, Placed, locked_by, AllPlaced, IsWritten, Written, last_batch, flags_in, funcs_in, infos_in}
-use Rattle.smp_call_steps.specs.{nexts_in, queued_in, ran_in, IsWrittenIn, orders, running_call, counted_call, Recorded, Tallied, Share, share_of, HandIs}
+use Rattle.smp_call_steps.specs.{nexts_in, queued_in, ran_in, IsWrittenIn, running_call, counted_call, Tallied, Share, share_of, HandIs}
 use Rattle.smp_call_steps.specs.{held_of, Call, Word, Hand, Ran, Flags, RecPlace, Walk, Handle}
 use Rattle.smp_call_steps.specs.Stands.{CallStands}
 use Rattle.smp_call_steps.specs.Shows.{Shows}
@@ -16,6 +16,7 @@ use Rattle.smp_call_steps.proofs.Steps.Turns.{holds_nothing, stands_at, hand_at,
 use Rattle.smp_call_steps.proofs.Steps.Moving.{Running≢Running, Batch≢Running, Queued≢Running, Running≢Free, all_placed_still, placed_moved}
 use Rattle.smp_call_steps.proofs.Steps.Moving.{all_written_still, written_moved}
 use Rattle.smp_call_steps.proofs.State.Walks.{walks_stay, ends_stay, second_goes, first_goes, hand_of_second, hand_of_first}
+use Rattle.smp_call_steps.proofs.State.Recordings.{recorded_counted}
 use Rattle.smp_call_steps.proofs.State.Tallies.{tallied_more, tallied_same}
 use Rattle.smp_call_steps.proofs.Steps.StepShows.{StepShows}
 use Rattle.smp_call_steps.specs.place
@@ -79,21 +80,13 @@ module _ {a : CallState} {at : Word → ℕ} {control : ℕ → ControlValue} (m
       chained = s.chained;
       links = s.links;
       noticed = s.noticed;
-      recorded = record {
-        in_order = s.recorded.in_order;
-        drained = λ cpu. at_test cpu me (λ b. ran' cpu ++ (running_call (cond b r (a.running cpu)) ++ a.batch cpu) ≡ orders (a.taken cpu))
-            (λ e. subst (λ (k : ℕ). ran' k ++ (running_call r ++ a.batch k) ≡ orders (a.taken k)) (sym e) drained_here)
-            (λ ne. ap (λ (xs : List Call). xs ++ (running_call (a.running cpu) ++ a.batch cpu)) (others cpu ne) ∙ s.recorded.drained cpu);
-      };
+      recorded = recorded_counted a me s.recorded r ran' others ended;
       tallied = tallied_more (queued_in at) (ran_in at) a.sent a.held a.ran ran' a.running (put a.running me r) me call
           (ap (λ (x : Running). ran' me ++ counted_call x) (test_here me r (a.running me)) ∙ counted)
           (λ cpu ne. ap (λ (x : Running). ran' cpu ++ counted_call x) (test_else cpu me r (a.running cpu) ne)
           ∙ ap (λ (xs : List Call). xs ++ counted_call (a.running cpu)) (others cpu ne))
           s.tallied;
     }
-      where
-        drained_here : ran' me ++ (running_call r ++ a.batch me) ≡ orders (a.taken me)
-        drained_here = search (append_assoc, arith)
 
   -- the store of the number of calls that ran, for a SYNC call
   pub count_sync_step : (walk : Walk) (call : Call) (next : Option ℕ) → (control me).stage ≡ Some (Handle (handle.CountSync walk call next))
@@ -177,17 +170,11 @@ module _ {a : CallState} {at : Word → ℕ} {control : ℕ → ControlValue} (m
         same : (u : ℕ) → u ≢ call.id → put (flags_in at) call.id 0 u ≡ at (Flags u)
         same u ne = test_else u call.id 0 (at (Flags u)) ne
 
-    end_recorded : Recorded a.sent a.taken a.queue (put a.ran me (a.ran me ++ call ∷ [])) (put a.running me Nothing) a.batch
-    end_recorded = record {
-      in_order = s.recorded.in_order;
-      drained =
-          λ cpu. at_test cpu me (λ b. cond b (a.ran me ++ call ∷ []) (a.ran cpu) ++ (running_call (cond b Nothing (a.running cpu)) ++ a.batch cpu)
-          ≡ orders (a.taken cpu))
-          (λ e. subst (λ (k : ℕ). (a.ran me ++ call ∷ []) ++ ([] ++ a.batch k) ≡ orders (a.taken k)) (sym e) mine) (λ _. s.recorded.drained cpu);
-    }
-      where
-        mine : (a.ran me ++ call ∷ []) ++ a.batch me ≡ orders (a.taken me)
-        mine = search (append_assoc, arith)
+    abbrev ran' : ℕ → List Call
+    ran' = put a.ran me (a.ran me ++ call ∷ [])
+
+    ended : ran' me ++ [] ≡ a.ran me ++ running_call (a.running me)
+    ended = append-nil (ran' me) ∙ (test_here me (a.ran me ++ call ∷ []) (a.ran me) ∙ ap (λ (x : Running). a.ran me ++ running_call x) (sym running))
 
     end_tallied : Tallied (queued_in at) (ran_in at) a.sent a.held (put a.ran me (a.ran me ++ call ∷ [])) (put a.running me Nothing)
     end_tallied = search (tallied_same, at_test, append-nil, arith)
@@ -217,7 +204,7 @@ module _ {a : CallState} {at : Word → ℕ} {control : ℕ → ControlValue} (m
       chained = s.chained;
       links = s.links;
       noticed = s.noticed;
-      recorded = end_recorded;
+      recorded = recorded_counted a me s.recorded Nothing ran' (λ cpu ne. test_else cpu me (a.ran me ++ call ∷ []) (a.ran cpu) ne) ended;
       tallied = end_tallied;
     }
 

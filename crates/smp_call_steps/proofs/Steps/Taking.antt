@@ -1,16 +1,17 @@
 -- The swap that takes a queue: the whole queue becomes a batch.
-use Rattle.std.proofs.Common.{arith, ◌≡◌, ◌≢◌, ℕ, ◌⊎◌, inl, inr, false, cond, Some, None, List, [], ◌∷◌, ◌++◌, sym, subst, refl, ap, ◌∙◌, append_assoc}
+use Rattle.std.proofs.Common.{arith, ◌≡◌, ◌≢◌, ℕ, ◌⊎◌, inl, inr, false, cond, Some, None, List, [], ◌∷◌, ◌++◌, sym, subst, refl, ap, ◌∙◌}
 use Rattle.std.proofs.lemmas.List.{append-nil}
 use Rattle.smp_words.specs.Put.{put, put_word}
-use Rattle.smp_call_steps.specs.{order, CallState, Running, Nothing, place_taken, takes, no_drain, record_at, reverse_on, ControlValue, IsApart, IsPlaced}
+use Rattle.smp_call_steps.specs.{order, CallState, place_taken, takes, no_drain, record_at, reverse_on, ControlValue, IsApart, IsPlaced}
 use Rattle.smp_call_steps.specs.{IsThere, Placed, Leads, FlagsShow, Chained, last_batch, IsEmpty, IsNoticed, is_pending, is_accepted, is_owed, Noticed}
-use Rattle.smp_call_steps.specs.{nexts_in, heads_in, intrs_in, WrittenIn, marked, batches_marked, history_of, marked_from, sent_to, orders, running_call}
-use Rattle.smp_call_steps.specs.{Recorded, Share, share_of, Call, Word, Head, Hand, RecPlace, Handle}
+use Rattle.smp_call_steps.specs.{nexts_in, heads_in, intrs_in, WrittenIn}
+use Rattle.smp_call_steps.specs.{Share, share_of, Call, Word, Head, Hand, RecPlace, Handle}
 use Rattle.smp_call_steps.specs.Shows.{Shows}
 use Rattle.smp_words.proofs.Puts.{at_test, test_here, test_else}
 use Rattle.smp_call_steps.proofs.Basics.Alls.{every}
 use Rattle.smp_call_steps.proofs.Steps.Frames.{Minds, LeavesTo}
 use Rattle.smp_call_steps.proofs.State.Batches.{every_order, has_order, apart_order}
+use Rattle.smp_call_steps.proofs.State.Recordings.{recorded_taken}
 use Rattle.smp_call_steps.proofs.Steps.Turns.{holds_nothing, stands_at, hand_at, held_after, stands_after, hands_after}
 use Rattle.smp_call_steps.proofs.State.Walks.{link_back, reverse_goes, hand_of_reverse}
 use Rattle.smp_call_steps.proofs.Steps.StepShows.{StepShows}
@@ -33,24 +34,10 @@ FlagsShow-taken : (me flags : ℕ) (p : RecPlace) → FlagsShow p flags → Flag
 FlagsShow-taken me flags (place.Queued c) f = at_test c me (λ b. FlagsShow (cond b (place.Batch me) (place.Queued c)) flags) (λ _. f) (λ _. f)
 FlagsShow-taken me flags _ f = f
 
--- the histories with one batch more
-
-batches_marked-push : (batches : List (List Call)) (batch : List Call) → batches_marked (batches ++ batch ∷ []) ≡ batches_marked batches ++ marked batch
-batches_marked-push [] batch = append-nil (marked batch)
-batches_marked-push (x ∷ xs) batch = ap (λ k. marked x ++ k) (batches_marked-push xs batch) ∙ sym (append_assoc (marked x) (batches_marked xs) (marked batch))
-
-pub orders-push : (batches : List (List Call)) (batch : List Call) → orders (batches ++ batch ∷ []) ≡ orders batches ++ order batch
-orders-push [] batch = append-nil (order batch)
-orders-push (x ∷ xs) batch = ap (λ k. order x ++ k) (orders-push xs batch) ∙ sym (append_assoc (order x) (orders xs) (order batch))
-
 pub last_batch-push : (batches : List (List Call)) (batch : List Call) → last_batch (batches ++ batch ∷ []) ≡ batch
 last_batch-push [] batch = refl
 last_batch-push (x ∷ []) batch = refl
 last_batch-push (x ∷ (y ∷ ys)) batch = last_batch-push (y ∷ ys) batch
-
--- the same calls, in one batch more and an empty queue
-history-taken : (taken : List (List Call)) (queue : List Call) → history_of (taken ++ queue ∷ []) [] ≡ history_of taken queue
-history-taken taken queue = append-nil (batches_marked (taken ++ queue ∷ [])) ∙ batches_marked-push taken queue
 
 module _ (a : CallState) (at : Word → ℕ) (me : ℕ) where
   abbrev place' : ℕ → RecPlace
@@ -82,9 +69,6 @@ module _ (a : CallState) (at : Word → ℕ) (me : ℕ) where
   chained_taken : Chained (heads_in at) (nexts_in at) a.queue → Chained (put (heads_in at) me 0) (nexts_in at) queue'
   chained_taken c = search (at_test, arith)
 
-  abbrev taken' : ℕ → List (List Call)
-  taken' = put a.taken me (a.taken me ++ a.queue me ∷ [])
-
   noticed_still : (cpu : ℕ) → cpu ≢ me → IsNoticed a.pending a.accepted a.owes cpu → IsNoticed a.pending (put a.accepted me false) a.owes cpu
   noticed_still cpu ne (is_pending e) = is_pending e
   noticed_still cpu ne (is_accepted e) = is_accepted (test_else cpu me false (a.accepted cpu) ne ∙ e)
@@ -96,29 +80,6 @@ module _ (a : CallState) (at : Word → ℕ) (me : ℕ) where
     noticed = λ cpu. at_test cpu me (λ b. IsEmpty (cond b [] (a.queue cpu)) ⊎ IsNoticed a.pending (put a.accepted me false) a.owes cpu) (λ _. inl tt)
         (λ ne. elim (n.noticed cpu) [ inl empty ↦ inl empty | inr noticed ↦ inr (noticed_still cpu ne noticed) ]);
   }
-
-  recorded_taken : a.batch me ≡ [] → a.running me ≡ Nothing → Recorded a.sent a.taken a.queue a.ran a.running a.batch
-      → Recorded a.sent taken' queue' a.ran a.running batch'
-  recorded_taken none idle r = record {
-    in_order =
-        λ source cpu. at_test cpu me (λ b. sent_to cpu (a.sent source) ≡ marked_from source
-        (history_of (cond b (a.taken me ++ a.queue me ∷ []) (a.taken cpu)) (cond b [] (a.queue cpu))))
-        (λ e. subst (λ (k : ℕ). sent_to k (a.sent source) ≡ marked_from source (history_of (a.taken me ++ a.queue me ∷ []) [])) (sym e)
-        (r.in_order source me ∙ ap (marked_from source) (sym (history-taken (a.taken me) (a.queue me)))))
-        (λ _. r.in_order source cpu);
-    drained =
-        λ cpu. at_test cpu me (λ b. a.ran cpu ++ (running_call (a.running cpu) ++ cond b (order (a.queue me)) (a.batch cpu))
-        ≡ orders (cond b (a.taken me ++ a.queue me ∷ []) (a.taken cpu)))
-        (λ e. subst (λ (k : ℕ). a.ran k ++ (running_call (a.running k) ++ order (a.queue me)) ≡ orders (a.taken me ++ a.queue me ∷ [])) (sym e) drained_here)
-        (λ _. r.drained cpu);
-  }
-    where
-      before : a.ran me ≡ orders (a.taken me)
-      before = search (append-nil, arith)
-
-      drained_here : a.ran me ++ (running_call (a.running me) ++ order (a.queue me)) ≡ orders (a.taken me ++ a.queue me ∷ [])
-      drained_here = ap (λ (x : Running). a.ran me ++ (running_call x ++ order (a.queue me))) idle
-          ∙ (ap (λ (k : List Call). k ++ order (a.queue me)) before ∙ sym (orders-push (a.taken me) (a.queue me)))
 
 module _ {a : CallState} {at : Word → ℕ} {control : ℕ → ControlValue} (me : ℕ) (s : Shows a at control) where
   -- nobody minds a queued record
@@ -155,5 +116,5 @@ module _ {a : CallState} {at : Word → ℕ} {control : ℕ → ControlValue} (m
       let written = written_taken a at me s.written in
       let chained = chained_taken a at me s.chained in
       let noticed = noticed_taken a at me s.noticed in
-      let recorded = recorded_taken a at me k.0 k.1 s.recorded in
+      let recorded = recorded_taken a me s.recorded k.0 k.1 in
       search (held, stands, hands, placed, written, chained, noticed, recorded, arith)
