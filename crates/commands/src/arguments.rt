@@ -206,7 +206,7 @@ fn scripts_of<'a>(matches: &ArgMatches<'a>) -> Scripts<'a> {
     }
 }
 
-// The same of a search of every order, whose report may be JSON.
+// Whither they go in a search of every order, whose report may be JSON.
 fn searched_to<'a>(matches: &ArgMatches<'a>) -> Scripts<'a> {
     if matches.get_flag("json") {
         Scripts::Json

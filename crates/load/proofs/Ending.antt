@@ -36,7 +36,8 @@ last_at m [] p all = all.0
 last_at m (x ∷ xs) p all = last_at m xs p all.1
 
 -- its number is the last of theirs
-pub last_returned : {H F A : Type 0} (before : List (Played H F A)) (p : Played H F A) → returned (before ++ p ∷ []) ≡ returned before ++ p.cpu.calls.number ∷ []
+pub last_returned : {H F A : Type 0} (before : List (Played H F A)) (p : Played H F A)
+    → returned (before ++ p ∷ []) ≡ returned before ++ p.cpu.calls.number ∷ []
 last_returned before p = map-append (λ x. x.cpu.calls.number) before (p ∷ [])
 
 -- two sets of the CPUs below n have the same members

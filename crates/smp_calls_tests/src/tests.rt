@@ -53,6 +53,14 @@ impl Handler for Recorder {
     }
 }
 
+/// A call of the CPUs of a mask of which a condition holds.
+#[derive(Clone, Copy)]
+struct CondCall {
+    mask: CpuMask,
+    func: u16,
+    wait: bool,
+}
+
 /// A CPU with its table and its handler.
 #[derive(Drop)]
 struct Driver<'a> {
@@ -141,10 +149,8 @@ impl<'a> Driver<'a> {
     fn each<R: Wait, C: Fn(u32, u64) -> bool>(
         &mut self,
         rt: &R,
-        mask: CpuMask,
-        func: u16,
+        call: CondCall,
         cond: &C,
-        wait: bool,
     ) -> CpuMask
         requires { C.IsAlwaysCallable cond.now }
     {
@@ -153,11 +159,11 @@ impl<'a> Driver<'a> {
             rt,
             &mut self.cpu,
             &mut self.heard,
-            mask,
-            func,
+            call.mask,
+            call.func,
             6,
             cond,
-            wait,
+            call.wait,
         )
     }
 

@@ -78,7 +78,8 @@ module _ {H F : Type 0} (hears : H → Heard → H → Type 0) (runs : F → Cal
   works_take p new h f e =
       let s = takes_gate p.stops in
       works_step p new h f s (with_moves (Took ∷ []) (with_gate true (own_of p))) e
-      (later_still p.stops s refl refl refl refl refl refl (Took ∷ [], refl)) refl refl refl refl refl refl (own_still p.stops s refl refl refl refl (λ _ e _. e) refl)
+      (later_still p.stops s refl refl refl refl refl refl (Took ∷ [], refl)) refl refl refl refl refl refl (own_still p.stops s refl refl refl refl
+      (λ _ e _. e) refl)
       (λ i. record (with_gate true (own_of p)) { moves = told_more p.stops.moves (Took ∷ []) i })
 
   -- a try of the gate, or a look at done, in vain
@@ -107,7 +108,8 @@ module _ {H F : Type 0} (hears : H → Heard → H → Type 0) (runs : F → Cal
   works_give p new h f e =
       let s = gives_gate p.stops in
       works_step p new h f s (with_moves (Gave ∷ []) (with_gate false (own_of p))) e
-      (later_still p.stops s refl refl refl refl refl refl (Gave ∷ [], refl)) refl refl refl refl refl refl (own_still p.stops s refl refl refl refl (λ _ e _. e) refl)
+      (later_still p.stops s refl refl refl refl refl refl (Gave ∷ [], refl)) refl refl refl refl refl refl (own_still p.stops s refl refl refl refl
+      (λ _ e _. e) refl)
       (λ i. record (with_gate false (own_of p)) { moves = told_more p.stops.moves (Gave ∷ []) i })
 
   pub works_begin : (p new : MachineCpuValue) (h : H) (f : F) (work : Work) → new ≡ record p { stops = begins work p.stops }

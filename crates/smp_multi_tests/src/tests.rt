@@ -11,7 +11,7 @@ mod threads;
 mod witness;
 
 use self::line::Act::{Answer, Begin, Called, Enter, Gate, InStop, Open, Poll, Run};
-use self::line::{Line, play, play_stops};
+use self::line::{Case, Line, play, play_stops};
 use linked_list_allocator::LocalHeap;
 use smp_labels::{Entry, LabelMap, SiteKind};
 use smp_mask::{CpuMask, SmpError};
@@ -209,15 +209,20 @@ fn one(cpu: u32, func: u16, arg: u64) -> Result<Work, SmpError> {
     })
 }
 
-/// A Multi stop of function 1.
-fn multi(mask: &str, active: &str) -> Result<Work, SmpError> {
+/// A stop of these CPUs, of which some are active.
+fn work_of(kind: Kind, mask: &str, active: &str, func: u16, arg: u64) -> Result<Work, SmpError> {
     Ok(Work {
-        kind: Kind::Multi,
+        kind,
         mask: mask.parse()?,
         active: active.parse()?,
-        func: 1,
-        arg: 0,
+        func,
+        arg,
     })
+}
+
+/// A Multi stop of function 1.
+fn multi(mask: &str, active: &str) -> Result<Work, SmpError> {
+    work_of(Kind::Multi, mask, active, 1, 0)
 }
 
 /// A table that is made so says that these CPUs are online.
@@ -383,25 +388,6 @@ fn a_stop_is_entered_by_its_cpus_once(rt: HostRuntime) -> Result<(), Fail> {
     Ok(())
 }
 
-/// This work is refused so.
-fn refused(
-    kind: Kind,
-    mask: &str,
-    active: &str,
-    func: u16,
-    arg: u64,
-    refusal: SmpError,
-) -> Result<Line, SmpError> {
-    let work = Work {
-        kind,
-        mask: mask.parse()?,
-        active: active.parse()?,
-        func,
-        arg,
-    };
-    Ok((0, Begin(work, Err(refusal))))
-}
-
 // E4 before E3: an empty mask, several CPUs in a stop of one, and patches that do not fit.
 #[test]
 fn a_work_that_no_stop_may_have_is_refused(rt: HostRuntime) -> Result<(), Fail> {
@@ -421,11 +407,15 @@ fn a_work_that_no_stop_may_have_is_refused(rt: HostRuntime) -> Result<(), Fail> 
         (Kind::Patch, "0,2", "0", 1, 1, BAD),
         (Kind::Patch, "0,2", "0", 0, 4, BAD),
     ] {
-        let lines = [
-            (0, Gate(true)),
-            refused(kind, mask, active, func, arg, refusal)?,
-        ];
-        let fault = play(rt.alloc(), 4, "0,2", 1, &labels, &[&lines])?;
+        let work = work_of(kind, mask, active, func, arg)?;
+        let lines = [(0, Gate(true)), (0, Begin(work, Err(refusal)))];
+        let case = Case {
+            nr: 4,
+            online: "0,2",
+            labels: &labels,
+            cpus: 1,
+        };
+        let fault = play(rt.alloc(), case, &[&lines])?;
         assert_eq!(rt; fault, None, "{mask} {active} {func} {arg}");
     }
     Ok(())

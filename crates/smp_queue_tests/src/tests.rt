@@ -7,7 +7,7 @@ mod locks;
 mod steps;
 
 use self::line::Act::{Done, Post, Queue, Send, Tally as Counts};
-use self::line::{Line, play};
+use self::line::{Case, Line, play};
 use crossbeam_utils::Backoff;
 use linked_list_allocator::LocalHeap;
 use smp_mask::{CpuMask, SmpError};
@@ -44,32 +44,20 @@ impl<'a> Model for Driver<'a> {
 }
 
 impl<'a> Driver<'a> {
-    fn try_call(
-        &mut self,
-        k: u32,
-        to: u32,
-        class: Class,
-        func: u16,
-        info: u64,
-        tries: u32,
-    ) -> Result<bool, SmpError> {
+    /// Posts a call of function 1 with 1, by this number of tries.
+    fn try_call(&mut self, k: u32, to: u32, class: Class, tries: u32) -> Result<bool, SmpError> {
         self.table
-            .post_within(&mut self.cpu, k, to, class, func, info, tries)
+            .post_within(&mut self.cpu, k, to, class, 1, 1, tries)
     }
 
-    fn call(
-        &mut self,
-        k: u32,
-        to: u32,
-        class: Class,
-        func: u16,
-        info: u64,
-    ) -> Result<bool, SmpError> {
-        self.try_call(k, to, class, func, info, 1)
+    /// Posts a call of this function with 0, by one try.
+    fn call(&mut self, k: u32, to: u32, class: Class, func: u16) -> Result<bool, SmpError> {
+        self.table
+            .post_within(&mut self.cpu, k, to, class, func, 0, 1)
     }
 
     fn post(&mut self, k: u32, to: u32, tries: u32) -> Result<bool, SmpError> {
-        self.try_call(k, to, Class::Async, 1, 1, tries)
+        self.try_call(k, to, Class::Async, tries)
     }
 
     fn post_at_any_time<R: Wait>(&mut self, rt: &R, k: u32, to: u32) -> Result<bool, SmpError> {
@@ -274,7 +262,12 @@ fn misuse_is_refused(rt: HostRuntime) -> Result<(), Fail> {
         (0, Post(10, 0, Class::Async, 1, Err(BAD))),
         (0, Post(0, 1, Class::Async, 1, Err(BAD))),
     ];
-    let fault = play(&rt, rt.alloc(), 2, "0-1", &[0], &[&lines], &[])?;
+    let case = Case {
+        nr: 2,
+        online: "0-1",
+        cpus: &[0],
+    };
+    let fault = play(&rt, rt.alloc(), case, &[&lines], &[])?;
     assert_eq!(rt; fault, None);
     Ok(())
 }
@@ -297,7 +290,7 @@ fn calls_by_record(k: u32, to: u32, is_there: bool) -> [Line; 4] {
 #[test]
 fn each_cpu_that_there_is_has_a_record_of_its_own(rt: HostRuntime) -> Result<(), Fail> {
     // By its number of CPUs, whether a table has these records, and they carry calls to these CPUs.
-    for (nr, cpus, k, to, is_there) in [
+    for (nr, online, k, to, is_there) in [
         (32, "0-31", 12, 8, true),
         (32, "0-31", 35, 31, true),
         (32, "0-31", 36, 31, false),
@@ -307,7 +300,12 @@ fn each_cpu_that_there_is_has_a_record_of_its_own(rt: HostRuntime) -> Result<(),
         (8, "0-7", 12, 7, false),
     ] {
         let lines = calls_by_record(k, to, is_there);
-        let fault = play(&rt, rt.alloc(), nr, cpus, &[0], &[&lines], &[])?;
+        let case = Case {
+            nr,
+            online,
+            cpus: &[0],
+        };
+        let fault = play(&rt, rt.alloc(), case, &[&lines], &[])?;
         assert_eq!(rt; fault, None, "{k} {to}");
     }
     Ok(())
@@ -330,7 +328,12 @@ fn a_post_appends_one_call(rt: HostRuntime) -> Result<(), Fail> {
         (1, Counts(2, (1, 0))),
         (1, Counts(0, (0, 0))),
     ];
-    let fault = play(&rt, rt.alloc(), 4, "0-2", &[0, 1], &[&lines], &[])?;
+    let case = Case {
+        nr: 4,
+        online: "0-2",
+        cpus: &[0, 1],
+    };
+    let fault = play(&rt, rt.alloc(), case, &[&lines], &[])?;
     assert_eq!(rt; fault, None);
     Ok(())
 }
@@ -352,7 +355,12 @@ fn an_offline_cpu_gets_no_call(rt: HostRuntime) -> Result<(), Fail> {
         &calls_in_vain(7),
         &[(0, Send(3, Ok(()))), (0, Send(0, Ok(())))],
     ];
-    let fault = play(&rt, rt.alloc(), 4, "0-1,3", &[0], &parts, &[])?;
+    let case = Case {
+        nr: 4,
+        online: "0-1,3",
+        cpus: &[0],
+    };
+    let fault = play(&rt, rt.alloc(), case, &parts, &[])?;
     assert_eq!(rt; fault, None);
     Ok(())
 }

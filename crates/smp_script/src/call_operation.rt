@@ -50,14 +50,22 @@ pub fn user_operation(arguments: &[&[u8]]) -> Result<Result<Request, Cause>, Cau
     Ok(read_user(number, dst, func, info))
 }
 
+/// MASK FUNC INFO, as they are written.
+#[derive(Clone, Copy)]
+struct MaskedCall<'a> {
+    mask: &'a [u8],
+    func: &'a [u8],
+    info: &'a [u8],
+}
+
 // MASK FUNC INFO
-fn read_any(limit: u32, wait: bool, mask: &[u8], func: &[u8], info: &[u8]) -> Result<Request, Cause>
-    requires { length mask.now < 2 ^ 32 }
-    ensures { result ≡ among (Request.Any wait) limit mask.now func.now info.now }
+fn read_any(limit: u32, wait: bool, call: MaskedCall) -> Result<Request, Cause>
+    requires { length call.mask.now < 2 ^ 32 }
+    ensures { result ≡ among (Request.Any wait) limit call.entry.mask.now call.entry.func.now call.entry.info.now }
 {
-    let mask = read_mask(limit, mask)?;
-    let func = read_u16(func)?;
-    let info = read_u64(info)?;
+    let mask = read_mask(limit, call.mask)?;
+    let func = read_u16(call.func)?;
+    let info = read_u64(call.info)?;
     Ok(Request::Any(wait, mask, func, info))
 }
 
@@ -70,23 +78,17 @@ pub fn any_operation(limit: u32, arguments: &[&[u8]]) -> Result<Result<Request, 
         return Err(Cause::Word);
     };
     let wait = read_wait(wait)?;
-    Ok(read_any(limit, wait, mask, func, info))
+    Ok(read_any(limit, wait, MaskedCall { mask, func, info }))
 }
 
 // MASK FUNC INFO
-fn read_many(
-    limit: u32,
-    wait: bool,
-    mask: &[u8],
-    func: &[u8],
-    info: &[u8],
-) -> Result<Request, Cause>
-    requires { length mask.now < 2 ^ 32 }
-    ensures { result ≡ among (Request.Many wait) limit mask.now func.now info.now }
+fn read_many(limit: u32, wait: bool, call: MaskedCall) -> Result<Request, Cause>
+    requires { length call.mask.now < 2 ^ 32 }
+    ensures { result ≡ among (Request.Many wait) limit call.entry.mask.now call.entry.func.now call.entry.info.now }
 {
-    let mask = read_mask(limit, mask)?;
-    let func = read_u16(func)?;
-    let info = read_u64(info)?;
+    let mask = read_mask(limit, call.mask)?;
+    let func = read_u16(call.func)?;
+    let info = read_u64(call.info)?;
     Ok(Request::Many(wait, mask, func, info))
 }
 
@@ -99,24 +101,17 @@ pub fn many_operation(limit: u32, arguments: &[&[u8]]) -> Result<Result<Request,
         return Err(Cause::Word);
     };
     let wait = read_wait(wait)?;
-    Ok(read_many(limit, wait, mask, func, info))
+    Ok(read_many(limit, wait, MaskedCall { mask, func, info }))
 }
 
 // MASK FUNC INFO
-fn read_cond(
-    limit: u32,
-    which: Which,
-    wait: bool,
-    mask: &[u8],
-    func: &[u8],
-    info: &[u8],
-) -> Result<Request, Cause>
-    requires { length mask.now < 2 ^ 32 }
-    ensures { result ≡ among (Request.Cond which wait) limit mask.now func.now info.now }
+fn read_cond(limit: u32, which: Which, wait: bool, call: MaskedCall) -> Result<Request, Cause>
+    requires { length call.mask.now < 2 ^ 32 }
+    ensures { result ≡ among (Request.Cond which wait) limit call.entry.mask.now call.entry.func.now call.entry.info.now }
 {
-    let mask = read_mask(limit, mask)?;
-    let func = read_u16(func)?;
-    let info = read_u64(info)?;
+    let mask = read_mask(limit, call.mask)?;
+    let func = read_u16(call.func)?;
+    let info = read_u64(call.info)?;
     Ok(Request::Cond(which, wait, mask, func, info))
 }
 
@@ -130,5 +125,5 @@ pub fn cond_operation(limit: u32, arguments: &[&[u8]]) -> Result<Result<Request,
     };
     let which = read_which(which)?;
     let wait = read_wait(wait)?;
-    Ok(read_cond(limit, which, wait, mask, func, info))
+    Ok(read_cond(limit, which, wait, MaskedCall { mask, func, info }))
 }

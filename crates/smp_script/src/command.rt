@@ -12,26 +12,30 @@ use crate::line::is_word;
 use smp_mask::Cause;
 use smp_words::{Command, Work};
 
-// `start CPU post K DST CLASS FUNC INFO TRIES`
+/// K DST CLASS FUNC INFO TRIES, as they are written.
+#[derive(Clone, Copy)]
+struct PostFields<'a> {
+    k: &'a [u8],
+    dst: &'a [u8],
+    class: &'a [u8],
+    func: &'a [u8],
+    info: &'a [u8],
+    tries: &'a [u8],
+}
+
+// `start CPU post`, and then these fields
 #[tactic(auto, unfolding(crate::specs::Commands::start_post))]
-fn read_post(
-    cpu: &[u8],
-    k: &[u8],
-    dst: &[u8],
-    class: &[u8],
-    func: &[u8],
-    info: &[u8],
-    tries: &[u8],
-) -> Result<Directive, Cause>
-    ensures { result ≡ start_post cpu.now k.now dst.now class.now func.now info.now tries.now }
+fn read_post(cpu: &[u8], post: PostFields) -> Result<Directive, Cause>
+    ensures { result ≡ start_post cpu.now post.entry.k.now post.entry.dst.now post.entry.class.now post.entry.func.now post.entry.info.now
+        post.entry.tries.now }
 {
-    let class = read_class(class)?;
+    let class = read_class(post.class)?;
     let cpu = read_u32(cpu)?;
-    let number = read_u32(k)?;
-    let dst = read_u32(dst)?;
-    let func = read_u16(func)?;
-    let info = read_u64(info)?;
-    let tries = read_u32(tries)?;
+    let number = read_u32(post.k)?;
+    let dst = read_u32(post.dst)?;
+    let func = read_u16(post.func)?;
+    let info = read_u64(post.info)?;
+    let tries = read_u32(post.tries)?;
     let command = Command::Post(number, dst, class, func, info, tries);
     Ok(Directive::Start(cpu, command))
 }
@@ -44,32 +48,42 @@ fn read_posts(cpu: &[u8], arguments: &[&[u8]]) -> Result<Directive, Cause>
     let [k, dst, class, func, info, tries] = arguments else {
         return Err(Cause::Word);
     };
-    read_post(cpu, k, dst, class, func, info, tries)
+    let post = PostFields {
+        k,
+        dst,
+        class,
+        func,
+        info,
+        tries,
+    };
+    read_post(cpu, post)
 }
 
-// `start CPU begin KIND MASK ACTIVE FUNC ARG`
+/// KIND MASK ACTIVE FUNC ARG, as they are written.
+#[derive(Clone, Copy)]
+struct WorkFields<'a> {
+    kind: &'a [u8],
+    mask: &'a [u8],
+    active: &'a [u8],
+    func: &'a [u8],
+    arg: &'a [u8],
+}
+
+// `start CPU begin`, and then these fields
 #[tactic(auto, unfolding(crate::specs::Commands::start_begin))]
-fn read_begin(
-    limit: u32,
-    cpu: &[u8],
-    kind: &[u8],
-    mask: &[u8],
-    active: &[u8],
-    func: &[u8],
-    arg: &[u8],
-) -> Result<Directive, Cause>
-    requires mask { length mask.now < 2 ^ 32 }
-    requires active { length active.now < 2 ^ 32 }
-    ensures { result ≡ start_begin limit cpu.now kind.now mask.now active.now func.now arg.now }
+fn read_begin(limit: u32, cpu: &[u8], begin: WorkFields) -> Result<Directive, Cause>
+    requires mask { length begin.mask.now < 2 ^ 32 }
+    requires active { length begin.active.now < 2 ^ 32 }
+    ensures { result ≡ start_begin limit cpu.now begin.entry.kind.now begin.entry.mask.now begin.entry.active.now begin.entry.func.now begin.entry.arg.now }
 {
-    let kind = read_kind(kind)?;
+    let kind = read_kind(begin.kind)?;
     let cpu = read_u32(cpu)?;
     let work = Work {
         kind,
-        mask: read_mask(limit, mask)?,
-        active: read_mask(limit, active)?,
-        func: read_u16(func)?,
-        arg: read_u64(arg)?,
+        mask: read_mask(limit, begin.mask)?,
+        active: read_mask(limit, begin.active)?,
+        func: read_u16(begin.func)?,
+        arg: read_u64(begin.arg)?,
     };
     Ok(Directive::Start(cpu, Command::Begin(work)))
 }
@@ -83,7 +97,14 @@ fn read_begins(limit: u32, cpu: &[u8], arguments: &[&[u8]]) -> Result<Directive,
     let [kind, mask, active, func, arg] = arguments else {
         return Err(Cause::Word);
     };
-    read_begin(limit, cpu, kind, mask, active, func, arg)
+    let begin = WorkFields {
+        kind,
+        mask,
+        active,
+        func,
+        arg,
+    };
+    read_begin(limit, cpu, begin)
 }
 
 // The command of this name that has no arguments.

@@ -29,7 +29,8 @@ lawful_end steps from state s events n f g l e h =
     rw (here, h, e, l)
 
 -- what an end of a run is as a verdict
-pub rules_lawful : {A : Type 0} (r : Result (Verdict A) Refusal) (marks : List Mark) (told : List Told) (steps slice : List Step) (n : ℕ) (from state : StateValue)
+pub rules_lawful : {A : Type 0} (r : Result (Verdict A) Refusal) (marks : List Mark) (told : List Told) (steps slice : List Step) (n : ℕ)
+    (from state : StateValue)
     → IsOrder marks told steps → from ≡ start_in_order → slice ≡ steps → goes_all (map (λ s. s.told) slice) from ≡ Ok state → n ≡ length slice
     → IsLawful r n state
     → RulesInOrder r marks told

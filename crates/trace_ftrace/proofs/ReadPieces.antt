@@ -60,7 +60,8 @@ fails_now skip text piece p q why h l f l2 f2 s b g =
       s ∙ h.0,
       to_read false (Some why) skip (text ++ piece) q l2 f2 (
         sum_length text piece p.bytes q.bytes r.0 b,
-        λ rest. subst (λ (x : Result KeptValue Refusal). Keeps (Err why) no_lines x) (sym (joined skip p.number text p.part piece rest p.kept r.1)) (fails rest),
+        λ rest. subst (λ (x : Result KeptValue Refusal). Keeps (Err why) no_lines x) (sym (joined skip p.number text p.part piece rest p.kept r.1))
+            (fails rest),
       ),
     )
 

@@ -46,7 +46,7 @@ pub(crate) struct Batches<A: Allocator> {
 }
 
 impl<A: Allocator> Batches<A> {
-    /// The least moment of the last take of so many calls; none where no takes let them begin.
+    /// The least moment of the last take of the first `place` calls; none where no takes let these begin.
     pub(crate) fn at(&self, place: usize) -> Option<Moment> {
         if place < self.bests.len() {
             self.bests[place]

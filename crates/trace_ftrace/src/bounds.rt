@@ -128,8 +128,9 @@ pub(crate) fn bounds_of<A: Allocator>(alloc: A, marks: &[Mark]) -> Result<Vec<Bo
     Ok(bounds)
 }
 
-/// Whether a line leaves order out, whose CPU is inside so many appends: it queues a call and shows no class or no context, or by
-/// a trap one more than can nest, or is of a probe behind an append that no line is before.
+/// Whether a line hides order; `inside` counts the appends that its CPU is inside of. A line that queues a call hides order where
+/// it shows no class or no context, or is by a trap and four appends are open, since no more can nest. The line of a probe
+/// behind an append hides it where no append is open.
 fn hides_order(inside: u32, mark: &Mark) -> bool
     ensures { result ≡ hides_order inside mark.now }
 {

@@ -76,14 +76,14 @@ x-2 [2] ...1. 20: csd_queue_cpu: cpu=0 func=g csd=b0
 x-3 [0] d.h1. 30: csd_function_entry: func=g csd=b0
 ";
 
-/// The same, and between the two CPU 1 makes a direct call.
+/// `MOVED`, and CPU 1 makes a direct call between the two lines that queue.
 pub const FIXED: &str = "x-1 [1] ...1. 10: csd_queue_cpu: cpu=0 func=f csd=a0
 x-1 [1] ...1. 12: csd_function_entry: func=h csd=0
 x-2 [2] ...1. 20: csd_queue_cpu: cpu=0 func=g csd=b0
 x-3 [0] d.h1. 30: csd_function_entry: func=g csd=b0
 ";
 
-/// The same, and CPU 1 makes it in an interrupt.
+/// `FIXED`, but CPU 1 makes its direct call in an interrupt.
 pub const NESTED: &str = "x-1 [1] ...1. 10: csd_queue_cpu: cpu=0 func=f csd=a0
 x-1 [1] d.h1. 12: csd_function_entry: func=h csd=0
 x-2 [2] ...1. 20: csd_queue_cpu: cpu=0 func=g csd=b0
@@ -107,7 +107,7 @@ x-1 [1] d.Z1. 25: one_queued: cpu=0
 x-3 [0] d.Z1. 30: async_entry: func=g csd=b0
 ";
 
-/// The same without the interrupt.
+/// `TRAPPED` without the interrupt.
 pub const PROBED: &str = "x-1 [1] d.Z1. 10: one_queue: cpu=0 func=f csd=a0 flags=1
 x-1 [1] d.Z1. 13: one_queued: cpu=0
 x-2 [2] d.Z1. 20: one_queue: cpu=0 func=g csd=b0 flags=1

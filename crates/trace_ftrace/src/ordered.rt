@@ -86,7 +86,7 @@ fn order_of<A: Allocator + Copy>(
     }
 }
 
-/// That so many events are lawful, and the state behind them.
+/// The verdict that this number of events is lawful, with the state behind them.
 fn lawful<A: Allocator>(count: usize, state: State<A>) -> Result<Verdict<A>, Refusal>
     ensures { IsLawful result count state }
 {

@@ -1,8 +1,8 @@
 //! What one CPU of the state does with its own part.
 
-ghost use Rattle.std.specs.Prelude.{◌≡◌, ◌<◌, is_some, OnOk};
+ghost use Rattle.std.specs.Prelude.{◌≡◌, ◌<◌, true, false, is_some, OnOk};
 ghost use Rattle.trace_model.specs.Calls.{accept_by, idle_by, on_cpu, entered_by};
-ghost use Rattle.trace_model.specs.Cpu.{begun, begun_loose, ended, interrupted, is_empty, may_take, noted, pushed};
+ghost use Rattle.trace_model.specs.Cpu.{ended, interrupted, is_empty, may_take, noted, pushed};
 ghost use Rattle.trace_model.specs.Cpu.{runs_locked, sent, taken, unlocked, Makes};
 ghost use Rattle.trace_model.specs.State.{cpu_at, with_cpu};
 
@@ -118,27 +118,23 @@ impl<A: Allocator + Copy> State<A> {
         self.cpus[cpu as usize].runs_locked()
     }
 
-    /// A CPU enters the function of a call of its queue.
-    fn begin_loose(&mut self, cpu: u32, seen: Entry, elsewhere: Reason) -> Result<(), Reason>
+    /// A CPU enters the function of a call of its queue, whose record is at that place.
+    fn begin_loose(&mut self, cpu: u32, seen: Entry, place: Place) -> Result<(), Reason>
         requires { cpu < 32 }
-        ensures { Makes result self.new (on_cpu cpu self.old (begun_loose seen elsewhere (cpu_at self.old cpu))) }
+        ensures { Makes result self.new (on_cpu cpu self.old (entered_by true cpu seen place self.old)) }
     {
+        let elsewhere = place_reason(seen.id, place);
         self.cpus[cpu as usize].begin_loose(seen, elsewhere)
     }
 
-    /// A CPU enters the function of a call of its batch.
-    fn begin_strict(
-        &mut self,
-        cpu: u32,
-        seen: Entry,
-        here: bool,
-        elsewhere: Reason,
-        unlocks: bool,
-    ) -> Result<(), Reason>
+    /// A CPU enters the function of a call of its batch, whose record is at that place.
+    fn begin_strict(&mut self, cpu: u32, seen: Entry, place: Place) -> Result<(), Reason>
         requires { cpu < 32 }
-        ensures { Makes result self.new (on_cpu cpu self.old (begun seen here elsewhere unlocks (cpu_at self.old cpu))) }
+        ensures { Makes result self.new (on_cpu cpu self.old (entered_by false cpu seen place self.old)) }
     {
-        self.cpus[cpu as usize].begin(seen, here, elsewhere, unlocks)
+        let elsewhere = place_reason(seen.id, place);
+        let unlocks = !self.setting.without.unlocks;
+        self.cpus[cpu as usize].begin(seen, place.is_batch(cpu), elsewhere, unlocks)
     }
 
     /// A CPU enters the function of a call whose record is at that place.
@@ -146,12 +142,10 @@ impl<A: Allocator + Copy> State<A> {
         requires { cpu < 32 }
         ensures { Makes result self.new (on_cpu cpu self.old (entered_by self.old.setting.without.order cpu seen place self.old)) }
     {
-        let elsewhere = place_reason(seen.id, place);
         if self.setting.without.order {
-            self.begin_loose(cpu, seen, elsewhere)
+            self.begin_loose(cpu, seen, place)
         } else {
-            let unlocks = !self.setting.without.unlocks;
-            self.begin_strict(cpu, seen, place.is_batch(cpu), elsewhere, unlocks)
+            self.begin_strict(cpu, seen, place)
         }
     }
 

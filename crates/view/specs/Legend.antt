@@ -9,7 +9,8 @@ use Rattle.view.specs.declared.legend.TheConstants.{DOTS, STYLES}
 
 -- a size
 unfoldable pub size_text : ℕ → ℕ → List ℕ
-size_text width height = codes "<svg xmlns=\"http://www.w3.org/2000/svg\" width=\"" ++ (decimal width ++ (codes "\" height=\"" ++ (decimal height ++ codes "\"")))
+size_text width height = codes "<svg xmlns=\"http://www.w3.org/2000/svg\" width=\""
+    ++ (decimal width ++ (codes "\" height=\"" ++ (decimal height ++ codes "\"")))
 
 unfoldable pub box_text : ℕ → ℕ → List ℕ
 box_text width height = codes " viewBox=\"0 0 " ++ (decimal width ++ (codes " " ++ (decimal height ++ codes "\">\n")))

@@ -34,7 +34,7 @@ cpu 1 send 0
 cpu 1 repeat done 0
 ";
 
-// The same where each handles while it waits, and once behind that: a CPU that has ended handles nothing more.
+// Both handle while they wait, and once more behind that, since a CPU that has ended handles nothing more.
 const BOTH_HANDLE: &str = "smp 1 explore
 cpus 2 0-1
 cpu 0 post 0 1 sync 7 42 1
@@ -158,7 +158,7 @@ cpu 2 repeat handle
 cpu 2 send 0
 ";
 
-// The same where one of them sends first.
+// One of the three sends before it waits.
 const ROUND_BEGUN: &str = "smp 1 explore
 cpus 3 0-2
 cpu 0 send 1

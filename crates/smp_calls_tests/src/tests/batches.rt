@@ -58,7 +58,12 @@ fn call_twice<R: Wait>(rt: &R, zero: &mut Driver, both: CpuMask, progress: &Prog
         cpu == 1
     };
     let _ = zero.single(rt, 1, 2, false);
-    zero.each(rt, both, 1, &cond, true);
+    let call = CondCall {
+        mask: both,
+        func: 1,
+        wait: true,
+    };
+    zero.each(rt, call, &cond);
     progress.ended.store(1, Ordering::SeqCst);
 }
 

@@ -27,11 +27,16 @@ fn call_wanted<R: Wait + Threads + Sync>(
         note_asked(&asked, asking.base, cpu);
         asking.wanted.contains(cpu)
     };
+    let call = CondCall {
+        mask: asking.mask,
+        func: 1,
+        wait: asking.wait,
+    };
     let mut called = CpuMask::empty();
     others.let_go_on();
     thread::scope(thread::scope_env(), rt, |scope| {
         if scope.spawn(move || others.poll_to_the_end()).is_ok() {
-            called = driver.each(rt, asking.mask, 1, &cond, asking.wait);
+            called = driver.each(rt, call, &cond);
         }
         others.over.store(1, Ordering::SeqCst);
     });
@@ -149,9 +154,14 @@ fn heard_at<R: Wait + Threads + Sync>(
         }
         true
     };
+    let call = CondCall {
+        mask: at.mask,
+        func: 1,
+        wait: at.wait,
+    };
     thread::scope(thread::scope_env(), rt, |scope| {
         if scope.spawn(move || others.poll_to_the_end()).is_ok() {
-            zero.each(rt, at.mask, 1, &cond, at.wait);
+            zero.each(rt, call, &cond);
         }
         others.over.store(1, Ordering::SeqCst);
     });

@@ -64,7 +64,12 @@ fn call_all<R: Wait>(driver: &mut Driver, rt: &R, all: CpuMask) -> Result<(), Sm
     let next = next_of(all, this);
     driver.any(rt, CpuMask::of(next)?, 3, true)?;
     driver.many(rt, all, 4, true);
-    driver.each(rt, all, 5, &|cpu, _| cpu % 2 == 0, true);
+    let call = CondCall {
+        mask: all,
+        func: 5,
+        wait: true,
+    };
+    driver.each(rt, call, &|cpu, _| cpu % 2 == 0);
     repeat_by_user(driver, rt, next)
 }
 

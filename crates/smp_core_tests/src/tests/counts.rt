@@ -40,7 +40,7 @@ fn leaves(finish: u32, answer: i32) -> [Line; 3] {
     ]
 }
 
-// The same, with the step of its function.
+// The step of its function, and what follows that, with this result.
 fn rest(run: u32, finish: u32, answer: i32) -> [Line; 4] {
     let [left, finished, result] = leaves(finish, answer);
     [

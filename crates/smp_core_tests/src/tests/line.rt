@@ -135,7 +135,7 @@ pub fn cas(cpu: u32, word: Word, found: u64, put: Option<u64>) -> Line {
     sees(cpu, Act::Cas, word, Some(found), put)
 }
 
-// The same step, with this note.
+// The step of a line, with this note.
 pub fn noted(line: Line, note: Note) -> Line {
     match line {
         Line::Sees(mut seen) => {

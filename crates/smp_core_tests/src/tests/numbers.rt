@@ -19,7 +19,7 @@ const CALL_WORDS: [(Word, Option<usize>); 13] = [
     (Word::Gate, None),
 ];
 
-// The same of the stop table, with each field of the slot of CPU 2.
+// One word of each kind of the stop table, each field of the slot of CPU 2, and words that it has not.
 const STOP_WORDS: [(Word, Option<usize>); 18] = [
     (Word::Gate, Some(0)),
     (Word::Slot(2, Field::Kind), Some(23)),

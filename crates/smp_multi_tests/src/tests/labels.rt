@@ -1,7 +1,7 @@
 //! Keys and sites on one thread: readings, nudges, and a patch by hand.
 
 use super::line::Act::*;
-use super::line::{Line, play};
+use super::line::{Case, Line, play};
 use super::*;
 use smp_mask::Edge;
 
@@ -38,7 +38,13 @@ fn keys_and_sites_are_read(rt: HostRuntime) -> Result<(), Fail> {
         (0, ReadKey(1, Err(BAD))),
         (0, ReadSite(2, Err(BAD))),
     ];
-    let fault = play(rt.alloc(), 1, "0", 1, &two_sites()?, &[&lines])?;
+    let case = Case {
+        nr: 1,
+        online: "0",
+        labels: &two_sites()?,
+        cpus: 1,
+    };
+    let fault = play(rt.alloc(), case, &[&lines])?;
     assert_eq!(rt; fault, None);
     Ok(())
 }
@@ -78,7 +84,13 @@ const NUDGED_ABOVE_ZERO: [Line; 5] = [
 fn a_count_is_nudged_where_the_key_stays_on(rt: HostRuntime) -> Result<(), Fail> {
     let up = patch_alone(patch(CpuMask::of(0)?, 2)?, 0);
     let parts: [&[Line]; 3] = [&NUDGED_AT_ZERO, &up, &NUDGED_ABOVE_ZERO];
-    let fault = play(rt.alloc(), 1, "0", 1, &two_sites()?, &parts)?;
+    let case = Case {
+        nr: 1,
+        online: "0",
+        labels: &two_sites()?,
+        cpus: 1,
+    };
+    let fault = play(rt.alloc(), case, &parts)?;
     assert_eq!(rt; fault, None);
     Ok(())
 }
@@ -133,7 +145,13 @@ fn a_patch_answers_1_at_the_end_of_the_range(rt: HostRuntime) -> Result<(), Fail
         &[(0, Count(0))],
         &off,
     ];
-    let fault = play(rt.alloc(), 1, "0", 1, &sites, &parts)?;
+    let case = Case {
+        nr: 1,
+        online: "0",
+        labels: &sites,
+        cpus: 1,
+    };
+    let fault = play(rt.alloc(), case, &parts)?;
     assert_eq!(rt; fault, None);
     Ok(())
 }
@@ -178,7 +196,13 @@ fn two_cpus_make_a_patch(rt: HostRuntime) -> Result<(), Fail> {
         &read_at(0, true),
         &read_at(1, true),
     ];
-    let fault = play(rt.alloc(), 2, "0-1", 2, &two_sites()?, &parts)?;
+    let case = Case {
+        nr: 2,
+        online: "0-1",
+        labels: &two_sites()?,
+        cpus: 2,
+    };
+    let fault = play(rt.alloc(), case, &parts)?;
     assert_eq!(rt; fault, None);
     Ok(())
 }

@@ -102,19 +102,25 @@ fn play_on(
     Ok(fault)
 }
 
-/// Plays the parts of a case, one after the other, on this number of CPUs of a new table: the part and the index there of the
-/// first line that goes another way. Functions answer 9.
+/// The table of a case, and how many of its CPUs play.
+#[derive(Copy, Clone)]
+pub struct Case<'a> {
+    pub nr: u32,
+    pub online: &'a str,
+    pub labels: &'a LabelMap,
+    pub cpus: u32,
+}
+
+/// Plays the parts of a case, one after the other, on a new table: the part and the index there of the first line that goes
+/// another way. Functions answer 9.
 pub fn play(
     alloc: Global,
-    nr: u32,
-    online: &str,
-    cpus: u32,
-    labels: &LabelMap,
+    case: Case<'_>,
     parts: &[&[Line]],
 ) -> Result<Option<(usize, usize)>, SmpError> {
-    let online = online.parse()?;
-    let (table, boot) = StopTable::new(alloc, nr, online, labels)?;
-    play_on(alloc, &mut Room::new(&table, boot), cpus, parts)
+    let online = case.online.parse()?;
+    let (table, boot) = StopTable::new(alloc, case.nr, online, case.labels)?;
+    play_on(alloc, &mut Room::new(&table, boot), case.cpus, parts)
 }
 
 /// Plays a case on the CPUs of a table with no labels, which are all online: the first fault.
@@ -123,6 +129,11 @@ pub fn play_stops(
     cpus: u32,
     parts: &[&[Line]],
 ) -> Result<Option<(usize, usize)>, SmpError> {
-    let online = if cpus == 1 { "0" } else { "0-1" };
-    play(alloc, cpus, online, cpus, &LabelMap::empty(), parts)
+    let case = Case {
+        nr: cpus,
+        online: if cpus == 1 { "0" } else { "0-1" },
+        labels: &LabelMap::empty(),
+        cpus,
+    };
+    play(alloc, case, parts)
 }

@@ -1,6 +1,6 @@
 //! Tables that are given up.
 
-use super::line::audit_after;
+use super::line::{Case, audit_after};
 use super::*;
 
 /// No calls at all.
@@ -45,13 +45,18 @@ fn a_queued_call_is_left(rt: HostRuntime) -> Result<(), Fail> {
 
 #[test]
 fn each_queue_and_each_record_is_left(rt: HostRuntime) -> Result<(), Fail> {
-    for (nr, cpus, top) in [(8, "0-7", 7), (32, "0-31", 31)] {
+    for (nr, online, top) in [(8, "0-7", 7), (32, "0-31", 31)] {
         let lines = [
             (1, Post(10, top - 1, Class::Async, 1, Ok(true))),
             (1, Post(11, top - 1, Class::Async, 1, Ok(false))),
             (0, Post(0, top, Class::Sync, 1, Ok(true))),
         ];
-        let after = audit_after(&rt, rt.alloc(), nr, cpus, 1, &[0, top], &lines)?;
+        let case = Case {
+            nr,
+            online,
+            cpus: &[0, top],
+        };
+        let after = audit_after(&rt, rt.alloc(), case, 1, &lines)?;
         assert_eq!(rt; after, (None, left(2, 3)), "{nr}");
     }
     Ok(())
@@ -63,7 +68,12 @@ fn the_last_records_of_the_last_cpus_are_left(rt: HostRuntime) -> Result<(), Fai
         (0, Post(34, 30, Class::Sync, 1, Ok(true))),
         (1, Post(35, 31, Class::Async, 1, Ok(true))),
     ];
-    let after = audit_after(&rt, rt.alloc(), 32, "0-31", 0, &[31, 30], &lines)?;
+    let case = Case {
+        nr: 32,
+        online: "0-31",
+        cpus: &[31, 30],
+    };
+    let after = audit_after(&rt, rt.alloc(), case, 0, &lines)?;
     assert_eq!(rt; after, (None, left(2, 2)));
     Ok(())
 }

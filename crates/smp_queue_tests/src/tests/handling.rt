@@ -72,7 +72,12 @@ fn calls_of_two_cpus_run_in_their_order(rt: HostRuntime) -> Result<(), Fail> {
         (2, Handle(IDLE)),
     ];
     let calls = [(0, 1, 0), (1, 2, 0), (0, 3, 0)];
-    let fault = play(&rt, rt.alloc(), 3, "0-2", &[0, 1, 2], &[&lines], &calls)?;
+    let case = Case {
+        nr: 3,
+        online: "0-2",
+        cpus: &[0, 1, 2],
+    };
+    let fault = play(&rt, rt.alloc(), case, &[&lines], &calls)?;
     assert_eq!(rt; fault, None);
     Ok(())
 }
@@ -88,7 +93,12 @@ fn sync_calls_run_first(rt: HostRuntime) -> Result<(), Fail> {
         (1, Handle(handled(4))),
     ];
     let calls = [(0, 2, 0), (0, 4, 0), (0, 1, 0), (0, 3, 0)];
-    let fault = play(&rt, rt.alloc(), 2, "0-1", &[0, 1], &[&lines], &calls)?;
+    let case = Case {
+        nr: 2,
+        online: "0-1",
+        cpus: &[0, 1],
+    };
+    let fault = play(&rt, rt.alloc(), case, &[&lines], &calls)?;
     assert_eq!(rt; fault, None);
     Ok(())
 }
@@ -141,7 +151,12 @@ fn a_long_batch_runs_in_its_order(rt: HostRuntime) -> Result<(), Fail> {
         &[(1, Send(31, Ok(()))), (2, Handle(handled(10)))],
         &[(2, Counts(0, (0, 10))), (2, Counts(8, (0, 10)))],
     ];
-    let fault = play(&rt, rt.alloc(), 32, "0-31", &[0, 8, 31], &parts, &TWICE_TEN)?;
+    let case = Case {
+        nr: 32,
+        online: "0-31",
+        cpus: &[0, 8, 31],
+    };
+    let fault = play(&rt, rt.alloc(), case, &parts, &TWICE_TEN)?;
     assert_eq!(rt; fault, None);
     Ok(())
 }
@@ -158,7 +173,12 @@ fn a_record_is_busy_until_its_call_has_run(rt: HostRuntime) -> Result<(), Fail> 
         (0, Counts(1, (2, 0))),
         (1, Counts(0, (0, 1))),
     ];
-    let fault = play(&rt, rt.alloc(), 2, "0-1", &[0, 1], &[&lines], &[(0, 1, 0)])?;
+    let case = Case {
+        nr: 2,
+        online: "0-1",
+        cpus: &[0, 1],
+    };
+    let fault = play(&rt, rt.alloc(), case, &[&lines], &[(0, 1, 0)])?;
     assert_eq!(rt; fault, None);
     Ok(())
 }

@@ -27,9 +27,9 @@ impl Act {
     fn goes<R: Wait>(&self, rt: &R, cpu: &mut Driver, heard: &mut Recorder) -> bool {
         match *self {
             Act::Post(k, to, class, tries, answer) => {
-                cpu.try_call(k, to, class, 1, 1, tries) == answer
+                cpu.try_call(k, to, class, tries) == answer
             }
-            Act::Call(k, to, class, func, answer) => cpu.call(k, to, class, func, 0) == answer,
+            Act::Call(k, to, class, func, answer) => cpu.call(k, to, class, func) == answer,
             Act::Queue(k, to, answer) => cpu.post_at_any_time(rt, k, to) == answer,
             Act::Done(k, answer) => cpu.is_done(k) == answer,
             Act::Send(to, answer) => cpu.send(to) == answer,
@@ -76,36 +76,39 @@ fn first_fault_or_call<R: Wait>(
     fault
 }
 
-/// Plays the parts of a case, one after the other, on these CPUs of a new table, on which these calls are heard and no
-/// others: the part and the index there of the first line that goes another way, or the number of parts where other
-/// calls are heard.
+/// The table of a case, and those of its CPUs that play.
+#[derive(Copy, Clone)]
+pub struct Case<'a> {
+    pub nr: u32,
+    pub online: &'a str,
+    pub cpus: &'a [u32],
+}
+
+/// Plays the parts of a case, one after the other, on a new table, on which these calls are heard and no others. It answers the
+/// part and the index there of the first line that goes another way, or the number of parts where other calls are heard.
 pub fn play<R: Wait>(
     rt: &R,
     alloc: Global,
-    nr: u32,
-    online: &str,
-    cpus: &[u32],
+    case: Case<'_>,
     parts: &[&[Line]],
     calls: &[(u32, u16, u64)],
 ) -> Result<Option<(usize, usize)>, SmpError> {
-    let (table, boot) = CallTable::new(alloc, nr, online.parse()?)?;
-    let drivers = Room::new(&table, boot).drive_all(alloc, cpus)?;
+    let (table, boot) = CallTable::new(alloc, case.nr, case.online.parse()?)?;
+    let drivers = Room::new(&table, boot).drive_all(alloc, case.cpus)?;
     Ok(first_fault_or_call(rt, alloc, drivers, parts, calls))
 }
 
-/// As `play`, where no call runs: what an audit with this CPU, which is none of these, then says.
+/// As `play`, where no call runs: what an audit with this CPU, which is none of those that play, then says.
 pub fn audit_after<R: Wait>(
     rt: &R,
     alloc: Global,
-    nr: u32,
-    online: &str,
+    case: Case<'_>,
     last: u32,
-    cpus: &[u32],
     lines: &[Line],
 ) -> Result<(Option<(usize, usize)>, Audit), SmpError> {
-    let (table, mut boot) = CallTable::new(alloc, nr, online.parse()?)?;
+    let (table, mut boot) = CallTable::new(alloc, case.nr, case.online.parse()?)?;
     let last = seat(&table, &mut boot, last)?;
-    let drivers = Room::new(&table, boot).drive_all(alloc, cpus)?;
+    let drivers = Room::new(&table, boot).drive_all(alloc, case.cpus)?;
     let fault = first_fault_or_call(rt, alloc, drivers, &[lines], &[]);
     Ok((fault, audit_by(table, last)))
 }

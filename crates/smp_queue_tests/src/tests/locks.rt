@@ -44,7 +44,7 @@ fn asks_of_each_kind(
     ];
     for (i, (k, class)) in calls.iter().enumerate() {
         let func = u16::try_from(*k).unwrap_or(u16::MAX);
-        let owed = asker.source.call(*k, to, *class, func, 0);
+        let owed = asker.source.call(*k, to, *class, func);
         assert_eq!(rt; owed, Ok(i == 0), "{k}");
     }
     assert_eq!(rt; asker.source.send(to), Ok(()));

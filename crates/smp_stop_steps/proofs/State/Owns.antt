@@ -11,7 +11,8 @@ module _ (u : Setup) (p : Present) (at : Word → ℕ) (seat : ℕ → StopRole)
   mask_is s c open_ = subst (λ b. is_of ((p.stop s).standing c) ≡ (b && has (p.stop s).work.mask c)) open_ ((h.slots s).members c)
 
   -- while a function runs, each CPU of the mask is inside that stop
-  pub all_inside : (s me : ℕ) → (p.stop s).standing me ≡ Inside DISABLE_IRQ RUN → (c : ℕ) → has (p.stop s).work.mask c ≡ true → is_inside ((p.stop s).standing c) ≡ true
+  pub all_inside : (s me : ℕ) → (p.stop s).standing me ≡ Inside DISABLE_IRQ RUN → (c : ℕ) → has (p.stop s).work.mask c ≡ true
+      → is_inside ((p.stop s).standing c) ≡ true
   all_inside s me is c of = search (function_law, h.slots, is_open_inside, mask_is, arith)
 
   -- while a patch is under way, the source of no other one waits inside its own: a store is in no other's way

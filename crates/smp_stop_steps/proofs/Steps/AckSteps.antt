@@ -33,7 +33,8 @@ module _ (u : Setup) (p : StopState) (at : Word → ℕ) (seat : ℕ → StopRol
       either r.1.0 r.1.1 r.1.2 r.1.3 (round_source s v (round.Acknowledge answer ran) e)
     where
       -- who acknowledges RUN has called its function, or is not to call one
-      has_called : (work : Work) → IsLoaded v work → (b : Bool) → RunsIf me v b → (f : Calling) → IsAcking v answer b f → v.acked ≡ DISABLE_IRQ → HasCalled me work f
+      has_called : (work : Work) → IsLoaded v work → (b : Bool) → RunsIf me v b → (f : Calling) → IsAcking v answer b f → v.acked ≡ DISABLE_IRQ
+          → HasCalled me work f
       has_called work loaded b runs f is two = search arith
 
       has_run : (b : Bool) → RunsIf me v b → HasRunIf me (visit_acked v answer ran) b

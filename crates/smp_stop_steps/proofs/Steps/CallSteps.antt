@@ -51,7 +51,8 @@ quiet_visit : (v w : Visit) (f : Calling) → w.answer ≡ v.answer → IsQuiet 
 quiet_visit v w f same k = search arith
 
 -- before RUN is acknowledged who calls nothing carries nothing
-quiet_early : (c s : ℕ) (w : Work) (l : ℕ) (t : Duty) (v : Visit) (f : Calling) → IsQuiet (Some v) f → v.acked ≡ DISABLE_IRQ → IsCalling c (In s w DISABLE_IRQ l t) f → f ≡ Idle
+quiet_early : (c s : ℕ) (w : Work) (l : ℕ) (t : Duty) (v : Visit) (f : Calling) → IsQuiet (Some v) f → v.acked ≡ DISABLE_IRQ
+    → IsCalling c (In s w DISABLE_IRQ l t) f → f ≡ Idle
 quiet_early c s w l t v f q two k = search (q, arith)
 
 -- nor does it in a stop of kind One

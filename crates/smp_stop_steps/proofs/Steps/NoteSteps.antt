@@ -216,7 +216,8 @@ module _ (u : Setup) (p : StopState) (at : Word → ℕ) (seat : ℕ → StopRol
         now = cond b (leaves acked_now me v.slot (p.now.stop v.slot).work) acked_now;
       }
 
-      module _ (in_ : p.now.inside me ≡ Some v.slot) (st : (p.now.stop v.slot).standing me ≡ Inside v.acked phase) (off : (p.now.irq me ≡ false) ⊎ (phase ≢ EXIT))
+      module _ (in_ : p.now.inside me ≡ Some v.slot) (st : (p.now.stop v.slot).standing me ≡ Inside v.acked phase)
+          (off : (p.now.irq me ≡ false) ⊎ (phase ≢ EXIT))
           (run : HasRunIf me (visit_acked v answer ran) ran) (active : v.active ≡ (p.now.stop v.slot).work.active) where
         acked_turn : (r : Bool) → ran ≡ r → phase ≢ EXIT → NoteFits p (acked_after false) me (Some (cond r Note.Ran (Note.Moved phase)))
         acked_turn true r ne = (

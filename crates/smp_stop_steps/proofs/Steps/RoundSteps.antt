@@ -58,7 +58,8 @@ module _ (u : Setup) (p : StopState) (at : Word → ℕ) (seat : ℕ → StopRol
 
       off : (work : Work) → seat me ≡ In v.slot work v.acked v.acked Rests → v.acked ≢ EXIT → at (Slot v.slot State) ≡ v.acked + 1 →
           cond (at (Slot v.slot State) == DISABLE_IRQ) false c.interrupts ≡ nat_lt (at (Slot v.slot State)) DISABLE_IRQ || v.acked == EXIT
-      off work is more up = at_test (at (Slot v.slot State)) DISABLE_IRQ (λ b. cond b false c.interrupts ≡ nat_lt (at (Slot v.slot State)) DISABLE_IRQ || v.acked == EXIT)
+      off work is more up = at_test (at (Slot v.slot State)) DISABLE_IRQ
+          (λ b. cond b false c.interrupts ≡ nat_lt (at (Slot v.slot State)) DISABLE_IRQ || v.acked == EXIT)
           (λ two. sym (ap (λ n. nat_lt n DISABLE_IRQ || v.acked == EXIT) two ∙ ne_eqb v.acked EXIT more))
           (λ ne. (s.irq ∙ ap irq_of is) ∙ ap (λ b. b || v.acked == EXIT) (search (look_irq, arith)))
 
@@ -232,7 +233,8 @@ module _ (u : Setup) (p : StopState) (at : Word → ℕ) (seat : ℕ → StopRol
           made_some : (work : Work) (count : ℕ) → plan_at u work count ≢ [] → 0 ≡ patch_answer work count
           made_some work count some = search (work.arg, plan_same, eq-eqb, arith)
 
-          ends : c.visit ≡ Some v → (work : Work) (count : ℕ) → IsLoaded v work → v.acked ≡ DISABLE_IRQ → made < length c.changes → c.changes ≡ plan_at u work count →
+          ends : c.visit ≡ Some v → (work : Work) (count : ℕ) → IsLoaded v work → v.acked ≡ DISABLE_IRQ → made < length c.changes
+              → c.changes ≡ plan_at u work count →
               (before : List Change) (change : Change) (rest : List Change) → c.changes ≡ before ++ change ∷ rest → length before ≡ made →
               seat me ≡ Alters v.slot work count before (change ∷ rest) → OwnsIf c.is_open (source me) → (b : Bool) → (made + 1 == length c.changes) ≡ b →
               ControlFits u me (at Gate) (stop_goes c (Advance v (cond b (round.Acknowledge 0 true) (round.StoreChange (made + 1))))).control

@@ -93,13 +93,13 @@ module _ (u : Setup) (p : StopState) (at : Word → ℕ) (seat : ℕ → StopRol
       save : (found : ℕ) → SaveMe p.now me p.now.inside (cond (found == DISABLE_IRQ) (put p.now.irq me false) p.now.irq) p.now.readings
       save found = record { inside = λ c ne. refl; irq = λ c ne. other_irq (found == DISABLE_IRQ) c ne; readings = λ c ne. refl }
 
-      turned : (found : ℕ) → found ≡ found → found ≡ (p.now.stop s).phase → Keeps u.cpus (p.now.stop s).phase me (Inside a l) → p.now.irq me ≡ nat_lt l DISABLE_IRQ ||
-          a == EXIT →
+      turned : (found : ℕ) → found ≡ found → found ≡ (p.now.stop s).phase → Keeps u.cpus (p.now.stop s).phase me (Inside a l)
+          → p.now.irq me ≡ nat_lt l DISABLE_IRQ || a == EXIT →
           cond (found == DISABLE_IRQ) (put p.now.irq me false) p.now.irq me ≡ nat_lt found DISABLE_IRQ || a == EXIT
       turned found h1 e k i = search (at_test, nat_lt, put_same, ne_eqb, look_irq, arith)
 
-      before : (found : ℕ) → nat_lt found DISABLE_IRQ || a == EXIT ≡ cond (found == DISABLE_IRQ) (put p.now.irq me false) p.now.irq me → nat_lt found DISABLE_IRQ || a == EXIT ≡ true →
-          p.now.irq me ≡ true
+      before : (found : ℕ) → nat_lt found DISABLE_IRQ || a == EXIT ≡ cond (found == DISABLE_IRQ) (put p.now.irq me false) p.now.irq me
+          → nat_lt found DISABLE_IRQ || a == EXIT ≡ true → p.now.irq me ≡ true
       before found e i = search (at_test, put_same, arith)
 
   -- who is not inside the function of a patch does not end one
@@ -165,8 +165,8 @@ module _ (u : Setup) (p : StopState) (at : Word → ℕ) (seat : ℕ → StopRol
     -- an acknowledgement, over a state in which nobody or another patches
     ack_shown : (x : Patching) (seat0 : ℕ → StopRole) (calls' : ℕ → List StopCall) (calling' : ℕ → Calling) → PresentShows u (record (p.now) { patching = x })
         at seat0 → seat0 me ≡ In s job a (a + 1) Rests →
-        p.now.irq me ≡ nat_lt (a + 1) DISABLE_IRQ → put seat0 me next ≡ put seat me next → (p.now.stop s).standing me ≡ Inside a (a + 1) → (p.now.stop s).is_open ≡
-        true →
+        p.now.irq me ≡ nat_lt (a + 1) DISABLE_IRQ → put seat0 me next ≡ put seat me next → (p.now.stop s).standing me ≡ Inside a (a + 1)
+        → (p.now.stop s).is_open ≡ true →
         ((p.now.stop s).work.kind ≡ Patch → me ≡ u.first → a ≡ DISABLE_IRQ → StandsSet (p.now.stop s).work (at (Key (p.now.stop s).work.func))) →
         (a + 1 ≡ EXIT → AllByRecursion (Agrees (labels_in at)) (first_readings me s (p.now.stop s).work)) →
         ((c : ℕ) → IsCalling c (put seat me next c) (calling' c)) → IsNotClosing (seat me) →
@@ -183,8 +183,9 @@ module _ (u : Setup) (p : StopState) (at : Word → ℕ) (seat : ℕ → StopRol
           irq = λ c ne. put_other p.now.irq me true c ne;
           readings = search (put_other, arith);
         } job a is (put_same p.now.irq me true ∙ sym (leaves_irq (found == 1) ∙ ap
-        (λ b. cond b true (nat_lt (a + 1) DISABLE_IRQ)) e)) (λ _ _. subst (AllByRecursion (Agrees (labels_in at))) (sym (put_same p.now.readings me (first_readings
-        me s (p.now.stop s).work))) (agrees (eqb-true (a + 1) EXIT (both_true (a + 1 == EXIT) (not (found == 1)) e).0))))
+        (λ b. cond b true (nat_lt (a + 1) DISABLE_IRQ)) e)) (λ _ _. subst (AllByRecursion (Agrees (labels_in at)))
+        (sym (put_same p.now.readings me (first_readings me s (p.now.stop s).work)))
+        (agrees (eqb-true (a + 1) EXIT (both_true (a + 1 == EXIT) (not (found == 1)) e).0))))
         (subst (λ (y : ℕ → StopRole). (c : ℕ) →
         IsCalling c (y c) (calling' c)) (sym same) callings) (subst (AreClosing (record (acked_now x) { irq = irq'; readings = readings' })) (sym same)
         (closing_kept p.now seat me next h.closing idle s acked_stop (λ c ne. put_other (p.now.stop s).standing me (Inside (a + 1) (a + 1)) c ne) refl refl)) in
@@ -217,7 +218,8 @@ module _ (u : Setup) (p : StopState) (at : Word → ℕ) (seat : ℕ → StopRol
     calling_then x = cond (a + 1 == RUN) (put p.calling me (carried me x (p.calling me))) p.calling
 
     -- the function of a CPU that patches nothing, once the phase is acknowledged
-    acked_calling : (b : Bool) → (a + 1 == RUN) ≡ b → seat me ≡ In s job a (a + 1) Rests → job.kind ≢ One → (a ≡ DISABLE_IRQ → HasCalled me job (p.calling me)) →
+    acked_calling : (b : Bool) → (a + 1 == RUN) ≡ b → seat me ≡ In s job a (a + 1) Rests → job.kind ≢ One
+        → (a ≡ DISABLE_IRQ → HasCalled me job (p.calling me)) →
         (c : ℕ) → IsCalling c (put seat me next c) (cond b (put p.calling me (carried me p.now.patching (p.calling me))) p.calling c)
     acked_calling b e is many ready = search (calling_same, calling_acked, eq-eqb, eqb-true, carried_alone, IsNoPatch, calling_ran, calling_next, arith)
 
@@ -257,8 +259,8 @@ module _ (u : Setup) (p : StopState) (at : Word → ℕ) (seat : ℕ → StopRol
       let runner : RunnerShows u.first (Patches me job count made []) seat = subst (λ x. RunnerShows u.first x seat) st.5 h.present.runner in
       let works = h.present.works s open_ (ap (λ (w : Work). w.kind) st.3 ∙ st.4) in
       let shown' = ack_shown job 2 answer Whole seat0 (calls_then job 2 answer) (put p.calling me (Carries (patch_answer job count))) ends.0 (search
-      (put_same, arith)) (h.present.irq me ∙ ap irq_of is) (put_twice seat me (In s job DISABLE_IRQ RUN Rests) next) st.1 open_ (search arith) (λ four. absurd (let
-      z : ⊥ = omega (arith, four) in z)) (search (calling_next, h.callings, arith)) (subst IsNotClosing (sym is) tt) false refl in
+      (put_same, arith)) (h.present.irq me ∙ ap irq_of is) (put_twice seat me (In s job DISABLE_IRQ RUN Rests) next) st.1 open_ (search arith)
+      (λ four. absurd (let z : ⊥ = omega (arith, four) in z)) (search (calling_next, h.callings, arith)) (subst IsNotClosing (sym is) tt) false refl in
       search (st.1, st.5, eq-eqb me me refl, shown', arith)
 
   -- store of the count by the one that emptied it: the weight of the mask
@@ -337,7 +339,8 @@ module _ (u : Setup) (p : StopState) (at : Word → ℕ) (seat : ℕ → StopRol
           callings closing
       go false e st phase looked busy stays own =
           let not_five : a == EXIT ≡ false = ne_eqb a EXIT (λ x. let y : true ≡ false = sym (eq-eqb (a + 1) OVER (omega arith)) ∙ e in cc) in
-          let off : p.now.irq me ≡ nat_lt l DISABLE_IRQ || a == EXIT = h.present.irq me ∙ (ap irq_of is ∙ sym (or_false (nat_lt l DISABLE_IRQ) (a == EXIT) not_five)) in
+          let off : p.now.irq me ≡ nat_lt l DISABLE_IRQ || a == EXIT = h.present.irq me
+          ∙ (ap irq_of is ∙ sym (or_false (nat_lt l DISABLE_IRQ) (a == EXIT) not_five)) in
           open_step u p at seat source h s (raised (p.now.stop s) (a + 1)) p.now.inside p.now.irq p.now.readings p.now.patching (put_word at (Slot s State)
           (a + 1)) (put seat me (In s job a l Rests)) p.looks p.calls p.calling stays refl (λ k. refl) (other_slots at s State (a + 1))
           (own p.now.irq p.now.readings)

@@ -13,6 +13,15 @@ use smp_words::phase::{DISABLE_IRQ, EXIT, RUN};
 use smp_words::seen::Note;
 use smp_words::work::Kind;
 
+/// The load of a site's entry in the patch of a key.
+#[derive(Clone, Copy)]
+struct EntryLoad {
+    key: u16,
+    /// The key's new count.
+    word: u64,
+    site: u32,
+}
+
 impl StopControl {
     /// What follows a step of a turn.
     pub(super) fn advance_round(
@@ -42,7 +51,7 @@ impl StopControl {
             RoundStage::LoadArg { answer, func } => self.arg_on(visit, answer, func, found),
             RoundStage::LoadKey { key, change } => self.key_on(visit, key, change, found),
             RoundStage::LoadEntry { key, word, site } => {
-                self.entry_on(visit, key, word, site, found)
+                self.entry_on(visit, EntryLoad { key, word, site }, found)
             }
             RoundStage::StoreChange { made } => self.stored_on(visit, made),
             RoundStage::Acknowledge { answer, ran } => {
@@ -153,11 +162,12 @@ impl StopControl {
     }
 
     /// An entry was loaded: the change of its site, where that is of the key, and then the next entry or the stores.
-    fn entry_on(&mut self, visit: Visit, key: u16, word: u64, site: u32, found: u64) -> Option<Note>
-        requires { FitsRound self.old visit (RoundStage.LoadEntry key word site) found }
-        ensures note { result ≡ (entry_on self.old visit key word site found).note }
-        ensures control { self.new ≡ (entry_on self.old visit key word site found).control }
+    fn entry_on(&mut self, visit: Visit, load: EntryLoad, found: u64) -> Option<Note>
+        requires { FitsRound self.old visit (RoundStage.LoadEntry load.key load.word load.site) found }
+        ensures note { result ≡ (entry_on self.old visit load.key load.word load.site found).note }
+        ensures control { self.new ≡ (entry_on self.old visit load.key load.word load.site found).control }
     {
+        let EntryLoad { key, word, site } = load;
         if let Some(entry) = Entry::from_word(found)
             && entry.key == u32::from(key)
         {

@@ -79,7 +79,8 @@ three_after : (who : Option ℕ) (actor : ℕ) (raises : Bool) (stop : Stop) (ph
     (phase ≡ RUN) ⊎ (phase ≡ DISABLE_IRQ)
 three_after who actor raises stop phase h1 h2 = search (last_phase, arith)
 
-low_after : (who : Option ℕ) (actor : ℕ) (raises : Bool) (stop : Stop) (phase : ℕ) → stop.phase ≡ phase → (at_last who actor raises stop).phase < RUN → phase < RUN
+low_after : (who : Option ℕ) (actor : ℕ) (raises : Bool) (stop : Stop) (phase : ℕ) → stop.phase ≡ phase → (at_last who actor raises stop).phase < RUN
+    → phase < RUN
 low_after who actor raises stop phase h1 h2 = search (last_phase, arith)
 
 -- A CPU acknowledges a phase: what becomes of the patch of its stop.

@@ -132,7 +132,8 @@ module _ (known : Here) (at' : Word → ℕ) (keys : (key : ℕ) → at' (Key ke
           | inr not_two ↦ by_run in_told kind_told low phase not_two active_told called (((a + 1) == RUN) && has (stop_at s slot).task.active me) refl
         ]
       where
-        acks_two : (cpu_at s me).inside ≡ Some slot → (stop_at s slot).task.kind ≢ One → acked_by (stop_at s slot) me < DISABLE_IRQ → (stop_at s slot).phase ≡ DISABLE_IRQ
+        acks_two : (cpu_at s me).inside ≡ Some slot → (stop_at s slot).task.kind ≢ One → acked_by (stop_at s slot) me < DISABLE_IRQ
+            → (stop_at s slot).phase ≡ DISABLE_IRQ
             → (cpu_at s me).irq ≡ false
             → stop_goes me (stops.Ack 2) s ≡ Ok (with_stop slot s (acknowledged_in me 2 true (stop_at s slot)))
         acks_two in_told kind l two o = acks_disabled s me whole slot (omega (arith, i.below)) in_told kind l two o

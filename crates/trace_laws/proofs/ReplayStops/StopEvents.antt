@@ -97,7 +97,8 @@ module _ (s : StateValue) (me : ℕ) (whole : s.setting.without ≡ nothing_left
     rounds Multi e ne = rw (inside, lt-ltb source 32 below, e) refl
     rounds APatch e ne = rw (inside, lt-ltb source 32 below, e) refl
 
-    pub turns_off : (stop_at s source).task.kind ≢ One → (cpu_at s me).irq ≡ true → acked_by (stop_at s source) me < DISABLE_IRQ → (stop_at s source).phase ≡ DISABLE_IRQ
+    pub turns_off : (stop_at s source).task.kind ≢ One → (cpu_at s me).irq ≡ true → acked_by (stop_at s source) me < DISABLE_IRQ
+        → (stop_at s source).phase ≡ DISABLE_IRQ
         → handles_nothing (cpu_at s me) ≡ Ok tt → off_by me s ≡ Ok (with_irq me false s)
     unfolding off_by
     turns_off kind on low at quiet = rw (rounds (stop_at s source).task.kind refl kind, on, lt-leb 2 (acked_by (stop_at s source) me) low, at, quiet) refl
@@ -154,7 +155,8 @@ module _ (s : StateValue) (me : ℕ) (whole : s.setting.without ≡ nothing_left
           ap (λ (w : Without). w.raises) whole,
         ) refl
 
-    pub acks_disabled : (stop_at s source).task.kind ≢ One → acked_by (stop_at s source) me < DISABLE_IRQ → (stop_at s source).phase ≡ DISABLE_IRQ → (cpu_at s me).irq ≡ false
+    pub acks_disabled : (stop_at s source).task.kind ≢ One → acked_by (stop_at s source) me < DISABLE_IRQ → (stop_at s source).phase ≡ DISABLE_IRQ
+        → (cpu_at s me).irq ≡ false
         → ack_by me 2 s ≡ Ok (with_stop source s (acknowledged me 2 true (stop_at s source)))
     unfolding ack_by
     acks_disabled kind low at off =

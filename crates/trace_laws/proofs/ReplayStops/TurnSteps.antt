@@ -197,14 +197,16 @@ module _ (known : Here) where
   pub loads_func : (x : Visit) (answer : ℕ) → Made (Advance x (round.LoadFunc answer))
   loads_func x answer = loads known (Advance x (round.LoadFunc answer)) (λ k. refl) (λ k. refl)
 
-  idle_here : (slot : ℕ) (w : Work) (x : Visit) → IsCalling me (In slot w DISABLE_IRQ RUN Rests) (p.calling me) → IsQuiet (Some x) (p.calling me) → p.calling me ≡ Idle
+  idle_here : (slot : ℕ) (w : Work) (x : Visit) → IsCalling me (In slot w DISABLE_IRQ RUN Rests) (p.calling me) → IsQuiet (Some x) (p.calling me)
+      → p.calling me ≡ Idle
   idle_here slot w x h1 h2 = search arith
 
   -- the function runs
   abbrev Runs : StopState → ℕ → ℕ → ℕ → Type 0
   Runs q slot func arg = ReachesStops q At (slice_set pasts me Old) s ((me, event.Stop (stops.Run func arg)) ∷ [])
 
-  runs_at : (slot : ℕ) (w : Work) (x : Visit) (answer func : ℕ) → shown.seat me ≡ In slot w DISABLE_IRQ RUN Rests → w.kind ≡ Multi → has w.active me ≡ true → func ≡ w.func
+  runs_at : (slot : ℕ) (w : Work) (x : Visit) (answer func : ℕ) → shown.seat me ≡ In slot w DISABLE_IRQ RUN Rests → w.kind ≡ Multi → has w.active me ≡ true
+      → func ≡ w.func
       → IsQuiet (Some x) (p.calling me)
       → Runs (calls_now p me (p.now.stop slot).work (At (Slot slot field.Arg)) answer) slot func (At (Slot slot field.Arg))
   runs_at slot w x answer func at_seat kind active is quiet_now =
@@ -248,7 +250,8 @@ module _ (known : Here) where
       let quiet_now : IsQuiet (Some x) (p.calling me) = subst (λ (o : Option Visit). IsQuiet o (p.calling me)) visit carries in
       let r = runs_at slot w x answer func run.3 kind active func_is quiet_now in
       let may : may_call me (p.now.stop slot).work ((p.now.stop slot).standing me) ≡ true =
-      ap (λ (z : Standing). may_call me (p.now.stop slot).work z) so.1 ∙ (ap (λ (z : Work). may_call me z (Inside DISABLE_IRQ RUN)) so.3 ∙ may_at w kind active) in
+      ap (λ (z : Standing). may_call me (p.now.stop slot).work z) so.1 ∙ (ap (λ (z : Work). may_call me z (Inside DISABLE_IRQ RUN)) so.3
+      ∙ may_at w kind active) in
       let multi : is_multi x.kind ≡ true = ap is_multi run.0.kind ∙ ap is_multi kind in
       said_by slot (tells U p (seen_so known (Advance x (round.LoadArg answer func))) answer)
       (is_multi x.kind) func

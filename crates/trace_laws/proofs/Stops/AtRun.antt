@@ -199,7 +199,8 @@ held_at u words es s source member run low opened_is round at below in_mask =
     }
 
 at_run : (u : Setting) (words : LabelWords) (es : List (ℕ × Event)) (s : StateValue) (source cpu : ℕ) → IsTrace u words es s → source < 32
-    → (cpu_at s cpu).inside ≡ Some source → is_round (stop_at s source).task.kind ≡ true → (stop_at s source).phase ≡ RUN → acked_by (stop_at s source) cpu < RUN
+    → (cpu_at s cpu).inside ≡ Some source → is_round (stop_at s source).task.kind ≡ true → (stop_at s source).phase ≡ RUN
+    → acked_by (stop_at s source) cpu < RUN
     → has (stop_at s source).task.active cpu ≡ true → IsAtRun u es source cpu (stop_at s source).task
 at_run u words es s source cpu run low is round at early active =
     let r = rounds_of u words es s run in

@@ -263,7 +263,8 @@ ack_by_switches : (seen : ℕ → Seen) (work : ℕ → Option Task) (s t : Stat
     → let m = with_stop source s (acknowledged actor phase (not s.setting.without.raises) (stop_at s source)) in
     (if left_out then switched_at actor source phase m else m) ≡ t → Rounds (put_seen actor (acked_seen phase) seen) work t
 ack_by_switches seen work s t source actor phase true r i at more out shows same =
-    ack_switched seen work s t source actor phase (phase == DISABLE_IRQ) (phase == EXIT) r i at more out refl refl (λ e. (disabled_is true actor s (shows e)).1 refl) same
+    ack_switched seen work s t source actor phase (phase == DISABLE_IRQ) (phase == EXIT) r i at more out refl refl
+    (λ e. (disabled_is true actor s (shows e)).1 refl) same
 ack_by_switches seen work s t source actor phase false r i at more out shows same =
     ack_same seen work s t source actor phase r i at more (λ e. (disabled_is false actor s (shows (eq-eqb phase 2 e))).0 refl) same
 

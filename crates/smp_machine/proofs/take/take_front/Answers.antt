@@ -21,5 +21,6 @@ returns g c =
     let m : MachineValue = record { calls = c.machine.inside.calls; stops = c.machine.inside.stops; queues = c.machine.inside.queues } in
     subst (λ (y : MachineValue). TakesNext y c.args.me.now new c.enter_front.result) c.machine.view_is
     (subst (λ (p : MachineCpuValue). TakesNext m p new c.enter_front.result) c.me.view_is
-    (next_front m c.me.inside.calls c.me.inside.heard.at c.me.inside.stops c.enter_front.new.me c.me.inside.passes c.take.new.me c.in_ok-item.item c.enter_front.result took.0 took.1
+    (next_front m c.me.inside.calls c.me.inside.heard.at c.me.inside.stops c.enter_front.new.me c.me.inside.passes c.take.new.me c.in_ok-item.item
+    c.enter_front.result took.0 took.1
     c.enter_front.ensures.stops))

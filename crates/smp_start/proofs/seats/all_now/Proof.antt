@@ -35,7 +35,8 @@ all_now_spec 𝓤 𝓛 𝓜 𝓡 wired T U Q P _ _ _ _ g d _ =
     let b : ℕ = a.0.ref_ptr.0 in let o : ℕ = a.0.ref_ptr.1 in let κ : Lft = κs.0 in let t : Row.Denot = a.0.now in let w : Ptr = t.words in
     let p : Ptr = t.slots in let z : TableId = t.table_id in let α : Lft = age z in
     let cv : Coded U.Denot = W.coded in let holds = g.holds t.key in let C : Fml = common R cv.code holds w p z in
-    let b' : ℕ = a.1.0.ref_ptr.0 in let o' : ℕ = a.1.0.ref_ptr.1 in let h : Cr.Denot = a.1.0.now in let ms : List (TableId × (ℕ × Me T.Denot U.Denot)) = h.seats in
+    let b' : ℕ = a.1.0.ref_ptr.0 in let o' : ℕ = a.1.0.ref_ptr.1 in let h : Cr.Denot = a.1.0.now in
+    let ms : List (TableId × (ℕ × Me T.Denot U.Denot)) = h.seats in
     let y : (walk_of 𝓛 En hs c).Ghost = ((κs, qs, bounds, a, (vptr b o ∷ [], (vptr b' o' ∷ [], tt))), gh) in
     let Post : Val → SProp 𝓤 = (walk_of 𝓛 En hs c).post y in
     let others : Fml = fsep (flft κs.1.1.0 qs.1.1.0) (fsep (flft κs.1.1.1.0 qs.1.1.1.0)

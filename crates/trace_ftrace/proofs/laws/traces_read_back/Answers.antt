@@ -8,5 +8,6 @@ use Rattle.trace_judge.specs.Runs.{told_by}
 use Rattle.trace_ftrace.proofs.laws.traces_read_back.Goals as goal
 
 pub returns : goal.returns
-unfolding event_on groups_of head_of is_next labels_at members_below named_of needed online_at past reaches_within read_from titled told_by used_after without_at
+unfolding event_on groups_of head_of is_next labels_at members_below named_of needed online_at past reaches_within read_from titled told_by used_after
+    without_at
 returns c = refl

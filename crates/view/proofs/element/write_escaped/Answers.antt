@@ -7,5 +7,6 @@ use Rattle.view.proofs.element.write_escaped.Goals as goal
 
 pub returns : goal.returns
 returns g c =
-    let t = YieldsList-end (YieldsList-from_chars c.args.text.now c.utf8.text cc) c.loop-c.yielded _ c.loop-c.yielded_by _ _ c.in-None.is c.next.ensures.steps in
+    let t = YieldsList-end (YieldsList-from_chars c.args.text.now c.utf8.text cc) c.loop-c.yielded _ c.loop-c.yielded_by _ _ c.in-None.is
+    c.next.ensures.steps in
     c.loop-c.invariant ∙ ap (λ cs. string_bytes c.args.out.now ++ flat_map char_text cs) t.0

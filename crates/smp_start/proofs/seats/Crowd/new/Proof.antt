@@ -1,6 +1,7 @@
 -- A crowd of no seats owns nothing.
 use Rattle.atomic_table.proofs.Names.{◌≡◌, [], ◌∷◌, refl, a_type, dcons, dnil, named, Val, vptr, inst_fn, SProp, ‵, raw, ◌⊛◌, ◌$◌, ◌∵◌, !, qed, by, keep}
-use Rattle.atomic_table.proofs.Names.{split, fjoin, use0, no_more, and_then, returns, enter, alloc_all, pass_all, free_all, look_at, get, sets, agg, tables, yes}
+use Rattle.atomic_table.proofs.Names.{split, fjoin, use0, no_more, and_then, returns, enter, alloc_all, pass_all, free_all, look_at, get, sets, agg}
+use Rattle.atomic_table.proofs.Names.{tables, yes}
 use Rattle.atomic_table.proofs.Names.{RattleType, owns, types_at, plain, nothing, param, bounded, alive, Stays, stay_dropped, walk_of, Goes-dropped, RefOf}
 use Rattle.atomic_table.proofs.Names.{shr_vals, shr_Tells, emp, fact, fact_i}
 use Rattle.atomic_table.proofs.Walks.{proved, leaves}
@@ -23,7 +24,8 @@ new_spec 𝓤 𝓛 𝓜 𝓡 wired T U Q P _ _ _ _ g d _ =
     proved 𝓛 En hs c 𝓜 𝓡 (Goes-dropped 𝓛 5 like yes (λ κs x f. refl), tt) (#self inst) fn (code.unfolded 𝓤 H 𝓜 𝓡 wired (T, (U, (Q, (P, tt)))) d)
     (λ κs. (shr_vals, tt)) (λ κs. (shr_Tells (named 0) κs.0 Row, tt)) (λ κs qs bounds a gh are.
     let at : Val = vptr a.0.ref_ptr.0 a.0.ref_ptr.1 in
-    let r : Cr.Denot = record { marker = record {}; table_id = a.0.now.table_id; seats = [] } in let Told : Type 0 = (r.table_id ≡ r.table_id) × (r.seats ≡ []) in
+    let r : Cr.Denot = record { marker = record {}; table_id = a.0.now.table_id; seats = [] } in
+    let Told : Type 0 = (r.table_id ≡ r.table_id) × (r.seats ≡ []) in
     let y : (walk_of 𝓛 En hs c).Ghost = ((κs, qs, bounds, a, (at ∷ [], tt)), gh) in let Post : Val → SProp 𝓤 = (walk_of 𝓛 En hs c).post y in
     qed 𝓛 ((raw (alive 𝓛 En.signature κs qs) ⊛ ‵ (owns (types_at En.signature.params κs) a y.0.4)) ∷ raw ((c κs a).requires gh) ∷ []) ∵
     split ! $ keep ! (0 ∷ []) $ nothing ! $ use0 𝓛 (‵ ((Bare R W).own_val (tt, tt) (token_val ∷ []))) (bare_made R W 𝓛) $ fjoin ! $

@@ -1,6 +1,7 @@
 -- `take` moves what the seat owns, and makes a seat of no table.
 use Rattle.atomic_table.proofs.Names.{◌≡◌, ℕ, List, [], ◌∷◌, refl, a_type, named, Val, vunit, vptr, inst_fn, SProp, emp, Fml, ftrue, fsep, flft, ‵, raw, ◌⊛◌}
-use Rattle.atomic_table.proofs.Names.{given, later, some, ◌$◌, ◌∵◌, !, qed, by, move, keep, drop, split, split3, join, fsplit, fsplit3, fjoin, fjoin3, learn, pick}
+use Rattle.atomic_table.proofs.Names.{given, later, some, ◌$◌, ◌∵◌, !, qed, by, move, keep, drop, split, split3, join, fsplit, fsplit3, fjoin, fjoin3}
+use Rattle.atomic_table.proofs.Names.{learn, pick}
 use Rattle.atomic_table.proofs.Names.{use0, await, rewrite, feq_i, of_opd, unit_lit, returns, enter, alloc_all, pass_all, free_all, look_at, sets, tables}
 use Rattle.atomic_table.proofs.Names.{RattleType, owns, types_at, plain, nothing, param, layouts, Stays, walk_of, fact, fact_i, Coded, mut_vals, mut_Tells}
 use Rattle.atomic_table.proofs.Names.{opens, closes, stay_ref, Goes-ref}

@@ -4,5 +4,16 @@ use Rattle.smp_machine.proofs.threads.fn.run_scope.scope+FnOnce.call_once.Goals 
 
 pub scope-requires : goal.scope-requires
 scope-requires g c =
-    let b = c.requires in
-    (search (sendable, b) depth 30, (search (sendable, b) depth 30, (search (sendable, b) depth 30, (search (sendable, b) depth 30, (search (sendable, b) depth 30, (search (sendable, b) depth 30, search (sendable, b) depth 30))))))
+    let b = c.requires in (
+      search (sendable, b) depth 30,
+      (
+        search (sendable, b) depth 30,
+        (
+          search (sendable, b) depth 30,
+          (
+            search (sendable, b) depth 30,
+            (search (sendable, b) depth 30, (search (sendable, b) depth 30, search (sendable, b) depth 30)),
+          ),
+        ),
+      ),
+    )
