@@ -5,12 +5,12 @@ use Rattle.smp_stop_steps.specs.AnswerWords.{IsI32Word}
 use Rattle.smp_stop_steps.specs.Known.{carrying, stepped}
 use Rattle.smp_stop_steps.specs.KnownAfter.{completed_by, completed_with, is_drafting, known_told, slot_stored, drafted_known, given_by, member_stored}
 use Rattle.smp_stop_steps.specs.Moves.{Give, Count, CountGiven, Close}
-use Rattle.smp_multi.specs.Names.{Work, One, Slot, Store, Sub, Free, In, Gives, Closes, Rests, StopRole, KnownStops, Idle}
+use Rattle.smp_multi.specs.Names.{Work, One, Slot, Store, Free, In, Gives, Closes, Rests, StopRole, KnownStops, Idle}
 use Rattle.smp_multi.specs.Names.act
 use Rattle.smp_multi.specs.Names.field
 use Rattle.smp_multi.specs.Completes.{AtEnd, AtGiven, AtClose, given, left}
 use Rattle.smp_multi.specs.Places.{work_in}
-use Rattle.smp_multi.specs.Seat.{SeatValue, Able, Ready}
+use Rattle.smp_multi.specs.Seat.{SeatValue, Able, EndsWith, Ready}
 use Rattle.smp_multi.proofs.Cells.{slot_cell}
 use Rattle.smp_multi.proofs.Counting.{no_steps}
 
@@ -50,25 +50,31 @@ module _ (t : TableId) (d : SeatValue) (slot acked : ℕ) where
     calls = λ one none. calls one (sym (ap (λ (z : KnownStops). z.part.calling) same) ∙ none);
   }
 
-  pub able_count : (x : ℕ) (w : Work) → AtGiven t d slot acked x w → Able t d (Sub (Slot slot field.Todo))
+  pub able_count : (x : ℕ) (w : Work) → AtGiven t d slot acked x w → EndsWith t d (Slot slot field.Todo) 0
   able_count x w a = go (x == 0) a.seat_is
     where
-      go : (b : Bool) → d.known.seat ≡ cond b (In slot w acked acked Rests) (Gives slot w acked x) → Able t d (Sub (Slot slot field.Todo))
+      go : (b : Bool) → d.known.seat ≡ cond b (In slot w acked acked Rests) (Gives slot w acked x) → EndsWith t d (Slot slot field.Todo) 0
       go true is =
           record {
-            table_is = a.table_is;
-            sized = a.sized;
-            can = record { move = Count slot w acked acked; may = (is, a.through, a.low, a.calls); is_access = refl };
-            cell = slot_cell slot field.Todo a.low;
-            fits = tt;
+            able = record {
+              table_is = a.table_is;
+              sized = a.sized;
+              can = record { move = Count slot w acked acked; may = (is, a.through, a.low, a.calls); is_access = refl };
+              cell = slot_cell slot field.Todo a.low;
+              fits = tt;
+            };
+            ends = refl;
           }
       go false is =
           record {
-            table_is = a.table_is;
-            sized = a.sized;
-            can = record { move = CountGiven slot w acked x; may = (is, a.low); is_access = refl };
-            cell = slot_cell slot field.Todo a.low;
-            fits = tt;
+            able = record {
+              table_is = a.table_is;
+              sized = a.sized;
+              can = record { move = CountGiven slot w acked x; may = (is, a.low); is_access = refl };
+              cell = slot_cell slot field.Todo a.low;
+              fits = tt;
+            };
+            ends = refl;
           }
 
   pub known_count : (x found : ℕ) (w : Work) → AtGiven t d slot acked x w

@@ -29,7 +29,7 @@ use Rattle.smp_multi.specs.Cells.{cells, cell_of, number_in}
 use Rattle.smp_multi.specs.Rule.{Ruled, SeatKnows, known, after, seat_made}
 use Rattle.smp_multi.specs.Plays.{AfterLoad, AfterStore, AfterExchange, AfterSubtract, AfterAnswer, AfterMask}
 use Rattle.smp_multi.specs.Plays.{loaded, stored, exchanged, subtracted, answered, masked}
-use Rattle.smp_multi.specs.Seat.{FitsWord, IsCpuSeat, IsNoResult}
+use Rattle.smp_multi.specs.Seat.{Ends, FitsWord, IsCpuSeat, IsNoResult}
 use Rattle.smp_multi.proofs.Carrying.{can_with, sees_with}
 use Rattle.smp_multi.proofs.Cells.{one_cell, number_here, stored_here}
 
@@ -403,9 +403,9 @@ module _ {S : Type 0} (k : StopSetting) where
         ))
 
     -- the same, where the CPU takes this answer with the step
-    pub answered_allowed : (x : ℕ) (w : Word) (i : ℕ) → cell_of w ≡ Some i → Can (known me.0) (Sub w) → IsNoResult w
+    pub answered_allowed : (x : ℕ) (w : Word) (i : ℕ) → cell_of w ≡ Some i → ((c : Can (known me.0) (Sub w)) × Ends (known me.0) x c.move) → IsNoResult w
         → Allows (Ruled k) slots id me i (λ n. (n + (2 ^ 64 - 1)) % 2 ^ 64) (answered x (step slots i 1 0 none) me)
-    answered_allowed x w i e can none_of = steps i (λ n. (n + (2 ^ 64 - 1)) % 2 ^ 64) (AfterAnswer x (step slots i 1 0 none) me)
+    answered_allowed x w i e ends none_of = steps i (λ n. (n + (2 ^ 64 - 1)) % 2 ^ 64) (AfterAnswer x (step slots i 1 0 none) me)
         (λ p seat source words shown wide sees within.
         let n = get_or words i 0 in
         let here : number_in words w ≡ n = number_here words w i e in
@@ -413,10 +413,13 @@ module _ {S : Type 0} (k : StopSetting) where
           told n,
           subst (λ (at : Word → ℕ). GoesOn v.setting p seat source v.number at (told n)) (sym (stored_here words w i (one_less n) wide e))
               (subst (λ m. GoesOn v.setting p seat source v.number (put_word (number_in words) w (one_less m)) (told m)) here
-              (sub_step p (number_in words) seat source (carrying x v) shown (sees_with x v p seat source sees) w (can_with x v (Sub w) can))),
+              (sub_step p (number_in words) seat source (carrying x v) shown (sees_with x v p seat source sees) w (can_with x v (Sub w) ends.0))),
           subst AreI32Words (sym (stored_here words w i (one_less n) wide e))
               (put_fits (number_in words) w (one_less n) within.results (no_result w (one_less n) none_of)),
-          λ u f. ap (λ (y : Word). Cpu (known_told (carrying x v) act.Sub y (Some n) (Some (one_less n)))) (one_cell w u i e f),
+          λ u f. (
+            subst (λ (y : Word). (c : Can v (Sub y)) × Ends v x c.move) (one_cell w u i e f) ends,
+            ap (λ (y : Word). Cpu (known_told (carrying x v) act.Sub y (Some n) (Some (one_less n)))) (one_cell w u i e f),
+          ),
         ))
 
     pub and_allowed : (w : Word) (i x : ℕ) → cell_of w ≡ Some i → Can (known me.0) (And w x) → IsNoResult w
@@ -450,6 +453,9 @@ module _ {S : Type 0} (k : StopSetting) where
 
 pub can_same : (v u : KnownStops) (access : Access) → v ≡ u → Can u access → Can v access
 can_same v u access e can = subst (λ (x : KnownStops). Can x access) (sym e) can
+
+pub ends_same : (v u : KnownStops) (x : ℕ) (w : Word) → v ≡ u → ((c : Can u (Sub w)) × Ends u x c.move) → (c : Can v (Sub w)) × Ends v x c.move
+ends_same v u x w e t = subst (λ (y : KnownStops). (c : Can y (Sub w)) × Ends y x c.move) (sym e) t
 
 -- the seat of an online CPU after a step
 pub seat_on : (s : StopSeatView) (w : KnownStops) (carried : ℕ) → s ≡ Cpu w → Lives (known s) → IsI32Word carried → w.carried ≡ carried → IsCpuSeat s carried

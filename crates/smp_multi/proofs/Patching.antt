@@ -34,7 +34,7 @@ use Rattle.smp_words.specs.declared.phase.TheConstants.{DISABLE_IRQ, RUN, EXIT}
 use Rattle.smp_stop_steps.specs.declared.stage.Visit.{Visit}
 use Rattle.smp_stop_steps.proofs.Promises.Functions.{runs_alone}
 use Rattle.smp_stop_steps.proofs.State.Phases.{is_open_inside}
-use Rattle.smp_multi.specs.Names.{Work, Kind, Patch, Slot, Key, Entry, Field, Load, Store, Sub, StopRole, Duty, Rests, Fills, KnownStops}
+use Rattle.smp_multi.specs.Names.{Work, Kind, Patch, Slot, Key, Entry, Field, Load, Store, StopRole, Duty, Rests, Fills, KnownStops}
 use Rattle.smp_multi.specs.Names.{Free, In, Gives, Alters, Closes}
 use Rattle.smp_multi.specs.Names.{Moved, Calls, Carries}
 use Rattle.smp_multi.specs.Names.act
@@ -43,7 +43,7 @@ use Rattle.smp_multi.specs.Cells.{cells, HasCell}
 use Rattle.smp_multi.specs.Patches.{AtPatch, IsInPatch, begins_with, count_in, entries_in, made_in, moved_with, rest_in, stored_all, stored_to}
 use Rattle.smp_multi.specs.Places.{work_in}
 use Rattle.smp_multi.specs.Rounds.{AloneWhile, AtRun, AtTurn}
-use Rattle.smp_multi.specs.Seat.{SeatValue, Able, Ready, FitsWord}
+use Rattle.smp_multi.specs.Seat.{SeatValue, Able, EndsWith, Ready, FitsWord}
 use Rattle.smp_multi.specs.StepCounts.{patching}
 use Rattle.smp_multi.specs.Turns.{HasRunFunction, patched_by, patched_with}
 use Rattle.smp_multi.specs.declared.func.Called.{Called}
@@ -365,17 +365,21 @@ patch_answer_fits w count = go (count_after (change_of w.arg) count)
     go None = omega arith
     go (Some n) = omega arith
 
-pub able_acknowledge_patch : (t : TableId) (d : SeatValue) (v : Visit) → AtPatch t d v → rest_in d.known.seat ≡ [] → Able t d (Sub (Slot v.slot field.Ack))
-able_acknowledge_patch t d v a none =
+pub able_acknowledge_patch : (t : TableId) (d : SeatValue) (v : Visit) (answer : ℕ) → AtPatch t d v → rest_in d.known.seat ≡ []
+    → answer ≡ patch_answer (work_in d.known.seat) (count_in d.known.seat) → EndsWith t d (Slot v.slot field.Ack) answer
+able_acknowledge_patch t d v answer a none is =
     let w = work_in d.known.seat in
     let count = count_in d.known.seat in
     let made = made_in d.known.seat in
     record {
-      table_is = a.table_is;
-      sized = a.sized;
-      can = record { move = AcknowledgePatch v.slot w count made; may = a.seat_is ∙ ap (Alters v.slot w count made) none; is_access = refl };
-      cell = slot_cell v.slot field.Ack a.low;
-      fits = tt;
+      able = record {
+        table_is = a.table_is;
+        sized = a.sized;
+        can = record { move = AcknowledgePatch v.slot w count made; may = a.seat_is ∙ ap (Alters v.slot w count made) none; is_access = refl };
+        cell = slot_cell v.slot field.Ack a.low;
+        fits = tt;
+      };
+      ends = is;
     }
 
 -- where the CPU is once it has acknowledged RUN

@@ -32,7 +32,7 @@ use Rattle.smp_multi.specs.Laws.{IsAtRun}
 use Rattle.smp_multi.specs.Places.{work_in}
 use Rattle.smp_multi.specs.Rounds.{AtTurn, AtRun, AloneWhile, passed_by}
 use Rattle.smp_multi.specs.Running.{calls_now}
-use Rattle.smp_multi.specs.Seat.{SeatValue, Able, Ready}
+use Rattle.smp_multi.specs.Seat.{SeatValue, EndsWith, Ready}
 use Rattle.smp_multi.proofs.Cells.{slot_cell}
 use Rattle.smp_multi.proofs.Counting.{raised_on, with_steps}
 
@@ -211,20 +211,23 @@ module _ (t : TableId) (d : SeatValue) (v : Visit) where
   }
 
   -- the acknowledgement of who has run its function
-  pub able_run : (k : Kind) → AtRun t d v k → d.known.part.calling ≢ Idle → Able t d (Sub (Slot v.slot field.Ack))
-  able_run k a some = record {
-    table_is = a.at.table_is;
-    sized = a.at.sized;
-    can = record {
-      move = Acknowledge v.slot work DISABLE_IRQ;
-      may = (
-        a.at.seat_is ∙ ap (λ n. In v.slot work n RUN Rests) a.disabled,
-        λ two. called_some d.known.number work d.known.part.calling some,
-      );
-      is_access = refl;
+  pub able_run : (k : Kind) (answer : ℕ) → AtRun t d v k → d.known.part.calling ≢ Idle → EndsWith t d (Slot v.slot field.Ack) answer
+  able_run k answer a some = record {
+    able = record {
+      table_is = a.at.table_is;
+      sized = a.at.sized;
+      can = record {
+        move = Acknowledge v.slot work DISABLE_IRQ;
+        may = (
+          a.at.seat_is ∙ ap (λ n. In v.slot work n RUN Rests) a.disabled,
+          λ two. called_some d.known.number work d.known.part.calling some,
+        );
+        is_access = refl;
+      };
+      cell = slot_cell v.slot field.Ack a.at.low;
+      fits = tt;
     };
-    cell = slot_cell v.slot field.Ack a.at.low;
-    fits = tt;
+    ends = (refl, subst (λ (m : ℕ). has m d.known.number ≡ true) a.at.loaded.active a.active);
   }
 
 -- where the CPU is after each access

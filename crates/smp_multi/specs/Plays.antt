@@ -6,11 +6,12 @@ use Rattle.smp_words.specs.Access.{one_less}
 use Rattle.smp_multi.specs.Lives.{StopMoment, Lives}
 use Rattle.smp_stop_steps.specs.Known.{carrying}
 use Rattle.smp_stop_steps.specs.KnownAfter.{known_told, known_entering}
-use Rattle.smp_stop_steps.specs.Moves.{entering}
-use Rattle.smp_multi.specs.Names.{Word, StopSeatView, Cpu}
+use Rattle.smp_stop_steps.specs.Moves.{Can, entering}
+use Rattle.smp_multi.specs.Names.{Word, Sub, StopSeatView, Cpu}
 use Rattle.smp_multi.specs.Names.act
 use Rattle.smp_multi.specs.Cells.{cell_of}
 use Rattle.smp_multi.specs.Rule.{known}
+use Rattle.smp_multi.specs.Seat.{Ends}
 
 module _ {S : Type 0} where
   abbrev pub AfterLoad : Step S → Me S StopSeatView → ℕ → Me S StopSeatView → Type 0
@@ -27,10 +28,10 @@ module _ {S : Type 0} where
   AfterSubtract st m n m' = let v = known m.0 in (w : Word) → cell_of w ≡ Some st.word
       → StopMoment v w n × (m'.0 ≡ Cpu (known_told v act.Sub w (Some n) (Some (one_less n))))
 
-  -- from this step on the CPU carries the answer
+  -- by a step with which a function, a patch or a stop ends, and from which on the CPU carries the answer
   abbrev pub AfterAnswer : ℕ → Step S → Me S StopSeatView → ℕ → Me S StopSeatView → Type 0
   AfterAnswer answer st m n m' = let v = known m.0 in (w : Word) → cell_of w ≡ Some st.word
-      → m'.0 ≡ Cpu (known_told (carrying answer v) act.Sub w (Some n) (Some (one_less n)))
+      → ((c : Can v (Sub w)) × Ends v answer c.move) × (m'.0 ≡ Cpu (known_told (carrying answer v) act.Sub w (Some n) (Some (one_less n))))
 
   -- the work of the stop that is entered is that of the stops at that moment
   abbrev pub AfterMask : Step S → Me S StopSeatView → ℕ → Me S StopSeatView → Type 0
@@ -54,3 +55,7 @@ module _ {S : Type 0} where
 
   abbrev pub masked : Step S → Me S StopSeatView → ℕ → Me S StopSeatView → Type 0
   masked st m n m' = Lives (known m'.0) × AfterMask st m n m'
+
+  -- a kind of step that no CPU makes
+  abbrev pub not_made : Step S → Me S StopSeatView → ℕ → Me S StopSeatView → Type 0
+  not_made st m n m' = ⊥

@@ -5,6 +5,7 @@ use Rattle.smp_mask.specs.Mask.{has}
 use Rattle.smp_words.specs.Access.{word_of}
 use Rattle.smp_stop_steps.specs.AnswerWords.{IsI32Word}
 use Rattle.smp_stop_steps.specs.Known.{fresh}
+use Rattle.smp_stop_steps.specs.Labels.{patch_answer}
 use Rattle.smp_stop_steps.specs.Moves.{Can, Move, Acknowledge, AcknowledgePatch, Alter, Give, Count, CountGiven}
 use Rattle.smp_words.specs.declared.phase.TheConstants.{DISABLE_IRQ}
 use Rattle.smp_multi.specs.Names.{Access, Load, Store, Exchange, Sub, And, KnownStops, StopSeatView, StopSetting, Cpu, Word, Slot}
@@ -70,3 +71,17 @@ pub record Able (table : TableId) (seat : SeatValue) (access : Access) : Type 0 
 pub record Ready (table : TableId) (seat : SeatValue) (access : Access) : Type 0 where
   pub able : Able table seat access
   pub apart : IsApartFromRuns seat.known able.can.move
+
+-- a step from which on its CPU carries this answer: by it an active CPU has called its function at RUN, has made the patch, or
+-- completes the stop and carries none
+abbrev pub Ends : KnownStops → ℕ → Move → Type 0
+Ends v x (Acknowledge s w a) = (a ≡ DISABLE_IRQ) × (has w.active v.number ≡ true)
+Ends v x (AcknowledgePatch s w count made) = x ≡ patch_answer w count
+Ends v x (Count s w a l) = x ≡ 0
+Ends v x (CountGiven s w a y) = x ≡ 0
+Ends v x _ = ⊥
+
+-- a CPU may take 1 from this word at this table by such a step
+pub record EndsWith (table : TableId) (seat : SeatValue) (word : Word) (answer : ℕ) : Type 0 where
+  pub able : Able table seat (Sub word)
+  pub ends : Ends seat.known answer able.can.move

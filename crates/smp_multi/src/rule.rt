@@ -1,7 +1,8 @@
 //! The rule of the table: between any two steps its words show the stops that the CPUs know.
 
 use crate::seat_view::StopSeatView;
-use atomic_table::{Seat, Split, TableRule};
+use atomic_table::{Split, TableRule};
+use smp_start::{Tells, ToldSeat};
 use smp_stop_steps::known::StopSetting;
 
 /// The rule of the table. Its key is what the table is made with.
@@ -16,10 +17,27 @@ impl TableRule<(), StopSeatView, StopSetting> for StopRule {
     ghost first = { λ k. Maker 0 k };
 }
 
-/// The first seat makes a seat for the next CPU.
-pub struct NextStopSeat;
+/// What each kind of step tells its CPU. No step of stops swaps a word.
+impl Tells<StopSeatView> for StopRule {
+    ghost use Rattle.smp_multi.specs.Plays.{loaded, stored, exchanged, not_made, subtracted, answered, masked};
 
-impl Split<StopSeatView> for NextStopSeat {
+    ghost loaded = { loaded };
+
+    ghost stored = { stored };
+
+    ghost exchanged = { exchanged };
+
+    ghost swapped = { not_made };
+
+    ghost subtracted = { subtracted };
+
+    ghost answered = { answered };
+
+    ghost masked = { masked };
+}
+
+/// The first seat makes a seat for the next CPU.
+impl Split<StopSeatView> for StopRule {
     ghost use Rattle.smp_multi.specs.Rule.{after, seat_made};
 
     ghost left = { after };
@@ -28,4 +46,4 @@ impl Split<StopSeatView> for NextStopSeat {
 }
 
 /// A seat at the table.
-pub type RawStopSeat = Seat<(), StopSeatView>;
+pub type RawStopSeat = ToldSeat<StopSeatView>;

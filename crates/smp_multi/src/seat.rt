@@ -3,7 +3,6 @@
 
 pub(crate) mod access;
 pub(crate) mod patch_steps;
-mod plays;
 pub(crate) mod run_steps;
 
 pub(crate) use access::crowd::{StopSeatCrowd, all_together, gather, give, take};

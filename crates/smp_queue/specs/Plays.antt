@@ -30,15 +30,16 @@ module _ {S : Type 0} where
   abbrev pub loaded : Step S → Me S CallSeatView → ℕ → Me S CallSeatView → Type 0
   loaded st m n m' = SeatInvariant (known m'.0) × AfterLoad st m n m'
 
+  -- what is stored is in the words right after it
   abbrev pub stored : Step S → Me S CallSeatView → ℕ → Me S CallSeatView → Type 0
-  stored st m n m' = SeatInvariant (known m'.0) × AfterStore st m n m'
-
-  -- a store that begins, counts or ends a call: what is stored is in the words right after it
-  abbrev pub call_stored : Step S → Me S CallSeatView → ℕ → Me S CallSeatView → Type 0
-  call_stored st m n m' = stored st m n m' × SitsWith (known m'.0) st.word st.first
+  stored st m n m' = (SeatInvariant (known m'.0) × AfterStore st m n m') × SitsWith (known m'.0) st.word st.first
 
   abbrev pub exchanged : Step S → Me S CallSeatView → ℕ → Me S CallSeatView → Type 0
   exchanged st m n m' = SeatInvariant (known m'.0) × AfterExchange st m n m'
 
   abbrev pub swapped : Step S → Me S CallSeatView → ℕ → Me S CallSeatView → Type 0
   swapped st m n m' = SeatInvariant (known m'.0) × AfterSwap st m n m'
+
+  -- a kind of step that no CPU makes
+  abbrev pub not_made : Step S → Me S CallSeatView → ℕ → Me S CallSeatView → Type 0
+  not_made st m n m' = ⊥

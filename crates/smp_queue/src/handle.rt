@@ -219,6 +219,7 @@ fn run_batch<H: Handler>(
 }
 
 /// Takes the interrupt and, where there was one, the queue, and runs that.
+#[inline(always)]
 pub(crate) fn handle<H: Handler>(
     context: HandleContext,
     seat: &mut CallSeat,

@@ -56,11 +56,6 @@ impl Line {
         }
     }
 
-    /// Whether another CPU is marked.
-    pub(crate) fn has_others(&self, cpu: u32) -> bool {
-        self.places.load(Ordering::SeqCst) & 0xffff_ffff & !mark_of(cpu) != 0
-    }
-
     /// Whether it is the turn of another CPU.
     pub(crate) fn is_turn_of_another(&self, cpu: u32) -> bool {
         self.places.load(Ordering::SeqCst) >> NR_CPUS & !mark_of(cpu) != 0

@@ -10,9 +10,9 @@ use std::sync::Wait;
 pub struct LineWait<'t> {
     alarms: &'t Alarms,
     cpu: u32,
-    /// After how many looks in vain the CPU sleeps; it never does where this is none.
+    /// After how many looks in vain, one after another, the CPU sleeps; it never does where this is none.
     sleep_after: Option<u32>,
-    /// How many looks were in vain.
+    /// How many looks were in vain since it last found something.
     looks: u32,
     backoff: Backoff,
     alarm: Option<Alarm<'t>>,
@@ -38,10 +38,10 @@ impl<'t> LineWait<'t> {
         self.sleep_after.is_none() || !self.alarms.line().is_turn_of_another(self.cpu)
     }
 
-    /// Whether the CPU sleeps where it finds nothing: at once where another one waits asleep, else after a number of looks.
+    /// Whether the CPU sleeps where it finds nothing.
     fn may_sleep(&self) -> bool {
         match self.sleep_after {
-            Some(looks) => looks <= self.looks || self.alarms.line().has_others(self.cpu),
+            Some(looks) => looks <= self.looks,
             None => false,
         }
     }
@@ -55,14 +55,17 @@ impl<'t> LineWait<'t> {
     }
 
     /// Call it after that look, with whether it has found anything. The CPU is in line where it has found nothing and its alarm is
-    /// set. Then it tries to take the lock once more, if it may, before it sleeps. It makes no step, and does not wait.
+    /// set. Then it tries to take the lock once more, if it may, before it sleeps. Where it has found something, it counts its
+    /// looks anew, since more is likely to come. It makes no step, and does not wait.
     pub fn lines_up(&mut self, found: bool) -> bool {
-        let Some(alarm) = self.alarm.take() else {
-            return false;
-        };
+        let alarm = self.alarm.take();
         if found {
+            self.looks = 0;
             return false;
         }
+        let Some(alarm) = alarm else {
+            return false;
+        };
         self.place = Some(self.alarms.line().mark(self.cpu, alarm));
         true
     }

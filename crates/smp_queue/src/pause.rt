@@ -11,9 +11,9 @@ pub struct Pause<'t> {
     cpu: u32,
     /// Whether the CPU is woken by its number alone. Else it is woken with all that wait, too.
     is_alone: bool,
-    /// After how many looks in vain the CPU sleeps; it never does where this is none.
+    /// After how many looks in vain, one after another, the CPU sleeps; it never does where this is none.
     sleep_after: Option<u32>,
-    /// How many looks were in vain.
+    /// How many looks were in vain since it last found something.
     looks: u32,
     backoff: Backoff,
     alarm: Option<WaitAlarm<'t>>,
@@ -63,7 +63,11 @@ impl<'t> Pause<'t> {
     /// processor to others.
     #[inline(always)]
     pub fn after_look<R: Wait>(&mut self, rt: &R, found: bool) {
-        self.looks = self.looks.saturating_add(1);
+        self.looks = if found {
+            0
+        } else {
+            self.looks.saturating_add(1)
+        };
         match self.alarm.take() {
             Some(alarm) => {
                 if !found {

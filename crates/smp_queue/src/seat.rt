@@ -3,7 +3,6 @@
 
 pub(crate) mod access;
 pub mod call_steps;
-mod plays;
 
 pub(crate) use access::crowd::{CallSeatCrowd, all_together, gather, give, take};
 pub(crate) use access::{

@@ -4,3 +4,4 @@ pub mod Seats
 pub mod Sign
 -- seats that are looked at together
 pub mod Crowd
+pub mod Told

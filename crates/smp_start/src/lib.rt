@@ -5,17 +5,20 @@
 //! no other makes a call any more.
 //!
 //! - `sign`: What the line shows to those that wait at it.
-//! - `seats`: Seats of a table at one moment, with no step: what they tell, and what one comes to know.
+//! - `seats`: Seats of the kit's table at one moment, with no step: what they tell, and what one comes to know.
+//! - `told`: A table whose rule also says what each kind of step tells.
 #![tactic(auto)]
 
 mod seats;
 mod sign;
+mod told;
 
 use crate::sign::Sign;
 use crossbeam_utils::Backoff;
-pub use seats::{Crowd, Retold, all_now, both_now, retell};
+pub use seats::Retold;
 use std::sync::Wait;
 use std::sync::atomic::{AtomicU64, Ordering};
+pub use told::{Answer, Tells, ToldCrowd, ToldSeat, ToldTable, ToldWords};
 
 /// A start line, and how many threads are done.
 #[derive(Drop)]

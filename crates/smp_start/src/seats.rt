@@ -15,7 +15,7 @@ use std::marker::{Model, PhantomData};
 /// Seats of one table that are out of their places, the one that came last first. It has no bytes. In the place of each a seat
 /// stands that is of no table, under a name that no table has.
 #[derive(Drop)]
-pub struct Crowd<S, V> {
+pub(crate) struct Crowd<S, V> {
     marker: PhantomData<(S, V)>,
     pub ghost table_id: { TableId } by { table_id_coded },
     pub ghost seats: { List (TableId × (ℕ × Me S V)) } by { coded_list (coded× table_id_coded (coded× coded_ℕ (coded× V.code (coded_list (coded× coded_ℕ S.code))))) },
@@ -27,7 +27,7 @@ impl<S, V> Model for Crowd<S, V> {
 
 impl<S, V> Crowd<S, V> {
     /// No seats of this table.
-    pub fn new<K, P: TableRule<S, V, K>>(table: &Shared<S, V, K, P>) -> Crowd<S, V>
+    pub(crate) fn new<K, P: TableRule<S, V, K>>(table: &Shared<S, V, K, P>) -> Crowd<S, V>
         ensures { (result.table_id ≡ table.now.table_id) × (result.seats ≡ []) }
     {
         Crowd {
@@ -36,14 +36,14 @@ impl<S, V> Crowd<S, V> {
     }
 
     /// Takes a seat out of its place, and leaves one there that knows the same and is of no table. It makes no step.
-    pub fn take(&mut self, seat: &mut Seat<S, V>)
+    pub(crate) fn take(&mut self, seat: &mut Seat<S, V>)
         requires { seat.old.table_id ≡ self.old.table_id }
         ensures { (self.new.table_id ≡ self.old.table_id) × (seat.new.me.0 ≡ seat.old.me.0)
             × (self.new.seats ≡ (seat.new.table_id, (seat.old.id, seat.old.me)) ∷ self.old.seats) }
     {}
 
     /// Puts the seat that came last back into its place. It makes no step.
-    pub fn give(&mut self, seat: &mut Seat<S, V>)
+    pub(crate) fn give(&mut self, seat: &mut Seat<S, V>)
         requires { StandsFirst seat.old.table_id self.old.seats }
         ensures { (self.new.table_id ≡ self.old.table_id) × (seat.new.table_id ≡ self.old.table_id) × (seat.new.me.0 ≡ seat.old.me.0)
             × (self.old.seats ≡ (seat.old.table_id, (seat.new.id, seat.new.me)) ∷ self.new.seats) }
@@ -52,13 +52,16 @@ impl<S, V> Crowd<S, V> {
 
 /// Whatever other threads do, there is a state of the table that keeps the rule and in which all seats of the crowd have the views
 /// that they have now. It makes no step.
-pub fn all_now<S, V, K, P: TableRule<S, V, K>>(table: &Shared<S, V, K, P>, crowd: &mut Crowd<S, V>)
+pub(crate) fn all_now<S, V, K, P: TableRule<S, V, K>>(
+    table: &Shared<S, V, K, P>,
+    crowd: &mut Crowd<S, V>,
+)
     requires { crowd.old.table_id ≡ table.now.table_id }
     ensures { (crowd.new ≡ crowd.old) × ((s : State S V) × P.holds table.now.key s × IsMoment s crowd.old.seats) }
 {}
 
 /// Two seats of one table at one moment, as [`all_now`] has a crowd. It makes no step.
-pub fn both_now<S, V, K, P: TableRule<S, V, K>>(
+pub(crate) fn both_now<S, V, K, P: TableRule<S, V, K>>(
     table: &Shared<S, V, K, P>,
     one: &mut Seat<S, V>,
     other: &mut Seat<S, V>,
@@ -83,7 +86,7 @@ pub trait Retold<V> {
 
 /// A seat comes to know something else, with no step: what the rule of its table says of that. Whatever state of the table keeps
 /// the rule, it has to keep it with the new view as well.
-pub fn retell<S, V, K, P: TableRule<S, V, K> + Retold<V>>(
+pub(crate) fn retell<S, V, K, P: TableRule<S, V, K> + Retold<V>>(
     table: &Shared<S, V, K, P>,
     seat: &mut Seat<S, V>,
 )

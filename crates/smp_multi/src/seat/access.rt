@@ -1,5 +1,5 @@
-//! The words of a table, the seat of a CPU, and the steps that it makes. This page alone reaches the kit's table, which can do
-//! more: each function below makes one step of a word, by a play of `plays`, or none. No other page names a raw seat or a cell
+//! The words of a table, the seat of a CPU, and the steps that it makes. Each function below makes one step of a word, or none.
+//! What a step tells is said by the rule of the table alone ([`Tells`](smp_start::Tells)). No other page names a raw seat or a cell
 //! but [`crowd`], which makes no step, and none can.
 //!
 //! Steps that store an answer or a label are made by `store_any`. Steps that end a stop function, a patch or a stop are made
@@ -20,46 +20,25 @@ ghost use Rattle.smp_stop_steps.specs.Moves.{entering};
 ghost use Rattle.smp_multi.specs.declared.seat_view.StopSeatView.TheVariants.{Maker};
 ghost use Rattle.smp_multi.specs.Cells.{cells};
 ghost use Rattle.smp_stop_steps.specs.AnswerWords.{IsI32Word};
-ghost use Rattle.smp_multi.specs.Seat.{SeatValue, Able, Ready, fresh_seat};
+ghost use Rattle.smp_multi.specs.Seat.{SeatValue, Able, EndsWith, Ready, fresh_seat};
 ghost use Rattle.smp_multi.specs.Together.{KnowTogether};
 
 pub(crate) mod crowd;
 
-use super::plays::{Answer, Answered, Exchanged, Loaded, Masked, Stored, Subtracted};
 use crate::cell::{FIRST_ENTRY, cell};
-use crate::rule::{NextStopSeat, RawStopSeat, StopRule};
+use crate::rule::{RawStopSeat, StopRule};
 use crate::seat_view::StopSeatView;
-use atomic_table::{Shared, Table};
-use smp_start::both_now;
+use smp_start::{Answer, ToldTable, ToldWords};
 use smp_stop_steps::known::StopSetting;
 use smp_words::word::Word;
 use std::alloc::{AllocError, Allocator};
 use std::marker::Model;
 
 /// The words, as all threads share them.
-#[derive(Clone, Copy)]
-pub struct SharedStopWords<'a> {
-    shared: &'a Shared<(), StopSeatView, StopSetting, StopRule>,
-}
+pub type SharedStopWords<'a> = ToldWords<'a, StopSeatView, StopSetting, StopRule>;
 
 /// The words with their memory.
-#[derive(Drop)]
-pub struct OwnedStopWords<A: Allocator> {
-    table: Table<(), StopSeatView, StopSetting, StopRule, A>,
-}
-
-impl<A: Allocator> OwnedStopWords<A> {
-    /// The words, to be accessed by seats.
-    #[inline(always)]
-    pub(crate) fn words(&self) -> SharedStopWords<'_>
-        ensures table { result.shared.now.table_id ≡ self.now.table.shared.table_id }
-        ensures key { result.shared.now.key ≡ self.now.table.shared.key }
-    {
-        SharedStopWords {
-            shared: &self.table.shared,
-        }
-    }
-}
+pub type OwnedStopWords<A> = ToldTable<StopSeatView, StopSetting, StopRule, A>;
 
 /// The seat of one CPU, seen as its table and what the CPU knows.
 #[derive(Drop)]
@@ -113,13 +92,13 @@ pub(crate) fn lay<A: Allocator + Copy>(
     let mut words = Vec::from_elem(alloc, 0u64, FIRST_ENTRY)?;
     words.extend_from_slice(&labels.entries)?;
     words.extend_from_slice(&labels.sites)?;
-    let (table, raw) = Table::of_words(alloc, words.as_slice(), setting)?;
-    Ok((OwnedStopWords { table }, StopSeatMaker { raw }))
+    let (table, raw) = ToldTable::new(alloc, words.as_slice(), setting)?;
+    Ok((table, StopSeatMaker { raw }))
 }
 
 /// A seat for the next CPU, where it is online: no step is made by the seat of one that is not.
 pub(crate) fn next_seat(
-    words: SharedStopWords<'_>,
+    words: SharedStopWords,
     maker: &mut StopSeatMaker,
     n: u32,
     is_online: bool,
@@ -130,7 +109,7 @@ pub(crate) fn next_seat(
     ensures maker { (maker.new.raw.table_id ≡ words.entry.shared.now.table_id) × (maker.new.raw.me.0 ≡ Maker (n + 1) words.entry.shared.now.key) }
     ensures seat { result ≡ if is_online then Some (fresh_seat words.entry.shared.now.table_id words.entry.shared.now.key n) else None }
 {
-    let raw = words.shared.split_seat::<NextStopSeat>(&mut maker.raw);
+    let raw = words.split(&mut maker.raw);
     if !is_online {
         return None;
     }
@@ -138,42 +117,40 @@ pub(crate) fn next_seat(
 }
 
 /// What two CPUs of the table know now is their parts of the same stops. It makes no step.
-pub(crate) fn together(words: SharedStopWords<'_>, one: &mut StopSeat, other: &mut StopSeat)
+pub(crate) fn together(words: SharedStopWords, one: &mut StopSeat, other: &mut StopSeat)
     requires { (one.old.table ≡ words.shared.now.table_id) × (other.old.table ≡ words.shared.now.table_id) }
     ensures kept { (one.new ≡ one.old) × (other.new ≡ other.old) }
     ensures same { KnowTogether one.old.known other.old.known }
 {
-    both_now(words.shared, &mut one.raw, &mut other.raw);
+    words.both_now(&mut one.raw, &mut other.raw);
 }
 
 /// Loads a word.
 #[inline(always)]
-pub(crate) fn load(words: SharedStopWords<'_>, seat: &mut StopSeat, word: Word) -> u64
+pub(crate) fn load(words: SharedStopWords, seat: &mut StopSeat, word: Word) -> u64
     requires { Ready words.shared.now.table_id seat.old (access.Load word) }
     ensures table { seat.new.table ≡ words.entry.shared.now.table_id }
     ensures lives { Lives seat.new.known }
     ensures known { seat.new.known ≡ known_told seat.old.known act.Load word (Some result) None }
     ensures then { StopMoment seat.old.known word result }
 {
-    words.shared.load::<Loaded>(&mut seat.raw, cell(word))
+    words.load(&mut seat.raw, cell(word))
 }
 
 /// Stores a number in a word, by any step that the CPU may make.
 #[inline(always)]
-pub(super) fn store_any(words: SharedStopWords<'_>, seat: &mut StopSeat, word: Word, number: u64)
+pub(super) fn store_any(words: SharedStopWords, seat: &mut StopSeat, word: Word, number: u64)
     requires { Able words.shared.now.table_id seat.old (access.Store word number) }
     ensures table { seat.new.table ≡ words.entry.shared.now.table_id }
     ensures lives { Lives seat.new.known }
     ensures known { seat.new.known ≡ known_told seat.old.known act.Store word None (Some number) }
 {
-    words
-        .shared
-        .store::<Stored>(&mut seat.raw, cell(word), number);
+    words.store(&mut seat.raw, cell(word), number);
 }
 
 /// Stores a number in a word, by a step that stores no answer and no label.
 #[inline(always)]
-pub(crate) fn store(words: SharedStopWords<'_>, seat: &mut StopSeat, word: Word, number: u64)
+pub(crate) fn store(words: SharedStopWords, seat: &mut StopSeat, word: Word, number: u64)
     requires { Ready words.shared.now.table_id seat.old (access.Store word number) }
     ensures table { seat.new.table ≡ words.entry.shared.now.table_id }
     ensures lives { Lives seat.new.known }
@@ -185,7 +162,7 @@ pub(crate) fn store(words: SharedStopWords<'_>, seat: &mut StopSeat, word: Word,
 /// Puts a number in a word where another is found, and answers what was found.
 #[inline(always)]
 pub(crate) fn exchange(
-    words: SharedStopWords<'_>,
+    words: SharedStopWords,
     seat: &mut StopSeat,
     word: Word,
     expected: u64,
@@ -197,13 +174,11 @@ pub(crate) fn exchange(
     ensures known { seat.new.known ≡ known_told seat.old.known act.Cas word (Some result) (if result == expected then Some number else None) }
     ensures then { StopMoment seat.old.known word result }
 {
-    words
-        .shared
-        .compare_exchange::<Exchanged>(&mut seat.raw, cell(word), expected, number)
+    words.exchange(&mut seat.raw, cell(word), expected, number)
 }
 
-/// Takes 1 from a word, by any step that the CPU may make, and answers what was found. From this step on the CPU carries
-/// this answer.
+/// Takes 1 from a word, by a step that ends a stop function, a patch or a stop, and answers what was found. From this step on the
+/// CPU carries this answer.
 #[inline(always)]
 pub(super) fn end_with<N: Answer>(
     words: SharedStopWords,
@@ -211,44 +186,38 @@ pub(super) fn end_with<N: Answer>(
     word: Word,
     answer: u64,
 ) -> u64
-    requires able { Able words.shared.now.table_id seat.old (access.Sub word) }
+    requires ends { EndsWith words.shared.now.table_id seat.old word answer }
     requires fits { IsI32Word answer }
     requires picks { N.answer ≡ answer }
     ensures table { seat.new.table ≡ words.entry.shared.now.table_id }
     ensures lives { Lives seat.new.known }
     ensures known { seat.new.known ≡ known_told (carrying answer seat.old.known) act.Sub word (Some result) (Some (one_less result)) }
 {
-    let found = words
-        .shared
-        .fetch_sub::<Answered<N>>(&mut seat.raw, cell(word), 1);
+    let found = words.answer::<N>(&mut seat.raw, cell(word));
     seat.carried = answer;
     found
 }
 
 /// Takes 1 from a word, by a step that ends no stop function, no patch and no stop, and answers what was found.
 #[inline(always)]
-pub(crate) fn subtract(words: SharedStopWords<'_>, seat: &mut StopSeat, word: Word) -> u64
+pub(crate) fn subtract(words: SharedStopWords, seat: &mut StopSeat, word: Word) -> u64
     requires { Ready words.shared.now.table_id seat.old (access.Sub word) }
     ensures table { seat.new.table ≡ words.entry.shared.now.table_id }
     ensures lives { Lives seat.new.known }
     ensures known { seat.new.known ≡ known_told seat.old.known act.Sub word (Some result) (Some (one_less result)) }
 {
-    words
-        .shared
-        .fetch_sub::<Subtracted>(&mut seat.raw, cell(word), 1)
+    words.subtract(&mut seat.raw, cell(word))
 }
 
 /// Keeps those bits of a word that this number has, and answers what was found. A CPU that enters a stop learns its
 /// work.
 #[inline(always)]
-pub(crate) fn mask(words: SharedStopWords<'_>, seat: &mut StopSeat, word: Word, number: u64) -> u64
+pub(crate) fn mask(words: SharedStopWords, seat: &mut StopSeat, word: Word, number: u64) -> u64
     requires { Ready words.shared.now.table_id seat.old (access.And word number) }
     ensures table { seat.new.table ≡ words.entry.shared.now.table_id }
     ensures lives { Lives seat.new.known }
     ensures known { (t : StopMoment seat.old.known word result) × (seat.new.known ≡ known_entering (entering t.stops word) seat.old.known act.And word
         (Some result) (Some (bit_and result number))) }
 {
-    words
-        .shared
-        .fetch_and::<Masked>(&mut seat.raw, cell(word), number)
+    words.mask(&mut seat.raw, cell(word), number)
 }

@@ -18,7 +18,7 @@ ghost use Rattle.smp_multi.specs.Names.{Idle, Multi, One};
 ghost use Rattle.smp_multi.specs.Places.{work_in};
 ghost use Rattle.smp_multi.specs.Rounds.{AloneWhile, AtRun};
 ghost use Rattle.smp_multi.specs.Running.{AtOne, IsItsCall, calls_now};
-ghost use Rattle.smp_multi.specs.Seat.{Able};
+ghost use Rattle.smp_multi.specs.Seat.{EndsWith};
 ghost use Rattle.smp_multi.specs.StepCounts.{giving};
 
 use super::access::{SharedStopWords, StopSeat, end_with, load, store_any};
@@ -29,8 +29,8 @@ use smp_words::phase::EXIT;
 use smp_words::word::Word;
 use std::marker::Brand;
 
-/// Takes 1 from a word, by any step that the CPU may make, and answers what was found. From this step on the CPU carries
-/// this answer.
+/// Takes 1 from a word, by a step that ends a stop function, a patch or a stop, and answers what was found. From this step on the
+/// CPU carries this answer.
 #[inline(always)]
 pub(super) fn subtract_with(
     words: SharedStopWords<'_>,
@@ -38,7 +38,7 @@ pub(super) fn subtract_with(
     word: Word,
     answer: u64,
 ) -> u64
-    requires able { Able words.shared.now.table_id seat.old (access.Sub word) }
+    requires ends { EndsWith words.shared.now.table_id seat.old word answer }
     requires fits { IsI32Word answer }
     ensures table { seat.new.table ≡ words.entry.shared.now.table_id }
     ensures lives { Lives seat.new.known }

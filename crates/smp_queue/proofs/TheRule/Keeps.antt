@@ -28,7 +28,7 @@ use Rattle.smp_queue.specs.{Call, Word, Head, Intr, Access, Load, Store, Swap, E
 use Rattle.smp_queue.specs.{Maker, New, cells, cell_of, number_in, Ruled}
 use Rattle.smp_queue.specs.{next_from, next_online}
 use Rattle.smp_queue.specs.{SeatKnows, SeatInvariant, known, after, seat_made, noted, AfterLoad, AfterStore, AfterExchange, AfterSwap}
-use Rattle.smp_queue.specs.{loaded, stored, call_stored, SitsWith, exchanged, swapped}
+use Rattle.smp_queue.specs.{loaded, stored, SitsWith, exchanged, swapped}
 use Rattle.smp_queue.specs.{IsCpuSeat, MayAccess, Reaches, HasBegun, IsQuiet}
 use Rattle.smp_queue.specs.Names.{Cpu}
 use Rattle.smp_queue.proofs.TheRule.Cells.{one_cell, cell_below, number_here, stored_here}
@@ -343,9 +343,9 @@ module _ {S : Type 0} (k : CallSetting) where
         }) (λ cpu off. subst (λ (x : List ℕ). IsQuiet (number_in x) cpu) (sym still) (r.quiet cpu off)) in
         subst (λ (x : List ℕ). Ruled k record { words = x; homes = s.homes; views = set s.views id (noted me.0) }) still on.0
 
-    pub call_store_allowed : (w : Word) (i x : ℕ) → cell_of w ≡ Some i → MayAccess (known me.0) (Store w x) → Reaches k (known me.0) (Store w x)
-        → Allows (Ruled k) slots id me i (λ _. x) (λ _. call_stored (step slots i x 0 none) me x)
-    call_store_allowed w i x e can reach s r sized at fits =
+    pub store_allowed : (w : Word) (i x : ℕ) → cell_of w ≡ Some i → MayAccess (known me.0) (Store w x) → Reaches k (known me.0) (Store w x)
+        → Allows (Ruled k) slots id me i (λ _. x) (λ _. stored (step slots i x 0 none) me x)
+    store_allowed w i x e can reach s r sized at fits =
         let a = steps_with i (λ _. x) (λ _. AfterStore (step slots i x 0 none) me x) (λ a control words reached shown wide sees. (
           known_told v act.Store w None (Some x),
           refl,
@@ -355,12 +355,6 @@ module _ {S : Type 0} (k : CallSetting) where
         )) (λ words wide cpu off on q. subst (λ (at : Word → ℕ). IsQuiet at cpu) (sym (stored_here words w i x wide e))
         (stores_apart w x cpu reach off (number_in words) q)) s r sized at fits in
         (a.0, a.1, a.2, a.3, ((a.4.1.0, a.4.0), a.4.1))
-
-    pub store_allowed : (w : Word) (i x : ℕ) → cell_of w ≡ Some i → MayAccess (known me.0) (Store w x) → Reaches k (known me.0) (Store w x)
-        → Allows (Ruled k) slots id me i (λ _. x) (λ _. stored (step slots i x 0 none) me x)
-    store_allowed w i x e can reach s r sized at fits =
-        let a = call_store_allowed w i x e can reach s r sized at fits in
-        (a.0, a.1, a.2, a.3, a.4.0)
 
     exchanged_words : (words : List ℕ) (w : Word) (i n x : ℕ) (b : Bool) → length words ≡ cells → cell_of w ≡ Some i → n ≡ get_or words i 0
         → number_in (set words i (either b x n)) ≡ put_if put_word (number_in words) w (cond b (Some x) None)

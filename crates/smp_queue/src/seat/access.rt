@@ -1,5 +1,5 @@
-//! The words of a table, the seat of a CPU, and the steps that it makes. This page alone reaches the kit's table, which can do
-//! more: each function below makes one step of a word, by a play of `plays`, or none. No other page names a raw seat or a cell
+//! The words of a table, the seat of a CPU, and the steps that it makes. Each function below makes one step of a word, or none.
+//! What a step tells is said by the rule of the table alone ([`Tells`](smp_start::Tells)). No other page names a raw seat or a cell
 //! but [`crowd`], which makes no step, and none can.
 //!
 //! A step that begins, counts or ends a call is made by `store_in_call`, which the page beside this one alone sees.
@@ -20,41 +20,21 @@ ghost use Rattle.smp_mask.specs.Mask.{has};
 
 pub(crate) mod crowd;
 
-use super::plays::{CallStored, Exchanged, Loaded, Stored, Swapped};
 use crate::cell::{CELLS, cell};
-use crate::rule::{CallRule, NextCallSeat, RawCallSeat};
+use crate::rule::{CallRule, RawCallSeat};
 use crate::seat_view::CallSeatView;
-use atomic_table::{Closed, Shared, Table};
+use atomic_table::Closed;
 use smp_call_steps::known::CallSetting;
-use smp_start::{both_now, retell};
+use smp_start::{ToldTable, ToldWords};
 use smp_words::Word;
 use std::alloc::{AllocError, Allocator};
 use std::marker::Model;
 
 /// The words, as all threads share them.
-#[derive(Clone, Copy)]
-pub struct SharedCallWords<'a> {
-    shared: &'a Shared<(), CallSeatView, CallSetting, CallRule>,
-}
+pub type SharedCallWords<'a> = ToldWords<'a, CallSeatView, CallSetting, CallRule>;
 
 /// The words with their memory.
-#[derive(Drop)]
-pub struct OwnedCallWords<A: Allocator> {
-    table: Table<(), CallSeatView, CallSetting, CallRule, A>,
-}
-
-impl<A: Allocator> OwnedCallWords<A> {
-    /// The words, to be accessed by seats.
-    #[inline(always)]
-    pub(crate) fn words(&self) -> SharedCallWords<'_>
-        ensures table { result.shared.now.table_id ≡ self.now.table.shared.table_id }
-        ensures key { result.shared.now.key ≡ self.now.table.shared.key }
-    {
-        SharedCallWords {
-            shared: &self.table.shared,
-        }
-    }
-}
+pub type OwnedCallWords<A> = ToldTable<CallSeatView, CallSetting, CallRule, A>;
 
 /// The seat of one CPU, seen as its table and what the CPU knows: at any time its part of calls that some words show.
 #[derive(Drop)]
@@ -100,8 +80,8 @@ where
         × (t.1.raw.table_id ≡ t.0.table.shared.table_id) × (t.1.raw.me.0 ≡ Maker 0 setting.now)) }
 {
     let words = Vec::from_elem(alloc, 0u64, CELLS)?;
-    let (table, raw) = Table::of_words(alloc, words.as_slice(), setting)?;
-    Ok((OwnedCallWords { table }, CallSeatMaker { raw }))
+    let (table, raw) = ToldTable::new(alloc, words.as_slice(), setting)?;
+    Ok((table, CallSeatMaker { raw }))
 }
 
 /// A seat for the next CPU that is online. Only such a CPU ever gets one.
@@ -112,7 +92,7 @@ pub(crate) fn next_seat(words: SharedCallWords, maker: &mut CallSeatMaker, n: u3
     ensures maker { (maker.new.raw.table_id ≡ words.entry.shared.now.table_id) × (maker.new.raw.me.0 ≡ Maker (n + 1) words.entry.shared.now.key) }
     ensures seat { (result.table ≡ words.entry.shared.now.table_id) × (result.known ≡ fresh words.entry.shared.now.key n) }
 {
-    let raw = words.shared.split_seat::<NextCallSeat>(&mut maker.raw);
+    let raw = words.split(&mut maker.raw);
     CallSeat { raw }
 }
 
@@ -123,7 +103,7 @@ pub(crate) fn close<A: Allocator>(owner: OwnedCallWords<A>, seat: CallSeat) -> C
     ensures full { IsFull result.words × (slots_len result.words ≡ cells) × (slots_len result.slots ≡ 0) }
     ensures closes { Closes owner.table.shared.key seat.known (slots_items result.words) }
 {
-    owner.table.close_with(seat.raw)
+    owner.close_with(seat.raw)
 }
 
 /// What two CPUs of the table know now is their parts of the same calls. It makes no step.
@@ -132,7 +112,7 @@ pub(crate) fn together(words: SharedCallWords, one: &mut CallSeat, other: &mut C
     ensures kept { (one.new ≡ one.old) × (other.new ≡ other.old) }
     ensures same { KnowTogether one.old.known other.old.known }
 {
-    both_now(words.shared, &mut one.raw, &mut other.raw);
+    words.both_now(&mut one.raw, &mut other.raw);
 }
 
 /// Loads a word.
@@ -141,7 +121,7 @@ pub(crate) fn load(words: SharedCallWords, seat: &mut CallSeat, word: Word) -> u
     requires { Ready words.shared.now.table_id words.shared.now.key seat.old (access.Load word) }
     ensures { Loads words.entry.shared.now.table_id seat.old seat.new word result }
 {
-    words.shared.load::<Loaded>(&mut seat.raw, cell(word))
+    words.load(&mut seat.raw, cell(word))
 }
 
 /// Notes a direct call in what the CPU knows. It makes no step.
@@ -150,7 +130,7 @@ pub(crate) fn note_call(words: SharedCallWords, seat: &mut CallSeat)
     ensures table { seat.new.table ≡ words.entry.shared.now.table_id }
     ensures known { seat.new.known ≡ noted_known seat.old.known }
 {
-    retell(words.shared, &mut seat.raw);
+    words.retell(&mut seat.raw);
 }
 
 /// Stores a number in a word.
@@ -161,9 +141,7 @@ pub(crate) fn store(words: SharedCallWords, seat: &mut CallSeat, word: Word, num
     ensures lives { Lives seat.new.known }
     ensures known { seat.new.known ≡ known_told seat.old.known act.Store word None (Some number) }
 {
-    words
-        .shared
-        .store::<Stored>(&mut seat.raw, cell(word), number);
+    words.store(&mut seat.raw, cell(word), number);
 }
 
 /// Stores a number in a word, by a step inside `handle` that may begin, count or end a call.
@@ -175,9 +153,7 @@ pub(super) fn store_in_call(words: SharedCallWords, seat: &mut CallSeat, word: W
     ensures known { seat.new.known ≡ known_told seat.old.known act.Store word None (Some number) }
     ensures put { (s : SeatInvariant seat.new.known) × (s.lives.at word ≡ number) }
 {
-    words
-        .shared
-        .store::<CallStored>(&mut seat.raw, cell(word), number);
+    words.store(&mut seat.raw, cell(word), number);
 }
 
 /// Puts a number in a word where another is found, and answers what was found.
@@ -194,9 +170,7 @@ pub(crate) fn exchange(
     ensures lives { Lives seat.new.known }
     ensures known { seat.new.known ≡ known_told seat.old.known act.Cas word (Some result) (if result == expected then Some number else None) }
 {
-    words
-        .shared
-        .compare_exchange::<Exchanged>(&mut seat.raw, cell(word), expected, number)
+    words.exchange(&mut seat.raw, cell(word), expected, number)
 }
 
 /// Puts a number in a word, and answers what was found. A swap of the own head takes the queue of that moment.
@@ -208,7 +182,5 @@ pub(crate) fn swap(words: SharedCallWords, seat: &mut CallSeat, word: Word, numb
     ensures known { (t : CallMoment seat.old.known word result) × (seat.new.known ≡ known_taking
         (t.lives.calls.queue seat.old.known.number) seat.old.known act.Swap word (Some result) (Some number)) }
 {
-    words
-        .shared
-        .swap::<Swapped>(&mut seat.raw, cell(word), number)
+    words.swap(&mut seat.raw, cell(word), number)
 }

@@ -7,14 +7,14 @@ ghost use Rattle.smp_multi.specs.Together.{KnowAllTogether};
 
 use super::{SharedStopWords, StopSeat};
 use crate::seat_view::StopSeatView;
-use smp_start::{Crowd, all_now};
+use smp_start::ToldCrowd;
 use std::marker::Model;
 
 /// Seats of CPUs that are looked at together, seen as their table and, of each, the name under which another one stands in its
 /// place, and what its CPU knows. The one that came last is the first.
 #[derive(Drop)]
 pub struct StopSeatCrowd {
-    raw: Crowd<(), StopSeatView>,
+    raw: ToldCrowd<StopSeatView>,
 }
 
 impl Model for StopSeatCrowd {
@@ -31,9 +31,7 @@ impl Model for StopSeatCrowd {
 pub(crate) fn gather(words: SharedStopWords<'_>) -> StopSeatCrowd
     ensures { result ≡ record { table = words.entry.shared.now.table_id; seats = [] } }
 {
-    StopSeatCrowd {
-        raw: Crowd::new(words.shared),
-    }
+    StopSeatCrowd { raw: words.crowd() }
 }
 
 /// Takes a seat out of its place. It makes no step.
@@ -60,5 +58,5 @@ pub(crate) fn all_together(words: SharedStopWords<'_>, crowd: &mut StopSeatCrowd
     ensures kept { crowd.new ≡ crowd.old }
     ensures same { KnowAllTogether crowd.old.seats }
 {
-    all_now(words.shared, &mut crowd.raw);
+    words.all_now(&mut crowd.raw);
 }

@@ -12,8 +12,8 @@ use Rattle.smp_multi.proofs.seat.access.exchange.Goals as goal
 pub cell-requires : goal.cell-requires
 cell-requires c = c.requires.able.cell
 
-pub compare_exchange-requires : goal.compare_exchange-requires
-compare_exchange-requires c = let r = c.requires.able in let low = cell_below c.args.word c.cell.result c.cell.ensures in let w = r.sized in (
+pub exchange-requires : goal.exchange-requires
+exchange-requires c = let r = c.requires.able in let low = cell_below c.args.word c.cell.result c.cell.ensures in let w = r.sized in (
   ap (λ d. d.table) c.seat.view_is ∙ r.table_is,
   omega arith,
   exchange_allowed _ _ _ _ c.seat.invariant.is c.seat.invariant.online c.args.word c.cell.result c.args.expected c.args.number c.cell.ensures
@@ -21,16 +21,16 @@ compare_exchange-requires c = let r = c.requires.able in let low = cell_below c.
 )
 
 pub invariant_of-seat : goal.invariant_of-seat
-invariant_of-seat c = seat_on _ _ _ (c.compare_exchange.ensures.2.1 c.args.word c.cell.ensures).1 c.compare_exchange.ensures.2.0 c.seat.invariant.fits
-    (exchange_keeps (known c.seat.inside.raw.me.0) c.args.word c.compare_exchange.result _ ∙ c.seat.invariant.carries)
+invariant_of-seat c = seat_on _ _ _ (c.exchange.ensures.2.1 c.args.word c.cell.ensures).1 c.exchange.ensures.2.0 c.seat.invariant.fits
+    (exchange_keeps (known c.seat.inside.raw.me.0) c.args.word c.exchange.result _ ∙ c.seat.invariant.carries)
 
 pub returns-clause-known : goal.returns-clause-known
 returns-clause-known c =
-    let told = c.compare_exchange.ensures.2.1 c.args.word c.cell.ensures in
+    let told = c.exchange.ensures.2.1 c.args.word c.cell.ensures in
     ap (λ (s : StopSeatView). known s) told.1
-    ∙ ap (λ (v : KnownStops). known_told v act.Cas c.args.word (Some c.compare_exchange.result)
-    (cond (c.compare_exchange.result == c.args.expected) (Some c.args.number) None)) (ap (λ d. d.known) c.seat.view_is)
+    ∙ ap (λ (v : KnownStops). known_told v act.Cas c.args.word (Some c.exchange.result)
+    (cond (c.exchange.result == c.args.expected) (Some c.args.number) None)) (ap (λ d. d.known) c.seat.view_is)
 
 pub returns-clause-then : goal.returns-clause-then
-returns-clause-then c = subst (λ (v : KnownStops). StopMoment v c.args.word c.compare_exchange.result) (ap (λ d. d.known) c.seat.view_is)
-    (c.compare_exchange.ensures.2.1 c.args.word c.cell.ensures).0
+returns-clause-then c = subst (λ (v : KnownStops). StopMoment v c.args.word c.exchange.result) (ap (λ d. d.known) c.seat.view_is)
+    (c.exchange.ensures.2.1 c.args.word c.cell.ensures).0

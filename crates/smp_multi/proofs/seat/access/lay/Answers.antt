@@ -6,8 +6,8 @@ use Rattle.smp_multi.specs.declared.cell.TheConstants.{FIRST_ENTRY}
 use Rattle.smp_multi.proofs.Starting.{are_laid, starts, lives_fresh}
 use Rattle.smp_multi.proofs.seat.access.lay.Goals as goal
 
-pub of_words-requires : goal.of_words-requires
-of_words-requires g c =
+pub new-requires : goal.new-requires
+new-requires g c =
     let e = c.words-labels.ensures in
     let zeros : c.in_ok-words.words.items ≡ replicate FIRST_ENTRY 0 = c.in_ok-words.ensures.items_if_clones_equal (λ y h. h) in
     let all : c.as_slice.result.now ≡ (replicate FIRST_ENTRY 0 ++ c.words-labels.result.entries) ++ c.words-labels.result.sites =

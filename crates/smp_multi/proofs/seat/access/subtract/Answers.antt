@@ -12,8 +12,8 @@ use Rattle.smp_multi.proofs.seat.access.subtract.Goals as goal
 pub cell-requires : goal.cell-requires
 cell-requires c = c.requires.able.cell
 
-pub fetch_sub-requires : goal.fetch_sub-requires
-fetch_sub-requires c = let r = c.requires.able in let low = cell_below c.args.word c.cell.result c.cell.ensures in let w = r.sized in (
+pub subtract-requires : goal.subtract-requires
+subtract-requires c = let r = c.requires.able in let low = cell_below c.args.word c.cell.result c.cell.ensures in let w = r.sized in (
   ap (λ d. d.table) c.seat.view_is ∙ r.table_is,
   omega arith,
   sub_allowed _ _ _ _ c.seat.invariant.is c.seat.invariant.online c.args.word c.cell.result c.cell.ensures
@@ -21,12 +21,12 @@ fetch_sub-requires c = let r = c.requires.able in let low = cell_below c.args.wo
 )
 
 pub invariant_of-seat : goal.invariant_of-seat
-invariant_of-seat c = seat_on _ _ _ (c.fetch_sub.ensures.2.1 c.args.word c.cell.ensures).1 c.fetch_sub.ensures.2.0 c.seat.invariant.fits
-    (sub_keeps (known c.seat.inside.raw.me.0) c.args.word c.fetch_sub.result _ ∙ c.seat.invariant.carries)
+invariant_of-seat c = seat_on _ _ _ (c.subtract.ensures.2.1 c.args.word c.cell.ensures).1 c.subtract.ensures.2.0 c.seat.invariant.fits
+    (sub_keeps (known c.seat.inside.raw.me.0) c.args.word c.subtract.result _ ∙ c.seat.invariant.carries)
 
 pub returns-clause-known : goal.returns-clause-known
 returns-clause-known c =
-    let told = c.fetch_sub.ensures.2.1 c.args.word c.cell.ensures in
+    let told = c.subtract.ensures.2.1 c.args.word c.cell.ensures in
     ap (λ (s : StopSeatView). known s) told.1
-    ∙ ap (λ (v : KnownStops). known_told v act.Sub c.args.word (Some c.fetch_sub.result) (Some (one_less c.fetch_sub.result)))
+    ∙ ap (λ (v : KnownStops). known_told v act.Sub c.args.word (Some c.subtract.result) (Some (one_less c.subtract.result)))
     (ap (λ d. d.known) c.seat.view_is)

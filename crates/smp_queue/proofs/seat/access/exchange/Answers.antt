@@ -4,8 +4,8 @@ use Rattle.smp_queue.proofs.TheRule.Keeps.{exchange_allowed, can_same, reach_sam
 use Rattle.smp_queue.proofs.TheRule.Cells.{cell_below}
 use Rattle.smp_queue.proofs.seat.access.exchange.Goals as goal
 
-pub compare_exchange-requires : goal.compare_exchange-requires
-compare_exchange-requires c = let r = c.requires in let low = cell_below c.args.word c.cell.result c.cell.ensures in let w = r.sized in (
+pub exchange-requires : goal.exchange-requires
+exchange-requires c = let r = c.requires in let low = cell_below c.args.word c.cell.result c.cell.ensures in let w = r.sized in (
   ap (λ d. d.table) c.seat.view_is ∙ r.table_is,
   omega arith,
   exchange_allowed _ _ _ _ c.seat.invariant.0 c.args.word c.cell.result c.args.expected c.args.number c.cell.ensures

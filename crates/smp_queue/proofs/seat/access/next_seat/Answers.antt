@@ -5,8 +5,8 @@ use Rattle.smp_queue.proofs.TheRule.Keeps.{splits, fresh_seat_is}
 use Rattle.smp_queue.proofs.TheRule.Seating.{come_next}
 use Rattle.smp_queue.proofs.seat.access.next_seat.Goals as goal
 
-pub split_seat-raw-requires : goal.split_seat-raw-requires
-split_seat-raw-requires c =
+pub split-raw-requires : goal.split-raw-requires
+split-raw-requires c =
     let come = c.requires.come in
     let number = c.requires.number in
     let next = come_next c.args.words.shared.now.key come number.1 number.2 in
@@ -16,7 +16,7 @@ pub invariant_of-result : goal.invariant_of-result
 invariant_of-result c =
     let come = c.requires.come in
     let number = c.requires.number in
-    fresh_seat_is _ _ c.args.n number.0 number.2 ((λ i. (c.split_seat-raw.ensures.4 i).0) ∙ (ap seat_made come.1
+    fresh_seat_is _ _ c.args.n number.0 number.2 ((λ i. (c.split-raw.ensures.made.1 i).0) ∙ (ap seat_made come.1
     ∙ ap (λ n. New n c.args.words.shared.now.key) (come_next c.args.words.shared.now.key come number.1 number.2)))
 
 pub returns-clause-maker : goal.returns-clause-maker

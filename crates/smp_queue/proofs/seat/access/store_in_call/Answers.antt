@@ -3,7 +3,7 @@ use Rattle.smp_call_steps.specs.Known.{known_told}
 use Rattle.smp_queue.specs.{Store, KnownCalls, known}
 use Rattle.smp_queue.specs.act
 use Rattle.smp_queue.proofs.TheRule.Cells.{cell_below}
-use Rattle.smp_queue.proofs.TheRule.Keeps.{call_store_allowed, can_same, reach_same}
+use Rattle.smp_queue.proofs.TheRule.Keeps.{store_allowed, can_same, reach_same}
 use Rattle.smp_queue.proofs.Handling.Handles.{in_handle_can, in_handle_cell, in_handle_reaches}
 use Rattle.smp_queue.proofs.seat.access.store_in_call.Goals as goal
 
@@ -14,7 +14,7 @@ pub store-requires : goal.store-requires
 store-requires c = let r = c.requires in let low = cell_below c.args.word c.cell.result c.cell.ensures in let w = r.at.sized in (
   ap (λ d. d.table) c.seat.view_is ∙ r.at.table_is,
   omega arith,
-  call_store_allowed _ _ _ _ c.seat.invariant.0 c.args.word c.cell.result c.args.number c.cell.ensures
+  store_allowed _ _ _ _ c.seat.invariant.0 c.args.word c.cell.result c.args.number c.cell.ensures
       (can_same _ _ _ (ap (λ d. d.known) c.seat.view_is) (in_handle_can r.at (Store c.args.word c.args.number) r.is_access))
       (reach_same c.args.words.shared.now.key _ _ (Store c.args.word c.args.number) (ap (λ d. d.known) c.seat.view_is)
       (in_handle_reaches r.at c.args.words.shared.now.key (Store c.args.word c.args.number) r.is_access)),
