@@ -4,4 +4,5 @@ pub mod Seats
 pub mod Sign
 -- seats that are looked at together
 pub mod Crowd
+-- seats at a table whose rule says what each step tells
 pub mod Told

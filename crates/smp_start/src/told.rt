@@ -9,105 +9,17 @@ ghost use Rattle.std.specs.Int.Bits.{bit_and};
 ghost use Rattle.std.specs.Mem.Slots.{slots_items, slots_len, IsFull};
 ghost use mathlib.Core.Option.{none};
 ghost use prog.Atomic.{either};
-ghost use Rattle.atomic_table.specs.Table.{Me, Step, step, opening, Allows, Splits, Final, Seen};
-ghost use Rattle.smp_start.specs.Told.{ToldValue};
+ghost use Rattle.atomic_table.specs.Table.{step, opening, Allows, Splits, Final, Seen};
 
 mod moments;
+mod tells;
 
-use atomic_table::{Closed, Play, Seat, Shared, Split, Table, TableRule};
+use atomic_table::{Closed, Seat, Shared, Split, Table, TableRule};
 pub use moments::ToldCrowd;
 use std::alloc::{AllocError, Allocator};
-use std::marker::{Brand, Model, PhantomData};
-
-/// What each kind of step tells: of the step, the seat before, the number found (at a store the number stored), and the seat after.
-/// A kind that a table does not have tells what never holds, so no such step can be made.
-pub trait Tells<V> {
-    ghost use Rattle.std.specs.Prelude.{ℕ};
-    ghost use Rattle.atomic_table.specs.Table.{Me, Step};
-
-    ghost loaded: { Step (Unit {0}) → Me (Unit {0}) V → ℕ → Me (Unit {0}) V → Type 0 };
-
-    ghost stored: { Step (Unit {0}) → Me (Unit {0}) V → ℕ → Me (Unit {0}) V → Type 0 };
-
-    ghost exchanged: { Step (Unit {0}) → Me (Unit {0}) V → ℕ → Me (Unit {0}) V → Type 0 };
-
-    ghost swapped: { Step (Unit {0}) → Me (Unit {0}) V → ℕ → Me (Unit {0}) V → Type 0 };
-
-    ghost subtracted: { Step (Unit {0}) → Me (Unit {0}) V → ℕ → Me (Unit {0}) V → Type 0 };
-
-    /// By a step with which the seat's thread says a number.
-    ghost answered: { ℕ → Step (Unit {0}) → Me (Unit {0}) V → ℕ → Me (Unit {0}) V → Type 0 };
-
-    ghost masked: { Step (Unit {0}) → Me (Unit {0}) V → ℕ → Me (Unit {0}) V → Type 0 };
-}
-
-/// A number that a thread says with a step.
-pub trait Answer {
-    ghost use Rattle.std.specs.Prelude.{ℕ};
-
-    ghost answer: { ℕ };
-}
-
-/// A call may pick what a brand says.
-impl Answer for Brand {
-    ghost answer = { 0 };
-}
-
-struct Loaded<P> {
-    rule: PhantomData<P>,
-}
-
-impl<V, P: Tells<V>> Play<(), V> for Loaded<P> {
-    ghost then = { P.loaded };
-}
-
-struct Stored<P> {
-    rule: PhantomData<P>,
-}
-
-impl<V, P: Tells<V>> Play<(), V> for Stored<P> {
-    ghost then = { P.stored };
-}
-
-struct Exchanged<P> {
-    rule: PhantomData<P>,
-}
-
-impl<V, P: Tells<V>> Play<(), V> for Exchanged<P> {
-    ghost then = { P.exchanged };
-}
-
-struct Swapped<P> {
-    rule: PhantomData<P>,
-}
-
-impl<V, P: Tells<V>> Play<(), V> for Swapped<P> {
-    ghost then = { P.swapped };
-}
-
-struct Subtracted<P> {
-    rule: PhantomData<P>,
-}
-
-impl<V, P: Tells<V>> Play<(), V> for Subtracted<P> {
-    ghost then = { P.subtracted };
-}
-
-struct Answered<P, N> {
-    rule: PhantomData<(P, N)>,
-}
-
-impl<V, P: Tells<V>, N: Answer> Play<(), V> for Answered<P, N> {
-    ghost then = { P.answered N.answer };
-}
-
-struct Masked<P> {
-    rule: PhantomData<P>,
-}
-
-impl<V, P: Tells<V>> Play<(), V> for Masked<P> {
-    ghost then = { P.masked };
-}
+use std::marker::Model;
+pub use tells::{Answer, Tells};
+use tells::{Answered, Exchanged, Loaded, Masked, Stored, Subtracted, Swapped};
 
 /// The words of a table with their memory.
 #[derive(Drop)]
