@@ -3,6 +3,7 @@ pub mod Cells
 -- the rule: each kind of access keeps it
 pub mod Keeps
 pub mod Carrying
+pub mod Answered
 -- how many steps
 pub mod Counting
 -- the steps of each call

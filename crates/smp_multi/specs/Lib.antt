@@ -28,6 +28,7 @@ pub mod ByValue
 -- what holds while threads run
 pub mod Laws
 pub mod CallLaws
+pub mod AnswerLaws
 pub mod Together
 -- readings and nudges of keys
 pub mod Reads

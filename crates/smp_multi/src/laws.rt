@@ -2,6 +2,7 @@
 
 ghost use Rattle.std.specs.Prelude.{◌≡◌, true, false};
 ghost use Rattle.smp_labels.specs.declared.kinds.SiteKind.TheVariants.{Nop, Jmp};
+ghost use Rattle.smp_multi.specs.AnswerLaws.{KeepsAnswers, TakesAnswers};
 ghost use Rattle.smp_multi.specs.Reads.{jumps};
 ghost use Rattle.smp_multi.specs.Cpu.{CpuValue};
 ghost use Rattle.smp_multi.specs.CallLaws.{CallsAlone, CallsAreListed, StepsAreCalls};
@@ -13,7 +14,10 @@ ghost use Rattle.smp_multi.specs.Together.{AreTogether, AreInStep, WaitsFor};
 
 use crate::answering::Answering;
 use crate::cpu::StopCpu;
+use crate::rule::StopRule;
+use crate::seat_view::StopSeatView;
 use crate::table::StopTable;
+use smp_start::Tells;
 use std::alloc::Allocator;
 
 /// Whatever the threads of other CPUs do: this CPU's value is its part of stops that words of its table show, which
@@ -45,6 +49,16 @@ pub fn calls_are_alone(answering: &Answering)
 /// A site that is read as a jump jumps, and one that is read as a NOP does not.
 pub fn sites_read()
     ensures { (jumps Nop ≡ false) × (jumps Jmp ≡ true) }
+{}
+
+/// The answer of a stop function or of a patch is fixed by one step, the acknowledgement of `RUN`, by an active CPU or by the one that
+/// has made the patch. Loads, stores, exchanges, masks and all other counts leave the answer that a CPU carries. With the step that
+/// completes a stop its CPU carries none, which is 0.
+pub fn answers_are_fixed_at_run()
+    ensures kept { KeepsAnswers ⟦<StopRule as Tells<StopSeatView>>⟧.loaded × KeepsAnswers ⟦<StopRule as Tells<StopSeatView>>⟧.stored
+        × KeepsAnswers ⟦<StopRule as Tells<StopSeatView>>⟧.exchanged × KeepsAnswers ⟦<StopRule as Tells<StopSeatView>>⟧.swapped
+        × KeepsAnswers ⟦<StopRule as Tells<StopSeatView>>⟧.subtracted × KeepsAnswers ⟦<StopRule as Tells<StopSeatView>>⟧.masked }
+    ensures taken { TakesAnswers ⟦<StopRule as Tells<StopSeatView>>⟧.answered }
 {}
 
 /// Each call of a stop function is listed once, with the function and the argument of its work, and the answer: by `advance`
