@@ -257,6 +257,13 @@ pub fn headline_can_be_broken()
     ensures drained { (¬ (RunEqualQueued lost no_words)) × (¬ (RunEqualQueued no_calls one_counted)) }
 {}
 
+/// No steps that the CPUs may make lead to these states, which are broken whatever the words are.
+pub fn broken_calls_are_not_reached()
+    ensures place { (¬ (IsReached in_two_queues)) × (¬ (IsReached twice_in_a_queue)) × (¬ (IsReached held_by_another)) }
+    ensures once { (¬ (IsReached lost)) × (¬ (IsReached ran_twice)) × (¬ (IsReached ran_unsent)) }
+    ensures order { (¬ (IsReached second_begins)) × (¬ (IsReached second_joins)) }
+{}
+
 /// A queue has at most as many calls as there are records, so a walk along its links ends.
 pub fn queues_are_short()
     ensures { QueuesAreShort }
