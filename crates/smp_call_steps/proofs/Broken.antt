@@ -6,6 +6,8 @@ use Rattle.smp_call_steps.specs.{Call, Sync, no_calls}
 use Rattle.smp_call_steps.specs.Broken.{no_words, one_locked, one_counted, in_a_queue, in_two_queues, twice_in_a_queue, held_by_another}
 use Rattle.smp_call_steps.specs.Broken.{lost, ran_twice, ran_unsent, second_begins, second_joins}
 use Rattle.smp_call_steps.specs.Headline.{InOnePlace, RunOnce, RunInOrder, IsDrained, RunEqualQueued}
+use Rattle.smp_call_steps.specs.Reached.{IsReached, ArePlaced, HoldTheirOwn}
+use Rattle.smp_call_steps.proofs.ReachedLaws.{reached_run_once, reached_run_in_order, reached_placed, reached_hold}
 use Rattle.smp_call_steps.specs.place
 
 -- place
@@ -67,3 +69,39 @@ not_run h = let e : 0 ≡ 1 = as_many _ _ 1 0 (h none_locked 0 1).calls refl ref
 
 pub not_counted : RunEqualQueued no_calls one_counted → ⊥
 not_counted h = let e : 1 ≡ 0 = (h counted_drained 0 1).counts in omega (arith, e)
+
+-- no steps that CPUs may make lead there
+
+placed_twice : ArePlaced in_two_queues → ⊥
+placed_twice p = let e : place.Queued 1 ≡ place.Queued 2 = (p.queued 2).0.placed in absurd cc
+
+placed_again : ArePlaced twice_in_a_queue → ⊥
+placed_again p = (p.queue_apart 1).0.0 refl
+
+not_its_own : HoldTheirOwn held_by_another → ⊥
+unfolding owner
+not_its_own h = let e : 0 ≡ 1 = (h 1 0 refl).0 in omega (arith, e)
+
+pub no_two_queues : IsReached in_two_queues → ⊥
+no_two_queues r = placed_twice (reached_placed in_two_queues r)
+
+pub not_queued_twice : IsReached twice_in_a_queue → ⊥
+not_queued_twice r = placed_again (reached_placed twice_in_a_queue r)
+
+pub not_held_elsewhere : IsReached held_by_another → ⊥
+not_held_elsewhere r = not_its_own (reached_hold held_by_another r)
+
+pub none_lost : IsReached lost → ⊥
+none_lost r = one_lost (reached_run_once lost r)
+
+pub none_twice : IsReached ran_twice → ⊥
+none_twice r = one_twice (reached_run_once ran_twice r)
+
+pub none_unsent : IsReached ran_unsent → ⊥
+none_unsent r = one_unsent (reached_run_once ran_unsent r)
+
+pub not_begun_first : IsReached second_begins → ⊥
+not_begun_first r = begins_first (reached_run_in_order second_begins r)
+
+pub not_joined_first : IsReached second_joins → ⊥
+not_joined_first r = joins_first (reached_run_in_order second_joins r)

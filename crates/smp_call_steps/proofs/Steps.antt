@@ -3,6 +3,7 @@ pub mod Frames
 pub mod Own
 pub mod Turns
 pub mod Moving
+pub mod Placings
 pub mod StepShows
 pub mod Sending
 pub mod Posting

@@ -224,18 +224,24 @@ pub fn drained_machines_ran_all()
 
 ghost use Rattle.smp_call_steps.specs.State.{CallState, no_calls};
 ghost use Rattle.smp_call_steps.specs.Headline.{InOnePlace, RunOnce, RunInOrder, RunEqualQueued};
-ghost use Rattle.smp_call_steps.specs.Reached.{IsReached};
+ghost use Rattle.smp_call_steps.specs.Reached.{IsReached, ArePlaced, HoldTheirOwn, AreNoticed};
 ghost use Rattle.smp_call_steps.specs.Broken.{no_words, one_locked, one_counted, in_a_queue, in_two_queues, twice_in_a_queue};
 ghost use Rattle.smp_call_steps.specs.Broken.{held_by_another, lost, ran_twice, ran_unsent, second_begins, second_joins};
 
-/// Two statements of the headline hold of every state of the calls that is reached: to which steps that the CPUs may make lead, of
-/// any of them in any order, from nothing called. They follow from the premises of these steps ([`steps_are_premised`]), and from
-/// no word and no stage.
+/// These laws hold of every state of the calls that is reached: to which steps that the CPUs may make lead, of any of them in any
+/// order, from nothing called. They follow from the premises of these steps ([`steps_are_premised`]), and from no word and no stage.
+/// The tally law and what holds of a drained machine are not among them, since they speak of words.
+/// - `place`: Each record is where the state says, and nowhere else.
+/// - `held`: A CPU holds only records of its own.
 /// - `once`: What a source has sent to a CPU is what has begun there and what waits there, each call once.
 /// - `order`: In each class, calls begin in the order in which they joined the queue, and join it in the order in which they were sent.
-pub fn reached_calls_run_once()
+/// - `interrupt`: Where a CPU's queue is not empty, it has an interrupt pending, has accepted one, or is owed one.
+pub fn reached_calls_keep_laws()
+    ensures place { (a : CallState) → IsReached a → ArePlaced a }
+    ensures held { (a : CallState) → IsReached a → HoldTheirOwn a }
     ensures once { (a : CallState) → IsReached a → RunOnce a }
     ensures order { (a : CallState) → IsReached a → RunInOrder a }
+    ensures interrupt { (a : CallState) → IsReached a → AreNoticed a }
 {}
 
 /// The headline of calls rules something out: each of these states, with these words, breaks one of its laws.
@@ -249,6 +255,13 @@ pub fn headline_can_be_broken()
     ensures once { (¬ (RunOnce lost)) × (¬ (RunOnce ran_twice)) × (¬ (RunOnce ran_unsent)) }
     ensures order { (¬ (RunInOrder second_begins)) × (¬ (RunInOrder second_joins)) }
     ensures drained { (¬ (RunEqualQueued lost no_words)) × (¬ (RunEqualQueued no_calls one_counted)) }
+{}
+
+/// No steps that the CPUs may make lead to these states, which are broken whatever the words are.
+pub fn broken_calls_are_not_reached()
+    ensures place { (¬ (IsReached in_two_queues)) × (¬ (IsReached twice_in_a_queue)) × (¬ (IsReached held_by_another)) }
+    ensures once { (¬ (IsReached lost)) × (¬ (IsReached ran_twice)) × (¬ (IsReached ran_unsent)) }
+    ensures order { (¬ (IsReached second_begins)) × (¬ (IsReached second_joins)) }
 {}
 
 /// A queue has at most as many calls as there are records, so a walk along its links ends.

@@ -1,20 +1,19 @@
 -- The compare-exchange that wins: the held call joins the queue.
-use Rattle.std.proofs.Common.{◌≡◌, ◌≢◌, ℕ, ◌+◌, ◌%◌, ◌^◌, Bool, true, false, cond, Option, Some, None, List, [], ◌∷◌, ◌++◌, length, sym, subst, refl, ap, ◌∙◌}
+use Rattle.std.proofs.Common.{◌≡◌, ◌≢◌, ℕ, ◌+◌, ◌%◌, ◌^◌, Bool, true, false, cond, Option, None, List, [], ◌∷◌, ◌++◌, length, sym, refl, ap, ◌∙◌}
 use Rattle.std.proofs.Common.{◌⊎◌, inl, inr, arith, length-append}
 use Rattle.std.proofs.lemmas.Bool.{eq-eqb, ne_eqb, cases_eq}
-use Rattle.std.specs.List.{AllByRecursion}
-use Rattle.smp_call_steps.proofs.State.Batches.{has_left, has_right}
+use Rattle.smp_call_steps.proofs.Steps.Placings.{counted_hold, placed_appended}
 use Rattle.smp_call_steps.proofs.State.Recordings.{recorded_appended, sent_here, sent_else}
 use Rattle.smp_words.specs.Put.{put, put_word}
 use Rattle.smp_words.specs.Size.{owner}
-use Rattle.smp_call_steps.specs.{CallState, Holding, Sending, appended, is_nil, ControlValue, Placed, IsCall, IsThere, Holds, IsApart, locked_by, AllPlaced}
+use Rattle.smp_call_steps.specs.{CallState, Holding, Sending, appended, is_nil, ControlValue, IsCall}
 use Rattle.smp_call_steps.specs.{Chained, Leads, Linked, Noticed, IsNoticed, is_pending, is_accepted, is_owed, IsEmpty, nexts_in, heads_in, intrs_in}
 use Rattle.smp_call_steps.specs.{queued_in, ran_in, IsWrittenIn, WrittenIn, Tallied, sent_to, one_held, share_of}
 use Rattle.smp_call_steps.specs.{held_of, HandIs, Call, Word, Head, Hand, Queued, Next, RecPlace}
 use Rattle.smp_call_steps.specs.Stands.{CallStands}
 use Rattle.smp_call_steps.specs.Shows.{Shows}
 use Rattle.smp_words.proofs.Puts.{at_test, put_all, put_other, put_same}
-use Rattle.smp_call_steps.proofs.Basics.Alls.{every, every_push}
+use Rattle.smp_call_steps.proofs.Basics.Alls.{every_push}
 use Rattle.smp_call_steps.proofs.Steps.Frames.{Touches, leaves_others, CallStands-kept}
 use Rattle.smp_call_steps.specs.place
 
@@ -23,13 +22,6 @@ pub Leads-push : (nexts : ℕ → ℕ) (link : ℕ) (calls : List Call) (below :
     → Leads nexts (new.id + 1) (calls ++ new ∷ []) below
 Leads-push nexts link [] below new e l = (e ∙ l, refl)
 Leads-push nexts link (call ∷ rest) below new e l = (l.0, Leads-push nexts link rest (call.id + 1) new e l.1)
-
-pub IsApart-push : (calls : List Call) (new : Call) → AllByRecursion (λ call. new.id ≢ call.id) calls → IsApart calls → IsApart (calls ++ new ∷ [])
-IsApart-push [] new h a = (tt, tt)
-IsApart-push (call ∷ rest) new h a = (every_push (λ c. c.id ≢ call.id) rest new a.0 h.0, IsApart-push rest new h.1 a.1)
-
-true≢false : true ≢ false
-true≢false e = cc
 
 -- owed by now, and owed before
 owes_more : (first : Bool) (f : ℕ → ℕ → Bool) (me to source cpu : ℕ) → f source cpu ≡ true → cond first (put f me (put (f me) to true)) f source cpu ≡ true
@@ -52,8 +44,15 @@ noticed_else a first me to cpu (is_pending e) = is_pending e
 noticed_else a first me to cpu (is_accepted e) = is_accepted e
 noticed_else a first me to cpu (is_owed source o) = is_owed source (owes_more first a.owes me to source cpu o)
 
-abbrev counted_hold : Call → ℕ → Option Holding
-counted_hold call to = Some (record { call = call; to = to; is_counted = true })
+-- where each CPU with a queue was noticed, it is noticed after the append
+pub noticed_appended : (a : CallState) → ((cpu : ℕ) → IsEmpty (a.queue cpu) ⊎ IsNoticed a.pending a.accepted a.owes cpu) → (me to : ℕ) (call : Call) (cpu : ℕ)
+    → IsEmpty (put a.queue to (a.queue to ++ call ∷ []) cpu)
+    ⊎ IsNoticed a.pending a.accepted (cond (is_nil (a.queue to)) (put a.owes me (put (a.owes me) to true)) a.owes) cpu
+noticed_appended a n me to call cpu = elim (cases_eq cpu to) [
+  | inl e ↦ inr (rw e (noticed_there a me to (a.queue to) (n to)))
+  | inr ne ↦ rw (put_other a.queue to (a.queue to ++ call ∷ []) cpu ne)
+      (elim (n cpu) [ inl empty ↦ inl empty | inr m ↦ inr (noticed_else a (is_nil (a.queue to)) me to cpu m) ])
+]
 
 one_held-here : (held : Option Holding) (call : Call) (to : ℕ) → held ≡ counted_hold call to → one_held held to ≡ 1
 one_held-here held call to e = rw (e, eq-eqb to to refl) refl
@@ -71,10 +70,6 @@ tally_else : (n to cpu : ℕ) (sent : List Sending) (call : Call) (first : Bool)
     n ≡ (length (sent_to cpu sent) + one_held held cpu) % 2 ^ 64
     → n ≡ (length (sent_to cpu (sent ++ record { call = call; to = to; is_first = first } ∷ [])) + 0) % 2 ^ 64
 tally_else n to cpu sent call first held e ne t = rw (sent_else cpu to sent call first ne) (rw (one_held-else held call to cpu e ne) at t)
-
-held_same : (held : Option Holding) (call : Call) (to u : ℕ) → held ≡ counted_hold call to → Holds held u → u ≡ call.id
-held_same None call to u e h = absurd h
-held_same (Some x) call to u e h = let f : x ≡ record { call = call; to = to; is_counted = true } = cc in sym h ∙ ap (λ (y : Holding). y.call.id) f
 
 module _ (a : CallState) (at : Word → ℕ) (control : ℕ → ControlValue) (me to : ℕ) (call : Call) (next : ControlValue) (s : Shows a at control)
     (own : owner call.id ≡ me) (holds : a.held me ≡ counted_hold call to) (is_call : IsCall call) (placed : a.place call.id ≡ place.Held)
@@ -94,55 +89,6 @@ module _ (a : CallState) (at : Word → ℕ) (control : ℕ → ControlValue) (m
   touches : Touches call.id a.place (put a.place call.id (place.Queued to)) at (put_word at (Head to) (call.id + 1))
   touches = search (put_other, arith)
 
-  not_held : (p : RecPlace) (u : ℕ) → a.place u ≡ p → p ≢ place.Held → u ≢ call.id
-  not_held p u e ne f = ne (sym e ∙ (ap a.place f ∙ placed))
-
-  queued_else : (cpu : ℕ) → place.Queued cpu ≢ place.Held
-  queued_else cpu e = cc
-
-  batch_else : (cpu : ℕ) → place.Batch cpu ≢ place.Held
-  batch_else cpu e = cc
-
-  running_else : (cpu : ℕ) → place.Running cpu ≢ place.Held
-  running_else cpu e = cc
-
-  still : (p : RecPlace) → p ≢ place.Held → (calls : List Call) → AllPlaced a.place p calls → AllPlaced (put a.place call.id (place.Queued to)) p calls
-  still p ne = search (every, put_other, not_held, arith)
-
-  there_else : (u : ℕ) (p : RecPlace) → u ≢ call.id → IsThere a.held a.queue a.batch a.running u p
-      → IsThere (put a.held me None) (put a.queue to (a.queue to ++ call ∷ [])) a.batch a.running u p
-  there_else u place.Held ne h = search (at_test, held_same, arith)
-  there_else u (place.Queued cpu) ne h = search (at_test, has_left, arith)
-  there_else u _ ne h = h
-
-  there_id : IsThere (put a.held me None) (put a.queue to (a.queue to ++ call ∷ [])) a.batch a.running call.id (place.Queued to)
-  there_id = rw (put_same a.queue to (a.queue to ++ call ∷ [])) (has_right call.id (a.queue to) (call ∷ []) (inl refl))
-
-  placed' : Placed (put a.place call.id (place.Queued to)) (put a.held me None) (put a.queue to (a.queue to ++ call ∷ [])) a.batch a.running
-      (put a.confirmed me (put (a.confirmed me) call.id false))
-  placed' = record {
-    queued = search (at_test, every_push, still, queued_else, put_same, arith);
-    batched = λ cpu. still (place.Batch cpu) (batch_else cpu) (a.batch cpu) (s.placed.batched cpu);
-    runs = λ cpu. still (place.Running cpu) (running_else cpu) (locked_by (a.running cpu)) (s.placed.runs cpu);
-    queue_apart = search (at_test, IsApart-push, every, not_held, queued_else, arith);
-    batch_apart = s.placed.batch_apart;
-    is_there = λ u. elim (cases_eq u call.id) [
-      | inl e ↦
-          subst (λ (k : ℕ). IsThere (put a.held me None) (put a.queue to (a.queue to ++ call ∷ [])) a.batch a.running k
-          (put a.place call.id (place.Queued to) k)) (sym e) (rw (put_same a.place call.id (place.Queued to)) there_id)
-      | inr ne ↦ rw (put_other a.place call.id (place.Queued to) u ne) (there_else u (a.place u) ne (s.placed.is_there u))
-    ];
-    settled =
-        λ source u o. at_test source me
-        (λ b. cond b (put (a.confirmed me) call.id false) (a.confirmed source) u ≡ true
-        → (put a.place call.id (place.Queued to) u ≡ place.Free) ⊎ Holds (cond b None (a.held source)) u)
-        (λ es. at_test u call.id (λ b. cond b false (a.confirmed me u) ≡ true → (cond b (place.Queued to) (a.place u) ≡ place.Free) ⊎ ⊥)
-        (λ _ e. absurd (true≢false (sym e)))
-        (λ ne e. elim (s.placed.settled me u (o ∙ es) e) [ inl free ↦ inl free | inr hold ↦ absurd (ne (held_same (a.held me) call to u holds hold)) ]))
-        (λ ns e. elim (s.placed.settled source u o e)
-        [ inl free ↦ inl (put_other a.place call.id (place.Queued to) u (λ eu. ns (sym o ∙ (ap owner eu ∙ own))) ∙ free) | inr hold ↦ inr hold ]);
-  }
-
   written' : WrittenIn at (put a.place call.id (place.Queued to)) (put a.queue to (a.queue to ++ call ∷ [])) a.batch a.running
   written' = search (at_test, every_push, arith)
 
@@ -156,11 +102,7 @@ module _ (a : CallState) (at : Word → ℕ) (control : ℕ → ControlValue) (m
       (cond (is_nil (a.queue to)) (put a.owes me (put (a.owes me) to true)) a.owes)
   noticed' = record {
     words = s.noticed.words;
-    noticed = λ cpu. elim (cases_eq cpu to) [
-      | inl e ↦ inr (rw e (noticed_there a me to (a.queue to) (s.noticed.noticed to)))
-      | inr ne ↦ rw (put_other a.queue to (a.queue to ++ call ∷ []) cpu ne)
-          (elim (s.noticed.noticed cpu) [ inl empty ↦ inl empty | inr n ↦ inr (noticed_else a (is_nil (a.queue to)) me to cpu n) ])
-    ];
+    noticed = noticed_appended a s.noticed.noticed me to call;
   }
 
   tallied' : Tallied (queued_in at) (ran_in at) (put a.sent me (a.sent me ++ record { call = call; to = to; is_first = is_nil (a.queue to) } ∷ []))
@@ -190,7 +132,7 @@ module _ (a : CallState) (at : Word → ℕ) (control : ℕ → ControlValue) (m
         (λ cpu ne. CallStands-kept (leaves_others me call.id a.place (put a.place call.id (place.Queued to)) at (put_word at (Head to) (call.id + 1))
         (rw placed own) touches cpu ne) (share_of a cpu) (control cpu) (s.placed.batched cpu) (s.stands cpu));
     hands = put_all (λ cpu (x : ControlValue). HandIs x.stage (at (Hand cpu))) control me next hand (λ cpu _. s.hands cpu);
-    placed = placed';
+    placed = placed_appended a s.placed me to call own holds is_call placed;
     written = written';
     chained = chained';
     links = links';

@@ -1,12 +1,12 @@
 -- The steps of handle that begin a call: the front of the batch runs, and its record stays locked or is free.
-use Rattle.std.proofs.Common.{◌≡◌, ◌≢◌, ℕ, ◌+◌, nat_lt, inl, inr, true, cond, Option, Some, None, List, [], ◌∷◌, ◌++◌, sym, subst, refl, ap, ◌∙◌, arith}
+use Rattle.std.proofs.Common.{◌≡◌, ◌≢◌, ℕ, ◌+◌, nat_lt, inl, true, cond, Option, Some, None, List, [], ◌∷◌, ◌++◌, sym, subst, refl, ◌∙◌, arith}
 use Rattle.std.proofs.Common.{append_assoc}
 use Rattle.std.proofs.lemmas.Bool.{lt-ltb}
 use Rattle.std.proofs.lemmas.List.{append-nil}
 use Rattle.std.specs.List.{AllByRecursion}
 use Rattle.smp_words.specs.Put.{put, put_word}
 use Rattle.smp_call_steps.specs.{CallState, Running, Nothing, SyncCall, AsyncCall, begins_sync, begins_async, sync_calls, async_calls, DrainValue}
-use Rattle.smp_call_steps.specs.{ControlValue, IsApart, HasRecord, IsThere, Placed, locked_by, AllPlaced, FlagsShow, IsWritten, Written, last_batch, flags_in}
+use Rattle.smp_call_steps.specs.{ControlValue, IsApart, HasRecord, locked_by, AllPlaced, FlagsShow, IsWritten, Written, last_batch, flags_in}
 use Rattle.smp_call_steps.specs.{funcs_in, infos_in, queued_in, ran_in, IsWrittenIn, counted_call, Tallied, share_of, HandIs}
 use Rattle.smp_call_steps.specs.{Call, Word, Hand, Flags, RecPlace, Walk, Handle}
 use Rattle.smp_call_steps.specs.Stands.{CallStands}
@@ -15,18 +15,14 @@ use Rattle.smp_words.proofs.Puts.{at_test, test_here, test_else}
 use Rattle.smp_call_steps.proofs.Steps.Frames.{Minds, Touches, leaves_others}
 use Rattle.smp_call_steps.proofs.State.Walks.{walks_stay, ends_stay, walks_sync, ends_async}
 use Rattle.smp_call_steps.proofs.Steps.Turns.{holds_nothing, stands_at, hand_at, held_after, stands_after, hands_after, hands_stored}
-use Rattle.smp_call_steps.proofs.Steps.Moving.{Batch≢Batch, Running≢Batch, Queued≢Batch, Batch≢Free, all_placed_still, all_placed_apart, placed_moved}
+use Rattle.smp_call_steps.proofs.Steps.Moving.{Batch≢Batch, Running≢Batch, Queued≢Batch}
 use Rattle.smp_call_steps.proofs.Steps.Moving.{all_written_still, all_written_apart, written_moved}
+use Rattle.smp_call_steps.proofs.Steps.Placings.{front_placed, front_apart, front_here, placed_begun}
 use Rattle.smp_call_steps.proofs.State.Recordings.{recorded_begun}
 use Rattle.smp_call_steps.proofs.State.Tallies.{tallied_same}
 use Rattle.smp_call_steps.proofs.Steps.StepShows.{StepShows}
 use Rattle.smp_call_steps.specs.place
 use Rattle.smp_call_steps.specs.handle
-
--- of a batch, the records but the front one
-has_rest : (u : ℕ) (call : Call) (rest : List Call) → u ≢ call.id → HasRecord u (call ∷ rest) → HasRecord u rest
-has_rest u call rest ne (inl e) = absurd (ne (sym e))
-has_rest u call rest ne (inr h) = h
 
 module _ {a : CallState} {at : Word → ℕ} {control : ℕ → ControlValue} (me : ℕ) (s : Shows a at control) where
   -- the front of the batch goes to another place, and runs
@@ -35,16 +31,16 @@ module _ {a : CallState} {at : Word → ℕ} {control : ℕ → ControlValue} (m
     begun = record a { place = put a.place call.id to; batch = put a.batch me rest; running = put a.running me r }
 
     all_placed : AllPlaced a.place (place.Batch me) (call ∷ rest)
-    all_placed = subst (λ (xs : List Call). AllPlaced a.place (place.Batch me) xs) front (s.placed.batched me)
+    all_placed = front_placed a s.placed me call rest front
+
+    here : a.place call.id ≡ place.Batch me
+    here = front_here a s.placed me call rest front
+
+    apart : IsApart (call ∷ rest)
+    apart = front_apart a s.placed me call rest front
 
     all_written : AllByRecursion (IsWrittenIn at) (call ∷ rest)
     all_written = subst (λ (xs : List Call). AllByRecursion (IsWrittenIn at) xs) front (s.written.batched me)
-
-    apart : IsApart (call ∷ rest)
-    apart = subst IsApart front (s.placed.batch_apart me)
-
-    here : a.place call.id ≡ place.Batch me
-    here = all_placed.0.placed
 
     begun_stands : (at' : Word → ℕ) (c : ControlValue) → Touches call.id a.place (put a.place call.id to) at at'
         → CallStands (put a.place call.id to) at' (share_of begun me) me c →
@@ -55,26 +51,6 @@ module _ {a : CallState} {at : Word → ℕ} {control : ℕ → ControlValue} (m
         ≡ share_of a cpu) (λ f. absurd (ne f)) (λ _. refl))
         (λ cpu ne. leaves_others me call.id a.place (put a.place call.id to) at at' (subst (Minds me call.id) (sym here) refl) t cpu ne)
         stands
-
-    begun_placed : AllPlaced (put a.place call.id to) (place.Running me) (locked_by r) → IsThere a.held a.queue begun.batch begun.running call.id to →
-        Placed (put a.place call.id to) a.held a.queue (put a.batch me rest) (put a.running me r) a.confirmed
-    begun_placed runs there = placed_moved a.place call.id (place.Batch me) to here a.held a.queue a.batch (put a.batch me rest) a.running
-        (put a.running me r) a.confirmed
-        (Batch≢Free me) (λ cpu. Queued≢Batch cpu me) s.placed
-        (λ cpu. at_test cpu me (λ b. AllPlaced (put a.place call.id to) (place.Batch cpu) (cond b rest (a.batch cpu)))
-        (λ e. subst (λ (k : ℕ). AllPlaced (put a.place call.id to) (place.Batch k) rest) (sym e)
-        (all_placed_apart a.place call.id (place.Batch me) to here (place.Batch me) rest apart.0 all_placed.1))
-        (λ ne. all_placed_still a.place call.id (place.Batch me) to here (place.Batch cpu) (a.batch cpu) (Batch≢Batch cpu me ne) (s.placed.batched cpu)))
-        (λ cpu. at_test cpu me (λ b. AllPlaced (put a.place call.id to) (place.Running cpu) (locked_by (cond b r (a.running cpu))))
-        (λ e. subst (λ (k : ℕ). AllPlaced (put a.place call.id to) (place.Running k) (locked_by r)) (sym e) runs)
-        (λ _. all_placed_still a.place call.id (place.Batch me) to here (place.Running cpu) (locked_by (a.running cpu)) (Running≢Batch cpu me)
-        (s.placed.runs cpu)))
-        (λ cpu. at_test cpu me (λ b. IsApart (cond b rest (a.batch cpu))) (λ _. apart.1) (λ _. s.placed.batch_apart cpu))
-        there
-        (λ u cpu ne. at_test cpu me (λ b. HasRecord u (a.batch cpu) → HasRecord u (cond b rest (a.batch cpu)))
-        (λ e h. has_rest u call rest ne (subst (HasRecord u) (ap a.batch e ∙ front) h)) (λ _ h. h))
-        (λ u cpu ne. at_test cpu me (λ b. HasRecord u (locked_by (a.running cpu)) → HasRecord u (locked_by (cond b r (a.running cpu))))
-        (λ e h. absurd (subst (λ (x : Running). HasRecord u (locked_by x)) (ap a.running e ∙ idle) h)) (λ _ h. h))
 
     begun_written : (flags' : ℕ → ℕ) → ((u : ℕ) → u ≢ call.id → flags' u ≡ at (Flags u)) → FlagsShow to (flags' call.id)
         → AllByRecursion (IsWritten flags' (funcs_in at) (infos_in at)) (locked_by r) →
@@ -100,7 +76,7 @@ module _ {a : CallState} {at : Word → ℕ} {control : ℕ → ControlValue} (m
       Shows (begins_sync a me (call ∷ rest)) (put_word at (Hand me) (call.id + 2)) (put control me c)
   begun_sync walk next call rest c front idle held stage stands =
       let to : RecPlace = place.Running me in
-      let first = all_placed call rest front idle to (SyncCall call) in
+      let first = front_placed a s.placed me call rest front in
       let words = all_written call rest front idle to (SyncCall call) in
       record {
         held = held_after me s c (rw stage held);
@@ -113,11 +89,11 @@ module _ {a : CallState} {at : Word → ℕ} {control : ℕ → ControlValue} (m
               next = λ _ _. refl;
             }) stands;
         hands = hands_stored me s c (call.id + 2) (rw stage refl);
-        placed = begun_placed call rest front idle to (SyncCall call)
+        placed = placed_begun a s.placed me call rest front to (SyncCall call) idle
             (record { is_call = first.0.is_call; placed = test_here call.id to (a.place call.id) }, tt)
             (subst (λ (x : Running). HasRecord call.id (locked_by x)) (sym (test_here me (SyncCall call) (a.running me))) (inl refl));
         written = begun_written call rest front idle to (SyncCall call) (flags_in at) (λ _ _. refl)
-            (subst (λ (p : RecPlace). FlagsShow p (at (Flags call.id))) (here call rest front idle to (SyncCall call)) (s.written.locks call.id)) (words.0, tt);
+            (subst (λ (p : RecPlace). FlagsShow p (at (Flags call.id))) (front_here a s.placed me call rest front) (s.written.locks call.id)) (words.0, tt);
         chained = s.chained;
         links = s.links;
         noticed = s.noticed;
@@ -164,7 +140,7 @@ module _ {a : CallState} {at : Word → ℕ} {control : ℕ → ControlValue} (m
         next = λ _ _. refl;
       }) stands in
       let hands = hands_after me s c hand in
-      let placed = begun_placed call rest front idle to (AsyncCall call) tt tt in
+      let placed = placed_begun a s.placed me call rest front to (AsyncCall call) idle tt tt in
       let written = begun_written call rest front idle to (AsyncCall call) (put (flags_in at) call.id 0) (λ u ne. test_else u call.id 0 (at (Flags u)) ne)
       (test_here call.id 0 (at (Flags call.id))) tt in
       let recorded = recorded_begun a me s.recorded call rest (AsyncCall call) front idle refl in

@@ -1,21 +1,22 @@
 -- The steps of handle that count a call and end it.
-use Rattle.std.proofs.Common.{◌≡◌, ◌≢◌, ℕ, ◌+◌, ◌%◌, ◌^◌, inl, inr, cond, Option, Some, List, [], ◌∷◌, ◌++◌, sym, subst, refl, ap, ◌∙◌, arith}
+use Rattle.std.proofs.Common.{◌≡◌, ◌≢◌, ℕ, ◌+◌, ◌%◌, ◌^◌, cond, Option, Some, List, [], ◌∷◌, ◌++◌, sym, subst, refl, ap, ◌∙◌, arith}
 use Rattle.std.proofs.lemmas.List.{append-nil}
 use Rattle.std.specs.List.{AllByRecursion}
 use Rattle.smp_words.specs.Size.{owner}
 use Rattle.smp_words.specs.Put.{put, put_word}
-use Rattle.smp_call_steps.specs.{CallState, Holding, Running, Nothing, CountedCall, counts, ends_sync, ends_async, DrainValue, second_on, first_on}
-use Rattle.smp_call_steps.specs.{ControlValue, HasRecord, IsThere, Placed, locked_by, AllPlaced, IsWritten, Written, last_batch, flags_in, funcs_in, infos_in}
+use Rattle.smp_call_steps.specs.{CallState, Running, Nothing, CountedCall, counts, ends_sync, ends_async, DrainValue, second_on, first_on}
+use Rattle.smp_call_steps.specs.{ControlValue, locked_by, IsWritten, Written, last_batch, flags_in, funcs_in, infos_in}
 use Rattle.smp_call_steps.specs.{nexts_in, queued_in, ran_in, IsWrittenIn, running_call, counted_call, Tallied, Share, share_of, HandIs}
-use Rattle.smp_call_steps.specs.{held_of, Call, Word, Hand, Ran, Flags, RecPlace, Walk, Handle}
+use Rattle.smp_call_steps.specs.{held_of, Call, Word, Hand, Ran, Flags, Walk, Handle}
 use Rattle.smp_call_steps.specs.Stands.{CallStands}
 use Rattle.smp_call_steps.specs.Shows.{Shows}
 use Rattle.smp_words.proofs.Puts.{at_test, test_here, test_else}
 use Rattle.smp_call_steps.proofs.Steps.Frames.{Minds, leaves_others, leaves_all}
 use Rattle.smp_call_steps.proofs.Steps.Turns.{holds_nothing, stands_at, hand_at, held_after, stands_after, hands_after}
-use Rattle.smp_call_steps.proofs.Steps.Moving.{Running≢Running, Batch≢Running, Queued≢Running, Running≢Free, all_placed_still, placed_moved}
+use Rattle.smp_call_steps.proofs.Steps.Moving.{Running≢Running, Batch≢Running, Queued≢Running}
 use Rattle.smp_call_steps.proofs.Steps.Moving.{all_written_still, written_moved}
 use Rattle.smp_call_steps.proofs.State.Walks.{walks_stay, ends_stay, second_goes, first_goes, hand_of_second, hand_of_first}
+use Rattle.smp_call_steps.proofs.Steps.Placings.{running_here, placed_counted, placed_ended}
 use Rattle.smp_call_steps.proofs.State.Recordings.{recorded_counted}
 use Rattle.smp_call_steps.proofs.State.Tallies.{tallied_more, tallied_same}
 use Rattle.smp_call_steps.proofs.Steps.StepShows.{StepShows}
@@ -24,18 +25,6 @@ use Rattle.smp_call_steps.specs.handle
 
 more_than_zero : (hand id : ℕ) → hand ≡ id + 2 → hand ≢ 0
 more_than_zero hand id e f = omega arith
-
-has_one : (u : ℕ) (call : Call) → u ≢ call.id → HasRecord u (call ∷ []) → ⊥
-has_one u call ne (inl e) = ne (sym e)
-has_one u call ne (inr h) = h
-
--- where a record is said to be, with the same records locked by running calls
-there_running : (held : ℕ → Option Holding) (queue batch : ℕ → List Call) (running running' : ℕ → Running)
-    → ((cpu : ℕ) → locked_by (running' cpu) ≡ locked_by (running cpu)) → (id : ℕ) (p : RecPlace) →
-    IsThere held queue batch running id p → IsThere held queue batch running' id p
-there_running held queue batch running running' same id place.Free h = tt
-there_running held queue batch running running' same id (place.Running cpu) h = subst (HasRecord id) (sym (same cpu)) h
-there_running held queue batch running running' same id _ h = h
 
 module _ {a : CallState} {at : Word → ℕ} {control : ℕ → ControlValue} (me : ℕ) (s : Shows a at control) where
   -- the words after the store of the number of calls that ran from its source
@@ -62,15 +51,7 @@ module _ {a : CallState} {at : Word → ℕ} {control : ℕ → ControlValue} (m
           (λ f. absurd (ne f)) (λ _. refl))
           (λ cpu _. leaves_all a.place at (stored call) (λ _. refl) (λ _. refl) (λ _. refl) (λ _. refl) cpu) stands;
       hands = hands_after me s c hand;
-      placed = record {
-        queued = s.placed.queued;
-        batched = s.placed.batched;
-        runs = λ cpu. subst (AllPlaced a.place (place.Running cpu)) (sym (same_locked cpu)) (s.placed.runs cpu);
-        queue_apart = s.placed.queue_apart;
-        batch_apart = s.placed.batch_apart;
-        is_there = λ id. there_running a.held a.queue a.batch a.running (put a.running me r) same_locked id (a.place id) (s.placed.is_there id);
-        settled = s.placed.settled;
-      };
+      placed = placed_counted a s.placed me r locked;
       written = record {
         locks = s.written.locks;
         queued = s.written.queued;
@@ -134,26 +115,8 @@ module _ {a : CallState} {at : Word → ℕ} {control : ℕ → ControlValue} (m
 
   -- the record of the SYNC call that ran is free
   module _ (call : Call) (running : a.running me ≡ CountedCall call) where
-    here_call : AllPlaced a.place (place.Running me) (call ∷ [])
-    here_call = subst (λ (x : Running). AllPlaced a.place (place.Running me) (locked_by x)) running (s.placed.runs me)
-
     here : a.place call.id ≡ place.Running me
-    here = here_call.0.placed
-
-    end_placed : Placed (put a.place call.id place.Free) a.held a.queue a.batch (put a.running me Nothing) a.confirmed
-    end_placed = placed_moved a.place call.id (place.Running me) place.Free here a.held a.queue a.batch a.batch a.running (put a.running me Nothing) a.confirmed
-        (Running≢Free me) (λ cpu. Queued≢Running cpu me) s.placed
-        (λ cpu. all_placed_still a.place call.id (place.Running me) place.Free here (place.Batch cpu) (a.batch cpu) (Batch≢Running cpu me)
-        (s.placed.batched cpu))
-        (λ cpu. at_test cpu me (λ b. AllPlaced (put a.place call.id place.Free) (place.Running cpu) (locked_by (cond b Nothing (a.running cpu))))
-        (λ _. tt)
-        (λ ne. all_placed_still a.place call.id (place.Running me) place.Free here (place.Running cpu) (locked_by (a.running cpu)) (Running≢Running cpu me ne)
-        (s.placed.runs cpu)))
-        s.placed.batch_apart
-        tt
-        (λ u cpu ne h. h)
-        (λ u cpu ne. at_test cpu me (λ b. HasRecord u (locked_by (a.running cpu)) → HasRecord u (locked_by (cond b Nothing (a.running cpu))))
-        (λ e h. has_one u call ne (subst (λ (x : Running). HasRecord u (locked_by x)) (ap a.running e ∙ running) h)) (λ _ h. h))
+    here = running_here a s.placed me call running
 
     end_written : Written (put (flags_in at) call.id 0) (funcs_in at) (infos_in at) (put a.place call.id place.Free) a.queue a.batch (put a.running me Nothing)
     end_written = written_moved a.place call.id (place.Running me) place.Free here (flags_in at) (put (flags_in at) call.id 0) (funcs_in at) (infos_in at) same
@@ -199,7 +162,7 @@ module _ {a : CallState} {at : Word → ℕ} {control : ℕ → ControlValue} (m
           }) cpu ne)
           stands;
       hands = hands_after me s c hand;
-      placed = end_placed;
+      placed = placed_ended a s.placed me call running;
       written = end_written;
       chained = s.chained;
       links = s.links;

@@ -1,9 +1,10 @@
 -- The steps of handle before it takes a queue and after it has run it: enter, accept and leave.
-use Rattle.std.proofs.Common.{◌≡◌, ◌≢◌, ℕ, ◌<◌, inl, inr, Bool, true, false, ◌==◌, cond, if◌then◌else◌, Some, None, sym, refl, ◌∙◌, arith}
+use Rattle.std.proofs.Common.{◌≡◌, ◌≢◌, ℕ, ◌<◌, ◌⊎◌, inl, inr, Bool, true, false, ◌==◌, cond, if◌then◌else◌, Some, None, sym, refl, ◌∙◌, arith}
 use Rattle.std.proofs.lemmas.Bool.{eqb-true, eqb-false}
 use Rattle.smp_words.specs.Size.{cpus}
 use Rattle.smp_words.specs.Put.{put, put_word}
-use Rattle.smp_call_steps.specs.{CallState, accepts, handle_goes, ControlValue, bit, IsNoticed, is_pending, is_accepted, is_owed, Noticed, nexts_in, intrs_in}
+use Rattle.smp_call_steps.specs.{CallState, accepts, handle_goes, ControlValue, bit, IsEmpty, IsNoticed, is_pending, is_accepted}
+use Rattle.smp_call_steps.specs.{is_owed, Noticed, nexts_in, intrs_in}
 use Rattle.smp_call_steps.specs.{outside, hands_in, last_batch, share_of, HandleStands, HandIs, held_of, Word, Intr, Hand, Handle}
 use Rattle.smp_call_steps.specs.Stands.{CallStands}
 use Rattle.smp_call_steps.specs.Shows.{Shows}
@@ -28,6 +29,21 @@ one_bit true ne = refl
 accepted_now : (pending accepted : Bool) → accepted ≡ true → (if pending then true else accepted) ≡ true
 accepted_now true accepted e = refl
 accepted_now false accepted e = e
+
+module _ (a : CallState) (me : ℕ) where
+  abbrev accepted' : ℕ → Bool
+  accepted' = put a.accepted me (if a.pending me then true else a.accepted me)
+
+  -- a CPU that was noticed is noticed still
+  still_noticed : (cpu : ℕ) → IsNoticed a.pending a.accepted a.owes cpu → IsNoticed (put a.pending me false) accepted' a.owes cpu
+  still_noticed cpu (is_pending e) = search (at_test, test_here, test_else, arith)
+  still_noticed cpu (is_accepted e) = search (at_test, accepted_now, arith)
+  still_noticed cpu (is_owed source e) = is_owed source e
+
+  -- where each CPU with a queue was noticed, it is noticed after the swap of the own interrupt word
+  pub noticed_then : ((cpu : ℕ) → IsEmpty (a.queue cpu) ⊎ IsNoticed a.pending a.accepted a.owes cpu) → (cpu : ℕ)
+      → IsEmpty (a.queue cpu) ⊎ IsNoticed (put a.pending me false) accepted' a.owes cpu
+  noticed_then n cpu = elim (n cpu) [ inl empty ↦ inl empty | inr noticed ↦ inr (still_noticed cpu noticed) ]
 
 module _ {a : CallState} {at : Word → ℕ} {control : ℕ → ControlValue} (me : ℕ) (s : Shows a at control) where
   -- a step that stores the own handling word alone
@@ -56,22 +72,13 @@ module _ {a : CallState} {at : Word → ℕ} {control : ℕ → ControlValue} (m
       let was = stands_at me s handle.Leave e in
       stores_hand 0 outside (holds_nothing me s handle.Leave e) was.1.0 refl
 
-  abbrev accepted' : ℕ → Bool
-  accepted' = put a.accepted me (if a.pending me then true else a.accepted me)
-
-  -- a CPU that was noticed is noticed still
-  still_noticed : (cpu : ℕ) → IsNoticed a.pending a.accepted a.owes cpu → IsNoticed (put a.pending me false) accepted' a.owes cpu
-  still_noticed cpu (is_pending e) = search (at_test, test_here, test_else, arith)
-  still_noticed cpu (is_accepted e) = search (at_test, accepted_now, arith)
-  still_noticed cpu (is_owed source e) = is_owed source e
-
-  noticed_accepted : Noticed (put (intrs_in at) me 0) a.queue (put a.pending me false) accepted' a.owes
+  noticed_accepted : Noticed (put (intrs_in at) me 0) a.queue (put a.pending me false) (accepted' a me) a.owes
   noticed_accepted = record {
     words = λ cpu. at_test cpu me (λ b. cond b 0 (at (Intr cpu)) ≡ bit (cond b false (a.pending cpu))) (λ _. refl) (λ _. s.noticed.words cpu);
-    noticed = λ cpu. elim (s.noticed.noticed cpu) [ inl empty ↦ inl empty | inr noticed ↦ inr (still_noticed cpu noticed) ];
+    noticed = noticed_then a me s.noticed.noticed;
   }
 
-  accepted_after : accepted' me ≡ (if a.pending me then true else a.accepted me)
+  accepted_after : accepted' a me me ≡ (if a.pending me then true else a.accepted me)
   accepted_after = test_here me (if a.pending me then true else a.accepted me) (a.accepted me)
 
   -- where it goes, by whether an interrupt was pending

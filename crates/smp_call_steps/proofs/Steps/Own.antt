@@ -4,14 +4,14 @@ use Rattle.std.proofs.lemmas.Bool.{cases_eq}
 use Rattle.std.specs.List.{AllByRecursion}
 use Rattle.smp_words.specs.Put.{put}
 use Rattle.smp_words.specs.Size.{owner}
-use Rattle.smp_call_steps.specs.{CallState, Holding, ControlValue, Placed, IsThere, Holds, AllPlaced, FlagsShow, Chained, Linked, LinkIs, Noticed, nexts_in}
+use Rattle.smp_call_steps.specs.{CallState, Holding, ControlValue, Holds, AllPlaced, FlagsShow, Chained, Linked, LinkIs, Noticed, nexts_in}
 use Rattle.smp_call_steps.specs.{heads_in, intrs_in, queued_in, ran_in, IsWrittenIn, WrittenIn, Tallied, StandsAt, share_of, held_of, held_of_post, HandIs}
 use Rattle.smp_call_steps.specs.{Call, Word, Head, Intr, Hand, Flags, RecPlace, Posting, PostStage, Stage, Post}
 use Rattle.smp_call_steps.specs.Stands.{CallStands}
 use Rattle.smp_call_steps.specs.Shows.{Shows}
 use Rattle.smp_words.proofs.Puts.{at_test, put_all}
-use Rattle.smp_call_steps.proofs.Basics.Alls.{every}
 use Rattle.smp_call_steps.proofs.Steps.Frames.{Touches, Minds, Leads-kept, leaves_others, CallStands-kept}
+use Rattle.smp_call_steps.proofs.Steps.Placings.{IsHome, OwnMove, away_queue, away_batch, away_running, else_home, placed_own}
 use Rattle.smp_call_steps.specs.place
 use Rattle.smp_call_steps.specs.post
 
@@ -35,22 +35,6 @@ pub LinkIs-kept : (nexts nexts' : ℕ → ℕ) (h : Option Holding) (l : Option 
 LinkIs-kept nexts nexts' None l f k = k
 LinkIs-kept nexts nexts' (Some h) None f k = k
 LinkIs-kept nexts nexts' (Some h) (Some n) f k = f h.call.id refl ∙ k
-
--- at home: free, or held
-abbrev pub IsHome : RecPlace → Type 0
-IsHome p = (p ≡ place.Free) ⊎ (p ≡ place.Held)
-
-home_queue : (p : RecPlace) (cpu : ℕ) → IsHome p → p ≢ place.Queued cpu
-home_queue p cpu (inl e) f = let x = sym e ∙ f in cc
-home_queue p cpu (inr e) f = let x = sym e ∙ f in cc
-
-home_batch : (p : RecPlace) (cpu : ℕ) → IsHome p → p ≢ place.Batch cpu
-home_batch p cpu (inl e) f = let x = sym e ∙ f in cc
-home_batch p cpu (inr e) f = let x = sym e ∙ f in cc
-
-home_running : (p : RecPlace) (cpu : ℕ) → IsHome p → p ≢ place.Running cpu
-home_running p cpu (inl e) f = let x = sym e ∙ f in cc
-home_running p cpu (inr e) f = let x = sym e ∙ f in cc
 
 home_minds : (me id : ℕ) (p : RecPlace) → owner id ≡ me → IsHome p → Minds me id p
 home_minds me id p o (inl e) = rw e o
@@ -83,36 +67,23 @@ pub record OwnStep (a : CallState) (at at' : Word → ℕ) (control : ℕ → Co
 module _ (a : CallState) (at at' : Word → ℕ) (control : ℕ → ControlValue) (me id : ℕ) (next : ControlValue) (places' : ℕ → RecPlace)
     (held' : ℕ → Option Holding) (linked' : ℕ → Option ℕ)
     (s : Shows a at control) (o : OwnStep a at at' control me id next places' held' linked') where
-  -- a record at a place that is no home is another one
   elsewhere : (u : ℕ) (p : RecPlace) → a.place u ≡ p → (IsHome p → ⊥) → u ≢ id
-  elsewhere u p e away f = away (subst IsHome (sym (ap a.place f) ∙ e) o.before)
+  elsewhere u p e away = else_home a.place id o.before u p e away
 
   written_else : (p : RecPlace) → (IsHome p → ⊥) → (calls : List Call) → AllPlaced a.place p calls → AllByRecursion (IsWrittenIn at) calls
       → AllByRecursion (IsWrittenIn at') calls
   written_else p away [] q w = tt
   written_else p away (call ∷ rest) q w = search (elsewhere, written_else p away rest q.1 w.1, arith)
 
-  away_queue : (cpu : ℕ) → IsHome (place.Queued cpu) → ⊥
-  away_queue cpu h = home_queue (place.Queued cpu) cpu h refl
-
-  away_batch : (cpu : ℕ) → IsHome (place.Batch cpu) → ⊥
-  away_batch cpu h = home_batch (place.Batch cpu) cpu h refl
-
-  away_running : (cpu : ℕ) → IsHome (place.Running cpu) → ⊥
-  away_running cpu h = home_running (place.Running cpu) cpu h refl
-
-  holds_else : (source u : ℕ) → u ≢ id → Holds (a.held source) u → Holds (held' source) u
-  holds_else source u ne h = search (cases_eq, arith)
-
-  there_else : (u : ℕ) (p : RecPlace) → u ≢ id → IsThere a.held a.queue a.batch a.running u p → IsThere held' a.queue a.batch a.running u p
-  there_else u place.Held ne h = holds_else (owner u) u ne h
-  there_else u _ ne h = h
-
-  there_id : IsThere held' a.queue a.batch a.running id (places' id)
-  there_id = elim o.after [ inl e ↦ rw e tt | inr e ↦ rw (e.0, o.owned) e.1 ]
-
-  placed' : Placed places' held' a.queue a.batch a.running a.confirmed
-  placed' = search (away_queue, away_batch, away_running, cases_eq, there_id, there_else, holds_else, every, elsewhere, arith)
+  move : OwnMove a me id places' held'
+  move = record {
+    place_stays = o.touches.place_stays;
+    owned = o.owned;
+    before = o.before;
+    after = o.after;
+    mine_only = o.mine_only;
+    others_held = o.others_held;
+  }
 
   written' : WrittenIn at' places' a.queue a.batch a.running
   written' = search (cases_eq, written_else, away_queue, away_batch, away_running, arith)
@@ -134,7 +105,7 @@ module _ (a : CallState) (at at' : Word → ℕ) (control : ℕ → ControlValue
         (share_of a cpu)
         (control cpu) (s.placed.batched cpu) (s.stands cpu));
     hands = put_all (λ cpu (x : ControlValue). HandIs x.stage (at' (Hand cpu))) control me next o.hand (λ cpu _. rw (o.keeps.hand cpu) (s.hands cpu));
-    placed = placed';
+    placed = placed_own a s.placed me id places' held' move;
     written = written';
     chained = chained';
     links = links';

@@ -1,13 +1,14 @@
 -- Steps that touch no record: loads of the own flags, and the send of an interrupt.
-use Rattle.std.proofs.Common.{arith, ◌≡◌, ◌≢◌, ℕ, ◌%◌, Bool, true, false, ◌==◌, cond, refl, ap, ◌∙◌, ◌⊎◌, inl, inr}
+use Rattle.std.proofs.Common.{arith, ◌≡◌, ◌≢◌, ℕ, ◌%◌, Bool, true, false, ◌==◌, cond, refl, ◌⊎◌, inl, inr}
 use Rattle.std.proofs.lemmas.Bool.{cases_eq, eqb-false}
 use Rattle.smp_words.specs.Put.{put, put_word}
-use Rattle.smp_call_steps.specs.{CallState, confirms, sends, ControlValue, Holds, FlagsShow, IsNoticed, is_pending, is_accepted, is_owed, bit, share_of}
+use Rattle.smp_call_steps.specs.{CallState, confirms, sends, ControlValue, FlagsShow, IsEmpty, IsNoticed, is_pending, is_accepted, is_owed, bit, share_of}
 use Rattle.smp_call_steps.specs.{held_of, HandIs, Word, Intr, Hand, Flags, RecPlace}
 use Rattle.smp_call_steps.specs.Stands.{CallStands}
 use Rattle.smp_call_steps.specs.Shows.{Shows}
 use Rattle.smp_words.proofs.Puts.{at_test, put_all}
 use Rattle.smp_call_steps.proofs.Steps.Frames.{leaves_all, CallStands-kept}
+use Rattle.smp_call_steps.proofs.Steps.Placings.{placed_confirmed}
 use Rattle.smp_call_steps.specs.place
 
 -- a step that changes no word and no call
@@ -31,21 +32,7 @@ confirms_kept a at control me id free s = record {
   held = s.held;
   stands = s.stands;
   hands = s.hands;
-  placed = record {
-    queued = s.placed.queued;
-    batched = s.placed.batched;
-    runs = s.placed.runs;
-    queue_apart = s.placed.queue_apart;
-    batch_apart = s.placed.batch_apart;
-    is_there = s.placed.is_there;
-    settled =
-        λ source u o. at_test source me
-        (λ b. cond b (put (a.confirmed me) id true) (a.confirmed source) u ≡ true → (a.place u ≡ place.Free) ⊎ Holds (a.held source) u)
-        (λ es. at_test u id (λ b. cond b true (a.confirmed me u) ≡ true → (a.place u ≡ place.Free) ⊎ Holds (a.held source) u)
-        (λ eu _. inl (ap a.place eu ∙ free))
-        (λ _ e. s.placed.settled source u o (ap (λ k. a.confirmed k u) es ∙ e)))
-        (λ _ e. s.placed.settled source u o e);
-  };
+  placed = placed_confirmed a s.placed me id free;
   written = s.written;
   chained = s.chained;
   links = s.links;
@@ -70,6 +57,14 @@ noticed_still a me to cpu ne (is_pending e) = is_pending (at_test cpu to (λ b. 
 noticed_still a me to cpu ne (is_accepted e) = is_accepted e
 noticed_still a me to cpu ne (is_owed source o) = is_owed source (owed_else a.owes me to source cpu ne o)
 
+-- where each CPU with a queue was noticed, it is noticed after the send
+pub noticed_sent : (a : CallState) → ((cpu : ℕ) → IsEmpty (a.queue cpu) ⊎ IsNoticed a.pending a.accepted a.owes cpu) → (me to cpu : ℕ)
+    → IsEmpty (a.queue cpu) ⊎ IsNoticed (sends a me to).pending a.accepted (sends a me to).owes cpu
+noticed_sent a n me to cpu = elim (cases_eq cpu to) [
+  | inl e ↦ inr (is_pending (at_test cpu to (λ b. cond b true (a.pending cpu) ≡ true) (λ _. refl) (λ ne. absurd (ne e))))
+  | inr ne ↦ elim (n cpu) [ inl empty ↦ inl empty | inr m ↦ inr (noticed_still a me to cpu ne m) ]
+]
+
 -- send: the store of an interrupt word
 pub send_kept : (a : CallState) (at : Word → ℕ) (control : ℕ → ControlValue) (me to : ℕ) (next : ControlValue) → Shows a at control
     → a.held me ≡ held_of next.stage →
@@ -87,10 +82,7 @@ send_kept a at control me to next s held stands hand = record {
   links = s.links;
   noticed = record {
     words = λ cpu. at_test cpu to (λ b. cond b 1 (at (Intr cpu)) ≡ bit (cond b true (a.pending cpu))) (λ _. refl) (λ _. s.noticed.words cpu);
-    noticed = λ cpu. elim (cases_eq cpu to) [
-      | inl e ↦ inr (is_pending (at_test cpu to (λ b. cond b true (a.pending cpu) ≡ true) (λ _. refl) (λ ne. absurd (ne e))))
-      | inr ne ↦ elim (s.noticed.noticed cpu) [ inl empty ↦ inl empty | inr n ↦ inr (noticed_still a me to cpu ne n) ]
-    ];
+    noticed = noticed_sent a s.noticed.noticed me to;
   };
   recorded = s.recorded;
   tallied = s.tallied;

@@ -39,7 +39,7 @@ last_batch-push [] batch = refl
 last_batch-push (x ∷ []) batch = refl
 last_batch-push (x ∷ (y ∷ ys)) batch = last_batch-push (y ∷ ys) batch
 
-module _ (a : CallState) (at : Word → ℕ) (me : ℕ) where
+module _ (a : CallState) (me : ℕ) where
   abbrev place' : ℕ → RecPlace
   place' = λ id. place_taken me (a.place id)
 
@@ -60,30 +60,34 @@ module _ (a : CallState) (at : Word → ℕ) (me : ℕ) where
   there id (place.Batch c) none h = search (at_test, arith)
   there id (place.Running c) none h = h
 
-  placed_taken : a.batch me ≡ [] → Placed a.place a.held a.queue a.batch a.running a.confirmed → Placed place' a.held queue' batch' a.running a.confirmed
+  pub placed_taken : a.batch me ≡ [] → Placed a.place a.held a.queue a.batch a.running a.confirmed → Placed place' a.held queue' batch' a.running a.confirmed
   placed_taken none p = search (at_test, every, taken_else, every_order, taken_here, moved, apart_order, there, arith)
-
-  written_taken : WrittenIn at a.place a.queue a.batch a.running → WrittenIn at place' queue' batch' a.running
-  written_taken w = search (FlagsShow-taken, at_test, every_order, arith)
-
-  chained_taken : Chained (heads_in at) (nexts_in at) a.queue → Chained (put (heads_in at) me 0) (nexts_in at) queue'
-  chained_taken c = search (at_test, arith)
 
   noticed_still : (cpu : ℕ) → cpu ≢ me → IsNoticed a.pending a.accepted a.owes cpu → IsNoticed a.pending (put a.accepted me false) a.owes cpu
   noticed_still cpu ne (is_pending e) = is_pending e
   noticed_still cpu ne (is_accepted e) = is_accepted (test_else cpu me false (a.accepted cpu) ne ∙ e)
   noticed_still cpu ne (is_owed source e) = is_owed source e
 
-  noticed_taken : Noticed (intrs_in at) a.queue a.pending a.accepted a.owes → Noticed (intrs_in at) queue' a.pending (put a.accepted me false) a.owes
-  noticed_taken n = record {
-    words = n.words;
-    noticed = λ cpu. at_test cpu me (λ b. IsEmpty (cond b [] (a.queue cpu)) ⊎ IsNoticed a.pending (put a.accepted me false) a.owes cpu) (λ _. inl tt)
-        (λ ne. elim (n.noticed cpu) [ inl empty ↦ inl empty | inr noticed ↦ inr (noticed_still cpu ne noticed) ]);
-  }
+  -- where each CPU with a queue was noticed, it is noticed after the take
+  pub noticed_after : ((cpu : ℕ) → IsEmpty (a.queue cpu) ⊎ IsNoticed a.pending a.accepted a.owes cpu) → (cpu : ℕ)
+      → IsEmpty (queue' cpu) ⊎ IsNoticed a.pending (put a.accepted me false) a.owes cpu
+  noticed_after n cpu = at_test cpu me (λ b. IsEmpty (cond b [] (a.queue cpu)) ⊎ IsNoticed a.pending (put a.accepted me false) a.owes cpu) (λ _. inl tt)
+      (λ ne. elim (n cpu) [ inl empty ↦ inl empty | inr noticed ↦ inr (noticed_still cpu ne noticed) ])
+
+module _ (a : CallState) (at : Word → ℕ) (me : ℕ) where
+  written_taken : WrittenIn at a.place a.queue a.batch a.running → WrittenIn at (place' a me) (queue' a me) (batch' a me) a.running
+  written_taken w = search (FlagsShow-taken, at_test, every_order, arith)
+
+  chained_taken : Chained (heads_in at) (nexts_in at) a.queue → Chained (put (heads_in at) me 0) (nexts_in at) (queue' a me)
+  chained_taken c = search (at_test, arith)
+
+  noticed_taken : Noticed (intrs_in at) a.queue a.pending a.accepted a.owes
+      → Noticed (intrs_in at) (queue' a me) a.pending (put a.accepted me false) a.owes
+  noticed_taken n = record { words = n.words; noticed = noticed_after a me n.noticed }
 
 module _ {a : CallState} {at : Word → ℕ} {control : ℕ → ControlValue} (me : ℕ) (s : Shows a at control) where
   -- nobody minds a queued record
-  leaves_taken : (cpu : ℕ) → LeavesTo cpu a.place (place' a at me) at (put_word at (Head me) 0)
+  leaves_taken : (cpu : ℕ) → LeavesTo cpu a.place (place' a me) at (put_word at (Head me) 0)
   leaves_taken cpu = search (taken_minded, arith)
 
   pub take_step : (control me).stage ≡ Some (Handle handle.Take) → StepShows a at control me (Handle handle.Take)
@@ -96,7 +100,7 @@ module _ {a : CallState} {at : Word → ℕ} {control : ℕ → ControlValue} (m
       let whole : last_batch (put a.taken me (a.taken me ++ a.queue me ∷ []) me) ≡ a.queue me =
       ap last_batch (test_here me (a.taken me ++ a.queue me ∷ []) (a.taken me)) ∙ last_batch-push (a.taken me) (a.queue me) in
       let held = held_after me s c (holds_nothing me s handle.Take e) in
-      let stands = stands_after me s (put_word at (Head me) 0) (place' a at me) (share_of (takes a me)) c
+      let stands = stands_after me s (put_word at (Head me) 0) (place' a me) (share_of (takes a me)) c
       (λ cpu ne. at_test cpu me (λ b.
       record {
         last = last_batch (cond b (a.taken me ++ a.queue me ∷ []) (a.taken cpu));
@@ -112,7 +116,7 @@ module _ {a : CallState} {at : Word → ℕ} {control : ℕ → ControlValue} (m
             (test_here me (order (a.queue me)) (a.batch me) ∙ ap order (sym whole)) k.1 (test_here me false (a.accepted me)),
       ) in
       let hands = hands_after me s c (hand_of_reverse None (record_at link) (at (Hand me)) (hand_at me s handle.Take e)) in
-      let placed = placed_taken a at me k.0 s.placed in
+      let placed = placed_taken a me k.0 s.placed in
       let written = written_taken a at me s.written in
       let chained = chained_taken a at me s.chained in
       let noticed = noticed_taken a at me s.noticed in

@@ -1,0 +1,236 @@
+-- The place law after each kind of step, whatever words there are: a record is confirmed, a source locks, fills or gives up its own, a
+-- call joins a queue, begins, is counted or ends.
+use Rattle.std.proofs.Common.{◌≡◌, ◌≢◌, ℕ, true, false, cond, Option, Some, None, List, [], ◌∷◌, ◌++◌, ◌⊎◌, inl, inr, sym, subst, refl, ap, ◌∙◌, arith}
+use Rattle.std.proofs.Common.{true≢false}
+use Rattle.std.proofs.lemmas.Bool.{cases_eq}
+use Rattle.std.specs.List.{AllByRecursion}
+use Rattle.smp_words.specs.Put.{put}
+use Rattle.smp_words.specs.Size.{owner}
+use Rattle.smp_call_steps.specs.{CallState, Holding, Running, Nothing, CountedCall, Placed, IsCall, IsThere, Holds, HasRecord, IsApart, AllPlaced}
+use Rattle.smp_call_steps.specs.{locked_by, Call, RecPlace}
+use Rattle.smp_words.proofs.Puts.{at_test, put_other, put_same}
+use Rattle.smp_call_steps.proofs.Basics.Alls.{every, every_push}
+use Rattle.smp_call_steps.proofs.State.Batches.{has_left, has_right}
+use Rattle.smp_call_steps.proofs.Steps.Moving.{Batch≢Batch, Running≢Batch, Running≢Running, Batch≢Running, Queued≢Batch, Queued≢Running, Batch≢Free}
+use Rattle.smp_call_steps.proofs.Steps.Moving.{Running≢Free, all_placed_still, all_placed_apart, placed_moved}
+use Rattle.smp_call_steps.specs.place
+
+-- at home: free, or held
+abbrev pub IsHome : RecPlace → Type 0
+IsHome p = (p ≡ place.Free) ⊎ (p ≡ place.Held)
+
+pub away_queue : (cpu : ℕ) → IsHome (place.Queued cpu) → ⊥
+away_queue cpu (inl e) = cc
+away_queue cpu (inr e) = cc
+
+pub away_batch : (cpu : ℕ) → IsHome (place.Batch cpu) → ⊥
+away_batch cpu (inl e) = cc
+away_batch cpu (inr e) = cc
+
+pub away_running : (cpu : ℕ) → IsHome (place.Running cpu) → ⊥
+away_running cpu (inl e) = cc
+away_running cpu (inr e) = cc
+
+-- a record at a place that is no home is another one
+pub else_home : (places : ℕ → RecPlace) (id : ℕ) → IsHome (places id) → (u : ℕ) (q : RecPlace) → places u ≡ q → (IsHome q → ⊥) → u ≢ id
+else_home places id before u q e away f = away (subst IsHome (sym (ap places f) ∙ e) before)
+
+-- a source moves its own record, which is free or held by it, between these two places
+pub record OwnMove (a : CallState) (me id : ℕ) (places' : ℕ → RecPlace) (held' : ℕ → Option Holding) : Type 0 where
+  pub place_stays : (u : ℕ) → u ≢ id → places' u ≡ a.place u
+  pub owned : owner id ≡ me
+  pub before : IsHome (a.place id)
+  pub after : (places' id ≡ place.Free) ⊎ ((places' id ≡ place.Held) × Holds (held' me) id)
+  pub mine_only : (u : ℕ) → Holds (a.held me) u → u ≡ id
+  pub others_held : (cpu : ℕ) → cpu ≢ me → held' cpu ≡ a.held cpu
+
+-- a call that is counted for this CPU
+abbrev pub counted_hold : Call → ℕ → Option Holding
+counted_hold call to = Some (record { call = call; to = to; is_counted = true })
+
+held_same : (held : Option Holding) (call : Call) (to u : ℕ) → held ≡ counted_hold call to → Holds held u → u ≡ call.id
+held_same None call to u e h = absurd h
+held_same (Some x) call to u e h = let f : x ≡ record { call = call; to = to; is_counted = true } = cc in sym h ∙ ap (λ (y : Holding). y.call.id) f
+
+IsApart-push : (calls : List Call) (new : Call) → AllByRecursion (λ call. new.id ≢ call.id) calls → IsApart calls → IsApart (calls ++ new ∷ [])
+IsApart-push [] new h a = (tt, tt)
+IsApart-push (call ∷ rest) new h a = (every_push (λ c. c.id ≢ call.id) rest new a.0 h.0, IsApart-push rest new h.1 a.1)
+
+-- of a batch, the records but the front one
+has_rest : (u : ℕ) (call : Call) (rest : List Call) → u ≢ call.id → HasRecord u (call ∷ rest) → HasRecord u rest
+has_rest u call rest ne (inl e) = absurd (ne (sym e))
+has_rest u call rest ne (inr h) = h
+
+has_one : (u : ℕ) (call : Call) → u ≢ call.id → HasRecord u (call ∷ []) → ⊥
+has_one u call ne (inl e) = ne (sym e)
+has_one u call ne (inr h) = h
+
+-- where a record is said to be, with the same records locked by running calls
+there_running : (held : ℕ → Option Holding) (queue batch : ℕ → List Call) (running running' : ℕ → Running)
+    → ((cpu : ℕ) → locked_by (running' cpu) ≡ locked_by (running cpu)) → (id : ℕ) (p : RecPlace) →
+    IsThere held queue batch running id p → IsThere held queue batch running' id p
+there_running held queue batch running running' same id place.Free h = tt
+there_running held queue batch running running' same id (place.Running cpu) h = subst (HasRecord id) (sym (same cpu)) h
+there_running held queue batch running running' same id _ h = h
+
+module _ (a : CallState) (p : Placed a.place a.held a.queue a.batch a.running a.confirmed) (me : ℕ) where
+  -- a record that is free is confirmed
+  pub placed_confirmed : (id : ℕ) → a.place id ≡ place.Free
+      → Placed a.place a.held a.queue a.batch a.running (put a.confirmed me (put (a.confirmed me) id true))
+  placed_confirmed id free = record {
+    queued = p.queued;
+    batched = p.batched;
+    runs = p.runs;
+    queue_apart = p.queue_apart;
+    batch_apart = p.batch_apart;
+    is_there = p.is_there;
+    settled =
+        λ source u o. at_test source me
+        (λ b. cond b (put (a.confirmed me) id true) (a.confirmed source) u ≡ true → (a.place u ≡ place.Free) ⊎ Holds (a.held source) u)
+        (λ es. at_test u id (λ b. cond b true (a.confirmed me u) ≡ true → (a.place u ≡ place.Free) ⊎ Holds (a.held source) u)
+        (λ eu _. inl (ap a.place eu ∙ free))
+        (λ _ e. p.settled source u o (ap (λ k. a.confirmed k u) es ∙ e)))
+        (λ _ e. p.settled source u o e);
+  }
+
+  -- a source moves its own record
+  module _ (id : ℕ) (places' : ℕ → RecPlace) (held' : ℕ → Option Holding) (o : OwnMove a me id places' held') where
+    gone : (u : ℕ) (q : RecPlace) → a.place u ≡ q → (IsHome q → ⊥) → u ≢ id
+    gone u q e away = else_home a.place id o.before u q e away
+
+    holds_else : (source u : ℕ) → u ≢ id → Holds (a.held source) u → Holds (held' source) u
+    holds_else source u ne h = search (cases_eq, arith)
+
+    there_else : (u : ℕ) (q : RecPlace) → u ≢ id → IsThere a.held a.queue a.batch a.running u q → IsThere held' a.queue a.batch a.running u q
+    there_else u place.Held ne h = holds_else (owner u) u ne h
+    there_else u _ ne h = h
+
+    there_id : IsThere held' a.queue a.batch a.running id (places' id)
+    there_id = elim o.after [ inl e ↦ rw e tt | inr e ↦ rw (e.0, o.owned) e.1 ]
+
+    pub placed_own : Placed places' held' a.queue a.batch a.running a.confirmed
+    placed_own = search (away_queue, away_batch, away_running, cases_eq, there_id, there_else, holds_else, every, gone, arith)
+
+  -- the held call joins a queue
+  module _ (to : ℕ) (call : Call) (own : owner call.id ≡ me) (holds : a.held me ≡ counted_hold call to) (is_call : IsCall call)
+      (placed : a.place call.id ≡ place.Held) where
+    not_held : (q : RecPlace) (u : ℕ) → a.place u ≡ q → q ≢ place.Held → u ≢ call.id
+    not_held q u e ne f = ne (sym e ∙ (ap a.place f ∙ placed))
+
+    queued_else : (cpu : ℕ) → place.Queued cpu ≢ place.Held
+    queued_else cpu e = cc
+
+    batch_else : (cpu : ℕ) → place.Batch cpu ≢ place.Held
+    batch_else cpu e = cc
+
+    running_else : (cpu : ℕ) → place.Running cpu ≢ place.Held
+    running_else cpu e = cc
+
+    still : (q : RecPlace) → q ≢ place.Held → (calls : List Call) → AllPlaced a.place q calls → AllPlaced (put a.place call.id (place.Queued to)) q calls
+    still q ne = search (every, put_other, not_held, arith)
+
+    there_others : (u : ℕ) (q : RecPlace) → u ≢ call.id → IsThere a.held a.queue a.batch a.running u q
+        → IsThere (put a.held me None) (put a.queue to (a.queue to ++ call ∷ [])) a.batch a.running u q
+    there_others u place.Held ne h = search (at_test, held_same, arith)
+    there_others u (place.Queued cpu) ne h = search (at_test, has_left, arith)
+    there_others u _ ne h = h
+
+    there_this : IsThere (put a.held me None) (put a.queue to (a.queue to ++ call ∷ [])) a.batch a.running call.id (place.Queued to)
+    there_this = rw (put_same a.queue to (a.queue to ++ call ∷ [])) (has_right call.id (a.queue to) (call ∷ []) (inl refl))
+
+    pub placed_appended : Placed (put a.place call.id (place.Queued to)) (put a.held me None) (put a.queue to (a.queue to ++ call ∷ [])) a.batch a.running
+        (put a.confirmed me (put (a.confirmed me) call.id false))
+    placed_appended = record {
+      queued = search (at_test, every_push, still, queued_else, put_same, arith);
+      batched = λ cpu. still (place.Batch cpu) (batch_else cpu) (a.batch cpu) (p.batched cpu);
+      runs = λ cpu. still (place.Running cpu) (running_else cpu) (locked_by (a.running cpu)) (p.runs cpu);
+      queue_apart = search (at_test, IsApart-push, every, not_held, queued_else, arith);
+      batch_apart = p.batch_apart;
+      is_there = λ u. elim (cases_eq u call.id) [
+        | inl e ↦
+            subst (λ (k : ℕ). IsThere (put a.held me None) (put a.queue to (a.queue to ++ call ∷ [])) a.batch a.running k
+            (put a.place call.id (place.Queued to) k)) (sym e) (rw (put_same a.place call.id (place.Queued to)) there_this)
+        | inr ne ↦ rw (put_other a.place call.id (place.Queued to) u ne) (there_others u (a.place u) ne (p.is_there u))
+      ];
+      settled =
+          λ source u o. at_test source me
+          (λ b. cond b (put (a.confirmed me) call.id false) (a.confirmed source) u ≡ true
+          → (put a.place call.id (place.Queued to) u ≡ place.Free) ⊎ Holds (cond b None (a.held source)) u)
+          (λ es. at_test u call.id (λ b. cond b false (a.confirmed me u) ≡ true → (cond b (place.Queued to) (a.place u) ≡ place.Free) ⊎ ⊥)
+          (λ _ e. absurd (true≢false (sym e)))
+          (λ ne e. elim (p.settled me u (o ∙ es) e) [ inl free ↦ inl free | inr hold ↦ absurd (ne (held_same (a.held me) call to u holds hold)) ]))
+          (λ ns e. elim (p.settled source u o e)
+          [ inl free ↦ inl (put_other a.place call.id (place.Queued to) u (λ eu. ns (sym o ∙ (ap owner eu ∙ own))) ∙ free) | inr hold ↦ inr hold ]);
+    }
+
+  -- the front of the batch goes to another place, and runs
+  module _ (call : Call) (rest : List Call) (front : a.batch me ≡ call ∷ rest) where
+    pub front_placed : AllPlaced a.place (place.Batch me) (call ∷ rest)
+    front_placed = subst (λ (xs : List Call). AllPlaced a.place (place.Batch me) xs) front (p.batched me)
+
+    pub front_apart : IsApart (call ∷ rest)
+    front_apart = subst IsApart front (p.batch_apart me)
+
+    pub front_here : a.place call.id ≡ place.Batch me
+    front_here = front_placed.0.placed
+
+    pub placed_begun : (to : RecPlace) (r : Running) → a.running me ≡ Nothing → AllPlaced (put a.place call.id to) (place.Running me) (locked_by r)
+        → IsThere a.held a.queue (put a.batch me rest) (put a.running me r) call.id to
+        → Placed (put a.place call.id to) a.held a.queue (put a.batch me rest) (put a.running me r) a.confirmed
+    placed_begun to r idle runs there = placed_moved a.place call.id (place.Batch me) to front_here a.held a.queue a.batch (put a.batch me rest) a.running
+        (put a.running me r) a.confirmed
+        (Batch≢Free me) (λ cpu. Queued≢Batch cpu me) p
+        (λ cpu. at_test cpu me (λ b. AllPlaced (put a.place call.id to) (place.Batch cpu) (cond b rest (a.batch cpu)))
+        (λ e. subst (λ (k : ℕ). AllPlaced (put a.place call.id to) (place.Batch k) rest) (sym e)
+        (all_placed_apart a.place call.id (place.Batch me) to front_here (place.Batch me) rest front_apart.0 front_placed.1))
+        (λ ne. all_placed_still a.place call.id (place.Batch me) to front_here (place.Batch cpu) (a.batch cpu) (Batch≢Batch cpu me ne) (p.batched cpu)))
+        (λ cpu. at_test cpu me (λ b. AllPlaced (put a.place call.id to) (place.Running cpu) (locked_by (cond b r (a.running cpu))))
+        (λ e. subst (λ (k : ℕ). AllPlaced (put a.place call.id to) (place.Running k) (locked_by r)) (sym e) runs)
+        (λ _. all_placed_still a.place call.id (place.Batch me) to front_here (place.Running cpu) (locked_by (a.running cpu)) (Running≢Batch cpu me)
+        (p.runs cpu)))
+        (λ cpu. at_test cpu me (λ b. IsApart (cond b rest (a.batch cpu))) (λ _. front_apart.1) (λ _. p.batch_apart cpu))
+        there
+        (λ u cpu ne. at_test cpu me (λ b. HasRecord u (a.batch cpu) → HasRecord u (cond b rest (a.batch cpu)))
+        (λ e h. has_rest u call rest ne (subst (HasRecord u) (ap a.batch e ∙ front) h)) (λ _ h. h))
+        (λ u cpu ne. at_test cpu me (λ b. HasRecord u (locked_by (a.running cpu)) → HasRecord u (locked_by (cond b r (a.running cpu))))
+        (λ e h. absurd (subst (λ (x : Running). HasRecord u (locked_by x)) (ap a.running e ∙ idle) h)) (λ _ h. h))
+
+  -- a call is counted, or an ASYNC call ends: the same records are locked
+  pub placed_counted : (r : Running) → locked_by r ≡ locked_by (a.running me) → Placed a.place a.held a.queue a.batch (put a.running me r) a.confirmed
+  placed_counted r locked = record {
+    queued = p.queued;
+    batched = p.batched;
+    runs = λ cpu. subst (AllPlaced a.place (place.Running cpu)) (sym (same cpu)) (p.runs cpu);
+    queue_apart = p.queue_apart;
+    batch_apart = p.batch_apart;
+    is_there = λ id. there_running a.held a.queue a.batch a.running (put a.running me r) same id (a.place id) (p.is_there id);
+    settled = p.settled;
+  }
+    where
+      same : (cpu : ℕ) → locked_by (put a.running me r cpu) ≡ locked_by (a.running cpu)
+      same cpu = search (at_test, arith)
+
+  -- a SYNC call that is counted ends, and its record is free
+  module _ (call : Call) (running : a.running me ≡ CountedCall call) where
+    running_placed : AllPlaced a.place (place.Running me) (call ∷ [])
+    running_placed = subst (λ (x : Running). AllPlaced a.place (place.Running me) (locked_by x)) running (p.runs me)
+
+    pub running_here : a.place call.id ≡ place.Running me
+    running_here = running_placed.0.placed
+
+    pub placed_ended : Placed (put a.place call.id place.Free) a.held a.queue a.batch (put a.running me Nothing) a.confirmed
+    placed_ended = placed_moved a.place call.id (place.Running me) place.Free running_here a.held a.queue a.batch a.batch a.running (put a.running me Nothing)
+        a.confirmed
+        (Running≢Free me) (λ cpu. Queued≢Running cpu me) p
+        (λ cpu. all_placed_still a.place call.id (place.Running me) place.Free running_here (place.Batch cpu) (a.batch cpu) (Batch≢Running cpu me)
+        (p.batched cpu))
+        (λ cpu. at_test cpu me (λ b. AllPlaced (put a.place call.id place.Free) (place.Running cpu) (locked_by (cond b Nothing (a.running cpu))))
+        (λ _. tt)
+        (λ ne. all_placed_still a.place call.id (place.Running me) place.Free running_here (place.Running cpu) (locked_by (a.running cpu))
+        (Running≢Running cpu me ne)
+        (p.runs cpu)))
+        p.batch_apart
+        tt
+        (λ u cpu ne h. h)
+        (λ u cpu ne. at_test cpu me (λ b. HasRecord u (locked_by (a.running cpu)) → HasRecord u (locked_by (cond b Nothing (a.running cpu))))
+        (λ e h. has_one u call ne (subst (λ (x : Running). HasRecord u (locked_by x)) (ap a.running e ∙ running) h)) (λ _ h. h))
