@@ -14,21 +14,34 @@ use smp_words::call::Class;
 use std::alloc::Global;
 use std::mem;
 
+/// A call that is to be queued.
+#[derive(Clone, Copy)]
+pub struct Posting {
+    /// The own record that carries it.
+    pub k: u32,
+    /// The CPU that is to run it.
+    pub to: u32,
+    pub class: Class,
+    pub func: u16,
+    pub info: u64,
+    /// How many compare-exchanges may be tried.
+    pub tries: u32,
+}
+
 /// Queues a call, and tells it by a number.
-fn post_by(
-    calls: &CallTable<Global>,
-    me: &mut CallCpu,
-    k: u32,
-    to: u32,
-    class: Class,
-    func: u16,
-    info: u64,
-    tries: u32,
-) -> i32
+fn post_by(calls: &CallTable<Global>, me: &mut CallCpu, call: Posting) -> i32
     requires { me.old.table ≡ calls.now.table }
-    ensures by { PostBy calls.now k to class func info tries me.old me.new result }
+    ensures by { PostBy calls.now call.k call.to call.class call.func call.info call.tries me.old me.new result }
     ensures table { me.new.table ≡ calls.now.table }
 {
+    let Posting {
+        k,
+        to,
+        class,
+        func,
+        info,
+        tries,
+    } = call;
     yes(calls.post_within(me, k, to, class, func, info, tries))
 }
 
@@ -52,11 +65,11 @@ fn done_by(calls: &CallTable<Global>, me: &mut CallCpu, k: u32) -> i32
 
 impl OwnedSeat {
     /// Queues a call: 1 where an interrupt is owed, 0 where none is, or the number of a refusal.
-    pub fn post(&mut self, k: u32, to: u32, class: Class, func: u16, info: u64, tries: u32) -> i32
-        ensures { Posts k to class func info tries result self.old self.new }
+    pub fn post(&mut self, call: Posting) -> i32
+        ensures { Posts call.k call.to call.class call.func call.info call.tries result self.old self.new }
     {
         match &mut self.place {
-            CpuPlace::Out(me, _) => post_by(&self.calls, me, k, to, class, func, info, tries),
+            CpuPlace::Out(me, _) => post_by(&self.calls, me, call),
             CpuPlace::InCall(..) | CpuPlace::InStop(..) => INSIDE,
             CpuPlace::Moving => CLOSED,
         }

@@ -37,6 +37,7 @@ ghost use Rattle.smp_tables_c.specs.Stops.{AnswersStop, EntersStop, Finishes, Op
 ghost use Rattle.smp_tables_c.specs.Stops.{ReadsKey, ReadsSite, TriesGate, TriesKey, Turns};
 ghost use Rattle.smp_tables_c.specs.Works.{BeginsNamed, work_named};
 
+use crate::calls::Posting;
 use crate::handle::SmpCpu;
 use crate::labels::labels_of;
 use crate::masks::mask_of;
@@ -107,7 +108,14 @@ pub extern "C" fn smp_post(
     let Some(mut seat) = cpu.take() else {
         return CLOSED;
     };
-    let status = seat.post(k, to, class, func, info, tries);
+    let status = seat.post(Posting {
+        k,
+        to,
+        class,
+        func,
+        info,
+        tries,
+    });
     cpu.put(seat);
     status
 }

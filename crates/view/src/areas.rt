@@ -15,22 +15,22 @@ use std::str::from_utf8;
 /// A letter of a box is no wider.
 const LETTER: u64 = 6;
 
-// From the left edge of one column to the right edge of another, so far below the upper edge of a CPU's lane.
-fn span(frame: &Frame<'_>, cpu: u32, first: u32, last: u32, below: u64, height: u64) -> Area
+// From the left edge of its first column to the right edge of its last, so far below the upper edge of its CPU's lane.
+fn area_of(frame: &Frame<'_>, one: &Span<'_>, below: u64, height: u64) -> Area
     requires { below + height ≤ 62 }
-    ensures x { result.x ≡ left_of frame.now.wide frame.now.first frame.now.last first }
-    ensures y { result.y ≡ upper_of frame.now.base frame.now.low frame.now.lanes.now cpu + below }
-    ensures width { result.width ≡ left_of frame.now.wide frame.now.first frame.now.last last + step_of frame.now.wide
-        - left_of frame.now.wide frame.now.first frame.now.last first }
+    ensures x { result.x ≡ left_of frame.now.wide frame.now.first frame.now.last one.now.first }
+    ensures y { result.y ≡ upper_of frame.now.base frame.now.low frame.now.lanes.now one.now.cpu + below }
+    ensures width { result.width ≡ left_of frame.now.wide frame.now.first frame.now.last one.now.last + step_of frame.now.wide
+        - left_of frame.now.wide frame.now.first frame.now.last one.now.first }
     ensures height { result.height ≡ height }
     ensures inside { (result.x + result.width ≤ 892) × (result.y + result.height ≤ bottom_of frame.now.base frame.now.low) }
     ensures small { (result.x < 2 ^ 40) × (result.y < 2 ^ 41) }
 {
-    let x = frame.left(first);
-    let end = frame.left(last) + frame.step();
+    let x = frame.left(one.first);
+    let end = frame.left(one.last) + frame.step();
     Area {
         x,
-        y: frame.upper(cpu) + below,
+        y: frame.upper(one.cpu) + below,
         width: end.saturating_sub(x),
         height,
     }
@@ -66,7 +66,7 @@ fn write_command<A: Allocator>(
         None => return Ok(()),
     };
     let height = if busy { 43 } else { 14 };
-    let area = span(frame, one.cpu, one.first, one.last, 3, height);
+    let area = area_of(frame, one, 3, height);
     write_area(out, style, area, from_utf8(line).unwrap_or(""))?;
     let label = fitting(behind_two(line), area.width);
     write_text(out, "label", area.x + 3, area.y + 11, label)
@@ -84,7 +84,7 @@ fn write_idle<A: Allocator>(
         None => return Ok(()),
     };
     let below = if busy { 29 } else { 7 };
-    let area = span(frame, one.cpu, one.first, one.last, below, 6);
+    let area = area_of(frame, one, below, 6);
     write_area(out, "idle", area, from_utf8(line).unwrap_or(""))
 }
 
@@ -95,7 +95,7 @@ fn write_phase<A: Allocator>(
     one: &Span<'_>,
     phase: u64,
 ) -> Result<(), AllocError> {
-    let area = span(frame, one.cpu, one.first, one.last, 48, 13);
+    let area = area_of(frame, one, 48, 13);
     let name = phase_name(phase);
     let style = if phase % 2 == 1 { "odd" } else { "even" };
     write_area(out, style, area, name)?;
@@ -117,7 +117,7 @@ pub fn write_span<A: Allocator>(
         Drawn::Idle(line) => write_idle(out, frame, one, line),
         Drawn::Phase(phase) => write_phase(out, frame, one, phase),
         Drawn::Off => {
-            let area = span(frame, one.cpu, one.first, one.last, 1, LANE - 2);
+            let area = area_of(frame, one, 1, LANE - 2);
             write_area(out, "off", area, "interrupts off")
         }
     }

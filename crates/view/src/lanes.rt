@@ -158,18 +158,25 @@ pub fn write_front<A: Allocator + Copy>(
     write!(out, " |")
 }
 
+/// A row, and the line of the script in front of it.
+#[derive(Clone, Copy)]
+struct ScriptRow<'a> {
+    script: &'a str,
+    row: &'a Row,
+}
+
 // One row of the table, with this text in the column of its CPU.
 fn write_told<A: Allocator + Copy>(
     alloc: A,
     out: &mut String<A>,
     layout: &Layout<'_>,
-    row: &Row,
-    script: &str,
+    at: ScriptRow,
     text: &str,
 ) -> Result<(), AllocError>
     ensures { OnOk result (string_bytes out.new ≡ string_bytes out.old
-        ++ told_text layout.now.script layout.now.column layout.now.cpus.now script.now row.now text.now) }
+        ++ told_text layout.now.script layout.now.column layout.now.cpus.now at.entry.script.now at.entry.row.now text.now) }
 {
+    let ScriptRow { script, row } = at;
     write_front(alloc, out, layout, row, script)?;
     write_cells(out, layout, row, text)?;
     write_apart(out, layout, row, text)?;
@@ -187,7 +194,7 @@ fn write_row<A: Allocator + Copy>(
     ensures { OnOk result (string_bytes out.new ≡ string_bytes out.old ++ row_text layout.now.script layout.now.column layout.now.cpus.now script.now row.now) }
 {
     let text = cell(alloc, row.what)?;
-    write_told(alloc, out, layout, row, script, text.as_str())
+    write_told(alloc, out, layout, ScriptRow { script, row }, text.as_str())
 }
 
 // The names of the columns.

@@ -1,6 +1,7 @@
 //! A replay with one mark for each CPU, where it has too many for columns.
 
 ghost use Rattle.std.specs.Prelude.{◌≡◌, ◌++◌, OnOk, string_bytes};
+ghost use Rattle.view.specs.Cells.{cell_of};
 ghost use Rattle.view.specs.NarrowLanes.{digits_text, mark_of, marks_text, narrow_head, narrow_row, narrow_told};
 
 use crate::cell::cell;
@@ -45,24 +46,6 @@ fn write_narrow_told<A: Allocator>(
     write!(out, "CPU {cpu}: {text}")
 }
 
-// A row, with this text of its CPU.
-fn write_narrow_text<A: Allocator + Copy>(
-    alloc: A,
-    out: &mut String<A>,
-    layout: &Layout<'_>,
-    row: &Row,
-    script: &str,
-    text: &str,
-) -> Result<(), AllocError>
-    ensures { OnOk result (string_bytes out.new ≡ string_bytes out.old
-        ++ narrow_row layout.now.script layout.now.cpus.now script.now row.now text.now) }
-{
-    write_front(alloc, out, layout, row, script)?;
-    write_marks(out, layout.cpus, row.cpu)?;
-    write_narrow_told(out, row.cpu, text)?;
-    writeln!(out, "")
-}
-
 /// One row of the table: marks, of which that of the row's CPU is a star, and what the CPU has done.
 pub fn write_narrow<A: Allocator + Copy>(
     alloc: A,
@@ -70,9 +53,15 @@ pub fn write_narrow<A: Allocator + Copy>(
     layout: &Layout<'_>,
     row: &Row,
     script: &str,
-) -> Result<(), AllocError> {
+) -> Result<(), AllocError>
+    ensures { OnOk result (string_bytes out.new ≡ string_bytes out.old
+        ++ narrow_row layout.now.script layout.now.cpus.now script.now row.now (cell_of row.now.what)) }
+{
     let text = cell(alloc, row.what)?;
-    write_narrow_text(alloc, out, layout, row, script, text.as_str())
+    write_front(alloc, out, layout, row, script)?;
+    write_marks(out, layout.cpus, row.cpu)?;
+    write_narrow_told(out, row.cpu, text.as_str())?;
+    writeln!(out, "")
 }
 
 // The last digit of each CPU's number, between bars.
