@@ -60,6 +60,7 @@ fn is_queued(words: &[u64], controls: &[Control], cpu: u32, id: u32) -> bool
     ensures calls { (calls : CallState) → ValuesShow calls words.now controls.now → result ≡ true ↔ calls.place id ≡ RecPlace.Queued cpu }
     ensures told { result ≡ leads_through words.now (number_in words.now (Head cpu)) id }
 {
+    // The stages are named by the contract alone.
     let _count = controls.len();
     is_on_chain(words, read(words, Word::Head(cpu)), id)
 }

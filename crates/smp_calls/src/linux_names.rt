@@ -33,6 +33,7 @@ impl<'a, A: Allocator, R: Wait, H: Handler + Drop> Caller<'a, A, R, H> {
         ensures ended { wait ≡ true → HaveEnded self.new.cpu (many_call self.old.cpu.number Class.Sync func info) (remote self.old.cpu.number result) }
         ensures table { self.new.table.now ≡ self.old.table.now }
     {
+        // The CPUs online are among 32, and this CPU is one of them.
         let _limits = self.table.online();
         let _below = self.cpu.number();
         let always = |_cpu: u32, _info: u64| -> bool

@@ -58,6 +58,7 @@ impl<A: Allocator> MachineCpu<A> {
         ensures no { result ≡ false → self.now.stops.inside ≡ None }
         ensures on { result ≡ false → self.now.stops.irq ≡ true }
     {
+        // Interrupts are on outside a stop.
         let _on = self.stops.interrupts_on();
         self.stops.in_stop()
     }

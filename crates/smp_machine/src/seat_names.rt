@@ -32,6 +32,7 @@ impl<'m, A: Allocator, R: Wait, H: Handler + Drop, F: StopFunc + Drop> Seat<'m, 
         ensures functions { self.new.functions ≡ self.old.functions }
         ensures same { IsSameSeat self.old self.new }
     {
+        // The CPUs online are among 32, and this CPU is one of them.
         let _limits = self.online();
         let _below = self.number();
         let always = |_cpu: u32, _info: u64| -> bool
