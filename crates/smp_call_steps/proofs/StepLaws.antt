@@ -6,3 +6,4 @@ pub mod Notes
 pub mod Tries
 pub mod Keeps
 pub mod Saying
+pub mod Reaching

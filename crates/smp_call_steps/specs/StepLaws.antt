@@ -7,6 +7,7 @@ use Rattle.smp_call_steps.specs.Functions.{FunctionGoes}
 use Rattle.smp_call_steps.specs.Known.{Sees, MayStep}
 use Rattle.smp_call_steps.specs.Notes.{QueueGoes, SaidMeans}
 use Rattle.smp_call_steps.specs.Premises.{IsWordOf, MayStoreAt, MaySee}
+use Rattle.smp_call_steps.specs.Reached.{IsReached}
 use Rattle.smp_call_steps.specs.Shows.{Shows}
 use Rattle.smp_call_steps.specs.Stages.{ControlValue, access_of, outcome_of}
 use Rattle.smp_call_steps.specs.Tries.{GoesOnWith}
@@ -70,3 +71,7 @@ OfEachStep P = (a : CallState) (at : Word → ℕ) (control : ℕ → ControlVal
 abbrev pub KnownStepsKeepLaws : Type 0
 KnownStepsKeepLaws = (a : CallState) (at : Word → ℕ) (control : ℕ → ControlValue) (v : KnownCalls) → Shows a at control → Sees a control v →
     (stage : Stage) → MayStep v stage → KeepsStepLaws a at v.drain v.number stage
+
+-- and so the step leads from calls that are reached to calls that are reached
+abbrev pub ReachesOn : CallState → (Word → ℕ) → DrainValue → ℕ → Stage → Type 0
+ReachesOn a at d me stage = IsReached a → IsReached (tells a (seen_then at d me stage))

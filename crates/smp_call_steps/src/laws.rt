@@ -105,7 +105,7 @@ pub fn confirmed_calls_have_run()
     ensures { ConfirmedRun }
 {}
 
-ghost use Rattle.smp_call_steps.specs.StepLaws.{OfEachStep, IsPremised, KeepsRecords, KeepsFunctions, KeepsQueues, NoteHolds, TriesGoOn};
+ghost use Rattle.smp_call_steps.specs.StepLaws.{OfEachStep, IsPremised, KeepsRecords, KeepsFunctions, KeepsQueues, NoteHolds, TriesGoOn, ReachesOn};
 ghost use Rattle.smp_call_steps.specs.StepLaws.{KnownStepsKeepLaws};
 ghost use Rattle.smp_call_steps.specs.Begins.{CommandsBeginSo, PostsStay, PostsQueueTheirCalls, PostsTryAsOften, NotesEndCommands};
 ghost use Rattle.smp_call_steps.specs.Endings.{CommandsBeginUncounted, CommandsEndSo, CountsEndWithHandlings, NotesAreOfTheFound, IdleWithoutInterrupt};
@@ -227,6 +227,13 @@ ghost use Rattle.smp_call_steps.specs.Headline.{InOnePlace, RunOnce, RunInOrder,
 ghost use Rattle.smp_call_steps.specs.Reached.{IsReached, ArePlaced, HoldTheirOwn, AreNoticed};
 ghost use Rattle.smp_call_steps.specs.Broken.{no_words, one_locked, one_counted, in_a_queue, in_two_queues, twice_in_a_queue};
 ghost use Rattle.smp_call_steps.specs.Broken.{held_by_another, lost, ran_twice, ran_unsent, second_begins, second_joins};
+
+/// The calls are reached where nothing was called, and each step of a CPU leads from calls that are reached to calls that are
+/// reached.
+pub fn reached_calls_go_on()
+    ensures nothing { IsReached no_calls }
+    ensures step { OfEachStep ReachesOn }
+{}
 
 /// These laws hold of every state of the calls that is reached: to which steps that the CPUs may make lead, of any of them in any
 /// order, from nothing called. They follow from the premises of these steps ([`steps_are_premised`]), and from no word and no stage.
