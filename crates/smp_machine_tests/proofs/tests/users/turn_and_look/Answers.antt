@@ -38,7 +38,8 @@ setting_kept hears runs t k on p h f new h' f' true s = s.stopped.works.setting_
 pub returns-in-Ok : goal.returns-in-Ok
 returns-in-Ok g c =
     let s = c.args.seat.now in let t = c.set_key.new.self in
-    let at = subst (λ (x : SeatValue g.row.H.Denot g.row.F.Denot). x.cpu.stops.setting ≡ x.machine.stops.setting) c.seat.view_is c.seat.invariant.stops.setting in
+    let at = subst (λ (x : SeatValue g.row.H.Denot g.row.F.Denot). x.cpu.stops.setting ≡ x.machine.stops.setting) c.seat.view_is
+    c.seat.invariant.stops.setting in
     let kept = setting_kept g.H.Handler.leads g.F.StopFunc.leads s.machine.stops c.args.k c.args.on s.cpu s.handler s.functions
     t.cpu t.handler t.functions _ c.in-Ok.ensures.sets in
     answer_read c.kinds_follow_keys.ensures s.machine.stops.setting t.cpu.stops c.read_site.new.self.cpu.stops c.args.k c.args.i c.args.on
