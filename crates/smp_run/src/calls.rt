@@ -172,22 +172,29 @@ fn many<A: Allocator, R: Wait, H: Handler + Drop>(
     answer_or(made, |cpus| Answer::Cpus(cpus))
 }
 
+/// The CPUs of a mask for which a predicate holds.
+#[derive(Clone, Copy)]
+struct Chosen {
+    which: Which,
+    mask: CpuMask,
+}
+
 #[tactic(auto, using(crate::proofs::Making::made_called))]
 fn cond<A: Allocator, R: Wait, H: Handler + Drop>(
     seat: &mut RunSeat<'_, A, R, H>,
-    which: Which,
     wait: bool,
-    mask: CpuMask,
+    chosen: Chosen,
     func: u16,
     info: u64,
 ) -> Answer
     requires rest { IsAtRest seat.old }
     ensures stays { Stays seat.old seat.new }
-    ensures answer { IsCpus (λ c. is_target mask seat.old.machine.calls.online seat.old.cpu.calls.number true c && says_of which c) result }
-    ensures sent { HasSent (request_calls seat.old.machine.calls.online seat.old.cpu.calls.number (Request.Cond which wait mask func info))
+    ensures answer { IsCpus (λ c. is_target chosen.mask seat.old.machine.calls.online seat.old.cpu.calls.number true c && says_of chosen.which c) result }
+    ensures sent { HasSent (request_calls seat.old.machine.calls.online seat.old.cpu.calls.number (Request.Cond chosen.which wait chosen.mask func info))
         seat.old.cpu seat.new.cpu }
     ensures stops { HasMade [] seat.old.cpu seat.new.cpu }
 {
+    let Chosen { which, mask } = chosen;
     let asked = |cpu: u32, _info: u64| -> bool
         ensures { result ≡ says_of which cpu }
     { says(which, cpu) };
@@ -308,7 +315,7 @@ pub(crate) fn make<A: Allocator, R: Wait, H: Handler + Drop>(
         Request::Any(wait, mask, func, info) => any(seat, wait, mask, func, info),
         Request::Many(wait, mask, func, info) => many(seat, wait, mask, func, info),
         Request::Cond(which, wait, mask, func, info) => {
-            cond(seat, which, wait, mask, func, info)
+            cond(seat, wait, Chosen { which, mask }, func, info)
         }
         Request::One(dst, func, arg) => one(seat, dst, func, u64::from(arg)),
         Request::Two(a, b, func, arg) => two(seat, a, b, func, u64::from(arg)),

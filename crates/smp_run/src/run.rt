@@ -41,28 +41,35 @@ fn is_left(audit: &Audit) -> bool
     }
 }
 
-/// Reads the labels, gives up the machine and its last CPU, and tells the answers, of which the first is of line `first`.
+/// What a script asks for: its labels, and its lines from the one of this number on.
+#[derive(Clone, Copy)]
+struct Asked<'a> {
+    labels: &'a LabelMap,
+    first: usize,
+    lines: &'a [Directive],
+}
+
+/// Reads the labels, gives up the machine and its last CPU, and tells the answers to what was asked.
 fn finish<A: Allocator + Copy>(
     alloc: A,
     machine: Machine<A>,
-    labels: &LabelMap,
-    first: usize,
-    lines: &[Directive],
+    asked: Asked,
     driven: Driven<A>,
 ) -> Result<Ran<A>, AllocError>
     requires limits { AreLimits machine.calls.nr machine.calls.online }
-    requires first { first ≤ 4 }
-    requires labels { machine.stops.setting.labels ≡ labels.now }
-    requires lawful { AreLines machine.calls.online lines.now }
-    requires joined { AreJoined machine lines.now driven.last driven.answers.items }
-    ensures { IfOk result (λ r. Prints machine.calls.nr machine.calls.online labels.now first lines.now (string_bytes r.text) r.left) }
+    requires first { asked.first ≤ 4 }
+    requires labels { machine.stops.setting.labels ≡ asked.labels.now }
+    requires lawful { AreLines machine.calls.online asked.lines.now }
+    requires joined { AreJoined machine asked.lines.now driven.last driven.answers.items }
+    ensures { IfOk result (λ r. Prints machine.calls.nr machine.calls.online asked.entry.labels.now asked.entry.first asked.entry.lines.now
+        (string_bytes r.text) r.left) }
 {
     let Driven { answers, mut last } = driven;
-    let read = read_labels(alloc, &machine, labels, &mut last)?;
+    let read = read_labels(alloc, &machine, asked.labels, &mut last)?;
     let online = machine.online();
     let audit = machine.shutdown(last);
     let mut text = String::new(alloc);
-    write_answers(&mut text, first, answers.as_slice())?;
+    write_answers(&mut text, asked.first, answers.as_slice())?;
     write_ending(&mut text, online, &read, &audit)?;
     let left = is_left(&audit);
     Ok(Ran { text, left })
@@ -111,8 +118,12 @@ fn run_machine<R: Threads + Wait + Sync, P: Pace + Sync, A: Allocator + Copy + S
         return Err(AllocError);
     };
     let none = LabelMap::empty();
-    let labels = labels_of(script, &none);
-    finish(alloc, machine, labels, first_of(script), lines, driven)
+    let asked = Asked {
+        labels: labels_of(script, &none),
+        first: first_of(script),
+        lines,
+    };
+    finish(alloc, machine, asked, driven)
 }
 
 /// Drives each CPU of a run script that is online on a thread of its own, from a machine with no calls, no stops and all

@@ -12,14 +12,15 @@ pub returns-clause-answer : goal.returns-clause-answer
 returns-clause-answer g c =
     let me = c.args.seat.now in let own = c.requires.rest.seated in let call = c.each_cpu_cond-made in
     rw (c.answer_or.ensures (λ x. Cpus x) (λ x a p. search rules)) (
-    cond_answered (is_target c.args.mask me.machine.calls.online me.cpu.calls.number true) (says c.args.which) me.cpu call.new.self.cpu _
+    cond_answered (is_target c.args.chosen.mask me.machine.calls.online me.cpu.calls.number true) (says c.args.chosen.which) me.cpu call.new.self.cpu _
     _ call.result
     own.free call.ensures.answers.picks call.ensures.answers.refused)
 
 pub returns-clause-sent : goal.returns-clause-sent
 returns-clause-sent g c =
     let me = c.args.seat.now in let own = c.requires.rest.seated in let call = c.each_cpu_cond-made in
-    cond_sent _ me.machine.calls.online c.args.mask c.args.func c.args.info (says c.args.which) _ c.args.wait me.cpu call.new.self.cpu _ _ call.result
+    cond_sent _ me.machine.calls.online c.args.chosen.mask c.args.func c.args.info (says c.args.chosen.which) _ c.args.wait me.cpu call.new.self.cpu _ _
+    call.result
     own.free
     call.ensures.answers.picks call.ensures.answers.calls call.ensures.answers.refused
 

@@ -10,14 +10,14 @@ use Rattle.smp_run.proofs.run.finish.Goals as goal
 
 pub returns : goal.returns
 returns g c =
-    let m = c.args.machine in let t = m.calls in let lines = c.args.lines.now in let answers = c.args.driven.answers.items in
+    let m = c.args.machine in let t = m.calls in let lines = c.args.asked.lines.now in let answers = c.args.driven.answers.items in
     let joined = c.requires.joined in let first = c.args.driven.last in let last = c.read_labels.new.me in let read = c.in_ok-read.ensures.read in
-    let answered : Answered t.online c.args.labels.now.keys (λ n. has t.online n ≡ true) lines answers =
+    let answered : Answered t.online c.args.asked.labels.now.keys (λ n. has t.online n ≡ true) lines answers =
     subst (λ (x : Labels). Answered t.online x.keys (λ n. has t.online n ≡ true) lines answers) c.requires.labels joined.answered in
     let run = run_read m lines answers first last _ read joined.run in
     record {
       answers = answers;
-      answered = all_answered t.online c.args.labels.now.keys lines answers c.requires.lawful answered;
+      answered = all_answered t.online c.args.asked.labels.now.keys lines answers c.requires.lawful answered;
       keys = c.in_ok-read.read.keys.items;
       sites = c.in_ok-read.read.sites.items;
       kinds = c.in_ok-read.ensures.kinds;

@@ -10,6 +10,7 @@ use Rattle.smp_multi.specs.Names.{Reading, ReadKey, ReadSite, StopSetting}
 use Rattle.smp_multi.specs.Reads.{SiteAnswers, jumps}
 use Rattle.smp_machine.specs.Keys.{Reads, Sets}
 use Rattle.smp_machine.specs.MachineCpu.{MachineCpuValue}
+use Rattle.smp_machine.specs.Seats.{SeatValue}
 use Rattle.smp_machine.specs.ReadLaws.{KindsFollowKeys, is_jump}
 use Rattle.smp_machine_tests.proofs.tests.users.turn_and_look.Goals as goal
 
@@ -36,8 +37,10 @@ setting_kept hears runs t k on p h f new h' f' true s = s.stopped.works.setting_
 
 pub returns-in-Ok : goal.returns-in-Ok
 returns-in-Ok g c =
-    let kept = setting_kept g.H.Handler.leads g.F.StopFunc.leads c.args.machine.now.stops c.args.k c.args.on c.args.me.now c.args.handler.now c.args.run.now
-    c.set_key.new.me c.set_key.new.handler c.set_key.new.run _ c.in-Ok.ensures.sets in
-    answer_read c.kinds_follow_keys.ensures c.args.machine.now.stops.setting c.set_key.new.me.stops c.read_site.new.me.stops c.args.k c.args.i c.args.on
-    c.read_site.result
-    (kept ∙ c.requires.stops.setting) c.in-Ok.ensures.read c.read_site.ensures.answers
+    let s = c.args.seat.now in let t = c.set_key.new.self in
+    let at = subst (λ (x : SeatValue g.row.H.Denot g.row.F.Denot). x.cpu.stops.setting ≡ x.machine.stops.setting) c.seat.view_is
+    c.seat.invariant.stops.setting in
+    let kept = setting_kept g.H.Handler.leads g.F.StopFunc.leads s.machine.stops c.args.k c.args.on s.cpu s.handler s.functions
+    t.cpu t.handler t.functions _ c.in-Ok.ensures.sets in
+    answer_read c.kinds_follow_keys.ensures s.machine.stops.setting t.cpu.stops c.read_site.new.self.cpu.stops c.args.k c.args.i c.args.on
+    c.read_site.result (kept ∙ at) c.in-Ok.ensures.read c.read_site.ensures.answers
