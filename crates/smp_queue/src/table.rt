@@ -450,6 +450,7 @@ impl<A: Allocator> CallTable<A> {
     ///
     /// The interrupt is taken at the swap of the interrupt word, and the batch at the swap of the head that follows; it
     /// waits for no other CPU, and to call it is to poll.
+    #[inline(never)]
     pub fn handle<H: Handler>(&self, me: &mut CallCpu, handler: &mut H) -> Handled
         requires { me.old.table ≡ self.now.table }
         ensures asked { result.interrupted ≡ true → (batch : List Call) × (me.new ≡ drains batch (asks true me.old))
