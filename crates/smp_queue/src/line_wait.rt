@@ -3,7 +3,12 @@
 use crate::alarms::{Alarm, Alarms};
 use crate::line::Place;
 use crossbeam_utils::Backoff;
+use smp_words::size::NR_CPUS;
 use std::sync::Wait;
+
+/// How often a CPU finds something else while it waits, before it lines up at its next look in vain. Those in line come first, so the
+/// CPUs that try without a place in it do not pass this one by for ever.
+const PATIENCE: u32 = 2 * NR_CPUS;
 
 /// A wait of a CPU for a lock that is tried, in line with the other CPUs that wait for it asleep.
 #[derive(Drop)]
@@ -14,6 +19,8 @@ pub struct LineWait<'t> {
     sleep_after: Option<u32>,
     /// How many looks were in vain since it last found something.
     looks: u32,
+    /// How often it has found something.
+    finds: u32,
     backoff: Backoff,
     alarm: Option<Alarm<'t>>,
     place: Option<Place<'t>>,
@@ -27,6 +34,7 @@ impl<'t> LineWait<'t> {
             cpu,
             sleep_after,
             looks: 0,
+            finds: 0,
             backoff: Backoff::new(),
             alarm: None,
             place: None,
@@ -41,7 +49,7 @@ impl<'t> LineWait<'t> {
     /// Whether the CPU sleeps where it finds nothing.
     fn may_sleep(&self) -> bool {
         match self.sleep_after {
-            Some(looks) => looks <= self.looks,
+            Some(looks) => looks <= self.looks || PATIENCE <= self.finds,
             None => false,
         }
     }
@@ -61,6 +69,7 @@ impl<'t> LineWait<'t> {
         let alarm = self.alarm.take();
         if found {
             self.looks = 0;
+            self.finds = self.finds.saturating_add(1);
             return false;
         }
         let Some(alarm) = alarm else {
