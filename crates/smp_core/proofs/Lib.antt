@@ -13,5 +13,6 @@ pub mod Headline
 -- a list of events
 pub mod OfflineEvents
 pub mod Replays
--- what a kept core takes
+-- how a core is kept, and what it takes
+pub mod Parts
 pub mod Weights
