@@ -7,3 +7,4 @@ pub mod StopLaws
 pub mod Headline
 pub mod Broken
 pub mod KnownPremises
+pub mod Reached

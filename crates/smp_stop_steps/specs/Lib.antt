@@ -57,6 +57,7 @@ pub mod Kept
 pub mod Known
 pub mod KnownAfter
 pub mod Moves
+pub mod Reached
 pub mod Weights
 -- all of it by one name, for proofs
 unfoldable pub use Names.*

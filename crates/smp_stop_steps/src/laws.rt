@@ -238,6 +238,16 @@ pub fn known_moves_keep_laws()
     ensures { KnownMovesKeepLaws }
 {}
 
+ghost use Rattle.smp_stop_steps.specs.Reached.{MovesReach};
+
+/// Where threads share the words, each step that an online CPU may make by what it knows leads from stops and words that are
+/// reached to such. Stops and words are reached where some steps lead to them from words that show no stop begun. Each of these
+/// steps is one of a CPU that is online, of any of them in any order. It finds what is in its word, and what holds before the
+/// steps of commands (`steps_are_premised`) holds before it. Its stops are those that it tells, as in `moves_are_known`.
+pub fn moves_reach()
+    ensures { MovesReach }
+{}
+
 /// Where threads share the words, each step that a CPU may make by what it knows is counted once in its number of steps. Not
 /// counted are three stores: the count again, the next phase, and done. The last CPU alone makes each, at a seat of its own.
 pub fn known_steps_count()
