@@ -166,6 +166,7 @@ is_shown d l free =
       within = within_with d l answer calls;
       known = d.known;
       lives = l;
+      words = refl;
       alike = ap (λ f. record (l.stops) { calls = put l.stops.calls me calls; calling = put l.stops.calling me f }) (carries_with d l answer calls);
       sees = sees_with d l answer calls;
       view = refl;

@@ -27,7 +27,7 @@ IsPending stop (Some w) = (stop.is_open ≡ true) × (stop.work ≡ w)
 -- some words of the table show stops that keep all laws, and this value is what a CPU knows that knows its part of them:
 -- it is in the stop that the value has, its interrupts are on or off and its own stop is pending as the value says, it has
 -- made the value's calls of stop functions, and carries the answer of the last one, which no words tell. But for these calls
--- and that answer they are stops that are reached. CPUs that are not online have done nothing
+-- and that answer, these stops and words are reached. CPUs that are not online have done nothing
 pub record StopsAreShown (c : CpuValue) : Type 0 where
   pub stops : StopState
   pub at : Word → ℕ
@@ -38,6 +38,7 @@ pub record StopsAreShown (c : CpuValue) : Type 0 where
   pub within : StaysWithin c.setting stops at seat source
   pub known : KnownStops
   pub lives : Lives known
+  pub words : at ≡ lives.at
   pub alike : stops ≡ record (lives.stops) {
     calls = put lives.stops.calls c.number c.part.calls;
     calling = put lives.stops.calling c.number c.part.calling;
