@@ -1,5 +1,5 @@
 -- The headline, of a CPU's value.
-use Rattle.std.proofs.Common.{◌≡◌, sym, subst, ap, ◌∙◌}
+use Rattle.std.proofs.Common.{◌≡◌, sym, subst, refl, ap, ◌∙◌}
 use Rattle.smp_call_steps.specs.Parts.{part_of}
 use Rattle.smp_stop_steps.specs.Seats.{RoleStands, irq_of}
 use Rattle.smp_queue.specs.Cpu.{CpuValue as CallCpuValue}
@@ -13,10 +13,11 @@ pub has_calls : (c : CallCpuValue) → CallsAreShown c → HasCalls c
 has_calls c s = record { now = record { calls = s.calls; reached = s.reached; at = s.at; controls = s.controls; shown = s.shown }; part = s.view }
 
 pub has_stops : (c : StopCpuValue) → StopsAreShown c → HasStops c
-has_stops c s = record {
-  now = record { stops = s.stops; at = s.at; seat = s.seat; source = s.source; shown = s.shown };
-  part = record { known = s.known; sees = s.sees; view = s.view };
-}
+has_stops c s = let l = s.lives in
+    subst HasStops (sym s.view) record {
+      now = record { stops = l.stops; at = l.at; reached = l.reached; seat = l.seat; source = l.source; shown = l.shown };
+      part = record { known = s.known; sees = l.sees; view = refl };
+    }
 
 pub own_calls : (c : CallCpuValue) (s : HasCalls c) → part_of s.now.calls c.number ≡ c.part
 own_calls c s = ap (λ (d : CallCpuValue). d.part) (sym s.part)

@@ -9,7 +9,7 @@ pub record HasCalls (c : CallCpuValue) : Type 0 where
   pub now : CallsNow
   pub part : IsPartOfCalls now c
 
--- some words show stops of which this value is the CPU's part
+-- some words show stops that are reached, of which this value is the CPU's part
 pub record HasStops (c : StopCpuValue) : Type 0 where
   pub now : StopsNow c.setting
   pub part : IsPartOfStops now c

@@ -29,8 +29,9 @@ use std::alloc::Allocator;
 
 /// Whatever the threads of other CPUs do: this CPU's value is its part of calls that words of the call table show, and of
 /// stops that words of the stop table show, which keep all laws of the two halves. Steps that the CPUs may make lead to those
-/// calls from nothing called. It has a list of what it has put for each queue that there can be, and one of what is noted with
-/// it. It makes no step.
+/// calls from nothing called. Steps of CPUs that are online lead to those stops from no stop begun, but for this CPU's calls of
+/// stop functions and the answer that it carries, which no step tells. It has a list of what it has put for each queue that
+/// there can be, and one of what is noted with it. It makes no step.
 pub fn is_shown<A: Allocator>(machine: &Machine<A>, cpu: &Cpu<A>)
     ensures calls { CallsAreShown cpu.now.calls }
     ensures stops { StopsAreShown cpu.now.stops }
@@ -109,9 +110,10 @@ pub fn refusals_are_in_order()
 
 /// The theorem over threads: the six statements of `smp_core::laws::headline`, of each CPU's value, at any time, whatever other
 /// threads do. Some words show calls and stops of which this value is the CPU's part (`calls`, `stops`), and all such calls and
-/// stops have of this CPU what the value has (`own`, `inside`, `irq`). Those calls are reached: steps that the CPUs may make, of any
-/// of them in any order, lead to them from nothing called. The six hold of all of them, so of those of the two tables, which are
-/// among them by the tables' rules, and of those of which other CPUs are parts too ([`Machine::together`]).
+/// stops have of this CPU what the value has (`own`, `inside`, `irq`). Those calls and those stops are reached: steps that the CPUs
+/// may make, of any of them in any order, lead to them from nothing called and from no stop begun. The six hold of all of them, so
+/// of those of the two tables, which are among them by the tables' rules, and of those of which other CPUs are parts too
+/// ([`Machine::together`]).
 /// - `place`: Each record is free, held by its source, or locked in exactly one queue, batch or SYNC call that runs.
 /// - `once`: What a source has sent to a CPU is what has begun there and what waits there, each call once.
 /// - `order`: In each class, calls begin in the order in which they joined the queue, and join it in the order in which they were sent.
@@ -138,7 +140,7 @@ pub fn headline<A: Allocator>(machine: &Machine<A>, cpu: &Cpu<A>)
 
 /// The theorem over threads of all these CPUs at once, whatever the threads of other CPUs do. Their values are their parts of one
 /// state of the calls (`calls`) and of one state of the stops (`stops`), which have of each of them what its value has (`own`,
-/// `inside`, `irq`), and of which the six statements of [`headline`] hold. The state of the calls is reached, as there.
+/// `inside`, `irq`), and of which the six statements of [`headline`] hold. Both states are reached, as there.
 ///
 /// Three clauses are about the values alone. In each class, the calls of any of these CPUs that have begun on another one are the
 /// first of those that it has sent there (`runs`). In the stop of one source any two of them have the same work, and neither has

@@ -17,9 +17,10 @@ use Rattle.smp_mask.specs.Mask.{has}
 use Rattle.smp_stop_steps.specs.AnswerWords.{IsI32Word, AreI32Words}
 use Rattle.smp_stop_steps.specs.KnownAfter.{known_told, known_entering}
 use Rattle.smp_stop_steps.specs.Moves.{Can, entering}
+use Rattle.smp_stop_steps.specs.Reached.{IsReached}
 use Rattle.smp_stop_steps.specs.State.{StopState}
 use Rattle.smp_stop_steps.specs.Shows.{StopShows}
-use Rattle.smp_stop_steps.proofs.Knows.KnownMoves.{known_move}
+use Rattle.smp_stop_steps.proofs.{Knows.KnownMoves.known_move, Promises.Reached.moves_reach}
 use Rattle.smp_multi.specs.Names.{Word, Gate, Slot, Key, Entry, Site, Access, Load, Store, Exchange, Sub, And, Work, StopRole}
 use Rattle.smp_multi.specs.Names.{Source, KnownStops, StopSetting, StopSeatView}
 use Rattle.smp_multi.specs.Names.{Maker, Cpu}
@@ -113,17 +114,24 @@ sub_else x v (Entry i) n m = refl
 sub_else x v (Site i) n m = refl
 sub_else x v _ n m = refl
 
+-- the stops go on by a step of this CPU, after which it knows w; from stops and words that are reached it leads to such
+record Reaches (k : StopSetting) (p : StopState) (at : Word → ℕ) (seat : ℕ → StopRole) (source : ℕ → Source) (me : ℕ) (at' : Word → ℕ) (w : KnownStops)
+    : Type 0 where
+  goes : GoesOn k p seat source me at' w
+  reached : IsReached (setup_in k) p at → IsReached (setup_in k) goes.stops at'
+
 module _ (p : StopState) (at : Word → ℕ) (seat : ℕ → StopRole) (source : ℕ → Source) (v : KnownStops) (h : StopShows (setup_in v.setting) p at seat source)
-    (sees : Sees p seat source v) where
+    (sees : Sees p seat source v) (online : has v.setting.online v.number ≡ true) where
   abbrev Goes : (Word → ℕ) → KnownStops → Type 0
-  Goes at' w = GoesOn v.setting p seat source v.number at' w
+  Goes at' w = Reaches v.setting p at seat source v.number at' w
 
   moves : (a : Access) → Can v a → let seen = seen_of v.number a (at (word_of a)) None in
       Goes (at_after at a) (known_entering (entering p (word_of a)) v seen.act seen.word seen.found seen.put)
   moves a can =
       subst (λ (a : Access). let seen = seen_of v.number a (at (word_of a)) None in
       Goes (at_after at a) (known_entering (entering p (word_of a)) v seen.act seen.word seen.found seen.put)) can.is_access
-      ((known_move p at seat source v h sees can.move can.may).goes)
+      (let g = known_move p at seat source v h sees can.move can.may in
+      record { goes = g.goes; reached = moves_reach p at seat source v h sees online can.move can.may g.goes.stops g.told })
 
   load_step : (w : Word) → Can v (Load w) → Goes at (known_told v act.Load w (Some (at w)) None)
   load_step w can = subst (Goes at) (load_else (entering p w) v w (at w)) (moves (Load w) can)
@@ -196,10 +204,12 @@ within_on k p at seat source me at' w on low h fits g = record {
 }
 
 lives_on : (k : StopSetting) (p : StopState) (at : Word → ℕ) (seat : ℕ → StopRole) (source : ℕ → Source) (me : ℕ) (at' : Word → ℕ) (w : KnownStops)
-    → has k.online me ≡ true → me < cpus → StaysWithin k p at seat source → AreI32Words at' → GoesOn k p seat source me at' w → Lives w
-lives_on k p at seat source me at' w on low h fits g = record {
+    → has k.online me ≡ true → me < cpus → StaysWithin k p at seat source → AreI32Words at' → (g : GoesOn k p seat source me at' w)
+    → IsReached (setup_in k) g.stops at' → Lives w
+lives_on k p at seat source me at' w on low h fits g reached = record {
   stops = g.stops;
   at = at';
+  reached = subst (λ j. IsReached (setup_in j) g.stops at') (sym g.setting_is) reached;
   seat = g.seats;
   source = g.sources;
   shown = subst (λ j. StopShows (setup_in j) g.stops at' g.seats g.sources) (sym g.setting_is) g.shown;
@@ -228,6 +238,7 @@ module _ {S : Type 0} (k : StopSetting) where
       made : Ruled {S = S} k record { words = s.words; homes = s.homes; views = set s.views id (Maker (n + 1) k) ++ Cpu (fresh k n) ∷ [] }
       made = record {
         stops = r.stops;
+        reached = r.reached;
         seat = r.seat;
         source = r.source;
         place = put r.place n (length (set s.views id (Maker (n + 1) k)));
@@ -251,9 +262,11 @@ module _ {S : Type 0} (k : StopSetting) where
   -- a seat's CPU makes a step of the machine
   lifts : (s : State S StopSeatView) (r : Ruled k s) (id i n : ℕ) (v w : KnownStops) (carried : List (ℕ × S)) → get_elem? s.views id ≡ some (Cpu v)
       → (g : GoesOn k r.stops r.seat r.source v.number (number_in (set s.words i n)) w)
-      → StaysWithin k g.stops (number_in (set s.words i n)) g.seats g.sources → Ruled k (stepped s i n id carried (Cpu w) keeps)
-  lifts s r id i n v w carried at g within' = record {
+      → IsReached (setup_in k) g.stops (number_in (set s.words i n)) → StaysWithin k g.stops (number_in (set s.words i n)) g.seats g.sources
+      → Ruled k (stepped s i n id carried (Cpu w) keeps)
+  lifts s r id i n v w carried at g reached within' = record {
     stops = g.stops;
+    reached = reached;
     seat = g.seats;
     source = g.sources;
     place = r.place;
@@ -280,11 +293,16 @@ module _ {S : Type 0} (k : StopSetting) where
     abbrev v : KnownStops
     v = known me.0
 
+    -- from these stops and this list of words a step of the seat's CPU goes on to these words
+    abbrev LeadsOn : StopState → (ℕ → StopRole) → (ℕ → Source) → List ℕ → (Word → ℕ) → KnownStops → Type 0
+    LeadsOn p seat source words at w = Reaches v.setting p (number_in words) seat source v.number at w
+
     steps : (i : ℕ) (f : ℕ → ℕ) (then : ℕ → Me S StopSeatView → Type 0) →
         ((p : StopState) (seat : ℕ → StopRole) (source : ℕ → Source) (words : List ℕ)
         → StopShows (setup_in (known me.0).setting) p (number_in words) seat source
-        → length words ≡ cells → Sees p seat source (known me.0) → StaysWithin (known me.0).setting p (number_in words) seat source →
-        (w : KnownStops) × GoesOn (known me.0).setting p seat source (known me.0).number (number_in (set words i (f (get_or words i 0)))) w
+        → length words ≡ cells → Sees p seat source (known me.0) → StaysWithin (known me.0).setting p (number_in words) seat source
+        → IsReached (setup_in (known me.0).setting) p (number_in words) →
+        (w : KnownStops) × LeadsOn p seat source words (number_in (set words i (f (get_or words i 0)))) w
         × AreI32Words (number_in (set words i (f (get_or words i 0)))) × then (get_or words i 0) (Cpu w, me.1)) →
         Allows (Ruled k) slots id me i f (λ n m. Lives (known m.0) × then n m)
     steps i f then go s r sized at fits =
@@ -292,30 +310,33 @@ module _ {S : Type 0} (k : StopSetting) where
         let mine : SeatKnows k r.stops r.seat r.source r.place r.next id (Cpu v) = r.each_seat id (Cpu v) at' in
         let set_k : v.setting ≡ k = mine.2 in
         let here = subst (λ j. StaysWithin j r.stops (number_in s.words) r.seat r.source) (sym set_k) r.within in
+        let reached = subst (λ j. IsReached (setup_in j) r.stops (number_in s.words)) (sym set_k) r.reached in
         let t = go r.stops r.seat r.source s.words (subst (λ j. StopShows (setup_in j) r.stops (number_in s.words) r.seat r.source) (sym set_k) r.shown)
-        r.wide mine.3 here in
+        r.wide mine.3 here reached in
         let next = number_in (set s.words i (f (get_or s.words i 0))) in
         let low = mine.3.below in
-        let lives : Lives t.0 = lives_on v.setting r.stops (number_in s.words) r.seat r.source v.number next t.0 online low here t.2 t.1 in
-        let g = subst (λ j. GoesOn j r.stops r.seat r.source v.number next t.0) set_k t.1 in
+        let lives : Lives t.0 = lives_on v.setting r.stops (number_in s.words) r.seat r.source v.number next t.0 online low here t.2 t.1.goes
+        (t.1.reached reached) in
+        let g = subst (λ j. Reaches j r.stops (number_in s.words) r.seat r.source v.number next t.0) set_k t.1 in
         let on = subst (λ (j : StopSetting). has j.online v.number ≡ true) set_k online in
-        let within' = within_on k r.stops (number_in s.words) r.seat r.source v.number next t.0 on low r.within t.2 g in
-        (Cpu t.0, keeps, tt, lifts s r id i (f (get_or s.words i 0)) v t.0 me.1 at' g within', (lives, t.3))
+        let within' = within_on k r.stops (number_in s.words) r.seat r.source v.number next t.0 on low r.within t.2 g.goes in
+        (Cpu t.0, keeps, tt, lifts s r id i (f (get_or s.words i 0)) v t.0 me.1 at' g.goes (g.reached r.reached) within', (lives, t.3))
 
     pub load_allowed : (w : Word) (i : ℕ) → cell_of w ≡ Some i → Can (known me.0) (Load w)
         → Allows (Ruled k) slots id me i (λ n. n) (loaded (step slots i 0 0 none) me)
-    load_allowed w i e can = steps i (λ n. n) (AfterLoad (step slots i 0 0 none) me) (λ p seat source words shown wide sees within.
+    load_allowed w i e can = steps i (λ n. n) (AfterLoad (step slots i 0 0 none) me) (λ p seat source words shown wide sees within reached.
         let here : number_in words w ≡ get_or words i 0 = number_here words w i e in (
           known_told v act.Load w (Some (get_or words i 0)) None,
-          subst (λ (x : List ℕ). GoesOn v.setting p seat source v.number (number_in x) (known_told v act.Load w (Some (get_or words i 0)) None))
+          subst (λ (x : List ℕ). LeadsOn p seat source words (number_in x) (known_told v act.Load w (Some (get_or words i 0)) None))
               (sym (set-get_or words i 0))
-              (subst (λ n. GoesOn v.setting p seat source v.number (number_in words) (known_told v act.Load w (Some n) None)) here
-              (load_step p (number_in words) seat source v shown sees w can)),
+              (subst (λ n. LeadsOn p seat source words (number_in words) (known_told v act.Load w (Some n) None)) here
+              (load_step p (number_in words) seat source v shown sees online w can)),
           subst (λ (x : List ℕ). AreI32Words (number_in x)) (sym (set-get_or words i 0)) within.results,
           λ u f. (
             record {
               stops = p;
               at = number_in words;
+              reached = reached;
               seat = seat;
               source = source;
               shown = shown;
@@ -330,10 +351,10 @@ module _ {S : Type 0} (k : StopSetting) where
 
     pub store_allowed : (w : Word) (i x : ℕ) → cell_of w ≡ Some i → Can (known me.0) (Store w x) → FitsWord w x
         → Allows (Ruled k) slots id me i (λ _. x) (λ _. stored (step slots i x 0 none) me x)
-    store_allowed w i x e can fits = steps i (λ _. x) (λ _. AfterStore (step slots i x 0 none) me x) (λ p seat source words shown wide sees within. (
+    store_allowed w i x e can fits = steps i (λ _. x) (λ _. AfterStore (step slots i x 0 none) me x) (λ p seat source words shown wide sees within reached. (
       known_told v act.Store w None (Some x),
-      subst (λ (at : Word → ℕ). GoesOn v.setting p seat source v.number at (known_told v act.Store w None (Some x))) (sym (stored_here words w i x wide e))
-          (store_step p (number_in words) seat source v shown sees w x can),
+      subst (λ (at : Word → ℕ). LeadsOn p seat source words at (known_told v act.Store w None (Some x))) (sym (stored_here words w i x wide e))
+          (store_step p (number_in words) seat source v shown sees online w x can),
       subst AreI32Words (sym (stored_here words w i x wide e)) (put_fits (number_in words) w x within.results fits),
       λ u f. ap (λ (y : Word). Cpu (known_told v act.Store y None (Some x))) (one_cell w u i e f),
     ))
@@ -346,21 +367,22 @@ module _ {S : Type 0} (k : StopSetting) where
     pub exchange_allowed : (w : Word) (i old new : ℕ) → cell_of w ≡ Some i → Can (known me.0) (Exchange w old new) → IsNoResult w →
         Allows (Ruled k) slots id me i (λ n. either (n == old) new n) (exchanged (step slots i old new none) me)
     exchange_allowed w i old new e can none_of = steps i (λ n. either (n == old) new n) (AfterExchange (step slots i old new none) me)
-        (λ p seat source words shown wide sees within.
+        (λ p seat source words shown wide sees within reached.
         let n = get_or words i 0 in
         let here : number_in words w ≡ n = number_here words w i e in
         let same : (put_if put_word (number_in words) w (cond (number_in words w == old) (Some new) None)) ≡ number_in (set words i (either (n == old) new n)) =
         ap (λ k. put_if put_word (number_in words) w (cond (k == old) (Some new) None)) here ∙ sym (exchanged_words words w i n new (n == old) wide e refl) in (
           known_told v act.Cas w (Some n) (cond (n == old) (Some new) None),
-          subst (λ (at : Word → ℕ). GoesOn v.setting p seat source v.number at (known_told v act.Cas w (Some n) (cond (n == old) (Some new) None))) same
-              (subst (λ k. GoesOn v.setting p seat source v.number (put_if put_word (number_in words) w (cond (number_in words w == old) (Some new) None))
+          subst (λ (at : Word → ℕ). LeadsOn p seat source words at (known_told v act.Cas w (Some n) (cond (n == old) (Some new) None))) same
+              (subst (λ k. LeadsOn p seat source words (put_if put_word (number_in words) w (cond (number_in words w == old) (Some new) None))
               (known_told v act.Cas w (Some k) (cond (k == old) (Some new) None))) here
-              (exchange_step p (number_in words) seat source v shown sees w old new can)),
+              (exchange_step p (number_in words) seat source v shown sees online w old new can)),
           subst AreI32Words same (put_if_fits (number_in words) w new (number_in words w == old) within.results none_of),
           λ u f. (
             record {
               stops = p;
               at = number_in words;
+              reached = reached;
               seat = seat;
               source = source;
               shown = shown;
@@ -376,20 +398,21 @@ module _ {S : Type 0} (k : StopSetting) where
     pub sub_allowed : (w : Word) (i : ℕ) → cell_of w ≡ Some i → Can (known me.0) (Sub w) → IsNoResult w
         → Allows (Ruled k) slots id me i (λ n. (n + (2 ^ 64 - 1)) % 2 ^ 64) (subtracted (step slots i 1 0 none) me)
     sub_allowed w i e can none_of = steps i (λ n. (n + (2 ^ 64 - 1)) % 2 ^ 64) (AfterSubtract (step slots i 1 0 none) me)
-        (λ p seat source words shown wide sees within.
+        (λ p seat source words shown wide sees within reached.
         let n = get_or words i 0 in
         let here : number_in words w ≡ n = number_here words w i e in (
           known_told v act.Sub w (Some n) (Some (one_less n)),
-          subst (λ (at : Word → ℕ). GoesOn v.setting p seat source v.number at (known_told v act.Sub w (Some n) (Some (one_less n))))
+          subst (λ (at : Word → ℕ). LeadsOn p seat source words at (known_told v act.Sub w (Some n) (Some (one_less n))))
               (sym (stored_here words w i (one_less n) wide e))
-              (subst (λ m. GoesOn v.setting p seat source v.number (put_word (number_in words) w (one_less m))
-              (known_told v act.Sub w (Some m) (Some (one_less m)))) here (sub_step p (number_in words) seat source v shown sees w can)),
+              (subst (λ m. LeadsOn p seat source words (put_word (number_in words) w (one_less m))
+              (known_told v act.Sub w (Some m) (Some (one_less m)))) here (sub_step p (number_in words) seat source v shown sees online w can)),
           subst AreI32Words (sym (stored_here words w i (one_less n) wide e))
               (put_fits (number_in words) w (one_less n) within.results (no_result w (one_less n) none_of)),
           λ u f. (
             record {
               stops = p;
               at = number_in words;
+              reached = reached;
               seat = seat;
               source = source;
               shown = shown;
@@ -406,14 +429,14 @@ module _ {S : Type 0} (k : StopSetting) where
     pub answered_allowed : (x : ℕ) (w : Word) (i : ℕ) → cell_of w ≡ Some i → ((c : Can (known me.0) (Sub w)) × Ends (known me.0) x c.move) → IsNoResult w
         → Allows (Ruled k) slots id me i (λ n. (n + (2 ^ 64 - 1)) % 2 ^ 64) (answered x (step slots i 1 0 none) me)
     answered_allowed x w i e ends none_of = steps i (λ n. (n + (2 ^ 64 - 1)) % 2 ^ 64) (AfterAnswer x (step slots i 1 0 none) me)
-        (λ p seat source words shown wide sees within.
+        (λ p seat source words shown wide sees within reached.
         let n = get_or words i 0 in
         let here : number_in words w ≡ n = number_here words w i e in
         let told : ℕ → KnownStops = λ m. known_told (carrying x v) act.Sub w (Some m) (Some (one_less m)) in (
           told n,
-          subst (λ (at : Word → ℕ). GoesOn v.setting p seat source v.number at (told n)) (sym (stored_here words w i (one_less n) wide e))
-              (subst (λ m. GoesOn v.setting p seat source v.number (put_word (number_in words) w (one_less m)) (told m)) here
-              (sub_step p (number_in words) seat source (carrying x v) shown (sees_with x v p seat source sees) w (can_with x v (Sub w) ends.0))),
+          subst (λ (at : Word → ℕ). LeadsOn p seat source words at (told n)) (sym (stored_here words w i (one_less n) wide e))
+              (subst (λ m. LeadsOn p seat source words (put_word (number_in words) w (one_less m)) (told m)) here
+              (sub_step p (number_in words) seat source (carrying x v) shown (sees_with x v p seat source sees) online w (can_with x v (Sub w) ends.0))),
           subst AreI32Words (sym (stored_here words w i (one_less n) wide e))
               (put_fits (number_in words) w (one_less n) within.results (no_result w (one_less n) none_of)),
           λ u f. (
@@ -424,21 +447,22 @@ module _ {S : Type 0} (k : StopSetting) where
 
     pub and_allowed : (w : Word) (i x : ℕ) → cell_of w ≡ Some i → Can (known me.0) (And w x) → IsNoResult w
         → Allows (Ruled k) slots id me i (λ n. bit_and n x) (masked (step slots i x 0 none) me)
-    and_allowed w i x e can none_of = steps i (λ n. bit_and n x) (AfterMask (step slots i x 0 none) me) (λ p seat source words shown wide sees within.
+    and_allowed w i x e can none_of = steps i (λ n. bit_and n x) (AfterMask (step slots i x 0 none) me) (λ p seat source words shown wide sees within reached.
         let n = get_or words i 0 in
         let here : number_in words w ≡ n = number_here words w i e in (
           known_entering (entering p w) v act.And w (Some n) (Some (bit_and n x)),
-          subst (λ (at : Word → ℕ). GoesOn v.setting p seat source v.number at (known_entering (entering p w) v act.And w (Some n) (Some (bit_and n x))))
+          subst (λ (at : Word → ℕ). LeadsOn p seat source words at (known_entering (entering p w) v act.And w (Some n) (Some (bit_and n x))))
               (sym (stored_here words w i (bit_and n x) wide e))
-              (subst (λ m. GoesOn v.setting p seat source v.number (put_word (number_in words) w (bit_and m x))
+              (subst (λ m. LeadsOn p seat source words (put_word (number_in words) w (bit_and m x))
               (known_entering (entering p w) v act.And w (Some m) (Some (bit_and m x)))) here
-              (and_step p (number_in words) seat source v shown sees w x can)),
+              (and_step p (number_in words) seat source v shown sees online w x can)),
           subst AreI32Words (sym (stored_here words w i (bit_and n x) wide e))
               (put_fits (number_in words) w (bit_and n x) within.results (no_result w (bit_and n x) none_of)),
           λ u f. (
             record {
               stops = p;
               at = number_in words;
+              reached = reached;
               seat = seat;
               source = source;
               shown = shown;

@@ -144,9 +144,11 @@ module _ (d : SeatValue) (l : Lives d.known) (y : ℕ) (calls : List StopCall) w
   pub within_with : StaysWithin d.known.setting (stops_with y calls me l.stops) l.at l.seat l.source
   within_with = record { results = l.within.results; offline = offline_with; beyond = l.within.beyond }
 
+  pub carries_with : with_answer y (l.stops.calling me) ≡ with_answer y d.known.part.calling
+  carries_with = sym (with_told y (l.stops.calling me)) ∙ ap (with_answer y) l.sees.part_is.calling
+
   pub calling_with : put l.stops.calling me (with_answer y (l.stops.calling me)) me ≡ with_answer y d.known.part.calling
-  calling_with = put_same l.stops.calling me (with_answer y (l.stops.calling me))
-      ∙ (sym (with_told y (l.stops.calling me)) ∙ ap (with_answer y) l.sees.part_is.calling)
+  calling_with = put_same l.stops.calling me (with_answer y (l.stops.calling me)) ∙ carries_with
 
 abbrev pub is_shown : (d : SeatValue) → Lives d.known → HasNotGiven d.known.seat → StopsAreShown (cpu_of d)
 is_shown d l free =
@@ -163,6 +165,9 @@ is_shown d l free =
       laws = keeps_laws (setup_in d.known.setting) (stops_with answer calls me l.stops) l.at l.seat l.source shown;
       within = within_with d l answer calls;
       known = d.known;
+      lives = l;
+      words = refl;
+      alike = ap (λ f. record (l.stops) { calls = put l.stops.calls me calls; calling = put l.stops.calling me f }) (carries_with d l answer calls);
       sees = sees_with d l answer calls;
       view = refl;
       inside = inside_shown l.stops.now me d.known.seat (subst (RoleStands l.stops.now me) l.sees.seat_is (l.shown.present.stands me));
@@ -178,6 +183,7 @@ abbrev pub lives_at : (v : KnownStops) (word : Word) (n : ℕ) → StopMoment v 
 lives_at v word n m = record {
   stops = m.stops;
   at = m.at;
+  reached = m.reached;
   seat = m.seat;
   source = m.source;
   shown = m.shown;

@@ -17,6 +17,7 @@ use Rattle.smp_words.proofs.Zeros.{zero_at, get_or-same}
 use Rattle.smp_stop_steps.specs.Known.{setup_in, fresh}
 use Rattle.smp_mask.specs.Mask.{has}
 use Rattle.smp_stop_steps.specs.AnswerWords.{AreI32Words}
+use Rattle.smp_stop_steps.proofs.Promises.Reached.{nothing_reached}
 use Rattle.smp_multi.specs.Lives.{Lives, StaysWithin}
 use Rattle.smp_stop_steps.specs.Labels.{labels_in}
 use Rattle.smp_stop_steps.specs.Shows.{StopShows}
@@ -165,6 +166,7 @@ pub lives_fresh : (k : StopSetting) (nr : ℕ) (entries sites : List ℕ) → Ar
 lives_fresh k nr entries sites a cpu low on = record {
   stops = no_stops;
   at = number_in ((replicate FIRST_ENTRY 0 ++ entries) ++ sites);
+  reached = nothing_reached (setup_in k) (number_in ((replicate FIRST_ENTRY 0 ++ entries) ++ sites)) (shows_none k nr entries sites a);
   seat = λ _. Free;
   source = λ _. Shut;
   shown = shows_none k nr entries sites a;
@@ -184,6 +186,7 @@ starts {S} k nr entries sites a =
     let ns = a.sites_sized in
     record {
       stops = no_stops;
+      reached = nothing_reached (setup_in k) (number_in ((replicate FIRST_ENTRY 0 ++ entries) ++ sites)) (shows_none k nr entries sites a);
       seat = λ _. Free;
       source = λ _. Shut;
       place = λ _. 0;

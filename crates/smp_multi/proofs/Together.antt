@@ -22,6 +22,7 @@ use Rattle.smp_multi.specs.Laws.{IsPending}
 use Rattle.smp_multi.specs.Places.{pending_of}
 use Rattle.smp_multi.specs.Rule.{Ruled, SeatKnows, known}
 use Rattle.smp_multi.specs.Seat.{SeatValue}
+use Rattle.smp_stop_steps.specs.Reached.{IsReached}
 use Rattle.smp_multi.specs.Together.{StopsNow, KnowTogether, AreTogether, IsLevelWith, AreInStep, WaitsFor}
 use Rattle.smp_multi.specs.Together.{IsPartOf, seats_of, AreCpuSeats, SeeAll, KnowAllTogether, cpus_at, values, ArePartsOf, AreAllTogether}
 use Rattle.smp_multi.specs.Together.{AllAreInStep, AllWaitFor}
@@ -36,6 +37,7 @@ know_together k s i j u v r is js at to =
       now = record {
         stops = r.stops;
         at = number_in s.words;
+        reached = subst (λ l. IsReached (setup_in l) r.stops (number_in s.words)) (sym one.2) r.reached;
         seat = r.seat;
         source = r.source;
         shown = subst (λ l. StopShows (setup_in l) r.stops (number_in s.words) r.seat r.source) (sym one.2) r.shown;
@@ -143,7 +145,7 @@ module _ (c d : CpuValue) (t : AreTogether c d) where
 -- all seats of a moment
 module _ (k : StopSetting) (s : State (Unit {0}) StopSeatView) (r : Ruled k s) where
   abbrev here : StopsNow k
-  here = record { stops = r.stops; at = number_in s.words; seat = r.seat; source = r.source; shown = r.shown }
+  here = record { stops = r.stops; at = number_in s.words; reached = r.reached; seat = r.seat; source = r.source; shown = r.shown }
 
   sees_all : (ms : List (TableId × (ℕ × Me (Unit {0}) StopSeatView))) → AreCpuSeats ms → IsMoment s ms → SeeAll here (seats_of ms)
   sees_all [] are at = tt

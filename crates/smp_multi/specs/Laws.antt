@@ -1,6 +1,7 @@
 -- What a CPU's value says of running threads.
 use Rattle.std.specs.Prelude.{◌≡◌, ◌≢◌, ℕ, true, false, Option, Some, None}
 use Rattle.smp_mask.specs.Mask.{has}
+use Rattle.smp_words.specs.Put.{put}
 use Rattle.smp_stop_steps.specs.Known.{Sees, setup_in}
 use Rattle.smp_stop_steps.specs.Shows.{StopShows}
 use Rattle.smp_stop_steps.specs.State.{Present, StopState}
@@ -10,7 +11,7 @@ use Rattle.smp_words.specs.declared.phase.TheConstants.{DISABLE_IRQ, RUN}
 use Rattle.smp_multi.specs.Names.{Word, Gate, Slot, Key, Work, StopRole, In, Alters, Source, KnownStops}
 use Rattle.smp_multi.specs.Names.field
 use Rattle.smp_multi.specs.Cpu.{CpuValue, Inside, cpu_of}
-use Rattle.smp_multi.specs.Lives.{StaysWithin}
+use Rattle.smp_multi.specs.Lives.{Lives, StaysWithin}
 use Rattle.smp_multi.specs.Rounds.{AloneWhile}
 
 -- the CPU is in this stop, which has this work, and this is the last phase that it has acknowledged
@@ -25,8 +26,8 @@ IsPending stop (Some w) = (stop.is_open ≡ true) × (stop.work ≡ w)
 
 -- some words of the table show stops that keep all laws, and this value is what a CPU knows that knows its part of them:
 -- it is in the stop that the value has, its interrupts are on or off and its own stop is pending as the value says, it has
--- made the value's calls of stop functions, and carries the answer of the last one, which no words tell. CPUs that are not
--- online have done nothing
+-- made the value's calls of stop functions, and carries the answer of the last one, which no words tell. But for these calls
+-- and that answer, these stops and words are reached. CPUs that are not online have done nothing
 pub record StopsAreShown (c : CpuValue) : Type 0 where
   pub stops : StopState
   pub at : Word → ℕ
@@ -36,6 +37,12 @@ pub record StopsAreShown (c : CpuValue) : Type 0 where
   pub laws : KeepsStopLaws (setup_in c.setting) stops at
   pub within : StaysWithin c.setting stops at seat source
   pub known : KnownStops
+  pub lives : Lives known
+  pub words : at ≡ lives.at
+  pub alike : stops ≡ record (lives.stops) {
+    calls = put lives.stops.calls c.number c.part.calls;
+    calling = put lives.stops.calling c.number c.part.calling;
+  }
   pub sees : Sees stops seat source known
   pub view : c ≡ cpu_of (record { table = c.table; known = known })
   pub inside : IsInside stops.now c.number c.inside

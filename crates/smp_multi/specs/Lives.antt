@@ -4,6 +4,7 @@ use Rattle.smp_mask.specs.Mask.{has}
 use Rattle.smp_words.specs.Size.{cpus}
 use Rattle.smp_stop_steps.specs.AnswerWords.{AreI32Words}
 use Rattle.smp_stop_steps.specs.Known.{Sees, fresh, setup_in}
+use Rattle.smp_stop_steps.specs.Reached.{IsReached}
 use Rattle.smp_stop_steps.specs.Shows.{StopShows}
 use Rattle.smp_stop_steps.specs.State.{StopState}
 use Rattle.smp_multi.specs.Names.{KnownStops, StopRole, Free, StopSetting, Source, Shut, Word}
@@ -15,10 +16,11 @@ pub record StaysWithin (k : StopSetting) (p : StopState) (at : Word → ℕ) (se
   pub offline : (cpu : ℕ) → cpu < cpus → has k.online cpu ≡ false → Sees p seat source (fresh k cpu)
   pub beyond : (c : ℕ) → cpus ≤ c → (seat c ≡ Free) × (source c ≡ Shut)
 
--- some words show some stops, of which an online CPU that knows v knows its part
+-- some words show some stops that are reached, of which an online CPU that knows v knows its part
 pub record Lives (v : KnownStops) : Type 0 where
   pub stops : StopState
   pub at : Word → ℕ
+  pub reached : IsReached (setup_in v.setting) stops at
   pub seat : ℕ → StopRole
   pub source : ℕ → Source
   pub shown : StopShows (setup_in v.setting) stops at seat source
@@ -30,6 +32,7 @@ pub record Lives (v : KnownStops) : Type 0 where
 pub record StopMoment (v : KnownStops) (word : Word) (number : ℕ) : Type 0 where
   pub stops : StopState
   pub at : Word → ℕ
+  pub reached : IsReached (setup_in v.setting) stops at
   pub seat : ℕ → StopRole
   pub source : ℕ → Source
   pub shown : StopShows (setup_in v.setting) stops at seat source

@@ -1,10 +1,11 @@
--- The rule of the table: its words show stops, of which each seat knows its CPU's part.
+-- The rule of the table: its words show stops that are reached, of which each seat knows its CPU's part.
 use Rattle.std.specs.Prelude.{◌≡◌, ℕ, ◌+◌, ◌<◌, ◌≤◌, length}
 use mathlib.Core.Option.{some}
 use lib.ListN.{get_elem?}
 use Rattle.atomic_table.specs.Table.{State}
 use Rattle.smp_words.specs.Size.{cpus}
 use Rattle.smp_stop_steps.specs.Known.{Sees, fresh, setup_in}
+use Rattle.smp_stop_steps.specs.Reached.{IsReached}
 use Rattle.smp_stop_steps.specs.Shows.{StopShows}
 use Rattle.smp_stop_steps.specs.State.{StopState}
 use Rattle.smp_multi.specs.Names.{StopRole, Source, KnownStops, StopSetting, StopSeatView, Maker, Cpu}
@@ -36,9 +37,10 @@ abbrev pub SeatKnows : StopSetting → StopState → (ℕ → StopRole) → (ℕ
 SeatKnows k p seat source place next id (Maker n j) = (n ≡ next) × (id ≡ 0) × (j ≡ k)
 SeatKnows k p seat source place next id (Cpu v) = (v.number < next) × (place v.number ≡ id) × (v.setting ≡ k) × Sees p seat source v
 
--- the words show some stops; each seat knows its part; CPUs with no seat, and CPUs that are not online, have done nothing
+-- the words show some stops that are reached; each seat knows its part; CPUs with no seat, and CPUs that are not online, have done nothing
 pub record Ruled {S : Type 0} (k : StopSetting) (s : State S StopSeatView) : Type 0 where
   pub stops : StopState
+  pub reached : IsReached (setup_in k) stops (number_in s.words)
   pub seat : ℕ → StopRole
   pub source : ℕ → Source
   pub place : ℕ → ℕ

@@ -3,16 +3,18 @@ use Rattle.std.specs.Prelude.{◌≡◌, ℕ, ◌+◌, ◌≤◌, Some, All, Lis
 use Rattle.atomic_table.specs.Table.{Me}
 use Rattle.atomic_table.specs.Seated.{TableId}
 use Rattle.smp_stop_steps.specs.Known.{Sees, setup_in}
+use Rattle.smp_stop_steps.specs.Reached.{IsReached}
 use Rattle.smp_stop_steps.specs.Shows.{StopShows}
 use Rattle.smp_stop_steps.specs.State.{StopState}
 use Rattle.smp_multi.specs.Names.{Cpu, KnownStops, StopRole, StopSeatView, StopSetting, Source, Word}
 use Rattle.smp_multi.specs.Rule.{known as known_of}
 use Rattle.smp_multi.specs.Cpu.{CpuValue, Inside, cpu_of}
 
--- some words and seats that show some stops
+-- some words and seats that show some stops, which are reached
 pub record StopsNow (k : StopSetting) : Type 0 where
   pub stops : StopState
   pub at : Word → ℕ
+  pub reached : IsReached (setup_in k) stops at
   pub seat : ℕ → StopRole
   pub source : ℕ → Source
   pub shown : StopShows (setup_in k) stops at seat source

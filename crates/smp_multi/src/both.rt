@@ -9,9 +9,10 @@ use crate::table::StopTable;
 use std::alloc::Allocator;
 
 impl<A: Allocator> StopTable<A> {
-    /// Two CPUs at one moment, whatever other threads do: their values are their parts of the same stops (`same`). In the stop of
-    /// one source they have the same work, and neither has acknowledged more than one phase more than the other (`step`). While
-    /// the one is in the stop of the other, the other has this work pending (`waits`).
+    /// Two CPUs at one moment, whatever other threads do: their values are their parts of the same stops, to which steps that the
+    /// CPUs may make lead from no stop begun (`same`). In the stop of one source they have the same work, and neither has
+    /// acknowledged more than one phase more than the other (`step`). While the one is in the stop of the other, the other has
+    /// this work pending (`waits`).
     ///
     /// It makes no step and does not wait, and nobody must poll.
     pub fn together(&self, one: &mut StopCpu, other: &mut StopCpu)

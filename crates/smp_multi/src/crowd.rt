@@ -55,9 +55,10 @@ impl<A: Allocator> StopTable<A> {
         }
     }
 
-    /// All CPUs of a crowd at one moment, whatever other threads do: their values are their parts of the same stops
-    /// (`same`). In the stop of one source any two of them have the same work, and neither has acknowledged more than one phase more
-    /// than the other (`step`). While one is in the stop of another one, that one has this work pending (`waits`).
+    /// All CPUs of a crowd at one moment, whatever other threads do: their values are their parts of the same stops, to which
+    /// steps that the CPUs may make lead from no stop begun (`same`). In the stop of one source any two of them have the same work,
+    /// and neither has acknowledged more than one phase more than the other (`step`). While one is in the stop of another one, that
+    /// one has this work pending (`waits`).
     ///
     /// It makes no step and does not wait, and nobody must poll.
     pub fn all_together(&self, crowd: &mut StopCrowd)

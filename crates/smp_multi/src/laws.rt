@@ -21,7 +21,8 @@ use smp_start::Tells;
 use std::alloc::Allocator;
 
 /// Whatever the threads of other CPUs do: this CPU's value is its part of stops that words of its table show, which
-/// keep all laws of the stop half.
+/// keep all laws of the stop half. Steps that online CPUs may make, of any of them in any order, lead to those stops from no
+/// stop begun, but for this CPU's calls of stop functions and the answer that it carries, which no step tells.
 pub fn is_shown<A: Allocator>(table: &StopTable<A>, cpu: &StopCpu)
     ensures { StopsAreShown cpu.now }
 {
