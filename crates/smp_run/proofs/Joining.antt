@@ -129,6 +129,7 @@ run_gathered : (m : MachineValue) (lines : List Directive) (from to : List Answe
     → Gathers (λ c. c ≡ p.calls.number) lines from to (length lines) → HasRunLines m lines from p → HasRunLines m lines to p
 run_gathered m lines from to p gathered run = let played = run.played in record {
   sent = run.sent;
+  direct = run.direct;
   waited = run.waited;
   played = record {
     made = played.made;

@@ -1,6 +1,6 @@
 -- What the lowest CPU of a run has done, once it has polled, and once it has read the labels.
-use Rattle.std.proofs.Common.{◌≡◌, ℕ, suc, ◌%◌, ◌^◌, ◌==◌, Bool, true, false, if◌then◌else◌, List, [], ◌∷◌, ◌++◌, cond, filter, length, inl, inr}
-use Rattle.std.proofs.Common.{refl, sym, ap, subst, ◌∙◌}
+use Rattle.std.proofs.Common.{◌≡◌, ℕ, suc, ◌+◌, ◌%◌, ◌^◌, ◌==◌, Bool, true, false, if◌then◌else◌, List, [], ◌∷◌, ◌++◌, cond, filter, length, inl, inr}
+use Rattle.std.proofs.Common.{refl, sym, ap, subst, ◌∙◌, arith}
 use Rattle.std.specs.List.{flat_map}
 use Rattle.std.proofs.lemmas.Fn.{chained_keeps}
 use Rattle.std.proofs.lemmas.List.{append-nil}
@@ -28,24 +28,26 @@ use Rattle.smp_run.specs.Driven.{HasRunLines, IsDriven, MakesLines}
 use Rattle.smp_run.specs.Made.{HasMade, HasPlayed, stops_of}
 use Rattle.smp_run.specs.Readings.{HasRead}
 use Rattle.smp_run.specs.Runs.{HasAsked}
-use Rattle.smp_run.specs.Sent.{Sent, HasSent, HasWaited, sent_of, script_calls}
+use Rattle.smp_run.specs.Sent.{Sent, HasCalled, HasWaited, sent_of, script_calls, script_direct}
 use Rattle.smp_run.specs.declared.answer.Answer.{Answer}
 use Rattle.smp_run.specs.Answers.{Answered}
 use Rattle.smp_run.specs.Seats.{IsSeated, keys_at}
 use Rattle.smp_run.proofs.Making.{made_as, made_polled, made_then}
-use Rattle.smp_run.proofs.Sending.{sent_as, sent_then}
-use Rattle.smp_run.proofs.Staying.{sent_worked, still_worked}
+use Rattle.smp_run.proofs.Sending.{called_as, called_then}
+use Rattle.smp_run.proofs.Staying.{called_worked, still_worked}
 use Rattle.smp_run.proofs.Waiting.{waited_worked, waits_still}
 
 -- a new CPU has made its lines, and then polled
 pub run_polled : (m : MachineValue) (lines : List Directive) (answers : List Answer) (old mid new : MachineCpuValue) → old ≡ fresh_place m old.calls.number
-    → new.calls.number ≡ old.calls.number → HasSent (script_calls m.calls.online old.calls.number lines) old mid → HasPlayed m lines answers old mid
-    → HasSent [] mid new → HasMade [] mid new → HasWaited new → HasRunLines m lines answers new
+    → new.calls.number ≡ old.calls.number → HasCalled (script_calls m.calls.online old.calls.number lines) (script_direct old.calls.number lines) old mid
+    → HasPlayed m lines answers old mid → HasCalled [] 0 mid new → HasMade [] mid new → HasWaited new → HasRunLines m lines answers new
 run_polled m lines answers old mid new fresh number sent played none still waited =
     let this = old.calls.number in let calls = script_calls m.calls.online this lines in
-    let all : HasSent calls (fresh_place m this) new =
-    subst (λ (p : MachineCpuValue). HasSent calls p new) fresh (sent_as (calls ++ []) calls old new (append-nil calls)
-    (sent_then calls [] old mid new sent none)) in
+    let direct = script_direct this lines in
+    let all : HasCalled calls direct (fresh_place m this) new =
+    subst (λ (p : MachineCpuValue). HasCalled calls direct p new) fresh (called_as (calls ++ []) calls (direct + 0) direct old new (append-nil calls)
+    (omega arith) (called_then calls [] direct 0 old mid new sent none)) in
+    let none_before : 0 + direct ≡ direct = omega arith in
     let stops = flat_map stops_of played.made in
     let done : HasPlayed m lines answers old new = record {
       made = played.made;
@@ -54,7 +56,8 @@ run_polled m lines answers old mid new fresh number sent played none still waite
     } in
     let kept : HasPlayed m lines answers (fresh_place m this) new = subst (λ (p : MachineCpuValue). HasPlayed m lines answers p new) fresh done in
     record {
-      sent = subst (λ (k : ℕ). sent_of new.calls.part.sent ≡ script_calls m.calls.online k lines) (sym number) all;
+      sent = subst (λ (k : ℕ). sent_of new.calls.part.sent ≡ script_calls m.calls.online k lines) (sym number) all.sent;
+      direct = subst (λ (k : ℕ). length new.calls.direct ≡ script_direct k lines) (sym number) (all.direct_is ∙ none_before);
       waited = waited;
       played = subst (λ (k : ℕ). HasPlayed m lines answers (fresh_place m k) new) (sym number) kept;
     }
@@ -97,7 +100,7 @@ module _ {H F : Type 0} (hears : H → Heard → H → Type 0) (runs : F → Cal
       ] in
       let run : HasRunLines m lines (answers h) b.cpu =
       run_polled m lines (answers h) (fresh_place m n) mid b.cpu refl p.number_is made.sent made.played
-      (sent_worked hears runs mid b.cpu h b.handler f b.functions own p.polled) (made_polled hears runs mid b.cpu h b.handler f b.functions p.polled)
+      (called_worked hears runs mid b.cpu h b.handler f b.functions own p.polled) (made_polled hears runs mid b.cpu h b.handler f b.functions p.polled)
       (waited_worked hears runs mid b.cpu h b.handler f b.functions own p.polled made.waited) in
       record {
         seated = seated;
@@ -130,6 +133,7 @@ run_read m lines answers old new readings read run =
     } in
     record {
       sent = subst (λ (c : CallCpuValue). sent_of c.part.sent ≡ script_calls m.calls.online c.number lines) (sym read.calls_are) run.sent;
+      direct = subst (λ (c : CallCpuValue). length c.direct ≡ script_direct c.number lines) (sym read.calls_are) run.direct;
       waited = waits_still old new read.calls_are run.waited;
       played = subst (λ (c : CallCpuValue). HasPlayed m lines answers (fresh_place m c.number) new) (sym read.calls_are) kept;
     }

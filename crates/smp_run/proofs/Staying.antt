@@ -17,8 +17,8 @@ use Rattle.smp_machine.specs.Seats.{IsSameSeat, SeatCounts, SeatSets, SeatStoppe
 use Rattle.smp_machine.specs.Works.{Works}
 use Rattle.smp_machine.proofs.Works.{at_still}
 use Rattle.smp_run.specs.Seats.{IsSeated, IsStill}
-use Rattle.smp_run.specs.Sent.{HasSent}
-use Rattle.smp_run.proofs.Sending.{sent_none}
+use Rattle.smp_run.specs.Sent.{HasCalled}
+use Rattle.smp_run.proofs.Sending.{called_as_was, called_none}
 
 -- nothing has changed
 pub still_same : (m : MachineValue) (old new : MachineCpuValue) → new ≡ old → IsSeated m old → IsStill m old new
@@ -78,15 +78,16 @@ module _ {H F : Type 0} (hears : H → Heard → H → Type 0) (runs : F → Cal
       seated_still old new same
       (still_quiet old.machine old.cpu new.cpu old.handler new.handler old.functions new.functions q seated)
 
-  pub sent_worked : (old new : MachineCpuValue) (h h' : H) (f f' : F) (own : Own) → Works hears runs old h f new h' f' own → HasSent [] old new
-  sent_worked old new h h' f f' own w = sent_none old new (ap (λ (x : CallCpuValue). x.part.sent) w.calls_kept)
+  pub called_worked : (old new : MachineCpuValue) (h h' : H) (f f' : F) (own : Own) → Works hears runs old h f new h' f' own → HasCalled [] 0 old new
+  called_worked old new h h' f f' own w =
+      called_none old new (ap (λ (x : CallCpuValue). x.part.sent) w.calls_kept) (ap (λ (x : CallCpuValue). x.direct) w.calls_kept)
 
-  sent_quiet : (old new : MachineCpuValue) (h h' : H) (f f' : F) → Quiet old h f new h' f' → HasSent [] old new
-  sent_quiet old new h h' f f' (inl (own, w, outside)) = sent_worked old new h h' f f' own w
-  sent_quiet old new h h' f f' (inr same) = sent_none old new (ap (λ (x : MachineCpuValue). x.calls.part.sent) same)
+  called_quiet : (old new : MachineCpuValue) (h h' : H) (f f' : F) → Quiet old h f new h' f' → HasCalled [] 0 old new
+  called_quiet old new h h' f f' (inl (own, w, outside)) = called_worked old new h h' f f' own w
+  called_quiet old new h h' f f' (inr same) = called_as_was old new (ap (λ (x : MachineCpuValue). x.calls) same)
 
-  sent_quietly : (old new : SeatValue H F) → QuietSeat old new → HasSent [] old.cpu new.cpu
-  sent_quietly old new q = sent_quiet old.cpu new.cpu old.handler new.handler old.functions new.functions q
+  called_quietly : (old new : SeatValue H F) → QuietSeat old new → HasCalled [] 0 old.cpu new.cpu
+  called_quietly old new q = called_quiet old.cpu new.cpu old.handler new.handler old.functions new.functions q
 
   -- a stop
   pub quiet_stopped : (moves : Work → ℕ → List OwnMove) (P : Work → Type 0) (old new : SeatValue H F) (made : Result ℤ SmpError)
@@ -94,10 +95,10 @@ module _ {H F : Type 0} (hears : H → Heard → H → Type 0) (runs : F → Cal
   quiet_stopped moves P old new (Ok v) ok kept = inl (_, ok.2.works, ok.2.outside)
   quiet_stopped moves P old new (Err e) ok kept = inr (ap (λ (s : SeatValue H F). s.cpu) kept)
 
-  pub sent_stopped : (moves : Work → ℕ → List OwnMove) (P : Work → Type 0) (old new : SeatValue H F) (made : Result ℤ SmpError)
+  pub called_stopped : (moves : Work → ℕ → List OwnMove) (P : Work → Type 0) (old new : SeatValue H F) (made : Result ℤ SmpError)
       → IfOk made (λ v. (work : Work) × P work × SeatStopped hears runs moves work old new v) → IfErr made (λ _. new ≡ old)
-      → HasSent [] old.cpu new.cpu
-  sent_stopped moves P old new made ok kept = sent_quietly old new (quiet_stopped moves P old new made ok kept)
+      → HasCalled [] 0 old.cpu new.cpu
+  called_stopped moves P old new made ok kept = called_quietly old new (quiet_stopped moves P old new made ok kept)
 
   -- a key that is set
   pub quiet_set : (k : ℕ) (on : Bool) (old new : SeatValue H F) (made : Result Bool SmpError)
@@ -107,10 +108,10 @@ module _ {H F : Type 0} (hears : H → Heard → H → Type 0) (runs : F → Cal
   quiet_set k on old new (Ok true) sets outside kept = inl (_, sets.stopped.works, outside)
   quiet_set k on old new (Err e) sets outside kept = inr (ap (λ (s : SeatValue H F). s.cpu) kept)
 
-  pub sent_set : (k : ℕ) (on : Bool) (old new : SeatValue H F) (made : Result Bool SmpError)
+  pub called_set : (k : ℕ) (on : Bool) (old new : SeatValue H F) (made : Result Bool SmpError)
       → IfOk made (λ turned. SeatSets hears runs k on old new turned) → IfOk made (λ _. new.cpu.stops.inside ≡ None) → IfErr made (λ _. new ≡ old)
-      → HasSent [] old.cpu new.cpu
-  sent_set k on old new made sets outside kept = sent_quietly old new (quiet_set k on old new made sets outside kept)
+      → HasCalled [] 0 old.cpu new.cpu
+  called_set k on old new made sets outside kept = called_quietly old new (quiet_set k on old new made sets outside kept)
 
   -- a key that is counted
   pub quiet_counted : (k : ℕ) (up : Bool) (old new : SeatValue H F) (made : Result Bool SmpError) → SeatCounts hears runs k up old new made
@@ -133,6 +134,6 @@ module _ {H F : Type 0} (hears : H → Heard → H → Type 0) (runs : F → Cal
   quiet_counted k up old new (Err (error.BadMask n)) c = absurd c.1
   quiet_counted k up old new (Err (error.StreamFailed n)) c = absurd c.1
 
-  pub sent_counted : (k : ℕ) (up : Bool) (old new : SeatValue H F) (made : Result Bool SmpError) → SeatCounts hears runs k up old new made
-      → HasSent [] old.cpu new.cpu
-  sent_counted k up old new made c = sent_quietly old new (quiet_counted k up old new made c)
+  pub called_counted : (k : ℕ) (up : Bool) (old new : SeatValue H F) (made : Result Bool SmpError) → SeatCounts hears runs k up old new made
+      → HasCalled [] 0 old.cpu new.cpu
+  called_counted k up old new made c = called_quietly old new (quiet_counted k up old new made c)

@@ -8,7 +8,7 @@ use Rattle.smp_script.specs.declared.directive.Directive.{Directive}
 use Rattle.smp_run.specs.Answers.{Answered}
 use Rattle.smp_run.specs.Made.{HasPlayed}
 use Rattle.smp_run.specs.Seats.{IsSeated, SeatIsShown, keys_at}
-use Rattle.smp_run.specs.Sent.{HasSent, HasWaited, sent_of, script_calls}
+use Rattle.smp_run.specs.Sent.{HasCalled, HasWaited, sent_of, script_calls, script_direct}
 use Rattle.smp_run.specs.declared.answer.Answer.{Answer}
 use Rattle.smp_run.specs.declared.driver.DrivenSeat.{DrivenSeat}
 use Rattle.smp_run.specs.declared.pace.Echo.{Echo}
@@ -26,13 +26,14 @@ pub record MakesLines (m : MachineValue) (lines : List Directive) (answers : Lis
   pub waited : HasWaited new
   pub number_is : new.calls.number ≡ old.calls.number
   pub answered : Answered m.calls.online (keys_at m) (λ c. c ≡ old.calls.number) lines answers
-  pub sent : HasSent (script_calls m.calls.online old.calls.number lines) old new
+  pub sent : HasCalled (script_calls m.calls.online old.calls.number lines) (script_direct old.calls.number lines) old new
   pub played : HasPlayed m lines answers old new
 
--- a CPU that, since it had done nothing, has sent the calls of its own lines, of which those that wait have ended, and made their
--- stops with these answers
+-- a CPU that, since it had done nothing, has sent the calls of its own lines, of which those that wait have ended. It has made
+-- as many direct calls as these lines ask for, and their stops with these answers.
 pub record HasRunLines (m : MachineValue) (lines : List Directive) (answers : List Answer) (p : MachineCpuValue) : Type 0 where
   pub sent : sent_of p.calls.part.sent ≡ script_calls m.calls.online p.calls.number lines
+  pub direct : length p.calls.direct ≡ script_direct p.calls.number lines
   pub waited : HasWaited p
   pub played : HasPlayed m lines answers (fresh_place m p.calls.number) p
 

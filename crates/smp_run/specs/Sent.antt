@@ -1,6 +1,6 @@
--- Which calls the lines of a script ask a CPU to send.
-use Rattle.std.specs.Prelude.{◌≡◌, ℕ, zero, suc, ◌<◌, Bool, true, false, not, ◌&&◌, ◌==◌, if◌then◌else◌, List, [], ◌∷◌, ◌++◌, map}
-use Rattle.std.specs.List.{flat_map}
+-- Which calls the lines of a script ask a CPU to send, and how many direct calls they ask it to make.
+use Rattle.std.specs.Prelude.{◌≡◌, ℕ, zero, suc, ◌+◌, ◌*◌, ◌<◌, Bool, true, false, not, ◌&&◌, ◌==◌, if◌then◌else◌, List, [], ◌∷◌, ◌++◌, length, map}
+use Rattle.std.specs.List.{flat_map, sum_by}
 use Rattle.smp_mask.specs.Mask.{has}
 use Rattle.smp_queue.specs.Cpu.{confirmed_at}
 use Rattle.smp_words.specs.Size.{cpus, record_of, records_of_one}
@@ -26,9 +26,10 @@ pub record Sent : Type 0 where
 abbrev pub sent_of : List Sending → List Sent
 sent_of sendings = map (λ s. record { call = s.call; to = s.to }) sendings
 
--- since then a CPU has sent just these calls, in order
-abbrev pub HasSent : List Sent → MachineCpuValue → MachineCpuValue → Type 0
-HasSent calls old new = sent_of new.calls.part.sent ≡ sent_of old.calls.part.sent ++ calls
+-- since then a CPU has sent just these calls, in order, and has made this number of direct calls: calls to itself, run at once
+pub record HasCalled (calls : List Sent) (direct : ℕ) (old new : MachineCpuValue) : Type 0 where
+  pub sent : sent_of new.calls.part.sent ≡ sent_of old.calls.part.sent ++ calls
+  pub direct_is : length new.calls.direct ≡ length old.calls.direct + direct
 
 -- whether calls of a class are waited for
 abbrev pub is_sync : Class → Bool
@@ -82,6 +83,22 @@ request_calls online this (Cond which wait mask func info) =
     calls_to (many_call this (class_for wait) func info) (cpus_with (λ c. is_target mask online this false c && says which c))
 request_calls online this _ = []
 
+-- one direct call, or none
+abbrev pub one_if : Bool → ℕ
+one_if called = if called then 1 else 0
+
+-- the direct calls of a CPU that is online and makes a request once: one where the request calls that CPU itself
+abbrev pub request_direct : ℕ → Request → ℕ
+request_direct this (Single wait dst func info) = one_if (dst == this)
+request_direct this (User u dst func info) = one_if (dst == this)
+request_direct this (Any wait mask func info) = one_if (has mask this)
+request_direct this (Cond which wait mask func info) = one_if (has mask this && says which this)
+request_direct this _ = 0
+
+-- since then a CPU has made the calls of a request once
+abbrev pub HasRequested : ℕ → Request → MachineCpuValue → MachineCpuValue → Type 0
+HasRequested online request old new = HasCalled (request_calls online old.calls.number request) (request_direct old.calls.number request) old new
+
 -- a list this number of times
 unfoldable pub repeated : {A : Type 0} → ℕ → List A → List A
 repeated zero xs = []
@@ -92,6 +109,15 @@ abbrev pub line_calls : ℕ → ℕ → Directive → List Sent
 line_calls online this (Do cpu count request) = if cpu == this then repeated count (request_calls online this request) else []
 line_calls online this _ = []
 
+-- the direct calls of a line, as often as it says, where it is this CPU's own
+abbrev pub line_direct : ℕ → Directive → ℕ
+line_direct this (Do cpu count request) = if cpu == this then count * request_direct this request else 0
+line_direct this _ = 0
+
 -- the calls of all lines, in the order of the script
 abbrev pub script_calls : ℕ → ℕ → List Directive → List Sent
 script_calls online this lines = flat_map (line_calls online this) lines
+
+-- the direct calls of all lines
+abbrev pub script_direct : ℕ → List Directive → ℕ
+script_direct this lines = sum_by (line_direct this) lines

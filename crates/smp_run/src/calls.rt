@@ -9,7 +9,7 @@ ghost use Rattle.smp_run.specs.Answers.{IsAnswer, IsAnyAnswer, IsCount, IsCpus, 
 ghost use Rattle.smp_run.specs.Answers.{answer_of, call_refusal, key_refusal, one_refusal, two_refusal, says as says_of};
 ghost use Rattle.smp_run.specs.Made.{HasMade, Makes};
 ghost use Rattle.smp_run.specs.Seats.{keys_at};
-ghost use Rattle.smp_run.specs.Sent.{HasSent, request_calls};
+ghost use Rattle.smp_run.specs.Sent.{HasCalled, HasRequested};
 ghost use Rattle.smp_run.specs.Stays.{IsAtRest, Stays};
 
 use crate::answer::Answer;
@@ -51,11 +51,11 @@ fn number_of<A: Allocator, R: Wait, H: Handler + Drop>(seat: &RunSeat<'_, A, R, 
 }
 
 /// A poll of the machine: the CPU handles its own interrupt, and takes part in a stop that calls it.
-#[tactic(auto, using(crate::proofs::Staying::sent_worked, crate::proofs::Making::made_polled))]
+#[tactic(auto, using(crate::proofs::Staying::called_worked, crate::proofs::Making::made_polled))]
 pub(crate) fn poll<A: Allocator, R: Wait, H: Handler + Drop>(seat: &mut RunSeat<'_, A, R, H>)
     requires rest { IsAtRest seat.old }
     ensures stays { Stays seat.old seat.new }
-    ensures sent { HasSent [] seat.old.cpu seat.new.cpu }
+    ensures sent { HasCalled [] 0 seat.old.cpu seat.new.cpu }
     ensures stops { HasMade [] seat.old.cpu seat.new.cpu }
 {
     seat.poll();
@@ -72,8 +72,7 @@ fn single<A: Allocator, R: Wait, H: Handler + Drop>(
     requires rest { IsAtRest seat.old }
     ensures stays { Stays seat.old seat.new }
     ensures answer { IsRefusedOr (call_refusal seat.old.machine.calls.online dst) IsDone result }
-    ensures sent { HasSent (request_calls seat.old.machine.calls.online seat.old.cpu.calls.number (Request.Single wait dst func info))
-        seat.old.cpu seat.new.cpu }
+    ensures sent { HasRequested seat.old.machine.calls.online (Request.Single wait dst func info) seat.old.cpu seat.new.cpu }
     ensures stops { HasMade [] seat.old.cpu seat.new.cpu }
 {
     let made = seat.call_single(dst, func, info, wait);
@@ -81,7 +80,7 @@ fn single<A: Allocator, R: Wait, H: Handler + Drop>(
 }
 
 /// One call by a record of the user; none where the record is busy.
-#[tactic(auto, using(crate::proofs::Calling::user_refused, crate::proofs::Sending::sent_none, crate::proofs::Making::made_called))]
+#[tactic(auto, using(crate::proofs::Calling::user_refused, crate::proofs::Sending::called_none, crate::proofs::Making::made_called))]
 fn try_user<A: Allocator, R: Wait, H: Handler + Drop>(
     seat: &mut RunSeat<'_, A, R, H>,
     u: u32,
@@ -93,9 +92,8 @@ fn try_user<A: Allocator, R: Wait, H: Handler + Drop>(
     requires which { u ≤ 1 }
     ensures stays { Stays seat.old seat.new }
     ensures answer { IfSome result (IsRefusedOr (call_refusal seat.old.machine.calls.online dst) IsDone) }
-    ensures sent { MatchOption result (HasSent [] seat.old.cpu seat.new.cpu)
-        (λ _. HasSent (request_calls seat.old.machine.calls.online seat.old.cpu.calls.number (Request.User u dst func info))
-        seat.old.cpu seat.new.cpu) }
+    ensures sent { MatchOption result (HasCalled [] 0 seat.old.cpu seat.new.cpu)
+        (λ _. HasRequested seat.old.machine.calls.online (Request.User u dst func info) seat.old.cpu seat.new.cpu) }
     ensures stops { HasMade [] seat.old.cpu seat.new.cpu }
 {
     match seat.call_async(u, dst, func, info) {
@@ -118,8 +116,7 @@ fn user<A: Allocator, R: Wait, H: Handler + Drop>(
     requires which { u ≤ 1 }
     ensures stays { Stays seat.old seat.new }
     ensures answer { IsRefusedOr (call_refusal seat.old.machine.calls.online dst) IsDone result }
-    ensures sent { HasSent (request_calls seat.old.machine.calls.online seat.old.cpu.calls.number (Request.User u dst func info))
-        seat.old.cpu seat.new.cpu }
+    ensures sent { HasRequested seat.old.machine.calls.online (Request.User u dst func info) seat.old.cpu seat.new.cpu }
     ensures stops { HasMade [] seat.old.cpu seat.new.cpu }
 {
     let backoff = Backoff::new();
@@ -144,8 +141,7 @@ fn any<A: Allocator, R: Wait, H: Handler + Drop>(
     requires rest { IsAtRest seat.old }
     ensures stays { Stays seat.old seat.new }
     ensures answer { IsAnyAnswer mask seat.old.machine.calls.online seat.old.cpu.calls.number result }
-    ensures sent { HasSent (request_calls seat.old.machine.calls.online seat.old.cpu.calls.number (Request.Any wait mask func info))
-        seat.old.cpu seat.new.cpu }
+    ensures sent { HasRequested seat.old.machine.calls.online (Request.Any wait mask func info) seat.old.cpu seat.new.cpu }
     ensures stops { HasMade [] seat.old.cpu seat.new.cpu }
 {
     let _online = seat.online();
@@ -164,8 +160,7 @@ fn many<A: Allocator, R: Wait, H: Handler + Drop>(
     requires rest { IsAtRest seat.old }
     ensures stays { Stays seat.old seat.new }
     ensures answer { IsCpus (is_target mask seat.old.machine.calls.online seat.old.cpu.calls.number false) result }
-    ensures sent { HasSent (request_calls seat.old.machine.calls.online seat.old.cpu.calls.number (Request.Many wait mask func info))
-        seat.old.cpu seat.new.cpu }
+    ensures sent { HasRequested seat.old.machine.calls.online (Request.Many wait mask func info) seat.old.cpu seat.new.cpu }
     ensures stops { HasMade [] seat.old.cpu seat.new.cpu }
 {
     let made = seat.call_many(mask, func, info, wait);
@@ -190,11 +185,11 @@ fn cond<A: Allocator, R: Wait, H: Handler + Drop>(
     requires rest { IsAtRest seat.old }
     ensures stays { Stays seat.old seat.new }
     ensures answer { IsCpus (λ c. is_target chosen.mask seat.old.machine.calls.online seat.old.cpu.calls.number true c && says_of chosen.which c) result }
-    ensures sent { HasSent (request_calls seat.old.machine.calls.online seat.old.cpu.calls.number (Request.Cond chosen.which wait chosen.mask func info))
-        seat.old.cpu seat.new.cpu }
+    ensures sent { HasRequested seat.old.machine.calls.online (Request.Cond chosen.which wait chosen.mask func info) seat.old.cpu seat.new.cpu }
     ensures stops { HasMade [] seat.old.cpu seat.new.cpu }
 {
     let Chosen { which, mask } = chosen;
+    let _this = seat.number();
     let asked = |cpu: u32, _info: u64| -> bool
         ensures { result ≡ says_of which cpu }
     { says(which, cpu) };
@@ -212,7 +207,7 @@ fn one<A: Allocator, R: Wait, H: Handler + Drop>(
     requires small { arg < 2 ^ 31 }
     ensures stays { Stays seat.old seat.new }
     ensures answer { IsRefusedOr (one_refusal seat.old.machine.calls.online dst) (IsStopAnswer (dst ≡ seat.old.cpu.calls.number) arg) result }
-    ensures sent { HasSent [] seat.old.cpu seat.new.cpu }
+    ensures sent { HasCalled [] 0 seat.old.cpu seat.new.cpu }
     ensures made { Makes seat.old.machine.stops (Request.One dst func arg) result seat.old.cpu seat.new.cpu }
 {
     let _online = seat.online();
@@ -232,7 +227,7 @@ fn two<A: Allocator, R: Wait, H: Handler + Drop>(
     requires small { arg < 2 ^ 31 }
     ensures stays { Stays seat.old seat.new }
     ensures answer { IsRefusedOr (two_refusal seat.old.machine.calls.online a b) (IsStopAnswer (a ≡ seat.old.cpu.calls.number) arg) result }
-    ensures sent { HasSent [] seat.old.cpu seat.new.cpu }
+    ensures sent { HasCalled [] 0 seat.old.cpu seat.new.cpu }
     ensures made { Makes seat.old.machine.stops (Request.Two a b func arg) result seat.old.cpu seat.new.cpu }
 {
     let _online = seat.online();
@@ -251,7 +246,7 @@ fn stop_all<A: Allocator, R: Wait, H: Handler + Drop>(
     requires small { arg < 2 ^ 31 }
     ensures stays { Stays seat.old seat.new }
     ensures answer { IsStopAnswer (IsActiveAlone seat.old.machine.calls.online active seat.old.cpu.calls.number) arg result }
-    ensures sent { HasSent [] seat.old.cpu seat.new.cpu }
+    ensures sent { HasCalled [] 0 seat.old.cpu seat.new.cpu }
     ensures made { Makes seat.old.machine.stops (Request.Machine active func arg) result seat.old.cpu seat.new.cpu }
 {
     let _online = seat.online();
@@ -268,7 +263,7 @@ fn set<A: Allocator, R: Wait, H: Handler + Drop>(
     requires rest { IsAtRest seat.old }
     ensures stays { Stays seat.old seat.new }
     ensures answer { IsRefusedOr (key_refusal (keys_at seat.old.machine) k) IsTruth result }
-    ensures sent { HasSent [] seat.old.cpu seat.new.cpu }
+    ensures sent { HasCalled [] 0 seat.old.cpu seat.new.cpu }
     ensures made { Makes seat.old.machine.stops (Request.Set k on) result seat.old.cpu seat.new.cpu }
 {
     let made = seat.set_key(k, on);
@@ -279,7 +274,7 @@ fn inc<A: Allocator, R: Wait, H: Handler + Drop>(seat: &mut RunSeat<'_, A, R, H>
     requires rest { IsAtRest seat.old }
     ensures stays { Stays seat.old seat.new }
     ensures answer { IsRefusedOr (key_refusal (keys_at seat.old.machine) k) (IsCount Full) result }
-    ensures sent { HasSent [] seat.old.cpu seat.new.cpu }
+    ensures sent { HasCalled [] 0 seat.old.cpu seat.new.cpu }
     ensures made { Makes seat.old.machine.stops (Request.Inc k) result seat.old.cpu seat.new.cpu }
 {
     let made = seat.key_inc(k);
@@ -290,7 +285,7 @@ fn dec<A: Allocator, R: Wait, H: Handler + Drop>(seat: &mut RunSeat<'_, A, R, H>
     requires rest { IsAtRest seat.old }
     ensures stays { Stays seat.old seat.new }
     ensures answer { IsRefusedOr (key_refusal (keys_at seat.old.machine) k) (IsCount Zero) result }
-    ensures sent { HasSent [] seat.old.cpu seat.new.cpu }
+    ensures sent { HasCalled [] 0 seat.old.cpu seat.new.cpu }
     ensures made { Makes seat.old.machine.stops (Request.Dec k) result seat.old.cpu seat.new.cpu }
 {
     let made = seat.key_dec(k);
@@ -306,7 +301,7 @@ pub(crate) fn make<A: Allocator, R: Wait, H: Handler + Drop>(
     requires fits { RequestFits request }
     ensures stays { Stays seat.old seat.new }
     ensures answer { IsAnswer seat.old.machine.calls.online (keys_at seat.old.machine) seat.old.cpu.calls.number request result }
-    ensures sent { HasSent (request_calls seat.old.machine.calls.online seat.old.cpu.calls.number request) seat.old.cpu seat.new.cpu }
+    ensures sent { HasRequested seat.old.machine.calls.online request seat.old.cpu seat.new.cpu }
     ensures made { Makes seat.old.machine.stops request result seat.old.cpu seat.new.cpu }
 {
     match request {

@@ -1,13 +1,13 @@
 //! What the thread of one CPU does.
 
-ghost use Rattle.std.specs.Prelude.{◌≡◌, ◌≤◌, List, length, vec_len};
+ghost use Rattle.std.specs.Prelude.{◌≡◌, ◌≤◌, ◌*◌, List, length, vec_len};
 ghost use Rattle.smp_machine.specs.Seats.{IsSameSeat};
 ghost use Rattle.smp_script.specs.Spelling.{RequestFits};
 ghost use Rattle.smp_run.specs.Answers.{Answered, IsAnswer, IsLineAnswer, cpu_of};
 ghost use Rattle.smp_run.specs.Driven.{IsReady, MakesLines};
 ghost use Rattle.smp_run.specs.Made.{AreMakings, HasMade, HasPlayed, IsLineMade, Making, stops_of};
 ghost use Rattle.smp_run.specs.Seats.{AreLines, IsRunLine, IsSeated, keys_at};
-ghost use Rattle.smp_run.specs.Sent.{HasSent, HasWaited, line_calls, repeated, request_calls, script_calls};
+ghost use Rattle.smp_run.specs.Sent.{HasCalled, HasWaited, line_calls, line_direct, repeated, request_calls, request_direct, script_calls, script_direct};
 ghost use Rattle.smp_run.specs.Stays.{IsAtRest, Stays};
 
 use crate::answer::Answer;
@@ -39,8 +39,8 @@ fn repeat<A: Allocator, R: Wait, H: Handler + Drop>(
     requires fits { RequestFits request.now }
     ensures stays { Stays seat.old seat.new }
     ensures answer { IsAnswer seat.old.machine.calls.online (keys_at seat.old.machine) seat.old.cpu.calls.number request.now result }
-    ensures sent { HasSent (repeated count (request_calls seat.old.machine.calls.online seat.old.cpu.calls.number request.now))
-        seat.old.cpu seat.new.cpu }
+    ensures sent { HasCalled (repeated count (request_calls seat.old.machine.calls.online seat.old.cpu.calls.number request.now))
+        (count * request_direct seat.old.cpu.calls.number request.now) seat.old.cpu seat.new.cpu }
     ensures made { (makings : List Making) × AreMakings seat.old.machine seat.old.cpu.calls.number request.now count result makings
         × HasMade (stops_of makings) seat.old.cpu seat.new.cpu }
 {
@@ -62,7 +62,8 @@ fn answer_if<A: Allocator, R: Wait, H: Handler + Drop>(
     ensures stays { Stays seat.old seat.new }
     ensures answered { cpu_of line.now ≡ seat.old.cpu.calls.number →
         IsLineAnswer seat.old.machine.calls.online (keys_at seat.old.machine) line.now answer.new }
-    ensures sent { HasSent (line_calls seat.old.machine.calls.online seat.old.cpu.calls.number line.now) seat.old.cpu seat.new.cpu }
+    ensures sent { HasCalled (line_calls seat.old.machine.calls.online seat.old.cpu.calls.number line.now)
+        (line_direct seat.old.cpu.calls.number line.now) seat.old.cpu seat.new.cpu }
     ensures made { (makings : List Making) × IsLineMade seat.old.machine seat.old.cpu.calls.number line.now answer.new makings
         × HasMade (stops_of makings) seat.old.cpu seat.new.cpu }
 {
@@ -87,7 +88,8 @@ fn answer_all<A: Allocator, R: Wait, H: Handler + Drop>(
     ensures stays { Stays seat.old seat.new }
     ensures answered { Answered seat.old.machine.calls.online (keys_at seat.old.machine)
         (λ c. c ≡ seat.old.cpu.calls.number) lines.now answers.new }
-    ensures sent { HasSent (script_calls seat.old.machine.calls.online seat.old.cpu.calls.number lines.now) seat.old.cpu seat.new.cpu }
+    ensures sent { HasCalled (script_calls seat.old.machine.calls.online seat.old.cpu.calls.number lines.now)
+        (script_direct seat.old.cpu.calls.number lines.now) seat.old.cpu seat.new.cpu }
     ensures played { HasPlayed seat.old.machine lines.now answers.new seat.old.cpu seat.new.cpu }
 {
     for at in 0..lines.len() {
@@ -154,8 +156,9 @@ pub fn play<A: Allocator, B: Allocator + Copy, R: Wait, P: Pace>(
     ensures ready { IsReady machine.now lines.now result }
     ensures number { result.cpu.calls.number ≡ seat.cpu.calls.number }
     ensures answered { Answered machine.now.calls.online (keys_at machine.now) (λ c. c ≡ seat.cpu.calls.number) lines.now result.answers.items }
-    // It has sent what its lines ask for, and nothing else.
-    ensures sent { HasSent (script_calls machine.now.calls.online seat.cpu.calls.number lines.now) seat.cpu result.cpu }
+    // It has sent what its lines ask for, and nothing else. It has made as many direct calls as they ask for.
+    ensures sent { HasCalled (script_calls machine.now.calls.online seat.cpu.calls.number lines.now)
+        (script_direct seat.cpu.calls.number lines.now) seat.cpu result.cpu }
     // It has made the stops of each repetition, and no others; the last repetition's answer is told.
     ensures played { HasPlayed machine.now lines.now result.answers.items seat.cpu result.cpu }
 {

@@ -2,7 +2,7 @@ use Rattle.std.proofs.Common.{rules, ◌≡◌, ℕ, ◌<◌, true, subst, arith
 use Rattle.smp_mask.specs.Mask.{has}
 use Rattle.smp_words.specs.Size.{cpus}
 use Rattle.smp_run.proofs.Calling.{any_answered}
-use Rattle.smp_run.proofs.Sending.{any_sent}
+use Rattle.smp_run.proofs.Sending.{any_called}
 use Rattle.smp_run.proofs.Waiting.{waited_any}
 use Rattle.smp_run.proofs.Stays.{stays_called}
 use Rattle.smp_run.specs.declared.answer.Answer.TheVariants.{Cpu}
@@ -22,7 +22,7 @@ returns-clause-sent g c =
     let low : (cpu : ℕ) → has me.machine.calls.online cpu ≡ true → cpu < cpus =
     subst (λ (online : ℕ). (cpu : ℕ) → has online cpu ≡ true → cpu < cpus) c.online-online.ensures.calls
     (λ cpu there. omega (arith, limits.below cpu there, limits.within)) in
-    any_sent _ me.machine.calls.online c.args.mask c.args.func c.args.info c.args.wait me.cpu call.new.self.cpu _ _ call.result own.free low
+    any_called _ me.machine.calls.online c.args.mask c.args.func c.args.info c.args.wait me.cpu call.new.self.cpu _ _ call.result own.free low
     call.ensures.answers.any call.ensures.answers.queued call.ensures.answers.here call.ensures.answers.refused
 
 pub returns-clause-stays : goal.returns-clause-stays

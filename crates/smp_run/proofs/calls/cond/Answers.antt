@@ -1,8 +1,9 @@
-use Rattle.std.proofs.Common.{rules, true}
+use Rattle.std.proofs.Common.{rules, ℕ, ◌<◌, true, subst}
+use Rattle.smp_words.specs.Size.{cpus}
 use Rattle.smp_calls.specs.Targets.{is_target, remote}
 use Rattle.smp_run.specs.Answers.{says}
 use Rattle.smp_run.proofs.Calling.{cond_answered}
-use Rattle.smp_run.proofs.Sending.{cond_sent}
+use Rattle.smp_run.proofs.Sending.{cond_called}
 use Rattle.smp_run.proofs.Waiting.{waited_many}
 use Rattle.smp_run.proofs.Stays.{stays_called}
 use Rattle.smp_run.specs.declared.answer.Answer.TheVariants.{Cpus}
@@ -19,9 +20,9 @@ returns-clause-answer g c =
 pub returns-clause-sent : goal.returns-clause-sent
 returns-clause-sent g c =
     let me = c.args.seat.now in let own = c.requires.rest.seated in let call = c.each_cpu_cond-made in
-    cond_sent _ me.machine.calls.online c.args.chosen.mask c.args.func c.args.info (says c.args.chosen.which) _ c.args.wait me.cpu call.new.self.cpu _ _
-    call.result
-    own.free
+    let this = c.number-this.ensures in
+    cond_called _ me.machine.calls.online c.args.chosen.mask c.args.func c.args.info c.args.chosen.which _ c.args.wait me.cpu call.new.self.cpu _ _ call.result
+    own.free (subst (λ (n : ℕ). n < cpus) this.number this.below)
     call.ensures.answers.picks call.ensures.answers.calls call.ensures.answers.refused
 
 pub returns-clause-stays : goal.returns-clause-stays

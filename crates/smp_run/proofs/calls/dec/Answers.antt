@@ -1,6 +1,6 @@
 use Rattle.std.proofs.Common.{rules, false}
 use Rattle.smp_run.proofs.Refusals.{counted}
-use Rattle.smp_run.proofs.Staying.{quiet_counted, sent_counted}
+use Rattle.smp_run.proofs.Staying.{quiet_counted, called_counted}
 use Rattle.smp_run.proofs.Making.{makes_count}
 use Rattle.smp_run.proofs.Stays.{stays_quiet}
 use Rattle.smp_run.specs.declared.answer.Answer.TheVariants.{Turned}
@@ -15,7 +15,7 @@ returns-clause-answer g c =
 
 pub returns-clause-sent : goal.returns-clause-sent
 returns-clause-sent g c =
-    let call = c.key_dec-made in sent_counted _ _ c.args.k false c.args.seat.now call.new.self call.result call.ensures.counts
+    let call = c.key_dec-made in called_counted _ _ c.args.k false c.args.seat.now call.new.self call.result call.ensures.counts
 
 pub returns-clause-made : goal.returns-clause-made
 returns-clause-made g c =

@@ -2,7 +2,7 @@ use Rattle.std.proofs.Common.{rules, None, false}
 use Rattle.smp_mask.specs.Mask.{members}
 use Rattle.smp_calls.specs.Targets.{is_target}
 use Rattle.smp_run.proofs.Calling.{many_answered}
-use Rattle.smp_run.proofs.Sending.{many_sent}
+use Rattle.smp_run.proofs.Sending.{many_called}
 use Rattle.smp_run.proofs.Waiting.{waited_many}
 use Rattle.smp_run.proofs.Stays.{stays_called}
 use Rattle.smp_run.specs.declared.answer.Answer.TheVariants.{Cpus}
@@ -19,7 +19,7 @@ returns-clause-answer g c =
 pub returns-clause-sent : goal.returns-clause-sent
 returns-clause-sent g c =
     let me = c.args.seat.now in let own = c.requires.rest.seated in let call = c.call_many-made in
-    many_sent _ me.machine.calls.online c.args.mask c.args.func c.args.info c.args.wait me.cpu call.new.self.cpu _ _ call.result own.free
+    many_called _ me.machine.calls.online c.args.mask c.args.func c.args.info c.args.wait me.cpu call.new.self.cpu _ _ call.result own.free
     call.ensures.answers.targets call.ensures.answers.calls call.ensures.answers.refused
 
 pub returns-clause-stays : goal.returns-clause-stays

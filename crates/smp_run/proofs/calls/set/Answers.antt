@@ -1,6 +1,6 @@
 use Rattle.std.proofs.Common.{rules}
 use Rattle.smp_run.proofs.Refusals.{set_answered}
-use Rattle.smp_run.proofs.Staying.{quiet_set, sent_set}
+use Rattle.smp_run.proofs.Staying.{quiet_set, called_set}
 use Rattle.smp_run.proofs.Making.{makes_set}
 use Rattle.smp_run.proofs.Stays.{stays_quiet}
 use Rattle.smp_run.specs.declared.answer.Answer.TheVariants.{Turned}
@@ -15,7 +15,7 @@ returns-clause-answer g c =
 pub returns-clause-sent : goal.returns-clause-sent
 returns-clause-sent g c =
     let call = c.set_key-made in
-    sent_set _ _ c.args.k c.args.on c.args.seat.now call.new.self call.result call.ensures.sets call.ensures.outside call.ensures.kept
+    called_set _ _ c.args.k c.args.on c.args.seat.now call.new.self call.result call.ensures.sets call.ensures.outside call.ensures.kept
 
 pub returns-clause-made : goal.returns-clause-made
 returns-clause-made g c =

@@ -1,6 +1,6 @@
 use Rattle.std.proofs.Common.{rules}
 use Rattle.smp_run.proofs.Calling.{single_answered}
-use Rattle.smp_run.proofs.Sending.{single_sent}
+use Rattle.smp_run.proofs.Sending.{single_called}
 use Rattle.smp_run.proofs.Waiting.{waited_single}
 use Rattle.smp_run.proofs.Stays.{stays_called}
 use Rattle.smp_run.specs.declared.answer.Answer.TheVariants.{Done}
@@ -17,7 +17,7 @@ returns-clause-answer g c =
 pub returns-clause-sent : goal.returns-clause-sent
 returns-clause-sent g c =
     let me = c.args.seat.now in let own = c.requires.rest.seated in let call = c.call_single-made in
-    single_sent _ me.machine.calls.online c.args.dst c.args.func c.args.info c.args.wait me.cpu call.new.self.cpu _ _ call.result own.free
+    single_called _ me.machine.calls.online c.args.dst c.args.func c.args.info c.args.wait me.cpu call.new.self.cpu _ _ call.result own.free
     call.ensures.answers.queued call.ensures.answers.here call.ensures.answers.refused
 
 pub returns-clause-stays : goal.returns-clause-stays

@@ -3,7 +3,7 @@ use Rattle.smp_machine.specs.Stops.{IsActiveAlone, IsMachineWork}
 use Rattle.smp_run.proofs.Echoing.{own_answered}
 use Rattle.smp_run.proofs.Refusals.{all_answered}
 use Rattle.smp_machine.specs.Moves.{long_stop}
-use Rattle.smp_run.proofs.Staying.{quiet_stopped, sent_stopped}
+use Rattle.smp_run.proofs.Staying.{quiet_stopped, called_stopped}
 use Rattle.smp_run.proofs.Making.{makes_stop}
 use Rattle.smp_run.proofs.Stays.{stays_quiet}
 use Rattle.smp_run.specs.declared.answer.Answer.TheVariants.{Number}
@@ -23,7 +23,7 @@ returns-clause-answer g c =
 
 pub returns-clause-sent : goal.returns-clause-sent
 returns-clause-sent g c =
-    let call = c.stop_machine-made in sent_stopped _ _ long_stop _ c.args.seat.now call.new.self call.result call.ensures.ok call.ensures.kept
+    let call = c.stop_machine-made in called_stopped _ _ long_stop _ c.args.seat.now call.new.self call.result call.ensures.ok call.ensures.kept
 
 pub returns-clause-made : goal.returns-clause-made
 returns-clause-made g c =

@@ -1,5 +1,5 @@
 use Rattle.smp_run.proofs.Calling.{call_made}
-use Rattle.smp_run.proofs.Sending.{user_sent}
+use Rattle.smp_run.proofs.Sending.{user_called}
 use Rattle.smp_run.proofs.Waiting.{waited_user}
 use Rattle.smp_run.proofs.Stays.{stays_called}
 use Rattle.smp_run.proofs.calls.try_user.Goals as goal
@@ -12,7 +12,7 @@ returns-in-Ok-clause-answer g c =
 pub returns-in-Ok-clause-sent : goal.returns-in-Ok-clause-sent
 returns-in-Ok-clause-sent g c =
     let me = c.args.seat.now in let call = c.call_async in
-    user_sent _ me.machine.calls.online c.args.dst c.args.u c.args.func c.args.info me.cpu call.new.self.cpu _ _ c.in-Ok.ensures.answers.queued
+    user_called _ me.machine.calls.online c.args.dst c.args.u c.args.func c.args.info me.cpu call.new.self.cpu _ _ c.in-Ok.ensures.answers.queued
     c.in-Ok.ensures.answers.here
 
 pub returns-in-Ok-clause-stays : goal.returns-in-Ok-clause-stays

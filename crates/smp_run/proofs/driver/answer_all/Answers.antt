@@ -5,7 +5,7 @@ use Rattle.smp_run.specs.Made.{AreLinesMade, IsLineMade}
 use Rattle.smp_run.specs.Seats.{keys_at}
 use Rattle.smp_run.proofs.Answering.{answered_more}
 use Rattle.smp_run.proofs.Making.{lines_more, lines_none, lines_then, made_same}
-use Rattle.smp_run.proofs.Sending.{script_more, sent_none}
+use Rattle.smp_run.proofs.Sending.{called_none, script_more}
 use Rattle.smp_run.proofs.Stays.{stays_first, stays_on}
 use Rattle.smp_run.proofs.driver.answer_all.Goals as goal
 
@@ -15,7 +15,7 @@ loop-at-init g c =
       stays_first c.args.seat.now c.requires.rest,
       c.requires.sized,
       (λ i l a below mine. absurd (omega (arith, below))),
-      sent_none me me refl,
+      called_none me me refl refl,
       ([], lines_none m me.calls.number c.args.lines.now c.args.answers.now, made_same me me refl),
     )
 
