@@ -23,12 +23,8 @@ pub mod BatchLinks
 pub mod QueueOrder
 pub mod Classes
 pub mod HaveRun
--- what a CPU knows
-pub mod Parts
-pub mod Heads
-pub mod Known
-pub mod Handling
-pub mod Logs
+-- what a CPU knows over threads
+pub mod Threads
 -- the laws of steps: who may make which, what each does of functions, what it says, and how a post goes on
 pub mod Functions
 pub mod Premises
@@ -70,11 +66,11 @@ unfoldable pub use BatchLinks.*
 unfoldable pub use QueueOrder.*
 unfoldable pub use Classes.*
 unfoldable pub use HaveRun.*
-unfoldable pub use Parts.*
-unfoldable pub use Heads.*
-unfoldable pub use Known.*
-unfoldable pub use Handling.*
-unfoldable pub use Logs.*
+unfoldable pub use Threads.Parts.*
+unfoldable pub use Threads.Heads.*
+unfoldable pub use Threads.Known.*
+unfoldable pub use Threads.Handling.*
+unfoldable pub use Threads.Logs.*
 unfoldable pub use Functions.*
 unfoldable pub use Premises.*
 unfoldable pub use Notes.*

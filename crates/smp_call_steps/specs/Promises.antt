@@ -5,7 +5,7 @@ use Rattle.smp_call_steps.specs.Calls.{CallState, no_calls}
 use Rattle.smp_call_steps.specs.Drains.{no_drain}
 use Rattle.smp_call_steps.specs.Headline.{InOnePlace}
 use Rattle.smp_call_steps.specs.Histories.{calls_from, calls_to, Recorded, Tallied}
-use Rattle.smp_call_steps.specs.Known.{Sees, MayStep, known_access, known_tells, GoesOn}
+use Rattle.smp_call_steps.specs.Threads.Known.{Sees, MayStep, known_access, known_tells, GoesOn}
 use Rattle.smp_call_steps.specs.Order.{of_class, IsPrefix}
 use Rattle.smp_call_steps.specs.Shows.{Shows}
 use Rattle.smp_call_steps.specs.Stages.{ControlValue}

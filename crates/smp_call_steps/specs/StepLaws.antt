@@ -4,7 +4,7 @@ use Rattle.smp_words.specs.Access.{word_of, at_after, seen_of}
 use Rattle.smp_call_steps.specs.Calls.{CallState, tells}
 use Rattle.smp_call_steps.specs.Drains.{DrainValue}
 use Rattle.smp_call_steps.specs.Functions.{FunctionGoes}
-use Rattle.smp_call_steps.specs.Known.{Sees, MayStep}
+use Rattle.smp_call_steps.specs.Threads.Known.{Sees, MayStep}
 use Rattle.smp_call_steps.specs.Notes.{QueueGoes, SaidMeans}
 use Rattle.smp_call_steps.specs.Premises.{IsWordOf, MayStoreAt, MaySee}
 use Rattle.smp_call_steps.specs.Reached.{IsReached}

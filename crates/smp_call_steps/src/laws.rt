@@ -7,7 +7,7 @@ ghost use Rattle.std.specs.Prelude.{List};
 ghost use Rattle.smp_call_steps.specs.BatchLinks.{KeepBatchLinks};
 ghost use Rattle.smp_call_steps.specs.Classes.{RunByClass};
 ghost use Rattle.smp_call_steps.specs.HaveRun.{ConfirmedRun, ConfirmedSyncEnd};
-ghost use Rattle.smp_call_steps.specs.Logs.{LogsTell, HeadsTell, StepsCount};
+ghost use Rattle.smp_call_steps.specs.Threads.Logs.{LogsTell, HeadsTell, StepsCount};
 ghost use Rattle.smp_call_steps.specs.Promises.{NothingCalled, StepsAreTold, KeepThePlaceLaw, KeepTheInterruptLaw};
 ghost use Rattle.smp_call_steps.specs.Promises.{KeepTheQueueHistory, KeepTheTallyLaw, RunAtMostOnce};
 ghost use Rattle.smp_call_steps.specs.QueueOrder.{KeepsClasses, AsyncsLast, RunInQueueOrder};

@@ -6,7 +6,7 @@ use Rattle.smp_mask.specs.declared.mask.TheConstants.{NR_CPUS}
 use Rattle.smp_words.specs.Size.{record_of}
 use Rattle.smp_words.proofs.Sizes.{one_local}
 use Rattle.smp_words.specs.declared.call.Class.{Class}
-use Rattle.smp_call_steps.specs.Heads.{Found}
+use Rattle.smp_call_steps.specs.Threads.Heads.{Found}
 use Rattle.smp_queue.specs.Cpu.{CpuValue, confirmed_at, posts}
 use Rattle.smp_queue.specs.declared.handler.Heard.{Heard}
 use Rattle.smp_calls.specs.Families.{AreConfirmed, Awaits, HandlesNone}

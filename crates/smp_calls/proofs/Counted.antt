@@ -3,7 +3,7 @@ use Rattle.std.proofs.Common.{arith, ◌≡◌, ◌≢◌, ℕ, suc, ◌+◌, �
 use Rattle.std.proofs.Common.{length-append, refl, sym, ap, ◌∙◌, subst}
 use Rattle.std.proofs.lemmas.List.{append-nil}
 use Rattle.smp_words.specs.declared.call.Class.{Class}
-use Rattle.smp_call_steps.specs.Heads.{Found, times_lost}
+use Rattle.smp_call_steps.specs.Threads.Heads.{Found, times_lost}
 use Rattle.smp_call_steps.specs.declared.known.Logged.{Logged}
 use Rattle.smp_call_steps.specs.declared.known.Logged.TheVariants as logged
 use Rattle.smp_queue.specs.Cpu.{CpuValue, posts, sends, notes_call}

@@ -8,7 +8,7 @@ use Rattle.smp_words.specs.declared.call.Call.{Call}
 use Rattle.smp_words.specs.declared.call.Class.{Class}
 use Rattle.smp_call_steps.specs.declared.known.Sending.{Sending}
 use Rattle.smp_call_steps.specs.declared.known.Logged.{Logged}
-use Rattle.smp_call_steps.specs.Heads.{Found}
+use Rattle.smp_call_steps.specs.Threads.Heads.{Found}
 use Rattle.smp_queue.specs.Cpu.{CpuValue, confirmed_at, posts}
 use Rattle.smp_queue.specs.declared.handler.Heard.{Heard}
 use Rattle.smp_calls.specs.Families.{IsSized, Leaves, IsLast, owes_at}

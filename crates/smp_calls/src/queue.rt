@@ -2,7 +2,7 @@
 
 ghost use Rattle.std.specs.Prelude.{◌≡◌, true, false, Bool, if◌then◌else◌};
 ghost use Rattle.smp_mask.specs.Mask.{has};
-ghost use Rattle.smp_call_steps.specs.Heads.{Found};
+ghost use Rattle.smp_call_steps.specs.Threads.Heads.{Found};
 ghost use Rattle.smp_queue.specs.Cpu.{confirmed_at, misused, posts, sends};
 
 use crate::context::CallContext;

@@ -20,7 +20,7 @@ use Rattle.smp_words.proofs.Puts.{put_all, test_else}
 use Rattle.smp_words.proofs.Zeros.{get_or-same, zero_at}
 use Rattle.smp_call_steps.specs.Calls.{CallState, no_calls, tells}
 use Rattle.smp_call_steps.specs.Drains.{DrainValue, handle_access, handle_goes, handle_outcome}
-use Rattle.smp_call_steps.specs.Parts.{part_of}
+use Rattle.smp_call_steps.specs.Threads.Parts.{part_of}
 use Rattle.smp_call_steps.specs.declared.known.CallPart.{CallPart}
 use Rattle.smp_call_steps.specs.Posts.{ends, goes_to, post_access, post_outcome}
 use Rattle.smp_call_steps.specs.Stands.{held_of}

@@ -9,11 +9,11 @@ use Rattle.smp_words.specs.declared.command.Event.TheVariants as event
 use Rattle.smp_words.specs.declared.seen.Seen.{Seen}
 use Rattle.smp_words.specs.Layout.{number_in}
 use Rattle.smp_call_steps.specs.Calls.{CallState, tells, tells_if}
-use Rattle.smp_call_steps.specs.Parts.{part_of}
+use Rattle.smp_call_steps.specs.Threads.Parts.{part_of}
 use Rattle.smp_call_steps.specs.Value.{control_of}
 use Rattle.smp_call_steps.specs.declared.stage.Stage.{Stage}
 use Rattle.smp_call_steps.proofs.Knows.Parts.{part_else}
-use Rattle.smp_stop_steps.specs.Known.{holds_it}
+use Rattle.smp_stop_steps.specs.Threads.Known.{holds_it}
 use Rattle.smp_stop_steps.specs.Stages.{answer_at, stop_outcome}
 use Rattle.smp_stop_steps.specs.State.{StopState, no_stops}
 use Rattle.smp_stop_steps.specs.Tells as stops

@@ -20,7 +20,7 @@ use Rattle.smp_words.specs.declared.word.Word.TheVariants.{Gate, Slot}
 use Rattle.smp_words.specs.declared.work.Work.{Work}
 use Rattle.smp_words.proofs.Zeros.{get_or-same}
 use Rattle.smp_stop_steps.specs.Counts.{mask_weight}
-use Rattle.smp_stop_steps.specs.Known.{holds_it}
+use Rattle.smp_stop_steps.specs.Threads.Known.{holds_it}
 use Rattle.smp_stop_steps.specs.Labels.{Change, Patching, Whole, Patches}
 use Rattle.smp_stop_steps.specs.Machine.{IsSoundHalf, StopTold, stop_found_at, stop_seen_at, stop_stepped}
 use Rattle.smp_stop_steps.specs.Shows.{gate_word}

@@ -5,7 +5,7 @@ use Rattle.std.proofs.Common.{◌∙◌, ap, refl, append_assoc, append-nil, ari
 use Rattle.std.proofs.lemmas.List.{drop_more, drop_all}
 use Rattle.smp_call_steps.specs.Calls.{CallState, tells, tells_all, tells_if}
 use Rattle.smp_call_steps.specs.Functions.{SaysWhatBegins}
-use Rattle.smp_call_steps.specs.Parts.{part_of}
+use Rattle.smp_call_steps.specs.Threads.Parts.{part_of}
 use Rattle.smp_call_steps.proofs.StepLaws.Saying.{says_none, says_then}
 use Rattle.smp_core.specs.Value.{CoreValue, Shown}
 use Rattle.smp_call_steps.specs.Value.{control_of}

@@ -5,7 +5,7 @@ use Rattle.smp_words.specs.Layout.{number_in}
 use Rattle.smp_words.specs.Size.{cpus}
 use Rattle.smp_words.specs.declared.word.Word.TheVariants.{Head, Intr}
 use Rattle.smp_call_steps.specs.Calls.{CallState, no_calls}
-use Rattle.smp_call_steps.specs.Parts.{part_of}
+use Rattle.smp_call_steps.specs.Threads.Parts.{part_of}
 use Rattle.smp_call_steps.specs.Stages.{ControlValue}
 use Rattle.smp_call_steps.specs.Value.{ValuesShow, control_of}
 use Rattle.smp_call_steps.specs.declared.known.Running.TheVariants.{Nothing}

@@ -1,7 +1,7 @@
 -- CPUs that are not online, in the stops.
 use Rattle.std.specs.Prelude.{◌≡◌, ◌≢◌, ℕ, ◌+◌, Bool, true, false, Option, Some, None, List, []}
 use Rattle.smp_mask.specs.Mask.{has}
-use Rattle.smp_stop_steps.specs.Known.{holds_it}
+use Rattle.smp_stop_steps.specs.Threads.Known.{holds_it}
 use Rattle.smp_stop_steps.specs.Stages.{stop_outside}
 use Rattle.smp_stop_steps.specs.State.{StopState, no_stops, unmoved}
 use Rattle.smp_stop_steps.specs.Stop.{Outside}

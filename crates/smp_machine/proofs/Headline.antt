@@ -1,6 +1,6 @@
 -- The headline, of a CPU's value.
 use Rattle.std.proofs.Common.{◌≡◌, sym, subst, refl, ap, ◌∙◌}
-use Rattle.smp_call_steps.specs.Parts.{part_of}
+use Rattle.smp_call_steps.specs.Threads.Parts.{part_of}
 use Rattle.smp_stop_steps.specs.Seats.{RoleStands, irq_of}
 use Rattle.smp_queue.specs.Cpu.{CpuValue as CallCpuValue}
 use Rattle.smp_queue.specs.Laws.{CallsAreShown}

@@ -1,7 +1,7 @@
 -- CPUs of a machine that are looked at together.
 use Rattle.std.proofs.Common.{◌≡◌, List, [], ◌∷◌, length, subst, arith}
 use Rattle.std.specs.Prelude.{All}
-use Rattle.smp_call_steps.specs.Parts.{part_of}
+use Rattle.smp_call_steps.specs.Threads.Parts.{part_of}
 use Rattle.smp_queue.specs.Names.{CallSetting}
 use Rattle.smp_queue.specs.Cpu.{CpuValue as CallCpuValue}
 use Rattle.smp_queue.specs.Together.{CallsNow, ArePartsOf as ArePartsOfCalls, AreAllTogether as CallsAllTogether}

@@ -2,7 +2,7 @@
 
 ghost use Rattle.std.specs.Prelude.{◌≡◌, ◌+◌, true, false, None, All, List, length, [], ◌∷◌, ◌++◌};
 ghost use Rattle.smp_words.specs.Size.{cpus};
-ghost use Rattle.smp_call_steps.specs.Parts.{part_of};
+ghost use Rattle.smp_call_steps.specs.Threads.Parts.{part_of};
 ghost use Rattle.smp_call_steps.specs.Headline.{InOnePlace, RunOnce, RunInOrder, RunEqualQueued};
 ghost use Rattle.smp_stop_steps.specs.Headline.{RunDisabled, IsLawfulElse};
 ghost use Rattle.smp_queue.specs.Laws.{CallsAreShown};

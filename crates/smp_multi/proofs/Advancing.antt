@@ -4,9 +4,9 @@ use Rattle.std.proofs.Common.{sym, subst, refl, ap, ◌∙◌, arith, ne_eqb}
 use Rattle.atomic_table.specs.Seated.{TableId}
 use Rattle.smp_mask.specs.Mask.{has}
 use Rattle.smp_stop_steps.specs.Callings.{with_answer}
-use Rattle.smp_stop_steps.specs.Known.{carrying, stepped}
+use Rattle.smp_stop_steps.specs.Threads.Known.{carrying, stepped}
 use Rattle.smp_multi.specs.Lives.{Lives, StopMoment}
-use Rattle.smp_stop_steps.specs.KnownAfter.{looked_known, looked_to}
+use Rattle.smp_stop_steps.specs.Threads.KnownAfter.{looked_known, looked_to}
 use Rattle.smp_stop_steps.specs.Sits.{OwnsIf}
 use Rattle.smp_stop_steps.specs.Start.{answer_word}
 use Rattle.smp_stop_steps.specs.Tells.{carried_call, first_readings, calls_at_run, is_multi}

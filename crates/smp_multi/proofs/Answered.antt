@@ -1,7 +1,7 @@
 -- Which steps leave the answer that a CPU carries, and which take one.
 use Rattle.std.proofs.Common.{◌≡◌, ◌⊎◌, ℕ, ◌+◌, inl, inr, ap, ◌∙◌}
-use Rattle.smp_stop_steps.specs.Known.{carrying}
-use Rattle.smp_stop_steps.specs.Moves.{MayStep, Move, Acknowledge, AcknowledgePatch, Count, CountGiven}
+use Rattle.smp_stop_steps.specs.Threads.Known.{carrying}
+use Rattle.smp_stop_steps.specs.Threads.Moves.{MayStep, Move, Acknowledge, AcknowledgePatch, Count, CountGiven}
 use Rattle.smp_multi.specs.Names.{KnownStops, StopSeatView, In, Rests}
 use Rattle.smp_multi.specs.AnswerLaws.{KeepsAnswers, TakesAnswers, IsActiveAtRun, HasPatched}
 use Rattle.smp_multi.specs.Plays.{loaded, stored, exchanged, subtracted, answered, masked}

@@ -2,9 +2,9 @@
 use Rattle.std.proofs.Common.{◌≡◌, ◌≢◌, ℕ, ◌+◌, ◌<◌, ◌&&◌, not, cond, Some, None, sym, subst, refl, ap, ◌∙◌, arith}
 use Rattle.atomic_table.specs.Seated.{TableId}
 use Rattle.smp_words.specs.Size.{cpus}
-use Rattle.smp_stop_steps.specs.Known.{setup_in, stepped, told_work}
-use Rattle.smp_stop_steps.specs.KnownAfter.{drafts_more, is_drafting, is_due_field, known_told, opened_by, slot_stored}
-use Rattle.smp_stop_steps.specs.Moves.{Draft, DraftMore, Open}
+use Rattle.smp_stop_steps.specs.Threads.Known.{setup_in, stepped, told_work}
+use Rattle.smp_stop_steps.specs.Threads.KnownAfter.{drafts_more, is_drafting, is_due_field, known_told, opened_by, slot_stored}
+use Rattle.smp_stop_steps.specs.Threads.Moves.{Draft, DraftMore, Open}
 use Rattle.smp_stop_steps.specs.Slots.{begun_value, order}
 use Rattle.smp_stop_steps.specs.Sources.{IsWork}
 use Rattle.smp_stop_steps.proofs.Knows.KnownSources.{stored_draft, draft_next}

@@ -4,8 +4,8 @@ use Rattle.std.proofs.Common.{sym, subst, refl, ap, ◌∙◌, arith}
 use Rattle.atomic_table.specs.Seated.{TableId}
 use Rattle.smp_mask.specs.Mask.{has}
 use Rattle.smp_stop_steps.specs.Callings.{with_answer}
-use Rattle.smp_stop_steps.specs.Known.{carrying, stepped}
-use Rattle.smp_stop_steps.specs.KnownAfter.{completed_with, looked_known, looked_to}
+use Rattle.smp_stop_steps.specs.Threads.Known.{carrying, stepped}
+use Rattle.smp_stop_steps.specs.Threads.KnownAfter.{completed_with, looked_known, looked_to}
 use Rattle.smp_stop_steps.specs.Seats.{irq_of}
 use Rattle.smp_stop_steps.specs.Sits.{OwnsIf, IsLoaded}
 use Rattle.smp_stop_steps.specs.Stages.{visit_acked}

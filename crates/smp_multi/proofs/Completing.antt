@@ -2,9 +2,9 @@
 use Rattle.std.proofs.Common.{◌≡◌, ◌≢◌, ℕ, ◌==◌, not, Bool, true, false, cond, Some, None, sym, refl, ap, ◌∙◌, ne_eqb, eq-eqb, eqb-true}
 use Rattle.atomic_table.specs.Seated.{TableId}
 use Rattle.smp_stop_steps.specs.AnswerWords.{IsI32Word}
-use Rattle.smp_stop_steps.specs.Known.{carrying, stepped}
-use Rattle.smp_stop_steps.specs.KnownAfter.{completed_by, completed_with, is_drafting, known_told, slot_stored, drafted_known, given_by, member_stored}
-use Rattle.smp_stop_steps.specs.Moves.{Give, Count, CountGiven, Close}
+use Rattle.smp_stop_steps.specs.Threads.Known.{carrying, stepped}
+use Rattle.smp_stop_steps.specs.Threads.KnownAfter.{completed_by, completed_with, is_drafting, known_told, slot_stored, drafted_known, given_by, member_stored}
+use Rattle.smp_stop_steps.specs.Threads.Moves.{Give, Count, CountGiven, Close}
 use Rattle.smp_multi.specs.Names.{Work, One, Slot, Store, Free, In, Gives, Closes, Rests, StopRole, KnownStops, Idle}
 use Rattle.smp_multi.specs.Names.act
 use Rattle.smp_multi.specs.Names.field

@@ -1,7 +1,7 @@
 -- The steps that a CPU has made: a number on which nothing else of what it knows depends.
 use Rattle.std.proofs.Common.{◌≡◌, ℕ, ◌+◌, Bool, true, false, cond, refl, ap, ◌∙◌, arith}
-use Rattle.smp_stop_steps.specs.Known.{stepped}
-use Rattle.smp_stop_steps.specs.KnownAfter.{acked_by, raised_by}
+use Rattle.smp_stop_steps.specs.Threads.Known.{stepped}
+use Rattle.smp_stop_steps.specs.Threads.KnownAfter.{acked_by, raised_by}
 use Rattle.smp_multi.specs.Names.{StopRole, Free, In, Gives, Alters, Closes, KnownStops}
 use Rattle.smp_multi.specs.Patches.{begins_with, stored_all}
 use Rattle.smp_multi.specs.Rounds.{passed_by}

@@ -5,10 +5,10 @@ use Rattle.atomic_table.specs.Seated.{TableId}
 use Rattle.smp_mask.specs.Mask.{has}
 use Rattle.smp_words.specs.Kinds.{kind_at}
 use Rattle.smp_words.specs.Size.{cpus}
-use Rattle.smp_stop_steps.specs.Known.{setup_in, stepped, told_source}
+use Rattle.smp_stop_steps.specs.Threads.Known.{setup_in, stepped, told_source}
 use Rattle.smp_multi.specs.Lives.{StopMoment}
-use Rattle.smp_stop_steps.specs.KnownAfter.{entered_known}
-use Rattle.smp_stop_steps.specs.Moves.{Enter, LoadField, IsPlain}
+use Rattle.smp_stop_steps.specs.Threads.KnownAfter.{entered_known}
+use Rattle.smp_stop_steps.specs.Threads.Moves.{Enter, LoadField, IsPlain}
 use Rattle.smp_stop_steps.specs.Slots.{IsWritten, SlotShows}
 use Rattle.smp_stop_steps.specs.Sources.{SourceShows}
 use Rattle.smp_stop_steps.specs.Stages.{all_but}

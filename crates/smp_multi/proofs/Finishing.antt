@@ -4,8 +4,8 @@ use Rattle.std.proofs.Common.{subst, refl, ap, ◌∙◌, arith}
 use Rattle.atomic_table.specs.Seated.{TableId}
 use Rattle.smp_mask.specs.Mask.{has}
 use Rattle.smp_stop_steps.specs.Callings.{IsCalling, answer_in, with_answer}
-use Rattle.smp_stop_steps.specs.Known.{carrying, stepped, told_calling}
-use Rattle.smp_stop_steps.specs.KnownAfter.{completed_with, has_called}
+use Rattle.smp_stop_steps.specs.Threads.Known.{carrying, stepped, told_calling}
+use Rattle.smp_stop_steps.specs.Threads.KnownAfter.{completed_with, has_called}
 use Rattle.smp_stop_steps.specs.Tells.{calls_at_run, is_multi, is_one}
 use Rattle.smp_words.specs.declared.phase.TheConstants.{EXIT}
 use Rattle.smp_stop_steps.specs.declared.stage.Visit.{Visit}

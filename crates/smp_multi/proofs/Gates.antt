@@ -1,9 +1,9 @@
 -- The steps at the gate.
 use Rattle.std.proofs.Common.{◌≡◌, ◌≢◌, ℕ, ◌+◌, true, Option, Some, None, sym, refl, ap, ◌∙◌, arith}
 use Rattle.atomic_table.specs.Seated.{TableId}
-use Rattle.smp_stop_steps.specs.Known.{holds_it}
+use Rattle.smp_stop_steps.specs.Threads.Known.{holds_it}
 use Rattle.smp_multi.specs.Lives.{StopMoment}
-use Rattle.smp_stop_steps.specs.Moves.{TakeGate, OpenGate}
+use Rattle.smp_stop_steps.specs.Threads.Moves.{TakeGate, OpenGate}
 use Rattle.smp_stop_steps.specs.Shows.{gate_word}
 use Rattle.smp_multi.specs.Names.{Gate, Store, Exchange, KnownStops}
 use Rattle.smp_multi.specs.Places.{IsSeated}

@@ -11,12 +11,12 @@ use Rattle.smp_words.specs.Access.{word_of, at_after, seen_of, one_less, put_if}
 use Rattle.smp_words.specs.Put.{put, put_word}
 use Rattle.smp_words.specs.Size.{cpus}
 use Rattle.smp_words.proofs.Puts.{put_same, put_other}
-use Rattle.smp_stop_steps.specs.Known.{Sees, GoesOn, carrying, fresh, setup_in}
+use Rattle.smp_stop_steps.specs.Threads.Known.{Sees, GoesOn, carrying, fresh, setup_in}
 use Rattle.smp_multi.specs.Lives.{Lives, StaysWithin}
 use Rattle.smp_mask.specs.Mask.{has}
 use Rattle.smp_stop_steps.specs.AnswerWords.{IsI32Word, AreI32Words}
-use Rattle.smp_stop_steps.specs.KnownAfter.{known_told, known_entering}
-use Rattle.smp_stop_steps.specs.Moves.{Can, entering}
+use Rattle.smp_stop_steps.specs.Threads.KnownAfter.{known_told, known_entering}
+use Rattle.smp_stop_steps.specs.Threads.Moves.{Can, entering}
 use Rattle.smp_stop_steps.specs.Reached.{IsReached}
 use Rattle.smp_stop_steps.specs.State.{StopState}
 use Rattle.smp_stop_steps.specs.Shows.{StopShows}

@@ -6,9 +6,9 @@ use Rattle.atomic_table.specs.Seated.{TableId}
 use Rattle.smp_mask.specs.Mask.{has}
 use Rattle.smp_words.specs.Size.{cpus}
 use Rattle.smp_stop_steps.specs.Callings.{IsCalling, with_answer}
-use Rattle.smp_stop_steps.specs.Known.{attempting, carrying, noting, setup_in, stepped, told_source, told_calling}
+use Rattle.smp_stop_steps.specs.Threads.Known.{attempting, carrying, noting, setup_in, stepped, told_source, told_calling}
 use Rattle.smp_multi.specs.Lives.{Lives}
-use Rattle.smp_stop_steps.specs.KnownAfter.{completed_with, is_drafting}
+use Rattle.smp_stop_steps.specs.Threads.KnownAfter.{completed_with, is_drafting}
 use Rattle.smp_stop_steps.specs.Laws.{IsResult}
 use Rattle.smp_stop_steps.specs.Past.{Past, AllPast, OnlyActiveAnswer, works_of, results_of, answers_of, answer_now}
 use Rattle.smp_stop_steps.specs.Seats.{irq_of, RoleStands}

@@ -8,7 +8,7 @@ use Rattle.smp_mask.specs.Mask.{has}
 use Rattle.smp_mask.specs.declared.error.SmpError.{SmpError}
 use Rattle.smp_mask.specs.declared.error.SmpError.TheVariants as error
 use Rattle.smp_multi.specs.Lives.{Lives, StopMoment}
-use Rattle.smp_stop_steps.specs.Moves.{Nudge as NudgeKey}
+use Rattle.smp_stop_steps.specs.Threads.Moves.{Nudge as NudgeKey}
 use Rattle.smp_stop_steps.specs.Seats.{irq_of}
 use Rattle.smp_stop_steps.specs.Sits.{IsNudge}
 use Rattle.smp_stop_steps.specs.Stages.{nudge_of}

@@ -6,7 +6,7 @@ use Rattle.smp_labels.specs.Keys.{change_of, count_after, count_or}
 use Rattle.smp_labels.specs.declared.keys.Change.{Change}
 use Rattle.smp_labels.specs.declared.keys.Change.TheVariants.{Off, On, Up, Down}
 use Rattle.smp_stop_steps.specs.KeyCounts.{moves}
-use Rattle.smp_stop_steps.specs.KnownAfter.{counted}
+use Rattle.smp_stop_steps.specs.Threads.KnownAfter.{counted}
 use Rattle.smp_stop_steps.specs.Labels.{answer_for, count_set}
 use Rattle.smp_stop_steps.specs.State.{unmoved}
 use Rattle.smp_multi.specs.Names.{Work, Moved}

@@ -17,14 +17,14 @@ use Rattle.smp_labels.proofs.Patched.{plan_key_first}
 use Rattle.smp_labels.proofs.Stores.{entries_kept}
 use Rattle.smp_mask.specs.Mask.{has}
 use Rattle.smp_words.specs.Size.{cpus}
-use Rattle.smp_stop_steps.specs.Known.{carrying, setup_in, stepped}
+use Rattle.smp_stop_steps.specs.Threads.Known.{carrying, setup_in, stepped}
 use Rattle.smp_multi.specs.Lives.{Lives, StopMoment}
-use Rattle.smp_stop_steps.specs.KnownAfter.{acked_by, called_by, counted, is_drafting, key_loaded_by, known_told, looked_known, looked_to}
-use Rattle.smp_stop_steps.specs.KnownAfter.{key_read_known, raised_by}
+use Rattle.smp_stop_steps.specs.Threads.KnownAfter.{acked_by, called_by, counted, is_drafting, key_loaded_by, known_told, looked_known, looked_to}
+use Rattle.smp_stop_steps.specs.Threads.KnownAfter.{key_read_known, raised_by}
 use Rattle.smp_stop_steps.specs.Names.{change_of}
 use Rattle.smp_stop_steps.specs.AnswerWords.{IsI32Word}
 use Rattle.smp_stop_steps.specs.Labels.{Change, LabelsShow, Patching, Patches, Whole, answer_for, count_set, patch_answer}
-use Rattle.smp_stop_steps.specs.Moves.{Alter, AcknowledgePatch, BeginPatch, LoadEntry}
+use Rattle.smp_stop_steps.specs.Threads.Moves.{Alter, AcknowledgePatch, BeginPatch, LoadEntry}
 use Rattle.smp_stop_steps.specs.Seats.{RoleStands}
 use Rattle.smp_stop_steps.specs.Sits.{IsLoaded}
 use Rattle.smp_stop_steps.specs.Stages.{label_word, store_of, visit_acked}

@@ -2,11 +2,11 @@
 use Rattle.std.proofs.Common.{◌≡◌, ℕ, ◌==◌, not, Bool, true, false, cond, Option, Some, None, Ok, [], ◌∷◌, ◌++◌, sym, refl, ap, subst, ◌∙◌, eqb-true}
 use Rattle.atomic_table.specs.Seated.{TableId}
 use Rattle.smp_stop_steps.specs.AnswerWords.{IsI32Word}
-use Rattle.smp_stop_steps.specs.Known.{noting, stepped}
+use Rattle.smp_stop_steps.specs.Threads.Known.{noting, stepped}
 use Rattle.smp_multi.specs.Lives.{StopMoment}
-use Rattle.smp_stop_steps.specs.KnownAfter.{done_by, done_known}
+use Rattle.smp_stop_steps.specs.Threads.KnownAfter.{done_by, done_known}
 use Rattle.smp_stop_steps.specs.declared.stage.Visit.{Visit}
-use Rattle.smp_stop_steps.specs.Moves.{LookDone, Collect}
+use Rattle.smp_stop_steps.specs.Threads.Moves.{LookDone, Collect}
 use Rattle.smp_multi.specs.Names.{Slot, KnownStops, Load, Source, Owns, Collects}
 use Rattle.smp_multi.specs.Names.own
 use Rattle.smp_multi.specs.Names.field

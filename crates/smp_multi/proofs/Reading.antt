@@ -6,11 +6,11 @@ use Rattle.smp_labels.specs.Keys.{IsKeyWord, is_on}
 use Rattle.smp_labels.specs.declared.kinds.SiteKind.{SiteKind}
 use Rattle.smp_labels.specs.declared.words.TheConstants.{MOST_KEYS, MOST_SITES}
 use Rattle.smp_mask.specs.Mask.{has}
-use Rattle.smp_stop_steps.specs.Known.{setup_in, stepped}
+use Rattle.smp_stop_steps.specs.Threads.Known.{setup_in, stepped}
 use Rattle.smp_multi.specs.Lives.{Lives, StopMoment}
-use Rattle.smp_stop_steps.specs.KnownAfter.{reads_more}
+use Rattle.smp_stop_steps.specs.Threads.KnownAfter.{reads_more}
 use Rattle.smp_stop_steps.specs.Labels.{Agrees, labels_in}
-use Rattle.smp_stop_steps.specs.Moves.{ReadKey as LoadKey, ReadSite as LoadSite}
+use Rattle.smp_stop_steps.specs.Threads.Moves.{ReadKey as LoadKey, ReadSite as LoadSite}
 use Rattle.smp_stop_steps.specs.Seats.{irq_of}
 use Rattle.smp_stop_steps.proofs.State.Patched.{lawful_when_on}
 use Rattle.smp_multi.specs.Names.{Key, Site, Load, KnownStops, Reading, ReadSite}

@@ -1,10 +1,10 @@
 -- The steps round the function of a stop of one CPU.
 use Rattle.std.proofs.Common.{◌≡◌, ◌≢◌, ℕ, ◌<◌, ◌^◌, ◌||◌, true, false, cond, inr, sym, subst, refl, ap, ◌∙◌}
 use Rattle.atomic_table.specs.Seated.{TableId}
-use Rattle.smp_stop_steps.specs.Known.{setup_in, stepped}
+use Rattle.smp_stop_steps.specs.Threads.Known.{setup_in, stepped}
 use Rattle.smp_multi.specs.Lives.{StopMoment}
-use Rattle.smp_stop_steps.specs.KnownAfter.{called_by, is_drafting}
-use Rattle.smp_stop_steps.specs.Moves.{LoadArg, LoadField, IsPlain}
+use Rattle.smp_stop_steps.specs.Threads.KnownAfter.{called_by, is_drafting}
+use Rattle.smp_stop_steps.specs.Threads.Moves.{LoadArg, LoadField, IsPlain}
 use Rattle.smp_stop_steps.specs.Tells.{is_one}
 use Rattle.smp_stop_steps.specs.Seats.{RoleStands}
 use Rattle.smp_stop_steps.specs.Sources.{SourceShows, IsWork}

@@ -4,7 +4,7 @@ use Rattle.smp_mask.specs.Mask.{has}
 use Rattle.smp_words.specs.Size.{cpus}
 use Rattle.smp_words.specs.Put.{put}
 use Rattle.smp_words.proofs.Puts.{put_all, put_same, put_other}
-use Rattle.smp_stop_steps.specs.Known.{fresh, setup_in, Sees, told_calling, told_source}
+use Rattle.smp_stop_steps.specs.Threads.Known.{fresh, setup_in, Sees, told_calling, told_source}
 use Rattle.smp_multi.specs.Lives.{Lives, StopMoment, StaysWithin}
 use Rattle.smp_stop_steps.proofs.Promises.StopLaws.{keeps_laws}
 use Rattle.smp_multi.specs.Cpu.{cpu_of, inside_of, part_with}

@@ -14,7 +14,7 @@ use Rattle.smp_words.specs.Limits.{AreLimits}
 use Rattle.smp_words.specs.Size.{cpus}
 use Rattle.smp_words.specs.declared.size.TheConstants.{NR_CPUS, SLOT_WORDS}
 use Rattle.smp_words.proofs.Zeros.{zero_at, get_or-same}
-use Rattle.smp_stop_steps.specs.Known.{setup_in, fresh}
+use Rattle.smp_stop_steps.specs.Threads.Known.{setup_in, fresh}
 use Rattle.smp_mask.specs.Mask.{has}
 use Rattle.smp_stop_steps.specs.AnswerWords.{AreI32Words}
 use Rattle.smp_stop_steps.proofs.Promises.Reached.{nothing_reached}

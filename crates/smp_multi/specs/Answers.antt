@@ -4,7 +4,7 @@ use Rattle.std.specs.Prelude.{◌≡◌, ◌≢◌, ◌⊎◌, ◌↔◌, ℕ, �
 use Rattle.smp_mask.specs.Mask.{has}
 use Rattle.smp_mask.specs.declared.error.SmpError.{SmpError}
 use Rattle.smp_mask.specs.declared.error.SmpError.TheVariants as error
-use Rattle.smp_stop_steps.specs.Known.{setup_in}
+use Rattle.smp_stop_steps.specs.Threads.Known.{setup_in}
 use Rattle.smp_stop_steps.specs.Sources.{IsWork}
 use Rattle.smp_stop_steps.specs.Start.{begin_refusal, has_slot, answer_word}
 use Rattle.smp_multi.specs.Laws.{Finds, FindsNoCall}

@@ -3,8 +3,8 @@ use Rattle.std.specs.Prelude.{◌≡◌, ℕ, ◌<◌, Bool, true}
 use Rattle.atomic_table.specs.Seated.{TableId}
 use Rattle.smp_mask.specs.Mask.{has}
 use Rattle.smp_words.specs.Size.{cpus}
-use Rattle.smp_stop_steps.specs.Known.{stepped}
-use Rattle.smp_stop_steps.specs.KnownAfter.{looked_known}
+use Rattle.smp_stop_steps.specs.Threads.Known.{stepped}
+use Rattle.smp_stop_steps.specs.Threads.KnownAfter.{looked_known}
 use Rattle.smp_stop_steps.specs.Sits.{IsLoaded, OwnsIf}
 use Rattle.smp_words.specs.declared.phase.TheConstants.{DISABLE_IRQ, RUN}
 use Rattle.smp_stop_steps.specs.declared.stage.Visit.{Visit}

@@ -2,7 +2,7 @@
 use Rattle.std.specs.Prelude.{◌≡◌, ℕ, ◌<◌, ◌==◌, true, cond, [], ◌∷◌, ◌++◌}
 use Rattle.atomic_table.specs.Seated.{TableId}
 use Rattle.smp_words.specs.Size.{cpus}
-use Rattle.smp_stop_steps.specs.Known.{setup_in, noting, told_work}
+use Rattle.smp_stop_steps.specs.Threads.Known.{setup_in, noting, told_work}
 use Rattle.smp_stop_steps.specs.Sources.{IsWork}
 use Rattle.smp_multi.specs.Names.{Work, Source, Shut, Drafts, Owns, KnownStops}
 use Rattle.smp_multi.specs.Names.own

@@ -2,9 +2,9 @@
 use Rattle.std.specs.Prelude.{◌≡◌, ◌≢◌, ℕ, ◌<◌, ◌==◌, false, cond}
 use Rattle.atomic_table.specs.Seated.{TableId}
 use Rattle.smp_words.specs.Size.{cpus}
-use Rattle.smp_stop_steps.specs.Known.{stepped}
-use Rattle.smp_stop_steps.specs.KnownAfter.{is_drafting}
-use Rattle.smp_stop_steps.specs.Moves.{IsThrough}
+use Rattle.smp_stop_steps.specs.Threads.Known.{stepped}
+use Rattle.smp_stop_steps.specs.Threads.KnownAfter.{is_drafting}
+use Rattle.smp_stop_steps.specs.Threads.Moves.{IsThrough}
 use Rattle.smp_multi.specs.Names.{Work, One, StopRole, Free, In, Gives, Closes, Rests, KnownStops, Idle}
 use Rattle.smp_multi.specs.Places.{work_in}
 use Rattle.smp_multi.specs.Cells.{cells}

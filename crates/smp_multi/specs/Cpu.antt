@@ -4,7 +4,7 @@ use Rattle.std.specs.Prelude.{IfSome, slice_index_or, slice_set}
 use Rattle.atomic_table.specs.Seated.{TableId}
 use Rattle.smp_mask.specs.Mask.{has}
 use Rattle.smp_words.specs.Size.{cpus}
-use Rattle.smp_stop_steps.specs.Known.{fresh}
+use Rattle.smp_stop_steps.specs.Threads.Known.{fresh}
 use Rattle.smp_multi.specs.Lives.{Lives}
 use Rattle.smp_stop_steps.specs.Callings.{with_answer}
 use Rattle.smp_stop_steps.specs.Seats.{irq_of}

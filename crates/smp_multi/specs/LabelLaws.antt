@@ -5,7 +5,7 @@ use Rattle.smp_labels.specs.declared.words.TheConstants.{MOST_KEYS}
 use Rattle.smp_mask.specs.Mask.{has}
 use Rattle.smp_words.specs.Size.{cpus}
 use Rattle.smp_stop_steps.specs.KeyCounts.{ups, downs}
-use Rattle.smp_stop_steps.specs.Known.{AreFirst, setup_in}
+use Rattle.smp_stop_steps.specs.Threads.Known.{AreFirst, setup_in}
 use Rattle.smp_stop_steps.specs.Labels.{labels_in}
 use Rattle.smp_stop_steps.specs.Patchers.{HasPatcher, is_between}
 use Rattle.smp_stop_steps.specs.Promises.{IsPatchedAlone}

@@ -2,7 +2,7 @@
 use Rattle.std.specs.Prelude.{◌≡◌, ◌≢◌, ℕ, true, false, Option, Some, None}
 use Rattle.smp_mask.specs.Mask.{has}
 use Rattle.smp_words.specs.Put.{put}
-use Rattle.smp_stop_steps.specs.Known.{Sees, setup_in}
+use Rattle.smp_stop_steps.specs.Threads.Known.{Sees, setup_in}
 use Rattle.smp_stop_steps.specs.Shows.{StopShows}
 use Rattle.smp_stop_steps.specs.State.{Present, StopState}
 use Rattle.smp_stop_steps.specs.Stop.{Stop, acked}

@@ -3,7 +3,7 @@ use Rattle.std.specs.Prelude.{◌≡◌, ℕ, ◌<◌, ◌≤◌, true, false}
 use Rattle.smp_mask.specs.Mask.{has}
 use Rattle.smp_words.specs.Size.{cpus}
 use Rattle.smp_stop_steps.specs.AnswerWords.{AreI32Words}
-use Rattle.smp_stop_steps.specs.Known.{Sees, fresh, setup_in}
+use Rattle.smp_stop_steps.specs.Threads.Known.{Sees, fresh, setup_in}
 use Rattle.smp_stop_steps.specs.Reached.{IsReached}
 use Rattle.smp_stop_steps.specs.Shows.{StopShows}
 use Rattle.smp_stop_steps.specs.State.{StopState}

@@ -4,7 +4,7 @@ use Rattle.smp_mask.specs.declared.error.Edge.{Edge}
 use Rattle.smp_mask.specs.declared.error.Edge.TheVariants.{Full, Zero}
 use Rattle.smp_mask.specs.declared.error.SmpError.{SmpError}
 use Rattle.smp_mask.specs.declared.error.SmpError.TheVariants as error
-use Rattle.smp_stop_steps.specs.Known.{noting, stepped}
+use Rattle.smp_stop_steps.specs.Threads.Known.{noting, stepped}
 use Rattle.smp_multi.specs.Lives.{StopMoment}
 use Rattle.smp_stop_steps.specs.State.{unmoved}
 use Rattle.smp_multi.specs.Names.{Key, KnownStops, StopPart, Moved}

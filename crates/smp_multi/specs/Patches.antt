@@ -4,8 +4,8 @@ use Rattle.atomic_table.specs.Seated.{TableId}
 use Rattle.smp_labels.specs.Entries.{entry_word}
 use Rattle.smp_labels.specs.declared.words.TheConstants.{MOST_KEYS}
 use Rattle.smp_words.specs.Size.{cpus}
-use Rattle.smp_stop_steps.specs.Known.{setup_in}
-use Rattle.smp_stop_steps.specs.KnownAfter.{counted, is_drafting}
+use Rattle.smp_stop_steps.specs.Threads.Known.{setup_in}
+use Rattle.smp_stop_steps.specs.Threads.KnownAfter.{counted, is_drafting}
 use Rattle.smp_stop_steps.specs.Labels.{Change, count_set}
 use Rattle.smp_stop_steps.specs.Sits.{IsLoaded}
 use Rattle.smp_stop_steps.specs.Tells.{plan_at}

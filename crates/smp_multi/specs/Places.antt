@@ -3,8 +3,8 @@ use Rattle.std.specs.Prelude.{◌≡◌, ℕ, ◌<◌, Bool, true, false, Option
 use Rattle.atomic_table.specs.Seated.{TableId}
 use Rattle.smp_mask.specs.Mask.{has}
 use Rattle.smp_words.specs.Size.{cpus}
-use Rattle.smp_stop_steps.specs.Known.{attempting, noting, stepped}
-use Rattle.smp_stop_steps.specs.KnownAfter.{is_drafting, no_work}
+use Rattle.smp_stop_steps.specs.Threads.Known.{attempting, noting, stepped}
+use Rattle.smp_stop_steps.specs.Threads.KnownAfter.{is_drafting, no_work}
 use Rattle.smp_stop_steps.specs.Sits.{IsLoaded}
 use Rattle.smp_stop_steps.specs.declared.stage.Visit.{Visit}
 use Rattle.smp_multi.specs.Names.{Work, StopRole, Free, In, Gives, Alters, Rests, Source, Owns, Collects, KnownStops}

@@ -4,9 +4,9 @@ use Rattle.std.specs.Prelude.{◌≡◌, ℕ, ◌==◌, if◌then◌else◌, Som
 use Rattle.atomic_table.specs.Table.{Me, Step}
 use Rattle.smp_words.specs.Access.{one_less}
 use Rattle.smp_multi.specs.Lives.{StopMoment, Lives}
-use Rattle.smp_stop_steps.specs.Known.{carrying}
-use Rattle.smp_stop_steps.specs.KnownAfter.{known_told, known_entering}
-use Rattle.smp_stop_steps.specs.Moves.{Can, entering}
+use Rattle.smp_stop_steps.specs.Threads.Known.{carrying}
+use Rattle.smp_stop_steps.specs.Threads.KnownAfter.{known_told, known_entering}
+use Rattle.smp_stop_steps.specs.Threads.Moves.{Can, entering}
 use Rattle.smp_multi.specs.Names.{Word, Sub, StopSeatView, Cpu}
 use Rattle.smp_multi.specs.Names.act
 use Rattle.smp_multi.specs.Cells.{cell_of}

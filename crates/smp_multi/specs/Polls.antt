@@ -3,8 +3,8 @@ use Rattle.std.specs.Prelude.{◌≡◌, ◌≢◌, ◌⊎◌, ℕ, ◌<◌, Boo
 use Rattle.atomic_table.specs.Seated.{TableId}
 use Rattle.smp_mask.specs.Mask.{has}
 use Rattle.smp_words.specs.Size.{cpus}
-use Rattle.smp_stop_steps.specs.Known.{setup_in, noting, stepped}
-use Rattle.smp_stop_steps.specs.KnownAfter.{no_work}
+use Rattle.smp_stop_steps.specs.Threads.Known.{setup_in, noting, stepped}
+use Rattle.smp_stop_steps.specs.Threads.KnownAfter.{no_work}
 use Rattle.smp_stop_steps.specs.Laws.{IsResult}
 use Rattle.smp_stop_steps.specs.Past.{OnlyActiveAnswer}
 use Rattle.smp_stop_steps.specs.Shows.{StopShows}

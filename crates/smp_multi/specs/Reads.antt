@@ -11,8 +11,8 @@ use Rattle.smp_mask.specs.Mask.{has}
 use Rattle.smp_mask.specs.declared.error.SmpError.{SmpError}
 use Rattle.smp_mask.specs.declared.error.SmpError.TheVariants as error
 use Rattle.smp_labels.specs.Keys.{is_on}
-use Rattle.smp_stop_steps.specs.Known.{stepped}
-use Rattle.smp_stop_steps.specs.KnownAfter.{key_read_known}
+use Rattle.smp_stop_steps.specs.Threads.Known.{stepped}
+use Rattle.smp_stop_steps.specs.Threads.KnownAfter.{key_read_known}
 use Rattle.smp_stop_steps.specs.Labels.{Agrees}
 use Rattle.smp_stop_steps.specs.Seats.{irq_of}
 use Rattle.smp_multi.specs.Names.{KnownStops, Reading, ReadKey, ReadSite}

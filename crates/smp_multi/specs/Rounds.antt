@@ -3,8 +3,8 @@ use Rattle.std.specs.Prelude.{◌≡◌, ℕ, ◌<◌, ◌==◌, true, false}
 use Rattle.atomic_table.specs.Seated.{TableId}
 use Rattle.smp_mask.specs.Mask.{has}
 use Rattle.smp_words.specs.Size.{cpus}
-use Rattle.smp_stop_steps.specs.Known.{Sees, setup_in}
-use Rattle.smp_stop_steps.specs.KnownAfter.{is_drafting, looked_known, looked_to, ran_since, read_since}
+use Rattle.smp_stop_steps.specs.Threads.Known.{Sees, setup_in}
+use Rattle.smp_stop_steps.specs.Threads.KnownAfter.{is_drafting, looked_known, looked_to, ran_since, read_since}
 use Rattle.smp_stop_steps.specs.Promises.{RunsAlone}
 use Rattle.smp_stop_steps.specs.Shows.{StopShows}
 use Rattle.smp_stop_steps.specs.Sits.{IsLoaded}

@@ -4,7 +4,7 @@ use mathlib.Core.Option.{some}
 use lib.ListN.{get_elem?}
 use Rattle.atomic_table.specs.Table.{State}
 use Rattle.smp_words.specs.Size.{cpus}
-use Rattle.smp_stop_steps.specs.Known.{Sees, fresh, setup_in}
+use Rattle.smp_stop_steps.specs.Threads.Known.{Sees, fresh, setup_in}
 use Rattle.smp_stop_steps.specs.Reached.{IsReached}
 use Rattle.smp_stop_steps.specs.Shows.{StopShows}
 use Rattle.smp_stop_steps.specs.State.{StopState}

@@ -2,8 +2,8 @@
 use Rattle.std.specs.Prelude.{◌≡◌, ℕ, ℤ, ◌<◌, false}
 use Rattle.atomic_table.specs.Seated.{TableId}
 use Rattle.smp_words.specs.Size.{cpus}
-use Rattle.smp_stop_steps.specs.Known.{carrying}
-use Rattle.smp_stop_steps.specs.KnownAfter.{is_drafting}
+use Rattle.smp_stop_steps.specs.Threads.Known.{carrying}
+use Rattle.smp_stop_steps.specs.Threads.KnownAfter.{is_drafting}
 use Rattle.smp_stop_steps.specs.Start.{answer_word}
 use Rattle.smp_multi.specs.Names.{One, In, Rests, KnownStops, Calls}
 use Rattle.smp_multi.specs.declared.func.Called.{Called}

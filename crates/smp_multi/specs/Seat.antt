@@ -4,9 +4,9 @@ use Rattle.atomic_table.specs.Seated.{TableId}
 use Rattle.smp_mask.specs.Mask.{has}
 use Rattle.smp_words.specs.Access.{word_of}
 use Rattle.smp_stop_steps.specs.AnswerWords.{IsI32Word}
-use Rattle.smp_stop_steps.specs.Known.{fresh}
+use Rattle.smp_stop_steps.specs.Threads.Known.{fresh}
 use Rattle.smp_stop_steps.specs.Labels.{patch_answer}
-use Rattle.smp_stop_steps.specs.Moves.{Can, Move, Acknowledge, AcknowledgePatch, Alter, Give, Count, CountGiven}
+use Rattle.smp_stop_steps.specs.Threads.Moves.{Can, Move, Acknowledge, AcknowledgePatch, Alter, Give, Count, CountGiven}
 use Rattle.smp_words.specs.declared.phase.TheConstants.{DISABLE_IRQ}
 use Rattle.smp_multi.specs.Names.{Access, Load, Store, Exchange, Sub, And, KnownStops, StopSeatView, StopSetting, Cpu, Word, Slot}
 use Rattle.smp_multi.specs.Names.field

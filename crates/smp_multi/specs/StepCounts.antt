@@ -3,7 +3,7 @@ use Rattle.std.specs.Prelude.{ℕ, ◌+◌, nat_lt, ◌==◌, cond, length}
 use Rattle.smp_labels.specs.Keys.{is_on}
 use Rattle.smp_labels.specs.Kinds.{xor}
 use Rattle.smp_labels.specs.declared.words.TheConstants.{MOST_SITES}
-use Rattle.smp_stop_steps.specs.Known.{setup_in}
+use Rattle.smp_stop_steps.specs.Threads.Known.{setup_in}
 use Rattle.smp_stop_steps.specs.Labels.{count_set}
 use Rattle.smp_stop_steps.specs.Tells.{plan_at}
 use Rattle.smp_multi.specs.Names.{StopSetting, Work}

@@ -1,9 +1,9 @@
 -- What one turn of a stop of several CPUs does, by what the CPU knows before and after it.
 use Rattle.std.specs.Prelude.{◌≡◌, ◌≢◌, ℕ, ℤ, ◌+◌, ◌==◌, true, false, cond, List}
 use Rattle.smp_mask.specs.Mask.{has}
-use Rattle.smp_stop_steps.specs.Known.{carrying, stepped}
+use Rattle.smp_stop_steps.specs.Threads.Known.{carrying, stepped}
 use Rattle.smp_multi.specs.Lives.{StopMoment}
-use Rattle.smp_stop_steps.specs.KnownAfter.{counted, looked_known, looked_to}
+use Rattle.smp_stop_steps.specs.Threads.KnownAfter.{counted, looked_known, looked_to}
 use Rattle.smp_stop_steps.specs.Labels.{count_set, patch_answer}
 use Rattle.smp_stop_steps.specs.Stages.{visit_acked}
 use Rattle.smp_stop_steps.specs.declared.known.Moved.{Moved as CountMoved}

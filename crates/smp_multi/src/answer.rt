@@ -2,9 +2,9 @@
 //! of one CPU with it (`cpu_stopper_thread`).
 
 ghost use Rattle.std.specs.Prelude.{◌≡◌, ◌≢◌, false};
-ghost use Rattle.smp_stop_steps.specs.Known.{carrying, stepped};
+ghost use Rattle.smp_stop_steps.specs.Threads.Known.{carrying, stepped};
 ghost use Rattle.smp_multi.specs.Lives.{Lives};
-ghost use Rattle.smp_stop_steps.specs.KnownAfter.{completed_with};
+ghost use Rattle.smp_stop_steps.specs.Threads.KnownAfter.{completed_with};
 ghost use Rattle.smp_stop_steps.specs.Stages.{visit_acked};
 ghost use Rattle.smp_stop_steps.specs.Start.{answer_word};
 ghost use Rattle.smp_multi.specs.Names.{Idle, Multi, Rests};

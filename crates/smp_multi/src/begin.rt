@@ -2,7 +2,7 @@
 //! (`stop_machine_cpuslocked`, `queue_stop_cpus_work`).
 
 ghost use Rattle.std.specs.Prelude.{◌≡◌, ◌+◌, ◌<◌};
-ghost use Rattle.smp_stop_steps.specs.Known.{stepped};
+ghost use Rattle.smp_stop_steps.specs.Threads.Known.{stepped};
 ghost use Rattle.smp_multi.specs.Lives.{Lives};
 ghost use Rattle.smp_stop_steps.specs.Slots.{order};
 ghost use Rattle.smp_multi.specs.Begins.{Begins, draft_at, begun};

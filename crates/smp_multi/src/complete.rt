@@ -1,9 +1,9 @@
 //! A CPU completes a stop (`cpu_stop_signal_done`).
 
 ghost use Rattle.std.specs.Prelude.{◌≡◌, ◌≢◌};
-ghost use Rattle.smp_stop_steps.specs.Known.{carrying, stepped};
+ghost use Rattle.smp_stop_steps.specs.Threads.Known.{carrying, stepped};
 ghost use Rattle.smp_multi.specs.Lives.{Lives};
-ghost use Rattle.smp_stop_steps.specs.KnownAfter.{completed_with};
+ghost use Rattle.smp_stop_steps.specs.Threads.KnownAfter.{completed_with};
 ghost use Rattle.smp_multi.specs.Completes.{AtEnd, AtClose, left};
 ghost use Rattle.smp_multi.specs.Names.{Idle, One};
 ghost use Rattle.smp_multi.specs.Places.{work_in};

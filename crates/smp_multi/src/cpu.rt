@@ -3,7 +3,7 @@
 ghost use Rattle.std.specs.Prelude.{◌≡◌, ◌<◌, true, None};
 ghost use Rattle.smp_mask.specs.Mask.{has};
 ghost use Rattle.smp_words.specs.Size.{cpus};
-ghost use Rattle.smp_stop_steps.specs.Known.{fresh};
+ghost use Rattle.smp_stop_steps.specs.Threads.Known.{fresh};
 ghost use Rattle.smp_multi.specs.Lives.{Lives};
 ghost use Rattle.smp_multi.specs.Cpu.{fresh_cpu, is_in};
 

@@ -3,7 +3,7 @@
 ghost use Rattle.std.specs.Prelude.{◌≡◌, ℕ, ◌<◌, true, false, None, if◌then◌else◌, MatchOption};
 ghost use Rattle.smp_mask.specs.Mask.{has};
 ghost use Rattle.smp_words.specs.Size.{cpus};
-ghost use Rattle.smp_stop_steps.specs.Known.{stepped};
+ghost use Rattle.smp_stop_steps.specs.Threads.Known.{stepped};
 ghost use Rattle.smp_multi.specs.Lives.{Lives, StopMoment};
 ghost use Rattle.smp_multi.specs.Names.{Slot, Work};
 ghost use Rattle.smp_multi.specs.Names.field;

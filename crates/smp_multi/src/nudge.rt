@@ -3,9 +3,9 @@
 
 ghost use Rattle.std.specs.Prelude.{◌≡◌, ℕ, ◌<◌, ◌==◌, if◌then◌else◌};
 ghost use Rattle.smp_labels.specs.declared.words.TheConstants.{MOST_KEYS};
-ghost use Rattle.smp_stop_steps.specs.Known.{stepped};
+ghost use Rattle.smp_stop_steps.specs.Threads.Known.{stepped};
 ghost use Rattle.smp_multi.specs.Lives.{Lives, StopMoment};
-ghost use Rattle.smp_stop_steps.specs.KnownAfter.{counted};
+ghost use Rattle.smp_stop_steps.specs.Threads.KnownAfter.{counted};
 ghost use Rattle.smp_stop_steps.specs.Sits.{IsNudge};
 ghost use Rattle.smp_stop_steps.specs.Stages.{nudge_of};
 ghost use Rattle.smp_multi.specs.Names.{Key};

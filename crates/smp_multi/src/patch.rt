@@ -5,7 +5,7 @@ ghost use Rattle.smp_labels.specs.Entries.{IsEntryWord};
 ghost use Rattle.smp_labels.specs.Keys.{change_of};
 ghost use Rattle.smp_labels.specs.Plans.{plan_of};
 ghost use Rattle.smp_labels.specs.declared.words.TheConstants.{MOST_KEYS, MOST_SITES};
-ghost use Rattle.smp_stop_steps.specs.Known.{stepped};
+ghost use Rattle.smp_stop_steps.specs.Threads.Known.{stepped};
 ghost use Rattle.smp_multi.specs.Lives.{Lives, StopMoment};
 ghost use Rattle.smp_stop_steps.specs.Labels.{answer_for as answer_of_patch};
 ghost use Rattle.smp_stop_steps.specs.Stages.{visit_acked};

@@ -4,9 +4,9 @@ ghost use Rattle.std.specs.Prelude.{◌≡◌, ℕ, ◌<◌};
 ghost use Rattle.smp_labels.specs.declared.words.TheConstants.{MOST_KEYS, MOST_SITES};
 ghost use Rattle.smp_labels.specs.Keys.{is_on as is_word_on};
 ghost use Rattle.smp_labels.specs.Keys.{IsKeyWord};
-ghost use Rattle.smp_stop_steps.specs.Known.{stepped};
+ghost use Rattle.smp_stop_steps.specs.Threads.Known.{stepped};
 ghost use Rattle.smp_multi.specs.Lives.{Lives, StopMoment};
-ghost use Rattle.smp_stop_steps.specs.KnownAfter.{reads_more};
+ghost use Rattle.smp_stop_steps.specs.Threads.KnownAfter.{reads_more};
 ghost use Rattle.smp_multi.specs.Names.{Key, ReadSite};
 ghost use Rattle.smp_multi.specs.Reads.{MayRead, jumps, loads_known};
 

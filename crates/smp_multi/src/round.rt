@@ -3,9 +3,9 @@
 
 ghost use Rattle.std.specs.Prelude.{◌≡◌, ◌≢◌, ◌⊎◌, ◌+◌, ◌≤◌, ◌==◌, false, if◌then◌else◌};
 ghost use Rattle.smp_mask.specs.Mask.{has};
-ghost use Rattle.smp_stop_steps.specs.Known.{stepped};
+ghost use Rattle.smp_stop_steps.specs.Threads.Known.{stepped};
 ghost use Rattle.smp_multi.specs.Lives.{Lives};
-ghost use Rattle.smp_stop_steps.specs.KnownAfter.{acked_by, looked_known, raised_by};
+ghost use Rattle.smp_stop_steps.specs.Threads.KnownAfter.{acked_by, looked_known, raised_by};
 ghost use Rattle.smp_stop_steps.specs.Stages.{visit_acked};
 ghost use Rattle.smp_multi.specs.Names.{Rests, Fills};
 ghost use Rattle.smp_multi.specs.Rounds.{AtTurn, passed_by};

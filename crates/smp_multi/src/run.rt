@@ -2,9 +2,9 @@
 //! (`cpu_stopper_thread`, `multi_cpu_stop`).
 
 ghost use Rattle.std.specs.Prelude.{◌≡◌, ◌≢◌, ◌+◌, ◌<◌};
-ghost use Rattle.smp_stop_steps.specs.Known.{carrying, stepped};
+ghost use Rattle.smp_stop_steps.specs.Threads.Known.{carrying, stepped};
 ghost use Rattle.smp_multi.specs.Lives.{Lives};
-ghost use Rattle.smp_stop_steps.specs.KnownAfter.{completed_with};
+ghost use Rattle.smp_stop_steps.specs.Threads.KnownAfter.{completed_with};
 ghost use Rattle.smp_stop_steps.specs.Start.{answer_word};
 ghost use Rattle.smp_multi.specs.Names.{One, Rests};
 ghost use Rattle.smp_multi.specs.Places.{work_in};

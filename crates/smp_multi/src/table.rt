@@ -24,7 +24,7 @@ ghost use Rattle.smp_labels.specs.declared.words.TheConstants.{MOST_KEYS};
 ghost use Rattle.smp_mask.specs.Mask.{has};
 ghost use Rattle.smp_words.specs.Limits.{AreLimits};
 ghost use Rattle.smp_words.specs.Size.{cpus};
-ghost use Rattle.smp_stop_steps.specs.Known.{fresh};
+ghost use Rattle.smp_stop_steps.specs.Threads.Known.{fresh};
 ghost use Rattle.smp_multi.specs.Lives.{Lives};
 ghost use Rattle.smp_multi.specs.Advance.{AdvanceAnswers, FinishAnswers};
 ghost use Rattle.smp_multi.specs.Answers.{BeginAnswers, Enters, RefusesEntry, RunAnswers, PollAnswers};

@@ -1,7 +1,7 @@
 -- What the exchanges of a post leave of its CPU.
 use Rattle.std.specs.Prelude.{◌≡◌, Bool, ◌==◌}
-use Rattle.smp_call_steps.specs.Heads.{Found, last_found, AreOthers}
-use Rattle.smp_call_steps.specs.Known.{queued_known, outside_known, stepped, lost_tries}
+use Rattle.smp_call_steps.specs.Threads.Heads.{Found, last_found, AreOthers}
+use Rattle.smp_call_steps.specs.Threads.Known.{queued_known, outside_known, stepped, lost_tries}
 use Rattle.smp_call_steps.specs.Stands.{posted}
 use Rattle.smp_queue.specs.Names.{KnownCalls, Posting}
 

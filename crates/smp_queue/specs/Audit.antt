@@ -4,7 +4,7 @@ use Rattle.smp_mask.specs.Mask.{has}
 use Rattle.smp_words.specs.Size.{cpus, records}
 use Rattle.smp_call_steps.specs.Calls.{CallState}
 use Rattle.smp_call_steps.specs.Histories.{sent_to, calls_from, marked_from, batches_marked, orders}
-use Rattle.smp_call_steps.specs.Known.{Sees, fresh}
+use Rattle.smp_call_steps.specs.Threads.Known.{Sees, fresh}
 use Rattle.smp_call_steps.specs.Reached.{IsReached}
 use Rattle.smp_call_steps.specs.Shows.{Shows}
 use Rattle.smp_call_steps.specs.Stages.{ControlValue}

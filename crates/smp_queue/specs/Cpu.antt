@@ -11,11 +11,11 @@ use Rattle.smp_call_steps.specs.Histories.{sent_to, calls_from}
 use Rattle.smp_call_steps.specs.Places.{IsCall}
 use Rattle.smp_call_steps.specs.Stands.{posted}
 use Rattle.smp_call_steps.specs.Calls.{CallState, no_calls}
-use Rattle.smp_call_steps.specs.Parts.{part_of, part_confirmed, part_sent, part_queued}
+use Rattle.smp_call_steps.specs.Threads.Parts.{part_of, part_confirmed, part_sent, part_queued}
 use Rattle.smp_queue.specs.Names.{Class, KnownCalls, CallPart, Posting, Logged, DirectCall, HeadSeen, CallSetting}
 use Rattle.smp_queue.specs.Names.logged
-use Rattle.smp_call_steps.specs.Known.{posting_of}
-use Rattle.smp_call_steps.specs.Heads.{Found, last_found, times_lost, heads_with, heads_won, AreOthers}
+use Rattle.smp_call_steps.specs.Threads.Known.{posting_of}
+use Rattle.smp_call_steps.specs.Threads.Heads.{Found, last_found, times_lost, heads_with, heads_won, AreOthers}
 use Rattle.smp_queue.specs.Seat.{SeatValue}
 
 -- a table: its name, how many CPUs it has, and those online

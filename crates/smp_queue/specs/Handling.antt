@@ -5,7 +5,7 @@ use Rattle.smp_words.specs.Size.{cpus, owner}
 use Rattle.smp_call_steps.specs.Order.{order}
 use Rattle.smp_queue.specs.Names.{Call, KnownCalls, Nothing, Heard}
 use Rattle.smp_call_steps.specs.Histories.{calls_from}
-use Rattle.smp_call_steps.specs.Parts.{part_accepted, part_taken}
+use Rattle.smp_call_steps.specs.Threads.Parts.{part_accepted, part_taken}
 use Rattle.smp_queue.specs.Cpu.{CpuValue}
 
 abbrev pub heard : ℕ → ℕ → ℕ → Heard

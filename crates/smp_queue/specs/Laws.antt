@@ -6,8 +6,8 @@ use Rattle.smp_words.specs.Size.{cpus, owner, records}
 use Rattle.smp_call_steps.specs.Calls.{CallState, no_calls}
 use Rattle.smp_call_steps.specs.Counts.{ConfirmedCallsRan}
 use Rattle.smp_call_steps.specs.HaveRun.{ConfirmedSyncCallsEnded, HasRunAt}
-use Rattle.smp_call_steps.specs.Known.{told_stage}
-use Rattle.smp_call_steps.specs.Parts.{part_of}
+use Rattle.smp_call_steps.specs.Threads.Known.{told_stage}
+use Rattle.smp_call_steps.specs.Threads.Parts.{part_of}
 use Rattle.smp_call_steps.specs.Reached.{IsReached}
 use Rattle.smp_call_steps.specs.Shows.{Shows}
 use Rattle.smp_call_steps.specs.Stages.{ControlValue}

@@ -1,7 +1,7 @@
 -- What each kind of access tells: what the CPU knows after it, which is its part of some calls that some words show.
 use Rattle.std.specs.Prelude.{◌≡◌, ℕ, ◌==◌, if◌then◌else◌, Some, None}
 use Rattle.atomic_table.specs.Table.{Me, Step}
-use Rattle.smp_call_steps.specs.Known.{known_told, known_taking, CallMoment}
+use Rattle.smp_call_steps.specs.Threads.Known.{known_told, known_taking, CallMoment}
 use Rattle.smp_queue.specs.Names.{Word, CallSeatView, Cpu, KnownCalls}
 use Rattle.smp_queue.specs.Names.act
 use Rattle.smp_queue.specs.Cells.{cell_of}

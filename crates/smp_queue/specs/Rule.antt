@@ -9,7 +9,7 @@ use Rattle.smp_call_steps.specs.Calls.{CallState}
 use Rattle.smp_call_steps.specs.Stages.{ControlValue}
 use Rattle.smp_call_steps.specs.Reached.{IsReached}
 use Rattle.smp_call_steps.specs.Shows.{Shows}
-use Rattle.smp_call_steps.specs.Known.{Sees, Lives, fresh, noted_known}
+use Rattle.smp_call_steps.specs.Threads.Known.{Sees, Lives, fresh, noted_known}
 use Rattle.smp_queue.specs.Names.{Word, Head, Intr, KnownCalls, CallSetting, CallSeatView, Maker, New, Cpu}
 use Rattle.smp_queue.specs.Cells.{cells, number_in}
 

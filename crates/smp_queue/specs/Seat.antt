@@ -7,7 +7,7 @@ use Rattle.smp_words.specs.Size.{cpus, records, owner}
 use Rattle.smp_call_steps.specs.Places.{IsCall}
 use Rattle.smp_call_steps.specs.Histories.{sent_to}
 use Rattle.smp_call_steps.specs.Stands.{posted}
-use Rattle.smp_call_steps.specs.Known.{MayStep, known_access, posting_of, known_told, Lives, CallMoment}
+use Rattle.smp_call_steps.specs.Threads.Known.{MayStep, known_access, posting_of, known_told, Lives, CallMoment}
 use Rattle.smp_queue.specs.Names.{Word, Access, Store, KnownCalls, Posting, HandleStage, Stage, Post, Handle, CallSeatView, Maker}
 use Rattle.smp_queue.specs.Names.{Head, Intr, Swap, Exchange, CallSetting}
 use Rattle.smp_queue.specs.Names.post

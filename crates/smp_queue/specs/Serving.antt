@@ -6,10 +6,10 @@ use Rattle.smp_words.specs.Size.{cpus, records}
 use Rattle.smp_call_steps.specs.declared.known.Running.{Running}
 use Rattle.smp_call_steps.specs.declared.known.Running.TheVariants.{SyncCall, AsyncCall}
 use Rattle.smp_call_steps.specs.Drains.{first_on, second_on}
-use Rattle.smp_call_steps.specs.Handling.{runs_next}
+use Rattle.smp_call_steps.specs.Threads.Handling.{runs_next}
 use Rattle.smp_call_steps.specs.Histories.{sent_to}
-use Rattle.smp_call_steps.specs.Known.{Lives}
-use Rattle.smp_call_steps.specs.Parts.{part_taken, part_ended}
+use Rattle.smp_call_steps.specs.Threads.Known.{Lives}
+use Rattle.smp_call_steps.specs.Threads.Parts.{part_taken, part_ended}
 use Rattle.smp_queue.specs.Names.{Call, Class, Sync, Async, Word, Hand, Flags, KnownCalls, HandleStage, Handle, Nothing, Heard}
 use Rattle.smp_queue.specs.Names.handle
 use Rattle.smp_queue.specs.Rule.{SeatInvariant}

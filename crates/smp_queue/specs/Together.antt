@@ -4,7 +4,7 @@ use Rattle.atomic_table.specs.Table.{Me}
 use Rattle.atomic_table.specs.Seated.{TableId}
 use Rattle.smp_call_steps.specs.Calls.{CallState}
 use Rattle.smp_call_steps.specs.Histories.{calls_from, calls_to, running_call}
-use Rattle.smp_call_steps.specs.Known.{Sees}
+use Rattle.smp_call_steps.specs.Threads.Known.{Sees}
 use Rattle.smp_call_steps.specs.Order.{IsPrefix, of_class}
 use Rattle.smp_call_steps.specs.Reached.{IsReached}
 use Rattle.smp_call_steps.specs.Shows.{Shows}

@@ -3,7 +3,7 @@
 ghost use Rattle.std.specs.Prelude.{◌≡◌, ◌<◌, true, length};
 ghost use Rattle.smp_mask.specs.Mask.{has};
 ghost use Rattle.smp_words.specs.Size.{cpus, records};
-ghost use Rattle.smp_call_steps.specs.Known.{fresh};
+ghost use Rattle.smp_call_steps.specs.Threads.Known.{fresh};
 ghost use Rattle.smp_queue.specs.Cpu.{cpu_of};
 
 use crate::seat::CallSeat;

@@ -8,8 +8,8 @@ ghost use Rattle.std.specs.Prelude.{◌≡◌, ◌<◌, true, false, None, List,
 ghost use Rattle.smp_words.specs.Size.{cpus};
 ghost use Rattle.smp_call_steps.specs.Order.{order};
 ghost use Rattle.smp_call_steps.specs.Drains.{reverse_on};
-ghost use Rattle.smp_call_steps.specs.Known.{Lives};
-ghost use Rattle.smp_call_steps.specs.Handling.{handling, accepted_known, taken_known, left_known, IsLeaving};
+ghost use Rattle.smp_call_steps.specs.Threads.Known.{Lives};
+ghost use Rattle.smp_call_steps.specs.Threads.Handling.{handling, accepted_known, taken_known, left_known, IsLeaving};
 ghost use Rattle.smp_words.specs.declared.call.Call.{Call};
 ghost use Rattle.smp_call_steps.specs.declared.handle.HandleStage.{HandleStage};
 ghost use Rattle.smp_call_steps.specs.declared.handle.HandleStage.TheVariants as handle;

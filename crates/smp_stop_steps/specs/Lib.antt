@@ -53,10 +53,8 @@ pub mod Touches
 pub mod StepLaws
 pub mod KnownLaws
 pub mod Kept
--- what a CPU knows
-pub mod Known
-pub mod KnownAfter
-pub mod Moves
+-- what a CPU knows over threads
+pub mod Threads
 pub mod Reached
 pub mod Weights
 -- all of it by one name, for proofs
@@ -98,6 +96,6 @@ unfoldable pub use Start.*
 unfoldable pub use Refusals.*
 unfoldable pub use StepLaws.*
 unfoldable pub use Kept.*
-unfoldable pub use Known.*
-unfoldable pub use KnownAfter.*
+unfoldable pub use Threads.Known.*
+unfoldable pub use Threads.KnownAfter.*
 unfoldable pub use Weights.*

@@ -1,8 +1,8 @@
 -- The states of the stops to which steps lead that CPUs may make, where at first no stop was begun.
 use Rattle.std.specs.Prelude.{◌≡◌, ℕ, true, None, List, [], ◌∷◌}
 use Rattle.smp_stop_steps.specs.Names.{has, word_of, at_after, seen_of, Access, Seen, Word}
-use Rattle.smp_stop_steps.specs.Known.{KnownStops, Sees, AreTold, setup_in}
-use Rattle.smp_stop_steps.specs.Moves.{Move, MayStep, known_access}
+use Rattle.smp_stop_steps.specs.Threads.Known.{KnownStops, Sees, AreTold, setup_in}
+use Rattle.smp_stop_steps.specs.Threads.Moves.{Move, MayStep, known_access}
 use Rattle.smp_stop_steps.specs.{Premises.MaySee, Seats.StopRole, Seats.Free, Shows.StopShows, Sources.Source, Sources.Shut, State.Setup, State.StopState}
 use Rattle.smp_stop_steps.specs.State.{no_stops}
 

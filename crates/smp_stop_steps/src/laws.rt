@@ -215,7 +215,7 @@ pub fn words_have_numbers()
     ensures { WordsHaveNumbers }
 {}
 
-ghost use Rattle.smp_stop_steps.specs.Moves.{NothingIsKnown, MovesAreKnown};
+ghost use Rattle.smp_stop_steps.specs.Threads.Moves.{NothingIsKnown, MovesAreKnown};
 
 /// A CPU that has done nothing knows its part of the state in which nothing was begun.
 pub fn nothing_is_known()

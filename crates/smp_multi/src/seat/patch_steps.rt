@@ -2,9 +2,9 @@
 //! them. No other page can make them.
 
 ghost use Rattle.std.specs.Prelude.{◌≡◌, [], length};
-ghost use Rattle.smp_stop_steps.specs.Known.{carrying, stepped};
+ghost use Rattle.smp_stop_steps.specs.Threads.Known.{carrying, stepped};
 ghost use Rattle.smp_multi.specs.Lives.{Lives};
-ghost use Rattle.smp_stop_steps.specs.KnownAfter.{acked_by};
+ghost use Rattle.smp_stop_steps.specs.Threads.KnownAfter.{acked_by};
 ghost use Rattle.smp_stop_steps.specs.Labels.{patch_answer};
 ghost use Rattle.smp_stop_steps.specs.Stages.{label_word};
 ghost use Rattle.smp_multi.specs.Patches.{AtPatch, count_in, made_in, rest_in, stored_all};

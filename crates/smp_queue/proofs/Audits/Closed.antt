@@ -8,8 +8,8 @@ use Rattle.atomic_table.specs.Table.{State}
 use Rattle.smp_words.specs.Size.{cpus, records}
 use Rattle.smp_call_steps.specs.Calls.{no_calls}
 use Rattle.smp_call_steps.specs.Histories.{sent_to, calls_from}
-use Rattle.smp_call_steps.specs.Known.{told_stage}
-use Rattle.smp_call_steps.specs.Parts.{part_of}
+use Rattle.smp_call_steps.specs.Threads.Known.{told_stage}
+use Rattle.smp_call_steps.specs.Threads.Parts.{part_of}
 use Rattle.smp_queue.specs.{Hand, Queued, Ran, Flags, KnownCalls, CallPart, CallSetting, CallSeatView, Left, Closes}
 use Rattle.smp_queue.specs.{ClosesWith, AuditAnswers, HaveRun, IfDrained}
 use Rattle.smp_queue.specs.{AreEqual, HasRowsOf, HasZerosFrom, has_lock, has_hand, left_in, nothing_left, number_in, TableValue, CpuValue, setting_of, cpu_of}

@@ -10,8 +10,8 @@ use Rattle.smp_call_steps.specs.Words.{IsEmpty, IsNoticed, is_pending, is_accept
 use Rattle.smp_queue.proofs.Empty.{not_pending}
 use Rattle.smp_call_steps.specs.HaveRun.{HasRunAt}
 use Rattle.smp_mask.specs.Mask.{has}
-use Rattle.smp_call_steps.specs.Known.{Lives}
-use Rattle.smp_call_steps.specs.Parts.{row, part_of}
+use Rattle.smp_call_steps.specs.Threads.Known.{Lives}
+use Rattle.smp_call_steps.specs.Threads.Parts.{row, part_of}
 use Rattle.smp_call_steps.proofs.Basics.Alls.{every}
 use Rattle.smp_call_steps.proofs.Basics.Rows.{row-at}
 use Rattle.smp_call_steps.proofs.State.Batches.{no_chain}

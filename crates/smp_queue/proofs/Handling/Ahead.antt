@@ -4,7 +4,7 @@ use Rattle.std.proofs.Common.{◌≡◌, ◌≢◌, ℕ, suc, ◌+◌, ◌==◌,
 use Rattle.std.proofs.Common.{append_assoc}
 use Rattle.atomic_table.specs.Seated.{TableId}
 use Rattle.smp_call_steps.specs.Drains.{DrainValue, link_to, record_at}
-use Rattle.smp_call_steps.specs.Known.{CallMoment}
+use Rattle.smp_call_steps.specs.Threads.Known.{CallMoment}
 use Rattle.smp_call_steps.specs.Places.{IsApart}
 use Rattle.smp_call_steps.specs.Stands.{Share, Walks}
 use Rattle.smp_call_steps.specs.Words.{Path, last_batch, nexts_in}

@@ -8,9 +8,9 @@ use Rattle.smp_queue.specs.Serving.{IsAt, takes}
 use Rattle.smp_queue.specs.declared.run.Place.{Place}
 use Rattle.smp_call_steps.specs.Words.{last_batch}
 use Rattle.smp_call_steps.specs.Drains.{first_on}
-use Rattle.smp_call_steps.specs.Parts.{part_taken}
-use Rattle.smp_call_steps.specs.Known.{known_told, Lives}
-use Rattle.smp_call_steps.specs.Handling.{handling, accepted_known, taken_known, IsLeaving}
+use Rattle.smp_call_steps.specs.Threads.Parts.{part_taken}
+use Rattle.smp_call_steps.specs.Threads.Known.{known_told, Lives}
+use Rattle.smp_call_steps.specs.Threads.Handling.{handling, accepted_known, taken_known, IsLeaving}
 use Rattle.smp_call_steps.proofs.Knows.Handling.{lives_stands, entered_is}
 use Rattle.smp_call_steps.proofs.Steps.Taking.{last_batch-push}
 use Rattle.smp_queue.proofs.TheRule.Cells.{has_cell}

@@ -5,8 +5,8 @@ use Rattle.smp_words.specs.Access.{word_of}
 use Rattle.smp_call_steps.specs.Drains.{record_at, unlink_after, handle_outcome, by_class, FitsFound, reverse_on, first_on}
 use Rattle.smp_words.specs.Flags.{class_of}
 use Rattle.smp_queue.specs.{Sync, Word, Flags, Func, Info, Next, KnownCalls, Walk, HandleStage, Stage, Handle, SeatValue, Loads, InHandle}
-use Rattle.smp_call_steps.specs.Known.{known_access, CallMoment}
-use Rattle.smp_call_steps.specs.Handling.{goes_known}
+use Rattle.smp_call_steps.specs.Threads.Known.{known_access, CallMoment}
+use Rattle.smp_call_steps.specs.Threads.Handling.{goes_known}
 use Rattle.smp_call_steps.proofs.Knows.Handling.{lives_fits, next_found_is, func_found_is, info_found_is, flags_found_is, lives_locked}
 use Rattle.smp_queue.proofs.Handling.Handles.{in_handle_then}
 use Rattle.smp_queue.specs.handle

@@ -2,7 +2,7 @@
 use Rattle.std.proofs.Common.{arith, ◌≡◌, Some, refl, ap, ◌∙◌, subst}
 use Rattle.atomic_table.specs.Seated.{TableId}
 use Rattle.smp_words.specs.Access.{word_of}
-use Rattle.smp_call_steps.specs.Known.{known_access, Lives}
+use Rattle.smp_call_steps.specs.Threads.Known.{known_access, Lives}
 use Rattle.smp_call_steps.proofs.Knows.Handling.{lives_aims, lives_in_table}
 use Rattle.smp_queue.specs.{Access, KnownCalls, HandleStage, Handle, CallSetting, cells, HasCell, SeatValue, MayAccess, Ready}
 use Rattle.smp_queue.specs.{Reaches, InHandle, IsApartFromCalls}

@@ -7,7 +7,7 @@ use Rattle.smp_words.specs.Flags.{flags_of}
 use Rattle.smp_call_steps.specs.declared.known.Running.{Running}
 use Rattle.smp_call_steps.specs.declared.known.Running.TheVariants.{SyncCall}
 use Rattle.smp_call_steps.specs.Drains.{first_on}
-use Rattle.smp_call_steps.specs.Handling.{ended_call, begun_sync, begun_async, runs_next}
+use Rattle.smp_call_steps.specs.Threads.Handling.{ended_call, begun_sync, begun_async, runs_next}
 use Rattle.smp_call_steps.specs.Histories.{sent_to, calls_from}
 use Rattle.smp_call_steps.specs.Places.{locked_by}
 use Rattle.smp_call_steps.specs.Words.{IsWrittenIn}

@@ -7,9 +7,9 @@ use Rattle.std.proofs.lemmas.Fn.{FoldsTo-push}
 use Rattle.atomic_table.specs.Seated.{TableId}
 use Rattle.smp_words.specs.Size.{records, owner}
 use Rattle.smp_call_steps.specs.Histories.{calls_from, counted_call}
-use Rattle.smp_call_steps.specs.Known.{ran_tally}
+use Rattle.smp_call_steps.specs.Threads.Known.{ran_tally}
 use Rattle.smp_call_steps.specs.Order.{order}
-use Rattle.smp_call_steps.specs.Handling.{ended_call}
+use Rattle.smp_call_steps.specs.Threads.Handling.{ended_call}
 use Rattle.smp_queue.specs.{Call, KnownCalls, Nothing, Heard, CpuValue, cpu_of, SeatValue, heard_of, AreRan, Grows, asks, drains}
 use Rattle.smp_queue.specs.Serving.{Gives, IsAt, HasRunCall, HasRunAll, has_run, takes, serves, ends, goes_from}
 use Rattle.smp_queue.specs.declared.run.Place.{Place}

@@ -1,9 +1,9 @@
 -- A CPU that tries to append a call: what it knows between two tries.
 use Rattle.std.proofs.Common.{◌≡◌, ◌≢◌, ℕ, ◌==◌, Some, refl, ap, ◌∙◌, arith}
 use Rattle.atomic_table.specs.Seated.{TableId}
-use Rattle.smp_call_steps.specs.Heads.{Found, by_load, by_exchange, last_found, AreOthers}
+use Rattle.smp_call_steps.specs.Threads.Heads.{Found, by_load, by_exchange, last_found, AreOthers}
 use Rattle.smp_call_steps.specs.Stands.{posted}
-use Rattle.smp_call_steps.specs.Known.{standing, queued_known, outside_known, looked_known, lost_one, stepped, lost_tries}
+use Rattle.smp_call_steps.specs.Threads.Known.{standing, queued_known, outside_known, looked_known, lost_one, stepped, lost_tries}
 use Rattle.smp_queue.specs.{KnownCalls, Posting, Post, GivesUp, SeatValue, IsMine, IsCounting, IsTallied, counted}
 use Rattle.smp_queue.specs.Appends.{Appends}
 use Rattle.smp_queue.proofs.Posts.Ready.{mine_moved}

@@ -7,8 +7,8 @@ use Rattle.smp_mask.specs.Mask.{has}
 use Rattle.smp_words.specs.Size.{cpus, records}
 use Rattle.smp_call_steps.specs.Stands.{posted}
 use Rattle.smp_call_steps.specs.Histories.{Marked, mark, sent_to, calls_from}
-use Rattle.smp_call_steps.specs.Heads.{Found, last_found}
-use Rattle.smp_call_steps.specs.Known.{fresh, queued_known, lost_tries, standing, stepped}
+use Rattle.smp_call_steps.specs.Threads.Heads.{Found, last_found}
+use Rattle.smp_call_steps.specs.Threads.Known.{fresh, queued_known, lost_tries, standing, stepped}
 use Rattle.smp_call_steps.proofs.Basics.Lists.{sent_to-push, one_if-same, one_if-other}
 use Rattle.smp_call_steps.proofs.Basics.Rows.{length-row}
 use Rattle.smp_words.proofs.Zeros.{get_or-same}

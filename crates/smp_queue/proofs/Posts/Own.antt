@@ -6,8 +6,8 @@ use Rattle.atomic_table.specs.Seated.{TableId}
 use Rattle.smp_call_steps.proofs.Machine.Starts.{then_none, not_false}
 use Rattle.smp_words.specs.Size.{cpus, records_of_one, record_of}
 use Rattle.smp_call_steps.specs.Start.{command_refusal}
-use Rattle.smp_call_steps.specs.Heads.{Found}
-use Rattle.smp_call_steps.specs.Known.{posting_of, standing, stepped, confirmed_known}
+use Rattle.smp_call_steps.specs.Threads.Heads.{Found}
+use Rattle.smp_call_steps.specs.Threads.Known.{posting_of, standing, stepped, confirmed_known}
 use Rattle.smp_words.proofs.Sizes.{owner-of_record, record_of-below}
 use Rattle.smp_queue.specs.{Class, KnownCalls, Posting, cells, SeatValue, OwnsRecord, IsMine, uncounted, GivesUp, CpuValue, IsKept, MayQueue, cpu_of}
 use Rattle.smp_queue.specs.{confirms, looks}

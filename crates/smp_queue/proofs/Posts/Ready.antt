@@ -4,7 +4,7 @@ use Rattle.atomic_table.specs.Seated.{TableId}
 use Rattle.smp_words.specs.Size.{cpus}
 use Rattle.smp_words.specs.Access.{word_of}
 use Rattle.smp_call_steps.specs.Stands.{PostGoes}
-use Rattle.smp_call_steps.specs.Known.{IsLockable, told_post, known_access, posting_of}
+use Rattle.smp_call_steps.specs.Threads.Known.{IsLockable, told_post, known_access, posting_of}
 use Rattle.smp_words.proofs.Links.{IsInTable}
 use Rattle.smp_mask.specs.Mask.{has}
 use Rattle.smp_queue.specs.{Flags, CallSetting, Reaches, Access, Load, KnownCalls, Posting, PostStage, Done, Post, SeatValue, Ready, OwnsRecord, IsMine}

@@ -2,8 +2,8 @@
 use Rattle.std.proofs.Common.{arith, ◌≡◌, ℕ, Bool}
 use Rattle.smp_words.specs.Size.{record_of}
 use Rattle.smp_call_steps.specs.Calls.{CallState}
-use Rattle.smp_call_steps.specs.Heads.{Found}
-use Rattle.smp_call_steps.specs.Known.{standing, stepped, Lives}
+use Rattle.smp_call_steps.specs.Threads.Heads.{Found}
+use Rattle.smp_call_steps.specs.Threads.Known.{standing, stepped, Lives}
 use Rattle.smp_call_steps.proofs.Basics.Lists.{sent_to-push, one_if-same}
 use Rattle.smp_call_steps.proofs.Knows.Restages.{free_outside}
 use Rattle.smp_queue.specs.{Class, KnownCalls, Posting, GivesUp, CpuValue, MayQueue, cpu_of, posts, ShowsThat, IsFree, call_by, IsMarked, SeatValue, uncounted}

@@ -19,7 +19,7 @@ use Rattle.smp_call_steps.specs.Stages.{ControlValue}
 use Rattle.smp_call_steps.specs.Value.{outside}
 use Rattle.smp_call_steps.specs.Reached.{IsReached}
 use Rattle.smp_call_steps.specs.Shows.{Shows}
-use Rattle.smp_call_steps.specs.Known.{Sees, fresh, known_told, known_taking, noted_known, GoesOn}
+use Rattle.smp_call_steps.specs.Threads.Known.{Sees, fresh, known_told, known_taking, noted_known, GoesOn}
 use Rattle.smp_call_steps.proofs.Knows.OneStep.{known_step}
 use Rattle.smp_call_steps.proofs.Knows.Reached.{nothing_reached}
 use Rattle.smp_call_steps.proofs.Machine.Starts.{zeros_shown}

@@ -12,7 +12,7 @@ use Rattle.smp_words.specs.Limits.{AreLimits}
 use Rattle.smp_queue.specs.{cells, TableValue, CpuValue, fresh_cpu, table_with, AreWaiting, CallSetting, CallSeatView, HasComeTo, next_online}
 use Rattle.smp_words.specs.Size.{cpus, records, records_of_one, record_of}
 use Rattle.smp_words.proofs.Sizes.{record_of-below}
-use Rattle.smp_call_steps.specs.Parts.{row}
+use Rattle.smp_call_steps.specs.Threads.Parts.{row}
 use Rattle.smp_call_steps.proofs.Basics.Rows.{row-at}
 use Rattle.smp_queue.specs.Cpu.{confirmed_at}
 use Rattle.smp_queue.proofs.TheRule.Keeps.{next_is}

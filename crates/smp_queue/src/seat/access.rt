@@ -6,7 +6,7 @@
 
 ghost use Rattle.std.specs.Prelude.{◌≡◌, ◌+◌, ◌<◌, ◌==◌, true, if◌then◌else◌, IfOk, Some, None};
 ghost use Rattle.std.specs.Mem.Slots.{slots_items, slots_len, IsFull};
-ghost use Rattle.smp_call_steps.specs.Known.{known_told, known_taking, noted_known, fresh, CallMoment, Lives};
+ghost use Rattle.smp_call_steps.specs.Threads.Known.{known_told, known_taking, noted_known, fresh, CallMoment, Lives};
 ghost use Rattle.smp_words.specs.declared.access.Access.TheVariants as access;
 ghost use Rattle.smp_words.specs.declared.seen.Act.TheVariants as act;
 ghost use Rattle.smp_queue.specs.declared.seat_view.CallSeatView.TheVariants.{Maker};

@@ -10,8 +10,8 @@
 ghost use Rattle.std.specs.Prelude.{◌≡◌, ◌+◌, ◌%◌, ◌^◌, ◌<◌, Some, None, length, slice_index_or, slice_set};
 ghost use Rattle.smp_words.specs.Size.{owner, records};
 ghost use Rattle.smp_call_steps.specs.Drains.{first_on, second_on};
-ghost use Rattle.smp_call_steps.specs.Known.{ran_tally};
-ghost use Rattle.smp_call_steps.specs.Handling.{begun_sync, counted_sync, begun_async, ended_call};
+ghost use Rattle.smp_call_steps.specs.Threads.Known.{ran_tally};
+ghost use Rattle.smp_call_steps.specs.Threads.Handling.{begun_sync, counted_sync, begun_async, ended_call};
 ghost use Rattle.smp_words.specs.declared.word.Word.TheVariants.{Hand, Ran, Flags};
 ghost use Rattle.smp_call_steps.specs.declared.handle.HandleStage.TheVariants as handle;
 ghost use Rattle.smp_queue.specs.Seat.{InHandle};

@@ -6,7 +6,7 @@ use Rattle.smp_stop_steps.specs.{put, put_word, cpus, IsCalling, answer_in, with
 use Rattle.smp_stop_steps.specs.{StopShows, Source, Setup, Field}
 use Rattle.smp_stop_steps.specs.{StopState, Calling, Idle, Standing, told, stored_open, stored_shut, completes, completes_with, told_calling, Sees, GoesOnBy}
 use Rattle.smp_stop_steps.specs.{Act, columns_of, AreFirst, setup_in, is_drafting, drafted_known, slot_stored, member_stored, given_by, completed_by}
-use Rattle.smp_stop_steps.specs.{completed_with, Work, Word, Slot, Known.AreTold, Known.KnownStops, Moves.IsThrough}
+use Rattle.smp_stop_steps.specs.{completed_with, Work, Word, Slot, Threads.Known.AreTold, Threads.Known.KnownStops, Threads.Moves.IsThrough}
 use Rattle.smp_stop_steps.proofs.Steps.Completions.{result_stored, todo_subtracted, todo_subtracted_answered, done_stored}
 use Rattle.smp_stop_steps.proofs.Knows.Parts.{Leaves, first_put, goes_seat, seen_by, told_so}
 use Rattle.smp_stop_steps.proofs.{Steps.Callings.answer_replaced, Steps.Callings.calling_given, Steps.Facts.todo_bounds, Steps.Facts.todo_bounds_answered}

@@ -9,7 +9,7 @@ use Rattle.smp_stop_steps.specs.{ReadSite, count_set, StopRole, Free, In, Gives,
 use Rattle.smp_stop_steps.specs.{IsNudge, Source, store_of, Setup}
 use Rattle.smp_stop_steps.specs.{StopState, Moved, unmoved, told, is_patch, reads, key_loaded, key_patched, patched_more, patch_begun, plan_at, Sees}
 use Rattle.smp_stop_steps.specs.{GoesOnBy, Act, AreFirst, setup_in, reads_more, key_loaded_by, key_known, key_read_known, counted, learned, Patch, Work, Word}
-use Rattle.smp_stop_steps.specs.{Key, Site, State.Present, Known.KnownStops, Moves.entering}
+use Rattle.smp_stop_steps.specs.{Key, Site, State.Present, Threads.Known.KnownStops, Threads.Moves.entering}
 use Rattle.smp_stop_steps.proofs.Knows.Parts.{Leaves, first_put, goes_seat, goes_still, noted, seen_by, told_so}
 use Rattle.smp_stop_steps.proofs.Steps.Patching.{key_read, site_read, key_loaded_first, key_stored, site_stored, key_exchanged}
 use Rattle.smp_stop_steps.proofs.{Knows.KnownRounds.stands, Knows.KnownRounds.reads_now, Knows.KnownSources.still}

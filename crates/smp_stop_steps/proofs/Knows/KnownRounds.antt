@@ -4,7 +4,7 @@ use Rattle.std.proofs.Common.{subst, refl, ap, ◌∙◌, arith, bit_and}
 use Rattle.smp_words.specs.Access.{one_less}
 use Rattle.smp_words.proofs.Puts.{put_same, put_other}
 use Rattle.smp_stop_steps.specs.{HasCalled, mask_weight, stored_open, stored_shut, columns_of, is_drafting, slot_stored}
-use Rattle.smp_stop_steps.specs.{refilled_by, looked_known, Known.KnownStops}
+use Rattle.smp_stop_steps.specs.{refilled_by, looked_known, Threads.Known.KnownStops}
 use Rattle.smp_stop_steps.specs.{has, put, StopRole, Free, In, Duty, Rests, Fills, Sets, Setup, Calls, told, leaves, Sees, Act}
 use Rattle.smp_stop_steps.specs.{StopPart, Field, Work, Word, Slot}
 use Rattle.smp_stop_steps.specs.{put_word, StopShows, all_but, StopState, StopCall, Standing, with_stop, unpatched, called_by, ran_since, raised_by, read_since}

@@ -6,7 +6,7 @@ use Rattle.smp_words.proofs.Puts.{put_all, put_same, put_other}
 use Rattle.smp_stop_steps.specs.{put, put_word, cpus, StopRole, StopShows, DoneShows, begun_value, order, Source, Shut, Drafts, Owns, Collects, SourceShows}
 use Rattle.smp_stop_steps.specs.{DraftShows, IsDrafted, IsWork, Setup, StopState, Standing, Ending, told, drafted, drafts, opens, stored_open, stored_shut}
 use Rattle.smp_stop_steps.specs.{Sees, GoesOnBy, Act, IsBegun, told_source, told_work, holds_it, setup_in, is_drafting, drafted_known, draft_known, opened_by}
-use Rattle.smp_stop_steps.specs.{slot_stored, gate_known, done_by, done_known, collected_known, Field, One, Work, Word, Gate, Slot, Known.KnownStops}
+use Rattle.smp_stop_steps.specs.{slot_stored, gate_known, done_by, done_known, collected_known, Field, One, Work, Word, Gate, Slot, Threads.Known.KnownStops}
 use Rattle.smp_stop_steps.proofs.Knows.Parts.{Leaves, goes, goes_source, goes_still, noted, seen_by, told_so}
 use Rattle.smp_stop_steps.proofs.Steps.Sources.{gate_taken, gate_opened, field_stored, roll_stored, done_loaded, result_loaded, kind_back, work_ext}
 use Rattle.smp_stop_steps.specs.declared.known.OwnMove.TheVariants as own

@@ -4,10 +4,10 @@ use Rattle.smp_stop_steps.specs.{begun_value, cpus, has, mask_weight, seen_of, S
 use Rattle.smp_stop_steps.specs.{Shut, Drafts, Owns, Collects, Act}
 use Rattle.smp_stop_steps.specs.{Field, Work, acked_by, called_by, completed_by, drafted_known, entered_known, gate_known, is_drafting, key_known}
 use Rattle.smp_stop_steps.specs.{key_loaded_by, learned, is_due, member_stored, opened_by, order, raised_by, slot_known, slot_stored, told_work}
-use Rattle.smp_stop_steps.specs.{Slot, Known.KnownStops, Known.stepped, KnownLaws.KnownStepsCount, KnownLaws.weight_of}
-use Rattle.smp_stop_steps.specs.Moves.{Move, TakeGate, OpenGate, Draft, DraftMore, Open, Enter, Look, Acknowledge, AcknowledgePatch, Refill, Raise, Give, Count}
-use Rattle.smp_stop_steps.specs.Moves.{CountGiven, Close, LookDone, Collect, ReadKey, ReadSite, Nudge, BeginPatch, Alter, LoadArg, LoadField, LoadEntry}
-use Rattle.smp_stop_steps.specs.Moves.{MayStep, known_access}
+use Rattle.smp_stop_steps.specs.{Slot, Threads.Known.KnownStops, Threads.Known.stepped, KnownLaws.KnownStepsCount, KnownLaws.weight_of}
+use Rattle.smp_stop_steps.specs.Threads.Moves.{Move, TakeGate, OpenGate, Draft, DraftMore, Open, Enter, Look, Acknowledge, AcknowledgePatch, Refill, Raise, Give, Count}
+use Rattle.smp_stop_steps.specs.Threads.Moves.{CountGiven, Close, LookDone, Collect, ReadKey, ReadSite, Nudge, BeginPatch, Alter, LoadArg, LoadField, LoadEntry}
+use Rattle.smp_stop_steps.specs.Threads.Moves.{MayStep, known_access}
 use Rattle.smp_labels.specs.declared.patch.Place.TheVariants as place
 
 -- what a step tells has no part in how many there were

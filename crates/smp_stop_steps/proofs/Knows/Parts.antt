@@ -5,7 +5,7 @@ use Rattle.smp_words.proofs.{Puts.at_test, Puts.put_same, Puts.put_other, Zeros.
 use Rattle.smp_stop_steps.specs.{put, cpus, Word, StopPart, StopSetting, fresh, columns_of, AreFirst, AreTold, Columns, IsPart}
 use Rattle.smp_stop_steps.specs.{Sees, GoesOnBy, IsBegun, Act, Seen}
 use Rattle.smp_stop_steps.specs.{Setup, told, told_source, setup_in, StopRole, Free, StopShows, Source, Shut, StopState, no_stops}
-use Rattle.smp_stop_steps.specs.Known.{Attempt, KnownStops, OwnMove, stepped}
+use Rattle.smp_stop_steps.specs.Threads.Known.{Attempt, KnownStops, OwnMove, stepped}
 
 -- the list of a function's first values, with one changed
 pub first_put : {A : Type 0} (n : ℕ) (f : ℕ → A) (d : A) (list : List A) (i : ℕ) (x : A) → AreFirst n f d list → i < n → AreFirst n (put f i x) d (set list

@@ -1,8 +1,8 @@
 -- Stops that are reached: no stop begun, and what one step more leads to.
 use Rattle.std.proofs.Common.{ℕ, List, [], ◌∷◌, ◌++◌, subst, refl, ap}
-use Rattle.smp_stop_steps.specs.{at_after, Access, Free, Shut, StopShows, Setup, StopState, Word, no_stops, Known.AreTold}
+use Rattle.smp_stop_steps.specs.{at_after, Access, Free, Shut, StopShows, Setup, StopState, Word, no_stops, Threads.Known.AreTold}
 use Rattle.smp_stop_steps.specs.Reached.{seen_there, IsAllowed, Lead, IsReached, MovesReach}
-use Rattle.smp_stop_steps.specs.Moves.{known_access}
+use Rattle.smp_stop_steps.specs.Threads.Moves.{known_access}
 use Rattle.smp_stop_steps.proofs.Promises.KnownPremises.{keeps_move_laws}
 
 module _ (u : Setup) (cpu : ℕ) (access : Access) (q next : StopState) (to : Word → ℕ) (may : IsAllowed u q to cpu access)

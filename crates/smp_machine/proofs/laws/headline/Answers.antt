@@ -1,4 +1,4 @@
-use Rattle.smp_stop_steps.specs.Known.{setup_in}
+use Rattle.smp_stop_steps.specs.Threads.Known.{setup_in}
 use Rattle.smp_call_steps.proofs.Headline.{in_one_place, run_once, run_in_order, run_equal_queued}
 use Rattle.smp_stop_steps.proofs.Promises.Headline.{disabled_while, lawful_while}
 use Rattle.smp_stop_steps.proofs.Promises.StopLaws.{keeps_laws}

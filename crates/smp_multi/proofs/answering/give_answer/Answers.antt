@@ -1,7 +1,7 @@
 use Rattle.std.proofs.Common.{◌≡◌, ◌≢◌, ℤ, SFits, w32, rules, ap, sym, subst, ◌∙◌}
 use Rattle.std.proofs.lemmas.Int.{to_z-of_z}
-use Rattle.smp_stop_steps.specs.Known.{carrying, stepped}
-use Rattle.smp_stop_steps.specs.KnownAfter.{completed_with}
+use Rattle.smp_stop_steps.specs.Threads.Known.{carrying, stepped}
+use Rattle.smp_stop_steps.specs.Threads.KnownAfter.{completed_with}
 use Rattle.smp_stop_steps.specs.Start.{answer_word}
 use Rattle.smp_multi.specs.ByValue.{Answered}
 use Rattle.smp_multi.specs.Cpu.{AnsweringValue, cpu_of}

@@ -1,5 +1,5 @@
 use Rattle.std.proofs.Common.{ap, ◌∙◌, cond}
-use Rattle.smp_stop_steps.specs.Known.{stepped}
+use Rattle.smp_stop_steps.specs.Threads.Known.{stepped}
 use Rattle.smp_multi.specs.Names.{KnownStops}
 use Rattle.smp_multi.specs.Places.{entered, missed}
 use Rattle.smp_multi.proofs.enter.enter.Goals as goal

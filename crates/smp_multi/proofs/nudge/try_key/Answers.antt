@@ -2,8 +2,8 @@ use Rattle.std.proofs.Common.{◌≡◌, Some, ap, sym, subst, ◌∙◌, cond}
 use Rattle.smp_labels.specs.Keys.{is_on, count_after}
 use Rattle.smp_labels.specs.declared.keys.Change.{Change}
 use Rattle.smp_multi.specs.Lives.{StopMoment}
-use Rattle.smp_stop_steps.specs.Known.{stepped}
-use Rattle.smp_stop_steps.specs.KnownAfter.{counted}
+use Rattle.smp_stop_steps.specs.Threads.Known.{stepped}
+use Rattle.smp_stop_steps.specs.Threads.KnownAfter.{counted}
 use Rattle.smp_stop_steps.specs.Stages.{nudge_of}
 use Rattle.smp_multi.specs.Names.{Key, KnownStops}
 use Rattle.smp_multi.specs.Nudges.{lost_known}

@@ -1,6 +1,6 @@
 use Rattle.std.proofs.Common.{◌<◌, ap, subst, ◌∙◌}
 use Rattle.smp_labels.specs.declared.words.TheConstants.{MOST_KEYS}
-use Rattle.smp_stop_steps.specs.Known.{stepped}
+use Rattle.smp_stop_steps.specs.Threads.Known.{stepped}
 use Rattle.smp_multi.proofs.Patching.{ready_begin, begin_known, at_patch, patch_alone}
 use Rattle.smp_multi.proofs.patch.begin_patch.Goals as goal
 

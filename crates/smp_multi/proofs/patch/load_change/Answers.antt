@@ -1,6 +1,6 @@
 use Rattle.std.proofs.Common.{ap, ◌∙◌}
 use Rattle.smp_labels.specs.Keys.{change_of}
-use Rattle.smp_stop_steps.specs.Known.{stepped}
+use Rattle.smp_stop_steps.specs.Threads.Known.{stepped}
 use Rattle.smp_words.specs.declared.phase.TheConstants.{RUN}
 use Rattle.smp_multi.specs.Names.{KnownStops, Patch, Rests}
 use Rattle.smp_multi.specs.Places.{work_in}

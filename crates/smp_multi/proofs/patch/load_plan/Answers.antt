@@ -5,7 +5,7 @@ use Rattle.smp_labels.specs.Keys.{is_on}
 use Rattle.smp_labels.specs.Kinds.{kind_of, kind_word}
 use Rattle.smp_labels.specs.Plans.{site_changes}
 use Rattle.smp_labels.specs.declared.patch.Place.TheVariants as place
-use Rattle.smp_stop_steps.specs.Known.{stepped}
+use Rattle.smp_stop_steps.specs.Threads.Known.{stepped}
 use Rattle.smp_multi.specs.Names.{KnownStops}
 use Rattle.smp_multi.specs.Patches.{entries_in}
 use Rattle.smp_multi.specs.StepCounts.{finding, loading}

@@ -2,7 +2,7 @@ use Rattle.std.proofs.Common.{◌≡◌, ◌+◌, ◌≤◌, ◌∷◌, ◌++◌
 use Rattle.smp_labels.specs.declared.patch.Place.TheVariants.{Key}
 use Rattle.smp_labels.specs.Keys.{is_on}
 use Rattle.smp_labels.specs.Plans.{site_changes}
-use Rattle.smp_stop_steps.specs.Known.{stepped}
+use Rattle.smp_stop_steps.specs.Threads.Known.{stepped}
 use Rattle.smp_multi.specs.Lives.{Lives}
 use Rattle.smp_multi.specs.Patches.{entries_in}
 use Rattle.smp_multi.proofs.patch.load_plan.Given as goal

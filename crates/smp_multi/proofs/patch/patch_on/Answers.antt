@@ -5,7 +5,7 @@ use Rattle.std.proofs.lemmas.List.{length-map}
 use Rattle.smp_labels.specs.Entries.{entry_word}
 use Rattle.smp_labels.specs.Keys.{count_after, count_left, count_or}
 use Rattle.smp_labels.specs.declared.keys.Change.{Change}
-use Rattle.smp_stop_steps.specs.Known.{setup_in, stepped}
+use Rattle.smp_stop_steps.specs.Threads.Known.{setup_in, stepped}
 use Rattle.smp_multi.specs.Lives.{StopMoment}
 use Rattle.smp_stop_steps.specs.Labels.{answer_for, count_set, patch_answer}
 use Rattle.smp_stop_steps.specs.Tells.{plan_at}

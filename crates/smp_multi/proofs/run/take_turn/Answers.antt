@@ -1,6 +1,6 @@
 use Rattle.std.proofs.Common.{◌≡◌, ℤ, SFits, w32, rules, subst}
 use Rattle.std.proofs.lemmas.Int.{to_z-of_z}
-use Rattle.smp_stop_steps.specs.Known.{carrying, stepped}
+use Rattle.smp_stop_steps.specs.Threads.Known.{carrying, stepped}
 use Rattle.smp_stop_steps.specs.Start.{answer_word}
 use Rattle.smp_multi.specs.AtCall.{Goes}
 use Rattle.smp_multi.specs.Names.{Multi}

@@ -1,7 +1,7 @@
 use Rattle.std.proofs.Common.{◌≡◌, true, rules, ap, sym, subst, ◌∙◌}
 use Rattle.smp_mask.specs.Mask.{has}
-use Rattle.smp_stop_steps.specs.Known.{stepped}
-use Rattle.smp_stop_steps.specs.KnownAfter.{looked_known}
+use Rattle.smp_stop_steps.specs.Threads.Known.{stepped}
+use Rattle.smp_stop_steps.specs.Threads.KnownAfter.{looked_known}
 use Rattle.smp_words.specs.declared.phase.TheConstants.{DISABLE_IRQ, RUN}
 use Rattle.smp_multi.specs.Names.{Patch}
 use Rattle.smp_multi.specs.Running.{calls_now}

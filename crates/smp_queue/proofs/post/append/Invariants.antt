@@ -1,5 +1,5 @@
 use Rattle.std.proofs.Common.{◌≡◌, ◌≤◌}
-use Rattle.smp_call_steps.specs.Heads.{Found, times_lost}
+use Rattle.smp_call_steps.specs.Threads.Heads.{Found, times_lost}
 use Rattle.smp_queue.proofs.Posts.Appends.{Tries}
 use Rattle.smp_queue.proofs.post.append.Given as goal
 

@@ -1,5 +1,5 @@
 use Rattle.std.proofs.Common.{arith}
-use Rattle.smp_call_steps.specs.Heads.{by_load, by_exchange}
+use Rattle.smp_call_steps.specs.Threads.Heads.{by_load, by_exchange}
 use Rattle.smp_queue.proofs.Posts.Appends.{tries_first, tries_mine, tries_stage, tries_won, tries_lost}
 use Rattle.smp_queue.proofs.post.append_until_won.Goals as goal
 

@@ -1,4 +1,4 @@
-use Rattle.smp_call_steps.specs.Heads.{Found}
+use Rattle.smp_call_steps.specs.Threads.Heads.{Found}
 use Rattle.smp_queue.proofs.Posts.Appends.{Tries}
 use Rattle.smp_queue.proofs.post.append_until_won.Given as goal
 

@@ -1,5 +1,5 @@
 use Rattle.std.proofs.Common.{arith, sym, refl, ap}
-use Rattle.smp_call_steps.specs.Known.{posting_of, stepped}
+use Rattle.smp_call_steps.specs.Threads.Known.{posting_of, stepped}
 use Rattle.smp_call_steps.proofs.Knows.Posted.{locked_known, func_known, info_known}
 use Rattle.smp_queue.proofs.Posts.Ready.{ready_post, mine_moved}
 use Rattle.smp_queue.specs.{Flags, Store}

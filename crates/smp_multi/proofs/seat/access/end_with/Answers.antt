@@ -1,6 +1,6 @@
 use Rattle.std.proofs.Common.{ℕ, arith, ap, subst, sym, ◌∙◌, Some}
-use Rattle.smp_stop_steps.specs.Known.{carrying}
-use Rattle.smp_stop_steps.specs.KnownAfter.{known_told}
+use Rattle.smp_stop_steps.specs.Threads.Known.{carrying}
+use Rattle.smp_stop_steps.specs.Threads.KnownAfter.{known_told}
 use Rattle.smp_words.specs.Access.{one_less}
 use Rattle.smp_multi.specs.Names.{KnownStops, StopSeatView}
 use Rattle.smp_multi.specs.Names.act

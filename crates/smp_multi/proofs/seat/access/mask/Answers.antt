@@ -1,7 +1,7 @@
 use Rattle.std.proofs.Common.{arith, ap, subst, ◌∙◌, ◌≡◌, Some, bit_and}
 use Rattle.smp_multi.specs.Lives.{StopMoment}
-use Rattle.smp_stop_steps.specs.KnownAfter.{known_entering}
-use Rattle.smp_stop_steps.specs.Moves.{entering}
+use Rattle.smp_stop_steps.specs.Threads.KnownAfter.{known_entering}
+use Rattle.smp_stop_steps.specs.Threads.Moves.{entering}
 use Rattle.smp_multi.specs.Names.{KnownStops, StopSeatView}
 use Rattle.smp_multi.specs.Names.act
 use Rattle.smp_multi.specs.Rule.{known}

@@ -1,5 +1,5 @@
 use Rattle.std.proofs.Common.{arith, ap, ◌∙◌, Some, None}
-use Rattle.smp_stop_steps.specs.KnownAfter.{known_told}
+use Rattle.smp_stop_steps.specs.Threads.KnownAfter.{known_told}
 use Rattle.smp_multi.specs.Names.{KnownStops, StopSeatView}
 use Rattle.smp_multi.specs.Names.act
 use Rattle.smp_multi.specs.Rule.{known}

@@ -1,6 +1,6 @@
 use Rattle.std.proofs.Common.{◌<◌, List, None, Some, length, slice_index_or, ap, sym, subst, ◌∙◌}
 use Rattle.smp_labels.specs.declared.patch.Place.TheVariants.{Key}
-use Rattle.smp_stop_steps.specs.KnownAfter.{known_told}
+use Rattle.smp_stop_steps.specs.Threads.KnownAfter.{known_told}
 use Rattle.smp_stop_steps.specs.Labels.{Change}
 use Rattle.smp_multi.specs.Names.{Word, Store}
 use Rattle.smp_multi.specs.Names.act

@@ -1,5 +1,5 @@
 use Rattle.std.proofs.Common.{◌≡◌}
-use Rattle.smp_stop_steps.specs.Known.{stepped}
+use Rattle.smp_stop_steps.specs.Threads.Known.{stepped}
 use Rattle.smp_multi.specs.Lives.{Lives}
 use Rattle.smp_multi.specs.Patches.{stored_to}
 use Rattle.smp_multi.proofs.seat.patch_steps.store_plan.Given as goal

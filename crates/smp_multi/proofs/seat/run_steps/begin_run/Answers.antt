@@ -1,5 +1,5 @@
 use Rattle.std.proofs.Common.{arith, ap, ◌∙◌, sym}
-use Rattle.smp_stop_steps.specs.Known.{stepped}
+use Rattle.smp_stop_steps.specs.Threads.Known.{stepped}
 use Rattle.smp_words.specs.declared.phase.TheConstants.{RUN}
 use Rattle.smp_multi.specs.Names.{KnownStops, Multi, Rests}
 use Rattle.smp_multi.specs.Names.field

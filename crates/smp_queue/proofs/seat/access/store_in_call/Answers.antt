@@ -1,5 +1,5 @@
 use Rattle.std.proofs.Common.{◌≡◌, Some, None, arith, ap, subst, ◌∙◌}
-use Rattle.smp_call_steps.specs.Known.{known_told}
+use Rattle.smp_call_steps.specs.Threads.Known.{known_told}
 use Rattle.smp_queue.specs.{Store, KnownCalls, known}
 use Rattle.smp_queue.specs.act
 use Rattle.smp_queue.proofs.TheRule.Cells.{cell_below}

@@ -1,5 +1,5 @@
 use Rattle.std.proofs.Common.{arith, ap, subst, ◌∙◌, ◌≡◌, Some}
-use Rattle.smp_call_steps.specs.Known.{CallMoment, known_taking}
+use Rattle.smp_call_steps.specs.Threads.Known.{CallMoment, known_taking}
 use Rattle.smp_queue.specs.{Swap, KnownCalls, known}
 use Rattle.smp_queue.proofs.TheRule.Keeps.{swap_allowed, can_same, reach_same}
 use Rattle.smp_queue.proofs.TheRule.Cells.{cell_below}

@@ -1,7 +1,7 @@
 use Rattle.std.proofs.Common.{◌≡◌, ◌∙◌, ◌+◌, ◌%◌, ◌^◌, ℕ, get_or, set, ap, arith}
 use Rattle.smp_words.specs.Size.{owner}
 use Rattle.smp_call_steps.specs.Drains.{first_on}
-use Rattle.smp_call_steps.specs.Handling.{ended_call}
+use Rattle.smp_call_steps.specs.Threads.Handling.{ended_call}
 use Rattle.smp_words.proofs.Sizes.{owner-below}
 use Rattle.smp_call_steps.proofs.Knows.Handling.{lives_stands}
 use Rattle.smp_queue.specs.{KnownCalls}

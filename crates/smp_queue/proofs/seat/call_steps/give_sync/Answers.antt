@@ -1,5 +1,5 @@
 use Rattle.std.proofs.Common.{◌∙◌, ◌∷◌, List, sym, ap}
-use Rattle.smp_call_steps.specs.Handling.{rest_of}
+use Rattle.smp_call_steps.specs.Threads.Handling.{rest_of}
 use Rattle.smp_call_steps.proofs.State.Walks.{walks_sync}
 use Rattle.smp_call_steps.proofs.Knows.Handling.{lives_stands, lives_front}
 use Rattle.smp_queue.specs.{Call, KnownCalls}

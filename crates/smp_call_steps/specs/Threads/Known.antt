@@ -7,7 +7,7 @@ use Rattle.smp_call_steps.specs.Posts.{post_access}
 use Rattle.smp_call_steps.specs.Drains.{DrainValue, no_drain, handle_access, handle_outcome, drain_after, source_at}
 use Rattle.smp_call_steps.specs.Stages.{ControlValue}
 use Rattle.smp_call_steps.specs.Calls.{CallState, Holding, no_calls, tells}
-use Rattle.smp_call_steps.specs.Parts.{CallPart, part_of, part_confirmed, part_queued, part_after, number_or_zero}
+use Rattle.smp_call_steps.specs.Threads.Parts.{CallPart, part_of, part_confirmed, part_queued, part_after, number_or_zero}
 use Rattle.smp_call_steps.specs.Places.{IsCall}
 use Rattle.smp_call_steps.specs.Histories.{sent_to, calls_from, one_held, counted_call}
 use Rattle.smp_call_steps.specs.Stands.{held_of, held_of_post, posted, PostGoes}
@@ -20,7 +20,7 @@ use Rattle.smp_call_steps.specs.Names.post
 use Rattle.smp_call_steps.specs.Names.handle
 use Rattle.smp_call_steps.specs.Names.logged
 use Rattle.smp_call_steps.specs.Names.head
-use Rattle.smp_call_steps.specs.Heads.{Found, times_lost, heads_with}
+use Rattle.smp_call_steps.specs.Threads.Heads.{Found, times_lost, heads_with}
 use Rattle.smp_call_steps.specs.declared.known.KnownCalls.{KnownCalls}
 use Rattle.smp_call_steps.specs.declared.known.CallSetting.{CallSetting}
 

@@ -1,7 +1,7 @@
 -- What a CPU knows inside handle, after each of its steps.
 use Rattle.std.specs.Prelude.{ℕ, Bool, if◌then◌else◌, Option, Some, None, List, [], ◌∷◌}
 use Rattle.smp_call_steps.specs.Calls.{Running, SyncCall, AsyncCall}
-use Rattle.smp_call_steps.specs.Parts.{CallPart, part_accepted, part_taken, part_counted, part_ended}
+use Rattle.smp_call_steps.specs.Threads.Parts.{CallPart, part_accepted, part_taken, part_counted, part_ended}
 use Rattle.smp_call_steps.specs.Drains.{DrainValue, no_drain, reverse_on, handle_outcome, drain_after}
 use Rattle.smp_call_steps.specs.Names.{Call, Walk, HandleStage, Handle}
 use Rattle.smp_call_steps.specs.Names.handle

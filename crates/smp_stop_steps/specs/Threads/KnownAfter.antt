@@ -1,7 +1,7 @@
 -- What a CPU knows after a step of its own, as the step tells it.
 use Rattle.std.specs.Prelude.{ℕ, ◌+◌, Bool, true, false, ◌==◌, ◌&&◌, ◌||◌, not, cond, Option, Some, None, List, [], ◌∷◌, ◌++◌, slice_index_or, slice_set}
 use Rattle.smp_stop_steps.specs.Names.{has, is_on, Act, Field, One, Work, Word, Gate, Slot, Key, Site, DISABLE_IRQ, RUN, EXIT, OVER}
-use Rattle.smp_stop_steps.specs.Known.{KnownStops, StopPart, setup_in, noting, attempting, stepped}
+use Rattle.smp_stop_steps.specs.Threads.Known.{KnownStops, StopPart, setup_in, noting, attempting, stepped}
 use Rattle.smp_stop_steps.specs.Seats.{StopRole, Free, In, Gives, Alters, Closes, Rests, Fills, Sets}
 use Rattle.smp_stop_steps.specs.Tells.{carried_call, may_call, drafted, first_readings, is_one, is_patch, calls_at_run, plan_at}
 use Rattle.smp_stop_steps.specs.{KeyCounts.moves, Labels.Reading, Labels.ReadKey, Labels.ReadSite, Stop.Inside, Sources.Source, Sources.Shut, Sources.Drafts}

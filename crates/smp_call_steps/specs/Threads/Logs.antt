@@ -3,7 +3,7 @@ use Rattle.std.specs.Prelude.{◌≡◌, ℕ, ◌+◌, ◌≤◌, true, Option, 
 use Rattle.smp_words.specs.Put.{put}
 use Rattle.smp_words.specs.Access.{word_of, seen_of}
 use Rattle.smp_call_steps.specs.Calls.{CallState, tells}
-use Rattle.smp_call_steps.specs.Known.{Sees, MayStep, known_access, known_tells}
+use Rattle.smp_call_steps.specs.Threads.Known.{Sees, MayStep, known_access, known_tells}
 use Rattle.smp_call_steps.specs.Shows.{Shows}
 use Rattle.smp_call_steps.specs.Stages.{ControlValue}
 use Rattle.smp_call_steps.specs.Names.{Call, Word, Head, Access, Load, Exchange, Stage, Handle, Logged, HeadSeen}
