@@ -1,4 +1,4 @@
-use Rattle.std.proofs.Common.{rules, ◌≡◌, ℕ, suc, ◌*◌, [], ◌∷◌, ◌++◌, length, ◌∙◌, sym, subst, refl, arith}
+use Rattle.std.proofs.Common.{rules, ◌≡◌, ℕ, suc, ◌*◌, [], ◌∷◌, ◌++◌, length, sym, subst, refl, arith}
 use Rattle.std.proofs.lemmas.List.{length_push}
 use Rattle.smp_run.specs.Sent.{HasCalled, repeated, request_calls, request_direct}
 use Rattle.smp_run.proofs.Making.{made_more, made_same}
