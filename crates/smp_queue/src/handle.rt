@@ -26,10 +26,12 @@ use crate::reverse::reverse;
 use crate::run::{Pass, Passed, Place, next_async, pass_on};
 use crate::seat::call_steps::{Returned, begin_call, end_call};
 use crate::seat::{CallSeat, SharedCallWords, store, swap};
+use crate::table::CallTable;
 use smp_call_steps::drain::linked;
 use smp_call_steps::handle::Walk;
 use smp_words::Word;
 use smp_words::size::owner_of;
+use std::alloc::Allocator;
 
 /// What `handle` has done.
 #[derive(Clone, Copy, Debug, PartialEq, Eq)]
@@ -42,10 +44,10 @@ pub struct Handled {
 
 /// What `handle` reads beside the seat of its CPU: the words and the alarms of the table, and the CPU's number.
 #[derive(Clone, Copy)]
-pub(crate) struct HandleContext<'a> {
-    pub(crate) words: SharedCallWords<'a>,
-    pub(crate) alarms: &'a Alarms,
-    pub(crate) number: u32,
+struct HandleContext<'a> {
+    words: SharedCallWords<'a>,
+    alarms: &'a Alarms,
+    number: u32,
 }
 
 /// Begins to handle, and takes the interrupt: whether one was pending.
@@ -219,23 +221,28 @@ fn run_batch<H: Handler>(
 }
 
 /// Takes the interrupt and, where there was one, the queue, and runs that.
-#[inline(always)]
-pub(crate) fn handle<H: Handler>(
-    context: HandleContext,
+pub(crate) fn handle<A: Allocator, H: Handler>(
+    table: &CallTable<A>,
     seat: &mut CallSeat,
+    number: u32,
     counts: &mut [u64],
     handler: &mut H,
 ) -> Handled
-    requires outside { IsOutside context.words.shared.now.table_id seat.old context.number }
+    requires outside { IsOutside table.now.table seat.old number }
     requires counts { AreRan counts.old seat.old.known }
-    ensures outside { IsOutside context.entry.words.shared.now.table_id seat.new context.entry.number }
+    ensures outside { IsOutside table.now.table seat.new number }
     ensures counts { AreRan counts.new seat.new.known }
     ensures lives { Lives seat.new.known }
     ensures asked { result.interrupted ≡ true → (batch : List Call) × (cpu_of seat.new ≡ drains batch (asks true (cpu_of seat.old)))
         × (Grows H.leads handler.old (order batch) handler.new) × (result.ran ≡ length batch) }
     ensures idle { result.interrupted ≡ false → (cpu_of seat.new ≡ asks false (cpu_of seat.old)) × (handler.new ≡ handler.old) × (result.ran ≡ 0) }
 {
-    match begin(context.words, seat, context.number) {
+    let context = HandleContext {
+        words: table.words(),
+        alarms: table.alarms(),
+        number,
+    };
+    match begin(context.words, seat, number) {
         None => Handled {
             ran: 0,
             interrupted: false,

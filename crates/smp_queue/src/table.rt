@@ -41,7 +41,7 @@ use crate::audit::Audit;
 use crate::boot::Boot;
 use crate::closing::ClosedTable;
 use crate::cpu::CallCpu;
-use crate::handle::{HandleContext, Handled, handle};
+use crate::handle::{Handled, handle};
 use crate::handler::Handler;
 use crate::line_wait::LineWait;
 use crate::pause::Pause;
@@ -318,6 +318,11 @@ impl<A: Allocator> CallTable<A> {
         self.owner.words()
     }
 
+    /// The alarms, for what unlocks records.
+    pub(crate) fn alarms(&self) -> &Alarms {
+        &self.alarms
+    }
+
     /// The refusals of a post that come before its record is written, and else the call that it queues: E4, E2
     /// and E1, in this order. Where LOCK is clear, the record is confirmed.
     fn begin_post(
@@ -450,7 +455,6 @@ impl<A: Allocator> CallTable<A> {
     ///
     /// The interrupt is taken at the swap of the interrupt word, and the batch at the swap of the head that follows; it
     /// waits for no other CPU, and to call it is to poll.
-    #[inline(never)]
     pub fn handle<H: Handler>(&self, me: &mut CallCpu, handler: &mut H) -> Handled
         requires { me.old.table ≡ self.now.table }
         ensures asked { result.interrupted ≡ true → (batch : List Call) × (me.new ≡ drains batch (asks true me.old))
@@ -458,12 +462,9 @@ impl<A: Allocator> CallTable<A> {
         ensures idle { result.interrupted ≡ false → (me.new ≡ asks false me.old) × (handler.new ≡ handler.old) × (result.ran ≡ 0) }
         ensures laws { CallsAreShown me.new }
     {
-        let context = HandleContext {
-            words: self.owner.words(),
-            alarms: &self.alarms,
-            number: me.number,
-        };
-        let handled = handle(context, &mut me.seat, &mut me.ran, handler);
+        // The table has a cell for each of its words.
+        let _words = self.words();
+        let handled = handle(self, &mut me.seat, me.number, &mut me.ran, handler);
         me.is_shown();
         handled
     }
