@@ -197,7 +197,7 @@ fn run_of(matches: &ArgMatches<'_>) -> Run {
     }
 }
 
-// Whither the scripts of broken expectations go.
+// Where the scripts of broken expectations go.
 fn scripts_of<'a>(matches: &ArgMatches<'a>) -> Scripts<'a> {
     match (matches.get_one::<u32>("only"), matches.get_str("scripts")) {
         (Some(line), _) => Scripts::Only(line),
@@ -206,7 +206,7 @@ fn scripts_of<'a>(matches: &ArgMatches<'a>) -> Scripts<'a> {
     }
 }
 
-// Whither they go in a search of every order, whose report may be JSON.
+// Where they go in a search of every order, whose report may be JSON.
 fn searched_to<'a>(matches: &ArgMatches<'a>) -> Scripts<'a> {
     if matches.get_flag("json") {
         Scripts::Json
