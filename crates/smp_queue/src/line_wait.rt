@@ -6,8 +6,8 @@ use crossbeam_utils::Backoff;
 use smp_words::size::NR_CPUS;
 use std::sync::Wait;
 
-/// How often a CPU finds something else while it waits, before it lines up at its next look in vain. Those in line come first, so the
-/// CPUs that try without a place in it do not pass this one by for ever.
+/// How often a CPU finds something else while it waits, before it lines up whatever it finds. Those in line come first, so the CPUs
+/// that try without a place in it do not pass this one by for ever.
 const PATIENCE: u32 = 2 * NR_CPUS;
 
 /// A wait of a CPU for a lock that is tried, in line with the other CPUs that wait for it asleep.
@@ -62,14 +62,16 @@ impl<'t> LineWait<'t> {
         }
     }
 
-    /// Call it after that look, with whether it has found anything. The CPU is in line where it has found nothing and its alarm is
-    /// set. Then it tries to take the lock once more, if it may, before it sleeps. Where it has found something, it counts its
-    /// looks anew, since more is likely to come. It makes no step, and does not wait.
+    /// Call it after that look, with whether it has found anything. The CPU is in line where its alarm is set and it has found
+    /// nothing, or has found something often enough. Then it tries to take the lock once more, if it may, before it sleeps. What
+    /// comes after the look rings its alarm. It makes no step, and does not wait.
     pub fn lines_up(&mut self, found: bool) -> bool {
         let alarm = self.alarm.take();
         if found {
             self.looks = 0;
             self.finds = self.finds.saturating_add(1);
+        }
+        if found && self.finds < PATIENCE {
             return false;
         }
         let Some(alarm) = alarm else {
