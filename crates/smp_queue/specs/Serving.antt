@@ -1,5 +1,5 @@
 -- Handling, a call at a time.
-use Rattle.std.specs.Prelude.{◌≡◌, ℕ, ◌+◌, ◌%◌, ◌^◌, ◌<◌, true, false, Option, Some, None, List, [], ◌∷◌, ◌++◌, length, slice_index_or}
+use Rattle.std.specs.Prelude.{◌≡◌, ℕ, ◌+◌, ◌%◌, ◌^◌, ◌<◌, Bool, true, false, Option, Some, None, List, [], ◌∷◌, ◌++◌, length, slice_index_or}
 use Rattle.atomic_table.specs.Seated.{TableId}
 use Rattle.smp_mask.specs.Mask.{has}
 use Rattle.smp_words.specs.Size.{cpus, records}
@@ -15,7 +15,8 @@ use Rattle.smp_queue.specs.Names.handle
 use Rattle.smp_queue.specs.Rule.{SeatInvariant}
 use Rattle.smp_queue.specs.Seat.{SeatValue, InHandle}
 use Rattle.smp_queue.specs.Cpu.{CpuValue, cpu_of}
-use Rattle.smp_queue.specs.Handling.{AreRan, Grows, heard_of, asks}
+use Rattle.smp_call_steps.specs.Order.{order}
+use Rattle.smp_queue.specs.Handling.{AreRan, Grows, heard_of, asks, drains}
 use Rattle.smp_queue.specs.ServingValue.{ServingValue}
 use Rattle.smp_queue.specs.declared.handle.Batch.{Batch}
 use Rattle.smp_queue.specs.declared.run.Pass.{Pass}
@@ -105,10 +106,19 @@ ends call c = record c { part = part_ended call c.part }
 abbrev pub has_run : List Call → List Call → CpuValue → CpuValue
 has_run calls rest c = record c { part = record (c.part) { batch = rest; running = Nothing; ran = c.part.ran ++ calls } }
 
+-- a CPU outside has taken its interrupt, and whether one was pending; where none was, it is outside again
+abbrev pub TakesInterrupt : TableId → SeatValue → SeatValue → Bool → Type 0
+TakesInterrupt t old new false = (new.table ≡ t) × Lives new.known × (new.known.stage ≡ None) × (cpu_of new ≡ asks false (cpu_of old))
+TakesInterrupt t old new true = InHandle t new handle.Take × (cpu_of new ≡ asks true (cpu_of old))
+
+-- a CPU that was this one has taken its queue, and gone to its first call
+abbrev pub TakesBatch : TableId → CpuValue → SeatValue → Batch → Type 0
+TakesBatch t old new b = (queue : List Call) × (b.calls ≡ length queue) × IsAt t (takes queue old) new b.first
+
 -- a CPU outside has taken its interrupt and, where one was pending, its queue
 abbrev pub Begins : TableId → SeatValue → SeatValue → Option Batch → Type 0
-Begins t old new None = (new.table ≡ t) × Lives new.known × (new.known.stage ≡ None) × (cpu_of new ≡ asks false (cpu_of old))
-Begins t old new (Some b) = (queue : List Call) × (b.calls ≡ length queue) × IsAt t (takes queue (asks true (cpu_of old))) new b.first
+Begins t old new None = TakesInterrupt t old new false
+Begins t old new (Some b) = TakesBatch t (asks true (cpu_of old)) new b
 
 -- the front of the batch has run, its handler has heard it, and its CPU has gone on
 pub record HasRunCall {H : Type 0} (leads : H → Heard → H → Type 0) (t : TableId) (old new : SeatValue) (call : Call) (found : Option Place) (counts : List ℕ)
@@ -126,6 +136,18 @@ pub record HasRunAll {H : Type 0} (leads : H → Heard → H → Type 0) (t : Ta
   pub cpu : cpu_of new ≡ has_run (old.known.part.batch) [] (cpu_of old)
   pub counts_are : AreRan counts new.known
   pub grows : Grows leads before (old.known.part.batch) after
+
+-- a CPU whose interrupt was pending has taken its queue and run it, its handler has heard it, and the CPU is outside
+pub record RunsQueue {H : Type 0} (leads : H → Heard → H → Type 0) (t : TableId) (old new : SeatValue) (counts : List ℕ) (before after : H) (ran : ℕ)
+    : Type 0 where
+  pub queue : List Call
+  pub ran_is : ran ≡ length queue
+  pub table_is : new.table ≡ t
+  pub lives : Lives new.known
+  pub stage_is : new.known.stage ≡ None
+  pub cpu : cpu_of new ≡ drains queue (cpu_of old)
+  pub counts_are : AreRan counts new.known
+  pub grows : Grows leads before (order queue) after
 
 -- what a CPU keeps inside handle
 pub record IsKeptInside (v : KnownCalls) (number : ℕ) (queued ran : List ℕ) : Type 0 where

@@ -18,7 +18,7 @@ ghost use Rattle.smp_queue.specs.Seat.{InHandle, IsOutside};
 ghost use Rattle.smp_queue.specs.declared.run.Pass.TheVariants.{Second};
 ghost use Rattle.smp_queue.specs.Cpu.{cpu_of};
 ghost use Rattle.smp_queue.specs.Handling.{AreRan, Grows, asks, drains};
-ghost use Rattle.smp_queue.specs.Serving.{Begins, IsAt, HasRunCall, HasRunAll, on, begins_at};
+ghost use Rattle.smp_queue.specs.Serving.{TakesInterrupt, TakesBatch, Begins, IsAt, HasRunCall, HasRunAll, RunsQueue, on, begins_at};
 
 use crate::alarms::Alarms;
 use crate::handler::Handler;
@@ -116,16 +116,26 @@ pub(crate) struct Batch {
     pub(crate) calls: u32,
 }
 
-/// Takes the interrupt and, where there was one, the queue.
+/// Takes the interrupt of a CPU, which leaves where none was pending: whether one was.
 #[inline(always)]
-pub(crate) fn begin(words: SharedCallWords, seat: &mut CallSeat, number: u32) -> Option<Batch>
+fn takes_interrupt(words: SharedCallWords, seat: &mut CallSeat, number: u32) -> bool
     requires { IsOutside words.shared.now.table_id seat.old number }
-    ensures { Begins words.entry.shared.now.table_id seat.old seat.new result }
+    ensures { TakesInterrupt words.entry.shared.now.table_id seat.old seat.new result }
 {
-    if !enter(words, seat, number) {
+    let pending = enter(words, seat, number);
+    if !pending {
         leave(words, seat, number);
-        return None;
     }
+    pending
+}
+
+/// Takes the queue of a CPU whose interrupt was pending, and goes to its first call.
+#[inline(always)]
+fn take_batch(words: SharedCallWords, seat: &mut CallSeat, number: u32) -> Batch
+    requires me { seat.old.known.number ≡ number }
+    requires at { InHandle words.shared.now.table_id seat.old handle.Take }
+    ensures { TakesBatch words.entry.shared.now.table_id (cpu_of seat.old) seat.new result }
+{
     let newest = take(words, seat, number);
     let (oldest, calls) = reverse(words, seat, newest);
     let walk = Walk {
@@ -133,7 +143,20 @@ pub(crate) fn begin(words: SharedCallWords, seat: &mut CallSeat, number: u32) ->
         last: None,
     };
     let first = go_on(words, seat, number, Pass::First(walk), oldest);
-    Some(Batch { first, calls })
+    Batch { first, calls }
+}
+
+/// Takes the interrupt and, where there was one, the queue.
+#[inline(always)]
+pub(crate) fn begin(words: SharedCallWords, seat: &mut CallSeat, number: u32) -> Option<Batch>
+    requires { IsOutside words.shared.now.table_id seat.old number }
+    ensures { Begins words.entry.shared.now.table_id seat.old seat.new result }
+{
+    if takes_interrupt(words, seat, number) {
+        Some(take_batch(words, seat, number))
+    } else {
+        None
+    }
 }
 
 /// Wakes the CPUs that wait asleep, where a record is unlocked by now: one of them may wait for it.
@@ -220,7 +243,27 @@ fn run_batch<H: Handler>(
     }
 }
 
+/// Takes the queue of a CPU whose interrupt was pending, and runs it: how many calls it has. It is a function of its own, so that a
+/// CPU that finds no interrupt pays for none of this.
+#[inline(never)]
+fn run_queue<H: Handler>(
+    context: HandleContext,
+    seat: &mut CallSeat,
+    counts: &mut [u64],
+    handler: &mut H,
+) -> u32
+    requires me { seat.old.known.number ≡ context.number }
+    requires at { InHandle context.words.shared.now.table_id seat.old handle.Take }
+    requires counts { AreRan counts.old seat.old.known }
+    ensures { RunsQueue H.leads context.entry.words.shared.now.table_id seat.old seat.new counts.new handler.old handler.new result }
+{
+    let batch = take_batch(context.words, seat, context.number);
+    run_batch(context, seat, counts, batch.first, handler);
+    batch.calls
+}
+
 /// Takes the interrupt and, where there was one, the queue, and runs that.
+#[inline(always)]
 pub(crate) fn handle<A: Allocator, H: Handler>(
     table: &CallTable<A>,
     seat: &mut CallSeat,
@@ -242,17 +285,15 @@ pub(crate) fn handle<A: Allocator, H: Handler>(
         alarms: table.alarms(),
         number,
     };
-    match begin(context.words, seat, number) {
-        None => Handled {
+    if !takes_interrupt(context.words, seat, number) {
+        return Handled {
             ran: 0,
             interrupted: false,
-        },
-        Some(batch) => {
-            run_batch(context, seat, counts, batch.first, handler);
-            Handled {
-                ran: batch.calls,
-                interrupted: true,
-            }
-        }
+        };
+    }
+    let ran = run_queue(context, seat, counts, handler);
+    Handled {
+        ran,
+        interrupted: true,
     }
 }

@@ -10,7 +10,7 @@ use Rattle.smp_call_steps.specs.Histories.{calls_from, counted_call}
 use Rattle.smp_call_steps.specs.Threads.Known.{ran_tally}
 use Rattle.smp_call_steps.specs.Order.{order}
 use Rattle.smp_call_steps.specs.Threads.Handling.{ended_call}
-use Rattle.smp_queue.specs.{Call, KnownCalls, Nothing, Heard, CpuValue, cpu_of, SeatValue, heard_of, AreRan, Grows, asks, drains}
+use Rattle.smp_queue.specs.{Call, KnownCalls, Nothing, Heard, CpuValue, cpu_of, SeatValue, heard_of, AreRan, Grows, drains}
 use Rattle.smp_queue.specs.Serving.{Gives, IsAt, HasRunCall, HasRunAll, has_run, takes, serves, ends, goes_from}
 use Rattle.smp_queue.specs.declared.run.Place.{Place}
 use Rattle.smp_words.proofs.Sizes.{owner-below}
@@ -104,11 +104,11 @@ module _ {H : Type 0} (leads : H → Heard → H → Type 0) (t : TableId) where
       }
 
   -- so a batch that was taken has run
-  pub batch_ran : (s0 s1 s2 : SeatValue) (queue : List Call) (first : Option Place) (counts : List ℕ) (before after : H)
-      → IsAt t (takes queue (asks true (cpu_of s0))) s1 first → HasRunAll leads t s1 s2 counts before after
-      → (cpu_of s2 ≡ drains queue (asks true (cpu_of s0))) × Grows leads before (order queue) after
-  batch_ran s0 s1 s2 queue first counts before after at h =
-      let e : cpu_of s1 ≡ takes queue (asks true (cpu_of s0)) = at_cpu _ _ _ first at in
+  pub batch_ran : (c0 : CpuValue) (s1 s2 : SeatValue) (queue : List Call) (first : Option Place) (counts : List ℕ) (before after : H)
+      → IsAt t (takes queue c0) s1 first → HasRunAll leads t s1 s2 counts before after
+      → (cpu_of s2 ≡ drains queue c0) × Grows leads before (order queue) after
+  batch_ran c0 s1 s2 queue first counts before after at h =
+      let e : cpu_of s1 ≡ takes queue c0 = at_cpu _ _ _ first at in
       let batch : s1.known.part.batch ≡ order queue = ap (λ (c : CpuValue). c.part.batch) e in (
         h.cpu ∙ (λ i. has_run (batch i) [] (e i)),
         subst (λ (calls : List Call). Grows leads before calls after) batch h.grows,
