@@ -1,10 +1,20 @@
 mod calls;
 mod counts;
+mod cpu_lists;
+mod hangs;
+mod labels;
 mod line;
+mod masks;
 mod memory;
+mod merged_moves;
 mod numbers;
 mod patches;
+mod programs;
+mod search;
+mod sparse;
+mod start_line;
 mod stops;
+mod watches;
 
 use smp_core::*;
 use smp_mask::{CpuMask, SmpError};

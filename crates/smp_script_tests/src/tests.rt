@@ -1,5 +1,11 @@
+mod explained;
+mod kernel_json;
+mod limits;
+mod pages;
 mod refusing;
 mod replays;
 mod runner;
 mod runs;
+mod sends;
 mod watched;
+mod words;

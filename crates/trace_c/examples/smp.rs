@@ -12,7 +12,7 @@ struct Answer {
     cause: u32,
 }
 
-#[link(name = "trace_c", kind = "static")]
+#[link(name = "smp", kind = "static")]
 unsafe extern "C" {
     fn smp_judge(trace: *const u8, length: usize, out: *mut u8, room: usize, answer: &mut Answer) -> i32;
     fn smp_replay(script: *const u8, length: usize, out: *mut u8, room: usize, answer: &mut Answer) -> i32;

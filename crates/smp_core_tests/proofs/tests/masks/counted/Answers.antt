@@ -2,7 +2,7 @@ use Rattle.std.proofs.Common.{◌∙◌, arith}
 use Rattle.std.proofs.lemmas.Iterator.Consumers.{YieldsList-at, YieldsList-turn, YieldsList-end}
 use Rattle.smp_mask.specs.declared.mask.TheConstants.{NR_CPUS}
 use Rattle.smp_mask.proofs.Members.{road, members_fit}
-use Rattle.smp_base_tests.proofs.tests.masks.counted.Goals as goal
+use Rattle.smp_core_tests.proofs.tests.masks.counted.Goals as goal
 
 pub overflow_add-count : goal.overflow_add-count
 overflow_add-count c =

@@ -1,5 +1,0 @@
-mod hangs;
-mod merged_moves;
-mod programs;
-mod search;
-mod watches;
