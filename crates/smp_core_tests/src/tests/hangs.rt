@@ -1,7 +1,7 @@
 //! Programs that hang, and programs that end: what `ends` says of them.
 
 use crate::tests::search::states;
-use explore::{Conditions, Expected, Unwatched, Verdict, explore};
+use explore::{Conditions, Expected, Start, Unwatched, Verdict, explore};
 use explore_text::read_exploration;
 use smp_core::Core;
 use smp_mask::SmpError;
@@ -16,7 +16,8 @@ fn steps_to_hang(alloc: Global, text: &str) -> Result<Option<usize>, SmpError> {
         expected: &[Expected::Ends],
     };
     let lines = read.lines.as_slice();
-    match explore(alloc, core, lines, all, states(2_000), &mut Unwatched)? {
+    let start = Start { core, lines };
+    match explore(alloc, start, all, states(2_000), &mut Unwatched)? {
         Verdict::All { .. } => Ok(None),
         Verdict::Broken(schedule) => Ok(Some(schedule.len())),
         Verdict::Limit(_) => Err(SmpError::Contended),

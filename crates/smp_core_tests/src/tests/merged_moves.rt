@@ -1,7 +1,7 @@
 use crate::tests::search::once;
 use explore::{
-    Atom, Conditions, Expected, Line, Most, Part, Unwatched, Verdict, are_blind, explore_merged,
-    is_blind,
+    Atom, Conditions, Expected, Line, Most, Part, Start, Unwatched, Verdict, are_blind,
+    explore_merged, is_blind,
 };
 use smp_core::{Class, Command, Core, Note, Word};
 use smp_mask::SmpError;
@@ -32,8 +32,9 @@ fn explored(
         bytes: 100000000,
     };
     let all = Conditions { expected };
+    let start = Start { core, lines };
     Ok(
-        match explore_merged(alloc, core, lines, all, most, &mut Unwatched)? {
+        match explore_merged(alloc, start, all, most, &mut Unwatched)? {
             Verdict::All {
                 states,
                 steps,

@@ -1,6 +1,6 @@
 use explore::{
-    Atom, Conditions, Expected, Limit, Line, Most, Part, Unwatched, Verdict, events_of, explore,
-    halts_of,
+    Atom, Conditions, Expected, Limit, Line, Most, Part, Start, Unwatched, Verdict, events_of,
+    explore, halts_of,
 };
 use smp_core::{
     Class, Command, Core, Event, Field, Kind, Note, RecPlace, Replayed, Word, Work, replay,
@@ -28,14 +28,9 @@ fn said(
     most: Most,
 ) -> Result<Found, SmpError> {
     let core = Core::new(alloc, 3, cpus.parse()?)?;
-    let verdict = explore(
-        alloc,
-        core,
-        lines,
-        Conditions { expected },
-        most,
-        &mut Unwatched,
-    )?;
+    let start = Start { core, lines };
+    let all = Conditions { expected };
+    let verdict = explore(alloc, start, all, most, &mut Unwatched)?;
     Ok(match verdict {
         Verdict::All {
             states,

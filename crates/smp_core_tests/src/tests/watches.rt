@@ -3,7 +3,7 @@
 use crate::tests::search::{NOTHING, once, post, states, until};
 use explore::walk::walk;
 use explore::{
-    Answered, Atom, Conditions, Expected, Part, Verdict, WalkEnd, Walked, Watch, explore,
+    Answered, Atom, Conditions, Expected, Part, Start, Verdict, WalkEnd, Walked, Watch, explore,
     explore_each,
 };
 use smp_core::{Command, Core, RecPlace, Word};
@@ -32,21 +32,15 @@ impl Watch for Noted {
 fn a_watch_sees_each_state(rt: HostRuntime) -> Result<(), Fail> {
     let alloc = rt.alloc();
     let core = Core::new(alloc, 2, "0-1".parse()?)?;
-    let lines = [once(0, Command::Send(1)), once(1, Command::Send(0))];
-    let expected = NOTHING;
+    let lines = &[once(0, Command::Send(1)), once(1, Command::Send(0))];
+    let start = Start { core, lines };
+    let all = Conditions { expected: NOTHING };
     let mut noted = Noted {
         calls: 0,
         states: 0,
         steps: 0,
     };
-    explore(
-        alloc,
-        core,
-        &lines,
-        Conditions { expected },
-        states(4),
-        &mut noted,
-    )?;
+    explore(alloc, start, all, states(4), &mut noted)?;
     let wanted = Noted {
         calls: 4,
         states: 4,
@@ -102,14 +96,11 @@ fn each_break_is_told_by_its_number(rt: HostRuntime) -> Result<(), Fail> {
         numbers: Vec::new(rt.alloc()),
     };
     let core = Core::new(rt.alloc(), 3, "0-1".parse()?)?;
-    let answers = explore_each(
-        rt.alloc(),
+    let start = Start {
         core,
-        &lines,
-        &expected,
-        states(1_000),
-        &mut breaks,
-    )?;
+        lines: &lines,
+    };
+    let answers = explore_each(rt.alloc(), start, &expected, states(1_000), &mut breaks)?;
     assert_eq!(rt; breaks.numbers.as_slice(), [4, 2, 3, 1].as_slice());
     let wanted = [None, Some(19), Some(2), Some(8), Some(0)];
     assert_eq!(rt; answers.len(), wanted.len());
