@@ -55,7 +55,7 @@ fn try_in_turn<A: Allocator>(
     line.may_try() && try_gate(machine, me)
 }
 
-/// Lines up, if it may sleep by then and has found nothing else; then takes the gate, as [`try_in_turn`].
+/// Lines up, where the wait says so after this look; then takes the gate, as [`try_in_turn`].
 fn try_in_line<A: Allocator>(
     machine: &Machine<A>,
     me: &mut MachineCpu<A>,
