@@ -54,11 +54,9 @@ fn rulings(alloc: Global, texts: &[&[u8]]) -> (Result<Ruling, Refusal>, Result<R
     (plain, ordered)
 }
 
-// Asserts that both are this.
-fn are(rt: &HostRuntime, texts: &[&[u8]], wanted: Result<Ruling, Refusal>) {
-    let (plain, ordered) = rulings(rt.alloc(), texts);
-    assert_eq!(rt; plain, wanted);
-    assert_eq!(rt; ordered, wanted);
+// Whether both are this.
+fn are(rt: &HostRuntime, texts: &[&[u8]], wanted: Result<Ruling, Refusal>) -> bool {
+    rulings(rt.alloc(), texts) == (wanted, wanted)
 }
 
 // Where no line shows that a CPU is offline, the record is free. Where one does, there or later, that line is named.
@@ -66,27 +64,29 @@ fn are(rt: &HostRuntime, texts: &[&[u8]], wanted: Result<Ruling, Refusal>) {
 fn a_record_that_is_free(rt: HostRuntime) {
     let alone = Err(Refusal::Wrong(5, Wrong::Offline));
     let later = Err(Refusal::Wrong(7, Wrong::Offline));
-    are(&rt, &[BEFORE, UNTOLD], Ok(Ruling::Broken));
-    are(&rt, &[BEFORE, OFFLINE], alone);
-    are(&rt, &[BEFORE, UNTOLD, OFFLINE], later);
+    assert!(rt; are(&rt, &[BEFORE, UNTOLD], Ok(Ruling::Broken)));
+    assert!(rt; are(&rt, &[BEFORE, OFFLINE], alone));
+    assert!(rt; are(&rt, &[BEFORE, UNTOLD, OFFLINE], later));
 }
 
 // Another fault is told where it is before that line, and not behind it. A text without a fault is lawful.
 #[test]
 fn another_fault(rt: HostRuntime) {
     let behind = Err(Refusal::Wrong(1, Wrong::Offline));
-    are(&rt, &[BEFORE, OVER, OFFLINE], Ok(Ruling::Broken));
-    are(&rt, &[OFFLINE, BEFORE, OVER], behind);
-    are(&rt, &[OFFLINE], Ok(Ruling::Lawful));
+    assert!(rt; are(&rt, &[BEFORE, OVER, OFFLINE], Ok(Ruling::Broken)));
+    assert!(rt; are(&rt, &[OFFLINE, BEFORE, OVER], behind));
+    assert!(rt; are(&rt, &[OFFLINE], Ok(Ruling::Lawful)));
 }
 
 // A stop has its answer in the function that takes a CPU down, by a probe as Linux 6.1 needs it.
 #[test]
 fn a_stop_that_takes_a_cpu_down(rt: HostRuntime) {
-    are(
-        &rt,
-        &[BEFORE, UNTOLD, DOWN],
-        Err(Refusal::Wrong(7, Wrong::Offline)),
+    assert!(rt;
+        are(
+            &rt,
+            &[BEFORE, UNTOLD, DOWN],
+            Err(Refusal::Wrong(7, Wrong::Offline)),
+        )
     );
-    are(&rt, &[BEFORE, UNTOLD, CLOSED], Ok(Ruling::Broken));
+    assert!(rt; are(&rt, &[BEFORE, UNTOLD, CLOSED], Ok(Ruling::Broken)));
 }
