@@ -33,6 +33,7 @@ fn wrong_text(why: Wrong) -> &'static str {
         Wrong::Class => "csd_class without a csd_queue_cpu of this csd before it",
         Wrong::Records => "this is one csd more than 65536",
         Wrong::Stops => "more stops are open than there are CPUs",
+        Wrong::Offline => "a CPU goes off: what it queues then is not recorded",
     }
 }
 

@@ -1,5 +1,6 @@
 mod explained;
 mod kernel_json;
+mod kernel_offline;
 mod limits;
 mod pages;
 mod refusing;

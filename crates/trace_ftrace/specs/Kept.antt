@@ -8,12 +8,14 @@ use Rattle.trace_ftrace.specs.declared.sign.Sign.TheVariants as sign
 use Rattle.trace_ftrace.specs.declared.sign.Sort.{Sort}
 use Rattle.trace_ftrace.specs.declared.sign.Sort.TheVariants as sort
 
--- the functions by their numbers, what the lines show, the time of each CPU's last line, and that of the first line
+-- the functions by their numbers, what the lines show, the time of each CPU's last line and of the first line, and the first line
+-- that shows that a CPU has gone offline
 pub record KeptValue : Type 0 where
   pub names : List (List ℕ)
   pub marks : List Mark
   pub times : List ℕ
   pub first : Option ℕ
+  pub offline : Option ℕ
 
 -- the place of a name among these, of which the first has this place
 abbrev pub name_place : ℕ → List ℕ → List (List ℕ) → Option ℕ

@@ -13,6 +13,7 @@ pub mod Moments
 pub mod Names
 pub mod NamesView
 pub mod Numbers
+pub mod Offline
 pub mod Options
 pub mod Ordered
 pub mod Pieces

@@ -1,5 +1,5 @@
 -- The marks of calls that the lines of a text have.
-use Rattle.std.specs.Prelude.{◌≡◌, ℕ, ◌+◌, ◌-◌, Bool, false, not, ◌&&◌, ◌||◌, nat_lt, if◌then◌else◌}
+use Rattle.std.specs.Prelude.{◌≡◌, ℕ, ◌+◌, ◌-◌, Bool, true, false, not, ◌&&◌, ◌||◌, nat_lt, if◌then◌else◌}
 use Rattle.std.specs.Prelude.{List, [], ◌∷◌, replicate, insert, slice_index_or, slice_set, Option, Some, None, Result, Ok, Err, codes}
 use Rattle.std.specs.Str.{bytes_eq}
 use Rattle.smp_script.specs.Lines.{Line, fields_of, parts_of}
@@ -7,6 +7,7 @@ use Rattle.smp_words.specs.FirstFault.{◌>>=◌}
 use Rattle.trace_ftrace.specs.Fields.{cpu_below, needed_symbol}
 use Rattle.trace_ftrace.specs.Headings.{HeadingValue, heading_of}
 use Rattle.trace_ftrace.specs.Kept.{KeptValue, behind, classed, numbered, on_cpu}
+use Rattle.trace_ftrace.specs.Offline.{shows_offline}
 use Rattle.trace_ftrace.specs.Signs.{begins, sign_of}
 use Rattle.trace_ftrace.specs.Words.{two_of, words_of}
 use Rattle.trace_ftrace.specs.declared.kept.Mark.{Mark}
@@ -32,7 +33,7 @@ Keeps (Err why) new made = made ≡ Err why
 
 -- before the first line
 abbrev pub no_lines : KeptValue
-no_lines = record { names = []; marks = []; times = replicate 32 0; first = None }
+no_lines = record { names = []; marks = []; times = replicate 32 0; first = None; offline = None }
 
 -- with one more mark, behind all those that are not later
 abbrev pub with_mark : Mark → KeptValue → KeptValue
@@ -60,10 +61,19 @@ marked at (sign.Class address s) fields k = class_line at address s k
 marked at (sign.Begin address) fields k = named at (sign.Begin address) fields k
 marked at other fields k = Ok (with_mark (record { at = at; func = 0; sign = other }) k)
 
+-- with the line, where that is the first that shows that a CPU has gone offline
+abbrev pub or_line : Option ℕ → ℕ → Option ℕ
+or_line None line = Some line
+or_line (Some first) line = Some first
+
+abbrev pub offline_if : Bool → ℕ → KeptValue → KeptValue
+offline_if true line k = record k { offline = or_line k.offline line }
+offline_if false line k = k
+
 -- with what a line tells
 abbrev pub marked_if : Stamp → List (List ℕ) → Option Sign → KeptValue → Result KeptValue Refusal
 marked_if at fields None k = Ok k
-marked_if at fields (Some s) k = marked at s fields k
+marked_if at fields (Some s) k = marked at s fields (offline_if (shows_offline s fields) at.line k)
 
 -- a time is behind the first by less than what is skipped
 abbrev pub first_time : Option ℕ → ℕ → ℕ

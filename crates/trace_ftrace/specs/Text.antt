@@ -3,6 +3,7 @@ use Rattle.std.specs.Prelude.{◌≡◌, ℕ, ◌+◌, Bool, true, false, ◌==�
 use Rattle.std.specs.Prelude.{Option, Some, None, Result, Ok, Err, Vec, codes}
 use Rattle.std.specs.Fmt.{decimal}
 use Rattle.smp_script.specs.Lines.{Line, lines_of}
+use Rattle.smp_words.specs.FirstFault.{◌>>=◌}
 use Rattle.trace_model.specs.State.{StateValue}
 use Rattle.trace_model.specs.declared.event.CallEvent.{CallEvent}
 use Rattle.trace_model.specs.declared.event.CallEvent.TheVariants as calls
@@ -20,6 +21,7 @@ use Rattle.trace_judge.specs.declared.verdict.Verdict.TheVariants.{Lawful, Broke
 use Rattle.trace_ftrace.specs.Counts.{counts_of}
 use Rattle.trace_ftrace.specs.Kept.{KeptValue}
 use Rattle.trace_ftrace.specs.Names.{NamesValue, broken_line}
+use Rattle.trace_ftrace.specs.Offline.{unless_hidden}
 use Rattle.trace_ftrace.specs.Telling.{TellingValue}
 use Rattle.trace_ftrace.specs.Bounds.{shows_order}
 use Rattle.trace_ftrace.specs.Ordered.{FailsInOrder, HasRun, verdict_on}
@@ -28,17 +30,19 @@ use Rattle.trace_ftrace.specs.Waits.{is_queue, waits_text}
 use Rattle.trace_ftrace.specs.declared.counts.Counts.{Counts}
 use Rattle.trace_ftrace.specs.declared.kept.Mark.{Mark}
 use Rattle.trace_ftrace.specs.declared.names.BrokenEvent.{BrokenEvent}
-use Rattle.trace_ftrace.specs.declared.text.OrderJudged.{OrderJudged}
-use Rattle.trace_ftrace.specs.declared.text.OrderJudged.TheVariants as order
+use Rattle.trace_ftrace.specs.declared.verdict_text.OrderJudged.{OrderJudged}
+use Rattle.trace_ftrace.specs.declared.verdict_text.OrderJudged.TheVariants as order
 use Rattle.trace_ftrace.specs.declared.told.Told.{Told}
 use Rattle.trace_ftrace.specs.declared.wrong.Refusal.{Refusal}
 use Rattle.trace_ftrace.specs.declared.wrong.Refusal.TheVariants as refusal
+use Rattle.trace_ftrace.specs.declared.wrong.Wrong.TheVariants as wrong
 
 -- a text, with the kernel's names in it, what its lines show, the events that these tell, and what wait of a call is told
 pub record SourceValue : Type 0 where
   pub text : List ℕ
   pub names : NamesValue
   pub marks : List Mark
+  pub offline : Option ℕ
   pub told : List Told
   pub order : OrderJudged
   pub slow : ℕ
@@ -48,6 +52,7 @@ source_of text slow k t = record {
   text = text;
   names = record { addresses = t.addresses; functions = k.names };
   marks = k.marks;
+  offline = k.offline;
   told = t.told;
   order = order.Unasked;
   slow = slow;
@@ -185,29 +190,50 @@ IsPrinted out ruling x (Err (early_end.Broken line cpu e why)) =
     (out ≡ broken_lines x (broken_of line cpu e why) (counts_of x.marks x.told).unshown ++ waits_of x) × (ruling ≡ rulings.Broken)
 IsPrinted out ruling x (Err _) = ⊥
 
+abbrev pub PrintsVerdict : List ℕ → Ruling → SourceValue → Result (Result (ℕ × StateValue) EarlyEnd) Refusal → Type 0
+PrintsVerdict out ruling x (Ok made) = IsPrinted out ruling x made
+PrintsVerdict out ruling x (Err why) = ⊥
+
+-- what was answered is what is printed of a verdict, or the line that hides it, or memory ran out
+abbrev pub PrintsSeen : {A : Type 0} → Result (Vec ℕ A × Ruling) Refusal → SourceValue → Result (Result (ℕ × StateValue) EarlyEnd) Refusal
+    → Type 0
+PrintsSeen (Ok (out, ruling)) x seen = PrintsVerdict out.items ruling x seen
+PrintsSeen (Err refusal.NoMemory) x seen = Unit {0}
+PrintsSeen (Err (refusal.Wrong line wrong.Offline)) x seen = seen ≡ Err (refusal.Wrong line wrong.Offline)
+PrintsSeen (Err why) x seen = ⊥
+
 -- what was answered is what is printed of that verdict on these events, unless memory ran out
 abbrev pub PrintsRuling : {A : Type 0} → Result (Vec ℕ A × Ruling) Refusal → SourceValue → Result (Result (ℕ × StateValue) EarlyEnd) Refusal
     → Type 0
-PrintsRuling (Ok (out, ruling)) x (Ok made) = IsPrinted out.items ruling x made
-PrintsRuling (Ok (out, ruling)) x (Err why) = ⊥
+PrintsRuling (Ok (out, ruling)) x made = PrintsVerdict out.items ruling x made
 PrintsRuling (Err refusal.NoMemory) x made = Unit {0}
 PrintsRuling (Err why) x made = made ≡ Err why
 
+-- the verdict on events, unless this line hides it
+abbrev pub ruling_unless : Option ℕ → List Told → Result (Result (ℕ × StateValue) EarlyEnd) Refusal
+ruling_unless offline told = ruling_of_told told >>= unless_hidden offline
+
 -- the same of a text, by what is read of it
 abbrev pub Prints : {A : Type 0} → Result (Vec ℕ A × Ruling) Refusal → List ℕ → ℕ → Result (KeptValue × TellingValue) Refusal → Type 0
-Prints answer text slow (Ok (k, t)) = PrintsRuling answer (source_of text slow k t) (ruling_of_told t.told)
+Prints answer text slow (Ok (k, t)) = PrintsRuling answer (source_of text slow k t) (ruling_unless k.offline t.told)
 Prints (Ok (out, ruling)) text slow (Err why) = ⊥
 Prints (Err refusal.NoMemory) text slow (Err why) = Unit {0}
 Prints (Err told) text slow (Err why) = why ≡ told
 
+-- why nothing is printed of a verdict on an order of the events
+abbrev pub FailsRun : Refusal → SourceValue → Type 0
+FailsRun (refusal.Wrong line wrong.Offline) x =
+    HasRun x.marks x.told (λ steps. unless_hidden x.offline (verdict_on steps) ≡ Err (refusal.Wrong line wrong.Offline))
+FailsRun why x = FailsInOrder why x.marks x.told
+
 -- the same with order asked for: where the lines show it, what is printed is the verdict on an order of the events
 abbrev pub PrintsRun : {A : Type 0} → Result (Vec ℕ A × Ruling) Refusal → SourceValue → Type 0
-PrintsRun (Ok (out, ruling)) x = HasRun x.marks x.told (λ steps. IsPrinted out.items ruling x (verdict_on steps))
-PrintsRun (Err why) x = FailsInOrder why x.marks x.told
+PrintsRun (Ok (out, ruling)) x = HasRun x.marks x.told (λ steps. PrintsVerdict out.items ruling x (unless_hidden x.offline (verdict_on steps)))
+PrintsRun (Err why) x = FailsRun why x
 
 abbrev pub PrintsShown : {A : Type 0} → Result (Vec ℕ A × Ruling) Refusal → Bool → List ℕ → ℕ → KeptValue → TellingValue → Type 0
 PrintsShown answer true text slow k t = PrintsRun answer (asked_of order.Judged text slow k t)
-PrintsShown answer false text slow k t = PrintsRuling answer (asked_of order.Hidden text slow k t) (ruling_of_told t.told)
+PrintsShown answer false text slow k t = PrintsRuling answer (asked_of order.Hidden text slow k t) (ruling_unless k.offline t.told)
 
 abbrev pub PrintsInOrder : {A : Type 0} → Result (Vec ℕ A × Ruling) Refusal → List ℕ → ℕ → Result (KeptValue × TellingValue) Refusal → Type 0
 PrintsInOrder answer text slow (Ok (k, t)) = PrintsShown answer (shows_order k.marks) text slow k t

@@ -6,7 +6,8 @@ use crate::moment::{Moment, is_before};
 use smp_words::call::Class;
 use std::alloc::{AllocError, Allocator};
 
-/// A call that a CPU runs: its append, when that can be, when the call begins and ends, and a moment before which it is not taken.
+/// A call that a CPU runs: its append, when that can be, when the call begins and ends, and the moments before which it is not taken,
+/// and before which it is.
 #[derive(Clone, Copy)]
 pub(crate) struct Run {
     pub(crate) cpu: u32,
@@ -17,6 +18,7 @@ pub(crate) struct Run {
     pub(crate) begin: Moment,
     pub(crate) end: Moment,
     pub(crate) floor: Moment,
+    pub(crate) again: Moment,
 }
 
 /// The run of a place; one of nothing where there is none.
@@ -33,6 +35,7 @@ pub(crate) fn run_at(runs: &[Run], place: usize) -> Run {
         begin: END,
         end: END,
         floor: START,
+        again: END,
     }
 }
 
@@ -125,10 +128,11 @@ fn least_left(appends: &[Append], left: &[usize]) -> Moment {
     least
 }
 
-/// A batch up to a call: the moment of its take, and the last moments of its SYNC and ASYNC appends.
+/// A batch up to a call: the moment of its take, that before which it is taken, and the last moments of its SYNC and ASYNC appends.
 #[derive(Clone, Copy)]
 struct Growing {
     at: Moment,
+    again: Moment,
     sync: Moment,
     asyncs: Moment,
     has_async: bool,
@@ -143,14 +147,18 @@ fn grown(growing: Growing, first: &Run, run: &Run) -> Option<Growing> {
         growing.asyncs
     };
     let append = later(run.low, top);
+    let at = later(growing.at, run.low);
+    let again = earlier(growing.again, run.again);
     if !is_before(run.low, first.begin)
         || (is_sync && growing.has_async)
         || !is_before(append, run.until)
+        || !is_before(at, again)
     {
         return None;
     }
     Some(Growing {
-        at: later(growing.at, run.low),
+        at,
+        again,
         sync: if is_sync { append } else { growing.sync },
         asyncs: if is_sync { growing.asyncs } else { append },
         has_async: growing.has_async || !is_sync,
@@ -181,6 +189,7 @@ fn batches_from<A: Allocator>(
     }
     let mut growing = Growing {
         at,
+        again: END,
         sync: before,
         asyncs: before,
         has_async: false,

@@ -36,6 +36,8 @@ pub struct Kept<A: Allocator> {
     pub(crate) times: [u128; 32],
     /// The time of the first line that tells one.
     pub(crate) first: Option<u128>,
+    /// The first line that shows that a CPU has gone offline.
+    pub offline: Option<u32>,
 }
 
 /// The place of a name among these.

@@ -1,6 +1,6 @@
 //! What a kernel's own tracer wrote, as events that are judged.
 //!
-//! - `text`: The verdict on a text of the tracer, and what is printed of it; `verdict`: the verdict on its events.
+//! - `text`: The verdict on a text of the tracer; `verdict`: the verdict on its events; `verdict_text`: what is printed of it.
 //! - `names`: Why an event is none, by the kernel's names; `counts`: what of the lines is not judged; `waits`: the calls that wait for long.
 //! - `print`: The trace that a text tells; `json`: its events in the trace-event format.
 //! - `laws`: What is printed of a text, for a reader of it.
@@ -8,6 +8,7 @@
 //! - `ordered`: The verdict with the order of appends; `bounds`, `moment`: where an append can be; `placing`: events in such an order.
 //! - `choosing`: The order that is chosen; `matching`: the appends and the calls that begin; `batches`: which calls a take has taken.
 //! - `marks`: The marks of calls that the lines of a text have; `sign`, `stop_sign`: what one line shows; `kept`: what is kept of the lines.
+//! - `offline`: A CPU that goes offline, which is not judged.
 //! - `heading`, `field`: The CPU, the time, the event and the fields of a line.
 //! - `words`, `number`: The words of a line, and numbers.
 //! - `wrong`: Why a text is not judged.
@@ -27,6 +28,7 @@ mod matching;
 pub mod moment;
 pub mod names;
 mod number;
+mod offline;
 pub mod ordered;
 mod per_cpu;
 pub mod pieces;
@@ -39,6 +41,7 @@ pub mod stops;
 pub mod text;
 pub mod told;
 pub mod verdict;
+pub mod verdict_text;
 mod waits;
 mod words;
 pub mod wrong;

@@ -5,12 +5,14 @@ ghost use Rattle.smp_script.specs.Lines.{lines_of};
 ghost use Rattle.trace_ftrace.specs.HeadingView.{heading_value};
 ghost use Rattle.trace_ftrace.specs.KeptView.{kept_value};
 ghost use Rattle.trace_ftrace.specs.Marks.{class_line, event_line, first_time, is_counts, is_cut, is_empty_note, is_note, line_kept};
-ghost use Rattle.trace_ftrace.specs.Marks.{line_of_cpu, lines_kept, marked, named, noted, with_mark, no_lines, shown_line, timed, Keeps};
+ghost use Rattle.trace_ftrace.specs.Marks.{line_of_cpu, lines_kept, marked, named, noted, with_mark, no_lines, offline_if, or_line, shown_line, timed, Keeps};
+ghost use Rattle.trace_ftrace.specs.Offline.{shows_offline};
 ghost use Rattle.trace_ftrace.specs.Pieces.{Fails, GoesOn};
 
 use crate::field::{cpu_below, needed_symbol};
 use crate::heading::{Heading, find_heading};
 use crate::kept::{Kept, Mark, Stamp, behind, class_last, numbered, on_cpu};
+use crate::offline::shows_offline;
 use crate::sign::{Sign, Sort, read_sign};
 use crate::words::{two_parts, words};
 use crate::wrong::{Refusal, Wrong};
@@ -105,6 +107,26 @@ fn note_time<A: Allocator>(kept: &mut Kept<A>, cpu: u32, time: u128) -> u128
     first
 }
 
+/// The first line, or this one where there is none.
+fn or_line(first: Option<u32>, line: u32) -> Option<u32>
+    ensures { result ≡ or_line first line }
+{
+    match first {
+        Some(first) => Some(first),
+        None => Some(line),
+    }
+}
+
+/// Notes a line where it is the first that shows that a CPU has gone offline.
+fn note_offline<A: Allocator>(kept: &mut Kept<A>, line: u32, sign: Sign, fields: &[&[u8]])
+    ensures { let shows = shows_offline sign (map (λ f. f.now) fields.now) in
+        kept_value kept.new ≡ offline_if shows line (kept_value kept.old) }
+{
+    if shows_offline(sign, fields) {
+        kept.offline = or_line(kept.offline, line);
+    }
+}
+
 /// Keeps what a line shows, whose time is noted.
 #[tactic(auto, unfolding(crate::specs::Marks::shown_line))]
 fn shown_line<A: Allocator + Copy>(
@@ -116,7 +138,10 @@ fn shown_line<A: Allocator + Copy>(
     ensures { Keeps result (kept_value kept.new) (shown_line at (heading_value heading.now) (kept_value kept.old)) }
 {
     match read_sign(heading.event, heading.fields) {
-        Ok(Some(sign)) => keep_mark(alloc, kept, at, sign, heading.fields),
+        Ok(Some(sign)) => {
+            note_offline(kept, at.line, sign, heading.fields);
+            keep_mark(alloc, kept, at, sign, heading.fields)
+        }
         Ok(None) => Ok(()),
         Err(why) => Err(Refusal::Wrong(at.line, why)),
     }
@@ -318,6 +343,7 @@ pub(crate) fn no_lines<A: Allocator + Copy>(alloc: A) -> Kept<A>
         marks: Vec::new(alloc),
         times: [0; 32],
         first: None,
+        offline: None,
     }
 }
 

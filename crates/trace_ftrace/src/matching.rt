@@ -20,7 +20,11 @@ pub(crate) const END: Moment = Moment {
     nth: u32::MAX,
 };
 
-/// An append: for which CPU, its record and class, from when on and before when it can be, and whether its call begins.
+/// How many records there can be.
+const RECORDS: usize = 65536;
+
+/// An append: for which CPU, its record and class, from when on and before when it can be, when its record is queued again, and
+/// whether its call begins.
 #[derive(Clone, Copy)]
 pub(crate) struct Append {
     pub(crate) to: u32,
@@ -28,6 +32,7 @@ pub(crate) struct Append {
     pub(crate) class: Class,
     pub(crate) low: Moment,
     pub(crate) until: Moment,
+    again: Moment,
     pub(crate) is_begun: bool,
 }
 
@@ -42,6 +47,7 @@ pub(crate) fn append_at(appends: &[Append], place: usize) -> Append {
         class: Class::Async,
         low: START,
         until: END,
+        again: END,
         is_begun: true,
     }
 }
@@ -53,6 +59,23 @@ fn until_at(bounds: &[Bound], place: usize) -> Moment {
     } else {
         END
     }
+}
+
+/// Notes for each append when its record is queued again.
+fn note_again<A: Allocator + Copy>(alloc: A, appends: &mut [Append]) -> Result<(), AllocError> {
+    let mut behind = Vec::new(alloc);
+    for _ in 0..RECORDS {
+        behind.push(END)?;
+    }
+    for i in 0..appends.len() {
+        let place = appends.len() - 1 - i;
+        let id = appends[place].id as usize;
+        if id < behind.len() {
+            appends[place].again = behind[id];
+            behind[id] = appends[place].low;
+        }
+    }
+    Ok(())
 }
 
 /// The appends that these events tell, in their order.
@@ -71,10 +94,12 @@ pub(crate) fn appends_of<A: Allocator + Copy>(
                 class,
                 low: own_moment(x),
                 until,
+                again: END,
                 is_begun: false,
             })?;
         }
     }
+    note_again(alloc, appends.as_mut_slice())?;
     Ok(appends)
 }
 
@@ -149,6 +174,7 @@ fn begin_of<A: Allocator>(
         begin,
         end: END,
         floor: at(&matching.floors, told.cpu, START),
+        again: append.again,
     })?;
     Ok(())
 }

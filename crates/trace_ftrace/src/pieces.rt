@@ -1,6 +1,6 @@
 //! A text of the tracer that comes in pieces: what its lines show is kept, and the text is not.
 
-ghost use Rattle.std.specs.Prelude.{◌≡◌, ◌≤◌, ◌+◌, ◌++◌, ℕ, List, [], length, OnOk, IfErr};
+ghost use Rattle.std.specs.Prelude.{◌≡◌, ◌≤◌, ◌+◌, ◌++◌, ℕ, false, List, [], length, OnOk, IfErr};
 ghost use Rattle.trace_ftrace.specs.Pieces.{AreWithin, Fails, GoesOn, HasSame, HaveRead};
 ghost use Rattle.trace_ftrace.specs.PiecesView.{pieces_value};
 ghost use Rattle.trace_ftrace.specs.Reading.{reading_of, Reads};
@@ -75,8 +75,27 @@ impl<A: Allocator + Copy> Pieces<A> {
         Ok(())
     }
 
+    /// Takes the next piece of a text that is not too long with it.
+    #[tactic(auto, using(crate::proofs::ReadPieces::kept_more, crate::proofs::ReadPieces::fails_now, crate::proofs::ReadPieces::fails_still))]
+    fn add_next(&mut self, piece: &[u8])
+        requires within { AreWithin (pieces_value self.old) }
+        requires short { self.old.is_long ≡ false }
+        requires room { self.old.bytes + length piece.now ≤ 536870912 }
+        ensures within { AreWithin (pieces_value self.new) }
+        ensures read { (skip : ℕ) (text : List ℕ) → HaveRead skip text (pieces_value self.old)
+            → HaveRead skip (text ++ piece.now) (pieces_value self.new) }
+    {
+        self.bytes += piece.len() as u32;
+        if self.fault.is_some() {
+            return;
+        }
+        if let Err(why) = self.keep(piece) {
+            self.fault = Some(why);
+        }
+    }
+
     /// Takes the next piece. Where it can't be read, `finish` says why.
-    #[tactic(auto, using(crate::proofs::ReadPieces::kept_more, crate::proofs::ReadPieces::fails_now, crate::proofs::ReadPieces::fails_still, crate::proofs::ReadPieces::is_long_now, crate::proofs::ReadPieces::is_long_still))]
+    #[tactic(auto, using(crate::proofs::ReadPieces::is_long_now, crate::proofs::ReadPieces::is_long_still))]
     pub fn add(&mut self, piece: &[u8])
         requires { AreWithin (pieces_value self.old) }
         ensures within { AreWithin (pieces_value self.new) }
@@ -90,19 +109,13 @@ impl<A: Allocator + Copy> Pieces<A> {
             self.is_long = true;
             return;
         }
-        self.bytes += piece.len() as u32;
-        if self.fault.is_some() {
-            return;
-        }
-        if let Err(why) = self.keep(piece) {
-            self.fault = Some(why);
-        }
+        self.add_next(piece);
     }
 
     /// What the text tells whose pieces these were.
     ///
     /// Refusals: `TooLong`; `Wrong` with the first line at fault; `NoMemory`.
-    #[tactic(auto, using(crate::proofs::ReadFails::fails, crate::proofs::ReadPieces::reads_long, crate::proofs::ReadPieces::reads_fault, crate::proofs::ReadPieces::reads_rest))]
+    #[tactic(auto, using(crate::proofs::ReadFails::fails, crate::proofs::ReadPieces::reads_long, crate::proofs::ReadPieces::reads_rest))]
     pub fn finish(self) -> Result<Reading<A>, Refusal>
         requires { AreWithin (pieces_value self) }
         ensures { (skip : ℕ) (text : List ℕ) → HaveRead skip text (pieces_value self) → Reads result (reading_of skip text) }

@@ -72,7 +72,7 @@ pub(crate) fn class_of(sort: Sort) -> Option<Class>
 
 /// Whether the field of this name has that function.
 #[tactic(auto, unfolding(crate::specs::Signs::is_symbol))]
-fn is_symbol(name: &[u8], of: &[u8], fields: &[&[u8]]) -> bool
+pub(crate) fn is_symbol(name: &[u8], of: &[u8], fields: &[&[u8]]) -> bool
     ensures { result ≡ is_symbol name.now of.now (map (λ f. f.now) fields.now) }
 {
     match field(name, fields) {

@@ -19,6 +19,8 @@ pub enum Wrong {
     Records,
     /// It opens one stop more than there are CPUs.
     Stops,
+    /// It shows that a CPU has gone offline, and an event is refused that this may have caused.
+    Offline,
 }
 
 /// Why a text is not judged to its end.
