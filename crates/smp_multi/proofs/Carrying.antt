@@ -4,9 +4,9 @@ use Rattle.smp_mask.specs.Mask.{has}
 use Rattle.smp_stop_steps.specs.Threads.Known.{Sees, carrying, setup_in, stepped}
 use Rattle.smp_stop_steps.specs.Threads.KnownAfter.{acked_by, called_by, completed_by, drafted_known, is_drafting, is_patching, key_loaded_by}
 use Rattle.smp_stop_steps.specs.Threads.KnownAfter.{known_entering, known_told, key_read_known, member_stored, opened_by, raised_by, slot_stored}
-use Rattle.smp_stop_steps.specs.Threads.Moves.{Can, MayStep, Move, known_access, TakeGate, OpenGate, Draft, DraftMore, Open, Enter, Look, Acknowledge, AcknowledgePatch}
-use Rattle.smp_stop_steps.specs.Threads.Moves.{Refill, Raise, Give, Count, CountGiven, Close, LookDone, Collect, ReadKey, ReadSite, Nudge, BeginPatch, Alter}
-use Rattle.smp_stop_steps.specs.Threads.Moves.{LoadArg, LoadField, LoadEntry}
+use Rattle.smp_stop_steps.specs.Threads.Moves.{Can, MayStep, Move, known_access, TakeGate, OpenGate, Draft, DraftMore, Open, Enter, Look, Acknowledge}
+use Rattle.smp_stop_steps.specs.Threads.Moves.{AcknowledgePatch, Refill, Raise, Give, Count, CountGiven, Close, LookDone, Collect, ReadKey, ReadSite, Nudge}
+use Rattle.smp_stop_steps.specs.Threads.Moves.{BeginPatch, Alter, LoadArg, LoadField, LoadEntry}
 use Rattle.smp_stop_steps.specs.State.{StopState}
 use Rattle.smp_stop_steps.specs.Stop.{Inside}
 use Rattle.smp_stop_steps.specs.Tells.{may_call, plan_at}

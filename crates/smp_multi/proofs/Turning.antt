@@ -10,9 +10,8 @@ use Rattle.smp_stop_steps.specs.Callings.{HasCalled}
 use Rattle.smp_stop_steps.specs.Counts.{mask_weight}
 use Rattle.smp_stop_steps.specs.Threads.Known.{setup_in, stepped}
 use Rattle.smp_multi.specs.Lives.{StopMoment}
-use Rattle.smp_stop_steps.specs.Threads.KnownAfter.{acked_by, called_by, drafted_known, is_drafting, known_told, looked_known, looked_to, member_stored, raised_by}
-use Rattle.smp_stop_steps.specs.Threads.KnownAfter.{ran_since, read_since}
-use Rattle.smp_stop_steps.specs.Threads.KnownAfter.{refilled_by}
+use Rattle.smp_stop_steps.specs.Threads.KnownAfter.{acked_by, called_by, drafted_known, is_drafting, known_told, looked_known, looked_to, member_stored}
+use Rattle.smp_stop_steps.specs.Threads.KnownAfter.{raised_by, ran_since, read_since, refilled_by}
 use Rattle.smp_stop_steps.specs.Threads.Moves.{Look, Acknowledge, Refill, Raise, LoadArg, LoadField}
 use Rattle.smp_stop_steps.specs.Seats.{RoleStands}
 use Rattle.smp_stop_steps.specs.Sits.{IsLoaded}

@@ -33,7 +33,8 @@ pub(crate) fn read_key(words: SharedStopWords<'_>, seat: &mut StopSeat, k: u32) 
     requires low { k < MOST_KEYS }
     ensures table { seat.new.table ≡ words.entry.shared.now.table_id }
     ensures lives { Lives seat.new.known }
-    ensures known { (count : ℕ) × StopMoment seat.old.known (Key k) count × (result ≡ is_word_on count) × (seat.new.known ≡ loads_known k count seat.old.known) }
+    ensures known { (count : ℕ) × StopMoment seat.old.known (Key k) count × (result ≡ is_word_on count)
+        × (seat.new.known ≡ loads_known k count seat.old.known) }
 {
     is_on(load_count(words, seat, k))
 }

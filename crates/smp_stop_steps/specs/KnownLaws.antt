@@ -2,7 +2,8 @@
 use Rattle.std.specs.Prelude.{◌≡◌, ℕ, ◌+◌, Some, None}
 use Rattle.smp_stop_steps.specs.Names.{word_of, at_after, seen_of, Word, Work}
 use Rattle.smp_stop_steps.specs.Threads.Moves.{Move, Refill, Raise, Close, MayStep, known_access}
-use Rattle.smp_stop_steps.specs.{Threads.Known.KnownStops, Threads.Known.Sees, Threads.Known.setup_in, Threads.KnownAfter.known_entering, Labels.Change, Labels.Whole, Patchers.IsNextOfPatch}
+use Rattle.smp_stop_steps.specs.{Threads.Known.KnownStops, Threads.Known.Sees, Threads.Known.setup_in, Threads.KnownAfter.known_entering, Labels.Change}
+use Rattle.smp_stop_steps.specs.{Labels.Whole, Patchers.IsNextOfPatch}
 use Rattle.smp_stop_steps.specs.{Patchers.label_stored, Premises.MaySee, Promises.KeysStand, Seats.StopRole, Shows.StopShows, Sources.Source, State.StopState}
 
 -- who may make it, that a store to a label is the next of the CPU's patch, and that outside a patch no key is turned

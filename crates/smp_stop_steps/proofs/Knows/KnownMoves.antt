@@ -2,9 +2,9 @@
 use Rattle.std.proofs.Common.{ℕ, Some, None, refl}
 use Rattle.smp_stop_steps.specs.{word_of, at_after, seen_of, Sees, GoesOnBy, Seen, setup_in, slot_known, learned, known_entering, is_drafting, is_due, StopRole}
 use Rattle.smp_stop_steps.specs.{StopShows, Source, StopState, Field, Word, Slot, Entry, Threads.Known.KnownStops, Act}
-use Rattle.smp_stop_steps.specs.Threads.Moves.{Move, TakeGate, OpenGate, Draft, DraftMore, Open, Enter, Look, Acknowledge, AcknowledgePatch, Refill, Raise, Give, Count}
-use Rattle.smp_stop_steps.specs.Threads.Moves.{CountGiven, Close, LookDone, Collect, ReadKey, ReadSite, Nudge, BeginPatch, Alter, LoadArg, LoadField, LoadEntry}
-use Rattle.smp_stop_steps.specs.Threads.Moves.{MayStep, known_access, entering, IsPlain}
+use Rattle.smp_stop_steps.specs.Threads.Moves.{Move, TakeGate, OpenGate, Draft, DraftMore, Open, Enter, Look, Acknowledge, AcknowledgePatch, Refill, Raise}
+use Rattle.smp_stop_steps.specs.Threads.Moves.{Give, Count, CountGiven, Close, LookDone, Collect, ReadKey, ReadSite, Nudge, BeginPatch, Alter, LoadArg}
+use Rattle.smp_stop_steps.specs.Threads.Moves.{LoadField, LoadEntry, MayStep, known_access, entering, IsPlain}
 use Rattle.smp_stop_steps.proofs.Knows.KnownEnds.{give, count, count_given, close}
 use Rattle.smp_stop_steps.proofs.Knows.KnownLabels.{read_key, read_site, nudge, begin_patch, alter}
 use Rattle.smp_stop_steps.proofs.Knows.KnownRounds.{enter, load_arg, look, acknowledge, acknowledge_patch, refill, raise}

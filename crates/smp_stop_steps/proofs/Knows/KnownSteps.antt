@@ -5,9 +5,9 @@ use Rattle.smp_stop_steps.specs.{Shut, Drafts, Owns, Collects, Act}
 use Rattle.smp_stop_steps.specs.{Field, Work, acked_by, called_by, completed_by, drafted_known, entered_known, gate_known, is_drafting, key_known}
 use Rattle.smp_stop_steps.specs.{key_loaded_by, learned, is_due, member_stored, opened_by, order, raised_by, slot_known, slot_stored, told_work}
 use Rattle.smp_stop_steps.specs.{Slot, Threads.Known.KnownStops, Threads.Known.stepped, KnownLaws.KnownStepsCount, KnownLaws.weight_of}
-use Rattle.smp_stop_steps.specs.Threads.Moves.{Move, TakeGate, OpenGate, Draft, DraftMore, Open, Enter, Look, Acknowledge, AcknowledgePatch, Refill, Raise, Give, Count}
-use Rattle.smp_stop_steps.specs.Threads.Moves.{CountGiven, Close, LookDone, Collect, ReadKey, ReadSite, Nudge, BeginPatch, Alter, LoadArg, LoadField, LoadEntry}
-use Rattle.smp_stop_steps.specs.Threads.Moves.{MayStep, known_access}
+use Rattle.smp_stop_steps.specs.Threads.Moves.{Move, TakeGate, OpenGate, Draft, DraftMore, Open, Enter, Look, Acknowledge, AcknowledgePatch, Refill, Raise}
+use Rattle.smp_stop_steps.specs.Threads.Moves.{Give, Count, CountGiven, Close, LookDone, Collect, ReadKey, ReadSite, Nudge, BeginPatch, Alter, LoadArg}
+use Rattle.smp_stop_steps.specs.Threads.Moves.{LoadField, LoadEntry, MayStep, known_access}
 use Rattle.smp_labels.specs.declared.patch.Place.TheVariants as place
 
 -- what a step tells has no part in how many there were

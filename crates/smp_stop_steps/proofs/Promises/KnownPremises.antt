@@ -7,9 +7,9 @@ use Rattle.smp_stop_steps.specs.{DoneShows, Source, Shut, Drafts, Owns}
 use Rattle.smp_stop_steps.specs.{Collects, SourceShows, OwnerShows, IsNextOfPatch, label_stored, store_of, KeysStand, Change, Whole, Place}
 use Rattle.smp_stop_steps.specs.{Setup, StopState, Standing, Inside, Ended, acked, is_of, irq_of, Sees, setup_in, told_source, told_work, order, IsNudge}
 use Rattle.smp_stop_steps.specs.{all_but, begun_value, cpus, mask_weight, put_word, Threads.Known.KnownStops, KnownLaws.KeepsMoveLaws, Laws.IsThrough}
-use Rattle.smp_stop_steps.specs.Threads.Moves.{Move, TakeGate, OpenGate, Draft, DraftMore, Open, Enter, Look, Acknowledge, AcknowledgePatch, Refill, Raise, Give, Count}
-use Rattle.smp_stop_steps.specs.Threads.Moves.{CountGiven, Close, LookDone, Collect, ReadKey, ReadSite, Nudge, BeginPatch, Alter, LoadArg, LoadField, LoadEntry}
-use Rattle.smp_stop_steps.specs.Threads.Moves.{MayStep, known_access, IsPlain, IsThrough as IsThroughAll}
+use Rattle.smp_stop_steps.specs.Threads.Moves.{Move, TakeGate, OpenGate, Draft, DraftMore, Open, Enter, Look, Acknowledge, AcknowledgePatch, Refill, Raise}
+use Rattle.smp_stop_steps.specs.Threads.Moves.{Give, Count, CountGiven, Close, LookDone, Collect, ReadKey, ReadSite, Nudge, BeginPatch, Alter, LoadArg}
+use Rattle.smp_stop_steps.specs.Threads.Moves.{LoadField, LoadEntry, MayStep, known_access, IsPlain, IsThrough as IsThroughAll}
 use Rattle.smp_words.specs.Access.{one_less, put_if}
 use Rattle.smp_words.proofs.Puts.{at_test}
 use Rattle.smp_stop_steps.proofs.Knows.KnownSources.{holder, is_draft, is_owns, is_collects}

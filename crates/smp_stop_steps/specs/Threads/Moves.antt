@@ -5,7 +5,8 @@ use Rattle.smp_stop_steps.specs.Names.{has, MOST_KEYS, word_of, at_after, seen_o
 use Rattle.smp_stop_steps.specs.Names.{DISABLE_IRQ, RUN, EXIT}
 use Rattle.smp_stop_steps.specs.Threads.Known.{KnownStops, StopSetting, Sees, GoesOnBy, fresh, setup_in, told_work}
 use Rattle.smp_stop_steps.specs.Seats.{StopRole, Free, In, Gives, Alters, Closes, Rests, Fills, Sets, irq_of}
-use Rattle.smp_stop_steps.specs.{Counts.mask_weight, Threads.KnownAfter.is_drafting, Threads.KnownAfter.known_entering, Threads.KnownAfter.no_work, Callings.HasCalled, Labels.Change}
+use Rattle.smp_stop_steps.specs.{Counts.mask_weight, Threads.KnownAfter.is_drafting, Threads.KnownAfter.known_entering, Threads.KnownAfter.no_work}
+use Rattle.smp_stop_steps.specs.{Callings.HasCalled, Labels.Change}
 use Rattle.smp_stop_steps.specs.{Shows.StopShows, Sits.IsNudge, Slots.begun_value, Slots.order, Sources.Source, Sources.Shut, Sources.Drafts, Sources.Owns}
 use Rattle.smp_stop_steps.specs.{Sources.Collects, Sources.IsWork, Stages.all_but, Stages.store_of, State.Idle, State.StopState, State.no_stops, Tells.plan_at}
 
