@@ -7,7 +7,8 @@ ghost use Rattle.std.specs.Prelude.{◌≡◌, ◌≢◌, ◌+◌, ◌*◌, ◌<
 ghost use Rattle.smp_words.specs.Size.{records};
 ghost use Rattle.smp_mask.specs.Mask.{has};
 ghost use Rattle.smp_call_steps.specs.Stands.{posted};
-ghost use Rattle.smp_call_steps.specs.Threads.Known.{confirmed_known, queued_known, outside_known, looked_known, lost_one, stepped, is_confirmed, standing, Lives};
+ghost use Rattle.smp_call_steps.specs.Threads.Known.{confirmed_known, queued_known, outside_known, looked_known, lost_one, stepped, is_confirmed};
+ghost use Rattle.smp_call_steps.specs.Threads.Known.{standing, Lives};
 ghost use Rattle.smp_call_steps.specs.declared.post.PostStage.TheVariants as post;
 ghost use Rattle.smp_call_steps.specs.declared.stage.Stage.TheVariants.{Post};
 ghost use Rattle.smp_queue.specs.Seat.{OwnsRecord, IsMine, IsCounting, IsTallied, uncounted, counted};
