@@ -18,7 +18,8 @@ use std::marker::{Model, PhantomData};
 pub(crate) struct Crowd<S, V> {
     marker: PhantomData<(S, V)>,
     pub ghost table_id: { TableId } by { table_id_coded },
-    pub ghost seats: { List (TableId × (ℕ × Me S V)) } by { coded_list (coded× table_id_coded (coded× coded_ℕ (coded× V.code (coded_list (coded× coded_ℕ S.code))))) },
+    pub ghost seats: { List (TableId × (ℕ × Me S V)) } by { coded_list (coded× table_id_coded
+        (coded× coded_ℕ (coded× V.code (coded_list (coded× coded_ℕ S.code))))) },
 }
 
 impl<S, V> Model for Crowd<S, V> {
