@@ -6,3 +6,5 @@ mod Printing
 mod ReadFails
 mod ReadPieces
 mod Steps
+mod ThinLines
+mod ThinPrinting

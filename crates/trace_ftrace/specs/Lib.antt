@@ -29,6 +29,7 @@ pub mod StopTold
 pub mod Stops
 pub mod Telling
 pub mod Text
+pub mod ThinText
 pub mod Told
 pub mod ToldView
 pub mod Verdict

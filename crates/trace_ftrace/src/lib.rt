@@ -1,6 +1,7 @@
 //! What a kernel's own tracer wrote, as events that are judged.
 //!
 //! - `text`: The verdict on a text of the tracer; `verdict`: the verdict on its events; `verdict_text`: what is printed of it.
+//! - `thin_text`: A text of which only the lines are kept that a verdict shows.
 //! - `names`: Why an event is none, by the kernel's names; `counts`: what of the lines is not judged; `waits`: the calls that wait for long.
 //! - `print`: The trace that a text tells; `json`: its events in the trace-event format.
 //! - `laws`: What is printed of a text, for a reader of it.
@@ -39,6 +40,7 @@ pub mod stop_sign;
 mod stop_told;
 pub mod stops;
 pub mod text;
+pub mod thin_text;
 pub mod told;
 pub mod verdict;
 pub mod verdict_text;

@@ -1,12 +1,14 @@
 //! The verdict on a text of the tracer.
 
-ghost use Rattle.std.specs.Prelude.{◌≡◌, map, Ok};
+ghost use Rattle.std.specs.Prelude.{◌≡◌, map, List, ℕ, Ok};
 ghost use Rattle.trace_ftrace.specs.KeptView.{kept_value};
 ghost use Rattle.trace_ftrace.specs.Offline.{made_of, unless_hidden};
 ghost use Rattle.trace_ftrace.specs.Reading.{reading_of};
 ghost use Rattle.trace_ftrace.specs.SourceView.{source_value};
 ghost use Rattle.trace_ftrace.specs.Text.{ruling_of, ruling_unless, Prints, PrintsInOrder, PrintsRuling, PrintsRun, PrintsSeen};
+ghost use Rattle.trace_ftrace.specs.ThinText.{lines_shown, ShowSame};
 ghost use Rattle.trace_ftrace.specs.ToldView.{telling_value};
+ghost use Rattle.trace_ftrace.specs.Verdict.{ruling_of as ruling_of_told, Rules};
 
 use crate::bounds::shows_order;
 use crate::kept::functions_of;
@@ -135,6 +137,34 @@ pub fn judge_read<A: Allocator + Copy>(
         slow,
     );
     ruled(alloc, &source)
+}
+
+/// What is printed of this verdict on what was read of a text. This text may be a thin one: what is printed is that of each text with
+/// the same of the lines that are shown.
+///
+/// Refusals: `Wrong` where a CPU goes offline and may have caused the event that is refused; `NoMemory`.
+pub fn print_verdict<A: Allocator + Copy>(
+    alloc: A,
+    slow: u64,
+    reading: &Reading<A>,
+    verdict: &Verdict<A>,
+    thin: &[u8],
+) -> Result<(Vec<u8, A>, Ruling), Refusal>
+    requires { Rules (Ok verdict.now) (ruling_of_told reading.now.telling.told.items) }
+    ensures { (text : List ℕ) → ShowSame (lines_shown reading.now.telling.told.items verdict.now) text thin.now
+        → Prints result text slow (Ok (kept_value reading.now.kept, telling_value reading.now.telling)) }
+{
+    let Ok(functions) = functions_of(alloc, &reading.kept) else {
+        return Err(Refusal::NoMemory);
+    };
+    let source = source_of(
+        thin,
+        functions.as_slice(),
+        reading,
+        OrderJudged::Unasked,
+        slow,
+    );
+    said(alloc, &source, verdict)
 }
 
 /// Judges a text that a kernel's tracer wrote, without its first `skip` nanoseconds: what is printed of the verdict, with each call

@@ -5,7 +5,7 @@ ghost use Rattle.smp_script.specs.Lines.{lines_of};
 ghost use Rattle.trace_ftrace.specs.SourceView.{source_value};
 ghost use Rattle.trace_ftrace.specs.Text.{broken_lines, broken_record, class_text, count_text, counts_text, direct_text, earlier_text};
 ghost use Rattle.trace_ftrace.specs.Text.{event_record, first_counts, front_text, judged_text, last_counts, last_queue, lawful_lines};
-ghost use Rattle.trace_ftrace.specs.Text.{line_behind, line_from, named_record, order_text, queued_text, shown_text, source_text};
+ghost use Rattle.trace_ftrace.specs.Text.{line_behind, line_from, named_record, order_text, queue_of, queued_text, shown_text, source_text};
 ghost use Rattle.trace_ftrace.specs.Text.{verdict_text, wakes_text, works_text};
 
 use crate::counts::{Counts, count_lines};
@@ -43,7 +43,7 @@ pub(crate) struct Source<'a> {
 }
 
 /// The line of this number, from 1 on; empty where there is none.
-fn line_text(text: &[u8], number: u32) -> &[u8]
+pub(crate) fn line_text(text: &[u8], number: u32) -> &[u8]
     ensures { result.now ≡ line_from 1 number (lines_of text.now) }
 {
     let mut at = 1u64;
@@ -86,7 +86,7 @@ fn event_record(event: Event) -> Option<u16>
 }
 
 /// The record that is wrong where an event is refused: that of the reason, or else that of the event.
-fn broken_record(event: Event, why: Reason) -> Option<u16>
+pub(crate) fn broken_record(event: Event, why: Reason) -> Option<u16>
     ensures { result ≡ broken_record event why }
 {
     match named_record(why) {
@@ -108,6 +108,16 @@ fn last_queue(told: &[Told], id: u16, line: u32) -> Option<u32>
         rest = after;
     }
     found
+}
+
+/// The line that has queued a record last, where there is a record.
+pub(crate) fn queue_of(told: &[Told], broken: Option<u16>, line: u32) -> Option<u32>
+    ensures { result ≡ queue_of broken line told.now }
+{
+    match broken {
+        Some(id) => last_queue(told, id, line),
+        None => None,
+    }
 }
 
 /// Writes a line of a text.
@@ -160,10 +170,7 @@ fn write_source<A: Allocator + Copy>(
     ensures { OnOk result (out.new.items ≡ out.old.items ++ source_text source.now.text.now source.now.told.now line broken) }
 {
     write_line(out, source.text, line)?;
-    let queued = match broken {
-        Some(id) => last_queue(source.told, id, line),
-        None => None,
-    };
+    let queued = queue_of(source.told, broken, line);
     write_queued(alloc, out, source.text, queued)
 }
 
