@@ -1,4 +1,5 @@
--- why calls fail, texts of jobs, the exit status
+-- why calls fail, texts of jobs, files of a kernel's tracer, the exit status
 pub mod Failures
 pub mod Jobs
+pub mod KernelFiles
 pub mod Status

@@ -1,15 +1,19 @@
 //! The verdict on a file of a kernel's tracer, whose text is not held as a whole.
 
-ghost use Rattle.std.specs.Prelude.{List, ℕ, Ok, IfSome};
+ghost use Rattle.std.specs.Prelude.{◌≡◌, List, ℕ, Ok, IfSome};
 ghost use Rattle.std.specs.Io.KnownBytes.{Consumes, IsAtEnd};
+ghost use Rattle.commands.specs.KernelFiles.{GivesLines};
 ghost use Rattle.trace_ftrace.specs.Reading.{reading_of, Reads};
+ghost use Rattle.trace_ftrace.specs.Text.{Prints};
+ghost use Rattle.trace_ftrace.specs.ThinText.{HasKept};
 
 use std::alloc::Global;
 use std::fs::File;
 use std::io::Read;
 use trace_ftrace::pieces::Pieces;
-use trace_ftrace::text::judge_read;
-use trace_ftrace::verdict::{MOST_KERNEL_BYTES, Reading};
+use trace_ftrace::text::print_verdict;
+use trace_ftrace::thin_text::{ShownLines, ThinText, lines_shown};
+use trace_ftrace::verdict::{MOST_KERNEL_BYTES, Reading, judge_told};
 use trace_judge::Ruling;
 
 /// How many bytes are read at once.
@@ -37,16 +41,71 @@ fn read_pieces<R: Read>(rt: &HostRuntime, skip: u64, reader: &mut R) -> Option<R
     None
 }
 
-/// What is printed of a lawful text in a regular file, read in pieces. None where it is not lawful, or is refused, or can't be
-/// read: then its whole text says why.
-pub fn judge_lawful_file(rt: &HostRuntime, path: &str, skip: u64, slow: u64) -> Option<Vec<u8>> {
+/// The lines that are shown of what a reader gives, with each other line empty; none where it fails.
+fn read_thin<R: Read>(
+    rt: &HostRuntime,
+    lines: ShownLines,
+    reader: &mut R,
+) -> Option<ThinText<Global>>
+    ensures { IfSome result (λ t. (text : List ℕ) × Consumes (R.remaining reader.old) (R.remaining reader.new) text
+        × IsAtEnd (R.remaining reader.new) × HasKept lines text t) }
+{
+    let mut thin = ThinText::new(rt.alloc(), lines);
+    let mut piece = [0u8; PIECE];
+    let mut left = MOST_KERNEL_BYTES + 1;
+    'pieces: while left > 0 {
+        let room = (left as usize).min(PIECE);
+        match reader.read(&mut piece[..room]) {
+            Ok(0) => return Some(thin),
+            Ok(n) => {
+                let Ok(()) = thin.add(&piece[..n]) else {
+                    return None;
+                };
+                left -= n as u32;
+            }
+            Err(_) => return None,
+        }
+    }
+    None
+}
+
+/// What is printed of the text that a reader gives, and whether it is lawful, without holding it. The second reader gives the text
+/// again, for the lines that are shown of one that is not lawful. None where it is refused, can't be read, or has no such line.
+fn judge_twice<R: Read, S: Read>(
+    rt: &HostRuntime,
+    skip: u64,
+    slow: u64,
+    reader: &mut R,
+    again: &mut S,
+) -> Option<(Vec<u8>, Ruling)>
+    ensures { IfSome result (λ r. (text : List ℕ) × Consumes (R.remaining reader.old) (R.remaining reader.new) text
+        × IsAtEnd (R.remaining reader.new) × ((shown : List ℕ) × GivesLines text (S.remaining again.old) (S.remaining again.new) shown
+        × Prints (Ok r) shown slow (reading_of skip text))) }
+{
+    let reading = read_pieces(rt, skip, reader)?;
+    let verdict = judge_told(rt.alloc(), reading.telling.told.as_slice()).ok()?;
+    match lines_shown(reading.telling.told.as_slice(), &verdict) {
+        None => print_verdict(rt.alloc(), slow, &reading, &verdict, b"").ok(),
+        Some(lines) => {
+            let thin = read_thin(rt, lines, again)?;
+            let text = thin.text()?;
+            print_verdict(rt.alloc(), slow, &reading, &verdict, text).ok()
+        }
+    }
+}
+
+/// What is printed of a text in a regular file, which is read in pieces, and again where it is not lawful. None where it is refused,
+/// can't be read, or has another length when it was read: then its whole text says what is printed.
+pub fn judge_file(rt: &HostRuntime, path: &str, skip: u64, slow: u64) -> Option<(Vec<u8>, Ruling)> {
     let mut file = File::open(rt, path).ok()?;
-    if !file.metadata().ok()?.is_file() {
+    let before = file.metadata().ok()?;
+    if !before.is_file() {
         return None;
     }
-    let reading = read_pieces(rt, skip, &mut file)?;
-    match judge_read(rt.alloc(), slow, &reading, b"") {
-        Ok((out, Ruling::Lawful)) => Some(out),
-        _ => None,
+    let mut again = File::open(rt, path).ok()?;
+    let (out, ruling) = judge_twice(rt, skip, slow, &mut file, &mut again)?;
+    if ruling == Ruling::Broken && again.metadata().ok()?.len() != before.len() {
+        return None;
     }
+    Some((out, ruling))
 }

@@ -8,7 +8,7 @@ use crate::check::check_trace;
 use crate::explain::explain_text;
 use crate::failure::{Failure, failure_of};
 use crate::failure_text::{tell, tell_end};
-use crate::kernel_file::judge_lawful_file;
+use crate::kernel_file::judge_file;
 use crate::outcomes::{Question, print_outcomes};
 use crate::searches::{Search, print};
 use crate::status::{Answer, status_of};
@@ -250,15 +250,15 @@ fn do_kind(rt: &HostRuntime, request: &Request<'_>, text: &[u8]) -> Result<Answe
     }
 }
 
-/// Writes the verdict on a lawful text of a kernel's tracer in a file, whose text is not held; none where it is another one.
+/// Writes the verdict on a text of a kernel's tracer in a file, without holding it; none where its whole text has to say more.
 fn do_pieces(rt: &HostRuntime, request: &Request<'_>) -> Option<Result<Answer, Failure>> {
     let (Job::JudgeKernel(skip, slow), Some(path)) = (&request.job, request.file) else {
         return None;
     };
-    let out = judge_lawful_file(rt, path, *skip, *slow)?;
+    let (out, ruling) = judge_file(rt, path, *skip, *slow)?;
     let mut writer = Watched::new(Remembering::new(rt.stdout()));
     match print(&mut writer, out.as_slice()) {
-        Ok(()) => Some(Ok(Answer::Judged(Ruling::Lawful))),
+        Ok(()) => Some(Ok(Answer::Judged(ruling))),
         Err(Failure::Unwritten(_)) => {
             Some(Err(Failure::Unwritten(writer.into_inner().reason())))
         }

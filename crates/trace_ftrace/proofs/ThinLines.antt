@@ -12,7 +12,7 @@ onto_from : (k n x : ℕ) (ls : List Line) → line_from k n (onto_line x ls) �
 onto_from k n x [] = elim (k == n) as (λ v. (if v then x ∷ [] else []) ≡ (if v then x ∷ [] else [])) [ true ↦ refl | false ↦ refl ]
 onto_from k n x (l ∷ ls) =
     elim (k == n) as (λ v. (if v then x ∷ l.text else line_from (k + 1) n ls)
-        ≡ (if v then x ∷ (if v then l.text else line_from (k + 1) n ls) else (if v then l.text else line_from (k + 1) n ls))) [ true ↦ refl | false ↦ refl ]
+    ≡ (if v then x ∷ (if v then l.text else line_from (k + 1) n ls) else (if v then l.text else line_from (k + 1) n ls))) [ true ↦ refl | false ↦ refl ]
 
 -- a line feed in front, and another byte
 lines_if : (here : Bool) (k n x : ℕ) (ls : List Line)
@@ -23,7 +23,7 @@ lines_if false k n x ls = onto_from k n x ls
 
 front : (k n x : ℕ) (xs : List ℕ) → line_from k n (lines_of (x ∷ xs))
     ≡ (if x == 10 then (if k == n then [] else line_from (k + 1) n (lines_of xs)) else (if k == n then x ∷ line_from k n (lines_of xs)
-        else line_from k n (lines_of xs)))
+    else line_from k n (lines_of xs)))
 front k n x xs = lines_if (x == 10) k n x (lines_of xs)
 
 same_front : (here there : Bool) (x : ℕ) (u v p q : List ℕ) → (here ≡ true → u ≡ v) → (here ≡ false → p ≡ q)
@@ -40,8 +40,8 @@ without k n b [] rest h q =
 without k n b (x ∷ xs) rest h q =
     front k n x (xs ++ (b ∷ rest))
     ∙ same_front (x == 10) (k == n) x _ _ _ _
-        (λ t. without (k + 1) n b xs rest h (λ e. q (rw t (omega (arith, e)))))
-        (λ f. without k n b xs rest h (λ e. q (rw f (omega (arith, e)))))
+    (λ t. without (k + 1) n b xs rest h (λ e. q (rw t (omega (arith, e)))))
+    (λ f. without k n b xs rest h (λ e. q (rw f (omega (arith, e)))))
     ∙ sym (front k n x (xs ++ rest))
 
 -- no text has more line feeds than bytes
@@ -58,10 +58,11 @@ feeds_push : (b : ℕ) (bs : List ℕ) → line_feeds (bs ++ (b ∷ [])) ≡ (if
 feeds_push b [] = refl
 feeds_push b (x ∷ xs) = rw (feeds_push b xs) (
     elim (x == 10) as (λ v. (if v then (if b == 10 then line_feeds xs + 1 else line_feeds xs) + 1 else (if b == 10 then line_feeds xs + 1 else line_feeds xs))
-        ≡ (if b == 10 then (if v then line_feeds xs + 1 else line_feeds xs) + 1 else (if v then line_feeds xs + 1 else line_feeds xs)))
-    [ true ↦ elim (b == 10) as (λ w. (if w then line_feeds xs + 1 else line_feeds xs) + 1 ≡ (if w then line_feeds xs + 1 + 1 else line_feeds xs + 1))
-        [ true ↦ refl | false ↦ refl ]
-    | false ↦ refl ])
+    ≡ (if b == 10 then (if v then line_feeds xs + 1 else line_feeds xs) + 1 else (if v then line_feeds xs + 1 else line_feeds xs))) [
+      | true ↦ elim (b == 10) as (λ w. (if w then line_feeds xs + 1 else line_feeds xs) + 1 ≡ (if w then line_feeds xs + 1 + 1 else line_feeds xs + 1))
+          [ true ↦ refl | false ↦ refl ]
+      | false ↦ refl
+    ])
 
 pub feeds_more : (b : ℕ) (bs : List ℕ) → (b == 10) ≡ true → line_feeds (bs ++ (b ∷ [])) ≡ line_feeds bs + 1
 feeds_more b bs h = rw (feeds_push b bs, h) refl

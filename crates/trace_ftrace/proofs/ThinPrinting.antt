@@ -51,8 +51,10 @@ source_same : (text thin : List ℕ) (told : List Told) (line : ℕ) (record_of 
     → source_text text told line record_of ≡ source_text thin told line record_of
 unfolding source_text
 source_same text thin told line record_of h =
-    rw (behind_same text thin line (h line (refused_shown line (queue_of record_of line told))),
-        queued_same text thin line (queue_of record_of line told) h) refl
+    rw (
+      behind_same text thin line (h line (refused_shown line (queue_of record_of line told))),
+      queued_same text thin line (queue_of record_of line told) h,
+    ) refl
 
 broken_same : (text thin : List ℕ) (slow : ℕ) (k : KeptValue) (t : TellingValue) (line cpu unshown : ℕ) (e : Event) (why : Reason)
     → ShowSame (Some (record { refused = line; queued = queue_of (broken_record e why) line t.told })) text thin
@@ -65,9 +67,9 @@ verdict_same : (out : List ℕ) (ruling : Ruling) (hidden : Bool) (off : ℕ) (t
     (line cpu : ℕ) (e : Event) (why : Reason)
     → ShowSame (Some (record { refused = line; queued = queue_of (broken_record e why) line t.told })) text thin
     → PrintsVerdict out ruling (source_of thin slow k t)
-        (if hidden then Err (refusal.Wrong off wrong.Offline) else Ok (Err (early_end.Broken line cpu e why)))
+    (if hidden then Err (refusal.Wrong off wrong.Offline) else Ok (Err (early_end.Broken line cpu e why)))
     → PrintsVerdict out ruling (source_of text slow k t)
-        (if hidden then Err (refusal.Wrong off wrong.Offline) else Ok (Err (early_end.Broken line cpu e why)))
+    (if hidden then Err (refusal.Wrong off wrong.Offline) else Ok (Err (early_end.Broken line cpu e why)))
 verdict_same out ruling true off text thin slow k t line cpu e why h p = p
 verdict_same out ruling false off text thin slow k t line cpu e why h p =
     (rw (← broken_same text thin slow k t line cpu _ e why h) p.0, p.1)
