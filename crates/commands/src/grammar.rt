@@ -58,6 +58,13 @@ const MEMORY: Choice = Choice {
     help: "Keeps states of at most MIB times 2^20 bytes, 1 to 4294967295; no limit without it",
 };
 
+const THREADS: Choice = Choice {
+    name: "threads",
+    value: "N",
+    takes: Value::Number(1, 64, None),
+    help: "Works out steps with N threads, 1 to 64; with one for each processor without it",
+};
+
 const MERGE: Choice = Choice {
     name: "merge",
     value: "",
@@ -430,9 +437,9 @@ pub fn grammar<'a>(alloc: Global) -> Result<Command<'a>, AllocError> {
         (JSON, &[FROM_OR_WRITER, TO, CPUS, SKIP]),
         (PAGE, &[MARK, SOURCE, SKIP]),
         (EXPLAIN, &[]),
-        (EXPLORE, &[MERGE, STATES, MEMORY, ONLY, SCRIPTS, AS_JSON]),
+        (EXPLORE, &[MERGE, STATES, MEMORY, THREADS, ONLY, SCRIPTS, AS_JSON]),
         (SAMPLE, &[SEED, RUNS, STEPS, ONLY, SCRIPTS]),
-        (OUTCOMES, &[STATES, MEMORY, OUTCOME, OUTCOMES_TO]),
+        (OUTCOMES, &[STATES, MEMORY, THREADS, OUTCOME, OUTCOMES_TO]),
         (SCRIPT, &[SEED, RUN, STEPS]),
         (EVENTS, &[]),
         (CHECK, &[]),

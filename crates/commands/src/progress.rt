@@ -1,7 +1,7 @@
 //! How far a search is, told on standard error.
 
 use crate::expectation_names::Named;
-use explore::Watch;
+use explore::{ManyThreads, Watch};
 use std::alloc::Global;
 use std::io;
 use std::time::{Clock, Instant};
@@ -25,6 +25,8 @@ pub struct Progress<'a> {
     counted: Counted,
     /// What is searched for.
     names: &'a [Named],
+    /// How many threads work out steps.
+    threads: usize,
     /// What is broken, and was not told of.
     broken: Vec<Named>,
     /// None where the clock failed.
@@ -36,11 +38,17 @@ pub struct Progress<'a> {
 }
 
 impl<'a> Progress<'a> {
-    pub fn new(rt: &'a HostRuntime, counted: Counted, names: &'a [Named]) -> Progress<'a> {
+    pub fn new(
+        rt: &'a HostRuntime,
+        counted: Counted,
+        names: &'a [Named],
+        threads: usize,
+    ) -> Progress<'a> {
         Progress {
             rt,
             counted,
             names,
+            threads,
             broken: Vec::new(rt.alloc()),
             began: Instant::now(rt).ok(),
             told: 0,
@@ -115,6 +123,15 @@ impl<'a> Progress<'a> {
 }
 
 impl<'a> Watch for Progress<'a> {
+    type Threading = ManyThreads<'a, HostRuntime>;
+
+    fn threading(&self) -> ManyThreads<'a, HostRuntime> {
+        ManyThreads {
+            rt: self.rt,
+            threads: self.threads,
+        }
+    }
+
     fn look(&mut self, count: usize, steps: u64) {
         self.calls = self.calls.wrapping_add(1);
         if !self.is_due() {

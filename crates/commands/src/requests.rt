@@ -19,6 +19,7 @@ use smp_mask::SmpError;
 use smp_script::{Outcome, Watched};
 use std::io;
 use std::io::Write;
+use std::thread::available_parallelism;
 use trace_events::show_events;
 use trace_ftrace::json::json_of_kernel;
 use trace_ftrace::print::print_kernel;
@@ -205,6 +206,15 @@ fn do_script<W: Write>(
     }
 }
 
+/// How many threads work out the steps of a search: one for each processor, up to 64, where no word says.
+fn threads_of(rt: &HostRuntime, request: &Request<'_>) -> usize {
+    match (request.threads, available_parallelism(rt)) {
+        (Some(threads), _) => threads as usize,
+        (None, Ok(processors)) => processors.get().min(64),
+        (None, Err(_)) => 1,
+    }
+}
+
 /// Does this with a text, and writes what is found.
 fn do_text<W: Write>(
     rt: &HostRuntime,
@@ -221,16 +231,19 @@ fn do_text<W: Write>(
                 names: request.words.as_slice(),
                 most: *most,
                 scripts: *scripts,
+                threads: threads_of(rt, request),
             };
             Ok(Answer::Explored(print_outcomes(rt, &question, text, writer)?))
         }
         Job::Explore(orders, scripts) => {
             let search = Search {
+                rt,
                 orders: *orders,
                 text,
                 scripts: *scripts,
+                threads: threads_of(rt, request),
             };
-            Ok(Answer::Explored(search.run(rt, writer)?))
+            Ok(Answer::Explored(search.run(writer)?))
         }
         job => do_script(rt, job, text, writer),
     }
