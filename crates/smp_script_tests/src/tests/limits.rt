@@ -83,6 +83,7 @@ fn outcomes_of(rt: &HostRuntime, states: usize, scripts: Scripts<'_>) -> (Vec<u8
         names: &["intr.0"],
         most: Most { states, bytes },
         scripts,
+        threads: 2,
     };
     let mut writer = Watched::new(Vec::new(rt.alloc()));
     let done = print_outcomes(rt, &question, text, &mut writer);
@@ -113,6 +114,42 @@ fn outcomes_of_two_sends(rt: HostRuntime) {
     }
 }
 
+// Four CPUs post to a fifth, with four tries each. Plain C and Spin count as many states, steps and levels.
+const POSTS: &[u8] = b"\
+    smp 1 explore\n\
+    cpus 5 0-4\n\
+    cpu 0 post 0 4 sync 7 42 4\n\
+    cpu 1 post 0 4 sync 7 42 4\n\
+    cpu 2 post 0 4 sync 7 42 4\n\
+    cpu 3 post 0 4 sync 7 42 4\n\
+    ";
+
+// What is printed is the same, however many threads there are.
+#[test]
+fn threads_work_out_the_steps(rt: HostRuntime) -> Result<(), Fail> {
+    let wanted = b"\
+        goes holds, 16084 states, 46504 steps, 38 deep\n\
+        ends holds, 16084 states, 46504 steps, 38 deep\n\
+        "
+        .as_slice();
+    for threads in [1, 3, 64] {
+        let search = Search {
+            rt: &rt,
+            orders: Orders::All(Most {
+                states: 16_084,
+                bytes: usize::MAX,
+            }),
+            text: POSTS,
+            scripts: Scripts::Behind,
+            threads,
+        };
+        let mut writer = Watched::new(Vec::new(rt.alloc()));
+        assert!(rt; search.run(&mut writer).is_ok(), "{threads}");
+        assert_eq!(rt; writer.into_inner().as_slice(), wanted, "{threads}");
+    }
+    Ok(())
+}
+
 // Two sends that break what is expected.
 const SENDS: &[u8] = b"\
     smp 1 explore\n\
@@ -126,15 +163,17 @@ const SENDS: &[u8] = b"\
 // What is printed of an exploration of 4 states at most, whose scripts go there, and the status.
 fn explored(rt: &HostRuntime, text: &[u8], scripts: Scripts<'_>) -> (Vec<u8, Global>, u8) {
     let search = Search {
+        rt,
         orders: Orders::All(Most {
             states: 4,
             bytes: usize::MAX,
         }),
         text,
         scripts,
+        threads: 1,
     };
     let mut writer = Watched::new(Vec::new(rt.alloc()));
-    let done = search.run(rt, &mut writer);
+    let done = search.run(&mut writer);
     let status = status_of(done.map(|e| Answer::Explored(e)));
     (writer.into_inner(), status)
 }
