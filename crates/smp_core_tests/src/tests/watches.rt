@@ -3,8 +3,8 @@
 use crate::tests::search::{NOTHING, once, post, states, until};
 use explore::walk::walk;
 use explore::{
-    Answered, Atom, Conditions, Expected, Part, Start, Verdict, WalkEnd, Walked, Watch, explore,
-    explore_each,
+    Answered, Atom, Conditions, Expected, OneThread, Part, Start, Verdict, WalkEnd, Walked, Watch,
+    explore, explore_each,
 };
 use smp_core::{Command, Core, RecPlace, Word};
 use smp_mask::SmpError;
@@ -20,6 +20,12 @@ struct Noted {
 }
 
 impl Watch for Noted {
+    type Threading = OneThread;
+
+    fn threading(&self) -> OneThread {
+        OneThread
+    }
+
     fn look(&mut self, states: usize, steps: u64) {
         self.calls = self.calls.wrapping_add(1);
         self.states = states;
@@ -57,6 +63,12 @@ struct Breaks {
 }
 
 impl Watch for Breaks {
+    type Threading = OneThread;
+
+    fn threading(&self) -> OneThread {
+        OneThread
+    }
+
     fn look(&mut self, _states: usize, _steps: u64) {}
 
     fn broken(&mut self, number: usize) {
