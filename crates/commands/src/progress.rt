@@ -4,6 +4,7 @@ use crate::expectation_names::Named;
 use explore::{ManyThreads, Watch};
 use std::alloc::Global;
 use std::io;
+use std::thread::Threads;
 use std::time::{Clock, Instant};
 
 /// The clock is looked at once in this number of states.
@@ -20,13 +21,12 @@ pub enum Counted {
 /// Tells standard error once a second how far a search is, from the first second on, and of each expectation that it finds
 /// broken. What fails in that is passed over.
 #[derive(Drop)]
-pub struct Progress<'a> {
+pub struct Progress<'a, R> {
     rt: &'a HostRuntime,
     counted: Counted,
     /// What is searched for.
     names: &'a [Named],
-    /// How many threads work out steps.
-    threads: usize,
+    threading: ManyThreads<'a, R>,
     /// What is broken, and was not told of.
     broken: Vec<Named>,
     /// None where the clock failed.
@@ -37,18 +37,18 @@ pub struct Progress<'a> {
     calls: u32,
 }
 
-impl<'a> Progress<'a> {
+impl<'a, R> Progress<'a, R> {
     pub fn new(
         rt: &'a HostRuntime,
         counted: Counted,
         names: &'a [Named],
-        threads: usize,
-    ) -> Progress<'a> {
+        threading: ManyThreads<'a, R>,
+    ) -> Progress<'a, R> {
         Progress {
             rt,
             counted,
             names,
-            threads,
+            threading,
             broken: Vec::new(rt.alloc()),
             began: Instant::now(rt).ok(),
             told: 0,
@@ -122,14 +122,11 @@ impl<'a> Progress<'a> {
     }
 }
 
-impl<'a> Watch for Progress<'a> {
-    type Threading = ManyThreads<'a, HostRuntime>;
+impl<'a, R: Threads + Sync> Watch for Progress<'a, R> {
+    type Threading = ManyThreads<'a, R>;
 
-    fn threading(&self) -> ManyThreads<'a, HostRuntime> {
-        ManyThreads {
-            rt: self.rt,
-            threads: self.threads,
-        }
+    fn threading(&self) -> ManyThreads<'a, R> {
+        self.threading
     }
 
     fn look(&mut self, count: usize, steps: u64) {

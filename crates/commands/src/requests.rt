@@ -13,13 +13,13 @@ use crate::outcomes::{Question, print_outcomes};
 use crate::searches::{Search, print};
 use crate::status::{Answer, status_of};
 use crate::streams::{Remembering, read_text};
-use explore::Unwatched;
+use explore::{ManyThreads, Unwatched};
 use explore_text::{Ending, Run, Task, explore_script};
 use smp_mask::SmpError;
 use smp_script::{Outcome, Watched};
 use std::io;
 use std::io::Write;
-use std::thread::available_parallelism;
+use std::thread::{Threads, available_parallelism};
 use trace_events::show_events;
 use trace_ftrace::json::json_of_kernel;
 use trace_ftrace::print::print_kernel;
@@ -206,18 +206,20 @@ fn do_script<W: Write>(
     }
 }
 
-/// How many threads work out the steps of a search: one for each processor, up to 64, where no word says.
-fn threads_of(rt: &HostRuntime, request: &Request<'_>) -> usize {
-    match (request.threads, available_parallelism(rt)) {
+/// The threads that work out the steps of a search: one for each processor, up to 64, where no word says.
+fn threading_of<'r, R: Threads>(by: &'r R, request: &Request<'_>) -> ManyThreads<'r, R> {
+    let threads = match (request.threads, available_parallelism(by)) {
         (Some(threads), _) => threads as usize,
         (None, Ok(processors)) => processors.get().min(64),
         (None, Err(_)) => 1,
-    }
+    };
+    ManyThreads { rt: by, threads }
 }
 
 /// Does this with a text, and writes what is found.
-fn do_text<W: Write>(
+fn do_text<R: Threads + Sync, W: Write>(
     rt: &HostRuntime,
+    by: &R,
     request: &Request<'_>,
     text: &[u8],
     writer: &mut Watched<W>,
@@ -231,7 +233,7 @@ fn do_text<W: Write>(
                 names: request.words.as_slice(),
                 most: *most,
                 scripts: *scripts,
-                threads: threads_of(rt, request),
+                threading: threading_of(by, request),
             };
             Ok(Answer::Explored(print_outcomes(rt, &question, text, writer)?))
         }
@@ -241,7 +243,7 @@ fn do_text<W: Write>(
                 orders: *orders,
                 text,
                 scripts: *scripts,
-                threads: threads_of(rt, request),
+                threading: threading_of(by, request),
             };
             Ok(Answer::Explored(search.run(writer)?))
         }
@@ -250,13 +252,18 @@ fn do_text<W: Write>(
 }
 
 /// Does this with a text of the kind that it takes, and writes what is found to standard output.
-fn do_kind(rt: &HostRuntime, request: &Request<'_>, text: &[u8]) -> Result<Answer, Failure> {
+fn do_kind<R: Threads + Sync>(
+    rt: &HostRuntime,
+    by: &R,
+    request: &Request<'_>,
+    text: &[u8],
+) -> Result<Answer, Failure> {
     match (request.job.takes(), kind_of(text)) {
         (Some(taken), Some(kind)) if taken != kind => return Err(Failure::OtherKind(kind)),
         _ => {}
     }
     let mut writer = Watched::new(Remembering::new(rt.stdout()));
-    let done = do_text(rt, request, text, &mut writer);
+    let done = do_text(rt, by, request, text, &mut writer);
     match done {
         Err(Failure::Unwritten(_)) => Err(Failure::Unwritten(writer.into_inner().reason())),
         done => done,
@@ -280,7 +287,11 @@ fn do_pieces(rt: &HostRuntime, request: &Request<'_>) -> Option<Result<Answer, F
 }
 
 /// Does what is asked for. Why it was not done is said on standard error.
-fn do_request(rt: &HostRuntime, request: &Request<'_>) -> io::Result<Result<Answer, Failure>> {
+fn do_request<R: Threads + Sync>(
+    rt: &HostRuntime,
+    by: &R,
+    request: &Request<'_>,
+) -> io::Result<Result<Answer, Failure>> {
     let name = request.file.unwrap_or("standard input");
     if let Some(done) = do_pieces(rt, request) {
         if let Err(failure) = done {
@@ -296,7 +307,7 @@ fn do_request(rt: &HostRuntime, request: &Request<'_>) -> io::Result<Result<Answ
             return Ok(Err(failure));
         }
     };
-    let done = do_kind(rt, request, text.as_slice());
+    let done = do_kind(rt, by, request, text.as_slice());
     if let Err(failure) = done {
         tell(rt, name, text.as_slice(), failure)?;
     }
@@ -306,9 +317,13 @@ fn do_request(rt: &HostRuntime, request: &Request<'_>) -> io::Result<Result<Answ
 /// Does what the words of the command line ask for, the program's own name first, and answers the status: 0 where it is done, 1
 /// where the answer is no, 2 where it could not be done.
 ///
-/// What is found goes to standard output, and why it could not be done to standard error. The error is that of a stream to
+/// `by` starts the threads of a search. What is found goes to standard output, and why it could not be done to standard error. The error is that of a stream to
 /// which help, the version or such a reason could not be written.
-pub fn do_words(rt: &HostRuntime, words: &[&str]) -> io::Result<u8> {
+pub fn do_words<R: Threads + Sync>(
+    rt: &HostRuntime,
+    by: &R,
+    words: &[&str],
+) -> io::Result<u8> {
     let request = match read_words(rt.alloc(), words) {
         Ok(request) => request,
         Err(error) => {
@@ -316,5 +331,5 @@ pub fn do_words(rt: &HostRuntime, words: &[&str]) -> io::Result<u8> {
             return Ok(if error.use_stderr() { 2 } else { 0 });
         }
     };
-    Ok(status_of(do_request(rt, &request)?))
+    Ok(status_of(do_request(rt, by, &request)?))
 }

@@ -3,12 +3,13 @@
 use commands::outcomes::{Question, print_outcomes};
 use commands::searches::{Scripts, Search};
 use commands::status::{Answer, status_of};
-use explore::{Most, Unwatched};
+use explore::{ManyThreads, Most, Unwatched};
 use explore_text::{Orders, Task, explore_script};
 use smp_mask::SmpError;
 use smp_script::Watched;
 use std::alloc::Global;
 use std::test::*;
+use std::thread::Threads;
 
 // What is told of two sends by these orders, and the status of the program.
 fn told(alloc: Global, orders: Orders) -> Result<(Vec<u8, Global>, u8), SmpError> {
@@ -76,14 +77,18 @@ fn merged_moves_of_two_sends(rt: HostRuntime) -> Result<(), Fail> {
 }
 
 // What is printed of the outcomes of two sends, where at most this many states are kept, and the status.
-fn outcomes_of(rt: &HostRuntime, states: usize, scripts: Scripts<'_>) -> (Vec<u8, Global>, u8) {
+fn outcomes_of<R: Threads + Sync>(
+    (rt, by): (&HostRuntime, &R),
+    states: usize,
+    scripts: Scripts<'_>,
+) -> (Vec<u8, Global>, u8) {
     let text = b"smp 1 explore\ncpus 2 0-1\ncpu 0 send 1\ncpu 1 send 0\n".as_slice();
     let bytes = usize::MAX;
     let question = Question {
         names: &["intr.0"],
         most: Most { states, bytes },
         scripts,
-        threads: 2,
+        threading: ManyThreads { rt: by, threads: 2 },
     };
     let mut writer = Watched::new(Vec::new(rt.alloc()));
     let done = print_outcomes(rt, &question, text, &mut writer);
@@ -108,7 +113,7 @@ fn outcomes_of_two_sends(rt: HostRuntime) {
         (3, Scripts::Only(1), b"".as_slice(), 2),
     ];
     for (states, scripts, wanted, status) in cases {
-        let (text, ended) = outcomes_of(&rt, states, scripts);
+        let (text, ended) = outcomes_of((&rt, &rt), states, scripts);
         assert_eq!(rt; text.as_slice(), wanted);
         assert_eq!(rt; ended, status);
     }
@@ -141,7 +146,7 @@ fn threads_work_out_the_steps(rt: HostRuntime) -> Result<(), Fail> {
             }),
             text: POSTS,
             scripts: Scripts::Behind,
-            threads,
+            threading: ManyThreads { rt: &rt, threads },
         };
         let mut writer = Watched::new(Vec::new(rt.alloc()));
         assert!(rt; search.run(&mut writer).is_ok(), "{threads}");
@@ -161,7 +166,11 @@ const SENDS: &[u8] = b"\
     ";
 
 // What is printed of an exploration of 4 states at most, whose scripts go there, and the status.
-fn explored(rt: &HostRuntime, text: &[u8], scripts: Scripts<'_>) -> (Vec<u8, Global>, u8) {
+fn explored<R: Threads + Sync>(
+    (rt, by): (&HostRuntime, &R),
+    text: &[u8],
+    scripts: Scripts<'_>,
+) -> (Vec<u8, Global>, u8) {
     let search = Search {
         rt,
         orders: Orders::All(Most {
@@ -170,7 +179,7 @@ fn explored(rt: &HostRuntime, text: &[u8], scripts: Scripts<'_>) -> (Vec<u8, Glo
         }),
         text,
         scripts,
-        threads: 1,
+        threading: ManyThreads { rt: by, threads: 1 },
     };
     let mut writer = Watched::new(Vec::new(rt.alloc()));
     let done = search.run(&mut writer);
@@ -193,7 +202,7 @@ fn a_script_that_is_not_written(rt: HostRuntime) {
         ("/dev/null", b"".as_slice()),
         ("/proc/none", b"".as_slice()),
     ] {
-        let (text, status) = explored(&rt, SENDS, Scripts::Folder(folder));
+        let (text, status) = explored((&rt, &rt), SENDS, Scripts::Folder(folder));
         assert_eq!(rt; text.as_slice(), wanted, "{folder}");
         assert_eq!(rt; status, 2, "{folder}");
     }
@@ -226,7 +235,7 @@ fn a_report_as_json(rt: HostRuntime) {
         ),
     ];
     for (text, wanted) in cases {
-        let (printed, status) = explored(&rt, text, Scripts::Json);
+        let (printed, status) = explored((&rt, &rt), text, Scripts::Json);
         assert_eq!(rt; printed.as_slice(), wanted);
         assert_eq!(rt; status, 1);
     }
