@@ -50,8 +50,9 @@ fn show<W: Write>(
 }
 
 /// Writes down one run of an exploration, and says how it ended.
-fn write_run<W: Write>(
+fn write_run<R: Threads + Sync, W: Write>(
     rt: &HostRuntime,
+    by: &R,
     run: Run,
     text: &[u8],
     writer: &mut Watched<W>,
@@ -64,7 +65,7 @@ fn write_run<W: Write>(
         Task::Write(run),
         &mut reader,
         writer,
-        &mut Unwatched,
+        &mut Unwatched(by),
     )?;
     if let Ending::Written(end) = ending {
         tell_end(rt, end).is_ok();
@@ -227,7 +228,7 @@ fn do_text<R: Threads + Sync, W: Write>(
     requires { failed_of writer.old ≡ false }
 {
     match &request.job {
-        Job::Write(run) => written(write_run(rt, *run, text, writer)),
+        Job::Write(run) => written(write_run(rt, by, *run, text, writer)),
         Job::Outcomes(most, scripts) => {
             let question = Question {
                 names: request.words.as_slice(),

@@ -48,7 +48,9 @@ fn take<T: Threads + Wait + Sync>(
         Kind::Replay => replay_script(alloc, reader, writer).err(),
         Kind::Run => run_script(threads, alloc, reader, writer, &FreePace).err(),
         Kind::Lanes => show_lanes(alloc, &Choice::ALL, reader, writer).err(),
-        Kind::Explore(task) => explore_script(alloc, task, reader, writer, &mut Unwatched).err(),
+        Kind::Explore(task) => {
+            explore_script(alloc, task, reader, writer, &mut Unwatched(threads)).err()
+        }
         Kind::Judge
         | Kind::Kernel
         | Kind::KernelOrder

@@ -7,9 +7,14 @@ use smp_core::Core;
 use smp_mask::SmpError;
 use std::alloc::Global;
 use std::test::*;
+use std::thread::Threads;
 
 // The steps of a shortest script to a state in which no CPU moves on; none where there is no such state.
-fn steps_to_hang(alloc: Global, text: &str) -> Result<Option<usize>, SmpError> {
+fn steps_to_hang<R: Threads + Sync>(
+    rt: &R,
+    alloc: Global,
+    text: &str,
+) -> Result<Option<usize>, SmpError> {
     let read = read_exploration(alloc, text.as_bytes())?;
     let core = Core::new(alloc, read.nr, read.online)?;
     let all = Conditions {
@@ -17,7 +22,7 @@ fn steps_to_hang(alloc: Global, text: &str) -> Result<Option<usize>, SmpError> {
     };
     let lines = read.lines.as_slice();
     let start = Start { core, lines };
-    match explore(alloc, start, all, states(2_000), &mut Unwatched)? {
+    match explore(alloc, start, all, states(2_000), &mut Unwatched(rt))? {
         Verdict::All { .. } => Ok(None),
         Verdict::Broken(schedule) => Ok(Some(schedule.len())),
         Verdict::Limit(_) => Err(SmpError::Contended),
@@ -227,7 +232,7 @@ fn what_hangs(rt: HostRuntime) -> Result<(), SmpError> {
         (STOP_ALONE, Some(21)),
     ];
     for (text, steps) in cases {
-        assert_eq!(rt; steps_to_hang(rt.alloc(), text)?, steps, "{text}");
+        assert_eq!(rt; steps_to_hang(&rt, rt.alloc(), text)?, steps, "{text}");
     }
     Ok(())
 }

@@ -7,6 +7,7 @@ use smp_core::{Class, Command, Core, Note, Word};
 use smp_mask::SmpError;
 use std::alloc::Global;
 use std::test::*;
+use std::thread::Threads;
 
 // What a search said: how many states and steps there are, and how deep they are; or a schedule of a break. Nothing where
 // it met a limit, or the expectations are not blind.
@@ -17,8 +18,8 @@ enum Found {
     Nothing,
 }
 
-fn explored(
-    alloc: Global,
+fn explored<R: Threads + Sync>(
+    by: (&R, Global),
     cpus: &str,
     lines: &[Line],
     expected: &[Expected<'_>],
@@ -26,6 +27,7 @@ fn explored(
     if !are_blind(expected) {
         return Ok(Found::Nothing);
     }
+    let (rt, alloc) = by;
     let core = Core::new(alloc, 4, cpus.parse()?)?;
     let most = Most {
         states: 10000,
@@ -34,7 +36,7 @@ fn explored(
     let all = Conditions { expected };
     let start = Start { core, lines };
     Ok(
-        match explore_merged(alloc, start, all, most, &mut Unwatched)? {
+        match explore_merged(alloc, start, all, most, &mut Unwatched(rt))? {
             Verdict::All {
                 states,
                 steps,
@@ -70,7 +72,7 @@ fn is_broken_by(found: Found, schedule: &[u32]) -> bool {
 #[test]
 fn three_posts(rt: HostRuntime) -> Result<(), SmpError> {
     let lines = [post_to(0, 3), post_to(1, 3), post_to(2, 3)];
-    let found = explored(rt.alloc(), "0-3", &lines, &[Expected::Goes])?;
+    let found = explored((&rt, rt.alloc()), "0-3", &lines, &[Expected::Goes])?;
     assert!(rt; is_all(found, 156, 279, 10));
     Ok(())
 }
@@ -93,7 +95,7 @@ fn posts_and_handles(rt: HostRuntime) -> Result<(), SmpError> {
         },
         once(2, Command::Handle),
     ];
-    let found = explored(rt.alloc(), "0-2", &lines, &[Expected::Goes])?;
+    let found = explored((&rt, rt.alloc()), "0-2", &lines, &[Expected::Goes])?;
     assert!(rt; is_all(found, 376, 703, 22));
     Ok(())
 }
@@ -104,7 +106,7 @@ fn a_break(rt: HostRuntime) -> Result<(), SmpError> {
     let lines = [post_to(1, 3)];
     let parts = [Part::Is(Atom::Queue(3, 1))];
     let found = explored(
-        rt.alloc(),
+        (&rt, rt.alloc()),
         "0-3",
         &lines,
         &[Expected::Goes, Expected::Never(&parts)],

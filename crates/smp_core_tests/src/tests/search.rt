@@ -8,6 +8,7 @@ use smp_core::{
 use smp_mask::{CpuMask, SmpError};
 use std::alloc::Global;
 use std::test::*;
+use std::thread::Threads;
 
 // How many states there are, how many steps, and how deep they are.
 type Counts = (usize, u64, usize);
@@ -20,17 +21,18 @@ enum Found {
     More(Limit),
 }
 
-fn said(
-    alloc: Global,
+fn said<R: Threads + Sync>(
+    by: (&R, Global),
     cpus: &str,
     lines: &[Line],
     expected: &[Expected<'_>],
     most: Most,
 ) -> Result<Found, SmpError> {
+    let (rt, alloc) = by;
     let core = Core::new(alloc, 3, cpus.parse()?)?;
     let start = Start { core, lines };
     let all = Conditions { expected };
-    let verdict = explore(alloc, start, all, most, &mut Unwatched)?;
+    let verdict = explore(alloc, start, all, most, &mut Unwatched(rt))?;
     Ok(match verdict {
         Verdict::All {
             states,
@@ -51,26 +53,26 @@ pub fn states(count: usize) -> Most {
 }
 
 // What is counted where all is as expected.
-fn counts(
-    alloc: Global,
+fn counts<R: Threads + Sync>(
+    by: (&R, Global),
     cpus: &str,
     lines: &[Line],
     expected: &[Expected<'_>],
 ) -> Result<Option<Counts>, SmpError> {
-    Ok(match said(alloc, cpus, lines, expected, states(1_000))? {
+    Ok(match said(by, cpus, lines, expected, states(1_000))? {
         Found::All(counts) => Some(counts),
         _ => None,
     })
 }
 
 // The shortest schedule to a state that is not as expected.
-fn broken(
-    alloc: Global,
+fn broken<R: Threads + Sync>(
+    by: (&R, Global),
     cpus: &str,
     lines: &[Line],
     expected: &[Expected<'_>],
 ) -> Result<Option<Vec<u32, Global>>, SmpError> {
-    Ok(match said(alloc, cpus, lines, expected, states(1_000))? {
+    Ok(match said(by, cpus, lines, expected, states(1_000))? {
         Found::Broken(schedule) => Some(schedule),
         _ => None,
     })
@@ -110,22 +112,22 @@ pub fn post(cpu: u32, to: u32, tries: u32) -> Line {
 fn states_of_calls(rt: HostRuntime) -> Result<(), Fail> {
     let alloc = rt.alloc();
     let sends = [once(0, Command::Send(1)), once(1, Command::Send(0))];
-    assert_eq!(rt; counts(alloc, "0-1", &sends, NOTHING)?, Some((4, 4, 2)));
+    assert_eq!(rt; counts((&rt, alloc), "0-1", &sends, NOTHING)?, Some((4, 4, 2)));
     assert_eq!(rt;
-        counts(alloc, "0-1", &[post(0, 1, 1)], NOTHING)?,
+        counts((&rt, alloc), "0-1", &[post(0, 1, 1)], NOTHING)?,
         Some((9, 8, 8))
     );
     let two = [post(0, 2, 2), post(1, 2, 2)];
-    assert_eq!(rt; counts(alloc, "0-2", &two, NOTHING)?, Some((90, 152, 17)));
+    assert_eq!(rt; counts((&rt, alloc), "0-2", &two, NOTHING)?, Some((90, 152, 17)));
     let two = [post(0, 2, 1), post(1, 2, 1)];
-    assert_eq!(rt; counts(alloc, "0-2", &two, NOTHING)?, Some((92, 152, 18)));
+    assert_eq!(rt; counts((&rt, alloc), "0-2", &two, NOTHING)?, Some((92, 152, 18)));
     let gates = [
         until(0, Command::Gate),
         once(0, Command::Ungate),
         until(1, Command::Gate),
         once(1, Command::Ungate),
     ];
-    assert_eq!(rt; counts(alloc, "0-1", &gates, NOTHING)?, Some((8, 10, 4)));
+    assert_eq!(rt; counts((&rt, alloc), "0-1", &gates, NOTHING)?, Some((8, 10, 4)));
     Ok(())
 }
 
@@ -149,14 +151,14 @@ fn calls_that_are_waited_for(rt: HostRuntime) -> Result<(), Fail> {
     let [d, e, f] = waiting_call(1, 0, Some(Command::Handle));
     let handled = [a, b, c, d, e, f];
     assert_eq!(rt;
-        counts(alloc, "0-1", &handled, NOTHING)?,
+        counts((&rt, alloc), "0-1", &handled, NOTHING)?,
         Some((525, 1028, 50))
     );
     let [a, b, c] = waiting_call(0, 1, None);
     let [d, e, f] = waiting_call(1, 0, None);
     let waits = [a, b, c, d, e, f];
     assert_eq!(rt;
-        counts(alloc, "0-1", &waits, NOTHING)?,
+        counts((&rt, alloc), "0-1", &waits, NOTHING)?,
         Some((100, 200, 18))
     );
     Ok(())
@@ -193,7 +195,7 @@ fn no_call_is_lost(rt: HostRuntime) -> Result<(), Fail> {
         Expected::Finally(&[Part::Is(Atom::Queue(2, 2))]),
     ];
     assert_eq!(rt;
-        counts(rt.alloc(), "0-2", &lines, &both)?,
+        counts((&rt, rt.alloc()), "0-2", &lines, &both)?,
         Some((90, 152, 17))
     );
     Ok(())
@@ -217,7 +219,7 @@ fn a_record_is_at_its_places(rt: HostRuntime) -> Result<(), Fail> {
     ];
     for (place, steps) in places {
         let never = [Expected::Never(&[Part::Is(Atom::Place(0, place))])];
-        let found = broken(rt.alloc(), "0-1", &lines, &never)?;
+        let found = broken((&rt, rt.alloc()), "0-1", &lines, &never)?;
         assert_eq!(rt; found.map(|schedule| schedule.len()), Some(steps));
     }
     Ok(())
@@ -241,7 +243,7 @@ fn no_interrupt_is_lost(rt: HostRuntime) -> Result<(), Fail> {
         ]),
     ];
     assert_eq!(rt;
-        counts(rt.alloc(), "0-1", &lines, &told)?,
+        counts((&rt, rt.alloc()), "0-1", &lines, &told)?,
         Some((42, 68, 22))
     );
     Ok(())
@@ -280,7 +282,7 @@ fn a_stop_ends(rt: HostRuntime) -> Result<(), Fail> {
         Expected::Finally(&[Part::Is(Atom::Word(Word::Slot(0, Field::State), 5))]),
     ];
     assert_eq!(rt;
-        counts(rt.alloc(), "0-1", &lines, &over)?,
+        counts((&rt, rt.alloc()), "0-1", &lines, &over)?,
         Some((122, 234, 51))
     );
     Ok(())
@@ -307,7 +309,7 @@ fn the_shortest_schedule_is_told(rt: HostRuntime) -> Result<(), Fail> {
     let alloc = rt.alloc();
     let lines = [post(0, 2, 2), post(1, 2, 2)];
     let empty = [Expected::Always(&[Part::Is(Atom::Word(Word::Head(2), 0))])];
-    let schedule = broken(alloc, "0-2", &lines, &empty)?.ok_or("a schedule")?;
+    let schedule = broken((&rt, alloc), "0-2", &lines, &empty)?.ok_or("a schedule")?;
     assert_eq!(rt; schedule.as_slice(), [0, 0, 0, 0, 0, 0, 0, 0].as_slice());
     let core = Core::new(alloc, 3, "0-2".parse()?)?;
     let events = events_of(alloc, core, &lines, schedule.as_slice())?;
@@ -321,7 +323,7 @@ fn the_shortest_schedule_is_told(rt: HostRuntime) -> Result<(), Fail> {
 fn a_program_that_is_stuck_is_told(rt: HostRuntime) -> Result<(), Fail> {
     let alloc = rt.alloc();
     let lines = [once(0, Command::Send(1)), until(0, Command::Poll)];
-    let schedule = broken(alloc, "0-1", &lines, NOTHING)?.ok_or("a schedule")?;
+    let schedule = broken((&rt, alloc), "0-1", &lines, NOTHING)?.ok_or("a schedule")?;
     assert_eq!(rt; schedule.as_slice(), [0].as_slice());
     Ok(())
 }
@@ -339,14 +341,14 @@ fn who_waits_for_ever_is_told(rt: HostRuntime) -> Result<(), Fail> {
         once(1, Command::Send(0)),
         until(1, Command::Done(0)),
     ];
-    let schedule = broken(alloc, "0-1", &lines, &[Expected::Ends])?.ok_or("a schedule")?;
+    let schedule = broken((&rt, alloc), "0-1", &lines, &[Expected::Ends])?.ok_or("a schedule")?;
     assert_eq!(rt; schedule.len(), 18);
     assert_eq!(rt;
-        counts(alloc, "0-1", &lines, NOTHING)?,
+        counts((&rt, alloc), "0-1", &lines, NOTHING)?,
         Some((100, 200, 18))
     );
     let handled = [lines[0], lines[1], lines[2], until(1, Command::Handle)];
-    let ends = counts(alloc, "0-1", &handled, &[Expected::Ends])?;
+    let ends = counts((&rt, alloc), "0-1", &handled, &[Expected::Ends])?;
     assert_eq!(rt; ends, Some((44, 84, 23)));
     Ok(())
 }
@@ -364,11 +366,11 @@ fn what_a_step_said(rt: HostRuntime) -> Result<(), Fail> {
         ]),
     ];
     assert_eq!(rt;
-        counts(rt.alloc(), "0-2", &lines, &once)?,
+        counts((&rt, rt.alloc()), "0-2", &lines, &once)?,
         Some((90, 152, 17))
     );
     let never = [Expected::Never(&[owed])];
-    let schedule = broken(rt.alloc(), "0-2", &lines, &never)?.ok_or("a schedule")?;
+    let schedule = broken((&rt, rt.alloc()), "0-2", &lines, &never)?.ok_or("a schedule")?;
     assert_eq!(rt; schedule.len(), 8);
     Ok(())
 }
@@ -378,7 +380,7 @@ fn what_a_step_said(rt: HostRuntime) -> Result<(), Fail> {
 fn a_limit_is_told(rt: HostRuntime) -> Result<(), Fail> {
     let lines = [post(0, 2, 2), post(1, 2, 2)];
     for (most, all) in [(0, false), (1, false), (89, false), (90, true), (91, true)] {
-        let answer = said(rt.alloc(), "0-2", &lines, NOTHING, states(most))?;
+        let answer = said((&rt, rt.alloc()), "0-2", &lines, NOTHING, states(most))?;
         let is_as_wanted = match answer {
             Found::All(counts) => all && counts == (90, 152, 17),
             Found::More(limit) => !all && limit == Limit::States,
@@ -406,7 +408,7 @@ fn a_limit_of_memory_is_told(rt: HostRuntime) -> Result<(), Fail> {
     ];
     for (states, bytes, limit) in cases {
         let most = Most { states, bytes };
-        let answer = said(rt.alloc(), "0-1", &lines, NOTHING, most)?;
+        let answer = said((&rt, rt.alloc()), "0-1", &lines, NOTHING, most)?;
         let is_as_wanted = match answer {
             Found::All(counts) => limit.is_none() && counts == (4, 4, 2),
             Found::More(found) => limit == Some(found),

@@ -3,27 +3,32 @@
 use crate::tests::search::{NOTHING, once, post, states, until};
 use explore::walk::walk;
 use explore::{
-    Answered, Atom, Conditions, Expected, OneThread, Part, Start, Verdict, WalkEnd, Walked, Watch,
+    Answered, Atom, Conditions, Expected, ManyThreads, Part, Start, Verdict, WalkEnd, Walked, Watch,
     explore, explore_each,
 };
 use smp_core::{Command, Core, RecPlace, Word};
 use smp_mask::SmpError;
 use std::alloc::Global;
 use std::test::*;
+use std::thread::Threads;
 
-// Notes what it sees.
-#[derive(Clone, Copy, Debug, PartialEq, Eq)]
-struct Noted {
+// Notes what it sees of a search by two threads.
+#[derive(Drop)]
+struct Noted<'r, R> {
+    rt: &'r R,
     calls: u32,
     states: usize,
     steps: u64,
 }
 
-impl Watch for Noted {
-    type Threading = OneThread;
+impl<'r, R: Threads + Sync> Watch for Noted<'r, R> {
+    type Threading = ManyThreads<'r, R>;
 
-    fn threading(&self) -> OneThread {
-        OneThread
+    fn threading(&self) -> ManyThreads<'r, R> {
+        ManyThreads {
+            rt: self.rt,
+            threads: 2,
+        }
     }
 
     fn look(&mut self, states: usize, steps: u64) {
@@ -42,31 +47,31 @@ fn a_watch_sees_each_state(rt: HostRuntime) -> Result<(), Fail> {
     let start = Start { core, lines };
     let all = Conditions { expected: NOTHING };
     let mut noted = Noted {
+        rt: &rt,
         calls: 0,
         states: 0,
         steps: 0,
     };
     explore(alloc, start, all, states(4), &mut noted)?;
-    let wanted = Noted {
-        calls: 4,
-        states: 4,
-        steps: 4,
-    };
-    assert_eq!(rt; noted, wanted);
+    assert_eq!(rt; (noted.calls, noted.states, noted.steps), (4, 4, 4));
     Ok(())
 }
 
 // The numbers of broken expectations, in the order in which they are told.
 #[derive(Drop)]
-struct Breaks {
+struct Breaks<'r, R> {
+    rt: &'r R,
     numbers: Vec<usize, Global>,
 }
 
-impl Watch for Breaks {
-    type Threading = OneThread;
+impl<'r, R: Threads + Sync> Watch for Breaks<'r, R> {
+    type Threading = ManyThreads<'r, R>;
 
-    fn threading(&self) -> OneThread {
-        OneThread
+    fn threading(&self) -> ManyThreads<'r, R> {
+        ManyThreads {
+            rt: self.rt,
+            threads: 2,
+        }
     }
 
     fn look(&mut self, _states: usize, _steps: u64) {}
@@ -105,6 +110,7 @@ fn each_break_is_told_by_its_number(rt: HostRuntime) -> Result<(), Fail> {
         Expected::Never(&free),
     ];
     let mut breaks = Breaks {
+        rt: &rt,
         numbers: Vec::new(rt.alloc()),
     };
     let core = Core::new(rt.alloc(), 3, "0-1".parse()?)?;

@@ -12,12 +12,16 @@ use std::test::*;
 use std::thread::Threads;
 
 // What is told of two sends by these orders, and the status of the program.
-fn told(alloc: Global, orders: Orders) -> Result<(Vec<u8, Global>, u8), SmpError> {
+fn told<R: Threads + Sync>(
+    rt: &R,
+    alloc: Global,
+    orders: Orders,
+) -> Result<(Vec<u8, Global>, u8), SmpError> {
     let text = b"smp 1 explore\ncpus 2 0-1\ncpu 0 send 1\ncpu 1 send 0\n".as_slice();
     let mut reader = Watched::new(text);
     let mut writer = Watched::new(Vec::new(alloc));
     let task = Task::Judge(orders);
-    let ending = explore_script(alloc, task, &mut reader, &mut writer, &mut Unwatched)?;
+    let ending = explore_script(alloc, task, &mut reader, &mut writer, &mut Unwatched(rt))?;
     Ok((writer.into_inner(), status_of(Ok(Answer::Explored(ending)))))
 }
 
@@ -53,7 +57,7 @@ fn which_limit(rt: HostRuntime) -> Result<(), Fail> {
         ),
     ];
     for (states, bytes, wanted, status) in cases {
-        let (text, ended) = told(rt.alloc(), Orders::All(Most { states, bytes }))?;
+        let (text, ended) = told(&rt, rt.alloc(), Orders::All(Most { states, bytes }))?;
         assert_eq!(rt; text.as_slice(), wanted);
         assert_eq!(rt; ended, status);
     }
@@ -67,7 +71,7 @@ fn merged_moves_of_two_sends(rt: HostRuntime) -> Result<(), Fail> {
         states: 4,
         bytes: usize::MAX,
     };
-    let (text, ended) = told(rt.alloc(), Orders::Merged(most))?;
+    let (text, ended) = told(&rt, rt.alloc(), Orders::Merged(most))?;
     assert_eq!(rt;
         text.as_slice(),
         b"goes holds, 4 merged, 4 moves, 2 deep\nends holds, 4 merged, 4 moves, 2 deep\n".as_slice()
