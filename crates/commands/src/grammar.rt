@@ -437,7 +437,10 @@ pub fn grammar<'a>(alloc: Global) -> Result<Command<'a>, AllocError> {
         (JSON, &[FROM_OR_WRITER, TO, CPUS, SKIP]),
         (PAGE, &[MARK, SOURCE, SKIP]),
         (EXPLAIN, &[]),
-        (EXPLORE, &[MERGE, STATES, MEMORY, THREADS, ONLY, SCRIPTS, AS_JSON]),
+        (
+            EXPLORE,
+            &[MERGE, STATES, MEMORY, THREADS, ONLY, SCRIPTS, AS_JSON],
+        ),
         (SAMPLE, &[SEED, RUNS, STEPS, ONLY, SCRIPTS]),
         (OUTCOMES, &[STATES, MEMORY, THREADS, OUTCOME, OUTCOMES_TO]),
         (SCRIPT, &[SEED, RUN, STEPS]),

@@ -1,6 +1,6 @@
 //! The verdict on a file of a kernel's tracer, whose text is not held as a whole.
 
-ghost use Rattle.std.specs.Prelude.{◌≡◌, List, ℕ, Ok, IfSome};
+ghost use Rattle.std.specs.Prelude.{List, ℕ, Ok, IfSome};
 ghost use Rattle.std.specs.Io.KnownBytes.{Consumes, IsAtEnd};
 ghost use Rattle.commands.specs.KernelFiles.{GivesLines};
 ghost use Rattle.trace_ftrace.specs.Reading.{reading_of, Reads};

@@ -320,11 +320,7 @@ fn do_request<R: Threads + Sync>(
 ///
 /// `by` starts the threads of a search. What is found goes to standard output, and why it could not be done to standard error. The error is that of a stream to
 /// which help, the version or such a reason could not be written.
-pub fn do_words<R: Threads + Sync>(
-    rt: &HostRuntime,
-    by: &R,
-    words: &[&str],
-) -> io::Result<u8> {
+pub fn do_words<R: Threads + Sync>(rt: &HostRuntime, by: &R, words: &[&str]) -> io::Result<u8> {
     let request = match read_words(rt.alloc(), words) {
         Ok(request) => request,
         Err(error) => {

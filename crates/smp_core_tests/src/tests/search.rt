@@ -112,22 +112,34 @@ pub fn post(cpu: u32, to: u32, tries: u32) -> Line {
 fn states_of_calls(rt: HostRuntime) -> Result<(), Fail> {
     let alloc = rt.alloc();
     let sends = [once(0, Command::Send(1)), once(1, Command::Send(0))];
-    assert_eq!(rt; counts((&rt, alloc), "0-1", &sends, NOTHING)?, Some((4, 4, 2)));
+    assert_eq!(rt;
+        counts((&rt, alloc), "0-1", &sends, NOTHING)?,
+        Some((4, 4, 2))
+    );
     assert_eq!(rt;
         counts((&rt, alloc), "0-1", &[post(0, 1, 1)], NOTHING)?,
         Some((9, 8, 8))
     );
     let two = [post(0, 2, 2), post(1, 2, 2)];
-    assert_eq!(rt; counts((&rt, alloc), "0-2", &two, NOTHING)?, Some((90, 152, 17)));
+    assert_eq!(rt;
+        counts((&rt, alloc), "0-2", &two, NOTHING)?,
+        Some((90, 152, 17))
+    );
     let two = [post(0, 2, 1), post(1, 2, 1)];
-    assert_eq!(rt; counts((&rt, alloc), "0-2", &two, NOTHING)?, Some((92, 152, 18)));
+    assert_eq!(rt;
+        counts((&rt, alloc), "0-2", &two, NOTHING)?,
+        Some((92, 152, 18))
+    );
     let gates = [
         until(0, Command::Gate),
         once(0, Command::Ungate),
         until(1, Command::Gate),
         once(1, Command::Ungate),
     ];
-    assert_eq!(rt; counts((&rt, alloc), "0-1", &gates, NOTHING)?, Some((8, 10, 4)));
+    assert_eq!(rt;
+        counts((&rt, alloc), "0-1", &gates, NOTHING)?,
+        Some((8, 10, 4))
+    );
     Ok(())
 }
 

@@ -3,8 +3,8 @@
 use crate::tests::search::{NOTHING, once, post, states, until};
 use explore::walk::walk;
 use explore::{
-    Answered, Atom, Conditions, Expected, ManyThreads, Part, Start, Verdict, WalkEnd, Walked, Watch,
-    explore, explore_each,
+    Answered, Atom, Conditions, Expected, ManyThreads, Part, Start, Verdict, WalkEnd, Walked,
+    Watch, explore, explore_each,
 };
 use smp_core::{Command, Core, RecPlace, Word};
 use smp_mask::SmpError;

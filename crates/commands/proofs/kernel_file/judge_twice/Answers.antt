@@ -1,4 +1,4 @@
-use Rattle.std.proofs.Common.{ℕ, List, ◌≡◌, Option, Some, None, Result, Ok, Err, Vec, IfSome, refl, sym, subst, inl, inr, rules}
+use Rattle.std.proofs.Common.{ℕ, List, ◌≡◌, Option, Some, None, Result, Ok, Err, Vec, IfSome, refl, sym, subst, inl, inr}
 use Rattle.std.specs.Io.KnownBytes.{Consumes, IsAtEnd}
 use Rattle.std.specs.Result.{result_ok}
 use Rattle.trace_judge.specs.declared.trace.Ruling.{Ruling}
