@@ -1,7 +1,7 @@
 use crate::tests::search::once;
 use explore::{
-    Atom, Conditions, Expected, Line, Most, Part, Start, Unwatched, Verdict, are_blind,
-    explore_merged, is_blind,
+    Atom, Conditions, Expected, Line, ManyThreads, Most, Part, Start, UnwatchedBy, Verdict,
+    are_blind, explore_merged, is_blind,
 };
 use smp_core::{Class, Command, Core, Note, Word};
 use smp_mask::SmpError;
@@ -35,17 +35,16 @@ fn explored<R: Threads + Sync>(
     };
     let all = Conditions { expected };
     let start = Start { core, lines };
-    Ok(
-        match explore_merged(alloc, start, all, most, &mut Unwatched(rt))? {
-            Verdict::All {
-                states,
-                steps,
-                depth,
-            } => Found::All(states, steps, depth),
-            Verdict::Broken(schedule) => Found::Broken(schedule),
-            Verdict::Limit(_) => Found::Nothing,
-        },
-    )
+    let mut watch = UnwatchedBy(ManyThreads { rt, threads: 3 });
+    Ok(match explore_merged(alloc, start, all, most, &mut watch)? {
+        Verdict::All {
+            states,
+            steps,
+            depth,
+        } => Found::All(states, steps, depth),
+        Verdict::Broken(schedule) => Found::Broken(schedule),
+        Verdict::Limit(_) => Found::Nothing,
+    })
 }
 
 // A post of one call to this CPU.
