@@ -144,8 +144,8 @@ pub struct Request<'a> {
     pub file: Option<&'a str>,
     /// The words behind it.
     pub words: Vec<&'a str>,
-    /// How many threads work out the steps of a search; none where no word says.
-    pub threads: Option<u32>,
+    /// How many threads work out the steps of a search.
+    pub threads: u32,
 }
 
 // The number behind a word; that of the grammar where the word is not there.
@@ -479,7 +479,7 @@ fn request_of<'a>(alloc: Global, matches: &ArgMatches<'a>) -> Result<Request<'a>
         Ok(job) => {
             let words = words_of(alloc, found)?;
             let file = file_of(found);
-            let threads = found.get_one::<u32>("threads");
+            let threads = number(found, "threads");
             Ok(Request {
                 job,
                 file,

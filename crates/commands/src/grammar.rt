@@ -61,8 +61,8 @@ const MEMORY: Choice = Choice {
 const THREADS: Choice = Choice {
     name: "threads",
     value: "N",
-    takes: Value::Number(1, 64, None),
-    help: "Works out steps with N threads, 1 to 64; with one for each processor without it",
+    takes: Value::Number(1, 64, Some("1")),
+    help: "Works out steps with N threads, 1 to 64",
 };
 
 const MERGE: Choice = Choice {

@@ -19,7 +19,7 @@ use smp_mask::SmpError;
 use smp_script::{Outcome, Watched};
 use std::io;
 use std::io::Write;
-use std::thread::{Threads, available_parallelism};
+use std::thread::Threads;
 use trace_events::show_events;
 use trace_ftrace::json::json_of_kernel;
 use trace_ftrace::print::print_kernel;
@@ -207,14 +207,12 @@ fn do_script<W: Write>(
     }
 }
 
-/// The threads that work out the steps of a search: one for each processor, up to 64, where no word says.
-fn threading_of<'r, R: Threads>(by: &'r R, request: &Request<'_>) -> ManyThreads<'r, R> {
-    let threads = match (request.threads, available_parallelism(by)) {
-        (Some(threads), _) => threads as usize,
-        (None, Ok(processors)) => processors.get().min(64),
-        (None, Err(_)) => 1,
-    };
-    ManyThreads { rt: by, threads }
+/// The threads that work out the steps of a search.
+fn threading_of<'r, R>(by: &'r R, request: &Request<'_>) -> ManyThreads<'r, R> {
+    ManyThreads {
+        rt: by,
+        threads: request.threads as usize,
+    }
 }
 
 /// Does this with a text, and writes what is found.

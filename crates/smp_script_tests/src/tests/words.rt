@@ -322,6 +322,7 @@ fn json_of(alloc: Global, words: &[&str]) -> Option<Result<usize, u64>> {
         job,
         file: _,
         words: _,
+        threads: _,
     } = read_words(alloc, words).ok()?;
     match job {
         Job::Show(View::Json, choice) => Some(Ok(choice.from)),
