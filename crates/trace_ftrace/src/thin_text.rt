@@ -1,6 +1,8 @@
 //! A text of the tracer that comes in pieces, of which the lines are kept that a verdict shows.
 
 ghost use Rattle.std.specs.Prelude.{◌≡◌, ◌∷◌, ◌++◌, List, ℕ, [], Some, IfSome, OnOk};
+ghost use Rattle.smp_script.specs.Lines.{lines_of};
+ghost use Rattle.trace_ftrace.specs.Text.{line_from};
 ghost use Rattle.trace_ftrace.specs.ThinText.{is_shown, lines_shown, HasKept, HaveSame, IsNumbered, ShowSame};
 
 use crate::told::Told;
@@ -101,7 +103,9 @@ impl<A: Allocator + Copy> ThinText<A> {
     /// What is kept, where the last piece was added. None where a line is not there: a line that is shown is never empty.
     #[tactic(auto, using(crate::proofs::ThinLines::shows_same))]
     pub fn text(&self) -> Option<&[u8]>
-        ensures { (lines : ShownLines) (text : List ℕ) → HasKept lines text self.now → IfSome result (λ t. ShowSame (Some lines) text t.now) }
+        ensures same { (lines : ShownLines) (text : List ℕ) → HasKept lines text self.now → IfSome result (λ t. ShowSame (Some lines) text t.now) }
+        ensures refused { IfSome result (λ t. line_from 1 self.now.lines.refused (lines_of t.now) ≡ [] → ⊥) }
+        ensures queued { IfSome result (λ t. IfSome self.now.lines.queued (λ line. line_from 1 line (lines_of t.now) ≡ [] → ⊥)) }
     {
         let text = self.text.as_slice();
         if line_text(text, self.lines.refused).is_empty() {

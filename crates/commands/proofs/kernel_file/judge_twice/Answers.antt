@@ -47,4 +47,4 @@ returns g c = let read = c.in_ok-reading.ensures in let kept = c.in_ok-thin-in-S
     judged c.ok-in-Some.result c.print_verdict-in-Some.result _ _ _ _ c.args.skip c.args.slow read.0 kept.0 (kept_value c.in_ok-reading.reading.kept)
     (telling_value c.in_ok-reading.reading.telling) c.ok-in-Some.ensures.value read.1 read.2 (inr (kept.1, kept.2)) read.3
     (c.print_verdict-in-Some.ensures kept.0
-    (shows _ (Some c.in-Some.lines) kept.0 _ some (c.in_ok-text-in-Some.ensures c.in-Some.lines kept.0 kept.3)))
+    (shows _ (Some c.in-Some.lines) kept.0 _ some (c.in_ok-text-in-Some.ensures.same c.in-Some.lines kept.0 kept.3)))
