@@ -74,10 +74,7 @@ feeds_same b bs h = rw (feeds_push b bs, h) refl
 apart : (s : ShownLines) (line number : ℕ) → is_shown s line ≡ true → is_shown s number ≡ false → line ≡ number → ⊥
 apart s line number h f e = absurd (let bad : is_shown s number ≡ true = subst (λ x. is_shown s x ≡ true) e h in cc)
 
--- the byte is kept, or left out
-pub pushed : (s : ShownLines) (b : ℕ) (old new : List ℕ) → new ≡ old ++ (b ∷ []) → HaveSame s (old ++ (b ∷ [])) new
-pushed s b old new e line h rest = rw e refl
-
+-- the byte is left out
 pub left_out : (s : ShownLines) (b number : ℕ) (old : List ℕ) → (b == 10) ≡ false → number ≡ line_feeds old + 1 → is_shown s number ≡ false
     → HaveSame s (old ++ (b ∷ [])) old
 left_out s b number old h n f line i rest =

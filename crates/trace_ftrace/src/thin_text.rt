@@ -68,7 +68,6 @@ impl<A: Allocator + Copy> ThinText<A> {
     }
 
     /// Takes the next byte, which is kept where it ends a line or its line is shown.
-    #[tactic(auto, using(crate::proofs::ThinLines::pushed, crate::proofs::ThinLines::left_out, crate::proofs::ThinLines::feeds_more, crate::proofs::ThinLines::feeds_same, crate::proofs::ThinLines::feeds_within))]
     fn add_byte(&mut self, byte: u8) -> Result<(), AllocError>
         requires { IsNumbered self.old }
         ensures numbered { OnOk result (IsNumbered self.new) }
