@@ -60,41 +60,6 @@ fn one_sync_call(rt: HostRuntime) -> Result<(), Fail> {
     Ok(())
 }
 
-#[test]
-fn two_posts_and_one_drain(rt: HostRuntime) -> Result<(), Fail> {
-    let lines = [
-        Goes(0, asynchronous(1, 2, 1), 8, Note::Owed),
-        Begin(1, asynchronous(1, 2, 2)),
-        Steps(1, 7),
-        noted(cas(1, Word::Head(2), 2, Some(14)), Note::Queued),
-        Goes(0, Command::Send(2), 1, Note::Sent),
-        Begin(2, Command::Handle),
-        Steps(2, 2),
-        swap(2, Word::Head(2), 14, 0),
-        load(2, Word::Next(13), 2),
-        store(2, Word::Next(13), 0),
-        load(2, Word::Next(1), 0),
-        store(2, Word::Next(1), 14),
-        load(2, Word::Next(1), 14),
-        load(2, Word::Flags(1), 1),
-        load(2, Word::Next(13), 0),
-        load(2, Word::Flags(13), 1),
-        load(2, Word::Next(1), 14),
-        load(2, Word::Func(1), 1),
-        load(2, Word::Info(1), 0),
-        noted(store(2, Word::Flags(1), 0), Note::Call(0, 1, 0)),
-        store(2, Word::Ran(2, 0), 1),
-        load(2, Word::Next(13), 0),
-        load(2, Word::Func(13), 2),
-        load(2, Word::Info(13), 0),
-        noted(store(2, Word::Flags(13), 0), Note::Call(1, 2, 0)),
-        store(2, Word::Ran(2, 1), 1),
-        noted(store(2, Word::Hand(2), 0), Note::Handled(2)),
-    ];
-    play(&rt, &[&lines], core_of(rt.alloc(), 3)?);
-    Ok(())
-}
-
 // CPU 0 queues ASYNC, SYNC, ASYNC and SYNC calls of CPU 1, which takes them.
 fn four_posts() -> [Line; 9] {
     [
@@ -108,72 +73,6 @@ fn four_posts() -> [Line; 9] {
         swap(1, Word::Intr(1), 1, 0),
         swap(1, Word::Head(1), 4, 0),
     ]
-}
-
-// The chain 3, 10, 0, 1 becomes 1, 0, 10, 3.
-fn reversal_of_four() -> [Line; 8] {
-    [
-        load(1, Word::Next(3), 11),
-        store(1, Word::Next(3), 0),
-        load(1, Word::Next(10), 1),
-        store(1, Word::Next(10), 4),
-        load(1, Word::Next(0), 2),
-        store(1, Word::Next(0), 11),
-        load(1, Word::Next(1), 0),
-        store(1, Word::Next(1), 1),
-    ]
-}
-
-// The SYNC calls run, and leave the chain to 1, 10.
-fn first_pass_of_four() -> [Line; 20] {
-    [
-        load(1, Word::Next(1), 1),
-        load(1, Word::Flags(1), 1),
-        load(1, Word::Next(0), 11),
-        load(1, Word::Flags(0), 17),
-        load(1, Word::Func(0), 2),
-        load(1, Word::Info(0), 0),
-        store(1, Word::Next(1), 11),
-        noted(store(1, Word::Hand(1), 2), Note::Call(0, 2, 0)),
-        store(1, Word::Ran(1, 0), 1),
-        store(1, Word::Flags(0), 0),
-        load(1, Word::Next(10), 4),
-        load(1, Word::Flags(10), 1),
-        load(1, Word::Next(3), 0),
-        load(1, Word::Flags(3), 17),
-        load(1, Word::Func(3), 4),
-        load(1, Word::Info(3), 0),
-        store(1, Word::Next(10), 0),
-        noted(store(1, Word::Hand(1), 5), Note::Call(0, 4, 0)),
-        store(1, Word::Ran(1, 0), 2),
-        store(1, Word::Flags(3), 0),
-    ]
-}
-
-// The ASYNC calls run.
-fn second_pass_of_four() -> [Line; 11] {
-    [
-        load(1, Word::Next(1), 11),
-        load(1, Word::Func(1), 1),
-        load(1, Word::Info(1), 0),
-        noted(store(1, Word::Flags(1), 0), Note::Call(0, 1, 0)),
-        store(1, Word::Ran(1, 0), 3),
-        load(1, Word::Next(10), 0),
-        load(1, Word::Func(10), 3),
-        load(1, Word::Info(10), 0),
-        noted(store(1, Word::Flags(10), 0), Note::Call(0, 3, 0)),
-        store(1, Word::Ran(1, 0), 4),
-        noted(store(1, Word::Hand(1), 0), Note::Handled(4)),
-    ]
-}
-
-#[test]
-fn sync_calls_run_first(rt: HostRuntime) -> Result<(), Fail> {
-    let (posts, reversal) = (four_posts(), reversal_of_four());
-    let (first, second) = (first_pass_of_four(), second_pass_of_four());
-    let core = core_of(rt.alloc(), 2)?;
-    play(&rt, &[&posts, &reversal, &first, &second], core);
-    Ok(())
 }
 
 // An interrupt with no call: the drain takes nothing, and no record is touched.
@@ -242,49 +141,6 @@ fn places_inside_a_drain(rt: HostRuntime) -> Result<(), Fail> {
     Ok(())
 }
 
-#[test]
-fn a_busy_record(rt: HostRuntime) -> Result<(), Fail> {
-    let post = asynchronous(10, 1, 1);
-    let lines = [
-        Goes(0, post, 8, Note::Owed),
-        Begin(0, post),
-        noted(load(0, Word::Flags(10), 1), Note::Busy),
-        Goes(0, Command::Send(1), 1, Note::Sent),
-        Goes(1, Command::Handle, 13, Note::Handled(1)),
-        Begin(0, Command::Done(10)),
-        noted(load(0, Word::Flags(10), 0), Note::Done),
-        Begin(0, post),
-        Steps(0, 4),
-        store(0, Word::Queued(0, 1), 2),
-        Steps(0, 2),
-        noted(cas(0, Word::Head(1), 0, Some(11)), Note::Owed),
-    ];
-    play(&rt, &[&lines], core_of(rt.alloc(), 2)?);
-    Ok(())
-}
-
-#[test]
-fn free_before_its_function_ran(rt: HostRuntime) -> Result<(), Fail> {
-    let lines = [
-        Goes(0, asynchronous(10, 1, 1), 8, Note::Owed),
-        Goes(0, Command::Send(1), 1, Note::Sent),
-        Begin(1, Command::Handle),
-        Steps(1, 10),
-        noted(store(1, Word::Flags(10), 0), Note::Call(0, 1, 0)),
-        Goes(0, asynchronous(10, 1, 2), 8, Note::Owed),
-        Goes(0, Command::Send(1), 1, Note::Sent),
-        store(1, Word::Ran(1, 0), 1),
-        noted(store(1, Word::Hand(1), 0), Note::Handled(1)),
-        Begin(1, Command::Handle),
-        Steps(1, 10),
-        noted(store(1, Word::Flags(10), 0), Note::Call(0, 2, 0)),
-        store(1, Word::Ran(1, 0), 2),
-        noted(store(1, Word::Hand(1), 0), Note::Handled(1)),
-    ];
-    play(&rt, &[&lines], core_of(rt.alloc(), 2)?);
-    Ok(())
-}
-
 // The head is what the post has found there, but over another chain.
 #[test]
 fn the_head_equal_again(rt: HostRuntime) -> Result<(), Fail> {
@@ -311,60 +167,6 @@ fn the_head_equal_again(rt: HostRuntime) -> Result<(), Fail> {
         Phase(0, 0),
     ];
     play(&rt, &[&lines], core_of(rt.alloc(), 3)?);
-    Ok(())
-}
-
-#[test]
-fn a_post_between_accept_and_take(rt: HostRuntime) -> Result<(), Fail> {
-    let lines = [
-        Goes(0, asynchronous(1, 1, 1), 8, Note::Owed),
-        Goes(0, Command::Send(1), 1, Note::Sent),
-        Begin(1, Command::Handle),
-        Steps(1, 2),
-        Goes(2, asynchronous(1, 1, 2), 8, Note::Queued),
-        swap(1, Word::Head(1), 26, 0),
-        load(1, Word::Next(25), 2),
-        store(1, Word::Next(25), 0),
-        load(1, Word::Next(1), 0),
-        store(1, Word::Next(1), 26),
-        Steps(1, 7),
-        noted(store(1, Word::Flags(1), 0), Note::Call(0, 1, 0)),
-        Steps(1, 4),
-        noted(store(1, Word::Flags(25), 0), Note::Call(2, 2, 0)),
-        Steps(1, 1),
-        noted(store(1, Word::Hand(1), 0), Note::Handled(2)),
-    ];
-    play(&rt, &[&lines], core_of(rt.alloc(), 3)?);
-    Ok(())
-}
-
-// CPU 0 has stored its link when CPU 1 posts to the same queue.
-fn contenders(tries: u32) -> [Line; 4] {
-    [
-        Begin(0, Command::Post(1, 2, Class::Async, 1, 0, tries)),
-        Steps(0, 7),
-        Goes(1, asynchronous(1, 2, 2), 8, Note::Owed),
-        cas(0, Word::Head(2), 14, None),
-    ]
-}
-
-#[test]
-fn contention_with_one_try(rt: HostRuntime) -> Result<(), Fail> {
-    let end = [
-        store(0, Word::Queued(0, 2), 0),
-        noted(store(0, Word::Flags(1), 0), Note::Contended),
-    ];
-    play(&rt, &[&contenders(1), &end], core_of(rt.alloc(), 3)?);
-    Ok(())
-}
-
-#[test]
-fn contention_with_two_tries(rt: HostRuntime) -> Result<(), Fail> {
-    let end = [
-        store(0, Word::Next(1), 14),
-        noted(cas(0, Word::Head(2), 14, Some(2)), Note::Queued),
-    ];
-    play(&rt, &[&contenders(2), &end], core_of(rt.alloc(), 3)?);
     Ok(())
 }
 

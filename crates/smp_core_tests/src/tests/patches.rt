@@ -27,29 +27,6 @@ fn lone_patch(change: u64) -> Result<[Line; 5], SmpError> {
 }
 
 #[test]
-fn patch_of_one_cpu(rt: HostRuntime) -> Result<(), Fail> {
-    let patch = lone_patch(1)?;
-    let run = [
-        Begin(0, Command::Advance(0)),
-        load(0, slot(Field::State), 3),
-        load(0, slot(Field::Func), 0),
-        load(0, slot(Field::Arg), 1),
-        load(0, Word::Key(0), 0),
-        load(0, Word::Entry(0), 1),
-        load(0, Word::Entry(1), 2),
-        load(0, Word::Entry(2), 0),
-        store(0, Word::Key(0), 1),
-        store(0, Word::Site(0), 1),
-        store(0, Word::Site(1), 0),
-        sub(0, slot(Field::Ack), 1),
-        store(0, slot(Field::Ack), 1),
-        noted(store(0, slot(Field::State), 4), Note::Ran),
-    ];
-    play(&rt, &[&patch, &run], two_sites(rt.alloc(), 1)?);
-    Ok(())
-}
-
-#[test]
 fn a_patch_to_the_same_count_stores_nothing(rt: HostRuntime) -> Result<(), Fail> {
     let patch = lone_patch(0)?;
     let run = [
