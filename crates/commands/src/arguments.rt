@@ -11,7 +11,7 @@ use explore::Most;
 use explore_text::{Orders, Run, Sample};
 use smp_mask::CpuMask;
 use std::alloc::{AllocError, Global};
-use trace_ftrace::text::MOST_WAIT;
+use trace_ftrace::text::{Asked, MOST_WAIT};
 use view::text_kind::TextKind;
 use view::{Choice, Mark};
 
@@ -99,11 +99,8 @@ pub enum Job<'a> {
     Write(Run),
     /// Judges a trace.
     Judge,
-    /// Judges what a kernel's own tracer wrote, without the first of these numbers of nanoseconds at its start. A call is told that
-    /// waits for more than the second.
-    JudgeKernel(u64, u64),
-    /// `smp judge --from ftrace --order`: with these options, the order of queues too.
-    OrderKernel(u64, u64),
+    /// Judges what a kernel's own tracer wrote, as is asked.
+    JudgeKernel(Asked),
     /// Writes the trace that such a text tells, without this number of nanoseconds at its start.
     PrintKernel(u64),
     /// Shows a trace as a page to step through.
@@ -131,7 +128,7 @@ impl<'a> Job<'a> {
             Job::Judge | Job::PageTrace => Some(TextKind::Trace),
             Job::PageKernel(_) | Job::PrintKernel(_) | Job::JsonKernel(_) => None,
             Job::Explain | Job::DrawKernel(..) => None,
-            Job::JudgeKernel(..) | Job::OrderKernel(..) => None,
+            Job::JudgeKernel(_) => None,
         }
     }
 }
@@ -313,12 +310,13 @@ fn slow_of(matches: &ArgMatches<'_>) -> u64 {
 fn kernel_job<'a>(matches: &ArgMatches<'a>) -> Job<'a> {
     let skip = nanoseconds(number(matches, "skip"));
     if matches.get_flag("print") {
-        Job::PrintKernel(skip)
-    } else if matches.get_flag("order") {
-        Job::OrderKernel(skip, slow_of(matches))
-    } else {
-        Job::JudgeKernel(skip, slow_of(matches))
+        return Job::PrintKernel(skip);
     }
+    Job::JudgeKernel(Asked {
+        skip,
+        slow: slow_of(matches),
+        order: matches.get_flag("order"),
+    })
 }
 
 // How a trace is judged that no kernel's tracer wrote: with none of the options of one.

@@ -3,17 +3,17 @@
 ghost use Rattle.std.specs.Prelude.{List, ℕ, Ok, IfSome};
 ghost use Rattle.std.specs.Io.KnownBytes.{Consumes, IsAtEnd};
 ghost use Rattle.commands.specs.KernelFiles.{GivesLines};
+ghost use Rattle.trace_ftrace.specs.Asked.{PrintsAsked};
 ghost use Rattle.trace_ftrace.specs.Reading.{reading_of, Reads};
-ghost use Rattle.trace_ftrace.specs.Text.{Prints};
 ghost use Rattle.trace_ftrace.specs.ThinText.{HasKept};
 
 use std::alloc::Global;
 use std::fs::File;
 use std::io::Read;
 use trace_ftrace::pieces::Pieces;
-use trace_ftrace::text::print_verdict;
+use trace_ftrace::text::{Asked, print_verdict, verdict_asked};
 use trace_ftrace::thin_text::{ShownLines, ThinText, lines_shown};
-use trace_ftrace::verdict::{MOST_KERNEL_BYTES, Reading, judge_told};
+use trace_ftrace::verdict::{MOST_KERNEL_BYTES, Reading};
 use trace_judge::Ruling;
 
 /// How many bytes are read at once.
@@ -73,37 +73,36 @@ fn read_thin<R: Read>(
 /// again, for the lines that are shown of one that is not lawful. None where it is refused, can't be read, or has no such line.
 fn judge_twice<R: Read, S: Read>(
     rt: &HostRuntime,
-    skip: u64,
-    slow: u64,
+    asked: Asked,
     reader: &mut R,
     again: &mut S,
 ) -> Option<(Vec<u8>, Ruling)>
     ensures { IfSome result (λ r. (text : List ℕ) × Consumes (R.remaining reader.old) (R.remaining reader.new) text
         × IsAtEnd (R.remaining reader.new) × ((shown : List ℕ) × GivesLines text (S.remaining again.old) (S.remaining again.new) shown
-        × Prints (Ok r) shown slow (reading_of skip text))) }
+        × PrintsAsked (Ok r) asked shown (reading_of asked.skip text))) }
 {
-    let reading = read_pieces(rt, skip, reader)?;
-    let verdict = judge_told(rt.alloc(), reading.telling.told.as_slice()).ok()?;
+    let reading = read_pieces(rt, asked.skip, reader)?;
+    let verdict = verdict_asked(rt.alloc(), asked.order, &reading).ok()?;
     match lines_shown(reading.telling.told.as_slice(), &verdict) {
-        None => print_verdict(rt.alloc(), slow, &reading, &verdict, b"").ok(),
+        None => print_verdict(rt.alloc(), asked, &reading, &verdict, b"").ok(),
         Some(lines) => {
             let thin = read_thin(rt, lines, again)?;
             let text = thin.text()?;
-            print_verdict(rt.alloc(), slow, &reading, &verdict, text).ok()
+            print_verdict(rt.alloc(), asked, &reading, &verdict, text).ok()
         }
     }
 }
 
 /// What is printed of a text in a regular file, which is read in pieces, and again where it is not lawful. None where it is refused,
 /// can't be read, or has another length when it was read: then its whole text says what is printed.
-pub fn judge_file(rt: &HostRuntime, path: &str, skip: u64, slow: u64) -> Option<(Vec<u8>, Ruling)> {
+pub fn judge_file(rt: &HostRuntime, path: &str, asked: Asked) -> Option<(Vec<u8>, Ruling)> {
     let mut file = File::open(rt, path).ok()?;
     let before = file.metadata().ok()?;
     if !before.is_file() {
         return None;
     }
     let mut again = File::open(rt, path).ok()?;
-    let (out, ruling) = judge_twice(rt, skip, slow, &mut file, &mut again)?;
+    let (out, ruling) = judge_twice(rt, asked, &mut file, &mut again)?;
     if ruling == Ruling::Broken && again.metadata().ok()?.len() != before.len() {
         return None;
     }

@@ -23,7 +23,7 @@ use std::thread::Threads;
 use trace_events::show_events;
 use trace_ftrace::json::json_of_kernel;
 use trace_ftrace::print::print_kernel;
-use trace_ftrace::text::{judge_ordered, judge_waits};
+use trace_ftrace::text::judge_asked;
 use trace_ftrace::verdict::MOST_KERNEL_BYTES;
 use trace_ftrace::wrong::Refusal;
 use trace_judge::body::MOST_TRACE_BYTES;
@@ -170,7 +170,7 @@ fn write_picture<W: Write>(
 // The most bytes of a text that is read for this.
 fn most_of(job: &Job<'_>) -> u32 {
     match job {
-        Job::JudgeKernel(..) | Job::OrderKernel(..) | Job::PrintKernel(_) => MOST_KERNEL_BYTES,
+        Job::JudgeKernel(_) | Job::PrintKernel(_) => MOST_KERNEL_BYTES,
         Job::PageKernel(_) | Job::JsonKernel(_) | Job::DrawKernel(..) => MOST_KERNEL_BYTES,
         _ => MOST_TRACE_BYTES,
     }
@@ -190,12 +190,7 @@ fn do_script<W: Write>(
         Job::Events => shown(show_events(rt.alloc(), &mut Watched::new(text), writer)),
         Job::Check(trace) => Ok(Answer::Shown(check_trace(rt, trace, text, writer)?)),
         Job::Judge => judged(judge_trace(rt.alloc(), &mut Watched::new(text), writer)),
-        Job::JudgeKernel(skip, slow) => {
-            write_verdict(judge_waits(rt.alloc(), *skip, *slow, text), writer)
-        }
-        Job::OrderKernel(skip, slow) => {
-            write_verdict(judge_ordered(rt.alloc(), *skip, *slow, text), writer)
-        }
+        Job::JudgeKernel(asked) => write_verdict(judge_asked(rt.alloc(), *asked, text), writer),
         Job::PrintKernel(skip) => write_events(print_kernel(rt.alloc(), *skip, text), writer),
         Job::JsonKernel(skip) => write_events(json_of_kernel(rt.alloc(), *skip, text), writer),
         Job::DrawKernel(skip, line) => {
@@ -271,10 +266,10 @@ fn do_kind<R: Threads + Sync>(
 
 /// Writes the verdict on a text of a kernel's tracer in a file, without holding it; none where its whole text has to say more.
 fn do_pieces(rt: &HostRuntime, request: &Request<'_>) -> Option<Result<Answer, Failure>> {
-    let (Job::JudgeKernel(skip, slow), Some(path)) = (&request.job, request.file) else {
+    let (Job::JudgeKernel(asked), Some(path)) = (&request.job, request.file) else {
         return None;
     };
-    let (out, ruling) = judge_file(rt, path, *skip, *slow)?;
+    let (out, ruling) = judge_file(rt, path, *asked)?;
     let mut writer = Watched::new(Remembering::new(rt.stdout()));
     match print(&mut writer, out.as_slice()) {
         Ok(()) => Some(Ok(Answer::Judged(ruling))),

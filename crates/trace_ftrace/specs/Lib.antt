@@ -1,3 +1,4 @@
+pub mod Asked
 pub mod Bounds
 pub mod Counts
 pub mod Fields

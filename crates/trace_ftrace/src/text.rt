@@ -1,17 +1,17 @@
 //! The verdict on a text of the tracer.
 
 ghost use Rattle.std.specs.Prelude.{◌≡◌, map, List, ℕ, Ok};
+ghost use Rattle.trace_ftrace.specs.Asked.{order_judged, PrintsAsked, RulesBy};
 ghost use Rattle.trace_ftrace.specs.KeptView.{kept_value};
 ghost use Rattle.trace_ftrace.specs.Offline.{made_of, unless_hidden};
 ghost use Rattle.trace_ftrace.specs.Reading.{reading_of};
 ghost use Rattle.trace_ftrace.specs.SourceView.{source_value};
-ghost use Rattle.trace_ftrace.specs.Text.{ruling_of, ruling_unless, Prints, PrintsInOrder, PrintsRuling, PrintsRun, PrintsSeen};
+ghost use Rattle.trace_ftrace.specs.Text.{ruling_of, Prints, PrintsInOrder, PrintsSeen};
 ghost use Rattle.trace_ftrace.specs.ThinText.{lines_shown, ShowSame};
 ghost use Rattle.trace_ftrace.specs.ToldView.{telling_value};
-ghost use Rattle.trace_ftrace.specs.Verdict.{ruling_of as ruling_of_told, Rules};
 
 use crate::bounds::shows_order;
-use crate::kept::functions_of;
+use crate::kept::{Mark, functions_of};
 use crate::names::Names;
 use crate::offline::hidden_by;
 use crate::ordered::judge_in_order;
@@ -23,6 +23,19 @@ use trace_judge::{Ruling, Verdict};
 
 /// A call that waits for no more nanoseconds is not told where no other number is asked for.
 pub const MOST_WAIT: u64 = 100_000_000;
+
+/// What is asked of a text: its first `skip` nanoseconds are left out, each call is told that is not begun or waited for more than
+/// `slow` nanoseconds, and the order of its appends is judged or not.
+///
+/// Order is judged where the lines show class and context of each call that is queued. An append is where its line is, or behind
+/// that and before the next line of its CPU in no deeper context; of a trap before its own probe. The verdict is that on one such
+/// order, with the takes of the CPUs in it. Where that is not lawful, none is known that is.
+#[derive(Clone, Copy, Debug, PartialEq, Eq)]
+pub struct Asked {
+    pub skip: u64,
+    pub slow: u64,
+    pub order: bool,
+}
 
 /// Whether a verdict is that the text is lawful.
 fn ruling_of<A: Allocator>(verdict: &Verdict<A>) -> Ruling
@@ -52,31 +65,16 @@ fn said<A: Allocator + Copy>(
     }
 }
 
-/// The verdict on the events that a text tells: what is printed of it, and whether the text is lawful.
-#[tactic(auto, using(crate::proofs::Printing::prints_of, crate::proofs::Printing::fails_of))]
-fn ruled<A: Allocator + Copy>(
-    alloc: A,
-    source: &Source<'_>,
-) -> Result<(Vec<u8, A>, Ruling), Refusal>
-    ensures { PrintsRuling result (source_value source.now) (ruling_unless source.now.offline source.now.told.now) }
+/// Whether the order of appends is judged of these lines, where it is asked for or not.
+fn order_judged(order: bool, marks: &[Mark]) -> OrderJudged
+    ensures { result ≡ order_judged order marks.now }
 {
-    match judge_told(alloc, source.told) {
-        Ok(verdict) => said(alloc, source, &verdict),
-        Err(why) => Err(why),
-    }
-}
-
-/// The verdict on the events that a text tells, in an order that its lines allow.
-#[tactic(auto, using(crate::proofs::Orders::prints_run, crate::proofs::Orders::fails_run))]
-fn ruled_in_order<A: Allocator + Copy>(
-    alloc: A,
-    source: &Source<'_>,
-) -> Result<(Vec<u8, A>, Ruling), Refusal>
-    ensures { PrintsRun result (source_value source.now) }
-{
-    match judge_in_order(alloc, source.marks, source.told) {
-        Ok(verdict) => said(alloc, source, &verdict),
-        Err(why) => Err(why),
+    if !order {
+        OrderJudged::Unasked
+    } else if shows_order(marks) {
+        OrderJudged::Judged
+    } else {
+        OrderJudged::Hidden
     }
 }
 
@@ -113,65 +111,86 @@ fn source_of<'a, A: Allocator>(
     }
 }
 
-/// Judges what was read of a text that a kernel's tracer wrote: what is printed of the verdict, with the lines of this text, and with
-/// each call that is not begun or waited for more than `slow` nanoseconds, and whether the text that was read is lawful.
+/// The verdict on the events that what was read of a text tells. Where order is judged, it is that on an order of them.
 ///
-/// Refusals: `TooLong`; `Wrong` where an event's CPU is above 31, or a CPU goes offline and may have caused the event that is refused;
-/// `NoMemory`.
-pub fn judge_read<A: Allocator + Copy>(
+/// Refusals: `TooLong`; `Wrong` where an event's CPU is above 31; `Unplaced`, which was never seen; `NoMemory`.
+pub fn verdict_asked<A: Allocator + Copy>(
     alloc: A,
-    slow: u64,
+    order: bool,
     reading: &Reading<A>,
-    text: &[u8],
-) -> Result<(Vec<u8, A>, Ruling), Refusal>
-    ensures { Prints result text.now slow (Ok (kept_value reading.now.kept, telling_value reading.now.telling)) }
+) -> Result<Verdict<A>, Refusal>
+    ensures { let marks = reading.now.kept.marks.items in RulesBy result (order_judged order marks) marks reading.now.telling.told.items }
 {
-    let Ok(functions) = functions_of(alloc, &reading.kept) else {
-        return Err(Refusal::NoMemory);
-    };
-    let source = source_of(
-        text,
-        functions.as_slice(),
-        reading,
-        OrderJudged::Unasked,
-        slow,
-    );
-    ruled(alloc, &source)
+    let marks = reading.kept.marks.as_slice();
+    let told = reading.telling.told.as_slice();
+    match order_judged(order, marks) {
+        OrderJudged::Judged => judge_in_order(alloc, marks, told),
+        OrderJudged::Unasked | OrderJudged::Hidden => judge_told(alloc, told),
+    }
 }
 
-/// What is printed of this verdict on what was read of a text. This text may be a thin one: what is printed is that of each text with
-/// the same of the lines that are shown.
+/// What is printed of this verdict on what was read of a text, and whether the text is lawful. This text may be a thin one: what is
+/// printed is that of each text with the same of the lines that are shown.
 ///
 /// Refusals: `Wrong` where a CPU goes offline and may have caused the event that is refused; `NoMemory`.
 pub fn print_verdict<A: Allocator + Copy>(
     alloc: A,
-    slow: u64,
+    asked: Asked,
     reading: &Reading<A>,
     verdict: &Verdict<A>,
     thin: &[u8],
 ) -> Result<(Vec<u8, A>, Ruling), Refusal>
-    requires { Rules (Ok verdict.now) (ruling_of_told reading.now.telling.told.items) }
+    requires { let marks = reading.now.kept.marks.items in
+        RulesBy (Ok verdict.now) (order_judged asked.order marks) marks reading.now.telling.told.items }
     ensures { (text : List ℕ) → ShowSame (lines_shown reading.now.telling.told.items verdict.now) text thin.now
-        → Prints result text slow (Ok (kept_value reading.now.kept, telling_value reading.now.telling)) }
+        → PrintsAsked result asked text (Ok (kept_value reading.now.kept, telling_value reading.now.telling)) }
 {
     let Ok(functions) = functions_of(alloc, &reading.kept) else {
         return Err(Refusal::NoMemory);
     };
-    let source = source_of(
-        thin,
-        functions.as_slice(),
-        reading,
-        OrderJudged::Unasked,
-        slow,
-    );
+    let order = order_judged(asked.order, reading.kept.marks.as_slice());
+    let source = source_of(thin, functions.as_slice(), reading, order, asked.slow);
     said(alloc, &source, verdict)
 }
 
-/// Judges a text that a kernel's tracer wrote, without its first `skip` nanoseconds: what is printed of the verdict, with each call
-/// that is not begun or waited for more than `slow` nanoseconds, and whether the text is lawful.
+/// Judges what was read of a text that a kernel's tracer wrote: what is printed of the verdict, with the lines of this text, and
+/// whether the text that was read is lawful.
+///
+/// Refusals: those of `verdict_asked` and `print_verdict`.
+#[tactic(auto, using(crate::proofs::ThinPrinting::fails_with, crate::proofs::ThinPrinting::same_lines))]
+pub fn judge_read<A: Allocator + Copy>(
+    alloc: A,
+    asked: Asked,
+    reading: &Reading<A>,
+    text: &[u8],
+) -> Result<(Vec<u8, A>, Ruling), Refusal>
+    ensures { PrintsAsked result asked text.now (Ok (kept_value reading.now.kept, telling_value reading.now.telling)) }
+{
+    match verdict_asked(alloc, asked.order, reading) {
+        Ok(verdict) => print_verdict(alloc, asked, reading, &verdict, text),
+        Err(why) => Err(why),
+    }
+}
+
+/// Judges a text that a kernel's tracer wrote: what is printed of the verdict, and whether the text is lawful.
 ///
 /// Refusals: `TooLong`; `Wrong` with the first line at fault, or with the line that shows that a CPU has gone offline, where that may
-/// have caused the event that is refused; `NoMemory`.
+/// have caused the event that is refused; where order is judged `Unplaced`, which was never seen; `NoMemory`.
+#[tactic(auto, using(crate::proofs::ThinPrinting::fails_read))]
+pub fn judge_asked<A: Allocator + Copy>(
+    alloc: A,
+    asked: Asked,
+    text: &[u8],
+) -> Result<(Vec<u8, A>, Ruling), Refusal>
+    ensures { PrintsAsked result asked text.now (reading_of asked.skip text.now) }
+{
+    match read_told(alloc, asked.skip, text) {
+        Ok(reading) => judge_read(alloc, asked, &reading, text),
+        Err(why) => Err(why),
+    }
+}
+
+/// Judges such a text as `judge_asked` does, without the order of its appends.
 pub fn judge_waits<A: Allocator + Copy>(
     alloc: A,
     skip: u64,
@@ -180,18 +199,11 @@ pub fn judge_waits<A: Allocator + Copy>(
 ) -> Result<(Vec<u8, A>, Ruling), Refusal>
     ensures { Prints result text.now slow (reading_of skip text.now) }
 {
-    match read_told(alloc, skip, text) {
-        Ok(reading) => judge_read(alloc, slow, &reading, text),
-        Err(why) => Err(why),
-    }
+    let order = false;
+    judge_asked(alloc, Asked { skip, slow, order }, text)
 }
 
-/// Judges such a text as `judge_waits` does, and the order of its appends, where its lines show class and context of each call that
-/// is queued. An append is where its line is, or behind that and before the next line of its CPU in no deeper context; of a trap
-/// before its own probe. The verdict is that on one such order, with the takes of the CPUs in it. Where that is not lawful, none is
-/// known that is.
-///
-/// Refusals: those of `judge_waits`; `Unplaced`, which was never seen.
+/// Judges such a text as `judge_asked` does, with the order of its appends.
 pub fn judge_ordered<A: Allocator + Copy>(
     alloc: A,
     skip: u64,
@@ -200,25 +212,8 @@ pub fn judge_ordered<A: Allocator + Copy>(
 ) -> Result<(Vec<u8, A>, Ruling), Refusal>
     ensures { PrintsInOrder result text.now slow (reading_of skip text.now) }
 {
-    let reading = match read_told(alloc, skip, text) {
-        Ok(reading) => reading,
-        Err(why) => return Err(why),
-    };
-    let Ok(functions) = functions_of(alloc, &reading.kept) else {
-        return Err(Refusal::NoMemory);
-    };
-    let is_shown = shows_order(reading.kept.marks.as_slice());
-    let order = if is_shown {
-        OrderJudged::Judged
-    } else {
-        OrderJudged::Hidden
-    };
-    let source = source_of(text, functions.as_slice(), &reading, order, slow);
-    if is_shown {
-        ruled_in_order(alloc, &source)
-    } else {
-        ruled(alloc, &source)
-    }
+    let order = true;
+    judge_asked(alloc, Asked { skip, slow, order }, text)
 }
 
 /// Judges such a text as `judge_waits` does. It tells each call that waited for more than 100 milliseconds.

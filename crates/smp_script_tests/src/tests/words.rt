@@ -8,6 +8,7 @@ use explore::Most;
 use explore_text::Orders;
 use std::alloc::Global;
 use std::test::*;
+use trace_ftrace::text::Asked;
 use view::Mark;
 
 // What these words are refused as; none where they are taken.
@@ -226,18 +227,10 @@ fn a_page_opens_at_the_mark(rt: HostRuntime) {
     );
 }
 
-// Whether these words ask for the judge of what a kernel's tracer wrote, by these numbers of nanoseconds.
-fn judges(alloc: Global, words: &[&str], skip: u64, slow: u64) -> bool {
+// Whether these words ask so for the judge of what a kernel's tracer wrote.
+fn judges(alloc: Global, words: &[&str], asked: Asked) -> bool {
     match read_words(alloc, words) {
-        Ok(request) => request.job == Job::JudgeKernel(skip, slow),
-        Err(_) => false,
-    }
-}
-
-// Whether they ask for that judge with the order of queues.
-fn judges_order(alloc: Global, words: &[&str], skip: u64, slow: u64) -> bool {
-    match read_words(alloc, words) {
-        Ok(request) => request.job == Job::OrderKernel(skip, slow),
+        Ok(request) => request.job == Job::JudgeKernel(asked),
         Err(_) => false,
     }
 }
@@ -256,8 +249,11 @@ fn what_a_kernel_wrote(rt: HostRuntime) {
         judges(
             rt.alloc(),
             &["smp", "judge", "--from", "ftrace", "file"],
-            0,
-            100_000_000,
+            Asked {
+                skip: 0,
+                slow: 100_000_000,
+                order: false,
+            },
         )
     );
     assert!(rt;
@@ -266,16 +262,22 @@ fn what_a_kernel_wrote(rt: HostRuntime) {
             &[
                 "smp", "judge", "--from", "ftrace", "--skip", "2", "--slow", "30",
             ],
-            2_000_000_000,
-            30_000_000,
+            Asked {
+                skip: 2_000_000_000,
+                slow: 30_000_000,
+                order: false,
+            },
         )
     );
     assert!(rt;
-        judges_order(
+        judges(
             rt.alloc(),
             &["smp", "judge", "--from", "ftrace", "--order", "--slow", "1"],
-            0,
-            1_000_000,
+            Asked {
+                skip: 0,
+                slow: 1_000_000,
+                order: true,
+            },
         )
     );
     assert!(rt;
