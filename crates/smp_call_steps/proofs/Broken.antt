@@ -6,8 +6,9 @@ use Rattle.smp_call_steps.specs.{Call, Sync, no_calls}
 use Rattle.smp_call_steps.specs.Broken.{no_words, one_locked, one_counted, in_a_queue, in_two_queues, twice_in_a_queue, held_by_another}
 use Rattle.smp_call_steps.specs.Broken.{lost, ran_twice, ran_unsent, second_begins, second_joins}
 use Rattle.smp_call_steps.specs.Headline.{InOnePlace, RunOnce, RunInOrder, IsDrained, RunEqualQueued}
-use Rattle.smp_call_steps.specs.Reached.{IsReached, ArePlaced, HoldTheirOwn}
-use Rattle.smp_call_steps.proofs.ReachedLaws.{reached_run_once, reached_run_in_order, reached_placed, reached_hold}
+use Rattle.smp_call_steps.specs.Reached.{IsReached, IsNever, ArePlaced, HoldTheirOwn}
+use Rattle.smp_call_steps.proofs.ReachedLaws.{reached_in_one_place, reached_run_once, reached_run_in_order, reached_run_equal_queued, reached_placed}
+use Rattle.smp_call_steps.proofs.ReachedLaws.{reached_hold}
 use Rattle.smp_call_steps.specs.place
 
 -- place
@@ -82,26 +83,32 @@ not_its_own : HoldTheirOwn held_by_another → ⊥
 unfolding owner
 not_its_own h = let e : 0 ≡ 1 = (h 1 0 refl).0 in omega (arith, e)
 
-pub no_two_queues : IsReached in_two_queues → ⊥
-no_two_queues r = placed_twice (reached_placed in_two_queues r)
+pub no_two_queues : IsNever in_two_queues
+no_two_queues at r = placed_twice (reached_placed in_two_queues at r)
 
-pub not_queued_twice : IsReached twice_in_a_queue → ⊥
-not_queued_twice r = placed_again (reached_placed twice_in_a_queue r)
+pub not_queued_twice : IsNever twice_in_a_queue
+not_queued_twice at r = placed_again (reached_placed twice_in_a_queue at r)
 
-pub not_held_elsewhere : IsReached held_by_another → ⊥
-not_held_elsewhere r = not_its_own (reached_hold held_by_another r)
+pub not_held_elsewhere : IsNever held_by_another
+not_held_elsewhere at r = not_its_own (reached_hold held_by_another at r)
 
-pub none_lost : IsReached lost → ⊥
-none_lost r = one_lost (reached_run_once lost r)
+pub none_lost : IsNever lost
+none_lost at r = one_lost (reached_run_once lost at r)
 
-pub none_twice : IsReached ran_twice → ⊥
-none_twice r = one_twice (reached_run_once ran_twice r)
+pub none_twice : IsNever ran_twice
+none_twice at r = one_twice (reached_run_once ran_twice at r)
 
-pub none_unsent : IsReached ran_unsent → ⊥
-none_unsent r = one_unsent (reached_run_once ran_unsent r)
+pub none_unsent : IsNever ran_unsent
+none_unsent at r = one_unsent (reached_run_once ran_unsent at r)
 
-pub not_begun_first : IsReached second_begins → ⊥
-not_begun_first r = begins_first (reached_run_in_order second_begins r)
+pub not_begun_first : IsNever second_begins
+not_begun_first at r = begins_first (reached_run_in_order second_begins at r)
 
-pub not_joined_first : IsReached second_joins → ⊥
-not_joined_first r = joins_first (reached_run_in_order second_joins r)
+pub not_joined_first : IsNever second_joins
+not_joined_first at r = joins_first (reached_run_in_order second_joins at r)
+
+pub none_unlocked : IsReached in_a_queue no_words → ⊥
+none_unlocked r = unlocked (reached_in_one_place in_a_queue no_words r)
+
+pub none_counted : IsReached no_calls one_counted → ⊥
+none_counted r = not_counted (reached_run_equal_queued no_calls one_counted r)

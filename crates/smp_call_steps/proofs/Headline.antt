@@ -5,11 +5,12 @@ use Rattle.std.proofs.lemmas.List.Sorted.{IsPermutation-refl, IsPermutation-sym,
 use Rattle.std.proofs.lemmas.List.Sorted.{IsPermutation-append, IsPermutation-middle}
 use Rattle.smp_words.specs.Size.{owner}
 use Rattle.smp_call_steps.specs.{CallState, ControlValue, Call, Class, Sync, Async, Word, RecPlace, IsThere, FlagsShow, flags_in, batches, orders, calls_from}
-use Rattle.smp_call_steps.specs.{calls_to, if_sync, if_async, sync_calls, async_calls, order, of_class, IsPrefix, running_call, history_of, Recorded}
+use Rattle.smp_call_steps.specs.{calls_to, if_sync, if_async, sync_calls, async_calls, order, of_class, IsPrefix, running_call, history_of, Recorded, share_of, hands_in}
 use Rattle.smp_call_steps.specs.Headline.{IsAt, HasOnePlace, InOnePlace, begun, waiting, joined, RunOnce, RunInOrder, IsDrained, RunEqualQueued}
 use Rattle.smp_call_steps.specs.Shows.{Shows}
 use Rattle.smp_call_steps.proofs.Promises.{from_class, from-append, only_there, unmarked, unmarked_sent, unmarked_from, unmarked_history, unmarked_batches}
-use Rattle.smp_call_steps.proofs.State.Drained.{Still, all_ran, all_sent, equal_tallies}
+use Rattle.smp_call_steps.proofs.State.Drained.{HasLaws, Still, all_ran, all_sent, equal_tallies, rests_at}
+use Rattle.smp_call_steps.proofs.State.Counts.{held_place}
 use Rattle.smp_call_steps.proofs.State.QueueOrder.{of_class-append, orders_keep}
 use Rattle.smp_call_steps.proofs.Steps.Own.{holder_owns}
 use Rattle.smp_call_steps.specs.place
@@ -20,11 +21,23 @@ unlocked_free : (p : RecPlace) (flags : ℕ) → FlagsShow p flags → flags ≡
 unlocked_free place.Free flags h e = refl
 unlocked_free _ flags h e = absurd (let odd : flags % 2 ≡ 1 = h in search (e, arith))
 
-locked : (p : RecPlace) (flags : ℕ) → FlagsShow p flags → p ≢ place.Free → flags % 2 ≡ 1
-locked place.Free flags h ne = absurd (ne refl)
-locked _ flags h ne = h
+pub locked_flags : (p : RecPlace) (flags : ℕ) → FlagsShow p flags → p ≢ place.Free → flags % 2 ≡ 1
+locked_flags place.Free flags h ne = absurd (ne refl)
+locked_flags _ flags h ne = h
 
-module _ {a : CallState} {at : Word → ℕ} {control : ℕ → ControlValue} (s : Shows a at control) where
+-- calls that words and stages show have these laws
+pub shown_laws : {a : CallState} {at : Word → ℕ} {control : ℕ → ControlValue} → Shows a at control → HasLaws a at
+shown_laws {a} {at} {control} s = record {
+  placed = s.placed;
+  recorded = s.recorded;
+  owns = holder_owns s;
+  home = held_place s;
+  locks = s.written.locks;
+  tallied = s.tallied;
+  idle = λ cpu z. rests_at a.place at (share_of a cpu) (control cpu).drain cpu (hands_in at cpu) (control cpu).stage z (s.hands cpu) (s.stands cpu);
+}
+
+module _ {a : CallState} {at : Word → ℕ} (s : HasLaws a at) where
   here : (id : ℕ) (p : RecPlace) → FlagsShow p (flags_in at id) → IsThere a.held a.queue a.batch a.running id p → IsAt a (flags_in at) id p
   here id place.Free f h = f
   here id place.Held f h = h
@@ -33,18 +46,18 @@ module _ {a : CallState} {at : Word → ℕ} {control : ℕ → ControlValue} (s
   here id (place.Running cpu) f h = h
 
   only : (id : ℕ) (p : RecPlace) → IsAt a (flags_in at) id p → p ≡ a.place id
-  only id place.Free h = sym (unlocked_free (a.place id) (flags_in at id) (s.written.locks id) h)
-  only id place.Held h = sym (only_there a at control s id place.Held (λ e. cc) h)
-  only id (place.Queued cpu) h = sym (only_there a at control s id (place.Queued cpu) (λ e. cc) h)
-  only id (place.Batch cpu) h = sym (only_there a at control s id (place.Batch cpu) (λ e. cc) h)
-  only id (place.Running cpu) h = sym (only_there a at control s id (place.Running cpu) (λ e. cc) h)
+  only id place.Free h = sym (unlocked_free (a.place id) (flags_in at id) (s.locks id) h)
+  only id place.Held h = sym (only_there a s.placed s.home id place.Held (λ e. cc) h)
+  only id (place.Queued cpu) h = sym (only_there a s.placed s.home id (place.Queued cpu) (λ e. cc) h)
+  only id (place.Batch cpu) h = sym (only_there a s.placed s.home id (place.Batch cpu) (λ e. cc) h)
+  only id (place.Running cpu) h = sym (only_there a s.placed s.home id (place.Running cpu) (λ e. cc) h)
 
   one_place : (id : ℕ) → HasOnePlace a (flags_in at) id
   one_place id = record {
-    here = here id (a.place id) (s.written.locks id) (s.placed.is_there id);
+    here = here id (a.place id) (s.locks id) (s.placed.is_there id);
     only = only id;
-    locked = locked (a.place id) (flags_in at id) (s.written.locks id);
-    held = λ cpu h. holder_owns s cpu id h;
+    locked = locked_flags (a.place id) (flags_in at id) (s.locks id);
+    held = λ cpu h. s.owns cpu id h;
   }
 
   pub in_one_place : InOnePlace a at
@@ -131,7 +144,7 @@ module _ (a : CallState) (r : Recorded a.sent a.taken a.queue a.ran a.running a.
             ∙ ap (λ (xs : List Call). xs ++ calls_from source p.0) (sym (from_class source class (begun a cpu)))))),
       )
 
-module _ {a : CallState} {at : Word → ℕ} {control : ℕ → ControlValue} (s : Shows a at control) where
+module _ {a : CallState} {at : Word → ℕ} (s : HasLaws a at) where
   pub run_once : RunOnce a
   run_once = once_recorded a s.recorded
 

@@ -13,5 +13,7 @@ pub mod Machine
 -- the laws
 pub mod Promises
 pub mod Headline
+pub mod StepsKeep
+pub mod StepsAgree
 pub mod ReachedLaws
 pub mod Broken

@@ -3,10 +3,9 @@ use Rattle.std.proofs.Common.{arith, ◌≡◌, ◌≢◌, ℕ, ◌==◌, Bool, 
 use Rattle.std.specs.List.{AllByRecursion}
 use Rattle.smp_words.specs.Size.{owner}
 use Rattle.smp_call_steps.specs.{CallState, Sending, batches, Marked, mark, marked, others_marked, batches_marked, history_of, sent_to, marked_from}
-use Rattle.smp_call_steps.specs.{calls_from, HasRecord, IsPlaced, IsThere, locked_by, NothingCalled, StepsAreTold, calls_to, RunAtMostOnce}
-use Rattle.smp_call_steps.specs.{if_class, of_class, IsPrefix, ControlValue, Call, Class, Sync, Async, Word, RecPlace}
-use Rattle.smp_call_steps.specs.Shows.{Shows}
-use Rattle.smp_call_steps.proofs.State.Counts.{held_place}
+use Rattle.smp_call_steps.specs.{calls_from, Holds, HasRecord, IsPlaced, IsThere, locked_by, NothingCalled, StepsAreTold, calls_to, RunAtMostOnce}
+use Rattle.smp_call_steps.specs.{if_class, of_class, IsPrefix, Call, Class, Sync, Async, RecPlace}
+use Rattle.smp_call_steps.specs.Reached.{ArePlaced}
 use Rattle.smp_call_steps.proofs.Knows.OneStep.{known_step}
 use Rattle.smp_call_steps.proofs.State.QueueOrder.{run_in_queue_order}
 use Rattle.smp_call_steps.proofs.Machine.Starts.{zeros_shown}
@@ -25,13 +24,14 @@ placed_there places p id [] all h = absurd h
 placed_there places p id (call ∷ rest) all (inl e) = subst (λ (k : ℕ). places k ≡ p) e all.0.placed
 placed_there places p id (call ∷ rest) all (inr h) = placed_there places p id rest all.1 h
 
-module _ (a : CallState) (at : Word → ℕ) (control : ℕ → ControlValue) (s : Shows a at control) where
+-- where a record is, by the place law alone
+module _ (a : CallState) (placed : ArePlaced a) (home : (cpu id : ℕ) → Holds (a.held cpu) id → a.place id ≡ place.Held) where
   pub only_there : (id : ℕ) (p : RecPlace) → p ≢ place.Free → IsThere a.held a.queue a.batch a.running id p → a.place id ≡ p
   only_there id place.Free ne h = absurd (ne refl)
-  only_there id place.Held ne h = held_place s (owner id) id h
-  only_there id (place.Queued cpu) ne h = placed_there a.place (place.Queued cpu) id (a.queue cpu) (s.placed.queued cpu) h
-  only_there id (place.Batch cpu) ne h = placed_there a.place (place.Batch cpu) id (a.batch cpu) (s.placed.batched cpu) h
-  only_there id (place.Running cpu) ne h = placed_there a.place (place.Running cpu) id (locked_by (a.running cpu)) (s.placed.runs cpu) h
+  only_there id place.Held ne h = home (owner id) id h
+  only_there id (place.Queued cpu) ne h = placed_there a.place (place.Queued cpu) id (a.queue cpu) (placed.queued cpu) h
+  only_there id (place.Batch cpu) ne h = placed_there a.place (place.Batch cpu) id (a.batch cpu) (placed.batched cpu) h
+  only_there id (place.Running cpu) ne h = placed_there a.place (place.Running cpu) id (locked_by (a.running cpu)) (placed.runs cpu) h
 
 -- of a class and of a source, one after the other
 

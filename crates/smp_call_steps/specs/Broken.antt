@@ -4,6 +4,7 @@ use Rattle.smp_words.specs.Put.{put}
 use Rattle.smp_call_steps.specs.State.{CallState, Sending, no_calls}
 use Rattle.smp_call_steps.specs.Names.{Call, Sync, Word, Flags, Queued}
 use Rattle.smp_call_steps.specs.Names.place
+pub use Rattle.smp_call_steps.specs.Reached.{no_words}
 
 -- the SYNC call by this record of CPU 0, and as CPU 0 has sent it to CPU 1
 abbrev pub call_by : ℕ → Call
@@ -12,10 +13,7 @@ call_by id = record { id = id; class = Sync; func = 0; info = 0 }
 abbrev pub sending : ℕ → Sending
 sending id = record { call = call_by id; to = 1; is_first = true }
 
--- words that are all 0; those in which record 0 alone is locked; those in which CPU 0 has counted a call for CPU 1
-abbrev pub no_words : Word → ℕ
-no_words w = 0
-
+-- words in which record 0 alone is locked; those in which CPU 0 has counted a call for CPU 1
 abbrev pub one_locked : Word → ℕ
 one_locked (Flags id) = cond (id == 0) 1 0
 one_locked w = 0

@@ -1,11 +1,11 @@
 -- Who may make which step of the call half: what holds of the calls before it.
-use Rattle.std.specs.Prelude.{◌≡◌, ◌⊎◌, ℕ, zero, suc, ◌+◌, ◌^◌, ◌<◌, true, false, Option, Some, None, List, [], ◌∷◌}
+use Rattle.std.specs.Prelude.{◌≡◌, ◌≢◌, ◌⊎◌, ℕ, zero, suc, ◌+◌, ◌-◌, ◌%◌, ◌^◌, ◌<◌, true, false, if◌then◌else◌, Option, Some, None, List, [], ◌∷◌}
 use Rattle.smp_words.specs.Size.{cpus, records, owner}
 use Rattle.smp_call_steps.specs.Calls.{CallState, Holding, Nothing, CountedCall}
 use Rattle.smp_call_steps.specs.Functions.{runs_as}
 use Rattle.smp_call_steps.specs.Places.{Holds}
 use Rattle.smp_call_steps.specs.Words.{FlagsShow, bit}
-use Rattle.smp_call_steps.specs.Names.{Call, Class, Sync, Async, Word, Head, Intr, Hand, Queued, Ran, Flags, Func, Info, Next, Act, RecPlace}
+use Rattle.smp_call_steps.specs.Names.{Call, Class, Sync, Async, Word, Head, Intr, Hand, Queued, Ran, Flags, Func, Info, Next, Act, Seen, RecPlace}
 use Rattle.smp_call_steps.specs.Names.place
 use Rattle.smp_call_steps.specs.Names.act
 
@@ -66,9 +66,10 @@ MayUnlock a me id = (HoldsUncounted (a.held me) id × HandlesNothing a me)
     ⊎ ((a.held me ≡ None) × ((call : Call) × (call.id ≡ id) × (a.running me ≡ CountedCall call) × (call.class ≡ Sync)))
     ⊎ ((a.held me ≡ None) × ((call : Call) × (call.id ≡ id) × IsNext a me Async call))
 
+-- flags of 0 unlock a record, and odd ones lock it
 abbrev pub MayStoreFlags : CallState → ℕ → ℕ → ℕ → Type 0
 MayStoreFlags a me id zero = MayUnlock a me id
-MayStoreFlags a me id (suc n) = MayLock a me id
+MayStoreFlags a me id (suc n) = MayLock a me id × (suc n % 2 ≡ 1)
 
 -- the handling word is stored as a CPU enters, where it has nothing to handle, and leaves, where it has nothing left; or
 -- as the SYNC call of a record begins, which is next
@@ -131,3 +132,26 @@ MaySee a me act.Cas (Head to) (Some n) put = HoldsFor (a.held me) to × LeadsTo 
 MaySee a me act.Swap (Intr cpu) (Some n) (Some m) = (cpu ≡ me) × MayAccept a me n m
 MaySee a me act.Swap (Head cpu) (Some n) (Some m) = (cpu ≡ me) × MayTake a me × (m ≡ 0)
 MaySee a me _ _ found put = ⊥
+
+-- what is found is what is in the word
+abbrev pub IsFound : (Word → ℕ) → Word → Option ℕ → Type 0
+IsFound at word None = Unit {0}
+IsFound at word (Some n) = n ≡ at word
+
+-- a tally that is this number, with the call that is held counted, or counted back
+abbrev pub recounted : Option Holding → ℕ → ℕ
+recounted None n = n
+recounted (Some h) n = if h.is_counted then (n + (2 ^ 64 - 1)) % 2 ^ 64 else (n + 1) % 2 ^ 64
+
+-- how a step goes by the words: a tally goes on from the number that it has, and an interrupt is accepted inside handle
+abbrev pub FitsWords : CallState → (Word → ℕ) → ℕ → Act → Word → Option ℕ → Type 0
+FitsWords a at me act.Store (Queued from to) (Some n) = n ≡ recounted (a.held me) (at (Queued from to))
+FitsWords a at me act.Store (Ran by source) (Some n) = n ≡ (at (Ran by source) + 1) % 2 ^ 64
+FitsWords a at me act.Swap (Intr cpu) put = at (Hand me) ≢ 0
+FitsWords a at me _ word put = Unit {0}
+
+-- who may make a step where the calls and the words are these
+pub record MayMake (a : CallState) (at : Word → ℕ) (seen : Seen) : Type 0 where
+  pub may : MaySee a seen.cpu seen.act seen.word seen.found seen.put
+  pub finds : IsFound at seen.word seen.found
+  pub fits : FitsWords a at seen.cpu seen.act seen.word seen.put

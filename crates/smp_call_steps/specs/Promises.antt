@@ -23,7 +23,7 @@ NothingCalled = (at : Word → ℕ) (control : ℕ → ControlValue) → ((w : W
 abbrev pub StepsAreTold : Type 0
 StepsAreTold = (a : CallState) (at : Word → ℕ) (control : ℕ → ControlValue) (v : KnownCalls) → Shows a at control → Sees a control v →
     (stage : Stage) → MayStep v stage → (access : Access) → known_access v stage ≡ access →
-    GoesOn a control v.number (at_after at access) (known_tells (a.queue v.number) v (seen_of v.number access (at (word_of access)) None))
+    GoesOn a at control v.number (at_after at access) (known_tells (a.queue v.number) v (seen_of v.number access (at (word_of access)) None))
 
 -- each record is in exactly one place
 abbrev pub KeepThePlaceLaw : Type 0

@@ -6,8 +6,8 @@ use Rattle.smp_call_steps.specs.Drains.{DrainValue}
 use Rattle.smp_call_steps.specs.Functions.{FunctionGoes}
 use Rattle.smp_call_steps.specs.Threads.Known.{Sees, MayStep}
 use Rattle.smp_call_steps.specs.Notes.{QueueGoes, SaidMeans}
-use Rattle.smp_call_steps.specs.Premises.{IsWordOf, MayStoreAt, MaySee}
-use Rattle.smp_call_steps.specs.Reached.{IsReached}
+use Rattle.smp_call_steps.specs.Premises.{IsWordOf, MayStoreAt, MayMake}
+use Rattle.smp_call_steps.specs.Reached.{IsReached, words_told}
 use Rattle.smp_call_steps.specs.Shows.{Shows}
 use Rattle.smp_call_steps.specs.Stages.{ControlValue, access_of, outcome_of}
 use Rattle.smp_call_steps.specs.Tries.{GoesOnWith}
@@ -23,7 +23,7 @@ seen_then at d me stage =
 
 -- who may make it
 abbrev pub IsPremised : CallState → (Word → ℕ) → DrainValue → ℕ → Stage → Type 0
-IsPremised a at d me stage = let seen = seen_then at d me stage in MaySee a me seen.act seen.word seen.found seen.put
+IsPremised a at d me stage = MayMake a at (seen_then at d me stage)
 
 -- a word of a record stays as it is, but where the CPU may store to it
 abbrev pub KeepsRecords : CallState → (Word → ℕ) → DrainValue → ℕ → Stage → Type 0
@@ -72,6 +72,6 @@ abbrev pub KnownStepsKeepLaws : Type 0
 KnownStepsKeepLaws = (a : CallState) (at : Word → ℕ) (control : ℕ → ControlValue) (v : KnownCalls) → Shows a at control → Sees a control v →
     (stage : Stage) → MayStep v stage → KeepsStepLaws a at v.drain v.number stage
 
--- and so the step leads from calls that are reached to calls that are reached
+-- and so the step leads from calls and words that are reached to such
 abbrev pub ReachesOn : CallState → (Word → ℕ) → DrainValue → ℕ → Stage → Type 0
-ReachesOn a at d me stage = IsReached a → IsReached (tells a (seen_then at d me stage))
+ReachesOn a at d me stage = let seen = seen_then at d me stage in IsReached a at → IsReached (tells a seen) (words_told at seen)

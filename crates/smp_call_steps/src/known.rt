@@ -113,4 +113,6 @@ pub struct KnownCalls {
     pub sent_at: u64,
     /// How often it had taken its interrupt word by then.
     pub asked_at: u64,
+    /// For each time that it took its interrupt word, how many steps outside `handle` it had made by then.
+    pub asked_after: LinkedList<u64>,
 }

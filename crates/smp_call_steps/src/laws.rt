@@ -36,7 +36,8 @@ pub fn heads_tell()
     ensures { HeadsTell }
 {}
 
-/// Each step of a CPU outside `handle` is counted once in its number of steps, and no step inside `handle` is.
+/// Each step of a CPU outside `handle` is counted once in its number of steps, and no step inside `handle` is. Each take of its
+/// interrupt word is listed with the number of steps before it.
 pub fn steps_count()
     ensures { StepsCount }
 {}
@@ -224,31 +225,35 @@ pub fn drained_machines_ran_all()
 
 ghost use Rattle.smp_call_steps.specs.State.{CallState, no_calls};
 ghost use Rattle.smp_call_steps.specs.Headline.{InOnePlace, RunOnce, RunInOrder, RunEqualQueued};
-ghost use Rattle.smp_call_steps.specs.Reached.{IsReached, ArePlaced, HoldTheirOwn, AreNoticed};
+ghost use Rattle.smp_call_steps.specs.Reached.{IsReached, IsNever, OfReached, ArePlaced, HoldTheirOwn, AreTallied, AreNoticed};
 ghost use Rattle.smp_call_steps.specs.Broken.{no_words, one_locked, one_counted, in_a_queue, in_two_queues, twice_in_a_queue};
 ghost use Rattle.smp_call_steps.specs.Broken.{held_by_another, lost, ran_twice, ran_unsent, second_begins, second_joins};
 
-/// The calls are reached where nothing was called, and each step of a CPU leads from calls that are reached to calls that are
-/// reached.
+/// Nothing called is reached, with words that are all 0. Each step of a CPU leads from calls and words that are reached to such.
 pub fn reached_calls_go_on()
-    ensures nothing { IsReached no_calls }
+    ensures nothing { IsReached no_calls no_words }
     ensures step { OfEachStep ReachesOn }
 {}
 
-/// These laws hold of every state of the calls that is reached: to which steps that the CPUs may make lead, of any of them in any
-/// order, from nothing called. They follow from the premises of these steps ([`steps_are_premised`]), and from no word and no stage.
-/// The tally law and what holds of a drained machine are not among them, since they speak of words.
-/// - `place`: Each record is where the state says, and nowhere else.
+/// These laws hold of every state of the calls that is reached with its words: to which steps that the CPUs may make lead, of any of
+/// them in any order, from nothing called. They follow from the premises of these steps ([`steps_are_premised`]), and from no stage.
+/// - `place`: Each record is where the state says, and nowhere else, and it is locked unless it is free.
+/// - `lists`: Each call of a queue, a batch or that runs is by a record which is there.
 /// - `held`: A CPU holds only records of its own.
 /// - `once`: What a source has sent to a CPU is what has begun there and what waits there, each call once.
 /// - `order`: In each class, calls begin in the order in which they joined the queue, and join it in the order in which they were sent.
+/// - `drained`: Where no head, no flags and no handling word is set, all that was sent has run, and the counts are equal.
+/// - `tally`: The tally words count the calls that were sent and those that ran.
 /// - `interrupt`: Where a CPU's queue is not empty, it has an interrupt pending, has accepted one, or is owed one.
 pub fn reached_calls_keep_laws()
-    ensures place { (a : CallState) → IsReached a → ArePlaced a }
-    ensures held { (a : CallState) → IsReached a → HoldTheirOwn a }
-    ensures once { (a : CallState) → IsReached a → RunOnce a }
-    ensures order { (a : CallState) → IsReached a → RunInOrder a }
-    ensures interrupt { (a : CallState) → IsReached a → AreNoticed a }
+    ensures place { OfReached InOnePlace }
+    ensures lists { OfReached (λ a at. ArePlaced a) }
+    ensures held { OfReached (λ a at. HoldTheirOwn a) }
+    ensures once { OfReached (λ a at. RunOnce a) }
+    ensures order { OfReached (λ a at. RunInOrder a) }
+    ensures drained { OfReached RunEqualQueued }
+    ensures tally { OfReached AreTallied }
+    ensures interrupt { OfReached (λ a at. AreNoticed a) }
 {}
 
 /// The headline of calls rules something out: each of these states, with these words, breaks one of its laws.
@@ -264,11 +269,13 @@ pub fn headline_can_be_broken()
     ensures drained { (¬ (RunEqualQueued lost no_words)) × (¬ (RunEqualQueued no_calls one_counted)) }
 {}
 
-/// No steps that the CPUs may make lead to these states, which are broken whatever the words are.
+/// No steps that the CPUs may make lead to these states, whatever the words are; nor to an unlocked record in a queue, or to a count
+/// of a call that was not queued.
 pub fn broken_calls_are_not_reached()
-    ensures place { (¬ (IsReached in_two_queues)) × (¬ (IsReached twice_in_a_queue)) × (¬ (IsReached held_by_another)) }
-    ensures once { (¬ (IsReached lost)) × (¬ (IsReached ran_twice)) × (¬ (IsReached ran_unsent)) }
-    ensures order { (¬ (IsReached second_begins)) × (¬ (IsReached second_joins)) }
+    ensures place { IsNever in_two_queues × IsNever twice_in_a_queue × IsNever held_by_another × (¬ (IsReached in_a_queue no_words)) }
+    ensures once { IsNever lost × IsNever ran_twice × IsNever ran_unsent }
+    ensures order { IsNever second_begins × IsNever second_joins }
+    ensures drained { ¬ (IsReached no_calls one_counted) }
 {}
 
 /// A queue has at most as many calls as there are records, so a walk along its links ends.

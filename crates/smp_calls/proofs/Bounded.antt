@@ -21,6 +21,7 @@ use Rattle.smp_calls.specs.Families.{Leaves, Calls, CallsMany, IsLast, AreConfir
 use Rattle.smp_calls.specs.Handles.{looks}
 use Rattle.smp_calls.specs.Queued.{Queued, destinations, sendings, is_by, is_first_to, is_used}
 use Rattle.smp_calls.specs.Records.{many_call, many_record}
+use Rattle.smp_calls.specs.Turns.{TakesApart}
 use Rattle.smp_calls.specs.Within.{IsNoneOf, WaitsWithin, CallsWithin}
 use Rattle.smp_calls.proofs.AtOnce.{last_none}
 use Rattle.smp_calls.proofs.Ended.{all_sent}
@@ -29,6 +30,7 @@ use Rattle.smp_calls.proofs.Lists.{none_left}
 use Rattle.smp_calls.proofs.Loops.{both_true}
 use Rattle.smp_calls.proofs.Polling.{differ}
 use Rattle.smp_calls.proofs.Round.{is_by-append}
+use Rattle.smp_calls.proofs.Takes.{takes_then}
 use Rattle.smp_calls.proofs.Steps.{leaves_as, leaves_then, leaves_last}
 
 -- no member has this record
@@ -112,12 +114,12 @@ module _ {H : Type 0} (leads : H → Heard → H → Type 0) where
   pub calls_within : (old first mid new : CpuValue) (before h m after : H) (func info others free busy rest late silent polls : ℕ) (targets : ℕ → Bool) →
       ((c : ℕ) → has others c ≡ targets c) → ((c : ℕ) → has others c ≡ true → c < NR_CPUS) →
       WaitsWithin leads old before first h others free busy polls →
-      CallsMany leads first h mid m (members free) Sync func info None false → IsLast first mid (members free) →
+      CallsMany leads first h mid m (members free) Sync func info None false → TakesApart first mid → IsLast first mid (members free) →
       (AreConfirmed first (has free) → HandlesNone first mid × (m ≡ h)) →
       WaitsWithin leads mid m new after free rest late polls →
       ((c : ℕ) → has silent c ≡ (has busy c || has late c)) → CallsAreShown new →
       CallsWithin leads old before new after func info targets free silent polls
-  calls_within old first mid new before h m after func info others free busy rest late silent polls targets are low a q last quick_calls b either shown =
+  calls_within old first mid new before h m after func info others free busy rest late silent polls targets are low a q takes last quick_calls b either shown =
       let queued = q.0 in
       let made = by_number old.number func info queued a.leaves.number_is q.2 in
       let call = many_call old.number Sync func info in
@@ -170,6 +172,7 @@ module _ {H : Type 0} (leads : H → Heard → H → Type 0) where
         others = λ k s none.
             let none_free : IsNoneOf k (has free) = λ c f. none c (sym (are c) ∙ free_other c f) in
             b.others k s none_free ∙ (not_used k s none_free ∙ a.others k s (λ c o. none c (sym (are c) ∙ o)));
+        apart = takes_then old mid new (takes_then old first mid a.apart takes) b.apart;
         looked = λ c f.
             let d = done c f in
             let d0 = d.0 in

@@ -13,22 +13,23 @@ use Rattle.smp_calls.specs.Queued.{Queued, destinations, interrupts_to}
 use Rattle.smp_calls.specs.Rounds.{Sends, only_if, noted_if}
 use Rattle.smp_calls.specs.Turns.{LooksFor, counted, MakesMore, HasTurns}
 use Rattle.smp_calls.proofs.One.{sent_one}
+use Rattle.smp_calls.proofs.Takes.{takes_none, takes_then, takes_waited}
 use Rattle.smp_calls.proofs.Round.{destinations-append}
 
 -- ---- one part
 
 -- a wait is one look more than the takes of the interrupt word
 looks_once : {H : Type 0} {k : ℕ} {old new : CpuValue} {before after : H} → Awaits k old before new after → LooksFor old new 1
-looks_once a = record { turns = a.turns; tried_is = a.tried_is }
+looks_once a = record { turns = a.turns; tried_is = a.tried_is; apart = takes_waited a }
 
 pub looks_none : (c : CpuValue) → LooksFor c c 0
-looks_none c = record { turns = omega arith; tried_is = refl }
+looks_none c = record { turns = omega arith; tried_is = refl; apart = takes_none c c refl (omega arith) }
 
 looks_then : (old mid new : CpuValue) (a b : ℕ) → LooksFor old mid a → LooksFor mid new b → LooksFor old new (a + b)
 looks_then old mid new a b f g =
     let t = f.turns in
     let u = g.turns in
-    record { turns = omega arith; tried_is = g.tried_is ∙ f.tried_is }
+    record { turns = omega arith; tried_is = g.tried_is ∙ f.tried_is; apart = takes_then old mid new f.apart g.apart }
 
 -- a wait more
 pub looks_more : {H : Type 0} {k : ℕ} {m after : H} (old mid new : CpuValue) (cpu : ℕ) (xs : List ℕ) → LooksFor old mid (length xs)
@@ -41,13 +42,16 @@ makes_looked old new n l e =
     let t = l.turns in
     let tried = l.tried_is in
     let log : length new.log ≡ length old.log = ap (λ (xs : List Logged). length xs) (e ∙ append-nil old.log) in
-    omega arith
+    record { steps_are = omega arith; apart = l.apart }
 
 pub makes_none : (c : CpuValue) → MakesMore c c 0
-makes_none c = omega arith
+makes_none c = record { steps_are = omega arith; apart = takes_none c c refl (omega arith) }
 
 pub makes_then : (old mid new : CpuValue) (a b : ℕ) → MakesMore old mid a → MakesMore mid new b → MakesMore old new (a + b)
-makes_then old mid new a b f g = omega (arith, f, g)
+makes_then old mid new a b f g =
+    let s = f.steps_are in
+    let t = g.steps_are in
+    record { steps_are = omega arith; apart = takes_then old mid new f.apart g.apart }
 
 -- a post
 makes_posted : (k to : ℕ) (class : Class) (func info : ℕ) (first : Bool) (found : Found) (c d : CpuValue) → d ≡ posts k to class func info first found c
@@ -57,7 +61,7 @@ makes_posted k to class func info first found c d e =
     let tried : d.tried ≡ (c.tried + times_lost found) + 1 = ap (λ (x : CpuValue). x.tried) e in
     let asked : length d.part.asked ≡ length c.part.asked = ap (λ (x : CpuValue). length x.part.asked) e in
     let log : length d.log ≡ length c.log + 1 = ap (λ (x : CpuValue). length x.log) e ∙ length-append c.log (logged.Queued to ∷ []) in
-    omega arith
+    record { steps_are = omega arith; apart = takes_none c d (ap (λ (x : CpuValue). x.asked_after) e) (omega arith) }
 
 -- the wait for the record, and the post
 makes_queued : {H : Type 0} (leads : H → Heard → H → Type 0) {old mid new : CpuValue} {before m : H} {d : ℕ → Bool} (k to : ℕ) (class : Class)
@@ -72,7 +76,7 @@ makes_sent to c d e =
     let tried : d.tried ≡ c.tried = ap (λ (x : CpuValue). x.tried) e in
     let asked : length d.part.asked ≡ length c.part.asked = ap (λ (x : CpuValue). length x.part.asked) e in
     let log : length d.log ≡ length c.log + 1 = ap (λ (x : CpuValue). length x.log) e ∙ length-append c.log (logged.Interrupted to ∷ []) in
-    omega arith
+    record { steps_are = omega arith; apart = takes_none c d (ap (λ (x : CpuValue). x.asked_after) e) (omega arith) }
 
 -- ---- a call to one CPU
 
@@ -136,7 +140,9 @@ makes_more old mid new xs ys to e f g =
     let n : length (destinations (xs ++ ys)) ≡ length (destinations xs) + length to =
     ap (λ (zs : List ℕ). length zs) (destinations-append xs ys) ∙ (length-append (destinations xs) (destinations ys)
     ∙ ap (λ (zs : List ℕ). length (destinations xs) + length zs) e) in
-    omega (arith, n, f, g)
+    let s = f.steps_are in
+    let t = g.steps_are in
+    record { steps_are = omega (arith, n); apart = takes_then old mid new f.apart g.apart }
 
 -- a call was queued for this CPU, where it was asked for
 pub makes_asked_not : (c : CpuValue) (to : ℕ) (asked : Bool) → asked ≡ false → MakesMore c c (6 * length (only_if asked to))
@@ -162,7 +168,11 @@ makes_sends old mid new n xs f s =
     let log : length new.log ≡ length mid.log + length xs =
     ap (λ (x : CpuValue). length x.log) e ∙ (length-append mid.log (interrupts_to xs)
     ∙ ap (λ (n : ℕ). length mid.log + n) (interrupts_to-length xs)) in
-    omega arith
+    let before = f.steps_are in
+    record {
+      steps_are = omega arith;
+      apart = takes_then old mid new f.apart (takes_none mid new (ap (λ (x : CpuValue). x.asked_after) e) (omega arith));
+    }
 
 -- a direct call, if any, counts for nothing
 noted_same : {A : Type 0} (part : CpuValue → A) → ((c : CpuValue) → part (notes_call c) ≡ part c) → (c d : CpuValue) (here : Bool) (heard : Heard)
@@ -184,10 +194,13 @@ turns_many old queued mid new here wait heard to f last n looks log still =
     let steps : mid.steps ≡ queued.steps = noted_same (λ c. c.steps) (λ _. refl) queued mid here heard n in
     let asked : length mid.part.asked ≡ length queued.part.asked = noted_same (λ c. length c.part.asked) (λ _. refl) queued mid here heard n in
     let same : counted mid ≡ counted queued = noted_same counted (λ _. refl) queued mid here heard n in
-    let first : MakesMore old mid (6 * length to) = omega (arith, f, same, steps) in
+    let taken : mid.asked_after ≡ queued.asked_after = noted_same (λ c. c.asked_after) (λ _. refl) queued mid here heard n in
+    let before = f.steps_are in
+    let first : MakesMore old mid (6 * length to) =
+    record { steps_are = omega arith; apart = takes_then old queued mid f.apart (takes_none queued mid taken (omega arith)) } in
     let rest = makes_looked mid new waits looks log in
     record {
-      all = omega (arith, first, rest);
+      all = makes_then old mid new (6 * length to) waits first rest;
       since = λ some.
           let done = last_of_some old queued to some last in
           let d0 = done.0 in

@@ -11,6 +11,7 @@ pub mod Lists
 -- one more of many CPUs
 pub mod Round
 -- how many steps a family makes, and how often it handles meanwhile
+pub mod Takes
 pub mod Counted
 -- the loops over many CPUs
 pub mod Loops

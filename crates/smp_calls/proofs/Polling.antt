@@ -1,5 +1,5 @@
 -- Waiting no longer than some polls: for one record, and for those of many CPUs.
-use Rattle.std.proofs.Common.{arith, ◌≡◌, ℕ, ◌+◌, ◌<◌, ◌≤◌, ◌==◌, ◌&&◌, ◌||◌, not, Bool, true, false, cond, List, [], ◌∷◌, length, refl, sym, ap, ◌∙◌, subst}
+use Rattle.std.proofs.Common.{arith, ◌≡◌, ℕ, ◌+◌, ◌<◌, ◌≤◌, ◌==◌, ◌&&◌, ◌||◌, not, Bool, true, false, cond, List, [], ◌∷◌, ◌++◌, length, refl, sym, ap, ◌∙◌, subst}
 use Rattle.std.proofs.Common.{inl, inr}
 use Rattle.std.proofs.lemmas.Bool.{cases_eq, cases_Bool, ne_eqb, eq-eqb}
 use Rattle.smp_mask.specs.Mask.{has, members}
@@ -9,7 +9,9 @@ use Rattle.smp_queue.specs.Cpu.{CpuValue, confirmed_at, confirms, looks}
 use Rattle.smp_queue.specs.declared.handler.Heard.{Heard}
 use Rattle.smp_calls.specs.Families.{IsSized, Leaves, AreConfirmed, owes_at}
 use Rattle.smp_calls.specs.Records.{many_record}
+use Rattle.smp_calls.specs.Turns.{TakesApart}
 use Rattle.smp_calls.specs.Within.{IsNoneOf, WaitsWithin}
+use Rattle.smp_calls.proofs.Takes.{takes_none, takes_then, takes_turn}
 use Rattle.smp_calls.proofs.Steps.{leaves_none, leaves_as, leaves_then, leaves_looked, leaves_ended}
 use Rattle.smp_calls.proofs.Lawful.{small_many, are_apart}
 use Rattle.smp_calls.proofs.One.{and_true, and_false}
@@ -23,6 +25,7 @@ pub record Polling {H : Type 0} (leads : H → Heard → H → Type 0) (k : ℕ)
     : Type 0 where
   pub leaves : Leaves leads old before now here [] [] (owes_at old) (confirmed_at old)
   pub turns : now.steps + length old.part.asked ≡ old.steps + length now.part.asked
+  pub apart : TakesApart old now
   pub polled : length now.part.asked ≡ length old.part.asked + made
   pub not_yet : confirmed_at old k ≡ true → made ≡ 0
 
@@ -38,6 +41,7 @@ pub record Asks {H : Type 0} (leads : H → Heard → H → Type 0) (old : CpuVa
   pub told : (c : ℕ) → c < NR_CPUS → has called c ≡ true → has left c ≡ false → confirmed_at new (many_record c) ≡ not (has silent c)
   pub others : (k : ℕ) → k < records_of_one → IsNoneOf k (has called) → confirmed_at new k ≡ confirmed_at old k
   pub turns : (new.steps + length old.part.asked) + length (members left) ≡ old.steps + (length (members called) + length new.part.asked)
+  pub apart : TakesApart old new
   pub polled : length new.part.asked + budget ≡ length old.part.asked + polls
   pub gone : (c : ℕ) → c < NR_CPUS → has silent c ≡ true → has left c ≡ false → budget ≡ 0
   pub kept : (k : ℕ) → k < records_of_one → confirmed_at old k ≡ true → confirmed_at new k ≡ true
@@ -78,13 +82,20 @@ others_record c cpu k is_k other e = other (are_apart.many c cpu (e ∙ is_k))
 
 module _ {H : Type 0} (leads : H → Heard → H → Type 0) where
   pub polling_first : (k : ℕ) (c : CpuValue) (h : H) → Polling leads k c h c h 0
-  polling_first k c h = record { leaves = leaves_none leads c h; turns = refl; polled = omega arith; not_yet = λ confirmed. refl }
+  polling_first k c h = record {
+    leaves = leaves_none leads c h;
+    turns = refl;
+    apart = takes_none c c refl (omega arith);
+    polled = omega arith;
+    not_yet = λ confirmed. refl;
+  }
 
   -- after a look that found it locked, and one poll
   pub polling_more : (k : ℕ) (old now mid next : CpuValue) (before here last : H) (made : ℕ) → k < records_of_one
       → Polling leads k old before now here made → (confirmed_at now k ≡ true → ⊥) → mid ≡ looks now
       → Leaves leads mid here next last [] [] (owes_at mid) (confirmed_at mid)
-      → (next.steps ≡ mid.steps) × (length next.part.asked ≡ length mid.part.asked + 1) → Polling leads k old before next last (made + 1)
+      → (next.steps ≡ mid.steps) × (length next.part.asked ≡ length mid.part.asked + 1) × (next.asked_after ≡ mid.asked_after ++ mid.steps ∷ [])
+      → Polling leads k old before next last (made + 1)
   polling_more k old now mid next before here last made l p locked e handled once =
       let steps : next.steps ≡ now.steps + 1 = once.0 ∙ ap (λ (c : CpuValue). c.steps) e in
       let asked : length next.part.asked ≡ length now.part.asked + 1 = once.1 ∙ ap (λ (c : CpuValue). length c.part.asked + 1) e in
@@ -95,6 +106,7 @@ module _ {H : Type 0} (leads : H → Heard → H → Type 0) where
         leaves = leaves_as leads (owes_at old) (confirmed_at old) (leaves_then leads p.leaves (leaves_looked leads {old = now} refl one))
             p.leaves.owes_are p.leaves.confirmed_are;
         turns = omega arith;
+        apart = takes_then old now next p.apart (takes_turn now mid next e once.0 once.2);
         polled = omega arith;
         not_yet = λ confirmed. absurd (locked (p.leaves.confirmed_are k l ∙ confirmed));
       }
@@ -121,6 +133,13 @@ module _ {H : Type 0} (leads : H → Heard → H → Type 0) where
       let asked : length new.part.asked ≡ length now.part.asked = ap (λ (c : CpuValue). length c.part.asked) e in
       let t = p.turns in
       omega arith
+
+  pub polling_apart : (old now new : CpuValue) (before here : H) (made k : ℕ) (done : Bool) → Polling leads k old before now here made
+      → new ≡ looks (cond done (confirms k now) now) → TakesApart old new
+  polling_apart old now new before here made k true p e = let steps : new.steps ≡ now.steps + 1 = ap (λ (c : CpuValue). c.steps) e in
+      takes_then old now new p.apart (takes_none now new (ap (λ (c : CpuValue). c.asked_after) e) (omega arith))
+  polling_apart old now new before here made k false p e = let steps : new.steps ≡ now.steps + 1 = ap (λ (c : CpuValue). c.steps) e in
+      takes_then old now new p.apart (takes_none now new (ap (λ (c : CpuValue). c.asked_after) e) (omega arith))
 
   pub polling_polled : (old now new : CpuValue) (before here : H) (made k polls rest : ℕ) (done : Bool) → Polling leads k old before now here made
       → new ≡ looks (cond done (confirms k now) now) → made + rest ≡ polls → length new.part.asked + rest ≡ length old.part.asked + polls
@@ -162,6 +181,7 @@ module _ {H : Type 0} (leads : H → Heard → H → Type 0) where
     told = λ x l e n. absurd (differ (has called x) e n);
     others = λ k l none. refl;
     turns = omega arith;
+    apart = takes_none c c refl (omega arith);
     polled = refl;
     gone = λ x l e n. absurd (differ (has called x) e n);
     kept = λ k l e. e;
@@ -174,14 +194,14 @@ module _ {H : Type 0} (leads : H → Heard → H → Type 0) where
       members left ≡ cpu ∷ members next → cpu < NR_CPUS → has left cpu ≡ true → k ≡ many_record cpu → k < records_of_one →
       Leaves leads mid m new after [] [] (owes_at mid) (λ j. (done && j == k) || confirmed_at mid j) →
       (done ≡ false → (confirmed_at mid k ≡ false) × (rest ≡ 0)) →
-      new.steps + length mid.part.asked ≡ mid.steps + (1 + length new.part.asked) →
+      new.steps + length mid.part.asked ≡ mid.steps + (1 + length new.part.asked) → TakesApart mid new →
       length new.part.asked + rest ≡ length mid.part.asked + budget → rest ≤ budget →
       (confirmed_at mid k ≡ true → length new.part.asked ≡ length mid.part.asked) →
       (done ≡ true → answered' ≡ answered) → (done ≡ false → (c : ℕ) → has answered' c ≡ (has answered c && not (c == cpu))) →
       (not done ≡ true → silent' ≡ silent) → (not done ≡ false → (c : ℕ) → has silent' c ≡ (has silent c && not (c == cpu))) →
       Asks leads old before new after called next answered' silent' polls rest
   asks_more {old} {mid} {new} {before} {m} {after} called left next cpu k answered silent answered' silent' polls budget rest done
-      a step below here is_k small g locked turns polled fewer at_once ak ao sk so =
+      a step below here is_k small g locked turns apart polled fewer at_once ak ao sk so =
       let answered_here : has answered' cpu ≡ done = kept_here done answered answered' cpu ak ao (a.still cpu below here).0 in
       let silent_here : has silent' cpu ≡ not done = kept_here (not done) silent silent' cpu sk so (a.still cpu below here).1 in
       let answered_else : (c : ℕ) → (c == cpu) ≡ false → has answered' c ≡ has answered c = λ c n. kept_else done answered answered' cpu c ak ao n in
@@ -223,6 +243,7 @@ module _ {H : Type 0} (leads : H → Heard → H → Type 0) where
         others = λ j b none. found_else done j k (confirmed_at mid j) (confirmed_at new j) (g.confirmed_are j b) (λ e. none cpu is_called (e ∙ is_k))
             ∙ a.others j b none;
         turns = omega arith;
+        apart = takes_then old mid new a.apart apart;
         polled = omega arith;
         gone = λ c l h gone. elim (cases_eq c cpu) [
           | inl e ↦ (locked (is_no done (sym silent_here ∙ (ap (λ (x : ℕ). has silent' x) (sym e) ∙ h)))).1
@@ -256,6 +277,7 @@ module _ {H : Type 0} (leads : H → Heard → H → Type 0) where
         confirmed_are = λ c h. a.told c (low c h) h (none_left left c none (low c h));
         others = a.others;
         turns = omega arith;
+        apart = a.apart;
         polled = λ c h.
             let l = low c (a.silent_among c h) in
             let zero = a.gone c l h (none_left left c none l) in

@@ -1,5 +1,5 @@
 -- Handling twice is handling once, with the turns of both; and how often a CPU handles that waits.
-use Rattle.std.proofs.Common.{arith, ◌≡◌, ℕ, ◌+◌, length, length-append, Bool, true, false, Option, Some}
+use Rattle.std.proofs.Common.{arith, ◌≡◌, ℕ, suc, ◌+◌, length, length-append, Bool, true, false, Option, Some}
 use Rattle.std.proofs.Common.{None, List, [], ◌∷◌, ◌++◌, append_assoc, refl, sym, ap, ◌∙◌, subst}
 use Rattle.std.specs.List.{FoldsTo}
 use Rattle.std.proofs.lemmas.List.{append-nil}
@@ -12,6 +12,7 @@ use Rattle.smp_queue.specs.Handling.{Grows, asks, drains}
 use Rattle.smp_queue.specs.declared.handler.Heard.{Heard}
 use Rattle.smp_calls.specs.Handles.{looks, batches, Handles}
 use Rattle.smp_calls.specs.Families.{Awaits}
+use Rattle.smp_calls.specs.Turns.{after_each}
 
 looks-append : (ts us : List (Option (List Call))) → looks (ts ++ us) ≡ looks ts ++ looks us
 looks-append [] us = refl
@@ -38,12 +39,19 @@ grown xs ys zs us vs e f = f ∙ (ap (λ (ws : List _). ws ++ vs) e ∙ append_a
 -- to handle is to take the interrupt word once, by no step outside of it
 pub handled_once : (interrupted : Bool) (old new : CpuValue) → (interrupted ≡ true → (batch : List Call) × (new ≡ drains batch (asks true old)))
     → (interrupted ≡ false → new ≡ asks false old) → (new.steps ≡ old.steps) × (length new.part.asked ≡ length old.part.asked + 1)
+    × (new.asked_after ≡ old.asked_after ++ old.steps ∷ [])
 handled_once true old new asked idle =
-    let t = asked refl in
-    (ap (λ (c : CpuValue). c.steps) t.1, ap (λ (c : CpuValue). length c.part.asked) t.1 ∙ length-append old.part.asked (true ∷ []))
+    let t = asked refl in (
+      ap (λ (c : CpuValue). c.steps) t.1,
+      ap (λ (c : CpuValue). length c.part.asked) t.1 ∙ length-append old.part.asked (true ∷ []),
+      ap (λ (c : CpuValue). c.asked_after) t.1,
+    )
 handled_once false old new asked idle =
-    let e = idle refl in
-    (ap (λ (c : CpuValue). c.steps) e, ap (λ (c : CpuValue). length c.part.asked) e ∙ length-append old.part.asked (false ∷ []))
+    let e = idle refl in (
+      ap (λ (c : CpuValue). c.steps) e,
+      ap (λ (c : CpuValue). length c.part.asked) e ∙ length-append old.part.asked (false ∷ []),
+      ap (λ (c : CpuValue). c.asked_after) e,
+    )
 
 -- and it changes no head
 pub handled_tried : (interrupted : Bool) (old new : CpuValue) → (interrupted ≡ true → (batch : List Call) × (new ≡ drains batch (asks true old)))
@@ -89,22 +97,40 @@ module _ {H : Type 0} (leads : H → Heard → H → Type 0) where
 -- a CPU that waits for its record: it has handled once after each look; where the record was seen confirmed, it has done nothing yet
 pub record Waiting {H : Type 0} (k : ℕ) (old : CpuValue) (before : H) (now : CpuValue) (here : H) : Type 0 where
   pub turns : now.steps + length old.part.asked ≡ old.steps + length now.part.asked
+  pub locked : ℕ
+  pub steps_are : now.steps ≡ old.steps + locked
+  pub takes_are : now.asked_after ≡ old.asked_after ++ after_each old.steps locked
   pub tried_is : now.tried ≡ old.tried
   pub not_yet : confirmed_at old k ≡ true → (now ≡ old) × (here ≡ before)
 
 pub waiting_first : {H : Type 0} (k : ℕ) (c : CpuValue) (h : H) → Waiting k c h c h
-waiting_first k c h = record { turns = refl; tried_is = refl; not_yet = λ _. (refl, refl) }
+waiting_first k c h = record {
+  turns = refl;
+  locked = 0;
+  steps_are = omega arith;
+  takes_are = sym (append-nil c.asked_after);
+  tried_is = refl;
+  not_yet = λ _. (refl, refl);
+}
 
 -- after a look that found it locked, and one turn of handling
 pub waiting_more : {H : Type 0} (k : ℕ) (old now after next : CpuValue) (before here last : H) → Waiting k old before now here
     → (confirmed_at now k ≡ true → ⊥) → after ≡ looked now → (next.steps ≡ after.steps) × (length next.part.asked ≡ length after.part.asked + 1)
+    × (next.asked_after ≡ after.asked_after ++ after.steps ∷ [])
     → next.tried ≡ after.tried → Waiting k old before next last
 waiting_more k old now after next before here last w locked e once tried =
     let steps : next.steps ≡ now.steps + 1 = once.0 ∙ ap (λ (c : CpuValue). c.steps) e in
     let asked : length next.part.asked ≡ length now.part.asked + 1 = once.1 ∙ ap (λ (c : CpuValue). length c.part.asked + 1) e in
     let t = w.turns in
+    let s = w.steps_are in
+    let made : now.steps + 1 ≡ old.steps + suc w.locked = omega arith in
     record {
       turns = omega arith;
+      locked = suc w.locked;
+      steps_are = omega arith;
+      takes_are = once.2 ∙ (ap (λ (c : CpuValue). c.asked_after ++ c.steps ∷ []) e ∙ (ap (λ (n : ℕ). now.asked_after ++ n ∷ []) made
+          ∙ (ap (λ (xs : List ℕ). xs ++ (old.steps + suc w.locked) ∷ []) w.takes_are
+          ∙ append_assoc old.asked_after (after_each old.steps w.locked) ((old.steps + suc w.locked) ∷ []))));
       tried_is = tried ∙ (ap (λ (c : CpuValue). c.tried) e ∙ w.tried_is);
       not_yet = λ conf. absurd (locked (ap (λ (c : CpuValue). confirmed_at c k) (w.not_yet conf).0 ∙ conf));
     }
@@ -116,8 +142,12 @@ waiting_ended k old now next before here w e =
     let steps : next.steps ≡ now.steps + 1 = ap (λ (c : CpuValue). c.steps) e in
     let asked : length next.part.asked ≡ length now.part.asked = ap (λ (c : CpuValue). length c.part.asked) e in
     let t = w.turns in
+    let s = w.steps_are in
     record {
       turns = omega arith;
+      locked = w.locked;
+      steps_are = omega arith;
+      takes_are = ap (λ (c : CpuValue). c.asked_after) e ∙ w.takes_are;
       tried_is = ap (λ (c : CpuValue). c.tried) e ∙ w.tried_is;
       at_once = λ conf. (e ∙ ap (λ (c : CpuValue). looked (confirms k c)) (w.not_yet conf).0, (w.not_yet conf).1);
     }

@@ -15,6 +15,7 @@ use Rattle.smp_queue.specs.Handling.{heard}
 use Rattle.smp_queue.specs.declared.handler.Heard.{Heard}
 use Rattle.smp_calls.specs.Handles.{Handles}
 use Rattle.smp_calls.specs.Queued.{Queued, destinations, sendings, calls_and_interrupts, is_first_to, is_used}
+use Rattle.smp_calls.specs.Turns.{after_each}
 use Rattle.smp_calls.specs.Records.{call_by, class_for, single_record, user_record, many_call, many_record}
 
 -- a CPU's number is one, and it has all its records
@@ -98,10 +99,14 @@ QueuesNone leads old before new after wait = Leaves leads old before new after [
 abbrev pub AreConfirmed : CpuValue → (ℕ → Bool) → Type 0
 AreConfirmed c to = (cpu : ℕ) → to cpu ≡ true → confirmed_at c (many_record cpu) ≡ true
 
--- a CPU has looked at the flags of its record k, and has handled once after each look but the last; where the record was seen
--- confirmed before, that was one look, and it has handled nothing. It has changed no head
+-- a CPU has looked at the flags of its record k, and has handled once after each look but the last: each take of its interrupt word
+-- is listed with the looks before it. Where the record was seen confirmed before, that was one look, and it has handled nothing. It
+-- has changed no head
 pub record Awaits {H : Type 0} (k : ℕ) (old : CpuValue) (before : H) (new : CpuValue) (after : H) : Type 0 where
   pub turns : new.steps + length old.part.asked ≡ old.steps + (1 + length new.part.asked)
+  pub locked : ℕ
+  pub steps_are : new.steps ≡ old.steps + (locked + 1)
+  pub takes_are : new.asked_after ≡ old.asked_after ++ after_each old.steps locked
   pub tried_is : new.tried ≡ old.tried
   pub at_once : confirmed_at old k ≡ true → (new ≡ looks (confirms k old)) × (after ≡ before)
 

@@ -1,11 +1,13 @@
-//! The numbers of a CPU's records, the classes of its calls, and what a call on the CPU itself is. These functions do nothing.
+//! The numbers of a CPU's records, the classes of its calls, what a call on the CPU itself is, and when a CPU that waits handles.
+//! These functions do nothing.
 
 ghost use Rattle.std.specs.Prelude.{◌≡◌, ◌≢◌, ℕ, ◌+◌, ◌<◌, Bool, true, false, [], ◌∷◌};
 ghost use Rattle.smp_call_steps.specs.declared.known.Logged.TheVariants as logged;
 ghost use Rattle.smp_queue.specs.Cpu.{CpuValue, confirmed_at, looks};
-ghost use Rattle.smp_calls.specs.Families.{IsSized, CallsHere, CallsUserHere, RefusesUser};
+ghost use Rattle.smp_calls.specs.Families.{IsSized, Awaits, CallsHere, CallsUserHere, RefusesUser};
 ghost use Rattle.smp_calls.specs.Queued.{calls_and_interrupts};
 ghost use Rattle.smp_calls.specs.Records.{AreApart, class_for, single_record};
+ghost use Rattle.smp_calls.specs.Turns.{AreSpaced, TakesApart};
 
 use crate::records::{ASYNC_RECORD, SYNC_RECORD, USER_RECORDS};
 use smp_mask::SmpError;
@@ -50,4 +52,13 @@ pub fn own_calls_by_users<H: Handler>()
         CallsUserHere H.leads old before new after u func info → (new.steps ≡ old.steps + 1) × (confirmed_at new (10 + u) ≡ true) }
     ensures busy { (online u : ℕ) (old : CpuValue) → u < 2 → confirmed_at old (10 + u) ≢ true →
         RefusesUser online old (looks old) u old.number SmpError.Busy }
+{}
+
+/// A CPU that waits takes its interrupt word once after each look that finds its record locked, before the next one (`looks`). No
+/// call takes it twice with no step between (`apart`). Each take is listed with the number of steps outside handling before it.
+pub fn waits_handle_after_looks<H: Handler>()
+    ensures looks { (k : ℕ) (old new : CpuValue) (before after : H) → Awaits k old before new after →
+        old.steps ≡ 3 → old.asked_after ≡ [] → new.steps ≡ 6 → new.asked_after ≡ 4 ∷ 5 ∷ [] }
+    ensures apart { (old new : CpuValue) (take : ℕ) → TakesApart old new → old.asked_after ≡ [] → new.asked_after ≢ take ∷ take ∷ [] }
+    ensures spaced { AreSpaced 3 7 (4 ∷ 7 ∷ []) × (¬ (AreSpaced 3 7 (3 ∷ []))) × (¬ (AreSpaced 3 7 (4 ∷ 4 ∷ []))) × (¬ (AreSpaced 3 7 (8 ∷ []))) }
 {}

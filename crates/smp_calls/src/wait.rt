@@ -1,6 +1,6 @@
 //! Waiting for a record: the CPU handles its own interrupts meanwhile.
 
-ghost use Rattle.std.specs.Prelude.{◌≡◌, ◌≢◌, ◌+◌, ◌<◌, ◌==◌, ◌||◌, None, [], true, false, if◌then◌else◌, length};
+ghost use Rattle.std.specs.Prelude.{◌≡◌, ◌≢◌, ◌+◌, ◌<◌, ◌==◌, ◌||◌, ◌++◌, ◌∷◌, None, [], true, false, if◌then◌else◌, length};
 ghost use Rattle.smp_call_steps.specs.Start.{has_record};
 ghost use Rattle.smp_queue.specs.Cpu.{confirmed_at, confirms, looks};
 ghost use Rattle.smp_calls.specs.Families.{IsSized, Leaves, Awaits, owes_at};
@@ -31,7 +31,8 @@ pub(crate) fn handle_own<A: Allocator, R: Wait, H: Handler>(
 ) -> bool
     requires { me.old.table ≡ context.table.now.table }
     ensures left { Leaves H.leads me.old handler.old me.new handler.new [] [] (owes_at me.old) (confirmed_at me.old) }
-    ensures once { (me.new.steps ≡ me.old.steps) × (length me.new.part.asked ≡ length me.old.part.asked + 1) }
+    ensures once { (me.new.steps ≡ me.old.steps) × (length me.new.part.asked ≡ length me.old.part.asked + 1)
+        × (me.new.asked_after ≡ me.old.asked_after ++ me.old.steps ∷ []) }
     ensures tried { me.new.tried ≡ me.old.tried }
 {
     context.table.handle(me, handler).interrupted

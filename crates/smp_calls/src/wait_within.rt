@@ -6,6 +6,7 @@ ghost use Rattle.smp_words.specs.Limits.{AreLimits};
 ghost use Rattle.smp_call_steps.specs.Start.{has_record};
 ghost use Rattle.smp_queue.specs.Cpu.{confirmed_at};
 ghost use Rattle.smp_calls.specs.Families.{IsSized, Leaves, owes_at};
+ghost use Rattle.smp_calls.specs.Turns.{TakesApart};
 ghost use Rattle.smp_calls.specs.Within.{WaitsWithin};
 
 use crate::context::CallContext;
@@ -33,6 +34,7 @@ fn poll_until<A: Allocator, R: Wait, H: Handler>(
     ensures left { Leaves H.leads me.old handler.old me.new handler.new [] [] (owes_at me.old) (λ j. (result.0 && j == k) || confirmed_at me.old j) }
     ensures locked { result.0 ≡ false → (confirmed_at me.old k ≡ false) × (result.1 ≡ 0) }
     ensures turns { me.new.steps + length me.old.part.asked ≡ me.old.steps + (1 + length me.new.part.asked) }
+    ensures apart { TakesApart me.old me.new }
     ensures polled { length me.new.part.asked + result.1 ≡ length me.old.part.asked + polls }
     ensures fewer { result.1 ≤ polls }
     ensures at_once { confirmed_at me.old k ≡ true → length me.new.part.asked ≡ length me.old.part.asked }

@@ -1,16 +1,20 @@
 -- The headline, of a CPU's value.
-use Rattle.std.proofs.Common.{◌≡◌, sym, subst, refl, ap, ◌∙◌}
+use Rattle.std.proofs.Common.{◌≡◌, List, sym, subst, refl, ap, ◌∙◌}
 use Rattle.smp_call_steps.specs.Threads.Parts.{part_of}
 use Rattle.smp_stop_steps.specs.Seats.{RoleStands, irq_of}
 use Rattle.smp_queue.specs.Cpu.{CpuValue as CallCpuValue}
 use Rattle.smp_queue.specs.Laws.{CallsAreShown}
+use Rattle.smp_queue.specs.Together.{AreAllTogether as CallsAllTogether}
 use Rattle.smp_multi.specs.Cpu.{CpuValue as StopCpuValue, cpu_of}
 use Rattle.smp_multi.specs.Laws.{IsInside, StopsAreShown}
 use Rattle.smp_multi.proofs.Showing.{inside_shown}
-use Rattle.smp_machine.specs.Headline.{HasCalls, HasStops}
+use Rattle.smp_machine.specs.Headline.{AllHaveCalls, HasCalls, HasStops}
 
 pub has_calls : (c : CallCpuValue) → CallsAreShown c → HasCalls c
-has_calls c s = record { now = record { calls = s.calls; reached = s.reached; at = s.at; controls = s.controls; shown = s.shown }; part = s.view }
+has_calls c s = record { now = record { calls = s.calls; at = s.at; reached = s.reached }; part = s.view }
+
+pub all_have_calls : (cs : List CallCpuValue) → CallsAllTogether cs → AllHaveCalls cs
+all_have_calls cs t = record { now = record { calls = t.now.calls; at = t.now.at; reached = t.now.reached }; setting = t.setting; parts = t.parts }
 
 pub has_stops : (c : StopCpuValue) → StopsAreShown c → HasStops c
 has_stops c s = let l = s.lives in

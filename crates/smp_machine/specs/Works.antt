@@ -34,7 +34,7 @@ handled_part old new = record old {
 }
 
 abbrev pub handled_calls : CallCpuValue → CallCpuValue → CallCpuValue
-handled_calls old new = record old { part = handled_part old.part new.part }
+handled_calls old new = record old { part = handled_part old.part new.part; asked_after = new.asked_after }
 
 -- a call of a stop function, as the CPU's part has it
 abbrev pub stop_call : Called → StopCall

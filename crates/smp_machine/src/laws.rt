@@ -11,7 +11,7 @@ ghost use Rattle.smp_queue.specs.Together.{AreAllTogether as CallsAllTogether, A
 ghost use Rattle.smp_multi.specs.Together.{AreAllTogether as StopsAllTogether, AllAreInStep, AllWaitFor};
 ghost use Rattle.smp_machine.specs.Crowds.{AreAt, calls_of, stops_of};
 ghost use Rattle.smp_machine.specs.GateLaws.{GateIsHeld};
-ghost use Rattle.smp_machine.specs.Headline.{HasCalls, HasStops};
+ghost use Rattle.smp_machine.specs.Headline.{AllHaveCalls, HasCalls, HasStops};
 ghost use Rattle.smp_machine.specs.Looks.{AreHeardOn, AtPhase, AtWord, HearsOn, Look, heard_after, on_after, phases};
 ghost use Rattle.smp_machine.specs.MachineCpu.{MachineCpuValue};
 ghost use Rattle.smp_machine.specs.Own.{Own};
@@ -109,10 +109,10 @@ pub fn refusals_are_in_order()
 {}
 
 /// The theorem over threads: the six statements of `smp_core::laws::headline`, of each CPU's value, at any time, whatever other
-/// threads do. Some words show calls and stops of which this value is the CPU's part (`calls`, `stops`), and all such calls and
-/// stops have of this CPU what the value has (`own`, `inside`, `irq`). Those calls and those stops are reached: steps that the CPUs
-/// may make, of any of them in any order, lead to them from nothing called and from no stop begun. The six hold of all of them, so
-/// of those of the two tables, which are among them by the tables' rules, and of those of which other CPUs are parts too
+/// threads do. This value is the CPU's part of calls and of stops that are reached (`calls`, `stops`): steps that the CPUs may make,
+/// of any of them in any order, lead to them and to their words, from nothing called and from no stop begun. Words show the stops
+/// too. All such calls and stops have of this CPU what the value has (`own`, `inside`, `irq`). The six hold of all of them, so of
+/// those of the two tables, which are among them by the tables' rules, and of those of which other CPUs are parts too
 /// ([`Machine::together`]).
 /// - `place`: Each record is free, held by its source, or locked in exactly one queue, batch or SYNC call that runs.
 /// - `once`: What a source has sent to a CPU is what has begun there and what waits there, each call once.
@@ -140,7 +140,8 @@ pub fn headline<A: Allocator>(machine: &Machine<A>, cpu: &Cpu<A>)
 
 /// The theorem over threads of all these CPUs at once, whatever the threads of other CPUs do. Their values are their parts of one
 /// state of the calls (`calls`) and of one state of the stops (`stops`), which have of each of them what its value has (`own`,
-/// `inside`, `irq`), and of which the six statements of [`headline`] hold. Both states are reached, as there.
+/// `inside`, `irq`), and of which the six statements of [`headline`] hold. Both states are reached, as there. Of the calls there is one
+/// that words and stages show (`shown`).
 ///
 /// Three clauses are about the values alone. In each class, the calls of any of these CPUs that have begun on another one are the
 /// first of those that it has sent there (`runs`). In the stop of one source any two of them have the same work, and neither has
@@ -151,20 +152,21 @@ pub fn headline<A: Allocator>(machine: &Machine<A>, cpu: &Cpu<A>)
 pub fn headline_of_all<A: Allocator>(machine: &Machine<A>, cpus: &mut [Cpu<A>])
     requires { AreAt machine.now cpus.old }
     ensures kept { cpus.new ≡ cpus.old }
-    ensures calls { CallsAllTogether (calls_of cpus.old) }
+    ensures calls { AllHaveCalls (calls_of cpus.old) }
+    ensures shown { CallsAllTogether (calls_of cpus.old) }
     ensures stops { StopsAllTogether (stops_of cpus.old) }
-    ensures own { (s : CallsAllTogether (calls_of cpus.old)) → All (λ c. part_of s.now.calls c.number ≡ c.part) (calls_of cpus.old) }
+    ensures own { (s : AllHaveCalls (calls_of cpus.old)) → All (λ c. part_of s.now.calls c.number ≡ c.part) (calls_of cpus.old) }
     ensures inside { (s : StopsAllTogether (stops_of cpus.old)) → All (λ c. IsInside s.now.stops.now c.number c.inside) (stops_of cpus.old) }
     ensures irq { (s : StopsAllTogether (stops_of cpus.old)) → All (λ c. s.now.stops.now.irq c.number ≡ c.irq) (stops_of cpus.old) }
     ensures runs { AllRunWhatIsSent (calls_of cpus.old) }
     ensures step { AllAreInStep (stops_of cpus.old) }
     ensures waits { AllWaitFor (stops_of cpus.old) }
-    ensures place { (s : CallsAllTogether (calls_of cpus.old)) → InOnePlace s.now.calls s.now.at }
-    ensures once { (s : CallsAllTogether (calls_of cpus.old)) → RunOnce s.now.calls }
-    ensures order { (s : CallsAllTogether (calls_of cpus.old)) → RunInOrder s.now.calls }
+    ensures place { (s : AllHaveCalls (calls_of cpus.old)) → InOnePlace s.now.calls s.now.at }
+    ensures once { (s : AllHaveCalls (calls_of cpus.old)) → RunOnce s.now.calls }
+    ensures order { (s : AllHaveCalls (calls_of cpus.old)) → RunInOrder s.now.calls }
     ensures function { (s : StopsAllTogether (stops_of cpus.old)) → RunDisabled s.now.stops }
     ensures lawful { (s : StopsAllTogether (stops_of cpus.old)) → IsLawfulElse s.now.stops s.now.at }
-    ensures drained { (s : CallsAllTogether (calls_of cpus.old)) → RunEqualQueued s.now.calls s.now.at }
+    ensures drained { (s : AllHaveCalls (calls_of cpus.old)) → RunEqualQueued s.now.calls s.now.at }
 {
     let mut calls = machine.calls.crowd();
     let mut stops = machine.stops.crowd();

@@ -7,8 +7,10 @@ use mathlib.Core.Option.{some}
 use lib.ListN.{get_elem?}
 use Rattle.atomic_table.specs.Table.{State}
 use Rattle.smp_call_steps.specs.Histories.{calls_from, calls_to, running_call}
+use Rattle.smp_call_steps.specs.Calls.{CallState}
 use Rattle.smp_call_steps.specs.Order.{IsPrefix, of_class}
 use Rattle.smp_call_steps.proofs.Headline.{run_as_sent}
+use Rattle.smp_call_steps.proofs.ReachedLaws.{reached_laws}
 use Rattle.smp_queue.specs.{KnownCalls, CallSetting, CallSeatView, Ruled, known, IsCpuSeat, SeatValue, CpuValue, cpu_of}
 use Rattle.smp_queue.specs.Together.{KnowTogether, AreTogether, RunsWhatIsSent, CallsNow, IsPartOf, seats_of, AreCpuSeats, SeeAll}
 use Rattle.smp_queue.specs.Together.{KnowAllTogether, cpus_at, values, ArePartsOf, AreAllTogether, AllRunWhatIsSent}
@@ -45,7 +47,7 @@ runs_what_is_sent c d t class =
     let sent : a.sent from ≡ c.part.sent = ap (λ (e : CpuValue). e.part.sent) (sym t.one) in
     subst (λ xs. IsPrefix (of_class class (calls_from from xs)) (of_class class (calls_to to c.part.sent))) ran
     (subst (λ xs. IsPrefix (of_class class (calls_from from (a.ran to ++ running_call (a.running to)))) (of_class class (calls_to to xs))) sent
-    (run_as_sent t.now.shown from to class))
+    (run_as_sent (reached_laws t.now.calls t.now.at t.now.reached) from to class))
 
 -- the same of the other and the one
 pub turned : (c d : CpuValue) → AreTogether c d → AreTogether d c
@@ -70,7 +72,7 @@ module _ (k : CallSetting) (s : State (Unit {0}) CallSeatView) (r : Ruled k s) w
   know_all_together ms are at = record { now = now; setting = k; parts = sees_all ms are at }
 
 are_parts : (here : CallsNow) (k : CallSetting) (table : TableId) (ms : List (TableId × KnownCalls)) → SeeAll here k ms
-    → ArePartsOf here k (values (cpus_at table ms))
+    → ArePartsOf here.calls k (values (cpus_at table ms))
 are_parts here k table [] all = tt
 are_parts here k table (m ∷ ms) all =
     ((λ i. record (cpu_of (record { table = table; known = m.1 })) { part = sym all.0.0.part i }, all.0.1), are_parts here k table ms all.1)
@@ -78,7 +80,7 @@ are_parts here k table (m ∷ ms) all =
 pub are_all_together : (table : TableId) (ms : List (TableId × KnownCalls)) → KnowAllTogether ms → AreAllTogether (values (cpus_at table ms))
 are_all_together table ms t = record { now = t.now; setting = t.setting; parts = are_parts t.now t.setting table ms t.parts }
 
-pub part_at : (here : CallsNow) (k : CallSetting) (cs : List CpuValue) → ArePartsOf here k cs → (i : ℕ) (d : CpuValue) → i < length cs
+pub part_at : (here : CallState) (k : CallSetting) (cs : List CpuValue) → ArePartsOf here k cs → (i : ℕ) (d : CpuValue) → i < length cs
     → IsPartOf here (slice_index_or cs i d) × ((slice_index_or cs i d).setting ≡ k)
 part_at here k [] all i d l = absurd (omega arith)
 part_at here k (c ∷ cs) all zero d l = all.0
@@ -88,8 +90,8 @@ part_at here k (c ∷ cs) all (suc i) d l = part_at here k cs all.1 i d (omega a
 pub any_two : (cs : List CpuValue) → AreAllTogether cs → (i j : ℕ) (d e : CpuValue) → i < length cs → j < length cs
     → AreTogether (slice_index_or cs i d) (slice_index_or cs j e)
 any_two cs t i j d e l m =
-    let one = part_at t.now t.setting cs t.parts i d l in
-    let other = part_at t.now t.setting cs t.parts j e m in
+    let one = part_at t.now.calls t.setting cs t.parts i d l in
+    let other = part_at t.now.calls t.setting cs t.parts j e m in
     record { now = t.now; one = one.0; other = other.0; setting = one.1 ∙ sym other.1 }
 
 pub run_all : (cs : List CpuValue) → AreAllTogether cs → AllRunWhatIsSent cs

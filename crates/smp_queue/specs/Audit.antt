@@ -57,10 +57,10 @@ abbrev pub AuditAnswers : (Word → ℕ) → Audit → Type 0
 AuditAnswers at (audit.Drained t) = (left_in at ≡ nothing_left) × IsTally at t
 AuditAnswers at (audit.Left left) = (left_in at ≡ left) × (left ≢ nothing_left)
 
--- these words show some calls that are reached, of the CPUs of a table made with this, of which this is one CPU's part
+-- these words show some calls, reached with them, of the CPUs of a table made with this, of which this is one CPU's part
 pub record Closes (k : CallSetting) (v : KnownCalls) (words : List ℕ) : Type 0 where
   pub calls : CallState
-  pub reached : IsReached calls
+  pub reached : IsReached calls (number_in words)
   pub controls : ℕ → ControlValue
   pub shown : Shows calls (number_in words) controls
   pub sees : Sees calls controls v
@@ -70,12 +70,12 @@ pub record Closes (k : CallSetting) (v : KnownCalls) (words : List ℕ) : Type 0
   pub offline : (cpu : ℕ) → has k.online cpu ≡ false → Sees calls controls (fresh k cpu)
   pub quiet : (cpu : ℕ) → has k.online cpu ≡ false → IsQuiet (number_in words) cpu
 
--- these words show some calls that are reached, of the CPUs of this table, of which this value is one CPU's part; CPUs that
+-- these words show some calls, reached with them, of the CPUs of this table, of which this value is one CPU's part; CPUs that
 -- the table does not have, and those that are not online, have done nothing, and the words of those that are not online show no
 -- queue and no interrupt
 pub record ClosesWith (t : TableValue) (last : CpuValue) (words : List ℕ) : Type 0 where
   pub calls : CallState
-  pub reached : IsReached calls
+  pub reached : IsReached calls (number_in words)
   pub controls : ℕ → ControlValue
   pub shown : Shows calls (number_in words) controls
   pub view : last ≡ cpu_in t.table (setting_of t) calls last

@@ -34,8 +34,9 @@ table_with table k = record { table = table; nr = k.nr; online = k.online }
 
 -- a CPU between two calls: its table, what that is made with, its number, its own part of the calls, how many
 -- compare-exchanges of heads it has made, what it has found in heads, by which kind of access, the calls that it has
--- queued and the interrupts that it has sent, in order, its direct calls, how many steps it has made outside handle, and how
--- many of these and how many takes of its interrupt word it had made when it last queued a call or sent an interrupt
+-- queued and the interrupts that it has sent, in order, its direct calls, how many steps it has made outside handle, how many
+-- of these and how many takes of its interrupt word it had made when it last queued a call or sent an interrupt, and how many of
+-- these steps it had made at each take of its interrupt word
 pub record CpuValue : Type 0 where
   pub table : TableId
   pub setting : CallSetting
@@ -48,6 +49,7 @@ pub record CpuValue : Type 0 where
   pub steps : ℕ
   pub sent_at : ℕ
   pub asked_at : ℕ
+  pub asked_after : List ℕ
 
 -- what a CPU knows, as contracts see it
 abbrev pub cpu_of : SeatValue → CpuValue
@@ -63,6 +65,7 @@ cpu_of d = record {
   steps = d.known.steps;
   sent_at = d.known.sent_at;
   asked_at = d.known.asked_at;
+  asked_after = d.known.asked_after;
 }
 
 -- a CPU at this table, with its part of these calls
@@ -83,6 +86,7 @@ fresh_cpu t cpu = record {
   steps = 0;
   sent_at = 0;
   asked_at = 0;
+  asked_after = [];
 }
 
 -- what a CPU keeps between two calls: it is online and outside a command, and its counts are those of its calls

@@ -1,5 +1,5 @@
 -- What handling makes of a CPU and of its handler.
-use Rattle.std.specs.Prelude.{◌≡◌, ℕ, ◌%◌, ◌^◌, ◌<◌, Bool, List, [], ◌++◌, length, slice_index_or}
+use Rattle.std.specs.Prelude.{◌≡◌, ℕ, ◌%◌, ◌^◌, ◌<◌, Bool, List, [], ◌∷◌, ◌++◌, length, slice_index_or}
 use Rattle.std.specs.List.{FoldsTo}
 use Rattle.smp_words.specs.Size.{cpus, owner}
 use Rattle.smp_call_steps.specs.Order.{order}
@@ -21,7 +21,7 @@ Grows leads before calls after = FoldsTo (λ p call q. leads p (heard_of call) q
 
 -- a CPU that has taken its interrupt word, where an interrupt was pending or not
 abbrev pub asks : Bool → CpuValue → CpuValue
-asks pending c = record c { part = part_accepted pending c.part }
+asks pending c = record c { part = part_accepted pending c.part; asked_after = c.asked_after ++ c.steps ∷ [] }
 
 -- a CPU that has taken this batch and run it in drain order
 abbrev pub drains : List Call → CpuValue → CpuValue

@@ -39,8 +39,8 @@ IsSeenTo online a cpu = (a.queue cpu ≡ []) ⊎ ((a.pending cpu ≡ true) ⊎ (
 -- Calls by confirmed records have run, those of all CPUs and those of this one.
 pub record CallsAreShown (c : CpuValue) : Type 0 where
   pub calls : CallState
-  pub reached : IsReached calls
   pub at : Word → ℕ
+  pub reached : IsReached calls at
   pub controls : ℕ → ControlValue
   pub shown : Shows calls at controls
   pub below : c.number < c.setting.nr

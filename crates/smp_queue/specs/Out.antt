@@ -18,8 +18,8 @@ use Rattle.smp_queue.specs.ServingValue.{ServingValue}
 -- nothing to take.
 pub record IsShownOut (s : ServingValue) : Type 0 where
   pub calls : CallState
-  pub reached : IsReached calls
   pub at : Word → ℕ
+  pub reached : IsReached calls at
   pub controls : ℕ → ControlValue
   pub shown : Shows calls at controls
   pub below : s.cpu.number < s.cpu.setting.nr

@@ -14,8 +14,8 @@ use Rattle.smp_queue.specs.Cpu.{CpuValue, cpu_in}
 -- this holds
 pub record ShowsThat (c : CpuValue) (P : CallState → Type 0) : Type 0 where
   pub calls : CallState
-  pub reached : IsReached calls
   pub at : Word → ℕ
+  pub reached : IsReached calls at
   pub controls : ℕ → ControlValue
   pub shown : Shows calls at controls
   pub view : c ≡ cpu_in c.table c.setting calls c

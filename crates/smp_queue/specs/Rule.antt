@@ -76,7 +76,7 @@ SeatKnows k a control seat next id (Cpu v) = (v.number < next) × (seat v.number
 -- online, or sends it an interrupt
 pub record Ruled {S : Type 0} (k : CallSetting) (s : State S CallSeatView) : Type 0 where
   pub calls : CallState
-  pub reached : IsReached calls
+  pub reached : IsReached calls (number_in s.words)
   pub controls : ℕ → ControlValue
   pub seat : ℕ → ℕ
   pub next : ℕ

@@ -14,17 +14,17 @@ use Rattle.smp_queue.specs.Rule.{known}
 use Rattle.smp_queue.specs.Seat.{IsCpuSeat}
 use Rattle.smp_queue.specs.Cpu.{CpuValue, cpu_in, cpu_of}
 
--- some words and stages that show some calls, which are reached
+-- some words and stages that show some calls, which are reached with these words
 pub record CallsNow : Type 0 where
   pub calls : CallState
-  pub reached : IsReached calls
   pub at : Word → ℕ
+  pub reached : IsReached calls at
   pub controls : ℕ → ControlValue
   pub shown : Shows calls at controls
 
 -- a CPU's value is its part of these calls
-abbrev pub IsPartOf : CallsNow → CpuValue → Type 0
-IsPartOf now c = c ≡ cpu_in c.table c.setting now.calls c
+abbrev pub IsPartOf : CallState → CpuValue → Type 0
+IsPartOf calls c = c ≡ cpu_in c.table c.setting calls c
 
 -- what two CPUs know is their parts of the same calls
 pub record KnowTogether (v w : KnownCalls) : Type 0 where
@@ -36,8 +36,8 @@ pub record KnowTogether (v w : KnownCalls) : Type 0 where
 -- the values of two CPUs are their parts of the same calls
 pub record AreTogether (c d : CpuValue) : Type 0 where
   pub now : CallsNow
-  pub one : IsPartOf now c
-  pub other : IsPartOf now d
+  pub one : IsPartOf now.calls c
+  pub other : IsPartOf now.calls d
   pub setting : c.setting ≡ d.setting
 
 -- Of two values alone: in each class, the calls of the one that have begun on the other are the first of those that the one has sent
@@ -88,15 +88,15 @@ abbrev pub crowd_of : SeatsValue → CrowdValue
 crowd_of s = record { table = s.table; cpus = cpus_at s.table s.seats }
 
 -- these values are their CPUs' parts of these calls, and all are of one setting
-abbrev pub ArePartsOf : CallsNow → CallSetting → List CpuValue → Type 0
-ArePartsOf now k [] = Unit {0}
-ArePartsOf now k (c ∷ cs) = (IsPartOf now c × (c.setting ≡ k)) × ArePartsOf now k cs
+abbrev pub ArePartsOf : CallState → CallSetting → List CpuValue → Type 0
+ArePartsOf calls k [] = Unit {0}
+ArePartsOf calls k (c ∷ cs) = (IsPartOf calls c × (c.setting ≡ k)) × ArePartsOf calls k cs
 
 -- the values of all these CPUs are their parts of the same calls
 pub record AreAllTogether (cs : List CpuValue) : Type 0 where
   pub now : CallsNow
   pub setting : CallSetting
-  pub parts : ArePartsOf now setting cs
+  pub parts : ArePartsOf now.calls setting cs
 
 -- of any two of these values, the one runs what the other sends
 abbrev pub AllRunWhatIsSent : List CpuValue → Type 0

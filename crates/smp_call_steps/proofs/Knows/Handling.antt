@@ -7,7 +7,7 @@ use Rattle.smp_call_steps.specs.{CountedCall, DrainValue, no_drain, record_at, f
 use Rattle.smp_call_steps.specs.{nexts_in, last_batch, orders, running_call, access_of, FitsStage, Share, share_of}
 use Rattle.smp_call_steps.specs.{HandleStands, held_of, CallPart}
 use Rattle.smp_call_steps.specs.{part_confirmed, part_after, told_stage, told_post, told_handle, known_told, known_taking, stage_after}
-use Rattle.smp_call_steps.specs.{drain_then, tried_after, heads_after, log_after, steps_after, sent_after, MayStep, known_access}
+use Rattle.smp_call_steps.specs.{drain_then, tried_after, heads_after, log_after, steps_after, sent_after, asked_then, MayStep, known_access}
 use Rattle.smp_call_steps.specs.{Lives, handling, goes_known}
 use Rattle.smp_call_steps.specs.{taken_known, left_known, ended_call, Call, Word, Head, Hand, Flags, Func, Info, Next, Access, Act, Posting, PostStage, Walk}
 use Rattle.smp_call_steps.specs.{HandleStage, Stage, Post, Handle}
@@ -113,6 +113,7 @@ pub told_at : (queue : List Call) (v : KnownCalls) (s : Option Stage) (act : Act
       steps = steps_after s w v.steps;
       sent_at = sent_after act w put (steps_after s w v.steps) v.sent_at;
       asked_at = sent_after act w put (length v.part.asked) v.asked_at;
+      asked_after = asked_then act w v.steps v.asked_after;
     }
 told_at queue v s act w found put e = search arith
 

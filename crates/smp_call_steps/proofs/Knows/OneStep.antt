@@ -8,7 +8,7 @@ use Rattle.smp_call_steps.specs.{access_of, outcome_of, drain_of, control_after,
 use Rattle.smp_call_steps.specs.{stage_after, drain_then, MayStep, known_access, GoesOn}
 use Rattle.smp_words.specs.Flags.{class_of}
 use Rattle.smp_words.specs.Access.{word_of, at_after, seen_of}
-use Rattle.smp_call_steps.specs.Premises.{MaySee}
+use Rattle.smp_call_steps.specs.Premises.{MayMake}
 use Rattle.smp_call_steps.specs.Shows.{Shows}
 use Rattle.smp_call_steps.proofs.Steps.Every.{step_shown}
 use Rattle.smp_call_steps.proofs.Knows.Restages.{known_held, restages, access_known, aims_told}
@@ -147,15 +147,15 @@ module _ {a : CallState} {at : Word → ℕ} {control : ℕ → ControlValue} {v
   abbrev told_step : Seen
   told_step = seen_of me (access_of at me st) found (outcome_of v.drain st found).note
 
-  premise : MaySee a me told_step.act told_step.word told_step.found told_step.put
+  premise : MayMake a at told_step
   premise = let k = known_steps_keep_laws a at control v s sees st aims in k.premise
 
-  one_step : GoesOn a control me (at_after at (access_of at me st)) (known_tells (a.queue me) v seen)
+  one_step : GoesOn a at control me (at_after at (access_of at me st)) (known_tells (a.queue me) v seen)
   one_step = record {
     seen = told_step;
     calls = ToldCalls a at me v.drain st;
     told = refl;
-    reached = reach_more a told_step (steps_in_range v st aims, premise);
+    reached = reach_more a at told_step (steps_in_range v st aims, premise);
     controls = put controls me after;
     shown = shown;
     mine = mine;
@@ -165,5 +165,5 @@ module _ {a : CallState} {at : Word → ℕ} {control : ℕ → ControlValue} {v
 
   -- the same, by what the CPU knows of its access
   pub known_step : (access : Access) → known_access v st ≡ access
-      → GoesOn a control me (at_after at access) (known_tells (a.queue me) v (seen_of me access (at (word_of access)) None))
+      → GoesOn a at control me (at_after at access) (known_tells (a.queue me) v (seen_of me access (at (word_of access)) None))
   known_step access is = search (access_known, one_step, arith)

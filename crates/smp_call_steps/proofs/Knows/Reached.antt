@@ -1,9 +1,9 @@
 -- Calls that are reached: nothing called, and what one step more leads to.
-use Rattle.std.proofs.Common.{◌≡◌, ◌<◌, List, [], ◌∷◌, ◌++◌, sym, subst, refl, ap, ◌∙◌}
+use Rattle.std.proofs.Common.{◌≡◌, ℕ, ◌<◌, List, [], ◌∷◌, ◌++◌, subst, refl, ap}
 use Rattle.smp_words.specs.Size.{cpus}
 use Rattle.smp_words.proofs.Sizes.{owner-below}
-use Rattle.smp_call_steps.specs.{CallState, Seen, Stage, Send, Done, Post, Handle, MayStep, no_calls, tells, tells_all}
-use Rattle.smp_call_steps.specs.Reached.{IsAllowed, AreAllowed, IsReached}
+use Rattle.smp_call_steps.specs.{CallState, Word, Seen, Stage, Send, Done, Post, Handle, MayStep, no_calls, tells}
+use Rattle.smp_call_steps.specs.Reached.{IsAllowed, IsReached, Lead, no_words, words_told}
 use Rattle.smp_call_steps.specs.declared.known.KnownCalls.{KnownCalls}
 
 -- a CPU that may make a step is one of those that there are
@@ -13,21 +13,14 @@ steps_in_range v (Done id) may = subst (λ n. n < cpus) may.1 (owner-below id ma
 steps_in_range v (Post p stage) may = may.me_in_range
 steps_in_range v (Handle stage) may = may.1
 
-tells_more : (a : CallState) (steps : List Seen) (seen : Seen) → tells_all a (steps ++ seen ∷ []) ≡ tells (tells_all a steps) seen
-tells_more a [] seen = refl
-tells_more a (x ∷ steps) seen = tells_more (tells a x) steps seen
+lead_more : (a : CallState) (at : Word → ℕ) (steps : List Seen) (b : CallState) (to : Word → ℕ) (seen : Seen) → Lead a at steps b to → IsAllowed b to seen
+    → Lead a at (steps ++ seen ∷ []) (tells b seen) (words_told to seen)
+lead_more a at [] b to seen l m =
+    (subst (λ c. IsAllowed c at seen) l.0 (subst (λ w. IsAllowed b w seen) l.1 m), (ap (λ c. tells c seen) l.0, ap (λ w. words_told w seen) l.1))
+lead_more a at (x ∷ steps) b to seen l m = (l.0, lead_more (tells a x) (words_told at x) steps b to seen l.1 m)
 
-allowed_more : (a : CallState) (steps : List Seen) (seen : Seen) → AreAllowed a steps → IsAllowed (tells_all a steps) seen
-    → AreAllowed a (steps ++ seen ∷ [])
-allowed_more a [] seen k m = (m, tt)
-allowed_more a (x ∷ steps) seen k m = (k.0, allowed_more (tells a x) steps seen k.1 m)
+pub reach_more : (a : CallState) (at : Word → ℕ) (seen : Seen) → IsAllowed a at seen → IsReached a at → IsReached (tells a seen) (words_told at seen)
+reach_more a at seen m r = record { steps = r.steps ++ seen ∷ []; lead = lead_more no_calls no_words r.steps a at seen r.lead m }
 
-pub reach_more : (a : CallState) (seen : Seen) → IsAllowed a seen → IsReached a → IsReached (tells a seen)
-reach_more a seen m r = record {
-  steps = r.steps ++ seen ∷ [];
-  allowed = allowed_more no_calls r.steps seen r.allowed (subst (λ b. IsAllowed b seen) r.leads m);
-  leads = ap (λ b. tells b seen) r.leads ∙ sym (tells_more no_calls r.steps seen);
-}
-
-pub nothing_reached : IsReached no_calls
-nothing_reached = record { steps = []; allowed = tt; leads = refl }
+pub nothing_reached : (at : Word → ℕ) → ((word : Word) → at word ≡ 0) → IsReached no_calls at
+nothing_reached at zeros = record { steps = []; lead = (refl, λ i word. zeros word i) }

@@ -1,11 +1,11 @@
 -- Where no record is locked and nobody handles calls, each call that was queued has run, once.
 use Rattle.std.proofs.Common.{◌≡◌, ◌≢◌, ℕ, ◌+◌, ◌%◌, ◌^◌, Bool, true, false, cond, Option, Some, None, List, [], ◌∷◌, ◌++◌, length, sym, refl, ap, ◌∙◌, arith}
 use Rattle.std.proofs.lemmas.List.{append-nil}
-use Rattle.smp_call_steps.specs.{CallState, Holding, Marked, marked, others_marked, batches_marked, marked_from, sent_to, calls_from, orders, if_sync}
-use Rattle.smp_call_steps.specs.{if_async, sync_calls, async_calls, order, Holds, AllPlaced, FlagsShow, hands_in, ControlValue, Share, share_of, Rests}
+use Rattle.smp_words.specs.Size.{owner}
+use Rattle.smp_call_steps.specs.{CallState, Holding, Recorded, Marked, marked, others_marked, batches_marked, marked_from, sent_to, calls_from, orders, if_sync}
+use Rattle.smp_call_steps.specs.{if_async, sync_calls, async_calls, order, Holds, AllPlaced, FlagsShow, Share, share_of, Rests}
 use Rattle.smp_call_steps.specs.{StandsAt, HandIs, DrainValue, Call, Class, Sync, Async, Word, Hand, Queued, Ran, Flags, RecPlace, HandleStage, Stage, Handle}
-use Rattle.smp_call_steps.specs.Shows.{Shows}
-use Rattle.smp_call_steps.proofs.State.Counts.{held_place}
+use Rattle.smp_call_steps.specs.Reached.{ArePlaced, AreTallied}
 use Rattle.smp_call_steps.specs.place
 use Rattle.smp_call_steps.specs.handle
 
@@ -79,25 +79,34 @@ rests_inside places at s d me hand (handle.EndSync walk call next) z h k = absur
 rests_inside places at s d me hand _ z h k = absurd (h z)
 
 -- nothing is taken and nothing runs, where the handling word is 0
-rests_at : (places : ℕ → RecPlace) (at : Word → ℕ) (s : Share) (d : DrainValue) (me hand : ℕ) (stage : Option Stage) → hand ≡ 0 → HandIs stage hand
+pub rests_at : (places : ℕ → RecPlace) (at : Word → ℕ) (s : Share) (d : DrainValue) (me hand : ℕ) (stage : Option Stage) → hand ≡ 0 → HandIs stage hand
     → StandsAt places at s d me stage → Rests s
 rests_at places at s d me hand None z h k = k
 rests_at places at s d me hand (Some (Handle stage)) z h k = rests_inside places at s d me hand stage z h k
 rests_at places at s d me hand _ z h k = k.0
 
-module _ {a : CallState} {at : Word → ℕ} {control : ℕ → ControlValue} (s : Shows a at control) (still : Still at) where
+-- the laws of calls, and what the words say of them: each flags word, each tally, and each handling word
+pub record HasLaws (a : CallState) (at : Word → ℕ) : Type 0 where
+  pub placed : ArePlaced a
+  pub recorded : Recorded a.sent a.taken a.queue a.ran a.running a.batch
+  pub owns : (cpu id : ℕ) → Holds (a.held cpu) id → owner id ≡ cpu
+  pub home : (cpu id : ℕ) → Holds (a.held cpu) id → a.place id ≡ place.Held
+  pub locks : (id : ℕ) → FlagsShow (a.place id) (at (Flags id))
+  pub tallied : AreTallied a at
+  pub idle : (cpu : ℕ) → at (Hand cpu) ≡ 0 → Rests (share_of a cpu)
+
+module _ {a : CallState} {at : Word → ℕ} (s : HasLaws a at) (still : Still at) where
   free : (id : ℕ) → a.place id ≡ place.Free
-  free id = unlocked_free (a.place id) (at (Flags id)) (s.written.locks id) (still.unlocked id)
+  free id = unlocked_free (a.place id) (at (Flags id)) (s.locks id) (still.unlocked id)
 
   nothing_held : (cpu : ℕ) → a.held cpu ≡ None
-  nothing_held cpu = none_held (a.held cpu) (λ id h. let e = sym (held_place s cpu id h) ∙ free id in cc)
+  nothing_held cpu = none_held (a.held cpu) (λ id h. let e = sym (s.home cpu id h) ∙ free id in cc)
 
   nothing_queued : (cpu : ℕ) → a.queue cpu ≡ []
   nothing_queued cpu = none_placed a.place (place.Queued cpu) (a.queue cpu) (λ e. cc) free (s.placed.queued cpu)
 
   rests : (cpu : ℕ) → Rests (share_of a cpu)
-  rests cpu = rests_at a.place at (share_of a cpu) (control cpu).drain cpu (hands_in at cpu) (control cpu).stage (still.outside cpu) (s.hands cpu)
-      (s.stands cpu)
+  rests cpu = s.idle cpu (still.outside cpu)
 
   -- the tally words count the calls that were sent and those that ran
 

@@ -7,13 +7,13 @@ use Rattle.smp_call_steps.specs.Shows.{Shows}
 use Rattle.smp_call_steps.proofs.Knows.Restages.{restages}
 use Rattle.smp_call_steps.proofs.StepLaws.Functions.{function_goes}
 use Rattle.smp_call_steps.proofs.StepLaws.Notes.{queue_goes, says_so}
-use Rattle.smp_call_steps.proofs.StepLaws.Premises.{may_see}
+use Rattle.smp_call_steps.proofs.StepLaws.Premises.{may_make}
 use Rattle.smp_call_steps.proofs.StepLaws.Records.{keeps_records}
 use Rattle.smp_call_steps.proofs.StepLaws.Tries.{tries_go}
 
 pub steps_keep_laws : (a : CallState) (at : Word → ℕ) (control : ℕ → ControlValue) → Shows a at control → StepsKeepLaws a at control
 steps_keep_laws a at control s me stage e = record {
-  premise = may_see a at control s me stage e;
+  premise = may_make a at control s me stage e;
   records = keeps_records a at control s me stage e;
   functions = function_goes a at control s me stage e;
   queues = queue_goes a at control s me stage e;

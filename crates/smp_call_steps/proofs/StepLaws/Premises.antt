@@ -1,10 +1,10 @@
--- Who may make which step: what holds of the calls before it.
-use Rattle.std.proofs.Common.{◌≡◌, ℕ, ◌+◌, Bool, true, false, cond, inl, inr, Option, Some, None, List, [], ◌∷◌, sym, subst, refl, ap, ◌∙◌, arith}
-use Rattle.smp_words.specs.Access.{word_of, seen_of}
+-- Who may make which step: what holds of the calls and the words before it.
+use Rattle.std.proofs.Common.{◌≡◌, ◌≢◌, ℕ, ◌+◌, ◌-◌, ◌%◌, ◌^◌, Bool, true, false, cond, inl, inr, Option, Some, None, List, [], ◌∷◌, sym, subst, refl, ap, ◌∙◌, arith}
+use Rattle.smp_words.specs.Access.{word_of, found_by, seen_of}
 use Rattle.smp_words.specs.Flags.{flags_of}
 use Rattle.smp_call_steps.specs.{CallState, Holding, Running, Nothing, runs_as, Holds, IsPlaced, HoldsUncounted, HoldsFor, HandlesNothing, IsAtRest, MayCount}
 use Rattle.smp_call_steps.specs.{LeadsTo, MayLock, MayStoreFlags, MaySee, ControlValue, access_of, Rests, StandsAt, share_of, held_of, Reverses, Walks, Ends}
-use Rattle.smp_call_steps.specs.{nexts_in, Call, Class, Sync, Async, Word, Posting, PostStage, Walk, HandleStage, Stage, Send, Done, Post, Handle}
+use Rattle.smp_call_steps.specs.{recounted, IsFound, FitsWords, MayMake, HandIs, Hand, Access, seen_then, nexts_in, Call, Class, Sync, Async, Word, Queued, Store, Posting, PostStage, Walk, HandleStage, Stage, Send, Done, Post, Handle}
 use Rattle.smp_call_steps.specs.Shows.{Shows}
 use Rattle.smp_call_steps.proofs.Basics.Alls.{every_right}
 use Rattle.smp_call_steps.proofs.State.Walks.{reverses_all, walks_rest, walks_last, walks_sync, ends_rest, ends_async, same_record}
@@ -40,8 +40,8 @@ module _ (a : CallState) (at : Word → ℕ) (control : ℕ → ControlValue) (s
   none_held stage e = s.held me ∙ ap held_of e
 
   lock : (c : Class) (id : ℕ) → MayLock a me id → MayStoreFlags a me id (flags_of c)
-  lock Sync id m = m
-  lock Async id m = m
+  lock Sync id m = (m, refl)
+  lock Async id m = (m, refl)
 
   wins : (b : Bool) (h : Holding) → LeadsTo (Some h) (cond b (Some (h.call.id + 1)) None)
   wins true h = refl
@@ -129,3 +129,31 @@ module _ (a : CallState) (at : Word → ℕ) (control : ℕ → ControlValue) (s
   may_see (Done id) e = let k = stands (Done id) e in (inl (k.1, at_rest (Done id) e refl k.0), s.written.locks id)
   may_see (Post p stage) e = may_post p stage e
   may_see (Handle stage) e = may_handle stage e
+
+  -- a load finds what is in its word, and a store finds nothing
+  found : (x : Access) → IsFound at (word_of x) (found_by x (at (word_of x)))
+  found (Store w n) = tt
+  found _ = refl
+
+  abbrev Fits : Stage → Type 0
+  Fits stage =
+      let access = access_of at me stage in
+      let seen = seen_of me access (at (word_of access)) None in
+      FitsWords a at me seen.act seen.word seen.put
+
+  -- a CPU that may accept is inside handle
+  inside : (control me).stage ≡ Some (Handle handle.Accept) → at (Hand me) ≢ 0
+  inside e = subst (λ (x : Option Stage). HandIs x (at (Hand me))) e (s.hands me)
+
+  fits : (stage : Stage) → (control me).stage ≡ Some stage → Fits stage
+  fits (Post p post.Count) e =
+      let n = at (Queued me p.to) in holds (λ h. (n + 1) % 2 ^ 64 ≡ recounted h n) (Post p post.Count) e refl
+  fits (Post p post.Uncount) e =
+      let n = at (Queued me p.to) in holds (λ h. (n + (2 ^ 64 - 1)) % 2 ^ 64 ≡ recounted h n) (Post p post.Uncount) e refl
+  fits (Handle handle.Accept) e = inside e
+  fits (Handle (handle.CountSync walk call next)) e = refl
+  fits (Handle (handle.CountAsync call next)) e = refl
+  fits _ e = tt
+
+  pub may_make : (stage : Stage) → (control me).stage ≡ Some stage → MayMake a at (seen_then at (control me).drain me stage)
+  may_make stage e = record { may = may_see stage e; finds = found (access_of at me stage); fits = fits stage e }

@@ -29,7 +29,7 @@ module _ (a : CallState) (at : Word → ℕ) (control : ℕ → ControlValue) (s
   by_flags id zero (inl h) = by_holder id (holds_any (a.held me) id h.0)
   by_flags id zero (inr (inl k)) = search (at_place, arith)
   by_flags id zero (inr (inr k)) = search (at_place, arith)
-  by_flags id (suc n) lock = at_place id place.Free lock.free lock.owned
+  by_flags id (suc n) lock = at_place id place.Free lock.0.free lock.0.owned
 
   -- a store to a word of this kind of one record, and another word of that kind
   stored : (of : ℕ → Word) (k x n : ℕ) → (k ≡ x → May k) → (cond (k == x) n (at (of k)) ≡ at (of k)) ⊎ May k

@@ -9,7 +9,7 @@ use Rattle.smp_words.specs.Size.{owner}
 use Rattle.smp_call_steps.specs.{CallState, Holding, Sending, appended, is_nil, ControlValue, IsCall}
 use Rattle.smp_call_steps.specs.{Chained, Leads, Linked, Noticed, IsNoticed, is_pending, is_accepted, is_owed, IsEmpty, nexts_in, heads_in, intrs_in}
 use Rattle.smp_call_steps.specs.{queued_in, ran_in, IsWrittenIn, WrittenIn, Tallied, sent_to, one_held, share_of}
-use Rattle.smp_call_steps.specs.{held_of, HandIs, Call, Word, Head, Hand, Queued, Next, RecPlace}
+use Rattle.smp_call_steps.specs.{held_of, HandIs, Call, Word, Head, Hand, Next, RecPlace}
 use Rattle.smp_call_steps.specs.Stands.{CallStands}
 use Rattle.smp_call_steps.specs.Shows.{Shows}
 use Rattle.smp_words.proofs.Puts.{at_test, put_all, put_other, put_same}
@@ -71,6 +71,25 @@ tally_else : (n to cpu : ℕ) (sent : List Sending) (call : Call) (first : Bool)
     → n ≡ (length (sent_to cpu (sent ++ record { call = call; to = to; is_first = first } ∷ [])) + 0) % 2 ^ 64
 tally_else n to cpu sent call first held e ne t = rw (sent_else cpu to sent call first ne) (rw (one_held-else held call to cpu e ne) at t)
 
+-- the tallies after the append
+pub tallied_appended : (a : CallState) (queued ran_words : ℕ → ℕ → ℕ) (me to : ℕ) (call : Call) → a.held me ≡ counted_hold call to
+    → Tallied queued ran_words a.sent a.held a.ran a.running
+    → Tallied queued ran_words (put a.sent me (a.sent me ++ record { call = call; to = to; is_first = is_nil (a.queue to) } ∷ []))
+    (put a.held me None) a.ran a.running
+tallied_appended a queued ran_words me to call holds t = record {
+  queued_are =
+      λ source cpu. at_test source me
+      (λ b. queued source cpu ≡
+      (length (sent_to cpu (cond b (a.sent me ++ record { call = call; to = to; is_first = is_nil (a.queue to) } ∷ []) (a.sent source))) + one_held
+      (cond b None (a.held source)) cpu) % 2 ^ 64)
+      (λ e. elim (cases_eq cpu to) [
+        | inl f ↦ rw (e, f) (tally_here (queued me to) to (a.sent me) call (is_nil (a.queue to)) (a.held me) holds (t.queued_are me to))
+        | inr ne ↦ rw e (tally_else (queued me cpu) to cpu (a.sent me) call (is_nil (a.queue to)) (a.held me) holds ne (t.queued_are me cpu))
+      ])
+      (λ _. t.queued_are source cpu);
+  ran_are = t.ran_are;
+}
+
 module _ (a : CallState) (at : Word → ℕ) (control : ℕ → ControlValue) (me to : ℕ) (call : Call) (next : ControlValue) (s : Shows a at control)
     (own : owner call.id ≡ me) (holds : a.held me ≡ counted_hold call to) (is_call : IsCall call) (placed : a.place call.id ≡ place.Held)
     (written : IsWrittenIn at call) (link : at (Next call.id) ≡ at (Head to)) where
@@ -105,22 +124,6 @@ module _ (a : CallState) (at : Word → ℕ) (control : ℕ → ControlValue) (m
     noticed = noticed_appended a s.noticed.noticed me to call;
   }
 
-  tallied' : Tallied (queued_in at) (ran_in at) (put a.sent me (a.sent me ++ record { call = call; to = to; is_first = is_nil (a.queue to) } ∷ []))
-      (put a.held me None) a.ran a.running
-  tallied' = record {
-    queued_are =
-        λ source cpu. at_test source me
-        (λ b. at (Queued source cpu) ≡
-        (length (sent_to cpu (cond b (a.sent me ++ record { call = call; to = to; is_first = is_nil (a.queue to) } ∷ []) (a.sent source))) + one_held
-        (cond b None (a.held source)) cpu) % 2 ^ 64)
-        (λ e. elim (cases_eq cpu to) [
-          | inl f ↦ rw (e, f) (tally_here (at (Queued me to)) to (a.sent me) call (is_nil (a.queue to)) (a.held me) holds (s.tallied.queued_are me to))
-          | inr ne ↦ rw e (tally_else (at (Queued me cpu)) to cpu (a.sent me) call (is_nil (a.queue to)) (a.held me) holds ne (s.tallied.queued_are me cpu))
-        ])
-        (λ _. s.tallied.queued_are source cpu);
-    ran_are = s.tallied.ran_are;
-  }
-
   -- append: the held call is queued, and its holder holds none
   pub append_kept : held_of next.stage ≡ None → CallStands (put a.place call.id (place.Queued to)) (put_word at (Head to) (call.id + 1)) (share_of a me) me next
       → HandIs next.stage (at (Hand me)) →
@@ -138,5 +141,5 @@ module _ (a : CallState) (at : Word → ℕ) (control : ℕ → ControlValue) (m
     links = links';
     noticed = noticed';
     recorded = recorded_appended a me s.recorded to call own;
-    tallied = tallied';
+    tallied = tallied_appended a (queued_in at) (ran_in at) me to call holds s.tallied;
   }

@@ -28,11 +28,26 @@ flags_odd : (c : Class) → flags_of c % 2 ≡ 1
 flags_odd Sync = refl
 flags_odd Async = refl
 
-count_more : (n x : ℕ) → n ≡ (x + 0) % 2 ^ 64 → (n + 1) % 2 ^ 64 ≡ (x + 1) % 2 ^ 64
+pub count_more : (n x : ℕ) → n ≡ (x + 0) % 2 ^ 64 → (n + 1) % 2 ^ 64 ≡ (x + 1) % 2 ^ 64
 count_more n x e = omega arith
 
-count_less : (n x : ℕ) → n ≡ (x + 1) % 2 ^ 64 → (n + (2 ^ 64 - 1)) % 2 ^ 64 ≡ (x + 0) % 2 ^ 64
+pub count_less : (n x : ℕ) → n ≡ (x + 1) % 2 ^ 64 → (n + (2 ^ 64 - 1)) % 2 ^ 64 ≡ (x + 0) % 2 ^ 64
 count_less n x e = omega arith
+
+-- the tallies where the word for one destination changes
+pub tallied_for : (a : CallState) (at : Word → ℕ) (me to n : ℕ) (h : Option Holding) → Tallied (queued_in at) (ran_in at) a.sent a.held a.ran a.running
+    → n ≡ (length (sent_to to (a.sent me)) + one_held h to) % 2 ^ 64 → ((cpu : ℕ) → cpu ≢ to → one_held h cpu ≡ one_held (a.held me) cpu)
+    → Tallied (queued_in (put_word at (Queued me to) n)) (ran_in at) a.sent (put a.held me h) a.ran a.running
+tallied_for a at me to n h t here elsewhere = record {
+  queued_are =
+      λ source cpu. at_test source me
+      (λ b. cond (b && (cpu == to)) n (at (Queued source cpu)) ≡ (length (sent_to cpu (a.sent source)) + one_held (cond b h (a.held source)) cpu) % 2 ^ 64)
+      (λ e. at_test cpu to (λ b. cond b n (at (Queued source cpu)) ≡ (length (sent_to cpu (a.sent source)) + one_held h cpu) % 2 ^ 64)
+      (λ f. rw (e, f) here)
+      (λ ne. rw (e, elsewhere cpu ne) (t.queued_are me cpu)))
+      (λ _. t.queued_are source cpu);
+  ran_are = t.ran_are;
+}
 
 one_counted : (p : Posting) (func info cpu : ℕ) → cpu ≢ p.to → one_held (Some (holding p func info p.to true)) cpu ≡ 0
 one_counted p func info cpu ne = rw (ne_eqb p.to cpu (λ f. ne (sym f))) refl
@@ -239,21 +254,6 @@ module _ {a : CallState} {at : Word → ℕ} {control : ℕ → ControlValue} (m
       (tallied_on (put a.held me h) (λ cpu ne. put_other a.held me h cpu ne) (λ cpu. rw (put_same a.held me h, now, held) refl))
       was.goes (k.0, record { flags_are = k.1; func_is = k.2; info_is = put_same (infos_in at) p.id p.info })
 
-  -- the tallies where the word for one destination changes
-  tallied_for : (p : Posting) (n : ℕ) (h : Option Holding) → n ≡ (length (sent_to p.to (a.sent me)) + one_held h p.to) % 2 ^ 64
-      → ((cpu : ℕ) → cpu ≢ p.to → one_held h cpu ≡ one_held (a.held me) cpu) →
-      Tallied (queued_in (put_word at (Queued me p.to) n)) (ran_in at) a.sent (put a.held me h) a.ran a.running
-  tallied_for p n h here elsewhere = record {
-    queued_are =
-        λ source cpu. at_test source me
-        (λ b. cond (b && (cpu == p.to)) n (at (Queued source cpu)) ≡ (length (sent_to cpu (a.sent source)) + one_held (cond b h (a.held source)) cpu) % 2 ^ 64)
-        (λ e. at_test cpu p.to (λ b. cond b n (at (Queued source cpu)) ≡ (length (sent_to cpu (a.sent source)) + one_held h cpu) % 2 ^ 64)
-        (λ f. rw (e, f) here)
-        (λ ne. rw (e, elsewhere cpu ne) (s.tallied.queued_are me cpu)))
-        (λ _. s.tallied.queued_are source cpu);
-    ran_are = s.tallied.ran_are;
-  }
-
   pub count_step : (p : Posting) → (control me).stage ≡ Some (Post p post.Count) → StepShows a at control me (Post p post.Count)
   count_step p e =
       let was = was_at p post.Count e in
@@ -267,7 +267,7 @@ module _ {a : CallState} {at : Word → ℕ} {control : ℕ → ControlValue} (m
       (touches_none p.id a.place at (put_word at (Queued me p.to) n) (λ _. refl) (λ _. refl) (λ _. refl) (λ _. refl))
       (record { head = λ _. refl; intr = λ _. refl; hand = λ _. refl }) refl now (rw now refl)
       (linked_on p h (rw held refl) (λ u x. post_holds p post.LoadHead u (rw now at x))) (λ _ _. refl)
-      (tallied_for p n h (rw (now, one_here p p.func p.info) (count_more (at (Queued me p.to)) (length (sent_to p.to (a.sent me))) before))
+      (tallied_for a at me p.to n h s.tallied (rw (now, one_here p p.func p.info) (count_more (at (Queued me p.to)) (length (sent_to p.to (a.sent me))) before))
       (λ cpu ne. rw (now, held, one_counted p p.func p.info cpu ne) refl))
       was.goes k
 
@@ -285,7 +285,7 @@ module _ {a : CallState} {at : Word → ℕ} {control : ℕ → ControlValue} (m
       (touches_none p.id a.place at (put_word at (Queued me p.to) n) (λ _. refl) (λ _. refl) (λ _. refl) (λ _. refl))
       (record { head = λ _. refl; intr = λ _. refl; hand = λ _. refl }) refl now (rw now refl)
       (linked_on p h (rw held refl) (λ u x. post_holds p post.Release u (rw now at x))) (λ _ _. refl)
-      (tallied_for p n h (rw now (count_less (at (Queued me p.to)) (length (sent_to p.to (a.sent me))) before))
+      (tallied_for a at me p.to n h s.tallied (rw now (count_less (at (Queued me p.to)) (length (sent_to p.to (a.sent me))) before))
       (λ cpu ne. rw (now, held, one_counted p p.func p.info cpu ne) refl))
       was.goes k
 

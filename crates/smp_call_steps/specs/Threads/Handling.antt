@@ -1,5 +1,5 @@
 -- What a CPU knows inside handle, after each of its steps.
-use Rattle.std.specs.Prelude.{ℕ, Bool, if◌then◌else◌, Option, Some, None, List, [], ◌∷◌}
+use Rattle.std.specs.Prelude.{ℕ, Bool, if◌then◌else◌, Option, Some, None, List, [], ◌∷◌, ◌++◌}
 use Rattle.smp_call_steps.specs.Calls.{Running, SyncCall, AsyncCall}
 use Rattle.smp_call_steps.specs.Threads.Parts.{CallPart, part_accepted, part_taken, part_counted, part_ended}
 use Rattle.smp_call_steps.specs.Drains.{DrainValue, no_drain, reverse_on, handle_outcome, drain_after}
@@ -25,6 +25,7 @@ abbrev pub accepted_known : Bool → KnownCalls → KnownCalls
 accepted_known pending v = record v {
   stage = Some (Handle (if pending then handle.Take else handle.LeaveIdle));
   part = part_accepted pending v.part;
+  asked_after = v.asked_after ++ v.steps ∷ [];
 }
 
 -- a CPU that has taken this queue, whose newest record is this

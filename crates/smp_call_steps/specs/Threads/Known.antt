@@ -73,6 +73,7 @@ fresh k me = record {
   steps = 0;
   sent_at = 0;
   asked_at = 0;
+  asked_after = [];
 }
 
 -- what follows a step of a post, as the step tells it
@@ -160,6 +161,11 @@ sent_after act.Cas (Head to) (Some n) now before = now
 sent_after act.Store (Intr to) put now before = now
 sent_after _ w put now before = before
 
+-- how many steps outside handle it had made at each take of its interrupt word, after it
+abbrev pub asked_then : Act → Word → ℕ → List ℕ → List ℕ
+asked_then act.Swap (Intr cpu) steps asked = asked ++ steps ∷ []
+asked_then _ w steps asked = asked
+
 -- what a CPU knows after a step of its own; a swap of the head takes this queue
 abbrev pub known_taking : List Call → KnownCalls → Act → Word → Option ℕ → Option ℕ → KnownCalls
 known_taking queue v act w found put = record v {
@@ -172,6 +178,7 @@ known_taking queue v act w found put = record v {
   steps = steps_after v.stage w v.steps;
   sent_at = sent_after act w put (steps_after v.stage w v.steps) v.sent_at;
   asked_at = sent_after act w put (length v.part.asked) v.asked_at;
+  asked_after = asked_then act w v.steps v.asked_after;
 }
 
 -- the same of a step that takes no queue
@@ -216,11 +223,11 @@ known_access v (Done id) = Load (Flags id)
 known_access v (Post p stage) = post_access p v.number stage (queued_tally v.part (held_of_post p stage) p.to)
 known_access v (Handle stage) = handle_access v.number stage (ran_tally v.part (source_at stage))
 
--- some words show some calls that are reached, of which a CPU that knows v knows its part
+-- some words show some calls, which are reached with them, of which a CPU that knows v knows its part
 pub record Lives (v : KnownCalls) : Type 0 where
   pub calls : CallState
-  pub reached : IsReached calls
   pub at : Word → ℕ
+  pub reached : IsReached calls at
   pub controls : ℕ → ControlValue
   pub shown : Shows calls at controls
   pub sees : Sees calls controls v
@@ -230,12 +237,13 @@ pub record CallMoment (v : KnownCalls) (word : Word) (number : ℕ) : Type 0 whe
   pub lives : Lives v
   pub number_is : number ≡ lives.at word
 
--- the table goes on by a step of this CPU, after which it knows w; calls that were reached before it lead to calls that are reached
-pub record GoesOn (a : CallState) (control : ℕ → ControlValue) (me : ℕ) (at : Word → ℕ) (w : KnownCalls) : Type 0 where
+-- the table goes on from these words to those by a step of this CPU, after which it knows w; from calls that are reached it leads
+-- to calls that are reached
+pub record GoesOn (a : CallState) (before : Word → ℕ) (control : ℕ → ControlValue) (me : ℕ) (at : Word → ℕ) (w : KnownCalls) : Type 0 where
   pub seen : Seen
   pub calls : CallState
   pub told : calls ≡ tells a seen
-  pub reached : IsReached a → IsReached calls
+  pub reached : IsReached a before → IsReached calls at
   pub controls : ℕ → ControlValue
   pub shown : Shows calls at controls
   pub mine : Sees calls controls w

@@ -6,7 +6,7 @@ use Rattle.smp_call_steps.specs.Calls.{CallState, tells}
 use Rattle.smp_call_steps.specs.Threads.Known.{Sees, MayStep, known_access, known_tells}
 use Rattle.smp_call_steps.specs.Shows.{Shows}
 use Rattle.smp_call_steps.specs.Stages.{ControlValue}
-use Rattle.smp_call_steps.specs.Names.{Call, Word, Head, Access, Load, Exchange, Stage, Handle, Logged, HeadSeen}
+use Rattle.smp_call_steps.specs.Names.{Call, Word, Head, Intr, Access, Load, Swap, Exchange, Stage, Handle, Logged, HeadSeen}
 use Rattle.smp_call_steps.specs.Names.logged
 use Rattle.smp_call_steps.specs.Names.head
 use Rattle.smp_call_steps.specs.declared.known.KnownCalls.{KnownCalls}
@@ -76,8 +76,15 @@ abbrev pub counted_at : Stage → ℕ → ℕ
 counted_at (Handle stage) n = n
 counted_at stage n = n + 1
 
--- each step that a CPU may make outside handle is counted once, and no step of handle is
+-- for each take of the interrupt word the steps outside handle before it, after this access too
+abbrev pub takes_and : Access → ℕ → List ℕ → List ℕ
+takes_and (Swap (Intr cpu) n) steps takes = takes ++ steps ∷ []
+takes_and _ steps takes = takes
+
+-- each step that a CPU may make outside handle is counted once, and no step of handle is; and each take of its interrupt word is
+-- listed with the number of those before it
 abbrev pub StepsCount : Type 0
 StepsCount = (v : KnownCalls) (stage : Stage) → MayStep v stage → (found : ℕ) (queue : List Call) →
     let seen = seen_of v.number (known_access v stage) found None in
-    (known_tells queue v seen).steps ≡ counted_at stage v.steps
+    ((known_tells queue v seen).steps ≡ counted_at stage v.steps)
+    × ((known_tells queue v seen).asked_after ≡ takes_and (known_access v stage) v.steps v.asked_after)

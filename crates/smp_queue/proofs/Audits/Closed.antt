@@ -16,7 +16,8 @@ use Rattle.smp_queue.specs.{AreEqual, HasRowsOf, HasZerosFrom, has_lock, has_han
 use Rattle.smp_queue.specs.{SeatValue, Ruled, known, IsCpuSeat}
 use Rattle.smp_queue.specs.Names.{Audit}
 use Rattle.smp_queue.proofs.TheRule.Keeps.{knows_as}
-use Rattle.smp_call_steps.proofs.State.Drained.{Still, still_queued, still_ran, equal_tallies, all_ran, all_sent}
+use Rattle.smp_call_steps.proofs.State.Drained.{HasLaws, Still, still_queued, still_ran, equal_tallies, all_ran, all_sent}
+use Rattle.smp_call_steps.proofs.ReachedLaws.{reached_laws}
 use Rattle.smp_queue.proofs.Audits.Auditing.{count_none}
 use Rattle.smp_queue.proofs.TheRule.Cells.{no_hand, no_flags}
 use Rattle.smp_queue.specs.audit
@@ -65,11 +66,14 @@ still words e = record {
         no_number (number_in words (Hand cpu)) _ refl (count_none (has_hand (number_in words)) cpus cpu (ap (λ (l : Left). l.handling) e) (ltb-true cpu cpus t))
     outside cpu false t = no_hand words cpu (ltb-false cpu cpus t)
 
+laws : {k : CallSetting} {v : KnownCalls} {words : List ℕ} (c : Closes k v words) → HasLaws c.calls (number_in words)
+laws {k} {v} {words} c = reached_laws c.calls (number_in words) c.reached
+
 -- the tallies of a table that is drained are equal
 pub drained_equal : (k : CallSetting) (v : KnownCalls) (words : List ℕ) (answer : Audit) → Closes k v words → AuditAnswers (number_in words) answer
     → IfDrained answer AreEqual
 drained_equal k v words (audit.Drained t) c a = λ source to s d. a.1.queued_are source to s d
-    ∙ (equal_tallies c.shown (still words a.0) source to ∙ sym (a.1.ran_are to source d s))
+    ∙ (equal_tallies (laws c) (still words a.0) source to ∙ sym (a.1.ran_are to source d s))
 drained_equal k v words (audit.Left left) c a = tt
 
 -- a CPU's rows are those of its part
@@ -82,8 +86,8 @@ drained_rows k d words (audit.Drained t) within c a = λ other below.
     let l : me < cpus = omega arith in
     let at = number_in words in
     let s = still words a.0 in (
-      a.1.queued_are me other l below ∙ (still_queued c.shown s me other ∙ ap (λ (p : CallPart). length (sent_to other p.sent) % 2 ^ 64) c.sees.part),
-      a.1.ran_are me other l below ∙ (still_ran c.shown s me other ∙ ap (λ (p : CallPart). length (calls_from other p.ran) % 2 ^ 64) c.sees.part),
+      a.1.queued_are me other l below ∙ (still_queued (laws c) s me other ∙ ap (λ (p : CallPart). length (sent_to other p.sent) % 2 ^ 64) c.sees.part),
+      a.1.ran_are me other l below ∙ (still_ran (laws c) s me other ∙ ap (λ (p : CallPart). length (calls_from other p.ran) % 2 ^ 64) c.sees.part),
     )
 drained_rows k d words (audit.Left left) within c a = tt
 
@@ -96,22 +100,23 @@ drained_zeros k v words (audit.Drained t) c a = λ cpu other l m past. (
 )
   where
     equal : (source cpu : ℕ) → number_in words (Queued source cpu) ≡ number_in words (Ran cpu source)
-    equal = equal_tallies c.shown (still words a.0)
+    equal = equal_tallies (laws c) (still words a.0)
 
     none : (cpu : ℕ) → k.nr ≤ cpu → part_of c.calls cpu ≡ part_of no_calls cpu
     none cpu p = let sees = c.absent cpu p in sees.part
 
     none_queued : (source cpu : ℕ) → k.nr ≤ source → number_in words (Queued source cpu) ≡ 0
-    none_queued source cpu p = still_queued c.shown (still words a.0) source cpu ∙ ap (λ (q : CallPart). length (sent_to cpu q.sent) % 2 ^ 64) (none source p)
+    none_queued source cpu p = still_queued (laws c) (still words a.0) source cpu ∙ ap (λ (q : CallPart). length (sent_to cpu q.sent) % 2 ^ 64) (none source p)
 
     none_ran : (cpu source : ℕ) → k.nr ≤ cpu → number_in words (Ran cpu source) ≡ 0
-    none_ran cpu source p = still_ran c.shown (still words a.0) cpu source ∙ ap (λ (q : CallPart). length (calls_from source q.ran) % 2 ^ 64) (none cpu p)
+    none_ran cpu source p = still_ran (laws c) (still words a.0) cpu source ∙ ap (λ (q : CallPart). length (calls_from source q.ran) % 2 ^ 64) (none cpu p)
 drained_zeros k v words (audit.Left left) c a = tt
 
 -- all its calls have run
 pub drained_run : (t : TableValue) (last : CpuValue) (words : List ℕ) (answer : Audit) (c : ClosesWith t last words) → AuditAnswers (number_in words) answer
     → IfDrained answer (λ t. HaveRun c.calls)
-drained_run t last words (audit.Drained tally) c a = search (still, all_sent, all_ran, arith)
+drained_run t last words (audit.Drained tally) c a =
+    let l = reached_laws c.calls (number_in words) c.reached in record { taken = all_sent l (still words a.0); ran = all_ran l (still words a.0) }
 drained_run t last words (audit.Left left) c a = tt
 
 -- the words by the value of the CPU that closed the table, and by what it knew
@@ -138,6 +143,7 @@ module _ (t : TableValue) (last : CpuValue) (words : List ℕ) (c : ClosesWith t
           steps = last.steps;
           sent_at = last.sent_at;
           asked_at = last.asked_at;
+          asked_after = last.asked_after;
         };
   }
 

@@ -57,22 +57,22 @@ exchange_else queue v _ n o = refl
 
 load_step : (a : CallState) (at : Word → ℕ) (control : ℕ → ControlValue) (v : KnownCalls) (w : Word) → MayAccess v (Load w) → Shows a at control
     → Sees a control v
-    → GoesOn a control v.number at (known_told v act.Load w (Some (at w)) None)
+    → GoesOn a at control v.number at (known_told v act.Load w (Some (at w)) None)
 load_step a at control v w can shown sees =
-    subst (GoesOn a control v.number at) (load_else (a.queue v.number) v w (at w)) (known_step shown sees can.stage can.aims (Load w) can.is_access)
+    subst (GoesOn a at control v.number at) (load_else (a.queue v.number) v w (at w)) (known_step shown sees can.stage can.aims (Load w) can.is_access)
 
 store_step : (a : CallState) (at : Word → ℕ) (control : ℕ → ControlValue) (v : KnownCalls) (w : Word) (x : ℕ) → MayAccess v (Store w x) → Shows a at control
-    → Sees a control v → GoesOn a control v.number (put_word at w x) (known_told v act.Store w None (Some x))
+    → Sees a control v → GoesOn a at control v.number (put_word at w x) (known_told v act.Store w None (Some x))
 store_step a at control v w x can shown sees =
-    subst (GoesOn a control v.number (put_word at w x)) (store_else (a.queue v.number) v w x)
+    subst (GoesOn a at control v.number (put_word at w x)) (store_else (a.queue v.number) v w x)
     (known_step shown sees can.stage can.aims (Store w x) can.is_access)
 
 exchange_step : (a : CallState) (at : Word → ℕ) (control : ℕ → ControlValue) (v : KnownCalls) (w : Word) (old new : ℕ) → MayAccess v (Exchange w old new)
     → Shows a at control → Sees a control v →
-    GoesOn a control v.number (put_if put_word at w (cond (at w == old) (Some new) None))
+    GoesOn a at control v.number (put_if put_word at w (cond (at w == old) (Some new) None))
     (known_told v act.Cas w (Some (at w)) (cond (at w == old) (Some new) None))
 exchange_step a at control v w old new can shown sees =
-    subst (GoesOn a control v.number (put_if put_word at w (cond (at w == old) (Some new) None)))
+    subst (GoesOn a at control v.number (put_if put_word at w (cond (at w == old) (Some new) None)))
     (exchange_else (a.queue v.number) v w (at w) (cond (at w == old) (Some new) None))
     (known_step shown sees can.stage can.aims (Exchange w old new) can.is_access)
 
@@ -105,7 +105,7 @@ module _ {S : Type 0} (k : CallSetting) where
   pub starts : Ruled {S = S} k (opening (replicate cells 0) [] (Maker 0 k))
   starts = record {
     calls = no_calls;
-    reached = nothing_reached;
+    reached = nothing_reached (number_in (replicate cells 0)) (λ w. zero_at cells (cell_of w));
     controls = λ _. outside;
     seat = λ _. 0;
     next = 0;
@@ -202,7 +202,7 @@ module _ {S : Type 0} (k : CallSetting) where
 
   -- a seat's CPU makes a step of the machine: it has its seat still, and the rule is kept
   lifts : (s : State S CallSeatView) (r : Ruled k s) (id i n : ℕ) (u : CallSeatView) (w : KnownCalls) (carried : List (ℕ × S)) → get_elem? s.views id ≡ some u
-      → IsCpuSeat u → w.setting ≡ (known u).setting → GoesOn r.calls r.controls (known u).number (number_in (set s.words i n)) w
+      → IsCpuSeat u → w.setting ≡ (known u).setting → GoesOn r.calls (number_in s.words) r.controls (known u).number (number_in (set s.words i n)) w
       → ((cpu : ℕ) → has k.online cpu ≡ false → IsQuiet (number_in (set s.words i n)) cpu)
       → Ruled k (stepped s i n id carried (Cpu w) keeps) × SitsIn (set s.words i n) w
   lifts s r id i n x w carried at is same g quiet = (ruled, sits (stepped s i n id carried (Cpu w) keeps) ruled id w its)
@@ -246,9 +246,9 @@ module _ {S : Type 0} (k : CallSetting) where
     v = known me.0
 
     steps_with : (i : ℕ) (f : ℕ → ℕ) (then : ℕ → Me S CallSeatView → Type 0) →
-        ((a : CallState) (control : ℕ → ControlValue) (words : List ℕ) → IsReached a → Shows a (number_in words) control → length words ≡ cells
+        ((a : CallState) (control : ℕ → ControlValue) (words : List ℕ) → IsReached a (number_in words) → Shows a (number_in words) control → length words ≡ cells
         → Sees a control (known me.0) → (w : KnownCalls) × (w.setting ≡ (known me.0).setting)
-        × GoesOn a control (known me.0).number (number_in (set words i (f (get_or words i 0)))) w × then (get_or words i 0) (Cpu w, me.1)) →
+        × GoesOn a (number_in words) control (known me.0).number (number_in (set words i (f (get_or words i 0)))) w × then (get_or words i 0) (Cpu w, me.1)) →
         ((words : List ℕ) → length words ≡ cells → (cpu : ℕ) → has k.online cpu ≡ false → has k.online (known me.0).number ≡ true
         → IsQuiet (number_in words) cpu → IsQuiet (number_in (set words i (f (get_or words i 0)))) cpu) →
         Allows (Ruled k) slots id me i f (λ n m. then n m × SitsWith (known m.0) i (f n))
@@ -271,9 +271,9 @@ module _ {S : Type 0} (k : CallSetting) where
         )
 
     steps : (i : ℕ) (f : ℕ → ℕ) (then : ℕ → Me S CallSeatView → Type 0) →
-        ((a : CallState) (control : ℕ → ControlValue) (words : List ℕ) → IsReached a → Shows a (number_in words) control → length words ≡ cells
+        ((a : CallState) (control : ℕ → ControlValue) (words : List ℕ) → IsReached a (number_in words) → Shows a (number_in words) control → length words ≡ cells
         → Sees a control (known me.0) → (w : KnownCalls) × (w.setting ≡ (known me.0).setting)
-        × GoesOn a control (known me.0).number (number_in (set words i (f (get_or words i 0)))) w × then (get_or words i 0) (Cpu w, me.1)) →
+        × GoesOn a (number_in words) control (known me.0).number (number_in (set words i (f (get_or words i 0)))) w × then (get_or words i 0) (Cpu w, me.1)) →
         ((words : List ℕ) → length words ≡ cells → (cpu : ℕ) → has k.online cpu ≡ false → has k.online (known me.0).number ≡ true
         → IsQuiet (number_in words) cpu → IsQuiet (number_in (set words i (f (get_or words i 0)))) cpu) →
         Allows (Ruled k) slots id me i f (λ n m. SeatInvariant (known m.0) × then n m)
@@ -311,8 +311,8 @@ module _ {S : Type 0} (k : CallSetting) where
         let here : number_in words w ≡ get_or words i 0 = number_here words w i e in (
           known_told v act.Load w (Some (get_or words i 0)) None,
           refl,
-          subst (λ (x : List ℕ). GoesOn a control v.number (number_in x) (known_told v act.Load w (Some (get_or words i 0)) None)) (sym (set-get_or words i 0))
-              (subst (λ n. GoesOn a control v.number (number_in words) (known_told v act.Load w (Some n) None)) here
+          subst (λ (x : List ℕ). GoesOn a (number_in words) control v.number (number_in x) (known_told v act.Load w (Some (get_or words i 0)) None)) (sym (set-get_or words i 0))
+              (subst (λ n. GoesOn a (number_in words) control v.number (number_in words) (known_told v act.Load w (Some n) None)) here
               (load_step a (number_in words) control v w can shown sees)),
           λ u f. (
             record {
@@ -330,7 +330,7 @@ module _ {S : Type 0} (k : CallSetting) where
         let w = noted_known v in
         let still : set s.words 0 (get_or s.words 0 0) ≡ s.words = set-get_or s.words 0 0 in
         let on = lifts s r id 0 (get_or s.words 0 0) me.0 w me.1 at is refl
-        (subst (λ (x : List ℕ). GoesOn r.calls r.controls v.number (number_in x) w) (sym still) record {
+        (subst (λ (x : List ℕ). GoesOn r.calls (number_in s.words) r.controls v.number (number_in x) w) (sym still) record {
           seen = seen_of v.number (Load (Intr 0)) 0 None;
           calls = r.calls;
           told = refl;
@@ -349,7 +349,7 @@ module _ {S : Type 0} (k : CallSetting) where
         let a = steps_with i (λ _. x) (λ _. AfterStore (step slots i x 0 none) me x) (λ a control words reached shown wide sees. (
           known_told v act.Store w None (Some x),
           refl,
-          subst (λ (at : Word → ℕ). GoesOn a control v.number at (known_told v act.Store w None (Some x))) (sym (stored_here words w i x wide e))
+          subst (λ (at : Word → ℕ). GoesOn a (number_in words) control v.number at (known_told v act.Store w None (Some x))) (sym (stored_here words w i x wide e))
               (store_step a (number_in words) control v w x can shown sees),
           λ u f. ap (λ (y : Word). Cpu (known_told v act.Store y None (Some x))) (one_cell w u i e f),
         )) (λ words wide cpu off on q. subst (λ (at : Word → ℕ). IsQuiet at cpu) (sym (stored_here words w i x wide e))
@@ -372,8 +372,8 @@ module _ {S : Type 0} (k : CallSetting) where
         ap (λ k. put_if put_word (number_in words) w (cond (k == old) (Some new) None)) here ∙ sym (exchanged_words words w i n new (n == old) wide e refl) in (
           known_told v act.Cas w (Some n) (cond (n == old) (Some new) None),
           refl,
-          subst (λ (at : Word → ℕ). GoesOn a control v.number at (known_told v act.Cas w (Some n) (cond (n == old) (Some new) None))) same
-              (subst (λ k. GoesOn a control v.number (put_if put_word (number_in words) w (cond (number_in words w == old) (Some new) None))
+          subst (λ (at : Word → ℕ). GoesOn a (number_in words) control v.number at (known_told v act.Cas w (Some n) (cond (n == old) (Some new) None))) same
+              (subst (λ k. GoesOn a (number_in words) control v.number (put_if put_word (number_in words) w (cond (number_in words w == old) (Some new) None))
               (known_told v act.Cas w (Some k) (cond (k == old) (Some new) None))) here
               (exchange_step a (number_in words) control v w old new can shown sees)),
           λ u f. ap (λ (x : Word). Cpu (known_told v act.Cas x (Some n) (cond (n == old) (Some new) None))) (one_cell w u i e f),
@@ -388,9 +388,9 @@ module _ {S : Type 0} (k : CallSetting) where
         let q = a.queue v.number in (
           known_taking q v act.Swap w (Some (get_or words i 0)) (Some x),
           refl,
-          subst (λ (at : Word → ℕ). GoesOn a control v.number at (known_taking q v act.Swap w (Some (get_or words i 0)) (Some x)))
+          subst (λ (at : Word → ℕ). GoesOn a (number_in words) control v.number at (known_taking q v act.Swap w (Some (get_or words i 0)) (Some x)))
               (sym (stored_here words w i x wide e))
-              (subst (λ n. GoesOn a control v.number (put_word (number_in words) w x) (known_taking q v act.Swap w (Some n) (Some x))) here
+              (subst (λ n. GoesOn a (number_in words) control v.number (put_word (number_in words) w x) (known_taking q v act.Swap w (Some n) (Some x))) here
               (known_step shown sees can.stage can.aims (Swap w x) can.is_access)),
           λ u f. (
             record {
@@ -437,7 +437,7 @@ fresh_sits k n low online =
     record {
       lives = record {
         calls = no_calls;
-        reached = nothing_reached;
+        reached = nothing_reached (λ _. 0) (λ _. refl);
         at = λ _. 0;
         controls = λ _. outside;
         shown = zeros_shown (λ _. 0) (λ _. outside) (λ _. refl) (λ _. refl);

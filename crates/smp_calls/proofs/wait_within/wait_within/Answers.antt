@@ -14,7 +14,7 @@ loop-cpu-preserved g c =
     let e = c.poll_until-done.ensures in
     asks_more g.H.Handler.leads c.args.called c.loop-cpu.cpu-iterator c.next.new.self c.in-Some.cpu c.many_record.result c.loop-cpu.answered c.loop-cpu.silent
     c.without_unless-answered.result c.without_unless-silent.result c.args.polls c.loop-cpu.left c.poll_until-done.result.1 c.poll_until-done.result.0
-    c.loop-cpu.invariant next.0 next.1.0 next.1.1 c.many_record.ensures (search rules) e.left e.locked e.turns e.polled e.fewer e.at_once
+    c.loop-cpu.invariant next.0 next.1.0 next.1.1 c.many_record.ensures (search rules) e.left e.locked e.turns e.apart e.polled e.fewer e.at_once
     c.without_unless-answered.ensures.kept c.without_unless-answered.ensures.out c.without_unless-silent.ensures.kept c.without_unless-silent.ensures.out
 
 pub returns : goal.returns

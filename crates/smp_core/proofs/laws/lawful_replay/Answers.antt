@@ -2,7 +2,7 @@ use Rattle.std.proofs.Common.{subst}
 use Rattle.smp_words.specs.Layout.{number_in}
 use Rattle.smp_call_steps.specs.Calls.{CallState, no_calls, tells_all}
 use Rattle.smp_call_steps.specs.Headline.{InOnePlace, RunOnce, RunInOrder, RunEqualQueued}
-use Rattle.smp_call_steps.proofs.Headline.{in_one_place, run_once, run_in_order, run_equal_queued}
+use Rattle.smp_call_steps.proofs.Headline.{shown_laws, in_one_place, run_once, run_in_order, run_equal_queued}
 use Rattle.smp_stop_steps.specs.Headline.{RunDisabled, IsLawfulElse}
 use Rattle.smp_stop_steps.specs.State.{StopState, no_stops}
 use Rattle.smp_stop_steps.specs.Table.{stop_number}
@@ -29,22 +29,22 @@ pub returns-clause-place : goal.returns-clause-place
 returns-clause-place g c =
     ok_then c.replay.result (λ r. (a : CallState) → Shown a c.in_ok-core.core → Shown (tells_all a r.seen.items) r.core)
     (λ r. InOnePlace (calls_after r.seen.items) (number_in r.core.words))
-    (λ r told. in_one_place (told no_calls c.in_ok-core.ensures.empty)) c.replay.ensures.told
+    (λ r told. in_one_place (shown_laws (told no_calls c.in_ok-core.ensures.empty))) c.replay.ensures.told
 
 pub returns-clause-once : goal.returns-clause-once
 returns-clause-once g c =
     ok_then c.replay.result (λ r. (a : CallState) → Shown a c.in_ok-core.core → Shown (tells_all a r.seen.items) r.core)
-    (λ r. RunOnce (calls_after r.seen.items)) (λ r told. run_once (told no_calls c.in_ok-core.ensures.empty)) c.replay.ensures.told
+    (λ r. RunOnce (calls_after r.seen.items)) (λ r told. run_once (shown_laws (told no_calls c.in_ok-core.ensures.empty))) c.replay.ensures.told
 
 pub returns-clause-order : goal.returns-clause-order
 returns-clause-order g c =
     ok_then c.replay.result (λ r. (a : CallState) → Shown a c.in_ok-core.core → Shown (tells_all a r.seen.items) r.core)
-    (λ r. RunInOrder (calls_after r.seen.items)) (λ r told. run_in_order (told no_calls c.in_ok-core.ensures.empty)) c.replay.ensures.told
+    (λ r. RunInOrder (calls_after r.seen.items)) (λ r told. run_in_order (shown_laws (told no_calls c.in_ok-core.ensures.empty))) c.replay.ensures.told
 
 pub returns-clause-drained : goal.returns-clause-drained
 returns-clause-drained g c =
     ok_then c.replay.result (λ r. (a : CallState) → Shown a c.in_ok-core.core → Shown (tells_all a r.seen.items) r.core)
-    (λ r. RunEqualQueued (calls_after r.seen.items) (number_in r.core.words)) (λ r told. run_equal_queued (told no_calls c.in_ok-core.ensures.empty))
+    (λ r. RunEqualQueued (calls_after r.seen.items) (number_in r.core.words)) (λ r told. run_equal_queued (shown_laws (told no_calls c.in_ok-core.ensures.empty)))
     c.replay.ensures.told
 
 pub returns-clause-function : goal.returns-clause-function

@@ -1,5 +1,5 @@
 use Rattle.smp_stop_steps.specs.Threads.Known.{setup_in}
-use Rattle.smp_call_steps.proofs.Headline.{in_one_place, run_once, run_in_order, run_equal_queued}
+use Rattle.smp_call_steps.proofs.ReachedLaws.{reached_in_one_place, reached_run_once, reached_run_in_order, reached_run_equal_queued}
 use Rattle.smp_stop_steps.proofs.Promises.Headline.{disabled_while, lawful_while}
 use Rattle.smp_stop_steps.proofs.Promises.StopLaws.{keeps_laws}
 use Rattle.smp_machine.proofs.Headline.{has_calls, has_stops, own_calls, own_inside, own_irq}
@@ -21,13 +21,13 @@ pub returns-clause-irq : goal.returns-clause-irq
 returns-clause-irq g c = own_irq _
 
 pub returns-clause-place : goal.returns-clause-place
-returns-clause-place g c s = in_one_place s.now.shown
+returns-clause-place g c s = reached_in_one_place s.now.calls s.now.at s.now.reached
 
 pub returns-clause-once : goal.returns-clause-once
-returns-clause-once g c s = run_once s.now.shown
+returns-clause-once g c s = reached_run_once s.now.calls s.now.at s.now.reached
 
 pub returns-clause-order : goal.returns-clause-order
-returns-clause-order g c s = run_in_order s.now.shown
+returns-clause-order g c s = reached_run_in_order s.now.calls s.now.at s.now.reached
 
 pub returns-clause-function : goal.returns-clause-function
 returns-clause-function g c s = disabled_while (keeps_laws (setup_in c.args.cpu.now.stops.setting) s.now.stops s.now.at s.now.seat s.now.source s.now.shown)
@@ -36,4 +36,4 @@ pub returns-clause-lawful : goal.returns-clause-lawful
 returns-clause-lawful g c s = lawful_while (keeps_laws (setup_in c.args.cpu.now.stops.setting) s.now.stops s.now.at s.now.seat s.now.source s.now.shown)
 
 pub returns-clause-drained : goal.returns-clause-drained
-returns-clause-drained g c s = run_equal_queued s.now.shown
+returns-clause-drained g c s = reached_run_equal_queued s.now.calls s.now.at s.now.reached
