@@ -5,7 +5,8 @@ use Rattle.std.proofs.lemmas.List.Sorted.{IsPermutation-refl, IsPermutation-sym,
 use Rattle.std.proofs.lemmas.List.Sorted.{IsPermutation-append, IsPermutation-middle}
 use Rattle.smp_words.specs.Size.{owner}
 use Rattle.smp_call_steps.specs.{CallState, ControlValue, Call, Class, Sync, Async, Word, RecPlace, IsThere, FlagsShow, flags_in, batches, orders, calls_from}
-use Rattle.smp_call_steps.specs.{calls_to, if_sync, if_async, sync_calls, async_calls, order, of_class, IsPrefix, running_call, history_of, Recorded, share_of, hands_in}
+use Rattle.smp_call_steps.specs.{calls_to, if_sync, if_async, sync_calls, async_calls, order, of_class, IsPrefix}
+use Rattle.smp_call_steps.specs.{running_call, history_of, Recorded, share_of, hands_in}
 use Rattle.smp_call_steps.specs.Headline.{IsAt, HasOnePlace, InOnePlace, begun, waiting, joined, RunOnce, RunInOrder, IsDrained, RunEqualQueued}
 use Rattle.smp_call_steps.specs.Shows.{Shows}
 use Rattle.smp_call_steps.proofs.Promises.{from_class, from-append, only_there, unmarked, unmarked_sent, unmarked_from, unmarked_history, unmarked_batches}

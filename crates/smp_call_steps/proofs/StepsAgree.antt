@@ -11,7 +11,8 @@ use Rattle.smp_call_steps.specs.{CallState, Holding, Running, Nothing, SyncCall,
 use Rattle.smp_call_steps.specs.{Holds, HoldsUncounted, HoldsFor, MayCount, MayCountRun, runs_as, with_func, with_info, with_count, holding_with, links}
 use Rattle.smp_call_steps.specs.{locked, appended, accepts, begins_sync, begins_async, ends_sync, counts, unlocks, releases, confirms, takes, flags_told, told}
 use Rattle.smp_call_steps.specs.{IsNext, MayLock, MayUnlock, MayTake, MayStoreFlags, MayStoreHand, MaySee, FitsWords, recounted, one_held, counted_call}
-use Rattle.smp_call_steps.specs.{queued_in, ran_in, sent_to, Tallied, FlagsShow, Call, Class, Sync, Async, Word, Head, Intr, Hand, Queued, Ran, Flags, Func, Info}
+use Rattle.smp_call_steps.specs.{queued_in, ran_in, sent_to, Tallied, FlagsShow, Call, Class, Sync, Async, Word, Head, Intr}
+use Rattle.smp_call_steps.specs.{Hand, Queued, Ran, Flags, Func, Info}
 use Rattle.smp_call_steps.specs.{Next, Act, RecPlace}
 use Rattle.smp_call_steps.specs.Reached.{AreTallied}
 use Rattle.smp_call_steps.proofs.Headline.{locked_flags}
@@ -101,7 +102,8 @@ module _ (a : CallState) (at : Word → ℕ) (me : ℕ) (k : KeepsLaws a) (g : A
   tallied_ran : (xs : List Call) (r : Running) → xs ++ counted_call r ≡ a.ran me ++ counted_call (a.running me)
       → Tallied (queued_in at) (ran_in at) a.sent a.held (put a.ran me xs) (put a.running me r)
   tallied_ran xs r same = tallied_same (queued_in at) (ran_in at) a.sent a.held a.ran (put a.ran me xs) a.running (put a.running me r)
-      (put_both (λ cpu (ys : List Call) (q : Running). ys ++ counted_call q ≡ a.ran cpu ++ counted_call (a.running cpu)) a.ran a.running me xs r same (λ _ _. refl))
+      (put_both (λ cpu (ys : List Call) (q : Running). ys ++ counted_call q ≡ a.ran cpu ++ counted_call (a.running cpu))
+      a.ran a.running me xs r same (λ _ _. refl))
       g.tallied
 
   tallied_running : (r : Running) → a.ran me ++ counted_call r ≡ a.ran me ++ counted_call (a.running me)
@@ -174,7 +176,8 @@ module _ (a : CallState) (at : Word → ℕ) (me : ℕ) (k : KeepsLaws a) (g : A
 
   agrees_flags : (id n : ℕ) → MayStoreFlags a me id n → AgreesWith (flags_told a me id act.Store None (Some n)) (put_word at (Flags id) n)
   agrees_flags id zero m = agrees_releases id m
-  agrees_flags id (suc n) m = at_test (suc n) 0 (λ b. AgreesWith (cond b (releases a me id (a.held me)) (locked a me id (suc n))) (put_word at (Flags id) (suc n)))
+  agrees_flags id (suc n) m =
+      at_test (suc n) 0 (λ b. AgreesWith (cond b (releases a me id (a.held me)) (locked a me id (suc n))) (put_word at (Flags id) (suc n)))
       (λ e. absurd (omega arith)) (λ _. agrees_locked id n m.0 m.1)
 
   agrees_confirmed : (b : Bool) (id : ℕ) → AgreesWith (cond b a (confirms a me id)) at

@@ -121,8 +121,10 @@ ghost use Rattle.smp_call_steps.specs.Drained.{DrainedRunsAll, QueuesAreShort};
 /// only once it has accepted an interrupt. It loads and links the records of its own batch. It begins the call at the front of
 /// what is left of it, while no other runs: by its handling word where that is SYNC, and by the unlock of its record where it is
 /// ASYNC; it counts the call that runs, once, and unlocks the record of a SYNC call only then. While it holds a record, it unlocks
-/// no other. What it stores fits: a record and a CPU that there are, a 16-bit function and a 64-bit info. A load puts nothing, and a
-/// store finds nothing.
+/// no other. It stores its handling word as it enters, with nothing to handle, as it leaves, with nothing left, and as a SYNC call
+/// begins. Its tallies go on from the numbers that they have, by one. It accepts an interrupt only where its handling word is not 0.
+/// What it stores fits: a record and a CPU that there are, a 16-bit function and a 64-bit info. A load puts nothing, and a store
+/// finds nothing.
 pub fn steps_are_premised()
     ensures { OfEachStep IsPremised }
 {}

@@ -1,7 +1,8 @@
 -- A step outside handle is counted, and a step of handle is not.
 use Rattle.std.proofs.Common.{◌≡◌, ℕ, ◌+◌, List, sym, ap, refl, ◌∙◌}
 use Rattle.smp_words.specs.Access.{act_of, word_of}
-use Rattle.smp_call_steps.specs.{steps_after, asked_then, takes_and, StepsCount, Access, Load, Store, Swap, Exchange, Sub, And, Intr, known_access, told_post, told_handle, Posting, PostStage, HandleStage, Post, Handle}
+use Rattle.smp_call_steps.specs.{steps_after, asked_then, takes_and, StepsCount, Access, Load, Store, Swap, Exchange, Sub, And, Intr, known_access}
+use Rattle.smp_call_steps.specs.{told_post, told_handle, Posting, PostStage, HandleStage, Post, Handle}
 use Rattle.smp_call_steps.specs.declared.known.KnownCalls.{KnownCalls}
 use Rattle.smp_call_steps.specs.post
 use Rattle.smp_call_steps.specs.handle

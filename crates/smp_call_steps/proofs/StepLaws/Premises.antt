@@ -1,10 +1,13 @@
 -- Who may make which step: what holds of the calls and the words before it.
-use Rattle.std.proofs.Common.{◌≡◌, ◌≢◌, ℕ, ◌+◌, ◌-◌, ◌%◌, ◌^◌, Bool, true, false, cond, inl, inr, Option, Some, None, List, [], ◌∷◌, sym, subst, refl, ap, ◌∙◌, arith}
+use Rattle.std.proofs.Common.{◌≡◌, ◌≢◌, ℕ, ◌+◌, ◌-◌, ◌%◌, ◌^◌, Bool, true, false, cond, inl, inr, Option, Some, None}
+use Rattle.std.proofs.Common.{List, [], ◌∷◌, sym, subst, refl, ap, ◌∙◌, arith}
 use Rattle.smp_words.specs.Access.{word_of, found_by, seen_of}
 use Rattle.smp_words.specs.Flags.{flags_of}
 use Rattle.smp_call_steps.specs.{CallState, Holding, Running, Nothing, runs_as, Holds, IsPlaced, HoldsUncounted, HoldsFor, HandlesNothing, IsAtRest, MayCount}
 use Rattle.smp_call_steps.specs.{LeadsTo, MayLock, MayStoreFlags, MaySee, ControlValue, access_of, Rests, StandsAt, share_of, held_of, Reverses, Walks, Ends}
-use Rattle.smp_call_steps.specs.{recounted, IsFound, FitsWords, MayMake, HandIs, Hand, Access, seen_then, nexts_in, Call, Class, Sync, Async, Word, Queued, Store, Posting, PostStage, Walk, HandleStage, Stage, Send, Done, Post, Handle}
+use Rattle.smp_call_steps.specs.{recounted, IsFound, FitsWords, MayMake, HandIs, Hand, Access, seen_then}
+use Rattle.smp_call_steps.specs.{nexts_in, Call, Class, Sync, Async, Word, Queued, Store}
+use Rattle.smp_call_steps.specs.{Posting, PostStage, Walk, HandleStage, Stage, Send, Done, Post, Handle}
 use Rattle.smp_call_steps.specs.Shows.{Shows}
 use Rattle.smp_call_steps.proofs.Basics.Alls.{every_right}
 use Rattle.smp_call_steps.proofs.State.Walks.{reverses_all, walks_rest, walks_last, walks_sync, ends_rest, ends_async, same_record}

@@ -246,8 +246,8 @@ module _ {S : Type 0} (k : CallSetting) where
     v = known me.0
 
     steps_with : (i : ℕ) (f : ℕ → ℕ) (then : ℕ → Me S CallSeatView → Type 0) →
-        ((a : CallState) (control : ℕ → ControlValue) (words : List ℕ) → IsReached a (number_in words) → Shows a (number_in words) control → length words ≡ cells
-        → Sees a control (known me.0) → (w : KnownCalls) × (w.setting ≡ (known me.0).setting)
+        ((a : CallState) (control : ℕ → ControlValue) (words : List ℕ) → IsReached a (number_in words) → Shows a (number_in words) control
+        → length words ≡ cells → Sees a control (known me.0) → (w : KnownCalls) × (w.setting ≡ (known me.0).setting)
         × GoesOn a (number_in words) control (known me.0).number (number_in (set words i (f (get_or words i 0)))) w × then (get_or words i 0) (Cpu w, me.1)) →
         ((words : List ℕ) → length words ≡ cells → (cpu : ℕ) → has k.online cpu ≡ false → has k.online (known me.0).number ≡ true
         → IsQuiet (number_in words) cpu → IsQuiet (number_in (set words i (f (get_or words i 0)))) cpu) →
@@ -271,8 +271,8 @@ module _ {S : Type 0} (k : CallSetting) where
         )
 
     steps : (i : ℕ) (f : ℕ → ℕ) (then : ℕ → Me S CallSeatView → Type 0) →
-        ((a : CallState) (control : ℕ → ControlValue) (words : List ℕ) → IsReached a (number_in words) → Shows a (number_in words) control → length words ≡ cells
-        → Sees a control (known me.0) → (w : KnownCalls) × (w.setting ≡ (known me.0).setting)
+        ((a : CallState) (control : ℕ → ControlValue) (words : List ℕ) → IsReached a (number_in words) → Shows a (number_in words) control
+        → length words ≡ cells → Sees a control (known me.0) → (w : KnownCalls) × (w.setting ≡ (known me.0).setting)
         × GoesOn a (number_in words) control (known me.0).number (number_in (set words i (f (get_or words i 0)))) w × then (get_or words i 0) (Cpu w, me.1)) →
         ((words : List ℕ) → length words ≡ cells → (cpu : ℕ) → has k.online cpu ≡ false → has k.online (known me.0).number ≡ true
         → IsQuiet (number_in words) cpu → IsQuiet (number_in (set words i (f (get_or words i 0)))) cpu) →
@@ -311,7 +311,8 @@ module _ {S : Type 0} (k : CallSetting) where
         let here : number_in words w ≡ get_or words i 0 = number_here words w i e in (
           known_told v act.Load w (Some (get_or words i 0)) None,
           refl,
-          subst (λ (x : List ℕ). GoesOn a (number_in words) control v.number (number_in x) (known_told v act.Load w (Some (get_or words i 0)) None)) (sym (set-get_or words i 0))
+          subst (λ (x : List ℕ). GoesOn a (number_in words) control v.number (number_in x) (known_told v act.Load w (Some (get_or words i 0)) None))
+              (sym (set-get_or words i 0))
               (subst (λ n. GoesOn a (number_in words) control v.number (number_in words) (known_told v act.Load w (Some n) None)) here
               (load_step a (number_in words) control v w can shown sees)),
           λ u f. (
@@ -349,7 +350,8 @@ module _ {S : Type 0} (k : CallSetting) where
         let a = steps_with i (λ _. x) (λ _. AfterStore (step slots i x 0 none) me x) (λ a control words reached shown wide sees. (
           known_told v act.Store w None (Some x),
           refl,
-          subst (λ (at : Word → ℕ). GoesOn a (number_in words) control v.number at (known_told v act.Store w None (Some x))) (sym (stored_here words w i x wide e))
+          subst (λ (at : Word → ℕ). GoesOn a (number_in words) control v.number at (known_told v act.Store w None (Some x)))
+              (sym (stored_here words w i x wide e))
               (store_step a (number_in words) control v w x can shown sees),
           λ u f. ap (λ (y : Word). Cpu (known_told v act.Store y None (Some x))) (one_cell w u i e f),
         )) (λ words wide cpu off on q. subst (λ (at : Word → ℕ). IsQuiet at cpu) (sym (stored_here words w i x wide e))
