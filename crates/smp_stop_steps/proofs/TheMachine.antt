@@ -13,3 +13,4 @@ pub mod Starting
 pub mod Started
 pub mod Refusals
 pub mod Kept
+pub mod Plain
