@@ -249,6 +249,19 @@ static _Alignas(64) struct cpu cpus[CPUS];
 static int workload;
 static uint64_t times;
 
+static void alone_one(void)
+{
+	uint32_t handled;
+	do {
+		handled = 0;
+		for (int i = 0; i < ROUNDS; i++) {
+			if (post(&cpus[1], USER_RECORD, 0, ASYNC, 1) == 1)
+				send(&cpus[1], 0);
+			handled += handle(&cpus[0]);
+		}
+	} while (lap(handled));
+}
+
 static void alone(uint32_t sources, uint32_t records)
 {
 	uint32_t handled;
@@ -350,7 +363,7 @@ static void report(uint32_t asked)
 	sign = done = 0;
 	begin_meter();
 	if (workload == POST_1)
-		alone(1, 1);
+		alone_one();
 	else if (workload == POST_8)
 		alone(4, 2);
 	else

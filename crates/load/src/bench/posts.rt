@@ -14,6 +14,29 @@ const TARGET: u32 = 0;
 /// How many handlings are timed together.
 const ROUNDS: u32 = 100;
 
+/// A source posts one call, and the target handles it. Where there is one of each, nothing is measured but these.
+fn round_of_one(source: &mut CallSeat, target: &mut CallSeat) -> u32 {
+    source.post(ONE, TARGET);
+    target.poll()
+}
+
+/// Rounds of one source until the meter says that it is enough.
+fn repeat_one<R: Clock + CpuClock + Eprint>(
+    source: &mut CallSeat,
+    target: &mut CallSeat,
+    meter: &mut Meter<R>,
+) {
+    for _ in 0..u64::MAX {
+        let mut handled = 0u32;
+        for _ in 0..ROUNDS {
+            handled = handled.wrapping_add(round_of_one(source, target));
+        }
+        if !meter.lap(handled) {
+            return;
+        }
+    }
+}
+
 /// Each source posts a call by each of these records, and the target handles them.
 fn round(sources: &mut [CallSeat], records: &[u32], target: &mut CallSeat) -> u32 {
     for source in sources {
@@ -42,33 +65,35 @@ fn repeat<R: Clock + CpuClock + Eprint>(
     }
 }
 
-/// Seats the target and the sources up to below this number, and repeats rounds.
-fn measure<R: Clock + CpuClock + Eprint>(
+/// Seats the target and one source, and repeats rounds.
+fn measure_one<R: Clock + CpuClock + Eprint>(
     room: &mut CallRoom,
-    alloc: Global,
-    end: u32,
-    records: &[u32],
     meter: &mut Meter<R>,
 ) -> Result<(), LoadError> {
     let mut target = room.seat(TARGET)?;
-    let mut sources = room.seats(alloc, end)?;
+    let mut source = room.seat(1)?;
     meter.begin()?;
-    repeat(sources.as_mut_slice(), records, &mut target, meter);
+    repeat_one(&mut source, &mut target, meter);
     Ok(())
 }
 
-/// The user's records by which a source posts.
-const ONE: [u32; 1] = [10];
+/// Seats the target and four sources, and repeats rounds.
+fn measure_four<R: Clock + CpuClock + Eprint>(
+    room: &mut CallRoom,
+    alloc: Global,
+    meter: &mut Meter<R>,
+) -> Result<(), LoadError> {
+    let mut target = room.seat(TARGET)?;
+    let mut sources = room.seats(alloc, 5)?;
+    meter.begin()?;
+    repeat(sources.as_mut_slice(), &BOTH, &mut target, meter);
+    Ok(())
+}
+
+/// The user's record by which one source posts, and those by which each of four does.
+const ONE: u32 = 10;
 
 const BOTH: [u32; 2] = [10, 11];
-
-/// The sources of a workload are the CPUs from 1 up to below this number, and each has these records.
-fn sources_of(workload: Workload) -> (u32, &'static [u32]) {
-    match workload {
-        Workload::PostOne => (2, &ONE),
-        _ => (5, &BOTH),
-    }
-}
 
 /// Posts from each source of this workload, each by each of its records: how many calls have run.
 pub fn run<R: Clock + CpuClock + Eprint>(
@@ -76,9 +101,12 @@ pub fn run<R: Clock + CpuClock + Eprint>(
     workload: Workload,
     meter: &mut Meter<R>,
 ) -> Result<u64, LoadError> {
-    let (end, records) = sources_of(workload);
     let (table, mut boot) = CallTable::new(alloc, 6, "0-5".parse()?)?;
     let last = boot.cpu(5)?;
-    measure(&mut CallRoom::new(&table, boot), alloc, end, records, meter)?;
+    let mut room = CallRoom::new(&table, boot);
+    match workload {
+        Workload::PostOne => measure_one(&mut room, meter)?,
+        _ => measure_four(&mut room, alloc, meter)?,
+    }
     calls_run(table.audit(last))
 }
