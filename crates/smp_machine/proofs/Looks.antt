@@ -1,8 +1,8 @@
 -- A CPU looks at its own interrupt word only while its interrupts are on, in one stretch after another.
 use Rattle.std.proofs.Common.{arith, ◌≡◌, ◌≢◌, ◌⊎◌, inl, inr, ℕ, ◌+◌, ◌-◌, ◌==◌, ◌||◌, nat_lt, Bool, true, false, Option, Some, None}
-use Rattle.std.proofs.Common.{List, [], ◌∷◌, ◌++◌, length, length-append, append_assoc, replicate, refl, sym, ap, ◌∙◌, subst}
+use Rattle.std.proofs.Common.{List, [], ◌∷◌, ◌++◌, map, length, length-append, append_assoc, replicate, refl, sym, ap, ◌∙◌, subst}
 use Rattle.std.proofs.lemmas.Bool.Decides.{nat_tests}
-use Rattle.std.proofs.lemmas.List.{append-nil}
+use Rattle.std.proofs.lemmas.List.{append-nil, map-append}
 use Rattle.smp_queue.specs.Cpu.{CpuValue as CallCpuValue}
 use Rattle.smp_queue.specs.declared.handler.Heard.{Heard}
 use Rattle.smp_multi.specs.Names.{Kind, One, Multi, Patch}
@@ -14,7 +14,34 @@ use Rattle.smp_multi.specs.declared.turn.Turn.TheVariants.{Same, Moved, Ran, Lef
 use Rattle.smp_words.specs.declared.phase.TheConstants.{DISABLE_IRQ, RUN, EXIT}
 use Rattle.smp_machine.specs.Looks.{Look, AtWord, AtPhase, phases, heard_after, on_after, AreHeardOn, HearsOn}
 use Rattle.smp_machine.specs.MachineCpu.{MachineCpuValue, HasNotLeft, notes_looks, on_at, on_in, on_there}
-use Rattle.smp_machine.specs.Works.{LooksIfOn, RunsOne, TurnsStop, completed}
+use Rattle.smp_machine.specs.Works.{ListsLooks, LooksIfOn, RunsOne, TurnsStop, completed}
+
+-- ---- how looks at the interrupt word are listed
+
+-- no look
+pub lists_none : (old new : CallCpuValue) → new ≡ old → ListsLooks old new
+lists_none old new same = record {
+  found = [];
+  asked_is = ap (λ (c : CallCpuValue). c.part.asked) same ∙ sym (append-nil old.part.asked);
+  after_is = ap (λ (c : CallCpuValue). c.asked_after) same ∙ sym (append-nil old.asked_after);
+}
+
+-- one look
+pub lists_one : (old new : CallCpuValue) (found : Bool) → new.part.asked ≡ old.part.asked ++ found ∷ []
+    → new.asked_after ≡ old.asked_after ++ old.steps ∷ [] → ListsLooks old new
+lists_one old new found asked after = record { found = found ∷ []; asked_is = asked; after_is = after }
+
+-- some looks, and then others
+pub lists_then : (old mid new : CallCpuValue) → mid.steps ≡ old.steps → ListsLooks old mid → ListsLooks mid new → ListsLooks old new
+lists_then old mid new steps a b =
+    let first = map (λ (_ : Bool). old.steps) a.found in record {
+      found = a.found ++ b.found;
+      asked_is = b.asked_is ∙ (ap (λ (l : List Bool). l ++ b.found) a.asked_is ∙ append_assoc old.part.asked a.found b.found);
+      after_is = b.after_is ∙ (ap (λ (n : ℕ). mid.asked_after ++ map (λ (_ : Bool). n) b.found) steps
+          ∙ (ap (λ (l : List ℕ). l ++ map (λ (_ : Bool). old.steps) b.found) a.after_is
+          ∙ (append_assoc old.asked_after first (map (λ (_ : Bool). old.steps) b.found)
+          ∙ ap (λ (l : List ℕ). old.asked_after ++ l) (sym (map-append (λ (_ : Bool). old.steps) a.found b.found)))));
+    }
 
 -- ---- looks, and then others
 

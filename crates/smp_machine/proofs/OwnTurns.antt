@@ -23,7 +23,7 @@ use Rattle.smp_machine.specs.Own.{own_of}
 use Rattle.smp_machine.specs.OwnAnswers.{HasToRun, CarriesFor, OwnAnswers}
 use Rattle.smp_machine.specs.Passes.{PassesValue}
 use Rattle.smp_machine.specs.MachineCpu.{MachineCpuValue, HasNotLeft, on_there}
-use Rattle.smp_machine.specs.Works.{handled_calls, stop_call, Works, LooksIfOn, RunsOne, completed, TurnsStop}
+use Rattle.smp_machine.specs.Works.{handled_calls, ListsLooks, stop_call, Works, LooksIfOn, RunsOne, completed, TurnsStop}
 use Rattle.smp_machine.proofs.Looks.{hears_if_on, hears_then, hears_turn}
 use Rattle.smp_machine.proofs.OwnAnswers.{own_none, own_still, own_answered, own_low, own_link, carried_still, carries_active}
 use Rattle.smp_machine.proofs.Served.{beginning_still, later_called, serves_none}
@@ -153,6 +153,7 @@ works_turn hears leads {old} {mid} {new} {h} {h'} {f} {f'} {turn} l calls passes
     let number = ap (λ (x : StopCpuValue). x.number) k.kept in
     record {
       calls_kept = subst (λ (x : CallCpuValue). x ≡ handled_calls old.calls x) (sym calls) l.rest.calls_kept;
+      looks = subst (λ (x : CallCpuValue). ListsLooks old.calls x) (sym calls) l.rest.looks;
       handled = subst (λ (x : CallCpuValue). Handles hears old.calls h x h') (sym calls) l.rest.handled;
       heard = hears_then old mid new (hears_if_on hears old mid h h' l) (hears_turn leads mid new f f' turn s not_left irq heard calls);
       table_is = table;

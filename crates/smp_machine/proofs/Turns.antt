@@ -30,7 +30,7 @@ use Rattle.smp_machine.specs.MachineCpu.{MachineCpuValue, HasNotLeft, notes_look
 use Rattle.smp_machine.specs.Works.{handled_calls, stop_call, turned, HasRunStops, LooksOnce, LooksIfOn, StopMoves, GoesRound}
 use Rattle.smp_machine.specs.Served.{KeepsVisits}
 use Rattle.smp_machine.specs.Works.{completed, StaysIn, TurnsStop}
-use Rattle.smp_machine.proofs.Looks.{notes_none}
+use Rattle.smp_machine.proofs.Looks.{lists_none, lists_one, notes_none}
 use Rattle.smp_machine.proofs.Served.{keeps_still, keeps_inside, keeps_answer}
 
 module _ {H : Type 0} (hears : H → Heard → H → Type 0) where
@@ -46,6 +46,7 @@ module _ {H : Type 0} (hears : H → Heard → H → Type 0) where
           stops_are = refl;
           passes_are = refl;
           calls_kept = subst (λ (x : CallCpuValue). x ≡ handled_calls p.calls x) (sym t.1) refl;
+          looks = lists_one p.calls calls true (ap (λ (x : CallCpuValue). x.part.asked) t.1) (ap (λ (x : CallCpuValue). x.asked_after) t.1);
           handled = subst (λ (x : CallCpuValue). Handles hears p.calls h x i) (sym t.1) (handles_batch hears p.calls t.0 h i t.2);
           heard_are = noted;
         };
@@ -57,6 +58,7 @@ module _ {H : Type 0} (hears : H → Heard → H → Type 0) where
           stops_are = refl;
           passes_are = refl;
           calls_kept = subst (λ (x : CallCpuValue). x ≡ handled_calls p.calls x) (sym n.0) refl;
+          looks = lists_one p.calls calls false (ap (λ (x : CallCpuValue). x.part.asked) n.0) (ap (λ (x : CallCpuValue). x.asked_after) n.0);
           handled = subst (λ (x : CallCpuValue). Handles hears p.calls h x i) (sym n.0)
               (subst (λ (y : H). Handles hears p.calls h (asks false p.calls) y) (sym n.1) (handles_nothing hears p.calls h));
           heard_are = noted;
@@ -81,6 +83,7 @@ module _ {H : Type 0} (hears : H → Heard → H → Type 0) where
       stops_are = refl;
       passes_are = refl;
       calls_kept = refl;
+      looks = lists_none p.calls p.calls refl;
       handled = handles_none hears p.calls h;
       heard_are = notes_none p.calls p.stops p.heard_at;
     };

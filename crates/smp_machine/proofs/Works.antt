@@ -14,7 +14,7 @@ use Rattle.smp_machine.specs.MachineCpu.{MachineValue, MachineCpuValue, IsAt}
 use Rattle.smp_machine.specs.OwnAnswers.{OwnAnswers}
 use Rattle.smp_machine.specs.Served.{IsLater, Serves}
 use Rattle.smp_machine.specs.Works.{handled_calls, stop_call, HasRunStops, Works}
-use Rattle.smp_machine.proofs.Looks.{hears_none, hears_then}
+use Rattle.smp_machine.proofs.Looks.{lists_none, lists_then, hears_none, hears_then}
 use Rattle.smp_machine.proofs.OwnAnswers.{own_still, own_then}
 use Rattle.smp_machine.proofs.Served.{later_same, later_then, serves_still, serves_then}
 
@@ -39,6 +39,7 @@ module _ {H F : Type 0} (hears : H → Heard → H → Type 0) (leads : F → Ca
       → Serves old new → OwnAnswers old.stops new.stops → HearsOn old new → Works hears leads old h f new h f (own_of new)
   works_own old new h f calls later ran queues passes_number serves mine heard = record {
     calls_kept = subst (λ (x : CallCpuValue). x ≡ handled_calls old.calls x) (sym calls) refl;
+    looks = lists_none old.calls new.calls calls;
     handled = subst (λ (x : CallCpuValue). Handles hears old.calls h x h) (sym calls) (handles_none hears old.calls h);
     heard = heard;
     table_is = later.table_is;
@@ -73,6 +74,7 @@ module _ {H F : Type 0} (hears : H → Heard → H → Type 0) (leads : F → Ca
       → Works hears leads mid h₁ f₁ new h₂ f₂ own' → Works hears leads old h f new h₂ f₂ own'
   works_then {old} {mid} {new} {h} {h₁} {h₂} {f} {f₁} {f₂} a b = record {
     calls_kept = kept_then old.calls mid.calls new.calls a.calls_kept b.calls_kept;
+    looks = lists_then old.calls mid.calls new.calls (ap (λ (x : CallCpuValue). x.steps) a.calls_kept) a.looks b.looks;
     handled = handles_then hears old.calls mid.calls new.calls h h₁ h₂ a.handled b.handled;
     heard = hears_then old mid new a.heard b.heard;
     table_is = b.table_is ∙ a.table_is;

@@ -36,6 +36,12 @@ handled_part old new = record old {
 abbrev pub handled_calls : CallCpuValue → CallCpuValue → CallCpuValue
 handled_calls old new = record old { part = handled_part old.part new.part; asked_after = new.asked_after }
 
+-- each look at the interrupt word is listed with the steps that the CPU had made outside handling, which are as many now
+pub record ListsLooks (old new : CallCpuValue) : Type 0 where
+  pub found : List Bool
+  pub asked_is : new.part.asked ≡ old.part.asked ++ found
+  pub after_is : new.asked_after ≡ old.asked_after ++ map (λ _. old.steps) found
+
 -- a call of a stop function, as the CPU's part has it
 abbrev pub stop_call : Called → StopCall
 stop_call c = record { func = c.func; arg = c.arg; answer = answer_word c.answer }
@@ -50,6 +56,7 @@ HasRunStops leads number before ran after = FoldsTo (λ p call q. (call.cpu ≡ 
 pub record Works {H F : Type 0} (hears : H → Heard → H → Type 0) (leads : F → Called → F → Type 0) (old : MachineCpuValue) (h : H) (f : F)
     (new : MachineCpuValue) (h' : H) (f' : F) (own : Own) : Type 0 where
   pub calls_kept : new.calls ≡ handled_calls old.calls new.calls
+  pub looks : ListsLooks old.calls new.calls
   pub handled : Handles hears old.calls h new.calls h'
   pub heard : HearsOn old new
   pub table_is : new.stops.table ≡ old.stops.table
@@ -70,6 +77,7 @@ pub record Hears {H : Type 0} (hears : H → Heard → H → Type 0) (old : Mach
   pub stops_are : new.stops ≡ old.stops
   pub passes_are : new.passes ≡ old.passes
   pub calls_kept : new.calls ≡ handled_calls old.calls new.calls
+  pub looks : ListsLooks old.calls new.calls
   pub handled : Handles hears old.calls h new.calls h'
   pub heard_are : new.heard_at ≡ notes_looks old.calls new.calls old.stops old.heard_at
 
