@@ -90,6 +90,19 @@ fn measure_four<R: Clock + CpuClock + Eprint>(
     Ok(())
 }
 
+/// Seats the CPUs of a workload, and repeats its rounds.
+fn measure<R: Clock + CpuClock + Eprint>(
+    room: &mut CallRoom,
+    alloc: Global,
+    workload: Workload,
+    meter: &mut Meter<R>,
+) -> Result<(), LoadError> {
+    match workload {
+        Workload::PostOne => measure_one(room, meter),
+        _ => measure_four(room, alloc, meter),
+    }
+}
+
 /// The user's record by which one source posts, and those by which each of four does.
 const ONE: u32 = 10;
 
@@ -103,10 +116,6 @@ pub fn run<R: Clock + CpuClock + Eprint>(
 ) -> Result<u64, LoadError> {
     let (table, mut boot) = CallTable::new(alloc, 6, "0-5".parse()?)?;
     let last = boot.cpu(5)?;
-    let mut room = CallRoom::new(&table, boot);
-    match workload {
-        Workload::PostOne => measure_one(&mut room, meter)?,
-        _ => measure_four(&mut room, alloc, meter)?,
-    }
+    measure(&mut CallRoom::new(&table, boot), alloc, workload, meter)?;
     calls_run(table.audit(last))
 }
