@@ -80,8 +80,8 @@ verdict_same out ruling true off o text thin slow k t line cpu e why h p = p
 verdict_same out ruling false off o text thin slow k t line cpu e why h p =
     (rw (← broken_same o text thin slow k t line cpu _ e why h) p.0, p.1)
 
-printed_same : {A : Type 0} (out : List ℕ) (ruling : Ruling) (offline : Option ℕ) (o : OrderJudged) (text thin : List ℕ) (slow : ℕ) (k : KeptValue) (t : TellingValue)
-    (v : Verdict A) → ShowSame (lines_shown t.told v) text thin
+printed_same : {A : Type 0} (out : List ℕ) (ruling : Ruling) (offline : Option ℕ) (o : OrderJudged) (text thin : List ℕ)
+    (slow : ℕ) (k : KeptValue) (t : TellingValue) (v : Verdict A) → ShowSame (lines_shown t.told v) text thin
     → PrintsVerdict out ruling (asked_of o thin slow k t) (unless_hidden offline (made_of v))
     → PrintsVerdict out ruling (asked_of o text slow k t) (unless_hidden offline (made_of v))
 printed_same out ruling None o text thin slow k t (Lawful events state) h p = p

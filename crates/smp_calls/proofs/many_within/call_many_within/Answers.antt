@@ -34,6 +34,6 @@ returns g c =
     c.wait_within-silent.result.1 c.or.result c.args.polls (λ x. is_target mask c.args.table.now.online c.args.me.now.number false x) are low
     c.wait_within-free.ensures
     (subst (λ (to : List ℕ). CallsMany leads first.me first.handler mid.me mid.handler to Sync c.args.func c.args.info None false) all
-    c.queue_all.ensures.calls) c.queue_all.ensures.turns.apart (subst (λ (to : List ℕ). IsLast first.me mid.me to) all c.queue_all.ensures.last) c.queue_all.ensures.at_once
-    c.wait_within-silent.ensures c.or.ensures
-    c.is_shown.ensures
+    c.queue_all.ensures.calls) c.queue_all.ensures.turns.apart
+    (subst (λ (to : List ℕ). IsLast first.me mid.me to) all c.queue_all.ensures.last) c.queue_all.ensures.at_once
+    c.wait_within-silent.ensures c.or.ensures c.is_shown.ensures

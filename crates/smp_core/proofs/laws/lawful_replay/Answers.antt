@@ -44,7 +44,8 @@ returns-clause-order g c =
 pub returns-clause-drained : goal.returns-clause-drained
 returns-clause-drained g c =
     ok_then c.replay.result (λ r. (a : CallState) → Shown a c.in_ok-core.core → Shown (tells_all a r.seen.items) r.core)
-    (λ r. RunEqualQueued (calls_after r.seen.items) (number_in r.core.words)) (λ r told. run_equal_queued (shown_laws (told no_calls c.in_ok-core.ensures.empty)))
+    (λ r. RunEqualQueued (calls_after r.seen.items) (number_in r.core.words))
+    (λ r told. run_equal_queued (shown_laws (told no_calls c.in_ok-core.ensures.empty)))
     c.replay.ensures.told
 
 pub returns-clause-function : goal.returns-clause-function
