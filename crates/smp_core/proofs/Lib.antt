@@ -14,5 +14,4 @@ pub mod Headline
 pub mod OfflineEvents
 pub mod Replays
 -- how a core is kept, and what it takes
-pub mod Parts
 pub mod Weights

@@ -1,7 +1,6 @@
 //! Where a CPU is inside a command of the stop half.
 
 ghost use Rattle.std.specs.Prelude.{◌≡◌, ◌≤◌, ◌↔◌, true};
-ghost use Rattle.smp_stop_steps.specs.Kept.{own_visit};
 ghost use Rattle.smp_stop_steps.specs.Stages.{completes_from, visit_acked};
 
 use smp_labels::Change;
@@ -118,17 +117,6 @@ pub enum StopStage {
 }
 
 impl StopStage {
-    /// The stop in which this step is made, where the stage has all that is known of it.
-    pub fn visit(&self) -> Option<Visit>
-        ensures { result ≡ own_visit self.now }
-    {
-        match *self {
-            StopStage::Advance(visit, _) => Some(visit),
-            StopStage::Complete(visit, _) => Some(visit),
-            _ => None,
-        }
-    }
-
     /// Whether the two are the same. Each arm compares a variant that is known: so a proof looks at 16 pairs for each, and
     /// not at all of them at once.
     pub fn is_same(self, other: StopStage) -> bool
