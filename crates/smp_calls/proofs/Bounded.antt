@@ -64,10 +64,6 @@ cond_false : (b x : Bool) → x ≡ false → cond b false x ≡ false
 cond_false true x e = refl
 cond_false false x e = e
 
-or_one : (a b : Bool) → (a || b) ≡ true → (b ≡ true → ⊥) → a ≡ true
-or_one true b e n = refl
-or_one false b e n = absurd (n e)
-
 and_not : (a b : Bool) → (a && not b) ≡ true → b ≡ false
 and_not true true e = cc
 and_not true false e = refl

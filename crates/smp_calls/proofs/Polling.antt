@@ -81,15 +81,6 @@ others_record : (c cpu k : ℕ) → k ≡ many_record cpu → (c ≡ cpu → ⊥
 others_record c cpu k is_k other e = other (are_apart.many c cpu (e ∙ is_k))
 
 module _ {H : Type 0} (leads : H → Heard → H → Type 0) where
-  pub polling_first : (k : ℕ) (c : CpuValue) (h : H) → Polling leads k c h c h 0
-  polling_first k c h = record {
-    leaves = leaves_none leads c h;
-    turns = refl;
-    apart = takes_none c c refl (omega arith);
-    polled = omega arith;
-    not_yet = λ confirmed. refl;
-  }
-
   -- after a look that found it locked, and one poll
   pub polling_more : (k : ℕ) (old now mid next : CpuValue) (before here last : H) (made : ℕ) → k < records_of_one
       → Polling leads k old before now here made → (confirmed_at now k ≡ true → ⊥) → mid ≡ looks now
@@ -121,40 +112,12 @@ module _ {H : Type 0} (leads : H → Heard → H → Type 0) where
       leaves_as leads (owes_at old) (confirmed_at old) (leaves_then leads p.leaves one)
       (λ c. ap (λ (x : CpuValue). owes_at x c) e ∙ p.leaves.owes_are c) (λ j b. ap (λ (x : CpuValue). confirmed_at x j) e ∙ p.leaves.confirmed_are j b)
 
-  pub polling_turns : (old now new : CpuValue) (before here : H) (made k : ℕ) (done : Bool) → Polling leads k old before now here made
-      → new ≡ looks (cond done (confirms k now) now) → new.steps + length old.part.asked ≡ old.steps + (1 + length new.part.asked)
-  polling_turns old now new before here made k true p e =
-      let steps : new.steps ≡ now.steps + 1 = ap (λ (c : CpuValue). c.steps) e in
-      let asked : length new.part.asked ≡ length now.part.asked = ap (λ (c : CpuValue). length c.part.asked) e in
-      let t = p.turns in
-      omega arith
-  polling_turns old now new before here made k false p e =
-      let steps : new.steps ≡ now.steps + 1 = ap (λ (c : CpuValue). c.steps) e in
-      let asked : length new.part.asked ≡ length now.part.asked = ap (λ (c : CpuValue). length c.part.asked) e in
-      let t = p.turns in
-      omega arith
-
   pub polling_apart : (old now new : CpuValue) (before here : H) (made k : ℕ) (done : Bool) → Polling leads k old before now here made
       → new ≡ looks (cond done (confirms k now) now) → TakesApart old new
   polling_apart old now new before here made k true p e = let steps : new.steps ≡ now.steps + 1 = ap (λ (c : CpuValue). c.steps) e in
       takes_then old now new p.apart (takes_none now new (ap (λ (c : CpuValue). c.asked_after) e) (omega arith))
   polling_apart old now new before here made k false p e = let steps : new.steps ≡ now.steps + 1 = ap (λ (c : CpuValue). c.steps) e in
       takes_then old now new p.apart (takes_none now new (ap (λ (c : CpuValue). c.asked_after) e) (omega arith))
-
-  pub polling_polled : (old now new : CpuValue) (before here : H) (made k polls rest : ℕ) (done : Bool) → Polling leads k old before now here made
-      → new ≡ looks (cond done (confirms k now) now) → made + rest ≡ polls → length new.part.asked + rest ≡ length old.part.asked + polls
-  polling_polled old now new before here made k polls rest true p e sum =
-      let asked : length new.part.asked ≡ length now.part.asked = ap (λ (c : CpuValue). length c.part.asked) e in
-      let q = p.polled in
-      omega arith
-  polling_polled old now new before here made k polls rest false p e sum =
-      let asked : length new.part.asked ≡ length now.part.asked = ap (λ (c : CpuValue). length c.part.asked) e in
-      let q = p.polled in
-      omega arith
-
-  pub polling_locked : (old now : CpuValue) (before here : H) (made k : ℕ) → k < records_of_one → Polling leads k old before now here made
-      → (confirmed_at now k ≡ true → ⊥) → confirmed_at old k ≡ false
-  polling_locked old now before here made k l p locked = sym (p.leaves.confirmed_are k l) ∙ none_true (confirmed_at now k) locked
 
   -- where the record was seen confirmed before, the last look is the first
   pub polling_at_once : (old now new : CpuValue) (before here : H) (made k : ℕ) (done : Bool) → Polling leads k old before now here made

@@ -45,18 +45,3 @@ pub record AreAlike (a b : Table) : Type 0 where
   pub keys : (k : ℕ) → k < MOST_KEYS → b.key k ≡ a.key k
   pub entries : (i : ℕ) → i < MOST_SITES → b.entry i ≡ a.entry i
   pub sites : (i : ℕ) → i < MOST_SITES → b.site i ≡ a.site i
-
--- then both are lawful, or neither
-pub lawful_alike : (a b : Table) → AreAlike a b → IsLawful a → IsLawful b
-lawful_alike a b alike lawful = record {
-  keys = λ k within. rw (alike.keys k within) (lawful.keys k within);
-  entries = λ i within. rw (alike.entries i within) (lawful.entries i within);
-  packed = λ i j before within ended. alike.entries j within ∙ lawful.packed i j before within (sym (alike.entries i (omega arith)) ∙ ended);
-  sites = λ i within. alike.sites i within
-      ∙ (lawful.sites i within ∙ (same (entry_at (a.entry i)) (lawful.entries i within)
-      ∙ ap (λ word. site_word b.key (entry_at word)) (sym (alike.entries i within))));
-}
-  where
-    same : (e : Option Entry) → IfSome e (λ e. e.key < MOST_KEYS) → site_word a.key e ≡ site_word b.key e
-    same None known = refl
-    same (Some e) known = ap (λ word. kind_word (kind_of (is_on word) e.branch)) (sym (alike.keys e.key known))

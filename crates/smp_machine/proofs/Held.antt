@@ -45,14 +45,6 @@ pub match_both : (r : Result (Unit {0}) Item) (P : Type 0) (Q : Item → Type 0)
 match_both (Ok u) P Q R f k h = f h
 match_both (Err y) P Q R f k h = k y h
 
-pub option_maps : (r : Option Item) (P P' : Type 0) (Q Q' : Item → Type 0) → (P → P') → ((y : Item) → Q y → Q' y) → MatchOption r P Q → MatchOption r P' Q'
-option_maps None P P' Q Q' f k h = f h
-option_maps (Some y) P P' Q Q' f k h = k y h
-
-pub option_both : (r : Option Item) (P : Type 0) (Q : Item → Type 0) (R : Type 0) → (P → R) → ((y : Item) → Q y → R) → MatchOption r P Q → R
-option_both None P Q R f k h = f h
-option_both (Some y) P Q R f k h = k y h
-
 pub puts_are : (n : ℕ) (v : Knows) → IsPuts n v → v ≡ Puts n (items_of v) (notes_of v)
 puts_are n (Takes m l) h = absurd h
 puts_are n (Puts s l notes) h = λ i. Puts (h i) l notes
@@ -69,10 +61,6 @@ puts_still : (note : PutNote) (n : ℕ) (v : Knows) (x : Item) → IsPuts n v �
 puts_still note n (Takes m l) x h = h
 puts_still note n (Puts s l notes) x h = h
 
-takes_still : (v : Knows) (x : Item) → IsTakes v → IsTakes (takes_more v x)
-takes_still (Takes n l) x h = h
-takes_still (Puts s l notes) x h = h
-
 items_put : (note : PutNote) (n : ℕ) (v : Knows) (x : Item) → IsPuts n v → items_of (puts_more note v x) ≡ items_of v ++ x ∷ []
 items_put note n (Takes m l) x h = absurd h
 items_put note n (Puts s l notes) x h = refl
@@ -81,19 +69,10 @@ notes_put : (note : PutNote) (n : ℕ) (v : Knows) (x : Item) → IsPuts n v →
 notes_put note n (Takes m l) x h = absurd h
 notes_put note n (Puts s l notes) x h = refl
 
-items_taken : (v : Knows) (x : Item) → IsTakes v → items_of (takes_more v x) ≡ items_of v ++ x ∷ []
-items_taken (Takes n l) x h = refl
-items_taken (Puts s l notes) x h = absurd h
-
 pub still_puts : (note : PutNote) (r : Result (Unit {0}) Item) (n : ℕ) (v w : Knows) (x : Item) (A : Item → Type 0) (K : Type 0) → IsPuts n v
     → MatchResult r (λ _. (w ≡ puts_more note v x) × IsKnown w) (λ y. A y × (w ≡ v) × K) → IsPuts n w
 still_puts note r n v w x A K h =
     match_both r _ _ (IsPuts n w) (λ t. subst (IsPuts n) (sym t.0) (puts_still note n v x h)) (λ y t. subst (IsPuts n) (sym t.1) h)
-
-pub still_takes : (r : Option Item) (v w : Knows) (K : Type 0) → IsTakes v
-    → MatchOption r ((w ≡ v) × K) (λ x. (w ≡ takes_more v x) × IsKnown w) → IsTakes w
-still_takes r v w K h =
-    option_both r _ _ (IsTakes w) (λ t. subst IsTakes (sym t.0) h) (λ x t. subst IsTakes (sym t.0) (takes_still v x h))
 
 ids_kept : (to : List (Pass Item Knows)) (i : ℕ) (p q : Pass Item Knows) → p ≡ slice_index_or to i p → q.table_id ≡ p.table_id
     → ids_of (slice_set to i q) ≡ ids_of to
@@ -117,16 +96,6 @@ module _ (number : ℕ) (to : List (Pass Item Knows)) (own : Pass Item Knows) (h
     own_empty = h.own_empty;
     own_takes = h.own_takes;
     own_queue = h.own_queue ∙ ap (λ (ids : List TableId). slice_index_or ids number own.table_id) (sym (ids_kept to i p q at same));
-  }
-
-  pub held_taken : (q : Pass Item Knows) → q.table_id ≡ own.table_id → q.me.1 ≡ [] → IsTakes (view q) → AreHeld number to q
-  held_taken q same empty is = record {
-    below = h.below;
-    sized = h.sized;
-    sources = h.sources;
-    own_empty = empty;
-    own_takes = is;
-    own_queue = subst (λ (id : TableId). id ≡ slice_index_or (ids_of to) number id) (sym same) h.own_queue;
   }
 
   -- what the CPU has put, once this pass has changed

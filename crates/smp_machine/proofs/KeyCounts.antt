@@ -393,12 +393,6 @@ module _ {H F : Type 0} (hears : H → Heard → H → Type 0) (runs : F → Cal
       r p m new h h h' f f f'
       (works_loads (turn_at up) p m h f l e) c
 
-  pub counts_or : (r : Result Bool SmpError) (p new : MachineCpuValue) (h h' : H) (f f' : F) → MayChange t p k → Counts hears runs t k up p h f new h' f' r
-      → CountsOr hears runs t k up p h f new h' f' r
-  counts_or (Ok b) p new h h' f f' may c = (may, c)
-  counts_or (Err (error.KeyRange x)) p new h h' f f' may c = (may, c)
-  counts_or (Err _) p new h h' f f' may c = absurd c
-
 pub edge_is : (up : Bool) → edge_of (step_of up) ≡ end_of up
 edge_is true = refl
 edge_is false = refl

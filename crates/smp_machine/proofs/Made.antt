@@ -34,9 +34,6 @@ at_end [] x (suc i) p l e = absurd (omega arith)
 at_end (y ∷ ys) x zero p l e = inl (omega arith, e)
 at_end (y ∷ ys) x (suc i) p l e = ⊎_elim (λ t. let a = t.0 in inl (omega arith, t.1)) (λ t. inr (ap suc t.0, t.1)) (at_end ys x i p (omega arith) e)
 
-pub takers_none : (ids : List TableId) → ids ≡ [] → AreTakers ids (λ _. 0) []
-takers_none ids e = record { ids_are = sym e; each = λ i p l at. absurd (omega arith) }
-
 pub takers_more : (ids : List TableId) (takers : List (Pass Item Knows)) (p : Pass Item Knows) (id : TableId) → AreTakers ids (λ _. 0) takers
     → p.table_id ≡ id → p.me.1 ≡ []
     → view p ≡ Takes 0 [] → AreTakers (ids ++ id ∷ []) (λ _. 0) (takers ++ p ∷ [])
@@ -83,9 +80,6 @@ pub takers_as : (ids : List TableId) (takers : List (Pass Item Knows)) (f g : �
 takers_as ids takers f g e h =
     record { ids_are = h.ids_are; each = λ i p l at. subst (λ (n : ℕ). IsTaker n p) (e i l) (h.each i p l at) }
 
-pub takers_before : (ids : List TableId) (takers : List (Pass Item Knows)) (s : ℕ) → AreTakers ids (λ _. s) takers → AreTakers ids (given_below 0 s) takers
-takers_before ids takers s h = takers_as ids takers (λ _. s) (given_below 0 s) (λ i l. sym (above_is 0 s i (omega arith))) h
-
 pub takers_after : (ids : List TableId) (takers : List (Pass Item Knows)) (c s : ℕ) → length takers ≤ c → AreTakers ids (given_below c s) takers
     → AreTakers ids (λ _. s + 1) takers
 takers_after ids takers c s all h = takers_as ids takers (given_below c s) (λ _. s + 1) (λ i l. below_is c s i (omega arith)) h
@@ -98,9 +92,6 @@ take_next {A} (y ∷ ys) (suc c) x l e = ap (λ (l : List A). y ∷ l) (take_nex
 take_more : {A : Type 0} (ids : List A) (c : ℕ) (x : A) → c < length ids → x ≡ slice_index_or ids c x → take (c + 1) ids ≡ take c ids ++ x ∷ []
 take_more ids c x l e =
     let is : c + 1 ≡ suc c = omega arith in ap (λ (n : ℕ). take n ids) is ∙ take_next ids c x l e
-
-pub sources_none : (s : ℕ) → AreSources [] s []
-sources_none s = record { ids_are = refl; each = λ i p l at. absurd (omega arith) }
 
 pub sources_more : (ids : List TableId) (c s : ℕ) (to : List (Pass Item Knows)) (p : Pass Item Knows) → AreSources (take c ids) s to → c < length ids
     → p.table_id ≡ slice_index_or ids c p.table_id → p.me.1 ≡ [] → view p ≡ Puts s [] [] → AreSources (take (c + 1) ids) s (to ++ p ∷ [])
@@ -121,9 +112,6 @@ takers_pushed queues queues' queue takers takers' p e f is knows h =
     ap queue_ids e ∙ map-append (λ q. q.table.shared.table_id) queues (queue ∷ []) in
     subst (λ (t : List TableId × List (Pass Item Knows)). AreTakers t.0 (λ _. 0) t.1) (λ i. (sym longer i, sym f i))
     (takers_more (queue_ids queues) takers p queue.table.shared.table_id h is.0 is.1 knows)
-
-pub given_none : (ids : List TableId) → AreGiven ids 0 []
-given_none ids i to l at = absurd (omega arith)
 
 -- one source more has its passes
 pub given_more : (ids : List TableId) (given : List (List (Pass Item Knows))) (s : ℕ) (to : List (Pass Item Knows)) → length given ≡ s → AreGiven ids 0 given
@@ -242,9 +230,3 @@ fresh_rest ids first passes h i p l at =
     let t = h (suc i) p (first_less passes i l) (at ∙ after_first passes i p) in
     let same : first + suc i ≡ first + 1 + i = omega arith in
     t ∙ ap (fresh_passes ids) same
-
-pub fresh_first : (ids : List TableId) (first : ℕ) (passes : List PassesValue) (p : PassesValue) → AreFresh ids first passes → 0 < length passes
-    → p ≡ slice_index_or passes 0 p → p ≡ fresh_passes ids first
-fresh_first ids first passes p h l at =
-    let same : first + 0 ≡ first = omega arith in
-    h 0 p l at ∙ ap (fresh_passes ids) same

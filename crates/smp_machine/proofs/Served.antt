@@ -315,10 +315,6 @@ drops t source old new limits setting outside (inl (inr none, same)) = inr (
 )
 drops t source old new limits setting outside (inr looked) = inl looked
 
--- the limits of a machine are those of its stops
-pub stop_limits : (m : MachineValue) → IsMachine m → AreLimits m.stops.nr m.stops.setting.online
-stop_limits m is = subst (λ (n : ℕ). AreLimits n m.stops.setting.online) (sym is.nr) (subst (λ (o : ℕ). AreLimits m.calls.nr o) (sym is.online) is.limits)
-
 -- ---- the front of the own queue, entered or dropped
 
 pub next_front : (m : MachineValue) (calls : CallCpuValue) (heard : List ℕ) (old new : StopCpuValue) (before after : PassesValue) (x : Item) (slot : Option ℕ)

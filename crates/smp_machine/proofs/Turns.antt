@@ -175,18 +175,6 @@ module _ {F : Type 0} (leads : F → Called → F → Type 0) where
       → StopMoves leads old f new f'
   lit_still old x new f f' kept keeps calls same is = lit_moves old x new f f' [] kept keeps (calls ∙ sym (append-nil old.part.calls)) (sym same) is
 
-  -- nothing was done, where no work is in hand
-  pub turns_none : (c : StopCpuValue) (f : F) → c.inside ≡ None → TurnsStop leads c f c f Same
-  turns_none c f outside = record {
-    moves = lit_still c c c f f refl (keeps_still c c refl refl) refl refl refl;
-    none = λ _. (refl, refl, refl);
-    one = λ at. absurd (some_none at.is outside);
-    round = λ at. absurd (some_none at.is outside);
-    left = λ e. absurd (same_left e);
-    stays = λ _ stop is. absurd (some_none is outside);
-    read = λ e. absurd (same_left e);
-  }
-
   -- a stop of one CPU was run
   pub turns_one : (old new : StopCpuValue) (f f' : F) (v : ℤ) → RunAnswers leads old new f f' (Ok v) → TurnsStop leads old f new f' Left
   turns_one old new f f' v a =
@@ -287,12 +275,3 @@ module _ {F : Type 0} (leads : F → Called → F → Type 0) where
   turns_after old mid new f f₁ f' turn e k g =
       subst (λ (y : StopCpuValue). TurnsStop leads y f new f' turn) e
       (subst (λ (z : F). TurnsStop leads mid z new f' turn) k (turns_round mid new f₁ f' turn g))
-
-  -- between two turns no CPU has left its stop
-  pub turn_not_left : (old new : StopCpuValue) (f f' : F) (turn : Turn) → TurnsStop leads old f new f' turn → (o : Option Inside) → old.inside ≡ o
-      → o ≢ None → HasNotLeft new.inside
-  turn_not_left old new f f' Left t o is inside = subst HasNotLeft (sym (t.left refl).1) tt
-  turn_not_left old new f f' turn t None is inside = absurd (inside refl)
-  turn_not_left old new f f' Same t (Some stop) is inside = stayed old new stop (t.stays (λ e. same_left e)) is
-  turn_not_left old new f f' (Moved p) t (Some stop) is inside = stayed old new stop (t.stays (λ e. moved_left e)) is
-  turn_not_left old new f f' Ran t (Some stop) is inside = stayed old new stop (t.stays (λ e. ran_left e)) is

@@ -71,11 +71,3 @@ item_member n (suc k) i d h = elim (cases_Bool (has n k)) [
 -- a loop over a mask comes by its members, in order
 pub road : (m : ℕ) → YieldsList TakesLeast (λ cpu. cpu) m (members m)
 road m = YieldsList-from_shown TakesLeast (λ cpu. cpu) members (λ s t h. ap length h.0.0) (λ s x t h. h.0) m
-
--- at one of its turns it has a member
-pub turn_member : (m : ℕ) (xs : List ℕ) (t : ℕ) → Yields TakesLeast m xs t → (r : Option ℕ) (u x : ℕ) → r ≡ Some x → TakesLeast t r u
-    → (x < NR_CPUS) × (has m x ≡ true)
-turn_member m xs t y r u x is step =
-    let at = YieldsList-turn (road m) xs t y r u x is step in
-    let item = item_member m NR_CPUS (length xs) x at.0 in
-    (subst (λ z. z < NR_CPUS) (sym at.1) item.0, subst (λ z. has m z ≡ true) (sym at.1) item.1)

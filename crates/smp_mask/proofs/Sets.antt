@@ -98,11 +98,6 @@ has_after n k c low h =
       bit_at_above n 32 c low,
     ))
 
--- what passes the same tests has the same least
-pub least_like : (found : Option ℕ) (f g : ℕ → Bool) → FindsLeast found f → ((c : ℕ) → f c ≡ g c) → FindsLeast found g
-least_like None f g h same = λ c. sym (same c) ∙ h c
-least_like (Some n) f g h same = record { passing = subst IsTrue (same n) h.passing; least = λ c p. h.least c (subst IsTrue (sym (same c)) p) }
-
 pub first_below : (w n : ℕ) → w ≤ 32 → n < 2 ^ w → 0 < n → trailing_zeros w32 n < w
 first_below w n within low some =
     let top : 2 ^ w ≤ 2 ^ 32 = pow-le-pow_right (omega arith) within in

@@ -25,11 +25,6 @@ quiet_answer v x Idle q = sym q
 quiet_answer v x (Calls call) q = absurd q
 quiet_answer v x (Carries answer) q = refl
 
-quiet_carries : (v : Visit) (x : ℕ) (f : Calling) → CallsNone (Some v) x f → x ≢ 0 → f ≢ Idle
-quiet_carries v x Idle q some e = some q
-quiet_carries v x (Calls call) q some e = q
-quiet_carries v x (Carries answer) q some e = absurd (let bad : Carries answer ≡ Idle = e in cc)
-
 is_several : (k : Kind) → k ≢ One → is_one k ≡ false
 is_several One ne = absurd (ne refl)
 is_several Multi ne = refl
@@ -61,12 +56,6 @@ module _ (t : TableId) (d : SeatValue) (number : ℕ) (v : Visit) (holds is_open
     seat_is = is ∙ sym (ap (λ (x : StopRole). In v.slot (work_in x) EXIT EXIT Rests) is);
     through = inl refl;
   }
-
-  pub end_several : (work_in d.known.seat).kind ≢ One
-  end_several one = kind (sym (ap (λ (x : StopRole). (work_in x).kind) is) ∙ one)
-
-  pub end_carries : d.known.carried ≢ 0 → d.known.part.calling ≢ Idle
-  end_carries = quiet_carries v d.known.carried d.known.part.calling k.quiet
 
   -- who carries no answer is not active
   inactive : d.known.part.calling ≡ Idle → has w.active me ≡ false

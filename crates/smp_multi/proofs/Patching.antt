@@ -52,18 +52,6 @@ use Rattle.smp_multi.proofs.Counting.{patched_on, steps_on}
 
 -- what a CPU in a patch stop finds at a moment
 
--- the key of the patch is one of the table
-pub patch_key : (v : KnownStops) (s : ℕ) (w : Work) (a l : ℕ) (t : Duty) (f : Field) (n : ℕ) → v.seat ≡ In s w a l t → w.kind ≡ Patch
-    → StopMoment v (Slot s f) n
-    → w.func < MOST_KEYS
-patch_key v s w a l t f n is kind m =
-    let st : RoleStands m.stops.now v.number (In s w a l t) = subst (RoleStands m.stops.now v.number) (m.sees.seat_is ∙ is) (m.shown.present.stands v.number) in
-    let opened = is_open_inside cpus (m.stops.now.stop s) (λ g. m.at (Slot s g)) (m.shown.present.slots s) v.number (Inside a l) st.1 refl in
-    let patch = m.shown.present.works s opened (ap (λ (x : Work). x.kind) st.3 ∙ kind) in
-    let key : (m.stops.now.stop s).work.func < (setup_in v.setting).keys = patch.key in
-    let same : (m.stops.now.stop s).work.func ≡ w.func = ap (λ (x : Work). x.func) st.3 in
-    let few = m.shown.setup.few_keys in omega arith
-
 -- an entry word has its form, whoever patches
 entry_form : (x : Patching) (t : Table) → LabelsShow x t → (i : ℕ) → i < MOST_SITES → IsEntryWord (t.entry i)
 entry_form Whole t h i low = h.entries i low
@@ -324,18 +312,6 @@ module _ (t : TableId) (d : SeatValue) (v : Visit) (a : AtPatch t d v) (fresh : 
       (ap (λ l. with_made l (drop (i + 1) plan) (moved_with job count l d.known.part.patched)) more ∙ sym (stored_is (i + 1)))
       ∙ steps_on i 1 (stored_to (i + 1) d.known.seat d.known))))
 
-  -- all of them
-  pub stored_whole : (e : SeatValue) (i : ℕ) → i ≡ length plan → e.known ≡ stepped i (stored_to i d.known.seat d.known)
-      → e.known ≡ stepped (length plan) (stored_all d.known.seat d.known)
-  stored_whole e i end same =
-      let all : take i plan ≡ plan = take_all i plan (omega arith) in
-      let none : drop i plan ≡ [] = drop_all i plan (omega arith) in
-      same ∙ (ap (λ n. stepped n (stored_to i d.known.seat d.known)) end ∙ ap (stepped (length plan)) (stored_is i
-      ∙ (ap (λ l. with_made l (drop i plan) (moved_with job count l d.known.part.patched)) all
-      ∙ (ap (λ l. with_made plan l (moved_with job count plan d.known.part.patched)) none
-      ∙ (ap (with_made plan []) (ap (λ l. moved_with job count l d.known.part.patched) (sym plan_is) ∙ moved_all job count entries d.known.part.patched)
-      ∙ sym (ap (λ (y : StopRole). stored_all y d.known) seat_is))))))
-
   pub at_whole : (e : SeatValue) (n : ℕ) → e.table ≡ t → e.known ≡ stepped n (stored_all d.known.seat d.known) → AtPatch t e v × (rest_in e.known.seat ≡ [])
   at_whole e n table same =
       let is : e.known ≡ stepped n (with_made plan [] (patched_with job count d.known.part.patched)) = same
@@ -380,28 +356,6 @@ able_acknowledge_patch t d v answer a none is =
         fits = tt;
       };
       ends = is;
-    }
-
--- where the CPU is once it has acknowledged RUN
-pub patch_acked : (t : TableId) (d e : SeatValue) (v x : Visit) (found answer n : ℕ) → AtPatch t d v → e.table ≡ t
-    → e.known ≡ stepped n (acked_by found d.known.seat (carrying answer d.known)) →
-    (x.slot ≡ v.slot) × (x.kind ≡ v.kind) × (x.mask ≡ v.mask) × (x.active ≡ v.active) × (x.acked ≡ v.acked + 1)
-    → AtTurn t e x x.acked (cond (found == 1) Fills Rests)
-patch_acked t d e v x found answer n a table same moved =
-    let w = work_in d.known.seat in
-    let duty = cond (found == 1) Fills Rests in
-    let run : RUN ≡ x.acked = (let two = a.disabled in let up = moved.4 in omega arith) in
-    let is : e.known ≡ stepped n (acked_by found (Alters v.slot w (count_in d.known.seat) (made_in d.known.seat) (rest_in d.known.seat))
-    (carrying answer d.known)) = same ∙ ap (λ y. stepped n (acked_by found y (carrying answer d.known))) a.seat_is in
-    let seat : e.known.seat ≡ In x.slot w x.acked x.acked duty = ap (λ (k : KnownStops). k.seat) is ∙ (λ i. In (sym moved.0 i) w (run i) (run i) duty) in
-    let work : w ≡ work_in e.known.seat = sym (ap work_in seat) in
-    record {
-      table_is = table;
-      sized = a.sized;
-      low = subst (λ n. n < cpus) (sym moved.0) a.low;
-      idle = ap (λ (k : KnownStops). is_drafting k.source) is ∙ a.idle;
-      loaded = subst (IsLoaded x) work record { kind = moved.1 ∙ a.loaded.kind; mask = moved.2 ∙ a.loaded.mask; active = moved.3 ∙ a.loaded.active };
-      seat_is = seat ∙ (λ i. In x.slot (work i) x.acked x.acked duty);
     }
 
 -- all steps of a patch, from the load of its key on

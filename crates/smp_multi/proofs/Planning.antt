@@ -75,13 +75,6 @@ pub finds_end : (n i : ℕ) → i ≤ n → n ≤ i → i < MOST_SITES → i + 1
 finds_end n i few many low = let same : i ≡ n = omega arith in
     ap (λ m. m + 1) same ∙ sym (ap (λ b. cond b (n + 1) MOST_SITES) (lt-ltb n MOST_SITES (omega arith)))
 
-pub finds_most : (n i : ℕ) → i ≤ n → n ≤ MOST_SITES → MOST_SITES ≤ i → i ≡ finding n
-finds_most n i few most all = go (nat_lt n MOST_SITES) refl
-  where
-    go : (b : Bool) → nat_lt n MOST_SITES ≡ b → i ≡ cond b (n + 1) MOST_SITES
-    go true e = let low = ltb-true n MOST_SITES e in absurd (omega arith)
-    go false e = omega arith
-
 -- for a key that turns on or off, and for one that does not
 pub loads_all : (old new n : ℕ) → old ≢ new → is_on new ≢ is_on old → loading old new n ≡ finding n
 loads_all old new n ne turns = ap (λ a. cond a 0 (cond (xor (is_on old) (is_on new)) (finding n) 0)) (ne_eqb old new ne) ∙ go (is_on old) (is_on new) turns
@@ -91,16 +84,3 @@ loads_all old new n ne turns = ap (λ a. cond a 0 (cond (xor (is_on old) (is_on 
     go true false x = refl
     go false true x = refl
     go false false x = absurd (x refl)
-
-pub loads_none : (old new n : ℕ) → is_on new ≡ is_on old → loading old new n ≡ 0
-loads_none old new n same = go (old == new) (is_on old) (is_on new) same
-  where
-    go : (c a b : Bool) → b ≡ a → cond c 0 (cond (xor a b) (finding n) 0) ≡ 0
-    go true a b e = refl
-    go false true true e = refl
-    go false true false e = cc
-    go false false true e = cc
-    go false false false e = refl
-
-pub loads_same : (old new n : ℕ) → old ≡ new → loading old new n ≡ 0
-loads_same old new n same = ap (λ a. cond a 0 (cond (xor (is_on old) (is_on new)) (finding n) 0)) (eq-eqb old new same)

@@ -89,10 +89,6 @@ module _ (t : TableId) (d : SeatValue) (slot : ℕ) where
     apart = tt;
   }
 
-  -- it is through all phases, since there are none
-  pub one_end : AtOne t d slot → AtEnd t d slot 0
-  one_end a = record { table_is = a.table_is; sized = a.sized; low = a.low; idle = a.idle; seat_is = a.seat_is; through = inr a.one }
-
 -- the work of a stop that a CPU is in is one that begin takes: its function has 16 bits
 pub small_func : (v : KnownStops) (slot : ℕ) (w : Work) (acked looked : ℕ) (duty : Duty) (f : Field) (n : ℕ) → v.seat ≡ In slot w acked looked duty
     → StopMoment v (Slot slot f) n → w.func < 2 ^ 16

@@ -44,16 +44,6 @@ seats_more table maker_table maker_table' maker maker' k n waiting waiting' x s 
 -- the seat of the next CPU, where it is online
 module _ (b : Bool) (table : TableId) (k : StopSetting) (n : ℕ) (on : b ≡ has k.online n) (seat : Option SeatValue)
     (is : seat ≡ cond b (Some (fresh_seat table k n)) None) where
-  pub seat_lives : (has k.online n ≡ true → Lives (fresh k n))
-      → IfSome seat (λ s. (s.known ≡ fresh s.known.setting n) × (has s.known.setting.online n ≡ true) × Lives s.known)
-  seat_lives lives =
-      subst (λ o. IfSome o (λ s. (s.known ≡ fresh s.known.setting n) × (has s.known.setting.online n ≡ true) × Lives s.known)) (sym is) (go b on)
-    where
-      go : (c : Bool) → c ≡ has k.online n → IfSome (cond c (Some (fresh_seat table k n)) None)
-          (λ s. (s.known ≡ fresh s.known.setting n) × (has s.known.setting.online n ≡ true) × Lives s.known)
-      go true e = (refl, sym e, lives (sym e))
-      go false e = tt
-
   pub seat_kept : option_map (λ s. fresh_cpu s.table s.known.setting n) seat ≡ cond (has k.online n) (Some (fresh_cpu table k n)) None
   seat_kept = ap (option_map (λ (s : SeatValue). fresh_cpu s.table s.known.setting n)) is ∙ go b on
     where

@@ -27,8 +27,3 @@ pub tables_refuse : {T : Type 0} (nr online : ℕ) (labels : Labels) (old : List
     → nr ≤ length old → AreLabels labels.keys labels.entries → (e ≡ error.BadArgument) ⊎ (e ≡ error.NoMemory)
     → (IsErrOf r error.BadArgument ↔ (¬ (AreLimits nr online))) → OpenAnswers nr online labels old old (Err e)
 tables_refuse nr online labels old r e at room are only bad = (no_tables nr online labels old r e at room are only bad, refl)
-
--- memory was refused, once the tables were made
-pub no_seats : (nr online : ℕ) (labels : Labels) (old : List SmpCpu) (e : SmpError) → CanOpen nr online labels old → e ≡ error.NoMemory
-    → RefusesOpen nr online labels old e
-no_seats nr online labels old e can is = subst (λ (x : SmpError). RefusesOpen nr online labels old x) (sym is) (λ no. no can)

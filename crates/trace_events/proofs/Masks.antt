@@ -21,11 +21,5 @@ has_low word c = elim (cases_lt c 32) [
       grind (arith, nat_tests, bit_at_above (word % 2 ^ 32) 32 c small above)
 ]
 
--- one CPU more
-pub has_more : (word mask next cpu : ℕ) → cpu < 32 → ((c : ℕ) → has mask c ≡ (nat_lt c cpu && has word c))
-    → ((c : ℕ) → has next c ≡ (has mask c || ((c == cpu) && (nat_lt cpu 32 && has word cpu)))) → (c : ℕ)
-    → has next c ≡ (nat_lt c (cpu + 1) && has word c)
-has_more word mask next cpu within before more c = grind (arith, nat_tests, before c, more c)
-
 pub same_mask : (word mask : ℕ) → ((c : ℕ) → has mask c ≡ (nat_lt c 32 && has word c)) → mask ≡ word % 2 ^ 32
 same_mask word mask same = same_members mask (word % 2 ^ 32) (λ c. same c ∙ sym (has_low word c))

@@ -60,9 +60,6 @@ module _ {t : TableId} {d d1 : SeatValue} (d2 : SeatValue) (walk : Walk) (id : �
   sync_info_at = search (in_handle_then, func_found_is, arith)
 
   module _ (l2 : Loads t d1 d2 (Info id) info) where
-    pub sync_known : d2.known ≡ goes_known (handle.LoadInfo walk id next func) info (goes_known (handle.LoadFunc walk id next) func d.known)
-    sync_known = search (info_found_is, func_found_is, arith)
-
     pub sync_goes : (h : HandleStage) → unlink_after walk.last walk (record { id = id; class = Sync; func = func; info = info }) next ≡ h → InHandle t d2 h
     sync_goes h e = search (in_handle_then, arith)
 

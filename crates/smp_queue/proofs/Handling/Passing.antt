@@ -24,10 +24,6 @@ pub record Passing (t : TableId) (before d : SeatValue) (walk : Walk) (here : Op
   pub at : InHandle t d (first_on walk here)
   pub known_is : d.known ≡ record (before.known) { stage = d.known.stage }
 
--- a CPU whose stage alone has changed, as contracts see it
-pub same_cpu : (d d' : SeatValue) → d'.table ≡ d.table → d'.known ≡ record (d.known) { stage = d'.known.stage } → cpu_of d' ≡ cpu_of d
-same_cpu d d' t k = λ i. cpu_of (record { table = t i; known = k i })
-
 -- a CPU at a call that is to begin, or outside
 module _ (t : TableId) (c : CpuValue) (d : SeatValue) where
   pub at_cpu : (found : Option Place) → IsAt t c d found → cpu_of d ≡ c
@@ -36,9 +32,6 @@ module _ (t : TableId) (c : CpuValue) (d : SeatValue) where
 
   pub at_own : (found : Option Place) → IsAt t c d found → IsAt t (cpu_of d) d found
   at_own found h = subst (λ (x : CpuValue). IsAt t x d found) (sym (at_cpu found h)) h
-
-  pub at_begins : (found : Option Place) (p : Place) → found ≡ Some p → IsAt t c d found → InHandle t d (begins_at p)
-  at_begins found p e h = let at : IsAt t c d (Some p) = subst (λ (x : Option Place). IsAt t c d x) e h in at.0
 
   pub at_stands : (found : Option Place) → IsAt t c d found → StandsNow t d found
   at_stands (Some p) h = h.0

@@ -58,18 +58,6 @@ module _ {H : Type 0} (leads : H → Heard → H → Type 0) (t : TableId) where
     pub grows : Grows leads first calls now
     pub number_is : d.known.number ≡ before.known.number
 
-  pub runs_from : (d : SeatValue) (here : Option Place) (counts : List ℕ) (first : H) → IsAt t (cpu_of d) d here → d.known.part.running ≡ Nothing
-      → AreRan counts d.known → RunsOn d d here counts first first
-  runs_from d here counts first at idle a = record {
-    calls = [];
-    whole = refl;
-    at = subst (λ (x : CpuValue). IsAt t x d here)
-        (λ i. record (cpu_of d) { part = record (d.known.part) { running = idle i; ran = sym (append-nil d.known.part.ran) i } }) at;
-    counts_are = a;
-    grows = refl;
-    number_is = refl;
-  }
-
   pub runs_more : (before d d' : SeatValue) (here found : Option Place) (call : Call) (counts counts' : List ℕ) (first now now' : H)
       → RunsOn before d here counts first now → HasRunCall leads t d d' call found counts' now now' → RunsOn before d' found counts' first now'
   runs_more before d d' here found call counts counts' first now now' r h =
@@ -84,23 +72,6 @@ module _ {H : Type 0} (leads : H → Heard → H → Type 0) (t : TableId) where
         counts_are = h.counts_are;
         grows = FoldsTo-push (λ p x q. leads p (heard_of x) q) first r.calls now call now' r.grows h.heard_it;
         number_is = ap (λ (x : CpuValue). x.number) (at_cpu _ _ _ found h.at) ∙ r.number_is;
-      }
-
-  -- none is left
-  pub ran_all : (before d : SeatValue) (here : Option Place) (counts : List ℕ) (first now : H) → here ≡ None → RunsOn before d here counts first now
-      → HasRunAll leads t before d counts first now
-  ran_all before d here counts first now e r =
-      let at : IsAt t (has_run r.calls d.known.part.batch (cpu_of before)) d None =
-      subst (λ (x : Option Place). IsAt t (has_run r.calls d.known.part.batch (cpu_of before)) d x) e r.at in
-      let nil : d.known.part.batch ≡ [] = at.3 in
-      let whole : r.calls ≡ before.known.part.batch = sym (r.whole ∙ (ap (λ (rest : List Call). r.calls ++ rest) nil ∙ append-nil r.calls)) in
-      record {
-        table_is = at.0;
-        lives = at.1;
-        stage_is = at.2;
-        cpu = at.4 ∙ (λ i. has_run (whole i) (nil i) (cpu_of before));
-        counts_are = r.counts_are;
-        grows = subst (λ (calls : List Call). Grows leads first calls now) whole r.grows;
       }
 
   -- so a batch that was taken has run

@@ -21,18 +21,6 @@ use Rattle.smp_queue.proofs.TheRule.Keeps.{next_is}
 pub come_next : {maker : CallSeatView} (k : CallSetting) {n : ℕ} → (come : HasComeTo maker k n) → n < cpus → has k.online n ≡ true → next_online k come.0 ≡ n
 come_next k {n} come small online = next_is cpus k.online come.0 n come.2 (omega arith) online come.3
 
--- it comes past a CPU that is not online
-pub come_past : {maker : CallSeatView} (k : CallSetting) {n : ℕ} → HasComeTo maker k n → has k.online n ≡ false → HasComeTo maker k (n + 1)
-come_past k {n} come off = (
-  come.0,
-  come.1,
-  (let l = come.2 in omega arith),
-  λ cpu low high. elim (cases_eq cpu n) [
-    | inl e ↦ ap (has k.online) e ∙ off
-    | inr ne ↦ come.3 cpu low (omega arith)
-  ],
-)
-
 -- the CPUs below n that are online have a seat, and are kept
 pub record AreSeated (table maker_table : TableId) (maker : CallSeatView) (k : CallSetting) (n : ℕ) (waiting : List (Option CpuValue)) : Type 0 where
   pub sized : table.words ≡ cells
