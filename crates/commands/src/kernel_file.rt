@@ -95,7 +95,9 @@ fn judge_twice<R: Read, S: Read>(
 
 /// What is printed of a text in a regular file, which is read in pieces, and again where it is not lawful. None where it is refused,
 /// can't be read, or has another length when it was read: then its whole text says what is printed.
-pub fn judge_file(rt: &HostRuntime, path: &str, asked: Asked) -> Option<(Vec<u8>, Ruling)> {
+pub fn judge_file(rt: &HostRuntime, path: &str, asked: Asked) -> Option<(Vec<u8>, Ruling)>
+    ensures { IfSome result (λ r. (text shown : List ℕ) × PrintsAsked (Ok r) asked shown (reading_of asked.skip text)) }
+{
     let mut file = File::open(rt, path).ok()?;
     let before = file.metadata().ok()?;
     if !before.is_file() {

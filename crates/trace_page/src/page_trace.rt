@@ -11,7 +11,7 @@ pub const PARTS: &str = r##"<div id="parts">
 </div>
 <footer>
 <p>Proved: this page's source has the verdict of Jutegranite's judge, and the events that the judge has read.
-A trace is its own list of events. Of a kernel's text the source has each event up to a refused one, with the line that tells it.
+A trace is its own list of events. For a kernel's text, the source has each event up to a refused one, with the line that tells it.
 Not proved: the script of this page, which works out lanes and lists from these events.</p>
 <p>In the lanes: a large dot: a function runs, &#9675; a CPU looks, &#9670; it takes the gate or its queue, &#9679; any other event,
 a cross: the event that is refused. A solid line goes from the queueing of a call to its run, a dashed one from an interrupt to
