@@ -1,9 +1,9 @@
 -- The word of each access is in the table.
-use Rattle.std.proofs.Common.{arith, ◌≡◌, ℕ, ◌<◌, Some, List, [], ◌∷◌, ◌+◌, subst, refl}
+use Rattle.std.proofs.Common.{arith, ◌≡◌, ℕ, ◌<◌, Some, List, [], ◌∷◌, ◌+◌, subst}
 use Rattle.smp_words.specs.Size.{cpus, records}
 use Rattle.smp_words.specs.Access.{word_of}
-use Rattle.smp_call_steps.specs.{CallState, Running, Nothing, SyncCall, CountedCall, DrainValue, link_to, IsPlaced, locked_by, AllPlaced, ControlValue}
-use Rattle.smp_call_steps.specs.{access_of, Share, StandsAt, HandleStands, Reverses, Walks, Ends, PostStands, nexts_in, Call, Word, Next, RecPlace, Posting}
+use Rattle.smp_call_steps.specs.{CallState, Running, Nothing, DrainValue, IsPlaced, locked_by, AllPlaced, ControlValue}
+use Rattle.smp_call_steps.specs.{access_of, Share, StandsAt, HandleStands, Reverses, Walks, Ends, PostStands, nexts_in, Call, Word, RecPlace, Posting}
 use Rattle.smp_call_steps.specs.{PostStage, Walk, HandleStage, Stage, Send, Done, Post, Handle}
 use Rattle.smp_call_steps.specs.Shows.{Shows}
 use Rattle.smp_call_steps.proofs.Basics.Alls.{every_right}
@@ -16,11 +16,8 @@ use Rattle.smp_call_steps.specs.handle
 
 post_in_table : (places : ℕ → RecPlace) (at : Word → ℕ) (me : ℕ) (p : Posting) (stage : PostStage) → PostStands places at me p stage
     → IsInTable (word_of (access_of at me (Post p stage)))
-post_in_table places at me p post.Count s = (s.me_in_range, s.goes)
-post_in_table places at me p post.LoadHead s = s.goes
-post_in_table places at me p (post.Exchange link tries) s = s.goes
-post_in_table places at me p post.Uncount s = (s.me_in_range, s.goes)
-post_in_table places at me p _ s = s.is_call.in_range
+post_in_table places at me p post.LoadFlags s = s.is_call.in_range
+post_in_table places at me p _ s = search arith
 
 module _ (places : ℕ → RecPlace) (at : Word → ℕ) (me : ℕ) (s : Share) (d : DrainValue)
     (batched : AllPlaced places (place.Batch me) s.batch) (runs : AllPlaced places (place.Running me) (locked_by s.running)) where
@@ -60,22 +57,11 @@ module _ (places : ℕ → RecPlace) (at : Word → ℕ) (me : ℕ) (s : Share) 
   begun_in_range : (call : Call) (rest : List Call) → s.batch ≡ call ∷ rest → call.id < records
   begun_in_range call rest e = search arith
 
+  ruleset in_range = (reversed_in_range, walked_in_range, last_in_range, ended_in_range, running_in_range, begun_in_range, owner-below)
+
   handle_in_table : (stage : HandleStage) → me < cpus → HandleStands (nexts_in at) s d stage → IsInTable (word_of (access_of at me (Handle stage)))
-  handle_in_table (handle.ReverseLoad newer id) l h = reversed_in_range (link_to newer) (at (Next id)) h.0 id h.1 h.2
-  handle_in_table (handle.ReverseStore newer id older) l h = reversed_in_range (link_to newer) (link_to older) h.0 id h.1 h.2
-  handle_in_table (handle.LoadNext walk id) l h = walked_in_range walk id h.0 h.1 h.2
-  handle_in_table (handle.LoadFlags walk id next) l h = walked_in_range walk id h.0 h.1 h.2
-  handle_in_table (handle.LoadFunc walk id next) l h = walked_in_range walk id h.0 h.1 h.2
-  handle_in_table (handle.LoadInfo walk id next func) l h = walked_in_range walk id h.0 h.1 h.2
-  handle_in_table (handle.Unlink walk last call next) l h = last_in_range walk last (call.id + 1) (call ∷ h.0) h.1 h.4
-  handle_in_table (handle.CountSync walk call next) l h = (l, owner-below call.id (running_in_range call (SyncCall call) refl h.1.running_is))
-  handle_in_table (handle.EndSync walk call next) l h = running_in_range call (CountedCall call) refl h.1.running_is
-  handle_in_table (handle.AsyncNext id) l h = ended_in_range id h.0 h.1 h.2
-  handle_in_table (handle.AsyncFunc id next) l h = ended_in_range id h.0 h.1 h.2
-  handle_in_table (handle.AsyncInfo id next func) l h = ended_in_range id h.0 h.1 h.2
-  handle_in_table (handle.BeginAsync call next) l h = begun_in_range call h.0 h.1.batch
-  handle_in_table (handle.CountAsync call next) l h = (l, owner-below call.id h.2.in_range)
-  handle_in_table _ l h = l
+  handle_in_table handle.Enter l h = l
+  handle_in_table _ l h = search (in_range, arith)
 
   stage_in_table : (stage : Stage) → StandsAt places at s d me (Some stage) → IsInTable (word_of (access_of at me stage))
   stage_in_table (Send to) h = h.1

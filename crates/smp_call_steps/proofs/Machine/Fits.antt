@@ -78,16 +78,12 @@ module _ {a : CallState} {at : Word → ℕ} {control : ℕ → ControlValue} (m
       let short = length-apart records (h.older ++ was.1.0 ∷ h.newer) (subst IsApart h.whole h.apart) all in
       search (length-append, h, was, room_for_all, arith)
 
+  ruleset loads_fit = (down_fits, room_fits, next_fits, func_fits, async_next_fits, async_fits)
+
   handle_fits : (stage : HandleStage) → (control me).stage ≡ Some (Handle stage)
       → FitsStage (control me).drain (Handle stage) (at (word_of (access_of at me (Handle stage))))
   handle_fits handle.Take e = (chain_fits (nexts_in at) (at (Head me)) (a.queue me) queued_records (s.chained.chain me), tt)
-  handle_fits (handle.ReverseLoad newer id) e = (down_fits newer id e, tt)
-  handle_fits (handle.ReverseStore newer id older) e = (tt, room_fits newer id older e)
-  handle_fits (handle.LoadNext walk id) e = (next_fits walk id e, tt)
-  handle_fits (handle.LoadFunc walk id next) e = (func_fits walk id next e, tt)
-  handle_fits (handle.AsyncNext id) e = (async_next_fits id e, tt)
-  handle_fits (handle.AsyncFunc id next) e = (async_fits id next e, tt)
-  handle_fits _ e = (tt, tt)
+  handle_fits _ e = search (loads_fit, arith)
 
 -- the number that a step finds, and the room for it
 pub found_fits : (a : CallState) (at : Word → ℕ) (control : ℕ → ControlValue) (me : ℕ) → Shows a at control → (stage : Stage) → (control me).stage ≡ Some stage

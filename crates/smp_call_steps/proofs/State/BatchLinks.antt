@@ -5,15 +5,15 @@ use Rattle.std.proofs.lemmas.Bool.{eq-eqb, ne_eqb}
 use Rattle.std.proofs.lemmas.List.{append-nil}
 use Rattle.std.proofs.lemmas.List.Elements.{filter-append}
 use Rattle.std.specs.List.{AllByRecursion, filter}
-use Rattle.smp_call_steps.specs.{if_sync, if_async, sync_calls, async_calls, order, Running, Nothing, SyncCall, CountedCall, AsyncCall, DrainValue, link_to}
+use Rattle.smp_call_steps.specs.{if_sync, if_async, sync_calls, async_calls, order, Running, DrainValue, link_to}
 use Rattle.smp_call_steps.specs.{Leads, nexts_in, IsAbsent, IsApart, HasRecord, has_record, is_this, down_link, up_link, between_of, is_linked, BegunAt}
 use Rattle.smp_call_steps.specs.{LoadedAt, KeepBatchLinks, Share, share_of, Reverses, Walks, Ends, HandleStands, StandsAt, Call, Class, Sync, Async, Word}
-use Rattle.smp_call_steps.specs.{RecPlace, Walk, HandleStage, Stage, Send, Done, Post, Handle}
+use Rattle.smp_call_steps.specs.{RecPlace, Walk, HandleStage, Stage, Handle}
 use Rattle.smp_call_steps.specs.BatchLinks.{BatchLinks}
 use Rattle.smp_call_steps.proofs.Basics.Alls.{every, every_both, every_left, every_right, every_append, every_class}
 use Rattle.smp_call_steps.proofs.Steps.Appending.{Leads-push}
 use Rattle.smp_call_steps.proofs.State.Batches.{has_right, apart_order}
-use Rattle.smp_call_steps.proofs.State.Places.{IsBetween, true-has_record}
+use Rattle.smp_call_steps.proofs.State.Places.{IsBetween, is_this_one, true-has_record}
 use Rattle.smp_call_steps.proofs.State.Walks.{Path-append, apart_right, apart_across, absent_before, absent_after, async_calls-append}
 use Rattle.smp_call_steps.specs.handle
 
@@ -185,13 +185,13 @@ module _ (nexts : ℕ → ℕ) (s : Share) where
         search (p, kept_async, syncs, kept_all, every_left, asyncs, filter-append, ahead, arith)
 
     walked_links : (stage : Option Stage) → down_link stage ≡ 0 → up_link stage ≡ link_to walk.first → IsBetween (between_of stage) front
-        → BegunAt stage w.begun → LoadedAt nexts stage → BatchLinks nexts s.last s.batch stage
+        → ((calls : List Call) → BegunAt stage calls) → LoadedAt nexts stage → BatchLinks nexts s.last s.batch stage
     walked_links stage down up between begun loaded = record {
       begun = w.begun;
       older = [];
       newer = async_calls w.passed ++ rest;
       in_order = walked_order ∙ ap (λ (xs : List Call). w.begun ++ xs) (sym w.batch);
-      begun_at = begun;
+      begun_at = begun _;
       linked = subst (λ (xs : List Call). filter (is_linked xs (between_of stage)) s.last ≡ async_calls w.passed ++ rest) (sym w.batch)
           (walked_kept (between_of stage) between);
       leads_down = down;
@@ -214,60 +214,31 @@ module _ (nexts : ℕ → ℕ) (s : Share) where
         search (kept_async, p, syncs, filter-append, begun, fronts, rests, arith)
 
     ended_links : (stage : Option Stage) → down_link stage ≡ 0 → up_link stage ≡ here → IsBetween (between_of stage) front
-        → BegunAt stage (sync_calls s.last ++ w.begun) → LoadedAt nexts stage → BatchLinks nexts s.last s.batch stage
+        → ((calls : List Call) → BegunAt stage calls) → LoadedAt nexts stage → BatchLinks nexts s.last s.batch stage
     ended_links stage down up between begun loaded = record {
       begun = sync_calls s.last ++ w.begun;
       older = [];
       newer = rest;
       in_order = ended_order ∙ ap (λ (xs : List Call). (sync_calls s.last ++ w.begun) ++ xs) (sym w.batch);
-      begun_at = begun;
+      begun_at = begun _;
       linked = subst (λ (xs : List Call). filter (is_linked xs (between_of stage)) s.last ≡ rest) (sym w.batch) (ended_kept (between_of stage) between);
       leads_down = down;
       leads_up = rw up w.leads_on;
       loaded = loaded;
     }
 
+  ruleset linked_there = (rests_links, walked_links, ended_links, is_this_one)
+
   handle_links : (d : DrainValue) (stage : HandleStage) → HandleStands nexts s d stage → BatchLinks nexts s.last s.batch (Some (Handle stage))
-  handle_links d handle.Enter h = rests_links (Some (Handle handle.Enter)) refl refl h.batch tt tt
-  handle_links d handle.Accept h = rests_links (Some (Handle handle.Accept)) refl refl h.batch tt tt
-  handle_links d handle.LeaveIdle h = rests_links (Some (Handle handle.LeaveIdle)) refl refl h.batch tt tt
-  handle_links d handle.Take h = rests_links (Some (Handle handle.Take)) refl refl h.0 tt tt
   handle_links d (handle.ReverseLoad newer id) h = reversing_links d newer id h.0 h.1 h.2
   handle_links d (handle.ReverseStore newer id older) h = reversed_links d newer id older h.0 h.1 h.2 h.3
-  handle_links d (handle.LoadNext walk id) h =
-      walked_links d walk (id + 1) [] (h.0 ∷ h.1) Nothing h.2 (Some (Handle (handle.LoadNext walk id))) refl refl refl tt tt
-  handle_links d (handle.LoadFlags walk id next) h =
-      walked_links d walk (id + 1) [] (h.0 ∷ h.1) Nothing h.2 (Some (Handle (handle.LoadFlags walk id next))) refl refl refl tt h.3
-  handle_links d (handle.LoadFunc walk id next) h =
-      walked_links d walk (id + 1) [] (h.0 ∷ h.1) Nothing h.2 (Some (Handle (handle.LoadFunc walk id next))) refl refl refl tt h.3
-  handle_links d (handle.LoadInfo walk id next func) h =
-      walked_links d walk (id + 1) [] (h.0 ∷ h.1) Nothing h.2 (Some (Handle (handle.LoadInfo walk id next func))) refl refl refl tt h.3
-  handle_links d (handle.Unlink walk last call next) h =
-      walked_links d walk (call.id + 1) [] (call ∷ h.0) Nothing h.1 (Some (Handle (handle.Unlink walk last call next))) refl refl refl tt h.2
-  handle_links d (handle.BeginSync walk call next) h =
-      walked_links d walk (link_to next) (call ∷ []) h.0 Nothing h.1 (Some (Handle (handle.BeginSync walk call next))) refl refl (call, refl, refl) tt h.2
-  handle_links d (handle.CountSync walk call next) h =
-      walked_links d walk (link_to next) [] h.0 (SyncCall call) h.1 (Some (Handle (handle.CountSync walk call next))) refl refl refl tt tt
-  handle_links d (handle.EndSync walk call next) h =
-      walked_links d walk (link_to next) [] h.0 (CountedCall call) h.1 (Some (Handle (handle.EndSync walk call next))) refl refl refl tt tt
-  handle_links d (handle.AsyncNext id) h = ended_links d (id + 1) [] (h.0 ∷ h.1) Nothing h.2 (Some (Handle (handle.AsyncNext id))) refl refl refl tt tt
-  handle_links d (handle.AsyncFunc id next) h =
-      ended_links d (id + 1) [] (h.0 ∷ h.1) Nothing h.2 (Some (Handle (handle.AsyncFunc id next))) refl refl refl tt h.3
-  handle_links d (handle.AsyncInfo id next func) h =
-      ended_links d (id + 1) [] (h.0 ∷ h.1) Nothing h.2 (Some (Handle (handle.AsyncInfo id next func))) refl refl refl tt h.3
-  handle_links d (handle.BeginAsync call next) h =
-      ended_links d (link_to next) (call ∷ []) h.0 Nothing h.1 (Some (Handle (handle.BeginAsync call next))) refl refl (call, refl, refl) tt h.2
-  handle_links d (handle.CountAsync call next) h =
-      ended_links d (link_to next) [] h.0 (AsyncCall call) h.1 (Some (Handle (handle.CountAsync call next))) refl refl refl tt tt
-  handle_links d handle.Leave h = rests_links (Some (Handle handle.Leave)) refl refl h.0.batch tt tt
+  handle_links d _ h = search (linked_there, arith)
 
 stage_links : (places : ℕ → RecPlace) (at : Word → ℕ) (s : Share) (d : DrainValue) (me : ℕ) (stage : Option Stage) → StandsAt places at s d me stage
     → BatchLinks (nexts_in at) s.last s.batch stage
 stage_links places at s d me None h = rests_links (nexts_in at) s None refl refl h.batch tt tt
-stage_links places at s d me (Some (Send to)) h = rests_links (nexts_in at) s (Some (Send to)) refl refl h.0.batch tt tt
-stage_links places at s d me (Some (Done id)) h = rests_links (nexts_in at) s (Some (Done id)) refl refl h.0.batch tt tt
-stage_links places at s d me (Some (Post p stage)) h = rests_links (nexts_in at) s (Some (Post p stage)) refl refl h.0.batch tt tt
 stage_links places at s d me (Some (Handle stage)) h = handle_links (nexts_in at) s d stage h.1
+stage_links places at s d me stage h = rests_links (nexts_in at) s stage refl refl h.0.batch tt tt
 
 -- whatever words show calls show the links of each batch
 pub batch_links : KeepBatchLinks

@@ -5,10 +5,10 @@ use Rattle.std.proofs.lemmas.Bool.{eqb-true, eq-eqb, or_cases, cases_lt}
 use Rattle.std.proofs.lemmas.List.{get_or_past}
 use Rattle.std.specs.List.{AllByRecursion, list_any}
 use Rattle.smp_words.specs.Size.{cpus, records}
-use Rattle.smp_call_steps.specs.{has_record, down_link, up_link, between_of, is_this, running_of, CallState, Running, Nothing, DrainValue, link_to, if_sync}
+use Rattle.smp_call_steps.specs.{has_record, down_link, up_link, between_of, is_this, running_of, CallState, Running, DrainValue, link_to, if_sync}
 use Rattle.smp_call_steps.specs.{if_async, sync_calls, async_calls, HasRecord, IsAbsent, IsApart, IsPlaced, IsThere, locked_by, AllPlaced, HasChain, chain_in}
 use Rattle.smp_call_steps.specs.{ids, ControlValue, Share, share_of, Rests, StandsAt, HandleStands, Reverses, Walks, Ends, Leads, Path, nexts_in, FlagsShow}
-use Rattle.smp_call_steps.specs.{control_of, outside, Call, Class, Sync, Async, Word, Head, Flags, RecPlace, Walk, HandleStage, Stage, Send, Done, Post}
+use Rattle.smp_call_steps.specs.{control_of, outside, Call, Class, Sync, Async, Word, Head, Flags, RecPlace, Walk, HandleStage, Stage}
 use Rattle.smp_call_steps.specs.{Handle}
 use Rattle.smp_words.specs.Layout.{number_in}
 use Rattle.smp_call_steps.specs.Shows.{Shows}
@@ -109,6 +109,9 @@ has_turned id (call ∷ rest) (inr h) = has_left id (turned rest) (call ∷ []) 
 abbrev pub IsBetween : Option ℕ → List Call → Type 0
 IsBetween None calls = calls ≡ []
 IsBetween (Some id) calls = (call : Call) × (calls ≡ call ∷ []) × (call.id ≡ id)
+
+pub is_this_one : (call : Call) → IsBetween (Some call.id) (call ∷ [])
+is_this_one call = (call, refl, refl)
 
 -- a batch is a chain that is not reversed, one that is, and a record between them
 pub record Splits (places : ℕ → RecPlace) (nexts : ℕ → ℕ) (cpu : ℕ) (batch : List Call) (stage : Option Stage) : Type 0 where
@@ -240,56 +243,25 @@ module _ (places : ℕ → RecPlace) (nexts : ℕ → ℕ) (cpu : ℕ) (s : Shar
     all = λ u k. elim (has-either u front rest (subst (HasRecord u) h.batch k)) [ inl x ↦ inl x | inr x ↦ inr (inr x) ];
   }
 
+  ruleset split_there = (rests_split, walked_split, ended_split, is_this_one)
+
   handle_split : (d : DrainValue) (stage : HandleStage) → HandleStands nexts s d stage → Splits places nexts cpu s.batch (Some (Handle stage))
-  handle_split d handle.Enter h = rests_split (Some (Handle handle.Enter)) refl refl refl h.batch
-  handle_split d handle.Accept h = rests_split (Some (Handle handle.Accept)) refl refl refl h.batch
-  handle_split d handle.LeaveIdle h = rests_split (Some (Handle handle.LeaveIdle)) refl refl refl h.batch
-  handle_split d handle.Take h = rests_split (Some (Handle handle.Take)) refl refl refl h.0
   handle_split d (handle.ReverseLoad newer id) h = reversing_split d newer id h.0 h.1 h.2
   handle_split d (handle.ReverseStore newer id older) h = reversed_split d newer id older h.0 h.1 h.2
-  handle_split d (handle.LoadNext walk id) h = walked_split d walk (id + 1) [] (h.0 ∷ h.1) Nothing (Some (Handle (handle.LoadNext walk id))) h.2 refl refl refl
-  handle_split d (handle.LoadFlags walk id next) h = search (walked_split, arith)
-  handle_split d (handle.LoadFunc walk id next) h = search (walked_split, arith)
-  handle_split d (handle.LoadInfo walk id next func) h = search (walked_split, arith)
-  handle_split d (handle.Unlink walk last call next) h = search (walked_split, arith)
-  handle_split d (handle.BeginSync walk call next) h =
-      walked_split d walk (link_to next) (call ∷ []) h.0 Nothing (Some (Handle (handle.BeginSync walk call next))) h.1 refl refl (call, refl, refl)
-  handle_split d (handle.CountSync walk call next) h = search (walked_split, arith)
-  handle_split d (handle.EndSync walk call next) h = search (walked_split, arith)
-  handle_split d (handle.AsyncNext id) h = ended_split d (id + 1) [] (h.0 ∷ h.1) Nothing (Some (Handle (handle.AsyncNext id))) h.2 refl refl refl
-  handle_split d (handle.AsyncFunc id next) h = ended_split d (id + 1) [] (h.0 ∷ h.1) Nothing (Some (Handle (handle.AsyncFunc id next))) h.2 refl refl refl
-  handle_split d (handle.AsyncInfo id next func) h = search (ended_split, arith)
-  handle_split d (handle.BeginAsync call next) h =
-      ended_split d (link_to next) (call ∷ []) h.0 Nothing (Some (Handle (handle.BeginAsync call next))) h.1 refl refl (call, refl, refl)
-  handle_split d (handle.CountAsync call next) h = search (ended_split, arith)
-  handle_split d handle.Leave h = rests_split (Some (Handle handle.Leave)) refl refl refl h.0.batch
+  handle_split d _ h = search (split_there, arith)
 
 stage_split : (places : ℕ → RecPlace) (at : Word → ℕ) (s : Share) (d : DrainValue) (me : ℕ) (stage : Option Stage) → AllPlaced places (place.Batch me) s.batch
     → IsApart s.batch → StandsAt places at s d me stage → Splits places (nexts_in at) me s.batch stage
 stage_split places at s d me None p a h = rests_split places (nexts_in at) me s p a None refl refl refl h.batch
-stage_split places at s d me (Some (Send to)) p a h = rests_split places (nexts_in at) me s p a (Some (Send to)) refl refl refl h.0.batch
-stage_split places at s d me (Some (Done id)) p a h = rests_split places (nexts_in at) me s p a (Some (Done id)) refl refl refl h.0.batch
-stage_split places at s d me (Some (Post p stage)) q a h = rests_split places (nexts_in at) me s q a (Some (Post p stage)) refl refl refl h.0.batch
 stage_split places at s d me (Some (Handle stage)) p a h = handle_split places (nexts_in at) me s p a d stage h.1
+stage_split places at s d me stage p a h = rests_split places (nexts_in at) me s p a stage refl refl refl h.0.batch
 
 -- the SYNC call that runs, by the stage
 
 handle_runs : (nexts : ℕ → ℕ) (s : Share) (d : DrainValue) (stage : HandleStage) → HandleStands nexts s d stage
     → locked_by s.running ≡ running_of (Some (Handle stage))
 handle_runs nexts s d handle.Enter h = ap locked_by h.running
-handle_runs nexts s d handle.Accept h = ap locked_by h.running
-handle_runs nexts s d handle.LeaveIdle h = ap locked_by h.running
-handle_runs nexts s d handle.Take h = ap locked_by h.1
-handle_runs nexts s d (handle.ReverseLoad newer id) h = ap locked_by h.1.running
-handle_runs nexts s d (handle.ReverseStore newer id older) h = ap locked_by h.1.running
-handle_runs nexts s d (handle.Unlink walk last call next) h = ap locked_by h.1.running_is
-handle_runs nexts s d (handle.BeginSync walk call next) h = ap locked_by h.1.running_is
-handle_runs nexts s d (handle.CountSync walk call next) h = ap locked_by h.1.running_is
-handle_runs nexts s d (handle.EndSync walk call next) h = ap locked_by h.1.running_is
-handle_runs nexts s d (handle.BeginAsync call next) h = ap locked_by h.1.running_is
-handle_runs nexts s d (handle.CountAsync call next) h = ap locked_by h.1.running_is
-handle_runs nexts s d handle.Leave h = ap locked_by h.0.running
-handle_runs nexts s d _ h = ap locked_by h.2.running_is
+handle_runs nexts s d _ h = search arith
 
 stage_runs : (places : ℕ → RecPlace) (at : Word → ℕ) (s : Share) (d : DrainValue) (me : ℕ) (stage : Option Stage) → StandsAt places at s d me stage
     → locked_by s.running ≡ running_of stage
