@@ -1,13 +1,13 @@
 -- What each step does of the functions that calls run, and what it says of them.
-use Rattle.std.proofs.Common.{◌≡◌, ℕ, ◌+◌, ◌%◌, ◌==◌, Bool, true, false, cond, inl, inr, Option, Some, None, List, ◌∷◌, sym, subst, refl, arith}
+use Rattle.std.proofs.Common.{◌≡◌, ℕ, ◌+◌, Bool, true, false, cond, inl, inr, Option, Some, None, List, ◌∷◌, sym, subst, refl, arith}
 use Rattle.std.proofs.lemmas.Bool.{lt-ltb}
 use Rattle.smp_words.specs.Flags.{flags_of}
 use Rattle.smp_words.specs.Put.{put}
 use Rattle.smp_words.specs.Size.{owner}
 use Rattle.smp_words.proofs.Puts.{put_same}
 use Rattle.smp_call_steps.specs.{CallState, Holding, Running, Nothing, confirms, appended, begins_sync, begins_async, unlocks, releases, links, flags_told}
-use Rattle.smp_call_steps.specs.{head_told, tells, link_to, runs_as, place_as, told_of, is_call, BeginsIt, FunctionGoes, ends, goes_to, ControlValue}
-use Rattle.smp_call_steps.specs.{seen_then, Call, Class, Sync, Async, Word, Intr, Flags, Note, CallOutcome, Posting, PostStage, HandleStage, Stage, Send, Done}
+use Rattle.smp_call_steps.specs.{head_told, tells, runs_as, place_as, told_of, is_call, BeginsIt, FunctionGoes, ends, goes_to, ControlValue}
+use Rattle.smp_call_steps.specs.{seen_then, Call, Class, Sync, Async, Word, Note, CallOutcome, Posting, PostStage, HandleStage, Stage, Send, Done}
 use Rattle.smp_call_steps.specs.{Post, Handle}
 use Rattle.smp_call_steps.specs.Shows.{Shows}
 use Rattle.smp_call_steps.proofs.State.Walks.{walks_sync, ends_async as async_next}
@@ -83,26 +83,16 @@ module _ (a : CallState) (at : Word → ℕ) (control : ℕ → ControlValue) (s
   Goes stage = let seen = seen_then at (control me).drain me stage in FunctionGoes a (tells a seen) me seen.note
 
   goes_post : (p : Posting) (stage : PostStage) → (control me).stage ≡ Some (Post p stage) → Goes (Post p stage)
-  goes_post p post.LoadFlags e = search (told_confirms, said_flags, arith)
-  goes_post p post.Lock e = inl (record { same = told_lock a me p.class p.id; says = refl })
-  goes_post p (post.StoreNext link tries) e = inl (record { same = told_links a me link (a.held me); says = refl })
   goes_post p (post.Exchange link tries) e = search (told_exchange, said_exchange, arith)
-  goes_post p post.Release e = search arith
-  goes_post p _ e = inl (record { same = refl; says = refl })
+  goes_post p _ e = search (told_confirms, said_flags, told_lock, told_links, arith)
 
   goes_handle : (stage : HandleStage) → (control me).stage ≡ Some (Handle stage) → Goes (Handle stage)
-  goes_handle handle.Accept e = inl (record { same = refl; says = said_accept (at (Intr me) == 0) handle.LeaveIdle handle.Take })
-  goes_handle (handle.ReverseStore newer id older) e = inl (record { same = told_links a me (link_to newer) (a.held me); says = refl })
-  goes_handle (handle.LoadFlags walk id next) e = inl (record { same = told_confirms a me (at (Flags id) % 2 == 1) id; says = refl })
-  goes_handle (handle.Unlink walk last call next) e = inl (record { same = told_links a me (link_to next) (a.held me); says = refl })
   goes_handle (handle.BeginSync walk call next) e =
       let k = stands_at me s (handle.BeginSync walk call next) e in
       let said : Option Note = Some (note.Call (owner call.id) call.func call.info) in
       subst (λ (b : Bool). FunctionGoes a (cond b (begins_sync a me (a.batch me)) a) me said) (sym (lt-ltb 1 (call.id + 2) (omega arith)))
       (subst (λ (xs : List Call). FunctionGoes a (begins_sync a me xs) me said) (sym k.1.1.batch)
       (inr (inl (begins_sync_it a me call _ k.1.1.batch k.1.1.running_is (walks_sync k.1.1)))))
-  goes_handle (handle.CountSync walk call next) e = search (stands_at, arith)
-  goes_handle (handle.EndSync walk call next) e = search (stands_at, holds_nothing, arith)
   goes_handle (handle.BeginAsync call next) e =
       let k = stands_at me s (handle.BeginAsync call next) e in
       let said : Option Note = Some (note.Call (owner call.id) call.func call.info) in
@@ -110,8 +100,7 @@ module _ (a : CallState) (at : Word → ℕ) (control : ℕ → ControlValue) (s
       (subst (λ (r : Running). FunctionGoes a (unlocks a me r) me said) (sym k.1.1.running_is)
       (subst (λ (xs : List Call). FunctionGoes a (begins_async a me xs) me said) (sym k.1.1.batch)
       (inr (inl (begins_async_it a me call _ k.1.1.batch k.1.1.running_is (async_next k.1.1))))))
-  goes_handle (handle.CountAsync call next) e = search (stands_at, arith)
-  goes_handle _ e = inl (record { same = refl; says = refl })
+  goes_handle _ e = search (said_accept, told_links, told_confirms, stands_at, holds_nothing, arith)
 
   pub function_goes : (stage : Stage) → (control me).stage ≡ Some stage → Goes stage
   function_goes (Send to) e = inl (record { same = refl; says = refl })

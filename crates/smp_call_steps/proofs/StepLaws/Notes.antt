@@ -1,10 +1,10 @@
 -- What each step queues, and that its note says what holds.
-use Rattle.std.proofs.Common.{arith, ◌≡◌, ◌≢◌, ℕ, ◌+◌, ◌%◌, ◌==◌, nat_lt, Bool, true, false, cond, inl, Option, Some, None, List, [], ◌∷◌, sym, refl, ap, ◌∙◌}
+use Rattle.std.proofs.Common.{arith, ◌≡◌, ◌≢◌, ℕ, ◌+◌, ◌%◌, ◌==◌, Bool, true, false, cond, inl, Option, Some, None, List, [], ◌∷◌, sym, refl, ap, ◌∙◌}
 use Rattle.std.proofs.Common.{eqb-true}
 use Rattle.smp_words.specs.Flags.{flags_of}
 use Rattle.smp_words.proofs.Puts.{put_same, test_here}
 use Rattle.smp_call_steps.specs.{CallState, Holding, Running, Nothing, confirms, accepts, begins_sync, begins_async, counts, unlocks, releases, links}
-use Rattle.smp_call_steps.specs.{flags_told, head_told, tells, link_to, is_queued, queued_note, QueueGoes, SaidMeans, ends, goes_to, ControlValue, holding}
+use Rattle.smp_call_steps.specs.{flags_told, head_told, tells, is_queued, queued_note, QueueGoes, SaidMeans, ends, goes_to, ControlValue, holding}
 use Rattle.smp_call_steps.specs.{seen_then, FlagsShow, Call, Class, Sync, Async, Word, Head, Intr, Flags, RecPlace, CallOutcome}
 use Rattle.smp_call_steps.specs.{Posting, PostStage, HandleStage}
 use Rattle.smp_call_steps.specs.{Stage, Send, Done, Post, Handle}
@@ -90,23 +90,12 @@ module _ (a : CallState) (at : Word → ℕ) (control : ℕ → ControlValue) (s
 
   queues_post : (p : Posting) (stage : PostStage) → (control me).stage ≡ Some (Post p stage) → Queues (Post p stage)
   queues_post p post.LoadFlags e = search (sent_confirms, said_flags, arith)
-  queues_post p post.Lock e = inl (record { same = sent_lock a me p.class p.id; says = refl })
-  queues_post p (post.StoreNext link tries) e = inl (record { same = sent_links a me link (a.held me); says = refl })
   queues_post p (post.Exchange link tries) e = search (exchanged, arith)
-  queues_post p post.Release e = inl (record { same = sent_releases a me p.id (a.held me); says = refl })
-  queues_post p _ e = inl (record { same = refl; says = refl })
+  queues_post p _ e = search (sent_lock, sent_links, sent_releases, arith)
 
   queues_handle : (stage : HandleStage) → Queues (Handle stage)
   queues_handle handle.Accept = inl (record { same = refl; says = said_accept (at (Intr me) == 0) handle.LeaveIdle handle.Take })
-  queues_handle (handle.ReverseStore newer id older) = inl (record { same = sent_links a me (link_to newer) (a.held me); says = refl })
-  queues_handle (handle.LoadFlags walk id next) = inl (record { same = sent_confirms a me (at (Flags id) % 2 == 1) id; says = refl })
-  queues_handle (handle.Unlink walk last call next) = inl (record { same = sent_links a me (link_to next) (a.held me); says = refl })
-  queues_handle (handle.BeginSync walk call next) = inl (record { same = sent_hand a me (nat_lt 1 (call.id + 2)); says = refl })
-  queues_handle (handle.CountSync walk call next) = inl (record { same = sent_counts a me (a.running me); says = refl })
-  queues_handle (handle.EndSync walk call next) = inl (record { same = sent_releases a me call.id (a.held me); says = refl })
-  queues_handle (handle.BeginAsync call next) = inl (record { same = sent_releases a me call.id (a.held me); says = refl })
-  queues_handle (handle.CountAsync call next) = inl (record { same = sent_counts a me (a.running me); says = refl })
-  queues_handle _ = inl (record { same = refl; says = refl })
+  queues_handle _ = search (sent_links, sent_confirms, sent_hand, sent_counts, sent_releases, arith)
 
   pub queue_goes : (stage : Stage) → (control me).stage ≡ Some stage → Queues stage
   queue_goes (Send to) e = inl (record { same = refl; says = refl })

@@ -3,7 +3,7 @@ use Rattle.std.proofs.Common.{arith, ◌≡◌, ◌≢◌, ℕ, ◌+◌, Option,
 use Rattle.std.specs.List.{AllByRecursion}
 use Rattle.smp_words.specs.Size.{owner}
 use Rattle.smp_call_steps.specs.{DrainValue, link_to, async_calls, Running, Nothing, SyncCall, CountedCall, AsyncCall, ControlValue, IsPlaced, AllPlaced}
-use Rattle.smp_call_steps.specs.{Leads, nexts_in, IsWrittenIn, Share, StandsAt, HandleStands, Reverses, Walks, Ends, PostKnows, posted, Call, Word, Flags}
+use Rattle.smp_call_steps.specs.{Leads, nexts_in, IsWrittenIn, Share, StandsAt, HandleStands, Reverses, Walks, Ends, PostKnows, Call, Word, Flags}
 use Rattle.smp_call_steps.specs.{Func, Info, Next, RecPlace, Posting, PostStage, Walk, HandleStage, Stage, Post, Handle}
 use Rattle.smp_call_steps.specs.Stands.{CallStands}
 use Rattle.smp_call_steps.proofs.Basics.Alls.{every_left, every_right}
@@ -71,10 +71,7 @@ module _ {cpu : ℕ} {places places' : ℕ → RecPlace} {at at' : Word → ℕ}
   PostKnows-kept : (p : Posting) (stage : PostStage) → owner p.id ≡ cpu → PostKnows places at p stage → PostKnows places' at' p stage
   PostKnows-kept p post.LoadFlags o k = tt
   PostKnows-kept p post.Lock o k = l.place_stays p.id (own_free p.id o k) ∙ k
-  PostKnows-kept p post.StoreFunc o k = let m = own_held p.id o k.0 in (l.place_stays p.id m ∙ k.0, l.flags p.id m ∙ k.1)
-  PostKnows-kept p post.StoreInfo o k = let m = own_held p.id o k.0 in (l.place_stays p.id m ∙ k.0, l.flags p.id m ∙ k.1, l.func p.id m ∙ k.2)
-  PostKnows-kept p (post.Exchange link tries) o k = let m = own_held p.id o k.0 in (l.place_stays p.id m ∙ k.0, written (posted p) m k.1, l.next p.id m ∙ k.2)
-  PostKnows-kept p _ o k = let m = own_held p.id o k.0 in (l.place_stays p.id m ∙ k.0, written (posted p) m k.1)
+  PostKnows-kept p _ o k = let m = own_held p.id o k.0 in search (l.place_stays p.id m, l.flags p.id m, l.func p.id m, l.next p.id m, written, arith)
 
   same_next : (call : Call) → IsPlaced places (place.Batch cpu) call → at' (Next call.id) ≡ at (Next call.id)
   same_next call q = l.next call.id (rw q.placed refl)
@@ -120,26 +117,21 @@ module _ {cpu : ℕ} {places places' : ℕ → RecPlace} {at at' : Word → ℕ}
       → Ends (nexts_in at) s d (id + 1) [] (call ∷ rest) Nothing → at' (Next id) ≡ at (Next id)
   ended_next s d id call rest b h = search (ends_rest, next_of, same_record, arith)
 
+  ruleset batch_kept = (Reverses-kept, reversed_next, Walks-kept, walks_front, walked_next, Ends-kept, ends_front, ended_next, same_next)
+
   HandleStands-kept : (s : Share) (d : DrainValue) (stage : HandleStage) → AllPlaced places (place.Batch cpu) s.batch → HandleStands (nexts_in at) s d stage
       → HandleStands (nexts_in at') s d stage
-  HandleStands-kept s d (handle.ReverseLoad newer id) b h = search (reversed_next, Reverses-kept, arith)
   HandleStands-kept s d (handle.ReverseStore newer id older) b h =
       (h.0, Reverses-kept s d (link_to newer) (link_to older) h.0 b h.1, h.2, reversed_next s d (link_to newer) (link_to older) h.0 id h.2 b h.1 ∙ h.3)
   HandleStands-kept s d (handle.LoadNext walk id) b h = (h.0, h.1, Walks-kept s d walk (id + 1) [] (h.0 ∷ h.1) Nothing b h.2)
   HandleStands-kept s d (handle.LoadFlags walk id next) b h =
       (h.0, h.1, Walks-kept s d walk (id + 1) [] (h.0 ∷ h.1) Nothing b h.2, walked_next s d walk id h.0 h.1 b h.2 ∙ h.3)
-  HandleStands-kept s d (handle.LoadFunc walk id next) b h = search (Walks-kept, walked_next, arith)
-  HandleStands-kept s d (handle.LoadInfo walk id next func) b h = search (Walks-kept, walked_next, arith)
-  HandleStands-kept s d (handle.Unlink walk last call next) b h = search (Walks-kept, walked_next, arith)
-  HandleStands-kept s d (handle.BeginSync walk call next) b h = search (walks_front, Walks-kept, same_next, arith)
   HandleStands-kept s d (handle.CountSync walk call next) b h = (h.0, Walks-kept s d walk (link_to next) [] h.0 (SyncCall call) b h.1, h.2)
   HandleStands-kept s d (handle.EndSync walk call next) b h = (h.0, Walks-kept s d walk (link_to next) [] h.0 (CountedCall call) b h.1, h.2)
   HandleStands-kept s d (handle.AsyncNext id) b h = (h.0, h.1, Ends-kept s d (id + 1) [] (h.0 ∷ h.1) Nothing b h.2)
   HandleStands-kept s d (handle.AsyncFunc id next) b h = (h.0, h.1, Ends-kept s d (id + 1) [] (h.0 ∷ h.1) Nothing b h.2, ended_next s d id h.0 h.1 b h.2 ∙ h.3)
-  HandleStands-kept s d (handle.AsyncInfo id next func) b h = search (Ends-kept, ended_next, arith)
-  HandleStands-kept s d (handle.BeginAsync call next) b h = search (ends_front, Ends-kept, same_next, arith)
   HandleStands-kept s d (handle.CountAsync call next) b h = (h.0, Ends-kept s d (link_to next) [] h.0 (AsyncCall call) b h.1, h.2, h.3)
-  HandleStands-kept s d _ b h = h
+  HandleStands-kept s d _ b h = search (batch_kept, arith)
 
   StandsAt-kept : (s : Share) (d : DrainValue) (stage : Option Stage) → AllPlaced places (place.Batch cpu) s.batch → StandsAt places at s d cpu stage
       → StandsAt places' at' s d cpu stage

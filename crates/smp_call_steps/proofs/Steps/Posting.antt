@@ -386,14 +386,8 @@ module _ {a : CallState} {at : Word → ℕ} {control : ℕ → ControlValue} (m
       subst (λ (x : Option Holding). Shows (releases a me p.id x) (put_word at (Flags p.id) 0) (put control me (to_stage None)))
       (sym (holds_at (Post p post.Release) e)) (release_held p e)
 
+  ruleset post_steps = (lock_step, func_step, info_step, count_step, head_step, next_step, exchange_step, uncount_step, release_step)
+
   pub post_step : (p : Posting) (st : PostStage) → (control me).stage ≡ Some (Post p st) → StepShows a at control me (Post p st)
   post_step p post.LoadFlags e = flags_step p e
-  post_step p post.Lock e = lock_step p e
-  post_step p post.StoreFunc e = func_step p e
-  post_step p post.StoreInfo e = info_step p e
-  post_step p post.Count e = count_step p e
-  post_step p post.LoadHead e = head_step p e
-  post_step p (post.StoreNext link tries) e = next_step p link tries e
-  post_step p (post.Exchange link tries) e = exchange_step p link tries e
-  post_step p post.Uncount e = uncount_step p e
-  post_step p post.Release e = release_step p e
+  post_step p _ e = search post_steps
