@@ -1,12 +1,11 @@
 -- One step of a CPU that knows v: what holds after it, and what each CPU knows then.
-use Rattle.std.proofs.Common.{arith, ◌≡◌, ◌≢◌, ℕ, ◌-◌, ◌%◌, Bool, true, false, ◌==◌, cond, Option, Some, None, refl, ap, ◌∙◌}
+use Rattle.std.proofs.Common.{arith, ◌≡◌, ◌≢◌, ℕ, ◌-◌, Bool, true, false, cond, Option, Some, None, refl, ap, ◌∙◌}
 use Rattle.smp_words.proofs.Puts.{put_same, put_other}
 use Rattle.smp_words.specs.Put.{put}
-use Rattle.smp_call_steps.specs.{CallState, ends, goes_to, DrainValue, handle_goes, record_at, second_on, first_on, reverse_on, by_class, unlink_after, Call}
-use Rattle.smp_call_steps.specs.{Class, Sync, Async, Word, Head, Intr, Flags, Access, Seen, Note, Posting, Walk, CallOutcome, Stage, Post, Handle, ControlValue}
+use Rattle.smp_call_steps.specs.{CallState, ends, goes_to, DrainValue, handle_goes, second_on, first_on, reverse_on, by_class, unlink_after, Call}
+use Rattle.smp_call_steps.specs.{Class, Sync, Async, Word, Head, Access, Seen, Note, Posting, Walk, CallOutcome, Stage, Post, Handle, ControlValue}
 use Rattle.smp_call_steps.specs.{access_of, outcome_of, drain_of, control_after, part_after, told_post, told_handle, told_stage, Sees, known_tells}
 use Rattle.smp_call_steps.specs.{stage_after, drain_then, MayStep, known_access, GoesOn}
-use Rattle.smp_words.specs.Flags.{class_of}
 use Rattle.smp_words.specs.Access.{word_of, at_after, seen_of}
 use Rattle.smp_call_steps.specs.Premises.{MayMake}
 use Rattle.smp_call_steps.specs.Shows.{Shows}
@@ -78,18 +77,11 @@ accept_told : (b : Bool) → told_stage (cond {A = CallOutcome} b (handle_goes h
 accept_told true = refl
 accept_told false = refl
 
+ruleset stages_follow = (flags_follow, exchange_follow, accept_told, reverse_told, class_told, info_told, first_told, second_told)
+
 follows : (at : Word → ℕ) (me : ℕ) (d : DrainValue) (st : Stage) → Follows at me d st
-follows at me d (Post p post.LoadFlags) = flags_follow (at (Flags p.id) % 2 == 1) p.is_online p
 follows at me d (Post p post.Lock) = lock_follow p.class p at me d
-follows at me d (Post p (post.Exchange link tries)) = search (exchange_follow, arith)
-follows at me d (Handle handle.Accept) = accept_told (at (Intr me) == 0)
-follows at me d (Handle handle.Take) = reverse_told None (record_at (at (Head me)))
-follows at me d (Handle (handle.ReverseStore newer id older)) = reverse_told (Some id) older
-follows at me d (Handle (handle.LoadFlags walk id next)) = class_told (class_of (at (Flags id))) walk id next
-follows at me d (Handle (handle.LoadInfo walk id next func)) = search (info_told, arith)
-follows at me d (Handle (handle.EndSync walk call next)) = first_told walk next
-follows at me d (Handle (handle.CountAsync call next)) = second_told next
-follows at me d _ = refl
+follows at me d _ = search (stages_follow, arith)
 
 leaves : (at : Word → ℕ) (me : ℕ) (d : DrainValue) (st : Stage) → Leaves at me d st
 leaves at me d (Post p post.LoadFlags) = refl

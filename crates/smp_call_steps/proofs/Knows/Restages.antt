@@ -4,7 +4,7 @@ use Rattle.smp_words.specs.Put.{put}
 use Rattle.smp_words.specs.Size.{records, owner}
 use Rattle.smp_call_steps.specs.{CallState, DrainValue, handle_access, source_at, ControlValue, access_of, Rests, StandsAt, PostKnows, share_of, held_of}
 use Rattle.smp_call_steps.specs.{HandIs, told_post, told_handle, told_stage, Sees, MayStep, MayPost, CallMoment, known_access, ran_tally, is_confirmed, Word}
-use Rattle.smp_call_steps.specs.{Hand, Flags, RecPlace, Posting, PostStage, HandleStage, Stage, Send, Done, Post, Handle}
+use Rattle.smp_call_steps.specs.{Hand, Flags, RecPlace, Posting, PostStage, HandleStage, Stage, Post, Handle}
 use Rattle.smp_call_steps.specs.Shows.{Shows}
 use Rattle.smp_call_steps.proofs.Basics.Rows.{row-at}
 use Rattle.smp_call_steps.proofs.Steps.Sending.{stands_on}
@@ -28,10 +28,7 @@ Knows places at _ = Unit {0}
 knows_post : (places : ℕ → RecPlace) (at : Word → ℕ) (p : Posting) (stage : PostStage) → PostKnows places at p stage → Knows places at (told_post p stage)
 knows_post places at p post.LoadFlags k = tt
 knows_post places at p post.Lock k = tt
-knows_post places at p post.StoreFunc k = k
-knows_post places at p post.StoreInfo k = k
-knows_post places at p (post.Exchange link tries) k = (k.0, record { flags_are = k.1.flags_are; func_is = k.1.func_is; info_is = k.1.info_is }, k.2)
-knows_post places at p _ k = (k.0, record { flags_are = k.1.flags_are; func_is = k.1.func_is; info_is = k.1.info_is })
+knows_post places at p _ k = search arith
 
 knows_handle : (places : ℕ → RecPlace) (at : Word → ℕ) (h : HandleStage) → Knows places at (told_handle h)
 knows_handle places at handle.Enter = tt
@@ -44,11 +41,7 @@ IsFreeAt places id _ = Unit {0}
 told_knows : (places : ℕ → RecPlace) (at : Word → ℕ) (p : Posting) (stage : PostStage) → Knows places at (told_post p stage) → IsFreeAt places p.id stage
     → PostKnows places at p stage
 told_knows places at p post.LoadFlags k f = tt
-told_knows places at p post.Lock k f = f
-told_knows places at p post.StoreFunc k f = k
-told_knows places at p post.StoreInfo k f = k
-told_knows places at p (post.Exchange link tries) k f = (k.0, record { flags_are = k.1.flags_are; func_is = k.1.func_is; info_is = k.1.info_is }, k.2)
-told_knows places at p _ k f = (k.0, record { flags_are = k.1.flags_are; func_is = k.1.func_is; info_is = k.1.info_is })
+told_knows places at p _ k f = search arith
 
 -- a CPU that may be outside, or at a step of a post: it has nothing taken and nothing loaded, and its handling word is 0
 pub record Idle (a : CallState) (at : Word → ℕ) (d : DrainValue) (me : ℕ) : Type 0 where
@@ -140,16 +133,14 @@ module _ {a : CallState} {at : Word → ℕ} {control : ℕ → ControlValue} {v
   handle_same h b e = stage_is h (control me).stage (sees.stage ∙ (e ∙ told_beyond h b))
 
   aims_stands : (st : Stage) → MayStep v st → StandsAt a.place at (share_of a me) (control me).drain me (Some st)
-  aims_stands (Send to) aims = let i = outside_idle aims.0 in (i.rests, aims.1, aims.2)
-  aims_stands (Done id) aims = let i = outside_idle aims.0 in (i.rests, aims.1, aims.2)
   aims_stands (Post p st) aims = search (idle, post_no_handle, told_knows, knows_told, free_at, arith)
   aims_stands (Handle h) aims = search (enters, handle_same, outside_idle, arith)
+  aims_stands _ aims = let i = outside_idle aims.0 in (i.rests, aims.1, aims.2)
 
   aims_hand : (st : Stage) → MayStep v st → HandIs (Some st) (at (Hand me))
-  aims_hand (Send to) aims = let i = outside_idle aims.0 in i.hand
-  aims_hand (Done id) aims = let i = outside_idle aims.0 in i.hand
   aims_hand (Post p st) aims = let i = idle (subst IsNoHandle aims.told (post_no_handle p st)) in i.hand
   aims_hand (Handle h) aims = search (enters, handle_same, outside_idle, arith)
+  aims_hand _ aims = let i = outside_idle aims.0 in i.hand
 
   pub aims_held : (st : Stage) → MayStep v st → a.held me ≡ held_of (Some st)
   aims_held st aims = known_held ∙ (ap held_of (sym (aims_told st aims)) ∙ held_told (Some st))
@@ -162,10 +153,9 @@ module _ {a : CallState} {at : Word → ℕ} {control : ℕ → ControlValue} {v
 
   -- the access is the one that the CPU knows
   pub access_known : (st : Stage) → MayStep v st → access_of at me st ≡ known_access v st
-  access_known (Send to) aims = refl
-  access_known (Done id) aims = refl
   access_known (Post p st) aims = search (aims_held, arith)
   access_known (Handle h) aims = ap (handle_access me h) (s.tallied.ran_are me (source_at h) ∙ (λ i. ran_tally (sees.part i) (source_at h)))
+  access_known _ aims = refl
 
 -- where a CPU is outside, its confirmed records are unlocked
 pub confirmed_unlocked : (v : KnownCalls) (id n : ℕ) → CallMoment v (Flags id) n → v.stage ≡ None → owner id ≡ v.number → id < records
