@@ -41,14 +41,7 @@ module _ (u : Setup) (p : StopState) (at : Word → ℕ) (seat : ℕ → StopRol
     in_round : (v : Visit) (stage : RoundStage) → SitsInRound u me c.changes v stage (seat me) → (change : Change) →
         label_stored (round_access u.cpus c.changes v stage) ≡ Some change → IsNext change
     in_round v (RoundStage.StoreChange made) s change e = store_is_next v made s change e
-    in_round v (RoundStage.Look answer) s change e = cc
-    in_round v (RoundStage.LoadFunc answer) s change e = cc
-    in_round v (RoundStage.LoadArg answer func) s change e = cc
-    in_round v (RoundStage.LoadKey key to) s change e = cc
-    in_round v (RoundStage.LoadEntry key word site) s change e = cc
-    in_round v (RoundStage.Acknowledge answer ran) s change e = cc
-    in_round v (RoundStage.Refill ran) s change e = cc
-    in_round v (RoundStage.Raise ran) s change e = cc
+    in_round v _ s change e = cc
 
     in_completion : (v : Visit) (stage : CompletionStage) (change : Change) → label_stored (completion_access v stage) ≡ Some change → IsNext change
     in_completion v stage change e = search arith

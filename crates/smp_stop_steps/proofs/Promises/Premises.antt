@@ -5,9 +5,8 @@ use Rattle.smp_stop_steps.specs.{unfinished, plan_at, StopRole, In, Alters, Clos
 use Rattle.smp_stop_steps.specs.{RunsIf, HoldsGate, IsLoaded, IsThroughAll}
 use Rattle.smp_stop_steps.specs.{SitsAt, SitsInCompletion, SitsInRound, SourceSits, DoneShows, Source, Owns, Collects, SourceShows, OwnerShows}
 use Rattle.smp_stop_steps.specs.{StopControlValue, completion_access, round_access, stop_access, Setup, StopState, Standing, Inside, Ended, is_of}
-use Rattle.smp_stop_steps.specs.{CompletionStage, RoundStage, StopStage, TakeGate, OpenGate, Begin, Enter, EnterKind, EnterMask, EnterActive, Advance, Complete}
-use Rattle.smp_stop_steps.specs.{Close, LoadDone, LoadResult, NudgeKey, ExchangeKey, Visit, Sits.ControlFits}
-use Rattle.smp_stop_steps.specs.declared.stage.StopStage.TheVariants.{ReadKey, ReadSite}
+use Rattle.smp_stop_steps.specs.{CompletionStage, RoundStage, StopStage, TakeGate, OpenGate, Begin, Enter, Advance, Complete}
+use Rattle.smp_stop_steps.specs.{Close, LoadDone, LoadResult, Visit, Sits.ControlFits}
 use Rattle.smp_stop_steps.proofs.State.Acknowledged.{fills_me, rests_me, sets_me}
 use Rattle.smp_stop_steps.proofs.{State.Gates.gate_free, State.Gates.gate_mine, Basics.Counts.sum_zero, State.Raises.in_machine, State.Works.called_is}
 use Rattle.smp_stop_steps.proofs.{Steps.Completions.one_phase, State.Phases.is_open_inside, State.Phases.keeps_inside, State.Raises.all_acknowledged}
@@ -50,12 +49,6 @@ module _ (u : Setup) (p : StopState) (at : Word → ℕ) (seat : ℕ → StopRol
   raised j w a is = search (stands, open_in, h.present.slots, sets_me, all_acknowledged, arith)
 
   in_round : (v : Visit) (stage : RoundStage) → SitsInRound u me c.changes v stage (seat me) → May (round_access u.cpus c.changes v stage)
-  in_round v (round.Look answer) x = (stands (In v.slot x.2.0 v.acked v.acked Rests) x.2.2).0
-  in_round v (round.LoadFunc answer) x = (stands (In v.slot x.1.0 2 3 Rests) x.1.1.3).0
-  in_round v (round.LoadArg answer func) x = (stands (In v.slot x.1.0 2 3 Rests) x.1.1.3).0
-  in_round v (round.LoadKey key change) x = search (stands, arith)
-  in_round v (round.LoadEntry key word site) x = search (stands, arith)
-  in_round v (round.StoreChange made) x = search (stands, arith)
   in_round v (round.Acknowledge answer ran) x = ⊎_elim
       (λ (y : (seat me ≡ In v.slot x.0 v.acked (v.acked + 1) Rests) × RunsIf me v ran). let st = stands (In v.slot x.0 v.acked (v.acked + 1) Rests) y.0 in
       (st.0, (v.acked, st.1, phase v.acked st.1)))
@@ -67,6 +60,7 @@ module _ (u : Setup) (p : StopState) (at : Word → ℕ) (seat : ℕ → StopRol
       phase a is = search (keeps_inside, h.present.slots, arith)
   in_round v (round.Refill ran) x = search (stands, v.acked, stored_open, open_in, fills_me, arith)
   in_round v (round.Raise ran) x = stored_open v.slot (v.acked + 1) Field.State (open_in v.slot x.0 v.acked v.acked Sets x.2) (raised v.slot x.0 v.acked x.2)
+  in_round v _ x = search (stands, arith)
 
   in_completion : (v : Visit) (stage : CompletionStage) → SitsInCompletion v stage (seat me) → May (completion_access v stage)
   in_completion v stage x = search (stands, v.acked, stored_open, open_in, through, keeps_inside, h.present.slots, rests_me, arith)
@@ -77,9 +71,6 @@ module _ (u : Setup) (p : StopState) (at : Word → ℕ) (seat : ℕ → StopRol
   at_stage OpenGate x y g = gate_mine me p.gate (sym h.gate ∙ g)
   at_stage (Begin work f) x y g = search (source_is, stored_shut, arith)
   at_stage (Enter j) x y g = search (h.present.stands, called_is, h.present.slots, arith)
-  at_stage (EnterKind j) x y g = (stands (In j x.0 0 0 Rests) x.1).0
-  at_stage (EnterMask j kind) x y g = (stands (In j x.0 0 0 Rests) x.1).0
-  at_stage (EnterActive j kind mask) x y g = (stands (In j x.0 0 0 Rests) x.1).0
   at_stage (Advance v stage) x y g = in_round v stage x.1
   at_stage (Complete v stage) x y g = in_completion v stage x.1
   at_stage (Close j) x y g = let st = stands (Closes j) x.1 in stored_open j 1 Field.Done st.1 (refl, st.2)
@@ -96,10 +87,7 @@ module _ (u : Setup) (p : StopState) (at : Word → ℕ) (seat : ℕ → StopRol
             (sum_zero (λ e. unfinished ((p.now.stop me).standing e)) u.cpus d.1 d' (in_machine u.cpus (p.now.stop me).phase d' ((p.now.stop me).standing d')
             member ((h.present.slots me).keeps d'))),
       )
-  at_stage (ReadKey k) x y g = search (stands, arith)
-  at_stage (ReadSite i) x y g = search (stands, arith)
-  at_stage (NudgeKey k up) x y g = search (stands, arith)
-  at_stage (ExchangeKey k expected new) x y g = search (stands, arith)
+  at_stage _ x y g = search (stands, arith)
 
   pub may_see : (stage : StopStage) → c.stage ≡ Some stage → May (stop_access u.cpus me c.changes stage)
   may_see stage e = search (at_stage, c.is_open, arith)

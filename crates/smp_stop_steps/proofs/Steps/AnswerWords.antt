@@ -6,9 +6,8 @@ use Rattle.smp_stop_steps.specs.{change_of, count_after, Place, at_after, word_o
 use Rattle.smp_stop_steps.specs.{VisitFits, HasI32Answers, IsKept, NoteAnswers, AnswersFit, AnswersGo, KeepsAnswers, Change, begun_value, StopControlValue}
 use Rattle.smp_stop_steps.specs.{StopOutcome, acked_on, begun_next, change_at, completion_access, completion_outcome, entry_on, key_on, label_word, looked_on}
 use Rattle.smp_stop_steps.specs.{nudge_on, round_access, round_outcome, stop_access, stop_ends, stop_goes, stop_outcome, turn_ends, turn_note, Setup}
-use Rattle.smp_stop_steps.specs.{is_multi, EXIT, CompletionStage, RoundStage, StopStage, Advance, Begin, Close, Complete, Enter, EnterActive, EnterKind}
-use Rattle.smp_stop_steps.specs.{EnterMask, ExchangeKey, LoadDone, LoadResult, NudgeKey, OpenGate, TakeGate, Visit}
-use Rattle.smp_stop_steps.specs.declared.stage.StopStage.TheVariants.{ReadKey, ReadSite}
+use Rattle.smp_stop_steps.specs.{is_multi, EXIT, CompletionStage, RoundStage, StopStage, Advance, Begin, Complete}
+use Rattle.smp_stop_steps.specs.{ExchangeKey, TakeGate, Visit}
 use Rattle.smp_stop_steps.specs.round
 
 either : (b : Bool) (n m : ℕ) → IsI32Word n → IsI32Word m → IsI32Word (cond b n m)
@@ -28,40 +27,21 @@ module _ (at : Word → ℕ) (h : AreI32Words at) where
   begun_after cpus me work f = search (either, arith)
 
   completion_after : (v : Visit) → IsI32Word v.answer → (st : CompletionStage) → AreI32Words (at_after at (completion_access v st))
-  completion_after v small (CompletionStage.LoadFunc answer) = h
-  completion_after v small (CompletionStage.LoadArg answer func) = h
   completion_after v small CompletionStage.StoreAnswer = λ s. either (s == v.slot) v.answer (at (Slot s Field.Result)) small (h s)
-  completion_after v small CompletionStage.CountDown = λ s. h s
+  completion_after v small _ = λ s. h s
 
   round_after : (n : ℕ) (changes : List Change) (v : Visit) (st : RoundStage) → AreI32Words (at_after at (round_access n changes v st))
-  round_after n changes v (round.Look answer) = h
-  round_after n changes v (round.LoadFunc answer) = h
-  round_after n changes v (round.LoadArg answer func) = h
-  round_after n changes v (round.LoadKey key change) = h
-  round_after n changes v (round.LoadEntry key word site) = h
   round_after n changes v (round.StoreChange made) = let change : Change = change_at changes made in label_after change.0 change.1
-  round_after n changes v (round.Acknowledge answer ran) = λ s. h s
-  round_after n changes v (round.Refill ran) = λ s. h s
-  round_after n changes v (round.Raise ran) = λ s. h s
+  round_after n changes v _ = λ s. h s
 
   pub words_after : (n me : ℕ) (changes : List Change) (st : StopStage) → AnswersFit st → AreI32Words (at_after at (stop_access n me changes st))
   words_after n me changes TakeGate x = gate_after (at Gate == 0) (me + 1)
-  words_after n me changes OpenGate x = λ s. h s
   words_after n me changes (Begin work f) x = begun_after n me work f
-  words_after n me changes (Enter slot) x = λ s. h s
-  words_after n me changes (EnterKind slot) x = h
-  words_after n me changes (EnterMask slot kind) x = h
-  words_after n me changes (EnterActive slot kind mask) x = h
   words_after n me changes (Advance v st) x = round_after n changes v st
   words_after n me changes (Complete v st) x = completion_after v x.0 st
-  words_after n me changes (Close slot) x = λ s. h s
-  words_after n me changes LoadDone x = h
-  words_after n me changes LoadResult x = h
-  words_after n me changes (ReadKey k) x = h
-  words_after n me changes (ReadSite i) x = h
-  words_after n me changes (NudgeKey k up) x = h
   words_after n me changes (ExchangeKey k expected new) x =
       elim (at (Key k) == expected) as (λ b. AreI32Words (put_if put_word at (Key k) (cond b (Some new) None))) [ true ↦ λ s. h s | false ↦ h ]
+  words_after n me changes _ x = λ s. h s
 
 -- what follows a step of a CPU that stands so
 

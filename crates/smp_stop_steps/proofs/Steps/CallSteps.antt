@@ -4,15 +4,15 @@ use Rattle.std.proofs.Common.{ap, arith}
 use Rattle.smp_labels.specs.{Kinds.xor, declared.keys.Change.Change as KeyChange}
 use Rattle.smp_words.proofs.Puts.{put_same, put_other}
 use Rattle.smp_stop_steps.specs.{count_after, patch_answer, IsThroughAll, visit_acked, control_then, state_after, acknowledges, carried_call, completes_with}
-use Rattle.smp_stop_steps.specs.{is_on, IsCalling, answer_in, HasCalled, CarriesAt, called_more, stored_open, stored_shut, EnterActive, LoadResult, ExchangeKey}
-use Rattle.smp_stop_steps.specs.{word_of, seen_of, IsQuiet, Calling, CallStep, Standing, key_told, may_call, TakeGate, OpenGate, Complete, LoadDone, NudgeKey}
+use Rattle.smp_stop_steps.specs.{is_on, IsCalling, answer_in, HasCalled, CarriesAt, called_more, stored_open, stored_shut, ExchangeKey}
+use Rattle.smp_stop_steps.specs.{word_of, seen_of, IsQuiet, Calling, CallStep, Standing, key_told, may_call, TakeGate, Complete, NudgeKey}
 use Rattle.smp_stop_steps.specs.{put, One, Work, Word, Gate, Slot, Key, StopRole, In, Duty, Setup, Idle, Calls, tells, told, Begin}
 use Rattle.smp_stop_steps.specs.{Enter, Close, Visit, Place, Act}
 use Rattle.smp_stop_steps.specs.{Field, CarriesIn, StopShows, answer_at, turn_note, stop_goes, turn_ends, StopState, note_then, calls_now, completes}
-use Rattle.smp_stop_steps.specs.{StopControlValue, declared.stage.StopStage.TheVariants.ReadKey, declared.stage.StopStage.TheVariants.ReadSite}
+use Rattle.smp_stop_steps.specs.{StopControlValue}
 use Rattle.smp_stop_steps.specs.{Patch, Change, Gives, Alters, Rests, RoleStands, RunsIf, Source, key_on, told_of, is_run, Inside, carried, plan_at, Advance}
 use Rattle.smp_stop_steps.specs.{IsAcking, IsEnding, IsLoaded, nudge_of, nudge_on, store_of, StopCall, gate_told, StopStage}
-use Rattle.smp_stop_steps.specs.{EnterKind, EnterMask, Sits.ControlFits}
+use Rattle.smp_stop_steps.specs.{Sits.ControlFits}
 use Rattle.smp_stop_steps.proofs.{Steps.Completions.one_phase, State.Phases.is_open_inside, State.Phases.keeps_inside, Steps.Callings.carried_alone}
 use Rattle.smp_stop_steps.proofs.{Steps.Callings.idle_alters, Steps.Callings.idle_patch, Steps.Stages.at_seat}
 use Rattle.smp_stop_steps.specs.note
@@ -225,14 +225,9 @@ module _ (u : Setup) (p : StopState) (at : Word → ℕ) (seat : ℕ → StopRol
 
   pub call_step : (stage : StopStage) → c.stage ≡ Some stage → Now stage
   call_step TakeGate e = search (plain, gate_calling, at_stage, arith)
-  call_step OpenGate e = plain OpenGate refl refl (at_stage OpenGate e)
   call_step (Begin work g) e = search (plain, store_calling, c.visit, at_stage, arith)
   call_step (Enter slot) e = search (at_seat, c.visit, at_stage, plain, either_calling, quiet_none, arith)
-  call_step (EnterKind slot) e = plain (EnterKind slot) refl refl (at_stage (EnterKind slot) e)
-  call_step (EnterMask slot kind) e = plain (EnterMask slot kind) refl refl (at_stage (EnterMask slot kind) e)
-  call_step (EnterActive slot kind mask) e = search (plain, at_stage, arith)
   call_step (Advance v (round.Look answer)) e = look v answer e
-  call_step (Advance v (round.LoadFunc answer)) e = plain (Advance v (round.LoadFunc answer)) refl refl (at_stage (Advance v (round.LoadFunc answer)) e)
   call_step (Advance v (round.LoadArg answer func)) e = load_arg v answer func e
   call_step (Advance v (round.LoadKey key change)) e = load_key v key change e
   call_step (Advance v (round.LoadEntry key word site)) e = load_entry v key word site e
@@ -240,15 +235,10 @@ module _ (u : Setup) (p : StopState) (at : Word → ℕ) (seat : ℕ → StopRol
   call_step (Advance v (round.Acknowledge answer ran)) e = acknowledge v answer ran e
   call_step (Advance v (round.Refill ran)) e = search (plain, store_calling, at_stage, arith)
   call_step (Advance v (round.Raise ran)) e = search (plain, store_calling, turn_silent, at_stage, arith)
-  call_step (Complete v (completion.LoadFunc answer)) e = search (plain, at_stage, arith)
   call_step (Complete v (completion.LoadArg answer func)) e = one_arg v answer func e
   call_step (Complete v completion.StoreAnswer) e = search (plain, store_calling, at_stage, arith)
   call_step (Complete v completion.CountDown) e = count_down v e
   call_step (Close slot) e = plain (Close slot) (store_calling p me slot 1 Field.Done (p.now.stop slot).is_open) refl (at_stage (Close slot) e)
-  call_step LoadDone e = search (plain, at_stage, arith)
-  call_step LoadResult e = plain LoadResult refl refl (at_stage LoadResult e)
-  call_step (ReadKey k) e = plain (ReadKey k) refl (search arith) (at_stage (ReadKey k) e)
-  call_step (ReadSite i) e = search (plain, at_stage, arith)
   call_step (NudgeKey k up) e = plain (NudgeKey k up) refl (silent (count_after (nudge_of up) (at (Key k)))) (nudged (count_after (nudge_of up) (at (Key k))))
     where
       q : IsQuiet c.visit f
@@ -263,3 +253,4 @@ module _ (u : Setup) (p : StopState) (at : Word → ℕ) (seat : ℕ → StopRol
   call_step (ExchangeKey k expected new) e = plain (ExchangeKey k expected new) (nudge_calling u p me k (at (Key k)) new (at (Key k) == expected))
       (elim (at (Key k) == expected) as (λ b. is_run (Some (cond b note.Done note.Lost)) ≡ false) [ true ↦ refl | false ↦ refl ])
       (at_stage (ExchangeKey k expected new) e)
+  call_step _ e = search (plain, at_stage, arith)

@@ -10,7 +10,7 @@ use Rattle.smp_stop_steps.specs.{StopControlValue, answer_at, begun_next, key_on
 use Rattle.smp_stop_steps.specs.{Setup, StopState, StopCall, Calls, FunctionGoes, note_then, state_after, Standing, Inside, acked, acknowledged}
 use Rattle.smp_stop_steps.specs.{raised, stands as stands_at, answered_by, drafts, acknowledges, calls_now, is_multi, is_patch}
 use Rattle.smp_stop_steps.specs.{key_loaded, key_told, leaves, looked_by, looks, looks_now, may_call, patch_begun, reads, stored_open, stored_shut, tells}
-use Rattle.smp_stop_steps.specs.{unpatched, with_stop, StopStage, TakeGate, OpenGate, Begin, Enter, EnterKind, EnterMask, EnterActive, Advance, Complete, Close}
+use Rattle.smp_stop_steps.specs.{unpatched, with_stop, StopStage, TakeGate, OpenGate, Begin, Enter, EnterActive, Advance, Complete, Close}
 use Rattle.smp_stop_steps.specs.{LoadDone, LoadResult, NudgeKey, ExchangeKey, Visit, Sits.ControlFits, State.Present, Stop.Stop, CompletionStage, RoundStage}
 use Rattle.smp_stop_steps.specs.declared.stage.StopStage.TheVariants.{ReadKey as ReadsKey, ReadSite as ReadsSite}
 use Rattle.smp_stop_steps.proofs.{Basics.Counts.put_own, State.Gates.gate_free, State.Gates.gate_mine, State.Phases.is_open_inside, Steps.CallSteps.call_step}
@@ -97,17 +97,8 @@ module _ (u : Setup) (p : StopState) (at : Word → ℕ) (seat : ℕ → StopRol
   begun work f e = search (go, arith)
     where
       go : (p.now.stop me).is_open ≡ false → (f : Field) → NoteFits p (stored_shut p me f (begun_value u.cpus work f)) me (begun_next c work f).note
-      go shut Field.Kind = (inl refl, draft_still p me me (begun_value u.cpus work Field.Kind) Field.Kind)
-      go shut Field.Mask = (inl refl, draft_still p me me (begun_value u.cpus work Field.Mask) Field.Mask)
-      go shut Field.Active = (inl refl, draft_still p me me (begun_value u.cpus work Field.Active) Field.Active)
-      go shut Field.Func = (inl refl, draft_still p me me (begun_value u.cpus work Field.Func) Field.Func)
-      go shut Field.Arg = (inl refl, draft_still p me me (begun_value u.cpus work Field.Arg) Field.Arg)
-      go shut Field.Result = (inl refl, draft_still p me me (begun_value u.cpus work Field.Result) Field.Result)
-      go shut Field.Todo = (inl refl, draft_still p me me (begun_value u.cpus work Field.Todo) Field.Todo)
-      go shut Field.Done = (inl refl, draft_still p me me (begun_value u.cpus work Field.Done) Field.Done)
-      go shut Field.Ack = (inl refl, draft_still p me me (begun_value u.cpus work Field.Ack) Field.Ack)
-      go shut Field.State = (inl refl, draft_still p me me (begun_value u.cpus work Field.State) Field.State)
       go shut Field.Roll = search arith
+      go shut f = (inl refl, draft_still p me me (begun_value u.cpus work f) f)
 
   entering : (slot : ℕ) → c.stage ≡ Some (Enter slot) → Fits (Enter slot)
   entering slot e = search (seat_at, h.present.stands, arith)
@@ -396,19 +387,14 @@ module _ (u : Setup) (p : StopState) (at : Word → ℕ) (seat : ℕ → StopRol
   note_fits OpenGate e = search (gate_mine, arith)
   note_fits (Begin work f) e = begun work f e
   note_fits (Enter slot) e = entering slot e
-  note_fits (EnterKind slot) e = (inl refl, same_still p me)
-  note_fits (EnterMask slot kind) e = (inl refl, same_still p me)
   note_fits (EnterActive slot kind mask) e = search (seat_at, stands, arith)
   note_fits (Advance v (RoundStage.Look answer)) e = looked v answer e
-  note_fits (Advance v (RoundStage.LoadFunc answer)) e = (inl refl, same_still p me)
   note_fits (Advance v (RoundStage.LoadArg answer func)) e = arg v answer func e
   note_fits (Advance v (RoundStage.LoadKey key change)) e = load_key v key change e
-  note_fits (Advance v (RoundStage.LoadEntry key word site)) e = (inl refl, same_still p me)
   note_fits (Advance v (RoundStage.StoreChange made)) e = search (patch_heard, patch_still, arith)
   note_fits (Advance v (RoundStage.Acknowledge answer ran)) e = acknowledge v answer ran e
   note_fits (Advance v (RoundStage.Refill ran)) e = search (ack_heard, ack_still, arith)
   note_fits (Advance v (RoundStage.Raise ran)) e = raise v ran e
-  note_fits (Complete v (CompletionStage.LoadFunc answer)) e = (inl refl, same_still p me)
   note_fits (Complete v (CompletionStage.LoadArg answer func)) e = search (run_called, goes, arg_heard, arith)
   note_fits (Complete v CompletionStage.StoreAnswer) e = search (result_heard, result_still, arith)
   note_fits (Complete v CompletionStage.CountDown) e = count_down v e
@@ -419,3 +405,4 @@ module _ (u : Setup) (p : StopState) (at : Word → ℕ) (seat : ℕ → StopRol
   note_fits (ReadsSite site) e = read_site site
   note_fits (NudgeKey key up) e = nudge key up e
   note_fits (ExchangeKey key expected new) e = exchange key expected new e
+  note_fits _ e = (inl refl, same_still p me)

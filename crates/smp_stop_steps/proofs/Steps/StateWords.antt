@@ -3,9 +3,8 @@ use Rattle.std.proofs.Common.{ℕ, ◌+◌, ◌≤◌, Bool, true, false, ◌==�
 use Rattle.smp_words.specs.Access.{put_if}
 use Rattle.smp_stop_steps.specs.{at_after, put_word, Change, StopRole, Sets, StopShows, SitsAt, SitsIn, SitsInRound, begun_value, Source, StopControlValue}
 use Rattle.smp_stop_steps.specs.{change_at, completion_access, label_word, round_access, stop_access, Setup, StopState, first_phase, Field, CompletionStage}
-use Rattle.smp_stop_steps.specs.{RoundStage, Advance, Begin, Close, Complete, Enter, EnterActive, EnterKind, EnterMask, LoadDone, LoadResult, OpenGate}
-use Rattle.smp_stop_steps.specs.{TakeGate, NudgeKey, ExchangeKey, StopStage, Visit, Kind, Work, Gate, Slot, Key, Word, Place}
-use Rattle.smp_stop_steps.specs.declared.stage.StopStage.TheVariants.{ReadKey, ReadSite}
+use Rattle.smp_stop_steps.specs.{RoundStage, Advance, Begin, Complete}
+use Rattle.smp_stop_steps.specs.{TakeGate, ExchangeKey, StopStage, Visit, Kind, Work, Gate, Slot, Key, Word, Place}
 use Rattle.smp_stop_steps.specs.Names.{OVER}
 
 -- each state word is a phase, or 5
@@ -32,10 +31,8 @@ module _ (at : Word → ℕ) (h : ArePhases at) where
   begun_after cpus me work f = search (either, first_small, arith)
 
   completion_after : (v : Visit) (st : CompletionStage) → ArePhases (at_after at (completion_access v st))
-  completion_after v (CompletionStage.LoadFunc answer) = h
-  completion_after v (CompletionStage.LoadArg answer func) = h
   completion_after v CompletionStage.StoreAnswer = λ s. h s
-  completion_after v CompletionStage.CountDown = λ s. h s
+  completion_after v _ = λ s. h s
 
 -- a step of a CPU
 
@@ -46,31 +43,15 @@ module _ (u : Setup) (p : StopState) (at : Word → ℕ) (seat : ℕ → StopRol
   raised_small w x = search (w.acked, v.present.stands, v.present.slots, arith)
 
   round_after : (w : Visit) (st : RoundStage) → SitsInRound u me c.changes w st (seat me) → ArePhases (at_after at (round_access u.cpus c.changes w st))
-  round_after w (RoundStage.Look answer) x = h
-  round_after w (RoundStage.LoadFunc answer) x = h
-  round_after w (RoundStage.LoadArg answer func) x = h
-  round_after w (RoundStage.LoadKey key change) x = h
-  round_after w (RoundStage.LoadEntry key word site) x = h
   round_after w (RoundStage.StoreChange made) x = let change : Change = change_at c.changes made in label_after at h change.0 change.1
-  round_after w (RoundStage.Acknowledge answer ran) x = λ s. h s
-  round_after w (RoundStage.Refill ran) x = λ s. h s
   round_after w (RoundStage.Raise ran) x = λ s. either (s == w.slot) (w.acked + 1) (at (Slot s Field.State)) (raised_small w (x.0, x.1, x.2)) (h s)
+  round_after w _ x = λ s. h s
 
   pub phases_after : (st : StopStage) → SitsAt u me c (Some st) (seat me) → ArePhases (at_after at (stop_access u.cpus me c.changes st))
   phases_after TakeGate x = gate_after at h (at Gate == 0) (me + 1)
-  phases_after OpenGate x = λ s. h s
   phases_after (Begin work f) x = begun_after at h u.cpus me work f
-  phases_after (Enter slot) x = λ s. h s
-  phases_after (EnterKind slot) x = h
-  phases_after (EnterMask slot kind) x = h
-  phases_after (EnterActive slot kind mask) x = h
   phases_after (Advance w st) x = round_after w st x.1
   phases_after (Complete w st) x = completion_after at h w st
-  phases_after (Close slot) x = λ s. h s
-  phases_after LoadDone x = h
-  phases_after LoadResult x = h
-  phases_after (ReadKey k) x = h
-  phases_after (ReadSite i) x = h
-  phases_after (NudgeKey k up) x = h
   phases_after (ExchangeKey k expected new) x =
       elim (at (Key k) == expected) as (λ b. ArePhases (put_if put_word at (Key k) (cond b (Some new) None))) [ true ↦ λ s. h s | false ↦ h ]
+  phases_after _ x = λ s. h s

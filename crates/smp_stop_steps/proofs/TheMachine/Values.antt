@@ -6,13 +6,12 @@ use Rattle.std.specs.Prelude.{slice_set}
 use Rattle.smp_words.proofs.Puts.{at_test}
 use Rattle.smp_labels.proofs.Stores.{entries_kept}
 use Rattle.smp_labels.specs.{Entries.IsEntryWord, Entries.entry_at, Law.Table, Plans.site_change}
-use Rattle.smp_stop_steps.specs.{CarriesIn, labels_in, HoldsGate, FitsRound, StopState, StopWords, StopsShow, RoundStage, EnterKind, LoadResult, MOST_SITES}
+use Rattle.smp_stop_steps.specs.{CarriesIn, labels_in, HoldsGate, FitsRound, StopState, StopWords, StopsShow, RoundStage, MOST_SITES}
 use Rattle.smp_stop_steps.specs.{AreI32Words, HasI32Answers, put, StopControlValue, round_access, control_then, stop_words_after, stop_control_of, site_changes}
-use Rattle.smp_stop_steps.specs.{word_of, Patches, Patching, Whole, FitsStop, Complete, EnterMask, LoadDone, OpenGate, TakeGate}
-use Rattle.smp_stop_steps.specs.{NudgeKey, StopStage, Sits.ControlFits}
-use Rattle.smp_stop_steps.specs.{cpus, Rests, SitsAt, Setup, at_then, Advance, Begin, Close, Enter, Visit, Work, Entry, Gate, Word, CompletionStage}
-use Rattle.smp_stop_steps.specs.{LabelsShow, SitsInRound, changes_of, FitsAccess, stop_access, state_after, stop_number, IsStopTable, EnterActive, ExchangeKey}
-use Rattle.smp_stop_steps.specs.declared.stage.StopStage.TheVariants.{ReadKey, ReadSite}
+use Rattle.smp_stop_steps.specs.{word_of, Patches, Patching, Whole, FitsStop, Complete}
+use Rattle.smp_stop_steps.specs.{StopStage, Sits.ControlFits}
+use Rattle.smp_stop_steps.specs.{cpus, Rests, SitsAt, Setup, at_then, Advance, Visit, Work, Entry, Gate, Word, CompletionStage}
+use Rattle.smp_stop_steps.specs.{LabelsShow, SitsInRound, changes_of, FitsAccess, stop_access, state_after, stop_number, IsStopTable}
 use Rattle.smp_stop_steps.proofs.TheMachine.Named.{gate_stays, stage_named, work_in}
 use Rattle.smp_stop_steps.proofs.Steps.StateWords.{ArePhases, phases_after}
 use Rattle.smp_stop_steps.proofs.TheMachine.Tables.{IsStopWord, stop_words_by_name, table_after}
@@ -115,12 +114,9 @@ module _ (u : Setup) (few : u.cpus ≡ cpus) (p : StopState) (t : StopWords) (co
 
       round_fits : (w : Visit) (st : RoundStage) → SitsInRound u me c.changes w st (v.seat me) →
           FitsRound c w st (at (word_of (round_access u.cpus c.changes w st)))
-      round_fits w (RoundStage.Look answer) x = tt
       round_fits w (RoundStage.LoadFunc answer) x = let work = x.1.0 in
           let same = (work_words u p at v.seat v.source v.shows w.slot me work 2 3 Rests x.1.1.3).func in
           let f = (work_in u p at v.seat v.source v.shows few v.shut me w.slot work 2 3 Rests x.1.1.3).func in subst (λ n. n < 2 ^ 16) (sym same) f
-      round_fits w (RoundStage.LoadArg answer func) x = tt
-      round_fits w (RoundStage.LoadKey key change) x = tt
       round_fits w (RoundStage.LoadEntry key word site) x = (entry_fits site x.3, x.3, long x.0 word site x.2 x.4)
         where
           entry_fits : (site : ℕ) → site < MOST_SITES → IsEntryWord (at (Entry site))
@@ -136,32 +132,15 @@ module _ (u : Setup) (few : u.cpus ≡ cpus) (p : StopState) (t : StopWords) (co
           long work word site within are = search (changes_long, work.func, take, length-take-le, arith)
       round_fits w (RoundStage.StoreChange made) x = x.4
       round_fits w (RoundStage.Acknowledge answer ran) x = x.2
-      round_fits w (RoundStage.Refill ran) x = tt
-      round_fits w (RoundStage.Raise ran) x = tt
+      round_fits w _ x = tt
 
       go : (st : StopStage) → c.stage ≡ Some st → FitsStop c st (at (word_of (stop_access u.cpus me c.changes st)))
-      go TakeGate e = tt
-      go OpenGate e = tt
-      go (Begin work f) e = tt
-      go (Enter slot) e = tt
-      go (EnterKind slot) e = tt
-      go (EnterMask slot kind) e = tt
-      go (EnterActive slot kind mask) e = tt
       go (Advance w st) e = round_fits w st (seat_at (Advance w st) e).1
       go (Complete w (CompletionStage.LoadFunc answer)) e = let x = (seat_at (Complete w (CompletionStage.LoadFunc answer)) e).1 in
           let work = x.1.0 in
           let same = (work_words u p at v.seat v.source v.shows w.slot me work w.acked w.acked Rests x.1.2).func in
           let f = (work_in u p at v.seat v.source v.shows few v.shut me w.slot work w.acked w.acked Rests x.1.2).func in subst (λ n. n < 2 ^ 16) (sym same) f
-      go (Complete w (CompletionStage.LoadArg answer func)) e = tt
-      go (Complete w CompletionStage.StoreAnswer) e = tt
-      go (Complete w CompletionStage.CountDown) e = tt
-      go (Close slot) e = tt
-      go LoadDone e = tt
-      go LoadResult e = tt
-      go (ReadKey k) e = tt
-      go (ReadSite i) e = tt
-      go (NudgeKey k up) e = tt
-      go (ExchangeKey k expected new) e = tt
+      go _ e = tt
 
   -- the store of a patch that is made next is one of its changes
   pub stop_access_fits : FitsAccess c stage
