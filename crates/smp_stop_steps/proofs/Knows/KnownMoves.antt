@@ -22,13 +22,7 @@ module _ (p : StopState) (at : Word → ℕ) (seat : ℕ → StopRole) (source :
   load_field s Field.Mask i = still p at seat source v h sees Act.Load (Slot s Field.Mask) (Some (at (Slot s Field.Mask))) None refl
   load_field s Field.Active i = still p at seat source v h sees Act.Load (Slot s Field.Active) (Some (at (Slot s Field.Active))) None refl
   load_field s Field.Func i = still p at seat source v h sees Act.Load (Slot s Field.Func) (Some (at (Slot s Field.Func))) None refl
-  load_field s Field.Arg i = absurd i
-  load_field s Field.State i = absurd i
-  load_field s Field.Ack i = absurd i
-  load_field s Field.Roll i = absurd i
-  load_field s Field.Todo i = absurd i
-  load_field s Field.Result i = absurd i
-  load_field s Field.Done i = absurd i
+  load_field s _ i = absurd i
 
   -- what each step tells
   tells_move : (m : Move) → MayStep v m →

@@ -1,13 +1,13 @@
 -- Each step that a CPU may make is counted once, but for the stores that are due.
 use Rattle.std.proofs.Common.{◌≡◌, ℕ, ◌+◌, ◌==◌, not, Bool, true, false, cond, Option, Some, None, refl, ap, ◌∙◌, arith}
-use Rattle.smp_stop_steps.specs.{begun_value, cpus, has, mask_weight, seen_of, StopRole, Free, In, Gives, Alters, Closes, Source}
-use Rattle.smp_stop_steps.specs.{Shut, Drafts, Owns, Collects, Act}
+use Rattle.smp_stop_steps.specs.{begun_value, cpus, has, mask_weight, seen_of, StopRole, Free, In, Source}
+use Rattle.smp_stop_steps.specs.{Shut, Drafts, Act}
 use Rattle.smp_stop_steps.specs.{Field, Work, acked_by, called_by, completed_by, drafted_known, entered_known, gate_known, is_drafting, key_known}
 use Rattle.smp_stop_steps.specs.{key_loaded_by, learned, is_due, member_stored, opened_by, order, raised_by, slot_known, slot_stored, told_work}
 use Rattle.smp_stop_steps.specs.{Slot, Threads.Known.KnownStops, Threads.Known.stepped, KnownLaws.KnownStepsCount, KnownLaws.weight_of}
-use Rattle.smp_stop_steps.specs.Threads.Moves.{Move, TakeGate, OpenGate, Draft, DraftMore, Open, Enter, Look, Acknowledge, AcknowledgePatch, Refill, Raise}
-use Rattle.smp_stop_steps.specs.Threads.Moves.{Give, Count, CountGiven, Close, LookDone, Collect, ReadKey, ReadSite, Nudge, BeginPatch, Alter, LoadArg}
-use Rattle.smp_stop_steps.specs.Threads.Moves.{LoadField, LoadEntry, MayStep, known_access}
+use Rattle.smp_stop_steps.specs.Threads.Moves.{Move, TakeGate, DraftMore, Open, Enter, Acknowledge, AcknowledgePatch, Refill, Raise}
+use Rattle.smp_stop_steps.specs.Threads.Moves.{Give, Count, CountGiven, Close, ReadKey, Nudge, BeginPatch, Alter, LoadArg}
+use Rattle.smp_stop_steps.specs.Threads.Moves.{LoadField, MayStep, known_access}
 use Rattle.smp_labels.specs.declared.patch.Place.TheVariants as place
 
 -- what a step tells has no part in how many there were
@@ -23,44 +23,27 @@ module _ (v : KnownStops) where
 
   opened : (y : Source) → (opened_by y v).steps ≡ v.steps
   opened Shut = refl
-  opened (Drafts w k) = refl
-  opened (Owns w) = refl
-  opened (Collects w) = refl
+  opened _ = refl
 
   raised : (n : ℕ) (x : StopRole) → (raised_by n x v).steps ≡ v.steps
   raised n Free = refl
-  raised n (In s w a l t) = refl
-  raised n (Gives s w a x) = refl
-  raised n (Alters s w count made rest) = refl
-  raised n (Closes s) = refl
+  raised n _ = refl
 
   acked : (found : ℕ) (x : StopRole) → (acked_by found x v).steps ≡ v.steps
   acked found Free = refl
-  acked found (In s w a l t) = refl
-  acked found (Gives s w a x) = refl
-  acked found (Alters s w count made rest) = refl
-  acked found (Closes s) = refl
+  acked found _ = refl
 
   completed : (found : ℕ) (x : StopRole) → (completed_by found x v).steps ≡ v.steps
   completed found Free = refl
-  completed found (In s w a l t) = refl
-  completed found (Gives s w a x) = refl
-  completed found (Alters s w count made rest) = refl
-  completed found (Closes s) = refl
+  completed found _ = refl
 
   called : (found : ℕ) (x : StopRole) → (called_by found x v).steps ≡ v.steps
-  called found Free = refl
   called found (In s w a l t) = either _ _ v v.steps refl refl
-  called found (Gives s w a x) = refl
-  called found (Alters s w count made rest) = refl
-  called found (Closes s) = refl
+  called found _ = refl
 
   key_loaded : (k found : ℕ) (x : StopRole) → (key_loaded_by k found x v).steps ≡ v.steps
-  key_loaded k found Free = refl
   key_loaded k found (In s w a l t) = either _ _ _ v.steps refl refl
-  key_loaded k found (Gives s w a x) = refl
-  key_loaded k found (Alters s w count made rest) = refl
-  key_loaded k found (Closes s) = refl
+  key_loaded k found _ = refl
 
   nudged : (k found : ℕ) (put : Option ℕ) → (key_known Act.Cas k (Some found) put v).steps ≡ v.steps
   nudged k found (Some n) = refl
@@ -72,56 +55,27 @@ module _ (v : KnownStops) where
 
   -- a store to a slot, of a CPU that drafts or not
   member : (f : Field) (n : ℕ) → (member_stored f n v).steps ≡ v.steps
-  member Field.Kind n = refl
-  member Field.Mask n = refl
-  member Field.Active n = refl
-  member Field.Func n = refl
-  member Field.Arg n = refl
   member Field.State n = raised n v.seat
-  member Field.Ack n = refl
-  member Field.Roll n = refl
-  member Field.Todo n = refl
-  member Field.Result n = refl
-  member Field.Done n = refl
+  member _ n = refl
 
   drafted : (f : Field) (n : ℕ) → (cond (is_drafting v.source) (drafted_known f n v) (member_stored f n v)).steps ≡ v.steps
   drafted f n = either (is_drafting v.source) (drafted_known f n v) (member_stored f n v) v.steps refl (member f n)
 
   stored : (f : Field) (n : ℕ) → (slot_stored f n v).steps ≡ v.steps
   stored Field.Kind n = refl
-  stored Field.Mask n = drafted Field.Mask n
-  stored Field.Active n = drafted Field.Active n
-  stored Field.Func n = drafted Field.Func n
-  stored Field.Arg n = drafted Field.Arg n
-  stored Field.State n = drafted Field.State n
-  stored Field.Ack n = drafted Field.Ack n
   stored Field.Roll n = opened v.source
-  stored Field.Todo n = drafted Field.Todo n
-  stored Field.Result n = drafted Field.Result n
-  stored Field.Done n = drafted Field.Done n
+  stored f n = drafted f n
 
   loaded : (w : Work) (s n : ℕ) (f : Field) → (slot_known w v s Act.Load f (Some n) None).steps ≡ v.steps
-  loaded w s n Field.Kind = refl
-  loaded w s n Field.Mask = refl
-  loaded w s n Field.Active = refl
-  loaded w s n Field.Func = refl
   loaded w s n Field.Arg = called n v.seat
-  loaded w s n Field.State = refl
-  loaded w s n Field.Ack = refl
-  loaded w s n Field.Roll = refl
-  loaded w s n Field.Todo = refl
-  loaded w s n Field.Result = refl
-  loaded w s n Field.Done = refl
+  loaded w s n _ = refl
 
   told : (m : Move) (found : ℕ) (w : Work) → let seen = seen_of v.number (known_access v m) found None in
       (learned w v seen.act seen.word seen.found seen.put).steps ≡ v.steps
   told TakeGate found w = gate (cond (found == 0) (Some (v.number + 1)) None)
-  told OpenGate found w = refl
-  told (Draft x) found w = refl
   told (DraftMore x f) found w = stored f (begun_value cpus x f)
   told (Open x) found w = opened v.source
   told (Enter s) found w = entered s w (has found v.number)
-  told (Look s x a l) found w = refl
   told (Acknowledge s x a) found w = acked found v.seat
   told (AcknowledgePatch s x count made) found w = acked found v.seat
   told (Refill s x a l) found w = stored Field.Ack (mask_weight cpus x.mask)
@@ -130,17 +84,14 @@ module _ (v : KnownStops) where
   told (Count s x a l) found w = completed found v.seat
   told (CountGiven s x a n) found w = completed found v.seat
   told (Close s) found w = stored Field.Done 1
-  told (LookDone x) found w = refl
-  told (Collect x) found w = refl
   told (ReadKey k) found w = key_loaded k found v.seat
-  told (ReadSite i) found w = refl
   told (Nudge k old new) found w = nudged k found (cond (found == old) (Some new) None)
   told (BeginPatch s x) found w = key_loaded x.func found v.seat
   told (Alter s x count made (place.Key k, n) rest) found w = refl
   told (Alter s x count made (place.Site i, n) rest) found w = refl
   told (LoadArg s x a l) found w = called found v.seat
   told (LoadField s x a l f) found w = loaded w s found f
-  told (LoadEntry s x count made rest i) found w = refl
+  told _ found w = refl
 
   -- a step counts as its kind does
 
@@ -159,32 +110,13 @@ module _ (v : KnownStops) where
 
   weighs : (m : Move) → MayStep v m → (found : ℕ) → let seen = seen_of v.number (known_access v m) found None in
       cond (is_due (is_drafting v.source) seen.act seen.word) 0 1 ≡ weight_of m
-  weighs TakeGate may found = refl
-  weighs OpenGate may found = refl
-  weighs (Draft x) may found = refl
   weighs (DraftMore x f) may found = drafts f v.source (told_work (order f) x) (order f) may.0
-  weighs (Open x) may found = refl
-  weighs (Enter s) may found = refl
-  weighs (Look s x a l) may found = refl
-  weighs (Acknowledge s x a) may found = refl
-  weighs (AcknowledgePatch s x count made) may found = refl
   weighs (Refill s x a l) may found = rests may.1
   weighs (Raise s x a l) may found = rests may.1
-  weighs (Give s x a l n) may found = refl
-  weighs (Count s x a l) may found = refl
-  weighs (CountGiven s x a n) may found = refl
   weighs (Close s) may found = rests may.1
-  weighs (LookDone x) may found = refl
-  weighs (Collect x) may found = refl
-  weighs (ReadKey k) may found = refl
-  weighs (ReadSite i) may found = refl
-  weighs (Nudge k old new) may found = refl
-  weighs (BeginPatch s x) may found = refl
   weighs (Alter s x count made (place.Key k, n) rest) may found = refl
   weighs (Alter s x count made (place.Site i, n) rest) may found = refl
-  weighs (LoadArg s x a l) may found = refl
-  weighs (LoadField s x a l f) may found = refl
-  weighs (LoadEntry s x count made rest i) may found = refl
+  weighs _ may found = refl
 
 pub known_steps_count : KnownStepsCount
 known_steps_count v m may found w = search (one_unless, weighs, told, arith)

@@ -1,7 +1,7 @@
 -- Each step that a CPU may make by what it knows keeps what the steps of the commands keep.
 use Rattle.std.proofs.Common.{◌≡◌, ℕ, ◌+◌, ◌∷◌, [], Bool, true, false, ◌==◌, cond, Some, None, List, inl, inr, sym, subst, refl, ap, ◌∙◌, arith, bit_and}
 use Rattle.std.proofs.Common.{eqb-true}
-use Rattle.smp_stop_steps.specs.{word_of, at_after, seen_of, Access, Field, Work, Word, Gate, Slot, Key, Site, HasCompleted, MayStore, MayStoreIf, MaySee}
+use Rattle.smp_stop_steps.specs.{word_of, at_after, seen_of, Access, Field, Work, Word, Gate, Slot, Key, HasCompleted, MayStore, MayStoreIf, MaySee}
 use Rattle.smp_stop_steps.specs.{IsAtRun, unfinished, StopRole, In, Alters, Closes, Duty, Rests, Sets, RoleStands, StopShows}
 use Rattle.smp_stop_steps.specs.{DoneShows, Source, Shut, Drafts, Owns}
 use Rattle.smp_stop_steps.specs.{Collects, SourceShows, OwnerShows, IsNextOfPatch, label_stored, store_of, KeysStand, Change, Whole, Place}
@@ -142,30 +142,7 @@ module _ (p : StopState) (at : Word → ℕ) (seat : ℕ → StopRole) (source :
 
   labels : (m : Move) → MayStep v m → (change : Change) → label_stored (known_access v m) ≡ Some change → IsNextOfPatch p me change
   labels (Alter s w count made (x, n) rest) m change e = search (at_seat, arith)
-  labels TakeGate m change e = cc
-  labels OpenGate m change e = cc
-  labels (Draft w) m change e = cc
-  labels (DraftMore w f) m change e = cc
-  labels (Open w) m change e = cc
-  labels (Enter s) m change e = cc
-  labels (Look s w a l) m change e = cc
-  labels (Acknowledge s w a) m change e = cc
-  labels (AcknowledgePatch s w count made) m change e = cc
-  labels (Refill s w a l) m change e = cc
-  labels (Raise s w a l) m change e = cc
-  labels (Give s w a l x) m change e = cc
-  labels (Count s w a l) m change e = cc
-  labels (CountGiven s w a x) m change e = cc
-  labels (Close s) m change e = cc
-  labels (LookDone w) m change e = cc
-  labels (Collect w) m change e = cc
-  labels (ReadKey k) m change e = cc
-  labels (ReadSite i) m change e = cc
-  labels (Nudge k found new) m change e = cc
-  labels (BeginPatch s w) m change e = cc
-  labels (LoadArg s w a l) m change e = cc
-  labels (LoadField s w a l f) m change e = cc
-  labels (LoadEntry s w count made rest i) m change e = cc
+  labels _ m change e = cc
 
   same : KeysStand at at
   same = record { keys = λ k. refl; sites = λ i. refl }
@@ -174,8 +151,6 @@ module _ (p : StopState) (at : Word → ℕ) (seat : ℕ → StopRole) (source :
   other : (w : Word) (n : ℕ) → IsOther w → KeysStand at (put_word at w n)
   other Gate n o = record { keys = λ k. refl; sites = λ i. refl }
   other (Slot s f) n o = record { keys = λ k. refl; sites = λ i. refl }
-  other (Key k) n o = absurd o
-  other (Site i) n o = absurd o
   other _ n o = absurd o
 
   gate : (b : Bool) → KeysStand at (put_if put_word at Gate (cond b (Some (me + 1)) None))
@@ -197,7 +172,6 @@ module _ (p : StopState) (at : Word → ℕ) (seat : ℕ → StopRole) (source :
   stands_still (DraftMore w f) may whole = other (Slot me f) (begun_value cpus w f) tt
   stands_still (Open w) may whole = other (Slot me Field.Roll) w.mask tt
   stands_still (Enter s) may whole = other (Slot s Field.Roll) (bit_and (at (Slot s Field.Roll)) (all_but me)) tt
-  stands_still (Look s w a l) may whole = same
   stands_still (Acknowledge s w a) may whole = other (Slot s Field.Ack) (one_less (at (Slot s Field.Ack))) tt
   stands_still (AcknowledgePatch s w count made) may whole = other (Slot s Field.Ack) (one_less (at (Slot s Field.Ack))) tt
   stands_still (Refill s w a l) may whole = other (Slot s Field.Ack) (mask_weight cpus w.mask) tt
@@ -206,16 +180,9 @@ module _ (p : StopState) (at : Word → ℕ) (seat : ℕ → StopRole) (source :
   stands_still (Count s w a l) may whole = other (Slot s Field.Todo) (one_less (at (Slot s Field.Todo))) tt
   stands_still (CountGiven s w a x) may whole = other (Slot s Field.Todo) (one_less (at (Slot s Field.Todo))) tt
   stands_still (Close s) may whole = other (Slot s Field.Done) 1 tt
-  stands_still (LookDone w) may whole = same
-  stands_still (Collect w) may whole = same
-  stands_still (ReadKey k) may whole = same
-  stands_still (ReadSite i) may whole = same
   stands_still (Nudge k found new) may whole = nudged k found new may.3 (at (Key k) == found) refl
-  stands_still (BeginPatch s w) may whole = same
   stands_still (Alter s w count made change rest) may whole = absurd (whole_not s w count made (change ∷ rest) may.0 whole)
-  stands_still (LoadArg s w a l) may whole = same
-  stands_still (LoadField s w a l f) may whole = same
-  stands_still (LoadEntry s w count made rest i) may whole = same
+  stands_still _ may whole = same
 
   pub keeps_move_laws : (m : Move) → MayStep v m → KeepsMoveLaws p at v m
   keeps_move_laws m may = record { premise = may_see m may; labels = labels m may; stands = stands_still m may }
