@@ -8,7 +8,7 @@ use Rattle.smp_labels.specs.{Law.IsLawful, Plans.AreEntriesOf}
 use Rattle.smp_stop_steps.specs.{IsCalling, told, may_call, calls_now, behind, count_behind, sum_below, unfinished, Change, labels_in, Alters, Free, Gives, In}
 use Rattle.smp_stop_steps.specs.{Rests, StopRole, RoleStands, Duty, StopShows, IsWritten, Keeps, OpenShows, Shut, Source, IsSetup}
 use Rattle.smp_stop_steps.specs.{Setup, StopState, no_stops, StopCall}
-use Rattle.smp_stop_steps.specs.{Calls, Answering, Called, Completed, Inside, Outside, Standing, is_called, Work, Gate, Slot, Key, Word, has, Act}
+use Rattle.smp_stop_steps.specs.{Calls, Answering, Called, Inside, Standing, is_called, Work, Gate, Slot, Key, Word, has, Act}
 use Rattle.smp_stop_steps.proofs.State.Phases.{is_open_inside, keeps_inside, none_raises}
 use Rattle.smp_stop_steps.proofs.{State.KeyCounts.opened_count, Basics.Counts.sum_zero, State.Acknowledged.nobody_raises}
 
@@ -117,11 +117,8 @@ pub high_none : (u : Setup) (p : StopState) (at : Word → ℕ) (seat : ℕ → 
 high_none u p at seat source h slot c high = (h.present.slots slot).roll c ∙ go ((p.now.stop slot).standing c) ((h.present.slots slot).keeps c)
   where
     go : (x : Standing) → Keeps u.cpus (p.now.stop slot).phase c x → is_called x ≡ false
-    go Outside k = refl
     go Called k = absurd (let few = h.setup.few in let low = k.0 in omega arith)
-    go (Inside a l) k = refl
-    go (Answering a x) k = refl
-    go (Completed a x) k = refl
+    go _ k = refl
 
 -- at first no stop is open
 pub no_stops_shown : (u : Setup) (at : Word → ℕ) → IsSetup u → at Gate ≡ 0 → ((s : ℕ) → at (Slot s Roll) ≡ 0) → AreEntriesOf u.entries (labels_in at) →

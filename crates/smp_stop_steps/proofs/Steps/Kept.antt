@@ -2,7 +2,7 @@
 use Rattle.std.proofs.Common.{◌≡◌, ◌≢◌, ℕ, ◌≤◌, Bool, true, ◌==◌, cond, sym, subst, refl, ap, ◌∙◌, Option, List, arith}
 use Rattle.smp_words.proofs.Puts.{at_test, put_all}
 use Rattle.smp_stop_steps.specs.{CountShows, put, put_word, Patching, Reading, StandsSet, HasPast, OnlyActiveAnswer, answer_now, answer_of, OwnsKey}
-use Rattle.smp_stop_steps.specs.{PresentShows, StopRole, StopShows, Collects, Drafts, Owns, Shut, Source, SourceShows, AreClosing, IsCalling, Calling, Setup}
+use Rattle.smp_stop_steps.specs.{PresentShows, StopRole, StopShows, Drafts, Source, SourceShows, AreClosing, IsCalling, Calling, Setup}
 use Rattle.smp_stop_steps.specs.{StopCall, StopState, Ended, Standing, acked, is_inside, Field, Patch, Work, Gate, Key, Slot, Word, State.Present, Stop.Stop}
 use Rattle.smp_stop_steps.proofs.State.Moves.{field_false}
 use Rattle.smp_stop_steps.specs.Names.{RUN}
@@ -11,10 +11,8 @@ module _ (u : Setup) (gate : Option ℕ) (s : ℕ) where
   -- a source whose slot is as it was
   pub source_same : (stop : Stop) (word word' : Field → ℕ) → ((f : Field) → word' f ≡ word f) → (x : Source) → SourceShows u gate stop word s x →
       SourceShows u gate stop word' s x
-  source_same stop word word' same Shut h = h
   source_same stop word word' same (Drafts work k) h = search (h.stored, arith)
-  source_same stop word word' same (Owns work) h = h
-  source_same stop word word' same (Collects work) h = h
+  source_same stop word word' same _ h = h
 
   -- a source whose stop is open, stays so, and has ended where it had
   pub source_open : (stop stop' : Stop) (word word' : Field → ℕ) → stop.is_open ≡ true → stop'.is_open ≡ true → stop'.work ≡ stop.work →

@@ -3,7 +3,7 @@ use Rattle.std.proofs.Common.{◌≡◌, ◌≢◌, ℕ, ◌+◌, ◌<◌, ◌�
 use Rattle.std.proofs.{lemmas.Bool.cases_lt, lemmas.List.append-nil}
 use Rattle.std.specs.List.{AllByRecursion}
 use Rattle.smp_stop_steps.specs.{plan_at, word_of, cpus, Change, Alters, Fills, Gives, In, Rests, StopRole, Sets, RoleStands, Duty, StopShows, SitsInCompletion}
-use Rattle.smp_stop_steps.specs.{SitsInRound, Collects, Drafts, IsWork, Owns, Shut, Source, SourceShows, StopControlValue, change_at, completion_access}
+use Rattle.smp_stop_steps.specs.{SitsInRound, Collects, IsWork, Owns, Shut, Source, SourceShows, StopControlValue, change_at, completion_access}
 use Rattle.smp_stop_steps.specs.{label_word, round_access, stop_access, store_of, Setup, StopState, at_then, CompletionStage, RoundStage, StopStage, Visit}
 use Rattle.smp_stop_steps.specs.{Patch, Work, Gate, Slot, Word, site_changes, MOST_KEYS, MOST_SITES, Sits.ControlFits}
 use Rattle.smp_stop_steps.proofs.{State.Phases.is_open_inside, Steps.RoundSteps.change_here, TheMachine.Tables.IsStopWord, Steps.Stages.at_seat}
@@ -27,10 +27,9 @@ module _ (u : Setup) (p : StopState) (at : Word → ℕ) (seat : ℕ → StopRol
   open_work s op = go (source s) (h.sources s)
     where
       go : (y : Source) → SourceShows u p.gate (p.now.stop s) (λ f. at (Slot s f)) s y → IsWork u (p.now.stop s).work
-      go Shut d = cc
-      go (Drafts work k) d = cc
       go (Owns work) d = subst (IsWork u) (sym d.work_is) d.is_work
       go (Collects work) d = subst (IsWork u) (sym d.0.work_is) d.0.is_work
+      go _ d = cc
 
   module _ (me : ℕ) where
     open_in : (s : ℕ) (work : Work) (a l : ℕ) (t : Duty) → seat me ≡ In s work a l t → (p.now.stop s).is_open ≡ true

@@ -42,34 +42,14 @@ slot_put_other xs s t f g n low long other = search (cases_lt, place_below, cell
 -- a store in a word that there is
 number_put : (t : StopWords) → IsStopTable t → (w : Word) (n : ℕ) → IsStopWord w → (x : Word) → stop_number (stop_put t w n) x ≡ put_word (stop_number t) w n x
 number_put t is Gate n h Gate = refl
-number_put t is Gate n h (Slot s f) = refl
-number_put t is Gate n h (Key k) = refl
-number_put t is Gate n h (Entry i) = refl
-number_put t is Gate n h (Site i) = refl
 number_put t is Gate n h _ = refl
 number_put t is (Slot s f) n h (Slot r g) = search (t.slots, same_word-true, slot_put_same, slot_put_other, same_word-itself, arith)
-number_put t is (Slot s f) n h Gate = refl
-number_put t is (Slot s f) n h (Key k) = refl
-number_put t is (Slot s f) n h (Entry i) = refl
-number_put t is (Slot s f) n h (Site i) = refl
 number_put t is (Slot s f) n h _ = refl
 number_put t is (Key k) n h (Key j) = list_put t.keys k n j (let long = is.keys in omega arith)
-number_put t is (Key k) n h Gate = refl
-number_put t is (Key k) n h (Slot s f) = refl
-number_put t is (Key k) n h (Entry i) = refl
-number_put t is (Key k) n h (Site i) = refl
 number_put t is (Key k) n h _ = refl
 number_put t is (Entry i) n h (Entry j) = list_put t.entries i n j (let long = is.entries in omega arith)
-number_put t is (Entry i) n h Gate = refl
-number_put t is (Entry i) n h (Slot s f) = refl
-number_put t is (Entry i) n h (Key k) = refl
-number_put t is (Entry i) n h (Site j) = refl
 number_put t is (Entry i) n h _ = refl
 number_put t is (Site i) n h (Site j) = list_put t.sites i n j (let long = is.sites in omega arith)
-number_put t is (Site i) n h Gate = refl
-number_put t is (Site i) n h (Slot s f) = refl
-number_put t is (Site i) n h (Key k) = refl
-number_put t is (Site i) n h (Entry j) = refl
 number_put t is (Site i) n h _ = refl
 number_put t is _ n h x = absurd h
 
