@@ -292,7 +292,9 @@ module _ {a : CallState} {at : Word → ℕ} {control : ℕ → ControlValue} (m
   -- a step of a post that changes no word and no call
   goes_on : (p : Posting) (st next : PostStage) → (control me).stage ≡ Some (Post p st) → held_of_post p st ≡ held_of_post p next → PostGoes p next
       → PostKnows a.place at p next → Shows a at (put control me (to_stage (Some (Post p next))))
-  goes_on p st next e same goes knows = search (post_rests, stands_on, holds_at, goes_here, arith)
+  goes_on p st next e same goes knows =
+      let r = post_rests p st e in
+      stands_on a at control me (to_stage (Some (Post p next))) s (holds_at (Post p st) e ∙ same) (goes_here a.place at p st next e goes knows) r.hand
 
   pub head_step : (p : Posting) → (control me).stage ≡ Some (Post p post.LoadHead) → StepShows a at control me (Post p post.LoadHead)
   head_step p e = let was = was_at p post.LoadHead e in goes_on p post.LoadHead (post.StoreNext (at (Head p.to)) p.tries) e refl was.goes was.knows
