@@ -7,8 +7,8 @@ use Rattle.smp_words.specs.Size.{owner}
 use Rattle.smp_words.proofs.Puts.{put_same}
 use Rattle.smp_call_steps.specs.{CallState, Holding, Running, Nothing, confirms, appended, begins_sync, begins_async, unlocks, releases, links, flags_told}
 use Rattle.smp_call_steps.specs.{head_told, tells, runs_as, place_as, told_of, is_call, BeginsIt, FunctionGoes, ends, goes_to, ControlValue}
-use Rattle.smp_call_steps.specs.{seen_then, Call, Class, Sync, Async, Word, Note, CallOutcome, Posting, PostStage, HandleStage, Stage, Send, Done}
-use Rattle.smp_call_steps.specs.{Post, Handle}
+use Rattle.smp_call_steps.specs.{seen_then, Call, Class, Sync, Async, Word, Note, CallOutcome, Posting, HandleStage, Stage}
+use Rattle.smp_call_steps.specs.{Handle}
 use Rattle.smp_call_steps.specs.Shows.{Shows}
 use Rattle.smp_call_steps.proofs.State.Walks.{walks_sync, ends_async as async_next}
 use Rattle.smp_call_steps.proofs.Steps.Turns.{stands_at, holds_nothing}
@@ -82,28 +82,20 @@ module _ (a : CallState) (at : Word → ℕ) (control : ℕ → ControlValue) (s
   abbrev Goes : Stage → Type 0
   Goes stage = let seen = seen_then at (control me).drain me stage in FunctionGoes a (tells a seen) me seen.note
 
-  goes_post : (p : Posting) (stage : PostStage) → (control me).stage ≡ Some (Post p stage) → Goes (Post p stage)
-  goes_post p (post.Exchange link tries) e = search (told_exchange, said_exchange, arith)
-  goes_post p _ e = search (told_confirms, said_flags, told_lock, told_links, arith)
+  ruleset tells_nothing = (said_flags, said_exchange, said_done, said_accept, told_confirms, told_lock, told_links, told_exchange, stands_at, holds_nothing)
 
-  goes_handle : (stage : HandleStage) → (control me).stage ≡ Some (Handle stage) → Goes (Handle stage)
-  goes_handle (handle.BeginSync walk call next) e =
+  pub function_goes : (stage : Stage) → (control me).stage ≡ Some stage → Goes stage
+  function_goes (Handle (handle.BeginSync walk call next)) e =
       let k = stands_at me s (handle.BeginSync walk call next) e in
       let said : Option Note = Some (note.Call (owner call.id) call.func call.info) in
       subst (λ (b : Bool). FunctionGoes a (cond b (begins_sync a me (a.batch me)) a) me said) (sym (lt-ltb 1 (call.id + 2) (omega arith)))
       (subst (λ (xs : List Call). FunctionGoes a (begins_sync a me xs) me said) (sym k.1.1.batch)
       (inr (inl (begins_sync_it a me call _ k.1.1.batch k.1.1.running_is (walks_sync k.1.1)))))
-  goes_handle (handle.BeginAsync call next) e =
+  function_goes (Handle (handle.BeginAsync call next)) e =
       let k = stands_at me s (handle.BeginAsync call next) e in
       let said : Option Note = Some (note.Call (owner call.id) call.func call.info) in
       subst (λ (h : Option Holding). FunctionGoes a (releases a me call.id h) me said) (sym (holds_nothing me s (handle.BeginAsync call next) e))
       (subst (λ (r : Running). FunctionGoes a (unlocks a me r) me said) (sym k.1.1.running_is)
       (subst (λ (xs : List Call). FunctionGoes a (begins_async a me xs) me said) (sym k.1.1.batch)
       (inr (inl (begins_async_it a me call _ k.1.1.batch k.1.1.running_is (async_next k.1.1))))))
-  goes_handle _ e = search (said_accept, told_links, told_confirms, stands_at, holds_nothing, arith)
-
-  pub function_goes : (stage : Stage) → (control me).stage ≡ Some stage → Goes stage
-  function_goes (Send to) e = inl (record { same = refl; says = refl })
-  function_goes (Done id) e = search (told_confirms, said_done, arith)
-  function_goes (Post p stage) e = goes_post p stage e
-  function_goes (Handle stage) e = goes_handle stage e
+  function_goes _ e = search (tells_nothing, arith)

@@ -6,7 +6,7 @@ use Rattle.smp_words.proofs.Puts.{put_same, test_here}
 use Rattle.smp_call_steps.specs.{CallState, Holding, Running, Nothing, confirms, accepts, begins_sync, begins_async, counts, unlocks, releases, links}
 use Rattle.smp_call_steps.specs.{flags_told, head_told, tells, is_queued, queued_note, QueueGoes, SaidMeans, ends, goes_to, ControlValue, holding}
 use Rattle.smp_call_steps.specs.{seen_then, FlagsShow, Call, Class, Sync, Async, Word, Head, Intr, Flags, RecPlace, CallOutcome}
-use Rattle.smp_call_steps.specs.{Posting, PostStage, HandleStage}
+use Rattle.smp_call_steps.specs.{Posting, HandleStage}
 use Rattle.smp_call_steps.specs.{Stage, Send, Done, Post, Handle}
 use Rattle.smp_call_steps.specs.Shows.{Shows}
 use Rattle.smp_call_steps.proofs.Knows.Parts.{first_link}
@@ -88,20 +88,11 @@ module _ (a : CallState) (at : Word → ℕ) (control : ℕ → ControlValue) (s
   exchanged p link tries true c e held = search (first_link, eqb-true, queued_said, arith)
   exchanged p link tries false c e held = inl (record { same = refl; says = said_lost c p (at (Head p.to)) tries })
 
-  queues_post : (p : Posting) (stage : PostStage) → (control me).stage ≡ Some (Post p stage) → Queues (Post p stage)
-  queues_post p post.LoadFlags e = search (sent_confirms, said_flags, arith)
-  queues_post p (post.Exchange link tries) e = search (exchanged, arith)
-  queues_post p _ e = search (sent_lock, sent_links, sent_releases, arith)
-
-  queues_handle : (stage : HandleStage) → Queues (Handle stage)
-  queues_handle handle.Accept = inl (record { same = refl; says = said_accept (at (Intr me) == 0) handle.LeaveIdle handle.Take })
-  queues_handle _ = search (sent_links, sent_confirms, sent_hand, sent_counts, sent_releases, arith)
+  ruleset queues_nothing = (said_flags, said_done, said_accept, sent_confirms, sent_lock, sent_links, sent_hand, sent_counts, sent_releases)
 
   pub queue_goes : (stage : Stage) → (control me).stage ≡ Some stage → Queues stage
-  queue_goes (Send to) e = inl (record { same = refl; says = refl })
-  queue_goes (Done id) e = search (sent_confirms, said_done, arith)
-  queue_goes (Post p stage) e = queues_post p stage e
-  queue_goes (Handle stage) e = queues_handle stage
+  queue_goes (Post p (post.Exchange link tries)) e = search (exchanged, arith)
+  queue_goes _ e = search (queues_nothing, arith)
 
   -- what else a note says
 
@@ -145,20 +136,13 @@ module _ (a : CallState) (at : Word → ℕ) (control : ℕ → ControlValue) (s
   means_accept true x = tt
   means_accept false x = tt
 
-  means_post : (p : Posting) (stage : PostStage) → (control me).stage ≡ Some (Post p stage) → Means (Post p stage)
-  means_post p post.LoadFlags e = means_flags p.id (at (Flags p.id) % 2 == 1) p.is_online p refl refl
-  means_post p (post.Exchange link tries) e = search (means_exchange, arith)
-  means_post p post.Release e = search (put_same, arith)
-  means_post p _ e = tt
-
-  means_handle : (stage : HandleStage) → (control me).stage ≡ Some (Handle stage) → Means (Handle stage)
-  means_handle handle.Accept e = means_accept (at (Intr me) == 0) (accepts a me)
-  means_handle handle.LeaveIdle e = let k = stands_at me s handle.LeaveIdle e in (refl, rests a at control s me k.1)
-  means_handle handle.Leave e = let k = stands_at me s handle.Leave e in (refl, rests a at control s me k.1.0, k.1.1)
-  means_handle _ e = tt
-
   pub says_so : (stage : Stage) → (control me).stage ≡ Some stage → Means stage
   says_so (Send to) e = (put_same a.pending to true, ap (λ (f : ℕ → Bool). f to) (put_same a.owes me _) ∙ test_here to false (a.owes me to))
   says_so (Done id) e = means_done id (at (Flags id) % 2 == 1) refl
-  says_so (Post p stage) e = means_post p stage e
-  says_so (Handle stage) e = means_handle stage e
+  says_so (Post p post.LoadFlags) e = means_flags p.id (at (Flags p.id) % 2 == 1) p.is_online p refl refl
+  says_so (Post p (post.Exchange link tries)) e = search (means_exchange, arith)
+  says_so (Post p post.Release) e = search (put_same, arith)
+  says_so (Handle handle.Accept) e = means_accept (at (Intr me) == 0) (accepts a me)
+  says_so (Handle handle.LeaveIdle) e = let k = stands_at me s handle.LeaveIdle e in (refl, rests a at control s me k.1)
+  says_so (Handle handle.Leave) e = let k = stands_at me s handle.Leave e in (refl, rests a at control s me k.1.0, k.1.1)
+  says_so _ e = tt

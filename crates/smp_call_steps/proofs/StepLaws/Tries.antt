@@ -1,8 +1,8 @@
 -- What a CPU does with what it finds in a head, until its call is queued.
 use Rattle.std.proofs.Common.{arith, ◌≡◌, ℕ, ◌+◌, ◌-◌, Bool, true, false, cond, Some, None}
 use Rattle.smp_words.specs.Access.{word_of}
-use Rattle.smp_call_steps.specs.{CallState, ends, goes_to, ControlValue, access_of, outcome_of, seen_then, GoesOnWith, Word, Head, Note, Posting, PostStage}
-use Rattle.smp_call_steps.specs.{HandleStage, Stage, Post, Handle}
+use Rattle.smp_call_steps.specs.{CallState, ends, goes_to, ControlValue, access_of, outcome_of, seen_then, GoesOnWith, Word, Head, Note, Posting}
+use Rattle.smp_call_steps.specs.{Stage, Post, Handle}
 use Rattle.smp_call_steps.specs.Shows.{Shows}
 use Rattle.smp_call_steps.proofs.Steps.Turns.{holds_nothing}
 use Rattle.smp_call_steps.specs.act
@@ -26,18 +26,9 @@ module _ (a : CallState) (at : Word → ℕ) (control : ℕ → ControlValue) (s
   lost p link tries false true won e next f at' = search (some_same, arith)
   lost p link tries false false won e next f at' = search (some_same, arith)
 
-  ruleset named_stage = (some_same, lost)
-
-  goes_post : (p : Posting) (stage : PostStage) → (control me).stage ≡ Some (Post p stage) → Goes (Post p stage)
-  goes_post p post.LoadFlags e next f at' = tt
-  goes_post p _ e next f at' = search (named_stage, arith)
-
-  goes_handle : (stage : HandleStage) → (control me).stage ≡ Some (Handle stage) → Goes (Handle stage)
-  goes_handle (handle.ReverseStore newer id older) e next f at' = search (holds_nothing, arith)
-  goes_handle (handle.Unlink walk last call next) e after f at' = search (holds_nothing, arith)
-  goes_handle _ e next f at' = tt
+  ruleset named_stage = (some_same, lost, holds_nothing)
 
   pub tries_go : (stage : Stage) → (control me).stage ≡ Some stage → Goes stage
-  tries_go (Post p stage) e next f at' = goes_post p stage e next f at'
-  tries_go (Handle stage) e next f at' = goes_handle stage e next f at'
-  tries_go _ e next f at' = tt
+  tries_go (Post p post.LoadFlags) e next f at' = tt
+  tries_go (Handle handle.Enter) e next f at' = tt
+  tries_go _ e next f at' = search (named_stage, arith)
