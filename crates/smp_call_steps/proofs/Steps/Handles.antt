@@ -12,9 +12,27 @@ use Rattle.smp_call_steps.proofs.Steps.Beginning.{begin_sync_step, begin_async_s
 use Rattle.smp_call_steps.proofs.Steps.Ending.{count_sync_step, end_sync_step, count_async_step}
 use Rattle.smp_call_steps.specs.handle
 
-ruleset handle_steps = (accept_step, leave_idle_step, take_step, reverse_load_step, reverse_store_step, load_next_step, load_flags_step, load_func_step,
-    load_info_step, unlink_step, begin_sync_step, count_sync_step, end_sync_step, async_next_step, async_func_step, async_info_step, begin_async_step,
-    count_async_step, leave_step)
+ruleset handle_steps = (
+  accept_step,
+  leave_idle_step,
+  take_step,
+  reverse_load_step,
+  reverse_store_step,
+  load_next_step,
+  load_flags_step,
+  load_func_step,
+  load_info_step,
+  unlink_step,
+  begin_sync_step,
+  count_sync_step,
+  end_sync_step,
+  async_next_step,
+  async_func_step,
+  async_info_step,
+  begin_async_step,
+  count_async_step,
+  leave_step,
+)
 
 pub handle_step : (a : CallState) (at : Word → ℕ) (control : ℕ → ControlValue) (me : ℕ) → Shows a at control → (stage : HandleStage)
     → (control me).stage ≡ Some (Handle stage) → StepShows a at control me (Handle stage)
