@@ -32,98 +32,43 @@ use Rattle.smp_call_steps.specs.declared.post.Posting.{Posting}
 use Rattle.smp_words.specs.declared.seen.Note.{Note}
 use Rattle.smp_words.specs.declared.seen.Seen.{Seen}
 use Rattle.smp_call_steps.specs.declared.stage.Stage.{Stage}
-use Rattle.smp_call_steps.specs.declared.stage.Stage.TheVariants.{Send, Done, Post, Handle}
+use Rattle.smp_call_steps.specs.declared.stage.Stage.TheVariants.{Post, Handle}
 use Rattle.smp_stop_steps.specs.declared.stage.CompletionStage.{CompletionStage}
 use Rattle.smp_stop_steps.specs.declared.stage.CompletionStage.TheVariants as completion
 use Rattle.smp_stop_steps.specs.declared.stage.RoundStage.{RoundStage}
 use Rattle.smp_stop_steps.specs.declared.stage.RoundStage.TheVariants as round
 use Rattle.smp_stop_steps.specs.declared.stage.StopStage.{StopStage}
-use Rattle.smp_stop_steps.specs.declared.stage.StopStage.TheVariants.{TakeGate, OpenGate, Begin, Enter, EnterKind, EnterMask, EnterActive, Advance, Complete}
-use Rattle.smp_stop_steps.specs.declared.stage.StopStage.TheVariants.{Close, LoadDone, LoadResult, ReadKey, ReadSite, NudgeKey, ExchangeKey}
+use Rattle.smp_stop_steps.specs.declared.stage.StopStage.TheVariants.{Advance, Complete}
 use Rattle.smp_stop_steps.specs.declared.stage.Visit.{Visit}
 use Rattle.smp_words.specs.declared.word.Word.{Word}
 
 module _ (u : Setup) (p : StopState) (me answer found : ℕ) (note : Option Note) where
   in_post : (x : Posting) (stage : PostStage) (queued : ℕ) → stops.tells u p (seen_of me (post_access x me stage queued) found note) answer ≡ p
   in_post x post.LoadFlags queued = refl
-  in_post x post.Lock queued = refl
-  in_post x post.StoreFunc queued = refl
-  in_post x post.StoreInfo queued = refl
-  in_post x post.Count queued = refl
-  in_post x post.LoadHead queued = refl
-  in_post x (post.StoreNext link tries) queued = refl
-  in_post x (post.Exchange link tries) queued = refl
-  in_post x post.Uncount queued = refl
-  in_post x post.Release queued = refl
+  in_post x _ queued = refl
 
   in_handle : (stage : HandleStage) (ran : ℕ) → stops.tells u p (seen_of me (handle_access me stage ran) found note) answer ≡ p
   in_handle handle.Enter ran = refl
-  in_handle handle.Accept ran = refl
-  in_handle handle.LeaveIdle ran = refl
-  in_handle handle.Take ran = refl
-  in_handle (handle.ReverseLoad newer id) ran = refl
-  in_handle (handle.ReverseStore newer id older) ran = refl
-  in_handle (handle.LoadNext walk id) ran = refl
-  in_handle (handle.LoadFlags walk id next) ran = refl
-  in_handle (handle.LoadFunc walk id next) ran = refl
-  in_handle (handle.LoadInfo walk id next func) ran = refl
-  in_handle (handle.Unlink walk last call next) ran = refl
-  in_handle (handle.BeginSync walk call next) ran = refl
-  in_handle (handle.CountSync walk call next) ran = refl
-  in_handle (handle.EndSync walk call next) ran = refl
-  in_handle (handle.AsyncNext id) ran = refl
-  in_handle (handle.AsyncFunc id next) ran = refl
-  in_handle (handle.AsyncInfo id next func) ran = refl
-  in_handle (handle.BeginAsync call next) ran = refl
-  in_handle (handle.CountAsync call next) ran = refl
-  in_handle handle.Leave ran = refl
+  in_handle _ ran = refl
 
   pub call_step_apart : (at : Word → ℕ) (stage : Stage) → stops.tells u p (seen_of me (access_of at me stage) found note) answer ≡ p
-  call_step_apart at (Send to) = refl
-  call_step_apart at (Done id) = refl
   call_step_apart at (Post x stage) = in_post x stage _
   call_step_apart at (Handle stage) = in_handle stage _
+  call_step_apart at _ = refl
 
   -- and its note nothing of the stops
   notes_of_post : (said : Option Note) (x : Posting) (stage : PostStage) (queued : ℕ) → StopNoteFits p p me (word_of (post_access x me stage queued)) said
   notes_of_post said x post.LoadFlags queued = refl
-  notes_of_post said x post.Lock queued = refl
-  notes_of_post said x post.StoreFunc queued = refl
-  notes_of_post said x post.StoreInfo queued = refl
-  notes_of_post said x post.Count queued = refl
-  notes_of_post said x post.LoadHead queued = refl
-  notes_of_post said x (post.StoreNext link tries) queued = refl
-  notes_of_post said x (post.Exchange link tries) queued = refl
-  notes_of_post said x post.Uncount queued = refl
-  notes_of_post said x post.Release queued = refl
+  notes_of_post said x _ queued = refl
 
   notes_of_handle : (said : Option Note) (stage : HandleStage) (ran : ℕ) → StopNoteFits p p me (word_of (handle_access me stage ran)) said
   notes_of_handle said handle.Enter ran = refl
-  notes_of_handle said handle.Accept ran = refl
-  notes_of_handle said handle.LeaveIdle ran = refl
-  notes_of_handle said handle.Take ran = refl
-  notes_of_handle said (handle.ReverseLoad newer id) ran = refl
-  notes_of_handle said (handle.ReverseStore newer id older) ran = refl
-  notes_of_handle said (handle.LoadNext walk id) ran = refl
-  notes_of_handle said (handle.LoadFlags walk id next) ran = refl
-  notes_of_handle said (handle.LoadFunc walk id next) ran = refl
-  notes_of_handle said (handle.LoadInfo walk id next func) ran = refl
-  notes_of_handle said (handle.Unlink walk last call next) ran = refl
-  notes_of_handle said (handle.BeginSync walk call next) ran = refl
-  notes_of_handle said (handle.CountSync walk call next) ran = refl
-  notes_of_handle said (handle.EndSync walk call next) ran = refl
-  notes_of_handle said (handle.AsyncNext id) ran = refl
-  notes_of_handle said (handle.AsyncFunc id next) ran = refl
-  notes_of_handle said (handle.AsyncInfo id next func) ran = refl
-  notes_of_handle said (handle.BeginAsync call next) ran = refl
-  notes_of_handle said (handle.CountAsync call next) ran = refl
-  notes_of_handle said handle.Leave ran = refl
+  notes_of_handle said _ ran = refl
 
   notes_of_call : (said : Option Note) (at : Word → ℕ) (stage : Stage) → StopNoteFits p p me (word_of (access_of at me stage)) said
-  notes_of_call said at (Send to) = refl
-  notes_of_call said at (Done id) = refl
   notes_of_call said at (Post x stage) = notes_of_post said x stage _
   notes_of_call said at (Handle stage) = notes_of_handle said stage _
+  notes_of_call said at _ = refl
 
 module _ (a : CallState) (me found : ℕ) (note : Option Note) where
   in_patch : (change : Change) → calls.tells a (seen_of me (store_of change) found note) ≡ a
@@ -131,39 +76,17 @@ module _ (a : CallState) (me found : ℕ) (note : Option Note) where
   in_patch (place.Site i, n) = refl
 
   in_round : (n : ℕ) (changes : List Change) (v : Visit) (stage : RoundStage) → calls.tells a (seen_of me (round_access n changes v stage) found note) ≡ a
-  in_round n changes v (round.Look answer) = refl
-  in_round n changes v (round.LoadFunc answer) = refl
-  in_round n changes v (round.LoadArg answer func) = refl
-  in_round n changes v (round.LoadKey key change) = refl
-  in_round n changes v (round.LoadEntry key word site) = refl
   in_round n changes v (round.StoreChange made) = in_patch (change_at changes made)
-  in_round n changes v (round.Acknowledge answer ran) = refl
-  in_round n changes v (round.Refill ran) = refl
-  in_round n changes v (round.Raise ran) = refl
+  in_round n changes v _ = refl
 
   in_completion : (v : Visit) (stage : CompletionStage) → calls.tells a (seen_of me (completion_access v stage) found note) ≡ a
   in_completion v (completion.LoadFunc answer) = refl
-  in_completion v (completion.LoadArg answer func) = refl
-  in_completion v completion.StoreAnswer = refl
-  in_completion v completion.CountDown = refl
+  in_completion v _ = refl
 
   pub stop_step_apart : (n : ℕ) (changes : List Change) (stage : StopStage) → calls.tells a (seen_of me (stop_access n me changes stage) found note) ≡ a
-  stop_step_apart n changes TakeGate = refl
-  stop_step_apart n changes OpenGate = refl
-  stop_step_apart n changes (Begin work f) = refl
-  stop_step_apart n changes (Enter slot) = refl
-  stop_step_apart n changes (EnterKind slot) = refl
-  stop_step_apart n changes (EnterMask slot kind) = refl
-  stop_step_apart n changes (EnterActive slot kind mask) = refl
   stop_step_apart n changes (Advance v stage) = in_round n changes v stage
   stop_step_apart n changes (Complete v stage) = in_completion v stage
-  stop_step_apart n changes (Close slot) = refl
-  stop_step_apart n changes LoadDone = refl
-  stop_step_apart n changes LoadResult = refl
-  stop_step_apart n changes (ReadKey k) = refl
-  stop_step_apart n changes (ReadSite i) = refl
-  stop_step_apart n changes (NudgeKey k up) = refl
-  stop_step_apart n changes (ExchangeKey k expected new) = refl
+  stop_step_apart n changes _ = refl
 
 -- a step of the call half keeps the stops that the core shows
 pub stops_kept : (core : CoreValue) (cpu : ℕ) (stage : Stage) → StopsTold core (seen_at core cpu stage) 0 (stepped core cpu stage)

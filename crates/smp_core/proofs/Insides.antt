@@ -53,17 +53,10 @@ module _ (v : StopsValue) (cpu : ℕ) (below : cpu < length v.controls) where
     begun_inside (command.Send to) e = refl
     begun_inside (command.Done k) e = refl
     begun_inside command.Handle e = refl
-    begun_inside command.Gate e = in_stops _
-    begun_inside command.Ungate e = in_stops _
-    begun_inside (command.Begin work) e = in_stops _
-    begun_inside (command.Enter slot) e = in_stops _
     begun_inside (command.Advance answer) e = in_a_visit may_advance (stop_control_of v.controls cpu).visit _ refl (passed _ _ e)
     begun_inside (command.RunOne answer) e = in_a_visit may_run (stop_control_of v.controls cpu).visit _ refl (passed _ _ e)
     begun_inside command.Finish e = in_a_visit may_finish (stop_control_of v.controls cpu).visit _ refl (passed _ _ e)
-    begun_inside command.Poll e = in_stops _
-    begun_inside (command.Key k) e = in_stops _
-    begun_inside (command.Site i) e = in_stops _
-    begun_inside (command.Nudge k up) e = in_stops _
+    begun_inside _ e = in_stops _
 
 -- a CPU on which a command has started is inside it
 pub started_inside : (core : CoreValue) (cpu : ℕ) (c : Command) → AreLimits core.nr core.online → length core.controls ≡ cpus →

@@ -24,7 +24,7 @@ use Rattle.smp_call_steps.specs.declared.post.PostStage.{PostStage}
 use Rattle.smp_call_steps.specs.declared.post.Posting.{Posting}
 use Rattle.smp_call_steps.specs.declared.stage.CallOutcome.{CallOutcome}
 use Rattle.smp_call_steps.specs.declared.stage.Stage.{Stage}
-use Rattle.smp_call_steps.specs.declared.stage.Stage.TheVariants.{Send, Done, Post, Handle}
+use Rattle.smp_call_steps.specs.declared.stage.Stage.TheVariants.{Handle}
 use Rattle.smp_call_steps.proofs.Machine.Cores.{controls_by_cpu, inside_below}
 use Rattle.smp_stop_steps.specs.Stages.{StopControlValue, stop_outside}
 use Rattle.smp_stop_steps.specs.Start.{refusal_on, stop_begun_if, stop_first, stop_refusal, stop_started, terms_of, unless}
@@ -154,20 +154,14 @@ module _ (controls : List ControlValue) (v : StopsValue) (sized : length control
       HandlesWithOn x (p.now.irq cpu)
   on_at (Some (Handle stage)) e h =
       (shown.shows.present.irq cpu ∙ sym (shown.sits cpu (inside_below controls cpu (Handle stage) sized e)).irq) ∙ h
-  on_at (Some (Post q stage)) e h = tt
-  on_at (Some (Send to)) e h = tt
-  on_at (Some (Done id)) e h = tt
-  on_at None e h = tt
+  on_at _ e h = tt
 
   pub handles_shown : HandlesWithOn (control_of controls cpu).stage (p.now.irq cpu)
   handles_shown = on_at (control_of controls cpu).stage refl (j.handles cpu)
 
   hand_on : (x : Option Stage) (hand : ℕ) → HandIs x hand → HandlesWithOn x (p.now.irq cpu) → hand ≢ 0 → p.now.irq cpu ≡ true
   hand_on (Some (Handle stage)) hand is h ne = h
-  hand_on (Some (Post q stage)) hand is h ne = absurd (ne is)
-  hand_on (Some (Send to)) hand is h ne = absurd (ne is)
-  hand_on (Some (Done id)) hand is h ne = absurd (ne is)
-  hand_on None hand is h ne = absurd (ne is)
+  hand_on _ hand is h ne = absurd (ne is)
 
   pub hand_shown : (a : CallState) (words : List ℕ) → ValuesShow a words controls → number_in words (Hand cpu) ≢ 0 → p.now.irq cpu ≡ true
   hand_shown a words calls ne = hand_on (control_of controls cpu).stage (number_in words (Hand cpu)) (calls.hands cpu) handles_shown ne

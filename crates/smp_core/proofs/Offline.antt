@@ -61,15 +61,9 @@ module _ (online : ℕ) where
 
   after_post : (p : Posting) (stage : PostStage) (found : ℕ) → AimsOnline online (Some (Post p stage)) → AimsOnline online (post_outcome p stage found).next
   after_post p post.LoadFlags found h = free_or_not p (found % 2 == 1) p.is_online refl h
-  after_post p post.Lock found h = h
-  after_post p post.StoreFunc found h = h
-  after_post p post.StoreInfo found h = h
-  after_post p post.Count found h = h
-  after_post p post.LoadHead found h = h
-  after_post p (post.StoreNext link tries) found h = h
   after_post p (post.Exchange link tries) found h = lost_or_won p (found == link) (nat_lt 1 tries) (link == 0) found (tries - 1) h
-  after_post p post.Uncount found h = h
   after_post p post.Release found h = tt
+  after_post p _ found h = h
 
   took_or_not : (b : Bool) → AimsOnline online (cond b (handle_goes handle.LeaveIdle) (handle_goes handle.Take)).next
   took_or_not true = tt
@@ -77,15 +71,12 @@ module _ (online : ℕ) where
 
   after_handle : (d : DrainValue) (stage : HandleStage) (found : ℕ) → AimsOnline online (handle_outcome d stage found).next
   after_handle d handle.Accept found = took_or_not (found == 0)
-  after_handle d handle.LeaveIdle found = tt
-  after_handle d handle.Leave found = tt
   after_handle d _ found = tt
 
   after_step : (d : DrainValue) (stage : Stage) (found : ℕ) → AimsOnline online (Some stage) → AimsOnline online (outcome_of d stage found).next
-  after_step d (Send to) found h = tt
-  after_step d (Done id) found h = tt
   after_step d (Post p stage) found h = after_post p stage found h
   after_step d (Handle stage) found h = after_handle d stage found
+  after_step d _ found h = tt
 
   after_start : (nr cpu : ℕ) (c : Command) → command_refusal nr online cpu c ≡ None → AimsOnline online (first_stage online cpu c)
   after_start nr cpu (command.Post k to class func info tries) e = λ h. h

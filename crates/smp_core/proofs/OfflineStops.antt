@@ -30,14 +30,14 @@ use Rattle.smp_stop_steps.specs.Sources.{SourceShows}
 use Rattle.smp_stop_steps.specs.Stages.{StopControlValue, answer_at, change_at, stop_access, stop_goes, stop_outcome, stop_outside, store_of}
 use Rattle.smp_stop_steps.specs.Start.{stop_begun_if, stop_first, stop_refusal, stop_started}
 use Rattle.smp_stop_steps.specs.State.{Setup, StopState, no_stops}
-use Rattle.smp_stop_steps.specs.Stop.{Standing, Outside, Called, Inside, Answering, Completed, Stop, acknowledged, is_called, is_of, raised, stands}
+use Rattle.smp_stop_steps.specs.Stop.{Standing, Outside, Inside, Answering, Stop, acknowledged, is_called, is_of, raised, stands}
 use Rattle.smp_stop_steps.specs.Table.{stop_number}
 use Rattle.smp_stop_steps.specs.Tells.{acknowledges, called_more, calls_now, carried, completes, drafts, enters, gate_told, is_at_run, is_patch, key_loaded}
 use Rattle.smp_stop_steps.specs.Tells.{key_patched, key_told, leaves, looked_by, looks, may_call, patch_begun, patched_more, reads, stored_open, stored_shut}
 use Rattle.smp_stop_steps.specs.Tells.{tells, unpatched, with_stop}
 use Rattle.smp_stop_steps.specs.Value.{StopShown, StopsValue, setup_of, stop_control_of}
 use Rattle.smp_stop_steps.specs.declared.known.Calling.{Calling}
-use Rattle.smp_stop_steps.specs.declared.known.Calling.TheVariants.{Idle, Calls, Carries}
+use Rattle.smp_stop_steps.specs.declared.known.Calling.TheVariants.{Calls}
 use Rattle.smp_stop_steps.specs.declared.known.Reading.{Reading}
 use Rattle.smp_stop_steps.specs.declared.known.Reading.TheVariants.{ReadKey as KeyRead, ReadSite as SiteRead}
 use Rattle.smp_stop_steps.specs.declared.known.Source.{Source}
@@ -48,8 +48,8 @@ use Rattle.smp_stop_steps.specs.declared.stage.CompletionStage.TheVariants as co
 use Rattle.smp_stop_steps.specs.declared.stage.RoundStage.{RoundStage}
 use Rattle.smp_stop_steps.specs.declared.stage.RoundStage.TheVariants as round
 use Rattle.smp_stop_steps.specs.declared.stage.StopStage.{StopStage}
-use Rattle.smp_stop_steps.specs.declared.stage.StopStage.TheVariants.{TakeGate, OpenGate, Begin, Enter, EnterKind, EnterMask, EnterActive, Advance, Complete}
-use Rattle.smp_stop_steps.specs.declared.stage.StopStage.TheVariants.{Close, LoadDone, LoadResult, ReadKey, ReadSite, NudgeKey, ExchangeKey}
+use Rattle.smp_stop_steps.specs.declared.stage.StopStage.TheVariants.{TakeGate, OpenGate, Begin, Enter, Advance, Complete}
+use Rattle.smp_stop_steps.specs.declared.stage.StopStage.TheVariants.{Close, LoadResult, ReadKey, ReadSite, NudgeKey, ExchangeKey}
 use Rattle.smp_stop_steps.specs.declared.stage.Visit.{Visit}
 use Rattle.smp_stop_steps.proofs.TheMachine.Begun.{begun_value_shown}
 use Rattle.smp_stop_steps.proofs.TheMachine.Starting.{may_begin}
@@ -71,9 +71,6 @@ module _ (u : Setup) (p : StopState) (me c : ℕ) (ne : c ≢ me) where
 
   open_else : (s v : ℕ) (f : Field) → Same (stored_open p me s f v)
   open_else s v field.State = raises_else s (p.now.stop s).work (raised (p.now.stop s) v) (v == OVER)
-  open_else s v field.Ack = refl
-  open_else s v field.Result = refl
-  open_else s v field.Done = refl
   open_else s v _ = refl
 
   shut_else : (v : ℕ) (f : Field) → Same (stored_shut p me f v)
@@ -109,8 +106,7 @@ module _ (u : Setup) (p : StopState) (me c : ℕ) (ne : c ≢ me) where
 
   called_else : (f : Calling) → called_more p.calls me f c ≡ p.calls c
   called_else (Calls call) = rw off refl
-  called_else (Carries answer) = refl
-  called_else Idle = refl
+  called_else _ = refl
 
   acked_if : (s : ℕ) (w : Work) (stop : Stop) (y : Patching) (g : Calling) (left at_run : Bool) → Same (record p {
     now = cond left (leaves (record (p.now) { stop = put p.now.stop s stop; patching = y }) me s w)
@@ -167,15 +163,14 @@ module _ (u : Setup) (p : StopState) (me c : ℕ) (ne : c ≢ me) where
 
     round_else : (v : Visit) (stage : RoundStage) → Same (After (Advance v stage))
     round_else v (round.Look answer) = looks_else v.slot found
-    round_else v (round.LoadFunc answer) = refl
     round_else v (round.LoadArg answer func) = calls_else (p.now.stop v.slot).work found answer
         (may_call me (p.now.stop v.slot).work ((p.now.stop v.slot).standing me))
     round_else v (round.LoadKey key change) = loads_else key found (p.now.inside me)
-    round_else v (round.LoadEntry key word site) = refl
     round_else v (round.StoreChange made) = change_else (change_at changes made) found said
     round_else v (round.Acknowledge answer ran) = acknowledges_else v.slot found ((p.now.stop v.slot).standing me)
     round_else v (round.Refill ran) = stored_else v.slot (mask_weight n v.mask) field.Ack (p.now.stop v.slot).is_open
     round_else v (round.Raise ran) = stored_else v.slot (v.acked + 1) field.State (p.now.stop v.slot).is_open
+    round_else v _ = refl
 
     completion_else : (v : Visit) (stage : CompletionStage) → Same (After (Complete v stage))
     completion_else v (completion.LoadFunc answer) = refl
@@ -197,18 +192,15 @@ module _ (u : Setup) (p : StopState) (me c : ℕ) (ne : c ≢ me) where
     stage_else h OpenGate = ap (λ (x : StopPart). record x { holds = false }) h
     stage_else h (Begin work f) = own_else (begun_value n work f) f (p.now.stop me).is_open ∙ h
     stage_else h (Enter slot) = enters_else slot (has found me) ∙ h
-    stage_else h (EnterKind slot) = h
-    stage_else h (EnterMask slot kind) = h
-    stage_else h (EnterActive slot kind mask) = h
     stage_else h (Advance v stage) = round_else v stage ∙ h
     stage_else h (Complete v stage) = completion_else v stage ∙ h
     stage_else h (Close slot) = stored_else slot 1 field.Done (p.now.stop slot).is_open ∙ h
-    stage_else h LoadDone = h
     stage_else h LoadResult = let e : Same (After LoadResult) = rw off refl in e ∙ h
     stage_else h (ReadKey k) = loads_else k found (p.now.inside me) ∙ h
     stage_else h (ReadSite i) = reads_else (SiteRead i (is_on found)) ∙ h
     stage_else h (NudgeKey k up) = loads_else k found (p.now.inside me) ∙ h
     stage_else h (ExchangeKey k expected new) = nudges_else k found new (found == expected) ∙ h
+    stage_else h _ = h
 
 -- a step, and the beginning of a command, of a CPU that is online
 
@@ -279,10 +271,7 @@ not_holder g c e is = true≢false (sym (eq-eqb c c refl) ∙ (ap (λ (o : Optio
 
 not_of : (x : Standing) → is_of x ≡ false → x ≡ Outside
 not_of Outside e = refl
-not_of Called e = absurd (true≢false e)
-not_of (Inside a l) e = absurd (true≢false e)
-not_of (Answering a v) e = absurd (true≢false e)
-not_of (Completed a v) e = absurd (true≢false e)
+not_of _ e = absurd (true≢false e)
 
 -- the stop of a source that is open is of CPUs that are online
 of_online : (u : Setup) (gate : Option ℕ) (stop : Stop) (word : Field → ℕ) (s : ℕ) (y : Source) → SourceShows u gate stop word s y → stop.is_open ≡ true →

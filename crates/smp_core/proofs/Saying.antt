@@ -55,16 +55,7 @@ turn_said p ran = if_said (p == EXIT) note.Left (cond ran note.Ran (note.Moved p
 module _ (c : StopControlValue) (me found : ℕ) where
   begun_said : (work : Work) (f : Field) → is_call (begun_next c work f).note ≡ false
   begun_said work field.Kind = refl
-  begun_said work field.Mask = refl
-  begun_said work field.Active = refl
-  begun_said work field.Func = refl
-  begun_said work field.Arg = refl
-  begun_said work field.Result = refl
-  begun_said work field.Todo = refl
-  begun_said work field.Done = refl
-  begun_said work field.Ack = refl
-  begun_said work field.State = refl
-  begun_said work field.Roll = refl
+  begun_said work _ = refl
 
   key_said : (v : Visit) (key : ℕ) (new : Option ℕ) → is_call (key_on c v key found new).note ≡ false
   key_said v key None = refl
@@ -76,14 +67,11 @@ module _ (c : StopControlValue) (me found : ℕ) where
 
   round_said : (v : Visit) (stage : RoundStage) → is_call (round_outcome me c v stage found).note ≡ false
   round_said v (round.Look answer) = if_note (found == v.acked) _ _ refl refl
-  round_said v (round.LoadFunc answer) = refl
   round_said v (round.LoadArg answer func) = if_note (is_multi v.kind) _ _ refl refl
   round_said v (round.LoadKey key change) = key_said v key (count_after change found)
-  round_said v (round.LoadEntry key word site) = refl
-  round_said v (round.StoreChange made) = refl
   round_said v (round.Acknowledge answer ran) = if_note (found == 1) _ _ refl (turn_said (v.acked + 1) ran)
-  round_said v (round.Refill ran) = refl
   round_said v (round.Raise ran) = turn_said v.acked ran
+  round_said v _ = refl
 
   completion_said : (v : Visit) (stage : CompletionStage) → is_call (completion_outcome c v stage found).note ≡ false
   completion_said v completion.CountDown = if_note (found == 1) _ _ refl refl
