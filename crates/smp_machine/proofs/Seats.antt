@@ -76,16 +76,7 @@ module _ {H F : Type 0} (hears : H → Heard → H → Type 0) (runs : F → Cal
       stays_worked old new h h' f f' _ patched.2.patches.stopped.works
   stays_counted t k up old new h h' f f' (Err error.BadArgument) c = stays_same old new c.1.kept
   stays_counted t k up old new h h' f f' (Err error.NoStopper) c = absurd c.1
-  stays_counted t k up old new h h' f f' (Err error.NoCpu) c = absurd c.1
-  stays_counted t k up old new h h' f f' (Err error.Busy) c = absurd c.1
-  stays_counted t k up old new h h' f f' (Err error.Contended) c = absurd c.1
-  stays_counted t k up old new h h' f f' (Err error.NoMemory) c = absurd c.1
-  stays_counted t k up old new h h' f f' (Err error.Stale) c = absurd c.1
-  stays_counted t k up old new h h' f f' (Err error.SlotBusy) c = absurd c.1
-  stays_counted t k up old new h h' f f' (Err (error.BadScript n cause)) c = absurd c.1
-  stays_counted t k up old new h h' f f' (Err error.IdleStep) c = absurd c.1
-  stays_counted t k up old new h h' f f' (Err (error.BadMask n)) c = absurd c.1
-  stays_counted t k up old new h h' f f' (Err (error.StreamFailed n)) c = absurd c.1
+  stays_counted t k up old new h h' f f' _ c = absurd c.1
 
   -- the same, part by part
   pub at_stopped : (moves : Work → ℕ → List OwnMove) (P : Work → Type 0) (m : MachineValue) (old new : MachineCpuValue) (h h' : H)

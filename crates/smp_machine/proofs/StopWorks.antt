@@ -105,9 +105,7 @@ patch_kind t work _ e fits = absurd cc
 
 small_change : (change : Change) → change_word change < 4
 small_change Off = omega arith
-small_change On = omega arith
-small_change Up = omega arith
-small_change Down = omega arith
+small_change _ = omega arith
 
 pub patch_begins : (t : TableValue) (k : ℕ) (change : Change) (work : Work) → IsPatchOf t k change work → AreLimits t.nr t.setting.online
     → k < t.setting.labels.keys → MayBegin t work

@@ -157,8 +157,7 @@ module _ {F : Type 0} (leads : F → Called → F → Type 0) where
       → GoesRound leads old f new f' turn
   round_on old new f f' Left on a = absurd (on refl)
   round_on old new f f' Same on a = record { at = a.0; advanced = new; advances = a.1; is = refl }
-  round_on old new f f' (Moved p) on a = record { at = a.0; advanced = new; advances = a.1; is = refl }
-  round_on old new f f' Ran on a = record { at = a.0; advanced = new; advances = a.1; is = refl }
+  round_on old new f f' _ on a = record { at = a.0; advanced = new; advances = a.1; is = refl }
 
   -- a stop of one CPU is not run where there is none
   pub not_run : (old new : StopCpuValue) (f f' : F) (e : SmpError) → RunAnswers leads old new f f' (Err e)

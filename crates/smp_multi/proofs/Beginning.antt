@@ -38,16 +38,8 @@ module _ (t : TableId) (d : SeatValue) (number : ℕ) (w : Work) where
   -- a result word begins with 0
   draft_fits : (f : Field) (x : ℕ) → x ≡ begun_value cpus w f → FitsWord (Slot number f) x
   draft_fits field.Kind x e = tt
-  draft_fits field.Mask x e = tt
-  draft_fits field.Active x e = tt
-  draft_fits field.Func x e = tt
-  draft_fits field.Arg x e = tt
   draft_fits field.Result x e = omega (arith, e)
-  draft_fits field.Todo x e = tt
-  draft_fits field.Done x e = tt
-  draft_fits field.Ack x e = tt
-  draft_fits field.State x e = tt
-  draft_fits field.Roll x e = tt
+  draft_fits _ x e = tt
 
   more : (f : Field) → Begins t d number w (order f) → order f < 10 → order f ≢ 0 → draft_at (order f) w ≡ Drafts (told_work (order f) w) (order f) → (x : ℕ)
       → x ≡ begun_value cpus w f → Ready t d (Store (Slot number f) x)
@@ -102,16 +94,10 @@ module _ (t : TableId) (d : SeatValue) (number : ℕ) (w : Work) where
   counts : (f : Field) → Begins t d number w (order f) → (x : KnownStops)
       → cond (is_due_field f && not (is_drafting d.known.source)) x (stepped 1 x) ≡ stepped 1 x
   counts field.Kind b x = refl
-  counts field.Mask b x = refl
-  counts field.Active b x = refl
-  counts field.Func b x = refl
-  counts field.Arg b x = refl
-  counts field.Result b x = refl
-  counts field.Todo b x = refl
   counts field.Done b x = ap (λ o. cond (not (is_drafting o)) x (stepped 1 x)) b.drafts
   counts field.Ack b x = ap (λ o. cond (not (is_drafting o)) x (stepped 1 x)) b.drafts
   counts field.State b x = ap (λ o. cond (not (is_drafting o)) x (stepped 1 x)) b.drafts
-  counts field.Roll b x = refl
+  counts _ b x = refl
 
   known_more : (f : Field) → Begins t d number w (order f) → order f < 10 → order f ≢ 0 → draft_at (order f) w ≡ Drafts (told_work (order f) w) (order f)
       → draft_at (order f + 1) w ≡ Drafts (told_work (order f + 1) w) (order f + 1) →

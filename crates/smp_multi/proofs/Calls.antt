@@ -93,9 +93,7 @@ called_part answer v call begun =
 -- what turn and begin_one answer of what advance would
 pub turned_answers : (old new : CpuValue) (turn : Turn) → AdvanceAnswers no_call old new tt tt (Ok turn) → TurnedAnswers old (Ok (turned_so new turn))
 turned_answers old new Same h = h
-turned_answers old new (Moved p) h = h
-turned_answers old new Ran h = h
-turned_answers old new Left h = h
+turned_answers old new _ h = h
 
 -- where a CPU is that comes to a call
 module _ (d e : SeatValue) (number : ℕ) (v : Visit) (holds is_open : Bool) (k : IsKept d.known number (Some v) holds is_open) (table : e.table ≡ d.table)

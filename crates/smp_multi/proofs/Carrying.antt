@@ -10,8 +10,8 @@ use Rattle.smp_stop_steps.specs.Threads.Moves.{BeginPatch, Alter, LoadArg, LoadF
 use Rattle.smp_stop_steps.specs.State.{StopState}
 use Rattle.smp_stop_steps.specs.Stop.{Inside}
 use Rattle.smp_stop_steps.specs.Tells.{may_call, plan_at}
-use Rattle.smp_multi.specs.Names.{Word, Gate, Slot, Key, Entry, Site, Access, Field, Work, StopRole, Free, In, Gives, Alters, Closes, Rests}
-use Rattle.smp_multi.specs.Names.{Source, Shut, Drafts, Owns, Collects, KnownStops, Calls}
+use Rattle.smp_multi.specs.Names.{Word, Gate, Slot, Key, Entry, Site, Access, Field, Work, StopRole, Free, In, Alters, Rests}
+use Rattle.smp_multi.specs.Names.{Source, Shut, KnownStops, Calls}
 use Rattle.smp_multi.specs.Names.act
 use Rattle.smp_multi.specs.Names.field
 
@@ -60,17 +60,13 @@ called_keeps : (n : ℕ) (y : StopRole) (v : KnownStops) → (called_by n y v).c
 called_keeps n Free v = refl
 called_keeps n (In s w a l t) v = keeps_cond (may_call v.number w (Inside a l)) v
     (record v { part = record (v.part) { calling = Calls (record { func = w.func; arg = n; answer = 0 }) } }) v refl refl
-called_keeps n (Gives s w a z) v = refl
-called_keeps n (Alters s w count made rest) v = refl
-called_keeps n (Closes s) v = refl
+called_keeps n _ v = refl
 
 key_keeps : (k n : ℕ) (y : StopRole) (v : KnownStops) → (key_loaded_by k n y v).carried ≡ v.carried
 key_keeps k n Free v = refl
 key_keeps k n (In s w a l t) v = keeps_cond (is_patching a l w) v
     (record v { seat = Alters s w n [] (plan_at (setup_in v.setting) w n) }) (key_read_known k n v) refl refl
-key_keeps k n (Gives s w a z) v = refl
-key_keeps k n (Alters s w count made rest) v = refl
-key_keeps k n (Closes s) v = refl
+key_keeps k n _ v = refl
 
 pub load_keeps : (v : KnownStops) (w : Word) (n : ℕ)
     → (known_told v act.Load w (Some n) None).carried ≡ v.carried
@@ -93,29 +89,16 @@ load_keeps v _ n = refl
 
 raised_keeps : (n : ℕ) (y : StopRole) (v : KnownStops) → (raised_by n y v).carried ≡ v.carried
 raised_keeps n Free v = refl
-raised_keeps n (In s w a l t) v = refl
-raised_keeps n (Gives s w a z) v = refl
-raised_keeps n (Alters s w count made rest) v = refl
-raised_keeps n (Closes s) v = refl
+raised_keeps n _ v = refl
 
 opened_keeps : (y : Source) (v : KnownStops) → (opened_by y v).carried ≡ v.carried
 opened_keeps Shut v = refl
-opened_keeps (Drafts w k) v = refl
-opened_keeps (Owns w) v = refl
-opened_keeps (Collects w) v = refl
+opened_keeps _ v = refl
 
 member_keeps : (f : Field) (n : ℕ) (v : KnownStops) → (member_stored f n v).carried ≡ v.carried
 member_keeps field.Kind n v = refl
-member_keeps field.Mask n v = refl
-member_keeps field.Active n v = refl
-member_keeps field.Func n v = refl
-member_keeps field.Arg n v = refl
 member_keeps field.State n v = raised_keeps n v.seat v
-member_keeps field.Ack n v = refl
-member_keeps field.Roll n v = refl
-member_keeps field.Todo n v = refl
-member_keeps field.Result n v = refl
-member_keeps field.Done n v = refl
+member_keeps _ n v = refl
 
 either_keeps : (f : Field) (n : ℕ) (v : KnownStops)
     → (cond (is_drafting v.source) (drafted_known f n v) (member_stored f n v)).carried ≡ v.carried
@@ -167,17 +150,11 @@ exchange_keeps v _ n o = refl
 
 acked_keeps : (n : ℕ) (y : StopRole) (v : KnownStops) → (acked_by n y v).carried ≡ v.carried
 acked_keeps n Free v = refl
-acked_keeps n (In s w a l t) v = refl
-acked_keeps n (Gives s w a z) v = refl
-acked_keeps n (Alters s w count made rest) v = refl
-acked_keeps n (Closes s) v = refl
+acked_keeps n _ v = refl
 
 completed_keeps : (n : ℕ) (y : StopRole) (v : KnownStops) → (completed_by n y v).carried ≡ v.carried
 completed_keeps n Free v = refl
-completed_keeps n (In s w a l t) v = refl
-completed_keeps n (Gives s w a z) v = refl
-completed_keeps n (Alters s w count made rest) v = refl
-completed_keeps n (Closes s) v = refl
+completed_keeps n _ v = refl
 
 pub sub_keeps : (v : KnownStops) (w : Word) (n m : ℕ)
     → (known_told v act.Sub w (Some n) (Some m)).carried ≡ v.carried

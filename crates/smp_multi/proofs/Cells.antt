@@ -22,29 +22,11 @@ field_at n =
 field_here : (f : Field) → field_at (offset_of f) ≡ f
 unfolding field_at
 field_here field.Kind = refl
-field_here field.Mask = refl
-field_here field.Active = refl
-field_here field.Func = refl
-field_here field.Arg = refl
-field_here field.State = refl
-field_here field.Ack = refl
-field_here field.Roll = refl
-field_here field.Todo = refl
-field_here field.Result = refl
-field_here field.Done = refl
+field_here _ = refl
 
 pub offset_low : (f : Field) → offset_of f < SLOTS_APART
 offset_low field.Kind = omega arith
-offset_low field.Mask = omega arith
-offset_low field.Active = omega arith
-offset_low field.Func = omega arith
-offset_low field.Arg = omega arith
-offset_low field.State = omega arith
-offset_low field.Ack = omega arith
-offset_low field.Roll = omega arith
-offset_low field.Todo = omega arith
-offset_low field.Result = omega arith
-offset_low field.Done = omega arith
+offset_low _ = omega arith
 
 -- the word in a cell
 abbrev word_at : ℕ → Word

@@ -1,18 +1,14 @@
 -- The steps of a completion: the answer, the count, and done by the last of all.
-use Rattle.std.proofs.Common.{◌≡◌, ◌≢◌, ℕ, ◌==◌, not, Bool, true, false, cond, Some, None, sym, refl, ap, ◌∙◌, ne_eqb, eq-eqb, eqb-true}
+use Rattle.std.proofs.Common.{◌≡◌, ◌≢◌, ℕ, ◌==◌, Bool, true, false, cond, refl, ap, ◌∙◌, eq-eqb}
 use Rattle.atomic_table.specs.Seated.{TableId}
 use Rattle.smp_stop_steps.specs.AnswerWords.{IsI32Word}
-use Rattle.smp_stop_steps.specs.Threads.Known.{carrying, stepped}
-use Rattle.smp_stop_steps.specs.Threads.KnownAfter.{completed_by, completed_with, is_drafting, known_told, slot_stored, drafted_known, given_by, member_stored}
 use Rattle.smp_stop_steps.specs.Threads.Moves.{Give, Count, CountGiven, Close}
-use Rattle.smp_multi.specs.Names.{Work, One, Slot, Store, Free, In, Gives, Closes, Rests, StopRole, KnownStops, Idle}
-use Rattle.smp_multi.specs.Names.act
+use Rattle.smp_multi.specs.Names.{Work, Slot, Store, Free, In, Gives, Closes, Rests, Idle}
 use Rattle.smp_multi.specs.Names.field
-use Rattle.smp_multi.specs.Completes.{AtEnd, AtGiven, AtClose, given, left}
+use Rattle.smp_multi.specs.Completes.{AtEnd, AtGiven, AtClose}
 use Rattle.smp_multi.specs.Places.{work_in}
 use Rattle.smp_multi.specs.Seat.{SeatValue, Able, EndsWith, Ready}
 use Rattle.smp_multi.proofs.Cells.{slot_cell}
-use Rattle.smp_multi.proofs.Counting.{no_steps}
 
 module _ (t : TableId) (d : SeatValue) (slot acked : ℕ) where
   pub able_give : (x : ℕ) → AtEnd t d slot acked → d.known.part.calling ≢ Idle → x ≢ 0 → IsI32Word x → Able t d (Store (Slot slot field.Result) x)

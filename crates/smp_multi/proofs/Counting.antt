@@ -2,7 +2,7 @@
 use Rattle.std.proofs.Common.{◌≡◌, ℕ, ◌+◌, Bool, true, false, cond, refl, ap, ◌∙◌, arith}
 use Rattle.smp_stop_steps.specs.Threads.Known.{stepped}
 use Rattle.smp_stop_steps.specs.Threads.KnownAfter.{acked_by, raised_by}
-use Rattle.smp_multi.specs.Names.{StopRole, Free, In, Gives, Alters, Closes, KnownStops}
+use Rattle.smp_multi.specs.Names.{StopRole, Free, KnownStops}
 use Rattle.smp_multi.specs.Patches.{begins_with, stored_all}
 use Rattle.smp_multi.specs.Rounds.{passed_by}
 use Rattle.smp_multi.specs.Turns.{patched_by}
@@ -25,42 +25,24 @@ module _ (n : ℕ) where
 
   pub acked_on : (found : ℕ) (x : StopRole) (v : KnownStops) → acked_by found x (stepped n v) ≡ stepped n (acked_by found x v)
   acked_on found Free v = refl
-  acked_on found (In s w a l t) v = refl
-  acked_on found (Gives s w a x) v = refl
-  acked_on found (Alters s w count made rest) v = refl
-  acked_on found (Closes s) v = refl
+  acked_on found _ v = refl
 
   pub raised_on : (p : ℕ) (x : StopRole) (v : KnownStops) → raised_by p x (stepped n v) ≡ stepped n (raised_by p x v)
   raised_on p Free v = refl
-  raised_on p (In s w a l t) v = refl
-  raised_on p (Gives s w a x) v = refl
-  raised_on p (Alters s w count made rest) v = refl
-  raised_on p (Closes s) v = refl
+  raised_on p _ v = refl
 
   pub passed_on : (x : StopRole) (v : KnownStops) → passed_by x (stepped n v) ≡ stepped n (passed_by x v)
   passed_on Free v = refl
-  passed_on (In s w a l t) v = refl
-  passed_on (Gives s w a x) v = refl
-  passed_on (Alters s w count made rest) v = refl
-  passed_on (Closes s) v = refl
+  passed_on _ v = refl
 
   pub begun_on : (count : ℕ) (x : StopRole) (v : KnownStops) → begins_with count x (stepped n v) ≡ stepped n (begins_with count x v)
   begun_on count Free v = refl
-  begun_on count (In s w a l t) v = refl
-  begun_on count (Gives s w a x) v = refl
-  begun_on count (Alters s w c made rest) v = refl
-  begun_on count (Closes s) v = refl
+  begun_on count _ v = refl
 
   pub stored_on : (x : StopRole) (v : KnownStops) → stored_all x (stepped n v) ≡ stepped n (stored_all x v)
   stored_on Free v = refl
-  stored_on (In s w a l t) v = refl
-  stored_on (Gives s w a x) v = refl
-  stored_on (Alters s w count made rest) v = refl
-  stored_on (Closes s) v = refl
+  stored_on _ v = refl
 
   pub patched_on : (count : ℕ) (x : StopRole) (v : KnownStops) → patched_by count x (stepped n v) ≡ stepped n (patched_by count x v)
   patched_on count Free v = refl
-  patched_on count (In s w a l t) v = refl
-  patched_on count (Gives s w a x) v = refl
-  patched_on count (Alters s w c made rest) v = refl
-  patched_on count (Closes s) v = refl
+  patched_on count _ v = refl

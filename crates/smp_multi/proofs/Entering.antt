@@ -12,7 +12,7 @@ use Rattle.smp_stop_steps.specs.Threads.Moves.{Enter, LoadField, IsPlain}
 use Rattle.smp_stop_steps.specs.Slots.{IsWritten, SlotShows}
 use Rattle.smp_stop_steps.specs.Sources.{SourceShows}
 use Rattle.smp_stop_steps.specs.Stages.{all_but}
-use Rattle.smp_stop_steps.specs.Stop.{Standing, Outside, Called, Inside, Answering, Completed, Stop, is_of, is_called}
+use Rattle.smp_stop_steps.specs.Stop.{Standing, Outside, Called, Stop, is_of, is_called}
 use Rattle.smp_stop_steps.proofs.Steps.Facts.{work_words}
 use Rattle.smp_stop_steps.proofs.Steps.Sources.{kind_back}
 use Rattle.smp_multi.specs.Names.{Work, Slot, Field, Load, And, In, Source, Shut, Drafts, Owns, Collects, KnownStops, Duty}
@@ -48,9 +48,7 @@ entered_or slot work false v = refl
 called_is_of : (x : Standing) → is_called x ≡ true → is_of x ≡ true
 called_is_of Outside e = cc
 called_is_of Called e = refl
-called_is_of (Inside a l) e = cc
-called_is_of (Answering a w) e = cc
-called_is_of (Completed a w) e = cc
+called_is_of _ e = cc
 
 -- the stop whose roll has the CPU calls it
 module _ (v : KnownStops) (slot found : ℕ) (m : StopMoment v (Slot slot field.Roll) found) where

@@ -32,8 +32,8 @@ use Rattle.smp_stop_steps.proofs.Promises.StopLaws.{keeps_laws}
 use Rattle.smp_stop_steps.proofs.State.Ends.{all_outside}
 use Rattle.smp_stop_steps.proofs.State.Phases.{is_open_inside, keeps_inside}
 use Rattle.smp_stop_steps.proofs.TheMachine.Starting.{begins_work}
-use Rattle.smp_multi.specs.Names.{Field, Work, Kind, One, Multi, Patch, Slot, StopRole, Free, In, Rests, Source, Shut, Drafts, Owns}
-use Rattle.smp_multi.specs.Names.{Collects, KnownStops, StopPart}
+use Rattle.smp_multi.specs.Names.{Field, Work, Kind, One, Multi, Patch, Slot, StopRole, Free, In, Rests, Source, Shut, Drafts}
+use Rattle.smp_multi.specs.Names.{KnownStops, StopPart}
 use Rattle.smp_multi.specs.Names.{StopSetting, Duty, Calling, Idle, Calls, Carries}
 use Rattle.smp_multi.specs.Names.own
 use Rattle.smp_multi.specs.Answers.{Enters, RunAnswers, PollAnswers, IsWholeWord, answer_in}
@@ -252,8 +252,7 @@ closed_by : (u : Setup) (gate : Option ℕ) (stop : Stop) (word : Field → ℕ)
     → told_source y ≡ Shut → stop.is_open ≡ false
 closed_by u gate stop word me Shut shows e = shows
 closed_by u gate stop word me (Drafts w k) shows e = cc
-closed_by u gate stop word me (Owns w) shows e = cc
-closed_by u gate stop word me (Collects w) shows e = cc
+closed_by u gate stop word me _ shows e = cc
 
 -- the result that was collected last is that of the work begun last, whatever answer the CPU carries in another stop
 pub last_result : (d : SeatValue) (before : List ℕ) (r : ℕ) → Lives d.known → d.known.source ≡ Shut → d.known.part.collected ≡ before ++ r ∷ []

@@ -1,7 +1,7 @@
 -- The patch of a stop: what its CPU may do, what it finds, and where it is after each step.
 use Rattle.std.proofs.Common.{◌≡◌, ℕ, suc, ◌+◌, ◌<◌, ◌≤◌, ◌==◌, ◌&&◌, ◌||◌, Bool, true, false, cond, Option, Some, None, List, [], ◌∷◌, ◌++◌, length}
 use Rattle.std.proofs.Common.{get_or, take, drop, sym, subst, refl, ap, ◌∙◌, arith, drop-cons}
-use Rattle.std.proofs.lemmas.List.{append-nil, drop_all, take-append-drop, take_all, take_more}
+use Rattle.std.proofs.lemmas.List.{append-nil, take-append-drop, take_more}
 use Rattle.std.specs.List.{AllByRecursion}
 use Rattle.atomic_table.specs.Seated.{TableId}
 use Rattle.smp_labels.specs.Entries.{entry_at, IsEntryWord}
@@ -16,33 +16,29 @@ use Rattle.smp_labels.specs.declared.words.TheConstants.{MOST_KEYS, MOST_SITES}
 use Rattle.smp_labels.proofs.Patched.{plan_key_first}
 use Rattle.smp_labels.proofs.Stores.{entries_kept}
 use Rattle.smp_mask.specs.Mask.{has}
-use Rattle.smp_words.specs.Size.{cpus}
 use Rattle.smp_stop_steps.specs.Threads.Known.{carrying, setup_in, stepped}
 use Rattle.smp_multi.specs.Lives.{Lives, StopMoment}
-use Rattle.smp_stop_steps.specs.Threads.KnownAfter.{acked_by, called_by, counted, is_drafting, key_loaded_by, known_told, looked_known, looked_to}
+use Rattle.smp_stop_steps.specs.Threads.KnownAfter.{acked_by, called_by, counted, key_loaded_by, known_told, looked_known, looked_to}
 use Rattle.smp_stop_steps.specs.Threads.KnownAfter.{key_read_known, raised_by}
 use Rattle.smp_stop_steps.specs.Names.{change_of}
 use Rattle.smp_stop_steps.specs.AnswerWords.{IsI32Word}
 use Rattle.smp_stop_steps.specs.Labels.{Change, LabelsShow, Patching, Patches, Whole, answer_for, count_set, patch_answer}
 use Rattle.smp_stop_steps.specs.Threads.Moves.{Alter, AcknowledgePatch, BeginPatch, LoadEntry}
 use Rattle.smp_stop_steps.specs.Seats.{RoleStands}
-use Rattle.smp_stop_steps.specs.Sits.{IsLoaded}
 use Rattle.smp_stop_steps.specs.Stages.{label_word, store_of, visit_acked}
-use Rattle.smp_stop_steps.specs.Stop.{Inside}
 use Rattle.smp_stop_steps.specs.Tells.{is_multi, is_one, is_patch, plan_at}
 use Rattle.smp_words.specs.declared.phase.TheConstants.{DISABLE_IRQ, RUN, EXIT}
 use Rattle.smp_stop_steps.specs.declared.stage.Visit.{Visit}
 use Rattle.smp_stop_steps.proofs.Promises.Functions.{runs_alone}
-use Rattle.smp_stop_steps.proofs.State.Phases.{is_open_inside}
-use Rattle.smp_multi.specs.Names.{Work, Kind, Patch, Slot, Key, Entry, Field, Load, Store, StopRole, Duty, Rests, Fills, KnownStops}
-use Rattle.smp_multi.specs.Names.{Free, In, Gives, Alters, Closes}
+use Rattle.smp_multi.specs.Names.{Work, Kind, Patch, Slot, Key, Entry, Load, Store, StopRole, Duty, Rests, Fills, KnownStops}
+use Rattle.smp_multi.specs.Names.{Free, In, Alters}
 use Rattle.smp_multi.specs.Names.{Moved, Calls, Carries}
 use Rattle.smp_multi.specs.Names.act
 use Rattle.smp_multi.specs.Names.field
 use Rattle.smp_multi.specs.Cells.{cells, HasCell}
 use Rattle.smp_multi.specs.Patches.{AtPatch, IsInPatch, begins_with, count_in, entries_in, made_in, moved_with, rest_in, stored_all, stored_to}
 use Rattle.smp_multi.specs.Places.{work_in}
-use Rattle.smp_multi.specs.Rounds.{AloneWhile, AtRun, AtTurn}
+use Rattle.smp_multi.specs.Rounds.{AloneWhile, AtRun}
 use Rattle.smp_multi.specs.Seat.{SeatValue, Able, EndsWith, Ready, FitsWord}
 use Rattle.smp_multi.specs.StepCounts.{patching}
 use Rattle.smp_multi.specs.Turns.{HasRunFunction, patched_by, patched_with}
@@ -399,10 +395,7 @@ module _ (k : KnownStops) (s : ℕ) (w : Work) (count : ℕ) (is : k.seat ≡ In
 
 pub work_looked : (n : ℕ) (x : StopRole) → work_in (looked_to n x) ≡ work_in x
 work_looked n Free = refl
-work_looked n (In s w a l t) = refl
-work_looked n (Gives s w a x) = refl
-work_looked n (Alters s w count made rest) = refl
-work_looked n (Closes s) = refl
+work_looked n _ = refl
 
 -- a CPU that has looked at RUN, where this count was in the key, and has made its patch
 pub has_patched : {F : Type 0} (leads : F → Called → F → Type 0) (old looked new : KnownStops) (v x : Visit) (f : F) (count : ℕ)

@@ -1,8 +1,8 @@
 -- The plan of a patch, entry by entry, and how many entries are loaded for it.
-use Rattle.std.proofs.Common.{◌≡◌, ◌≢◌, ℕ, zero, suc, ◌+◌, ◌<◌, ◌≤◌, ◌==◌, nat_lt, Bool, true, false, cond, Some, None, List, [], ◌∷◌, ◌++◌, length, map}
-use Rattle.std.proofs.Common.{slice_index, drop, inl, inr, sym, refl, ap, ◌∙◌, arith, append_assoc, drop-cons, ne_eqb, eq-eqb}
+use Rattle.std.proofs.Common.{◌≡◌, ◌≢◌, ℕ, zero, suc, ◌+◌, ◌<◌, ◌≤◌, ◌==◌, Bool, true, false, cond, Some, None, List, [], ◌∷◌, ◌++◌, length, map}
+use Rattle.std.proofs.Common.{slice_index, drop, inl, inr, sym, refl, ap, ◌∙◌, arith, append_assoc, drop-cons, ne_eqb}
 use Rattle.std.proofs.Math.Seq.{drop-nil}
-use Rattle.std.proofs.lemmas.Bool.{cases_lt, lt-ltb, ltb-true}
+use Rattle.std.proofs.lemmas.Bool.{cases_lt, lt-ltb}
 use Rattle.std.proofs.lemmas.List.{append-nil, drop_all, get_or_past, length-drop}
 use Rattle.smp_labels.specs.Entries.{entry_word, entry_at}
 use Rattle.smp_labels.specs.Keys.{is_on}

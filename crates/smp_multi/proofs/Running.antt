@@ -1,5 +1,5 @@
 -- The steps round the function of a stop of one CPU.
-use Rattle.std.proofs.Common.{◌≡◌, ◌≢◌, ℕ, ◌<◌, ◌^◌, ◌||◌, true, false, cond, inr, sym, subst, refl, ap, ◌∙◌}
+use Rattle.std.proofs.Common.{◌≡◌, ◌≢◌, ℕ, ◌<◌, ◌^◌, ◌||◌, true, false, cond, sym, subst, refl, ap, ◌∙◌}
 use Rattle.atomic_table.specs.Seated.{TableId}
 use Rattle.smp_stop_steps.specs.Threads.Known.{setup_in, stepped}
 use Rattle.smp_multi.specs.Lives.{StopMoment}
@@ -15,7 +15,6 @@ use Rattle.smp_multi.specs.Names.{Work, Kind, StopCall, Calling, Calls, Idle, Sl
 use Rattle.smp_multi.specs.Names.{Source, Shut, Drafts}
 use Rattle.smp_multi.specs.Names.{Owns, Collects, KnownStops}
 use Rattle.smp_multi.specs.Names.field
-use Rattle.smp_multi.specs.Completes.{AtEnd}
 use Rattle.smp_multi.specs.Places.{work_in}
 use Rattle.smp_multi.specs.Running.{AtOne, calls_now}
 use Rattle.smp_multi.specs.Seat.{SeatValue, Ready}

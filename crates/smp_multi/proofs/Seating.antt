@@ -11,10 +11,8 @@ use Rattle.smp_words.specs.Limits.{AreLimits}
 use Rattle.smp_words.specs.Size.{cpus}
 use Rattle.smp_multi.specs.Cells.{cells}
 use Rattle.smp_multi.specs.Cpu.{CpuValue, fresh_cpu, AreWaiting}
-use Rattle.smp_multi.specs.Lives.{Lives}
 use Rattle.smp_multi.specs.Names.{StopSetting, StopSeatView, Maker}
 use Rattle.smp_multi.specs.Seat.{SeatValue, fresh_seat}
-use Rattle.smp_stop_steps.specs.Threads.Known.{fresh}
 
 -- the CPUs below n have a seat, and of these the ones online are kept
 pub record AreSeated (table maker_table : TableId) (maker : StopSeatView) (k : StopSetting) (n : ℕ) (waiting : List (Option CpuValue)) : Type 0 where

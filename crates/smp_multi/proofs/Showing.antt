@@ -25,9 +25,8 @@ use Rattle.smp_multi.specs.Seat.{SeatValue}
 pub inside_shown : (n : Present) (me : ℕ) (x : StopRole) → RoleStands n me x → IsInside n me (inside_of x)
 inside_shown n me Free st = st
 inside_shown n me (In s w a l t) st = (st.0, st.3, ap acked st.1)
-inside_shown n me (Gives s w a x) st = (st.0, st.3, ap acked st.1)
-inside_shown n me (Alters s w count made rest) st = (st.0, st.3, ap acked st.1)
 inside_shown n me (Closes s) st = st.0
+inside_shown n me _ st = (st.0, st.3, ap acked st.1)
 
 pub pending_shown : (u : Setup) (gate : Option ℕ) (stop : Stop) (word : Field → ℕ) (me : ℕ) (y z : Source) → SourceShows u gate stop word me y
     → told_source y ≡ z → IsPending stop (pending_of z)
@@ -66,13 +65,11 @@ answer_put c (Closes s) y (Carries z) free k = absurd k
 
 told_with : (y : ℕ) (f : Calling) → told_calling (with_answer y f) ≡ told_calling f
 told_with y Idle = refl
-told_with y (Calls call) = refl
-told_with y (Carries z) = refl
+told_with y _ = refl
 
 with_told : (y : ℕ) (f : Calling) → with_answer y (told_calling f) ≡ with_answer y f
 with_told y Idle = refl
-with_told y (Calls call) = refl
-with_told y (Carries z) = refl
+with_told y _ = refl
 
 -- the same stops, where this CPU has made these calls and carries this answer
 abbrev pub stops_with : ℕ → List StopCall → ℕ → StopState → StopState

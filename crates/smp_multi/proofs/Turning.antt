@@ -1,39 +1,35 @@
 -- A turn of a stop of several CPUs: what the CPU may do, what it finds, and where it is after each step.
-use Rattle.std.proofs.Common.{◌≡◌, ◌≢◌, ◌⊎◌, ℕ, ◌+◌, ◌<◌, ◌≤◌, ◌==◌, ◌&&◌, ◌||◌, not, Bool, true, false, cond, Some, None, List, sym, subst, refl, ap}
-use Rattle.std.proofs.Common.{◌∙◌, arith}
-use Rattle.std.proofs.Common.{eq-eqb, ne_eqb}
+use Rattle.std.proofs.Common.{◌≡◌, ◌≢◌, ◌⊎◌, ℕ, ◌+◌, ◌<◌, ◌≤◌, ◌&&◌, ◌||◌, not, Bool, true, false, cond, Some, None, sym, subst, refl, ap}
+use Rattle.std.proofs.Common.{◌∙◌}
 use Rattle.atomic_table.specs.Seated.{TableId}
 use Rattle.smp_mask.specs.Mask.{has}
-use Rattle.smp_words.proofs.Puts.{at_test}
 use Rattle.smp_words.specs.Size.{cpus}
 use Rattle.smp_stop_steps.specs.Callings.{HasCalled}
 use Rattle.smp_stop_steps.specs.Counts.{mask_weight}
 use Rattle.smp_stop_steps.specs.Threads.Known.{setup_in, stepped}
 use Rattle.smp_multi.specs.Lives.{StopMoment}
-use Rattle.smp_stop_steps.specs.Threads.KnownAfter.{acked_by, called_by, drafted_known, is_drafting, known_told, looked_known, looked_to, member_stored}
-use Rattle.smp_stop_steps.specs.Threads.KnownAfter.{raised_by, ran_since, read_since, refilled_by}
+use Rattle.smp_stop_steps.specs.Threads.KnownAfter.{called_by, drafted_known, is_drafting, known_told, looked_known, looked_to, member_stored}
+use Rattle.smp_stop_steps.specs.Threads.KnownAfter.{refilled_by}
 use Rattle.smp_stop_steps.specs.Threads.Moves.{Look, Acknowledge, Refill, Raise, LoadArg, LoadField}
 use Rattle.smp_stop_steps.specs.Seats.{RoleStands}
 use Rattle.smp_stop_steps.specs.Sits.{IsLoaded}
-use Rattle.smp_stop_steps.specs.declared.known.Reading.{Reading}
-use Rattle.smp_stop_steps.specs.Tells.{first_readings, may_call, is_one, is_multi}
+use Rattle.smp_stop_steps.specs.Tells.{may_call, is_one, is_multi}
 use Rattle.smp_stop_steps.specs.Stop.{Inside}
-use Rattle.smp_words.specs.declared.phase.TheConstants.{DISABLE_IRQ, RUN, EXIT, OVER}
+use Rattle.smp_words.specs.declared.phase.TheConstants.{DISABLE_IRQ, RUN, EXIT}
 use Rattle.smp_stop_steps.specs.declared.stage.Visit.{Visit}
 use Rattle.smp_stop_steps.proofs.Steps.Facts.{inside_keeps, state_near}
 use Rattle.smp_stop_steps.proofs.Promises.Functions.{runs_alone}
 use Rattle.smp_multi.specs.Names.{Work, Kind, Multi, Slot, Field, Load, Store, Sub, StopRole, In, Duty, Rests, Fills, Sets, KnownStops}
-use Rattle.smp_multi.specs.Names.{Free, Gives, Alters, Closes}
+use Rattle.smp_multi.specs.Names.{Free, Alters}
 use Rattle.smp_multi.specs.Names.{Calling, Idle, Calls, Carries}
 use Rattle.smp_multi.specs.Names.act
 use Rattle.smp_multi.specs.Names.field
 use Rattle.smp_multi.specs.Laws.{IsAtRun}
 use Rattle.smp_multi.specs.Places.{work_in}
-use Rattle.smp_multi.specs.Rounds.{AtTurn, AtRun, AloneWhile, passed_by}
+use Rattle.smp_multi.specs.Rounds.{AtTurn, AtRun, AloneWhile}
 use Rattle.smp_multi.specs.Running.{calls_now}
 use Rattle.smp_multi.specs.Seat.{SeatValue, EndsWith, Ready}
 use Rattle.smp_multi.proofs.Cells.{slot_cell}
-use Rattle.smp_multi.proofs.Counting.{raised_on, with_steps}
 
 -- a CPU that goes on in the stop that it is in
 pub turn_on : (t : TableId) (d e : SeatValue) (v x : Visit) (l m : ℕ) (r q : Duty) → AtTurn t d v l r → e.table ≡ t
@@ -81,9 +77,8 @@ runs_alone_there v slot is p at seat source h sees =
     go : (x : StopRole) → IsAtRun x slot → RoleStands p.now v.number x → (p.now.stop slot).standing v.number ≡ Inside DISABLE_IRQ RUN
     go Free run st = absurd run
     go (In s w a l t) run st = subst (λ n. (p.now.stop n).standing v.number ≡ Inside a l) run.0 st.1 ∙ (λ i. Inside (run.1 i) (run.2 i))
-    go (Gives s w a x) run st = absurd run
     go (Alters s w count made rest) run st = subst (λ n. (p.now.stop n).standing v.number ≡ Inside DISABLE_IRQ RUN) run st.1
-    go (Closes s) run st = absurd run
+    go _ run st = absurd run
 
 pub run_alone : (t : TableId) (d : SeatValue) (v : Visit) (k : Kind) → AtRun t d v k → AloneWhile d.known v.slot
 run_alone t d v k a = runs_alone_there d.known v.slot (subst (λ x. IsAtRun x v.slot) (sym a.at.seat_is) (refl, a.disabled, refl))
