@@ -108,7 +108,8 @@ one_long (x ∷ y ∷ l) e = absurd (omega arith)
 
 only_one : {A : Type 0} (x y : A) (before after : List A) → x ∷ [] ≡ before ++ y ∷ after → y ≡ x
 only_one x y [] after e = cc
-only_one x y _ after e = cc
+only_one x y (z ∷ []) after e = cc
+only_one x y (z ∷ w ∷ before) after e = cc
 
 module _ (old new : StopCpuValue) (work : Work) (word : ℕ) (answer : ℤ) (number : new.number ≡ old.number)
     (begun : new.part.begun ≡ old.part.begun ++ work ∷ []) (was_shown : StopsAreShown old) (shown : StopsAreShown new)
