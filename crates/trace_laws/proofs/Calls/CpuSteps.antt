@@ -106,8 +106,7 @@ shows_unlocked_running : (told : Bool) (progress : Progress) (class : Class) (ca
 shows_unlocked_running told Ended class call r elsewhere a b is e =
     let same : record a { current = None } ≡ b = cc in subst (λ (c : CpuState). Shows told [] false [] [] [] a c) same (shows_over told call a is)
 shows_unlocked_running told Runs Sync call r elsewhere a b is e = absurd cc
-shows_unlocked_running told Runs Async call r elsewhere a b is e = absurd cc
-shows_unlocked_running told Unlocked class call r elsewhere a b is e = absurd cc
+shows_unlocked_running told _ _ call r elsewhere a b is e = absurd cc
 
 shows_unlocked_with : (told : Bool) (current : Option Current) (r : ℕ) (here : Bool) (elsewhere : Reason) (a b : CpuState)
     → a.current ≡ current → unlocked_with current r here elsewhere a ≡ Ok b → Shows told [] false [] [] [] a b
@@ -202,8 +201,7 @@ shows_begun_any id func info elsewhere a b (Some n) (Some call) none place is e 
     let m = both_made (is_of (record { id = id; func = func; info = info }) call) (λ u. Ok c) b e in
     let p = picked id a.queue (Some n) place n refl call is in
     begin_shown false id func info call a b c m.0 p.0 m.1.0 (shows_left_queue Runs (call ∷ []) [] call n a none p.1 refl refl) cc
-shows_begun_any id func info elsewhere a b None found none place is e = absurd cc
-shows_begun_any id func info elsewhere a b (Some n) None none place is e = absurd cc
+shows_begun_any id func info elsewhere a b _ _ none place is e = absurd cc
 
 shows_loose_with : (current : Option Current) (id func info : ℕ) (elsewhere : Reason) (a b : CpuState) → a.current ≡ current
     → loose_with current (record { id = id; func = func; info = info }) elsewhere a ≡ Ok b → BeginShown false id func info a b
@@ -269,8 +267,7 @@ shows_ended_at told unlocks Runs call r a b is e =
       id_is = eqb-true call.id r p.0;
       shows = subst (λ (x : CpuState). Shows told [] false [] (call ∷ []) [] a x) same (shows_ended_as told call (after_end unlocks call) a is rests.0 rests.1);
     }
-shows_ended_at told unlocks Unlocked call r a b is e = absurd cc
-shows_ended_at told unlocks Ended call r a b is e = absurd cc
+shows_ended_at told unlocks _ call r a b is e = absurd cc
 
 shows_ended_with : (told unlocks : Bool) (current : Option Current) (r : ℕ) (a b : CpuState) → a.current ≡ current → ended_with current r unlocks a ≡ Ok b →
     EndShown told r a b
@@ -305,8 +302,7 @@ slipped_any_shows r a (Some n) (Some call) none place is =
     (false, a)
     (shows_left_queue Unlocked [] [] call n a none p.1 refl refl) (shows_same false a a
     (record { queue = refl; batch = refl; current = refl; ran = refl; queued = refl }))
-slipped_any_shows r a None found none place is = shows_same false a a (record { queue = refl; batch = refl; current = refl; ran = refl; queued = refl })
-slipped_any_shows r a (Some n) None none place is = shows_same false a a (record { queue = refl; batch = refl; current = refl; ran = refl; queued = refl })
+slipped_any_shows r a _ _ none place is = shows_same false a a (record { queue = refl; batch = refl; current = refl; ran = refl; queued = refl })
 
 slipped_at_shows : (current : Option Current) (irq : Bool) (r : ℕ) (a : CpuState) → a.current ≡ current →
     Shows false [] false [] [] [] a (slipped_at current irq r a).1

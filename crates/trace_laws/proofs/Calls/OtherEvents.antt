@@ -1,5 +1,5 @@
 -- Events of stops and of labels leave calls as they are.
-use Rattle.trace_laws.proofs.Names.{arith, APatch, Bool, CpuState, Err, Key, Kind, LabelEvent, Multi, None, Ok, One, Option, Patch, Place, Reason, Result, Site}
+use Rattle.trace_laws.proofs.Names.{arith, APatch, Bool, CpuState, Err, Key, Kind, LabelEvent, None, Ok, Option, Patch, Place, Reason, Result, Site}
 use Rattle.trace_laws.proofs.Names.{Some, StateValue, Stop, StopEvent, Task, ack_by, acked, acknowledged, acks_as, acks_at_run, acks_disabled, at_phase}
 use Rattle.trace_laws.proofs.Names.{cases_eq, collect_by, collected, complete_by, completed, cpu_at, enter_by, enter_from, entered, entered_open, false}
 use Rattle.trace_laws.proofs.Names.{gate_by, gate_with, has, has_run, holds_gate, if◌then◌else◌, in_patch, in_round, in_stop, key_by, label_goes, length}
@@ -102,9 +102,7 @@ keeps_patch_over None source patch s t e = keeps_end s (with_patch source patch 
 
 keeps_acks_as : (kind : Kind) (cpu source : ℕ) (s t : StateValue) → acks_as kind cpu source s ≡ Ok t → KeepsCalls s t
 keeps_acks_as APatch cpu source s t e = keeps_patch_over (next_store source s) source (patch_left source s) s t e
-keeps_acks_as One cpu source s t e =
-    let p = passed (has_run (stop_at s source) cpu) (Ok s) reason.FunctionHasNotRun t e in keeps_end s s t (cc) (keeps_refl s)
-keeps_acks_as Multi cpu source s t e =
+keeps_acks_as _ cpu source s t e =
     let p = passed (has_run (stop_at s source) cpu) (Ok s) reason.FunctionHasNotRun t e in keeps_end s s t (cc) (keeps_refl s)
 
 keeps_acks_by : (two runs : Bool) (cpu source : ℕ) (s t : StateValue) (test : Result (Unit {0}) Reason)
@@ -163,8 +161,7 @@ keeps_on cpu s t e =
 
 keeps_run_as : (kind : Kind) (source cpu func arg : ℕ) (s t : StateValue) → run_as kind source cpu func arg s ≡ Ok t → KeepsCalls s t
 keeps_run_as APatch source cpu func arg s t e = absurd cc
-keeps_run_as One source cpu func arg s t e = keeps_stop source s t (ran_function cpu func arg (stop_at s source)) e
-keeps_run_as Multi source cpu func arg s t e = keeps_stop source s t (ran_function cpu func arg (stop_at s source)) e
+keeps_run_as _ source cpu func arg s t e = keeps_stop source s t (ran_function cpu func arg (stop_at s source)) e
 
 keeps_run : (cpu func arg : ℕ) (s t : StateValue) → run_by cpu func arg s ≡ Ok t → KeepsCalls s t
 unfolding run_by

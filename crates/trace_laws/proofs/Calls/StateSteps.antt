@@ -1,6 +1,6 @@
 -- What a step shows of the calls of one CPU of the state.
 use Rattle.trace_laws.proofs.Names.{Batch, Bool, Call, CpuState, Free, IsPermutation, IsPermutation-append_left, IsPermutation-append_right}
-use Rattle.trace_laws.proofs.Names.{IsPermutation-trans, List, Ok, Queue, Run, Shows, StateValue, [], ap, append-nil, arith, cases_eq, count_by, cpu_at, false}
+use Rattle.trace_laws.proofs.Names.{IsPermutation-trans, List, Ok, Queue, Shows, StateValue, [], ap, append-nil, arith, cases_eq, count_by, cpu_at, false}
 use Rattle.trace_laws.proofs.Names.{freed, freed_by, freed_from, fresh_cpu, get_or-set_other, get_or-set_same, held, if◌then◌else◌, inl, inr, is_from, length}
 use Rattle.trace_laws.proofs.Names.{length-set, nat_lt, not, place_at, refl, running, slip_in, slipped, slipped_from_batch, slipped_from_queue, subst, sym}
 use Rattle.trace_laws.proofs.Names.{true, waiting, with_cpu, ℕ, ◌++◌, ◌+◌, ◌<◌, ◌∙◌, ◌≡◌, ◌≢◌}
@@ -128,12 +128,8 @@ slipped_at_goes true cpu id (Queue x) s below =
 slipped_at_goes false cpu id (Batch x) s below =
     either_goes true cpu s (nat_lt x 32) (slip_in x s (slipped_from_batch id (cpu_at s x)))
     (slip_in_goes true cpu x s (slipped_from_batch id (cpu_at s x)) below (shows_slipped_from_batch true id (cpu_at s x)))
-slipped_at_goes true cpu id Free s below = goes_same false cpu s s refl refl
-slipped_at_goes true cpu id (Batch x) s below = goes_same false cpu s s refl refl
-slipped_at_goes true cpu id (Run x) s below = goes_same false cpu s s refl refl
-slipped_at_goes false cpu id Free s below = goes_same true cpu s s refl refl
-slipped_at_goes false cpu id (Queue x) s below = goes_same true cpu s s refl refl
-slipped_at_goes false cpu id (Run x) s below = goes_same true cpu s s refl refl
+slipped_at_goes true cpu id _ s below = goes_same false cpu s s refl refl
+slipped_at_goes false cpu id _ s below = goes_same true cpu s s refl refl
 
 slipped_goes : (order : Bool) (cpu id : ℕ) (place : Place) (s : StateValue) → s.setting.without.order ≡ order → cpu < length s.cpus
     → GoesQuietly (not order) cpu s (slipped id place s).1
@@ -152,12 +148,8 @@ freed_from_goes : (order : Bool) (cpu id : ℕ) (place : Place) (s t : StateValu
     → GoesQuietly (not order) cpu s t
 freed_from_goes order cpu id Free s t o below e = let same : s ≡ t = cc in subst (λ (x : StateValue). GoesQuietly (not order) cpu s x) same (goes_same
     (not order) cpu s s refl refl)
-freed_from_goes order cpu id (Queue x) s t o below e = freed_by_goes (not order) cpu id (Queue x) s t (slipped id (Queue x) s) (slipped_goes order cpu id
-    (Queue x) s o below) e
-freed_from_goes order cpu id (Batch x) s t o below e = freed_by_goes (not order) cpu id (Batch x) s t (slipped id (Batch x) s) (slipped_goes order cpu id
-    (Batch x) s o below) e
-freed_from_goes order cpu id (Run x) s t o below e = freed_by_goes (not order) cpu id (Run x) s t (slipped id (Run x) s) (slipped_goes order cpu id
-    (Run x) s o below) e
+freed_from_goes order cpu id place s t o below e =
+    freed_by_goes (not order) cpu id place s t (slipped id place s) (slipped_goes order cpu id place s o below) e
 
 -- so is seeing a record free
 pub freed_goes : (order : Bool) (cpu id : ℕ) (s t : StateValue) → s.setting.without.order ≡ order → cpu < length s.cpus → freed id s ≡ Ok t →

@@ -1,6 +1,6 @@
 -- Keys and sites are lawful outside a patch.
-use Rattle.trace_laws.proofs.Names.{arith, APatch, AreLabels, Bool, Err, Event, HaveKinds, IsTrace, Key, Kind, LabelEvent, LabelWords, List, Multi, None, Ok}
-use Rattle.trace_laws.proofs.Names.{One, Option, Patch, Place, Reason, Result, Runs, Seen, Setting, Site, Some, StateValue, Stop, StopEvent, Task, [], ack_by}
+use Rattle.trace_laws.proofs.Names.{arith, APatch, AreLabels, Bool, Err, Event, HaveKinds, IsTrace, Key, Kind, LabelEvent, LabelWords, List, None, Ok}
+use Rattle.trace_laws.proofs.Names.{Option, Patch, Place, Reason, Result, Runs, Seen, Setting, Site, Some, StateValue, Stop, StopEvent, Task, [], ack_by}
 use Rattle.trace_laws.proofs.Names.{acked, acknowledged, ap, closed, collect_by, collected, complete_by, completed, count_at, cpu_at, enter_by, enter_from}
 use Rattle.trace_laws.proofs.Names.{false, gate_by, gate_with, goes, has, holds_gate, if◌then◌else◌, in_patch, in_round, inl, is_on, key_by, label_goes, length}
 use Rattle.trace_laws.proofs.Names.{made_store, may_ack, may_off, may_open, next_store, not, nudge_by, nudged_count, off_by, on_by, on_stop, open_by, opened}
@@ -88,8 +88,7 @@ on_is cpu s t e =
 
 run_as_words : (kind : Kind) (source cpu func arg : ℕ) (s t : StateValue) → run_as kind source cpu func arg s ≡ Ok t → t.words ≡ s.words
 run_as_words APatch source cpu func arg s t e = absurd cc
-run_as_words One source cpu func arg s t e = stop_words source s t (ran_function cpu func arg (stop_at s source)) e
-run_as_words Multi source cpu func arg s t e = stop_words source s t (ran_function cpu func arg (stop_at s source)) e
+run_as_words _ source cpu func arg s t e = stop_words source s t (ran_function cpu func arg (stop_at s source)) e
 
 run_words : (cpu func arg : ℕ) (s t : StateValue) → run_by cpu func arg s ≡ Ok t → t.words ≡ s.words
 unfolding run_by
@@ -293,9 +292,7 @@ read_is cpu (labels.Site site jumps) s t e is =
       xor_none (is_jump (site_at s.words site)) jumps (read_as (xor (is_jump (site_at s.words site)) jumps) (reason.SiteIs site
           (is_jump (site_at s.words site))) m.0 n.1.1),
     )
-read_is cpu (labels.Set key count) s t e is = absurd cc
-read_is cpu (labels.Turn site jumps) s t e is = absurd cc
-read_is cpu (labels.Nudge key up) s t e is = absurd cc
+read_is cpu _ s t e is = absurd cc
 
 -- a CPU that is online and reads is in no patch
 rests_where_read : (u : Setting) (words : LabelWords) (es : List (ℕ × Event)) (s : StateValue) (cpu : ℕ) → IsTrace u words es s → Labelled s → cpu < 32 →

@@ -70,12 +70,7 @@ freed_at_batch s t x id false p e = absurd cc
 freed_slipped : (order : Bool) (id : ℕ) (place : Place) (s t : StateValue) → Placed s → freed_by id place (slipped_at order id place s) ≡ Ok t → Freed id t
 freed_slipped true id (Queue x) s t p e = freed_at_queue s t x id (nat_lt x 32) p e
 freed_slipped false id (Batch x) s t p e = freed_at_batch s t x id (nat_lt x 32) p e
-freed_slipped true id Free s t p e = absurd cc
-freed_slipped true id (Batch x) s t p e = absurd cc
-freed_slipped true id (Run x) s t p e = absurd cc
-freed_slipped false id Free s t p e = absurd cc
-freed_slipped false id (Queue x) s t p e = absurd cc
-freed_slipped false id (Run x) s t p e = absurd cc
+freed_slipped _ id _ s t p e = absurd cc
 
 freed_unlocks : (unlocks order : Bool) (id : ℕ) (place : Place) (s t : StateValue) → Placed s
     → freed_by id place (if unlocks then slipped_at order id place s else (false, s)) ≡ Ok t → Freed id t
@@ -84,9 +79,7 @@ freed_unlocks false order id place s t p e = absurd cc
 
 freed_place : (id : ℕ) (place : Place) (s t : StateValue) → place_at s id ≡ place → Placed s → freed_from id place s ≡ Ok t → Freed id t
 freed_place id Free s t is p e = freed_end id s t (cc) (record { placed = p; free = λ low. is })
-freed_place id (Queue x) s t is p e = freed_unlocks s.setting.without.unlocks s.setting.without.order id (Queue x) s t p e
-freed_place id (Batch x) s t is p e = freed_unlocks s.setting.without.unlocks s.setting.without.order id (Batch x) s t p e
-freed_place id (Run x) s t is p e = freed_unlocks s.setting.without.unlocks s.setting.without.order id (Run x) s t p e
+freed_place id place s t is p e = freed_unlocks s.setting.without.unlocks s.setting.without.order id place s t p e
 
 freed_is : (id : ℕ) (s t : StateValue) → Placed s → freed id s ≡ Ok t → Freed id t
 freed_is id s t p e = freed_place id (place_at s id) s t refl p e

@@ -169,14 +169,7 @@ place_before place id actor InBatch Running a c p s e =
 place_before place id actor Running Nowhere a c p s e =
     let same : (id == id) ≡ true = eq-eqb id id refl in run_is place actor (one_is (is_run place actor) (rw p.run at (left_one (in_run id a) (in_run id c)
     (rw same at (s.run id)))))
-place_before place id actor Nowhere to a c p s e = absurd cc
-place_before place id actor InQueue InQueue a c p s e = absurd cc
-place_before place id actor InQueue InBatch a c p s e = absurd cc
-place_before place id actor InBatch InQueue a c p s e = absurd cc
-place_before place id actor InBatch InBatch a c p s e = absurd cc
-place_before place id actor Running InQueue a c p s e = absurd cc
-place_before place id actor Running InBatch a c p s e = absurd cc
-place_before place id actor Running Running a c p s e = absurd cc
+place_before place id actor _ _ a c p s e = absurd cc
 
 free_is_none : (from to : Kind) → Free ≡ place_of from 0 → leaves from to ≡ true → ⊥
 free_is_none from to h1 h2 = search arith

@@ -204,8 +204,7 @@ enters_any id func info elsewhere a b (Some n) (Some call) none place is e =
       run = λ r. rw none (run_count call.class call r);
       async = refl;
     })
-enters_any id func info elsewhere a b None found none place is e = absurd cc
-enters_any id func info elsewhere a b (Some n) None none place is e = absurd cc
+enters_any id func info elsewhere a b _ _ none place is e = absurd cc
 
 begins_loose_with : (current : Option Current) (id func info : ℕ) (elsewhere : Reason) (a b : CpuState) → a.current ≡ current → IsUnlockedAsync a
     → loose_with current (record { id = id; func = func; info = info }) elsewhere a ≡ Ok b → Begins id a b
@@ -269,8 +268,7 @@ slips_any r a b (Some n) (Some call) none place is e = by_test (is_async call.cl
         async = only_async call.class t;
       }))
   by_test false t f = absurd (let g : false ≡ true = ap (λ (y : Bool × CpuState). y.0) f in cc)
-slips_any r a b None found none place is e = absurd (let g : false ≡ true = ap (λ (y : Bool × CpuState). y.0) e in cc)
-slips_any r a b (Some n) None none place is e = absurd (let g : false ≡ true = ap (λ (y : Bool × CpuState). y.0) e in cc)
+slips_any r a b _ _ none place is e = absurd (let g : false ≡ true = ap (λ (y : Bool × CpuState). y.0) e in cc)
 
 slips_at : (current : Option Current) (irq : Bool) (r : ℕ) (a b : CpuState) → a.current ≡ current → slipped_at current irq r a ≡ (true, b) →
     Shift r InQueue Nowhere a b

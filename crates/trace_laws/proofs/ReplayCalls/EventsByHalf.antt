@@ -49,9 +49,8 @@ module _ (me : ℕ) where
   intr_calls cpu a s = search (all_if, arith)
 
   hand_calls : (said : Option Note) (s : Seen) → AllCalls (of_hand said s)
-  hand_calls None s = refl
   hand_calls (Some (note.Call source func info)) s = refl
-  hand_calls (Some _) s = refl
+  hand_calls _ s = refl
 
   ran_calls : (p : Past) (a : Act) → AllCalls (of_ran p a)
   ran_calls p a = search arith
@@ -64,9 +63,8 @@ module _ (me : ℕ) where
   gate_none a put = search arith
 
   on_none : (e : StopEvent) (said : Option Note) → NoCalls (with_on e said)
-  on_none e None = refl
   on_none e (Some note.Left) = refl
-  on_none e (Some _) = refl
+  on_none e _ = refl
 
   roll_none : (p : Past) (source : ℕ) (a : Act) (s : Seen) → NoCalls (of_roll p source a s)
   roll_none p source a s = search (no_if, arith)
@@ -78,17 +76,15 @@ module _ (me : ℕ) where
   ack_none p a said = search (on_none, arith)
 
   arg_none : (said : Option Note) → NoCalls (of_arg said)
-  arg_none None = refl
   arg_none (Some (note.Run func arg)) = refl
-  arg_none (Some _) = refl
+  arg_none _ = refl
 
   todo_none : (p : Past) (a : Act) → NoCalls (of_todo p a)
   todo_none p a = search arith
 
   result_none : (said : Option Note) → NoCalls (of_result said)
-  result_none None = refl
   result_none (Some (note.Result answer)) = refl
-  result_none (Some _) = refl
+  result_none _ = refl
 
   slot_none : (p : Past) (source : ℕ) (f : Field) (s : Seen) → NoCalls (of_slot p source f s)
   slot_none p source f s = search (roll_none, state_none, ack_none, arg_none, todo_none, result_none, arith)

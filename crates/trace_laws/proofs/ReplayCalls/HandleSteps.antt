@@ -74,27 +74,18 @@ module _ (online : ℕ) (a : CallState) (at : Word → ℕ) (control : ℕ → C
   sync_unlocks walk call next h1 = search (stands_at, runs_below, id_told, holds_nothing, unlocks_told, arith)
 
   pub handles_step : (stage : HandleStage) → At stage → Made stage
-  handles_step handle.Enter e = still online a s f
   handles_step handle.Accept e =
       let k = stands_at me shown handle.Accept e in
       takes_interrupt (a.pending me) (at (Intr me)) refl (shown.noticed.words me) k.1.running k.1.batch k.1.accepted
-  handles_step handle.LeaveIdle e = still online a s f
   handles_step handle.Take e =
       let k = stands_at me shown handle.Take e in takes_told online a s f me below shown.placed k.1.2 k.1.0 k.1.1 on
-  handles_step (handle.ReverseLoad newer id) e = still online a s f
   handles_step (handle.ReverseStore newer id older) e = links_quiet online a s f me (link_to newer) (a.held me)
-  handles_step (handle.LoadNext walk id) e = still online a s f
   handles_step (handle.LoadFlags walk id next) e =
       loads online a s f me below id (at (Flags id)) (a.place id) refl (shown.written.locks id) (λ _. loads_flags walk id next e)
-  handles_step (handle.LoadFunc walk id next) e = still online a s f
-  handles_step (handle.LoadInfo walk id next func) e = still online a s f
   handles_step (handle.Unlink walk last call next) e = links_quiet online a s f me (link_to next) (a.held me)
   handles_step (handle.BeginSync walk call next) e = sync_begins walk call next e
   handles_step (handle.CountSync walk call next) e = sync_ends walk call next e
   handles_step (handle.EndSync walk call next) e = sync_unlocks walk call next e
-  handles_step (handle.AsyncNext id) e = still online a s f
-  handles_step (handle.AsyncFunc id next) e = still online a s f
-  handles_step (handle.AsyncInfo id next func) e = still online a s f
   handles_step (handle.BeginAsync call next) e = async_begins call next e
   handles_step (handle.CountAsync call next) e = async_ends call next e
-  handles_step handle.Leave e = still online a s f
+  handles_step _ e = still online a s f

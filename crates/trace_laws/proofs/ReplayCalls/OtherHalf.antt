@@ -1,5 +1,5 @@
 -- What a step of one half leaves of what a CPU keeps of the other.
-use Rattle.trace_laws.proofs.Names.{arith, Bool, None, Option, Some, cond, false, false≢true, refl, true, true≢false, ℕ, ◌-◌, ◌≡◌}
+use Rattle.trace_laws.proofs.Names.{arith, Bool, Option, Some, cond, false, false≢true, refl, true, true≢false, ℕ, ◌-◌, ◌≡◌}
 use Rattle.trace_laws.proofs.ReplayNames.{Act, Field, Note, Past, Seen, Word, after, after_call_entry, after_draft, after_on, after_other, after_slot}
 use Rattle.trace_laws.proofs.ReplayNames.{after_slot_load, after_store, is_new}
 use Rattle.smp_words.specs.declared.field.Field.TheVariants as field
@@ -52,9 +52,8 @@ stays : (p : Past) → KeepsStops p p
 stays p = record { phase = refl; answer = refl; draft = refl }
 
 entry_stays : (p : Past) (id : ℕ) (said : Option Note) → KeepsStops p (after_call_entry p id said)
-entry_stays p id None = stays p
 entry_stays p id (Some (note.Call source func info)) = record { phase = refl; answer = refl; draft = refl }
-entry_stays p id (Some _) = stays p
+entry_stays p id _ = stays p
 
 if_stays : (b : Bool) (p q r : Past) → KeepsStops p q → KeepsStops p r → KeepsStops p (cond b q r)
 if_stays true p q r x y = x

@@ -74,14 +74,11 @@ module _ (online : ℕ) (a : CallState) (at : Word → ℕ) (control : ℕ → C
       let st = stands (Post p post.LoadFlags) e in
       loads online a s f me below p.id (at (Flags p.id)) (a.place p.id) refl (shown.written.locks p.id) (λ _. st.1.is_call.in_range)
   posts_step p post.Lock e on ne k = let st = stands (Post p post.Lock) e in lock online a s f me p.id p.class None st.1.knows
-  posts_step p post.StoreFunc e on ne k = quiet online a s f _ (λ j. refl) (λ j l. refl)
-  posts_step p post.StoreInfo e on ne k = quiet online a s f _ (λ j. refl) (λ j l. refl)
-  posts_step p post.Count e on ne k = quiet online a s f _ (λ j. refl) (λ j l. refl)
   posts_step p post.LoadHead e on ne k = still online a s f
   posts_step p (post.StoreNext link tries) e on ne k = links_quiet online a s f me link (a.held me)
   posts_step p (post.Exchange link tries) e on ne k = won p link tries e on ne k
-  posts_step p post.Uncount e on ne k = quiet online a s f _ (λ j. refl) (λ j l. refl)
   posts_step p post.Release e on ne k =
       let st = stands (Post p post.Release) e in
       rw (held (Post p post.Release) e)
       (quiet online a s f (given_up a me p.id) (λ j. refl) (λ j l. stays_free online a s f me p.id machine.Free (ap place_of st.1.knows.0) refl j))
+  posts_step p _ e on ne k = quiet online a s f _ (λ j. refl) (λ j l. refl)

@@ -57,10 +57,7 @@ module _ (online : ℕ) (a : CallState) (s : StateValue) (f : Follows online a s
           follows = follows_same online a (confirms a me id) s (λ j. refl) (λ j b. refl) f;
           leaves = leaves_all s;
         })
-    loads id n machine.Held e flags l = rw flags still
-    loads id n (machine.Queued c) e flags l = rw flags still
-    loads id n (machine.Batch c) e flags l = rw flags still
-    loads id n (machine.Running c) e flags l = rw flags still
+    loads id n _ e flags l = rw flags still
 
     -- a CPU's part of the calls
     mine : calls_in (cpu_at s me) ≡ calls_of a me

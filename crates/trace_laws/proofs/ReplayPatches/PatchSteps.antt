@@ -3,7 +3,7 @@ use Rattle.trace_laws.proofs.Names.{Event, Key, LabelWords, List, None, Ok, Opti
 use Rattle.trace_laws.proofs.Names.{cases_eq, cond, count_at, cpu_at, eq-eqb, goes, has, has_run, inl, inr, is_on, label_goes, length, length-set, next_store}
 use Rattle.trace_laws.proofs.Names.{patch_left, popped, refl, site_word, slice_set, stop_at, stored, subst, sym, true, with_patch, with_word, ℕ, ◌&&◌, ◌++◌}
 use Rattle.trace_laws.proofs.Names.{◌<◌, ◌==◌, ◌∙◌, ◌∷◌, ◌≡◌, ◌≢◌}
-use Rattle.trace_laws.proofs.ReplayNames.{Advance, Alters, Called, Calling, Calls, Carries, Change, CpuIs, FollowsStops, HasLeft, Idle, In, Inside, InsideIs}
+use Rattle.trace_laws.proofs.ReplayNames.{Advance, Alters, Called, Calling, Carries, Change, CpuIs, FollowsStops, HasLeft, Idle, In, Inside, InsideIs}
 use Rattle.trace_laws.proofs.ReplayNames.{IsCalling, IsPatchWork, Keeps, LabelsShow, Leads, MadeIs, OpenIs, PartIs, Patch, Patches, Patching, PhaseIs, Present}
 use Rattle.trace_laws.proofs.ReplayNames.{ReadingKey, Rests, RoundStage, RunnerShows, StopRole, SitsInRound, Standing, RoleStands, Stop}
 use Rattle.trace_laws.proofs.ReplayNames.{StopIs, StopStage, StopState}
@@ -156,9 +156,8 @@ module _ (known : Here) where
 
       begun : (j : ℕ) (g : Calling) → p.now.patching ≡ Whole → MadeIs s.words p.now.patching g (stop_at s j).patch
           → MadeIs s.words (patch_begun U me (p.now.stop x.slot).work (At (word.Key key))) g (stop_at s j).patch
-      begun j Idle e k = subst (λ (z : Patching). MadeIs s.words z Idle (stop_at s j).patch) e k
-      begun j (Calls call) e k = subst (λ (z : Patching). MadeIs s.words z (Calls call) (stop_at s j).patch) e k
       begun j (Carries n) e k = k
+      begun j g e k = subst (λ (z : Patching). MadeIs s.words z g (stop_at s j).patch) e k
 
   pub begins_patch : (x : Visit) (key : ℕ) (change : KeyChange) → C.stage ≡ Some (Advance x (round.LoadKey key change)) → Does
       (Advance x (round.LoadKey key change))
@@ -185,8 +184,7 @@ module _ (known : Here) where
       where
         by_calling : (g : Calling) → IsCalling me (Alters slot w count made rest) g → g ≡ Idle
         by_calling Idle k = refl
-        by_calling (Calls call) k = absurd k
-        by_calling (Carries n) k = absurd k
+        by_calling _ k = absurd k
 
     here : InsideIs p s Old me slot
     here = (my known).stop slot so.0

@@ -2,7 +2,7 @@
 use Rattle.trace_laws.proofs.Names.{Bool, Kind, List, Multi, None, Ok, One, Option, Some, Task, [], acked_by, ap, arith, cond, eqb-true, false, get_or-set_same}
 use Rattle.trace_laws.proofs.Names.{goes, has, is_cpu, ne_eqb, not, pos, refl, slice_set, stop_at, subst, sym, true, with_stop, ℕ, ◌&&◌, ◌+◌, ◌==◌, ◌∙◌, ◌∷◌}
 use Rattle.trace_laws.proofs.Names.{◌≡◌, ◌≢◌}
-use Rattle.trace_laws.proofs.ReplayNames.{Advance, Alters, AnswerIs, Calling, Calls, Carries, Change, Idle, In, Inside, Note, Patch, Patches, Patching, PhaseIs}
+use Rattle.trace_laws.proofs.ReplayNames.{Advance, Alters, AnswerIs, Calling, Calls, Change, Idle, In, Inside, Note, Patch, Patches, Patching, PhaseIs}
 use Rattle.trace_laws.proofs.ReplayNames.{Present, Refills, Rests, RunnerShows, Slot, Standing, RoleStands, Stop, StopOutcome, StopStage}
 use Rattle.trace_laws.proofs.ReplayNames.{StopState, Visit, Whole}
 use Rattle.trace_laws.proofs.ReplayNames.{Word, Work, acknowledged, carried, given_by, has_called, has_entered, irq_of, is_called, leaves, one_less, put}
@@ -58,10 +58,8 @@ module _ (known : Here) where
     -- a CPU that has called its function has called it still
     carried_same : (k : Kind) (g : Calling) → has_called k (carried_call g) ≡ has_called k g
     carried_same k Idle = refl
-    carried_same k (Carries n) = refl
     carried_same One (Calls call) = refl
-    carried_same Multi (Calls call) = refl
-    carried_same Patch (Calls call) = refl
+    carried_same _ _ = refl
 
     makes_none : (j : ℕ) (y : Work) (count : ℕ) (made rest : List Change) → shown.seat me ≡ Alters j y count made rest → ⊥
     makes_none j y count made rest e = apart (sym at_seat ∙ e)

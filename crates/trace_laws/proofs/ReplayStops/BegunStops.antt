@@ -1,8 +1,8 @@
 -- What a command of the stop half begins with, and what its CPU keeps of the stop that it begins.
-use Rattle.trace_laws.proofs.Names.{Bool, Kind, Multi, None, One, Option, Some, arith, cond, false, has, is_on, length, refl, true, xor, ℕ, ◌<◌, ◌==◌, ◌∙◌, ◌≡◌}
+use Rattle.trace_laws.proofs.Names.{Bool, Kind, None, One, Option, Some, arith, cond, false, has, is_on, length, refl, true, xor, ℕ, ◌<◌, ◌==◌, ◌∙◌, ◌≡◌}
 use Rattle.trace_laws.proofs.Names.{◌≢◌}
 use Rattle.trace_laws.proofs.ReplayNames.{BeginsOfCpus, Command, CompletionStage, Draft, DraftIs, Drafts, ExchangeKey, Field, IsOfCpus, Past}
-use Rattle.trace_laws.proofs.ReplayNames.{Patch, RoundStage, StopControlValue, StopOutcome, StopStage, StopsValue, Visit, Work, after, after_draft}
+use Rattle.trace_laws.proofs.ReplayNames.{RoundStage, StopControlValue, StopOutcome, StopStage, StopsValue, Visit, Work, after, after_draft}
 use Rattle.trace_laws.proofs.ReplayNames.{begun_next, begun_value, completion_outcome, cpus, in_visit, key_on, kind_word, nudge_on, put_other}
 use Rattle.trace_laws.proofs.ReplayNames.{put_same, round_outcome, seen_of, stop_access, stop_control_of, stop_controls_by_cpu, stop_ends, stop_first}
 use Rattle.trace_laws.proofs.ReplayNames.{stop_goes, stop_outcome}
@@ -13,8 +13,7 @@ use Rattle.smp_stop_steps.specs.{Start.stop_begun_if}
 -- what is kept of a stop that a CPU begins, after its next field
 pub kind_kept : (w : Kind) → kind_at (kind_word w) ≡ w
 kind_kept One = refl
-kind_kept Multi = refl
-kind_kept Patch = refl
+kind_kept _ = refl
 
 pub if_drafts : (b : Bool) (d : Draft) (x y : StopOutcome) → Drafts x.control.stage d → Drafts y.control.stage d → Drafts (cond b x y).control.stage d
 if_drafts true d x y k l = k

@@ -136,8 +136,7 @@ module _ (known : Here) (results : (slot : ℕ) → stop_number known.v.table (S
 
   ending_is : (y : Visit) (g : Calling) → IsEnding y g → g ≢ Idle → y.answer ≡ answer_in g
   ending_is y Idle k ne = absurd (ne refl)
-  ending_is y (Calls call) k ne = k
-  ending_is y (Carries n) k ne = k
+  ending_is y _ k ne = k
 
   may_inside : (slot answer : ℕ) (w : Work) (a : ℕ) → (p.now.stop slot).work ≡ w → w.kind ≢ One → a ≡ EXIT → p.now.inside me ≡ Some slot → Old.answer ≡ pos 0
       → answer ≡ 0 → (g : Calling) → p.calling me ≡ g → IsCalling me (In slot w a a Rests) g → (g ≢ Idle → answer ≡ answer_in g)
@@ -285,8 +284,7 @@ module _ (known : Here) (results : (slot : ℕ) → stop_number known.v.table (S
 
           one_called : (g : Calling) → IsEnding x g → x.acked ≡ 0 → has_entered g ≡ true
           one_called Idle k z = absurd (omega (arith, k.0))
-          one_called (Calls call) k z = refl
-          one_called (Carries n) k z = refl
+          one_called _ k z = refl
 
       gives_so : (w : Work) → shown.seat me ≡ Gives x.slot w x.acked x.answer → Does (Complete x completion.CountDown)
       gives_so w at_seat =
@@ -304,8 +302,7 @@ module _ (known : Here) (results : (slot : ℕ) → stop_number known.v.table (S
         where
           called_so : (g : Calling) → IsCalling me (Gives x.slot w x.acked x.answer) g → has_entered g ≡ true
           called_so Idle k = absurd k
-          called_so (Calls call) k = refl
-          called_so (Carries n) k = refl
+          called_so _ k = refl
 
   -- the last to complete stores done
   pub closes : (slot : ℕ) → C.stage ≡ Some (Close slot) → Does (Close slot)

@@ -1,5 +1,5 @@
 -- A CPU enters a stop, looks at its phase, runs its function, answers and completes.
-use Rattle.trace_laws.proofs.Names.{Bool, CpuState, Event, Kind, List, Multi, None, Ok, One, Option, Some, Task, [], acked_by, and_right, ap, arith, cpu_at}
+use Rattle.trace_laws.proofs.Names.{Bool, CpuState, Event, Kind, List, None, Ok, One, Option, Some, Task, [], acked_by, and_right, ap, arith, cpu_at}
 use Rattle.trace_laws.proofs.Names.{eq-eqb, false, get_or-set_other, get_or-set_same, handles_nothing, has, has_run, in_stop, length-set, pos, refl}
 use Rattle.trace_laws.proofs.Names.{slice_index_or, slice_set, stop_at, stop_goes, subst, sym, true, with_cpu, with_interrupts, with_stop, ℕ, ◌<◌, ◌∙◌, ◌∷◌}
 use Rattle.trace_laws.proofs.Names.{◌≡◌, ◌≢◌}
@@ -17,8 +17,7 @@ use Rattle.smp_words.specs.declared.phase.TheConstants.{DISABLE_IRQ, RUN}
 -- a CPU that has called nothing has called none of any kind
 pub none_called : (k : Kind) → has_called k Idle ≡ false
 none_called One = refl
-none_called Multi = refl
-none_called Patch = refl
+none_called _ = refl
 
 module _ (known : Here) (at' : Word → ℕ) (keys : (key : ℕ) → at' (Key key) ≡ (parts known).At (Key key))
     (sites : (site : ℕ) → at' (Site site) ≡ (parts known).At (Site site)) where

@@ -39,8 +39,7 @@ member_new task c false l e = record {
 
 phase_new : (k : Kind) → told_first k ≡ first_phase k
 phase_new One = refl
-phase_new Multi = refl
-phase_new Patch = refl
+phase_new _ = refl
 
 -- the weight of a mask is the number of its members
 length-if : (b : Bool) (k : ℕ) → length (cond b (k ∷ []) []) ≡ bit b
@@ -266,10 +265,7 @@ module _ (known : Here) (at' : Word → ℕ) (keys : (key : ℕ) → at' (Key ke
       where
         none : (x : Standing) → is_inside x ≡ true → is_of x ≡ false → ⊥
         none Outside k m = absurd (false≢true k)
-        none Called k m = absurd (true≢false m)
-        none (Inside a l) k m = absurd (true≢false m)
-        none (Answering a v) k m = absurd (true≢false m)
-        none (Completed a v) k m = absurd (true≢false m)
+        none _ k m = absurd (true≢false m)
 
     pub opens_told : (task : Task) → task ≡ told_work w → is_work s.setting (told_work w) ≡ true → offline_in s.setting w.mask ≡ None → p.gate ≡ Some me
         → ((j : ℕ) → q.now.stop j ≡ put p.now.stop me (opened (p.now.stop me) (p.now.stop me).work) j) → ((c : ℕ) → q.now.inside c ≡ p.now.inside c)
@@ -295,11 +291,9 @@ module _ (known : Here) (at' : Word → ℕ) (keys : (key : ℕ) → at' (Key ke
         none ((p.now.stop me).standing c) k (λ of. all c (sym (rw open_now at m) ∙ of))
       where
         none : (z : Standing) → is_inside z ≡ true → (is_of z ≡ true → HasCompleted z) → ⊥
-        none Outside k m = absurd (false≢true k)
-        none Called k m = absurd (false≢true k)
         none (Inside a l) k m = absurd (m refl)
         none (Answering a v) k m = absurd (m refl)
-        none (Completed a v) k m = absurd (false≢true k)
+        none _ k m = absurd (false≢true k)
 
     pub collects_told : (answer : ℤ) → unfinished (stop_at s me) ≡ None → gives (stop_at s me) answer ≡ true
         → ((j : ℕ) → q.now.stop j ≡ put p.now.stop me x j) → ((c : ℕ) → q.now.inside c ≡ p.now.inside c)
@@ -323,10 +317,7 @@ module _ (known : Here) (at' : Word → ℕ) (keys : (key : ℕ) → at' (Key ke
       where
         given_some : (z : Standing) → HasCompleted z → is_none (given_by z) ≡ false
         given_some (Completed a v) k = refl
-        given_some Outside k = absurd k
-        given_some Called k = absurd k
-        given_some (Inside a l) k = absurd k
-        given_some (Answering a v) k = absurd k
+        given_some _ k = absurd k
 
         by_mask : (c : ℕ) → c < cpus → (b : Bool) → has (stop_at s me).task.mask c ≡ b → (has (stop_at s me).task.mask c && is_none (answer_of
             (stop_at s me) c)) ≡ false
@@ -345,10 +336,7 @@ module _ (known : Here) (at' : Word → ℕ) (keys : (key : ℕ) → at' (Key ke
       where
         zero_of : (z : Standing) → HasCompleted z → ((w : ℕ) → HasGiven z w → w ≡ 0) → is_same (is_answer (given_by z) (pos 0)) false ≡ false
         zero_of (Completed a v) k zeros = rw (zeros v refl) refl
-        zero_of Outside k zeros = absurd k
-        zero_of Called k zeros = absurd k
-        zero_of (Inside a l) k zeros = absurd k
-        zero_of (Answering a v) k zeros = absurd k
+        zero_of _ k zeros = absurd k
 
         by_mask : (c : ℕ) → c < cpus → (b : Bool) → has (stop_at s me).task.mask c ≡ b
             → (has (stop_at s me).task.mask c && is_same (is_answer (answer_of (stop_at s me) c) (pos 0)) false) ≡ false
@@ -373,15 +361,10 @@ module _ (known : Here) (at' : Word → ℕ) (keys : (key : ℕ) → at' (Key ke
         rw (not_zero, found.is) refl
       where
         given_of : (z : Standing) → HasGiven z result → is_of z ≡ true
-        given_of Outside g = absurd g
-        given_of Called g = absurd g
-        given_of (Inside a m) g = absurd g
         given_of (Answering a v) g = refl
         given_of (Completed a v) g = refl
+        given_of _ g = absurd g
 
         completed_of : (z : Standing) → HasCompleted z → HasGiven z result → given_by z ≡ Some (as_i32 result)
         completed_of (Completed a v) d g = ap (λ n. Some (as_i32 n)) g
-        completed_of Outside d g = absurd d
-        completed_of Called d g = absurd d
-        completed_of (Inside a m) d g = absurd d
-        completed_of (Answering a v) d g = absurd d
+        completed_of _ d g = absurd d

@@ -1,13 +1,13 @@
 -- The step of a CPU at each stage of the stop half is accepted: the gate, begin, enter, and readings.
-use Rattle.trace_laws.proofs.Names.{Bool, Kind, Multi, None, One, Option, Some, [], and_left, and_right, arith, cases_eq, cond, eqb-true, false, false≢true}
+use Rattle.trace_laws.proofs.Names.{Bool, Kind, None, One, Option, Some, [], and_left, and_right, arith, cases_eq, cond, eqb-true, false, false≢true}
 use Rattle.trace_laws.proofs.Names.{has, is_on, is_work, lt-ltb, nat_lt, ne_eqb, pos, refl, slice_set, subst, sym, true, true≢false, ℕ, ◌&&◌, ◌+◌, ◌<◌, ◌==◌}
 use Rattle.trace_laws.proofs.Names.{◌∙◌, ◌≡◌}
-use Rattle.trace_laws.proofs.ReplayNames.{Access, Answering, Begin, Called, Completed, Draft, DraftIs, Drafts, Enter, EnterActive, EnterKind, EnterMask, Field}
-use Rattle.trace_laws.proofs.ReplayNames.{Free, Idle, Inside, IsCalling, IsOfCpus, IsPatchWork, Key, NudgeKey, OpenGate, Outside, Patch, Present, ReadKey}
+use Rattle.trace_laws.proofs.ReplayNames.{Access, Begin, Called, Draft, DraftIs, Drafts, Enter, EnterActive, EnterKind, EnterMask, Field}
+use Rattle.trace_laws.proofs.ReplayNames.{Free, Idle, Inside, IsCalling, IsOfCpus, IsPatchWork, Key, NudgeKey, OpenGate, Patch, Present, ReadKey}
 use Rattle.trace_laws.proofs.ReplayNames.{ReadSite, ReadingKey, StopRole, Seen, Site, SitsAt, Slot, Standing, RoleStands, StopStage}
 use Rattle.trace_laws.proofs.ReplayNames.{StopState, TakeGate, Visit, Word}
-use Rattle.trace_laws.proofs.ReplayNames.{Work, after, after_draft, answer_at, at_after, cpus, first_phase, is_at_run, is_called, is_open_inside, is_patch}
-use Rattle.trace_laws.proofs.ReplayNames.{key_loaded, kind_word, mask_weight, of_gate, of_roll, patch_begun, put_by, put_if, put_other, put_same, put_word}
+use Rattle.trace_laws.proofs.ReplayNames.{Work, after, after_draft, answer_at, at_after, begun_value, cpus, first_phase, is_at_run, is_called, is_open_inside}
+use Rattle.trace_laws.proofs.ReplayNames.{is_patch, key_loaded, of_gate, of_roll, patch_begun, put_by, put_if, put_other, put_same, put_word}
 use Rattle.trace_laws.proofs.ReplayNames.{reads, same_word, seen_of, stop_access, stop_outcome, told_of, told_work, word_of}
 use Rattle.smp_words.specs.declared.field.Field.TheVariants as field
 use Rattle.smp_words.specs.declared.seen.Act.TheVariants as act
@@ -115,10 +115,7 @@ module _ (known : Here) where
     where
       called_is : (x : Standing) → is_called x ≡ true → x ≡ Called
       called_is Called e = refl
-      called_is Outside e = absurd (false≢true e)
-      called_is (Inside a l) e = absurd (false≢true e)
-      called_is (Answering a n) e = absurd (false≢true e)
-      called_is (Completed a n) e = absurd (false≢true e)
+      called_is _ e = absurd (false≢true e)
 
   pub enters : (slot : ℕ) → c.stage ≡ Some (Enter slot) → Accepted (Enter slot)
   enters slot e = let k = sits (Enter slot) e in enter_by slot k.2 k.1 (has (at (Slot slot field.Roll)) me) refl
@@ -161,8 +158,7 @@ module _ (known : Here) where
 
   first_low : (k : Kind) → nat_lt 1 (first_phase k) ≡ false
   first_low One = refl
-  first_low Multi = refl
-  first_low Patch = refl
+  first_low _ = refl
 
   at_rest : (w : Work) (g : Field) → c.stage ≡ Some (Begin w g) → past.answer ≡ pos 0
   at_rest w g e = rest_in c.visit (sits (Begin w g) e)
@@ -197,21 +193,14 @@ module _ (known : Here) where
 
   pub begins : (w : Work) (g : Field) → c.stage ≡ Some (Begin w g) → Drafts (Some (Begin w g)) past.draft → s.setting.online ≡ v.online
       → s.setting.keys ≡ v.labels.keys → Accepted (Begin w g)
-  begins w field.Kind e d on count = stores_shut w field.Kind (stored_open p me me field.Kind (kind_word w.kind)) (kind_word w.kind) e refl refl
-  begins w field.Mask e d on count = stores_shut w field.Mask (stored_open p me me field.Mask w.mask) w.mask e refl refl
-  begins w field.Active e d on count = stores_shut w field.Active (stored_open p me me field.Active w.active) w.active e refl refl
-  begins w field.Func e d on count = stores_shut w field.Func (stored_open p me me field.Func w.func) w.func e refl refl
-  begins w field.Arg e d on count = stores_shut w field.Arg (stored_open p me me field.Arg w.arg) w.arg e refl refl
   begins w field.Result e d on count = stores_shut w field.Result (stored_open p me me field.Result 0) 0 e refl (sym (at_rest w field.Result e))
-  begins w field.Todo e d on count = stores_shut w field.Todo (stored_open p me me field.Todo (mask_weight cpus w.mask)) (mask_weight cpus w.mask) e refl refl
-  begins w field.Done e d on count = stores_shut w field.Done (stored_open p me me field.Done 0) 0 e refl refl
-  begins w field.Ack e d on count = stores_shut w field.Ack (stored_open p me me field.Ack (mask_weight cpus w.mask)) (mask_weight cpus w.mask) e refl refl
   begins w field.State e d on count =
       rw (first_low w.kind) (stores_shut w field.State (stored_open p me me field.State (first_phase w.kind)) (first_phase w.kind) e refl refl)
   begins w field.Roll e d on count = subst (λ (z : StopState). ReachesStops z (put_word at (Slot me field.Roll) w.mask) (slice_set pasts me past) s
       (by me (of_roll past me act.Store (seen_so (Begin w field.Roll)))))
       (sym (else_if (p.now.stop me).is_open (stored_open p me me field.Roll w.mask) (opens p me) (drafting w field.Roll e).shut))
       (opens_so w e d.0 d.1 on count)
+  begins w g e d on count = stores_shut w g (stored_open p me me g (begun_value cpus w g)) (begun_value cpus w g) e refl refl
 
   -- a key and a site are read
   on_read : p.now.irq me ≡ true → (past.phase == RUN) ≡ false

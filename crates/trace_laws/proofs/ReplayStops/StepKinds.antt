@@ -1,7 +1,7 @@
 -- Each kind of step on the stops is accepted.
 use Rattle.trace_laws.proofs.Names.{arith, Bool, Event, List, None, Option, Some, StateValue, [], ap, cases_eq, cpu_at, false, goes, has, has_run, inl, inr}
 use Rattle.trace_laws.proofs.Names.{pos, refl, slice_set, stop_at, stop_goes, subst, sym, true, ℕ, ◌<◌, ◌∙◌, ◌∷◌, ◌≡◌, ◌≢◌}
-use Rattle.trace_laws.proofs.ReplayNames.{AnswerIs, Calling, Calls, Carries, CpuIs, Free, Idle, Inside, InsideIs, IsCalling, Key, MadeIs, MemberIs, Past, Patch}
+use Rattle.trace_laws.proofs.ReplayNames.{AnswerIs, Calling, CpuIs, Free, Idle, Inside, InsideIs, IsCalling, Key, MadeIs, MemberIs, Past, Patch}
 use Rattle.trace_laws.proofs.ReplayNames.{PhaseIs, Site, Standing, Stop, StopIs, StopState, ToldStop, Word, cpus, has_called, past_at, put, put_same, raiser_of}
 use Rattle.trace_model.specs.declared.event.Event.TheVariants as event
 use Rattle.trace_model.specs.declared.event.StopEvent.TheVariants as stops
@@ -12,8 +12,7 @@ use Rattle.smp_words.specs.declared.phase.TheConstants.{RUN}
 -- a CPU that is in a stop has called a function only as its seat says
 pub idle_free : (cpu : ℕ) (f : Calling) → IsCalling cpu Free f → f ≡ Idle
 idle_free cpu Idle k = refl
-idle_free cpu (Calls call) k = absurd k
-idle_free cpu (Carries answer) k = absurd k
+idle_free cpu _ k = absurd k
 
 module _ (known : Here) (at' : Word → ℕ) (keys : (key : ℕ) → at' (Key key) ≡ (parts known).At (Key key))
     (sites : (site : ℕ) → at' (Site site) ≡ (parts known).At (Site site)) where

@@ -1,5 +1,5 @@
 -- What events of stops make of a state that leaves nothing out, where their premises hold.
-use Rattle.trace_laws.proofs.Names.{APatch, Bool, Err, Kind, Multi, None, Ok, One, Option, Reason, Result, Setting, Some, StateValue, Stop, Task, ack_by}
+use Rattle.trace_laws.proofs.Names.{Bool, Err, Kind, Multi, None, Ok, One, Option, Reason, Result, Setting, Some, StateValue, Stop, Task, ack_by}
 use Rattle.trace_laws.proofs.Names.{acked_by, acknowledged, answer_wanted, ap, collect_by, collected, complete_by, completed, cond, cpu_at, enter_by, entered}
 use Rattle.trace_laws.proofs.Names.{eq-eqb, false, false≢true, gate_by, gives, handles_nothing, has, has_run, in_round, int_eq, is_called, is_cpu, is_work}
 use Rattle.trace_laws.proofs.Names.{le-ltb, lt-leb, lt-ltb, may_complete, not, off_by, offline_in, on_by, open_by, opened, raise_by, raised, ran_function, refl}
@@ -48,8 +48,7 @@ completed_one stop me answer irq kind ran = rw (kind, ran) refl
 may_round : (kind : Kind) (stop : Stop) (me : ℕ) (irq : Bool) → kind ≢ One → EXIT ≤ acked_by stop me → is_cpu stop.raiser me ≡ false → irq ≡ true
     → may_complete kind me irq stop ≡ Ok tt
 may_round One stop me irq ne high not_last on = absurd (ne refl)
-may_round Multi stop me irq ne high not_last on = rw (le-ltb (acked_by stop me) 4 high, not_last, on) refl
-may_round APatch stop me irq ne high not_last on = rw (le-ltb (acked_by stop me) 4 high, not_last, on) refl
+may_round _ stop me irq ne high not_last on = rw (le-ltb (acked_by stop me) 4 high, not_last, on) refl
 
 then_made : {A : Type 0} (first : Result (Unit {0}) Reason) (next : Unit {0} → Result A Reason) → first ≡ Ok tt → (first >>= next) ≡ next tt
 then_made first next e = ap (λ (x : Result (Unit {0}) Reason). x >>= next) e
@@ -94,8 +93,7 @@ module _ (s : StateValue) (me : ℕ) (whole : s.setting.without ≡ nothing_left
 
     rounds : (kind : Kind) → (stop_at s source).task.kind ≡ kind → kind ≢ One → in_round me s ≡ Ok source
     rounds One e ne = absurd (ne refl)
-    rounds Multi e ne = rw (inside, lt-ltb source 32 below, e) refl
-    rounds APatch e ne = rw (inside, lt-ltb source 32 below, e) refl
+    rounds _ e ne = rw (inside, lt-ltb source 32 below, e) refl
 
     pub turns_off : (stop_at s source).task.kind ≢ One → (cpu_at s me).irq ≡ true → acked_by (stop_at s source) me < DISABLE_IRQ
         → (stop_at s source).phase ≡ DISABLE_IRQ

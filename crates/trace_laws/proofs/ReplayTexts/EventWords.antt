@@ -99,14 +99,12 @@ unfolding named_of
 call_reads u (calls.Queue id to class func info) whole f =
     let c = class_written class in
     record { fields = search (numbers, c.0, arith); read = search (numbers, c.1, arith) }
-call_reads u (calls.Free id) whole f = record { fields = search (numbers, arith); read = search (numbers, arith) }
 call_reads u (calls.Send to) whole f = record { fields = search (numbers, arith); read = rw whole (search (numbers, arith)) }
 call_reads u (calls.Unlock id) whole f = record { fields = search (numbers, arith); read = rw whole (search (numbers, arith)) }
-call_reads u (calls.Begin id func info) whole f = record { fields = search (numbers, arith); read = search (numbers, arith) }
-call_reads u (calls.End id) whole f = record { fields = search (numbers, arith); read = search (numbers, arith) }
 call_reads u calls.Accept whole f = record { fields = refl; read = rw whole refl }
 call_reads u calls.Idle whole f = record { fields = refl; read = rw whole refl }
 call_reads u calls.Take whole f = record { fields = refl; read = rw whole refl }
+call_reads u _ whole f = record { fields = search (numbers, arith); read = search (numbers, arith) }
 
 stop_reads : (u : Setting) (e : StopEvent) → u.without ≡ nothing_left_out → StopFits e → Reads u (stop_words e) (event.Stop e)
 unfolding named_of
@@ -121,10 +119,7 @@ stop_reads u (stops.Raise phase) whole f = record { fields = search (numbers, ar
 stop_reads u (stops.Run func arg) whole f = record { fields = search (numbers, arith); read = search (numbers, arith) }
 stop_reads u (stops.Complete answer) whole f = record { fields = rw (signed_field answer f) refl; read = rw (signed_read answer f) refl }
 stop_reads u (stops.Collect answer) whole f = record { fields = rw (signed_field answer f) refl; read = rw (signed_read answer f) refl }
-stop_reads u stops.Gate whole f = record { fields = refl; read = rw whole refl }
-stop_reads u stops.Ungate whole f = record { fields = refl; read = rw whole refl }
-stop_reads u stops.Off whole f = record { fields = refl; read = rw whole refl }
-stop_reads u stops.On whole f = record { fields = refl; read = rw whole refl }
+stop_reads u _ whole f = record { fields = refl; read = rw whole refl }
 
 label_reads : (u : Setting) (e : LabelEvent) → u.keys ≤ 4294967295 → u.sites ≤ 4294967295 → LabelFits u e
     → Reads u (label_words e) (event.Label e)

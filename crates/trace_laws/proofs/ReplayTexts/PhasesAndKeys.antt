@@ -129,7 +129,6 @@ module _ (known : Here) (u : Setting) (keys : u.keys ≡ known.v.labels.keys) (s
 
   begins : (work : Work) (g : Field) → Ranged (Begin work g)
   begins work field.State = first_small work.kind work refl
-  begins work field.Ack = tt
   begins work _ = tt
 
   in_round : (x : Visit) (stage : RoundStage) → C.stage ≡ Some (Advance x stage) → Ranged (Advance x stage)

@@ -1,7 +1,7 @@
 -- The numbers of the steps of stops are of their types, where those of each stop that begins are.
 use Rattle.trace_laws.proofs.Names.{arith, Bool, List, None, Option, Some, cond, false, is_on, refl, true, xor, ℕ, ◌<◌, ◌==◌, ◌^◌, ◌≡◌}
 use Rattle.trace_laws.proofs.ReplayNames.{Access, Advance, Begin, Change, Close, Command, Complete, CompletionStage, ExchangeKey, Field, RoundStage}
-use Rattle.trace_laws.proofs.ReplayNames.{StopControlValue, StopOutcome, StopStage, TakeGate, Visit, Word, Work, at_after, begun_next, change_at}
+use Rattle.trace_laws.proofs.ReplayNames.{StopControlValue, StopOutcome, StopStage, Visit, Word, Work, at_after, begun_next, change_at}
 use Rattle.trace_laws.proofs.ReplayNames.{completion_outcome, cpus, in_visit, key_on, nudge_on, put_by, round_outcome, same_word, stop_access, stop_ends}
 use Rattle.trace_laws.proofs.ReplayNames.{stop_first, stop_goes, stop_outcome, word_of}
 use Rattle.smp_labels.specs.declared.patch.Place.TheVariants as place
@@ -41,7 +41,6 @@ completion_begins c x _ found = tt
 
 next_begins : (c : StopControlValue) (w : Work) (g : Field) → BeginFits (Some (Begin w g)) → BeginFits (begun_next c w g).control.stage
 next_begins c w field.Roll k = tt
-next_begins c w field.Kind k = k
 next_begins c w _ k = k
 
 pub stage_begins : (me : ℕ) (c : StopControlValue) (stage : StopStage) (found : ℕ) → BeginFits (Some stage)
@@ -107,5 +106,4 @@ pub stage_args : (at : Word → ℕ) (me : ℕ) (stage : StopStage) (changes : L
 stage_args at me (Begin w g) changes f k = begin_args at me w g changes f k
 stage_args at me (Advance x stage) changes f k = round_args at me x stage changes k
 stage_args at me (Complete x stage) changes f k = completion_args at me x stage changes k
-stage_args at me TakeGate changes f k = args_kept at (stop_access cpus me changes TakeGate) refl k
 stage_args at me stage changes f k = args_kept at (stop_access cpus me changes stage) refl k

@@ -109,9 +109,8 @@ module _ (u : Setting) where
   intr_fits cpu _ s l = tt
 
   hand_fits : (n : Option Note) (s : Seen) → NoteFits n → Fit u (of_hand n s)
-  hand_fits None s f = tt
   hand_fits (Some (note.Call source func info)) s f = ((omega arith, omega (arith, f.0), f.1), tt)
-  hand_fits (Some _) s f = tt
+  hand_fits _ s f = tt
 
   ran_fits : (p : Past) (a : Act) → PastFits p → Fit u (of_ran p a)
   ran_fits p act.Store f = (f.begun, tt)
@@ -121,9 +120,8 @@ module _ (u : Setting) where
   gate_fits a put = search arith
 
   on_fits : (e : StopEvent) (n : Option Note) → StopFits e → Fit u (with_on e n)
-  on_fits e None f = (f, tt)
   on_fits e (Some note.Left) f = (f, (tt, tt))
-  on_fits e (Some _) f = (f, tt)
+  on_fits e _ f = (f, tt)
 
   roll_fits : (p : Past) (source : ℕ) (a : Act) (s : Seen) → PastFits p → source < 2 ^ 32 → Fit u (of_roll p source a s)
   roll_fits p source a s h1 h2 = search (fit_if, arith)
@@ -142,18 +140,16 @@ module _ (u : Setting) where
   ack_fits p _ n l = tt
 
   arg_fits : (n : Option Note) → NoteFits n → Fit u (of_arg n)
-  arg_fits None f = tt
   arg_fits (Some (note.Run func arg)) f = ((omega (arith, f.0), f.1), tt)
-  arg_fits (Some _) f = tt
+  arg_fits _ f = tt
 
   todo_fits : (p : Past) (a : Act) → PastFits p → Fit u (of_todo p a)
   todo_fits p act.Sub f = (f.answer, tt)
   todo_fits p _ f = tt
 
   result_fits : (n : Option Note) → NoteFits n → Fit u (of_result n)
-  result_fits None f = tt
   result_fits (Some (note.Result answer)) f = (f, tt)
-  result_fits (Some _) f = tt
+  result_fits _ f = tt
 
   slot_fits : (p : Past) (source : ℕ) (f : Field) (s : Seen) → PastFits p → source < 2 ^ 32 → NoteFits s.note → SlotRange p f s → Fit u (of_slot p source f s)
   slot_fits p source f s h1 h2 h3 h4 = search (roll_fits, state_fits, ack_fits, arg_fits, todo_fits, result_fits, arith)

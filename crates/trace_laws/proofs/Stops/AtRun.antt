@@ -243,9 +243,7 @@ store_is : (cpu : ℕ) (e : LabelEvent) (s t : StateValue) → label_goes cpu e 
 unfolding label_goes
 store_is cpu (labels.Set key count) s t e is = stores_in s t cpu (Key key) count e
 store_is cpu (labels.Turn site jumps) s t e is = stores_in s t cpu (Site site) (site_word jumps) e
-store_is cpu (labels.Key key on) s t e is = absurd cc
-store_is cpu (labels.Site site jumps) s t e is = absurd cc
-store_is cpu (labels.Nudge key up) s t e is = absurd cc
+store_is cpu _ s t e is = absurd cc
 
 pub patches_store_at_run : PatchesStoreAtRun
 patches_store_at_run u words es t cpu e run is =

@@ -1,5 +1,5 @@
 -- A function runs, a CPU completes, and a source opens a stop and collects: what holds of CPUs in stops still does.
-use Rattle.trace_laws.proofs.Names.{APatch, Bool, Err, Kind, Multi, None, Ok, One, Option, Reason, Result, Seen, Setting, Some, StateValue, Stop, Task}
+use Rattle.trace_laws.proofs.Names.{APatch, Bool, Err, Kind, None, Ok, One, Option, Reason, Result, Seen, Setting, Some, StateValue, Stop, Task}
 use Rattle.trace_laws.proofs.Names.{acked_by, and_parts, answer_of, answer_wanted, ap, arith, cases_eq, cases_lt, collect_by, collected, collected_with}
 use Rattle.trace_laws.proofs.Names.{complete_by, completed, cpu_at, eq-eqb, eqb-true, false, first_from, get_or-replicate, get_or-set_other, get_or-set_same}
 use Rattle.trace_laws.proofs.Names.{gives, has, has_run, if◌then◌else◌, in_stop, inl, inr, int_eq, is_none, is_work, length-replicate, length-set, may_complete}
@@ -101,8 +101,7 @@ pub record RunsIn (s : StateValue) (cpu func arg : ℕ) : Type 0 where
 run_as_made : (kind : Kind) (source cpu func arg : ℕ) (s t : StateValue) → run_as kind source cpu func arg s ≡ Ok t
     → (on_stop source s (ran_function cpu func arg (stop_at s source)) ≡ Ok t) × (kind ≡ APatch → ⊥)
 run_as_made APatch source cpu func arg s t e = absurd cc
-run_as_made One source cpu func arg s t e = (e, (λ k. absurd cc))
-run_as_made Multi source cpu func arg s t e = (e, (λ k. absurd cc))
+run_as_made _ source cpu func arg s t e = (e, (λ k. absurd cc))
 
 pub run_is : (s t : StateValue) (cpu func arg : ℕ) → run_by cpu func arg s ≡ Ok t
     → (i : RunsIn s cpu func arg) × (let stop = stop_at s i.source in with_stop i.source s (record stop { ran = slice_set stop.ran cpu true }) ≡ t)
@@ -293,8 +292,7 @@ opened_is u task to e =
 
 first_low : (kind : Kind) → 2 ≤ first_phase kind → ⊥
 first_low One h = omega arith
-first_low Multi h = omega arith
-first_low APatch h = omega arith
+first_low _ h = omega arith
 
 opened_change : (seen : ℕ → Seen) (work : ℕ → Option Task) (s : StateValue) (source : ℕ) (task : Task) → Rounds seen work s → source < 32 →
     (stop_at s source).is_open ≡ false

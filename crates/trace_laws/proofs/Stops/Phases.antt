@@ -1,5 +1,5 @@
 -- A CPU acknowledges a phase, raises it, or stores: what holds of CPUs in stops still does.
-use Rattle.trace_laws.proofs.Names.{APatch, Bool, Err, Kind, Multi, None, Ok, One, Option, Patch, Place, Reason, Result, Seen, Setting, Some, StateValue, Stop}
+use Rattle.trace_laws.proofs.Names.{APatch, Bool, Err, Kind, None, Ok, Option, Patch, Place, Reason, Result, Seen, Setting, Some, StateValue, Stop}
 use Rattle.trace_laws.proofs.Names.{Task, ack_by, acked, acked_by, acknowledged, acks_as, acks_at_run, acks_disabled, ap, arith, at_last, at_phase, cases_eq}
 use Rattle.trace_laws.proofs.Names.{cpu_at, eq-eqb, eqb-false, eqb-true, false, get_or-set_other, get_or-set_same, handles_nothing, has, has_run, if◌then◌else◌}
 use Rattle.trace_laws.proofs.Names.{in_patch, in_round, inl, inr, is_cpu, is_some, is_store, late, length, length-set, ltb-false, made_store, may_ack, min}
@@ -63,9 +63,7 @@ from_patch seen work None source patch s t r low e =
 from_kind : (seen : ℕ → Seen) (work : ℕ → Option Task) (kind : Kind) (cpu source : ℕ) (s t : StateValue) → Rounds seen work s → source < 32
     → acks_as kind cpu source s ≡ Ok t → AckFrom seen work s t source
 from_kind seen work APatch cpu source s t r low e = from_patch seen work (next_store source s) source (patch_left source s) s t r low e
-from_kind seen work One cpu source s t r low e =
-    let p = passed (has_run (stop_at s source) cpu) (Ok s) reason.FunctionHasNotRun t e in from_here seen work s t source (cc) r
-from_kind seen work Multi cpu source s t r low e =
+from_kind seen work _ cpu source s t r low e =
     let p = passed (has_run (stop_at s source) cpu) (Ok s) reason.FunctionHasNotRun t e in from_here seen work s t source (cc) r
 
 -- what a CPU that may acknowledge has shown: at phase 2, that its interrupts are off, or that it handles nothing
@@ -387,8 +385,7 @@ pub record StoresIn (s : StateValue) (cpu : ℕ) : Type 0 where
 
 kind_is_patch : (kind : Kind) (source other : ℕ) → if_patch kind source ≡ Ok other → kind ≡ APatch
 kind_is_patch APatch source other e = refl
-kind_is_patch One source other e = absurd cc
-kind_is_patch Multi source other e = absurd cc
+kind_is_patch _ source other e = absurd cc
 
 pub in_patch_is : (s : StateValue) (cpu source : ℕ) → in_patch cpu s ≡ Ok source → (i : StoresIn s cpu) × (i.source ≡ source)
 in_patch_is s cpu source e =

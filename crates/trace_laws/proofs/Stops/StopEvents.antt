@@ -1,5 +1,5 @@
 -- Each event of stops keeps what holds of CPUs in stops.
-use Rattle.trace_laws.proofs.Names.{APatch, Bool, Err, Kind, Multi, None, Ok, One, Option, Reason, Result, Seen, Some, StateValue, Stop, Task, acked_by}
+use Rattle.trace_laws.proofs.Names.{Bool, Err, Kind, None, Ok, One, Option, Reason, Result, Seen, Some, StateValue, Stop, Task, acked_by}
 use Rattle.trace_laws.proofs.Names.{and_parts, ap, arith, at_phase, cases_lt, closed, cpu_at, enter_by, enter_from, entered, entered_open, eqb-true, false}
 use Rattle.trace_laws.proofs.Names.{fresh_cpu, get_or-set_other, get_or-set_same, get_or_past, handles_nothing, has, if◌then◌else◌, in_round, in_stop, inl, inr}
 use Rattle.trace_laws.proofs.Names.{is_called, is_cpu, length, length-set, lt-ltb, ltb-false, ltb-true, may_off, nat_lt, not, off_by, on_by, on_stop, refl}
@@ -21,8 +21,7 @@ stop_of_is s cpu source e = in_is (cpu_at s cpu).inside cpu source e
 
 round_kind : (kind : Kind) (source other : ℕ) → unless_one kind source ≡ Ok other → (is_round kind ≡ true) × (source ≡ other)
 round_kind One source other e = absurd cc
-round_kind Multi source other e = (refl, cc)
-round_kind APatch source other e = (refl, cc)
+round_kind _ source other e = (refl, cc)
 
 -- A CPU is in a rendezvous.
 pub record InRound (s : StateValue) (cpu source : ℕ) : Type 0 where
