@@ -17,10 +17,6 @@ use Rattle.trace_laws.proofs.{Stops.StopEvents.actor_below, Stops.StopEvents.ne_
 abbrev stored_to : ℕ → Patch → Place → ℕ → StateValue → StateValue
 stored_to source patch place word s = with_patch source (popped patch place) (with_word place word s)
 
--- the stop after it
-abbrev stop_to : ℕ → Patch → Place → StateValue → Stop
-stop_to source patch place s = record (stop_at s source) { patch = Some (popped patch place) }
-
 -- the CPU that stores is in the stop of the patch that has more to store
 same_source : (seen : ℕ → Seen) (work : ℕ → Option Task) (s : StateValue) (cpu : ℕ) → Rounds seen work s → Labelled s → (i : StoresIn s cpu) →
     (a : AtPatch s) → a.source ≡ i.source

@@ -76,11 +76,6 @@ first_is passes c (suc more) n e = first_by passes c more n (passes c) refl e (�
 pub site_is : (a b : ℕ) → Site a ≡ Site b → a ≡ b
 site_is a b e = cc
 
--- a store is of a key, or of a site
-abbrev pub is_place_of_key : Place → Bool
-is_place_of_key (Key key) = true
-is_place_of_key (Site site) = false
-
 pub site_stores : (site : ℕ) (on : Bool) (entry : Option (ℕ × Bool)) (next : Place × ℕ) → site_store site on entry ≡ Some next → next.0 ≡ Site site
 site_stores site on None next e = absurd cc
 site_stores site on (Some x) next e = let p : (Site site, kind_word (kind_of on x.1)) ≡ next = some_is (Site site, kind_word (kind_of on x.1)) next e in ap

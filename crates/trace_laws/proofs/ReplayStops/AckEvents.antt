@@ -86,9 +86,6 @@ module _ (known : Here) (at' : Word → ℕ) (keys : (key : ℕ) → at' (Key ke
     keeps_all c = subst (λ (n : ℕ). Keeps n (a + 1) c ((p.now.stop slot).standing c)) u_is
         (subst (λ (n : ℕ). Keeps u.cpus n c ((p.now.stop slot).standing c)) phase_is ((h.present.slots slot).keeps c))
 
-    abbrev acked_so : Option ℕ → ToldStop
-    acked_so raiser = record (stop_at s slot) { acked = slice_set (stop_at s slot).acked me (a + 1); raiser = raiser }
-
     no_raiser : (stop_at s slot).raiser ≡ None
     no_raiser = was.raiser ∙ ap raiser_of nobody
 

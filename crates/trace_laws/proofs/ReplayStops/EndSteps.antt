@@ -42,9 +42,6 @@ module _ (known : Here) (results : (slot : ℕ) → stop_number known.v.table (S
   pub loads_func : (x : Visit) (answer : ℕ) → Does (Complete x (completion.LoadFunc answer))
   loads_func x answer = loads known (Complete x (completion.LoadFunc answer)) (λ k. refl) (λ k. refl)
 
-  pub loads_done : Does LoadDone
-  loads_done = loads known LoadDone (λ k. refl) (λ k. refl)
-
   -- the function of a stop of kind One runs
   one_acked : (n a l phase : ℕ) → phase ≡ 0 → ((a ≡ phase) ⊎ (a + 1 ≡ phase)) → a ≡ 0
   one_acked n a l phase z (inl e) = e ∙ z

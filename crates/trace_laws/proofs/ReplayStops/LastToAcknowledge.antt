@@ -55,9 +55,6 @@ behind_not p c x ne k = search arith
 module _ (told : ToldStop) (standing : ℕ → Standing) (me p : ℕ) (size : length told.acked ≡ 32) (below : me < cpus)
     (members : (c : ℕ) → c < cpus → acked_by told c ≡ acked (standing c)) (mask : (c : ℕ) → is_of (standing c) ≡ has told.task.mask c)
     (keeps : (c : ℕ) → Keeps cpus p c (standing c)) (acks : ℕ) where
-  abbrev pub with_mine : ToldStop
-  with_mine = record told { acked = slice_set told.acked me p }
-
   -- this phase is acknowledged by a CPU, or is not
   mine_acked : acked_by (record told { acked = slice_set told.acked me p }) me ≡ p
   mine_acked = get_or-set_same told.acked me p 0 (rw size (omega arith))

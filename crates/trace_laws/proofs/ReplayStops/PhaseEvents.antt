@@ -40,9 +40,6 @@ module _ (known : Here) (at' : Word → ℕ) (keys : (key : ℕ) → at' (Key ke
     size : IsSized (stop_at s slot)
     size = (f.stops slot i.below).sized
 
-    abbrev with_phase : ℕ → Option ℕ → ToldStop
-    with_phase phase raiser = record (stop_at s slot) { acked = slice_set (stop_at s slot).acked me phase; raiser = raiser }
-
     -- the stop once the phase is acknowledged
     pub told_acked : (x : Stop) (phase : ℕ) (raiser : Option ℕ) → x.standing me ≡ Inside phase phase → x.is_open ≡ (p.now.stop slot).is_open
         → x.work ≡ (p.now.stop slot).work

@@ -120,15 +120,6 @@ module _ (known : Here) where
   pub enters : (slot : ℕ) → c.stage ≡ Some (Enter slot) → Accepted (Enter slot)
   enters slot e = let k = sits (Enter slot) e in enter_by slot k.2 k.1 (has (at (Slot slot field.Roll)) me) refl
 
-  pub enters_kind : (slot : ℕ) → Accepted (EnterKind slot)
-  enters_kind slot = loads (EnterKind slot) (λ k. refl) (λ k. refl)
-
-  pub enters_mask : (slot : ℕ) (kind : Kind) → Accepted (EnterMask slot kind)
-  enters_mask slot kind = loads (EnterMask slot kind) (λ k. refl) (λ k. refl)
-
-  pub enters_active : (slot : ℕ) (kind : Kind) (mask : ℕ) → Accepted (EnterActive slot kind mask)
-  enters_active slot kind mask = loads (EnterActive slot kind mask) (λ k. refl) (λ k. refl)
-
   -- what is kept of a stop that the CPU begins, and of no other
   rest_in : (w : Option Visit) → SitsAtRest w (shown.seat me) → past.answer ≡ pos 0
   rest_in w h1 = search (my, seat_is, arith)
