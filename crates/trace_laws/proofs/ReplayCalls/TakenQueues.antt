@@ -36,6 +36,7 @@ asyncs_told (call ∷ rest) = async_more call.class call refl rest (asyncs_told 
 pub order_told : (calls : List MachineCall) → map told_call (machine_order calls) ≡ order (map told_call calls)
 order_told calls = map-append told_call (sync_calls calls) (async_calls calls) ∙ rw (syncs_told calls, asyncs_told calls) refl
 
+-- where a record is, once the records of some calls are at a place
 placed_one : (p : Place) (x id : ℕ) (places : List Place) → id < length places
     → slice_index_or (slice_set places x p) id Free ≡ cond (x == id) p (slice_index_or places id Free)
 placed_one p x id places l = at_test x id (λ b. slice_index_or (slice_set places x p) id Free ≡ cond b p (slice_index_or places id Free))
