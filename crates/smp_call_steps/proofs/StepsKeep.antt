@@ -79,10 +79,6 @@ Held≢Running : (cpu : ℕ) → place.Held ≢ place.Running cpu
 Held≢Running cpu e = cc
 
 module _ (a : CallState) (me : ℕ) (k : KeepsLaws a) where
-  -- where this CPU holds this then
-  holds_here : (h : Option Holding) (u : ℕ) → Holds (put a.held me h me) u → Holds h u
-  holds_here h u x = subst (λ y. Holds y u) (put_same a.held me h) x
-
   here_holds : (h : Option Holding) (u : ℕ) → Holds h u → Holds (put a.held me h me) u
   here_holds h u x = subst (λ y. Holds y u) (sym (put_same a.held me h)) x
 

@@ -1,7 +1,7 @@
 -- The steps that a CPU has made: a number on which nothing else of what it knows depends.
-use Rattle.std.proofs.Common.{◌≡◌, ℕ, ◌+◌, Bool, true, false, cond, refl, ap, ◌∙◌, arith}
+use Rattle.std.proofs.Common.{◌≡◌, ℕ, ◌+◌, refl, ap, ◌∙◌, arith}
 use Rattle.smp_stop_steps.specs.Threads.Known.{stepped}
-use Rattle.smp_stop_steps.specs.Threads.KnownAfter.{acked_by, raised_by}
+use Rattle.smp_stop_steps.specs.Threads.KnownAfter.{acked_by}
 use Rattle.smp_multi.specs.Names.{StopRole, Free, KnownStops}
 use Rattle.smp_multi.specs.Patches.{begins_with, stored_all}
 use Rattle.smp_multi.specs.Rounds.{passed_by}
@@ -14,22 +14,11 @@ steps_on m n v = ap (λ k. record v { steps = k }) (let e : v.steps + m + n ≡ 
 pub then_steps : (m n : ℕ) (k u w : KnownStops) → u ≡ stepped m k → w ≡ stepped n u → w ≡ stepped (m + n) k
 then_steps m n k u w first next = next ∙ (ap (stepped n) first ∙ steps_on m n k)
 
-pub no_steps : (v : KnownStops) → v ≡ stepped 0 v
-no_steps v = ap (λ k. record v { steps = k }) (let e : v.steps ≡ v.steps + 0 = omega arith in e)
-
 -- no step asks how many were made
 module _ (n : ℕ) where
-  pub with_steps : (b : Bool) (v w : KnownStops) → cond b (stepped n v) (stepped n w) ≡ stepped n (cond b v w)
-  with_steps true v w = refl
-  with_steps false v w = refl
-
   pub acked_on : (found : ℕ) (x : StopRole) (v : KnownStops) → acked_by found x (stepped n v) ≡ stepped n (acked_by found x v)
   acked_on found Free v = refl
   acked_on found _ v = refl
-
-  pub raised_on : (p : ℕ) (x : StopRole) (v : KnownStops) → raised_by p x (stepped n v) ≡ stepped n (raised_by p x v)
-  raised_on p Free v = refl
-  raised_on p _ v = refl
 
   pub passed_on : (x : StopRole) (v : KnownStops) → passed_by x (stepped n v) ≡ stepped n (passed_by x v)
   passed_on Free v = refl

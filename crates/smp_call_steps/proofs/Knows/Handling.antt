@@ -1,10 +1,10 @@
 -- A CPU inside handle: what holds of it by the laws, and what it knows after each of its steps.
-use Rattle.std.proofs.Common.{◌≡◌, ◌≢◌, ℕ, ◌%◌, ◌<◌, ◌==◌, Bool, true, cond, Option, Some, None, List, [], ◌∷◌, ◌++◌, length, sym, subst, ap, ◌∙◌, arith}
+use Rattle.std.proofs.Common.{◌≡◌, ◌≢◌, ℕ, ◌%◌, ◌<◌, ◌==◌, Bool, true, cond, Option, Some, None, List, [], ◌∷◌, length, sym, subst, ap, ◌∙◌, arith}
 use Rattle.std.proofs.lemmas.Bool.{eq-eqb}
 use Rattle.smp_words.specs.Size.{cpus, records}
 use Rattle.smp_words.specs.Access.{word_of}
 use Rattle.smp_call_steps.specs.{CountedCall, DrainValue, no_drain, record_at, first_on, handle_outcome, drain_after, IsPlaced, AllPlaced}
-use Rattle.smp_call_steps.specs.{nexts_in, last_batch, orders, running_call, access_of, FitsStage, Share, share_of}
+use Rattle.smp_call_steps.specs.{nexts_in, last_batch, access_of, FitsStage, Share, share_of}
 use Rattle.smp_call_steps.specs.{HandleStands, held_of, CallPart}
 use Rattle.smp_call_steps.specs.{part_confirmed, part_after, told_stage, told_post, told_handle, known_told, known_taking, stage_after}
 use Rattle.smp_call_steps.specs.{drain_then, tried_after, heads_after, log_after, steps_after, sent_after, asked_then, MayStep, known_access}
@@ -43,10 +43,6 @@ share_in p = record { last = last_batch p.taken; batch = p.batch; running = p.ru
 module _ {v : KnownCalls} (l : Lives v) where
   same_share : share_of l.calls v.number ≡ share_in v.part
   same_share = ap share_in l.sees.part
-
-  -- what ran, runs and is left is the drain order of the batches
-  pub lives_drained : v.part.ran ++ (running_call v.part.running ++ v.part.batch) ≡ orders v.part.taken
-  lives_drained = subst (λ (p : CallPart). p.ran ++ (running_call p.running ++ p.batch) ≡ orders p.taken) l.sees.part (l.shown.recorded.drained v.number)
 
   module _ (h : HandleStage) (e : v.stage ≡ Some (Handle h)) where
     told : told_stage (l.controls v.number).stage ≡ Some (Handle h)

@@ -30,9 +30,6 @@ module _ {a : CallState} {at : Word → ℕ} {control : ℕ → ControlValue} (m
     abbrev begun : CallState
     begun = record a { place = put a.place call.id to; batch = put a.batch me rest; running = put a.running me r }
 
-    all_placed : AllPlaced a.place (place.Batch me) (call ∷ rest)
-    all_placed = front_placed a s.placed me call rest front
-
     here : a.place call.id ≡ place.Batch me
     here = front_here a s.placed me call rest front
 

@@ -88,9 +88,6 @@ module _ (places : ℕ → RecPlace) (id : ℕ) (from to : RecPlace) (here : pla
     }
 
   module _ (flags flags' funcs infos : ℕ → ℕ) (same : (u : ℕ) → u ≢ id → flags' u ≡ flags u) where
-    pub written_still : (call : Call) → call.id ≢ id → IsWritten flags funcs infos call → IsWritten flags' funcs infos call
-    written_still call ne w = record { flags_are = same call.id ne ∙ w.flags_are; func_is = w.func_is; info_is = w.info_is }
-
     -- the words of calls at another place are what they were
     pub all_written_still : (p : RecPlace) (calls : List Call) → p ≢ from → AllPlaced places p calls → AllByRecursion (IsWritten flags funcs infos) calls
         → AllByRecursion (IsWritten flags' funcs infos) calls
