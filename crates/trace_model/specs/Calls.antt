@@ -1,6 +1,5 @@
 -- What events of calls make of the state.
 use Rattle.std.specs.Prelude.{◌≡◌, ℕ, Bool, true, false, not, ◌&&◌, ◌==◌, if◌then◌else◌, List, [], ◌∷◌, slice_set, is_some, Result, Ok, Err}
-use Rattle.smp_mask.specs.Mask.{has}
 use Rattle.smp_words.specs.FirstFault.{◌>>=◌}
 use Rattle.trace_model.specs.declared.call.Call.{Call}
 use Rattle.trace_model.specs.declared.call.Place.{Place}
@@ -12,6 +11,7 @@ use Rattle.trace_model.specs.declared.reason.Reason.{Reason}
 use Rattle.trace_model.specs.declared.reason.Reason.TheVariants as reason
 use Rattle.trace_model.specs.Cpu.{CpuState, accepted, as_idle, begun, begun_loose, ended, interrupted, is_empty, may_take, noted, pushed}
 use Rattle.trace_model.specs.Cpu.{runs_locked, sent, taken, unlocked}
+use Rattle.trace_model.specs.Online.{is_online}
 use Rattle.trace_model.specs.Places.{is_batch}
 use Rattle.trace_model.specs.State.{StateValue, cpu_at, freed, place_at, place_reason, with_cpu, with_place}
 
@@ -37,14 +37,14 @@ joined call to s = joined_first (is_empty (cpu_at s to).queue) call to s
 -- a call joins a queue: of a CPU that is online and not the caller, by a record that is free
 unfoldable pub queue_by : Call → ℕ → StateValue → Result StateValue Reason
 queue_by call to s =
-    if has s.setting.online to then (if to == call.source then Err (reason.IsCaller to) else (freed call.id s >>= λ t. Ok (joined call to t)))
+    if is_online s.setting to then (if to == call.source then Err (reason.IsCaller to) else (freed call.id s >>= λ t. Ok (joined call to t)))
     else Err (reason.NotOnline to)
 
 -- an interrupt is sent to a CPU that is online
 unfoldable pub send_by : ℕ → ℕ → StateValue → Result StateValue Reason
 send_by cpu to s =
     let t = with_cpu to s (interrupted (cpu_at s to)) in
-    if has s.setting.online to then Ok (with_cpu cpu t (sent to (cpu_at t cpu))) else Err (reason.NotOnline to)
+    if is_online s.setting to then Ok (with_cpu cpu t (sent to (cpu_at t cpu))) else Err (reason.NotOnline to)
 
 abbrev pub accept_by : ℕ → StateValue → Result StateValue Reason
 accept_by cpu s = on_cpu cpu s (accepted (cpu_at s cpu))

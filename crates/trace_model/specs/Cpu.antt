@@ -36,9 +36,9 @@ fresh_cpu = record {
   accepted = false;
   irq = true;
   inside = None;
-  owes = replicate 32 false;
-  queued = replicate 32 0;
-  ran = replicate 32 0;
+  owes = replicate 512 false;
+  queued = replicate 512 0;
+  ran = replicate 512 0;
 }
 
 -- a call that it has taken is not over: the one that it runs, else the front of its batch

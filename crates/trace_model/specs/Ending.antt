@@ -8,7 +8,7 @@ use Rattle.trace_model.specs.declared.call.Place.TheVariants.{Free, Queue, Batch
 use Rattle.trace_model.specs.declared.stop.Stop.{Stop}
 use Rattle.trace_model.specs.Cpu.{CpuState, handles_nothing, is_empty}
 use Rattle.trace_model.specs.State.{StateValue, cpu_at}
-use Rattle.trace_model.specs.Stop.{acked_by, answer_of, least}
+use Rattle.trace_model.specs.Stop.{acked_by, answer_of, first_from}
 use Rattle.smp_words.specs.declared.phase.TheConstants.{OVER}
 
 -- how many calls a CPU has queued for another, and how many of these have ended
@@ -27,7 +27,7 @@ abbrev pub owes : StateValue → ℕ → ℕ → Bool
 owes s to source = slice_index_or (cpu_at s source).owes to false
 
 abbrev pub owed_by : StateValue → ℕ → Option ℕ
-owed_by s to = least (λ source. owes s to source)
+owed_by s to = first_from (λ source. owes s to source) 0 512
 
 -- a CPU handles an interrupt
 abbrev pub is_busy : CpuState → Bool

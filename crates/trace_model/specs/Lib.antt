@@ -2,6 +2,7 @@ pub mod Calls
 pub mod Cpu
 pub mod Ending
 pub mod Labels
+pub mod Online
 pub mod Opened
 pub mod Places
 pub mod Runs

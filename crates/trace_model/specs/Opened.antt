@@ -16,7 +16,7 @@ places_free n = replicate n Free
 unfoldable pub opening : Setting → LabelWords → StateValue
 opening setting words = record {
   setting = setting;
-  cpus = replicate 32 fresh_cpu;
+  cpus = replicate 512 fresh_cpu;
   places = places_free 65536;
   gate = None;
   stops = replicate 32 (closed setting.online);

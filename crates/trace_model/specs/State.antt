@@ -19,9 +19,9 @@ pub record StateValue : Type 0 where
   pub stops : List Stop
   pub words : LabelWords
 
--- there are 32 CPUs and sources, and 65,536 records
+-- there are 512 CPUs, 65,536 records and 32 sources of stops
 pub record IsState (cpus : List CpuState) (places : List Place) (stops : List Stop) : Type 0 where
-  pub cpus_are : length cpus ≡ 32
+  pub cpus_are : length cpus ≡ 512
   pub places_are : length places ≡ 65536
   pub stops_are : length stops ≡ 32
 
@@ -57,8 +57,8 @@ abbrev pub slip_in : ℕ → StateValue → Bool × CpuState → Bool × StateVa
 slip_in cpu s (slipped, c) = (slipped, with_cpu cpu s c)
 
 abbrev pub slipped_at : Bool → ℕ → Place → StateValue → Bool × StateValue
-slipped_at true id (Queue cpu) s = if nat_lt cpu 32 then slip_in cpu s (slipped_from_queue id (cpu_at s cpu)) else (false, s)
-slipped_at false id (Batch cpu) s = if nat_lt cpu 32 then slip_in cpu s (slipped_from_batch id (cpu_at s cpu)) else (false, s)
+slipped_at true id (Queue cpu) s = if nat_lt cpu 512 then slip_in cpu s (slipped_from_queue id (cpu_at s cpu)) else (false, s)
+slipped_at false id (Batch cpu) s = if nat_lt cpu 512 then slip_in cpu s (slipped_from_batch id (cpu_at s cpu)) else (false, s)
 slipped_at _ id _ s = (false, s)
 
 abbrev pub slipped : ℕ → Place → StateValue → Bool × StateValue

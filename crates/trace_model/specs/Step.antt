@@ -1,5 +1,5 @@
 -- What each event makes of the state, or the first of its premises that does not hold.
-use Rattle.std.specs.Prelude.{◌≡◌, ℕ, Bool, true, false, if◌then◌else◌, Result, Ok, Err}
+use Rattle.std.specs.Prelude.{◌≡◌, ℕ, Bool, true, false, nat_lt, if◌then◌else◌, Result, Ok, Err}
 use Rattle.smp_words.specs.FirstFault.{◌>>=◌}
 use Rattle.smp_labels.specs.declared.patch.Place.TheVariants.{Key, Site}
 use Rattle.smp_labels.specs.declared.words.LabelWords.{LabelWords}
@@ -73,10 +73,14 @@ label_goes cpu (labels.Key key on) s = key_by cpu key on s >>= λ u. Ok s
 label_goes cpu (labels.Site site jumps) s = site_by cpu site jumps s >>= λ u. Ok s
 label_goes cpu (labels.Nudge key up) s = nudge_by cpu key up s
 
+-- stops, keys and sites are those of the CPUs below 32
+abbrev pub if_low : ℕ → Result StateValue Reason → Result StateValue Reason
+if_low cpu made = if nat_lt cpu 32 then made else Err reason.NoSuchWork
+
 -- an event of a CPU: the state after it, or the first of its premises that does not hold
 abbrev pub goes : ℕ → Event → StateValue → Result StateValue Reason
 goes cpu (event.Call (calls.Queue id to class func info)) s = queue_by (record { source = cpu; id = id; class = class; func = func; info = info }) to s
 goes cpu (event.Call calls.Take) s = take_by cpu s
 goes cpu (event.Call call) s = call_goes cpu call s
-goes cpu (event.Stop stop) s = stop_goes cpu stop s
-goes cpu (event.Label label) s = label_goes cpu label s
+goes cpu (event.Stop stop) s = if_low cpu (stop_goes cpu stop s)
+goes cpu (event.Label label) s = if_low cpu (label_goes cpu label s)

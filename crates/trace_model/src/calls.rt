@@ -27,10 +27,10 @@ impl<A: Allocator + Copy> State<A> {
     /// A call joins the queue of its destination.
     #[tactic(auto, unfolding(crate::specs::Calls::queue_by))]
     pub(crate) fn queue(&mut self, call: Call, to: u32) -> Result<(), Halt>
-        requires { call.source < 32 }
+        requires { call.source < 512 }
         ensures { Steps result self.new (queue_by call to self.old) }
     {
-        if !self.setting.online.contains(to) {
+        if !self.setting.is_online(to) {
             return Err(Halt::Broken(Reason::NotOnline(to)));
         }
         if to == call.source {
@@ -47,8 +47,8 @@ impl<A: Allocator + Copy> State<A> {
 
     /// A call is in the queue of its destination.
     fn join(&mut self, call: Call, to: u32) -> Result<(), AllocError>
-        requires source { call.source < 32 }
-        requires to { to < 32 }
+        requires source { call.source < 512 }
+        requires to { to < 512 }
         ensures { OnOk result (self.new ≡ joined call to self.old) }
     {
         let first = self.has_empty_queue(to);
@@ -61,10 +61,10 @@ impl<A: Allocator + Copy> State<A> {
     /// A CPU sends an interrupt.
     #[tactic(auto, unfolding(crate::specs::Calls::send_by))]
     pub(crate) fn send(&mut self, cpu: u32, to: u32) -> Result<(), Reason>
-        requires { cpu < 32 }
+        requires { cpu < 512 }
         ensures { Makes result self.new (send_by cpu to self.old) }
     {
-        if !self.setting.online.contains(to) {
+        if !self.setting.is_online(to) {
             return Err(Reason::NotOnline(to));
         }
         self.interrupt(to);
@@ -74,7 +74,7 @@ impl<A: Allocator + Copy> State<A> {
 
     /// The records of a CPU's queue are in its batch.
     fn move_places(&mut self, cpu: u32)
-        requires { cpu < 32 }
+        requires { cpu < 512 }
         ensures { self.new ≡ moved cpu self.old }
     {
         let queue = self.cpus[cpu as usize].queued_calls();
@@ -84,7 +84,7 @@ impl<A: Allocator + Copy> State<A> {
     /// A CPU takes its whole queue.
     #[tactic(auto, unfolding(crate::specs::Calls::take_by))]
     pub(crate) fn take(&mut self, alloc: A, cpu: u32) -> Result<(), Halt>
-        requires { cpu < 32 }
+        requires { cpu < 512 }
         ensures { Steps result self.new (take_by cpu self.old) }
     {
         let told = !self.setting.without.interrupts;
@@ -101,7 +101,7 @@ impl<A: Allocator + Copy> State<A> {
     /// A CPU unlocks a record.
     #[tactic(auto, unfolding(crate::specs::Calls::unlock_by))]
     pub(crate) fn unlock(&mut self, cpu: u32, id: u16) -> Result<(), Reason>
-        requires { cpu < 32 }
+        requires { cpu < 512 }
         ensures { Makes result self.new (unlock_by cpu id self.old) }
     {
         let place = self.place(id);
@@ -114,7 +114,7 @@ impl<A: Allocator + Copy> State<A> {
     /// A CPU enters the function of a call. The record of a SYNC call is locked until it has ended.
     #[tactic(auto, unfolding(crate::specs::Calls::begin_by))]
     pub(crate) fn begin(&mut self, cpu: u32, seen: Entry) -> Result<(), Reason>
-        requires { cpu < 32 }
+        requires { cpu < 512 }
         ensures { Makes result self.new (begin_by cpu seen self.old) }
     {
         let held = self.runs(cpu);
@@ -128,7 +128,7 @@ impl<A: Allocator + Copy> State<A> {
 
     /// The record of a call that has just begun is locked or free.
     fn place_run(&mut self, cpu: u32, id: u16)
-        requires { cpu < 32 }
+        requires { cpu < 512 }
         ensures { self.new ≡ with_place id (place_of_run cpu (cpu_at self.old cpu)) self.old }
     {
         let place = if self.runs_locked(cpu) {
@@ -142,7 +142,7 @@ impl<A: Allocator + Copy> State<A> {
     /// The function of a call has returned. Where unlocks are left out, the record of a SYNC call is free.
     #[tactic(auto, unfolding(crate::specs::Calls::end_by))]
     pub(crate) fn end(&mut self, cpu: u32, id: u16) -> Result<(), Reason>
-        requires { cpu < 32 }
+        requires { cpu < 512 }
         ensures { Makes result self.new (end_by cpu id self.old) }
     {
         let unlocks = !self.setting.without.unlocks;

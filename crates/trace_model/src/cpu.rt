@@ -14,10 +14,10 @@ use std::collections::VecDeque;
 use std::marker::Model;
 
 /// Counts one more at this place.
-fn count(counts: &mut [u64; 32], at: u32)
+fn count(counts: &mut [u64; 512], at: u32)
     ensures { counts.new ≡ counted at counts.old }
 {
-    if at < 32 {
+    if at < 512 {
         counts[at as usize] = counts[at as usize].wrapping_add(1);
     }
 }
@@ -37,11 +37,11 @@ pub(crate) struct Cpu<A: Allocator> {
     /// The stop that it is in.
     inside: Option<u32>,
     /// The CPUs to which it owes an interrupt.
-    owes: [bool; 32],
+    owes: [bool; 512],
     /// How many calls it has queued for each CPU.
-    queued: [u64; 32],
+    queued: [u64; 512],
     /// How many calls of each CPU have ended here.
-    ran: [u64; 32],
+    ran: [u64; 512],
 }
 
 impl<A: Allocator> Model for Cpu<A> {
@@ -76,9 +76,9 @@ impl<A: Allocator + Copy> Cpu<A> {
             accepted: false,
             irq: true,
             inside: None,
-            owes: [false; 32],
-            queued: [0; 32],
-            ran: [0; 32],
+            owes: [false; 512],
+            queued: [0; 512],
+            ran: [0; 512],
         }
     }
 

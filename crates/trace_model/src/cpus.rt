@@ -15,7 +15,7 @@ use std::alloc::{AllocError, Allocator};
 impl<A: Allocator + Copy> State<A> {
     /// A CPU takes the interrupt that is pending.
     pub(crate) fn accept(&mut self, cpu: u32) -> Result<(), Reason>
-        requires { cpu < 32 }
+        requires { cpu < 512 }
         ensures { Makes result self.new (accept_by cpu self.old) }
     {
         self.cpus[cpu as usize].accept()
@@ -23,7 +23,7 @@ impl<A: Allocator + Copy> State<A> {
 
     /// A CPU has looked for an interrupt, and there was none.
     pub(crate) fn idle(&self, cpu: u32) -> Result<(), Reason>
-        requires { cpu < 32 }
+        requires { cpu < 512 }
         ensures { result ≡ idle_by cpu self.now }
     {
         self.cpus[cpu as usize].idle()
@@ -31,7 +31,7 @@ impl<A: Allocator + Copy> State<A> {
 
     /// Whether nothing is queued for a CPU.
     pub(crate) fn has_empty_queue(&self, cpu: u32) -> bool
-        requires { cpu < 32 }
+        requires { cpu < 512 }
         ensures { result ≡ is_empty (cpu_at self.now cpu).queue }
     {
         self.cpus[cpu as usize].has_empty_queue()
@@ -39,7 +39,7 @@ impl<A: Allocator + Copy> State<A> {
 
     /// A call joins the queue of a CPU.
     pub(crate) fn push(&mut self, cpu: u32, call: Call) -> Result<(), AllocError>
-        requires { cpu < 32 }
+        requires { cpu < 512 }
         ensures { OnOk result (self.new ≡ with_cpu cpu self.old (pushed call (cpu_at self.old cpu))) }
     {
         match self.cpus[cpu as usize].push(call) {
@@ -50,7 +50,7 @@ impl<A: Allocator + Copy> State<A> {
 
     /// A CPU has queued a call for another.
     pub(crate) fn note_queued(&mut self, cpu: u32, to: u32, first: bool)
-        requires { cpu < 32 }
+        requires { cpu < 512 }
         ensures { self.new ≡ with_cpu cpu self.old (noted to first (cpu_at self.old cpu)) }
     {
         self.cpus[cpu as usize].note_queued(to, first);
@@ -58,7 +58,7 @@ impl<A: Allocator + Copy> State<A> {
 
     /// A CPU has sent another an interrupt.
     pub(crate) fn note_sent(&mut self, cpu: u32, to: u32)
-        requires { cpu < 32 }
+        requires { cpu < 512 }
         ensures { self.new ≡ with_cpu cpu self.old (sent to (cpu_at self.old cpu)) }
     {
         self.cpus[cpu as usize].note_sent(to);
@@ -66,7 +66,7 @@ impl<A: Allocator + Copy> State<A> {
 
     /// An interrupt is pending for a CPU.
     pub(crate) fn interrupt(&mut self, cpu: u32)
-        requires { cpu < 32 }
+        requires { cpu < 512 }
         ensures { self.new ≡ with_cpu cpu self.old (interrupted (cpu_at self.old cpu)) }
     {
         self.cpus[cpu as usize].interrupt();
@@ -74,7 +74,7 @@ impl<A: Allocator + Copy> State<A> {
 
     /// Refuses where a CPU may not take its queue; `told` says whether interrupts are told.
     pub(crate) fn may_take(&self, cpu: u32, told: bool) -> Result<(), Reason>
-        requires { cpu < 32 }
+        requires { cpu < 512 }
         ensures { result ≡ may_take told (cpu_at self.now cpu) }
     {
         self.cpus[cpu as usize].may_take(told)
@@ -82,7 +82,7 @@ impl<A: Allocator + Copy> State<A> {
 
     /// A CPU has its whole queue in its batch.
     pub(crate) fn take_queue(&mut self, alloc: A, cpu: u32) -> Result<(), AllocError>
-        requires { cpu < 32 }
+        requires { cpu < 512 }
         ensures { OnOk result (self.new ≡ with_cpu cpu self.old (taken (cpu_at self.old cpu))) }
     {
         self.cpus[cpu as usize].take(alloc)
@@ -96,7 +96,7 @@ impl<A: Allocator + Copy> State<A> {
         here: bool,
         elsewhere: Reason,
     ) -> Result<(), Reason>
-        requires { cpu < 32 }
+        requires { cpu < 512 }
         ensures { Makes result self.new (on_cpu cpu self.old (unlocked id here elsewhere (cpu_at self.old cpu))) }
     {
         self.cpus[cpu as usize].unlock(id, here, elsewhere)
@@ -104,7 +104,7 @@ impl<A: Allocator + Copy> State<A> {
 
     /// Whether a CPU runs a call.
     pub(crate) fn runs(&self, cpu: u32) -> bool
-        requires { cpu < 32 }
+        requires { cpu < 512 }
         ensures { result ≡ is_some (cpu_at self.now cpu).current }
     {
         self.cpus[cpu as usize].runs()
@@ -112,7 +112,7 @@ impl<A: Allocator + Copy> State<A> {
 
     /// Whether it runs a call whose record is locked.
     pub(crate) fn runs_locked(&self, cpu: u32) -> bool
-        requires { cpu < 32 }
+        requires { cpu < 512 }
         ensures { result ≡ runs_locked (cpu_at self.now cpu) }
     {
         self.cpus[cpu as usize].runs_locked()
@@ -120,7 +120,7 @@ impl<A: Allocator + Copy> State<A> {
 
     /// A CPU enters the function of a call of its queue, whose record is at that place.
     fn begin_loose(&mut self, cpu: u32, seen: Entry, place: Place) -> Result<(), Reason>
-        requires { cpu < 32 }
+        requires { cpu < 512 }
         ensures { Makes result self.new (on_cpu cpu self.old (entered_by true cpu seen place self.old)) }
     {
         let elsewhere = place_reason(seen.id, place);
@@ -129,7 +129,7 @@ impl<A: Allocator + Copy> State<A> {
 
     /// A CPU enters the function of a call of its batch, whose record is at that place.
     fn begin_strict(&mut self, cpu: u32, seen: Entry, place: Place) -> Result<(), Reason>
-        requires { cpu < 32 }
+        requires { cpu < 512 }
         ensures { Makes result self.new (on_cpu cpu self.old (entered_by false cpu seen place self.old)) }
     {
         let elsewhere = place_reason(seen.id, place);
@@ -139,7 +139,7 @@ impl<A: Allocator + Copy> State<A> {
 
     /// A CPU enters the function of a call whose record is at that place.
     pub(crate) fn enter_call(&mut self, cpu: u32, seen: Entry, place: Place) -> Result<(), Reason>
-        requires { cpu < 32 }
+        requires { cpu < 512 }
         ensures { Makes result self.new (on_cpu cpu self.old (entered_by self.old.setting.without.order cpu seen place self.old)) }
     {
         if self.setting.without.order {
@@ -151,7 +151,7 @@ impl<A: Allocator + Copy> State<A> {
 
     /// The function of a call has returned.
     pub(crate) fn end_call(&mut self, cpu: u32, id: u16, unlocks: bool) -> Result<(), Reason>
-        requires { cpu < 32 }
+        requires { cpu < 512 }
         ensures { Makes result self.new (on_cpu cpu self.old (ended id unlocks (cpu_at self.old cpu))) }
     {
         self.cpus[cpu as usize].end(id, unlocks)

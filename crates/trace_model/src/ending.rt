@@ -78,7 +78,7 @@ fn is_locked(place: &Place) -> bool
 impl<A: Allocator + Copy> State<A> {
     /// How many calls a CPU has queued for another.
     pub fn queued(&self, source: u32, to: u32) -> u64
-        requires { source < 32 }
+        requires { source < 512 }
         ensures { result ≡ queued_by self.now source to }
     {
         self.cpus[source as usize].queued_for(to)
@@ -86,7 +86,7 @@ impl<A: Allocator + Copy> State<A> {
 
     /// How many of these have ended.
     pub fn ran(&self, source: u32, to: u32) -> u64
-        requires { to < 32 }
+        requires { to < 512 }
         ensures { result ≡ ran_of self.now source to }
     {
         self.cpus[to as usize].ran_of(source)
@@ -94,7 +94,7 @@ impl<A: Allocator + Copy> State<A> {
 
     /// How many calls are queued for a CPU.
     pub fn queue_length(&self, cpu: u32) -> usize
-        requires { cpu < 32 }
+        requires { cpu < 512 }
         ensures { result ≡ queue_length self.now cpu }
     {
         self.cpus[cpu as usize].queued_calls().len()
@@ -102,7 +102,7 @@ impl<A: Allocator + Copy> State<A> {
 
     /// Whether a CPU has accepted an interrupt.
     pub fn has_accepted(&self, cpu: u32) -> bool
-        requires { cpu < 32 }
+        requires { cpu < 512 }
         ensures { result ≡ (cpu_at self.now cpu).accepted }
     {
         self.cpus[cpu as usize].has_accepted()
@@ -110,7 +110,7 @@ impl<A: Allocator + Copy> State<A> {
 
     /// Whether an interrupt is pending for a CPU.
     pub fn has_pending(&self, cpu: u32) -> bool
-        requires { cpu < 32 }
+        requires { cpu < 512 }
         ensures { result ≡ (cpu_at self.now cpu).pending }
     {
         self.cpus[cpu as usize].has_pending()
@@ -118,7 +118,7 @@ impl<A: Allocator + Copy> State<A> {
 
     /// Whether a CPU owes another an interrupt.
     fn owes(&self, to: u32, source: u32) -> bool
-        requires { source < 32 }
+        requires { source < 512 }
         ensures { result ≡ owes self.now to source }
     {
         self.cpus[source as usize].owes(to)
@@ -129,7 +129,7 @@ impl<A: Allocator + Copy> State<A> {
     pub fn owed_by(&self, to: u32) -> Option<u32>
         ensures { result ≡ owed_by self.now to }
     {
-        for source in 0..32 {
+        for source in 0..512 {
             if self.owes(to, source) {
                 return Some(source);
             }

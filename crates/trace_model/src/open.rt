@@ -16,10 +16,10 @@ use std::alloc::{AllocError, Allocator};
 
 /// CPUs that have done nothing.
 fn fresh_cpus<A: Allocator + Copy>(alloc: A) -> Result<Vec<Cpu<A>, A>, AllocError>
-    ensures { IfOk result (λ cpus. cpus.items ≡ replicate 32 fresh_cpu) }
+    ensures { IfOk result (λ cpus. cpus.items ≡ replicate 512 fresh_cpu) }
 {
-    let mut cpus = Vec::with_capacity(alloc, 32)?;
-    for _cpu in 0..32u32 {
+    let mut cpus = Vec::with_capacity(alloc, 512)?;
+    for _cpu in 0..512u32 {
         cpus.push(Cpu::new(alloc))?;
     }
     Ok(cpus)

@@ -66,9 +66,9 @@ impl<A: Allocator + Copy> State<A> {
             return false;
         }
         let slipped = match place {
-            Place::Queue(cpu) if without.order && cpu < 32 =>
+            Place::Queue(cpu) if without.order && cpu < 512 =>
                 self.cpus[cpu as usize].slip_from_queue(id),
-            Place::Batch(cpu) if !without.order && cpu < 32 =>
+            Place::Batch(cpu) if !without.order && cpu < 512 =>
                 self.cpus[cpu as usize].slip_from_batch(id),
             _ => false,
         };

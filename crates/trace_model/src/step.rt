@@ -67,7 +67,7 @@ impl<A: Allocator + Copy> State<A> {
     /// An event of calls that fills no memory.
     #[tactic(auto, unfolding(crate::specs::Step::call_goes))]
     fn call_step(&mut self, cpu: u32, event: CallEvent) -> Result<(), Reason>
-        requires { cpu < 32 }
+        requires { cpu < 512 }
         ensures { Makes result self.new (call_goes cpu event self.old) }
     {
         match event {
@@ -134,7 +134,7 @@ impl<A: Allocator + Copy> State<A> {
 
     /// One event of a CPU that is online.
     pub fn event(&mut self, alloc: A, cpu: u32, event: Event) -> Result<(), Halt>
-        requires { cpu < 32 }
+        requires { cpu < 512 }
         ensures { Steps result self.new (goes cpu event self.old) }
     {
         let made = match event {
@@ -153,6 +153,7 @@ impl<A: Allocator + Copy> State<A> {
             }
             Event::Call(CallEvent::Take) => return self.take(alloc, cpu),
             Event::Call(event) => self.call_step(cpu, event),
+            Event::Stop(_) | Event::Label(_) if cpu >= 32 => Err(Reason::NoSuchWork),
             Event::Stop(event) => self.stop_step(cpu, event),
             Event::Label(event) => self.label_step(cpu, event),
         };
