@@ -1,5 +1,5 @@
 -- The head of a trace: its title, its CPUs, its labels line and what it leaves out.
-use Rattle.std.specs.Prelude.{◌≡◌, ℕ, ◌+◌, ◌-◌, Bool, true, false, not, ◌&&◌, ◌||◌, if◌then◌else◌, List, [], ◌∷◌, ◌++◌, length, map, replicate}
+use Rattle.std.specs.Prelude.{◌≡◌, ℕ, ◌+◌, ◌-◌, Bool, true, false, not, ◌&&◌, ◌||◌, nat_lt, if◌then◌else◌, List, [], ◌∷◌, ◌++◌, length, map, replicate}
 use Rattle.std.specs.Prelude.{Result, Ok, Err, codes}
 use Rattle.std.specs.Str.{bytes_eq}
 use Rattle.smp_mask.specs.declared.error.Cause.{Cause}
@@ -14,9 +14,9 @@ use Rattle.smp_script.specs.Commands.{are_whole}
 use Rattle.smp_words.specs.FirstFault.{◌>>=◌}
 use Rattle.smp_script.specs.Labels.{whole_labels}
 use Rattle.smp_script.specs.Lines.{Line, fields_of, lines_of}
-use Rattle.smp_script.specs.Script.{whole_cpus}
 use Rattle.trace_model.specs.declared.without.Setting.{Setting}
 use Rattle.trace_model.specs.declared.without.Without.{Without}
+use Rattle.trace_judge.specs.Cpus.{cpus_told}
 use Rattle.trace_judge.specs.declared.early_end.EarlyEnd.{EarlyEnd}
 use Rattle.trace_judge.specs.declared.early_end.EarlyEnd.TheVariants.{Fault, NoMemory}
 use Rattle.trace_judge.specs.Judged.{at_line, used_after}
@@ -40,17 +40,21 @@ unfoldable pub needed : CursorValue → Result (List ℕ × CursorValue) EarlyEn
 needed s = needed_from s s.lines
 
 -- line 1
-abbrev pub is_title : List (List ℕ) → Bool
-is_title (a ∷ b ∷ c ∷ []) = bytes_eq a (codes "smp") && bytes_eq b (codes "2") && bytes_eq c (codes "trace")
-is_title _ = false
+abbrev pub is_title : List ℕ → List (List ℕ) → Bool
+is_title version (a ∷ b ∷ c ∷ []) = bytes_eq a (codes "smp") && bytes_eq b version && bytes_eq c (codes "trace")
+is_title version _ = false
 
-unfoldable pub titled : List Line → Result CursorValue EarlyEnd
-titled lines = needed (record { number = 1; used = 0; lines = lines }) >>= λ found.
-    if is_title (fields_of found.0) then Ok found.1 else Err (Fault 1 Word)
+-- whether it is of version 3, and else of version 2
+abbrev pub version_in : List (List ℕ) → Result Bool EarlyEnd
+version_in fields =
+    if is_title (codes "2") fields then Ok false else (if is_title (codes "3") fields then Ok true else Err (Fault 1 Word))
 
--- line 2: the CPUs that are online
-unfoldable pub online_at : CursorValue → Result (ℕ × CursorValue) EarlyEnd
-online_at s = needed s >>= λ found. at_line 2 (whole_cpus 32 (fields_of found.0)) >>= λ table. Ok (table.1, found.1)
+unfoldable pub titled : List Line → Result (Bool × CursorValue) EarlyEnd
+titled lines = needed (record { number = 1; used = 0; lines = lines }) >>= λ found. version_in (fields_of found.0) >>= λ is_wide. Ok (is_wide, found.1)
+
+-- line 2: how many CPUs there are, and those below 32 that are online
+unfoldable pub cpus_at : Bool → CursorValue → Result ((ℕ × ℕ) × CursorValue) EarlyEnd
+cpus_at is_wide s = needed s >>= λ found. at_line 2 (cpus_told is_wide (fields_of found.0)) >>= λ cpus. Ok (cpus, found.1)
 
 -- `labels KEYS ITEMS`
 abbrev pub is_labels : List (List ℕ) → Bool
@@ -67,8 +71,9 @@ labels_from s (l ∷ ls) = used_after s.number s.used l >>= λ used.
     if is_labels (fields_of l.text) then (at_line 3 (whole_labels (fields_of l.text)) >>= λ labels. Ok (labels, behind s used ls))
     else Ok (no_labels, s)
 
-unfoldable pub labels_at : CursorValue → Result (Labels × CursorValue) EarlyEnd
-labels_at s = labels_from s s.lines
+-- there are none of more than 32 CPUs
+unfoldable pub labels_at : ℕ → CursorValue → Result (Labels × CursorValue) EarlyEnd
+labels_at cpus s = if nat_lt 32 cpus then Ok (no_labels, s) else labels_from s s.lines
 
 -- a word is the first of these, and what is left behind it
 unfoldable pub is_next : List ℕ → List (List ℕ) → Bool
@@ -146,15 +151,20 @@ pub record HeadValue : Type 0 where
   pub words : LabelWords
   pub cursor : CursorValue
 
-abbrev pub setting_of : ℕ → Labels → Without → Setting
-setting_of online labels without = record { online = online; keys = labels.keys; sites = length labels.entries; without = without }
+abbrev pub setting_with : ℕ → ℕ → Labels → Without → Setting
+setting_with cpus online labels without =
+    record { cpus = cpus; online = online; keys = labels.keys; sites = length labels.entries; without = without }
 
-abbrev pub head_with : ℕ → Labels → Without → CursorValue → HeadValue
-head_with online labels without cursor = record { setting = setting_of online labels without; words = words_of labels; cursor = cursor }
+-- of at most 32 CPUs
+abbrev pub setting_of : ℕ → Labels → Without → Setting
+setting_of online labels without = setting_with 32 online labels without
+
+abbrev pub head_with : ℕ × ℕ → Labels → Without → CursorValue → HeadValue
+head_with cpus labels without cursor = record { setting = setting_with cpus.0 cpus.1 labels without; words = words_of labels; cursor = cursor }
 
 unfoldable pub head_of : List Line → Result HeadValue EarlyEnd
-head_of lines = titled lines >>= λ second. online_at second >>= λ cpus. labels_at cpus.1 >>= λ labels. without_at labels.1 >>= λ without.
-    Ok (head_with cpus.0 labels.0 without.0 without.1)
+head_of lines = titled lines >>= λ second. cpus_at second.0 second.1 >>= λ cpus. labels_at cpus.0.0 cpus.1 >>= λ labels.
+    without_at labels.1 >>= λ without. Ok (head_with cpus.0 labels.0 without.0 without.1)
 
 -- what a function reads is so, seen by view, unless memory ran out
 abbrev pub Sees : {X Y : Type 0} → (X → Y) → Result X EarlyEnd → Result Y EarlyEnd → Type 0

@@ -1,3 +1,4 @@
+pub mod Cpus
 pub mod Head
 pub mod HeadView
 pub mod Judged

@@ -11,7 +11,8 @@ use Rattle.smp_script.specs.Commands.{are_whole}
 use Rattle.smp_words.specs.FirstFault.{◌>>=◌}
 use Rattle.smp_script.specs.Fields.{class_of, kind_of, mask_of, way_of, word16, word32, word64}
 use Rattle.smp_script.specs.Numbers.{number_in, signed_of}
-use Rattle.smp_script.specs.Requests.{member_of, switch_of}
+use Rattle.smp_script.specs.Requests.{switch_of}
+use Rattle.trace_model.specs.Online.{is_online}
 use Rattle.trace_model.specs.declared.event.Event.{Event}
 use Rattle.trace_model.specs.declared.event.Event.TheVariants.{Call, Stop, Label}
 use Rattle.trace_model.specs.declared.event.CallEvent.TheVariants as calls
@@ -151,9 +152,17 @@ named_of u name arguments =
     if bytes_eq name (codes "queue") then queue_line arguments
     else (if bytes_eq name (codes "open") then open_line arguments else short_of u name arguments)
 
--- with the CPU of the line, which is one that is online
+-- the CPU of the line, which is one that is online
+abbrev pub online_of : Setting → List ℕ → Result ℕ Cause
+online_of u cpu = word32 cpu >>= λ c. if is_online u c then Ok c else Err Range
+
+-- stops, keys and sites are those of the CPUs below 32
+abbrev pub is_low : ℕ → Event → Bool
+is_low cpu (Call call) = true
+is_low cpu _ = nat_lt cpu 32
+
 abbrev pub with_cpu_of : Setting → List ℕ → Result Event Cause → Result (ℕ × Event) Cause
-with_cpu_of u cpu read = member_of u.online cpu >>= λ c. read >>= λ event. Ok (c, event)
+with_cpu_of u cpu read = online_of u cpu >>= λ c. read >>= λ event. if is_low c event then Ok (c, event) else Err Range
 
 -- the event that the fields of a line tell
 abbrev pub event_of : Setting → List (List ℕ) → Result (ℕ × Event) Cause

@@ -118,7 +118,7 @@ tally_text s source to =
     codes " " ++ decimal (ran_of s source to) ++ 10 ∷ []
 
 unfoldable pub tallies_of : StateValue → ℕ → List ℕ
-tallies_of s source = texts_below (tally_text s source) 32
+tallies_of s source = texts_below (tally_text s source) 512
 
 -- why a queue is not lost: its CPU has accepted an interrupt, one is pending, or a CPU owes one
 abbrev pub owed_text : Option ℕ → List ℕ
@@ -158,5 +158,5 @@ left_text heads locked busy =
 -- what is printed of a lawful trace with that number of events that ends in this state
 abbrev pub lawful_text : ℕ → StateValue → List ℕ
 lawful_text events s =
-    codes "lawful " ++ decimal events ++ codes " events\n" ++ texts_below (tallies_of s) 32 ++ texts_below (queue_text s) 32 ++ texts_below (stop_text s) 32
+    codes "lawful " ++ decimal events ++ codes " events\n" ++ texts_below (tallies_of s) 512 ++ texts_below (queue_text s) 512 ++ texts_below (stop_text s) 32
     ++ left_text (heads_of s) (locked_of s) (busy_of s)

@@ -59,7 +59,7 @@ fn event_on<A: Allocator>(
 ) -> Result<Option<(u32, Event)>, EarlyEnd>
     requires { length text.now < 2 ^ 32 }
     ensures value { Reads result (event_on setting.now number text.now) }
-    ensures below { IfOk result (λ told. IfSome told (λ p. p.0 < 32)) }
+    ensures below { IfOk result (λ told. IfSome told (λ p. p.0 < 512)) }
 {
     if is_comment(text) {
         return Ok(None);
@@ -92,7 +92,7 @@ fn told<A: Allocator + Copy>(
     cpu: u32,
     event: Event,
 ) -> Result<(), EarlyEnd>
-    requires { cpu < 32 }
+    requires { cpu < 512 }
     ensures { Lines result state.new (told_goes number cpu event state.old) }
 {
     let told = event;

@@ -5,19 +5,20 @@ ghost use Rattle.smp_script.specs.Commands.{are_whole};
 ghost use Rattle.smp_script.specs.Labels.{whole_labels};
 ghost use Rattle.smp_script.specs.Lines.{AreShort, lines_of};
 ghost use Rattle.trace_judge.specs.Head.{all_told, early_end_of, groups_of, head_of, is_labels, is_left_out, is_next};
-ghost use Rattle.trace_judge.specs.Head.{is_title, labels_at, needed, online_at, past, some_groups, titled, whole_groups};
+ghost use Rattle.trace_judge.specs.Head.{cpus_at, is_title, labels_at, needed, past, some_groups, titled, version_in, whole_groups};
 ghost use Rattle.trace_judge.specs.Head.{without_at, words_of, Sees};
 ghost use Rattle.trace_judge.specs.Judged.{at_line, Reads};
 ghost use Rattle.trace_judge.specs.HeadView.{cursor_of, head_value};
 
 use crate::body::used_after;
+use crate::cpus_line::read_cpus;
 use crate::cursor::Cursor;
 use crate::early_end::EarlyEnd;
 use smp_labels::{LabelMap, LabelWords};
 use smp_mask::{Cause, CpuMask, SmpError};
 use smp_script::directive::are_all_whole;
 use smp_script::line::{fields, is_word, next_line};
-use smp_script::script::{read_labels_line, read_whole_cpus};
+use smp_script::script::read_labels_line;
 use std::alloc::Allocator;
 use trace_model::{Setting, Without};
 
@@ -52,23 +53,36 @@ fn needed(cursor: Cursor<'_>) -> Result<(&[u8], Cursor<'_>), EarlyEnd>
     ))
 }
 
-/// Whether these are the fields of line 1.
-fn is_title(fields: &[&[u8]]) -> bool
-    ensures { result ≡ is_title (map (λ f. f.now) fields.now) }
+/// Whether these are the fields of line 1 of a version.
+fn is_title(version: &[u8], fields: &[&[u8]]) -> bool
+    ensures { result ≡ is_title version.now (map (λ f. f.now) fields.now) }
 {
     match fields {
-        [smp, version, kind] => {
-            is_word(smp, b"smp") && is_word(version, b"2") && is_word(kind, b"trace")
+        [smp, word, kind] => {
+            is_word(smp, b"smp") && is_word(word, version) && is_word(kind, b"trace")
         }
         _ => false,
     }
 }
 
-/// Line 1 is `smp 2 trace`.
+/// Whether line 1 is of version 3, and else of version 2.
+fn version_in(fields: &[&[u8]]) -> Result<bool, EarlyEnd>
+    ensures { result ≡ version_in (map (λ f. f.now) fields.now) }
+{
+    if is_title(b"2", fields) {
+        return Ok(false);
+    }
+    if is_title(b"3", fields) {
+        return Ok(true);
+    }
+    Err(EarlyEnd::Fault(1, Cause::Word))
+}
+
+/// Line 1 is `smp 2 trace`, or `smp 3 trace`: whether it is of version 3.
 #[tactic(auto, unfolding(crate::specs::Head::titled))]
-fn titled<A: Allocator>(alloc: A, text: &[u8]) -> Result<Cursor<'_>, EarlyEnd>
-    ensures value { Sees (λ s. cursor_of s) result (titled (lines_of text.now)) }
-    ensures within { IfOk result (λ s. (s.used ≤ 16777216) × (s.number ≡ 2)) }
+fn titled<A: Allocator>(alloc: A, text: &[u8]) -> Result<(bool, Cursor<'_>), EarlyEnd>
+    ensures value { Sees (λ p. (p.0, cursor_of p.1)) result (titled (lines_of text.now)) }
+    ensures within { IfOk result (λ p. (p.1.used ≤ 16777216) × (p.1.number ≡ 2)) }
 {
     let first = Cursor {
         number: 1,
@@ -79,26 +93,28 @@ fn titled<A: Allocator>(alloc: A, text: &[u8]) -> Result<Cursor<'_>, EarlyEnd>
     let Ok(words) = fields(alloc, title) else {
         return Err(EarlyEnd::NoMemory);
     };
-    if !is_title(words.as_slice()) {
-        return Err(EarlyEnd::Fault(1, Cause::Word));
-    }
-    Ok(second)
+    let is_wide = version_in(words.as_slice())?;
+    Ok((is_wide, second))
 }
 
-/// Line 2 is `cpus NR MASK`: the CPUs that are online.
-#[tactic(auto, unfolding(crate::specs::Head::online_at))]
-fn online_at<A: Allocator>(alloc: A, second: Cursor<'_>) -> Result<(CpuMask, Cursor<'_>), EarlyEnd>
+/// Line 2 is `cpus NR MASK`: how many CPUs there are, and those below 32 that are online.
+#[tactic(auto, unfolding(crate::specs::Head::cpus_at))]
+fn cpus_at<A: Allocator>(
+    alloc: A,
+    is_wide: bool,
+    second: Cursor<'_>,
+) -> Result<((u32, CpuMask), Cursor<'_>), EarlyEnd>
     requires number { second.number ≡ 2 }
     requires used { second.used ≤ 16777216 }
-    ensures value { Sees (λ p. (p.0, cursor_of p.1)) result (online_at (cursor_of second.entry)) }
+    ensures value { Sees (λ p. (p.0, cursor_of p.1)) result (cpus_at is_wide (cursor_of second.entry)) }
     ensures within { IfOk result (λ p. (p.1.used ≤ 16777216) × (p.1.number ≡ 3)) }
 {
     let (line, third) = needed(second)?;
     let Ok(words) = fields(alloc, line) else {
         return Err(EarlyEnd::NoMemory);
     };
-    match read_whole_cpus(32, words.as_slice()) {
-        Ok((_, online)) => Ok((online, third)),
+    match read_cpus(is_wide, words.as_slice()) {
+        Ok(cpus) => Ok((cpus, third)),
         Err(cause) => Err(EarlyEnd::Fault(2, cause)),
     }
 }
@@ -134,17 +150,21 @@ fn labels_of<A: Allocator>(alloc: A, fields: &[&[u8]]) -> Result<LabelMap, Early
     }
 }
 
-/// The labels, where line 3 has some.
+/// The labels, where line 3 has some. There are none of more than 32 CPUs.
 #[tactic(auto, unfolding(crate::specs::Head::labels_at))]
 fn labels_at<A: Allocator + Copy>(
     alloc: A,
+    cpus: u32,
     third: Cursor<'_>,
 ) -> Result<(LabelMap, Cursor<'_>), EarlyEnd>
     requires number { third.number ≡ 3 }
     requires used { third.used ≤ 16777216 }
-    ensures value { Sees (λ p. (p.0, cursor_of p.1)) result (labels_at (cursor_of third.entry)) }
+    ensures value { Sees (λ p. (p.0, cursor_of p.1)) result (labels_at cpus (cursor_of third.entry)) }
     ensures within { IfOk result (λ p. (p.1.used ≤ 16777216) × (p.1.number ≤ 4)) }
 {
+    if cpus > 32 {
+        return Ok((LabelMap::empty(), third));
+    }
     let Some(line) = next_line(third.rest) else {
         return Ok((LabelMap::empty(), third));
     };
@@ -304,12 +324,12 @@ pub(crate) fn read_head<A: Allocator + Copy>(alloc: A, text: &[u8]) -> Result<He
     ensures value { Sees (λ h. head_value h) result (head_of (lines_of text.now)) }
     ensures within { IfOk result (λ h. (h.cursor.used ≤ 16777216) × (h.cursor.number ≤ 5)) }
 {
-    let second = titled(alloc, text)?;
-    let (online, third) = match online_at(alloc, second) {
+    let (is_wide, second) = titled(alloc, text)?;
+    let ((cpus, online), third) = match cpus_at(alloc, is_wide, second) {
         Ok(found) => found,
         Err(why) => return Err(why),
     };
-    let (labels, cursor) = match labels_at(alloc, third) {
+    let (labels, cursor) = match labels_at(alloc, cpus, third) {
         Ok(found) => found,
         Err(why) => return Err(why),
     };
@@ -319,6 +339,7 @@ pub(crate) fn read_head<A: Allocator + Copy>(alloc: A, text: &[u8]) -> Result<He
     };
     Ok(Head {
         setting: Setting {
+            cpus,
             online,
             keys: labels.keys(),
             sites: labels.sites(),

@@ -3,13 +3,14 @@
 //!
 //! - `trace`: A trace from a reader, and its verdict to a writer.
 //! - `verdict`: The verdict on a text; `text`, `phrase`: what is printed of it.
-//! - `head`, `cursor`: The head of a trace, and where it is read to.
+//! - `head`, `cpus_line`, `cursor`: The head of a trace, its line 2, and where it is read to.
 //! - `body`, `reading`: The lines behind it, and the event that each tells.
 //! - `laws`: What the verdict means.
 //! - `early_end`: Why a trace was not judged to its end.
 #![tactic(auto)]
 
 pub mod body;
+pub mod cpus_line;
 mod cursor;
 pub mod early_end;
 mod head;

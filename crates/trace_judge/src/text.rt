@@ -100,8 +100,8 @@ fn write_tally<A: Allocator, B: Allocator + Copy>(
     source: u32,
     to: u32,
 ) -> Result<(), AllocError>
-    requires source { source < 32 }
-    requires to { to < 32 }
+    requires source { source < 512 }
+    requires to { to < 512 }
     ensures { OnOk result (string_bytes out.new ≡ string_bytes out.old ++ tally_text state.now source to) }
 {
     let queued = state.queued(source, to);
@@ -120,10 +120,10 @@ fn write_tallies_of<A: Allocator, B: Allocator + Copy>(
     state: &State<B>,
     source: u32,
 ) -> Result<(), AllocError>
-    requires { source < 32 }
+    requires { source < 512 }
     ensures { OnOk result (string_bytes out.new ≡ string_bytes out.old ++ tallies_of state.now source) }
 {
-    for to in 0..32 {
+    for to in 0..512 {
         write_tally(out, state, source, to)?;
     }
     Ok(())
@@ -135,9 +135,9 @@ fn write_tallies<A: Allocator, B: Allocator + Copy>(
     out: &mut String<A>,
     state: &State<B>,
 ) -> Result<(), AllocError>
-    ensures { OnOk result (string_bytes out.new ≡ string_bytes out.old ++ texts_below (tallies_of state.now) 32) }
+    ensures { OnOk result (string_bytes out.new ≡ string_bytes out.old ++ texts_below (tallies_of state.now) 512) }
 {
-    for source in 0..32 {
+    for source in 0..512 {
         write_tallies_of(out, state, source)?;
     }
     Ok(())
@@ -181,7 +181,7 @@ fn write_queue<A: Allocator, B: Allocator + Copy>(
     state: &State<B>,
     cpu: u32,
 ) -> Result<(), AllocError>
-    requires { cpu < 32 }
+    requires { cpu < 512 }
     ensures { OnOk result (string_bytes out.new ≡ string_bytes out.old ++ queue_text state.now cpu) }
 {
     let length = state.queue_length(cpu);
@@ -207,9 +207,9 @@ fn write_queues<A: Allocator, B: Allocator + Copy>(
     out: &mut String<A>,
     state: &State<B>,
 ) -> Result<(), AllocError>
-    ensures { OnOk result (string_bytes out.new ≡ string_bytes out.old ++ texts_below (queue_text state.now) 32) }
+    ensures { OnOk result (string_bytes out.new ≡ string_bytes out.old ++ texts_below (queue_text state.now) 512) }
 {
-    for cpu in 0..32 {
+    for cpu in 0..512 {
         write_queue(out, state, cpu)?;
     }
     Ok(())
