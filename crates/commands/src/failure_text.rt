@@ -29,7 +29,7 @@ fn wrong_text(why: Wrong) -> &'static str {
         Wrong::Lost => "the buffers hold fewer events than were written",
         Wrong::Time => "the time of its CPU goes back",
         Wrong::Field => "a field is missing or is no number",
-        Wrong::Cpu => "it names a CPU above 31",
+        Wrong::Cpu => "it names a CPU above 511, or above 31 in a stop",
         Wrong::Class => "csd_class without a csd_queue_cpu of this csd before it",
         Wrong::Records => "this is one csd more than 65536",
         Wrong::Stops => "more stops are open than there are CPUs",

@@ -86,4 +86,4 @@ shows_from insides (m ∷ ms) =
     if hides_order inside m then false else shows_from (slice_set insides m.at.cpu (inside_after inside m.sign)) ms
 
 abbrev pub shows_order : List Mark → Bool
-shows_order ms = shows_from (replicate 32 0) ms
+shows_order ms = shows_from (replicate 512 0) ms

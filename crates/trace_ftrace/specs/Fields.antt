@@ -58,7 +58,7 @@ needed_address name fields = needed (field_of name fields >>? address_of)
 
 -- a CPU that there can be
 abbrev pub cpu_below : ℕ → Result ℕ Wrong
-cpu_below cpu = if nat_lt cpu 32 then Ok cpu else Err wrong.Cpu
+cpu_below cpu = if nat_lt cpu 512 then Ok cpu else Err wrong.Cpu
 
 abbrev pub cpu_if : Option ℕ → Result ℕ Wrong
 cpu_if None = Err wrong.Field
@@ -66,6 +66,13 @@ cpu_if (Some cpu) = cpu_below cpu
 
 unfoldable pub needed_cpu : List ℕ → List (List ℕ) → Result ℕ Wrong
 needed_cpu name fields = cpu_if (field_of name fields >>? number_of 10)
+
+-- one that stops can have
+abbrev pub low_cpu : ℕ → Result ℕ Wrong
+low_cpu cpu = if nat_lt cpu 32 then Ok cpu else Err wrong.Cpu
+
+unfoldable pub needed_low_cpu : List ℕ → List (List ℕ) → Result ℕ Wrong
+needed_low_cpu name fields = needed_cpu name fields >>= low_cpu
 
 -- the function of an event
 unfoldable pub needed_symbol : List (List ℕ) → Result (List ℕ) Wrong

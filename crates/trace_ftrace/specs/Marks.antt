@@ -33,7 +33,7 @@ Keeps (Err why) new made = made ≡ Err why
 
 -- before the first line
 abbrev pub no_lines : KeptValue
-no_lines = record { names = []; marks = []; times = replicate 32 0; first = None; offline = None }
+no_lines = record { names = []; marks = []; times = replicate 512 0; first = None; offline = None }
 
 -- with one more mark, behind all those that are not later
 abbrev pub with_mark : Mark → KeptValue → KeptValue

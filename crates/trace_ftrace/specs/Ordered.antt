@@ -4,6 +4,7 @@ use Rattle.smp_words.specs.FirstFault.{◌>>=◌}
 use Rattle.trace_model.specs.Opened.{opening}
 use Rattle.trace_model.specs.State.{StateValue}
 use Rattle.trace_model.specs.declared.without.Without.{Without}
+use Rattle.trace_judge.specs.Cpus.{every_cpu}
 use Rattle.trace_judge.specs.Head.{no_labels, words_of}
 use Rattle.trace_judge.specs.declared.early_end.EarlyEnd.{EarlyEnd}
 use Rattle.trace_judge.specs.declared.early_end.EarlyEnd.TheVariants as early_end
@@ -11,7 +12,7 @@ use Rattle.trace_judge.specs.declared.verdict.Verdict.{Verdict}
 use Rattle.trace_judge.specs.declared.verdict.Verdict.TheVariants.{Lawful, Broken}
 use Rattle.trace_ftrace.specs.Bounds.{bounds_of}
 use Rattle.trace_ftrace.specs.Placing.{placed}
-use Rattle.trace_ftrace.specs.Verdict.{every_cpu, goes_all}
+use Rattle.trace_ftrace.specs.Verdict.{goes_all}
 use Rattle.trace_ftrace.specs.declared.kept.Mark.{Mark}
 use Rattle.trace_ftrace.specs.declared.placing.Choice.{Choice}
 use Rattle.trace_ftrace.specs.declared.placing.Step.{Step}
@@ -26,7 +27,7 @@ calls_in_order = record { gate = true; interrupts = true; order = false; raises 
 
 -- the state before the first event
 unfoldable pub start_in_order : StateValue
-start_in_order = opening (record { online = every_cpu; keys = 0; sites = 0; without = calls_in_order }) (words_of no_labels)
+start_in_order = opening (record { cpus = 512; online = every_cpu; keys = 0; sites = 0; without = calls_in_order }) (words_of no_labels)
 
 -- these steps are the events that lines tell, each once and each append where it can be, with takes between them
 pub record IsOrder (marks : List Mark) (told : List Told) (steps : List Step) : Type 0 where
@@ -47,12 +48,12 @@ pub record HasRun (marks : List Mark) (told : List Told) (is : List Step → Typ
   pub in_order : IsOrder marks told steps
   pub holds : is steps
 
--- an event of this line has a CPU above 31
+-- an event of this line has a CPU above 511
 abbrev pub IsFault : ℕ → Result (ℕ × StateValue) EarlyEnd → Type 0
 IsFault line (Err (early_end.Fault at cause)) = at ≡ line
 IsFault line _ = ⊥
 
--- why there is no verdict: a CPU above 31, or too many events; nothing is said of memory that runs out, and where no order was made
+-- why there is no verdict: a CPU above 511, or too many events; nothing is said of memory that runs out, and where no order was made
 abbrev pub FailsInOrder : Refusal → List Mark → List Told → Type 0
 FailsInOrder (refusal.Wrong line wrong.Cpu) marks told = HasRun marks told (λ steps. IsFault line (verdict_on steps))
 FailsInOrder (refusal.Wrong line why) marks told = ⊥

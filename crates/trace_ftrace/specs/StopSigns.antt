@@ -3,7 +3,7 @@ use Rattle.std.specs.Prelude.{ℕ, ℤ, pos, negsuc, ◌-◌, Bool, ◌==◌, �
 use Rattle.std.specs.Prelude.{List, Option, Some, None, Result, Ok, Err, codes}
 use Rattle.std.specs.Str.{bytes_eq}
 use Rattle.smp_words.specs.FirstFault.{◌>>=◌}
-use Rattle.trace_ftrace.specs.Fields.{address_of, field_of, needed, needed_address, needed_cpu}
+use Rattle.trace_ftrace.specs.Fields.{address_of, field_of, needed, needed_address, needed_low_cpu}
 use Rattle.trace_ftrace.specs.Numbers.{number_of}
 use Rattle.trace_ftrace.specs.Options.{◌>>?◌}
 use Rattle.trace_ftrace.specs.declared.stop_sign.Opening.{Opening}
@@ -47,7 +47,7 @@ unfoldable pub active_of : List (List ℕ) → Result (Option ℕ) Wrong
 active_of fields = active_in (field_of (codes "cpus") fields) fields
 
 unfoldable pub pair_sign : List (List ℕ) → Result Opening Wrong
-pair_sign fields = needed_cpu (codes "cpu1") fields >>= λ a. needed_cpu (codes "cpu2") fields >>= λ b. Ok (opening.Two a b)
+pair_sign fields = needed_low_cpu (codes "cpu1") fields >>= λ a. needed_low_cpu (codes "cpu2") fields >>= λ b. Ok (opening.Two a b)
 
 -- how a line opens a stop
 unfoldable pub open_sign : List ℕ → List (List ℕ) → Result (Option Opening) Wrong
@@ -55,8 +55,8 @@ open_sign event fields =
     if bytes_eq event (codes "stop_open") then (active_of fields >>= λ bits. Ok (Some (opening.Machine bits)))
     else (if bytes_eq event (codes "inactive_open") then (active_of fields >>= λ bits. Ok (Some (opening.Inactive bits)))
     else (if bytes_eq event (codes "two_open") then (pair_sign fields >>= λ pair. Ok (Some pair))
-    else (if bytes_eq event (codes "one_open") then (needed_cpu (codes "cpu") fields >>= λ cpu. Ok (Some (opening.One cpu)))
-    else (if bytes_eq event (codes "nowait_open") then (needed_cpu (codes "cpu") fields >>= λ cpu. Ok (Some (opening.NoWait cpu)))
+    else (if bytes_eq event (codes "one_open") then (needed_low_cpu (codes "cpu") fields >>= λ cpu. Ok (Some (opening.One cpu)))
+    else (if bytes_eq event (codes "nowait_open") then (needed_low_cpu (codes "cpu") fields >>= λ cpu. Ok (Some (opening.NoWait cpu)))
     else Ok None))))
 
 abbrev pub is_close : List ℕ → Bool
@@ -65,7 +65,7 @@ is_close event =
     || bytes_eq event (codes "inactive_close")
 
 unfoldable pub queue_sign : List (List ℕ) → Result StopSign Wrong
-queue_sign fields = needed_cpu (codes "cpu") fields >>= λ cpu. needed_address (codes "arg") fields >>= λ arg. Ok (stop.Queue cpu arg)
+queue_sign fields = needed_low_cpu (codes "cpu") fields >>= λ cpu. needed_address (codes "arg") fields >>= λ arg. Ok (stop.Queue cpu arg)
 
 unfoldable pub enter_sign : List (List ℕ) → Result StopSign Wrong
 enter_sign fields = needed_address (codes "data") fields >>= λ d. needed_address (codes "fn") fields >>= λ func. Ok (stop.Enter d func)

@@ -1,5 +1,5 @@
 -- The events of stops that marks tell.
-use Rattle.std.specs.Prelude.{ℕ, ℤ, Bool, true, false, if◌then◌else◌, List, [], ◌∷◌, ◌++◌, slice_index_or, slice_set, remove}
+use Rattle.std.specs.Prelude.{ℕ, ℤ, Bool, true, false, if◌then◌else◌, List, [], ◌∷◌, ◌++◌, slice_index_or, slice_set, remove, min}
 use Rattle.std.specs.Prelude.{Option, Some, None, is_some, Result, Ok, Err}
 use Rattle.trace_model.specs.declared.event.Event.TheVariants as event
 use Rattle.trace_model.specs.declared.event.StopEvent.{StopEvent}
@@ -37,7 +37,7 @@ opened_as at p (Some source) t =
     Ok (with_stop at source (stops.Open (task_of p)) (record t { stops = t.stops ++ record { source = source; plan = p; has_begun = false } ∷ [] }))
 
 unfoldable pub opened : Stamp → Plan → TellingValue → Result TellingValue Refusal
-opened at p t = opened_as at p (free_source t.cpus t.stops) t
+opened at p t = opened_as at p (free_source (min t.cpus 32) t.stops) t
 
 -- a task opens a rendezvous of many CPUs while it waits for a stop
 abbrev pub waits_in : ℕ → List OpenStop → Bool

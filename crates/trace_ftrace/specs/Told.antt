@@ -21,11 +21,11 @@ abbrev pub no_records : ℕ → TellingValue
 no_records cpus = record {
   addresses = [];
   told = [];
-  running = replicate 32 None;
+  running = replicate 512 None;
   cpus = cpus;
   stops = [];
-  inside = replicate 32 None;
-  alone = replicate 32 None;
+  inside = replicate 512 None;
+  alone = replicate 512 None;
 }
 
 -- the place of an address among these, of which the first has this place
@@ -95,7 +95,7 @@ sign_told m sign.Passed behind t = Ok t
 sign_told m (sign.Begin address) behind t = Ok (begun m address t)
 sign_told m (sign.End address) behind t = Ok (ended m (known address t) t)
 sign_told m sign.EndLast behind t = Ok (ended m (slice_index_or t.running m.at.cpu None) t)
-sign_told m (sign.Stop s) behind t = stop_told m.at s behind t
+sign_told m (sign.Stop s) behind t = if nat_lt m.at.cpu 32 then stop_told m.at s behind t else Err (refusal.Wrong m.at.line wrong.Cpu)
 
 unfoldable pub mark_told : Mark → List Mark → TellingValue → Result TellingValue Refusal
 mark_told m behind t = sign_told m m.sign behind t

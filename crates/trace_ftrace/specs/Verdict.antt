@@ -1,12 +1,11 @@
 -- The verdict on events.
-use Rattle.std.specs.Prelude.{◌≡◌, ℕ, true, nat_lt, if◌then◌else◌, List, [], ◌∷◌, length, Result, Ok, Err, codes}
-use Rattle.smp_mask.specs.Reading.{mask_of_text}
+use Rattle.std.specs.Prelude.{◌≡◌, ℕ, true, nat_lt, if◌then◌else◌, List, [], ◌∷◌, length, Result, Ok, Err}
 use Rattle.smp_mask.specs.declared.error.Cause.TheVariants.{Range}
-use Rattle.smp_mask.specs.declared.error.SmpError.{SmpError}
 use Rattle.smp_words.specs.FirstFault.{◌>>=◌}
 use Rattle.trace_model.specs.Opened.{opening}
 use Rattle.trace_model.specs.State.{StateValue}
 use Rattle.trace_model.specs.declared.without.Without.{Without}
+use Rattle.trace_judge.specs.Cpus.{every_cpu}
 use Rattle.trace_judge.specs.Head.{no_labels, words_of}
 use Rattle.trace_judge.specs.Judged.{told_goes}
 use Rattle.trace_judge.specs.declared.early_end.EarlyEnd.{EarlyEnd}
@@ -18,25 +17,17 @@ use Rattle.trace_ftrace.specs.declared.wrong.Refusal.{Refusal}
 use Rattle.trace_ftrace.specs.declared.wrong.Refusal.TheVariants as refusal
 use Rattle.trace_ftrace.specs.declared.wrong.Wrong.TheVariants as wrong
 
--- all CPUs
-abbrev pub or_none : Result ℕ SmpError → ℕ
-or_none (Ok mask) = mask
-or_none (Err why) = 0
-
-unfoldable pub every_cpu : ℕ
-every_cpu = or_none (mask_of_text 32 (codes "0-31"))
-
 -- all but calls is left out
 abbrev pub calls_alone : Without
 calls_alone = record { gate = true; interrupts = true; order = true; raises = true; switches = true; unlocks = true }
 
 -- the state before the first event
 unfoldable pub start : StateValue
-start = opening (record { online = every_cpu; keys = 0; sites = 0; without = calls_alone }) (words_of no_labels)
+start = opening (record { cpus = 512; online = every_cpu; keys = 0; sites = 0; without = calls_alone }) (words_of no_labels)
 
 -- the state after one event
 unfoldable pub goes_one : Told → StateValue → Result StateValue EarlyEnd
-goes_one x s = if nat_lt x.cpu 32 then told_goes x.line x.cpu x.event s else Err (early_end.Fault x.line Range)
+goes_one x s = if nat_lt x.cpu 512 then told_goes x.line x.cpu x.event s else Err (early_end.Fault x.line Range)
 
 -- the state after events
 abbrev pub goes_all : List Told → StateValue → Result StateValue EarlyEnd

@@ -148,7 +148,7 @@ fn hides_order(inside: u32, mark: &Mark) -> bool
 pub(crate) fn shows_order(marks: &[Mark]) -> bool
     ensures { result ≡ shows_order marks.now }
 {
-    let mut insides = [0; 32];
+    let mut insides = [0; 512];
     let mut rest = marks;
     while let [mark, after @ ..] = rest {
         let inside = at(&insides, mark.at.cpu, 0);

@@ -310,7 +310,7 @@ pub(crate) fn choose<A: Allocator + Copy>(
         moments,
         takes: Vec::new(alloc),
     };
-    for cpu in 0..32 {
+    for cpu in 0..512 {
         choose_cpu(alloc, &mut chosen, cpu, runs.as_slice())?;
     }
     chosen

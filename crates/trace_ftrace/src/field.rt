@@ -1,7 +1,7 @@
 //! The fields of an event, by their names.
 
 ghost use Rattle.std.specs.Prelude.{◌≡◌, ◌<◌, map, MatchOption, MatchResult, IfOk};
-ghost use Rattle.trace_ftrace.specs.Fields.{address_of, cpu_below, field_of, needed_address, needed_cpu, needed_symbol};
+ghost use Rattle.trace_ftrace.specs.Fields.{address_of, cpu_below, field_of, low_cpu, needed_address, needed_cpu, needed_low_cpu, needed_symbol};
 ghost use Rattle.trace_ftrace.specs.Fields.{past_prefix, symbol_of, value_of, without_comma};
 
 use crate::number::number;
@@ -100,7 +100,7 @@ pub(crate) fn needed_address(name: &[u8], fields: &[&[u8]]) -> Result<u64, Wrong
 pub(crate) fn cpu_below(cpu: u64) -> Result<u32, Wrong>
     ensures { result ≡ cpu_below cpu }
 {
-    if cpu < 32 {
+    if cpu < 512 {
         Ok(cpu as u32)
     } else {
         Err(Wrong::Cpu)
@@ -119,6 +119,22 @@ pub(crate) fn needed_cpu(name: &[u8], fields: &[&[u8]]) -> Result<u32, Wrong>
         Some(cpu) => cpu_below(cpu),
         None => Err(Wrong::Field),
     }
+}
+
+/// A CPU that stops can have.
+pub(crate) fn low_cpu(cpu: u32) -> Result<u32, Wrong>
+    ensures { result ≡ low_cpu cpu }
+{
+    if cpu < 32 { Ok(cpu) } else { Err(Wrong::Cpu) }
+}
+
+/// The CPU of a stop, in the field of this name.
+#[tactic(auto, unfolding(crate::specs::Fields::needed_low_cpu))]
+pub(crate) fn needed_low_cpu(name: &[u8], fields: &[&[u8]]) -> Result<u32, Wrong>
+    ensures { result ≡ needed_low_cpu name.now (map (λ f. f.now) fields.now) }
+{
+    let cpu = needed_cpu(name, fields)?;
+    low_cpu(cpu)
 }
 
 /// The function in the field `func`.

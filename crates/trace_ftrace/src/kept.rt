@@ -33,7 +33,7 @@ pub struct Kept<A: Allocator> {
     /// What the lines show, in the order of their times, and else of the lines.
     pub marks: Vec<Mark, A>,
     /// The time of the last line of each CPU.
-    pub(crate) times: [u128; 32],
+    pub(crate) times: [u128; 512],
     /// The time of the first line that tells one.
     pub(crate) first: Option<u128>,
     /// The first line that shows that a CPU has gone offline.

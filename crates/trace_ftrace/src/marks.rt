@@ -97,7 +97,7 @@ fn keep_mark<A: Allocator + Copy>(
 
 /// Notes the time of a line, and answers that of the first.
 fn note_time<A: Allocator>(kept: &mut Kept<A>, cpu: u32, time: u128) -> u128
-    requires { cpu < 32 }
+    requires { cpu < 512 }
     ensures new { kept_value kept.new ≡ timed cpu time (kept_value kept.old) }
     ensures first { result ≡ first_time kept.old.first time }
 {
@@ -157,7 +157,7 @@ fn line_of_cpu<A: Allocator + Copy>(
     at: Stamp,
     heading: &Heading<'_, '_>,
 ) -> Result<(), Refusal>
-    requires { at.cpu < 32 }
+    requires { at.cpu < 512 }
     ensures { Keeps result (kept_value kept.new) (line_of_cpu skip at (heading_value heading.now) (kept_value kept.old)) }
 {
     if at.time < kept.times[at.cpu as usize] {
@@ -341,7 +341,7 @@ pub(crate) fn no_lines<A: Allocator + Copy>(alloc: A) -> Kept<A>
     Kept {
         names: Vec::new(alloc),
         marks: Vec::new(alloc),
-        times: [0; 32],
+        times: [0; 512],
         first: None,
         offline: None,
     }

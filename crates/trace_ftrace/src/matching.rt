@@ -111,9 +111,9 @@ struct Matching<A: Allocator> {
     /// The calls that have begun.
     runs: Vec<Run, A>,
     /// Which of these each CPU runs.
-    open: [Option<usize>; 32],
+    open: [Option<usize>; 512],
     /// The last line of each CPU behind which its take has to be.
-    floors: [Moment; 32],
+    floors: [Moment; 512],
     /// How many lines have been passed.
     passed: usize,
 }
@@ -214,8 +214,8 @@ pub(crate) fn runs_of<A: Allocator + Copy>(
     let mut matching = Matching {
         waiting: Vec::new(alloc),
         runs: Vec::new(alloc),
-        open: [None; 32],
-        floors: [START; 32],
+        open: [None; 512],
+        floors: [START; 512],
         passed: 0,
     };
     let mut queued = 0usize;

@@ -2,7 +2,7 @@
 
 ghost use Rattle.std.specs.Prelude.{◌≡◌, map, IfOk, MatchResult};
 ghost use Rattle.trace_ftrace.specs.Ordered.{calls_in_order, start_in_order, FailsInOrder, IsLawful, IsOrder, RulesInOrder};
-ghost use Rattle.trace_ftrace.specs.Verdict.{every_cpu, goes_all};
+ghost use Rattle.trace_ftrace.specs.Verdict.{goes_all};
 ghost use Rattle.trace_judge.specs.Judged.{Lines};
 
 use crate::bounds::bounds_of;
@@ -10,10 +10,11 @@ use crate::choosing::choose;
 use crate::kept::Mark;
 use crate::placing::{Misplaced, Step, place_all};
 use crate::told::Told;
-use crate::verdict::{MOST_KERNEL_EVENTS, every_cpu, goes_one, no_words};
+use crate::verdict::{MOST_KERNEL_EVENTS, goes_one, no_words};
 use crate::wrong::{Refusal, Wrong};
 use std::alloc::{AllocError, Allocator};
 use trace_judge::Verdict;
+use trace_judge::cpus_line::every_cpu;
 use trace_judge::early_end::EarlyEnd;
 use trace_model::{Setting, State, Without};
 
@@ -37,6 +38,7 @@ fn open_in_order<A: Allocator + Copy>(alloc: A) -> Result<State<A>, AllocError>
     ensures { IfOk result (λ s. s ≡ start_in_order) }
 {
     let setting = Setting {
+        cpus: 512,
         online: every_cpu(),
         keys: 0,
         sites: 0,
@@ -99,7 +101,7 @@ fn lawful<A: Allocator>(count: usize, state: State<A>) -> Result<Verdict<A>, Ref
 /// The verdict on events in an order in which each append is where it can be: whether some run of the model has them so, and else
 /// the first that none has, and the first of its premises that does not hold.
 ///
-/// Refusals: `TooLong`; `Wrong` where an event's CPU is above 31; `Unplaced`, which was never seen; `NoMemory`.
+/// Refusals: `TooLong`; `Wrong` where an event's CPU is above 511; `Unplaced`, which was never seen; `NoMemory`.
 pub fn judge_in_order<A: Allocator + Copy>(
     alloc: A,
     marks: &[Mark],

@@ -4,7 +4,7 @@ ghost use Rattle.std.specs.Prelude.{◌≡◌, map};
 ghost use Rattle.trace_ftrace.specs.StopSigns.{active_of, answer_of, answer_sign, enter_sign, is_close, needed_answer, needed_phase};
 ghost use Rattle.trace_ftrace.specs.StopSigns.{needed_work, open_sign, pair_sign, phase_of, queue_sign, step_sign, stop_sign};
 
-use crate::field::{address, field, needed_address, needed_cpu};
+use crate::field::{address, field, needed_address, needed_low_cpu};
 use crate::number::number;
 use crate::wrong::Wrong;
 use smp_script::line::is_word;
@@ -132,8 +132,8 @@ fn active_of(fields: &[&[u8]]) -> Result<Option<u64>, Wrong>
 fn pair_sign(fields: &[&[u8]]) -> Result<Opening, Wrong>
     ensures { result ≡ pair_sign (map (λ f. f.now) fields.now) }
 {
-    let first = needed_cpu(b"cpu1", fields)?;
-    let second = needed_cpu(b"cpu2", fields)?;
+    let first = needed_low_cpu(b"cpu1", fields)?;
+    let second = needed_low_cpu(b"cpu2", fields)?;
     Ok(Opening::Two(first, second))
 }
 
@@ -155,11 +155,11 @@ fn open_sign(event: &[u8], fields: &[&[u8]]) -> Result<Option<Opening>, Wrong>
         return Ok(Some(pair));
     }
     if is_word(event, b"one_open") {
-        let cpu = needed_cpu(b"cpu", fields)?;
+        let cpu = needed_low_cpu(b"cpu", fields)?;
         return Ok(Some(Opening::One(cpu)));
     }
     if is_word(event, b"nowait_open") {
-        let cpu = needed_cpu(b"cpu", fields)?;
+        let cpu = needed_low_cpu(b"cpu", fields)?;
         return Ok(Some(Opening::NoWait(cpu)));
     }
     Ok(None)
@@ -180,7 +180,7 @@ fn is_close(event: &[u8]) -> bool
 fn queue_sign(fields: &[&[u8]]) -> Result<StopSign, Wrong>
     ensures { result ≡ queue_sign (map (λ f. f.now) fields.now) }
 {
-    let cpu = needed_cpu(b"cpu", fields)?;
+    let cpu = needed_low_cpu(b"cpu", fields)?;
     let arg = needed_address(b"arg", fields)?;
     Ok(StopSign::Queue(cpu, arg))
 }

@@ -60,7 +60,7 @@ fn open_stop<A: Allocator>(
     ensures made { Keeps result (telling_value telling.new) (opened stamp plan (telling_value telling.old)) }
     ensures same { telling.new.addresses ≡ telling.old.addresses }
 {
-    let Some(source) = free_source(telling.cpus, telling.stops.as_slice()) else {
+    let Some(source) = free_source(telling.cpus.min(32), telling.stops.as_slice()) else {
         return Err(Refusal::Wrong(stamp.line, Wrong::Stops));
     };
     let stop = OpenStop {

@@ -113,7 +113,7 @@ fn source_of<'a, A: Allocator>(
 
 /// The verdict on the events that what was read of a text tells. Where order is judged, it is that on an order of them.
 ///
-/// Refusals: `TooLong`; `Wrong` where an event's CPU is above 31; `Unplaced`, which was never seen; `NoMemory`.
+/// Refusals: `TooLong`; `Wrong` where an event's CPU is above 511; `Unplaced`, which was never seen; `NoMemory`.
 pub fn verdict_asked<A: Allocator + Copy>(
     alloc: A,
     order: bool,

@@ -35,15 +35,15 @@ pub struct Telling<A: Allocator> {
     /// The events, in the order of their lines.
     pub told: Vec<Told, A>,
     /// The record whose call each CPU runs.
-    pub(crate) running: [Option<u16>; 32],
+    pub(crate) running: [Option<u16>; 512],
     /// How many CPUs there are, and so how many stops can be open.
     pub(crate) cpus: u32,
     /// The stops that are open, as they were opened.
     pub(crate) stops: Vec<OpenStop, A>,
     /// The source of the rendezvous in which each CPU is.
-    pub(crate) inside: [Option<u32>; 32],
+    pub(crate) inside: [Option<u32>; 512],
     /// The source of the stop of each CPU alone that it runs.
-    pub(crate) alone: [Option<u32>; 32],
+    pub(crate) alone: [Option<u32>; 512],
 }
 
 /// The place of an address among these.
@@ -212,7 +212,8 @@ fn tell_mark<A: Allocator>(
             let ran = at(&telling.running, mark.at.cpu, None);
             tell_end(telling, mark, ran)
         }
-        Sign::Stop(sign) => tell_stop_mark(telling, mark.at, sign, behind),
+        Sign::Stop(sign) if mark.at.cpu < 32 => tell_stop_mark(telling, mark.at, sign, behind),
+        Sign::Stop(_) => Err(Refusal::Wrong(mark.at.line, Wrong::Cpu)),
     }
 }
 
@@ -262,11 +263,11 @@ pub(crate) fn tell_marks<A: Allocator + Copy>(
     let mut telling = Telling {
         addresses: Vec::new(alloc),
         told: Vec::new(alloc),
-        running: [None; 32],
+        running: [None; 512],
         cpus: cpus_of(marks),
         stops: Vec::new(alloc),
-        inside: [None; 32],
-        alone: [None; 32],
+        inside: [None; 512],
+        alone: [None; 512],
     };
     let mut rest = marks;
     while let [mark, after @ ..] = rest {

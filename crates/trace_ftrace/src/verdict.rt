@@ -3,7 +3,7 @@
 ghost use Rattle.std.specs.Prelude.{◌≡◌, Ok, Err, IfOk};
 ghost use Rattle.trace_ftrace.specs.KeptView.{kept_value};
 ghost use Rattle.trace_ftrace.specs.Reading.{reading_of, told_by, Reads};
-ghost use Rattle.trace_ftrace.specs.Verdict.{calls_alone, every_cpu, goes_all, goes_one, ruling_of, start, Rules};
+ghost use Rattle.trace_ftrace.specs.Verdict.{calls_alone, goes_all, goes_one, ruling_of, start, Rules};
 ghost use Rattle.trace_judge.specs.Head.{no_labels, words_of};
 ghost use Rattle.trace_judge.specs.Judged.{early_end, Lines};
 
@@ -12,9 +12,10 @@ use crate::marks::marks;
 use crate::told::{Telling, Told, tell_marks};
 use crate::wrong::{Refusal, Wrong};
 use smp_labels::{LabelMap, LabelWords};
-use smp_mask::{Cause, CpuMask};
+use smp_mask::Cause;
 use std::alloc::{AllocError, Allocator};
 use trace_judge::Verdict;
+use trace_judge::cpus_line::every_cpu;
 use trace_judge::early_end::EarlyEnd;
 use trace_model::{Halt, Setting, State, Without};
 
@@ -30,17 +31,6 @@ pub const MOST_KERNEL_BYTES: u32 = 536_870_912;
 
 /// The most events.
 pub const MOST_KERNEL_EVENTS: u32 = 1_000_000;
-
-/// All CPUs.
-#[tactic(auto, unfolding(crate::specs::Verdict::every_cpu), using(smp_mask::proofs::Sets::none_empty))]
-pub(crate) fn every_cpu() -> CpuMask
-    ensures { result ≡ every_cpu }
-{
-    match CpuMask::parse(b"0-31") {
-        Ok(cpus) => cpus,
-        Err(_) => CpuMask::empty(),
-    }
-}
 
 /// What is left out of a text: all but the calls.
 fn without() -> Without
@@ -70,6 +60,7 @@ pub fn open<A: Allocator + Copy>(alloc: A) -> Result<State<A>, AllocError>
     ensures { IfOk result (λ s. s ≡ start) }
 {
     let setting = Setting {
+        cpus: 512,
         online: every_cpu(),
         keys: 0,
         sites: 0,
@@ -97,7 +88,7 @@ pub fn goes_one<A: Allocator + Copy>(
 ) -> Result<(), EarlyEnd>
     ensures { Lines result state.new (goes_one told.now state.old) }
 {
-    if told.cpu >= 32 {
+    if told.cpu >= 512 {
         return Err(EarlyEnd::Fault(told.line, Cause::Range));
     }
     match state.event(alloc, told.cpu, told.event) {
@@ -128,7 +119,7 @@ fn goes_all<A: Allocator + Copy>(
 /// The verdict on events: whether some run of the model has them, and else the first that none has, and the first of its
 /// premises that does not hold.
 ///
-/// Refusals: `TooLong`; `Wrong` where an event's CPU is above 31; `NoMemory`.
+/// Refusals: `TooLong`; `Wrong` where an event's CPU is above 511; `NoMemory`.
 #[tactic(auto, unfolding(crate::specs::Verdict::ruling_of))]
 pub fn judge_told<A: Allocator + Copy>(alloc: A, told: &[Told]) -> Result<Verdict<A>, Refusal>
     ensures { Rules result (ruling_of told.now) }

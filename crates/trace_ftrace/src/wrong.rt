@@ -11,13 +11,13 @@ pub enum Wrong {
     Time,
     /// A field is missing or is no number.
     Field,
-    /// It names a CPU from 32 on.
+    /// It names a CPU from 512 on, or it is of a stop and names one from 32 on.
     Cpu,
     /// It shows the class of a call, and no line before it queues that call.
     Class,
     /// It has one record more than there can be.
     Records,
-    /// It opens one stop more than there are CPUs.
+    /// It opens one stop more than there are CPUs, of 32 at most.
     Stops,
     /// It shows that a CPU has gone offline, and an event is refused that this may have caused.
     Offline,

@@ -12,7 +12,7 @@ has_event cpu events = list_any (λ x. x.cpu == cpu) events
 abbrev pub with_lane : Bool → ℕ → List Lane → List Lane
 with_lane has cpu lanes = if has then lanes ++ record { cpu = cpu; top = 62 * length lanes; busy = true } ∷ [] else lanes
 
-abbrev pub lanes_below : List Told → ℕ → List Lane
+unfoldable pub lanes_below : List Told → ℕ → List Lane
 lanes_below events zero = []
 lanes_below events (suc n) = with_lane (has_event n events) n (lanes_below events n)
 

@@ -98,7 +98,7 @@ body_text n low lanes mark events =
 -- the picture of events, of which one is marked
 unfoldable pub picture_text : NamesValue → ℕ → List Told → List ℕ
 picture_text n mark events =
-    let lanes = lanes_below events 32 in
+    let lanes = lanes_below events 512 in
     front_text (low_of lanes) lanes mark events ++ body_text n (low_of lanes) lanes mark events ++ codes "</svg>\n"
 
 -- the picture of what was read, around a line

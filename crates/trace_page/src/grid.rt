@@ -17,7 +17,7 @@ pub(crate) const COLUMNS: u32 = 30;
 pub(crate) struct Grid<'a> {
     pub(crate) lanes: &'a [Lane],
     pub(crate) low: u32,
-    ghost small: { low ≤ 1922 },
+    ghost small: { low ≤ 31682 },
 }
 
 /// What a picture is drawn with: memory, the kernel's names, and where things are.
@@ -36,12 +36,13 @@ fn has_event(events: &[Told], cpu: u32) -> bool
 }
 
 /// A lane for each CPU that has an event, each below the one before it.
+#[tactic(auto, unfolding(crate::specs::Grids::lanes_below))]
 pub(crate) fn lanes_of<A: Allocator>(alloc: A, events: &[Told]) -> Result<Vec<Lane, A>, AllocError>
-    ensures lanes { IfOk result (λ lanes. lanes.items ≡ lanes_below events.now 32) }
-    ensures few { IfOk result (λ lanes. length lanes.items ≤ 32) }
+    ensures lanes { IfOk result (λ lanes. lanes.items ≡ lanes_below events.now 512) }
+    ensures few { IfOk result (λ lanes. length lanes.items ≤ 512) }
 {
     let mut found = Vec::new(alloc);
-    for cpu in 0..32u32 {
+    for cpu in 0..512u32 {
         if has_event(events, cpu) {
             let top = 62 * found.len() as u32;
             found.push(Lane {
@@ -57,7 +58,7 @@ pub(crate) fn lanes_of<A: Allocator>(alloc: A, events: &[Told]) -> Result<Vec<La
 impl<'a> Grid<'a> {
     /// The grid of these lanes.
     pub(crate) fn new(lanes: &'a [Lane]) -> Grid<'a>
-        requires { length lanes.now ≤ 32 }
+        requires { length lanes.now ≤ 512 }
         ensures lanes { result.lanes ≡ lanes.entry }
         ensures low { result.low ≡ low_of lanes.now }
     {
