@@ -2,6 +2,7 @@ mod explained;
 mod kernel_json;
 mod kernel_offline;
 mod limits;
+mod many_cpus;
 mod pages;
 mod refusing;
 mod replays;

@@ -5,6 +5,7 @@ mod Orders
 mod Printing
 mod ReadFails
 mod ReadPieces
+mod RecordPlaces
 mod Steps
 mod ThinLines
 mod ThinPrinting

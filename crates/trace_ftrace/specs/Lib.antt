@@ -23,6 +23,7 @@ pub mod Placing
 pub mod PlacingView
 pub mod Print
 pub mod Reading
+pub mod Records
 pub mod Signs
 pub mod SourceView
 pub mod StopSigns

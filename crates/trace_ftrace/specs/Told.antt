@@ -6,6 +6,7 @@ use Rattle.smp_words.specs.declared.call.Class.{Class}
 use Rattle.trace_model.specs.declared.event.CallEvent.{CallEvent}
 use Rattle.trace_model.specs.declared.event.CallEvent.TheVariants as calls
 use Rattle.trace_model.specs.declared.event.Event.TheVariants as event
+use Rattle.trace_ftrace.specs.Records.{record_place}
 use Rattle.trace_ftrace.specs.Signs.{class_of}
 use Rattle.trace_ftrace.specs.StopTold.{stop_told}
 use Rattle.trace_ftrace.specs.Telling.{TellingValue, with_event}
@@ -27,11 +28,6 @@ no_records cpus = record {
   inside = replicate 512 None;
   alone = replicate 512 None;
 }
-
--- the place of an address among these, of which the first has this place
-abbrev pub record_place : ℕ → ℕ → List ℕ → Option ℕ
-record_place i address [] = None
-record_place i address (a ∷ rest) = if a == address then Some i else record_place (i + 1) address rest
 
 -- the number of a record, and what is told with it having one
 abbrev pub recorded_at : ℕ → Option ℕ → ℕ → TellingValue → Result (ℕ × TellingValue) Refusal

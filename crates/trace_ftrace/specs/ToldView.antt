@@ -4,7 +4,7 @@ use Rattle.trace_ftrace.specs.Telling.{TellingValue}
 
 abbrev pub telling_value : {A : Type 0} → Telling A → TellingValue
 telling_value t = record {
-  addresses = t.addresses.items;
+  addresses = t.addresses;
   told = t.told.items;
   running = t.running;
   cpus = t.cpus;

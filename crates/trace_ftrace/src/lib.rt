@@ -5,6 +5,7 @@
 //! - `names`: Why an event is none, by the kernel's names; `counts`: what of the lines is not judged; `waits`: the calls that wait for long.
 //! - `print`: The trace that a text tells; `json`: its events in the trace-event format.
 //! - `laws`: What is printed of a text, for a reader of it.
+//! - `records`: The addresses of records, by their numbers.
 //! - `told`: The events that marks tell; `stop_told`: those of stops; `stops`: the stops that are open; `per_cpu`: what each CPU has.
 //! - `ordered`: The verdict with the order of appends; `bounds`, `moment`: where an append can be; `placing`: events in such an order.
 //! - `choosing`: The order that is chosen; `matching`: the appends and the calls that begin; `batches`: which calls a take has taken.
@@ -35,6 +36,7 @@ mod per_cpu;
 pub mod pieces;
 pub mod placing;
 pub mod print;
+pub mod records;
 pub mod sign;
 pub mod stop_sign;
 mod stop_told;

@@ -88,7 +88,7 @@ fn source_of<'a, A: Allocator>(
 ) -> Source<'a>
     ensures { source_value result ≡ record {
       text = text.now;
-      names = record { addresses = reading.now.telling.addresses.items; functions = map (λ f. f.now) functions.now };
+      names = record { addresses = reading.now.telling.addresses; functions = map (λ f. f.now) functions.now };
       marks = reading.now.kept.marks.items;
       offline = reading.now.kept.offline;
       told = reading.now.telling.told.items;

@@ -3,12 +3,13 @@
 ghost use Rattle.std.specs.Prelude.{◌≡◌, ◌≤◌, ◌<◌, Ok, Err, length, MatchResult, IfSome};
 ghost use Rattle.trace_ftrace.specs.Marks.{Keeps};
 ghost use Rattle.trace_ftrace.specs.Told.{above, begun, cpus_of, ended, known, mark_told, marks_told, more_cpus, no_records};
-ghost use Rattle.trace_ftrace.specs.Told.{queued, record_place, recorded, with_told, Numbers};
+ghost use Rattle.trace_ftrace.specs.Told.{queued, recorded, with_told, Numbers};
 ghost use Rattle.trace_ftrace.specs.Telling.{with_event};
 ghost use Rattle.trace_ftrace.specs.ToldView.{telling_value};
 
 use crate::kept::{Mark, Stamp};
 use crate::per_cpu::{at, put};
+use crate::records::Records;
 use crate::sign::{Sign, class_of};
 use crate::stop_told::tell_stop_mark;
 use crate::stops::OpenStop;
@@ -31,7 +32,7 @@ pub struct Told {
 #[derive(Drop)]
 pub struct Telling<A: Allocator> {
     /// The addresses of the records, by their numbers.
-    pub addresses: Vec<u64, A>,
+    pub addresses: Records<A>,
     /// The events, in the order of their lines.
     pub told: Vec<Told, A>,
     /// The record whose call each CPU runs.
@@ -46,34 +47,21 @@ pub struct Telling<A: Allocator> {
     pub(crate) alone: [Option<u32>; 512],
 }
 
-/// The place of an address among these.
-fn record_place(addresses: &[u64], address: u64) -> Option<usize>
-    ensures place { result ≡ record_place 0 address addresses.now }
-    ensures within { IfSome result (λ i. i < length addresses.now) }
-{
-    let mut place = 0;
-    let mut rest = addresses;
-    while let [first, after @ ..] = rest {
-        if *first == address {
-            return Some(place);
-        }
-        place += 1;
-        rest = after;
-    }
-    None
-}
-
 /// The number of the record at this address, which has one from here on.
 #[tactic(auto, unfolding(crate::specs::Told::recorded))]
-fn recorded<A: Allocator>(telling: &mut Telling<A>, line: u32, address: u64) -> Result<u16, Refusal>
-    requires { length telling.old.addresses.items ≤ 65536 }
+fn recorded<A: Allocator + Copy>(
+    telling: &mut Telling<A>,
+    line: u32,
+    address: u64,
+) -> Result<u16, Refusal>
+    requires { length telling.old.addresses ≤ 65536 }
     ensures made { Numbers result (telling_value telling.new) (recorded line address (telling_value telling.old)) }
-    ensures few { length telling.new.addresses.items ≤ 65536 }
+    ensures few { length telling.new.addresses ≤ 65536 }
 {
-    if let Some(place) = record_place(telling.addresses.as_slice(), address) {
+    if let Some(place) = telling.addresses.place(address) {
         return Ok(place as u16);
     }
-    let count = telling.addresses.len();
+    let count = telling.addresses.as_slice().len();
     if count >= 65536 {
         return Err(Refusal::Wrong(line, Wrong::Records));
     }
@@ -120,16 +108,16 @@ fn tell_call<A: Allocator>(
 
 /// Tells that a call joins a queue.
 #[tactic(auto, unfolding(crate::specs::Told::queued))]
-fn tell_queue<A: Allocator>(
+fn tell_queue<A: Allocator + Copy>(
     telling: &mut Telling<A>,
     mark: &Mark,
     to: u32,
     address: u64,
     class: Class,
 ) -> Result<(), Refusal>
-    requires { length telling.old.addresses.items ≤ 65536 }
+    requires { length telling.old.addresses ≤ 65536 }
     ensures made { Keeps result (telling_value telling.new) (queued mark.now to address class (telling_value telling.old)) }
-    ensures few { length telling.new.addresses.items ≤ 65536 }
+    ensures few { length telling.new.addresses ≤ 65536 }
 {
     let id = match recorded(telling, mark.at.line, address) {
         Ok(id) => id,
@@ -141,10 +129,10 @@ fn tell_queue<A: Allocator>(
 /// The number of the record at this address, where it has been queued before.
 #[tactic(auto, unfolding(crate::specs::Told::known))]
 fn known<A: Allocator>(telling: &Telling<A>, address: u64) -> Option<u16>
-    requires { length telling.now.addresses.items ≤ 65536 }
+    requires { length telling.now.addresses ≤ 65536 }
     ensures { result ≡ known address (telling_value telling.now) }
 {
-    match record_place(telling.addresses.as_slice(), address) {
+    match telling.addresses.place(address) {
         Some(place) => Some(place as u16),
         None => None,
     }
@@ -157,7 +145,7 @@ fn tell_begin<A: Allocator>(
     mark: &Mark,
     address: u64,
 ) -> Result<(), Refusal>
-    requires { length telling.old.addresses.items ≤ 65536 }
+    requires { length telling.old.addresses ≤ 65536 }
     ensures made { Keeps result (telling_value telling.new) (Ok (begun mark.now address (telling_value telling.old))) }
     ensures same { telling.new.addresses ≡ telling.old.addresses }
 {
@@ -188,14 +176,14 @@ fn tell_end<A: Allocator>(
 /// Tells the events of a mark, with the marks behind it; none of a direct call, of what is no call, and of a record that was
 /// queued before the first line.
 #[tactic(auto, unfolding(crate::specs::Told::mark_told))]
-fn tell_mark<A: Allocator>(
+fn tell_mark<A: Allocator + Copy>(
     telling: &mut Telling<A>,
     mark: &Mark,
     behind: &[Mark],
 ) -> Result<(), Refusal>
-    requires { length telling.old.addresses.items ≤ 65536 }
+    requires { length telling.old.addresses ≤ 65536 }
     ensures made { Keeps result (telling_value telling.new) (mark_told mark.now behind.now (telling_value telling.old)) }
-    ensures few { length telling.new.addresses.items ≤ 65536 }
+    ensures few { length telling.new.addresses ≤ 65536 }
 {
     match mark.sign {
         Sign::Queue(to, address, sort, _) => match class_of(sort) {
@@ -261,7 +249,7 @@ pub(crate) fn tell_marks<A: Allocator + Copy>(
         MatchResult result (λ t. made ≡ Ok (telling_value t)) (λ why. Keeps (Err why) (no_records 0) made) }
 {
     let mut telling = Telling {
-        addresses: Vec::new(alloc),
+        addresses: Records::new(alloc),
         told: Vec::new(alloc),
         running: [None; 512],
         cpus: cpus_of(marks),

@@ -5,7 +5,7 @@ use Rattle.trace_ftrace.proofs.told.tell_marks.Given as goal
 
 abbrev pub invariant-loop-rest : goal.invariant-loop-rest
 invariant-loop-rest g l = (marks_told l.rest (telling_value l.telling) ≡ marks_told l.fn.marks (no_records (cpus_of 0 l.fn.marks)))
-    × (length l.telling.addresses.items ≤ 65536)
+    × (length l.telling.addresses ≤ 65536)
 
 abbrev pub decreases-loop-rest : goal.decreases-loop-rest
 decreases-loop-rest g l = length l.rest
