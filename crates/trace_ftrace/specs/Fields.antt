@@ -1,6 +1,7 @@
 -- The fields of an event, by their names.
 use Rattle.std.specs.Prelude.{ℕ, nat_lt, ◌==◌, ◌&&◌, ◌||◌, if◌then◌else◌, List, [], ◌∷◌, Option, Some, None, Result, Ok, Err, codes}
 use Rattle.std.specs.Str.{bytes_eq}
+use Rattle.smp_words.specs.FirstFault.{◌>>=◌}
 use Rattle.smp_script.specs.Lines.{parts_of}
 use Rattle.trace_ftrace.specs.Numbers.{number_of}
 use Rattle.trace_ftrace.specs.Options.{◌>>?◌, first_of}

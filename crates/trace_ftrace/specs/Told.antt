@@ -18,7 +18,7 @@ use Rattle.trace_ftrace.specs.declared.wrong.Refusal.TheVariants as refusal
 use Rattle.trace_ftrace.specs.declared.wrong.Wrong.TheVariants as wrong
 
 -- before the first mark, where there are so many CPUs
-abbrev pub no_records : ℕ → TellingValue
+unfoldable pub no_records : ℕ → TellingValue
 no_records cpus = record {
   addresses = [];
   told = [];

@@ -1,6 +1,6 @@
 //! The addresses of records, by their numbers, and the number of each address.
 
-ghost use Rattle.std.specs.Prelude.{◌≡◌, ◌<◌, ◌++◌, ◌∷◌, [], length, None, IfSome, OnOk};
+ghost use Rattle.std.specs.Prelude.{◌≡◌, ◌<◌, ◌++◌, ◌∷◌, [], length, None, IfErr, IfSome, OnOk};
 ghost use Rattle.trace_ftrace.specs.Records.{record_place};
 
 use std::alloc::{AllocError, Allocator};
@@ -58,7 +58,8 @@ impl<A: Allocator + Copy> Records<A> {
     /// The record at an address that has no number gets the next one. E6 where a growth is refused: nothing is changed.
     pub(crate) fn push(&mut self, address: u64) -> Result<(), AllocError>
         requires { record_place 0 address self.old ≡ None }
-        ensures { OnOk result (self.new ≡ self.old ++ address ∷ []) }
+        ensures joined { OnOk result (self.new ≡ self.old ++ address ∷ []) }
+        ensures same { IfErr result (λ _. self.new ≡ self.old) }
     {
         let number = self.list.as_slice().len();
         if self.list.push(address).is_err() {

@@ -241,6 +241,7 @@ fn cpus_of(marks: &[Mark]) -> u32
 }
 
 /// The events that marks tell.
+#[tactic(auto, unfolding(crate::specs::Told::no_records))]
 pub(crate) fn tell_marks<A: Allocator + Copy>(
     alloc: A,
     marks: &[Mark],
