@@ -50,12 +50,13 @@ pub use Rattle.trace_model.specs.Cpu.{slipped_front, taken, unlocked, unlocked_f
 pub use Rattle.trace_model.specs.Labels.{count_at, entry_of, is_site, key_number, may_nudge, nudged, nudged_count, patch_for, patch_or, patch_to, popped}
 pub use Rattle.trace_model.specs.Labels.{site_at, site_from, site_front, site_store, stored, to_be}
 unfoldable pub use Rattle.trace_model.specs.Opened.{opening, places_free}
+pub use Rattle.trace_model.specs.Online.{is_online}
 pub use Rattle.trace_model.specs.Places.{is_batch}
 pub use Rattle.trace_model.specs.Runs.{Runs}
 pub use Rattle.trace_model.specs.State.{StateValue, cpu_at, freed, freed_by, freed_from, place_at, place_reason, slip_in, slipped, stop_at, with_cpu}
 pub use Rattle.trace_model.specs.State.{with_place, with_stop}
 unfoldable pub use Rattle.trace_model.specs.Step.{call_goes, label_goes, stop_goes}
-pub use Rattle.trace_model.specs.Step.{goes, key_by, nudge_by, nudged_word, reads_by, site_by, site_word}
+pub use Rattle.trace_model.specs.Step.{goes, if_low, key_by, nudge_by, nudged_word, reads_by, site_by, site_word}
 unfoldable pub use Rattle.trace_model.specs.Stop.{acknowledged, collected, completed, entered, first_from, opened, raised, ran_function}
 pub use Rattle.trace_model.specs.Stop.{acked_by, answer_of, answer_wanted, at_last, at_phase, closed, collected_with, first_of, gives, has_run, is_called}
 pub use Rattle.trace_model.specs.Stop.{is_cpu, is_work, late, may_complete, may_run, offline_in, raised_by, through, unfinished, unless_offline, with_acked}

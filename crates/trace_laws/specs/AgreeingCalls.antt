@@ -70,13 +70,13 @@ calls_of a cpu = record {
   accepted = a.accepted cpu;
 }
 
--- Nothing is left out, and each CPU and each record is as in the calls of the machine.
+-- Nothing is left out, and each CPU and each record is as in the calls of the machine. CPUs from 32 on have none.
 pub record Follows (online : ℕ) (a : CallState) (s : StateValue) : Type 0 where
   pub whole : s.setting.without ≡ nothing_left_out
   pub online_is : s.setting.online ≡ online
-  pub cpus_are : length s.cpus ≡ 32
+  pub cpus_are : length s.cpus ≡ 512
   pub places_are : length s.places ≡ 65536
-  pub calls : (cpu : ℕ) → cpu < cpus → calls_in (cpu_at s cpu) ≡ calls_of a cpu
+  pub calls : (cpu : ℕ) → calls_in (cpu_at s cpu) ≡ calls_of a cpu
   pub places : (id : ℕ) → id < records → place_at s id ≡ place_of (a.place id)
 
 -- what a CPU has kept of its steps is of the call that it runs

@@ -130,7 +130,7 @@ pub record FollowsStops (p : StopState) (at : Word → ℕ) (pasts : List Past) 
   pub sites_are : length s.words.sites ≡ 16
   pub gate : s.gate ≡ p.gate
   pub stops : (source : ℕ) → source < cpus → StopIs (p.now.stop source) (stop_at s source)
-  pub cpus_are : (cpu : ℕ) → cpu < cpus → CpuIs p s (past_at pasts cpu) cpu
+  pub cpus_are : (cpu : ℕ) → CpuIs p s (past_at pasts cpu) cpu
   pub keys : (key : ℕ) → count_at s.words key ≡ at (Key key)
   pub sites : (site : ℕ) → site_at s.words site ≡ at (Site site)
 

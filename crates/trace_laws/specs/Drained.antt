@@ -15,7 +15,7 @@ pub record IsDrained (t : StateValue) : Type 0 where
 -- Once all is drained, the calls that ended on a CPU are those that were queued for it, and both counts of each source are equal.
 pub record RunEqualsQueued (es : List (ℕ × Event)) (t : StateValue) (cpu : ℕ) : Type 0 where
   pub ended : IsPermutation (map id_of (queued cpu es)) (ends cpu es)
-  pub counts : (source : ℕ) → source < 32 → ran_of t source cpu ≡ queued_by t source cpu
+  pub counts : (source : ℕ) → source < 512 → ran_of t source cpu ≡ queued_by t source cpu
 
 abbrev pub DrainedEquals : Setting → List (ℕ × Event) → StateValue → ℕ → Type 0
 DrainedEquals u es t cpu = IsDrained t → RunEqualsQueued es t cpu

@@ -62,4 +62,4 @@ pub record PlacedAt (place : Place) (r cpu : ℕ) (c : CpuState) : Type 0 where
 
 -- Each record is in one place: it is free, or it is once in one queue, in one batch, or of one call that runs.
 abbrev pub InOnePlace : StateValue → Type 0
-InOnePlace t = (r : ℕ) → r < 65536 → (cpu : ℕ) → cpu < 32 → PlacedAt (place_at t r) r cpu (cpu_at t cpu)
+InOnePlace t = (r : ℕ) → r < 65536 → (cpu : ℕ) → cpu < 512 → PlacedAt (place_at t r) r cpu (cpu_at t cpu)

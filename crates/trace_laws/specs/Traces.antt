@@ -19,7 +19,7 @@ IsTrace u words es t = Runs (opening u words) es t
 -- what holds of each CPU of each trace
 abbrev pub OfEachTrace : (Setting → List (ℕ × Event) → StateValue → ℕ → Type 0) → Type 0
 OfEachTrace Law = (u : Setting) (words : LabelWords) (es : List (ℕ × Event)) (t : StateValue) → IsTrace u words es t
-    → (cpu : ℕ) → cpu < 32 → Law u es t cpu
+    → (cpu : ℕ) → cpu < 512 → Law u es t cpu
 
 -- The calls that were queued for a CPU are those that began there and those that it still holds, in some order: each call begins
 -- at most once, on its target, with its record, its function and its argument.
@@ -56,5 +56,5 @@ pub record CountsAre (u : Setting) (es : List (ℕ × Event)) (t : StateValue) (
   pub over : List Call
   pub ends_are : map id_of over ≡ ends cpu es
   pub whole : IsPermutation (queued cpu es) ((over ++ running (cpu_at t cpu)) ++ held (cpu_at t cpu))
-  pub queued_are : (source : ℕ) → source < 32 → queued_by t source cpu ≡ count_by (is_from source) (queued cpu es) % 2 ^ 64
-  pub ran_are : (source : ℕ) → source < 32 → ran_of t source cpu ≡ count_by (is_from source) over % 2 ^ 64
+  pub queued_are : (source : ℕ) → source < 512 → queued_by t source cpu ≡ count_by (is_from source) (queued cpu es) % 2 ^ 64
+  pub ran_are : (source : ℕ) → source < 512 → ran_of t source cpu ≡ count_by (is_from source) over % 2 ^ 64

@@ -1,10 +1,10 @@
 -- What each event of calls shows.
 use Rattle.trace_laws.proofs.Names.{arith, Bool, Call, Class, CpuState, Err, Event, Free, List, Ok, Queue, Reason, Result, Shows, StateValue, [], accept_by}
-use Rattle.trace_laws.proofs.Names.{accepted, ap, begin_by, begin_of, cpu_at, end_by, ended, entered_by, eqb-false, eqb-true, false, freed, freed_if, has}
-use Rattle.trace_laws.proofs.Names.{id_of, if◌then◌else◌, interrupted, is_batch, is_empty, is_some, joined, length, map, may_take, moved, not, not_over, noted}
-use Rattle.trace_laws.proofs.Names.{notes_now, on_cpu, only_if, place_at, place_reason, placed_unless, pushed, queue_by, queued_now, refl, runs_locked, send_by}
-use Rattle.trace_laws.proofs.Names.{sent, subst, sym, take_by, taken, takes_now, true, unlock_by, unlocked, with_cpu, with_place, ℕ, ◌&&◌, ◌<◌, ◌==◌, ◌>>=◌}
-use Rattle.trace_laws.proofs.Names.{◌∷◌, ◌≡◌}
+use Rattle.trace_laws.proofs.Names.{accepted, ap, begin_by, begin_of, cpu_at, end_by, ended, entered_by, eqb-false, eqb-true, false, freed, freed_if, id_of}
+use Rattle.trace_laws.proofs.Names.{if◌then◌else◌, interrupted, is_batch, is_empty, is_online, is_some, joined, length, map, may_take, moved, not, not_over}
+use Rattle.trace_laws.proofs.Names.{noted, notes_now, on_cpu, only_if, place_at, place_reason, placed_unless, pushed, queue_by, queued_now, refl, runs_locked}
+use Rattle.trace_laws.proofs.Names.{send_by, sent, subst, sym, take_by, taken, takes_now, true, unlock_by, unlocked, with_cpu, with_place, ℕ, ◌&&◌, ◌<◌, ◌==◌}
+use Rattle.trace_laws.proofs.Names.{◌>>=◌, ◌∷◌, ◌≡◌}
 use Rattle.trace_model.specs.declared.event.CallEvent.TheVariants as calls
 use Rattle.trace_model.specs.declared.event.Event.TheVariants as event
 use Rattle.trace_model.specs.declared.reason.Reason.TheVariants as reason
@@ -87,7 +87,7 @@ pub queue_shows : (order : Bool) (cpu source id to : ℕ) (class : Class) (func 
 unfolding queue_by
 queue_shows order cpu source id to class func info s t o below e =
     let call : Call = record { source = source; id = id; class = class; func = func; info = info } in
-    let p = passed (has s.setting.online to) (if to == source then Err (reason.IsCaller to) else (freed id s >>= λ m. Ok (joined call to m)))
+    let p = passed (is_online s.setting to) (if to == source then Err (reason.IsCaller to) else (freed id s >>= λ m. Ok (joined call to m)))
     (reason.NotOnline to) t e in
     let q = failed (to == source) (freed id s >>= λ m. Ok (joined call to m)) (reason.IsCaller to) t p.1 in
     let m = both_made (freed id s) (λ m. Ok (joined call to m)) t q.1 in
@@ -111,7 +111,7 @@ send_shows order cpu actor to s t below e =
     let c = interrupted (cpu_at s to) in
     let m = with_cpu to s c in
     let d = sent to (cpu_at m actor) in
-    let p = passed (has s.setting.online to) (Ok (with_cpu actor m d)) (reason.NotOnline to) t e in
+    let p = passed (is_online s.setting to) (Ok (with_cpu actor m d)) (reason.NotOnline to) t e in
     let same : with_cpu actor m d ≡ t = cc in
     let g = goes_quiet told cpu to s c below (shows_same told (cpu_at s to) c
     (record { queue = refl; batch = refl; current = refl; ran = refl; queued = refl })) in

@@ -36,7 +36,7 @@ idle_is None [] accepted e = (refl, refl)
 drained_cpu : (t : StateValue) (cpu : ℕ) → IsDrained t → (held (cpu_at t cpu) ≡ []) × (running (cpu_at t cpu) ≡ [])
 drained_cpu t cpu h1 = search (empty_is, no_cpu_passes, idle_is, arith)
 
-pub drained_equals : (u : Setting) (words : LabelWords) (es : List (ℕ × Event)) (t : StateValue) → IsTrace u words es t → (cpu : ℕ) → cpu < 32 →
+pub drained_equals : (u : Setting) (words : LabelWords) (es : List (ℕ × Event)) (t : StateValue) → IsTrace u words es t → (cpu : ℕ) → cpu < 512 →
     DrainedEquals u es t cpu
 drained_equals u words es t run cpu below d =
     let c = counts_are u words es t run cpu below in

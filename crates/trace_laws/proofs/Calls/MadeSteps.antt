@@ -1,5 +1,7 @@
 -- Steps that were made.
-use Rattle.trace_laws.proofs.Names.{Bool, Err, Ok, Reason, Result, false, if◌then◌else◌, refl, true, ◌>>=◌, ◌≡◌}
+use Rattle.trace_laws.proofs.Names.{Bool, Err, Ok, Reason, Result, StateValue, false, if_low, if◌then◌else◌, ltb-true, nat_lt, refl, true, ℕ}
+use Rattle.trace_laws.proofs.Names.{◌<◌, ◌>>=◌, ◌≡◌}
+use Rattle.trace_model.specs.declared.reason.Reason.TheVariants as reason
 
 -- both halves of a step were made
 pub both_made : {A B : Type 0} (first : Result A Reason) (next : A → Result B Reason) (b : B) → (first >>= next) ≡ Ok b
@@ -18,3 +20,7 @@ pub failed : {A : Type 0} (test : Bool) (made : Result A Reason) (why : Reason) 
     (made ≡ Ok a)
 failed true made why a e = absurd cc
 failed false made why a e = (refl, e)
+
+-- an event of stops, keys or sites was made: its CPU is below 32
+pub low_event : (cpu : ℕ) (made : Result StateValue Reason) (t : StateValue) → if_low cpu made ≡ Ok t → (cpu < 32) × (made ≡ Ok t)
+low_event cpu made t e = let p = passed (nat_lt cpu 32) made reason.NoSuchWork t e in (ltb-true cpu 32 p.0, p.1)

@@ -7,9 +7,9 @@ use Rattle.std.proofs.lemmas.List.Sums.{sum_by-append}
 use Rattle.trace_model.specs.declared.event.CallEvent.TheVariants as calls
 use Rattle.trace_model.specs.declared.event.Event.TheVariants as event
 use Rattle.trace_laws.proofs.Calls.CallEvents.{EventShows, accept_shows, begin_shows, end_shows, queue_shows, quiet_event, send_shows, take_shows, unlock_shows}
-use Rattle.trace_laws.proofs.{Calls.CpuSteps.shows_same, Calls.MadeSteps.both_made, Calls.OtherEvents.KeepsCalls, Calls.OtherEvents.label_keeps_calls}
-use Rattle.trace_laws.proofs.{Calls.OtherEvents.stop_keeps_calls, Calls.StateSteps.GoesQuietly, Calls.StateSteps.freed_goes, Calls.StateSteps.goes_same}
-use Rattle.trace_laws.proofs.{Calls.TwoSteps.joined, Calls.TwoSteps.joined_once}
+use Rattle.trace_laws.proofs.{Calls.CpuSteps.shows_same, Calls.MadeSteps.both_made, Calls.MadeSteps.low_event, Calls.OtherEvents.KeepsCalls}
+use Rattle.trace_laws.proofs.{Calls.OtherEvents.label_keeps_calls, Calls.OtherEvents.stop_keeps_calls, Calls.StateSteps.GoesQuietly}
+use Rattle.trace_laws.proofs.{Calls.StateSteps.freed_goes, Calls.StateSteps.goes_same, Calls.TwoSteps.joined, Calls.TwoSteps.joined_once}
 
 -- calls that are as before are quiet
 kept_goes : (told : Bool) (cpu : ℕ) (s t : StateValue) → cpu < length s.cpus → KeepsCalls s t → GoesQuietly told cpu s t
@@ -41,9 +41,11 @@ pub event_shows : (order : Bool) (cpu actor : ℕ) (e : Event) (s t : StateValue
     → goes actor e s ≡ Ok t → EventShows order cpu (actor, e) s t
 event_shows order cpu actor (event.Call e) s t o below g = call_shows order cpu actor e s t o below g
 event_shows order cpu actor (event.Stop e) s t o below g =
-    quiet_event order cpu (actor, event.Stop e) s t refl refl refl refl refl (kept_goes (not order) cpu s t below (stop_keeps_calls actor e s t g))
+    quiet_event order cpu (actor, event.Stop e) s t refl refl refl refl refl
+    (kept_goes (not order) cpu s t below (stop_keeps_calls actor e s t (low_event actor _ t g).1))
 event_shows order cpu actor (event.Label e) s t o below g =
-    quiet_event order cpu (actor, event.Label e) s t refl refl refl refl refl (kept_goes (not order) cpu s t below (label_keeps_calls actor e s t g))
+    quiet_event order cpu (actor, event.Label e) s t refl refl refl refl refl
+    (kept_goes (not order) cpu s t below (label_keeps_calls actor e s t (low_event actor _ t g).1))
 
 -- a count goes on
 pub count_append : {X : Type 0} (p : X → Bool) (xs ys : List X) → count_by p (xs ++ ys) ≡ count_by p xs + count_by p ys

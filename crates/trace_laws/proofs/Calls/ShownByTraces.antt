@@ -10,19 +10,19 @@ use Rattle.trace_laws.specs.Traces.{BeginInOrder, BeginOnce, CountsAre, EndOnce,
 use Rattle.trace_laws.specs.CallHistory.{queued_at}
 
 -- before the first event, a CPU has done nothing
-pub fresh_at : (u : Setting) (words : LabelWords) (cpu : ℕ) → cpu < 32 → cpu_at (opening u words) cpu ≡ fresh_cpu
+pub fresh_at : (u : Setting) (words : LabelWords) (cpu : ℕ) → cpu < 512 → cpu_at (opening u words) cpu ≡ fresh_cpu
 unfolding opening
-fresh_at u words cpu below = get_or-replicate 32 cpu fresh_cpu fresh_cpu below
+fresh_at u words cpu below = get_or-replicate 512 cpu fresh_cpu fresh_cpu below
 
-pub cpus_at_first : (u : Setting) (words : LabelWords) → length (opening u words).cpus ≡ 32
+pub cpus_at_first : (u : Setting) (words : LabelWords) → length (opening u words).cpus ≡ 512
 unfolding opening
-cpus_at_first u words = length-replicate 32 fresh_cpu
+cpus_at_first u words = length-replicate 512 fresh_cpu
 
 order_at_first : (u : Setting) (words : LabelWords) → (opening u words).setting ≡ u
 unfolding opening
 order_at_first u words = refl
 
-shown_at : (u : Setting) (words : LabelWords) (es : List (ℕ × Event)) (t : StateValue) (cpu : ℕ) → IsTrace u words es t → cpu < 32
+shown_at : (u : Setting) (words : LabelWords) (es : List (ℕ × Event)) (t : StateValue) (cpu : ℕ) → IsTrace u words es t → cpu < 512
     → CallsShown cpu es (opening u words) t
 shown_at u words es t cpu run below =
     let s = opening u words in
@@ -34,10 +34,10 @@ record IsFresh (c : CpuState) : Type 0 where
   waits : waiting c ≡ []
   holds : held c ≡ []
   queue : c.queue ≡ []
-  ran_long : length c.ran ≡ 32
-  queued_long : length c.queued ≡ 32
-  ran : (source : ℕ) → source < 32 → ran_at c source ≡ 0
-  queued : (to : ℕ) → to < 32 → queued_at c to ≡ 0
+  ran_long : length c.ran ≡ 512
+  queued_long : length c.queued ≡ 512
+  ran : (source : ℕ) → source < 512 → ran_at c source ≡ 0
+  queued : (to : ℕ) → to < 512 → queued_at c to ≡ 0
 
 is_fresh : (c : CpuState) → c ≡ fresh_cpu → IsFresh c
 is_fresh c e = record {
@@ -45,20 +45,20 @@ is_fresh c e = record {
   waits = ap (λ x. waiting x) e;
   holds = ap (λ x. held x) e;
   queue = ap (λ x. x.queue) e;
-  ran_long = ap (λ x. length x.ran) e;
-  queued_long = ap (λ x. length x.queued) e;
-  ran = λ source below. ap (λ x. ran_at x source) e ∙ get_or-replicate 32 source 0 0 below;
-  queued = λ to below. ap (λ x. queued_at x to) e ∙ get_or-replicate 32 to 0 0 below;
+  ran_long = ap (λ x. length x.ran) e ∙ length-replicate {A = ℕ} 512 0;
+  queued_long = ap (λ x. length x.queued) e ∙ length-replicate {A = ℕ} 512 0;
+  ran = λ source below. ap (λ x. ran_at x source) e ∙ get_or-replicate 512 source 0 0 below;
+  queued = λ to below. ap (λ x. queued_at x to) e ∙ get_or-replicate 512 to 0 0 below;
 }
 
-fresh_is : (u : Setting) (words : LabelWords) (cpu : ℕ) → cpu < 32 → IsFresh (cpu_at (opening u words) cpu)
+fresh_is : (u : Setting) (words : LabelWords) (cpu : ℕ) → cpu < 512 → IsFresh (cpu_at (opening u words) cpu)
 fresh_is u words cpu below = is_fresh (cpu_at (opening u words) cpu) (fresh_at u words cpu below)
 
 -- lists that are equal to these are in that order too
 moved_as : {X : Type 0} (xs ys xs' ys' : List X) → xs ≡ xs' → ys ≡ ys' → IsPermutation xs ys → IsPermutation xs' ys'
 moved_as xs ys xs' ys' e f p = rw (← e, ← f) p
 
-pub begin_once : (u : Setting) (words : LabelWords) (es : List (ℕ × Event)) (t : StateValue) → IsTrace u words es t → (cpu : ℕ) → cpu < 32 →
+pub begin_once : (u : Setting) (words : LabelWords) (es : List (ℕ × Event)) (t : StateValue) → IsTrace u words es t → (cpu : ℕ) → cpu < 512 →
     BeginOnce u es t cpu
 begin_once u words es t run cpu below =
     let c = shown_at u words es t cpu run below in
@@ -75,7 +75,7 @@ records_of : (calls : List Call) → map record_of (map begin_of calls) ≡ map 
 records_of [] = refl
 records_of (x ∷ xs) = ap (λ ys. x.id ∷ ys) (records_of xs)
 
-pub end_once : (u : Setting) (words : LabelWords) (es : List (ℕ × Event)) (t : StateValue) → IsTrace u words es t → (cpu : ℕ) → cpu < 32 → EndOnce u es t cpu
+pub end_once : (u : Setting) (words : LabelWords) (es : List (ℕ × Event)) (t : StateValue) → IsTrace u words es t → (cpu : ℕ) → cpu < 512 → EndOnce u es t cpu
 end_once u words es t run cpu below =
     let c = shown_at u words es t cpu run below in
     let f = fresh_is u words cpu below in
@@ -152,7 +152,7 @@ classes_from class cpu queue (e ∷ es) =
     ∙ ap (λ xs. xs ++ of_class class (queued cpu es)) (classes_next class takes queue more (takes_none cpu e))
     ∙ append_assoc (of_class class queue) (of_class class more) (of_class class (queued cpu es)))
 
-pub begin_in_order : (u : Setting) (words : LabelWords) (es : List (ℕ × Event)) (t : StateValue) → IsTrace u words es t → (cpu : ℕ) → cpu < 32 →
+pub begin_in_order : (u : Setting) (words : LabelWords) (es : List (ℕ × Event)) (t : StateValue) → IsTrace u words es t → (cpu : ℕ) → cpu < 512 →
     BeginInOrder u es t cpu
 begin_in_order u words es t run cpu below =
     let c = shown_at u words es t cpu run below in
@@ -191,7 +191,7 @@ zero_and n = ap (λ k. k % 2 ^ 64) (zero_first n) where
   zero_first : (n : ℕ) → 0 + n ≡ n
   zero_first n = omega arith
 
-pub counts_are : (u : Setting) (words : LabelWords) (es : List (ℕ × Event)) (t : StateValue) → IsTrace u words es t → (cpu : ℕ) → cpu < 32 →
+pub counts_are : (u : Setting) (words : LabelWords) (es : List (ℕ × Event)) (t : StateValue) → IsTrace u words es t → (cpu : ℕ) → cpu < 512 →
     CountsAre u es t cpu
 counts_are u words es t run cpu below =
     let c = shown_at u words es t cpu run below in

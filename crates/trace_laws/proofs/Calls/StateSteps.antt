@@ -123,10 +123,10 @@ either_goes told cpu s false x g = goes_same told cpu s s refl refl
 slipped_at_goes : (order : Bool) (cpu id : ℕ) (place : Place) (s : StateValue) → cpu < length s.cpus →
     GoesQuietly (not order) cpu s (slipped_at order id place s).1
 slipped_at_goes true cpu id (Queue x) s below =
-    either_goes false cpu s (nat_lt x 32) (slip_in x s (slipped_from_queue id (cpu_at s x)))
+    either_goes false cpu s (nat_lt x 512) (slip_in x s (slipped_from_queue id (cpu_at s x)))
     (slip_in_goes false cpu x s (slipped_from_queue id (cpu_at s x)) below (shows_slipped_from_queue id (cpu_at s x)))
 slipped_at_goes false cpu id (Batch x) s below =
-    either_goes true cpu s (nat_lt x 32) (slip_in x s (slipped_from_batch id (cpu_at s x)))
+    either_goes true cpu s (nat_lt x 512) (slip_in x s (slipped_from_batch id (cpu_at s x)))
     (slip_in_goes true cpu x s (slipped_from_batch id (cpu_at s x)) below (shows_slipped_from_batch true id (cpu_at s x)))
 slipped_at_goes true cpu id _ s below = goes_same false cpu s s refl refl
 slipped_at_goes false cpu id _ s below = goes_same true cpu s s refl refl

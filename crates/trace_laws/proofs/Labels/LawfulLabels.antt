@@ -16,7 +16,8 @@ use Rattle.trace_laws.proofs.Labels.PatchEvents.{collect_labelled, complete_labe
 use Rattle.trace_laws.proofs.Labels.Patches.{AtPatch, AtRest, Labelled, PatchAt, held_in, labelled_same, patch_round}
 use Rattle.trace_laws.proofs.Stops.AtRun.{held_at, rounds_at_first, rounds_goes, rounds_of, runs_last, seen_all, setting_at_first, setting_runs, stop_at_first}
 use Rattle.trace_laws.proofs.Stops.AtRun.{work_all}
-use Rattle.trace_laws.proofs.{Calls.MadeSteps.both_made, Calls.MadeSteps.failed, Calls.MadeSteps.passed, Labels.PatchPhases.ack_labelled}
+use Rattle.trace_laws.proofs.{Calls.MadeSteps.both_made, Calls.MadeSteps.failed, Calls.MadeSteps.low_event, Calls.MadeSteps.passed}
+use Rattle.trace_laws.proofs.{Labels.PatchPhases.ack_labelled}
 use Rattle.trace_laws.proofs.{Labels.PatchPhases.may_is, Labels.PatchPhases.raise_labelled, Labels.PatchStores.nudge_labelled}
 use Rattle.trace_laws.proofs.{Labels.PatchStores.patch_labelled, Stops.CpusInStops.Rounds, Stops.QuietCpus.call_keeps_rounds, Stops.StopEvents.ne_truth}
 use Rattle.trace_laws.specs.LawfulLabels.{IsPatching, LabelsAreLawful, Reads, ReadsAreLawful, moved, reads, words_from, words_next}
@@ -154,8 +155,8 @@ label_words cpu (labels.Nudge key up) s t e = nudge_words cpu key up s t e ∙ a
 
 words_goes : (cpu : ℕ) (e : Event) (s t : StateValue) → goes cpu e s ≡ Ok t → t.words ≡ words_next s.words (cpu, e)
 words_goes cpu (event.Call e) s t g = (call_keeps_rounds cpu e s t g).words_are
-words_goes cpu (event.Stop e) s t g = stop_goes_words cpu e s t g
-words_goes cpu (event.Label e) s t g = label_words cpu e s t g
+words_goes cpu (event.Stop e) s t g = stop_goes_words cpu e s t (low_event cpu _ t g).1
+words_goes cpu (event.Label e) s t g = label_words cpu e s t (low_event cpu _ t g).1
 
 -- keys and sites are what the events have stored
 words_runs : (es : List (ℕ × Event)) (s t : StateValue) → Runs s es t → t.words ≡ words_from s.words es
@@ -174,21 +175,21 @@ ungate_labelled cpu s t l e =
     labelled_end (record s { gate = None }) t (cc) (labelled_same s (record s { gate = None }) refl refl refl l)
 
 stop_goes_labelled : (seen : ℕ → Seen) (work : ℕ → Option Task) (cpu : ℕ) (e : StopEvent) (s t : StateValue) → Rounds seen work s → Labelled s →
-    stop_goes cpu e s ≡ Ok t → Labelled t
+    cpu < 32 → stop_goes cpu e s ≡ Ok t → Labelled t
 unfolding stop_goes gate_by
-stop_goes_labelled seen work cpu stops.Gate s t r l e = gate_labelled s.gate cpu s t l e
-stop_goes_labelled seen work cpu stops.Ungate s t r l e = ungate_labelled cpu s t l e
-stop_goes_labelled seen work cpu (stops.Open task) s t r l e = open_labelled seen work s t cpu task r l e
-stop_goes_labelled seen work cpu (stops.Enter source) s t r l e = enter_labelled seen work s t source cpu r l e
-stop_goes_labelled seen work cpu (stops.Ack phase) s t r l e = ack_labelled seen work s t cpu phase r l e
-stop_goes_labelled seen work cpu (stops.Raise phase) s t r l e = raise_labelled seen work s t cpu phase r l e
-stop_goes_labelled seen work cpu stops.Off s t r l e = labelled_end (with_irq cpu false s) t (off_is cpu s t e) (labelled_same s
+stop_goes_labelled seen work cpu stops.Gate s t r l low e = gate_labelled s.gate cpu s t l e
+stop_goes_labelled seen work cpu stops.Ungate s t r l low e = ungate_labelled cpu s t l e
+stop_goes_labelled seen work cpu (stops.Open task) s t r l low e = open_labelled seen work s t cpu task r l low e
+stop_goes_labelled seen work cpu (stops.Enter source) s t r l low e = enter_labelled seen work s t source cpu r l e
+stop_goes_labelled seen work cpu (stops.Ack phase) s t r l low e = ack_labelled seen work s t cpu phase r l e
+stop_goes_labelled seen work cpu (stops.Raise phase) s t r l low e = raise_labelled seen work s t cpu phase r l e
+stop_goes_labelled seen work cpu stops.Off s t r l low e = labelled_end (with_irq cpu false s) t (off_is cpu s t e) (labelled_same s
     (with_irq cpu false s) refl refl refl l)
-stop_goes_labelled seen work cpu stops.On s t r l e = labelled_end (with_irq cpu true s) t (on_is cpu s t e) (labelled_same s
+stop_goes_labelled seen work cpu stops.On s t r l low e = labelled_end (with_irq cpu true s) t (on_is cpu s t e) (labelled_same s
     (with_irq cpu true s) refl refl refl l)
-stop_goes_labelled seen work cpu (stops.Run func arg) s t r l e = run_labelled seen work s t cpu func arg r l e
-stop_goes_labelled seen work cpu (stops.Complete answer) s t r l e = complete_labelled seen work s t cpu answer r l e
-stop_goes_labelled seen work cpu (stops.Collect answer) s t r l e = collect_labelled seen work s t cpu answer r l e
+stop_goes_labelled seen work cpu (stops.Run func arg) s t r l low e = run_labelled seen work s t cpu func arg r l e
+stop_goes_labelled seen work cpu (stops.Complete answer) s t r l low e = complete_labelled seen work s t cpu answer r l e
+stop_goes_labelled seen work cpu (stops.Collect answer) s t r l low e = collect_labelled seen work s t cpu answer r l e
 
 after_labelled : (test : Result (Unit {0}) Reason) (s t : StateValue) → Labelled s → (test >>= λ u. Ok s) ≡ Ok t → Labelled t
 after_labelled test s t l e = let m = both_made test (λ u. Ok s) t e in labelled_end s t (cc) l
@@ -205,8 +206,9 @@ label_goes_labelled seen work cpu (labels.Nudge key up) s t r l e = nudge_labell
 labelled_goes : (seen : ℕ → Seen) (work : ℕ → Option Task) (cpu : ℕ) (e : Event) (s t : StateValue) → Rounds seen work s → Labelled s → goes cpu e s ≡ Ok t →
     Labelled t
 labelled_goes seen work cpu (event.Call e) s t r l g = let k = call_keeps_rounds cpu e s t g in labelled_same s t k.words_are k.stops_are k.setting_is l
-labelled_goes seen work cpu (event.Stop e) s t r l g = stop_goes_labelled seen work cpu e s t r l g
-labelled_goes seen work cpu (event.Label e) s t r l g = label_goes_labelled seen work cpu e s t r l g
+labelled_goes seen work cpu (event.Stop e) s t r l g = let made = low_event cpu (stop_goes cpu e s) t g in
+    stop_goes_labelled seen work cpu e s t r l made.0 made.1
+labelled_goes seen work cpu (event.Label e) s t r l g = label_goes_labelled seen work cpu e s t r l (low_event cpu _ t g).1
 
 labelled_runs : (seen : ℕ → Seen) (work : ℕ → Option Task) (es : List (ℕ × Event)) (s t : StateValue) → Rounds seen work s → Labelled s → Runs s es t →
     Labelled t
@@ -304,7 +306,7 @@ pub reads_are_lawful : ReadsAreLawful
 reads_are_lawful u words es t cpu e a run below online is =
     let m = runs_last es (cpu, event.Label e) (at_first u words) t run in
     let s = m.0 in
-    let read = read_is cpu e s t m.1.1 is in
+    let read = read_is cpu e s t (low_event cpu _ t m.1.1).1 is in
     let l = labelled_of u words es s a m.1.0 in
     let w : s.words ≡ words_from words es = told_words u words es s m.1.0 in
     (rw w at (rests_where_read u words es s cpu m.1.0 l below online read.0 l.either), rw w at read.1)

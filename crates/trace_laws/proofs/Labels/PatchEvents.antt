@@ -147,16 +147,13 @@ opened_work u task to e =
     (p.0, offline_none (offline_in u task.mask) (opening task) to p.1)
 
 pub open_labelled : (seen : ℕ → Seen) (work : ℕ → Option Task) (s t : StateValue) (source : ℕ) (task : Task) → Rounds seen work s → Labelled s →
-    open_by source task s ≡ Ok t → Labelled t
+    source < 32 → open_by source task s ≡ Ok t → Labelled t
 unfolding open_by
-open_labelled seen work s t source task r l e =
+open_labelled seen work s t source task r l low e =
     let next = on_stop source s (opened s.setting task) in
     let p = failed (stop_at s source).is_open (may_open s.setting.without.gate source s >>= λ u. next) (reason.StopOpen source) t e in
     let m = both_made (may_open s.setting.without.gate source s) (λ u. next) t p.1 in
     let n = both_made (opened s.setting task) (λ x. Ok (with_stop source s x)) t m.1.1 in
     let o = opened_work s.setting task n.0 n.1.0 in
     labelled_end (with_stop source s (opening task)) t (ap (λ x. with_stop source s x) o.1 ∙ cc)
-    (elim (cases_lt source 32) [
-      | inl low ↦ stop_labelled seen work s source (opening task) r l (opened_goes s source task p.0 o.0) low
-      | inr past ↦ labelled_same s (with_stop source s (opening task)) refl (set_past s.stops source (opening task) (rw r.stops_are past)) refl l
-    ])
+    (stop_labelled seen work s source (opening task) r l (opened_goes s source task p.0 o.0) low)

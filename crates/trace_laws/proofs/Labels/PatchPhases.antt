@@ -221,7 +221,7 @@ ack_labelled seen work s t actor phase r l e =
     let n = both_made (may_ack actor m.0 phase s) (λ x. Ok (acked actor m.0 phase x)) t m.1.1 in
     let k = may_is s n.0 m.0 actor phase n.1.0 in
     labelled_end (acked actor m.0 phase n.0) t (cc)
-    (ack_from seen work s n.0 m.0 actor phase r l i.low (actor_below s actor m.0 r.cpus_are i.inside) k.0 k.1.0 k.1.1)
+    (ack_from seen work s n.0 m.0 actor phase r l i.low (actor_below s actor m.0 r.cpus_are r.away i.inside) k.0 k.1.0 k.1.1)
 
 -- a phase is raised
 raise_goes : (seen : ℕ → Seen) (work : ℕ → Option Task) (s : StateValue) (source phase : ℕ) → Rounds seen work s → Labelled s → source < 32

@@ -21,7 +21,7 @@ stored_to source patch place word s = with_patch source (popped patch place) (wi
 same_source : (seen : ℕ → Seen) (work : ℕ → Option Task) (s : StateValue) (cpu : ℕ) → Rounds seen work s → Labelled s → (i : StoresIn s cpu) →
     (a : AtPatch s) → a.source ≡ i.source
 same_source seen work s cpu r l i a =
-    let below = actor_below s cpu i.source r.cpus_are i.inside in
+    let below = actor_below s cpu i.source r.cpus_are r.away i.inside in
     let w = (r.at i.source i.low cpu below).in_stop i.inside in
     let mine = (l.patches i.source i.low).all w.is_open i.kind_is in
     let other = (l.patches a.source a.low).all a.live.is_open a.live.kind_is in
@@ -150,7 +150,7 @@ key_labelled seen work s cpu k word next r l i is e =
     let stop = stop_at s i.source in
     let key = stop.task.func in
     let p = patch_left i.source s in
-    let below = actor_below s cpu i.source r.cpus_are i.inside in
+    let below = actor_below s cpu i.source r.cpus_are r.away i.inside in
     let all = (l.patches i.source i.low).all ((r.at i.source i.low cpu below).in_stop i.inside).is_open i.kind_is in
     let low : key < 4 = (let x = all.key in let y = l.keys in omega arith) in
     let number : key_number key ≡ key = omega arith in

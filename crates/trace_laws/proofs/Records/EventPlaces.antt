@@ -2,8 +2,8 @@
 use Rattle.trace_laws.proofs.Names.{Async, Batch, Bool, Call, CallEvent, Class, CpuState, Err, Event, Free, InOnePlace, IsTrace, LabelWords, List, Ok, PlacedAt}
 use Rattle.trace_laws.proofs.Names.{Queue, Run, Runs, Setting, StateValue, Sync, [], accept_by, accepted, ap, arith, begin_by, call_goes, cases_eq, cases_lt}
 use Rattle.trace_laws.proofs.Names.{cond, count_by, cpu_at, end_by, ended, entered_by, eq-eqb, false, freed, freed_by, freed_from, freed_if, fresh_cpu}
-use Rattle.trace_laws.proofs.Names.{get_or-replicate, get_or-set_other, get_or-set_same, get_or_past, goes, has, idle_by, if◌then◌else◌, in_batch, in_queue}
-use Rattle.trace_laws.proofs.Names.{inl, inr, interrupted, is_batch, is_empty, is_queue, is_record, is_some, is_sync, joined, length, length-replicate}
+use Rattle.trace_laws.proofs.Names.{get_or-replicate, get_or-set_other, get_or-set_same, get_or_past, goes, idle_by, if◌then◌else◌, in_batch, in_queue, inl}
+use Rattle.trace_laws.proofs.Names.{inr, interrupted, is_batch, is_empty, is_online, is_queue, is_record, is_some, is_sync, joined, length, length-replicate}
 use Rattle.trace_laws.proofs.Names.{length-set, may_take, moved, nat_lt, ne_eqb, not, not_over, noted, on_cpu, one_if, opening, order, place_at, place_of_run}
 use Rattle.trace_laws.proofs.Names.{place_reason, placed, placed_unless, places_free, pushed, queue_by, refl, runs_locked, send_by, sent, slice_index_or}
 use Rattle.trace_laws.proofs.Names.{slice_set, slip_in, slipped_from_batch, slipped_from_queue, subst, sum_by-IsPermutation, sym, take_by, taken, true}
@@ -18,7 +18,7 @@ use Rattle.trace_laws.proofs.Records.RecordMoves.{Begins, Enters, InBatch, InQue
 use Rattle.trace_laws.proofs.Records.RecordMoves.{count_cons, ends_ended, leaves_unlocked, place_of, run_kind, shift_pushed, slips_from_batch, slips_from_queue}
 use Rattle.trace_laws.proofs.Records.RecordMoves.{stays}
 use Rattle.trace_laws.proofs.{Calls.CallEvents.accepted_same, Calls.CallEvents.made_on_cpu, Calls.CallEvents.may_take_over, Calls.CpuSteps.order_moves}
-use Rattle.trace_laws.proofs.{Calls.CpuSteps.over_is, Calls.MadeSteps.both_made, Calls.MadeSteps.failed, Calls.MadeSteps.passed}
+use Rattle.trace_laws.proofs.{Calls.CpuSteps.over_is, Calls.MadeSteps.both_made, Calls.MadeSteps.failed, Calls.MadeSteps.low_event, Calls.MadeSteps.passed}
 use Rattle.trace_laws.proofs.{Calls.OtherEvents.label_keeps_calls, Calls.OtherEvents.stop_keeps_calls, Calls.ShownByTraces.cpus_at_first}
 use Rattle.trace_laws.proofs.{Calls.ShownByTraces.fresh_at, Calls.StateSteps.cpu_changed, Calls.StateSteps.cpu_kept}
 
@@ -68,8 +68,8 @@ freed_at_batch s t x id true p e = freed_slip_batch s t x id (slipped_from_batch
 freed_at_batch s t x id false p e = absurd cc
 
 freed_slipped : (order : Bool) (id : ℕ) (place : Place) (s t : StateValue) → Placed s → freed_by id place (slipped_at order id place s) ≡ Ok t → Freed id t
-freed_slipped true id (Queue x) s t p e = freed_at_queue s t x id (nat_lt x 32) p e
-freed_slipped false id (Batch x) s t p e = freed_at_batch s t x id (nat_lt x 32) p e
+freed_slipped true id (Queue x) s t p e = freed_at_queue s t x id (nat_lt x 512) p e
+freed_slipped false id (Batch x) s t p e = freed_at_batch s t x id (nat_lt x 512) p e
 freed_slipped _ id _ s t p e = absurd cc
 
 freed_unlocks : (unlocks order : Bool) (id : ℕ) (place : Place) (s t : StateValue) → Placed s
@@ -101,7 +101,7 @@ placed_queue : (source id to : ℕ) (class : Class) (func info : ℕ) (s t : Sta
 unfolding queue_by
 placed_queue source id to class func info s t pl e =
     let call : Call = record { source = source; id = id; class = class; func = func; info = info } in
-    let p = passed (has s.setting.online to) (if to == source then Err (reason.IsCaller to) else (freed id s >>= λ m. Ok (joined call to m)))
+    let p = passed (is_online s.setting to) (if to == source then Err (reason.IsCaller to) else (freed id s >>= λ m. Ok (joined call to m)))
     (reason.NotOnline to) t e in
     let q = failed (to == source) (freed id s >>= λ m. Ok (joined call to m)) (reason.IsCaller to) t p.1 in
     let m = both_made (freed id s) (λ m. Ok (joined call to m)) t q.1 in
@@ -114,7 +114,7 @@ placed_send actor to s t pl e =
     let c = interrupted (cpu_at s to) in
     let m = with_cpu to s c in
     let d = sent to (cpu_at m actor) in
-    let p = passed (has s.setting.online to) (Ok (with_cpu actor m d)) (reason.NotOnline to) t e in
+    let p = passed (is_online s.setting to) (Ok (with_cpu actor m d)) (reason.NotOnline to) t e in
     let q = placed_rests s to c pl (record { queue = λ r. refl; batch = λ r. refl; run = λ r. refl; async = async_any s to pl }) in
     placed_end (with_cpu actor m d) t (cc) (placed_rests m actor d q
     (record { queue = λ r. refl; batch = λ r. refl; run = λ r. refl; async = async_any m actor q }))
@@ -154,8 +154,8 @@ leaves_run from Async which = elim which [ inl x ↦ rw x refl | inr x ↦ rw x 
 
 -- a CPU that moves a record is one that there can be
 pub mover_below : (s : StateValue) (actor id : ℕ) (from to : Kind) (c : CpuState) → Placed s → Shift id from to (cpu_at s actor) c → leaves from to ≡ true →
-    actor < 32
-mover_below s actor id from to c p sh e = elim (cases_lt actor 32) [
+    actor < 512
+mover_below s actor id from to c p sh e = elim (cases_lt actor 512) [
   | inl below ↦ below
   | inr past ↦ let end : length s.cpus ≤ actor = rw p.cpus_are past in
       let fresh : cpu_at s actor ≡ fresh_cpu = get_or_past s.cpus actor fresh_cpu end in
@@ -271,10 +271,10 @@ pub one_count : (n : ℕ) (test : Bool) → 1 ≤ n → n ≡ one_if test → 1 
 one_count n test h e = omega arith
 
 -- a CPU that has a call is one that there can be
-pub has_below : (s : StateValue) (actor r : ℕ) → Placed s → 1 ≤ in_queue r (cpu_at s actor) → actor < 32
+pub has_below : (s : StateValue) (actor r : ℕ) → Placed s → 1 ≤ in_queue r (cpu_at s actor) → actor < 512
 has_below s actor r h1 h2 = search (cases_lt, get_or_past, arith)
 
-taken_each : (s : StateValue) (actor : ℕ) → Placed s → not_over (cpu_at s actor) ≡ Ok tt → (r : ℕ) → r < 65536 → (cpu : ℕ) → cpu < 32
+taken_each : (s : StateValue) (actor : ℕ) → Placed s → not_over (cpu_at s actor) ≡ Ok tt → (r : ℕ) → r < 65536 → (cpu : ℕ) → cpu < 512
     → let t = with_cpu actor (moved actor s) (taken (cpu_at s actor)) in cpu ≡ actor ⊎ cpu ≢ actor → PlacedAt (place_at t r) r cpu (cpu_at t cpu)
 taken_each s actor p over r low cpu below which =
     let t = with_cpu actor (moved actor s) (taken (cpu_at s actor)) in
@@ -340,8 +340,8 @@ placed_call actor (calls.End id) s t p e = placed_ended actor id s t p e
 -- each event leaves each record in one place
 pub placed_goes : (actor : ℕ) (e : Event) (s t : StateValue) → Placed s → goes actor e s ≡ Ok t → Placed t
 placed_goes actor (event.Call e) s t p g = placed_call actor e s t p g
-placed_goes actor (event.Stop e) s t p g = placed_keeps s t p (stop_keeps_calls actor e s t g)
-placed_goes actor (event.Label e) s t p g = placed_keeps s t p (label_keeps_calls actor e s t g)
+placed_goes actor (event.Stop e) s t p g = placed_keeps s t p (stop_keeps_calls actor e s t (low_event actor _ t g).1)
+placed_goes actor (event.Label e) s t p g = placed_keeps s t p (label_keeps_calls actor e s t (low_event actor _ t g).1)
 
 -- and so does a run
 pub placed_runs : (es : List (ℕ × Event)) (s t : StateValue) → Placed s → Runs s es t → Placed t

@@ -10,10 +10,10 @@ use Rattle.trace_laws.specs.Places.{is_run}
 
 -- Each record of the state is in one place, and what is unlocked before it begins is ASYNC.
 pub record Placed (s : StateValue) : Type 0 where
-  pub cpus_are : length s.cpus ≡ 32
+  pub cpus_are : length s.cpus ≡ 512
   pub places_are : length s.places ≡ 65536
   pub each : InOnePlace s
-  pub async : (cpu : ℕ) → cpu < 32 → IsUnlockedAsync (cpu_at s cpu)
+  pub async : (cpu : ℕ) → cpu < 512 → IsUnlockedAsync (cpu_at s cpu)
 
 -- a place of a CPU is of that CPU alone
 queue_here : (kind : Kind) (cpu : ℕ) → is_queue (place_of kind cpu) cpu ≡ at_queue kind
@@ -79,7 +79,7 @@ pub shifted_away : (id : ℕ) (from to : Kind) (cpu other : ℕ) (a : CpuState) 
 shifted_away id from to cpu other a h1 h2 = search (queue_elsewhere, batch_elsewhere, run_elsewhere, arith)
 
 shifted_each : (s : StateValue) (actor id : ℕ) (from to : Kind) (c : CpuState) → Placed s → Shift id from to (cpu_at s actor) c
-    → (id < 65536 → place_at s id ≡ place_of from actor) → (r : ℕ) → r < 65536 → (cpu : ℕ) → cpu < 32
+    → (id < 65536 → place_at s id ≡ place_of from actor) → (r : ℕ) → r < 65536 → (cpu : ℕ) → cpu < 512
     → let t = with_place id (place_of to actor) (with_cpu actor s c) in r ≡ id ⊎ r ≢ id → cpu ≡ actor ⊎ cpu ≢ actor →
     PlacedAt (place_at t r) r cpu (cpu_at t cpu)
 shifted_each s actor id from to c p sh at r low cpu below (inl same) (inl here) =
@@ -117,7 +117,7 @@ pub either_way : (a b : ℕ) → a ≡ b ⊎ a ≢ b
 either_way a b = cases_eq a b
 
 -- what is unlocked is still ASYNC
-pub async_kept : (s : StateValue) (actor : ℕ) (c : CpuState) → Placed s → IsUnlockedAsync c → (cpu : ℕ) → cpu < 32 → cpu ≡ actor ⊎ cpu ≢ actor
+pub async_kept : (s : StateValue) (actor : ℕ) (c : CpuState) → Placed s → IsUnlockedAsync c → (cpu : ℕ) → cpu < 512 → cpu ≡ actor ⊎ cpu ≢ actor
     → IsUnlockedAsync (cpu_at (with_cpu actor s c) cpu)
 async_kept s actor c h1 h2 cpu h3 h4 = search (cpu_changed, cpu_kept, arith)
 
@@ -181,7 +181,7 @@ fresh_has_none from to id c h1 h2 = search (place_before, free_is_none, arith)
 -- a record moves from where a CPU has it
 pub placed_move : (s : StateValue) (actor id : ℕ) (from to : Kind) (c : CpuState) → Placed s → Shift id from to (cpu_at s actor) c → leaves from to ≡ true
     → Placed (with_place id (place_of to actor) (with_cpu actor s c))
-placed_move s actor id from to c p sh e = placed_shift s actor id from to c p sh (λ low. elim (cases_lt actor 32) [
+placed_move s actor id from to c p sh e = placed_shift s actor id from to c p sh (λ low. elim (cases_lt actor 512) [
   | inl below ↦ place_before (place_at s id) id actor from to (cpu_at s actor) c (p.each id low actor below) sh e
   | inr past ↦
       let past_end : length s.cpus ≤ actor = rw p.cpus_are past in
@@ -194,7 +194,7 @@ still_at : (place : Place) (r id cpu : ℕ) (a c : CpuState) → Shift id Nowher
 still_at place r id cpu a c h1 h2 = search (rests_here, arith)
 
 still_each : (s : StateValue) (actor id : ℕ) (c : CpuState) → Placed s → Shift id Nowhere Nowhere (cpu_at s actor) c → (r : ℕ) → r < 65536 → (cpu : ℕ) →
-    cpu < 32
+    cpu < 512
     → cpu ≡ actor ⊎ cpu ≢ actor → PlacedAt (place_at s r) r cpu (cpu_at (with_cpu actor s c) cpu)
 still_each s actor id c p sh r low cpu below (inl here) =
     let changed : cpu_at (with_cpu actor s c) actor ≡ c = cpu_changed actor s c (rw (p.cpus_are, ← here) below) in

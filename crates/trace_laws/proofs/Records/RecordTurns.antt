@@ -1,11 +1,11 @@
 -- A record is locked from the `queue` of a call to its `unlock`.
 use Rattle.trace_laws.proofs.Names.{arith, Batch, Bool, Call, CallEvent, Class, CpuState, Current, Err, Event, Free, List, Ok, Option, Queue, Reason, Run, Runs}
 use Rattle.trace_laws.proofs.Names.{StateValue, [], accepted, ap, begin_by, begun_front, begun_with, call_goes, cases_eq, cpu_at, end_by, ended, entered_by}
-use Rattle.trace_laws.proofs.Names.{eq-eqb, false, freed, freed_from, freed_if, get_or-set_other, get_or-set_same, goes, has, idle_by, if◌then◌else◌, in_queue}
-use Rattle.trace_laws.proofs.Names.{inl, inr, interrupted, is_batch, is_queue, is_some, joined, length, may_take, moved, ne_eqb, not, on_cpu, opening, order}
-use Rattle.trace_laws.proofs.Names.{place_at, place_of_run, place_reason, placed, placed_unless, queue_by, refl, runs_locked, send_by, sent, slice_index_or}
-use Rattle.trace_laws.proofs.Names.{slice_set, subst, sym, take_by, taken, true, unlock_by, unlocked, with_cpu, with_place, ℕ, ◌&&◌, ◌<◌, ◌==◌, ◌>>=◌, ◌∙◌, ◌∷◌}
-use Rattle.trace_laws.proofs.Names.{◌≡◌}
+use Rattle.trace_laws.proofs.Names.{eq-eqb, false, freed, freed_from, freed_if, get_or-set_other, get_or-set_same, goes, idle_by, if◌then◌else◌, in_queue, inl}
+use Rattle.trace_laws.proofs.Names.{inr, interrupted, is_batch, is_online, is_queue, is_some, joined, length, may_take, moved, ne_eqb, not, on_cpu, opening}
+use Rattle.trace_laws.proofs.Names.{order, place_at, place_of_run, place_reason, placed, placed_unless, queue_by, refl, runs_locked, send_by, sent}
+use Rattle.trace_laws.proofs.Names.{slice_index_or, slice_set, subst, sym, take_by, taken, true, unlock_by, unlocked, with_cpu, with_place, ℕ, ◌&&◌, ◌<◌, ◌==◌}
+use Rattle.trace_laws.proofs.Names.{◌>>=◌, ◌∙◌, ◌∷◌, ◌≡◌}
 use Rattle.trace_model.specs.declared.event.CallEvent.TheVariants as calls
 use Rattle.trace_model.specs.declared.event.Event.TheVariants as event
 use Rattle.trace_model.specs.declared.reason.Reason.TheVariants as reason
@@ -15,7 +15,8 @@ use Rattle.trace_laws.proofs.Records.EventPlaces.{placed_goes, placed_runs, put_
 use Rattle.trace_laws.proofs.Records.OnePlace.{Placed, leaves, one_is, place_before, place_changed, place_kept, queue_is}
 use Rattle.trace_laws.proofs.Records.RecordMoves.{Enters, InBatch, InQueue, Kind, Nowhere, Running, Shift, leaves_unlocked, place_of, run_kind}
 use Rattle.trace_laws.proofs.Stops.AtRun.{runs_last, setting_at_first, setting_goes, setting_runs}
-use Rattle.trace_laws.proofs.{Calls.CallEvents.made_on_cpu, Calls.MadeSteps.both_made, Calls.MadeSteps.failed, Calls.MadeSteps.passed}
+use Rattle.trace_laws.proofs.{Calls.CallEvents.made_on_cpu, Calls.MadeSteps.both_made, Calls.MadeSteps.failed, Calls.MadeSteps.low_event}
+use Rattle.trace_laws.proofs.{Calls.MadeSteps.passed}
 use Rattle.trace_laws.proofs.{Calls.OtherEvents.label_keeps_calls, Calls.OtherEvents.stop_keeps_calls, Calls.StateSteps.cpu_changed}
 use Rattle.trace_laws.specs.RecordTurns.{Allows, RecordsTakeTurns, locked_from, locked_next}
 
@@ -63,7 +64,7 @@ queue_turns : (source id to : ℕ) (class : Class) (func info r : ℕ) (s t : St
 unfolding queue_by
 queue_turns source id to class func info r s t pl told low e =
     let call : Call = record { source = source; id = id; class = class; func = func; info = info } in
-    let p = passed (has s.setting.online to) (if to == source then Err (reason.IsCaller to) else (freed id s >>= λ m. Ok (joined call to m)))
+    let p = passed (is_online s.setting to) (if to == source then Err (reason.IsCaller to) else (freed id s >>= λ m. Ok (joined call to m)))
     (reason.NotOnline to) t e in
     let q = failed (to == source) (freed id s >>= λ m. Ok (joined call to m)) (reason.IsCaller to) t p.1 in
     let m = both_made (freed id s) (λ m. Ok (joined call to m)) t q.1 in
@@ -209,7 +210,7 @@ unfolding send_by
 send_turns actor to r s t e =
     let m = with_cpu to s (interrupted (cpu_at s to)) in
     let x = with_cpu actor m (sent to (cpu_at m actor)) in
-    let p = passed (has s.setting.online to) (Ok x) (reason.NotOnline to) t e in
+    let p = passed (is_online s.setting to) (Ok x) (reason.NotOnline to) t e in
     let same : x ≡ t = cc in
     record { allows = tt; after = same_places s t r (ap (λ y. y.places) (sym same)) }
 
@@ -233,8 +234,10 @@ turns_goes : (actor r : ℕ) (e : Event) (s t : StateValue) → Placed s → r <
     goes actor e s ≡ Ok t
     → Turns r actor e s t
 turns_goes actor r (event.Call e) s t p low order unlocks g = call_turns actor r e s t p low order unlocks g
-turns_goes actor r (event.Stop e) s t p low order unlocks g = record { allows = tt; after = same_places s t r (stop_keeps_calls actor e s t g).places_are }
-turns_goes actor r (event.Label e) s t p low order unlocks g = record { allows = tt; after = same_places s t r (label_keeps_calls actor e s t g).places_are }
+turns_goes actor r (event.Stop e) s t p low order unlocks g =
+    record { allows = tt; after = same_places s t r (stop_keeps_calls actor e s t (low_event actor _ t g).1).places_are }
+turns_goes actor r (event.Label e) s t p low order unlocks g =
+    record { allows = tt; after = same_places s t r (label_keeps_calls actor e s t (low_event actor _ t g).1).places_are }
 
 turns_run : (r : ℕ) (es : List (ℕ × Event)) (s t : StateValue) → Placed s → r < 65536 → s.setting.without.order ≡ false → s.setting.without.unlocks ≡ false →
     Runs s es t

@@ -270,15 +270,15 @@ unfolding opening
 opening_follows u words online e w = record {
   whole = w;
   online_is = e;
-  cpus_are = length-replicate 32 fresh_cpu;
+  cpus_are = length-replicate 512 fresh_cpu;
   places_are = length-free 65536;
-  calls = λ cpu l. ap calls_in (get_or-replicate 32 cpu fresh_cpu fresh_cpu (omega arith));
+  calls = λ cpu. ap calls_in (get_or-same fresh_cpu 512 cpu);
   places = λ id l. free_at 65536 id (omega arith);
 }
 
 opening_irq : (u : Setting) (words : LabelWords) (cpu : ℕ) → cpu < cpus → (cpu_at (opening u words) cpu).irq ≡ true
 unfolding opening
-opening_irq u words cpu l = ap (λ (c : CpuState). c.irq) (get_or-replicate 32 cpu fresh_cpu fresh_cpu (omega arith))
+opening_irq u words cpu l = ap (λ (c : CpuState). c.irq) (get_or-same fresh_cpu 512 cpu)
 
 outside_at : (cpu : ℕ) → control_of (replicate cpus outside) cpu ≡ outside
 outside_at cpu = get_or-same outside cpus cpu

@@ -1,8 +1,9 @@
 -- What events of calls make of a state that leaves nothing out, where their premises hold.
 use Rattle.trace_laws.proofs.Names.{Async, Batch, Bool, Call, Class, CpuState, Current, Ended, Free, List, None, Ok, Option, Reason, Run, StateValue, Sync}
-use Rattle.trace_laws.proofs.Names.{Unlocked, [], accept_by, accepted, and_right, ap, at_call, begin_by, begun, counted, cpu_at, end_by, ended, eq-eqb, false}
-use Rattle.trace_laws.proofs.Names.{freed, handles_nothing, has, idle_by, interrupted, joined, left_batch, length, may_take, moved, ne_eqb, place_at, queue_by}
-use Rattle.trace_laws.proofs.Names.{refl, send_by, sent, take_by, taken, true, unlock_by, unlocked, with_cpu, with_place, ℕ, ◌<◌, ◌∷◌, ◌≡◌, ◌≢◌}
+use Rattle.trace_laws.proofs.Names.{Unlocked, [], accept_by, accepted, and_right, ap, arith, at_call, begin_by, begun, counted, cpu_at, end_by, ended, eq-eqb}
+use Rattle.trace_laws.proofs.Names.{false, freed, handles_nothing, has, idle_by, interrupted, joined, left_batch, length, lt-ltb, may_take, moved, ne_eqb}
+use Rattle.trace_laws.proofs.Names.{place_at, queue_by, refl, send_by, sent, take_by, taken, true, unlock_by, unlocked, with_cpu, with_place, ℕ, ◌<◌, ◌∷◌, ◌≡◌}
+use Rattle.trace_laws.proofs.Names.{◌≢◌}
 use Rattle.trace_laws.proofs.ReplayNames.{Runs, Without, cpus, nothing_left_out}
 use Rattle.trace_model.specs.Cpu.{as_idle}
 use Rattle.trace_laws.proofs.ReplayCalls.ChangedStates.{cpu_here}
@@ -74,18 +75,18 @@ module _ (s : StateValue) (me : ℕ) (whole : s.setting.without ≡ nothing_left
   unfolding take_by
   takes_queue i n b a = rw (ap (λ (w : Without). w.interrupts) whole, takes (cpu_at s me) i n b a) refl
 
-  pub sends_to : (to : ℕ) → has s.setting.online to ≡ true
+  pub sends_to : (to : ℕ) → to < cpus → has s.setting.online to ≡ true
       → let t = with_cpu to s (interrupted (cpu_at s to)) in send_by me to s ≡ Ok (with_cpu me t (sent to (cpu_at t me)))
   unfolding send_by
-  sends_to to e = rw e refl
+  sends_to to l e = rw (lt-ltb to 32 (omega (arith, l)), e) refl
 
   pub sees_free : (id : ℕ) → place_at s id ≡ Free → freed id s ≡ Ok s
   sees_free id e = rw e refl
 
-  pub queues_call : (call : Call) (to : ℕ) → has s.setting.online to ≡ true → to ≢ call.source → place_at s call.id ≡ Free
+  pub queues_call : (call : Call) (to : ℕ) → to < cpus → has s.setting.online to ≡ true → to ≢ call.source → place_at s call.id ≡ Free
       → queue_by call to s ≡ Ok (joined call to s)
   unfolding queue_by
-  queues_call call to e ne free = rw (e, ne_eqb to call.source ne, sees_free call.id free) refl
+  queues_call call to l e ne free = rw (lt-ltb to 32 (omega (arith, l)), e, ne_eqb to call.source ne, sees_free call.id free) refl
 
   -- an ASYNC call is unlocked, before its function is entered
   pub unlocks_async : (x : Call) (xs : List Call) → IsNext (cpu_at s me) x xs → x.class ≡ Async → place_at s x.id ≡ Batch me
@@ -111,7 +112,7 @@ module _ (s : StateValue) (me : ℕ) (whole : s.setting.without ≡ nothing_left
   ends_call x class k e = rw (ap (λ (w : Without). w.unlocks) whole, ends_running x class (cpu_at s me) k e, and_right _ false refl) refl
 
   -- a SYNC call is entered, and its record stays locked
-  pub begins_sync : (x : Call) (xs : List Call) → IsNext (cpu_at s me) x xs → x.class ≡ Sync → place_at s x.id ≡ Batch me → length s.cpus ≡ 32 → me < cpus
+  pub begins_sync : (x : Call) (xs : List Call) → IsNext (cpu_at s me) x xs → x.class ≡ Sync → place_at s x.id ≡ Batch me → length s.cpus ≡ 512 → me < cpus
       → begin_by me (record { id = x.id; func = x.func; info = x.info }) s ≡ Ok (with_place x.id (Run me) (with_cpu me s (left_batch Runs x (cpu_at s me))))
   unfolding begin_by
   begins_sync x xs k a at l below =

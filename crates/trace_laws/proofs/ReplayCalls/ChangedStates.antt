@@ -3,7 +3,7 @@ use Rattle.trace_laws.proofs.Names.{CpuState, Free, StateValue, arith, cases_eq,
 use Rattle.trace_laws.proofs.Names.{place_at, refl, with_cpu, with_place, ℕ, ◌<◌, ◌≡◌, ◌≢◌}
 use Rattle.trace_laws.proofs.ReplayNames.{CallState, Follows, Place, calls_in, calls_of, cpus, nothing_left_out, place_of, records}
 
-pub cpu_here : (s : StateValue) (cpu : ℕ) (c : CpuState) → length s.cpus ≡ 32 → cpu < cpus → cpu_at (with_cpu cpu s c) cpu ≡ c
+pub cpu_here : (s : StateValue) (cpu : ℕ) (c : CpuState) → length s.cpus ≡ 512 → cpu < cpus → cpu_at (with_cpu cpu s c) cpu ≡ c
 cpu_here s cpu c l b = get_or-set_same s.cpus cpu c fresh_cpu (omega arith)
 
 pub cpu_else : (s : StateValue) (cpu : ℕ) (c : CpuState) (j : ℕ) → j ≢ cpu → cpu_at (with_cpu cpu s c) j ≡ cpu_at s j
@@ -19,9 +19,9 @@ place_else s id p j ne = get_or-set_other s.places id j p Free ne
 pub record FollowsBut (online me : ℕ) (a : CallState) (s : StateValue) : Type 0 where
   pub whole : s.setting.without ≡ nothing_left_out
   pub online_is : s.setting.online ≡ online
-  pub cpus_are : length s.cpus ≡ 32
+  pub cpus_are : length s.cpus ≡ 512
   pub places_are : length s.places ≡ 65536
-  pub calls : (cpu : ℕ) → cpu < cpus → cpu ≢ me → calls_in (cpu_at s cpu) ≡ calls_of a cpu
+  pub calls : (cpu : ℕ) → cpu ≢ me → calls_in (cpu_at s cpu) ≡ calls_of a cpu
   pub places : (id : ℕ) → id < records → place_at s id ≡ place_of (a.place id)
 
 pub follows_but : (online me : ℕ) (a : CallState) (s : StateValue) → Follows online a s → FollowsBut online me a s
@@ -39,8 +39,8 @@ module _ (online : ℕ) (a b : CallState) (s : StateValue) where
 
   -- so that its calls are those of the machine
   set_calls : (me : ℕ) (c : CpuState) → me < cpus → FollowsBut online me a s → calls_in c ≡ calls_of b me → ((j : ℕ) → j ≢ me → calls_of b j ≡ calls_of a j)
-      → (cpu : ℕ) → cpu < cpus → calls_in (cpu_at (with_cpu me s c) cpu) ≡ calls_of b cpu
-  set_calls me c h1 h2 h3 h4 cpu h5 = search (cases_eq, cpu_here, cpu_else, arith)
+      → (cpu : ℕ) → calls_in (cpu_at (with_cpu me s c) cpu) ≡ calls_of b cpu
+  set_calls me c h1 h2 h3 h4 cpu = search (cases_eq, cpu_here, cpu_else, arith)
 
   pub follows_set : (me : ℕ) (c : CpuState) → me < cpus → FollowsBut online me a s → calls_in c ≡ calls_of b me
       → ((j : ℕ) → j ≢ me → calls_of b j ≡ calls_of a j) → ((id : ℕ) → id < records → place_of (b.place id) ≡ place_of (a.place id))
@@ -75,7 +75,7 @@ leaves_all s = record { setting = refl; gate = refl; stops = refl; words = refl;
 pub leaves_then : (s t u : StateValue) → LeavesStops s t → LeavesStops t u → LeavesStops s u
 leaves_then s t u h1 h2 = search arith
 
-pub leaves_cpu : (s : StateValue) (me : ℕ) (c : CpuState) → length s.cpus ≡ 32 → me < cpus → c.irq ≡ (cpu_at s me).irq → c.inside ≡ (cpu_at s me).inside
+pub leaves_cpu : (s : StateValue) (me : ℕ) (c : CpuState) → length s.cpus ≡ 512 → me < cpus → c.irq ≡ (cpu_at s me).irq → c.inside ≡ (cpu_at s me).inside
     → LeavesStops s (with_cpu me s c)
 leaves_cpu s me c h1 h2 h3 h4 = search (cases_eq, cpu_here, cpu_else, arith)
 

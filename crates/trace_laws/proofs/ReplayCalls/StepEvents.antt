@@ -61,7 +61,7 @@ module _ (online : ℕ) (a : CallState) (s : StateValue) (f : Follows online a s
 
     -- a CPU's part of the calls
     mine : calls_in (cpu_at s me) ≡ calls_of a me
-    mine = f.calls me below
+    mine = f.calls me
 
     current_is : (r : Running) → a.running me ≡ r → (cpu_at s me).current ≡ current_of r
     current_is r e = ap (λ (c : CallsOfCpu). c.current) mine ∙ ap current_of e
@@ -94,13 +94,13 @@ module _ (online : ℕ) (a : CallState) (s : StateValue) (f : Follows online a s
         let c = interrupted (cpu_at s to) in
         let t = with_cpu to s c in
         let d = sent to (cpu_at t me) in
-        let his = f.calls to l in
+        let his = f.calls to in
         let here : calls_in c ≡ calls_of b to = rw (eq-eqb to to refl) (ap (λ (x : CallsOfCpu). record x { pending = true }) his) in
         let g : Follows online b t = follows_set online a b s to c l (follows_but online to a s f) here (λ j ne. rw (ne_eqb j to ne) refl) (λ id m. refl) in
         record {
           t = with_cpu me t d;
-          runs = (with_cpu me t d, (sends_to s me f.whole to (rw f.online_is on), refl));
-          follows = follows_set online b b t me d below (follows_but online me b t g) (g.calls me below) (λ j ne. refl) (λ id m. refl);
+          runs = (with_cpu me t d, (sends_to s me f.whole to l (rw f.online_is on), refl));
+          follows = follows_set online b b t me d below (follows_but online me b t g) (g.calls me) (λ j ne. refl) (λ id m. refl);
           leaves = leaves_then s t (with_cpu me t d) (leaves_cpu s to c f.cpus_are l refl refl) (leaves_cpu t me d g.cpus_are below refl refl);
         }
 
@@ -281,7 +281,7 @@ module _ (online : ℕ) (a : CallState) (s : StateValue) (f : Follows online a s
           online_is = f.online_is;
           cpus_are = f.cpus_are;
           places_are = length-placed (Batch me) (cpu_at s me).queue s.places ∙ f.places_are;
-          calls = λ cpu l ne. f.calls cpu l ∙ rw (ne_eqb cpu me ne) refl;
+          calls = λ cpu ne. f.calls cpu ∙ rw (ne_eqb cpu me ne) refl;
           places = λ id l. places_moved law id l;
         } in
         let left : LeavesStops s m = record { setting = refl; gate = refl; stops = refl; words = refl; irq = λ cpu. refl; inside = λ cpu. refl } in
@@ -305,14 +305,14 @@ module _ (online : ℕ) (a : CallState) (s : StateValue) (f : Follows online a s
         let u = with_cpu me t d in
         let v = with_place h.call.id (Queue to) u in
         let b : CallState = record a { queue = put a.queue to (a.queue to ++ h.call ∷ []) } in
-        let his : calls_in (cpu_at s to) ≡ calls_of a to = f.calls to m in
+        let his : calls_in (cpu_at s to) ≡ calls_of a to = f.calls to in
         let here : calls_in c ≡ calls_of b to =
         rw (eq-eqb to to refl, map-append told_call (a.queue to) (h.call ∷ []), same) (ap (λ (y : CallsOfCpu). record y { queue = y.queue ++ x ∷ [] }) his) in
         let g : Follows online b t = follows_set online a b s to c m (follows_but online to a s f) here (λ j k. rw (ne_eqb j to k) refl) (λ id k. refl) in
-        let k : Follows online b u = follows_set online b b t me d below (follows_but online me b t g) (g.calls me below) (λ j k. refl) (λ id k. refl) in
+        let k : Follows online b u = follows_set online b b t me d below (follows_but online me b t g) (g.calls me) (λ j k. refl) (λ id k. refl) in
         record {
           t = v;
-          runs = (v, (queues_call s me f.whole x to (rw f.online_is on) ne (f.places h.call.id l ∙ free), refl));
+          runs = (v, (queues_call s me f.whole x to m (rw f.online_is on) ne (f.places h.call.id l ∙ free), refl));
           follows = follows_placed online b (appended a me to (Some h)) u h.call.id (Queue to) l (rw (eq-eqb h.call.id h.call.id refl) refl)
               (λ j k. put_other a.place h.call.id (machine.Queued to) j k) (λ j. refl) k;
           leaves = leaves_then s u v (leaves_then s t u (leaves_cpu s to c f.cpus_are m refl refl) (leaves_cpu t me d g.cpus_are below refl refl))

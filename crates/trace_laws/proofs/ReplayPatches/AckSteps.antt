@@ -18,7 +18,7 @@ use Rattle.trace_laws.proofs.ReplayStops.AckEvents as acking
 use Rattle.trace_laws.proofs.{ReplayCalls.StepEvents.by, ReplayPatches.PatchEvents.AreEntries, ReplayPatches.PatchEvents.acks_patch}
 use Rattle.trace_laws.proofs.{ReplayPatches.PatchEvents.answers_patch, ReplayStops.ChangedStates.stop_here, ReplayStops.Here.Here, ReplayStops.Here.my}
 use Rattle.trace_laws.proofs.{ReplayStops.Here.parts, ReplayStops.PhaseEvents.told_acked, ReplayStops.StepEvents.ReachesStops, ReplayStops.StepEvents.stop_step}
-use Rattle.trace_laws.proofs.{ReplayStops.TurnSteps.Made}
+use Rattle.trace_laws.proofs.{ReplayStops.StopEvents.made_low, ReplayStops.TurnSteps.Made}
 use Rattle.smp_words.specs.declared.phase.TheConstants.{DISABLE_IRQ, RUN}
 
 -- who is the last to acknowledge does not depend on the patch
@@ -120,13 +120,13 @@ module _ (known : Here) where
     unfolding told_goes
     made =
         let here_told = patching.told_now known slot w so.3 so.4 on so.0 so.1 in
-        acks_patch s me whole slot (omega (arith, here.below)) ((my known).inside ∙ so.0) (ap (λ (z : Task). z.kind) task ∙ so.4)
+        made_low me below (acks_patch s me whole slot (omega (arith, here.below)) ((my known).inside ∙ so.0) (ap (λ (z : Task). z.kind) task ∙ so.4)
         (patching.told_active known slot w so.3 so.4 on so.0 so.1)
         (patching.acked_low known slot w so.3 so.4 on so.0 so.1)
         (here_told.phase ∙ patching.phase_now known slot w so.3 so.4 on so.0 so.1) over
         ∙ (ap (λ (z : ToldStop). Ok (with_stop slot (with_patch slot (patch_left slot s) s) z))
         (ap (acknowledged_in me 3 true) (stop_here s slot (record (stop_at s slot) { patch = Some (patch_left slot s) }) f.stops_are here.below) ∙ acked_now)
-        ∙ ap (λ (z : List ToldStop). Ok (record s { stops = z })) (set-set s.stops slot (record (stop_at s slot) { patch = Some (patch_left slot s) }) Y))
+        ∙ ap (λ (z : List ToldStop). Ok (record s { stops = z })) (set-set s.stops slot (record (stop_at s slot) { patch = Some (patch_left slot s) }) Y)))
 
     stood_now : X.standing me ≡ Inside RUN RUN
     stood_now = put_same (p.now.stop slot).standing me (Inside RUN RUN)

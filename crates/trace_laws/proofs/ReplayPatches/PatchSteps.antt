@@ -26,7 +26,7 @@ use Rattle.trace_laws.proofs.ReplayStops.ChangedStates.{IsAlike, IsAlone, cpu_al
 use Rattle.trace_laws.proofs.ReplayStops.TurnSteps.{Made, seat_is, sits, st, then_if}
 use Rattle.trace_laws.proofs.{ReplayCalls.KeptPasts.past_else, ReplayCalls.KeptPasts.past_here, ReplayCalls.StepEvents.by, ReplayStops.Here.Here}
 use Rattle.trace_laws.proofs.{ReplayStops.Here.parts, ReplayStops.StepEvents.ReachesStops, ReplayStops.StepEvents.member_as, ReplayStops.StepEvents.quiet_step}
-use Rattle.trace_laws.proofs.ReplayStops.Here.{my}
+use Rattle.trace_laws.proofs.{ReplayStops.Here.my, ReplayStops.StopEvents.made_low}
 use Rattle.trace_laws.specs.AgreeingPatches.{PatchingIs}
 use Rattle.smp_words.specs.declared.phase.TheConstants.{DISABLE_IRQ, RUN}
 
@@ -310,7 +310,7 @@ module _ (known : Here) where
               (f.stops slot ((my known).stop slot Is.0).below) (kind_is slot w Is.3 Is.4 on Is.0 Is.1) (none_called slot w Is.3 Is.4 on Is.0 Is.1))
           | inr ne ↦ rw (stop_else s slot Told j ne) (f.stops j l)
         ]);
-        cpus_are = λ d l. elim (cases_eq d me) [
+        cpus_are = λ d. elim (cases_eq d me) [
           | inl e ↦ rw (e, past_here pasts me Old sized below) (record {
             inside = (my known).inside ∙ sym (inside me);
             irq = (my known).irq ∙ sym (irq me);
@@ -318,7 +318,7 @@ module _ (known : Here) where
             answer = λ z. (my known).answer (sym (inside me) ∙ z);
             reads = λ z. irq me ∙ (my known).reads z;
           })
-          | inr ne ↦ rw (past_else pasts me Old d ne) (cpu_alike p q s T d (past_at pasts d) (other d ne) (f.cpus_are d l))
+          | inr ne ↦ rw (past_else pasts me Old d ne) (cpu_alike p q s T d (past_at pasts d) (other d ne) (f.cpus_are d))
         ];
         keys = stored_keys s.words At change.0 change.1 there f.keys_are f.keys;
         sites = stored_sites s.words At change.0 change.1 there f.sites_are f.sites;
@@ -359,8 +359,9 @@ module _ (known : Here) where
         let phase = told_now slot w Is.3 Is.4 on Is.0 Is.1 in
         let q = tells U p (seen_of me (store_of (Key k, n)) (At (word.Key k)) None) 0 in
         let is : goes me (event.Label (labels.Set k n)) s ≡ Ok T =
-        rw e (makes_key s me whole slot (omega (arith, ((my known).stop slot Is.0).below)) in_told kind_told (told_active slot w Is.3 Is.4 on Is.0 Is.1) low
-        (phase.phase ∙ phase_now slot w Is.3 Is.4 on Is.0 Is.1) k n (next ∙ ap Some e)) in
+        made_low me below (rw e (makes_key s me whole slot (omega (arith, ((my known).stop slot Is.0).below)) in_told kind_told
+        (told_active slot w Is.3 Is.4 on Is.0 Is.1) low
+        (phase.phase ∙ phase_now slot w Is.3 Is.4 on Is.0 Is.1) k n (next ∙ ap Some e))) in
         subst (λ (z : Change). ReachesStops q (put_word At (label_word z.0) z.1) (slice_set pasts me Old) s ((me, event.Label (labels.Set k n)) ∷ [])) e
         (reaches_store q (λ j. refl) (λ d. refl) (λ d. refl) (λ d. refl) refl refl (event.Label (labels.Set k n)) is)
     stored_place (Site j) n e =
@@ -369,9 +370,9 @@ module _ (known : Here) where
         let q = tells U p (seen_of me (store_of (Site j, n)) (At (word.Site j)) None) 0 in
         let back : site_word (is_on n) ≡ n = (subst (λ (z : Change). IsStoreOf w.func z.0 z.1) e store_is).1 in
         let is : goes me (event.Label (labels.Turn j (is_on n))) s ≡ Ok T =
-        rw (back, e) (makes_site s me whole slot (omega (arith, ((my known).stop slot Is.0).below)) in_told kind_told
+        made_low me below (rw (back, e) (makes_site s me whole slot (omega (arith, ((my known).stop slot Is.0).below)) in_told kind_told
         (told_active slot w Is.3 Is.4 on Is.0 Is.1) low
-        (phase.phase ∙ phase_now slot w Is.3 Is.4 on Is.0 Is.1) j n (next ∙ ap Some e)) in
+        (phase.phase ∙ phase_now slot w Is.3 Is.4 on Is.0 Is.1) j n (next ∙ ap Some e))) in
         subst (λ (z : Change). ReachesStops q (put_word At (label_word z.0) z.1) (slice_set pasts me Old) s
         ((me, event.Label (labels.Turn j (is_on n))) ∷ [])) e
         (reaches_store q (λ d. refl) (λ d. refl) (λ d. refl) (λ d. refl) refl refl (event.Label (labels.Turn j (is_on n))) is)

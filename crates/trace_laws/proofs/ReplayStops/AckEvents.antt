@@ -13,6 +13,7 @@ use Rattle.trace_model.specs.declared.event.StopEvent.TheVariants as stops
 use Rattle.trace_laws.proofs.{ReplayStops.Here.Here, ReplayStops.Here.my, ReplayStops.Here.parts, ReplayStops.LastToAcknowledge.none_late}
 use Rattle.trace_laws.proofs.{ReplayStops.LastToAcknowledge.some_late, ReplayStops.StepEvents.ReachesStops, ReplayStops.StepKinds.Goes}
 use Rattle.trace_laws.proofs.{ReplayStops.StopEvents.acks_disabled, ReplayStops.StopEvents.acks_other, ReplayStops.StopEvents.acks_run}
+use Rattle.trace_laws.proofs.{ReplayStops.StopEvents.made_low}
 use Rattle.smp_words.specs.declared.phase.TheConstants.{DISABLE_IRQ, RUN}
 
 module _ (known : Here) (at' : Word → ℕ) (keys : (key : ℕ) → at' (Key key) ≡ (parts known).At (Key key))
@@ -113,7 +114,7 @@ module _ (known : Here) (at' : Word → ℕ) (keys : (key : ℕ) → at' (Key ke
     -- the premises of each phase
     acks_as : (p.now.stop slot).work.kind ≢ One → (a + 1 ≡ DISABLE_IRQ → p.now.irq me ≡ false)
         → (a + 1 ≡ RUN → has (p.now.stop slot).work.active me ≡ true → ((p.now.stop slot).work.kind ≡ Multi) × (has_entered (p.calling me) ≡ true))
-        → goes me (event.Stop (stops.Ack (a + 1))) s ≡ Ok (with_stop slot s (acknowledged_in me (a + 1) true (stop_at s slot)))
+        → stop_goes me (stops.Ack (a + 1)) s ≡ Ok (with_stop slot s (acknowledged_in me (a + 1) true (stop_at s slot)))
     unfolding stop_goes
     acks_as kind off called =
         let acked_is : acked_by (stop_at s slot) me ≡ a = (was.members me below).acked_is ∙ ap acked stood in
@@ -162,5 +163,5 @@ module _ (known : Here) (at' : Word → ℕ) (keys : (key : ℕ) → at' (Key ke
           acked = slice_set (stop_at s slot).acked me (a + 1);
           raiser = raiser_of (cond (at (Slot slot field.Ack) == 1) (Refills me) (p.now.stop slot).raising);
         }))
-    ack_made kind off called = acks_as kind off called
-        ∙ ap (λ (z : ToldStop). Ok (with_stop slot s z)) (acknowledged_as (at (Slot slot field.Ack) == 1) refl)
+    ack_made kind off called = made_low me below (acks_as kind off called
+        ∙ ap (λ (z : ToldStop). Ok (with_stop slot s z)) (acknowledged_as (at (Slot slot field.Ack) == 1) refl))

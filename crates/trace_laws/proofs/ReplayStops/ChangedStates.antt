@@ -81,9 +81,9 @@ module _ (p q : StopState) (at at' : Word → ℕ) (pasts : List Past) (s t : St
     sites_are = rw k.words f.sites_are;
     gate = k.gate;
     stops = k.stops;
-    cpus_are = λ cpu l. elim (cases_eq cpu me) [
+    cpus_are = λ cpu. elim (cases_eq cpu me) [
       | inl e ↦ rw (e, past_here pasts me past k.pasts_are k.below) k.mine
-      | inr ne ↦ rw (past_else pasts me past cpu ne) (cpu_alike p q s t cpu (past_at pasts cpu) (k.others cpu ne) (f.cpus_are cpu l))
+      | inr ne ↦ rw (past_else pasts me past cpu ne) (cpu_alike p q s t cpu (past_at pasts cpu) (k.others cpu ne) (f.cpus_are cpu))
     ];
     keys = λ key. rw (k.words, k.keys key) (f.keys key);
     sites = λ site. rw (k.words, k.sites site) (f.sites site);

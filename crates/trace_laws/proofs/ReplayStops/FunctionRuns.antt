@@ -9,7 +9,7 @@ use Rattle.trace_model.specs.declared.event.Event.TheVariants as event
 use Rattle.trace_model.specs.declared.event.StopEvent.TheVariants as stops
 use Rattle.trace_laws.proofs.ReplayStops.StepEvents.{ReachesStops, member_as, set_step, stop_step}
 use Rattle.trace_laws.proofs.ReplayStops.StepKinds.{Goes, in_none, in_slot, members_set, one_stop, silent, told_still}
-use Rattle.trace_laws.proofs.ReplayStops.StopEvents.{MayAnswer, completes_one, completes_round, runs_multi, runs_one}
+use Rattle.trace_laws.proofs.ReplayStops.StopEvents.{MayAnswer, completes_one, completes_round, made_low, runs_multi, runs_one}
 use Rattle.trace_laws.proofs.{ReplayCalls.ChangedStates.cpu_here, ReplayStops.ChangedStates.stop_here, ReplayStops.Here.Here, ReplayStops.Here.my}
 use Rattle.trace_laws.proofs.{ReplayStops.Here.parts, ReplayStops.Moves.none_called}
 use Rattle.smp_words.specs.declared.phase.TheConstants.{DISABLE_IRQ, RUN, EXIT}
@@ -106,9 +106,10 @@ module _ (known : Here) (at' : Word → ℕ) (keys : (key : ℕ) → at' (Key ke
         let task_arg : (stop_at s slot).task.arg ≡ arg = ap (λ (z : Task). z.arg) was.task ∙ arg_is in
         let acked_is : acked_by (stop_at s slot) me ≡ a = member.acked_is ∙ ap acked stood in
         let made : goes me (event.Stop (stops.Run func arg)) s ≡ Ok t = elim kinds [
-          | inl one ↦ runs_one s me whole slot (omega (arith, i.below)) in_told func arg (ap (λ (z : Task). z.kind) was.task ∙ one) not_yet task_func task_arg
-          | inr k ↦ runs_multi s me whole slot (omega (arith, i.below)) in_told func arg (ap (λ (z : Task). z.kind) was.task ∙ k.0)
-              (ap (λ (z : Task). has z.active me) was.task ∙ k.1.0) (at_two a acked_is k.1.1.0) (was.phase ∙ k.1.1.1) not_yet task_func task_arg
+          | inl one ↦ made_low me below (runs_one s me whole slot (omega (arith, i.below)) in_told func arg (ap (λ (z : Task). z.kind) was.task ∙ one)
+              not_yet task_func task_arg)
+          | inr k ↦ made_low me below (runs_multi s me whole slot (omega (arith, i.below)) in_told func arg (ap (λ (z : Task). z.kind) was.task ∙ k.0)
+              (ap (λ (z : Task). has z.active me) was.task ∙ k.1.0) (at_two a acked_is k.1.1.0) (was.phase ∙ k.1.1.1) not_yet task_func task_arg)
         ] in
         stop_step p q at at' pasts s me (past_at pasts me) below sized cpus_are f keys sites slot (p.now.stop slot) y (cpu_at s me) i.below
         (one_stop known at' keys sites q slot (p.now.stop slot) (Some slot) (p.now.irq me) calling y g
@@ -212,8 +213,8 @@ module _ (known : Here) (at' : Word → ℕ) (keys : (key : ℕ) → at' (Key ke
         })) (in_stop None (cpu_at s me)))
     unfolding stop_goes
     complete_one kind called =
-        completes_one s me whole slot (omega (arith, i.below)) ((my known).inside ∙ inside) (past_at pasts me).answer (ap (λ (z : Task). z.kind) was.task
-        ∙ kind) (i.ran ∙ rw kind called)
+        made_low me below (completes_one s me whole slot (omega (arith, i.below)) ((my known).inside ∙ inside) (past_at pasts me).answer
+        (ap (λ (z : Task). z.kind) was.task ∙ kind) (i.ran ∙ rw kind called))
 
     pub complete_round : (p.now.stop slot).work.kind ≢ One → EXIT ≤ acked ((p.now.stop slot).standing me)
         → is_cpu (raiser_of (p.now.stop slot).raising) me ≡ false
@@ -226,6 +227,6 @@ module _ (known : Here) (at' : Word → ℕ) (keys : (key : ℕ) → at' (Key ke
     unfolding stop_goes
     complete_round kind high not_last on may =
         let acks = member.acked_is in
-        completes_round s me whole slot (omega (arith, i.below)) ((my known).inside ∙ inside) (past_at pasts me).answer
+        made_low me below (completes_round s me whole slot (omega (arith, i.below)) ((my known).inside ∙ inside) (past_at pasts me).answer
         (λ x. kind (sym (ap (λ (z : Task). z.kind) was.task) ∙ x)) (omega (arith, acks, high)) (ap (λ (z : Option ℕ). is_cpu z me) was.raiser
-        ∙ not_last) ((my known).irq ∙ on) may
+        ∙ not_last) ((my known).irq ∙ on) may)

@@ -14,7 +14,7 @@ pub record Here : Type 0 where
   pub sized : length pasts ≡ 32
   pub s : StateValue
   pub whole : s.setting.without ≡ nothing_left_out
-  pub cpus_are : length s.cpus ≡ 32
+  pub cpus_are : length s.cpus ≡ 512
   pub f : FollowsStops p (stop_number v.table) pasts s
   pub quiet : handles_nothing (cpu_at s me) ≡ Ok tt
 
@@ -35,4 +35,4 @@ parts k = record {
 
 -- what it has done in the stop that it is in
 pub my : (k : Here) → CpuIs k.p k.s (past_at k.pasts k.me) k.me
-my k = k.f.cpus_are k.me k.below
+my k = k.f.cpus_are k.me

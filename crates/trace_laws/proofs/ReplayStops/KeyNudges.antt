@@ -53,10 +53,10 @@ module _ (known : Here)
       sites_are = f.sites_are;
       gate = f.gate ∙ sym gate;
       stops = λ j l. subst (λ (z : Stop). StopIs z (stop_at s j)) (sym (stop j)) (f.stops j l);
-      cpus_are = λ d l. elim (cases_eq d me) [
+      cpus_are = λ d. elim (cases_eq d me) [
         | inl e ↦ rw (e, past_here pasts me Old sized below) (cpu_alike p q s (record s { words = stored (Key key) new s.words }) me Old (alike me) (my known))
         | inr ne ↦ rw (past_else pasts me Old d ne) (cpu_alike p q s (record s { words = stored (Key key) new s.words }) d (past_at pasts d) (alike d)
-            (f.cpus_are d l))
+            (f.cpus_are d))
       ];
       keys = λ j. elim (cases_eq j key) [
         | inl e ↦ rw (e, eq-eqb key key refl) (get_or-set_same s.words.keys key new 0 (rw f.keys_are small))
@@ -77,7 +77,7 @@ module _ (known : Here)
   nudge_made : (key found new : ℕ) → At (word.Key key) ≡ found → p.now.irq me ≡ true → IsNudge found new
       → goes me (event.Label (labels.Nudge key (nat_lt found new))) s ≡ Ok (record s { words = stored (Key key) new s.words })
   unfolding label_goes
-  nudge_made key found new is on k = rw ((my known).irq ∙ on, nudges_told key found new s.words (f.keys key ∙ is) k) refl
+  nudge_made key found new is on k = rw (lt-ltb me 32 (omega (arith, below)), (my known).irq ∙ on, nudges_told key found new s.words (f.keys key ∙ is) k) refl
 
   nudge_by : (key found expected new : ℕ) (b : Bool) → (found == expected) ≡ b → At (word.Key key) ≡ found → p.now.irq me ≡ true → key < 4
       → IsNudge expected new

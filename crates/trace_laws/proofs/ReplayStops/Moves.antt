@@ -11,7 +11,8 @@ use Rattle.trace_laws.proofs.ReplayStops.StepEvents.{ReachesStops, cpu_step, mem
 use Rattle.trace_laws.proofs.ReplayStops.StepKinds.{Goes, in_slot, members_set, one_stop, silent, told_still}
 use Rattle.trace_laws.proofs.{ReplayCalls.ChangedStates.cpu_here, ReplayPatches.OnePatcher.elsewhere_none, ReplayPatches.OnePatcher.first_is}
 use Rattle.trace_laws.proofs.{ReplayPatches.OnePatcher.nobody_patches, ReplayStops.ChangedStates.stop_here, ReplayStops.Here.Here, ReplayStops.Here.my}
-use Rattle.trace_laws.proofs.{ReplayStops.Here.parts, ReplayStops.StopEvents.enters_stop, ReplayStops.StopEvents.turns_off}
+use Rattle.trace_laws.proofs.{ReplayStops.Here.parts, ReplayStops.StopEvents.enters_stop, ReplayStops.StopEvents.made_low}
+use Rattle.trace_laws.proofs.{ReplayStops.StopEvents.turns_off}
 use Rattle.smp_words.specs.declared.phase.TheConstants.{DISABLE_IRQ, RUN}
 
 -- a CPU that has called nothing has called none of any kind
@@ -86,8 +87,8 @@ module _ (known : Here) (at' : Word → ℕ) (keys : (key : ℕ) → at' (Key ke
       ((me, event.Stop (stops.Enter slot)) ∷ []) (
         t,
         (
-          enters_stop s me whole slot (omega arith) ((my known).inside ∙ inside_none) ((f.stops slot l).is_open ∙ is_open) (member.called
-              ∙ ap is_called called),
+          made_low me below (enters_stop s me whole slot (omega arith) ((my known).inside ∙ inside_none) ((f.stops slot l).is_open ∙ is_open) (member.called
+              ∙ ap is_called called)),
           refl,
         ),
       ) refl
@@ -147,8 +148,8 @@ module _ (known : Here) (at' : Word → ℕ) (keys : (key : ℕ) → at' (Key ke
         (p.calling me) (stop_at s slot) g (λ cpu ne. refl) refl) (λ _. told_looked q false (p.calling me) g) c ((me, event.Stop stops.Off) ∷ []) (
           t,
           (
-            turns_off s me whole slot (omega (arith, i.below)) ((my known).inside ∙ inside) kind_is ((my known).irq ∙ irq) (omega arith) (was.phase
-                ∙ at_two) quiet,
+            made_low me below (turns_off s me whole slot (omega (arith, i.below)) ((my known).inside ∙ inside) kind_is ((my known).irq ∙ irq)
+                (omega arith) (was.phase ∙ at_two) quiet),
             refl,
           ),
         ) refl

@@ -9,7 +9,7 @@ use Rattle.trace_model.specs.declared.event.StopEvent.TheVariants as stops
 use Rattle.trace_laws.proofs.ReplayStops.StepEvents.{ReachesStops, member_as, set_step, stop_step}
 use Rattle.trace_laws.proofs.ReplayStops.StepKinds.{Goes, in_slot, members_set, one_stop}
 use Rattle.trace_laws.proofs.{ReplayCalls.ChangedStates.cpu_here, ReplayStops.ChangedStates.stop_here, ReplayStops.Here.Here, ReplayStops.Here.my}
-use Rattle.trace_laws.proofs.{ReplayStops.Here.parts, ReplayStops.StopEvents.raises_phase, ReplayStops.StopEvents.turns_on}
+use Rattle.trace_laws.proofs.{ReplayStops.Here.parts, ReplayStops.StopEvents.made_low, ReplayStops.StopEvents.raises_phase, ReplayStops.StopEvents.turns_on}
 use Rattle.smp_words.specs.declared.phase.TheConstants.{EXIT}
 
 module _ (known : Here) (at' : Word → ℕ) (keys : (key : ℕ) → at' (Key key) ≡ (parts known).At (Key key))
@@ -120,7 +120,7 @@ module _ (known : Here) (at' : Word → ℕ) (keys : (key : ℕ) → at' (Key ke
           set_step p q at at' pasts s me (past_at pasts me) below sized cpus_are f keys sites slot x y c i.below
           (one_stop known at' keys sites q slot x (Some slot) true calling y g (λ cpu ne. ran cpu)
           unpatched) told
-          ((me, e) ∷ ((me, event.Stop stops.On) ∷ [])) (m, (made, (t, (on, refl)))) refl
+          ((me, e) ∷ ((me, event.Stop stops.On) ∷ [])) (m, (made, (t, (made_low me below on, refl)))) refl
           (in_slot known at' keys sites q t (past_at pasts me) slot x true calling g i.below
           (ap (λ (z : CpuState). z.inside) my_cpu ∙ ((my known).inside ∙ inside)) (ap (λ (z : CpuState). z.irq) my_cpu)
           (ap (λ (z : ToldStop). has_run z me) here ∙ (ran me ∙ (i.ran ∙ sym calls)))
@@ -167,5 +167,5 @@ module _ (known : Here) (at' : Word → ℕ) (keys : (key : ℕ) → at' (Key ke
     pub raise_made : (phase : ℕ) → (p.now.stop slot).work.kind ≢ One → (p.now.stop slot).phase ≡ phase - 1 → raiser_of (p.now.stop slot).raising ≡ Some me
         → goes me (event.Stop (stops.Raise phase)) s ≡ Ok (with_stop slot s (record (stop_at s slot) { phase = phase; raiser = None }))
     unfolding stop_goes
-    raise_made phase kind at_phase last = raises_phase s me whole slot (omega (arith, i.below)) ((my known).inside ∙ inside) phase
-        (λ x. kind (sym (ap (λ (z : Task). z.kind) was.task) ∙ x)) (was.phase ∙ at_phase) (was.raiser ∙ last)
+    raise_made phase kind at_phase last = made_low me below (raises_phase s me whole slot (omega (arith, i.below)) ((my known).inside ∙ inside) phase
+        (λ x. kind (sym (ap (λ (z : Task). z.kind) was.task) ∙ x)) (was.phase ∙ at_phase) (was.raiser ∙ last))

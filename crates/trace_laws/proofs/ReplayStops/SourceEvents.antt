@@ -18,7 +18,7 @@ use Rattle.trace_laws.proofs.{ReplayPatches.OnePatcher.inside_by, ReplayPatches.
 use Rattle.trace_laws.proofs.{ReplayStops.ComparedAnswers.differs, ReplayStops.ComparedAnswers.same_int, ReplayStops.Here.Here, ReplayStops.Here.my}
 use Rattle.trace_laws.proofs.{ReplayStops.Here.parts, ReplayStops.LastToAcknowledge.first_none, ReplayStops.LastToAcknowledge.first_some}
 use Rattle.trace_laws.proofs.{ReplayStops.StepEvents.ReachesStops, ReplayStops.StepKinds.Goes, ReplayStops.StopEvents.collects_result}
-use Rattle.trace_laws.proofs.{ReplayStops.StopEvents.opens_stop}
+use Rattle.trace_laws.proofs.{ReplayStops.StopEvents.made_low, ReplayStops.StopEvents.opens_stop}
 
 -- a CPU of a stop that opens
 member_new : (task : Task) (c : ℕ) (b : Bool) → c < cpus → has task.mask c ≡ b → MemberIs (cond b Called Outside) (opening task) c
@@ -227,7 +227,7 @@ module _ (known : Here) (at' : Word → ℕ) (keys : (key : ℕ) → at' (Key ke
 
   pub key_read : (key : ℕ) → p.now.irq me ≡ true → goes me (event.Label (labels.Key key (is_on (at (Key key))))) s ≡ Ok s
   unfolding label_goes
-  key_read key on = rw ((my known).irq ∙ on, f.keys key, xor_same (is_on (at (Key key)))) refl
+  key_read key on = rw (lt-ltb me 32 (omega (arith, below)), (my known).irq ∙ on, f.keys key, xor_same (is_on (at (Key key)))) refl
 
   jumps_on : (n : ℕ) → not (n == 0) ≡ nat_lt 0 n
   jumps_on zero = refl
@@ -235,7 +235,8 @@ module _ (known : Here) (at' : Word → ℕ) (keys : (key : ℕ) → at' (Key ke
 
   pub site_read : (site : ℕ) → p.now.irq me ≡ true → goes me (event.Label (labels.Site site (is_on (at (Site site))))) s ≡ Ok s
   unfolding label_goes
-  site_read site on = rw ((my known).irq ∙ on, f.sites site, jumps_on (at (Site site)), xor_same (is_on (at (Site site)))) refl
+  site_read site on =
+      rw (lt-ltb me 32 (omega (arith, below)), (my known).irq ∙ on, f.sites site, jumps_on (at (Site site)), xor_same (is_on (at (Site site)))) refl
 
   -- a source opens its stop
   module _ (q : StopState) (w : Work) (work : (p.now.stop me).work ≡ w) (shut : (p.now.stop me).is_open ≡ false) where
@@ -275,8 +276,8 @@ module _ (known : Here) (at' : Word → ℕ) (keys : (key : ℕ) → at' (Key ke
     opens_told task is works online gate stop_is inside irq calling gate_is patching =
         rw is (empty_step q (past_at pasts me) me (opened (p.now.stop me) (p.now.stop me).work) (opening
         (told_work w)) below nobody stop_is inside irq calling gate_is patching told_opened
-        (my known) (event.Stop (stops.Open (told_work w))) (opens_stop s me whole (told_work w) ((f.stops me below).is_open ∙ shut) (f.gate ∙ gate) works
-        online))
+        (my known) (event.Stop (stops.Open (told_work w)))
+        (made_low me below (opens_stop s me whole (told_work w) ((f.stops me below).is_open ∙ shut) (f.gate ∙ gate) works online)))
 
   -- a source collects the result
   module _ (q : StopState) (x : Stop) (open_now : (p.now.stop me).is_open ≡ true) (x_shut : x.is_open ≡ false)
@@ -308,7 +309,7 @@ module _ (known : Here) (at' : Word → ℕ) (keys : (key : ℕ) → at' (Key ke
           shows = λ o. absurd (false≢true (sym x_shut ∙ o));
         } in
         empty_step q (past_at pasts me) me x (record (stop_at s me) { is_open = false }) below over stop_is inside irq calling gate_is patching told
-        (my known) (event.Stop (stops.Collect answer)) (collects_result s me whole answer (k.is_open ∙ open_now) done given)
+        (my known) (event.Stop (stops.Collect answer)) (made_low me below (collects_result s me whole answer (k.is_open ∙ open_now) done given))
 
     -- all have completed
     pub all_done : unfinished (stop_at s me) ≡ None

@@ -43,7 +43,7 @@ pub record OneStop (p q : StopState) (me source : ℕ) (x : Stop) (e f : ToldSto
   pub patch : ((q.now.patching ≡ p.now.patching) × (f.patch ≡ e.patch)) ⊎ IsAlone p me
 
 module _ (p q : StopState) (at at' : Word → ℕ) (pasts : List Past) (s : StateValue) (me : ℕ) (past : Past) (below : me < cpus) (sized : length pasts ≡ 32)
-    (cpus_are : length s.cpus ≡ 32) (f : FollowsStops p at pasts s)
+    (cpus_are : length s.cpus ≡ 512) (f : FollowsStops p at pasts s)
     (keys : (key : ℕ) → at' (Key key) ≡ at (Key key)) (sites : (site : ℕ) → at' (Site site) ≡ at (Site site)) where
   -- no stop and no CPU is told to be another
   pub quiet_step : q.gate ≡ p.gate → ((j : ℕ) → q.now.stop j ≡ p.now.stop j) → ((cpu : ℕ) → cpu ≢ me → q.now.inside cpu ≡ p.now.inside cpu)

@@ -1,11 +1,11 @@
 -- What events of stops make of a state that leaves nothing out, where their premises hold.
-use Rattle.trace_laws.proofs.Names.{Bool, Err, Kind, Multi, None, Ok, One, Option, Reason, Result, Setting, Some, StateValue, Stop, Task, ack_by}
-use Rattle.trace_laws.proofs.Names.{acked_by, acknowledged, answer_wanted, ap, collect_by, collected, complete_by, completed, cond, cpu_at, enter_by, entered}
-use Rattle.trace_laws.proofs.Names.{eq-eqb, false, false≢true, gate_by, gives, handles_nothing, has, has_run, in_round, int_eq, is_called, is_cpu, is_work}
-use Rattle.trace_laws.proofs.Names.{le-ltb, lt-leb, lt-ltb, may_complete, not, off_by, offline_in, on_by, open_by, opened, raise_by, raised, ran_function, refl}
-use Rattle.trace_laws.proofs.Names.{run_by, slice_set, stop_at, stop_of, true, true≢false, unfinished, ungate_by, unless_offline, with_inside, with_irq}
-use Rattle.trace_laws.proofs.Names.{with_stop, ℕ, ℤ, ◌&&◌, ◌-◌, ◌<◌, ◌==◌, ◌>>=◌, ◌∙◌, ◌≡◌, ◌≢◌, ◌≤◌}
-use Rattle.trace_laws.proofs.ReplayNames.{Without, nothing_left_out, opening}
+use Rattle.trace_laws.proofs.Names.{Bool, Err, Kind, Multi, None, Ok, One, Option, Reason, Result, Setting, Some, StateValue, Stop, Task, ack_by, acked_by}
+use Rattle.trace_laws.proofs.Names.{acknowledged, answer_wanted, ap, arith, collect_by, collected, complete_by, completed, cond, cpu_at, enter_by, entered}
+use Rattle.trace_laws.proofs.Names.{eq-eqb, false, false≢true, gate_by, gives, handles_nothing, has, has_run, if_low, in_round, int_eq, is_called, is_cpu}
+use Rattle.trace_laws.proofs.Names.{is_work, le-ltb, lt-leb, lt-ltb, may_complete, not, off_by, offline_in, on_by, open_by, opened, raise_by, raised}
+use Rattle.trace_laws.proofs.Names.{ran_function, refl, run_by, slice_set, stop_at, stop_of, true, true≢false, unfinished, ungate_by, unless_offline}
+use Rattle.trace_laws.proofs.Names.{with_inside, with_irq, with_stop, ℕ, ℤ, ◌&&◌, ◌-◌, ◌<◌, ◌==◌, ◌>>=◌, ◌∙◌, ◌≡◌, ◌≢◌, ◌≤◌}
+use Rattle.trace_laws.proofs.ReplayNames.{Without, cpus, nothing_left_out, opening}
 use Rattle.trace_model.specs.declared.reason.Reason.TheVariants as reason
 use Rattle.smp_words.specs.declared.phase.TheConstants.{DISABLE_IRQ, RUN, EXIT}
 
@@ -63,6 +63,10 @@ completed_round stop me answer irq ne high not_last on may =
     (λ u. cond (not (has_run stop me) && not (int_eq answer (answer_wanted stop me))) wrong made)
     (may_round stop.task.kind stop me irq ne high not_last on)
     ∙ fails (not (has_run stop me) && not (int_eq answer (answer_wanted stop me))) wrong made may
+
+-- an event of stops, keys or sites is made by a CPU below 32
+pub made_low : {made : Result StateValue Reason} {t : StateValue} (me : ℕ) → me < cpus → made ≡ Ok t → if_low me made ≡ Ok t
+made_low me below e = rw (lt-ltb me 32 (omega (arith, below))) e
 
 module _ (s : StateValue) (me : ℕ) (whole : s.setting.without ≡ nothing_left_out) where
   pub takes_gate : s.gate ≡ None → gate_by me s ≡ Ok (record s { gate = Some me })

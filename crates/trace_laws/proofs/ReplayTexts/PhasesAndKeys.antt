@@ -114,7 +114,7 @@ module _ (known : Here) (u : Setting) (keys : u.keys ≡ known.v.labels.keys) (s
   -- the phase of a CPU inside a stop that has looked at it
   old_phase : (slot a l : ℕ) → p.now.inside me ≡ Some slot → (p.now.stop slot).standing me ≡ Inside a l → l ≢ 0 → Old.phase ≡ l
   old_phase slot a l inside stood some =
-      let i : InsideIs p s Old me slot = (f.cpus_are me below).stop slot inside in
+      let i : InsideIs p s Old me slot = (f.cpus_are me).stop slot inside in
       (subst (λ (z : Standing). PhaseIs z Old.phase) stood i.phase) some
 
   acknowledges : (x : Visit) (answer : ℕ) (ran : Bool) → C.stage ≡ Some (Advance x (round.Acknowledge answer ran)) → (1 ≤ Old.phase) × (Old.phase ≤ EXIT)

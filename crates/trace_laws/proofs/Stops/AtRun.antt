@@ -1,10 +1,10 @@
 -- Functions run, and patches store, only at RUN.
-use Rattle.trace_laws.proofs.Names.{Bool, Event, IsTrace, Key, Kind, LabelEvent, LabelWords, List, None, Ok, Option, Place, Reason, Result, Runs, Seen, Setting}
-use Rattle.trace_laws.proofs.Names.{Site, Some, StateValue, Stop, StopEvent, Task, [], acked_by, answer_of, ap, append-nil, arith, closed, cpu_at, ends, false}
-use Rattle.trace_laws.proofs.Names.{fresh_cpu, gate_by, gate_with, get_or-replicate, goes, has, has_run, holds_gate, id_of, in_patch, key_by, label_goes}
-use Rattle.trace_laws.proofs.Names.{length, length-replicate, made_store, map, may_run, next_store, nudge_by, opening, patch_by, patch_left, refl, replicate}
-use Rattle.trace_laws.proofs.Names.{running, seen, site_by, site_word, slice_index_or, stop_at, stop_goes, sym, true, ungate_by, unseen, work, ℕ, ℤ, ◌++◌, ◌<◌}
-use Rattle.trace_laws.proofs.Names.{◌>>=◌, ◌∙◌, ◌∷◌, ◌≡◌, ◌≤◌}
+use Rattle.trace_laws.proofs.Names.{Bool, CpuState, Event, IsTrace, Key, Kind, LabelEvent, LabelWords, List, None, Ok, Option, Place, Reason, Result, Runs}
+use Rattle.trace_laws.proofs.Names.{Seen, Setting, Site, Some, StateValue, Stop, StopEvent, Task, [], acked_by, answer_of, ap, append-nil, arith, closed}
+use Rattle.trace_laws.proofs.Names.{cpu_at, ends, false, fresh_cpu, gate_by, gate_with, get_or-replicate, goes, has, has_run, holds_gate, id_of, in_patch}
+use Rattle.trace_laws.proofs.Names.{key_by, label_goes, length, length-replicate, made_store, map, may_run, next_store, nudge_by, opening, patch_by, patch_left}
+use Rattle.trace_laws.proofs.Names.{refl, replicate, running, seen, site_by, site_word, slice_index_or, stop_at, stop_goes, sym, true, ungate_by, unseen, work}
+use Rattle.trace_laws.proofs.Names.{ℕ, ℤ, ◌++◌, ◌<◌, ◌>>=◌, ◌∙◌, ◌∷◌, ◌≡◌, ◌≤◌}
 use Rattle.smp_words.specs.declared.work.Kind.TheVariants.{Patch}
 use Rattle.trace_model.specs.declared.event.Event.TheVariants as event
 use Rattle.trace_model.specs.declared.event.LabelEvent.TheVariants as labels
@@ -13,7 +13,8 @@ use Rattle.trace_laws.proofs.Stops.CpusInStops.{CpuAt, RoundAt, Rounds, StopAt, 
 use Rattle.trace_laws.proofs.Stops.Ends.{RunsIn, collect_rounds, complete_rounds, open_rounds, run_is, run_rounds}
 use Rattle.trace_laws.proofs.Stops.Phases.{StoresIn, ack_rounds, in_patch_is, patch_by_rounds, raise_rounds}
 use Rattle.trace_laws.proofs.Stops.StopEvents.{actor_below, acts_at, enter_rounds, off_rounds, on_rounds, rounds_end}
-use Rattle.trace_laws.proofs.{Calls.MadeSteps.both_made, Calls.MadeSteps.passed, Calls.OtherEvents.label_keeps_calls, Calls.OtherEvents.stop_keeps_calls}
+use Rattle.trace_laws.proofs.{Calls.MadeSteps.both_made, Calls.MadeSteps.low_event, Calls.MadeSteps.passed, Calls.OtherEvents.label_keeps_calls}
+use Rattle.trace_laws.proofs.{Calls.OtherEvents.stop_keeps_calls}
 use Rattle.trace_laws.proofs.{Calls.ShownByTraces.cpus_at_first, Calls.ShownByTraces.end_once, Calls.ShownByTraces.fresh_at, Stops.QuietCpus.call_keeps_rounds}
 use Rattle.trace_laws.proofs.{Stops.QuietCpus.idle_is}
 use Rattle.trace_laws.specs.StopEvents.{FunctionsRunAtRun, IsAtRun, IsHeld, MayRun, MayStore, PatchesStoreAtRun, RunsAt, seen_from, seen_next, stores}
@@ -21,11 +22,11 @@ use Rattle.trace_laws.specs.StopEvents.{work_from, work_next}
 use Rattle.smp_words.specs.declared.phase.TheConstants.{DISABLE_IRQ, RUN}
 
 gate_rounds : (seen : ℕ → Seen) (work : ℕ → Option Task) (s : StateValue) (gate : Option ℕ) → Rounds seen work s → Rounds seen work (record s { gate = gate })
-gate_rounds seen work s gate r = record { cpus_are = r.cpus_are; stops_are = r.stops_are; at = r.at; cpu = r.cpu; stop = r.stop }
+gate_rounds seen work s gate r = record { cpus_are = r.cpus_are; stops_are = r.stops_are; at = r.at; cpu = r.cpu; away = r.away; stop = r.stop }
 
 words_rounds : (seen : ℕ → Seen) (work : ℕ → Option Task) (s : StateValue) (words : LabelWords) → Rounds seen work s →
     Rounds seen work (record s { words = words })
-words_rounds seen work s words r = record { cpus_are = r.cpus_are; stops_are = r.stops_are; at = r.at; cpu = r.cpu; stop = r.stop }
+words_rounds seen work s words r = record { cpus_are = r.cpus_are; stops_are = r.stops_are; at = r.at; cpu = r.cpu; away = r.away; stop = r.stop }
 
 gate_with_rounds : (seen : ℕ → Seen) (work : ℕ → Option Task) (gate : Option ℕ) (cpu : ℕ) (s t : StateValue) → Rounds seen work s →
     gate_with gate cpu s ≡ Ok t → Rounds seen work t
@@ -45,20 +46,20 @@ seen_all seen e cpu = seen_next cpu (seen cpu) e
 abbrev pub work_all : (ℕ → Option Task) → ℕ × Event → ℕ → Option Task
 work_all work e source = work_next source (work source) e
 
-stop_rounds : (seen : ℕ → Seen) (work : ℕ → Option Task) (actor : ℕ) (e : StopEvent) (s t : StateValue) → Rounds seen work s → stop_goes actor e s ≡ Ok t
-    → Rounds (seen_all seen (actor, event.Stop e)) (work_all work (actor, event.Stop e)) t
+stop_rounds : (seen : ℕ → Seen) (work : ℕ → Option Task) (actor : ℕ) (e : StopEvent) (s t : StateValue) → Rounds seen work s → actor < 32
+    → stop_goes actor e s ≡ Ok t → Rounds (seen_all seen (actor, event.Stop e)) (work_all work (actor, event.Stop e)) t
 unfolding stop_goes gate_by
-stop_rounds seen work actor stops.Gate s t r e = gate_with_rounds seen work s.gate actor s t r e
-stop_rounds seen work actor stops.Ungate s t r e = ungate_rounds seen work actor s t r e
-stop_rounds seen work actor (stops.Open task) s t r e = open_rounds seen work s t actor task r e
-stop_rounds seen work actor (stops.Enter source) s t r e = enter_rounds seen work s t source actor r e
-stop_rounds seen work actor (stops.Ack phase) s t r e = ack_rounds seen work s t actor phase r e
-stop_rounds seen work actor (stops.Raise phase) s t r e = raise_rounds seen work s t actor phase r e
-stop_rounds seen work actor stops.Off s t r e = off_rounds seen work s t actor r e
-stop_rounds seen work actor stops.On s t r e = on_rounds seen work s t actor r e
-stop_rounds seen work actor (stops.Run func arg) s t r e = run_rounds seen work s t actor func arg r e
-stop_rounds seen work actor (stops.Complete answer) s t r e = complete_rounds seen work s t actor answer r e
-stop_rounds seen work actor (stops.Collect answer) s t r e = collect_rounds seen work s t actor answer r e
+stop_rounds seen work actor stops.Gate s t r low e = gate_with_rounds seen work s.gate actor s t r e
+stop_rounds seen work actor stops.Ungate s t r low e = ungate_rounds seen work actor s t r e
+stop_rounds seen work actor (stops.Open task) s t r low e = open_rounds seen work s t actor task r low e
+stop_rounds seen work actor (stops.Enter source) s t r low e = enter_rounds seen work s t source actor r low e
+stop_rounds seen work actor (stops.Ack phase) s t r low e = ack_rounds seen work s t actor phase r e
+stop_rounds seen work actor (stops.Raise phase) s t r low e = raise_rounds seen work s t actor phase r e
+stop_rounds seen work actor stops.Off s t r low e = off_rounds seen work s t actor r e
+stop_rounds seen work actor stops.On s t r low e = on_rounds seen work s t actor r e
+stop_rounds seen work actor (stops.Run func arg) s t r low e = run_rounds seen work s t actor func arg r e
+stop_rounds seen work actor (stops.Complete answer) s t r low e = complete_rounds seen work s t actor answer r e
+stop_rounds seen work actor (stops.Collect answer) s t r low e = collect_rounds seen work s t actor answer r e
 
 after_rounds : (seen : ℕ → Seen) (work : ℕ → Option Task) (s t : StateValue) (test : Result (Unit {0}) Reason) → Rounds seen work s →
     (test >>= λ u. Ok s) ≡ Ok t → Rounds seen work t
@@ -81,8 +82,8 @@ label_rounds seen work actor (labels.Nudge key up) s t r e = nudge_rounds seen w
 pub rounds_goes : (seen : ℕ → Seen) (work : ℕ → Option Task) (actor : ℕ) (e : Event) (s t : StateValue) → Rounds seen work s → goes actor e s ≡ Ok t
     → Rounds (seen_all seen (actor, e)) (work_all work (actor, e)) t
 rounds_goes seen work actor (event.Call e) s t r g = rounds_kept seen work s t r (call_keeps_rounds actor e s t g)
-rounds_goes seen work actor (event.Stop e) s t r g = stop_rounds seen work actor e s t r g
-rounds_goes seen work actor (event.Label e) s t r g = label_rounds seen work actor e s t r g
+rounds_goes seen work actor (event.Stop e) s t r g = let made = low_event actor (stop_goes actor e s) t g in stop_rounds seen work actor e s t r made.0 made.1
+rounds_goes seen work actor (event.Label e) s t r g = label_rounds seen work actor e s t r (low_event actor _ t g).1
 
 rounds_runs : (seen : ℕ → Seen) (work : ℕ → Option Task) (es : List (ℕ × Event)) (s t : StateValue) → Rounds seen work s → Runs s es t
     → Rounds (λ cpu. seen_from cpu (seen cpu) es) (λ source. work_from source (work source) es) t
@@ -134,9 +135,10 @@ rounds_at_first u words =
       stops_are = ap length (stops_at_first u words) ∙ length-replicate 32 (closed u.online);
       at = λ source low cpu below.
           let st : stop_at s source ≡ closed u.online = stop_at_first u words source low in
-          let c : cpu_at s cpu ≡ fresh_cpu = fresh_at u words cpu below in
+          let c : cpu_at s cpu ≡ fresh_cpu = fresh_at u words cpu (omega (arith, below)) in
           rw (st, c) (closed_round s.setting.without.raises source cpu u.online below);
-      cpu = λ cpu below. let c : cpu_at s cpu ≡ fresh_cpu = fresh_at u words cpu below in rw c (fresh_at_all s.setting.without.switches);
+      cpu = λ cpu below. let c : cpu_at s cpu ≡ fresh_cpu = fresh_at u words cpu (omega (arith, below)) in rw c (fresh_at_all s.setting.without.switches);
+      away = λ cpu past below. ap (λ (x : CpuState). x.inside) (fresh_at u words cpu below);
       stop = λ source low. let st : stop_at s source ≡ closed u.online = stop_at_first u words source low in rw st (closed_stop u.online);
     }
 
@@ -153,8 +155,8 @@ runs_last (x ∷ es) e s t (n, (g, run)) = let r = runs_last es e n t run in (r.
 -- an event keeps what the trace is of
 pub setting_goes : (actor : ℕ) (e : Event) (s t : StateValue) → goes actor e s ≡ Ok t → t.setting ≡ s.setting
 setting_goes actor (event.Call e) s t g = (call_keeps_rounds actor e s t g).setting_is
-setting_goes actor (event.Stop e) s t g = (stop_keeps_calls actor e s t g).setting_is
-setting_goes actor (event.Label e) s t g = (label_keeps_calls actor e s t g).setting_is
+setting_goes actor (event.Stop e) s t g = (stop_keeps_calls actor e s t (low_event actor _ t g).1).setting_is
+setting_goes actor (event.Label e) s t g = (label_keeps_calls actor e s t (low_event actor _ t g).1).setting_is
 
 pub setting_at_first : (u : Setting) (words : LabelWords) → (opening u words).setting ≡ u
 unfolding opening
@@ -195,7 +197,7 @@ held_at u words es s source member run low opened_is round at below in_mask =
       disabled = rw (← acked) two;
       not_past = rw (← acked) (omega arith);
       irq = λ told. sym (q.irq_is (ap (λ x. x.without.switches) set ∙ told)) ∙ off;
-      quiet = end_once u words es s run member below ∙ ap (λ xs. ends member es ++ map id_of xs) nobody ∙ append-nil (ends member es);
+      quiet = end_once u words es s run member (omega (arith, below)) ∙ ap (λ xs. ends member es ++ map id_of xs) nobody ∙ append-nil (ends member es);
     }
 
 at_run : (u : Setting) (words : LabelWords) (es : List (ℕ × Event)) (s : StateValue) (source cpu : ℕ) → IsTrace u words es s → source < 32
@@ -204,7 +206,7 @@ at_run : (u : Setting) (words : LabelWords) (es : List (ℕ × Event)) (s : Stat
     → has (stop_at s source).task.active cpu ≡ true → IsAtRun u es source cpu (stop_at s source).task
 at_run u words es s source cpu run low is round at early active =
     let r = rounds_of u words es s run in
-    let below = actor_below s cpu source r.cpus_are is in
+    let below = actor_below s cpu source r.cpus_are r.away is in
     let w = r.at source low cpu below in
     let i = w.in_stop is in
     let all = w.all round i.member (omega arith) in
@@ -228,7 +230,7 @@ pub functions_run_at_run : FunctionsRunAtRun
 unfolding stop_goes
 functions_run_at_run u words es t cpu func arg run =
     let l = runs_last es (cpu, event.Stop (stops.Run func arg)) (opening u words) t run in
-    may_run_at u words es l.0 cpu func arg l.1.0 (run_is l.0 t cpu func arg l.1.1).0
+    may_run_at u words es l.0 cpu func arg l.1.0 (run_is l.0 t cpu func arg (low_event cpu _ t l.1.1).1).0
 
 may_store_at : (u : Setting) (words : LabelWords) (es : List (ℕ × Event)) (s : StateValue) (cpu : ℕ) → IsTrace u words es s → StoresIn s cpu → MayStore u es cpu
 may_store_at u words es s cpu h1 h2 = search (rounds_of, actor_below, at_run, arith)
@@ -248,4 +250,4 @@ store_is cpu _ s t e is = absurd cc
 pub patches_store_at_run : PatchesStoreAtRun
 patches_store_at_run u words es t cpu e run is =
     let l = runs_last es (cpu, event.Label e) (opening u words) t run in
-    may_store_at u words es l.0 cpu l.1.0 (store_is cpu e l.0 t l.1.1 is)
+    may_store_at u words es l.0 cpu l.1.0 (store_is cpu e l.0 t (low_event cpu _ t l.1.1).1 is)

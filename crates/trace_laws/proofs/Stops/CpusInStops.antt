@@ -1,5 +1,5 @@
 -- What holds of each CPU in each stop.
-use Rattle.trace_laws.proofs.Names.{arith, Bool, CpuState, Kind, None, Ok, One, Option, Seen, Some, StateValue, Stop, Task, acked_by, answer_of, cases_eq}
+use Rattle.trace_laws.proofs.Names.{arith, Bool, CpuState, Kind, None, Ok, One, Option, Seen, Some, StateValue, Stop, Task, acked_by, answer_of, ap, cases_eq}
 use Rattle.trace_laws.proofs.Names.{closed, cpu_at, eq-eqb, false, get_or-set_other, get_or-set_same, handles_nothing, has, has_run, if◌then◌else◌, is_some}
 use Rattle.trace_laws.proofs.Names.{length, length-set, ne_eqb, refl, slice_index_or, stop_at, sym, true, with_cpu, with_stop, ℕ, ℤ, ◌+◌, ◌<◌, ◌==◌, ◌∙◌, ◌≡◌}
 use Rattle.trace_laws.proofs.Names.{◌≢◌, ◌≤◌, ◌⊎◌}
@@ -76,13 +76,14 @@ pub record StopAt (w : Option Task) (stop : Stop) : Type 0 where
   pub answers_are : length stop.answers ≡ 32
   pub work_is : stop.is_open ≡ true → w ≡ Some stop.task
 
--- What holds of each CPU in each stop, where their events tell that.
+-- What holds of each CPU in each stop, where their events tell that. CPUs from 32 on are in no stop.
 pub record Rounds (seen : ℕ → Seen) (work : ℕ → Option Task) (s : StateValue) : Type 0 where
-  pub cpus_are : length s.cpus ≡ 32
+  pub cpus_are : length s.cpus ≡ 512
   pub stops_are : length s.stops ≡ 32
   pub at : (source : ℕ) → source < 32 → (cpu : ℕ) → cpu < 32
       → RoundAt s.setting.without.raises source cpu (seen cpu) (member_of cpu (stop_at s source)) (cpu_at s cpu).inside (cpu_at s cpu).irq
   pub cpu : (cpu : ℕ) → cpu < 32 → CpuAt s.setting.without.switches (seen cpu) (cpu_at s cpu)
+  pub away : (cpu : ℕ) → 32 ≤ cpu → cpu < 512 → (cpu_at s cpu).inside ≡ None
   pub stop : (source : ℕ) → source < 32 → StopAt (work source) (stop_at s source)
 
 -- what the events of one CPU tell is changed
@@ -105,6 +106,7 @@ stop_kept source other s stop ne = get_or-set_other s.stops other source stop (c
 -- What an event of a CPU in a stop has to show, for all to hold after it: of others in that stop, of the CPU in other stops, and
 -- of the CPU in that stop.
 pub record Change (seen : ℕ → Seen) (work : ℕ → Option Task) (s : StateValue) (source actor : ℕ) (f : Seen → Seen) (stop : Stop) (c : CpuState) : Type 0 where
+  pub low : actor < 32
   pub stop_is : StopAt (work source) stop
   pub cpu_is : CpuAt s.setting.without.switches (f (seen actor)) c
   pub others : (cpu : ℕ) → cpu < 32 → cpu ≢ actor
@@ -142,6 +144,9 @@ changed seen work s source actor f stop c r ch = record {
   stops_are = length-set s.stops source stop ∙ r.stops_are;
   at = λ other low cpu below. at_changed seen work s source actor f stop c r ch other low cpu below (cases_eq other source) (cases_eq cpu actor);
   cpu = λ cpu below. cpu_is_changed seen work s source actor f stop c r ch cpu below (cases_eq cpu actor);
+  away = λ cpu past below.
+      let low = ch.low in
+      ap (λ (x : CpuState). x.inside) (cpu_kept cpu actor (with_stop source s stop) c (λ e. absurd (omega arith))) ∙ r.away cpu past below;
   stop = λ other low. stop_is_changed seen work s source actor f stop c r ch other low (cases_eq other source);
 }
 
@@ -169,6 +174,7 @@ stop_only seen work work' s source stop r ch kept = record {
   stops_are = length-set s.stops source stop ∙ r.stops_are;
   at = λ other low cpu below. stop_each seen work work' s source stop r ch other low cpu below (cases_eq other source);
   cpu = r.cpu;
+  away = r.away;
   stop = λ other low. stop_work seen work work' s source stop r ch kept other low (cases_eq other source);
 }
 

@@ -23,13 +23,14 @@ ran_change : (seen : ℕ → Seen) (work : ℕ → Option Task) (s : StateValue)
     Change seen work s source actor ran_seen (record stop { ran = slice_set stop.ran actor true }) (cpu_at s actor)
 ran_change seen work s source actor r low is =
     let stop = stop_at s source in
-    let below = actor_below s actor source r.cpus_are is in
+    let below = actor_below s actor source r.cpus_are r.away is in
     let old = r.at source low actor below in
     let st = r.stop source low in
     let q = r.cpu actor below in
     let here = old.in_stop is in
     let now : slice_index_or (slice_set stop.ran actor true) actor false ≡ true = get_or-set_same stop.ran actor true false (rw st.ran_are below) in
     record {
+      low = below;
       stop_is = record {
         entered_are = st.entered_are;
         acked_are = st.acked_are;
@@ -135,7 +136,7 @@ completed_change : (seen : ℕ → Seen) (work : ℕ → Option Task) (s : State
     Change seen work s source actor left_seen (record stop { answers = slice_set stop.answers actor (Some answer) }) (in_stop None (cpu_at s actor))
 completed_change seen work s source actor answer r low is past =
     let stop = stop_at s source in
-    let below = actor_below s actor source r.cpus_are is in
+    let below = actor_below s actor source r.cpus_are r.away is in
     let old = r.at source low actor below in
     let st = r.stop source low in
     let q = r.cpu actor below in
@@ -143,6 +144,7 @@ completed_change seen work s source actor answer r low is past =
     let now : slice_index_or (slice_set stop.answers actor (Some answer)) actor None ≡ Some answer = get_or-set_same stop.answers actor (Some answer) None
     (rw st.answers_are below) in
     record {
+      low = below;
       stop_is = record {
         entered_are = st.entered_are;
         acked_are = st.acked_are;
@@ -339,34 +341,16 @@ work_here source task work = let t : (source == source) ≡ true = eq-eqb source
 work_elsewhere : (source : ℕ) (task : Task) (work : ℕ → Option Task) (other : ℕ) → other ≢ source → put_work source task work other ≡ work other
 work_elsewhere source task work other ne = let t : (source == other) ≡ false = ne_eqb source other (λ e. ne (sym e)) in rw t refl
 
--- past the last source nothing is opened
-opened_past : (seen : ℕ → Seen) (work : ℕ → Option Task) (s : StateValue) (source : ℕ) (task : Task) → Rounds seen work s → 32 ≤ source
-    → Rounds seen (put_work source task work) (with_stop source s (opening task))
-opened_past seen work s source task r past =
-    let same : with_stop source s (opening task) ≡ s = ap (λ stops. record s { stops = stops }) (set_past s.stops source (opening task)
-    (rw r.stops_are past)) in
-    rounds_end seen (put_work source task work) s (with_stop source s (opening task)) (sym same) (record {
-      cpus_are = r.cpus_are;
-      stops_are = r.stops_are;
-      at = r.at;
-      cpu = r.cpu;
-      stop = λ other low.
-          let e : put_work source task work other ≡ work other = work_elsewhere source task work other (λ x. absurd (omega arith)) in rw e (r.stop other low);
-    })
-
-pub open_rounds : (seen : ℕ → Seen) (work : ℕ → Option Task) (s t : StateValue) (source : ℕ) (task : Task) → Rounds seen work s → open_by source task s ≡ Ok t
-    → Rounds seen (put_work source task work) t
+pub open_rounds : (seen : ℕ → Seen) (work : ℕ → Option Task) (s t : StateValue) (source : ℕ) (task : Task) → Rounds seen work s → source < 32
+    → open_by source task s ≡ Ok t → Rounds seen (put_work source task work) t
 unfolding open_by
-open_rounds seen work s t source task r e =
+open_rounds seen work s t source task r low e =
     let next = on_stop source s (opened s.setting task) in
     let p = failed (stop_at s source).is_open (may_open s.setting.without.gate source s >>= λ u. next) (reason.StopOpen source) t e in
     let m = both_made (may_open s.setting.without.gate source s) (λ u. next) t p.1 in
     let n = both_made (opened s.setting task) (λ x. Ok (with_stop source s x)) t m.1.1 in
     let o = opened_is s.setting task n.0 n.1.0 in
+    let w : put_work source task work source ≡ Some task = work_here source task work in
     rounds_end seen (put_work source task work) (with_stop source s (opening task)) t (ap (λ x. with_stop source s x) o ∙ cc)
-    (elim (cases_lt source 32) [
-      | inl low ↦ (let w : put_work source task work source ≡ Some task = work_here source task work in
-          stop_only seen work (put_work source task work) s source (opening task) r (rw w (opened_change seen work s source task r low p.0))
-          (work_elsewhere source task work))
-      | inr past ↦ opened_past seen work s source task r past
-    ])
+    (stop_only seen work (put_work source task work) s source (opening task) r (rw w (opened_change seen work s source task r low p.0))
+    (work_elsewhere source task work))

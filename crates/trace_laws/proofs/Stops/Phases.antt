@@ -30,7 +30,7 @@ patch_rounds seen work s source patch r low =
 
 words_rounds : (seen : ℕ → Seen) (work : ℕ → Option Task) (s : StateValue) (place : Place) (word : ℕ) → Rounds seen work s →
     Rounds seen work (with_word place word s)
-words_rounds seen work s place word r = record { cpus_are = r.cpus_are; stops_are = r.stops_are; at = r.at; cpu = r.cpu; stop = r.stop }
+words_rounds seen work s place word r = record { cpus_are = r.cpus_are; stops_are = r.stops_are; at = r.at; cpu = r.cpu; away = r.away; stop = r.stop }
 
 -- A CPU may acknowledge a phase: the state in which it does, where at most a patch is known.
 pub record AckFrom (seen : ℕ → Seen) (work : ℕ → Option Task) (s t : StateValue) (source : ℕ) : Type 0 where
@@ -148,7 +148,7 @@ unfolding acknowledged
 ack_change seen work s source actor phase irq r low is at more off quiet told =
     let stop = stop_at s source in
     let left_out = s.setting.without.raises in
-    let below = actor_below s actor source r.cpus_are is in
+    let below = actor_below s actor source r.cpus_are r.away is in
     let st = r.stop source low in
     let q = r.cpu actor below in
     let mid = with_acked actor phase stop in
@@ -163,6 +163,7 @@ ack_change seen work s source actor phase irq r low is at more off quiet told =
       work_is = st.work_is;
     } in
     record {
+      low = below;
       stop_is = at_last_long who actor (not left_out) mid (work source) long;
       cpu_is = record { quiet = quiet; below = q.below; inside_is = q.inside_is; irq_is = λ t. told t ∙ q.irq_is t };
       others = λ cpu cpu_low ne.
@@ -227,7 +228,7 @@ ack_same : (seen : ℕ → Seen) (work : ℕ → Option Task) (s t : StateValue)
     → with_stop source s (acknowledged actor phase (not s.setting.without.raises) (stop_at s source)) ≡ t →
     Rounds (put_seen actor (acked_seen phase) seen) work t
 ack_same seen work s t source actor phase r i at more two same =
-    let below = actor_below s actor source r.cpus_are i.inside in
+    let below = actor_below s actor source r.cpus_are r.away i.inside in
     let m = with_stop source s (acknowledged actor phase (not s.setting.without.raises) (stop_at s source)) in
     ack_done seen work s t source actor phase (cpu_at s actor).irq r i.low i.inside at more
     (λ le lt. elim (cases_eq phase 2) [ inl e ↦ two e | inr ne ↦ off_before seen work s source actor phase r i at more (omega arith) (omega arith) ])
@@ -247,7 +248,7 @@ ack_switched seen work s t source actor phase true four r i at more out is_two i
 ack_switched seen work s t source actor phase false true r i at more out is_two is_four idle same =
     let m = with_stop source s (acknowledged actor phase (not s.setting.without.raises) (stop_at s source)) in
     let e : phase ≡ EXIT = eqb-true phase EXIT is_four in
-    let below = actor_below s actor source r.cpus_are i.inside in
+    let below = actor_below s actor source r.cpus_are r.away i.inside in
     let off = off_before seen work s source actor phase r i at more (omega arith) (omega arith) in
     ack_done seen work s t source actor phase (not (is_cpu (stop_at m source).raiser actor)) r i.low i.inside at more (λ le lt. absurd (omega arith))
     (λ x. (r.cpu actor below).quiet off) (λ told. absurd (ne_truth s.setting.without.switches out told)) same
@@ -363,7 +364,7 @@ raise_rounds seen work s t actor phase r e =
     let u = with_stop source s to in
     let end : u ≡ n.0 = ap (λ x. with_stop source s x) o.1 ∙ cc in
     let same : switched_on actor phase u ≡ t = ap (λ x. switched_on actor phase x) end ∙ cc in
-    let below = actor_below s actor source r.cpus_are i.inside in
+    let below = actor_below s actor source r.cpus_are r.away i.inside in
     let old = r.at source i.low actor below in
     let past = old.last o.0 (old.in_stop i.inside).member in
     let new : stop_at u source ≡ to = stop_changed source s to (rw r.stops_are i.low) in

@@ -2,7 +2,7 @@
 use Rattle.trace_laws.proofs.Names.{arith, Bool, Call, CallEvent, Class, CpuState, Current, Err, Free, List, None, Ok, Option, Progress, Queue, Reason, Result}
 use Rattle.trace_laws.proofs.Names.{Some, StateValue, [], accepted, begin_by, begun, begun_any, begun_at, begun_loose, begun_with, call_at, call_goes, cases_eq}
 use Rattle.trace_laws.proofs.Names.{cpu_at, end_by, ended, ended_at, ended_with, entered_by, false, freed, freed_by, freed_from, freed_if, front_of, goes}
-use Rattle.trace_laws.proofs.Names.{handles_nothing, has, idle_by, if◌then◌else◌, interrupted, is_batch, is_empty, is_some, joined, length, length-set}
+use Rattle.trace_laws.proofs.Names.{handles_nothing, idle_by, if◌then◌else◌, interrupted, is_batch, is_empty, is_online, is_some, joined, length, length-set}
 use Rattle.trace_laws.proofs.Names.{loose_with, may_take, moved, not, not_over, noted, on_cpu, over_with, place_at, place_in, place_reason, placed_unless}
 use Rattle.trace_laws.proofs.Names.{pushed, queue_by, quiet_with, refl, runs_locked, send_by, sent, slipped, slipped_any, slipped_at, slipped_from_batch}
 use Rattle.trace_laws.proofs.Names.{slipped_from_queue, slipped_front, subst, take_by, taken, true, unlock_by, unlocked, unlocked_running, unlocked_with}
@@ -202,7 +202,7 @@ keeps_queue : (source id to : ℕ) (class : Class) (func info : ℕ) (s t : Stat
 unfolding queue_by
 keeps_queue source id to class func info s t e =
     let call : Call = record { source = source; id = id; class = class; func = func; info = info } in
-    let p = passed (has s.setting.online to) (if to == source then Err (reason.IsCaller to) else (freed id s >>= λ m. Ok (joined call to m)))
+    let p = passed (is_online s.setting to) (if to == source then Err (reason.IsCaller to) else (freed id s >>= λ m. Ok (joined call to m)))
     (reason.NotOnline to) t e in
     let q = failed (to == source) (freed id s >>= λ m. Ok (joined call to m)) (reason.IsCaller to) t p.1 in
     let m = both_made (freed id s) (λ m. Ok (joined call to m)) t q.1 in
@@ -213,7 +213,7 @@ unfolding send_by
 keeps_send actor to s t e =
     let m = with_cpu to s (interrupted (cpu_at s to)) in
     let d = sent to (cpu_at m actor) in
-    let p = passed (has s.setting.online to) (Ok (with_cpu actor m d)) (reason.NotOnline to) t e in
+    let p = passed (is_online s.setting to) (Ok (with_cpu actor m d)) (reason.NotOnline to) t e in
     keeps_end s (with_cpu actor m d) t (cc)
     (keeps_then s m (with_cpu actor m d) (keeps_cpu to s (interrupted (cpu_at s to)) (record { inside = refl; irq = refl; quiet = λ off q. q }))
     (keeps_cpu actor m d (record { inside = refl; irq = refl; quiet = λ off q. q })))

@@ -1,5 +1,5 @@
 -- Each event of stops keeps what holds of CPUs in stops.
-use Rattle.trace_laws.proofs.Names.{Bool, Err, Kind, None, Ok, One, Option, Reason, Result, Seen, Some, StateValue, Stop, Task, acked_by}
+use Rattle.trace_laws.proofs.Names.{Bool, CpuState, Err, Kind, None, Ok, One, Option, Reason, Result, Seen, Some, StateValue, Stop, Task, acked_by}
 use Rattle.trace_laws.proofs.Names.{and_parts, ap, arith, at_phase, cases_lt, closed, cpu_at, enter_by, enter_from, entered, entered_open, eqb-true, false}
 use Rattle.trace_laws.proofs.Names.{fresh_cpu, get_or-set_other, get_or-set_same, get_or_past, handles_nothing, has, if◌then◌else◌, in_round, in_stop, inl, inr}
 use Rattle.trace_laws.proofs.Names.{is_called, is_cpu, length, length-set, lt-ltb, ltb-false, ltb-true, may_off, nat_lt, not, off_by, on_by, on_stop, refl}
@@ -32,9 +32,10 @@ pub record InRound (s : StateValue) (cpu source : ℕ) : Type 0 where
 pub in_round_is : (s : StateValue) (cpu source : ℕ) → in_round cpu s ≡ Ok source → InRound s cpu source
 in_round_is s cpu source h1 = search (both_made, stop_of_is, round_kind, arith)
 
--- a CPU in a stop is one that there can be
-pub actor_below : (s : StateValue) (cpu source : ℕ) → length s.cpus ≡ 32 → (cpu_at s cpu).inside ≡ Some source → cpu < 32
-actor_below s cpu source h1 h2 = search (cases_lt, get_or_past, arith)
+-- a CPU in a stop is below 32
+pub actor_below : (s : StateValue) (cpu source : ℕ) → length s.cpus ≡ 512 → ((x : ℕ) → 32 ≤ x → x < 512 → (cpu_at s x).inside ≡ None)
+    → (cpu_at s cpu).inside ≡ Some source → cpu < 32
+actor_below s cpu source h1 h2 h3 = search (cases_lt, get_or_past, arith)
 
 -- it is in no other stop
 pub other_stop : (inside : Option ℕ) (source other : ℕ) → inside ≡ Some source → other ≢ source → inside ≡ Some other → ⊥
@@ -103,6 +104,7 @@ entered_change seen work s source actor r low below none opened_is called =
     let out = old.out c.1 in
     let now : slice_index_or (slice_set stop.entered actor true) actor false ≡ true = get_or-set_same stop.entered actor true false (rw st.entered_are below) in
     record {
+      low = below;
       stop_is = record {
         entered_are = length-set stop.entered actor true ∙ st.entered_are;
         acked_are = st.acked_are;
@@ -145,31 +147,15 @@ entered_change seen work s source actor r low below none opened_is called =
 pub open_below : (s : StateValue) (source : ℕ) → length s.stops ≡ 32 → (stop_at s source).is_open ≡ true → source < 32
 open_below s source h1 h2 = search (cases_lt, get_or_past, arith)
 
--- past the last CPU nothing is entered
-entered_past : (s : StateValue) (source actor : ℕ) → length (stop_at s source).entered ≡ 32 → length s.cpus ≡ 32 → 32 ≤ actor
-    → let stop = stop_at s source in
-    with_inside actor (Some source) (with_stop source s (record stop { entered = slice_set stop.entered actor true })) ≡ s
-entered_past s source actor long cpus past =
-    let stop = stop_at s source in
-    let e : slice_set stop.entered actor true ≡ stop.entered = set_past stop.entered actor true (rw long past) in
-    let m : with_stop source s (record stop { entered = slice_set stop.entered actor true }) ≡ s = ap (λ xs. with_stop source s
-    (record stop { entered = xs })) e ∙ stop_same source s in
-    let c : with_inside actor (Some source) s ≡ s = ap (λ cpus. record s { cpus = cpus }) (set_past s.cpus actor (in_stop (Some source) (cpu_at s actor))
-    (rw cpus past)) in
-    ap (λ x. with_inside actor (Some source) x) m ∙ c
-
-seen_past : (actor : ℕ) (f : Seen → Seen) (seen : ℕ → Seen) → 32 ≤ actor → (cpu : ℕ) → cpu < 32 → put_seen actor f seen cpu ≡ seen cpu
-seen_past actor f seen past cpu below = seen_elsewhere actor cpu f seen (λ e. absurd (omega arith))
-
--- or where the events of each CPU tell the same
+-- where the events of each CPU tell the same, the same holds
 pub rounds_seen : (seen seen' : ℕ → Seen) (work : ℕ → Option Task) (s : StateValue) → ((cpu : ℕ) → cpu < 32 → seen' cpu ≡ seen cpu) → Rounds seen work s →
     Rounds seen' work s
 rounds_seen seen seen' work s h1 h2 = search arith
 
-enter_open : (seen : ℕ → Seen) (work : ℕ → Option Task) (s t : StateValue) (source actor : ℕ) → Rounds seen work s → (cpu_at s actor).inside ≡ None
-    → entered_open actor source s ≡ Ok t → Rounds (put_seen actor (enters source) seen) work t
+enter_open : (seen : ℕ → Seen) (work : ℕ → Option Task) (s t : StateValue) (source actor : ℕ) → Rounds seen work s → actor < 32
+    → (cpu_at s actor).inside ≡ None → entered_open actor source s ≡ Ok t → Rounds (put_seen actor (enters source) seen) work t
 unfolding entered
-enter_open seen work s t source actor r none e =
+enter_open seen work s t source actor r below none e =
     let stop = stop_at s source in
     let made = on_stop source s (entered actor stop) in
     let p = passed (nat_lt source 32 && stop.is_open) (made >>= λ x. Ok (with_inside actor (Some source) x)) (reason.StopNotOpen source) t e in
@@ -184,28 +170,20 @@ enter_open seen work s t source actor r none e =
     let same : with_inside actor (Some source) (with_stop source s to) ≡ t = ap (λ x. with_inside actor (Some source) (with_stop source s x)) a ∙
     ap (λ x. with_inside actor (Some source) x) b ∙ cc in
     rounds_end (put_seen actor (enters source) seen) work (with_inside actor (Some source) (with_stop source s to)) t same
-    (elim (cases_lt actor 32) [
-      | inl below ↦ changed seen work s source actor (enters source) to (in_stop (Some source) (cpu_at s actor)) r
-          (entered_change seen work s source actor r low below none q.1 k.0)
-      | inr past ↦ rounds_end (put_seen actor (enters source) seen) work s (with_inside actor (Some source) (with_stop source s to))
-          (sym (entered_past s source actor (r.stop source low).entered_are r.cpus_are past))
-          (rounds_seen seen (put_seen actor (enters source) seen) work s (seen_past actor (enters source) seen past) r)
-    ])
-
-any_below : (seen : ℕ → Seen) (work : ℕ → Option Task) (s : StateValue) (actor x : ℕ) → Rounds seen work s → (cpu_at s actor).inside ≡ Some x → x < 32
-any_below seen work s actor x r e = (r.cpu actor (actor_below s actor x r.cpus_are e)).below x e
+    (changed seen work s source actor (enters source) to (in_stop (Some source) (cpu_at s actor)) r
+    (entered_change seen work s source actor r low below none q.1 k.0))
 
 pub enter_as : (seen : ℕ → Seen) (work : ℕ → Option Task) (s t : StateValue) (source actor : ℕ) (inside : Result ℕ Reason) → Rounds seen work s →
-    stop_of actor s ≡ inside
+    actor < 32 → stop_of actor s ≡ inside
     → enter_from inside actor source s ≡ Ok t → Rounds (put_seen actor (enters source) seen) work t
-enter_as seen work s t source actor (Ok x) r is e = absurd cc
-enter_as seen work s t source actor (Err why) r is e =
-    enter_open seen work s t source actor r (no_stop (cpu_at s actor).inside actor why (λ x i. any_below seen work s actor x r i) is) e
+enter_as seen work s t source actor (Ok x) r below is e = absurd cc
+enter_as seen work s t source actor (Err why) r below is e =
+    enter_open seen work s t source actor r below (no_stop (cpu_at s actor).inside actor why (r.cpu actor below).below is) e
 
-pub enter_rounds : (seen : ℕ → Seen) (work : ℕ → Option Task) (s t : StateValue) (source actor : ℕ) → Rounds seen work s → enter_by actor source s ≡ Ok t
-    → Rounds (put_seen actor (enters source) seen) work t
+pub enter_rounds : (seen : ℕ → Seen) (work : ℕ → Option Task) (s t : StateValue) (source actor : ℕ) → Rounds seen work s → actor < 32
+    → enter_by actor source s ≡ Ok t → Rounds (put_seen actor (enters source) seen) work t
 unfolding enter_by
-enter_rounds seen work s t source actor r e = enter_as seen work s t source actor (stop_of actor s) r refl e
+enter_rounds seen work s t source actor r below e = enter_as seen work s t source actor (stop_of actor s) r below refl e
 
 at_it : (now phase : ℕ) (same early : Bool) (why other : Reason) (u : Unit {0}) → (now == phase) ≡ same
     → (if same then Ok tt else (if early then Err why else Err other)) ≡ Ok u → now ≡ phase
@@ -230,10 +208,11 @@ pub irq_change : (seen : ℕ → Seen) (work : ℕ → Option Task) (s : StateVa
     → (on ≡ false → handles_nothing (cpu_at s actor) ≡ Ok tt) → (on ≡ false ⊎ EXIT ≤ acked_by (stop_at s source) actor)
     → Change seen work s source actor f (stop_at s source) (with_interrupts on (cpu_at s actor))
 irq_change seen work s source actor f on r low is inside irq acked_kept ran_kept quiet may =
-    let below = actor_below s actor source r.cpus_are is in
+    let below = actor_below s actor source r.cpus_are r.away is in
     let old = r.at source low actor below in
     let q = r.cpu actor below in
     record {
+      low = below;
       stop_is = r.stop source low;
       cpu_is = record {
         quiet = λ off. quiet off;

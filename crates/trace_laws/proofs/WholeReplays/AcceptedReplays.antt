@@ -89,12 +89,12 @@ closed_at online j l = get_or-replicate 32 j (closed online) (closed 0) (omega a
 closed_is : (online : ℕ) → StopIs (no_stops.now.stop 0) (closed online)
 closed_is online = search (length-replicate, false≢true, arith)
 
-fresh_cpu_at : (u : Setting) (words : LabelWords) (cpu : ℕ) → cpu < cpus → cpu_at (opening u words) cpu ≡ fresh_cpu
+fresh_cpu_at : (u : Setting) (words : LabelWords) (cpu : ℕ) → cpu_at (opening u words) cpu ≡ fresh_cpu
 unfolding opening
-fresh_cpu_at u words cpu l = get_or-replicate 32 cpu fresh_cpu fresh_cpu (omega arith)
+fresh_cpu_at u words cpu = get_or-same fresh_cpu 512 cpu
 
-fresh_past_at : (cpu : ℕ) → cpu < cpus → past_at all_fresh cpu ≡ fresh
-fresh_past_at cpu l = get_or-replicate 32 cpu fresh fresh (omega arith)
+fresh_past_at : (cpu : ℕ) → past_at all_fresh cpu ≡ fresh
+fresh_past_at cpu = get_or-same fresh 32 cpu
 
 opening_stops : (u : Setting) (words : LabelWords) (nr online : ℕ) (labels : Labels) → AreWordsOf u words (new_stops nr online labels)
     → FollowsStops no_stops (stop_number (new_stops nr online labels).table) all_fresh (opening u words)
@@ -105,12 +105,12 @@ opening_stops u words nr online labels w = record {
   sites_are = w.sites_are;
   gate = refl;
   stops = λ j l. rw (closed_at u.online j l) (closed_is u.online);
-  cpus_are = λ cpu l. record {
-    inside = ap (λ (c : CpuState). c.inside) (fresh_cpu_at u words cpu l);
-    irq = ap (λ (c : CpuState). c.irq) (fresh_cpu_at u words cpu l);
+  cpus_are = λ cpu. record {
+    inside = ap (λ (c : CpuState). c.inside) (fresh_cpu_at u words cpu);
+    irq = ap (λ (c : CpuState). c.irq) (fresh_cpu_at u words cpu);
     stop = λ j e. absurd (none_some j e);
-    answer = λ e. ap (λ (x : Past). x.answer) (fresh_past_at cpu l);
-    reads = λ e. absurd (three (ap (λ (x : Past). x.phase) (fresh_past_at cpu l)) e);
+    answer = λ e. ap (λ (x : Past). x.answer) (fresh_past_at cpu);
+    reads = λ e. absurd (three (ap (λ (x : Past). x.phase) (fresh_past_at cpu)) e);
   };
   keys = w.keys;
   sites = w.sites;

@@ -58,14 +58,14 @@ stop_moved p s t past new cpu k n c = record {
 }
 
 stops_moved : (p : StopState) (at : Word → ℕ) (pasts new : List Past) (s t : StateValue) → LeavesStops s t
-    → ((cpu : ℕ) → cpu < cpus → KeepsStops (past_at pasts cpu) (past_at new cpu)) → FollowsStops p at pasts s → FollowsStops p at new t
+    → ((cpu : ℕ) → KeepsStops (past_at pasts cpu) (past_at new cpu)) → FollowsStops p at pasts s → FollowsStops p at new t
 stops_moved p at pasts new s t k n f = record {
   stops_are = rw k.stops f.stops_are;
   keys_are = rw k.words f.keys_are;
   sites_are = rw k.words f.sites_are;
   gate = k.gate ∙ f.gate;
   stops = λ j l. rw k.stops (f.stops j l);
-  cpus_are = λ cpu l. stop_moved p s t (past_at pasts cpu) (past_at new cpu) cpu k (n cpu l) (f.cpus_are cpu l);
+  cpus_are = λ cpu. stop_moved p s t (past_at pasts cpu) (past_at new cpu) cpu k (n cpu) (f.cpus_are cpu);
   keys = λ j. rw k.words (f.keys j);
   sites = λ j. rw k.words (f.sites j);
 }
@@ -82,7 +82,7 @@ module _ (core : CoreValue) (a : CallState) (p : StopState) (pasts : List Past) 
   stops_sized = k.whole.stops.sized
 
   irq_is : (c : ℕ) → c < cpus → (cpu_at s c).irq ≡ (stop_control_of core.stops.controls c).interrupts
-  irq_is c l = (k.follows_stops.cpus_are c l).irq ∙ (k.stops.shows.present.irq c ∙ sym (k.stops.sits c l).irq)
+  irq_is c l = (k.follows_stops.cpus_are c).irq ∙ (k.stops.shows.present.irq c ∙ sym (k.stops.sits c l).irq)
 
   -- the step of a CPU that is inside a command of the call half
   module _ (stage : Stage) (e : (control_of core.controls cpu).stage ≡ Some stage) where
@@ -124,8 +124,8 @@ module _ (core : CoreValue) (a : CallState) (p : StopState) (pasts : List Past) 
     by_name : control_of (slice_set core.controls cpu next) ≡ put (control_of core.controls) cpu next
     by_name = controls_by_cpu core.controls cpu next sized below
 
-    kept_here : (c : ℕ) → c < cpus → KeepsStops (past_at pasts c) (past_at (kept pasts (seen_at core cpu stage)) c)
-    kept_here c l = elim (cases_eq c cpu) [
+    kept_here : (c : ℕ) → KeepsStops (past_at pasts c) (past_at (kept pasts (seen_at core cpu stage)) c)
+    kept_here c = elim (cases_eq c cpu) [
       | inl same ↦ rw (same, past_here pasts cpu (after (past_at pasts cpu) (seen_at core cpu stage)) k.keeps.pasts_are below)
           (call_keeps (past_at pasts cpu) (seen_at core cpu stage) (call_word (number_in core.words) cpu stage))
       | inr ne ↦ rw (past_else pasts cpu (after (past_at pasts cpu) (seen_at core cpu stage)) c ne) (record { phase = refl; answer = refl; draft = refl })
@@ -150,7 +150,7 @@ module _ (core : CoreValue) (a : CallState) (p : StopState) (pasts : List Past) 
           elsewhere = subst (λ (f : ℕ → ControlValue). (j : ℕ) → GoesElsewhere (f j).stage j) (sym by_name)
               (put_all (λ j x. GoesElsewhere x.stage j) (control_of core.controls) cpu next
               (step_elsewhere (control_of core.controls cpu).drain cpu stage (found_at core cpu stage) away) (λ j ne. k.elsewhere j));
-          drafts = λ c l. rw (kept_here c l).draft (k.drafts c l);
+          drafts = λ c l. rw (kept_here c).draft (k.drafts c l);
         }
 
   -- the step of a CPU that is inside a command of the stop half
@@ -165,7 +165,7 @@ module _ (core : CoreValue) (a : CallState) (p : StopState) (pasts : List Past) 
 
     pub quiet : handles_nothing (cpu_at s cpu) ≡ Ok tt
     quiet =
-        let mine = k.follows.calls cpu stop_below in
+        let mine = k.follows.calls cpu in
         let current : (cpu_at s cpu).current ≡ None = ap (λ (c : CallsOfCpu). c.current) mine ∙ ap current_of rests.running in
         let batch : (cpu_at s cpu).batch ≡ [] = ap (λ (c : CallsOfCpu). c.batch) mine ∙ ap (map told_call) rests.batch in
         let accepted : (cpu_at s cpu).accepted ≡ false = ap (λ (c : CallsOfCpu). c.accepted) mine ∙ rests.accepted in
