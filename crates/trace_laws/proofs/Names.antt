@@ -79,7 +79,7 @@ pub use Rattle.trace_model.specs.declared.stop.Patch.{Patch}
 pub use Rattle.trace_model.specs.declared.stop.Stop.{Stop}
 pub use Rattle.trace_model.specs.declared.stop.Task.{Task}
 pub use Rattle.trace_model.specs.declared.without.Setting.{Setting}
-unfoldable pub use Rattle.trace_judge.specs.Head.{head_of, labels_at, online_at, titled, without_at, words_of}
+unfoldable pub use Rattle.trace_judge.specs.Head.{cpus_at, head_of, labels_at, titled, without_at, words_of}
 pub use Rattle.trace_judge.specs.Head.{CursorValue, head_with, is_labels, no_labels}
 unfoldable pub use Rattle.trace_judge.specs.Judged.{used_after}
 pub use Rattle.trace_judge.specs.declared.early_end.EarlyEnd.{EarlyEnd}

@@ -1,10 +1,10 @@
 -- A text that is accepted is a trace.
 use Rattle.trace_laws.proofs.Names.{AreLabels, Bool, Cause, CursorValue, EarlyEnd, Entry, Err, HaveKinds, Labels, Line, List, MOST_KEYS, Ok, Result, Some}
-use Rattle.trace_laws.proofs.Names.{StateValue, [], and_parts, ap, arith, cases_lt, entry_at, entry_at-word, entry_word, false, fields_of, first_site, get_or}
-use Rattle.trace_laws.proofs.Names.{get_or-replicate, get_or_past, head_of, head_with, if◌then◌else◌, inl, inr, is_labels, is_on, kind_of, kind_word, labels_at}
-use Rattle.trace_laws.proofs.Names.{leb-true, length, length-append, length-map, length-replicate, lines_of, list_all, ltb-false, map, no_labels, online_at}
-use Rattle.trace_laws.proofs.Names.{refl, replicate, slice_index, subst, sym, table_of, titled, true, used_after, whole_labels, without_at, words_of, ℕ, ◌++◌}
-use Rattle.trace_laws.proofs.Names.{◌-◌, ◌>>=◌, ◌∙◌, ◌∷◌, ◌≡◌, ◌≤◌}
+use Rattle.trace_laws.proofs.Names.{StateValue, [], and_parts, ap, arith, cases_lt, cpus_at, entry_at, entry_at-word, entry_word, false, fields_of, first_site}
+use Rattle.trace_laws.proofs.Names.{get_or, get_or-replicate, get_or_past, head_of, head_with, if◌then◌else◌, inl, inr, is_labels, is_on, kind_of, kind_word}
+use Rattle.trace_laws.proofs.Names.{labels_at, leb-true, length, length-append, length-map, length-replicate, lines_of, list_all, ltb-false, map, nat_lt}
+use Rattle.trace_laws.proofs.Names.{no_labels, refl, replicate, slice_index, subst, sym, table_of, titled, true, used_after, whole_labels, without_at, words_of}
+use Rattle.trace_laws.proofs.Names.{ℕ, ◌++◌, ◌-◌, ◌>>=◌, ◌∙◌, ◌∷◌, ◌≡◌, ◌≤◌}
 use Rattle.std.proofs.{lemmas.List.get_or-append_right, lemmas.List.get_or-map, lemmas.List.get_or_append_left}
 use Rattle.smp_mask.specs.declared.error.Cause.TheVariants.{Word}
 use Rattle.smp_labels.specs.Law.{site_word}
@@ -65,8 +65,9 @@ on_line : {A : Type 0} (n : ℕ) (made : Result A Cause) (a : A) → at_line n m
 on_line n (Ok x) a e = let same : x ≡ a = cc in ap (λ y. Ok y) same
 on_line n (Err cause) a e = absurd cc
 
-few_none : Few no_labels
-few_none = record { keys = omega arith; sites = omega arith }
+few_none : (s : CursorValue) (found : Labels × CursorValue) → let none : Result (Labels × CursorValue) EarlyEnd = Ok (no_labels, s) in none ≡ Ok found
+    → Few found.0
+few_none s found e = subst (λ (x : Labels × CursorValue). Few x.0) (ok_is (no_labels, s) found e) (record { keys = omega arith; sites = omega arith })
 
 few_line : (test : Bool) (s : CursorValue) (used : ℕ) (ls : List Line) (fields : List (List ℕ)) (found : Labels × CursorValue)
     → (if test then (at_line 3 (whole_labels fields) >>= λ labels. Ok (labels, behind s used ls)) else Ok (no_labels, s)) ≡ Ok found → Few found.0
@@ -74,17 +75,20 @@ few_line true s used ls fields found e =
     let a = both (at_line 3 (whole_labels fields)) (λ labels. Ok (labels, behind s used ls)) found e in
     let same : (a.0, behind s used ls) ≡ found = ok_is (a.0, behind s used ls) found a.1.1 in
     subst (λ (x : Labels). Few x) (ap (λ x. x.0) same) (few_whole fields a.0 (on_line 3 (whole_labels fields) a.0 a.1.0))
-few_line false s used ls fields found e =
-    let same : (no_labels, s) ≡ found = ok_is (no_labels, s) found e in subst (λ (x : Labels). Few x) (ap (λ x. x.0) same) few_none
+few_line false s used ls fields found e = few_none s found e
 
 few_from : (s : CursorValue) (lines : List Line) (found : Labels × CursorValue) → labels_from s lines ≡ Ok found → Few found.0
-few_from s [] found e = let same : (no_labels, s) ≡ found = ok_is (no_labels, s) found e in subst (λ (x : Labels). Few x) (ap (λ x. x.0) same) few_none
+few_from s [] found e = few_none s found e
 few_from s (l ∷ ls) found e =
     let next = λ (used : ℕ). let r : Result (Labels × CursorValue) EarlyEnd =
     if is_labels (fields_of l.text) then (at_line 3 (whole_labels (fields_of l.text)) >>= λ labels. Ok (labels, behind s used ls)) else Ok
     (no_labels, s) in r in
     let a = both (used_after s.number s.used l) next found e in
     few_line (is_labels (fields_of l.text)) s a.0 ls (fields_of l.text) found a.1.1
+
+few_at : (many : Bool) (s : CursorValue) (found : Labels × CursorValue) → (if many then Ok (no_labels, s) else labels_from s s.lines) ≡ Ok found → Few found.0
+few_at true s found e = few_none s found e
+few_at false s found e = few_from s s.lines found e
 
 -- the words of labels are lawful while all keys are off
 keys_off : (k : ℕ) → slice_index (replicate 4 0) k ≡ 0
@@ -132,13 +136,13 @@ words_long labels few = (
 head_labels : (lines : List Line) (h : HeadValue) → head_of lines ≡ Ok h → AreLabels h.setting h.words
 unfolding head_of labels_at
 head_labels lines h e =
-    let last = λ (online : ℕ) (labels : Labels × CursorValue). without_at labels.1 >>= λ without. Ok (head_with online labels.0 without.0 without.1) in
-    let third = λ (cpus : ℕ × CursorValue). labels_from cpus.1 cpus.1.lines >>= last cpus.0 in
-    let a = both (titled lines) (λ second. online_at second >>= third) h e in
-    let b = both (online_at a.0) third h a.1.1 in
-    let c = both (labels_from b.0.1 b.0.1.lines) (last b.0.0) h b.1.1 in
+    let last = λ (cpus : ℕ × ℕ) (labels : Labels × CursorValue). without_at labels.1 >>= λ without. Ok (head_with cpus labels.0 without.0 without.1) in
+    let third = λ (cpus : (ℕ × ℕ) × CursorValue). labels_at cpus.0.0 cpus.1 >>= last cpus.0 in
+    let a = both (titled lines) (λ second. cpus_at second.0 second.1 >>= third) h e in
+    let b = both (cpus_at a.0.0 a.0.1) third h a.1.1 in
+    let c = both (labels_at b.0.0.0 b.0.1) (last b.0.0) h b.1.1 in
     let d = both (without_at c.0.1) (λ without. Ok (head_with b.0.0 c.0.0 without.0 without.1)) h c.1.1 in
-    let few = few_from b.0.1 b.0.1.lines c.0 c.1.0 in
+    let few = few_at (nat_lt 32 b.0.0.0) b.0.1 c.0 c.1.0 in
     let same : head_with b.0.0 c.0.0 d.0.0 d.0.1 ≡ h = ok_is (head_with b.0.0 c.0.0 d.0.0 d.0.1) h d.1.1 in
     let long = words_long c.0.0 few.sites in
     subst (λ (x : HeadValue). AreLabels x.setting x.words) same (record {

@@ -1,18 +1,19 @@
 -- What traces show of calls.
 use Rattle.trace_laws.proofs.Names.{Async, Bool, Call, CallsShown, Class, CpuState, Event, IsPermutation, IsPermutation-map, IsTrace, LabelWords, List, Setting}
 use Rattle.trace_laws.proofs.Names.{StateValue, Sync, [], ap, append-nil, append_assoc, arith, begin_of, begins, cond, count_by, cpu_at, false, filter-append}
-use Rattle.trace_laws.proofs.Names.{fresh_cpu, get_or-replicate, held, id_of, is_class, is_from, is_to, length, length-replicate, map, map-append, notes}
+use Rattle.trace_laws.proofs.Names.{fresh_cpu, held, id_of, is_class, is_from, is_to, length, length-replicate, map, map-append, notes}
 use Rattle.trace_laws.proofs.Names.{notes_now, of_class, only_if, opening, order, queue_from, queue_next, queued, queued_now, ran_at, refl, running, sym}
 use Rattle.trace_laws.proofs.Names.{taken_from, taken_now, takes_now, true, waiting, ℕ, ◌%◌, ◌++◌, ◌+◌, ◌<◌, ◌==◌, ◌^◌, ◌∙◌, ◌∷◌, ◌≡◌}
 use Rattle.std.proofs.Common.{filter}
+use Rattle.smp_words.proofs.Zeros.{get_or-same}
 use Rattle.trace_laws.proofs.{Calls.ShownByRuns.calls_shown, Calls.ShownByRuns.count_append}
 use Rattle.trace_laws.specs.Traces.{BeginInOrder, BeginOnce, CountsAre, EndOnce, record_of, taken}
 use Rattle.trace_laws.specs.CallHistory.{queued_at}
 
 -- before the first event, a CPU has done nothing
-pub fresh_at : (u : Setting) (words : LabelWords) (cpu : ℕ) → cpu < 512 → cpu_at (opening u words) cpu ≡ fresh_cpu
+pub fresh_at : (u : Setting) (words : LabelWords) (cpu : ℕ) → cpu_at (opening u words) cpu ≡ fresh_cpu
 unfolding opening
-fresh_at u words cpu below = get_or-replicate 512 cpu fresh_cpu fresh_cpu below
+fresh_at u words cpu = get_or-same fresh_cpu 512 cpu
 
 pub cpus_at_first : (u : Setting) (words : LabelWords) → length (opening u words).cpus ≡ 512
 unfolding opening
@@ -36,8 +37,8 @@ record IsFresh (c : CpuState) : Type 0 where
   queue : c.queue ≡ []
   ran_long : length c.ran ≡ 512
   queued_long : length c.queued ≡ 512
-  ran : (source : ℕ) → source < 512 → ran_at c source ≡ 0
-  queued : (to : ℕ) → to < 512 → queued_at c to ≡ 0
+  ran : (source : ℕ) → ran_at c source ≡ 0
+  queued : (to : ℕ) → queued_at c to ≡ 0
 
 is_fresh : (c : CpuState) → c ≡ fresh_cpu → IsFresh c
 is_fresh c e = record {
@@ -47,12 +48,12 @@ is_fresh c e = record {
   queue = ap (λ x. x.queue) e;
   ran_long = ap (λ x. length x.ran) e ∙ length-replicate {A = ℕ} 512 0;
   queued_long = ap (λ x. length x.queued) e ∙ length-replicate {A = ℕ} 512 0;
-  ran = λ source below. ap (λ x. ran_at x source) e ∙ get_or-replicate 512 source 0 0 below;
-  queued = λ to below. ap (λ x. queued_at x to) e ∙ get_or-replicate 512 to 0 0 below;
+  ran = λ source. ap (λ x. ran_at x source) e ∙ get_or-same 0 512 source;
+  queued = λ to. ap (λ x. queued_at x to) e ∙ get_or-same 0 512 to;
 }
 
-fresh_is : (u : Setting) (words : LabelWords) (cpu : ℕ) → cpu < 512 → IsFresh (cpu_at (opening u words) cpu)
-fresh_is u words cpu below = is_fresh (cpu_at (opening u words) cpu) (fresh_at u words cpu below)
+fresh_is : (u : Setting) (words : LabelWords) (cpu : ℕ) → IsFresh (cpu_at (opening u words) cpu)
+fresh_is u words cpu = is_fresh (cpu_at (opening u words) cpu) (fresh_at u words cpu)
 
 -- lists that are equal to these are in that order too
 moved_as : {X : Type 0} (xs ys xs' ys' : List X) → xs ≡ xs' → ys ≡ ys' → IsPermutation xs ys → IsPermutation xs' ys'
@@ -62,7 +63,7 @@ pub begin_once : (u : Setting) (words : LabelWords) (es : List (ℕ × Event)) (
     BeginOnce u es t cpu
 begin_once u words es t run cpu below =
     let c = shown_at u words es t cpu run below in
-    let f = fresh_is u words cpu below in
+    let f = fresh_is u words cpu in
     let a = cpu_at (opening u words) cpu in
     let h : held a ≡ [] = f.holds in
     let p = IsPermutation-map begin_of (held a ++ queued cpu es) (c.began ++ held (cpu_at t cpu)) c.each_once in
@@ -78,7 +79,7 @@ records_of (x ∷ xs) = ap (λ ys. x.id ∷ ys) (records_of xs)
 pub end_once : (u : Setting) (words : LabelWords) (es : List (ℕ × Event)) (t : StateValue) → IsTrace u words es t → (cpu : ℕ) → cpu < 512 → EndOnce u es t cpu
 end_once u words es t run cpu below =
     let c = shown_at u words es t cpu run below in
-    let f = fresh_is u words cpu below in
+    let f = fresh_is u words cpu in
     let a = cpu_at (opening u words) cpu in
     let b = cpu_at t cpu in
     ap (λ xs. map record_of xs) (sym c.begins_are) ∙ records_of c.began
@@ -156,7 +157,7 @@ pub begin_in_order : (u : Setting) (words : LabelWords) (es : List (ℕ × Event
     BeginInOrder u es t cpu
 begin_in_order u words es t run cpu below =
     let c = shown_at u words es t cpu run below in
-    let f = fresh_is u words cpu below in
+    let f = fresh_is u words cpu in
     let a = cpu_at (opening u words) cpu in
     let b = cpu_at t cpu in
     let o : (opening u words).setting.without.order ≡ u.without.order = ap (λ v. v.without.order) (order_at_first u words) in
@@ -195,7 +196,7 @@ pub counts_are : (u : Setting) (words : LabelWords) (es : List (ℕ × Event)) (
     CountsAre u es t cpu
 counts_are u words es t run cpu below =
     let c = shown_at u words es t cpu run below in
-    let f = fresh_is u words cpu below in
+    let f = fresh_is u words cpu in
     let a = cpu_at (opening u words) cpu in
     let b = cpu_at t cpu in
     let began_is : c.began ≡ c.over ++ running b = ap (λ xs. xs ++ c.began) (sym f.runs) ∙ c.one_at_a_time in
@@ -206,8 +207,8 @@ counts_are u words es t run cpu below =
           (ap (λ xs. xs ++ queued cpu es) f.holds) (ap (λ xs. xs ++ held b) began_is) c.each_once;
       queued_are = λ source low.
           let d = shown_at u words es t source run low in
-          let g = fresh_is u words source low in
-          d.noted cpu 0 (rw g.queued_long below) (g.queued cpu below) ∙ zero_and (count_by (is_to cpu) (notes source es)) ∙
+          let g = fresh_is u words source in
+          d.noted cpu 0 (rw g.queued_long below) (g.queued cpu) ∙ zero_and (count_by (is_to cpu) (notes source es)) ∙
           ap (λ k. k % 2 ^ 64) (notes_are source cpu es);
-      ran_are = λ source low. c.tally source 0 (rw f.ran_long low) (f.ran source low) ∙ zero_and (count_by (is_from source) c.over);
+      ran_are = λ source low. c.tally source 0 (rw f.ran_long low) (f.ran source) ∙ zero_and (count_by (is_from source) c.over);
     }

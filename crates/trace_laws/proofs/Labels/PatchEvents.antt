@@ -2,8 +2,8 @@
 use Rattle.trace_laws.proofs.Names.{APatch, Err, Kind, None, Ok, Option, Reason, Result, Seen, Setting, Some, StateValue, Stop, Task, and_parts, answer_of, ap}
 use Rattle.trace_laws.proofs.Names.{arith, cases_lt, collect_by, collected, collected_with, complete_by, completed, cpu_at, enter_by, enter_from, entered}
 use Rattle.trace_laws.proofs.Names.{entered_open, eqb-true, false, first_of, has, inl, inr, is_called, is_none, is_work, length, ltb-true, may_open}
-use Rattle.trace_laws.proofs.Names.{members_below, nat_lt, offline_in, on_stop, open_by, opened, refl, run_by, set_past, slice_set, stop_at, stop_of, subst}
-use Rattle.trace_laws.proofs.Names.{true, unfinished, unless_offline, with_inside, with_stop, ℕ, ℤ, ◌&&◌, ◌<◌, ◌>>=◌, ◌∙◌, ◌≡◌}
+use Rattle.trace_laws.proofs.Names.{members_below, nat_lt, offline_in, on_stop, open_by, opened, refl, run_by, slice_set, stop_at, stop_of, subst, true}
+use Rattle.trace_laws.proofs.Names.{unfinished, unless_offline, with_inside, with_stop, ℕ, ℤ, ◌&&◌, ◌<◌, ◌>>=◌, ◌∙◌, ◌≡◌}
 use Rattle.trace_model.specs.declared.reason.Reason.TheVariants as reason
 use Rattle.trace_model.specs.{Stop.is_only, Stop.opening}
 use Rattle.trace_laws.proofs.Labels.Patches.{IsOfAll, Labelled, SamePatch, StopGoes, labelled_same, members_more, same_goes, stop_labelled}

@@ -373,8 +373,8 @@ placed_at_first u words = record {
   places_are = ap length (opening_places u words) ∙ places_long 65536;
   each = λ r low cpu below.
       let free : place_at (opening u words) r ≡ Free = free_at_first u words r low in
-      rw free (fresh_placed r cpu (cpu_at (opening u words) cpu) (fresh_at u words cpu below));
-  async = λ cpu below. let fresh : cpu_at (opening u words) cpu ≡ fresh_cpu = fresh_at u words cpu below in rw fresh refl;
+      rw free (fresh_placed r cpu (cpu_at (opening u words) cpu) (fresh_at u words cpu));
+  async = λ cpu below. let fresh : cpu_at (opening u words) cpu ≡ fresh_cpu = fresh_at u words cpu in rw fresh refl;
 }
 
 pub in_one_place : (u : Setting) (words : LabelWords) (es : List (ℕ × Event)) (t : StateValue) → IsTrace u words es t → InOnePlace t

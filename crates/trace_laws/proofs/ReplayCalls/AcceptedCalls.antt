@@ -1,6 +1,6 @@
 -- The events of calls of a replay are accepted.
 use Rattle.trace_laws.proofs.Names.{AllByRecursion, Bool, CpuState, Err, Event, Free, LabelWords, Labels, List, None, Option, Runs, Setting, Some, StateValue}
-use Rattle.trace_laws.proofs.Names.{[], ap, arith, cases_eq, cond, cpu_at, eqb-false, false, filter-append, fresh_cpu, get_or-replicate, inl, inr, length}
+use Rattle.trace_laws.proofs.Names.{[], ap, arith, cases_eq, cond, cpu_at, eqb-false, false, filter-append, get_or-replicate, inl, inr, length}
 use Rattle.trace_laws.proofs.Names.{length-replicate, length-set, opening, places_free, refl, replicate, slice_index_or, slice_set, subst, sym, true}
 use Rattle.trace_laws.proofs.Names.{true≢false, ℕ, ◌++◌, ◌+◌, ◌-◌, ◌<◌, ◌==◌, ◌||◌, ◌∙◌, ◌∷◌, ◌≡◌, ◌≢◌}
 use Rattle.trace_laws.proofs.ReplayNames.{AimsOnline, CallState, Command, ControlValue, CoreValue, Done, DrainValue, FitsCommand, Follows, GoesElsewhere}
@@ -20,8 +20,8 @@ use Rattle.smp_call_steps.specs.Start.{command_refusal}
 use Rattle.trace_laws.proofs.ReplayCalls.EventsByHalf.{all_calls, call_word, is_call_word, no_calls as none_of_calls, stop_tells, stop_word}
 use Rattle.trace_laws.proofs.ReplayCalls.KeptPasts.{begun_same, keeps_past, past_else, past_here}
 use Rattle.trace_laws.proofs.ReplayCalls.PostSteps.{Accepted, looks_step, posts_step, sends_step}
-use Rattle.trace_laws.proofs.{ReplayCalls.HandleSteps.handles_step, ReplayCalls.OtherHalf.KeepsCalls, ReplayCalls.OtherHalf.stop_keeps}
-use Rattle.trace_laws.proofs.{ReplayCalls.StepEvents.Reaches}
+use Rattle.trace_laws.proofs.{Calls.ShownByTraces.cpus_at_first, Calls.ShownByTraces.fresh_at, ReplayCalls.HandleSteps.handles_step}
+use Rattle.trace_laws.proofs.{ReplayCalls.OtherHalf.KeepsCalls, ReplayCalls.OtherHalf.stop_keeps, ReplayCalls.StepEvents.Reaches}
 use Rattle.trace_laws.specs.{AcceptedReplays.CallsOfReplaysAreAccepted, AcceptedReplays.Fits}
 
 -- A core and a state of the model that agrees with its calls, between two steps.
@@ -270,15 +270,11 @@ unfolding opening
 opening_follows u words online e w = record {
   whole = w;
   online_is = e;
-  cpus_are = length-replicate 512 fresh_cpu;
+  cpus_are = cpus_at_first u words;
   places_are = length-free 65536;
-  calls = λ cpu. ap calls_in (get_or-same fresh_cpu 512 cpu);
+  calls = λ cpu. ap calls_in (fresh_at u words cpu);
   places = λ id l. free_at 65536 id (omega arith);
 }
-
-opening_irq : (u : Setting) (words : LabelWords) (cpu : ℕ) → cpu < cpus → (cpu_at (opening u words) cpu).irq ≡ true
-unfolding opening
-opening_irq u words cpu l = ap (λ (c : CpuState). c.irq) (get_or-same fresh_cpu 512 cpu)
 
 outside_at : (cpu : ℕ) → control_of (replicate cpus outside) cpu ≡ outside
 outside_at cpu = get_or-same outside cpus cpu
@@ -295,7 +291,7 @@ new_stands nr online labels u words whole e w = record {
     begun = λ cpu l. tt;
     posts = λ cpu l. rw (outside_at cpu) tt;
   };
-  irq = opening_irq u words;
+  irq = λ cpu l. ap (λ (c : CpuState). c.irq) (fresh_at u words cpu);
   elsewhere = λ cpu. rw (outside_at cpu) tt;
 }
 

@@ -1,12 +1,13 @@
 -- The lines of events tell them.
-use Rattle.trace_laws.proofs.Names.{EarlyEnd, Event, List, Ok, Result, Setting, Some, [], ap, append_assoc, arith, decimal, false, fields_of, join_with_byte}
-use Rattle.trace_laws.proofs.Names.{length, length-append, lines_of, list_all, nat_tests, refl, subst, suc, true, used_after, ℕ, ◌++◌, ◌+◌, ◌<◌, ◌∙◌, ◌∷◌, ◌≡◌}
-use Rattle.trace_laws.proofs.Names.{◌≤◌}
+use Rattle.trace_laws.proofs.Names.{EarlyEnd, Event, List, Ok, Result, Setting, Some, [], ap, append_assoc, arith, decimal, false, fields_of, has}
+use Rattle.trace_laws.proofs.Names.{join_with_byte, length, length-append, lines_of, list_all, lt-ltb, nat_tests, refl, subst, suc, true, used_after, ℕ, ◌++◌}
+use Rattle.trace_laws.proofs.Names.{◌+◌, ◌<◌, ◌∙◌, ◌∷◌, ◌≡◌, ◌≤◌}
 use Rattle.trace_laws.proofs.ReplayNames.{AreReadable, AreTold, IsTold, fields_join, is_field, is_field-decimal, line_before, line_text, lines_of-line}
 use Rattle.trace_laws.proofs.ReplayNames.{lines_text}
-use Rattle.smp_script.proofs.{Texts.Decimals.decimal_lacks, Texts.Joins.whole_fields, Written.LineWriting.member_read}
+use Rattle.smp_script.proofs.{Texts.Decimals.decimal_lacks, Texts.Decimals.number_in-decimal, Texts.Joins.whole_fields}
 use Rattle.smp_script.specs.Spelling.{lacks}
-use Rattle.trace_judge.specs.{Judged.event_on, Judged.is_comment, Runs.Told, Runs.told_by}
+use Rattle.trace_model.specs.declared.event.Event.TheVariants as event
+use Rattle.trace_judge.specs.{Judged.event_on, Judged.is_comment, Reading.is_low, Reading.online_of, Runs.Told, Runs.told_by}
 use Rattle.trace_laws.proofs.ReplayTexts.EventWords.{TakesAll, joined_words, words_of, words_read}
 
 -- what is behind the CPU of a line
@@ -42,6 +43,16 @@ no_comment : (t rest : List ℕ) → is_field t ≡ true → lacks 35 t ≡ true
 no_comment [] rest f l = cc
 no_comment (b ∷ bs) rest f l = grind (arith, l)
 
+-- its CPU is read, and may have the event
+online_told : (u : Setting) (cpu : ℕ) → cpu < 32 → has u.online cpu ≡ true → online_of u (decimal cpu) ≡ Ok cpu
+online_told u cpu small on =
+    let read = number_in-decimal 0 4294967295 cpu (omega arith) (omega (arith, small)) (omega (arith, small)) in
+    rw (read, lt-ltb cpu 32 small, on) refl
+
+low_told : (cpu : ℕ) (e : Event) → cpu < 32 → is_low cpu e ≡ true
+low_told cpu (event.Call call) small = refl
+low_told cpu _ small = lt-ltb cpu 32 small
+
 -- the line tells the event
 pub line_tells : (u : Setting) (n cpu : ℕ) (e : Event) → TakesAll u → IsTold u (cpu, e) → event_on u n (told_line cpu e) ≡ Ok (Some (cpu, e))
 unfolding event_on
@@ -51,8 +62,7 @@ line_tells u n cpu e all (small, online, fits) =
     (is_field-decimal cpu (omega (arith, small))) (decimal_lacks 35 cpu refl (omega (arith, small))) in
     let reads = words_read u e all.whole all.keys all.sites fits in
     let whole = whole_fields (decimal cpu ∷ event_words e) (line_fields u cpu e all told) in
-    let member = member_read u.online cpu (omega (arith, small)) online in
-    rw (plain, line_words u cpu e all told) (rw (whole, reads.read, member) refl)
+    rw (plain, line_words u cpu e all told) (rw (whole, reads.read, online_told u cpu small online, low_told cpu e small) refl)
 
 -- a line within the limits
 pub used_within : (n used : ℕ) (text : List ℕ) → n ≤ 1000000 → length text < 1024 → used + length text < 16777216

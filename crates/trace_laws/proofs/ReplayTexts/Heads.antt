@@ -1,6 +1,6 @@
 -- The head of a trace is read as it was written.
-use Rattle.trace_laws.proofs.Names.{CursorValue, Event, Labels, Line, List, Ok, Setting, [], ap, arith, bytes_eq, cases_Bool, codes, decimal, false, fields_of}
-use Rattle.trace_laws.proofs.Names.{inl, inr, is_decimal, is_labels, join_with_byte, labels_at, length, length-append, lines_of, no_labels, online_at, refl}
+use Rattle.trace_laws.proofs.Names.{CursorValue, Event, Labels, Line, List, Ok, Setting, [], ap, arith, bytes_eq, cases_Bool, codes, cpus_at, decimal, false}
+use Rattle.trace_laws.proofs.Names.{fields_of, inl, inr, is_decimal, is_labels, join_with_byte, labels_at, length, length-append, lines_of, no_labels, refl}
 use Rattle.trace_laws.proofs.Names.{sym, titled, true, used_after, whole_labels, without_at, ℕ, ◌+◌, ◌<◌, ◌^◌, ◌∙◌, ◌∷◌, ◌≡◌, ◌≤◌}
 use Rattle.trace_laws.proofs.ReplayNames.{AreLabels, AreReadable, AreTold, IsTold, all_told, are_online, fields_join, is_field, items_text, labels_fields}
 use Rattle.trace_laws.proofs.ReplayNames.{lines_text, mask_of}
@@ -20,17 +20,17 @@ abbrev pub cursor : ℕ → ℕ → List Line → CursorValue
 cursor number used lines = record { number = number; used = used; lines = lines }
 
 -- the title
-pub title_read : (rest : List Line) → titled (ended (codes "smp 2 trace") ∷ rest) ≡ Ok (cursor 2 12 rest)
+pub title_read : (rest : List Line) → titled (ended (codes "smp 2 trace") ∷ rest) ≡ Ok (false, cursor 2 12 rest)
 unfolding titled needed used_after
 title_read rest = refl
 
 -- the line of the CPUs
-pub online_read : (nr online : ℕ) (mask : List ℕ) (rest : List Line) → 1 ≤ nr → nr ≤ 32 → is_field mask ≡ true → mask_of 32 mask ≡ Ok online
+pub cpus_read : (nr online : ℕ) (mask : List ℕ) (rest : List Line) → 1 ≤ nr → nr ≤ 32 → is_field mask ≡ true → mask_of 32 mask ≡ Ok online
     → are_online nr online ≡ true → length (join_with_byte 32 (cpus_words nr mask)) < 1024
-    → online_at (cursor 2 12 (ended (join_with_byte 32 (cpus_words nr mask)) ∷ rest))
-    ≡ Ok (online, cursor 3 (12 + (length (join_with_byte 32 (cpus_words nr mask)) + 1)) rest)
-unfolding online_at needed
-online_read nr online mask rest some few field is_mask are short =
+    → cpus_at false (cursor 2 12 (ended (join_with_byte 32 (cpus_words nr mask)) ∷ rest))
+    ≡ Ok ((32, online), cursor 3 (12 + (length (join_with_byte 32 (cpus_words nr mask)) + 1)) rest)
+unfolding cpus_at needed
+cpus_read nr online mask rest some few field is_mask are short =
     let text = join_with_byte 32 (cpus_words nr mask) in
     let used = used_within 2 12 text (omega arith) short (omega (arith, short)) in
     let back = fields_join (codes "cpus") (decimal nr ∷ mask ∷ []) (cpus_fields nr mask few field) in
@@ -41,7 +41,7 @@ online_read nr online mask rest some few field is_mask are short =
 -- the line of the labels
 pub labels_read : (labels : Labels) (used : ℕ) (rest : List Line) → AreLabels labels.keys labels.entries → used ≤ 4096
     → length (join_with_byte 32 (labels_words labels)) < 1024
-    → labels_at (cursor 3 used (ended (join_with_byte 32 (labels_words labels)) ∷ rest))
+    → labels_at 32 (cursor 3 used (ended (join_with_byte 32 (labels_words labels)) ∷ rest))
     ≡ Ok (labels, cursor 4 (used + (length (join_with_byte 32 (labels_words labels)) + 1)) rest)
 unfolding labels_at
 labels_read labels used rest are few short =
@@ -80,7 +80,7 @@ room_first u number used cpu e events h1 h2 h3 = search (told_line, length-appen
 
 -- the lines of events are no labels
 pub no_labels_read : (u : Setting) (number used : ℕ) (events : List (ℕ × Event)) → TakesAll u → AreTold u events → HasRoom number used events
-    → labels_at (cursor number used (lines_of (lines_text events))) ≡ Ok (no_labels, cursor number used (lines_of (lines_text events)))
+    → labels_at 32 (cursor number used (lines_of (lines_text events))) ≡ Ok (no_labels, cursor number used (lines_of (lines_text events)))
 unfolding labels_at
 no_labels_read u number used [] all told room = refl
 no_labels_read u number used ((cpu, e) ∷ events) all told room =

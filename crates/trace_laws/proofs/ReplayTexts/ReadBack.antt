@@ -9,7 +9,7 @@ use Rattle.smp_script.specs.{declared.mode.Mode.TheVariants.Replay}
 use Rattle.trace_judge.specs.Head.{words_of as label_words_of}
 use Rattle.trace_events.specs.Front.{front_text}
 use Rattle.trace_laws.proofs.ReplayTexts.FrontLines.{cpus_fields, cpus_words, few_cpus, labels_words, trace_mask}
-use Rattle.trace_laws.proofs.ReplayTexts.Heads.{HasRoom, cursor, ended, labels_read, no_labels_read, online_read, title_read, without_read}
+use Rattle.trace_laws.proofs.ReplayTexts.Heads.{HasRoom, cpus_read, cursor, ended, labels_read, no_labels_read, title_read, without_read}
 use Rattle.trace_laws.proofs.{ReplayTexts.EventLines.count_lines, ReplayTexts.EventLines.lines_tell, ReplayTexts.EventWords.TakesAll}
 use Rattle.trace_laws.specs.ReplayTexts.{IsWithin}
 
@@ -84,7 +84,7 @@ record HeadIs (nr online : ℕ) (mask : List ℕ) (labels : Option Labels) (even
   used : ℕ
   room : HasRoom number used events
   head_is : head_of (lines_of (written nr mask labels (lines_text events)))
-      ≡ Ok (head_with online (labels_or_none labels) all_told (cursor number used (lines_of (lines_text events))))
+      ≡ Ok (head_with (32, online) (labels_or_none labels) all_told (cursor number used (lines_of (lines_text events))))
 
 head_none : (nr online : ℕ) (mask : List ℕ) (events : List (ℕ × Event)) → IsTraced nr online mask None events → HeadIs nr online mask None events
 unfolding head_of
@@ -112,7 +112,7 @@ head_none nr online mask events t =
       head_is = rw (
         lines,
         title_read (ended cpus ∷ lines_of body),
-        online_read nr online mask (lines_of body) t.some t.few t.field t.mask_is t.online_are short.1.0,
+        cpus_read nr online mask (lines_of body) t.some t.few t.field t.mask_is t.online_are short.1.0,
         no_labels_read u 3 (12 + (length cpus + 1)) events all t.told room,
         without_read u 3 (12 + (length cpus + 1)) events all t.told room,
       ) refl;
@@ -151,7 +151,7 @@ head_some nr online mask labels events t =
       head_is = rw (
         lines,
         title_read (ended cpus ∷ ended third ∷ lines_of body),
-        online_read nr online mask (ended third ∷ lines_of body) t.some t.few t.field t.mask_is t.online_are short.1.0,
+        cpus_read nr online mask (ended third ∷ lines_of body) t.some t.few t.field t.mask_is t.online_are short.1.0,
         labels_read labels before (lines_of body) t.labels_are (omega (arith, short.1.0)) short.1.1.0,
         without_read u 4 (before + (length third + 1)) events all t.told room,
       ) refl;
@@ -170,7 +170,7 @@ written_back nr online mask labels events t =
     let h = head_read nr online mask labels events t in
     let u = setting_of online (labels_or_none labels) all_told in
     record {
-      head = head_with online (labels_or_none labels) all_told (cursor h.number h.used (lines_of (lines_text events)));
+      head = head_with (32, online) (labels_or_none labels) all_told (cursor h.number h.used (lines_of (lines_text events)));
       head_is = h.head_is;
       setting_is = refl;
       words_are = refl;

@@ -135,10 +135,10 @@ rounds_at_first u words =
       stops_are = ap length (stops_at_first u words) ∙ length-replicate 32 (closed u.online);
       at = λ source low cpu below.
           let st : stop_at s source ≡ closed u.online = stop_at_first u words source low in
-          let c : cpu_at s cpu ≡ fresh_cpu = fresh_at u words cpu (omega (arith, below)) in
+          let c : cpu_at s cpu ≡ fresh_cpu = fresh_at u words cpu in
           rw (st, c) (closed_round s.setting.without.raises source cpu u.online below);
-      cpu = λ cpu below. let c : cpu_at s cpu ≡ fresh_cpu = fresh_at u words cpu (omega (arith, below)) in rw c (fresh_at_all s.setting.without.switches);
-      away = λ cpu past below. ap (λ (x : CpuState). x.inside) (fresh_at u words cpu below);
+      cpu = λ cpu below. let c : cpu_at s cpu ≡ fresh_cpu = fresh_at u words cpu in rw c (fresh_at_all s.setting.without.switches);
+      away = λ cpu past below. ap (λ (x : CpuState). x.inside) (fresh_at u words cpu);
       stop = λ source low. let st : stop_at s source ≡ closed u.online = stop_at_first u words source low in rw st (closed_stop u.online);
     }
 

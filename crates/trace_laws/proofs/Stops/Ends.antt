@@ -1,11 +1,11 @@
 -- A function runs, a CPU completes, and a source opens a stop and collects: what holds of CPUs in stops still does.
-use Rattle.trace_laws.proofs.Names.{APatch, Bool, Err, Kind, None, Ok, One, Option, Reason, Result, Seen, Setting, Some, StateValue, Stop, Task}
-use Rattle.trace_laws.proofs.Names.{acked_by, and_parts, answer_of, answer_wanted, ap, arith, cases_eq, cases_lt, collect_by, collected, collected_with}
-use Rattle.trace_laws.proofs.Names.{complete_by, completed, cpu_at, eq-eqb, eqb-true, false, first_from, get_or-replicate, get_or-set_other, get_or-set_same}
-use Rattle.trace_laws.proofs.Names.{gives, has, has_run, if◌then◌else◌, in_stop, inl, inr, int_eq, is_none, is_work, length-replicate, length-set, may_complete}
-use Rattle.trace_laws.proofs.Names.{may_open, may_run, ne_eqb, not, offline_in, on_stop, open_by, opened, ran_function, refl, run_as, run_by, set_past}
-use Rattle.trace_laws.proofs.Names.{slice_index_or, slice_set, stop_at, stop_of, suc, sym, true, unfinished, unless_offline, with_inside, with_stop, zero, ℕ, ℤ}
-use Rattle.trace_laws.proofs.Names.{◌&&◌, ◌+◌, ◌<◌, ◌==◌, ◌>>=◌, ◌∙◌, ◌≡◌, ◌≢◌, ◌≤◌}
+use Rattle.trace_laws.proofs.Names.{APatch, Bool, Err, Kind, None, Ok, One, Option, Reason, Result, Seen, Setting, Some, StateValue, Stop, Task, acked_by}
+use Rattle.trace_laws.proofs.Names.{and_parts, answer_of, answer_wanted, ap, arith, cases_eq, collect_by, collected, collected_with, complete_by, completed}
+use Rattle.trace_laws.proofs.Names.{cpu_at, eq-eqb, eqb-true, false, first_from, get_or-replicate, get_or-set_other, get_or-set_same, gives, has, has_run}
+use Rattle.trace_laws.proofs.Names.{if◌then◌else◌, in_stop, int_eq, is_none, is_work, length-replicate, length-set, may_complete, may_open, may_run, ne_eqb}
+use Rattle.trace_laws.proofs.Names.{not, offline_in, on_stop, open_by, opened, ran_function, refl, run_as, run_by, slice_index_or, slice_set, stop_at, stop_of}
+use Rattle.trace_laws.proofs.Names.{suc, sym, true, unfinished, unless_offline, with_inside, with_stop, zero, ℕ, ℤ, ◌&&◌, ◌+◌, ◌<◌, ◌==◌, ◌>>=◌, ◌∙◌, ◌≡◌, ◌≢◌}
+use Rattle.trace_laws.proofs.Names.{◌≤◌}
 use Rattle.trace_model.specs.declared.reason.Reason.TheVariants as reason
 use Rattle.trace_model.specs.{Stop.first_phase, Stop.least, Stop.opening}
 use Rattle.trace_laws.proofs.Stops.CpusInStops.{Change, Rounds, StopChange, changed, changed_to, is_round, member_of, put_seen, stop_only}

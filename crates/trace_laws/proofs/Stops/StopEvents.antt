@@ -1,14 +1,14 @@
 -- Each event of stops keeps what holds of CPUs in stops.
-use Rattle.trace_laws.proofs.Names.{Bool, CpuState, Err, Kind, None, Ok, One, Option, Reason, Result, Seen, Some, StateValue, Stop, Task, acked_by}
-use Rattle.trace_laws.proofs.Names.{and_parts, ap, arith, at_phase, cases_lt, closed, cpu_at, enter_by, enter_from, entered, entered_open, eqb-true, false}
-use Rattle.trace_laws.proofs.Names.{fresh_cpu, get_or-set_other, get_or-set_same, get_or_past, handles_nothing, has, if◌then◌else◌, in_round, in_stop, inl, inr}
-use Rattle.trace_laws.proofs.Names.{is_called, is_cpu, length, length-set, lt-ltb, ltb-false, ltb-true, may_off, nat_lt, not, off_by, on_by, on_stop, refl}
-use Rattle.trace_laws.proofs.Names.{set_past, slice_index_or, slice_set, stop_at, stop_of, subst, sym, through, true, with_cpu, with_inside, with_interrupts}
-use Rattle.trace_laws.proofs.Names.{with_irq, with_stop, ℕ, ◌&&◌, ◌-◌, ◌<◌, ◌==◌, ◌>>=◌, ◌∙◌, ◌≡◌, ◌≢◌, ◌≤◌, ◌⊎◌}
+use Rattle.trace_laws.proofs.Names.{Bool, Err, Kind, None, Ok, One, Option, Reason, Result, Seen, Some, StateValue, Stop, Task, acked_by, and_parts, ap, arith}
+use Rattle.trace_laws.proofs.Names.{at_phase, cases_lt, closed, cpu_at, enter_by, enter_from, entered, entered_open, eqb-true, false, fresh_cpu}
+use Rattle.trace_laws.proofs.Names.{get_or-set_other, get_or-set_same, get_or_past, handles_nothing, has, if◌then◌else◌, in_round, in_stop, inl, inr, is_called}
+use Rattle.trace_laws.proofs.Names.{is_cpu, length, length-set, lt-ltb, ltb-false, ltb-true, may_off, nat_lt, not, off_by, on_by, on_stop, refl, slice_index_or}
+use Rattle.trace_laws.proofs.Names.{slice_set, stop_at, stop_of, subst, sym, through, true, with_cpu, with_inside, with_interrupts, with_irq, with_stop, ℕ}
+use Rattle.trace_laws.proofs.Names.{◌&&◌, ◌-◌, ◌<◌, ◌==◌, ◌>>=◌, ◌∙◌, ◌≡◌, ◌≢◌, ◌≤◌, ◌⊎◌}
 use Rattle.std.proofs.{lemmas.Bool.leb-false, lemmas.List.set-get_or}
 use Rattle.trace_model.specs.declared.reason.Reason.TheVariants as reason
 use Rattle.trace_model.specs.{Stops.stop_in, Stops.unless_one}
-use Rattle.trace_laws.proofs.Stops.CpusInStops.{Change, Member, RoundAt, Rounds, changed, changed_to, is_round, member_of, put_seen, seen_elsewhere}
+use Rattle.trace_laws.proofs.Stops.CpusInStops.{Change, Member, RoundAt, Rounds, changed, changed_to, is_round, member_of, put_seen}
 use Rattle.trace_laws.proofs.{Calls.MadeSteps.both_made, Calls.MadeSteps.failed, Calls.MadeSteps.passed}
 use Rattle.smp_words.specs.declared.phase.TheConstants.{EXIT}
 

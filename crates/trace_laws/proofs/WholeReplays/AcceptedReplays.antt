@@ -1,7 +1,7 @@
 -- Each replay is accepted.
 use Rattle.trace_laws.proofs.Names.{AllByRecursion, CpuState, Err, LabelWords, Labels, List, None, Option, Runs, Setting, Some, StateValue, [], ap, arith}
-use Rattle.trace_laws.proofs.Names.{closed, cpu_at, false, false≢true, fresh_cpu, get_or-replicate, length-replicate, opening, refl, replicate}
-use Rattle.trace_laws.proofs.Names.{slice_index_or, subst, sym, ℕ, ◌+◌, ◌<◌, ◌∙◌, ◌∷◌, ◌≡◌}
+use Rattle.trace_laws.proofs.Names.{closed, false, false≢true, get_or-replicate, length-replicate, opening, refl, replicate, slice_index_or, subst, sym, ℕ, ◌+◌}
+use Rattle.trace_laws.proofs.Names.{◌<◌, ◌∙◌, ◌∷◌, ◌≡◌}
 use Rattle.trace_laws.proofs.ReplayNames.{AreWordsOf, BeginsOfCpus, CallState, Command, CoreValue, FitsCommand, FitsCpus, FollowsStops, IsWhole}
 use Rattle.trace_laws.proofs.ReplayNames.{Past, Replay, Seen, SmpError, Stage, StopIs, StopShown, StopStage, StopState, StopsValue, Turned, after_seen}
 use Rattle.trace_laws.proofs.ReplayNames.{all_fresh, control_of, cpus, events_of, events_of_step, fresh, get_or-same, kept, new_core, new_stops, no_calls}
@@ -11,7 +11,8 @@ use Rattle.trace_laws.proofs.ReplayNames.{stops_stepped, tells, tells_all}
 use Rattle.smp_mask.specs.declared.error.SmpError.TheVariants as error
 use Rattle.smp_words.specs.declared.command.Event.TheVariants as turned
 use Rattle.trace_laws.proofs.WholeReplays.AllEvents.{StandsAll, call_stands, reached, reached_stops, start_stands, stop_stands, told_stops}
-use Rattle.trace_laws.proofs.{ReplayCalls.AcceptedCalls.new_stands, ReplayCalls.AcceptedCalls.runs_append, ReplayPatches.PatchEvents.AreEntries}
+use Rattle.trace_laws.proofs.{Calls.ShownByTraces.fresh_at, ReplayCalls.AcceptedCalls.new_stands, ReplayCalls.AcceptedCalls.runs_append}
+use Rattle.trace_laws.proofs.{ReplayPatches.PatchEvents.AreEntries}
 use Rattle.trace_laws.specs.{AcceptedReplays.IsOf, AcceptedReplays.ReplaysAreAccepted}
 use Rattle.smp_words.specs.declared.phase.TheConstants.{RUN}
 
@@ -89,10 +90,6 @@ closed_at online j l = get_or-replicate 32 j (closed online) (closed 0) (omega a
 closed_is : (online : ℕ) → StopIs (no_stops.now.stop 0) (closed online)
 closed_is online = search (length-replicate, false≢true, arith)
 
-fresh_cpu_at : (u : Setting) (words : LabelWords) (cpu : ℕ) → cpu_at (opening u words) cpu ≡ fresh_cpu
-unfolding opening
-fresh_cpu_at u words cpu = get_or-same fresh_cpu 512 cpu
-
 fresh_past_at : (cpu : ℕ) → past_at all_fresh cpu ≡ fresh
 fresh_past_at cpu = get_or-same fresh 32 cpu
 
@@ -106,8 +103,8 @@ opening_stops u words nr online labels w = record {
   gate = refl;
   stops = λ j l. rw (closed_at u.online j l) (closed_is u.online);
   cpus_are = λ cpu. record {
-    inside = ap (λ (c : CpuState). c.inside) (fresh_cpu_at u words cpu);
-    irq = ap (λ (c : CpuState). c.irq) (fresh_cpu_at u words cpu);
+    inside = ap (λ (c : CpuState). c.inside) (fresh_at u words cpu);
+    irq = ap (λ (c : CpuState). c.irq) (fresh_at u words cpu);
     stop = λ j e. absurd (none_some j e);
     answer = λ e. ap (λ (x : Past). x.answer) (fresh_past_at cpu);
     reads = λ e. absurd (three (ap (λ (x : Past). x.phase) (fresh_past_at cpu)) e);
