@@ -1,5 +1,5 @@
 -- A state of the model of events that agrees with the calls of a machine.
-use Rattle.std.specs.Prelude.{◌≡◌, ◌≢◌, ℕ, ◌<◌, Bool, true, false, List, map, length, Option, Some, None}
+use Rattle.std.specs.Prelude.{◌≡◌, ◌≢◌, ℕ, ◌<◌, Bool, false, List, map, length, Option, Some, None}
 use Rattle.smp_words.specs.Size.{cpus, records, owner}
 use Rattle.smp_words.specs.declared.call.Call.{Call as MachineCall}
 use Rattle.smp_call_steps.specs.Calls.{CallState}

@@ -2,12 +2,12 @@
 use Rattle.trace_laws.proofs.Names.{AllByRecursion, Bool, CpuState, Err, Event, Free, LabelWords, Labels, List, None, Option, Runs, Setting, Some, StateValue}
 use Rattle.trace_laws.proofs.Names.{[], ap, arith, cases_eq, cond, cpu_at, eqb-false, false, filter-append, get_or-replicate, inl, inr, length}
 use Rattle.trace_laws.proofs.Names.{length-replicate, length-set, opening, places_free, refl, replicate, slice_index_or, slice_set, subst, sym, true}
-use Rattle.trace_laws.proofs.Names.{true≢false, ℕ, ◌++◌, ◌+◌, ◌-◌, ◌<◌, ◌==◌, ◌||◌, ◌∙◌, ◌∷◌, ◌≡◌, ◌≢◌}
+use Rattle.trace_laws.proofs.Names.{true≢false, ℕ, ◌++◌, ◌+◌, ◌<◌, ◌==◌, ◌||◌, ◌∙◌, ◌∷◌, ◌≡◌, ◌≢◌}
 use Rattle.trace_laws.proofs.ReplayNames.{AimsOnline, CallState, Command, ControlValue, CoreValue, Done, DrainValue, FitsCommand, Follows, GoesElsewhere}
 use Rattle.trace_laws.proofs.ReplayNames.{Handle, HandleStage, IsWhole, KeepsPast, CallOutcome, Past, Post, PostIs, PostStage, Posted, Posting, Replay}
 use Rattle.trace_laws.proofs.ReplayNames.{Seen, Send}
 use Rattle.trace_laws.proofs.ReplayNames.{Shown, SmpError, Stage, StopStage, Turned, access_of, after, after_seen, all_fresh, call_events, call_step, calls_in}
-use Rattle.trace_laws.proofs.ReplayNames.{control_after, control_at, control_of, controls_by_cpu, cpus, ends, events_of, events_of_step, first_stage, found_at}
+use Rattle.trace_laws.proofs.ReplayNames.{control_after, control_at, control_of, controls_by_cpu, cpus, events_of, events_of_step, first_stage, found_at}
 use Rattle.trace_laws.proofs.ReplayNames.{fresh, get_or-same, handle_goes, handle_outcome, inside_below, kept, made_shown, may_start, new_core, new_shown}
 use Rattle.trace_laws.proofs.ReplayNames.{no_calls, nothing_left_out, number_in, outcome_of, outside, past_at, post_outcome, put, put_all, refusal_of}
 use Rattle.trace_laws.proofs.ReplayNames.{replay_from, replay_made, replay_on, seen_at, start_below, start_turn, start_whole, started, started_shown, step_at}

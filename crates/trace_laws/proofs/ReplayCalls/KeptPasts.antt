@@ -1,6 +1,6 @@
 -- What a CPU has kept of its steps, after one more.
 use Rattle.trace_laws.proofs.Names.{Async, Bool, Class, List, None, Option, Some, Sync, ap, arith, cases_eq, cond, eq-eqb, false, get_or-set_other}
-use Rattle.trace_laws.proofs.Names.{get_or-set_same, inl, inr, length, length-set, lt-ltb, refl, slice_set, subst, sym, true, ℕ, ◌-◌, ◌<◌, ◌∙◌, ◌≡◌, ◌≢◌}
+use Rattle.trace_laws.proofs.Names.{get_or-set_same, inl, inr, length, length-set, lt-ltb, refl, slice_set, subst, sym, true, ℕ, ◌<◌, ◌∙◌, ◌≡◌, ◌≢◌}
 use Rattle.trace_laws.proofs.ReplayNames.{BegunIs, Call, CallState, ControlValue, Handle, HandleStage, Holding, IsPlaced, KeepsPast, CallOutcome, Past, Post}
 use Rattle.trace_laws.proofs.ReplayNames.{PostIs, PostIsAt, PostStage, Posted, Posting, Running, Seen, Shows, Stage, Walk, Word, access_of, after, after_flags}
 use Rattle.trace_laws.proofs.ReplayNames.{appended, confirms, control_after, cpus, ends, ends_front, flags_of, fresh, goes_to, head_told, holds_nothing, kept}

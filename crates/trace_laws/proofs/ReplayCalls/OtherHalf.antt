@@ -1,5 +1,5 @@
 -- What a step of one half leaves of what a CPU keeps of the other.
-use Rattle.trace_laws.proofs.Names.{arith, Bool, Option, Some, cond, false, false≢true, refl, true, true≢false, ℕ, ◌-◌, ◌≡◌}
+use Rattle.trace_laws.proofs.Names.{arith, Bool, Option, Some, cond, false, false≢true, refl, true, true≢false, ℕ, ◌≡◌}
 use Rattle.trace_laws.proofs.ReplayNames.{Act, Field, Note, Past, Seen, Word, after, after_call_entry, after_draft, after_on, after_other, after_slot}
 use Rattle.trace_laws.proofs.ReplayNames.{after_slot_load, after_store, is_new}
 use Rattle.smp_words.specs.declared.field.Field.TheVariants as field

@@ -1,5 +1,5 @@
 -- What a command of the stop half begins with, and what its CPU keeps of the stop that it begins.
-use Rattle.trace_laws.proofs.Names.{Bool, Kind, None, One, Option, Some, arith, cond, false, has, is_on, length, refl, true, xor, ℕ, ◌<◌, ◌==◌, ◌∙◌, ◌≡◌}
+use Rattle.trace_laws.proofs.Names.{Bool, Kind, None, One, Option, Some, arith, cond, false, is_on, length, refl, true, xor, ℕ, ◌<◌, ◌==◌, ◌∙◌, ◌≡◌}
 use Rattle.trace_laws.proofs.Names.{◌≢◌}
 use Rattle.trace_laws.proofs.ReplayNames.{BeginsOfCpus, Command, CompletionStage, Draft, DraftIs, Drafts, ExchangeKey, Field, IsOfCpus, Past}
 use Rattle.trace_laws.proofs.ReplayNames.{RoundStage, StopControlValue, StopOutcome, StopStage, StopsValue, Visit, Work, after, after_draft}

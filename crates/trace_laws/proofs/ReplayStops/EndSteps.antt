@@ -3,7 +3,7 @@ use Rattle.trace_laws.proofs.Names.{Kind, Multi, None, Ok, One, Option, Some, Ta
 use Rattle.trace_laws.proofs.Names.{inr, is_cpu, ne_eqb, not, pos, refl, slice_set, stop_at, subst, sym, true, with_cpu, with_stop, ℕ, ◌+◌, ◌<◌, ◌^◌, ◌∙◌, ◌∷◌}
 use Rattle.trace_laws.proofs.Names.{◌≡◌, ◌≢◌, ◌⊎◌}
 use Rattle.trace_laws.proofs.ReplayNames.{AnswerIs, Answering, Calling, Calls, Carries, CarriesAt, Close, Closes, Complete, Completed, CompletionStage, Gives}
-use Rattle.trace_laws.proofs.ReplayNames.{Idle, In, Inside, IsCalling, IsQuiet, LoadDone, LoadResult, Nobody, Past, Patch, Raises, Raising, Refills, Rests}
+use Rattle.trace_laws.proofs.ReplayNames.{Idle, In, Inside, IsCalling, IsQuiet, LoadResult, Nobody, Past, Patch, Raises, Raising, Refills, Rests}
 use Rattle.trace_laws.proofs.ReplayNames.{StopRole, SitsAt, Slot, Standing, Stop, StopStage, StopState, Visit, Word, Work, acked_of, as_i32}
 use Rattle.trace_laws.proofs.ReplayNames.{calls_now, has_entered}
 use Rattle.trace_laws.proofs.ReplayNames.{irq_of, is_called, is_of, is_open_inside, may_call, one_less, one_phase, put, put_all, put_other, put_same, put_word}

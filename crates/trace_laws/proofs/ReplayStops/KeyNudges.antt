@@ -1,7 +1,7 @@
 -- A key's count is moved by one outside a patch.
 use Rattle.trace_laws.proofs.Names.{Bool, Event, Key, LabelWords, None, Ok, Option, Some, StateValue, [], ap, arith, cases_eq, cond, count_at, eq-eqb, eqb-true}
 use Rattle.trace_laws.proofs.Names.{false, get_or-set_other, get_or-set_same, goes, inl, inr, is_on, label_goes, le-leb, le-ltb, length-set, lt-ltb, ltb-true}
-use Rattle.trace_laws.proofs.Names.{nat_lt, ne_eqb, nudged, refl, slice_set, stop_at, stored, subst, sym, true, ℕ, ◌-◌, ◌<◌, ◌==◌, ◌∙◌, ◌∷◌, ◌≡◌, ◌≤◌}
+use Rattle.trace_laws.proofs.Names.{nat_lt, ne_eqb, nudged, refl, slice_set, stop_at, stored, subst, sym, true, ℕ, ◌<◌, ◌==◌, ◌∙◌, ◌∷◌, ◌≡◌, ◌≤◌}
 use Rattle.trace_laws.proofs.ReplayNames.{ExchangeKey, FollowsStops, SitsAt, Stop, StopIs, StopStage, StopState, of_nudge, past_at, put_if, put_word}
 use Rattle.smp_words.specs.declared.seen.Act.TheVariants as act
 use Rattle.smp_words.specs.declared.word.Word.TheVariants as word

@@ -2,7 +2,7 @@
 use Rattle.trace_laws.proofs.Names.{Bool, Kind, None, One, Option, Some, [], and_left, and_right, arith, cases_eq, cond, eqb-true, false, false≢true}
 use Rattle.trace_laws.proofs.Names.{has, is_on, is_work, lt-ltb, nat_lt, ne_eqb, pos, refl, slice_set, subst, sym, true, true≢false, ℕ, ◌&&◌, ◌+◌, ◌<◌, ◌==◌}
 use Rattle.trace_laws.proofs.Names.{◌∙◌, ◌≡◌}
-use Rattle.trace_laws.proofs.ReplayNames.{Access, Begin, Called, Draft, DraftIs, Drafts, Enter, EnterActive, EnterKind, EnterMask, Field}
+use Rattle.trace_laws.proofs.ReplayNames.{Access, Begin, Called, Draft, DraftIs, Drafts, Enter, Field}
 use Rattle.trace_laws.proofs.ReplayNames.{Free, Idle, Inside, IsCalling, IsOfCpus, IsPatchWork, Key, NudgeKey, OpenGate, Patch, Present, ReadKey}
 use Rattle.trace_laws.proofs.ReplayNames.{ReadSite, ReadingKey, StopRole, Seen, Site, SitsAt, Slot, Standing, RoleStands, StopStage}
 use Rattle.trace_laws.proofs.ReplayNames.{StopState, TakeGate, Visit, Word}

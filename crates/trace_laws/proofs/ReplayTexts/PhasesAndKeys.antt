@@ -1,6 +1,6 @@
 -- The phases, the keys and the sites of the steps of stops.
 use Rattle.trace_laws.proofs.Names.{AllByRecursion, Bool, Entry, Key, Kind, List, None, One, Option, Setting, Site, Some, [], arith, change_of, cond, entry_at}
-use Rattle.trace_laws.proofs.Names.{entry_word, false, has, is_on, length, length-map, ne_eqb, refl, subst, suc, sym, true, xor, zero, ℕ, ◌++◌, ◌+◌, ◌-◌, ◌<◌}
+use Rattle.trace_laws.proofs.Names.{entry_word, false, is_on, length, length-map, ne_eqb, refl, subst, suc, sym, true, xor, zero, ℕ, ◌++◌, ◌+◌, ◌-◌, ◌<◌}
 use Rattle.trace_laws.proofs.Names.{◌==◌, ◌∷◌, ◌≡◌, ◌≢◌, ◌≤◌}
 use Rattle.trace_laws.proofs.ReplayNames.{Advance, Alters, Begin, Change, Complete, CompletionStage, Field, Inside, InsideIs, IsKeyWord, LabelsShow, Past}
 use Rattle.trace_laws.proofs.ReplayNames.{Patching, PhaseIs, RoundStage, SitsAt, SitsInRound, Standing, StopStage, Visit, Work, begun_value, change_at, cpus}

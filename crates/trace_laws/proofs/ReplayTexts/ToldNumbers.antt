@@ -1,6 +1,6 @@
 -- The numbers of what a step tells, where its own numbers are of its types.
-use Rattle.trace_laws.proofs.Names.{AllByRecursion, Bool, None, Option, Setting, Some, StopEvent, arith, cases_lt, cond, false, has, nat_lt, nat_tests, refl}
-use Rattle.trace_laws.proofs.Names.{subst, sym, true, unwrap_or, w32, ℕ, ◌%◌, ◌&&◌, ◌-◌, ◌<◌, ◌==◌, ◌^◌, ◌≡◌, ◌≤◌}
+use Rattle.trace_laws.proofs.Names.{AllByRecursion, Bool, None, Option, Setting, Some, StopEvent, arith, cases_lt, cond, false, nat_lt, nat_tests, refl}
+use Rattle.trace_laws.proofs.Names.{subst, sym, true, unwrap_or, w32, ℕ, ◌%◌, ◌&&◌, ◌<◌, ◌==◌, ◌^◌, ◌≡◌, ◌≤◌}
 use Rattle.trace_laws.proofs.ReplayNames.{Act, EventFits, Field, IsAnswer, Note, Past, Seen, StepEvents, StopFits, Word, after, after_call_entry, after_draft}
 use Rattle.trace_laws.proofs.ReplayNames.{after_flags, after_on, after_other, after_slot, after_slot_load, after_store, events_in, fresh, id_of, is_new, of_ack}
 use Rattle.trace_laws.proofs.ReplayNames.{of_arg, of_flags, of_gate, of_hand, of_head, of_intr, of_key, of_nudge, of_ran, of_result, of_roll, of_slot, of_state}

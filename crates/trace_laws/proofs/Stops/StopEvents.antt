@@ -4,7 +4,7 @@ use Rattle.trace_laws.proofs.Names.{at_phase, cases_lt, closed, cpu_at, enter_by
 use Rattle.trace_laws.proofs.Names.{get_or-set_other, get_or-set_same, get_or_past, handles_nothing, has, if◌then◌else◌, in_round, in_stop, inl, inr, is_called}
 use Rattle.trace_laws.proofs.Names.{is_cpu, length, length-set, lt-ltb, ltb-false, ltb-true, may_off, nat_lt, not, off_by, on_by, on_stop, refl, slice_index_or}
 use Rattle.trace_laws.proofs.Names.{slice_set, stop_at, stop_of, subst, sym, through, true, with_cpu, with_inside, with_interrupts, with_irq, with_stop, ℕ}
-use Rattle.trace_laws.proofs.Names.{◌&&◌, ◌-◌, ◌<◌, ◌==◌, ◌>>=◌, ◌∙◌, ◌≡◌, ◌≢◌, ◌≤◌, ◌⊎◌}
+use Rattle.trace_laws.proofs.Names.{◌&&◌, ◌<◌, ◌==◌, ◌>>=◌, ◌∙◌, ◌≡◌, ◌≢◌, ◌≤◌, ◌⊎◌}
 use Rattle.std.proofs.{lemmas.Bool.leb-false, lemmas.List.set-get_or}
 use Rattle.trace_model.specs.declared.reason.Reason.TheVariants as reason
 use Rattle.trace_model.specs.{Stops.stop_in, Stops.unless_one}

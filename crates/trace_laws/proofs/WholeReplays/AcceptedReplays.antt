@@ -1,6 +1,6 @@
 -- Each replay is accepted.
 use Rattle.trace_laws.proofs.Names.{AllByRecursion, CpuState, Err, LabelWords, Labels, List, None, Option, Runs, Setting, Some, StateValue, [], ap, arith}
-use Rattle.trace_laws.proofs.Names.{closed, false, false≢true, get_or-replicate, length-replicate, opening, refl, replicate, slice_index_or, subst, sym, ℕ, ◌+◌}
+use Rattle.trace_laws.proofs.Names.{closed, false≢true, get_or-replicate, length-replicate, opening, refl, replicate, slice_index_or, subst, sym, ℕ, ◌+◌}
 use Rattle.trace_laws.proofs.Names.{◌<◌, ◌∙◌, ◌∷◌, ◌≡◌}
 use Rattle.trace_laws.proofs.ReplayNames.{AreWordsOf, BeginsOfCpus, CallState, Command, CoreValue, FitsCommand, FitsCpus, FollowsStops, IsWhole}
 use Rattle.trace_laws.proofs.ReplayNames.{Past, Replay, Seen, SmpError, Stage, StopIs, StopShown, StopStage, StopState, StopsValue, Turned, after_seen}
