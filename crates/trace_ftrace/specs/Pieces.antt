@@ -1,10 +1,9 @@
 -- A text that comes in pieces.
-use Rattle.std.specs.Prelude.{◌≡◌, ℕ, ◌+◌, ◌≤◌, nat_lt, Bool, true, false, List, [], ◌∷◌, ◌++◌, length, Option, Some, None, Err}
+use Rattle.std.specs.Prelude.{◌≡◌, ℕ, ◌+◌, ◌≤◌, nat_lt, Bool, true, false, List, ◌++◌, length, Option, Some, None, Err}
 use Rattle.smp_script.specs.Lines.{lines_of}
 use Rattle.trace_ftrace.specs.Kept.{KeptValue}
 use Rattle.trace_ftrace.specs.Marks.{lines_kept, no_lines, Keeps}
 use Rattle.trace_ftrace.specs.declared.wrong.Refusal.{Refusal}
-use Rattle.trace_ftrace.specs.declared.wrong.Refusal.TheVariants as refusal
 
 -- what is kept of the lines that are ended, the number of the next and what there is of it, how many bytes there were, or what is wrong
 pub record PiecesValue : Type 0 where

@@ -1,5 +1,5 @@
 -- The events that marks tell.
-use Rattle.std.specs.Prelude.{◌≡◌, ℕ, ◌+◌, ◌==◌, nat_lt, if◌then◌else◌, List, [], ◌∷◌, ◌++◌, length}
+use Rattle.std.specs.Prelude.{◌≡◌, ℕ, ◌+◌, nat_lt, if◌then◌else◌, List, [], ◌∷◌, ◌++◌, length}
 use Rattle.std.specs.Prelude.{replicate, slice_index_or, slice_set, min, Option, Some, None, Result, Ok, Err}
 use Rattle.smp_words.specs.FirstFault.{◌>>=◌}
 use Rattle.smp_words.specs.declared.call.Class.{Class}

@@ -17,7 +17,7 @@ use Rattle.trace_ftrace.proofs.laws.calls_are_slices.Goals as goal
 
 pub returns : goal.returns
 unfolding begin_text called_text entry_text json_front json_text kind_text queue_text time_text between track_text digits waits_begun reading_of told_by
-    recorded queued known begun ended mark_told no_records named marked shown_line line_of_cpu event_line line_kept cpu_of time_of event_of task_of stamped heading_at
-    with_digit front_of value_of address_of symbol_of needed_address needed_cpu needed_symbol is_symbol shown_sort queue_sign begin_sign end_sign sign_of
-    numbered waits_queued with_queued left_after address_text
+    recorded queued known begun ended mark_told no_records named marked shown_line line_of_cpu event_line line_kept cpu_of time_of event_of task_of stamped
+    heading_at with_digit front_of value_of address_of symbol_of needed_address needed_cpu needed_symbol is_symbol shown_sort queue_sign begin_sign end_sign
+    sign_of numbered waits_queued with_queued left_after address_text
 returns c = refl

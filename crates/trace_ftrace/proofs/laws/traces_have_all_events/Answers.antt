@@ -13,7 +13,7 @@ use Rattle.trace_ftrace.specs.Words.{front_of}
 use Rattle.trace_ftrace.proofs.laws.traces_have_all_events.Goals as goal
 
 pub returns : goal.returns
-unfolding digits reading_of told_by recorded queued known begun ended mark_told no_records named marked shown_line line_of_cpu event_line line_kept cpu_of time_of event_of
-    task_of stamped heading_at with_digit front_of value_of address_of symbol_of needed_address needed_cpu needed_symbol is_symbol shown_sort queue_sign
-    begin_sign end_sign sign_of numbered head_text event_lines trace_text printed
+unfolding digits reading_of told_by recorded queued known begun ended mark_told no_records named marked shown_line line_of_cpu event_line line_kept cpu_of
+    time_of event_of task_of stamped heading_at with_digit front_of value_of address_of symbol_of needed_address needed_cpu needed_symbol is_symbol
+    shown_sort queue_sign begin_sign end_sign sign_of numbered head_text event_lines trace_text printed
 returns c = refl

@@ -14,13 +14,13 @@ use Rattle.trace_ftrace.specs.Words.{front_of}
 use Rattle.trace_ftrace.proofs.laws.waits_are_told.Goals as goal
 
 pub returns-clause-more : goal.returns-clause-more
-unfolding digits waits_begun reading_of told_by recorded queued known begun ended mark_told no_records named marked shown_line line_of_cpu event_line line_kept cpu_of
-    time_of event_of task_of stamped heading_at with_digit front_of value_of address_of symbol_of needed_address needed_cpu needed_symbol is_symbol shown_sort
-    queue_sign begin_sign end_sign sign_of numbered waits_queued with_queued left_after late late_at waited_text call_text address_text
+unfolding digits waits_begun reading_of told_by recorded queued known begun ended mark_told no_records named marked shown_line line_of_cpu event_line
+    line_kept cpu_of time_of event_of task_of stamped heading_at with_digit front_of value_of address_of symbol_of needed_address needed_cpu needed_symbol
+    is_symbol shown_sort queue_sign begin_sign end_sign sign_of numbered waits_queued with_queued left_after late late_at waited_text call_text address_text
 returns-clause-more c = refl
 
 pub returns-clause-just : goal.returns-clause-just
-unfolding digits waits_begun reading_of told_by recorded queued known begun ended mark_told no_records named marked shown_line line_of_cpu event_line line_kept cpu_of
-    time_of event_of task_of stamped heading_at with_digit front_of value_of address_of symbol_of needed_address needed_cpu needed_symbol is_symbol shown_sort
-    queue_sign begin_sign end_sign sign_of numbered waits_queued with_queued left_after late late_at waited_text call_text address_text
+unfolding digits waits_begun reading_of told_by recorded queued known begun ended mark_told no_records named marked shown_line line_of_cpu event_line
+    line_kept cpu_of time_of event_of task_of stamped heading_at with_digit front_of value_of address_of symbol_of needed_address needed_cpu needed_symbol
+    is_symbol shown_sort queue_sign begin_sign end_sign sign_of numbered waits_queued with_queued left_after late late_at waited_text call_text address_text
 returns-clause-just c = refl

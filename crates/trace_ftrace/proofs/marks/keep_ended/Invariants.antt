@@ -1,4 +1,4 @@
-use Rattle.std.proofs.Common.{◌≡◌, ◌≤◌, ◌+◌, length}
+use Rattle.std.proofs.Common.{◌≤◌, ◌+◌, length}
 use Rattle.trace_ftrace.specs.KeptView.{kept_value}
 use Rattle.trace_ftrace.specs.Pieces.{GoesOn}
 use Rattle.trace_ftrace.proofs.marks.keep_ended.Given as goal
