@@ -1,6 +1,6 @@
 -- The places of addresses in a list that grows.
-use Rattle.std.proofs.Common.{◌≡◌, ℕ, ◌+◌, ◌<◌, ◌==◌, Bool, true, false, cond, Option, Some, None, List, [], ◌∷◌, ◌++◌, length, arith, refl, sym, ap, subst, ◌∙◌}
-use Rattle.std.proofs.Common.{eqb, eq-eqb, eqb-true}
+use Rattle.std.proofs.Common.{◌≡◌, ℕ, ◌+◌, ◌<◌, ◌==◌, Bool, true, false, cond, Option, Some, None, List, [], ◌∷◌, ◌++◌, length, arith, refl}
+use Rattle.std.proofs.Common.{sym, ap, subst, ◌∙◌, eqb, eq-eqb, eqb-true}
 use Rattle.std.specs.Prelude.{IfSome, OnOk, Result, Ok, Err, if◌then◌else◌, is_err, is_ok}
 use Rattle.trace_ftrace.specs.Records.{record_place, AreNumbered}
 
@@ -41,7 +41,8 @@ with_next : (b : Bool) (found : ℕ → Option ℕ) (a q : ℕ) (xs : List ℕ) 
     → cond b (Some (length xs)) (found q) ≡ record_place 0 q (xs ++ a ∷ [])
 with_next true found a q xs old none e =
     let same : a ≡ q = eqb-true a q e in
-    let joined : record_place 0 a (xs ++ a ∷ []) ≡ Some (length xs) = place_joined 0 a xs none ∙ ap (λ n. Some n) (let z : 0 + length xs ≡ length xs = omega arith in z) in
+    let none_more : 0 + length xs ≡ length xs = omega arith in
+    let joined : record_place 0 a (xs ++ a ∷ []) ≡ Some (length xs) = place_joined 0 a xs none ∙ ap (λ n. Some n) none_more in
     subst (λ k. Some (length xs) ≡ record_place 0 k (xs ++ a ∷ [])) same (sym joined)
 with_next false found a q xs old none e = old q ∙ sym (place_kept 0 q a xs e)
 
