@@ -13,6 +13,7 @@ use Rattle.trace_model.specs.declared.event.LabelEvent.{LabelEvent}
 use Rattle.trace_model.specs.declared.event.LabelEvent.TheVariants as labels
 use Rattle.trace_model.specs.declared.stop.Task.{Task}
 use Rattle.trace_model.specs.declared.without.Setting.{Setting}
+use Rattle.trace_model.specs.Online.{is_online}
 use Rattle.trace_model.specs.State.{StateValue}
 use Rattle.trace_laws.specs.StopEvents.{IsHeld, work}
 use Rattle.trace_laws.specs.Traces.{IsTrace}
@@ -75,5 +76,5 @@ reads _ = false
 -- a CPU that is online reads a key or a site only where each site has the kind of its key's state and its branch
 abbrev pub ReadsAreLawful : Type 0
 ReadsAreLawful = (u : Setting) (words : LabelWords) (es : List (ℕ × Event)) (t : StateValue) (cpu : ℕ) (e : LabelEvent) → AreLabels u words
-    → IsTrace u words (es ++ (cpu, event.Label e) ∷ []) t → cpu < 32 → has u.online cpu ≡ true → reads e ≡ true
+    → IsTrace u words (es ++ (cpu, event.Label e) ∷ []) t → is_online u cpu ≡ true → reads e ≡ true
     → HaveKinds (table_of (words_from words es)) × Reads e (words_from words es)

@@ -6,7 +6,7 @@ use Rattle.trace_laws.proofs.Names.{false, gate_by, gate_with, goes, has, holds_
 use Rattle.trace_laws.proofs.Names.{made_store, may_ack, may_off, may_open, next_store, not, nudge_by, nudged_count, off_by, on_by, on_stop, open_by, opened}
 use Rattle.trace_laws.proofs.Names.{patch_by, patch_left, raise_by, raised, ran_function, reads_by, refl, run_as, run_by, seen, site_at, site_by, site_word}
 use Rattle.trace_laws.proofs.Names.{stop_at, stop_goes, stop_of, stored, switched, switched_on, sym, table_of, through, true, ungate_by, unseen, with_inside}
-use Rattle.trace_laws.proofs.Names.{with_irq, with_stop, work, xor, ℕ, ℤ, ◌&&◌, ◌<◌, ◌==◌, ◌>>=◌, ◌∙◌, ◌∷◌, ◌≡◌, ◌⊎◌}
+use Rattle.trace_laws.proofs.Names.{lt-ltb, with_irq, with_stop, work, xor, ℕ, ℤ, ◌&&◌, ◌<◌, ◌==◌, ◌>>=◌, ◌∙◌, ◌∷◌, ◌≡◌, ◌⊎◌}
 use Rattle.trace_model.specs.declared.event.Event.TheVariants as event
 use Rattle.trace_model.specs.declared.event.LabelEvent.TheVariants as labels
 use Rattle.trace_model.specs.declared.event.StopEvent.TheVariants as stops
@@ -303,10 +303,12 @@ rests_where_read : (u : Setting) (words : LabelWords) (es : List (ℕ × Event))
 rests_where_read u words es s cpu h1 h2 h3 h4 h5 h6 = search (rounds_of, setting_runs, setting_at_first, held_in, patch_round, ne_truth, arith)
 
 pub reads_are_lawful : ReadsAreLawful
-reads_are_lawful u words es t cpu e a run below online is =
+reads_are_lawful u words es t cpu e a run is_there is =
     let m = runs_last es (cpu, event.Label e) (at_first u words) t run in
     let s = m.0 in
-    let read = read_is cpu e s t (low_event cpu _ t m.1.1).1 is in
+    let low = low_event cpu _ t m.1.1 in
+    let online : has u.online cpu ≡ true = rw (lt-ltb cpu 32 low.0) at is_there in
+    let read = read_is cpu e s t low.1 is in
     let l = labelled_of u words es s a m.1.0 in
     let w : s.words ≡ words_from words es = told_words u words es s m.1.0 in
-    (rw w at (rests_where_read u words es s cpu m.1.0 l below online read.0 l.either), rw w at read.1)
+    (rw w at (rests_where_read u words es s cpu m.1.0 l low.0 online read.0 l.either), rw w at read.1)
