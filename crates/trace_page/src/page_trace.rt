@@ -57,7 +57,8 @@ function eventOf(text, number) {
 }
 const events = rows.map(eventOf);
 if (broken && events.length) events[events.length - 1].isRefused = true;
-const online = isKernel ? [...new Set(events.map((event) => event.cpu))].sort((a, b) => a - b) : listed(headOf('cpus')[1] || '-');
+const named = isKernel ? [] : listed(headOf('cpus')[1] || '-');
+const online = named.length && named.length <= 32 ? named : [...new Set(events.map((event) => event.cpu))].sort((a, b) => a - b);
 
 // What the model has after some events.
 function beginning() {
