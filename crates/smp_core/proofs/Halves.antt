@@ -1,20 +1,17 @@
 -- A step of one half tells nothing of the other.
-use Rattle.std.proofs.Common.{◌≡◌, ℕ, Option, Some, None, Result, Ok, Err, List, refl, sym, subst, ◌∙◌}
+use Rattle.std.proofs.Common.{◌≡◌, ℕ, Option, Some, None, Result, Ok, Err, List, refl, sym, subst, ◌∙◌, arith}
 use Rattle.std.specs.Prelude.{IfSome, MatchOption}
-use Rattle.smp_labels.specs.declared.patch.Place.TheVariants as place
 use Rattle.smp_words.specs.Access.{seen_of, word_of}
 use Rattle.smp_call_steps.specs.Calls.{CallState}
 use Rattle.smp_call_steps.specs.Calls as calls
-use Rattle.smp_call_steps.specs.Drains.{handle_access}
 use Rattle.smp_words.specs.Layout.{number_in}
 use Rattle.smp_core.specs.Machine.{Stepped, seen_at, stepped, step_of, stops_stepped, setup_in, CallsTold, StopNotesFit, StopsTold}
-use Rattle.smp_call_steps.specs.Posts.{post_access}
 use Rattle.smp_call_steps.specs.Stages.{access_of}
 use Rattle.smp_stop_steps.specs.Labels.{Change}
 use Rattle.smp_stop_steps.specs.Machine.{StopTold, stop_seen_at, stop_stepped}
 use Rattle.smp_stop_steps.specs.Notes.{StopNoteFits}
 use Rattle.smp_stop_steps.specs.StepLaws.{StopNoteTold}
-use Rattle.smp_stop_steps.specs.Stages.{completion_access, round_access, stop_access, store_of, change_at}
+use Rattle.smp_stop_steps.specs.Stages.{stop_access, store_of}
 use Rattle.smp_stop_steps.specs.State.{Setup, StopState}
 use Rattle.smp_stop_steps.specs.Tells as stops
 use Rattle.smp_stop_steps.specs.Value.{StopsValue, StopShown, stop_control_of}
@@ -24,69 +21,26 @@ use Rattle.smp_call_steps.specs.Value.{control_of}
 use Rattle.smp_mask.specs.declared.error.SmpError.{SmpError}
 use Rattle.smp_mask.specs.declared.error.SmpError.TheVariants as error
 use Rattle.smp_words.specs.declared.command.Event.TheVariants as event
-use Rattle.smp_call_steps.specs.declared.handle.HandleStage.{HandleStage}
-use Rattle.smp_call_steps.specs.declared.handle.HandleStage.TheVariants as handle
-use Rattle.smp_call_steps.specs.declared.post.PostStage.{PostStage}
-use Rattle.smp_call_steps.specs.declared.post.PostStage.TheVariants as post
-use Rattle.smp_call_steps.specs.declared.post.Posting.{Posting}
 use Rattle.smp_words.specs.declared.seen.Note.{Note}
 use Rattle.smp_words.specs.declared.seen.Seen.{Seen}
 use Rattle.smp_call_steps.specs.declared.stage.Stage.{Stage}
-use Rattle.smp_call_steps.specs.declared.stage.Stage.TheVariants.{Post, Handle}
-use Rattle.smp_stop_steps.specs.declared.stage.CompletionStage.{CompletionStage}
-use Rattle.smp_stop_steps.specs.declared.stage.CompletionStage.TheVariants as completion
-use Rattle.smp_stop_steps.specs.declared.stage.RoundStage.{RoundStage}
-use Rattle.smp_stop_steps.specs.declared.stage.RoundStage.TheVariants as round
 use Rattle.smp_stop_steps.specs.declared.stage.StopStage.{StopStage}
-use Rattle.smp_stop_steps.specs.declared.stage.StopStage.TheVariants.{Advance, Complete}
-use Rattle.smp_stop_steps.specs.declared.stage.Visit.{Visit}
 use Rattle.smp_words.specs.declared.word.Word.{Word}
 
 module _ (u : Setup) (p : StopState) (me answer found : ℕ) (note : Option Note) where
-  in_post : (x : Posting) (stage : PostStage) (queued : ℕ) → stops.tells u p (seen_of me (post_access x me stage queued) found note) answer ≡ p
-  in_post x post.LoadFlags queued = refl
-  in_post x _ queued = refl
-
-  in_handle : (stage : HandleStage) (ran : ℕ) → stops.tells u p (seen_of me (handle_access me stage ran) found note) answer ≡ p
-  in_handle handle.Enter ran = refl
-  in_handle _ ran = refl
-
   pub call_step_apart : (at : Word → ℕ) (stage : Stage) → stops.tells u p (seen_of me (access_of at me stage) found note) answer ≡ p
-  call_step_apart at (Post x stage) = in_post x stage _
-  call_step_apart at (Handle stage) = in_handle stage _
-  call_step_apart at _ = refl
+  call_step_apart at stage = search arith
 
   -- and its note nothing of the stops
-  notes_of_post : (said : Option Note) (x : Posting) (stage : PostStage) (queued : ℕ) → StopNoteFits p p me (word_of (post_access x me stage queued)) said
-  notes_of_post said x post.LoadFlags queued = refl
-  notes_of_post said x _ queued = refl
-
-  notes_of_handle : (said : Option Note) (stage : HandleStage) (ran : ℕ) → StopNoteFits p p me (word_of (handle_access me stage ran)) said
-  notes_of_handle said handle.Enter ran = refl
-  notes_of_handle said _ ran = refl
-
   notes_of_call : (said : Option Note) (at : Word → ℕ) (stage : Stage) → StopNoteFits p p me (word_of (access_of at me stage)) said
-  notes_of_call said at (Post x stage) = notes_of_post said x stage _
-  notes_of_call said at (Handle stage) = notes_of_handle said stage _
-  notes_of_call said at _ = refl
+  notes_of_call said at stage = search arith
 
 module _ (a : CallState) (me found : ℕ) (note : Option Note) where
   in_patch : (change : Change) → calls.tells a (seen_of me (store_of change) found note) ≡ a
-  in_patch (place.Key k, n) = refl
-  in_patch (place.Site i, n) = refl
-
-  in_round : (n : ℕ) (changes : List Change) (v : Visit) (stage : RoundStage) → calls.tells a (seen_of me (round_access n changes v stage) found note) ≡ a
-  in_round n changes v (round.StoreChange made) = in_patch (change_at changes made)
-  in_round n changes v _ = refl
-
-  in_completion : (v : Visit) (stage : CompletionStage) → calls.tells a (seen_of me (completion_access v stage) found note) ≡ a
-  in_completion v (completion.LoadFunc answer) = refl
-  in_completion v _ = refl
+  in_patch change = search arith
 
   pub stop_step_apart : (n : ℕ) (changes : List Change) (stage : StopStage) → calls.tells a (seen_of me (stop_access n me changes stage) found note) ≡ a
-  stop_step_apart n changes (Advance v stage) = in_round n changes v stage
-  stop_step_apart n changes (Complete v stage) = in_completion v stage
-  stop_step_apart n changes _ = refl
+  stop_step_apart n changes stage = search (in_patch, arith)
 
 -- a step of the call half keeps the stops that the core shows
 pub stops_kept : (core : CoreValue) (cpu : ℕ) (stage : Stage) → StopsTold core (seen_at core cpu stage) 0 (stepped core cpu stage)
@@ -145,23 +99,13 @@ pub stop_noted : (core : CoreValue) (cpu : ℕ) (seen : Seen) (new : StopsValue)
     IfSome (step_of core cpu) (λ s. StopNotesFit core seen s.answer)
 stop_noted core cpu seen new none s = rw (none, s.at_stage, s.seen_is) s.noted
 
--- the same of an event that is a step, of either half
-pub stops_turned : (core : CoreValue) (cpu : ℕ) (r : Result Seen SmpError) (seen : Seen) (new : CoreValue) → r ≡ Ok seen →
+-- what holds by the answer of a step holds by that of an event that is this step, of either half
+pub turned : (core : CoreValue) (cpu : ℕ) (r : Result Seen SmpError) (seen : Seen) (new : CoreValue) (P : ℕ → Type 0) → r ≡ Ok seen →
     MatchOption (step_of core cpu) ((r ≡ Err error.IdleStep) × (new ≡ core)) (λ s. (r ≡ Ok s.seen) × (new ≡ s.core)) →
-    IfSome (step_of core cpu) (λ s. StopsTold core seen s.answer new) → StopsTold core seen (turn_of core (event.Step cpu)).answered new
-stops_turned core cpu r seen new is step told = go (step_of core cpu) step told
+    IfSome (step_of core cpu) (λ s. P s.answer) → P (turn_of core (event.Step cpu)).answered
+turned core cpu r seen new P is step holds = go (step_of core cpu) step holds
   where
     go : (x : Option Stepped) → MatchOption x ((r ≡ Err error.IdleStep) × (new ≡ core)) (λ s. (r ≡ Ok s.seen) × (new ≡ s.core)) →
-        IfSome x (λ s. StopsTold core seen s.answer new) → StopsTold core seen (step_turn core x).answered new
-    go None s t = absurd (let bad : Ok seen ≡ Err error.IdleStep = sym is ∙ s.0 in cc)
-    go (Some x) s t = t
-
-pub notes_turned : (core : CoreValue) (cpu : ℕ) (r : Result Seen SmpError) (seen : Seen) (new : CoreValue) → r ≡ Ok seen →
-    MatchOption (step_of core cpu) ((r ≡ Err error.IdleStep) × (new ≡ core)) (λ s. (r ≡ Ok s.seen) × (new ≡ s.core)) →
-    IfSome (step_of core cpu) (λ s. StopNotesFit core seen s.answer) → StopNotesFit core seen (turn_of core (event.Step cpu)).answered
-notes_turned core cpu r seen new is step noted = go (step_of core cpu) step noted
-  where
-    go : (x : Option Stepped) → MatchOption x ((r ≡ Err error.IdleStep) × (new ≡ core)) (λ s. (r ≡ Ok s.seen) × (new ≡ s.core)) →
-        IfSome x (λ s. StopNotesFit core seen s.answer) → StopNotesFit core seen (step_turn core x).answered
+        IfSome x (λ s. P s.answer) → P (step_turn core x).answered
     go None s t = absurd (let bad : Ok seen ≡ Err error.IdleStep = sym is ∙ s.0 in cc)
     go (Some x) s t = t

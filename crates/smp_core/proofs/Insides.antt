@@ -1,11 +1,10 @@
 -- A CPU that has begun a command is inside one.
-use Rattle.std.proofs.Common.{◌≡◌, ◌∙◌, ◌<◌, ℕ, true, List, Option, Some, None, length, ap, arith, refl, sym, true≢false, false, Bool}
+use Rattle.std.proofs.Common.{◌≡◌, ◌∙◌, ◌<◌, ℕ, true, List, Option, Some, None, length, ap, arith, sym, true≢false, false, Bool}
 use Rattle.std.proofs.lemmas.List.{get_or-set_same}
 use Rattle.std.specs.Prelude.{slice_set}
 use Rattle.smp_words.specs.Size.{cpus}
 use Rattle.smp_words.specs.Limits.{AreLimits}
 use Rattle.smp_words.specs.declared.command.Command.{Command}
-use Rattle.smp_words.specs.declared.command.Command.TheVariants as command
 use Rattle.smp_call_steps.specs.Stages.{ControlValue}
 use Rattle.smp_call_steps.specs.Start.{control_at, first_stage}
 use Rattle.smp_call_steps.specs.Value.{control_of, outside}
@@ -49,14 +48,7 @@ module _ (v : StopsValue) (cpu : ℕ) (below : cpu < length v.controls) where
 
   module _ (online : ℕ) where
     begun_inside : (c : Command) → stop_refusal v cpu c ≡ None → IsInside (first_stage online cpu c) (stop_first (stop_control_of v.controls cpu) c)
-    begun_inside (command.Post k to class func info tries) e = refl
-    begun_inside (command.Send to) e = refl
-    begun_inside (command.Done k) e = refl
-    begun_inside command.Handle e = refl
-    begun_inside (command.Advance answer) e = in_a_visit may_advance (stop_control_of v.controls cpu).visit _ refl (passed _ _ e)
-    begun_inside (command.RunOne answer) e = in_a_visit may_run (stop_control_of v.controls cpu).visit _ refl (passed _ _ e)
-    begun_inside command.Finish e = in_a_visit may_finish (stop_control_of v.controls cpu).visit _ refl (passed _ _ e)
-    begun_inside _ e = in_stops _
+    begun_inside c e = search (in_a_visit may_advance, in_a_visit may_run, in_a_visit may_finish, passed, in_stops, arith)
 
 -- a CPU on which a command has started is inside it
 pub started_inside : (core : CoreValue) (cpu : ℕ) (c : Command) → AreLimits core.nr core.online → length core.controls ≡ cpus →

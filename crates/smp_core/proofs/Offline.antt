@@ -1,7 +1,8 @@
 -- CPUs that are not online stay as they are, by each step and by the beginning of each command.
-use Rattle.std.proofs.Common.{◌≡◌, ◌≢◌, ◌⊎◌, ℕ, ◌<◌, ◌%◌, ◌-◌, ◌==◌, Bool, true, false, cond, nat_lt, Option, Some, None}
+use Rattle.std.proofs.Common.{◌≡◌, ◌≢◌, ◌⊎◌, ℕ, ◌<◌, Bool, true, false, cond, Option, Some, None}
 use Rattle.std.proofs.Common.{List, [], ◌∷◌, length, replicate, get_or, refl, sym, ap}
 use Rattle.std.proofs.Common.{◌∙◌, subst, inl, inr, true≢false, arith}
+use Rattle.std.proofs.lemmas.Bool.{true_from_ne_false}
 use Rattle.std.specs.Prelude.{slice_set}
 use Rattle.smp_mask.specs.Mask.{has}
 use Rattle.smp_words.specs.Access.{at_after, put_if, seen_of, word_of, words_after}
@@ -9,7 +10,7 @@ use Rattle.smp_words.specs.Layout.{index_of, number_in}
 use Rattle.smp_words.specs.Put.{put_word}
 use Rattle.smp_words.specs.Size.{cpus, table_size}
 use Rattle.smp_words.specs.declared.access.Access.{Access}
-use Rattle.smp_words.specs.declared.access.Access.TheVariants.{Load, Store, Swap, Exchange, Sub, And}
+use Rattle.smp_words.specs.declared.access.Access.TheVariants.{Load}
 use Rattle.smp_words.specs.declared.command.Command.{Command}
 use Rattle.smp_words.specs.declared.command.Command.TheVariants as command
 use Rattle.smp_words.specs.declared.call.Call.{Call}
@@ -19,22 +20,19 @@ use Rattle.smp_words.specs.declared.word.Word.TheVariants.{Head, Intr}
 use Rattle.smp_words.proofs.Puts.{put_all, test_else}
 use Rattle.smp_words.proofs.Zeros.{get_or-same, zero_at}
 use Rattle.smp_call_steps.specs.Calls.{CallState, no_calls, tells}
-use Rattle.smp_call_steps.specs.Drains.{DrainValue, handle_access, handle_goes, handle_outcome}
+use Rattle.smp_call_steps.specs.Drains.{DrainValue}
 use Rattle.smp_call_steps.specs.Threads.Parts.{part_of}
 use Rattle.smp_call_steps.specs.declared.known.CallPart.{CallPart}
-use Rattle.smp_call_steps.specs.Posts.{ends, goes_to, post_access, post_outcome}
+use Rattle.smp_call_steps.specs.Posts.{ends, goes_to}
 use Rattle.smp_call_steps.specs.Stands.{held_of}
 use Rattle.smp_call_steps.specs.Start.{command_refusal, control_at, first_stage}
 use Rattle.smp_call_steps.specs.Stages.{ControlValue, access_of, control_after, outcome_of}
 use Rattle.smp_call_steps.specs.Value.{ValuesShow, control_of, outside}
 use Rattle.smp_call_steps.specs.Words.{IsEmpty, IsNoticed, is_pending, is_accepted, is_owed, bit, nexts_in}
-use Rattle.smp_call_steps.specs.declared.handle.HandleStage.{HandleStage}
-use Rattle.smp_call_steps.specs.declared.handle.HandleStage.TheVariants as handle
-use Rattle.smp_call_steps.specs.declared.post.PostStage.{PostStage}
 use Rattle.smp_call_steps.specs.declared.post.PostStage.TheVariants as post
 use Rattle.smp_call_steps.specs.declared.post.Posting.{Posting}
+use Rattle.smp_call_steps.specs.declared.stage.CallOutcome.{CallOutcome}
 use Rattle.smp_call_steps.specs.declared.stage.Stage.{Stage}
-use Rattle.smp_call_steps.specs.declared.stage.Stage.TheVariants.{Send, Done, Post, Handle}
 use Rattle.smp_call_steps.proofs.Basics.Rows.{row-at}
 use Rattle.smp_call_steps.proofs.Knows.Parts.{part_else}
 use Rattle.smp_call_steps.proofs.Machine.Accesses.{access_in_table}
@@ -52,31 +50,12 @@ module _ (online : ℕ) where
   free_or_not p false true e h = h e
   free_or_not p false false e h = tt
 
-  lost_or_won : (p : Posting) (won more nil : Bool) (link tries : ℕ) → has online p.to ≡ true
-      → AimsOnline online (cond won (ends (cond nil note.Owed note.Queued))
-      (cond more (goes_to p (post.StoreNext link tries)) (goes_to p post.Uncount))).next
-  lost_or_won p true more nil link tries h = tt
-  lost_or_won p false true nil link tries h = h
-  lost_or_won p false false nil link tries h = h
-
-  after_post : (p : Posting) (stage : PostStage) (found : ℕ) → AimsOnline online (Some (Post p stage)) → AimsOnline online (post_outcome p stage found).next
-  after_post p post.LoadFlags found h = free_or_not p (found % 2 == 1) p.is_online refl h
-  after_post p (post.Exchange link tries) found h = lost_or_won p (found == link) (nat_lt 1 tries) (link == 0) found (tries - 1) h
-  after_post p post.Release found h = tt
-  after_post p _ found h = h
-
-  took_or_not : (b : Bool) → AimsOnline online (cond b (handle_goes handle.LeaveIdle) (handle_goes handle.Take)).next
-  took_or_not true = tt
-  took_or_not false = tt
-
-  after_handle : (d : DrainValue) (stage : HandleStage) (found : ℕ) → AimsOnline online (handle_outcome d stage found).next
-  after_handle d handle.Accept found = took_or_not (found == 0)
-  after_handle d _ found = tt
+  aims_if : (b : Bool) (x y : CallOutcome) → AimsOnline online x.next → AimsOnline online y.next → AimsOnline online (cond b x y).next
+  aims_if true x y k l = k
+  aims_if false x y k l = l
 
   after_step : (d : DrainValue) (stage : Stage) (found : ℕ) → AimsOnline online (Some stage) → AimsOnline online (outcome_of d stage found).next
-  after_step d (Post p stage) found h = after_post p stage found h
-  after_step d (Handle stage) found h = after_handle d stage found
-  after_step d _ found h = tt
+  after_step d stage found h = search (free_or_not, aims_if, arith)
 
   after_start : (nr cpu : ℕ) (c : Command) → command_refusal nr online cpu c ≡ None → AimsOnline online (first_stage online cpu c)
   after_start nr cpu (command.Post k to class func info tries) e = λ h. h
@@ -113,36 +92,15 @@ module _ (online : ℕ) where
 
   quiet_after : (at : Word → ℕ) (access : Access) (cpu : ℕ) → ReachesOnline access → has online cpu ≡ false → IsQuiet at cpu
       → IsQuiet (at_after at access) cpu
-  quiet_after at (Load w) cpu r off q = q
-  quiet_after at (Store w x) cpu r off q = quiet_put at w x cpu r off q
-  quiet_after at (Swap w x) cpu r off q = quiet_put at w x cpu r off q
-  quiet_after at (Exchange w e x) cpu r off q = quiet_if at w _ cpu r off q
-  quiet_after at (Sub w) cpu r off q = quiet_put at w _ cpu r off q
-  quiet_after at (And w x) cpu r off q = quiet_put at w _ cpu r off q
-
-  post_reaches : (p : Posting) (stage : PostStage) (me queued : ℕ) → AimsOnline online (Some (Post p stage)) → ReachesOnline (post_access p me stage queued)
-  post_reaches p (post.Exchange link tries) me queued h = h
-  post_reaches p _ me queued h = tt
-
-  handle_reaches : (stage : HandleStage) (me ran : ℕ) → has online me ≡ true → ReachesOnline (handle_access me stage ran)
-  handle_reaches handle.Accept me ran on = on
-  handle_reaches handle.Take me ran on = on
-  handle_reaches _ me ran on = tt
+  quiet_after at access cpu r off q = search (quiet_put, quiet_if, arith)
 
   stage_reaches : (at : Word → ℕ) (me : ℕ) (stage : Stage) → AimsOnline online (Some stage) → has online me ≡ true → ReachesOnline (access_of at me stage)
-  stage_reaches at me (Send to) h on = h
-  stage_reaches at me (Done id) h on = tt
-  stage_reaches at me (Post p stage) h on = post_reaches p stage me _ h
-  stage_reaches at me (Handle stage) h on = handle_reaches stage me _ on
+  stage_reaches at me stage h on = search arith
 
   module _ (words : List ℕ) (controls : List ControlValue) (cpu : ℕ) (sized : length controls ≡ cpus) (before : IsApart online words controls) where
     -- a CPU inside a command is online
     pub inside_online : (stage : Stage) → (control_of controls cpu).stage ≡ Some stage → has online cpu ≡ true
-    inside_online stage e = is_on (has online cpu) refl
-      where
-        is_on : (b : Bool) → has online cpu ≡ b → has online cpu ≡ true
-        is_on true f = f
-        is_on false f = absurd (let none : None ≡ Some stage = sym (before.outside cpu f) ∙ e in cc)
+    inside_online stage e = true_from_ne_false (has online cpu) (λ off. let none : None ≡ Some stage = sym (before.outside cpu off) ∙ e in cc)
 
     -- a CPU that is online comes to be elsewhere
     stands_apart : (words' : List ℕ) (b : CallState) (c : ControlValue) → cpu < cpus → has online cpu ≡ true → AimsOnline online c.stage
@@ -215,19 +173,7 @@ empty_is (call ∷ rest) e = absurd e
 
 -- in no calls nothing is done
 none_idle : (cpu : ℕ) → HasDoneNothing no_calls cpu
-none_idle cpu = record {
-  queue = refl;
-  pending = refl;
-  accepted = refl;
-  held = refl;
-  taken = refl;
-  batch = refl;
-  running = refl;
-  ran = refl;
-  sent = refl;
-  asked = refl;
-  owes = λ to small. refl;
-}
+none_idle cpu = search arith
 
 -- what that says of the calls
 module _ (online : ℕ) (words : List ℕ) (controls : List ControlValue) (h : IsApart online words controls) where
@@ -259,11 +205,9 @@ module _ (online : ℕ) (words : List ℕ) (controls : List ControlValue) (h : I
   seen_to cpu small (inl e) = inl (empty_is (a.queue cpu) e)
   seen_to cpu small (inr (is_pending e)) = inr (inl e)
   seen_to cpu small (inr (is_accepted e)) = inr (inr (inl e))
-  seen_to cpu small (inr (is_owed source e)) = inr (inr (inr (source, owed_online (has online source) refl, e)))
-    where
-      owed_online : (b : Bool) → has online source ≡ b → has online source ≡ true
-      owed_online true f = f
-      owed_online false f = absurd (true≢false (sym e ∙ (done_nothing source f).owes cpu small))
+  seen_to cpu small (inr (is_owed source e)) =
+      let on = true_from_ne_false (has online source) (λ off. true≢false (sym e ∙ (done_nothing source off).owes cpu small)) in
+      inr (inr (inr (source, on, e)))
 
   pub leaves_offline : LeavesOffline online words controls
   leaves_offline = record { calls = a; shown = h.shown; nothing = done_nothing; seen_to = λ cpu small. seen_to cpu small (h.shown.noticed.noticed cpu) }

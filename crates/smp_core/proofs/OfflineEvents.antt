@@ -1,5 +1,5 @@
 -- CPUs that are not online have no part in what a list of events tells.
-use Rattle.std.proofs.Common.{◌≡◌, ◌≢◌, ℕ, false, Option, Some, None, Ok, Err, refl, sym, subst, ap, ne_eqb}
+use Rattle.std.proofs.Common.{◌≡◌, ◌≢◌, ℕ, false, Option, Some, None, Ok, Err, refl, sym, subst, ap, ne_eqb, arith}
 use Rattle.smp_mask.specs.Mask.{has}
 use Rattle.smp_mask.specs.declared.error.SmpError.{SmpError}
 use Rattle.smp_mask.specs.declared.error.SmpError.TheVariants as error
@@ -30,21 +30,24 @@ use Rattle.smp_core.specs.Value.{CoreValue, Shown}
 use Rattle.smp_core.specs.Whole.{IsWhole}
 use Rattle.smp_core.proofs.Halves.{call_step_apart, stop_step_apart}
 use Rattle.smp_core.proofs.Offline.{apart, inside_online}
+use Rattle.smp_core.proofs.Starts.{started_keeps}
 use Rattle.smp_core.proofs.OfflineStops.{apart as stops_apart, has_no_stop, inside_online as stops_inside_online, stage_else}
 
--- an event keeps the CPUs online
-start_online : (core : CoreValue) (cpu : ℕ) (c : Command) (refused : Option SmpError) → (start_turn core (started core cpu c) refused).core.online ≡ core.online
-start_online core cpu c (Some e) = refl
-start_online core cpu c None = refl
+-- an event keeps the CPUs online and the labels
 
-step_online : (core : CoreValue) (cpu : ℕ) (x : Option Stage) (y : Option StopStage) → (step_turn core (step_at core cpu x y)).core.online ≡ core.online
-step_online core cpu (Some stage) y = refl
-step_online core cpu None (Some stage) = refl
-step_online core cpu None None = refl
+abbrev pub SameCpus : CoreValue → CoreValue → Type 0
+SameCpus new old = (new.online ≡ old.online) × (setup_in new ≡ setup_in old)
 
-pub turn_online : (core : CoreValue) (event : Event) → (turn_of core event).core.online ≡ core.online
-turn_online core (event.Start cpu c) = start_online core cpu c (refusal_of core cpu c)
-turn_online core (event.Step cpu) = step_online core cpu (control_of core.controls cpu).stage (stop_control_of core.stops.controls cpu).stage
+start_same : (core : CoreValue) (cpu : ℕ) (c : Command) (refused : Option SmpError) → SameCpus (start_turn core (started core cpu c) refused).core core
+start_same core cpu c (Some e) = (refl, refl)
+start_same core cpu c None = (refl, (started_keeps core.stops cpu c).2)
+
+step_same : (core : CoreValue) (cpu : ℕ) (x : Option Stage) (y : Option StopStage) → SameCpus (step_turn core (step_at core cpu x y)).core core
+step_same core cpu x y = search arith
+
+pub turn_same : (core : CoreValue) (event : Event) → SameCpus (turn_of core event).core core
+turn_same core (event.Start cpu c) = start_same core cpu c (refusal_of core cpu c)
+turn_same core (event.Step cpu) = step_same core cpu (control_of core.controls cpu).stage (stop_control_of core.stops.controls cpu).stage
 
 -- in no stop a CPU has the part of no stops
 not_held : (g : Option ℕ) (c : ℕ) → g ≢ Some c → holds_it g c ≡ false

@@ -1,12 +1,11 @@
 -- CPUs that are not online have no part in the stops: a step and the beginning of a command keep it.
 use Rattle.std.proofs.Common.{◌≡◌, ◌≢◌, ℕ, ◌+◌, ◌<◌, nat_lt, Bool, true, false, ◌==◌, ◌&&◌, not, cond, Option, Some, None, List, [], ◌∷◌, ◌++◌, replicate, refl}
 use Rattle.std.proofs.Common.{sym, subst, ap, ◌∙◌, true≢false, ne_eqb, eq-eqb, arith}
-use Rattle.std.proofs.lemmas.Bool.{ltb-true, ltb-false}
+use Rattle.std.proofs.lemmas.Bool.{ltb-true, ltb-false, true_from_ne_false}
 use Rattle.std.proofs.lemmas.List.{get_or-set_other}
 use Rattle.std.specs.Prelude.{slice_set}
 use Rattle.smp_mask.specs.Mask.{has}
 use Rattle.smp_labels.specs.Keys.{is_on}
-use Rattle.smp_labels.specs.declared.patch.Place.TheVariants as place
 use Rattle.smp_words.specs.Access.{seen_of}
 use Rattle.smp_words.specs.Size.{cpus}
 use Rattle.smp_words.specs.Put.{put}
@@ -21,7 +20,7 @@ use Rattle.smp_words.specs.declared.work.Work.{Work}
 use Rattle.smp_words.proofs.Zeros.{get_or-same}
 use Rattle.smp_stop_steps.specs.Counts.{mask_weight}
 use Rattle.smp_stop_steps.specs.Threads.Known.{holds_it}
-use Rattle.smp_stop_steps.specs.Labels.{Change, Patching, Whole, Patches}
+use Rattle.smp_stop_steps.specs.Labels.{Change, Patching}
 use Rattle.smp_stop_steps.specs.Machine.{IsSoundHalf, StopTold, stop_found_at, stop_seen_at, stop_stepped}
 use Rattle.smp_stop_steps.specs.Shows.{gate_word}
 use Rattle.smp_stop_steps.specs.Slots.{begun_value}
@@ -30,19 +29,18 @@ use Rattle.smp_stop_steps.specs.Sources.{SourceShows}
 use Rattle.smp_stop_steps.specs.Stages.{StopControlValue, answer_at, change_at, stop_access, stop_goes, stop_outcome, stop_outside, store_of}
 use Rattle.smp_stop_steps.specs.Start.{stop_begun_if, stop_first, stop_refusal, stop_started}
 use Rattle.smp_stop_steps.specs.State.{Setup, StopState, no_stops}
-use Rattle.smp_stop_steps.specs.Stop.{Standing, Outside, Inside, Answering, Stop, acknowledged, is_called, is_of, raised, stands}
+use Rattle.smp_stop_steps.specs.Stop.{Standing, Outside, Inside, Stop, acknowledged, is_called, is_of, stands}
 use Rattle.smp_stop_steps.specs.Table.{stop_number}
 use Rattle.smp_stop_steps.specs.Tells.{acknowledges, called_more, calls_now, carried, completes, drafts, enters, gate_told, is_at_run, is_patch, key_loaded}
-use Rattle.smp_stop_steps.specs.Tells.{key_patched, key_told, leaves, looked_by, looks, may_call, patch_begun, patched_more, reads, stored_open, stored_shut}
+use Rattle.smp_stop_steps.specs.Tells.{key_patched, key_told, leaves, looked_by, looks, may_call, patch_begun, reads, stored_open, stored_shut}
 use Rattle.smp_stop_steps.specs.Tells.{tells, unpatched, with_stop}
 use Rattle.smp_stop_steps.specs.Value.{StopShown, StopsValue, setup_of, stop_control_of}
 use Rattle.smp_stop_steps.specs.declared.known.Calling.{Calling}
-use Rattle.smp_stop_steps.specs.declared.known.Calling.TheVariants.{Calls}
 use Rattle.smp_stop_steps.specs.declared.known.Reading.{Reading}
 use Rattle.smp_stop_steps.specs.declared.known.Reading.TheVariants.{ReadKey as KeyRead, ReadSite as SiteRead}
 use Rattle.smp_stop_steps.specs.declared.known.Source.{Source}
 use Rattle.smp_stop_steps.specs.declared.known.Source.TheVariants.{Shut, Drafts, Owns, Collects}
-use Rattle.smp_words.specs.declared.phase.TheConstants.{DISABLE_IRQ, RUN, EXIT, OVER}
+use Rattle.smp_words.specs.declared.phase.TheConstants.{DISABLE_IRQ, RUN, EXIT}
 use Rattle.smp_stop_steps.specs.declared.stage.CompletionStage.{CompletionStage}
 use Rattle.smp_stop_steps.specs.declared.stage.CompletionStage.TheVariants as completion
 use Rattle.smp_stop_steps.specs.declared.stage.RoundStage.{RoundStage}
@@ -66,47 +64,38 @@ module _ (u : Setup) (p : StopState) (me c : ℕ) (ne : c ≢ me) where
 
   raises_else : (s : ℕ) (w : Work) (stop : Stop) (b : Bool) →
       Same (record p { now = cond b (leaves (with_stop p.now s stop) me s w) (with_stop p.now s stop) })
-  raises_else s w stop true = rw off refl
-  raises_else s w stop false = refl
+  raises_else s w stop b = search (off, arith)
 
   open_else : (s v : ℕ) (f : Field) → Same (stored_open p me s f v)
-  open_else s v field.State = raises_else s (p.now.stop s).work (raised (p.now.stop s) v) (v == OVER)
-  open_else s v _ = refl
+  open_else s v f = search (raises_else, arith)
 
   shut_else : (v : ℕ) (f : Field) → Same (stored_shut p me f v)
-  shut_else v field.Roll = rw off refl
-  shut_else v _ = refl
+  shut_else v f = search (off, arith)
 
   -- a store to the CPU's own slot, and one to a slot that drafts nothing
   own_else : (v : ℕ) (f : Field) (b : Bool) → Same (cond b (stored_open p me me f v) (stored_shut p me f v))
-  own_else v f true = open_else me v f
-  own_else v f false = shut_else v f
+  own_else v f b = search (open_else, shut_else, arith)
 
   stored_else : (s v : ℕ) (f : Field) (b : Bool) → Same (cond b (stored_open p me s f v) (record p { now = drafts p.now s f v }))
-  stored_else s v f true = open_else s v f
-  stored_else s v f false = refl
+  stored_else s v f b = search (open_else, arith)
 
   enters_else : (s : ℕ) (b : Bool) → Same (cond b (record p { now = enters p.now me s }) p)
-  enters_else s true = rw off refl
-  enters_else s false = refl
+  enters_else s b = search (off, arith)
 
   looks_if : (s n : ℕ) (stop : Stop) (b : Bool) → Same (record p {
     now = record (p.now) { stop = put p.now.stop s stop; irq = cond b (put p.now.irq me false) p.now.irq };
     looks = put p.looks me (p.looks me ++ n ∷ []);
   })
-  looks_if s n stop true = rw off refl
-  looks_if s n stop false = rw off refl
+  looks_if s n stop b = search (off, arith)
 
   looks_else : (s n : ℕ) → Same (looks p me s n)
   looks_else s n = looks_if s n (stands (p.now.stop s) me (looked_by ((p.now.stop s).standing me) n)) (n == DISABLE_IRQ)
 
   calls_else : (w : Work) (arg answer : ℕ) (b : Bool) → Same (cond b (calls_now p me w arg answer) p)
-  calls_else w arg answer true = rw off refl
-  calls_else w arg answer false = refl
+  calls_else w arg answer b = search (off, arith)
 
   called_else : (f : Calling) → called_more p.calls me f c ≡ p.calls c
-  called_else (Calls call) = rw off refl
-  called_else _ = refl
+  called_else f = search (off, arith)
 
   acked_if : (s : ℕ) (w : Work) (stop : Stop) (y : Patching) (g : Calling) (left at_run : Bool) → Same (record p {
     now = cond left (leaves (record (p.now) { stop = put p.now.stop s stop; patching = y }) me s w)
@@ -114,10 +103,7 @@ module _ (u : Setup) (p : StopState) (me c : ℕ) (ne : c ≢ me) where
     calls = cond at_run (called_more p.calls me (p.calling me)) p.calls;
     calling = cond at_run (put p.calling me g) p.calling;
   })
-  acked_if s w stop y g true true = rw (called_else (p.calling me), off) refl
-  acked_if s w stop y g true false = rw off refl
-  acked_if s w stop y g false true = rw (called_else (p.calling me), off) refl
-  acked_if s w stop y g false false = refl
+  acked_if s w stop y g left at_run = search (called_else, off, arith)
 
   acknowledges_else : (s n : ℕ) (x : Standing) → Same (acknowledges p me s x n)
   acknowledges_else s n (Inside a l) = acked_if s (acknowledged (p.now.stop s) me l n).work (acknowledged (p.now.stop s) me l n)
@@ -125,9 +111,7 @@ module _ (u : Setup) (p : StopState) (me c : ℕ) (ne : c ≢ me) where
   acknowledges_else s n _ = refl
 
   completes_else : (s n : ℕ) (x : Standing) → Same (completes p me s x n)
-  completes_else s n (Inside a l) = rw (called_else (p.calling me), off) refl
-  completes_else s n (Answering a v) = rw (called_else (p.calling me), off) refl
-  completes_else s n _ = refl
+  completes_else s n x = search (called_else, off, arith)
 
   -- a load of a key, a store of a patch, and a nudge
 
@@ -135,8 +119,7 @@ module _ (u : Setup) (p : StopState) (me c : ℕ) (ne : c ≢ me) where
   reads_else r = rw off refl
 
   begins_else : (k n : ℕ) (y : Patching) (b : Bool) → Same (record p { now = cond b (record (p.now) { patching = y }) (reads p.now me (KeyRead k (is_on n))) })
-  begins_else k n y true = refl
-  begins_else k n y false = reads_else (KeyRead k (is_on n))
+  begins_else k n y b = search (reads_else, arith)
 
   loads_else : (k n : ℕ) (o : Option ℕ) → Same (record p { now = key_loaded u p.now me k n o })
   loads_else k n None = reads_else (KeyRead k (is_on n))
@@ -144,16 +127,13 @@ module _ (u : Setup) (p : StopState) (me c : ℕ) (ne : c ≢ me) where
       (is_at_run ((p.now.stop s).standing me) && is_patch (p.now.stop s).work.kind)
 
   patches_else : (k n : ℕ) (x y : Patching) → Same (record p { now = record (p.now) { patching = y }; patched = key_patched x p.patched me k n })
-  patches_else k n Whole y = refl
-  patches_else k n (Patches cpu w count made rest) y = rw off refl
+  patches_else k n x y = search (off, arith)
 
   change_else : (change : Change) (n : ℕ) (said : Option Note) → Same (tells u p (seen_of me (store_of change) n said) 0)
-  change_else (place.Key k, new) n said = patches_else k new p.now.patching (patched_more p.now.patching)
-  change_else (place.Site i, new) n said = refl
+  change_else change n said = search (patches_else, arith)
 
   nudges_else : (k found new : ℕ) (b : Bool) → Same (key_told u p me k act.Cas (Some found) (cond b (Some new) None))
-  nudges_else k found new true = rw off refl
-  nudges_else k found new false = refl
+  nudges_else k found new b = search (off, arith)
 
   -- by the stages
 
@@ -206,11 +186,8 @@ module _ (u : Setup) (p : StopState) (me c : ℕ) (ne : c ≢ me) where
 
 module _ (v : StopsValue) (cpu : ℕ) (before : AreStopsApart v) where
   pub inside_online : (stage : StopStage) → (stop_control_of v.controls cpu).stage ≡ Some stage → has v.online cpu ≡ true
-  inside_online stage e = is_on (has v.online cpu) refl
-    where
-      is_on : (b : Bool) → has v.online cpu ≡ b → has v.online cpu ≡ true
-      is_on true f = f
-      is_on false f = absurd (let none : None ≡ Some stage = sym (ap (λ (x : StopControlValue). x.stage) (before.outside cpu f)) ∙ e in cc)
+  inside_online stage e = true_from_ne_false (has v.online cpu)
+      (λ off. let none : None ≡ Some stage = sym (ap (λ (x : StopControlValue). x.stage) (before.outside cpu off)) ∙ e in cc)
 
   pub apart : (j : ℕ) → has v.online cpu ≡ true → has v.online j ≡ false → j ≢ cpu
   apart j on none e = true≢false (sym on ∙ (ap (has v.online) (sym e) ∙ none))

@@ -1,6 +1,6 @@
 -- One more event of a replay.
 use Rattle.std.proofs.Common.{◌≡◌, ℕ, false, ◌+◌, ◌<◌, ◌≤◌, List, [], ◌∷◌, ◌++◌, Option, Some, None, Result, Ok, Err}
-use Rattle.std.proofs.Common.{length, length-append, get_or, drop, sym, subst}
+use Rattle.std.proofs.Common.{length, length-append, get_or, drop, sym}
 use Rattle.std.proofs.Common.{◌∙◌, ap, refl, append_assoc, append-nil, arith}
 use Rattle.std.proofs.lemmas.List.{drop_more, drop_all}
 use Rattle.smp_call_steps.specs.Calls.{CallState, tells, tells_all, tells_if}
@@ -8,30 +8,23 @@ use Rattle.smp_call_steps.specs.Functions.{SaysWhatBegins}
 use Rattle.smp_call_steps.specs.Threads.Parts.{part_of}
 use Rattle.smp_call_steps.proofs.StepLaws.Saying.{says_none, says_then}
 use Rattle.smp_core.specs.Value.{CoreValue, Shown}
-use Rattle.smp_call_steps.specs.Value.{control_of}
 use Rattle.std.specs.Prelude.{IfSome}
-use Rattle.smp_core.specs.Machine.{StopNotesFit, setup_in, step_at}
+use Rattle.smp_core.specs.Machine.{StopNotesFit, setup_in}
 use Rattle.smp_stop_steps.specs.Notes.{AllNotesFit, StopNoteFits}
-use Rattle.smp_core.specs.Replay.{Replay, answers_from, answers_on, replay_from, replay_on, after_seen, seen_list, start_turn, step_turn, turn_of}
-use Rattle.smp_core.specs.Start.{refusal_of, started}
-use Rattle.smp_stop_steps.specs.Start.{stop_begun_if, stop_first}
+use Rattle.smp_core.specs.Replay.{Replay, answers_from, answers_on, replay_from, replay_on, after_seen, seen_list, turn_of}
 use Rattle.smp_stop_steps.specs.State.{Setup, StopState, no_stops}
 use Rattle.smp_stop_steps.specs.Tells as stops
 use Rattle.smp_stop_steps.specs.Tells.{tells_all as tells_stops, tells_if as stops_if}
-use Rattle.smp_stop_steps.specs.Value.{StopsValue, StopShown, setup_of, stop_control_of}
+use Rattle.smp_stop_steps.specs.Value.{StopShown}
 use Rattle.smp_words.specs.declared.seen.Seen.{Seen}
-use Rattle.smp_words.specs.declared.command.Command.{Command}
 use Rattle.smp_words.specs.declared.command.Event.{Event}
-use Rattle.smp_words.specs.declared.command.Event.TheVariants as event
-use Rattle.smp_call_steps.specs.declared.stage.Stage.{Stage}
-use Rattle.smp_stop_steps.specs.declared.stage.StopStage.{StopStage}
 use Rattle.smp_mask.specs.Mask.{has}
 use Rattle.smp_mask.specs.declared.error.SmpError.{SmpError}
 use Rattle.smp_core.specs.Offline.{AreIdle}
 use Rattle.smp_core.specs.OfflineStops.{AreInNoStop, stop_part_of}
 use Rattle.smp_core.specs.Whole.{IsWhole}
 use Rattle.smp_core.proofs.Offline.{still_idle}
-use Rattle.smp_core.proofs.OfflineEvents.{has_no_part, in_no_stop, turn_keeps, turn_keeps_stops, turn_online}
+use Rattle.smp_core.proofs.OfflineEvents.{has_no_part, in_no_stop, turn_keeps, turn_keeps_stops, turn_same}
 
 -- the replay so far, and then that of the rest, is the replay of all
 pub record GoesOn (first core : CoreValue) (events : List Event) (at : ℕ) (seen : List Seen) : Type 0 where
@@ -83,9 +76,8 @@ tells_stops-append : (u : Setup) (p : StopState) (xs : List Seen) (answers : Lis
 unfolding answer_list
 tells_stops-append u p [] [] None answer l = refl
 tells_stops-append u p [] [] (Some s) answer l = refl
-tells_stops-append u p [] (a ∷ answers) s answer l = absurd (omega (arith, l))
-tells_stops-append u p (x ∷ xs) [] s answer l = absurd (omega (arith, l))
 tells_stops-append u p (x ∷ xs) (a ∷ answers) s answer l = tells_stops-append u (stops.tells u p x a) xs answers s answer (omega (arith, l))
+tells_stops-append u p _ _ s answer l = absurd (omega (arith, l))
 
 -- what the note of one step more says, where one was seen
 abbrev NoteFitsIf : Setup → StopState → Option Seen → ℕ → Type 0
@@ -97,30 +89,9 @@ notes_more : (u : Setup) (p : StopState) (xs : List Seen) (answers : List ℕ) (
 unfolding answer_list
 notes_more u p [] [] None answer l so_far more = tt
 notes_more u p [] [] (Some s) answer l so_far more = (more, tt)
-notes_more u p [] (a ∷ answers) s answer l so_far more = absurd (omega (arith, l))
-notes_more u p (x ∷ xs) [] s answer l so_far more = absurd (omega (arith, l))
 notes_more u p (x ∷ xs) (a ∷ answers) s answer l so_far more =
     (so_far.0, notes_more u (stops.tells u p x a) xs answers s answer (omega (arith, l)) so_far.1 more)
-
-begun_setup : (v : StopsValue) (cpu : ℕ) (stage : Option StopStage)
-    → setup_of (stop_begun_if v cpu stage).online (stop_begun_if v cpu stage).labels ≡ setup_of v.online v.labels
-begun_setup v cpu None = refl
-begun_setup v cpu (Some stage) = refl
-
-start_setup : (core : CoreValue) (cpu : ℕ) (c : Command) (refused : Option SmpError)
-    → setup_in (start_turn core (started core cpu c) refused).core ≡ setup_in core
-start_setup core cpu c (Some e) = refl
-start_setup core cpu c None = begun_setup core.stops cpu (stop_first (stop_control_of core.stops.controls cpu) c)
-
-step_setup : (core : CoreValue) (cpu : ℕ) (x : Option Stage) (y : Option StopStage) → setup_in (step_turn core (step_at core cpu x y)).core ≡ setup_in core
-step_setup core cpu (Some stage) y = refl
-step_setup core cpu None (Some stage) = refl
-step_setup core cpu None None = refl
-
--- an event keeps the CPUs online and the labels
-turn_setup : (core : CoreValue) (event : Event) → setup_in (turn_of core event).core ≡ setup_in core
-turn_setup core (event.Start cpu c) = start_setup core cpu c (refusal_of core cpu c)
-turn_setup core (event.Step cpu) = step_setup core cpu (control_of core.controls cpu).stage (stop_control_of core.stops.controls cpu).stage
+notes_more u p _ _ s answer l so_far more = absurd (omega (arith, l))
 
 -- at first no step is seen
 pub starts : (first : CoreValue) (events : List Event) (seen : List Seen) → seen ≡ [] → GoesOn first first events 0 seen
@@ -139,26 +110,36 @@ starts first events seen none = rw none (record {
   idle_stops = λ p j off none. none;
 })
 
-answers_next : (core : CoreValue) (events : List Event) (at : ℕ) (d : Event) → at < length events →
-    answers_from core (drop at events) ≡ answers_on (turn_of core (get_or events at d)).answer (turn_of core (get_or events at d)).answered
-    (answers_from (turn_of core (get_or events at d)).core (drop (at + 1) events))
-answers_next core events at d l = ap (answers_from core) (drop_more events at d l)
+-- the events from one that is read on
+read_more : (events : List Event) (at : ℕ) (event : Event) → at < length events → event ≡ get_or events at event →
+    drop at events ≡ event ∷ drop (at + 1) events
+read_more events at event l e = drop_more events at event l ∙ ap (λ (x : Event). x ∷ drop (at + 1) events) (sym e)
 
--- `d` is what the check takes where the list would have no such element
-GoesOn-more : (first core core' : CoreValue) (events : List Event) (at : ℕ) (d : Event) (seen seen' : List Seen) (s : Option Seen) → at < length events →
-    Ok s ≡ (turn_of core (get_or events at d)).answer → core' ≡ (turn_of core (get_or events at d)).core → seen' ≡ seen ++ seen_list s →
+answers_next : (core : CoreValue) (events : List Event) (at : ℕ) (event : Event) → at < length events → event ≡ get_or events at event →
+    answers_from core (drop at events) ≡ answers_on (turn_of core event).answer (turn_of core event).answered
+    (answers_from (turn_of core event).core (drop (at + 1) events))
+answers_next core events at event l e = ap (answers_from core) (read_more events at event l e)
+
+notes_fit : (core : CoreValue) (answered : ℕ) (o : Option Seen) → IfSome o (λ seen. StopNotesFit core seen answered) → (p : StopState) →
+    StopShown p core.stops → NoteFitsIf (setup_in core) p o answered
+notes_fit core answered None n p shown = tt
+notes_fit core answered (Some seen) n p shown = n p shown
+
+-- one event more, which was read there
+pub goes_on : (first core core' : CoreValue) (events : List Event) (at : ℕ) (event : Event) (seen seen' : List Seen) (s : Option Seen) → at < length events
+    → event ≡ get_or events at event →
+    Ok s ≡ (turn_of core event).answer → core' ≡ (turn_of core event).core → seen' ≡ seen ++ seen_list s →
     ((calls : CallState) → Shown calls core → Shown (tells_if calls s) core') →
     ((calls : CallState) → Shown calls core → SaysWhatBegins calls (seen_list s) (tells_if calls s)) →
-    ((p : StopState) → StopShown p core.stops → StopShown (stops_if (setup_in core) p s (turn_of core (get_or events at d)).answered) core'.stops) →
-    ((p : StopState) → StopShown p core.stops → NoteFitsIf (setup_in core) p s (turn_of core (get_or events at d)).answered) → IsWhole core →
+    ((p : StopState) → StopShown p core.stops → StopShown (stops_if (setup_in core) p s (turn_of core event).answered) core'.stops) →
+    IfSome s (λ seen. StopNotesFit core seen (turn_of core event).answered) → IsWhole core →
     GoesOn first core events at seen → GoesOn first core' events (at + 1) seen'
 unfolding answer_list
-GoesOn-more first core core' events at d seen seen' s l answer is_core is_seen told said stops notes whole g =
-    let event = get_or events at d in
+goes_on first core core' events at event seen seen' s l e answer is_core is_seen told said stops notes whole g =
     let answered = (turn_of core event).answered in
     let answers = g.answers in
     let next : answers_from core (drop at events) ≡ answer_list s answered ++ answers_from core' (drop (at + 1) events) =
-    answers_next core events at d l ∙ (rw (← answer, ← is_core) (sym (answers_more s answered (answers_from core' (drop (at + 1) events))))) in
+    answers_next core events at event l e ∙ (rw (← answer, ← is_core) (sym (answers_more s answered (answers_from core' (drop (at + 1) events))))) in
     record {
       answers = answers ++ answer_list s answered;
       answered = append_assoc answers (answer_list s answered) (answers_from core' (drop (at + 1) events))
@@ -166,19 +147,19 @@ GoesOn-more first core core' events at d seen seen' s l answer is_core is_seen t
       paired = length-append answers (answer_list s answered)
           ∙ (let once = answers_once s answered in let so_far = g.paired in let both = length-append seen (seen_list s) in
           rw (is_seen, both) (omega (arith, once, so_far)));
-      setup = rw is_core (turn_setup core event) ∙ g.setup;
+      setup = rw is_core (turn_same core event).1 ∙ g.setup;
       stops = λ p shown. rw (is_seen, tells_stops-append (setup_in first) p seen answers s answered g.paired, ← g.setup)
           (stops (tells_stops (setup_in core) p seen answers) (rw (← g.setup) at (g.stops p shown)));
       notes = λ p shown. rw (is_seen, ← g.setup) (notes_more (setup_in core) p seen answers s answered g.paired (rw (← g.setup) at (g.notes p shown))
-          (notes (tells_stops (setup_in core) p seen answers) (rw (← g.setup) at (g.stops p shown))));
+          (notes_fit core answered s notes (tells_stops (setup_in core) p seen answers) (rw (← g.setup) at (g.stops p shown))));
       run = rw (is_seen, is_core) (after_after seen (seen_list s) (replay_from (at + 1) (turn_of core event).core (drop (at + 1) events)) ∙
-          (ap (after_seen seen) (sym (replay_more at core event (drop (at + 1) events) s answer) ∙ ap (replay_from at core) (sym (drop_more events at d l)))
-          ∙ g.run));
+          (ap (after_seen seen) (sym (replay_more at core event (drop (at + 1) events) s answer)
+          ∙ ap (replay_from at core) (sym (read_more events at event l e))) ∙ g.run));
       told = λ calls shown. rw (is_seen, tells_all-append calls seen s) (told (tells_all calls seen) (g.told calls shown));
       said = λ calls shown. rw (is_seen, tells_all-append calls seen s)
           (says_then calls (tells_all calls seen) (tells_if (tells_all calls seen) s) seen (seen_list s) (g.said calls shown)
           (said (tells_all calls seen) (g.told calls shown)));
-      online = ap (λ (c : CoreValue). c.online) is_core ∙ (turn_online core event ∙ g.online);
+      online = ap (λ (c : CoreValue). c.online) is_core ∙ ((turn_same core event).0 ∙ g.online);
       idle = λ calls shown j off. rw (is_seen, tells_all-append calls seen s)
           (turn_keeps core whole j (rw g.online off) event s answer (tells_all calls seen) (g.told calls shown) ∙ g.idle calls shown j off);
       idle_stops = λ p j off none. rw (is_seen, tells_stops-append (setup_in first) p seen answers s answered g.paired, ← g.setup)
@@ -211,41 +192,15 @@ idle_so_far first core events at seen g whole calls shown idle j off = still_idl
     (tells_all calls seen) (g.told calls shown) j (rw g.online off) (g.idle calls shown j off) (idle j off)
 
 -- where the next event is refused, the answers so far are those of all
-GoesOn-refused : (first core core' : CoreValue) (events : List Event) (at : ℕ) (d : Event) (seen : List Seen) (e : SmpError) → at < length events →
-    Err e ≡ (turn_of core (get_or events at d)).answer → core' ≡ core → IsWhole core → GoesOn first core events at seen →
+pub ends_refused : (first core core' : CoreValue) (events : List Event) (at : ℕ) (event : Event) (seen : List Seen) (refused : SmpError) → at < length events
+    → event ≡ get_or events at event →
+    Err refused ≡ (turn_of core event).answer → core' ≡ core → IsWhole core → GoesOn first core events at seen →
     (p : StopState) → StopShown p first.stops → IsToldBy first core' events seen p
-GoesOn-refused first core core' events at d seen e l answer same whole g p shown =
-    let none : answers_from core (drop at events) ≡ [] = answers_next core events at d l ∙ rw (← answer) refl in
+ends_refused first core core' events at event seen refused l e answer same whole g p shown =
+    let none : answers_from core (drop at events) ≡ [] = answers_next core events at event l e ∙ rw (← answer) refl in
     rw same (told_so_far first core events at seen g whole none p shown)
 
 -- and so they are at the end
 pub GoesOn-all : (first core : CoreValue) (events : List Event) (at : ℕ) (seen : List Seen) → length events ≤ at → IsWhole core →
     GoesOn first core events at seen → (p : StopState) → StopShown p first.stops → IsToldBy first core events seen p
 GoesOn-all first core events at seen l whole g p shown = told_so_far first core events at seen g whole (ap (answers_from core) (drop_all at events l)) p shown
-
--- the same of the event that was read there
-pub goes_on : (first core core' : CoreValue) (events : List Event) (at : ℕ) (event : Event) (seen seen' : List Seen) (s : Option Seen) → at < length events
-    → event ≡ get_or events at event →
-    Ok s ≡ (turn_of core event).answer → core' ≡ (turn_of core event).core → seen' ≡ seen ++ seen_list s →
-    ((calls : CallState) → Shown calls core → Shown (tells_if calls s) core') →
-    ((calls : CallState) → Shown calls core → SaysWhatBegins calls (seen_list s) (tells_if calls s)) →
-    ((p : StopState) → StopShown p core.stops → StopShown (stops_if (setup_in core) p s (turn_of core event).answered) core'.stops) →
-    IfSome s (λ seen. StopNotesFit core seen (turn_of core event).answered) → IsWhole core →
-    GoesOn first core events at seen → GoesOn first core' events (at + 1) seen'
-goes_on first core core' events at event seen seen' s l e answer is_core is_seen told said stops notes whole g =
-    GoesOn-more first core core' events at event seen seen' s l (subst (λ (x : Event). Ok s ≡ (turn_of core x).answer) e answer)
-    (subst (λ (x : Event). core' ≡ (turn_of core x).core) e is_core) is_seen told said
-    (subst (λ (x : Event). (p : StopState) → StopShown p core.stops → StopShown (stops_if (setup_in core) p s (turn_of core x).answered) core'.stops) e stops)
-    (subst (λ (x : Event). (p : StopState) → StopShown p core.stops → NoteFitsIf (setup_in core) p s (turn_of core x).answered) e (fits s notes)) whole g
-  where
-    fits : (o : Option Seen) → IfSome o (λ seen. StopNotesFit core seen (turn_of core event).answered) → (p : StopState) → StopShown p core.stops →
-        NoteFitsIf (setup_in core) p o (turn_of core event).answered
-    fits None n p shown = tt
-    fits (Some seen) n p shown = n p shown
-
-pub ends_refused : (first core core' : CoreValue) (events : List Event) (at : ℕ) (event : Event) (seen : List Seen) (refused : SmpError) → at < length events
-    → event ≡ get_or events at event →
-    Err refused ≡ (turn_of core event).answer → core' ≡ core → IsWhole core → GoesOn first core events at seen →
-    (p : StopState) → StopShown p first.stops → IsToldBy first core' events seen p
-ends_refused first core core' events at event seen refused l e answer same whole g =
-    GoesOn-refused first core core' events at event seen refused l (subst (λ (x : Event). Err refused ≡ (turn_of core x).answer) e answer) same whole g

@@ -10,7 +10,7 @@ use Rattle.smp_core.specs.Start.{refusal_of, own_refusal, or_else, busy_or}
 use Rattle.smp_call_steps.specs.Start.{command_refusal, first_stage, control_at}
 use Rattle.smp_words.specs.Commands.{FitsCommand}
 use Rattle.smp_stop_steps.specs.Start.{stop_refusal, stop_started, stop_begun_if, stop_first}
-use Rattle.smp_stop_steps.specs.Value.{StopsValue, stop_control_of}
+use Rattle.smp_stop_steps.specs.Value.{StopsValue, setup_of, stop_control_of}
 use Rattle.smp_stop_steps.specs.declared.stage.StopStage.{StopStage}
 use Rattle.smp_core.specs.Value.{CoreValue}
 use Rattle.smp_call_steps.specs.Value.{ValuesShow, control_of}
@@ -57,18 +57,13 @@ started_shown a core cpu c limits l e f s =
     rw (controls_by_cpu core.controls cpu (control_at (control_of core.controls cpu) (first_stage core.online cpu c)) l below)
     (begun_shows core.nr core.online cpu c s m.is_outside limits below m.is_allowed f)
 
-begun_nr : (v : StopsValue) (cpu : ℕ) (stage : Option StopStage) → (stop_begun_if v cpu stage).nr ≡ v.nr
-begun_nr v cpu None = refl
-begun_nr v cpu (Some stage) = refl
+-- a start keeps the CPUs, those online and the labels
+abbrev pub KeepsCpus : StopsValue → StopsValue → Type 0
+KeepsCpus new old = (new.nr ≡ old.nr) × (new.online ≡ old.online) × (setup_of new.online new.labels ≡ setup_of old.online old.labels)
 
--- a start keeps the CPUs
-pub started_nr : (v : StopsValue) (cpu : ℕ) (c : Command) → (stop_started v cpu c).nr ≡ v.nr
-started_nr v cpu c = begun_nr v cpu (stop_first (stop_control_of v.controls cpu) c)
+begun_keeps : (v : StopsValue) (cpu : ℕ) (stage : Option StopStage) → KeepsCpus (stop_begun_if v cpu stage) v
+begun_keeps v cpu None = (refl, refl, refl)
+begun_keeps v cpu (Some stage) = (refl, refl, refl)
 
-begun_online : (v : StopsValue) (cpu : ℕ) (stage : Option StopStage) → (stop_begun_if v cpu stage).online ≡ v.online
-begun_online v cpu None = refl
-begun_online v cpu (Some stage) = refl
-
--- a start keeps the CPUs online
-pub started_online : (v : StopsValue) (cpu : ℕ) (c : Command) → (stop_started v cpu c).online ≡ v.online
-started_online v cpu c = begun_online v cpu (stop_first (stop_control_of v.controls cpu) c)
+pub started_keeps : (v : StopsValue) (cpu : ℕ) (c : Command) → KeepsCpus (stop_started v cpu c) v
+started_keeps v cpu c = begun_keeps v cpu (stop_first (stop_control_of v.controls cpu) c)

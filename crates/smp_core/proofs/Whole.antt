@@ -1,27 +1,31 @@
 -- A core stays whole, by each step and by the beginning of each command.
 use Rattle.std.proofs.Common.{◌≡◌, ℕ, ◌<◌, true, Option, Some, None, List, refl, sym, subst, ◌∙◌}
 use Rattle.std.proofs.lemmas.List.{length-set}
-use Rattle.std.specs.Prelude.{MatchOption}
+use Rattle.std.specs.Prelude.{MatchOption, slice_set}
 use Rattle.smp_mask.specs.Mask.{has}
 use Rattle.smp_words.specs.Size.{cpus}
 use Rattle.smp_words.specs.Commands.{FitsCommand}
+use Rattle.smp_words.specs.Access.{seen_of, word_of, words_after}
 use Rattle.smp_words.specs.Layout.{number_in}
 use Rattle.smp_words.specs.declared.command.Command.{Command}
 use Rattle.smp_words.specs.declared.seen.Seen.{Seen}
 use Rattle.smp_call_steps.specs.Calls.{tells}
-use Rattle.smp_call_steps.specs.Stages.{ControlValue, access_of}
+use Rattle.smp_call_steps.specs.Stages.{ControlValue, access_of, control_after, outcome_of}
+use Rattle.smp_call_steps.specs.Start.{control_at, first_stage}
 use Rattle.smp_call_steps.specs.Value.{control_of}
 use Rattle.smp_call_steps.specs.declared.stage.Stage.{Stage}
 use Rattle.smp_call_steps.proofs.Machine.Cores.{length-words_after, made_shown}
 use Rattle.smp_call_steps.proofs.Machine.Starts.{online_below}
 use Rattle.smp_stop_steps.specs.Machine.{IsStepOf, StopTold, stop_seen_at, stop_stepped}
 use Rattle.smp_stop_steps.specs.Table.{stop_number}
-use Rattle.smp_stop_steps.specs.Value.{StopsValue, stop_control_of}
+use Rattle.smp_stop_steps.specs.Value.{StopShown, StopsValue, stop_control_of}
+use Rattle.smp_stop_steps.specs.Start.{stop_started}
+use Rattle.smp_stop_steps.specs.State.{StopState}
 use Rattle.smp_stop_steps.specs.declared.stage.StopStage.{StopStage}
 use Rattle.smp_stop_steps.proofs.Promises.StopLaws.{keeps_laws}
 use Rattle.smp_stop_steps.proofs.TheMachine.Made.{made_sound, made_told}
 use Rattle.smp_stop_steps.proofs.TheMachine.Started.{started_sound}
-use Rattle.smp_core.specs.Machine.{Stepped, call_step, found_at, seen_at, step_at, step_of, stepped, stop_step, stops_stepped}
+use Rattle.smp_core.specs.Machine.{Stepped, call_step, step_at, step_of, stepped, stop_step, stops_stepped}
 use Rattle.smp_core.specs.Sound.{IsSound}
 use Rattle.smp_core.specs.Start.{refusal_of, started}
 use Rattle.smp_core.specs.Value.{CoreValue}
@@ -29,7 +33,7 @@ use Rattle.smp_core.specs.Whole.{IsWhole, KeepsLaws}
 use Rattle.smp_core.proofs.Joined.{handles_shown, joined_started, joined_stepped, joined_stop_stepped}
 use Rattle.smp_core.proofs.Offline.{leaves_offline, start_apart, step_apart}
 use Rattle.smp_core.proofs.OfflineStops.{leaves_offline_stops, start_stops_apart, started_told, step_stops_apart}
-use Rattle.smp_core.proofs.Starts.{may_start, start_below, started_nr, started_online, started_shown}
+use Rattle.smp_core.proofs.Starts.{may_start, start_below, started_keeps, started_shown}
 
 -- a step of the stop half
 module _ (nr online : ℕ) (words : List ℕ) (controls : List ControlValue) (v : StopsValue) (cpu : ℕ) (sound : IsSound nr online words controls v) where
@@ -60,30 +64,62 @@ pub sound_after : (nr online : ℕ) (words : List ℕ) (controls : List ControlV
 sound_after nr online words controls v v' cpu seen sound step told = after nr online words controls v cpu sound v' seen
     (stop_control_of v.controls cpu).stage refl step told
 
+-- a step of the call half
+pub sound_called : (nr online : ℕ) (words : List ℕ) (controls : List ControlValue) (v : StopsValue) (cpu : ℕ) (stage : Stage) →
+    IsSound nr online words controls v → (control_of controls cpu).stage ≡ Some stage →
+    let access = access_of (number_in words) cpu stage in
+    IsSound nr online (words_after words access)
+    (slice_set controls cpu (control_after (control_of controls cpu) stage (number_in words (word_of access)))) v
+sound_called nr online words controls v cpu stage sound e =
+    let table = sound.table in
+    let access = access_of (number_in words) cpu stage in
+    let found = number_in words (word_of access) in
+    let seen = seen_of cpu access found (outcome_of (control_of controls cpu).drain stage found).note in
+    record {
+      limits = sound.limits;
+      table = record {
+        words_sized = length-words_after words access ∙ table.words_sized;
+        controls_sized = length-set controls cpu _ ∙ table.controls_sized;
+        calls = tells table.calls seen;
+        shown = made_shown table.calls words controls cpu stage access found seen _ _
+            record { at_stage = e; is_access = refl; is_found = refl; is_words = refl; is_control = refl; is_seen = refl }
+            table.words_sized table.controls_sized table.shown;
+      };
+      stops_nr = sound.stops_nr;
+      stops_online = sound.stops_online;
+      apart = step_apart online words controls cpu table.controls_sized sound.apart stage table.words_sized e;
+      stops_apart = sound.stops_apart;
+      joined = joined_stepped controls cpu table.controls_sized v.controls stage found e sound.joined;
+    }
+
+-- the beginning of a command
+pub sound_started : (core : CoreValue) (cpu : ℕ) (c : Command) → IsSound core.nr core.online core.words core.controls core.stops → FitsCommand c →
+    refusal_of core cpu c ≡ None → ((p : StopState) → StopShown p core.stops → StopShown p (stop_started core.stops cpu c)) →
+    IsSound core.nr core.online core.words (slice_set core.controls cpu (control_at (control_of core.controls cpu) (first_stage core.online cpu c)))
+    (stop_started core.stops cpu c)
+sound_started core cpu c sound fits allowed told =
+    let table = sound.table in
+    let m = may_start core cpu c allowed in
+    let low = start_below core cpu c sound.limits allowed in
+    record {
+      limits = sound.limits;
+      table = record {
+        words_sized = table.words_sized;
+        controls_sized = length-set core.controls cpu _ ∙ table.controls_sized;
+        calls = table.calls;
+        shown = started_shown table.calls core cpu c sound.limits table.controls_sized allowed fits table.shown;
+      };
+      stops_nr = (started_keeps core.stops cpu c).0 ∙ sound.stops_nr;
+      stops_online = (started_keeps core.stops cpu c).1 ∙ sound.stops_online;
+      apart = start_apart core.online core.words core.controls cpu table.controls_sized sound.apart core.nr c low m.is_online m.is_allowed
+          (started_shown sound.apart.calls core cpu c sound.limits table.controls_sized allowed fits sound.apart.shown);
+      stops_apart = start_stops_apart core.stops cpu sound.stops_apart c (rw sound.stops_online m.is_online) told;
+      joined = joined_started core.controls core.stops cpu core.online c table.controls_sized low m.is_stop_outside m.is_stop_allowed sound.joined;
+    }
+
 module _ (core : CoreValue) (cpu : ℕ) (w : IsWhole core) where
   in_calls : (stage : Stage) → (control_of core.controls cpu).stage ≡ Some stage → IsWhole (stepped core cpu stage)
-  in_calls stage e =
-      let table = w.sound.table in
-      let access = access_of (number_in core.words) cpu stage in
-      record {
-        sound = record {
-          limits = w.sound.limits;
-          table = record {
-            words_sized = length-words_after core.words access ∙ table.words_sized;
-            controls_sized = length-set core.controls cpu _ ∙ table.controls_sized;
-            calls = tells table.calls (seen_at core cpu stage);
-            shown = made_shown table.calls core.words core.controls cpu stage access (found_at core cpu stage) (seen_at core cpu stage) _ _
-                record { at_stage = e; is_access = refl; is_found = refl; is_words = refl; is_control = refl; is_seen = refl }
-                table.words_sized table.controls_sized table.shown;
-          };
-          stops_nr = w.sound.stops_nr;
-          stops_online = w.sound.stops_online;
-          apart = step_apart core.online core.words core.controls cpu table.controls_sized w.sound.apart stage table.words_sized e;
-          stops_apart = w.sound.stops_apart;
-          joined = joined_stepped core.controls cpu table.controls_sized core.stops.controls stage (found_at core cpu stage) e w.sound.joined;
-        };
-        stops = w.stops;
-      }
+  in_calls stage e = record { sound = sound_called core.nr core.online core.words core.controls core.stops cpu stage w.sound e; stops = w.stops }
 
   in_stops : (stage : StopStage) → (stop_control_of core.stops.controls cpu).stage ≡ Some stage → IsWhole (stops_stepped core cpu stage)
   in_stops stage e = record {
@@ -108,29 +144,13 @@ module _ (core : CoreValue) (cpu : ℕ) (w : IsWhole core) where
 
   pub start_whole : (c : Command) → FitsCommand c → refusal_of core cpu c ≡ None → IsWhole (started core cpu c)
   start_whole c fits allowed =
-      let table = w.sound.table in
       let m = may_start core cpu c allowed in
       let low = start_below core cpu c w.sound.limits allowed in
       let online : has core.stops.online cpu ≡ true = rw w.sound.stops_online m.is_online in
       let below : (k : ℕ) → has core.stops.online k ≡ true → k < cpus =
       λ k on. online_below core.nr core.online k w.sound.limits (subst (λ o. has o k ≡ true) w.sound.stops_online on) in
       record {
-        sound = record {
-          limits = w.sound.limits;
-          table = record {
-            words_sized = table.words_sized;
-            controls_sized = length-set core.controls cpu _ ∙ table.controls_sized;
-            calls = table.calls;
-            shown = started_shown table.calls core cpu c w.sound.limits table.controls_sized allowed fits table.shown;
-          };
-          stops_nr = started_nr core.stops cpu c ∙ w.sound.stops_nr;
-          stops_online = started_online core.stops cpu c ∙ w.sound.stops_online;
-          apart = start_apart core.online core.words core.controls cpu table.controls_sized w.sound.apart core.nr c low m.is_online m.is_allowed
-              (started_shown w.sound.apart.calls core cpu c w.sound.limits table.controls_sized allowed fits w.sound.apart.shown);
-          stops_apart = start_stops_apart core.stops cpu w.sound.stops_apart c online
-              (started_told core.stops w.stops cpu low m.is_stop_outside below online c fits m.is_stop_allowed);
-          joined = joined_started core.controls core.stops cpu core.online c table.controls_sized low m.is_stop_outside m.is_stop_allowed w.sound.joined;
-        };
+        sound = sound_started core cpu c w.sound fits allowed (started_told core.stops w.stops cpu low m.is_stop_outside below online c fits m.is_stop_allowed);
         stops = started_sound core.stops w.stops cpu low m.is_stop_outside below online c fits m.is_stop_allowed;
       }
 

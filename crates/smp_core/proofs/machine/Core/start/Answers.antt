@@ -1,5 +1,5 @@
 use Rattle.std.proofs.Common.{rules, ◌≡◌, None, length, sym, ◌∙◌, arith}
-use Rattle.std.proofs.lemmas.List.{get_or_read, length-set}
+use Rattle.std.proofs.lemmas.List.{get_or_read}
 use Rattle.std.specs.Prelude.{slice_set}
 use Rattle.smp_words.specs.Size.{cpus}
 use Rattle.smp_call_steps.specs.Calls.{CallState}
@@ -8,12 +8,10 @@ use Rattle.smp_core.specs.Start.{refusal_of}
 use Rattle.smp_call_steps.specs.Start.{first_stage, control_at}
 use Rattle.smp_core.specs.Value.{CoreValue}
 use Rattle.smp_call_steps.specs.Value.{ValuesShow, control_of, outside}
-use Rattle.smp_core.proofs.Joined.{joined_started}
-use Rattle.smp_core.proofs.Offline.{start_apart}
-use Rattle.smp_core.proofs.OfflineStops.{start_stops_apart}
-use Rattle.smp_core.proofs.Starts.{may_start, started_shown, started_nr, started_online, start_below}
+use Rattle.smp_core.proofs.Starts.{may_start, started_shown, start_below}
 use Rattle.smp_call_steps.proofs.Machine.Starts.{names_record}
 use Rattle.smp_core.proofs.Insides.{started_inside}
+use Rattle.smp_core.proofs.Whole.{sound_started}
 use Rattle.smp_core.proofs.machine.Core.start.Goals as goal
 use Rattle.smp_core.proofs.machine.Core.start.Given as given
 
@@ -31,24 +29,11 @@ before g c =
 allowed : (g : given.Over) (c : goal.After-start-arg-1 g) → refusal_of (before g c) c.args.cpu c.args.command ≡ None
 allowed g c = rw (← c.self.view_is) at (sym c.refusal.ensures.exact ∙ c.in_default.is)
 
--- the same where the first stage is asked for
-abbrev first : (g : given.Over) (c : goal.After-first_stage-arg-1 g) → CoreValue
-first g c =
-    record {
-      nr = c.self.inside.nr;
-      online = c.self.inside.online;
-      words = c.self.inside.words.items;
-      controls = c.self.inside.controls.items;
-      stops = c.self.inside.stops;
-    }
-
-asked : (g : given.Over) (c : goal.After-first_stage-arg-1 g) → refusal_of (first g c) c.args.cpu c.args.command ≡ None
-asked g c = rw (← c.self.view_is) at (sym c.refusal.ensures.exact ∙ c.in_default.is)
-
 pub first_stage-stage-requires-clause-record : goal.first_stage-stage-requires-clause-record
 first_stage-stage-requires-clause-record g c =
-    let core = first g c in
-    names_record core.nr core.online c.args.cpu c.args.command (may_start core c.args.cpu c.args.command (asked g c)).is_allowed
+    let core = c.args.self.now in
+    names_record core.nr core.online c.args.cpu c.args.command
+    (may_start core c.args.cpu c.args.command (sym c.refusal.ensures.exact ∙ c.in_default.is)).is_allowed
 
 pub start-requires-clause-allowed : goal.start-requires-clause-allowed
 start-requires-clause-allowed g c = (may_start (before g c) c.args.cpu c.args.command (allowed g c)).is_stop_allowed
@@ -76,33 +61,8 @@ shown_after g c calls shown =
 
 pub invariant_of-self : goal.invariant_of-self
 invariant_of-self g c =
-    record {
-      limits = c.self.invariant.limits;
-      table = record {
-        words_sized = c.self.invariant.table.words_sized;
-        controls_sized = length-set c.self.inside.controls.items c.args.cpu c.begin.new.self ∙ c.self.invariant.table.controls_sized;
-        calls = c.self.invariant.table.calls;
-        shown = shown_after g c.before c.self.invariant.table.calls c.self.invariant.table.shown;
-      };
-      stops_nr = rw c.start.ensures.started (started_nr c.self.inside.stops c.args.cpu c.args.command ∙ c.self.invariant.stops_nr);
-      stops_online = rw c.start.ensures.started (started_online c.self.inside.stops c.args.cpu c.args.command ∙ c.self.invariant.stops_online);
-      apart =
-          let m = may_start (before g c.before) c.args.cpu c.args.command (allowed g c.before) in
-          let low = start_below (before g c.before) c.args.cpu c.args.command c.self.invariant.limits (allowed g c.before) in
-          rw (begun g c.before) (start_apart c.self.inside.online c.self.inside.words.items c.self.inside.controls.items c.args.cpu
-          c.self.invariant.table.controls_sized c.self.invariant.apart c.self.inside.nr c.args.command low m.is_online m.is_allowed
-          (started_shown c.self.invariant.apart.calls (before g c.before) c.args.cpu c.args.command c.self.invariant.limits
-          c.self.invariant.table.controls_sized (allowed g c.before) (fits g c.before) c.self.invariant.apart.shown));
-      stops_apart =
-          let m = may_start (before g c.before) c.args.cpu c.args.command (allowed g c.before) in
-          rw c.start.ensures.started (start_stops_apart c.self.inside.stops c.args.cpu c.self.invariant.stops_apart c.args.command
-          (rw c.self.invariant.stops_online m.is_online) (rw c.start.ensures.started at c.start.ensures.told));
-      joined =
-          let m = may_start (before g c.before) c.args.cpu c.args.command (allowed g c.before) in
-          let low = start_below (before g c.before) c.args.cpu c.args.command c.self.invariant.limits (allowed g c.before) in
-          rw (begun g c.before, c.start.ensures.started) (joined_started c.self.inside.controls.items c.self.inside.stops c.args.cpu
-          c.self.inside.online c.args.command c.self.invariant.table.controls_sized low m.is_stop_outside m.is_stop_allowed c.self.invariant.joined);
-    }
+    rw (begun g c.before, c.start.ensures.started) (sound_started (before g c.before) c.args.cpu c.args.command c.self.invariant (fits g c.before)
+    (allowed g c.before) (rw c.start.ensures.started at c.start.ensures.told))
 
 pub returns-clause-told : goal.returns-clause-told
 returns-clause-told g c calls shown = shown_after g c.before calls (rw (← c.self.view_is) at shown)
