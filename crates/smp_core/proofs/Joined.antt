@@ -63,12 +63,10 @@ first_apart : (online cpu : ℕ) (x : StopControlValue) (y : Command) → (first
 first_apart online cpu x y = search arith
 
 none_or : {A B : Type 0} (x : A) (o : Option A) → o ≡ Some x → (o ≡ None) ⊎ B → B
-none_or x o e (inl none) = absurd (let bad : Some x ≡ None = sym e ∙ none in cc)
-none_or x o e (inr b) = b
+none_or x o e h = search arith
 
 or_none : {A B : Type 0} (x : A) (o : Option A) → o ≡ Some x → B ⊎ (o ≡ None) → B
-or_none x o e (inl b) = b
-or_none x o e (inr none) = absurd (let bad : Some x ≡ None = sym e ∙ none in cc)
+or_none x o e h = search arith
 
 module _ (controls : List ControlValue) (cpu : ℕ) (sized : length controls ≡ cpus) where
   -- one CPU goes on in the call half

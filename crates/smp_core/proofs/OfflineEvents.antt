@@ -1,22 +1,20 @@
 -- CPUs that are not online have no part in what a list of events tells.
-use Rattle.std.proofs.Common.{◌≡◌, ◌≢◌, ℕ, false, Option, Some, None, Ok, Err, refl, sym, subst, ap, ne_eqb, arith}
+use Rattle.std.proofs.Common.{◌≡◌, ◌≢◌, ℕ, false, IfOk, Option, Some, None, Ok, refl, sym, subst, ap, ne_eqb, arith}
 use Rattle.smp_mask.specs.Mask.{has}
 use Rattle.smp_mask.specs.declared.error.SmpError.{SmpError}
-use Rattle.smp_mask.specs.declared.error.SmpError.TheVariants as error
 use Rattle.smp_words.specs.declared.command.Command.{Command}
 use Rattle.smp_words.specs.declared.command.Event.{Event}
 use Rattle.smp_words.specs.declared.command.Event.TheVariants as event
 use Rattle.smp_words.specs.declared.seen.Seen.{Seen}
 use Rattle.smp_words.specs.Layout.{number_in}
-use Rattle.smp_call_steps.specs.Calls.{CallState, tells, tells_if}
+use Rattle.smp_call_steps.specs.Calls.{CallState, tells_if}
 use Rattle.smp_call_steps.specs.Threads.Parts.{part_of}
 use Rattle.smp_call_steps.specs.Value.{control_of}
 use Rattle.smp_call_steps.specs.declared.stage.Stage.{Stage}
 use Rattle.smp_call_steps.proofs.Knows.Parts.{part_else}
 use Rattle.smp_stop_steps.specs.Threads.Known.{holds_it}
-use Rattle.smp_stop_steps.specs.Stages.{answer_at, stop_outcome}
+use Rattle.smp_stop_steps.specs.Stages.{answer_at}
 use Rattle.smp_stop_steps.specs.State.{StopState, no_stops}
-use Rattle.smp_stop_steps.specs.Tells as stops
 use Rattle.smp_stop_steps.specs.Tells.{tells_if as stops_if}
 use Rattle.smp_stop_steps.specs.Value.{StopShown, stop_control_of}
 use Rattle.smp_stop_steps.specs.Machine.{stop_found_at, stop_seen_at}
@@ -76,69 +74,51 @@ module _ (core : CoreValue) (w : IsWhole core) (j : ℕ) (off : has core.online 
   stops_off : has core.stops.online j ≡ false
   stops_off = rw w.sound.stops_online off
 
-  abbrev Keeps : CallState → Option Seen → Type 0
-  Keeps a s = part_of (tells_if a s) j ≡ part_of a j
-
   abbrev HasNone : StopState → Type 0
   HasNone p = stop_part_of p j ≡ stop_part_of no_stops j
 
-  -- where a command begins, nothing is seen
-  start_keeps : (new : CoreValue) (refused : Option SmpError) (s : Option Seen) → Ok s ≡ (start_turn core new refused).answer → s ≡ None
-  start_keeps new None s is = let e : Ok s ≡ Ok None = is in cc
-  start_keeps new (Some refused) s is = absurd (let e : Ok s ≡ Err refused = is in cc)
+  -- what is seen, and what the CPU's function answers, leave it
+  abbrev pub Keeps : ℕ → Option Seen → Type 0
+  Keeps answered s = ((a : CallState) → Shown a core → part_of (tells_if a s) j ≡ part_of a j)
+      × ((p : StopState) → HasNone p → HasNone (stops_if (setup_in core) p s answered))
+
+  start_keeps : (new : CoreValue) (refused : Option SmpError) → let turn = start_turn core new refused in IfOk turn.answer (Keeps turn.answered)
+  start_keeps new None = (λ a shown. refl, λ p h. h)
+  start_keeps new (Some refused) = tt
 
   module _ (cpu : ℕ) where
-    call_keeps : (stage : Stage) → (control_of core.controls cpu).stage ≡ Some stage → (a : CallState) → Shown a core →
-        part_of (tells a (seen_at core cpu stage)) j ≡ part_of a j
-    call_keeps stage e a shown = part_else cpu (control_of core.controls cpu).drain shown stage j
-        (apart core.online cpu j (inside_online core.online core.words core.controls cpu w.sound.table.controls_sized w.sound.apart stage e) off)
+    call_keeps : (stage : Stage) → (control_of core.controls cpu).stage ≡ Some stage → Keeps 0 (Some (seen_at core cpu stage))
+    call_keeps stage e = (
+      λ a shown. part_else cpu (control_of core.controls cpu).drain shown stage j
+          (apart core.online cpu j (inside_online core.online core.words core.controls cpu w.sound.table.controls_sized w.sound.apart stage e) off),
+      λ p h. subst HasNone (sym (call_step_apart (setup_in core) p cpu 0 (found_at core cpu stage) (seen_at core cpu stage).note
+          (number_in core.words) stage)) h,
+    )
 
-    stop_keeps : (stage : StopStage) → (stop_control_of core.stops.controls cpu).stage ≡ Some stage → (p : StopState) → HasNone p →
-        HasNone (stops.tells (setup_in core) p (stop_seen_at core.stops cpu stage) (answer_at stage))
-    stop_keeps stage e p h =
+    stop_keeps : (stage : StopStage) → (stop_control_of core.stops.controls cpu).stage ≡ Some stage →
+        Keeps (answer_at stage) (Some (stop_seen_at core.stops cpu stage))
+    stop_keeps stage e =
         let before = w.sound.stops_apart in
-        stage_else (setup_in core) p cpu j (stops_apart core.stops cpu before j (stops_inside_online core.stops cpu before stage e) stops_off)
-        cpus (stop_control_of core.stops.controls cpu).changes (stop_found_at core.stops cpu stage)
-        (stop_outcome cpu (stop_control_of core.stops.controls cpu) stage (stop_found_at core.stops cpu stage)).note h stage
+        let seen = stop_seen_at core.stops cpu stage in (
+          λ a shown. ap (λ (b : CallState). part_of b j) (stop_step_apart a cpu (stop_found_at core.stops cpu stage) seen.note cpus
+              (stop_control_of core.stops.controls cpu).changes stage),
+          λ p h. stage_else (setup_in core) p cpu j (stops_apart core.stops cpu before j (stops_inside_online core.stops cpu before stage e) stops_off)
+              cpus (stop_control_of core.stops.controls cpu).changes (stop_found_at core.stops cpu stage) seen.note h stage,
+        )
 
     step_keeps : (x : Option Stage) (y : Option StopStage) → (control_of core.controls cpu).stage ≡ x → (stop_control_of core.stops.controls cpu).stage ≡ y →
-        (s : Option Seen) → Ok s ≡ (step_turn core (step_at core cpu x y)).answer → (a : CallState) → Shown a core → Keeps a s
-    step_keeps (Some stage) y e f s is a shown =
-        let same : s ≡ Some (seen_at core cpu stage) = let o : Ok s ≡ Ok (Some (seen_at core cpu stage)) = is in cc in
-        subst (Keeps a) (sym same) (call_keeps stage e a shown)
-    step_keeps None (Some stage) e f s is a shown =
-        let same : s ≡ Some (stop_seen_at core.stops cpu stage) = let o : Ok s ≡ Ok (Some (stop_seen_at core.stops cpu stage)) = is in cc in
-        subst (Keeps a) (sym same) (ap (λ (b : CallState). part_of b j) (stop_step_apart a cpu (stop_found_at core.stops cpu stage)
-        (stop_seen_at core.stops cpu stage).note cpus (stop_control_of core.stops.controls cpu).changes stage))
-    step_keeps None None e f s is a shown = absurd (let bad : Ok s ≡ Err error.IdleStep = is in cc)
-
-    step_keeps_stops : (x : Option Stage) (y : Option StopStage) → (stop_control_of core.stops.controls cpu).stage ≡ y → (s : Option Seen) →
         let turn = step_turn core (step_at core cpu x y) in
-        Ok s ≡ turn.answer → (p : StopState) → HasNone p → HasNone (stops_if (setup_in core) p s turn.answered)
-    step_keeps_stops (Some stage) y f s is p h =
-        let same : s ≡ Some (seen_at core cpu stage) = let o : Ok s ≡ Ok (Some (seen_at core cpu stage)) = is in cc in
-        subst (λ (o : Option Seen). HasNone (stops_if (setup_in core) p o 0)) (sym same)
-        (subst HasNone (sym (call_step_apart (setup_in core) p cpu 0 (found_at core cpu stage) (seen_at core cpu stage).note
-        (number_in core.words) stage)) h)
-    step_keeps_stops None (Some stage) f s is p h =
-        let same : s ≡ Some (stop_seen_at core.stops cpu stage) = let o : Ok s ≡ Ok (Some (stop_seen_at core.stops cpu stage)) = is in cc in
-        subst (λ (o : Option Seen). HasNone (stops_if (setup_in core) p o (answer_at stage))) (sym same) (stop_keeps stage f p h)
-    step_keeps_stops None None f s is p h = absurd (let bad : Ok s ≡ Err error.IdleStep = is in cc)
+        IfOk turn.answer (Keeps turn.answered)
+    step_keeps (Some stage) y e f = call_keeps stage e
+    step_keeps None (Some stage) e f = stop_keeps stage f
+    step_keeps None None e f = tt
 
-  pub turn_keeps : (event : Event) (s : Option Seen) → Ok s ≡ (turn_of core event).answer → (a : CallState) → Shown a core →
-      part_of (tells_if a s) j ≡ part_of a j
-  turn_keeps (event.Start cpu c) s is a shown = subst (Keeps a) (sym (start_keeps (started core cpu c) (refusal_of core cpu c) s is)) refl
-  turn_keeps (event.Step cpu) s is a shown =
-      step_keeps cpu (control_of core.controls cpu).stage (stop_control_of core.stops.controls cpu).stage refl refl s is a shown
+  event_keeps : (event : Event) → IfOk (turn_of core event).answer (Keeps (turn_of core event).answered)
+  event_keeps (event.Start cpu c) = start_keeps (started core cpu c) (refusal_of core cpu c)
+  event_keeps (event.Step cpu) = step_keeps cpu (control_of core.controls cpu).stage (stop_control_of core.stops.controls cpu).stage refl refl
 
-  pub turn_keeps_stops : (event : Event) (s : Option Seen) → Ok s ≡ (turn_of core event).answer → (p : StopState) →
-      stop_part_of p j ≡ stop_part_of no_stops j →
-      stop_part_of (stops_if (setup_in core) p s (turn_of core event).answered) j ≡ stop_part_of no_stops j
-  turn_keeps_stops (event.Start cpu c) s is p h =
-      subst (λ (o : Option Seen). HasNone (stops_if (setup_in core) p o (turn_of core (event.Start cpu c)).answered))
-      (sym (start_keeps (started core cpu c) (refusal_of core cpu c) s is)) h
-  turn_keeps_stops (event.Step cpu) s is p h =
-      step_keeps_stops cpu (control_of core.controls cpu).stage (stop_control_of core.stops.controls cpu).stage refl s is p h
+  pub turn_keeps : (event : Event) (s : Option Seen) → Ok s ≡ (turn_of core event).answer → Keeps (turn_of core event).answered s
+  turn_keeps event s is = subst (λ r. IfOk r (Keeps (turn_of core event).answered)) (sym is) (event_keeps event)
 
 -- stops that a core shows, in which the CPUs that are not online have the part of no stops
 pub in_no_stop : (core : CoreValue) → IsWhole core → (p : StopState) → StopShown p core.stops →

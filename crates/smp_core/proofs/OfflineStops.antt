@@ -18,7 +18,6 @@ use Rattle.smp_words.specs.declared.seen.Note.{Note}
 use Rattle.smp_words.specs.declared.word.Word.TheVariants.{Gate, Slot}
 use Rattle.smp_words.specs.declared.work.Work.{Work}
 use Rattle.smp_words.proofs.Zeros.{get_or-same}
-use Rattle.smp_stop_steps.specs.Counts.{mask_weight}
 use Rattle.smp_stop_steps.specs.Threads.Known.{holds_it}
 use Rattle.smp_stop_steps.specs.Labels.{Change, Patching}
 use Rattle.smp_stop_steps.specs.Machine.{IsSoundHalf, StopTold, stop_found_at, stop_seen_at, stop_stepped}
@@ -26,13 +25,13 @@ use Rattle.smp_stop_steps.specs.Shows.{gate_word}
 use Rattle.smp_stop_steps.specs.Slots.{begun_value}
 use Rattle.smp_stop_steps.specs.Sits.{SourceSits}
 use Rattle.smp_stop_steps.specs.Sources.{SourceShows}
-use Rattle.smp_stop_steps.specs.Stages.{StopControlValue, answer_at, change_at, stop_access, stop_goes, stop_outcome, stop_outside, store_of}
+use Rattle.smp_stop_steps.specs.Stages.{StopControlValue, answer_at, stop_access, stop_goes, stop_outcome, stop_outside, store_of}
 use Rattle.smp_stop_steps.specs.Start.{stop_begun_if, stop_first, stop_refusal, stop_started}
 use Rattle.smp_stop_steps.specs.State.{Setup, StopState, no_stops}
 use Rattle.smp_stop_steps.specs.Stop.{Standing, Outside, Inside, Stop, acknowledged, is_called, is_of, stands}
 use Rattle.smp_stop_steps.specs.Table.{stop_number}
 use Rattle.smp_stop_steps.specs.Tells.{acknowledges, called_more, calls_now, carried, completes, drafts, enters, gate_told, is_at_run, is_patch, key_loaded}
-use Rattle.smp_stop_steps.specs.Tells.{key_patched, key_told, leaves, looked_by, looks, may_call, patch_begun, reads, stored_open, stored_shut}
+use Rattle.smp_stop_steps.specs.Tells.{key_patched, key_told, leaves, looked_by, looks, patch_begun, reads, stored_open, stored_shut}
 use Rattle.smp_stop_steps.specs.Tells.{tells, unpatched, with_stop}
 use Rattle.smp_stop_steps.specs.Value.{StopShown, StopsValue, setup_of, stop_control_of}
 use Rattle.smp_stop_steps.specs.declared.known.Calling.{Calling}
@@ -42,9 +41,7 @@ use Rattle.smp_stop_steps.specs.declared.known.Source.{Source}
 use Rattle.smp_stop_steps.specs.declared.known.Source.TheVariants.{Shut, Drafts, Owns, Collects}
 use Rattle.smp_words.specs.declared.phase.TheConstants.{DISABLE_IRQ, RUN, EXIT}
 use Rattle.smp_stop_steps.specs.declared.stage.CompletionStage.{CompletionStage}
-use Rattle.smp_stop_steps.specs.declared.stage.CompletionStage.TheVariants as completion
 use Rattle.smp_stop_steps.specs.declared.stage.RoundStage.{RoundStage}
-use Rattle.smp_stop_steps.specs.declared.stage.RoundStage.TheVariants as round
 use Rattle.smp_stop_steps.specs.declared.stage.StopStage.{StopStage}
 use Rattle.smp_stop_steps.specs.declared.stage.StopStage.TheVariants.{TakeGate, OpenGate, Begin, Enter, Advance, Complete}
 use Rattle.smp_stop_steps.specs.declared.stage.StopStage.TheVariants.{Close, LoadResult, ReadKey, ReadSite, NudgeKey, ExchangeKey}
@@ -142,22 +139,10 @@ module _ (u : Setup) (p : StopState) (me c : ℕ) (ne : c ≢ me) where
     After stage = tells u p (seen_of me (stop_access n me changes stage) found said) (answer_at stage)
 
     round_else : (v : Visit) (stage : RoundStage) → Same (After (Advance v stage))
-    round_else v (round.Look answer) = looks_else v.slot found
-    round_else v (round.LoadArg answer func) = calls_else (p.now.stop v.slot).work found answer
-        (may_call me (p.now.stop v.slot).work ((p.now.stop v.slot).standing me))
-    round_else v (round.LoadKey key change) = loads_else key found (p.now.inside me)
-    round_else v (round.StoreChange made) = change_else (change_at changes made) found said
-    round_else v (round.Acknowledge answer ran) = acknowledges_else v.slot found ((p.now.stop v.slot).standing me)
-    round_else v (round.Refill ran) = stored_else v.slot (mask_weight n v.mask) field.Ack (p.now.stop v.slot).is_open
-    round_else v (round.Raise ran) = stored_else v.slot (v.acked + 1) field.State (p.now.stop v.slot).is_open
-    round_else v _ = refl
+    round_else v stage = search (looks_else, calls_else, loads_else, change_else, acknowledges_else, stored_else, arith)
 
     completion_else : (v : Visit) (stage : CompletionStage) → Same (After (Complete v stage))
-    completion_else v (completion.LoadFunc answer) = refl
-    completion_else v (completion.LoadArg answer func) = calls_else (p.now.stop v.slot).work found answer
-        (may_call me (p.now.stop v.slot).work ((p.now.stop v.slot).standing me))
-    completion_else v completion.StoreAnswer = stored_else v.slot v.answer field.Result (p.now.stop v.slot).is_open
-    completion_else v completion.CountDown = completes_else v.slot found ((p.now.stop v.slot).standing me)
+    completion_else v stage = search (calls_else, stored_else, completes_else, arith)
 
     -- of another CPU that has no part
     abbrev pub HasNone : StopState → Type 0
@@ -267,9 +252,7 @@ module _ (v : StopsValue) (h : AreStopsApart v) where
       (h.shown.shows.sources s) opened c m
 
   not_member : (s c : ℕ) → has v.online c ≡ false → (b d : Bool) → (p.now.stop s).is_open ≡ b → has (p.now.stop s).work.mask c ≡ d → (b && d) ≡ false
-  not_member s c none true true opened m = absurd (true≢false (sym (members s c opened m) ∙ none))
-  not_member s c none true false opened m = refl
-  not_member s c none false d opened m = refl
+  not_member s c none b d opened m = search (members, arith)
 
   stands_outside : (s c : ℕ) → has v.online c ≡ false → (p.now.stop s).standing c ≡ Outside
   stands_outside s c none = not_of ((p.now.stop s).standing c) ((h.shown.shows.present.slots s).members c

@@ -24,7 +24,7 @@ use Rattle.smp_core.specs.Offline.{AreIdle}
 use Rattle.smp_core.specs.OfflineStops.{AreInNoStop, stop_part_of}
 use Rattle.smp_core.specs.Whole.{IsWhole}
 use Rattle.smp_core.proofs.Offline.{still_idle}
-use Rattle.smp_core.proofs.OfflineEvents.{has_no_part, in_no_stop, turn_keeps, turn_keeps_stops, turn_same}
+use Rattle.smp_core.proofs.OfflineEvents.{has_no_part, in_no_stop, turn_keeps, turn_same}
 
 -- the replay so far, and then that of the rest, is the replay of all
 pub record GoesOn (first core : CoreValue) (events : List Event) (at : ℕ) (seen : List Seen) : Type 0 where
@@ -161,9 +161,9 @@ goes_on first core core' events at event seen seen' s l e answer is_core is_seen
           (said (tells_all calls seen) (g.told calls shown)));
       online = ap (λ (c : CoreValue). c.online) is_core ∙ ((turn_same core event).0 ∙ g.online);
       idle = λ calls shown j off. rw (is_seen, tells_all-append calls seen s)
-          (turn_keeps core whole j (rw g.online off) event s answer (tells_all calls seen) (g.told calls shown) ∙ g.idle calls shown j off);
+          ((turn_keeps core whole j (rw g.online off) event s answer).0 (tells_all calls seen) (g.told calls shown) ∙ g.idle calls shown j off);
       idle_stops = λ p j off none. rw (is_seen, tells_stops-append (setup_in first) p seen answers s answered g.paired, ← g.setup)
-          (turn_keeps_stops core whole j (rw g.online off) event s answer (tells_stops (setup_in core) p seen answers)
+          ((turn_keeps core whole j (rw g.online off) event s answer).1 (tells_stops (setup_in core) p seen answers)
           (rw (← g.setup) at (g.idle_stops p j off none)));
     }
 

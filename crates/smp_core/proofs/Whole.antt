@@ -1,7 +1,7 @@
 -- A core stays whole, by each step and by the beginning of each command.
 use Rattle.std.proofs.Common.{◌≡◌, ℕ, ◌<◌, true, Option, Some, None, List, refl, sym, subst, ◌∙◌}
 use Rattle.std.proofs.lemmas.List.{length-set}
-use Rattle.std.specs.Prelude.{MatchOption, slice_set}
+use Rattle.std.specs.Prelude.{IfSome, MatchOption, slice_set}
 use Rattle.smp_mask.specs.Mask.{has}
 use Rattle.smp_words.specs.Size.{cpus}
 use Rattle.smp_words.specs.Commands.{FitsCommand}
@@ -25,7 +25,7 @@ use Rattle.smp_stop_steps.specs.declared.stage.StopStage.{StopStage}
 use Rattle.smp_stop_steps.proofs.Promises.StopLaws.{keeps_laws}
 use Rattle.smp_stop_steps.proofs.TheMachine.Made.{made_sound, made_told}
 use Rattle.smp_stop_steps.proofs.TheMachine.Started.{started_sound}
-use Rattle.smp_core.specs.Machine.{Stepped, call_step, step_at, step_of, stepped, stop_step, stops_stepped}
+use Rattle.smp_core.specs.Machine.{Stepped, step_at, step_of, stepped, stops_stepped}
 use Rattle.smp_core.specs.Sound.{IsSound}
 use Rattle.smp_core.specs.Start.{refusal_of, started}
 use Rattle.smp_core.specs.Value.{CoreValue}
@@ -129,18 +129,15 @@ module _ (core : CoreValue) (cpu : ℕ) (w : IsWhole core) where
         record { at_stage = e; is_table = refl; is_controls = refl; is_seen = refl };
   }
 
-  at_whole : (a : Option Stage) (b : Option StopStage) (s : Stepped) → (control_of core.controls cpu).stage ≡ a →
-      (stop_control_of core.stops.controls cpu).stage ≡ b → step_at core cpu a b ≡ Some s → IsWhole s.core
-  at_whole (Some stage) b s here there made =
-      let same : call_step core cpu stage ≡ s = let e : Some (call_step core cpu stage) ≡ Some s = made in cc in
-      subst (λ (t : Stepped). IsWhole t.core) same (in_calls stage here)
-  at_whole None (Some stage) s here there made =
-      let same : stop_step core cpu stage ≡ s = let e : Some (stop_step core cpu stage) ≡ Some s = made in cc in
-      subst (λ (t : Stepped). IsWhole t.core) same (in_stops stage there)
-  at_whole None None s here there made = absurd (let bad : step_at core cpu None None ≡ Some s = made in cc)
+  at_whole : (a : Option Stage) (b : Option StopStage) → (control_of core.controls cpu).stage ≡ a → (stop_control_of core.stops.controls cpu).stage ≡ b →
+      IfSome (step_at core cpu a b) (λ s. IsWhole s.core)
+  at_whole (Some stage) b here there = in_calls stage here
+  at_whole None (Some stage) here there = in_stops stage there
+  at_whole None None here there = tt
 
   pub step_whole : (s : Stepped) → step_of core cpu ≡ Some s → IsWhole s.core
-  step_whole s made = at_whole (control_of core.controls cpu).stage (stop_control_of core.stops.controls cpu).stage s refl refl made
+  step_whole s made = subst (λ o. IfSome o (λ s. IsWhole s.core)) made
+      (at_whole (control_of core.controls cpu).stage (stop_control_of core.stops.controls cpu).stage refl refl)
 
   pub start_whole : (c : Command) → FitsCommand c → refusal_of core cpu c ≡ None → IsWhole (started core cpu c)
   start_whole c fits allowed =
