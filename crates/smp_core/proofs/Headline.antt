@@ -17,9 +17,9 @@ use Rattle.smp_core.specs.Machine.{setup_in}
 use Rattle.smp_core.specs.Value.{CoreValue}
 
 -- what holds of a value that came
-pub ok_then : {T E : Type 0} (r : Result T E) (P Q : T → Type 0) → ((x : T) → P x → Q x) → IfOk r P → IfOk r Q
-ok_then (Ok x) P Q f k = f x k
-ok_then (Err e) P Q f k = tt
+pub ok_then : {T E : Type 0} {P Q : T → Type 0} (r : Result T E) → IfOk r P → ((x : T) → P x → Q x) → IfOk r Q
+ok_then (Ok x) k f = f x k
+ok_then (Err e) k f = tt
 
 -- the laws of the stops that a replay tells
 pub laws_after : (first core : CoreValue) (events : List Event) (seen : List Seen) → StopShown (stops_after first events seen) core.stops

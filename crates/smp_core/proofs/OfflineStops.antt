@@ -12,7 +12,6 @@ use Rattle.smp_words.specs.Put.{put}
 use Rattle.smp_words.specs.Commands.{FitsCommand}
 use Rattle.smp_words.specs.declared.command.Command.{Command}
 use Rattle.smp_words.specs.declared.field.Field.{Field}
-use Rattle.smp_words.specs.declared.field.Field.TheVariants as field
 use Rattle.smp_words.specs.declared.seen.Act.TheVariants as act
 use Rattle.smp_words.specs.declared.seen.Note.{Note}
 use Rattle.smp_words.specs.declared.word.Word.TheVariants.{Gate, Slot}
@@ -22,7 +21,6 @@ use Rattle.smp_stop_steps.specs.Threads.Known.{holds_it}
 use Rattle.smp_stop_steps.specs.Labels.{Change, Patching}
 use Rattle.smp_stop_steps.specs.Machine.{IsSoundHalf, StopTold, stop_found_at, stop_seen_at, stop_stepped}
 use Rattle.smp_stop_steps.specs.Shows.{gate_word}
-use Rattle.smp_stop_steps.specs.Slots.{begun_value}
 use Rattle.smp_stop_steps.specs.Sits.{SourceSits}
 use Rattle.smp_stop_steps.specs.Sources.{SourceShows}
 use Rattle.smp_stop_steps.specs.Stages.{StopControlValue, answer_at, stop_access, stop_goes, stop_outcome, stop_outside, store_of}
@@ -36,15 +34,14 @@ use Rattle.smp_stop_steps.specs.Tells.{tells, unpatched, with_stop}
 use Rattle.smp_stop_steps.specs.Value.{StopShown, StopsValue, setup_of, stop_control_of}
 use Rattle.smp_stop_steps.specs.declared.known.Calling.{Calling}
 use Rattle.smp_stop_steps.specs.declared.known.Reading.{Reading}
-use Rattle.smp_stop_steps.specs.declared.known.Reading.TheVariants.{ReadKey as KeyRead, ReadSite as SiteRead}
+use Rattle.smp_stop_steps.specs.declared.known.Reading.TheVariants.{ReadKey as KeyRead}
 use Rattle.smp_stop_steps.specs.declared.known.Source.{Source}
 use Rattle.smp_stop_steps.specs.declared.known.Source.TheVariants.{Shut, Drafts, Owns, Collects}
 use Rattle.smp_words.specs.declared.phase.TheConstants.{DISABLE_IRQ, RUN, EXIT}
 use Rattle.smp_stop_steps.specs.declared.stage.CompletionStage.{CompletionStage}
 use Rattle.smp_stop_steps.specs.declared.stage.RoundStage.{RoundStage}
 use Rattle.smp_stop_steps.specs.declared.stage.StopStage.{StopStage}
-use Rattle.smp_stop_steps.specs.declared.stage.StopStage.TheVariants.{TakeGate, OpenGate, Begin, Enter, Advance, Complete}
-use Rattle.smp_stop_steps.specs.declared.stage.StopStage.TheVariants.{Close, LoadResult, ReadKey, ReadSite, NudgeKey, ExchangeKey}
+use Rattle.smp_stop_steps.specs.declared.stage.StopStage.TheVariants.{OpenGate, Advance, Complete}
 use Rattle.smp_stop_steps.specs.declared.stage.Visit.{Visit}
 use Rattle.smp_stop_steps.proofs.TheMachine.Begun.{begun_value_shown}
 use Rattle.smp_stop_steps.proofs.TheMachine.Starting.{may_begin}
@@ -152,20 +149,28 @@ module _ (u : Setup) (p : StopState) (me c : ℕ) (ne : c ≢ me) where
     gate_else h true = rw (ne_eqb me c (λ same. ne (sym same))) (ap (λ (x : StopPart). record x { holds = false }) h)
     gate_else h false = h
 
+    gate_opens : HasNone p → HasNone (After OpenGate)
+    gate_opens h = ap (λ (x : StopPart). record x { holds = false }) h
+
+    still_none : HasNone p → (stage : StopStage) → Same (After stage) → HasNone (After stage)
+    still_none h stage same = same ∙ h
+
     pub stage_else : HasNone p → (stage : StopStage) → HasNone (After stage)
-    stage_else h TakeGate = gate_else h (found == 0)
-    stage_else h OpenGate = ap (λ (x : StopPart). record x { holds = false }) h
-    stage_else h (Begin work f) = own_else (begun_value n work f) f (p.now.stop me).is_open ∙ h
-    stage_else h (Enter slot) = enters_else slot (has found me) ∙ h
-    stage_else h (Advance v stage) = round_else v stage ∙ h
-    stage_else h (Complete v stage) = completion_else v stage ∙ h
-    stage_else h (Close slot) = stored_else slot 1 field.Done (p.now.stop slot).is_open ∙ h
-    stage_else h LoadResult = let e : Same (After LoadResult) = rw off refl in e ∙ h
-    stage_else h (ReadKey k) = loads_else k found (p.now.inside me) ∙ h
-    stage_else h (ReadSite i) = reads_else (SiteRead i (is_on found)) ∙ h
-    stage_else h (NudgeKey k up) = loads_else k found (p.now.inside me) ∙ h
-    stage_else h (ExchangeKey k expected new) = nudges_else k found new (found == expected) ∙ h
-    stage_else h _ = h
+    stage_else h stage = search (
+      gate_else,
+      gate_opens,
+      still_none,
+      own_else,
+      enters_else,
+      round_else,
+      completion_else,
+      stored_else,
+      loads_else,
+      reads_else,
+      nudges_else,
+      off,
+      arith,
+    )
 
 -- a step, and the beginning of a command, of a CPU that is online
 
@@ -270,22 +275,7 @@ module _ (v : StopsValue) (h : AreStopsApart v) where
       (source_shut c none (nat_lt c cpus) refl) (h.shown.shows.sources c)
 
   pub has_no_stop : AreInNoStop v.online h.stops
-  has_no_stop c none = let e = h.idle c none in record {
-    gate = not_holder p.gate c (ap (λ (x : StopPart). x.holds) e);
-    inside = ap (λ (x : StopPart). x.inside) e;
-    standing = λ s. stands_outside s c none;
-    irq = ap (λ (x : StopPart). x.irq) e;
-    shut = own_shut c none;
-    begun = ap (λ (x : StopPart). x.begun) e;
-    collected = ap (λ (x : StopPart). x.collected) e;
-    answers = λ s. ap (λ (x : StopPart). x.answers s) e;
-    looks = ap (λ (x : StopPart). x.looks) e;
-    calls = ap (λ (x : StopPart). x.calls) e;
-    calling = ap (λ (x : StopPart). x.calling) e;
-    readings = ap (λ (x : StopPart). x.readings) e;
-    nudged = λ k. ap (λ (x : StopPart). x.nudged k) e;
-    patched = λ k. ap (λ (x : StopPart). x.patched k) e;
-  }
+  has_no_stop c none = let e = h.idle c none in search (e, not_holder, stands_outside, own_shut, arith)
 
   -- nor does the gate's word name it
   gate_other : (g : Option ℕ) (c n : ℕ) → g ≢ Some c → n ≡ gate_word g → n ≢ c + 1
