@@ -95,18 +95,12 @@ module _ (controls : List ControlValue) (cpu : ℕ) (sized : length controls ≡
 -- one CPU goes on in the stop half, outside a command of the call half
 stop_joined : (controls : List ControlValue) (stops : List StopControlValue) (cpu : ℕ) (c : StopControlValue) → (control_of controls cpu).stage ≡ None →
     AreJoined controls stops → AreJoined controls (slice_set stops cpu c)
-stop_joined controls stops cpu c none j = record { handles = λ k. handles_at k (cases_eq k cpu); in_one = λ k. in_one_at k (cases_eq k cpu) }
+stop_joined controls stops cpu c none j = record { handles = λ k. (at k (cases_eq k cpu)).0; in_one = λ k. (at k (cases_eq k cpu)).1 }
   where
-    same : (k : ℕ) → k ≢ cpu → stop_control_of (slice_set stops cpu c) k ≡ stop_control_of stops k
-    same k ne = get_or-set_other stops cpu k c stop_outside ne
-
-    handles_at : (k : ℕ) → (k ≡ cpu) ⊎ (k ≢ cpu) → HandlesWithOn (control_of controls k).stage (stop_control_of (slice_set stops cpu c) k).interrupts
-    handles_at k (inl is) = rw (is, none) tt
-    handles_at k (inr ne) = rw (same k ne) (j.handles k)
-
-    in_one_at : (k : ℕ) → (k ≡ cpu) ⊎ (k ≢ cpu) → IsInOneHalf controls (slice_set stops cpu c) k
-    in_one_at k (inl is) = inl (rw is none)
-    in_one_at k (inr ne) = rw (same k ne) (j.in_one k)
+    at : (k : ℕ) → (k ≡ cpu) ⊎ (k ≢ cpu) → HandlesWithOn (control_of controls k).stage (stop_control_of (slice_set stops cpu c) k).interrupts
+        × IsInOneHalf controls (slice_set stops cpu c) k
+    at k (inl is) = rw (is, none) (tt, inl refl)
+    at k (inr ne) = rw (get_or-set_other stops cpu k c stop_outside ne) (j.handles k, j.in_one k)
 
 -- a step of the stop half
 pub joined_stop_stepped : (controls : List ControlValue) (stops : List StopControlValue) (cpu : ℕ) (stage : StopStage) (c : StopControlValue) →

@@ -1,6 +1,6 @@
 -- CPUs that are not online stay as they are, by each step and by the beginning of each command.
 use Rattle.std.proofs.Common.{◌≡◌, ◌≢◌, ◌⊎◌, ℕ, ◌<◌, Bool, true, false, cond, Option, Some, None}
-use Rattle.std.proofs.Common.{List, [], ◌∷◌, length, replicate, get_or, refl, sym, ap}
+use Rattle.std.proofs.Common.{List, [], length, replicate, get_or, refl, sym, ap}
 use Rattle.std.proofs.Common.{◌∙◌, subst, inl, inr, true≢false, arith}
 use Rattle.std.proofs.lemmas.Bool.{true_from_ne_false}
 use Rattle.std.specs.Prelude.{slice_set}
@@ -12,7 +12,6 @@ use Rattle.smp_words.specs.Size.{cpus, table_size}
 use Rattle.smp_words.specs.declared.access.Access.{Access}
 use Rattle.smp_words.specs.declared.access.Access.TheVariants.{Load}
 use Rattle.smp_words.specs.declared.command.Command.{Command}
-use Rattle.smp_words.specs.declared.command.Command.TheVariants as command
 use Rattle.smp_words.specs.declared.call.Call.{Call}
 use Rattle.smp_words.specs.declared.seen.Note.TheVariants as note
 use Rattle.smp_words.specs.declared.word.Word.{Word}
@@ -58,9 +57,7 @@ module _ (online : ℕ) where
   after_step d stage found h = search (free_or_not, aims_if, arith)
 
   after_start : (nr cpu : ℕ) (c : Command) → command_refusal nr online cpu c ≡ None → AimsOnline online (first_stage online cpu c)
-  after_start nr cpu (command.Post k to class func info tries) e = λ h. h
-  after_start nr cpu (command.Send to) e = (else_none (has online to) _ _ e).0
-  after_start nr cpu _ e = tt
+  after_start nr cpu c e = search (else_none, arith)
 
   -- an access of such a CPU leaves the head and the interrupt word of a CPU that is not online
 
@@ -164,12 +161,10 @@ module _ (online : ℕ) where
       at_first cpu = rw f (get_or-same outside cpus cpu)
 
 not_pending : (b : Bool) → 0 ≡ bit b → b ≡ false
-not_pending true e = absurd (omega arith)
-not_pending false e = refl
+not_pending b e = search arith
 
 empty_is : (calls : List Call) → IsEmpty calls → calls ≡ []
-empty_is [] e = refl
-empty_is (call ∷ rest) e = absurd e
+empty_is calls e = search arith
 
 -- in no calls nothing is done
 none_idle : (cpu : ℕ) → HasDoneNothing no_calls cpu

@@ -1,5 +1,5 @@
 -- CPUs that are not online have no part in the stops: a step and the beginning of a command keep it.
-use Rattle.std.proofs.Common.{◌≡◌, ◌≢◌, ℕ, ◌+◌, ◌<◌, nat_lt, Bool, true, false, ◌==◌, ◌&&◌, not, cond, Option, Some, None, List, [], ◌∷◌, ◌++◌, replicate, refl}
+use Rattle.std.proofs.Common.{◌≡◌, ◌≢◌, ℕ, ◌+◌, ◌<◌, nat_lt, Bool, true, false, ◌==◌, ◌&&◌, cond, Option, Some, None, List, [], ◌∷◌, ◌++◌, replicate, refl}
 use Rattle.std.proofs.Common.{sym, subst, ap, ◌∙◌, true≢false, ne_eqb, eq-eqb, arith}
 use Rattle.std.proofs.lemmas.Bool.{ltb-true, ltb-false, true_from_ne_false}
 use Rattle.std.proofs.lemmas.List.{get_or-set_other}
@@ -26,18 +26,18 @@ use Rattle.smp_stop_steps.specs.Sources.{SourceShows}
 use Rattle.smp_stop_steps.specs.Stages.{StopControlValue, answer_at, stop_access, stop_goes, stop_outcome, stop_outside, store_of}
 use Rattle.smp_stop_steps.specs.Start.{stop_begun_if, stop_first, stop_refusal, stop_started}
 use Rattle.smp_stop_steps.specs.State.{Setup, StopState, no_stops}
-use Rattle.smp_stop_steps.specs.Stop.{Standing, Outside, Inside, Stop, acknowledged, is_called, is_of, stands}
+use Rattle.smp_stop_steps.specs.Stop.{Standing, Outside, Stop, is_called, is_of, stands}
 use Rattle.smp_stop_steps.specs.Table.{stop_number}
-use Rattle.smp_stop_steps.specs.Tells.{acknowledges, called_more, calls_now, carried, completes, drafts, enters, gate_told, is_at_run, is_patch, key_loaded}
-use Rattle.smp_stop_steps.specs.Tells.{key_patched, key_told, leaves, looked_by, looks, patch_begun, reads, stored_open, stored_shut}
-use Rattle.smp_stop_steps.specs.Tells.{tells, unpatched, with_stop}
+use Rattle.smp_stop_steps.specs.Tells.{acknowledges, called_more, calls_now, completes, drafts, enters, gate_told, key_loaded}
+use Rattle.smp_stop_steps.specs.Tells.{key_patched, key_told, leaves, looked_by, looks, reads, stored_open, stored_shut}
+use Rattle.smp_stop_steps.specs.Tells.{tells, with_stop}
 use Rattle.smp_stop_steps.specs.Value.{StopShown, StopsValue, setup_of, stop_control_of}
 use Rattle.smp_stop_steps.specs.declared.known.Calling.{Calling}
 use Rattle.smp_stop_steps.specs.declared.known.Reading.{Reading}
 use Rattle.smp_stop_steps.specs.declared.known.Reading.TheVariants.{ReadKey as KeyRead}
 use Rattle.smp_stop_steps.specs.declared.known.Source.{Source}
 use Rattle.smp_stop_steps.specs.declared.known.Source.TheVariants.{Shut, Drafts, Owns, Collects}
-use Rattle.smp_words.specs.declared.phase.TheConstants.{DISABLE_IRQ, RUN, EXIT}
+use Rattle.smp_words.specs.declared.phase.TheConstants.{DISABLE_IRQ}
 use Rattle.smp_stop_steps.specs.declared.stage.CompletionStage.{CompletionStage}
 use Rattle.smp_stop_steps.specs.declared.stage.RoundStage.{RoundStage}
 use Rattle.smp_stop_steps.specs.declared.stage.StopStage.{StopStage}
@@ -100,9 +100,7 @@ module _ (u : Setup) (p : StopState) (me c : ℕ) (ne : c ≢ me) where
   acked_if s w stop y g left at_run = search (called_else, off, arith)
 
   acknowledges_else : (s n : ℕ) (x : Standing) → Same (acknowledges p me s x n)
-  acknowledges_else s n (Inside a l) = acked_if s (acknowledged (p.now.stop s) me l n).work (acknowledged (p.now.stop s) me l n)
-      (cond (l == RUN) (unpatched me p.now.patching) p.now.patching) (carried me p.now.patching (p.calling me)) (l == EXIT && not (n == 1)) (l == RUN)
-  acknowledges_else s n _ = refl
+  acknowledges_else s n x = search (acked_if, arith)
 
   completes_else : (s n : ℕ) (x : Standing) → Same (completes p me s x n)
   completes_else s n x = search (called_else, off, arith)
@@ -116,9 +114,7 @@ module _ (u : Setup) (p : StopState) (me c : ℕ) (ne : c ≢ me) where
   begins_else k n y b = search (reads_else, arith)
 
   loads_else : (k n : ℕ) (o : Option ℕ) → Same (record p { now = key_loaded u p.now me k n o })
-  loads_else k n None = reads_else (KeyRead k (is_on n))
-  loads_else k n (Some s) = begins_else k n (patch_begun u me (p.now.stop s).work n)
-      (is_at_run ((p.now.stop s).standing me) && is_patch (p.now.stop s).work.kind)
+  loads_else k n o = search (begins_else, reads_else, arith)
 
   patches_else : (k n : ℕ) (x y : Patching) → Same (record p { now = record (p.now) { patching = y }; patched = key_patched x p.patched me k n })
   patches_else k n x y = search (off, arith)
@@ -237,8 +233,7 @@ not_holder : (g : Option ℕ) (c : ℕ) → holds_it g c ≡ false → g ≢ Som
 not_holder g c e is = true≢false (sym (eq-eqb c c refl) ∙ (ap (λ (o : Option ℕ). holds_it o c) (sym is) ∙ e))
 
 not_of : (x : Standing) → is_of x ≡ false → x ≡ Outside
-not_of Outside e = refl
-not_of _ e = absurd (true≢false e)
+not_of x e = search arith
 
 -- the stop of a source that is open is of CPUs that are online
 of_online : (u : Setup) (gate : Option ℕ) (stop : Stop) (word : Field → ℕ) (s : ℕ) (y : Source) → SourceShows u gate stop word s y → stop.is_open ≡ true →

@@ -63,13 +63,11 @@ answer_list (Some seen) answer = answer ∷ []
 
 answers_more : (s : Option Seen) (answer : ℕ) (rest : List ℕ) → answer_list s answer ++ rest ≡ answers_on (Ok s) answer rest
 unfolding answer_list
-answers_more None answer rest = refl
-answers_more (Some seen) answer rest = refl
+answers_more s answer rest = search arith
 
 answers_once : (s : Option Seen) (answer : ℕ) → length (answer_list s answer) ≡ length (seen_list s)
 unfolding answer_list
-answers_once None answer = refl
-answers_once (Some seen) answer = refl
+answers_once s answer = search arith
 
 tells_stops-append : (u : Setup) (p : StopState) (xs : List Seen) (answers : List ℕ) (s : Option Seen) (answer : ℕ) → length answers ≡ length xs →
     tells_stops u p (xs ++ seen_list s) (answers ++ answer_list s answer) ≡ stops_if u (tells_stops u p xs answers) s answer

@@ -1,5 +1,5 @@
 -- A command that may start may start in both halves.
-use Rattle.std.proofs.Common.{◌≡◌, ℕ, ◌<◌, true, Option, Some, None, length, refl}
+use Rattle.std.proofs.Common.{◌≡◌, ℕ, ◌<◌, true, Option, Some, None, length, refl, arith}
 use Rattle.std.specs.Prelude.{slice_set}
 use Rattle.smp_mask.specs.Mask.{has}
 use Rattle.smp_mask.specs.declared.error.SmpError.{SmpError}
@@ -19,12 +19,10 @@ use Rattle.smp_words.specs.declared.command.Command.{Command}
 use Rattle.smp_call_steps.proofs.Machine.Starts.{else_none, online_below, begun_shows}
 
 not_busy : {A : Type 0} (stage : Option A) (r : Option SmpError) → busy_or stage r ≡ None → (stage ≡ None) × (r ≡ None)
-not_busy None r e = (refl, e)
-not_busy (Some stage) r e = cc
+not_busy stage r e = search arith
 
 neither : (x y : Option SmpError) → or_else x y ≡ None → (x ≡ None) × (y ≡ None)
-neither None y e = (refl, e)
-neither (Some x) y e = cc
+neither x y e = search arith
 
 -- what a command that may start knows
 pub record MayStart (core : CoreValue) (cpu : ℕ) (c : Command) : Type 0 where
