@@ -1,13 +1,11 @@
 -- Lemmas on the label law.
-use Rattle.std.proofs.Common.{◌≡◌, ℕ, zero, suc, ◌+◌, ◌-◌, ◌*◌, ◌/◌, ◌%◌, ◌==◌, ◌<◌, Bool, true, false, Option, None, Some, cond, IfSome, inl, inr, refl, sym}
-use Rattle.std.proofs.Common.{ap, ◌∙◌, ne_eqb, add-one, arith}
+use Rattle.std.proofs.Common.{◌≡◌, ℕ, zero, suc, ◌+◌, ◌-◌, ◌*◌, ◌/◌, ◌%◌, ◌==◌, ◌<◌, Bool, true, false, Option, None, Some, cond, inl, inr, refl}
+use Rattle.std.proofs.Common.{ne_eqb, add-one, arith}
 use Rattle.std.proofs.lemmas.Bool.{cases_lt}
 use Rattle.smp_labels.specs.declared.entries.Entry.{Entry}
 use Rattle.smp_labels.specs.declared.words.TheConstants.{MOST_KEYS, MOST_SITES}
-use Rattle.smp_labels.specs.Keys.{is_on}
-use Rattle.smp_labels.specs.Kinds.{kind_of, kind_word}
 use Rattle.smp_labels.specs.Entries.{entry_word, entry_at}
-use Rattle.smp_labels.specs.Law.{Table, site_word, IsLawful}
+use Rattle.smp_labels.specs.Law.{Table, site_word}
 
 -- where no word follows a 0, none follows it further on
 pub packed_by_steps : (entry : ℕ → ℕ) (n : ℕ) → ((j : ℕ) → j + 1 < n → entry j ≡ 0 → entry (j + 1) ≡ 0) → (i j : ℕ) → i < j → j < n → entry i ≡ 0 → entry j ≡ 0

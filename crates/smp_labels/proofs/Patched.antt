@@ -1,8 +1,8 @@
 -- A plan leads from a lawful table to the lawful table with its key changed.
 use Rattle.std.proofs.Common.{◌≡◌, ◌≢◌, ℕ, zero, suc, ◌+◌, ◌-◌, ◌<◌, ◌==◌, nat_lt, eqb-true, ltb-true, Bool, true, false, not, cond, Option, None, Some, List}
-use Rattle.std.proofs.Common.{[], ◌∷◌, ◌++◌, get_or, inl, inr, refl, sym, ap, subst, ◌∙◌, ne_eqb, eq-eqb, arith}
+use Rattle.std.proofs.Common.{[], ◌∷◌, ◌++◌, length, get_or, inl, inr, refl, sym, ap, subst, ◌∙◌, ne_eqb, eq-eqb, arith}
 use Rattle.std.proofs.lemmas.Bool.{cases_eq, cases_lt}
-use Rattle.std.proofs.lemmas.List.{get_or_past}
+use Rattle.std.proofs.lemmas.List.{get_or_past, length-append}
 use Rattle.std.proofs.Math.Bool.{beq}
 use Rattle.smp_labels.specs.declared.entries.Entry.{Entry}
 use Rattle.smp_labels.specs.declared.patch.Place.{Place}
@@ -30,9 +30,6 @@ change_none : (key : ℕ) (on : Bool) (i : ℕ) (e : Option Entry) → is_of key
 change_none key on i None other = refl
 change_none key on i (Some e) other = rw other refl
 
-change_one : (key : ℕ) (on : Bool) (i : ℕ) (e : Entry) → e.key ≡ key → site_change key on i (Some e) ≡ (Site i, kind_word (kind_of on e.branch)) ∷ []
-change_one key on i e of = rw (eq-eqb e.key key of) refl
-
 -- the changes from site i on leave out the keys and the sites before
 changes_leave_key : (key : ℕ) (on : Bool) (i : ℕ) (entries : List ℕ) (k : ℕ) → LeaveOut (Key k) (site_changes key on i entries)
 changes_leave_key key on i [] k = tt
@@ -51,7 +48,6 @@ changes_leave_other : (key : ℕ) (on : Bool) (i : ℕ) (entries : List ℕ) (j 
     → LeaveOut (Site (i + j)) (site_changes key on i entries)
 changes_leave_other key on i [] j other = tt
 changes_leave_other key on i (word ∷ rest) zero other =
-    let here : i + 0 ≡ i = omega arith in
     rw (change_none key on i (entry_at word) other) (changes_leave_before key on (i + 1) rest (i + 0) (omega arith))
 changes_leave_other key on i (word ∷ rest) (suc j) other =
     let place : i + suc j ≡ i + 1 + j = omega arith in
@@ -81,7 +77,7 @@ changes_make : (key : ℕ) (on : Bool) (i : ℕ) (entries : List ℕ) (t : Table
 changes_make key on i [] t j e is of = cc
 changes_make key on i (word ∷ rest) t zero e is of =
     let here : i + 0 ≡ i = omega arith in
-    rw (here, is, change_one key on i e of)
+    rw (here, is, eq-eqb e.key key of)
     (place_kept (site_changes key on (i + 1) rest) (stored (Site i) (kind_word (kind_of on e.branch)) t) (Site i)
     (changes_leave_before key on (i + 1) rest i (omega arith)) ∙ put_same t.site i (kind_word (kind_of on e.branch)))
 changes_make key on i (word ∷ rest) t (suc j) e is of =
@@ -239,25 +235,19 @@ head_only key word sites out (change ∷ made) k n rest e =
     let tail : made ++ (Key k, n) ∷ rest ≡ sites = cc in
     absurd (in_middle made k n rest (subst (LeaveOut (Key k)) (sym tail) (out k)))
 
-none_inside : (made : List (Place × ℕ)) (change : Place × ℕ) (rest : List (Place × ℕ)) → made ++ change ∷ rest ≡ [] → ⊥
-none_inside [] change rest e = cc
-none_inside (x ∷ made) change rest e = cc
-
 pub plan_key_first : (key old new : ℕ) (entries : List ℕ) (made : List (Place × ℕ)) (k n : ℕ) (rest : List (Place × ℕ)) →
     plan_of key old new entries ≡ made ++ (Key k, n) ∷ rest → (made ≡ []) × (k ≡ key) × (n ≡ new)
 plan_key_first key old new entries made k n rest e = go (old == new) (xor (is_on old) (is_on new)) e
   where
     go : (a b : Bool) → cond a [] (cond b (patch_of key new entries) ((Key key, new) ∷ [])) ≡ made ++ (Key k, n) ∷ rest → (made ≡ []) × (k ≡ key) × (n ≡ new)
-    go true b e = absurd (none_inside made (Key k, n) rest (sym e))
+    go true b e = absurd (let long = ap length e ∙ length-append made ((Key k, n) ∷ rest) in omega (arith, long))
     go false true e = head_only key new (site_changes key (is_on new) 0 entries) (changes_leave_key key (is_on new) 0 entries) made k n rest (sym e)
     go false false e = head_only key new [] (λ _. tt) made k n rest (sym e)
 
 -- the plan, by its two tests
 pub plan_tests : (key old new : ℕ) (entries : List ℕ) (a : Bool) → (old == new) ≡ a → (b : Bool) → xor (is_on old) (is_on new) ≡ b →
     plan_of key old new entries ≡ cond a [] (cond b (patch_of key new entries) ((Key key, new) ∷ []))
-plan_tests key old new entries a e b x =
-    ap (λ a. cond a [] (cond (xor (is_on old) (is_on new)) (patch_of key new entries) ((Key key, new) ∷ []))) e
-    ∙ ap (λ b. cond a [] (cond b (patch_of key new entries) ((Key key, new) ∷ []))) x
+plan_tests key old new entries a e b x = rw (e, x) refl
 
 xor_beq : (a b c : Bool) → beq b a ≡ c → xor a b ≡ not c
 xor_beq true true c e = ap not e

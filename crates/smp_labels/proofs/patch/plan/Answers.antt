@@ -4,10 +4,10 @@ use Rattle.smp_labels.specs.declared.keys.Change.{Change}
 use Rattle.smp_labels.specs.declared.patch.Place.{Place}
 use Rattle.smp_labels.specs.declared.patch.Place.TheVariants.{Key}
 use Rattle.smp_labels.specs.declared.words.LabelWords.{LabelWords}
-use Rattle.smp_labels.specs.Keys.{is_on, IsKeyWord, count_or, count_after, count_left}
+use Rattle.smp_labels.specs.Keys.{IsKeyWord, count_or, count_after, count_left}
 use Rattle.smp_labels.specs.Law.{IsLawful}
 use Rattle.smp_labels.specs.Words.{table_of}
-use Rattle.smp_labels.specs.Plans.{applied, plan_of, site_changes, AreEntriesOf, SetsKey, StandsPartWay}
+use Rattle.smp_labels.specs.Plans.{applied, plan_of, AreEntriesOf, SetsKey, StandsPartWay}
 use Rattle.smp_labels.proofs.Patched.{plan_same, plan_counts, plan_patches, plan_leads, plan_part_way, left_in_form}
 use Rattle.smp_labels.proofs.patch.plan.Goals as goal
 use Rattle.smp_labels.proofs.patch.plan.Goals.{After-loop-site}
@@ -39,11 +39,9 @@ changes c =
     let old = slice_index words.keys c.args.key in
     let new = c.in-Some.new in
     let left = left_is c.args.change old new c.count_after.result c.count_after.ensures c.in-Some.is in
-    let none_left : c.loop-site.plan.items ≡ c.loop-site.plan.items ++ site_changes c.args.key (is_on new) c.loop-site.site [] =
-    sym (append-nil c.loop-site.plan.items) in
     let done = rw (drop_all c.loop-site.site words.entries (omega arith)) at c.loop-site.invariant.left in
     subst (λ n. c.loop-site.plan.items ≡ plan_of c.args.key old n words.entries) left
-    (none_left ∙ (done ∙ sym (plan_patches c.args.key old new words.entries (ne_eqb old new c.if-old-new.false)
+    (sym (append-nil c.loop-site.plan.items) ∙ (done ∙ sym (plan_patches c.args.key old new words.entries (ne_eqb old new c.if-old-new.false)
     (rw (c.is_on.ensures, c.is_on-2.ensures) at c.if-is_on.false))))
 
 pub returns-then-old-new-clause-part_way : goal.returns-then-old-new-clause-part_way
@@ -70,12 +68,10 @@ returns-then-is_on-clause-part_way c =
 
 pub returns-clause-leads : goal.returns-clause-leads
 returns-clause-leads c =
-    let words = c.args.words.now in
-    leads words c.args.key c.args.change c.requires (c.requires.keys c.args.key (omega arith)) record
+    leads c.args.words.now c.args.key c.args.change c.requires (c.requires.keys c.args.key (omega arith)) record
     { few = omega arith; read = λ i _. refl } c.loop-site.plan.items (changes c)
 
 pub returns-clause-part_way : goal.returns-clause-part_way
 returns-clause-part_way c =
-    let words = c.args.words.now in
-    part_way words c.args.key c.args.change c.requires (c.requires.keys c.args.key (omega arith)) record
+    part_way c.args.words.now c.args.key c.args.change c.requires (c.requires.keys c.args.key (omega arith)) record
     { few = omega arith; read = λ i _. refl } c.loop-site.plan.items (changes c)
