@@ -1,5 +1,5 @@
 -- A call to many handles nothing before its last interrupt, where all its records are seen confirmed.
-use Rattle.std.proofs.Common.{◌≡◌, ℕ, ◌<◌, ◌==◌, not, Bool, true, false, cond, List, [], ◌∷◌, ◌||◌, refl, sym, ap, ◌∙◌}
+use Rattle.std.proofs.Common.{arith, ◌≡◌, ℕ, ◌<◌, ◌==◌, not, Bool, true, false, cond, List, [], ◌∷◌, ◌||◌, refl, sym, ap, ◌∙◌}
 use Rattle.std.proofs.lemmas.Bool.{ne_eqb, eq-eqb}
 use Rattle.smp_mask.specs.Mask.{has, members}
 use Rattle.smp_mask.specs.declared.mask.TheConstants.{NR_CPUS}
@@ -15,8 +15,8 @@ use Rattle.smp_calls.specs.Records.{many_call, many_record}
 use Rattle.smp_calls.specs.Rounds.{only_if, Queues, Sends}
 use Rattle.smp_calls.proofs.Lawful.{small_many, are_apart}
 use Rattle.smp_calls.proofs.Lists.{next_gone}
-use Rattle.smp_calls.proofs.Loops.{both_true}
-use Rattle.smp_calls.proofs.Polling.{differ, is_no}
+use Rattle.smp_calls.proofs.Loops.{both_true, not_true}
+use Rattle.smp_calls.proofs.Polling.{differ}
 
 -- where the records of all others were seen confirmed, a CPU has handled nothing yet, and those of the CPUs left are so still
 pub record Quiet {H : Type 0} (old : CpuValue) (before : H) (now : CpuValue) (here : H) (others left : ℕ) : Type 0 where
@@ -27,28 +27,16 @@ pub none_handled : (c : CpuValue) → HandlesNone c c
 none_handled c = record { asked_is = refl; taken_is = refl; ran_is = refl }
 
 none_then : (old mid new : CpuValue) → HandlesNone old mid → HandlesNone mid new → HandlesNone old new
-none_then old mid new f g = record { asked_is = g.asked_is ∙ f.asked_is; taken_is = g.taken_is ∙ f.taken_is; ran_is = g.ran_is ∙ f.ran_is }
+none_then old mid new f g = search arith
 
 -- no interrupt that is sent handles anything
 pub none_sent : (old mid new : CpuValue) (xs : List ℕ) → HandlesNone old mid → Sends mid new xs → HandlesNone old new
-none_sent old mid new xs n s = record {
-  asked_is = ap (λ (c : CpuValue). c.part.asked) s.others_are ∙ n.asked_is;
-  taken_is = ap (λ (c : CpuValue). c.part.taken) s.others_are ∙ n.taken_is;
-  ran_is = ap (λ (c : CpuValue). c.part.ran) s.others_are ∙ n.ran_is;
-}
+none_sent old mid new xs n s = search arith
 
 -- the wait for a record that is seen confirmed is one look, and the post after it handles nothing
 pub queued_at_once : {H : Type 0} (old mid new : CpuValue) (before m : H) (k to : ℕ) (class : Class) (func info : ℕ) (first : Bool) (found : Found)
     → Awaits k old before mid m → new ≡ posts k to class func info first found mid → confirmed_at old k ≡ true → HandlesNone old new × (m ≡ before)
-queued_at_once old mid new before m k to class func info first found w e confirmed =
-    let looked = w.at_once confirmed in (
-      record {
-        asked_is = ap (λ (c : CpuValue). c.part.asked) e ∙ ap (λ (c : CpuValue). c.part.asked) looked.0;
-        taken_is = ap (λ (c : CpuValue). c.part.taken) e ∙ ap (λ (c : CpuValue). c.part.taken) looked.0;
-        ran_is = ap (λ (c : CpuValue). c.part.ran) e ∙ ap (λ (c : CpuValue). c.part.ran) looked.0;
-      },
-      looked.1,
-    )
+queued_at_once old mid new before m k to class func info first found w e confirmed = search (w.at_once confirmed, arith)
 
 -- no call for this CPU is by this record
 pub last_none : (of : ℕ → ℕ) (id k : ℕ) (b : Bool) → (b ≡ true → id ≡ of k → ⊥) → is_by of id (cond b (k ∷ []) []) ≡ false
@@ -83,6 +71,6 @@ module _ {H : Type 0} (leads : H → Heard → H → Type 0) where
         let now = at_once (q.confirmed all cpu below here) in (none_then old mid new was.0 now.0, now.1 ∙ was.1);
     confirmed = λ all c l h.
         let both = both_true (has left c) (not (c == cpu)) (sym (next_gone left next cpu c step l) ∙ h) in
-        let another : c ≡ cpu → ⊥ = λ e. differ (c == cpu) (eq-eqb c cpu e) (is_no (c == cpu) both.1) in
+        let another : c ≡ cpu → ⊥ = λ e. differ (c == cpu) (eq-eqb c cpu e) (not_true (c == cpu) both.1) in
         others_kept class func info cpu c asked queued to queues below l another ∙ q.confirmed all c l both.0;
   }

@@ -24,10 +24,11 @@ use Rattle.smp_calls.specs.Records.{many_call, many_record}
 use Rattle.smp_calls.specs.Turns.{TakesApart}
 use Rattle.smp_calls.specs.Within.{IsNoneOf, WaitsWithin, CallsWithin}
 use Rattle.smp_calls.proofs.AtOnce.{last_none}
+use Rattle.smp_calls.proofs.Counted.{last_of_some}
 use Rattle.smp_calls.proofs.Ended.{all_sent}
 use Rattle.smp_calls.proofs.Lawful.{small_many, are_apart}
 use Rattle.smp_calls.proofs.Lists.{none_left}
-use Rattle.smp_calls.proofs.Loops.{both_true}
+use Rattle.smp_calls.proofs.Loops.{both_true, not_true}
 use Rattle.smp_calls.proofs.Polling.{differ}
 use Rattle.smp_calls.proofs.Round.{is_by-append}
 use Rattle.smp_calls.proofs.Takes.{takes_then}
@@ -37,9 +38,7 @@ use Rattle.smp_calls.proofs.Steps.{leaves_as, leaves_then, leaves_last}
 none_by : (of : ℕ → ℕ) (id m n : ℕ) → ((c : ℕ) → has m c ≡ true → id ≡ of c → ⊥) → is_by of id (members_below m n) ≡ false
 unfolding members_below
 none_by of id m zero none = refl
-none_by of id m (suc n) none =
-    is_by-append of id (members_below m n) (cond (has m n) (n ∷ []) []) ∙
-    (ap (λ b. b || is_by of id (cond (has m n) (n ∷ []) [])) (none_by of id m n none) ∙ last_none of id n (has m n) (none n))
+none_by of id m (suc n) none = search (is_by-append, last_none, none_by of id m n none, arith)
 
 -- what holds of all members holds of each
 at_member : (P : ℕ → Type 0) (m c n : ℕ) → c < n → has m c ≡ true → AllByRecursion P (members_below m n) → P c
@@ -54,25 +53,12 @@ at_member P m c (suc n) l h all = elim (cases_eq n c) [
   | inr other ↦ at_member P m c n (omega arith) h (every_left P (members_below m n) (cond (has m n) (n ∷ []) []) all)
 ]
 
--- where a call was queued for one CPU at least, the CPU's last step was a call or an interrupt
-last_of_some : (old new : CpuValue) (xs : List ℕ) → (xs ≡ [] → ⊥) → IsLast old new xs → (new.steps ≡ new.sent_at) × (length new.part.asked ≡ new.asked_at)
-last_of_some old new [] some last = absurd (some refl)
-last_of_some old new (x ∷ xs) some last = last
-
 -- the records that are confirmed once calls were queued
 cond_false : (b x : Bool) → x ≡ false → cond b false x ≡ false
-cond_false true x e = refl
-cond_false false x e = e
-
-and_not : (a b : Bool) → (a && not b) ≡ true → b ≡ false
-and_not true true e = cc
-and_not true false e = refl
-and_not false b e = cc
+cond_false b x e = search (cases_Bool, arith)
 
 and_all : (a b : Bool) → (a && not b) ≡ false → a ≡ true → b ≡ true
-and_all true true e h = refl
-and_all true false e h = cc
-and_all false b e h = cc
+and_all a b e h = search (cases_Bool, arith)
 
 -- a CPU has a call's answer that it has sent by a record which it sees confirmed
 answered : (old new : CpuValue) (func info : ℕ) (queued : List Queued) (mask c : ℕ) → new.number ≡ old.number
@@ -96,9 +82,7 @@ module _ {H : Type 0} (leads : H → Heard → H → Type 0) where
   -- a CPU's takes of its interrupt word are not undone
   asked_more : {old new : CpuValue} {before after : H} {s : List Sending} {x : List Logged} {o d : ℕ → Bool} → Leaves leads old before new after s x o d
       → length old.part.asked ≤ length new.part.asked
-  asked_more {old} {new} l =
-      let e = ap (λ (bs : List Bool). length bs) l.handled.asked_is ∙ length-append old.part.asked (looks l.handled.turns) in
-      omega arith
+  asked_more {old} {new} l = search (length-append, arith)
 
   -- the same queueing, by the number that the CPU had before
   by_number : {mid new : CpuValue} {m after : H} (n func info : ℕ) (queued : List Queued) → mid.number ≡ n
@@ -122,7 +106,8 @@ module _ {H : Type 0} (leads : H → Heard → H → Type 0) where
       let is_target : (c : ℕ) → targets c ≡ true → has others c ≡ true = λ c t. are c ∙ t in
       let free_other : (c : ℕ) → has free c ≡ true → has others c ≡ true =
       λ c f. (both_true (has others c) (not (has busy c)) (sym (a.parted c) ∙ f)).0 in
-      let free_idle : (c : ℕ) → has free c ≡ true → has busy c ≡ false = λ c f. and_not (has others c) (has busy c) (sym (a.parted c) ∙ f) in
+      let free_idle : (c : ℕ) → has free c ≡ true → has busy c ≡ false =
+      λ c f. not_true (has busy c) (both_true (has others c) (not (has busy c)) (sym (a.parted c) ∙ f)).1 in
       let not_idle : (c : ℕ) → has busy c ≡ true → has free c ≡ true → ⊥ = λ c y f. differ (has busy c) y (free_idle c f) in
       let whole =
       leaves_as leads (λ c. owes_at old c && not (is_first_to c queued)) (confirmed_at new)
@@ -148,10 +133,7 @@ module _ {H : Type 0} (leads : H → Heard → H → Type 0) where
         to = q.1;
         leaves = whole;
         among = λ c f. sym (are c) ∙ free_other c f;
-        silent_among = λ c s. elim (cases_Bool (has busy c)) [
-          | inl y ↦ sym (are c) ∙ a.among c y
-          | inr n ↦ sym (are c) ∙ free_other c (b.among c (sym (either c ∙ ap (λ x. x || has late c) n) ∙ s))
-        ];
+        silent_among = search (cases_Bool, a.among, b.among, free_other, arith);
         not_called = λ c t out. either c ∙ ap (λ x. x || has late c) (and_all (has others c) (has busy c) (sym (a.parted c) ∙ out) (is_target c t));
         confirmed_are = λ c t.
             let small = small_many c (low c (is_target c t)) in
@@ -169,41 +151,21 @@ module _ {H : Type 0} (leads : H → Heard → H → Type 0) where
             let none_free : IsNoneOf k (has free) = λ c f. none c (sym (are c) ∙ free_other c f) in
             b.others k s none_free ∙ (not_used k s none_free ∙ a.others k s (λ c o. none c (sym (are c) ∙ o)));
         apart = takes_then old mid new (takes_then old first mid a.apart takes) b.apart;
-        looked = λ c f.
-            let d = done c f in
-            let d0 = d.0 in
-            let d1 = d.1 in
-            let s0 = still.0 in
-            let s1 = still.1 in
-            record { turns = omega arith; most = omega arith };
+        looked = λ c f. let d = done c f in record {
+          turns = omega (arith, d.0, d.1, still.0, still.1);
+          most = omega (arith, d.0, d.1, still.0, still.1);
+        };
         polled = λ c f s.
-            let d1 = (done c f).1 in
-            let s1 = still.1 in
             let p = b.polled c (sym (either c ∙ ap (λ x. x || has late c) (free_idle c f)) ∙ s) in
-            omega arith;
+            omega (arith, (done c f).1, still.1);
         most = omega arith;
-        sent_within = λ c f.
-            let d1 = (done c f).1 in
-            let s1 = still.1 in
-            omega arith;
-        sent_at_once = λ c f all.
-            let d1 = (done c f).1 in
-            let s1 = still.1 in
-            let none = a.at_once (λ x o. all x (sym (are x) ∙ o)) in
-            omega arith;
-        none_called = λ out.
-            let none = b.at_once (λ x f. absurd (differ (has free x) f (out x))) in
-            omega arith;
-        no_target = λ out.
-            let none = a.at_once (λ x o. absurd (differ (targets x) (sym (are x) ∙ o) (out x))) in
-            let none_later = b.at_once (λ x f. absurd (differ (targets x) (sym (are x) ∙ free_other x f) (out x))) in
-            omega arith;
+        sent_within = λ c f. omega (arith, (done c f).1, still.1);
+        sent_at_once = λ c f all. omega (arith, (done c f).1, still.1, a.at_once (λ x o. all x (sym (are x) ∙ o)));
+        none_called = λ out. omega (arith, b.at_once (λ x f. absurd (differ (has free x) f (out x))));
+        no_target = λ out. omega (arith, a.at_once (λ x o. absurd (differ (targets x) (sym (are x) ∙ o) (out x))),
+            b.at_once (λ x f. absurd (differ (targets x) (sym (are x) ∙ free_other x f) (out x))));
         waited = λ c out s. elim (cases_Bool (has busy c)) [
-          | inl y ↦
-              let p = a.polled c y in
-              let more = asked_more made in
-              let most_more = asked_more b.leaves in
-              omega arith
+          | inl y ↦ omega (arith, a.polled c y, asked_more made, asked_more b.leaves)
           | inr n ↦ absurd (differ (has free c) (b.among c (sym (either c ∙ ap (λ x. x || has late c) n) ∙ s)) out)
         ];
         ended = λ c f s.

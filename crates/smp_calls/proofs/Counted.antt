@@ -26,10 +26,7 @@ pub looks_none : (c : CpuValue) → LooksFor c c 0
 looks_none c = record { turns = omega arith; tried_is = refl; apart = takes_none c c refl (omega arith) }
 
 looks_then : (old mid new : CpuValue) (a b : ℕ) → LooksFor old mid a → LooksFor mid new b → LooksFor old new (a + b)
-looks_then old mid new a b f g =
-    let t = f.turns in
-    let u = g.turns in
-    record { turns = omega arith; tried_is = g.tried_is ∙ f.tried_is; apart = takes_then old mid new f.apart g.apart }
+looks_then old mid new a b f g = search (takes_then, arith)
 
 -- a wait more
 pub looks_more : {H : Type 0} {k : ℕ} {m after : H} (old mid new : CpuValue) (cpu : ℕ) (xs : List ℕ) → LooksFor old mid (length xs)
@@ -38,45 +35,21 @@ looks_more old mid new cpu xs f a =
     subst (λ (n : ℕ). LooksFor old new n) (sym (length-append xs (cpu ∷ []))) (looks_then old mid new (length xs) 1 f (looks_once a))
 
 makes_looked : (old new : CpuValue) (n : ℕ) → LooksFor old new n → new.log ≡ old.log ++ [] → MakesMore old new n
-makes_looked old new n l e =
-    let t = l.turns in
-    let tried = l.tried_is in
-    let log : length new.log ≡ length old.log = ap (λ (xs : List Logged). length xs) (e ∙ append-nil old.log) in
-    record { steps_are = omega arith; apart = l.apart }
+makes_looked old new n l e = search (append-nil, arith)
 
 pub makes_none : (c : CpuValue) → MakesMore c c 0
 makes_none c = record { steps_are = omega arith; apart = takes_none c c refl (omega arith) }
 
 pub makes_then : (old mid new : CpuValue) (a b : ℕ) → MakesMore old mid a → MakesMore mid new b → MakesMore old new (a + b)
-makes_then old mid new a b f g =
-    let s = f.steps_are in
-    let t = g.steps_are in
-    record { steps_are = omega arith; apart = takes_then old mid new f.apart g.apart }
+makes_then old mid new a b f g = search (takes_then, arith)
 
 -- a post
 makes_posted : (k to : ℕ) (class : Class) (func info : ℕ) (first : Bool) (found : Found) (c d : CpuValue) → d ≡ posts k to class func info first found c
     → MakesMore c d 5
-makes_posted k to class func info first found c d e =
-    let steps : d.steps ≡ c.steps + (8 + 2 * times_lost found) = ap (λ (x : CpuValue). x.steps) e in
-    let tried : d.tried ≡ (c.tried + times_lost found) + 1 = ap (λ (x : CpuValue). x.tried) e in
-    let asked : length d.part.asked ≡ length c.part.asked = ap (λ (x : CpuValue). length x.part.asked) e in
-    let log : length d.log ≡ length c.log + 1 = ap (λ (x : CpuValue). length x.log) e ∙ length-append c.log (logged.Queued to ∷ []) in
-    record { steps_are = omega arith; apart = takes_none c d (ap (λ (x : CpuValue). x.asked_after) e) (omega arith) }
-
--- the wait for the record, and the post
-makes_queued : {H : Type 0} (leads : H → Heard → H → Type 0) {old mid new : CpuValue} {before m : H} {d : ℕ → Bool} (k to : ℕ) (class : Class)
-    (func info : ℕ) (first : Bool) (found : Found) → Leaves leads old before mid m [] [] (owes_at old) d → Awaits k old before mid m
-    → new ≡ posts k to class func info first found mid → MakesMore old new 6
-makes_queued leads {old} {mid} {new} k to class func info first found l a e =
-    makes_then old mid new 1 5 (makes_looked old mid 1 (looks_once a) l.log_is) (makes_posted k to class func info first found mid new e)
+makes_posted k to class func info first found c d e = search (takes_none, length-append, arith)
 
 makes_sent : (to : ℕ) (c d : CpuValue) → d ≡ sends to c → MakesMore c d 0
-makes_sent to c d e =
-    let steps : d.steps ≡ c.steps + 1 = ap (λ (x : CpuValue). x.steps) e in
-    let tried : d.tried ≡ c.tried = ap (λ (x : CpuValue). x.tried) e in
-    let asked : length d.part.asked ≡ length c.part.asked = ap (λ (x : CpuValue). length x.part.asked) e in
-    let log : length d.log ≡ length c.log + 1 = ap (λ (x : CpuValue). length x.log) e ∙ length-append c.log (logged.Interrupted to ∷ []) in
-    record { steps_are = omega arith; apart = takes_none c d (ap (λ (x : CpuValue). x.asked_after) e) (omega arith) }
+makes_sent to c d e = search (takes_none, length-append, arith)
 
 -- ---- a call to one CPU
 
@@ -95,11 +68,7 @@ done_one k to class func info true found c d e =
       steps_are = ap (λ (x : CpuValue). x.steps) e ∙ sym (ap (λ (x : CpuValue). x.sent_at) e);
       asked_are = ap (λ (x : CpuValue). length x.part.asked) e ∙ sym (ap (λ (x : CpuValue). x.asked_at) e);
     }
-done_one k to class func info false found c d e = record {
-  more = makes_posted k to class func info false found c d e;
-  steps_are = ap (λ (x : CpuValue). x.steps) e ∙ sym (ap (λ (x : CpuValue). x.sent_at) e);
-  asked_are = ap (λ (x : CpuValue). length x.part.asked) e ∙ sym (ap (λ (x : CpuValue). x.asked_at) e);
-}
+done_one k to class func info false found c d e = search (makes_posted k to class func info false found c d e, arith)
 
 module _ {H : Type 0} (leads : H → Heard → H → Type 0) where
   -- not waited for
@@ -110,9 +79,7 @@ module _ {H : Type 0} (leads : H → Heard → H → Type 0) where
   turns_left {old} {mid} {new} k to class func info wait w l a q =
       let sent = done_one k to class func info q.0 q.1 mid new q.2 in
       let all = makes_then old mid new 1 5 (makes_looked old mid 1 (looks_once a) l.log_is) sent.more in
-      let steps = sent.steps_are in
-      let asked = sent.asked_are in
-      subst (λ (b : Bool). HasTurns old new 1 b) (sym w) (record { all = all; since = λ some. omega arith })
+      subst (λ (b : Bool). HasTurns old new 1 b) (sym w) (record { all = all; since = λ some. omega (arith, sent.steps_are, sent.asked_are) })
 
   -- waited for
   pub turns_waited : {old mid sent new : CpuValue} {before m after : H} {d e : ℕ → Bool} (k to : ℕ) (class : Class) (func info : ℕ) (wait : Bool)
@@ -122,14 +89,11 @@ module _ {H : Type 0} (leads : H → Heard → H → Type 0) where
       HasTurns old new 1 wait
   turns_waited {old} {mid} {sent} {new} k to class func info wait w l a q r b =
       let done = done_one k to class func info q.0 q.1 mid sent q.2 in
+      let still = r.still refl in
       let all = makes_then old sent new 6 1 (makes_then old mid sent 1 5 (makes_looked old mid 1 (looks_once a) l.log_is) done.more)
       (makes_looked sent new 1 (looks_once b) r.log_is) in
-      let steps = done.steps_are in
-      let asked = done.asked_are in
-      let sent_at = (r.still refl).0 in
-      let asked_at = (r.still refl).1 in
-      let turns = b.turns in
-      subst (λ (x : Bool). HasTurns old new 1 x) (sym w) (record { all = all; since = λ some. omega arith })
+      subst (λ (x : Bool). HasTurns old new 1 x) (sym w)
+      (record { all = all; since = λ some. omega (arith, done.steps_are, done.asked_are, still.0, still.1, b.turns) })
 
 -- ---- calls to many
 
@@ -137,12 +101,8 @@ module _ {H : Type 0} (leads : H → Heard → H → Type 0) where
 pub makes_more : (old mid new : CpuValue) (xs ys : List Queued) (to : List ℕ) → destinations ys ≡ to → MakesMore old mid (6 * length (destinations xs))
     → MakesMore mid new (6 * length to) → MakesMore old new (6 * length (destinations (xs ++ ys)))
 makes_more old mid new xs ys to e f g =
-    let n : length (destinations (xs ++ ys)) ≡ length (destinations xs) + length to =
-    ap (λ (zs : List ℕ). length zs) (destinations-append xs ys) ∙ (length-append (destinations xs) (destinations ys)
-    ∙ ap (λ (zs : List ℕ). length (destinations xs) + length zs) e) in
-    let s = f.steps_are in
-    let t = g.steps_are in
-    record { steps_are = omega (arith, n); apart = takes_then old mid new f.apart g.apart }
+    let n = ap (λ (zs : List ℕ). length zs) (destinations-append xs ys) in
+    search (n, length-append, takes_then, arith)
 
 -- a call was queued for this CPU, where it was asked for
 pub makes_asked_not : (c : CpuValue) (to : ℕ) (asked : Bool) → asked ≡ false → MakesMore c c (6 * length (only_if asked to))
@@ -152,7 +112,8 @@ pub makes_asked : {H : Type 0} (leads : H → Heard → H → Type 0) {old mid n
     (func info : ℕ) (first : Bool) (found : Found) (asked : Bool) → asked ≡ true → Leaves leads old before mid m [] [] (owes_at old) d
     → Awaits k old before mid m → new ≡ posts k to class func info first found mid → MakesMore old new (6 * length (only_if asked to))
 makes_asked leads {old} {mid} {new} k to class func info first found asked is_asked l a e =
-    subst (λ b. MakesMore old new (6 * length (only_if b to))) (sym is_asked) (makes_queued leads k to class func info first found l a e)
+    subst (λ b. MakesMore old new (6 * length (only_if b to))) (sym is_asked)
+    (makes_then old mid new 1 5 (makes_looked old mid 1 (looks_once a) l.log_is) (makes_posted k to class func info first found mid new e))
 
 interrupts_to-length : (xs : List ℕ) → length (interrupts_to xs) ≡ length xs
 interrupts_to-length [] = refl
@@ -160,28 +121,16 @@ interrupts_to-length (x ∷ xs) = ap suc (interrupts_to-length xs)
 
 -- the interrupts
 pub makes_sends : (old mid new : CpuValue) (n : ℕ) (xs : List ℕ) → MakesMore old mid n → Sends mid new xs → MakesMore old new n
-makes_sends old mid new n xs f s =
-    let e = s.others_are in
-    let steps : new.steps ≡ mid.steps + length xs = ap (λ (x : CpuValue). x.steps) e in
-    let tried : new.tried ≡ mid.tried = ap (λ (x : CpuValue). x.tried) e in
-    let asked : length new.part.asked ≡ length mid.part.asked = ap (λ (x : CpuValue). length x.part.asked) e in
-    let log : length new.log ≡ length mid.log + length xs =
-    ap (λ (x : CpuValue). length x.log) e ∙ (length-append mid.log (interrupts_to xs)
-    ∙ ap (λ (n : ℕ). length mid.log + n) (interrupts_to-length xs)) in
-    let before = f.steps_are in
-    record {
-      steps_are = omega arith;
-      apart = takes_then old mid new f.apart (takes_none mid new (ap (λ (x : CpuValue). x.asked_after) e) (omega arith));
-    }
+makes_sends old mid new n xs f s = search (takes_then, takes_none, length-append, interrupts_to-length, arith)
 
 -- a direct call, if any, counts for nothing
 noted_same : {A : Type 0} (part : CpuValue → A) → ((c : CpuValue) → part (notes_call c) ≡ part c) → (c d : CpuValue) (here : Bool) (heard : Heard)
     → d ≡ noted_if (cond here (Some heard) None) c → part d ≡ part c
-noted_same part same c d true heard e = ap part e ∙ same c
+noted_same part same c d true heard e = search (same, arith)
 noted_same part same c d false heard e = ap part e
 
 -- where a call was queued, nothing was done since the last call or interrupt
-last_of_some : (old new : CpuValue) (xs : List ℕ) → length xs ≢ 0 → IsLast old new xs → (new.steps ≡ new.sent_at) × (length new.part.asked ≡ new.asked_at)
+pub last_of_some : (old new : CpuValue) (xs : List ℕ) → (xs ≡ [] → ⊥) → IsLast old new xs → (new.steps ≡ new.sent_at) × (length new.part.asked ≡ new.asked_at)
 last_of_some old new [] some last = absurd (some refl)
 last_of_some old new (x ∷ xs) some last = last
 
@@ -189,26 +138,5 @@ last_of_some old new (x ∷ xs) some last = last
 pub turns_many : (old queued mid new : CpuValue) (here wait : Bool) (heard : Heard) (to : List ℕ) → MakesMore old queued (6 * length to)
     → IsLast old queued to → mid ≡ noted_if (cond here (Some heard) None) queued → LooksFor mid new (cond wait (length to) 0)
     → new.log ≡ mid.log ++ [] → (new.sent_at ≡ mid.sent_at) × (new.asked_at ≡ mid.asked_at) → HasTurns old new (length to) wait
-turns_many old queued mid new here wait heard to f last n looks log still =
-    let waits = cond wait (length to) 0 in
-    let steps : mid.steps ≡ queued.steps = noted_same (λ c. c.steps) (λ _. refl) queued mid here heard n in
-    let asked : length mid.part.asked ≡ length queued.part.asked = noted_same (λ c. length c.part.asked) (λ _. refl) queued mid here heard n in
-    let same : counted mid ≡ counted queued = noted_same counted (λ _. refl) queued mid here heard n in
-    let taken : mid.asked_after ≡ queued.asked_after = noted_same (λ c. c.asked_after) (λ _. refl) queued mid here heard n in
-    let before = f.steps_are in
-    let first : MakesMore old mid (6 * length to) =
-    record { steps_are = omega arith; apart = takes_then old queued mid f.apart (takes_none queued mid taken (omega arith)) } in
-    let rest = makes_looked mid new waits looks log in
-    record {
-      all = makes_then old mid new (6 * length to) waits first rest;
-      since = λ some.
-          let done = last_of_some old queued to some last in
-          let d0 = done.0 in
-          let d1 = done.1 in
-          let sent_at : mid.sent_at ≡ queued.sent_at = noted_same (λ c. c.sent_at) (λ _. refl) queued mid here heard n in
-          let asked_at : mid.asked_at ≡ queued.asked_at = noted_same (λ c. c.asked_at) (λ _. refl) queued mid here heard n in
-          let s0 = still.0 in
-          let s1 = still.1 in
-          let t = looks.turns in
-          omega arith;
-    }
+turns_many old queued mid new true wait heard to f last n looks log still = search (last_of_some, makes_looked, takes_then, takes_none, append-nil, arith)
+turns_many old queued mid new false wait heard to f last n looks log still = search (last_of_some, makes_looked, takes_then, takes_none, append-nil, arith)

@@ -2,7 +2,7 @@
 use Rattle.std.proofs.Common.{◌≡◌, ℕ, zero, suc, ◌<◌, ◌≤◌, ◌||◌, Bool, true, false, cond, Option, Some, None, List, [], ◌∷◌, ◌++◌, get_or, sym, subst, refl}
 use Rattle.std.proofs.Common.{ap, ◌∙◌, arith}
 use Rattle.std.proofs.lemmas.List.{append-nil}
-use Rattle.std.proofs.lemmas.Bool.{eq-eqb}
+use Rattle.std.proofs.lemmas.Bool.{cases_Bool, eq-eqb}
 use Rattle.std.specs.List.{AllByRecursion}
 use Rattle.smp_words.specs.Size.{cpus, records_of_one, record_of}
 use Rattle.smp_words.specs.declared.call.Call.{Call}
@@ -21,8 +21,7 @@ use Rattle.smp_calls.specs.Records.{call_by, single_record, many_call, many_reco
 use Rattle.smp_calls.proofs.Lawful.{small_many}
 
 or_yes : (b : Bool) → (b || true) ≡ true
-or_yes true = refl
-or_yes false = refl
+or_yes b = search (cases_Bool, arith)
 
 -- each of the CPUs has one of the records
 all_by : (of : ℕ → ℕ) (xs : List ℕ) → AllByRecursion (λ x. is_by of (of x) xs ≡ true) xs

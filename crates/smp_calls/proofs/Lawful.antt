@@ -9,10 +9,6 @@ use Rattle.smp_words.specs.declared.call.Class.{Class}
 use Rattle.smp_queue.specs.Cpu.{CpuValue, misused}
 use Rattle.smp_calls.specs.Records.{many_record, user_record, AreApart}
 
--- a source has it
-pub has_many : (nr to : ℕ) → nr ≤ cpus → to < nr → has_record nr (many_record to) ≡ true
-has_many nr to within below = search (cases_lt, lt-ltb, le-ltb, arith)
-
 -- it is for calls of either class to this CPU
 fits_many : (nr to : ℕ) (class : Class) → to < nr → fits_record nr (many_record to) to class ≡ true
 fits_many nr to class below = search (cases_lt, lt-ltb, ne_eqb, eq-eqb, le-ltb, arith)
@@ -20,18 +16,13 @@ fits_many nr to class below = search (cases_lt, lt-ltb, ne_eqb, eq-eqb, le-ltb, 
 pub small_many : (to : ℕ) → to < cpus → many_record to < records_of_one
 small_many to below = search (cases_lt, lt-ltb, le-ltb, arith)
 
--- a post to another CPU by it is not refused for its arguments
-pub lawful_many : (nr : ℕ) (c : CpuValue) (to : ℕ) (class : Class) → nr ≤ cpus → to < nr → (to ≡ c.number → ⊥)
-    → misused nr c (many_record to) to class 1 ≡ false
-lawful_many nr c to class within below other = search (lt-ltb, small_many, ne_eqb, fits_many, arith)
-
--- the same of a CPU that is online
+-- a source has it, where the CPU is online, and a post to this CPU by it is not refused for its arguments
 pub has_online : (nr online to : ℕ) → AreLimits nr online → has online to ≡ true → has_record nr (many_record to) ≡ true
-has_online nr online to limits e = has_many nr to limits.within (limits.below to e)
+has_online nr online to limits e = search (cases_lt, lt-ltb, le-ltb, limits.below to e, arith)
 
 pub lawful_online : (nr online : ℕ) (c : CpuValue) (to : ℕ) (class : Class) → AreLimits nr online → has online to ≡ true → (to ≡ c.number → ⊥)
     → misused nr c (many_record to) to class 1 ≡ false
-lawful_online nr online c to class limits e other = lawful_many nr c to class limits.within (limits.below to e) other
+lawful_online nr online c to class limits e other = search (lt-ltb, small_many, ne_eqb, fits_many, limits.below to e, arith)
 
 -- the records for calls to many are no others', and one for each destination
 many_is : (to : ℕ) → ((to < 8) × (many_record to ≡ to + 2)) ⊎ ((8 ≤ to) × (many_record to ≡ to + 4))

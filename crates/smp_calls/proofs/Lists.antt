@@ -28,27 +28,7 @@ times-append c (x ∷ xs) ys = omega (arith, times-append c xs ys)
 times_member : (m c k : ℕ) → times c (members_below m k) ≡ cond (nat_lt c k && has m c) 1 0
 unfolding times members_below
 times_member m c zero = grind (arith, nat_tests)
-times_member m c (suc k) = elim (cases_Bool (has m k)) [
-  | inl member ↦
-      let split = times-append c (members_below m k) (k ∷ []) in
-      elim (cases_eq k c) [
-        | inl e ↦
-            let here : has m c ≡ true = subst (λ (x : ℕ). has m x ≡ true) e member in
-            let last : times c (k ∷ []) ≡ 1 = rw (eq-eqb k c e) refl in
-            rw member (split ∙ grind (arith, nat_tests, times_member m c k, here, last, e))
-        | inr n ↦
-            let last : times c (k ∷ []) ≡ 0 = rw (ne_eqb k c n) refl in
-            rw member (split ∙ grind (arith, nat_tests, times_member m c k, last, n))
-      ]
-  | inr other ↦
-      let split = times-append c (members_below m k) [] in
-      elim (cases_eq k c) [
-        | inl e ↦
-            let here : has m c ≡ false = subst (λ (x : ℕ). has m x ≡ false) e other in
-            rw other (split ∙ grind (arith, nat_tests, times_member m c k, here, e))
-        | inr n ↦ rw other (split ∙ grind (arith, nat_tests, times_member m c k, n))
-      ]
-]
+times_member m c (suc k) = search (cases_Bool, cases_eq, eq-eqb, ne_eqb, times-append, times_member m c k, nat_tests, arith)
 
 last : (member kept passes : Bool) (k : ℕ) (p : ℕ → Bool) → p k ≡ passes → kept ≡ (member && passes)
     → filter p (cond member (k ∷ []) []) ≡ cond kept (k ∷ []) []

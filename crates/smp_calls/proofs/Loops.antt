@@ -1,6 +1,6 @@
 -- The loops over many CPUs: what holds with some of them left.
 use Rattle.std.proofs.Common.{arith, ◌≡◌, ℕ, ◌<◌, ◌==◌, ◌&&◌, ◌*◌, not, Bool, true, false, List, [], ◌∷◌, ◌++◌, length, refl, sym, ap, ◌∙◌, subst}
-use Rattle.std.proofs.lemmas.Bool.{cases_eq, ne_eqb, eq-eqb}
+use Rattle.std.proofs.lemmas.Bool.{cases_eq, cases_Bool, ne_eqb, eq-eqb}
 use Rattle.std.proofs.lemmas.List.{append-nil}
 use Rattle.smp_mask.specs.Mask.{has, members}
 use Rattle.smp_mask.specs.declared.mask.TheConstants.{NR_CPUS}
@@ -29,30 +29,25 @@ pub record Asking {H : Type 0} (leads : H → Heard → H → Type 0) (old : Cpu
   pub answered : (c : ℕ) → c < NR_CPUS → has others c ≡ true → has left c ≡ false → says c (has called c)
 
 pub both_true : (a b : Bool) → (a && b) ≡ true → (a ≡ true) × (b ≡ true)
-both_true true b e = (refl, e)
-both_true false b e = cc
+both_true a b e = search (cases_Bool, arith)
 
-not_true : (b : Bool) → not b ≡ true → b ≡ false
-not_true true e = cc
-not_true false e = refl
+pub not_true : (b : Bool) → not b ≡ true → b ≡ false
+not_true b e = search (cases_Bool, arith)
 
 -- what is in a mask that was kept, or taken out of, was in it before
 pub kept_among : (keep : Bool) (m n cpu c : ℕ) → (keep ≡ true → n ≡ m) → (keep ≡ false → (x : ℕ) → has n x ≡ (has m x && not (x == cpu))) → has n c ≡ true
     → has m c ≡ true
-kept_among true m n cpu c kept out h = ap (λ (x : ℕ). has x c) (sym (kept refl)) ∙ h
-kept_among false m n cpu c kept out h = (both_true (has m c) (not (c == cpu)) (sym (out refl c) ∙ h)).0
+kept_among keep m n cpu c kept out h = search (cases_Bool, both_true, arith)
 
 -- another one stays as it was
 pub kept_else : (keep : Bool) (m n cpu c : ℕ) → (keep ≡ true → n ≡ m) → (keep ≡ false → (x : ℕ) → has n x ≡ (has m x && not (x == cpu))) → (c == cpu) ≡ false
     → has n c ≡ has m c
-kept_else true m n cpu c kept out h = ap (λ (x : ℕ). has x c) (kept refl)
-kept_else false m n cpu c kept out h = out refl c ∙ (ap (λ b. has m c && not b) h ∙ and_true (has m c))
+kept_else keep m n cpu c kept out h = search (cases_Bool, and_true, arith)
 
 -- this one stays where it is to be kept
 pub kept_here : (keep : Bool) (m n cpu : ℕ) → (keep ≡ true → n ≡ m) → (keep ≡ false → (x : ℕ) → has n x ≡ (has m x && not (x == cpu))) → has m cpu ≡ true
     → has n cpu ≡ keep
-kept_here true m n cpu kept out h = ap (λ (x : ℕ). has x cpu) (kept refl) ∙ h
-kept_here false m n cpu kept out h = out refl cpu ∙ (ap (λ b. has m cpu && not b) (eq-eqb cpu cpu refl) ∙ and_false (has m cpu))
+kept_here keep m n cpu kept out h = search (cases_Bool, eq-eqb, and_false, arith)
 
 module _ {H : Type 0} (leads : H → Heard → H → Type 0) where
   pub asking_start : (c : CpuValue) (h : H) (says : ℕ → Bool → Type 0) (call : ℕ → Call) (others : ℕ)

@@ -1,7 +1,7 @@
 -- A call by one record: queued, and its interrupt sent.
 use Rattle.std.proofs.Common.{◌≡◌, ℕ, zero, suc, ◌<◌, ◌==◌, ◌||◌, ◌&&◌, not, Bool, true, false, cond, List, [], ◌∷◌, length-set, set, get_or, refl, sym, ap}
 use Rattle.std.proofs.Common.{◌∙◌, subst, append_assoc, arith}
-use Rattle.std.proofs.lemmas.Bool.{cases_eq, ne_eqb, eq-eqb}
+use Rattle.std.proofs.lemmas.Bool.{cases_eq, cases_Bool, ne_eqb, eq-eqb}
 use Rattle.std.proofs.lemmas.List.{get_or-set_other}
 use Rattle.smp_words.proofs.Sizes.{one_local}
 use Rattle.smp_words.specs.Size.{records_of_one, record_of}
@@ -16,16 +16,13 @@ use Rattle.smp_calls.proofs.Turns.{handles_same}
 use Rattle.smp_calls.proofs.Steps.{set_here, set_else, leaves_as, leaves_then, leaves_last, sized_moved}
 
 pub and_true : (b : Bool) → (b && true) ≡ b
-and_true true = refl
-and_true false = refl
+and_true b = search (cases_Bool, arith)
 
 pub and_false : (b : Bool) → (b && false) ≡ false
-and_false true = refl
-and_false false = refl
+and_false b = search (cases_Bool, arith)
 
 pub or_false : (b : Bool) → (b || false) ≡ b
-or_false true = refl
-or_false false = refl
+or_false b = search (cases_Bool, arith)
 
 -- false is what is there, or would be where nothing is
 pub set_false : (xs : List Bool) (i : ℕ) → get_or (set xs i false) i false ≡ false
@@ -60,8 +57,7 @@ locked : (c : CpuValue) (number k j : ℕ) → IsSized c → k < records_of_one 
 locked c number k j s l b n = locks_at c k j s l b ∙ ap (λ x. cond x false (confirmed_at c j)) (same_record c.number j k b l)
 
 or_cond : (b x : Bool) → (b || cond b false x) ≡ cond b true x
-or_cond true x = refl
-or_cond false x = refl
+or_cond b x = search (cases_Bool, arith)
 
 pub by_case : (is wait m o : Bool) → (is ≡ false → m ≡ o) → cond is wait m ≡ cond is wait o
 by_case true wait m o e = refl
@@ -80,14 +76,7 @@ module _ {H : Type 0} (leads : H → Heard → H → Type 0) where
       → k < records_of_one → c.number ≡ number → d ≡ sent_one k to class func info first found c →
       Leaves leads c h d h (sendings (λ _. call_by number k class func info) (one_queued to first)) (calls_and_interrupts (one_queued to first))
       (λ x. owes_at c x && not (is_first_to x (one_queued to first))) (λ j. cond (j == k) false (confirmed_at c j))
-  leaves_one c d h number k to class func info first found s l n e =
-      subst (λ (x : CpuValue). Leaves leads c h x h (sendings (λ _. call_by number k class func info) (one_queued to first)) (calls_and_interrupts
-      (one_queued to first))
-      (λ x. owes_at c x && not (is_first_to x (one_queued to first))) (λ j. cond (j == k) false (confirmed_at c j))) (sym e)
-      (subst (λ (m : ℕ). Leaves leads c h (sent_one k to class func info first found c) h (sendings (λ _. call_by m k class func info)
-      (one_queued to first)) (calls_and_interrupts (one_queued to first))
-      (λ x. owes_at c x && not (is_first_to x (one_queued to first))) (λ j. cond (j == k) false (confirmed_at c j))) n
-      (leaves_sent first found c h k to class func info s l))
+  leaves_one c d h number k to class func info first found s l n e = search (leaves_sent first found c h k to class func info s l, arith)
 
   -- the record and the class of a call are those that its waiting asks for
   said : {old new : CpuValue} {before after : H} (k : ℕ) (class : Class) (func info : ℕ) (queued : List Queued) (wait b : Bool) → wait ≡ b

@@ -1,6 +1,6 @@
 -- A call to many, out of its parts.
 use Rattle.std.proofs.Common.{◌≡◌, ℕ, ◌<◌, ◌==◌, ◌||◌, ◌&&◌, not, Bool, true, false, cond, Option, Some, None, List, [], subst, refl, sym, ap, ◌∙◌, arith}
-use Rattle.std.proofs.lemmas.Bool.{cases_eq, ne_eqb, eq-eqb}
+use Rattle.std.proofs.lemmas.Bool.{cases_eq, cases_Bool, ne_eqb, eq-eqb}
 use Rattle.std.proofs.lemmas.Bool.Decides.{nat_tests}
 use Rattle.smp_mask.specs.Mask.{has, members}
 use Rattle.smp_mask.specs.declared.mask.TheConstants.{NR_CPUS}
@@ -18,19 +18,13 @@ use Rattle.smp_calls.proofs.One.{and_true, and_false, or_false}
 use Rattle.smp_calls.proofs.Lists.{filter_members, agreeing}
 
 confirmed_by : (used wait x : Bool) → ((wait && used) || cond used false x) ≡ cond used wait x
-confirmed_by true true x = refl
-confirmed_by true false x = refl
-confirmed_by false true x = refl
-confirmed_by false false x = refl
+confirmed_by used wait x = search (cases_Bool, arith)
 
 pub none_true : (b : Bool) → (b ≡ true → ⊥) → b ≡ false
-none_true true never = absurd (never refl)
-none_true false never = refl
+none_true b never = search (cases_Bool, arith)
 
 same_test : (a b : Bool) → (a ≡ true → b ≡ true) → (b ≡ true → a ≡ true) → a ≡ b
-same_test true b there back = sym (there refl)
-same_test false true there back = back refl
-same_test false false there back = refl
+same_test a b there back = search (cases_Bool, arith)
 
 -- where all of these CPUs have said yes, all are called
 pub all_called : (others called : ℕ) → ((c : ℕ) → has called c ≡ true → has others c ≡ true)
@@ -53,9 +47,7 @@ pub not_called : (mask online this others called : ℕ) → ((c : ℕ) → has o
 not_called mask online this others called are among = search (none_true, eq-eqb, nat_tests, arith)
 
 second : (m o n : Bool) → (((m && o) && n) || false) ≡ true → o ≡ true
-second true true n e = refl
-second true false n e = e
-second false o n e = cc
+second m o n e = search (cases_Bool, arith)
 
 -- the others are online
 pub target_online : (mask online this c : ℕ) → is_target mask online this false c ≡ true → has online c ≡ true

@@ -2,7 +2,7 @@
 use Rattle.std.proofs.Common.{arith, ◌≡◌, length, length-set, length-append, ℕ, ◌+◌, ◌<◌, ◌==◌, ◌||◌}
 use Rattle.std.proofs.Common.{◌&&◌, not, Bool, true, false, List, [], ◌∷◌, ◌++◌, append_assoc}
 use Rattle.std.proofs.Common.{set, get_or, refl, sym, ap, ◌∙◌}
-use Rattle.std.proofs.lemmas.Bool.{cases_eq, ne_eqb, eq-eqb}
+use Rattle.std.proofs.lemmas.Bool.{cases_eq, cases_Bool, ne_eqb, eq-eqb}
 use Rattle.std.proofs.lemmas.List.{append-nil, get_or-set_other}
 use Rattle.smp_mask.specs.Mask.{has, members}
 use Rattle.smp_mask.specs.declared.mask.TheConstants.{NR_CPUS}
@@ -18,6 +18,7 @@ use Rattle.smp_calls.proofs.Steps.{leaves_none, leaves_as, leaves_then}
 use Rattle.smp_calls.proofs.One.{and_true, or_false, same_record, set_false}
 use Rattle.smp_calls.proofs.Round.{is_in-append, is_by-append}
 use Rattle.smp_calls.proofs.Lists.{next_gone}
+use Rattle.smp_calls.proofs.Loops.{both_true}
 use Rattle.smp_call_steps.specs.declared.known.Logged.TheVariants as logged
 
 -- these members of a mask were passed, and those left not yet
@@ -28,14 +29,10 @@ pub record Passed (all left : ℕ) (xs : List ℕ) : Type 0 where
 pub passed_none : (all : ℕ) → Passed all all []
 passed_none all = record { passed_are = refl; among = λ c l h. h }
 
-first_of : (a b c : Bool) → c ≡ (a && b) → c ≡ true → a ≡ true
-first_of true b c e h = refl
-first_of false b c e h = sym e ∙ h
-
 pub passed_more : (all left next cpu : ℕ) (xs : List ℕ) → Passed all left xs → members left ≡ cpu ∷ members next → Passed all next (xs ++ cpu ∷ [])
 passed_more all left next cpu xs p step = record {
   passed_are = append_assoc xs (cpu ∷ []) (members next) ∙ (ap (λ (ys : List ℕ). xs ++ ys) (sym step) ∙ p.passed_are);
-  among = λ c l h. p.among c l (first_of (has left c) (not (c == cpu)) (has next c) (next_gone left next cpu c step l) h);
+  among = λ c l h. p.among c l (both_true (has left c) (not (c == cpu)) (sym (next_gone left next cpu c step l) ∙ h)).0;
 }
 
 pub passed_all : (all left : ℕ) (xs : List ℕ) → Passed all left xs → members left ≡ [] → xs ≡ members all
@@ -44,21 +41,11 @@ passed_all all left xs p none = sym (append-nil xs) ∙ (ap (λ (ys : List ℕ).
 -- ---- sending
 
 pub sends_none : (c : CpuValue) → Sends c c []
-sends_none c =
-    let same : c.steps ≡ c.steps + 0 = omega arith in
-    record {
-      others_are = λ i. record c { log = sym (append-nil c.log) i; steps = same i };
-      owes_sized = refl;
-      owes_are = λ x. sym (and_true (owes_at c x));
-    }
+sends_none c = search (append-nil, and_true, arith)
 
 interrupts_to-push : (xs : List ℕ) (x : ℕ) → interrupts_to xs ++ logged.Interrupted x ∷ [] ≡ interrupts_to (xs ++ x ∷ [])
 interrupts_to-push [] x = refl
 interrupts_to-push (y ∷ ys) x = ap (λ (zs : List Logged). logged.Interrupted y ∷ zs) (interrupts_to-push ys x)
-
--- the log of one interrupt more
-interrupts_to-more : (log : List Logged) (xs : List ℕ) (x : ℕ) → (log ++ interrupts_to xs) ++ logged.Interrupted x ∷ [] ≡ log ++ interrupts_to (xs ++ x ∷ [])
-interrupts_to-more log xs x = search (append_assoc, interrupts_to-push)
 
 -- once one more was sent, it is the last
 last_of-push : (xs : List ℕ) (x now before : ℕ) → last_of (xs ++ x ∷ []) now before ≡ now
@@ -66,16 +53,14 @@ last_of-push [] x now before = refl
 last_of-push (y ∷ ys) x now before = refl
 
 all_in : (o i : Bool) → false ≡ (o && not (i || true))
-all_in true true = refl
-all_in true false = refl
-all_in false i = refl
+all_in o i = search (cases_Bool, arith)
 
 owed_after : (owes : List Bool) (cpu c : ℕ) (o i : Bool) → get_or owes c false ≡ (o && not i)
     → get_or (set owes cpu false) c false ≡ (o && not (i || (cpu == c || false)))
 owed_after owes cpu c o i e = search (cases_eq, eq-eqb, set_false, all_in, ne_eqb, get_or-set_other, or_false, arith)
 
 pub sends_more : (old mid new : CpuValue) (cpu : ℕ) (xs : List ℕ) → Sends old mid xs → new ≡ sends cpu mid → Sends old new (xs ++ cpu ∷ [])
-sends_more old mid new cpu xs s e = search (interrupts_to-more, last_of-push, length-append, length-set, owed_after, is_in-append, arith)
+sends_more old mid new cpu xs s e = search (append_assoc, interrupts_to-push, last_of-push, length-append, length-set, owed_after, is_in-append, arith)
 
 -- what was sent last, once interrupts are sent for calls that were queued
 last_sent : (old mid new : CpuValue) (sent : List ℕ) → (mid.steps ≡ mid.sent_at) × (length mid.part.asked ≡ mid.asked_at) → Sends mid new sent
@@ -91,10 +76,7 @@ queued_and_sent old mid new (q ∷ qs) last s = last_sent old mid new (firsts (q
 -- ---- waiting
 
 turned : (b a o : Bool) → (b || (a || o)) ≡ ((a || (b || false)) || o)
-turned true true o = refl
-turned true false o = refl
-turned false true o = refl
-turned false false o = refl
+turned b a o = search (cases_Bool, arith)
 
 module _ {H : Type 0} (leads : H → Heard → H → Type 0) where
   pub waits_none : (c : CpuValue) (h : H) → WaitsFor leads c h c h [] true

@@ -16,7 +16,7 @@ use Rattle.smp_calls.proofs.Steps.{leaves_none, leaves_as, leaves_then, leaves_l
 use Rattle.smp_calls.proofs.Lawful.{small_many, are_apart}
 use Rattle.smp_calls.proofs.One.{and_true, and_false}
 use Rattle.smp_calls.proofs.Lists.{next_gone, none_left}
-use Rattle.smp_calls.proofs.Loops.{both_true, kept_among, kept_else, kept_here}
+use Rattle.smp_calls.proofs.Loops.{both_true, not_true, kept_among, kept_else, kept_here}
 use Rattle.smp_calls.proofs.Parts.{none_true}
 
 -- a CPU has looked at its record k and has made this number of polls, one after each look; where the record was seen confirmed
@@ -48,20 +48,13 @@ pub record Asks {H : Type 0} (leads : H → Heard → H → Type 0) (old : CpuVa
   pub at_once : AreConfirmed old (has called) → budget ≡ polls
 
 pub differ : (b : Bool) → b ≡ true → b ≡ false → ⊥
-differ true e n = cc
-differ false e n = cc
+differ b e n = search (cases_Bool, arith)
 
 pub or_yes : (a b : Bool) → b ≡ true → (a || b) ≡ true
-or_yes true b e = refl
-or_yes false b e = e
+or_yes a b e = search (cases_Bool, arith)
 
 not_of : (b : Bool) → not (not b) ≡ b
-not_of true = refl
-not_of false = refl
-
-pub is_no : (b : Bool) → not b ≡ true → b ≡ false
-is_no true e = cc
-is_no false e = refl
+not_of b = search (cases_Bool, arith)
 
 -- another one than the next is left exactly where it was
 left_else : (left next cpu c : ℕ) → members left ≡ cpu ∷ members next → c < NR_CPUS → (c == cpu) ≡ false → has next c ≡ has left c
@@ -90,15 +83,13 @@ module _ {H : Type 0} (leads : H → Heard → H → Type 0) where
   polling_more k old now mid next before here last made l p locked e handled once =
       let steps : next.steps ≡ now.steps + 1 = once.0 ∙ ap (λ (c : CpuValue). c.steps) e in
       let asked : length next.part.asked ≡ length now.part.asked + 1 = once.1 ∙ ap (λ (c : CpuValue). length c.part.asked + 1) e in
-      let t = p.turns in
-      let q = p.polled in
       let one = subst (λ (x : CpuValue). Leaves leads x here next last [] [] (owes_at x) (confirmed_at x)) e handled in
       record {
         leaves = leaves_as leads (owes_at old) (confirmed_at old) (leaves_then leads p.leaves (leaves_looked leads {old = now} refl one))
             p.leaves.owes_are p.leaves.confirmed_are;
-        turns = omega arith;
+        turns = omega (arith, p.turns);
         apart = takes_then old now next p.apart (takes_turn now mid next e once.0 once.2);
-        polled = omega arith;
+        polled = omega (arith, p.polled);
         not_yet = λ confirmed. absurd (locked (p.leaves.confirmed_are k l ∙ confirmed));
       }
 
@@ -114,24 +105,14 @@ module _ {H : Type 0} (leads : H → Heard → H → Type 0) where
 
   pub polling_apart : (old now new : CpuValue) (before here : H) (made k : ℕ) (done : Bool) → Polling leads k old before now here made
       → new ≡ looks (cond done (confirms k now) now) → TakesApart old new
-  polling_apart old now new before here made k true p e = let steps : new.steps ≡ now.steps + 1 = ap (λ (c : CpuValue). c.steps) e in
-      takes_then old now new p.apart (takes_none now new (ap (λ (c : CpuValue). c.asked_after) e) (omega arith))
-  polling_apart old now new before here made k false p e = let steps : new.steps ≡ now.steps + 1 = ap (λ (c : CpuValue). c.steps) e in
-      takes_then old now new p.apart (takes_none now new (ap (λ (c : CpuValue). c.asked_after) e) (omega arith))
+  polling_apart old now new before here made k true p e = search (takes_then, takes_none, arith)
+  polling_apart old now new before here made k false p e = search (takes_then, takes_none, arith)
 
   -- where the record was seen confirmed before, the last look is the first
   pub polling_at_once : (old now new : CpuValue) (before here : H) (made k : ℕ) (done : Bool) → Polling leads k old before now here made
       → new ≡ looks (cond done (confirms k now) now) → confirmed_at old k ≡ true → length new.part.asked ≡ length old.part.asked
-  polling_at_once old now new before here made k true p e confirmed =
-      let asked : length new.part.asked ≡ length now.part.asked = ap (λ (c : CpuValue). length c.part.asked) e in
-      let q = p.polled in
-      let none = p.not_yet confirmed in
-      omega arith
-  polling_at_once old now new before here made k false p e confirmed =
-      let asked : length new.part.asked ≡ length now.part.asked = ap (λ (c : CpuValue). length c.part.asked) e in
-      let q = p.polled in
-      let none = p.not_yet confirmed in
-      omega arith
+  polling_at_once old now new before here made k true p e confirmed = search (p.not_yet confirmed, arith)
+  polling_at_once old now new before here made k false p e confirmed = search (p.not_yet confirmed, arith)
 
   pub asks_start : (c : CpuValue) (h : H) (called polls : ℕ) → Asks leads c h c h called called called called polls polls
   asks_start c h called polls = record {
@@ -170,27 +151,13 @@ module _ {H : Type 0} (leads : H → Heard → H → Type 0) where
       let answered_else : (c : ℕ) → (c == cpu) ≡ false → has answered' c ≡ has answered c = λ c n. kept_else done answered answered' cpu c ak ao n in
       let silent_else : (c : ℕ) → (c == cpu) ≡ false → has silent' c ≡ has silent c = λ c n. kept_else (not done) silent silent' cpu c sk so n in
       let is_called : has called cpu ≡ true = a.among cpu below here in
-      let one_less = ap (λ (xs : List ℕ). length xs) step in
-      let before_turns = a.turns in
-      let before_polled = a.polled in
       let confirmed_here : confirmed_at new k ≡ done =
       found_one done k (confirmed_at mid k) (confirmed_at new k) (g.confirmed_are k small) (λ n. (locked n).0) in
       record {
         leaves = leaves_as leads (owes_at old) (confirmed_at new) (leaves_then leads a.leaves g) a.leaves.owes_are (λ j b. sym (g.confirmed_are j b));
         among = λ c l h. a.among c l (both_true (has left c) (not (c == cpu)) (sym (next_gone left next cpu c step l) ∙ h)).0;
-        still = λ c l h.
-            let both = both_true (has left c) (not (c == cpu)) (sym (next_gone left next cpu c step l) ∙ h) in
-            let n = is_no (c == cpu) both.1 in
-            let was = a.still c l both.0 in
-            (answered_else c n ∙ was.0, silent_else c n ∙ was.1);
-        parted = λ c l h. elim (cases_eq c cpu) [
-          | inl e ↦ subst (λ (x : ℕ). has answered' x ≡ (has called x && not (has silent' x))) (sym e)
-              (answered_here ∙ sym (ap (λ b. b && not (has silent' cpu)) is_called ∙ (ap not silent_here ∙ not_of done)))
-          | inr n ↦
-              let other = ne_eqb c cpu n in
-              let was = a.parted c l (sym (left_else left next cpu c step l other) ∙ h) in
-              answered_else c other ∙ (was ∙ sym (ap (λ b. has called c && not b) (silent_else c other)))
-        ];
+        still = search (a.still, both_true, next_gone, not_true, answered_else, silent_else, arith);
+        parted = search (a.parted, cases_eq, ne_eqb, left_else, is_called, answered_here, silent_here, answered_else, silent_else, not_of, arith);
         silent_among = λ c h. a.silent_among c (kept_among (not done) silent silent' cpu c sk so h);
         answered_among = λ c h. a.answered_among c (kept_among done answered answered' cpu c ak ao h);
         told = λ c l h gone. elim (cases_eq c cpu) [
@@ -205,48 +172,17 @@ module _ {H : Type 0} (leads : H → Heard → H → Type 0) where
         ];
         others = λ j b none. found_else done j k (confirmed_at mid j) (confirmed_at new j) (g.confirmed_are j b) (λ e. none cpu is_called (e ∙ is_k))
             ∙ a.others j b none;
-        turns = omega arith;
+        turns = omega (arith, a.turns, ap (λ (xs : List ℕ). length xs) step);
         apart = takes_then old mid new a.apart apart;
-        polled = omega arith;
-        gone = λ c l h gone. elim (cases_eq c cpu) [
-          | inl e ↦ (locked (is_no done (sym silent_here ∙ (ap (λ (x : ℕ). has silent' x) (sym e) ∙ h)))).1
-          | inr n ↦
-              let other = ne_eqb c cpu n in
-              let none = a.gone c l (sym (silent_else c other) ∙ h) (sym (left_else left next cpu c step l other) ∙ gone) in
-              omega arith
-        ];
+        polled = omega (arith, a.polled);
+        gone = search (a.gone, cases_eq, ne_eqb, left_else, silent_here, silent_else, locked, not_true, arith);
         kept = λ j b e. g.confirmed_are j b ∙ or_yes (done && j == k) (confirmed_at mid j) (a.kept j b e);
-        at_once = λ all.
-            let was = a.at_once all in
-            let same = at_once (a.kept k small (subst (λ (j : ℕ). confirmed_at old j ≡ true) (sym is_k) (all cpu is_called))) in
-            omega arith;
+        at_once = λ all. omega (arith, a.at_once all,
+            at_once (a.kept k small (subst (λ (j : ℕ). confirmed_at old j ≡ true) (sym is_k) (all cpu is_called))));
       }
 
   -- all were waited for
   pub asks_end : {old new : CpuValue} {before after : H} (called left answered silent polls budget : ℕ) →
       Asks leads old before new after called left answered silent polls budget → members left ≡ [] → ((c : ℕ) → has called c ≡ true → c < NR_CPUS) →
       WaitsWithin leads old before new after called answered silent polls
-  asks_end {old} {new} called left answered silent polls budget a none low =
-      let no_more : length (members left) ≡ 0 = ap (λ (xs : List ℕ). length xs) none in
-      let turns = a.turns in
-      let sum = a.polled in
-      record {
-        leaves = a.leaves;
-        parted = λ c. elim (cases_Bool (has called c)) [
-          | inl h ↦ a.parted c (low c h) (none_left left c none (low c h))
-          | inr n ↦ none_true (has answered c) (λ e. absurd (differ (has called c) (a.answered_among c e) n)) ∙ sym (ap (λ b. b && not (has silent c)) n)
-        ];
-        among = a.silent_among;
-        confirmed_are = λ c h. a.told c (low c h) h (none_left left c none (low c h));
-        others = a.others;
-        turns = omega arith;
-        apart = a.apart;
-        polled = λ c h.
-            let l = low c (a.silent_among c h) in
-            let zero = a.gone c l h (none_left left c none l) in
-            omega arith;
-        most = omega arith;
-        at_once = λ all.
-            let same = a.at_once all in
-            omega arith;
-      }
+  asks_end {old} {new} called left answered silent polls budget a none low = search (none_left, none_true, differ, cases_Bool, arith)

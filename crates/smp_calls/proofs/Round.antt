@@ -47,8 +47,7 @@ calls_to-both : (xs ys : List Queued) → calls_to (destinations xs) ++ calls_to
 calls_to-both xs ys = sym (ap calls_to (destinations-append xs ys) ∙ calls_to-append (destinations xs) (destinations ys))
 
 or_assoc : (a b c : Bool) → ((a || b) || c) ≡ (a || (b || c))
-or_assoc true b c = refl
-or_assoc false b c = refl
+or_assoc a b c = search (cases_Bool, arith)
 
 pub is_in-append : (c : ℕ) (xs ys : List ℕ) → is_in c (xs ++ ys) ≡ (is_in c xs || is_in c ys)
 is_in-append c [] ys = refl
@@ -59,9 +58,7 @@ is_by-append of id [] ys = refl
 is_by-append of id (x ∷ xs) ys = ap (λ b. id == of x || b) (is_by-append of id xs ys) ∙ sym (or_assoc (id == of x) (is_by of id xs) (is_by of id ys))
 
 cond_both : (a b x : Bool) → cond b false (cond a false x) ≡ cond (a || b) false x
-cond_both true true x = refl
-cond_both true false x = refl
-cond_both false b x = refl
+cond_both a b x = search (cases_Bool, arith)
 
 -- ---- one call
 
@@ -135,13 +132,7 @@ module _ {H : Type 0} (leads : H → Heard → H → Type 0) where
       let same = sized_moved old mid f.number_is f.sized s in
       let small : many_record to < records_of_one = subst (λ (j : ℕ). j < records_of_one) is_k l in
       let posted : Queues leads mid m new m (many_call old.number class func info) (one_queued to first) =
-      subst (λ (x : CpuValue). Queues leads mid m x m (many_call old.number class func info) (one_queued to first))
-      (sym (e ∙ ap (λ (j : ℕ). posts j to class func info first found mid) is_k))
-      (subst (λ (n : ℕ). Queues leads mid m (posts (many_record to) to class func info first found mid) m (many_call n class func info)
-      (one_queued to first))
-      f.number_is
-      (queues_post mid m to class func info first found same small)) in
-      let call = many_call old.number class func info in
+      search (queues_post mid m to class func info first found same small, arith) in
       let both = leaves_then leads f posted.leaves in (
         one_queued to first,
         ap (λ b. only_if b to) (sym is_asked),

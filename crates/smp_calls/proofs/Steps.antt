@@ -68,8 +68,7 @@ module _ {H : Type 0} (leads : H → Heard → H → Type 0) where
       Leaves leads c h d i [] [] (owes_at c) (confirmed_at c)
   leaves_handled true c d h i took idle = search (append-nil, handles_batch, arith)
   leaves_handled false c d h i took idle =
-      let n = idle refl in
-      search (n, append-nil, handles_nothing, arith)
+      search (idle refl, append-nil, handles_nothing, arith)
 
   -- a record is seen confirmed
   -- one step more changes nothing of it

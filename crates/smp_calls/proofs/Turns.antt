@@ -40,18 +40,8 @@ grown xs ys zs us vs e f = f ∙ (ap (λ (ws : List _). ws ++ vs) e ∙ append_a
 pub handled_once : (interrupted : Bool) (old new : CpuValue) → (interrupted ≡ true → (batch : List Call) × (new ≡ drains batch (asks true old)))
     → (interrupted ≡ false → new ≡ asks false old) → (new.steps ≡ old.steps) × (length new.part.asked ≡ length old.part.asked + 1)
     × (new.asked_after ≡ old.asked_after ++ old.steps ∷ [])
-handled_once true old new asked idle =
-    let t = asked refl in (
-      ap (λ (c : CpuValue). c.steps) t.1,
-      ap (λ (c : CpuValue). length c.part.asked) t.1 ∙ length-append old.part.asked (true ∷ []),
-      ap (λ (c : CpuValue). c.asked_after) t.1,
-    )
-handled_once false old new asked idle =
-    let e = idle refl in (
-      ap (λ (c : CpuValue). c.steps) e,
-      ap (λ (c : CpuValue). length c.part.asked) e ∙ length-append old.part.asked (false ∷ []),
-      ap (λ (c : CpuValue). c.asked_after) e,
-    )
+handled_once true old new asked idle = search (asked refl, length-append, arith)
+handled_once false old new asked idle = search (idle refl, length-append, arith)
 
 -- and it changes no head
 pub handled_tried : (interrupted : Bool) (old new : CpuValue) → (interrupted ≡ true → (batch : List Call) × (new ≡ drains batch (asks true old)))
@@ -121,13 +111,11 @@ pub waiting_more : {H : Type 0} (k : ℕ) (old now after next : CpuValue) (befor
 waiting_more k old now after next before here last w locked e once tried =
     let steps : next.steps ≡ now.steps + 1 = once.0 ∙ ap (λ (c : CpuValue). c.steps) e in
     let asked : length next.part.asked ≡ length now.part.asked + 1 = once.1 ∙ ap (λ (c : CpuValue). length c.part.asked + 1) e in
-    let t = w.turns in
-    let s = w.steps_are in
-    let made : now.steps + 1 ≡ old.steps + suc w.locked = omega arith in
+    let made : now.steps + 1 ≡ old.steps + suc w.locked = omega (arith, w.steps_are) in
     record {
-      turns = omega arith;
+      turns = omega (arith, w.turns);
       locked = suc w.locked;
-      steps_are = omega arith;
+      steps_are = omega (arith, w.steps_are);
       takes_are = once.2 ∙ (ap (λ (c : CpuValue). c.asked_after ++ c.steps ∷ []) e ∙ (ap (λ (n : ℕ). now.asked_after ++ n ∷ []) made
           ∙ (ap (λ (xs : List ℕ). xs ++ (old.steps + suc w.locked) ∷ []) w.takes_are
           ∙ append_assoc old.asked_after (after_each old.steps w.locked) ((old.steps + suc w.locked) ∷ []))));
@@ -141,12 +129,10 @@ pub waiting_ended : {H : Type 0} (k : ℕ) (old now next : CpuValue) (before her
 waiting_ended k old now next before here w e =
     let steps : next.steps ≡ now.steps + 1 = ap (λ (c : CpuValue). c.steps) e in
     let asked : length next.part.asked ≡ length now.part.asked = ap (λ (c : CpuValue). length c.part.asked) e in
-    let t = w.turns in
-    let s = w.steps_are in
     record {
-      turns = omega arith;
+      turns = omega (arith, w.turns);
       locked = w.locked;
-      steps_are = omega arith;
+      steps_are = omega (arith, w.steps_are);
       takes_are = ap (λ (c : CpuValue). c.asked_after) e ∙ w.takes_are;
       tried_is = ap (λ (c : CpuValue). c.tried) e ∙ w.tried_is;
       at_once = λ conf. (e ∙ ap (λ (c : CpuValue). looked (confirms k c)) (w.not_yet conf).0, (w.not_yet conf).1);

@@ -26,10 +26,7 @@ pub queue-requires-clause-lawful : goal.queue-requires-clause-lawful
 queue-requires-clause-lawful g c = search (lawful_online, arith)
 
 pub returns-clause-at_once : goal.returns-clause-at_once
-returns-clause-at_once g c confirmed =
-    queued_at_once c.args.me.now c.wait_for.new.me c.queue.new.me c.args.handler.now c.wait_for.new.handler c.many_record-k.result c.args.candidate.to
-    c.args.job.class c.args.job.func c.args.job.info c.queue.result c.queue.ensures.0 c.wait_for.ensures.turns c.queue.ensures.1
-    (subst (λ (j : ℕ). confirmed_at c.args.me.now j ≡ true) (sym c.many_record-k.ensures) confirmed)
+returns-clause-at_once g c confirmed = search (queued_at_once, arith)
 
 pub returns-clause-queued : goal.returns-clause-queued
 returns-clause-queued g c =

@@ -19,7 +19,7 @@ pub wait_for-requires-clause-table : goal.wait_for-requires-clause-table
 wait_for-requires-clause-table g c = c.loop-cpu.invariant.2.table_is ∙ c.requires.table
 
 pub wait_for-requires-clause-sized : goal.wait_for-requires-clause-sized
-wait_for-requires-clause-sized g c = sized_moved c.args.me.now c.loop-cpu.me c.loop-cpu.invariant.2.number_is c.loop-cpu.invariant.2.sized c.requires.sized
+wait_for-requires-clause-sized g c = search (sized_moved, arith)
 
 pub wait_for-requires-clause-record : goal.wait_for-requires-clause-record
 wait_for-requires-clause-record g c = search (has_online, arith)
@@ -38,7 +38,4 @@ pub returns-clause-waited : goal.returns-clause-waited
 returns-clause-waited g c = search (passed_all, arith)
 
 pub returns-clause-turns : goal.returns-clause-turns
-returns-clause-turns g c =
-    let a = c.loop-cpu.invariant in
-    subst (λ (xs : List ℕ). LooksFor c.args.me.now c.loop-cpu.me (length xs))
-    (passed_all c.args.called c.loop-cpu.cpu-iterator a.0 a.1 c.in-None.ensures.steps.0.0) a.3
+returns-clause-turns g c = search (passed_all, arith)

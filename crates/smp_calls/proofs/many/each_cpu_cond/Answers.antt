@@ -1,4 +1,4 @@
-use Rattle.std.proofs.Common.{arith, ◌≡◌, ℕ, Bool, List, Option, false, cond, Some, None, length, refl, sym, ◌∙◌, subst}
+use Rattle.std.proofs.Common.{arith, ◌≡◌, ℕ, Bool, List, Option, true, false, cond, Some, None, length, refl, sym, ◌∙◌, subst}
 use Rattle.smp_mask.specs.Mask.{has, members}
 use Rattle.smp_words.specs.declared.call.Class.{Class}
 use Rattle.smp_queue.specs.Handling.{heard}
@@ -60,28 +60,18 @@ pub returns-clause-ended : goal.returns-clause-ended
 returns-clause-ended g c waited =
     let this = c.number-this.result in
     let called = c.queue_all-called.result in
-    let here = c.runs_here-here.result in
     let out : has called this ≡ false =
     not_called c.args.mask c.online.result this c.targets-others.result called c.targets-others.ensures c.queue_all-called.ensures.picks.among in
-    let direct : Option Heard = cond here (Some (heard this c.args.func c.args.info)) None in
-    let mine : c.queue_all-called.new.me.number ≡ this = c.queue_all-called.ensures.calls.2.number_is ∙ sym c.number-this.ensures.number in
-    let heard_it = subst (λ (n : ℕ). HearsIf g.H.Handler.leads c.queue_all-called.new.handler (cond here (Some (heard n c.args.func c.args.info)) None)
-    c.call_if.new.handler) mine c.call_if.ensures.called in
-    let noted = subst (λ (n : ℕ). c.call_if.new.me ≡ noted_if (cond here (Some (heard n c.args.func c.args.info)) None) c.queue_all-called.new.me) mine
-    c.call_if.ensures.noted in
-    let Made = λ (class : Class) (wait : Bool). CallsMany g.H.Handler.leads c.args.me.now c.args.handler.now c.wait_all.new.me c.wait_all.new.handler
-    (members called) class c.args.func c.args.info direct wait in
-    let made : Made c.class_for-class.result c.args.wait =
-    calls_waited_for g.H.Handler.leads c.args.me.now c.call_if.new.me c.wait_all.new.me c.args.handler.now c.call_if.new.handler
-    c.wait_all.new.handler c.class_for-class.result c.args.func c.args.info (members called) direct c.args.wait
-    (calls_then_here g.H.Handler.leads c.args.me.now c.queue_all-called.new.me c.call_if.new.me c.args.handler.now c.queue_all-called.new.handler
-    c.call_if.new.handler c.class_for-class.result c.args.func c.args.info
-    (members called) direct c.queue_all-called.ensures.calls c.queue_all-called.ensures.last heard_it noted) c.wait_all.ensures.waited in
-    let ended = many_ended g.H.Handler.leads c.args.me.now c.args.handler.now c.wait_all.new.me c.wait_all.new.handler called c.args.func c.args.info direct
-    (subst (λ (b : Bool). Made (class_for b) b) waited (subst (λ (class : Class). Made class c.args.wait) c.class_for-class.ensures made)) c.is_shown.ensures in
-    let Ended = λ (to : List ℕ). HaveEnded c.wait_all.new.me (many_call c.args.me.now.number Sync c.args.func c.args.info) to in
-    subst (λ (n : ℕ). Ended (remote n c.with_if.result)) c.number-this.ensures.number
-    (subst Ended (others_called this called c.with_if.result here c.with_if.ensures out) ended)
+    let me = c.args.me.now.number in
+    let are = subst (λ (n : ℕ). members called ≡ remote n c.with_if.result) c.number-this.ensures.number
+    (others_called this called c.with_if.result c.runs_here-here.result c.with_if.ensures out) in
+    let Made = λ (to : List ℕ) (class : Class) (wait : Bool). CallsMany g.H.Handler.leads c.args.me.now c.args.handler.now c.wait_all.new.me
+    c.wait_all.new.handler to class c.args.func c.args.info (cond (has c.with_if.result me) (Some (heard me c.args.func c.args.info)) None) wait in
+    subst (λ (to : List ℕ). HaveEnded c.wait_all.new.me (many_call me Sync c.args.func c.args.info) to) are
+    (many_ended g.H.Handler.leads c.args.me.now c.args.handler.now c.wait_all.new.me c.wait_all.new.handler called c.args.func c.args.info
+    (cond (has c.with_if.result me) (Some (heard me c.args.func c.args.info)) None)
+    (subst (λ (to : List ℕ). Made to Sync true) (sym are)
+    (subst (λ (b : Bool). Made (remote me c.with_if.result) (class_for b) b) waited (returns-clause-calls g c))) c.is_shown.ensures)
 
 pub returns-clause-turns : goal.returns-clause-turns
 returns-clause-turns g c =

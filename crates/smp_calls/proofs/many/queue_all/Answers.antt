@@ -1,4 +1,4 @@
-use Rattle.std.proofs.Common.{ℕ, ◌*◌, List, length, sym, subst}
+use Rattle.std.proofs.Common.{arith, ℕ, ◌*◌, List, length, sym, subst}
 use Rattle.smp_calls.specs.Families.{IsLast}
 use Rattle.smp_calls.specs.Rounds.{Sends}
 use Rattle.smp_mask.specs.Mask.{members}
@@ -8,11 +8,7 @@ use Rattle.smp_calls.proofs.Passes.{queued_and_sent}
 use Rattle.smp_calls.proofs.many.queue_all.Goals as goal
 
 pub returns-clause-last : goal.returns-clause-last
-returns-clause-last g c =
-    let q = c.queue_each-called.ensures.queued in
-    subst (λ (to : List ℕ). IsLast c.args.me.now c.send_each.new.me to) q.called_are
-    (queued_and_sent c.args.me.now c.queue_each-called.new.me c.send_each.new.me q.queued q.queues.last
-    (subst (λ (sent : List ℕ). Sends c.queue_each-called.new.me c.send_each.new.me sent) (sym q.owed_are) c.send_each.ensures))
+returns-clause-last g c = search (queued_and_sent, arith)
 
 pub returns-clause-at_once : goal.returns-clause-at_once
 returns-clause-at_once g c all =
@@ -20,5 +16,4 @@ returns-clause-at_once g c all =
     (none_sent c.args.me.now c.queue_each-called.new.me c.send_each.new.me _ q.0 c.send_each.ensures, q.1)
 
 pub returns-clause-turns : goal.returns-clause-turns
-returns-clause-turns g c = makes_sends c.args.me.now c.queue_each-called.new.me c.send_each.new.me (6 * length (members c.queue_each-called.result.0)) _
-    c.queue_each-called.ensures.turns c.send_each.ensures
+returns-clause-turns g c = search (makes_sends, arith)

@@ -25,10 +25,7 @@ returns g c =
     ∙ ap (λ (n : ℕ). is_target mask c.args.table.now.online n false x) c.number.ensures.number) in
     let limits = c.online.ensures.limits in
     let low : (x : ℕ) → has c.targets-others.result x ≡ true → x < NR_CPUS =
-    λ x h.
-    let below = limits.below x (target_online mask online this x (sym (c.targets-others.ensures x) ∙ h)) in
-    let within = limits.within in
-    omega arith in
+    λ x h. omega (arith, limits.below x (target_online mask online this x (sym (c.targets-others.ensures x) ∙ h)), limits.within) in
     calls_within leads c.args.me.now first.me mid.me c.wait_within-silent.new.me c.args.handler.now first.handler mid.handler
     c.wait_within-silent.new.handler c.args.func c.args.info c.targets-others.result free c.wait_within-free.result.1 c.wait_within-silent.result.0
     c.wait_within-silent.result.1 c.or.result c.args.polls (λ x. is_target mask c.args.table.now.online c.args.me.now.number false x) are low

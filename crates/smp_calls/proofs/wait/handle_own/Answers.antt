@@ -1,3 +1,4 @@
+use Rattle.std.proofs.Common.{arith}
 use Rattle.smp_calls.proofs.Steps.{leaves_handled}
 use Rattle.smp_calls.proofs.Turns.{handled_once, handled_tried}
 use Rattle.smp_calls.proofs.wait.handle_own.Goals as goal
@@ -11,5 +12,4 @@ returns-clause-once g c = handled_once c.handle.result.interrupted c.args.me.now
     (λ e. let t = c.handle.ensures.asked e in (t.0, t.1)) (λ e. let t = c.handle.ensures.idle e in t.0)
 
 pub returns-clause-tried : goal.returns-clause-tried
-returns-clause-tried g c = handled_tried c.handle.result.interrupted c.args.me.now c.handle.new.me
-    (λ e. let t = c.handle.ensures.asked e in (t.0, t.1)) (λ e. let t = c.handle.ensures.idle e in t.0)
+returns-clause-tried g c = search (handled_tried, arith)

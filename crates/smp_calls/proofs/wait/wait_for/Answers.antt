@@ -1,4 +1,4 @@
-use Rattle.std.proofs.Common.{subst, refl, []}
+use Rattle.std.proofs.Common.{arith, subst, refl, []}
 use Rattle.smp_call_steps.proofs.Machine.Starts.{record_below}
 use Rattle.smp_queue.specs.Cpu.{CpuValue, confirmed_at}
 use Rattle.smp_calls.specs.Families.{Leaves, owes_at}
@@ -14,8 +14,7 @@ returns-then-is_done-clause-left g c = leaves_ended g.H.Handler.leads c.args.me.
     c.requires.sized (record_below c.args.context.table.now.nr c.args.k c.requires.record) c.loop.invariant.0 c.if-is_done.ensures.known
 
 pub returns-then-is_done-clause-turns : goal.returns-then-is_done-clause-turns
-returns-then-is_done-clause-turns g c = waiting_ended c.args.k c.args.me.now c.loop.me c.is_done.new.me c.args.handler.now c.loop.handler
-    c.loop.invariant.1 c.if-is_done.ensures.known
+returns-then-is_done-clause-turns g c = search (waiting_ended, arith)
 
 pub loop-preserved : goal.loop-preserved
 loop-preserved g c =

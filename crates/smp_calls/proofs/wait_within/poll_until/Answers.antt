@@ -9,14 +9,10 @@ returns-then-is_done-clause-left g c =
     c.requires.sized (record_below c.args.context.table.now.nr c.args.k c.requires.record) c.loop-made.invariant.0 c.if-is_done.ensures.known
 
 pub returns-then-is_done-clause-apart : goal.returns-then-is_done-clause-apart
-returns-then-is_done-clause-apart g c =
-    polling_apart g.H.Handler.leads c.args.me.now c.loop-made.me c.is_done.new.me c.args.handler.now c.loop-made.handler c.loop-made.made c.args.k true
-    c.loop-made.invariant.0 c.if-is_done.ensures.known
+returns-then-is_done-clause-apart g c = search (polling_apart, arith)
 
 pub returns-then-is_done-clause-at_once : goal.returns-then-is_done-clause-at_once
-returns-then-is_done-clause-at_once g c confirmed =
-    polling_at_once g.H.Handler.leads c.args.me.now c.loop-made.me c.is_done.new.me c.args.handler.now c.loop-made.handler c.loop-made.made c.args.k true
-    c.loop-made.invariant.0 c.if-is_done.ensures.known confirmed
+returns-then-is_done-clause-at_once g c confirmed = search (polling_at_once, arith)
 
 pub loop-made-preserved : goal.loop-made-preserved
 loop-made-preserved g c = (
@@ -33,11 +29,7 @@ returns-clause-left g c =
     c.is_done-done.ensures.known
 
 pub returns-clause-apart : goal.returns-clause-apart
-returns-clause-apart g c =
-    polling_apart g.H.Handler.leads c.args.me.now c.loop-made.me c.is_done-done.new.me c.args.handler.now c.loop-made.handler c.loop-made.made c.args.k
-    c.is_done-done.result c.loop-made.invariant.0 c.is_done-done.ensures.known
+returns-clause-apart g c = search (polling_apart, arith)
 
 pub returns-clause-at_once : goal.returns-clause-at_once
-returns-clause-at_once g c confirmed =
-    polling_at_once g.H.Handler.leads c.args.me.now c.loop-made.me c.is_done-done.new.me c.args.handler.now c.loop-made.handler c.loop-made.made c.args.k
-    c.is_done-done.result c.loop-made.invariant.0 c.is_done-done.ensures.known confirmed
+returns-clause-at_once g c confirmed = search (polling_at_once, arith)

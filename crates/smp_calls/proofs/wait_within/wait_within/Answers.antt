@@ -19,9 +19,5 @@ loop-cpu-preserved g c =
 
 pub returns : goal.returns
 returns g c =
-    let limits = c.requires.limits in
     asks_end g.H.Handler.leads c.args.called c.loop-cpu.cpu-iterator c.loop-cpu.answered c.loop-cpu.silent c.args.polls c.loop-cpu.left c.loop-cpu.invariant
-    c.in-None.ensures.steps.0.0 (λ x h.
-    let below = limits.below x (c.requires.online x h) in
-    let within = limits.within in
-    omega arith)
+    c.in-None.ensures.steps.0.0 (λ x h. omega (arith, c.requires.limits.below x (c.requires.online x h), c.requires.limits.within))
