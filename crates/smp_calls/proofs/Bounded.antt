@@ -18,7 +18,6 @@ use Rattle.smp_queue.specs.Laws.{CallsAreShown}
 use Rattle.smp_queue.specs.declared.handler.Heard.{Heard}
 use Rattle.smp_calls.specs.Ended.{HaveEnded}
 use Rattle.smp_calls.specs.Families.{Leaves, Calls, CallsMany, IsLast, AreConfirmed, HandlesNone, owes_at}
-use Rattle.smp_calls.specs.Handles.{looks}
 use Rattle.smp_calls.specs.Queued.{Queued, destinations, sendings, is_by, is_first_to, is_used}
 use Rattle.smp_calls.specs.Records.{many_call, many_record}
 use Rattle.smp_calls.specs.Turns.{TakesApart}
@@ -162,8 +161,11 @@ module _ {H : Type 0} (leads : H → Heard → H → Type 0) where
         sent_within = λ c f. omega (arith, (done c f).1, still.1);
         sent_at_once = λ c f all. omega (arith, (done c f).1, still.1, a.at_once (λ x o. all x (sym (are x) ∙ o)));
         none_called = λ out. omega (arith, b.at_once (λ x f. absurd (differ (has free x) f (out x))));
-        no_target = λ out. omega (arith, a.at_once (λ x o. absurd (differ (targets x) (sym (are x) ∙ o) (out x))),
-            b.at_once (λ x f. absurd (differ (targets x) (sym (are x) ∙ free_other x f) (out x))));
+        no_target = λ out. omega (
+          arith,
+          a.at_once (λ x o. absurd (differ (targets x) (sym (are x) ∙ o) (out x))),
+          b.at_once (λ x f. absurd (differ (targets x) (sym (are x) ∙ free_other x f) (out x))),
+        );
         waited = λ c out s. elim (cases_Bool (has busy c)) [
           | inl y ↦ omega (arith, a.polled c y, asked_more made, asked_more b.leaves)
           | inr n ↦ absurd (differ (has free c) (b.among c (sym (either c ∙ ap (λ x. x || has late c) n) ∙ s)) out)

@@ -1,17 +1,15 @@
 -- How many steps a family makes, and how often it handles meanwhile.
-use Rattle.std.proofs.Common.{arith, ◌≡◌, ◌≢◌, ℕ, suc, ◌+◌, ◌*◌, Bool, true, false, cond, Some, None, List, [], ◌∷◌, ◌++◌, length}
+use Rattle.std.proofs.Common.{arith, ◌≡◌, ℕ, suc, ◌+◌, ◌*◌, Bool, true, false, cond, Some, None, List, [], ◌∷◌, ◌++◌, length}
 use Rattle.std.proofs.Common.{length-append, refl, sym, ap, ◌∙◌, subst}
 use Rattle.std.proofs.lemmas.List.{append-nil}
 use Rattle.smp_words.specs.declared.call.Class.{Class}
-use Rattle.smp_call_steps.specs.Threads.Heads.{Found, times_lost}
-use Rattle.smp_call_steps.specs.declared.known.Logged.{Logged}
-use Rattle.smp_call_steps.specs.declared.known.Logged.TheVariants as logged
+use Rattle.smp_call_steps.specs.Threads.Heads.{Found}
 use Rattle.smp_queue.specs.Cpu.{CpuValue, posts, sends, notes_call}
 use Rattle.smp_queue.specs.declared.handler.Heard.{Heard}
 use Rattle.smp_calls.specs.Families.{Leaves, Awaits, IsLast, owes_at}
 use Rattle.smp_calls.specs.Queued.{Queued, destinations, interrupts_to}
 use Rattle.smp_calls.specs.Rounds.{Sends, only_if, noted_if}
-use Rattle.smp_calls.specs.Turns.{LooksFor, counted, MakesMore, HasTurns}
+use Rattle.smp_calls.specs.Turns.{LooksFor, MakesMore, HasTurns}
 use Rattle.smp_calls.proofs.One.{sent_one}
 use Rattle.smp_calls.proofs.Takes.{takes_none, takes_then, takes_waited}
 use Rattle.smp_calls.proofs.Round.{destinations-append}

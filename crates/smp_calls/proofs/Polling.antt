@@ -177,8 +177,11 @@ module _ {H : Type 0} (leads : H → Heard → H → Type 0) where
         polled = omega (arith, a.polled);
         gone = search (a.gone, cases_eq, ne_eqb, left_else, silent_here, silent_else, locked, not_true, arith);
         kept = λ j b e. g.confirmed_are j b ∙ or_yes (done && j == k) (confirmed_at mid j) (a.kept j b e);
-        at_once = λ all. omega (arith, a.at_once all,
-            at_once (a.kept k small (subst (λ (j : ℕ). confirmed_at old j ≡ true) (sym is_k) (all cpu is_called))));
+        at_once = λ all. omega (
+          arith,
+          a.at_once all,
+          at_once (a.kept k small (subst (λ (j : ℕ). confirmed_at old j ≡ true) (sym is_k) (all cpu is_called))),
+        );
       }
 
   -- all were waited for

@@ -1,5 +1,4 @@
-use Rattle.std.proofs.Common.{◌≡◌, ℕ, true, arith, [], refl, sym, subst, rules}
-use Rattle.smp_queue.specs.Cpu.{confirmed_at}
+use Rattle.std.proofs.Common.{arith, [], refl, rules}
 use Rattle.smp_calls.specs.Records.{many_call}
 use Rattle.smp_calls.proofs.Lawful.{has_online, lawful_online}
 use Rattle.smp_calls.proofs.AtOnce.{none_handled, queued_at_once}

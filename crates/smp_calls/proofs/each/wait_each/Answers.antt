@@ -1,5 +1,4 @@
-use Rattle.std.proofs.Common.{arith, ℕ, List, [], ◌++◌, ◌∷◌, length, ◌∙◌, sym, subst, rules}
-use Rattle.smp_calls.specs.Turns.{LooksFor}
+use Rattle.std.proofs.Common.{arith, ℕ, [], ◌++◌, ◌∷◌, ◌∙◌, sym, subst, rules}
 use Rattle.smp_calls.proofs.Counted.{looks_none, looks_more}
 use Rattle.smp_calls.proofs.Lawful.{has_online}
 use Rattle.smp_calls.proofs.Steps.{sized_moved}

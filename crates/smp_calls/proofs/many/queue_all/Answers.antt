@@ -1,7 +1,4 @@
-use Rattle.std.proofs.Common.{arith, ℕ, ◌*◌, List, length, sym, subst}
-use Rattle.smp_calls.specs.Families.{IsLast}
-use Rattle.smp_calls.specs.Rounds.{Sends}
-use Rattle.smp_mask.specs.Mask.{members}
+use Rattle.std.proofs.Common.{arith}
 use Rattle.smp_calls.proofs.AtOnce.{none_sent}
 use Rattle.smp_calls.proofs.Counted.{makes_sends}
 use Rattle.smp_calls.proofs.Passes.{queued_and_sent}
