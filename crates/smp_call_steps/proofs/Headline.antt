@@ -1,10 +1,9 @@
 -- The headline, of calls.
-use Rattle.std.proofs.Common.{◌≡◌, ◌≢◌, ℕ, ◌%◌, ◌==◌, Bool, true, false, cond, List, [], ◌∷◌, ◌++◌, IsPermutation}
-use Rattle.std.proofs.Common.{sym, subst, refl, ap, ◌∙◌, append_assoc, arith}
+use Rattle.std.proofs.Common.{◌≡◌, ◌≢◌, ℕ, ◌%◌, Bool, true, false, cond, List, [], ◌∷◌, ◌++◌, IsPermutation}
+use Rattle.std.proofs.Common.{sym, subst, ap, ◌∙◌, append_assoc, arith}
 use Rattle.std.proofs.lemmas.List.Sorted.{IsPermutation-refl, IsPermutation-sym, IsPermutation-cons, IsPermutation-trans}
 use Rattle.std.proofs.lemmas.List.Sorted.{IsPermutation-append, IsPermutation-middle}
-use Rattle.smp_words.specs.Size.{owner}
-use Rattle.smp_call_steps.specs.{CallState, ControlValue, Call, Class, Sync, Async, Word, RecPlace, IsThere, FlagsShow, flags_in, batches, orders, calls_from}
+use Rattle.smp_call_steps.specs.{CallState, ControlValue, Call, Class, Word, RecPlace, IsThere, FlagsShow, flags_in, batches, orders, calls_from}
 use Rattle.smp_call_steps.specs.{calls_to, if_sync, if_async, sync_calls, async_calls, order, of_class, IsPrefix}
 use Rattle.smp_call_steps.specs.{running_call, history_of, Recorded, share_of, hands_in}
 use Rattle.smp_call_steps.specs.Headline.{IsAt, HasOnePlace, InOnePlace, begun, waiting, joined, RunOnce, RunInOrder, IsDrained, RunEqualQueued}
@@ -19,12 +18,10 @@ use Rattle.smp_call_steps.specs.place
 -- where a record is
 
 unlocked_free : (p : RecPlace) (flags : ℕ) → FlagsShow p flags → flags ≡ 0 → p ≡ place.Free
-unlocked_free place.Free flags h e = refl
-unlocked_free _ flags h e = absurd (let odd : flags % 2 ≡ 1 = h in search (e, arith))
+unlocked_free x flags h e = search arith
 
 pub locked_flags : (p : RecPlace) (flags : ℕ) → FlagsShow p flags → p ≢ place.Free → flags % 2 ≡ 1
-locked_flags place.Free flags h ne = absurd (ne refl)
-locked_flags _ flags h ne = h
+locked_flags x flags h ne = search arith
 
 -- calls that words and stages show have these laws
 pub shown_laws : {a : CallState} {at : Word → ℕ} {control : ℕ → ControlValue} → Shows a at control → HasLaws a at
@@ -40,11 +37,7 @@ shown_laws {a} {at} {control} s = record {
 
 module _ {a : CallState} {at : Word → ℕ} (s : HasLaws a at) where
   here : (id : ℕ) (p : RecPlace) → FlagsShow p (flags_in at id) → IsThere a.held a.queue a.batch a.running id p → IsAt a (flags_in at) id p
-  here id place.Free f h = f
-  here id place.Held f h = h
-  here id (place.Queued cpu) f h = h
-  here id (place.Batch cpu) f h = h
-  here id (place.Running cpu) f h = h
+  here id x f h = search arith
 
   only : (id : ℕ) (p : RecPlace) → IsAt a (flags_in at) id p → p ≡ a.place id
   only id place.Free h = sym (unlocked_free (a.place id) (flags_in at id) (s.locks id) h)
@@ -54,12 +47,7 @@ module _ {a : CallState} {at : Word → ℕ} (s : HasLaws a at) where
   only id (place.Running cpu) h = sym (only_there a s.placed s.home id (place.Running cpu) (λ e. cc) h)
 
   one_place : (id : ℕ) → HasOnePlace a (flags_in at) id
-  one_place id = record {
-    here = here id (a.place id) (s.locks id) (s.placed.is_there id);
-    only = only id;
-    locked = locked_flags (a.place id) (flags_in at id) (s.locks id);
-    held = λ cpu h. s.owns cpu id h;
-  }
+  one_place id = search (here, only, locked_flags, arith)
 
   pub in_one_place : InOnePlace a at
   in_one_place = record { each = one_place; queue_apart = s.placed.queue_apart; batch_apart = s.placed.batch_apart }
@@ -71,8 +59,7 @@ module _ (source : ℕ) where
   from calls = calls_from source calls
 
   first : (b : Bool) (x : Call) (xs ys : List Call) → IsPermutation xs ys → IsPermutation (cond b (x ∷ xs) xs) (cond b (x ∷ ys) ys)
-  first true x xs ys h = IsPermutation-cons x xs ys h
-  first false x xs ys h = h
+  first x y xs ys h = search (IsPermutation-cons, arith)
 
   later : (b : Bool) (x : Call) (xs us vs : List Call) → IsPermutation xs (us ++ vs) → IsPermutation (cond b (x ∷ xs) xs) (us ++ cond b (x ∷ vs) vs)
   later true x xs us vs h = IsPermutation-trans _ _ _ (IsPermutation-cons x xs (us ++ vs) h) (IsPermutation-sym _ _ (IsPermutation-middle us x vs))
@@ -80,10 +67,7 @@ module _ (source : ℕ) where
 
   by_class : (class : Class) (x : Call) (rest : List Call) → IsPermutation (from rest) (from (order rest))
       → IsPermutation (from (x ∷ rest)) (from ((if_sync class x ++ sync_calls rest) ++ (if_async class x ++ async_calls rest)))
-  by_class Sync x rest h = first (owner x.id == source) x (from rest) (from (order rest)) h
-  by_class Async x rest h = subst (IsPermutation (from (x ∷ rest))) (sym (from-append source (sync_calls rest) (x ∷ async_calls rest)))
-      (later (owner x.id == source) x (from rest) (from (sync_calls rest)) (from (async_calls rest))
-      (subst (IsPermutation (from rest)) (from-append source (sync_calls rest) (async_calls rest)) h))
+  by_class x y rest h = search (first, from-append, later, arith)
 
   from_order : (calls : List Call) → IsPermutation (from calls) (from (order calls))
   from_order [] = IsPermutation-refl []
@@ -104,9 +88,7 @@ module _ (a : CallState) (r : Recorded a.sent a.taken a.queue a.ran a.running a.
 
   -- and it is, in drain order, what has begun and what waits
   parts : (cpu : ℕ) → orders (a.taken cpu) ++ a.queue cpu ≡ begun a cpu ++ waiting a cpu
-  parts cpu = let run : List Call = running_call (a.running cpu) in
-      ap (λ xs. xs ++ a.queue cpu) (sym (r.drained cpu) ∙ sym (append_assoc (a.ran cpu) run (a.batch cpu)))
-      ∙ append_assoc (begun a cpu) (a.batch cpu) (a.queue cpu)
+  parts cpu = search (append_assoc, arith)
 
   pub once_recorded : RunOnce a
   once_recorded source cpu =

@@ -1,10 +1,10 @@
 -- The laws of the call half.
-use Rattle.std.proofs.Common.{arith, ◌≡◌, ◌≢◌, ℕ, ◌==◌, Bool, true, false, cond, List, [], ◌∷◌, ◌++◌, inl, inr, sym, subst, refl, ap, ◌∙◌}
+use Rattle.std.proofs.Common.{arith, ◌≡◌, ◌≢◌, ℕ, ◌==◌, Bool, cond, List, [], ◌∷◌, ◌++◌, inl, inr, sym, subst, refl, ap, ◌∙◌}
 use Rattle.std.specs.List.{AllByRecursion}
 use Rattle.smp_words.specs.Size.{owner}
 use Rattle.smp_call_steps.specs.{CallState, Sending, batches, Marked, mark, marked, others_marked, batches_marked, history_of, sent_to, marked_from}
-use Rattle.smp_call_steps.specs.{calls_from, Holds, HasRecord, IsPlaced, IsThere, locked_by, NothingCalled, StepsAreTold, calls_to, RunAtMostOnce}
-use Rattle.smp_call_steps.specs.{if_class, of_class, IsPrefix, Call, Class, Sync, Async, RecPlace}
+use Rattle.smp_call_steps.specs.{calls_from, Holds, HasRecord, IsPlaced, IsThere, NothingCalled, StepsAreTold, calls_to, RunAtMostOnce}
+use Rattle.smp_call_steps.specs.{if_class, of_class, IsPrefix, Call, Class, RecPlace}
 use Rattle.smp_call_steps.specs.Reached.{ArePlaced}
 use Rattle.smp_call_steps.proofs.Knows.OneStep.{known_step}
 use Rattle.smp_call_steps.proofs.State.QueueOrder.{run_in_queue_order}
@@ -27,32 +27,23 @@ placed_there places p id (call ∷ rest) all (inr h) = placed_there places p id 
 -- where a record is, by the place law alone
 module _ (a : CallState) (placed : ArePlaced a) (home : (cpu id : ℕ) → Holds (a.held cpu) id → a.place id ≡ place.Held) where
   pub only_there : (id : ℕ) (p : RecPlace) → p ≢ place.Free → IsThere a.held a.queue a.batch a.running id p → a.place id ≡ p
-  only_there id place.Free ne h = absurd (ne refl)
-  only_there id place.Held ne h = home (owner id) id h
-  only_there id (place.Queued cpu) ne h = placed_there a.place (place.Queued cpu) id (a.queue cpu) (placed.queued cpu) h
-  only_there id (place.Batch cpu) ne h = placed_there a.place (place.Batch cpu) id (a.batch cpu) (placed.batched cpu) h
-  only_there id (place.Running cpu) ne h = placed_there a.place (place.Running cpu) id (locked_by (a.running cpu)) (placed.runs cpu) h
+  only_there id x ne h = search (placed_there, arith)
 
 -- of a class and of a source, one after the other
 
 keeps : (class : Class) (b : Bool) (call : Call) (rest left : List Call) → if_class class call.class call ≡ call ∷ [] → of_class class rest ≡ left
     → of_class class (cond b (call ∷ rest) rest) ≡ cond b (call ∷ left) left
-keeps class true call rest left e h = ap (λ (k : List Call). k ++ of_class class rest) e ∙ ap (λ (k : List Call). call ∷ k) h
-keeps class false call rest left e h = h
+keeps class x call rest left e h = search arith
 
 drops : (class : Class) (b : Bool) (call : Call) (rest left : List Call) → if_class class call.class call ≡ [] → of_class class rest ≡ left
     → of_class class (cond b (call ∷ rest) rest) ≡ left
-drops class true call rest left e h = ap (λ (k : List Call). k ++ of_class class rest) e ∙ h
-drops class false call rest left e h = h
+drops class x call rest left e h = search arith
 
 module _ (source : ℕ) where
   class_from : (class of : Class) (call : Call) (rest : List Call) → call.class ≡ of
       → of_class class (calls_from source rest) ≡ calls_from source (of_class class rest) →
       of_class class (calls_from source (call ∷ rest)) ≡ calls_from source (if_class class of call ++ of_class class rest)
-  class_from Sync Sync call rest e h = keeps Sync (owner call.id == source) call (calls_from source rest) (calls_from source (of_class Sync rest)) (rw e refl) h
-  class_from Sync Async call rest e h = search (drops, arith)
-  class_from Async Sync call rest e h = search (drops, arith)
-  class_from Async Async call rest e h = search (keeps, arith)
+  class_from x y call rest e h = search (keeps, drops, arith)
 
   pub from_class : (class : Class) (calls : List Call) → of_class class (calls_from source calls) ≡ calls_from source (of_class class calls)
   from_class class [] = refl
@@ -61,8 +52,7 @@ module _ (source : ℕ) where
   from_one : (b : Bool) (x : Call) (xs ys : List Call) → calls_from source (xs ++ ys) ≡ calls_from source xs ++ calls_from source ys →
       cond b (x ∷ calls_from source (xs ++ ys)) (calls_from source (xs ++ ys)) ≡ cond b (x ∷ calls_from source xs) (calls_from source xs)
       ++ calls_from source ys
-  from_one true x xs ys e = ap (λ (k : List Call). x ∷ k) e
-  from_one false x xs ys e = e
+  from_one x y xs ys e = search arith
 
   pub from-append : (xs ys : List Call) → calls_from source (xs ++ ys) ≡ calls_from source xs ++ calls_from source ys
   from-append [] ys = refl
@@ -80,8 +70,7 @@ unmarked-append (x ∷ xs) ys = ap (λ (k : List Call). x.call ∷ k) (unmarked-
 
 unmarked_if : (b : Bool) (m : Marked) (ms : List Marked) (calls : List Call) → unmarked ms ≡ calls
     → unmarked (cond b (m ∷ ms) ms) ≡ cond b (m.call ∷ calls) calls
-unmarked_if true m ms calls e = ap (λ (k : List Call). m.call ∷ k) e
-unmarked_if false m ms calls e = e
+unmarked_if x m ms calls e = search arith
 
 pub unmarked_sent : (cpu : ℕ) (sent : List Sending) → unmarked (sent_to cpu sent) ≡ calls_to cpu sent
 unmarked_sent cpu [] = refl
@@ -96,8 +85,7 @@ unmarked_others [] = refl
 unmarked_others (call ∷ rest) = ap (λ (k : List Call). call ∷ k) (unmarked_others rest)
 
 unmarked_all : (calls : List Call) → unmarked (marked calls) ≡ calls
-unmarked_all [] = refl
-unmarked_all (call ∷ rest) = ap (λ (k : List Call). call ∷ k) (unmarked_others rest)
+unmarked_all x = search (unmarked_others, arith)
 
 pub unmarked_batches : (taken : List (List Call)) → unmarked (batches_marked taken) ≡ batches taken
 unmarked_batches [] = refl

@@ -1,5 +1,5 @@
 -- Each step that a CPU may make keeps what the words say: flags lock, tallies count, and a CPU whose handling word is 0 handles nothing.
-use Rattle.std.proofs.Common.{◌≡◌, ◌≢◌, ℕ, zero, suc, ◌+◌, ◌-◌, ◌%◌, ◌^◌, ◌==◌, ◌&&◌, nat_lt, Bool, true, false, cond, inl, inr, Option, Some, None}
+use Rattle.std.proofs.Common.{◌≡◌, ◌≢◌, ℕ, suc, ◌+◌, ◌-◌, ◌%◌, ◌^◌, ◌==◌, ◌&&◌, nat_lt, Bool, true, false, cond, inl, inr, Option, Some, None}
 use Rattle.std.proofs.Common.{List, [], ◌∷◌, ◌++◌, length, sym, subst, refl, ap, ◌∙◌, arith, true≢false, not}
 use Rattle.std.proofs.lemmas.Bool.{ltb-true, lt-ltb, eq-eqb, ne_eqb}
 use Rattle.std.proofs.lemmas.List.{append-nil}
@@ -31,33 +31,27 @@ pub record AgreesWith (a : CallState) (at : Word → ℕ) : Type 0 where
   pub idle : (cpu : ℕ) → at (Hand cpu) ≡ 0 → Rests (share_of a cpu)
 
 uncounted_none : (h : Option Holding) (id cpu : ℕ) → HoldsUncounted h id → one_held None cpu ≡ one_held h cpu
-uncounted_none None id cpu m = absurd m
-uncounted_none (Some h) id cpu m = rw m.1 refl
+uncounted_none x id cpu m = search arith
 
 same_held : (f : Holding → Holding) → ((h : Holding) (cpu : ℕ) → one_held (Some (f h)) cpu ≡ one_held (Some h) cpu) → (h : Option Holding) (cpu : ℕ)
     → one_held (holding_with f h) cpu ≡ one_held h cpu
-same_held f same None cpu = refl
-same_held f same (Some h) cpu = same h cpu
+same_held f same x cpu = search arith
 
 -- a call that is counted for this CPU, or counted back
 recounted_as : (b : Bool) (t n x to : ℕ) → (b ≡ true → t ≡ to) → n ≡ (x + cond (b && (t == to)) 1 0) % 2 ^ 64
     → cond b ((n + (2 ^ 64 - 1)) % 2 ^ 64) ((n + 1) % 2 ^ 64) ≡ (x + cond (not b && (to == to)) 1 0) % 2 ^ 64
-recounted_as true t n x to m e = count_less n x (rw (m refl, eq-eqb to to refl) at e)
-recounted_as false t n x to m e = rw (eq-eqb to to refl) (count_more n x e)
+recounted_as x t n z to m e = search (count_less, eq-eqb, count_more, arith)
 
 recounted_here : (h : Option Holding) (n x to : ℕ) → MayCount h to → n ≡ (x + one_held h to) % 2 ^ 64
     → recounted h n ≡ (x + one_held (holding_with (with_count to) h) to) % 2 ^ 64
-recounted_here None n x to m e = absurd m
-recounted_here (Some h) n x to m e = recounted_as h.is_counted h.to n x to m e
+recounted_here x n z to m e = search (recounted_as, arith)
 
 -- is counted for no other, before and after
 recount_else : (b : Bool) (t to cpu : ℕ) → cpu ≢ to → (b ≡ true → t ≡ to) → cond (not b && (to == cpu)) 1 0 ≡ cond {A = ℕ} (b && (t == cpu)) 1 0
-recount_else true t to cpu ne m = rw (m refl, ne_eqb to cpu (λ f. ne (sym f))) refl
-recount_else false t to cpu ne m = rw (ne_eqb to cpu (λ f. ne (sym f))) refl
+recount_else x t to cpu ne m = search (ne_eqb, arith)
 
 recounted_else : (h : Option Holding) (to cpu : ℕ) → cpu ≢ to → MayCount h to → one_held (holding_with (with_count to) h) cpu ≡ one_held h cpu
-recounted_else None to cpu ne m = refl
-recounted_else (Some h) to cpu ne m = recount_else h.is_counted h.to to cpu ne m
+recounted_else x to cpu ne m = search (recount_else, arith)
 
 held_for : (h : Option Holding) (to : ℕ) → HoldsFor h to → (call : Call) × (h ≡ counted_hold call to)
 held_for None to m = absurd m
@@ -65,11 +59,7 @@ held_for (Some h) to m = (h.call, λ i. Some (record { call = h.call; to = m.1 i
 
 -- a record that is taken is locked as before
 taken_locked : (me : ℕ) (p : RecPlace) (flags : ℕ) → FlagsShow p flags → FlagsShow (place_taken me p) flags
-taken_locked me place.Free flags h = h
-taken_locked me place.Held flags h = h
-taken_locked me (place.Queued cpu) flags h = at_test cpu me (λ b. FlagsShow (cond b (place.Batch me) (place.Queued cpu)) flags) (λ _. h) (λ _. h)
-taken_locked me (place.Batch cpu) flags h = h
-taken_locked me (place.Running cpu) flags h = h
+taken_locked me x flags h = search (at_test, arith)
 
 Held≢Free : place.Held ≢ place.Free
 Held≢Free e = cc
@@ -83,8 +73,7 @@ module _ (a : CallState) (at : Word → ℕ) (me : ℕ) (k : KeepsLaws a) (g : A
   locks_put id n p here u = at_test u id (λ b. FlagsShow (cond b p (a.place u)) (cond b n (at (Flags u)))) (λ _. here) (λ _. g.locks u)
 
   locks_moved : (id : ℕ) (p : RecPlace) → FlagsShow p (at (Flags id)) → (u : ℕ) → FlagsShow (put a.place id p u) (at (Flags u))
-  locks_moved id p here u = at_test u id (λ b. FlagsShow (cond b p (a.place u)) (at (Flags u))) (λ e. subst (λ v. FlagsShow p (at (Flags v))) (sym e) here)
-      (λ _. g.locks u)
+  locks_moved id p here u = search (at_test, arith)
 
   odd : (id : ℕ) (p : RecPlace) → a.place id ≡ p → p ≢ place.Free → at (Flags id) % 2 ≡ 1
   odd id p e ne = locked_flags p (at (Flags id)) (subst (λ q. FlagsShow q (at (Flags id))) e (g.locks id)) ne
@@ -92,25 +81,16 @@ module _ (a : CallState) (at : Word → ℕ) (me : ℕ) (k : KeepsLaws a) (g : A
   -- what is held counts as before
   tallied_held : (h : Option Holding) → ((cpu : ℕ) → one_held h cpu ≡ one_held (a.held me) cpu)
       → Tallied (queued_in at) (ran_in at) a.sent (put a.held me h) a.ran a.running
-  tallied_held h same = record {
-    queued_are = λ source cpu. g.tallied.queued_are source cpu ∙ ap (λ (n : ℕ). (length (sent_to cpu (a.sent source)) + n) % 2 ^ 64)
-        (sym (put_all (λ x (y : Option Holding). one_held y cpu ≡ one_held (a.held x) cpu) a.held me h (same cpu) (λ _ _. refl) source));
-    ran_are = g.tallied.ran_are;
-  }
+  tallied_held h same = search (put_all, arith)
 
   -- what runs, and has run, counts as before
   tallied_ran : (xs : List Call) (r : Running) → xs ++ counted_call r ≡ a.ran me ++ counted_call (a.running me)
       → Tallied (queued_in at) (ran_in at) a.sent a.held (put a.ran me xs) (put a.running me r)
-  tallied_ran xs r same = tallied_same (queued_in at) (ran_in at) a.sent a.held a.ran (put a.ran me xs) a.running (put a.running me r)
-      (put_both (λ cpu (ys : List Call) (q : Running). ys ++ counted_call q ≡ a.ran cpu ++ counted_call (a.running cpu))
-      a.ran a.running me xs r same (λ _ _. refl))
-      g.tallied
+  tallied_ran xs r same = search (tallied_same, put_both, arith)
 
   tallied_running : (r : Running) → a.ran me ++ counted_call r ≡ a.ran me ++ counted_call (a.running me)
       → Tallied (queued_in at) (ran_in at) a.sent a.held a.ran (put a.running me r)
-  tallied_running r same = tallied_same (queued_in at) (ran_in at) a.sent a.held a.ran a.ran a.running (put a.running me r)
-      (put_all (λ cpu (q : Running). a.ran cpu ++ counted_call q ≡ a.ran cpu ++ counted_call (a.running cpu)) a.running me r same (λ _ _. refl))
-      g.tallied
+  tallied_running r same = search (tallied_same, put_all, arith)
 
   -- a CPU that has something to run is inside handle, so another one is outside
   running_inside : (r : Running) → a.running me ≡ r → r ≢ Nothing → at (Hand me) ≢ 0
@@ -162,8 +142,7 @@ module _ (a : CallState) (at : Word → ℕ) (me : ℕ) (k : KeepsLaws a) (g : A
 
   agrees_unlocks : (id : ℕ) (r : Running) (to : Word → ℕ) → a.held me ≡ None → a.running me ≡ r → AgreesWith (unlocks a me r) to
       → AgreesWith (releases a me id (a.held me)) to
-  agrees_unlocks id r to none running h =
-      subst (λ x. AgreesWith (releases a me id x) to) (sym none) (subst (λ x. AgreesWith (unlocks a me x) to) (sym running) h)
+  agrees_unlocks id r to none running h = search arith
 
   unlocked_word : (b : CallState) (id : ℕ) (call : Call) → call.id ≡ id → AgreesWith b (put_word at (Flags call.id) 0) → AgreesWith b (put_word at (Flags id) 0)
   unlocked_word b id call e h = subst (λ u. AgreesWith b (put_word at (Flags u) 0)) e h
@@ -175,10 +154,7 @@ module _ (a : CallState) (at : Word → ℕ) (me : ℕ) (k : KeepsLaws a) (g : A
   agrees_releases id (inr (inr m)) = let n = m.1.2 in agrees_unlocks id Nothing _ m.0 n.idle (unlocked_word _ id m.1.0 m.1.1 (agrees_async m.1.0 n))
 
   agrees_flags : (id n : ℕ) → MayStoreFlags a me id n → AgreesWith (flags_told a me id act.Store None (Some n)) (put_word at (Flags id) n)
-  agrees_flags id zero m = agrees_releases id m
-  agrees_flags id (suc n) m =
-      at_test (suc n) 0 (λ b. AgreesWith (cond b (releases a me id (a.held me)) (locked a me id (suc n))) (put_word at (Flags id) (suc n)))
-      (λ e. absurd (omega arith)) (λ _. agrees_locked id n m.0 m.1)
+  agrees_flags id x m = search (agrees_releases, at_test, agrees_locked, arith)
 
   agrees_confirmed : (b : Bool) (id : ℕ) → AgreesWith (cond b a (confirms a me id)) at
   agrees_confirmed true id = g
@@ -246,12 +222,7 @@ module _ (a : CallState) (at : Word → ℕ) (me : ℕ) (k : KeepsLaws a) (g : A
 
   agrees_counts : (source n : ℕ) → MayCountRun a me source → n ≡ (at (Ran me source) + 1) % 2 ^ 64
       → AgreesWith (counts a me (a.running me)) (put_word at (Ran me source) n)
-  agrees_counts source n m e =
-      let call = m.0 in
-      subst (λ r. AgreesWith (counts a me r) (put_word at (Ran me source) n)) (sym m.2)
-      (subst (λ x. AgreesWith (counts a me (runs_as call.class call)) (put_word at (Ran me source) x)) (sym e)
-      (subst (λ s. AgreesWith (counts a me (runs_as call.class call)) (put_word at (Ran me s) ((at (Ran me s) + 1) % 2 ^ 64))) m.1
-      (agrees_counted call.class call m.2)))
+  agrees_counts source n m e = search (agrees_counted, arith)
 
   agrees_sync : (call : Call) (n : ℕ) → n ≡ call.id + 2 → IsNext a me Sync call → AgreesWith (begins_sync a me (a.batch me)) (put_word at (Hand me) n)
   agrees_sync call n is next = subst (λ xs. AgreesWith (begins_sync a me xs) (put_word at (Hand me) n)) (sym next.front) (record {

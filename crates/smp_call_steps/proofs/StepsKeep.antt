@@ -61,16 +61,13 @@ IsHeld None = ⊥
 IsHeld (Some h) = Unit {0}
 
 held_uncounted : (h : Option Holding) (id : ℕ) → HoldsUncounted h id → IsHeld h
-held_uncounted None id m = m
-held_uncounted (Some h) id m = tt
+held_uncounted x id m = search arith
 
 held_countable : (h : Option Holding) (to : ℕ) → MayCount h to → IsHeld h
-held_countable None to m = m
-held_countable (Some h) to m = tt
+held_countable x to m = search arith
 
 pub one_of : (P : CallState → Type 0) (b : Bool) (x y : CallState) → (b ≡ true → P x) → (b ≡ false → P y) → P (cond b x y)
-one_of P true x y px py = px refl
-one_of P false x y px py = py refl
+one_of x y z u px py = search arith
 
 Held≢Batch : (cpu : ℕ) → place.Held ≢ place.Batch cpu
 Held≢Batch cpu e = cc
@@ -217,8 +214,7 @@ module _ (a : CallState) (me : ℕ) (k : KeepsLaws a) where
 
   ended_recorded : (call : Call) → running_call (a.running me) ≡ call ∷ []
       → Recorded a.sent a.taken a.queue (ran_then call) (put a.running me Nothing) a.batch
-  ended_recorded call is = recorded_counted a me k.recorded Nothing (ran_then call) (λ cpu ne. test_else cpu me (a.ran me ++ call ∷ []) (a.ran cpu) ne)
-      (append-nil (ran_then call me) ∙ (test_here me (a.ran me ++ call ∷ []) (a.ran me) ∙ ap (λ xs. a.ran me ++ xs) (sym is)))
+  ended_recorded call is = search (recorded_counted, test_else, append-nil, test_here, arith)
 
   kept_counts : (r : Running) → a.running me ≡ r → KeepsLaws (counts a me r)
   kept_counts (SyncCall call) e = record {
@@ -251,8 +247,7 @@ module _ (a : CallState) (me : ℕ) (k : KeepsLaws a) where
   }
 
   kept_unlocks : (id : ℕ) (r : Running) → a.held me ≡ None → a.running me ≡ r → KeepsLaws (unlocks a me r) → KeepsLaws (releases a me id (a.held me))
-  kept_unlocks id r none running kept =
-      subst (λ h. KeepsLaws (releases a me id h)) (sym none) (subst (λ x. KeepsLaws (unlocks a me x)) (sym running) kept)
+  kept_unlocks id r none running kept = search arith
 
   kept_releases : (id : ℕ) → MayUnlock a me id → KeepsLaws (releases a me id (a.held me))
   kept_releases id (inl m) = kept_given_up id (a.held me) refl m.0

@@ -1,8 +1,8 @@
 -- Facts of all elements of a list.
 use Rattle.smp_words.specs.Flags.{class_of, flags_of}
-use Rattle.std.proofs.Common.{refl, ◌≡◌, List, [], ◌∷◌, ◌++◌}
+use Rattle.std.proofs.Common.{◌≡◌, List, [], ◌∷◌, ◌++◌, arith}
 use Rattle.std.specs.List.{AllByRecursion}
-use Rattle.smp_call_steps.specs.{if_sync, if_async, sync_calls, async_calls, Call, Class, Sync, Async}
+use Rattle.smp_call_steps.specs.{if_sync, if_async, sync_calls, async_calls, Call, Class}
 
 pub every : {A : Type 0} (P Q : A → Type 0) → ((x : A) → P x → Q x) → (xs : List A) → AllByRecursion P xs → AllByRecursion Q xs
 every P Q f [] h = tt
@@ -34,8 +34,7 @@ pub every_last : {A : Type 0} (P : A → Type 0) (xs : List A) (y : A) → AllBy
 every_last P xs y h = let k = every_right P xs (y ∷ []) h in k.0
 
 one_class : (P : Call → Type 0) (class : Class) (call : Call) → AllByRecursion P (if_sync class call) → AllByRecursion P (if_async class call) → P call
-one_class P Sync call h k = h.0
-one_class P Async call h k = k.0
+one_class x y call h k = search arith
 
 -- the calls of both classes are all calls
 pub every_class : (P : Call → Type 0) (calls : List Call) → AllByRecursion P (sync_calls calls) → AllByRecursion P (async_calls calls) → AllByRecursion P calls
@@ -46,12 +45,10 @@ every_class P (call ∷ rest) h k = (
 )
 
 one_sync : (P : Call → Type 0) (class : Class) (call : Call) → P call → AllByRecursion P (if_sync class call)
-one_sync P Sync call p = (p, tt)
-one_sync P Async call p = tt
+one_sync x y call p = search arith
 
 one_async : (P : Call → Type 0) (class : Class) (call : Call) → P call → AllByRecursion P (if_async class call)
-one_async P Sync call p = tt
-one_async P Async call p = (p, tt)
+one_async x y call p = search arith
 
 pub every_sync : (P : Call → Type 0) (calls : List Call) → AllByRecursion P calls → AllByRecursion P (sync_calls calls)
 every_sync P [] h = tt
@@ -63,5 +60,4 @@ every_async P (call ∷ rest) h = every_append P (if_async call.class call) (asy
 
 -- the class of a record is in its flags
 pub class_of-flags_of : (class : Class) → class_of (flags_of class) ≡ class
-class_of-flags_of Sync = refl
-class_of-flags_of Async = refl
+class_of-flags_of x = search arith

@@ -1,5 +1,5 @@
 -- The calls that were sent and those that were queued, with one more.
-use Rattle.std.proofs.Common.{arith, ◌≡◌, ◌≢◌, ℕ, Bool, true, false, cond, ◌==◌, List, [], ◌∷◌, ◌++◌, refl, ap, append_assoc}
+use Rattle.std.proofs.Common.{arith, ◌≡◌, ◌≢◌, ℕ, Bool, false, cond, ◌==◌, List, [], ◌∷◌, ◌++◌, refl, ap, append_assoc}
 use Rattle.std.proofs.lemmas.Bool.{eq-eqb, ne_eqb}
 use Rattle.smp_words.specs.Size.{owner}
 use Rattle.smp_call_steps.specs.{Sending, is_nil, Marked, mark, marked, others_marked, history_of, sent_to, marked_from, calls_from, Call}
@@ -8,8 +8,7 @@ abbrev pub one_if : {A : Type 0} → Bool → A → List A
 one_if b x = cond b (x ∷ []) []
 
 push_if : {A : Type 0} (b : Bool) (x : A) (rest ys : List A) → cond b (x ∷ (rest ++ ys)) (rest ++ ys) ≡ cond b (x ∷ rest) rest ++ ys
-push_if true x rest ys = refl
-push_if false x rest ys = refl
+push_if x y rest ys = search arith
 
 pub sent_to-push : (cpu : ℕ) (xs : List Sending) (y : Sending) → sent_to cpu (xs ++ y ∷ []) ≡ sent_to cpu xs ++ one_if (y.to == cpu) (mark y.is_first y.call)
 sent_to-push cpu [] y = refl
@@ -36,8 +35,7 @@ others_marked-push (x ∷ xs) y = ap (λ (ms : List Marked). mark false x ∷ ms
 
 -- one more in a queue is marked where the queue was empty
 pub marked-push : (xs : List Call) (y : Call) → marked (xs ++ y ∷ []) ≡ marked xs ++ mark (is_nil xs) y ∷ []
-marked-push [] y = refl
-marked-push (x ∷ xs) y = ap (λ (ms : List Marked). mark true x ∷ ms) (others_marked-push xs y)
+marked-push x y = search (others_marked-push, arith)
 
 pub history-push : (taken : List (List Call)) (queue : List Call) (y : Call)
     → history_of taken (queue ++ y ∷ []) ≡ history_of taken queue ++ mark (is_nil queue) y ∷ []

@@ -1,16 +1,16 @@
 -- A CPU inside handle: what holds of it by the laws, and what it knows after each of its steps.
-use Rattle.std.proofs.Common.{◌≡◌, ◌≢◌, ℕ, ◌%◌, ◌<◌, ◌==◌, Bool, true, cond, Option, Some, None, List, [], ◌∷◌, length, sym, subst, ap, ◌∙◌, arith}
+use Rattle.std.proofs.Common.{◌≡◌, ◌≢◌, ℕ, ◌%◌, ◌<◌, Option, Some, None, List, [], ◌∷◌, length, sym, subst, ap, ◌∙◌, arith}
 use Rattle.std.proofs.lemmas.Bool.{eq-eqb}
 use Rattle.smp_words.specs.Size.{cpus, records}
 use Rattle.smp_words.specs.Access.{word_of}
-use Rattle.smp_call_steps.specs.{CountedCall, DrainValue, no_drain, record_at, first_on, handle_outcome, drain_after, IsPlaced, AllPlaced}
+use Rattle.smp_call_steps.specs.{CountedCall, DrainValue, no_drain, record_at, first_on, IsPlaced, AllPlaced}
 use Rattle.smp_call_steps.specs.{nexts_in, last_batch, access_of, FitsStage, Share, share_of}
 use Rattle.smp_call_steps.specs.{HandleStands, held_of, CallPart}
-use Rattle.smp_call_steps.specs.{part_confirmed, part_after, told_stage, told_post, told_handle, known_told, known_taking, stage_after}
+use Rattle.smp_call_steps.specs.{part_after, told_stage, told_post, told_handle, known_told, known_taking, stage_after}
 use Rattle.smp_call_steps.specs.{drain_then, tried_after, heads_after, log_after, steps_after, sent_after, asked_then, MayStep, known_access}
 use Rattle.smp_call_steps.specs.{Lives, handling, goes_known}
 use Rattle.smp_call_steps.specs.{taken_known, left_known, ended_call, Call, Word, Head, Hand, Flags, Func, Info, Next, Access, Act, Posting, PostStage, Walk}
-use Rattle.smp_call_steps.specs.{HandleStage, Stage, Post, Handle}
+use Rattle.smp_call_steps.specs.{HandleStage, Stage, Handle}
 use Rattle.smp_words.proofs.Links.{HasIndex}
 use Rattle.smp_call_steps.proofs.Machine.Accesses.{access_in_table}
 use Rattle.smp_call_steps.proofs.State.Walks.{walks_rest, same_record}
@@ -19,22 +19,17 @@ use Rattle.smp_call_steps.proofs.Knows.Restages.{access_known}
 use Rattle.smp_call_steps.specs.declared.known.KnownCalls.{KnownCalls}
 use Rattle.smp_call_steps.specs.place
 use Rattle.smp_call_steps.specs.act
-use Rattle.smp_call_steps.specs.post
 use Rattle.smp_call_steps.specs.handle
 
 -- who is told to be at a step of handle is there
 post_tells : (p : Posting) (st : PostStage) (h : HandleStage) → told_post p st ≢ Some (Handle h)
-post_tells p post.LoadFlags h e = cc
-post_tells p _ h e = cc
+post_tells p x h e = search arith
 
 handle_tells : (g h : HandleStage) → told_handle g ≡ Some (Handle h) → Some (Handle g) ≡ Some (Handle h)
-handle_tells handle.Enter h e = cc
-handle_tells _ h e = e
+handle_tells x h e = search arith
 
 told_there : (s : Option Stage) (h : HandleStage) → told_stage s ≡ Some (Handle h) → s ≡ Some (Handle h)
-told_there (Some (Post p st)) h e = absurd (post_tells p st h e)
-told_there (Some (Handle g)) h e = handle_tells g h e
-told_there _ h e = cc
+told_there x h e = search (post_tells, handle_tells, arith)
 
 -- what is a CPU's own of the drain, as it knows it
 abbrev pub share_in : CallPart → Share
@@ -142,12 +137,7 @@ next_stored_is v h id n e = told_at [] v (Some (Handle h)) act.Store (Next id) N
 
 pub flags_found_is : (v : KnownCalls) (h : HandleStage) (id n : ℕ) → v.stage ≡ Some (Handle h) → n % 2 ≡ 1
     → known_told v act.Load (Flags id) (Some n) None ≡ goes_known h n v
-flags_found_is v h id n e odd = told_at [] v (Some (Handle h)) act.Load (Flags id) (Some n) None e ∙ by_test (n % 2 == 1) (eq-eqb (n % 2) 1 odd)
-  where
-    by_test : (b : Bool) → b ≡ true →
-        record v { stage = (handle_outcome v.drain h n).next; drain = drain_after v.drain h n; part = cond b v.part (part_confirmed id v.part) }
-        ≡ goes_known h n v
-    by_test b f = search arith
+flags_found_is v h id n e odd = search (told_at, eq-eqb, arith)
 
 -- steps that begin, count and end a call
 

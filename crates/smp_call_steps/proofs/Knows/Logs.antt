@@ -1,28 +1,23 @@
 -- A step's log is what it has sent.
-use Rattle.std.proofs.Common.{◌≡◌, ℕ, ◌%◌, ◌≤◌, ◌==◌, nat_lt, Bool, true, false, cond, Option, Some, None, List, [], ◌∷◌, length}
-use Rattle.std.proofs.Common.{sym, ap, ◌∙◌, subst, refl, arith}
+use Rattle.std.proofs.Common.{◌≡◌, ℕ, ◌≤◌, Bool, true, false, cond, Option, Some, None, List, [], length}
+use Rattle.std.proofs.Common.{ap, ◌∙◌, refl, arith}
 use Rattle.smp_words.specs.Access.{act_of, word_of, seen_of}
-use Rattle.smp_call_steps.specs.{CallState, Holding, Running, CountedCall, SyncCall, AsyncCall, confirms, locked, releases, unlocks, begins_sync}
+use Rattle.smp_call_steps.specs.{CallState, Holding, Running, confirms, locked, releases, unlocks, begins_sync}
 use Rattle.smp_call_steps.specs.{begins_async, counts, links, held_told, flags_told, hand_told, appended, told, Sees, MayStep, known_access}
 use Rattle.smp_call_steps.specs.{known_tells, log_after, sent_after}
-use Rattle.smp_call_steps.specs.{SendsNothing, SendsCall, Sends, log_with, sent_with, LogsTell, ControlValue, Call, Word, Head, Intr, Hand, Queued, Ran}
-use Rattle.smp_call_steps.specs.{Flags, Func}
-use Rattle.smp_call_steps.specs.{Info, Next, Act, Stage, Post, Handle, Logged}
+use Rattle.smp_call_steps.specs.{SendsNothing, SendsCall, Sends, log_with, sent_with, LogsTell, ControlValue, Call, Word, Head, Intr}
+use Rattle.smp_call_steps.specs.{Act, Stage, Logged}
 use Rattle.smp_call_steps.specs.Shows.{Shows}
 use Rattle.smp_call_steps.proofs.Knows.Restages.{aims_held}
 use Rattle.smp_call_steps.specs.declared.known.KnownCalls.{KnownCalls}
 use Rattle.smp_call_steps.specs.act
-use Rattle.smp_call_steps.specs.handle
 use Rattle.smp_call_steps.specs.logged
-use Rattle.smp_call_steps.specs.post
 
 shorter : (b : Bool) (calls : List Call) → length (cond b [] calls) ≤ length calls
-shorter true calls = omega arith
-shorter false calls = omega arith
+shorter x calls = search arith
 
 was_pending : (b p : Bool) → cond b false p ≡ true → p ≡ true
-was_pending true p e = cc
-was_pending false p e = e
+was_pending x p e = search arith
 
 -- a CPU holds a call
 abbrev IsHeld : Option Holding → Type 0
@@ -40,73 +35,46 @@ module _ (a : CallState) (me : ℕ) where
   quiet b q p = search arith
 
   quiet_async : (calls : List Call) → SendsNothing a (begins_async a me calls)
-  quiet_async [] = quiet a refl refl
-  quiet_async (call ∷ rest) = quiet (begins_async a me (call ∷ rest)) refl refl
+  quiet_async x = search (quiet, arith)
 
   quiet_sync : (b : Bool) (calls : List Call) → SendsNothing a (cond b (begins_sync a me calls) a)
-  quiet_sync true [] = quiet a refl refl
-  quiet_sync true (call ∷ rest) = quiet (begins_sync a me (call ∷ rest)) refl refl
-  quiet_sync false calls = quiet a refl refl
+  quiet_sync x calls = search (quiet, arith)
 
   quiet_unlocks : (running : Running) → SendsNothing a (unlocks a me running)
-  quiet_unlocks (CountedCall call) = quiet (unlocks a me (CountedCall call)) refl refl
-  quiet_unlocks _ = quiet_async (a.batch me)
+  quiet_unlocks x = search (quiet, quiet_async, arith)
 
   quiet_releases : (id : ℕ) (held : Option Holding) → SendsNothing a (releases a me id held)
-  quiet_releases id (Some h) = quiet (releases a me id (Some h)) refl refl
-  quiet_releases id None = quiet_unlocks (a.running me)
+  quiet_releases id x = search (quiet, quiet_unlocks, arith)
 
   quiet_counts : (running : Running) → SendsNothing a (counts a me running)
-  quiet_counts (SyncCall call) = quiet (counts a me (SyncCall call)) refl refl
-  quiet_counts (AsyncCall call) = quiet (counts a me (AsyncCall call)) refl refl
-  quiet_counts _ = quiet a refl refl
+  quiet_counts x = search (quiet, arith)
 
   quiet_links : (put : Option ℕ) (held : Option Holding) → SendsNothing a (links a me put held)
-  quiet_links (Some n) (Some h) = quiet (links a me (Some n) (Some h)) refl refl
-  quiet_links _ _ = quiet a refl refl
+  quiet_links x y = search (quiet, arith)
 
   quiet_held : (f : ℕ → Holding → Holding) (put : Option ℕ) → SendsNothing a (held_told a me f put)
-  quiet_held f (Some n) = quiet (held_told a me f (Some n)) refl refl
-  quiet_held f None = quiet a refl refl
+  quiet_held f x = search (quiet, arith)
 
   quiet_hand : (put : Option ℕ) → SendsNothing a (hand_told a me put)
-  quiet_hand (Some n) = quiet_sync (nat_lt 1 n) (a.batch me)
-  quiet_hand None = quiet a refl refl
+  quiet_hand x = search (quiet_sync, quiet, arith)
 
   quiet_confirms : (b : Bool) (id : ℕ) → SendsNothing a (cond b a (confirms a me id))
-  quiet_confirms true id = quiet a refl refl
-  quiet_confirms false id = quiet (confirms a me id) refl refl
+  quiet_confirms x id = search (quiet, arith)
 
   quiet_locks : (b : Bool) (id n : ℕ) → SendsNothing a (cond b (releases a me id (a.held me)) (locked a me id n))
-  quiet_locks true id n = quiet_releases id (a.held me)
-  quiet_locks false id n = quiet (locked a me id n) refl refl
+  quiet_locks x id n = search (quiet_releases, quiet, arith)
 
   quiet_flags : (id : ℕ) (kind : Act) (found put : Option ℕ) → SendsNothing a (flags_told a me id kind found put)
-  quiet_flags id act.Load (Some found) put = quiet_confirms (found % 2 == 1) id
-  quiet_flags id act.Store found (Some n) = quiet_locks (n == 0) id n
-  quiet_flags id _ found put = quiet a refl refl
+  quiet_flags id x found put = search (quiet_confirms, quiet_locks, quiet, arith)
 
   quiet_else : (kind : Act) (w : Word) (found put : Option ℕ) → IsElse w → SendsNothing a (told a me kind w found put)
-  quiet_else kind (Flags id) found put e = quiet_flags id kind found put
-  quiet_else kind (Func id) found put e = quiet_held _ put
-  quiet_else kind (Info id) found put e = quiet_held _ put
-  quiet_else kind (Queued from to) found put e = quiet_held _ put
-  quiet_else kind (Head to) found put e = absurd e
-  quiet_else kind (Intr to) found put e = absurd e
-  quiet_else kind (Hand cpu) found put e = quiet_hand put
-  quiet_else kind (Ran by from) found put e = quiet_counts (a.running me)
-  quiet_else kind (Next id) found put e = quiet_links put (a.held me)
-  quiet_else kind _ found put e = quiet a refl refl
+  quiet_else kind x found put e = search (quiet_flags, quiet_held, quiet_hand, quiet_counts, quiet_links, quiet, arith)
 
   log_else : (kind : Act) (w : Word) (put : Option ℕ) (log : List Logged) → IsElse w → log_after kind w put log ≡ log
-  log_else act.Cas (Head to) put log e = absurd e
-  log_else act.Store (Intr to) put log e = absurd e
-  log_else _ w put log e = refl
+  log_else x w put log e = search arith
 
   sent_else : (kind : Act) (w : Word) (put : Option ℕ) → IsElse w → (now before : ℕ) → sent_after kind w put now before ≡ before
-  sent_else act.Cas (Head to) put e now before = absurd e
-  sent_else act.Store (Intr to) put e now before = absurd e
-  sent_else _ w put e now before = refl
+  sent_else x w put e now before = search arith
 
   sends_call : (to : ℕ) (held : Option Holding) → IsHeld held → SendsCall a (appended a me to held) to
   sends_call to (Some h) holds = record { call = h.call; queues = refl; pending = refl }
@@ -135,9 +103,7 @@ module _ (a : CallState) (me : ℕ) where
 -- at a compare-exchange a CPU holds the call that it queues
 module _ {a : CallState} {at : Word → ℕ} {control : ℕ → ControlValue} {v : KnownCalls} (s : Shows a at control) (sees : Sees a control v) where
   holds_at : (st : Stage) → MayStep v st → act_of (known_access v st) ≡ act.Cas → IsHeld (a.held v.number)
-  holds_at (Post p (post.Exchange link tries)) aims e = subst IsHeld (sym (aims_held s sees (Post p (post.Exchange link tries)) aims)) tt
-  holds_at (Handle handle.Enter) aims e = absurd (let f = e in cc)
-  holds_at _ aims e = absurd (let f = e in cc)
+  holds_at x aims e = search (aims_held, arith)
 
 pub logs_tell : LogsTell
 logs_tell a at control v s sees st aims access is =

@@ -1,9 +1,9 @@
 -- One step of a CPU that knows v: what holds after it, and what each CPU knows then.
-use Rattle.std.proofs.Common.{arith, ◌≡◌, ◌≢◌, ℕ, ◌-◌, Bool, true, false, cond, Option, Some, None, refl, ap, ◌∙◌}
+use Rattle.std.proofs.Common.{arith, ◌≡◌, ◌≢◌, ℕ, ◌-◌, Bool, cond, Option, Some, None, refl, ap, ◌∙◌}
 use Rattle.smp_words.proofs.Puts.{put_same, put_other}
 use Rattle.smp_words.specs.Put.{put}
 use Rattle.smp_call_steps.specs.{CallState, ends, goes_to, DrainValue, handle_goes, second_on, first_on, reverse_on, by_class, unlink_after, Call}
-use Rattle.smp_call_steps.specs.{Class, Sync, Async, Word, Head, Access, Seen, Note, Posting, Walk, CallOutcome, Stage, Post, Handle, ControlValue}
+use Rattle.smp_call_steps.specs.{Class, Word, Head, Access, Seen, Note, Posting, Walk, CallOutcome, Stage, Post, Handle, ControlValue}
 use Rattle.smp_call_steps.specs.{access_of, outcome_of, drain_of, control_after, part_after, told_post, told_handle, told_stage, Sees, known_tells}
 use Rattle.smp_call_steps.specs.{stage_after, drain_then, MayStep, known_access, GoesOn}
 use Rattle.smp_words.specs.Access.{word_of, at_after, seen_of}
@@ -35,58 +35,44 @@ Leaves at me d st =
     drain_of d st (at (word_of access)) ≡ drain_then (told_stage (Some st)) d seen.found
 
 flags_follow : (b c : Bool) (p : Posting) → told_stage (cond b (ends note.Busy) (cond c (goes_to p post.Lock) (ends note.NoCpu))).next ≡ None
-flags_follow true c p = refl
-flags_follow false true p = refl
-flags_follow false false p = refl
+flags_follow x c p = search arith
 
 lock_follow : (c : Class) (p : Posting) (at : Word → ℕ) (me : ℕ) (d : DrainValue) → Follows at me d (Post (record p { class = c }) post.Lock)
-lock_follow Sync p at me d = refl
-lock_follow Async p at me d = refl
+lock_follow x p at me d = search arith
 
 exchange_follow : (p : Posting) (link tries n : ℕ) (b c : Bool) (won : Note) (me : ℕ) (d : DrainValue) (found : ℕ) →
     told_stage (cond b (ends won) (cond c (goes_to p (post.StoreNext found (tries - 1))) (goes_to p post.Uncount))).next
     ≡ stage_after (told_post p (post.Exchange link tries)) d act.Cas (Head p.to) (Some found) (cond b (Some n) None)
-exchange_follow p link tries n true c won me d found = refl
-exchange_follow p link tries n false true won me d found = refl
-exchange_follow p link tries n false false won me d found = refl
+exchange_follow p link tries n y c won me d found = search arith
 
 -- what is told of the stages of handle that follow
 second_told : (next : Option ℕ) → told_handle (second_on next) ≡ Some (Handle (second_on next))
-second_told None = refl
-second_told (Some id) = refl
+second_told x = search arith
 
 first_told : (walk : Walk) (next : Option ℕ) → told_handle (first_on walk next) ≡ Some (Handle (first_on walk next))
-first_told walk None = second_told walk.first
-first_told walk (Some id) = refl
+first_told walk x = search (second_told, arith)
 
 reverse_told : (here next : Option ℕ) → told_handle (reverse_on here next) ≡ Some (Handle (reverse_on here next))
-reverse_told here None = first_told (record { first = here; last = None }) here
-reverse_told here (Some id) = refl
+reverse_told here x = search (first_told, arith)
 
 class_told : (class : Class) (walk : Walk) (id : ℕ) (next : Option ℕ) → told_handle (by_class class walk id next) ≡ Some (Handle (by_class class walk id next))
-class_told Sync walk id next = refl
-class_told Async walk id next = first_told (record { first = walk.first; last = Some id }) next
+class_told x walk id next = search (first_told, arith)
 
 info_told : (last : Option ℕ) (walk : Walk) (call : Call) (next : Option ℕ)
     → told_handle (unlink_after last walk call next) ≡ Some (Handle (unlink_after last walk call next))
-info_told None walk call next = refl
-info_told (Some last) walk call next = refl
+info_told x walk call next = search arith
 
 accept_told : (b : Bool) → told_stage (cond {A = CallOutcome} b (handle_goes handle.LeaveIdle) (handle_goes handle.Take)).next
     ≡ (cond {A = CallOutcome} b (handle_goes handle.LeaveIdle) (handle_goes handle.Take)).next
-accept_told true = refl
-accept_told false = refl
+accept_told x = search arith
 
 ruleset stages_follow = (flags_follow, exchange_follow, accept_told, reverse_told, class_told, info_told, first_told, second_told)
 
 follows : (at : Word → ℕ) (me : ℕ) (d : DrainValue) (st : Stage) → Follows at me d st
-follows at me d (Post p post.Lock) = lock_follow p.class p at me d
-follows at me d _ = search (stages_follow, arith)
+follows at me d x = search (lock_follow, arith)
 
 leaves : (at : Word → ℕ) (me : ℕ) (d : DrainValue) (st : Stage) → Leaves at me d st
-leaves at me d (Post p post.LoadFlags) = refl
-leaves at me d (Handle handle.Enter) = refl
-leaves at me d _ = refl
+leaves at me d x = search arith
 
 -- the CPU that knows this, and that may make the step of this stage, makes it
 module _ {a : CallState} {at : Word → ℕ} {control : ℕ → ControlValue} {v : KnownCalls} (s : Shows a at control) (sees : Sees a control v) (st : Stage)

@@ -1,9 +1,9 @@
 -- What a CPU knows after each step of a post, of a send and of a question for a record.
-use Rattle.std.proofs.Common.{◌≡◌, ℕ, ◌+◌, ◌-◌, ◌%◌, ◌^◌, Bool, true, false, ◌==◌, cond, Some, None, length, sym, refl, ap, ◌∙◌, arith, true≢false, eq-eqb}
+use Rattle.std.proofs.Common.{◌≡◌, ℕ, ◌+◌, ◌-◌, ◌%◌, ◌^◌, Bool, true, false, ◌==◌, cond, Some, None, length, ap, ◌∙◌, arith, true≢false, eq-eqb}
 use Rattle.smp_words.specs.Flags.{flags_of}
 use Rattle.smp_call_steps.specs.{stepped}
 use Rattle.smp_call_steps.specs.{sent_to, posted, known_told, known_access, posting_of, standing, outside_known, confirmed_known, queued_known, looked_known}
-use Rattle.smp_call_steps.specs.{lost_one, Class, Sync, Async, Head, Queued, Flags, Func, Info, Next, Store, Posting, PostStage, Post}
+use Rattle.smp_call_steps.specs.{lost_one, Class, Head, Queued, Flags, Func, Info, Next, Store, Posting, PostStage, Post}
 use Rattle.smp_call_steps.specs.declared.known.KnownCalls.{KnownCalls}
 use Rattle.smp_call_steps.specs.act
 use Rattle.smp_call_steps.specs.post
@@ -18,8 +18,7 @@ stands_as v p st e = λ i. record v { stage = e i }
 -- a load of the own flags, outside a command
 load_outside : (v : KnownCalls) (id found : ℕ) (b : Bool) → (found % 2 == 1) ≡ b
     → known_told (outside_known v) act.Load (Flags id) (Some found) None ≡ stepped 1 (cond b (outside_known v) (confirmed_known id (outside_known v)))
-load_outside v id found true e = rw e refl
-load_outside v id found false e = rw e refl
+load_outside v id found y e = search arith
 
 pub loaded_known : (v : KnownCalls) (id found : ℕ) → v.stage ≡ None
     → known_told v act.Load (Flags id) (Some found) None ≡ stepped 1 (cond (found % 2 == 1) v (confirmed_known id v))
@@ -27,8 +26,7 @@ loaded_known v id found e = search (outside_as, load_outside, arith)
 
 lock_outside : (v : KnownCalls) (id : ℕ) (c : Class) → known_told (outside_known v) act.Store (Flags id) None (Some (flags_of c))
     ≡ standing (posting_of id c 0 0 0) post.StoreFunc (stepped 1 v)
-lock_outside v id Sync = refl
-lock_outside v id Async = refl
+lock_outside v id y = search arith
 
 pub locked_known : (v v' : KnownCalls) (id flags : ℕ) (c : Class) → v.stage ≡ None → v' ≡ known_told v act.Store (Flags id) None (Some flags)
     → flags ≡ flags_of c
@@ -64,14 +62,12 @@ next_known v v' w id n p e f = e ∙ ap (λ (u : KnownCalls). known_told u act.S
 pub won_known : (v v' w : KnownCalls) (to link n found : ℕ) (p : Posting) (b : Bool) → b ≡ true
     → v' ≡ known_told w act.Cas (Head to) (Some found) (cond b (Some n) None) → w ≡ standing p (post.Exchange link 0) (stepped 1 v) →
     found ≡ link → v' ≡ queued_known (posted p) to (link == 0) link v
-won_known v v' w to link n found p true t e f is = search arith
-won_known v v' w to link n found p false t e f is = absurd (true≢false (sym t))
+won_known v v' w to link n found p u t e f is = search (true≢false, arith)
 
 pub lost_known : (v v' w : KnownCalls) (to link n found : ℕ) (p : Posting) (b : Bool) → b ≡ false
     → v' ≡ known_told w act.Cas (Head to) (Some found) (cond b (Some n) None) → w ≡ standing p (post.Exchange link 0) (stepped 1 v)
     → v' ≡ standing p post.LoadHead (lost_one link found v)
-lost_known v v' w to link n found p true t e f = absurd (true≢false t)
-lost_known v v' w to link n found p false t e f = search arith
+lost_known v v' w to link n found p u t e f = search (true≢false, arith)
 
 pub released_known : (v v' w : KnownCalls) (id : ℕ) (p : Posting) → v' ≡ known_told w act.Store (Flags id) None (Some 0) → w ≡ standing p post.Release v
     → v' ≡ outside_known (stepped 1 v)

@@ -1,17 +1,14 @@
 -- Calls that are reached: nothing called, and what one step more leads to.
-use Rattle.std.proofs.Common.{◌≡◌, ℕ, ◌<◌, List, [], ◌∷◌, ◌++◌, subst, refl, ap}
+use Rattle.std.proofs.Common.{◌≡◌, ℕ, ◌<◌, List, [], ◌∷◌, ◌++◌, subst, refl, ap, arith}
 use Rattle.smp_words.specs.Size.{cpus}
 use Rattle.smp_words.proofs.Sizes.{owner-below}
-use Rattle.smp_call_steps.specs.{CallState, Word, Seen, Stage, Send, Done, Post, Handle, MayStep, no_calls, tells}
+use Rattle.smp_call_steps.specs.{CallState, Word, Seen, Stage, MayStep, no_calls, tells}
 use Rattle.smp_call_steps.specs.Reached.{IsAllowed, IsReached, Lead, no_words, words_told}
 use Rattle.smp_call_steps.specs.declared.known.KnownCalls.{KnownCalls}
 
 -- a CPU that may make a step is one of those that there are
 pub steps_in_range : (v : KnownCalls) (stage : Stage) → MayStep v stage → v.number < cpus
-steps_in_range v (Send to) may = may.2
-steps_in_range v (Done id) may = subst (λ n. n < cpus) may.1 (owner-below id may.2)
-steps_in_range v (Post p stage) may = may.me_in_range
-steps_in_range v (Handle stage) may = may.1
+steps_in_range v y may = search (owner-below, arith)
 
 lead_more : (a : CallState) (at : Word → ℕ) (steps : List Seen) (b : CallState) (to : Word → ℕ) (seen : Seen) → Lead a at steps b to → IsAllowed b to seen
     → Lead a at (steps ++ seen ∷ []) (tells b seen) (words_told to seen)

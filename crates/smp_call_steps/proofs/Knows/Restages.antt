@@ -1,9 +1,9 @@
 -- A CPU may be at any stage that its steps so far leave open.
-use Rattle.std.proofs.Common.{arith, ◌≡◌, ℕ, ◌%◌, ◌<◌, true, false, ◌==◌, Option, Some, None, sym, subst, refl, ap, ◌∙◌, ◌⊎◌, inl, inr}
+use Rattle.std.proofs.Common.{arith, ◌≡◌, ℕ, ◌%◌, ◌<◌, true, false, ◌==◌, Option, Some, None, sym, subst, ap, ◌∙◌, ◌⊎◌}
 use Rattle.smp_words.specs.Put.{put}
 use Rattle.smp_words.specs.Size.{records, owner}
-use Rattle.smp_call_steps.specs.{CallState, DrainValue, handle_access, source_at, ControlValue, access_of, Rests, StandsAt, PostKnows, share_of, held_of}
-use Rattle.smp_call_steps.specs.{HandIs, told_post, told_handle, told_stage, Sees, MayStep, MayPost, CallMoment, known_access, ran_tally, is_confirmed, Word}
+use Rattle.smp_call_steps.specs.{CallState, DrainValue, ControlValue, access_of, Rests, StandsAt, PostKnows, share_of, held_of}
+use Rattle.smp_call_steps.specs.{HandIs, told_post, told_handle, told_stage, Sees, MayStep, MayPost, CallMoment, known_access, is_confirmed, Word}
 use Rattle.smp_call_steps.specs.{Hand, Flags, RecPlace, Posting, PostStage, HandleStage, Stage, Post, Handle}
 use Rattle.smp_call_steps.specs.Shows.{Shows}
 use Rattle.smp_call_steps.proofs.Basics.Rows.{row-at}
@@ -15,10 +15,7 @@ use Rattle.smp_call_steps.specs.handle
 
 -- what is held was told
 pub held_told : (s : Option Stage) → held_of (told_stage s) ≡ held_of s
-held_told (Some (Post p post.LoadFlags)) = refl
-held_told (Some (Post p _)) = refl
-held_told (Some (Handle handle.Enter)) = refl
-held_told _ = refl
+held_told x = search arith
 
 -- what a CPU knows of its record's words
 abbrev Knows : (ℕ → RecPlace) → (Word → ℕ) → Option Stage → Type 0
@@ -26,13 +23,10 @@ Knows places at (Some (Post p stage)) = PostKnows places at p stage
 Knows places at _ = Unit {0}
 
 knows_post : (places : ℕ → RecPlace) (at : Word → ℕ) (p : Posting) (stage : PostStage) → PostKnows places at p stage → Knows places at (told_post p stage)
-knows_post places at p post.LoadFlags k = tt
-knows_post places at p post.Lock k = tt
-knows_post places at p _ k = search arith
+knows_post places at p x k = search arith
 
 knows_handle : (places : ℕ → RecPlace) (at : Word → ℕ) (h : HandleStage) → Knows places at (told_handle h)
-knows_handle places at handle.Enter = tt
-knows_handle places at _ = tt
+knows_handle places at x = search arith
 
 abbrev IsFreeAt : (ℕ → RecPlace) → ℕ → PostStage → Type 0
 IsFreeAt places id post.Lock = places id ≡ place.Free
@@ -40,8 +34,7 @@ IsFreeAt places id _ = Unit {0}
 
 told_knows : (places : ℕ → RecPlace) (at : Word → ℕ) (p : Posting) (stage : PostStage) → Knows places at (told_post p stage) → IsFreeAt places p.id stage
     → PostKnows places at p stage
-told_knows places at p post.LoadFlags k f = tt
-told_knows places at p _ k f = search arith
+told_knows places at p x k f = search arith
 
 -- a CPU that may be outside, or at a step of a post: it has nothing taken and nothing loaded, and its handling word is 0
 pub record Idle (a : CallState) (at : Word → ℕ) (d : DrainValue) (me : ℕ) : Type 0 where
@@ -54,8 +47,7 @@ IsNoHandle (Some (Handle stage)) = ⊥
 IsNoHandle _ = Unit {0}
 
 post_no_handle : (p : Posting) (st : PostStage) → IsNoHandle (told_post p st)
-post_no_handle p post.LoadFlags = tt
-post_no_handle p _ = tt
+post_no_handle p x = search arith
 
 module _ (a : CallState) (at : Word → ℕ) (me : ℕ) (d : DrainValue) where
   idle_handle : (h : HandleStage) → StandsAt a.place at (share_of a me) d me (Some (Handle h)) → HandIs (Some (Handle h)) (at (Hand me))
@@ -71,9 +63,7 @@ module _ (a : CallState) (at : Word → ℕ) (me : ℕ) (d : DrainValue) where
   idle_told _ k hand n = record { rests = k.0; hand = hand }
 
   knows_told : (stage : Option Stage) → StandsAt a.place at (share_of a me) d me stage → Knows a.place at (told_stage stage)
-  knows_told (Some (Post p st)) k = let post = k.1 in knows_post a.place at p st post.knows
-  knows_told (Some (Handle h)) k = knows_handle a.place at h
-  knows_told _ k = tt
+  knows_told x k = search (knows_post, knows_handle, arith)
 
 -- of a stage of handle beyond the first, all is told
 abbrev IsBeyond : HandleStage → Type 0
@@ -84,21 +74,16 @@ no_post : (p : Posting) (st : PostStage) (h : HandleStage) → told_post p st �
 no_post p st h e = subst IsNoHandle e (post_no_handle p st)
 
 same_handle : (h h' : HandleStage) → told_handle h' ≡ Some (Handle h) → h' ≡ h
-same_handle h handle.Enter e = absurd (let x = e in cc)
-same_handle h _ e = cc
+same_handle h x e = search arith
 
 stage_is : (h : HandleStage) (stage : Option Stage) → told_stage stage ≡ Some (Handle h) → stage ≡ Some (Handle h)
-stage_is h (Some (Post p st)) e = absurd (no_post p st h e)
-stage_is h (Some (Handle h')) e = ap (λ (x : HandleStage). Some (Handle x)) (same_handle h h' e)
-stage_is h _ e = cc
+stage_is h x e = search (no_post, same_handle, arith)
 
 told_beyond : (h : HandleStage) → IsBeyond h → told_handle h ≡ Some (Handle h)
-told_beyond handle.Enter b = absurd b
-told_beyond _ b = refl
+told_beyond x b = search arith
 
 enters : (h : HandleStage) → IsBeyond h ⊎ (h ≡ handle.Enter)
-enters handle.Enter = inr refl
-enters _ = inl tt
+enters x = search arith
 
 module _ {a : CallState} {at : Word → ℕ} {control : ℕ → ControlValue} {v : KnownCalls} (s : Shows a at control) (sees : Sees a control v) where
   abbrev me : ℕ
@@ -113,8 +98,7 @@ module _ {a : CallState} {at : Word → ℕ} {control : ℕ → ControlValue} {v
   free_outside id own small out conf = search (known_held, row-at, arith)
 
   pub aims_told : (st : Stage) → MayStep v st → told_stage (Some st) ≡ v.stage
-  aims_told (Post p st) aims = aims.told
-  aims_told _ aims = sym aims.0
+  aims_told x aims = search arith
 
   idle : IsNoHandle v.stage → Idle a at (control me).drain me
   idle n = idle_told a at me (control me).drain (control me).stage (s.stands me) (s.hands me) (subst IsNoHandle (sym sees.stage) n)
@@ -123,8 +107,7 @@ module _ {a : CallState} {at : Word → ℕ} {control : ℕ → ControlValue} {v
   outside_idle e = idle (subst IsNoHandle (sym e) tt)
 
   free_at : (p : Posting) (st : PostStage) → MayPost v p st → IsFreeAt a.place p.id st
-  free_at p post.Lock aims = let call = aims.is_call in free_outside p.id aims.owned call.in_range (sym aims.told) aims.ready
-  free_at p _ aims = tt
+  free_at p x aims = search (free_outside, arith)
 
   abbrev here : Option Stage → ControlValue
   here stage = record { stage = stage; drain = (control me).drain }
@@ -133,14 +116,10 @@ module _ {a : CallState} {at : Word → ℕ} {control : ℕ → ControlValue} {v
   handle_same h b e = stage_is h (control me).stage (sees.stage ∙ (e ∙ told_beyond h b))
 
   aims_stands : (st : Stage) → MayStep v st → StandsAt a.place at (share_of a me) (control me).drain me (Some st)
-  aims_stands (Post p st) aims = search (idle, post_no_handle, told_knows, knows_told, free_at, arith)
-  aims_stands (Handle h) aims = search (enters, handle_same, outside_idle, arith)
-  aims_stands _ aims = let i = outside_idle aims.0 in (i.rests, aims.1, aims.2)
+  aims_stands x aims = search (idle, post_no_handle, told_knows, knows_told, free_at, enters, handle_same, outside_idle, arith)
 
   aims_hand : (st : Stage) → MayStep v st → HandIs (Some st) (at (Hand me))
-  aims_hand (Post p st) aims = let i = idle (subst IsNoHandle aims.told (post_no_handle p st)) in i.hand
-  aims_hand (Handle h) aims = search (enters, handle_same, outside_idle, arith)
-  aims_hand _ aims = let i = outside_idle aims.0 in i.hand
+  aims_hand x aims = search (idle, post_no_handle, enters, handle_same, outside_idle, arith)
 
   pub aims_held : (st : Stage) → MayStep v st → a.held me ≡ held_of (Some st)
   aims_held st aims = known_held ∙ (ap held_of (sym (aims_told st aims)) ∙ held_told (Some st))
@@ -153,9 +132,7 @@ module _ {a : CallState} {at : Word → ℕ} {control : ℕ → ControlValue} {v
 
   -- the access is the one that the CPU knows
   pub access_known : (st : Stage) → MayStep v st → access_of at me st ≡ known_access v st
-  access_known (Post p st) aims = search (aims_held, arith)
-  access_known (Handle h) aims = ap (handle_access me h) (s.tallied.ran_are me (source_at h) ∙ (λ i. ran_tally (sees.part i) (source_at h)))
-  access_known _ aims = refl
+  access_known x aims = search (aims_held, arith)
 
 -- where a CPU is outside, its confirmed records are unlocked
 pub confirmed_unlocked : (v : KnownCalls) (id n : ℕ) → CallMoment v (Flags id) n → v.stage ≡ None → owner id ≡ v.number → id < records

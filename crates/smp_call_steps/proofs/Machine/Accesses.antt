@@ -4,20 +4,18 @@ use Rattle.smp_words.specs.Size.{cpus, records}
 use Rattle.smp_words.specs.Access.{word_of}
 use Rattle.smp_call_steps.specs.{CallState, Running, Nothing, DrainValue, IsPlaced, locked_by, AllPlaced, ControlValue}
 use Rattle.smp_call_steps.specs.{access_of, Share, StandsAt, HandleStands, Reverses, Walks, Ends, PostStands, nexts_in, Call, Word, RecPlace, Posting}
-use Rattle.smp_call_steps.specs.{PostStage, Walk, HandleStage, Stage, Send, Done, Post, Handle}
+use Rattle.smp_call_steps.specs.{PostStage, Walk, HandleStage, Stage, Post, Handle}
 use Rattle.smp_call_steps.specs.Shows.{Shows}
 use Rattle.smp_call_steps.proofs.Basics.Alls.{every_right}
 use Rattle.smp_call_steps.proofs.State.Walks.{reverses_all, walks_rest, walks_last, ends_rest, same_record}
 use Rattle.smp_words.proofs.Links.{HasIndex, IsInTable, in_table}
 use Rattle.smp_words.proofs.Sizes.{owner-below}
 use Rattle.smp_call_steps.specs.place
-use Rattle.smp_call_steps.specs.post
 use Rattle.smp_call_steps.specs.handle
 
 post_in_table : (places : ℕ → RecPlace) (at : Word → ℕ) (me : ℕ) (p : Posting) (stage : PostStage) → PostStands places at me p stage
     → IsInTable (word_of (access_of at me (Post p stage)))
-post_in_table places at me p post.LoadFlags s = s.is_call.in_range
-post_in_table places at me p _ s = search arith
+post_in_table places at me p x s = search arith
 
 module _ (places : ℕ → RecPlace) (at : Word → ℕ) (me : ℕ) (s : Share) (d : DrainValue)
     (batched : AllPlaced places (place.Batch me) s.batch) (runs : AllPlaced places (place.Running me) (locked_by s.running)) where
@@ -64,10 +62,7 @@ module _ (places : ℕ → RecPlace) (at : Word → ℕ) (me : ℕ) (s : Share) 
   handle_in_table _ l h = search (in_range, arith)
 
   stage_in_table : (stage : Stage) → StandsAt places at s d me (Some stage) → IsInTable (word_of (access_of at me stage))
-  stage_in_table (Send to) h = h.1
-  stage_in_table (Done id) h = h.2
-  stage_in_table (Post p stage) h = post_in_table places at me p stage h.1
-  stage_in_table (Handle stage) h = handle_in_table stage h.0 h.1
+  stage_in_table x h = search (post_in_table, handle_in_table, arith)
 
 -- the CPU of a stage, and the word of its access
 pub access_in_table : (a : CallState) (at : Word → ℕ) (control : ℕ → ControlValue) (me : ℕ) → Shows a at control → (stage : Stage)

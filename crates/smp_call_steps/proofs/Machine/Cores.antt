@@ -1,11 +1,11 @@
 -- A step, over a core's list of words and list of controls.
-use Rattle.std.proofs.Common.{◌≡◌, ℕ, ◌<◌, Bool, true, false, nat_lt, Option, Some, None, List, length, refl, arith}
+use Rattle.std.proofs.Common.{◌≡◌, ℕ, ◌<◌, Bool, nat_lt, Option, Some, None, List, length, refl, arith}
 use Rattle.std.proofs.lemmas.List.{get_or-set_same, get_or-set_other, get_or_past, length-set}
 use Rattle.std.proofs.lemmas.Bool.{ltb-true, ltb-false}
 use Rattle.std.specs.Prelude.{slice_set}
 use Rattle.smp_words.specs.Size.{cpus, table_size}
 use Rattle.smp_words.specs.Put.{put, put_word}
-use Rattle.smp_words.specs.Layout.{index_of, number_in, put_in, put_at}
+use Rattle.smp_words.specs.Layout.{number_in, put_in, put_at}
 use Rattle.smp_words.specs.Access.{word_of, put_by, put_if, at_after, words_after, seen_of}
 use Rattle.smp_call_steps.specs.{CallState, tells, ControlValue, access_of, outcome_of, control_after, ValuesShow, control_of, Word, Access, Seen, Stage}
 use Rattle.smp_call_steps.proofs.Machine.Accesses.{access_in_table}
@@ -24,12 +24,10 @@ pub words_by_name : (words : List ℕ) (access : Access) → length words ≡ ta
 words_by_name words access l h = words_if words (word_of access) (put_by access (number_in words (word_of access))) l h
 
 length-put_at : (words : List ℕ) (i : Option ℕ) (n : ℕ) → length (put_at words i n) ≡ length words
-length-put_at words None n = refl
-length-put_at words (Some i) n = length-set words i n
+length-put_at words x n = search (length-set, arith)
 
 length_if : (words : List ℕ) (w : Word) (put : Option ℕ) → length (put_if put_in words w put) ≡ length words
-length_if words w (Some n) = length-put_at words (index_of w) n
-length_if words w None = refl
+length_if words w y = search (length-put_at, arith)
 
 -- a table keeps its length
 pub length-words_after : (words : List ℕ) (access : Access) → length (words_after words access) ≡ length words
@@ -46,8 +44,7 @@ controls_by_cpu controls me x l m = λ k j. set_control controls me x l m j k
 
 below_if : (controls : List ControlValue) (me : ℕ) (stage : Stage) (b : Bool) → nat_lt me cpus ≡ b → length controls ≡ cpus
     → (control_of controls me).stage ≡ Some stage → me < cpus
-below_if controls me stage true t l e = ltb-true me cpus t
-below_if controls me stage false t l e = search (ltb-false, get_or_past, arith)
+below_if controls me stage x t l e = search (ltb-true, ltb-false, get_or_past, arith)
 
 -- a CPU inside a command is one that there can be
 pub inside_below : (controls : List ControlValue) (me : ℕ) (stage : Stage) → length controls ≡ cpus → (control_of controls me).stage ≡ Some stage → me < cpus

@@ -89,5 +89,4 @@ module _ {a : CallState} {at : Word → ℕ} {control : ℕ → ControlValue} (m
 pub found_fits : (a : CallState) (at : Word → ℕ) (control : ℕ → ControlValue) (me : ℕ) → Shows a at control → (stage : Stage) → (control me).stage ≡ Some stage
     →
     FitsStage (control me).drain stage (at (word_of (access_of at me stage)))
-found_fits a at control me s (Handle stage) e = handle_fits me s stage e
-found_fits a at control me s _ e = tt
+found_fits a at control me s x e = search (handle_fits, arith)

@@ -20,32 +20,26 @@ use Rattle.smp_words.proofs.Zeros.{get_or-same, zero_at}
 use Rattle.smp_words.specs.declared.command.Command.TheVariants as command
 
 pub else_none : (b : Bool) (x : Option SmpError) (y : SmpError) → cond b x (Some y) ≡ None → (b ≡ true) × (x ≡ None)
-else_none true x y e = (refl, e)
-else_none false x y e = cc
+else_none x y z e = search arith
 
 pub then_none : (b : Bool) (y : SmpError) → cond b (Some y) None ≡ None → b ≡ false
-then_none true y e = cc
-then_none false y e = refl
+then_none x y e = search arith
 
 or_false : (x y : Bool) → (x || y) ≡ false → x ≡ false
-or_false true y e = e
-or_false false y e = refl
+or_false x y e = search arith
 
 pub not_false : (x : Bool) → not x ≡ false → x ≡ true
-not_false true e = refl
-not_false false e = cc
+not_false x e = search arith
 
 -- a CPU that is online is one that there can be
 pub online_below : (nr online cpu : ℕ) → AreLimits nr online → has online cpu ≡ true → cpu < cpus
 online_below nr online cpu l e = let below = l.below cpu e in let within = l.within in omega arith
 
 begins_empty : (online cpu : ℕ) (c : Command) → held_of (first_stage online cpu c) ≡ None
-begins_empty online cpu (command.Post k to class func info tries) = refl
-begins_empty online cpu _ = refl
+begins_empty online cpu x = search arith
 
 begins_outside : (online cpu : ℕ) (c : Command) (hand : ℕ) → hand ≡ 0 → HandIs (first_stage online cpu c) hand
-begins_outside online cpu (command.Post k to class func info tries) hand e = e
-begins_outside online cpu _ hand e = e
+begins_outside online cpu x hand e = search arith
 
 -- a record that a source has is one of its local numbers
 pub record_below : (nr k : ℕ) → has_record nr k ≡ true → k < records_of_one
@@ -53,11 +47,7 @@ record_below nr k e = search (cases_lt, le-ltb, ltb-true, and_parts, arith)
 
 -- a command that may start names a record that there is
 pub names_record : (nr online cpu : ℕ) (c : Command) → command_refusal nr online cpu c ≡ None → NamesRecord c
-names_record nr online cpu (command.Post k to class func info tries) e = search (or_false, then_none, ltb-true, not_false, arith)
-names_record nr online cpu (command.Done k) e = record_below nr k (else_none (has_record nr k) None _ e).0
-names_record nr online cpu (command.Send to) e = tt
-names_record nr online cpu command.Handle e = tt
-names_record nr online cpu _ e = tt
+names_record nr online cpu x e = search (or_false, then_none, ltb-true, not_false, record_below, else_none, arith)
 
 begins : (nr online : ℕ) (places : ℕ → RecPlace) (at : Word → ℕ) (s : Share) (d : DrainValue) (cpu : ℕ) (c : Command) → AreLimits nr online → cpu < cpus
     → command_refusal nr online cpu c ≡ None → FitsCommand c →

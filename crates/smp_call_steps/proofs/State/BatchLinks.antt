@@ -7,7 +7,7 @@ use Rattle.std.proofs.lemmas.List.Elements.{filter-append}
 use Rattle.std.specs.List.{AllByRecursion, filter}
 use Rattle.smp_call_steps.specs.{if_sync, if_async, sync_calls, async_calls, order, Running, DrainValue, link_to}
 use Rattle.smp_call_steps.specs.{Leads, nexts_in, IsAbsent, IsApart, HasRecord, has_record, is_this, down_link, up_link, between_of, is_linked, BegunAt}
-use Rattle.smp_call_steps.specs.{LoadedAt, KeepBatchLinks, Share, share_of, Reverses, Walks, Ends, HandleStands, StandsAt, Call, Class, Sync, Async, Word}
+use Rattle.smp_call_steps.specs.{LoadedAt, KeepBatchLinks, Share, share_of, Reverses, Walks, Ends, HandleStands, StandsAt, Call, Class, Word}
 use Rattle.smp_call_steps.specs.{RecPlace, Walk, HandleStage, Stage, Handle}
 use Rattle.smp_call_steps.specs.BatchLinks.{BatchLinks}
 use Rattle.smp_call_steps.proofs.Basics.Alls.{every, every_both, every_left, every_right, every_append, every_class}
@@ -29,8 +29,7 @@ kept_none p (x ∷ xs) h = rw h.0 (kept_none p xs h.1)
 
 kept_one : (p : Call → Bool) (class : Class) (x : Call) (xs : List Call) → AllByRecursion (λ y. p y ≡ false) (if_sync class x)
     → filter p (x ∷ xs) ≡ filter p (if_async class x) ++ filter p xs
-kept_one p Sync x xs h = rw h.0 refl
-kept_one p Async x xs h = filter-append p (x ∷ []) xs
+kept_one p x y xs h = search (filter-append, arith)
 
 -- where it keeps no SYNC call
 kept_async : (p : Call → Bool) (xs : List Call) → AllByRecursion (λ x. p x ≡ false) (sync_calls xs) → filter p xs ≡ filter p (async_calls xs)
@@ -61,16 +60,13 @@ absent_back xs (y ∷ ys) h = (
 )
 
 in_hand : (hand : Option ℕ) (front : List Call) → IsBetween hand front → AllByRecursion (λ c. is_this c.id hand ≡ true) front
-in_hand None front b = subst (AllByRecursion (λ c. is_this c.id None ≡ true)) (sym b) tt
-in_hand (Some id) front b = subst (AllByRecursion (λ c. is_this c.id (Some id) ≡ true)) (sym b.1) (eq-eqb id b.0.id (sym b.2), tt)
+in_hand x front b = search (eq-eqb, arith)
 
 not_in_hand : (hand : Option ℕ) (front : List Call) → IsBetween hand front → (id : ℕ) → IsAbsent id front → is_this id hand ≡ false
-not_in_hand None front b id absent = refl
-not_in_hand (Some at) front b id absent = search (ne_eqb, arith)
+not_in_hand x front b id absent = search (ne_eqb, arith)
 
 linked_out : (b : Bool) → (b && not true) ≡ false
-linked_out true = refl
-linked_out false = refl
+linked_out x = search arith
 
 is_linked-hand : (left : List Call) (hand : Option ℕ) (call : Call) → is_this call.id hand ≡ true → is_linked left hand call ≡ false
 is_linked-hand left hand call e = rw e (linked_out (has_record call.id left))
@@ -186,18 +182,7 @@ module _ (nexts : ℕ → ℕ) (s : Share) where
 
     walked_links : (stage : Option Stage) → down_link stage ≡ 0 → up_link stage ≡ link_to walk.first → IsBetween (between_of stage) front
         → ((calls : List Call) → BegunAt stage calls) → LoadedAt nexts stage → BatchLinks nexts s.last s.batch stage
-    walked_links stage down up between begun loaded = record {
-      begun = w.begun;
-      older = [];
-      newer = async_calls w.passed ++ rest;
-      in_order = walked_order ∙ ap (λ (xs : List Call). w.begun ++ xs) (sym w.batch);
-      begun_at = begun _;
-      linked = subst (λ (xs : List Call). filter (is_linked xs (between_of stage)) s.last ≡ async_calls w.passed ++ rest) (sym w.batch)
-          (walked_kept (between_of stage) between);
-      leads_down = down;
-      leads_up = rw up (Path-append nexts (link_to walk.first) (async_calls w.passed) rest here 0 w.leads_here w.leads_on);
-      loaded = loaded;
-    }
+    walked_links stage down up between begun loaded = search (walked_order, walked_kept, Path-append, arith)
 
   module _ (d : DrainValue) (here : ℕ) (front rest : List Call) (running : Running) (w : Ends nexts s d here front rest running) where
     ended_order : order s.last ≡ (sync_calls s.last ++ w.begun) ++ (front ++ rest)
@@ -215,17 +200,7 @@ module _ (nexts : ℕ → ℕ) (s : Share) where
 
     ended_links : (stage : Option Stage) → down_link stage ≡ 0 → up_link stage ≡ here → IsBetween (between_of stage) front
         → ((calls : List Call) → BegunAt stage calls) → LoadedAt nexts stage → BatchLinks nexts s.last s.batch stage
-    ended_links stage down up between begun loaded = record {
-      begun = sync_calls s.last ++ w.begun;
-      older = [];
-      newer = rest;
-      in_order = ended_order ∙ ap (λ (xs : List Call). (sync_calls s.last ++ w.begun) ++ xs) (sym w.batch);
-      begun_at = begun _;
-      linked = subst (λ (xs : List Call). filter (is_linked xs (between_of stage)) s.last ≡ rest) (sym w.batch) (ended_kept (between_of stage) between);
-      leads_down = down;
-      leads_up = rw up w.leads_on;
-      loaded = loaded;
-    }
+    ended_links stage down up between begun loaded = search (ended_order, ended_kept, arith)
 
   ruleset linked_there = (rests_links, walked_links, ended_links, is_this_one)
 
@@ -236,9 +211,7 @@ module _ (nexts : ℕ → ℕ) (s : Share) where
 
 stage_links : (places : ℕ → RecPlace) (at : Word → ℕ) (s : Share) (d : DrainValue) (me : ℕ) (stage : Option Stage) → StandsAt places at s d me stage
     → BatchLinks (nexts_in at) s.last s.batch stage
-stage_links places at s d me None h = rests_links (nexts_in at) s None refl refl h.batch tt tt
-stage_links places at s d me (Some (Handle stage)) h = handle_links (nexts_in at) s d stage h.1
-stage_links places at s d me stage h = rests_links (nexts_in at) s stage refl refl h.0.batch tt tt
+stage_links places at s d me stage h = search (rests_links, handle_links, arith)
 
 -- whatever words show calls show the links of each batch
 pub batch_links : KeepBatchLinks

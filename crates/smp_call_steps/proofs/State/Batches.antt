@@ -18,8 +18,7 @@ has_right id [] ys h = h
 has_right id (x ∷ xs) ys h = inr (has_right id xs ys h)
 
 has_one : (id : ℕ) (class : Class) (call : Call) → call.id ≡ id → HasRecord id (if_sync class call) ⊎ HasRecord id (if_async class call)
-has_one id Sync call e = inl (inl e)
-has_one id Async call e = inr (inl e)
+has_one id x call e = search arith
 
 has_class : (id : ℕ) (calls : List Call) → HasRecord id calls → HasRecord id (sync_calls calls) ⊎ HasRecord id (async_calls calls)
 has_class id [] h = absurd h
@@ -35,12 +34,10 @@ apart_append [] ys a b cross = b
 apart_append (x ∷ xs) ys a b cross = (every_append (λ call. call.id ≢ x.id) xs ys a.0 cross.0, apart_append xs ys a.1 b cross.1)
 
 apart_sync_one : (class : Class) (call : Call) (rest : List Call) → IsAbsent call.id rest → IsApart rest → IsApart (if_sync class call ++ rest)
-apart_sync_one Sync call rest absent apart = (absent, apart)
-apart_sync_one Async call rest absent apart = apart
+apart_sync_one x call rest absent apart = search arith
 
 apart_async_one : (class : Class) (call : Call) (rest : List Call) → IsAbsent call.id rest → IsApart rest → IsApart (if_async class call ++ rest)
-apart_async_one Sync call rest absent apart = apart
-apart_async_one Async call rest absent apart = (absent, apart)
+apart_async_one x call rest absent apart = search arith
 
 apart_sync : (calls : List Call) → IsApart calls → IsApart (sync_calls calls)
 apart_sync [] a = tt
@@ -53,8 +50,7 @@ apart_async (call ∷ rest) a = apart_async_one call.class call (async_calls res
 apart_classes_one : (class : Class) (call : Call) (sync async : List Call) → IsAbsent call.id sync → IsAbsent call.id async
     → AllByRecursion (λ x. IsAbsent x.id async) sync →
     AllByRecursion (λ x. IsAbsent x.id (if_async class call ++ async)) (if_sync class call ++ sync)
-apart_classes_one Sync call sync async s a cross = (a, cross)
-apart_classes_one Async call sync async s a cross = search (every_both, arith)
+apart_classes_one x call sync async s a cross = search (every_both, arith)
 
 apart_classes : (calls : List Call) → IsApart calls → AllByRecursion (λ x. IsAbsent x.id (async_calls calls)) (sync_calls calls)
 apart_classes [] a = tt

@@ -17,8 +17,7 @@ ids-append (x ∷ xs) ys = ap (λ (ns : List ℕ). x.id ∷ ns) (ids-append xs y
 -- from 0 none is read
 pub chain_in-zero : (nexts : ℕ → ℕ) (n : ℕ) → chain_in nexts n 0 ≡ []
 unfolding chain_in
-chain_in-zero nexts zero = refl
-chain_in-zero nexts (suc n) = refl
+chain_in-zero nexts x = search arith
 
 pub chain_in-more : (nexts : ℕ → ℕ) (n id : ℕ) → chain_in nexts (suc n) (suc id) ≡ chain_in nexts n (nexts id) ++ id ∷ []
 unfolding chain_in

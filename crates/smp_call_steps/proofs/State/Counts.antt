@@ -1,21 +1,19 @@
 -- The calls by a confirmed record have all run, or run now.
-use Rattle.std.proofs.Common.{◌≡◌, ◌≢◌, ℕ, ◌+◌, ◌==◌, true, cond, Option, Some, List, [], ◌∷◌, ◌++◌, refl, ap, ◌∙◌, arith}
+use Rattle.std.proofs.Common.{◌≡◌, ◌≢◌, ℕ, ◌+◌, ◌==◌, true, cond, Option, List, [], ◌∷◌, ◌++◌, refl, ap, ◌∙◌, arith}
 use Rattle.std.proofs.lemmas.Bool.{ne_eqb}
 use Rattle.std.proofs.lemmas.List.Sums.{sum_by-append}
 use Rattle.smp_words.specs.Size.{owner}
-use Rattle.smp_call_steps.specs.{CallState, Running, Nothing, calls_by, batches, async_call, ConfirmedCallsRan, orders, running_call, if_sync, if_async}
+use Rattle.smp_call_steps.specs.{CallState, Running, calls_by, batches, async_call, ConfirmedCallsRan, orders, running_call, if_sync, if_async}
 use Rattle.smp_call_steps.specs.{sync_calls, async_calls, order, Holds, locked_by, AllPlaced, ControlValue, Share, StandsAt, PostKnows, held_of, held_of_post}
-use Rattle.smp_call_steps.specs.{DrainValue, Call, Class, Sync, Async, Word, RecPlace, Posting, PostStage, Stage, Post}
+use Rattle.smp_call_steps.specs.{DrainValue, Call, Class, Word, RecPlace, Posting, PostStage, Stage}
 use Rattle.smp_call_steps.specs.Shows.{Shows}
 use Rattle.smp_call_steps.specs.place
-use Rattle.smp_call_steps.specs.post
 
 pub by-append : (id : ℕ) (xs ys : List Call) → calls_by id (xs ++ ys) ≡ calls_by id xs + calls_by id ys
 by-append id xs ys = sum_by-append (λ call. cond (call.id == id) 1 0) xs ys
 
 by-class : (id : ℕ) (class : Class) (call : Call) → calls_by id (if_sync class call) + calls_by id (if_async class call) ≡ calls_by id (call ∷ [])
-by-class id Sync call = omega arith
-by-class id Async call = omega arith
+by-class id x call = search arith
 
 by-parts : (id : ℕ) (calls : List Call) → calls_by id (sync_calls calls) + calls_by id (async_calls calls) ≡ calls_by id calls
 by-parts id [] = refl
@@ -44,21 +42,17 @@ none_by places p id (call ∷ rest) ne h = search (ne_eqb, none_by places p id r
 
 -- the calls that run, but for an ASYNC one, keep their record locked
 by-running : (id : ℕ) (running : Running) → calls_by id (running_call running) ≡ calls_by id (locked_by running) + calls_by id (async_call running)
-by-running id Nothing = refl
-by-running id _ = omega arith
+by-running id x = search arith
 
 -- a record that its source holds is at that place
 
 post_held : (places : ℕ → RecPlace) (at : Word → ℕ) (id : ℕ) (p : Posting) (stage : PostStage) → PostKnows places at p stage → Holds (held_of_post p stage) id
     → places id ≡ place.Held
-post_held places at id p post.LoadFlags k h = absurd h
-post_held places at id p post.Lock k h = absurd h
-post_held places at id p _ k h = rw h at k.0
+post_held places at id p x k h = search arith
 
 stage_held : (places : ℕ → RecPlace) (at : Word → ℕ) (s : Share) (d : DrainValue) (me id : ℕ) (stage : Option Stage) → StandsAt places at s d me stage
     → Holds (held_of stage) id → places id ≡ place.Held
-stage_held places at s d me id (Some (Post p stage)) k h = post_held places at id p stage k.1.knows h
-stage_held places at s d me id _ k h = absurd h
+stage_held places at s d me id x k h = search (post_held, arith)
 
 -- a record that is free, or held
 pub record IsOut (p : RecPlace) : Type 0 where

@@ -1,19 +1,17 @@
 -- Where no record is locked and nobody handles calls, each call that was queued has run, once.
-use Rattle.std.proofs.Common.{◌≡◌, ◌≢◌, ℕ, ◌+◌, ◌%◌, ◌^◌, Bool, true, false, cond, Option, Some, None, List, [], ◌∷◌, ◌++◌, length, sym, refl, ap, ◌∙◌, arith}
+use Rattle.std.proofs.Common.{◌≡◌, ◌≢◌, ℕ, ◌+◌, ◌%◌, ◌^◌, Bool, cond, Option, Some, None, List, [], ◌∷◌, ◌++◌, length, sym, refl, ap, ◌∙◌, arith}
 use Rattle.std.proofs.lemmas.List.{append-nil}
 use Rattle.smp_words.specs.Size.{owner}
 use Rattle.smp_call_steps.specs.{CallState, Holding, Recorded, Marked, marked, others_marked, batches_marked, marked_from, sent_to, calls_from, orders, if_sync}
 use Rattle.smp_call_steps.specs.{if_async, sync_calls, async_calls, order, Holds, AllPlaced, FlagsShow, Share, share_of, Rests}
-use Rattle.smp_call_steps.specs.{StandsAt, HandIs, DrainValue, Call, Class, Sync, Async, Word, Hand, Queued, Ran, Flags, RecPlace, HandleStage, Stage, Handle}
+use Rattle.smp_call_steps.specs.{StandsAt, HandIs, DrainValue, Call, Class, Word, Hand, Queued, Ran, Flags, RecPlace, HandleStage, Stage, Handle}
 use Rattle.smp_call_steps.specs.Reached.{ArePlaced, AreTallied}
 use Rattle.smp_call_steps.specs.place
-use Rattle.smp_call_steps.specs.handle
 
 -- how many calls of a source a list has
 
 length-kept : {A : Type 0} (b : Bool) (x : A) (rest : List A) → length (cond b (x ∷ rest) rest) ≡ cond b 1 0 + length rest
-length-kept true x rest = omega arith
-length-kept false x rest = omega arith
+length-kept x y rest = search arith
 
 calls_from-append : (source : ℕ) (xs ys : List Call) → length (calls_from source (xs ++ ys)) ≡ length (calls_from source xs) + length (calls_from source ys)
 calls_from-append source [] ys = omega arith
@@ -31,15 +29,13 @@ others_from source [] = refl
 others_from source (call ∷ rest) = search (length-kept, others_from source rest, arith)
 
 all_from : (source : ℕ) (calls : List Call) → length (marked_from source (marked calls)) ≡ length (calls_from source calls)
-all_from source [] = refl
-all_from source (call ∷ rest) = search (length-kept, others_from, arith)
+all_from source x = search (length-kept, others_from, arith)
 
 -- the drain order has the calls of its batch
 
 class_from : (source : ℕ) (class : Class) (call : Call)
     → length (calls_from source (if_sync class call)) + length (calls_from source (if_async class call)) ≡ length (calls_from source (call ∷ []))
-class_from source Sync call = omega arith
-class_from source Async call = omega arith
+class_from source x call = search arith
 
 parts_from : (source : ℕ) (calls : List Call) → length (calls_from source (sync_calls calls)) + length (calls_from source (async_calls calls))
     ≡ length (calls_from source calls)
@@ -59,8 +55,7 @@ pub record Still (at : Word → ℕ) : Type 0 where
   pub outside : (cpu : ℕ) → at (Hand cpu) ≡ 0
 
 unlocked_free : (p : RecPlace) (flags : ℕ) → FlagsShow p flags → flags % 2 ≢ 1 → p ≡ place.Free
-unlocked_free place.Free flags h ne = refl
-unlocked_free _ flags h ne = absurd (ne h)
+unlocked_free x flags h ne = search arith
 
 none_placed : (places : ℕ → RecPlace) (p : RecPlace) (calls : List Call) → p ≢ place.Free → ((id : ℕ) → places id ≡ place.Free) → AllPlaced places p calls
     → calls ≡ []
@@ -73,17 +68,12 @@ none_held (Some x) h = absurd (h x.call.id refl)
 
 rests_inside : (places : ℕ → RecPlace) (at : Word → ℕ) (s : Share) (d : DrainValue) (me hand : ℕ) (stage : HandleStage) → hand ≡ 0
     → HandIs (Some (Handle stage)) hand → StandsAt places at s d me (Some (Handle stage)) → Rests s
-rests_inside places at s d me hand handle.Enter z h k = k.1
-rests_inside places at s d me hand (handle.CountSync walk call next) z h k = absurd (let e : hand ≡ call.id + 2 = h in omega arith)
-rests_inside places at s d me hand (handle.EndSync walk call next) z h k = absurd (let e : hand ≡ call.id + 2 = h in omega arith)
-rests_inside places at s d me hand _ z h k = absurd (h z)
+rests_inside places at s d me hand x z h k = search arith
 
 -- nothing is taken and nothing runs, where the handling word is 0
 pub rests_at : (places : ℕ → RecPlace) (at : Word → ℕ) (s : Share) (d : DrainValue) (me hand : ℕ) (stage : Option Stage) → hand ≡ 0 → HandIs stage hand
     → StandsAt places at s d me stage → Rests s
-rests_at places at s d me hand None z h k = k
-rests_at places at s d me hand (Some (Handle stage)) z h k = rests_inside places at s d me hand stage z h k
-rests_at places at s d me hand _ z h k = k.0
+rests_at places at s d me hand x z h k = search (rests_inside, arith)
 
 -- the laws of calls, and what the words say of them: each flags word, each tally, and each handling word
 pub record HasLaws (a : CallState) (at : Word → ℕ) : Type 0 where

@@ -3,24 +3,21 @@ use Rattle.std.proofs.Common.{◌≡◌, ℕ, ◌+◌, true, cond, List, [], ◌
 use Rattle.std.specs.List.{AllByRecursion}
 use Rattle.smp_words.specs.Size.{owner}
 use Rattle.smp_words.proofs.Puts.{at_test}
-use Rattle.smp_call_steps.specs.{CallState, Running, Nothing, SyncCall, CountedCall, AsyncCall, Sending, RunsByClass, calls_by, batches, async_call}
+use Rattle.smp_call_steps.specs.{CallState, Running, Sending, RunsByClass, calls_by, batches}
 use Rattle.smp_call_steps.specs.{ConfirmedSyncCallsEnded, HasCall, HasRunAt, ConfirmedCallsHaveRun, Marked, mark, marked, others_marked, batches_marked}
 use Rattle.smp_call_steps.specs.{history_of, sent_to, marked_from, orders, running_call, if_sync, if_async, sync_calls, async_calls, order, IsPlaced}
-use Rattle.smp_call_steps.specs.{locked_by, if_class, of_class, ControlValue, Call, Class, Sync, Async, Word}
+use Rattle.smp_call_steps.specs.{locked_by, if_class, of_class, ControlValue, Call, Class, Sync, Word}
 use Rattle.smp_call_steps.specs.Shows.{Shows}
 use Rattle.smp_call_steps.proofs.Basics.Alls.{every, every_append}
 use Rattle.smp_call_steps.proofs.State.Classes.{runs_by_class}
 use Rattle.smp_call_steps.proofs.State.Counts.{IsOut, by-append, none_by, confirmed_out}
-use Rattle.smp_call_steps.proofs.State.QueueOrder.{of_class-append, orders_keep, Sync≢Async}
+use Rattle.smp_call_steps.proofs.State.QueueOrder.{of_class-append, orders_keep}
 use Rattle.smp_call_steps.specs.place
 
 -- of the SYNC calls
 
 one_of_class : (P : Call → Type 0) (class of : Class) (call : Call) → P call → AllByRecursion P (if_class class of call)
-one_of_class P Sync Sync call p = (p, tt)
-one_of_class P Sync Async call p = tt
-one_of_class P Async Sync call p = tt
-one_of_class P Async Async call p = (p, tt)
+one_of_class x y z call p = search arith
 
 every_of_class : (P : Call → Type 0) (class : Class) (calls : List Call) → AllByRecursion P calls → AllByRecursion P (of_class class calls)
 every_of_class P class [] h = tt
@@ -28,10 +25,7 @@ every_of_class P class (call ∷ rest) h = search (every_append, one_of_class, e
 
 -- a call that runs while its record is free is not SYNC
 running_none : (id : ℕ) (running : Running) → RunsByClass running → calls_by id (locked_by running) ≡ 0 → calls_by id (of_class Sync (running_call running)) ≡ 0
-running_none id Nothing h e = refl
-running_none id (SyncCall call) h e = rw h e
-running_none id (CountedCall call) h e = rw h e
-running_none id (AsyncCall call) h e = rw h refl
+running_none id x h e = search arith
 
 -- the calls of a list
 
@@ -62,8 +56,7 @@ holds_of P (x ∷ xs) call all (inr h) = holds_of P xs call all.1 h
 -- the drain order has the calls of its batch
 
 has_by_class : (class : Class) (call : Call) (syncs asyncs : List Call) → HasCall call ((if_sync class call ++ syncs) ++ (if_async class call ++ asyncs))
-has_by_class Sync call syncs asyncs = inl refl
-has_by_class Async call syncs asyncs = has_right call syncs (call ∷ asyncs) (inl refl)
+has_by_class x call syncs asyncs = search (has_right, arith)
 
 has_past : (call : Call) (xs syncs ys asyncs : List Call) → HasCall call (syncs ++ asyncs) → HasCall call ((xs ++ syncs) ++ (ys ++ asyncs))
 has_past call xs syncs ys asyncs h = elim (has_either call syncs asyncs h) [
@@ -94,8 +87,7 @@ module _ (P : Call → Type 0) where
   every_others (call ∷ rest) h = (h.0, every_others rest h.1)
 
   every_marked : (calls : List Call) → AllByRecursion P calls → AllByRecursion Of (marked calls)
-  every_marked [] h = tt
-  every_marked (call ∷ rest) h = (h.0, every_others rest h.1)
+  every_marked x h = search (every_others, arith)
 
   every_from : (source : ℕ) (ms : List Marked) → AllByRecursion Of ms → AllByRecursion (λ m. (owner m.call.id ≡ source) × P m.call) (marked_from source ms)
   every_from source [] h = tt
@@ -155,21 +147,15 @@ module _ (a : CallState) (at : Word → ℕ) (control : ℕ → ControlValue) (s
   HasRunOnce cpu call = a.confirmed (owner call.id) call.id ≡ true → HasRunAt a cpu call call.class
 
   ended_run : (cpu : ℕ) (call : Call) (class : Class) → HasCall call (a.ran cpu) → HasRunAt a cpu call class
-  ended_run cpu call Sync h = h
-  ended_run cpu call Async h = has_left call (a.ran cpu) (async_call (a.running cpu)) h
+  ended_run cpu call x h = search (has_left, arith)
 
   running_run : (cpu : ℕ) (call : Call) → IsOut (a.place call.id) → (running : Running) → RunsByClass running
       → AllByRecursion (IsPlaced a.place (place.Running cpu)) (locked_by running) → HasCall call (running_call running) →
       (class : Class) → call.class ≡ class → HasRunAt (record a { running = λ _. running }) cpu call class
-  running_run cpu call out Nothing r k h class e = absurd h
-  running_run cpu call out (SyncCall x) r k h class e = absurd (out.running cpu (holds_of (IsPlaced a.place (place.Running cpu)) (x ∷ []) call k h).placed)
-  running_run cpu call out (CountedCall x) r k h class e = absurd (out.running cpu (holds_of (IsPlaced a.place (place.Running cpu)) (x ∷ []) call k h).placed)
-  running_run cpu call out (AsyncCall x) r k h Sync e = absurd (Sync≢Async (sym e ∙ holds_of (λ c. c.class ≡ Async) (x ∷ []) call (r, tt) h))
-  running_run cpu call out (AsyncCall x) r k h Async e = has_right call (a.ran cpu) (x ∷ []) h
+  running_run cpu call out x r k h class e = search (holds_of, has_right, arith)
 
   same_run : (cpu : ℕ) (call : Call) (class : Class) → HasRunAt (record a { running = λ _. a.running cpu }) cpu call class → HasRunAt a cpu call class
-  same_run cpu call Sync h = h
-  same_run cpu call Async h = h
+  same_run cpu call x h = search arith
 
   taken_run : (cpu : ℕ) (call : Call) → IsOut (a.place call.id) → HasCall call (a.ran cpu ++ (running_call (a.running cpu) ++ a.batch cpu))
       → HasRunAt a cpu call call.class

@@ -8,7 +8,7 @@ use Rattle.smp_words.specs.Size.{cpus, records}
 use Rattle.smp_call_steps.specs.{has_record, down_link, up_link, between_of, is_this, running_of, CallState, Running, DrainValue, link_to, if_sync}
 use Rattle.smp_call_steps.specs.{if_async, sync_calls, async_calls, HasRecord, IsAbsent, IsApart, IsPlaced, IsThere, locked_by, AllPlaced, HasChain, chain_in}
 use Rattle.smp_call_steps.specs.{ids, ControlValue, Share, share_of, Rests, StandsAt, HandleStands, Reverses, Walks, Ends, Leads, Path, nexts_in, FlagsShow}
-use Rattle.smp_call_steps.specs.{control_of, outside, Call, Class, Sync, Async, Word, Head, Flags, RecPlace, Walk, HandleStage, Stage}
+use Rattle.smp_call_steps.specs.{control_of, outside, Call, Class, Word, Head, Flags, RecPlace, Walk, HandleStage, Stage}
 use Rattle.smp_call_steps.specs.{Handle}
 use Rattle.smp_words.specs.Layout.{number_in}
 use Rattle.smp_call_steps.specs.Shows.{Shows}
@@ -31,14 +31,10 @@ has-either id (x ∷ xs) ys (inl e) = inl (inl e)
 has-either id (x ∷ xs) ys (inr h) = elim (has-either id xs ys h) [ inl k ↦ inl (inr k) | inr k ↦ inr k ]
 
 of_sync : (id : ℕ) (class : Class) (call : Call) (rest : List Call) → HasRecord id (if_sync class call) → HasRecord id (call ∷ rest)
-of_sync id Sync call rest (inl e) = inl e
-of_sync id Sync call rest (inr h) = absurd h
-of_sync id Async call rest h = absurd h
+of_sync id x call rest h = search arith
 
 of_async : (id : ℕ) (class : Class) (call : Call) (rest : List Call) → HasRecord id (if_async class call) → HasRecord id (call ∷ rest)
-of_async id Async call rest (inl e) = inl e
-of_async id Async call rest (inr h) = absurd h
-of_async id Sync call rest h = absurd h
+of_async id x call rest h = search arith
 
 has-sync : (id : ℕ) (calls : List Call) → HasRecord id (sync_calls calls) → HasRecord id calls
 has-sync id [] h = absurd h
@@ -60,8 +56,7 @@ or_left : (x y : Bool) → x ≡ true → (x || y) ≡ true
 or_left x y e = rw e refl
 
 or_right : (x y : Bool) → y ≡ true → (x || y) ≡ true
-or_right true y e = refl
-or_right false y e = e
+or_right x y e = search arith
 
 pub true-has_record : (id : ℕ) (calls : List Call) → HasRecord id calls → has_record id calls ≡ true
 true-has_record id [] h = absurd h
@@ -252,22 +247,17 @@ module _ (places : ℕ → RecPlace) (nexts : ℕ → ℕ) (cpu : ℕ) (s : Shar
 
 stage_split : (places : ℕ → RecPlace) (at : Word → ℕ) (s : Share) (d : DrainValue) (me : ℕ) (stage : Option Stage) → AllPlaced places (place.Batch me) s.batch
     → IsApart s.batch → StandsAt places at s d me stage → Splits places (nexts_in at) me s.batch stage
-stage_split places at s d me None p a h = rests_split places (nexts_in at) me s p a None refl refl refl h.batch
-stage_split places at s d me (Some (Handle stage)) p a h = handle_split places (nexts_in at) me s p a d stage h.1
-stage_split places at s d me stage p a h = rests_split places (nexts_in at) me s p a stage refl refl refl h.0.batch
+stage_split places at s d me stage p a h = search (rests_split, handle_split, arith)
 
 -- the SYNC call that runs, by the stage
 
 handle_runs : (nexts : ℕ → ℕ) (s : Share) (d : DrainValue) (stage : HandleStage) → HandleStands nexts s d stage
     → locked_by s.running ≡ running_of (Some (Handle stage))
-handle_runs nexts s d handle.Enter h = ap locked_by h.running
-handle_runs nexts s d _ h = search arith
+handle_runs nexts s d x h = search arith
 
 stage_runs : (places : ℕ → RecPlace) (at : Word → ℕ) (s : Share) (d : DrainValue) (me : ℕ) (stage : Option Stage) → StandsAt places at s d me stage
     → locked_by s.running ≡ running_of stage
-stage_runs places at s d me None h = ap locked_by h.running
-stage_runs places at s d me (Some (Handle stage)) h = handle_runs (nexts_in at) s d stage h.1
-stage_runs places at s d me _ h = ap locked_by h.0.running
+stage_runs places at s d me x h = search (handle_runs, arith)
 
 module _ {a : CallState} {at : Word → ℕ} {control : ℕ → ControlValue} (s : Shows a at control) (cpu : ℕ) where
   splits : Splits a.place (nexts_in at) cpu (a.batch cpu) (control cpu).stage
@@ -301,16 +291,10 @@ module _ {a : CallState} {at : Word → ℕ} {control : ℕ → ControlValue} (s
 
   this_between : (id : ℕ) (between : Option ℕ) (calls : List Call) → IsBetween between calls → AllPlaced a.place (place.Batch cpu) calls
       → is_this id between ≡ true → a.place id ≡ place.Batch cpu
-  this_between id None calls b all t = cc
-  this_between id (Some k) calls b all t = search (eqb-true, arith)
+  this_between id x calls b all t = search (eqb-true, arith)
 
   between_this : (id : ℕ) (between : Option ℕ) (calls : List Call) → IsBetween between calls → HasRecord id calls → is_this id between ≡ true
-  between_this id None calls b h = absurd (subst (HasRecord id) b h)
-  between_this id (Some k) calls b h = one id k b.0 b.2 (subst (HasRecord id) b.1 h)
-    where
-      one : (id k : ℕ) (call : Call) → call.id ≡ k → HasRecord id (call ∷ []) → (k == id) ≡ true
-      one id k call e (inl f) = eq-eqb k id (sym e ∙ f)
-      one id k call e (inr f) = absurd f
+  between_this id x calls b h = search (eq-eqb, arith)
 
   -- the record between the chains is in the batch
   pub in_between : (x : ControlValue) → x ≡ control cpu → (id : ℕ) → is_this id (between_of x.stage) ≡ true → a.place id ≡ place.Batch cpu
@@ -365,8 +349,7 @@ pub record IsBare (at : Word → ℕ) (control : ℕ → ControlValue) : Type 0 
 
 module _ {a : CallState} {at : Word → ℕ} {control : ℕ → ControlValue} (s : Shows a at control) (id : ℕ) where
   free_if : (p : RecPlace) → FlagsShow p 0 → p ≡ place.Free
-  free_if place.Free f = refl
-  free_if _ f = absurd (omega (arith, f))
+  free_if x f = search arith
 
   -- a record whose flags are 0 is free
   pub is_free : at (Flags id) ≡ 0 → place.Free ≡ a.place id

@@ -15,20 +15,16 @@ of_class-append class (x ∷ xs) ys = search (append_assoc, of_class-append clas
 -- of the SYNC calls of a list, all are of class SYNC, and none is ASYNC
 
 one_sync : (class : Class) (call : Call) → call.class ≡ class → of_class Sync (if_sync class call) ≡ if_class Sync class call
-one_sync Sync call e = rw e refl
-one_sync Async call e = refl
+one_sync x call e = search arith
 
 one_not_sync : (class : Class) (call : Call) → call.class ≡ class → of_class Sync (if_async class call) ≡ []
-one_not_sync Sync call e = refl
-one_not_sync Async call e = rw e refl
+one_not_sync x call e = search arith
 
 one_async : (class : Class) (call : Call) → call.class ≡ class → of_class Async (if_async class call) ≡ if_class Async class call
-one_async Sync call e = refl
-one_async Async call e = rw e refl
+one_async x call e = search arith
 
 one_not_async : (class : Class) (call : Call) → call.class ≡ class → of_class Async (if_sync class call) ≡ []
-one_not_async Sync call e = rw e refl
-one_not_async Async call e = refl
+one_not_async x call e = search arith
 
 sync_of : (calls : List Call) → of_class Sync (sync_calls calls) ≡ of_class Sync calls
 sync_of [] = refl

@@ -1,6 +1,6 @@
 -- The queue history after each kind of step, whatever words there are: a call joins a queue, a queue is taken, a call begins, or it
 -- is counted or ended.
-use Rattle.std.proofs.Common.{◌≡◌, ◌≢◌, ℕ, Bool, cond, List, [], ◌∷◌, ◌++◌, sym, subst, refl, ap, ◌∙◌, append_assoc, arith}
+use Rattle.std.proofs.Common.{◌≡◌, ◌≢◌, ℕ, Bool, List, [], ◌∷◌, ◌++◌, sym, ap, ◌∙◌, append_assoc, arith}
 use Rattle.std.proofs.lemmas.List.{append-nil}
 use Rattle.smp_words.specs.Put.{put}
 use Rattle.smp_words.specs.Size.{owner}
@@ -44,76 +44,19 @@ module _ (a : CallState) (me : ℕ) (r : Recorded a.sent a.taken a.queue a.ran a
   pub recorded_appended : (to : ℕ) (call : Call) → owner call.id ≡ me
       → Recorded (put a.sent me (a.sent me ++ record { call = call; to = to; is_first = is_nil (a.queue to) } ∷ [])) a.taken
       (put a.queue to (a.queue to ++ call ∷ [])) a.ran a.running a.batch
-  recorded_appended to call own = record {
-    in_order =
-        λ source cpu. at_test source me
-        (λ b. sent_to cpu (cond b (a.sent me ++ record { call = call; to = to; is_first = is_nil (a.queue to) } ∷ []) (a.sent source))
-        ≡ marked_from source (history_of (a.taken cpu) (put a.queue to (a.queue to ++ call ∷ []) cpu)))
-        (λ e. at_test cpu to (λ b. sent_to cpu (a.sent me ++ record { call = call; to = to; is_first = is_nil (a.queue to) } ∷ [])
-        ≡ marked_from source (history_of (a.taken cpu) (cond b (a.queue to ++ call ∷ []) (a.queue cpu))))
-        (λ f. rw (
-          f,
-          sent_here to (a.sent me) call (is_nil (a.queue to)),
-          from_here source (a.taken to) (a.queue to) call (own ∙ sym e),
-          e,
-          r.in_order me to,
-        ) refl)
-        (λ ne. sent_else cpu to (a.sent me) call (is_nil (a.queue to)) ne ∙ rw e (r.in_order me cpu)))
-        (λ ne. at_test cpu to (λ b. sent_to cpu (a.sent source) ≡ marked_from source
-        (history_of (a.taken cpu) (cond b (a.queue to ++ call ∷ []) (a.queue cpu))))
-        (λ f. rw (f, from_else source (a.taken to) (a.queue to) call (λ e. ne (sym e ∙ own))) (r.in_order source to))
-        (λ _. r.in_order source cpu));
-    drained = r.drained;
-  }
+  recorded_appended to call own = search (at_test, sent_here, from_here, sent_else, from_else, arith)
 
   -- a whole queue becomes a batch
   pub recorded_taken : a.batch me ≡ [] → a.running me ≡ Nothing
       → Recorded a.sent (put a.taken me (a.taken me ++ a.queue me ∷ [])) (put a.queue me []) a.ran a.running (put a.batch me (order (a.queue me)))
-  recorded_taken none idle = record {
-    in_order =
-        λ source cpu. at_test cpu me (λ b. sent_to cpu (a.sent source) ≡ marked_from source
-        (history_of (cond b (a.taken me ++ a.queue me ∷ []) (a.taken cpu)) (cond b [] (a.queue cpu))))
-        (λ e. subst (λ (k : ℕ). sent_to k (a.sent source) ≡ marked_from source (history_of (a.taken me ++ a.queue me ∷ []) [])) (sym e)
-        (r.in_order source me ∙ ap (marked_from source) (sym (history-taken (a.taken me) (a.queue me)))))
-        (λ _. r.in_order source cpu);
-    drained =
-        λ cpu. at_test cpu me (λ b. a.ran cpu ++ (running_call (a.running cpu) ++ cond b (order (a.queue me)) (a.batch cpu))
-        ≡ orders (cond b (a.taken me ++ a.queue me ∷ []) (a.taken cpu)))
-        (λ e. subst (λ (k : ℕ). a.ran k ++ (running_call (a.running k) ++ order (a.queue me)) ≡ orders (a.taken me ++ a.queue me ∷ [])) (sym e) drained_here)
-        (λ _. r.drained cpu);
-  }
-    where
-      before : a.ran me ≡ orders (a.taken me)
-      before = search (append-nil, arith)
-
-      drained_here : a.ran me ++ (running_call (a.running me) ++ order (a.queue me)) ≡ orders (a.taken me ++ a.queue me ∷ [])
-      drained_here = ap (λ (x : Running). a.ran me ++ (running_call x ++ order (a.queue me))) idle
-          ∙ (ap (λ (k : List Call). k ++ order (a.queue me)) before ∙ sym (orders-push (a.taken me) (a.queue me)))
+  recorded_taken none idle = search (at_test, history-taken, append-nil, orders-push, arith)
 
   -- the front of the batch runs
   pub recorded_begun : (call : Call) (rest : List Call) (run : Running) → a.batch me ≡ call ∷ rest → a.running me ≡ Nothing → running_call run ≡ call ∷ []
       → Recorded a.sent a.taken a.queue a.ran (put a.running me run) (put a.batch me rest)
-  recorded_begun call rest run front idle runs = record {
-    in_order = r.in_order;
-    drained = λ cpu. at_test cpu me (λ b. a.ran cpu ++ (running_call (cond b run (a.running cpu)) ++ cond b rest (a.batch cpu)) ≡ orders (a.taken cpu))
-        (λ e. subst (λ (k : ℕ). a.ran k ++ (running_call run ++ rest) ≡ orders (a.taken k)) (sym e) mine) (λ _. r.drained cpu);
-  }
-    where
-      was : running_call (a.running me) ++ a.batch me ≡ call ∷ rest
-      was = ap (λ (x : Running). running_call x ++ a.batch me) idle ∙ front
-
-      mine : a.ran me ++ (running_call run ++ rest) ≡ orders (a.taken me)
-      mine = ap (λ (xs : List Call). a.ran me ++ (xs ++ rest)) runs ∙ (ap (λ (xs : List Call). a.ran me ++ xs) (sym was) ∙ r.drained me)
+  recorded_begun call rest run front idle runs = search (at_test, arith)
 
   -- the call that runs is counted, or ends
   pub recorded_counted : (run : Running) (ran' : ℕ → List Call) → ((cpu : ℕ) → cpu ≢ me → ran' cpu ≡ a.ran cpu)
       → ran' me ++ running_call run ≡ a.ran me ++ running_call (a.running me) → Recorded a.sent a.taken a.queue ran' (put a.running me run) a.batch
-  recorded_counted run ran' others ended = record {
-    in_order = r.in_order;
-    drained = λ cpu. at_test cpu me (λ b. ran' cpu ++ (running_call (cond b run (a.running cpu)) ++ a.batch cpu) ≡ orders (a.taken cpu))
-        (λ e. subst (λ (k : ℕ). ran' k ++ (running_call run ++ a.batch k) ≡ orders (a.taken k)) (sym e) mine)
-        (λ ne. ap (λ (xs : List Call). xs ++ (running_call (a.running cpu) ++ a.batch cpu)) (others cpu ne) ∙ r.drained cpu);
-  }
-    where
-      mine : ran' me ++ (running_call run ++ a.batch me) ≡ orders (a.taken me)
-      mine = search (append_assoc, arith)
+  recorded_counted run ran' others ended = search (at_test, append_assoc, arith)

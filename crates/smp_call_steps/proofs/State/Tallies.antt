@@ -1,14 +1,13 @@
 -- What a CPU has counted of each source, with one call more.
-use Rattle.std.proofs.Common.{◌≡◌, ◌≢◌, ℕ, ◌+◌, ◌%◌, ◌^◌, Bool, true, false, ◌==◌, ◌&&◌, cond, if◌then◌else◌, Option, List, [], ◌∷◌, ◌++◌, length}
-use Rattle.std.proofs.Common.{length-append, sym, subst, refl, ap, ◌∙◌, arith}
+use Rattle.std.proofs.Common.{◌≡◌, ◌≢◌, ℕ, ◌+◌, ◌%◌, ◌^◌, Bool, ◌==◌, ◌&&◌, cond, if◌then◌else◌, Option, List, [], ◌∷◌, ◌++◌, length}
+use Rattle.std.proofs.Common.{length-append, refl, arith}
 use Rattle.std.proofs.lemmas.Bool.{eq-eqb, ne_eqb}
 use Rattle.smp_words.specs.Size.{owner}
 use Rattle.smp_call_steps.specs.{Holding, Running, Sending, calls_from, counted_call, Tallied, Call}
 use Rattle.smp_words.proofs.Puts.{at_test}
 
 push_one : (b : Bool) (x : Call) (rest ys : List Call) → (if b then x ∷ (rest ++ ys) else rest ++ ys) ≡ (if b then x ∷ rest else rest) ++ ys
-push_one true x rest ys = refl
-push_one false x rest ys = refl
+push_one x y rest ys = search arith
 
 calls_from-push : (source : ℕ) (xs : List Call) (y : Call)
     → calls_from source (xs ++ y ∷ []) ≡ calls_from source xs ++ (if owner y.id == source then y ∷ [] else [])
@@ -34,23 +33,7 @@ pub tallied_more : (queued words : ℕ → ℕ → ℕ) (sent : ℕ → List Sen
     Tallied queued words sent held ran running →
     Tallied queued (λ cpu source. cond (cpu == me && source == owner call.id) ((words me (owner call.id) + 1) % 2 ^ 64) (words cpu source))
     sent held ran' running'
-tallied_more queued words sent held ran ran' running running' me call here others t = record {
-  queued_are = t.queued_are;
-  ran_are =
-      λ cpu source. at_test cpu me (λ b. cond (b && source == owner call.id) ((words me (owner call.id) + 1) % 2 ^ 64) (words cpu source)
-      ≡ length (calls_from source (ran' cpu ++ counted_call (running' cpu))) % 2 ^ 64)
-      (λ e. subst (λ (k : ℕ). cond (source == owner call.id) ((words me (owner call.id) + 1) % 2 ^ 64) (words k source)
-      ≡ length (calls_from source (ran' k ++ counted_call (running' k))) % 2 ^ 64) (sym e) (mine source))
-      (λ ne. t.ran_are cpu source ∙ ap (λ (xs : List Call). length (calls_from source xs) % 2 ^ 64) (sym (others cpu ne)));
-}
-  where
-    now : (source : ℕ) → length (calls_from source (ran' me ++ counted_call (running' me)))
-        ≡ length (calls_from source ((ran me ++ counted_call (running me)) ++ call ∷ []))
-    now source = ap (λ (xs : List Call). length (calls_from source xs)) here
-
-    mine : (source : ℕ) → cond (source == owner call.id) ((words me (owner call.id) + 1) % 2 ^ 64) (words me source)
-        ≡ length (calls_from source (ran' me ++ counted_call (running' me))) % 2 ^ 64
-    mine source = search (at_test, count_wraps, count-same, count-other, arith)
+tallied_more queued words sent held ran ran' running running' me call here others t = search (at_test, count_wraps, count-same, count-other, arith)
 
 -- the tally law where each CPU has counted what it had counted
 pub tallied_same : (queued words : ℕ → ℕ → ℕ) (sent : ℕ → List Sending) (held : ℕ → Option Holding) (ran ran' : ℕ → List Call) (running running' : ℕ → Running)

@@ -68,8 +68,7 @@ async_calls-append [] ys = refl
 async_calls-append (x ∷ xs) ys = search (append_assoc, async_calls-append xs ys, arith)
 
 async_one : (class : Class) (call : Call) → call.class ≡ class → AllByRecursion IsAsync (if_async class call)
-async_one Sync call e = tt
-async_one Async call e = (e, tt)
+async_one x call e = search arith
 
 pub all_async : (calls : List Call) → AllByRecursion IsAsync (async_calls calls)
 all_async [] = tt
@@ -81,8 +80,7 @@ abbrev pub IsSync : Call → Type 0
 IsSync call = call.class ≡ Sync
 
 sync_one : (class : Class) (call : Call) → call.class ≡ class → AllByRecursion IsSync (if_sync class call)
-sync_one Sync call e = (e, tt)
-sync_one Async call e = tt
+sync_one x call e = search arith
 
 pub all_sync : (calls : List Call) → AllByRecursion IsSync (sync_calls calls)
 all_sync [] = tt
@@ -216,13 +214,10 @@ reverse_goes nexts s d here (Some id) older newer whole down up apart counted ba
     search (n, same_record, append_assoc, arith)
 
 pub hand_of_second : (next : Option ℕ) (hand : ℕ) → hand ≢ 0 → HandIs (Some (Handle (second_on next))) hand
-hand_of_second None hand ne = ne
-hand_of_second (Some id) hand ne = ne
+hand_of_second x hand ne = search arith
 
 pub hand_of_first : (walk : Walk) (next : Option ℕ) (hand : ℕ) → hand ≢ 0 → HandIs (Some (Handle (first_on walk next))) hand
-hand_of_first walk None hand ne = hand_of_second walk.first hand ne
-hand_of_first walk (Some id) hand ne = ne
+hand_of_first walk x hand ne = search (hand_of_second, arith)
 
 pub hand_of_reverse : (here next : Option ℕ) (hand : ℕ) → hand ≢ 0 → HandIs (Some (Handle (reverse_on here next))) hand
-hand_of_reverse here None hand ne = hand_of_first (record { first = here; last = None }) here hand ne
-hand_of_reverse here (Some id) hand ne = ne
+hand_of_reverse here x hand ne = search (hand_of_first, arith)

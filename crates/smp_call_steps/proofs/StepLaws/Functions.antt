@@ -1,5 +1,5 @@
 -- What each step does of the functions that calls run, and what it says of them.
-use Rattle.std.proofs.Common.{◌≡◌, ℕ, ◌+◌, Bool, true, false, cond, inl, inr, Option, Some, None, List, ◌∷◌, sym, subst, refl, arith}
+use Rattle.std.proofs.Common.{◌≡◌, ℕ, ◌+◌, Bool, false, cond, inl, inr, Option, Some, None, List, ◌∷◌, sym, subst, arith}
 use Rattle.std.proofs.lemmas.Bool.{lt-ltb}
 use Rattle.smp_words.specs.Flags.{flags_of}
 use Rattle.smp_words.specs.Put.{put}
@@ -21,24 +21,19 @@ use Rattle.smp_call_steps.specs.handle
 
 module _ (a : CallState) (me : ℕ) where
   told_confirms : (b : Bool) (id : ℕ) → told_of (cond b a (confirms a me id)) ≡ told_of a
-  told_confirms true id = refl
-  told_confirms false id = refl
+  told_confirms x id = search arith
 
   told_lock : (c : Class) (id : ℕ) → told_of (flags_told a me id act.Store None (Some (flags_of c))) ≡ told_of a
-  told_lock Sync id = refl
-  told_lock Async id = refl
+  told_lock x id = search arith
 
   told_links : (n : ℕ) (h : Option Holding) → told_of (links a me (Some n) h) ≡ told_of a
-  told_links n None = refl
-  told_links n (Some h) = refl
+  told_links n y = search arith
 
   told_appended : (to : ℕ) (h : Option Holding) → told_of (appended a me to h) ≡ told_of a
-  told_appended to None = refl
-  told_appended to (Some h) = refl
+  told_appended to x = search arith
 
   told_exchange : (to n : ℕ) (b : Bool) → told_of (head_told a me to act.Cas (cond b (Some n) None)) ≡ told_of a
-  told_exchange to n true = told_appended to (a.held me)
-  told_exchange to n false = refl
+  told_exchange to n y = search (told_appended, arith)
 
   -- what tells some
 
@@ -58,25 +53,18 @@ module _ (a : CallState) (me : ℕ) where
 -- what is said
 
 said_flags : (b c : Bool) (p : Posting) → is_call (cond b (ends note.Busy) (cond c (goes_to p post.Lock) (ends note.NoCpu))).note ≡ false
-said_flags true c p = refl
-said_flags false true p = refl
-said_flags false false p = refl
+said_flags x c p = search arith
 
 said_exchange : (b c d : Bool) (p : Posting) (link tries : ℕ) →
     is_call (cond b (ends (cond d note.Owed note.Queued)) (cond c (goes_to p (post.StoreNext link tries)) (goes_to p post.Uncount))).note ≡ false
-said_exchange true c true p link tries = refl
-said_exchange true c false p link tries = refl
-said_exchange false true d p link tries = refl
-said_exchange false false d p link tries = refl
+said_exchange x c d p link tries = search arith
 
 said_done : (b : Bool) → is_call (ends (cond b note.Locked note.Done)).note ≡ false
-said_done true = refl
-said_done false = refl
+said_done x = search arith
 
 said_accept : (b : Bool) (x y : HandleStage) →
     is_call (cond {A = CallOutcome} b (record { next = Some (Handle x); note = None }) (record { next = Some (Handle y); note = None })).note ≡ false
-said_accept true x y = refl
-said_accept false x y = refl
+said_accept x y z = search arith
 
 module _ (a : CallState) (at : Word → ℕ) (control : ℕ → ControlValue) (s : Shows a at control) (me : ℕ) where
   abbrev Goes : Stage → Type 0

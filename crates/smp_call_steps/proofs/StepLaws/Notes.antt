@@ -1,13 +1,13 @@
 -- What each step queues, and that its note says what holds.
-use Rattle.std.proofs.Common.{arith, ◌≡◌, ◌≢◌, ℕ, ◌+◌, ◌%◌, ◌==◌, Bool, true, false, cond, inl, Option, Some, None, List, [], ◌∷◌, sym, refl, ap, ◌∙◌}
+use Rattle.std.proofs.Common.{arith, ◌≡◌, ◌≢◌, ℕ, ◌+◌, ◌%◌, ◌==◌, Bool, true, false, cond, Option, Some, None, List, ap, ◌∙◌}
 use Rattle.std.proofs.Common.{eqb-true}
 use Rattle.smp_words.specs.Flags.{flags_of}
 use Rattle.smp_words.proofs.Puts.{put_same, test_here}
-use Rattle.smp_call_steps.specs.{CallState, Holding, Running, Nothing, confirms, accepts, begins_sync, begins_async, counts, unlocks, releases, links}
+use Rattle.smp_call_steps.specs.{CallState, Holding, Running, confirms, begins_sync, begins_async, counts, releases, links}
 use Rattle.smp_call_steps.specs.{flags_told, head_told, tells, is_queued, queued_note, QueueGoes, SaidMeans, ends, goes_to, ControlValue, holding}
-use Rattle.smp_call_steps.specs.{seen_then, FlagsShow, Call, Class, Sync, Async, Word, Head, Intr, Flags, RecPlace, CallOutcome}
+use Rattle.smp_call_steps.specs.{seen_then, FlagsShow, Call, Class, Word, Head, Intr, Flags, RecPlace, CallOutcome}
 use Rattle.smp_call_steps.specs.{Posting, HandleStage}
-use Rattle.smp_call_steps.specs.{Stage, Send, Done, Post, Handle}
+use Rattle.smp_call_steps.specs.{Stage, Handle}
 use Rattle.smp_call_steps.specs.Shows.{Shows}
 use Rattle.smp_call_steps.proofs.Knows.Parts.{first_link}
 use Rattle.smp_call_steps.proofs.StepLaws.Premises.{rests}
@@ -22,60 +22,43 @@ use Rattle.smp_call_steps.specs.handle
 
 module _ (a : CallState) (me : ℕ) where
   sent_confirms : (b : Bool) (id : ℕ) → (cond b a (confirms a me id)).sent ≡ a.sent
-  sent_confirms true id = refl
-  sent_confirms false id = refl
+  sent_confirms x id = search arith
 
   sent_lock : (c : Class) (id : ℕ) → (flags_told a me id act.Store None (Some (flags_of c))).sent ≡ a.sent
-  sent_lock Sync id = refl
-  sent_lock Async id = refl
+  sent_lock x id = search arith
 
   sent_links : (n : ℕ) (h : Option Holding) → (links a me (Some n) h).sent ≡ a.sent
-  sent_links n None = refl
-  sent_links n (Some h) = refl
+  sent_links n y = search arith
 
   sent_begins : (batch : List Call) → ((begins_sync a me batch).sent ≡ a.sent) × ((begins_async a me batch).sent ≡ a.sent)
-  sent_begins [] = (refl, refl)
-  sent_begins (call ∷ rest) = (refl, refl)
+  sent_begins x = search arith
 
   sent_hand : (b : Bool) → (cond b (begins_sync a me (a.batch me)) a).sent ≡ a.sent
-  sent_hand true = (sent_begins (a.batch me)).0
-  sent_hand false = refl
+  sent_hand x = search (sent_begins, arith)
 
   sent_counts : (r : Running) → (counts a me r).sent ≡ a.sent
-  sent_counts Nothing = refl
-  sent_counts _ = refl
+  sent_counts x = search arith
 
   sent_releases : (id : ℕ) (h : Option Holding) → (releases a me id h).sent ≡ a.sent
-  sent_releases id None = unlocked (a.running me)
-    where
-      unlocked : (r : Running) → (unlocks a me r).sent ≡ a.sent
-      unlocked (Running.CountedCall call) = refl
-      unlocked _ = (sent_begins (a.batch me)).1
-  sent_releases id (Some h) = refl
+  sent_releases id x = search (sent_begins, arith)
 
 -- what is said
 
 said_flags : (b c : Bool) (p : Posting) → is_queued (cond b (ends note.Busy) (cond c (goes_to p post.Lock) (ends note.NoCpu))).note ≡ false
-said_flags true c p = refl
-said_flags false true p = refl
-said_flags false false p = refl
+said_flags x c p = search arith
 
 said_lost : (c : Bool) (p : Posting) (link tries : ℕ) → is_queued (cond c (goes_to p (post.StoreNext link tries)) (goes_to p post.Uncount)).note ≡ false
-said_lost true p link tries = refl
-said_lost false p link tries = refl
+said_lost x p link tries = search arith
 
 said_done : (b : Bool) → is_queued (ends (cond b note.Locked note.Done)).note ≡ false
-said_done true = refl
-said_done false = refl
+said_done x = search arith
 
 said_accept : (b : Bool) (x y : HandleStage) →
     is_queued (cond {A = CallOutcome} b (record { next = Some (Handle x); note = None }) (record { next = Some (Handle y); note = None })).note ≡ false
-said_accept true x y = refl
-said_accept false x y = refl
+said_accept x y z = search arith
 
 queued_said : (b : Bool) → cond b note.Owed note.Queued ≡ queued_note b
-queued_said true = refl
-queued_said false = refl
+queued_said x = search arith
 
 module _ (a : CallState) (at : Word → ℕ) (control : ℕ → ControlValue) (s : Shows a at control) (me : ℕ) where
   abbrev Queues : Stage → Type 0
@@ -85,14 +68,12 @@ module _ (a : CallState) (at : Word → ℕ) (control : ℕ → ControlValue) (s
   exchanged : (p : Posting) (link tries : ℕ) (b c : Bool) → (at (Head p.to) == link) ≡ b → a.held me ≡ Some (holding p p.func p.info p.to true) →
       QueueGoes a (head_told a me p.to act.Cas (cond b (Some (p.id + 1)) None)) me
       (cond b (ends (cond (link == 0) note.Owed note.Queued)) (cond c (goes_to p (post.StoreNext (at (Head p.to)) tries)) (goes_to p post.Uncount))).note
-  exchanged p link tries true c e held = search (first_link, eqb-true, queued_said, arith)
-  exchanged p link tries false c e held = inl (record { same = refl; says = said_lost c p (at (Head p.to)) tries })
+  exchanged p link tries x c e held = search (first_link, eqb-true, queued_said, said_lost, arith)
 
   ruleset queues_nothing = (said_flags, said_done, said_accept, sent_confirms, sent_lock, sent_links, sent_hand, sent_counts, sent_releases)
 
   pub queue_goes : (stage : Stage) → (control me).stage ≡ Some stage → Queues stage
-  queue_goes (Post p (post.Exchange link tries)) e = search (exchanged, arith)
-  queue_goes _ e = search (queues_nothing, arith)
+  queue_goes x e = search (exchanged, arith)
 
   -- what else a note says
 
@@ -104,8 +85,7 @@ module _ (a : CallState) (at : Word → ℕ) (control : ℕ → ControlValue) (s
   locked_place id e free = search arith
 
   free_if : (p : RecPlace) (flags : ℕ) → FlagsShow p flags → (flags % 2 == 1) ≡ false → p ≡ place.Free
-  free_if place.Free flags f e = refl
-  free_if _ flags f e = absurd (let bad : (1 == 1) ≡ false = ap (λ (n : ℕ). n == 1) (sym f) ∙ e in cc)
+  free_if x flags f e = search arith
 
   free_place : (id : ℕ) → (at (Flags id) % 2 == 1) ≡ false → a.place id ≡ place.Free
   free_place id e = free_if (a.place id) (at (Flags id)) (s.written.locks id) e
@@ -115,34 +95,19 @@ module _ (a : CallState) (at : Word → ℕ) (control : ℕ → ControlValue) (s
 
   means_flags : (id : ℕ) (b c : Bool) (p : Posting) → p.id ≡ id → (at (Flags id) % 2 == 1) ≡ b →
       SaidMeans a (cond b a (confirms a me id)) me (Flags id) (cond b (ends note.Busy) (cond c (goes_to p post.Lock) (ends note.NoCpu))).note
-  means_flags id true c p is e = locked_place id e
-  means_flags id false true p is e = tt
-  means_flags id false false p is e = (free_place id e, confirmed_there id)
+  means_flags id x c p is e = search (locked_place, free_place, confirmed_there, arith)
 
   means_done : (id : ℕ) (b : Bool) → (at (Flags id) % 2 == 1) ≡ b →
       SaidMeans a (cond b a (confirms a me id)) me (Flags id) (ends (cond b note.Locked note.Done)).note
-  means_done id true e = locked_place id e
-  means_done id false e = (free_place id e, confirmed_there id)
+  means_done id x e = search (locked_place, free_place, confirmed_there, arith)
 
   means_exchange : (b c d : Bool) (p : Posting) (x : CallState) (link tries : ℕ) →
       SaidMeans a x me (Head p.to) (cond b (ends (cond d note.Owed note.Queued)) (cond c (goes_to p (post.StoreNext link tries)) (goes_to p post.Uncount))).note
-  means_exchange true c true p x link tries = tt
-  means_exchange true c false p x link tries = tt
-  means_exchange false true d p x link tries = tt
-  means_exchange false false d p x link tries = tt
+  means_exchange x c d p y link tries = search arith
 
   means_accept : (b : Bool) (x : CallState) → SaidMeans a x me (Intr me)
       (cond {A = CallOutcome} b (record { next = Some (Handle handle.LeaveIdle); note = None }) (record { next = Some (Handle handle.Take); note = None })).note
-  means_accept true x = tt
-  means_accept false x = tt
+  means_accept x y = search arith
 
   pub says_so : (stage : Stage) → (control me).stage ≡ Some stage → Means stage
-  says_so (Send to) e = (put_same a.pending to true, ap (λ (f : ℕ → Bool). f to) (put_same a.owes me _) ∙ test_here to false (a.owes me to))
-  says_so (Done id) e = means_done id (at (Flags id) % 2 == 1) refl
-  says_so (Post p post.LoadFlags) e = means_flags p.id (at (Flags p.id) % 2 == 1) p.is_online p refl refl
-  says_so (Post p (post.Exchange link tries)) e = search (means_exchange, arith)
-  says_so (Post p post.Release) e = search (put_same, arith)
-  says_so (Handle handle.Accept) e = means_accept (at (Intr me) == 0) (accepts a me)
-  says_so (Handle handle.LeaveIdle) e = let k = stands_at me s handle.LeaveIdle e in (refl, rests a at control s me k.1)
-  says_so (Handle handle.Leave) e = let k = stands_at me s handle.Leave e in (refl, rests a at control s me k.1.0, k.1.1)
-  says_so _ e = tt
+  says_so x e = search (put_same, test_here, means_done, means_flags, means_exchange, means_accept, stands_at, rests, arith)

@@ -1,20 +1,19 @@
 -- Who may make which step: what holds of the calls and the words before it.
-use Rattle.std.proofs.Common.{◌≡◌, ◌≢◌, ℕ, ◌+◌, ◌-◌, ◌%◌, ◌^◌, ◌<◌, Bool, true, false, cond, inl, inr, Option, Some, None}
+use Rattle.std.proofs.Common.{◌≡◌, ◌≢◌, ℕ, ◌+◌, ◌<◌, Bool, cond, inl, inr, Option, Some, None}
 use Rattle.std.proofs.Common.{List, [], ◌∷◌, sym, subst, refl, ap, ◌∙◌, arith}
 use Rattle.smp_words.specs.Access.{word_of, found_by, seen_of}
 use Rattle.smp_words.specs.Flags.{flags_of}
 use Rattle.smp_words.specs.Size.{cpus}
 use Rattle.smp_call_steps.specs.{CallState, Holding, Running, Nothing, runs_as, IsPlaced, HandlesNothing, IsAtRest}
 use Rattle.smp_call_steps.specs.{LeadsTo, MayLock, MayStoreFlags, MaySee, ControlValue, access_of, Rests, StandsAt, share_of, held_of, Reverses, Walks, Ends}
-use Rattle.smp_call_steps.specs.{recounted, IsFound, FitsWords, MayMake, HandIs, Hand, Access, seen_then}
-use Rattle.smp_call_steps.specs.{nexts_in, Call, Class, Sync, Async, Word, Queued, Store}
-use Rattle.smp_call_steps.specs.{Posting, PostStage, Walk, HandleStage, Stage, Send, Done, Post, Handle, HandleStands, PostStands, held_of_post}
+use Rattle.smp_call_steps.specs.{IsFound, FitsWords, MayMake, HandIs, Hand, Access, seen_then}
+use Rattle.smp_call_steps.specs.{nexts_in, Call, Class, Word}
+use Rattle.smp_call_steps.specs.{Posting, PostStage, Walk, HandleStage, Stage, Post, Handle, HandleStands, PostStands, held_of_post}
 use Rattle.smp_call_steps.specs.Shows.{Shows}
 use Rattle.smp_call_steps.proofs.Basics.Alls.{every_right}
 use Rattle.smp_call_steps.proofs.State.Walks.{reverses_all, walks_rest, walks_last, walks_sync, ends_rest, ends_async, same_record}
 use Rattle.smp_call_steps.proofs.Steps.Turns.{stands_at}
 use Rattle.smp_call_steps.specs.place
-use Rattle.smp_call_steps.specs.post
 use Rattle.smp_call_steps.specs.handle
 
 module _ (a : CallState) (at : Word → ℕ) (control : ℕ → ControlValue) (s : Shows a at control) (me : ℕ) where
@@ -40,20 +39,16 @@ module _ (a : CallState) (at : Word → ℕ) (control : ℕ → ControlValue) (s
   at_rest stage e none k = record { none = s.held me ∙ (ap held_of e ∙ none); rests = rests k }
 
   lock : (c : Class) (id : ℕ) → MayLock a me id → MayStoreFlags a me id (flags_of c)
-  lock Sync id m = (m, refl)
-  lock Async id m = (m, refl)
+  lock x id m = search arith
 
   wins : (b : Bool) (h : Holding) → LeadsTo (Some h) (cond b (Some (h.call.id + 1)) None)
-  wins true h = refl
-  wins false h = tt
+  wins x h = search arith
 
   ruleset may_win = (wins, rests)
 
   may_hold : (p : Posting) (stage : PostStage) → Rests (share_of a me) × PostStands a.place at me p stage → a.held me ≡ held_of_post p stage
       → Premise (Post p stage)
-  may_hold p post.LoadFlags k held = (inl (k.1.owned, record { none = held; rests = rests k.0 }), s.written.locks p.id)
-  may_hold p post.Lock k held = search (lock, rests, arith)
-  may_hold p _ k held = search (held, may_win, arith)
+  may_hold p x k held = search (rests, lock, arith)
 
   -- a record of what is left of the batch
   placed : (id : ℕ) (call : Call) → call.id ≡ id → IsPlaced a.place (place.Batch me) call → a.place id ≡ place.Batch me
@@ -95,15 +90,11 @@ module _ (a : CallState) (at : Word → ℕ) (control : ℕ → ControlValue) (s
   may_stand _ k none = search (may_be, arith)
 
   pub may_see : (stage : Stage) → (control me).stage ≡ Some stage → Premise stage
-  may_see (Send to) e = let k = stands (Send to) e in (k.1, refl)
-  may_see (Done id) e = let k = stands (Done id) e in (inl (k.1, at_rest (Done id) e refl k.0), s.written.locks id)
-  may_see (Post p stage) e = may_hold p stage (stands (Post p stage) e) (s.held me ∙ ap held_of e)
-  may_see (Handle stage) e = may_stand stage (stands_at me s stage e) (s.held me ∙ ap held_of e)
+  may_see x e = search (stands, at_rest, may_hold, may_stand, stands_at, arith)
 
   -- a load finds what is in its word, and a store finds nothing
   found : (x : Access) → IsFound at (word_of x) (found_by x (at (word_of x)))
-  found (Store w n) = tt
-  found _ = refl
+  found x = search arith
 
   abbrev Fits : Stage → Type 0
   Fits stage =
@@ -116,12 +107,7 @@ module _ (a : CallState) (at : Word → ℕ) (control : ℕ → ControlValue) (s
   inside e = subst (λ (x : Option Stage). HandIs x (at (Hand me))) e (s.hands me)
 
   fits : (stage : Stage) → (control me).stage ≡ Some stage → Fits stage
-  fits (Post p post.Count) e =
-      let n = at (Queued me p.to) in holds (λ h. (n + 1) % 2 ^ 64 ≡ recounted h n) (Post p post.Count) e refl
-  fits (Post p post.Uncount) e =
-      let n = at (Queued me p.to) in holds (λ h. (n + (2 ^ 64 - 1)) % 2 ^ 64 ≡ recounted h n) (Post p post.Uncount) e refl
-  fits (Handle handle.Accept) e = inside e
-  fits _ e = search arith
+  fits x e = search (holds, inside, arith)
 
   pub may_make : (stage : Stage) → (control me).stage ≡ Some stage → MayMake a at (seen_then at (control me).drain me stage)
   may_make stage e = record { may = may_see stage e; finds = found (access_of at me stage); fits = fits stage e }

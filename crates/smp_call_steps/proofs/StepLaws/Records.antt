@@ -1,10 +1,10 @@
 -- Which CPU may change the words of a record.
-use Rattle.std.proofs.Common.{arith, ◌≡◌, ℕ, zero, suc, Bool, true, false, ◌==◌, cond, ◌⊎◌, inl, inr, Option, Some, None, sym, subst, refl}
+use Rattle.std.proofs.Common.{arith, ◌≡◌, ℕ, Bool, ◌==◌, cond, ◌⊎◌, inl, inr, Option, Some, None, sym, subst, refl}
 use Rattle.smp_words.specs.Access.{act_of, word_of, found_by, put_by, put_if, at_after}
 use Rattle.smp_words.specs.Put.{put_word}
 use Rattle.smp_words.proofs.Puts.{at_test}
 use Rattle.smp_call_steps.specs.{CallState, Holding, Holds, HoldsUncounted, MayStoreFlags, MaySee, IsWordOf, MayStoreAt, ControlValue, access_of}
-use Rattle.smp_call_steps.specs.{KeepsRecords, Word, Head, Intr, Flags, Func, Info, Next, Access, Load, Store, Swap, Exchange, RecPlace, Stage}
+use Rattle.smp_call_steps.specs.{KeepsRecords, Word, Head, Intr, Flags, Func, Info, Next, Access, Store, RecPlace, Stage}
 use Rattle.smp_call_steps.specs.Shows.{Shows}
 use Rattle.smp_call_steps.proofs.State.Counts.{held_place}
 use Rattle.smp_call_steps.proofs.StepLaws.Premises.{may_see}
@@ -22,14 +22,10 @@ module _ (a : CallState) (at : Word → ℕ) (control : ℕ → ControlValue) (s
   by_holder id h = at_place id place.Held (held_place s me id h) h
 
   holds_any : (h : Option Holding) (id : ℕ) → HoldsUncounted h id → Holds h id
-  holds_any None id k = k
-  holds_any (Some h) id k = k.0
+  holds_any x id k = search arith
 
   by_flags : (id n : ℕ) → MayStoreFlags a me id n → May id
-  by_flags id zero (inl h) = by_holder id (holds_any (a.held me) id h.0)
-  by_flags id zero (inr (inl k)) = search (at_place, arith)
-  by_flags id zero (inr (inr k)) = search (at_place, arith)
-  by_flags id (suc n) lock = at_place id place.Free lock.0.free lock.0.owned
+  by_flags id x lock = search (by_holder, holds_any, at_place, arith)
 
   -- a store to a word of this kind of one record, and another word of that kind
   stored : (of : ℕ → Word) (k x n : ℕ) → (k ≡ x → May k) → (cond (k == x) n (at (of k)) ≡ at (of k)) ⊎ May k
@@ -53,31 +49,17 @@ module _ (a : CallState) (at : Word → ℕ) (control : ℕ → ControlValue) (s
 
   -- a number put in a word of a CPU's queue
   put_head : (c n : ℕ) (w : Word) (id : ℕ) → IsWordOf id w → put_word at (Head c) n w ≡ at w
-  put_head c n (Flags k) id o = refl
-  put_head c n (Func k) id o = refl
-  put_head c n (Info k) id o = refl
-  put_head c n (Next k) id o = refl
-  put_head c n _ id o = absurd o
+  put_head c n y id o = search arith
 
   put_intr : (c n : ℕ) (w : Word) (id : ℕ) → IsWordOf id w → put_word at (Intr c) n w ≡ at w
-  put_intr c n (Flags k) id o = refl
-  put_intr c n (Func k) id o = refl
-  put_intr c n (Info k) id o = refl
-  put_intr c n (Next k) id o = refl
-  put_intr c n _ id o = absurd o
+  put_intr c n y id o = search arith
 
   exchanges : (b : Bool) (c n : ℕ) (w : Word) (id : ℕ) → IsWordOf id w → put_if put_word at (Head c) (cond b (Some n) None) w ≡ at w
-  exchanges true c n w id o = put_head c n w id o
-  exchanges false c n w id o = refl
+  exchanges x c n w id o = search (put_head, arith)
 
   stays : (x : Access) → MaySee a me (act_of x) (word_of x) (found_by x (at (word_of x))) (put_by x (at (word_of x))) → (w : Word) (id : ℕ) →
       IsWordOf id w → (at_after at x w ≡ at w) ⊎ May id
-  stays (Load x) m w id o = inl refl
-  stays (Store x n) m w id o = stores x n m w id o
-  stays (Swap (Head c) n) m w id o = inl (put_head c n w id o)
-  stays (Swap (Intr c) n) m w id o = inl (put_intr c n w id o)
-  stays (Exchange (Head c) expected n) m w id o = inl (exchanges (at (Head c) == expected) c n w id o)
-  stays _ m w id o = absurd m
+  stays x m w id o = search (stores, put_head, put_intr, exchanges, arith)
 
   pub keeps_records : (stage : Stage) → (control me).stage ≡ Some stage → KeepsRecords a at (control me).drain me stage
   keeps_records stage e w id o = stays (access_of at me stage) (may_see a at control s me stage e) w id o

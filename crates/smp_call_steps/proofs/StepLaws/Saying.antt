@@ -1,33 +1,27 @@
 -- The function calls that steps say are those of the calls that begin.
-use Rattle.std.proofs.Common.{arith, ◌≡◌, ℕ, ◌==◌, Bool, true, false, cond, inl, inr, Option, Some, None, List, [], ◌∷◌, ◌++◌, sym, refl, ap, ◌∙◌}
+use Rattle.std.proofs.Common.{arith, ◌≡◌, ℕ, ◌==◌, Bool, false, cond, inl, inr, Option, List, [], ◌∷◌, ◌++◌, sym, refl, ap, ◌∙◌}
 use Rattle.std.proofs.Common.{append_assoc}
 use Rattle.std.proofs.lemmas.List.{append-nil}
 use Rattle.smp_words.proofs.Puts.{at_test}
 use Rattle.smp_call_steps.specs.{CallState, Running, Nothing, runs_as, ends_as, ToldCalls, told_of, is_call, FunctionGoes, begun_in, Said, all_said, call_in}
-use Rattle.smp_call_steps.specs.{said_by, SaysWhatBegins, running_call, Call, Class, Sync, Async, Note, Seen}
-use Rattle.smp_call_steps.specs.note
+use Rattle.smp_call_steps.specs.{said_by, SaysWhatBegins, running_call, Call, Class, Note, Seen}
 
 all_said-append : (xs ys : List Call) → all_said (xs ++ ys) ≡ all_said xs ++ all_said ys
 all_said-append [] ys = refl
 all_said-append (x ∷ xs) ys = ap (λ (s : List Said). all_said (x ∷ []) ++ s) (all_said-append xs ys)
 
 pub none_said : (said : Option Note) → is_call said ≡ false → call_in said ≡ []
-none_said None e = refl
-none_said (Some (note.Call source func info)) e = cc
-none_said (Some _) e = refl
+none_said x e = search arith
 
 said_nothing : (b : Bool) (said : Option Note) → is_call said ≡ false → cond b (call_in said) [] ≡ []
-said_nothing true said e = none_said said e
-said_nothing false said e = refl
+said_nothing x said e = search (none_said, arith)
 
 -- while its function runs, and as it ends, a call is the one that runs
 runs_one : (class : Class) (call : Call) → running_call (runs_as class call) ≡ call ∷ []
-runs_one Sync call = refl
-runs_one Async call = refl
+runs_one x call = search arith
 
 ends_one : (class : Class) (call : Call) → running_call (ends_as class call) ≡ call ∷ []
-ends_one Sync call = refl
-ends_one Async call = refl
+ends_one x call = search arith
 
 module _ (a b : CallState) (me : ℕ) (said : Option Note) (cpu : ℕ) where
   abbrev Says : Type 0

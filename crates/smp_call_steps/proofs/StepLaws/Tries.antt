@@ -1,13 +1,12 @@
 -- What a CPU does with what it finds in a head, until its call is queued.
-use Rattle.std.proofs.Common.{arith, ◌≡◌, ℕ, ◌+◌, ◌-◌, Bool, true, false, cond, Some, None}
+use Rattle.std.proofs.Common.{arith, ◌≡◌, ℕ, ◌+◌, ◌-◌, Bool, cond, Some, None}
 use Rattle.smp_words.specs.Access.{word_of}
 use Rattle.smp_call_steps.specs.{CallState, ends, goes_to, ControlValue, access_of, outcome_of, seen_then, GoesOnWith, Word, Head, Note, Posting}
-use Rattle.smp_call_steps.specs.{Stage, Post, Handle}
+use Rattle.smp_call_steps.specs.{Stage, Post}
 use Rattle.smp_call_steps.specs.Shows.{Shows}
 use Rattle.smp_call_steps.proofs.Steps.Turns.{holds_nothing}
 use Rattle.smp_call_steps.specs.act
 use Rattle.smp_call_steps.specs.post
-use Rattle.smp_call_steps.specs.handle
 
 -- the stage that follows is the one that is named
 some_same : (x y : Stage) → Some x ≡ Some y → x ≡ y
@@ -22,13 +21,9 @@ module _ (a : CallState) (at : Word → ℕ) (control : ℕ → ControlValue) (s
   lost : (p : Posting) (link tries : ℕ) (b c : Bool) (won : Note) → (control me).stage ≡ Some (Post p (post.Exchange link tries)) → (next : Stage) →
       (cond b (ends won) (cond c (goes_to p (post.StoreNext (at (Head p.to)) (tries - 1))) (goes_to p post.Uncount))).next ≡ Some next →
       (at' : Word → ℕ) → GoesOnWith a me act.Cas (Head p.to) (Some (at (Head p.to))) (cond b (Some (p.id + 1)) None) (access_of at' me next)
-  lost p link tries true c won e next f at' = tt
-  lost p link tries false true won e next f at' = search (some_same, arith)
-  lost p link tries false false won e next f at' = search (some_same, arith)
+  lost p link tries x c won e next f at' = search (some_same, arith)
 
   ruleset named_stage = (some_same, lost, holds_nothing)
 
   pub tries_go : (stage : Stage) → (control me).stage ≡ Some stage → Goes stage
-  tries_go (Post p post.LoadFlags) e next f at' = tt
-  tries_go (Handle handle.Enter) e next f at' = tt
-  tries_go _ e next f at' = search (named_stage, arith)
+  tries_go x e next f at' = search arith

@@ -1,5 +1,5 @@
 -- The compare-exchange that wins: the held call joins the queue.
-use Rattle.std.proofs.Common.{◌≡◌, ◌≢◌, ℕ, ◌+◌, ◌%◌, ◌^◌, Bool, true, false, cond, Option, None, List, [], ◌∷◌, ◌++◌, length, sym, refl, ap, ◌∙◌}
+use Rattle.std.proofs.Common.{◌≡◌, ◌≢◌, ℕ, ◌+◌, ◌%◌, ◌^◌, Bool, true, cond, Option, None, List, [], ◌∷◌, ◌++◌, length, sym, refl, ap, ◌∙◌}
 use Rattle.std.proofs.Common.{◌⊎◌, inl, inr, arith, length-append}
 use Rattle.std.proofs.lemmas.Bool.{eq-eqb, ne_eqb, cases_eq}
 use Rattle.smp_call_steps.proofs.Steps.Placings.{counted_hold, placed_appended}
@@ -25,8 +25,7 @@ Leads-push nexts link (call ∷ rest) below new e l = (l.0, Leads-push nexts lin
 
 -- owed by now, and owed before
 owes_more : (first : Bool) (f : ℕ → ℕ → Bool) (me to source cpu : ℕ) → f source cpu ≡ true → cond first (put f me (put (f me) to true)) f source cpu ≡ true
-owes_more false f me to source cpu e = e
-owes_more true f me to source cpu e = search (at_test, arith)
+owes_more x f me to source cpu e = search (at_test, arith)
 
 owes_new : (f : ℕ → ℕ → Bool) (me to : ℕ) → put f me (put (f me) to true) me to ≡ true
 owes_new f me to = ap (λ (g : ℕ → Bool). g to) (put_same f me (put (f me) to true)) ∙ put_same (f me) to true
@@ -76,19 +75,7 @@ pub tallied_appended : (a : CallState) (queued ran_words : ℕ → ℕ → ℕ) 
     → Tallied queued ran_words a.sent a.held a.ran a.running
     → Tallied queued ran_words (put a.sent me (a.sent me ++ record { call = call; to = to; is_first = is_nil (a.queue to) } ∷ []))
     (put a.held me None) a.ran a.running
-tallied_appended a queued ran_words me to call holds t = record {
-  queued_are =
-      λ source cpu. at_test source me
-      (λ b. queued source cpu ≡
-      (length (sent_to cpu (cond b (a.sent me ++ record { call = call; to = to; is_first = is_nil (a.queue to) } ∷ []) (a.sent source))) + one_held
-      (cond b None (a.held source)) cpu) % 2 ^ 64)
-      (λ e. elim (cases_eq cpu to) [
-        | inl f ↦ rw (e, f) (tally_here (queued me to) to (a.sent me) call (is_nil (a.queue to)) (a.held me) holds (t.queued_are me to))
-        | inr ne ↦ rw e (tally_else (queued me cpu) to cpu (a.sent me) call (is_nil (a.queue to)) (a.held me) holds ne (t.queued_are me cpu))
-      ])
-      (λ _. t.queued_are source cpu);
-  ran_are = t.ran_are;
-}
+tallied_appended a queued ran_words me to call holds t = search (at_test, cases_eq, tally_here, tally_else, arith)
 
 module _ (a : CallState) (at : Word → ℕ) (control : ℕ → ControlValue) (me to : ℕ) (call : Call) (next : ControlValue) (s : Shows a at control)
     (own : owner call.id ≡ me) (holds : a.held me ≡ counted_hold call to) (is_call : IsCall call) (placed : a.place call.id ≡ place.Held)
@@ -119,10 +106,7 @@ module _ (a : CallState) (at : Word → ℕ) (control : ℕ → ControlValue) (m
 
   noticed' : Noticed (intrs_in at) (put a.queue to (a.queue to ++ call ∷ [])) a.pending a.accepted
       (cond (is_nil (a.queue to)) (put a.owes me (put (a.owes me) to true)) a.owes)
-  noticed' = record {
-    words = s.noticed.words;
-    noticed = noticed_appended a s.noticed.noticed me to call;
-  }
+  noticed' = search (noticed_appended, arith)
 
   -- append: the held call is queued, and its holder holds none
   pub append_kept : held_of next.stage ≡ None → CallStands (put a.place call.id (place.Queued to)) (put_word at (Head to) (call.id + 1)) (share_of a me) me next

@@ -18,17 +18,14 @@ one≢zero : ◌≢◌ {A = ℕ} 1 0
 one≢zero e = omega arith
 
 zero_bit : (b : Bool) → bit b ≡ 0 → b ≡ false
-zero_bit false e = refl
-zero_bit true e = absurd (one≢zero e)
+zero_bit x e = search (one≢zero, arith)
 
 one_bit : (b : Bool) → bit b ≢ 0 → b ≡ true
-one_bit false ne = absurd (ne refl)
-one_bit true ne = refl
+one_bit x ne = search arith
 
 -- an interrupt is accepted where one was pending or accepted
 accepted_now : (pending accepted : Bool) → accepted ≡ true → (if pending then true else accepted) ≡ true
-accepted_now true accepted e = refl
-accepted_now false accepted e = e
+accepted_now x accepted e = search arith
 
 module _ (a : CallState) (me : ℕ) where
   abbrev accepted' : ℕ → Bool
@@ -86,16 +83,13 @@ module _ {a : CallState} {at : Word → ℕ} {control : ℕ → ControlValue} (m
       → HandleStands (nexts_in at) (share_of a me) (control me).drain handle.Accept → me < cpus →
       CallStands a.place at (share_of (accepts a me) me) me
       (record { stage = (if b then handle_goes handle.LeaveIdle else handle_goes handle.Take).next; drain = (control me).drain })
-  accept_stands true none some was range = search (accepted_after, arith)
-  accept_stands false none some was range = search (accepted_after, arith)
+  accept_stands x none some was range = search (accepted_after, arith)
 
   accept_hand : (b : Bool) → hands_in at me ≢ 0 → HandIs (if b then handle_goes handle.LeaveIdle else handle_goes handle.Take).next (hands_in at me)
-  accept_hand true ne = ne
-  accept_hand false ne = ne
+  accept_hand x ne = search arith
 
   accept_held : (b : Bool) → a.held me ≡ None → a.held me ≡ held_of (if b then handle_goes handle.LeaveIdle else handle_goes handle.Take).next
-  accept_held true e = e
-  accept_held false e = e
+  accept_held x e = search arith
 
   pub accept_step : (control me).stage ≡ Some (Handle handle.Accept) → StepShows a at control me (Handle handle.Accept)
   accept_step e =

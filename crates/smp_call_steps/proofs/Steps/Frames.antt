@@ -1,15 +1,14 @@
 -- What a step leaves to another CPU: a CPU is where it was.
-use Rattle.std.proofs.Common.{arith, ◌≡◌, ◌≢◌, ℕ, ◌+◌, Option, Some, List, [], ◌∷◌, sym, subst, refl, ◌∙◌}
+use Rattle.std.proofs.Common.{arith, ◌≡◌, ◌≢◌, ℕ, ◌+◌, Option, List, [], ◌∷◌, subst, refl, ◌∙◌}
 use Rattle.std.specs.List.{AllByRecursion}
 use Rattle.smp_words.specs.Size.{owner}
 use Rattle.smp_call_steps.specs.{DrainValue, link_to, async_calls, Running, Nothing, SyncCall, CountedCall, AsyncCall, ControlValue, IsPlaced, AllPlaced}
 use Rattle.smp_call_steps.specs.{Leads, nexts_in, IsWrittenIn, Share, StandsAt, HandleStands, Reverses, Walks, Ends, PostKnows, Call, Word, Flags}
-use Rattle.smp_call_steps.specs.{Func, Info, Next, RecPlace, Posting, PostStage, Walk, HandleStage, Stage, Post, Handle}
+use Rattle.smp_call_steps.specs.{Func, Info, Next, RecPlace, Posting, PostStage, Walk, HandleStage, Stage}
 use Rattle.smp_call_steps.specs.Stands.{CallStands}
 use Rattle.smp_call_steps.proofs.Basics.Alls.{every_left, every_right}
 use Rattle.smp_call_steps.proofs.State.Walks.{Path-kept, reverses_all, walks_front, walks_passed, walks_rest, ends_front, ends_rest, same_record}
 use Rattle.smp_call_steps.specs.place
-use Rattle.smp_call_steps.specs.post
 use Rattle.smp_call_steps.specs.handle
 
 -- the CPU that alone changes a record at this place
@@ -22,8 +21,7 @@ Minds cpu id (place.Running c) = c ≡ cpu
 
 -- one CPU alone does
 pub one_minds : (me cpu id : ℕ) (p : RecPlace) → Minds me id p → Minds cpu id p → cpu ≡ me
-one_minds me cpu id (place.Queued c) h k = absurd h
-one_minds me cpu id _ h k = sym k ∙ h
+one_minds me cpu id x h k = search arith
 
 -- the records that the CPU minds keep their place and words
 pub record LeavesTo (cpu : ℕ) (places places' : ℕ → RecPlace) (at at' : Word → ℕ) : Type 0 where
@@ -69,9 +67,7 @@ module _ {cpu : ℕ} {places places' : ℕ → RecPlace} {at at' : Word → ℕ}
   own_free id o e = rw e o
 
   PostKnows-kept : (p : Posting) (stage : PostStage) → owner p.id ≡ cpu → PostKnows places at p stage → PostKnows places' at' p stage
-  PostKnows-kept p post.LoadFlags o k = tt
-  PostKnows-kept p post.Lock o k = l.place_stays p.id (own_free p.id o k) ∙ k
-  PostKnows-kept p _ o k = let m = own_held p.id o k.0 in search (l.place_stays p.id m, l.flags p.id m, l.func p.id m, l.next p.id m, written, arith)
+  PostKnows-kept p x o k = search (own_free, own_held, written, arith)
 
   same_next : (call : Call) → IsPlaced places (place.Batch cpu) call → at' (Next call.id) ≡ at (Next call.id)
   same_next call q = l.next call.id (rw q.placed refl)
@@ -135,9 +131,7 @@ module _ {cpu : ℕ} {places places' : ℕ → RecPlace} {at at' : Word → ℕ}
 
   StandsAt-kept : (s : Share) (d : DrainValue) (stage : Option Stage) → AllPlaced places (place.Batch cpu) s.batch → StandsAt places at s d cpu stage
       → StandsAt places' at' s d cpu stage
-  StandsAt-kept s d (Some (Post p stage)) b h = search (PostKnows-kept, arith)
-  StandsAt-kept s d (Some (Handle stage)) b h = (h.0, HandleStands-kept s d stage b h.1)
-  StandsAt-kept s d _ b h = h
+  StandsAt-kept s d x b h = search (PostKnows-kept, HandleStands-kept, arith)
 
   -- a CPU to which a step leaves its records is where it was
   pub CallStands-kept : (s : Share) (c : ControlValue) → AllPlaced places (place.Batch cpu) s.batch → CallStands places at s cpu c

@@ -17,8 +17,7 @@ use Rattle.smp_call_steps.specs.handle
 
 -- the flags of a call have LOCK
 flags_locked : (class : Class) → (flags_of class % 2 == 1) ≡ true
-flags_locked Sync = refl
-flags_locked Async = refl
+flags_locked x = search arith
 
 call_of_parts : (call : Call) (id : ℕ) (class : Class) (func info : ℕ) → call.id ≡ id → call.class ≡ class → call.func ≡ func → call.info ≡ info →
     call ≡ record { id = id; class = class; func = func; info = info }
@@ -26,13 +25,11 @@ call_of_parts call id class func info p q r t = λ i. record { id = p i; class =
 
 hand_of_class : (class : Class) (walk : Walk) (id : ℕ) (next : Option ℕ) (at : Word → ℕ) (me : ℕ) → (at (Hand me) ≡ 0 → ⊥)
     → HandIs (Some (Handle (by_class class walk id next))) (at (Hand me))
-hand_of_class Sync walk id next at me ne = ne
-hand_of_class Async walk id next at me ne = hand_of_first (record { first = walk.first; last = Some id }) next (at (Hand me)) ne
+hand_of_class x walk id next at me ne = search (hand_of_first, arith)
 
 hand_of_info : (last : Option ℕ) (walk : Walk) (call : Call) (next : Option ℕ) (at : Word → ℕ) (me : ℕ) → (at (Hand me) ≡ 0 → ⊥)
     → HandIs (Some (Handle (unlink_after last walk call next))) (at (Hand me))
-hand_of_info None walk call next at me ne = ne
-hand_of_info (Some last) walk call next at me ne = ne
+hand_of_info x walk call next at me ne = search arith
 
 module _ {a : CallState} {at : Word → ℕ} {control : ℕ → ControlValue} (me : ℕ) (s : Shows a at control) where
   -- a step that stores nothing

@@ -43,11 +43,7 @@ there_still : (held : ℕ → Option Holding) (queue batch batch' : ℕ → List
     ((cpu : ℕ) → HasRecord u (batch cpu) → HasRecord u (batch' cpu))
     → ((cpu : ℕ) → HasRecord u (locked_by (running cpu)) → HasRecord u (locked_by (running' cpu))) →
     IsThere held queue batch running u p → IsThere held queue batch' running' u p
-there_still held queue batch batch' running running' u place.Free in_batch runs h = tt
-there_still held queue batch batch' running running' u place.Held in_batch runs h = h
-there_still held queue batch batch' running running' u (place.Queued cpu) in_batch runs h = h
-there_still held queue batch batch' running running' u (place.Batch cpu) in_batch runs h = in_batch cpu h
-there_still held queue batch batch' running running' u (place.Running cpu) in_batch runs h = runs cpu h
+there_still held queue batch batch' running running' u y in_batch runs h = search arith
 
 module _ (places : ℕ → RecPlace) (id : ℕ) (from to : RecPlace) (here : places id ≡ from) where
   pub place_else : (u : ℕ) → u ≢ id → put places id to u ≡ places u
@@ -105,9 +101,4 @@ module _ (places : ℕ → RecPlace) (id : ℕ) (from to : RecPlace) (here : pla
         ((cpu : ℕ) → AllByRecursion (IsWritten flags' funcs infos) (batch' cpu)) →
         ((cpu : ℕ) → AllByRecursion (IsWritten flags' funcs infos) (locked_by (running' cpu))) →
         Written flags' funcs infos (put places id to) queue batch' running'
-    written_moved held queue batch batch' running running' confirmed unqueued p w lock batched runs = record {
-      locks = search (at_test, arith);
-      queued = λ cpu. all_written_still (place.Queued cpu) (queue cpu) (unqueued cpu) (p.queued cpu) (w.queued cpu);
-      batched = batched;
-      runs = runs;
-    }
+    written_moved held queue batch batch' running running' confirmed unqueued p w lock batched runs = search (at_test, all_written_still, arith)

@@ -1,44 +1,37 @@
 -- A step of a CPU on a record of its own that is in no queue and no batch.
-use Rattle.std.proofs.Common.{arith, ◌≡◌, ◌≢◌, ℕ, cond, Option, Some, None, List, [], ◌∷◌, sym, subst, refl, ap, ◌∙◌, ◌⊎◌, inl, inr}
+use Rattle.std.proofs.Common.{arith, ◌≡◌, ◌≢◌, ℕ, cond, Option, List, [], ◌∷◌, subst, ◌∙◌, ◌⊎◌}
 use Rattle.std.proofs.lemmas.Bool.{cases_eq}
 use Rattle.std.specs.List.{AllByRecursion}
 use Rattle.smp_words.specs.Put.{put}
 use Rattle.smp_words.specs.Size.{owner}
 use Rattle.smp_call_steps.specs.{CallState, Holding, ControlValue, Holds, AllPlaced, FlagsShow, Chained, Linked, LinkIs, Noticed, nexts_in}
 use Rattle.smp_call_steps.specs.{heads_in, intrs_in, queued_in, ran_in, IsWrittenIn, WrittenIn, Tallied, StandsAt, share_of, held_of, held_of_post, HandIs}
-use Rattle.smp_call_steps.specs.{Call, Word, Head, Intr, Hand, Flags, RecPlace, Posting, PostStage, Stage, Post}
+use Rattle.smp_call_steps.specs.{Call, Word, Head, Intr, Hand, Flags, RecPlace, Posting, PostStage, Stage}
 use Rattle.smp_call_steps.specs.Stands.{CallStands}
 use Rattle.smp_call_steps.specs.Shows.{Shows}
 use Rattle.smp_words.proofs.Puts.{at_test, put_all}
 use Rattle.smp_call_steps.proofs.Steps.Frames.{Touches, Minds, Leads-kept, leaves_others, CallStands-kept}
 use Rattle.smp_call_steps.proofs.Steps.Placings.{IsHome, OwnMove, away_queue, away_batch, away_running, else_home, placed_own}
 use Rattle.smp_call_steps.specs.place
-use Rattle.smp_call_steps.specs.post
 
 -- the record of a post that holds it
 pub post_holds : (p : Posting) (st : PostStage) (u : ℕ) → Holds (held_of_post p st) u → u ≡ p.id
-post_holds p post.LoadFlags u h = absurd h
-post_holds p post.Lock u h = absurd h
-post_holds p _ u h = sym h
+post_holds p x u h = search arith
 
 module _ {a : CallState} {at : Word → ℕ} {control : ℕ → ControlValue} (s : Shows a at control) where
   stage_owns : (places : ℕ → RecPlace) (cpu u : ℕ) (stage : Option Stage) (c : ControlValue) → StandsAt places at (share_of a cpu) c.drain cpu stage
       → Holds (held_of stage) u → owner u ≡ cpu
-  stage_owns places cpu u (Some (Post p st)) c h k = let post = h.1 in ap owner (post_holds p st u k) ∙ post.owned
-  stage_owns places cpu u _ c h k = absurd k
+  stage_owns places cpu u y c h k = search (post_holds, arith)
 
   -- a held record is its holder's
   pub holder_owns : (cpu u : ℕ) → Holds (a.held cpu) u → owner u ≡ cpu
   holder_owns cpu u h = stage_owns a.place cpu u (control cpu).stage (control cpu) (s.stands cpu) (subst (λ (x : Option Holding). Holds x u) (s.held cpu) h)
 
 pub LinkIs-kept : (nexts nexts' : ℕ → ℕ) (h : Option Holding) (l : Option ℕ) → ((u : ℕ) → Holds h u → nexts' u ≡ nexts u) → LinkIs nexts h l → LinkIs nexts' h l
-LinkIs-kept nexts nexts' None l f k = k
-LinkIs-kept nexts nexts' (Some h) None f k = k
-LinkIs-kept nexts nexts' (Some h) (Some n) f k = f h.call.id refl ∙ k
+LinkIs-kept nexts nexts' x l f k = search arith
 
 home_minds : (me id : ℕ) (p : RecPlace) → owner id ≡ me → IsHome p → Minds me id p
-home_minds me id p o (inl e) = rw e o
-home_minds me id p o (inr e) = rw e o
+home_minds me id p o x = search arith
 
 -- the heads, interrupts and handling words stay
 pub record KeepsCpus (at at' : Word → ℕ) : Type 0 where

@@ -11,8 +11,8 @@ use Rattle.smp_call_steps.specs.{locked_by, Call, RecPlace}
 use Rattle.smp_words.proofs.Puts.{at_test, put_other, put_same}
 use Rattle.smp_call_steps.proofs.Basics.Alls.{every, every_push}
 use Rattle.smp_call_steps.proofs.State.Batches.{has_left, has_right}
-use Rattle.smp_call_steps.proofs.Steps.Moving.{Batch≢Batch, Running≢Batch, Running≢Running, Batch≢Running, Queued≢Batch, Queued≢Running, Batch≢Free}
-use Rattle.smp_call_steps.proofs.Steps.Moving.{Running≢Free, all_placed_still, all_placed_apart, placed_moved}
+use Rattle.smp_call_steps.proofs.Steps.Moving.{Batch≢Batch, Running≢Batch, Queued≢Batch, Batch≢Free}
+use Rattle.smp_call_steps.proofs.Steps.Moving.{all_placed_still, all_placed_apart, placed_moved}
 use Rattle.smp_call_steps.specs.place
 
 -- at home: free, or held
@@ -20,16 +20,13 @@ abbrev pub IsHome : RecPlace → Type 0
 IsHome p = (p ≡ place.Free) ⊎ (p ≡ place.Held)
 
 pub away_queue : (cpu : ℕ) → IsHome (place.Queued cpu) → ⊥
-away_queue cpu (inl e) = cc
-away_queue cpu (inr e) = cc
+away_queue cpu x = search arith
 
 pub away_batch : (cpu : ℕ) → IsHome (place.Batch cpu) → ⊥
-away_batch cpu (inl e) = cc
-away_batch cpu (inr e) = cc
+away_batch cpu x = search arith
 
 pub away_running : (cpu : ℕ) → IsHome (place.Running cpu) → ⊥
-away_running cpu (inl e) = cc
-away_running cpu (inr e) = cc
+away_running cpu x = search arith
 
 -- a record at a place that is no home is another one
 pub else_home : (places : ℕ → RecPlace) (id : ℕ) → IsHome (places id) → (u : ℕ) (q : RecPlace) → places u ≡ q → (IsHome q → ⊥) → u ≢ id
@@ -49,8 +46,7 @@ abbrev pub counted_hold : Call → ℕ → Option Holding
 counted_hold call to = Some (record { call = call; to = to; is_counted = true })
 
 held_same : (held : Option Holding) (call : Call) (to u : ℕ) → held ≡ counted_hold call to → Holds held u → u ≡ call.id
-held_same None call to u e h = absurd h
-held_same (Some x) call to u e h = let f : x ≡ record { call = call; to = to; is_counted = true } = cc in sym h ∙ ap (λ (y : Holding). y.call.id) f
+held_same x call to u e h = search arith
 
 IsApart-push : (calls : List Call) (new : Call) → AllByRecursion (λ call. new.id ≢ call.id) calls → IsApart calls → IsApart (calls ++ new ∷ [])
 IsApart-push [] new h a = (tt, tt)
@@ -58,40 +54,22 @@ IsApart-push (call ∷ rest) new h a = (every_push (λ c. c.id ≢ call.id) rest
 
 -- of a batch, the records but the front one
 has_rest : (u : ℕ) (call : Call) (rest : List Call) → u ≢ call.id → HasRecord u (call ∷ rest) → HasRecord u rest
-has_rest u call rest ne (inl e) = absurd (ne (sym e))
-has_rest u call rest ne (inr h) = h
+has_rest u call rest ne y = search arith
 
 has_one : (u : ℕ) (call : Call) → u ≢ call.id → HasRecord u (call ∷ []) → ⊥
-has_one u call ne (inl e) = ne (sym e)
-has_one u call ne (inr h) = h
+has_one u call ne y = search arith
 
 -- where a record is said to be, with the same records locked by running calls
 there_running : (held : ℕ → Option Holding) (queue batch : ℕ → List Call) (running running' : ℕ → Running)
     → ((cpu : ℕ) → locked_by (running' cpu) ≡ locked_by (running cpu)) → (id : ℕ) (p : RecPlace) →
     IsThere held queue batch running id p → IsThere held queue batch running' id p
-there_running held queue batch running running' same id place.Free h = tt
-there_running held queue batch running running' same id (place.Running cpu) h = subst (HasRecord id) (sym (same cpu)) h
-there_running held queue batch running running' same id _ h = h
+there_running held queue batch running running' same id x h = search arith
 
 module _ (a : CallState) (p : Placed a.place a.held a.queue a.batch a.running a.confirmed) (me : ℕ) where
   -- a record that is free is confirmed
   pub placed_confirmed : (id : ℕ) → a.place id ≡ place.Free
       → Placed a.place a.held a.queue a.batch a.running (put a.confirmed me (put (a.confirmed me) id true))
-  placed_confirmed id free = record {
-    queued = p.queued;
-    batched = p.batched;
-    runs = p.runs;
-    queue_apart = p.queue_apart;
-    batch_apart = p.batch_apart;
-    is_there = p.is_there;
-    settled =
-        λ source u o. at_test source me
-        (λ b. cond b (put (a.confirmed me) id true) (a.confirmed source) u ≡ true → (a.place u ≡ place.Free) ⊎ Holds (a.held source) u)
-        (λ es. at_test u id (λ b. cond b true (a.confirmed me u) ≡ true → (a.place u ≡ place.Free) ⊎ Holds (a.held source) u)
-        (λ eu _. inl (ap a.place eu ∙ free))
-        (λ _ e. p.settled source u o (ap (λ k. a.confirmed k u) es ∙ e)))
-        (λ _ e. p.settled source u o e);
-  }
+  placed_confirmed id free = search (at_test, arith)
 
   -- a source moves its own record
   module _ (id : ℕ) (places' : ℕ → RecPlace) (held' : ℕ → Option Holding) (o : OwnMove a me id places' held') where
@@ -102,8 +80,7 @@ module _ (a : CallState) (p : Placed a.place a.held a.queue a.batch a.running a.
     holds_else source u ne h = search (cases_eq, arith)
 
     there_else : (u : ℕ) (q : RecPlace) → u ≢ id → IsThere a.held a.queue a.batch a.running u q → IsThere held' a.queue a.batch a.running u q
-    there_else u place.Held ne h = holds_else (owner u) u ne h
-    there_else u _ ne h = h
+    there_else u y ne h = search (holds_else, arith)
 
     there_id : IsThere held' a.queue a.batch a.running id (places' id)
     there_id = elim o.after [ inl e ↦ rw e tt | inr e ↦ rw (e.0, o.owned) e.1 ]
@@ -131,37 +108,32 @@ module _ (a : CallState) (p : Placed a.place a.held a.queue a.batch a.running a.
 
     there_others : (u : ℕ) (q : RecPlace) → u ≢ call.id → IsThere a.held a.queue a.batch a.running u q
         → IsThere (put a.held me None) (put a.queue to (a.queue to ++ call ∷ [])) a.batch a.running u q
-    there_others u place.Held ne h = search (at_test, held_same, arith)
-    there_others u (place.Queued cpu) ne h = search (at_test, has_left, arith)
-    there_others u _ ne h = h
+    there_others u y ne h = search (at_test, held_same, has_left, arith)
 
     there_this : IsThere (put a.held me None) (put a.queue to (a.queue to ++ call ∷ [])) a.batch a.running call.id (place.Queued to)
     there_this = rw (put_same a.queue to (a.queue to ++ call ∷ [])) (has_right call.id (a.queue to) (call ∷ []) (inl refl))
 
     pub placed_appended : Placed (put a.place call.id (place.Queued to)) (put a.held me None) (put a.queue to (a.queue to ++ call ∷ [])) a.batch a.running
         (put a.confirmed me (put (a.confirmed me) call.id false))
-    placed_appended = record {
-      queued = search (at_test, every_push, still, queued_else, put_same, arith);
-      batched = λ cpu. still (place.Batch cpu) (batch_else cpu) (a.batch cpu) (p.batched cpu);
-      runs = λ cpu. still (place.Running cpu) (running_else cpu) (locked_by (a.running cpu)) (p.runs cpu);
-      queue_apart = search (at_test, IsApart-push, every, not_held, queued_else, arith);
-      batch_apart = p.batch_apart;
-      is_there = λ u. elim (cases_eq u call.id) [
-        | inl e ↦
-            subst (λ (k : ℕ). IsThere (put a.held me None) (put a.queue to (a.queue to ++ call ∷ [])) a.batch a.running k
-            (put a.place call.id (place.Queued to) k)) (sym e) (rw (put_same a.place call.id (place.Queued to)) there_this)
-        | inr ne ↦ rw (put_other a.place call.id (place.Queued to) u ne) (there_others u (a.place u) ne (p.is_there u))
-      ];
-      settled =
-          λ source u o. at_test source me
-          (λ b. cond b (put (a.confirmed me) call.id false) (a.confirmed source) u ≡ true
-          → (put a.place call.id (place.Queued to) u ≡ place.Free) ⊎ Holds (cond b None (a.held source)) u)
-          (λ es. at_test u call.id (λ b. cond b false (a.confirmed me u) ≡ true → (cond b (place.Queued to) (a.place u) ≡ place.Free) ⊎ ⊥)
-          (λ _ e. absurd (true≢false (sym e)))
-          (λ ne e. elim (p.settled me u (o ∙ es) e) [ inl free ↦ inl free | inr hold ↦ absurd (ne (held_same (a.held me) call to u holds hold)) ]))
-          (λ ns e. elim (p.settled source u o e)
-          [ inl free ↦ inl (put_other a.place call.id (place.Queued to) u (λ eu. ns (sym o ∙ (ap owner eu ∙ own))) ∙ free) | inr hold ↦ inr hold ]);
-    }
+    placed_appended = search (
+      at_test,
+      every_push,
+      still,
+      queued_else,
+      put_same,
+      batch_else,
+      running_else,
+      IsApart-push,
+      every,
+      not_held,
+      cases_eq,
+      there_this,
+      put_other,
+      there_others,
+      true≢false,
+      held_same,
+      arith,
+    )
 
   -- the front of the batch goes to another place, and runs
   module _ (call : Call) (rest : List Call) (front : a.batch me ≡ call ∷ rest) where
@@ -197,18 +169,7 @@ module _ (a : CallState) (p : Placed a.place a.held a.queue a.batch a.running a.
 
   -- a call is counted, or an ASYNC call ends: the same records are locked
   pub placed_counted : (r : Running) → locked_by r ≡ locked_by (a.running me) → Placed a.place a.held a.queue a.batch (put a.running me r) a.confirmed
-  placed_counted r locked = record {
-    queued = p.queued;
-    batched = p.batched;
-    runs = λ cpu. subst (AllPlaced a.place (place.Running cpu)) (sym (same cpu)) (p.runs cpu);
-    queue_apart = p.queue_apart;
-    batch_apart = p.batch_apart;
-    is_there = λ id. there_running a.held a.queue a.batch a.running (put a.running me r) same id (a.place id) (p.is_there id);
-    settled = p.settled;
-  }
-    where
-      same : (cpu : ℕ) → locked_by (put a.running me r cpu) ≡ locked_by (a.running cpu)
-      same cpu = search (at_test, arith)
+  placed_counted r locked = search (there_running, at_test, arith)
 
   -- a SYNC call that is counted ends, and its record is free
   module _ (call : Call) (running : a.running me ≡ CountedCall call) where
@@ -219,18 +180,4 @@ module _ (a : CallState) (p : Placed a.place a.held a.queue a.batch a.running a.
     running_here = running_placed.0.placed
 
     pub placed_ended : Placed (put a.place call.id place.Free) a.held a.queue a.batch (put a.running me Nothing) a.confirmed
-    placed_ended = placed_moved a.place call.id (place.Running me) place.Free running_here a.held a.queue a.batch a.batch a.running (put a.running me Nothing)
-        a.confirmed
-        (Running≢Free me) (λ cpu. Queued≢Running cpu me) p
-        (λ cpu. all_placed_still a.place call.id (place.Running me) place.Free running_here (place.Batch cpu) (a.batch cpu) (Batch≢Running cpu me)
-        (p.batched cpu))
-        (λ cpu. at_test cpu me (λ b. AllPlaced (put a.place call.id place.Free) (place.Running cpu) (locked_by (cond b Nothing (a.running cpu))))
-        (λ _. tt)
-        (λ ne. all_placed_still a.place call.id (place.Running me) place.Free running_here (place.Running cpu) (locked_by (a.running cpu))
-        (Running≢Running cpu me ne)
-        (p.runs cpu)))
-        p.batch_apart
-        tt
-        (λ u cpu ne h. h)
-        (λ u cpu ne. at_test cpu me (λ b. HasRecord u (locked_by (a.running cpu)) → HasRecord u (locked_by (cond b Nothing (a.running cpu))))
-        (λ e h. has_one u call ne (subst (λ (x : Running). HasRecord u (locked_by x)) (ap a.running e ∙ running) h)) (λ _ h. h))
+    placed_ended = search (placed_moved, running_here, all_placed_still, at_test, has_one, arith)

@@ -9,7 +9,7 @@ use Rattle.smp_words.specs.Flags.{flags_of, class_of}
 use Rattle.smp_call_steps.specs.{CallState, Holding, locked, given_up, releases, links, confirms, appended, holding_with, with_func, with_info, with_count}
 use Rattle.smp_call_steps.specs.{flags_told, head_told, ends, goes_to, DrainValue, ControlValue, Holds, FlagsShow, LinkIs, flags_in, funcs_in, infos_in}
 use Rattle.smp_call_steps.specs.{nexts_in, queued_in, ran_in, IsWrittenIn, Tallied, sent_to, one_held, Rests, StandsAt, PostStands, PostKnows, PostGoes}
-use Rattle.smp_call_steps.specs.{posted, share_of, held_of, held_of_post, holding, HandIs, Class, Sync, Async, Word, Head, Hand, Queued, Flags, Func, Info}
+use Rattle.smp_call_steps.specs.{posted, share_of, held_of, held_of_post, holding, HandIs, Class, Word, Head, Hand, Queued, Flags, Func, Info}
 use Rattle.smp_call_steps.specs.{Next, Note, RecPlace, Posting, PostStage, Stage, Send, Done, Post}
 use Rattle.smp_call_steps.specs.Stands.{CallStands}
 use Rattle.smp_call_steps.specs.Shows.{Shows}
@@ -25,8 +25,7 @@ use Rattle.smp_call_steps.specs.note
 use Rattle.smp_call_steps.specs.post
 
 flags_odd : (c : Class) → flags_of c % 2 ≡ 1
-flags_odd Sync = refl
-flags_odd Async = refl
+flags_odd x = search arith
 
 pub count_more : (n x : ℕ) → n ≡ (x + 0) % 2 ^ 64 → (n + 1) % 2 ^ 64 ≡ (x + 1) % 2 ^ 64
 count_more n x e = omega arith
@@ -77,8 +76,7 @@ abbrev keeps : (Word → ℕ) → Word → ℕ → Type 0
 keeps at w n = KeepsCpus at (put_word at w n)
 
 LinkIs-none : (nexts : ℕ → ℕ) (h : Option Holding) → LinkIs nexts h None
-LinkIs-none nexts None = tt
-LinkIs-none nexts (Some h) = tt
+LinkIs-none nexts x = search arith
 
 -- the link of a held record, where another holding is by the same record
 LinkIs-as : (nexts : ℕ → ℕ) (h h' : Option Holding) (l : Option ℕ) → ((u : ℕ) → Holds h' u → Holds h u) → LinkIs nexts h l → LinkIs nexts h' l
@@ -189,8 +187,7 @@ module _ {a : CallState} {at : Word → ℕ} {control : ℕ → ControlValue} (m
       })
 
   told_lock : (c : Class) (id : ℕ) → flags_told a me id act.Store None (Some (flags_of c)) ≡ locked a me id (flags_of c)
-  told_lock Sync id = refl
-  told_lock Async id = refl
+  told_lock x id = search arith
 
   pub lock_step : (p : Posting) → (control me).stage ≡ Some (Post p post.Lock) → StepShows a at control me (Post p post.Lock)
   lock_step p e = search (told_lock, lock_class, arith)
@@ -292,9 +289,7 @@ module _ {a : CallState} {at : Word → ℕ} {control : ℕ → ControlValue} (m
   -- a step of a post that changes no word and no call
   goes_on : (p : Posting) (st next : PostStage) → (control me).stage ≡ Some (Post p st) → held_of_post p st ≡ held_of_post p next → PostGoes p next
       → PostKnows a.place at p next → Shows a at (put control me (to_stage (Some (Post p next))))
-  goes_on p st next e same goes knows =
-      let r = post_rests p st e in
-      stands_on a at control me (to_stage (Some (Post p next))) s (holds_at (Post p st) e ∙ same) (goes_here a.place at p st next e goes knows) r.hand
+  goes_on p st next e same goes knows = search (post_rests, stands_on, holds_at, goes_here, arith)
 
   pub head_step : (p : Posting) → (control me).stage ≡ Some (Post p post.LoadHead) → StepShows a at control me (Post p post.LoadHead)
   head_step p e = let was = was_at p post.LoadHead e in goes_on p post.LoadHead (post.StoreNext (at (Head p.to)) p.tries) e refl was.goes was.knows

@@ -22,24 +22,12 @@ stands_on a at control me next s held stands hand =
 
 -- a record whose flags have no LOCK is free
 pub unlocked_free : (p : RecPlace) (flags : ℕ) → FlagsShow p flags → (flags % 2 == 1) ≡ false → p ≡ place.Free
-unlocked_free place.Free flags f e = refl
-unlocked_free _ flags f e = absurd (eqb-false (flags % 2) 1 e f)
+unlocked_free x flags f e = search (eqb-false, arith)
 
 -- confirm: the source has seen its record free
 pub confirms_kept : (a : CallState) (at : Word → ℕ) (control : ℕ → ControlValue) (me id : ℕ) → a.place id ≡ place.Free → Shows a at control
     → Shows (confirms a me id) at control
-confirms_kept a at control me id free s = record {
-  held = s.held;
-  stands = s.stands;
-  hands = s.hands;
-  placed = placed_confirmed a s.placed me id free;
-  written = s.written;
-  chained = s.chained;
-  links = s.links;
-  noticed = s.noticed;
-  recorded = s.recorded;
-  tallied = s.tallied;
-}
+confirms_kept a at control me id free s = search (placed_confirmed, arith)
 
 -- the load of a flags word: where LOCK is clear, its source has it confirmed
 pub confirm_if : (a : CallState) (at : Word → ℕ) (control : ℕ → ControlValue) (me id : ℕ) (b : Bool) → (at (Flags id) % 2 == 1) ≡ b → Shows a at control

@@ -27,12 +27,10 @@ taken_else : (me cpu : ℕ) → cpu ≢ me → place_taken me (place.Queued cpu)
 taken_else me cpu ne = test_else cpu me (place.Batch me) (place.Queued cpu) ne
 
 taken_minded : (me cpu id : ℕ) (p : RecPlace) → Minds cpu id p → place_taken me p ≡ p
-taken_minded me cpu id (place.Queued c) m = absurd m
-taken_minded me cpu id _ m = refl
+taken_minded me cpu id x m = search arith
 
 FlagsShow-taken : (me flags : ℕ) (p : RecPlace) → FlagsShow p flags → FlagsShow (place_taken me p) flags
-FlagsShow-taken me flags (place.Queued c) f = at_test c me (λ b. FlagsShow (cond b (place.Batch me) (place.Queued c)) flags) (λ _. f) (λ _. f)
-FlagsShow-taken me flags _ f = f
+FlagsShow-taken me flags x f = search (at_test, arith)
 
 pub last_batch-push : (batches : List (List Call)) (batch : List Call) → last_batch (batches ++ batch ∷ []) ≡ batch
 last_batch-push [] batch = refl
@@ -54,11 +52,7 @@ module _ (a : CallState) (me : ℕ) where
 
   there : (id : ℕ) (p : RecPlace) → a.batch me ≡ [] → IsThere a.held a.queue a.batch a.running id p
       → IsThere a.held queue' batch' a.running id (place_taken me p)
-  there id place.Free none h = tt
-  there id place.Held none h = h
-  there id (place.Queued c) none h = search (at_test, test_here, has_order, test_else, arith)
-  there id (place.Batch c) none h = search (at_test, arith)
-  there id (place.Running c) none h = h
+  there id x none h = search (at_test, test_here, has_order, test_else, arith)
 
   pub placed_taken : a.batch me ≡ [] → Placed a.place a.held a.queue a.batch a.running a.confirmed → Placed place' a.held queue' batch' a.running a.confirmed
   placed_taken none p = search (at_test, every, taken_else, every_order, taken_here, moved, apart_order, there, arith)

@@ -6,8 +6,7 @@ use Rattle.smp_call_steps.proofs.State.Places.{is_on, in_batch, in_between, down
 use Rattle.smp_call_steps.proofs.place.is_in_batch.Goals as goal
 
 or_first : (x y b : Bool) → b ≡ x → b ≡ true → b ≡ (x || y)
-or_first true y b e t = e
-or_first false y b e t = let f = sym e ∙ t in cc
+or_first x y b e t = search arith
 
 or_second : (x y b : Bool) → x ≡ false → b ≡ y → b ≡ (x || y)
 or_second x y b f e = rw f e
@@ -58,8 +57,7 @@ is_first : (x y z : Bool) → x ≡ true → true ≡ (x || (y || z))
 is_first x y z e = rw e
 
 is_second : (x y z b : Bool) → x ≡ false → b ≡ y → b ≡ true → b ≡ (x || (y || z))
-is_second x true z b f e t = rw f e
-is_second x false z b f e t = let g = sym e ∙ t in cc
+is_second x y z b f e t = search arith
 
 is_third : (x y z b : Bool) → x ≡ false → y ≡ false → b ≡ z → b ≡ (x || (y || z))
 is_third x y z b f g e = rw f (rw g e)
