@@ -31,19 +31,11 @@ module _ (a : CallState) (placed : ArePlaced a) (home : (cpu id : ℕ) → Holds
 
 -- of a class and of a source, one after the other
 
-keeps : (class : Class) (b : Bool) (call : Call) (rest left : List Call) → if_class class call.class call ≡ call ∷ [] → of_class class rest ≡ left
-    → of_class class (cond b (call ∷ rest) rest) ≡ cond b (call ∷ left) left
-keeps class x call rest left e h = search arith
-
-drops : (class : Class) (b : Bool) (call : Call) (rest left : List Call) → if_class class call.class call ≡ [] → of_class class rest ≡ left
-    → of_class class (cond b (call ∷ rest) rest) ≡ left
-drops class x call rest left e h = search arith
-
 module _ (source : ℕ) where
   class_from : (class of : Class) (call : Call) (rest : List Call) → call.class ≡ of
       → of_class class (calls_from source rest) ≡ calls_from source (of_class class rest) →
       of_class class (calls_from source (call ∷ rest)) ≡ calls_from source (if_class class of call ++ of_class class rest)
-  class_from x y call rest e h = search (keeps, drops, arith)
+  class_from x y call rest e h = search arith
 
   pub from_class : (class : Class) (calls : List Call) → of_class class (calls_from source calls) ≡ calls_from source (of_class class calls)
   from_class class [] = refl

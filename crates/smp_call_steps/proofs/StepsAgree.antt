@@ -1,7 +1,7 @@
 -- Each step that a CPU may make keeps what the words say: flags lock, tallies count, and a CPU whose handling word is 0 handles nothing.
-use Rattle.std.proofs.Common.{◌≡◌, ◌≢◌, ℕ, suc, ◌+◌, ◌-◌, ◌%◌, ◌^◌, ◌==◌, ◌&&◌, nat_lt, Bool, true, false, cond, inl, inr, Option, Some, None}
-use Rattle.std.proofs.Common.{List, [], ◌∷◌, ◌++◌, length, sym, subst, refl, ap, ◌∙◌, arith, true≢false, not}
-use Rattle.std.proofs.lemmas.Bool.{ltb-true, lt-ltb, eq-eqb, ne_eqb}
+use Rattle.std.proofs.Common.{◌≡◌, ◌≢◌, ℕ, suc, ◌+◌, ◌%◌, ◌^◌, ◌==◌, nat_lt, Bool, true, false, cond, inl, inr, Option, Some, None}
+use Rattle.std.proofs.Common.{List, [], ◌∷◌, ◌++◌, length, sym, subst, refl, ap, ◌∙◌, arith, true≢false}
+use Rattle.std.proofs.lemmas.Bool.{ltb-true, lt-ltb}
 use Rattle.std.proofs.lemmas.List.{append-nil}
 use Rattle.smp_words.specs.Put.{put, put_word}
 use Rattle.smp_words.specs.Access.{put_if}
@@ -20,7 +20,7 @@ use Rattle.smp_call_steps.proofs.StepsKeep.{KeepsLaws, one_of}
 use Rattle.smp_call_steps.proofs.State.Tallies.{tallied_more, tallied_same}
 use Rattle.smp_call_steps.proofs.Steps.Appending.{tallied_appended}
 use Rattle.smp_call_steps.proofs.Steps.Placings.{counted_hold, front_here}
-use Rattle.smp_call_steps.proofs.Steps.Posting.{tallied_for, count_more, count_less}
+use Rattle.smp_call_steps.proofs.Steps.Posting.{tallied_for}
 use Rattle.smp_call_steps.specs.act
 use Rattle.smp_call_steps.specs.place
 
@@ -38,20 +38,13 @@ same_held : (f : Holding → Holding) → ((h : Holding) (cpu : ℕ) → one_hel
 same_held f same x cpu = search arith
 
 -- a call that is counted for this CPU, or counted back
-recounted_as : (b : Bool) (t n x to : ℕ) → (b ≡ true → t ≡ to) → n ≡ (x + cond (b && (t == to)) 1 0) % 2 ^ 64
-    → cond b ((n + (2 ^ 64 - 1)) % 2 ^ 64) ((n + 1) % 2 ^ 64) ≡ (x + cond (not b && (to == to)) 1 0) % 2 ^ 64
-recounted_as x t n z to m e = search (count_less, eq-eqb, count_more, arith)
-
 recounted_here : (h : Option Holding) (n x to : ℕ) → MayCount h to → n ≡ (x + one_held h to) % 2 ^ 64
     → recounted h n ≡ (x + one_held (holding_with (with_count to) h) to) % 2 ^ 64
-recounted_here x n z to m e = search (recounted_as, arith)
+recounted_here x n z to m e = search arith
 
 -- is counted for no other, before and after
-recount_else : (b : Bool) (t to cpu : ℕ) → cpu ≢ to → (b ≡ true → t ≡ to) → cond (not b && (to == cpu)) 1 0 ≡ cond {A = ℕ} (b && (t == cpu)) 1 0
-recount_else x t to cpu ne m = search (ne_eqb, arith)
-
 recounted_else : (h : Option Holding) (to cpu : ℕ) → cpu ≢ to → MayCount h to → one_held (holding_with (with_count to) h) cpu ≡ one_held h cpu
-recounted_else x to cpu ne m = search (recount_else, arith)
+recounted_else x to cpu ne m = search arith
 
 held_for : (h : Option Holding) (to : ℕ) → HoldsFor h to → (call : Call) × (h ≡ counted_hold call to)
 held_for None to m = absurd m

@@ -1,15 +1,15 @@
 -- A CPU inside handle: what holds of it by the laws, and what it knows after each of its steps.
-use Rattle.std.proofs.Common.{◌≡◌, ◌≢◌, ℕ, ◌%◌, ◌<◌, Option, Some, None, List, [], ◌∷◌, length, sym, subst, ap, ◌∙◌, arith}
+use Rattle.std.proofs.Common.{◌≡◌, ℕ, ◌%◌, ◌<◌, Option, Some, None, List, [], ◌∷◌, length, sym, subst, ap, ◌∙◌, arith}
 use Rattle.std.proofs.lemmas.Bool.{eq-eqb}
 use Rattle.smp_words.specs.Size.{cpus, records}
 use Rattle.smp_words.specs.Access.{word_of}
 use Rattle.smp_call_steps.specs.{CountedCall, DrainValue, no_drain, record_at, first_on, IsPlaced, AllPlaced}
 use Rattle.smp_call_steps.specs.{nexts_in, last_batch, access_of, FitsStage, Share, share_of}
 use Rattle.smp_call_steps.specs.{HandleStands, held_of, CallPart}
-use Rattle.smp_call_steps.specs.{part_after, told_stage, told_post, told_handle, known_told, known_taking, stage_after}
+use Rattle.smp_call_steps.specs.{part_after, told_stage, told_handle, known_told, known_taking, stage_after}
 use Rattle.smp_call_steps.specs.{drain_then, tried_after, heads_after, log_after, steps_after, sent_after, asked_then, MayStep, known_access}
 use Rattle.smp_call_steps.specs.{Lives, handling, goes_known}
-use Rattle.smp_call_steps.specs.{taken_known, left_known, ended_call, Call, Word, Head, Hand, Flags, Func, Info, Next, Access, Act, Posting, PostStage, Walk}
+use Rattle.smp_call_steps.specs.{taken_known, left_known, ended_call, Call, Word, Head, Hand, Flags, Func, Info, Next, Access, Act, Walk}
 use Rattle.smp_call_steps.specs.{HandleStage, Stage, Handle}
 use Rattle.smp_words.proofs.Links.{HasIndex}
 use Rattle.smp_call_steps.proofs.Machine.Accesses.{access_in_table}
@@ -22,14 +22,8 @@ use Rattle.smp_call_steps.specs.act
 use Rattle.smp_call_steps.specs.handle
 
 -- who is told to be at a step of handle is there
-post_tells : (p : Posting) (st : PostStage) (h : HandleStage) → told_post p st ≢ Some (Handle h)
-post_tells p x h e = search arith
-
-handle_tells : (g h : HandleStage) → told_handle g ≡ Some (Handle h) → Some (Handle g) ≡ Some (Handle h)
-handle_tells x h e = search arith
-
 told_there : (s : Option Stage) (h : HandleStage) → told_stage s ≡ Some (Handle h) → s ≡ Some (Handle h)
-told_there x h e = search (post_tells, handle_tells, arith)
+told_there x h e = search arith
 
 -- what is a CPU's own of the drain, as it knows it
 abbrev pub share_in : CallPart → Share

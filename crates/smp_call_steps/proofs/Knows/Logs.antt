@@ -1,23 +1,17 @@
 -- A step's log is what it has sent.
-use Rattle.std.proofs.Common.{◌≡◌, ℕ, ◌≤◌, Bool, true, false, cond, Option, Some, None, List, [], length}
+use Rattle.std.proofs.Common.{◌≡◌, ℕ, Option, Some, None, List, length}
 use Rattle.std.proofs.Common.{ap, ◌∙◌, refl, arith}
 use Rattle.smp_words.specs.Access.{act_of, word_of, seen_of}
-use Rattle.smp_call_steps.specs.{CallState, Holding, Running, confirms, locked, releases, unlocks, begins_sync}
-use Rattle.smp_call_steps.specs.{begins_async, counts, links, held_told, flags_told, hand_told, appended, told, Sees, MayStep, known_access}
+use Rattle.smp_call_steps.specs.{CallState, Holding}
+use Rattle.smp_call_steps.specs.{appended, told, Sees, MayStep, known_access}
 use Rattle.smp_call_steps.specs.{known_tells, log_after, sent_after}
-use Rattle.smp_call_steps.specs.{SendsNothing, SendsCall, Sends, log_with, sent_with, LogsTell, ControlValue, Call, Word, Head, Intr}
+use Rattle.smp_call_steps.specs.{SendsNothing, SendsCall, Sends, log_with, sent_with, LogsTell, ControlValue, Word, Head, Intr}
 use Rattle.smp_call_steps.specs.{Act, Stage, Logged}
 use Rattle.smp_call_steps.specs.Shows.{Shows}
 use Rattle.smp_call_steps.proofs.Knows.Restages.{aims_held}
 use Rattle.smp_call_steps.specs.declared.known.KnownCalls.{KnownCalls}
 use Rattle.smp_call_steps.specs.act
 use Rattle.smp_call_steps.specs.logged
-
-shorter : (b : Bool) (calls : List Call) → length (cond b [] calls) ≤ length calls
-shorter x calls = search arith
-
-was_pending : (b p : Bool) → cond b false p ≡ true → p ≡ true
-was_pending x p e = search arith
 
 -- a CPU holds a call
 abbrev IsHeld : Option Holding → Type 0
@@ -34,41 +28,8 @@ module _ (a : CallState) (me : ℕ) where
   quiet : (b : CallState) → b.queue ≡ a.queue → b.pending ≡ a.pending → SendsNothing a b
   quiet b q p = search arith
 
-  quiet_async : (calls : List Call) → SendsNothing a (begins_async a me calls)
-  quiet_async x = search (quiet, arith)
-
-  quiet_sync : (b : Bool) (calls : List Call) → SendsNothing a (cond b (begins_sync a me calls) a)
-  quiet_sync x calls = search (quiet, arith)
-
-  quiet_unlocks : (running : Running) → SendsNothing a (unlocks a me running)
-  quiet_unlocks x = search (quiet, quiet_async, arith)
-
-  quiet_releases : (id : ℕ) (held : Option Holding) → SendsNothing a (releases a me id held)
-  quiet_releases id x = search (quiet, quiet_unlocks, arith)
-
-  quiet_counts : (running : Running) → SendsNothing a (counts a me running)
-  quiet_counts x = search (quiet, arith)
-
-  quiet_links : (put : Option ℕ) (held : Option Holding) → SendsNothing a (links a me put held)
-  quiet_links x y = search (quiet, arith)
-
-  quiet_held : (f : ℕ → Holding → Holding) (put : Option ℕ) → SendsNothing a (held_told a me f put)
-  quiet_held f x = search (quiet, arith)
-
-  quiet_hand : (put : Option ℕ) → SendsNothing a (hand_told a me put)
-  quiet_hand x = search (quiet_sync, quiet, arith)
-
-  quiet_confirms : (b : Bool) (id : ℕ) → SendsNothing a (cond b a (confirms a me id))
-  quiet_confirms x id = search (quiet, arith)
-
-  quiet_locks : (b : Bool) (id n : ℕ) → SendsNothing a (cond b (releases a me id (a.held me)) (locked a me id n))
-  quiet_locks x id n = search (quiet_releases, quiet, arith)
-
-  quiet_flags : (id : ℕ) (kind : Act) (found put : Option ℕ) → SendsNothing a (flags_told a me id kind found put)
-  quiet_flags id x found put = search (quiet_confirms, quiet_locks, quiet, arith)
-
   quiet_else : (kind : Act) (w : Word) (found put : Option ℕ) → IsElse w → SendsNothing a (told a me kind w found put)
-  quiet_else kind x found put e = search (quiet_flags, quiet_held, quiet_hand, quiet_counts, quiet_links, quiet, arith)
+  quiet_else kind x found put e = search (quiet, arith)
 
   log_else : (kind : Act) (w : Word) (put : Option ℕ) (log : List Logged) → IsElse w → log_after kind w put log ≡ log
   log_else x w put log e = search arith
@@ -87,12 +48,12 @@ module _ (a : CallState) (me : ℕ) where
 
   head_logs : (kind : Act) (to : ℕ) (found put : Option ℕ) (log : List Logged) → (kind ≡ act.Cas → IsHeld (a.held me)) → Logs kind (Head to) found put log
   head_logs act.Cas to found (Some n) log holds = (Some (logged.Queued to), refl, sends_call to (a.held me) (holds refl), λ _ _. refl)
-  head_logs act.Swap to found put log holds = search (shorter, arith)
+  head_logs act.Swap to found put log holds = search arith
   head_logs _ to found put log holds = (None, refl, quiet a refl refl, λ _ _. refl)
 
   intr_logs : (kind : Act) (to : ℕ) (found put : Option ℕ) (log : List Logged) → Logs kind (Intr to) found put log
   intr_logs act.Store to found put log = (Some (logged.Interrupted to), refl, record { queues = refl; pending = refl }, λ _ _. refl)
-  intr_logs act.Swap to found put log = search (was_pending, arith)
+  intr_logs act.Swap to found put log = search arith
   intr_logs _ to found put log = (None, refl, quiet a refl refl, λ _ _. refl)
 
   step_logs : (kind : Act) (w : Word) (found put : Option ℕ) (log : List Logged) → (kind ≡ act.Cas → IsHeld (a.held me)) → Logs kind w found put log

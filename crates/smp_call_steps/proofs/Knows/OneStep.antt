@@ -3,7 +3,7 @@ use Rattle.std.proofs.Common.{arith, ◌≡◌, ◌≢◌, ℕ, ◌-◌, Bool, c
 use Rattle.smp_words.proofs.Puts.{put_same, put_other}
 use Rattle.smp_words.specs.Put.{put}
 use Rattle.smp_call_steps.specs.{CallState, ends, goes_to, DrainValue, handle_goes, second_on, first_on, reverse_on, by_class, unlink_after, Call}
-use Rattle.smp_call_steps.specs.{Class, Word, Head, Access, Seen, Note, Posting, Walk, CallOutcome, Stage, Post, Handle, ControlValue}
+use Rattle.smp_call_steps.specs.{Class, Word, Head, Access, Seen, Note, Posting, Walk, CallOutcome, Stage, Handle, ControlValue}
 use Rattle.smp_call_steps.specs.{access_of, outcome_of, drain_of, control_after, part_after, told_post, told_handle, told_stage, Sees, known_tells}
 use Rattle.smp_call_steps.specs.{stage_after, drain_then, MayStep, known_access, GoesOn}
 use Rattle.smp_words.specs.Access.{word_of, at_after, seen_of}
@@ -37,9 +37,6 @@ Leaves at me d st =
 flags_follow : (b c : Bool) (p : Posting) → told_stage (cond b (ends note.Busy) (cond c (goes_to p post.Lock) (ends note.NoCpu))).next ≡ None
 flags_follow x c p = search arith
 
-lock_follow : (c : Class) (p : Posting) (at : Word → ℕ) (me : ℕ) (d : DrainValue) → Follows at me d (Post (record p { class = c }) post.Lock)
-lock_follow x p at me d = search arith
-
 exchange_follow : (p : Posting) (link tries n : ℕ) (b c : Bool) (won : Note) (me : ℕ) (d : DrainValue) (found : ℕ) →
     told_stage (cond b (ends won) (cond c (goes_to p (post.StoreNext found (tries - 1))) (goes_to p post.Uncount))).next
     ≡ stage_after (told_post p (post.Exchange link tries)) d act.Cas (Head p.to) (Some found) (cond b (Some n) None)
@@ -69,7 +66,7 @@ accept_told x = search arith
 ruleset stages_follow = (flags_follow, exchange_follow, accept_told, reverse_told, class_told, info_told, first_told, second_told)
 
 follows : (at : Word → ℕ) (me : ℕ) (d : DrainValue) (st : Stage) → Follows at me d st
-follows at me d x = search (lock_follow, arith)
+follows at me d x = search arith
 
 leaves : (at : Word → ℕ) (me : ℕ) (d : DrainValue) (st : Stage) → Leaves at me d st
 leaves at me d x = search arith

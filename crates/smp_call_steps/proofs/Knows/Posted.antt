@@ -1,5 +1,5 @@
 -- What a CPU knows after each step of a post, of a send and of a question for a record.
-use Rattle.std.proofs.Common.{◌≡◌, ℕ, ◌+◌, ◌-◌, ◌%◌, ◌^◌, Bool, true, false, ◌==◌, cond, Some, None, length, ap, ◌∙◌, arith, true≢false, eq-eqb}
+use Rattle.std.proofs.Common.{◌≡◌, ℕ, ◌+◌, ◌%◌, ◌^◌, Bool, true, false, ◌==◌, cond, Some, None, length, ap, ◌∙◌, arith, true≢false, eq-eqb}
 use Rattle.smp_words.specs.Flags.{flags_of}
 use Rattle.smp_call_steps.specs.{stepped}
 use Rattle.smp_call_steps.specs.{sent_to, posted, known_told, known_access, posting_of, standing, outside_known, confirmed_known, queued_known, looked_known}
@@ -16,22 +16,14 @@ pub stands_as : (v : KnownCalls) (p : Posting) (st : PostStage) → v.stage ≡ 
 stands_as v p st e = λ i. record v { stage = e i }
 
 -- a load of the own flags, outside a command
-load_outside : (v : KnownCalls) (id found : ℕ) (b : Bool) → (found % 2 == 1) ≡ b
-    → known_told (outside_known v) act.Load (Flags id) (Some found) None ≡ stepped 1 (cond b (outside_known v) (confirmed_known id (outside_known v)))
-load_outside v id found y e = search arith
-
 pub loaded_known : (v : KnownCalls) (id found : ℕ) → v.stage ≡ None
     → known_told v act.Load (Flags id) (Some found) None ≡ stepped 1 (cond (found % 2 == 1) v (confirmed_known id v))
-loaded_known v id found e = search (outside_as, load_outside, arith)
-
-lock_outside : (v : KnownCalls) (id : ℕ) (c : Class) → known_told (outside_known v) act.Store (Flags id) None (Some (flags_of c))
-    ≡ standing (posting_of id c 0 0 0) post.StoreFunc (stepped 1 v)
-lock_outside v id y = search arith
+loaded_known v id found e = search (outside_as, arith)
 
 pub locked_known : (v v' : KnownCalls) (id flags : ℕ) (c : Class) → v.stage ≡ None → v' ≡ known_told v act.Store (Flags id) None (Some flags)
     → flags ≡ flags_of c
     → v' ≡ standing (posting_of id c 0 0 0) post.StoreFunc (stepped 1 v)
-locked_known v v' id flags c o e f = search (outside_as, lock_outside, arith)
+locked_known v v' id flags c o e f = search (outside_as, arith)
 
 pub func_known : (v v' w : KnownCalls) (id n : ℕ) (p : Posting) → v' ≡ known_told w act.Store (Func id) None (Some n) → w ≡ standing p post.StoreFunc v
     → v' ≡ standing (record p { func = n }) post.StoreInfo (stepped 1 v)
@@ -78,9 +70,6 @@ pub count_access : (v : KnownCalls) (p : Posting) (me count : ℕ) → v.number 
     → known_access v (Post p post.Count) ≡ Store (Queued me p.to) ((count + 1) % 2 ^ 64)
 count_access v p me count n e = search arith
 
-uncounted : (x count : ℕ) → count ≡ x % 2 ^ 64 → ((x + 1) % 2 ^ 64 + (2 ^ 64 - 1)) % 2 ^ 64 ≡ count
-uncounted x count e = omega arith
-
 pub uncount_access : (v : KnownCalls) (p : Posting) (me count : ℕ) → v.number ≡ me → count ≡ length (sent_to p.to v.part.sent) % 2 ^ 64
     → known_access v (Post p post.Uncount) ≡ Store (Queued me p.to) count
-uncount_access v p me count n e = search (eq-eqb, uncounted, arith)
+uncount_access v p me count n e = search (eq-eqb, arith)

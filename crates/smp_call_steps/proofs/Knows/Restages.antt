@@ -22,12 +22,6 @@ abbrev Knows : (ℕ → RecPlace) → (Word → ℕ) → Option Stage → Type 0
 Knows places at (Some (Post p stage)) = PostKnows places at p stage
 Knows places at _ = Unit {0}
 
-knows_post : (places : ℕ → RecPlace) (at : Word → ℕ) (p : Posting) (stage : PostStage) → PostKnows places at p stage → Knows places at (told_post p stage)
-knows_post places at p x k = search arith
-
-knows_handle : (places : ℕ → RecPlace) (at : Word → ℕ) (h : HandleStage) → Knows places at (told_handle h)
-knows_handle places at x = search arith
-
 abbrev IsFreeAt : (ℕ → RecPlace) → ℕ → PostStage → Type 0
 IsFreeAt places id post.Lock = places id ≡ place.Free
 IsFreeAt places id _ = Unit {0}
@@ -63,21 +57,15 @@ module _ (a : CallState) (at : Word → ℕ) (me : ℕ) (d : DrainValue) where
   idle_told _ k hand n = record { rests = k.0; hand = hand }
 
   knows_told : (stage : Option Stage) → StandsAt a.place at (share_of a me) d me stage → Knows a.place at (told_stage stage)
-  knows_told x k = search (knows_post, knows_handle, arith)
+  knows_told x k = search arith
 
 -- of a stage of handle beyond the first, all is told
 abbrev IsBeyond : HandleStage → Type 0
 IsBeyond handle.Enter = ⊥
 IsBeyond _ = Unit {0}
 
-no_post : (p : Posting) (st : PostStage) (h : HandleStage) → told_post p st ≡ Some (Handle h) → ⊥
-no_post p st h e = subst IsNoHandle e (post_no_handle p st)
-
-same_handle : (h h' : HandleStage) → told_handle h' ≡ Some (Handle h) → h' ≡ h
-same_handle h x e = search arith
-
 stage_is : (h : HandleStage) (stage : Option Stage) → told_stage stage ≡ Some (Handle h) → stage ≡ Some (Handle h)
-stage_is h x e = search (no_post, same_handle, arith)
+stage_is h x e = search arith
 
 told_beyond : (h : HandleStage) → IsBeyond h → told_handle h ≡ Some (Handle h)
 told_beyond x b = search arith

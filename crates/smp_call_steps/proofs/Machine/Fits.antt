@@ -21,10 +21,6 @@ IsRecord call = call.id < records
 records_fit : (id : ℕ) → id < records → id + 1 ≤ 2 ^ 32
 records_fit id l = omega arith
 
--- a drain has room for all records
-room_for_all : (n : ℕ) → n + 1 ≤ records → n < MOST_CALLS
-room_for_all n l = omega arith
-
 -- a link of a chain is a record and one, or none
 link_fits : (nexts : ℕ → ℕ) (link : ℕ) (calls : List Call) (below : ℕ) → below ≤ 2 ^ 32 → AllByRecursion IsRecord calls → Leads nexts link calls below
     → link ≤ 2 ^ 32
@@ -76,7 +72,7 @@ module _ {a : CallState} {at : Word → ℕ} {control : ℕ → ControlValue} (m
       let h = was.1.1 in
       let all = reverses_all IsRecord h batched_records in
       let short = length-apart records (h.older ++ was.1.0 ∷ h.newer) (subst IsApart h.whole h.apart) all in
-      search (length-append, h, was, room_for_all, arith)
+      search (length-append, h, was, arith)
 
   ruleset loads_fit = (down_fits, room_fits, next_fits, func_fits, async_next_fits, async_fits)
 

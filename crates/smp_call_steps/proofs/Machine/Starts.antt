@@ -1,12 +1,12 @@
 -- A command of the call half that may start begins where it should, and changes no call.
-use Rattle.std.proofs.Common.{◌≡◌, ℕ, ◌<◌, Bool, true, false, ◌||◌, not, nat_lt, cond, Option, Some, None, List, refl, arith, replicate}
+use Rattle.std.proofs.Common.{◌≡◌, ℕ, ◌<◌, Bool, true, false, not, nat_lt, cond, Option, Some, None, List, arith, replicate}
 use Rattle.std.proofs.lemmas.Bool.{ltb-true, le-ltb, cases_lt, and_parts}
 use Rattle.smp_mask.specs.Mask.{has}
 use Rattle.smp_mask.specs.declared.error.SmpError.{SmpError}
 use Rattle.smp_words.specs.Size.{cpus, table_size, records_of_one}
 use Rattle.smp_words.specs.Put.{put}
 use Rattle.smp_words.specs.Layout.{index_of, number_in}
-use Rattle.smp_call_steps.specs.{CallState, no_calls, DrainValue, ControlValue, command_refusal, first_stage, control_at, NamesRecord, Share, share_of, Rests}
+use Rattle.smp_call_steps.specs.{CallState, no_calls, DrainValue, ControlValue, command_refusal, first_stage, control_at, NamesRecord, Share, share_of}
 use Rattle.smp_call_steps.specs.{StandsAt, held_of, HandIs, ValuesShow, control_of, outside, hands_in, Word, RecPlace}
 use Rattle.smp_words.specs.Limits.{AreLimits}
 use Rattle.smp_call_steps.specs.Start.{has_record}
@@ -24,9 +24,6 @@ else_none x y z e = search arith
 
 pub then_none : (b : Bool) (y : SmpError) → cond b (Some y) None ≡ None → b ≡ false
 then_none x y e = search arith
-
-or_false : (x y : Bool) → (x || y) ≡ false → x ≡ false
-or_false x y e = search arith
 
 pub not_false : (x : Bool) → not x ≡ false → x ≡ true
 not_false x e = search arith
@@ -47,14 +44,14 @@ record_below nr k e = search (cases_lt, le-ltb, ltb-true, and_parts, arith)
 
 -- a command that may start names a record that there is
 pub names_record : (nr online cpu : ℕ) (c : Command) → command_refusal nr online cpu c ≡ None → NamesRecord c
-names_record nr online cpu x e = search (or_false, then_none, ltb-true, not_false, record_below, else_none, arith)
+names_record nr online cpu x e = search (then_none, ltb-true, not_false, record_below, else_none, arith)
 
 begins : (nr online : ℕ) (places : ℕ → RecPlace) (at : Word → ℕ) (s : Share) (d : DrainValue) (cpu : ℕ) (c : Command) → AreLimits nr online → cpu < cpus
     → command_refusal nr online cpu c ≡ None → FitsCommand c →
     StandsAt places at s d cpu None → StandsAt places at s d cpu (first_stage online cpu c)
 begins nr online places at s d cpu (command.Post k to class func info tries) limits l e f h =
     let one = not (nat_lt k records_of_one) in
-    search (one, or_false, then_none, ltb-true, not_false, owner-of_record, record_of-below, online_below, arith)
+    search (one, then_none, ltb-true, not_false, owner-of_record, record_of-below, online_below, arith)
 begins nr online places at s d cpu (command.Send to) limits l e f h = (h, online_below nr online to limits (else_none (has online to) None _ e).0, l)
 begins nr online places at s d cpu (command.Done k) limits l e f h = search (record_below, else_none, owner-of_record, record_of-below, arith)
 begins nr online places at s d cpu command.Handle limits l e f h = (l, h)
@@ -86,12 +83,9 @@ module _ (nr online : ℕ) {a : CallState} {at : Word → ℕ} {control : ℕ �
         tallied = shows.tallied;
       }
 
-rests : Rests (share_of no_calls 0)
-rests = record { batch = refl; running = refl; accepted = refl }
-
 -- words that are all 0, with each CPU outside, show no calls
 pub zeros_shown : (at : Word → ℕ) (control : ℕ → ControlValue) → ((w : Word) → at w ≡ 0) → ((cpu : ℕ) → control cpu ≡ outside) → Shows no_calls at control
-zeros_shown at control z n = search (rests, arith)
+zeros_shown at control z n = search arith
 
 -- a table of zeros, with each CPU outside, shows no calls
 pub new_shown : (words : List ℕ) (controls : List ControlValue) → words ≡ replicate table_size 0 → controls ≡ replicate cpus outside

@@ -5,9 +5,9 @@ use Rattle.std.proofs.lemmas.Bool.{eq-eqb, ne_eqb}
 use Rattle.std.proofs.lemmas.List.{append-nil}
 use Rattle.std.proofs.lemmas.List.Elements.{filter-append}
 use Rattle.std.specs.List.{AllByRecursion, filter}
-use Rattle.smp_call_steps.specs.{if_sync, if_async, sync_calls, async_calls, order, Running, DrainValue, link_to}
+use Rattle.smp_call_steps.specs.{if_sync, sync_calls, async_calls, order, Running, DrainValue, link_to}
 use Rattle.smp_call_steps.specs.{Leads, nexts_in, IsAbsent, IsApart, HasRecord, has_record, is_this, down_link, up_link, between_of, is_linked, BegunAt}
-use Rattle.smp_call_steps.specs.{LoadedAt, KeepBatchLinks, Share, share_of, Reverses, Walks, Ends, HandleStands, StandsAt, Call, Class, Word}
+use Rattle.smp_call_steps.specs.{LoadedAt, KeepBatchLinks, Share, share_of, Reverses, Walks, Ends, HandleStands, StandsAt, Call, Word}
 use Rattle.smp_call_steps.specs.{RecPlace, Walk, HandleStage, Stage, Handle}
 use Rattle.smp_call_steps.specs.BatchLinks.{BatchLinks}
 use Rattle.smp_call_steps.proofs.Basics.Alls.{every, every_both, every_left, every_right, every_append, every_class}
@@ -27,16 +27,12 @@ kept_none : (p : Call → Bool) (xs : List Call) → AllByRecursion (λ x. p x �
 kept_none p [] h = refl
 kept_none p (x ∷ xs) h = rw h.0 (kept_none p xs h.1)
 
-kept_one : (p : Call → Bool) (class : Class) (x : Call) (xs : List Call) → AllByRecursion (λ y. p y ≡ false) (if_sync class x)
-    → filter p (x ∷ xs) ≡ filter p (if_async class x) ++ filter p xs
-kept_one p x y xs h = search (filter-append, arith)
-
 -- where it keeps no SYNC call
 kept_async : (p : Call → Bool) (xs : List Call) → AllByRecursion (λ x. p x ≡ false) (sync_calls xs) → filter p xs ≡ filter p (async_calls xs)
 kept_async p [] h = refl
 kept_async p (x ∷ xs) h =
     let rest = kept_async p xs (every_right (λ y. p y ≡ false) (if_sync x.class x) (sync_calls xs) h) in
-    search (kept_one, every_left, rest, filter-append, arith)
+    search (every_left, rest, filter-append, arith)
 
 sync_calls-append : (xs ys : List Call) → sync_calls (xs ++ ys) ≡ sync_calls xs ++ sync_calls ys
 sync_calls-append [] ys = refl
@@ -59,17 +55,11 @@ absent_back xs (y ∷ ys) h = (
   absent_back xs ys (every (λ x. IsAbsent x.id (y ∷ ys)) (λ x. IsAbsent x.id ys) (λ x k. k.1) xs h),
 )
 
-in_hand : (hand : Option ℕ) (front : List Call) → IsBetween hand front → AllByRecursion (λ c. is_this c.id hand ≡ true) front
-in_hand x front b = search (eq-eqb, arith)
-
 not_in_hand : (hand : Option ℕ) (front : List Call) → IsBetween hand front → (id : ℕ) → IsAbsent id front → is_this id hand ≡ false
 not_in_hand x front b id absent = search (ne_eqb, arith)
 
 linked_out : (b : Bool) → (b && not true) ≡ false
 linked_out x = search arith
-
-is_linked-hand : (left : List Call) (hand : Option ℕ) (call : Call) → is_this call.id hand ≡ true → is_linked left hand call ≡ false
-is_linked-hand left hand call e = rw e (linked_out (has_record call.id left))
 
 is_linked-gone : (left : List Call) (hand : Option ℕ) (call : Call) → IsAbsent call.id left → is_linked left hand call ≡ false
 is_linked-gone left hand call absent = rw (absent-has_record call.id left absent) refl
@@ -87,7 +77,7 @@ module _ (batch begun front tail : List Call) (hand : Option ℕ) (whole : order
   begun_out = search (every, is_linked-gone, apart_across, all_apart, arith)
 
   front_out : AllByRecursion (λ c. is_linked (front ++ tail) hand c ≡ false) front
-  front_out = search (every, is_linked-hand, in_hand, arith)
+  front_out = search (every, arith)
 
   tail_in : AllByRecursion (λ c. is_linked (front ++ tail) hand c ≡ true) tail
   tail_in =
@@ -157,7 +147,7 @@ module _ (nexts : ℕ → ℕ) (s : Share) where
       let news : filter p h.newer ≡ h.newer = kept_all p h.newer
       (every_both (λ c. HasRecord c.id (order s.last)) (λ c. c.id ≢ call.id) (λ c. p c ≡ true) stays h.newer right.1 (absent_after h.older call h.newer apart))
       in
-      search (p, kept_none, is_linked-hand, eq-eqb, filter-append, olds, news, arith)
+      search (p, kept_none, eq-eqb, filter-append, olds, news, arith)
 
   module _ (d : DrainValue) (walk : Walk) (here : ℕ) (front rest : List Call) (running : Running) (w : Walks nexts s d walk here front rest running) where
     walked_order : order s.last ≡ w.begun ++ (front ++ (sync_calls rest ++ async_calls s.last))

@@ -17,12 +17,9 @@ pub has_right : (id : ℕ) (xs ys : List Call) → HasRecord id ys → HasRecord
 has_right id [] ys h = h
 has_right id (x ∷ xs) ys h = inr (has_right id xs ys h)
 
-has_one : (id : ℕ) (class : Class) (call : Call) → call.id ≡ id → HasRecord id (if_sync class call) ⊎ HasRecord id (if_async class call)
-has_one id x call e = search arith
-
 has_class : (id : ℕ) (calls : List Call) → HasRecord id calls → HasRecord id (sync_calls calls) ⊎ HasRecord id (async_calls calls)
 has_class id [] h = absurd h
-has_class id (call ∷ rest) (inl e) = search (has_one, has_left, arith)
+has_class id (call ∷ rest) (inl e) = search (has_left, arith)
 has_class id (call ∷ rest) (inr k) = search (has_right, has_class id rest k, arith)
 
 -- the drain order has all records

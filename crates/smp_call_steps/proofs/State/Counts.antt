@@ -1,11 +1,11 @@
 -- The calls by a confirmed record have all run, or run now.
-use Rattle.std.proofs.Common.{◌≡◌, ◌≢◌, ℕ, ◌+◌, ◌==◌, true, cond, Option, List, [], ◌∷◌, ◌++◌, refl, ap, ◌∙◌, arith}
+use Rattle.std.proofs.Common.{◌≡◌, ◌≢◌, ℕ, ◌+◌, ◌==◌, true, cond, List, [], ◌∷◌, ◌++◌, refl, ap, ◌∙◌, arith}
 use Rattle.std.proofs.lemmas.Bool.{ne_eqb}
 use Rattle.std.proofs.lemmas.List.Sums.{sum_by-append}
 use Rattle.smp_words.specs.Size.{owner}
 use Rattle.smp_call_steps.specs.{CallState, Running, calls_by, batches, async_call, ConfirmedCallsRan, orders, running_call, if_sync, if_async}
-use Rattle.smp_call_steps.specs.{sync_calls, async_calls, order, Holds, locked_by, AllPlaced, ControlValue, Share, StandsAt, PostKnows, held_of, held_of_post}
-use Rattle.smp_call_steps.specs.{DrainValue, Call, Class, Word, RecPlace, Posting, PostStage, Stage}
+use Rattle.smp_call_steps.specs.{sync_calls, async_calls, order, Holds, locked_by, AllPlaced, ControlValue}
+use Rattle.smp_call_steps.specs.{Call, Class, Word, RecPlace}
 use Rattle.smp_call_steps.specs.Shows.{Shows}
 use Rattle.smp_call_steps.specs.place
 
@@ -46,32 +46,18 @@ by-running id x = search arith
 
 -- a record that its source holds is at that place
 
-post_held : (places : ℕ → RecPlace) (at : Word → ℕ) (id : ℕ) (p : Posting) (stage : PostStage) → PostKnows places at p stage → Holds (held_of_post p stage) id
-    → places id ≡ place.Held
-post_held places at id p x k h = search arith
-
-stage_held : (places : ℕ → RecPlace) (at : Word → ℕ) (s : Share) (d : DrainValue) (me id : ℕ) (stage : Option Stage) → StandsAt places at s d me stage
-    → Holds (held_of stage) id → places id ≡ place.Held
-stage_held places at s d me id x k h = search (post_held, arith)
-
 -- a record that is free, or held
 pub record IsOut (p : RecPlace) : Type 0 where
   pub queue : (cpu : ℕ) → p ≢ place.Queued cpu
   pub batch : (cpu : ℕ) → p ≢ place.Batch cpu
   pub running : (cpu : ℕ) → p ≢ place.Running cpu
 
-free_out : (p : RecPlace) → p ≡ place.Free → IsOut p
-free_out p e = record { queue = λ cpu f. cc; batch = λ cpu f. cc; running = λ cpu f. cc }
-
-held_out : (p : RecPlace) → p ≡ place.Held → IsOut p
-held_out p e = record { queue = λ cpu f. cc; batch = λ cpu f. cc; running = λ cpu f. cc }
-
 module _ {a : CallState} {at : Word → ℕ} {control : ℕ → ControlValue} (s : Shows a at control) where
   pub held_place : (source id : ℕ) → Holds (a.held source) id → a.place id ≡ place.Held
-  held_place source id h = search (stage_held, arith)
+  held_place source id h = search arith
 
   pub confirmed_out : (id : ℕ) → a.confirmed (owner id) id ≡ true → IsOut (a.place id)
-  confirmed_out id e = search (free_out, held_out, held_place, arith)
+  confirmed_out id e = search (held_place, arith)
 
   pub confirmed_calls_ran : ConfirmedCallsRan a
   confirmed_calls_ran id cpu e =

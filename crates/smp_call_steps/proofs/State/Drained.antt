@@ -2,9 +2,9 @@
 use Rattle.std.proofs.Common.{◌≡◌, ◌≢◌, ℕ, ◌+◌, ◌%◌, ◌^◌, Bool, cond, Option, Some, None, List, [], ◌∷◌, ◌++◌, length, sym, refl, ap, ◌∙◌, arith}
 use Rattle.std.proofs.lemmas.List.{append-nil}
 use Rattle.smp_words.specs.Size.{owner}
-use Rattle.smp_call_steps.specs.{CallState, Holding, Recorded, Marked, marked, others_marked, batches_marked, marked_from, sent_to, calls_from, orders, if_sync}
-use Rattle.smp_call_steps.specs.{if_async, sync_calls, async_calls, order, Holds, AllPlaced, FlagsShow, Share, share_of, Rests}
-use Rattle.smp_call_steps.specs.{StandsAt, HandIs, DrainValue, Call, Class, Word, Hand, Queued, Ran, Flags, RecPlace, HandleStage, Stage, Handle}
+use Rattle.smp_call_steps.specs.{CallState, Holding, Recorded, Marked, marked, others_marked, batches_marked, marked_from, sent_to, calls_from, orders}
+use Rattle.smp_call_steps.specs.{sync_calls, async_calls, order, Holds, AllPlaced, FlagsShow, Share, share_of, Rests}
+use Rattle.smp_call_steps.specs.{StandsAt, HandIs, DrainValue, Call, Word, Hand, Queued, Ran, Flags, RecPlace, Stage}
 use Rattle.smp_call_steps.specs.Reached.{ArePlaced, AreTallied}
 use Rattle.smp_call_steps.specs.place
 
@@ -33,14 +33,10 @@ all_from source x = search (length-kept, others_from, arith)
 
 -- the drain order has the calls of its batch
 
-class_from : (source : ℕ) (class : Class) (call : Call)
-    → length (calls_from source (if_sync class call)) + length (calls_from source (if_async class call)) ≡ length (calls_from source (call ∷ []))
-class_from source x call = search arith
-
 parts_from : (source : ℕ) (calls : List Call) → length (calls_from source (sync_calls calls)) + length (calls_from source (async_calls calls))
     ≡ length (calls_from source calls)
 parts_from source [] = refl
-parts_from source (call ∷ rest) = search (class_from, calls_from-append, parts_from source rest, arith)
+parts_from source (call ∷ rest) = search (calls_from-append, parts_from source rest, arith)
 
 order_from : (source : ℕ) (calls : List Call) → length (calls_from source (order calls)) ≡ length (calls_from source calls)
 order_from source calls = calls_from-append source (sync_calls calls) (async_calls calls) ∙ parts_from source calls
@@ -66,14 +62,10 @@ none_held : (held : Option Holding) → ((id : ℕ) → Holds held id → ⊥) �
 none_held None h = refl
 none_held (Some x) h = absurd (h x.call.id refl)
 
-rests_inside : (places : ℕ → RecPlace) (at : Word → ℕ) (s : Share) (d : DrainValue) (me hand : ℕ) (stage : HandleStage) → hand ≡ 0
-    → HandIs (Some (Handle stage)) hand → StandsAt places at s d me (Some (Handle stage)) → Rests s
-rests_inside places at s d me hand x z h k = search arith
-
 -- nothing is taken and nothing runs, where the handling word is 0
 pub rests_at : (places : ℕ → RecPlace) (at : Word → ℕ) (s : Share) (d : DrainValue) (me hand : ℕ) (stage : Option Stage) → hand ≡ 0 → HandIs stage hand
     → StandsAt places at s d me stage → Rests s
-rests_at places at s d me hand x z h k = search (rests_inside, arith)
+rests_at places at s d me hand x z h k = search arith
 
 -- the laws of calls, and what the words say of them: each flags word, each tally, and each handling word
 pub record HasLaws (a : CallState) (at : Word → ℕ) : Type 0 where
@@ -92,27 +84,21 @@ module _ {a : CallState} {at : Word → ℕ} (s : HasLaws a at) (still : Still a
   nothing_held : (cpu : ℕ) → a.held cpu ≡ None
   nothing_held cpu = none_held (a.held cpu) (λ id h. let e = sym (s.home cpu id h) ∙ free id in cc)
 
-  nothing_queued : (cpu : ℕ) → a.queue cpu ≡ []
-  nothing_queued cpu = none_placed a.place (place.Queued cpu) (a.queue cpu) (λ e. cc) free (s.placed.queued cpu)
-
-  rests : (cpu : ℕ) → Rests (share_of a cpu)
-  rests cpu = s.idle cpu (still.outside cpu)
-
   -- the tally words count the calls that were sent and those that ran
 
   pub still_queued : (source cpu : ℕ) → at (Queued source cpu) ≡ length (sent_to cpu (a.sent source)) % 2 ^ 64
   still_queued source cpu = search (nothing_held, arith)
 
   pub still_ran : (cpu source : ℕ) → at (Ran cpu source) ≡ length (calls_from source (a.ran cpu)) % 2 ^ 64
-  still_ran cpu source = search (rests, append-nil, arith)
+  still_ran cpu source = search (append-nil, arith)
 
   -- each CPU has run what it has taken, in drain order
   pub all_ran : (cpu : ℕ) → a.ran cpu ≡ orders (a.taken cpu)
-  all_ran cpu = search (rests, append-nil, arith)
+  all_ran cpu = search (append-nil, arith)
 
   -- and has taken what was sent to it
   pub all_sent : (source cpu : ℕ) → sent_to cpu (a.sent source) ≡ marked_from source (batches_marked (a.taken cpu))
-  all_sent source cpu = search (nothing_queued, append-nil, arith)
+  all_sent source cpu = search (append-nil, arith)
 
   -- as many calls of each source as it has queued for a CPU have run there
   pub as_many_ran : (source cpu : ℕ) → length (sent_to cpu (a.sent source)) ≡ length (calls_from source (a.ran cpu))

@@ -6,7 +6,7 @@ use Rattle.smp_words.proofs.Puts.{at_test}
 use Rattle.smp_call_steps.specs.{CallState, Running, Sending, RunsByClass, calls_by, batches}
 use Rattle.smp_call_steps.specs.{ConfirmedSyncCallsEnded, HasCall, HasRunAt, ConfirmedCallsHaveRun, Marked, mark, marked, others_marked, batches_marked}
 use Rattle.smp_call_steps.specs.{history_of, sent_to, marked_from, orders, running_call, if_sync, if_async, sync_calls, async_calls, order, IsPlaced}
-use Rattle.smp_call_steps.specs.{locked_by, if_class, of_class, ControlValue, Call, Class, Sync, Word}
+use Rattle.smp_call_steps.specs.{locked_by, of_class, ControlValue, Call, Class, Sync, Word}
 use Rattle.smp_call_steps.specs.Shows.{Shows}
 use Rattle.smp_call_steps.proofs.Basics.Alls.{every, every_append}
 use Rattle.smp_call_steps.proofs.State.Classes.{runs_by_class}
@@ -16,12 +16,9 @@ use Rattle.smp_call_steps.specs.place
 
 -- of the SYNC calls
 
-one_of_class : (P : Call → Type 0) (class of : Class) (call : Call) → P call → AllByRecursion P (if_class class of call)
-one_of_class x y z call p = search arith
-
 every_of_class : (P : Call → Type 0) (class : Class) (calls : List Call) → AllByRecursion P calls → AllByRecursion P (of_class class calls)
 every_of_class P class [] h = tt
-every_of_class P class (call ∷ rest) h = search (every_append, one_of_class, every_of_class P class rest h.1, arith)
+every_of_class P class (call ∷ rest) h = search (every_append, every_of_class P class rest h.1, arith)
 
 -- a call that runs while its record is free is not SYNC
 running_none : (id : ℕ) (running : Running) → RunsByClass running → calls_by id (locked_by running) ≡ 0 → calls_by id (of_class Sync (running_call running)) ≡ 0

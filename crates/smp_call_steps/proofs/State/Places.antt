@@ -251,14 +251,6 @@ stage_split places at s d me stage p a h = search (rests_split, handle_split, ar
 
 -- the SYNC call that runs, by the stage
 
-handle_runs : (nexts : ℕ → ℕ) (s : Share) (d : DrainValue) (stage : HandleStage) → HandleStands nexts s d stage
-    → locked_by s.running ≡ running_of (Some (Handle stage))
-handle_runs nexts s d x h = search arith
-
-stage_runs : (places : ℕ → RecPlace) (at : Word → ℕ) (s : Share) (d : DrainValue) (me : ℕ) (stage : Option Stage) → StandsAt places at s d me stage
-    → locked_by s.running ≡ running_of stage
-stage_runs places at s d me x h = search (handle_runs, arith)
-
 module _ {a : CallState} {at : Word → ℕ} {control : ℕ → ControlValue} (s : Shows a at control) (cpu : ℕ) where
   splits : Splits a.place (nexts_in at) cpu (a.batch cpu) (control cpu).stage
   splits = stage_split a.place at (share_of a cpu) (control cpu).drain cpu (control cpu).stage (s.placed.batched cpu) (s.placed.batch_apart cpu) (s.stands cpu)
@@ -334,7 +326,7 @@ module _ {a : CallState} {at : Word → ℕ} {control : ℕ → ControlValue} (s
 
   pub in_running : (id : ℕ) (b : Bool) → b ≡ has_record id (running_of (control cpu).stage) →
       (b ≡ true → a.place id ≡ place.Running cpu) × (a.place id ≡ place.Running cpu → b ≡ true)
-  in_running id b f = search (stage_runs, place_of, has_record-true, true-has_record, there, arith)
+  in_running id b f = search (place_of, has_record-true, true-has_record, there, arith)
 
 -- a record is not in the queue or the batch of this CPU, and does not run on it
 pub record IsNotOn (cpu : ℕ) (p : RecPlace) : Type 0 where

@@ -2,7 +2,7 @@
 use Rattle.std.proofs.Common.{arith, ◌≡◌, ◌≢◌, ℕ, List, [], ◌∷◌, ◌++◌, sym, subst, refl, ap, ◌∙◌, append_assoc}
 use Rattle.std.proofs.lemmas.List.{append-nil}
 use Rattle.std.specs.List.{AllByRecursion}
-use Rattle.smp_call_steps.specs.{CallState, batches, rest_of, orders, running_call, if_sync, if_async, sync_calls, async_calls, if_class, of_class}
+use Rattle.smp_call_steps.specs.{CallState, batches, rest_of, orders, running_call, sync_calls, async_calls, of_class}
 use Rattle.smp_call_steps.specs.{KeepsClasses, AsyncsLast, IsPrefix, ControlValue, IsAsync, Call, Class, Sync, Async, Word}
 use Rattle.smp_call_steps.specs.Shows.{Shows}
 use Rattle.smp_call_steps.proofs.Basics.Alls.{every_right}
@@ -14,33 +14,21 @@ of_class-append class (x ∷ xs) ys = search (append_assoc, of_class-append clas
 
 -- of the SYNC calls of a list, all are of class SYNC, and none is ASYNC
 
-one_sync : (class : Class) (call : Call) → call.class ≡ class → of_class Sync (if_sync class call) ≡ if_class Sync class call
-one_sync x call e = search arith
-
-one_not_sync : (class : Class) (call : Call) → call.class ≡ class → of_class Sync (if_async class call) ≡ []
-one_not_sync x call e = search arith
-
-one_async : (class : Class) (call : Call) → call.class ≡ class → of_class Async (if_async class call) ≡ if_class Async class call
-one_async x call e = search arith
-
-one_not_async : (class : Class) (call : Call) → call.class ≡ class → of_class Async (if_sync class call) ≡ []
-one_not_async x call e = search arith
-
 sync_of : (calls : List Call) → of_class Sync (sync_calls calls) ≡ of_class Sync calls
 sync_of [] = refl
-sync_of (call ∷ rest) = search (of_class-append, one_sync, sync_of rest, arith)
+sync_of (call ∷ rest) = search (of_class-append, sync_of rest, arith)
 
 not_sync_of : (calls : List Call) → of_class Sync (async_calls calls) ≡ []
 not_sync_of [] = refl
-not_sync_of (call ∷ rest) = search (of_class-append, one_not_sync, not_sync_of rest, arith)
+not_sync_of (call ∷ rest) = search (of_class-append, not_sync_of rest, arith)
 
 async_of : (calls : List Call) → of_class Async (async_calls calls) ≡ of_class Async calls
 async_of [] = refl
-async_of (call ∷ rest) = search (of_class-append, one_async, async_of rest, arith)
+async_of (call ∷ rest) = search (of_class-append, async_of rest, arith)
 
 not_async_of : (calls : List Call) → of_class Async (sync_calls calls) ≡ []
 not_async_of [] = refl
-not_async_of (call ∷ rest) = search (of_class-append, one_not_async, not_async_of rest, arith)
+not_async_of (call ∷ rest) = search (of_class-append, not_async_of rest, arith)
 
 pub keeps_classes : (batch : List Call) → KeepsClasses batch
 keeps_classes batch Sync = search (of_class-append, not_sync_of, append-nil, sync_of, arith)

@@ -1,18 +1,15 @@
 -- What a CPU has counted of each source, with one call more.
-use Rattle.std.proofs.Common.{◌≡◌, ◌≢◌, ℕ, ◌+◌, ◌%◌, ◌^◌, Bool, ◌==◌, ◌&&◌, cond, if◌then◌else◌, Option, List, [], ◌∷◌, ◌++◌, length}
+use Rattle.std.proofs.Common.{◌≡◌, ◌≢◌, ℕ, ◌+◌, ◌%◌, ◌^◌, ◌==◌, ◌&&◌, cond, if◌then◌else◌, Option, List, [], ◌∷◌, ◌++◌, length}
 use Rattle.std.proofs.Common.{length-append, refl, arith}
 use Rattle.std.proofs.lemmas.Bool.{eq-eqb, ne_eqb}
 use Rattle.smp_words.specs.Size.{owner}
 use Rattle.smp_call_steps.specs.{Holding, Running, Sending, calls_from, counted_call, Tallied, Call}
 use Rattle.smp_words.proofs.Puts.{at_test}
 
-push_one : (b : Bool) (x : Call) (rest ys : List Call) → (if b then x ∷ (rest ++ ys) else rest ++ ys) ≡ (if b then x ∷ rest else rest) ++ ys
-push_one x y rest ys = search arith
-
 calls_from-push : (source : ℕ) (xs : List Call) (y : Call)
     → calls_from source (xs ++ y ∷ []) ≡ calls_from source xs ++ (if owner y.id == source then y ∷ [] else [])
 calls_from-push source [] y = refl
-calls_from-push source (x ∷ xs) y = search (push_one, calls_from-push source xs y, arith)
+calls_from-push source (x ∷ xs) y = search (calls_from-push source xs y, arith)
 
 -- one more of its own source
 pub count-same : (source : ℕ) (xs : List Call) (y : Call) → owner y.id ≡ source → length (calls_from source (xs ++ y ∷ [])) ≡ length (calls_from source xs) + 1

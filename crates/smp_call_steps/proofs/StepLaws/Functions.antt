@@ -2,11 +2,10 @@
 use Rattle.std.proofs.Common.{◌≡◌, ℕ, ◌+◌, Bool, false, cond, inl, inr, Option, Some, None, List, ◌∷◌, sym, subst, arith}
 use Rattle.std.proofs.lemmas.Bool.{lt-ltb}
 use Rattle.smp_words.specs.Flags.{flags_of}
-use Rattle.smp_words.specs.Put.{put}
 use Rattle.smp_words.specs.Size.{owner}
 use Rattle.smp_words.proofs.Puts.{put_same}
-use Rattle.smp_call_steps.specs.{CallState, Holding, Running, Nothing, confirms, appended, begins_sync, begins_async, unlocks, releases, links, flags_told}
-use Rattle.smp_call_steps.specs.{head_told, tells, runs_as, place_as, told_of, is_call, BeginsIt, FunctionGoes, ends, goes_to, ControlValue}
+use Rattle.smp_call_steps.specs.{CallState, Holding, Running, Nothing, confirms, begins_sync, begins_async, unlocks, releases, links, flags_told}
+use Rattle.smp_call_steps.specs.{head_told, tells, told_of, is_call, BeginsIt, FunctionGoes, ends, goes_to, ControlValue}
 use Rattle.smp_call_steps.specs.{seen_then, Call, Class, Sync, Async, Word, Note, CallOutcome, Posting, HandleStage, Stage}
 use Rattle.smp_call_steps.specs.{Handle}
 use Rattle.smp_call_steps.specs.Shows.{Shows}
@@ -29,26 +28,18 @@ module _ (a : CallState) (me : ℕ) where
   told_links : (n : ℕ) (h : Option Holding) → told_of (links a me (Some n) h) ≡ told_of a
   told_links n y = search arith
 
-  told_appended : (to : ℕ) (h : Option Holding) → told_of (appended a me to h) ≡ told_of a
-  told_appended to x = search arith
-
   told_exchange : (to n : ℕ) (b : Bool) → told_of (head_told a me to act.Cas (cond b (Some n) None)) ≡ told_of a
-  told_exchange to n y = search (told_appended, arith)
+  told_exchange to n y = search arith
 
   -- what tells some
 
-  begins : (b : CallState) (call : Call) (class : Class) → a.batch me ≡ call ∷ b.batch me → a.running me ≡ Nothing → call.class ≡ class →
-      told_of b ≡ record (told_of a) { running = put a.running me (runs_as class call) } → b.place call.id ≡ place_as class me →
-      BeginsIt a b me (Some (note.Call (owner call.id) call.func call.info))
-  begins b call class front idle is runs placed = search arith
-
   begins_sync_it : (call : Call) (rest : List Call) → a.batch me ≡ call ∷ rest → a.running me ≡ Nothing → call.class ≡ Sync →
       BeginsIt a (begins_sync a me (call ∷ rest)) me (Some (note.Call (owner call.id) call.func call.info))
-  begins_sync_it call rest front idle is = search (begins, put_same, arith)
+  begins_sync_it call rest front idle is = search (put_same, arith)
 
   begins_async_it : (call : Call) (rest : List Call) → a.batch me ≡ call ∷ rest → a.running me ≡ Nothing → call.class ≡ Async →
       BeginsIt a (begins_async a me (call ∷ rest)) me (Some (note.Call (owner call.id) call.func call.info))
-  begins_async_it call rest front idle is = search (begins, put_same, arith)
+  begins_async_it call rest front idle is = search (put_same, arith)
 
 -- what is said
 

@@ -2,10 +2,9 @@
 use Rattle.std.proofs.Common.{◌≡◌, ◌≢◌, ℕ, ◌+◌, ◌<◌, Bool, cond, inl, inr, Option, Some, None}
 use Rattle.std.proofs.Common.{List, [], ◌∷◌, sym, subst, refl, ap, ◌∙◌, arith}
 use Rattle.smp_words.specs.Access.{word_of, found_by, seen_of}
-use Rattle.smp_words.specs.Flags.{flags_of}
 use Rattle.smp_words.specs.Size.{cpus}
 use Rattle.smp_call_steps.specs.{CallState, Holding, Running, Nothing, runs_as, IsPlaced, HandlesNothing, IsAtRest}
-use Rattle.smp_call_steps.specs.{LeadsTo, MayLock, MayStoreFlags, MaySee, ControlValue, access_of, Rests, StandsAt, share_of, held_of, Reverses, Walks, Ends}
+use Rattle.smp_call_steps.specs.{LeadsTo, MaySee, ControlValue, access_of, Rests, StandsAt, share_of, held_of, Reverses, Walks, Ends}
 use Rattle.smp_call_steps.specs.{IsFound, FitsWords, MayMake, HandIs, Hand, Access, seen_then}
 use Rattle.smp_call_steps.specs.{nexts_in, Call, Class, Word}
 use Rattle.smp_call_steps.specs.{Posting, PostStage, Walk, HandleStage, Stage, Post, Handle, HandleStands, PostStands, held_of_post}
@@ -38,9 +37,6 @@ module _ (a : CallState) (at : Word → ℕ) (control : ℕ → ControlValue) (s
   at_rest : (stage : Stage) → (control me).stage ≡ Some stage → held_of (Some stage) ≡ None → Rests (share_of a me) → IsAtRest a me
   at_rest stage e none k = record { none = s.held me ∙ (ap held_of e ∙ none); rests = rests k }
 
-  lock : (c : Class) (id : ℕ) → MayLock a me id → MayStoreFlags a me id (flags_of c)
-  lock x id m = search arith
-
   wins : (b : Bool) (h : Holding) → LeadsTo (Some h) (cond b (Some (h.call.id + 1)) None)
   wins x h = search arith
 
@@ -48,7 +44,7 @@ module _ (a : CallState) (at : Word → ℕ) (control : ℕ → ControlValue) (s
 
   may_hold : (p : Posting) (stage : PostStage) → Rests (share_of a me) × PostStands a.place at me p stage → a.held me ≡ held_of_post p stage
       → Premise (Post p stage)
-  may_hold p x k held = search (rests, lock, arith)
+  may_hold p x k held = search (rests, arith)
 
   -- a record of what is left of the batch
   placed : (id : ℕ) (call : Call) → call.id ≡ id → IsPlaced a.place (place.Batch me) call → a.place id ≡ place.Batch me

@@ -1,5 +1,5 @@
 -- The function calls that steps say are those of the calls that begin.
-use Rattle.std.proofs.Common.{arith, ◌≡◌, ℕ, ◌==◌, Bool, false, cond, inl, inr, Option, List, [], ◌∷◌, ◌++◌, sym, refl, ap, ◌∙◌}
+use Rattle.std.proofs.Common.{arith, ◌≡◌, ℕ, ◌==◌, false, cond, inl, inr, Option, List, [], ◌∷◌, ◌++◌, sym, refl, ap, ◌∙◌}
 use Rattle.std.proofs.Common.{append_assoc}
 use Rattle.std.proofs.lemmas.List.{append-nil}
 use Rattle.smp_words.proofs.Puts.{at_test}
@@ -12,9 +12,6 @@ all_said-append (x ∷ xs) ys = ap (λ (s : List Said). all_said (x ∷ []) ++ s
 
 pub none_said : (said : Option Note) → is_call said ≡ false → call_in said ≡ []
 none_said x e = search arith
-
-said_nothing : (b : Bool) (said : Option Note) → is_call said ≡ false → cond b (call_in said) [] ≡ []
-said_nothing x said e = search (none_said, arith)
 
 -- while its function runs, and as it ends, a call is the one that runs
 runs_one : (class : Class) (call : Call) → running_call (runs_as class call) ≡ call ∷ []
@@ -29,7 +26,7 @@ module _ (a b : CallState) (me : ℕ) (said : Option Note) (cpu : ℕ) where
 
   -- a step that leaves what has begun as it was, and says nothing
   same_begun : begun_in (told_of b) cpu ≡ begun_in (told_of a) cpu → is_call said ≡ false → Says
-  same_begun e s = search (append-nil, said_nothing, arith)
+  same_begun e s = search (append-nil, arith)
 
   pub says_what_begins : FunctionGoes a b me said → Says
   says_what_begins (inl k) = same_begun (ap (λ (t : ToldCalls). begun_in t cpu) k.same) k.says

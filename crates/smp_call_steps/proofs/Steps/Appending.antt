@@ -1,7 +1,7 @@
 -- The compare-exchange that wins: the held call joins the queue.
 use Rattle.std.proofs.Common.{◌≡◌, ◌≢◌, ℕ, ◌+◌, ◌%◌, ◌^◌, Bool, true, cond, Option, None, List, [], ◌∷◌, ◌++◌, length, sym, refl, ap, ◌∙◌}
 use Rattle.std.proofs.Common.{◌⊎◌, inl, inr, arith, length-append}
-use Rattle.std.proofs.lemmas.Bool.{eq-eqb, ne_eqb, cases_eq}
+use Rattle.std.proofs.lemmas.Bool.{ne_eqb, cases_eq}
 use Rattle.smp_call_steps.proofs.Steps.Placings.{counted_hold, placed_appended}
 use Rattle.smp_call_steps.proofs.State.Recordings.{recorded_appended, sent_here, sent_else}
 use Rattle.smp_words.specs.Put.{put, put_word}
@@ -53,9 +53,6 @@ noticed_appended a n me to call cpu = elim (cases_eq cpu to) [
       (elim (n cpu) [ inl empty ↦ inl empty | inr m ↦ inr (noticed_else a (is_nil (a.queue to)) me to cpu m) ])
 ]
 
-one_held-here : (held : Option Holding) (call : Call) (to : ℕ) → held ≡ counted_hold call to → one_held held to ≡ 1
-one_held-here held call to e = rw (e, eq-eqb to to refl) refl
-
 one_held-else : (held : Option Holding) (call : Call) (to cpu : ℕ) → held ≡ counted_hold call to → cpu ≢ to → one_held held cpu ≡ 0
 one_held-else held call to cpu e ne = rw (e, ne_eqb to cpu (λ f. ne (sym f))) refl
 
@@ -63,7 +60,7 @@ one_held-else held call to cpu e ne = rw (e, ne_eqb to cpu (λ f. ne (sym f))) r
 tally_here : (n to : ℕ) (sent : List Sending) (call : Call) (first : Bool) (held : Option Holding) → held ≡ counted_hold call to →
     n ≡ (length (sent_to to sent) + one_held held to) % 2 ^ 64
     → n ≡ (length (sent_to to (sent ++ record { call = call; to = to; is_first = first } ∷ [])) + 0) % 2 ^ 64
-tally_here n to sent call first held e t = search (one_held-here, sent_here, length-append, arith)
+tally_here n to sent call first held e t = search (sent_here, length-append, arith)
 
 tally_else : (n to cpu : ℕ) (sent : List Sending) (call : Call) (first : Bool) (held : Option Holding) → held ≡ counted_hold call to → cpu ≢ to →
     n ≡ (length (sent_to cpu sent) + one_held held cpu) % 2 ^ 64

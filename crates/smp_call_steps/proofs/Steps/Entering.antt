@@ -23,10 +23,6 @@ zero_bit x e = search (one≢zero, arith)
 one_bit : (b : Bool) → bit b ≢ 0 → b ≡ true
 one_bit x ne = search arith
 
--- an interrupt is accepted where one was pending or accepted
-accepted_now : (pending accepted : Bool) → accepted ≡ true → (if pending then true else accepted) ≡ true
-accepted_now x accepted e = search arith
-
 module _ (a : CallState) (me : ℕ) where
   abbrev accepted' : ℕ → Bool
   accepted' = put a.accepted me (if a.pending me then true else a.accepted me)
@@ -34,7 +30,7 @@ module _ (a : CallState) (me : ℕ) where
   -- a CPU that was noticed is noticed still
   still_noticed : (cpu : ℕ) → IsNoticed a.pending a.accepted a.owes cpu → IsNoticed (put a.pending me false) accepted' a.owes cpu
   still_noticed cpu (is_pending e) = search (at_test, test_here, test_else, arith)
-  still_noticed cpu (is_accepted e) = search (at_test, accepted_now, arith)
+  still_noticed cpu (is_accepted e) = search (at_test, arith)
   still_noticed cpu (is_owed source e) = is_owed source e
 
   -- where each CPU with a queue was noticed, it is noticed after the swap of the own interrupt word
@@ -75,15 +71,12 @@ module _ {a : CallState} {at : Word → ℕ} {control : ℕ → ControlValue} (m
     noticed = noticed_then a me s.noticed.noticed;
   }
 
-  accepted_after : accepted' a me me ≡ (if a.pending me then true else a.accepted me)
-  accepted_after = test_here me (if a.pending me then true else a.accepted me) (a.accepted me)
-
   -- where it goes, by whether an interrupt was pending
   accept_stands : (b : Bool) → (b ≡ true → a.pending me ≡ false) → (b ≡ false → a.pending me ≡ true)
       → HandleStands (nexts_in at) (share_of a me) (control me).drain handle.Accept → me < cpus →
       CallStands a.place at (share_of (accepts a me) me) me
       (record { stage = (if b then handle_goes handle.LeaveIdle else handle_goes handle.Take).next; drain = (control me).drain })
-  accept_stands x none some was range = search (accepted_after, arith)
+  accept_stands x none some was range = search arith
 
   accept_hand : (b : Bool) → hands_in at me ≢ 0 → HandIs (if b then handle_goes handle.LeaveIdle else handle_goes handle.Take).next (hands_in at me)
   accept_hand x ne = search arith

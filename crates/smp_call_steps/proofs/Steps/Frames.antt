@@ -3,7 +3,7 @@ use Rattle.std.proofs.Common.{arith, ◌≡◌, ◌≢◌, ℕ, ◌+◌, Option,
 use Rattle.std.specs.List.{AllByRecursion}
 use Rattle.smp_words.specs.Size.{owner}
 use Rattle.smp_call_steps.specs.{DrainValue, link_to, async_calls, Running, Nothing, SyncCall, CountedCall, AsyncCall, ControlValue, IsPlaced, AllPlaced}
-use Rattle.smp_call_steps.specs.{Leads, nexts_in, IsWrittenIn, Share, StandsAt, HandleStands, Reverses, Walks, Ends, PostKnows, Call, Word, Flags}
+use Rattle.smp_call_steps.specs.{Leads, nexts_in, Share, StandsAt, HandleStands, Reverses, Walks, Ends, PostKnows, Call, Word, Flags}
 use Rattle.smp_call_steps.specs.{Func, Info, Next, RecPlace, Posting, PostStage, Walk, HandleStage, Stage}
 use Rattle.smp_call_steps.specs.Stands.{CallStands}
 use Rattle.smp_call_steps.proofs.Basics.Alls.{every_left, every_right}
@@ -57,17 +57,8 @@ Leads-kept nexts nexts' P same link [] below h l = l
 Leads-kept nexts nexts' P same link (call ∷ rest) below h l = (same call h.0 ∙ l.0, Leads-kept nexts nexts' P same link rest (call.id + 1) h.1 l.1)
 
 module _ {cpu : ℕ} {places places' : ℕ → RecPlace} {at at' : Word → ℕ} (l : LeavesTo cpu places places' at at') where
-  written : (call : Call) → Minds cpu call.id (places call.id) → IsWrittenIn at call → IsWrittenIn at' call
-  written call m w = record { flags_are = l.flags call.id m ∙ w.flags_are; func_is = l.func call.id m ∙ w.func_is; info_is = l.info call.id m ∙ w.info_is }
-
-  own_held : (id : ℕ) → owner id ≡ cpu → places id ≡ place.Held → Minds cpu id (places id)
-  own_held id o e = rw e o
-
-  own_free : (id : ℕ) → owner id ≡ cpu → places id ≡ place.Free → Minds cpu id (places id)
-  own_free id o e = rw e o
-
   PostKnows-kept : (p : Posting) (stage : PostStage) → owner p.id ≡ cpu → PostKnows places at p stage → PostKnows places' at' p stage
-  PostKnows-kept p x o k = search (own_free, own_held, written, arith)
+  PostKnows-kept p x o k = search arith
 
   same_next : (call : Call) → IsPlaced places (place.Batch cpu) call → at' (Next call.id) ≡ at (Next call.id)
   same_next call q = l.next call.id (rw q.placed refl)

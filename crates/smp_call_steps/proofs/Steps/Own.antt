@@ -11,7 +11,7 @@ use Rattle.smp_call_steps.specs.Stands.{CallStands}
 use Rattle.smp_call_steps.specs.Shows.{Shows}
 use Rattle.smp_words.proofs.Puts.{at_test, put_all}
 use Rattle.smp_call_steps.proofs.Steps.Frames.{Touches, Minds, Leads-kept, leaves_others, CallStands-kept}
-use Rattle.smp_call_steps.proofs.Steps.Placings.{IsHome, OwnMove, away_queue, away_batch, away_running, else_home, placed_own}
+use Rattle.smp_call_steps.proofs.Steps.Placings.{IsHome, OwnMove, away_queue, away_batch, away_running, placed_own}
 use Rattle.smp_call_steps.specs.place
 
 -- the record of a post that holds it
@@ -60,13 +60,10 @@ pub record OwnStep (a : CallState) (at at' : Word → ℕ) (control : ℕ → Co
 module _ (a : CallState) (at at' : Word → ℕ) (control : ℕ → ControlValue) (me id : ℕ) (next : ControlValue) (places' : ℕ → RecPlace)
     (held' : ℕ → Option Holding) (linked' : ℕ → Option ℕ)
     (s : Shows a at control) (o : OwnStep a at at' control me id next places' held' linked') where
-  elsewhere : (u : ℕ) (p : RecPlace) → a.place u ≡ p → (IsHome p → ⊥) → u ≢ id
-  elsewhere u p e away = else_home a.place id o.before u p e away
-
   written_else : (p : RecPlace) → (IsHome p → ⊥) → (calls : List Call) → AllPlaced a.place p calls → AllByRecursion (IsWrittenIn at) calls
       → AllByRecursion (IsWrittenIn at') calls
   written_else p away [] q w = tt
-  written_else p away (call ∷ rest) q w = search (elsewhere, written_else p away rest q.1 w.1, arith)
+  written_else p away (call ∷ rest) q w = search (written_else p away rest q.1 w.1, arith)
 
   move : OwnMove a me id places' held'
   move = record {
@@ -82,7 +79,7 @@ module _ (a : CallState) (at at' : Word → ℕ) (control : ℕ → ControlValue
   written' = search (cases_eq, written_else, away_queue, away_batch, away_running, arith)
 
   chained' : Chained (heads_in at') (nexts_in at') a.queue
-  chained' = search (Leads-kept, elsewhere, away_queue, arith)
+  chained' = search (Leads-kept, away_queue, arith)
 
   links' : Linked (nexts_in at') held' linked'
   links' = search (cases_eq, LinkIs-kept, holder_owns, arith)

@@ -1,6 +1,6 @@
 -- The place law after each kind of step, whatever words there are: a record is confirmed, a source locks, fills or gives up its own, a
 -- call joins a queue, begins, is counted or ends.
-use Rattle.std.proofs.Common.{◌≡◌, ◌≢◌, ℕ, true, false, cond, Option, Some, None, List, [], ◌∷◌, ◌++◌, ◌⊎◌, inl, inr, sym, subst, refl, ap, ◌∙◌, arith}
+use Rattle.std.proofs.Common.{◌≡◌, ◌≢◌, ℕ, true, false, cond, Option, Some, None, List, [], ◌∷◌, ◌++◌, ◌⊎◌, inl, sym, subst, refl, ap, ◌∙◌, arith}
 use Rattle.std.proofs.Common.{true≢false}
 use Rattle.std.proofs.lemmas.Bool.{cases_eq}
 use Rattle.std.specs.List.{AllByRecursion}
@@ -56,15 +56,6 @@ IsApart-push (call ∷ rest) new h a = (every_push (λ c. c.id ≢ call.id) rest
 has_rest : (u : ℕ) (call : Call) (rest : List Call) → u ≢ call.id → HasRecord u (call ∷ rest) → HasRecord u rest
 has_rest u call rest ne y = search arith
 
-has_one : (u : ℕ) (call : Call) → u ≢ call.id → HasRecord u (call ∷ []) → ⊥
-has_one u call ne y = search arith
-
--- where a record is said to be, with the same records locked by running calls
-there_running : (held : ℕ → Option Holding) (queue batch : ℕ → List Call) (running running' : ℕ → Running)
-    → ((cpu : ℕ) → locked_by (running' cpu) ≡ locked_by (running cpu)) → (id : ℕ) (p : RecPlace) →
-    IsThere held queue batch running id p → IsThere held queue batch running' id p
-there_running held queue batch running running' same id x h = search arith
-
 module _ (a : CallState) (p : Placed a.place a.held a.queue a.batch a.running a.confirmed) (me : ℕ) where
   -- a record that is free is confirmed
   pub placed_confirmed : (id : ℕ) → a.place id ≡ place.Free
@@ -73,20 +64,8 @@ module _ (a : CallState) (p : Placed a.place a.held a.queue a.batch a.running a.
 
   -- a source moves its own record
   module _ (id : ℕ) (places' : ℕ → RecPlace) (held' : ℕ → Option Holding) (o : OwnMove a me id places' held') where
-    gone : (u : ℕ) (q : RecPlace) → a.place u ≡ q → (IsHome q → ⊥) → u ≢ id
-    gone u q e away = else_home a.place id o.before u q e away
-
-    holds_else : (source u : ℕ) → u ≢ id → Holds (a.held source) u → Holds (held' source) u
-    holds_else source u ne h = search (cases_eq, arith)
-
-    there_else : (u : ℕ) (q : RecPlace) → u ≢ id → IsThere a.held a.queue a.batch a.running u q → IsThere held' a.queue a.batch a.running u q
-    there_else u y ne h = search (holds_else, arith)
-
-    there_id : IsThere held' a.queue a.batch a.running id (places' id)
-    there_id = elim o.after [ inl e ↦ rw e tt | inr e ↦ rw (e.0, o.owned) e.1 ]
-
     pub placed_own : Placed places' held' a.queue a.batch a.running a.confirmed
-    placed_own = search (away_queue, away_batch, away_running, cases_eq, there_id, there_else, holds_else, every, gone, arith)
+    placed_own = search (away_queue, away_batch, away_running, cases_eq, every, arith)
 
   -- the held call joins a queue
   module _ (to : ℕ) (call : Call) (own : owner call.id ≡ me) (holds : a.held me ≡ counted_hold call to) (is_call : IsCall call)
@@ -169,7 +148,7 @@ module _ (a : CallState) (p : Placed a.place a.held a.queue a.batch a.running a.
 
   -- a call is counted, or an ASYNC call ends: the same records are locked
   pub placed_counted : (r : Running) → locked_by r ≡ locked_by (a.running me) → Placed a.place a.held a.queue a.batch (put a.running me r) a.confirmed
-  placed_counted r locked = search (there_running, at_test, arith)
+  placed_counted r locked = search (at_test, arith)
 
   -- a SYNC call that is counted ends, and its record is free
   module _ (call : Call) (running : a.running me ≡ CountedCall call) where
@@ -180,4 +159,4 @@ module _ (a : CallState) (p : Placed a.place a.held a.queue a.batch a.running a.
     running_here = running_placed.0.placed
 
     pub placed_ended : Placed (put a.place call.id place.Free) a.held a.queue a.batch (put a.running me Nothing) a.confirmed
-    placed_ended = search (placed_moved, running_here, all_placed_still, at_test, has_one, arith)
+    placed_ended = search (placed_moved, running_here, all_placed_still, at_test, arith)

@@ -3,13 +3,13 @@ use Rattle.std.proofs.Common.{arith, ◌≡◌, ◌≢◌, ℕ, ◌⊎◌, inl, 
 use Rattle.std.proofs.lemmas.List.{append-nil}
 use Rattle.smp_words.specs.Put.{put, put_word}
 use Rattle.smp_call_steps.specs.{order, CallState, place_taken, takes, no_drain, record_at, reverse_on, ControlValue, IsApart, IsPlaced}
-use Rattle.smp_call_steps.specs.{IsThere, Placed, Leads, FlagsShow, Chained, last_batch, IsEmpty, IsNoticed, is_pending, is_accepted, is_owed, Noticed}
+use Rattle.smp_call_steps.specs.{IsThere, Placed, Leads, Chained, last_batch, IsEmpty, IsNoticed, is_pending, is_accepted, is_owed, Noticed}
 use Rattle.smp_call_steps.specs.{nexts_in, heads_in, intrs_in, WrittenIn}
 use Rattle.smp_call_steps.specs.{Share, share_of, Call, Word, Head, Hand, RecPlace, Handle}
 use Rattle.smp_call_steps.specs.Shows.{Shows}
 use Rattle.smp_words.proofs.Puts.{at_test, test_here, test_else}
 use Rattle.smp_call_steps.proofs.Basics.Alls.{every}
-use Rattle.smp_call_steps.proofs.Steps.Frames.{Minds, LeavesTo}
+use Rattle.smp_call_steps.proofs.Steps.Frames.{LeavesTo}
 use Rattle.smp_call_steps.proofs.State.Batches.{every_order, has_order, apart_order}
 use Rattle.smp_call_steps.proofs.State.Recordings.{recorded_taken}
 use Rattle.smp_call_steps.proofs.Steps.Turns.{holds_nothing, stands_at, hand_at, held_after, stands_after, hands_after}
@@ -25,12 +25,6 @@ taken_here me = test_here me (place.Batch me) (place.Queued me)
 
 taken_else : (me cpu : ℕ) → cpu ≢ me → place_taken me (place.Queued cpu) ≡ place.Queued cpu
 taken_else me cpu ne = test_else cpu me (place.Batch me) (place.Queued cpu) ne
-
-taken_minded : (me cpu id : ℕ) (p : RecPlace) → Minds cpu id p → place_taken me p ≡ p
-taken_minded me cpu id x m = search arith
-
-FlagsShow-taken : (me flags : ℕ) (p : RecPlace) → FlagsShow p flags → FlagsShow (place_taken me p) flags
-FlagsShow-taken me flags x f = search (at_test, arith)
 
 pub last_batch-push : (batches : List (List Call)) (batch : List Call) → last_batch (batches ++ batch ∷ []) ≡ batch
 last_batch-push [] batch = refl
@@ -70,7 +64,7 @@ module _ (a : CallState) (me : ℕ) where
 
 module _ (a : CallState) (at : Word → ℕ) (me : ℕ) where
   written_taken : WrittenIn at a.place a.queue a.batch a.running → WrittenIn at (place' a me) (queue' a me) (batch' a me) a.running
-  written_taken w = search (FlagsShow-taken, at_test, every_order, arith)
+  written_taken w = search (at_test, every_order, arith)
 
   chained_taken : Chained (heads_in at) (nexts_in at) a.queue → Chained (put (heads_in at) me 0) (nexts_in at) (queue' a me)
   chained_taken c = search (at_test, arith)
@@ -82,7 +76,7 @@ module _ (a : CallState) (at : Word → ℕ) (me : ℕ) where
 module _ {a : CallState} {at : Word → ℕ} {control : ℕ → ControlValue} (me : ℕ) (s : Shows a at control) where
   -- nobody minds a queued record
   leaves_taken : (cpu : ℕ) → LeavesTo cpu a.place (place' a me) at (put_word at (Head me) 0)
-  leaves_taken cpu = search (taken_minded, arith)
+  leaves_taken cpu = search arith
 
   pub take_step : (control me).stage ≡ Some (Handle handle.Take) → StepShows a at control me (Handle handle.Take)
   take_step e =

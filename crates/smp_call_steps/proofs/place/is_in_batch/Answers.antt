@@ -53,20 +53,11 @@ returns-else-is_on_chain-clause-calls c calls shown =
     let up = c.is_on_chain-else-is_on_chain.ensures ∙ ap (λ (link : ℕ). is_on (nexts_in at) link c.args.id) c.up.ensures in
     in_batch shown c.args.cpu x here c.args.id _ (sym c.is_between.ensures ∙ c.if-is_between.false) (or_second _ _ _ (sym down ∙ c.if-is_on_chain.false) up)
 
-is_first : (x y z : Bool) → x ≡ true → true ≡ (x || (y || z))
-is_first x y z e = rw e
-
-is_second : (x y z b : Bool) → x ≡ false → b ≡ y → b ≡ true → b ≡ (x || (y || z))
-is_second x y z b f e t = search arith
-
-is_third : (x y z b : Bool) → x ≡ false → y ≡ false → b ≡ z → b ≡ (x || (y || z))
-is_third x y z b f g e = rw f (rw g e)
-
 pub returns-then-is_between-clause-told : goal.returns-then-is_between-clause-told
-returns-then-is_between-clause-told c = search (get_or_read, is_first, arith)
+returns-then-is_between-clause-told c = search (get_or_read, arith)
 
 pub returns-then-is_on_chain-clause-told : goal.returns-then-is_on_chain-clause-told
-returns-then-is_on_chain-clause-told c = search (get_or_read, is_second, arith)
+returns-then-is_on_chain-clause-told c = search (get_or_read, arith)
 
 pub returns-else-is_on_chain-clause-told : goal.returns-else-is_on_chain-clause-told
-returns-else-is_on_chain-clause-told c = search (get_or_read, is_third, arith)
+returns-else-is_on_chain-clause-told c = search (get_or_read, arith)
