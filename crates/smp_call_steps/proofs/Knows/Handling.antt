@@ -3,13 +3,13 @@ use Rattle.std.proofs.Common.{◌≡◌, ℕ, ◌%◌, ◌<◌, Option, Some, No
 use Rattle.std.proofs.lemmas.Bool.{eq-eqb}
 use Rattle.smp_words.specs.Size.{cpus, records}
 use Rattle.smp_words.specs.Access.{word_of}
-use Rattle.smp_call_steps.specs.{CountedCall, DrainValue, no_drain, record_at, first_on, IsPlaced, AllPlaced}
+use Rattle.smp_call_steps.specs.{CountedCall, DrainValue, first_on, IsPlaced, AllPlaced}
 use Rattle.smp_call_steps.specs.{nexts_in, last_batch, access_of, FitsStage, Share, share_of}
 use Rattle.smp_call_steps.specs.{HandleStands, held_of, CallPart}
 use Rattle.smp_call_steps.specs.{part_after, told_stage, told_handle, known_told, known_taking, stage_after}
 use Rattle.smp_call_steps.specs.{drain_then, tried_after, heads_after, log_after, steps_after, sent_after, asked_then, MayStep, known_access}
 use Rattle.smp_call_steps.specs.{Lives, handling, goes_known}
-use Rattle.smp_call_steps.specs.{taken_known, left_known, ended_call, Call, Word, Head, Hand, Flags, Func, Info, Next, Access, Act, Walk}
+use Rattle.smp_call_steps.specs.{ended_call, Call, Word, Hand, Flags, Func, Info, Next, Access, Act, Walk}
 use Rattle.smp_call_steps.specs.{HandleStage, Stage, Handle}
 use Rattle.smp_words.proofs.Links.{HasIndex}
 use Rattle.smp_call_steps.proofs.Machine.Accesses.{access_in_table}
@@ -104,15 +104,6 @@ told_at queue v s act w found put e = search arith
 
 pub entered_is : (v : KnownCalls) (cpu : ℕ) → v.stage ≡ None → known_told v act.Store (Hand cpu) None (Some 1) ≡ handling handle.Accept v.drain v
 entered_is v cpu e = told_at [] v None act.Store (Hand cpu) None (Some 1) e
-
-pub taken_is : (queue : List Call) (v : KnownCalls) (cpu n : ℕ) → v.stage ≡ Some (Handle handle.Take)
-    → known_taking queue v act.Swap (Head cpu) (Some n) (Some 0) ≡ taken_known queue (record_at n) v
-taken_is queue v cpu n e = told_at queue v (Some (Handle handle.Take)) act.Swap (Head cpu) (Some n) (Some 0) e
-
-pub left_is : (v : KnownCalls) (cpu : ℕ) (h : HandleStage) → (stage_after (Some (Handle h)) v.drain act.Store (Hand cpu) None (Some 0) ≡ None)
-    → v.stage ≡ Some (Handle h) → (drain_then (Some (Handle h)) v.drain None ≡ no_drain) →
-    known_told v act.Store (Hand cpu) None (Some 0) ≡ left_known v
-left_is v cpu h out e d = told_at [] v (Some (Handle h)) act.Store (Hand cpu) None (Some 0) e ∙ (λ i. record v { stage = out i; drain = d i })
 
 -- steps that tell nothing
 

@@ -1,5 +1,5 @@
 -- The links of a batch, by where its CPU is.
-use Rattle.std.proofs.Common.{arith, ◌≡◌, ◌≢◌, ℕ, ◌+◌, Bool, true, false, ◌&&◌, not, Option, Some, None, List, [], ◌∷◌, ◌++◌, inl, inr, sym, subst, refl, ap}
+use Rattle.std.proofs.Common.{arith, ◌≡◌, ◌≢◌, ℕ, ◌+◌, Bool, true, false, Option, Some, None, List, [], ◌∷◌, ◌++◌, inl, inr, sym, subst, refl, ap}
 use Rattle.std.proofs.Common.{◌∙◌, append_assoc}
 use Rattle.std.proofs.lemmas.Bool.{eq-eqb, ne_eqb}
 use Rattle.std.proofs.lemmas.List.{append-nil}
@@ -57,9 +57,6 @@ absent_back xs (y ∷ ys) h = (
 
 not_in_hand : (hand : Option ℕ) (front : List Call) → IsBetween hand front → (id : ℕ) → IsAbsent id front → is_this id hand ≡ false
 not_in_hand x front b id absent = search (ne_eqb, arith)
-
-linked_out : (b : Bool) → (b && not true) ≡ false
-linked_out x = search arith
 
 is_linked-gone : (left : List Call) (hand : Option ℕ) (call : Call) → IsAbsent call.id left → is_linked left hand call ≡ false
 is_linked-gone left hand call absent = rw (absent-has_record call.id left absent) refl

@@ -1,11 +1,11 @@
 -- What each step queues, and that its note says what holds.
-use Rattle.std.proofs.Common.{arith, ◌≡◌, ℕ, ◌+◌, ◌%◌, ◌==◌, Bool, true, false, cond, Option, Some, None}
+use Rattle.std.proofs.Common.{arith, ◌≡◌, ℕ, ◌+◌, ◌==◌, Bool, true, false, cond, Option, Some, None}
 use Rattle.std.proofs.Common.{eqb-true}
 use Rattle.smp_words.specs.Flags.{flags_of}
 use Rattle.smp_words.proofs.Puts.{put_same, test_here}
 use Rattle.smp_call_steps.specs.{CallState, Holding, Running, confirms, begins_sync, counts, releases, links}
 use Rattle.smp_call_steps.specs.{flags_told, head_told, tells, is_queued, QueueGoes, SaidMeans, ends, goes_to, ControlValue, holding}
-use Rattle.smp_call_steps.specs.{seen_then, FlagsShow, Class, Word, Head, RecPlace, CallOutcome}
+use Rattle.smp_call_steps.specs.{seen_then, Class, Word, Head, CallOutcome}
 use Rattle.smp_call_steps.specs.{Posting, HandleStage}
 use Rattle.smp_call_steps.specs.{Stage, Handle}
 use Rattle.smp_call_steps.specs.Shows.{Shows}
@@ -14,7 +14,6 @@ use Rattle.smp_call_steps.proofs.StepLaws.Premises.{rests}
 use Rattle.smp_call_steps.proofs.Steps.Turns.{stands_at}
 use Rattle.smp_call_steps.specs.act
 use Rattle.smp_call_steps.specs.note
-use Rattle.smp_call_steps.specs.place
 use Rattle.smp_call_steps.specs.post
 
 -- what queues nothing
@@ -69,10 +68,6 @@ module _ (a : CallState) (at : Word → ℕ) (control : ℕ → ControlValue) (s
 
   abbrev Means : Stage → Type 0
   Means stage = let seen = seen_then at (control me).drain me stage in SaidMeans a (tells a seen) me seen.word seen.note
-
-  -- flags that are even are of a free record
-  free_if : (p : RecPlace) (flags : ℕ) → FlagsShow p flags → (flags % 2 == 1) ≡ false → p ≡ place.Free
-  free_if x flags f e = search arith
 
   pub says_so : (stage : Stage) → (control me).stage ≡ Some stage → Means stage
   says_so x e = search (put_same, test_here, stands_at, rests, arith)

@@ -10,9 +10,6 @@ all_said-append : (xs ys : List Call) → all_said (xs ++ ys) ≡ all_said xs ++
 all_said-append [] ys = refl
 all_said-append (x ∷ xs) ys = ap (λ (s : List Said). all_said (x ∷ []) ++ s) (all_said-append xs ys)
 
-pub none_said : (said : Option Note) → is_call said ≡ false → call_in said ≡ []
-none_said x e = search arith
-
 -- while its function runs, and as it ends, a call is the one that runs
 runs_one : (class : Class) (call : Call) → running_call (runs_as class call) ≡ call ∷ []
 runs_one x call = search arith

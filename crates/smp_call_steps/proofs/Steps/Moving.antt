@@ -31,9 +31,6 @@ Queued≢Running x y e = cc
 pub Batch≢Free : (x : ℕ) → place.Batch x ≢ place.Free
 Batch≢Free x e = cc
 
-pub Running≢Free : (x : ℕ) → place.Running x ≢ place.Free
-Running≢Free x e = cc
-
 -- at two places, so not one record
 pub else_by_place : (places : ℕ → RecPlace) (u id : ℕ) (p q : RecPlace) → places u ≡ p → places id ≡ q → p ≢ q → u ≢ id
 else_by_place places u id p q there here ne e = ne (sym there ∙ (ap places e ∙ here))

@@ -28,10 +28,6 @@ away_batch cpu x = search arith
 pub away_running : (cpu : ℕ) → IsHome (place.Running cpu) → ⊥
 away_running cpu x = search arith
 
--- a record at a place that is no home is another one
-pub else_home : (places : ℕ → RecPlace) (id : ℕ) → IsHome (places id) → (u : ℕ) (q : RecPlace) → places u ≡ q → (IsHome q → ⊥) → u ≢ id
-else_home places id before u q e away f = away (subst IsHome (sym (ap places f) ∙ e) before)
-
 -- a source moves its own record, which is free or held by it, between these two places
 pub record OwnMove (a : CallState) (me id : ℕ) (places' : ℕ → RecPlace) (held' : ℕ → Option Holding) : Type 0 where
   pub place_stays : (u : ℕ) → u ≢ id → places' u ≡ a.place u
