@@ -5,7 +5,7 @@ use Rattle.std.proofs.lemmas.List.Sorted.{IsPermutation-refl, IsPermutation-sym,
 use Rattle.std.proofs.lemmas.List.Sorted.{IsPermutation-append, IsPermutation-middle}
 use Rattle.smp_call_steps.specs.{CallState, ControlValue, Call, Class, Word, RecPlace, IsThere, FlagsShow, flags_in, batches, orders, calls_from}
 use Rattle.smp_call_steps.specs.{calls_to, if_sync, if_async, sync_calls, async_calls, order, of_class, IsPrefix}
-use Rattle.smp_call_steps.specs.{running_call, history_of, Recorded, share_of, hands_in}
+use Rattle.smp_call_steps.specs.{running_call, history_of, Recorded}
 use Rattle.smp_call_steps.specs.Headline.{IsAt, HasOnePlace, InOnePlace, begun, waiting, joined, RunOnce, RunInOrder, IsDrained, RunEqualQueued}
 use Rattle.smp_call_steps.specs.Shows.{Shows}
 use Rattle.smp_call_steps.proofs.Promises.{from_class, from-append, only_there, unmarked, unmarked_sent, unmarked_from, unmarked_history, unmarked_batches}
@@ -25,15 +25,7 @@ locked_flags x flags h ne = search arith
 
 -- calls that words and stages show have these laws
 pub shown_laws : {a : CallState} {at : Word → ℕ} {control : ℕ → ControlValue} → Shows a at control → HasLaws a at
-shown_laws {a} {at} {control} s = record {
-  placed = s.placed;
-  recorded = s.recorded;
-  owns = holder_owns s;
-  home = held_place s;
-  locks = s.written.locks;
-  tallied = s.tallied;
-  idle = λ cpu z. rests_at a.place at (share_of a cpu) (control cpu).drain cpu (hands_in at cpu) (control cpu).stage z (s.hands cpu) (s.stands cpu);
-}
+shown_laws {a} {at} {control} s = search (holder_owns, held_place, rests_at, arith)
 
 module _ {a : CallState} {at : Word → ℕ} (s : HasLaws a at) where
   here : (id : ℕ) (p : RecPlace) → FlagsShow p (flags_in at id) → IsThere a.held a.queue a.batch a.running id p → IsAt a (flags_in at) id p

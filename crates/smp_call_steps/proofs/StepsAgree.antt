@@ -142,8 +142,7 @@ module _ (a : CallState) (at : Word → ℕ) (me : ℕ) (k : KeepsLaws a) (g : A
 
   agrees_releases : (id : ℕ) → MayUnlock a me id → AgreesWith (releases a me id (a.held me)) (put_word at (Flags id) 0)
   agrees_releases id (inl m) = agrees_given_up id (a.held me) refl m.0
-  agrees_releases id (inr (inl m)) = agrees_unlocks id (CountedCall m.1.0) _ m.0 m.1.2
-      (unlocked_word _ id m.1.0 m.1.1 (agrees_ended m.1.0 m.1.2))
+  agrees_releases id (inr (inl m)) = search (agrees_unlocks, unlocked_word, agrees_ended, arith)
   agrees_releases id (inr (inr m)) = let n = m.1.2 in agrees_unlocks id Nothing _ m.0 n.idle (unlocked_word _ id m.1.0 m.1.1 (agrees_async m.1.0 n))
 
   agrees_flags : (id n : ℕ) → MayStoreFlags a me id n → AgreesWith (flags_told a me id act.Store None (Some n)) (put_word at (Flags id) n)

@@ -1,5 +1,5 @@
 -- Calls that are reached: nothing called, and what one step more leads to.
-use Rattle.std.proofs.Common.{◌≡◌, ℕ, ◌<◌, List, [], ◌∷◌, ◌++◌, subst, refl, ap, arith}
+use Rattle.std.proofs.Common.{◌≡◌, ℕ, ◌<◌, List, [], ◌∷◌, ◌++◌, refl, arith}
 use Rattle.smp_words.specs.Size.{cpus}
 use Rattle.smp_words.proofs.Sizes.{owner-below}
 use Rattle.smp_call_steps.specs.{CallState, Word, Seen, Stage, MayStep, no_calls, tells}
@@ -12,8 +12,7 @@ steps_in_range v y may = search (owner-below, arith)
 
 lead_more : (a : CallState) (at : Word → ℕ) (steps : List Seen) (b : CallState) (to : Word → ℕ) (seen : Seen) → Lead a at steps b to → IsAllowed b to seen
     → Lead a at (steps ++ seen ∷ []) (tells b seen) (words_told to seen)
-lead_more a at [] b to seen l m =
-    (subst (λ c. IsAllowed c at seen) l.0 (subst (λ w. IsAllowed b w seen) l.1 m), (ap (λ c. tells c seen) l.0, ap (λ w. words_told w seen) l.1))
+lead_more a at [] b to seen l m = search arith
 lead_more a at (x ∷ steps) b to seen l m = (l.0, lead_more (tells a x) (words_told at x) steps b to seen l.1 m)
 
 pub reach_more : (a : CallState) (at : Word → ℕ) (seen : Seen) → IsAllowed a at seen → IsReached a at → IsReached (tells a seen) (words_told at seen)
