@@ -52,11 +52,7 @@ module _ {H : Type 0} (leads : H → Heard → H → Type 0) where
       → destinations queued ≡ only_if asked cpu → Queues leads mid m new after (many_call mid.number class func info) queued
       → cpu < NR_CPUS → c < NR_CPUS → (c ≡ cpu → ⊥) → confirmed_at new (many_record c) ≡ confirmed_at mid (many_record c)
   others_kept {mid} class func info cpu c asked queued to q below l other =
-      let k = many_record c in
-      let of = λ (x : ℕ). record_of mid.number (many_record x) in
-      q.leaves.confirmed_are k (small_many c l) ∙ ap (λ u. cond u false (confirmed_at mid k))
-      (ap (λ (xs : List ℕ). is_by of (record_of mid.number k) xs) to ∙ last_none of (record_of mid.number k) cpu asked (λ _ e. other
-      (are_apart.many c cpu (one_local mid.number k (many_record cpu) (small_many c l) (small_many cpu below) e))))
+      search (q.leaves.confirmed_are, last_none, are_apart.many, one_local, small_many, arith)
 
   -- one more was asked for, and called if so
   pub quiet_more : {old mid new : CpuValue} {before m after : H} (class : Class) (func info others left next cpu : ℕ) (asked : Bool)

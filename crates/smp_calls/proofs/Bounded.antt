@@ -171,8 +171,6 @@ module _ {H : Type 0} (leads : H → Heard → H → Type 0) where
           | inr n ↦ absurd (differ (has free c) (b.among c (sym (either c ∙ ap (λ x. x || has late c) n) ∙ s)) out)
         ];
         ended = λ c f s.
-            let low_c = low c (free_other c f) in
-            let idle = free_idle c f in
-            let quick : has late c ≡ false = sym (either c ∙ ap (λ x. x || has late c) idle) ∙ s in
-            answered old new func info queued free c whole.number_is whole.sent_is q.1 low_c f (b.confirmed_are c f ∙ ap not quick) shown;
+            let quick : has late c ≡ false = sym (either c ∙ ap (λ x. x || has late c) (free_idle c f)) ∙ s in
+            answered old new func info queued free c whole.number_is whole.sent_is q.1 (low c (free_other c f)) f (b.confirmed_are c f ∙ ap not quick) shown;
       }

@@ -61,11 +61,8 @@ done_one : (k to : ℕ) (class : Class) (func info : ℕ) (first : Bool) (found 
     → Done c d
 done_one k to class func info true found c d e =
     let posted = posts k to class func info true found c in
-    record {
-      more = makes_then c posted d 5 0 (makes_posted k to class func info true found c posted refl) (makes_sent to posted d e);
-      steps_are = ap (λ (x : CpuValue). x.steps) e ∙ sym (ap (λ (x : CpuValue). x.sent_at) e);
-      asked_are = ap (λ (x : CpuValue). length x.part.asked) e ∙ sym (ap (λ (x : CpuValue). x.asked_at) e);
-    }
+    let more = makes_then c posted d 5 0 (makes_posted k to class func info true found c posted refl) (makes_sent to posted d e) in
+    search (more, arith)
 done_one k to class func info false found c d e = search (makes_posted k to class func info false found c d e, arith)
 
 module _ {H : Type 0} (leads : H → Heard → H → Type 0) where

@@ -80,12 +80,9 @@ without_one m n c xs ys e gone =
     let split : times c (members m) ≡ times c xs + (cond (c == c) 1 0 + times c ys) = ap (times c) e ∙ times-append c xs (c ∷ ys) in
     let before : times c xs ≡ 0 = omega arith in
     let after : times c ys ≡ 0 = omega arith in
-    sym (filter_members m n (λ x. not (x == c)) NR_CPUS gone) ∙
-    (ap (filter (λ x. not (x == c))) e ∙
-    (filter-append (λ x. not (x == c)) xs (c ∷ ys) ∙
-    (ap (λ (zs : List ℕ). zs ++ filter (λ x. not (x == c)) (c ∷ ys)) (filter_without c xs before) ∙
-    ap (λ (zs : List ℕ). xs ++ zs)
-    (ap (λ b. cond (not b) (c ∷ filter (λ x. not (x == c)) ys) (filter (λ x. not (x == c)) ys)) (eq-eqb c c refl) ∙ filter_without c ys after))))
+    let passes = λ (x : ℕ). not (x == c) in
+    search (filter_members m n passes NR_CPUS gone, ap (filter passes) e, filter-append passes xs (c ∷ ys), filter_without c xs before,
+    filter_without c ys after, eq-eqb c c refl, arith)
 
 -- a mask's members are those done and those left; it stays so where the next one is done, and where it is taken out
 pub goes_on : (keep : Bool) (xs : List ℕ) (left next cpu m n : ℕ) → xs ++ members left ≡ members m → members left ≡ cpu ∷ members next →

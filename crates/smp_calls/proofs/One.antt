@@ -94,10 +94,8 @@ module _ {H : Type 0} (leads : H → Heard → H → Type 0) where
       (λ x. owes_at mid x && not (is_first_to x (one_queued to first))) done →
       ((j : ℕ) → j < records_of_one → done j ≡ cond (j == k) wait (confirmed_at mid j)) →
       Calls leads old before new after (λ _. call_by old.number k class func info) (one_queued to first) wait
-  calls_one {old} {mid} k to class func info first wait was done l f kept g ends = leaves_as leads _ _ (leaves_then leads f g)
-      (λ x. ap (λ b. b && not (is_first_to x (one_queued to first))) (f.owes_are x))
-      (λ j b. ends j b ∙ (by_case (j == k) wait (confirmed_at mid j) (confirmed_at old j) (λ e. f.confirmed_are j b ∙ kept j b e)
-      ∙ ap (λ x. cond x wait (confirmed_at old j)) (sym (or_false (record_of old.number j == record_of old.number k) ∙ same_record old.number j k b l))))
+  calls_one {old} {mid} k to class func info first wait was done l f kept g ends =
+      search (leaves_then leads f g, by_case, same_record, or_false, arith)
 
   -- a call to one CPU by a record, not waited for
   pub calls_by : {old mid new : CpuValue} {before m : H} (k to : ℕ) (class : Class) (func info : ℕ) → k < records_of_one → IsSized old →

@@ -80,17 +80,7 @@ module _ {H : Type 0} (leads : H → Heard → H → Type 0) where
       CallsMany leads old before mid m to class func info here false → WaitsFor leads mid m new after to wait →
       CallsMany leads old before new after to class func info here wait
   calls_waited_for old mid new before m after class func info to None wait f w =
-      let call = many_call old.number class func info in (
-        f.0,
-        f.1,
-        leaves_as leads (λ c. owes_at old c && not (is_first_to c f.0)) (λ k. cond (is_used call (record_of old.number k) f.0) wait (confirmed_at old k))
-            (leaves_last leads (leaves_then leads f.2 w)) f.2.owes_are
-            (λ k b.
-            ap (λ (n : ℕ). (wait && is_many n k to) || confirmed_at mid k) f.2.number_is ∙
-            (ap (λ x. (wait && is_many old.number k to) || x) (f.2.confirmed_are k b) ∙
-            (ap (λ (xs : List ℕ). (wait && is_many old.number k xs) || cond (is_used call (record_of old.number k) f.0) false (confirmed_at old k)) (sym f.1) ∙
-            confirmed_by (is_used call (record_of old.number k) f.0) wait (confirmed_at old k)))),
-      )
+      (f.0, f.1, search (leaves_last leads (leaves_then leads f.2 w), f.1, confirmed_by, arith))
   calls_waited_for old mid new before m after class func info to (Some heard) wait f w =
       let call = many_call old.number class func info in
       let c = f.2 in
@@ -104,12 +94,7 @@ module _ {H : Type 0} (leads : H → Heard → H → Type 0) where
           first = c.first;
           at_once = c.at_once;
           here = c.here;
-          later = leaves_as leads (owes_at c.middle) (λ k. (wait && is_used call (record_of old.number k) f.0) || confirmed_at c.middle k)
-              (leaves_then leads c.later w) c.later.owes_are
-              (λ k b.
-              ap (λ (n : ℕ). (wait && is_many n k to) || confirmed_at mid k) number ∙
-              (ap (λ (xs : List ℕ). (wait && is_many old.number k xs) || confirmed_at mid k) (sym f.1) ∙
-              ap (λ x. (wait && is_used call (record_of old.number k) f.0) || x) (c.later.confirmed_are k b)));
+          later = search (leaves_then leads c.later w, f.1, c.later.confirmed_are, arith);
         },
       )
 
@@ -128,8 +113,7 @@ module _ {H : Type 0} (leads : H → Heard → H → Type 0) where
       first = f.2;
       at_once = subst (λ (xs : List ℕ). IsLast old mid xs) (sym f.1) last;
       here = call;
-      later = subst (λ (x : CpuValue). Leaves leads (notes_call mid) after x after [] [] (owes_at mid)
-          (λ k. (false && is_used (many_call old.number class func info) (record_of old.number k) f.0) || confirmed_at mid k)) (sym noted)
+      later = subst (λ (x : CpuValue). Leaves leads (notes_call mid) after x after [] [] (owes_at mid) (confirmed_at mid)) (sym noted)
           (leaves_none leads (notes_call mid) after);
     },
   )

@@ -87,9 +87,5 @@ module _ {H : Type 0} (leads : H → Heard → H → Type 0) where
       Leaves leads mid m new after [] [] (owes_at mid) (λ j. j == k || confirmed_at mid j) →
       WaitsFor leads old before new after (xs ++ cpu ∷ []) true
   waits_more {old} {mid} k cpu xs is_k small f g =
-      leaves_as leads (owes_at old) (λ j. is_many old.number j (xs ++ cpu ∷ []) || confirmed_at old j) (leaves_then leads f g) f.owes_are (λ j b.
-      ap (λ x. j == k || x) (f.confirmed_are j b) ∙
-      (turned (j == k) (is_many old.number j xs) (confirmed_at old j) ∙
-      (ap (λ x. (is_many old.number j xs || (x || false)) || confirmed_at old j)
-      (sym (same_record old.number j k b small) ∙ ap (λ (i : ℕ). record_of old.number j == record_of old.number i) is_k) ∙
-      ap (λ x. x || confirmed_at old j) (sym (is_by-append (λ x. record_of old.number (many_record x)) (record_of old.number j) xs (cpu ∷ []))))))
+      let both = leaves_then leads f g in
+      search (both, f.confirmed_are, turned, same_record, is_by-append, or_false, arith)

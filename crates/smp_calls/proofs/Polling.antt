@@ -99,9 +99,7 @@ module _ {H : Type 0} (leads : H → Heard → H → Type 0) where
       Leaves leads old before new here [] [] (owes_at old) (λ j. (done && j == k) || confirmed_at old j)
   polling_looked old now new before here made k true s l p e = leaves_ended leads old now new before here k s l p.leaves e
   polling_looked old now new before here made k false s l p e =
-      let one = leaves_looked leads {old = now} e (leaves_none leads new here) in
-      leaves_as leads (owes_at old) (confirmed_at old) (leaves_then leads p.leaves one)
-      (λ c. ap (λ (x : CpuValue). owes_at x c) e ∙ p.leaves.owes_are c) (λ j b. ap (λ (x : CpuValue). confirmed_at x j) e ∙ p.leaves.confirmed_are j b)
+      search (leaves_then leads p.leaves (leaves_looked leads {old = now} e (leaves_none leads new here)), arith)
 
   pub polling_apart : (old now new : CpuValue) (before here : H) (made k : ℕ) (done : Bool) → Polling leads k old before now here made
       → new ≡ looks (cond done (confirms k now) now) → TakesApart old new

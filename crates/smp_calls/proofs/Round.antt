@@ -137,10 +137,5 @@ module _ {H : Type 0} (leads : H → Heard → H → Type 0) where
         one_queued to first,
         ap (λ b. only_if b to) (sym is_asked),
         refl,
-        record {
-          leaves = search (leaves_as, one_queued, by_case, other_record, arith);
-          kept = λ c none. posted.kept c none ∙ f.owes_are c;
-          due = λ c it below. posted.due c it (subst (λ (n : ℕ). c < n) (sym f.owes_sized) below);
-          last = posted.last;
-        },
+        search (both, posted.kept, posted.due, posted.last, by_case, other_record, arith),
       )
