@@ -1,6 +1,6 @@
 -- How many steps a family makes, and how often it handles meanwhile.
 use Rattle.std.proofs.Common.{arith, ◌≡◌, ℕ, suc, ◌+◌, ◌*◌, Bool, true, false, cond, Some, None, List, [], ◌∷◌, ◌++◌, length}
-use Rattle.std.proofs.Common.{length-append, refl, sym, ap, ◌∙◌, subst}
+use Rattle.std.proofs.Common.{length-append, refl, sym, ap, subst}
 use Rattle.std.proofs.lemmas.List.{append-nil}
 use Rattle.smp_words.specs.declared.call.Class.{Class}
 use Rattle.smp_call_steps.specs.Threads.Heads.{Found}

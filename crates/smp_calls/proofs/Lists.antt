@@ -1,6 +1,6 @@
 -- Lists of the members of a mask, and masks without one member.
 use Rattle.std.proofs.Common.{◌≡◌, ℕ, zero, suc, ◌+◌, ◌<◌, ◌≤◌, Bool, true, false, not, ◌&&◌, ◌==◌, nat_lt, cond, List, [], ◌∷◌, ◌++◌, append_assoc, inl, inr}
-use Rattle.std.proofs.Common.{refl, sym, ap, ◌∙◌, arith}
+use Rattle.std.proofs.Common.{refl, ap, ◌∙◌, arith}
 use Rattle.std.specs.List.{filter}
 use Rattle.std.proofs.lemmas.Bool.{cases_eq, cases_Bool, ne_eqb, eq-eqb, lt-ltb}
 use Rattle.std.proofs.lemmas.Bool.Decides.{nat_tests}
@@ -81,8 +81,15 @@ without_one m n c xs ys e gone =
     let before : times c xs ≡ 0 = omega arith in
     let after : times c ys ≡ 0 = omega arith in
     let passes = λ (x : ℕ). not (x == c) in
-    search (filter_members m n passes NR_CPUS gone, ap (filter passes) e, filter-append passes xs (c ∷ ys), filter_without c xs before,
-    filter_without c ys after, eq-eqb c c refl, arith)
+    search (
+      filter_members m n passes NR_CPUS gone,
+      ap (filter passes) e,
+      filter-append passes xs (c ∷ ys),
+      filter_without c xs before,
+      filter_without c ys after,
+      eq-eqb c c refl,
+      arith,
+    )
 
 -- a mask's members are those done and those left; it stays so where the next one is done, and where it is taken out
 pub goes_on : (keep : Bool) (xs : List ℕ) (left next cpu m n : ℕ) → xs ++ members left ≡ members m → members left ≡ cpu ∷ members next →

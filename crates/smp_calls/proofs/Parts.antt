@@ -1,19 +1,18 @@
 -- A call to many, out of its parts.
-use Rattle.std.proofs.Common.{◌≡◌, ℕ, ◌<◌, ◌==◌, ◌||◌, ◌&&◌, not, Bool, true, false, cond, Option, Some, None, List, [], subst, sym, ap, ◌∙◌, arith}
+use Rattle.std.proofs.Common.{◌≡◌, ℕ, ◌<◌, ◌==◌, ◌||◌, ◌&&◌, not, Bool, true, false, cond, Option, Some, None, List, [], subst, sym, ◌∙◌, arith}
 use Rattle.std.proofs.lemmas.Bool.{cases_eq, cases_Bool, ne_eqb, eq-eqb}
 use Rattle.std.proofs.lemmas.Bool.Decides.{nat_tests}
 use Rattle.smp_mask.specs.Mask.{has, members}
 use Rattle.smp_mask.specs.declared.mask.TheConstants.{NR_CPUS}
-use Rattle.smp_words.specs.Size.{cpus, record_of}
+use Rattle.smp_words.specs.Size.{cpus}
 use Rattle.smp_words.specs.declared.call.Class.{Class}
 use Rattle.smp_queue.specs.Cpu.{CpuValue, confirmed_at, notes_call}
 use Rattle.smp_queue.specs.declared.handler.Heard.{Heard}
 use Rattle.smp_calls.specs.Families.{CallsMany, IsLast, Leaves, owes_at}
-use Rattle.smp_calls.specs.Queued.{is_first_to, is_used}
 use Rattle.smp_calls.specs.Records.{many_call}
 use Rattle.smp_calls.specs.Targets.{is_target, remote}
-use Rattle.smp_calls.specs.Rounds.{Picks, WaitsFor, HearsIf, is_many, noted_if}
-use Rattle.smp_calls.proofs.Steps.{leaves_none, leaves_as, leaves_then, leaves_last}
+use Rattle.smp_calls.specs.Rounds.{Picks, WaitsFor, HearsIf, noted_if}
+use Rattle.smp_calls.proofs.Steps.{leaves_none, leaves_then, leaves_last}
 use Rattle.smp_calls.proofs.One.{and_true, and_false, or_false}
 use Rattle.smp_calls.proofs.Lists.{filter_members, agreeing}
 

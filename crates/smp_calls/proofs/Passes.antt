@@ -6,15 +6,15 @@ use Rattle.std.proofs.lemmas.Bool.{cases_eq, cases_Bool, ne_eqb, eq-eqb}
 use Rattle.std.proofs.lemmas.List.{append-nil, get_or-set_other}
 use Rattle.smp_mask.specs.Mask.{has, members}
 use Rattle.smp_mask.specs.declared.mask.TheConstants.{NR_CPUS}
-use Rattle.smp_words.specs.Size.{records_of_one, record_of}
+use Rattle.smp_words.specs.Size.{records_of_one}
 use Rattle.smp_queue.specs.Cpu.{CpuValue, confirmed_at, sends}
 use Rattle.smp_call_steps.specs.declared.known.Logged.{Logged}
 use Rattle.smp_queue.specs.declared.handler.Heard.{Heard}
 use Rattle.smp_calls.specs.Families.{Leaves, IsLast, owes_at}
 use Rattle.smp_calls.specs.Queued.{Queued, destinations, firsts, interrupts_to}
 use Rattle.smp_calls.specs.Records.{many_record}
-use Rattle.smp_calls.specs.Rounds.{Sends, WaitsFor, is_many, last_of}
-use Rattle.smp_calls.proofs.Steps.{leaves_none, leaves_as, leaves_then}
+use Rattle.smp_calls.specs.Rounds.{Sends, WaitsFor, last_of}
+use Rattle.smp_calls.proofs.Steps.{leaves_none, leaves_then}
 use Rattle.smp_calls.proofs.One.{and_true, or_false, same_record, set_false}
 use Rattle.smp_calls.proofs.Round.{is_in-append, is_by-append}
 use Rattle.smp_calls.proofs.Lists.{next_gone}
