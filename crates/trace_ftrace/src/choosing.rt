@@ -291,6 +291,15 @@ fn choices_of<A: Allocator + Copy>(
     Ok(choices)
 }
 
+/// One more than the highest CPU for which there is an append.
+fn cpus_called(appends: &[Append]) -> u32 {
+    let mut cpus = 0;
+    for append in appends {
+        cpus = cpus.max(append.to.saturating_add(1));
+    }
+    cpus
+}
+
 /// An order of the appends that lets the calls begin, where one is found, with the takes. A take is made as early as it can be, of
 /// as few calls as it has to be.
 pub(crate) fn choose<A: Allocator + Copy>(
@@ -310,7 +319,7 @@ pub(crate) fn choose<A: Allocator + Copy>(
         moments,
         takes: Vec::new(alloc),
     };
-    for cpu in 0..512 {
+    for cpu in 0..cpus_called(chosen.appends.as_slice()) {
         choose_cpu(alloc, &mut chosen, cpu, runs.as_slice())?;
     }
     chosen
