@@ -12,6 +12,7 @@ use crate::print_bytes::{write_bytes, write_content};
 use crate::templates::templates_at;
 use crate::text_kind::{TextKind, kind_of};
 use smp_mask::{Cause, CpuMask};
+use smp_script::decimal::read_from_to;
 use smp_script::line::{fields, is_word, split_part};
 use smp_script::script::MAX_BYTES;
 use std::alloc::{AllocError, Allocator};
@@ -56,11 +57,37 @@ fn online_in(text: &[u8]) -> CpuMask {
     }
 }
 
+// Whether a text is a trace of version 3.
+fn is_wide(text: &[u8]) -> bool {
+    match line_text(text, 1) {
+        Some(title) => is_word(title, b"smp 3 trace"),
+        None => false,
+    }
+}
+
+// How many CPUs the second line of a text names, where these are more than 32; else 0.
+fn many_in(text: &[u8]) -> u32 {
+    let Some(line) = line_text(text, 2) else {
+        return 0;
+    };
+    let Some((_, rest)) = split_part(line, b' ') else {
+        return 0;
+    };
+    match split_part(rest, b' ') {
+        Some((nr, _)) => read_from_to(nr, 33, 512).unwrap_or(0),
+        None => 0,
+    }
+}
+
 // What the first three lines of a text settle.
 fn setting_in<A: Allocator>(alloc: A, text: &[u8]) -> Result<TextSetting, AllocError> {
+    let limit = limit(alloc, text)?;
+    let is_wide = is_wide(text);
     Ok(TextSetting {
         kind: kind_of(text).unwrap_or(TextKind::Replay),
-        limit: limit(alloc, text)?,
+        limit: if is_wide { 32 } else { limit },
+        most: if is_wide { 512 } else { limit },
+        many: if is_wide { many_in(text) } else { 0 },
         online: online_in(text),
         given: GivenNames::of(text),
     })
@@ -327,7 +354,8 @@ fn write_line<A: Allocator + Copy>(
     let kind = kind_of(text);
     let setting = setting_in(alloc, text)?;
     let fields = fields(alloc, line)?;
-    let templates = templates_at(alloc, kind, fault.line)?;
+    let has_labels = setting.many == 0;
+    let templates = templates_at(alloc, kind, fault.line, has_labels)?;
     let wrong = Wrong {
         setting,
         cause: fault.cause,

@@ -12,8 +12,12 @@ use std::alloc::{AllocError, Allocator};
 #[derive(Clone, Copy)]
 pub struct TextSetting {
     pub kind: TextKind,
-    /// CPUs have numbers below this.
+    /// CPUs have numbers below this, but for those of `many`.
     pub limit: u32,
+    /// The most CPUs that line 2 may name.
+    pub most: u32,
+    /// How many CPUs there are, where these are more than 32; else 0.
+    pub many: u32,
     pub online: CpuMask,
     pub given: GivenNames,
 }
@@ -40,6 +44,11 @@ pub enum Domain<'a> {
 }
 
 const GROUPS: &str = "gate, interrupts, order, raises, switches, unlocks";
+
+const CALL_EVENTS: &str =
+    "C queue, C free, C send, C accept, C idle, C take, C unlock, C begin, C end";
+
+const ALL_CPUS: &str = "0-LAST, the list of all NR CPUs";
 
 const CONDITION: &str =
     "atoms as `WORD N`, `queue.C N`, `place.R PLACE` or `said NOTE`, each with `not` in front or without it, joined by and, or";
@@ -80,12 +89,33 @@ fn argument_in(kind: TextKind, name: &str) -> Domain<'static> {
     }
 }
 
+// Whether a line of this template is an event of calls.
+fn is_of_calls(template: &str) -> bool {
+    CALL_EVENTS
+        .split(", ")
+        .any(|event| template.starts_with(event))
+}
+
+// The highest CPU of a line, where there are more than 32: stops, keys and sites are of those below 32.
+fn last_cpu(setting: &TextSetting, template: &str) -> u32 {
+    if is_of_calls(template) {
+        setting.many.saturating_sub(1)
+    } else {
+        31
+    }
+}
+
 // What names CPUs.
 fn cpus_in(setting: &TextSetting, template: &str, name: &str) -> Domain<'static> {
     match (name, setting.kind) {
-        ("NR", _) => Domain::Number(1, u64::from(setting.limit)),
+        ("NR", _) => Domain::Number(1, u64::from(setting.most)),
+        ("MASK", _) if template.starts_with("cpus ") && setting.many > 0 => Domain::Told(ALL_CPUS),
         ("MASK", _) if template.starts_with("cpus ") => Domain::Online,
         ("MASK", _) => Domain::Mask,
+        ("C", TextKind::Trace) if setting.many > 0 => Domain::Number(
+            0,
+            u64::from(last_cpu(setting, template)),
+        ),
         ("C", TextKind::Run) => Domain::OneOf("all, even, odd"),
         ("C", _) | ("CPU", TextKind::Run) => Domain::Member,
         _ => U32,
@@ -95,7 +125,7 @@ fn cpus_in(setting: &TextSetting, template: &str, name: &str) -> Domain<'static>
 // What is one of some words.
 fn words_in(kind: TextKind, name: &str) -> Domain<'static> {
     match (name, kind) {
-        ("VERSION", TextKind::Trace) => Domain::OneOf("2"),
+        ("VERSION", TextKind::Trace) => Domain::OneOf("2, 3"),
         ("VERSION", _) => Domain::OneOf("1, 2"),
         ("CLASS", _) => Domain::OneOf("sync, async"),
         ("KIND", _) => Domain::OneOf("one, multi, patch"),

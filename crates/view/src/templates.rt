@@ -156,11 +156,12 @@ fn push_body<A: Allocator + Copy>(
 }
 
 /// The lines that a text of this kind may have at this number, counted from 1. Where the kind is not known its first line
-/// may be that of each.
+/// may be that of each. A trace of more than 32 CPUs has no labels.
 pub fn templates_at<A: Allocator + Copy>(
     alloc: A,
     kind: Option<TextKind>,
     line: u32,
+    has_labels: bool,
 ) -> Result<Templates<A>, AllocError> {
     let mut found = Vec::new(alloc);
     let Some(kind) = kind else {
@@ -177,7 +178,7 @@ pub fn templates_at<A: Allocator + Copy>(
         push_behind(alloc, &mut found, "", &["cpus NR MASK"])?;
         return Ok(found);
     }
-    if line == 3 {
+    if line == 3 && has_labels {
         push_behind(alloc, &mut found, "", &["labels KEYS ITEMS"])?;
     }
     if line <= 4 && kind == TextKind::Trace {

@@ -16,7 +16,7 @@ fn explained(alloc: Global, text: &[u8]) -> Result<(Vec<u8, Global>, Outcome), S
 
 #[test]
 fn what_may_stand_there(rt: HostRuntime) -> Result<(), Fail> {
-    let cases: [(&str, &str); 17] = [
+    let cases: [(&str, &str); 19] = [
         (
             "smp 1 replay\ncpus 2 0-1\nstart 0 post 0 1 synk 7 42 1\n",
             "line 3 Word: a wrong word, or too few or too many fields
@@ -145,6 +145,24 @@ fn what_may_stand_there(rt: HostRuntime) -> Result<(), Fail> {
   field 5, CLASS: here is `sink`
     here may be: sync, async
     the line: C queue R D CLASS FUNC INFO
+",
+        ),
+        (
+            "smp 3 trace\ncpus 64 0-62\n",
+            "line 2 Mask: a field that is no list of CPUs
+  cpus 64 0-62
+  field 3, MASK: here is `0-62`
+    here may be: 0-LAST, the list of all NR CPUs
+    the line: cpus NR MASK
+",
+        ),
+        (
+            "smp 3 trace\ncpus 64 0-63\n40 gate\n",
+            "line 3 Range: a number outside the range of its field
+  40 gate
+  field 1, C: here is `40`
+    here may be: a number from 0 to 31
+    the line: C gate
 ",
         ),
         (
