@@ -1,6 +1,5 @@
 -- The words that several proofs about replays cite, besides those of Names.
 pub use Rattle.smp_mask.proofs.Sets.{same_members}
-pub use Rattle.smp_mask.specs.Reading.{mask_of_text}
 pub use Rattle.smp_mask.specs.declared.error.SmpError.{SmpError}
 pub use Rattle.smp_mask.specs.declared.mask.TheConstants.{NR_CPUS}
 pub use Rattle.smp_labels.specs.Keys.{IsKeyWord, count_or}
@@ -11,7 +10,6 @@ pub use Rattle.smp_words.proofs.Zeros.{get_or-same, zero_at}
 pub use Rattle.smp_words.specs.Access.{at_after, one_less, put_by, put_if, seen_of, word_of}
 pub use Rattle.smp_words.specs.Commands.{FitsCommand}
 pub use Rattle.smp_words.specs.Flags.{flags_of}
-pub use Rattle.smp_words.specs.Kinds.{kind_word}
 pub use Rattle.smp_words.specs.Layout.{number_in}
 pub use Rattle.smp_words.specs.Put.{put, put_word, same_word}
 pub use Rattle.smp_words.specs.Size.{cpus, records, table_size}
@@ -35,9 +33,8 @@ pub use Rattle.smp_call_steps.proofs.Steps.Turns.{holds_nothing, stands_at}
 pub use Rattle.smp_call_steps.specs.Batches.{has_record}
 pub use Rattle.smp_call_steps.specs.Calls.{CallState, Holding, accepts, appended, confirms, flags_told, head_told, links, no_calls, place_taken, tells}
 pub use Rattle.smp_call_steps.specs.Calls.{tells_all}
-pub use Rattle.smp_call_steps.specs.Drains.{DrainValue, handle_goes, handle_outcome, link_to}
+pub use Rattle.smp_call_steps.specs.Drains.{DrainValue, link_to}
 pub use Rattle.smp_call_steps.specs.Places.{IsPlaced}
-pub use Rattle.smp_call_steps.specs.Posts.{ends, goes_to, post_outcome}
 pub use Rattle.smp_call_steps.specs.Shows.{Shows}
 pub use Rattle.smp_call_steps.specs.Stages.{ControlValue, access_of, control_after, outcome_of}
 pub use Rattle.smp_call_steps.specs.Stands.{PostStands, StandsAt, held_of, share_of}
@@ -69,10 +66,10 @@ pub use Rattle.smp_stop_steps.specs.Seats.{RoleStands, irq_of}
 pub use Rattle.smp_stop_steps.specs.Sits.{SitsAt, SitsInRound}
 pub use Rattle.smp_stop_steps.specs.Slots.{AckShows, Keeps, OpenShows, begun_value}
 pub use Rattle.smp_stop_steps.specs.Sources.{IsPatchWork}
-pub use Rattle.smp_stop_steps.specs.Stages.{StopControlValue, StopOutcome, answer_at, begun_next, change_at, completion_outcome, key_on}
-pub use Rattle.smp_stop_steps.specs.Stages.{label_word, looked_on, nudge_on, round_outcome, stop_access, stop_ends, stop_goes, stop_outcome}
+pub use Rattle.smp_stop_steps.specs.Stages.{StopControlValue, StopOutcome, answer_at, begun_next, change_at, key_on}
+pub use Rattle.smp_stop_steps.specs.Stages.{label_word, looked_on, nudge_on, stop_access, stop_ends, stop_goes, stop_outcome}
 pub use Rattle.smp_stop_steps.specs.Stages.{stop_outside, store_of, turn_ends, visit_acked}
-pub use Rattle.smp_stop_steps.specs.Start.{in_visit, stop_first}
+pub use Rattle.smp_stop_steps.specs.Start.{stop_first}
 pub use Rattle.smp_stop_steps.specs.State.{Present, Setup, StopState, no_stops}
 pub use Rattle.smp_stop_steps.specs.Stop.{Answering, Called, Completed, Inside, Nobody, Outside, Raises, Raising, Refills, Standing, Stop, acked}
 pub use Rattle.smp_stop_steps.specs.Stop.{acked as acked_of, acknowledged, first_phase, is_called, is_inside, is_of, stands}
@@ -90,8 +87,8 @@ pub use Rattle.smp_stop_steps.specs.declared.known.StopRole.TheVariants.{Alters,
 pub use Rattle.smp_stop_steps.specs.declared.stage.CompletionStage.{CompletionStage}
 pub use Rattle.smp_stop_steps.specs.declared.stage.RoundStage.{RoundStage}
 pub use Rattle.smp_stop_steps.specs.declared.stage.StopStage.{StopStage}
-pub use Rattle.smp_stop_steps.specs.declared.stage.StopStage.TheVariants.{Advance, Begin, Close, Complete, Enter, EnterActive, EnterKind, EnterMask}
-pub use Rattle.smp_stop_steps.specs.declared.stage.StopStage.TheVariants.{ExchangeKey, LoadDone, LoadResult, NudgeKey, OpenGate, ReadKey, ReadSite, TakeGate}
+pub use Rattle.smp_stop_steps.specs.declared.stage.StopStage.TheVariants.{Advance, Begin, Close, Complete, Enter}
+pub use Rattle.smp_stop_steps.specs.declared.stage.StopStage.TheVariants.{ExchangeKey, LoadResult, NudgeKey, OpenGate, ReadKey, ReadSite, TakeGate}
 pub use Rattle.smp_stop_steps.specs.declared.stage.Visit.{Visit}
 pub use Rattle.smp_core.proofs.Starts.{may_start, start_below, started_shown}
 pub use Rattle.smp_core.proofs.Whole.{start_whole, step_whole}
@@ -127,11 +124,11 @@ pub use Rattle.trace_model.specs.declared.stop.Patch.{Patch as ToldPatch}
 pub use Rattle.trace_model.specs.declared.stop.Stop.{Stop as ToldStop}
 pub use Rattle.trace_model.specs.declared.without.Without.{Without}
 pub use Rattle.trace_judge.specs.Head.{all_told, setting_of}
-pub use Rattle.trace_events.specs.Past.{after, after_call_entry, after_draft, after_flags, after_on, after_other, after_slot, after_slot_load, after_store}
+pub use Rattle.trace_events.specs.Past.{after, after_call_entry, after_draft, after_flags, after_on, after_other, after_slot, after_slot_load}
 pub use Rattle.trace_events.specs.Past.{fresh, id_of, is_new, past_at, phase_of}
 pub use Rattle.trace_events.specs.Text.{line_text}
-pub use Rattle.trace_events.specs.StepEvents.{events_in, of_ack, of_arg, of_flags, of_gate, of_hand, of_head, of_intr, of_key, of_nudge, of_ran, of_result}
-pub use Rattle.trace_events.specs.StepEvents.{of_roll, of_site, of_slot, of_state, of_todo, of_unlock, told_of, told_on, with_on}
+pub use Rattle.trace_events.specs.StepEvents.{events_in, of_ack, of_arg, of_flags, of_gate, of_head, of_intr, of_key, of_nudge, of_result}
+pub use Rattle.trace_events.specs.StepEvents.{of_roll, told_of, told_on, with_on}
 pub use Rattle.trace_events.specs.Traces.{all_fresh, events_of, events_of_step, kept, lines_text}
 pub use Rattle.trace_events.specs.declared.past.Draft.{Draft}
 pub use Rattle.trace_events.specs.declared.past.Past.{Past}

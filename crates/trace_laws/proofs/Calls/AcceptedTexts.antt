@@ -1,15 +1,15 @@
 -- A text that is accepted is a trace.
-use Rattle.trace_laws.proofs.Names.{AreLabels, Bool, Cause, CursorValue, EarlyEnd, Entry, Err, HaveKinds, Labels, Line, List, MOST_KEYS, Ok, Result, Some}
-use Rattle.trace_laws.proofs.Names.{StateValue, [], and_parts, ap, arith, cases_lt, cpus_at, entry_at, entry_at-word, entry_word, false, fields_of, first_site}
+use Rattle.trace_laws.proofs.Names.{AreLabels, Bool, CursorValue, EarlyEnd, Entry, Err, HaveKinds, Labels, Line, List, Ok, Result}
+use Rattle.trace_laws.proofs.Names.{StateValue, [], ap, arith, cases_lt, cpus_at, entry_at, entry_at-word, entry_word, false, fields_of, first_site}
 use Rattle.trace_laws.proofs.Names.{get_or, get_or-replicate, get_or_past, head_of, head_with, if◌then◌else◌, inl, inr, is_labels, is_on, kind_of, kind_word}
-use Rattle.trace_laws.proofs.Names.{labels_at, leb-true, length, length-append, length-map, length-replicate, lines_of, list_all, ltb-false, map, nat_lt}
-use Rattle.trace_laws.proofs.Names.{no_labels, refl, replicate, slice_index, subst, sym, table_of, titled, true, used_after, whole_labels, without_at, words_of}
+use Rattle.trace_laws.proofs.Names.{labels_at, length, length-append, length-map, length-replicate, lines_of, ltb-false, map, nat_lt}
+use Rattle.trace_laws.proofs.Names.{no_labels, replicate, slice_index, subst, sym, table_of, titled, true, used_after, whole_labels, without_at, words_of}
 use Rattle.trace_laws.proofs.Names.{ℕ, ◌++◌, ◌-◌, ◌>>=◌, ◌∙◌, ◌∷◌, ◌≡◌, ◌≤◌}
 use Rattle.std.proofs.{lemmas.List.get_or-append_right, lemmas.List.get_or-map, lemmas.List.get_or_append_left}
 use Rattle.smp_mask.specs.declared.error.Cause.TheVariants.{Word}
 use Rattle.smp_labels.specs.Law.{site_word}
-use Rattle.smp_script.specs.Labels.{entries_in, is_item, items_of, labels_in, labels_of}
-use Rattle.smp_script.specs.{Commands.are_whole, Numbers.number_in}
+use Rattle.smp_script.specs.Labels.{items_of, labels_in, labels_of}
+use Rattle.smp_script.specs.{Commands.are_whole}
 use Rattle.trace_judge.proofs.Meaning.{is_meant}
 use Rattle.trace_judge.specs.{Head.HeadValue, Head.behind, Head.labels_from, Judged.at_line, Runs.MeansWith}
 use Rattle.trace_laws.specs.{AcceptedTexts.AcceptedAreTraces, AcceptedTexts.IsTraceOf}
@@ -21,19 +21,10 @@ record Few (labels : Labels) : Type 0 where
 
 -- both halves of a reading were made
 both : {A B E : Type 0} (first : Result A E) (next : A → Result B E) (b : B) → (first >>= next) ≡ Ok b → (a : A) × ((first ≡ Ok a) × (next a ≡ Ok b))
-both (Ok a) next b e = (a, (refl, e))
-both (Err why) next b e = absurd cc
+both first next b e = search arith
 
 pick : {A E : Type 0} (test : Bool) (made : Result A E) (why : E) (a : A) → (if test then made else Err why) ≡ Ok a → (test ≡ true) × (made ≡ Ok a)
-pick true made why a e = (refl, e)
-pick false made why a e = absurd cc
-
-skip : {A E : Type 0} (test : Bool) (made : Result A E) (why : E) (a : A) → (if test then Err why else made) ≡ Ok a → (test ≡ false) × (made ≡ Ok a)
-skip true made why a e = absurd cc
-skip false made why a e = (refl, e)
-
-few_entries : (keys : ℕ) (items : List (List ℕ)) (labels : Labels) → keys ≤ 4 → entries_in keys items ≡ Ok labels → Few labels
-few_entries keys items labels h1 h2 = search (pick, skip, ltb-false, length-map, arith)
+pick test made why a e = search arith
 
 ok_is : {A E : Type 0} (x y : A) → let one : Result A E = Ok x in let other : Result A E = Ok y in one ≡ other → x ≡ y
 ok_is x y e = cc
@@ -41,29 +32,16 @@ ok_is x y e = cc
 rest_none : (n k : ℕ) → slice_index (replicate n 0) k ≡ 0
 rest_none n k = search (cases_lt, get_or-replicate, get_or_past, length-replicate, arith)
 
-few_number : (text : List ℕ) (n : ℕ) → number_in 0 4 text ≡ Ok n → n ≤ 4
-few_number text n h1 = search (pick, leb-true, and_parts, arith)
-
 few_in : (keys : List ℕ) (items : List (List ℕ)) (labels : Labels) → labels_in keys items ≡ Ok labels → Few labels
 unfolding labels_in
-few_in keys items labels e =
-    let a = pick (list_all is_item items) (number_in 0 MOST_KEYS keys >>= λ n. entries_in n items) Word labels e in
-    let b = both (number_in 0 MOST_KEYS keys) (λ n. entries_in n items) labels a.1 in
-    few_entries b.0 items labels (few_number keys b.0 b.1.0) b.1.1
+few_in keys items labels e = search (pick, both, ltb-false, length-map, arith)
 
 few_of : (fields : List (List ℕ)) (labels : Labels) → labels_of fields ≡ Ok labels → Few labels
-few_of [] labels e = absurd cc
-few_of (a ∷ []) labels e = absurd cc
-few_of (a ∷ b ∷ []) labels e = absurd cc
 few_of (a ∷ b ∷ c ∷ []) labels e = few_in b (items_of c) labels e
-few_of (a ∷ b ∷ c ∷ d ∷ ds) labels e = absurd cc
+few_of _ labels e = absurd cc
 
 few_whole : (fields : List (List ℕ)) (labels : Labels) → whole_labels fields ≡ Ok labels → Few labels
 few_whole fields labels e = few_of fields labels (pick (are_whole fields) (labels_of fields) Word labels e).1
-
-on_line : {A : Type 0} (n : ℕ) (made : Result A Cause) (a : A) → at_line n made ≡ Ok a → made ≡ Ok a
-on_line n (Ok x) a e = let same : x ≡ a = cc in ap (λ y. Ok y) same
-on_line n (Err cause) a e = absurd cc
 
 few_none : (s : CursorValue) (found : Labels × CursorValue) → let none : Result (Labels × CursorValue) EarlyEnd = Ok (no_labels, s) in none ≡ Ok found
     → Few found.0
@@ -74,7 +52,7 @@ few_line : (test : Bool) (s : CursorValue) (used : ℕ) (ls : List Line) (fields
 few_line true s used ls fields found e =
     let a = both (at_line 3 (whole_labels fields)) (λ labels. Ok (labels, behind s used ls)) found e in
     let same : (a.0, behind s used ls) ≡ found = ok_is (a.0, behind s used ls) found a.1.1 in
-    subst (λ (x : Labels). Few x) (ap (λ x. x.0) same) (few_whole fields a.0 (on_line 3 (whole_labels fields) a.0 a.1.0))
+    subst (λ (x : Labels). Few x) (ap (λ x. x.0) same) (few_whole fields a.0 (search arith))
 few_line false s used ls fields found e = few_none s found e
 
 few_from : (s : CursorValue) (lines : List Line) (found : Labels × CursorValue) → labels_from s lines ≡ Ok found → Few found.0
@@ -94,9 +72,6 @@ few_at false s found e = few_from s s.lines found e
 keys_off : (k : ℕ) → slice_index (replicate 4 0) k ≡ 0
 keys_off k = rest_none 4 k
 
-word_first : (f : ℕ → ℕ) (e : Entry) → ((k : ℕ) → f k ≡ 0) → first_site e ≡ site_word f (Some e)
-word_first f e off = let z : f e.key ≡ 0 = off e.key in ap (λ n. kind_word (kind_of (is_on n) e.branch)) (sym z)
-
 words_lawful : (labels : Labels) → length labels.entries ≤ 16 → HaveKinds (table_of (words_of labels))
 unfolding words_of
 words_lawful labels few i low =
@@ -113,24 +88,15 @@ words_lawful labels few i low =
           let word : slice_index (map entry_word entries ++ rest) i ≡ entry_word e =
           get_or_append_left (map entry_word entries) rest 0 i (let l = length-map entries entry_word in omega arith) ∙
           get_or-map entry_word entries i none 0 below in
-          site ∙ word_first f e keys_off ∙ ap (λ x. site_word f x) (sym (entry_at-word e)) ∙ ap (λ x. site_word f (entry_at x)) (sym word))
+          site ∙ (let z : f e.key ≡ 0 = keys_off e.key in ap (λ n. kind_word (kind_of (is_on n) e.branch)) (sym z)) ∙ ap (λ x. site_word f x) (sym
+          (entry_at-word e)) ∙ ap (λ x. site_word f (entry_at x)) (sym word))
       | inr past ↦
-          (let site : slice_index (map first_site entries ++ rest) i ≡ 0 =
-          get_or-append_right (map first_site entries) rest (length entries) i 0 (length-map entries first_site) past ∙
-          rest_none (16 - length entries) (i - length entries) in
-          let word : slice_index (map entry_word entries ++ rest) i ≡ 0 =
-          get_or-append_right (map entry_word entries) rest (length entries) i 0 (length-map entries entry_word) past ∙
-          rest_none (16 - length entries) (i - length entries) in
-          site ∙ ap (λ x. site_word f (entry_at x)) (sym word))
+          search (entries, rest, f, get_or-append_right, length-map, rest_none, arith)
     ]
 
 words_long : (labels : Labels) → length labels.entries ≤ 16 → (length (words_of labels).keys ≡ 4) × (length (words_of labels).sites ≡ 16)
 unfolding words_of
-words_long labels few = (
-  length-replicate {A = ℕ} 4 0,
-  (let l = length-append (map first_site labels.entries) (replicate (16 - length labels.entries) 0) in
-      let m = length-map labels.entries first_site in let r = length-replicate {A = ℕ} (16 - length labels.entries) 0 in omega arith),
-)
+words_long labels few = search (length-replicate, length-append, length-map, arith)
 
 -- the labels of a head are lawful
 head_labels : (lines : List Line) (h : HeadValue) → head_of lines ≡ Ok h → AreLabels h.setting h.words
@@ -166,6 +132,4 @@ run_of text count t (Ok h) e m = record {
 run_of text count t (Err why) e m = absurd (let f : Ok (count, t) ≡ Err why = m in cc)
 
 pub accepted_are_traces : AcceptedAreTraces
-accepted_are_traces text count t e =
-    let m = is_meant text in
-    run_of text count t (head_of (lines_of text)) refl (rw e at m)
+accepted_are_traces text count t e = search (is_meant, run_of, arith)

@@ -1,10 +1,10 @@
 -- What each step of a CPU shows of its calls.
 use Rattle.trace_laws.proofs.Names.{Async, Bool, Call, Class, CpuState, Current, Ended, Err, IsPermutation, IsPermutation-append_right, IsPermutation-refl}
 use Rattle.trace_laws.proofs.Names.{IsPermutation-trans, List, None, Ok, Option, Progress, Reason, Shows, Some, Sync, Unlocked, [], after_end, and_parts, ap}
-use Rattle.trace_laws.proofs.Names.{append-nil, append_assoc, arith, at_call, begin_of, begun, begun_any, begun_at, begun_front, begun_loose, begun_with}
-use Rattle.trace_laws.proofs.Names.{call_at, cond, count_by, counted, ended, ended_at, ended_with, eqb-false, eqb-true, false, front_of, get_or}
+use Rattle.trace_laws.proofs.Names.{append-nil, append_assoc, arith, at_call, begin_of, begun, begun_any, begun_at, begun_front, begun_loose}
+use Rattle.trace_laws.proofs.Names.{call_at, cond, count_by, counted, ended, ended_at, eqb-false, eqb-true, false, front_of, get_or}
 use Rattle.trace_laws.proofs.Names.{get_or-set_other, get_or-set_same, if◌then◌else◌, is_async, is_class, is_from, is_of, is_sync, left_batch, length}
-use Rattle.trace_laws.proofs.Names.{length-set, loose_with, not, not_over, noted, order, over_with, place_in, pushed, ran_at, refl, remove, rest_of, running}
+use Rattle.trace_laws.proofs.Names.{length-set, not, not_over, noted, order, over_with, place_in, pushed, ran_at, refl, remove, rest_of, running}
 use Rattle.trace_laws.proofs.Names.{slice_index_or, slipped_any, slipped_at, slipped_from_batch, slipped_from_queue, slipped_front, subst, sym, taken, true}
 use Rattle.trace_laws.proofs.Names.{unlocked, unlocked_front, unlocked_running, unlocked_with, waiting, ℕ, ◌%◌, ◌&&◌, ◌*◌, ◌++◌, ◌+◌, ◌/◌, ◌<◌, ◌==◌, ◌^◌, ◌∙◌}
 use Rattle.trace_laws.proofs.Names.{◌∷◌, ◌≡◌}
@@ -42,9 +42,7 @@ same_order xs ys e = subst (λ zs. IsPermutation xs zs) e (IsPermutation-refl xs
 -- what is held goes on, where the queue is not taken
 held_untaken : (waits queue queued began waits' queue' : List Call) → waits ≡ began ++ waits' → queue' ≡ queue ++ queued
     → IsPermutation ((waits ++ queue) ++ queued) (began ++ (waits' ++ queue'))
-held_untaken waits queue queued began waits' queue' e f =
-    same_order ((waits ++ queue) ++ queued) (began ++ (waits' ++ queue')) (append_assoc waits queue queued ∙
-    rw (e, f) (append_assoc began waits' (queue ++ queued)))
+held_untaken waits queue queued began waits' queue' e f = search (same_order, append_assoc, arith)
 
 pub shows_untaken : (told : Bool) (queued began over : List Call) (a b : CpuState) → running a ++ began ≡ over ++ running b → waiting a ≡ began ++ waiting b
     → b.queue ≡ a.queue ++ queued → Ticks over a b → Shows told queued false began over [] a b
@@ -52,9 +50,7 @@ shows_untaken told queued began over a b h1 h2 h3 h4 = search (held_untaken, app
 
 -- nothing is shown where the calls are as before
 pub shows_same : (told : Bool) (a b : CpuState) → SameCalls a b → Shows told [] false [] [] [] a b
-shows_same told a b same = shows_untaken told [] [] [] a b
-    (rw same.current (append-nil (running a))) (rw (same.current, same.batch) refl) (same.queue ∙
-    sym (append-nil a.queue)) (ticks_none a b same.ran same.queued)
+shows_same told a b same = search (shows_untaken, append-nil, ticks_none, arith)
 
 -- nor where a call joins the queue, but that call
 pub shows_pushed : (told : Bool) (call : Call) (a b : CpuState) → SameCalls (pushed call a) b → Shows told (call ∷ []) false [] [] [] a b
@@ -63,9 +59,7 @@ shows_pushed told call a b same = shows_untaken told (call ∷ []) [] [] a b
 
 -- a call that was taken is over
 pub over_is : (current : Option Current) (batch : List Call) → over_with current batch ≡ Ok tt → (current ≡ None) × (batch ≡ [])
-over_is (Some x) batch e = absurd cc
-over_is None (x ∷ xs) e = absurd cc
-over_is None [] e = (refl, refl)
+over_is current batch e = search arith
 
 other_class : (call : Call) → is_class Async call.class ≡ not (is_class Sync call.class)
 other_class call = search arith
@@ -83,28 +77,16 @@ pub front_is : (r : ℕ) (here : Bool) (elsewhere : Reason) (batch : List Call) 
     → (front.id ≡ r) × (batch ≡ front ∷ rest_of batch)
 front_is r here elsewhere batch front h1 = search (passed, eqb-true, arith)
 
--- the front of the batch is the call that is unlocked
-shows_left_unlocked : (told : Bool) (front : Call) (a : CpuState) → a.current ≡ None → a.batch ≡ front ∷ rest_of a.batch
-    → Shows told [] false [] [] [] a (left_batch Unlocked front a)
-shows_left_unlocked told front a none is = shows_untaken told [] [] [] a (left_batch Unlocked front a)
-    (rw none refl) (rw none is) (sym (append-nil a.queue)) (ticks_none a (left_batch Unlocked front a) refl refl)
-
--- or the call that runs
-shows_left_running : (told : Bool) (front : Call) (a : CpuState) → a.current ≡ None → a.batch ≡ front ∷ rest_of a.batch
-    → Shows told [] false (front ∷ []) [] [] a (left_batch Runs front a)
-shows_left_running told front a none is = shows_untaken told [] (front ∷ []) [] a (left_batch Runs front a)
-    (rw none refl) (rw none is) (sym (append-nil a.queue)) (ticks_none a (left_batch Runs front a) refl refl)
-
--- a call is no longer the one that the CPU runs
-shows_over : (told : Bool) (call : Call) (a : CpuState) → a.current ≡ at_call Ended call → Shows told [] false [] [] [] a (record a { current = None })
-shows_over told call a is = shows_untaken told [] [] [] a (record a { current = None })
-    (rw is refl) (rw is refl) (sym (append-nil a.queue)) (ticks_none a (record a { current = None }) refl refl)
-
 -- nothing is shown where a record is unlocked
 shows_unlocked_running : (told : Bool) (progress : Progress) (class : Class) (call : Call) (r : ℕ) (elsewhere : Reason) (a b : CpuState)
     → a.current ≡ at_call progress call → unlocked_running progress class r elsewhere a ≡ Ok b → Shows told [] false [] [] [] a b
 shows_unlocked_running told Ended class call r elsewhere a b is e =
-    let same : record a { current = None } ≡ b = cc in subst (λ (c : CpuState). Shows told [] false [] [] [] a c) same (shows_over told call a is)
+    let same : record a { current = None } ≡ b = cc in subst (λ (c : CpuState). Shows told [] false [] [] [] a c) same (search (
+      shows_untaken,
+      append-nil,
+      ticks_none,
+      arith,
+    ))
 shows_unlocked_running told Runs Sync call r elsewhere a b is e = absurd cc
 shows_unlocked_running told _ _ call r elsewhere a b is e = absurd cc
 
@@ -115,19 +97,13 @@ shows_unlocked_with told (Some x) r here elsewhere a b is e =
     shows_unlocked_running told x.progress x.call.class x.call r elsewhere a b is p.1
 shows_unlocked_with told None r here elsewhere a b is e =
     let m = both_made (front_of r here elsewhere a.batch) (unlocked_front r a) b e in
-    let f = front_is r here elsewhere a.batch m.0 m.1.0 in
     let p = failed (is_sync m.0.class) (Ok (left_batch Unlocked m.0 a)) (reason.NotBegun r) b m.1.1 in
     let same : left_batch Unlocked m.0 a ≡ b = cc in
-    subst (λ (c : CpuState). Shows told [] false [] [] [] a c) same (shows_left_unlocked told m.0 a is f.1)
+    subst (λ (c : CpuState). Shows told [] false [] [] [] a c) same (search (shows_untaken, append-nil, ticks_none, arith))
 
 pub shows_unlocked : (told : Bool) (r : ℕ) (here : Bool) (elsewhere : Reason) (a b : CpuState) → unlocked r here elsewhere a ≡ Ok b →
     Shows told [] false [] [] [] a b
 shows_unlocked told r here elsewhere a b e = shows_unlocked_with told a.current r here elsewhere a b refl e
-
--- a call has the function and argument that are seen
-of_is : (id func info : ℕ) (call : Call) (u : Unit {0}) → is_of (record { id = id; func = func; info = info }) call ≡ Ok u → (call.func ≡ func) ×
-    (call.info ≡ info)
-of_is id func info call u h1 = search (passed, and_parts, eqb-true, arith)
 
 -- A call begins on a CPU, with the record, function and argument that are seen.
 pub record BeginShown (told : Bool) (id func info : ℕ) (a b : CpuState) : Type 0 where
@@ -138,7 +114,7 @@ pub record BeginShown (told : Bool) (id func info : ℕ) (a b : CpuState) : Type
 begin_shown : (told : Bool) (id func info : ℕ) (call : Call) (a b c : CpuState) (u : Unit {0}) → call.id ≡ id →
     is_of (record { id = id; func = func; info = info }) call ≡ Ok u
     → Shows told [] false (call ∷ []) [] [] a c → c ≡ b → BeginShown told id func info a b
-begin_shown told id func info call a b c u h1 h2 h3 h4 = search (of_is, arith)
+begin_shown told id func info call a b c u h1 h2 h3 h4 = search (passed, and_parts, eqb-true, arith)
 
 -- the call that is unlocked begins
 shows_begun_at : (told : Bool) (progress : Progress) (id func info : ℕ) (call : Call) (a b : CpuState) → a.current ≡ at_call progress call
@@ -153,17 +129,11 @@ shows_begun_front told unlocks id func info front a b none is same_id e =
     let m = both_made (is_of (record { id = id; func = func; info = info }) front) (λ u. if is_async front.class && unlocks then Err
     (reason.IsLocked id) else Ok c) b e in
     let p = failed (is_async front.class && unlocks) (Ok c) (reason.IsLocked id) b m.1.1 in
-    begin_shown told id func info front a b c m.0 same_id m.1.0 (shows_left_running told front a none is) cc
-
-shows_begun_with : (told : Bool) (current : Option Current) (id func info : ℕ) (here : Bool) (elsewhere : Reason) (unlocks : Bool) (a b : CpuState)
-    → a.current ≡ current → begun_with current (record { id = id; func = func; info = info }) here elsewhere unlocks a ≡ Ok b → BeginShown told id func info a b
-shows_begun_with told current id func info here elsewhere unlocks a b h1 h2 = search (shows_begun_at, both_made, front_is, shows_begun_front, arith)
+    begin_shown told id func info front a b c m.0 same_id m.1.0 (search (shows_untaken, append-nil, ticks_none, arith)) cc
 
 pub shows_begun : (told : Bool) (id func info : ℕ) (here : Bool) (elsewhere : Reason) (unlocks : Bool) (a b : CpuState)
     → begun (record { id = id; func = func; info = info }) here elsewhere unlocks a ≡ Ok b → BeginShown told id func info a b
-shows_begun told id func info here elsewhere unlocks a b e =
-    let p = passed a.irq (begun_with a.current (record { id = id; func = func; info = info }) here elsewhere unlocks a) reason.InterruptsOff b e in
-    shows_begun_with told a.current id func info here elsewhere unlocks a b refl p.1
+shows_begun told id func info here elsewhere unlocks a b e = search (passed, shows_begun_at, both_made, front_is, shows_begun_front, arith)
 
 -- the call at a place of the queue
 pub picked : (r : ℕ) (queue : List Call) (i : Option ℕ) → place_in r queue ≡ i → (n : ℕ) → i ≡ Some n → (call : Call) → call_at queue (Some n) ≡ Some call
@@ -203,17 +173,9 @@ shows_begun_any id func info elsewhere a b (Some n) (Some call) none place is e 
     begin_shown false id func info call a b c m.0 p.0 m.1.0 (shows_left_queue Runs (call ∷ []) [] call n a none p.1 refl refl) cc
 shows_begun_any id func info elsewhere a b _ _ none place is e = absurd cc
 
-shows_loose_with : (current : Option Current) (id func info : ℕ) (elsewhere : Reason) (a b : CpuState) → a.current ≡ current
-    → loose_with current (record { id = id; func = func; info = info }) elsewhere a ≡ Ok b → BeginShown false id func info a b
-shows_loose_with (Some x) id func info elsewhere a b is e = shows_begun_at false x.progress id func info x.call a b is e
-shows_loose_with None id func info elsewhere a b is e =
-    shows_begun_any id func info elsewhere a b (place_in id a.queue) (call_at a.queue (place_in id a.queue)) is refl refl e
-
 pub shows_begun_loose : (id func info : ℕ) (elsewhere : Reason) (a b : CpuState) →
     begun_loose (record { id = id; func = func; info = info }) elsewhere a ≡ Ok b → BeginShown false id func info a b
-shows_begun_loose id func info elsewhere a b e =
-    let p = passed a.irq (loose_with a.current (record { id = id; func = func; info = info }) elsewhere a) reason.InterruptsOff b e in
-    shows_loose_with a.current id func info elsewhere a b refl p.1
+shows_begun_loose id func info elsewhere a b e = search (passed, shows_begun_at, shows_begun_any, arith)
 
 -- one more, as words of this number of bits count
 next_mod : (n m : ℕ) → (n % m + 1) % m ≡ (n + 1) % m
@@ -246,8 +208,7 @@ shows_ended_as told call after a is stopped locked =
 
 after_end_rests : (held : Bool) (call : Call) → (running_with (if held then at_call Ended call else None) ≡ []) ×
     (held_unlocked (if held then at_call Ended call else None) ≡ [])
-after_end_rests true call = (refl, refl)
-after_end_rests false call = (refl, refl)
+after_end_rests held call = search arith
 
 -- The call of this record ends on a CPU.
 pub record EndShown (told : Bool) (r : ℕ) (a b : CpuState) : Type 0 where
@@ -269,25 +230,26 @@ shows_ended_at told unlocks Runs call r a b is e =
     }
 shows_ended_at told unlocks _ call r a b is e = absurd cc
 
-shows_ended_with : (told unlocks : Bool) (current : Option Current) (r : ℕ) (a b : CpuState) → a.current ≡ current → ended_with current r unlocks a ≡ Ok b →
-    EndShown told r a b
-shows_ended_with told unlocks None r a b is e = absurd cc
-shows_ended_with told unlocks (Some x) r a b is e = shows_ended_at told unlocks x.progress x.call r a b is e
-
 pub shows_ended : (told unlocks : Bool) (r : ℕ) (a b : CpuState) → ended r unlocks a ≡ Ok b → EndShown told r a b
-shows_ended told unlocks r a b e = shows_ended_with told unlocks a.current r a b refl e
+shows_ended told unlocks r a b e = search (shows_ended_at, arith)
 
 -- what holds of both branches
 pub either : (P : CpuState → Type 0) (test : Bool) (x y : Bool × CpuState) → P x.1 → P y.1 → let z : Bool × CpuState = if test then x else y in P z.1
-either P true x y p q = p
-either P false x y p q = q
+either P test x y p q = search arith
 
 -- nothing is shown where an unlock that is left out is made
 slipped_front_shows : (told : Bool) (r : ℕ) (a : CpuState) (current : Option Current) (batch : List Call) → a.current ≡ current → a.batch ≡ batch
     → Shows told [] false [] [] [] a (slipped_front r a current batch).1
 slipped_front_shows told r a None (x ∷ xs) none is =
     either (λ b. Shows told [] false [] [] [] a b) ((x.id == r) && is_async x.class) (true, left_batch Unlocked x a) (false, a)
-    (shows_left_unlocked told x a none (rw is refl)) (shows_same told a a (record { queue = refl; batch = refl; current = refl; ran = refl; queued = refl }))
+    (search (shows_untaken, append-nil, ticks_none, arith)) (shows_same told a a (record {
+      queue = refl;
+      batch = refl;
+      current = refl;
+      ran = refl;
+      queued =
+          refl;
+    }))
 slipped_front_shows told r a None [] none is = shows_same told a a (record { queue = refl; batch = refl; current = refl; ran = refl; queued = refl })
 slipped_front_shows told r a (Some x) batch none is = shows_same told a a (record { queue = refl; batch = refl; current = refl; ran = refl; queued = refl })
 
@@ -297,10 +259,9 @@ shows_slipped_from_batch told r a = slipped_front_shows told r a a.current a.bat
 slipped_any_shows : (r : ℕ) (a : CpuState) (at : Option ℕ) (found : Option Call) → a.current ≡ None → place_in r a.queue ≡ at → call_at a.queue at ≡ found
     → Shows false [] false [] [] [] a (slipped_any a at found).1
 slipped_any_shows r a (Some n) (Some call) none place is =
-    let p = picked r a.queue (Some n) place n refl call is in
     either (λ b. Shows false [] false [] [] [] a b) (is_async call.class) (true, record a { queue = remove a.queue n; current = at_call Unlocked call })
     (false, a)
-    (shows_left_queue Unlocked [] [] call n a none p.1 refl refl) (shows_same false a a
+    (shows_left_queue Unlocked [] [] call n a none (picked r a.queue (Some n) place n refl call is).1 refl refl) (shows_same false a a
     (record { queue = refl; batch = refl; current = refl; ran = refl; queued = refl }))
 slipped_any_shows r a _ _ none place is = shows_same false a a (record { queue = refl; batch = refl; current = refl; ran = refl; queued = refl })
 
@@ -325,7 +286,5 @@ shows_noted told to first a =
       long = s.long;
       tally = s.tally;
       long_queued = length-set a.queued to ((slice_index_or a.queued to 0 + 1) % 2 ^ 64);
-      noted = λ place n below was.
-          let z : cond (to == place) 1 0 ≡ 0 + cond (to == place) 1 0 = omega arith in
-          counted_at a.queued to place n below was ∙ ap (λ k. (n + k) % 2 ^ 64) z;
+      noted = search (a.queued, counted_at, arith);
     }

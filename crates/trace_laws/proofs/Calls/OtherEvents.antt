@@ -1,12 +1,12 @@
 -- Events of stops and of labels leave calls as they are.
 use Rattle.trace_laws.proofs.Names.{arith, APatch, Bool, CpuState, Err, Key, Kind, LabelEvent, None, Ok, Option, Patch, Place, Reason, Result, Site}
 use Rattle.trace_laws.proofs.Names.{Some, StateValue, Stop, StopEvent, Task, ack_by, acked, acknowledged, acks_as, acks_at_run, acks_disabled, at_phase}
-use Rattle.trace_laws.proofs.Names.{cases_eq, collect_by, collected, complete_by, completed, cpu_at, enter_by, enter_from, entered, entered_open, false}
-use Rattle.trace_laws.proofs.Names.{gate_by, gate_with, has, has_run, holds_gate, if◌then◌else◌, in_patch, in_round, in_stop, key_by, label_goes, length}
-use Rattle.trace_laws.proofs.Names.{length-set, made_store, may_ack, may_off, may_open, nat_lt, next_store, not, nudge_by, off_by, on_by, on_stop, open_by}
-use Rattle.trace_laws.proofs.Names.{opened, patch_by, patch_left, patch_over, raise_by, raised, ran_function, refl, run_as, run_by, site_by, site_word, stop_at}
+use Rattle.trace_laws.proofs.Names.{cases_eq, collect_by, complete_by, completed, cpu_at, enter_by, enter_from, entered, entered_open, false}
+use Rattle.trace_laws.proofs.Names.{gate_by, has, has_run, holds_gate, if◌then◌else◌, in_patch, in_round, in_stop, key_by, label_goes, length}
+use Rattle.trace_laws.proofs.Names.{length-set, made_store, may_ack, may_off, nat_lt, next_store, not, off_by, on_by, on_stop, open_by}
+use Rattle.trace_laws.proofs.Names.{patch_by, patch_left, patch_over, raise_by, raised, refl, run_by, site_by, site_word, stop_at}
 use Rattle.trace_laws.proofs.Names.{stop_goes, stop_of, subst, switched_at, switched_on, through, true, ungate_by, with_cpu, with_inside, with_interrupts}
-use Rattle.trace_laws.proofs.Names.{with_irq, with_patch, with_stop, ℕ, ℤ, ◌&&◌, ◌<◌, ◌==◌, ◌>>=◌, ◌≡◌}
+use Rattle.trace_laws.proofs.Names.{with_irq, with_stop, ℕ, ℤ, ◌&&◌, ◌<◌, ◌==◌, ◌>>=◌, ◌≡◌}
 use Rattle.trace_model.specs.declared.event.LabelEvent.TheVariants as labels
 use Rattle.trace_model.specs.declared.event.StopEvent.TheVariants as stops
 use Rattle.trace_model.specs.declared.reason.Reason.TheVariants as reason
@@ -24,11 +24,8 @@ pub record KeepsCalls (s t : StateValue) : Type 0 where
 pub keeps_same : (s t : StateValue) → t.setting ≡ s.setting → t.cpus ≡ s.cpus → t.places ≡ s.places → KeepsCalls s t
 keeps_same s t h1 h2 h3 = search (same_calls, arith)
 
-pub then_same : (a b c : CpuState) → SameCalls a b → SameCalls b c → SameCalls a c
-then_same a b c h1 h2 = search arith
-
 pub keeps_then : (s m t : StateValue) → KeepsCalls s m → KeepsCalls m t → KeepsCalls s t
-keeps_then s m t h1 h2 = search (then_same, arith)
+keeps_then s m t h1 h2 = search arith
 
 -- a CPU with the calls that it had
 pub keeps_cpu : (actor : ℕ) (s : StateValue) (c : CpuState) → SameCalls (cpu_at s actor) c → KeepsCalls s (with_cpu actor s c)
@@ -47,26 +44,19 @@ keeps_refl : (s : StateValue) → KeepsCalls s s
 keeps_refl s = keeps_same s s refl refl refl
 
 keeps_if : (s x y : StateValue) (test : Bool) → KeepsCalls s x → KeepsCalls s y → KeepsCalls s (if test then x else y)
-keeps_if s x y true p q = p
-keeps_if s x y false p q = q
+keeps_if s x y test p q = search arith
 
 -- a stop is changed
 keeps_stop : (source : ℕ) (s t : StateValue) (made : Result Stop Reason) → on_stop source s made ≡ Ok t → KeepsCalls s t
-keeps_stop source s t made e =
-    let m = both_made made (λ stop. Ok (with_stop source s stop)) t e in
-    keeps_end s (with_stop source s m.0) t (cc) (keeps_same s (with_stop source s m.0) refl refl refl)
+keeps_stop source s t made e = search (both_made, keeps_end, keeps_same, arith)
 
 -- a state is made after a test
 keeps_after : {A : Type 0} (s t u : StateValue) (test : Result A Reason) → (test >>= λ u. Ok t) ≡ Ok u → KeepsCalls s t → KeepsCalls s u
 keeps_after s t u test e k = let m = both_made test (λ u. Ok t) u e in keeps_end s t u (cc) k
 
-keeps_gate_with : (gate : Option ℕ) (cpu : ℕ) (s t : StateValue) → gate_with gate cpu s ≡ Ok t → KeepsCalls s t
-keeps_gate_with (Some holder) cpu s t e = absurd cc
-keeps_gate_with None cpu s t e = keeps_end s (record s { gate = Some cpu }) t (cc) (keeps_same s (record s { gate = Some cpu }) refl refl refl)
-
 keeps_gate : (cpu : ℕ) (s t : StateValue) → gate_by cpu s ≡ Ok t → KeepsCalls s t
 unfolding gate_by
-keeps_gate cpu s t e = keeps_gate_with s.gate cpu s t e
+keeps_gate cpu s t e = search (keeps_end, keeps_same, arith)
 
 keeps_ungate : (cpu : ℕ) (s t : StateValue) → ungate_by cpu s ≡ Ok t → KeepsCalls s t
 unfolding ungate_by
@@ -74,11 +64,7 @@ keeps_ungate cpu s t e = keeps_after s (record s { gate = None }) t (holds_gate 
 
 keeps_open : (source : ℕ) (task : Task) (s t : StateValue) → open_by source task s ≡ Ok t → KeepsCalls s t
 unfolding open_by
-keeps_open source task s t e =
-    let next = on_stop source s (opened s.setting task) in
-    let p = failed (stop_at s source).is_open (may_open s.setting.without.gate source s >>= λ u. next) (reason.StopOpen source) t e in
-    let m = both_made (may_open s.setting.without.gate source s) (λ u. next) t p.1 in
-    keeps_stop source s t (opened s.setting task) m.1.1
+keeps_open source task s t e = search (failed, both_made, keeps_stop, arith)
 
 keeps_entered_open : (cpu source : ℕ) (s t : StateValue) → entered_open cpu source s ≡ Ok t → KeepsCalls s t
 keeps_entered_open cpu source s t e =
@@ -97,8 +83,7 @@ unfolding enter_by
 keeps_enter cpu source s t e = keeps_enter_from (stop_of cpu s) cpu source s t e
 
 keeps_patch_over : (next : Option (Place × ℕ)) (source : ℕ) (patch : Patch) (s t : StateValue) → patch_over next source patch s ≡ Ok t → KeepsCalls s t
-keeps_patch_over (Some next) source patch s t e = absurd cc
-keeps_patch_over None source patch s t e = keeps_end s (with_patch source patch s) t (cc) (keeps_same s (with_patch source patch s) refl refl refl)
+keeps_patch_over next source patch s t e = search (keeps_end, keeps_same, arith)
 
 keeps_acks_as : (kind : Kind) (cpu source : ℕ) (s t : StateValue) → acks_as kind cpu source s ≡ Ok t → KeepsCalls s t
 keeps_acks_as APatch cpu source s t e = keeps_patch_over (next_store source s) source (patch_left source s) s t e
@@ -116,17 +101,13 @@ keeps_may_ack cpu source phase s t e =
     let tested = acks_disabled s.setting.without.switches cpu s in
     let runs = (phase == RUN) && has (stop_at s source).task.active cpu in
     let next : Result StateValue Reason = if phase == DISABLE_IRQ then (tested >>= λ v. Ok s) else (if runs then acks_at_run cpu source s else Ok s) in
-    let m = both_made (at_phase (stop_at s source) cpu phase) (λ u. next) t e in
-    keeps_acks_by (phase == DISABLE_IRQ) runs cpu source s t tested m.1.1
-
-keeps_switched_at : (cpu source phase : ℕ) (s : StateValue) → KeepsCalls s (switched_at cpu source phase s)
-keeps_switched_at cpu source phase s = search (keeps_if, keeps_irq, keeps_refl, arith)
+    keeps_acks_by (phase == DISABLE_IRQ) runs cpu source s t tested (both_made (at_phase (stop_at s source) cpu phase) (λ u. next) t e).1.1
 
 keeps_acked : (cpu source phase : ℕ) (s : StateValue) → KeepsCalls s (acked cpu source phase s)
 keeps_acked cpu source phase s =
     let m = with_stop source s (acknowledged cpu phase (not s.setting.without.raises) (stop_at s source)) in
     keeps_then s m (acked cpu source phase s) (keeps_same s m refl refl refl)
-    (keeps_if m (switched_at cpu source phase m) m m.setting.without.switches (keeps_switched_at cpu source phase m) (keeps_refl m))
+    (keeps_if m (switched_at cpu source phase m) m m.setting.without.switches (search (keeps_if, keeps_irq, keeps_refl, arith)) (keeps_refl m))
 
 keeps_ack : (cpu phase : ℕ) (s t : StateValue) → ack_by cpu phase s ≡ Ok t → KeepsCalls s t
 unfolding ack_by
@@ -139,8 +120,7 @@ keeps_raise : (cpu phase : ℕ) (s t : StateValue) → raise_by cpu phase s ≡ 
 unfolding raise_by
 keeps_raise cpu phase s t e =
     let m = both_made (in_round cpu s) (λ source. on_stop source s (raised cpu phase (stop_at s source)) >>= λ x. Ok (switched_on cpu phase x)) t e in
-    let made = on_stop m.0 s (raised cpu phase (stop_at s m.0)) in
-    let n = both_made made (λ x. Ok (switched_on cpu phase x)) t m.1.1 in
+    let n = both_made (on_stop m.0 s (raised cpu phase (stop_at s m.0))) (λ x. Ok (switched_on cpu phase x)) t m.1.1 in
     keeps_then s n.0 t (keeps_stop m.0 s n.0 (raised cpu phase (stop_at s m.0)) n.1.0)
     (keeps_end n.0 (switched_on cpu phase n.0) t (cc)
     (keeps_if n.0 (with_irq cpu true n.0) n.0 (n.0.setting.without.switches && (phase == OVER)) (keeps_irq cpu true n.0) (keeps_refl n.0)))
@@ -159,15 +139,9 @@ keeps_on cpu s t e =
     let p = failed (cpu_at s cpu).irq (next m.0) reason.InterruptsOn t m.1.1 in
     keeps_after s (with_irq cpu true s) t (through (stop_at s m.0) cpu) p.1 (keeps_irq cpu true s)
 
-keeps_run_as : (kind : Kind) (source cpu func arg : ℕ) (s t : StateValue) → run_as kind source cpu func arg s ≡ Ok t → KeepsCalls s t
-keeps_run_as APatch source cpu func arg s t e = absurd cc
-keeps_run_as _ source cpu func arg s t e = keeps_stop source s t (ran_function cpu func arg (stop_at s source)) e
-
 keeps_run : (cpu func arg : ℕ) (s t : StateValue) → run_by cpu func arg s ≡ Ok t → KeepsCalls s t
 unfolding run_by
-keeps_run cpu func arg s t e =
-    let m = both_made (stop_of cpu s) (λ source. run_as (stop_at s source).task.kind source cpu func arg s) t e in
-    keeps_run_as (stop_at s m.0).task.kind m.0 cpu func arg s t m.1.1
+keeps_run cpu func arg s t e = search (both_made, keeps_stop, arith)
 
 keeps_complete : (cpu : ℕ) (answer : ℤ) (s t : StateValue) → complete_by cpu answer s ≡ Ok t → KeepsCalls s t
 unfolding complete_by
@@ -179,10 +153,7 @@ keeps_complete cpu answer s t e =
 
 keeps_collect : (source : ℕ) (answer : ℤ) (s t : StateValue) → collect_by source answer s ≡ Ok t → KeepsCalls s t
 unfolding collect_by
-keeps_collect source answer s t e =
-    let made = collected answer (stop_at s source) in
-    let p = passed (stop_at s source).is_open (on_stop source s made) (reason.StopNotOpen source) t e in
-    keeps_stop source s t made p.1
+keeps_collect source answer s t e = search (passed, keeps_stop, arith)
 
 keeps_made_store : (next : Option (Place × ℕ)) (source : ℕ) (patch : Patch) (place : Place) (word : ℕ) (s t : StateValue)
     → made_store next source patch place word s ≡ Ok t → KeepsCalls s t
@@ -209,9 +180,6 @@ stop_keeps_calls cpu (stops.Run func arg) s t e = keeps_run cpu func arg s t e
 stop_keeps_calls cpu (stops.Complete answer) s t e = keeps_complete cpu answer s t e
 stop_keeps_calls cpu (stops.Collect answer) s t e = keeps_collect cpu answer s t e
 
-keeps_nudge : (cpu key : ℕ) (up : Bool) (s t : StateValue) → nudge_by cpu key up s ≡ Ok t → KeepsCalls s t
-keeps_nudge cpu key up s t h1 = search (both_made, keeps_end, keeps_same, arith)
-
 -- so does one of keys and sites
 pub label_keeps_calls : (cpu : ℕ) (e : LabelEvent) (s t : StateValue) → label_goes cpu e s ≡ Ok t → KeepsCalls s t
 unfolding label_goes
@@ -219,4 +187,4 @@ label_keeps_calls cpu (labels.Set key count) s t e = keeps_patch cpu (Key key) c
 label_keeps_calls cpu (labels.Turn site jumps) s t e = keeps_patch cpu (Site site) (site_word jumps) s t e
 label_keeps_calls cpu (labels.Key key on) s t e = keeps_after s s t (key_by cpu key on s) e (keeps_refl s)
 label_keeps_calls cpu (labels.Site site jumps) s t e = keeps_after s s t (site_by cpu site jumps s) e (keeps_refl s)
-label_keeps_calls cpu (labels.Nudge key up) s t e = keeps_nudge cpu key up s t e
+label_keeps_calls cpu (labels.Nudge key up) s t e = search (both_made, keeps_end, keeps_same, arith)

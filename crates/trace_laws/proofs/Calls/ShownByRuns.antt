@@ -1,8 +1,8 @@
 -- What the events of a run show of the calls of one CPU.
 use Rattle.trace_laws.proofs.Names.{Bool, CallEvent, CallsShown, Event, IsPermutation-refl, List, Ok, Runs, StateValue, [], ap, append-nil, arith, begin_of}
-use Rattle.trace_laws.proofs.Names.{begins, call_goes, cond, count_by, cpu_at, ends, false, goes, held, id_of, idle_by, is_from, is_to, length, map-append, not}
+use Rattle.trace_laws.proofs.Names.{begins, call_goes, cond, count_by, cpu_at, ends, goes, held, id_of, idle_by, is_from, is_to, length, map-append, not}
 use Rattle.trace_laws.proofs.Names.{notes, notes_now, queue_from, queue_next, queued, queued_now, refl, running, subst, sym, taken_from, taken_now, takes_now}
-use Rattle.trace_laws.proofs.Names.{true, waiting, ℕ, ◌++◌, ◌+◌, ◌<◌, ◌∙◌, ◌∷◌, ◌≡◌}
+use Rattle.trace_laws.proofs.Names.{waiting, ℕ, ◌++◌, ◌+◌, ◌<◌, ◌∙◌, ◌∷◌, ◌≡◌}
 use Rattle.std.proofs.lemmas.List.Sums.{sum_by-append}
 use Rattle.trace_model.specs.declared.event.CallEvent.TheVariants as calls
 use Rattle.trace_model.specs.declared.event.Event.TheVariants as event
@@ -51,12 +51,8 @@ event_shows order cpu actor (event.Label e) s t o below g =
 pub count_append : {X : Type 0} (p : X → Bool) (xs ys : List X) → count_by p (xs ++ ys) ≡ count_by p xs + count_by p ys
 count_append p xs ys = sum_by-append (λ x. cond (p x) 1 0) xs ys
 
-add_three : (a b c : ℕ) → (a + b) + c ≡ a + (b + c)
-add_three a b c = omega arith
-
 count_more : {X : Type 0} (n : ℕ) (p : X → Bool) (xs ys : List X) → (n + count_by p xs) + count_by p ys ≡ n + count_by p (xs ++ ys)
-count_more n p xs ys = let e : count_by p (xs ++ ys) ≡ count_by p xs + count_by p ys = count_append p xs ys in rw e (add_three n (count_by p xs)
-    (count_by p ys))
+count_more n p xs ys = let e : count_by p (xs ++ ys) ≡ count_by p xs + count_by p ys = count_append p xs ys in rw e (omega arith)
 
 -- no event has happened
 shown_none : (cpu : ℕ) (s : StateValue) → CallsShown cpu [] s s
@@ -75,10 +71,6 @@ shown_none cpu s = record {
   long_queued = refl;
   noted = λ to n below was. let z : n + 0 ≡ n = omega arith in rw z was;
 }
-
-told_from : (order : Bool) (s : StateValue) → s.setting.without.order ≡ order → s.setting.without.order ≡ false → not order ≡ true
-told_from true s e f = absurd cc
-told_from false s e f = refl
 
 -- one event comes before others
 shown_more : (order : Bool) (cpu : ℕ) (e : ℕ × Event) (es : List (ℕ × Event)) (s m t : StateValue) → s.setting.without.order ≡ order →
@@ -99,11 +91,11 @@ shown_more order cpu e es s m t o first more =
       one_at_a_time = joined (running a) first.began first.over (running b) more.began more.over (running c) f.one_at_a_time more.one_at_a_time;
       each_once = joined_once (held a) (queued_now cpu e) first.began (held b) (queued cpu es) more.began (held c) f.each_once more.each_once;
       in_order = λ told.
-          let q : b.queue ≡ queue_next (takes_now cpu e) a.queue (queued_now cpu e) = f.queue_is (told_from order s o told) in
+          let q : b.queue ≡ queue_next (takes_now cpu e) a.queue (queued_now cpu e) = f.queue_is (search arith) in
           rw (← q) (joined (waiting a) (taken_now (takes_now cpu e) a.queue) first.began (waiting b) (taken_from cpu b.queue es) more.began (waiting c)
-          (f.in_order (told_from order s o told)) (more.in_order (same ∙ told)));
+          (f.in_order (search arith)) (more.in_order (same ∙ told)));
       queue_is = λ told.
-          let q : b.queue ≡ queue_next (takes_now cpu e) a.queue (queued_now cpu e) = f.queue_is (told_from order s o told) in
+          let q : b.queue ≡ queue_next (takes_now cpu e) a.queue (queued_now cpu e) = f.queue_is (search arith) in
           rw (← q) (more.queue_is (same ∙ told));
       long = more.long ∙ f.long;
       tally = λ source n below was.

@@ -1,13 +1,13 @@
 -- What traces show of calls.
-use Rattle.trace_laws.proofs.Names.{Async, Bool, Call, CallsShown, Class, CpuState, Event, IsPermutation, IsPermutation-map, IsTrace, LabelWords, List, Setting}
-use Rattle.trace_laws.proofs.Names.{StateValue, Sync, [], ap, append-nil, append_assoc, arith, begin_of, begins, cond, count_by, cpu_at, false, filter-append}
+use Rattle.trace_laws.proofs.Names.{Async, Bool, Call, CallsShown, Class, CpuState, Event, IsPermutation-map, IsTrace, LabelWords, List, Setting}
+use Rattle.trace_laws.proofs.Names.{StateValue, Sync, [], ap, append-nil, append_assoc, arith, begin_of, cond, count_by, cpu_at, false, filter-append}
 use Rattle.trace_laws.proofs.Names.{fresh_cpu, held, id_of, is_class, is_from, is_to, length, length-replicate, map, map-append, notes}
-use Rattle.trace_laws.proofs.Names.{notes_now, of_class, only_if, opening, order, queue_from, queue_next, queued, queued_now, ran_at, refl, running, sym}
-use Rattle.trace_laws.proofs.Names.{taken_from, taken_now, takes_now, true, waiting, ℕ, ◌%◌, ◌++◌, ◌+◌, ◌<◌, ◌==◌, ◌^◌, ◌∙◌, ◌∷◌, ◌≡◌}
+use Rattle.trace_laws.proofs.Names.{notes_now, of_class, opening, order, queue_from, queue_next, queued, queued_now, ran_at, refl, running, sym}
+use Rattle.trace_laws.proofs.Names.{taken_from, taken_now, takes_now, true, waiting, ℕ, ◌%◌, ◌++◌, ◌+◌, ◌<◌, ◌^◌, ◌∙◌, ◌∷◌, ◌≡◌}
 use Rattle.std.proofs.Common.{filter}
 use Rattle.smp_words.proofs.Zeros.{get_or-same}
 use Rattle.trace_laws.proofs.{Calls.ShownByRuns.calls_shown, Calls.ShownByRuns.count_append}
-use Rattle.trace_laws.specs.Traces.{BeginInOrder, BeginOnce, CountsAre, EndOnce, record_of, taken}
+use Rattle.trace_laws.specs.Traces.{BeginInOrder, BeginOnce, CountsAre, EndOnce, record_of}
 use Rattle.trace_laws.specs.CallHistory.{queued_at}
 
 -- before the first event, a CPU has done nothing
@@ -25,9 +25,7 @@ order_at_first u words = refl
 
 shown_at : (u : Setting) (words : LabelWords) (es : List (ℕ × Event)) (t : StateValue) (cpu : ℕ) → IsTrace u words es t → cpu < 512
     → CallsShown cpu es (opening u words) t
-shown_at u words es t cpu run below =
-    let s = opening u words in
-    calls_shown s.setting.without.order cpu es s t refl (rw (cpus_at_first u words) below) run
+shown_at u words es t cpu run below = search (calls_shown, cpus_at_first, arith)
 
 -- what was held, taken, run and counted before the first event
 record IsFresh (c : CpuState) : Type 0 where
@@ -55,22 +53,17 @@ is_fresh c e = record {
 fresh_is : (u : Setting) (words : LabelWords) (cpu : ℕ) → IsFresh (cpu_at (opening u words) cpu)
 fresh_is u words cpu = is_fresh (cpu_at (opening u words) cpu) (fresh_at u words cpu)
 
--- lists that are equal to these are in that order too
-moved_as : {X : Type 0} (xs ys xs' ys' : List X) → xs ≡ xs' → ys ≡ ys' → IsPermutation xs ys → IsPermutation xs' ys'
-moved_as xs ys xs' ys' e f p = rw (← e, ← f) p
-
 pub begin_once : (u : Setting) (words : LabelWords) (es : List (ℕ × Event)) (t : StateValue) → IsTrace u words es t → (cpu : ℕ) → cpu < 512 →
     BeginOnce u es t cpu
 begin_once u words es t run cpu below =
     let c = shown_at u words es t cpu run below in
-    let f = fresh_is u words cpu in
     let a = cpu_at (opening u words) cpu in
-    let h : held a ≡ [] = f.holds in
-    let p = IsPermutation-map begin_of (held a ++ queued cpu es) (c.began ++ held (cpu_at t cpu)) c.each_once in
-    moved_as (map begin_of (held a ++ queued cpu es)) (map begin_of (c.began ++ held (cpu_at t cpu))) (map begin_of (queued cpu es))
-    (begins cpu es ++ map begin_of (held (cpu_at t cpu)))
-    (ap (λ xs. map begin_of (xs ++ queued cpu es)) h)
-    (map-append begin_of c.began (held (cpu_at t cpu)) ∙ ap (λ xs. xs ++ map begin_of (held (cpu_at t cpu))) c.begins_are) p
+    let h : held a ≡ [] = (fresh_is u words cpu).holds in
+    rw (
+      ← (ap (λ xs. map begin_of (xs ++ queued cpu es)) h),
+      ← (map-append begin_of c.began (held (cpu_at t cpu)) ∙ ap (λ xs. xs ++ map begin_of (held (cpu_at
+          t cpu))) c.begins_are),
+    ) (IsPermutation-map begin_of (held a ++ queued cpu es) (c.began ++ held (cpu_at t cpu)) c.each_once)
 
 records_of : (calls : List Call) → map record_of (map begin_of calls) ≡ map id_of calls
 records_of [] = refl
@@ -79,18 +72,15 @@ records_of (x ∷ xs) = ap (λ ys. x.id ∷ ys) (records_of xs)
 pub end_once : (u : Setting) (words : LabelWords) (es : List (ℕ × Event)) (t : StateValue) → IsTrace u words es t → (cpu : ℕ) → cpu < 512 → EndOnce u es t cpu
 end_once u words es t run cpu below =
     let c = shown_at u words es t cpu run below in
-    let f = fresh_is u words cpu in
-    let a = cpu_at (opening u words) cpu in
     let b = cpu_at t cpu in
     ap (λ xs. map record_of xs) (sym c.begins_are) ∙ records_of c.began
-    ∙ ap (λ xs. map id_of (xs ++ c.began)) (sym f.runs) ∙ ap (λ xs. map id_of xs) c.one_at_a_time
+    ∙ ap (λ xs. map id_of (xs ++ c.began)) (sym (fresh_is u words cpu).runs) ∙ ap (λ xs. map id_of xs) c.one_at_a_time
     ∙ map-append id_of c.over (running b) ∙ ap (λ xs. xs ++ map id_of (running b)) c.ends_are
 
 -- what passes a test passes it again
 filter_again_by : (p : Call → Bool) (x : Call) (ys : List Call) (test : Bool) → p x ≡ test → filter p ys ≡ ys →
     filter p (cond test (x ∷ ys) ys) ≡ cond test (x ∷ ys) ys
-filter_again_by p x ys true e same = rw e (ap (λ zs. x ∷ zs) same)
-filter_again_by p x ys false e same = same
+filter_again_by p x ys test e same = search arith
 
 filter_again : (p : Call → Bool) (xs : List Call) → filter p (filter p xs) ≡ filter p xs
 filter_again p [] = refl
@@ -99,20 +89,17 @@ filter_again p (x ∷ xs) = filter_again_by p x (filter p xs) (p x) refl (filter
 -- what passes one test passes no other
 filter_other_by : (p q : Call → Bool) (x : Call) (ys : List Call) (test : Bool) → (test ≡ true → q x ≡ false) → filter q ys ≡ [] →
     filter q (cond test (x ∷ ys) ys) ≡ []
-filter_other_by p q x ys true other none = rw (other refl) none
-filter_other_by p q x ys false other none = none
+filter_other_by p q x ys test other none = search arith
 
 filter_other : (p q : Call → Bool) → ((x : Call) → p x ≡ true → q x ≡ false) → (xs : List Call) → filter q (filter p xs) ≡ []
 filter_other p q other [] = refl
 filter_other p q other (x ∷ xs) = filter_other_by p q x (filter p xs) (p x) (other x) (filter_other p q other xs)
 
 sync_only : (class : Class) → is_class Sync class ≡ true → is_class Async class ≡ false
-sync_only Sync e = refl
-sync_only Async e = absurd cc
+sync_only class e = search arith
 
 async_only : (class : Class) → is_class Async class ≡ true → is_class Sync class ≡ false
-async_only Async e = refl
-async_only Sync e = absurd cc
+async_only class e = search arith
 
 -- the calls of a class keep their order where a queue is taken
 class_order : (class : Class) (queue : List Call) → of_class class (order queue) ≡ of_class class queue
@@ -162,53 +149,37 @@ begin_in_order u words es t run cpu below =
     let b = cpu_at t cpu in
     let o : (opening u words).setting.without.order ≡ u.without.order = ap (λ v. v.without.order) (order_at_first u words) in
     record {
-      begun = λ told.
-          ap (λ xs. map begin_of (xs ++ taken cpu es)) (sym f.waits) ∙ ap (λ xs. map begin_of (waiting a ++ taken_from cpu xs es)) (sym f.queue)
-          ∙ ap (λ xs. map begin_of xs) (c.in_order (o ∙ told)) ∙ map-append begin_of c.began (waiting b) ∙
-          ap (λ xs. xs ++ map begin_of (waiting b)) c.begins_are;
+      begun = search (f.waits, a, f.queue, c.in_order, o, c.began, b, c.begins_are, map-append, arith);
       queue = λ told. c.queue_is (o ∙ told) ∙ ap (λ xs. queue_from cpu xs es) f.queue;
       classes = λ class. classes_from class cpu [] es;
     }
-
--- what a CPU queues for another is what is queued there by it
-notes_queue : (source to other : ℕ) (call : Call) (from at : Bool) → (call.source == source) ≡ from → (other == to) ≡ at
-    → count_by (is_to to) (only_if from other) ≡ count_by (is_from source) (only_if at call)
-notes_queue source to other call from at h1 h2 = search arith
-
-notes_event : (source to : ℕ) (e : ℕ × Event) → count_by (is_to to) (notes_now source e) ≡ count_by (is_from source) (queued_now to e)
-notes_event source to e = search (notes_queue, arith)
 
 notes_are : (source to : ℕ) (es : List (ℕ × Event)) → count_by (is_to to) (notes source es) ≡ count_by (is_from source) (queued to es)
 unfolding notes queued
 notes_are source to [] = refl
 notes_are source to (e ∷ es) =
     count_append (is_to to) (notes_now source e) (notes source es)
-    ∙ ap (λ k. k + count_by (is_to to) (notes source es)) (notes_event source to e)
+    ∙ ap (λ k. k + count_by (is_to to) (notes source es)) (search arith)
     ∙ ap (λ k. count_by (is_from source) (queued_now to e) + k) (notes_are source to es)
     ∙ sym (count_append (is_from source) (queued_now to e) (queued to es))
 
 zero_and : (n : ℕ) → (0 + n) % 2 ^ 64 ≡ n % 2 ^ 64
-zero_and n = ap (λ k. k % 2 ^ 64) (zero_first n) where
-  zero_first : (n : ℕ) → 0 + n ≡ n
-  zero_first n = omega arith
+zero_and n = search arith
 
 pub counts_are : (u : Setting) (words : LabelWords) (es : List (ℕ × Event)) (t : StateValue) → IsTrace u words es t → (cpu : ℕ) → cpu < 512 →
     CountsAre u es t cpu
 counts_are u words es t run cpu below =
     let c = shown_at u words es t cpu run below in
     let f = fresh_is u words cpu in
-    let a = cpu_at (opening u words) cpu in
     let b = cpu_at t cpu in
     let began_is : c.began ≡ c.over ++ running b = ap (λ xs. xs ++ c.began) (sym f.runs) ∙ c.one_at_a_time in
     record {
       over = c.over;
       ends_are = c.ends_are;
-      whole = moved_as (held a ++ queued cpu es) (c.began ++ held b) (queued cpu es) ((c.over ++ running b) ++ held b)
-          (ap (λ xs. xs ++ queued cpu es) f.holds) (ap (λ xs. xs ++ held b) began_is) c.each_once;
+      whole = rw (← (ap (λ xs. xs ++ queued cpu es) f.holds), ← (ap (λ xs. xs ++ held b) began_is)) c.each_once;
       queued_are = λ source low.
-          let d = shown_at u words es t source run low in
           let g = fresh_is u words source in
-          d.noted cpu 0 (rw g.queued_long below) (g.queued cpu) ∙ zero_and (count_by (is_to cpu) (notes source es)) ∙
+          (shown_at u words es t source run low).noted cpu 0 (rw g.queued_long below) (g.queued cpu) ∙ zero_and (count_by (is_to cpu) (notes source es)) ∙
           ap (λ k. k % 2 ^ 64) (notes_are source cpu es);
       ran_are = λ source low. c.tally source 0 (rw f.ran_long low) (f.ran source) ∙ zero_and (count_by (is_from source) c.over);
     }

@@ -126,16 +126,11 @@ stop_goes_words cpu (stops.Run func arg) s t e = run_words cpu func arg s t e
 stop_goes_words cpu (stops.Complete answer) s t e = complete_words cpu answer s t e
 stop_goes_words cpu (stops.Collect answer) s t e = collect_words cpu answer s t e
 
-made_words : (next : Option (Place × ℕ)) (source : ℕ) (patch : Patch) (place : Place) (word : ℕ) (s t : StateValue) →
-    made_store next source patch place word s ≡ Ok t
-    → t.words ≡ stored place word s.words
-made_words next source patch place word s t h1 = search (passed, arith)
-
 store_words : (cpu : ℕ) (place : Place) (word : ℕ) (s t : StateValue) → patch_by cpu place word s ≡ Ok t → t.words ≡ stored place word s.words
 unfolding patch_by
 store_words cpu place word s t e =
     let m = both_made (in_patch cpu s) (λ source. made_store (next_store source s) source (patch_left source s) place word s) t e in
-    made_words (next_store m.0 s) m.0 (patch_left m.0 s) place word s t m.1.1
+    search (passed, arith)
 
 nudge_words : (cpu key : ℕ) (up : Bool) (s t : StateValue) → nudge_by cpu key up s ≡ Ok t →
     t.words ≡ stored (Key key) (nudged_count up (count_at s.words key)) s.words
@@ -268,8 +263,6 @@ pub labels_are_lawful : LabelsAreLawful
 labels_are_lawful h1 h2 h3 h4 h5 h6 = search (labelled_of, told_words, patching, arith)
 
 -- what a read shows
-xor_none : (a b : Bool) → xor a b ≡ false → a ≡ b
-xor_none a b h1 = search arith
 
 read_as : (test : Bool) (why : Reason) (u : Unit {0}) → (if test then Err why else Ok tt) ≡ Ok u → test ≡ false
 read_as true why u e = absurd cc
@@ -284,15 +277,13 @@ read_is cpu (labels.Key key on) s t e is =
     let m = both_made (key_by cpu key on s) (λ u. Ok s) t e in
     let n = both_made (reads_by cpu s) (λ u. read_key s.words key on) m.0 m.1.0 in (
       reads_on cpu s n.0 n.1.0,
-      xor_none (is_on (count_at s.words key)) on (read_as (xor (is_on (count_at s.words key)) on) (reason.KeyIs key (is_on
-          (count_at s.words key))) m.0 n.1.1),
+      (search arith),
     )
 read_is cpu (labels.Site site jumps) s t e is =
     let m = both_made (site_by cpu site jumps s) (λ u. Ok s) t e in
     let n = both_made (reads_by cpu s) (λ u. read_site s.words site jumps) m.0 m.1.0 in (
       reads_on cpu s n.0 n.1.0,
-      xor_none (is_jump (site_at s.words site)) jumps (read_as (xor (is_jump (site_at s.words site)) jumps) (reason.SiteIs site
-          (is_jump (site_at s.words site))) m.0 n.1.1),
+      (search arith),
     )
 read_is cpu _ s t e is = absurd cc
 

@@ -1,13 +1,14 @@
 -- Each event keeps what holds of patches, and of keys and sites.
+use Rattle.trace_laws.proofs.Stops.Ends.{first_none}
 use Rattle.trace_laws.proofs.Names.{APatch, Err, Kind, None, Ok, Option, Reason, Result, Seen, Setting, Some, StateValue, Stop, Task, and_parts, answer_of, ap}
 use Rattle.trace_laws.proofs.Names.{arith, cases_lt, collect_by, collected, collected_with, complete_by, completed, cpu_at, enter_by, enter_from, entered}
-use Rattle.trace_laws.proofs.Names.{entered_open, eqb-true, false, first_of, has, inl, inr, is_called, is_none, is_work, length, ltb-true, may_open}
-use Rattle.trace_laws.proofs.Names.{members_below, nat_lt, offline_in, on_stop, open_by, opened, refl, run_by, slice_set, stop_at, stop_of, subst, true}
-use Rattle.trace_laws.proofs.Names.{unfinished, unless_offline, with_inside, with_stop, ℕ, ℤ, ◌&&◌, ◌<◌, ◌>>=◌, ◌∙◌, ◌≡◌}
+use Rattle.trace_laws.proofs.Names.{entered_open, eqb-true, false, has, inl, inr, is_called, is_none, is_work, length, ltb-true, may_open}
+use Rattle.trace_laws.proofs.Names.{members_below, nat_lt, on_stop, open_by, opened, refl, run_by, slice_set, stop_at, stop_of, subst, true}
+use Rattle.trace_laws.proofs.Names.{unfinished, with_inside, with_stop, ℕ, ℤ, ◌&&◌, ◌<◌, ◌>>=◌, ◌∙◌, ◌≡◌}
 use Rattle.trace_model.specs.declared.reason.Reason.TheVariants as reason
-use Rattle.trace_model.specs.{Stop.is_only, Stop.opening}
+use Rattle.trace_model.specs.{Stop.opening}
 use Rattle.trace_laws.proofs.Labels.Patches.{IsOfAll, Labelled, SamePatch, StopGoes, labelled_same, members_more, same_goes, stop_labelled}
-use Rattle.trace_laws.proofs.Stops.Ends.{collected_is, completed_is, least_none, none_is, offline_none, run_is}
+use Rattle.trace_laws.proofs.Stops.Ends.{collected_is, completed_is, none_is, run_is}
 use Rattle.trace_laws.proofs.{Calls.MadeSteps.both_made, Calls.MadeSteps.failed, Calls.MadeSteps.passed, Labels.StoredWords.first_is, Stops.CpusInStops.Rounds}
 use Rattle.trace_laws.proofs.{Stops.CpusInStops.is_round, Stops.StopEvents.ne_truth, Stops.StopEvents.open_below, Stops.StopEvents.stop_of_is}
 
@@ -68,16 +69,14 @@ unfolding complete_by
 complete_labelled seen work s t actor answer r l e =
     let made = λ (source : ℕ). completed actor answer (cpu_at s actor).irq (stop_at s source) in
     let m = both_made (stop_of actor s) (λ source. on_stop source s (made source) >>= λ x. Ok (with_inside actor None x)) t e in
-    let o = stop_of_is s actor m.0 m.1.0 in
     let stop = stop_at s m.0 in
     let n = both_made (on_stop m.0 s (made m.0)) (λ x. Ok (with_inside actor None x)) t m.1.1 in
     let k = both_made (made m.0) (λ x. Ok (with_stop m.0 s x)) n.0 n.1.0 in
-    let c = completed_is stop k.0 actor answer (cpu_at s actor).irq k.1.0 in
     let to = record stop { answers = slice_set stop.answers actor (Some answer) } in
-    let end : with_stop m.0 s to ≡ n.0 = ap (λ x. with_stop m.0 s x) c.1 ∙ cc in
+    let end : with_stop m.0 s to ≡ n.0 = ap (λ x. with_stop m.0 s x) (completed_is stop k.0 actor answer (cpu_at s actor).irq k.1.0).1 ∙ cc in
     let same : with_inside actor None (with_stop m.0 s to) ≡ t = ap (λ x. with_inside actor None x) end ∙ cc in
     labelled_end (with_inside actor None (with_stop m.0 s to)) t same
-    (same_labelled seen work s (with_inside actor None (with_stop m.0 s to)) m.0 to r l o.1
+    (same_labelled seen work s (with_inside actor None (with_stop m.0 s to)) m.0 to r l (stop_of_is s actor m.0 m.1.0).1
     (record { is_open = refl; task = refl; phase = refl; patch = refl; acked = refl }) refl refl refl)
 
 -- a stop that is closed has no patch
@@ -92,11 +91,9 @@ closed_goes seen work s source r l low none =
       rests = λ rest q live. absurd (let o = live.is_open in cc);
       goes = λ q live part.
           let a = p.all live.is_open live.kind_is in
-          let w = r.at source low a.cpu a.below in
-          let early = live.early a.cpu a.below a.active in
           let round : is_round stop.task.kind ≡ true = (let k = live.kind_is in rw k refl) in
-          let over = least_none (λ c. has stop.task.mask c && is_none (answer_of stop c)) none a.cpu a.below in
-          absurd (none_is (answer_of stop a.cpu) (has stop.task.mask a.cpu) over a.member (w.answered round (omega arith)));
+          let over = first_none (λ c. has stop.task.mask c && is_none (answer_of stop c)) 0 32 none a.cpu (omega arith) (omega arith) in
+          absurd (none_is (answer_of stop a.cpu) (has stop.task.mask a.cpu) over a.member ((r.at source low a.cpu a.below).answered round (omega arith)));
     }
 
 pub collect_labelled : (seen : ℕ → Seen) (work : ℕ → Option Task) (s t : StateValue) (source : ℕ) (answer : ℤ) → Rounds seen work s → Labelled s →
@@ -124,27 +121,12 @@ only_one m x y k hx hy lx ly one = elim (cases_lt x y) [
   ]
 ]
 
-only_is : (u : Setting) (task : Task) (found : Option ℕ) → first_of u.online ≡ found → task.mask ≡ u.online → is_only task.active found ≡ true →
-    task.func < u.keys → IsOfAll u task
-only_is u task found h1 h2 h3 h4 = search (and_parts, eqb-true, first_is, only_one, arith)
-
 work_all : (u : Setting) (task : Task) (kind : Kind) → task.kind ≡ kind → is_work u task ≡ true → kind ≡ APatch → IsOfAll u task
-work_all u task kind h1 h2 h3 = search (and_parts, only_is, eqb-true, ltb-true, arith)
-
--- a stop that is opened has no patch that is known
-opened_goes : (s : StateValue) (source : ℕ) (task : Task) → (stop_at s source).is_open ≡ false → is_work s.setting task ≡ true →
-    StopGoes s source (opening task)
-opened_goes s source task shut e = record {
-  patch = record { known = λ p x. absurd cc; early = λ h. refl; all = λ o k. work_all s.setting task task.kind refl e k };
-  rests = λ none q live. absurd (let k = live.known in cc);
-  goes = λ q live part. absurd (ne_truth (stop_at s source).is_open live.is_open shut);
-}
+work_all u task kind h1 h2 h3 = search (and_parts, eqb-true, first_is, only_one, ltb-true, arith)
 
 opened_work : (u : Setting) (task : Task) (to : Stop) → opened u task ≡ Ok to → (is_work u task ≡ true) × (opening task ≡ to)
 unfolding opened
-opened_work u task to e =
-    let p = passed (is_work u task) (unless_offline (offline_in u task.mask) (opening task)) reason.NoSuchWork to e in
-    (p.0, offline_none (offline_in u task.mask) (opening task) to p.1)
+opened_work u task to e = search (passed, arith)
 
 pub open_labelled : (seen : ℕ → Seen) (work : ℕ → Option Task) (s t : StateValue) (source : ℕ) (task : Task) → Rounds seen work s → Labelled s →
     source < 32 → open_by source task s ≡ Ok t → Labelled t
@@ -152,8 +134,7 @@ unfolding open_by
 open_labelled seen work s t source task r l low e =
     let next = on_stop source s (opened s.setting task) in
     let p = failed (stop_at s source).is_open (may_open s.setting.without.gate source s >>= λ u. next) (reason.StopOpen source) t e in
-    let m = both_made (may_open s.setting.without.gate source s) (λ u. next) t p.1 in
-    let n = both_made (opened s.setting task) (λ x. Ok (with_stop source s x)) t m.1.1 in
+    let n = both_made (opened s.setting task) (λ x. Ok (with_stop source s x)) t (both_made (may_open s.setting.without.gate source s) (λ u. next) t p.1).1.1 in
     let o = opened_work s.setting task n.0 n.1.0 in
     labelled_end (with_stop source s (opening task)) t (ap (λ x. with_stop source s x) o.1 ∙ cc)
-    (stop_labelled seen work s source (opening task) r l (opened_goes s source task p.0 o.0) low)
+    (stop_labelled seen work s source (opening task) r l (search (work_all, ne_truth, arith)) low)

@@ -1,13 +1,13 @@
 -- A CPU acknowledges a phase, or raises it: what holds of patches still does.
-use Rattle.trace_laws.proofs.Names.{APatch, Bool, Err, Kind, List, None, Ok, Option, Patch, Place, Reason, Result, Seen, Some, StateValue, Stop, Task, ack_by}
-use Rattle.trace_laws.proofs.Names.{acked, acked_by, acknowledged, acks_as, acks_at_run, and_parts, ap, arith, at_last, cases_Bool, eq-eqb, eqb-true, false}
+use Rattle.trace_laws.proofs.Names.{APatch, Bool, Err, None, Ok, Option, Patch, Reason, Result, Seen, Some, StateValue, Stop, Task, ack_by}
+use Rattle.trace_laws.proofs.Names.{acked, acked_by, acknowledged, acks_at_run, and_parts, ap, arith, at_last, cases_Bool, eq-eqb, eqb-true}
 use Rattle.trace_laws.proofs.Names.{get_or-set_other, get_or-set_same, has, if◌then◌else◌, in_round, inl, inr, is_some, key_number, late, may_ack, min}
-use Rattle.trace_laws.proofs.Names.{next_store, not, on_stop, patch_for, patch_left, patch_or, patch_over, raise_by, raised, raised_by, refl, set-set}
+use Rattle.trace_laws.proofs.Names.{next_store, not, on_stop, patch_for, patch_left, patch_or, raise_by, raised, raised_by, refl, set-set}
 use Rattle.trace_laws.proofs.Names.{slice_index_or, slice_set, stop_at, switched, switched_on, sym, true, with_acked, with_irq, with_stop, ℕ, ◌&&◌, ◌+◌, ◌-◌}
 use Rattle.trace_laws.proofs.Names.{◌<◌, ◌==◌, ◌>>=◌, ◌^◌, ◌∙◌, ◌≡◌, ◌≢◌, ◌⊎◌}
 use Rattle.trace_model.specs.declared.reason.Reason.TheVariants as reason
 use Rattle.trace_model.specs.Labels.{front_of}
-use Rattle.trace_laws.proofs.Labels.Patches.{Labelled, Live, PatchAt, StopGoes, labelled_same, stop_labelled}
+use Rattle.trace_laws.proofs.Labels.Patches.{Labelled, Live, StopGoes, labelled_same, stop_labelled}
 use Rattle.trace_laws.proofs.Labels.StoredWords.{AllOk, Partial, front_none, over_ok, some_is}
 use Rattle.trace_laws.proofs.Stops.StopEvents.{actor_below, acts_at, in_round_is, ne_truth, stop_same}
 use Rattle.trace_laws.proofs.{Calls.MadeSteps.both_made, Calls.MadeSteps.passed, Labels.PatchEvents.labelled_end, Stops.CpusInStops.Rounds}
@@ -28,28 +28,15 @@ pub record MayAck (s t : StateValue) (source actor phase : ℕ) : Type 0 where
   pub how : (patch ≡ (stop_at s source).patch) × (phase ≡ RUN → (stop_at s source).task.kind ≡ APatch → has (stop_at s source).task.active actor ≡ true → ⊥)
       ⊎ (patch ≡ Some (patch_left source s)) × IsOver s source actor phase
 
-same_stop : (source : ℕ) (s : StateValue) → s ≡ with_stop source s (record (stop_at s source) { patch = (stop_at s source).patch })
-same_stop source s = sym (stop_same source s)
-
 may_here : (s t : StateValue) (source actor phase : ℕ) → s ≡ t → (phase ≡ RUN → (stop_at s source).task.kind ≡ APatch →
     has (stop_at s source).task.active actor ≡ true → ⊥)
     → MayAck s t source actor phase
-may_here s t source actor phase same idle = record { patch = (stop_at s source).patch; is = sym same ∙ same_stop source s; how = inl (refl, idle) }
-
-may_over : (next : Option (Place × ℕ)) (s t : StateValue) (source actor phase : ℕ) → next_store source s ≡ next → phase ≡ RUN →
-    (stop_at s source).task.kind ≡ APatch
-    → has (stop_at s source).task.active actor ≡ true → patch_over next source (patch_left source s) s ≡ Ok t → MayAck s t source actor phase
-may_over next s t source actor phase h1 h2 h3 h4 h5 = search arith
-
-may_kind : (kind : Kind) (s t : StateValue) (source actor phase : ℕ) → (stop_at s source).task.kind ≡ kind → phase ≡ RUN →
-    has (stop_at s source).task.active actor ≡ true
-    → acks_as kind actor source s ≡ Ok t → MayAck s t source actor phase
-may_kind kind s t source actor phase h1 h2 h3 h4 = search (may_over, passed, may_here, arith)
+may_here s t source actor phase same idle = record { patch = (stop_at s source).patch; is = sym same ∙ (sym (stop_same source s)); how = inl (refl, idle) }
 
 may_tests : (two runs : Bool) (s t : StateValue) (source actor phase : ℕ) (test : Result (Unit {0}) Reason) → (phase == DISABLE_IRQ) ≡ two
     → ((phase == RUN) && has (stop_at s source).task.active actor) ≡ runs
     → (if two then (test >>= λ v. Ok s) else (if runs then acks_at_run actor source s else Ok s)) ≡ Ok t → MayAck s t source actor phase
-may_tests two runs s t source actor phase test h1 h2 h3 = search (both_made, may_here, eqb-true, and_parts, may_kind, eq-eqb, ne_truth, arith)
+may_tests two runs s t source actor phase test h1 h2 h3 = search (both_made, may_here, eqb-true, and_parts, passed, eq-eqb, ne_truth, arith)
 
 pub may_is : (s t : StateValue) (source actor phase : ℕ) → may_ack actor source phase s ≡ Ok t
     → MayAck s t source actor phase × ((acked_by (stop_at s source) actor < phase) × ((stop_at s source).phase ≡ phase))
@@ -64,24 +51,11 @@ pub record SameBut (stop to : Stop) : Type 0 where
 
 -- what is to follow of a stop once a CPU has acknowledged, the last or not
 last_open : (who : Option ℕ) (actor : ℕ) (raises : Bool) (stop : Stop) → SameBut stop (at_last who actor raises stop)
-last_open (Some other) actor raises stop = record { is_open = refl; task = refl; patch = refl; acked = refl }
-last_open None actor true stop = record { is_open = refl; task = refl; patch = refl; acked = refl }
-last_open None actor false stop = record { is_open = refl; task = refl; patch = refl; acked = refl }
+last_open who actor raises stop = search arith
 
 last_phase : (who : Option ℕ) (actor : ℕ) (raises : Bool) (stop : Stop) → ((at_last who actor raises stop).phase ≡ stop.phase)
     ⊎ ((who ≡ None) × ((at_last who actor raises stop).phase ≡ min (stop.phase + 1) (2 ^ 32 - 1)))
-last_phase (Some other) actor raises stop = inl refl
-last_phase None actor true stop = inl refl
-last_phase None actor false stop = inr (refl, refl)
-
--- the phase after is 3 only where it was 3, or where nobody is late at 2
-three_after : (who : Option ℕ) (actor : ℕ) (raises : Bool) (stop : Stop) (phase : ℕ) → stop.phase ≡ phase → (at_last who actor raises stop).phase ≡ RUN →
-    (phase ≡ RUN) ⊎ (phase ≡ DISABLE_IRQ)
-three_after who actor raises stop phase h1 h2 = search (last_phase, arith)
-
-low_after : (who : Option ℕ) (actor : ℕ) (raises : Bool) (stop : Stop) (phase : ℕ) → stop.phase ≡ phase → (at_last who actor raises stop).phase < RUN
-    → phase < RUN
-low_after who actor raises stop phase h1 h2 = search (last_phase, arith)
+last_phase who actor raises stop = search arith
 
 -- A CPU acknowledges a phase: what becomes of the patch of its stop.
 pub record Acks (s : StateValue) (source actor phase : ℕ) (patch : Option Patch) : Type 0 where
@@ -96,10 +70,6 @@ abbrev ack_to : ℕ → ℕ → Bool → Option Patch → Stop → Stop
 ack_to actor phase raises patch stop =
     let mid = with_acked actor phase (record stop { patch = patch }) in at_last (late mid phase) actor raises mid
 
-ack_patch : (s : StateValue) (source actor phase : ℕ) (raises : Bool) (patch : Option Patch) → Labelled s → Acks s source actor phase patch
-    → PatchAt s.setting (ack_to actor phase raises patch (stop_at s source))
-ack_patch s source actor phase raises patch h1 h2 = search (last_open, some_is, front_none, low_after, arith)
-
 acked_other : (stop : Stop) (actor phase cpu : ℕ) → cpu ≢ actor → slice_index_or (slice_set stop.acked actor phase) cpu 0 ≡ acked_by stop cpu
 acked_other stop actor phase cpu ne = get_or-set_other stop.acked actor cpu phase 0 ne
 
@@ -109,12 +79,6 @@ not_early : (seen : ℕ → Seen) (work : ℕ → Option Task) (s : StateValue) 
     → Acks s source actor phase patch → phase ≡ RUN → has (stop_at s source).task.active actor ≡ true →
     Live (ack_to actor phase raises patch (stop_at s source)) q → ⊥
 not_early seen work s source actor phase raises patch q h1 h2 h3 h4 h5 = search (last_open, get_or-set_same, arith)
-
--- where the CPU is not the one that patches, the patch goes on as it was
-live_before : (s : StateValue) (source actor phase : ℕ) (raises : Bool) (patch : Option Patch) (q : Patch) → Acks s source actor phase patch → phase ≡ RUN
-    → patch ≡ (stop_at s source).patch → (has (stop_at s source).task.active actor ≡ true → ⊥) →
-    Live (ack_to actor phase raises patch (stop_at s source)) q → Live (stop_at s source) q
-live_before s source actor phase raises patch q h1 h2 h3 h4 h5 = search (last_open, acked_other, arith)
 
 live_after : (s : StateValue) (source actor phase : ℕ) (raises : Bool) (patch : Option Patch) (q : Patch) → Labelled s → Acks s source actor phase patch
     → patch ≡ (stop_at s source).patch → (has (stop_at s source).task.active actor ≡ true → ⊥) → Live (stop_at s source) q
@@ -139,20 +103,14 @@ live_after s source actor phase raises patch q l a same idle live =
       ];
       known = b.patch ∙ same ∙ live.known;
       turns = live.turns;
-      early = λ cpu low active.
-          let old : has stop.task.active cpu ≡ true = rw task at active in
-          let other : cpu ≢ actor = λ e. idle (rw e at old) in
-          let h = live.early cpu low old in
-          let is : acked_by (at_last who actor raises mid) cpu ≡ acked_by stop cpu = ap (λ (xs : List ℕ). slice_index_or xs cpu 0) acked ∙
-          acked_other stop actor phase cpu other in
-          rw is h;
+      early = search (stop.task.active, task, live.early, who, mid, stop, acked, acked_other, arith);
     }
 
 ack_rests : (seen : ℕ → Seen) (work : ℕ → Option Task) (s : StateValue) (source actor phase : ℕ) (raises : Bool) (patch : Option Patch) →
     Rounds seen work s → Labelled s
     → Acks s source actor phase patch → ((p : Patch) → Live (stop_at s source) p → ⊥) → (q : Patch) →
     Live (ack_to actor phase raises patch (stop_at s source)) q → ⊥
-ack_rests seen work s source actor phase raises patch h1 h2 h3 h4 q h5 = search (last_open, three_after, cases_Bool, not_early, live_before, ne_truth, arith)
+ack_rests seen work s source actor phase raises patch h1 h2 h3 h4 q h5 = search (last_open, last_phase, cases_Bool, not_early, acked_other, ne_truth, arith)
 
 ack_next : (seen : ℕ → Seen) (work : ℕ → Option Task) (s : StateValue) (source actor phase : ℕ) (raises : Bool) (patch : Option Patch) → Rounds seen work s →
     Labelled s
@@ -177,7 +135,7 @@ ack_goes : (seen : ℕ → Seen) (work : ℕ → Option Task) (s : StateValue) (
     Labelled s
     → Acks s source actor phase patch → StopGoes s source (ack_to actor phase raises patch (stop_at s source))
 ack_goes seen work s source actor phase raises patch r l a = record {
-  patch = ack_patch s source actor phase raises patch l a;
+  patch = search (last_open, some_is, front_none, last_phase, arith);
   rests = λ none q live. ack_rests seen work s source actor phase raises patch r l a none q live;
   goes = λ p live part. ack_next seen work s source actor phase raises patch r l a p live part;
 }
@@ -187,8 +145,7 @@ irq_labelled : (s : StateValue) (cpu : ℕ) (on : Bool) → Labelled s → Label
 irq_labelled s cpu on l = labelled_same s (with_irq cpu on s) refl refl refl l
 
 if_labelled : (test : Bool) (x y : StateValue) → Labelled x → Labelled y → Labelled (if test then x else y)
-if_labelled true x y p q = p
-if_labelled false x y p q = q
+if_labelled test x y p q = search arith
 
 switched_labelled : (s : StateValue) (cpu source phase : ℕ) → Labelled s → Labelled (switched cpu source phase s)
 switched_labelled s cpu source phase h1 = search (if_labelled, irq_labelled, arith)
@@ -242,12 +199,11 @@ raise_labelled seen work s t actor phase r l e =
     let n = both_made (on_stop source s (made source)) (λ x. Ok (switched_on actor phase x)) t m.1.1 in
     let k = both_made (made source) (λ x. Ok (with_stop source s x)) n.0 n.1.0 in
     let p = passed (stop.phase == phase - 1) (raised_by stop.raiser actor phase stop) (reason.PhaseIs stop.phase) k.0 k.1.0 in
-    let at = eqb-true stop.phase (phase - 1) p.0 in
     let o = raised_is stop.raiser actor phase stop k.0 p.1 in
     let to = record stop { phase = phase; raiser = None } in
     let u = with_stop source s to in
     let end : u ≡ n.0 = ap (λ x. with_stop source s x) o.1 ∙ cc in
     let same : switched_on actor phase u ≡ t = ap (λ x. switched_on actor phase x) end ∙ cc in
-    let after = stop_labelled seen work s source to r l (raise_goes seen work s source phase r l i.low o.0 at) i.low in
+    let after = stop_labelled seen work s source to r l (raise_goes seen work s source phase r l i.low o.0 (eqb-true stop.phase (phase - 1) p.0)) i.low in
     labelled_end (switched_on actor phase u) t same
     (if_labelled (u.setting.without.switches && (phase == OVER)) (with_irq actor true u) u (irq_labelled u actor true after) after)

@@ -1,9 +1,9 @@
 -- Keys and sites where a store is made.
-use Rattle.trace_laws.proofs.Names.{Bool, Entry, Key, LabelWords, List, None, Option, Patch, Place, Site, Some, and_parts, ap, arith, cases_Bool, cases_eq}
-use Rattle.trace_laws.proofs.Names.{cases_lt, change_of, count_after, count_at, entry_at, entry_of, eqb-false, eqb-true, false, first_from, get_or-set_other}
-use Rattle.trace_laws.proofs.Names.{get_or-set_same, if◌then◌else◌, inl, inr, is_on, is_site, key_number, kind_of, kind_word, leb-true, length, lt-ltb}
-use Rattle.trace_laws.proofs.Names.{may_nudge, min, nat_le, nat_lt, not, nudged_count, patch_for, patch_to, refl, set_past, site_from, site_front, site_store}
-use Rattle.trace_laws.proofs.Names.{slice_index, slice_set, suc, sym, true, xor, zero, ℕ, ◌%◌, ◌&&◌, ◌+◌, ◌-◌, ◌/◌, ◌<◌, ◌==◌, ◌^◌, ◌∙◌, ◌≡◌, ◌≢◌, ◌≤◌, ◌⊎◌}
+use Rattle.trace_laws.proofs.Names.{Bool, Key, LabelWords, List, None, Option, Patch, Place, Site, Some, and_parts, arith, cases_Bool, cases_eq}
+use Rattle.trace_laws.proofs.Names.{cases_lt, count_at, entry_at, entry_of, eqb-false, eqb-true, false, first_from, get_or-set_other}
+use Rattle.trace_laws.proofs.Names.{get_or-set_same, if◌then◌else◌, inl, inr, is_on, is_site, key_number, leb-true, length, lt-ltb}
+use Rattle.trace_laws.proofs.Names.{may_nudge, min, nudged_count, patch_for, refl, set_past, site_from, site_store}
+use Rattle.trace_laws.proofs.Names.{slice_index, slice_set, suc, sym, true, xor, zero, ℕ, ◌%◌, ◌+◌, ◌-◌, ◌/◌, ◌<◌, ◌==◌, ◌^◌, ◌∙◌, ◌≡◌, ◌≢◌, ◌≤◌, ◌⊎◌}
 use Rattle.std.proofs.{lemmas.Bool.not-false, lemmas.Bool.not-true}
 use Rattle.smp_labels.specs.Law.{site_word}
 use Rattle.trace_model.specs.{Labels.front_of, Labels.is_of_key}
@@ -24,28 +24,17 @@ pub record Partial (words : LabelWords) (key : ℕ) (p : Patch) : Type 0 where
   pub on : is_on p.count ≡ is_on (count_at words key)
   pub sites : (i : ℕ) → i < 16 → (is_site words key i ≡ true → i < p.from) → SiteOk words i
 
--- what a site is to be depends on its key's state alone
-word_by : (key key' : ℕ → ℕ) (e : Option Entry) → ((k : ℕ) → is_on (key' k) ≡ is_on (key k)) → site_word key' e ≡ site_word key e
-word_by key key' None same = refl
-word_by key key' (Some e) same = let s : is_on (key' e.key) ≡ is_on (key e.key) = same e.key in ap (λ b. kind_word (kind_of b e.branch)) s
-
 -- sites stay so where no key turns on or off
 pub ok_keys : (words : LabelWords) (keys : List ℕ) (i : ℕ) → ((k : ℕ) → is_on (slice_index keys k) ≡ is_on (slice_index words.keys k)) → SiteOk words i
     → SiteOk (record words { keys = keys }) i
-ok_keys words keys i same ok = ok ∙ sym (word_by (slice_index words.keys) (slice_index keys) (entry_at (slice_index words.entries i)) same)
+ok_keys words keys i same ok = ok ∙ sym (search arith)
 
 -- or where a key that is not the site's does
 other_word : (none : Bool) (k : ℕ) (branch : Bool) (key : ℕ) (f g : ℕ → ℕ) → is_of_key (if none then None else Some (k, branch)) key ≡ false → ((j : ℕ) →
     j ≢ key → f j ≡ g j)
     → site_word f (if none then None else Some (record { key = k; branch = branch })) ≡ site_word g (if none then None else Some
     (record { key = k; branch = branch }))
-other_word true k branch key f g other same = refl
-other_word false k branch key f g other same =
-    let e : f k ≡ g k = same k (λ x. eqb-false k key other x) in ap (λ n. kind_word (kind_of (is_on n) branch)) e
-
-pub ok_other : (words : LabelWords) (key count i : ℕ) → is_site words key i ≡ false → SiteOk words i →
-    SiteOk (record words { keys = slice_set words.keys key count }) i
-ok_other words key count i h1 h2 = search (other_word, get_or-set_other, arith)
+other_word none k branch key f g other same = search (eqb-false, arith)
 
 -- the word that a patch gives a site
 turned_word : (none : Bool) (k : ℕ) (branch : Bool) (key site word : ℕ) (place : Place) (on : Bool) (f : ℕ → ℕ) →
@@ -61,12 +50,9 @@ pub record IsFirst (passes : ℕ → Bool) (c more n : ℕ) : Type 0 where
   pub passing : passes n ≡ true
   pub first : (k : ℕ) → c ≤ k → k < n → passes k ≡ false
 
-first_later : (passes : ℕ → Bool) (c more n : ℕ) → passes c ≡ false → IsFirst passes (c + 1) more n → IsFirst passes c (suc more) n
-first_later passes c more n h1 h2 = search (cases_eq, arith)
-
 first_by : (passes : ℕ → Bool) (c more n : ℕ) (test : Bool) → passes c ≡ test → (if test then Some c else first_from passes (c + 1) more) ≡ Some n
     → (first_from passes (c + 1) more ≡ Some n → IsFirst passes (c + 1) more n) → IsFirst passes c (suc more) n
-first_by passes c more n test h1 h2 h3 = search (suc, first_later, arith)
+first_by passes c more n test h1 h2 h3 = search (suc, cases_eq, arith)
 
 pub first_is : (passes : ℕ → Bool) (c more n : ℕ) → first_from passes c more ≡ Some n → IsFirst passes c more n
 unfolding first_from
@@ -77,9 +63,7 @@ pub site_is : (a b : ℕ) → Site a ≡ Site b → a ≡ b
 site_is a b e = cc
 
 pub site_stores : (site : ℕ) (on : Bool) (entry : Option (ℕ × Bool)) (next : Place × ℕ) → site_store site on entry ≡ Some next → next.0 ≡ Site site
-site_stores site on None next e = absurd cc
-site_stores site on (Some x) next e = let p : (Site site, kind_word (kind_of on x.1)) ≡ next = some_is (Site site, kind_word (kind_of on x.1)) next e in ap
-    (λ y. y.0) (sym p)
+site_stores site on entry next e = search (some_is, arith)
 
 -- A patch turns a site next.
 pub record TurnsNext (words : LabelWords) (key : ℕ) (p : Patch) (next : Place × ℕ) : Type 0 where
@@ -89,46 +73,15 @@ pub record TurnsNext (words : LabelWords) (key : ℕ) (p : Patch) (next : Place 
   pub found : site_from words key p.from ≡ Some site
   pub store : site_store site (is_on p.count) (entry_of words site) ≡ Some next
 
-site_next : (words : LabelWords) (key : ℕ) (p : Patch) (next : Place × ℕ) (found : Option ℕ) → site_from words key p.from ≡ found
-    → site_front words (is_on p.count) found ≡ Some next → (site : ℕ) × ((found ≡ Some site) ×
-    (site_store site (is_on p.count) (entry_of words site) ≡ Some next))
-site_next words key p next None f e = absurd cc
-site_next words key p next (Some site) f e = (site, (refl, e))
-
-front_by : (words : LabelWords) (key : ℕ) (p : Patch) (next : Place × ℕ) (counts turns : Bool) → p.counts ≡ counts → p.turns ≡ turns
-    → (if counts then Some (Key (key_number key), p.count) else (if turns then site_front words (is_on p.count)
-    (site_from words key p.from) else None)) ≡ Some next
-    → ((counts ≡ true) × ((Key (key_number key), p.count) ≡ next)) ⊎ TurnsNext words key p next
-front_by words key p next counts turns h1 h2 h3 = search (some_is, site_next, arith)
-
 -- the next store of a patch: its key's count, or a site
 pub front_is : (words : LabelWords) (key : ℕ) (p : Patch) (next : Place × ℕ) → front_of words key p ≡ Some next
     → ((p.counts ≡ true) × ((Key (key_number key), p.count) ≡ next)) ⊎ TurnsNext words key p next
-front_is words key p next e = front_by words key p next p.counts p.turns refl refl e
-
-none_by : (words : LabelWords) (key : ℕ) (p : Patch) (counts turns : Bool) → p.counts ≡ counts → p.turns ≡ turns
-    → (if counts then Some (Key (key_number key), p.count) else (if turns then site_front words (is_on p.count) (site_from words key p.from) else None)) ≡ None
-    → (p.counts ≡ false) × (p.turns ≡ true → site_front words (is_on p.count) (site_from words key p.from) ≡ None)
-none_by words key p true turns c t e = absurd cc
-none_by words key p false true c t e = (c, (λ x. e))
-none_by words key p false false c t e = (c, (λ x. absurd cc))
-
-has_entry : (entry : Option (ℕ × Bool)) (key site : ℕ) (on : Bool) → is_of_key entry key ≡ true → site_store site on entry ≡ None → ⊥
-has_entry None key site on is e = cc
-has_entry (Some x) key site on is e = cc
-
-no_site : (words : LabelWords) (key from : ℕ) (on : Bool) (found : Option ℕ) → site_from words key from ≡ found → site_front words on found ≡ None →
-    found ≡ None
-no_site words key from on None f e = refl
-no_site words key from on (Some site) f e =
-    let first = first_is (is_site words key) from (16 - from) site f in absurd (has_entry (entry_of words site) key site on first.passing e)
+front_is words key p next e = search (some_is, arith)
 
 -- nothing is left of a patch
 pub front_none : (words : LabelWords) (key : ℕ) (p : Patch) → front_of words key p ≡ None → (p.counts ≡ false) × (p.turns ≡ true →
     site_from words key p.from ≡ None)
-front_none words key p e =
-    let n = none_by words key p p.counts p.turns refl refl e in
-    (n.0, (λ t. no_site words key p.from (is_on p.count) (site_from words key p.from) refl (n.1 t)))
+front_none words key p e = search (first_is, arith)
 
 not_true : (test : Bool) → test ≡ true → test ≡ false → ⊥
 not_true test t f = cc
@@ -137,10 +90,9 @@ not_true test t f = cc
 pub over_ok : (words : LabelWords) (key : ℕ) (p : Patch) → p.turns ≡ true → front_of words key p ≡ None → Partial words key p → AllOk words
 over_ok words key p turns e part i low =
     let n = front_none words key p e in
-    let none = n.1 turns in
     part.sites i low (λ is. elim (cases_lt i p.from) [
       | inl below ↦ below
-      | inr past ↦ absurd (not_true (is_site words key i) is (first_none (is_site words key) p.from (16 - p.from) none i past (omega arith)))
+      | inr past ↦ absurd (not_true (is_site words key i) is (first_none (is_site words key) p.from (16 - p.from) (n.1 turns) i past (omega arith)))
     ])
 
 -- a site is turned
@@ -154,20 +106,24 @@ turned_site words key p site word long t part =
     let w = slice_index words.entries t.site in
     let new = turned_word (w == 0) ((w - 1) / 2) ((w - 1) % 2 == 1) key t.site word (Site site) (is_on p.count)
     (slice_index words.keys) first.passing t.store part.on in
-    let within = first.within in
-    let from = first.from in
     record {
       on = part.on;
-      sites = λ i low before. elim (cases_eq i site) [
-        | inl here ↦ (let now : slice_index (slice_set words.sites site word) i ≡ word = rw here (get_or-set_same words.sites site word 0 (omega arith)) in
-            now ∙ new.1 ∙ ap (λ n. site_word (slice_index words.keys) (entry_at (slice_index words.entries n))) (sym same ∙ sym here))
-        | inr ne ↦ (let kept : slice_index (slice_set words.sites site word) i ≡ slice_index words.sites i = get_or-set_other words.sites site i word 0 ne in
-            kept ∙ part.sites i low (λ is. let b : i < min (site + 1) (2 ^ 32 - 1) = before is in
-            elim (cases_lt i p.from) [
-              | inl below ↦ below
-              | inr past ↦ absurd (not_true (is_site words key i) is (first.first i past (omega arith)))
-            ]))
-      ];
+      sites = search (
+        words.sites,
+        new.1,
+        words.keys,
+        words.entries,
+        same,
+        part.sites,
+        p.from,
+        first.first,
+        cases_eq,
+        get_or-set_same,
+        get_or-set_other,
+        cases_lt,
+        not_true,
+        arith,
+      );
     }
 
 -- no key turns on or off where one gets a count that leaves it as it is
@@ -175,51 +131,33 @@ pub same_state : (keys : List ℕ) (key count : ℕ) → is_on count ≡ is_on (
     → is_on (slice_index (slice_set keys key count) k) ≡ is_on (slice_index keys k)
 same_state keys key count h1 k = search (cases_eq, cases_lt, get_or-set_same, set_past, get_or-set_other, arith)
 
-nudge_up : (count : ℕ) → (not (count == 0) && nat_lt count 65535) ≡ true → is_on (count + 1) ≡ is_on count
-nudge_up count h1 = search (and_parts, eqb-false, not-true, lt-ltb, arith)
-
-nudge_down : (count : ℕ) → nat_le 2 count ≡ true → is_on (count - 1) ≡ is_on count
-nudge_down count h1 = search (leb-true, lt-ltb, arith)
-
 -- a count that goes up or down by one leaves its key on
 pub nudged_on : (up : Bool) (count : ℕ) → may_nudge up count ≡ true → is_on (nudged_count up count) ≡ is_on count
-nudged_on true count e = nudge_up count e
-nudged_on false count e = nudge_down count e
-
-pub partial_keys : (words : LabelWords) (keys : List ℕ) (key : ℕ) (p : Patch) → ((k : ℕ) → is_on (slice_index keys k) ≡ is_on (slice_index words.keys k))
-    → Partial words key p → Partial (record words { keys = keys }) key p
-partial_keys words keys key p h1 h2 = search (ok_keys, arith)
+nudged_on up count e = search (and_parts, eqb-false, not-true, lt-ltb, leb-true, arith)
 
 -- A patch that changes its key's count.
 pub record Counts (words : LabelWords) (key : ℕ) (p : Patch) : Type 0 where
   pub from : p.from ≡ 0
   pub turns : p.turns ≡ xor (is_on p.count) (is_on (count_at words key))
 
-counts_by : (words : LabelWords) (key : ℕ) (count : Option ℕ) → (patch_to (count_at words key) count).counts ≡ true →
-    Counts words key (patch_to (count_at words key) count)
-counts_by words key (Some count) e = record { from = refl; turns = refl }
-counts_by words key None e = absurd cc
+pub partial_keys : (words : LabelWords) (keys : List ℕ) (key : ℕ) (p : Patch) → ((k : ℕ) → is_on (slice_index keys k) ≡ is_on (slice_index words.keys k))
+    → Partial words key p → Partial (record words { keys = keys }) key p
+partial_keys words keys key p h1 h2 = search (ok_keys, arith)
 
 pub counts_is : (words : LabelWords) (key change : ℕ) → (patch_for words key change).counts ≡ true → Counts words key (patch_for words key change)
-counts_is words key change e = counts_by words key (count_after (change_of change) (count_at words key)) e
+counts_is words key change e = search arith
 
 xor_same : (a b : Bool) → false ≡ xor a b → a ≡ b
 xor_same a b h1 = search arith
 
--- a patch that has nothing to store but sites has none
-still_by : (old : ℕ) (count : Option ℕ) → (patch_to old count).counts ≡ false → (patch_to old count).turns ≡ true → ⊥
-still_by old count h1 h2 = search (eqb-true, not-false, arith)
-
 pub still : (words : LabelWords) (key change : ℕ) → (patch_for words key change).counts ≡ false → (patch_for words key change).turns ≡ true → ⊥
-still words key change e t = still_by (count_at words key) (count_after (change_of change) (count_at words key)) e t
+still words key change e t = search (eqb-true, not-false, arith)
 
 -- its key's count is stored, and sites are to be turned, or not
 pub set_turns : (words : LabelWords) (key : ℕ) (p : Patch) → AllOk words → key < length words.keys → Counts words key p
     → Partial (record words { keys = slice_set words.keys key p.count }) key (record p { counts = false })
-set_turns words key p h1 h2 h3 = search (get_or-set_same, cases_Bool, ok_other, arith)
+set_turns words key p h1 h2 h3 = search (get_or-set_same, cases_Bool, other_word, get_or-set_other, arith)
 
 pub set_rests : (words : LabelWords) (key : ℕ) (p : Patch) → AllOk words → Counts words key p → p.turns ≡ false →
     AllOk (record words { keys = slice_set words.keys key p.count })
-set_rests words key p ok c none i low =
-    let same : is_on p.count ≡ is_on (slice_index words.keys key) = xor_same (is_on p.count) (is_on (count_at words key)) (sym none ∙ c.turns) in
-    ok_keys words (slice_set words.keys key p.count) i (same_state words.keys key p.count same) (ok i low)
+set_rests words key p ok c none i low = search (xor_same, ok_keys, same_state, arith)

@@ -1,6 +1,6 @@
 -- Each event leaves each record in one place.
-use Rattle.trace_laws.proofs.Names.{Async, Batch, Bool, Call, CallEvent, Class, CpuState, Err, Event, Free, InOnePlace, IsTrace, LabelWords, List, Ok, PlacedAt}
-use Rattle.trace_laws.proofs.Names.{Queue, Run, Runs, Setting, StateValue, Sync, [], accept_by, accepted, ap, arith, begin_by, call_goes, cases_eq, cases_lt}
+use Rattle.trace_laws.proofs.Names.{Batch, Bool, Call, CallEvent, Class, CpuState, Err, Event, Free, InOnePlace, IsTrace, LabelWords, List, Ok, PlacedAt}
+use Rattle.trace_laws.proofs.Names.{Queue, Run, Runs, Setting, StateValue, [], accept_by, accepted, ap, arith, begin_by, call_goes, cases_eq, cases_lt}
 use Rattle.trace_laws.proofs.Names.{cond, count_by, cpu_at, end_by, ended, entered_by, eq-eqb, false, freed, freed_by, freed_from, freed_if, fresh_cpu}
 use Rattle.trace_laws.proofs.Names.{get_or-replicate, get_or-set_other, get_or-set_same, get_or_past, goes, idle_by, if◌then◌else◌, in_batch, in_queue, inl}
 use Rattle.trace_laws.proofs.Names.{inr, interrupted, is_batch, is_empty, is_online, is_queue, is_record, is_some, is_sync, joined, length, length-replicate}
@@ -17,7 +17,7 @@ use Rattle.trace_laws.proofs.Records.OnePlace.{placed_shift, placed_still, queue
 use Rattle.trace_laws.proofs.Records.RecordMoves.{Begins, Enters, InBatch, InQueue, IsUnlockedAsync, Kind, Nowhere, Running, Shift, begins_begun, begins_loose}
 use Rattle.trace_laws.proofs.Records.RecordMoves.{count_cons, ends_ended, leaves_unlocked, place_of, run_kind, shift_pushed, slips_from_batch, slips_from_queue}
 use Rattle.trace_laws.proofs.Records.RecordMoves.{stays}
-use Rattle.trace_laws.proofs.{Calls.CallEvents.accepted_same, Calls.CallEvents.made_on_cpu, Calls.CallEvents.may_take_over, Calls.CpuSteps.order_moves}
+use Rattle.trace_laws.proofs.{Calls.CallEvents.made_on_cpu, Calls.CpuSteps.order_moves}
 use Rattle.trace_laws.proofs.{Calls.CpuSteps.over_is, Calls.MadeSteps.both_made, Calls.MadeSteps.failed, Calls.MadeSteps.low_event, Calls.MadeSteps.passed}
 use Rattle.trace_laws.proofs.{Calls.OtherEvents.label_keeps_calls, Calls.OtherEvents.stop_keeps_calls, Calls.ShownByTraces.cpus_at_first}
 use Rattle.trace_laws.proofs.{Calls.ShownByTraces.fresh_at, Calls.StateSteps.cpu_changed, Calls.StateSteps.cpu_kept}
@@ -81,19 +81,15 @@ freed_place : (id : ℕ) (place : Place) (s t : StateValue) → place_at s id �
 freed_place id Free s t is p e = freed_end id s t (cc) (record { placed = p; free = λ low. is })
 freed_place id place s t is p e = freed_unlocks s.setting.without.unlocks s.setting.without.order id place s t p e
 
-freed_is : (id : ℕ) (s t : StateValue) → Placed s → freed id s ≡ Ok t → Freed id t
-freed_is id s t p e = freed_place id (place_at s id) s t refl p e
-
 -- a CPU is changed, and no record moves
 placed_rests : (s : StateValue) (actor : ℕ) (c : CpuState) → Placed s → Shift 0 Nowhere Nowhere (cpu_at s actor) c → Placed (with_cpu actor s c)
 placed_rests s actor c p sh = placed_still s actor 0 c p sh
 
 placed_joined : (call : Call) (to : ℕ) (s : StateValue) → Placed s → (call.id < 65536 → place_at s call.id ≡ Free) → Placed (joined call to s)
 placed_joined call to s p free =
-    let first = is_empty (cpu_at s to).queue in
     let u = with_place call.id (Queue to) (with_cpu to s (pushed call (cpu_at s to))) in
     let q = placed_shift s to call.id Nowhere InQueue (pushed call (cpu_at s to)) p (shift_pushed call (cpu_at s to) (async_any s to p)) free in
-    placed_rests u call.source (noted to first (cpu_at u call.source)) q
+    placed_rests u call.source (noted to (is_empty (cpu_at s to).queue) (cpu_at u call.source)) q
     (record { queue = λ r. refl; batch = λ r. refl; run = λ r. refl; async = async_any u call.source q })
 
 placed_queue : (source id to : ℕ) (class : Class) (func info : ℕ) (s t : StateValue) → Placed s
@@ -105,7 +101,7 @@ placed_queue source id to class func info s t pl e =
     (reason.NotOnline to) t e in
     let q = failed (to == source) (freed id s >>= λ m. Ok (joined call to m)) (reason.IsCaller to) t p.1 in
     let m = both_made (freed id s) (λ m. Ok (joined call to m)) t q.1 in
-    let f = freed_is id s m.0 pl m.1.0 in
+    let f = freed_place id (place_at s id) s m.0 refl pl m.1.0 in
     placed_end (joined call to m.0) t (cc) (placed_joined call to m.0 f.placed f.free)
 
 placed_send : (actor to : ℕ) (s t : StateValue) → Placed s → send_by actor to s ≡ Ok t → Placed t
@@ -123,7 +119,7 @@ placed_accept : (actor : ℕ) (s t : StateValue) → Placed s → accept_by acto
 placed_accept actor s t pl e =
     let m = made_on_cpu actor s t (accepted (cpu_at s actor)) e in
     placed_end (with_cpu actor s m.0) t m.1.1
-    (placed_rests s actor m.0 pl (stays 0 (cpu_at s actor) m.0 (accepted_same (cpu_at s actor) m.0 m.1.0) (async_any s actor pl)))
+    (placed_rests s actor m.0 pl (stays 0 (cpu_at s actor) m.0 (search (passed, both_made, arith)) (async_any s actor pl)))
 
 placed_unlock : (actor id : ℕ) (s t : StateValue) → Placed s → unlock_by actor id s ≡ Ok t → Placed t
 unfolding unlock_by
@@ -145,12 +141,10 @@ entered_begins false actor id func info place s c async e =
     begins_begun id func info (is_batch place actor) (place_reason id place) (not s.setting.without.unlocks) (cpu_at s actor) c async e
 
 run_place : (class : Class) (actor : ℕ) → (if is_sync class then Run actor else Free) ≡ place_of (run_kind class) actor
-run_place Sync actor = refl
-run_place Async actor = refl
+run_place class actor = search arith
 
 pub leaves_run : (from : Kind) (class : Class) → from ≡ InBatch ⊎ from ≡ InQueue → leaves from (run_kind class) ≡ true
-leaves_run from Sync which = elim which [ inl x ↦ rw x refl | inr x ↦ rw x refl ]
-leaves_run from Async which = elim which [ inl x ↦ rw x refl | inr x ↦ rw x refl ]
+leaves_run from class which = search arith
 
 -- a CPU that moves a record is one that there can be
 pub mover_below : (s : StateValue) (actor id : ℕ) (from to : Kind) (c : CpuState) → Placed s → Shift id from to (cpu_at s actor) c → leaves from to ≡ true →
@@ -197,10 +191,6 @@ placed_ends : (actor id : ℕ) (s : StateValue) (c : CpuState) (frees : Bool) �
 placed_ends actor id s c true pl moves still = placed_move s actor id Running Nowhere c pl (moves refl) refl
 placed_ends actor id s c false pl moves still = placed_still s actor id c pl (still refl)
 
-pub not_not : (a b : Bool) → (a && not (not b)) ≡ (a && b)
-not_not a true = refl
-not_not a false = refl
-
 placed_ended : (actor id : ℕ) (s t : StateValue) → Placed s → end_by actor id s ≡ Ok t → Placed t
 unfolding end_by
 placed_ended actor id s t pl e =
@@ -211,7 +201,7 @@ placed_ended actor id s t pl e =
     let n = both_made (on_cpu actor s made) (λ x. Ok (freed_if test id x)) t e in
     let m = made_on_cpu actor s n.0 made n.1.0 in
     let d = ends_ended (not unlocks) id a m.0 m.1.0 in
-    let is : test ≡ d.frees = sym (not_not (runs_locked a) unlocks) ∙ d.frees_is in
+    let is : test ≡ d.frees = sym (search arith) ∙ d.frees_is in
     let end : with_cpu actor s m.0 ≡ n.0 = m.1.1 in
     let same : freed_if test id (with_cpu actor s m.0) ≡ t = ap (λ x. freed_if test id x) end ∙ cc in
     placed_end (freed_if test id (with_cpu actor s m.0)) t same
@@ -278,9 +268,8 @@ taken_each : (s : StateValue) (actor : ℕ) → Placed s → not_over (cpu_at s 
     → let t = with_cpu actor (moved actor s) (taken (cpu_at s actor)) in cpu ≡ actor ⊎ cpu ≢ actor → PlacedAt (place_at t r) r cpu (cpu_at t cpu)
 taken_each s actor p over r low cpu below which =
     let t = with_cpu actor (moved actor s) (taken (cpu_at s actor)) in
-    let put = put_at (Batch actor) (cpu_at s actor).queue s.places r (rw p.places_are low) in
     let o = over_is (cpu_at s actor).current (cpu_at s actor).batch over in
-    elim put.how [
+    elim (put_at (Batch actor) (cpu_at s actor).queue s.places r (rw p.places_are low)).how [
       | inl h ↦
           (let same : place_at t r ≡ place_at s r = h.1 in
           elim which [
@@ -294,10 +283,9 @@ taken_each s actor p over r low cpu below which =
           ])
       | inr h ↦
           (let same : place_at t r ≡ Batch actor = h.1 in
-          let actor_below = has_below s actor r p h.0 in
           let was : place_at s r ≡ Queue actor =
           queue_is (place_at s r) actor (one_is (is_queue (place_at s r) actor) (one_count (in_queue r (cpu_at s actor)) (is_queue (place_at s r) actor) h.0
-          (p.each r low actor actor_below).queue)) in
+          (p.each r low actor (has_below s actor r p h.0)).queue)) in
           let old : PlacedAt (place_at s r) r cpu (cpu_at s cpu) = p.each r low cpu below in
           elim which [
             | inl here ↦
@@ -323,12 +311,12 @@ unfolding take_by
 placed_take actor s t pl e =
     let x = with_cpu actor (moved actor s) (taken (cpu_at s actor)) in
     let m = both_made (may_take (not s.setting.without.interrupts) (cpu_at s actor)) (λ u. Ok x) t e in
-    placed_end x t (cc) (placed_taken s actor pl (may_take_over (not s.setting.without.interrupts) (cpu_at s actor) m.0 m.1.0))
+    placed_end x t (cc) (placed_taken s actor pl (search (passed, both_made, arith)))
 
 placed_call : (actor : ℕ) (e : CallEvent) (s t : StateValue) → Placed s → goes actor (event.Call e) s ≡ Ok t → Placed t
 unfolding call_goes
 placed_call actor (calls.Queue id to class func info) s t p e = placed_queue actor id to class func info s t p e
-placed_call actor (calls.Free id) s t p e = (freed_is id s t p e).placed
+placed_call actor (calls.Free id) s t p e = (freed_place id (place_at s id) s t refl p e).placed
 placed_call actor (calls.Send to) s t p e = placed_send actor to s t p e
 placed_call actor calls.Accept s t p e = placed_accept actor s t p e
 placed_call actor calls.Idle s t p e = let m = both_made (idle_by actor s) (λ u. Ok s) t e in placed_end s t (cc) p
@@ -363,17 +351,12 @@ opening_places u words = refl
 pub free_at_first : (u : Setting) (words : LabelWords) (r : ℕ) → r < 65536 → place_at (opening u words) r ≡ Free
 free_at_first u words r low = ap (λ (xs : List Place). slice_index_or xs r Free) (opening_places u words) ∙ places_are_free 65536 r low
 
-fresh_placed : (r cpu : ℕ) (c : CpuState) → c ≡ fresh_cpu → PlacedAt Free r cpu c
-fresh_placed r cpu c e = rw e (record { queue = refl; batch = refl; run = refl })
-
 -- before the first event each record is free
 pub placed_at_first : (u : Setting) (words : LabelWords) → Placed (opening u words)
 placed_at_first u words = record {
   cpus_are = cpus_at_first u words;
   places_are = ap length (opening_places u words) ∙ places_long 65536;
-  each = λ r low cpu below.
-      let free : place_at (opening u words) r ≡ Free = free_at_first u words r low in
-      rw free (fresh_placed r cpu (cpu_at (opening u words) cpu) (fresh_at u words cpu));
+  each = search (free_at_first, fresh_at, arith);
   async = λ cpu below. let fresh : cpu_at (opening u words) cpu ≡ fresh_cpu = fresh_at u words cpu in rw fresh refl;
 }
 

@@ -15,31 +15,9 @@ pub record Placed (s : StateValue) : Type 0 where
   pub each : InOnePlace s
   pub async : (cpu : ℕ) → cpu < 512 → IsUnlockedAsync (cpu_at s cpu)
 
--- a place of a CPU is of that CPU alone
-queue_here : (kind : Kind) (cpu : ℕ) → is_queue (place_of kind cpu) cpu ≡ at_queue kind
-queue_here kind cpu = search (eq-eqb, arith)
-
-batch_here : (kind : Kind) (cpu : ℕ) → is_batch (place_of kind cpu) cpu ≡ at_batch kind
-batch_here kind cpu = search (eq-eqb, arith)
-
-run_here : (kind : Kind) (cpu : ℕ) → is_run (place_of kind cpu) cpu ≡ at_run kind
-run_here kind cpu = search (eq-eqb, arith)
-
-queue_elsewhere : (kind : Kind) (cpu other : ℕ) → cpu ≢ other → is_queue (place_of kind other) cpu ≡ false
-queue_elsewhere kind cpu other h1 = search (ne_eqb, arith)
-
-batch_elsewhere : (kind : Kind) (cpu other : ℕ) → cpu ≢ other → is_batch (place_of kind other) cpu ≡ false
-batch_elsewhere kind cpu other h1 = search (ne_eqb, arith)
-
-run_elsewhere : (kind : Kind) (cpu other : ℕ) → cpu ≢ other → is_run (place_of kind other) cpu ≡ false
-run_elsewhere kind cpu other h1 = search (ne_eqb, arith)
-
 -- a place is changed
 pub place_changed : (id : ℕ) (place : Place) (s : StateValue) → id < length s.places → place_at (with_place id place s) id ≡ place
 place_changed id place s below = get_or-set_same s.places id place Free below
-
-pub place_kept : (r id : ℕ) (place : Place) (s : StateValue) → r ≢ id → place_at (with_place id place s) r ≡ place_at s r
-place_kept r id place s ne = get_or-set_other s.places id r place Free ne
 
 -- what was there, with and without what moves
 moves_here : (was now : ℕ) (from to : Bool) → now + one_if (from && true) ≡ was + one_if (to && true) → was ≡ one_if from → now ≡ one_if to
@@ -55,11 +33,11 @@ shifted_here id from to cpu a b s p =
     let same : (id == id) ≡ true = eq-eqb id id refl in
     record {
       queue = moves_here (in_queue id a) (in_queue id b) (at_queue from) (at_queue to) (rw same at (s.queue id)) (p.queue ∙
-          ap one_if (queue_here from cpu)) ∙ ap one_if (sym (queue_here to cpu));
+          ap one_if (search (eq-eqb, arith))) ∙ ap one_if (sym (search (eq-eqb, arith)));
       batch = moves_here (in_batch id a) (in_batch id b) (at_batch from) (at_batch to) (rw same at (s.batch id)) (p.batch ∙
-          ap one_if (batch_here from cpu)) ∙ ap one_if (sym (batch_here to cpu));
-      run = moves_here (in_run id a) (in_run id b) (at_run from) (at_run to) (rw same at (s.run id)) (p.run ∙ ap one_if (run_here from cpu)) ∙
-          ap one_if (sym (run_here to cpu));
+          ap one_if (search (eq-eqb, arith))) ∙ ap one_if (sym (search (eq-eqb, arith)));
+      run = moves_here (in_run id a) (in_run id b) (at_run from) (at_run to) (rw same at (s.run id)) (p.run ∙ ap one_if (search (eq-eqb, arith))) ∙
+          ap one_if (sym (search (eq-eqb, arith)));
     }
 
 -- another record
@@ -76,7 +54,7 @@ shifted_other r id from to place cpu a b ne s p =
 -- the record that moves, at another CPU
 pub shifted_away : (id : ℕ) (from to : Kind) (cpu other : ℕ) (a : CpuState) → cpu ≢ other → PlacedAt (place_of from other) id cpu a →
     PlacedAt (place_of to other) id cpu a
-shifted_away id from to cpu other a h1 h2 = search (queue_elsewhere, batch_elsewhere, run_elsewhere, arith)
+shifted_away id from to cpu other a h1 h2 = search (ne_eqb, arith)
 
 shifted_each : (s : StateValue) (actor id : ℕ) (from to : Kind) (c : CpuState) → Placed s → Shift id from to (cpu_at s actor) c
     → (id < 65536 → place_at s id ≡ place_of from actor) → (r : ℕ) → r < 65536 → (cpu : ℕ) → cpu < 512
@@ -104,12 +82,12 @@ shifted_each s actor id from to c p sh at r low cpu below (inr other) (inl here)
     let t = with_place id (place_of to actor) (with_cpu actor s c) in
     let old : PlacedAt (place_at s r) r cpu (cpu_at s cpu) = p.each r low cpu below in
     let old_here : PlacedAt (place_at s r) r actor (cpu_at s actor) = rw here at old in
-    let placed : place_at t r ≡ place_at s r = place_kept r id (place_of to actor) (with_cpu actor s c) other in
+    let placed : place_at t r ≡ place_at s r = get_or-set_other (with_cpu actor s c).places id r (place_of to actor) Free other in
     let changed : cpu_at t actor ≡ c = cpu_changed actor s c (rw (p.cpus_are, ← here) below) in
     rw (here, placed, changed) (shifted_other r id from to (place_at s r) actor (cpu_at s actor) c other sh old_here)
 shifted_each s actor id from to c p sh at r low cpu below (inr other) (inr ne) =
     let t = with_place id (place_of to actor) (with_cpu actor s c) in
-    let placed : place_at t r ≡ place_at s r = place_kept r id (place_of to actor) (with_cpu actor s c) other in
+    let placed : place_at t r ≡ place_at s r = get_or-set_other (with_cpu actor s c).places id r (place_of to actor) Free other in
     let kept : cpu_at t cpu ≡ cpu_at s cpu = cpu_kept cpu actor s c ne in
     rw (placed, kept) (p.each r low cpu below)
 
@@ -128,8 +106,7 @@ placed_shift s actor id from to c h1 h2 h3 = search (length-set, place_of, shift
 
 -- a record that a CPU has is where it says
 pub one_is : (test : Bool) → 1 ≤ one_if test → test ≡ true
-one_is true h = refl
-one_is false h = absurd (omega arith)
+one_is test h = search arith
 
 pub queue_is : (place : Place) (cpu : ℕ) → is_queue place cpu ≡ true → place ≡ Queue cpu
 queue_is place cpu h1 = search (eqb-true, arith)

@@ -1,10 +1,10 @@
 -- A record is locked from the `queue` of a call to its `unlock`.
-use Rattle.trace_laws.proofs.Names.{arith, Batch, Bool, Call, CallEvent, Class, CpuState, Current, Err, Event, Free, List, Ok, Option, Queue, Reason, Run, Runs}
-use Rattle.trace_laws.proofs.Names.{StateValue, [], accepted, ap, begin_by, begun_front, begun_with, call_goes, cases_eq, cpu_at, end_by, ended, entered_by}
+use Rattle.trace_laws.proofs.Names.{arith, Batch, Bool, Call, CallEvent, Class, CpuState, Err, Event, Free, List, Ok, Queue, Run, Runs}
+use Rattle.trace_laws.proofs.Names.{StateValue, [], accepted, ap, begin_by, call_goes, cases_eq, cpu_at, end_by, ended, entered_by}
 use Rattle.trace_laws.proofs.Names.{eq-eqb, false, freed, freed_from, freed_if, get_or-set_other, get_or-set_same, goes, idle_by, if◌then◌else◌, in_queue, inl}
-use Rattle.trace_laws.proofs.Names.{inr, interrupted, is_batch, is_online, is_queue, is_some, joined, length, may_take, moved, ne_eqb, not, on_cpu, opening}
+use Rattle.trace_laws.proofs.Names.{inr, interrupted, is_batch, is_online, is_queue, is_some, joined, may_take, moved, ne_eqb, not, on_cpu, opening}
 use Rattle.trace_laws.proofs.Names.{order, place_at, place_of_run, place_reason, placed, placed_unless, queue_by, refl, runs_locked, send_by, sent}
-use Rattle.trace_laws.proofs.Names.{slice_index_or, slice_set, subst, sym, take_by, taken, true, unlock_by, unlocked, with_cpu, with_place, ℕ, ◌&&◌, ◌<◌, ◌==◌}
+use Rattle.trace_laws.proofs.Names.{slice_index_or, subst, sym, take_by, taken, true, unlock_by, unlocked, with_cpu, with_place, ℕ, ◌&&◌, ◌<◌, ◌==◌}
 use Rattle.trace_laws.proofs.Names.{◌>>=◌, ◌∙◌, ◌∷◌, ◌≡◌}
 use Rattle.trace_model.specs.declared.event.CallEvent.TheVariants as calls
 use Rattle.trace_model.specs.declared.event.Event.TheVariants as event
@@ -12,8 +12,8 @@ use Rattle.trace_model.specs.declared.reason.Reason.TheVariants as reason
 use Rattle.trace_model.specs.declared.call.Place.{Place}
 use Rattle.trace_laws.proofs.Records.EventPlaces.{async_any, entered_begins, free_at_first, has_below, leaves_run, mover_below, one_count, placed_at_first}
 use Rattle.trace_laws.proofs.Records.EventPlaces.{placed_goes, placed_runs, put_at}
-use Rattle.trace_laws.proofs.Records.OnePlace.{Placed, leaves, one_is, place_before, place_changed, place_kept, queue_is}
-use Rattle.trace_laws.proofs.Records.RecordMoves.{Enters, InBatch, InQueue, Kind, Nowhere, Running, Shift, leaves_unlocked, place_of, run_kind}
+use Rattle.trace_laws.proofs.Records.OnePlace.{Placed, leaves, one_is, place_before, place_changed, queue_is}
+use Rattle.trace_laws.proofs.Records.RecordMoves.{Enters, Kind, Nowhere, Shift, leaves_unlocked, place_of, run_kind}
 use Rattle.trace_laws.proofs.Stops.AtRun.{runs_last, setting_at_first, setting_goes, setting_runs}
 use Rattle.trace_laws.proofs.{Calls.CallEvents.made_on_cpu, Calls.MadeSteps.both_made, Calls.MadeSteps.failed, Calls.MadeSteps.low_event}
 use Rattle.trace_laws.proofs.{Calls.MadeSteps.passed}
@@ -54,10 +54,6 @@ mover_place s actor id from to c p sh e low =
 freed_told : (id : ℕ) (place : Place) (s t : StateValue) → s.setting.without.unlocks ≡ false → freed_from id place s ≡ Ok t → (place ≡ Free) × (s ≡ t)
 freed_told id place s t h1 h2 = search arith
 
-put_turn : (s t : StateValue) (r id : ℕ) (place : Place) → length s.places ≡ 65536 → r < 65536 → t.places ≡ slice_set s.places id place
-    → taken_at t r ≡ (if id == r then is_taken place else taken_at s r)
-put_turn s t r id place h1 h2 h3 = search (cases_eq, eq-eqb, get_or-set_same, ne_eqb, get_or-set_other, arith)
-
 queue_turns : (source id to : ℕ) (class : Class) (func info r : ℕ) (s t : StateValue) → Placed s → s.setting.without.unlocks ≡ false → r < 65536
     → queue_by (record { source = source; id = id; class = class; func = func; info = info }) to s ≡ Ok t
     → Turns r source (event.Call (calls.Queue id to class func info)) s t
@@ -69,17 +65,13 @@ queue_turns source id to class func info r s t pl told low e =
     let q = failed (to == source) (freed id s >>= λ m. Ok (joined call to m)) (reason.IsCaller to) t p.1 in
     let m = both_made (freed id s) (λ m. Ok (joined call to m)) t q.1 in
     let f = freed_told id (place_at s id) s m.0 told m.1.0 in
-    let same : joined call to m.0 ≡ t = cc in
-    let places : t.places ≡ slice_set s.places id (Queue to) = ap (λ x. x.places) (sym same) ∙ ap (λ x. slice_set x.places id (Queue to)) (sym f.1) in
     record {
       allows = λ here. rw here at (taken_free (place_at s id) f.0);
-      after = put_turn s t r id (Queue to) pl.places_are low places;
+      after = search (cases_eq, eq-eqb, get_or-set_same, ne_eqb, get_or-set_other, arith);
     }
 
 free_turns : (actor id r : ℕ) (s t : StateValue) → s.setting.without.unlocks ≡ false → freed id s ≡ Ok t → Turns r actor (event.Call (calls.Free id)) s t
-free_turns actor id r s t told e =
-    let f = freed_told id (place_at s id) s t told e in
-    record { allows = λ here. rw here at (taken_free (place_at s id) f.0); after = ap (λ x. taken_at x r) (sym f.1) }
+free_turns actor id r s t told e = search (freed_told, taken_free, arith)
 
 unlock_turns : (actor id r : ℕ) (s t : StateValue) → Placed s → r < 65536 → unlock_by actor id s ≡ Ok t → Turns r actor (event.Call (calls.Unlock id)) s t
 unfolding unlock_by
@@ -89,20 +81,14 @@ unlock_turns actor id r s t pl low e =
     let n = both_made (on_cpu actor s made) (λ x. Ok (with_place id Free x)) t e in
     let m = made_on_cpu actor s n.0 made n.1.0 in
     let l = leaves_unlocked id (is_batch (place_at s id) actor) (place_reason id (place_at s id)) a m.0 m.1.0 in
-    let same : with_place id Free n.0 ≡ t = cc in
-    let places : t.places ≡ slice_set s.places id Free = ap (λ x. x.places) (sym same) ∙ ap (λ x. slice_set x.places id Free) (sym m.1.1) in
     let leaves_it = elim l.is_from as (λ x. leaves l.from Nowhere ≡ true) [ inl x ↦ rw x refl | inr x ↦ rw x refl ] in
-    let some : l.from ≡ Nowhere → ⊥ = λ x. elim l.is_from [
-      | inl y ↦ (let f : Nowhere ≡ InBatch = sym x ∙
-          y in cc)
-      | inr y ↦ (let f : Nowhere ≡ Running = sym x ∙ y in cc)
-    ] in
+    let some : l.from ≡ Nowhere → ⊥ = search (l.is_from, arith) in
     record {
       allows = λ here.
           let low_id : id < 65536 = rw here low in
           let at = mover_place s actor id l.from Nowhere m.0 pl l.shift leaves_it low_id in
           let taken_here : taken_at s id ≡ true = ap is_taken at ∙ taken_of l.from actor some in rw here at taken_here;
-      after = put_turn s t r id Free pl.places_are low places;
+      after = search (cases_eq, eq-eqb, get_or-set_same, ne_eqb, get_or-set_other, arith);
     }
 
 -- a queue that is taken keeps its records
@@ -114,10 +100,9 @@ take_turns actor r s t pl low e =
     let same : x ≡ t = cc in
     let places : t.places ≡ placed (Batch actor) (cpu_at s actor).queue s.places = ap (λ y. y.places) (sym same) in
     let put = put_at (Batch actor) (cpu_at s actor).queue s.places r (rw pl.places_are low) in
-    let now = ap (λ (xs : List Place). is_taken (slice_index_or xs r Free)) places in
     record {
       allows = tt;
-      after = now ∙ elim put.how [
+      after = (ap (λ (xs : List Place). is_taken (slice_index_or xs r Free)) places) ∙ elim put.how [
         | inl h ↦ ap is_taken h.1
         | inr h ↦
             (let below = has_below s actor r pl h.0 in
@@ -128,20 +113,9 @@ take_turns actor r s t pl low e =
       ];
     }
 
--- a function that is entered leaves its record locked: where unlocks are told, an ASYNC call was unlocked before
-front_sync : (unlocks : Bool) (id func info : ℕ) (front : Call) (a b : CpuState) → unlocks ≡ true →
-    begun_front (record { id = id; func = func; info = info }) unlocks a front ≡ Ok b
-    → runs_locked b ≡ true
-front_sync unlocks id func info front a b h1 h2 = search (both_made, failed, arith)
-
-none_locked : (current : Option Current) (id func info : ℕ) (here : Bool) (elsewhere : Reason) (unlocks : Bool) (a b : CpuState) → unlocks ≡ true →
-    is_some current ≡ false
-    → begun_with current (record { id = id; func = func; info = info }) here elsewhere unlocks a ≡ Ok b → runs_locked b ≡ true
-none_locked current id func info here elsewhere unlocks a b h1 h2 h3 = search (both_made, front_sync, arith)
-
 entered_locked : (order : Bool) (actor id func info : ℕ) (place : Place) (s : StateValue) (c : CpuState) → order ≡ false → s.setting.without.unlocks ≡ false
     → is_some (cpu_at s actor).current ≡ false → entered_by order actor (record { id = id; func = func; info = info }) place s ≡ Ok c → runs_locked c ≡ true
-entered_locked order actor id func info place s c h1 h2 h3 h4 = search (passed, none_locked, arith)
+entered_locked order actor id func info place s c h1 h2 h3 h4 = search (passed, both_made, failed, arith)
 
 begin_places : (actor id func info r : ℕ) (s : StateValue) (c : CpuState) (unless : Bool) → Placed s → r < 65536 → (unless ≡ false →
     Enters id (cpu_at s actor) c)
@@ -154,11 +128,7 @@ begin_places actor id func info r s c false pl low enters locked =
     let changed : cpu_at (with_cpu actor s c) actor ≡ c = cpu_changed actor s c (rw pl.cpus_are below) in
     let place : place_of_run actor (cpu_at (with_cpu actor s c) actor) ≡ Run actor =
     ap (λ x. place_of_run actor x) changed ∙ ap (λ (b : Bool). if b then Run actor else Free) (locked refl) in
-    let some : en.from ≡ Nowhere → ⊥ = λ x. elim en.is_from [
-      | inl y ↦ (let f : Nowhere ≡ InBatch = sym x ∙
-          y in cc)
-      | inr y ↦ (let f : Nowhere ≡ InQueue = sym x ∙ y in cc)
-    ] in
+    let some : en.from ≡ Nowhere → ⊥ = search (en.is_from, arith) in
     elim (cases_eq id r) [
       | inl here ↦
           (let was = mover_place s actor id en.from (run_kind en.class) c pl en.shift l (rw here low) in
@@ -166,7 +136,7 @@ begin_places actor id func info r s c false pl low enters locked =
           let a : taken_at (placed_unless false actor id (with_cpu actor s c)) id ≡ true = ap is_taken now ∙ ap is_taken place in
           let b : taken_at s id ≡ true = ap is_taken was ∙ taken_of en.from actor some in
           subst (λ (x : ℕ). taken_at (placed_unless false actor id (with_cpu actor s c)) x ≡ taken_at s x) here (a ∙ sym b))
-      | inr ne ↦ ap is_taken (place_kept r id (place_of_run actor (cpu_at (with_cpu actor s c) actor)) (with_cpu actor s c) (λ x. ne (sym x)))
+      | inr ne ↦ ap is_taken (get_or-set_other (with_cpu actor s c).places id r (place_of_run actor (cpu_at (with_cpu actor s c) actor)) Free (λ x. ne (sym x)))
     ]
 
 begin_turns : (actor id func info r : ℕ) (s t : StateValue) → Placed s → r < 65536 → s.setting.without.order ≡ false → s.setting.without.unlocks ≡ false
@@ -188,9 +158,7 @@ begin_turns actor id func info r s t pl low order unlocks e =
     }
 
 none_freed : (test unlocks : Bool) (id : ℕ) (s : StateValue) → unlocks ≡ false → let t = freed_if (test && unlocks) id s in t.places ≡ s.places
-none_freed true true id s e = absurd cc
-none_freed true false id s e = refl
-none_freed false unlocks id s e = refl
+none_freed test unlocks id s e = search arith
 
 end_turns : (actor id r : ℕ) (s t : StateValue) → s.setting.without.unlocks ≡ false → end_by actor id s ≡ Ok t → Turns r actor (event.Call (calls.End id)) s t
 unfolding end_by
@@ -199,10 +167,9 @@ end_turns actor id r s t told e =
     let made = ended id (not unlocks) (cpu_at s actor) in
     let test = runs_locked (cpu_at s actor) && unlocks in
     let n = both_made (on_cpu actor s made) (λ x. Ok (freed_if test id x)) t e in
-    let m = made_on_cpu actor s n.0 made n.1.0 in
     let same : freed_if test id n.0 ≡ t = cc in
     let places : t.places ≡ s.places = ap (λ x. x.places) (sym same) ∙ none_freed (runs_locked (cpu_at s actor)) unlocks id n.0 told ∙
-    ap (λ x. x.places) (sym m.1.1) in
+    ap (λ x. x.places) (sym (made_on_cpu actor s n.0 made n.1.0).1.1) in
     record { allows = tt; after = same_places s t r places }
 
 send_turns : (actor to r : ℕ) (s t : StateValue) → send_by actor to s ≡ Ok t → Turns r actor (event.Call (calls.Send to)) s t
@@ -246,9 +213,8 @@ unfolding locked_from
 turns_run r [] s t p low order unlocks run = ap (λ x. taken_at x r) run
 turns_run r (e ∷ es) s t p low order unlocks (m, (g, run)) =
     let set : m.setting ≡ s.setting = setting_goes e.0 e.1 s m g in
-    let step = turns_goes e.0 r e.1 s m p low order unlocks g in
     turns_run r es m t (placed_goes e.0 e.1 s m p g) low (ap (λ u. u.without.order) set ∙ order) (ap (λ u. u.without.unlocks) set ∙ unlocks) run
-    ∙ ap (λ b. locked_from r b es) step.after
+    ∙ ap (λ b. locked_from r b es) (turns_goes e.0 r e.1 s m p low order unlocks g).after
 
 pub records_take_turns : RecordsTakeTurns
 records_take_turns u words es t cpu e order unlocks run r low =

@@ -1,22 +1,22 @@
 -- The events of calls of a replay are accepted.
-use Rattle.trace_laws.proofs.Names.{AllByRecursion, Bool, CpuState, Err, Event, Free, LabelWords, Labels, List, None, Option, Runs, Setting, Some, StateValue}
-use Rattle.trace_laws.proofs.Names.{[], ap, arith, cases_eq, cond, cpu_at, eqb-false, false, filter-append, get_or-replicate, inl, inr, length}
+use Rattle.trace_laws.proofs.Names.{AllByRecursion, CpuState, Err, Event, Free, LabelWords, Labels, List, None, Option, Runs, Setting, Some, StateValue}
+use Rattle.trace_laws.proofs.Names.{[], ap, arith, cases_eq, cpu_at, eqb-false, false, filter-append, get_or-replicate, inl, inr, length}
 use Rattle.trace_laws.proofs.Names.{length-replicate, length-set, opening, places_free, refl, replicate, slice_index_or, slice_set, subst, sym, true}
-use Rattle.trace_laws.proofs.Names.{true≢false, ℕ, ◌++◌, ◌+◌, ◌<◌, ◌==◌, ◌||◌, ◌∙◌, ◌∷◌, ◌≡◌, ◌≢◌}
+use Rattle.trace_laws.proofs.Names.{true≢false, ℕ, ◌++◌, ◌+◌, ◌<◌, ◌∙◌, ◌∷◌, ◌≡◌}
 use Rattle.trace_laws.proofs.ReplayNames.{AimsOnline, CallState, Command, ControlValue, CoreValue, Done, DrainValue, FitsCommand, Follows, GoesElsewhere}
-use Rattle.trace_laws.proofs.ReplayNames.{Handle, HandleStage, IsWhole, KeepsPast, CallOutcome, Past, Post, PostIs, PostStage, Posted, Posting, Replay}
+use Rattle.trace_laws.proofs.ReplayNames.{Handle, IsWhole, KeepsPast, Past, Post, PostIs, Posted, Replay}
 use Rattle.trace_laws.proofs.ReplayNames.{Seen, Send}
 use Rattle.trace_laws.proofs.ReplayNames.{Shown, SmpError, Stage, StopStage, Turned, access_of, after, after_seen, all_fresh, call_events, call_step, calls_in}
 use Rattle.trace_laws.proofs.ReplayNames.{control_after, control_at, control_of, controls_by_cpu, cpus, events_of, events_of_step, first_stage, found_at}
-use Rattle.trace_laws.proofs.ReplayNames.{fresh, get_or-same, handle_goes, handle_outcome, inside_below, kept, made_shown, may_start, new_core, new_shown}
-use Rattle.trace_laws.proofs.ReplayNames.{no_calls, nothing_left_out, number_in, outcome_of, outside, past_at, post_outcome, put, put_all, refusal_of}
+use Rattle.trace_laws.proofs.ReplayNames.{fresh, get_or-same, inside_below, kept, made_shown, new_core, new_shown}
+use Rattle.trace_laws.proofs.ReplayNames.{no_calls, nothing_left_out, number_in, outcome_of, outside, past_at, put, put_all, refusal_of}
 use Rattle.trace_laws.proofs.ReplayNames.{replay_from, replay_made, replay_on, seen_at, start_below, start_turn, start_whole, started, started_shown, step_at}
 use Rattle.trace_laws.proofs.ReplayNames.{step_turn, step_whole, stepped, stop_control_of, stop_seen_at, stop_step, stops_stepped, table_size, tells, tells_all}
 use Rattle.trace_laws.proofs.ReplayNames.{word_of}
+use Rattle.trace_laws.proofs.ReplayNames.{may_start}
+use Rattle.smp_call_steps.specs.Start.{command_refusal}
 use Rattle.smp_mask.specs.declared.error.SmpError.TheVariants as error
 use Rattle.smp_words.specs.declared.command.Event.TheVariants as turned
-use Rattle.smp_call_steps.specs.declared.handle.HandleStage.TheVariants as handle
-use Rattle.smp_call_steps.specs.Start.{command_refusal}
 use Rattle.trace_laws.proofs.ReplayCalls.EventsByHalf.{all_calls, call_word, is_call_word, no_calls as none_of_calls, stop_tells, stop_word}
 use Rattle.trace_laws.proofs.ReplayCalls.KeptPasts.{begun_same, keeps_past, past_else, past_here}
 use Rattle.trace_laws.proofs.ReplayCalls.PostSteps.{Accepted, looks_step, posts_step, sends_step}
@@ -38,32 +38,11 @@ pub runs_append : (s m t : StateValue) (xs ys : List (ℕ × Event)) → Runs s 
 runs_append s m t [] ys x y = subst (λ (z : StateValue). Runs z ys t) x y
 runs_append s m t (e ∷ xs) ys x y = (x.0, (x.1.0, runs_append x.0 m t xs ys x.1.1 y))
 
--- a post goes on to the CPU that it goes to
-if_elsewhere : (b : Bool) (me : ℕ) (x y : CallOutcome) → GoesElsewhere x.next me → GoesElsewhere y.next me → GoesElsewhere (cond b x y).next me
-if_elsewhere true me x y k l = k
-if_elsewhere false me x y k l = l
-
-posts_elsewhere : (p : Posting) (me : ℕ) → p.to ≢ me → (stage : PostStage) (found : ℕ) → GoesElsewhere (post_outcome p stage found).next me
-posts_elsewhere p me h1 stage found = search (if_elsewhere, arith)
-
-handles_elsewhere : (d : DrainValue) (me : ℕ) (stage : HandleStage) (found : ℕ) → GoesElsewhere (handle_outcome d stage found).next me
-handles_elsewhere d me handle.Accept found = if_elsewhere (found == 0) me (handle_goes handle.LeaveIdle) (handle_goes handle.Take) tt tt
-handles_elsewhere d me _ found = tt
-
 pub step_elsewhere : (d : DrainValue) (me : ℕ) (stage : Stage) (found : ℕ) → GoesElsewhere (Some stage) me → GoesElsewhere (outcome_of d stage found).next me
-step_elsewhere d me stage found h1 = search (posts_elsewhere, handles_elsewhere, arith)
-
--- a command of another kind is none of a post
-or_parts : (x y : Bool) → (x || y) ≡ false → (x ≡ false) × (y ≡ false)
-or_parts true y e = absurd (true≢false e)
-or_parts false y e = (refl, e)
-
-then_none : (b : Bool) (e : SmpError) → cond b (Some e) None ≡ None → b ≡ false
-then_none true e x = absurd cc
-then_none false e x = refl
+step_elsewhere d me stage found h1 = search arith
 
 pub start_elsewhere : (nr online cpu : ℕ) (c : Command) → command_refusal nr online cpu c ≡ None → GoesElsewhere (first_stage online cpu c) cpu
-start_elsewhere nr online cpu c h1 = search (or_parts, then_none, eqb-false, arith)
+start_elsewhere nr online cpu c h1 = search (true≢false, eqb-false, arith)
 
 pub start_posts : (online cpu : ℕ) (c : Command) (p : Posted) → PostIs (first_stage online cpu c) p
 start_posts online cpu c p = search arith
@@ -171,11 +150,9 @@ module _ (core : CoreValue) (a : CallState) (pasts : List Past) (s : StateValue)
   -- a command begins
   pub start_stands : (c : Command) → FitsCommand c → refusal_of core cpu c ≡ None → Stands (started core cpu c) a pasts s
   start_stands c fits e =
-      let m = may_start core cpu c e in
-      let low = start_below core cpu c k.whole.sound.limits e in
       let first = control_at (control_of core.controls cpu) (first_stage core.online cpu c) in
       let by_name : control_of (slice_set core.controls cpu first) ≡ put
-      (control_of core.controls) cpu first = controls_by_cpu core.controls cpu first sized low in
+      (control_of core.controls) cpu first = controls_by_cpu core.controls cpu first sized (start_below core cpu c k.whole.sound.limits e) in
       record {
         whole = start_whole core cpu k.whole c fits e;
         shown = started_shown a core cpu c k.whole.sound.limits sized e fits k.shown;
@@ -190,7 +167,7 @@ module _ (core : CoreValue) (a : CallState) (pasts : List Past) (s : StateValue)
         irq = k.irq;
         elsewhere = subst (λ (f : ℕ → ControlValue). (j : ℕ) → GoesElsewhere (f j).stage j) (sym by_name)
             (put_all (λ j x. GoesElsewhere x.stage j) (control_of core.controls) cpu first
-            (start_elsewhere core.nr core.online cpu c m.is_allowed) (λ j ne. k.elsewhere j));
+            (start_elsewhere core.nr core.online cpu c (may_start core cpu c e).is_allowed) (λ j ne. k.elsewhere j));
       }
 
 -- What the rest of a replay leaves.
@@ -276,9 +253,6 @@ opening_follows u words online e w = record {
   places = λ id l. free_at 65536 id (omega arith);
 }
 
-outside_at : (cpu : ℕ) → control_of (replicate cpus outside) cpu ≡ outside
-outside_at cpu = get_or-same outside cpus cpu
-
 pub new_stands : (nr online : ℕ) (labels : Labels) (u : Setting) (words : LabelWords) → IsWhole (new_core nr online labels) → u.online ≡ online
     → u.without ≡ nothing_left_out
     → Stands (new_core nr online labels) no_calls all_fresh (opening u words)
@@ -289,10 +263,10 @@ new_stands nr online labels u words whole e w = record {
   keeps = record {
     pasts_are = length-replicate 32 fresh;
     begun = λ cpu l. tt;
-    posts = λ cpu l. rw (outside_at cpu) tt;
+    posts = λ cpu l. rw (get_or-same outside cpus cpu) tt;
   };
   irq = λ cpu l. ap (λ (c : CpuState). c.irq) (fresh_at u words cpu);
-  elsewhere = λ cpu. rw (outside_at cpu) tt;
+  elsewhere = λ cpu. rw (get_or-same outside cpus cpu) tt;
 }
 
 pub calls_of_replays_are_accepted : CallsOfReplaysAreAccepted

@@ -5,7 +5,6 @@ use Rattle.trace_laws.proofs.Names.{false, freed, handles_nothing, has, idle_by,
 use Rattle.trace_laws.proofs.Names.{place_at, queue_by, refl, send_by, sent, take_by, taken, true, unlock_by, unlocked, with_cpu, with_place, ℕ, ◌<◌, ◌∷◌, ◌≡◌}
 use Rattle.trace_laws.proofs.Names.{◌≢◌}
 use Rattle.trace_laws.proofs.ReplayNames.{Runs, Without, cpus, nothing_left_out}
-use Rattle.trace_model.specs.Cpu.{as_idle}
 use Rattle.trace_laws.proofs.ReplayCalls.ChangedStates.{cpu_here}
 
 -- a CPU that handles nothing
@@ -27,9 +26,6 @@ rests_quiet c k = rw (k.current, k.batch, k.accepted) refl
 may_accept : (c : CpuState) → Rests c → c.pending ≡ true → accepted c ≡ Ok (record c { pending = false; accepted = true })
 may_accept c k e = rw (k.irq, rests_quiet c k, e) refl
 
-may_idle : (c : CpuState) → Rests c → c.pending ≡ false → as_idle c ≡ Ok tt
-may_idle c k e = rw (k.irq, rests_quiet c k, e) refl
-
 takes : (c : CpuState) → c.irq ≡ true → c.current ≡ None → c.batch ≡ [] → c.accepted ≡ true → may_take true c ≡ Ok tt
 takes c i n b a = rw (i, n, b, a) refl
 
@@ -45,8 +41,7 @@ unlocks_ended x c here elsewhere k = rw (k, eq-eqb x.id x.id refl) refl
 
 begins_front : (x : Call) (xs : List Call) (c : CpuState) (elsewhere : Reason) → IsNext c x xs → x.class ≡ Sync
     → begun (record { id = x.id; func = x.func; info = x.info }) true elsewhere true c ≡ Ok (left_batch Runs x c)
-begins_front x xs c elsewhere k a =
-    rw (k.irq, k.current, k.batch, eq-eqb x.id x.id refl, eq-eqb x.func x.func refl, eq-eqb x.info x.info refl, a) refl
+begins_front x xs c elsewhere k a = search (eq-eqb, arith)
 
 begins_unlocked : (x : Call) (c : CpuState) (here : Bool) (elsewhere : Reason) → c.irq ≡ true → c.current ≡ at_call Unlocked x
     → begun (record { id = x.id; func = x.func; info = x.info }) here elsewhere true c ≡ Ok (record c { current = at_call Runs x })
@@ -59,8 +54,7 @@ after Async x = None
 
 ends_running : (x : Call) (class : Class) (c : CpuState) → c.current ≡ at_call Runs x → x.class ≡ class
     → ended x.id true c ≡ Ok (record c { ran = counted x.source c.ran; current = after class x })
-ends_running x Sync c k e = rw (k, eq-eqb x.id x.id refl, e) refl
-ends_running x Async c k e = rw (k, eq-eqb x.id x.id refl, e) refl
+ends_running x class c k e = search (eq-eqb, arith)
 
 module _ (s : StateValue) (me : ℕ) (whole : s.setting.without ≡ nothing_left_out) where
   pub accepts : Rests (cpu_at s me) → (cpu_at s me).pending ≡ true
@@ -68,7 +62,7 @@ module _ (s : StateValue) (me : ℕ) (whole : s.setting.without ≡ nothing_left
   accepts k e = rw (may_accept (cpu_at s me) k e) refl
 
   pub idles : Rests (cpu_at s me) → (cpu_at s me).pending ≡ false → idle_by me s ≡ Ok tt
-  idles k e = may_idle (cpu_at s me) k e
+  idles k e = rw (k.irq, rests_quiet (cpu_at s me) k, e) refl
 
   pub takes_queue : (cpu_at s me).irq ≡ true → (cpu_at s me).current ≡ None → (cpu_at s me).batch ≡ [] → (cpu_at s me).accepted ≡ true
       → take_by me s ≡ Ok (with_cpu me (moved me s) (taken (cpu_at s me)))
@@ -103,8 +97,7 @@ module _ (s : StateValue) (me : ℕ) (whole : s.setting.without ≡ nothing_left
   pub begins_async : (x : Call) → (cpu_at s me).irq ≡ true → (cpu_at s me).current ≡ at_call Unlocked x
       → begin_by me (record { id = x.id; func = x.func; info = x.info }) s ≡ Ok (with_cpu me s (record (cpu_at s me) { current = at_call Runs x }))
   unfolding begin_by
-  begins_async x i k =
-      rw (ap (λ (w : Without). w.order) whole, ap (λ (w : Without). w.unlocks) whole, begins_unlocked x (cpu_at s me) _ _ i k, k) refl
+  begins_async x i k = search (begins_unlocked, arith)
 
   pub ends_call : (x : Call) (class : Class) → (cpu_at s me).current ≡ at_call Runs x → x.class ≡ class
       → end_by me x.id s ≡ Ok (with_cpu me s (record (cpu_at s me) { ran = counted x.source (cpu_at s me).ran; current = after class x }))
@@ -116,7 +109,6 @@ module _ (s : StateValue) (me : ℕ) (whole : s.setting.without ≡ nothing_left
       → begin_by me (record { id = x.id; func = x.func; info = x.info }) s ≡ Ok (with_place x.id (Run me) (with_cpu me s (left_batch Runs x (cpu_at s me))))
   unfolding begin_by
   begins_sync x xs k a at l below =
-      let c = left_batch Runs x (cpu_at s me) in
       rw (
         ap (λ (w : Without). w.order) whole,
         ap (λ (w : Without). w.unlocks) whole,
@@ -124,6 +116,6 @@ module _ (s : StateValue) (me : ℕ) (whole : s.setting.without ≡ nothing_left
         eq-eqb me me refl,
         begins_front x xs (cpu_at s me) _ k a,
         k.current,
-        cpu_here s me c l below,
+        cpu_here s me (left_batch Runs x (cpu_at s me)) l below,
         a,
       ) refl

@@ -37,28 +37,19 @@ module _ (online : ℕ) (a b : CallState) (s : StateValue) where
   pub but_set : (me : ℕ) (c : CpuState) → FollowsBut online me a s → FollowsBut online me a (with_cpu me s c)
   but_set me c h1 = search (length-set, cpu_else, arith)
 
-  -- so that its calls are those of the machine
-  set_calls : (me : ℕ) (c : CpuState) → me < cpus → FollowsBut online me a s → calls_in c ≡ calls_of b me → ((j : ℕ) → j ≢ me → calls_of b j ≡ calls_of a j)
-      → (cpu : ℕ) → calls_in (cpu_at (with_cpu me s c) cpu) ≡ calls_of b cpu
-  set_calls me c h1 h2 h3 h4 cpu = search (cases_eq, cpu_here, cpu_else, arith)
-
   pub follows_set : (me : ℕ) (c : CpuState) → me < cpus → FollowsBut online me a s → calls_in c ≡ calls_of b me
       → ((j : ℕ) → j ≢ me → calls_of b j ≡ calls_of a j) → ((id : ℕ) → id < records → place_of (b.place id) ≡ place_of (a.place id))
       → Follows online b (with_cpu me s c)
-  follows_set me c h1 h2 h3 h4 h5 = search (length-set, set_calls, arith)
+  follows_set me c h1 h2 h3 h4 h5 = search (length-set, cases_eq, cpu_here, cpu_else, arith)
 
 -- a record is set
 module _ (online : ℕ) (a b : CallState) (s : StateValue) (id : ℕ) (p : Place) (below : id < records) (here : place_of (b.place id) ≡ p)
     (others : (j : ℕ) → j ≢ id → b.place j ≡ a.place j) where
-  set_places : length s.places ≡ 65536 → ((j : ℕ) → j < records → place_at s j ≡ place_of (a.place j))
-      → (j : ℕ) → j < records → place_at (with_place id p s) j ≡ place_of (b.place j)
-  set_places h1 h2 j h3 = search (cases_eq, place_here, place_else, arith)
-
   pub follows_placed : ((j : ℕ) → calls_of b j ≡ calls_of a j) → Follows online a s → Follows online b (with_place id p s)
-  follows_placed h1 h2 = search (length-set, set_places, arith)
+  follows_placed h1 h2 = search (length-set, cases_eq, place_here, place_else, arith)
 
   pub but_placed : (me : ℕ) → ((j : ℕ) → j ≢ me → calls_of b j ≡ calls_of a j) → FollowsBut online me a s → FollowsBut online me b (with_place id p s)
-  but_placed me h1 h2 = search (length-set, set_places, arith)
+  but_placed me h1 h2 = search (length-set, cases_eq, place_here, place_else, arith)
 
 -- Events of calls leave all else as it was.
 pub record LeavesStops (s t : StateValue) : Type 0 where

@@ -1,14 +1,14 @@
 -- The steps of handle are accepted.
-use Rattle.trace_laws.proofs.Names.{AllByRecursion, Bool, List, None, Option, Some, StateValue, [], arith, cpu_at, false, lt-ltb, refl, subst, true, ℕ, ◌+◌}
+use Rattle.trace_laws.proofs.Names.{Bool, List, None, Option, Some, StateValue, [], arith, cpu_at, false, lt-ltb, refl, subst, true, ℕ, ◌+◌}
 use Rattle.trace_laws.proofs.Names.{◌-◌, ◌<◌, ◌≡◌}
-use Rattle.trace_laws.proofs.ReplayNames.{BegunIs, Call, CallState, ControlValue, CountedCall, Flags, Follows, Handle, HandleStage, Intr, IsPlaced, Nothing}
+use Rattle.trace_laws.proofs.ReplayNames.{BegunIs, Call, CallState, ControlValue, Flags, Follows, Handle, HandleStage, Intr, IsPlaced, Nothing}
 use Rattle.trace_laws.proofs.ReplayNames.{Past, Running, Shows, Walk, Word, accepts, cpus, ends_front, holds_nothing, link_to, of_intr, past_at, records}
 use Rattle.trace_laws.proofs.ReplayNames.{stands_at, walks_front}
 use Rattle.smp_words.specs.declared.seen.Act.TheVariants as act
 use Rattle.smp_call_steps.proofs.State.Walks.{ends_async, same_record, walks_rest, walks_sync}
 use Rattle.smp_call_steps.specs.declared.handle.HandleStage.TheVariants as handle
 use Rattle.smp_call_steps.specs.declared.place.RecPlace.TheVariants as machine
-use Rattle.smp_call_steps.specs.{Places.locked_by, Words.bit}
+use Rattle.smp_call_steps.specs.{Words.bit}
 use Rattle.trace_laws.proofs.ReplayCalls.StepEvents.{Reaches, accepts_told, begins_async_told, begins_sync_told, by, ends_async_told, ends_sync_told, id_told}
 use Rattle.trace_laws.proofs.ReplayCalls.StepEvents.{idles_told, loads, rests_told, still, takes_told, unlocks_told}
 use Rattle.trace_laws.proofs.{ReplayCalls.PostSteps.Accepted, ReplayCalls.PostSteps.links_quiet}
@@ -29,8 +29,7 @@ module _ (online : ℕ) (a : CallState) (at : Word → ℕ) (control : ℕ → C
   takes_interrupt : (pending : Bool) (n : ℕ) → a.pending me ≡ pending → n ≡ bit pending → a.running me ≡ Nothing → a.batch me ≡ [] → a.accepted me ≡ false
       → Reaches online (accepts a me) s (by me (of_intr me act.Swap
       (record { cpu = me; act = act.Swap; word = Intr me; found = Some n; put = Some 0; note = None })))
-  takes_interrupt true n e is r b x = rw is (accepts_told online a s f me below (rests_told online a s f me below r b x on) e)
-  takes_interrupt false n e is r b x = rw is (idles_told online a s f me below (rests_told online a s f me below r b x on) e)
+  takes_interrupt pending n e is r b x = search (accepts_told, rests_told, idles_told, arith)
 
   -- a call that has returned is the one that the CPU last began
   begun_is : (r : Running) → a.running me ≡ r → BegunIs r (past_at pasts me)
@@ -40,9 +39,7 @@ module _ (online : ℕ) (a : CallState) (at : Word → ℕ) (control : ℕ → C
   loads_flags : (walk : Walk) (id : ℕ) (next : Option ℕ) → At (handle.LoadFlags walk id next) → id < records
   loads_flags walk id next e =
       let k = stands_at me shown (handle.LoadFlags walk id next) e in
-      let all = walks_rest In k.1.2 (shown.placed.batched me) in
-      let same = same_record id k.1.0 k.1.2.leads_on.0 in
-      subst (λ (n : ℕ). n < records) same all.0.is_call.in_range
+      subst (λ (n : ℕ). n < records) (same_record id k.1.0 k.1.2.leads_on.0) (walks_rest In k.1.2 (shown.placed.batched me)).0.is_call.in_range
 
   sync_begins : (walk : Walk) (call : Call) (next : Option ℕ) → At (handle.BeginSync walk call next) → Made (handle.BeginSync walk call next)
   sync_begins walk call next e =
@@ -67,11 +64,8 @@ module _ (online : ℕ) (a : CallState) (at : Word → ℕ) (control : ℕ → C
   async_ends : (call : Call) (next : Option ℕ) → At (handle.CountAsync call next) → Made (handle.CountAsync call next)
   async_ends call next h1 = search (stands_at, begun_is, ends_async_told, arith)
 
-  runs_below : (call : Call) (r : Running) → r ≡ CountedCall call → AllByRecursion (IsPlaced a.place (machine.Running me)) (locked_by r) → call.id < records
-  runs_below call r h1 h2 = search arith
-
   sync_unlocks : (walk : Walk) (call : Call) (next : Option ℕ) → At (handle.EndSync walk call next) → Made (handle.EndSync walk call next)
-  sync_unlocks walk call next h1 = search (stands_at, runs_below, id_told, holds_nothing, unlocks_told, arith)
+  sync_unlocks walk call next h1 = search (stands_at, id_told, holds_nothing, unlocks_told, arith)
 
   pub handles_step : (stage : HandleStage) → At stage → Made stage
   handles_step handle.Accept e =

@@ -1,16 +1,14 @@
 -- What a CPU has kept of its steps, after one more.
-use Rattle.trace_laws.proofs.Names.{Async, Bool, Class, List, None, Option, Some, Sync, ap, arith, cases_eq, cond, eq-eqb, false, get_or-set_other}
-use Rattle.trace_laws.proofs.Names.{get_or-set_same, inl, inr, length, length-set, lt-ltb, refl, slice_set, subst, sym, true, ℕ, ◌<◌, ◌∙◌, ◌≡◌, ◌≢◌}
-use Rattle.trace_laws.proofs.ReplayNames.{BegunIs, Call, CallState, ControlValue, Handle, HandleStage, Holding, IsPlaced, KeepsPast, CallOutcome, Past, Post}
-use Rattle.trace_laws.proofs.ReplayNames.{PostIs, PostIsAt, PostStage, Posted, Posting, Running, Seen, Shows, Stage, Walk, Word, access_of, after, after_flags}
-use Rattle.trace_laws.proofs.ReplayNames.{appended, confirms, control_after, cpus, ends, ends_front, flags_of, fresh, goes_to, head_told, holds_nothing, kept}
-use Rattle.trace_laws.proofs.ReplayNames.{links, outcome_of, past_at, put, put_other, put_same, seen_then, stands_at, tells, walks_front, word_of}
+use Rattle.trace_laws.proofs.Names.{Bool, List, None, Option, Some, ap, arith, cases_eq, cond, eq-eqb, get_or-set_other}
+use Rattle.trace_laws.proofs.Names.{get_or-set_same, inl, inr, length, length-set, lt-ltb, slice_set, subst, sym, ℕ, ◌<◌, ◌∙◌, ◌≡◌, ◌≢◌}
+use Rattle.trace_laws.proofs.ReplayNames.{BegunIs, Call, CallState, ControlValue, Handle, HandleStage, IsPlaced, KeepsPast, Past, Post}
+use Rattle.trace_laws.proofs.ReplayNames.{PostIs, PostIsAt, PostStage, Posting, Running, Seen, Shows, Stage, Walk, Word, access_of, after}
+use Rattle.trace_laws.proofs.ReplayNames.{control_after, cpus, ends_front, fresh, head_told, holds_nothing, kept}
+use Rattle.trace_laws.proofs.ReplayNames.{outcome_of, past_at, put, put_other, put_same, seen_then, stands_at, tells, walks_front, word_of}
 use Rattle.smp_words.specs.declared.seen.Act.TheVariants as act
-use Rattle.smp_words.specs.declared.seen.Note.TheVariants as note
 use Rattle.smp_call_steps.proofs.Knows.Parts.{part_else}
 use Rattle.smp_call_steps.specs.declared.handle.HandleStage.TheVariants as handle
 use Rattle.smp_call_steps.specs.declared.place.RecPlace.TheVariants as machine
-use Rattle.smp_call_steps.specs.declared.post.PostStage.TheVariants as post
 use Rattle.smp_call_steps.specs.declared.known.CallPart.{CallPart}
 use Rattle.trace_laws.proofs.ReplayCalls.StepEvents.{id_told}
 
@@ -25,41 +23,8 @@ pub begun_same : (r : Running) (p q : Past) → q.begun ≡ p.begun → BegunIs 
 begun_same r p q h1 h2 = search arith
 
 module _ (a : CallState) (me : ℕ) where
-  runs_confirms : (b : Bool) (id : ℕ) → (cond b a (confirms a me id)).running ≡ a.running
-  runs_confirms true id = refl
-  runs_confirms false id = refl
-
-  runs_links : (n : ℕ) (h : Option Holding) → (links a me (Some n) h).running ≡ a.running
-  runs_links n None = refl
-  runs_links n (Some h) = refl
-
-  runs_appended : (to : ℕ) (h : Option Holding) → (appended a me to h).running ≡ a.running
-  runs_appended to None = refl
-  runs_appended to (Some h) = refl
-
   runs_exchange : (to n : ℕ) (b : Bool) → (head_told a me to act.Cas (cond b (Some n) None)).running ≡ a.running
-  runs_exchange to n true = runs_appended to (a.held me)
-  runs_exchange to n false = refl
-
--- where a CPU is after the steps that end in several ways
-post_flags : (b c : Bool) (q : Posting) (p : Posted) → PostIs (cond b (ends note.Busy) (cond c (goes_to q post.Lock) (ends note.NoCpu))).next p
-post_flags true c q p = tt
-post_flags false true q p = tt
-post_flags false false q p = tt
-
-post_accept : (b : Bool) (x y : HandleStage) (p : Posted) → PostIs (cond {A = CallOutcome} b (record { next = Some (Handle x); note = None })
-    (record { next = Some (Handle y); note = None })).next p
-post_accept true x y p = tt
-post_accept false x y p = tt
-
--- the class of a call to come
-past_lock : (p : Past) (id : ℕ) (class : Class) → (after_flags p id (flags_of class) None).begun ≡ p.begun
-past_lock p id Sync = refl
-past_lock p id Async = refl
-
-past_class : (p : Past) (id : ℕ) (class : Class) → (after_flags p id (flags_of class) None).post.class ≡ class
-past_class p id Sync = refl
-past_class p id Async = refl
+  runs_exchange to n b = search arith
 
 module _ (a : CallState) (at : Word → ℕ) (control : ℕ → ControlValue) (shown : Shows a at control) (me : ℕ) (below : me < cpus) (p : Past)
     (begun : BegunIs (a.running me) p) (posted : PostIs (control me).stage p.post) where
@@ -80,9 +45,6 @@ module _ (a : CallState) (at : Word → ℕ) (control : ℕ → ControlValue) (s
   runs_on : (b : CallState) (q : Past) → b.running ≡ a.running → q.begun ≡ p.begun → BegunIs (b.running me) q
   runs_on b q same e = subst (λ (r : ℕ → Running). BegunIs (r me) q) (sym same) (begun_same (a.running me) p q e begun)
 
-  posts_on : (q : Posting) (stage : PostStage) → (control me).stage ≡ Some (Post q stage) → Mine (Post q stage)
-  posts_on q stage h1 = search (runs_on, runs_confirms, post_flags, past_lock, past_class, posted_at, runs_links, runs_exchange, arith)
-
   abbrev At : HandleStage → Type 0
   At stage = (control me).stage ≡ Some (Handle stage)
 
@@ -96,22 +58,11 @@ module _ (a : CallState) (at : Word → ℕ) (control : ℕ → ControlValue) (s
   async_begins : (call : Call) (next : Option ℕ) → At (handle.BeginAsync call next) → Mine (Handle (handle.BeginAsync call next))
   async_begins call next h1 = search (stands_at, ends_front, holds_nothing, eq-eqb, id_told, arith)
 
-  -- it is counted, and ends
-  sync_counts : (walk : Walk) (call : Call) (next : Option ℕ) → At (handle.CountSync walk call next) → Mine (Handle (handle.CountSync walk call next))
-  sync_counts walk call next e =
-      let k = stands_at me shown (handle.CountSync walk call next) e in
-      rw (k.1.1.running_is, eq-eqb me me refl) (tt, tt)
-
   sync_ends : (walk : Walk) (call : Call) (next : Option ℕ) → At (handle.EndSync walk call next) → Mine (Handle (handle.EndSync walk call next))
-  sync_ends walk call next e =
-      let k = stands_at me shown (handle.EndSync walk call next) e in
-      rw (holds_nothing me shown (handle.EndSync walk call next) e, k.1.1.running_is, eq-eqb me me refl) (tt, tt)
-
-  handles_on : (stage : HandleStage) → At stage → Mine (Handle stage)
-  handles_on stage h1 = search (post_accept, runs_on, runs_links, runs_confirms, sync_begins, sync_counts, sync_ends, async_begins, arith)
+  sync_ends walk call next e = search (stands_at, holds_nothing, eq-eqb, arith)
 
   pub step_on : (stage : Stage) → (control me).stage ≡ Some stage → Mine stage
-  step_on stage h1 = search (runs_on, runs_confirms, posts_on, handles_on, arith)
+  step_on stage h1 = search (runs_on, posted_at, runs_exchange, sync_begins, stands_at, eq-eqb, sync_ends, async_begins, arith)
 
 -- of all CPUs
 pub keeps_past : (a : CallState) (at : Word → ℕ) (control : ℕ → ControlValue) (shown : Shows a at control) (me : ℕ) (pasts : List Past) → me < cpus
@@ -119,7 +70,6 @@ pub keeps_past : (a : CallState) (at : Word → ℕ) (control : ℕ → ControlV
     KeepsPast (tells a seen) (put control me (control_after (control me) stage (at (word_of (access_of at me stage))))) (kept pasts seen)
 keeps_past a at control shown me pasts below k stage e =
     let seen = seen_then at (control me).drain me stage in
-    let b = tells a seen in
     let q = after (past_at pasts me) seen in
     let c = control_after (control me) stage (at (word_of (access_of at me stage))) in
     let mine = step_on a at control shown me below (past_at pasts me) (k.begun me below) (k.posts me below) stage e in

@@ -1,5 +1,5 @@
 -- The steps of a post, of a send and of a look at a record are accepted.
-use Rattle.trace_laws.proofs.Names.{Bool, Class, Free, List, None, Option, Some, StateValue, [], ap, arith, cond, false, has, refl, subst, sym, true, ℕ, ◌+◌}
+use Rattle.trace_laws.proofs.Names.{Bool, Class, Free, List, None, Option, Some, StateValue, [], ap, arith, cond, has, refl, subst, sym, true, ℕ, ◌+◌}
 use Rattle.trace_laws.proofs.Names.{◌-◌, ◌<◌, ◌==◌, ◌∙◌, ◌≡◌, ◌≢◌}
 use Rattle.trace_laws.proofs.ReplayNames.{AimsOnline, CallState, ControlValue, Done, Flags, Follows, Head, Holding, Note, Past, Post, PostIsAt, PostStage}
 use Rattle.trace_laws.proofs.ReplayNames.{PostStands, Posting, RecPlace, Send, Shows, Stage, StandsAt, Word, appended, cpus, events_of_step, flags_of}
@@ -25,8 +25,7 @@ module _ (online : ℕ) (a : CallState) (s : StateValue) (f : Follows online a s
 
   -- a link tells nothing
   pub links_quiet : (n : ℕ) (h : Option Holding) → Reaches online (links a me (Some n) h) s []
-  links_quiet n None = still online a s f
-  links_quiet n (Some h) = quiet online a s f (links a me (Some n) (Some h)) (λ j. refl) (λ j l. refl)
+  links_quiet n h = search (still, quiet, arith)
 
   -- an exchange queues the call where it is won
   exchange : (h : Holding) (to : ℕ) (past : Past) (won : Bool) → me < cpus → a.held me ≡ Some h
@@ -34,8 +33,7 @@ module _ (online : ℕ) (a : CallState) (s : StateValue) (f : Follows online a s
       → Reaches online (appended a me to (Some h)) s (by me (of_head past to act.Cas (Some (h.call.id + 1))))
       → Reaches online (head_told a me to act.Cas (cond won (Some (h.call.id + 1)) None)) s (by me (of_head past to act.Cas (cond won (Some
       (h.call.id + 1)) None)))
-  exchange h to past true below held class func info l done = rw held done
-  exchange h to past false below held class func info l done = still online a s f
+  exchange h to past won below held class func info l done = search (held, still, arith)
 
 module _ (online : ℕ) (a : CallState) (at : Word → ℕ) (control : ℕ → ControlValue) (shown : Shows a at control) (me : ℕ) (below : me < cpus)
     (pasts : List Past)
@@ -59,13 +57,11 @@ module _ (online : ℕ) (a : CallState) (at : Word → ℕ) (control : ℕ → C
   won : (p : Posting) (link tries : ℕ) → (control me).stage ≡ Some (Post p (post.Exchange link tries)) → has online p.to ≡ true → p.to ≢ me
       → PostIsAt p (post.Exchange link tries) (past_at pasts me).post → Accepted (Post p (post.Exchange link tries))
   won p link tries e on ne k =
-      let st = stands (Post p (post.Exchange link tries)) e in
-      let stood : PostStands a.place at me p (post.Exchange link tries) = st.1 in
+      let stood : PostStands a.place at me p (post.Exchange link tries) = (stands (Post p (post.Exchange link tries)) e).1 in
       let h : Holding = record { call = record { id = p.id; class = p.class; func = p.func; info = p.info }; to = p.to; is_counted = true } in
       let l = stood.is_call.in_range in
       let one : (p.id + 1) - 1 ≡ p.id = omega arith in
-      let past = past_at pasts me in
-      exchange online a s f me h p.to past (at (Head p.to) == link) below (held (Post p (post.Exchange link tries)) e) k.0 k.1.0 k.1.1 l
+      exchange online a s f me h p.to (past_at pasts me) (at (Head p.to) == link) below (held (Post p (post.Exchange link tries)) e) k.0 k.1.0 k.1.1 l
       (rw (one, id_told p.id l, k.0, k.1.0, k.1.1) (queues_told online a s f me below h p.to stood.owned l stood.goes on ne (ap place_of stood.knows.0)))
 
   pub posts_step : (p : Posting) (stage : PostStage) → (control me).stage ≡ Some (Post p stage) → AimsOnline online (Some (Post p stage)) → p.to ≢ me

@@ -1,7 +1,7 @@
 -- The events of a step, and the state to which they lead.
-use Rattle.trace_laws.proofs.Names.{Async, Batch, Bool, Call, CpuState, Ended, Event, Free, List, None, Ok, Queue, Run, Some, StateValue, Sync, Unlocked, []}
+use Rattle.trace_laws.proofs.Names.{Async, Batch, Call, CpuState, Ended, Event, Free, List, None, Ok, Queue, Run, Some, StateValue, Sync, Unlocked, []}
 use Rattle.trace_laws.proofs.Names.{ap, arith, at_call, call_goes, cond, counted, cpu_at, eq-eqb, false, goes, has, if◌then◌else◌, interrupted, is_empty}
-use Rattle.trace_laws.proofs.Names.{left_batch, map, map-append, moved, ne_eqb, noted, order, place_at, pushed, refl, sent, subst, taken, true, with_cpu}
+use Rattle.trace_laws.proofs.Names.{left_batch, map, map-append, moved, ne_eqb, noted, place_at, pushed, refl, sent, subst, taken, true, with_cpu}
 use Rattle.trace_laws.proofs.Names.{with_place, ℕ, ◌%◌, ◌++◌, ◌<◌, ◌==◌, ◌∙◌, ◌∷◌, ◌≡◌, ◌≢◌}
 use Rattle.trace_laws.proofs.ReplayNames.{AsyncCall, CallState, CallsOfCpu, CountedCall, Follows, Holding, MachineCall, Nothing, RecPlace, Running, Runs}
 use Rattle.trace_laws.proofs.ReplayNames.{RunsTo, StepEvents, SyncCall, accepts, appended, calls_in, calls_of, confirms, cpus, current_of, events_in}
@@ -69,12 +69,6 @@ module _ (online : ℕ) (a : CallState) (s : StateValue) (f : Follows online a s
     batch_is : (xs : List MachineCall) → a.batch me ≡ xs → (cpu_at s me).batch ≡ map told_call xs
     batch_is xs e = ap (λ (c : CallsOfCpu). c.batch) mine ∙ ap (map told_call) e
 
-    accepted_is : (b : Bool) → a.accepted me ≡ b → (cpu_at s me).accepted ≡ b
-    accepted_is b e = ap (λ (c : CallsOfCpu). c.accepted) mine ∙ e
-
-    pending_is : (b : Bool) → a.pending me ≡ b → (cpu_at s me).pending ≡ b
-    pending_is b e = ap (λ (c : CallsOfCpu). c.pending) mine ∙ e
-
     -- a CPU is set, and nothing else
     sets : (b : CallState) (c : CpuState) (e : Event) → goes me e s ≡ Ok (with_cpu me s c) → calls_in c ≡ calls_of b me
         → ((j : ℕ) → j ≢ me → calls_of b j ≡ calls_of a j) → ((id : ℕ) → id < records → place_of (b.place id) ≡ place_of (a.place id))
@@ -94,8 +88,7 @@ module _ (online : ℕ) (a : CallState) (s : StateValue) (f : Follows online a s
         let c = interrupted (cpu_at s to) in
         let t = with_cpu to s c in
         let d = sent to (cpu_at t me) in
-        let his = f.calls to in
-        let here : calls_in c ≡ calls_of b to = rw (eq-eqb to to refl) (ap (λ (x : CallsOfCpu). record x { pending = true }) his) in
+        let here : calls_in c ≡ calls_of b to = rw (eq-eqb to to refl) (ap (λ (x : CallsOfCpu). record x { pending = true }) (f.calls to)) in
         let g : Follows online b t = follows_set online a b s to c l (follows_but online to a s f) here (λ j ne. rw (ne_eqb j to ne) refl) (λ id m. refl) in
         record {
           t = with_cpu me t d;
@@ -106,30 +99,22 @@ module _ (online : ℕ) (a : CallState) (s : StateValue) (f : Follows online a s
 
     -- what holds of a CPU inside `handle`, that has nothing to handle
     pub rests_told : a.running me ≡ Nothing → a.batch me ≡ [] → a.accepted me ≡ false → (cpu_at s me).irq ≡ true → Rests (cpu_at s me)
-    rests_told r b x on = record { current = current_is Nothing r; batch = batch_is [] b; accepted = accepted_is false x; irq = on }
+    rests_told r b x on = record { current = current_is Nothing r; batch = batch_is [] b; accepted = ap (λ (c : CallsOfCpu). c.accepted) mine ∙ x; irq = on }
 
     pub accepts_told : Rests (cpu_at s me) → a.pending me ≡ true → Reaches online (accepts a me) s ((me, event.Call calls.Accept) ∷ [])
     unfolding call_goes
     accepts_told k e = sets (accepts a me) (record (cpu_at s me) { pending = false; accepted = true }) (event.Call calls.Accept)
-        (accepts_interrupt s me f.whole k (pending_is true e))
+        (accepts_interrupt s me f.whole k (ap (λ (c : CallsOfCpu). c.pending) mine ∙ e))
         (rw (eq-eqb me me refl, e) (ap (λ (x : CallsOfCpu). record x { pending = false; accepted = true }) mine))
         (λ j ne. rw (ne_eqb j me ne) refl) (λ id l. refl) refl refl
 
     pub idles_told : Rests (cpu_at s me) → a.pending me ≡ false → Reaches online (accepts a me) s ((me, event.Call calls.Idle) ∷ [])
     unfolding call_goes
     idles_told k e =
-        let made = idles s me f.whole k (pending_is false e) in
         record {
           t = s;
-          runs = (s, (rw made refl, refl));
-          follows = follows_same online a (accepts a me) s
-              (put_all (λ j x. record (calls_of a j) {
-                pending = x;
-                accepted = put a.accepted me
-                    (if a.pending me then true else a.accepted me) j;
-              } ≡ calls_of a j) a.pending me false
-              (rw (put_same a.accepted me (if a.pending me then true else a.accepted me), e) refl) (λ j ne. rw (ne_eqb j me ne) refl))
-              (λ id l. refl) f;
+          runs = (s, (rw (idles s me f.whole k (ap (λ (c : CallsOfCpu). c.pending) mine ∙ e)) refl, refl));
+          follows = search (follows_same, put_all, put_same, ne_eqb, arith);
           leaves = leaves_all s;
         }
 
@@ -270,24 +255,18 @@ module _ (online : ℕ) (a : CallState) (s : StateValue) (f : Follows online a s
         let c = taken (cpu_at s me) in
         let b = takes a me in
         let here : calls_in c ≡ calls_of b me =
-        rw (eq-eqb me me refl, q, order_told (a.queue me)) (ap (λ (y : CallsOfCpu). record y {
-          queue = [];
-          batch = order (map told_call
-              (a.queue me));
-          accepted = false;
-        }) mine) in
-        let g : FollowsBut online me b m = record {
-          whole = f.whole;
-          online_is = f.online_is;
-          cpus_are = f.cpus_are;
-          places_are = length-placed (Batch me) (cpu_at s me).queue s.places ∙ f.places_are;
-          calls = λ cpu ne. f.calls cpu ∙ rw (ne_eqb cpu me ne) refl;
-          places = λ id l. places_moved law id l;
-        } in
+        search (q, eq-eqb, order_told, mine, arith) in
+        let g : FollowsBut online me b m = search (length-placed, ne_eqb, places_moved, arith) in
         let left : LeavesStops s m = record { setting = refl; gate = refl; stops = refl; words = refl; irq = λ cpu. refl; inside = λ cpu. refl } in
         record {
           t = with_cpu me m c;
-          runs = (with_cpu me m c, (takes_queue s me f.whole on (current_is Nothing idle) (batch_is [] empty) (accepted_is true x), refl));
+          runs = (
+            with_cpu me m c,
+            (
+              takes_queue s me f.whole on (current_is Nothing idle) (batch_is [] empty) (ap (λ (c : CallsOfCpu). c.accepted) mine ∙ x),
+              refl,
+            ),
+          );
           follows = follows_set online b b m me c below g here (λ j ne. refl) (λ id l. refl);
           leaves = leaves_then s m (with_cpu me m c) left (leaves_cpu m me c f.cpus_are below refl refl);
         }

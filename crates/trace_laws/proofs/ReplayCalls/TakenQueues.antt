@@ -1,7 +1,7 @@
 -- A CPU takes its queue: the order of its batch, and where its records are.
 use Rattle.trace_laws.proofs.Names.{AllByRecursion, Async, Batch, Bool, Call, Class, Free, List, Sync, [], ap, arith, cond, eq-eqb, get_or-set_other}
 use Rattle.trace_laws.proofs.Names.{get_or-set_same, inl, inr, is_class, length, length-set, map, map-append, ne_eqb, of_class, order, placed, refl}
-use Rattle.trace_laws.proofs.Names.{slice_index_or, slice_set, subst, sym, ℕ, ◌++◌, ◌<◌, ◌==◌, ◌||◌, ◌∙◌, ◌∷◌, ◌≡◌, ◌≢◌}
+use Rattle.trace_laws.proofs.Names.{slice_index_or, slice_set, subst, ℕ, ◌++◌, ◌<◌, ◌==◌, ◌||◌, ◌∙◌, ◌∷◌, ◌≡◌, ◌≢◌}
 use Rattle.trace_laws.proofs.ReplayNames.{IsPlaced, MachineCall, Place, RecPlace, has_record, place_of, place_taken, told_call}
 use Rattle.smp_words.proofs.Puts.{at_test}
 use Rattle.smp_call_steps.proofs.{State.Places.has_record-true, State.Places.true-has_record}
@@ -14,8 +14,7 @@ sync_more : (class : Class) (call : MachineCall) → call.class ≡ class → (r
     (map told_call rest)
     → map told_call (if_sync class call ++ sync_calls rest) ≡ cond (is_class Sync class) (told_call call ∷ of_class Sync (map told_call rest))
     (of_class Sync (map told_call rest))
-sync_more Sync call e rest same = ap (λ xs. told_call call ∷ xs) same
-sync_more Async call e rest same = same
+sync_more class call e rest same = search arith
 
 syncs_told : (calls : List MachineCall) → map told_call (sync_calls calls) ≡ of_class Sync (map told_call calls)
 syncs_told [] = refl
@@ -25,8 +24,7 @@ async_more : (class : Class) (call : MachineCall) → call.class ≡ class → (
     (map told_call rest)
     → map told_call (if_async class call ++ async_calls rest) ≡ cond (is_class Async class) (told_call call ∷ of_class Async (map told_call rest))
     (of_class Async (map told_call rest))
-async_more Sync call e rest same = same
-async_more Async call e rest same = ap (λ xs. told_call call ∷ xs) same
+async_more class call e rest same = search arith
 
 asyncs_told : (calls : List MachineCall) → map told_call (async_calls calls) ≡ of_class Async (map told_call calls)
 asyncs_told [] = refl
@@ -35,12 +33,6 @@ asyncs_told (call ∷ rest) = async_more call.class call refl rest (asyncs_told 
 -- a batch is told in drain order
 pub order_told : (calls : List MachineCall) → map told_call (machine_order calls) ≡ order (map told_call calls)
 order_told calls = map-append told_call (sync_calls calls) (async_calls calls) ∙ rw (syncs_told calls, asyncs_told calls) refl
-
--- where a record is, once the records of some calls are at a place
-placed_one : (p : Place) (x id : ℕ) (places : List Place) → id < length places
-    → slice_index_or (slice_set places x p) id Free ≡ cond (x == id) p (slice_index_or places id Free)
-placed_one p x id places l = at_test x id (λ b. slice_index_or (slice_set places x p) id Free ≡ cond b p (slice_index_or places id Free))
-    (λ e. rw e (get_or-set_same places id p Free l)) (λ ne. get_or-set_other places x id p Free (λ e. ne (sym e)))
 
 placed_or : (b c : Bool) (p q : Place) → cond c p (cond b p q) ≡ cond (b || c) p q
 placed_or b c p q = search arith
@@ -51,7 +43,7 @@ placed_at p [] places id l = refl
 placed_at p (call ∷ rest) places id l =
     let m : length (slice_set places call.id p) ≡ length places = length-set places call.id p in
     placed_at p rest (slice_set places call.id p) id (omega (arith, m, l))
-    ∙ (ap (λ q. cond (has_record id rest) p q) (placed_one p call.id id places l)
+    ∙ (ap (λ q. cond (has_record id rest) p q) (search (at_test, get_or-set_same, get_or-set_other, arith))
     ∙ placed_or (call.id == id) (has_record id rest) p (slice_index_or places id Free))
 
 pub length-placed : (p : Place) (calls : List Call) (places : List Place) → length (placed p calls places) ≡ length places

@@ -152,8 +152,7 @@ module _ (known : Here) where
 
     answers : MadeIs s.words Q.now.patching (Q.calling me) (Some (patch_left slot s))
     answers =
-        let plan = plan_at U w count in
-        rw carries (answers_patch U s.words w count (stop_at s slot) plan [] (patching.small known
+        rw carries (answers_patch U s.words w count (stop_at s slot) (plan_at U w count) [] (patching.small known
         slot w so.3 so.4 on so.0 so.1)
         (ap (λ (z : Task). z.func) task) (ap (λ (z : Task). z.arg) task)
         (patching.part known slot w count (plan_at U w count) [] at_seat)
@@ -185,10 +184,7 @@ module _ (known : Here) where
         }
 
         in_it : (j : ℕ) → p.now.inside me ≡ Some j → InsideIs Q (with_stop slot s Y) Old me j
-        in_it j e = subst (λ (n : ℕ). InsideIs Q (with_stop slot s Y) Old me n) (same (sym so.0 ∙ e)) it
-          where
-            same : Some slot ≡ Some j → slot ≡ j
-            same z = cc
+        in_it j e = search (so, it, arith)
 
     acks : ReachesStops Q At' (slice_set pasts me Old) s ((me, event.Stop (stops.Ack 3)) ∷ [])
     acks = stop_step p Q At At' pasts s me Old below sized cpus_are f (λ j. refl) (λ j. refl) slot X Y (cpu_at s me) here.below

@@ -33,9 +33,7 @@ module _ (mask f : ℕ) (alone : (c : ℕ) → has mask c ≡ (c == f)) where
   none_below zero l = refl
   none_below (suc k) l =
       let fails : has mask k ≡ false = alone k ∙ ne_eqb k f (λ e. absurd (omega (arith, l, e))) in
-      let less = none_below k (omega (arith, l)) in
-      let both = length-append (members_below mask k) (cond (has mask k) (k ∷ []) []) in
-      both ∙ (rw fails (omega (arith, less)))
+      (length-append (members_below mask k) (cond (has mask k) (k ∷ []) [])) ∙ (rw fails (omega (arith, (none_below k (omega (arith, l))))))
 
   pub one_below : (k : ℕ) → f < k → length (members_below mask k) ≡ 1
   unfolding members_below
@@ -44,9 +42,7 @@ module _ (mask f : ℕ) (alone : (c : ℕ) → has mask c ≡ (c == f)) where
       let both = length-append (members_below mask k) (cond (has mask k) (k ∷ []) []) in
       elim (cases_eq k f) [
         | inl e ↦
-            let hits : has mask k ≡ true = alone k ∙ eq-eqb k f e in
-            let less = none_below k (omega (arith, e)) in
-            both ∙ rw hits (omega (arith, less))
+            search (both, eq-eqb, none_below, arith)
         | inr ne ↦
             let fails : has mask k ≡ false = alone k ∙ ne_eqb k f ne in
             let less = one_below k (omega (arith, l, ne)) in

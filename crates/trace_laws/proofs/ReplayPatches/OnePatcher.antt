@@ -1,6 +1,6 @@
 -- Only the first CPU that is online makes a patch, and it makes one alone.
-use Rattle.trace_laws.proofs.Names.{arith, List, None, Some, eqb-true, has, refl, subst, sym, true, ℕ, ◌∙◌, ◌≡◌}
-use Rattle.trace_laws.proofs.ReplayNames.{Alters, Change, Patch, StopRole, Setup, Slot, Standing, RoleStands, StopState, Whole, Word, Work, is_inside, is_of}
+use Rattle.trace_laws.proofs.Names.{arith, List, None, Some, eqb-true, has, refl, sym, true, ℕ, ◌∙◌, ◌≡◌}
+use Rattle.trace_laws.proofs.ReplayNames.{Alters, Change, Patch, StopRole, Setup, Slot, RoleStands, StopState, Whole, Word, Work, is_inside}
 use Rattle.trace_laws.proofs.ReplayNames.{is_open_inside}
 use Rattle.smp_stop_steps.specs.{Shows.StopShows, declared.known.Source.Source}
 use Rattle.trace_laws.proofs.ReplayStops.ChangedStates.{IsAlone}
@@ -10,9 +10,6 @@ none_some n e = absurd cc
 
 some_same : (a b : ℕ) → Some a ≡ Some b → a ≡ b
 some_same a b e = cc
-
-of_inside : (x : Standing) → is_inside x ≡ true → is_of x ≡ true
-of_inside x h1 = search arith
 
 -- a CPU that is in a stop is inside it
 module _ (p : StopState) (slot c : ℕ) where
@@ -29,9 +26,8 @@ MakesNone x = (j : ℕ) (w : Work) (count : ℕ) (made rest : List Change) → x
 module _ (u : Setup) (p : StopState) (at : Word → ℕ) (seat : ℕ → StopRole) (source : ℕ → Source) (h : StopShows u p at seat source) where
   pub open_inside : (slot c : ℕ) → p.now.inside c ≡ Some slot → (p.now.stop slot).is_open ≡ true
   open_inside slot c e =
-      let k = inside_by p slot c (seat c) (h.present.stands c) e in
       is_open_inside u.cpus (p.now.stop slot) (λ g. at (Slot slot g)) (h.present.slots slot) c ((p.now.stop slot).standing c) refl
-      (of_inside ((p.now.stop slot).standing c) k)
+      (search arith)
 
   -- the active CPU of a patch is the first that is online
   pub first_is : (slot c : ℕ) → (p.now.stop slot).is_open ≡ true → (p.now.stop slot).work.kind ≡ Patch → has (p.now.stop slot).work.active c ≡ true
@@ -46,6 +42,4 @@ module _ (u : Setup) (p : StopState) (at : Word → ℕ) (seat : ℕ → StopRol
   nobody_patches me h1 h2 = search arith
 
   pub elsewhere_none : (me : ℕ) → p.now.inside me ≡ None → MakesNone (seat me)
-  elsewhere_none me out j w count made rest e =
-      let st : RoleStands p.now me (Alters j w count made rest) = subst (RoleStands p.now me) e (h.present.stands me) in
-      none_some j (sym out ∙ st.0)
+  elsewhere_none me out j w count made rest e = search (none_some, arith)

@@ -1,7 +1,7 @@
 -- What the events of a patch make of a state that leaves nothing out, and what is left of the patch after each.
 use Rattle.trace_laws.proofs.Names.{APatch, Key, LabelWords, List, None, Ok, Option, Patch, Place, Site, Some, StateValue, Stop, [], ack_by, acked_by}
 use Rattle.trace_laws.proofs.Names.{acknowledged, answer_wanted, ap, arith, change_of, count_after, count_at, cpu_at, eq-eqb, false, false≢true, get_or, has}
-use Rattle.trace_laws.proofs.Names.{is_some, key_number, length, lt-leb, lt-ltb, next_store, patch_by, patch_for, patch_left, patch_to, popped, pos, refl}
+use Rattle.trace_laws.proofs.Names.{key_number, length, lt-leb, lt-ltb, next_store, patch_by, patch_left, patch_to, popped, pos, refl}
 use Rattle.trace_laws.proofs.Names.{stop_at, stored, true, with_patch, with_stop, with_word, ℕ, ◌++◌, ◌<◌, ◌∙◌, ◌∷◌, ◌≡◌, ◌≤◌}
 use Rattle.trace_laws.proofs.ReplayNames.{Calling, Change, HasLeft, LabelsShow, Leads, MadeIs, PartIs, Patches, Patching, Setup, Without, Word, Work, as_i32}
 use Rattle.trace_laws.proofs.ReplayNames.{count_or, labels_in, nothing_left_out, patch_answer, patch_now, plan_at, plan_of}
@@ -77,50 +77,26 @@ leads_stored (Key k) word words key patch (next ∷ rest) l = (l.0, leads_stored
 leads_stored (Site i) word words key patch [] l = l
 leads_stored (Site i) word words key patch (next ∷ rest) l = (l.0, leads_stored (Site i) word words key (popped patch next.0) rest l.1)
 
-left_stored : (place : Place) (word : ℕ) (words : LabelWords) (key : ℕ) (rest : List Change) (told : Option Patch) → HasLeft words key rest told
-    → HasLeft (stored place word words) key rest told
-left_stored place word words key rest told h1 = search (leads_stored, arith)
-
 -- nor what is told of the CPU that makes it
 pub made_stored : (place : Place) (word : ℕ) (words : LabelWords) (patching : Patching) (calling : Calling) (told : Option Patch)
     → MadeIs words patching calling told → MadeIs (stored place word words) patching calling told
-made_stored place word words patching calling told h1 = search (left_stored, arith)
+made_stored place word words patching calling told h1 = search (leads_stored, arith)
 
 -- the model's entries are the machine's
 abbrev pub AreEntries : Setup → LabelWords → Type 0
 AreEntries u words = (j : ℕ) → j < 16 → get_or words.entries j 0 ≡ get_or u.entries j 0
 
 module _ (u : Setup) (words : LabelWords) (work : Work) (count : ℕ) (few : length u.entries ≤ 16) (entries : AreEntries u words) (small : work.func < 4) where
-  -- before its first store a patch leads to all that the machine plans
-  pub begun_leads : count_at words work.func ≡ count → Leads words work.func (patch_for words (key_number work.func) work.arg) (plan_at u work count)
-  begun_leads is =
-      let k : key_number work.func ≡ work.func = omega (arith, small) in
-      rw (k, is) (plan_leads words work.func count (count_after (change_of work.arg) count) u.entries small few entries)
-
   -- and at any time to what the machine has left
   pub part_leads : (stop : Stop) (made rest : List Change) → stop.task.func ≡ work.func → stop.task.arg ≡ work.arg → PartIs words work.func made rest stop.patch
       → (made ≡ [] → (count_at words work.func ≡ count) × (plan_at u work count ≡ rest)) → Leads words work.func (patch_now words stop) rest
-  part_leads stop made rest h1 h2 h3 h4 = search (begun_leads, arith)
-
--- A patch that has a store to make has not found its count at the end of the range.
-edge_to : (words : LabelWords) (key old : ℕ) (new : Option ℕ) (change : Change) (rest : List Change) → Leads words key (patch_to old new) (change ∷ rest)
-    → (patch_to old new).at_edge ≡ false
-edge_to words key old (Some count) change rest l = refl
-edge_to words key old None change rest l = absurd (false≢true (ap is_some l.0))
-
-popped_edge : (patch : Patch) (place : Place) → (popped patch place).at_edge ≡ patch.at_edge
-popped_edge patch (Key k) = refl
-popped_edge patch (Site i) = refl
-
-now_edge : (words : LabelWords) (key : ℕ) (stop : Stop) (made rest : List Change) (change : Change) → PartIs words key made (change ∷ rest) stop.patch
-    → Leads words key (patch_now words stop) (change ∷ rest) → (patch_now words stop).at_edge ≡ false
-now_edge words key stop made rest change h1 h2 = search (edge_to, arith)
+  part_leads stop made rest h1 h2 h3 h4 = search (plan_leads, arith)
 
 -- once the next store is made, the rest is left, and it is told
 pub part_stored : (words : LabelWords) (key : ℕ) (stop : Stop) (made rest : List Change) (change : Change) → PartIs words key made (change ∷ rest) stop.patch
     → Leads words key (patch_now words stop) (change ∷ rest)
     → HasLeft (stored change.0 change.1 words) key rest (Some (popped (patch_now words stop) change.0))
-part_stored words key stop made rest change h1 h2 = search (popped_edge, now_edge, leads_stored, arith)
+part_stored words key stop made rest change h1 h2 = search (false≢true, leads_stored, arith)
 
 -- A patch that has made a store answers 0.
 answer_made : (key count : ℕ) (new : Option ℕ) (entries : List ℕ) (change : Change) (more : List Change)
@@ -128,8 +104,7 @@ answer_made : (key count : ℕ) (new : Option ℕ) (entries : List ℕ) (change 
 answer_made key count new entries change more h1 = search (eq-eqb, arith)
 
 answer_to : (old : ℕ) (new : Option ℕ) → answer_by (Some (patch_to old new)) true ≡ as_i32 (answer_for new)
-answer_to old None = refl
-answer_to old (Some n) = refl
+answer_to old new = search arith
 
 -- what the model wants of the CPU that has patched is what the machine answers
 pub answers_patch : (u : Setup) (words : LabelWords) (work : Work) (count : ℕ) (stop : Stop) (made rest : List Change) → work.func < 4

@@ -3,7 +3,7 @@ use Rattle.trace_laws.proofs.Names.{Event, Key, LabelWords, List, None, Ok, Opti
 use Rattle.trace_laws.proofs.Names.{cases_eq, cond, count_at, cpu_at, eq-eqb, goes, has, has_run, inl, inr, is_on, label_goes, length, length-set, next_store}
 use Rattle.trace_laws.proofs.Names.{patch_left, popped, refl, site_word, slice_set, stop_at, stored, subst, sym, true, with_patch, with_word, ℕ, ◌&&◌, ◌++◌}
 use Rattle.trace_laws.proofs.Names.{◌<◌, ◌==◌, ◌∙◌, ◌∷◌, ◌≡◌, ◌≢◌}
-use Rattle.trace_laws.proofs.ReplayNames.{Advance, Alters, Called, Calling, Carries, Change, CpuIs, FollowsStops, HasLeft, Idle, In, Inside, InsideIs}
+use Rattle.trace_laws.proofs.ReplayNames.{Advance, Alters, Called, Calling, Change, CpuIs, FollowsStops, HasLeft, Idle, In, Inside, InsideIs}
 use Rattle.trace_laws.proofs.ReplayNames.{IsCalling, IsPatchWork, Keeps, LabelsShow, Leads, MadeIs, OpenIs, PartIs, Patch, Patches, Patching, PhaseIs, Present}
 use Rattle.trace_laws.proofs.ReplayNames.{ReadingKey, Rests, RoundStage, RunnerShows, StopRole, SitsInRound, Standing, RoleStands, Stop}
 use Rattle.trace_laws.proofs.ReplayNames.{StopIs, StopStage, StopState}
@@ -20,7 +20,7 @@ use Rattle.trace_model.specs.declared.event.LabelEvent.TheVariants as labels
 use Rattle.trace_events.specs.declared.step_events.StepEvents.TheVariants as told
 use Rattle.trace_laws.proofs.ReplayPatches.OnePatcher.{alone_is, first_is, nobody_patches, open_inside}
 use Rattle.trace_laws.proofs.ReplayPatches.PatchEvents.{AreEntries, count_found, makes_key, makes_site, part_leads, part_stored}
-use Rattle.trace_laws.proofs.ReplayPatches.StoredWords.{IsStoreOf, IsThere, front_is, stored_entries, stored_keys, stored_keys_are, stored_sites}
+use Rattle.trace_laws.proofs.ReplayPatches.StoredWords.{IsStoreOf, IsThere, front_is, stored_keys, stored_keys_are, stored_sites}
 use Rattle.trace_laws.proofs.ReplayPatches.StoredWords.{stored_sites_are}
 use Rattle.trace_laws.proofs.ReplayStops.ChangedStates.{IsAlike, IsAlone, cpu_alike, patch_else, stop_else, stop_here}
 use Rattle.trace_laws.proofs.ReplayStops.TurnSteps.{Made, seat_is, sits, st, then_if}
@@ -66,11 +66,8 @@ module _ (known : Here) where
     pub kind_is : (p.now.stop slot).work.kind ≡ Patch
     kind_is = ap (λ (z : Work). z.kind) work ∙ kind
 
-    active_is : (p.now.stop slot).work.kind ≡ Patch → has (p.now.stop slot).work.active me ≡ true
-    active_is k = ap (λ (z : Work). has z.active me) work ∙ active
-
     pub first_now : me ≡ U.first
-    first_now = first_is U p At shown.seat shown.source shown.shows slot me open_now kind_is (active_is kind_is)
+    first_now = first_is U p At shown.seat shown.source shown.shows slot me open_now kind_is (ap (λ (z : Work). has z.active me) work ∙ active)
 
     pub alone_now : IsAlone p me
     alone_now = alone_is U p At shown.seat shown.source shown.shows me first_now
@@ -81,8 +78,7 @@ module _ (known : Here) where
     pub small : w.func < 4
     small =
         let k : w.func < U.keys = subst (λ (z : Work). z.func < U.keys) work patch_work.key in
-        let few = shown.shows.setup.few_keys in
-        omega (arith, k, few)
+        omega (arith, k, shown.shows.setup.few_keys)
 
     pub phase_now : (p.now.stop slot).phase ≡ RUN
     phase_now =
@@ -123,7 +119,6 @@ module _ (known : Here) where
       (by me (cond (Old.phase == RUN) told.Nothing (told.One (event.Label (labels.Key key (is_on (At (word.Key key))))))))
   begins_at x key w at_seat kind active =
       let so = st known x.slot 2 3 w Rests at_seat in
-      let three = old_phase x.slot w so.3 kind active so.0 so.1 in
       let n : Present = record (p.now) { patching = patch_begun U me (p.now.stop x.slot).work (At (word.Key key)) } in
       let q : StopState = record p { now = n } in
       let run : (is_at_run ((p.now.stop x.slot).standing me) && is_patch (p.now.stop x.slot).work.kind) ≡ true =
@@ -147,7 +142,7 @@ module _ (known : Here) where
         answer = (my known).answer;
         reads = (my known).reads;
       } in
-      rw (loaded, eq-eqb Old.phase 3 three)
+      rw (loaded, eq-eqb Old.phase 3 (old_phase x.slot w so.3 kind active so.0 so.1))
       (quiet_step p q At At pasts s me Old below sized cpus_are f (λ j. refl) (λ j. refl) refl (λ j. refl) (λ d ne. refl) (λ d ne. refl) (λ d ne. refl)
       (inr (alone_now x.slot w so.3 kind active so.0 so.1)) mine)
     where
@@ -156,8 +151,7 @@ module _ (known : Here) where
 
       begun : (j : ℕ) (g : Calling) → p.now.patching ≡ Whole → MadeIs s.words p.now.patching g (stop_at s j).patch
           → MadeIs s.words (patch_begun U me (p.now.stop x.slot).work (At (word.Key key))) g (stop_at s j).patch
-      begun j (Carries n) e k = k
-      begun j g e k = subst (λ (z : Patching). MadeIs s.words z g (stop_at s j).patch) e k
+      begun j g e k = search arith
 
   pub begins_patch : (x : Visit) (key : ℕ) (change : KeyChange) → C.stage ≡ Some (Advance x (round.LoadKey key change)) → Does
       (Advance x (round.LoadKey key change))
@@ -173,8 +167,7 @@ module _ (known : Here) where
 
     pub active_now : has w.active me ≡ true
     active_now =
-        let o = open_inside U p At shown.seat shown.source shown.shows slot me so.0 in
-        let k = shown.shows.present.works slot o (ap (λ (z : Work). z.kind) so.3 ∙ so.4) in
+        let k = shown.shows.present.works slot (open_inside U p At shown.seat shown.source shown.shows slot me so.0) (ap (λ (z : Work). z.kind) so.3 ∙ so.4) in
         let r : RunnerShows U.first (Patches me w count made rest) shown.seat =
         subst (λ (g : Patching). RunnerShows U.first g shown.seat) so.5 shown.shows.present.runner in
         sym (ap (λ (z : Work). has z.active me) so.3) ∙ (k.first me ∙ eq-eqb me U.first r.0)
@@ -249,20 +242,11 @@ module _ (known : Here) where
     here_told : stop_at T slot ≡ Told
     here_told = stop_here s slot Told f.stops_are ((my known).stop slot Is.0).below
 
-    has_left : HasLeft (stored change.0 change.1 s.words) w.func more (Some Left)
-    has_left = part_stored s.words w.func (stop_at s slot) made more change (part slot w count made (change ∷ more) at_seat) lead
-
     module _ (q : StopState) (stops : (j : ℕ) → q.now.stop j ≡ p.now.stop j) (inside : (d : ℕ) → q.now.inside d ≡ p.now.inside d)
         (irq : (d : ℕ) → q.now.irq d ≡ p.now.irq d) (calling : (d : ℕ) → q.calling d ≡ p.calling d) (gate : q.gate ≡ p.gate)
         (patching : q.now.patching ≡ patched_more p.now.patching) where
       ran_same : (d j : ℕ) → has_run (stop_at T j) d ≡ has_run (stop_at s j) d
-      ran_same d j = elim (cases_eq j slot) [
-        | inl e ↦ rw (e, here_told) refl
-        | inr ne ↦ ap (λ (z : ToldStop). has_run z d) (stop_else s slot Told j ne)
-      ]
-
-      work_same : (j : ℕ) → (q.now.stop j).work ≡ (p.now.stop j).work
-      work_same j = ap (λ (z : Stop). z.work) (stops j)
+      ran_same d j = search (cases_eq, here_told, stop_else, arith)
 
       other : (d : ℕ) → d ≢ me → IsAlike p q s T d
       other d ne = record {
@@ -273,8 +257,8 @@ module _ (known : Here) where
         inside_told = refl;
         irq_told = refl;
         ran = λ j e l. ran_same d j;
-        work = λ j e. work_same j;
-        patch = λ j e l k. patch_else p q s T me d j (alone_now slot w Is.3 Is.4 on Is.0 Is.1) ne e (work_same j);
+        work = λ j e. ap (λ (z : Stop). z.work) (stops j);
+        patch = λ j e l k. patch_else p q s T me d j (alone_now slot w Is.3 Is.4 on Is.0 Is.1) ne e (ap (λ (z : Stop). z.work) (stops j));
       }
 
       patched_now : q.now.patching ≡ Patches me w count (made ++ change ∷ []) more
@@ -282,7 +266,8 @@ module _ (known : Here) where
 
       made_now : MadeIs T.words q.now.patching (q.calling me) (stop_at T slot).patch
       made_now = rw (patched_now, calling me, idle slot w count made (change ∷ more) at_seat, here_told)
-          (left_part (stored change.0 change.1 s.words) w.func made more change (Some Left) has_left)
+          (left_part (stored change.0 change.1 s.words) w.func made more change (Some Left) (part_stored s.words w.func (stop_at s slot) made more change (part
+          slot w count made (change ∷ more) at_seat) lead))
 
       own : (j : ℕ) → q.now.inside me ≡ Some j → InsideIs q T Old me j
       own j e =
@@ -290,7 +275,7 @@ module _ (known : Here) where
           let i = (my known).stop j was in
           record {
             below = i.below;
-            ran = ran_same me j ∙ rw (calling me, work_same j) i.ran;
+            ran = ran_same me j ∙ rw (calling me, (ap (λ (z : Stop). z.work) (stops j))) i.ran;
             patch = λ k active. subst (λ (n : ℕ). MadeIs T.words q.now.patching (q.calling me) (stop_at T n).patch) (same_slot (sym Is.0 ∙ was)) made_now;
             phase = rw (stops j) i.phase;
             answer = rw (stops j) i.answer;
@@ -330,13 +315,7 @@ module _ (known : Here) where
         t = T;
         runs = (T, (is, refl));
         follows = follows_store;
-        leaves = record {
-          setting = refl;
-          places = refl;
-          entries = stored_entries change.0 change.1 s.words;
-          cpus_are = refl;
-          calls = λ cpu. refl;
-        };
+        leaves = search arith;
       }
 
     -- the store of a key or a site, as it is seen
@@ -355,23 +334,21 @@ module _ (known : Here) where
     stored_place : (place : Place) (n : ℕ) → change ≡ (place, n) → Stored place n
     unfolding label_goes
     stored_place (Key k) n e =
-        let low = acked_low slot w Is.3 Is.4 on Is.0 Is.1 in
         let phase = told_now slot w Is.3 Is.4 on Is.0 Is.1 in
         let q = tells U p (seen_of me (store_of (Key k, n)) (At (word.Key k)) None) 0 in
         let is : goes me (event.Label (labels.Set k n)) s ≡ Ok T =
         made_low me below (rw e (makes_key s me whole slot (omega (arith, ((my known).stop slot Is.0).below)) in_told kind_told
-        (told_active slot w Is.3 Is.4 on Is.0 Is.1) low
+        (told_active slot w Is.3 Is.4 on Is.0 Is.1) (acked_low slot w Is.3 Is.4 on Is.0 Is.1)
         (phase.phase ∙ phase_now slot w Is.3 Is.4 on Is.0 Is.1) k n (next ∙ ap Some e))) in
         subst (λ (z : Change). ReachesStops q (put_word At (label_word z.0) z.1) (slice_set pasts me Old) s ((me, event.Label (labels.Set k n)) ∷ [])) e
         (reaches_store q (λ j. refl) (λ d. refl) (λ d. refl) (λ d. refl) refl refl (event.Label (labels.Set k n)) is)
     stored_place (Site j) n e =
-        let low = acked_low slot w Is.3 Is.4 on Is.0 Is.1 in
         let phase = told_now slot w Is.3 Is.4 on Is.0 Is.1 in
         let q = tells U p (seen_of me (store_of (Site j, n)) (At (word.Site j)) None) 0 in
         let back : site_word (is_on n) ≡ n = (subst (λ (z : Change). IsStoreOf w.func z.0 z.1) e store_is).1 in
         let is : goes me (event.Label (labels.Turn j (is_on n))) s ≡ Ok T =
         made_low me below (rw (back, e) (makes_site s me whole slot (omega (arith, ((my known).stop slot Is.0).below)) in_told kind_told
-        (told_active slot w Is.3 Is.4 on Is.0 Is.1) low
+        (told_active slot w Is.3 Is.4 on Is.0 Is.1) (acked_low slot w Is.3 Is.4 on Is.0 Is.1)
         (phase.phase ∙ phase_now slot w Is.3 Is.4 on Is.0 Is.1) j n (next ∙ ap Some e))) in
         subst (λ (z : Change). ReachesStops q (put_word At (label_word z.0) z.1) (slice_set pasts me Old) s
         ((me, event.Label (labels.Turn j (is_on n))) ∷ [])) e

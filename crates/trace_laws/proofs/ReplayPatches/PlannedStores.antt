@@ -1,6 +1,6 @@
 -- The stores that the model of events has left of a patch are those that the machine plans.
-use Rattle.trace_laws.proofs.Names.{Bool, LabelWords, List, None, Option, Patch, Some, [], ap, arith, cases_eq, entry_at, eq-eqb, false, false≢true, first_from}
-use Rattle.trace_laws.proofs.Names.{get_or, is_on, is_site, length, min, ne_eqb, patch_to, refl, site_from, suc, sym, true, true≢false, xor, zero, ℕ, ◌++◌, ◌+◌}
+use Rattle.trace_laws.proofs.Names.{Bool, LabelWords, List, None, Option, Patch, Some, [], arith, cases_eq, entry_at, eq-eqb, false, false≢true, first_from}
+use Rattle.trace_laws.proofs.Names.{get_or, is_on, is_site, length, min, ne_eqb, patch_to, refl, site_from, suc, sym, true, true≢false, zero, ℕ, ◌++◌, ◌+◌}
 use Rattle.trace_laws.proofs.Names.{◌-◌, ◌/◌, ◌<◌, ◌==◌, ◌^◌, ◌∙◌, ◌∷◌, ◌≡◌, ◌≤◌}
 use Rattle.trace_laws.proofs.ReplayNames.{Leads, count_or, plan_of, site_change, site_changes}
 use Rattle.trace_model.proofs.{Least.first_hit, Least.first_miss}
@@ -29,14 +29,7 @@ module _ (w : LabelWords) (key count : ℕ) where
   past_end i small are = none_from (16 - i) i (λ j l b. no_entry i are j l (omega arith))
 
   next_are : (i word : ℕ) (rest : List ℕ) → Are i (word ∷ rest) → Are (i + 1) rest
-  next_are i word rest are j l b =
-      let more : j - i ≡ suc (j - (i + 1)) = omega (arith, l) in
-      are j (omega arith) b ∙ ap (λ (n : ℕ). get_or (word ∷ rest) n 0) more
-
-  first_are : (i word : ℕ) (rest : List ℕ) → i < 16 → Are i (word ∷ rest) → get_or w.entries i 0 ≡ word
-  first_are i word rest b are =
-      let none : i - i ≡ 0 = omega arith in
-      are i (omega arith) b ∙ ap (λ (n : ℕ). get_or (word ∷ rest) n 0) none
+  next_are i word rest are j l b = search arith
 
   -- one site more, where the later ones are known
   one_more : (word : ℕ) (rest : List ℕ) (i from : ℕ) → i < 16 → Are i (word ∷ rest) → site_from w key from ≡ site_from w key i
@@ -45,18 +38,15 @@ module _ (w : LabelWords) (key count : ℕ) where
   one_more word rest i from small are same later = go (word == 0) ((word - 1) / 2 == key) refl refl
     where
       here : get_or w.entries i 0 ≡ word
-      here = first_are i word rest small are
-
-      missed : is_site w key i ≡ false → Leads w key (turning from) (site_changes key (is_on count) (i + 1) rest)
-      missed fails = later from (same ∙ sym (first_miss (is_site w key) i 16 small fails))
+      here = search arith
 
       bounded : min (i + 1) (2 ^ 32 - 1) ≡ i + 1
       bounded = omega (arith, small)
 
       go : (none ours : Bool) → (word == 0) ≡ none → ((word - 1) / 2 == key) ≡ ours
           → Leads w key (turning from) (site_change key (is_on count) i (entry_at word) ++ site_changes key (is_on count) (i + 1) rest)
-      go true ours e k = rw e (missed (rw (here, e) refl))
-      go false false e k = rw (e, k) (missed (rw (here, e) k))
+      go true ours e k = rw e (later from (same ∙ sym (first_miss (is_site w key) i 16 small (rw (here, e) refl))))
+      go false false e k = rw (e, k) (later from (same ∙ sym (first_miss (is_site w key) i 16 small (rw (here, e) k))))
       go false true e k =
           let passes : is_site w key i ≡ true = rw (here, e) k in
           let found : site_from w key from ≡ Some i = same ∙ first_hit (is_site w key) i 16 small passes in
@@ -69,23 +59,7 @@ module _ (w : LabelWords) (key count : ℕ) where
       one_more word rest i from (omega (arith, few)) are same
       (λ n e. sites_lead rest (i + 1) n (omega (arith, few)) (next_are i word rest are) e)
 
-  -- what is left of a patch that finds this count
-  turns_to : (old : ℕ) (es : List ℕ) → key < 4 → length es ≤ 16 → Are 0 es → (same turn : Bool) → (count == old) ≡ same → (old == count) ≡ same
-      → xor (is_on count) (is_on old) ≡ turn → xor (is_on old) (is_on count) ≡ turn → (same ≡ true → turn ≡ false)
-      → Leads w key (patch_to old (Some count)) (plan_of key old count es)
-  turns_to old es h1 h2 h3 same turn h4 h5 h6 h7 h8 = search (true≢false, min, sites_lead, arith)
-
-xor_self : (b : Bool) → xor b b ≡ false
-xor_self true = refl
-xor_self false = refl
-
-xor_swap : (a b : Bool) → xor a b ≡ xor b a
-xor_swap a b = search arith
-
-less_none : (j : ℕ) → j ≡ j - 0
-less_none j = omega arith
-
 -- a patch that finds this count, and is to leave that one, or finds it at the end of its range
 pub plan_leads : (w : LabelWords) (key old : ℕ) (new : Option ℕ) (es : List ℕ) → key < 4 → length es ≤ 16
     → ((j : ℕ) → j < 16 → get_or w.entries j 0 ≡ get_or es j 0) → Leads w key (patch_to old new) (plan_of key old (count_or old new) es)
-plan_leads w key old new es h1 h2 h3 = search (eq-eqb, less_none, xor_swap, cases_eq, turns_to, xor_self, ne_eqb, false≢true, arith)
+plan_leads w key old new es h1 h2 h3 = search (eq-eqb, cases_eq, true≢false, min, sites_lead, ne_eqb, false≢true, arith)

@@ -1,7 +1,7 @@
 -- The words of the model after a store of a patch, and which stores these are.
 use Rattle.trace_laws.proofs.Names.{Bool, Key, LabelWords, None, Option, Patch, Place, Site, Some, arith, cases_eq, cond, count_at, eq-eqb, false, first_from}
-use Rattle.trace_laws.proofs.Names.{get_or-set_other, get_or-set_same, is_on, is_site, key_number, kind_word, length, length-set, ne_eqb, refl, site_at}
-use Rattle.trace_laws.proofs.Names.{site_from, site_store, site_word, stored, suc, true, zero, ℕ, ◌+◌, ◌-◌, ◌<◌, ◌≡◌}
+use Rattle.trace_laws.proofs.Names.{get_or-set_other, get_or-set_same, is_on, key_number, kind_word, length, length-set, ne_eqb, refl, site_at}
+use Rattle.trace_laws.proofs.Names.{site_word, stored, suc, true, zero, ℕ, ◌+◌, ◌<◌, ◌≡◌}
 use Rattle.trace_laws.proofs.ReplayNames.{Word, front_of, label_word, put_word}
 use Rattle.smp_labels.specs.{declared.kinds.SiteKind.SiteKind, declared.kinds.SiteKind.TheVariants.Jmp, declared.kinds.SiteKind.TheVariants.Nop}
 use Rattle.smp_words.specs.declared.word.Word.TheVariants as word
@@ -21,15 +21,7 @@ found_below p c (suc more) f e = by_test (p c) e (found_below p (c + 1) more f)
         first_same : Some c ≡ Some f → c ≡ f
         first_same z = cc
     by_test false e later =
-        let l = (later e).0 in
-        (omega (arith, l), omega arith)
-
-site_below : (words : LabelWords) (key from site : ℕ) → site_from words key from ≡ Some site → site < 16
-site_below words key from site e =
-    let k = found_below (is_site words key) from (16 - from) site e in
-    let l = k.0 in
-    let m = k.1 in
-    omega (arith, l, m)
+        (omega (arith, ((later e).0)), omega arith)
 
 kind_back : (k : SiteKind) → site_word (is_on (kind_word k)) ≡ kind_word k
 kind_back Nop = refl
@@ -52,13 +44,9 @@ abbrev word_in : Option (Place × ℕ) → ℕ
 word_in None = 0
 word_in (Some change) = change.1
 
-stores_site : (key : ℕ) (on : Bool) (site : ℕ) (entry : Option (ℕ × Bool)) (place : Place) (word : ℕ) → site < 16
-    → site_store site on entry ≡ Some (place, word) → IsStoreOf key place word
-stores_site key on site entry place word h1 h2 = search (kind_back, arith)
-
 pub front_is : (words : LabelWords) (key : ℕ) (patch : Patch) (place : Place) (word : ℕ) → front_of words key patch ≡ Some (place, word)
     → IsStoreOf key place word
-front_is words key patch place word h1 = search (stores_site, site_below, arith)
+front_is words key patch place word h1 = search (kind_back, found_below, arith)
 
 -- it fits the lists of keys and sites
 abbrev pub IsThere : Place → Type 0
@@ -66,16 +54,10 @@ IsThere (Key k) = k < 4
 IsThere (Site i) = i < 16
 
 pub stored_keys_are : (place : Place) (word : ℕ) (words : LabelWords) → length (stored place word words).keys ≡ length words.keys
-stored_keys_are (Key k) word words = length-set words.keys k word
-stored_keys_are (Site i) word words = refl
+stored_keys_are place word words = search (length-set, arith)
 
 pub stored_sites_are : (place : Place) (word : ℕ) (words : LabelWords) → length (stored place word words).sites ≡ length words.sites
-stored_sites_are (Key k) word words = refl
-stored_sites_are (Site i) word words = length-set words.sites i word
-
-pub stored_entries : (place : Place) (word : ℕ) (words : LabelWords) → (stored place word words).entries ≡ words.entries
-stored_entries (Key k) word words = refl
-stored_entries (Site i) word words = refl
+stored_sites_are place word words = search (length-set, arith)
 
 module _ (words : LabelWords) (at : Word → ℕ) where
   pub stored_keys : (place : Place) (n : ℕ) → IsThere place → length words.keys ≡ 4 → ((key : ℕ) → count_at words key ≡ at (word.Key key)) → (key : ℕ)

@@ -1,6 +1,6 @@
 -- The event of an acknowledgement: which CPU is the last.
 use Rattle.trace_laws.proofs.Names.{Bool, Event, List, Multi, None, Ok, One, Option, Some, Task, acked_by, and_parts, ap, arith, cases_eq, cond, cpu_at}
-use Rattle.trace_laws.proofs.Names.{eqb-false, eqb-true, false, goes, has, has_run, inl, inr, ne_eqb, refl, slice_set, stop_at, stop_goes, subst, sym, true}
+use Rattle.trace_laws.proofs.Names.{eqb-false, eqb-true, false, goes, has, inl, inr, ne_eqb, refl, slice_set, stop_at, stop_goes, subst, sym, true}
 use Rattle.trace_laws.proofs.Names.{with_stop, ℕ, ◌&&◌, ◌+◌, ◌<◌, ◌==◌, ◌∙◌, ◌≡◌, ◌≢◌}
 use Rattle.trace_laws.proofs.ReplayNames.{AckShows, Calling, In, Inside, InsideIs, Keeps, Key, Nobody, OpenIs, OpenShows, Past, Raising, Refills, Rests, Site}
 use Rattle.trace_laws.proofs.ReplayNames.{Slot, RoleStands, Stop, StopState, ToldStop, Word, Work, acked, acknowledged_in, count_behind}
@@ -99,16 +99,14 @@ module _ (known : Here) (at' : Word → ℕ) (keys : (key : ℕ) → at' (Key ke
         }
     unfolding acknowledged_in
     acknowledged_as true e =
-        let one = eqb-true (at (Slot slot field.Ack)) 1 e in
         let none = none_late (stop_at s slot) (p.now.stop slot).standing me (a + 1) (f.stops slot i.below).sized.acked below (λ c l.
         (was.members c l).acked_is) mask keeps_all
-        (at (Slot slot field.Ack)) (omega (arith, fewer, one)) in
+        (at (Slot slot field.Ack)) (omega (arith, fewer, (eqb-true (at (Slot slot field.Ack)) 1 e))) in
         rw none refl
     acknowledged_as false e =
-        let ne = eqb-false (at (Slot slot field.Ack)) 1 e in
         let some = some_late (stop_at s slot) (p.now.stop slot).standing me (a + 1) (f.stops slot i.below).sized.acked below (λ c l.
         (was.members c l).acked_is) mask keeps_all
-        (at (Slot slot field.Ack)) (λ z. ne (omega (arith, fewer, z))) in
+        (at (Slot slot field.Ack)) (λ z. (eqb-false (at (Slot slot field.Ack)) 1 e) (omega (arith, fewer, z))) in
         rw (some.is, nobody) (ap (λ (r : Option ℕ). record (stop_at s slot) { acked = slice_set (stop_at s slot).acked me (a + 1); raiser = r }) no_raiser)
 
     -- the premises of each phase
@@ -136,13 +134,6 @@ module _ (known : Here) (at' : Word → ℕ) (keys : (key : ℕ) → at' (Key ke
             → stop_goes me (stops.Ack 2) s ≡ Ok (with_stop slot s (acknowledged_in me 2 true (stop_at s slot)))
         acks_two in_told kind l two o = acks_disabled s me whole slot (omega (arith, i.below)) in_told kind l two o
 
-        acks_three : (cpu_at s me).inside ≡ Some slot → (stop_at s slot).task.kind ≡ Multi → (n : ℕ) → n ≡ RUN → acked_by (stop_at s slot) me < n
-            → (stop_at s slot).phase ≡ n
-            → has_run (stop_at s slot) me ≡ true → has (stop_at s slot).task.active me ≡ true
-            → stop_goes me (stops.Ack n) s ≡ Ok (with_stop slot s (acknowledged_in me n true (stop_at s slot)))
-        acks_three in_told kind n three l at_three ran active =
-            rw three (acks_run s me whole slot (omega (arith, i.below)) in_told kind (omega (arith, l, three)) (at_three ∙ three) ran active)
-
         by_run : (cpu_at s me).inside ≡ Some slot → (stop_at s slot).task.kind ≢ One → acked_by (stop_at s slot) me < a + 1
             → (stop_at s slot).phase ≡ a + 1 → (a + 1 ≡ DISABLE_IRQ → ⊥)
             → has (stop_at s slot).task.active me ≡ has (p.now.stop slot).work.active me
@@ -155,7 +146,11 @@ module _ (known : Here) (at' : Word → ℕ) (keys : (key : ℕ) → at' (Key ke
             let k = and_parts ((a + 1) == RUN) (has (stop_at s slot).task.active me) e in
             let three = eqb-true (a + 1) RUN k.0 in
             let c = called three (sym active_told ∙ k.1) in
-            acks_three in_told (ap (λ (z : Task). z.kind) was.task ∙ c.0) (a + 1) three l phase (i.ran ∙ rw c.0 c.1) k.1
+            rw three (acks_run s me whole slot (omega (arith, i.below)) in_told (ap (λ (z : Task). z.kind) was.task ∙ c.0) (omega (
+              arith,
+              l,
+              three,
+            )) (phase ∙ three) (i.ran ∙ rw c.0 c.1) k.1)
 
     pub ack_made : (p.now.stop slot).work.kind ≢ One → (a + 1 ≡ DISABLE_IRQ → p.now.irq me ≡ false)
         → (a + 1 ≡ RUN → has (p.now.stop slot).work.active me ≡ true → ((p.now.stop slot).work.kind ≡ Multi) × (has_entered (p.calling me) ≡ true))

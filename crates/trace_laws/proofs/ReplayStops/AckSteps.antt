@@ -61,23 +61,12 @@ module _ (known : Here) where
     carried_same One (Calls call) = refl
     carried_same _ _ = refl
 
-    makes_none : (j : ℕ) (y : Work) (count : ℕ) (made rest : List Change) → shown.seat me ≡ Alters j y count made rest → ⊥
-    makes_none j y count made rest e = apart (sym at_seat ∙ e)
-      where
-        apart : In slot w a (a + 1) Rests ≡ Alters j y count made rest → ⊥
-        apart z = absurd cc
-
     not_mine : (d j : ℕ) (y : Work) (count : ℕ) (made rest : List Change) → shown.seat d ≡ Alters j y count made rest → d ≢ me
-    not_mine d j y count made rest at e = makes_none j y count made rest (subst (λ (n : ℕ). shown.seat n ≡ Alters j y count made rest) e at)
+    not_mine d j y count made rest at e = search arith
 
     calls_same : (k : Kind) (g : Patching) → RunnerShows U.first g shown.seat → has_called k (carried me g (p.calling me)) ≡ has_called k (p.calling me)
     calls_same k Whole r = carried_same k (p.calling me)
     calls_same k (Patches d y count made rest) r = rw (ne_eqb d me (not_mine d r.1.0 y count made rest r.1.1)) (carried_same k (p.calling me))
-
-    calling_same : (k : Kind) (three : Bool) → has_called k ((cond three (put p.calling me (carried me p.now.patching (p.calling me))) p.calling) me)
-        ≡ has_called k (p.calling me)
-    calling_same k true = ap (has_called k) (put_same p.calling me _) ∙ calls_same k p.now.patching shown.shows.present.runner
-    calling_same k false = refl
 
     -- of the active CPU of a patch nothing is changed here
     patch_same : (three : Bool) → (a + 1 == RUN) ≡ three → (p.now.stop slot).work.kind ≡ Patch → has (p.now.stop slot).work.active me ≡ true
@@ -94,13 +83,8 @@ module _ (known : Here) where
     unpatched_same Whole r = refl
     unpatched_same (Patches d y count made rest) r = rw (ne_eqb d me (not_mine d r.1.0 y count made rest r.1.1)) refl
 
-    patching_same : (three : Bool) → cond three (unpatched me p.now.patching) p.now.patching ≡ p.now.patching
-    patching_same true = unpatched_same p.now.patching shown.shows.present.runner
-    patching_same false = refl
-
     calling_other : (three : Bool) (d : ℕ) → d ≢ me → (cond three (put p.calling me (carried me p.now.patching (p.calling me))) p.calling) d ≡ p.calling d
-    calling_other true d ne = put_other p.calling me _ d ne
-    calling_other false d ne = refl
+    calling_other three d ne = search (put_other, arith)
 
     pub old_is : Old.phase ≡ a + 1
     old_is =
@@ -144,7 +128,7 @@ module _ (known : Here) where
       standing_else = λ d ne. put_other (p.now.stop slot).standing me (Inside (a + 1) (a + 1)) d ne;
       gate_is = refl;
       work_is = refl;
-      patching_is = patching_same (a + 1 == RUN);
+      patching_is = search (unpatched_same, arith);
     }
 
     goes_out : IsAcked true true
@@ -159,7 +143,7 @@ module _ (known : Here) where
       standing_else = λ d ne. put_other (p.now.stop slot).standing me (Inside (a + 1) (a + 1)) d ne;
       gate_is = refl;
       work_is = refl;
-      patching_is = patching_same (a + 1 == RUN);
+      patching_is = search (unpatched_same, arith);
     }
 
     acked_now : (acknowledged (p.now.stop slot) me (a + 1) (At (Slot slot field.Ack))).standing me ≡ Inside (a + 1) (a + 1)
@@ -171,7 +155,7 @@ module _ (known : Here) where
         (acknowledged (p.now.stop slot) me (a + 1) (At (Slot slot field.Ack))) (a + 1)
         (raiser_of (cond (At (Slot slot field.Ack) == 1) (Refills me) (p.now.stop slot).raising))
         ((cond (a + 1 == RUN) (put p.calling me (carried me p.now.patching (p.calling me))) p.calling) me) acked_now refl refl refl refl
-        (ap is_called here.1) (ap given_by here.1) (calling_same (p.now.stop slot).work.kind (a + 1 == RUN)) (patch_same (a + 1 == RUN) refl) old_is old_answer
+        (ap is_called here.1) (ap given_by here.1) (search (put_same, calls_same, arith)) (patch_same (a + 1 == RUN) refl) old_is old_answer
         stays made
 
     two_acks : a + 1 ≡ EXIT → (At (Slot slot field.Ack) == 1) ≡ false
@@ -197,7 +181,7 @@ module _ (known : Here) where
         (told_acked known At' (λ j. refl) (λ j. refl) slot here.0 open_now
         (acknowledged (p.now.stop slot) me (a + 1) (At (Slot slot field.Ack))) (a + 1)
         (raiser_of (cond (At (Slot slot field.Ack) == 1) (Refills me) (p.now.stop slot).raising)) acked_now refl refl refl refl
-        (ap is_called here.1) (ap given_by here.1) goes_out.standing_else) (a + 1) acked_now (calling_same (p.now.stop slot).work.kind (a + 1 == RUN))
+        (ap is_called here.1) (ap given_by here.1) goes_out.standing_else) (a + 1) acked_now (search (put_same, calls_same, arith))
         (patch_same (a + 1 == RUN) refl) refl old_is exit old_answer goes_out
         (λ d. refl) made
         (λ e. kind (ap (λ (z : Work). z.kind) (sym here.3) ∙ (ap (λ (z : Task). z.kind) (sym told.task) ∙ e))) (acked

@@ -1,7 +1,7 @@
 -- A state of the model with one stop or one CPU's part of the stops changed, and the stops of the machine with which it agrees.
-use Rattle.trace_laws.proofs.Names.{List, Some, StateValue, ap, arith, cases_eq, closed, cpu_at, get_or-set_other, get_or-set_same, has, has_run, inl, inr}
+use Rattle.trace_laws.proofs.Names.{List, Some, StateValue, arith, cases_eq, closed, cpu_at, get_or-set_other, get_or-set_same, has, has_run, inl, inr}
 use Rattle.trace_laws.proofs.Names.{length, slice_set, stop_at, sym, true, with_stop, ℕ, ◌<◌, ◌∙◌, ◌≡◌, ◌≢◌}
-use Rattle.trace_laws.proofs.ReplayNames.{CpuIs, FollowsStops, InsideIs, Key, Past, Patch, PatchIs, Site, Stop, StopIs, StopState, ToldStop, Word, Work}
+use Rattle.trace_laws.proofs.ReplayNames.{CpuIs, FollowsStops, InsideIs, Key, Past, Patch, PatchIs, Site, Stop, StopIs, StopState, ToldStop, Word}
 use Rattle.trace_laws.proofs.ReplayNames.{calls_in, cpus, past_at, put, put_other, put_same}
 use Rattle.trace_laws.proofs.{ReplayCalls.KeptPasts.past_else, ReplayCalls.KeptPasts.past_here}
 
@@ -44,8 +44,7 @@ patch_alike p q s t cpu source work patching calling words told k = rw (work, pa
 
 pub patch_else : (p q : StopState) (s t : StateValue) (me cpu source : ℕ) → IsAlone p me → cpu ≢ me → p.now.inside cpu ≡ Some source
     → (q.now.stop source).work ≡ (p.now.stop source).work → PatchIs q t cpu source
-patch_else p q s t me cpu source alone ne inside work kind active =
-    absurd (alone cpu source ne inside (sym (ap (λ (w : Work). w.kind) work) ∙ kind) (sym (ap (λ (w : Work). has w.active cpu) work) ∙ active))
+patch_else p q s t me cpu source alone ne inside work kind active = search arith
 
 inside_alike : (p q : StopState) (s t : StateValue) (cpu : ℕ) (past : Past) → IsAlike p q s t cpu → (source : ℕ) → p.now.inside cpu ≡ Some source
     → InsideIs p s past cpu source → InsideIs q t past cpu source

@@ -44,8 +44,7 @@ module _ (known : Here) (results : (slot : ℕ) → stop_number known.v.table (S
 
   -- the function of a stop of kind One runs
   one_acked : (n a l phase : ℕ) → phase ≡ 0 → ((a ≡ phase) ⊎ (a + 1 ≡ phase)) → a ≡ 0
-  one_acked n a l phase z (inl e) = e ∙ z
-  one_acked n a l phase z (inr e) = absurd (omega arith)
+  one_acked n a l phase z h1 = search arith
 
   pub loads_arg : (x : Visit) (answer func : ℕ) → C.stage ≡ Some (Complete x (completion.LoadArg answer func))
       → Does (Complete x (completion.LoadArg answer func))
@@ -56,7 +55,6 @@ module _ (known : Here) (results : (slot : ℕ) → stop_number known.v.table (S
       let a = x.acked in
       let at_seat = k.1.2 in
       let so = st known slot a a w Rests at_seat in
-      let o = opened_here known slot a a w Rests at_seat in
       let words = words_here known slot a a w Rests at_seat in
       let keeps = keeps_here known slot a a w Rests at_seat in
       let kind : (p.now.stop slot).work.kind ≡ One = ap (λ (z : Work). z.kind) so.3 ∙ (sym k.1.1.kind ∙ k.0) in
@@ -71,7 +69,7 @@ module _ (known : Here) (results : (slot : ℕ) → stop_number known.v.table (S
       ap (λ (z : Standing). may_call me (p.now.stop slot).work z) so.1 ∙ may_one (p.now.stop slot).work a kind in
       subst (λ (z : StopState). ReachesStops z At (slice_set pasts me Old) s ((me, event.Stop (stops.Run func found)) ∷ []))
       (sym (then_if (may_call me (p.now.stop slot).work ((p.now.stop slot).standing me)) q p may))
-      (runs_told known At (λ j. refl) (λ j. refl) slot so.0 o q a a func found
+      (runs_told known At (λ j. refl) (λ j. refl) slot so.0 (opened_here known slot a a w Rests at_seat) q a a func found
       (Calls (record { func = (p.now.stop slot).work.func; arg = found; answer = answer })) so.1 idle refl
       (record {
         stop_is = λ j. sym (put_all (λ i (z : Stop). z ≡ p.now.stop i) p.now.stop slot (p.now.stop slot) refl (λ i ne. refl) j);
@@ -98,8 +96,7 @@ module _ (known : Here) (results : (slot : ℕ) → stop_number known.v.table (S
   -- the answer is stored
   pub stores_answer : (x : Visit) → C.stage ≡ Some (Complete x completion.StoreAnswer) → Does (Complete x completion.StoreAnswer)
   stores_answer x e =
-      let k = ends_at x completion.StoreAnswer e in
-      let sit = k.2 in
+      let sit = (ends_at x completion.StoreAnswer e).2 in
       let slot = x.slot in
       let so = st known slot x.acked x.acked sit.0 Rests sit.2 in
       let o = opened_here known slot x.acked x.acked sit.0 Rests sit.2 in
@@ -140,8 +137,7 @@ module _ (known : Here) (results : (slot : ℕ) → stop_number known.v.table (S
       → MayAnswer (stop_at s slot) me Old.answer
   may_inside slot answer w a work kind four inside zero_now none Idle calling k ends =
       let idle : has w.active me ≡ false = k (omega (arith, four)) in
-      let i = (my known).stop slot inside in
-      let task = ((f.stops slot i.below).shows (open_inside U p At shown.seat shown.source shown.shows slot me inside)).task in
+      let task = ((f.stops slot ((my known).stop slot inside).below).shows (open_inside U p At shown.seat shown.source shown.shows slot me inside)).task in
       let told_active : has (stop_at s slot).task.active me ≡ false = ap (λ (z : Task). has z.active me) task ∙ (ap (λ (z : Work). has z.active me) work
       ∙ idle) in
       and_right (not (has_run (stop_at s slot) me)) _ (rw (others_answer (stop_at s slot) me told_active, zero_now) refl)
@@ -194,9 +190,7 @@ module _ (known : Here) (results : (slot : ℕ) → stop_number known.v.table (S
     ends_so a answer w stood is acked_is not_called of work_is given irq one_called round_called =
         let slot = x.slot in
         let o = is_open_inside U.cpus (p.now.stop slot) (λ g. At (Slot slot g)) (shown.shows.present.slots slot) me stood is of in
-        let words = (shown.shows.present.slots slot).shows o in
         let through = sees.1 in
-        let made = by_kind (p.now.stop slot).work.kind refl words.kinds o through in
         completes_told known At' (λ j. refl) (λ j. refl) slot sees.0 o
         (Q a answer) Done
         (completed (p.now.stop slot) me a answer (At (Slot slot field.Todo))) a answer (put_same (p.now.stop slot).standing me
@@ -214,7 +208,7 @@ module _ (known : Here) (results : (slot : ℕ) → stop_number known.v.table (S
           gate_is = refl;
           work_is = refl;
           patching_is = refl;
-        }) refl refl made
+        }) refl refl (by_kind (p.now.stop slot).work.kind refl ((shown.shows.present.slots slot).shows o).kinds o through)
       where
         made_round : (o : (p.now.stop x.slot).is_open ≡ true) → (p.now.stop x.slot).work.kind ≢ One → (p.now.stop x.slot).phase ≢ 0
             → IsThrough (p.now.stop x.slot) me (acked_of ((p.now.stop x.slot).standing me))
@@ -263,8 +257,6 @@ module _ (known : Here) (results : (slot : ℕ) → stop_number known.v.table (S
           let slot = x.slot in
           let a = x.acked in
           let so = st known slot a a w Rests at_seat in
-          let words = words_here known slot a a w Rests at_seat in
-          let keeps = keeps_here known slot a a w Rests at_seat in
           let zero_now : Old.answer ≡ pos 0 = subst (λ (z : Standing). AnswerIs z Old.answer) so.1 ((my known).stop slot so.0).answer in
           subst (λ (z : Standing). ReachesStops (completes p me slot z (At (Slot slot field.Todo))) (put_word At (Slot slot field.Todo) (one_less (At
           (Slot slot field.Todo))))
@@ -272,7 +264,7 @@ module _ (known : Here) (results : (slot : ℕ) → stop_number known.v.table (S
           (ends_so x e a 0 w (Inside a a) so.1 refl refl refl so.3 zero_now
           (λ phase four. irq_here known slot a a w Rests at_seat ∙ on_at a four)
           (λ kind. one_called (p.calling me) (carries x e) (one_acked 0 a a (p.now.stop slot).phase (one_phase (p.now.stop slot).work.kind
-          (p.now.stop slot).phase kind words.kinds) keeps.1))
+          (p.now.stop slot).phase kind (words_here known slot a a w Rests at_seat).kinds) (keeps_here known slot a a w Rests at_seat).1))
           (λ round four. may_inside x.slot x.answer w a so.3 (λ z. round (ap (λ (y : Work). y.kind) so.3 ∙ z)) four so.0 zero_now none (p.calling me) refl
           (calling_here known slot a a w Rests at_seat) (ending_is x (p.calling me) (carries x e))))
         where
@@ -304,25 +296,12 @@ module _ (known : Here) (results : (slot : ℕ) → stop_number known.v.table (S
   -- the last to complete stores done
   pub closes : (slot : ℕ) → C.stage ≡ Some (Close slot) → Does (Close slot)
   closes slot e =
-      let at_seat = (subst (λ (x : Option StopStage). SitsAt U me C x (shown.seat me)) e (shown.sits me below).seat).1 in
-      let so = seat_is known (Closes slot) at_seat in
+      let so = seat_is known (Closes slot) ((subst (λ (x : Option StopStage). SitsAt U me C x (shown.seat me)) e (shown.sits me below).seat).1) in
       let q : StopState = record p { now = record (p.now) { stop = put p.now.stop slot (ended (p.now.stop slot)) } } in
       let at' = put_word At (Slot slot field.Done) 1 in
       let g : Goes known at' (λ j. refl) (λ j. refl) q slot (ended
       (p.now.stop slot)) None
-      (p.now.irq me) (p.calling me) = record {
-        stop_is = λ j. refl;
-        inside_is = so.0;
-        irq_is = refl;
-        calling_is = refl;
-        inside_else = λ d ne. refl;
-        irq_else = λ d ne. refl;
-        calling_else = λ d ne. refl;
-        standing_else = λ d ne. refl;
-        gate_is = refl;
-        work_is = refl;
-        patching_is = refl;
-      } in
+      (p.now.irq me) (p.calling me) = search (so.0, arith) in
       subst (λ (z : StopState). ReachesStops z at' (slice_set pasts me Old) s []) (sym (then_if (p.now.stop slot).is_open q
       (stored_shut p slot field.Done 1) so.1))
       (silent known at' (λ j. refl) (λ j. refl) q Old slot (ended
@@ -343,10 +322,9 @@ module _ (known : Here) (results : (slot : ℕ) → stop_number known.v.table (S
       let all = sees_it.2 in
       let q = collects p me (At (Slot me field.Result)) in
       let x = closed (p.now.stop me) in
-      let words = (shown.shows.present.slots me).shows open_now in
       collects_told known At (λ j. refl) (λ j. refl) q x open_now refl all
       (as_i32 (At (Slot me field.Result)))
       (all_done known At (λ j. refl) (λ j. refl) q x open_now refl all)
       (result_gives known At (λ j. refl) (λ j. refl) q x open_now refl all refl
-      (At (Slot me field.Result)) (results me) words.result)
+      (At (Slot me field.Result)) (results me) ((shown.shows.present.slots me).shows open_now).result)
       (λ j. refl) (λ d. refl) (λ d. refl) (λ d. refl) refl refl

@@ -93,14 +93,8 @@ module _ (known : Here) (at' : Word → ℕ) (keys : (key : ℕ) → at' (Key ke
         let y = record (stop_at s slot) { ran = slice_set (stop_at s slot).ran me true } in
         let t = with_stop slot s y in
         let not_yet : has_run (stop_at s slot) me ≡ false = i.ran ∙ rw idle (none_called (p.now.stop slot).work.kind) in
-        let no_patch : (p.now.stop slot).work.kind ≢ Patch = elim kinds [
-          | inl one ↦ λ z. absurd (one_patch (sym one ∙ z))
-          | inr k ↦ λ z. absurd (multi_patch (sym k.0 ∙ z))
-        ] in
-        let called_so : has_called (p.now.stop slot).work.kind calling ≡ true = elim kinds [
-          | inl one ↦ rw one called
-          | inr k ↦ rw k.0 called
-        ] in
+        let no_patch : (p.now.stop slot).work.kind ≢ Patch = search arith in
+        let called_so : has_called (p.now.stop slot).work.kind calling ≡ true = search arith in
         let in_told : (cpu_at s me).inside ≡ Some slot = (my known).inside ∙ inside in
         let task_func : (stop_at s slot).task.func ≡ func = ap (λ (z : Task). z.func) was.task ∙ func_is in
         let task_arg : (stop_at s slot).task.arg ≡ arg = ap (λ (z : Task). z.arg) was.task ∙ arg_is in
@@ -123,12 +117,6 @@ module _ (known : Here) (at' : Word → ℕ) (keys : (key : ℕ) → at' (Key ke
       where
         at_two : (a : ℕ) → acked_by (stop_at s slot) me ≡ a → a ≡ DISABLE_IRQ → acked_by (stop_at s slot) me < RUN
         at_two a e two = omega (arith, e, two)
-
-        one_patch : One ≡ Patch → ⊥
-        one_patch z = absurd cc
-
-        multi_patch : Multi ≡ Patch → ⊥
-        multi_patch z = absurd cc
 
     -- an answer is stored
     pub answers_step : (q : StopState) (past : Past) (a l answer : ℕ) → (p.now.stop slot).standing me ≡ Inside a l
@@ -169,13 +157,7 @@ module _ (known : Here) (at' : Word → ℕ) (keys : (key : ℕ) → at' (Key ke
         let c = in_stop None (cpu_at s me) in
         let t = with_cpu me (with_stop slot s y) c in
         let my_cpu = cpu_here (with_stop slot s y) me c cpus_are below in
-        let here : MemberIs (x.standing me) y me = rw stood (record {
-          called = member.called ∙ called;
-          acked_is = member.acked_is ∙ acked_is;
-          answer = get_or-set_same (stop_at s slot).answers me (Some told) None (rw size.answers (omega arith)) ∙ ap Some given;
-          fresh = λ is. absurd cc;
-          unmade = λ is. absurd cc;
-        }) in
+        let here : MemberIs (x.standing me) y me = search (told, member, get_or-set_same, size, arith) in
         let told_so : StopIs x y = record {
           sized = record {
             entered = size.entered;
@@ -226,7 +208,6 @@ module _ (known : Here) (at' : Word → ℕ) (keys : (key : ℕ) → at' (Key ke
         })) (in_stop None (cpu_at s me)))
     unfolding stop_goes
     complete_round kind high not_last on may =
-        let acks = member.acked_is in
         made_low me below (completes_round s me whole slot (omega (arith, i.below)) ((my known).inside ∙ inside) (past_at pasts me).answer
-        (λ x. kind (sym (ap (λ (z : Task). z.kind) was.task) ∙ x)) (omega (arith, acks, high)) (ap (λ (z : Option ℕ). is_cpu z me) was.raiser
+        (λ x. kind (sym (ap (λ (z : Task). z.kind) was.task) ∙ x)) (omega (arith, member.acked_is, high)) (ap (λ (z : Option ℕ). is_cpu z me) was.raiser
         ∙ not_last) ((my known).irq ∙ on) may)

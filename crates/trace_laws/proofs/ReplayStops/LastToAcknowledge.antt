@@ -59,9 +59,6 @@ module _ (told : ToldStop) (standing : ℕ → Standing) (me p : ℕ) (size : le
   mine_acked : acked_by (record told { acked = slice_set told.acked me p }) me ≡ p
   mine_acked = get_or-set_same told.acked me p 0 (rw size (omega arith))
 
-  other_acked : (c : ℕ) → c ≢ me → acked_by (record told { acked = slice_set told.acked me p }) c ≡ acked_by told c
-  other_acked c ne = get_or-set_other told.acked me c p 0 ne
-
   abbrev is_late : ℕ → Bool
   is_late c = has told.task.mask c && nat_lt (acked_by (record told { acked = slice_set told.acked me p }) c) p
 
@@ -72,12 +69,9 @@ module _ (told : ToldStop) (standing : ℕ → Standing) (me p : ℕ) (size : le
     | inl same ↦ and_right (has told.task.mask c) _ (le-ltb _ p (subst (λ (n : ℕ). p ≤ acked_by (record told { acked = slice_set told.acked me p }) n)
         (sym same) (omega (arith, mine_acked))))
     | inr ne ↦
-        let z = sum_zero (λ k. behind p (put standing me (Inside p p) k)) cpus none c l in
         let done : acked (standing c) ≡ p = has_acknowledged p (standing c) (mask c ∙ e) (subst (λ (x : Standing). behind p x ≡ 0)
-        (put_other standing me (Inside p p) c ne) z) in
-        let a = members c l in
-        let o = other_acked c ne in
-        and_right (has told.task.mask c) _ (le-ltb _ p (omega (arith, o, a, done)))
+        (put_other standing me (Inside p p) c ne) (sum_zero (λ k. behind p (put standing me (Inside p p) k)) cpus none c l)) in
+        and_right (has told.task.mask c) _ (le-ltb _ p (omega (arith, (get_or-set_other told.acked me c p 0 ne), (members c l), done)))
   ]
 
   pub none_late : count_behind cpus p (put standing me (Inside p p)) ≡ 0 → late (record told { acked = slice_set told.acked me p }) p ≡ None
@@ -90,6 +84,6 @@ module _ (told : ToldStop) (standing : ℕ → Standing) (me p : ℕ) (size : le
       let other : c ≢ me = λ e. r.1.1 (rw (e, put_same standing me (Inside p p)) (behind_zero p p)) in
       let b = behind_not p c (standing c) (subst (λ (x : Standing). behind p x ≢ 0) (put_other standing me (Inside p p) c other) r.1.1) (keeps c) in
       let a = members c r.1.0 in
-      let o = other_acked c other in
+      let o = get_or-set_other told.acked me c p 0 other in
       let t : nat_lt (acked_by (record told { acked = slice_set told.acked me p }) c) p ≡ true = lt-ltb _ p (let q = b.1 in omega (arith, o, a, q)) in
       first_some is_late 0 32 c (omega arith) (let q = r.1.0 in omega (arith, q)) (rw (sym (mask c) ∙ b.0, t) refl)

@@ -17,8 +17,7 @@ use Rattle.smp_words.specs.declared.phase.TheConstants.{DISABLE_IRQ, RUN}
 
 -- a CPU that has called nothing has called none of any kind
 pub none_called : (k : Kind) → has_called k Idle ≡ false
-none_called One = refl
-none_called _ = refl
+none_called k = search arith
 
 module _ (known : Here) (at' : Word → ℕ) (keys : (key : ℕ) → at' (Key key) ≡ (parts known).At (Key key))
     (sites : (site : ℕ) → at' (Site site) ≡ (parts known).At (Site site)) where
@@ -50,13 +49,7 @@ module _ (known : Here) (at' : Word → ℕ) (keys : (key : ℕ) → at' (Key ke
       let size = (f.stops slot l).sized in
       let member = was.members me below in
       let set : slice_index_or (slice_set e.entered me true) me false ≡ true = get_or-set_same e.entered me true false (rw size.entered (omega arith)) in
-      let here : MemberIs (x.standing me) y me = rw (eq-eqb me me refl) (record {
-        called = rw set (and_right (has e.task.mask me) false refl);
-        acked_is = member.acked_is ∙ ap acked called;
-        answer = member.answer ∙ ap given_by called;
-        fresh = λ is. absurd cc;
-        unmade = λ is. absurd cc;
-      }) in
+      let here : MemberIs (x.standing me) y me = search (set, e.task.mask, member.acked_is, member.answer, eq-eqb, and_right, arith) in
       let told : StopIs x y = record {
         sized = record { entered = length-set e.entered me true ∙ size.entered; acked = size.acked; ran = size.ran; answers = size.answers };
         is_open = (f.stops slot l).is_open;

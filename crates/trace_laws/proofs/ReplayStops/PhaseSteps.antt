@@ -2,7 +2,7 @@
 use Rattle.trace_laws.proofs.Names.{Bool, Multi, None, Ok, One, Option, Some, Task, [], ap, arith, cases_eq, cond, eqb-true, false, goes, has, inl, inr, lt-ltb}
 use Rattle.trace_laws.proofs.Names.{nat_lt, ne_eqb, refl, slice_set, stop_at, subst, sym, true, true≢false, with_stop, ℕ, ◌+◌, ◌<◌, ◌==◌, ◌∙◌, ◌∷◌, ◌≡◌, ◌≢◌}
 use Rattle.trace_laws.proofs.Names.{◌≤◌}
-use Rattle.trace_laws.proofs.ReplayNames.{AckShows, Advance, AnswerIs, Calling, CarriesAt, Idle, In, Inside, Nobody, OpenShows, PhaseIs, Present, Raises}
+use Rattle.trace_laws.proofs.ReplayNames.{AckShows, Advance, AnswerIs, Calling, CarriesAt, Idle, In, Inside, OpenShows, PhaseIs, Present, Raises}
 use Rattle.trace_laws.proofs.ReplayNames.{Raising, Rests, RoundStage, Sets, SitsInRound, Slot, Standing, RoleStands, StepEvents, Stop}
 use Rattle.trace_laws.proofs.ReplayNames.{StopStage, StopState, Visit}
 use Rattle.trace_laws.proofs.ReplayNames.{Word, Work, acked_of, acknowledges, cpus, has_entered, leaves, mask_weight, one_less, one_phase, phase_of, put}
@@ -52,15 +52,9 @@ module _ (known : Here) where
           → Does (Advance x (round.Acknowledge answer ran))
       here w loaded at_seat runs =
           let so = st known x.slot x.acked (x.acked + 1) w Rests at_seat in
-          let words = words_here known x.slot x.acked (x.acked + 1) w Rests at_seat in
           let phase = acking.phase_is known At (λ j. refl)
           (λ j. refl) refl x.slot x.acked w Idle so in
-          let kind : w.kind ≢ One = λ one. absurd (omega (
-            arith,
-            phase,
-            one_phase (p.now.stop x.slot).work.kind (p.now.stop x.slot).phase (ap (λ
-                (z : Work). z.kind) so.3 ∙ one) words.kinds,
-          )) in
+          let kind : w.kind ≢ One = search (phase, x.slot, so.3, x.acked, one_phase, words_here, arith) in
           let carries : IsAcking x answer ran (p.calling me) = subst (λ (o : Option StopStage). CarriesAt C.visit o (p.calling me)) e
           (shown.carries me below) in
           let called = has_called_it x answer ran w (p.calling me) loaded runs carries in
@@ -80,12 +74,10 @@ module _ (known : Here) where
   refills x ran e =
       let k = at_stage x (round.Refill ran) e in
       let so = st known x.slot x.acked x.acked k.0 Fills k.2 in
-      let open_now = opened_here known x.slot x.acked x.acked k.0 Fills k.2 in
       let n = mask_weight cpus x.mask in
-      let raising = fills_me me (p.now.stop x.slot).raising so.2 in
       let q : StopState = record p { now = record (p.now) { stop = put p.now.stop x.slot (refilled (p.now.stop x.slot) me) } } in
       subst (λ (z : StopState). ReachesStops z (put_word At (Slot x.slot field.Ack) n) (slice_set pasts me Old) s [])
-      (sym (then_if (p.now.stop x.slot).is_open q (stored_shut p x.slot field.Ack n) open_now))
+      (sym (then_if (p.now.stop x.slot).is_open q (stored_shut p x.slot field.Ack n) (opened_here known x.slot x.acked x.acked k.0 Fills k.2)))
       (refilled_step known (put_word At (Slot x.slot field.Ack) n)
       (λ j. refl) (λ j. refl)
       q Old x.slot (refilled (p.now.stop x.slot) me) x.acked so.0 so.1
@@ -101,7 +93,7 @@ module _ (known : Here) where
         gate_is = refl;
         work_is = refl;
         patching_is = refl;
-      }) so.1 refl refl refl (ap raiser_of (sym raising)) refl refl)
+      }) so.1 refl refl refl (ap raiser_of (sym (fills_me me (p.now.stop x.slot).raising so.2))) refl refl)
 
   -- the phase is raised
   module _ (x : Visit) (ran : Bool) (w : Work) (at_seat : shown.seat me ≡ In x.slot w x.acked x.acked Sets) where
@@ -130,10 +122,7 @@ module _ (known : Here) where
     raising = sets_me me (p.now.stop x.slot).raising so.2
 
     not_calm : (p.now.stop x.slot).phase ≢ 0
-    not_calm z = absurd (raises_not me (sym raising ∙ words.calm z))
-      where
-        raises_not : (n : ℕ) → Raises n ≡ Nobody → ⊥
-        raises_not n e = absurd cc
+    not_calm z = search (raising, words, arith)
 
     phase_is : (p.now.stop x.slot).phase ≡ x.acked
     phase_is =
@@ -223,14 +212,12 @@ module _ (known : Here) where
       let at' = put_word At (Slot x.slot field.State) n in
       let moved : Present = record (p.now) { stop = put p.now.stop x.slot (raised (p.now.stop x.slot) n) } in
       let q = λ (over : Bool). record p { now = cond over (leaves moved me x.slot (p.now.stop x.slot).work) moved } in
-      let phase = phase_is x ran w k.2 in
-      let calm = not_calm x ran w k.2 in
       let high = small x ran w k.2 in
-      let some : 1 < n = above x.acked (λ z. calm (phase ∙ z)) in
+      let some : 1 < n = above x.acked (λ z. (not_calm x ran w k.2) ((phase_is x ran w k.2) ∙ z)) in
       let one = raise_by x ran w k.2 (x.acked == EXIT) ran refl refl in
       let two = subst (λ (b : Bool). ReachesStops (q b) at' (slice_set pasts me Old) s (by me (with_on (stops.Raise n) said))) (over_is x.acked) one in
-      let three = subst (λ (m : ℕ). ReachesStops (q (n == OVER)) at' (slice_set pasts me Old) s (by me (with_on (stops.Raise m) said))) (sym (phase_small n
-      (omega (arith, high)))) two in
+      let three = subst (λ (m : ℕ). ReachesStops (q (n == OVER)) at' (slice_set pasts me Old) s (by me (with_on (stops.Raise m) said))) (sym (omega arith)) two
+      in
       let four = subst (λ (z : StepEvents). ReachesStops (q (n == OVER)) at' (slice_set pasts me Old) s (by me z))
       (sym (then_if (nat_lt 1 n) (with_on (stops.Raise (phase_of n)) said) told.Nothing (lt-ltb 1 n some))) three in
       subst (λ (z : StopState). ReachesStops z at' (slice_set pasts me Old) s (by me (cond (nat_lt 1 n) (with_on (stops.Raise
@@ -239,6 +226,3 @@ module _ (known : Here) where
     where
       above : (m : ℕ) → m ≢ 0 → 1 < m + 1
       above m ne = omega arith
-
-      phase_small : (m : ℕ) → m ≤ 5 → phase_of m ≡ m
-      phase_small m l = omega arith

@@ -1,9 +1,9 @@
 -- A source begins and opens its stop, and collects the result; a CPU reads a key or a site.
 use Rattle.trace_laws.proofs.Names.{Bool, Event, Kind, List, Multi, None, Ok, One, Option, Setting, Some, Task, [], and_left, and_right, answer_of, ap, arith}
 use Rattle.trace_laws.proofs.Names.{cond, eq-eqb, false, false≢true, get_or-replicate, gives, goes, has, has_run, inl, inr, int_eq, is_none, is_on, is_work}
-use Rattle.trace_laws.proofs.Names.{label_goes, length, length-append, length-replicate, length-set, lt-ltb, members_below, nat_lt, ne_eqb, not, offline_in}
+use Rattle.trace_laws.proofs.Names.{label_goes, length, length-append, length-replicate, length-set, lt-ltb, members_below, ne_eqb, offline_in}
 use Rattle.trace_laws.proofs.Names.{pos, refl, slice_set, stop_at, stop_goes, subst, suc, sym, true, true≢false, unfinished, with_stop, xor, zero, ℕ, ℤ, ◌&&◌}
-use Rattle.trace_laws.proofs.Names.{◌<◌, ◌==◌, ◌^◌, ◌∙◌, ◌∷◌, ◌≡◌, ◌≢◌}
+use Rattle.trace_laws.proofs.Names.{◌<◌, ◌^◌, ◌∙◌, ◌∷◌, ◌≡◌, ◌≢◌}
 use Rattle.trace_laws.proofs.ReplayNames.{Answering, Called, Calling, Completed, CpuIs, Inside, Key, MemberIs, OpenIs, Outside, Past, Patch, Site, Standing}
 use Rattle.trace_laws.proofs.ReplayNames.{Stop, StopIs, StopState, ToldStop, Word, Work, as_i32, cpus, first_phase, given_by, is_inside, is_of, mask_weight}
 use Rattle.trace_laws.proofs.ReplayNames.{opening, past_at, put, put_all, put_other, sum_below, told_work}
@@ -38,33 +38,25 @@ member_new task c false l e = record {
 }
 
 phase_new : (k : Kind) → told_first k ≡ first_phase k
-phase_new One = refl
-phase_new _ = refl
+phase_new k = search arith
 
 -- the weight of a mask is the number of its members
 length-if : (b : Bool) (k : ℕ) → length (cond b (k ∷ []) []) ≡ bit b
-length-if true k = refl
-length-if false k = refl
+length-if b k = search arith
 
 members_weight : (mask k : ℕ) → length (members_below mask k) ≡ mask_weight k mask
 unfolding members_below sum_below
 members_weight mask zero = refl
 members_weight mask (suc k) =
-    let one = length-if (has mask k) k in
-    let more = members_weight mask k in
-    let both = length-append (members_below mask k) (cond (has mask k) (k ∷ []) []) in
-    omega (arith, one, more, both)
+    omega (arith, (length-if (has mask k) k), (members_weight mask k), (length-append (members_below mask k) (cond (has mask k) (k ∷ []) [])))
 
 -- there is such a work, of CPUs that are online
 pub works : (u : Setting) (w : Work) (k : Kind) → w.kind ≡ k → mask_weight cpus w.mask ≢ 0 → (k ≡ One → mask_weight cpus w.mask ≡ 1)
     → (k ≡ Patch → is_work u (told_work w) ≡ true) → is_work u (told_work w) ≡ true
 works u w One e some one patch =
-    let m = members_weight w.mask cpus in
-    let o = one refl in
-    rw e (eq-eqb (length (members_below w.mask cpus)) 1 (m ∙ o))
+    rw e (eq-eqb (length (members_below w.mask cpus)) 1 ((members_weight w.mask cpus) ∙ (one refl)))
 works u w Multi e some one patch =
-    let m = members_weight w.mask cpus in
-    rw e (lt-ltb 0 (length (members_below w.mask cpus)) (positive (length (members_below w.mask cpus)) (λ z. some (sym m ∙ z))))
+    rw e (lt-ltb 0 (length (members_below w.mask cpus)) (positive (length (members_below w.mask cpus)) (λ z. some (sym (members_weight w.mask cpus) ∙ z))))
   where
     positive : (n : ℕ) → n ≢ 0 → 0 < n
     positive n z = omega arith
@@ -192,17 +184,7 @@ module _ (known : Here) (at' : Word → ℕ) (keys : (key : ℕ) → at' (Key ke
       → Leads q (past_at pasts me) ((me, e) ∷ [])
   reads_step q e made stop inside irq calling gate patching =
       let alike : (c : ℕ) → IsAlike p q s s c =
-      λ c. record {
-        inside = inside c;
-        irq = irq c;
-        calling = calling c;
-        standing = λ j is. ap (λ (z : Stop). z.standing c) (stop j);
-        inside_told = refl;
-        irq_told = refl;
-        ran = λ j is l. refl;
-        work = λ j is. ap (λ (z : Stop). z.work) (stop j);
-        patch = λ j is l. patch_alike p q s s c j (ap (λ (z : Stop). z.work) (stop j)) patching (calling c) refl refl;
-      } in
+      search (patch_alike, arith) in
       record {
         t = s;
         runs = (s, (made, refl));
@@ -222,32 +204,21 @@ module _ (known : Here) (at' : Word → ℕ) (keys : (key : ℕ) → at' (Key ke
       }
 
   xor_same : (b : Bool) → xor b b ≡ false
-  xor_same true = refl
-  xor_same false = refl
+  xor_same b = search arith
 
   pub key_read : (key : ℕ) → p.now.irq me ≡ true → goes me (event.Label (labels.Key key (is_on (at (Key key))))) s ≡ Ok s
   unfolding label_goes
   key_read key on = rw (lt-ltb me 32 (omega (arith, below)), (my known).irq ∙ on, f.keys key, xor_same (is_on (at (Key key)))) refl
 
-  jumps_on : (n : ℕ) → not (n == 0) ≡ nat_lt 0 n
-  jumps_on zero = refl
-  jumps_on (suc n) = rw (ne_eqb (suc n) 0 (λ e. absurd (omega arith)), lt-ltb 0 (suc n) (omega arith)) refl
-
   pub site_read : (site : ℕ) → p.now.irq me ≡ true → goes me (event.Label (labels.Site site (is_on (at (Site site))))) s ≡ Ok s
   unfolding label_goes
-  site_read site on =
-      rw (lt-ltb me 32 (omega (arith, below)), (my known).irq ∙ on, f.sites site, jumps_on (at (Site site)), xor_same (is_on (at (Site site)))) refl
+  site_read site on = search (lt-ltb, my, ne_eqb, xor_same, arith)
 
   -- a source opens its stop
   module _ (q : StopState) (w : Work) (work : (p.now.stop me).work ≡ w) (shut : (p.now.stop me).is_open ≡ false) where
     told_opened : StopIs (opened (p.now.stop me) (p.now.stop me).work) (opening (told_work w))
     told_opened = record {
-      sized = record {
-        entered = length-replicate {A = Bool} 32 false;
-        acked = length-replicate {A = ℕ} 32 0;
-        ran = length-replicate {A = Bool} 32 false;
-        answers = length-replicate {A = Option ℤ} 32 None;
-      };
+      sized = search (length-replicate, arith);
       is_open = refl;
       shows = λ o. record {
         task = ap told_work (sym work);
@@ -303,11 +274,14 @@ module _ (known : Here) (at' : Word → ℕ) (keys : (key : ℕ) → at' (Key ke
     unfolding stop_goes
     collects_told answer done given stop_is inside irq calling gate_is patching =
         let k = f.stops me below in
-        let told : StopIs x (record (stop_at s me) { is_open = false }) = record {
-          sized = record { entered = k.sized.entered; acked = k.sized.acked; ran = k.sized.ran; answers = k.sized.answers };
-          is_open = sym x_shut;
-          shows = λ o. absurd (false≢true (sym x_shut ∙ o));
-        } in
+        let told : StopIs x (record (stop_at s me) { is_open = false }) = search (
+          k.sized.entered,
+          k.sized.acked,
+          k.sized.ran,
+          k.sized.answers,
+          false≢true,
+          arith,
+        ) in
         empty_step q (past_at pasts me) me x (record (stop_at s me) { is_open = false }) below over stop_is inside irq calling gate_is patching told
         (my known) (event.Stop (stops.Collect answer)) (made_low me below (collects_result s me whole answer (k.is_open ∙ open_now) done given))
 
@@ -362,10 +336,7 @@ module _ (known : Here) (at' : Word → ℕ) (keys : (key : ℕ) → at' (Key ke
         rw (not_zero, found.is) refl
       where
         given_of : (z : Standing) → HasGiven z result → is_of z ≡ true
-        given_of (Answering a v) g = refl
-        given_of (Completed a v) g = refl
-        given_of _ g = absurd g
+        given_of z g = search arith
 
         completed_of : (z : Standing) → HasCompleted z → HasGiven z result → given_by z ≡ Some (as_i32 result)
-        completed_of (Completed a v) d g = ap (λ n. Some (as_i32 n)) g
-        completed_of _ d g = absurd d
+        completed_of z d g = search arith

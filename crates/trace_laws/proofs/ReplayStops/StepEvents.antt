@@ -1,5 +1,5 @@
 -- The events of a step on the stops, and the state to which they lead.
-use Rattle.trace_laws.proofs.Names.{arith, CpuState, Event, List, None, Ok, Option, Some, StateValue, [], acked_by, answer_of, ap, cases_eq, cpu_at, false}
+use Rattle.trace_laws.proofs.Names.{arith, CpuState, Event, List, Ok, Option, Some, StateValue, [], acked_by, answer_of, ap, cases_eq, cpu_at, false}
 use Rattle.trace_laws.proofs.Names.{goes, has, has_run, inl, inr, is_called, length, length-set, refl, slice_set, stop_at, subst, sym, true, with_cpu}
 use Rattle.trace_laws.proofs.Names.{with_stop, ℕ, ◌<◌, ◌∙◌, ◌∷◌, ◌≡◌, ◌≢◌, ◌⊎◌}
 use Rattle.trace_laws.proofs.ReplayNames.{Called, CpuIs, FollowsStops, Key, MemberIs, Past, PatchIs, RunsTo, Site, Standing, Stop, StopIs, StopState, ToldStop}
@@ -15,13 +15,9 @@ pub record ReachesStops (q : StopState) (at' : Word → ℕ) (pasts' : List Past
   pub follows : FollowsStops q at' pasts' t
   pub leaves : LeavesCalls s t
 
-pub leaves_calls : (s : StateValue) → LeavesCalls s s
-leaves_calls s = record { setting = refl; places = refl; entries = refl; cpus_are = refl; calls = λ cpu. refl }
-
 -- words that a step leaves as they are
 pub word_kept : (at : Word → ℕ) (w u : Word) (put : Option ℕ) → same_word u w ≡ false → put_if put_word at w put u ≡ at u
-word_kept at w u None e = refl
-word_kept at w u (Some n) e = rw e refl
+word_kept at w u put e = search arith
 
 -- a member of a stop, where what is told of it is as before
 pub member_as : (x : Standing) (e f : ToldStop) (cpu : ℕ) → is_called f cpu ≡ is_called e cpu → acked_by f cpu ≡ acked_by e cpu
@@ -77,7 +73,7 @@ module _ (p q : StopState) (at at' : Word → ℕ) (pasts : List Past) (s : Stat
       keys = keys;
       sites = sites;
     });
-    leaves = leaves_calls s;
+    leaves = record { setting = refl; places = refl; entries = refl; cpus_are = refl; calls = λ cpu. refl };
   }
 
   -- the gate is taken, or given up
@@ -129,24 +125,12 @@ module _ (p q : StopState) (at at' : Word → ℕ) (pasts : List Past) (s : Stat
   -- the stop of a source goes on, and what is told of it is the same
   module _ (source : ℕ) (x : Stop) (k : OneStop p q me source x (stop_at s source) (stop_at s source)) (here : source < cpus
       → StopIs x (stop_at s source)) where
-    standing_still : (cpu : ℕ) → cpu ≢ me → (j : ℕ) → (q.now.stop j).standing cpu ≡ (p.now.stop j).standing cpu
-    standing_still cpu ne j = ap (λ (z : Stop). z.standing cpu) (k.stop_is j)
-        ∙ put_all (λ i (z : Stop). z.standing cpu ≡ (p.now.stop i).standing cpu) p.now.stop source x (k.standing cpu ne) (λ i other. refl) j
-
-    work_still : (j : ℕ) → (q.now.stop j).work ≡ (p.now.stop j).work
-    work_still j = ap (λ (z : Stop). z.work) (k.stop_is j)
-        ∙ put_all (λ i (z : Stop). z.work ≡ (p.now.stop i).work) p.now.stop source x k.work (λ i other. refl) j
-
     patch_still : (t : StateValue) → t.stops ≡ s.stops → t.words ≡ s.words → (cpu : ℕ) → cpu ≢ me → (j : ℕ) → p.now.inside cpu ≡ Some j → PatchIs p s cpu j
         → PatchIs q t cpu j
-    patch_still t stops words cpu ne j is i = elim k.patch [
-      | inl same ↦ patch_alike p q s t cpu j (work_still j) same.0 (k.calling cpu ne) words (rw stops refl) i
-      | inr alone ↦ patch_else p q s t me cpu j alone ne is (work_still j)
-    ]
+    patch_still t stops words cpu ne j is i = search (patch_alike, put_all, patch_else, arith)
 
     stops_still : (j : ℕ) → j < cpus → StopIs (q.now.stop j) (stop_at s j)
-    stops_still j l = subst (λ (z : Stop). StopIs z (stop_at s j)) (sym (k.stop_is j))
-        (put_all (λ i (z : Stop). i < cpus → StopIs z (stop_at s i)) p.now.stop source x here (λ i other m. f.stops i m) j l)
+    stops_still j l = search (put_all, arith)
 
     pub same_step : CpuIs q s past me → ReachesStops q at' (slice_set pasts me past) s []
     same_step mine = record {
@@ -163,18 +147,18 @@ module _ (p q : StopState) (at at' : Word → ℕ) (pasts : List Past) (s : Stat
           inside = k.inside cpu ne;
           irq = k.irq cpu ne;
           calling = k.calling cpu ne;
-          standing = λ j inside. standing_still cpu ne j;
+          standing = λ j inside. search (put_all, arith);
           inside_told = refl;
           irq_told = refl;
           ran = λ j inside l. refl;
-          work = λ j inside. work_still j;
+          work = λ j inside. search (put_all, arith);
           patch = λ j inside l i. patch_still s refl refl cpu ne j inside i;
         };
         words = refl;
         keys = keys;
         sites = sites;
       });
-      leaves = leaves_calls s;
+      leaves = record { setting = refl; places = refl; entries = refl; cpus_are = refl; calls = λ cpu. refl };
     }
 
     -- but for the CPU's interrupts
@@ -195,45 +179,28 @@ module _ (p q : StopState) (at at' : Word → ℕ) (pasts : List Past) (s : Stat
           inside = k.inside cpu ne;
           irq = k.irq cpu ne;
           calling = k.calling cpu ne;
-          standing = λ j inside. standing_still cpu ne j;
+          standing = λ j inside. search (put_all, arith);
           inside_told = ap (λ (z : CpuState). z.inside) (cpu_else s me c cpu ne);
           irq_told = ap (λ (z : CpuState). z.irq) (cpu_else s me c cpu ne);
           ran = λ j inside l. refl;
-          work = λ j inside. work_still j;
+          work = λ j inside. search (put_all, arith);
           patch = λ j inside l i. patch_still (with_cpu me s c) refl refl cpu ne j inside i;
         };
         words = refl;
         keys = keys;
         sites = sites;
       });
-      leaves = record {
-        setting = refl;
-        places = refl;
-        entries = refl;
-        cpus_are = length-set s.cpus me c;
-        calls = λ cpu. elim (cases_eq cpu me) [
-          | inl e ↦ rw e (ap calls_in (cpu_here s me c cpus_are below) ∙ calls)
-          | inr ne ↦ ap calls_in (cpu_else s me c cpu ne)
-        ];
-      };
+      leaves = search (length-set, cases_eq, cpu_here, cpu_else, arith);
     }
 
   -- the stop of a source goes on, and the CPU's part
   module _ (source : ℕ) (x : Stop) (y : ToldStop) (c : CpuState) (m : source < cpus) (k : OneStop p q me source x (stop_at s source) y)
       (here : StopIs x y) where
     standing_else : (cpu : ℕ) → cpu ≢ me → (j : ℕ) → (q.now.stop j).standing cpu ≡ (p.now.stop j).standing cpu
-    standing_else cpu ne j = ap (λ (z : Stop). z.standing cpu) (k.stop_is j)
-        ∙ put_all (λ i (z : Stop). z.standing cpu ≡ (p.now.stop i).standing cpu) p.now.stop source x (k.standing cpu ne) (λ i other. refl) j
-
-    ran_else : (cpu : ℕ) → cpu ≢ me → (j : ℕ) → has_run (stop_at (with_stop source s y) j) cpu ≡ has_run (stop_at s j) cpu
-    ran_else cpu ne j = elim (cases_eq j source) [
-      | inl e ↦ rw (e, stop_here s source y f.stops_are m) (k.ran cpu ne)
-      | inr other ↦ ap (λ (z : ToldStop). has_run z cpu) (stop_else s source y j other)
-    ]
+    standing_else cpu ne j = search (put_all, arith)
 
     work_else : (j : ℕ) → (q.now.stop j).work ≡ (p.now.stop j).work
-    work_else j = ap (λ (z : Stop). z.work) (k.stop_is j)
-        ∙ put_all (λ i (z : Stop). z.work ≡ (p.now.stop i).work) p.now.stop source x k.work (λ i other. refl) j
+    work_else j = search (put_all, arith)
 
     patch_set : (t : StateValue) → t.stops ≡ (with_stop source s y).stops → t.words ≡ s.words → (cpu : ℕ) → cpu ≢ me → (j : ℕ) → p.now.inside cpu ≡ Some j
         → PatchIs p s cpu j → PatchIs q t cpu j
@@ -271,7 +238,7 @@ module _ (p q : StopState) (at at' : Word → ℕ) (pasts : List Past) (s : Stat
           standing = λ j inside. standing_else cpu ne j;
           inside_told = ap (λ (z : CpuState). z.inside) (cpu_else (with_stop source s y) me c cpu ne);
           irq_told = ap (λ (z : CpuState). z.irq) (cpu_else (with_stop source s y) me c cpu ne);
-          ran = λ j inside l. ran_else cpu ne j;
+          ran = λ j inside l. search (cases_eq, stop_here, stop_else, arith);
           work = λ j inside. work_else j;
           patch = λ j inside l i. patch_set after_set refl refl cpu ne j inside i;
         };
@@ -279,16 +246,7 @@ module _ (p q : StopState) (at at' : Word → ℕ) (pasts : List Past) (s : Stat
         keys = keys;
         sites = sites;
       });
-      leaves = record {
-        setting = refl;
-        places = refl;
-        entries = refl;
-        cpus_are = length-set s.cpus me c;
-        calls = λ cpu. elim (cases_eq cpu me) [
-          | inl e ↦ rw e (ap calls_in (cpu_here (with_stop source s y) me c cpus_are below) ∙ calls)
-          | inr ne ↦ ap calls_in (cpu_else (with_stop source s y) me c cpu ne)
-        ];
-      };
+      leaves = search (length-set, cases_eq, cpu_here, cpu_else, arith);
     }
 
     -- no CPU is told to be another
@@ -311,7 +269,7 @@ module _ (p q : StopState) (at at' : Word → ℕ) (pasts : List Past) (s : Stat
           standing = λ j inside. standing_else cpu ne j;
           inside_told = refl;
           irq_told = refl;
-          ran = λ j inside l. ran_else cpu ne j;
+          ran = λ j inside l. search (cases_eq, stop_here, stop_else, arith);
           work = λ j inside. work_else j;
           patch = λ j inside l i. patch_set (with_stop source s y) refl refl cpu ne j inside i;
         };

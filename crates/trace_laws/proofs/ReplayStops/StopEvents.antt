@@ -1,23 +1,20 @@
 -- What events of stops make of a state that leaves nothing out, where their premises hold.
-use Rattle.trace_laws.proofs.Names.{Bool, Err, Kind, Multi, None, Ok, One, Option, Reason, Result, Setting, Some, StateValue, Stop, Task, ack_by, acked_by}
+use Rattle.trace_laws.proofs.Names.{Bool, Err, Kind, Multi, None, Ok, One, Reason, Result, Setting, Some, StateValue, Stop, Task, ack_by, acked_by}
 use Rattle.trace_laws.proofs.Names.{acknowledged, answer_wanted, ap, arith, collect_by, collected, complete_by, completed, cond, cpu_at, enter_by, entered}
 use Rattle.trace_laws.proofs.Names.{eq-eqb, false, false≢true, gate_by, gives, handles_nothing, has, has_run, if_low, in_round, int_eq, is_called, is_cpu}
 use Rattle.trace_laws.proofs.Names.{is_work, le-ltb, lt-leb, lt-ltb, may_complete, not, off_by, offline_in, on_by, open_by, opened, raise_by, raised}
-use Rattle.trace_laws.proofs.Names.{ran_function, refl, run_by, slice_set, stop_at, stop_of, true, true≢false, unfinished, ungate_by, unless_offline}
+use Rattle.trace_laws.proofs.Names.{ran_function, refl, run_by, slice_set, stop_at, stop_of, true, true≢false, unfinished, ungate_by}
 use Rattle.trace_laws.proofs.Names.{with_inside, with_irq, with_stop, ℕ, ℤ, ◌&&◌, ◌-◌, ◌<◌, ◌==◌, ◌>>=◌, ◌∙◌, ◌≡◌, ◌≢◌, ◌≤◌}
 use Rattle.trace_laws.proofs.ReplayNames.{Without, cpus, nothing_left_out, opening}
 use Rattle.trace_model.specs.declared.reason.Reason.TheVariants as reason
 use Rattle.smp_words.specs.declared.phase.TheConstants.{DISABLE_IRQ, RUN, EXIT}
 
 passes : {A : Type 0} (b : Bool) (x y : A) → b ≡ true → cond b x y ≡ x
-passes true x y e = refl
-passes false x y e = absurd (false≢true e)
+passes b x y e = search (false≢true, arith)
 
 opened_made : (u : Setting) (task : Task) → is_work u task ≡ true → offline_in u task.mask ≡ None → opened u task ≡ Ok (opening task)
 unfolding opened
-opened_made u task work online =
-    passes (is_work u task) (unless_offline (offline_in u task.mask) (opening task)) (Err reason.NoSuchWork) work
-    ∙ ap (λ (x : Option ℕ). unless_offline x (opening task)) online
+opened_made u task work online = search (passes, arith)
 
 -- the function of a stop is entered
 ran_one : (stop : Stop) (me func arg : ℕ) → stop.task.kind ≡ One → has_run stop me ≡ false → stop.task.func ≡ func → stop.task.arg ≡ arg
@@ -29,26 +26,19 @@ ran_multi : (stop : Stop) (me func arg : ℕ) → stop.task.kind ≡ Multi → h
     → has_run stop me ≡ false
     → stop.task.func ≡ func → stop.task.arg ≡ arg → ran_function me func arg stop ≡ Ok (record stop { ran = slice_set stop.ran me true })
 unfolding ran_function
-ran_multi stop me func arg kind active low at not_yet f a =
-    rw (kind, active, lt-leb 3 (acked_by stop me) low, at, not_yet, eq-eqb stop.task.func func f, eq-eqb stop.task.arg arg a) refl
+ran_multi stop me func arg kind active low at not_yet f a = search (lt-leb, eq-eqb, arith)
 
 -- a CPU that may answer so completes
 abbrev pub MayAnswer : Stop → ℕ → ℤ → Type 0
 MayAnswer stop me answer = (not (has_run stop me) && not (int_eq answer (answer_wanted stop me))) ≡ false
 
 fails : {A : Type 0} (b : Bool) (x y : A) → b ≡ false → cond b x y ≡ y
-fails true x y e = absurd (true≢false e)
-fails false x y e = refl
+fails b x y e = search (true≢false, arith)
 
 completed_one : (stop : Stop) (me : ℕ) (answer : ℤ) (irq : Bool) → stop.task.kind ≡ One → has_run stop me ≡ true
     → completed me answer irq stop ≡ Ok (record stop { answers = slice_set stop.answers me (Some answer) })
 unfolding completed
 completed_one stop me answer irq kind ran = rw (kind, ran) refl
-
-may_round : (kind : Kind) (stop : Stop) (me : ℕ) (irq : Bool) → kind ≢ One → EXIT ≤ acked_by stop me → is_cpu stop.raiser me ≡ false → irq ≡ true
-    → may_complete kind me irq stop ≡ Ok tt
-may_round One stop me irq ne high not_last on = absurd (ne refl)
-may_round _ stop me irq ne high not_last on = rw (le-ltb (acked_by stop me) 4 high, not_last, on) refl
 
 then_made : {A : Type 0} (first : Result (Unit {0}) Reason) (next : Unit {0} → Result A Reason) → first ≡ Ok tt → (first >>= next) ≡ next tt
 then_made first next e = ap (λ (x : Result (Unit {0}) Reason). x >>= next) e
@@ -61,7 +51,7 @@ completed_round stop me answer irq ne high not_last on may =
     let wrong = Err (reason.AnswerIs (answer_wanted stop me)) in
     then_made (may_complete stop.task.kind me irq stop)
     (λ u. cond (not (has_run stop me) && not (int_eq answer (answer_wanted stop me))) wrong made)
-    (may_round stop.task.kind stop me irq ne high not_last on)
+    (search (le-ltb, arith))
     ∙ fails (not (has_run stop me) && not (int_eq answer (answer_wanted stop me))) wrong made may
 
 -- an event of stops, keys or sites is made by a CPU below 32
@@ -96,8 +86,7 @@ module _ (s : StateValue) (me : ℕ) (whole : s.setting.without ≡ nothing_left
     is_in = rw (inside, lt-ltb source 32 below) refl
 
     rounds : (kind : Kind) → (stop_at s source).task.kind ≡ kind → kind ≢ One → in_round me s ≡ Ok source
-    rounds One e ne = absurd (ne refl)
-    rounds _ e ne = rw (inside, lt-ltb source 32 below, e) refl
+    rounds kind e ne = search (lt-ltb, arith)
 
     pub turns_off : (stop_at s source).task.kind ≢ One → (cpu_at s me).irq ≡ true → acked_by (stop_at s source) me < DISABLE_IRQ
         → (stop_at s source).phase ≡ DISABLE_IRQ
@@ -137,8 +126,7 @@ module _ (s : StateValue) (me : ℕ) (whole : s.setting.without ≡ nothing_left
         → (stop_at s source).phase ≡ RUN → has_run (stop_at s source) me ≡ false → (stop_at s source).task.func ≡ func → (stop_at s source).task.arg ≡ arg
         → run_by me func arg s ≡ Ok (with_stop source s (record (stop_at s source) { ran = slice_set (stop_at s source).ran me true }))
     unfolding run_by
-    runs_multi func arg kind active low at not_yet f a =
-        rw (inside, lt-ltb source 32 below, kind, ran_multi (stop_at s source) me func arg kind active low at not_yet f a) refl
+    runs_multi func arg kind active low at not_yet f a = search (lt-ltb, ran_multi, arith)
 
     -- a phase is acknowledged, which the CPU has not acknowledged, and which is that of the stop
     pub acks_other : (phase : ℕ) → (stop_at s source).task.kind ≢ One → acked_by (stop_at s source) me < phase → (stop_at s source).phase ≡ phase
@@ -203,8 +191,7 @@ module _ (s : StateValue) (me : ℕ) (whole : s.setting.without ≡ nothing_left
         → is_cpu (stop_at s source).raiser me ≡ false → (cpu_at s me).irq ≡ true → MayAnswer (stop_at s source) me answer
         → complete_by me answer s ≡ Ok (done_with answer)
     unfolding complete_by
-    completes_round answer ne high not_last on may =
-        rw (inside, lt-ltb source 32 below, completed_round (stop_at s source) me answer (cpu_at s me).irq ne high not_last on may) refl
+    completes_round answer ne high not_last on may = search (lt-ltb, completed_round, arith)
 
   -- a source collects
   pub collects_result : (answer : ℤ) → (stop_at s me).is_open ≡ true → unfinished (stop_at s me) ≡ None → gives (stop_at s me) answer ≡ true

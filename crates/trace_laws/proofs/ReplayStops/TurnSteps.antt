@@ -3,7 +3,7 @@ use Rattle.trace_laws.proofs.Names.{Bool, Kind, Multi, None, One, Option, Some, 
 use Rattle.trace_laws.proofs.Names.{false≢true, has, inl, inr, refl, slice_set, stop_at, subst, sym, true, true≢false, ℕ, ◌&&◌, ◌++◌, ◌+◌, ◌==◌, ◌∙◌, ◌∷◌, ◌≡◌}
 use Rattle.trace_laws.proofs.Names.{◌≢◌, ◌≤◌, ◌⊎◌}
 use Rattle.trace_laws.proofs.ReplayNames.{Advance, Calls, CarriesAt, Duty, Idle, In, Inside, InsideIs, IsCalling, IsQuiet, Keeps, Note, OpenIs, OpenShows, Past}
-use Rattle.trace_laws.proofs.ReplayNames.{Patch, PhaseIs, Rests, RoundStage, StopRole, SitsAt, SitsInRound, Slot, Standing, RoleStands, Stop}
+use Rattle.trace_laws.proofs.ReplayNames.{Patch, Rests, RoundStage, StopRole, SitsAt, SitsInRound, Slot, Standing, RoleStands, Stop}
 use Rattle.trace_laws.proofs.ReplayNames.{StopOutcome, StopStage}
 use Rattle.trace_laws.proofs.ReplayNames.{StopState, Visit, Work, calls_now, irq_of, is_multi, is_new, is_open_inside, keeps_inside, looked_on, may_call}
 use Rattle.trace_laws.proofs.ReplayNames.{of_arg, phase_of, put, put_all, put_other, put_same, reads, stands, stop_ends, stop_goes}
@@ -20,8 +20,7 @@ use Rattle.trace_laws.proofs.{ReplayStops.Moves.looked_step, ReplayStops.Moves.o
 use Rattle.smp_words.specs.declared.phase.TheConstants.{DISABLE_IRQ, RUN, OVER}
 
 pub then_if : {A : Type 0} (b : Bool) (x y : A) → b ≡ true → cond b x y ≡ x
-then_if true x y e = refl
-then_if false x y e = absurd (false≢true e)
+then_if b x y e = search (false≢true, arith)
 
 module _ (known : Here) where
   open known use {p, shown, me, below, pasts, s, f, quiet}
@@ -94,13 +93,8 @@ module _ (known : Here) where
         ≡ put p.now.stop slot (stands (p.now.stop slot) me (Inside a (At (Slot slot field.State)))) j
     looked_same j = ap (λ (z : Standing). put p.now.stop slot (stands (p.now.stop slot) me (looked_by z (At (Slot slot field.State)))) j) so.1
 
-    irq_still : (two : Bool) → (two ≡ true → p.now.irq me ≡ false) → (cond two (put p.now.irq me false) p.now.irq) me ≡ p.now.irq me
-    irq_still true off = put_same p.now.irq me false ∙ sym (off refl)
-    irq_still false off = refl
-
     irq_other : (two : Bool) (d : ℕ) → d ≢ me → (cond two (put p.now.irq me false) p.now.irq) d ≡ p.now.irq d
-    irq_other true d ne = put_other p.now.irq me false d ne
-    irq_other false d ne = refl
+    irq_other two d ne = search (put_other, arith)
 
     -- no event
     looks_on : (two : Bool) (new : Past) → (two ≡ true → p.now.irq me ≡ false) → new.answer ≡ Old.answer
@@ -112,7 +106,7 @@ module _ (known : Here) where
         (record {
           stop_is = looked_same;
           inside_is = so.0;
-          irq_is = irq_still two off;
+          irq_is = search (put_same, arith);
           calling_is = refl;
           inside_else = λ d ne. refl;
           irq_else = irq_other two;
@@ -156,16 +150,10 @@ module _ (known : Here) where
     Said same x answer = (cond same (stop_ends C note.Same) (looked_on me C x answer (At (Slot slot field.State)))).note
 
     old_phase : (At (Slot slot field.State) == a) ≡ true → At (Slot slot field.State) ≢ 0 → Old.phase ≡ At (Slot slot field.State)
-    old_phase e ne =
-        let same = eqb-true (At (Slot slot field.State)) a e in
-        let k : PhaseIs (Inside a a) Old.phase = subst (λ (z : Standing). PhaseIs z Old.phase) so.1 ((my known).stop slot so.0).phase in
-        k (λ z. ne (same ∙ z)) ∙ sym same
+    old_phase e ne = search (eqb-true, my, arith)
 
     next_is : (At (Slot slot field.State) == a) ≡ false → At (Slot slot field.State) ≡ a + 1
-    next_is e = elim found_is [
-      | inl same ↦ absurd (eqb-false (At (Slot slot field.State)) a e same)
-      | inr next ↦ next
-    ]
+    next_is e = search (found_is, eqb-false, arith)
 
     off_at : (n : ℕ) → a ≡ n → n ≡ DISABLE_IRQ → p.now.irq me ≡ false
     off_at n e two = irq_here slot a a w Rests at_seat ∙ rw (e, two) refl
@@ -175,17 +163,13 @@ module _ (known : Here) where
         (by me (cond (two && is_new (Said same x answer)) (told.One (event.Stop stops.Off)) told.Nothing))
     look_by x answer true true e two =
         let same = eqb-true (At (Slot slot field.State)) a e in
-        let second = eqb-true (At (Slot slot field.State)) 2 two in
-        looks_on true Old (λ z. off_at a refl (sym same ∙ second)) refl (old_phase e) (my known).reads
+        looks_on true Old (λ z. off_at a refl (sym same ∙ (eqb-true (At (Slot slot field.State)) 2 two))) refl (old_phase e) (my known).reads
     look_by x answer true false e two = looks_on false Old (λ z. absurd (false≢true z)) refl (old_phase e) (my known).reads
     look_by x answer false true e two =
         let second = eqb-true (At (Slot slot field.State)) 2 two in
-        let next = next_is e in
-        looks_off New second (omega (arith, second, next)) refl phase_new
+        looks_off New second (omega (arith, second, (next_is e))) refl phase_new
     look_by x answer false false e two =
-        let next = next_is e in
-        let small = found_small in
-        looks_on false New (λ z. absurd (false≢true z)) refl phase_new (λ three. off_at a refl (omega (arith, three, next, small)))
+        looks_on false New (λ z. absurd (false≢true z)) refl phase_new (λ three. off_at a refl (omega (arith, three, (next_is e), found_small)))
 
   pub looks : (x : Visit) (answer : ℕ) → C.stage ≡ Some (Advance x (round.Look answer)) → Made (Advance x (round.Look answer))
   looks x answer e =
@@ -211,12 +195,9 @@ module _ (known : Here) where
       → Runs (calls_now p me (p.now.stop slot).work (At (Slot slot field.Arg)) answer) slot func (At (Slot slot field.Arg))
   runs_at slot w x answer func at_seat kind active is quiet_now =
       let so = st slot 2 3 w Rests at_seat in
-      let o = opened_here slot 2 3 w Rests at_seat in
       let idle = idle_here slot w x (calling_here slot 2 3 w Rests at_seat) quiet_now in
-      let k = keeps_here slot 2 3 w Rests at_seat in
-      let words = words_here slot 2 3 w Rests at_seat in
-      let phase : (p.now.stop slot).phase ≡ RUN = at_three 3 2 (p.now.stop slot).phase refl refl k.2 in
-      runs_told known At (λ j. refl) (λ j. refl) slot so.0 o
+      let phase : (p.now.stop slot).phase ≡ RUN = at_three 3 2 (p.now.stop slot).phase refl refl (keeps_here slot 2 3 w Rests at_seat).2 in
+      runs_told known At (λ j. refl) (λ j. refl) slot so.0 (opened_here slot 2 3 w Rests at_seat)
       (calls_now p me (p.now.stop slot).work (At (Slot slot field.Arg)) answer) 2 3 func (At (Slot slot field.Arg))
       (Calls (record { func = (p.now.stop slot).work.func; arg = At (Slot slot field.Arg); answer = answer })) so.1 idle refl
       (record {
@@ -233,7 +214,7 @@ module _ (known : Here) where
         patching_is = refl;
       })
       (inr (ap (λ (z : Work). z.kind) so.3 ∙ kind, (ap (λ (z : Work). has z.active me) so.3 ∙ active, (refl, phase))))
-      (ap (λ (z : Work). z.func) so.3 ∙ sym is) (sym words.written.arg)
+      (ap (λ (z : Work). z.func) so.3 ∙ sym is) (sym (words_here slot 2 3 w Rests at_seat).written.arg)
     where
       at_three : (l n phase : ℕ) → l ≡ RUN → n ≡ DISABLE_IRQ → ((l ≡ n) ⊎ ((l ≡ n + 1) × (phase ≡ l))) → phase ≡ RUN
       at_three l n phase three two (inl e) = absurd (omega arith)
@@ -248,7 +229,6 @@ module _ (known : Here) where
       let carries : IsQuiet C.visit (p.calling me) = subst (λ (o : Option StopStage). CarriesAt C.visit o (p.calling me)) e (shown.carries me below) in
       let visit : C.visit ≡ Some x = (subst (λ (o : Option StopStage). SitsAt U me C o (shown.seat me)) e (shown.sits me below).seat).0 in
       let quiet_now : IsQuiet (Some x) (p.calling me) = subst (λ (o : Option Visit). IsQuiet o (p.calling me)) visit carries in
-      let r = runs_at slot w x answer func run.3 kind active func_is quiet_now in
       let may : may_call me (p.now.stop slot).work ((p.now.stop slot).standing me) ≡ true =
       ap (λ (z : Standing). may_call me (p.now.stop slot).work z) so.1 ∙ (ap (λ (z : Work). may_call me z (Inside DISABLE_IRQ RUN)) so.3
       ∙ may_at w kind active) in
@@ -259,7 +239,7 @@ module _ (known : Here) where
       (stop_goes C (Advance x (round.LoadKey func (change_of (At (Slot slot field.Arg)))))) multi
       (subst (λ (q : StopState). Runs q slot func (At (Slot slot field.Arg))) (sym (then_if (may_call me (p.now.stop slot).work
       ((p.now.stop slot).standing me))
-      (calls_now p me (p.now.stop slot).work (At (Slot slot field.Arg)) answer) p may)) r)
+      (calls_now p me (p.now.stop slot).work (At (Slot slot field.Arg)) answer) p may)) (runs_at slot w x answer func run.3 kind active func_is quiet_now))
     where
       may_at : (w : Work) → w.kind ≡ Multi → has w.active me ≡ true → may_call me w (Inside DISABLE_IRQ RUN) ≡ true
       may_at w kind active = rw (kind, active) refl
@@ -269,8 +249,7 @@ module _ (known : Here) where
             note = Some (note.Run func (At
                 (Slot slot field.Arg)));
           }) b).note))
-      said_by slot q true func a b e r = r
-      said_by slot q false func a b e r = absurd (false≢true e)
+      said_by slot q multi func a b e r = search (false≢true, arith)
 
   -- the argument of a patch is loaded, of which nothing is told
   loads_change : (x : Visit) (answer func : ℕ) (w : Work) → SitsAtRun me x w (shown.seat me) → w.kind ≡ Patch → Made (Advance x (round.LoadArg answer func))
@@ -298,8 +277,7 @@ module _ (known : Here) where
             note = Some (note.Run func (At
                 (Slot slot field.Arg)));
           }) (stop_goes C next)).note))
-      said_by slot q true func a next e r = absurd (true≢false e)
-      said_by slot q false func a next e r = r
+      said_by slot q multi func a next e r = search (true≢false, arith)
 
   pub loads_arg : (x : Visit) (answer func : ℕ) → C.stage ≡ Some (Advance x (round.LoadArg answer func)) → Made (Advance x (round.LoadArg answer func))
   loads_arg x answer func e =

@@ -1,5 +1,5 @@
 -- The words of an event, and that they read back.
-use Rattle.trace_laws.proofs.Names.{Bool, CallEvent, Event, LabelEvent, List, Ok, Setting, StopEvent, [], append_assoc, arith, codes, decimal, false}
+use Rattle.trace_laws.proofs.Names.{Bool, CallEvent, Event, LabelEvent, List, Ok, Setting, StopEvent, [], append_assoc, arith, codes, decimal}
 use Rattle.trace_laws.proofs.Names.{join_with_byte, list_all, nat_tests, refl, true, ℕ, ◌<◌, ◌∷◌, ◌≡◌, ◌≤◌}
 use Rattle.trace_laws.proofs.ReplayNames.{EventFits, StopFits, class_text, is_field, is_field-decimal, kind_text, mask_text, nothing_left_out, site_text}
 use Rattle.trace_laws.proofs.ReplayNames.{switch_text, way_text}
@@ -11,7 +11,7 @@ use Rattle.trace_model.specs.declared.event.Event.TheVariants as event
 use Rattle.trace_model.specs.declared.event.LabelEvent.TheVariants as labels
 use Rattle.trace_model.specs.declared.event.StopEvent.TheVariants as stops
 use Rattle.trace_judge.specs.{Reading.below, Reading.jump_of, Reading.named_of}
-use Rattle.trace_events.specs.Text.{call_text, event_text, label_text, stop_text}
+use Rattle.trace_events.specs.Text.{event_text}
 use Rattle.trace_laws.specs.{ReplayTexts.CallFits, ReplayTexts.LabelFits}
 
 -- a trace leaves nothing out, and its keys and sites have numbers of 32 bits
@@ -63,25 +63,12 @@ words_of (event.Call call) = call_words call
 words_of (event.Stop stop) = stop_words stop
 words_of (event.Label label) = label_words label
 
--- the text of an event is its words with a space between each two
-call_joined : (e : CallEvent) → call_text e ≡ join_with_byte 32 ((call_words e).name ∷ (call_words e).arguments)
-call_joined _ = search (append_assoc, arith)
-
-stop_joined : (e : StopEvent) → stop_text e ≡ join_with_byte 32 ((stop_words e).name ∷ (stop_words e).arguments)
-stop_joined _ = search (append_assoc, arith)
-
-label_joined : (e : LabelEvent) → label_text e ≡ join_with_byte 32 ((label_words e).name ∷ (label_words e).arguments)
-label_joined _ = search (append_assoc, arith)
-
 pub joined_words : (e : Event) → event_text e ≡ join_with_byte 32 ((words_of e).name ∷ (words_of e).arguments)
-joined_words (event.Call call) = call_joined call
-joined_words (event.Stop stop) = stop_joined stop
-joined_words (event.Label label) = label_joined label
+joined_words e = search (append_assoc, arith)
 
 -- the name of what a site has is a field, and is read as that
 site_written : (jumps : Bool) → (is_field (site_text jumps) ≡ true) × (jump_of (site_text jumps) ≡ Ok jumps)
-site_written true = (refl, refl)
-site_written false = (refl, refl)
+site_written jumps = search arith
 
 -- words that are fields, and are read as the event
 pub record Reads (u : Setting) (w : Words) (e : Event) : Type 0 where

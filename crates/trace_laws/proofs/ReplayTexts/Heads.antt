@@ -32,11 +32,10 @@ pub cpus_read : (nr online : ℕ) (mask : List ℕ) (rest : List Line) → 1 ≤
 unfolding cpus_at needed
 cpus_read nr online mask rest some few field is_mask are short =
     let text = join_with_byte 32 (cpus_words nr mask) in
-    let used = used_within 2 12 text (omega arith) short (omega (arith, short)) in
     let back = fields_join (codes "cpus") (decimal nr ∷ mask ∷ []) (cpus_fields nr mask few field) in
     let read : whole_cpus 32 (fields_of text) ≡ Ok (nr, online) =
     ap (whole_cpus 32) back ∙ cpus_are_read 32 nr online mask some few (omega arith) field is_mask are in
-    rw (used, read) refl
+    rw ((used_within 2 12 text (omega arith) short (omega (arith, short))), read) refl
 
 -- the line of the labels
 pub labels_read : (labels : Labels) (used : ℕ) (rest : List Line) → AreLabels labels.keys labels.entries → used ≤ 4096
@@ -46,11 +45,10 @@ pub labels_read : (labels : Labels) (used : ℕ) (rest : List Line) → AreLabel
 unfolding labels_at
 labels_read labels used rest are few short =
     let text = join_with_byte 32 (labels_words labels) in
-    let more = used_within 3 used text (omega arith) short (omega (arith, short, few)) in
     let back = fields_join (codes "labels") (decimal labels.keys ∷ items_text labels.entries ∷ []) (labels_fields labels are) in
     let is : is_labels (fields_of text) ≡ true = ap is_labels back in
     let read : whole_labels (fields_of text) ≡ Ok labels = ap whole_labels back ∙ labels_told labels are in
-    rw (more, is, read) refl
+    rw ((used_within 3 used text (omega arith) short (omega (arith, short, few))), is, read) refl
 
 -- a number is no word
 no_number : (n : ℕ) (word : List ℕ) → n < 2 ^ 64 → is_decimal word ≡ false → bytes_eq (decimal n) word ≡ false
@@ -94,6 +92,5 @@ pub without_read : (u : Setting) (number used : ℕ) (events : List (ℕ × Even
 unfolding without_at
 without_read u number used [] all told room = refl
 without_read u number used ((cpu, e) ∷ events) all told room =
-    let first = first_line u cpu e (lines_text events) all told.0 in
     let other : bytes_eq (decimal cpu) (codes "without") ≡ false = no_number cpu (codes "without") (omega (arith, told.0.0)) refl in
-    rw (first, room_first u number used cpu e events all told.0 room, line_words u cpu e all told.0, other) refl
+    rw ((first_line u cpu e (lines_text events) all told.0), room_first u number used cpu e events all told.0 room, line_words u cpu e all told.0, other) refl

@@ -66,8 +66,7 @@ texts_are_lawful text script commands core steps stopped lawful fits args is_rep
     let mask = spelled.0 in
     let s = spelled.2 in
     let are = labels_are script.labels s.labels in
-    let few = few_cpus script.version in
-    let limits = limits_are script.nr script.online mask s.some (omega (arith, s.within, few))
+    let limits = limits_are script.nr script.online mask s.some (omega (arith, s.within, (few_cpus script.version)))
     (trace_mask script.version mask script.online s.mask_is.reads) s.online in
     let whole = new_whole script.nr script.online labels limits are in
     let none = new_none script.nr script.online labels limits are in

@@ -1,15 +1,12 @@
 -- The trace of a script is that of its replay, and is judged lawful.
-use Rattle.trace_laws.proofs.Names.{arith, AllByRecursion, Err, List, None, Ok, Option, Result, Some, [], ap, cond, map, pos, refl, subst, suc, sym, w32, zero}
-use Rattle.trace_laws.proofs.Names.{ℕ, ℤ, ◌++◌, ◌+◌, ◌∷◌, ◌≡◌}
-use Rattle.trace_laws.proofs.ReplayNames.{ArgFits, CoreValue, FitsCpus, IsAnswer, IsReplay, Seen, SmpError, Version, labels_or_none, limit_of, new_core}
+use Rattle.trace_laws.proofs.Names.{arith, AllByRecursion, List, Option, Result, [], ap, cond, map, refl, subst, suc, sym, zero}
+use Rattle.trace_laws.proofs.Names.{ℕ, ◌++◌, ◌+◌, ◌∷◌, ◌≡◌}
+use Rattle.trace_laws.proofs.ReplayNames.{ArgFits, CoreValue, FitsCpus, IsReplay, Seen, SmpError, Version, labels_or_none, limit_of, new_core}
 use Rattle.trace_laws.proofs.ReplayNames.{replay_from, replay_made, replay_on, script_is_spelled}
 use Rattle.std.proofs.Common.{negsuc}
-use Rattle.std.specs.Prelude.{FitsSigned}
-use Rattle.smp_words.specs.declared.command.Event.TheVariants as command
-use Rattle.smp_words.specs.{declared.command.Command.Command as Started, declared.command.Event.Event as Command}
+use Rattle.smp_words.specs.{declared.command.Event.Event as Command}
 use Rattle.smp_core.specs.Replay.{turn_of}
-use Rattle.smp_script.specs.Spelling.{CommandFits, DirectiveFits, Masks, SpellLine, SpellMasks}
-use Rattle.smp_script.specs.declared.directive.Directive.TheVariants as directive
+use Rattle.smp_script.specs.Spelling.{DirectiveFits, Masks, SpellLine}
 use Rattle.smp_script.specs.{Script.first_line, declared.directive.Directive.Directive, declared.mode.Mode.TheVariants.Replay}
 use Rattle.trace_events.specs.Rows.{asked_cpu, is_refused, looked_at, rows_of, turns_in, what_of}
 use Rattle.trace_events.specs.{Moments.moments_at, Moments.moments_of, Moments.steps_at, Replays.rows_of_script, ScriptTrace.steps_of}
@@ -26,9 +23,7 @@ answer_seen : (ms : List Moment) → Same ms → (core : CoreValue) (number line
     → let row : Row = record { number = number; line = line; cpu = cpu; what = what_of answer } in
     steps_of (row ∷ cond (is_refused row.what) [] (rows_of core next ms))
     ≡ (replay_on position core answer (replay_from (position + 1) core (commands_at ms))).seen
-answer_seen ms ih core number line cpu next position (Err why) = refl
-answer_seen ms ih core number line cpu next position (Ok None) = ih core next (position + 1)
-answer_seen ms ih core number line cpu next position (Ok (Some seen)) = ap (λ xs. seen ∷ xs) (ih core next (position + 1))
+answer_seen ms ih core number line cpu next position answer = search arith
 
 asked_seen : (ms : List Moment) → Same ms → (core : CoreValue) (number position line cpu : ℕ) (a : Asked)
     → let l = looked_at core number line cpu a in
@@ -46,26 +41,12 @@ rows_seen (m ∷ ms) core number position = asked_seen ms (rows_seen ms) core nu
 abbrev Fine : Command → Type 0
 Fine c = FitsCpus c × ArgFits c
 
-signed_fits : (z : ℤ) → IsAnswer z → FitsSigned w32 z
-signed_fits (pos n) l = record { sfits = l }
-signed_fits (negsuc n) l = record { sfits = l }
-
-start_fine : (version : Version) (masks : Masks) (cpu : ℕ) (c : Started) → CommandFits c → SpellMasks (limit_of version) masks c → Fine (command.Start cpu c)
-start_fine version masks cpu c h1 h2 = search (mask_fits, trace_mask, signed_fits, arith)
-
 abbrev AreFine : List Moment → Type 0
 AreFine ms = AllByRecursion Fine (commands_at ms)
 
 fine_steps : (line cpu count : ℕ) → AreFine (steps_at line cpu count)
 fine_steps line cpu zero = tt
 fine_steps line cpu (suc count) = ((tt, tt), fine_steps line cpu count)
-
-fine_one : (version : Version) (online line : ℕ) (masks : Masks) (d : Directive) → DirectiveFits Replay online d → SpellLine (limit_of version) (masks, d)
-    → AreFine (moments_at line d)
-fine_one version online line masks (directive.Start cpu c) f s = (start_fine version masks cpu c f.1 s, tt)
-fine_one version online line masks (directive.Step cpu count) f s = fine_steps line cpu count
-fine_one version online line masks directive.Show f s = tt
-fine_one version online line masks (directive.Do cpu count request) f s = absurd f
 
 fine_asked : (a : Asked) (cs ds : List Command) → (AllByRecursion Fine cs → AllByRecursion Fine ds) → AllByRecursion Fine (command_in a ++ cs)
     → AllByRecursion Fine (command_in a ++ ds)
@@ -80,7 +61,7 @@ fine_lines : (version : Version) (online line : ℕ) (lines : List (Masks × Dir
     → AllByRecursion (SpellLine (limit_of version)) lines → AreFine (moments_of line (map (λ l. l.1) lines))
 fine_lines version online line [] f s = tt
 fine_lines version online line ((masks, d) ∷ lines) f s =
-    fine_both (moments_at line d) (moments_of (line + 1) (map (λ l. l.1) lines)) (fine_one version online line masks d f.0 s.0)
+    fine_both (moments_at line d) (moments_of (line + 1) (map (λ l. l.1) lines)) (search (mask_fits, trace_mask, negsuc, fine_steps, arith))
     (fine_lines version online (line + 1) lines f.1 s.1)
 
 fine_fit : (cs : List Command) → AllByRecursion Fine cs → AllByRecursion FitsCpus cs × AllByRecursion ArgFits cs

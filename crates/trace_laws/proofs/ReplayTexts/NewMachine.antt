@@ -1,15 +1,14 @@
 -- The machine of a script, before its first command.
-use Rattle.trace_laws.proofs.Names.{Bool, Cause, Entry, Err, Labels, List, MOST_KEYS, MOST_SITES, None, Ok, Option, Result, Some, [], and_parts, ap, arith}
-use Rattle.trace_laws.proofs.Names.{bytes_eq, cases_Bool, cases_lt, codes, cond, entry_at, entry_at-word, entry_word, false, first_site, get_or, has, inl, inr}
-use Rattle.trace_laws.proofs.Names.{length, length-append, length-map, length-replicate, map, members, nat_lt, nat_tests, refl, replicate, subst, suc, sym}
+use Rattle.trace_laws.proofs.Names.{Bool, Entry, Labels, List, MOST_KEYS, MOST_SITES, Ok, Option, [], and_parts, ap, arith}
+use Rattle.trace_laws.proofs.Names.{bytes_eq, cases_Bool, cases_lt, codes, entry_at, entry_at-word, entry_word, false, first_site, get_or, has, inl, inr}
+use Rattle.trace_laws.proofs.Names.{length, length-append, length-map, length-replicate, map, members, nat_lt, nat_tests, refl, replicate, suc, sym}
 use Rattle.trace_laws.proofs.Names.{true, true≢false, zero, ℕ, ◌%◌, ◌*◌, ◌++◌, ◌+◌, ◌-◌, ◌/◌, ◌<◌, ◌==◌, ◌^◌, ◌∙◌, ◌∷◌, ◌≡◌, ◌≤◌}
-use Rattle.trace_laws.proofs.ReplayNames.{AreLabels, ControlValue, IsWhole, LabelsFit, NR_CPUS, SLOT_WORDS, SmpError, StopControlValue, StopShown, are_online}
-use Rattle.trace_laws.proofs.ReplayNames.{cpus, get_or-same, labels_in, labels_or_none, mask_of, mask_of_text, new_core, new_shown, new_stops, no_calls}
-use Rattle.trace_laws.proofs.ReplayNames.{no_stops, or_mask, outside, same_members, slot_cell, stays_below, stop_number, stop_outside, table_size, zero_at}
+use Rattle.trace_laws.proofs.ReplayNames.{AreLabels, ControlValue, IsWhole, LabelsFit, NR_CPUS, SLOT_WORDS, StopControlValue, StopShown, are_online}
+use Rattle.trace_laws.proofs.ReplayNames.{cpus, get_or-same, labels_in, labels_or_none, mask_of, new_core, new_shown, new_stops, no_calls}
+use Rattle.trace_laws.proofs.ReplayNames.{no_stops, outside, same_members, slot_cell, stays_below, stop_number, stop_outside, table_size, zero_at}
 use Rattle.std.proofs.lemmas.Nat.Bits.{bit_at_cat_low}
 use Rattle.std.specs.Int.{bit_at}
 use Rattle.smp_mask.proofs.{Members.item_member, Sets.has_above, Sets.has_none, Walks.accepted}
-use Rattle.smp_mask.specs.declared.error.Cause.TheVariants.{Mask}
 use Rattle.smp_labels.proofs.Filled.{filled_lawful}
 use Rattle.smp_labels.specs.{Law.IsLawful, Law.site_word}
 use Rattle.smp_words.specs.declared.field.Field.TheVariants as field
@@ -31,12 +30,7 @@ new_lawful labels are = filled_lawful labels.keys labels.entries (map first_site
     (λ i. sites_off labels.entries (MOST_SITES - length labels.entries) i)
 
 pub new_none : (nr online : ℕ) (labels : Labels) → AreLimits nr online → AreLabels labels.keys labels.entries → StopShown no_stops (new_stops nr online labels)
-new_none nr online labels limits are = opened_shown online labels (new_stop_words labels) (replicate cpus stop_outside) limits.member
-    (λ cpu on. let l = limits.below cpu on in let w = limits.within in omega (arith, l, w)) are refl refl refl (new_lawful labels are) refl refl
-
-filled_sites : (word : Entry → ℕ) (es : List Entry) → length es ≤ MOST_SITES → length (map word es ++ replicate (MOST_SITES - length es) 0) ≡ MOST_SITES
-filled_sites word es few = length-append (map word es) (replicate (MOST_SITES - length es) 0)
-    ∙ rw (length-map es word, length-replicate {A = ℕ} (MOST_SITES - length es) 0) (omega (arith, few))
+new_none nr online labels limits are = search (opened_shown, new_lawful, arith)
 
 pub new_whole : (nr online : ℕ) (labels : Labels) → AreLimits nr online → AreLabels labels.keys labels.entries → IsWhole (new_core nr online labels)
 new_whole nr online labels limits are =
@@ -63,8 +57,8 @@ new_whole nr online labels limits are =
         table_is = record {
           slots = length-replicate {A = ℕ} SLOT_WORDS 0;
           keys = length-replicate {A = ℕ} MOST_KEYS 0;
-          entries = filled_sites entry_word labels.entries are.few_sites;
-          sites = filled_sites first_site labels.entries are.few_sites;
+          entries = search (length-append, length-map, length-replicate, arith);
+          sites = search (length-append, length-map, length-replicate, arith);
         };
         phases = λ s. rw (zero_at SLOT_WORDS (slot_cell s field.State)) (omega arith);
         results = λ s. rw (zero_at SLOT_WORDS (slot_cell s field.Result)) (omega arith);
@@ -76,25 +70,14 @@ new_whole nr online labels limits are =
 
 -- the labels of a script are lawful
 pub labels_are : (labels : Option Labels) → LabelsFit labels → AreLabels (labels_or_none labels).keys (labels_or_none labels).entries
-labels_are None fit = record { few_keys = omega arith; few_sites = omega arith; known = λ k d l. absurd (omega (arith, l)) }
-labels_are (Some labels) fit = fit
-
--- a mask that was read is of CPUs
-read_so : (low : Bool) (mask m : ℕ) → ◌≡◌ {A = Result ℕ Cause} (cond low (Ok mask) (Err Mask)) (Ok m) → ◌≡◌ {A = Result ℕ SmpError} (Ok mask) (Ok m)
-read_so true mask m h = let same : mask ≡ m = cc in ap (λ n. Ok n) same
-read_so false mask m h = absurd cc
-
-list_read : (read : Result ℕ SmpError) (m : ℕ) → or_mask 32 read ≡ Ok m → read ≡ Ok m
-list_read (Ok mask) m h = read_so (stays_below 32 mask) mask m h
-list_read (Err error) m h = absurd cc
+labels_are labels fit = search arith
 
 are_cpus : (text : List ℕ) (m : ℕ) → mask_of 32 text ≡ Ok m → (cpu : ℕ) → has m cpu ≡ true → cpu < NR_CPUS
 are_cpus text m h cpu on = elim (cases_Bool (bytes_eq text (codes "-"))) [
   | inl none ↦
-      let read : ◌≡◌ {A = Result ℕ Cause} (Ok 0) (Ok m) = rw none at h in
       let zero_ : 0 ≡ m = cc in
       absurd (true≢false (sym (ap (λ n. has n cpu) zero_ ∙ on) ∙ has_none cpu))
-  | inr some ↦ mask_below NR_CPUS text m (accepted NR_CPUS (omega arith) text m (list_read (mask_of_text NR_CPUS text) m (rw some at h))) cpu on
+  | inr some ↦ mask_below NR_CPUS text m (accepted NR_CPUS (omega arith) text m (search arith)) cpu on
 ]
 
 -- the CPUs of a script are those of a machine
@@ -109,24 +92,12 @@ limits_are nr online mask some few read are =
       below = member_below nr online (are_cpus mask online read) p.1;
     }
 
--- which stay below 32
-stays_by : (low : Bool) (mask m : ℕ) → stays_below 32 mask ≡ low → ◌≡◌ {A = Result ℕ Cause} (cond low (Ok mask) (Err Mask)) (Ok m) → stays_below 32 m ≡ true
-stays_by true mask m e h = let same : mask ≡ m = cc in subst (λ n. stays_below 32 n ≡ true) same e
-stays_by false mask m e h = absurd cc
-
-list_stays : (read : Result ℕ SmpError) (m : ℕ) → or_mask 32 read ≡ Ok m → stays_below 32 m ≡ true
-list_stays (Ok mask) m h = stays_by (stays_below 32 mask) mask m refl h
-list_stays (Err error) m h = absurd cc
-
 none_stays : stays_below 32 0 ≡ true
 none_stays = all_stay 32 0 (λ cpu on. absurd (true≢false (sym on ∙ has_none cpu)))
 
-stays_so : (text : List ℕ) (m : ℕ) → mask_of 32 text ≡ Ok m → stays_below 32 m ≡ true
-stays_so text m h1 = search (cases_Bool, codes, none_stays, list_stays, arith)
-
 -- a mask of a trace is of CPUs below 32
 masks_below : (text : List ℕ) (m : ℕ) → mask_of 32 text ≡ Ok m → (cpu : ℕ) → has m cpu ≡ true → cpu < 32
-masks_below text m h = member_below 32 m (are_cpus text m h) (stays_so text m h)
+masks_below text m h = member_below 32 m (are_cpus text m h) (search (cases_Bool, codes, none_stays, arith))
 
 -- so it has 32 bits
 low_bit : (m c : ℕ) → c < 32 → bit_at (m % 2 ^ 32) c ≡ bit_at m c

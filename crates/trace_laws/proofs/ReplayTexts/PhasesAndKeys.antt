@@ -1,13 +1,11 @@
 -- The phases, the keys and the sites of the steps of stops.
-use Rattle.trace_laws.proofs.Names.{AllByRecursion, Bool, Entry, Key, Kind, List, None, One, Option, Setting, Site, Some, [], arith, change_of, cond, entry_at}
-use Rattle.trace_laws.proofs.Names.{entry_word, false, is_on, length, length-map, ne_eqb, refl, subst, suc, sym, true, xor, zero, ℕ, ◌++◌, ◌+◌, ◌-◌, ◌<◌}
+use Rattle.trace_laws.proofs.Names.{AllByRecursion, Bool, Entry, Key, List, None, Option, Setting, Site, Some, [], arith, change_of, entry_at}
+use Rattle.trace_laws.proofs.Names.{entry_word, false, length, length-map, ne_eqb, subst, suc, sym, zero, ℕ, ◌++◌, ◌+◌, ◌-◌, ◌<◌}
 use Rattle.trace_laws.proofs.Names.{◌==◌, ◌∷◌, ◌≡◌, ◌≢◌, ◌≤◌}
-use Rattle.trace_laws.proofs.ReplayNames.{Advance, Alters, Begin, Change, Complete, CompletionStage, Field, Inside, InsideIs, IsKeyWord, LabelsShow, Past}
-use Rattle.trace_laws.proofs.ReplayNames.{Patching, PhaseIs, RoundStage, SitsAt, SitsInRound, Standing, StopStage, Visit, Work, begun_value, change_at, cpus}
+use Rattle.trace_laws.proofs.ReplayNames.{Advance, Alters, Begin, Change, Complete, CompletionStage, Field, Inside, IsKeyWord, LabelsShow, Past}
+use Rattle.trace_laws.proofs.ReplayNames.{Patching, RoundStage, SitsAt, SitsInRound, StopStage, Visit, Work, change_at}
 use Rattle.trace_laws.proofs.ReplayNames.{labels_in, plan_of, seen_of, site_change, site_changes, stop_found_at, stop_number, stop_seen_at, store_of}
 use Rattle.smp_labels.proofs.Patched.{left_in_form}
-use Rattle.smp_words.specs.declared.field.Field.TheVariants as field
-use Rattle.smp_stop_steps.specs.declared.stage.CompletionStage.TheVariants as completion
 use Rattle.smp_stop_steps.specs.declared.stage.RoundStage.TheVariants as round
 use Rattle.smp_stop_steps.specs.Labels.{count_set}
 use Rattle.trace_laws.proofs.ReplayPatches.PatchSteps as patching
@@ -24,28 +22,16 @@ module _ (keys sites : ℕ) where
   abbrev AreIn : List Change → Type 0
   AreIn changes = AllByRecursion (StoreIn keys sites) changes
 
-  site_in : (b : Bool) (i n : ℕ) (rest : List Change) → i < sites → AreIn rest → AreIn (cond b ((Site i, n) ∷ []) [] ++ rest)
-  site_in true i n rest l k = (l, k)
-  site_in false i n rest l k = k
-
   change_in : (key : ℕ) (on : Bool) (i : ℕ) (e : Option Entry) (rest : List Change) → i < sites → AreIn rest → AreIn (site_change key on i e ++ rest)
-  change_in key on i None rest l k = k
-  change_in key on i (Some e) rest l k = site_in (e.key == key) i _ rest l k
+  change_in key on i e rest l k = search arith
 
   sites_in : (key : ℕ) (on : Bool) (i : ℕ) (entries : List ℕ) → i + length entries ≤ sites → AreIn (site_changes key on i entries)
   sites_in key on i [] few = tt
   sites_in key on i (x ∷ rest) few =
       change_in key on i (entry_at x) (site_changes key on (i + 1) rest) (omega arith) (sites_in key on (i + 1) rest (omega arith))
 
-  in_if : (b : Bool) (xs ys : List Change) → AreIn xs → AreIn ys → AreIn (cond b xs ys)
-  in_if true xs ys x y = x
-  in_if false xs ys x y = y
-
   plan_in : (key old new : ℕ) (entries : List ℕ) → key < keys → new ≤ 65535 → length entries ≤ sites → AreIn (plan_of key old new entries)
-  plan_in key old new entries l small few =
-      in_if (old == new) [] _ tt
-      (in_if (xor (is_on old) (is_on new)) ((Key key, new) ∷ site_changes key (is_on new) 0 entries) ((Key key, new) ∷ [])
-      ((l, small), sites_in key (is_on new) 0 entries (omega (arith, few))) ((l, small), tt))
+  plan_in key old new entries l small few = search (small, sites_in, arith)
 
   at_in : (changes : List Change) (i : ℕ) → i < length changes → AreIn changes → StoreIn keys sites (change_at changes i)
   at_in [] i l all = absurd (omega arith)
@@ -58,8 +44,7 @@ module _ (keys sites : ℕ) where
   -- the range of a store of a patch
   store_range : (u : Setting) (p : Past) (me found : ℕ) (change : Change) → u.keys ≡ keys → u.sites ≡ sites → StoreIn keys sites change
       → let seen = seen_of me (store_of change) found None in InRange u p seen.word seen
-  store_range u p me found (Key k, n) a b l = rw a l
-  store_range u p me found (Site i, n) a b l = rw b l
+  store_range u p me found change a b l = search arith
 
 module _ (known : Here) (u : Setting) (keys : u.keys ≡ known.v.labels.keys) (sites : u.sites ≡ length known.v.labels.entries) where
   open known use {v, p, shown, me, below, s, f}
@@ -81,10 +66,6 @@ module _ (known : Here) (u : Setting) (keys : u.keys ≡ known.v.labels.keys) (s
   small : (k : ℕ) → k < U.keys → k < u.keys
   small k l = omega (arith, keys, l)
 
-  -- the key of a patch that begins
-  loads_key : (x : Visit) (key : ℕ) (change : _) → C.stage ≡ Some (Advance x (round.LoadKey key change)) → key < u.keys
-  loads_key x key change h1 = search (at_stage, st, small, arith)
-
   -- a store of a patch
   stores_change : (x : Visit) (made : ℕ) → C.stage ≡ Some (Advance x (round.StoreChange made)) → Ranged (Advance x (round.StoreChange made))
   stores_change x made e =
@@ -96,11 +77,9 @@ module _ (known : Here) (u : Setting) (keys : u.keys ≡ known.v.labels.keys) (s
       let at_seat : shown.seat me ≡ Alters x.slot w count before after = k.6.4 in
       let so = patching.so known x.slot w count before after at_seat in
       let active = patching.active_now known x.slot w count before after at_seat in
-      let works = patching.patch_work known x.slot w so.3 so.4 active so.0 so.1 in
-      let low : w.func < U.keys = subst (λ (z : Work). z.func < U.keys) so.3 works.key in
-      let few = shown.shows.setup.few_keys in
+      let low : w.func < U.keys = subst (λ (z : Work). z.func < U.keys) so.3 (patching.patch_work known x.slot w so.3 so.4 active so.0 so.1).key in
       let law = subst (λ (g : Patching). LabelsShow g (labels_in (stop_number v.table))) so.5 shown.shows.present.labels in
-      let found : IsKeyWord (law.0.key w.func) = law.1.keys w.func (omega (arith, low, few)) in
+      let found : IsKeyWord (law.0.key w.func) = law.1.keys w.func (omega (arith, low, shown.shows.setup.few_keys)) in
       let counted : IsKeyWord count = subst IsKeyWord law.3 found in
       let set : count_set w count ≤ 65535 = left_in_form (change_of w.arg) count counted in
       let long : length U.entries ≤ length v.labels.entries = let n = length-map v.labels.entries entry_word in omega (arith, n) in
@@ -113,9 +92,7 @@ module _ (known : Here) (u : Setting) (keys : u.keys ≡ known.v.labels.keys) (s
 
   -- the phase of a CPU inside a stop that has looked at it
   old_phase : (slot a l : ℕ) → p.now.inside me ≡ Some slot → (p.now.stop slot).standing me ≡ Inside a l → l ≢ 0 → Old.phase ≡ l
-  old_phase slot a l inside stood some =
-      let i : InsideIs p s Old me slot = (f.cpus_are me).stop slot inside in
-      (subst (λ (z : Standing). PhaseIs z Old.phase) stood i.phase) some
+  old_phase slot a l inside stood some = search arith
 
   acknowledges : (x : Visit) (answer : ℕ) (ran : Bool) → C.stage ≡ Some (Advance x (round.Acknowledge answer ran)) → (1 ≤ Old.phase) × (Old.phase ≤ EXIT)
   acknowledges x answer ran h1 = search (at_stage, st, old_phase, arith)
@@ -123,24 +100,18 @@ module _ (known : Here) (u : Setting) (keys : u.keys ≡ known.v.labels.keys) (s
   raises : (x : Visit) (ran : Bool) → C.stage ≡ Some (Advance x (round.Raise ran)) → x.acked + 1 ≤ OVER
   raises x ran h1 = search (at_stage, keeps_here, arith)
 
-  first_small : (kind : Kind) (work : Work) → work.kind ≡ kind → begun_value cpus work field.State ≤ 5
-  first_small One work e = rw e (omega arith)
-  first_small _ work e = rw e (omega arith)
-
   begins : (work : Work) (g : Field) → Ranged (Begin work g)
-  begins work field.State = first_small work.kind work refl
-  begins work _ = tt
+  begins work g = search arith
 
   in_round : (x : Visit) (stage : RoundStage) → C.stage ≡ Some (Advance x stage) → Ranged (Advance x stage)
-  in_round x (round.LoadKey key change) e = (loads_key x key change e, tt)
+  in_round x (round.LoadKey key change) e = ((search (at_stage, st, small, arith)), tt)
   in_round x (round.StoreChange made) e = stores_change x made e
   in_round x (round.Acknowledge answer ran) e = acknowledges x answer ran e
   in_round x (round.Raise ran) e = raises x ran e
   in_round x _ e = tt
 
   in_completion : (x : Visit) (stage : CompletionStage) → Ranged (Complete x stage)
-  in_completion x completion.CountDown = tt
-  in_completion x _ = tt
+  in_completion x stage = search arith
 
   pub stage_ranged : (stage : StopStage) → C.stage ≡ Some stage → Ranged stage
   stage_ranged stage h1 = search (begins, in_round, in_completion, seated, small, length-map, arith)

@@ -67,16 +67,13 @@ pub record IsTraced (nr online : ℕ) (mask : List ℕ) (labels : Option Labels)
   pub within : IsWithin (written nr mask labels (lines_text events))
 
 takes_all : (online : ℕ) (labels : Option Labels) → LabelsFit labels → TakesAll (setting_of online (labels_or_none labels) all_told)
-takes_all online None fit = record { whole = refl; keys = omega arith; sites = omega arith }
-takes_all online (Some labels) fit = record { whole = refl; keys = omega (arith, fit.few_keys); sites = omega (arith, fit.few_sites) }
+takes_all online labels fit = search arith
 
 -- the lines of a trace
 lines_written : (nr : ℕ) (mask : List ℕ) (labels : Option Labels) (body : List ℕ) → list_all is_field (cpus_words nr mask) ≡ true
     → lines_of (written nr mask labels body)
     ≡ ended (codes "smp 2 trace") ∷ ended (line_of (cpus_words nr mask)) ∷ lines_of (labels_before labels body)
-lines_written nr mask labels body c =
-    lines_of-line trace_words (line_before (cpus_words nr mask) (labels_before labels body)) refl
-    ∙ ap (λ ls. ended (codes "smp 2 trace") ∷ ls) (lines_of-line (cpus_words nr mask) (labels_before labels body) c)
+lines_written nr mask labels body c = search (lines_of-line, arith)
 
 -- the head that was read, and what is behind it
 record HeadIs (nr online : ℕ) (mask : List ℕ) (labels : Option Labels) (events : List (ℕ × Event)) : Type 0 where
@@ -99,23 +96,12 @@ head_none nr online mask events t =
     length_before trace_words (line_before (cpus_words nr mask) body) ∙ ap (λ k. 12 + k) (length_before (cpus_words nr mask) body) in
     let short : AreReadable (ended (codes "smp 2 trace") ∷ ended cpus ∷ lines_of body) = subst AreReadable lines t.within.lines in
     let count : length (lines_of (written nr mask None body)) ≡ suc (suc (length (lines_of body))) = ap length lines in
-    let counted = count_lines u events all t.told in
-    let room : HasRoom 3 (12 + (length cpus + 1)) events = record {
-      lines = omega (arith, count, counted, t.within.count);
-      bytes = omega (arith, long, t.within.bytes);
-      short = short.1.1;
-    } in
+    let room : HasRoom 3 (12 + (length cpus + 1)) events = search (count_lines, arith) in
     record {
       number = 3;
       used = 12 + (length cpus + 1);
       room = room;
-      head_is = rw (
-        lines,
-        title_read (ended cpus ∷ lines_of body),
-        cpus_read nr online mask (lines_of body) t.some t.few t.field t.mask_is t.online_are short.1.0,
-        no_labels_read u 3 (12 + (length cpus + 1)) events all t.told room,
-        without_read u 3 (12 + (length cpus + 1)) events all t.told room,
-      ) refl;
+      head_is = search (title_read, cpus_read, no_labels_read, without_read, arith);
     }
 
 head_some : (nr online : ℕ) (mask : List ℕ) (labels : Labels) (events : List (ℕ × Event)) → IsTraced nr online mask (Some labels) events
@@ -125,25 +111,17 @@ head_some nr online mask labels events t =
     let body = lines_text events in
     let u = setting_of online labels all_told in
     let all = takes_all online (Some labels) t.labels_are in
-    let c = cpus_fields nr mask t.few t.field in
     let cpus = line_of (cpus_words nr mask) in
     let third = line_of (labels_words labels) in
     let lines : lines_of (written nr mask (Some labels) body) ≡ ended (codes "smp 2 trace") ∷ ended cpus ∷ ended third ∷ lines_of body =
-    lines_written nr mask (Some labels) body c
+    lines_written nr mask (Some labels) body (cpus_fields nr mask t.few t.field)
     ∙ ap (λ ls. ended (codes "smp 2 trace") ∷ ended cpus ∷ ls) (lines_of-line (labels_words labels) body (labels_fields labels t.labels_are)) in
     let long : length (written nr mask (Some labels) body) ≡ 12 + (length cpus + 1 + (length third + 1 + length body)) =
-    length_before trace_words (line_before (cpus_words nr mask) (line_before (labels_words labels) body))
-    ∙ ap (λ k. 12 + k) (length_before (cpus_words nr mask) (line_before (labels_words labels) body)
-    ∙ ap (λ k. length cpus + 1 + k) (length_before (labels_words labels) body)) in
+    search (body, cpus, length_before, arith) in
     let short : AreReadable (ended (codes "smp 2 trace") ∷ ended cpus ∷ ended third ∷ lines_of body) = subst AreReadable lines t.within.lines in
     let count : length (lines_of (written nr mask (Some labels) body)) ≡ suc (suc (suc (length (lines_of body)))) = ap length lines in
-    let counted = count_lines u events all t.told in
     let before = 12 + (length cpus + 1) in
-    let room : HasRoom 4 (before + (length third + 1)) events = record {
-      lines = omega (arith, count, counted, t.within.count);
-      bytes = omega (arith, long, t.within.bytes);
-      short = short.1.1.1;
-    } in
+    let room : HasRoom 4 (before + (length third + 1)) events = search (count_lines, arith) in
     record {
       number = 4;
       used = before + (length third + 1);
@@ -159,8 +137,7 @@ head_some nr online mask labels events t =
 
 head_read : (nr online : ℕ) (mask : List ℕ) (labels : Option Labels) (events : List (ℕ × Event)) → IsTraced nr online mask labels events
     → HeadIs nr online mask labels events
-head_read nr online mask None events t = head_none nr online mask events t
-head_read nr online mask (Some labels) events t = head_some nr online mask labels events t
+head_read nr online mask labels events t = search (head_none, head_some, arith)
 
 -- a trace that is written reads back
 written_back : (nr online : ℕ) (mask : List ℕ) (labels : Option Labels) (events : List (ℕ × Event)) → IsTraced nr online mask labels events

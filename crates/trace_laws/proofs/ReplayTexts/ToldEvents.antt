@@ -2,20 +2,19 @@
 use Rattle.trace_laws.proofs.Names.{AllByRecursion, Event, Labels, List, None, Option, Setting, Some, StateValue, [], ap, arith, cases_Bool, cases_eq, eq-eqb}
 use Rattle.trace_laws.proofs.Names.{has, inl, inr, length, map, ne_eqb, refl, subst, sym, true, true≢false, ℕ, ◌++◌, ◌+◌, ◌<◌, ◌∙◌, ◌∷◌, ◌≡◌}
 use Rattle.trace_laws.proofs.ReplayNames.{AreTold, ArgFits, BeginsOfCpus, CallState, Command, CoreValue, EventFits, FitsCommand, FitsCpus, IsWhole, Past}
-use Rattle.trace_laws.proofs.ReplayNames.{Replay, SLOT_WORDS, Seen, SmpError, Stage, StandsAt, StopControlValue, StopStage, StopState, Turned, Word, after}
-use Rattle.trace_laws.proofs.ReplayNames.{all_fresh, control_of, cpus, events_in, events_of, events_of_step, found_at, fresh, get_or-same, kept, new_core}
+use Rattle.trace_laws.proofs.ReplayNames.{Replay, SLOT_WORDS, Seen, SmpError, Stage, StandsAt, StopControlValue, StopStage, StopState, Turned, after}
+use Rattle.trace_laws.proofs.ReplayNames.{all_fresh, control_of, cpus, events_of, events_of_step, found_at, fresh, get_or-same, kept, new_core}
 use Rattle.trace_laws.proofs.ReplayNames.{number_in, past_at, refusal_of, replay_from, replay_on, seen_at, share_of, slot_cell, start_below, start_turn}
 use Rattle.trace_laws.proofs.ReplayNames.{started, step_at, step_turn, step_whole, stepped, stop_control_of, stop_first, stop_found_at, stop_number}
-use Rattle.trace_laws.proofs.ReplayNames.{stop_outside, stop_seen_at, stop_step, stops_stepped, tells, told_of, zero_at}
-use Rattle.smp_words.specs.declared.command.Command.TheVariants as command
+use Rattle.trace_laws.proofs.ReplayNames.{stop_outside, stop_seen_at, stop_step, stops_stepped, tells, zero_at}
 use Rattle.smp_words.specs.declared.command.Event.TheVariants as turned
 use Rattle.smp_words.specs.declared.field.Field.TheVariants as field
 use Rattle.trace_laws.proofs.ReplayStops.BegunStops.{begun_else, begun_fits, begun_here, begun_labels, begun_table}
-use Rattle.trace_laws.proofs.ReplayTexts.StopNumbers.{ArgsFit, BeginFits, WorkFits, first_begins, stage_args, stage_begins}
+use Rattle.trace_laws.proofs.ReplayTexts.StopNumbers.{ArgsFit, BeginFits, WorkFits, stage_args, stage_begins}
 use Rattle.trace_laws.proofs.ReplayTexts.ToldNumbers.{InRange, PastFits, StepFits, after_fits, fresh_fits, told_fits}
 use Rattle.trace_laws.proofs.WholeReplays.AllEvents.{StandsAll, below, by_name_stops, call_stands, here, named, reached, reached_stops, start_stands}
 use Rattle.trace_laws.proofs.WholeReplays.AllEvents.{stop_below, stop_stands, told_stops}
-use Rattle.trace_laws.proofs.{ReplayCalls.EventsByHalf.call_word, ReplayCalls.EventsByHalf.is_call_word, ReplayCalls.KeptPasts.past_else}
+use Rattle.trace_laws.proofs.{ReplayCalls.KeptPasts.past_else}
 use Rattle.trace_laws.proofs.{ReplayCalls.KeptPasts.past_here, ReplayTexts.CallNumbers.call_fits, ReplayTexts.NoteNumbers.stop_fits}
 use Rattle.trace_laws.proofs.{ReplayTexts.PhasesAndKeys.stage_ranged}
 
@@ -29,11 +28,6 @@ pub record IsOfCore (u : Setting) (core : CoreValue) : Type 0 where
 pub record ArgsOfCore (core : CoreValue) : Type 0 where
   pub args : ArgsFit (stop_number core.stops.table)
   pub begins : (cpu : ℕ) → BeginFits (stop_control_of core.stops.controls cpu).stage
-
--- a command begins a stop with such numbers
-work_fits : (c : Command) (cpu : ℕ) → FitsCommand c → ArgFits (turned.Start cpu c) → WorkFits c
-work_fits (command.Begin work) cpu fits arg = (fits, arg)
-work_fits _ cpu fits arg = tt
 
 -- a new machine has none but zeros
 pub new_args : (nr online : ℕ) (labels : Labels) → ArgsOfCore (new_core nr online labels)
@@ -55,10 +49,6 @@ kept_pasts pasts x sized below fits all cpu = elim (cases_eq cpu x.cpu) [
   | inr ne ↦ rw (past_else pasts x.cpu (after (past_at pasts x.cpu) x) cpu ne) (all cpu)
 ]
 
--- a step on a word of the call half has no phase, key or site
-call_ranged : (u : Setting) (p : Past) (w : Word) (s : Seen) → is_call_word w ≡ true → InRange u p w s
-call_ranged u p w s h1 = search (true≢false, arith)
-
 module _ (u : Setting) where
   told_by_cpu : (cpu : ℕ) (events : List Event) → cpu < cpus → has u.online cpu ≡ true → AllByRecursion (EventFits u) events
       → AreTold u (map (λ e. (cpu, e)) events)
@@ -72,8 +62,7 @@ module _ (u : Setting) where
   -- the events of one step
   step_told : (pasts : List Past) (x : Seen) → x.cpu < cpus → has u.online x.cpu ≡ true → PastsFit pasts → StepFits x
       → InRange u (past_at pasts x.cpu) x.word x → AreTold u (events_of_step pasts x)
-  step_told pasts x l on all fits range =
-      told_by_cpu x.cpu (events_in (told_of (past_at pasts x.cpu) x)) l on (told_fits u (past_at pasts x.cpu) x (all x.cpu) fits range)
+  step_told pasts x l on all fits range = search (told_by_cpu, told_fits, arith)
 
   abbrev TellsFit : List Past → Replay → Type 0
   TellsFit pasts r = AreTold u (events_of pasts r.seen)
@@ -81,11 +70,6 @@ module _ (u : Setting) where
   abbrev Rest : ℕ → List Turned → Type 0
   Rest position rest = (core : CoreValue) (a : CallState) (p : StopState) (pasts : List Past) (s : StateValue) → StandsAll core a p pasts s
       → IsOfCore u core → ArgsOfCore core → PastsFit pasts → TellsFit pasts (replay_from position core rest)
-
-  start_of_core : (core : CoreValue) (cpu : ℕ) (c : Command) → IsOfCore u core → IsOfCore u (started core cpu c)
-  start_of_core core cpu c o =
-      let same = begun_labels core.stops cpu (stop_first (stop_control_of core.stops.controls cpu) c) in
-      record { online = o.online; keys = rw same o.keys; sites = rw same o.sites }
 
   start_args : (core : CoreValue) (cpu : ℕ) (c : Command) → length core.stops.controls ≡ cpus → cpu < cpus → WorkFits c → ArgsOfCore core
       → ArgsOfCore (started core cpu c)
@@ -95,7 +79,7 @@ module _ (u : Setting) where
       record {
         args = rw (begun_table core.stops cpu first) k.args;
         begins = λ j. elim (cases_eq j cpu) [
-          | inl is ↦ rw (is, begun_here core.stops cpu first sized l) (begun_fits BeginFits control first (k.begins cpu) (first_begins control c fits))
+          | inl is ↦ rw (is, begun_here core.stops cpu first sized l) (begun_fits BeginFits control first (k.begins cpu) (search arith))
           | inr ne ↦ rw (begun_else core.stops cpu first j sized l ne) (k.begins j)
         ];
       }
@@ -107,8 +91,8 @@ module _ (u : Setting) where
       TellsFit pasts (replay_on position turn.core turn.answer (replay_from (position + 1) turn.core rest))
   started_tells position rest on core a p pasts s k o args all cpu c fits plain arg (Some why) e = tt
   started_tells position rest on core a p pasts s k o args all cpu c fits plain arg None e =
-      on (started core cpu c) a p pasts s (start_stands core a p pasts s k cpu c fits plain e) (start_of_core core cpu c o)
-      (start_args core cpu c k.whole.stops.sized (start_below core cpu c k.whole.sound.limits e) (work_fits c cpu fits arg) args) all
+      on (started core cpu c) a p pasts s (start_stands core a p pasts s k cpu c fits plain e) (search (begun_labels, arith))
+      (start_args core cpu c k.whole.stops.sized (start_below core cpu c k.whole.sound.limits e) (search arith) args) all
 
   module _ (core : CoreValue) (a : CallState) (p : StopState) (pasts : List Past) (s : StateValue) (k : StandsAll core a p pasts s) (o : IsOfCore u core)
       (args : ArgsOfCore core) (all : PastsFit pasts) (cpu : ℕ) where
@@ -140,7 +124,7 @@ module _ (u : Setting) where
 
     call_told : (stage : Stage) → (control_of core.controls cpu).stage ≡ Some stage → AreTold u (events_of_step pasts (seen_at core cpu stage))
     call_told stage e = step_told pasts (seen_at core cpu stage) (below core a p pasts s k cpu stage e) (call_online stage e) all (call_typed stage e)
-        (call_ranged u (past_at pasts cpu) (seen_at core cpu stage).word (seen_at core cpu stage) (call_word (number_in core.words) cpu stage))
+        (search (true≢false, arith))
 
     module _ (stage : StopStage) (e : (stop_control_of core.stops.controls cpu).stage ≡ Some stage) (out : (control_of core.controls cpu).stage ≡ None)
         (whole : IsWhole (stops_stepped core cpu stage)) where
@@ -153,8 +137,7 @@ module _ (u : Setting) where
 
       stop_told : AreTold u (events_of_step pasts (stop_seen_at core.stops cpu stage))
       stop_told =
-          let l = stop_below core a p pasts s k cpu stage e out whole in
-          step_told pasts (stop_seen_at core.stops cpu stage) l (stop_online stage e) all stop_typed
+          step_told pasts (stop_seen_at core.stops cpu stage) (stop_below core a p pasts s k cpu stage e out whole) (stop_online stage e) all stop_typed
           (stage_ranged (here core a p pasts s k cpu stage e out whole) u o.keys o.sites stage e)
 
       stop_args : ArgsOfCore (stops_stepped core cpu stage)
@@ -179,10 +162,9 @@ module _ (u : Setting) where
   stepped_tells position rest on core a p pasts s k o args all cpu None None e f = tt
   stepped_tells position rest on core a p pasts s k o args all cpu (Some stage) y e f =
       let seen = seen_at core cpu stage in
-      let m = reached core a p pasts s k cpu stage e in
       let r = replay_from (position + 1) (stepped core cpu stage) rest in
       told_both (events_of_step pasts seen) (events_of (kept pasts seen) r.seen) (call_told core a p pasts s k o args all cpu stage e)
-      (on (stepped core cpu stage) (tells a seen) p (kept pasts seen) m.t (call_stands core a p pasts s k cpu stage e)
+      (on (stepped core cpu stage) (tells a seen) p (kept pasts seen) (reached core a p pasts s k cpu stage e).t (call_stands core a p pasts s k cpu stage e)
       (record { online = o.online; keys = o.keys; sites = o.sites }) (record { args = args.args; begins = args.begins })
       (kept_pasts pasts seen k.keeps.pasts_are (below core a p pasts s k cpu stage e) (call_typed core a p pasts s k o args all cpu stage e) all))
   stepped_tells position rest on core a p pasts s k o args all cpu None (Some stage) e f =

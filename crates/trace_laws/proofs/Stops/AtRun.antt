@@ -1,23 +1,23 @@
 -- Functions run, and patches store, only at RUN.
 use Rattle.trace_laws.proofs.Names.{Bool, CpuState, Event, IsTrace, Key, Kind, LabelEvent, LabelWords, List, None, Ok, Option, Place, Reason, Result, Runs}
-use Rattle.trace_laws.proofs.Names.{Seen, Setting, Site, Some, StateValue, Stop, StopEvent, Task, [], acked_by, answer_of, ap, append-nil, arith, closed}
-use Rattle.trace_laws.proofs.Names.{cpu_at, ends, false, fresh_cpu, gate_by, gate_with, get_or-replicate, goes, has, has_run, holds_gate, id_of, in_patch}
-use Rattle.trace_laws.proofs.Names.{key_by, label_goes, length, length-replicate, made_store, map, may_run, next_store, nudge_by, opening, patch_by, patch_left}
+use Rattle.trace_laws.proofs.Names.{Seen, Setting, Site, Some, StateValue, StopEvent, Task, [], acked_by, answer_of, ap, append-nil, arith, closed}
+use Rattle.trace_laws.proofs.Names.{cpu_at, ends, false, fresh_cpu, gate_by, gate_with, get_or-replicate, goes, has, has_run, id_of, in_patch}
+use Rattle.trace_laws.proofs.Names.{key_by, label_goes, length, length-replicate, made_store, map, may_run, next_store, opening, patch_by, patch_left}
 use Rattle.trace_laws.proofs.Names.{refl, replicate, running, seen, site_by, site_word, slice_index_or, stop_at, stop_goes, sym, true, ungate_by, unseen, work}
 use Rattle.trace_laws.proofs.Names.{ℕ, ℤ, ◌++◌, ◌<◌, ◌>>=◌, ◌∙◌, ◌∷◌, ◌≡◌, ◌≤◌}
 use Rattle.smp_words.specs.declared.work.Kind.TheVariants.{Patch}
 use Rattle.trace_model.specs.declared.event.Event.TheVariants as event
 use Rattle.trace_model.specs.declared.event.LabelEvent.TheVariants as labels
 use Rattle.trace_model.specs.declared.event.StopEvent.TheVariants as stops
-use Rattle.trace_laws.proofs.Stops.CpusInStops.{CpuAt, RoundAt, Rounds, StopAt, is_round, member_of, rounds_kept}
-use Rattle.trace_laws.proofs.Stops.Ends.{RunsIn, collect_rounds, complete_rounds, open_rounds, run_is, run_rounds}
+use Rattle.trace_laws.proofs.Stops.CpusInStops.{RoundAt, Rounds, is_round, member_of, rounds_kept}
+use Rattle.trace_laws.proofs.Stops.Ends.{collect_rounds, complete_rounds, open_rounds, run_is, run_rounds}
 use Rattle.trace_laws.proofs.Stops.Phases.{StoresIn, ack_rounds, in_patch_is, patch_by_rounds, raise_rounds}
 use Rattle.trace_laws.proofs.Stops.StopEvents.{actor_below, acts_at, enter_rounds, off_rounds, on_rounds, rounds_end}
 use Rattle.trace_laws.proofs.{Calls.MadeSteps.both_made, Calls.MadeSteps.low_event, Calls.MadeSteps.passed, Calls.OtherEvents.label_keeps_calls}
 use Rattle.trace_laws.proofs.{Calls.OtherEvents.stop_keeps_calls}
 use Rattle.trace_laws.proofs.{Calls.ShownByTraces.cpus_at_first, Calls.ShownByTraces.end_once, Calls.ShownByTraces.fresh_at, Stops.QuietCpus.call_keeps_rounds}
 use Rattle.trace_laws.proofs.{Stops.QuietCpus.idle_is}
-use Rattle.trace_laws.specs.StopEvents.{FunctionsRunAtRun, IsAtRun, IsHeld, MayRun, MayStore, PatchesStoreAtRun, RunsAt, seen_from, seen_next, stores}
+use Rattle.trace_laws.specs.StopEvents.{FunctionsRunAtRun, IsAtRun, IsHeld, PatchesStoreAtRun, RunsAt, seen_from, seen_next, stores}
 use Rattle.trace_laws.specs.StopEvents.{work_from, work_next}
 use Rattle.smp_words.specs.declared.phase.TheConstants.{DISABLE_IRQ, RUN}
 
@@ -30,14 +30,11 @@ words_rounds seen work s words r = record { cpus_are = r.cpus_are; stops_are = r
 
 gate_with_rounds : (seen : ℕ → Seen) (work : ℕ → Option Task) (gate : Option ℕ) (cpu : ℕ) (s t : StateValue) → Rounds seen work s →
     gate_with gate cpu s ≡ Ok t → Rounds seen work t
-gate_with_rounds seen work (Some holder) cpu s t r e = absurd cc
-gate_with_rounds seen work None cpu s t r e = rounds_end seen work (record s { gate = Some cpu }) t (cc) (gate_rounds seen work s (Some cpu) r)
+gate_with_rounds seen work gate cpu s t r e = search (rounds_end, gate_rounds, arith)
 
 ungate_rounds : (seen : ℕ → Seen) (work : ℕ → Option Task) (cpu : ℕ) (s t : StateValue) → Rounds seen work s → ungate_by cpu s ≡ Ok t → Rounds seen work t
 unfolding ungate_by
-ungate_rounds seen work cpu s t r e =
-    let m = both_made (holds_gate cpu s) (λ u. Ok (record s { gate = None })) t e in
-    rounds_end seen work (record s { gate = None }) t (cc) (gate_rounds seen work s None r)
+ungate_rounds seen work cpu s t r e = search (both_made, rounds_end, gate_rounds, arith)
 
 -- what the events of all CPUs tell, and the works of all sources, after one more
 abbrev pub seen_all : (ℕ → Seen) → ℕ × Event → ℕ → Seen
@@ -65,10 +62,6 @@ after_rounds : (seen : ℕ → Seen) (work : ℕ → Option Task) (s t : StateVa
     (test >>= λ u. Ok s) ≡ Ok t → Rounds seen work t
 after_rounds seen work s t test r e = let m = both_made test (λ u. Ok s) t e in rounds_end seen work s t (cc) r
 
-nudge_rounds : (seen : ℕ → Seen) (work : ℕ → Option Task) (cpu key : ℕ) (up : Bool) (s t : StateValue) → Rounds seen work s → nudge_by cpu key up s ≡ Ok t →
-    Rounds seen work t
-nudge_rounds seen work cpu key up s t h1 h2 = search (both_made, rounds_end, words_rounds, arith)
-
 label_rounds : (seen : ℕ → Seen) (work : ℕ → Option Task) (actor : ℕ) (e : LabelEvent) (s t : StateValue) → Rounds seen work s →
     label_goes actor e s ≡ Ok t → Rounds seen work t
 unfolding label_goes
@@ -76,7 +69,7 @@ label_rounds seen work actor (labels.Set key count) s t r e = patch_by_rounds se
 label_rounds seen work actor (labels.Turn site jumps) s t r e = patch_by_rounds seen work s t actor (Site site) (site_word jumps) r e
 label_rounds seen work actor (labels.Key key on) s t r e = after_rounds seen work s t (key_by actor key on s) r e
 label_rounds seen work actor (labels.Site site jumps) s t r e = after_rounds seen work s t (site_by actor site jumps s) r e
-label_rounds seen work actor (labels.Nudge key up) s t r e = nudge_rounds seen work actor key up s t r e
+label_rounds seen work actor (labels.Nudge key up) s t r e = search (both_made, rounds_end, words_rounds, arith)
 
 -- each event keeps what holds of CPUs in stops
 pub rounds_goes : (seen : ℕ → Seen) (work : ℕ → Option Task) (actor : ℕ) (e : Event) (s t : StateValue) → Rounds seen work s → goes actor e s ≡ Ok t
@@ -97,13 +90,11 @@ unfolding opening
 stops_at_first u words = refl
 
 pub stop_at_first : (u : Setting) (words : LabelWords) (source : ℕ) → source < 32 → stop_at (opening u words) source ≡ closed u.online
-stop_at_first u words source low = ap (λ (xs : List Stop). slice_index_or xs source (closed 0)) (stops_at_first u words) ∙
-    get_or-replicate 32 source (closed u.online) (closed 0) low
+stop_at_first u words source low = search (stops_at_first, get_or-replicate, arith)
 
 closed_round : (left_out : Bool) (source cpu mask : ℕ) → cpu < 32 → RoundAt left_out source cpu unseen (member_of cpu (closed mask)) None true
 closed_round left_out source cpu mask below =
     let stop = closed mask in
-    let entered : slice_index_or stop.entered cpu false ≡ false = get_or-replicate 32 cpu false false below in
     let acked : acked_by stop cpu ≡ 0 = get_or-replicate {A = ℕ} 32 cpu 0 0 below in
     let ran : has_run stop cpu ≡ false = get_or-replicate 32 cpu false false below in
     let answer : answer_of stop cpu ≡ None = get_or-replicate {A = Option ℤ} 32 cpu None None below in
@@ -121,25 +112,22 @@ closed_round left_out source cpu mask below =
       ran_is = λ e. absurd cc;
     }
 
-closed_stop : (mask : ℕ) → StopAt None (closed mask)
-closed_stop mask = search (length-replicate, arith)
-
-fresh_at_all : (left_out : Bool) → CpuAt left_out unseen fresh_cpu
-fresh_at_all left_out = record { quiet = λ e. absurd cc; below = λ x e. absurd cc; inside_is = refl; irq_is = λ e. refl }
-
 pub rounds_at_first : (u : Setting) (words : LabelWords) → Rounds (λ cpu. unseen) (λ source. None) (opening u words)
 rounds_at_first u words =
     let s = opening u words in
     record {
       cpus_are = cpus_at_first u words;
       stops_are = ap length (stops_at_first u words) ∙ length-replicate 32 (closed u.online);
-      at = λ source low cpu below.
-          let st : stop_at s source ≡ closed u.online = stop_at_first u words source low in
-          let c : cpu_at s cpu ≡ fresh_cpu = fresh_at u words cpu in
-          rw (st, c) (closed_round s.setting.without.raises source cpu u.online below);
-      cpu = λ cpu below. let c : cpu_at s cpu ≡ fresh_cpu = fresh_at u words cpu in rw c (fresh_at_all s.setting.without.switches);
+      at = search (s, u.online, s.setting.without.raises, stop_at_first, fresh_at, closed_round, arith);
+      cpu = λ cpu below. let c : cpu_at s cpu ≡ fresh_cpu = fresh_at u words cpu in rw c (record {
+        quiet = λ e. absurd cc;
+        below = λ x e. absurd cc;
+        inside_is
+            = refl;
+        irq_is = λ e. refl;
+      });
       away = λ cpu past below. ap (λ (x : CpuState). x.inside) (fresh_at u words cpu);
-      stop = λ source low. let st : stop_at s source ≡ closed u.online = stop_at_first u words source low in rw st (closed_stop u.online);
+      stop = λ source low. let st : stop_at s source ≡ closed u.online = stop_at_first u words source low in rw st (search (length-replicate, arith));
     }
 
 pub rounds_of : (u : Setting) (words : LabelWords) (es : List (ℕ × Event)) (t : StateValue) → IsTrace u words es t →
@@ -168,8 +156,7 @@ setting_runs [] s t run = ap (λ x. x.setting) run
 setting_runs (e ∷ es) s t (m, (g, run)) = setting_runs es m t run ∙ setting_goes e.0 e.1 s m g
 
 pub entered_is : (test : Bool) (acked : ℕ) → (test ≡ false → acked ≡ 0) → DISABLE_IRQ ≤ acked → test ≡ true
-entered_is true acked f h = refl
-entered_is false acked f h = absurd (let z = f refl in omega arith)
+entered_is test acked f h = search arith
 
 -- at RUN, each CPU of the mask is held
 pub held_at : (u : Setting) (words : LabelWords) (es : List (ℕ × Event)) (s : StateValue) (source member : ℕ) → IsTrace u words es s → source < 32
@@ -181,16 +168,12 @@ held_at u words es s source member run low opened_is round at below in_mask =
     let c = cpu_at s member in
     let w = r.at source low member below in
     let q = r.cpu member below in
-    let all = w.all round in_mask (omega arith) in
-    let up = w.up_to round (omega arith) in
     let two : DISABLE_IRQ ≤ acked_by stop member = omega arith in
     let entered = entered_is (slice_index_or stop.entered member false) (acked_by stop member) (λ e. (w.out e).acked) two in
-    let none = w.answered round (omega arith) in
-    let is = w.is_in opened_is entered none in
+    let is = w.is_in opened_is entered (w.answered round (omega arith)) in
     let acked = w.acked_is is in
     let off = w.disabled is round two (omega arith) in
-    let idle = idle_is c (q.quiet off) in
-    let nobody : running c ≡ [] = ap (λ x. running (record c { current = x })) idle.0 in
+    let nobody : running c ≡ [] = ap (λ x. running (record c { current = x })) (idle_is c (q.quiet off)).0 in
     let set : s.setting ≡ u = setting_runs es (opening u words) s run ∙ setting_at_first u words in
     record {
       inside = sym q.inside_is ∙ is;
@@ -222,18 +205,9 @@ runs_at : (kind : Kind) (u : Setting) (words : LabelWords) (es : List (ℕ × Ev
     → RunsAt kind u es source cpu (stop_at s source).task
 runs_at kind u words es s source cpu h1 h2 h3 h4 h5 h6 = search (passed, acts_at, at_run, arith)
 
-may_run_at : (u : Setting) (words : LabelWords) (es : List (ℕ × Event)) (s : StateValue) (cpu func arg : ℕ) → IsTrace u words es s → RunsIn s cpu func arg
-    → MayRun u es cpu func arg
-may_run_at u words es s cpu func arg h1 h2 = search (rounds_of, actor_below, runs_at, arith)
-
 pub functions_run_at_run : FunctionsRunAtRun
 unfolding stop_goes
-functions_run_at_run u words es t cpu func arg run =
-    let l = runs_last es (cpu, event.Stop (stops.Run func arg)) (opening u words) t run in
-    may_run_at u words es l.0 cpu func arg l.1.0 (run_is l.0 t cpu func arg (low_event cpu _ t l.1.1).1).0
-
-may_store_at : (u : Setting) (words : LabelWords) (es : List (ℕ × Event)) (s : StateValue) (cpu : ℕ) → IsTrace u words es s → StoresIn s cpu → MayStore u es cpu
-may_store_at u words es s cpu h1 h2 = search (rounds_of, actor_below, at_run, arith)
+functions_run_at_run u words es t cpu func arg run = search (runs_last, rounds_of, actor_below, runs_at, run_is, low_event, arith)
 
 stores_in : (s t : StateValue) (cpu : ℕ) (place : Place) (word : ℕ) → patch_by cpu place word s ≡ Ok t → StoresIn s cpu
 unfolding patch_by
@@ -243,11 +217,7 @@ stores_in s t cpu place word e =
 
 store_is : (cpu : ℕ) (e : LabelEvent) (s t : StateValue) → label_goes cpu e s ≡ Ok t → stores e ≡ true → StoresIn s cpu
 unfolding label_goes
-store_is cpu (labels.Set key count) s t e is = stores_in s t cpu (Key key) count e
-store_is cpu (labels.Turn site jumps) s t e is = stores_in s t cpu (Site site) (site_word jumps) e
-store_is cpu _ s t e is = absurd cc
+store_is cpu e s t h1 is = search (stores_in, arith)
 
 pub patches_store_at_run : PatchesStoreAtRun
-patches_store_at_run u words es t cpu e run is =
-    let l = runs_last es (cpu, event.Label e) (opening u words) t run in
-    may_store_at u words es l.0 cpu l.1.0 (store_is cpu e l.0 t (low_event cpu _ t l.1.1).1 is)
+patches_store_at_run u words es t cpu e run is = search (runs_last, rounds_of, actor_below, at_run, store_is, low_event, arith)

@@ -1,5 +1,5 @@
 -- What holds of each CPU in each stop.
-use Rattle.trace_laws.proofs.Names.{arith, Bool, CpuState, Kind, None, Ok, One, Option, Seen, Some, StateValue, Stop, Task, acked_by, answer_of, ap, cases_eq}
+use Rattle.trace_laws.proofs.Names.{arith, Bool, CpuState, Kind, None, Ok, One, Option, Seen, Some, StateValue, Stop, Task, acked_by, answer_of, cases_eq}
 use Rattle.trace_laws.proofs.Names.{closed, cpu_at, eq-eqb, false, get_or-set_other, get_or-set_same, handles_nothing, has, has_run, if◌then◌else◌, is_some}
 use Rattle.trace_laws.proofs.Names.{length, length-set, ne_eqb, refl, slice_index_or, stop_at, sym, true, with_cpu, with_stop, ℕ, ℤ, ◌+◌, ◌<◌, ◌==◌, ◌∙◌, ◌≡◌}
 use Rattle.trace_laws.proofs.Names.{◌≢◌, ◌≤◌, ◌⊎◌}
@@ -131,11 +131,6 @@ cpu_is_changed : (seen : ℕ → Seen) (work : ℕ → Option Task) (s : StateVa
     → CpuAt s.setting.without.switches (put_seen actor f seen cpu) (cpu_at (changed_to source actor s stop c) cpu)
 cpu_is_changed seen work s source actor f stop c h1 h2 cpu h3 h4 = search (cpu_changed, seen_here, cpu_kept, seen_elsewhere, arith)
 
-stop_is_changed : (seen : ℕ → Seen) (work : ℕ → Option Task) (s : StateValue) (source actor : ℕ) (f : Seen → Seen) (stop : Stop) (c : CpuState)
-    → Rounds seen work s → Change seen work s source actor f stop c → (other : ℕ) → other < 32 → other ≡ source ⊎ other ≢ source
-    → StopAt (work other) (stop_at (changed_to source actor s stop c) other)
-stop_is_changed seen work s source actor f stop c h1 h2 other h3 h4 = search (stop_changed, stop_kept, arith)
-
 -- all holds after it
 pub changed : (seen : ℕ → Seen) (work : ℕ → Option Task) (s : StateValue) (source actor : ℕ) (f : Seen → Seen) (stop : Stop) (c : CpuState)
     → Rounds seen work s → Change seen work s source actor f stop c → Rounds (put_seen actor f seen) work (changed_to source actor s stop c)
@@ -144,10 +139,8 @@ changed seen work s source actor f stop c r ch = record {
   stops_are = length-set s.stops source stop ∙ r.stops_are;
   at = λ other low cpu below. at_changed seen work s source actor f stop c r ch other low cpu below (cases_eq other source) (cases_eq cpu actor);
   cpu = λ cpu below. cpu_is_changed seen work s source actor f stop c r ch cpu below (cases_eq cpu actor);
-  away = λ cpu past below.
-      let low = ch.low in
-      ap (λ (x : CpuState). x.inside) (cpu_kept cpu actor (with_stop source s stop) c (λ e. absurd (omega arith))) ∙ r.away cpu past below;
-  stop = λ other low. stop_is_changed seen work s source actor f stop c r ch other low (cases_eq other source);
+  away = search (ch.low, r.away, cpu_kept, arith);
+  stop = λ other low. search (stop_changed, stop_kept, arith);
 }
 
 -- A stop alone is changed, for each of its CPUs.

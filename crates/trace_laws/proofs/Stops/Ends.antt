@@ -1,15 +1,17 @@
 -- A function runs, a CPU completes, and a source opens a stop and collects: what holds of CPUs in stops still does.
-use Rattle.trace_laws.proofs.Names.{APatch, Bool, Err, Kind, None, Ok, One, Option, Reason, Result, Seen, Setting, Some, StateValue, Stop, Task, acked_by}
+use Rattle.std.proofs.lemmas.List.{set-get_or}
+use Rattle.trace_laws.proofs.Names.{fresh_cpu}
+use Rattle.trace_laws.proofs.Names.{APatch, Bool, Err, Kind, None, Ok, Option, Reason, Result, Seen, Setting, Some, StateValue, Stop, Task, acked_by}
 use Rattle.trace_laws.proofs.Names.{and_parts, answer_of, answer_wanted, ap, arith, cases_eq, collect_by, collected, collected_with, complete_by, completed}
-use Rattle.trace_laws.proofs.Names.{cpu_at, eq-eqb, eqb-true, false, first_from, get_or-replicate, get_or-set_other, get_or-set_same, gives, has, has_run}
-use Rattle.trace_laws.proofs.Names.{if◌then◌else◌, in_stop, int_eq, is_none, is_work, length-replicate, length-set, may_complete, may_open, may_run, ne_eqb}
-use Rattle.trace_laws.proofs.Names.{not, offline_in, on_stop, open_by, opened, ran_function, refl, run_as, run_by, slice_index_or, slice_set, stop_at, stop_of}
-use Rattle.trace_laws.proofs.Names.{suc, sym, true, unfinished, unless_offline, with_inside, with_stop, zero, ℕ, ℤ, ◌&&◌, ◌+◌, ◌<◌, ◌==◌, ◌>>=◌, ◌∙◌, ◌≡◌, ◌≢◌}
+use Rattle.trace_laws.proofs.Names.{cpu_at, eq-eqb, eqb-true, false, first_from, get_or-replicate, get_or-set_other, get_or-set_same, has, has_run}
+use Rattle.trace_laws.proofs.Names.{if◌then◌else◌, in_stop, int_eq, is_none, length-replicate, length-set, may_complete, may_open, may_run, ne_eqb}
+use Rattle.trace_laws.proofs.Names.{not, on_stop, open_by, opened, ran_function, refl, run_as, run_by, slice_index_or, slice_set, stop_at, stop_of}
+use Rattle.trace_laws.proofs.Names.{suc, sym, true, unfinished, with_inside, with_stop, zero, ℕ, ℤ, ◌&&◌, ◌+◌, ◌<◌, ◌==◌, ◌>>=◌, ◌∙◌, ◌≡◌, ◌≢◌}
 use Rattle.trace_laws.proofs.Names.{◌≤◌}
 use Rattle.trace_model.specs.declared.reason.Reason.TheVariants as reason
-use Rattle.trace_model.specs.{Stop.first_phase, Stop.least, Stop.opening}
-use Rattle.trace_laws.proofs.Stops.CpusInStops.{Change, Rounds, StopChange, changed, changed_to, is_round, member_of, put_seen, stop_only}
-use Rattle.trace_laws.proofs.Stops.StopEvents.{actor_below, away_left, away_same, cpu_same, ne_truth, open_below, rounds_end, stop_of_is, through_is, view_same}
+use Rattle.trace_model.specs.{Stop.first_phase, Stop.opening}
+use Rattle.trace_laws.proofs.Stops.CpusInStops.{Change, Rounds, StopChange, changed, changed_to, is_round, put_seen, stop_only}
+use Rattle.trace_laws.proofs.Stops.StopEvents.{actor_below, away_left, away_same, ne_truth, open_below, rounds_end, stop_of_is, through_is, view_same}
 use Rattle.trace_laws.proofs.{Calls.MadeSteps.both_made, Calls.MadeSteps.failed, Calls.MadeSteps.passed}
 use Rattle.smp_words.specs.declared.phase.TheConstants.{EXIT}
 
@@ -31,24 +33,10 @@ ran_change seen work s source actor r low is =
     let now : slice_index_or (slice_set stop.ran actor true) actor false ≡ true = get_or-set_same stop.ran actor true false (rw st.ran_are below) in
     record {
       low = below;
-      stop_is = record {
-        entered_are = st.entered_are;
-        acked_are = st.acked_are;
-        ran_are = length-set stop.ran actor true ∙ st.ran_are;
-        answers_are = st.answers_are;
-        work_is = st.work_is;
-      };
+      stop_is = search (st.entered_are, st.acked_are, stop.ran, st.ran_are, st.answers_are, st.work_is, length-set, arith);
       cpu_is = record { quiet = q.quiet; below = q.below; inside_is = q.inside_is; irq_is = q.irq_is };
-      others = λ cpu cpu_low ne.
-          let kept : slice_index_or (slice_set stop.ran actor true) cpu false ≡ slice_index_or stop.ran cpu false =
-          get_or-set_other stop.ran actor cpu true false ne in
-          view_same s.setting.without.raises source cpu (seen cpu) (member_of cpu stop) (member_of cpu (record stop { ran = slice_set stop.ran actor true }))
-          (cpu_at s cpu).inside (cpu_at s cpu).irq
-          (rw kept refl) (r.at source low cpu cpu_low);
-      elsewhere = λ other other_low ne.
-          away_same s.setting.without.raises source other actor (seen actor) (ran_seen (seen actor)) (member_of actor (stop_at s other))
-          (cpu_at s actor).inside (cpu_at s actor).irq (cpu_at s actor).irq is ne
-          (r.at other other_low actor below);
+      others = search (stop.ran, s.setting.without.raises, stop, r.at, get_or-set_other, view_same, arith);
+      elsewhere = search (s.setting.without.raises, r.at, below, away_same, arith);
       here = record {
         in_stop = λ e. record { is_open = here.is_open; entered = here.entered; unanswered = here.unanswered; member = here.member };
         is_in = old.is_in;
@@ -68,8 +56,8 @@ ran_change seen work s source actor r low is =
 change_stop : (seen : ℕ → Seen) (work : ℕ → Option Task) (s : StateValue) (source actor : ℕ) (f : Seen → Seen) (stop : Stop) → Rounds seen work s
     → Change seen work s source actor f stop (cpu_at s actor) → Rounds (put_seen actor f seen) work (with_stop source s stop)
 change_stop seen work s source actor f stop r ch =
-    rounds_end (put_seen actor f seen) work (changed_to source actor s stop (cpu_at s actor)) (with_stop source s stop) (cpu_same actor
-    (with_stop source s stop))
+    rounds_end (put_seen actor f seen) work (changed_to source actor s stop (cpu_at s actor)) (with_stop source s stop) (ap (λ cpus. record (with_stop source s
+    stop) { cpus = cpus }) (set-get_or (with_stop source s stop).cpus actor fresh_cpu))
     (changed seen work s source actor f stop (cpu_at s actor) r ch)
 
 -- What a function that runs shows.
@@ -101,8 +89,7 @@ pub record RunsIn (s : StateValue) (cpu func arg : ℕ) : Type 0 where
 
 run_as_made : (kind : Kind) (source cpu func arg : ℕ) (s t : StateValue) → run_as kind source cpu func arg s ≡ Ok t
     → (on_stop source s (ran_function cpu func arg (stop_at s source)) ≡ Ok t) × (kind ≡ APatch → ⊥)
-run_as_made APatch source cpu func arg s t e = absurd cc
-run_as_made _ source cpu func arg s t e = (e, (λ k. absurd cc))
+run_as_made kind source cpu func arg s t e = search arith
 
 pub run_is : (s t : StateValue) (cpu func arg : ℕ) → run_by cpu func arg s ≡ Ok t
     → (i : RunsIn s cpu func arg) × (let stop = stop_at s i.source in with_stop i.source s (record stop { ran = slice_set stop.ran cpu true }) ≡ t)
@@ -145,39 +132,11 @@ completed_change seen work s source actor answer r low is past =
     (rw st.answers_are below) in
     record {
       low = below;
-      stop_is = record {
-        entered_are = st.entered_are;
-        acked_are = st.acked_are;
-        ran_are = st.ran_are;
-        answers_are = length-set stop.answers actor (Some answer) ∙ st.answers_are;
-        work_is = st.work_is;
-      };
+      stop_is = search (st.entered_are, st.acked_are, st.ran_are, stop.answers, st.answers_are, st.work_is, length-set, arith);
       cpu_is = record { quiet = q.quiet; below = λ x e. absurd cc; inside_is = refl; irq_is = q.irq_is };
-      others = λ cpu cpu_low ne.
-          let kept : slice_index_or (slice_set stop.answers actor
-          (Some answer)) cpu None ≡ slice_index_or stop.answers cpu None = get_or-set_other stop.answers actor cpu (Some answer) None ne in
-          view_same s.setting.without.raises source cpu (seen cpu) (member_of cpu stop) (member_of cpu (record stop {
-            answers = slice_set stop.answers actor
-                (Some answer);
-          })) (cpu_at s cpu).inside (cpu_at s cpu).irq
-          (rw kept refl) (r.at source low cpu cpu_low);
-      elsewhere = λ other other_low ne.
-          away_left s.setting.without.raises source other actor (seen actor) (left_seen (seen actor)) (member_of actor (stop_at s other))
-          (cpu_at s actor).inside (cpu_at s actor).irq (cpu_at s actor).irq is ne
-          (r.at other other_low actor below);
-      here = record {
-        in_stop = λ e. absurd cc;
-        is_in = λ o e n. absurd (let f : Some answer ≡ None = sym now ∙ n in cc);
-        out = λ e. absurd (ne_truth (slice_index_or stop.entered actor false) here.entered e);
-        up_to = old.up_to;
-        all = old.all;
-        last = old.last;
-        nobody = old.nobody;
-        answered = λ k four. absurd (let z = past k in omega arith);
-        disabled = λ e k two four. absurd cc;
-        acked_is = λ e. absurd cc;
-        ran_is = λ e. absurd cc;
-      };
+      others = search (stop.answers, s.setting.without.raises, stop, r.at, get_or-set_other, view_same, arith);
+      elsewhere = search (s.setting.without.raises, r.at, below, away_left, arith);
+      here = search (now, stop.entered, here.entered, old.up_to, old.all, old.last, old.nobody, ne_truth, ran_is, arith);
     }
 
 may_complete_past : (kind : Kind) (cpu : ℕ) (irq : Bool) (stop : Stop) (u : Unit {0}) → may_complete kind cpu irq stop ≡ Ok u → is_round kind ≡ true →
@@ -223,19 +182,12 @@ first_none passes c zero e n le lt = absurd (omega arith)
 first_none passes c (suc more) e n le lt =
     first_none_by passes c more n (passes c) refl e (λ f ne. first_none passes (c + 1) more f n (omega arith) (omega arith))
 
-pub least_none : (passes : ℕ → Bool) → least passes ≡ None → (n : ℕ) → n < 32 → passes n ≡ false
-least_none passes e n below = first_none passes 0 32 e n (omega arith) (omega arith)
-
 pub collected_is : (who : Option ℕ) (stop to : Stop) (answer : ℤ) → collected_with who answer stop ≡ Ok to → (who ≡ None) ×
     (record stop { is_open = false } ≡ to)
-collected_is (Some c) stop to answer e = absurd cc
-collected_is None stop to answer e =
-    let p = passed (gives stop answer) (Ok (record stop { is_open = false })) (reason.AnswersDoNotGive answer) to e in (refl, cc)
+collected_is who stop to answer e = search (passed, arith)
 
 pub none_is : (answer : Option ℤ) (mask : Bool) → (mask && is_none answer) ≡ false → mask ≡ true → answer ≡ None → ⊥
-none_is None true e m n = cc
-none_is None false e m n = cc
-none_is (Some x) mask e m n = cc
+none_is answer mask e m n = search arith
 
 -- A stop is closed: what is changed.
 closed_change : (seen : ℕ → Seen) (work : ℕ → Option Task) (s : StateValue) (source : ℕ) → Rounds seen work s → source < 32 →
@@ -248,9 +200,9 @@ closed_change seen work s source r low none =
       stop_is = record { entered_are = st.entered_are; acked_are = st.acked_are; ran_are = st.ran_are; answers_are = st.answers_are; work_is = λ e. absurd cc };
       each = λ cpu below.
           let old = r.at source low cpu below in
-          let over = least_none (λ c. has stop.task.mask c && is_none (answer_of stop c)) none cpu below in
           let gone = λ (e : (cpu_at s cpu).inside ≡ Some source). let i = old.in_stop e in none_is (answer_of stop cpu)
-          (has stop.task.mask cpu) over i.member i.unanswered in
+          (has stop.task.mask cpu) (first_none (λ c. has stop.task.mask c && is_none (answer_of stop c)) 0 32 none cpu (omega arith) (omega arith)) i.member
+          i.unanswered in
           record {
             in_stop = λ e. absurd (gone e);
             is_in = λ o e n. absurd cc;
@@ -274,27 +226,18 @@ collect_rounds seen work s t source answer r e =
     let stop = stop_at s source in
     let made = collected_with (unfinished stop) answer stop in
     let p = passed stop.is_open (on_stop source s made) (reason.StopNotOpen source) t e in
-    let low = open_below s source r.stops_are p.0 in
     let m = both_made made (λ x. Ok (with_stop source s x)) t p.1 in
     let c = collected_is (unfinished stop) stop m.0 answer m.1.0 in
     let to = record stop { is_open = false } in
     rounds_end seen work (with_stop source s to) t (ap (λ x. with_stop source s x) c.1 ∙ cc)
-    (stop_only seen work work s source to r (closed_change seen work s source r low c.0) (λ other ne. refl))
-
--- A stop is opened: what is changed.
-pub offline_none : (who : Option ℕ) (stop to : Stop) → unless_offline who stop ≡ Ok to → stop ≡ to
-offline_none None stop to e = cc
-offline_none (Some c) stop to e = absurd cc
+    (stop_only seen work work s source to r (closed_change seen work s source r (open_below s source r.stops_are p.0) c.0) (λ other ne. refl))
 
 pub opened_is : (u : Setting) (task : Task) (to : Stop) → opened u task ≡ Ok to → opening task ≡ to
 unfolding opened
-opened_is u task to e =
-    let p = passed (is_work u task) (unless_offline (offline_in u task.mask) (opening task)) reason.NoSuchWork to e in
-    offline_none (offline_in u task.mask) (opening task) to p.1
+opened_is u task to e = search (passed, arith)
 
 first_low : (kind : Kind) → 2 ≤ first_phase kind → ⊥
-first_low One h = omega arith
-first_low _ h = omega arith
+first_low kind h = search arith
 
 opened_change : (seen : ℕ → Seen) (work : ℕ → Option Task) (s : StateValue) (source : ℕ) (task : Task) → Rounds seen work s → source < 32 →
     (stop_at s source).is_open ≡ false
@@ -302,21 +245,14 @@ opened_change : (seen : ℕ → Seen) (work : ℕ → Option Task) (s : StateVal
 opened_change seen work s source task r low shut =
     let stop = stop_at s source in
     record {
-      stop_is = record {
-        entered_are = length-replicate 32 false;
-        acked_are = length-replicate {A = ℕ} 32 0;
-        ran_are = length-replicate 32 false;
-        answers_are = length-replicate {A = Option ℤ} 32 None;
-        work_is = λ e. refl;
-      };
+      stop_is = search (length-replicate, arith);
       each = λ cpu below.
-          let old = r.at source low cpu below in
           let new = opening task in
           let entered : slice_index_or new.entered cpu false ≡ false = get_or-replicate 32 cpu false false below in
           let acked : acked_by new cpu ≡ 0 = get_or-replicate 32 cpu 0 0 below in
           let ran : has_run new cpu ≡ false = get_or-replicate 32 cpu false false below in
           let answer : answer_of new cpu ≡ None = get_or-replicate 32 cpu None None below in
-          let gone = λ (e : (cpu_at s cpu).inside ≡ Some source). let i = old.in_stop e in ne_truth stop.is_open i.is_open shut in
+          let gone = λ (e : (cpu_at s cpu).inside ≡ Some source). let i = (r.at source low cpu below).in_stop e in ne_truth stop.is_open i.is_open shut in
           record {
             in_stop = λ e. absurd (gone e);
             is_in = λ o e n. absurd (ne_truth (slice_index_or new.entered cpu false) e entered);
@@ -347,10 +283,8 @@ unfolding open_by
 open_rounds seen work s t source task r low e =
     let next = on_stop source s (opened s.setting task) in
     let p = failed (stop_at s source).is_open (may_open s.setting.without.gate source s >>= λ u. next) (reason.StopOpen source) t e in
-    let m = both_made (may_open s.setting.without.gate source s) (λ u. next) t p.1 in
-    let n = both_made (opened s.setting task) (λ x. Ok (with_stop source s x)) t m.1.1 in
-    let o = opened_is s.setting task n.0 n.1.0 in
+    let n = both_made (opened s.setting task) (λ x. Ok (with_stop source s x)) t (both_made (may_open s.setting.without.gate source s) (λ u. next) t p.1).1.1 in
     let w : put_work source task work source ≡ Some task = work_here source task work in
-    rounds_end seen (put_work source task work) (with_stop source s (opening task)) t (ap (λ x. with_stop source s x) o ∙ cc)
+    rounds_end seen (put_work source task work) (with_stop source s (opening task)) t (ap (λ x. with_stop source s x) (opened_is s.setting task n.0 n.1.0) ∙ cc)
     (stop_only seen work (put_work source task work) s source (opening task) r (rw w (opened_change seen work s source task r low p.0))
     (work_elsewhere source task work))

@@ -1,8 +1,11 @@
 -- A CPU acknowledges a phase, raises it, or stores: what holds of CPUs in stops still does.
+use Rattle.trace_laws.proofs.Stops.Ends.{first_none}
+use Rattle.std.proofs.lemmas.List.{set-get_or}
+use Rattle.trace_laws.proofs.Names.{fresh_cpu}
 use Rattle.trace_laws.proofs.Names.{APatch, Bool, Err, Kind, None, Ok, Option, Patch, Place, Reason, Result, Seen, Setting, Some, StateValue, Stop}
 use Rattle.trace_laws.proofs.Names.{Task, ack_by, acked, acked_by, acknowledged, acks_as, acks_at_run, acks_disabled, ap, arith, at_last, at_phase, cases_eq}
 use Rattle.trace_laws.proofs.Names.{cpu_at, eq-eqb, eqb-false, eqb-true, false, get_or-set_other, get_or-set_same, handles_nothing, has, has_run, if◌then◌else◌}
-use Rattle.trace_laws.proofs.Names.{in_patch, in_round, inl, inr, is_cpu, is_some, is_store, late, length, length-set, ltb-false, made_store, may_ack, min}
+use Rattle.trace_laws.proofs.Names.{in_patch, in_round, inl, inr, is_cpu, is_some, is_store, late, length-set, ltb-false, made_store, may_ack, min}
 use Rattle.trace_laws.proofs.Names.{nat_lt, next_store, not, on_stop, patch_by, patch_left, patch_over, popped, raise_by, raised, raised_by, refl, stop_at}
 use Rattle.trace_laws.proofs.Names.{stop_of, subst, switched_at, switched_on, sym, to_be, true, with_acked, with_interrupts, with_irq, with_patch, with_stop}
 use Rattle.trace_laws.proofs.Names.{with_word, ℕ, ◌&&◌, ◌+◌, ◌-◌, ◌<◌, ◌==◌, ◌>>=◌, ◌^◌, ◌∙◌, ◌≡◌, ◌≤◌}
@@ -10,23 +13,18 @@ use Rattle.trace_model.specs.declared.reason.Reason.TheVariants as reason
 use Rattle.trace_model.specs.Stops.{if_patch}
 use Rattle.trace_laws.proofs.Stops.CpusInStops.{Change, Member, RoundAt, Rounds, StopAt, StopChange, changed, changed_to, member_of, put_seen, stop_changed}
 use Rattle.trace_laws.proofs.Stops.CpusInStops.{stop_only}
-use Rattle.trace_laws.proofs.Stops.StopEvents.{InRound, actor_below, acts_at, away_same, cpu_same, in_round_is, irq_change, irq_changed, ne_truth, rounds_end}
+use Rattle.trace_laws.proofs.Stops.StopEvents.{InRound, actor_below, acts_at, away_same, in_round_is, irq_change, irq_changed, ne_truth, rounds_end}
 use Rattle.trace_laws.proofs.Stops.StopEvents.{rounds_seen, stop_of_is, view_same}
-use Rattle.trace_laws.proofs.{Calls.MadeSteps.both_made, Calls.MadeSteps.passed, Stops.Ends.least_none}
+use Rattle.trace_laws.proofs.{Calls.MadeSteps.both_made, Calls.MadeSteps.passed}
 use Rattle.smp_words.specs.declared.phase.TheConstants.{DISABLE_IRQ, RUN, EXIT, OVER}
 
 abbrev pub acked_seen : ℕ → Seen → Seen
 acked_seen phase v = record v { acked = phase }
 
--- a patch that is left is no change to what a stop has of a CPU
-patch_change : (seen : ℕ → Seen) (work : ℕ → Option Task) (s : StateValue) (source : ℕ) (patch : Patch) → Rounds seen work s → source < 32
-    → StopChange seen (work source) s source (record (stop_at s source) { patch = Some patch })
-patch_change seen work s source patch h1 h2 = search arith
-
 patch_rounds : (seen : ℕ → Seen) (work : ℕ → Option Task) (s : StateValue) (source : ℕ) (patch : Patch) → Rounds seen work s → source < 32 →
     Rounds seen work (with_patch source patch s)
 patch_rounds seen work s source patch r low =
-    stop_only seen work work s source (record (stop_at s source) { patch = Some patch }) r (patch_change seen work s source patch r low) (λ other ne. refl)
+    stop_only seen work work s source (record (stop_at s source) { patch = Some patch }) r (search arith) (λ other ne. refl)
 
 words_rounds : (seen : ℕ → Seen) (work : ℕ → Option Task) (s : StateValue) (place : Place) (word : ℕ) → Rounds seen work s →
     Rounds seen work (with_word place word s)
@@ -43,10 +41,6 @@ from_here : (seen : ℕ → Seen) (work : ℕ → Option Task) (s t : StateValue
 from_here seen work s t source same r = subst (λ (x : StateValue). AckFrom seen work s x source) same
     (record { rounds = r; setting_is = refl; cpus_are = refl; views = λ cpu. refl })
 
-patched_view : (s : StateValue) (source cpu : ℕ) (patch : Patch) → source < length s.stops →
-    member_of cpu (stop_at (with_patch source patch s) source) ≡ member_of cpu (stop_at s source)
-patched_view s source cpu patch h1 = search (stop_changed, member_of, arith)
-
 from_patch : (seen : ℕ → Seen) (work : ℕ → Option Task) (next : Option (Place × ℕ)) (source : ℕ) (patch : Patch) (s t : StateValue) → Rounds seen work s →
     source < 32
     → patch_over next source patch s ≡ Ok t → AckFrom seen work s t source
@@ -57,7 +51,7 @@ from_patch seen work None source patch s t r low e =
       rounds = patch_rounds seen work s source patch r low;
       setting_is = refl;
       cpus_are = refl;
-      views = λ cpu. patched_view s source cpu patch (rw r.stops_are low);
+      views = λ cpu. search (stop_changed, member_of, arith);
     })
 
 from_kind : (seen : ℕ → Seen) (work : ℕ → Option Task) (kind : Kind) (cpu source : ℕ) (s t : StateValue) → Rounds seen work s → source < 32
@@ -92,23 +86,15 @@ raiser_member cpu w = record w { raiser = Some cpu }
 abbrev grown_member : Member → Member
 grown_member w = record w { phase = min (w.phase + 1) (2 ^ 32 - 1) }
 
-with_raiser : (source cpu actor : ℕ) (v : Seen) (w : Member) (inside : Option ℕ) (irq : Bool) → (has w.task.mask cpu ≡ true → w.phase ≤ w.acked)
-    → RoundAt false source cpu v w inside irq → RoundAt false source cpu v (raiser_member actor w) inside irq
-with_raiser source cpu actor v w inside irq h1 h2 = search arith
-
 grown_low : (phase acked : ℕ) → min (phase + 1) (2 ^ 32 - 1) ≤ 3 → (phase ≤ RUN → acked ≤ phase) → acked ≤ min (phase + 1) (2 ^ 32 - 1)
 grown_low phase acked h f = let low : phase ≤ RUN = omega arith in let g = f low in omega arith
 
-grown_all : (phase acked : ℕ) → phase ≤ acked → min (phase + 1) (2 ^ 32 - 1) ≤ acked + 1
-grown_all phase acked h = omega arith
-
 no_raiser : (raiser : Option ℕ) → raiser ≡ None → is_some raiser ≡ true → ⊥
-no_raiser None e f = cc
-no_raiser (Some x) e f = cc
+no_raiser raiser e f = search arith
 
 with_grown : (source cpu : ℕ) (v : Seen) (w : Member) (inside : Option ℕ) (irq : Bool) → (has w.task.mask cpu ≡ true → w.phase ≤ w.acked)
     → RoundAt true source cpu v w inside irq → RoundAt true source cpu v (grown_member w) inside irq
-with_grown source cpu v w inside irq h1 h2 = search (grown_low, grown_all, no_raiser, arith)
+with_grown source cpu v w inside irq h1 h2 = search (grown_low, no_raiser, arith)
 
 -- what a stop has of a CPU, once one has acknowledged
 abbrev last_member : Option ℕ → ℕ → Bool → Member → Member
@@ -116,26 +102,15 @@ last_member (Some other) actor left_out w = w
 last_member None actor false w = raiser_member actor w
 last_member None actor true w = grown_member w
 
-last_view : (who : Option ℕ) (actor : ℕ) (left_out : Bool) (stop : Stop) (cpu : ℕ) →
-    member_of cpu (at_last who actor (not left_out) stop) ≡ last_member who actor left_out (member_of cpu stop)
-last_view (Some other) actor left_out stop cpu = refl
-last_view None actor false stop cpu = refl
-last_view None actor true stop cpu = refl
-
 last_round : (who : Option ℕ) (left_out : Bool) (source cpu actor : ℕ) (v : Seen) (w : Member) (inside : Option ℕ) (irq : Bool)
     → (who ≡ None → has w.task.mask cpu ≡ true → w.phase ≤ w.acked) → RoundAt left_out source cpu v w inside irq
     → RoundAt left_out source cpu v (last_member who actor left_out w) inside irq
-last_round (Some other) left_out source cpu actor v w inside irq all r = r
-last_round None false source cpu actor v w inside irq all r = with_raiser source cpu actor v w inside irq (all refl) r
-last_round None true source cpu actor v w inside irq all r = with_grown source cpu v w inside irq (all refl) r
+last_round who left_out source cpu actor v w inside irq all r = search (with_grown, arith)
 
 pub late_none : (stop : Stop) (phase cpu : ℕ) → late stop phase ≡ None → cpu < 32 → has stop.task.mask cpu ≡ true → phase ≤ acked_by stop cpu
 late_none stop phase cpu none below m =
-    let f = least_none (λ c. has stop.task.mask c && nat_lt (acked_by stop c) phase) none cpu below in
+    let f = first_none (λ c. has stop.task.mask c && nat_lt (acked_by stop c) phase) 0 32 none cpu (omega arith) (omega arith) in
     let g : (true && nat_lt (acked_by stop cpu) phase) ≡ false = rw m at f in ltb-false (acked_by stop cpu) phase g
-
-at_last_long : (who : Option ℕ) (actor : ℕ) (raises : Bool) (stop : Stop) (w : Option Task) → StopAt w stop → StopAt w (at_last who actor raises stop)
-at_last_long who actor raises stop w h1 = search arith
 
 -- A CPU acknowledges a phase, and its interrupts are so after it: what is changed.
 ack_change : (seen : ℕ → Seen) (work : ℕ → Option Task) (s : StateValue) (source actor phase : ℕ) (irq : Bool) → Rounds seen work s → source < 32
@@ -164,7 +139,7 @@ ack_change seen work s source actor phase irq r low is at more off quiet told =
     } in
     record {
       low = below;
-      stop_is = at_last_long who actor (not left_out) mid (work source) long;
+      stop_is = search arith;
       cpu_is = record { quiet = quiet; below = q.below; inside_is = q.inside_is; irq_is = λ t. told t ∙ q.irq_is t };
       others = λ cpu cpu_low ne.
           let kept : acked_by mid cpu ≡ acked_by stop cpu = get_or-set_other stop.acked actor cpu phase 0 ne in
@@ -173,7 +148,7 @@ ack_change seen work s source actor phase irq r low is at more off quiet told =
           (r.at source low cpu cpu_low) in
           view_same left_out source cpu (seen cpu) (last_member who actor left_out (member_of cpu mid)) (member_of cpu (at_last who actor (not left_out) mid))
           (cpu_at s cpu).inside (cpu_at s cpu).irq
-          (sym (last_view who actor left_out mid cpu))
+          (sym (search arith))
           (last_round who left_out source cpu actor (seen cpu) (member_of cpu mid) (cpu_at s cpu).inside (cpu_at s cpu).irq
           (λ none m. rw at (late_none mid phase cpu none cpu_low m)) old);
       elsewhere = λ other other_low ne.
@@ -187,7 +162,7 @@ ack_change seen work s source actor phase irq r low is at more off quiet told =
           (cpu_at s actor).inside irq view acked in
           view_same left_out source actor (acked_seen phase (seen actor)) (last_member who actor left_out (member_of actor mid)) (member_of actor
           (at_last who actor (not left_out) mid)) (cpu_at s actor).inside irq
-          (sym (last_view who actor left_out mid actor))
+          (sym (search arith))
           (last_round who left_out source actor actor (acked_seen phase (seen actor)) (member_of actor mid) (cpu_at s actor).inside irq
           (λ none m. rw at (late_none mid phase actor none below m)) old);
     }
@@ -209,14 +184,9 @@ off_before : (seen : ℕ → Seen) (work : ℕ → Option Task) (s : StateValue)
     → (stop_at s source).phase ≡ phase → acked_by (stop_at s source) actor < phase → RUN ≤ phase → phase ≤ EXIT → (cpu_at s actor).irq ≡ false
 off_before seen work s source actor phase h1 h2 h3 h4 h5 h6 = search (actor_below, arith)
 
-irq_false : (irq : Bool) → let ok : Result (Unit {0}) Reason = Ok tt in (if irq then Err reason.InterruptsOn else ok) ≡ ok → irq ≡ false
-irq_false true x = absurd cc
-irq_false false x = refl
-
 disabled_is : (left_out : Bool) (cpu : ℕ) (s : StateValue) → acks_disabled left_out cpu s ≡ Ok tt
     → (left_out ≡ false → (cpu_at s cpu).irq ≡ false) × (left_out ≡ true → handles_nothing (cpu_at s cpu) ≡ Ok tt)
-disabled_is true cpu s e = ((λ f. absurd cc), (λ t. e))
-disabled_is false cpu s e = ((λ f. irq_false (cpu_at s cpu).irq e), (λ t. absurd cc))
+disabled_is left_out cpu s e = search arith
 
 disabled_by : (left_out : Bool) (s m : StateValue) (cpu : ℕ) → m.cpus ≡ s.cpus → acks_disabled left_out cpu s ≡ Ok tt → acks_disabled left_out cpu m ≡ Ok tt
 disabled_by true s m cpu cpus e = rw cpus e
@@ -228,11 +198,11 @@ ack_same : (seen : ℕ → Seen) (work : ℕ → Option Task) (s t : StateValue)
     → with_stop source s (acknowledged actor phase (not s.setting.without.raises) (stop_at s source)) ≡ t →
     Rounds (put_seen actor (acked_seen phase) seen) work t
 ack_same seen work s t source actor phase r i at more two same =
-    let below = actor_below s actor source r.cpus_are r.away i.inside in
     let m = with_stop source s (acknowledged actor phase (not s.setting.without.raises) (stop_at s source)) in
     ack_done seen work s t source actor phase (cpu_at s actor).irq r i.low i.inside at more
     (λ le lt. elim (cases_eq phase 2) [ inl e ↦ two e | inr ne ↦ off_before seen work s source actor phase r i at more (omega arith) (omega arith) ])
-    (r.cpu actor below).quiet (λ told. refl) (cpu_same actor m ∙ same)
+    (r.cpu actor (actor_below s actor source r.cpus_are r.away i.inside)).quiet (λ told. refl) ((ap (λ cpus. record m { cpus = cpus }) (set-get_or m.cpus actor
+    fresh_cpu)) ∙ same)
 
 ack_switched : (seen : ℕ → Seen) (work : ℕ → Option Task) (s t : StateValue) (source actor phase : ℕ) (two four : Bool) → Rounds seen work s →
     InRound s actor source
@@ -248,10 +218,9 @@ ack_switched seen work s t source actor phase true four r i at more out is_two i
 ack_switched seen work s t source actor phase false true r i at more out is_two is_four idle same =
     let m = with_stop source s (acknowledged actor phase (not s.setting.without.raises) (stop_at s source)) in
     let e : phase ≡ EXIT = eqb-true phase EXIT is_four in
-    let below = actor_below s actor source r.cpus_are r.away i.inside in
     let off = off_before seen work s source actor phase r i at more (omega arith) (omega arith) in
     ack_done seen work s t source actor phase (not (is_cpu (stop_at m source).raiser actor)) r i.low i.inside at more (λ le lt. absurd (omega arith))
-    (λ x. (r.cpu actor below).quiet off) (λ told. absurd (ne_truth s.setting.without.switches out told)) same
+    (λ x. (r.cpu actor (actor_below s actor source r.cpus_are r.away i.inside)).quiet off) (λ told. absurd (ne_truth s.setting.without.switches out told)) same
 ack_switched seen work s t source actor phase false false r i at more out is_two is_four idle same =
     ack_same seen work s t source actor phase r i at more (λ e. absurd (eqb-false phase 2 is_two e)) same
 
@@ -312,9 +281,7 @@ raise_round left_out source cpu phase v w inside irq h1 h2 h3 = search arith
 
 pub raised_is : (raiser : Option ℕ) (cpu phase : ℕ) (stop to : Stop) → raised_by raiser cpu phase stop ≡ Ok to
     → (is_some raiser ≡ true) × (record stop { phase = phase; raiser = None } ≡ to)
-raised_is None cpu phase stop to e = absurd cc
-raised_is (Some last) cpu phase stop to e =
-    let p = passed (last == cpu) (Ok (record stop { phase = phase; raiser = None })) (reason.AcknowledgedLast last) to e in (refl, cc)
+raised_is raiser cpu phase stop to e = search (passed, arith)
 
 raise_change : (seen : ℕ → Seen) (work : ℕ → Option Task) (s : StateValue) (source phase : ℕ) → Rounds seen work s → source < 32
     → is_some (stop_at s source).raiser ≡ true → (stop_at s source).phase ≡ phase - 1
@@ -364,8 +331,7 @@ raise_rounds seen work s t actor phase r e =
     let u = with_stop source s to in
     let end : u ≡ n.0 = ap (λ x. with_stop source s x) o.1 ∙ cc in
     let same : switched_on actor phase u ≡ t = ap (λ x. switched_on actor phase x) end ∙ cc in
-    let below = actor_below s actor source r.cpus_are r.away i.inside in
-    let old = r.at source i.low actor below in
+    let old = r.at source i.low actor (actor_below s actor source r.cpus_are r.away i.inside) in
     let past = old.last o.0 (old.in_stop i.inside).member in
     let new : stop_at u source ≡ to = stop_changed source s to (rw r.stops_are i.low) in
     let acked_same : acked_by (stop_at u source) actor ≡ acked_by stop actor = ap (λ x. acked_by x actor) new in
@@ -384,10 +350,6 @@ pub record StoresIn (s : StateValue) (cpu : ℕ) : Type 0 where
   pub early : acked_by (stop_at s source) cpu < RUN
   pub at : (stop_at s source).phase ≡ RUN
 
-kind_is_patch : (kind : Kind) (source other : ℕ) → if_patch kind source ≡ Ok other → kind ≡ APatch
-kind_is_patch APatch source other e = refl
-kind_is_patch _ source other e = absurd cc
-
 pub in_patch_is : (s : StateValue) (cpu source : ℕ) → in_patch cpu s ≡ Ok source → (i : StoresIn s cpu) × (i.source ≡ source)
 in_patch_is s cpu source e =
     let after = λ (x : ℕ). let y : Result ℕ Reason = if has (stop_at s x).task.active cpu then (at_phase (stop_at s x) cpu 3 >>= λ u. Ok x) else Err
@@ -399,7 +361,7 @@ in_patch_is s cpu source e =
     let p = passed (has stop.task.active cpu) (at_phase stop cpu 3 >>= λ u. Ok m.0) (reason.NotActive cpu) source n.1.1 in
     let k = both_made (at_phase stop cpu 3) (λ u. Ok m.0) source p.1 in
     let a = acts_at stop cpu 3 k.0 k.1.0 in
-    (record { source = m.0; low = o.1; inside = o.0; kind_is = kind_is_patch stop.task.kind m.0 n.0 n.1.0; active = p.0; early = a.0; at = a.1 }, cc)
+    (record { source = m.0; low = o.1; inside = o.0; kind_is = search arith; active = p.0; early = a.0; at = a.1 }, cc)
 
 store_rounds : (seen : ℕ → Seen) (work : ℕ → Option Task) (next : Option (Place × ℕ)) (source : ℕ) (patch : Patch) (place : Place) (word : ℕ) (s t : StateValue)
     → Rounds seen work s → source < 32 → made_store next source patch place word s ≡ Ok t → Rounds seen work t

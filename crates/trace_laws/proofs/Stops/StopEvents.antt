@@ -1,27 +1,18 @@
 -- Each event of stops keeps what holds of CPUs in stops.
-use Rattle.trace_laws.proofs.Names.{Bool, Err, Kind, None, Ok, One, Option, Reason, Result, Seen, Some, StateValue, Stop, Task, acked_by, and_parts, ap, arith}
-use Rattle.trace_laws.proofs.Names.{at_phase, cases_lt, closed, cpu_at, enter_by, enter_from, entered, entered_open, eqb-true, false, fresh_cpu}
+use Rattle.trace_laws.proofs.Names.{Bool, Err, None, Ok, Option, Reason, Result, Seen, Some, StateValue, Stop, Task, acked_by, and_parts, ap, arith}
+use Rattle.trace_laws.proofs.Names.{at_phase, cases_lt, closed, cpu_at, enter_by, enter_from, entered, entered_open, eqb-true, false}
 use Rattle.trace_laws.proofs.Names.{get_or-set_other, get_or-set_same, get_or_past, handles_nothing, has, if◌then◌else◌, in_round, in_stop, inl, inr, is_called}
-use Rattle.trace_laws.proofs.Names.{is_cpu, length, length-set, lt-ltb, ltb-false, ltb-true, may_off, nat_lt, not, off_by, on_by, on_stop, refl, slice_index_or}
+use Rattle.trace_laws.proofs.Names.{length, length-set, lt-ltb, ltb-false, ltb-true, may_off, nat_lt, not, off_by, on_by, on_stop, refl, slice_index_or}
 use Rattle.trace_laws.proofs.Names.{slice_set, stop_at, stop_of, subst, sym, through, true, with_cpu, with_inside, with_interrupts, with_irq, with_stop, ℕ}
-use Rattle.trace_laws.proofs.Names.{◌&&◌, ◌<◌, ◌==◌, ◌>>=◌, ◌∙◌, ◌≡◌, ◌≢◌, ◌≤◌, ◌⊎◌}
+use Rattle.trace_laws.proofs.Names.{◌&&◌, ◌<◌, ◌>>=◌, ◌∙◌, ◌≡◌, ◌≢◌, ◌≤◌, ◌⊎◌}
 use Rattle.std.proofs.{lemmas.Bool.leb-false, lemmas.List.set-get_or}
 use Rattle.trace_model.specs.declared.reason.Reason.TheVariants as reason
-use Rattle.trace_model.specs.{Stops.stop_in, Stops.unless_one}
-use Rattle.trace_laws.proofs.Stops.CpusInStops.{Change, Member, RoundAt, Rounds, changed, changed_to, is_round, member_of, put_seen}
+use Rattle.trace_laws.proofs.Stops.CpusInStops.{Change, Member, RoundAt, Rounds, changed, changed_to, is_round, put_seen}
 use Rattle.trace_laws.proofs.{Calls.MadeSteps.both_made, Calls.MadeSteps.failed, Calls.MadeSteps.passed}
 use Rattle.smp_words.specs.declared.phase.TheConstants.{EXIT}
 
--- the stop that a CPU is in
-in_is : (inside : Option ℕ) (cpu source : ℕ) → stop_in inside cpu ≡ Ok source → (inside ≡ Some source) × (source < 32)
-in_is inside cpu source h1 = search (passed, ltb-true, arith)
-
 pub stop_of_is : (s : StateValue) (cpu source : ℕ) → stop_of cpu s ≡ Ok source → ((cpu_at s cpu).inside ≡ Some source) × (source < 32)
-stop_of_is s cpu source e = in_is (cpu_at s cpu).inside cpu source e
-
-round_kind : (kind : Kind) (source other : ℕ) → unless_one kind source ≡ Ok other → (is_round kind ≡ true) × (source ≡ other)
-round_kind One source other e = absurd cc
-round_kind _ source other e = (refl, cc)
+stop_of_is s cpu source e = search (passed, ltb-true, arith)
 
 -- A CPU is in a rendezvous.
 pub record InRound (s : StateValue) (cpu source : ℕ) : Type 0 where
@@ -30,7 +21,7 @@ pub record InRound (s : StateValue) (cpu source : ℕ) : Type 0 where
   pub round : is_round (stop_at s source).task.kind ≡ true
 
 pub in_round_is : (s : StateValue) (cpu source : ℕ) → in_round cpu s ≡ Ok source → InRound s cpu source
-in_round_is s cpu source h1 = search (both_made, stop_of_is, round_kind, arith)
+in_round_is s cpu source h1 = search (both_made, stop_of_is, arith)
 
 -- a CPU in a stop is below 32
 pub actor_below : (s : StateValue) (cpu source : ℕ) → length s.cpus ≡ 512 → ((x : ℕ) → 32 ≤ x → x < 512 → (cpu_at s x).inside ≡ None)
@@ -53,11 +44,6 @@ pub away_left : (left_out : Bool) (source other cpu : ℕ) (v v' : Seen) (w : Me
     → RoundAt left_out other cpu v w inside irq → RoundAt left_out other cpu v' w None irq'
 away_left left_out source other cpu v v' w inside irq irq' h1 h2 h3 = search (other_stop, arith)
 
--- and when it enters
-away_entered : (left_out : Bool) (source other cpu : ℕ) (v v' : Seen) (w : Member) (inside : Option ℕ) (irq irq' : Bool) → inside ≡ None → other ≢ source
-    → RoundAt left_out other cpu v w inside irq → RoundAt left_out other cpu v' w (Some source) irq'
-away_entered left_out source other cpu v v' w inside irq irq' h1 h2 h3 = search (other_stop, arith)
-
 -- what holds of a state holds of an equal one
 pub rounds_end : (seen : ℕ → Seen) (work : ℕ → Option Task) (s t : StateValue) → s ≡ t → Rounds seen work s → Rounds seen work t
 rounds_end seen work s t same r = subst (λ (x : StateValue). Rounds seen work x) same r
@@ -66,10 +52,6 @@ pub view_same : (left_out : Bool) (source cpu : ℕ) (v : Seen) (w w' : Member) 
     RoundAt left_out source cpu v w inside irq
     → RoundAt left_out source cpu v w' inside irq
 view_same left_out source cpu v w w' inside irq same r = subst (λ (x : Member). RoundAt left_out source cpu v x inside irq) same r
-
--- a CPU goes on as it was
-pub cpu_same : (actor : ℕ) (s : StateValue) → with_cpu actor s (cpu_at s actor) ≡ s
-cpu_same actor s = ap (λ cpus. record s { cpus = cpus }) (set-get_or s.cpus actor fresh_cpu)
 
 pub stop_same : (source : ℕ) (s : StateValue) → with_stop source s (stop_at s source) ≡ s
 stop_same source s = ap (λ stops. record s { stops = stops }) (set-get_or s.stops source (closed 0))
@@ -80,16 +62,10 @@ ne_truth b t f = cc
 
 -- a CPU enters
 not_entered : (mask entered : Bool) → (mask && not entered) ≡ true → (mask ≡ true) × (entered ≡ false)
-not_entered true false e = (refl, refl)
-not_entered true true e = absurd cc
-not_entered false entered e = absurd cc
+not_entered mask entered e = search arith
 
 abbrev pub enters : ℕ → Seen → Seen
 enters source v = record { inside = Some source; acked = 0; ran = false; irq = v.irq }
-
-no_stop : (inside : Option ℕ) (cpu : ℕ) (why : Reason) → ((x : ℕ) → inside ≡ Some x → x < 32) → stop_in inside cpu ≡ Err why → inside ≡ None
-no_stop None cpu why below e = refl
-no_stop (Some x) cpu why below e = let t : nat_lt x 32 ≡ true = lt-ltb x 32 (below x refl) in absurd (let f : Ok x ≡ Err why = rw t at e in cc)
 
 entered_change : (seen : ℕ → Seen) (work : ℕ → Option Task) (s : StateValue) (source actor : ℕ) → Rounds seen work s → source < 32 → actor < 32
     → (cpu_at s actor).inside ≡ None → (stop_at s source).is_open ≡ true → is_called (stop_at s source) actor ≡ true
@@ -105,42 +81,12 @@ entered_change seen work s source actor r low below none opened_is called =
     let now : slice_index_or (slice_set stop.entered actor true) actor false ≡ true = get_or-set_same stop.entered actor true false (rw st.entered_are below) in
     record {
       low = below;
-      stop_is = record {
-        entered_are = length-set stop.entered actor true ∙ st.entered_are;
-        acked_are = st.acked_are;
-        ran_are = st.ran_are;
-        answers_are = st.answers_are;
-        work_is = st.work_is;
-      };
-      cpu_is = record {
-        quiet = q.quiet;
-        below = λ x e. let same : source ≡ x = cc in subst (λ y. y < 32) same low;
-        inside_is = refl;
-        irq_is = q.irq_is;
-      };
-      others = λ cpu cpu_low ne.
-          let kept : slice_index_or (slice_set stop.entered actor true) cpu false ≡ slice_index_or stop.entered cpu false =
-          get_or-set_other stop.entered actor cpu true false ne in
-          view_same s.setting.without.raises source cpu (seen cpu) (member_of cpu stop) (member_of cpu
-          (record stop { entered = slice_set stop.entered actor true })) (cpu_at s cpu).inside (cpu_at s cpu).irq
-          (rw kept refl) (r.at source low cpu cpu_low);
+      stop_is = search (stop.entered, st.entered_are, st.acked_are, st.ran_are, st.answers_are, st.work_is, length-set, arith);
+      cpu_is = search (q.quiet, q.irq_is, arith);
+      others = search (stop.entered, s.setting.without.raises, stop, r.at, get_or-set_other, view_same, arith);
       elsewhere = λ other other_low ne.
-          away_entered s.setting.without.raises source other actor (seen actor) (enters source (seen actor)) (member_of actor (stop_at s other))
-          (cpu_at s actor).inside (cpu_at s actor).irq (cpu_at s actor).irq none ne
-          (r.at other other_low actor below);
-      here = record {
-        in_stop = λ e. record { is_open = opened_is; entered = now; unanswered = out.unanswered; member = c.0 };
-        is_in = λ o e n. refl;
-        out = λ e. absurd (ne_truth (slice_index_or (slice_set stop.entered actor true) actor false) now e);
-        up_to = old.up_to;
-        all = old.all;
-        last = old.last;
-        nobody = old.nobody;
-        answered = old.answered;
-        disabled = λ e k two four. absurd (let z = out.acked in omega arith);
-        acked_is = λ e. out.acked;
-        ran_is = λ e. out.ran;
-      };
+          search (other_stop, arith);
+      here = search (ne_truth, arith);
     }
 
 -- a stop that is open is one that there can be
@@ -178,22 +124,16 @@ pub enter_as : (seen : ℕ → Seen) (work : ℕ → Option Task) (s t : StateVa
     → enter_from inside actor source s ≡ Ok t → Rounds (put_seen actor (enters source) seen) work t
 enter_as seen work s t source actor (Ok x) r below is e = absurd cc
 enter_as seen work s t source actor (Err why) r below is e =
-    enter_open seen work s t source actor r below (no_stop (cpu_at s actor).inside actor why (r.cpu actor below).below is) e
+    enter_open seen work s t source actor r below (search (lt-ltb, arith)) e
 
 pub enter_rounds : (seen : ℕ → Seen) (work : ℕ → Option Task) (s t : StateValue) (source actor : ℕ) → Rounds seen work s → actor < 32
     → enter_by actor source s ≡ Ok t → Rounds (put_seen actor (enters source) seen) work t
 unfolding enter_by
 enter_rounds seen work s t source actor r below e = enter_as seen work s t source actor (stop_of actor s) r below refl e
 
-at_it : (now phase : ℕ) (same early : Bool) (why other : Reason) (u : Unit {0}) → (now == phase) ≡ same
-    → (if same then Ok tt else (if early then Err why else Err other)) ≡ Ok u → now ≡ phase
-at_it now phase true early why other u is e = eqb-true now phase is
-at_it now phase false true why other u is e = absurd cc
-at_it now phase false false why other u is e = absurd cc
-
 -- a CPU may act on a phase
 pub acts_at : (stop : Stop) (cpu phase : ℕ) (u : Unit {0}) → at_phase stop cpu phase ≡ Ok u → (acked_by stop cpu < phase) × (stop.phase ≡ phase)
-acts_at stop cpu phase u h1 = search (failed, leb-false, at_it, arith)
+acts_at stop cpu phase u h1 = search (failed, leb-false, eqb-true, arith)
 
 abbrev pub off_seen : Seen → Seen
 off_seen v = record v { irq = false }
@@ -214,30 +154,10 @@ irq_change seen work s source actor f on r low is inside irq acked_kept ran_kept
     record {
       low = below;
       stop_is = r.stop source low;
-      cpu_is = record {
-        quiet = λ off. quiet off;
-        below = q.below;
-        inside_is = q.inside_is ∙ sym inside;
-        irq_is = irq;
-      };
+      cpu_is = search (below, q.below, q.inside_is, arith);
       others = λ cpu cpu_low ne. r.at source low cpu cpu_low;
-      elsewhere = λ other other_low ne.
-          away_same s.setting.without.raises source other actor (seen actor) (f (seen actor)) (member_of actor (stop_at s other)) (cpu_at s actor).inside
-          (cpu_at s actor).irq on is ne
-          (r.at other other_low actor below);
-      here = record {
-        in_stop = old.in_stop;
-        is_in = old.is_in;
-        out = old.out;
-        up_to = old.up_to;
-        all = old.all;
-        last = old.last;
-        nobody = old.nobody;
-        answered = old.answered;
-        disabled = λ e k two four. elim may [ inl off ↦ off | inr past ↦ absurd (omega arith) ];
-        acked_is = λ e. old.acked_is e ∙ sym acked_kept;
-        ran_is = λ e. old.ran_is e ∙ sym ran_kept;
-      };
+      elsewhere = search (s.setting.without.raises, r.at, below, away_same, arith);
+      here = search arith;
     }
 
 pub irq_changed : (seen : ℕ → Seen) (work : ℕ → Option Task) (s : StateValue) (source actor : ℕ) (f : Seen → Seen) (on : Bool) → Rounds seen work s
@@ -261,9 +181,7 @@ off_rounds seen work s t actor r e =
     (irq_change seen work s m.0 actor off_seen false r i.low i.inside refl (λ told. refl) refl refl (λ off. h.1.1) (inl refl)))
 
 pub through_is : (stop : Stop) (cpu : ℕ) (u : Unit {0}) → through stop cpu ≡ Ok u → EXIT ≤ acked_by stop cpu
-through_is stop cpu u e =
-    let next : Result (Unit {0}) Reason = if is_cpu stop.raiser cpu then Err (reason.PhaseIs stop.phase) else Ok tt in
-    let p = failed (nat_lt (acked_by stop cpu) 4) next (reason.NotAcknowledged cpu 4) u e in ltb-false (acked_by stop cpu) 4 p.0
+through_is stop cpu u e = search (failed, ltb-false, arith)
 
 pub on_rounds : (seen : ℕ → Seen) (work : ℕ → Option Task) (s t : StateValue) (actor : ℕ) → Rounds seen work s → on_by actor s ≡ Ok t →
     Rounds (put_seen actor on_seen seen) work t

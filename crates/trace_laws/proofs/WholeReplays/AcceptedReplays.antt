@@ -1,11 +1,11 @@
 -- Each replay is accepted.
 use Rattle.trace_laws.proofs.Names.{AllByRecursion, CpuState, Err, LabelWords, Labels, List, None, Option, Runs, Setting, Some, StateValue, [], ap, arith}
-use Rattle.trace_laws.proofs.Names.{closed, false≢true, get_or-replicate, length-replicate, opening, refl, replicate, slice_index_or, subst, sym, ℕ, ◌+◌}
-use Rattle.trace_laws.proofs.Names.{◌<◌, ◌∙◌, ◌∷◌, ◌≡◌}
+use Rattle.trace_laws.proofs.Names.{closed, false≢true, get_or-replicate, length-replicate, opening, refl, subst, sym, ℕ, ◌+◌}
+use Rattle.trace_laws.proofs.Names.{◌∙◌, ◌∷◌, ◌≡◌}
 use Rattle.trace_laws.proofs.ReplayNames.{AreWordsOf, BeginsOfCpus, CallState, Command, CoreValue, FitsCommand, FitsCpus, FollowsStops, IsWhole}
-use Rattle.trace_laws.proofs.ReplayNames.{Past, Replay, Seen, SmpError, Stage, StopIs, StopShown, StopStage, StopState, StopsValue, Turned, after_seen}
+use Rattle.trace_laws.proofs.ReplayNames.{Past, Replay, Seen, SmpError, Stage, StopShown, StopStage, StopState, StopsValue, Turned, after_seen}
 use Rattle.trace_laws.proofs.ReplayNames.{all_fresh, control_of, cpus, events_of, events_of_step, fresh, get_or-same, kept, new_core, new_stops, no_calls}
-use Rattle.trace_laws.proofs.ReplayNames.{no_stops, past_at, refusal_of, replay_from, replay_made, replay_on, seen_at, setup_of, start_turn, started}
+use Rattle.trace_laws.proofs.ReplayNames.{no_stops, refusal_of, replay_from, replay_made, replay_on, seen_at, setup_of, start_turn, started}
 use Rattle.trace_laws.proofs.ReplayNames.{step_at, step_turn, step_whole, stepped, stop_control_of, stop_number, stop_outside, stop_seen_at, stop_step}
 use Rattle.trace_laws.proofs.ReplayNames.{stops_stepped, tells, tells_all}
 use Rattle.smp_mask.specs.declared.error.SmpError.TheVariants as error
@@ -81,18 +81,6 @@ replayed position (turned.Step cpu ∷ rest) core a p pasts s k all =
 
 -- before the first step
 
-stop_outside_at : (nr online : ℕ) (labels : Labels) (cpu : ℕ) → stop_control_of (new_stops nr online labels).controls cpu ≡ stop_outside
-stop_outside_at nr online labels cpu = get_or-same stop_outside cpus cpu
-
-closed_at : (online j : ℕ) → j < cpus → slice_index_or (replicate 32 (closed online)) j (closed 0) ≡ closed online
-closed_at online j l = get_or-replicate 32 j (closed online) (closed 0) (omega arith)
-
-closed_is : (online : ℕ) → StopIs (no_stops.now.stop 0) (closed online)
-closed_is online = search (length-replicate, false≢true, arith)
-
-fresh_past_at : (cpu : ℕ) → past_at all_fresh cpu ≡ fresh
-fresh_past_at cpu = get_or-same fresh 32 cpu
-
 opening_stops : (u : Setting) (words : LabelWords) (nr online : ℕ) (labels : Labels) → AreWordsOf u words (new_stops nr online labels)
     → FollowsStops no_stops (stop_number (new_stops nr online labels).table) all_fresh (opening u words)
 unfolding opening
@@ -101,13 +89,13 @@ opening_stops u words nr online labels w = record {
   keys_are = w.keys_are;
   sites_are = w.sites_are;
   gate = refl;
-  stops = λ j l. rw (closed_at u.online j l) (closed_is u.online);
+  stops = λ j l. rw (get_or-replicate 32 j (closed u.online) (closed 0) (omega arith)) (search (length-replicate, false≢true, arith));
   cpus_are = λ cpu. record {
     inside = ap (λ (c : CpuState). c.inside) (fresh_at u words cpu);
     irq = ap (λ (c : CpuState). c.irq) (fresh_at u words cpu);
     stop = λ j e. absurd (none_some j e);
-    answer = λ e. ap (λ (x : Past). x.answer) (fresh_past_at cpu);
-    reads = λ e. absurd (three (ap (λ (x : Past). x.phase) (fresh_past_at cpu)) e);
+    answer = λ e. ap (λ (x : Past). x.answer) (get_or-same fresh 32 cpu);
+    reads = λ e. absurd (three (ap (λ (x : Past). x.phase) (get_or-same fresh 32 cpu)) e);
   };
   keys = w.keys;
   sites = w.sites;
@@ -133,7 +121,6 @@ pub all_begun : (nr online : ℕ) (labels : Labels) (u : Setting) (words : Label
     IsWhole first → StopShown no_stops first.stops → IsOf u online → AreWordsOf u words first.stops
     → StandsAll first no_calls no_stops all_fresh (opening u words)
 all_begun nr online labels u words whole none is_of words_are =
-    let first = new_core nr online labels in
     let calls = new_stands nr online labels u words whole is_of.online is_of.whole in
     record {
       whole = whole;
@@ -143,9 +130,9 @@ all_begun nr online labels u words whole none is_of words_are =
       keeps = calls.keeps;
       follows_stops = opening_stops u words nr online labels words_are;
       count = opening_count u words labels.keys words_are.count;
-      entries = opening_entries u words first.stops words_are none;
+      entries = opening_entries u words (new_core nr online labels).stops words_are none;
       elsewhere = calls.elsewhere;
-      drafts = λ cpu l. rw (stop_outside_at nr online labels cpu) tt;
+      drafts = λ cpu l. rw (get_or-same stop_outside cpus cpu) tt;
     }
 
 pub replays_are_accepted : ReplaysAreAccepted

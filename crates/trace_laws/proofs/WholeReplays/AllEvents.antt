@@ -1,4 +1,5 @@
 -- All events of a replay are accepted.
+use Rattle.trace_laws.proofs.Names.{eqb-false, true≢false}
 use Rattle.trace_laws.proofs.Names.{List, None, Ok, Option, Some, StateValue, [], ap, arith, cases_eq, cpu_at, false, handles_nothing, has, inl}
 use Rattle.trace_laws.proofs.Names.{inr, length, length-set, map, refl, slice_set, subst, sym, true, ℕ, ◌<◌, ◌∙◌, ◌≡◌}
 use Rattle.trace_laws.proofs.ReplayNames.{AimsOnline, BeginsOfCpus, CallState, CallsOfCpu, Command, ControlValue, CoreValue, CpuIs, Done, Drafts}
