@@ -7,4 +7,5 @@ pub mod ShownByTraces
 pub mod Drained
 pub mod TwoSteps
 pub mod MadeSteps
+pub mod Targets
 pub mod AcceptedTexts

@@ -8,6 +8,7 @@ pub mod LawfulLabels
 -- the laws of traces, and of accepted texts
 pub mod Traces
 pub mod Drained
+pub mod Targets
 pub mod AcceptedTexts
 -- a state of the model that agrees with a machine
 pub mod AgreeingCalls

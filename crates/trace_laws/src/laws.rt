@@ -8,6 +8,7 @@ ghost use Rattle.trace_laws.specs.StopEvents.{FunctionsRunAtRun, PatchesStoreAtR
 ghost use Rattle.trace_laws.specs.AcceptedTexts.{AcceptedAreTraces};
 ghost use Rattle.trace_laws.specs.Traces.{BeginInOrder, BeginOnce, CountsAre, EndOnce, OfEachTrace, IsTrace};
 ghost use Rattle.trace_laws.specs.RecordTurns.{RecordsTakeTurns};
+ghost use Rattle.trace_laws.specs.Targets.{CallsHaveTargets, StopsAreLow};
 ghost use Rattle.trace_model.specs.declared.event.Event.{Event};
 ghost use Rattle.trace_model.specs.declared.without.Setting.{Setting};
 ghost use Rattle.trace_model.specs.State.{StateValue};
@@ -26,6 +27,12 @@ pub fn accepted_texts_are_traces()
 pub fn calls_run_once()
     ensures begin { OfEachTrace BeginOnce }
     ensures end { OfEachTrace EndOnce }
+{}
+
+/// A call is queued for another CPU that is online. Events of stops are of the CPUs below 32.
+pub fn calls_have_targets()
+    ensures targets { CallsHaveTargets }
+    ensures stops { StopsAreLow }
 {}
 
 /// Calls begin in the order of the queues that a CPU takes: at each `take` the calls that were queued since the one before,

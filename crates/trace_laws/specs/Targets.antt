@@ -1,0 +1,26 @@
+-- For whom calls are queued, and whose the events of stops are.
+use Rattle.std.specs.Prelude.{◌≡◌, ◌≢◌, ℕ, ◌<◌, ◌≤◌, ◌⊎◌, true, List, [], ◌∷◌, ◌++◌}
+use Rattle.smp_mask.specs.Mask.{has}
+use Rattle.smp_labels.specs.declared.words.LabelWords.{LabelWords}
+use Rattle.smp_words.specs.declared.call.Class.{Class}
+use Rattle.trace_model.specs.declared.event.Event.{Event}
+use Rattle.trace_model.specs.declared.event.Event.TheVariants as event
+use Rattle.trace_model.specs.declared.event.CallEvent.TheVariants as calls
+use Rattle.trace_model.specs.declared.event.StopEvent.{StopEvent}
+use Rattle.trace_model.specs.declared.without.Setting.{Setting}
+use Rattle.trace_model.specs.State.{StateValue}
+use Rattle.trace_laws.specs.Traces.{IsTrace}
+
+-- a CPU below 32 that is online, or one from 32 on that there is
+abbrev pub IsThere : Setting → ℕ → Type 0
+IsThere u cpu = (cpu < 32) × (has u.online cpu ≡ true) ⊎ (32 ≤ cpu) × ((cpu < u.cpus) × (cpu < 512))
+
+-- a call is queued for another CPU, which is there
+abbrev pub CallsHaveTargets : Type 0
+CallsHaveTargets = (u : Setting) (words : LabelWords) (es : List (ℕ × Event)) (t : StateValue) (cpu id to : ℕ) (class : Class) (func info : ℕ)
+    → IsTrace u words (es ++ (cpu, event.Call (calls.Queue id to class func info)) ∷ []) t → (to ≢ cpu) × IsThere u to
+
+-- an event of stops is of a CPU below 32
+abbrev pub StopsAreLow : Type 0
+StopsAreLow = (u : Setting) (words : LabelWords) (es : List (ℕ × Event)) (t : StateValue) (cpu : ℕ) (e : StopEvent)
+    → IsTrace u words (es ++ (cpu, event.Stop e) ∷ []) t → cpu < 32
