@@ -25,7 +25,7 @@ pub mod machine;
 
 pub use events::{Replayed, replay};
 pub use machine::Core;
-pub use machine::kept::{KeptCore, Shares};
+pub use machine::kept::{CoreChange, KeptCore, Shares};
 pub use smp_call_steps::RecPlace;
 pub use smp_words::{
     Access, Act, Call, Class, Command, Event, Field, Kind, Note, Seen, Word, Work, call_index,

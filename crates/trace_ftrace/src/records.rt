@@ -55,7 +55,7 @@ impl<A: Allocator + Copy> Records<A> {
         }
     }
 
-    /// The record at an address that has no number gets the next one. E6 where a growth is refused: nothing is changed.
+    /// The record at an address that has no number gets the next one. The error says that memory for it was refused: nothing is changed.
     pub(crate) fn push(&mut self, address: u64) -> Result<(), AllocError>
         requires { record_place 0 address self.old ≡ None }
         ensures joined { OnOk result (self.new ≡ self.old ++ address ∷ []) }
