@@ -17,6 +17,7 @@ use std::sync::Wait;
 use std::thread::Threads;
 
 /// Makes each other online CPU run a function that does nothing, and waits until each has: these CPUs.
+#[tactic(auto, using(crate::proofs::Others::others_are, crate::proofs::Others::all_ended))]
 fn fence<R: Wait>(seat: &mut Seat<'_, Global, R, Silent, NoStop>) -> Result<CpuMask, SmpError>
     // Those that have passed are all that are online but this one.
     ensures others { IfOk result (λ passed. (c : ℕ) → has passed c ≡ (has seat.old.machine.calls.online c && not (c == seat.old.cpu.calls.number))) }
@@ -24,8 +25,7 @@ fn fence<R: Wait>(seat: &mut Seat<'_, Global, R, Silent, NoStop>) -> Result<CpuM
     ensures passed { IfOk result (λ passed. HaveEnded seat.new.cpu.calls (many_call seat.old.cpu.calls.number Class.Sync 0 0) (members passed)) }
     ensures same { IsSameSeat seat.old seat.new }
 {
-    let passed = seat.kick_all_cpus_sync(0)?;
-    Ok(passed)
+    seat.kick_all_cpus_sync(0)
 }
 
 /// Each CPU makes ten fences.
